@@ -1,0 +1,5 @@
+pub mod Cuts
+pub mod Endings
+pub mod Runs
+pub mod StepLemmas
+pub mod Streams

@@ -1,0 +1,18 @@
+//! The machine: `apply` is one step of its definition, and its journal is the list of the accepted events.
+#![tactic(auto)]
+
+mod booting;
+mod breakpoints;
+mod commands;
+mod instructions;
+mod interrupts;
+mod kernel;
+mod ready;
+mod machine;
+mod refusals;
+mod settle;
+mod step;
+
+pub use evm_model::{Answer, Boot, Event};
+pub use evm_ram::Refusal;
+pub use machine::Machine;

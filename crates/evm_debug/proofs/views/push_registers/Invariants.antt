@@ -1,0 +1,9 @@
+use Rattle.std.proofs.Common.{◌≡◌, ◌++◌, ◌-◌, ◌*◌}
+use Rattle.std.specs.String.{string_bytes}
+use Rattle.evm_debug.specs.Views.{register_lines, registers_text}
+use Rattle.evm_debug.proofs.views.push_registers.Given as goal
+
+-- the text so far and the lines that are left are the whole text
+abbrev pub invariant-loop-line : goal.invariant-loop-line
+invariant-loop-line l =
+    string_bytes l.out ++ register_lines (l.line * 4) (8 - l.line) l.hart.regs ≡ string_bytes l.fn.out ++ registers_text l.hart.regs

@@ -1,0 +1,22 @@
+-- The pieces of a line, as the code strings them together.
+use Rattle.std.specs.Prelude.{ℕ, List, [], ◌∷◌, ◌++◌}
+use Rattle.evm_text.specs.Written.{decimal}
+use Rattle.evm_debug.specs.Views.{word_text, lines_text, bit_text, number_text, two_digits, state_text, class_text, stage_text}
+use Rattle.evm_debug.specs.declared.piece.Piece.{Piece}
+use Rattle.evm_debug.specs.declared.piece.Piece.TheVariants.{Text, Decimal, Word, Lines, Bit, Number, TwoDigits, State, Class, Stage}
+
+abbrev pub piece_text : Piece → List ℕ
+piece_text (Text s) = s.now
+piece_text (Decimal n) = decimal n
+piece_text (Word n) = word_text n
+piece_text (Lines lines) = lines_text lines
+piece_text (Bit b) = bit_text b
+piece_text (Number t) = number_text t
+piece_text (TwoDigits n) = two_digits n
+piece_text (State s) = state_text s
+piece_text (Class c) = class_text c
+piece_text (Stage s) = stage_text s
+
+abbrev pub pieces_text : List Piece → List ℕ
+pieces_text [] = []
+pieces_text (piece ∷ pieces) = piece_text piece ++ pieces_text pieces

@@ -1,0 +1,20 @@
+//! What a debugger's script says, and what its views show.
+#![tactic(auto)]
+
+mod laws;
+mod line;
+mod look;
+mod piece;
+mod pieces;
+mod reading;
+mod showing;
+mod views;
+
+pub use laws::reads_lines;
+pub use line::{Bad, Line, View};
+pub use look::ViewRefusal;
+pub use reading::read_line;
+pub use showing::show;
+
+#[cfg(test)]
+mod tests;

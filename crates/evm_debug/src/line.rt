@@ -1,0 +1,38 @@
+use evm_model::Event;
+
+/// What a line asks to see.
+#[derive(Clone, Copy, Debug, PartialEq, Eq)]
+pub enum View {
+    /// `regs C`: the registers of a processor's current task.
+    Regs(u8),
+    /// `mem A N`: so many bytes from an address on. Any number below 2^64 is grammatical.
+    Mem(u64, u64),
+    /// `stages C`: what waits on a processor's stages.
+    Stages(u8),
+    /// `tasks`: the tasks.
+    Tasks,
+    /// `counts C L`: the counts of a processor's line.
+    Counts(u8, u8),
+    /// `journal`: the journal's text.
+    Journal,
+}
+
+/// A line of a script.
+#[derive(Clone, Debug, PartialEq, Eq, Drop)]
+pub enum Line {
+    /// An empty line, or one that begins with `#`.
+    Blank,
+    /// `boot P RAM CAP`: as many processors, bytes of RAM and events of the journal. Any numbers
+    /// below 2^64 are grammatical.
+    Boot { cpus: u64, ram: u64, capacity: u64 },
+    /// `step C N`: a processor takes so many steps, 1 to 1048576.
+    Steps(u8, u32),
+    /// Any other event.
+    One(Event),
+    /// A view.
+    Look(View),
+}
+
+/// The line is outside the grammar.
+#[derive(Clone, Copy, Debug, PartialEq, Eq)]
+pub struct Bad;

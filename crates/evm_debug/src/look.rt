@@ -1,0 +1,8 @@
+use evm_ram::Refusal;
+
+/// Why a view could not be made.
+#[derive(Debug, Drop)]
+pub enum ViewRefusal {
+    Refused(Refusal),
+    NoMemory,
+}

@@ -1,0 +1,94 @@
+ghost use Rattle.std.specs.Prelude.{◌≡◌, ◌≤◌, ◌<◌, ◌++◌, OnOk};
+ghost use Rattle.std.specs.String.{string_bytes};
+ghost use Rattle.evm_text.specs.Written.{decimal};
+ghost use Rattle.evm_debug.specs.Views.{state_text, class_text, number_text, two_digits};
+ghost use Rattle.evm_debug.specs.Pieces.{piece_text, pieces_text};
+
+use crate::piece::Piece;
+use evm_model::{Class, TaskState};
+use evm_text::{push_decimal, push_hexadecimal_padded};
+use std::alloc::AllocError;
+
+fn class_name(class: Class) -> &'static str
+    ensures { result.now ≡ class_text class }
+{
+    match class {
+        Class::Unattached => "none",
+        Class::Fifo => "fifo",
+        Class::RoundRobin => "rr",
+        Class::Weak => "weak",
+    }
+}
+
+// A word and a number behind it.
+fn push_numbered(out: &mut String, word: &str, number: u8) -> Result<(), AllocError>
+    ensures { OnOk result (string_bytes out.new ≡ string_bytes out.old ++ (word.now ++ decimal number)) }
+{
+    out.push_str(word)?;
+    push_decimal(out, u64::from(number))
+}
+
+fn push_state(out: &mut String, state: TaskState) -> Result<(), AllocError>
+    ensures { OnOk result (string_bytes out.new ≡ string_bytes out.old ++ state_text state) }
+{
+    match state {
+        TaskState::InReady => out.push_str("in-ready"),
+        TaskState::InWait(line) => push_numbered(out, "in-wait ", line),
+        TaskState::OobReady => out.push_str("oob-ready"),
+        TaskState::Lock(number) => push_numbered(out, "lock ", number),
+        TaskState::Semaphore(number) => push_numbered(out, "semaphore ", number),
+        TaskState::Event(number) => push_numbered(out, "event ", number),
+        TaskState::Flags(number) => push_numbered(out, "flags ", number),
+        TaskState::Sleep => out.push_str("sleep"),
+        TaskState::Timer(number) => push_numbered(out, "timer ", number),
+        TaskState::Exit => out.push_str("exit"),
+        TaskState::Fault(number) => push_numbered(out, "fault ", number),
+    }
+}
+
+fn push_number(out: &mut String, task: Option<u8>) -> Result<(), AllocError>
+    ensures { OnOk result (string_bytes out.new ≡ string_bytes out.old ++ number_text task) }
+{
+    match task {
+        None => out.push_str("none"),
+        Some(t) => push_decimal(out, u64::from(t)),
+    }
+}
+
+fn push_two_digits(out: &mut String, n: u8) -> Result<(), AllocError>
+    ensures { OnOk result (string_bytes out.new ≡ string_bytes out.old ++ two_digits n) }
+{
+    push_decimal(out, u64::from(n / 10))?;
+    push_decimal(out, u64::from(n % 10))
+}
+
+fn push_piece(out: &mut String, piece: &Piece<'_>) -> Result<(), AllocError>
+    ensures { OnOk result (string_bytes out.new ≡ string_bytes out.old ++ piece_text piece.now) }
+{
+    match piece {
+        Piece::Text(text) => out.push_str(text),
+        Piece::Decimal(n) => push_decimal(out, *n),
+        Piece::Word(n) => push_hexadecimal_padded(out, 16, *n),
+        Piece::Lines(lines) => push_hexadecimal_padded(out, 8, lines.word()),
+        Piece::Bit(bit) => out.push_str(if *bit { "1" } else { "0" }),
+        Piece::Number(task) => push_number(out, *task),
+        Piece::TwoDigits(n) => push_two_digits(out, *n),
+        Piece::State(state) => push_state(out, *state),
+        Piece::Class(class) => out.push_str(class_name(*class)),
+        Piece::Stage(state) => out.push_str(if *state == TaskState::OobReady {
+            "oob"
+        } else {
+            "in"
+        }),
+    }
+}
+
+/// Appends the pieces, one behind another.
+pub(crate) fn push_pieces(out: &mut String, pieces: &[Piece<'_>]) -> Result<(), AllocError>
+    ensures { OnOk result (string_bytes out.new ≡ string_bytes out.old ++ pieces_text pieces.now) }
+{
+    for piece in pieces {
+        push_piece(out, piece)?;
+    }
+    Ok(())
+}

@@ -1,0 +1,74 @@
+ghost use Rattle.std.specs.Prelude.{◌≡◌, ◌++◌, Result, MatchResult, OnOk, codes};
+ghost use Rattle.std.specs.String.{string_bytes};
+ghost use Rattle.evm_text.specs.Written.{pairs};
+ghost use Rattle.evm_debug.specs.Views.{shown, ViewFails};
+
+use crate::line::View;
+use crate::look::ViewRefusal;
+use crate::views::{push_counts, push_regs, push_stages, push_tasks};
+use evm_core::Machine;
+use evm_journal::write_journal;
+use evm_ram::Refusal;
+use evm_text::push_pairs;
+use std::alloc::{AllocError, Global};
+
+// Why nothing is shown, or how the text was made.
+fn made(out: String, pushed: Result<(), AllocError>) -> Result<String, ViewRefusal>
+    ensures { MatchResult result (λ text. (pushed ≡ Result.Ok tt) × (text ≡ out)) (λ e. e ≡ ViewRefusal.NoMemory) }
+{
+    match pushed {
+        Ok(()) => Ok(out),
+        Err(_) => Err(ViewRefusal::NoMemory),
+    }
+}
+
+/// What a view shows, or why it is refused.
+#[tactic(auto, unfolding(crate::specs::Views::shown))]
+pub fn show(alloc: Global, machine: &Machine, view: &View) -> Result<String, ViewRefusal>
+    ensures { MatchResult result (λ text. shown view.now machine.now ≡ Result.Ok (string_bytes text)) (λ e. ViewFails e (shown view.now machine.now)) }
+{
+    let mut out = String::new(alloc);
+    let pushed = match view {
+        View::Journal => {
+            return match write_journal(alloc, machine) {
+                Ok(text) => Ok(text),
+                Err(_) => Err(ViewRefusal::NoMemory),
+            };
+        }
+        View::Regs(c) => match machine.cpu(*c) {
+            None => return Err(ViewRefusal::Refused(Refusal::NoSuchCpu)),
+            Some(cpu) => push_regs(&mut out, cpu.current, machine.tasks()),
+        },
+        View::Mem(address, count) => {
+            if *count == 0 || *count > 64 {
+                return Err(ViewRefusal::Refused(Refusal::BadAddress));
+            }
+            match machine.bytes(*address, *count) {
+                None => return Err(ViewRefusal::Refused(Refusal::BadAddress)),
+                Some(bytes) => push_bytes(&mut out, bytes),
+            }
+        }
+        View::Stages(c) => match machine.cpu(*c) {
+            None => return Err(ViewRefusal::Refused(Refusal::NoSuchCpu)),
+            Some(cpu) => push_stages(&mut out, *c, &cpu),
+        },
+        View::Tasks => push_tasks(&mut out, machine.tasks()),
+        View::Counts(c, line) => {
+            if machine.cpu(*c).is_none() {
+                return Err(ViewRefusal::Refused(Refusal::NoSuchCpu));
+            }
+            match machine.counts(*c, *line) {
+                None => return Err(ViewRefusal::Refused(Refusal::NoSuchLine)),
+                Some(counts) => push_counts(&mut out, &counts),
+            }
+        }
+    };
+    made(out, pushed)
+}
+
+fn push_bytes(out: &mut String, bytes: &[u8]) -> Result<(), AllocError>
+    ensures { OnOk result (string_bytes out.new ≡ string_bytes out.old ++ (pairs bytes.now ++ codes "\n")) }
+{
+    push_pairs(out, bytes)?;
+    out.push_str("\n")
+}

@@ -1,0 +1,55 @@
+use super::*;
+use evm_model::Event;
+use std::process::Abort;
+
+fn is_bad(rt: &impl Abort, text: &[u8]) {
+    assert_eq!(rt; read_line(text), Err(Bad), "{text:?}");
+}
+
+#[test]
+fn other_lines_are_bad(rt: HostRuntime) {
+    is_bad(&rt, b"\r");
+    is_bad(&rt, b" ");
+    is_bad(&rt, b" #");
+    is_bad(&rt, b"boot 1 65536");
+    is_bad(&rt, b"boot 1 65536 16 ");
+    is_bad(&rt, b"boot  1 65536 16");
+    is_bad(&rt, b"boot 01 65536 16");
+    is_bad(&rt, b"boot 1 65536 18446744073709551616");
+    is_bad(&rt, b"regs");
+    is_bad(&rt, b"regs\t0");
+    is_bad(&rt, b"regs 256");
+    is_bad(&rt, b"mem 80000000");
+    is_bad(&rt, b"mem 8000000G 1");
+    is_bad(&rt, b"mem 0080 1");
+    is_bad(&rt, b"tasks ");
+    is_bad(&rt, b"journal\r");
+    is_bad(&rt, b"step 0 0");
+    is_bad(&rt, &[255, 254]);
+    is_bad(&rt, b"poke 80000000 0");
+}
+
+fn is(rt: &impl Abort, text: &[u8], line: Line) {
+    assert_eq!(rt; read_line(text), Ok(line), "{text:?}");
+}
+
+#[test]
+fn lines_are_read(rt: HostRuntime) {
+    is(&rt, b"", Line::Blank);
+    is(&rt, b"# a comment\r", Line::Blank);
+    is(&rt, &[b'#', 255], Line::Blank);
+    let boot = Line::Boot {
+        cpus: 1,
+        ram: 65536,
+        capacity: u64::MAX,
+    };
+    is(&rt, b"boot 1 65536 18446744073709551615", boot);
+    is(&rt, b"step 3 1048576", Line::Steps(3, 1048576));
+    is(&rt, b"raise 0 31", Line::One(Event::Raise(0, 31)));
+    is(&rt, b"regs 7", Line::Look(View::Regs(7)));
+    is(&rt, b"mem 80000000 0", Line::Look(View::Mem(2147483648, 0)));
+    is(&rt, b"stages 1", Line::Look(View::Stages(1)));
+    is(&rt, b"tasks", Line::Look(View::Tasks));
+    is(&rt, b"counts 1 9", Line::Look(View::Counts(1, 9)));
+    is(&rt, b"journal", Line::Look(View::Journal));
+}

@@ -1,0 +1,5 @@
+pub mod Does
+pub mod Memory
+pub mod Numbers
+pub mod Registers
+pub mod Values

@@ -1,0 +1,38 @@
+ghost use Rattle.std.specs.Prelude.{◌≡◌, slice_index};
+
+use evm_isa::Register;
+
+/// A hardware thread: the integer registers and the address of the next instruction (RISC-V
+/// Unprivileged ISA 20191213, section 2.1). Register x0 reads 0 whatever stands in its place.
+#[derive(Clone, Copy, Debug, PartialEq, Eq)]
+pub struct Hart {
+    pub regs: [u64; 32],
+    pub pc: u64,
+}
+
+impl Hart {
+    ghost use Rattle.evm_exec.specs.Registers.{register_of, with_register};
+
+    /// What the register reads.
+    pub fn register(&self, register: Register) -> u64
+        ensures { result ≡ register_of self.now.regs register }
+    {
+        let number = register.number();
+        if number == 0 {
+            0
+        } else {
+            self.regs[number as usize]
+        }
+    }
+
+    /// Writes the register; a write to x0 is lost.
+    pub fn set_register(&mut self, register: Register, value: u64)
+        ensures x0 { slice_index self.new.regs 0 ≡ slice_index self.old.regs 0 }
+        ensures written { self.new ≡ record self.old { regs = with_register self.old.regs register value } }
+    {
+        let number = register.number();
+        if number != 0 {
+            self.regs[number as usize] = value;
+        }
+    }
+}

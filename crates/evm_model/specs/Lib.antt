@@ -1,0 +1,10 @@
+pub mod Commands
+pub mod Counts
+pub mod Instructions
+pub mod Interrupts
+pub mod Ranks
+pub mod Refusals
+pub mod Replay
+pub mod Rows
+pub mod Settle
+pub mod State

@@ -1,0 +1,14 @@
+//! The machine as its users believe it: its state, its events, and what each event does.
+#![tactic(auto)]
+
+mod boot;
+mod counts;
+mod cpu;
+mod event;
+mod task;
+
+pub use boot::Boot;
+pub use counts::{Change, Counts, Passage};
+pub use cpu::{Cpu, Log, Stage};
+pub use event::{Answer, Event};
+pub use task::{Candidate, Class, Task, TaskState};

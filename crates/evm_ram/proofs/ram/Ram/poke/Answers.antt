@@ -1,0 +1,26 @@
+use Rattle.std.proofs.Common.{◌≡◌, ◌+◌, ◌-◌, ◌<◌, ◌∙◌, sym, ap, Some, length, arith}
+use Rattle.std.proofs.lemmas.Grind.{common_steps}
+use Rattle.evm_ram.proofs.Places.{cond_none, poke_at-no_bytes, poke_at-outside, poke_at-inside, within, overwritten-copy}
+use Rattle.evm_ram.specs.Laws.{cond_some}
+use Rattle.evm_ram.proofs.ram.Ram.poke.Goals as goal
+
+pub returns-then-is_empty-clause-poked : goal.returns-then-is_empty-clause-poked
+returns-then-is_empty-clause-poked c = poke_at-no_bytes _ _ _ (grind (arith, common_steps))
+
+pub returns-in_err-start-clause-poked : goal.returns-in_err-start-clause-poked
+returns-in_err-start-clause-poked c =
+    let outside = cond_none _ _ (sym c.place.ensures ∙ c.in_err-start.was) in
+    rw c.from_residual.ensures (poke_at-outside _ _ _ outside)
+
+pub returns-clause-poked : goal.returns-clause-poked
+returns-clause-poked c =
+    let some : 0 < length c.args.bytes.now = grind (arith, common_steps) in
+    let inside = cond_some _ _ _ (sym c.place.ensures ∙ c.in_ok-start.was) in
+    let items : c.self.inside.bytes.items ≡ c.args.self.now = c.self.view_is in
+    let held = c.deref_mut.ensures.value ∙ items in
+    let long : c.self.inside.bytes.len ≡ length c.args.self.now = sym c.deref_mut.ensures.len ∙ ap length held in
+    let fits = within c.args.self.now c.args.address (length c.args.bytes.now) inside.0 some in
+    let part : length c.args.bytes.now ≡ c.in_ok-start.start + length c.args.bytes.now - c.in_ok-start.start = omega arith in
+    rw (c.copy_from_slice.ensures.after, held, items)
+    (poke_at-inside _ _ _ _ inside.0 inside.1
+    ∙ ap Some (sym (overwritten-copy c.args.self.now c.args.bytes.now c.in_ok-start.start _ (omega arith) long _ part)))

@@ -1,0 +1,5 @@
+pub mod Bytes
+pub mod Laws
+pub mod Ram
+pub mod Refusal
+pub mod Width

@@ -1,0 +1,157 @@
+ghost use Rattle.std.specs.Prelude.{◌≡◌, ◌+◌, ◌-◌, ◌*◌, ◌^◌, ◌≤◌, ◌<◌, ℕ, List, length, replicate, if◌then◌else◌, Option, Some, None, option_copied, IfOk, MatchOption};
+ghost use Rattle.std.specs.Option.{IfNone, IfSome};
+ghost use Rattle.evm_ram.specs.Bytes.{little_endian};
+ghost use Rattle.evm_ram.specs.Width.{bytes_of};
+ghost use Rattle.evm_ram.specs.Ram.{is_inside, bytes_at, read_at, poke_at, write_at};
+
+use crate::width::Width;
+use std::alloc::Global;
+use std::marker::Model;
+
+/// The address of RAM's first byte.
+pub const BASE: u64 = 0x8000_0000;
+
+/// The most bytes that RAM may have.
+pub const SIZE_LIMIT: u64 = 16_777_216;
+
+/// Memory for the bytes was refused.
+#[derive(Clone, Copy, Debug, PartialEq, Eq)]
+pub struct NoMemory;
+
+/// Bytes, of which the first stands at the address [`BASE`].
+#[derive(Debug, Drop)]
+pub struct Ram {
+    bytes: Vec<u8>,
+}
+
+impl Model for Ram {
+    ghost use Rattle.std.specs.Prelude.{◌≤◌, ℕ, List, length};
+    ghost use Rattle.evm_ram.specs.declared.ram.TheConstants.{SIZE_LIMIT};
+
+    ghost Value = { List ℕ };
+
+    ghost view = { λ ram. ram.bytes.items };
+
+    ghost invariant = { λ ram. length ram.bytes.items ≤ SIZE_LIMIT };
+}
+
+impl Ram {
+    /// RAM of `size` bytes, each of them zero.
+    pub fn new(alloc: Global, size: u64) -> Result<Ram, NoMemory>
+        requires { size ≤ SIZE_LIMIT }
+        ensures { IfOk result (λ ram. ram ≡ replicate size 0) }
+    {
+        match vec![in alloc; 0u8; size as usize] {
+            Ok(bytes) => Ok(Ram { bytes }),
+            Err(_) => Err(NoMemory),
+        }
+    }
+
+    /// The number of bytes.
+    pub fn size(&self) -> u64
+        ensures value { result ≡ length self.now }
+        ensures limit { result ≤ SIZE_LIMIT }
+    {
+        self.bytes.len() as u64
+    }
+
+    /// Where `count` bytes from `address` on begin in the list; None exactly where one of them is outside.
+    #[inline]
+    fn place(&self, address: u64, count: u64) -> Option<usize>
+        requires { 0 < count }
+        ensures { result ≡ (if is_inside self.now address count then Some (address - BASE) else None) }
+    {
+        let size = self.size();
+        if address < BASE {
+            None
+        } else if count > size {
+            None
+        } else if address - BASE > size - count {
+            None
+        } else {
+            Some((address - BASE) as usize)
+        }
+    }
+
+    /// The `count` bytes from `address` on; None exactly where one of them is outside. No bytes are found
+    /// at every address.
+    #[inline]
+    pub fn bytes(&self, address: u64, count: u64) -> Option<&[u8]>
+        ensures found { option_copied result ≡ bytes_at self.now address count }
+        ensures count { IfSome result (λ bytes. length bytes.now ≡ count) }
+    {
+        if count == 0 {
+            return Some(&[]);
+        }
+        let start = self.place(address, count)?;
+        Some(&self.bytes[start..start + count as usize])
+    }
+
+    /// The number that is stored at `address`, its lowest byte first; None exactly where one of its bytes is
+    /// outside. The address need not be a multiple of the width.
+    #[inline]
+    pub fn read(&self, address: u64, width: Width) -> Option<u64>
+        ensures value { result ≡ read_at self.now address width }
+        ensures fits { IfSome result (λ value. value < 256 ^ bytes_of width) }
+    {
+        let bytes = self.bytes(address, width.bytes())?;
+        Some(number(bytes, width))
+    }
+
+    /// Puts `bytes` from `address` on; None, and nothing is changed, exactly where one of them would be
+    /// outside. No bytes can be put at every address.
+    #[inline]
+    pub fn poke(&mut self, address: u64, bytes: &[u8]) -> Option<()>
+        ensures poked { MatchOption result (poke_at self.old address bytes.now ≡ None) (λ _. poke_at self.old address bytes.now ≡ Some self.new) }
+        ensures unchanged { IfNone result (self.new ≡ self.old) }
+        ensures size { length self.new ≡ length self.old }
+    {
+        if bytes.is_empty() {
+            return Some(());
+        }
+        let start = self.place(address, bytes.len() as u64)?;
+        self.bytes[start..start + bytes.len()].copy_from_slice(bytes);
+        Some(())
+    }
+
+    /// Stores the low bytes of `value` at `address`, the lowest first; None, and nothing is changed, exactly
+    /// where one of them would be outside. The address need not be a multiple of the width.
+    #[inline]
+    pub fn write(&mut self, address: u64, width: Width, value: u64) -> Option<()>
+        ensures written { MatchOption result (write_at self.old address width value ≡ None) (λ _. write_at self.old address width value ≡ Some self.new) }
+        ensures unchanged { IfNone result (self.new ≡ self.old) }
+        ensures size { length self.new ≡ length self.old }
+    {
+        let bytes = value.to_le_bytes();
+        match width {
+            Width::Byte => self.poke(address, &bytes[..1]),
+            Width::Half => self.poke(address, &bytes[..2]),
+            Width::Word => self.poke(address, &bytes[..4]),
+            Width::Double => self.poke(address, &bytes),
+        }
+    }
+
+    /// Makes each byte zero.
+    pub fn clear(&mut self)
+        ensures { self.new ≡ replicate (length self.old) 0 }
+    {
+        self.bytes.fill(0);
+    }
+}
+
+/// The number that these bytes stand for, the lowest byte first.
+#[inline]
+fn number(bytes: &[u8], width: Width) -> u64
+    requires { length bytes.now ≡ bytes_of width }
+    ensures value { result ≡ little_endian bytes.now }
+    ensures fits { result < 256 ^ bytes_of width }
+{
+    match width {
+        Width::Byte => u64::from(bytes[0]),
+        Width::Half => u64::from(u16::from_le_bytes([bytes[0], bytes[1]])),
+        Width::Word => u64::from(u32::from_le_bytes([bytes[0], bytes[1], bytes[2], bytes[3]])),
+        Width::Double => u64::from_le_bytes([
+            bytes[0], bytes[1], bytes[2], bytes[3], bytes[4], bytes[5], bytes[6], bytes[7],
+        ]),
+    }
+}

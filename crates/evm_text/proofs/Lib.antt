@@ -1,0 +1,9 @@
+pub mod Options
+pub mod Words
+pub mod Pairs
+pub mod Digits
+pub mod Numerals
+pub mod Numbers
+pub mod Steps
+pub mod RoundTrips
+pub mod Parts

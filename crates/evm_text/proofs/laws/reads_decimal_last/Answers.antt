@@ -1,0 +1,5 @@
+use Rattle.evm_text.proofs.Parts.{reads_decimal_last}
+use Rattle.evm_text.proofs.laws.reads_decimal_last.Goals as goal
+
+pub returns : goal.returns
+returns c = reads_decimal_last

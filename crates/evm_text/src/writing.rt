@@ -1,0 +1,96 @@
+ghost use Rattle.std.specs.Prelude.{◌≡◌, ◌+◌, ◌^◌, ◌<◌, ◌≤◌, ◌∷◌, [], ◌++◌, length, OnOk, OnErr};
+ghost use Rattle.std.specs.Char.{encode_utf8};
+ghost use Rattle.std.specs.String.{string_bytes};
+ghost use Rattle.evm_text.specs.Written.{character, numeral, decimal, hexadecimal, hexadecimal_padded, pairs};
+
+use arrayvec::ArrayString;
+use std::alloc::AllocError;
+
+/// How many digits a number can have: 2^64 - 1 has 20 in decimal.
+const DIGITS: usize = 20;
+
+fn character(digit: u8) -> char
+    requires { digit < 16 }
+    ensures value { result ≡ character digit }
+    ensures ascii { encode_utf8 result ≡ character digit ∷ [] }
+{
+    char::from(if digit < 10 {
+        b'0' + digit
+    } else {
+        b'a' - 10 + digit
+    })
+}
+
+#[tactic(auto, using(crate::proofs::Steps::numeral_one, crate::proofs::Steps::some_division))]
+fn put_numeral(text: &mut ArrayString<DIGITS>, base: u64, divisions: u8, n: u64)
+    requires some { 1 < base }
+    requires digits { base ≤ 16 }
+    requires fits { n < base ^ (divisions + 1) }
+    requires room { length text.old.bytes + divisions < 20 }
+    ensures value { text.new.bytes ≡ text.old.bytes ++ numeral base divisions n }
+    ensures len { length text.new.bytes ≤ length text.old.bytes + divisions + 1 }
+{
+    if n < base {
+        text.push(character(n as u8));
+    } else {
+        put_numeral(text, base, divisions - 1, n / base);
+        text.push(character((n % base) as u8));
+    }
+}
+
+fn put_padded(text: &mut ArrayString<DIGITS>, count: u8, n: u64)
+    requires { length text.old.bytes + count ≤ 20 }
+    ensures value { text.new.bytes ≡ text.old.bytes ++ hexadecimal_padded count n }
+    ensures len { length text.new.bytes ≡ length text.old.bytes + count }
+{
+    if count > 0 {
+        put_padded(text, count - 1, n / 16);
+        text.push(character((n % 16) as u8));
+    }
+}
+
+/// Appends a number in decimal.
+pub fn push_decimal(out: &mut String, n: u64) -> Result<(), AllocError>
+    ensures ok { OnOk result (string_bytes out.new ≡ string_bytes out.old ++ decimal n) }
+    ensures err { OnErr result (string_bytes out.new ≡ string_bytes out.old) }
+{
+    let mut text = ArrayString::new();
+    put_numeral(&mut text, 10, 19, n);
+    out.push_str(text.as_str())
+}
+
+/// Appends a number in hexadecimal.
+pub fn push_hexadecimal(out: &mut String, n: u64) -> Result<(), AllocError>
+    ensures ok { OnOk result (string_bytes out.new ≡ string_bytes out.old ++ hexadecimal n) }
+    ensures err { OnErr result (string_bytes out.new ≡ string_bytes out.old) }
+{
+    let mut text = ArrayString::new();
+    put_numeral(&mut text, 16, 15, n);
+    out.push_str(text.as_str())
+}
+
+/// Appends the last hexadecimal digits of a number, so many of them (at most 16), with zeros in
+/// front where the number is shorter.
+pub fn push_hexadecimal_padded(out: &mut String, count: u8, n: u64) -> Result<(), AllocError>
+    requires { count ≤ 16 }
+    ensures ok { OnOk result (string_bytes out.new ≡ string_bytes out.old ++ hexadecimal_padded count n) }
+    ensures err { OnErr result (string_bytes out.new ≡ string_bytes out.old) }
+{
+    let mut text = ArrayString::new();
+    put_padded(&mut text, count, n);
+    out.push_str(text.as_str())
+}
+
+/// Appends two hexadecimal digits for each byte.
+pub fn push_pairs(out: &mut String, bytes: &[u8]) -> Result<(), AllocError>
+    ensures ok { OnOk result (string_bytes out.new ≡ string_bytes out.old ++ pairs bytes.now) }
+    ensures err { OnErr result (string_bytes out.new ≡ string_bytes out.old) }
+{
+    // From here on no push can fail, so a refusal leaves the text as it was.
+    out.reserve(bytes.len() * 2)?;
+    for byte in bytes {
+        out.push(character(*byte / 16))?;
+        out.push(character(*byte % 16))?;
+    }
+    Ok(())
+}
