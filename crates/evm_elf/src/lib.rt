@@ -1,13 +1,21 @@
-// A library with one function.
+//! ELF64 images of RV64I programs: read, checked and written.
 #![tactic(auto)]
 
-ghost use Rattle.std.specs.Prelude.{◌≡◌};
-ghost use Rattle.evm_elf.specs.Echo.{echo_of};
+mod fault;
+mod faults;
+mod header;
+mod image;
+mod laws;
+mod overlap;
+mod reading;
+mod segments;
+mod writing;
 
-// The `ensures` clause is the contract: what `echo` returns is `echo_of` of its argument, a definition
-// in `specs/Echo.antt`, which a caller's clause can cite too.
-pub fn echo(x: usize) -> usize
-    ensures { result ≡ echo_of x }
-{
-    x
-}
+pub use fault::ElfFault;
+pub use image::{Image, Segment};
+pub use laws::{accepted_is_sound, overlap_is_shared_address, written_is_read};
+pub use reading::read_image;
+pub use writing::{NoMemory, PROGRAM_MAX, write_bytes};
+
+#[cfg(test)]
+mod tests;

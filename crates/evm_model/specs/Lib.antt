@@ -1,7 +1,11 @@
+pub mod Balance
+pub mod Bounds
+pub mod Changes
 pub mod Commands
 pub mod Counts
 pub mod Instructions
 pub mod Interrupts
+pub mod Kept
 pub mod Ranks
 pub mod Refusals
 pub mod Replay

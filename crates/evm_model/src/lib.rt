@@ -5,10 +5,14 @@ mod boot;
 mod counts;
 mod cpu;
 mod event;
+mod laws;
 mod task;
 
 pub use boot::Boot;
 pub use counts::{Change, Counts, Passage};
 pub use cpu::{Cpu, Log, Stage};
 pub use event::{Answer, Event};
+pub use laws::{
+    balance_holds, commands_change_only, counts_fit, replays_join, sizes_stay, stays_as_booted,
+};
 pub use task::{Candidate, Class, Task, TaskState};

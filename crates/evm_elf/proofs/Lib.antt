@@ -1,0 +1,4 @@
+pub mod Headers
+pub mod Sharing
+pub mod Sound
+pub mod Written

@@ -1,0 +1,9 @@
+-- the headers from here on decide
+use Rattle.std.proofs.Common.{◌≡◌, ◌-◌, length}
+use Rattle.std.specs.List.{list_any}
+use Rattle.evm_elf.specs.Fields.{headers_from}
+use Rattle.evm_elf.specs.Faults.{is_outside}
+use Rattle.evm_elf.proofs.segments.any_outside.Given as goal
+
+abbrev pub invariant-loop-i : goal.invariant-loop-i
+invariant-loop-i l = list_any (is_outside (length l.file)) (headers_from l.file 0 l.count) ≡ list_any (is_outside (length l.file)) (headers_from l.file l.i (l.count - l.i))

@@ -1,0 +1,5 @@
+pub mod Fields
+pub mod Images
+pub mod Faults
+pub mod Rising
+pub mod Files

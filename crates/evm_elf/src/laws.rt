@@ -1,0 +1,27 @@
+//! What holds of every file and every program.
+
+ghost use Rattle.std.specs.Prelude.{◌≡◌, ◌≤◌, ◌+◌, ◌↔◌, ℕ, List, length, slice_index, true, Some, None};
+ghost use Rattle.evm_elf.specs.declared.fault.ElfFault.TheVariants.{SegmentOverlap};
+ghost use Rattle.evm_elf.specs.Images.{byte_at, range_start, IsSound};
+ghost use Rattle.evm_elf.specs.Files.{file_of, program_of};
+ghost use Rattle.evm_elf.specs.declared.writing.TheConstants.{PROGRAM_MAX};
+ghost use Rattle.evm_elf.specs.Faults.{applies, fault_of, image_of, IsTakenTwice, loads};
+
+/// An accepted file's entry is aligned and in the range. Its segments lie in the range, take room for all of
+/// their bytes, and no two take one address, so that each address has the byte of its one segment.
+pub fn accepted_is_sound()
+    ensures { (file : List ℕ) → fault_of file ≡ None → IsSound (image_of file) }
+{}
+
+/// Segments overlap exactly where some address is in the memory of two of them.
+pub fn overlap_is_shared_address()
+    ensures { (file : List ℕ) → (applies file SegmentOverlap ≡ true) ↔ IsTakenTwice (loads file) }
+{}
+
+/// What `write_bytes` writes is read again as the program: the file has no fault, and its image is one
+/// segment of these bytes at the start of the range, where the program begins.
+pub fn written_is_read()
+    ensures accepted { (bytes : List ℕ) → length bytes ≤ PROGRAM_MAX → fault_of (file_of bytes) ≡ None }
+    ensures image { (bytes : List ℕ) → length bytes ≤ PROGRAM_MAX → image_of (file_of bytes) ≡ program_of bytes }
+    ensures bytes { (bytes : List ℕ) (i : ℕ) → byte_at (program_of bytes) (range_start + i) ≡ slice_index bytes i }
+{}

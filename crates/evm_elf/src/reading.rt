@@ -1,0 +1,74 @@
+//! Files read as images.
+
+ghost use Rattle.std.specs.Prelude.{◌≡◌, ◌≢◌, ◌≤◌, ◌↔◌, ℕ, map, take, drop, length, IfOk, None, Some, Err};
+ghost use Rattle.std.specs.List.{filter_map};
+ghost use Rattle.evm_elf.specs.declared.fault.ElfFault.{ElfFault};
+ghost use Rattle.evm_elf.specs.Fields.{headers_from};
+ghost use Rattle.evm_elf.specs.Faults.{load_of, segment_of, fault_of, image_of, Loads};
+
+use crate::fault::ElfFault;
+use crate::faults::first_fault;
+use crate::header::{Header, half_at, load_header, long_at};
+use crate::image::{Image, Segment};
+use std::alloc::{AllocError, Global};
+
+/// The `filesz` bytes of the file from `offset` on, or what there is of them.
+fn file_bytes(file: &[u8], offset: u64, filesz: u64) -> &[u8]
+    ensures { result.now ≡ take filesz (drop offset file.now) }
+{
+    let start = offset.min(file.len() as u64) as usize;
+    let rest = &file[start..];
+    let len = filesz.min(rest.len() as u64) as usize;
+    &rest[..len]
+}
+
+/// The segment of a header.
+fn segment(alloc: Global, file: &[u8], header: &Header) -> Result<Segment, AllocError>
+    ensures { IfOk result (λ s. s ≡ segment_of file.now header.now) }
+{
+    let bytes = Vec::from_slice(alloc, file_bytes(file, header.offset, header.filesz))?;
+    Ok(Segment::new(header.address, bytes, header.memsz))
+}
+
+/// The segments of the first `count` program headers, in their order.
+fn segments(alloc: Global, file: &[u8], count: u16) -> Result<Vec<Segment>, AllocError>
+    requires { 64 ≤ length file.now }
+    ensures { IfOk result (λ v. v.items ≡ map (segment_of file.now) (filter_map load_of (headers_from file.now 0 count))) }
+{
+    let mut loaded = Vec::new(alloc);
+    for i in 0..count {
+        if let Some(header) = load_header(file, i) {
+            loaded.push(segment(alloc, file, &header)?)?;
+        }
+    }
+    Ok(loaded)
+}
+
+/// The image of a file without a fault.
+#[tactic(auto, unfolding(crate::specs::Faults::image_of))]
+fn image(alloc: Global, file: &[u8]) -> Result<Image, AllocError>
+    requires long { 64 ≤ length file.now }
+    requires sound { fault_of file.now ≡ None }
+    ensures { IfOk result (λ image. Loads file.now image) }
+{
+    let segments = segments(alloc, file, half_at(file, 56))?;
+    Ok(Image::new(long_at(file, 24), segments))
+}
+
+/// Reads an ELF64 file as the image of a program (System V gABI, chapters 4 and 5).
+///
+/// # Errors
+///
+/// The first fault of the file, whether there is memory or not, and `NoMemory` where the file has none and
+/// memory ran out.
+#[tactic(auto, using(crate::proofs::Sound::has_header, crate::proofs::Sound::never_memory))]
+pub fn read_image(alloc: Global, file: &[u8]) -> Result<Image, ElfFault>
+    ensures ok { IfOk result (λ image. (fault_of file.now ≡ None) × Loads file.now image) }
+    ensures fault { (fault : ElfFault) → fault ≢ ElfFault.NoMemory → (result ≡ Err fault) ↔ (fault_of file.now ≡ Some fault) }
+    ensures memory { result ≡ Err ElfFault.NoMemory → fault_of file.now ≡ None }
+{
+    if let Some(fault) = first_fault(alloc, file) {
+        return Err(fault);
+    }
+    Ok(image(alloc, file)?)
+}

@@ -1,0 +1,94 @@
+//! Images written as files.
+
+ghost use Rattle.std.specs.Prelude.{◌≡◌, ◌≤◌, ◌++◌, length, IfOk, OnOk};
+ghost use Rattle.byteorder.specs.Endian.{little_bytes};
+ghost use Rattle.evm_elf.specs.Files.{load_header, file_of};
+
+use crate::header::{PT_LOAD, RANGE_START};
+use std::alloc::{AllocError, Global};
+use thiserror::Error;
+
+/// The most bytes that a program can have, those of the range of memory.
+pub const PROGRAM_MAX: usize = 0x0100_0000;
+
+/// Memory ran out.
+#[derive(Clone, Copy, Debug, Drop, PartialEq, Eq, Error)]
+#[error("out of memory")]
+pub struct NoMemory;
+
+impl From<AllocError> for NoMemory {
+    fn from(_e: AllocError) -> NoMemory {
+        NoMemory
+    }
+}
+
+/// `p_flags` of a segment that may be read, written and executed.
+const READ_WRITE_EXECUTE: u32 = 7;
+
+/// The bytes of both headers, where a program's own bytes begin.
+const PROGRAM_OFFSET: usize = 120;
+
+/// The file header of each program: an executable of 64 bits, little-endian, for RISC-V without flags, that
+/// begins at the start of the range and has one program header.
+const FILE_HEADER: [u8; 64] = [
+    // e_ident: the magic number, the class, the encoding and the version
+    0x7f, 0x45, 0x4c, 0x46, 2, 1, 1, 0, 0, 0, 0, 0, 0, 0, 0, 0,
+    // e_type, e_machine and e_version
+    2, 0, 243, 0, 1, 0, 0, 0,
+    // e_entry
+    0, 0, 0, 0x80, 0, 0, 0, 0,
+    // e_phoff and e_shoff
+    64, 0, 0, 0, 0, 0, 0, 0, 0, 0, 0, 0, 0, 0, 0, 0,
+    // e_flags
+    0, 0, 0, 0,
+    // e_ehsize, e_phentsize and e_phnum
+    64, 0, 56, 0, 1, 0,
+    // e_shentsize, e_shnum and e_shstrndx
+    0, 0, 0, 0, 0, 0,
+];
+
+/// Writes a 32-bit number at the end.
+fn push_word(file: &mut Vec<u8>, number: u32) -> Result<(), AllocError>
+    ensures { OnOk result (file.new.items ≡ file.old.items ++ little_bytes 4 number) }
+{
+    file.extend_from_slice(&number.to_le_bytes())
+}
+
+/// Writes a 64-bit number at the end.
+fn push_long(file: &mut Vec<u8>, number: u64) -> Result<(), AllocError>
+    ensures { OnOk result (file.new.items ≡ file.old.items ++ little_bytes 8 number) }
+{
+    file.extend_from_slice(&number.to_le_bytes())
+}
+
+/// Writes the program header of `len` bytes at the end.
+fn push_load_header(file: &mut Vec<u8>, len: u64) -> Result<(), AllocError>
+    ensures { OnOk result (file.new.items ≡ file.old.items ++ load_header len) }
+{
+    push_word(file, PT_LOAD)?; // p_type
+    push_word(file, READ_WRITE_EXECUTE)?; // p_flags
+    push_long(file, PROGRAM_OFFSET as u64)?; // p_offset
+    push_long(file, RANGE_START)?; // p_vaddr
+    push_long(file, RANGE_START)?; // p_paddr
+    push_long(file, len)?; // p_filesz
+    push_long(file, len)?; // p_memsz
+    push_long(file, 4)?; // p_align
+    Ok(())
+}
+
+/// The ELF64 file of a program whose bytes are these and lie at the start of the range, where it begins.
+///
+/// # Errors
+///
+/// Memory ran out.
+#[tactic(auto, unfolding(crate::specs::Files::file_of))]
+pub fn write_bytes(alloc: Global, bytes: &[u8]) -> Result<Vec<u8>, NoMemory>
+    requires { length bytes.now ≤ PROGRAM_MAX }
+    ensures { IfOk result (λ file. file.items ≡ file_of bytes.now) }
+{
+    let mut file = Vec::with_capacity(alloc, PROGRAM_OFFSET + bytes.len())?;
+    file.extend_from_slice(&FILE_HEADER)?;
+    push_load_header(&mut file, bytes.len() as u64)?;
+    file.extend_from_slice(bytes)?;
+    Ok(file)
+}
