@@ -1,4 +1,4 @@
-ghost use Rattle.std.specs.Prelude.{◌≡◌};
+
 
 use crate::stream::{ReadFault, WriteFault};
 

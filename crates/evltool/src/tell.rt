@@ -1,9 +1,9 @@
-ghost use Rattle.std.specs.Prelude.{◌≡◌, ◌∷◌, Option, Result, IfOk, IfErr, MatchResult};
+ghost use Rattle.std.specs.Prelude.{◌≡◌, Option, Result, IfOk, MatchResult};
 ghost use Rattle.std.specs.String.{string_bytes};
 ghost use Rattle.evm_model.specs.State.{State};
 ghost use Rattle.evm_model.specs.Replay.{BootAnswers};
 ghost use Rattle.evm_debug.specs.LineReading.{line_at};
-ghost use Rattle.evltool.specs.Told.{bad_text, refused_text, steps, boot_told, told_unbooted, told_booted, told_at, line_told, Goes, Ends};
+ghost use Rattle.evltool.specs.Told.{bad_text, refused_text, steps, told_unbooted, told_booted, line_told, Goes, Ends};
 ghost use Rattle.evltool.specs.Serving.{Replies};
 
 use crate::ending::Reply;

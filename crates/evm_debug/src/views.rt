@@ -1,6 +1,6 @@
-ghost use Rattle.std.specs.Prelude.{◌≡◌, ◌≤◌, ◌<◌, ◌+◌, ◌++◌, length, slice_get, OnOk, Option};
+ghost use Rattle.std.specs.Prelude.{◌≡◌, ◌<◌, ◌+◌, ◌++◌, OnOk, Option};
 ghost use Rattle.std.specs.String.{string_bytes};
-ghost use Rattle.evm_debug.specs.Views.{register_line, register_lines, registers_text, current_text, regs_text, task_text, tasks_text, stages_text, counts_text};
+ghost use Rattle.evm_debug.specs.Views.{register_line, registers_text, current_text, regs_text, task_text, tasks_text, stages_text, counts_text};
 ghost use Rattle.evm_exec.specs.Registers.{register_of};
 
 use crate::piece::Piece;

@@ -4,6 +4,7 @@ ghost use Rattle.evm_model.specs.Balance.{AlwaysBalances, AlwaysBalancesWith};
 ghost use Rattle.evm_model.specs.Bounds.{CountsAlwaysFit, CountsAlwaysFitWith};
 ghost use Rattle.evm_model.specs.Changes.{CommandsChangeOnly};
 ghost use Rattle.evm_model.specs.Kept.{ReplaysJoin, SizesStay, StaysAsBooted};
+ghost use Rattle.evm_model.specs.Replay.{StartsAsReplay};
 
 /// No interrupt is lost and none is played twice: after every list of events each line of each processor
 /// was raised as often as it merged on the wire, is there still, or was received; and it came to each stage
@@ -39,4 +40,9 @@ pub fn stays_as_booted()
 /// Replaying events and then others is replaying all of them.
 pub fn replays_join()
     ensures { ReplaysJoin }
+{}
+
+/// A machine that has had no event is the replay of its empty journal.
+pub fn starts_as_replay()
+    ensures { StartsAsReplay }
 {}
