@@ -1,6 +1,6 @@
 -- A text's first line ends at its first newline.
-use Rattle.std.proofs.Common.{◌≡◌, ℕ, zero, suc, ◌+◌, ◌<◌, ◌≤◌, ◌≢◌, List, [], ◌∷◌, length, get_or, take, drop, refl, ap, ◌∙◌, sym, arith, add-one, ◌-◌, length-drop}
-use Rattle.std.proofs.lemmas.Bool.{ne_eqb, eq-eqb}
+use Rattle.std.proofs.Common.{◌≡◌, ℕ, zero, suc, ◌+◌, ◌<◌, List, [], ◌∷◌, length, get_or, take, drop, refl, arith, add-one, ◌-◌, length-drop}
+use Rattle.std.proofs.lemmas.Bool.{ne_eqb}
 use Rattle.std.proofs.lemmas.List.{take_all}
 use Rattle.evltool.specs.Lines.{lines_of, CutsLine}
 
@@ -38,7 +38,7 @@ CutsLine-whole (b ∷ bytes) n some e before =
     let before' : NoNewline (b ∷ bytes) (suc (length bytes)) = λ k lt h. before k (omega arith) h in
     record {
       lines = rw none (lines_of-none b bytes before');
-      shorter = rw none (omega arith)
+      shorter = rw none (omega arith);
     }
 
 -- a text with a newline has a line before it, and the lines behind it
@@ -47,5 +47,5 @@ CutsLine-at bytes n lt e before =
     let all : take (length bytes - (n + 1)) (drop (n + 1) bytes) ≡ drop (suc n) bytes = rw add-one (take_all (length bytes - suc n) (drop (suc n) bytes) (omega (arith, length-drop (suc n) bytes))) in
     record {
       lines = rw all (lines_of-at bytes n lt e before);
-      shorter = rw all (omega (arith, length-drop (suc n) bytes))
+      shorter = rw all (omega (arith, length-drop (suc n) bytes));
     }

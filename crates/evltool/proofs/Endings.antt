@@ -1,7 +1,7 @@
 -- How a run ends, from how its parts end.
-use Rattle.std.proofs.Common.{◌≡◌, ℕ, ◌≤◌, List, [], ◌++◌, Option, Some, None, refl, subst, sym, inl, inr, length}
+use Rattle.std.proofs.Common.{◌≡◌, ℕ, ◌≤◌, List, [], Option, Some, None, refl, subst, inr, length}
 use Rattle.std.specs.Prelude.{IfSome}
-use Rattle.std.specs.Io.KnownBytes.{Appends, Keeps}
+use Rattle.std.specs.Io.KnownBytes.{Appends}
 use Rattle.evltool.specs.Stream.{LIMIT, AppendsFront}
 use Rattle.evltool.specs.Told.{Told, memory_text}
 use Rattle.evltool.specs.Serving.{Plays, Serves, TellsLast, TellsMemory, WithinLimit}

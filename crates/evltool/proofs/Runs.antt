@@ -1,12 +1,12 @@
 -- What the lines so far have told, and what is left to tell, are what the script tells.
-use Rattle.std.proofs.Common.{◌≡◌, ℕ, ◌+◌, List, [], ◌∷◌, ◌++◌, Option, Some, None, refl, ap, sym, ◌∙◌, append_assoc}
+use Rattle.std.proofs.Common.{◌≡◌, ℕ, ◌+◌, List, [], ◌++◌, Option, None, refl, ap, sym, ◌∙◌, append_assoc}
 use Rattle.std.proofs.lemmas.List.{append-nil}
 use Rattle.std.specs.Io.KnownBytes.{Appends}
 use Rattle.evm_model.specs.State.{State}
 use Rattle.evm_debug.specs.LineReading.{line_at}
 use Rattle.evltool.specs.Lines.{lines_of, CutsLine}
 use Rattle.evltool.specs.Stream.{AppendsFront}
-use Rattle.evltool.specs.Told.{Told, Telling, Goes, Ends, told, lines_told, line_told, run_on, behind}
+use Rattle.evltool.specs.Told.{Told, Goes, Ends, told, lines_told, line_told, behind}
 use Rattle.evltool.proofs.Streams.{Appends-trans}
 
 -- the text so far was written, and what the lines that are left tell comes behind it
@@ -32,7 +32,7 @@ unfolding lines_told
 Tells-goes all old now new n rest line after text machine machine' h cut goes written = record {
   front = h.front ++ text;
   written = Appends-trans old now new h.front text h.written written;
-  left = h.left ∙ ap (behind h.front) (rw (cut.lines, goes) refl) ∙ behind-behind h.front text (lines_told (n + 1) (lines_of after) machine')
+  left = h.left ∙ ap (behind h.front) (rw (cut.lines, goes) refl) ∙ behind-behind h.front text (lines_told (n + 1) (lines_of after) machine');
 }
 
 -- a line ends the run
@@ -53,7 +53,7 @@ Tells-front all old now n rest machine h = record {
   front = h.front;
   rest = (lines_told n (lines_of rest) machine).text;
   whole = ap (λ (t : Told). t.text) h.left;
-  written = h.written
+  written = h.written;
 }
 
 -- a front behind what was written
@@ -62,7 +62,7 @@ AppendsFront-behind old now new front text a b = record {
   front = front ++ b.front;
   rest = b.rest;
   whole = ap (λ z. front ++ z) b.whole ∙ sym (append_assoc front b.front b.rest);
-  written = Appends-trans old now new front b.front a b.written
+  written = Appends-trans old now new front b.front a b.written;
 }
 
 pub AppendsFront-longer : (old new : Option (List ℕ)) (text more : List ℕ) → AppendsFront old new text → AppendsFront old new (text ++ more)
@@ -70,7 +70,7 @@ AppendsFront-longer old new text more h = record {
   front = h.front;
   rest = h.rest ++ more;
   whole = ap (λ z. z ++ more) h.whole ∙ append_assoc h.front h.rest more;
-  written = h.written
+  written = h.written;
 }
 
 -- a line goes on, and its text could not be written whole
@@ -80,7 +80,7 @@ Tells-goes_fault all old now new n rest line after text machine machine' h cut g
     let others : List ℕ = (lines_told (n + 1) (lines_of after) machine').text in
     let left : all ≡ behind h.front (behind text (lines_told (n + 1) (lines_of after) machine')) = h.left ∙ ap (behind h.front) (rw (cut.lines, goes) refl) in
     let whole : all.text ≡ (h.front ++ text) ++ others =
-        ap (λ (t : Told). t.text) left ∙ sym (append_assoc h.front text others) in
+    ap (λ (t : Told). t.text) left ∙ sym (append_assoc h.front text others) in
     rw whole (AppendsFront-longer old new (h.front ++ text) others (AppendsFront-behind old now new h.front text h.written written))
 
 -- a line ends the run, and its text was written

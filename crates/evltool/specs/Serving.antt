@@ -1,10 +1,10 @@
 -- How a run may end, and what it has written then.
-use Rattle.std.specs.Prelude.{◌≡◌, ◌≤◌, ℕ, List, ◌++◌, Option, Some, ◌⊎◌, length, Result, Ok, Err, ⊤}
+use Rattle.std.specs.Prelude.{◌≡◌, ◌≤◌, ℕ, List, ◌++◌, Option, ◌⊎◌, length, ⊤}
 use Rattle.std.specs.Io.KnownBytes.{Appends, Keeps}
 use Rattle.std.specs.String.{string_bytes}
 use Rattle.evm_model.specs.State.{State}
 use Rattle.evltool.specs.Stream.{LIMIT, AppendsFront}
-use Rattle.evltool.specs.Told.{Told, told, memory_text, Telling, Goes, Ends}
+use Rattle.evltool.specs.Told.{Told, memory_text, Telling, Goes, Ends}
 use Rattle.evltool.specs.declared.ending.Ending.{Ending}
 use Rattle.evltool.specs.declared.ending.Ending.TheVariants.{Done, Refused, NoMemory, ReadFailed, WriteFailed}
 use Rattle.evltool.specs.declared.ending.Reply.{Reply}

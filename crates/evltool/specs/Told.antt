@@ -1,6 +1,5 @@
 -- What a run of a script tells: its text and its status.
-use Rattle.std.specs.Prelude.{◌≡◌, ◌≤◌, ℕ, zero, suc, ◌+◌, List, [], ◌∷◌, ◌++◌, Option, Some, None, Result, Ok, Err, codes, if◌then◌else◌, length}
-use Rattle.std.specs.Io.KnownBytes.{Appends}
+use Rattle.std.specs.Prelude.{ℕ, zero, suc, ◌+◌, List, [], ◌∷◌, ◌++◌, Option, Some, None, Result, Ok, Err, codes, if◌then◌else◌}
 use Rattle.evm_text.specs.Written.{decimal}
 use Rattle.evm_ram.specs.Refusal.{number_of}
 use Rattle.evm_ram.specs.declared.refusal.Refusal.{Refusal}
@@ -8,16 +7,13 @@ use Rattle.evm_ram.specs.declared.refusal.Refusal.TheVariants.{BadSize}
 use Rattle.evm_model.specs.State.{State}
 use Rattle.evm_model.specs.Replay.{start, step, bad_boot}
 use Rattle.evm_model.specs.declared.boot.Boot.{Boot}
-use Rattle.evm_model.specs.declared.event.Event.{Event}
 use Rattle.evm_model.specs.declared.event.Event.TheVariants.{Step}
 use Rattle.evm_model.specs.declared.event.Answer.{Answer}
 use Rattle.evm_debug.specs.LineReading.{line_at}
 use Rattle.evm_debug.specs.Views.{shown}
 use Rattle.evm_debug.specs.declared.line.Line.{Line}
 use Rattle.evm_debug.specs.declared.line.Line.TheVariants as lines
-use Rattle.evm_debug.specs.declared.line.View.{View}
 use Rattle.evltool.specs.Lines.{lines_of}
-use Rattle.evltool.specs.Stream.{LIMIT, AppendsFront}
 
 -- what the last line of a run says that ended at line n
 abbrev pub bad_text : ℕ → List ℕ

@@ -1,5 +1,3 @@
-
-
 use crate::stream::{ReadFault, WriteFault};
 
 /// What a line of a script replies.

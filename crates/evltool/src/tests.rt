@@ -1,25 +1,21 @@
 //! Scripts with the text wanted, and streams that fail.
 
 use crate::serve::serve;
-use std::io::{self, Read, Write};
+use std::alloc::Global;
 use std::process::Abort;
 
-// The text and the status of a script.
-fn check(rt: &HostRuntime, script: &str, text: &str, status: u8) -> io::Result<()> {
-    let mut reader = script.as_bytes();
-    let mut written = Vec::new(rt.alloc());
-    let ending = serve(rt.alloc(), &mut reader, &mut written);
-    assert_eq!(rt; ending.status(), status, "the status of {script}");
-    assert_eq!(rt; written.as_slice(), text.as_bytes(), "the text of {script}");
-    Ok(())
-}
+mod scripts;
+mod streams;
 
-#[test]
-fn scripts_tell(rt: HostRuntime) -> io::Result<()> {
-    for (script, text, status) in [
-        ("boot 1 65536 8\nstep 0 1\ntasks", "0 cpu 0 none 0 fault 2 pc 0000000080000000\n", 0),
-    ] {
-        check(&rt, script, text, status)?;
-    }
-    Ok(())
+/// Serves a script, and compares its text and its status.
+fn check(rt: &impl Abort, alloc: Global, script: &[u8], text: &str, status: u8) {
+    let mut reader = script;
+    let mut written = Vec::new(alloc);
+    let ending = serve(alloc, &mut reader, &mut written);
+    assert_eq!(rt;
+        written.as_slice(),
+        text.as_bytes(),
+        "the text of {script:?}"
+    );
+    assert_eq!(rt; ending.status(), status, "the status of {script:?}");
 }

@@ -1,6 +1,6 @@
 ghost use Rattle.std.specs.Prelude.{◌≡◌, ◌≤◌, [], ◌∷◌, replicate, IfOk, Option, false};
 ghost use Rattle.evm_model.specs.State.{booted, booted_cpu, idle_log, first_task, no_counts};
-ghost use Rattle.evm_model.specs.Replay.{bad_boot, bad_cpus, bad_ram, bad_capacity, BootAnswers};
+ghost use Rattle.evm_model.specs.Replay.{bad_boot, BootAnswers};
 
 use crate::kernel::Kernel;
 use crate::machine::Machine;

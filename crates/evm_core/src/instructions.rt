@@ -1,6 +1,6 @@
-ghost use Rattle.std.specs.Prelude.{◌≡◌, slice_get};
+ghost use Rattle.std.specs.Prelude.{◌≡◌};
 ghost use Rattle.evm_model.specs.State.{changed};
-ghost use Rattle.evm_model.specs.Instructions.{goes_on, goes_to, passes_on, left_in_band, faulted, stopped, done, executed, executed_word, A0, NO_SUCH_CALL};
+ghost use Rattle.evm_model.specs.Instructions.{goes_on, left_in_band, faulted, stopped, done, executed, A0, NO_SUCH_CALL};
 
 use crate::kernel::Kernel;
 use evm_exec::{Effect, effect, load_width, loaded};

@@ -1,8 +1,5 @@
 ghost use Rattle.std.specs.Prelude.{◌≡◌, ◌<◌, slice_get};
-ghost use Rattle.evm_model.specs.Interrupts.{
-    raised, logged, received, oob_handler, played_oob, played_in_band, all_played_oob, all_played_in_band, log_of, with_log, stage_of,
-    log_with, log_without, is_oob_line, taken_from_log
-};
+ghost use Rattle.evm_model.specs.Interrupts.{raised, logged, received, played_oob, played_in_band, all_played_oob, all_played_in_band, log_of, with_log, stage_of, taken_from_log};
 
 use crate::kernel::Kernel;
 use evm_lines::{LINES, LineSet};
@@ -12,7 +9,11 @@ use evm_model::{Change, Cpu, Log, Stage};
 fn stage_of_line(line: u8) -> Stage
     ensures { result ≡ stage_of line }
 {
-    if line < 2 { Stage::OutOfBand } else { Stage::InBand }
+    if line < 2 {
+        Stage::OutOfBand
+    } else {
+        Stage::InBand
+    }
 }
 
 // The log of a stage.

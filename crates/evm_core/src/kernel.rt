@@ -9,10 +9,10 @@ ghost use Rattle.evm_model.specs.Commands.{is_set, poked, breakpoint_set, breakp
 ghost use Rattle.evm_exec.specs.Registers.{with_register};
 ghost use Rattle.evm_ram.specs.Ram.{write_at};
 ghost use Rattle.evm_model.specs.Interrupts.{counted, counts_at, row_counted};
+ghost use Rattle.evm_core.specs.Noted.{some_oob};
 
-use crate::breakpoints::without;
-use crate::ready::{best_of, next_in_band_of};
-use arrayvec::ArrayVec;
+use crate::breakpoints::Breakpoints;
+use crate::ready::{best_of, next_in_band_of, notes_oob, runs_some_oob};
 use evm_isa::Register;
 use evm_lines::LINE_COUNT;
 use evm_model::{Change, Counts, Cpu, Task, TaskState};
@@ -27,8 +27,10 @@ pub(crate) struct Kernel {
     tasks: Vec<Task>,
     cpus: Vec<Cpu>,
     counts: Vec<[Counts; LINE_COUNT]>,
-    breakpoints: ArrayVec<u64, 64>,
+    breakpoints: Breakpoints,
     stamps: u64,
+    // true where some task is ready out-of-band; it may be true where none is
+    may_run_oob: bool,
 }
 
 impl Model for Kernel {
@@ -37,13 +39,20 @@ impl Model for Kernel {
     ghost Value = { model.Kernel };
 
     ghost use Rattle.std.specs.Prelude.{length, ◌≤◌};
+    ghost use Rattle.evm_core.specs.Noted.{NotesOob};
 
-    // the numbers of tasks and processors fit a byte
-    ghost invariant = { λ k. (length k.tasks.items ≤ 64) × (length k.cpus.items ≤ 8) };
+    // the numbers of tasks and processors fit a byte, and the note of tasks ready out-of-band is right
+    ghost invariant = { λ k. (length k.tasks.items ≤ 64) × (length k.cpus.items ≤ 8) × NotesOob k.may_run_oob k.tasks.items };
 
     ghost view = { λ k. record {
-        ticks = k.ticks; ram = k.ram; tasks = k.tasks.items; cpus = k.cpus.items; counts = k.counts.items;
-        breakpoints = k.breakpoints.items; stamps = k.stamps } };
+      ticks = k.ticks;
+      ram = k.ram;
+      tasks = k.tasks.items;
+      cpus = k.cpus.items;
+      counts = k.counts.items;
+      breakpoints = k.breakpoints;
+      stamps = k.stamps;
+    } };
 }
 
 impl Kernel {
@@ -57,16 +66,25 @@ impl Kernel {
         requires tasks { length tasks.items ≤ 64 }
         requires cpus { length cpus.items ≤ 8 }
         ensures { result ≡ record {
-            ticks = 0; ram = ram; tasks = tasks.items; cpus = cpus.items; counts = counts.items; breakpoints = []; stamps = 1 } }
+          ticks = 0;
+          ram = ram;
+          tasks = tasks.items;
+          cpus = cpus.items;
+          counts = counts.items;
+          breakpoints = [];
+          stamps = 1;
+        } }
     {
+        let may_run_oob = runs_some_oob(&tasks);
         Kernel {
             ticks: 0,
             ram,
             tasks,
             cpus,
             counts,
-            breakpoints: ArrayVec::new(),
+            breakpoints: Breakpoints::new(),
             stamps: 1,
+            may_run_oob,
         }
     }
 
@@ -93,10 +111,22 @@ impl Kernel {
     }
 
     /// The number of the out-of-band task that a processor should run.
+    #[tactic(auto, using(crate::proofs::Noted::noted))]
     pub(crate) fn best(&self, c: u8) -> Option<u8>
         ensures { result ≡ best c self.now.tasks }
     {
-        best_of(c, &self.tasks)
+        if self.may_run_oob {
+            best_of(c, &self.tasks)
+        } else {
+            None
+        }
+    }
+
+    /// Whether some task may be ready out-of-band; where this is false none is.
+    pub(crate) fn may_run_oob(&self) -> bool
+        ensures { result ≡ false → some_oob self.now.tasks ≡ false }
+    {
+        self.may_run_oob
     }
 
     /// The number of the in-band task that a processor should take up.
@@ -146,56 +176,64 @@ impl Kernel {
     pub(crate) fn set_state(&mut self, t: u8, state: TaskState)
         ensures { self.new ≡ with_state t state self.old }
     {
-        if let Some(task) = self.tasks.get_mut(t as usize) {
-            task.state = state;
-        }
+        let may_run_oob = notes_oob(self.may_run_oob, &state);
+        let Some(task) = self.tasks.get_mut(t as usize) else {
+            return;
+        };
+        task.state = state;
+        self.may_run_oob = may_run_oob;
     }
 
     /// A register of a task has a value, and its pc is this one.
     pub(crate) fn go_to(&mut self, t: u8, rd: Register, value: u64, pc: u64)
         ensures { self.new ≡ changed t (goes_to rd value pc) self.old }
     {
-        if let Some(task) = self.tasks.get_mut(t as usize) {
-            task.hart.set_register(rd, value);
-            task.hart.pc = pc;
-        }
+        let Some(task) = self.tasks.get_mut(t as usize) else {
+            return;
+        };
+        task.hart.set_register(rd, value);
+        task.hart.pc = pc;
     }
 
     /// A register of a task has a value, and its pc goes on.
     pub(crate) fn go_on(&mut self, t: u8, rd: Register, value: u64)
         ensures { self.new ≡ changed t (goes_on rd value) self.old }
     {
-        if let Some(task) = self.tasks.get_mut(t as usize) {
-            task.hart.set_register(rd, value);
-            task.hart.pc = task.hart.pc.wrapping_add(4);
-        }
+        let Some(task) = self.tasks.get_mut(t as usize) else {
+            return;
+        };
+        task.hart.set_register(rd, value);
+        task.hart.pc = task.hart.pc.wrapping_add(4);
     }
 
     /// A task's pc goes on.
     pub(crate) fn pass_on(&mut self, t: u8)
         ensures { self.new ≡ changed t passes_on self.old }
     {
-        if let Some(task) = self.tasks.get_mut(t as usize) {
-            task.hart.pc = task.hart.pc.wrapping_add(4);
-        }
+        let Some(task) = self.tasks.get_mut(t as usize) else {
+            return;
+        };
+        task.hart.pc = task.hart.pc.wrapping_add(4);
     }
 
     /// A register of a task has another value.
     pub(crate) fn write_register(&mut self, t: u8, register: Register, value: u64)
         ensures { self.new ≡ changed t (λ hart. record hart { regs = with_register hart.regs register value }) self.old }
     {
-        if let Some(task) = self.tasks.get_mut(t as usize) {
-            task.hart.set_register(register, value);
-        }
+        let Some(task) = self.tasks.get_mut(t as usize) else {
+            return;
+        };
+        task.hart.set_register(register, value);
     }
 
     /// A task has another pc.
     pub(crate) fn write_pc(&mut self, t: u8, pc: u64)
         ensures { self.new ≡ changed t (λ hart. record hart { pc = pc }) self.old }
     {
-        if let Some(task) = self.tasks.get_mut(t as usize) {
-            task.hart.pc = pc;
-        }
+        let Some(task) = self.tasks.get_mut(t as usize) else {
+            return;
+        };
+        task.hart.pc = pc;
     }
 
     /// Counts a tick.
@@ -209,7 +247,7 @@ impl Kernel {
     pub(crate) fn is_breakpoint(&self, address: u64) -> bool
         ensures { result ≡ is_set self.now.breakpoints address }
     {
-        self.breakpoints.as_slice().contains(&address)
+        self.breakpoints.contains(address)
     }
 
     /// How many breakpoints are set.
@@ -244,7 +282,7 @@ impl Kernel {
     pub(crate) fn unset_breakpoint(&mut self, address: u64)
         ensures { self.new ≡ breakpoint_unset address self.old }
     {
-        self.breakpoints = without(self.breakpoints.as_slice(), address);
+        self.breakpoints = self.breakpoints.without(address);
     }
 
     pub(crate) fn ram(&self) -> &Ram

@@ -1,5 +1,6 @@
-ghost use Rattle.std.specs.Prelude.{◌≡◌, ◌≤◌, length};
-ghost use Rattle.evm_model.specs.Ranks.{best, next_in_band, rank, leader, goes_before, is_in_ready, is_oob_ready, own_rank};
+ghost use Rattle.std.specs.Prelude.{◌≡◌, ◌≤◌, ◌||◌, length};
+ghost use Rattle.evm_model.specs.Ranks.{best, next_in_band, rank, leader, goes_before, is_oob_ready};
+ghost use Rattle.evm_core.specs.Noted.{some_oob};
 
 use evm_model::{Candidate, Class, Task, TaskState};
 
@@ -40,6 +41,20 @@ fn leading(first: Option<Candidate>, other: Candidate) -> Option<Candidate>
             }
         }
     }
+}
+
+/// Whether a task is ready out-of-band.
+pub(crate) fn runs_some_oob(tasks: &[Task]) -> bool
+    ensures { result ≡ some_oob tasks.now }
+{
+    tasks.iter().any(|task| task.state == TaskState::OobReady)
+}
+
+/// Whether a task may be ready out-of-band, where this says so of the others and one has this state.
+pub(crate) fn notes_oob(others: bool, state: &TaskState) -> bool
+    ensures { result ≡ (others || is_oob_ready state.now) }
+{
+    others || *state == TaskState::OobReady
 }
 
 /// The number of the out-of-band task that processor c should run.

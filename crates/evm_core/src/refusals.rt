@@ -1,5 +1,5 @@
-ghost use Rattle.std.specs.Prelude.{◌≡◌, ◌≤◌, length, slice_get};
-ghost use Rattle.evm_model.specs.Refusals.{own_refusal, no_such_cpu, no_such_line, not_stopped, no_task, bad_register, misaligned, bad_bytes, bad_place, no_slot, cpu_refusal, line_refusal, stopped_refusal, register_refusal, pc_refusal, poke_refusal, break_refusal, unbreak_refusal};
+ghost use Rattle.std.specs.Prelude.{◌≡◌, length};
+ghost use Rattle.evm_model.specs.Refusals.{own_refusal, no_such_cpu, not_stopped, no_task, bad_register, misaligned, bad_bytes, bad_place, no_slot, cpu_refusal, line_refusal, stopped_refusal, register_refusal, pc_refusal, poke_refusal, break_refusal, unbreak_refusal};
 
 use crate::kernel::Kernel;
 use evm_lines::LINES;

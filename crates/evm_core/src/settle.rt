@@ -1,5 +1,5 @@
 ghost use Rattle.std.specs.Prelude.{◌≡◌, ◌<◌, slice_get, length};
-ghost use Rattle.evm_model.specs.Settle.{oob_part, in_band_part, in_band_turn, settled, nudged, all_nudged, settled_and_nudged, with_current, reschedule_in_band, is_oob_number, taken_up, wants_nudge, differs};
+ghost use Rattle.evm_model.specs.Settle.{oob_part, in_band_part, in_band_turn, settled, nudged, all_nudged, settled_and_nudged, with_current, reschedule_in_band, differs};
 
 use crate::kernel::Kernel;
 use evm_model::Cpu;
@@ -112,9 +112,19 @@ impl Kernel {
         self.nudge(c);
     }
 
-    // Tells the other processors that should run another task.
-    #[tactic(auto, using(crate::proofs::Nudges::nudges))]
+    // Tells the other processors that should run another task; there are none where no task is ready
+    // out-of-band.
+    #[tactic(auto, using(crate::proofs::Noted::noted))]
     fn nudge(&mut self, c: u8)
+        ensures { self.new ≡ all_nudged c 0 (length self.old.cpus) self.old }
+    {
+        if self.may_run_oob() {
+            self.nudge_others(c);
+        }
+    }
+
+    #[tactic(auto, using(crate::proofs::Nudges::nudges))]
+    fn nudge_others(&mut self, c: u8)
         ensures { self.new ≡ all_nudged c 0 (length self.old.cpus) self.old }
     {
         for d in 0..self.cpu_count() {

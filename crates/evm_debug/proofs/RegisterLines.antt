@@ -1,6 +1,5 @@
-use Rattle.std.proofs.Common.{◌≡◌, ℕ, suc, List, [], ◌∷◌, ◌++◌, ◌+◌, ◌-◌, ◌*◌, ◌<◌, refl, arith}
-use Rattle.evm_model.specs.declared.task.Task.{Task}
-use Rattle.evm_debug.specs.Views.{register_line, register_lines, tasks_text, task_text}
+use Rattle.std.proofs.Common.{◌≡◌, ℕ, suc, List, [], ◌++◌, ◌+◌, ◌-◌, ◌*◌, ◌<◌, refl, arith}
+use Rattle.evm_debug.specs.Views.{register_line, register_lines}
 
 -- no line is left
 pub register_lines-none : (r n : ℕ) (regs : List ℕ) → n ≡ 0 → register_lines r n regs ≡ []

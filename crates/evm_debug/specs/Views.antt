@@ -1,6 +1,6 @@
 -- The views of a machine as text; each line ends with a newline.
-use Rattle.std.specs.Prelude.{ℕ, zero, suc, ◌+◌, ◌/◌, ◌%◌, List, [], ◌∷◌, ◌++◌, Option, Some, None, Bool, true, false, codes, slice_get, slice_index, if◌then◌else◌, ◌==◌, nat_lt, Result, Ok, Err, ◌≡◌, ⊤}
-use Rattle.evm_text.specs.Written.{character, decimal, hexadecimal_padded, pairs}
+use Rattle.std.specs.Prelude.{ℕ, zero, suc, ◌+◌, ◌/◌, ◌%◌, List, [], ◌∷◌, ◌++◌, Option, Some, None, Bool, codes, slice_get, if◌then◌else◌, ◌==◌, nat_lt, Result, Ok, Err, ◌≡◌, ⊤}
+use Rattle.evm_text.specs.Written.{decimal, hexadecimal_padded, pairs}
 use Rattle.evm_ram.specs.Ram.{bytes_at}
 use Rattle.evm_ram.specs.declared.refusal.Refusal.{Refusal}
 use Rattle.evm_ram.specs.declared.refusal.Refusal.TheVariants.{NoSuchCpu, NoSuchLine, BadAddress}
@@ -11,14 +11,11 @@ use Rattle.evm_journal.specs.Journal.{journal_text}
 use Rattle.evm_debug.specs.declared.look.ViewRefusal.{ViewRefusal}
 use Rattle.evm_debug.specs.declared.look.ViewRefusal.TheVariants.{Refused, NoMemory}
 use Rattle.evm_exec.specs.Registers.{register_of}
-use Rattle.evm_exec.specs.declared.hart.Hart.{Hart}
 use Rattle.evm_lines.specs.Lines.{word_of}
 use Rattle.evm_model.specs.State.{Kernel, State}
 use Rattle.evm_model.specs.Ranks.{is_oob_ready}
 use Rattle.evm_model.specs.declared.cpu.Cpu.{Cpu}
-use Rattle.evm_model.specs.declared.cpu.Log.{Log}
 use Rattle.evm_model.specs.declared.counts.Counts.{Counts}
-use Rattle.evm_model.specs.declared.counts.Passage.{Passage}
 use Rattle.evm_model.specs.declared.task.Task.{Task}
 use Rattle.evm_model.specs.declared.task.Class.{Class}
 use Rattle.evm_model.specs.declared.task.Class.TheVariants.{Unattached, Fifo, RoundRobin, Weak}

@@ -72,7 +72,11 @@ fn push_current(out: &mut String, t: u8, task: &Task) -> Result<(), AllocError>
     push_registers(out, &task.hart)
 }
 
-pub(crate) fn push_regs(out: &mut String, current: Option<u8>, tasks: &[Task]) -> Result<(), AllocError>
+pub(crate) fn push_regs(
+    out: &mut String,
+    current: Option<u8>,
+    tasks: &[Task],
+) -> Result<(), AllocError>
     ensures { OnOk result (string_bytes out.new ≡ string_bytes out.old ++ regs_text current tasks.now) }
 {
     let Some(t) = current else {

@@ -1,5 +1,5 @@
 -- What the debugger's commands, ticks and interrupts do.
-use Rattle.std.specs.Prelude.{ℕ, zero, suc, ◌+◌, List, [], ◌∷◌, ◌++◌, Option, Some, None, Bool, true, false, not, ◌==◌, if◌then◌else◌, slice_get, slice_set, length, filter}
+use Rattle.std.specs.Prelude.{ℕ, zero, suc, ◌+◌, List, [], ◌∷◌, ◌++◌, Option, Some, None, Bool, not, ◌==◌, if◌then◌else◌, slice_get, length, filter}
 use Rattle.std.specs.List.{list_any}
 use Rattle.evm_exec.specs.Registers.{with_register}
 use Rattle.evm_exec.specs.declared.hart.Hart.{Hart}
@@ -8,7 +8,6 @@ use Rattle.evm_model.specs.Counts.{next}
 use Rattle.evm_model.specs.State.{Kernel, with_cpu, changed}
 use Rattle.evm_model.specs.Interrupts.{raised}
 use Rattle.evm_model.specs.declared.cpu.Cpu.{Cpu}
-use Rattle.evm_model.specs.declared.task.Task.{Task}
 
 -- line 0 is raised on count processors from c on
 unfoldable pub timer_raised : ℕ → ℕ → Kernel → Kernel

@@ -1,5 +1,5 @@
 -- Interrupt lines on their way: raised onto a processor's wire, received into a stage's log, played.
-use Rattle.std.specs.Prelude.{ℕ, ◌+◌, List, [], ◌∷◌, Option, Some, None, Bool, true, false, ◌==◌, nat_lt, if◌then◌else◌, slice_get, slice_set}
+use Rattle.std.specs.Prelude.{ℕ, List, [], ◌∷◌, Option, Some, None, Bool, ◌==◌, nat_lt, if◌then◌else◌, slice_get, slice_set}
 use Rattle.evm_lines.specs.Lines.{has_line, with_line, without_line}
 use Rattle.evm_model.specs.Counts.{counts_after}
 use Rattle.evm_model.specs.State.{Kernel, with_cpu}
@@ -69,7 +69,7 @@ abbrev pub logged_on : Option Cpu → Stage → ℕ → ℕ → Kernel → Kerne
 logged_on None stage c l k = k
 logged_on (Some cpu) stage c l k =
     counted c l (Arrived stage (has_line (log_of stage cpu).lines l))
-        (with_cpu c (with_log stage (log_with l (log_of stage cpu)) cpu) k)
+    (with_cpu c (with_log stage (log_with l (log_of stage cpu)) cpu) k)
 
 unfoldable pub logged : Stage → ℕ → ℕ → Kernel → Kernel
 logged stage c l k = logged_on (slice_get k.cpus c) stage c l k

@@ -1,5 +1,5 @@
 -- Which events are refused: the tests in the order of their numbers, the first that applies is answered.
-use Rattle.std.specs.Prelude.{ℕ, ◌+◌, ◌%◌, ◌==◌, List, [], ◌∷◌, Option, Some, None, Bool, true, false, not, ◌&&◌, ◌||◌, nat_lt, nat_le, is_some, is_none, if◌then◌else◌, slice_get, length}
+use Rattle.std.specs.Prelude.{ℕ, ◌%◌, ◌==◌, Option, Some, None, Bool, true, false, not, ◌&&◌, nat_lt, nat_le, is_none, if◌then◌else◌, slice_get, length}
 use Rattle.evm_lines.specs.declared.TheConstants.{LINES}
 use Rattle.evm_ram.specs.Ram.{bytes_at}
 use Rattle.evm_ram.specs.declared.refusal.Refusal.{Refusal}
@@ -60,12 +60,12 @@ stopped_refusal c k = refused_if (no_such_cpu c k) NoSuchCpu (refused_if (not_st
 abbrev pub register_refusal : ℕ → ℕ → Kernel → Option Refusal
 register_refusal c r k =
     refused_if (no_such_cpu c k) NoSuchCpu (refused_if (not_stopped c k) NotStopped
-        (refused_if (no_task c k) NoTask (refused_if (bad_register r) BadRegister None)))
+    (refused_if (no_task c k) NoTask (refused_if (bad_register r) BadRegister None)))
 
 abbrev pub pc_refusal : ℕ → ℕ → Kernel → Option Refusal
 pc_refusal c pc k =
     refused_if (no_such_cpu c k) NoSuchCpu (refused_if (not_stopped c k) NotStopped
-        (refused_if (no_task c k) NoTask (refused_if (misaligned pc) BadAddress None)))
+    (refused_if (no_task c k) NoTask (refused_if (misaligned pc) BadAddress None)))
 
 abbrev pub poke_refusal : ℕ → ℕ → Kernel → Option Refusal
 poke_refusal address count k = refused_if (bad_bytes address count k) BadAddress None

@@ -1,7 +1,6 @@
 -- What each event does, and answers.
-use Rattle.std.specs.Prelude.{ℕ, ◌+◌, List, Option, Some, None, Bool, true, false, not, ◌&&◌, if◌then◌else◌, slice_get}
+use Rattle.std.specs.Prelude.{ℕ, Option, Some, None, true, false, not, ◌&&◌, if◌then◌else◌, slice_get}
 use Rattle.evm_lines.specs.Lines.{least_line}
-use Rattle.evm_exec.specs.declared.hart.Hart.{Hart}
 use Rattle.evm_model.specs.State.{Kernel, with_cpu}
 use Rattle.evm_model.specs.Interrupts.{raised, received}
 use Rattle.evm_model.specs.Settle.{settled_and_nudged}

@@ -1,5 +1,5 @@
 -- What follows an event on a processor: it settles, and asks the others to reschedule.
-use Rattle.std.specs.Prelude.{ℕ, zero, suc, ◌+◌, List, [], ◌∷◌, Option, Some, None, Bool, true, false, not, ◌==◌, ◌&&◌, ◌||◌, if◌then◌else◌, slice_get, slice_set, is_some, option_map, length}
+use Rattle.std.specs.Prelude.{ℕ, zero, suc, ◌+◌, List, Option, Some, None, Bool, true, false, not, ◌==◌, ◌&&◌, if◌then◌else◌, slice_get, length}
 use Rattle.evm_lines.specs.Lines.{has_line}
 use Rattle.evm_model.specs.State.{Kernel, with_cpu}
 use Rattle.evm_model.specs.Ranks.{best, next_in_band, is_oob_ready}

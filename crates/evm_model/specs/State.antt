@@ -1,5 +1,5 @@
 -- What a machine is: the kernel, which events change, and beside it the boot numbers and the journal.
-use Rattle.std.specs.Prelude.{ℕ, List, [], ◌∷◌, Option, Some, None, slice_get, slice_set, replicate, ◌+◌, ◌*◌, Bool, false, true}
+use Rattle.std.specs.Prelude.{ℕ, List, [], ◌∷◌, Option, Some, None, slice_get, slice_set, replicate, ◌+◌, false}
 use Rattle.evm_ram.specs.declared.ram.TheConstants.{BASE}
 use Rattle.evm_exec.specs.declared.hart.Hart.{Hart}
 use Rattle.evm_model.specs.declared.boot.Boot.{Boot}
@@ -51,7 +51,12 @@ no_counts = record { raised = 0; merged = 0; received = 0; oob = no_passage; inb
 abbrev pub first_task : ℕ → Task
 first_task ram = record {
   hart = record { regs = slice_set (replicate 32 0) 2 (BASE + ram); pc = BASE };
-  cpu = 0; class = Unattached; priority = 0; stamp = 0; state = InReady }
+  cpu = 0;
+  class = Unattached;
+  priority = 0;
+  stamp = 0;
+  state = InReady;
+}
 
 -- the kernel at boot: RAM is zero, task 0 is current on processor 0
 unfoldable pub booted : Boot → ℕ → Kernel
@@ -62,7 +67,8 @@ booted boot lines = record {
   cpus = slice_set (replicate boot.cpus (booted_cpu None)) 0 (booted_cpu (Some 0));
   counts = replicate boot.cpus (replicate lines no_counts);
   breakpoints = [];
-  stamps = 1 }
+  stamps = 1;
+}
 
 -- the kernel with another processor c
 abbrev pub with_cpu : ℕ → Cpu → Kernel → Kernel

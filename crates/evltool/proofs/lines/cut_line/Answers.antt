@@ -1,4 +1,4 @@
-use Rattle.std.proofs.Common.{◌≡◌, ◌<◌, length, arith, rules, [], true, false, eq-eqb}
+use Rattle.std.proofs.Common.{◌<◌, length, rules}
 use Rattle.evltool.proofs.Cuts.{CutsLine-whole, CutsLine-at}
 use Rattle.evltool.proofs.lines.cut_line.Goals as goal
 

@@ -1,13 +1,13 @@
-use Rattle.std.proofs.Common.{◌≡◌, ◌<◌, length, List, ℕ, arith, rules}
+use Rattle.std.proofs.Common.{◌≡◌, arith, rules}
 use Rattle.std.specs.String.{string_bytes}
 use Rattle.std.specs.Io.KnownBytes.{Appends}
 use Rattle.evm_debug.specs.LineReading.{line_at}
 use Rattle.evltool.specs.Lines.{CutsLine}
 use Rattle.evltool.specs.Stream.{AppendsFront}
-use Rattle.evltool.specs.Told.{Telling, Goes, Ends, line_told}
+use Rattle.evltool.specs.Told.{Goes, Ends, line_told}
 use Rattle.evltool.proofs.Streams.{Appends-nil}
 use Rattle.evltool.proofs.Endings.{Plays-ended}
-use Rattle.evltool.proofs.Runs.{Tells-start, Tells-goes, Tells-front, Tells-done, Tells-goes_fault, Tells-ended, Tells-ended_fault}
+use Rattle.evltool.proofs.Runs.{Tells-start, Tells-goes, Tells-done, Tells-goes_fault, Tells-ended, Tells-ended_fault}
 use Rattle.evltool.proofs.serve.play.Goals as goal
 
 pub lines-init : goal.lines-init
@@ -20,7 +20,7 @@ lines-preserved g c =
     let written : Appends (g.W.Write.contents c.lines.writer) (g.W.Write.contents c.write_text.new.writer) (string_bytes c.in-Ok-Goes.text) = search rules in
     record {
       tells = Tells-goes _ _ _ _ _ _ _ _ _ _ _ c.lines.invariant.tells cut goes written;
-      numbered = omega (arith, cut.shorter, c.lines.invariant.numbered)
+      numbered = omega (arith, cut.shorter, c.lines.invariant.numbered);
     }
 
 pub returns-in-Err-write_text : goal.returns-in-Err-write_text

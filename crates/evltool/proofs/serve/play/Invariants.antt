@@ -1,4 +1,4 @@
-use Rattle.std.proofs.Common.{◌≡◌, ◌+◌, ◌<◌, ◌≤◌, ◌^◌, length}
+use Rattle.std.proofs.Common.{◌+◌, ◌≤◌, length}
 use Rattle.evltool.specs.Told.{told}
 use Rattle.evltool.proofs.Runs.{Tells}
 use Rattle.evltool.proofs.serve.play.Given as goal

@@ -11,7 +11,8 @@ longer text front rest n e =
 
 pub loop-rest-preserved : goal.loop-rest-preserved
 loop-rest-preserved g c =
-    let front : List ℕ = c.loop-rest.invariant.0 in
-    (front ++ take c.in-Ok.n c.loop-rest.rest.now,
-     longer c.args.text.now front c.loop-rest.rest.now c.in-Ok.n c.loop-rest.invariant.1,
-     Appends-trans _ _ _ front (take c.in-Ok.n c.loop-rest.rest.now) c.loop-rest.invariant.2 c.in-Ok.ensures.bytes)
+    let front : List ℕ = c.loop-rest.invariant.0 in (
+      front ++ take c.in-Ok.n c.loop-rest.rest.now,
+      longer c.args.text.now front c.loop-rest.rest.now c.in-Ok.n c.loop-rest.invariant.1,
+      Appends-trans _ _ _ front (take c.in-Ok.n c.loop-rest.rest.now) c.loop-rest.invariant.2 c.in-Ok.ensures.bytes,
+    )

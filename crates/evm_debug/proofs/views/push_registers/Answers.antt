@@ -1,7 +1,7 @@
-use Rattle.std.proofs.Common.{◌≡◌, ◌++◌, ◌+◌, ◌-◌, ◌*◌, ◌<◌, List, ℕ, [], ap, sym, ◌∙◌, append_assoc, arith}
+use Rattle.std.proofs.Common.{◌≡◌, ◌++◌, ◌+◌, ◌-◌, ◌*◌, ◌<◌, List, ℕ, ap, sym, ◌∙◌, append_assoc, arith}
 use Rattle.std.proofs.lemmas.List.{append-nil}
 use Rattle.std.specs.String.{string_bytes}
-use Rattle.evm_debug.specs.Views.{register_lines, registers_text}
+use Rattle.evm_debug.specs.Views.{register_lines}
 use Rattle.evm_debug.proofs.RegisterLines.{register_lines-none, register_lines-more}
 use Rattle.evm_debug.proofs.views.push_registers.Goals as goal
 

@@ -1,4 +1,4 @@
-use Rattle.std.proofs.Common.{◌≡◌, ◌-◌, length}
+use Rattle.std.proofs.Common.{◌≡◌, ◌-◌}
 use Rattle.evm_model.specs.Commands.{timer_raised}
 use Rattle.evm_core.proofs.kernel.Kernel.raise_timer.Given as goal
 

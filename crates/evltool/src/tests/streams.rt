@@ -1,0 +1,119 @@
+//! Readers and writers that fail, and scripts that are too long.
+
+use crate::serve::serve;
+use std::io::{self, Error, ErrorKind, Read, Write};
+
+/// A run that writes several texts, the last of them with a refusal.
+const SCRIPT: &str = "boot 2 65536 16\ntick\ntasks\nmem 80000000 4\ncounts 1 0\nstep 2 1\n";
+
+const TEXT: &str = "0 cpu 0 none 0 in-ready pc 0000000080000000\n\
+     00000000\n\
+     raised 1 merged 0 received 0 oob 0 0 0 in 0 0 0\n\
+     refused 6 2\n";
+
+/// Gives at most so many bytes at a call, and fails after so many calls.
+#[derive(Drop)]
+struct Source<'a> {
+    rest: &'a [u8],
+    most: usize,
+    calls: usize,
+}
+
+impl Read for Source<'_> {
+    fn read(&mut self, buf: &mut [u8]) -> io::Result<usize> {
+        if self.calls == 0 {
+            return Err(Error::from(ErrorKind::Other));
+        }
+        self.calls -= 1;
+        let mut part = &self.rest[..self.most.min(self.rest.len())];
+        let count = part.read(buf)?;
+        self.rest = &self.rest[count.min(self.rest.len())..];
+        Ok(count)
+    }
+}
+
+/// Takes at most so many bytes at a call, and after so many calls fails or takes none.
+#[derive(Drop)]
+struct Sink {
+    taken: Vec<u8>,
+    most: usize,
+    calls: usize,
+    fails: bool,
+}
+
+impl Write for Sink {
+    fn write(&mut self, buf: &[u8]) -> io::Result<usize> {
+        if self.calls == 0 {
+            return if self.fails {
+                Err(Error::from(ErrorKind::Other))
+            } else {
+                Ok(0)
+            };
+        }
+        self.calls -= 1;
+        let count = buf.len().min(self.most);
+        self.taken.extend_from_slice(&buf[..count])?;
+        Ok(count)
+    }
+
+    fn flush(&mut self) -> io::Result<()> {
+        Ok(())
+    }
+}
+
+// The script is 62 bytes: nine calls give it, and one more says that it is over.
+#[test]
+fn failed_reads_end_the_run(rt: HostRuntime) {
+    for calls in 0..=10 {
+        let mut source = Source {
+            rest: SCRIPT.as_bytes(),
+            most: 7,
+            calls,
+        };
+        let mut written = Vec::new(rt.alloc());
+        let ending = serve(rt.alloc(), &mut source, &mut written);
+        let (text, status) = if calls < 10 { ("", 4) } else { (TEXT, 1) };
+        assert_eq!(rt; ending.status(), status, "after {calls} reads");
+        assert_eq!(rt; written.as_slice(), text.as_bytes(), "after {calls} reads");
+    }
+}
+
+// However few bytes a call takes, a run that ends early has written a front of its text.
+#[test]
+fn failed_writes_leave_a_front(rt: HostRuntime) {
+    for (most, enough) in [(1, 113), (13, 60), (100, 60)] {
+        for fails in [false, true] {
+            for calls in 0..=enough {
+                let mut reader = SCRIPT.as_bytes();
+                let taken = Vec::new(rt.alloc());
+                let mut sink = Sink {
+                    taken,
+                    most,
+                    calls,
+                    fails,
+                };
+                let ending = serve(rt.alloc(), &mut reader, &mut sink);
+                let taken = sink.taken.as_slice();
+                let whole = taken == TEXT.as_bytes();
+                let status = if whole { 1 } else { 4 };
+                assert!(rt;
+                    TEXT.as_bytes().starts_with(taken),
+                    "{calls} writes of {most} bytes"
+                );
+                assert_eq!(rt; ending.status(), status, "{calls} writes of {most} bytes");
+                assert!(rt; whole || calls < enough, "{calls} writes of {most} bytes");
+            }
+        }
+    }
+}
+
+#[test]
+fn long_scripts_are_not_read(rt: HostRuntime) {
+    for (bytes, status) in [(16_777_216, 0), (16_777_217, 4), (u64::MAX, 4)] {
+        let mut reader = io::repeat(b'#').take(bytes);
+        let mut written = Vec::new(rt.alloc());
+        let ending = serve(rt.alloc(), &mut reader, &mut written);
+        assert_eq!(rt; ending.status(), status, "a comment of {bytes} bytes");
+        assert_eq!(rt; written.len(), 0, "a comment of {bytes} bytes");
+    }
+}
