@@ -1,13 +1,27 @@
-// A library with one function.
+//! An assembler of RV64I.
 #![tactic(auto)]
 
-ghost use Rattle.std.specs.Prelude.{◌≡◌};
-ghost use Rattle.evm_asm.specs.Echo.{echo_of};
+mod data;
+mod fault;
+mod item;
+mod labels;
+mod laws;
+mod layout;
+mod meaning;
+mod mnemonic;
+mod names;
+mod operand;
+mod output;
+mod place;
+mod program;
+mod statement;
+mod text;
+mod token;
 
-// The `ensures` clause is the contract: what `echo` returns is `echo_of` of its argument, a definition
-// in `specs/Echo.antt`, which a caller's clause can cite too.
-pub fn echo(x: usize) -> usize
-    ensures { result ≡ echo_of x }
-{
-    x
-}
+pub use fault::{AsmFault, AsmFaultKind};
+pub use laws::{la_loads, li_loads, no_fault_is_ignored, nops_are_addi};
+pub use output::ProgramLine;
+pub use program::{Program, assemble};
+
+#[cfg(test)]
+mod tests;

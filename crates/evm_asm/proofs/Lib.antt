@@ -1,0 +1,12 @@
+pub mod Entries
+pub mod Operands_read
+pub mod Loops
+pub mod Numbers_pushed
+pub mod Lines
+pub mod Layouts
+pub mod Meanings
+pub mod Repeats
+pub mod Parts
+pub mod Worded
+pub mod Standing
+pub mod Ignored

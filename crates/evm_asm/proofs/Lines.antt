@@ -1,0 +1,68 @@
+-- A source is cut into lines from the front.
+use Rattle.std.proofs.Common.{◌≡◌, ◌∙◌, ℕ, suc, ◌+◌, ◌≤◌, Bool, true, false, cond, not, ◌==◌, nat_lt, List, [], ◌∷◌, length, take, drop, Some, None, ap, refl, sym, arith}
+use Rattle.std.specs.List.{position_or_len}
+use Rattle.std.proofs.lemmas.Bool.{ltb-false}
+use Rattle.std.specs.Option.{unwrap_or}
+use Rattle.std.proofs.lemmas.List.Sums.{prefix_len-le-length}
+use Rattle.evm_asm.specs.Text.{before, after, place_by, tail}
+use Rattle.evm_asm.specs.Sources.{lines_of, in_front}
+
+picked : (n m : ℕ) → n ≤ m → (t : Bool) → nat_lt n m ≡ t → unwrap_or (cond t (Some n) None) m ≡ n
+picked n m h true e = refl
+picked n m h false e = omega (arith, ltb-false n m e)
+
+place-is : (p : ℕ → Bool) (xs : List ℕ) → place_by p xs ≡ position_or_len p xs
+place-is p xs = picked (position_or_len p xs) (length xs) (prefix_len-le-length (λ x. not (p x)) xs) _ refl
+
+place-cons : (c b : ℕ) (bs : List ℕ) (t : Bool) → (b == c) ≡ t → place_by (λ x. x == c) (b ∷ bs) ≡ cond t 0 (suc (place_by (λ x. x == c) bs))
+place-cons c b bs true e = place-is (λ x. x == c) (b ∷ bs) ∙ ap (λ t. cond (not t) (1 + position_or_len (λ x. x == c) bs) 0) e
+place-cons c b bs false e =
+    let one : 1 + position_or_len (λ x. x == c) bs ≡ suc (position_or_len (λ x. x == c) bs) = omega arith in
+    place-is (λ x. x == c) (b ∷ bs) ∙ ap (λ t. cond (not t) (1 + position_or_len (λ x. x == c) bs) 0) e ∙ one
+    ∙ ap (λ n. suc n) (sym (place-is (λ x. x == c) bs))
+
+before-cons : (c b : ℕ) (bs : List ℕ) (t : Bool) → (b == c) ≡ t → before c (b ∷ bs) ≡ cond t [] (b ∷ before c bs)
+unfolding before
+before-cons c b bs true e = ap (λ n. take n (b ∷ bs)) (place-cons c b bs true e)
+before-cons c b bs false e = ap (λ n. take n (b ∷ bs)) (place-cons c b bs false e)
+
+after-cons : (c b : ℕ) (bs : List ℕ) (t : Bool) → (b == c) ≡ t → after c (b ∷ bs) ≡ cond t bs (after c bs)
+unfolding after
+after-cons c b bs true e = ap (λ n. tail (drop n (b ∷ bs))) (place-cons c b bs true e)
+after-cons c b bs false e = ap (λ n. tail (drop n (b ∷ bs))) (place-cons c b bs false e)
+
+first_line : (b : ℕ) (bs : List ℕ) (t : Bool) → (b == 10) ≡ t → lines_of (b ∷ bs) ≡ cond t ([] ∷ lines_of bs) (in_front b (lines_of bs))
+unfolding lines_of
+first_line b bs t e = ap (λ t. cond t ([] ∷ lines_of bs) (in_front b (lines_of bs))) e
+
+by_first : (b : ℕ) (bs : List ℕ) (t : Bool) → (b == 10) ≡ t → in_front b (lines_of bs) ≡ (b ∷ before 10 bs) ∷ lines_of (after 10 bs)
+    → lines_of (b ∷ bs) ≡ before 10 (b ∷ bs) ∷ lines_of (after 10 (b ∷ bs))
+by_first b bs true e h =
+    first_line b bs true e
+    ∙ ap (λ (l : List ℕ). l ∷ lines_of bs) (sym (before-cons 10 b bs true e))
+    ∙ ap (λ (r : List ℕ). before 10 (b ∷ bs) ∷ lines_of r) (sym (after-cons 10 b bs true e))
+by_first b bs false e h =
+    first_line b bs false e ∙ h
+    ∙ ap (λ (l : List ℕ). l ∷ lines_of (after 10 bs)) (sym (before-cons 10 b bs false e))
+    ∙ ap (λ (r : List ℕ). before 10 (b ∷ bs) ∷ lines_of r) (sym (after-cons 10 b bs false e))
+
+nothing_behind : (b : ℕ) → in_front b (lines_of []) ≡ (b ∷ before 10 []) ∷ lines_of (after 10 [])
+unfolding lines_of before after
+nothing_behind b = refl
+
+-- a text that isn't empty is its first line, and the lines behind it
+pub lines-cut : (b : ℕ) (bs : List ℕ) → lines_of (b ∷ bs) ≡ before 10 (b ∷ bs) ∷ lines_of (after 10 (b ∷ bs))
+lines-cut b [] = by_first b [] (b == 10) refl (nothing_behind b)
+lines-cut b (x ∷ xs) = by_first b (x ∷ xs) (b == 10) refl (ap (in_front b) (lines-cut x xs))
+
+none_behind : (c : ℕ) → length (after c []) ≡ 0
+unfolding after
+none_behind c = refl
+
+shorter : (c b : ℕ) (bs : List ℕ) (t : Bool) → (b == c) ≡ t → length (after c bs) ≤ length bs → length (after c (b ∷ bs)) ≤ length bs
+shorter c b bs true e h = omega (arith, ap (λ (l : List ℕ). length l) (after-cons c b bs true e))
+shorter c b bs false e h = omega (arith, ap (λ (l : List ℕ). length l) (after-cons c b bs false e))
+
+pub after-shorter : (c b : ℕ) (bs : List ℕ) → length (after c (b ∷ bs)) ≤ length bs
+after-shorter c b [] = shorter c b [] (b == c) refl (omega (arith, none_behind c))
+after-shorter c b (x ∷ xs) = let h : length (after c (x ∷ xs)) ≤ length xs = after-shorter c x xs in shorter c b (x ∷ xs) (b == c) refl (omega arith)

@@ -1,0 +1,54 @@
+use Rattle.std.proofs.Common.{◌≡◌, ◌∙◌, ◌<◌, ◌+◌, sym, ap, arith, length, rules, List, ℕ}
+use Rattle.evm_asm.specs.Text.{before}
+use Rattle.evm_asm.specs.Sources.{lines_of, code_of, start}
+use Rattle.evm_asm.specs.Items.{layout_of, lines_meant, meaning_of}
+use Rattle.evm_asm.specs.declared.item.Placed.{Placed}
+use Rattle.evm_asm.specs.declared.place.Place.{Place}
+use Rattle.evm_asm.proofs.Layouts.{after-less}
+use Rattle.evm_asm.proofs.Meanings.{same-line, goes-on, stops, ends}
+use Rattle.evm_asm.proofs.meaning.meaning.Goals as goal
+
+pub loop-rest-init : goal.loop-rest-init
+unfolding meaning_of
+loop-rest-init c = record {
+  counted = omega arith;
+  meant_so_far =
+      let l = layout_of c.args.source.now in
+      ap (λ (p : Place). lines_meant l 0 p (lines_of c.args.source.now) c.new-items.result.items) c.start-place.ensures
+      ∙ ap (λ (i : List Placed). lines_meant l 0 start (lines_of c.args.source.now) i) c.new-items.ensures.items;
+}
+
+pub returns-in-Err : goal.returns-in-Err
+returns-in-Err c = λ h.
+    let some : 0 < length c.loop-rest.rest.now = search rules in
+    let l = layout_of c.args.source.now in
+    let a = c.args.layout.now in
+    let code : c.code_of-code.result.now ≡ code_of (before 10 c.loop-rest.rest.now) = c.code_of-code.ensures ∙ ap code_of c.before-in-loop-rest.ensures in
+    let here = sym (same-line a.labels a.place a.first l c.requires (c.loop-rest.lines + 1) c.loop-rest.place (code_of (before 10 c.loop-rest.rest.now)) c.loop-rest.items.items) ∙ (rw code at c.in-Err.ensures) h in
+    sym c.loop-rest.invariant.meant_so_far ∙ stops l c.loop-rest.lines c.loop-rest.place c.loop-rest.rest.now c.loop-rest.items.items c.in-Err.fault some here
+
+pub loop-rest-smaller : goal.loop-rest-smaller
+loop-rest-smaller c =
+    let some : 0 < length c.loop-rest.rest.now = search rules in
+    let less = after-less 10 c.loop-rest.rest.now some in
+    omega (arith, ap (λ (l : List ℕ). length l) c.after-rest.ensures)
+
+pub loop-rest-preserved : goal.loop-rest-preserved
+loop-rest-preserved c =
+    let some : 0 < length c.loop-rest.rest.now = search rules in
+    let less = after-less 10 c.loop-rest.rest.now some in
+    let l = layout_of c.args.source.now in
+    let a = c.args.layout.now in
+    let code : c.code_of-code.result.now ≡ code_of (before 10 c.loop-rest.rest.now) = c.code_of-code.ensures ∙ ap code_of c.before-in-loop-rest.ensures in
+    let here = sym (same-line a.labels a.place a.first l c.requires (c.loop-rest.lines + 1) c.loop-rest.place (code_of (before 10 c.loop-rest.rest.now)) c.loop-rest.items.items) ∙ (rw code at c.in-Ok.ensures) in
+    record {
+      counted = omega (arith, ap (λ (l : List ℕ). length l) c.after-rest.ensures);
+      meant_so_far =
+          rw c.after-rest.ensures
+          (sym (goes-on l c.loop-rest.lines c.loop-rest.place c.loop-rest.rest.now c.loop-rest.items.items c.in-Ok.next c.push_told.new.items.items some here) ∙ c.loop-rest.invariant.meant_so_far);
+    }
+
+pub returns : goal.returns
+returns c =
+    let none : length c.loop-rest.rest.now ≡ 0 = search rules in
+    sym c.loop-rest.invariant.meant_so_far ∙ ends (layout_of c.args.source.now) c.loop-rest.lines c.loop-rest.place c.loop-rest.rest.now c.loop-rest.items.items none

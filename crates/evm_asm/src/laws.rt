@@ -1,0 +1,30 @@
+//! What is true of every source and every number. The functions do nothing: their contracts are the laws.
+
+ghost use Rattle.std.specs.Prelude.{◌≡◌, Some};
+ghost use Rattle.std.specs.Int.{w32, from_le_bytes};
+ghost use Rattle.evm_isa.specs.Encoded.{encoded};
+ghost use Rattle.evm_asm.specs.declared.mnemonic.BareOp.TheVariants.{Nop};
+ghost use Rattle.evm_asm.specs.Statements.{bare};
+ghost use Rattle.evm_asm.specs.Programs.{nop_bytes};
+ghost use Rattle.evm_asm.specs.Items.{NoFaultIsIgnored};
+ghost use Rattle.evm_asm.specs.Loading.{LoadsImmediate, LoadsAddress};
+
+/// `li rd,n` leaves n in rd, which isn't x0.
+pub fn li_loads()
+    ensures { LoadsImmediate }
+{}
+
+/// `la rd,l` leaves the address of l in rd, which isn't x0.
+pub fn la_loads()
+    ensures { LoadsAddress }
+{}
+
+/// A source that means something has no line with a fault, those that a label causes included.
+pub fn no_fault_is_ignored()
+    ensures { NoFaultIsIgnored }
+{}
+
+/// What fills the text at an alignment is the word of `addi x0,x0,0`.
+pub fn nops_are_addi()
+    ensures { encoded (bare Nop) ≡ Some (from_le_bytes w32 nop_bytes) }
+{}

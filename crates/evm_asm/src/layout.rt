@@ -1,0 +1,187 @@
+//! The lines of a source, its labels, and where they are.
+
+ghost use Rattle.std.specs.Prelude.{◌≡◌, IfOk, IfErr, length, false};
+ghost use Rattle.std.specs.Option.{option_map};
+ghost use Rattle.evm_asm.specs.declared.fault.AsmFaultKind.TheVariants.{NoMemory};
+ghost use Rattle.evm_asm.specs.Sources.{code_of, label_at, behind_labels, with_label, defined, outcome, measured, line_laid, first_of, laid, nothing_laid, lines_of, start, IsLaid};
+ghost use Rattle.evm_asm.specs.Places.{here};
+
+use crate::fault::{AsmFault, AsmFaultKind, least};
+use crate::labels::Labels;
+use crate::mnemonic::Section;
+use crate::operand::name_in;
+use crate::place::{Place, Spot, behind, here, start, statement_in};
+use crate::text::{after, before, has};
+use std::alloc::{AllocError, Global};
+
+/// A line without its comment.
+#[tactic(auto, unfolding(crate::specs::Sources::code_of))]
+pub fn code_of(line: &[u8]) -> &[u8]
+    ensures { result.now ≡ code_of line.now }
+{
+    before(b'#', line)
+}
+
+#[tactic(auto, unfolding(crate::specs::Sources::label_at))]
+fn label_at(text: &[u8]) -> Option<(&[u8], &[u8])>
+    ensures { option_map (λ x. (x.0.now, x.1.now)) result ≡ label_at text.now }
+{
+    if !has(b':', text) {
+        return None;
+    }
+    match name_in(before(b':', text)) {
+        Some(name) => Some((name, after(b':', text))),
+        None => None,
+    }
+}
+
+/// The text behind its labels.
+pub fn statement_text(text: &[u8]) -> &[u8]
+    ensures { result.now ≡ behind_labels (length text.now) text.now }
+{
+    let mut rest = text;
+    for _ in 0..text.len() {
+        match label_at(rest) {
+            None => return rest,
+            Some((_, tail)) => rest = tail,
+        }
+    }
+    rest
+}
+
+/// Adds a label that is new; true where one came twice.
+#[tactic(auto, unfolding(crate::specs::Sources::with_label))]
+fn add_label(
+    alloc: Global,
+    labels: &mut Labels,
+    spot: Spot,
+    name: &[u8],
+    twice: bool,
+) -> Result<bool, AllocError>
+    ensures { IfOk result (λ after. record { labels = labels.new; twice = after } ≡ with_label spot name.now (record { labels = labels.old; twice = twice })) }
+{
+    if labels.find(name).is_some() {
+        return Ok(true);
+    }
+    labels.add(alloc, name, spot)?;
+    Ok(twice)
+}
+
+/// Adds the labels at the front of a text; true where one came twice.
+fn define(alloc: Global, labels: &mut Labels, spot: Spot, text: &[u8]) -> Result<bool, AllocError>
+    ensures { IfOk result (λ after. record { labels = labels.new; twice = after } ≡ defined (length text.now) spot text.now (record { labels = labels.old; twice = false })) }
+{
+    let mut twice = false;
+    let mut rest = text;
+    for _ in 0..text.len() {
+        match label_at(rest) {
+            None => return Ok(twice),
+            Some((name, tail)) => {
+                twice = add_label(alloc, labels, spot, name, twice)?;
+                rest = tail;
+            }
+        }
+    }
+    Ok(twice)
+}
+
+fn outcome(
+    place: Place,
+    twice: bool,
+    measured: Result<Place, AsmFaultKind>,
+) -> (Place, Option<AsmFaultKind>)
+    ensures { result ≡ outcome place twice measured }
+{
+    match measured {
+        Ok(next) => {
+            if twice {
+                (place, Some(AsmFaultKind::LabelTwice))
+            } else {
+                (next, None)
+            }
+        }
+        Err(kind) => {
+            if twice {
+                (place, Some(least(AsmFaultKind::LabelTwice, kind)))
+            } else {
+                (place, Some(kind))
+            }
+        }
+    }
+}
+
+#[tactic(auto, unfolding(crate::specs::Sources::measured))]
+fn measured(labels: &Labels, place: Place, text: &[u8]) -> Result<Place, AsmFaultKind>
+    ensures { result ≡ measured labels.now place text.now }
+{
+    match statement_in(labels, place, text) {
+        Ok(statement) => behind(place, statement),
+        Err(kind) => Err(kind),
+    }
+}
+
+#[tactic(auto, unfolding(crate::specs::Sources::line_laid))]
+fn lay_line(
+    alloc: Global,
+    labels: &mut Labels,
+    place: Place,
+    code: &[u8],
+) -> Result<(Place, Option<AsmFaultKind>), AllocError>
+    ensures { IfOk result (λ after. (labels.new, after) ≡ line_laid labels.old place code.now) }
+{
+    let twice = define(alloc, labels, here(place), code)?;
+    let end = measured(labels, place, statement_text(code));
+    Ok(outcome(place, twice, end))
+}
+
+fn first_of(first: Option<AsmFault>, line: u64, kind: Option<AsmFaultKind>) -> Option<AsmFault>
+    ensures { result ≡ first_of first line kind }
+{
+    match (first, kind) {
+        (Some(fault), _) => Some(fault),
+        (None, Some(kind)) => Some(AsmFault { line, kind }),
+        (None, None) => None,
+    }
+}
+
+/// A source, laid out: its labels, the place behind it, and the first of its lines that has a fault, those
+/// that a label causes apart.
+#[derive(Drop)]
+pub struct Layout {
+    pub labels: Labels,
+    pub place: Place,
+    pub first: Option<AsmFault>,
+}
+
+/// Lays out a source.
+pub fn lay_out(alloc: Global, source: &[u8]) -> Result<Layout, AsmFault>
+    ensures laid { IfOk result (λ l. IsLaid l.labels l.place l.first (laid nothing_laid (lines_of source.now))) }
+    ensures memory { IfErr result (λ e. e.kind ≡ NoMemory) }
+{
+    let mut labels = Labels::new(alloc);
+    let mut place = start();
+    let mut first = None;
+    let mut lines: u64 = 0;
+    let mut rest = source;
+    while !rest.is_empty() {
+        let code = code_of(before(b'\n', rest));
+        let (next, fault) = match lay_line(alloc, &mut labels, place, code) {
+            Ok(laid) => laid,
+            Err(_) => {
+                return Err(AsmFault {
+                    line: lines + 1,
+                    kind: AsmFaultKind::NoMemory,
+                });
+            }
+        };
+        lines += 1;
+        first = first_of(first, lines, fault);
+        place = next;
+        rest = after(b'\n', rest);
+    }
+    Ok(Layout {
+        labels,
+        place,
+        first,
+    })
+}

@@ -1,0 +1,254 @@
+//! The items of a source, line by line.
+
+ghost use Rattle.std.specs.Prelude.{◌≡◌, Ok, IfOk, IfErr};
+ghost use Rattle.evm_asm.specs.Places.{behind};
+ghost use Rattle.evm_asm.specs.Sources.{IsLaid};
+ghost use Rattle.evm_asm.specs.Items.{Gives, Refused, Tells, unless_stopped, line_told, layout_of, with_item, with_instructions, number_pushed, with_numbers, operands, with_statement, statement_meant, line_meant, refusal, stop_at, lines_meant, meaning_of};
+
+use crate::fault::{AsmFault, AsmFaultKind, Stop, least};
+use crate::item::{Expansion, Item, Placed, TEXT_BASE, expanded, filling, value_in};
+use crate::labels::Labels;
+use crate::layout::{Layout, code_of, statement_text};
+use crate::mnemonic::{Section, Width};
+use crate::operand::first;
+use crate::place::{Place, behind, start, statement_in};
+use crate::statement::Statement;
+use crate::text::{after, before, behind_word, skip_blanks};
+use evm_isa::Inst;
+use std::alloc::Global;
+
+fn push_item(items: &mut Vec<Placed>, section: Section, item: Item) -> Result<(), Stop>
+    ensures { Gives (λ _. items.new.items) result (Ok (with_item section item items.old.items)) }
+{
+    match items.push(Placed { section, item }) {
+        Ok(()) => Ok(()),
+        Err(_) => Err(Stop::Memory),
+    }
+}
+
+#[tactic(auto, unfolding(crate::specs::Items::with_instructions))]
+fn push_instructions(items: &mut Vec<Placed>, line: u64, expansion: Expansion) -> Result<(), Stop>
+    ensures { Gives (λ _. items.new.items) result (Ok (with_instructions line expansion items.old.items)) }
+{
+    match expansion {
+        Expansion::Empty => Ok(()),
+        Expansion::Single(a) => push_item(items, Section::Text, Item::Instruction(line, a)),
+        Expansion::Double(a, b) => {
+            push_item(items, Section::Text, Item::Instruction(line, a))?;
+            push_item(items, Section::Text, Item::Instruction(line, b))
+        }
+    }
+}
+
+fn operands(text: &[u8]) -> &[u8]
+    ensures { result.now ≡ operands text.now }
+{
+    behind_word(skip_blanks(text))
+}
+
+#[tactic(auto, unfolding(crate::specs::Items::number_pushed))]
+fn push_number(
+    items: &mut Vec<Placed>,
+    labels: &Labels,
+    text_size: u32,
+    section: Section,
+    width: Width,
+    text: &[u8],
+) -> Result<(), Stop>
+    ensures { Gives (λ _. items.new.items) result (number_pushed labels.now text_size section width text.now items.old.items) }
+{
+    match value_in(labels, text_size, width, text) {
+        Ok(value) => push_item(items, section, Item::Number(width, value)),
+        Err(kind) => Err(Stop::Fault(kind)),
+    }
+}
+
+fn push_numbers(
+    items: &mut Vec<Placed>,
+    labels: &Labels,
+    text_size: u32,
+    section: Section,
+    width: Width,
+    count: u64,
+    text: &[u8],
+) -> Result<(), Stop>
+    ensures { Gives (λ _. items.new.items) result (with_numbers labels.now text_size section width count text.now items.old.items) }
+{
+    let mut rest = text;
+    for _ in 0..count {
+        match push_number(items, labels, text_size, section, width, first(rest)) {
+            Ok(()) => rest = after(b',', rest),
+            Err(stop) => return Err(stop),
+        }
+    }
+    Ok(())
+}
+
+#[tactic(auto, unfolding(crate::specs::Items::with_statement))]
+fn push_statement(
+    items: &mut Vec<Placed>,
+    labels: &Labels,
+    text_size: u32,
+    line: u64,
+    place: Place,
+    text: &[u8],
+    statement: &Statement,
+) -> Result<(), Stop>
+    ensures { Gives (λ _. items.new.items) result (with_statement labels.now text_size line place text.now statement.now items.old.items) }
+{
+    match *statement {
+        Statement::Numbers { width, count } => {
+            let text = operands(text);
+            push_numbers(items, labels, text_size, place.section, width, count, text)
+        }
+        Statement::Space(size) => push_item(items, place.section, Item::Zeros(size)),
+        Statement::Align(power) => push_item(items, place.section, filling(place, power)),
+        _ => {
+            let from = TEXT_BASE + u64::from(place.text_size);
+            match expanded(text_size, from, *statement) {
+                Ok(expansion) => push_instructions(items, line, expansion),
+                Err(kind) => Err(Stop::Fault(kind)),
+            }
+        }
+    }
+}
+
+fn place_behind(place: Place, statement: &Statement) -> Result<Place, Stop>
+    ensures { Gives (λ next. next) result (behind place statement.now) }
+{
+    match behind(place, *statement) {
+        Ok(next) => Ok(next),
+        Err(kind) => Err(Stop::Fault(kind)),
+    }
+}
+
+/// Adds the items of a statement; the place behind it.
+#[tactic(auto, unfolding(crate::specs::Items::statement_meant))]
+fn push_placed(
+    items: &mut Vec<Placed>,
+    labels: &Labels,
+    text_size: u32,
+    line: u64,
+    place: Place,
+    text: &[u8],
+    statement: &Statement,
+) -> Result<Place, Stop>
+    ensures { Gives (λ next. (next, items.new.items)) result (statement_meant labels.now text_size line place text.now statement.now items.old.items) }
+{
+    match push_statement(items, labels, text_size, line, place, text, statement) {
+        Ok(()) => place_behind(place, statement),
+        Err(stop) => Err(stop),
+    }
+}
+
+/// Adds the items of a line; the place behind it.
+#[tactic(auto, unfolding(crate::specs::Items::line_meant))]
+fn push_line(
+    items: &mut Vec<Placed>,
+    labels: &Labels,
+    text_size: u32,
+    line: u64,
+    place: Place,
+    text: &[u8],
+) -> Result<Place, Stop>
+    ensures { Gives (λ next. (next, items.new.items)) result (line_meant labels.now text_size line place text.now items.old.items) }
+{
+    match statement_in(labels, place, text) {
+        Ok(statement) => push_placed(items, labels, text_size, line, place, text, &statement),
+        Err(kind) => Err(Stop::Fault(kind)),
+    }
+}
+
+/// The fault of a line whose labels cause one, beside what was found before.
+fn refusal(first: Option<AsmFault>, line: u64, kind: AsmFaultKind) -> AsmFault
+    ensures { result ≡ refusal first line kind }
+{
+    match first {
+        None => AsmFault { line, kind },
+        Some(fault) => {
+            if fault.line == line {
+                AsmFault {
+                    line,
+                    kind: least(fault.kind, kind),
+                }
+            } else {
+                AsmFault { line, kind }
+            }
+        }
+    }
+}
+
+/// The fault that was found in this line before.
+fn stop_at(first: Option<AsmFault>, line: u64) -> Option<AsmFault>
+    ensures { result ≡ stop_at first line }
+{
+    match first {
+        None => None,
+        Some(fault) => {
+            if fault.line == line {
+                Some(fault)
+            } else {
+                None
+            }
+        }
+    }
+}
+
+fn unless_stopped(stop: Option<AsmFault>, place: Place) -> Result<Place, AsmFault>
+    ensures { result ≡ unless_stopped stop place }
+{
+    match stop {
+        None => Ok(place),
+        Some(fault) => Err(fault),
+    }
+}
+
+/// Adds the items of a line; the place behind it, or the least of its faults.
+#[tactic(auto, unfolding(crate::specs::Items::line_told))]
+fn push_told(
+    items: &mut Vec<Placed>,
+    layout: &Layout,
+    line: u64,
+    place: Place,
+    code: &[u8],
+) -> Result<Place, AsmFault>
+    ensures { Tells (λ next. (next, items.new.items)) result (line_told layout.now.labels layout.now.place.text_size layout.now.first line place code.now items.old.items) }
+{
+    let text_size = layout.place.text_size;
+    match push_line(
+        items,
+        &layout.labels,
+        text_size,
+        line,
+        place,
+        statement_text(code),
+    ) {
+        Ok(next) => unless_stopped(stop_at(layout.first, line), next),
+        Err(Stop::Memory) => Err(AsmFault {
+            line,
+            kind: AsmFaultKind::NoMemory,
+        }),
+        Err(Stop::Fault(kind)) => Err(refusal(layout.first, line, kind)),
+    }
+}
+
+/// The items that a source means.
+pub fn meaning(alloc: Global, source: &[u8], layout: &Layout) -> Result<Vec<Placed>, AsmFault>
+    requires { IsLaid layout.now.labels layout.now.place layout.now.first (layout_of source.now) }
+    ensures { Tells (λ v. v.items) result (meaning_of source.now) }
+{
+    let mut items = Vec::new(alloc);
+    let mut place = start();
+    let mut lines: u64 = 0;
+    let mut rest = source;
+    while !rest.is_empty() {
+        let code = code_of(before(b'\n', rest));
+        match push_told(&mut items, layout, lines + 1, place, code) {
+            Ok(next) => place = next,
+            Err(fault) => return Err(fault),
+        }
+        lines += 1;
+        rest = after(b'\n', rest);
+    }
+    Ok(items)
+}

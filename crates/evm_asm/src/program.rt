@@ -1,0 +1,139 @@
+//! An assembled program.
+
+ghost use Rattle.std.specs.Prelude.{◌≡◌, IfOk, IfErr, slice_get, All};
+ghost use Rattle.std.specs.Option.{option_map};
+ghost use Rattle.evm_asm.specs.declared.fault.AsmFaultKind.TheVariants.{NoMemory};
+ghost use Rattle.evm_asm.specs.Items.{Tells};
+ghost use Rattle.evm_asm.specs.Names.{named};
+ghost use Rattle.evm_asm.specs.Assembled.{assembled, program_of, IsWorded, StandsIn};
+ghost use Rattle.evm_asm.specs.Views.{view};
+
+use crate::fault::{AsmFault, AsmFaultKind};
+use crate::item::address;
+use crate::labels::Labels;
+use crate::layout::{Layout, lay_out};
+use crate::meaning::meaning;
+use crate::output::{Output, ProgramLine, image, spell};
+use evm_isa::encoded_by_table;
+use std::alloc::{AllocError, Global};
+use std::marker::Model;
+
+/// A program: its instructions in their order, its bytes, which begin at 0x80000000, and its labels.
+#[derive(Drop)]
+pub struct Program {
+    lines: Vec<ProgramLine>,
+    bytes: Vec<u8>,
+    labels: Labels,
+    text_size: u32,
+}
+
+impl Model for Program {
+    ghost use Rattle.evm_asm.specs.Assembled.{Assembled, addressed};
+
+    ghost Value = { Assembled };
+
+    ghost view = { λ p. record { lines = p.lines.items; bytes = p.bytes.items; labels = addressed p.text_size p.labels } };
+}
+
+impl Program {
+    /// The instructions, each with its address and the source line that it comes from.
+    pub fn lines(&self) -> &[ProgramLine]
+        ensures { result.now ≡ self.now.lines }
+    {
+        self.lines.as_slice()
+    }
+
+    /// The bytes, of which the first is at 0x80000000.
+    pub fn bytes(&self) -> &[u8]
+        ensures { result.now ≡ self.now.bytes }
+    {
+        self.bytes.as_slice()
+    }
+
+    /// The label at a place of the source's order, from 0, with its address.
+    pub fn label(&self, index: usize) -> Option<(&[u8], u64)>
+        ensures { option_map (λ x. (x.0.now, x.1)) result ≡ slice_get self.now.labels index }
+    {
+        match self.labels.at(index) {
+            Some((name, spot)) => Some((name, address(self.text_size, spot))),
+            None => None,
+        }
+    }
+
+    /// The address of the label of this name.
+    pub fn address_of(&self, name: &str) -> Option<u64>
+        ensures { result ≡ named self.now.labels name.now }
+    {
+        match self.labels.find(name.as_bytes()) {
+            Some(spot) => Some(address(self.text_size, spot)),
+            None => None,
+        }
+    }
+}
+
+fn finished(layout: Layout, out: Output) -> Result<Program, AllocError>
+    ensures { IfOk result (λ p. p ≡ assembled layout.place.text_size layout.labels (view out)) }
+{
+    let Output {
+        lines,
+        text_bytes,
+        data_bytes,
+    } = out;
+    let Layout {
+        labels,
+        place,
+        first: _,
+    } = layout;
+    let bytes = image(text_bytes, data_bytes.as_slice())?;
+    Ok(Program {
+        lines,
+        bytes,
+        labels,
+        text_size: place.text_size,
+    })
+}
+
+fn out_of_memory() -> AsmFault
+    ensures { result.kind ≡ NoMemory }
+{
+    AsmFault {
+        line: 1,
+        kind: AsmFaultKind::NoMemory,
+    }
+}
+
+#[tactic(auto, unfolding(crate::specs::Assembled::program_of))]
+fn assembled(alloc: Global, source: &str) -> Result<Program, AsmFault>
+    ensures { Tells (λ p. p) result (program_of source.now) }
+{
+    let source = source.as_bytes();
+    let layout = match lay_out(alloc, source) {
+        Ok(layout) => layout,
+        Err(fault) => return Err(fault),
+    };
+    let items = match meaning(alloc, source, &layout) {
+        Ok(items) => items,
+        Err(fault) => return Err(fault),
+    };
+    let out = match spell(alloc, items.as_slice()) {
+        Ok(out) => out,
+        Err(fault) => return Err(fault),
+    };
+    match finished(layout, out) {
+        Ok(program) => Ok(program),
+        Err(_) => Err(out_of_memory()),
+    }
+}
+
+/// Assembles a source: its program, or the least line that has a fault and the least of its faults.
+pub fn assemble(alloc: Global, source: &str) -> Result<Program, AsmFault>
+    // The program or the fault is the one that the source means, unless memory runs out.
+    ensures exact { Tells (λ p. p) result (program_of source.now) }
+    // The word of each line stands for its instruction, by the table of instructions.
+    ensures words { IfOk result (λ p. All IsWorded p.lines) }
+    // It stands at the line's address.
+    ensures placed { IfOk result (λ p. All (StandsIn p.bytes) p.lines) }
+{
+    encoded_by_table();
+    assembled(alloc, source)
+}
