@@ -56,10 +56,11 @@ fn scripts_tell(rt: HostRuntime) {
         ),
         // interrupts are received by the processor on whose wire they are, and merged there
         (
-            "boot 2 65536 16\ntick\ntick\nstep 1 1\ncounts 1 0\ncounts 0 0\nstages 0\n",
+            "boot 2 65536 16\ntick\ntick\nstep 1 1\ncounts 1 0\ncounts 0 0\nstages 0\njournal\n",
             "raised 2 merged 1 received 1 oob 1 0 1 in 1 0 1\n\
              raised 2 merged 1 received 0 oob 0 0 0 in 0 0 0\n\
-             cpu 0 current 0 oob 0 00000000 in 0 00000000 task 0 wire 00000001 stop 0 skip 0\n",
+             cpu 0 current 0 oob 0 00000000 in 0 00000000 task 0 wire 00000001 stop 0 skip 0\n\
+             evl-journal 1\nboot 2 65536 16\ntick\ntick\nstep 1 1\n",
             0,
         ),
         // a breakpoint stops a processor, and going on passes it over once
