@@ -1,12 +1,12 @@
 -- A source that means something has no line with a fault.
-use Rattle.std.proofs.Common.{◌≡◌, ◌∙◌, ℕ, zero, suc, ◌+◌, ◌<◌, ◌≤◌, Bool, true, false, cond, ◌==◌, List, [], ◌∷◌, length, Option, Some, None, Result, Ok, Err, ap, refl, sym, subst, arith}
+use Rattle.std.proofs.Common.{◌≡◌, ◌∙◌, ℕ, ◌+◌, ◌<◌, ◌≤◌, Bool, true, false, cond, ◌==◌, List, [], ◌∷◌, length, Option, Some, None, Result, Ok, Err, ap, refl, sym, arith}
 use Rattle.std.proofs.lemmas.Bool.Decides.{nat_tests}
-use Rattle.evm_asm.specs.declared.fault.AsmFault.{AsmFault}
-use Rattle.evm_asm.specs.declared.fault.AsmFaultKind.{AsmFaultKind}
+use Rattle.evm_words.specs.declared.fault.AsmFault.{AsmFault}
+use Rattle.evm_words.specs.declared.fault.AsmFaultKind.{AsmFaultKind}
 use Rattle.evm_asm.specs.declared.item.Placed.{Placed}
 use Rattle.evm_asm.specs.declared.place.Place.{Place}
 use Rattle.evm_asm.specs.Sources.{lines_of, code_of, Laid, laid, with_line, line_laid, first_of, nothing_laid, start}
-use Rattle.evm_asm.specs.Items.{line_meant, line_told, told, lines_meant, meaning_of, and_then, stop_at, unless_stopped, layout_of}
+use Rattle.evm_asm.specs.Items.{line_meant, line_told, told, lines_meant, meaning_of, unless_stopped, layout_of}
 use Rattle.evm_asm.specs.Sources.{statement_text}
 use Rattle.evm_asm.proofs.Worded.{and_then_ok}
 

@@ -1,9 +1,9 @@
 -- One more line of a source.
 use Rattle.std.proofs.Common.{◌≡◌, ℕ, ◌+◌, ◌<◌, ◌≤◌, List, [], ◌∷◌, length, Option, ap, refl, sym, arith}
-use Rattle.evm_asm.specs.declared.fault.AsmFaultKind.{AsmFaultKind}
+use Rattle.evm_words.specs.declared.fault.AsmFaultKind.{AsmFaultKind}
 use Rattle.evm_asm.specs.declared.place.Place.{Place}
-use Rattle.evm_asm.specs.Text.{before, after}
-use Rattle.evm_asm.specs.Statements.{Spots}
+use Rattle.evm_words.specs.Text.{before, after}
+use Rattle.evm_statement.specs.Statements.{Spots}
 use Rattle.evm_asm.specs.Sources.{lines_of, code_of, Laid, laid, with_line, line_laid, first_of}
 use Rattle.evm_asm.proofs.Lines.{lines-cut, after-shorter}
 

@@ -1,5 +1,4 @@
-pub mod Entries
-pub mod Operands_read
+pub mod Addressed
 pub mod Loops
 pub mod Numbers_pushed
 pub mod Lines
@@ -10,3 +9,13 @@ pub mod Parts
 pub mod Worded
 pub mod Standing
 pub mod Ignored
+pub mod Lengths
+pub mod Statement_sizes
+pub mod Fitting
+pub mod Outcomes
+pub mod Registers_below
+pub mod Words_found
+pub mod Numbers_in_range
+pub mod Statements_worded
+pub mod Expansions_worded
+pub mod Items_worded

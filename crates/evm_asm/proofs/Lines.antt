@@ -4,7 +4,7 @@ use Rattle.std.specs.List.{position_or_len}
 use Rattle.std.proofs.lemmas.Bool.{ltb-false}
 use Rattle.std.specs.Option.{unwrap_or}
 use Rattle.std.proofs.lemmas.List.Sums.{prefix_len-le-length}
-use Rattle.evm_asm.specs.Text.{before, after, place_by, tail}
+use Rattle.evm_words.specs.Text.{before, after, place_by, tail}
 use Rattle.evm_asm.specs.Sources.{lines_of, in_front}
 
 picked : (n m : ℕ) → n ≤ m → (t : Bool) → nat_lt n m ≡ t → unwrap_or (cond t (Some n) None) m ≡ n

@@ -1,6 +1,6 @@
 -- One more label of a line.
 use Rattle.std.proofs.Common.{◌≡◌, ◌∙◌, ℕ, zero, suc, ◌-◌, ◌<◌, ◌≤◌, ◌+◌, List, Option, Some, None, ap, refl, arith}
-use Rattle.evm_asm.specs.declared.place.Spot.{Spot}
+use Rattle.evm_statement.specs.declared.spot.Spot.{Spot}
 use Rattle.evm_asm.specs.Sources.{label_at, behind_labels, Defined, with_label, defined}
 
 pub behind_labels-none : (n : ℕ) (text : List ℕ) → label_at text ≡ None → behind_labels n text ≡ text

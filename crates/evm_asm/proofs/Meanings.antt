@@ -1,10 +1,10 @@
 -- One more line's items.
 use Rattle.std.proofs.Common.{◌≡◌, ◌∙◌, ℕ, ◌+◌, ◌<◌, List, [], ◌∷◌, length, Option, Result, Ok, Err, ap, refl, arith}
-use Rattle.evm_asm.specs.declared.fault.AsmFault.{AsmFault}
+use Rattle.evm_words.specs.declared.fault.AsmFault.{AsmFault}
 use Rattle.evm_asm.specs.declared.item.Placed.{Placed}
 use Rattle.evm_asm.specs.declared.place.Place.{Place}
-use Rattle.evm_asm.specs.Text.{before, after}
-use Rattle.evm_asm.specs.Statements.{Spots}
+use Rattle.evm_words.specs.Text.{before, after}
+use Rattle.evm_statement.specs.Statements.{Spots}
 use Rattle.evm_asm.specs.Sources.{lines_of, code_of, Laid, IsLaid}
 use Rattle.evm_asm.specs.Items.{line_told, lines_meant, and_then}
 use Rattle.evm_asm.proofs.Lines.{lines-cut}

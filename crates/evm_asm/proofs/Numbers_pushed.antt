@@ -1,15 +1,15 @@
 -- One more number of a list.
 use Rattle.std.proofs.Common.{◌≡◌, ◌∙◌, ℕ, suc, ◌-◌, ◌<◌, ◌≤◌, ◌+◌, List, Result, Ok, ap, sym, arith}
-use Rattle.evm_asm.specs.declared.fault.AsmFaultKind.{AsmFaultKind}
-use Rattle.evm_asm.specs.declared.fault.Stop.{Stop}
-use Rattle.evm_asm.specs.declared.fault.Stop.TheVariants as stop
+use Rattle.evm_words.specs.declared.fault.AsmFaultKind.{AsmFaultKind}
+use Rattle.evm_asm.specs.declared.meaning.Stop.{Stop}
+use Rattle.evm_asm.specs.declared.meaning.Stop.TheVariants as stop
 use Rattle.evm_asm.specs.declared.item.Placed.{Placed}
-use Rattle.evm_asm.specs.declared.mnemonic.Section.{Section}
-use Rattle.evm_asm.specs.declared.mnemonic.Width.{Width}
-use Rattle.evm_asm.specs.Faults.{◌>>=◌}
-use Rattle.evm_asm.specs.Text.{after}
-use Rattle.evm_asm.specs.Operands.{first}
-use Rattle.evm_asm.specs.Statements.{Spots}
+use Rattle.evm_words.specs.declared.mnemonic.Section.{Section}
+use Rattle.evm_words.specs.declared.mnemonic.Width.{Width}
+use Rattle.evm_words.specs.Faults.{◌>>=◌}
+use Rattle.evm_words.specs.Text.{after}
+use Rattle.evm_statement.specs.Operands.{first}
+use Rattle.evm_statement.specs.Statements.{Spots}
 use Rattle.evm_asm.specs.Items.{Fails, with_numbers, number_pushed}
 
 module _ (labels : Spots) (size : ℕ) (part : Section) (width : Width) (count i : ℕ) (text : List ℕ) (so_far : List Placed) where

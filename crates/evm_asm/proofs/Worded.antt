@@ -4,12 +4,12 @@ use Rattle.std.proofs.lemmas.List.Elements.{All-push}
 use Rattle.evm_isa.specs.declared.inst.Inst.{Inst}
 use Rattle.evm_isa.specs.Encoded.{encoded}
 use Rattle.evm_isa.specs.Table.{Row}
-use Rattle.evm_asm.specs.declared.fault.AsmFault.{AsmFault}
+use Rattle.evm_words.specs.declared.fault.AsmFault.{AsmFault}
 use Rattle.evm_asm.specs.declared.item.Item.{Item}
 use Rattle.evm_asm.specs.declared.item.Item.TheVariants.{Instruction, Number, Zeros, Nops}
 use Rattle.evm_asm.specs.declared.item.Placed.{Placed}
-use Rattle.evm_asm.specs.declared.mnemonic.Section.{Section}
-use Rattle.evm_asm.specs.declared.mnemonic.Section.TheVariants.{Text, Data}
+use Rattle.evm_words.specs.declared.mnemonic.Section.{Section}
+use Rattle.evm_words.specs.declared.mnemonic.Section.TheVariants.{Text, Data}
 use Rattle.evm_asm.specs.Items.{Tells, and_then, meaning_of, layout_of, text_base}
 use Rattle.evm_asm.specs.Programs.{Spelled, nothing_spelled, spelled, spelled_item, worded}
 use Rattle.evm_asm.specs.Assembled.{IsWorded, Assembled, assembled, program_of}

@@ -1,12 +1,10 @@
-pub mod Faults
-pub mod Text
-pub mod Names
-pub mod Operands
-pub mod Statements
 pub mod Places
 pub mod Sources
 pub mod Items
 pub mod Programs
 pub mod Views
 pub mod Assembled
+pub mod Bounds
 pub mod Loading
+pub mod Wording
+pub mod ProgramLaws

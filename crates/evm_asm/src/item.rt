@@ -4,15 +4,12 @@ ghost use Rattle.std.specs.Prelude.{◌≡◌, ◌≤◌, ◌<◌};
 ghost use Rattle.evm_asm.specs.Items.{address, data_base, distance, distance_to, load_immediate, load_address_by, load_address, expanded, filling, value_of, value_in};
 ghost use Rattle.evm_isa.specs.declared.inst.Inst.TheVariants as inst;
 
-use crate::data::datum_in;
-use crate::fault::AsmFaultKind;
-use crate::labels::Labels;
-use crate::mnemonic::{Section, Width};
 use crate::place::{
-    Place, Spot, high_part, is_small, low_part, low_word, needs_low_part, offset, padding,
+    Place, high_part, is_small, low_part, low_word, needs_low_part, offset, padding,
 };
-use crate::statement::{Datum, Statement, zero};
 use evm_isa::{ImmediateOp, Inst, Register, Shift};
+use evm_statement::{Datum, Labels, Spot, Statement, datum_in, zero};
+use evm_words::{AsmFaultKind, Section, Width};
 
 /// Where the text begins.
 pub const TEXT_BASE: u64 = 0x8000_0000;

@@ -2,16 +2,13 @@
 
 ghost use Rattle.std.specs.Prelude.{◌≡◌, IfOk, IfErr, length, false};
 ghost use Rattle.std.specs.Option.{option_map};
-ghost use Rattle.evm_asm.specs.declared.fault.AsmFaultKind.TheVariants.{NoMemory};
+ghost use Rattle.evm_words.specs.declared.fault.AsmFaultKind.TheVariants.{NoMemory};
 ghost use Rattle.evm_asm.specs.Sources.{code_of, label_at, behind_labels, with_label, defined, outcome, measured, line_laid, first_of, laid, nothing_laid, lines_of, start, IsLaid};
 ghost use Rattle.evm_asm.specs.Places.{here};
 
-use crate::fault::{AsmFault, AsmFaultKind, least};
-use crate::labels::Labels;
-use crate::mnemonic::Section;
-use crate::operand::name_in;
-use crate::place::{Place, Spot, behind, here, start, statement_in};
-use crate::text::{after, before, has};
+use crate::place::{Place, behind, here, start, statement_in};
+use evm_statement::{Labels, Spot, name_in};
+use evm_words::{AsmFault, AsmFaultKind, after, before, has, least};
 use std::alloc::{AllocError, Global};
 
 /// A line without its comment.

@@ -1,27 +1,23 @@
 //! An assembler of RV64I.
 #![tactic(auto)]
 
-mod data;
-mod fault;
 mod item;
-mod labels;
 mod laws;
 mod layout;
 mod meaning;
-mod mnemonic;
-mod names;
-mod operand;
 mod output;
 mod place;
 mod program;
-mod statement;
-mod text;
-mod token;
+mod program_laws;
 
-pub use fault::{AsmFault, AsmFaultKind};
-pub use laws::{la_loads, li_loads, no_fault_is_ignored, nops_are_addi};
+pub use evm_words::{AsmFault, AsmFaultKind};
+pub use laws::{
+    every_item_has_its_word, la_loads, li_loads, no_fault_is_ignored, nops_are_addi, programs_fit,
+    refused_as_meant, spelling_never_fails, words_stand,
+};
 pub use output::ProgramLine;
 pub use program::{Program, assemble};
+pub use program_laws::lines_are_worded;
 
 #[cfg(test)]
 mod tests;

@@ -5,17 +5,21 @@ ghost use Rattle.evm_asm.specs.Places.{behind};
 ghost use Rattle.evm_asm.specs.Sources.{IsLaid};
 ghost use Rattle.evm_asm.specs.Items.{Gives, Refused, Tells, unless_stopped, line_told, layout_of, with_item, with_instructions, number_pushed, with_numbers, operands, with_statement, statement_meant, line_meant, refusal, stop_at, lines_meant, meaning_of};
 
-use crate::fault::{AsmFault, AsmFaultKind, Stop, least};
 use crate::item::{Expansion, Item, Placed, TEXT_BASE, expanded, filling, value_in};
-use crate::labels::Labels;
 use crate::layout::{Layout, code_of, statement_text};
-use crate::mnemonic::{Section, Width};
-use crate::operand::first;
 use crate::place::{Place, behind, start, statement_in};
-use crate::statement::Statement;
-use crate::text::{after, before, behind_word, skip_blanks};
-use evm_isa::Inst;
+use evm_statement::{Labels, Statement, first};
+use evm_words::{
+    AsmFault, AsmFaultKind, Section, Width, after, before, behind_word, least, skip_blanks,
+};
 use std::alloc::Global;
+
+/// Why the meaning of a line is not told: an allocation was refused, or the line has a fault.
+#[derive(Clone, Copy, Debug, PartialEq, Eq)]
+pub enum Stop {
+    Memory,
+    Fault(AsmFaultKind),
+}
 
 fn push_item(items: &mut Vec<Placed>, section: Section, item: Item) -> Result<(), Stop>
     ensures { Gives (λ _. items.new.items) result (Ok (with_item section item items.old.items)) }

@@ -2,26 +2,15 @@
 
 ghost use Rattle.std.specs.Prelude.{◌≡◌, ◌≤◌, ◌<◌};
 ghost use Rattle.evm_asm.specs.Places.{offset, here, farther, grown, is_small, low_word, low_part, high_part, needs_low_part, bytes_in, padding, load_size, size_at, behind, is_directive, may_stand, placed, statement_in};
-ghost use Rattle.evm_asm.specs.Statements.{upper};
+ghost use Rattle.evm_statement.specs.Statements.{upper};
 ghost use Rattle.evm_asm.specs.Sources.{start};
 
-use crate::data::also;
-use crate::fault::AsmFaultKind;
-use crate::labels::Labels;
-use crate::mnemonic::{Mnemonic, Section, Width};
-use crate::names::mnemonic_named;
-use crate::operand::starts_with_name;
-use crate::statement::{Statement, statement_of, upper};
-use crate::text::{behind_word, skip_blanks, word};
-use crate::token::is_sound;
 use evm_isa::Shift;
-
-/// Where a label is: so many bytes into a section.
-#[derive(Clone, Copy, Debug, PartialEq, Eq)]
-pub struct Spot {
-    pub section: Section,
-    pub offset: u32,
-}
+use evm_statement::{Labels, Spot, Statement, also, starts_with_name, statement_of, upper};
+use evm_words::{
+    AsmFaultKind, Mnemonic, Section, Width, behind_word, is_sound, mnemonic_named, skip_blanks,
+    word,
+};
 
 /// How far a program has come: the section in force, and the bytes of each so far.
 #[derive(Clone, Copy, Debug, PartialEq, Eq)]

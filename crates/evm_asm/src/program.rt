@@ -1,24 +1,27 @@
 //! An assembled program.
 
-ghost use Rattle.std.specs.Prelude.{◌≡◌, IfOk, IfErr, slice_get, All};
+ghost use Rattle.std.specs.Prelude.{◌≡◌, ◌≤◌, IfOk, IfErr, length, slice_get, All};
 ghost use Rattle.std.specs.Option.{option_map};
-ghost use Rattle.evm_asm.specs.declared.fault.AsmFaultKind.TheVariants.{NoMemory};
+ghost use Rattle.evm_words.specs.declared.fault.AsmFaultKind.TheVariants.{NoMemory};
 ghost use Rattle.evm_asm.specs.Items.{Tells};
-ghost use Rattle.evm_asm.specs.Names.{named};
+ghost use Rattle.evm_words.specs.Names.{named};
 ghost use Rattle.evm_asm.specs.Assembled.{assembled, program_of, IsWorded, StandsIn};
 ghost use Rattle.evm_asm.specs.Views.{view};
+ghost use Rattle.evm_asm.specs.Programs.{image_of};
+ghost use Rattle.evm_asm.specs.Bounds.{bytes_max};
 
-use crate::fault::{AsmFault, AsmFaultKind};
 use crate::item::address;
-use crate::labels::Labels;
 use crate::layout::{Layout, lay_out};
 use crate::meaning::meaning;
 use crate::output::{Output, ProgramLine, image, spell};
 use evm_isa::encoded_by_table;
+use evm_statement::Labels;
+use evm_words::{AsmFault, AsmFaultKind};
 use std::alloc::{AllocError, Global};
 use std::marker::Model;
 
-/// A program: its instructions in their order, its bytes, which begin at 0x80000000, and its labels.
+/// A program: its instructions in their order, its bytes, which begin at 0x80000000 and are at most 16,777,216,
+/// and its labels.
 #[derive(Drop)]
 pub struct Program {
     lines: Vec<ProgramLine>,
@@ -28,11 +31,15 @@ pub struct Program {
 }
 
 impl Model for Program {
+    ghost use Rattle.std.specs.Prelude.{◌≤◌, length};
     ghost use Rattle.evm_asm.specs.Assembled.{Assembled, addressed};
+    ghost use Rattle.evm_asm.specs.Bounds.{bytes_max};
 
     ghost Value = { Assembled };
 
     ghost view = { λ p. record { lines = p.lines.items; bytes = p.bytes.items; labels = addressed p.text_size p.labels } };
+
+    ghost invariant = { λ p. length p.bytes.items ≤ bytes_max };
 }
 
 impl Program {
@@ -45,7 +52,8 @@ impl Program {
 
     /// The bytes, of which the first is at 0x80000000.
     pub fn bytes(&self) -> &[u8]
-        ensures { result.now ≡ self.now.bytes }
+        ensures all { result.now ≡ self.now.bytes }
+        ensures fit { length self.now.bytes ≤ bytes_max }
     {
         self.bytes.as_slice()
     }
@@ -72,6 +80,7 @@ impl Program {
 }
 
 fn finished(layout: Layout, out: Output) -> Result<Program, AllocError>
+    requires { length (image_of (view out).text_bytes (view out).data_bytes) ≤ bytes_max }
     ensures { IfOk result (λ p. p ≡ assembled layout.place.text_size layout.labels (view out)) }
 {
     let Output {

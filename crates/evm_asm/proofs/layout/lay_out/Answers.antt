@@ -1,5 +1,5 @@
 use Rattle.std.proofs.Common.{◌≡◌, ◌∙◌, ◌<◌, sym, ap, arith, length, rules, List, ℕ}
-use Rattle.evm_asm.specs.Text.{after, before}
+use Rattle.evm_words.specs.Text.{after, before}
 use Rattle.evm_asm.specs.Sources.{laid, lines_of, Laid, code_of}
 use Rattle.evm_asm.proofs.Layouts.{one-line, line-is, no-lines, after-less}
 use Rattle.evm_asm.proofs.layout.lay_out.Goals as goal

@@ -1,5 +1,5 @@
 use Rattle.std.proofs.Common.{◌≡◌, ◌∙◌, ◌<◌, ◌+◌, sym, ap, arith, length, rules, List, ℕ}
-use Rattle.evm_asm.specs.Text.{before}
+use Rattle.evm_words.specs.Text.{before}
 use Rattle.evm_asm.specs.Sources.{lines_of, code_of, start}
 use Rattle.evm_asm.specs.Items.{layout_of, lines_meant, meaning_of}
 use Rattle.evm_asm.specs.declared.item.Placed.{Placed}

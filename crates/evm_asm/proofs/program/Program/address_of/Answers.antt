@@ -1,10 +1,10 @@
 use Rattle.std.proofs.Common.{◌∙◌, sym, ap, Option, Some}
 use Rattle.std.specs.Option.{option_map}
-use Rattle.evm_asm.specs.declared.place.Spot.{Spot}
+use Rattle.evm_statement.specs.declared.spot.Spot.{Spot}
 use Rattle.evm_asm.specs.Items.{address}
-use Rattle.evm_asm.specs.Names.{named}
+use Rattle.evm_words.specs.Names.{named}
 use Rattle.evm_asm.specs.Assembled.{Assembled, addressed}
-use Rattle.evm_asm.proofs.Entries.{named-addressed}
+use Rattle.evm_asm.proofs.Addressed.{named-addressed}
 use Rattle.evm_asm.proofs.program.Program.address_of.Goals as goal
 
 pub returns-in-Some : goal.returns-in-Some

@@ -1,0 +1,5 @@
+use Rattle.evm_asm.proofs.Fitting.{program_fits}
+use Rattle.evm_asm.proofs.laws.programs_fit.Goals as goal
+
+pub returns : goal.returns
+returns c = program_fits

@@ -1,0 +1,18 @@
+//! The statements of a source: their operands, and the labels that they name.
+#![tactic(auto)]
+
+mod directive;
+mod instruction;
+mod labels;
+mod operand;
+mod pseudo;
+mod spot;
+mod statement;
+mod target;
+
+pub use directive::{also, datum_in};
+pub use instruction::upper;
+pub use labels::Labels;
+pub use operand::{first, name_in, starts_with_name};
+pub use spot::Spot;
+pub use statement::{Datum, Reading, Statement, statement_of, zero};

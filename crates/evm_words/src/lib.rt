@@ -1,0 +1,16 @@
+//! The words of a source: its characters and tokens, the names of the language, and why a line is refused.
+#![tactic(auto)]
+
+mod fault;
+mod mnemonic;
+mod names;
+mod registers;
+mod text;
+mod token;
+
+pub use fault::{AsmFault, AsmFaultKind, both, least};
+pub use mnemonic::{BareOp, Mnemonic, Section, UnaryOp, Width};
+pub use names::mnemonic_named;
+pub use registers::register_named;
+pub use text::{after, before, behind_word, has, is_name_start, skip_blanks, word};
+pub use token::{is_sound, size, starts_with_digit};
