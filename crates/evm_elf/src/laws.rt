@@ -4,8 +4,11 @@ ghost use Rattle.std.specs.Prelude.{◌≡◌, ◌≤◌, ◌+◌, ◌↔◌, �
 ghost use Rattle.evm_elf.specs.declared.fault.ElfFault.TheVariants.{SegmentOverlap};
 ghost use Rattle.evm_elf.specs.Images.{byte_at, range_start, IsSound};
 ghost use Rattle.evm_elf.specs.Files.{file_of, program_of};
+ghost use Rattle.evm_elf.specs.Programs.{AssembledIsRead, WordsAreLoaded};
 ghost use Rattle.evm_elf.specs.declared.writing.TheConstants.{PROGRAM_MAX};
 ghost use Rattle.evm_elf.specs.Faults.{applies, fault_of, image_of, IsTakenTwice, loads};
+
+use evm_asm::{programs_fit, words_stand};
 
 /// An accepted file's entry is aligned and in the range. Its segments lie in the range, take room for all of
 /// their bytes, and no two take one address, so that each address has the byte of its one segment.
@@ -25,3 +28,19 @@ pub fn written_is_read()
     ensures image { (bytes : List ℕ) → length bytes ≤ PROGRAM_MAX → image_of (file_of bytes) ≡ program_of bytes }
     ensures bytes { (bytes : List ℕ) (i : ℕ) → byte_at (program_of bytes) (range_start + i) ≡ slice_index bytes i }
 {}
+
+/// What `write_image` writes of the program of a source is read again as that program: the file has no fault,
+/// and its image is one segment of the program's bytes at the start of the range.
+pub fn assembled_is_read()
+    ensures { AssembledIsRead }
+{
+    programs_fit();
+}
+
+/// In the image of the program of a source the word of each line stands at the line's address.
+pub fn words_are_loaded()
+    ensures { WordsAreLoaded }
+{
+    programs_fit();
+    words_stand();
+}

@@ -13,9 +13,12 @@ mod writing;
 
 pub use fault::ElfFault;
 pub use image::{Image, Segment};
-pub use laws::{accepted_is_sound, overlap_is_shared_address, written_is_read};
+pub use laws::{
+    accepted_is_sound, assembled_is_read, overlap_is_shared_address, words_are_loaded,
+    written_is_read,
+};
 pub use reading::read_image;
-pub use writing::{NoMemory, PROGRAM_MAX, write_bytes};
+pub use writing::{NoMemory, PROGRAM_MAX, write_bytes, write_image};
 
 #[cfg(test)]
 mod tests;

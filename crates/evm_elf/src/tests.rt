@@ -169,6 +169,14 @@ fn writes_one_nop_and_reads_its_fronts(rt: HostRuntime) -> Result<(), Fail> {
 }
 
 #[test]
+fn writes_the_image_of_a_program(rt: HostRuntime) -> Result<(), Fail> {
+    let alloc = rt.alloc();
+    let program = evm_asm::assemble(alloc, "addi x0,x0,0")?;
+    assert_eq!(rt; write_image(alloc, &program)?.as_slice(), NOP.as_slice());
+    Ok(())
+}
+
+#[test]
 fn reads_what_gcc_built(rt: HostRuntime) -> Result<(), Fail> {
     let image = read_image(rt.alloc(), &SUM)?;
     assert_eq!(rt; image.entry(), 0x8000_0000);

@@ -5,6 +5,7 @@ ghost use Rattle.byteorder.specs.Endian.{little_bytes};
 ghost use Rattle.evm_elf.specs.Files.{load_header, file_of};
 
 use crate::header::{PT_LOAD, RANGE_START};
+use evm_asm::Program;
 use std::alloc::{AllocError, Global};
 use thiserror::Error;
 
@@ -91,4 +92,15 @@ pub fn write_bytes(alloc: Global, bytes: &[u8]) -> Result<Vec<u8>, NoMemory>
     push_load_header(&mut file, bytes.len() as u64)?;
     file.extend_from_slice(bytes)?;
     Ok(file)
+}
+
+/// The ELF64 file of an assembled program.
+///
+/// # Errors
+///
+/// Memory ran out.
+pub fn write_image(alloc: Global, program: &Program) -> Result<Vec<u8>, NoMemory>
+    ensures { IfOk result (λ file. file.items ≡ file_of program.now.bytes) }
+{
+    write_bytes(alloc, program.bytes())
 }
