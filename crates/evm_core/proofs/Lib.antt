@@ -1,5 +1,4 @@
 pub mod Lists
-pub mod Marks
-pub mod Noted
+pub mod Loads
 pub mod Nudges
 pub mod Timers

@@ -1,4 +1,4 @@
-ghost use Rattle.std.specs.Prelude.{◌≡◌, ◌<◌, ◌≤◌, slice_get, length, option_copied, OnSome, IfNone, Option, false, []};
+ghost use Rattle.std.specs.Prelude.{◌≡◌, ◌<◌, ◌≤◌, slice_get, length, replicate, option_copied, OnSome, IfNone, Option, false, []};
 ghost use Rattle.evm_model.specs.State.{with_cpu, changed};
 ghost use Rattle.evm_model.specs.Ranks.{best, next_in_band};
 ghost use Rattle.evm_model.specs.Settle.{is_oob_number};
@@ -9,14 +9,14 @@ ghost use Rattle.evm_model.specs.Commands.{is_set, poked, breakpoint_set, breakp
 ghost use Rattle.evm_exec.specs.Registers.{with_register};
 ghost use Rattle.evm_ram.specs.Ram.{write_at};
 ghost use Rattle.evm_model.specs.Interrupts.{counted, counts_at, row_counted};
-ghost use Rattle.evm_core.specs.Noted.{some_oob};
+ghost use Rattle.evm_ready.specs.Noted.{some_oob};
 
-use crate::breakpoints::Breakpoints;
-use crate::ready::{best_of, next_in_band_of, notes_oob, runs_some_oob};
+use evm_breaks::Breakpoints;
 use evm_isa::Register;
 use evm_lines::LINE_COUNT;
 use evm_model::{Change, Counts, Cpu, Task, TaskState};
 use evm_ram::{Ram, Width};
+use evm_ready::{best_of, next_in_band_of, notes_oob, runs_some_oob};
 use std::marker::Model;
 
 /// What events change.
@@ -39,7 +39,7 @@ impl Model for Kernel {
     ghost Value = { model.Kernel };
 
     ghost use Rattle.std.specs.Prelude.{length, ◌≤◌};
-    ghost use Rattle.evm_core.specs.Noted.{NotesOob};
+    ghost use Rattle.evm_ready.specs.Noted.{NotesOob};
 
     // the numbers of tasks and processors fit a byte, and the note of tasks ready out-of-band is right
     ghost invariant = { λ k. (length k.tasks.items ≤ 64) × (length k.cpus.items ≤ 8) × NotesOob k.may_run_oob k.tasks.items };
@@ -88,6 +88,13 @@ impl Kernel {
         }
     }
 
+    /// The processors, in the order of their numbers.
+    pub(crate) fn cpus(&self) -> &[Cpu]
+        ensures { result.now ≡ self.now.cpus }
+    {
+        self.cpus.as_slice()
+    }
+
     /// The processor of this number.
     pub(crate) fn cpu(&self, c: u8) -> Option<Cpu>
         ensures { result ≡ slice_get self.now.cpus c }
@@ -111,7 +118,7 @@ impl Kernel {
     }
 
     /// The number of the out-of-band task that a processor should run.
-    #[tactic(auto, using(crate::proofs::Noted::noted))]
+    #[tactic(auto, using(evm_ready::specs::Laws::noted))]
     pub(crate) fn best(&self, c: u8) -> Option<u8>
         ensures { result ≡ best c self.now.tasks }
     {
@@ -264,6 +271,13 @@ impl Kernel {
         ensures { self.new ≡ poked address bytes.now self.old }
     {
         let _outside = self.ram.poke(address, bytes);
+    }
+
+    /// Makes each byte of RAM zero.
+    pub(crate) fn clear_ram(&mut self)
+        ensures { self.new ≡ record self.old { ram = replicate (length self.old.ram) 0 } }
+    {
+        self.ram.clear();
     }
 
     /// Sets a breakpoint.

@@ -2,13 +2,12 @@
 #![tactic(auto)]
 
 mod booting;
-mod breakpoints;
 mod commands;
 mod instructions;
 mod interrupts;
 mod kernel;
+mod loading;
 mod machine;
-mod ready;
 mod refusals;
 mod settle;
 mod step;
@@ -16,3 +15,6 @@ mod step;
 pub use evm_model::{Answer, Boot, Event};
 pub use evm_ram::Refusal;
 pub use machine::Machine;
+
+#[cfg(test)]
+mod tests;

@@ -114,7 +114,7 @@ impl Kernel {
 
     // Tells the other processors that should run another task; there are none where no task is ready
     // out-of-band.
-    #[tactic(auto, using(crate::proofs::Noted::noted))]
+    #[tactic(auto, using(evm_ready::specs::Laws::noted))]
     fn nudge(&mut self, c: u8)
         ensures { self.new ≡ all_nudged c 0 (length self.old.cpus) self.old }
     {

@@ -7,6 +7,7 @@ pub mod Keeping
 pub mod KeptRuns
 pub mod LineFacts
 pub mod Lists
+pub mod Loads
 pub mod Moving
 pub mod Playing
 pub mod Raising

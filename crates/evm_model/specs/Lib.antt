@@ -6,6 +6,7 @@ pub mod Counts
 pub mod Instructions
 pub mod Interrupts
 pub mod Kept
+pub mod Load
 pub mod Ranks
 pub mod Refusals
 pub mod Replay

@@ -4,6 +4,7 @@ ghost use Rattle.evm_model.specs.Balance.{AlwaysBalances, AlwaysBalancesWith};
 ghost use Rattle.evm_model.specs.Bounds.{CountsAlwaysFit, CountsAlwaysFitWith};
 ghost use Rattle.evm_model.specs.Changes.{CommandsChangeOnly};
 ghost use Rattle.evm_model.specs.Kept.{ReplaysJoin, SizesStay, StaysAsBooted};
+ghost use Rattle.evm_model.specs.Load.{AlwaysBalancesLoaded, CountsAlwaysFitLoaded, LoadsEachByte, LoadsSoManyBytes};
 ghost use Rattle.evm_model.specs.Replay.{StartsAsReplay};
 
 /// No interrupt is lost and none is played twice: after every list of events each line of each processor
@@ -45,4 +46,16 @@ pub fn replays_join()
 /// A machine that has had no event is the replay of its empty journal.
 pub fn starts_as_replay()
     ensures { StartsAsReplay }
+{}
+
+/// What a load puts into RAM: so many bytes, each the one of its address.
+pub fn loads_each_byte()
+    ensures count { LoadsSoManyBytes }
+    ensures each { LoadsEachByte }
+{}
+
+/// The balance and the bounds of counts hold also where an image was loaded before the events.
+pub fn loads_stay_sound()
+    ensures balance { AlwaysBalancesLoaded }
+    ensures counts { CountsAlwaysFitLoaded }
 {}

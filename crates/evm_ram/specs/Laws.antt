@@ -35,16 +35,16 @@ poked : (ram : List ℕ) (address : ℕ) (bytes after : List ℕ) → poke_at ra
 unfolding poke_at
 poked ram address bytes after h = cond_some (is_inside ram address (length bytes)) _ after h
 
-no_bytes : (bytes : List ℕ) → length bytes ≡ 0 → bytes ≡ []
+pub no_bytes : (bytes : List ℕ) → length bytes ≡ 0 → bytes ≡ []
 no_bytes [] h = refl
 no_bytes (b ∷ bytes) h = absurd (omega arith)
 
-overwritten-nothing : (ram : List ℕ) (place : ℕ) → overwritten ram place [] ≡ ram
+pub overwritten-nothing : (ram : List ℕ) (place : ℕ) → overwritten ram place [] ≡ ram
 overwritten-nothing ram place =
     let same : place + 0 ≡ place = omega arith in
     rw (append-nil, same) (take-append-drop place ram)
 
-length-overwritten : (ram : List ℕ) (place : ℕ) (bytes : List ℕ) → place + length bytes ≤ length ram → length (overwritten ram place bytes) ≡ length ram
+pub length-overwritten : (ram : List ℕ) (place : ℕ) (bytes : List ℕ) → place + length bytes ≤ length ram → length (overwritten ram place bytes) ≡ length ram
 length-overwritten ram place bytes h = simp (length-append, length-take, length-drop) (omega arith)
 
 -- a poke keeps the length
@@ -90,20 +90,28 @@ bytes_at-poke_at ram address bytes after h =
     ]
 
 -- other bytes are as they were
-below : (ram : List ℕ) (place : ℕ) (bytes : List ℕ) (i d : ℕ) → place ≤ length ram → i < place → get_or (overwritten ram place bytes) i d ≡ get_or ram i d
-below ram place bytes i d h lt =
+pub get_or-overwritten_before : (ram : List ℕ) (place : ℕ) (bytes : List ℕ) (i d : ℕ) → place ≤ length ram → i < place → get_or (overwritten ram place bytes) i d ≡ get_or ram i d
+get_or-overwritten_before ram place bytes i d h lt =
     let front = length-take-le place ram h in
     get_or_append_left (take place ram ++ bytes) (drop (place + length bytes) ram) d i (simp length-append (omega arith))
     ∙ get_or_append_left (take place ram) bytes d i (omega arith)
     ∙ get_or-take place ram i d lt
 
-above : (ram : List ℕ) (place : ℕ) (bytes : List ℕ) (i d : ℕ) → place ≤ length ram → place + length bytes ≤ i → get_or (overwritten ram place bytes) i d ≡ get_or ram i d
-above ram place bytes i d h le =
+pub get_or-overwritten_behind : (ram : List ℕ) (place : ℕ) (bytes : List ℕ) (i d : ℕ) → place ≤ length ram → place + length bytes ≤ i → get_or (overwritten ram place bytes) i d ≡ get_or ram i d
+get_or-overwritten_behind ram place bytes i d h le =
     let front = length-take-le place ram h in
     let index : place + length bytes + (i - (place + length bytes)) ≡ i = omega arith in
     get_or-append_right (take place ram ++ bytes) (drop (place + length bytes) ram) (place + length bytes) i d (simp length-append (omega arith)) le
     ∙ get_or-drop (place + length bytes) ram (i - (place + length bytes)) d
     ∙ ap (λ (k : ℕ). get_or ram k d) index
+
+-- and the new ones are there
+pub get_or-overwritten_within : (ram : List ℕ) (place : ℕ) (bytes : List ℕ) (i d : ℕ) → place ≤ length ram → place ≤ i → i < place + length bytes
+    → get_or (overwritten ram place bytes) i d ≡ get_or bytes (i - place) d
+get_or-overwritten_within ram place bytes i d h low high =
+    let front = length-take-le place ram h in
+    get_or_append_left (take place ram ++ bytes) (drop (place + length bytes) ram) d i (simp length-append (omega arith))
+    ∙ get_or-append_right (take place ram) bytes place i d front low
 
 same_part : (ram after : List ℕ) (place count : ℕ) → length after ≡ length ram → ((i d : ℕ) → place ≤ i → i < place + count → get_or after i d ≡ get_or ram i d)
     → take count (drop place after) ≡ take count (drop place ram)
@@ -127,10 +135,10 @@ apart ram address bytes after other count put long (inl none) q away =
 apart ram address bytes after other count put long (inr p) (inl none) away = rw none refl
 apart ram address bytes after other count put long (inr p) (inr q) (inl before) =
     same_part ram after (other - BASE) count long
-    (λ i d low high. rw (← put) (above ram (address - BASE) bytes i d (omega arith) (omega arith)))
+    (λ i d low high. rw (← put) (get_or-overwritten_behind ram (address - BASE) bytes i d (omega arith) (omega arith)))
 apart ram address bytes after other count put long (inr p) (inr q) (inr behind) =
     same_part ram after (other - BASE) count long
-    (λ i d low high. rw (← put) (below ram (address - BASE) bytes i d (omega arith) (omega arith)))
+    (λ i d low high. rw (← put) (get_or-overwritten_before ram (address - BASE) bytes i d (omega arith) (omega arith)))
 
 elsewhere-cases : (ram : List ℕ) (address : ℕ) (bytes after : List ℕ) (other count : ℕ) (test : Bool) → is_inside ram other count ≡ test
     → poke_at ram address bytes ≡ Some after → (address + length bytes ≤ other) ⊎ (other + count ≤ address)

@@ -1,4 +1,4 @@
-use Rattle.evm_core.proofs.Noted.{set-kept}
+use Rattle.evm_ready.specs.Laws.{set-kept}
 use Rattle.evm_core.proofs.kernel.Kernel.set_state.Goals as goal
 
 pub invariant_of-self-2 : goal.invariant_of-self-2

@@ -1,5 +1,5 @@
 use Rattle.std.proofs.Common.{refl}
-use Rattle.evm_core.proofs.Noted.{changed-kept}
+use Rattle.evm_ready.specs.Laws.{changed-kept}
 use Rattle.evm_core.proofs.kernel.Kernel.write_pc.Goals as goal
 
 pub invariant_of-self-2 : goal.invariant_of-self-2
