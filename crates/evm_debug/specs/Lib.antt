@@ -1,4 +1,5 @@
 pub mod Line
 pub mod LineReading
 pub mod Pieces
+pub mod Summary
 pub mod Views

@@ -1,6 +1,7 @@
 //! What a debugger's script says, and what its views show.
 #![tactic(auto)]
 
+mod last_views;
 mod laws;
 mod line;
 mod look;
@@ -8,6 +9,7 @@ mod piece;
 mod pieces;
 mod reading;
 mod showing;
+
 mod views;
 
 pub use laws::reads_lines;
@@ -15,6 +17,7 @@ pub use line::{Bad, Line, View};
 pub use look::ViewRefusal;
 pub use reading::read_line;
 pub use showing::show;
+pub use last_views::summary;
 
 #[cfg(test)]
 mod tests;

@@ -50,7 +50,7 @@ pub fn show(alloc: Global, machine: &Machine, view: &View) -> Result<String, Vie
         }
         View::Stages(c) => match machine.cpu(*c) {
             None => return Err(ViewRefusal::Refused(Refusal::NoSuchCpu)),
-            Some(cpu) => push_stages(&mut out, *c, &cpu),
+            Some(cpu) => push_stages(&mut out, u64::from(*c), &cpu),
         },
         View::Tasks => push_tasks(&mut out, machine.tasks()),
         View::Counts(c, line) => {

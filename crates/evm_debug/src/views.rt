@@ -120,12 +120,12 @@ fn push_task(out: &mut String, number: u64, task: &Task) -> Result<(), AllocErro
     push_pieces(out, &line)
 }
 
-pub(crate) fn push_stages(out: &mut String, c: u8, cpu: &Cpu) -> Result<(), AllocError>
+pub(crate) fn push_stages(out: &mut String, c: u64, cpu: &Cpu) -> Result<(), AllocError>
     ensures { OnOk result (string_bytes out.new ≡ string_bytes out.old ++ stages_text c cpu.now) }
 {
     let line = [
         Piece::Text("cpu "),
-        Piece::Decimal(u64::from(c)),
+        Piece::Decimal(c),
         Piece::Text(" current "),
         Piece::Number(cpu.current),
         Piece::Text(" oob "),
