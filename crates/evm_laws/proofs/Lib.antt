@@ -1,0 +1,5 @@
+pub mod Doing
+pub mod Sparing
+pub mod Standing
+pub mod Taking
+pub mod Untouched

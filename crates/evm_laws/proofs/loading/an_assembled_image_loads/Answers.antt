@@ -1,0 +1,9 @@
+use Rattle.evm_laws.proofs.Taking.{takes, refuses, holds}
+use Rattle.evm_laws.proofs.loading.an_assembled_image_loads.Goals as goal
+
+pub returns : goal.returns
+returns c = record {
+  loads = λ source p boot e room.
+      (_, takes boot p.bytes room, holds c.written_is_read.ensures.bytes boot p room (c.lines_are_worded.ensures source p e) (c.words_stand.ensures source p e));
+  refused = λ source p boot e short. refuses boot p.bytes short;
+}

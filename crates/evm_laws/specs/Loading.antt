@@ -1,0 +1,60 @@
+-- What loading an assembled program makes of a machine that was booted.
+use Rattle.std.specs.Prelude.{◌≡◌, ℕ, ◌<◌, ◌≤◌, List, Some, None, Result, Ok, Err, false, slice_get, option_map, length, All}
+use Rattle.evm_asm.specs.Assembled.{Assembled, program_of}
+use Rattle.evm_asm.specs.declared.output.ProgramLine.{ProgramLine}
+use Rattle.evm_elf.specs.Faults.{fault_of, image_of}
+use Rattle.evm_elf.specs.Files.{file_of, program_of as image_of_bytes}
+use Rattle.evm_elf.specs.Images.{range_start}
+use Rattle.evm_ram.specs.Ram.{bytes_at}
+use Rattle.evm_ram.specs.declared.refusal.Refusal.{Refusal}
+use Rattle.evm_ram.specs.declared.refusal.Refusal.TheVariants.{BadAddress}
+use Rattle.evm_core.specs.Load.{load}
+use Rattle.evm_model.specs.Replay.{bad_boot, start, accepted, step}
+use Rattle.evm_model.specs.Settle.{settled_and_nudged}
+use Rattle.evm_model.specs.State.{State, Kernel, first_task}
+use Rattle.evm_model.specs.declared.boot.Boot.{Boot}
+use Rattle.evm_model.specs.declared.event.Answer.TheVariants.{Ran}
+use Rattle.evm_model.specs.declared.event.Event.TheVariants.{Step}
+use Rattle.evm_laws.specs.Running.{HasLine, line_done}
+
+-- the program's bytes stand in RAM from its start on, and each line's word at the line's address; task 0 begins there
+pub record HoldsProgram (p : Assembled) (k : Kernel) : Type 0 where
+  pub bytes : bytes_at k.ram range_start (length p.bytes) ≡ Some p.bytes
+  pub lines : All (HasLine k.ram) p.lines
+  pub begins : option_map (λ task. task.hart.pc) (slice_get k.tasks 0) ≡ Some range_start
+
+-- a machine is booted, and the program's image loaded into it
+abbrev pub booted_with : Boot → Assembled → Result State Refusal
+booted_with boot p = load (image_of_bytes p.bytes) (start boot)
+
+-- RAM that is long enough takes the program
+abbrev pub LoadsWhereItFits : Type 0
+LoadsWhereItFits =
+    (source : List ℕ) (p : Assembled) (boot : Boot) → program_of source ≡ Ok p → length p.bytes ≤ boot.ram
+    → (s : State) × (booted_with boot p ≡ Ok s) × HoldsProgram p s.kernel
+
+-- RAM that is shorter doesn't
+abbrev pub RefusedWhereItDoesNot : Type 0
+RefusedWhereItDoesNot =
+    (source : List ℕ) (p : Assembled) (boot : Boot) → program_of source ≡ Ok p → boot.ram < length p.bytes
+    → booted_with boot p ≡ Err BadAddress
+
+-- the first Step of processor 0 does the line that stands at the start of RAM, with the registers of boot
+abbrev pub BeginsWithLine : Boot → State → ProgramLine → Type 0
+BeginsWithLine boot s l =
+    l.address ≡ range_start
+    → step s (Step 0) ≡ Ok (accepted (Step 0) (settled_and_nudged 0 (line_done l (first_task boot.ram) 0 0 s.kernel), Ran 0) s)
+
+abbrev pub AssembledAndRun : Type 0
+AssembledAndRun =
+    (source : List ℕ) (p : Assembled) (boot : Boot) (s : State) → program_of source ≡ Ok p → bad_boot boot ≡ false
+    → booted_with boot p ≡ Ok s → All (BeginsWithLine boot s) p.lines
+
+-- the written file of a program has no fault, its image is the program's, and so every machine takes or refuses it as that
+pub record ReadsBack (p : Assembled) : Type 0 where
+  pub accepted : fault_of (file_of p.bytes) ≡ None
+  pub image : image_of (file_of p.bytes) ≡ image_of_bytes p.bytes
+  pub loads : (s : State) → load (image_of (file_of p.bytes)) s ≡ load (image_of_bytes p.bytes) s
+
+abbrev pub WrittenFileReadsBack : Type 0
+WrittenFileReadsBack = (source : List ℕ) (p : Assembled) → program_of source ≡ Ok p → ReadsBack p
