@@ -1,5 +1,5 @@
 -- A program has no more bytes than the places of its lines say, so each section keeps its limit.
-use Rattle.std.proofs.Common.{◌≡◌, ◌∙◌, ℕ, zero, suc, ◌+◌, ◌-◌, ◌%◌, ◌≤◌, Bool, true, false, not, cond, ◌&&◌, ◌⊎◌, inl, inr, ◌==◌, nat_le, List, [], ◌∷◌, length, Option, Some, None, Result, Ok, Err, ap, refl, sym, subst, arith, lit≤}
+use Rattle.std.proofs.Common.{◌≡◌, ◌∙◌, ℕ, zero, suc, ◌+◌, ◌-◌, ◌%◌, ◌≤◌, Bool, true, false, not, cond, ◌&&◌, ◌==◌, nat_le, List, [], ◌∷◌, length, Option, Some, None, Result, Ok, Err, ap, refl, sym, subst, arith, lit≤}
 use Rattle.std.proofs.lemmas.Bool.{and_parts, leb-true}
 use Rattle.evm_words.specs.declared.fault.AsmFault.{AsmFault}
 use Rattle.evm_words.specs.declared.fault.AsmFaultKind.{AsmFaultKind}
@@ -12,10 +12,10 @@ use Rattle.evm_words.specs.declared.mnemonic.Section.TheVariants.{Text, Data}
 use Rattle.evm_words.specs.declared.mnemonic.Width.{Width}
 use Rattle.evm_asm.specs.declared.place.Place.{Place}
 use Rattle.evm_statement.specs.declared.statement.Statement.{Statement}
-use Rattle.evm_statement.specs.declared.statement.Statement.TheVariants.{Nothing, One, Branch, Jump, LoadImmediate, LoadAddress, Section, Numbers, Space, Align}
-use Rattle.evm_words.specs.Faults.{least, ◌>>=◌}
+use Rattle.evm_statement.specs.declared.statement.Statement.TheVariants.{Nothing, Section, Numbers, Space, Align}
+use Rattle.evm_words.specs.Faults.{least}
 use Rattle.evm_words.specs.Text.{after, is_sound, is_empty, skip_blanks, starts_with, is_name_start, word, behind_word}
-use Rattle.evm_statement.specs.Operands.{first, how_many, counted, name_in, natural_in}
+use Rattle.evm_statement.specs.Operands.{first, how_many, counted, name_in}
 use Rattle.evm_words.specs.Names.{mnemonic_named}
 use Rattle.evm_statement.specs.Statements.{Reading, Spots, statement_of, also, with_data, numbers_line, space_line, align_line, global_line, one_name, datum_in}
 use Rattle.evm_asm.specs.Places.{offset, offset_in, farther, grown, size_at, behind, is_directive, is_text, may_stand, placed, of_mnemonic, statement_in}
@@ -159,6 +159,7 @@ turned so_far items place part kept added = record {
     same : (wanted part : Part) (place : Place) {n : ℕ} → n ≤ offset_in wanted place → n ≤ offset_in wanted (record place { section = part })
     same Text part place h = h
     same Data part place h = h
+
     same_limit : (wanted part : Part) (place : Place) → offset_in wanted place ≤ 8388608 → offset_in wanted (record place { section = part }) ≤ 8388608
     same_limit Text part place h = h
     same_limit Data part place h = h
@@ -221,6 +222,7 @@ start_kept = record { sized = nothing_sized; limited = nothing_limited }
     nothing_sized : (part : Part) → size_in part [] ≤ offset_in part start
     nothing_sized Text = lit≤ tt
     nothing_sized Data = lit≤ tt
+
     nothing_limited : (part : Part) → offset_in part start ≤ 8388608
     nothing_limited Text = lit≤ tt
     nothing_limited Data = lit≤ tt

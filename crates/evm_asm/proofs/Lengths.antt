@@ -1,6 +1,6 @@
 -- How many bytes each section of a program has.
-use Rattle.std.proofs.Common.{◌≡◌, ◌∙◌, ℕ, zero, suc, ◌+◌, ◌-◌, ◌*◌, ◌/◌, ◌%◌, ◌≤◌, List, [], ◌∷◌, ◌++◌, length, Option, Some, None, Result, Ok, Err, ap, refl, sym, arith, length-append, add_assoc}
-use Rattle.std.specs.Int.{w32, w64, to_le_bytes}
+use Rattle.std.proofs.Common.{◌≡◌, ◌∙◌, ℕ, zero, suc, ◌+◌, ◌-◌, ◌*◌, ◌%◌, ◌≤◌, List, [], ◌∷◌, ◌++◌, length, Option, Some, None, Ok, ap, refl, sym, arith, length-append}
+use Rattle.std.specs.Int.{w32, to_le_bytes}
 use Rattle.evm_isa.specs.declared.inst.Inst.{Inst}
 use Rattle.evm_isa.specs.Encoded.{encoded}
 use Rattle.evm_asm.specs.declared.item.Item.{Item}
@@ -11,7 +11,7 @@ use Rattle.evm_words.specs.declared.mnemonic.Section.TheVariants.{Text, Data}
 use Rattle.evm_words.specs.declared.mnemonic.Width.{Width}
 use Rattle.evm_words.specs.declared.mnemonic.Width.TheVariants.{Byte, Word, Dword}
 use Rattle.evm_asm.specs.Places.{bytes_in}
-use Rattle.evm_asm.specs.Programs.{Spelled, nothing_spelled, spelled, spelled_item, worded, repeated, image_of, number_bytes}
+use Rattle.evm_asm.specs.Programs.{Spelled, spelled, spelled_item, worded, repeated, image_of, number_bytes}
 use Rattle.evm_asm.proofs.Worded.{and_then_ok, same_ok}
 
 -- so many bytes in a section, as far as another section sees them

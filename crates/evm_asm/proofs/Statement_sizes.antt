@@ -1,33 +1,24 @@
 -- The bytes that a statement adds are no more than it takes.
-use Rattle.std.proofs.Common.{◌≡◌, ◌∙◌, ℕ, zero, suc, min, ◌+◌, ◌-◌, ◌*◌, ◌/◌, ◌%◌, ◌≤◌, Bool, true, false, not, cond, ◌&&◌, ◌==◌, nat_le, List, [], ◌∷◌, ◌++◌, length, Option, Some, None, Result, Ok, Err, ℤ, ap, refl, sym, subst, arith}
-use Rattle.std.proofs.lemmas.Bool.{and_parts, leb-true}
+use Rattle.std.proofs.Common.{◌≡◌, ◌∙◌, ℕ, zero, suc, min, ◌+◌, ◌*◌, ◌/◌, ◌%◌, ◌≤◌, Bool, true, false, cond, ◌&&◌, ◌==◌, nat_le, List, [], ◌∷◌, ◌++◌, Some, None, Result, Ok, Err, ap, refl, sym, arith}
 use Rattle.evm_isa.specs.declared.inst.Inst.{Inst}
-use Rattle.evm_words.specs.declared.fault.AsmFault.{AsmFault}
 use Rattle.evm_words.specs.declared.fault.AsmFaultKind.{AsmFaultKind}
-use Rattle.evm_words.specs.declared.fault.AsmFaultKind.TheVariants.{TooLarge, BadOperand}
 use Rattle.evm_asm.specs.declared.item.Expansion.{Expansion}
 use Rattle.evm_asm.specs.declared.item.Expansion.TheVariants.{Empty, Single, Double}
 use Rattle.evm_asm.specs.declared.item.Item.{Item}
 use Rattle.evm_asm.specs.declared.item.Item.TheVariants.{Instruction, Number, Zeros, Nops}
 use Rattle.evm_asm.specs.declared.item.Placed.{Placed}
-use Rattle.evm_words.specs.declared.mnemonic.Mnemonic.{Mnemonic}
-use Rattle.evm_words.specs.declared.mnemonic.Mnemonic.TheVariants as names
 use Rattle.evm_words.specs.declared.mnemonic.Section.{Section as Part}
 use Rattle.evm_words.specs.declared.mnemonic.Section.TheVariants.{Text, Data}
 use Rattle.evm_words.specs.declared.mnemonic.Width.{Width}
 use Rattle.evm_asm.specs.declared.place.Place.{Place}
-use Rattle.evm_statement.specs.declared.spot.Spot.{Spot}
 use Rattle.evm_statement.specs.declared.statement.Statement.{Statement}
 use Rattle.evm_statement.specs.declared.statement.Statement.TheVariants.{Nothing, One, Branch, Jump, LoadImmediate, LoadAddress, Section, Numbers, Space, Align}
 use Rattle.evm_words.specs.Faults.{◌>>=◌}
-use Rattle.evm_words.specs.Text.{after, is_sound, is_empty, skip_blanks, starts_with, is_name_start, word, behind_word}
-use Rattle.evm_statement.specs.Operands.{first, how_many, counted}
-use Rattle.evm_words.specs.Names.{mnemonic_named}
-use Rattle.evm_statement.specs.Statements.{Reading, Spots, statement_of, also, with_data, numbers_line, space_line, align_line, global_line, one_name, datum_in}
-use Rattle.evm_asm.specs.Places.{offset, offset_in, farther, grown, is_small, low_word, needs_low_part, bytes_in, padding, load_size, size_at, behind, is_directive, is_text, may_stand, placed, of_mnemonic, statement_in}
-use Rattle.evm_asm.specs.Items.{text_base, with_item, with_instructions, expanded, load_immediate, load_address, distance_to, value_in, number_pushed, with_numbers, filling, operands, with_statement, statement_meant, line_meant, told, stop_at, unless_stopped, line_told, lines_meant, and_then}
-use Rattle.evm_asm.specs.Sources.{Laid, code_of, statement_text}
-use Rattle.evm_asm.proofs.Worded.{and_then_ok}
+use Rattle.evm_words.specs.Text.{after}
+use Rattle.evm_statement.specs.Operands.{first}
+use Rattle.evm_statement.specs.Statements.{Spots}
+use Rattle.evm_asm.specs.Places.{offset, is_small, low_word, needs_low_part, bytes_in, padding, load_size, size_at, is_text}
+use Rattle.evm_asm.specs.Items.{text_base, with_item, with_instructions, expanded, load_immediate, load_address, distance_to, value_in, number_pushed, with_numbers, filling, operands, with_statement}
 use Rattle.evm_asm.proofs.Lengths.{seen_in, added, size_in}
 
 -- what was bound to another reading

@@ -8,3 +8,6 @@ pub mod Bounds
 pub mod Loading
 pub mod Wording
 pub mod ProgramLaws
+pub mod Sizes
+pub mod Least
+pub mod FirstFault

@@ -1,0 +1,5 @@
+use Rattle.evm_asm.proofs.Refusals.{means}
+use Rattle.evm_asm.proofs.place_laws.means_without_faults.Goals as goal
+
+pub returns : goal.returns
+returns c = means

@@ -1,0 +1,5 @@
+use Rattle.evm_asm.proofs.Refusals.{refuses}
+use Rattle.evm_asm.proofs.place_laws.refuses_the_least.Goals as goal
+
+pub returns : goal.returns
+returns c = refuses

@@ -1,0 +1,5 @@
+use Rattle.evm_asm.proofs.Placed_bytes.{sizes_agree}
+use Rattle.evm_asm.proofs.place_laws.sizes_are_bytes.Goals as goal
+
+pub returns : goal.returns
+returns c = sizes_agree

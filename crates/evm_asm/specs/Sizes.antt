@@ -1,0 +1,113 @@
+-- Where the lines of a source stand, and how many bytes its sections have.
+use Rattle.std.specs.Prelude.{◌≡◌, ℕ, zero, suc, ◌+◌, ◌-◌, ◌*◌, ◌<◌, ◌⊎◌, List, ◌++◌, length, take, drop, replicate, slice_get, All, Any, Some, Ok}
+use Rattle.evm_isa.specs.declared.inst.Inst.{Inst}
+use Rattle.evm_asm.specs.declared.item.Expansion.{Expansion}
+use Rattle.evm_asm.specs.declared.item.Expansion.TheVariants.{Empty, Single, Double}
+use Rattle.evm_asm.specs.declared.item.Placed.{Placed}
+use Rattle.evm_words.specs.declared.mnemonic.Width.{Width}
+use Rattle.evm_asm.specs.declared.place.Place.{Place}
+use Rattle.evm_statement.specs.declared.statement.Statement.{Statement}
+use Rattle.evm_statement.specs.declared.statement.Statement.TheVariants.{Numbers}
+use Rattle.evm_words.specs.Text.{after}
+use Rattle.evm_words.specs.Names.{named}
+use Rattle.evm_statement.specs.Operands.{first}
+use Rattle.evm_asm.specs.Places.{here, bytes_in, statement_in}
+use Rattle.evm_asm.specs.Sources.{nothing_laid, laid, lines_of, code_of, label_at, behind_labels, statement_text}
+use Rattle.evm_asm.specs.Items.{text_base, data_base, address, expanded, value_in, operands, layout_of, meaning_of}
+use Rattle.evm_asm.specs.Programs.{Spelled, nothing_spelled, spelled, number_bytes}
+use Rattle.evm_asm.specs.Assembled.{Assembled, program_of}
+
+abbrev pub size_of_text : List ℕ → ℕ
+size_of_text source = (layout_of source).place.text_size
+
+abbrev pub size_of_data : List ℕ → ℕ
+size_of_data source = (layout_of source).place.data_size
+
+-- Each section has as many bytes as laying out the source counts.
+abbrev pub SizesAreBytes : Type 0
+SizesAreBytes = (source : List ℕ) (items : List Placed) (s : Spelled) → meaning_of source ≡ Ok items → spelled items nothing_spelled ≡ Ok s
+    → (length s.text_bytes ≡ size_of_text source) × (length s.data_bytes ≡ size_of_data source)
+
+-- from the end of the text to the data
+abbrev pub gap : ℕ → ℕ
+gap size = data_base size - (text_base + size)
+
+-- Where there is data, the text, zeros up to the data's base and the data are the program's bytes; else the text is.
+abbrev pub DataStandsAtItsBase : Type 0
+DataStandsAtItsBase = (source : List ℕ) (items : List Placed) (s : Spelled) (p : Assembled) → meaning_of source ≡ Ok items → spelled items nothing_spelled ≡ Ok s → program_of source ≡ Ok p
+    → (0 < size_of_data source → p.bytes ≡ s.text_bytes ++ replicate (gap (size_of_text source)) 0 ++ s.data_bytes)
+    × (size_of_data source ≡ 0 → p.bytes ≡ s.text_bytes)
+
+-- the place before line n, which is where laying out the lines before it ends
+abbrev pub place_before : List ℕ → ℕ → Place
+place_before source n = (laid nothing_laid (take (n - 1) (lines_of source))).place
+
+-- where the statement of line n stands, if it is in the text
+abbrev pub address_of_line : List ℕ → ℕ → ℕ
+address_of_line source n = text_base + (place_before source n).text_size
+
+-- Line n of a source, from 1, says a statement.
+pub record Says (source : List ℕ) (n : ℕ) (statement : Statement) : Type 0 where
+  pub line : List ℕ
+  pub from_one : 0 < n
+  pub is_line : slice_get (lines_of source) (n - 1) ≡ Some line
+  pub reads : statement_in (layout_of source).labels (place_before source n) (statement_text (code_of line)) ≡ Ok statement
+
+-- An instruction at an address is one of those that stand from `first` on, 4 bytes apart.
+abbrev pub IsAmong : Expansion → ℕ → Inst → ℕ → Type 0
+IsAmong Empty first i address = ⊥
+IsAmong (Single a) first i address = (i ≡ a) × (address ≡ first)
+IsAmong (Double a b) first i address = ((i ≡ a) × (address ≡ first)) ⊎ ((i ≡ b) × (address ≡ first + 4))
+
+-- Line n says a statement that becomes this instruction, or this and another, at its place: there it has this address.
+pub record Means (source : List ℕ) (n address : ℕ) (i : Inst) : Type 0 where
+  pub statement : Statement
+  pub expansion : Expansion
+  pub says : Says source n statement
+  pub becomes : expanded (size_of_text source) (address_of_line source n) statement ≡ Ok expansion
+  pub stands : IsAmong expansion (address_of_line source n) i address
+
+-- Each line of a program is what a line of the source means, at the address from which its offsets are reckoned.
+abbrev pub LinesStandWhereTheyAreMeant : Type 0
+LinesStandWhereTheyAreMeant = (source : List ℕ) (p : Assembled) → program_of source ≡ Ok p → All (λ l. Means source l.line l.address l.instruction) p.lines
+
+-- Each instruction that a line of the source means stands in the program, at its address.
+abbrev pub AllThatIsMeantStands : Type 0
+AllThatIsMeantStands = (source : List ℕ) (p : Assembled) → program_of source ≡ Ok p → (n address : ℕ) (i : Inst) → Means source n address i
+    → Any (λ l. (l.line ≡ n) × (l.address ≡ address) × (l.instruction ≡ i)) p.lines
+
+-- Line n of a source, from 1, has a label of this name at its front, behind so many others.
+pub record HasLabel (source : List ℕ) (n : ℕ) (name : List ℕ) : Type 0 where
+  pub line : List ℕ
+  pub others : ℕ
+  pub behind : List ℕ
+  pub from_one : 0 < n
+  pub is_line : slice_get (lines_of source) (n - 1) ≡ Some line
+  pub is_label : label_at (behind_labels others (code_of line)) ≡ Some (name, behind)
+
+-- Each label of a program has the address where its line's statement, or what comes next in its section, stands.
+abbrev pub LabelsStandWhereTheirLinesDo : Type 0
+LabelsStandWhereTheirLinesDo = (source : List ℕ) (p : Assembled) → program_of source ≡ Ok p
+    → All (λ l. (n : ℕ) × HasLabel source n l.0 × (l.1 ≡ address (size_of_text source) (here (place_before source n)))) p.labels
+
+-- Each label at the front of a line is found in the program, at this address.
+abbrev pub AllLabelsAreFound : Type 0
+AllLabelsAreFound = (source : List ℕ) (p : Assembled) → program_of source ≡ Ok p → (n : ℕ) (name : List ℕ) → HasLabel source n name
+    → named p.labels name ≡ Some (address (size_of_text source) (here (place_before source n)))
+
+-- the operand that stands behind so many commas
+abbrev pub operand_at : ℕ → List ℕ → List ℕ
+operand_at zero text = first text
+operand_at (suc k) text = operand_at k (after 44 text)
+
+-- Number k, from 0, of the data in line n of a source has this value.
+pub record HasNumber (source : List ℕ) (n k : ℕ) (width : Width) (value : ℕ) : Type 0 where
+  pub count : ℕ
+  pub says : Says source n (Numbers width count)
+  pub within : k < count
+  pub is_value : value_in (layout_of source).labels (size_of_text source) width (operand_at k (operands (statement_text (code_of says.line)))) ≡ Ok value
+
+-- Each number of a line stands at the line's place, behind the numbers before it.
+abbrev pub NumbersStandWhereTheyAreMeant : Type 0
+NumbersStandWhereTheyAreMeant = (source : List ℕ) (p : Assembled) → program_of source ≡ Ok p → (n k : ℕ) (width : Width) (value : ℕ) → HasNumber source n k width value
+    → take (bytes_in width) (drop (address (size_of_text source) (here (place_before source n)) - text_base + k * bytes_in width) p.bytes) ≡ number_bytes (bytes_in width) value

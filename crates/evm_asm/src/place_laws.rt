@@ -1,0 +1,50 @@
+//! Where the lines of a source stand. The functions do nothing: their contracts are the laws.
+
+ghost use Rattle.evm_asm.specs.Least.{RefusesTheLeast, MeansWithoutFaults};
+ghost use Rattle.evm_asm.specs.Sizes.{SizesAreBytes, DataStandsAtItsBase, LinesStandWhereTheyAreMeant, AllThatIsMeantStands, LabelsStandWhereTheirLinesDo, AllLabelsAreFound, NumbersStandWhereTheyAreMeant};
+
+/// The sizes by which the lines and labels of a source are placed are those of the bytes that it becomes.
+pub fn sizes_are_bytes()
+    ensures { SizesAreBytes }
+{}
+
+/// The data begins at the address from which the addresses of its labels are reckoned.
+pub fn data_stands_at_its_base()
+    ensures { DataStandsAtItsBase }
+{}
+
+/// Each instruction of a program is one that a line of the source means, and it stands at the address from which the
+/// line's offsets were reckoned.
+pub fn lines_stand_where_they_are_meant()
+    ensures { LinesStandWhereTheyAreMeant }
+{}
+
+/// A program lacks no instruction that a line of its source means.
+pub fn all_that_is_meant_stands()
+    ensures { AllThatIsMeantStands }
+{}
+
+/// The address of a label is that of what stands behind it.
+pub fn labels_stand_where_their_lines_do()
+    ensures { LabelsStandWhereTheirLinesDo }
+{}
+
+/// A program has each label of its source.
+pub fn all_labels_are_found()
+    ensures { AllLabelsAreFound }
+{}
+
+/// The bytes of each number of a line stand from the line's place on.
+pub fn numbers_stand_where_they_are_meant()
+    ensures { NumbersStandWhereTheyAreMeant }
+{}
+
+/// A source that means nothing is refused with the least fault of its first line that has any, and only so.
+pub fn refuses_the_least()
+    ensures { RefusesTheLeast }
+{}
+
+/// A source means something exactly where no line has a fault.
+pub fn means_without_faults()
+    ensures { MeansWithoutFaults }
+{}
