@@ -1,9 +1,8 @@
 -- What loading an assembled program makes of a machine that was booted.
-use Rattle.std.specs.Prelude.{◌≡◌, ℕ, ◌<◌, ◌≤◌, List, Some, None, Result, Ok, Err, false, slice_get, option_map, length, All}
+use Rattle.std.specs.Prelude.{◌≡◌, ℕ, ◌<◌, ◌≤◌, List, Some, Result, Ok, Err, false, slice_get, option_map, length, All}
 use Rattle.evm_asm.specs.Assembled.{Assembled, program_of}
 use Rattle.evm_asm.specs.declared.output.ProgramLine.{ProgramLine}
-use Rattle.evm_elf.specs.Faults.{fault_of, image_of}
-use Rattle.evm_elf.specs.Files.{file_of, program_of as image_of_bytes}
+use Rattle.evm_elf.specs.Files.{program_of as image_of_bytes}
 use Rattle.evm_elf.specs.Images.{range_start}
 use Rattle.evm_ram.specs.Ram.{bytes_at}
 use Rattle.evm_ram.specs.declared.refusal.Refusal.{Refusal}
@@ -49,12 +48,3 @@ abbrev pub AssembledAndRun : Type 0
 AssembledAndRun =
     (source : List ℕ) (p : Assembled) (boot : Boot) (s : State) → program_of source ≡ Ok p → bad_boot boot ≡ false
     → booted_with boot p ≡ Ok s → All (BeginsWithLine boot s) p.lines
-
--- the written file of a program has no fault, its image is the program's, and so every machine takes or refuses it as that
-pub record ReadsBack (p : Assembled) : Type 0 where
-  pub accepted : fault_of (file_of p.bytes) ≡ None
-  pub image : image_of (file_of p.bytes) ≡ image_of_bytes p.bytes
-  pub loads : (s : State) → load (image_of (file_of p.bytes)) s ≡ load (image_of_bytes p.bytes) s
-
-abbrev pub WrittenFileReadsBack : Type 0
-WrittenFileReadsBack = (source : List ℕ) (p : Assembled) → program_of source ≡ Ok p → ReadsBack p

@@ -5,6 +5,6 @@ mod loading;
 mod running;
 mod staying;
 
-pub use loading::{a_written_file_loads_the_same, an_assembled_image_loads, assembled_and_run};
+pub use loading::{an_assembled_image_loads, assembled_and_run};
 pub use running::{a_step_does_its_line, a_word_is_its_instruction};
 pub use staying::{a_line_stays, an_assembled_program_runs};

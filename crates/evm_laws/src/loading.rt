@@ -1,10 +1,10 @@
 //! Loading an assembled program into a machine that was booted. The functions do nothing: their contracts are
 //! the laws.
 
-ghost use Rattle.evm_laws.specs.Loading.{LoadsWhereItFits, RefusedWhereItDoesNot, AssembledAndRun, WrittenFileReadsBack};
+ghost use Rattle.evm_laws.specs.Loading.{LoadsWhereItFits, RefusedWhereItDoesNot, AssembledAndRun};
 
 use crate::running::a_step_does_its_line;
-use evm_asm::{lines_are_worded, programs_fit, words_stand};
+use evm_asm::{lines_are_worded, words_stand};
 use evm_elf::written_is_read;
 
 /// The image of an assembled program is loaded where RAM has room for its bytes, and refused with BadAddress where
@@ -27,12 +27,4 @@ pub fn assembled_and_run()
     words_stand();
     written_is_read();
     a_step_does_its_line();
-}
-
-/// The written file of an assembled program is read without a fault, as the image that is loaded.
-pub fn a_written_file_loads_the_same()
-    ensures { WrittenFileReadsBack }
-{
-    programs_fit();
-    written_is_read();
 }

@@ -1,5 +1,0 @@
-pub mod Cuts
-pub mod Endings
-pub mod Runs
-pub mod StepLemmas
-pub mod Streams

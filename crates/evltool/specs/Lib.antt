@@ -1,4 +1,0 @@
-pub mod Lines
-pub mod Serving
-pub mod Stream
-pub mod Told

@@ -1,0 +1,14 @@
+use Rattle.std.proofs.Common.{◌+◌, ◌≤◌, length, option_copied}
+use Rattle.evm_serve.specs.Told.{told}
+use Rattle.evm_serve.proofs.Runs.{Tells}
+use Rattle.evm_serve.proofs.serving.play.Given as goal
+
+-- what was told so far was written, and what is left is behind it
+abbrev pub invariant-lines : goal.invariant-lines
+invariant-lines g l = record {
+  tells : Tells (option_copied l.image) (told (option_copied l.image) l.script) (g.W.Write.contents l.fn.writer) (g.W.Write.contents l.writer) l.number l.rest l.machine;
+  numbered : l.number + length l.rest ≤ length l.script + 1;
+}
+
+abbrev pub decreases-lines : goal.decreases-lines
+decreases-lines g l = length l.rest

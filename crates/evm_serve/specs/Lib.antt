@@ -1,0 +1,9 @@
+pub mod Assembling
+pub mod Imaging
+pub mod Lines
+pub mod ReplayLaws
+pub mod Replaying
+pub mod Serving
+pub mod Starting
+pub mod Stream
+pub mod Told

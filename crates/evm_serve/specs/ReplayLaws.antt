@@ -1,0 +1,25 @@
+-- What replays tell, in the words of journals.
+use Rattle.std.specs.Prelude.{◌≡◌, ◌+◌, false, List, [], ◌∷◌, ◌++◌, None, Result, Ok, Err, length}
+use Rattle.evm_core.specs.Load.{load}
+use Rattle.evm_elf.specs.Images.{Contents}
+use Rattle.evm_ram.specs.declared.refusal.Refusal.{Refusal}
+use Rattle.evm_model.specs.State.{State}
+use Rattle.evm_model.specs.Replay.{start, step, bad_boot, IsReplayOf}
+use Rattle.evm_model.specs.declared.event.Event.{Event}
+use Rattle.evm_journal.specs.Journal.{runs, journal_text, HasJournal}
+use Rattle.evm_debug.specs.Summary.{summary_text}
+use Rattle.evm_serve.specs.Told.{refused_text}
+use Rattle.evm_serve.specs.Replaying.{events_on, replay_told}
+
+-- The first event that is refused is told with the number of its line: behind the header and the boot there are as many lines as the
+-- events up to it have in a journal.
+abbrev pub RefusedOnItsLine : Type 0
+RefusedOnItsLine = (first s : State) (front rest : List Event) (event : Event) (refusal : Refusal)
+    → events_on 2 None front first ≡ Ok s → step s event ≡ Err refusal
+    → events_on 2 None (front ++ event ∷ rest) first ≡ Err (refused_text (2 + length (runs (front ++ event ∷ []))) refusal)
+
+-- the journal of a machine that booted with an image, replayed with the image, shows that machine
+abbrev pub ReplaysSaved : Type 0
+ReplaysSaved = (image : Contents) (first s : State) → bad_boot s.boot ≡ false → load image (start s.boot) ≡ Ok first
+    → IsReplayOf first s → HasJournal s.boot s.events
+    → replay_told image (journal_text s.boot s.events) ≡ record { text = summary_text s; status = 0 }

@@ -1,0 +1,41 @@
+//! The machine that a run begins with.
+
+ghost use Rattle.std.specs.Prelude.{option_copied};
+ghost use Rattle.evm_model.specs.Replay.{BootAnswers};
+ghost use Rattle.evm_serve.specs.Starting.{Starts};
+
+use evm_core::{Boot, Machine, Refusal};
+use evm_elf::Image;
+use std::alloc::Global;
+
+// A machine with these numbers.
+fn boot(alloc: Global, boot: &Boot) -> Result<Machine, Refusal>
+    ensures { BootAnswers boot.now result }
+{
+    if boot.cpus > 8 || boot.capacity > 1_048_576 {
+        return Err(Refusal::BadSize);
+    }
+    Machine::boot(alloc, boot.cpus as u8, boot.ram, boot.capacity as u32)
+}
+
+/// A machine with these numbers, and with the image in it, if there is one. Bad numbers are told before what the
+/// image is refused for; `NoMemory` says that memory was refused.
+pub(crate) fn start(
+    alloc: Global,
+    image: Option<&Image>,
+    numbers: &Boot,
+) -> Result<Machine, Refusal>
+    ensures { Starts (option_copied image.entry) numbers.now result }
+{
+    let mut machine = match boot(alloc, numbers) {
+        Ok(machine) => machine,
+        Err(refusal) => return Err(refusal),
+    };
+    let Some(image) = image else {
+        return Ok(machine);
+    };
+    match machine.load(image) {
+        Ok(()) => Ok(machine),
+        Err(refusal) => Err(refusal),
+    }
+}

@@ -1,0 +1,144 @@
+ghost use Rattle.std.specs.Prelude.{◌≡◌, Option, Result, IfOk, MatchResult, option_copied};
+ghost use Rattle.evm_model.specs.State.{State};
+ghost use Rattle.evm_debug.specs.LineReading.{line_at};
+ghost use Rattle.evm_serve.specs.Starting.{started};
+ghost use Rattle.evm_serve.specs.Told.{bad_text, refused_text, steps, machine_told, told_unbooted, told_booted, line_told, Goes, Ends};
+ghost use Rattle.evm_serve.specs.Serving.{Replies};
+
+use crate::ending::Reply;
+use crate::starting::start;
+use crate::texts::{bad, refused};
+use evm_core::{Boot, Event, Machine, Refusal};
+use evm_debug::{Line, View, ViewRefusal, read_line, show};
+use evm_elf::Image;
+use evm_ram::NoMemory;
+use std::alloc::Global;
+
+fn ends_bad(alloc: Global, number: u64) -> Result<Reply, NoMemory>
+    ensures { IfOk result (λ reply. (m : Option State) → Replies reply m (Ends (bad_text number))) }
+{
+    match bad(alloc, number) {
+        Ok(text) => Ok(Reply::Ends(text)),
+        Err(_) => Err(NoMemory),
+    }
+}
+
+fn ends_refused(alloc: Global, number: u64, refusal: Refusal) -> Result<Reply, NoMemory>
+    ensures { IfOk result (λ reply. (m : Option State) → Replies reply m (Ends (refused_text number refusal))) }
+{
+    match refused(alloc, number, refusal) {
+        Ok(text) => Ok(Reply::Ends(text)),
+        Err(_) => Err(NoMemory),
+    }
+}
+
+// A processor takes so many Steps, or those before the first that is refused.
+#[tactic(auto, using(crate::proofs::StepLemmas::step_lemmas))]
+fn take_steps(machine: &mut Machine, c: u8, count: u32) -> Result<(), Refusal>
+    ensures { MatchResult result (λ _. steps c count machine.old ≡ Result.Ok machine.new) (λ refusal. steps c count machine.old ≡ Result.Err refusal) }
+{
+    for i in 0..count {
+        if let Err(refusal) = machine.apply(Event::Step(c)) {
+            return Err(refusal);
+        }
+    }
+    Ok(())
+}
+
+// A boot, which puts the image into the machine, if there is one.
+fn tell_boot(
+    alloc: Global,
+    image: Option<&Image>,
+    number: u64,
+    numbers: &Boot,
+    machine: &mut Option<Machine>,
+) -> Result<Reply, NoMemory>
+    requires { machine.old ≡ Option.None }
+    ensures { IfOk result (λ reply. Replies reply machine.new (machine_told number (started (option_copied image.entry) numbers.now))) }
+{
+    match start(alloc, image, numbers) {
+        Ok(booted) => {
+            *machine = Some(booted);
+            Ok(Reply::Goes(String::new(alloc)))
+        }
+        Err(Refusal::NoMemory) => Err(NoMemory),
+        Err(refusal) => ends_refused(alloc, number, refusal),
+    }
+}
+
+// A line, where no machine is booted.
+fn tell_unbooted(
+    alloc: Global,
+    image: Option<&Image>,
+    number: u64,
+    line: &Line,
+    machine: &mut Option<Machine>,
+) -> Result<Reply, NoMemory>
+    requires { machine.old ≡ Option.None }
+    ensures { IfOk result (λ reply. Replies reply machine.new (told_unbooted (option_copied image.entry) number line.now)) }
+{
+    match line {
+        Line::Blank => Ok(Reply::Goes(String::new(alloc))),
+        Line::Boot {
+            cpus,
+            ram,
+            capacity,
+        } => {
+            let numbers = Boot {
+                cpus: *cpus,
+                ram: *ram,
+                capacity: *capacity,
+            };
+            tell_boot(alloc, image, number, &numbers, machine)
+        }
+        _ => ends_bad(alloc, number),
+    }
+}
+
+// A line, where a machine is booted.
+fn tell_booted(
+    alloc: Global,
+    number: u64,
+    line: Line,
+    machine: &mut Machine,
+) -> Result<Reply, NoMemory>
+    ensures { IfOk result (λ reply. Replies reply (Option.Some machine.new) (told_booted number machine.old line)) }
+{
+    match line {
+        Line::Blank => Ok(Reply::Goes(String::new(alloc))),
+        Line::Boot { .. } => ends_bad(alloc, number),
+        Line::Steps(c, count) => match take_steps(machine, c, count) {
+            Ok(()) => Ok(Reply::Goes(String::new(alloc))),
+            Err(refusal) => ends_refused(alloc, number, refusal),
+        },
+        Line::One(event) => match machine.apply(event) {
+            Ok(_) => Ok(Reply::Goes(String::new(alloc))),
+            Err(refusal) => ends_refused(alloc, number, refusal),
+        },
+        Line::Look(view) => match show(alloc, machine, &view) {
+            Ok(text) => Ok(Reply::Goes(text)),
+            Err(ViewRefusal::Refused(refusal)) => ends_refused(alloc, number, refusal),
+            Err(ViewRefusal::NoMemory) => Err(NoMemory),
+        },
+    }
+}
+
+/// What a line of a script replies, of the number that it has in the script, and what it makes of the
+/// machine, if one is booted. The line that boots one puts the image into it, if there is one.
+pub(crate) fn tell(
+    alloc: Global,
+    image: Option<&Image>,
+    number: u64,
+    line: &[u8],
+    machine: &mut Option<Machine>,
+) -> Result<Reply, NoMemory>
+    ensures { IfOk result (λ reply. Replies reply machine.new (line_told (option_copied image.entry) number machine.old (line_at line.now))) }
+{
+    let Ok(line) = read_line(line) else {
+        return ends_bad(alloc, number);
+    };
+    match machine {
+        None => tell_unbooted(alloc, image, number, &line, machine),
+        Some(booted) => tell_booted(alloc, number, line, booted),
+    }
+}

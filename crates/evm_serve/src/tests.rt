@@ -1,0 +1,69 @@
+//! Scripts, images and journals with the text wanted, and streams that fail.
+
+use crate::replay::replay_to;
+use crate::serving::serve;
+use evm_elf::{Image, PROGRAM_MAX, read_image, write_bytes};
+use std::alloc::Global;
+use std::process::Abort;
+use std::test::Fail;
+
+mod assembling;
+mod fakes;
+mod images;
+mod journals;
+mod scripts;
+mod streams;
+
+/// Serves a script with an image or none, and compares its text and its status.
+fn check_with(
+    rt: &impl Abort,
+    alloc: Global,
+    image: Option<&Image>,
+    script: &[u8],
+    text: &str,
+    status: u8,
+) {
+    let mut reader = script;
+    let mut written = Vec::new(alloc);
+    let ending = serve(alloc, &mut reader, &mut written, image);
+    assert_eq!(rt;
+        written.as_slice(),
+        text.as_bytes(),
+        "the text of {script:?}"
+    );
+    assert_eq!(rt; ending.status(), status, "the status of {script:?}");
+}
+
+/// The same with no image.
+fn check(rt: &impl Abort, alloc: Global, script: &[u8], text: &str, status: u8) {
+    check_with(rt, alloc, None, script, text, status);
+}
+
+/// Replays a journal, and compares its text and its status.
+fn check_replay(
+    rt: &impl Abort,
+    alloc: Global,
+    image: &Image,
+    journal: &[u8],
+    text: &str,
+    status: u8,
+) {
+    let mut reader = journal;
+    let mut written = Vec::new(alloc);
+    let ending = replay_to(alloc, image, &mut reader, &mut written);
+    assert_eq!(rt;
+        written.as_slice(),
+        text.as_bytes(),
+        "the text of {journal:?}"
+    );
+    assert_eq!(rt; ending.status(), status, "the status of {journal:?}");
+}
+
+/// The image of a program of these bytes, at the start of RAM.
+fn image_of(alloc: Global, bytes: &[u8]) -> Result<Image, Fail> {
+    if bytes.len() > PROGRAM_MAX {
+        return Err(Fail::from("too many bytes"));
+    }
+    let file = write_bytes(alloc, bytes)?;
+    Ok(read_image(alloc, file.as_slice())?)
+}
