@@ -75,12 +75,7 @@ pub(crate) fn assemble_file(rt: &HostRuntime, source: &str, out: &str) -> u8 {
     let Ok(mut file) = File::create(rt, out) else {
         return not_opened(rt, out);
     };
-    let ending = assemble_to(
-        rt.alloc(),
-        source.as_str(),
-        &mut file,
-        &mut io::writer(rt),
-    );
+    let ending = assemble_to(rt.alloc(), source.as_str(), &mut file, &mut io::writer(rt));
     ended(rt, &ending)
 }
 

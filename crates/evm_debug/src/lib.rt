@@ -9,15 +9,14 @@ mod piece;
 mod pieces;
 mod reading;
 mod showing;
-
 mod views;
 
+pub use last_views::summary;
 pub use laws::reads_lines;
 pub use line::{Bad, Line, View};
 pub use look::ViewRefusal;
 pub use reading::read_line;
 pub use showing::show;
-pub use last_views::summary;
 
 #[cfg(test)]
 mod tests;

@@ -1,15 +1,11 @@
 -- The words of an assembled program in the image of its file.
-use Rattle.std.proofs.Common.{◌≡◌, ◌∙◌, ℕ, ◌+◌, ◌-◌, ◌<◌, ◌≤◌, List, length, take, drop, get_or, Ok, ap, sym, subst, arith}
-use Rattle.std.specs.Prelude.{slice_index}
-use Rattle.std.specs.Int.{w32, to_le_bytes}
+use Rattle.std.proofs.Common.{◌≡◌, ◌∙◌, ℕ, ◌+◌, ◌-◌, ◌≤◌, List, drop, get_or, ap, sym, subst, arith}
 use Rattle.std.proofs.lemmas.List.{get_or-take, get_or-drop}
 use Rattle.evm_asm.specs.declared.output.ProgramLine.{ProgramLine}
-use Rattle.evm_asm.specs.Assembled.{Assembled, StandsIn}
-use Rattle.evm_asm.specs.Assembled.{program_of as assembled_of}
+use Rattle.evm_asm.specs.Assembled.{StandsIn}
 use Rattle.evm_asm.specs.Bounds.{ProgramsFit, WordsStand}
 use Rattle.evm_elf.specs.Images.{Contents, byte_at, range_start}
-use Rattle.evm_elf.specs.Faults.{fault_of, image_of}
-use Rattle.evm_elf.specs.Files.{file_of, program_of}
+use Rattle.evm_elf.specs.Files.{program_of}
 use Rattle.evm_elf.specs.Programs.{AssembledIsRead, Holds, WordsAreLoaded}
 use Rattle.evm_elf.proofs.Written.{no_fault, image_is, memory_is}
 

@@ -1,5 +1,5 @@
 -- The file of an assembled program, read again.
-use Rattle.std.specs.Prelude.{◌≡◌, ◌<◌, ℕ, ◌+◌, List, length, slice_index, All, Ok, None}
+use Rattle.std.specs.Prelude.{◌≡◌, ◌<◌, ℕ, ◌+◌, List, slice_index, All, Ok, None}
 use Rattle.std.specs.Int.{w32, to_le_bytes}
 use Rattle.evm_asm.specs.declared.output.ProgramLine.{ProgramLine}
 use Rattle.evm_asm.specs.Assembled.{Assembled}

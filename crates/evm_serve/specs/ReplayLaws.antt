@@ -1,5 +1,5 @@
 -- What replays tell, in the words of journals.
-use Rattle.std.specs.Prelude.{◌≡◌, ◌+◌, false, List, [], ◌∷◌, ◌++◌, None, Result, Ok, Err, length}
+use Rattle.std.specs.Prelude.{◌≡◌, ◌+◌, false, List, [], ◌∷◌, ◌++◌, None, Ok, Err, length}
 use Rattle.evm_core.specs.Load.{load}
 use Rattle.evm_elf.specs.Images.{Contents}
 use Rattle.evm_ram.specs.declared.refusal.Refusal.{Refusal}

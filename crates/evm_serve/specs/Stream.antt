@@ -1,7 +1,6 @@
 -- What a stream did, as far as its bytes are known.
 use Rattle.std.specs.Prelude.{◌≡◌, ◌<◌, ℕ, List, ◌++◌, Option, length, IsUtf8, ⊤}
 use Rattle.std.specs.Io.KnownBytes.{Appends}
-use Rattle.evm_serve.specs.declared.stream.ReadFault.{ReadFault}
 use Rattle.evm_serve.specs.declared.stream.ReadFault.TheVariants.{Failed, TooLong, NotUtf8}
 use Rattle.evm_serve.specs.declared.stream.ReadStop.{ReadStop}
 use Rattle.evm_serve.specs.declared.stream.ReadStop.TheVariants.{NoMemory, Fault}

@@ -170,7 +170,10 @@ fn other_bytes_are_no_texts(rt: HostRuntime) {
     for bytes in [b"nop\n\xff".as_slice(), b"\xc3\x28", b"# \xf0\x9f"] {
         let mut reader = bytes;
         let read = read_utf8(rt.alloc(), &mut reader);
-        assert!(rt; matches!(read, Err(ReadStop::Fault(ReadFault::NotUtf8))), "{bytes:?}");
+        assert!(rt;
+            matches!(read, Err(ReadStop::Fault(ReadFault::NotUtf8))),
+            "{bytes:?}"
+        );
     }
     let mut most = io::repeat(b'#').take(16_777_216);
     assert!(rt; read_utf8(rt.alloc(), &mut most).is_ok());

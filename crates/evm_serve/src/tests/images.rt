@@ -102,7 +102,8 @@ fn faults_of_files_are_told(rt: HostRuntime) -> Result<(), Fail> {
     let empty = file_of(alloc, b"")?;
     assert_eq!(rt; empty.len(), EMPTY);
     check_fault(&rt, alloc, empty.as_slice(), "");
-    check_fault(&rt, alloc, &empty.as_slice()[..63], "image 1\n");
+    let short = empty.as_slice().get(..63).ok_or("63 bytes")?;
+    check_fault(&rt, alloc, short, "image 1\n");
     check_fault(&rt, alloc, b"", "image 1\n");
     // e_machine, e_flags, and the first bytes of p_filesz and p_memsz
     check_fault(
