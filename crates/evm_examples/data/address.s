@@ -1,0 +1,3 @@
+        la a0,x
+        .data
+x:      .dword 5
