@@ -1,5 +1,11 @@
 pub mod Doing
+pub mod Each
+pub mod Executing
+pub mod Limits
+pub mod Loaded
+pub mod Operands_read
 pub mod Sparing
 pub mod Standing
+pub mod Statements_read
 pub mod Taking
 pub mod Untouched

@@ -1,0 +1,111 @@
+-- What is read from the operands of li and la: registers below 32, numbers of 32 bits, and known labels.
+use Rattle.std.proofs.Common.{◌≡◌, ℕ, zero, suc, ◌<◌, ◌≤◌, Bool, true, false, cond, ◌&&◌, nat_lt, nat_le, List, [], ◌∷◌, Option, Some, None, Result, Ok, Err, IfOk, IfSome, ℤ, pos, negsuc, neg_ℤ, ◌≤ℤ◌, refl, bytes_eq, arith}
+use Rattle.std.specs.List.{AllByRecursion}
+use Rattle.std.proofs.lemmas.Bool.{ltb-true, leb-true, and_parts}
+use Rattle.std.proofs.lemmas.Int.{ints}
+use Rattle.evm_words.specs.declared.fault.AsmFaultKind.{AsmFaultKind}
+use Rattle.evm_words.specs.declared.fault.AsmFaultKind.TheVariants.{RangeOfImmediate}
+use Rattle.evm_words.specs.Names.{named, or_else, register_named, fixed_registers, argument_registers, saved_registers, temporary_registers, registers_to_7, registers_to_15, registers_to_23, registers_to_31}
+use Rattle.evm_statement.specs.declared.operand.Number.{Number}
+use Rattle.evm_statement.specs.declared.spot.Spot.{Spot}
+use Rattle.evm_statement.specs.Operands.{register_in, named_register, known, name_in, label_in, labelled, number_in, integer, ranged, integer_in}
+use Rattle.evm_statement.specs.Statements.{Spots}
+
+abbrev pub IsRegister : ℕ → Type 0
+IsRegister r = r < 32
+
+abbrev all_registers : List (List ℕ × ℕ) → Bool
+all_registers [] = true
+all_registers (e ∷ es) = nat_lt e.1 32 && all_registers es
+
+picked : {A : Type 0} (P : A → Type 0) (t : Bool) (x : A) (others : Option A) → P x → IfSome others P → IfSome (cond t (Some x) others) P
+picked P true x others h k = h
+picked P false x others h k = k
+
+found : (es : List (List ℕ × ℕ)) (name : List ℕ) → all_registers es ≡ true → IfSome (named es name) IsRegister
+found [] name h = tt
+found (e ∷ es) name h =
+    let p = and_parts (nat_lt e.1 32) (all_registers es) h in
+    picked IsRegister (bytes_eq name e.0) e.1 (named es name) (ltb-true e.1 32 p.0) (found es name p.1)
+
+or_found : (es : List (List ℕ × ℕ)) (name : List ℕ) (others : Option ℕ) → all_registers es ≡ true → IfSome others IsRegister
+    → IfSome (or_else (named es name) (λ n. n) others) IsRegister
+or_found es name others h k = either (named es name) others (found es name h) k
+  where
+    either : (o others : Option ℕ) → IfSome o IsRegister → IfSome others IsRegister → IfSome (or_else o (λ n. n) others) IsRegister
+    either (Some n) others h k = h
+    either None others h k = k
+
+named_below : (name : List ℕ) → IfSome (register_named name) IsRegister
+unfolding register_named fixed_registers argument_registers saved_registers temporary_registers registers_to_7 registers_to_15 registers_to_23 registers_to_31
+named_below name =
+    or_found fixed_registers name _ refl (
+    or_found argument_registers name _ refl (
+    or_found saved_registers name _ refl (
+    or_found temporary_registers name _ refl (
+    or_found registers_to_7 name _ refl (
+    or_found registers_to_15 name _ refl (
+    or_found registers_to_23 name _ refl (
+    found registers_to_31 name refl)))))))
+
+known_below : (o : Option ℕ) → IfSome o IsRegister → IfOk (known o) IsRegister
+known_below (Some r) h = h
+known_below None h = tt
+
+operand_below : (name : Option (List ℕ)) → IfOk (named_register name) IsRegister
+operand_below (Some name) = known_below (register_named name) (named_below name)
+operand_below None = tt
+
+pub register_below : (text : List ℕ) → IfOk (register_in text) IsRegister
+unfolding register_in
+register_below text = operand_below (name_in text)
+
+-- a number of 32 bits
+abbrev pub IsInRange : ℤ → Type 0
+IsInRange value = (negsuc 2147483647 ≤ℤ value) × (value ≤ℤ pos 2147483647)
+
+least_number : (n : ℕ) → n ≤ 2147483648 → IsInRange (neg_ℤ (pos n))
+least_number zero h = (omega (arith, ints), omega (arith, ints))
+least_number (suc n) h = (omega (arith, ints), omega (arith, ints))
+
+tested : {A E : Type 0} (P : A → Type 0) (t : Bool) (x : A) (e : E) → (t ≡ true → P x) → IfOk (cond t (Ok x) (Err e)) P
+tested P true x e h = h refl
+tested P false x e h = tt
+
+integer_within : (n : Number) → IfOk (integer 2147483648 2147483647 n) IsInRange
+unfolding integer
+integer_within n =
+    by_sign n.negative _ _
+    (tested IsInRange (nat_le n.size 2147483648) (neg_ℤ (pos n.size)) RangeOfImmediate (λ e. least_number n.size (leb-true _ _ e)))
+    (tested IsInRange (nat_le n.size 2147483647) (pos n.size) RangeOfImmediate (λ e. let small : n.size ≤ 2147483647 = leb-true _ _ e in (omega (arith, ints), omega (arith, ints))))
+  where
+    by_sign : (t : Bool) (r s : Result ℤ AsmFaultKind) → IfOk r IsInRange → IfOk s IsInRange → IfOk (cond t r s) IsInRange
+    by_sign true r s h k = h
+    by_sign false r s h k = k
+
+ranged_within : (o : Option Number) → IfOk (ranged 2147483648 2147483647 o) IsInRange
+ranged_within (Some n) = integer_within n
+ranged_within None = tt
+
+pub number_within : (text : List ℕ) → IfOk (integer_in 2147483648 2147483647 text) IsInRange
+unfolding integer_in
+number_within text = ranged_within (number_in text)
+
+-- a place that a section can have
+abbrev pub IsNear : Spot → Type 0
+IsNear spot = spot.offset ≤ 8388608
+
+abbrev pub AreNear : Spots → Type 0
+AreNear labels = AllByRecursion (λ l. IsNear l.1) labels
+
+named_near : (labels : Spots) (name : List ℕ) → AreNear labels → IfSome (named labels name) IsNear
+named_near [] name h = tt
+named_near (l ∷ labels) name h = picked IsNear (bytes_eq name l.0) l.1 (named labels name) h.0 (named_near labels name h.1)
+
+pub label_near : (labels : Spots) (text : List ℕ) → AreNear labels → IfOk (label_in labels text) (λ o. IfSome o IsNear)
+unfolding label_in
+label_near labels text h = by_name (name_in text)
+  where
+    by_name : (o : Option (List ℕ)) → IfOk (labelled labels o) (λ o. IfSome o IsNear)
+    by_name (Some name) = named_near labels name h
+    by_name None = tt
