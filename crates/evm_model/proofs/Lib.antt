@@ -1,17 +1,1 @@
-pub mod Breakpoints
-pub mod Changing
-pub mod Commands
-pub mod Counting
-pub mod Events
-pub mod Keeping
-pub mod KeptRuns
-pub mod LineFacts
 pub mod Lists
-pub mod Loads
-pub mod Moving
-pub mod Playing
-pub mod Raising
-pub mod Registers
-pub mod Runs
-pub mod Settling
-pub mod Sound

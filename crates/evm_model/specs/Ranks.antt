@@ -1,7 +1,6 @@
--- Which task goes first.
-use Rattle.std.specs.Prelude.{ℕ, ◌+◌, List, [], ◌∷◌, Option, Some, None, Bool, true, false, ◌&&◌, ◌==◌, nat_lt, if◌then◌else◌, option_map}
+-- Which task goes first. Tasks are spoken of by their numbers, so that a rank may come from other tasks too.
+use Rattle.std.specs.Prelude.{◌≡◌, ℕ, zero, suc, ◌+◌, ◌<◌, List, Option, Some, None, Bool, true, false, ◌&&◌, ◌==◌, nat_lt, if◌then◌else◌, slice_get, length}
 use Rattle.evm_model.specs.declared.task.Task.{Task}
-use Rattle.evm_model.specs.declared.task.Candidate.{Candidate}
 use Rattle.evm_model.specs.declared.task.Class.{Class}
 use Rattle.evm_model.specs.declared.task.Class.TheVariants.{Unattached, Fifo, RoundRobin, Weak}
 use Rattle.evm_model.specs.declared.task.TaskState.{TaskState}
@@ -14,8 +13,41 @@ own_rank Fifo priority = 100 + priority
 own_rank RoundRobin priority = 100 + priority
 own_rank Weak priority = priority
 
-abbrev pub rank : Task → ℕ
-rank task = own_rank task.class task.priority
+abbrev pub rank_of : Option Task → ℕ
+rank_of None = 0
+rank_of (Some task) = own_rank task.class task.priority
+
+abbrev pub stamp_of : Option Task → ℕ
+stamp_of None = 0
+stamp_of (Some task) = task.stamp
+
+-- the rank of task t, and its stamp
+abbrev pub rank : List Task → ℕ → ℕ
+rank tasks t = rank_of (slice_get tasks t)
+
+abbrev pub stamp : List Task → ℕ → ℕ
+stamp tasks t = stamp_of (slice_get tasks t)
+
+-- t goes before u: the greater rank, and of one rank the lesser stamp
+abbrev pub goes_before : (ℕ → ℕ) → (ℕ → ℕ) → ℕ → ℕ → Bool
+goes_before rank stamp t u = if nat_lt (rank u) (rank t) then true else (if nat_lt (rank t) (rank u) then false else nat_lt (stamp t) (stamp u))
+
+-- t is the member of greatest rank, then of least stamp, of those below count
+pub record IsFirst (member : ℕ → Bool) (rank stamp : ℕ → ℕ) (count t : ℕ) : Type 0 where
+  pub below : t < count
+  pub is_member : member t ≡ true
+  pub leads : (u : ℕ) → u < count → member u ≡ true → goes_before rank stamp u t ≡ false
+
+-- of the one that leads so far and another, the one that goes first
+abbrev pub leader : (ℕ → ℕ) → (ℕ → ℕ) → Option ℕ → ℕ → ℕ
+leader rank stamp None t = t
+leader rank stamp (Some best) t = if goes_before rank stamp t best then t else best
+
+-- the first of the members below a number
+unfoldable pub first : (ℕ → Bool) → (ℕ → ℕ) → (ℕ → ℕ) → ℕ → Option ℕ
+first member rank stamp zero = None
+first member rank stamp (suc t) =
+    let best = first member rank stamp t in if member t then Some (leader rank stamp best t) else best
 
 abbrev pub is_in_ready : TaskState → Bool
 is_in_ready InReady = true
@@ -25,33 +57,26 @@ abbrev pub is_oob_ready : TaskState → Bool
 is_oob_ready OobReady = true
 is_oob_ready _ = false
 
--- the greater rank goes first, and of one rank the lesser stamp
-abbrev pub goes_before : Candidate → Candidate → Bool
-goes_before a b = if nat_lt b.rank a.rank then true else (if nat_lt a.rank b.rank then false else nat_lt a.stamp b.stamp)
+abbrev pub runs_oob_task : ℕ → Option Task → Bool
+runs_oob_task c None = false
+runs_oob_task c (Some task) = is_oob_ready task.state && task.cpu == c
 
--- of the one that leads so far and another, the one that goes first
-abbrev pub leader : Option Candidate → Candidate → Option Candidate
-leader None b = Some b
-leader (Some a) b = if goes_before b a then Some b else Some a
-
--- the candidate that goes first of these, whose numbers begin at n, and of one that leads already
-abbrev pub first_of : (Task → Bool) → (Task → ℕ) → Option Candidate → ℕ → List Task → Option Candidate
-first_of may rank_of best n [] = best
-first_of may rank_of best n (t ∷ ts) =
-    first_of may rank_of (if may t then leader best (record { number = n; rank = rank_of t; stamp = t.stamp }) else best) (n + 1) ts
+abbrev pub runs_in_band_task : ℕ → Option Task → Bool
+runs_in_band_task c None = false
+runs_in_band_task c (Some task) = is_in_ready task.state && task.cpu == c
 
 -- task t may run out-of-band on processor c
-abbrev pub runs_oob : ℕ → Task → Bool
-runs_oob c t = is_oob_ready t.state && t.cpu == c
+abbrev pub runs_oob : ℕ → List Task → ℕ → Bool
+runs_oob c tasks t = runs_oob_task c (slice_get tasks t)
 
 -- task t may run in-band on processor c
-abbrev pub runs_in_band : ℕ → Task → Bool
-runs_in_band c t = is_in_ready t.state && t.cpu == c
+abbrev pub runs_in_band : ℕ → List Task → ℕ → Bool
+runs_in_band c tasks t = runs_in_band_task c (slice_get tasks t)
 
 -- the out-of-band task that processor c should run
 unfoldable pub best : ℕ → List Task → Option ℕ
-best c tasks = option_map (λ x. x.number) (first_of (runs_oob c) rank None 0 tasks)
+best c tasks = first (runs_oob c tasks) (rank tasks) (stamp tasks) (length tasks)
 
 -- the in-band task that processor c should take up: that of least stamp
 unfoldable pub next_in_band : ℕ → List Task → Option ℕ
-next_in_band c tasks = option_map (λ x. x.number) (first_of (runs_in_band c) (λ _. 0) None 0 tasks)
+next_in_band c tasks = first (runs_in_band c tasks) (λ _. 0) (stamp tasks) (length tasks)

@@ -1,34 +1,32 @@
--- Which events are refused: the tests in the order of their numbers, the first that applies is answered.
-use Rattle.std.specs.Prelude.{ℕ, ◌%◌, ◌==◌, Option, Some, None, Bool, true, false, not, ◌&&◌, nat_lt, nat_le, is_none, if◌then◌else◌, slice_get, length}
+-- Which events are refused: a table of tests, of which the first that applies, in the order of their numbers, is answered.
+use Rattle.std.specs.Prelude.{ℕ, ◌%◌, ◌==◌, List, [], ◌∷◌, Option, Some, None, Bool, true, false, not, ◌&&◌, nat_lt, nat_le, is_none, if◌then◌else◌, slice_get, length}
 use Rattle.evm_lines.specs.declared.TheConstants.{LINES}
 use Rattle.evm_ram.specs.Ram.{bytes_at}
 use Rattle.evm_ram.specs.declared.refusal.Refusal.{Refusal}
-use Rattle.evm_ram.specs.declared.refusal.Refusal.TheVariants.{NoSuchCpu, NoSuchLine, NotStopped, NoTask, BadAddress, BadRegister, NoSlot, NoBreakpoint}
-use Rattle.evm_model.specs.State.{Kernel}
-use Rattle.evm_model.specs.Commands.{current, is_set}
-use Rattle.evm_model.specs.declared.cpu.Cpu.{Cpu}
+use Rattle.evm_ram.specs.declared.refusal.Refusal.TheVariants.{Full, NoSuchCpu, NoSuchLine, NotStopped, NoTask, BadAddress, BadRegister, NoSlot, NoBreakpoint}
+use Rattle.evm_model.specs.Commands.{is_set}
+use Rattle.evm_model.specs.Settle.{current}
+use Rattle.evm_model.specs.State.{State, Board}
+use Rattle.evm_model.specs.declared.limits.TheConstants.{BREAKPOINT_LIMIT, POKE_LIMIT}
+use Rattle.evm_model.specs.declared.processor.Processor.{Processor}
 use Rattle.evm_model.specs.declared.event.Event.{Event}
 use Rattle.evm_model.specs.declared.event.Event.TheVariants.{Step, Tick, Raise, Bell, Stop, Go, StepI, SetReg, SetPc, Poke, Break, Unbreak}
 
--- a test and what is answered where it holds
-abbrev pub refused_if : Bool → Refusal → Option Refusal → Option Refusal
-refused_if b refusal others = if b then Some refusal else others
-
-abbrev pub no_such_cpu : ℕ → Kernel → Bool
-no_such_cpu c k = is_none (slice_get k.cpus c)
+abbrev pub no_such_cpu : ℕ → Board → Bool
+no_such_cpu c b = is_none (slice_get b.parts.processors c)
 
 abbrev pub no_such_line : ℕ → Bool
 no_such_line l = nat_le LINES l
 
-abbrev pub is_stopped_on : Option Cpu → Bool
-is_stopped_on None = false
-is_stopped_on (Some cpu) = cpu.stopped
+abbrev pub is_stopped : Option Processor → Bool
+is_stopped None = false
+is_stopped (Some p) = p.stopped
 
-abbrev pub not_stopped : ℕ → Kernel → Bool
-not_stopped c k = not (is_stopped_on (slice_get k.cpus c))
+abbrev pub not_stopped : ℕ → Board → Bool
+not_stopped c b = not (is_stopped (slice_get b.parts.processors c))
 
-abbrev pub no_task : ℕ → Kernel → Bool
-no_task c k = is_none (current c k)
+abbrev pub no_task : ℕ → Board → Bool
+no_task c b = is_none (current c b.parts)
 
 abbrev pub bad_register : ℕ → Bool
 bad_register r = if r == 0 then true else nat_le 32 r
@@ -37,57 +35,102 @@ abbrev pub misaligned : ℕ → Bool
 misaligned address = not (address % 4 == 0)
 
 -- the bytes of a poke: 1 to 64 of them, all inside RAM
-abbrev pub bad_bytes : ℕ → ℕ → Kernel → Bool
-bad_bytes address count k =
-    if count == 0 then true else (if nat_lt 64 count then true else is_none (bytes_at k.ram address count))
+abbrev pub bad_bytes : ℕ → ℕ → Board → Bool
+bad_bytes address count b =
+    if count == 0 then true else (if nat_lt POKE_LIMIT count then true else is_none (bytes_at b.memory.ram address count))
 
 -- where a breakpoint may stand: at a multiple of 4 inside RAM
-abbrev pub bad_place : ℕ → Kernel → Bool
-bad_place address k = if misaligned address then true else is_none (bytes_at k.ram address 1)
+abbrev pub bad_place : ℕ → Board → Bool
+bad_place address b = if misaligned address then true else is_none (bytes_at b.memory.ram address 1)
 
-abbrev pub no_slot : ℕ → Kernel → Bool
-no_slot address k = nat_le 64 (length k.breakpoints) && not (is_set k.breakpoints address)
+abbrev pub no_slot : ℕ → Board → Bool
+no_slot address b = nat_le BREAKPOINT_LIMIT (length b.breakpoints) && not (is_set b.breakpoints address)
 
-abbrev pub cpu_refusal : ℕ → Kernel → Option Refusal
-cpu_refusal c k = refused_if (no_such_cpu c k) NoSuchCpu None
+-- the event names a processor that isn't there
+abbrev pub names_no_cpu : Event → Board → Bool
+names_no_cpu (Step c) b = no_such_cpu c b
+names_no_cpu (Raise c l) b = no_such_cpu c b
+names_no_cpu (Bell c l) b = no_such_cpu c b
+names_no_cpu (Stop c) b = no_such_cpu c b
+names_no_cpu (Go c) b = no_such_cpu c b
+names_no_cpu (StepI c) b = no_such_cpu c b
+names_no_cpu (SetReg c r value) b = no_such_cpu c b
+names_no_cpu (SetPc c pc) b = no_such_cpu c b
+names_no_cpu _ b = false
 
-abbrev pub line_refusal : ℕ → ℕ → Kernel → Option Refusal
-line_refusal c l k = refused_if (no_such_cpu c k) NoSuchCpu (refused_if (no_such_line l) NoSuchLine None)
+-- the event names a line that isn't there
+abbrev pub names_no_line : Event → Bool
+names_no_line (Raise c l) = no_such_line l
+names_no_line (Bell c l) = no_such_line l
+names_no_line _ = false
 
-abbrev pub stopped_refusal : ℕ → Kernel → Option Refusal
-stopped_refusal c k = refused_if (no_such_cpu c k) NoSuchCpu (refused_if (not_stopped c k) NotStopped None)
+-- the event wants a stopped processor, and this one isn't
+abbrev pub wants_stopped : Event → Board → Bool
+wants_stopped (Go c) b = not_stopped c b
+wants_stopped (StepI c) b = not_stopped c b
+wants_stopped (SetReg c r value) b = not_stopped c b
+wants_stopped (SetPc c pc) b = not_stopped c b
+wants_stopped _ b = false
 
-abbrev pub register_refusal : ℕ → ℕ → Kernel → Option Refusal
-register_refusal c r k =
-    refused_if (no_such_cpu c k) NoSuchCpu (refused_if (not_stopped c k) NotStopped
-    (refused_if (no_task c k) NoTask (refused_if (bad_register r) BadRegister None)))
+-- the event wants a current task, and there is none
+abbrev pub wants_task : Event → Board → Bool
+wants_task (SetReg c r value) b = no_task c b
+wants_task (SetPc c pc) b = no_task c b
+wants_task _ b = false
 
-abbrev pub pc_refusal : ℕ → ℕ → Kernel → Option Refusal
-pc_refusal c pc k =
-    refused_if (no_such_cpu c k) NoSuchCpu (refused_if (not_stopped c k) NotStopped
-    (refused_if (no_task c k) NoTask (refused_if (misaligned pc) BadAddress None)))
+-- the event names an address that won't do
+abbrev pub names_bad_address : Event → Board → Bool
+names_bad_address (SetPc c pc) b = misaligned pc
+names_bad_address (Poke address bytes) b = bad_bytes address (length bytes.items) b
+names_bad_address (Break address) b = bad_place address b
+names_bad_address (Unbreak address) b = bad_place address b
+names_bad_address _ b = false
 
-abbrev pub poke_refusal : ℕ → ℕ → Kernel → Option Refusal
-poke_refusal address count k = refused_if (bad_bytes address count k) BadAddress None
+-- the event names x0, or a register that isn't there
+abbrev pub names_bad_register : Event → Bool
+names_bad_register (SetReg c r value) = bad_register r
+names_bad_register _ = false
 
-abbrev pub break_refusal : ℕ → Kernel → Option Refusal
-break_refusal address k = refused_if (bad_place address k) BadAddress (refused_if (no_slot address k) NoSlot None)
+-- the event wants a place for a breakpoint more, and there is none
+abbrev pub wants_slot : Event → Board → Bool
+wants_slot (Break address) b = no_slot address b
+wants_slot _ b = false
 
-abbrev pub unbreak_refusal : ℕ → Kernel → Option Refusal
-unbreak_refusal address k =
-    refused_if (bad_place address k) BadAddress (refused_if (not (is_set k.breakpoints address)) NoBreakpoint None)
+-- the event wants a breakpoint at its address, and none is set there
+abbrev pub wants_breakpoint : Event → Board → Bool
+wants_breakpoint (Unbreak address) b = not (is_set b.breakpoints address)
+wants_breakpoint _ b = false
+
+-- whether an event that finds room in the journal is refused for this reason
+abbrev pub applies : Event → Board → Refusal → Bool
+applies event b NoSuchCpu = names_no_cpu event b
+applies event b NoSuchLine = names_no_line event
+applies event b NotStopped = wants_stopped event b
+applies event b NoTask = wants_task event b
+applies event b BadAddress = names_bad_address event b
+applies event b BadRegister = names_bad_register event
+applies event b NoSlot = wants_slot event b
+applies event b NoBreakpoint = wants_breakpoint event b
+applies event b _ = false
+
+-- in the order of their numbers
+abbrev pub board_refusals : List Refusal
+board_refusals =
+    NoSuchCpu ∷ NoSuchLine ∷ NotStopped ∷ NoTask ∷ BadAddress ∷ BadRegister ∷ NoSlot ∷ NoBreakpoint ∷ []
+
+-- the first of the refusals that passes a test
+abbrev pub first_that : (Refusal → Bool) → List Refusal → Option Refusal
+first_that test [] = None
+first_that test (refusal ∷ refusals) = if test refusal then Some refusal else first_that test refusals
 
 -- why an event that finds room in the journal is refused
-unfoldable pub own_refusal : Event → Kernel → Option Refusal
-own_refusal (Step c) k = cpu_refusal c k
-own_refusal Tick k = None
-own_refusal (Raise c l) k = line_refusal c l k
-own_refusal (Bell c l) k = line_refusal c l k
-own_refusal (Stop c) k = cpu_refusal c k
-own_refusal (Go c) k = stopped_refusal c k
-own_refusal (StepI c) k = stopped_refusal c k
-own_refusal (SetReg c r value) k = register_refusal c r k
-own_refusal (SetPc c pc) k = pc_refusal c pc k
-own_refusal (Poke address bytes) k = poke_refusal address (length bytes.items) k
-own_refusal (Break address) k = break_refusal address k
-own_refusal (Unbreak address) k = unbreak_refusal address k
+unfoldable pub board_refusal : Event → Board → Option Refusal
+board_refusal event b = first_that (applies event b) board_refusals
+
+-- the journal takes no more
+abbrev pub is_full : State → Bool
+is_full s = nat_le s.boot.capacity (length s.journal)
+
+-- why an event is refused: Full before all others
+abbrev pub refusal : Event → State → Option Refusal
+refusal event s = if is_full s then Some Full else board_refusal event s.board

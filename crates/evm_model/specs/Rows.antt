@@ -1,65 +1,68 @@
 -- What each event does, and answers.
 use Rattle.std.specs.Prelude.{ℕ, Option, Some, None, true, false, not, ◌&&◌, if◌then◌else◌, slice_get}
 use Rattle.evm_lines.specs.Lines.{least_line}
-use Rattle.evm_model.specs.State.{Kernel, with_cpu}
-use Rattle.evm_model.specs.Interrupts.{raised, received}
-use Rattle.evm_model.specs.Settle.{settled_and_nudged}
-use Rattle.evm_model.specs.Instructions.{executed, stopped}
-use Rattle.evm_model.specs.Commands.{ticked, with_bits, register_set, pc_set, poked, is_set, breakpoint_set, breakpoint_unset}
-use Rattle.evm_model.specs.declared.cpu.Cpu.{Cpu}
-use Rattle.evm_model.specs.declared.task.Task.{Task}
-use Rattle.evm_model.specs.declared.event.Event.{Event}
-use Rattle.evm_model.specs.declared.event.Event.TheVariants.{Step, Tick, Raise, Bell, Stop, Go, StepI, SetReg, SetPc, Poke, Break, Unbreak}
+use Rattle.evm_exec.specs.declared.hart.Hart.{Hart}
+use Rattle.evm_model.specs.Commands.{tick, set_bits, on_current, is_set, set_breakpoint, unset_breakpoint}
+use Rattle.evm_model.specs.Harts.{set_register, set_pc}
+use Rattle.evm_model.specs.Instructions.{execute, stop}
+use Rattle.evm_model.specs.Memory.{poke}
+use Rattle.evm_model.specs.Pipes.{Pipe, raise, receive}
+use Rattle.evm_model.specs.Settle.{settle_and_nudge}
+use Rattle.evm_model.specs.State.{Board, on_processor, on_pipe, on_parts, on_memory}
 use Rattle.evm_model.specs.declared.event.Answer.{Answer}
 use Rattle.evm_model.specs.declared.event.Answer.TheVariants.{Stopped, Received, Idle, Hit, Ran, Done}
+use Rattle.evm_model.specs.declared.event.Event.{Event}
+use Rattle.evm_model.specs.declared.event.Event.TheVariants.{Step, Tick, Raise, Bell, Stop, Go, StepI, SetReg, SetPc, Poke, Break, Unbreak}
+use Rattle.evm_model.specs.declared.processor.Processor.{Processor}
 
--- the task does its instruction, once no breakpoint stops it
-abbrev pub ran : ℕ → ℕ → Kernel → Kernel × Answer
-ran c t k = (settled_and_nudged c (executed c t k), Ran t)
+-- the task does its instruction; the skip bit goes off
+abbrev pub run : Hart → ℕ → ℕ → Board → Board × Answer
+run hart c t b =
+    (on_parts (settle_and_nudge c) (execute hart c t (on_parts (on_processor c (λ p. record p { skip = false })) b)), Ran t)
 
-abbrev pub unskipped : Cpu → ℕ → Kernel → Kernel
-unskipped cpu c k = with_cpu c (record cpu { skip = false }) k
-
-abbrev pub step_task : Option Task → Cpu → ℕ → ℕ → Kernel → Kernel × Answer
-step_task None cpu c t k = (k, Idle)
-step_task (Some task) cpu c t k =
-    if is_set k.breakpoints task.hart.pc && not cpu.skip
-    then (stopped c k, Hit)
-    else ran c t (unskipped cpu c k)
+-- unless a breakpoint at its pc stops it, which the skip bit passes once
+abbrev pub step_hart : Option Hart → Processor → ℕ → ℕ → Board → Board × Answer
+step_hart None p c t b = (b, Idle)
+step_hart (Some hart) p c t b =
+    if is_set b.breakpoints hart.pc && not p.skip then (on_parts (stop c) b, Hit) else run hart c t b
 
 -- no current task: the processor idles
-abbrev pub step_current : Option ℕ → Cpu → ℕ → Kernel → Kernel × Answer
-step_current None cpu c k = (settled_and_nudged c k, Idle)
-step_current (Some t) cpu c k = step_task (slice_get k.tasks t) cpu c t k
+abbrev pub step_current : Option ℕ → Processor → ℕ → Board → Board × Answer
+step_current None p c b = (on_parts (settle_and_nudge c) b, Idle)
+step_current (Some t) p c b = step_hart (slice_get b.parts.harts t) p c t b
 
 -- a line on the wire is received before an instruction, the least first
-abbrev pub step_wire : Option ℕ → Cpu → ℕ → Kernel → Kernel × Answer
-step_wire None cpu c k = step_current cpu.current cpu c k
-step_wire (Some l) cpu c k = (settled_and_nudged c (received c l k), Received l)
+abbrev pub step_wire : Option ℕ → Processor → ℕ → Board → Board × Answer
+step_wire None p c b = step_current p.current p c b
+step_wire (Some l) p c b = (on_parts (λ k. settle_and_nudge c (on_pipe c (receive l) k)) b, Received l)
 
-abbrev pub step_cpu : Option Cpu → ℕ → Kernel → Kernel × Answer
-step_cpu None c k = (k, Stopped)
-step_cpu (Some cpu) c k = if cpu.stopped then (k, Stopped) else step_wire (least_line cpu.wire) cpu c k
+abbrev pub step_pipe : Option Pipe → Processor → ℕ → Board → Board × Answer
+step_pipe None p c b = (b, Stopped)
+step_pipe (Some pipe) p c b = step_wire (least_line pipe.wire) p c b
+
+abbrev pub step_processor : Option Processor → ℕ → Board → Board × Answer
+step_processor None c b = (b, Stopped)
+step_processor (Some p) c b = if p.stopped then (b, Stopped) else step_pipe (slice_get b.parts.pipes c) p c b
 
 -- a processor's step: nothing where it is stopped; else it receives, idles, hits a breakpoint or does an instruction
-unfoldable pub stepped : ℕ → Kernel → Kernel × Answer
-stepped c k = step_cpu (slice_get k.cpus c) c k
+unfoldable pub step : ℕ → Board → Board × Answer
+step c b = step_processor (slice_get b.parts.processors c) c b
 
 -- one step of a stopped processor, past a breakpoint at its pc; it is stopped again
-unfoldable pub single_stepped : ℕ → Kernel → Kernel
-single_stepped c k = with_bits true false c (stepped c (with_bits false true c k)).0
+unfoldable pub single_step : ℕ → Board → Board
+single_step c b = on_parts (set_bits true false c) (step c (on_parts (set_bits false true c) b)).0
 
 -- what an event does, and answers
-unfoldable pub row : Event → Kernel → Kernel × Answer
-row (Step c) k = stepped c k
-row Tick k = (ticked k, Done)
-row (Raise c l) k = (raised c l k, Done)
-row (Bell c l) k = (raised c l k, Done)
-row (Stop c) k = (stopped c k, Done)
-row (Go c) k = (with_bits false true c k, Done)
-row (StepI c) k = (single_stepped c k, Done)
-row (SetReg c r value) k = (register_set c r value k, Done)
-row (SetPc c pc) k = (pc_set c pc k, Done)
-row (Poke address bytes) k = (poked address bytes.items k, Done)
-row (Break address) k = (breakpoint_set address k, Done)
-row (Unbreak address) k = (breakpoint_unset address k, Done)
+unfoldable pub row : Event → Board → Board × Answer
+row (Step c) b = step c b
+row Tick b = (on_parts tick b, Done)
+row (Raise c l) b = (on_parts (on_pipe c (raise l)) b, Done)
+row (Bell c l) b = (on_parts (on_pipe c (raise l)) b, Done)
+row (Stop c) b = (on_parts (stop c) b, Done)
+row (Go c) b = (on_parts (set_bits false true c) b, Done)
+row (StepI c) b = (single_step c b, Done)
+row (SetReg c r value) b = (on_parts (on_current c (set_register r value)) b, Done)
+row (SetPc c pc) b = (on_parts (on_current c (set_pc pc)) b, Done)
+row (Poke address bytes) b = (on_memory (poke address bytes.items) b, Done)
+row (Break address) b = (set_breakpoint address b, Done)
+row (Unbreak address) b = (unset_breakpoint address b, Done)

@@ -3,17 +3,22 @@
 
 mod boot;
 mod counts;
-mod cpu;
+mod errno;
 mod event;
-mod laws;
+mod fault;
+mod limits;
+mod processor;
+mod stage;
 mod task;
 
 pub use boot::Boot;
-pub use counts::{Change, Counts, Passage};
-pub use cpu::{Cpu, Log, Stage};
+pub use counts::{Counts, Passage};
+pub use errno::Errno;
 pub use event::{Answer, Event};
-pub use laws::{
-    balance_holds, commands_change_only, counts_fit, loads_each_byte, loads_stay_sound,
-    replays_join, sizes_stay, starts_as_replay, stays_as_booted,
+pub use fault::Fault;
+pub use limits::{
+    BREAKPOINT_LIMIT, CAPACITY_LIMIT, POKE_LIMIT, PROCESSOR_LIMIT, RAM_LEAST, RAM_UNIT, TASK_LIMIT,
 };
-pub use task::{Candidate, Class, Task, TaskState};
+pub use processor::Processor;
+pub use stage::{Stage, StageLog};
+pub use task::{Class, Task, TaskState, Wait};

@@ -1,4 +1,4 @@
-use evm_exec::Hart;
+use crate::Fault;
 
 /// How a task is scheduled out-of-band (EVL, "Scheduling policies").
 #[derive(Clone, Copy, Debug, PartialEq, Eq)]
@@ -10,28 +10,33 @@ pub enum Class {
     Weak,
 }
 
-/// Where a task is: ready on a stage, waiting, or ended.
+/// What a task waits for.
 #[derive(Clone, Copy, Debug, PartialEq, Eq)]
-pub enum TaskState {
-    InReady,
-    /// It waits in-band for an interrupt line.
-    InWait(u8),
-    OobReady,
+pub enum Wait {
+    /// In-band, for an interrupt line.
+    Line(u8),
     Lock(u8),
     Semaphore(u8),
     Event(u8),
     Flags(u8),
     Sleep,
     Timer(u8),
-    Exit,
-    /// It ended by a fault: 0 misaligned target, 1 fetch outside RAM, 2 illegal word, 5 load, 7 store.
-    Fault(u8),
 }
 
-/// A task: a program counter and registers, and what the scheduler knows of it.
+/// Where a task is: ready on a stage, waiting, or ended.
+#[derive(Clone, Copy, Debug, PartialEq, Eq)]
+pub enum TaskState {
+    InReady,
+    OobReady,
+    Waits(Wait),
+    Exit,
+    /// It ended by a fault.
+    Faulted(Fault),
+}
+
+/// What the scheduler knows of a task; its registers stand apart.
 #[derive(Clone, Copy, Debug)]
 pub struct Task {
-    pub hart: Hart,
     /// The number of its processor.
     pub cpu: u8,
     pub class: Class,
@@ -40,12 +45,4 @@ pub struct Task {
     /// Of two tasks of one rank the one with the lesser stamp goes first.
     pub stamp: u64,
     pub state: TaskState,
-}
-
-/// A task that may run, by what decides which one does.
-#[derive(Clone, Copy, Debug, PartialEq, Eq)]
-pub struct Candidate {
-    pub number: u8,
-    pub rank: u16,
-    pub stamp: u64,
 }

@@ -1,0 +1,12 @@
+-- Why a call is refused, and what a0 is then.
+use Rattle.std.specs.Prelude.{ℕ, ◌-◌, ◌^◌}
+use Rattle.evm_model.specs.declared.errno.Errno.{Errno}
+use Rattle.evm_model.specs.declared.errno.Errno.TheVariants.{NoSuchCall}
+
+-- Linux's number of an error
+abbrev pub errno_number : Errno → ℕ
+errno_number NoSuchCall = 38
+
+-- negated, in 64 bits
+abbrev pub refusal_answer : Errno → ℕ
+refusal_answer e = 2 ^ 64 - errno_number e

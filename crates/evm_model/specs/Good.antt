@@ -1,0 +1,90 @@
+-- The rules that hold after every event.
+use Rattle.std.specs.Prelude.{◌≡◌, ◌<◌, ◌≤◌, ℕ, ◌+◌, ◌*◌, ◌%◌, ◌==◌, List, [], Option, Some, None, Bool, true, false, IfSome, slice_get, length, count_by}
+use Rattle.evm_lines.specs.Lines.{has_line, IsLineSet}
+use Rattle.evm_lines.specs.declared.TheConstants.{LINES}
+use Rattle.evm_exec.specs.declared.hart.Hart.{Hart}
+use Rattle.evm_model.specs.Bounds.{PER_EVENT, PipesUpTo}
+use Rattle.evm_model.specs.Pipes.{Pipe}
+use Rattle.evm_model.specs.Ranks.{best}
+use Rattle.evm_model.specs.Replay.{bad_boot}
+use Rattle.evm_model.specs.Settle.{is_oob}
+use Rattle.evm_model.specs.State.{State, Parts}
+use Rattle.evm_model.specs.declared.event.Event.{Event}
+use Rattle.evm_model.specs.declared.event.Event.TheVariants.{Tick}
+use Rattle.evm_model.specs.declared.limits.TheConstants.{PROCESSOR_LIMIT, TASK_LIMIT}
+use Rattle.evm_model.specs.declared.processor.Processor.{Processor}
+use Rattle.evm_model.specs.declared.task.Task.{Task}
+use Rattle.evm_model.specs.declared.task.TaskState.{TaskState}
+use Rattle.evm_model.specs.declared.task.TaskState.TheVariants.{InReady, OobReady, Waits, Exit, Faulted}
+
+-- a task that has not ended
+abbrev pub is_live : TaskState → Bool
+is_live Exit = false
+is_live (Faulted f) = false
+is_live _ = true
+
+-- task t is one of processor c's, and has not ended
+pub record IsOwn (c t : ℕ) (tasks : List Task) : Type 0 where
+  pub task : Task
+  pub there : slice_get tasks t ≡ Some task
+  pub at_home : task.cpu ≡ c
+  pub live : is_live task.state ≡ true
+
+-- processor c runs what its two stages say
+pub record IsSettled (c : ℕ) (pipe : Pipe) (p : Processor) (tasks : List Task) : Type 0 where
+  -- its current tasks are its own
+  pub current_own : (t : ℕ) → p.current ≡ Some t → IsOwn c t tasks
+  pub in_band_own : (t : ℕ) → p.in_band_task ≡ Some t → IsOwn c t tasks
+  -- unless out-of-band is stalled or line 1 is on the wire, the best task that is ready there is current
+  pub runs_best : pipe.oob.stalled ≡ false → has_line pipe.wire 1 ≡ false → (t : ℕ) → best c tasks ≡ Some t → p.current ≡ Some t
+  -- where no out-of-band task is current the in-band current one is, or none
+  pub runs_in_band : is_oob p.current tasks ≡ false → p.current ≡ p.in_band_task
+  -- an out-of-band log isn't empty only while that stage is stalled
+  pub oob_played : pipe.oob.stalled ≡ false → pipe.oob.lines ≡ []
+  -- an in-band log only while that stage is stalled or an out-of-band task is current
+  pub in_band_played : pipe.inband.stalled ≡ false → is_oob p.current tasks ≡ false → pipe.inband.lines ≡ []
+  -- a stage is stalled only by a current task of it
+  pub oob_staller : pipe.oob.stalled ≡ true → is_oob p.current tasks ≡ true
+  pub in_band_staller : pipe.inband.stalled ≡ true → p.in_band_task ≡ None → ⊥
+
+-- a pipe's wire and logs are sets of lines, and there are counts for each line
+pub record IsPipe (p : Pipe) : Type 0 where
+  pub wire : IsLineSet p.wire
+  pub oob : IsLineSet p.oob.lines
+  pub inband : IsLineSet p.inband.lines
+  pub counts : length p.counts ≡ LINES
+
+-- what holds of the parts
+pub record Good (k : Parts) : Type 0 where
+  pub pipes : (c : ℕ) (pipe : Pipe) → slice_get k.pipes c ≡ Some pipe → IsPipe pipe
+  pub settled : (c : ℕ) (pipe : Pipe) (p : Processor) → slice_get k.pipes c ≡ Some pipe → slice_get k.processors c ≡ Some p → IsSettled c pipe p k.tasks
+  -- each pc is a multiple of 4
+  pub aligned : (t : ℕ) (hart : Hart) → slice_get k.harts t ≡ Some hart → hart.pc % 4 ≡ 0
+  -- each task is of a processor that is there
+  pub homes : (t : ℕ) (task : Task) → slice_get k.tasks t ≡ Some task → task.cpu < length k.processors
+  -- stamps are distinct, and below the next
+  pub stamps_below : (t : ℕ) (task : Task) → slice_get k.tasks t ≡ Some task → task.stamp < k.stamps
+  pub stamps_differ : (t u : ℕ) (a b : Task) → slice_get k.tasks t ≡ Some a → slice_get k.tasks u ≡ Some b → a.stamp ≡ b.stamp → t ≡ u
+  -- a hart for each task, a pipe for each processor, and no more of them than there may be
+  pub harts_count : length k.harts ≡ length k.tasks
+  pub pipes_count : length k.pipes ≡ length k.processors
+  pub few_tasks : length k.tasks ≤ TASK_LIMIT
+  pub few_processors : length k.processors ≤ PROCESSOR_LIMIT
+
+abbrev pub is_tick : Event → Bool
+is_tick Tick = true
+is_tick _ = false
+
+-- what holds of the whole machine
+pub record GoodState (s : State) : Type 0 where
+  pub good : Good s.board.parts
+  -- the boot numbers are inside their limits, and there are as many processors and bytes of RAM as they say
+  pub boot : bad_boot s.boot ≡ false
+  pub processors : length s.board.parts.processors ≡ s.boot.cpus
+  pub ram : length s.board.memory.ram ≡ s.boot.ram
+  -- the journal is within its capacity
+  pub journal : length s.journal ≤ s.boot.capacity
+  -- the clock is the journal's ticks
+  pub ticks : s.board.parts.ticks ≡ count_by is_tick s.journal
+  -- counts are far below 2^64
+  pub counts : PipesUpTo (PER_EVENT * length s.journal) s.board.parts.pipes

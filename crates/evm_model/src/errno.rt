@@ -1,0 +1,20 @@
+ghost use Rattle.std.specs.Prelude.{◌≡◌};
+ghost use Rattle.evm_model.specs.Errnos.{refusal_answer};
+
+/// Why a call is refused.
+#[derive(Clone, Copy, Debug, PartialEq, Eq)]
+pub enum Errno {
+    /// No call has this number (ENOSYS, 38).
+    NoSuchCall,
+}
+
+impl Errno {
+    /// What a0 is then: Linux's number, negated, modulo 2^64.
+    pub fn answer(self) -> u64
+        ensures { result ≡ refusal_answer self }
+    {
+        match self {
+            Errno::NoSuchCall => 0u64.wrapping_sub(38),
+        }
+    }
+}

@@ -1,0 +1,20 @@
+/// The most processors that a machine may have.
+pub const PROCESSOR_LIMIT: usize = 8;
+
+/// The most tasks that there may be; a number is never used again.
+pub const TASK_LIMIT: usize = 64;
+
+/// The most addresses at which breakpoints may be set.
+pub const BREAKPOINT_LIMIT: usize = 64;
+
+/// The most bytes that one Poke may write.
+pub const POKE_LIMIT: usize = 64;
+
+/// The most events that a journal may take.
+pub const CAPACITY_LIMIT: u64 = 1_048_576;
+
+/// The least bytes that RAM may have; the most are `evm_ram::SIZE_LIMIT`.
+pub const RAM_LEAST: u64 = 65_536;
+
+/// RAM has a multiple of so many bytes.
+pub const RAM_UNIT: u64 = 4_096;
