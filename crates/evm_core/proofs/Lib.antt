@@ -1,4 +1,6 @@
 pub mod Lists
 pub mod Loads
 pub mod Nudges
-pub mod Timers
+pub mod Rooms
+pub mod Rules
+pub mod Steps

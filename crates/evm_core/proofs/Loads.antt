@@ -5,18 +5,31 @@ use Rattle.std.specs.List.{list_any, AllByRecursion}
 use Rattle.std.proofs.lemmas.Bool.{cases_Bool, and_parts, and_from, or_parts, leb-true, ltb-true, le-leb, lt-ltb}
 use Rattle.std.proofs.lemmas.Bool.Decides.{nat_tests}
 use Rattle.std.proofs.lemmas.List.{get_or_past}
-use Rattle.evm_elf.specs.Images.{Loaded, Contents, Covers, covers, byte_in, byte_at, IsFree, IsApart, IsSound, range_start}
+use Rattle.evm_image.specs.Images.{Loaded, Contents, Covers, covers, byte_in, byte_at, IsFree, IsApart, IsSound, range_start}
 use Rattle.evm_ram.specs.Laws.{no_bytes, overwritten-nothing, length-overwritten, get_or-overwritten_before, get_or-overwritten_within, get_or-overwritten_behind}
 use Rattle.evm_ram.specs.Ram.{is_inside, overwritten, poke_at}
 use Rattle.evm_ram.specs.declared.ram.TheConstants.{BASE}
-use Rattle.evm_model.specs.Commands.{poked, poked_ram}
-use Rattle.evm_model.specs.Load.{bytes_from, loads_so_many_bytes, loads_each_byte}
+use Rattle.evm_model.specs.Memory.{poke, ram_or}
+use Rattle.evm_model.specs.Load.{bytes_from}
 use Rattle.evm_model.specs.Replay.{IsReplayOf, replay}
-use Rattle.evm_model.specs.State.{State, Kernel}
+use Rattle.evm_model.specs.State.{State, Memory}
 use Rattle.evm_model.specs.declared.event.Event.{Event}
 use Rattle.evm_core.specs.Load.{passes_ram}
 
 -- ---- bytes from an address on
+loads_so_many_bytes : (byte : ℕ → ℕ) (address n : ℕ) → length (bytes_from byte address n) ≡ n
+unfolding bytes_from
+loads_so_many_bytes byte address zero = refl
+loads_so_many_bytes byte address (suc n) = ap suc (loads_so_many_bytes byte (address + 1) n)
+
+loads_each_byte : (byte : ℕ → ℕ) (address n i : ℕ) → i < n → slice_index (bytes_from byte address n) i ≡ byte (address + i)
+unfolding bytes_from
+loads_each_byte byte address zero i h = absurd (omega arith)
+loads_each_byte byte address (suc n) zero h = let same : address ≡ address + 0 = omega arith in ap byte same
+loads_each_byte byte address (suc n) (suc i) h =
+    let same : address + 1 + i ≡ address + suc i = omega arith in
+    loads_each_byte byte (address + 1) n i (omega arith) ∙ ap byte same
+
 -- a list whose elements are the bytes of addresses
 is-bytes_from : (byte : ℕ → ℕ) (address n : ℕ) (ram : List ℕ) → length ram ≡ n → ((i : ℕ) → i < n → get_or ram i 0 ≡ byte (address + i))
     → ram ≡ bytes_from byte address n
@@ -158,9 +171,9 @@ poked-bytes size s byte lies quiet =
     ]
 
 -- ---- all segments
-abbrev pub all_poked : List Loaded → Kernel → Kernel
+abbrev pub all_poked : List Loaded → Memory → Memory
 all_poked [] k = k
-all_poked (s ∷ segments) k = all_poked segments (poked s.address s.bytes k)
+all_poked (s ∷ segments) k = all_poked segments (poke s.address s.bytes k)
 
 -- the byte of the first segment that takes the address, or else another
 abbrev byte_over : (ℕ → ℕ) → List Loaded → ℕ → ℕ
@@ -225,16 +238,16 @@ others-lie size byte s segments all = record {
   ];
 }
 
-poked-is : (address : ℕ) (bytes after : List ℕ) (k : Kernel) → poke_at k.ram address bytes ≡ Some after → poked address bytes k ≡ record k { ram = after }
-unfolding poked
-poked-is address bytes after k h = ap (λ (o : Option (List ℕ)). poked_ram o k) h
+poked-is : (address : ℕ) (bytes after : List ℕ) (k : Memory) → poke_at k.ram address bytes ≡ Some after → poke address bytes k ≡ record k { ram = after }
+unfolding poke
+poked-is address bytes after k h = ap (λ (o : Option (List ℕ)). ram_or o k) h
 
-all_poked-bytes : (size : ℕ) (byte : ℕ → ℕ) (segments : List Loaded) (k : Kernel) → AllLie size byte segments
+all_poked-bytes : (size : ℕ) (byte : ℕ → ℕ) (segments : List Loaded) (k : Memory) → AllLie size byte segments
     → all_poked segments (record k { ram = bytes_from byte BASE size }) ≡ record k { ram = bytes_from (byte_over byte segments) BASE size }
 all_poked-bytes size byte [] k all = refl
 all_poked-bytes size byte (s ∷ segments) k all =
-    let before : Kernel = record k { ram = bytes_from byte BASE size } in
-    let one : poked s.address s.bytes before ≡ record k { ram = bytes_from (over s byte) BASE size } =
+    let before : Memory = record k { ram = bytes_from byte BASE size } in
+    let one : poke s.address s.bytes before ≡ record k { ram = bytes_from (over s byte) BASE size } =
     poked-is s.address s.bytes _ before
     (poked-bytes size s byte (first-lies size byte s segments all) (λ a c. all.quiet 0 a s refl c)) in
     ap (all_poked segments) one
@@ -243,7 +256,7 @@ all_poked-bytes size byte (s ∷ segments) k all =
     (same-bytes_from _ _ BASE size (λ a. byte_over-over s byte segments a (first-free size byte s segments a all)))
 
 -- an image that lies in RAM, put into zeros
-pub all_poked-image : (image : Contents) (k : Kernel) → IsSound image → list_any (passes_ram (length k.ram)) image.segments ≡ false
+pub all_poked-image : (image : Contents) (k : Memory) → IsSound image → list_any (passes_ram (length k.ram)) image.segments ≡ false
     → all_poked image.segments (record k { ram = replicate (length k.ram) 0 }) ≡ record k { ram = bytes_from (byte_at image) BASE (length k.ram) }
 all_poked-image image k sound inside =
     let size : ℕ = length k.ram in
@@ -258,5 +271,5 @@ unfolding replay
 replays_none s [] none = refl
 replays_none s (event ∷ events) none = absurd (omega arith)
 
-pub no_event-replay : (s : State) → length s.events ≡ 0 → IsReplayOf s s
-no_event-replay s none = record { replayed = replays_none s s.events none }
+pub no_event-replay : (s : State) → length s.journal ≡ 0 → IsReplayOf s s
+no_event-replay s none = record { replayed = replays_none s s.journal none }

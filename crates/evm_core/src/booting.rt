@@ -1,75 +1,60 @@
 ghost use Rattle.std.specs.Prelude.{◌≡◌, ◌≤◌, [], ◌∷◌, replicate, IfOk, Option, false};
-ghost use Rattle.evm_model.specs.State.{booted, booted_cpu, idle_log, first_task, no_counts};
+ghost use Rattle.evm_model.specs.Harts.{first_hart};
+ghost use Rattle.evm_model.specs.Pipes.{idle_pipe};
+ghost use Rattle.evm_model.specs.State.{booted, booted_parts, first_processor, first_task};
 ghost use Rattle.evm_model.specs.Replay.{bad_boot, BootAnswers};
 
-use crate::kernel::Kernel;
+use crate::board::Board;
 use crate::machine::Machine;
+use crate::memory::Memory;
+use arrayvec::ArrayVec;
+use evm_breaks::Breakpoints;
 use evm_exec::Hart;
-use evm_lines::{LINE_COUNT, LINES, LineSet};
-use evm_model::{Boot, Class, Counts, Cpu, Log, Passage, Task, TaskState};
-use evm_ram::{BASE, NoMemory, Ram, Refusal};
+use evm_model::{
+    Boot, CAPACITY_LIMIT, Class, PROCESSOR_LIMIT, Processor, RAM_LEAST, RAM_UNIT, Task, TaskState,
+};
+use evm_parts::Parts;
+use evm_pipe::Pipe;
+use evm_ram::{BASE, NoMemory, Ram, Refusal, SIZE_LIMIT};
+use evm_task::{Harts, Tasks};
 use std::alloc::Global;
 
 fn is_bad(boot: &Boot) -> bool
     ensures { result ≡ bad_boot boot.now }
 {
     boot.cpus == 0
-        || boot.cpus > 8
-        || boot.ram < 65536
-        || boot.ram > 16777216
-        || boot.ram % 4096 != 0
+        || boot.cpus > PROCESSOR_LIMIT as u64
+        || boot.ram < RAM_LEAST
+        || boot.ram > SIZE_LIMIT
+        || boot.ram % RAM_UNIT != 0
         || boot.capacity == 0
-        || boot.capacity > 1048576
+        || boot.capacity > CAPACITY_LIMIT
 }
 
-fn idle_log_of() -> Log
-    ensures { result ≡ idle_log }
+fn processor_with(task: Option<u8>) -> Processor
+    ensures { result ≡ first_processor task }
 {
-    Log {
-        stalled: false,
-        lines: LineSet::new(),
-    }
-}
-
-fn cpu_with(task: Option<u8>) -> Cpu
-    ensures { result ≡ booted_cpu task }
-{
-    Cpu {
+    Processor {
         current: task,
-        in_band: task,
-        oob: idle_log_of(),
-        inband: idle_log_of(),
-        wire: LineSet::new(),
+        in_band_task: task,
         stopped: false,
         skip: false,
     }
 }
 
-fn no_counts_yet() -> Counts
-    ensures { result ≡ no_counts }
-{
-    let passage = Passage {
-        arrivals: 0,
-        merged: 0,
-        played: 0,
-    };
-    Counts {
-        raised: 0,
-        merged: 0,
-        received: 0,
-        oob: passage,
-        inband: passage,
-    }
-}
-
-fn task_zero(ram: u64) -> Task
-    requires { ram ≤ 16777216 }
-    ensures { result ≡ first_task ram }
+fn hart_zero(ram: u64) -> Hart
+    requires { ram ≤ SIZE_LIMIT }
+    ensures { result ≡ first_hart ram }
 {
     let mut regs = [0; 32];
     regs[2] = BASE + ram;
+    Hart { regs, pc: BASE }
+}
+
+fn task_zero() -> Task
+    ensures { result ≡ first_task }
+{
     Task {
-        hart: Hart { regs, pc: BASE },
         cpu: 0,
         class: Class::Unattached,
         priority: 0,
@@ -78,61 +63,65 @@ fn task_zero(ram: u64) -> Task
     }
 }
 
-// Task 0, with room for all tasks.
-fn tasks_of(alloc: Global, ram: u64) -> Result<Vec<Task>, NoMemory>
-    requires { ram ≤ 16777216 }
-    ensures { IfOk result (λ tasks. tasks.items ≡ first_task ram ∷ []) }
-{
-    let Ok(mut tasks) = Vec::with_capacity(alloc, 64) else {
-        return Err(NoMemory);
-    };
-    match tasks.push(task_zero(ram)) {
-        Ok(()) => Ok(tasks),
-        Err(_) => Err(NoMemory),
-    }
-}
-
+// Processors that idle.
 #[tactic(auto, using(crate::proofs::Lists::one_more))]
-fn cpus_of(alloc: Global, count: u64) -> Result<Vec<Cpu>, NoMemory>
-    ensures { IfOk result (λ cpus. cpus.items ≡ replicate count (booted_cpu Option.None)) }
+fn processors_of(count: u64) -> ArrayVec<Processor, PROCESSOR_LIMIT>
+    requires { count ≤ PROCESSOR_LIMIT }
+    ensures { result.items ≡ replicate count (first_processor Option.None) }
 {
-    let mut cpus = Vec::new(alloc);
+    let mut processors = ArrayVec::new();
     for c in 0..count {
-        if cpus.push(cpu_with(None)).is_err() {
-            return Err(NoMemory);
-        }
+        processors.push(processor_with(None));
     }
-    Ok(cpus)
+    processors
 }
 
+// Pipes where nothing has happened.
 #[tactic(auto, using(crate::proofs::Lists::one_more))]
-fn counts_of(alloc: Global, count: u64) -> Result<Vec<[Counts; LINE_COUNT]>, NoMemory>
-    ensures { IfOk result (λ counts. counts.items ≡ replicate count (replicate LINE_COUNT no_counts)) }
+fn pipes_of(count: u64) -> ArrayVec<Pipe, PROCESSOR_LIMIT>
+    requires { count ≤ PROCESSOR_LIMIT }
+    ensures { result.items ≡ replicate count idle_pipe }
 {
-    let mut counts = Vec::new(alloc);
+    let mut pipes = ArrayVec::new();
     for c in 0..count {
-        if counts.push([no_counts_yet(); LINE_COUNT]).is_err() {
-            return Err(NoMemory);
-        }
+        pipes.push(Pipe::new());
     }
-    Ok(counts)
+    pipes
 }
 
-// The kernel at boot.
-#[tactic(auto, unfolding(evm_model::specs::State::booted))]
-fn kernel_of(alloc: Global, boot: &Boot) -> Result<Kernel, NoMemory>
+// The parts at boot: task 0 is current on processor 0.
+#[tactic(auto, unfolding(evm_model::specs::State::booted_parts))]
+fn parts_of(boot: &Boot) -> Parts
     requires { bad_boot boot.now ≡ false }
-    ensures { IfOk result (λ kernel. kernel ≡ booted boot.now LINES) }
+    ensures { result ≡ booted_parts boot.now }
 {
-    let ram = Ram::new(alloc, boot.ram)?;
-    let tasks = tasks_of(alloc, boot.ram)?;
-    let mut cpus = cpus_of(alloc, boot.cpus)?;
-    let first = cpu_with(Some(0));
-    if let Some(place) = cpus.get_mut(0) {
+    let mut processors = processors_of(boot.cpus);
+    let first = processor_with(Some(0));
+    if let Some(place) = processors.get_mut(0) {
         *place = first;
     }
-    let counts = counts_of(alloc, boot.cpus)?;
-    Ok(Kernel::new(ram, tasks, cpus, counts))
+    Parts {
+        ticks: 0,
+        harts: Harts::of_first(hart_zero(boot.ram)),
+        tasks: Tasks::of_first(task_zero()),
+        processors,
+        pipes: pipes_of(boot.cpus),
+        stamps: 1,
+    }
+}
+
+// All that events change, at boot.
+#[tactic(auto, unfolding(evm_model::specs::State::booted))]
+fn board_of(alloc: Global, boot: &Boot) -> Result<Board, NoMemory>
+    requires { bad_boot boot.now ≡ false }
+    ensures { IfOk result (λ board. board ≡ booted boot.now) }
+{
+    let ram = Ram::new(alloc, boot.ram)?;
+    Ok(Board {
+        memory: Memory::of_ram(ram),
+        breakpoints: Breakpoints::new(),
+        parts: parts_of(boot),
+    })
 }
 
 impl Machine {
@@ -151,9 +140,9 @@ impl Machine {
         if is_bad(&boot) {
             return Err(Refusal::BadSize);
         }
-        match kernel_of(alloc, &boot) {
+        match board_of(alloc, &boot) {
             Err(_) => Err(Refusal::NoMemory),
-            Ok(kernel) => Machine::of_kernel(alloc, boot, kernel),
+            Ok(board) => Machine::of_board(alloc, boot, board),
         }
     }
 }

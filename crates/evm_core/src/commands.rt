@@ -1,79 +1,60 @@
-ghost use Rattle.std.specs.Prelude.{◌≡◌, length, false};
-ghost use Rattle.evm_model.specs.Commands.{with_bits, ticked, timer_raised, register_set, pc_set, current};
+ghost use Rattle.std.specs.Prelude.{◌≡◌, ◌<◌, ◌≤◌, ◌^◌, map, false};
+ghost use Rattle.evm_model.specs.Bounds.{PipesUpTo};
+ghost use Rattle.evm_model.specs.Commands.{tick, set_bits, on_current};
+ghost use Rattle.evm_model.specs.Harts.{set_register, set_pc};
+ghost use Rattle.evm_model.specs.Pipes.{raise};
 ghost use Rattle.evm_model.specs.Refusals.{bad_register};
 
-use crate::kernel::Kernel;
 use evm_isa::Register;
+use evm_parts::Parts;
 
-impl Kernel {
-    /// Sets a processor's stop and skip bits.
-    #[tactic(auto, unfolding(evm_model::specs::Commands::with_bits))]
-    pub(crate) fn set_bits(&mut self, stop: bool, skip: bool, c: u8)
-        ensures { self.new ≡ with_bits stop skip c self.old }
-    {
-        if let Some(mut cpu) = self.cpu(c) {
-            cpu.stopped = stop;
-            cpu.skip = skip;
-            self.set_cpu(c, cpu);
-        }
+/// Sets a processor's stop and skip bits.
+#[tactic(auto, unfolding(evm_model::specs::Commands::set_bits))]
+pub(crate) fn set_bits(parts: &mut Parts, stopped: bool, skip: bool, c: u8)
+    ensures { parts.new ≡ set_bits stopped skip c parts.old }
+{
+    parts.set_bits(stopped, skip, c);
+}
+
+// Raises line 0 on every processor.
+fn raise_timers(parts: &mut Parts)
+    requires { PipesUpTo (2 ^ 61) parts.old.pipes }
+    ensures { parts.new ≡ record parts.old { pipes = map (raise 0) parts.old.pipes } }
+{
+    for c in 0..parts.pipe_count() {
+        parts.raise(c, 0);
     }
+}
 
-    /// The number of the task that a processor runs.
-    pub(crate) fn current(&self, c: u8) -> Option<u8>
-        ensures { result ≡ current c self.now }
-    {
-        match self.cpu(c) {
-            None => None,
-            Some(cpu) => cpu.current,
-        }
+/// The clock ticks: line 0 is raised on every processor.
+#[tactic(auto, unfolding(evm_model::specs::Commands::tick))]
+pub(crate) fn tick(parts: &mut Parts)
+    requires clock { parts.old.ticks < 2 ^ 63 }
+    requires room { PipesUpTo (2 ^ 61) parts.old.pipes }
+    ensures { parts.new ≡ tick parts.old }
+{
+    parts.ticks += 1;
+    raise_timers(parts);
+}
+
+/// Sets a register of a processor's current task.
+pub(crate) fn set_register(parts: &mut Parts, c: u8, r: u8, value: u64)
+    requires { bad_register r ≡ false }
+    ensures { parts.new ≡ on_current c (set_register r value) parts.old }
+{
+    let Some(register) = Register::new(r) else {
+        return;
+    };
+    if let Some(t) = parts.current(c) {
+        parts.harts.set_register(t, register, value);
     }
+}
 
-    /// The clock ticks: line 0 is raised on every processor.
-    #[tactic(auto, unfolding(evm_model::specs::Commands::ticked))]
-    pub(crate) fn tick(&mut self)
-        ensures { self.new ≡ ticked self.old }
-    {
-        self.count_tick();
-        self.raise_timer();
-    }
-
-    // Raises line 0 on every processor.
-    #[tactic(auto, using(crate::proofs::Timers::timers))]
-    fn raise_timer(&mut self)
-        ensures { self.new ≡ timer_raised 0 (length self.old.cpus) self.old }
-    {
-        for c in 0..self.cpu_count() {
-            self.raise(c, 0);
-        }
-    }
-
-    /// Sets a register of a processor's current task.
-    #[tactic(auto, unfolding(evm_model::specs::Commands::register_set))]
-    pub(crate) fn set_register(&mut self, c: u8, register: Register, value: u64)
-        ensures { self.new ≡ register_set c register value self.old }
-    {
-        if let Some(t) = self.current(c) {
-            self.write_register(t, register, value);
-        }
-    }
-
-    /// Sets the pc of a processor's current task.
-    #[tactic(auto, unfolding(evm_model::specs::Commands::pc_set))]
-    pub(crate) fn set_pc(&mut self, c: u8, pc: u64)
-        ensures { self.new ≡ pc_set c pc self.old }
-    {
-        if let Some(t) = self.current(c) {
-            self.write_pc(t, pc);
-        }
-    }
-
-    /// Sets the register of this number of a processor's current task.
-    pub(crate) fn set_numbered(&mut self, c: u8, r: u8, value: u64)
-        requires { bad_register r ≡ false }
-        ensures { self.new ≡ register_set c r value self.old }
-    {
-        if let Some(register) = Register::new(r) {
-            self.set_register(c, register, value);
-        }
+/// Sets the pc of a processor's current task.
+pub(crate) fn set_pc(parts: &mut Parts, c: u8, pc: u64)
+    ensures { parts.new ≡ on_current c (set_pc pc) parts.old }
+{
+    if let Some(t) = parts.current(c) {
+        parts.harts.set_pc(t, pc);
     }
 }

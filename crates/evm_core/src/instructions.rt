@@ -1,99 +1,92 @@
-ghost use Rattle.std.specs.Prelude.{◌≡◌};
-ghost use Rattle.evm_model.specs.State.{changed};
-ghost use Rattle.evm_model.specs.Instructions.{goes_on, left_in_band, faulted, stopped, done, executed, A0, NO_SUCH_CALL};
+ghost use Rattle.std.specs.Prelude.{◌≡◌, ◌^◌};
+ghost use Rattle.evm_model.specs.Good.{Good};
+ghost use Rattle.evm_model.specs.Instructions.{end_task, fault, stop, finish, execute};
+ghost use Rattle.evm_model.specs.Settle.{settle_and_nudge};
+ghost use Rattle.evm_model.specs.State.{on_parts};
+ghost use Rattle.evm_rules.proofs.Bounded.{AreWithin};
+ghost use Rattle.evm_rules.proofs.Private.{IsClear};
 
-use crate::kernel::Kernel;
-use evm_exec::{Effect, effect, load_width, loaded};
-use evm_isa::{Register, decode};
-use evm_model::TaskState;
-use evm_ram::Width;
+use crate::board::Board;
+use crate::quiet::{
+    advance_quietly, answer_quietly, jump_quietly, load_quietly, stop_quietly,
+};
+use crate::settle::settle_and_nudge;
+use evm_exec::{Effect, Hart, effect, load_width, loaded};
+use evm_isa::decode;
+use evm_model::{Errno, Fault, Stage, TaskState};
+use evm_parts::Parts;
 
-// What a call answers whose number is unknown: Linux's -ENOSYS.
-const NO_SUCH_CALL: u64 = 0u64.wrapping_sub(38);
+// A task ends: in-band isn't stalled on its processor afterwards, and it is in-band current no more.
+#[tactic(auto, unfolding(evm_model::specs::Instructions::end_task))]
+fn end_task(parts: &mut Parts, c: u8, t: u8, state: TaskState)
+    ensures { parts.new ≡ end_task c t state parts.old }
+{
+    parts.tasks.set_state(t, state);
+    parts.set_stall(c, Stage::InBand, false);
+    parts.set_in_band_task(c, None);
+}
 
-impl Kernel {
-    // Ends the in-band part of a processor's current task.
-    fn leave_in_band(&mut self, c: u8)
-        ensures { self.new ≡ left_in_band c self.old }
-    {
-        if let Some(mut cpu) = self.cpu(c) {
-            cpu.in_band = None;
-            cpu.inband.stalled = false;
-            self.set_cpu(c, cpu);
-        }
-    }
+// A task ends by a fault, and its processor settles.
+fn fault(parts: &mut Parts, c: u8, t: u8, reason: Fault)
+    requires { AreWithin (2 ^ 61) parts.old }
+    ensures { parts.new ≡ settle_and_nudge c (fault c t reason parts.old) }
+{
+    end_task(parts, c, t, TaskState::Faulted(reason));
+    settle_and_nudge(parts, c);
+}
 
-    /// Stops a processor.
-    #[tactic(auto, unfolding(evm_model::specs::Instructions::stopped))]
-    pub(crate) fn stop(&mut self, c: u8)
-        ensures { self.new ≡ stopped c self.old }
-    {
-        if let Some(mut cpu) = self.cpu(c) {
-            cpu.stopped = true;
-            self.set_cpu(c, cpu);
-        }
-    }
+/// Stops a processor.
+#[tactic(auto, unfolding(evm_model::specs::Instructions::stop))]
+pub(crate) fn stop(parts: &mut Parts, c: u8)
+    ensures { parts.new ≡ stop c parts.old }
+{
+    parts.stop(c);
+}
 
-    // A call is answered.
-    fn answer(&mut self, t: u8, value: u64)
-        ensures { self.new ≡ changed t (goes_on A0 value) self.old }
-    {
-        if let Some(a0) = Register::new(10) {
-            self.go_on(t, a0, value);
-        }
-    }
-
-    // A task ends by a fault.
-    #[tactic(auto, unfolding(evm_model::specs::Instructions::faulted))]
-    fn fault(&mut self, c: u8, t: u8, number: u8)
-        ensures { self.new ≡ faulted c t number self.old }
-    {
-        self.set_state(t, TaskState::Fault(number));
-        self.leave_in_band(c);
-    }
-
-    #[tactic(auto, unfolding(evm_model::specs::Instructions::done))]
-    fn execute(&mut self, c: u8, t: u8, effect: Effect)
-        ensures { self.new ≡ done effect c t self.old }
+impl Board {
+    // Does what an instruction does, and what follows on its processor. Where only registers, RAM or the stop
+    // bit change nothing follows: the rules that hold between events say so.
+    #[tactic(auto, unfolding(evm_model::specs::Instructions::finish))]
+    fn finish(&mut self, c: u8, t: u8, effect: Effect)
+        requires good { Good self.old.parts }
+        requires clear { IsClear c t self.old.parts }
+        requires room { AreWithin (2 ^ 61) self.old.parts }
+        ensures { self.new ≡ on_parts (settle_and_nudge c) (finish effect c t self.old) }
     {
         match effect {
-            Effect::Next { rd, value, pc } => self.go_to(t, rd, value, pc),
-            Effect::Load { op, rd, address } => match self.ram().read(address, load_width(op)) {
-                None => self.fault(c, t, 5),
-                Some(number) => self.go_on(t, rd, loaded(op, number)),
+            Effect::Next { rd, value, pc } => jump_quietly(&mut self.parts, c, t, rd, value, pc),
+            Effect::Load { op, rd, address } => match self.memory.read(address, load_width(op)) {
+                None => fault(&mut self.parts, c, t, Fault::Load),
+                Some(number) => load_quietly(&mut self.parts, c, t, rd, loaded(op, number)),
             },
             Effect::Store {
                 width,
                 address,
                 value,
-            } => match self.write(address, width, value) {
-                None => self.fault(c, t, 7),
-                Some(()) => self.pass_on(t),
+            } => match self.memory.write(address, width, value) {
+                None => fault(&mut self.parts, c, t, Fault::Store),
+                Some(()) => advance_quietly(&mut self.parts, c, t),
             },
-            Effect::Call => self.answer(t, NO_SUCH_CALL),
-            Effect::Break => {
-                self.pass_on(t);
-                self.stop(c);
-            }
-            Effect::Misaligned => self.fault(c, t, 0),
+            Effect::Call => answer_quietly(&mut self.parts, c, t, Errno::NoSuchCall.answer()),
+            Effect::Break => stop_quietly(&mut self.parts, c, t),
+            Effect::Misaligned => fault(&mut self.parts, c, t, Fault::Misaligned),
         }
     }
 
-    /// A task does the instruction at its pc.
-    #[tactic(auto, unfolding(evm_model::specs::Instructions::executed))]
-    pub(crate) fn run(&mut self, c: u8, t: u8)
-        ensures { self.new ≡ executed c t self.old }
+    /// A task does the instruction at its pc, and what follows on its processor.
+    #[tactic(auto, unfolding(evm_model::specs::Instructions::execute))]
+    pub(crate) fn execute(&mut self, hart: &Hart, c: u8, t: u8)
+        requires good { Good self.old.parts }
+        requires clear { IsClear c t self.old.parts }
+        requires room { AreWithin (2 ^ 61) self.old.parts }
+        ensures { self.new ≡ on_parts (settle_and_nudge c) (execute hart.now c t self.old) }
     {
-        let Some(task) = self.task(t) else {
-            return;
-        };
-        let Some(word) = self.ram().read(task.hart.pc, Width::Word) else {
-            return self.fault(c, t, 1);
+        let Some(word) = self.memory.fetch(hart.pc) else {
+            return fault(&mut self.parts, c, t, Fault::Fetch);
         };
         let Some(inst) = decode(word as u32) else {
-            return self.fault(c, t, 2);
+            return fault(&mut self.parts, c, t, Fault::Illegal);
         };
-        let done = effect(&inst, &task.hart);
-        self.execute(c, t, done);
+        self.finish(c, t, effect(&inst, hart));
     }
 }

@@ -1,13 +1,14 @@
-//! The machine: `apply` is one step of its definition, and its journal is the list of the accepted events.
+//! The machine: `apply` is one event of its definition, and its journal is the list of the accepted events.
 #![tactic(auto)]
 
+mod board;
 mod booting;
 mod commands;
 mod instructions;
-mod interrupts;
-mod kernel;
 mod loading;
 mod machine;
+mod memory;
+mod quiet;
 mod refusals;
 mod settle;
 mod step;
@@ -16,5 +17,3 @@ pub use evm_model::{Answer, Boot, Event};
 pub use evm_ram::Refusal;
 pub use machine::Machine;
 
-#[cfg(test)]
-mod tests;

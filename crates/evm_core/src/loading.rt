@@ -1,11 +1,12 @@
-ghost use Rattle.std.specs.Prelude.{◌≡◌, length, false};
+ghost use Rattle.std.specs.Prelude.{◌≡◌, ◌%◌, length, false};
 ghost use Rattle.std.specs.List.{list_any};
-ghost use Rattle.evm_elf.specs.Images.{byte_at};
-ghost use Rattle.evm_model.specs.Load.{loaded};
+ghost use Rattle.evm_image.specs.Images.{byte_at};
+ghost use Rattle.evm_model.specs.Load.{load, bytes_from};
 ghost use Rattle.evm_core.specs.Load.{passes_ram};
 
-use crate::kernel::Kernel;
-use evm_elf::{Image, Segment};
+use crate::board::Board;
+use crate::memory::Memory;
+use evm_image::{Image, Segment};
 use evm_ram::BASE;
 
 // Whether a byte of a segment lies past RAM of this many bytes.
@@ -16,12 +17,25 @@ fn passes_ram(size: u64, segment: &Segment) -> bool
     segment.memsz() != 0 && u128::from(BASE) + u128::from(size) < end
 }
 
-impl Kernel {
+impl Memory {
+    /// RAM has an image's bytes, and zeros elsewhere.
+    fn load(&mut self, image: &Image)
+        requires { list_any (passes_ram (length self.old.ram)) image.now.segments ≡ false }
+        ensures { self.new ≡ record self.old { ram = bytes_from (byte_at image.now) BASE (length self.old.ram) } }
+    {
+        self.clear();
+        for segment in image.segments() {
+            self.poke(segment.address(), segment.bytes());
+        }
+    }
+}
+
+impl Board {
     /// Whether a byte of an image's segments lies past RAM.
     pub(crate) fn lacks_room(&self, image: &Image) -> bool
-        ensures { result ≡ list_any (passes_ram (length self.now.ram)) image.now.segments }
+        ensures { result ≡ list_any (passes_ram (length self.now.memory.ram)) image.now.segments }
     {
-        let size = self.ram().size();
+        let size = self.memory.ram_size();
         image
             .segments()
             .iter()
@@ -29,14 +43,13 @@ impl Kernel {
     }
 
     /// RAM has an image's bytes, and zeros elsewhere, and task 0 begins at its entry.
+    #[tactic(auto, unfolding(evm_model::specs::Load::load))]
     pub(crate) fn load(&mut self, image: &Image)
-        requires { list_any (passes_ram (length self.old.ram)) image.now.segments ≡ false }
-        ensures { self.new ≡ loaded (byte_at image.now) image.now.entry self.old }
+        requires { list_any (passes_ram (length self.old.memory.ram)) image.now.segments ≡ false }
+        ensures loaded { self.new ≡ load (byte_at image.now) image.now.entry self.old }
+        ensures aligned { image.now.entry % 4 ≡ 0 }
     {
-        self.clear_ram();
-        for segment in image.segments() {
-            self.poke(segment.address(), segment.bytes());
-        }
-        self.write_pc(0, image.entry());
+        self.memory.load(image);
+        self.parts.harts.set_pc(0, image.entry());
     }
 }

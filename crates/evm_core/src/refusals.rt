@@ -1,9 +1,10 @@
-ghost use Rattle.std.specs.Prelude.{◌≡◌, length};
-ghost use Rattle.evm_model.specs.Refusals.{own_refusal, no_such_cpu, not_stopped, no_task, bad_register, misaligned, bad_bytes, bad_place, no_slot, cpu_refusal, line_refusal, stopped_refusal, register_refusal, pc_refusal, poke_refusal, break_refusal, unbreak_refusal};
+ghost use Rattle.std.specs.Prelude.{◌≡◌, if◌then◌else◌, not, Option, length};
+ghost use Rattle.evm_model.specs.Commands.{is_set};
+ghost use Rattle.evm_model.specs.Refusals.{board_refusal, no_such_cpu, no_such_line, not_stopped, no_task, bad_register, misaligned, bad_bytes, bad_place, no_slot};
 
-use crate::kernel::Kernel;
+use crate::board::Board;
 use evm_lines::LINES;
-use evm_model::Event;
+use evm_model::{BREAKPOINT_LIMIT, Event, POKE_LIMIT};
 use evm_ram::Refusal;
 
 fn is_misaligned(address: u64) -> bool
@@ -18,50 +19,50 @@ fn is_bad_register(r: u8) -> bool
     r == 0 || r >= 32
 }
 
-impl Kernel {
+impl Board {
     fn lacks_cpu(&self, c: u8) -> bool
         ensures { result ≡ no_such_cpu c self.now }
     {
-        self.cpu(c).is_none()
+        self.parts.processor(c).is_none()
     }
 
     fn runs(&self, c: u8) -> bool
         ensures { result ≡ not_stopped c self.now }
     {
-        match self.cpu(c) {
+        match self.parts.processor(c) {
             None => true,
-            Some(cpu) => !cpu.stopped,
+            Some(processor) => !processor.stopped,
         }
     }
 
     fn is_idle(&self, c: u8) -> bool
         ensures { result ≡ no_task c self.now }
     {
-        self.current(c).is_none()
+        self.parts.current(c).is_none()
     }
 
     fn lacks_bytes(&self, address: u64, bytes: &[u8]) -> bool
         ensures { result ≡ bad_bytes address (length bytes.now) self.now }
     {
         bytes.is_empty()
-            || bytes.len() > 64
-            || self.ram().bytes(address, bytes.len() as u64).is_none()
+            || bytes.len() > POKE_LIMIT
+            || self.memory.bytes(address, bytes.len() as u64).is_none()
     }
 
     fn is_bad_place(&self, address: u64) -> bool
         ensures { result ≡ bad_place address self.now }
     {
-        is_misaligned(address) || self.ram().bytes(address, 1).is_none()
+        is_misaligned(address) || self.memory.bytes(address, 1).is_none()
     }
 
     fn lacks_slot(&self, address: u64) -> bool
         ensures { result ≡ no_slot address self.now }
     {
-        self.breakpoint_count() >= 64 && !self.is_breakpoint(address)
+        self.breakpoint_count() >= BREAKPOINT_LIMIT && !self.is_breakpoint(address)
     }
 
     fn cpu_refusal(&self, c: u8) -> Option<Refusal>
-        ensures { result ≡ cpu_refusal c self.now }
+        ensures { result ≡ (if no_such_cpu c self.now then Option.Some Refusal.NoSuchCpu else Option.None) }
     {
         if self.lacks_cpu(c) {
             Some(Refusal::NoSuchCpu)
@@ -71,7 +72,7 @@ impl Kernel {
     }
 
     fn line_refusal(&self, c: u8, line: u8) -> Option<Refusal>
-        ensures { result ≡ line_refusal c line self.now }
+        ensures { result ≡ (if no_such_cpu c self.now then Option.Some Refusal.NoSuchCpu else (if no_such_line line then Option.Some Refusal.NoSuchLine else Option.None)) }
     {
         if self.lacks_cpu(c) {
             Some(Refusal::NoSuchCpu)
@@ -83,7 +84,7 @@ impl Kernel {
     }
 
     fn stopped_refusal(&self, c: u8) -> Option<Refusal>
-        ensures { result ≡ stopped_refusal c self.now }
+        ensures { result ≡ (if no_such_cpu c self.now then Option.Some Refusal.NoSuchCpu else (if not_stopped c self.now then Option.Some Refusal.NotStopped else Option.None)) }
     {
         if self.lacks_cpu(c) {
             Some(Refusal::NoSuchCpu)
@@ -95,7 +96,7 @@ impl Kernel {
     }
 
     fn register_refusal(&self, c: u8, r: u8) -> Option<Refusal>
-        ensures { result ≡ register_refusal c r self.now }
+        ensures { result ≡ (if no_such_cpu c self.now then Option.Some Refusal.NoSuchCpu else (if not_stopped c self.now then Option.Some Refusal.NotStopped else (if no_task c self.now then Option.Some Refusal.NoTask else (if bad_register r then Option.Some Refusal.BadRegister else Option.None)))) }
     {
         if self.lacks_cpu(c) {
             Some(Refusal::NoSuchCpu)
@@ -111,7 +112,7 @@ impl Kernel {
     }
 
     fn pc_refusal(&self, c: u8, pc: u64) -> Option<Refusal>
-        ensures { result ≡ pc_refusal c pc self.now }
+        ensures { result ≡ (if no_such_cpu c self.now then Option.Some Refusal.NoSuchCpu else (if not_stopped c self.now then Option.Some Refusal.NotStopped else (if no_task c self.now then Option.Some Refusal.NoTask else (if misaligned pc then Option.Some Refusal.BadAddress else Option.None)))) }
     {
         if self.lacks_cpu(c) {
             Some(Refusal::NoSuchCpu)
@@ -127,7 +128,7 @@ impl Kernel {
     }
 
     fn poke_refusal(&self, address: u64, bytes: &[u8]) -> Option<Refusal>
-        ensures { result ≡ poke_refusal address (length bytes.now) self.now }
+        ensures { result ≡ (if bad_bytes address (length bytes.now) self.now then Option.Some Refusal.BadAddress else Option.None) }
     {
         if self.lacks_bytes(address, bytes) {
             Some(Refusal::BadAddress)
@@ -137,7 +138,7 @@ impl Kernel {
     }
 
     fn break_refusal(&self, address: u64) -> Option<Refusal>
-        ensures { result ≡ break_refusal address self.now }
+        ensures { result ≡ (if bad_place address self.now then Option.Some Refusal.BadAddress else (if no_slot address self.now then Option.Some Refusal.NoSlot else Option.None)) }
     {
         if self.is_bad_place(address) {
             Some(Refusal::BadAddress)
@@ -149,7 +150,7 @@ impl Kernel {
     }
 
     fn unbreak_refusal(&self, address: u64) -> Option<Refusal>
-        ensures { result ≡ unbreak_refusal address self.now }
+        ensures { result ≡ (if bad_place address self.now then Option.Some Refusal.BadAddress else (if not (is_set self.now.breakpoints address) then Option.Some Refusal.NoBreakpoint else Option.None)) }
     {
         if self.is_bad_place(address) {
             Some(Refusal::BadAddress)
@@ -161,9 +162,9 @@ impl Kernel {
     }
 
     /// Why an event is refused that finds room in the journal: the first reason by its number.
-    #[tactic(auto, unfolding(evm_model::specs::Refusals::own_refusal))]
+    #[tactic(auto, unfolding(evm_model::specs::Refusals::board_refusal))]
     pub(crate) fn refusal(&self, event: &Event) -> Option<Refusal>
-        ensures { result ≡ own_refusal event.now self.now }
+        ensures { result ≡ board_refusal event.now self.now }
     {
         match event {
             Event::Tick => None,

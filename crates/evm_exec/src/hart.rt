@@ -36,3 +36,13 @@ impl Hart {
         }
     }
 }
+
+impl Default for Hart {
+    /// All registers and the pc are 0.
+    fn default() -> Self {
+        Hart {
+            regs: [0; 32],
+            pc: 0,
+        }
+    }
+}

@@ -1,5 +1,5 @@
 -- Laws of the sets of `Lines`.
-use Rattle.std.proofs.Common.{◌≡◌, ◌≢◌, ℕ, zero, suc, ◌+◌, ◌*◌, ◌/◌, ◌%◌, ◌^◌, ◌<◌, ◌≤◌, Bool, true, false, cond, not, ◌||◌, ◌&&◌, nat_eq, ◌⊎◌, inl, inr, List, [], ◌∷◌, filter, sum_by, Some, refl, sym, ap, ◌∙◌, subst, arith}
+use Rattle.std.proofs.Common.{◌≡◌, ◌≢◌, ℕ, zero, suc, ◌+◌, ◌*◌, ◌/◌, ◌%◌, ◌^◌, ◌<◌, ◌≤◌, Bool, true, false, cond, length, not, ◌||◌, ◌&&◌, nat_eq, ◌⊎◌, inl, inr, List, [], ◌∷◌, filter, sum_by, Some, refl, sym, ap, ◌∙◌, subst, arith}
 use Rattle.std.proofs.lemmas.Bool.Decides.{nat_tests}
 use Rattle.std.proofs.lemmas.List.FromFn.{get_or-range_with_len, length-range_with_len}
 use Rattle.std.proofs.lemmas.List.Kept.{IsStrictlyIncreasing-filter}
@@ -247,3 +247,16 @@ without_line-popped (first ∷ rest) l is e =
     let same : first ≡ l = cc in
     let others : without_line (first ∷ rest) first ≡ rest = without_line-least first rest is in
     rw (← same) (ap (λ x. first ∷ x) (sym others))
+
+-- ---- how many lines a set has
+length-kept : (kept : Bool) (l n : ℕ) (set : List ℕ) → length set ≤ n → length (cond kept (l ∷ set) set) ≤ n + 1
+length-kept true l n set h = omega arith
+length-kept false l n set h = omega arith
+
+length-filter_le : (test : ℕ → Bool) (set : List ℕ) → length (filter test set) ≤ length set
+length-filter_le test [] = omega arith
+length-filter_le test (l ∷ set) = let h = length-kept (test l) l (length set) (filter test set) (length-filter_le test set) in omega (arith, h)
+
+pub length-lines_of : (word : ℕ) → length (lines_of word) ≤ LINES
+unfolding lines_of all_lines
+length-lines_of word = omega (arith, length-filter_le (λ l. nat_eq (bit_at word l) 1) (range_with_len 0 LINES), length-range_with_len 0 LINES)

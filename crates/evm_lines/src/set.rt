@@ -1,4 +1,4 @@
-ghost use Rattle.std.specs.Prelude.{◌≡◌, ◌<◌, ◌^◌, ◌↔◌, [], ◌∷◌, IsTrue, IfSome, MatchOption};
+ghost use Rattle.std.specs.Prelude.{◌≡◌, ◌<◌, ◌≤◌, length, ◌^◌, ◌↔◌, [], ◌∷◌, IsTrue, IfSome, MatchOption};
 ghost use Rattle.evm_lines.specs.Lines.{has_line, has_none, least_line, with_line, without_line, word_of, IsLineSet};
 
 use crate::LINES;
@@ -42,6 +42,8 @@ impl LineSet {
     pub fn is_empty(self) -> bool
         ensures test { result ≡ has_none self }
         ensures empty { IsTrue result ↔ (self ≡ []) }
+        // it has no more lines than there are
+        ensures few { length self ≤ LINES }
     {
         self.word == 0
     }

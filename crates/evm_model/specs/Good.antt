@@ -43,6 +43,8 @@ pub record IsSettled (c : ℕ) (pipe : Pipe) (p : Processor) (tasks : List Task)
   pub oob_played : pipe.oob.stalled ≡ false → pipe.oob.lines ≡ []
   -- an in-band log only while that stage is stalled or an out-of-band task is current
   pub in_band_played : pipe.inband.stalled ≡ false → is_oob p.current tasks ≡ false → pipe.inband.lines ≡ []
+  -- no call stalls out-of-band
+  pub oob_open : pipe.oob.stalled ≡ false
   -- a stage is stalled only by a current task of it
   pub oob_staller : pipe.oob.stalled ≡ true → is_oob p.current tasks ≡ true
   pub in_band_staller : pipe.inband.stalled ≡ true → p.in_band_task ≡ None → ⊥

@@ -10,3 +10,15 @@ pub struct Processor {
     /// The breakpoint at its pc is passed once.
     pub skip: bool,
 }
+
+impl Default for Processor {
+    /// A processor that idles.
+    fn default() -> Self {
+        Processor {
+            current: None,
+            in_band_task: None,
+            stopped: false,
+            skip: false,
+        }
+    }
+}

@@ -46,3 +46,16 @@ pub struct Task {
     pub stamp: u64,
     pub state: TaskState,
 }
+
+impl Default for Task {
+    /// An unattached in-band task of processor 0.
+    fn default() -> Self {
+        Task {
+            cpu: 0,
+            class: Class::Unattached,
+            priority: 0,
+            stamp: 0,
+            state: TaskState::InReady,
+        }
+    }
+}

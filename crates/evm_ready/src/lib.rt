@@ -1,6 +1,9 @@
-//! Which task a processor should run, and a note of whether one is ready out-of-band.
+//! Which task a processor should run.
 #![tactic(auto)]
 
 mod ready;
 
-pub use ready::{best_of, next_in_band_of, notes_oob, runs_some_oob};
+pub use ready::{best_of, next_in_band_of};
+
+#[cfg(test)]
+mod tests;

@@ -1,13 +1,15 @@
-ghost use Rattle.std.specs.Prelude.{◌≡◌, ◌≤◌, ◌||◌, length};
-ghost use Rattle.evm_model.specs.Ranks.{best, next_in_band, rank, leader, goes_before, is_oob_ready};
-ghost use Rattle.evm_ready.specs.Noted.{some_oob};
+ghost use Rattle.std.specs.Prelude.{◌≡◌, ◌≤◌, length};
+ghost use Rattle.evm_model.specs.Ranks.{best, next_in_band, rank, stamp, leader, goes_before, runs_oob, runs_in_band};
 
-use evm_model::{Candidate, Class, Task, TaskState};
+use evm_model::{Class, TASK_LIMIT, Task, TaskState};
 
-// A task's rank.
-fn rank_of(task: &Task) -> u16
-    ensures { result ≡ rank task.now }
+// The rank of the task of a number.
+fn rank_at(tasks: &[Task], t: u8) -> u16
+    ensures { result ≡ rank tasks.now t }
 {
+    let Some(task) = tasks.get(t as usize) else {
+        return 0;
+    };
     match task.class {
         Class::Unattached => 0,
         Class::Fifo | Class::RoundRobin => 100 + u16::from(task.priority),
@@ -15,88 +17,108 @@ fn rank_of(task: &Task) -> u16
     }
 }
 
-fn goes_first(a: &Candidate, b: &Candidate) -> bool
-    ensures { result ≡ goes_before a.now b.now }
+fn stamp_at(tasks: &[Task], t: u8) -> u64
+    ensures { result ≡ stamp tasks.now t }
 {
-    if b.rank < a.rank {
+    match tasks.get(t as usize) {
+        None => 0,
+        Some(task) => task.stamp,
+    }
+}
+
+// Whether task t goes before task u: the greater rank, and of one rank the lesser stamp.
+fn is_before(tasks: &[Task], t: u8, u: u8) -> bool
+    ensures { result ≡ goes_before (rank tasks.now) (stamp tasks.now) t u }
+{
+    let first = rank_at(tasks, t);
+    let second = rank_at(tasks, u);
+    if second < first {
         true
-    } else if a.rank < b.rank {
+    } else if first < second {
         false
     } else {
-        a.stamp < b.stamp
+        stamp_at(tasks, t) < stamp_at(tasks, u)
     }
 }
 
 // Of the one that leads so far and another, the one that goes first.
-fn leading(first: Option<Candidate>, other: Candidate) -> Option<Candidate>
-    ensures { result ≡ leader first other }
+fn leader_of(tasks: &[Task], leading: Option<u8>, t: u8) -> u8
+    ensures { result ≡ leader (rank tasks.now) (stamp tasks.now) leading t }
 {
-    match first {
-        None => Some(other),
-        Some(first) => {
-            if goes_first(&other, &first) {
-                Some(other)
+    match leading {
+        None => t,
+        Some(u) => {
+            if is_before(tasks, t, u) {
+                t
             } else {
-                Some(first)
+                u
             }
         }
     }
 }
 
-/// Whether a task is ready out-of-band.
-pub fn runs_some_oob(tasks: &[Task]) -> bool
-    ensures { result ≡ some_oob tasks.now }
+// Of the one that leads so far and another, the one of lesser stamp.
+fn least_stamped_of(tasks: &[Task], leading: Option<u8>, t: u8) -> u8
+    ensures { result ≡ leader (λ _. 0) (stamp tasks.now) leading t }
 {
-    tasks.iter().any(|task| task.state == TaskState::OobReady)
+    match leading {
+        None => t,
+        Some(u) => {
+            if stamp_at(tasks, t) < stamp_at(tasks, u) {
+                t
+            } else {
+                u
+            }
+        }
+    }
 }
 
-/// Whether a task may be ready out-of-band, where this says so of the others and one has this state.
-pub fn notes_oob(others: bool, state: &TaskState) -> bool
-    ensures { result ≡ (others || is_oob_ready state.now) }
+fn may_run_oob(tasks: &[Task], c: u8, t: u8) -> bool
+    ensures { result ≡ runs_oob c tasks.now t }
 {
-    others || *state == TaskState::OobReady
+    match tasks.get(t as usize) {
+        None => false,
+        Some(task) => task.state == TaskState::OobReady && task.cpu == c,
+    }
 }
 
-/// The number of the out-of-band task that processor c should run.
-#[tactic(auto, unfolding(evm_model::specs::Ranks::best))]
+fn may_run_in_band(tasks: &[Task], c: u8, t: u8) -> bool
+    ensures { result ≡ runs_in_band c tasks.now t }
+{
+    match tasks.get(t as usize) {
+        None => false,
+        Some(task) => task.state == TaskState::InReady && task.cpu == c,
+    }
+}
+
+/// The number of the out-of-band task that processor c should run: of those that are ready there, the one of
+/// greatest rank, then of least stamp.
+#[tactic(auto, using(crate::proofs::Scans::scans), unfolding(evm_model::specs::Ranks::best))]
 pub fn best_of(c: u8, tasks: &[Task]) -> Option<u8>
-    requires { length tasks.now ≤ 64 }
+    requires { length tasks.now ≤ TASK_LIMIT }
     ensures { result ≡ best c tasks.now }
 {
-    let mut first = None;
-    let mut number = 0;
-    for task in tasks {
-        if task.state == TaskState::OobReady && task.cpu == c {
-            let other = Candidate {
-                number,
-                rank: rank_of(task),
-                stamp: task.stamp,
-            };
-            first = leading(first, other);
+    let mut leading = None;
+    for t in 0..tasks.len() as u8 {
+        if may_run_oob(tasks, c, t) {
+            leading = Some(leader_of(tasks, leading, t));
         }
-        number += 1;
     }
-    first.map(|x| x.number)
+    leading
 }
 
-/// The number of the in-band task that processor c should take up.
-#[tactic(auto, unfolding(evm_model::specs::Ranks::next_in_band))]
+/// The number of the in-band task that processor c should take up: of those that are ready there, the one of
+/// least stamp.
+#[tactic(auto, using(crate::proofs::Scans::scans), unfolding(evm_model::specs::Ranks::next_in_band))]
 pub fn next_in_band_of(c: u8, tasks: &[Task]) -> Option<u8>
-    requires { length tasks.now ≤ 64 }
+    requires { length tasks.now ≤ TASK_LIMIT }
     ensures { result ≡ next_in_band c tasks.now }
 {
-    let mut first = None;
-    let mut number = 0;
-    for task in tasks {
-        if task.state == TaskState::InReady && task.cpu == c {
-            let other = Candidate {
-                number,
-                rank: 0,
-                stamp: task.stamp,
-            };
-            first = leading(first, other);
+    let mut leading = None;
+    for t in 0..tasks.len() as u8 {
+        if may_run_in_band(tasks, c, t) {
+            leading = Some(least_stamped_of(tasks, leading, t));
         }
-        number += 1;
     }
-    first.map(|x| x.number)
+    leading
 }

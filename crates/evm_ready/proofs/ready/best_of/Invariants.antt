@@ -1,10 +1,7 @@
-use Rattle.std.proofs.Common.{◌≡◌, drop, None}
-use Rattle.evm_model.specs.Ranks.{first_of, runs_oob, rank}
+use Rattle.std.proofs.Common.{◌≡◌}
+use Rattle.evm_model.specs.Ranks.{first, runs_oob, rank, stamp}
 use Rattle.evm_ready.proofs.ready.best_of.Given as goal
 
--- the one that leads so far, and the tasks that are left, give the one that all of them give
-abbrev pub invariant-loop-task : goal.invariant-loop-task
-invariant-loop-task l = record {
-  counted : l.number ≡ l.task-index;
-  led : first_of (runs_oob l.c) rank l.first l.number (drop l.task-index l.tasks) ≡ first_of (runs_oob l.c) rank None 0 l.tasks;
-}
+-- the one that leads is the first of those so far
+abbrev pub invariant-loop-t : goal.invariant-loop-t
+invariant-loop-t l = l.leading ≡ first (runs_oob l.c l.tasks) (rank l.tasks) (stamp l.tasks) l.t

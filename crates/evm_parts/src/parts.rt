@@ -1,0 +1,195 @@
+ghost use Rattle.std.specs.Prelude.{◌≡◌, ◌<◌, ◌≤◌, ◌-◌, ◌^◌, true, false, length, slice_get, option_copied, Option};
+ghost use Rattle.evm_model.specs.Bounds.{PipesUpTo};
+ghost use Rattle.evm_model.specs.Pipes.{raise, arrive, receive, play, set_stall};
+ghost use Rattle.evm_model.specs.Settle.{current};
+ghost use Rattle.evm_model.specs.State.{on_pipe, on_processor};
+
+use arrayvec::ArrayVec;
+use evm_lines::LINES;
+use evm_model::{PROCESSOR_LIMIT, Processor, Stage};
+use evm_pipe::Pipe;
+use evm_task::{Harts, Tasks};
+use std::marker::Model;
+
+/// What calls may change. No field can grow past the room that it has from the start.
+#[derive(Debug, Drop)]
+pub struct Parts {
+    /// How many ticks there were.
+    pub ticks: u64,
+    /// The registers and pc of each task.
+    pub harts: Harts,
+    /// What the scheduler knows of each task.
+    pub tasks: Tasks,
+    /// What each processor runs.
+    pub processors: ArrayVec<Processor, PROCESSOR_LIMIT>,
+    /// The interrupts of each processor.
+    pub pipes: ArrayVec<Pipe, PROCESSOR_LIMIT>,
+    /// The stamp that is given next.
+    pub stamps: u64,
+}
+
+impl Model for Parts {
+    ghost use Rattle.evm_model.specs.State as model;
+
+    ghost Value = { model.Parts };
+
+    ghost view = { λ k. record {
+      ticks = k.ticks;
+      harts = k.harts;
+      tasks = k.tasks;
+      processors = k.processors.items;
+      pipes = k.pipes.items;
+      stamps = k.stamps;
+    } };
+}
+
+impl Parts {
+    /// How many processors there are, 8 at the most.
+    pub fn processor_count(&self) -> u8
+        ensures count { result ≡ length self.now.processors }
+        ensures limit { result ≤ PROCESSOR_LIMIT }
+    {
+        self.processors.len() as u8
+    }
+
+    /// The same number, of their pipes.
+    pub fn pipe_count(&self) -> u8
+        ensures count { result ≡ length self.now.pipes }
+        ensures limit { result ≤ PROCESSOR_LIMIT }
+    {
+        self.pipes.len() as u8
+    }
+
+    /// What a processor runs.
+    pub fn processor(&self, c: u8) -> Option<Processor>
+        ensures { result ≡ slice_get self.now.processors c }
+    {
+        self.processors.as_slice().get(c as usize).copied()
+    }
+
+    /// The interrupts of a processor.
+    pub fn pipe(&self, c: u8) -> Option<&Pipe>
+        ensures { option_copied result ≡ slice_get self.now.pipes c }
+    {
+        self.pipes.as_slice().get(c as usize)
+    }
+
+    /// The number of the task that a processor runs.
+    pub fn current(&self, c: u8) -> Option<u8>
+        ensures { result ≡ current c self.now }
+    {
+        match self.processors.as_slice().get(c as usize) {
+            None => None,
+            Some(processor) => processor.current,
+        }
+    }
+
+    /// Makes a task current on a processor, or none.
+    pub fn set_current(&mut self, c: u8, task: Option<u8>)
+        ensures { self.new ≡ on_processor c (λ p. record p { current = task }) self.old }
+    {
+        if let Some(processor) = self.processors.get_mut(c as usize) {
+            processor.current = task;
+        }
+    }
+
+    /// Sets or clears the in-band current task of a processor.
+    pub fn set_in_band_task(&mut self, c: u8, task: Option<u8>)
+        ensures { self.new ≡ on_processor c (λ p. record p { in_band_task = task }) self.old }
+    {
+        if let Some(processor) = self.processors.get_mut(c as usize) {
+            processor.in_band_task = task;
+        }
+    }
+
+    /// The task that a processor runs on both stages: its in-band current task, or none.
+    pub fn run_in_band(&mut self, c: u8, task: Option<u8>)
+        ensures { self.new ≡ on_processor c (λ p. record p { current = task; in_band_task = task }) self.old }
+    {
+        if let Some(processor) = self.processors.get_mut(c as usize) {
+            processor.current = task;
+            processor.in_band_task = task;
+        }
+    }
+
+    /// A processor is stopped.
+    pub fn stop(&mut self, c: u8)
+        ensures { self.new ≡ on_processor c (λ p. record p { stopped = true }) self.old }
+    {
+        if let Some(processor) = self.processors.get_mut(c as usize) {
+            processor.stopped = true;
+        }
+    }
+
+    /// The breakpoint at a processor's pc isn't passed any more.
+    pub fn clear_skip(&mut self, c: u8)
+        ensures { self.new ≡ on_processor c (λ p. record p { skip = false }) self.old }
+    {
+        if let Some(processor) = self.processors.get_mut(c as usize) {
+            processor.skip = false;
+        }
+    }
+
+    /// A processor has these stop and skip bits.
+    pub fn set_bits(&mut self, stopped: bool, skip: bool, c: u8)
+        ensures { self.new ≡ on_processor c (λ p. record p { stopped = stopped; skip = skip }) self.old }
+    {
+        if let Some(processor) = self.processors.get_mut(c as usize) {
+            processor.stopped = stopped;
+            processor.skip = skip;
+        }
+    }
+
+    /// Raises a line of a processor.
+    pub fn raise(&mut self, c: u8, line: u8)
+        requires line { line < LINES }
+        requires room { PipesUpTo (2 ^ 63) self.old.pipes }
+        ensures { self.new ≡ on_pipe c (raise line) self.old }
+    {
+        if let Some(pipe) = self.pipes.get_mut(c as usize) {
+            pipe.raise(line);
+        }
+    }
+
+    /// Takes a line from a processor's wire into the log of its stage.
+    pub fn receive(&mut self, c: u8, line: u8)
+        requires line { line < LINES }
+        requires room { PipesUpTo (2 ^ 63 - 1) self.old.pipes }
+        ensures { self.new ≡ on_pipe c (receive line) self.old }
+    {
+        if let Some(pipe) = self.pipes.get_mut(c as usize) {
+            pipe.receive(line);
+        }
+    }
+
+    /// Puts a line into the log of a stage of a processor.
+    pub fn arrive(&mut self, c: u8, stage: Stage, line: u8)
+        requires line { line < LINES }
+        requires room { PipesUpTo (2 ^ 63) self.old.pipes }
+        ensures { self.new ≡ on_pipe c (arrive stage line) self.old }
+    {
+        if let Some(pipe) = self.pipes.get_mut(c as usize) {
+            pipe.arrive(stage, line);
+        }
+    }
+
+    /// Takes a line from the log of a stage of a processor, to be played.
+    pub fn play(&mut self, c: u8, stage: Stage, line: u8)
+        requires line { line < LINES }
+        requires room { PipesUpTo (2 ^ 63) self.old.pipes }
+        ensures { self.new ≡ on_pipe c (play stage line) self.old }
+    {
+        if let Some(pipe) = self.pipes.get_mut(c as usize) {
+            pipe.play(stage, line);
+        }
+    }
+
+    /// Stalls a stage of a processor, or lets it go on.
+    pub fn set_stall(&mut self, c: u8, stage: Stage, stalled: bool)
+        ensures { self.new ≡ on_pipe c (set_stall stage stalled) self.old }
+    {
+        if let Some(pipe) = self.pipes.get_mut(c as usize) {
+            pipe.set_stall(stage, stalled);
+        }
+    }
+}

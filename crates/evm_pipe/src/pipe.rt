@@ -1,0 +1,188 @@
+ghost use Rattle.std.specs.Prelude.{◌≡◌, ◌<◌, ◌-◌, ◌^◌, slice_get, IfSome};
+ghost use Rattle.evm_lines.specs.Lines.{has_line, has_none, least_line};
+ghost use Rattle.evm_model.specs.Bounds.{PipeUpTo};
+ghost use Rattle.evm_model.specs.Pipes.{idle_pipe, idle_log, no_counts, stage_of, log_of, raise, arrive, leave_wire, receive, play, set_stall};
+
+use crate::counting::{arrive_in, play_in, raise_in, receive_in};
+use evm_lines::{LINE_COUNT, LINES, LineSet};
+use evm_model::{Counts, Passage, Stage, StageLog};
+use std::marker::Model;
+
+/// The pipe of one processor.
+#[derive(Debug, Drop)]
+pub struct Pipe {
+    oob: StageLog,
+    inband: StageLog,
+    wire: LineSet,
+    counts: [Counts; LINE_COUNT],
+}
+
+impl Model for Pipe {
+    ghost use Rattle.evm_model.specs.Pipes as model;
+
+    ghost Value = { model.Pipe };
+
+    ghost view = { λ p. record { oob = p.oob; inband = p.inband; wire = p.wire; counts = p.counts } };
+}
+
+// The stage that receives a line: lines 0 and 1 are the out-of-band stage's.
+fn stage_of(line: u8) -> Stage
+    ensures { result ≡ stage_of line }
+{
+    if line < 2 {
+        Stage::OutOfBand
+    } else {
+        Stage::InBand
+    }
+}
+
+fn idle_log() -> StageLog
+    ensures { result ≡ idle_log }
+{
+    StageLog {
+        stalled: false,
+        lines: LineSet::new(),
+    }
+}
+
+fn no_counts() -> Counts
+    ensures { result ≡ no_counts }
+{
+    let passage = Passage {
+        arrivals: 0,
+        merged: 0,
+        played: 0,
+    };
+    Counts {
+        raised: 0,
+        merged: 0,
+        received: 0,
+        oob: passage,
+        inband: passage,
+    }
+}
+
+impl Pipe {
+    /// A pipe where nothing has happened.
+    pub fn new() -> Pipe
+        ensures { result ≡ idle_pipe }
+    {
+        Pipe {
+            oob: idle_log(),
+            inband: idle_log(),
+            wire: LineSet::new(),
+            counts: [no_counts(); LINE_COUNT],
+        }
+    }
+
+    /// The lines that were raised and not yet received.
+    pub fn wire(&self) -> LineSet
+        ensures { result ≡ self.now.wire }
+    {
+        self.wire
+    }
+
+    /// The log of a stage.
+    pub fn log(&self, stage: Stage) -> StageLog
+        ensures { result ≡ log_of stage self.now }
+    {
+        match stage {
+            Stage::OutOfBand => self.oob,
+            Stage::InBand => self.inband,
+        }
+    }
+
+    /// How often what happened to a line; None where there is no such line.
+    pub fn counts(&self, line: u8) -> Option<Counts>
+        ensures { result ≡ slice_get self.now.counts line }
+    {
+        self.counts.get(line as usize).copied()
+    }
+
+    /// Puts a line on the wire, or merges it with itself there.
+    #[tactic(auto, unfolding(evm_model::specs::Pipes::raise))]
+    pub fn raise(&mut self, line: u8)
+        requires line { line < LINES }
+        requires room { PipeUpTo (2 ^ 63) self.old }
+        ensures { self.new ≡ raise line self.old }
+    {
+        let merged = self.wire.contains(line);
+        self.wire.insert(line);
+        raise_in(&mut self.counts, line, merged);
+    }
+
+    /// Puts a line into the log of a stage, or merges it with itself there.
+    #[tactic(auto, unfolding(evm_model::specs::Pipes::arrive))]
+    pub fn arrive(&mut self, stage: Stage, line: u8)
+        requires line { line < LINES }
+        requires room { PipeUpTo (2 ^ 63) self.old }
+        ensures { self.new ≡ arrive stage line self.old }
+    {
+        match stage {
+            Stage::OutOfBand => {
+                let merged = self.oob.lines.contains(line);
+                self.oob.lines.insert(line);
+                arrive_in(&mut self.counts, stage, line, merged);
+            }
+            Stage::InBand => {
+                let merged = self.inband.lines.contains(line);
+                self.inband.lines.insert(line);
+                arrive_in(&mut self.counts, stage, line, merged);
+            }
+        }
+    }
+
+    // Takes a line from the wire.
+    #[tactic(auto, unfolding(evm_model::specs::Pipes::leave_wire))]
+    fn leave_wire(&mut self, line: u8)
+        requires line { line < LINES }
+        requires room { PipeUpTo (2 ^ 63) self.old }
+        ensures { self.new ≡ leave_wire line self.old }
+    {
+        self.wire.remove(line);
+        receive_in(&mut self.counts, line);
+    }
+
+    /// Takes a line from the wire into the log of its stage.
+    #[tactic(auto, using(crate::proofs::Growing::leave_wire_grows), unfolding(evm_model::specs::Pipes::receive))]
+    pub fn receive(&mut self, line: u8)
+        requires line { line < LINES }
+        requires room { PipeUpTo (2 ^ 63 - 1) self.old }
+        ensures { self.new ≡ receive line self.old }
+    {
+        self.leave_wire(line);
+        self.arrive(stage_of(line), line);
+    }
+
+    /// Takes a line from the log of a stage, to be played.
+    #[tactic(auto, unfolding(evm_model::specs::Pipes::play))]
+    pub fn play(&mut self, stage: Stage, line: u8)
+        requires line { line < LINES }
+        requires room { PipeUpTo (2 ^ 63) self.old }
+        ensures { self.new ≡ play stage line self.old }
+    {
+        play_in(&mut self.counts, stage, line);
+        match stage {
+            Stage::OutOfBand => self.oob.lines.remove(line),
+            Stage::InBand => self.inband.lines.remove(line),
+        }
+    }
+
+    /// Stalls a stage, or lets it go on.
+    #[tactic(auto, unfolding(evm_model::specs::Pipes::set_stall))]
+    pub fn set_stall(&mut self, stage: Stage, stalled: bool)
+        ensures { self.new ≡ set_stall stage stalled self.old }
+    {
+        match stage {
+            Stage::OutOfBand => self.oob.stalled = stalled,
+            Stage::InBand => self.inband.stalled = stalled,
+        }
+    }
+}
+
+impl Default for Pipe {
+    /// A pipe where nothing has happened.
+    fn default() -> Self {
+        Pipe::new()
+    }
+}

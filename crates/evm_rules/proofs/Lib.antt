@@ -1,0 +1,13 @@
+pub mod Firsts
+pub mod Places
+pub mod Private
+pub mod Replays
+pub mod Sets
+pub mod Counting
+pub mod Bounded
+pub mod Playing
+pub mod Settling
+pub mod Aligned
+pub mod Keeps
+pub mod Ram
+pub mod States

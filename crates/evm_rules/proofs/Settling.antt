@@ -1,0 +1,455 @@
+-- Settling one processor and telling the others makes a state good again, whatever a row did to that processor.
+use Rattle.std.proofs.Common.{◌≡◌, ℕ, ◌<◌, ◌≤◌, ◌%◌, List, [], Bool, true, false, not, ◌&&◌, Option, Some, None, length, refl, ap, sym, ◌∙◌, inl, inr, arith, eq-eqb}
+use Rattle.std.specs.Prelude.{slice_get, ◌==◌, if◌then◌else◌}
+use Rattle.std.proofs.lemmas.Bool.Decides.{eqb_tells}
+use Rattle.evm_lines.specs.Lines.{has_line}
+use Rattle.evm_lines.specs.Laws.{has_line-with_same}
+use Rattle.evm_exec.specs.declared.hart.Hart.{Hart}
+use Rattle.evm_model.proofs.Lists.{change-elsewhere, length-change, slice_get-each, length-each_from}
+use Rattle.evm_model.specs.Good.{Good, IsSettled, IsOwn, IsPipe}
+use Rattle.evm_model.specs.Lists.{change, each}
+use Rattle.evm_model.specs.Pipes.{Pipe, raise}
+use Rattle.evm_model.specs.Ranks.{best, next_in_band}
+use Rattle.evm_model.specs.Settle.{current, is_oob, play_oob_lines, play_in_band_lines, run_best, settle_oob, settle_oob_pipe, take_up, run_task, run_in_band, play_in_band_pipe, turn_in_band, settle_in_band, settle, differs, wants_nudge, nudge_pipe, nudge, settle_and_nudge}
+use Rattle.evm_model.specs.State.{Parts, on_pipe, on_processor}
+use Rattle.evm_model.specs.declared.limits.TheConstants.{PROCESSOR_LIMIT, TASK_LIMIT}
+use Rattle.evm_model.specs.declared.processor.Processor.{Processor}
+use Rattle.evm_model.specs.declared.task.Task.{Task}
+use Rattle.evm_rules.proofs.Bounded.{are-settle_oob, are-settle, are-nudge}
+use Rattle.evm_rules.proofs.Counting.{mapped}
+use Rattle.evm_rules.proofs.Firsts.{best-is_oob, best-own, own-live, next-own, eqb-is}
+use Rattle.evm_rules.proofs.Playing.{plays_oob, plays_in_band, play_oob_lines-is, play_in_band_lines-is, HasSameStalls, plays_oob-stalls, plays_in_band-stalls, plays_oob-empty, plays_in_band-empty, plays_in_band-oob, plays_oob-pipe}
+use Rattle.evm_rules.proofs.Places.{changed-is, changed-from}
+use Rattle.evm_rules.proofs.Sets.{ArePipes}
+
+-- ---- what holds of each processor's tasks, harts and sizes
+pub record IsShaped (k : Parts) : Type 0 where
+  pub aligned : (t : ℕ) (hart : Hart) → slice_get k.harts t ≡ Some hart → hart.pc % 4 ≡ 0
+  pub homes : (t : ℕ) (task : Task) → slice_get k.tasks t ≡ Some task → task.cpu < length k.processors
+  pub stamps_below : (t : ℕ) (task : Task) → slice_get k.tasks t ≡ Some task → task.stamp < k.stamps
+  pub stamps_differ : (t u : ℕ) (a b : Task) → slice_get k.tasks t ≡ Some a → slice_get k.tasks u ≡ Some b → a.stamp ≡ b.stamp → t ≡ u
+  pub harts_count : length k.harts ≡ length k.tasks
+  pub pipes_count : length k.pipes ≡ length k.processors
+  pub few_tasks : length k.tasks ≤ TASK_LIMIT
+  pub few_processors : length k.processors ≤ PROCESSOR_LIMIT
+
+pub shaped : (k : Parts) → Good k → IsShaped k
+shaped k g = record {
+  aligned = g.aligned;
+  homes = g.homes;
+  stamps_below = g.stamps_below;
+  stamps_differ = g.stamps_differ;
+  harts_count = g.harts_count;
+  pipes_count = g.pipes_count;
+  few_tasks = g.few_tasks;
+  few_processors = g.few_processors;
+}
+
+-- only pipe and processor c changed
+pub record IsOnly (c : ℕ) (k new : Parts) : Type 0 where
+  pub ticks : new.ticks ≡ k.ticks
+  pub harts : new.harts ≡ k.harts
+  pub tasks : new.tasks ≡ k.tasks
+  pub stamps : new.stamps ≡ k.stamps
+  pub pipes_length : length new.pipes ≡ length k.pipes
+  pub processors_length : length new.processors ≡ length k.processors
+  pub pipes : (d : ℕ) → (d ≡ c → ⊥) → slice_get new.pipes d ≡ slice_get k.pipes d
+  pub processors : (d : ℕ) → (d ≡ c → ⊥) → slice_get new.processors d ≡ slice_get k.processors d
+
+only-none : (c : ℕ) (k : Parts) → IsOnly c k k
+only-none c k = record { ticks = refl; harts = refl; tasks = refl; stamps = refl; pipes_length = refl; processors_length = refl; pipes = λ d h. refl; processors = λ d h. refl }
+
+pub only-then : (c : ℕ) (x y z : Parts) → IsOnly c x y → IsOnly c y z → IsOnly c x z
+only-then c x y z p q = record {
+  ticks = q.ticks ∙ p.ticks;
+  harts = q.harts ∙ p.harts;
+  tasks = q.tasks ∙ p.tasks;
+  stamps = q.stamps ∙ p.stamps;
+  pipes_length = q.pipes_length ∙ p.pipes_length;
+  processors_length = q.processors_length ∙ p.processors_length;
+  pipes = λ d h. q.pipes d h ∙ p.pipes d h;
+  processors = λ d h. q.processors d h ∙ p.processors d h;
+}
+
+pub only-pipe : (c : ℕ) (f : Pipe → Pipe) (k : Parts) → IsOnly c k (on_pipe c f k)
+only-pipe c f k = record {
+  ticks = refl;
+  harts = refl;
+  tasks = refl;
+  stamps = refl;
+  pipes_length = length-change f k.pipes c;
+  processors_length = refl;
+  pipes = λ d h. change-elsewhere f k.pipes c d h;
+  processors = λ d h. refl;
+}
+
+pub only-processor : (c : ℕ) (f : Processor → Processor) (k : Parts) → IsOnly c k (on_processor c f k)
+only-processor c f k = record {
+  ticks = refl;
+  harts = refl;
+  tasks = refl;
+  stamps = refl;
+  pipes_length = refl;
+  processors_length = length-change f k.processors c;
+  pipes = λ d h. refl;
+  processors = λ d h. change-elsewhere f k.processors c d h;
+}
+
+only-if : (c : ℕ) (b : Bool) (k x y : Parts) → IsOnly c k x → IsOnly c k y → IsOnly c k (if b then x else y)
+only-if c true k x y p q = p
+only-if c false k x y p q = q
+
+pub only-shaped : (c : ℕ) (k new : Parts) → IsOnly c k new → IsShaped k → IsShaped new
+only-shaped c k new o s = record {
+  aligned = λ t hart e. s.aligned t hart (rw (← o.harts) e);
+  homes = λ t task e. rw o.processors_length (s.homes t task (rw (← o.tasks) e));
+  stamps_below = λ t task e. rw o.stamps (s.stamps_below t task (rw (← o.tasks) e));
+  stamps_differ = λ t u a b e f. s.stamps_differ t u a b (rw (← o.tasks) e) (rw (← o.tasks) f);
+  harts_count = rw (o.harts, o.tasks) s.harts_count;
+  pipes_count = o.pipes_length ∙ s.pipes_count ∙ sym o.processors_length;
+  few_tasks = rw o.tasks s.few_tasks;
+  few_processors = rw o.processors_length s.few_processors;
+}
+
+-- ---- settling changes only its processor
+only-oob_lines : (c : ℕ) (lines : List ℕ) (k : Parts) → IsOnly c k (play_oob_lines c lines k)
+only-oob_lines c lines k = rw (play_oob_lines-is c lines k) (only-pipe c (plays_oob lines) k)
+
+only-in_band_lines : (c : ℕ) (lines : List ℕ) (k : Parts) → IsOnly c k (play_in_band_lines c lines k)
+only-in_band_lines c lines k = rw (play_in_band_lines-is c lines k) (only-pipe c (plays_in_band lines) k)
+
+only-oob_pipe : (c : ℕ) (o : Option Pipe) (k : Parts) → IsOnly c k (settle_oob_pipe o c k)
+only-oob_pipe c None k = only-none c k
+only-oob_pipe c (Some pipe) k =
+    let played : Parts = play_oob_lines c pipe.oob.lines k in
+    only-if c pipe.oob.stalled k k (run_best c played) (only-none c k) (only-then c k played (run_best c played) (only-oob_lines c pipe.oob.lines k) (only-processor c _ played))
+
+pub only-settle_oob : (c : ℕ) (k : Parts) → IsOnly c k (settle_oob c k)
+unfolding settle_oob
+only-settle_oob c k = only-oob_pipe c (slice_get k.pipes c) k
+
+only-in_band_pipe : (c : ℕ) (o : Option Pipe) (k : Parts) → IsOnly c k (play_in_band_pipe o c k)
+only-in_band_pipe c None k = only-none c k
+only-in_band_pipe c (Some pipe) k = only-if c pipe.inband.stalled k k (play_in_band_lines c pipe.inband.lines k) (only-none c k) (only-in_band_lines c pipe.inband.lines k)
+
+only-turn : (c : ℕ) (k : Parts) → IsOnly c k (turn_in_band c k)
+unfolding turn_in_band
+only-turn c k =
+    let played : Parts = play_in_band_pipe (slice_get k.pipes c) c k in
+    only-then c k played (run_in_band c played) (only-in_band_pipe c (slice_get k.pipes c) k) (only-processor c _ played)
+
+pub only-settle_in_band : (c : ℕ) (k : Parts) → IsOnly c k (settle_in_band c k)
+unfolding settle_in_band
+only-settle_in_band c k = only-if c (is_oob (current c k) k.tasks) k k (turn_in_band c k) (only-none c k) (only-turn c k)
+
+pub only-settle : (c : ℕ) (k : Parts) → IsOnly c k (settle c k)
+unfolding settle
+only-settle c k = only-then c k (settle_oob c k) _ (only-settle_oob c k) (only-settle_in_band c (settle_oob c k))
+
+-- ---- a good state but for the acting processor
+-- another processor: all but that it runs its best task, which nudging sees to
+pub record IsCalm (c : ℕ) (pipe : Pipe) (p : Processor) (tasks : List Task) : Type 0 where
+  pub current_own : (t : ℕ) → p.current ≡ Some t → IsOwn c t tasks
+  pub in_band_own : (t : ℕ) → p.in_band_task ≡ Some t → IsOwn c t tasks
+  pub runs_in_band : is_oob p.current tasks ≡ false → p.current ≡ p.in_band_task
+  pub oob_played : pipe.oob.stalled ≡ false → pipe.oob.lines ≡ []
+  pub in_band_played : pipe.inband.stalled ≡ false → is_oob p.current tasks ≡ false → pipe.inband.lines ≡ []
+  pub oob_open : pipe.oob.stalled ≡ false
+  pub in_band_staller : pipe.inband.stalled ≡ true → p.in_band_task ≡ None → ⊥
+
+-- the acting one: what settling it needs
+pub record IsActing (c : ℕ) (pipe : Pipe) (p : Processor) (tasks : List Task) : Type 0 where
+  pub in_band_own : (t : ℕ) → p.in_band_task ≡ Some t → IsOwn c t tasks
+  pub oob_open : pipe.oob.stalled ≡ false
+  pub in_band_staller : pipe.inband.stalled ≡ true → p.in_band_task ≡ None → ⊥
+
+pub record GoodBut (c : ℕ) (k : Parts) : Type 0 where
+  pub pipes : ArePipes k.pipes
+  pub others : (d : ℕ) (pipe : Pipe) (p : Processor) → (d ≡ c → ⊥) → slice_get k.pipes d ≡ Some pipe → slice_get k.processors d ≡ Some p → IsCalm d pipe p k.tasks
+  pub own : (pipe : Pipe) (p : Processor) → slice_get k.pipes c ≡ Some pipe → slice_get k.processors c ≡ Some p → IsActing c pipe p k.tasks
+  pub shape : IsShaped k
+
+pub calm_of : (c : ℕ) (pipe : Pipe) (p : Processor) (tasks : List Task) → IsSettled c pipe p tasks → IsCalm c pipe p tasks
+calm_of c pipe p tasks s = record {
+  current_own = s.current_own;
+  in_band_own = s.in_band_own;
+  runs_in_band = s.runs_in_band;
+  oob_played = s.oob_played;
+  in_band_played = s.in_band_played;
+  oob_open = s.oob_open;
+  in_band_staller = s.in_band_staller;
+}
+
+pub acting_of : (c : ℕ) (pipe : Pipe) (p : Processor) (tasks : List Task) → IsSettled c pipe p tasks → IsActing c pipe p tasks
+acting_of c pipe p tasks s = record { in_band_own = s.in_band_own; oob_open = s.oob_open; in_band_staller = s.in_band_staller }
+
+pub good_but : (c : ℕ) (k : Parts) → Good k → GoodBut c k
+good_but c k g = record {
+  pipes = g.pipes;
+  others = λ d pipe p o e f. calm_of d pipe p k.tasks (g.settled d pipe p e f);
+  own = λ pipe p e f. acting_of c pipe p k.tasks (g.settled c pipe p e f);
+  shape = shaped k g;
+}
+
+-- ---- the acting processor, settled out-of-band
+record IsOobSettled (c : ℕ) (pipe : Pipe) (p : Processor) (tasks : List Task) : Type 0 where
+  in_band_own : (t : ℕ) → p.in_band_task ≡ Some t → IsOwn c t tasks
+  oob_open : pipe.oob.stalled ≡ false
+  oob_lines : pipe.oob.lines ≡ []
+  in_band_staller : pipe.inband.stalled ≡ true → p.in_band_task ≡ None → ⊥
+  runs : p.current ≡ best c tasks
+  whole : IsPipe pipe
+
+oob_settled-if : (c : ℕ) (k : Parts) (pipe : Pipe) (b : Bool) → pipe.oob.stalled ≡ b → slice_get k.pipes c ≡ Some pipe → GoodBut c k
+    → (q : Pipe) (p : Processor) → slice_get (if b then k else run_best c (play_oob_lines c pipe.oob.lines k)).pipes c ≡ Some q
+    → slice_get (if b then k else run_best c (play_oob_lines c pipe.oob.lines k)).processors c ≡ Some p → IsOobSettled c q p k.tasks
+oob_settled-if c k pipe true s e g q p f h = let a = g.own pipe p e h in let no : true ≡ false = sym s ∙ a.oob_open in cc
+oob_settled-if c k pipe false s e g q p f h =
+    let ls : List ℕ = pipe.oob.lines in
+    let whole : IsPipe pipe = g.pipes c pipe e in
+    let is : play_oob_lines c ls k ≡ on_pipe c (plays_oob ls) k = play_oob_lines-is c ls k in
+    let there : slice_get (change (plays_oob ls) k.pipes c) c ≡ Some q = ap (λ (x : Parts). slice_get x.pipes c) (sym is) ∙ f in
+    let it : plays_oob ls pipe ≡ q = changed-is (plays_oob ls) k.pipes c pipe q e there in
+    let at : slice_get (change (λ (p : Processor). record p { current = best c k.tasks }) k.processors c) c ≡ Some p = ap (λ (x : Parts). slice_get (run_best c x).processors c) (sym is) ∙ h in
+    let from = changed-from (λ (p : Processor). record p { current = best c k.tasks }) k.processors c p at in
+    let a = g.own pipe from.0 e from.1 in
+    let same = plays_oob-stalls ls pipe in
+    rw (from.2, ← it) (record {
+      in_band_own = a.in_band_own;
+      oob_open = same.oob ∙ s;
+      oob_lines = plays_oob-empty ls pipe whole refl;
+      in_band_staller = λ u. a.in_band_staller (sym same.inband ∙ u);
+      runs = refl;
+      whole = plays_oob-pipe ls pipe whole;
+    })
+
+oob_settled-pipe : (c : ℕ) (k : Parts) (o : Option Pipe) → slice_get k.pipes c ≡ o → GoodBut c k
+    → (q : Pipe) (p : Processor) → slice_get (settle_oob_pipe o c k).pipes c ≡ Some q → slice_get (settle_oob_pipe o c k).processors c ≡ Some p → IsOobSettled c q p k.tasks
+oob_settled-pipe c k None e g q p f h = cc
+oob_settled-pipe c k (Some pipe) e g q p f h = oob_settled-if c k pipe pipe.oob.stalled refl e g q p f h
+
+oob_settled : (c : ℕ) (k : Parts) → GoodBut c k → (q : Pipe) (p : Processor) → slice_get (settle_oob c k).pipes c ≡ Some q → slice_get (settle_oob c k).processors c ≡ Some p → IsOobSettled c q p k.tasks
+unfolding settle_oob
+oob_settled c k g q p f h = oob_settled-pipe c k (slice_get k.pipes c) refl g q p f h
+
+-- an out-of-band task is current: it is the best
+settled-oob : (c : ℕ) (q : Pipe) (p : Processor) (tasks : List Task) → IsOobSettled c q p tasks → is_oob p.current tasks ≡ true → IsSettled c q p tasks
+settled-oob c q p tasks s o = record {
+  current_own = λ t e. own-live c t tasks (best-own c t tasks (sym s.runs ∙ e));
+  in_band_own = s.in_band_own;
+  runs_best = λ u v t e. s.runs ∙ e;
+  runs_in_band = λ n. let no : true ≡ false = sym o ∙ n in cc;
+  oob_played = λ u. s.oob_lines;
+  in_band_played = λ u n. let no : true ≡ false = sym o ∙ n in cc;
+  oob_open = s.oob_open;
+  oob_staller = λ u. let no : true ≡ false = sym u ∙ s.oob_open in cc;
+  in_band_staller = s.in_band_staller;
+}
+
+-- none is: the in-band log is played, and the in-band task is current
+no_best-is : (c : ℕ) (tasks : List Task) (o : Option ℕ) → best c tasks ≡ o → is_oob o tasks ≡ false → o ≡ None
+no_best-is c tasks None e n = refl
+no_best-is c tasks (Some t) e n = let no : true ≡ false = sym (best-is_oob c t tasks e) ∙ n in cc
+
+up-own : (c : ℕ) (tasks : List Task) (held : Option ℕ) (t : ℕ) → ((t : ℕ) → held ≡ Some t → IsOwn c t tasks) → take_up held (next_in_band c tasks) ≡ Some t → IsOwn c t tasks
+up-own c tasks None t h e = next-own c t tasks e
+up-own c tasks (Some u) t h e = h t e
+
+up-none : (held next : Option ℕ) → take_up held next ≡ None → held ≡ None
+up-none None next e = refl
+up-none (Some u) next e = cc
+
+in_band_pipe-if : (c : ℕ) (k : Parts) (pipe : Pipe) (b : Bool) → pipe.inband.stalled ≡ b → slice_get k.pipes c ≡ Some pipe → IsPipe pipe → (q : Pipe)
+    → slice_get (if b then k else play_in_band_lines c pipe.inband.lines k).pipes c ≡ Some q → HasSameStalls pipe q × (q.oob ≡ pipe.oob) × (q.inband.stalled ≡ false → q.inband.lines ≡ [])
+in_band_pipe-if c k pipe true s e w q f = let it : pipe ≡ q = cc in rw (← it) (record { oob = refl; inband = refl }, refl, λ u. let no : true ≡ false = sym s ∙ u in cc)
+in_band_pipe-if c k pipe false s e w q f =
+    let ls : List ℕ = pipe.inband.lines in
+    let there : slice_get (change (plays_in_band ls) k.pipes c) c ≡ Some q = ap (λ (x : Parts). slice_get x.pipes c) (sym (play_in_band_lines-is c ls k)) ∙ f in
+    let it : plays_in_band ls pipe ≡ q = changed-is (plays_in_band ls) k.pipes c pipe q e there in
+    rw (← it) (plays_in_band-stalls ls pipe, plays_in_band-oob ls pipe, λ u. plays_in_band-empty ls pipe w refl)
+
+in_band_processors-if : (c : ℕ) (k : Parts) (b : Bool) (lines : List ℕ) → (if b then k else play_in_band_lines c lines k).processors ≡ k.processors
+in_band_processors-if c k true lines = refl
+in_band_processors-if c k false lines = ap (λ x. x.processors) (play_in_band_lines-is c lines k)
+
+in_band_tasks-if : (c : ℕ) (k : Parts) (b : Bool) (lines : List ℕ) → (if b then k else play_in_band_lines c lines k).tasks ≡ k.tasks
+in_band_tasks-if c k true lines = refl
+in_band_tasks-if c k false lines = ap (λ x. x.tasks) (play_in_band_lines-is c lines k)
+
+settled-turn : (c : ℕ) (k x : Parts) (pipe q : Pipe) (p : Processor) → (x.processors ≡ k.processors) → (x.tasks ≡ k.tasks)
+    → HasSameStalls pipe q × (q.oob ≡ pipe.oob) × (q.inband.stalled ≡ false → q.inband.lines ≡ [])
+    → ((p : Processor) → slice_get k.processors c ≡ Some p → IsOobSettled c pipe p k.tasks)
+    → ((p : Processor) → slice_get k.processors c ≡ Some p → is_oob p.current k.tasks ≡ false)
+    → slice_get (run_in_band c x).processors c ≡ Some p → IsSettled c q p k.tasks
+settled-turn c k x pipe q p ps ts same s n h =
+    let from = changed-from (λ (p : Processor). run_task (take_up p.in_band_task (next_in_band c x.tasks)) p) x.processors c p h in
+    let there : slice_get k.processors c ≡ Some from.0 = ap (λ (xs : List Processor). slice_get xs c) (sym ps) ∙ from.1 in
+    let z = s from.0 there in
+    let none : from.0.current ≡ None = no_best-is c k.tasks from.0.current (sym z.runs) (n from.0 there) in
+    let next : take_up from.0.in_band_task (next_in_band c x.tasks) ≡ take_up from.0.in_band_task (next_in_band c k.tasks) = ap (λ (tasks : List Task). take_up from.0.in_band_task (next_in_band c tasks)) ts in
+    rw (from.2, next) (record {
+      current_own = λ t e. up-own c k.tasks from.0.in_band_task t z.in_band_own e;
+      in_band_own = λ t e. up-own c k.tasks from.0.in_band_task t z.in_band_own e;
+      runs_best = λ u v t e. let no : None ≡ Some t = sym none ∙ z.runs ∙ e in cc;
+      runs_in_band = λ m. refl;
+      oob_played = λ u. ap (λ log. log.lines) same.1 ∙ z.oob_lines;
+      in_band_played = λ u m. same.2 u;
+      oob_open = same.0.oob ∙ z.oob_open;
+      oob_staller = λ u. let no : true ≡ false = sym u ∙ same.0.oob ∙ z.oob_open in cc;
+      in_band_staller = λ u m. z.in_band_staller (sym same.0.inband ∙ u) (up-none from.0.in_band_task (next_in_band c k.tasks) m);
+    })
+
+settled-turn_pipe : (c : ℕ) (k : Parts) (o : Option Pipe) (q : Pipe) (p : Processor) → slice_get k.pipes c ≡ o
+    → ((q : Pipe) (p : Processor) → slice_get k.pipes c ≡ Some q → slice_get k.processors c ≡ Some p → IsOobSettled c q p k.tasks)
+    → ((p : Processor) → slice_get k.processors c ≡ Some p → is_oob p.current k.tasks ≡ false)
+    → ((q : Pipe) → slice_get k.pipes c ≡ Some q → IsPipe q)
+    → slice_get (run_in_band c (play_in_band_pipe o c k)).pipes c ≡ Some q → slice_get (run_in_band c (play_in_band_pipe o c k)).processors c ≡ Some p → IsSettled c q p k.tasks
+settled-turn_pipe c k None q p e s n w f h = cc
+settled-turn_pipe c k (Some pipe) q p e s n w f h =
+    let b : Bool = pipe.inband.stalled in
+    let x : Parts = if b then k else play_in_band_lines c pipe.inband.lines k in
+    settled-turn c k x pipe q p (in_band_processors-if c k b pipe.inband.lines) (in_band_tasks-if c k b pipe.inband.lines)
+    (in_band_pipe-if c k pipe b refl e (w pipe e) q f) (λ p g. s pipe p e g) n h
+
+settled-in_band_if : (c : ℕ) (k : Parts) (b : Bool) (q : Pipe) (p : Processor) → is_oob (current c k) k.tasks ≡ b
+    → ((q : Pipe) (p : Processor) → slice_get k.pipes c ≡ Some q → slice_get k.processors c ≡ Some p → IsOobSettled c q p k.tasks)
+    → ((q : Pipe) → slice_get k.pipes c ≡ Some q → IsPipe q)
+    → slice_get (if b then k else turn_in_band c k).pipes c ≡ Some q → slice_get (if b then k else turn_in_band c k).processors c ≡ Some p → IsSettled c q p k.tasks
+unfolding turn_in_band
+settled-in_band_if c k true q p o s w f h = settled-oob c q p k.tasks (s q p f h) (rw h at o)
+settled-in_band_if c k false q p o s w f h = settled-turn_pipe c k (slice_get k.pipes c) q p refl s (λ p g. rw g at o) w f h
+
+settled-in_band : (c : ℕ) (k : Parts) (q : Pipe) (p : Processor)
+    → ((q : Pipe) (p : Processor) → slice_get k.pipes c ≡ Some q → slice_get k.processors c ≡ Some p → IsOobSettled c q p k.tasks)
+    → ((q : Pipe) → slice_get k.pipes c ≡ Some q → IsPipe q)
+    → slice_get (settle_in_band c k).pipes c ≡ Some q → slice_get (settle_in_band c k).processors c ≡ Some p → IsSettled c q p k.tasks
+unfolding settle_in_band
+settled-in_band c k q p s w f h = settled-in_band_if c k (is_oob (current c k) k.tasks) q p refl s w f h
+
+settled-own : (c : ℕ) (k : Parts) → GoodBut c k → (q : Pipe) (p : Processor) → slice_get (settle c k).pipes c ≡ Some q → slice_get (settle c k).processors c ≡ Some p → IsSettled c q p k.tasks
+unfolding settle
+settled-own c k g q p f h =
+    let o : Parts = settle_oob c k in
+    let same : o.tasks ≡ k.tasks = (only-settle_oob c k).tasks in
+    rw (← same)
+    (settled-in_band c o q p (λ x y e d. rw same (oob_settled c k g x y e d)) (λ x e. are-settle_oob c k g.pipes c x e) f h)
+
+-- ---- settled, and the others not yet told
+pub record IsUntold (c : ℕ) (k : Parts) : Type 0 where
+  pub pipes : ArePipes k.pipes
+  pub others : (d : ℕ) (pipe : Pipe) (p : Processor) → (d ≡ c → ⊥) → slice_get k.pipes d ≡ Some pipe → slice_get k.processors d ≡ Some p → IsCalm d pipe p k.tasks
+  pub own : (pipe : Pipe) (p : Processor) → slice_get k.pipes c ≡ Some pipe → slice_get k.processors c ≡ Some p → IsSettled c pipe p k.tasks
+  pub shape : IsShaped k
+
+settle-untold : (c : ℕ) (k : Parts) → GoodBut c k → IsUntold c (settle c k)
+settle-untold c k g =
+    let new : Parts = settle c k in
+    let o : IsOnly c k new = only-settle c k in
+    record {
+      pipes = are-settle c k g.pipes;
+      others = λ d pipe p n e f. rw o.tasks (g.others d pipe p n (sym (o.pipes d n) ∙ e) (sym (o.processors d n) ∙ f));
+      own = λ pipe p e f. rw o.tasks (settled-own c k g pipe p e f);
+      shape = only-shaped c k new o g.shape;
+    }
+
+-- ---- telling the others
+calm-settled : (d : ℕ) (pipe : Pipe) (p : Processor) (tasks : List Task) → IsCalm d pipe p tasks → (pipe.oob.stalled ≡ false → has_line pipe.wire 1 ≡ false → (t : ℕ) → best d tasks ≡ Some t → p.current ≡ Some t) → IsSettled d pipe p tasks
+calm-settled d pipe p tasks s h = record {
+  current_own = s.current_own;
+  in_band_own = s.in_band_own;
+  runs_best = h;
+  runs_in_band = s.runs_in_band;
+  oob_played = s.oob_played;
+  in_band_played = s.in_band_played;
+  oob_open = s.oob_open;
+  oob_staller = λ u. let no : true ≡ false = sym u ∙ s.oob_open in cc;
+  in_band_staller = s.in_band_staller;
+}
+
+calm-raised : (d l : ℕ) (pipe : Pipe) (p : Processor) (tasks : List Task) → IsCalm d pipe p tasks → IsCalm d (raise l pipe) p tasks
+unfolding raise
+calm-raised d l pipe p tasks s = record {
+  current_own = s.current_own;
+  in_band_own = s.in_band_own;
+  runs_in_band = s.runs_in_band;
+  oob_played = s.oob_played;
+  in_band_played = s.in_band_played;
+  oob_open = s.oob_open;
+  in_band_staller = s.in_band_staller;
+}
+
+raised-on : (pipe : Pipe) → has_line (raise 1 pipe).wire 1 ≡ true
+unfolding raise
+raised-on pipe = has_line-with_same pipe.wire 1 (omega arith)
+
+wanted-not : (s h m : Bool) → (not s && (not h && m)) ≡ false → s ≡ false → h ≡ false → m ≡ false
+wanted-not true h m e u v = cc
+wanted-not false true m e u v = cc
+wanted-not false false m e u v = e
+
+same_number : (t u : ℕ) → not (t == u) ≡ false → t ≡ u
+same_number t u e = elim (eqb_tells t u) [ inl g ↦ g.1 | inr g ↦ let no : not (t == u) ≡ true = ap not g.0 in cc ]
+
+differs-is : (wanted now : Option ℕ) (t : ℕ) → differs wanted now ≡ false → wanted ≡ Some t → now ≡ Some t
+differs-is None now t e w = cc
+differs-is (Some u) None t e w = cc
+differs-is (Some u) (Some v) t e w = let same : u ≡ v = same_number u v e in let it : u ≡ t = cc in cc
+
+told-if : (c d : ℕ) (k : Parts) (pipe q : Pipe) (p : Processor) (own wants : Bool) → (d == c) ≡ own → wants_nudge d pipe k ≡ wants → IsUntold c k
+    → slice_get k.pipes d ≡ Some pipe → slice_get k.processors d ≡ Some p → (if own then pipe else (if wants then raise 1 pipe else pipe)) ≡ q → IsSettled d q p k.tasks
+told-if c d k pipe q p true wants a b u e f h =
+    let at : d ≡ c = eqb-is d c a in
+    rw (← h, at) (u.own pipe p (rw (← at) e) (rw (← at) f))
+told-if c d k pipe q p false true a b u e f h =
+    let other : d ≡ c → ⊥ = λ same. let yes = eq-eqb d c same in let no : true ≡ false = sym yes ∙ a in cc in
+    rw (← h) (calm-settled d (raise 1 pipe) p k.tasks (calm-raised d 1 pipe p k.tasks (u.others d pipe p other e f)) (λ s n. let no : true ≡ false = sym (raised-on pipe) ∙ n in cc))
+told-if c d k pipe q p false false a b u e f h =
+    let other : d ≡ c → ⊥ = λ same. let yes = eq-eqb d c same in let no : true ≡ false = sym yes ∙ a in cc in
+    let now : current d k ≡ p.current = rw f refl in
+    rw (← h)
+    (calm-settled d pipe p k.tasks (u.others d pipe p other e f)
+    (λ s n t x. sym now ∙ differs-is (best d k.tasks) (current d k) t (wanted-not pipe.oob.stalled (has_line pipe.wire 1) (differs (best d k.tasks) (current d k)) b s n) x))
+
+shaped-pipes : (k : Parts) (pipes : List Pipe) → length pipes ≡ length k.pipes → IsShaped k → IsShaped (record k { pipes = pipes })
+shaped-pipes k pipes e s = record {
+  aligned = s.aligned;
+  homes = s.homes;
+  stamps_below = s.stamps_below;
+  stamps_differ = s.stamps_differ;
+  harts_count = s.harts_count;
+  pipes_count = e ∙ s.pipes_count;
+  few_tasks = s.few_tasks;
+  few_processors = s.few_processors;
+}
+
+pub good_of : (k : Parts) → ArePipes k.pipes → ((c : ℕ) (pipe : Pipe) (p : Processor) → slice_get k.pipes c ≡ Some pipe → slice_get k.processors c ≡ Some p → IsSettled c pipe p k.tasks) → IsShaped k → Good k
+good_of k a s h = record {
+  pipes = a;
+  settled = s;
+  aligned = h.aligned;
+  homes = h.homes;
+  stamps_below = h.stamps_below;
+  stamps_differ = h.stamps_differ;
+  harts_count = h.harts_count;
+  pipes_count = h.pipes_count;
+  few_tasks = h.few_tasks;
+  few_processors = h.few_processors;
+}
+
+told : (c : ℕ) (k : Parts) → IsUntold c k → (d : ℕ) (q : Pipe) (p : Processor) → slice_get (nudge c k).pipes d ≡ Some q → slice_get (nudge c k).processors d ≡ Some p → IsSettled d q p (nudge c k).tasks
+unfolding nudge
+told c k u d q p e f =
+    let from = mapped (nudge_pipe c k d) (slice_get k.pipes d) q (sym (slice_get-each (nudge_pipe c k) k.pipes d) ∙ e) in
+    told-if c d k from.0 q p (d == c) (wants_nudge d from.0 k) refl refl u from.1 f from.2
+
+nudge-shaped : (c : ℕ) (k : Parts) → IsShaped k → IsShaped (nudge c k)
+unfolding nudge
+nudge-shaped c k s = shaped-pipes k (each (nudge_pipe c k) k.pipes) (length-each_from 0 (nudge_pipe c k) k.pipes) s
+
+pub nudge-good : (c : ℕ) (k : Parts) → IsUntold c k → Good (nudge c k)
+nudge-good c k u = good_of (nudge c k) (are-nudge c k u.pipes) (told c k u) (nudge-shaped c k u.shape)
+
+-- the state is good after settling and nudging
+pub settle_and_nudge-good : (c : ℕ) (k : Parts) → GoodBut c k → Good (settle_and_nudge c k)
+unfolding settle_and_nudge
+settle_and_nudge-good c k g = nudge-good c (settle c k) (settle-untold c k g)

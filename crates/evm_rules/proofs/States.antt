@@ -1,0 +1,278 @@
+-- Every event keeps the whole machine good, and it begins so.
+use Rattle.std.proofs.Common.{◌≡◌, ℕ, zero, suc, ◌+◌, ◌*◌, ◌<◌, ◌≤◌, ◌%◌, List, [], ◌∷◌, ◌++◌, Bool, true, false, cond, Option, Some, None, length, refl, ap, sym, ◌∙◌, inl, inr, arith, leb-false, length-append}
+use Rattle.std.specs.Prelude.{slice_get, slice_set, replicate, count_by, nat_lt, ◌==◌, if◌then◌else◌, Result, Ok, Err, ◌^◌}
+use Rattle.std.proofs.lemmas.List.Sums.{sum_by-append, count_by-le-length}
+use Rattle.std.proofs.lemmas.List.{length-set, length-replicate}
+use Rattle.std.proofs.lemmas.Bool.Decides.{nat_tests}
+use Rattle.evm_ram.specs.declared.ram.TheConstants.{BASE}
+use Rattle.evm_ram.specs.declared.refusal.Refusal.{Refusal}
+use Rattle.evm_ram.specs.declared.refusal.Refusal.TheVariants.{Full}
+use Rattle.evm_exec.specs.declared.hart.Hart.{Hart}
+use Rattle.evm_model.specs.Bounds.{PER_EVENT, PipesUpTo}
+use Rattle.evm_model.specs.Commands.{tick, set_bits, on_number, set_breakpoint, unset_breakpoint}
+use Rattle.evm_model.specs.Good.{Good, GoodState, IsOwn, IsSettled, is_tick}
+use Rattle.evm_model.specs.Harts.{set_register, set_pc, first_hart}
+use Rattle.evm_model.specs.Instructions.{stop}
+use Rattle.evm_model.specs.Load.{bytes_from, load, start_loaded}
+use Rattle.evm_model.specs.Pipes.{Pipe, idle_pipe}
+use Rattle.evm_model.specs.Ranks.{best}
+use Rattle.evm_model.specs.Refusals.{board_refusal, is_full}
+use Rattle.evm_model.specs.Replay.{accept, apply, bad_boot, bad_cpus, bad_ram, bad_capacity, left_by, replay, start}
+use Rattle.evm_model.specs.Rows.{step, single_step, row}
+use Rattle.evm_model.specs.Settle.{current, is_oob}
+use Rattle.evm_model.specs.State.{State, Parts, Board, booted, booted_parts, first_processor, first_task}
+use Rattle.evm_model.specs.declared.boot.Boot.{Boot}
+use Rattle.evm_model.specs.declared.event.Answer.{Answer}
+use Rattle.evm_model.specs.declared.event.Event.{Event}
+use Rattle.evm_model.specs.declared.event.Event.TheVariants.{Step, Tick, Raise, Bell, Stop, Go, StepI, SetReg, SetPc, Poke, Break, Unbreak}
+use Rattle.evm_model.specs.declared.limits.TheConstants.{PROCESSOR_LIMIT, CAPACITY_LIMIT}
+use Rattle.evm_model.specs.declared.processor.Processor.{Processor}
+use Rattle.evm_model.proofs.Lists.{slice_get-replicate, slice_get-slice_set}
+use Rattle.evm_walk.proofs.Counted.{takes_counted}
+use Rattle.evm_walk.proofs.Moves.{Takes}
+use Rattle.evm_walk.proofs.Rows.{row_takes, actor, raised_line}
+use Rattle.evm_walk.proofs.Sets.{ArePipes}
+use Rattle.evm_walk.proofs.Sizes.{takes_sizes, moves_ticks}
+use Rattle.evm_rules.proofs.Bounded.{AreWithin, within-idle}
+use Rattle.evm_rules.proofs.Counting.{PipesUpTo-more}
+use Rattle.evm_rules.proofs.Firsts.{best-is_oob}
+use Rattle.evm_rules.proofs.Keeps.{row-good, hart-good}
+use Rattle.evm_rules.proofs.Ram.{row-ram}
+use Rattle.evm_rules.proofs.Replays.{accepted}
+use Rattle.evm_rules.proofs.Sets.{IsPipe-idle}
+
+-- ---- the clock
+one_if : Bool → ℕ
+one_if b = cond b 1 0
+
+number-ticks : (o : Option ℕ) (f : Hart → Hart) (k : Parts) → (on_number o f k).ticks ≡ k.ticks + 0
+number-ticks None f k = omega arith
+number-ticks (Some t) f k = omega arith
+
+moved-ticks : (c : ℕ) (x y : Parts) → Takes c 1 PER_EVENT x y → y.ticks ≡ x.ticks + 0
+moved-ticks c x y t = let same : y.ticks ≡ x.ticks = moves_ticks c 1 t.count x y t.moves (λ e. absurd (omega arith)) in omega arith
+
+row-ticks : (event : Event) (b : Board) → board_refusal event b ≡ None → ArePipes b.parts → (row event b).0.parts.ticks ≡ b.parts.ticks + cond (is_tick event) 1 0
+unfolding row tick set_bits stop set_breakpoint unset_breakpoint
+row-ticks (Step c) b e a = moved-ticks c b.parts (step c b).0.parts (row_takes (Step c) b e a)
+row-ticks Tick b e a = refl
+row-ticks (Raise c l) b e a = omega arith
+row-ticks (Bell c l) b e a = omega arith
+row-ticks (Stop c) b e a = omega arith
+row-ticks (Go c) b e a = omega arith
+row-ticks (StepI c) b e a = moved-ticks c b.parts (single_step c b).parts (row_takes (StepI c) b e a)
+row-ticks (SetReg c r value) b e a = number-ticks (current c b.parts) (set_register r value) b.parts
+row-ticks (SetPc c pc) b e a = number-ticks (current c b.parts) (set_pc pc) b.parts
+row-ticks (Poke address bytes) b e a = omega arith
+row-ticks (Break address) b e a = omega arith
+row-ticks (Unbreak address) b e a = omega arith
+
+one-more : (b : Bool) → 0 + cond b 1 0 ≡ cond b 1 0
+one-more true = refl
+one-more false = refl
+
+counted-tick : (events : List Event) (event : Event) → count_by is_tick (events ++ event ∷ []) ≡ count_by is_tick events + cond (is_tick event) 1 0
+counted-tick events event =
+    let split : count_by is_tick (events ++ event ∷ []) ≡ count_by is_tick events + (0 + cond (is_tick event) 1 0) = sum_by-append (λ (e : Event). cond (is_tick e) 1 0) events (event ∷ []) in
+    let last : count_by is_tick events + (0 + cond (is_tick event) 1 0) ≡ count_by is_tick events + cond (is_tick event) 1 0 = ap (λ n. count_by is_tick events + n) (one-more (is_tick event)) in
+    split ∙ last
+
+-- ---- an event
+allowed : (s : State) (event : Event) (full : Bool) → (if full then Some Full else board_refusal event s.board) ≡ None → (full ≡ false) × (board_refusal event s.board ≡ None)
+allowed s event true e = cc
+allowed s event false e = (refl, e)
+
+pub accepted-good : (s : State) (event : Event) → is_full s ≡ false → board_refusal event s.board ≡ None → GoodState s → GoodState (accept event (row event s.board) s).0
+accepted-good s event f e g =
+    let a : ArePipes s.board.parts = record { each = g.good.pipes } in
+    let new : Parts = (row event s.board).0.parts in
+    let t : Takes (actor event) (raised_line event) PER_EVENT s.board.parts new = row_takes event s.board e a in
+    let size = takes_sizes (actor event) (raised_line event) PER_EVENT s.board.parts new t in
+    let room : length s.journal < s.boot.capacity = leb-false s.boot.capacity (length s.journal) f in
+    let grown : length (s.journal ++ event ∷ []) ≡ length s.journal + 1 = length-append s.journal (event ∷ []) in
+    let more : PER_EVENT * length (s.journal ++ event ∷ []) ≡ PER_EVENT * length s.journal + PER_EVENT = omega arith in
+    record {
+      good = row-good event s.board e g.good;
+      boot = g.boot;
+      processors = size.processors ∙ g.processors;
+      ram = row-ram event s.board ∙ g.ram;
+      journal = omega arith;
+      ticks = row-ticks event s.board e a ∙ ap (λ n. n + cond (is_tick event) 1 0) g.ticks ∙ sym (counted-tick s.journal event);
+      counts = rw more (takes_counted (actor event) (raised_line event) PER_EVENT (PER_EVENT * length s.journal) s.board.parts new t g.counts);
+    }
+
+-- an event that is not refused keeps the machine good
+pub GoodState-apply : (s new : State) (event : Event) (answer : Answer) → GoodState s → apply s event ≡ Ok (new, answer) → GoodState new
+GoodState-apply s new event answer g e =
+    let it = accepted s new event answer e in
+    let may = allowed s event (is_full s) it.0 in
+    let is : new ≡ (accept event (row event s.board) s).0 = ap (λ (x : State × Answer). x.0) it.1 in
+    rw is (accepted-good s event may.0 may.1 g)
+
+-- the same, of what a body made
+pub good_accepted : (s : State) (event : Event) (after : Board × Answer) → after ≡ row event s.board → is_full s ≡ false → board_refusal event s.board ≡ None → GoodState s
+    → GoodState (record s { journal = s.journal ++ event ∷ []; board = after.0 })
+good_accepted s event after e f h g = let is : after.0 ≡ (row event s.board).0 = ap (λ (x : Board × Answer). x.0) e in rw is (accepted-good s event f h g)
+
+-- whatever its outcome
+GoodState-outcome : (s : State) (event : Event) (r : Result (State × Answer) Refusal) → apply s event ≡ r → GoodState s → GoodState (left_by r s)
+GoodState-outcome s event (Ok after) e g = GoodState-apply s after.0 event after.1 g e
+GoodState-outcome s event (Err refusal) e g = g
+
+-- after every list of events
+pub GoodState-replay : (s : State) (events : List Event) → GoodState s → GoodState (replay s events)
+unfolding replay
+GoodState-replay s [] g = g
+GoodState-replay s (event ∷ events) g = GoodState-replay (left_by (apply s event) s) events (GoodState-outcome s event (apply s event) refl g)
+
+-- ---- at boot
+if_false : (a b : Bool) → (if a then true else b) ≡ false → (a ≡ false) × (b ≡ false)
+if_false true b e = cc
+if_false false b e = (refl, e)
+
+nonzero : (n : ℕ) → (n == 0) ≡ false → 0 < n
+nonzero n e = grind (arith, nat_tests)
+
+within : (n m : ℕ) → nat_lt m n ≡ false → n ≤ m
+within n m e = grind (arith, nat_tests)
+
+some_cpus : (n : ℕ) → bad_cpus n ≡ false → (0 < n) × (n ≤ PROCESSOR_LIMIT)
+some_cpus n e = let both = if_false (n == 0) (nat_lt PROCESSOR_LIMIT n) e in (nonzero n both.0, within n PROCESSOR_LIMIT both.1)
+
+no_oob : (t : ℕ) → is_oob (Some t) (first_task ∷ []) ≡ false
+no_oob zero = refl
+no_oob (suc t) = refl
+
+no_best : (c t : ℕ) → best c (first_task ∷ []) ≡ Some t → ⊥
+no_best c t e = let no : true ≡ false = sym (best-is_oob c t (first_task ∷ []) e) ∙ no_oob t in cc
+
+first_own : (t : ℕ) → Some 0 ≡ Some t → IsOwn 0 t (first_task ∷ [])
+first_own zero e = record { task = first_task; there = refl; at_home = refl; live = refl }
+first_own (suc t) e = cc
+
+settled-first : (pipe : Pipe) → pipe ≡ idle_pipe → IsSettled 0 pipe (first_processor (Some 0)) (first_task ∷ [])
+settled-first pipe e = rw e (record {
+  current_own = first_own;
+  in_band_own = first_own;
+  runs_best = λ u v t b. absurd (no_best 0 t b);
+  runs_in_band = λ n. refl;
+  oob_played = λ u. refl;
+  in_band_played = λ u n. refl;
+  oob_open = refl;
+  oob_staller = λ u. cc;
+  in_band_staller = λ u n. cc;
+})
+
+settled-idle : (c : ℕ) (pipe : Pipe) → pipe ≡ idle_pipe → IsSettled c pipe (first_processor None) (first_task ∷ [])
+settled-idle c pipe e = rw e (record {
+  current_own = λ t h. cc;
+  in_band_own = λ t h. cc;
+  runs_best = λ u v t b. absurd (no_best c t b);
+  runs_in_band = λ n. refl;
+  oob_played = λ u. refl;
+  in_band_played = λ u n. refl;
+  oob_open = refl;
+  oob_staller = λ u. cc;
+  in_band_staller = λ u n. cc;
+})
+
+settled-booted : (cpus c : ℕ) (pipe : Pipe) (p : Processor) → slice_get (replicate cpus idle_pipe) c ≡ Some pipe
+    → slice_get (slice_set (replicate cpus (first_processor None)) 0 (first_processor (Some 0))) c ≡ Some p → IsSettled c pipe p (first_task ∷ [])
+settled-booted cpus c pipe p e f =
+    let idle : pipe ≡ idle_pipe = slice_get-replicate cpus idle_pipe c pipe e in
+    elim (slice_get-slice_set (replicate cpus (first_processor None)) 0 c (first_processor (Some 0)) p f) [
+      | inl w ↦ rw (w.0, w.1) (settled-first pipe idle)
+      | inr w ↦ rw (slice_get-replicate cpus (first_processor None) c p w.1) (settled-idle c pipe idle)
+    ]
+
+one-there : {X : Type 0} (x z : X) (t : ℕ) → slice_get (x ∷ []) t ≡ Some z → (t ≡ 0) × (z ≡ x)
+one-there x z zero e = (refl, cc)
+one-there x z (suc t) e = cc
+
+pub booted-good : (boot : Boot) → bad_boot boot ≡ false → Good (booted_parts boot)
+unfolding booted_parts
+booted-good boot e =
+    let cpus = some_cpus boot.cpus (if_false (bad_cpus boot.cpus) _ e).0 in
+    let processors : length (slice_set (replicate boot.cpus (first_processor None)) 0 (first_processor (Some 0))) ≡ boot.cpus =
+    length-set (replicate boot.cpus (first_processor None)) 0 (first_processor (Some 0)) ∙ length-replicate boot.cpus (first_processor None) in
+    record {
+      pipes = λ c p f. rw (slice_get-replicate boot.cpus idle_pipe c p f) IsPipe-idle;
+      settled = λ c pipe p f h. settled-booted boot.cpus c pipe p f h;
+      aligned = λ t hart f. rw (one-there (first_hart boot.ram) hart t f).1 refl;
+      homes = λ t task f. rw ((one-there first_task task t f).1, processors) cpus.0;
+      stamps_below = λ t task f. rw (one-there first_task task t f).1 (omega arith);
+      stamps_differ = λ t u a b f h same. (one-there first_task a t f).0 ∙ sym (one-there first_task b u h).0;
+      harts_count = refl;
+      pipes_count = length-replicate boot.cpus idle_pipe ∙ sym processors;
+      few_tasks = omega arith;
+      few_processors = rw processors cpus.1;
+    }
+
+booted-counts : (boot : Boot) → PipesUpTo 0 (booted_parts boot).pipes
+unfolding booted_parts
+booted-counts boot = (within-idle boot.cpus (booted_parts boot) refl).up
+
+booted-processors : (boot : Boot) → length (booted_parts boot).processors ≡ boot.cpus
+unfolding booted_parts
+booted-processors boot = length-set (replicate boot.cpus (first_processor None)) 0 (first_processor (Some 0)) ∙ length-replicate boot.cpus (first_processor None)
+
+booted-ticks : (boot : Boot) → (booted_parts boot).ticks ≡ 0
+unfolding booted_parts
+booted-ticks boot = refl
+
+-- a machine that has had no event is good
+pub GoodState-start : (boot : Boot) → bad_boot boot ≡ false → GoodState (start boot)
+unfolding booted
+GoodState-start boot e = record {
+  good = booted-good boot e;
+  boot = e;
+  processors = booted-processors boot;
+  ram = length-replicate boot.ram 0;
+  journal = omega arith;
+  ticks = booted-ticks boot;
+  counts = booted-counts boot;
+}
+
+length-bytes_from : (byte : ℕ → ℕ) (address n : ℕ) → length (bytes_from byte address n) ≡ n
+unfolding bytes_from
+length-bytes_from byte address zero = refl
+length-bytes_from byte address (suc n) = ap suc (length-bytes_from byte (address + 1) n)
+
+-- and so is one into which an image was loaded, whose entry is a multiple of 4
+pub GoodState-load : (byte : ℕ → ℕ) (entry : ℕ) (s : State) → entry % 4 ≡ 0 → GoodState s → GoodState (record s { board = load byte entry s.board })
+unfolding load
+GoodState-load byte entry s e g = record {
+  good = hart-good 0 (set_pc entry) s.board.parts (λ hart h. e) g.good;
+  boot = g.boot;
+  processors = g.processors;
+  ram = length-bytes_from byte BASE (length s.board.memory.ram) ∙ g.ram;
+  journal = g.journal;
+  ticks = g.ticks;
+  counts = g.counts;
+}
+
+pub GoodState-loaded : (byte : ℕ → ℕ) (entry : ℕ) (boot : Boot) → bad_boot boot ≡ false → entry % 4 ≡ 0 → GoodState (start_loaded byte entry boot)
+GoodState-loaded byte entry boot b e = GoodState-load byte entry (start boot) e (GoodState-start boot b)
+
+-- ---- the room that is left
+some_capacity : (n : ℕ) → bad_capacity n ≡ false → n ≤ CAPACITY_LIMIT
+some_capacity n e = within n CAPACITY_LIMIT (if_false (n == 0) (nat_lt CAPACITY_LIMIT n) e).1
+
+pub few_events : (s : State) → GoodState s → length s.journal ≤ CAPACITY_LIMIT
+few_events s g =
+    let rest = if_false (bad_cpus s.boot.cpus) (if bad_ram s.boot.ram then true else bad_capacity s.boot.capacity) g.boot in
+    let limit : s.boot.capacity ≤ CAPACITY_LIMIT = some_capacity s.boot.capacity (if_false (bad_ram s.boot.ram) (bad_capacity s.boot.capacity) rest.1).1 in
+    let j : length s.journal ≤ s.boot.capacity = g.journal in
+    omega arith
+
+-- counts are at most 2 ^ 28
+pub counts_room : (s : State) → GoodState s → AreWithin (2 ^ 28) s.board.parts
+counts_room s g = let few : length s.journal ≤ CAPACITY_LIMIT = few_events s g in
+    record { are = g.good.pipes; up = PipesUpTo-more (PER_EVENT * length s.journal) (2 ^ 28) s.board.parts.pipes (omega arith) g.counts }
+
+-- ticks are at most 2 ^ 20
+pub ticks_room : (s : State) → GoodState s → s.board.parts.ticks ≤ CAPACITY_LIMIT
+ticks_room s g = let few : length s.journal ≤ CAPACITY_LIMIT = few_events s g in
+    let some : count_by is_tick s.journal ≤ length s.journal = count_by-le-length is_tick s.journal in
+    let same : s.board.parts.ticks ≡ count_by is_tick s.journal = g.ticks in
+    rw same (omega arith)

@@ -1,0 +1,11 @@
+pub mod Balance
+pub mod Breakpoints
+pub mod Commands
+pub mod First
+pub mod Frames
+pub mod Kept
+pub mod Least
+pub mod Raised
+pub mod Replays
+pub mod Runs
+pub mod Steps

@@ -1,0 +1,303 @@
+-- What a step changes, and how many there are of each afterwards.
+use Rattle.std.proofs.Common.{◌≡◌, ℕ, List, Bool, true, false, Option, Some, None, length, ◌⊎◌, inl, inr, refl, ap, ◌∙◌}
+use Rattle.std.specs.Prelude.{slice_get, option_map, ◌==◌, ◌&&◌, not, if◌then◌else◌}
+use Rattle.evm_lines.specs.Lines.{least_line}
+use Rattle.evm_isa.specs.Decoded.{decoded}
+use Rattle.evm_isa.specs.declared.inst.Inst.{Inst}
+use Rattle.evm_isa.specs.declared.inst.LoadOp.{LoadOp}
+use Rattle.evm_exec.specs.Does.{does}
+use Rattle.evm_exec.specs.Memory.{width_of_load}
+use Rattle.evm_exec.specs.declared.hart.Hart.{Hart}
+use Rattle.evm_exec.specs.declared.outcome.Effect.{Effect}
+use Rattle.evm_exec.specs.declared.outcome.Effect.TheVariants.{Next, Load, Store, Call, Break, Misaligned}
+use Rattle.evm_ram.specs.Laws.{length-write_at}
+use Rattle.evm_ram.specs.Ram.{write_at}
+use Rattle.evm_ram.specs.declared.width.Width.{Width}
+use Rattle.evm_model.specs.Commands.{is_set}
+use Rattle.evm_model.specs.Harts.{A0, advance}
+use Rattle.evm_model.specs.Errnos.{refusal_answer}
+use Rattle.evm_model.specs.declared.errno.Errno.TheVariants.{NoSuchCall}
+use Rattle.evm_model.specs.Instructions.{end_task, stop, finish, finish_load, finish_store, execute, execute_inst, execute_word}
+use Rattle.evm_model.specs.Lists.{each}
+use Rattle.evm_model.specs.Memory.{fetch, read, write, with_ram}
+use Rattle.evm_model.specs.Pipes.{Pipe, raise, receive}
+use Rattle.evm_model.specs.Rows.{run, step_hart, step_current, step_wire, step_pipe, step_processor, step}
+use Rattle.evm_model.specs.Settle.{current, current_of, settle, nudge, nudge_pipe, settle_and_nudge, wants_nudge}
+use Rattle.evm_model.specs.State.{Board, Memory, Parts, on_hart, on_task, on_processor, on_pipe, on_parts}
+use Rattle.evm_model.specs.declared.event.Answer.{Answer}
+use Rattle.evm_model.specs.declared.event.Answer.TheVariants.{Stopped}
+use Rattle.evm_model.specs.declared.processor.Processor.{Processor}
+use Rattle.evm_model.specs.declared.task.Task.{Task}
+use Rattle.evm_model.specs.declared.task.TaskState.{TaskState}
+use Rattle.evm_model.proofs.Lists.{slice_get-each, length-each_from}
+use Rattle.evm_runs.specs.Changes.{StoreWrites, StepChanges}
+use Rattle.evm_runs.specs.Kept.{AllHaveRegisters}
+use Rattle.evm_runs.proofs.Frames.{Frame, frame_none, frame_then, frame_hart, frame_task, frame_processor, frame_pipe, frame_settle, keeps_advance, keeps_register_pc, keeps_answer}
+
+-- ---- an instruction
+-- an effect has written memory
+record Wrote (effect : Effect) (old new : Memory) : Type 0 where
+  width : Width
+  address : ℕ
+  value : ℕ
+  stores : effect ≡ Store width address value
+  ram : write_at old.ram address width value ≡ Some new.ram
+
+-- a task of c has done an effect
+record Does (effect : Effect) (c t : ℕ) (old new : Board) : Type 0 where
+  frame : Frame c (Some t) old.parts new.parts
+  breakpoints : new.breakpoints ≡ old.breakpoints
+  memory : (new.memory ≡ old.memory) ⊎ Wrote effect old.memory new.memory
+
+ends : (c t : ℕ) (state : TaskState) (k : Parts) → Frame c (Some t) k (end_task c t state k)
+unfolding end_task
+ends c t state k =
+    let f : Task → Task = λ task. record task { state = state } in
+    frame_then c (Some t) k (on_task t f k) _ (frame_task c t f k) (frame_then c (Some t) _ _ _ (frame_pipe c (Some t) _ (on_task t f k)) (frame_processor c (Some t) _ _))
+
+parts_only : (effect : Effect) (c t : ℕ) (k : Parts) (b : Board) → Frame c (Some t) b.parts k → Does effect c t b (record b { parts = k })
+parts_only effect c t k b h = record { frame = h; breakpoints = refl; memory = inl refl }
+
+loads : (effect : Effect) (c t : ℕ) (o : Option ℕ) (op : LoadOp) (rd : ℕ) (b : Board) → Does effect c t b (finish_load o op rd c t b)
+loads effect c t None op rd b = parts_only effect c t _ b (ends c t _ b.parts)
+loads effect c t (Some n) op rd b = parts_only effect c t _ b (frame_hart c t _ b.parts (keeps_answer rd _))
+
+with_ram-some : (o : Option (List ℕ)) (old new : Memory) → with_ram o old ≡ Some new → o ≡ Some new.ram
+with_ram-some None old new e = cc
+with_ram-some (Some ram) old new e = let same : record old { ram = ram } ≡ new = cc in ap Some (ap (λ (m : Memory). m.ram) same)
+
+stores : (width : Width) (address value c t : ℕ) (o : Option Memory) (b : Board) → write address width value b.memory ≡ o → Does (Store width address value) c t b (finish_store o c t b)
+stores width address value c t None b e = parts_only _ c t _ b (ends c t _ b.parts)
+stores width address value c t (Some memory) b e = record {
+  frame = frame_hart c t advance b.parts keeps_advance;
+  breakpoints = refl;
+  memory = inr (record { width = width; address = address; value = value; stores = refl; ram = with_ram-some (write_at b.memory.ram address width value) b.memory memory e });
+}
+
+effects : (effect : Effect) (c t : ℕ) (b : Board) → Does effect c t b (finish effect c t b)
+unfolding finish stop
+effects (Next rd value pc) c t b = parts_only _ c t _ b (frame_hart c t _ b.parts (keeps_register_pc rd value pc))
+effects (Load op rd address) c t b = loads _ c t (read address (width_of_load op) b.memory) op rd b
+effects (Store width address value) c t b = stores width address value c t (write address width value b.memory) b refl
+effects Call c t b = parts_only _ c t _ b (frame_hart c t _ b.parts (keeps_answer A0 (refusal_answer NoSuchCall)))
+effects Break c t b = parts_only _ c t _ b (frame_then c (Some t) b.parts (on_hart t advance b.parts) _ (frame_hart c t advance b.parts keeps_advance) (frame_processor c (Some t) _ (on_hart t advance b.parts)))
+effects Misaligned c t b = parts_only _ c t _ b (ends c t _ b.parts)
+
+-- the word at the pc has written memory
+record Executed (hart : Hart) (old new : Memory) : Type 0 where
+  word : ℕ
+  inst : Inst
+  fetched : fetch hart.pc old ≡ Some word
+  decodes : decoded word ≡ Some inst
+  wrote : Wrote (does inst hart.regs hart.pc) old new
+
+record Executes (hart : Hart) (c t : ℕ) (old new : Board) : Type 0 where
+  frame : Frame c (Some t) old.parts new.parts
+  breakpoints : new.breakpoints ≡ old.breakpoints
+  memory : (new.memory ≡ old.memory) ⊎ Executed hart old.memory new.memory
+
+quietly : (hart : Hart) (c t : ℕ) (k : Parts) (b : Board) → Frame c (Some t) b.parts k → Executes hart c t b (record b { parts = k })
+quietly hart c t k b h = record { frame = h; breakpoints = refl; memory = inl refl }
+
+insts : (word : ℕ) (o : Option Inst) (hart : Hart) (c t : ℕ) (b : Board) → fetch hart.pc b.memory ≡ Some word → decoded word ≡ o → Executes hart c t b (execute_inst o hart c t b)
+insts word None hart c t b f e = quietly hart c t _ b (ends c t _ b.parts)
+insts word (Some inst) hart c t b f e = let d = effects (does inst hart.regs hart.pc) c t b in record {
+  frame = d.frame;
+  breakpoints = d.breakpoints;
+  memory = elim d.memory [
+    | inl same ↦ inl same
+    | inr wrote ↦ inr (record { word = word; inst = inst; fetched = f; decodes = e; wrote = wrote })
+  ];
+}
+
+words : (o : Option ℕ) (hart : Hart) (c t : ℕ) (b : Board) → fetch hart.pc b.memory ≡ o → Executes hart c t b (execute_word o hart c t b)
+words None hart c t b f = quietly hart c t _ b (ends c t _ b.parts)
+words (Some word) hart c t b f = insts word (decoded word) hart c t b f refl
+
+executes : (hart : Hart) (c t : ℕ) (b : Board) → Executes hart c t b (execute hart c t b)
+unfolding execute
+executes hart c t b = words (fetch hart.pc b.memory) hart c t b refl
+
+-- ---- sizes
+-- as many of each, and tasks keep their registers
+pub record SameCounts (old new : Board) : Type 0 where
+  pub processors : length new.parts.processors ≡ length old.parts.processors
+  pub pipes : length new.parts.pipes ≡ length old.parts.pipes
+  pub ram : length new.memory.ram ≡ length old.memory.ram
+  pub tasks : length new.parts.tasks ≡ length old.parts.tasks
+  pub harts : length new.parts.harts ≡ length old.parts.harts
+  pub registers : AllHaveRegisters old.parts.harts → AllHaveRegisters new.parts.harts
+
+pub same_then : (x y z : Board) → SameCounts x y → SameCounts y z → SameCounts x z
+same_then x y z p q = record {
+  processors = q.processors ∙ p.processors;
+  pipes = q.pipes ∙ p.pipes;
+  ram = q.ram ∙ p.ram;
+  tasks = q.tasks ∙ p.tasks;
+  harts = q.harts ∙ p.harts;
+  registers = λ h. q.registers (p.registers h);
+}
+
+-- ---- a step
+-- what a step has changed before it tells the others
+record Before (c : ℕ) (old new : Board) : Type 0 where
+  frame : Frame c (current c old.parts) old.parts new.parts
+  breakpoints : new.breakpoints ≡ old.breakpoints
+  memory : (new.memory ≡ old.memory) ⊎ StoreWrites c old new
+
+pub record StepDone (c : ℕ) (old new : Board) : Type 0 where
+  pub changes : StepChanges c old new
+  pub counts : SameCounts old new
+
+ram_count : (c : ℕ) (old new : Board) → (new.memory ≡ old.memory) ⊎ StoreWrites c old new → length new.memory.ram ≡ length old.memory.ram
+ram_count c old new (inl same) = ap (λ (m : Memory). length m.ram) same
+ram_count c old new (inr w) = length-write_at old.memory.ram w.address w.width w.value new.memory.ram w.ram
+
+quiet_step : (c : ℕ) (old new : Board) → Before c old new → StepDone c old new
+quiet_step c old new h = record {
+  changes = record {
+    breakpoints = h.breakpoints;
+    memory = h.memory;
+    ticks = h.frame.ticks;
+    stamps = h.frame.stamps;
+    processors = h.frame.processors;
+    pipes = λ d other. inl (h.frame.pipes d other);
+    harts = h.frame.harts;
+    tasks = h.frame.tasks;
+  };
+  counts = record {
+    processors = h.frame.processors_count;
+    pipes = h.frame.pipes_count;
+    ram = ram_count c old new h.memory;
+    tasks = h.frame.tasks_count;
+    harts = h.frame.harts_count;
+    registers = h.frame.registers;
+  };
+}
+
+told_if : (own wants : Bool) (p : Pipe) → (Some (if own then p else (if wants then raise 1 p else p)) ≡ Some p) ⊎ (Some (if own then p else (if wants then raise 1 p else p)) ≡ Some (raise 1 p))
+told_if true wants p = inl refl
+told_if false true p = inr refl
+told_if false false p = inl refl
+
+told : (c d : ℕ) (k : Parts) (o : Option Pipe) → (option_map (nudge_pipe c k d) o ≡ o) ⊎ (option_map (nudge_pipe c k d) o ≡ option_map (raise 1) o)
+told c d k None = inl refl
+told c d k (Some p) = told_if (d == c) (wants_nudge d p k) p
+
+same_writes : (c : ℕ) (f : Parts → Parts) (old new : Board) → (new.memory ≡ old.memory) ⊎ StoreWrites c old new → ((on_parts f new).memory ≡ old.memory) ⊎ StoreWrites c old (on_parts f new)
+same_writes c f old new (inl same) = inl same
+same_writes c f old new (inr w) = inr (record {
+  task = w.task;
+  hart = w.hart;
+  word = w.word;
+  inst = w.inst;
+  width = w.width;
+  address = w.address;
+  value = w.value;
+  runs = w.runs;
+  has = w.has;
+  fetched = w.fetched;
+  decodes = w.decodes;
+  stores = w.stores;
+  rest = w.rest;
+  ram = w.ram;
+})
+
+nudged_step : (c : ℕ) (old new : Board) → Before c old new → StepDone c old (on_parts (nudge c) new)
+unfolding nudge
+nudged_step c old new h = let k : Parts = new.parts in record {
+  changes = record {
+    breakpoints = h.breakpoints;
+    memory = same_writes c (nudge c) old new h.memory;
+    ticks = h.frame.ticks;
+    stamps = h.frame.stamps;
+    processors = h.frame.processors;
+    pipes = λ d other.
+        let at : slice_get (each (nudge_pipe c k) k.pipes) d ≡ option_map (nudge_pipe c k d) (slice_get k.pipes d) = slice_get-each (nudge_pipe c k) k.pipes d in
+        let before : slice_get k.pipes d ≡ slice_get old.parts.pipes d = h.frame.pipes d other in
+        elim (told c d k (slice_get k.pipes d)) [
+          | inl same ↦ inl (at ∙ same ∙ before)
+          | inr raised ↦ inr (at ∙ raised ∙ ap (option_map (raise 1)) before)
+        ];
+    harts = h.frame.harts;
+    tasks = h.frame.tasks;
+  };
+  counts = record {
+    processors = h.frame.processors_count;
+    pipes = length-each_from 0 (nudge_pipe c k) k.pipes ∙ h.frame.pipes_count;
+    ram = ram_count c old new h.memory;
+    tasks = h.frame.tasks_count;
+    harts = h.frame.harts_count;
+    registers = h.frame.registers;
+  };
+}
+
+-- a step ends by settling, and telling the others
+settled_step : (c : ℕ) (old new : Board) → Before c old new → StepDone c old (on_parts (settle_and_nudge c) new)
+unfolding settle_and_nudge
+settled_step c old new h = nudged_step c old (on_parts (settle c) new) (record {
+  frame = frame_then c (current c old.parts) old.parts new.parts (settle c new.parts) h.frame (frame_settle c (current c old.parts) new.parts);
+  breakpoints = h.breakpoints;
+  memory = same_writes c (settle c) old new h.memory;
+})
+
+none_yet : (c : ℕ) (b : Board) → Before c b b
+none_yet c b = record { frame = frame_none c (current c b.parts) b.parts; breakpoints = refl; memory = inl refl }
+
+run_done : (hart : Hart) (c t : ℕ) (b : Board) → current c b.parts ≡ Some t → slice_get b.parts.harts t ≡ Some hart → StepDone c b (run hart c t b).0
+run_done hart c t b r e =
+    let passed : Board = on_parts (on_processor c (λ p. record p { skip = false })) b in
+    let x = executes hart c t passed in
+    settled_step c b (execute hart c t passed) (record {
+      frame = rw r (frame_then c (Some t) b.parts passed.parts (execute hart c t passed).parts (frame_processor c (Some t) _ b.parts) x.frame);
+      breakpoints = x.breakpoints;
+      memory = elim x.memory [
+        | inl same ↦ inl same
+        | inr w ↦ inr (record {
+          task = t;
+          hart = hart;
+          word = w.word;
+          inst = w.inst;
+          width = w.wrote.width;
+          address = w.wrote.address;
+          value = w.wrote.value;
+          runs = r;
+          has = e;
+          fetched = w.fetched;
+          decodes = w.decodes;
+          stores = w.wrote.stores;
+          rest = refl;
+          ram = w.wrote.ram;
+        })
+      ];
+    })
+
+either_done : (c : ℕ) (old : Board) (x y : Board × Answer) (b : Bool) → StepDone c old x.0 → StepDone c old y.0 → StepDone c old (if b then x else y).0
+either_done c old x y true p q = p
+either_done c old x y false p q = q
+
+hart_done : (o : Option Hart) (p : Processor) (c t : ℕ) (b : Board) → current c b.parts ≡ Some t → slice_get b.parts.harts t ≡ o → StepDone c b (step_hart o p c t b).0
+unfolding stop
+hart_done None p c t b r e = quiet_step c b b (none_yet c b)
+hart_done (Some hart) p c t b r e = either_done c b _ (run hart c t b) (is_set b.breakpoints hart.pc && not p.skip)
+    (quiet_step c b _ (record { frame = frame_processor c (current c b.parts) _ b.parts; breakpoints = refl; memory = inl refl })) (run_done hart c t b r e)
+
+current_done : (o : Option ℕ) (p : Processor) (c : ℕ) (b : Board) → current c b.parts ≡ o → StepDone c b (step_current o p c b).0
+current_done None p c b r = settled_step c b b (none_yet c b)
+current_done (Some t) p c b r = hart_done (slice_get b.parts.harts t) p c t b r refl
+
+wire_done : (o : Option ℕ) (p : Processor) (c : ℕ) (b : Board) → current c b.parts ≡ p.current → StepDone c b (step_wire o p c b).0
+wire_done None p c b r = current_done p.current p c b r
+wire_done (Some l) p c b r = settled_step c b (on_parts (on_pipe c (receive l)) b) (record { frame = frame_pipe c (current c b.parts) (receive l) b.parts; breakpoints = refl; memory = inl refl })
+
+pipe_done : (o : Option Pipe) (p : Processor) (c : ℕ) (b : Board) → current c b.parts ≡ p.current → StepDone c b (step_pipe o p c b).0
+pipe_done None p c b r = quiet_step c b b (none_yet c b)
+pipe_done (Some pipe) p c b r = wire_done (least_line pipe.wire) p c b r
+
+processor_done : (o : Option Processor) (c : ℕ) (b : Board) → slice_get b.parts.processors c ≡ o → StepDone c b (step_processor o c b).0
+processor_done None c b e = quiet_step c b b (none_yet c b)
+processor_done (Some p) c b e = either_done c b (b, Stopped) _ p.stopped (quiet_step c b b (none_yet c b)) (pipe_done (slice_get b.parts.pipes c) p c b (ap current_of e))
+
+pub step_done : (c : ℕ) (b : Board) → StepDone c b (step c b).0
+unfolding step
+step_done c b = processor_done (slice_get b.parts.processors c) c b refl

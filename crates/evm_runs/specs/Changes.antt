@@ -1,0 +1,136 @@
+-- What each event changes: the places that it names, and nothing else.
+use Rattle.std.specs.Prelude.{◌≡◌, ℕ, ◌+◌, ◌++◌, List, [], ◌∷◌, Some, Bool, true, false, ◌⊎◌, if◌then◌else◌, slice_get, option_map, Ok}
+use Rattle.evm_lines.specs.Lines.{has_line, with_line}
+use Rattle.evm_isa.specs.Decoded.{decoded}
+use Rattle.evm_isa.specs.declared.inst.Inst.{Inst}
+use Rattle.evm_exec.specs.Does.{does}
+use Rattle.evm_exec.specs.Registers.{with_register}
+use Rattle.evm_exec.specs.declared.hart.Hart.{Hart}
+use Rattle.evm_exec.specs.declared.outcome.Effect.TheVariants.{Store}
+use Rattle.evm_ram.specs.Ram.{poke_at, write_at}
+use Rattle.evm_ram.specs.declared.width.Width.{Width}
+use Rattle.evm_model.specs.Commands.{is_set}
+use Rattle.evm_model.specs.Memory.{fetch}
+use Rattle.evm_model.specs.Pipes.{Pipe, raise}
+use Rattle.evm_model.specs.Replay.{apply}
+use Rattle.evm_model.specs.Rows.{step}
+use Rattle.evm_model.specs.Settle.{current}
+use Rattle.evm_model.specs.State.{State, Board}
+use Rattle.evm_model.specs.declared.event.Answer.{Answer}
+use Rattle.evm_model.specs.declared.event.Answer.TheVariants.{Done}
+use Rattle.evm_model.specs.declared.event.Event.{Event}
+use Rattle.evm_model.specs.declared.event.Event.TheVariants.{Step, Tick, Raise, Bell, Stop, Go, StepI, SetReg, SetPc, Poke, Break, Unbreak}
+use Rattle.evm_model.specs.declared.processor.Processor.{Processor}
+
+-- the i-th of a list is changed so, and no other
+pub record OneChanges {X : Type 0} (i : ℕ) (change : X → X) (old new : List X) : Type 0 where
+  pub here : slice_get new i ≡ option_map change (slice_get old i)
+  pub others : (j : ℕ) → (j ≡ i → ⊥) → slice_get new j ≡ slice_get old j
+
+-- a pipe on which line l was raised: it is on the wire, and is counted as raised, merged if it was on the wire; nothing else changes
+pub record IsRaised (l : ℕ) (old new : Pipe) : Type 0 where
+  pub rest : new ≡ record old { wire = with_line old.wire l; counts = new.counts }
+  pub counts : OneChanges l (λ n. record n { raised = n.raised + 1; merged = if has_line old.wire l then n.merged + 1 else n.merged }) old.counts new.counts
+
+abbrev pub RaisesOneLine : Type 0
+RaisesOneLine = (l : ℕ) (p : Pipe) → IsRaised l p (raise l p)
+
+-- ---- commands
+-- processor c is changed so, and nothing else
+pub record ProcessorChanges (c : ℕ) (change : Processor → Processor) (old new : Board) : Type 0 where
+  pub rest : new ≡ record old { parts = record old.parts { processors = new.parts.processors } }
+  pub processors : OneChanges c change old.parts.processors new.parts.processors
+
+-- the registers or the pc of the current task of c are changed so, and nothing else
+pub record CurrentChanges (c : ℕ) (change : Hart → Hart) (old new : Board) : Type 0 where
+  pub task : ℕ
+  pub runs : current c old.parts ≡ Some task
+  pub rest : new ≡ record old { parts = record old.parts { harts = new.parts.harts } }
+  pub harts : OneChanges task change old.parts.harts new.parts.harts
+
+-- bytes are written into RAM from an address on, and nothing else
+pub record RamChanges (address : ℕ) (bytes : List ℕ) (old new : Board) : Type 0 where
+  pub rest : new ≡ record old { memory = record old.memory { ram = new.memory.ram } }
+  pub ram : poke_at old.memory.ram address bytes ≡ Some new.memory.ram
+
+-- a breakpoint is there afterwards or not, and nothing else changes
+pub record BreakpointChanges (address : ℕ) (there : Bool) (old new : Board) : Type 0 where
+  pub rest : new ≡ record old { breakpoints = new.breakpoints }
+  pub here : is_set new.breakpoints address ≡ there
+  pub others : (other : ℕ) → (other ≡ address → ⊥) → is_set new.breakpoints other ≡ is_set old.breakpoints other
+  pub already : is_set old.breakpoints address ≡ there → new ≡ old
+
+-- line l is raised on c, and nothing else changes
+pub record LineRaised (c l : ℕ) (old new : Board) : Type 0 where
+  pub rest : new ≡ record old { parts = record old.parts { pipes = new.parts.pipes } }
+  pub pipes : OneChanges c (raise l) old.parts.pipes new.parts.pipes
+
+-- the clock goes on by one, line 0 is raised on every processor, and nothing else changes
+pub record ClockTicks (old new : Board) : Type 0 where
+  pub rest : new ≡ record old { parts = record old.parts { ticks = old.parts.ticks + 1; pipes = new.parts.pipes } }
+  pub pipes : (c : ℕ) → slice_get new.parts.pipes c ≡ option_map (raise 0) (slice_get old.parts.pipes c)
+
+-- ---- a step
+-- a store of the current task of c has written
+pub record StoreWrites (c : ℕ) (old new : Board) : Type 0 where
+  pub task : ℕ
+  pub hart : Hart
+  pub word : ℕ
+  pub inst : Inst
+  pub width : Width
+  pub address : ℕ
+  pub value : ℕ
+  pub runs : current c old.parts ≡ Some task
+  pub has : slice_get old.parts.harts task ≡ Some hart
+  pub fetched : fetch hart.pc old.memory ≡ Some word
+  pub decodes : decoded word ≡ Some inst
+  pub stores : does inst hart.regs hart.pc ≡ Store width address value
+  pub rest : new.memory ≡ record old.memory { ram = new.memory.ram }
+  pub ram : write_at old.memory.ram address width value ≡ Some new.memory.ram
+
+-- a step of c changes RAM only by a store, of the tasks only the one that was current on c, and of other processors only that line 1 may be raised there
+pub record StepChanges (c : ℕ) (old new : Board) : Type 0 where
+  pub breakpoints : new.breakpoints ≡ old.breakpoints
+  pub memory : (new.memory ≡ old.memory) ⊎ StoreWrites c old new
+  pub ticks : new.parts.ticks ≡ old.parts.ticks
+  pub stamps : new.parts.stamps ≡ old.parts.stamps
+  pub processors : (d : ℕ) → (d ≡ c → ⊥) → slice_get new.parts.processors d ≡ slice_get old.parts.processors d
+  pub pipes : (d : ℕ) → (d ≡ c → ⊥) → (slice_get new.parts.pipes d ≡ slice_get old.parts.pipes d) ⊎ (slice_get new.parts.pipes d ≡ option_map (raise 1) (slice_get old.parts.pipes d))
+  pub harts : (t : ℕ) → (current c old.parts ≡ Some t → ⊥) → slice_get new.parts.harts t ≡ slice_get old.parts.harts t
+  pub tasks : (t : ℕ) → (current c old.parts ≡ Some t → ⊥) → slice_get new.parts.tasks t ≡ slice_get old.parts.tasks t
+
+-- c is let go past a breakpoint, takes a step, and is stopped
+pub record StepsOnce (c : ℕ) (old new : Board) : Type 0 where
+  pub freed : Board
+  pub goes : ProcessorChanges c (λ p. record p { stopped = false; skip = true }) old freed
+  pub steps : StepChanges c freed (step c freed).0
+  pub stops : ProcessorChanges c (λ p. record p { stopped = true; skip = false }) (step c freed).0 new
+
+-- ---- every event
+abbrev pub ChangesOnly : Event → Board → Board → Type 0
+ChangesOnly (Step c) old new = StepChanges c old new
+ChangesOnly Tick old new = ClockTicks old new
+ChangesOnly (Raise c l) old new = LineRaised c l old new
+ChangesOnly (Bell c l) old new = LineRaised c l old new
+ChangesOnly (Stop c) old new = ProcessorChanges c (λ p. record p { stopped = true }) old new
+ChangesOnly (Go c) old new = ProcessorChanges c (λ p. record p { stopped = false; skip = true }) old new
+ChangesOnly (StepI c) old new = StepsOnce c old new
+ChangesOnly (SetReg c r value) old new = CurrentChanges c (λ hart. record hart { regs = with_register hart.regs r value }) old new
+ChangesOnly (SetPc c pc) old new = CurrentChanges c (λ hart. record hart { pc = pc }) old new
+ChangesOnly (Poke address bytes) old new = RamChanges address bytes.items old new
+ChangesOnly (Break address) old new = BreakpointChanges address true old new
+ChangesOnly (Unbreak address) old new = BreakpointChanges address false old new
+
+abbrev pub IsDone : Event → Answer → Type 0
+IsDone (Step c) answer = Unit {0}
+IsDone _ answer = answer ≡ Done
+
+-- an accepted event stands in the journal afterwards, and changes only what it may; a command answers Done
+pub record EventChanges (event : Event) (answer : Answer) (old new : State) : Type 0 where
+  pub rest : new ≡ record old { journal = new.journal; board = new.board }
+  pub journal : new.journal ≡ old.journal ++ event ∷ []
+  pub board : ChangesOnly event old.board new.board
+  pub answers : IsDone event answer
+
+abbrev pub EventsChangeOnly : Type 0
+EventsChangeOnly = (old new : State) (event : Event) (answer : Answer) → apply old event ≡ Ok (new, answer) → EventChanges event answer old new

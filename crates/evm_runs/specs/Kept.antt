@@ -1,0 +1,62 @@
+-- What no event changes.
+use Rattle.std.specs.Prelude.{◌≡◌, ℕ, ◌≤◌, List, Some, slice_get, length}
+use Rattle.evm_exec.specs.declared.hart.Hart.{Hart}
+use Rattle.evm_model.specs.Load.{start_loaded}
+use Rattle.evm_model.specs.Replay.{start, replay}
+use Rattle.evm_model.specs.State.{State, Board}
+use Rattle.evm_model.specs.declared.boot.Boot.{Boot}
+use Rattle.evm_model.specs.declared.event.Event.{Event}
+use Rattle.evm_model.specs.declared.limits.TheConstants.{TASK_LIMIT}
+
+-- there are 32 registers, and x0 is zero
+pub record AreRegisters (regs : List ℕ) : Type 0 where
+  pub count : length regs ≡ 32
+  pub zero_first : slice_get regs 0 ≡ Some 0
+
+abbrev pub AllHaveRegisters : List Hart → Type 0
+AllHaveRegisters harts = (t : ℕ) (hart : Hart) → slice_get harts t ≡ Some hart → AreRegisters hart.regs
+
+-- as many processors, pipes and bytes of RAM as before, no fewer tasks and harts, and no more of them than there may be; tasks keep their registers
+pub record SameSizes (old new : Board) : Type 0 where
+  pub processors : length new.parts.processors ≡ length old.parts.processors
+  pub pipes : length new.parts.pipes ≡ length old.parts.pipes
+  pub ram : length new.memory.ram ≡ length old.memory.ram
+  pub tasks : length old.parts.tasks ≤ length new.parts.tasks
+  pub harts : length old.parts.harts ≤ length new.parts.harts
+  pub few_tasks : length old.parts.tasks ≤ TASK_LIMIT → length new.parts.tasks ≤ TASK_LIMIT
+  pub few_harts : length old.parts.harts ≤ TASK_LIMIT → length new.parts.harts ≤ TASK_LIMIT
+  pub registers : AllHaveRegisters old.parts.harts → AllHaveRegisters new.parts.harts
+
+-- no list of events changes a size, nor the boot numbers
+pub record Stays (old new : State) : Type 0 where
+  pub boot : new.boot ≡ old.boot
+  pub sizes : SameSizes old.board new.board
+
+abbrev pub SizesStay : Type 0
+SizesStay = (s : State) (events : List Event) → Stays s (replay s events)
+
+-- as many tasks, and as many harts
+pub record SameTasks (old new : State) : Type 0 where
+  pub tasks : length new.board.parts.tasks ≡ length old.board.parts.tasks
+  pub harts : length new.board.parts.harts ≡ length old.board.parts.harts
+
+-- no event makes a task
+abbrev pub TasksStay : Type 0
+TasksStay = (s : State) (events : List Event) → SameTasks s (replay s events)
+
+-- as many processors, pipes and bytes as the boot numbers say, one task, and x0 is zero
+pub record IsAsBooted (boot : Boot) (s : State) : Type 0 where
+  pub boot_kept : s.boot ≡ boot
+  pub processors : length s.board.parts.processors ≡ boot.cpus
+  pub pipes : length s.board.parts.pipes ≡ boot.cpus
+  pub ram : length s.board.memory.ram ≡ boot.ram
+  pub tasks : length s.board.parts.tasks ≡ 1
+  pub harts : length s.board.parts.harts ≡ 1
+  pub registers : AllHaveRegisters s.board.parts.harts
+
+-- from boot on, also where an image was loaded before
+abbrev pub StaysAsBooted : Type 0
+StaysAsBooted = (boot : Boot) (events : List Event) → IsAsBooted boot (replay (start boot) events)
+
+abbrev pub StaysAsLoaded : Type 0
+StaysAsLoaded = (byte : ℕ → ℕ) (entry : ℕ) (boot : Boot) (events : List Event) → IsAsBooted boot (replay (start_loaded byte entry boot) events)

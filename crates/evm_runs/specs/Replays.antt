@@ -1,0 +1,26 @@
+-- How replays join, and what a load puts into RAM.
+use Rattle.std.specs.Prelude.{◌≡◌, ℕ, ◌+◌, ◌<◌, List, [], ◌++◌, length, slice_index}
+use Rattle.evm_model.specs.Load.{bytes_from}
+use Rattle.evm_model.specs.Replay.{IsReplayOf, start, replay}
+use Rattle.evm_model.specs.State.{State}
+use Rattle.evm_model.specs.declared.boot.Boot.{Boot}
+use Rattle.evm_model.specs.declared.event.Event.{Event}
+
+-- a replay goes on where another ended
+abbrev pub ReplaysJoin : Type 0
+ReplaysJoin = (s : State) (first rest : List Event) → replay s (first ++ rest) ≡ replay (replay s first) rest
+
+-- a machine that has had no event is the replay of its empty journal
+abbrev pub StartsAsReplay : Type 0
+StartsAsReplay = (boot : Boot) → IsReplayOf (start boot) (start boot)
+
+-- after every list of events the state is what the accepted ones alone make of the first state
+abbrev pub StaysReplay : Type 0
+StaysReplay = (first : State) (events : List Event) → first.journal ≡ [] → IsReplayOf first (replay first events)
+
+-- there are so many bytes, and each is that of its address
+abbrev pub LoadsSoManyBytes : Type 0
+LoadsSoManyBytes = (byte : ℕ → ℕ) (address n : ℕ) → length (bytes_from byte address n) ≡ n
+
+abbrev pub LoadsEachByte : Type 0
+LoadsEachByte = (byte : ℕ → ℕ) (address n i : ℕ) → i < n → slice_index (bytes_from byte address n) i ≡ byte (address + i)

@@ -1,0 +1,78 @@
+//! Laws over whole runs of the machine: each is a contract that nothing has to be done for.
+#![tactic(auto)]
+
+ghost use Rattle.evm_runs.specs.Balance.{AlwaysBalances, AlwaysBalancesFresh, AlwaysBalancesLoaded};
+ghost use Rattle.evm_runs.specs.Changes.{EventsChangeOnly, RaisesOneLine};
+ghost use Rattle.evm_runs.specs.First.{AlwaysFindsFirst};
+ghost use Rattle.evm_runs.specs.Kept.{SizesStay, StaysAsBooted, StaysAsLoaded, TasksStay};
+ghost use Rattle.evm_runs.specs.Least.{AlwaysTellsLeast};
+ghost use Rattle.evm_runs.specs.Replays.{LoadsEachByte, LoadsSoManyBytes, ReplaysJoin, StartsAsReplay, StaysReplay};
+
+/// No interrupt is lost and none is played twice: after every boot and every list of events, also where an
+/// image was loaded before, each line of each processor was raised as often as it merged on the wire, is there
+/// still, or was received; what was received came to a stage; and what came to a stage merged in its log, is
+/// there still, or was played. Each line but line 1 was raised by as many events as the journal has of them.
+pub fn balance_holds()
+    ensures booted { AlwaysBalances }
+    ensures loaded { AlwaysBalancesLoaded }
+    ensures fresh { AlwaysBalancesFresh }
+{}
+
+/// An accepted event is in the journal afterwards. A command answers Done, and changes only the place that it
+/// names. A step changes RAM only by a store, of the tasks only the one that was current, and of the other
+/// processors only that line 1 may be raised there.
+pub fn events_change_only()
+    ensures { EventsChangeOnly }
+{}
+
+/// A raise puts its line on the wire and counts it, and changes nothing else of a pipe.
+pub fn raises_one_line()
+    ensures { RaisesOneLine }
+{}
+
+/// No event changes the boot numbers, nor how many processors, pipes, bytes of RAM or registers there are;
+/// tasks only get more, up to 64. No event of today makes one.
+pub fn sizes_stay()
+    ensures sizes { SizesStay }
+    ensures tasks { TasksStay }
+{}
+
+/// After every list of events there are as many processors, pipes and bytes of RAM as the boot numbers say,
+/// one task, and x0 of each task is zero; also where an image was loaded before.
+pub fn stays_as_booted()
+    ensures booted { StaysAsBooted }
+    ensures loaded { StaysAsLoaded }
+{}
+
+/// `first` finds the member of greatest rank, then of least stamp, and none where there is no member; where
+/// no two members have one stamp it is the only such.
+pub fn finds_first()
+    ensures { AlwaysFindsFirst }
+{}
+
+/// An event is refused exactly where there is a reason for it, and of several the one of least number is told:
+/// that the journal is full goes before all others.
+pub fn tells_least()
+    ensures { AlwaysTellsLeast }
+{}
+
+/// Replaying events and then others is replaying all of them.
+pub fn replays_join()
+    ensures { ReplaysJoin }
+{}
+
+/// A machine that has had no event is the replay of its empty journal.
+pub fn starts_as_replay()
+    ensures { StartsAsReplay }
+{}
+
+/// After every list of events a machine is the replay of its journal: refused events leave no trace.
+pub fn stays_replay()
+    ensures { StaysReplay }
+{}
+
+/// What a load puts into RAM: so many bytes, each the one of its address.
+pub fn loads_each_byte()
+    ensures count { LoadsSoManyBytes }
+    ensures each { LoadsEachByte }
+{}

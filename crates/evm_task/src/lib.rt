@@ -1,0 +1,9 @@
+//! The tasks: what the scheduler knows of each, and apart from that their registers. There is room for all from
+//! the start, and no more.
+#![tactic(auto)]
+
+mod harts;
+mod tasks;
+
+pub use harts::Harts;
+pub use tasks::Tasks;

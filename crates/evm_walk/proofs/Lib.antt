@@ -1,0 +1,10 @@
+pub mod Counted
+pub mod Lift
+pub mod Moves
+pub mod Playing
+pub mod Refused
+pub mod Rows
+pub mod Runs
+pub mod Sets
+pub mod Sizes
+pub mod Twice

@@ -1,0 +1,2 @@
+//! What every event is made of: a few moves of pipes and of tasks.
+#![tactic(auto)]
