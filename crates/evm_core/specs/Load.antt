@@ -1,7 +1,7 @@
 -- An image in a machine that has had no event.
 use Rattle.std.specs.Prelude.{ℕ, ◌+◌, ◌==◌, nat_lt, Bool, ◌&&◌, not, if◌then◌else◌, length, Option, Some, None, Result, Ok, Err}
 use Rattle.std.specs.List.{list_any}
-use Rattle.evm_elf.specs.Images.{Loaded, Contents, byte_at}
+use Rattle.evm_image.specs.Images.{Loaded, Contents, byte_at}
 use Rattle.evm_ram.specs.declared.ram.TheConstants.{BASE}
 use Rattle.evm_ram.specs.declared.refusal.Refusal.{Refusal}
 use Rattle.evm_ram.specs.declared.refusal.Refusal.TheVariants.{BadAddress, Started}

@@ -1,11 +1,11 @@
 ghost use Rattle.std.specs.Prelude.{◌≡◌, length, false};
 ghost use Rattle.std.specs.List.{list_any};
-ghost use Rattle.evm_elf.specs.Images.{byte_at};
+ghost use Rattle.evm_image.specs.Images.{byte_at};
 ghost use Rattle.evm_model.specs.Load.{loaded};
 ghost use Rattle.evm_core.specs.Load.{passes_ram};
 
 use crate::kernel::Kernel;
-use evm_elf::{Image, Segment};
+use evm_image::{Image, Segment};
 use evm_ram::BASE;
 
 // Whether a byte of a segment lies past RAM of this many bytes.

@@ -1,7 +1,7 @@
 //! Images and their segments.
 
 ghost use Rattle.std.specs.Prelude.{◌≡◌};
-ghost use Rattle.evm_elf.specs.Images.{IsSound};
+ghost use Rattle.evm_image.specs.Images.{IsSound};
 
 use std::marker::Model;
 
@@ -14,7 +14,7 @@ pub struct Segment {
 }
 
 impl Model for Segment {
-    ghost use Rattle.evm_elf.specs.Images.{Loaded};
+    ghost use Rattle.evm_image.specs.Images.{Loaded};
 
     ghost Value = { Loaded };
 
@@ -23,7 +23,7 @@ impl Model for Segment {
 
 impl Segment {
     /// The segment of `bytes` at `address` that takes `memsz` bytes of memory.
-    pub(crate) fn new(address: u64, bytes: Vec<u8>, memsz: u64) -> Self
+    pub fn new(address: u64, bytes: Vec<u8>, memsz: u64) -> Self
         ensures { result ≡ record { address = address; bytes = bytes.items; memsz = memsz } }
     {
         Segment {
@@ -63,7 +63,7 @@ pub struct Image {
 }
 
 impl Model for Image {
-    ghost use Rattle.evm_elf.specs.Images.{Contents, IsSound};
+    ghost use Rattle.evm_image.specs.Images.{Contents, IsSound};
 
     ghost Value = { Contents };
 
@@ -74,7 +74,7 @@ impl Model for Image {
 
 impl Image {
     /// The image of segments that keep its rules.
-    pub(crate) fn new(entry: u64, segments: Vec<Segment>) -> Self
+    pub fn new(entry: u64, segments: Vec<Segment>) -> Self
         requires { IsSound (record { entry = entry; segments = segments.items }) }
         ensures { result ≡ record { entry = entry; segments = segments.items } }
     {

@@ -1,7 +1,8 @@
 //! Images in a machine with the least RAM.
 
-use crate::{Answer, Event, Machine, Refusal};
-use evm_elf::{Image, read_image};
+use evm_core::{Answer, Event, Machine, Refusal};
+use evm_elf::read_image;
+use evm_image::Image;
 use evm_ram::BASE;
 use std::alloc::Global;
 use std::test::Fail;
