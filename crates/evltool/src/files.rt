@@ -1,7 +1,7 @@
 //! The jobs of the command line, each over the files that its words name. A job answers its status, and says on
 //! standard error why a file was not opened, read or written.
 
-use evm_elf::Image;
+use evm_image::Image;
 use evm_serve::{Ending, ReadFault, ReadStop, assemble_to, import, read_utf8, replay_to, serve};
 use std::fs::File;
 use std::io;

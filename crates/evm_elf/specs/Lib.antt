@@ -1,5 +1,4 @@
 pub mod Fields
-pub mod Images
 pub mod Faults
 pub mod Rising
 pub mod Files

@@ -4,7 +4,6 @@
 mod fault;
 mod faults;
 mod header;
-mod image;
 mod laws;
 mod overlap;
 mod reading;
@@ -12,7 +11,6 @@ mod segments;
 mod writing;
 
 pub use fault::ElfFault;
-pub use image::{Image, Segment};
 pub use laws::{
     accepted_is_sound, assembled_is_read, overlap_is_shared_address, words_are_loaded,
     written_is_read,

@@ -9,7 +9,7 @@ ghost use Rattle.evm_elf.specs.Faults.{load_of, segment_of, fault_of, image_of, 
 use crate::fault::ElfFault;
 use crate::faults::first_fault;
 use crate::header::{Header, half_at, load_header, long_at};
-use crate::image::{Image, Segment};
+use evm_image::{Image, Segment};
 use std::alloc::{AllocError, Global};
 
 /// The `filesz` bytes of the file from `offset` on, or what there is of them.

@@ -2,7 +2,8 @@
 //! that has what it must write.
 #![tactic(auto)]
 
-use evm_elf::{Image, read_image};
+use evm_elf::read_image;
+use evm_image::Image;
 use evm_serve::{assemble_to, replay_to, serve};
 use std::alloc::Global;
 use std::rt::Files;

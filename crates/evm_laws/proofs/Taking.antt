@@ -8,7 +8,7 @@ use Rattle.evm_lines.specs.declared.TheConstants.{LINES}
 use Rattle.evm_asm.specs.Assembled.{Assembled, IsWorded, StandsIn}
 use Rattle.evm_asm.specs.declared.output.ProgramLine.{ProgramLine}
 use Rattle.evm_elf.specs.Files.{program_of as image_of_bytes}
-use Rattle.evm_elf.specs.Images.{Loaded, byte_at, range_start}
+use Rattle.evm_image.specs.Images.{Loaded, byte_at, range_start}
 use Rattle.evm_ram.specs.declared.ram.TheConstants.{BASE}
 use Rattle.evm_ram.specs.declared.refusal.Refusal.{Refusal}
 use Rattle.evm_ram.specs.declared.refusal.Refusal.TheVariants.{BadAddress}

@@ -1,6 +1,6 @@
 -- How the reading of an image ends, from how its parts end.
 use Rattle.std.proofs.Common.{ℕ, ◌≤◌, List, Option, Result, Ok, Err, inl, length}
-use Rattle.evm_elf.specs.Images.{Contents}
+use Rattle.evm_image.specs.Images.{Contents}
 use Rattle.evm_elf.specs.declared.fault.ElfFault.{ElfFault}
 use Rattle.evm_serve.specs.Stream.{LIMIT}
 use Rattle.evm_serve.specs.Serving.{TellsMemory}

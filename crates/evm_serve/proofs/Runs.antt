@@ -2,7 +2,7 @@
 use Rattle.std.proofs.Common.{◌≡◌, ℕ, ◌+◌, List, [], ◌++◌, Option, None, refl, ap, sym, ◌∙◌, append_assoc}
 use Rattle.std.proofs.lemmas.List.{append-nil}
 use Rattle.std.specs.Io.KnownBytes.{Appends}
-use Rattle.evm_elf.specs.Images.{Contents}
+use Rattle.evm_image.specs.Images.{Contents}
 use Rattle.evm_model.specs.State.{State}
 use Rattle.evm_debug.specs.LineReading.{line_at}
 use Rattle.evm_serve.specs.Lines.{lines_of, CutsLine}

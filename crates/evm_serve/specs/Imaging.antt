@@ -3,7 +3,7 @@ use Rattle.std.specs.Prelude.{◌≡◌, ◌≤◌, ℕ, List, ◌++◌, Option,
 use Rattle.std.specs.Io.KnownBytes.{Appends, Keeps}
 use Rattle.evm_text.specs.Written.{decimal}
 use Rattle.evm_elf.specs.Faults.{fault_of, fault_number, image_of}
-use Rattle.evm_elf.specs.Images.{Contents}
+use Rattle.evm_image.specs.Images.{Contents}
 use Rattle.evm_elf.specs.declared.fault.ElfFault.{ElfFault}
 use Rattle.evm_serve.specs.Stream.{LIMIT, AppendsFront}
 use Rattle.evm_serve.specs.Told.{memory_text}

@@ -1,7 +1,7 @@
 -- What replays tell, in the words of journals.
 use Rattle.std.specs.Prelude.{◌≡◌, ◌+◌, false, List, [], ◌∷◌, ◌++◌, None, Ok, Err, length}
 use Rattle.evm_core.specs.Load.{load}
-use Rattle.evm_elf.specs.Images.{Contents}
+use Rattle.evm_image.specs.Images.{Contents}
 use Rattle.evm_ram.specs.declared.refusal.Refusal.{Refusal}
 use Rattle.evm_model.specs.State.{State}
 use Rattle.evm_model.specs.Replay.{start, step, bad_boot, IsReplayOf}

@@ -1,7 +1,7 @@
 -- The machine that a run begins with: booted, and with an image in it, if there is one.
 use Rattle.std.specs.Prelude.{◌≡◌, Option, Some, None, Result, Ok, Err, false, if◌then◌else◌}
 use Rattle.evm_core.specs.Load.{load}
-use Rattle.evm_elf.specs.Images.{Contents}
+use Rattle.evm_image.specs.Images.{Contents}
 use Rattle.evm_ram.specs.declared.refusal.Refusal.{Refusal}
 use Rattle.evm_ram.specs.declared.refusal.Refusal.TheVariants.{BadSize, NoMemory}
 use Rattle.evm_model.specs.State.{State}

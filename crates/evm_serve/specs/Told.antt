@@ -1,6 +1,6 @@
 -- What a run of a script tells: its text and its status.
 use Rattle.std.specs.Prelude.{ℕ, zero, suc, ◌+◌, List, [], ◌∷◌, ◌++◌, Option, Some, None, Result, Ok, Err, codes}
-use Rattle.evm_elf.specs.Images.{Contents}
+use Rattle.evm_image.specs.Images.{Contents}
 use Rattle.evm_text.specs.Written.{decimal}
 use Rattle.evm_ram.specs.Refusal.{number_of}
 use Rattle.evm_ram.specs.declared.refusal.Refusal.{Refusal}

@@ -7,7 +7,8 @@ use crate::ending::Ending;
 use crate::serving::tell_memory;
 use crate::stream::{ReadStop, read_text, write_text};
 use crate::texts::no_image;
-use evm_elf::{ElfFault, Image, read_image};
+use evm_elf::{ElfFault, read_image};
+use evm_image::Image;
 use std::alloc::Global;
 use std::io::{Read, Write};
 

@@ -6,7 +6,7 @@ use crate::ending::{Ending, Reply};
 use crate::lines::cut_line;
 use crate::stream::{ReadStop, read_text, write_text};
 use crate::tell::tell;
-use evm_elf::Image;
+use evm_image::Image;
 use std::alloc::Global;
 use std::io::{Read, Write};
 

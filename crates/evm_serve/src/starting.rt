@@ -5,7 +5,7 @@ ghost use Rattle.evm_model.specs.Replay.{BootAnswers};
 ghost use Rattle.evm_serve.specs.Starting.{Starts};
 
 use evm_core::{Boot, Machine, Refusal};
-use evm_elf::Image;
+use evm_image::Image;
 use std::alloc::Global;
 
 // A machine with these numbers.

@@ -10,7 +10,7 @@ use crate::starting::start;
 use crate::texts::{bad, refused};
 use evm_core::{Boot, Event, Machine, Refusal};
 use evm_debug::{Line, View, ViewRefusal, read_line, show};
-use evm_elf::Image;
+use evm_image::Image;
 use evm_ram::NoMemory;
 use std::alloc::Global;
 

@@ -2,7 +2,8 @@
 
 use crate::replay::replay_to;
 use crate::serving::serve;
-use evm_elf::{Image, PROGRAM_MAX, read_image, write_bytes};
+use evm_elf::{PROGRAM_MAX, read_image, write_bytes};
+use evm_image::Image;
 use std::alloc::Global;
 use std::process::Abort;
 use std::test::Fail;
@@ -11,6 +12,7 @@ mod assembling;
 mod fakes;
 mod images;
 mod journals;
+mod loading;
 mod scripts;
 mod streams;
 

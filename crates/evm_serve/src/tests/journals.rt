@@ -5,7 +5,7 @@ use super::images::PROGRAM;
 use super::{check_replay, image_of};
 use crate::replay::replay_to;
 use crate::serving::serve;
-use evm_elf::Image;
+use evm_image::Image;
 use std::alloc::Global;
 use std::io::{self, Read};
 use std::process::Abort;
