@@ -1,0 +1,65 @@
+//! Runs the worked rows in its folder: each line of the file STAGES names a folder, and each line of the file INDEX
+//! in it a row, which is run through the engine as `evltool` runs it. A line is printed for each row that does not
+//! give the text and the status that are wanted, and at the end one that counts the rows.
+#![tactic(auto)]
+
+mod engine;
+mod folder;
+mod row;
+
+use engine::outcome_of;
+use folder::bytes_of;
+use row::{Row, row_of};
+use std::rt::Files;
+use std::{fs, io};
+
+/// Says what is wrong with a row, if it doesn't give what is wanted.
+fn tell_row(
+    rt: &(impl Files + Print + AllocGlobal),
+    folder: &str,
+    row: &Row<'_>,
+) -> io::Result<()> {
+    let outcome = outcome_of(rt, folder, row)?;
+    let wanted = bytes_of(rt, folder, row.name, "out")?;
+    let is_its_text = outcome.text.as_slice() == wanted.as_slice();
+    if is_its_text && outcome.status == row.status {
+        return Ok(());
+    }
+    let text = if is_its_text { "as wanted" } else { "another" };
+    let name = row.name;
+    let status = row.status;
+    let had = outcome.status;
+    println!(rt; "{folder}/{name}: status {status} wanted, {had} had; the text is {text}")
+}
+
+/// Runs the row of a line of INDEX, and says what is wrong with it.
+fn tell_line(rt: &(impl Files + Print + AllocGlobal), folder: &str, line: &str) -> io::Result<()> {
+    let words: Vec<&str> = line.split(' ').collect(rt.alloc())?;
+    let Some(row) = row_of(words.as_slice()) else {
+        return println!(rt; "{folder}: no row: {line}");
+    };
+    match tell_row(rt, folder, &row) {
+        Ok(()) => Ok(()),
+        Err(error) => println!(rt; "{folder}: {error}: {line}"),
+    }
+}
+
+/// Runs the rows of a folder, and answers how many there are.
+fn tell_folder(rt: &(impl Files + Print + AllocGlobal), folder: &str) -> io::Result<usize> {
+    let index = fs::read_to_string(rt, format!(in rt.alloc(); "{folder}/INDEX")?)?;
+    for line in index.lines() {
+        tell_line(rt, folder, line)?;
+    }
+    Ok(index.lines().count())
+}
+
+fn main(rt: HostRuntime) -> io::Result<()> {
+    let stages = fs::read_to_string(&rt, "STAGES")?;
+    let folders: Vec<&str> = stages.lines().collect(rt.alloc())?;
+    let mut count = 0usize;
+    for folder in &folders {
+        count = count.saturating_add(tell_folder(&rt, folder)?);
+    }
+    let names = folders.as_slice().join(rt.alloc(), ", ")?;
+    println!(rt; "{count} rows of {names}")
+}
