@@ -1,13 +1,19 @@
 -- What is shown of a machine at the end of a replay.
-use Rattle.std.specs.Prelude.{ℕ, ◌+◌, List, [], ◌∷◌, ◌++◌}
-use Rattle.evm_model.specs.State.{State}
-use Rattle.evm_model.specs.declared.cpu.Cpu.{Cpu}
+use Rattle.std.specs.Prelude.{ℕ, zero, suc, List, [], ◌++◌, Option, Some, None, slice_get, length}
+use Rattle.evm_model.specs.Pipes.{Pipe}
+use Rattle.evm_model.specs.State.{Parts, State}
+use Rattle.evm_model.specs.declared.processor.Processor.{Processor}
 use Rattle.evm_debug.specs.Views.{stages_text, tasks_text}
 
--- the stages of each processor, whose numbers begin at c
-unfoldable pub all_stages : ℕ → List Cpu → List ℕ
-all_stages c [] = []
-all_stages c (cpu ∷ cpus) = stages_text c cpu ++ all_stages (c + 1) cpus
+abbrev pub stages_or_none : ℕ → Option Processor → Option Pipe → List ℕ
+stages_or_none c None pipe = []
+stages_or_none c (Some p) None = []
+stages_or_none c (Some p) (Some pipe) = stages_text c p pipe
+
+-- the stages of the processors below a number, by their numbers
+unfoldable pub stages_below : ℕ → Parts → List ℕ
+stages_below zero k = []
+stages_below (suc c) k = stages_below c k ++ stages_or_none c (slice_get k.processors c) (slice_get k.pipes c)
 
 -- the owners of the mutexes: a machine has no mutexes yet, so it is empty
 abbrev pub owners_text : State → List ℕ
@@ -15,4 +21,4 @@ owners_text s = []
 
 -- the stages of each processor, the tasks, and the owners
 abbrev pub summary_text : State → List ℕ
-summary_text s = all_stages 0 s.kernel.cpus ++ tasks_text 0 s.kernel.tasks ++ owners_text s
+summary_text s = stages_below (length s.board.parts.processors) s.board.parts ++ tasks_text s.board.parts ++ owners_text s

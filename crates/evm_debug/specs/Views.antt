@@ -1,10 +1,9 @@
 -- The views of a machine as text; each line ends with a newline.
-use Rattle.std.specs.Prelude.{ℕ, zero, suc, ◌+◌, ◌/◌, ◌%◌, List, [], ◌∷◌, ◌++◌, Option, Some, None, Bool, codes, slice_get, if◌then◌else◌, ◌==◌, nat_lt, Result, Ok, Err, ◌≡◌, ⊤}
+use Rattle.std.specs.Prelude.{ℕ, zero, suc, ◌+◌, ◌/◌, ◌%◌, List, [], ◌∷◌, ◌++◌, Option, Some, None, Bool, codes, slice_get, length, if◌then◌else◌, ◌==◌, nat_lt, Result, Ok, Err, ◌≡◌, ⊤}
 use Rattle.evm_text.specs.Written.{decimal, hexadecimal_padded, pairs}
 use Rattle.evm_ram.specs.Ram.{bytes_at}
 use Rattle.evm_ram.specs.declared.refusal.Refusal.{Refusal}
 use Rattle.evm_ram.specs.declared.refusal.Refusal.TheVariants.{NoSuchCpu, NoSuchLine, BadAddress}
-use Rattle.evm_model.specs.Interrupts.{counts_at}
 use Rattle.evm_debug.specs.declared.line.View.{View}
 use Rattle.evm_debug.specs.declared.line.View.TheVariants.{Regs, Mem, Stages, Tasks, Counts as CountsView, Journal}
 use Rattle.evm_journal.specs.Journal.{journal_text}
@@ -12,15 +11,21 @@ use Rattle.evm_debug.specs.declared.look.ViewRefusal.{ViewRefusal}
 use Rattle.evm_debug.specs.declared.look.ViewRefusal.TheVariants.{Refused, NoMemory}
 use Rattle.evm_exec.specs.Registers.{register_of}
 use Rattle.evm_lines.specs.Lines.{word_of}
-use Rattle.evm_model.specs.State.{Kernel, State}
+use Rattle.evm_model.specs.Faults.{fault_number}
+use Rattle.evm_model.specs.Pipes.{Pipe}
+use Rattle.evm_model.specs.State.{Memory, Parts, State}
 use Rattle.evm_model.specs.Ranks.{is_oob_ready}
-use Rattle.evm_model.specs.declared.cpu.Cpu.{Cpu}
+use Rattle.evm_exec.specs.declared.hart.Hart.{Hart}
+use Rattle.evm_model.specs.declared.limits.TheConstants.{POKE_LIMIT}
+use Rattle.evm_model.specs.declared.processor.Processor.{Processor}
 use Rattle.evm_model.specs.declared.counts.Counts.{Counts}
 use Rattle.evm_model.specs.declared.task.Task.{Task}
 use Rattle.evm_model.specs.declared.task.Class.{Class}
 use Rattle.evm_model.specs.declared.task.Class.TheVariants.{Unattached, Fifo, RoundRobin, Weak}
 use Rattle.evm_model.specs.declared.task.TaskState.{TaskState}
 use Rattle.evm_model.specs.declared.task.TaskState.TheVariants as state
+use Rattle.evm_model.specs.declared.task.Wait.{Wait}
+use Rattle.evm_model.specs.declared.task.Wait.TheVariants as wait
 
 -- parts of a text, one behind another
 abbrev pub joined : List (List ℕ) → List ℕ
@@ -67,15 +72,16 @@ abbrev pub stage_text : TaskState → List ℕ
 stage_text s = if is_oob_ready s then codes "oob" else codes "in"
 
 -- the current task and its registers
-abbrev pub current_text : ℕ → Option Task → List ℕ
-current_text t None = codes "none\n"
-current_text t (Some task) =
-    joined (codes "task " ∷ decimal t ∷ codes " " ∷ stage_text task.state ∷ codes " pc " ∷ word_text task.hart.pc ∷ codes "\n" ∷ [])
-    ++ registers_text task.hart.regs
+abbrev pub current_text : ℕ → Option Task → Option Hart → List ℕ
+current_text t None hart = codes "none\n"
+current_text t (Some task) None = codes "none\n"
+current_text t (Some task) (Some hart) =
+    joined (codes "task " ∷ decimal t ∷ codes " " ∷ stage_text task.state ∷ codes " pc " ∷ word_text hart.pc ∷ codes "\n" ∷ [])
+    ++ registers_text hart.regs
 
-abbrev pub regs_text : Option ℕ → List Task → List ℕ
-regs_text None tasks = codes "none\n"
-regs_text (Some t) tasks = current_text t (slice_get tasks t)
+abbrev pub regs_text : Option ℕ → Parts → List ℕ
+regs_text None k = codes "none\n"
+regs_text (Some t) k = current_text t (slice_get k.tasks t) (slice_get k.harts t)
 
 abbrev pub class_text : Class → List ℕ
 class_text Unattached = codes "none"
@@ -83,37 +89,47 @@ class_text Fifo = codes "fifo"
 class_text RoundRobin = codes "rr"
 class_text Weak = codes "weak"
 
+abbrev pub wait_text : Wait → List ℕ
+wait_text (wait.Line l) = codes "in-wait " ++ decimal l
+wait_text (wait.Lock n) = codes "lock " ++ decimal n
+wait_text (wait.Semaphore n) = codes "semaphore " ++ decimal n
+wait_text (wait.Event n) = codes "event " ++ decimal n
+wait_text (wait.Flags n) = codes "flags " ++ decimal n
+wait_text wait.Sleep = codes "sleep"
+wait_text (wait.Timer n) = codes "timer " ++ decimal n
+
 abbrev pub state_text : TaskState → List ℕ
 state_text state.InReady = codes "in-ready"
-state_text (state.InWait l) = codes "in-wait " ++ decimal l
 state_text state.OobReady = codes "oob-ready"
-state_text (state.Lock n) = codes "lock " ++ decimal n
-state_text (state.Semaphore n) = codes "semaphore " ++ decimal n
-state_text (state.Event n) = codes "event " ++ decimal n
-state_text (state.Flags n) = codes "flags " ++ decimal n
-state_text state.Sleep = codes "sleep"
-state_text (state.Timer n) = codes "timer " ++ decimal n
+state_text (state.Waits on) = wait_text on
 state_text state.Exit = codes "exit"
-state_text (state.Fault n) = codes "fault " ++ decimal n
+state_text (state.Faulted fault) = codes "fault " ++ decimal (fault_number fault)
 
-abbrev pub task_text : ℕ → Task → List ℕ
-task_text n task = joined (
-    decimal n ∷ codes " cpu " ∷ decimal task.cpu ∷ codes " " ∷ class_text task.class ∷ codes " " ∷ decimal task.priority
-    ∷ codes " " ∷ state_text task.state ∷ codes " pc " ∷ word_text task.hart.pc ∷ codes "\n" ∷ [])
+-- task t and its pc, if there is such a task
+abbrev pub task_text : ℕ → Option Task → Option Hart → List ℕ
+task_text t None hart = []
+task_text t (Some task) None = []
+task_text t (Some task) (Some hart) = joined (
+    decimal t ∷ codes " cpu " ∷ decimal task.cpu ∷ codes " " ∷ class_text task.class ∷ codes " " ∷ decimal task.priority
+    ∷ codes " " ∷ state_text task.state ∷ codes " pc " ∷ word_text hart.pc ∷ codes "\n" ∷ [])
 
--- the tasks, whose numbers begin at n
-unfoldable pub tasks_text : ℕ → List Task → List ℕ
-tasks_text n [] = []
-tasks_text n (task ∷ tasks) = task_text n task ++ tasks_text (n + 1) tasks
+-- the tasks below a number, by their numbers
+unfoldable pub tasks_below : ℕ → Parts → List ℕ
+tasks_below zero k = []
+tasks_below (suc t) k = tasks_below t k ++ task_text t (slice_get k.tasks t) (slice_get k.harts t)
 
--- processor c: its task, its two logs with their stall bits, its wire, and its stop and skip bits
-abbrev pub stages_text : ℕ → Cpu → List ℕ
-stages_text c cpu = joined (
-    codes "cpu " ∷ decimal c ∷ codes " current " ∷ number_text cpu.current
-    ∷ codes " oob " ∷ bit_text cpu.oob.stalled ∷ codes " " ∷ lines_text cpu.oob.lines
-    ∷ codes " in " ∷ bit_text cpu.inband.stalled ∷ codes " " ∷ lines_text cpu.inband.lines
-    ∷ codes " task " ∷ number_text cpu.in_band ∷ codes " wire " ∷ lines_text cpu.wire
-    ∷ codes " stop " ∷ bit_text cpu.stopped ∷ codes " skip " ∷ bit_text cpu.skip ∷ codes "\n" ∷ [])
+-- all tasks
+abbrev pub tasks_text : Parts → List ℕ
+tasks_text k = tasks_below (length k.tasks) k
+
+-- processor c: its task, its two logs with their stall bits, its in-band task, its wire, and its stop and skip bits
+abbrev pub stages_text : ℕ → Processor → Pipe → List ℕ
+stages_text c p pipe = joined (
+    codes "cpu " ∷ decimal c ∷ codes " current " ∷ number_text p.current
+    ∷ codes " oob " ∷ bit_text pipe.oob.stalled ∷ codes " " ∷ lines_text pipe.oob.lines
+    ∷ codes " in " ∷ bit_text pipe.inband.stalled ∷ codes " " ∷ lines_text pipe.inband.lines
+    ∷ codes " task " ∷ number_text p.in_band_task ∷ codes " wire " ∷ lines_text pipe.wire
+    ∷ codes " stop " ∷ bit_text p.stopped ∷ codes " skip " ∷ bit_text p.skip ∷ codes "\n" ∷ [])
 
 -- the counts of a line; of each stage its arrivals, merged and played
 abbrev pub counts_text : Counts → List ℕ
@@ -124,40 +140,41 @@ counts_text n = joined (
     ∷ codes "\n" ∷ [])
 
 -- the stages of a processor, if there is one
-abbrev pub stages_of : ℕ → Option Cpu → Result (List ℕ) Refusal
-stages_of c None = Err NoSuchCpu
-stages_of c (Some cpu) = Ok (stages_text c cpu)
+abbrev pub stages_of : ℕ → Option Processor → Option Pipe → Result (List ℕ) Refusal
+stages_of c None pipe = Err NoSuchCpu
+stages_of c (Some p) None = Err NoSuchCpu
+stages_of c (Some p) (Some pipe) = Ok (stages_text c p pipe)
 
-abbrev pub regs_of : Option Cpu → List Task → Result (List ℕ) Refusal
-regs_of None tasks = Err NoSuchCpu
-regs_of (Some cpu) tasks = Ok (regs_text cpu.current tasks)
+abbrev pub regs_of : Option Processor → Parts → Result (List ℕ) Refusal
+regs_of None k = Err NoSuchCpu
+regs_of (Some p) k = Ok (regs_text p.current k)
 
-abbrev pub counts_of : Option Counts → Result (List ℕ) Refusal
-counts_of None = Err NoSuchLine
-counts_of (Some n) = Ok (counts_text n)
+abbrev pub line_of : Option Counts → Result (List ℕ) Refusal
+line_of None = Err NoSuchLine
+line_of (Some n) = Ok (counts_text n)
 
 -- the processor is looked for before the line
-abbrev pub counts_on : Option Cpu → ℕ → ℕ → Kernel → Result (List ℕ) Refusal
-counts_on None c l k = Err NoSuchCpu
-counts_on (Some cpu) c l k = counts_of (counts_at c l k)
+abbrev pub counts_of : Option Pipe → ℕ → Result (List ℕ) Refusal
+counts_of None l = Err NoSuchCpu
+counts_of (Some pipe) l = line_of (slice_get pipe.counts l)
 
 abbrev pub bytes_text : Option (List ℕ) → Result (List ℕ) Refusal
 bytes_text None = Err BadAddress
 bytes_text (Some bytes) = Ok (pairs bytes ++ codes "\n")
 
 -- 1 to 64 bytes of RAM
-abbrev pub mem_of : ℕ → ℕ → Kernel → Result (List ℕ) Refusal
-mem_of address count k =
-    if count == 0 then Err BadAddress else (if nat_lt 64 count then Err BadAddress else bytes_text (bytes_at k.ram address count))
+abbrev pub mem_of : ℕ → ℕ → Memory → Result (List ℕ) Refusal
+mem_of address count m =
+    if count == 0 then Err BadAddress else (if nat_lt POKE_LIMIT count then Err BadAddress else bytes_text (bytes_at m.ram address count))
 
 -- what a view shows of a machine, or why it is refused
 unfoldable pub shown : View → State → Result (List ℕ) Refusal
-shown (Regs c) s = regs_of (slice_get s.kernel.cpus c) s.kernel.tasks
-shown (Mem address count) s = mem_of address count s.kernel
-shown (Stages c) s = stages_of c (slice_get s.kernel.cpus c)
-shown Tasks s = Ok (tasks_text 0 s.kernel.tasks)
-shown (CountsView c l) s = counts_on (slice_get s.kernel.cpus c) c l s.kernel
-shown Journal s = Ok (journal_text s.boot s.events)
+shown (Regs c) s = regs_of (slice_get s.board.parts.processors c) s.board.parts
+shown (Mem address count) s = mem_of address count s.board.memory
+shown (Stages c) s = stages_of c (slice_get s.board.parts.processors c) (slice_get s.board.parts.pipes c)
+shown Tasks s = Ok (tasks_text s.board.parts)
+shown (CountsView c l) s = counts_of (slice_get s.board.parts.pipes c) l
+shown Journal s = Ok (journal_text s.boot s.journal)
 
 -- what the code answers is what is shown, unless memory runs out
 abbrev pub ViewFails : ViewRefusal → Result (List ℕ) Refusal → Type 0

@@ -1,23 +1,33 @@
 //! What is shown of a machine at the end of a replay.
 
-ghost use Rattle.std.specs.Prelude.{◌≡◌, ◌++◌, OnOk, IfOk};
+ghost use Rattle.std.specs.Prelude.{◌≡◌, ◌++◌, length, slice_get, OnOk, IfOk};
 ghost use Rattle.std.specs.String.{string_bytes};
-ghost use Rattle.evm_debug.specs.Summary.{all_stages, summary_text};
+ghost use Rattle.evm_debug.specs.Summary.{stages_below, stages_or_none, summary_text};
 
 use crate::views::{push_stages, push_tasks};
 use evm_core::Machine;
-use evm_model::Cpu;
 use evm_ram::NoMemory;
 use std::alloc::{AllocError, Global};
 
-#[tactic(auto, unfolding(crate::specs::Summary::all_stages))]
-fn push_all_stages(out: &mut String, cpus: &[Cpu]) -> Result<(), AllocError>
-    ensures { OnOk result (string_bytes out.new ≡ string_bytes out.old ++ all_stages 0 cpus.now) }
+// The stages of the processor of a number, if there is one.
+fn push_stages_of(out: &mut String, c: u8, machine: &Machine) -> Result<(), AllocError>
+    ensures { OnOk result (string_bytes out.new ≡ string_bytes out.old ++ stages_or_none c (slice_get machine.now.board.parts.processors c) (slice_get machine.now.board.parts.pipes c)) }
 {
-    let mut number = 0;
-    for cpu in cpus {
-        push_stages(out, number, cpu)?;
-        number += 1;
+    let Some(processor) = machine.cpu(c) else {
+        return Ok(());
+    };
+    match machine.pipe(c) {
+        None => Ok(()),
+        Some(pipe) => push_stages(out, c, &processor, pipe),
+    }
+}
+
+#[tactic(auto, using(crate::proofs::Below::stages))]
+fn push_all_stages(out: &mut String, machine: &Machine) -> Result<(), AllocError>
+    ensures { OnOk result (string_bytes out.new ≡ string_bytes out.old ++ stages_below (length machine.now.board.parts.processors) machine.now.board.parts) }
+{
+    for c in 0..machine.cpu_count() {
+        push_stages_of(out, c, machine)?;
     }
     Ok(())
 }
@@ -25,8 +35,8 @@ fn push_all_stages(out: &mut String, cpus: &[Cpu]) -> Result<(), AllocError>
 fn push_summary(out: &mut String, machine: &Machine) -> Result<(), AllocError>
     ensures { OnOk result (string_bytes out.new ≡ string_bytes out.old ++ summary_text machine.now) }
 {
-    push_all_stages(out, machine.cpus())?;
-    push_tasks(out, machine.tasks())
+    push_all_stages(out, machine)?;
+    push_tasks(out, machine)
 }
 
 /// The views of a machine that a replay ends with: the stages of each processor, the tasks, and the owners of

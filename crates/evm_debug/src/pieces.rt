@@ -1,11 +1,11 @@
 ghost use Rattle.std.specs.Prelude.{◌≡◌, ◌<◌, ◌++◌, OnOk};
 ghost use Rattle.std.specs.String.{string_bytes};
 ghost use Rattle.evm_text.specs.Written.{decimal};
-ghost use Rattle.evm_debug.specs.Views.{state_text, class_text, number_text, two_digits};
+ghost use Rattle.evm_debug.specs.Views.{state_text, wait_text, class_text, number_text, two_digits};
 ghost use Rattle.evm_debug.specs.Pieces.{piece_text, pieces_text};
 
 use crate::piece::Piece;
-use evm_model::{Class, TaskState};
+use evm_model::{Class, TaskState, Wait};
 use evm_text::{push_decimal, push_hexadecimal_padded};
 use std::alloc::AllocError;
 
@@ -28,21 +28,29 @@ fn push_numbered(out: &mut String, word: &str, number: u8) -> Result<(), AllocEr
     push_decimal(out, u64::from(number))
 }
 
+fn push_wait(out: &mut String, wait: Wait) -> Result<(), AllocError>
+    ensures { OnOk result (string_bytes out.new ≡ string_bytes out.old ++ wait_text wait) }
+{
+    match wait {
+        Wait::Line(line) => push_numbered(out, "in-wait ", line),
+        Wait::Lock(number) => push_numbered(out, "lock ", number),
+        Wait::Semaphore(number) => push_numbered(out, "semaphore ", number),
+        Wait::Event(number) => push_numbered(out, "event ", number),
+        Wait::Flags(number) => push_numbered(out, "flags ", number),
+        Wait::Sleep => out.push_str("sleep"),
+        Wait::Timer(number) => push_numbered(out, "timer ", number),
+    }
+}
+
 fn push_state(out: &mut String, state: TaskState) -> Result<(), AllocError>
     ensures { OnOk result (string_bytes out.new ≡ string_bytes out.old ++ state_text state) }
 {
     match state {
         TaskState::InReady => out.push_str("in-ready"),
-        TaskState::InWait(line) => push_numbered(out, "in-wait ", line),
         TaskState::OobReady => out.push_str("oob-ready"),
-        TaskState::Lock(number) => push_numbered(out, "lock ", number),
-        TaskState::Semaphore(number) => push_numbered(out, "semaphore ", number),
-        TaskState::Event(number) => push_numbered(out, "event ", number),
-        TaskState::Flags(number) => push_numbered(out, "flags ", number),
-        TaskState::Sleep => out.push_str("sleep"),
-        TaskState::Timer(number) => push_numbered(out, "timer ", number),
+        TaskState::Waits(wait) => push_wait(out, wait),
         TaskState::Exit => out.push_str("exit"),
-        TaskState::Fault(number) => push_numbered(out, "fault ", number),
+        TaskState::Faulted(fault) => push_numbered(out, "fault ", fault.number()),
     }
 }
 

@@ -8,6 +8,7 @@ use crate::look::ViewRefusal;
 use crate::views::{push_counts, push_regs, push_stages, push_tasks};
 use evm_core::Machine;
 use evm_journal::write_journal;
+use evm_model::POKE_LIMIT;
 use evm_ram::Refusal;
 use evm_text::push_pairs;
 use std::alloc::{AllocError, Global};
@@ -37,10 +38,10 @@ pub fn show(alloc: Global, machine: &Machine, view: &View) -> Result<String, Vie
         }
         View::Regs(c) => match machine.cpu(*c) {
             None => return Err(ViewRefusal::Refused(Refusal::NoSuchCpu)),
-            Some(cpu) => push_regs(&mut out, cpu.current, machine.tasks()),
+            Some(processor) => push_regs(&mut out, processor.current, machine),
         },
         View::Mem(address, count) => {
-            if *count == 0 || *count > 64 {
+            if *count == 0 || *count > POKE_LIMIT as u64 {
                 return Err(ViewRefusal::Refused(Refusal::BadAddress));
             }
             match machine.bytes(*address, *count) {
@@ -48,16 +49,21 @@ pub fn show(alloc: Global, machine: &Machine, view: &View) -> Result<String, Vie
                 Some(bytes) => push_bytes(&mut out, bytes),
             }
         }
-        View::Stages(c) => match machine.cpu(*c) {
-            None => return Err(ViewRefusal::Refused(Refusal::NoSuchCpu)),
-            Some(cpu) => push_stages(&mut out, u64::from(*c), &cpu),
-        },
-        View::Tasks => push_tasks(&mut out, machine.tasks()),
-        View::Counts(c, line) => {
-            if machine.cpu(*c).is_none() {
+        View::Stages(c) => {
+            let Some(processor) = machine.cpu(*c) else {
                 return Err(ViewRefusal::Refused(Refusal::NoSuchCpu));
+            };
+            match machine.pipe(*c) {
+                None => return Err(ViewRefusal::Refused(Refusal::NoSuchCpu)),
+                Some(pipe) => push_stages(&mut out, *c, &processor, pipe),
             }
-            match machine.counts(*c, *line) {
+        }
+        View::Tasks => push_tasks(&mut out, machine),
+        View::Counts(c, line) => {
+            let Some(pipe) = machine.pipe(*c) else {
+                return Err(ViewRefusal::Refused(Refusal::NoSuchCpu));
+            };
+            match pipe.counts(*line) {
                 None => return Err(ViewRefusal::Refused(Refusal::NoSuchLine)),
                 Some(counts) => push_counts(&mut out, &counts),
             }

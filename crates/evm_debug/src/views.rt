@@ -1,13 +1,15 @@
-ghost use Rattle.std.specs.Prelude.{◌≡◌, ◌<◌, ◌+◌, ◌++◌, OnOk, Option};
+ghost use Rattle.std.specs.Prelude.{◌≡◌, ◌<◌, ◌+◌, ◌++◌, OnOk, Option, slice_get};
 ghost use Rattle.std.specs.String.{string_bytes};
 ghost use Rattle.evm_debug.specs.Views.{register_line, registers_text, current_text, regs_text, task_text, tasks_text, stages_text, counts_text};
 ghost use Rattle.evm_exec.specs.Registers.{register_of};
 
 use crate::piece::Piece;
 use crate::pieces::push_pieces;
+use evm_core::Machine;
 use evm_exec::Hart;
 use evm_isa::Register;
-use evm_model::{Counts, Cpu, Task};
+use evm_model::{Counts, Processor, Stage, Task};
+use evm_pipe::Pipe;
 use std::alloc::AllocError;
 
 // A register by its number.
@@ -56,8 +58,8 @@ fn push_registers(out: &mut String, hart: &Hart) -> Result<(), AllocError>
     Ok(())
 }
 
-fn push_current(out: &mut String, t: u8, task: &Task) -> Result<(), AllocError>
-    ensures { OnOk result (string_bytes out.new ≡ string_bytes out.old ++ current_text t (Option.Some task.now)) }
+fn push_current(out: &mut String, t: u8, task: &Task, hart: &Hart) -> Result<(), AllocError>
+    ensures { OnOk result (string_bytes out.new ≡ string_bytes out.old ++ current_text t (Option.Some task.now) (Option.Some hart.now)) }
 {
     let line = [
         Piece::Text("task "),
@@ -65,46 +67,60 @@ fn push_current(out: &mut String, t: u8, task: &Task) -> Result<(), AllocError>
         Piece::Text(" "),
         Piece::Stage(task.state),
         Piece::Text(" pc "),
-        Piece::Word(task.hart.pc),
+        Piece::Word(hart.pc),
         Piece::Text("\n"),
     ];
     push_pieces(out, &line)?;
-    push_registers(out, &task.hart)
+    push_registers(out, hart)
 }
 
 pub(crate) fn push_regs(
     out: &mut String,
     current: Option<u8>,
-    tasks: &[Task],
+    machine: &Machine,
 ) -> Result<(), AllocError>
-    ensures { OnOk result (string_bytes out.new ≡ string_bytes out.old ++ regs_text current tasks.now) }
+    ensures { OnOk result (string_bytes out.new ≡ string_bytes out.old ++ regs_text current machine.now.board.parts) }
 {
     let Some(t) = current else {
         return out.push_str("none\n");
     };
-    match tasks.get(t as usize) {
+    let Some(task) = machine.task(t) else {
+        return out.push_str("none\n");
+    };
+    match machine.hart(t) {
         None => out.push_str("none\n"),
-        Some(task) => push_current(out, t, task),
+        Some(hart) => push_current(out, t, &task, hart),
     }
 }
 
-#[tactic(auto, unfolding(crate::specs::Views::tasks_text))]
-pub(crate) fn push_tasks(out: &mut String, tasks: &[Task]) -> Result<(), AllocError>
-    ensures { OnOk result (string_bytes out.new ≡ string_bytes out.old ++ tasks_text 0 tasks.now) }
+#[tactic(auto, using(crate::proofs::Below::tasks))]
+pub(crate) fn push_tasks(out: &mut String, machine: &Machine) -> Result<(), AllocError>
+    ensures { OnOk result (string_bytes out.new ≡ string_bytes out.old ++ tasks_text machine.now.board.parts) }
 {
-    let mut number = 0;
-    for task in tasks {
-        push_task(out, number, task)?;
-        number += 1;
+    for t in 0..machine.task_count() {
+        push_numbered_task(out, t, machine)?;
     }
     Ok(())
 }
 
-fn push_task(out: &mut String, number: u64, task: &Task) -> Result<(), AllocError>
-    ensures { OnOk result (string_bytes out.new ≡ string_bytes out.old ++ task_text number task.now) }
+// The task of a number, if there is one.
+fn push_numbered_task(out: &mut String, t: u8, machine: &Machine) -> Result<(), AllocError>
+    ensures { OnOk result (string_bytes out.new ≡ string_bytes out.old ++ task_text t (slice_get machine.now.board.parts.tasks t) (slice_get machine.now.board.parts.harts t)) }
+{
+    let Some(task) = machine.task(t) else {
+        return Ok(());
+    };
+    match machine.hart(t) {
+        None => Ok(()),
+        Some(hart) => push_task(out, t, &task, hart),
+    }
+}
+
+fn push_task(out: &mut String, t: u8, task: &Task, hart: &Hart) -> Result<(), AllocError>
+    ensures { OnOk result (string_bytes out.new ≡ string_bytes out.old ++ task_text t (Option.Some task.now) (Option.Some hart.now)) }
 {
     let line = [
-        Piece::Decimal(number),
+        Piece::Decimal(u64::from(t)),
         Piece::Text(" cpu "),
         Piece::Decimal(u64::from(task.cpu)),
         Piece::Text(" "),
@@ -114,36 +130,43 @@ fn push_task(out: &mut String, number: u64, task: &Task) -> Result<(), AllocErro
         Piece::Text(" "),
         Piece::State(task.state),
         Piece::Text(" pc "),
-        Piece::Word(task.hart.pc),
+        Piece::Word(hart.pc),
         Piece::Text("\n"),
     ];
     push_pieces(out, &line)
 }
 
-pub(crate) fn push_stages(out: &mut String, c: u64, cpu: &Cpu) -> Result<(), AllocError>
-    ensures { OnOk result (string_bytes out.new ≡ string_bytes out.old ++ stages_text c cpu.now) }
+pub(crate) fn push_stages(
+    out: &mut String,
+    c: u8,
+    processor: &Processor,
+    pipe: &Pipe,
+) -> Result<(), AllocError>
+    ensures { OnOk result (string_bytes out.new ≡ string_bytes out.old ++ stages_text c processor.now pipe.now) }
 {
+    let oob = pipe.log(Stage::OutOfBand);
+    let inband = pipe.log(Stage::InBand);
     let line = [
         Piece::Text("cpu "),
-        Piece::Decimal(c),
+        Piece::Decimal(u64::from(c)),
         Piece::Text(" current "),
-        Piece::Number(cpu.current),
+        Piece::Number(processor.current),
         Piece::Text(" oob "),
-        Piece::Bit(cpu.oob.stalled),
+        Piece::Bit(oob.stalled),
         Piece::Text(" "),
-        Piece::Lines(cpu.oob.lines),
+        Piece::Lines(oob.lines),
         Piece::Text(" in "),
-        Piece::Bit(cpu.inband.stalled),
+        Piece::Bit(inband.stalled),
         Piece::Text(" "),
-        Piece::Lines(cpu.inband.lines),
+        Piece::Lines(inband.lines),
         Piece::Text(" task "),
-        Piece::Number(cpu.in_band),
+        Piece::Number(processor.in_band_task),
         Piece::Text(" wire "),
-        Piece::Lines(cpu.wire),
+        Piece::Lines(pipe.wire()),
         Piece::Text(" stop "),
-        Piece::Bit(cpu.stopped),
+        Piece::Bit(processor.stopped),
         Piece::Text(" skip "),
-        Piece::Bit(cpu.skip),
+        Piece::Bit(processor.skip),
         Piece::Text("\n"),
     ];
     push_pieces(out, &line)
