@@ -20,7 +20,7 @@ fn not_opened(rt: &impl Eprint, path: &str) -> u8 {
 
 fn not_read(rt: &impl Eprint, fault: &ReadFault) -> u8 {
     let why = match fault {
-        ReadFault::Failed(_) => "a read failed",
+        ReadFault::Failed => "a read failed",
         ReadFault::TooLong => "there are more than 16777216 bytes to read",
         ReadFault::NotUtf8 => "what was read is not UTF-8",
     };

@@ -1,95 +1,61 @@
--- How a run ends, from how its parts end.
-use Rattle.std.proofs.Common.{◌≡◌, ℕ, ◌≤◌, List, [], Option, Some, None, refl, subst, inl, inr, length}
-use Rattle.std.specs.Prelude.{IfSome, IsUtf8}
-use Rattle.std.specs.Io.KnownBytes.{Appends}
-use Rattle.evm_serve.specs.Stream.{LIMIT, AppendsFront}
+-- How a run ends, from what it has written on the way.
+use Rattle.std.proofs.Common.{◌≡◌, ℕ, List, [], ◌⊎◌, Result, Ok, Err, refl, sym, ◌∙◌, subst, inl, inr}
+use Rattle.evm_streams.specs.declared.sink.WriteFault.{WriteFault}
+use Rattle.evm_streams.specs.declared.sink.Writing.{Writing}
+use Rattle.evm_streams.specs.Writes.{Took, TookPrefix}
+use Rattle.evm_streams.proofs.Calls.{took_append, prefix_behind}
 use Rattle.evm_serve.specs.Told.{Told, memory_text}
-use Rattle.evm_serve.specs.Serving.{Plays, Finishes, Serves, TellsLast, TellsMemory, WithinLimit, Journals}
+use Rattle.evm_serve.specs.Serving.{status_of, IsPrefix, WritesAll, WritesMemory, Finishes}
+use Rattle.evm_serve.specs.Playing.{Plays, Says, EndsAs}
+use Rattle.evm_serve.specs.declared.ending.Verdict.{Verdict}
+use Rattle.evm_serve.specs.declared.ending.Halt.{Halt}
+use Rattle.evm_serve.specs.declared.ending.Halt.TheVariants as halts
 use Rattle.evm_serve.specs.declared.ending.Ending.{Ending}
-use Rattle.evm_serve.specs.declared.ending.Ending.TheVariants.{Done, Refused, ImageRefused, NoMemory, ReadFailed, WriteFailed}
-use Rattle.evm_serve.proofs.Streams.{Appends-trans, Appends-nil}
-use Rattle.evm_serve.proofs.Runs.{AppendsFront-behind}
+use Rattle.evm_serve.specs.declared.ending.Ending.TheVariants.{Complete, NoMemory, ReadFailed, WriteFailed}
 
--- memory was refused after a front was written
-pub Finishes-memory : (all : Told) (a b c : Option (List ℕ)) (e : Ending) → AppendsFront a b all.text → TellsMemory b c e → Finishes all a c e
-Finishes-memory all a b c Done h m = absurd m
-Finishes-memory all a b c Refused h m = absurd m
-Finishes-memory all a b c NoMemory h m = record { front = h.front; rest = h.rest; whole = h.whole; written = Appends-trans a b c h.front memory_text h.written m }
-Finishes-memory all a b c ImageRefused h m = absurd m
-Finishes-memory all a b c (ReadFailed fault) h m = absurd m
-Finishes-memory all a b c (WriteFailed fault) h m = inr (record { front = h.front; rest = h.rest; whole = h.whole; written = AppendsFront-behind a b c h.front memory_text h.written m })
+module _ {W : Type 0} (takes : W → Writing → List ℕ → W → Type 0) where
+  -- a verdict, and no more is written
+  complete : (all : Told) (verdict : Verdict) (a b c : W) (ending : Ending) → Took takes a all.text b → status_of verdict ≡ all.status → c ≡ b → ending ≡ Complete verdict → WritesAll takes all a c ending
+  complete all verdict a b c ending took status same is =
+      let P : W → Type 0 = λ w. Took takes a all.text w in
+      let Q : Ending → Type 0 = λ e. WritesAll takes all a c e in
+      subst Q (sym is) (subst P (sym same) took, status)
 
--- the text of an end that is told was written, or could not be written whole
-pub Finishes-told : (text : List ℕ) (a b : Option (List ℕ)) (e : Ending) → TellsLast text a b e → Finishes (record { text = text; status = 1 }) a b e
-Finishes-told text a b Done h = absurd h
-Finishes-told text a b Refused h = (h, refl)
-Finishes-told text a b NoMemory h = absurd h
-Finishes-told text a b ImageRefused h = absurd h
-Finishes-told text a b (ReadFailed fault) h = absurd h
-Finishes-told text a b (WriteFailed fault) h = inl h
+  -- a write failed, and no more is written
+  failed : (all : Told) (a b c : W) (ending : Ending) (fault : WriteFault) → TookPrefix takes a all.text b → c ≡ b → ending ≡ WriteFailed fault → WritesAll takes all a c ending
+  failed all a b c ending fault took same is =
+      let P : W → Type 0 = λ w. TookPrefix takes a all.text w in
+      let Q : Ending → Type 0 = λ e. WritesAll takes all a c e in
+      subst Q (sym is) (subst P (sym same) took)
 
--- what was finished needed no more reading
-pub Serves-finished : (all : Told) (a b : Option (List ℕ)) (e : Ending) → Finishes all a b e → Serves all a b e
-Serves-finished all a b Done h = h
-Serves-finished all a b Refused h = h
-Serves-finished all a b NoMemory h = h
-Serves-finished all a b ImageRefused h = absurd h
-Serves-finished all a b (ReadFailed fault) h = absurd h
-Serves-finished all a b (WriteFailed fault) h = h
+  -- the line `memory` behind a prefix
+  memory_behind : (a b c : W) (prefix : List ℕ) (ending : Ending) → Took takes a prefix b → WritesMemory takes [] b c ending → WritesMemory takes prefix a c ending
+  memory_behind a b c prefix (Complete verdict) took told = absurd told
+  memory_behind a b c prefix NoMemory took told = took_append takes a b c prefix memory_text took told
+  memory_behind a b c prefix (ReadFailed fault) took told = absurd told
+  memory_behind a b c prefix (WriteFailed fault) took told = prefix_behind takes a b c prefix memory_text took told
 
--- nothing written is a front of any text
-pub AppendsFront-nothing : (a : Option (List ℕ)) (text : List ℕ) → AppendsFront a a text
-AppendsFront-nothing a text = record { front = []; rest = text; whole = refl; written = Appends-nil a }
+  -- a run that wrote several texts
+  pub finishes : (all : Told) (a b c : W) (outcome : Result Verdict Halt) (ending : Ending) → Plays takes all a b outcome → EndsAs takes outcome b c ending → Finishes takes all a c ending
+  finishes all a b c (Ok verdict) ending plays ends = inl (complete all verdict a b c ending plays.0 plays.1 ends.0 ends.1)
+  finishes all a b c (Err halts.NoMemory) ending plays ends = inr (plays.0, plays.1, memory_behind a b c plays.0 ending plays.2 ends)
+  finishes all a b c (Err (halts.WriteFailed fault)) ending plays ends = inl (failed all a b c ending fault plays ends.0 ends.1)
 
--- a script within the limit was finished
-pub WithinLimit-short : (all : Told) (a b : Option (List ℕ)) (script : List ℕ) (e : Ending) → length script ≤ LIMIT → Finishes all a b e → WithinLimit script e
-WithinLimit-short all a b script Done h f = h
-WithinLimit-short all a b script Refused h f = h
-WithinLimit-short all a b script NoMemory h f = tt
-WithinLimit-short all a b script ImageRefused h f = h
-WithinLimit-short all a b script (ReadFailed fault) h f = absurd f
-WithinLimit-short all a b script (WriteFailed fault) h f = tt
+  -- a run that wrote one text
+  pub says : (all : Told) (a b c : W) (outcome : Result Verdict Halt) (ending : Ending) → Says takes all a b outcome → EndsAs takes outcome b c ending → WritesAll takes all a c ending ⊎ WritesMemory takes [] a c ending
+  says all a b c (Ok verdict) ending written ends = inl (complete all verdict a b c ending written.0 written.1 ends.0 ends.1)
+  says all a b c (Err halts.NoMemory) ending written ends = let P : W → Type 0 = λ w. WritesMemory takes [] w c ending in inr (subst P written ends)
+  says all a b c (Err (halts.WriteFailed fault)) ending written ends = inl (failed all a b c ending fault written ends.0 ends.1)
 
--- a journal within the limit was finished
-pub Journals-finished : (all : Told) (a b : Option (List ℕ)) (journal : List ℕ) (e : Ending) → length journal ≤ LIMIT → IsUtf8 journal → Finishes all a b e → Journals journal e
-Journals-finished all a b journal Done h u f = (h, u)
-Journals-finished all a b journal Refused h u f = (h, u)
-Journals-finished all a b journal NoMemory h u f = tt
-Journals-finished all a b journal ImageRefused h u f = absurd f
-Journals-finished all a b journal (ReadFailed fault) h u f = absurd f
-Journals-finished all a b journal (WriteFailed fault) h u f = tt
+  pub finishes_one : (all : Told) (a c : W) (ending : Ending) → WritesAll takes all a c ending ⊎ WritesMemory takes [] a c ending → Finishes takes all a c ending
+  finishes_one all a c ending (inl told) = inl told
+  finishes_one all a c ending (inr told) = inr ([], (all.text, refl), told)
 
--- memory was refused: nothing is said of the script's length
-pub WithinLimit-memory : (script : List ℕ) (b c : Option (List ℕ)) (e : Ending) → TellsMemory b c e → WithinLimit script e
-WithinLimit-memory script b c Done m = absurd m
-WithinLimit-memory script b c Refused m = absurd m
-WithinLimit-memory script b c NoMemory m = tt
-WithinLimit-memory script b c ImageRefused m = absurd m
-WithinLimit-memory script b c (ReadFailed fault) m = absurd m
-WithinLimit-memory script b c (WriteFailed fault) m = tt
-
-pub Journals-memory : (journal : List ℕ) (b c : Option (List ℕ)) (e : Ending) → TellsMemory b c e → Journals journal e
-Journals-memory journal b c Done m = absurd m
-Journals-memory journal b c Refused m = absurd m
-Journals-memory journal b c NoMemory m = tt
-Journals-memory journal b c ImageRefused m = absurd m
-Journals-memory journal b c (ReadFailed fault) m = absurd m
-Journals-memory journal b c (WriteFailed fault) m = tt
-
--- what holds of the bytes that were read holds of those that were there
-pub IfSome-read : (known : Option (List ℕ)) (P : List ℕ → Type 0) (items : List ℕ) → IfSome known (λ bytes. items ≡ bytes) → P items → IfSome known P
-IfSome-read None P items e p = tt
-IfSome-read (Some bytes) P items e p = subst P e p
-
-pub IfSome-each : (known : Option (List ℕ)) (P : List ℕ → Type 0) → ((bytes : List ℕ) → P bytes) → IfSome known P
-IfSome-each None P p = tt
-IfSome-each (Some bytes) P p = p bytes
-
--- the last line was told, or could not be written whole
-pub Plays-ended : (all : Told) (old now new : Option (List ℕ)) (text : List ℕ) (e : Ending) → (Appends now new text → Appends old new all.text × (all.status ≡ 1)) → (AppendsFront now new text → AppendsFront old new all.text) → TellsLast text now new e → Plays all old new e
-Plays-ended all old now new text Done whole part h = absurd h
-Plays-ended all old now new text Refused whole part h = whole h
-Plays-ended all old now new text NoMemory whole part h = absurd h
-Plays-ended all old now new text ImageRefused whole part h = absurd h
-Plays-ended all old now new text (ReadFailed fault) whole part h = absurd h
-Plays-ended all old now new text (WriteFailed fault) whole part h = part h
+  -- the last text of a script was written, or could not be written whole
+  pub plays_ended : (all : Told) (a b c : W) (text : List ℕ) (outcome : Result Verdict Halt)
+      → (Took takes b text c → Took takes a all.text c × (1 ≡ all.status)) → (TookPrefix takes b text c → TookPrefix takes a all.text c)
+      → (prefix : List ℕ) → IsPrefix prefix all.text → Took takes a prefix b
+      → Says takes (record { text = text; status = 1 }) b c outcome → Plays takes all a c outcome
+  plays_ended all a b c text (Ok verdict) whole part prefix is took says = let w = whole says.0 in (w.0, says.1 ∙ w.1)
+  plays_ended all a b c text (Err halts.NoMemory) whole part prefix is took says = let P : W → Type 0 = λ w. Took takes a prefix w in (prefix, is, subst P (sym says) took)
+  plays_ended all a b c text (Err (halts.WriteFailed fault)) whole part prefix is took says = part says

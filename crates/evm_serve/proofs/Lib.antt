@@ -1,7 +1,6 @@
 pub mod Cuts
 pub mod Endings
-pub mod Imports
+pub mod Known
 pub mod Replays
 pub mod Runs
 pub mod StepLemmas
-pub mod Streams

@@ -1,9 +1,10 @@
 pub mod Assembling
 pub mod Imaging
+pub mod Known
 pub mod Lines
+pub mod Playing
 pub mod ReplayLaws
 pub mod Replaying
 pub mod Serving
 pub mod Starting
-pub mod Stream
 pub mod Told

@@ -1,13 +1,16 @@
 -- How a run may end, and what it has written then.
-use Rattle.std.specs.Prelude.{◌≡◌, ◌≤◌, ℕ, List, ◌++◌, Option, ◌⊎◌, length, IsUtf8, ⊤}
-use Rattle.std.specs.Io.KnownBytes.{Appends, Keeps}
+use Rattle.std.specs.Prelude.{◌≡◌, ℕ, List, [], ◌++◌, ◌⊎◌, Option, Result, Ok, Err}
 use Rattle.std.specs.String.{string_bytes}
+use Rattle.evm_streams.specs.declared.sink.Writing.{Writing}
+use Rattle.evm_streams.specs.declared.source.ReadStop.{ReadStop}
+use Rattle.evm_streams.specs.declared.source.ReadStop.TheVariants as stops
+use Rattle.evm_streams.specs.Writes.{Took, TookPrefix}
 use Rattle.evm_model.specs.State.{State}
-use Rattle.evm_serve.specs.Stream.{LIMIT, AppendsFront, StopsReading, StopsText}
 use Rattle.evm_serve.specs.Told.{Told, memory_text, Telling, Goes, Ends}
+use Rattle.evm_serve.specs.declared.ending.Verdict.{Verdict}
+use Rattle.evm_serve.specs.declared.ending.Verdict.TheVariants.{Done, Refused, ImageRefused}
 use Rattle.evm_serve.specs.declared.ending.Ending.{Ending}
-use Rattle.evm_serve.specs.declared.ending.Ending.TheVariants.{Done, Refused, ImageRefused, NoMemory, ReadFailed, WriteFailed}
-use Rattle.evm_serve.specs.declared.stream.ReadStop.TheVariants.{Fault}
+use Rattle.evm_serve.specs.declared.ending.Ending.TheVariants.{Complete, NoMemory, ReadFailed, WriteFailed}
 use Rattle.evm_serve.specs.declared.ending.Reply.{Reply}
 use Rattle.evm_serve.specs.declared.ending.Reply.TheVariants as replies
 
@@ -16,85 +19,47 @@ abbrev pub Replies : Reply → Option State → Telling → Type 0
 Replies (replies.Goes text) machine telling = telling ≡ Goes (string_bytes text) machine
 Replies (replies.Ends text) machine telling = telling ≡ Ends (string_bytes text)
 
--- the status that a run ends with
-abbrev pub status_of : Ending → ℕ
+-- the status of a run whose report was written to its end
+abbrev pub status_of : Verdict → ℕ
 status_of Done = 0
 status_of Refused = 1
-status_of NoMemory = 1
 status_of ImageRefused = 3
-status_of (ReadFailed fault) = 4
-status_of (WriteFailed fault) = 4
 
--- a front of the text, and then the line `memory`, were written
-pub record AppendsMemory (old new : Option (List ℕ)) (text : List ℕ) : Type 0 where
-  pub front : List ℕ
-  pub rest : List ℕ
-  pub whole : text ≡ front ++ rest
-  pub written : Appends old new (front ++ memory_text)
+-- the status that a run ends with
+abbrev pub status_at : Ending → ℕ
+status_at (Complete verdict) = status_of verdict
+status_at NoMemory = 1
+status_at (ReadFailed fault) = 4
+status_at (WriteFailed fault) = 4
 
--- a front of that was written
-pub record AppendsMemoryFront (old new : Option (List ℕ)) (text : List ℕ) : Type 0 where
-  pub front : List ℕ
-  pub rest : List ℕ
-  pub whole : text ≡ front ++ rest
-  pub written : AppendsFront old new (front ++ memory_text)
+abbrev pub IsPrefix : List ℕ → List ℕ → Type 0
+IsPrefix prefix text = (rest : List ℕ) × (text ≡ prefix ++ rest)
 
--- What the lines of a script have written, as far as they ran: all that the script tells, or a front of it.
-abbrev pub Plays : Told → Option (List ℕ) → Option (List ℕ) → Ending → Type 0
-Plays all old new Done = Appends old new all.text × (all.status ≡ 0)
-Plays all old new Refused = Appends old new all.text × (all.status ≡ 1)
-Plays all old new NoMemory = AppendsFront old new all.text
-Plays all old new ImageRefused = ⊥
-Plays all old new (ReadFailed fault) = ⊥
-Plays all old new (WriteFailed fault) = AppendsFront old new all.text
+module _ {W : Type 0} (takes : W → Writing → List ℕ → W → Type 0) where
+  -- All of a report was written, with its status; or a write failed, after a prefix of it.
+  abbrev pub WritesAll : Told → W → W → Ending → Type 0
+  WritesAll all w w' (Complete verdict) = Took takes w all.text w' × (status_of verdict ≡ all.status)
+  WritesAll all w w' NoMemory = ⊥
+  WritesAll all w w' (ReadFailed fault) = ⊥
+  WritesAll all w w' (WriteFailed fault) = TookPrefix takes w all.text w'
 
--- What was written by the end of what needed no more reading: all that is told, with its status; after a refused growth a front of it
--- and the line `memory`; after a failed write a front of what else was written.
-abbrev pub Finishes : Told → Option (List ℕ) → Option (List ℕ) → Ending → Type 0
-Finishes all old new Done = Appends old new all.text × (all.status ≡ 0)
-Finishes all old new Refused = Appends old new all.text × (all.status ≡ 1)
-Finishes all old new NoMemory = AppendsMemory old new all.text
-Finishes all old new ImageRefused = ⊥
-Finishes all old new (ReadFailed fault) = ⊥
-Finishes all old new (WriteFailed fault) = AppendsFront old new all.text ⊎ AppendsMemoryFront old new all.text
+  -- A prefix and then the line `memory` were written; or a write failed, after a prefix of these.
+  abbrev pub WritesMemory : List ℕ → W → W → Ending → Type 0
+  WritesMemory prefix w w' (Complete verdict) = ⊥
+  WritesMemory prefix w w' NoMemory = Took takes w (prefix ++ memory_text) w'
+  WritesMemory prefix w w' (ReadFailed fault) = ⊥
+  WritesMemory prefix w w' (WriteFailed fault) = TookPrefix takes w (prefix ++ memory_text) w'
 
--- what a run has written by its end: after a failed read nothing
-abbrev pub Serves : Told → Option (List ℕ) → Option (List ℕ) → Ending → Type 0
-Serves all old new (ReadFailed fault) = Keeps old new
-Serves all old new ending = Finishes all old new ending
+  -- A run writes all of its report; or, once an allocation failed, a prefix of it and then the line `memory`.
+  abbrev pub Finishes : Told → W → W → Ending → Type 0
+  Finishes all w w' ending = WritesAll all w w' ending ⊎ ((prefix : List ℕ) × IsPrefix prefix all.text × WritesMemory prefix w w' ending)
 
--- what was written of the text with which a run ends
-abbrev pub TellsLast : List ℕ → Option (List ℕ) → Option (List ℕ) → Ending → Type 0
-TellsLast text old new Done = ⊥
-TellsLast text old new Refused = Appends old new text
-TellsLast text old new NoMemory = ⊥
-TellsLast text old new ImageRefused = ⊥
-TellsLast text old new (ReadFailed fault) = ⊥
-TellsLast text old new (WriteFailed fault) = AppendsFront old new text
+  -- A run that could not read its input ends with the fault, and the writer has no call; where an allocation failed, with the line `memory`.
+  abbrev pub Unread : ReadStop → W → W → Ending → Type 0
+  Unread stops.NoMemory w w' ending = WritesMemory [] w w' ending
+  Unread (stops.Fault fault) w w' ending = (w' ≡ w) × (ending ≡ ReadFailed fault)
 
--- what was written where memory was refused
-abbrev pub TellsMemory : Option (List ℕ) → Option (List ℕ) → Ending → Type 0
-TellsMemory old new Done = ⊥
-TellsMemory old new Refused = ⊥
-TellsMemory old new NoMemory = Appends old new memory_text
-TellsMemory old new ImageRefused = ⊥
-TellsMemory old new (ReadFailed fault) = ⊥
-TellsMemory old new (WriteFailed fault) = AppendsFront old new memory_text
-
--- only a script within the limit is run to its end; the end says why it was not read
-abbrev pub WithinLimit : List ℕ → Ending → Type 0
-WithinLimit script Done = length script ≤ LIMIT
-WithinLimit script Refused = length script ≤ LIMIT
-WithinLimit script NoMemory = ⊤
-WithinLimit script ImageRefused = length script ≤ LIMIT
-WithinLimit script (ReadFailed fault) = StopsReading script (Fault fault)
-WithinLimit script (WriteFailed fault) = ⊤
-
--- Only a journal within the limit that is UTF-8 is replayed, or told to be wrong; else the end says why it was not read.
-abbrev pub Journals : List ℕ → Ending → Type 0
-Journals journal Done = (length journal ≤ LIMIT) × IsUtf8 journal
-Journals journal Refused = (length journal ≤ LIMIT) × IsUtf8 journal
-Journals journal NoMemory = ⊤
-Journals journal ImageRefused = ⊥
-Journals journal (ReadFailed fault) = StopsText journal (Fault fault)
-Journals journal (WriteFailed fault) = ⊤
+  -- A run that read its input writes the report of it.
+  abbrev pub Serves : (List ℕ → Told) → Result (List ℕ) ReadStop → W → W → Ending → Type 0
+  Serves report (Ok input) w w' ending = Finishes (report input) w w' ending
+  Serves report (Err stop) w w' ending = Unread stop w w' ending

@@ -1,59 +1,53 @@
 //! A source assembled into a file.
 
+ghost use Rattle.evm_elf.specs.Files.{file_of};
 ghost use Rattle.evm_asm.specs.Assembled.{program_of};
-ghost use Rattle.evm_serve.specs.Assembling.{assembly_of, Assembles, TellsFault, WritesFile};
+ghost use Rattle.evm_serve.specs.Playing.{Says};
+ghost use Rattle.evm_serve.specs.Assembling.{Assembles, fault_report};
 
-use crate::ending::Ending;
-use crate::serving::{tell_last, tell_memory};
-use crate::stream::write_text;
+use crate::ending::{Ending, Halt, Verdict};
+use crate::halting::{ended, say};
 use crate::texts::no_program;
-use evm_asm::{AsmFault, AsmFaultKind, assemble};
+use evm_asm::{AsmFault, AsmFaultKind, Program, assemble};
 use evm_elf::write_image;
+use evm_streams::Sink;
 use std::alloc::Global;
-use std::io::Write;
 
-// Tells the fault of a source.
-fn tell_fault<T: Write>(alloc: Global, fault: &AsmFault, told: &mut T) -> Ending
-    ensures { TellsFault fault.now (T.contents told.old) (T.contents told.new) result }
+// Reports the fault of a source.
+fn say_fault<T: Sink>(alloc: Global, fault: &AsmFault, report: &mut T) -> Result<Verdict, Halt>
+    ensures { Says T.takes (fault_report fault.now) report.old report.new result }
 {
     match no_program(alloc, fault) {
-        Ok(line) => tell_last(told, line.as_bytes()),
-        Err(_) => tell_memory(told),
+        Ok(line) => say(Verdict::Refused, line.as_bytes(), report),
+        Err(_) => Err(Halt::NoMemory),
     }
 }
 
 // Writes the file of a program.
-fn write_file<W: Write>(out: &mut W, file: &[u8]) -> Ending
-    ensures { WritesFile file.now (W.contents out.old) (W.contents out.new) result }
+fn write_file<W: Sink>(alloc: Global, program: &Program, out: &mut W) -> Result<Verdict, Halt>
+    ensures { Says W.takes (record { text = file_of program.now.bytes; status = 0 }) out.old out.new result }
 {
-    match write_text(out, file) {
-        Ok(()) => Ending::Done,
-        Err(fault) => Ending::WriteFailed(fault),
+    match write_image(alloc, program) {
+        Ok(file) => say(Verdict::Done, file.as_slice(), out),
+        Err(_) => Err(Halt::NoMemory),
     }
 }
 
 /// Assembles a source, and writes the image of its program to `out`. Where the source has a fault, the line
-/// `asm LINE CODE` is told and nothing is written. Where memory is refused, the line `memory` is told and
-/// nothing is written, since the file is whole before its first byte is written.
-pub fn assemble_to<W: Write, T: Write>(
+/// `asm LINE CODE` is reported and nothing is written. Where an allocation fails, the line `memory` is reported
+/// and nothing is written, since the file is whole before its first byte is written.
+pub fn assemble_to<W: Sink, T: Sink>(
     alloc: Global,
     source: &str,
     out: &mut W,
-    told: &mut T,
+    report: &mut T,
 ) -> Ending
-    ensures { Assembles (assembly_of (program_of source.now)) (W.contents out.old) (W.contents out.new) (T.contents told.old) (T.contents told.new) result }
+    ensures { Assembles W.takes T.takes (program_of source.now) out.old out.new report.old report.new result }
 {
-    let program = match assemble(alloc, source) {
-        Ok(program) => program,
-        Err(fault) => {
-            if matches!(fault.kind, AsmFaultKind::NoMemory) {
-                return tell_memory(told);
-            }
-            return tell_fault(alloc, &fault, told);
-        }
+    let outcome = match assemble(alloc, source) {
+        Ok(program) => write_file(alloc, &program, out),
+        Err(fault) if matches!(fault.kind, AsmFaultKind::NoMemory) => Err(Halt::NoMemory),
+        Err(fault) => say_fault(alloc, &fault, report),
     };
-    match write_image(alloc, &program) {
-        Ok(file) => write_file(out, file.as_slice()),
-        Err(_) => tell_memory(told),
-    }
+    ended(outcome, report)
 }

@@ -1,4 +1,9 @@
-use crate::stream::{ReadFault, WriteFault};
+//! How runs end.
+
+ghost use Rattle.std.specs.Prelude.{◌≡◌};
+ghost use Rattle.evm_serve.specs.Serving.{status_of, status_at};
+
+use evm_streams::{ReadFault, WriteFault};
 
 /// What a line of a script replies.
 #[derive(Debug, Drop)]
@@ -9,19 +14,50 @@ pub enum Reply {
     Ends(String),
 }
 
-/// How a run ended.
-#[derive(Debug, Drop)]
-pub enum Ending {
+/// What a run came to whose report was written to its end.
+#[derive(Clone, Copy, Debug, PartialEq, Eq)]
+pub enum Verdict {
     /// All was done.
     Done,
-    /// A line, a journal or an event was bad or refused.
+    /// A line, a journal, a source or an event was bad or refused.
     Refused,
     /// The file of the image has a fault.
     ImageRefused,
-    /// Memory was refused.
+}
+
+/// Why a run halts before its report is written to its end.
+#[derive(Clone, Copy, Debug)]
+pub enum Halt {
+    /// An allocation failed.
     NoMemory,
-    /// What was to be read could not be read.
-    ReadFailed(ReadFault),
-    /// The text could not be written.
+    /// A write failed.
     WriteFailed(WriteFault),
+}
+
+/// How a run ended.
+#[derive(Clone, Copy, Debug, PartialEq, Eq)]
+pub enum Ending {
+    /// All of its report was written.
+    Complete(Verdict),
+    /// An allocation failed: a prefix of the report was written, and then the line `memory`.
+    NoMemory,
+    /// What was to be read could not be read, and nothing was written.
+    ReadFailed(ReadFault),
+    /// A write failed, after a prefix of what was to be written.
+    WriteFailed(WriteFault),
+}
+
+impl Ending {
+    /// 0 where all was done, 1 where something was bad or refused or an allocation failed, 3 where the file of
+    /// the image has a fault, 4 after a failed read or write.
+    pub fn status(&self) -> u8
+        ensures { result ≡ status_at self.now }
+    {
+        match self {
+            Ending::Complete(Verdict::Done) => 0,
+            Ending::Complete(Verdict::Refused) | Ending::NoMemory => 1,
+            Ending::Complete(Verdict::ImageRefused) => 3,
+            Ending::ReadFailed(_) | Ending::WriteFailed(_) => 4,
+        }
+    }
 }

@@ -1,59 +1,59 @@
 //! An image read from a file.
 
-ghost use Rattle.std.specs.Prelude.{◌≢◌, IfSome, Some};
-ghost use Rattle.evm_serve.specs.Imaging.{Checks, Imports, ImportsWithinLimit, ImageStops};
+ghost use Rattle.std.specs.Prelude.{List, ℕ, Result};
+ghost use Rattle.evm_streams.specs.declared.source.ReadStop.{ReadStop};
+ghost use Rattle.evm_streams.specs.Reads.{Reads};
+ghost use Rattle.evm_serve.specs.Playing.{Says};
+ghost use Rattle.evm_serve.specs.Imaging.{Checks, Imports, fault_report};
 
-use crate::ending::Ending;
-use crate::serving::tell_memory;
-use crate::stream::{ReadStop, read_text, write_text};
+use crate::ending::{Ending, Halt, Verdict};
+use crate::halting::{ended, say, unread};
 use crate::texts::no_image;
 use evm_elf::{ElfFault, read_image};
 use evm_image::Image;
+use evm_streams::{Sink, Source, read_all};
 use std::alloc::Global;
-use std::io::{Read, Write};
 
-// Says which fault the file has.
-fn tell_fault<W: Write>(alloc: Global, fault: ElfFault, writer: &mut W) -> Ending
-    requires { fault ≢ ElfFault.NoMemory }
-    ensures { ImageStops (Some fault) (W.contents writer.old) (W.contents writer.new) result }
+// Reports the fault of a file.
+fn say_fault<W: Sink>(alloc: Global, fault: ElfFault, writer: &mut W) -> Result<Verdict, Halt>
+    ensures { Says W.takes (fault_report fault) writer.old writer.new result }
 {
-    let Ok(text) = no_image(alloc, fault) else {
-        return tell_memory(writer);
-    };
-    match write_text(writer, text.as_bytes()) {
-        Ok(()) => Ending::ImageRefused,
-        Err(fault) => Ending::WriteFailed(fault),
+    match no_image(alloc, fault) {
+        Ok(text) => say(Verdict::ImageRefused, text.as_bytes(), writer),
+        Err(_) => Err(Halt::NoMemory),
     }
 }
 
 // The image of bytes that were read.
-fn check<W: Write>(alloc: Global, file: &[u8], writer: &mut W) -> Result<Image, Ending>
-    ensures { Checks file.now (W.contents writer.old) (W.contents writer.new) result }
+fn check<W: Sink>(alloc: Global, file: &[u8], writer: &mut W) -> Result<Image, Ending>
+    ensures { Checks W.takes file.now writer.old writer.new result }
 {
     match read_image(alloc, file) {
         Ok(image) => Ok(image),
-        Err(ElfFault::NoMemory) => Err(tell_memory(writer)),
-        Err(fault) => Err(tell_fault(alloc, fault, writer)),
+        Err(ElfFault::NoMemory) => Err(ended(Err(Halt::NoMemory), writer)),
+        Err(fault) => {
+            let outcome = say_fault(alloc, fault, writer);
+            Err(ended(outcome, writer))
+        }
     }
 }
 
-/// Reads a file to its end as the image of a program. Where it has a fault, the line `image CODE` is written,
-/// and where memory is refused the line `memory`; a file of more than 16,777,216 bytes is a failed read.
+/// Reads a file to its end as the image of a program. Where it has a fault, the line `image CODE` is written, and
+/// where an allocation fails the line `memory`. Where the file can't be read, or has more than 16,777,216 bytes,
+/// nothing is written.
 ///
 /// # Errors
 ///
 /// How the run ends, where there is no image.
-pub fn import<R: Read, W: Write>(
+pub fn import<R: Source, W: Sink>(
     alloc: Global,
     reader: &mut R,
     writer: &mut W,
 ) -> Result<Image, Ending>
-    ensures imported { IfSome (R.remaining reader.old) (λ file. Imports file (W.contents writer.old) (W.contents writer.new) result) }
-    ensures limit { IfSome (R.remaining reader.old) (λ file. ImportsWithinLimit file result) }
+    ensures { (read : Result (List ℕ) ReadStop) × Reads R.gives reader.old reader.new read × Imports W.takes read writer.old writer.new result }
 {
-    match read_text(alloc, reader) {
+    match read_all(alloc, reader) {
         Ok(file) => check(alloc, file.as_slice(), writer),
-        Err(ReadStop::Fault(fault)) => Err(Ending::ReadFailed(fault)),
-        Err(ReadStop::NoMemory) => Err(tell_memory(writer)),
+        Err(stop) => Err(unread(stop, writer)),
     }
 }

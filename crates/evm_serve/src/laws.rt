@@ -1,6 +1,9 @@
-//! Laws of replays: each is a contract that nothing has to be done for.
+//! Laws of replays, and of runs over known bytes: each is a contract that nothing has to be done for.
 
 ghost use Rattle.evm_serve.specs.ReplayLaws.{RefusedOnItsLine, ReplaysSaved};
+ghost use Rattle.evm_serve.specs.Known.{ServesKnown, ServesKnownText, ImportsKnownFile, AssemblesIntoKnown};
+
+use std::io::{Read, Write};
 
 /// A refused event is told with the number of the line on which it stands in the journal.
 pub fn refused_on_its_line()
@@ -10,4 +13,25 @@ pub fn refused_on_its_line()
 /// The journal that a machine saved, replayed with the image that it booted with, shows that machine.
 pub fn replays_saved()
     ensures { ReplaysSaved }
+{}
+
+/// A run over a reader and a writer of std whose bytes are known, as a slice's and a `Vec`'s are, is the run of these
+/// bytes: what it writes stands behind what the writer held.
+pub fn known_inputs_are_served<R: Read, W: Write>()
+    ensures { ServesKnown R.remaining W.contents }
+{}
+
+/// The same of a run that reads a text, as a replay does.
+pub fn known_texts_are_served<R: Read, W: Write>()
+    ensures { ServesKnownText R.remaining W.contents }
+{}
+
+/// An image read from known bytes is the image of these bytes.
+pub fn known_files_are_imported<R: Read, W: Write>()
+    ensures { ImportsKnownFile R.remaining W.contents }
+{}
+
+/// A file and a report written behind known contents stand there.
+pub fn known_contents_are_assembled_into<W: Write, T: Write>()
+    ensures { AssemblesIntoKnown W.contents T.contents }
 {}

@@ -3,27 +3,26 @@
 
 mod assembling;
 mod ending;
-mod fault;
+mod halting;
 mod importing;
 mod laws;
 mod lines;
 mod replay;
 mod serving;
-mod source;
 mod starting;
-mod stream;
 mod tell;
 mod texts;
 
 pub use assembling::assemble_to;
-pub use ending::Ending;
-pub use fault::{FailedRead, WriteFault};
+pub use ending::{Ending, Verdict};
+pub use evm_streams::{ReadFault, ReadStop, WriteFault, read_utf8};
 pub use importing::import;
-pub use laws::{refused_on_its_line, replays_saved};
+pub use laws::{
+    known_contents_are_assembled_into, known_files_are_imported, known_inputs_are_served,
+    known_texts_are_served, refused_on_its_line, replays_saved,
+};
 pub use replay::replay_to;
 pub use serving::serve;
-pub use source::read_utf8;
-pub use stream::{ReadFault, ReadStop};
 
 #[cfg(test)]
 mod tests;

@@ -1,12 +1,11 @@
-//! Sources assembled into files, and streams that fail or are interrupted.
+//! Sources assembled into files, and streams that fail.
 
+use super::fakes::{FAULTS, Source};
 use crate::assembling::assemble_to;
-use crate::ending::Ending;
-use crate::source::read_utf8;
-use crate::stream::{ReadFault, ReadStop};
+use crate::ending::{Ending, Verdict};
+use evm_streams::{ReadFault, ReadStop, read_utf8};
 use std::alloc::Global;
 use std::io::{self, Error, ErrorKind, Read, Write};
-use std::test::Fail;
 
 /// One line that has a fault, and what is told of it.
 const FAULTY: &str = "addi a0,a0,2048";
@@ -33,23 +32,26 @@ fn sources_have_files_or_faults(rt: HostRuntime) {
     }
 }
 
-/// Has room for so many bytes, takes at most five at a call, and is interrupted at every other call.
+/// Takes at most five bytes at a call, and fails once it has no room left.
 #[derive(Drop)]
 struct Narrow {
     taken: Vec<u8>,
     room: usize,
-    interrupted: bool,
+}
+
+impl Narrow {
+    /// Room for so many bytes.
+    fn new(alloc: Global, room: usize) -> Self {
+        let taken = Vec::new(alloc);
+        Narrow { taken, room }
+    }
 }
 
 impl Write for Narrow {
     fn write(&mut self, buf: &[u8]) -> io::Result<usize> {
-        self.interrupted = !self.interrupted;
-        if self.interrupted {
-            return Err(Error::from(ErrorKind::Interrupted));
-        }
         let count = buf.len().min(self.room).min(5);
         if count == 0 {
-            return Err(Error::from(ErrorKind::Other));
+            return Err(Error::from(ErrorKind::Interrupted));
         }
         self.taken.extend_from_slice(&buf[..count])?;
         self.room -= count;
@@ -61,20 +63,12 @@ impl Write for Narrow {
     }
 }
 
-fn room_for(alloc: Global, room: usize) -> Narrow {
-    Narrow {
-        taken: Vec::new(alloc),
-        room,
-        interrupted: false,
-    }
-}
-
 // The file has 120 bytes, the line 8.
 #[test]
 fn failed_writes_end_assembling(rt: HostRuntime) {
     let alloc = rt.alloc();
     for room in [0, 7, 119, 120] {
-        let mut out = room_for(alloc, room);
+        let mut out = Narrow::new(alloc, room);
         let mut told = Vec::new(alloc);
         let ending = assemble_to(alloc, "", &mut out, &mut told);
         let status = if room < 120 { 4 } else { 0 };
@@ -84,7 +78,7 @@ fn failed_writes_end_assembling(rt: HostRuntime) {
     }
     for room in [0, 3, 7, 8] {
         let mut out = Vec::new(alloc);
-        let mut told = room_for(alloc, room);
+        let mut told = Narrow::new(alloc, room);
         let ending = assemble_to(alloc, FAULTY, &mut out, &mut told);
         let status = if room < 8 { 4 } else { 1 };
         assert_eq!(rt; ending.status(), status, "a line of {room} bytes");
@@ -110,59 +104,37 @@ impl Write for Counter {
     }
 }
 
-/// Holds whichever growth is refused: the file is written whole or not at all.
+/// Holds whichever allocation fails: the file is written whole or not at all.
 #[test]
-fn refused_growths_write_no_file(rt: HostRuntime) {
+fn failed_allocations_write_no_file(rt: HostRuntime) {
     let mut out = Counter { count: 0 };
     let mut told = Counter { count: 0 };
     match assemble_to(rt.alloc(), "nop\n", &mut out, &mut told) {
-        Ending::Done => assert_eq!(rt; (out.count, told.count), (124, 0)),
+        Ending::Complete(Verdict::Done) => assert_eq!(rt; (out.count, told.count), (124, 0)),
         Ending::NoMemory => assert_eq!(rt; (out.count, told.count), (0, 7)),
         _ => panic!(rt; "neither a file nor the line `memory`"),
     }
 }
 
-/// Gives three bytes at a call, is interrupted at every other call, and fails once so many were given.
-#[derive(Drop)]
-struct Halting<'a> {
-    rest: &'a [u8],
-    left: usize,
-    interrupted: bool,
-}
-
-impl Read for Halting<'_> {
-    fn read(&mut self, buf: &mut [u8]) -> io::Result<usize> {
-        self.interrupted = !self.interrupted;
-        if self.interrupted {
-            return Err(Error::from(ErrorKind::Interrupted));
-        }
-        if self.left == 0 {
-            return Err(Error::from(ErrorKind::Other));
-        }
-        let mut part = &self.rest[..self.rest.len().min(3)];
-        let count = part.read(buf)?;
-        self.rest = &self.rest[count.min(self.rest.len())..];
-        self.left = self.left.saturating_sub(count);
-        Ok(count)
-    }
-}
-
+// The text has 14 bytes: five calls give them, and one more says that they are over.
 #[test]
-fn texts_are_read_whole(rt: HostRuntime) -> Result<(), Fail> {
+fn texts_are_read_whole(rt: HostRuntime) {
     let text = "j nowhere # \u{e9}";
-    for left in [0, 6, 14, 100] {
-        let mut reader = Halting {
-            rest: text.as_bytes(),
-            left,
-            interrupted: false,
-        };
-        match read_utf8(rt.alloc(), &mut reader) {
-            Ok(read) => assert_eq!(rt; (read.as_str(), left), (text, 100)),
-            Err(ReadStop::Fault(ReadFault::Failed(_))) => assert!(rt; left < 100, "{left} bytes"),
-            Err(_) => panic!(rt; "{left} bytes"),
+    for kind in FAULTS {
+        for calls in 0..=6 {
+            let mut reader = Source {
+                rest: text.as_bytes(),
+                most: 3,
+                calls,
+                fault: Some(kind),
+            };
+            match read_utf8(rt.alloc(), &mut reader) {
+                Ok(read) => assert_eq!(rt; (read.as_str(), calls), (text, 6)),
+                Err(ReadStop::Fault(ReadFault::Failed)) => assert!(rt; calls < 6, "{calls} reads"),
+                Err(_) => panic!(rt; "{calls} reads"),
+            }
         }
     }
-    Ok(())
 }
 
 #[test]

@@ -2,20 +2,27 @@
 
 use std::io::{self, Error, ErrorKind, Read, Write};
 
-/// Gives at most so many bytes at a call, and fails after so many calls.
+/// The faults that a reader or a writer may have: one that std's own loops would try again, and one that they would
+/// not.
+pub(crate) const FAULTS: [ErrorKind; 2] = [ErrorKind::Interrupted, ErrorKind::Other];
+
+/// Gives at most so many bytes at a call, and after so many calls fails once: a call behind the fault would give more.
 #[derive(Drop)]
 pub(crate) struct Source<'a> {
     pub(crate) rest: &'a [u8],
     pub(crate) most: usize,
     pub(crate) calls: usize,
+    pub(crate) fault: Option<ErrorKind>,
 }
 
 impl Read for Source<'_> {
     fn read(&mut self, buf: &mut [u8]) -> io::Result<usize> {
-        if self.calls == 0 {
-            return Err(Error::from(ErrorKind::Other));
+        if self.calls == 0
+            && let Some(kind) = self.fault.take()
+        {
+            return Err(Error::from(kind));
         }
-        self.calls -= 1;
+        self.calls = self.calls.saturating_sub(1);
         let mut part = &self.rest[..self.most.min(self.rest.len())];
         let count = part.read(buf)?;
         self.rest = &self.rest[count.min(self.rest.len())..];
@@ -23,22 +30,21 @@ impl Read for Source<'_> {
     }
 }
 
-/// Takes at most so many bytes at a call, and after so many calls fails or takes none.
+/// Takes at most so many bytes at a call, and after so many calls fails, or takes none where it has no fault.
 #[derive(Drop)]
 pub(crate) struct Sink {
     pub(crate) taken: Vec<u8>,
     pub(crate) most: usize,
     pub(crate) calls: usize,
-    pub(crate) fails: bool,
+    pub(crate) fault: Option<ErrorKind>,
 }
 
 impl Write for Sink {
     fn write(&mut self, buf: &[u8]) -> io::Result<usize> {
         if self.calls == 0 {
-            return if self.fails {
-                Err(Error::from(ErrorKind::Other))
-            } else {
-                Ok(0)
+            return match self.fault {
+                Some(kind) => Err(Error::from(kind)),
+                None => Ok(0),
             };
         }
         self.calls -= 1;

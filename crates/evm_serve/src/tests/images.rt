@@ -1,11 +1,11 @@
 //! Images read from files, and scripts that have one in their machine.
 
-use super::fakes::{Sink, Source};
+use super::fakes::{FAULTS, Sink, Source};
 use super::{check_with, image_of};
 use crate::importing::import;
 use evm_elf::write_bytes;
 use std::alloc::Global;
-use std::io::{self, Read};
+use std::io::{self, ErrorKind, Read};
 use std::process::Abort;
 use std::test::Fail;
 
@@ -139,23 +139,23 @@ fn unread_files_are_no_images(rt: HostRuntime) -> Result<(), Fail> {
     let alloc = rt.alloc();
     let file = file_of(alloc, &PROGRAM)?;
     // 136 bytes: fourteen calls give them, and one more says that they are over
-    for calls in 0..=15 {
-        let mut source = Source {
-            rest: file.as_slice(),
-            most: 10,
-            calls,
-        };
-        let mut written = Vec::new(alloc);
-        let status = match import(alloc, &mut source, &mut written) {
-            Ok(_) => 0,
-            Err(ending) => ending.status(),
-        };
-        assert_eq!(rt;
-            status,
-            if calls < 15 { 4 } else { 0 },
-            "after {calls} reads"
-        );
-        assert_eq!(rt; written.len(), 0, "after {calls} reads");
+    for kind in FAULTS {
+        for calls in 0..=15 {
+            let mut source = Source {
+                rest: file.as_slice(),
+                most: 10,
+                calls,
+                fault: Some(kind),
+            };
+            let mut written = Vec::new(alloc);
+            let status = match import(alloc, &mut source, &mut written) {
+                Ok(_) => 0,
+                Err(ending) => ending.status(),
+            };
+            let wanted = if calls < 15 { 4 } else { 0 };
+            assert_eq!(rt; status, wanted, "after {calls} reads");
+            assert_eq!(rt; written.len(), 0, "after {calls} reads");
+        }
     }
     let mut long = io::repeat(0).take(16_777_217);
     let mut written = Vec::new(alloc);
@@ -168,18 +168,18 @@ fn unread_files_are_no_images(rt: HostRuntime) -> Result<(), Fail> {
 }
 
 #[test]
-fn untold_faults_leave_a_front(rt: HostRuntime) -> Result<(), Fail> {
+fn unwritten_faults_leave_a_prefix(rt: HostRuntime) -> Result<(), Fail> {
     let alloc = rt.alloc();
     let text = b"image 10\n";
     let file = changed(alloc, &[0; 8], 104, 4)?;
-    for fails in [false, true] {
+    for fault in [None, Some(ErrorKind::Interrupted), Some(ErrorKind::Other)] {
         for calls in 0..=5 {
             let taken = Vec::new(alloc);
             let mut sink = Sink {
                 taken,
                 most: 2,
                 calls,
-                fails,
+                fault,
             };
             let mut reader = file.as_slice();
             let status = match import(alloc, &mut reader, &mut sink) {

@@ -1,13 +1,13 @@
 //! Journals replayed.
 
-use super::fakes::{Sink, Source};
+use super::fakes::{FAULTS, Sink, Source};
 use super::images::PROGRAM;
 use super::{check_replay, image_of};
 use crate::replay::replay_to;
 use crate::serving::serve;
 use evm_image::Image;
 use std::alloc::Global;
-use std::io::{self, Read};
+use std::io::{self, ErrorKind, Read};
 use std::process::Abort;
 use std::test::Fail;
 
@@ -144,21 +144,24 @@ fn unread_journals_are_not_replayed(rt: HostRuntime) -> Result<(), Fail> {
     let alloc = rt.alloc();
     let image = image_of(alloc, b"")?;
     // 39 bytes: four calls give them, and one more says that they are over
-    for calls in 0..=5 {
-        let mut source = Source {
-            rest: JOURNAL,
-            most: 10,
-            calls,
-        };
-        let mut written = Vec::new(alloc);
-        let ending = replay_to(alloc, &image, &mut source, &mut written);
-        let (text, status) = if calls < 5 {
-            (b"".as_slice(), 4)
-        } else {
-            (SHOWN, 0)
-        };
-        assert_eq!(rt; ending.status(), status, "after {calls} reads");
-        assert_eq!(rt; written.as_slice(), text, "after {calls} reads");
+    for kind in FAULTS {
+        for calls in 0..=5 {
+            let mut source = Source {
+                rest: JOURNAL,
+                most: 10,
+                calls,
+                fault: Some(kind),
+            };
+            let mut written = Vec::new(alloc);
+            let ending = replay_to(alloc, &image, &mut source, &mut written);
+            let (text, status) = if calls < 5 {
+                (b"".as_slice(), 4)
+            } else {
+                (SHOWN, 0)
+            };
+            assert_eq!(rt; ending.status(), status, "after {calls} reads");
+            assert_eq!(rt; written.as_slice(), text, "after {calls} reads");
+        }
     }
     // bytes that are no UTF-8, also where a fault comes before them
     check_replay(
@@ -179,7 +182,7 @@ fn unread_journals_are_not_replayed(rt: HostRuntime) -> Result<(), Fail> {
 }
 
 #[test]
-fn unwritten_views_leave_a_front(rt: HostRuntime) -> Result<(), Fail> {
+fn unwritten_views_leave_a_prefix(rt: HostRuntime) -> Result<(), Fail> {
     let alloc = rt.alloc();
     let image = image_of(alloc, b"")?;
     for (journal, text, done) in [
@@ -190,14 +193,14 @@ fn unwritten_views_leave_a_front(rt: HostRuntime) -> Result<(), Fail> {
             1,
         ),
     ] {
-        for fails in [false, true] {
+        for fault in [None, Some(ErrorKind::Interrupted), Some(ErrorKind::Other)] {
             for calls in 0..=20 {
                 let taken = Vec::new(alloc);
                 let mut sink = Sink {
                     taken,
                     most: 7,
                     calls,
-                    fails,
+                    fault,
                 };
                 let mut reader = journal;
                 let ending = replay_to(alloc, &image, &mut reader, &mut sink);

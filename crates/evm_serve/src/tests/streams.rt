@@ -1,8 +1,8 @@
 //! Readers and writers that fail, and scripts that are too long.
 
-use super::fakes::{Sink, Source};
+use super::fakes::{FAULTS, Sink, Source};
 use crate::serving::serve;
-use std::io::{self, Read};
+use std::io::{self, ErrorKind, Read};
 
 /// A run that writes several texts, the last of them with a refusal.
 const SCRIPT: &str = "boot 2 65536 16\ntick\ntasks\nmem 80000000 4\ncounts 1 0\nstep 2 1\n";
@@ -15,25 +15,28 @@ const TEXT: &str = "0 cpu 0 none 0 in-ready pc 0000000080000000\n\
 // The script is 62 bytes: nine calls give it, and one more says that it is over.
 #[test]
 fn failed_reads_end_the_run(rt: HostRuntime) {
-    for calls in 0..=10 {
-        let mut source = Source {
-            rest: SCRIPT.as_bytes(),
-            most: 7,
-            calls,
-        };
-        let mut written = Vec::new(rt.alloc());
-        let ending = serve(rt.alloc(), &mut source, &mut written, None);
-        let (text, status) = if calls < 10 { ("", 4) } else { (TEXT, 1) };
-        assert_eq!(rt; ending.status(), status, "after {calls} reads");
-        assert_eq!(rt; written.as_slice(), text.as_bytes(), "after {calls} reads");
+    for kind in FAULTS {
+        for calls in 0..=10 {
+            let mut source = Source {
+                rest: SCRIPT.as_bytes(),
+                most: 7,
+                calls,
+                fault: Some(kind),
+            };
+            let mut written = Vec::new(rt.alloc());
+            let ending = serve(rt.alloc(), &mut source, &mut written, None);
+            let (text, status) = if calls < 10 { ("", 4) } else { (TEXT, 1) };
+            assert_eq!(rt; ending.status(), status, "after {calls} reads");
+            assert_eq!(rt; written.as_slice(), text.as_bytes(), "after {calls} reads");
+        }
     }
 }
 
-// However few bytes a call takes, a run that ends early has written a front of its text.
+// However few bytes a call takes, a run that ends early has written a prefix of its text.
 #[test]
-fn failed_writes_leave_a_front(rt: HostRuntime) {
+fn failed_writes_leave_a_prefix(rt: HostRuntime) {
     for (most, enough) in [(1, 113), (13, 60), (100, 60)] {
-        for fails in [false, true] {
+        for fault in [None, Some(ErrorKind::Interrupted), Some(ErrorKind::Other)] {
             for calls in 0..=enough {
                 let mut reader = SCRIPT.as_bytes();
                 let taken = Vec::new(rt.alloc());
@@ -41,7 +44,7 @@ fn failed_writes_leave_a_front(rt: HostRuntime) {
                     taken,
                     most,
                     calls,
-                    fails,
+                    fault,
                 };
                 let ending = serve(rt.alloc(), &mut reader, &mut sink, None);
                 let taken = sink.taken.as_slice();

@@ -1,40 +1,42 @@
 use Rattle.std.proofs.Common.{◌≡◌, arith, rules, option_copied}
 use Rattle.std.specs.String.{string_bytes}
-use Rattle.std.specs.Io.KnownBytes.{Appends}
+use Rattle.evm_streams.specs.Writes.{Took, TookPrefix}
 use Rattle.evm_debug.specs.LineReading.{line_at}
 use Rattle.evm_serve.specs.Lines.{CutsLine}
-use Rattle.evm_serve.specs.Stream.{AppendsFront}
 use Rattle.evm_serve.specs.Told.{Goes, Ends, line_told}
-use Rattle.evm_serve.proofs.Streams.{Appends-nil}
-use Rattle.evm_serve.proofs.Endings.{Plays-ended}
-use Rattle.evm_serve.proofs.Runs.{Tells-start, Tells-goes, Tells-done, Tells-goes_fault, Tells-ended, Tells-ended_fault}
+use Rattle.evm_serve.proofs.Endings.{plays_ended}
+use Rattle.evm_serve.proofs.Runs.{Tells-start, Tells-goes, Tells-done, Tells-rest, Tells-goes_fault, Tells-ended, Tells-ended_fault}
 use Rattle.evm_serve.proofs.serving.play.Goals as goal
 
 pub lines-init : goal.lines-init
-lines-init g c = record { tells = Tells-start _ _ _ (Appends-nil _); numbered = omega arith }
+lines-init g c = record { tells = Tells-start _ _ _ _; numbered = omega arith }
 
 pub lines-preserved : goal.lines-preserved
 lines-preserved g c =
     let goes : line_told (option_copied c.args.image) c.lines.number c.lines.machine (line_at c.in-Some.line.now) ≡ Goes (string_bytes c.in-Ok-Goes.text) c.tell.new.machine = search rules in
     let cut : CutsLine c.lines.rest.now c.in-Some.line.now c.in-Some.after.now = search rules in
-    let written : Appends (g.W.Write.contents c.lines.writer) (g.W.Write.contents c.write_text.new.writer) (string_bytes c.in-Ok-Goes.text) = search rules in
+    let written : Took g.W.Sink.takes c.lines.writer (string_bytes c.in-Ok-Goes.text) c.write_all.new.sink = search rules in
     record {
-      tells = Tells-goes _ _ _ _ _ _ _ _ _ _ _ _ c.lines.invariant.tells cut goes written;
+      tells = Tells-goes _ _ _ _ _ _ _ _ _ _ _ _ _ c.lines.invariant.tells cut goes written;
       numbered = omega (arith, cut.shorter, c.lines.invariant.numbered);
     }
 
-pub returns-in-Err-write_text : goal.returns-in-Err-write_text
-returns-in-Err-write_text g c =
+pub returns-in-Err-write_all : goal.returns-in-Err-write_all
+returns-in-Err-write_all g c =
     let goes : line_told (option_copied c.args.image) c.lines.number c.lines.machine (line_at c.in-Some.line.now) ≡ Goes (string_bytes c.in-Ok-Goes.text) c.tell.new.machine = search rules in
     let cut : CutsLine c.lines.rest.now c.in-Some.line.now c.in-Some.after.now = search rules in
-    let written : AppendsFront (g.W.Write.contents c.lines.writer) (g.W.Write.contents c.write_text.new.writer) (string_bytes c.in-Ok-Goes.text) = search rules in
-    Tells-goes_fault _ _ _ _ _ _ _ _ _ _ _ _ c.lines.invariant.tells cut goes written
+    let written : TookPrefix g.W.Sink.takes c.lines.writer (string_bytes c.in-Ok-Goes.text) c.write_all.new.sink = search rules in
+    Tells-goes_fault _ _ _ _ _ _ _ _ _ _ _ _ _ c.lines.invariant.tells cut goes written
+
+pub returns-in-Err : goal.returns-in-Err
+returns-in-Err g c = (c.lines.invariant.tells.prefix, Tells-rest _ _ _ _ _ _ _ _ c.lines.invariant.tells, c.lines.invariant.tells.written)
 
 pub returns : goal.returns
-returns g c = Tells-done _ _ _ _ _ _ _ c.lines.invariant.tells (search rules)
+returns g c = Tells-done _ _ _ _ _ _ _ _ c.lines.invariant.tells (search rules)
 
 pub returns-in-Ok-Ends : goal.returns-in-Ok-Ends
 returns-in-Ok-Ends g c =
     let ends : line_told (option_copied c.args.image) c.lines.number c.lines.machine (line_at c.in-Some.line.now) ≡ Ends (string_bytes c.in-Ok-Ends.text) = search rules in
     let cut : CutsLine c.lines.rest.now c.in-Some.line.now c.in-Some.after.now = search rules in
-    Plays-ended _ _ _ _ _ _ (Tells-ended _ _ _ _ _ _ _ _ _ _ _ c.lines.invariant.tells cut ends) (Tells-ended_fault _ _ _ _ _ _ _ _ _ _ _ c.lines.invariant.tells cut ends) (search rules)
+    plays_ended _ _ _ _ _ _ _ (Tells-ended _ _ _ _ _ _ _ _ _ _ _ _ c.lines.invariant.tells cut ends) (Tells-ended_fault _ _ _ _ _ _ _ _ _ _ _ _ c.lines.invariant.tells cut ends)
+    _ (Tells-rest _ _ _ _ _ _ _ _ c.lines.invariant.tells) c.lines.invariant.tells.written (search rules)

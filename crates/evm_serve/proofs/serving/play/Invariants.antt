@@ -6,7 +6,7 @@ use Rattle.evm_serve.proofs.serving.play.Given as goal
 -- what was told so far was written, and what is left is behind it
 abbrev pub invariant-lines : goal.invariant-lines
 invariant-lines g l = record {
-  tells : Tells (option_copied l.image) (told (option_copied l.image) l.script) (g.W.Write.contents l.fn.writer) (g.W.Write.contents l.writer) l.number l.rest l.machine;
+  tells : Tells g.W.Sink.takes (option_copied l.image) (told (option_copied l.image) l.script) l.fn.writer l.writer l.number l.rest l.machine;
   numbered : l.number + length l.rest ≤ length l.script + 1;
 }
 

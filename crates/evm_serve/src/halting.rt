@@ -1,0 +1,41 @@
+//! Reports written in one piece, and the end of a run that came to a verdict or halted.
+
+ghost use Rattle.evm_serve.specs.Playing.{Says, EndsAs};
+ghost use Rattle.evm_serve.specs.Serving.{status_of, Unread};
+
+use crate::ending::{Ending, Halt, Verdict};
+use evm_streams::{ReadStop, Sink, write_all};
+
+/// Writes the report of a run that comes to this verdict.
+pub(crate) fn say<W: Sink>(verdict: Verdict, text: &[u8], writer: &mut W) -> Result<Verdict, Halt>
+    ensures { Says W.takes (record { text = text.now; status = status_of verdict }) writer.old writer.new result }
+{
+    match write_all(writer, text) {
+        Ok(()) => Ok(verdict),
+        Err(fault) => Err(Halt::WriteFailed(fault)),
+    }
+}
+
+/// How a run ends whose input was not read.
+pub(crate) fn unread<W: Sink>(stop: ReadStop, writer: &mut W) -> Ending
+    ensures { Unread W.takes stop writer.old writer.new result }
+{
+    match stop {
+        ReadStop::NoMemory => ended(Err(Halt::NoMemory), writer),
+        ReadStop::Fault(fault) => Ending::ReadFailed(fault),
+    }
+}
+
+/// How a run ends that came to a verdict or halted. Where an allocation failed, the line `memory` is written first.
+pub(crate) fn ended<W: Sink>(outcome: Result<Verdict, Halt>, writer: &mut W) -> Ending
+    ensures { EndsAs W.takes outcome writer.old writer.new result }
+{
+    match outcome {
+        Ok(verdict) => Ending::Complete(verdict),
+        Err(Halt::WriteFailed(fault)) => Ending::WriteFailed(fault),
+        Err(Halt::NoMemory) => match write_all(writer, b"memory\n") {
+            Ok(()) => Ending::NoMemory,
+            Err(fault) => Ending::WriteFailed(fault),
+        },
+    }
+}

@@ -1,0 +1,29 @@
+use Rattle.std.proofs.Common.{◌≡◌, ◌<◌, ◌++◌, take, refl, rules, arith, length-append, length-take}
+use Rattle.evm_streams.proofs.Calls.{gave_none, gave_more}
+use Rattle.evm_streams.proofs.reads.read_all.Goals as goal
+
+pub parts-init : goal.parts-init
+parts-init g c = record { gave = gave_none _ _ _ c.new-bytes.ensures.items; limit = search rules }
+
+pub returns-then-len-n-gt-LIMIT : goal.returns-then-len-n-gt-LIMIT
+returns-then-len-n-gt-LIMIT g c =
+    let some : 0 < c.in-Bytes.n = omega arith in record {
+      bytes = c.parts.bytes.items ++ take c.in-Bytes.n c.read.new.part;
+      gave = gave_more _ _ _ _ _ _ _ _ c.parts.invariant.gave some c.in-Bytes.ensures.call refl;
+      many = simp (length-append, length-take) (omega (arith, c.in-Bytes.ensures.bound c.in-Bytes.n refl));
+    }
+
+pub returns-then-is_err : goal.returns-then-is_err
+returns-then-is_err g c =
+    let some : 0 < c.in-Bytes.n = omega arith in record {
+      bytes = c.parts.bytes.items ++ take c.in-Bytes.n c.read.new.part;
+      gave = gave_more _ _ _ _ _ _ _ _ c.parts.invariant.gave some c.in-Bytes.ensures.call refl;
+    }
+
+pub parts-preserved : goal.parts-preserved
+parts-preserved g c =
+    let some : 0 < c.in-Bytes.n = omega arith in
+    let grown : c.extend_from_slice.new.self.items ≡ c.parts.bytes.items ++ take c.in-Bytes.n c.read.new.part = search rules in record {
+      gave = gave_more _ _ _ _ _ _ _ _ c.parts.invariant.gave some c.in-Bytes.ensures.call grown;
+      limit = rw grown (simp (length-append, length-take) (omega (arith, c.in-Bytes.ensures.bound c.in-Bytes.n refl)));
+    }

@@ -1,0 +1,32 @@
+//! Readers and writers of std as sources and sinks. That a call of `read` or `write` did what it answered is trusted
+//! here, and nowhere else.
+
+use crate::sink::{Sink, Writing};
+use crate::source::{Reading, Source};
+use std::io::{Read, Write};
+
+impl<R: Read> Source for R {
+    ghost use Rattle.evm_streams.specs.Known.{ReaderGives};
+
+    ghost gives = { ReaderGives R.remaining };
+
+    fn read(&mut self, part: &mut [u8]) -> Reading {
+        match Read::read(self, part) {
+            Ok(count) => Reading::Bytes(count),
+            Err(_) => Reading::Failed,
+        }
+    }
+}
+
+impl<W: Write> Sink for W {
+    ghost use Rattle.evm_streams.specs.Known.{WriterTakes};
+
+    ghost takes = { WriterTakes W.contents };
+
+    fn write(&mut self, text: &[u8]) -> Writing {
+        match Write::write(self, text) {
+            Ok(count) => Writing::Bytes(count),
+            Err(_) => Writing::Failed,
+        }
+    }
+}

@@ -1,0 +1,18 @@
+//! Bytes read and written whole, with contracts that say which call gave them, took them or failed.
+#![tactic(auto)]
+
+mod adapters;
+mod laws;
+mod reads;
+mod sink;
+mod source;
+mod writes;
+
+pub use laws::{known_bytes_are_read, known_bytes_are_written};
+pub use reads::{read_all, read_utf8};
+pub use sink::{Sink, WriteFault, Writing};
+pub use source::{ReadFault, ReadStop, Reading, Source};
+pub use writes::write_all;
+
+#[cfg(test)]
+mod tests;
