@@ -2,6 +2,7 @@ pub mod Balance
 pub mod Breakpoints
 pub mod Commands
 pub mod First
+pub mod Fit
 pub mod Frames
 pub mod Kept
 pub mod Least

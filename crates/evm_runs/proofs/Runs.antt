@@ -30,7 +30,7 @@ takes-balance a line most old new t s =
     let lifts : Lifts line P = record { more = λ b n p h. h; moved = λ b n p q. move-balances line n p q } in
     record { each = λ c p e. (lift P a line t.count 0 c old new lifts t.moves (record { holds = s.each c })).holds p e }
 
-pipes_of : (k : Parts) → PipesBalance k → ArePipes k
+pub pipes_of : (k : Parts) → PipesBalance k → ArePipes k
 pipes_of k s = record { each = λ c p e. (s.each c p e).pipe }
 
 -- what holds of a run
@@ -42,7 +42,7 @@ one_last : (b : Bool) (n : ℕ) → n + (0 + cond b 1 0) ≡ more_if b n
 one_last true n = omega arith
 one_last false n = omega arith
 
-count_last : (test : Event → Bool) (events : List Event) (event : Event) → count_by test (events ++ event ∷ []) ≡ more_if (test event) (count_by test events)
+pub count_last : (test : Event → Bool) (events : List Event) (event : Event) → count_by test (events ++ event ∷ []) ≡ more_if (test event) (count_by test events)
 count_last test events event = sum_by-append (λ (e : Event). cond (test e) 1 0) events (event ∷ []) ∙ one_last (test event) (count_by test events)
 
 run_kept : IsKept RunBalances
@@ -54,7 +54,7 @@ run_kept = record {
 }
 
 -- ---- the start
-idle_balances : PipeBalances idle_pipe
+pub idle_balances : PipeBalances idle_pipe
 idle_balances = record {
   pipe = record { wire = IsLineSet-empty; oob = IsLineSet-empty; inband = IsLineSet-empty; counts = length-replicate LINES no_counts };
   lines = λ l n e. rw (slice_get-replicate LINES no_counts l n e) (record {

@@ -1,6 +1,7 @@
 pub mod Balance
 pub mod Changes
 pub mod First
+pub mod Fit
 pub mod Kept
 pub mod Least
 pub mod Replays

@@ -4,6 +4,7 @@
 ghost use Rattle.evm_runs.specs.Balance.{AlwaysBalances, AlwaysBalancesFresh, AlwaysBalancesLoaded};
 ghost use Rattle.evm_runs.specs.Changes.{EventsChangeOnly, RaisesOneLine};
 ghost use Rattle.evm_runs.specs.First.{AlwaysFindsFirst};
+ghost use Rattle.evm_runs.specs.Fit.{CountsAlwaysFit, CountsAlwaysFitFresh, CountsAlwaysFitLoaded};
 ghost use Rattle.evm_runs.specs.Kept.{SizesStay, StaysAsBooted, StaysAsLoaded, TasksStay};
 ghost use Rattle.evm_runs.specs.Least.{AlwaysTellsLeast};
 ghost use Rattle.evm_runs.specs.Replays.{LoadsEachByte, LoadsSoManyBytes, ReplaysJoin, StartsAsReplay, StaysReplay};
@@ -16,6 +17,14 @@ pub fn balance_holds()
     ensures booted { AlwaysBalances }
     ensures loaded { AlwaysBalancesLoaded }
     ensures fresh { AlwaysBalancesFresh }
+{}
+
+/// After every list of events, also where an image was loaded before, the journal is within its capacity, the
+/// clock is its ticks, and all counts are below 2^29, so that none has wrapped.
+pub fn counts_fit()
+    ensures booted { CountsAlwaysFit }
+    ensures loaded { CountsAlwaysFitLoaded }
+    ensures fresh { CountsAlwaysFitFresh }
 {}
 
 /// An accepted event is in the journal afterwards. A command answers Done, and changes only the place that it

@@ -4,7 +4,7 @@ use Rattle.evm_core.specs.Load.{load}
 use Rattle.evm_image.specs.Images.{Contents}
 use Rattle.evm_ram.specs.declared.refusal.Refusal.{Refusal}
 use Rattle.evm_model.specs.State.{State}
-use Rattle.evm_model.specs.Replay.{start, step, bad_boot, IsReplayOf}
+use Rattle.evm_model.specs.Replay.{start, apply, bad_boot, IsReplayOf}
 use Rattle.evm_model.specs.declared.event.Event.{Event}
 use Rattle.evm_journal.specs.Journal.{runs, journal_text, HasJournal}
 use Rattle.evm_debug.specs.Summary.{summary_text}
@@ -15,11 +15,11 @@ use Rattle.evm_serve.specs.Replaying.{events_on, replay_told}
 -- events up to it have in a journal.
 abbrev pub RefusedOnItsLine : Type 0
 RefusedOnItsLine = (first s : State) (front rest : List Event) (event : Event) (refusal : Refusal)
-    → events_on 2 None front first ≡ Ok s → step s event ≡ Err refusal
+    → events_on 2 None front first ≡ Ok s → apply s event ≡ Err refusal
     → events_on 2 None (front ++ event ∷ rest) first ≡ Err (refused_text (2 + length (runs (front ++ event ∷ []))) refusal)
 
 -- the journal of a machine that booted with an image, replayed with the image, shows that machine
 abbrev pub ReplaysSaved : Type 0
 ReplaysSaved = (image : Contents) (first s : State) → bad_boot s.boot ≡ false → load image (start s.boot) ≡ Ok first
-    → IsReplayOf first s → HasJournal s.boot s.events
-    → replay_told image (journal_text s.boot s.events) ≡ record { text = summary_text s; status = 0 }
+    → IsReplayOf first s → HasJournal s.boot s.journal
+    → replay_told image (journal_text s.boot s.journal) ≡ record { text = summary_text s; status = 0 }

@@ -5,7 +5,7 @@ use Rattle.evm_text.specs.Written.{decimal}
 use Rattle.evm_ram.specs.Refusal.{number_of}
 use Rattle.evm_ram.specs.declared.refusal.Refusal.{Refusal}
 use Rattle.evm_model.specs.State.{State}
-use Rattle.evm_model.specs.Replay.{step}
+use Rattle.evm_model.specs.Replay.{apply}
 use Rattle.evm_model.specs.declared.event.Event.TheVariants.{Step}
 use Rattle.evm_model.specs.declared.event.Answer.{Answer}
 use Rattle.evm_debug.specs.LineReading.{line_at}
@@ -42,7 +42,7 @@ steps_on (Err refusal) others = Err refusal
 
 unfoldable pub steps : ℕ → ℕ → State → Result State Refusal
 steps c zero s = Ok s
-steps c (suc count) s = steps_on (step s (Step c)) (steps c count)
+steps c (suc count) s = steps_on (apply s (Step c)) (steps c count)
 
 -- a machine with which the run goes on, or the refusal that ends it
 abbrev pub machine_told : ℕ → Result State Refusal → Telling
@@ -66,7 +66,7 @@ abbrev pub told_booted : ℕ → State → Line → Telling
 told_booted n s lines.Blank = Goes [] (Some s)
 told_booted n s (lines.Boot cpus ram capacity) = Ends (bad_text n)
 told_booted n s (lines.Steps c count) = machine_told n (steps c count s)
-told_booted n s (lines.One event) = event_told n (step s event)
+told_booted n s (lines.One event) = event_told n (apply s event)
 told_booted n s (lines.Look view) = view_told n s (shown view s)
 
 abbrev pub told_at : Option Contents → ℕ → Option State → Line → Telling

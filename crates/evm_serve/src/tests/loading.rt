@@ -63,7 +63,7 @@ fn image_with(alloc: Global, patches: &[(usize, u64)]) -> Result<Image, Fail> {
 }
 
 fn pc(machine: &Machine) -> Result<u64, Fail> {
-    Ok(machine.tasks().first().ok_or("task 0")?.hart.pc)
+    Ok(machine.hart(0).ok_or("task 0")?.pc)
 }
 
 fn bytes(machine: &Machine, address: u64, count: u64) -> Result<&[u8], Fail> {
@@ -82,7 +82,7 @@ fn loads_two_segments(rt: HostRuntime) -> Result<(), Fail> {
     );
     assert_eq!(rt; pc(&machine)?, 0x8000_0100);
     assert_eq!(rt; machine.apply(Event::Step(0)), Ok(Answer::Ran(0)));
-    assert_eq!(rt; machine.tasks().first().ok_or("task 0")?.hart.regs[10], 5);
+    assert_eq!(rt; machine.hart(0).ok_or("task 0")?.regs[10], 5);
     assert_eq!(rt; pc(&machine)?, 0x8000_0104);
     Ok(())
 }
