@@ -1,5 +1,5 @@
 -- A task that comes to a line executes what the line becomes.
-use Rattle.std.proofs.Common.{◌≡◌, ◌∙◌, ◌↔◌, ℕ, zero, suc, ◌+◌, ◌-◌, ◌%◌, ◌<◌, ◌^◌, inl, inr, Bool, true, false, cond, List, [], ◌∷◌, Option, Some, Ok, All, take, ℤ, refl, ap, sym, subst, arith}
+use Rattle.std.proofs.Common.{◌≡◌, ◌∙◌, ◌↔◌, ℕ, ◌+◌, ◌-◌, ◌%◌, ◌<◌, ◌^◌, inl, inr, Bool, true, false, cond, List, Option, Some, Ok, All, take, ℤ, refl, ap, sym, subst, arith}
 use Rattle.std.specs.Prelude.{slice_get, slice_set, slice_index_or}
 use Rattle.std.proofs.lemmas.List.{set-set}
 use Rattle.std.proofs.lemmas.Option.{same_Some, option_and_then_some}
@@ -25,12 +25,14 @@ use Rattle.evm_exec.specs.Values.{sum}
 use Rattle.evm_exec.specs.declared.hart.Hart.{Hart}
 use Rattle.evm_exec.specs.declared.outcome.Effect.{Effect}
 use Rattle.evm_exec.specs.declared.outcome.Effect.TheVariants.{Next, Load, Store, Call, Break, Misaligned}
-use Rattle.evm_model.specs.Instructions.{executed, done, goes_to}
-use Rattle.evm_model.specs.State.{Kernel, with_task, changed, changed_task}
-use Rattle.evm_model.specs.declared.task.Task.{Task}
+use Rattle.evm_model.specs.Harts.{set_register, set_pc}
+use Rattle.evm_model.specs.Instructions.{finish}
+use Rattle.evm_model.specs.Lists.{change_some}
+use Rattle.evm_model.specs.State.{Memory, Board, Parts, on_hart, on_parts}
+use Rattle.evm_model.proofs.Lists.{slice_get-set_same}
 use Rattle.evm_laws.specs.Expansions.{all_executed, ComesTo, EachLiIsExecuted, EachLaIsExecuted}
 use Rattle.evm_laws.specs.Pseudo.{Becomes, instruction_after, expansion_after, loaded, EachLiLoads, EachLaLoads}
-use Rattle.evm_laws.specs.Running.{HasLine, IsAt}
+use Rattle.evm_laws.specs.Running.{HasLine, IsAt, execute_task}
 use Rattle.evm_laws.proofs.Doing.{executes}
 use Rattle.evm_laws.proofs.Each.{same_expansion}
 use Rattle.evm_laws.proofs.Limits.{all_bounded}
@@ -41,69 +43,70 @@ GoesOn Empty = ⊥
 GoesOn (Single i) = Unit {0}
 GoesOn (Double i j) = (hart middle : Hart) → instruction_after i hart ≡ Some middle → middle.pc ≡ sum hart.pc 4
 
-with_hart : ℕ → Task → Hart → Kernel → Kernel
-with_hart t task hart k = with_task t (record task { hart = hart }) k
+-- task t has another hart
+with_hart : ℕ → Hart → Board → Board
+with_hart t hart b = on_parts (λ (k : Parts). record k { harts = slice_set k.harts t hart }) b
+
+-- the hart of task t changed, where it is known
+change_known : (t : ℕ) (f : Hart → Hart) (hart : Hart) (b : Board) → slice_get b.parts.harts t ≡ Some hart → on_parts (on_hart t f) b ≡ with_hart t (f hart) b
+unfolding with_hart
+change_known t f hart b there =
+    ap (λ (o : Option Hart). on_parts (λ (k : Parts). record k { harts = change_some o f k.harts t }) b) there
 
 -- what touches nothing but the hart
-by_effect : (e : Effect) (c t : ℕ) (task : Task) (k : Kernel) (after : Hart) → slice_get k.tasks t ≡ Some task → hart_after task.hart e ≡ Some after
-    → done e c t k ≡ with_hart t task after k
-unfolding done with_hart
-by_effect (Next rd value pc) c t task k after there e =
-    ap (λ (o : Option Task). changed_task o (goes_to rd value pc) t k) there ∙ ap (λ (h : Hart). with_hart t task h k) (same_Some _ after e)
-by_effect (Load op rd address) c t task k after there e = cc
-by_effect (Store width address value) c t task k after there e = cc
-by_effect Call c t task k after there e = cc
-by_effect Break c t task k after there e = cc
-by_effect Misaligned c t task k after there e = cc
+by_effect : (e : Effect) (c t : ℕ) (hart : Hart) (b : Board) (after : Hart) → slice_get b.parts.harts t ≡ Some hart → hart_after hart e ≡ Some after
+    → finish e c t b ≡ with_hart t after b
+unfolding finish
+by_effect (Next rd value pc) c t hart b after there e =
+    change_known t (λ h. set_pc pc (set_register rd value h)) hart b there ∙ ap (λ (h : Hart). with_hart t h b) (same_Some _ after e)
+by_effect (Load op rd address) c t hart b after there e = cc
+by_effect (Store width address value) c t hart b after there e = cc
+by_effect Call c t hart b after there e = cc
+by_effect Break c t hart b after there e = cc
+by_effect Misaligned c t hart b after there e = cc
 
 -- the word of an instruction stands at an address
-record Stands (ram : List ℕ) (address : ℕ) (i : Inst) : Type 0 where
+record Stands (memory : Memory) (address : ℕ) (i : Inst) : Type 0 where
   pub line : ProgramLine
   pub worded : IsWorded line
-  pub word : HasLine ram line
+  pub word : HasLine memory line
   pub at : line.address ≡ address
   pub is : line.instruction ≡ i
 
-there_again : (tasks : List Task) (t : ℕ) (task new : Task) → slice_get tasks t ≡ Some task → slice_get (slice_set tasks t new) t ≡ Some new
-there_again [] t task new e = cc
-there_again (x ∷ tasks) zero task new e = refl
-there_again (x ∷ tasks) (suc t) task new e = there_again tasks t task new e
-
 module _ (law : (w : ℕ) (i : Inst) → w < 2 ^ 32 → (decoded w ≡ Some i) ↔ Row i w) where
-  alone : (i : Inst) (c t : ℕ) (task : Task) (k : Kernel) (after : Hart) → slice_get k.tasks t ≡ Some task → Stands k.ram task.hart.pc i
-      → instruction_after i task.hart ≡ Some after → executed c t k ≡ with_hart t task after k
-  alone i c t task k after there s e =
+  alone : (i : Inst) (c t : ℕ) (hart : Hart) (b : Board) (after : Hart) → slice_get b.parts.harts t ≡ Some hart → Stands b.memory hart.pc i
+      → instruction_after i hart ≡ Some after → execute_task c t b ≡ with_hart t after b
+  alone i c t hart b after there s e =
       let l = s.line in
-      let is_at : IsAt l t task k = record { there = there; pc = sym s.at; word = s.word } in
-      executes law l s.worded c t task k is_at
-      ∙ ap (λ (a : ℕ). done (does l.instruction task.hart.regs a) c t k) s.at
-      ∙ ap (λ (j : Inst). done (does j task.hart.regs task.hart.pc) c t k) s.is
-      ∙ by_effect (does i task.hart.regs task.hart.pc) c t task k after there e
+      let is_at : IsAt l t hart b = record { there = there; pc = sym s.at; word = s.word } in
+      executes law l s.worded c t hart b is_at
+      ∙ ap (λ (a : ℕ). finish (does l.instruction hart.regs a) c t b) s.at
+      ∙ ap (λ (j : Inst). finish (does j hart.regs hart.pc) c t b) s.is
+      ∙ by_effect (does i hart.regs hart.pc) c t hart b after there e
 
-  pair : (i j : Inst) (c t : ℕ) (task : Task) (k : Kernel) (middle after : Hart) → slice_get k.tasks t ≡ Some task → Stands k.ram task.hart.pc i → Stands k.ram middle.pc j
-      → instruction_after i task.hart ≡ Some middle → instruction_after j middle ≡ Some after → executed c t (executed c t k) ≡ with_hart t task after k
+  pair : (i j : Inst) (c t : ℕ) (hart : Hart) (b : Board) (middle after : Hart) → slice_get b.parts.harts t ≡ Some hart → Stands b.memory hart.pc i → Stands b.memory middle.pc j
+      → instruction_after i hart ≡ Some middle → instruction_after j middle ≡ Some after → execute_task c t (execute_task c t b) ≡ with_hart t after b
   unfolding with_hart
-  pair i j c t task k middle after there s r e f =
-      let next : Task = record task { hart = middle } in
-      ap (executed c t) (alone i c t task k middle there s e)
-      ∙ alone j c t next (with_task t next k) after (there_again k.tasks t task next there) r f
-      ∙ ap (λ (tasks : List Task). record k { tasks = tasks }) (set-set k.tasks t next (record task { hart = after }))
+  pair i j c t hart b middle after there s r e f =
+      ap (execute_task c t) (alone i c t hart b middle there s e)
+      ∙ alone j c t middle (with_hart t middle b) after (slice_get-set_same b.parts.harts t hart middle there) r f
+      ∙ ap (λ (harts : List Hart). on_parts (λ (k : Parts). record k { harts = harts }) b) (set-set b.parts.harts t middle after)
 
-  all : (e : Expansion) (first c t : ℕ) (task : Task) (k : Kernel) (after : Hart) → GoesOn e → first + 4 < 18446744073709551616 → task.hart.pc ≡ first
-      → slice_get k.tasks t ≡ Some task → ((a : ℕ) (i : Inst) → IsAmong e first i a → Stands k.ram a i) → expansion_after e task.hart ≡ Some after
-      → all_executed e c t k ≡ with_hart t task after k
-  all Empty first c t task k after on small pc there s e = absurd on
-  all (Single i) first c t task k after on small pc there s e = alone i c t task k after there (s task.hart.pc i (refl, pc)) e
-  all (Double i j) first c t task k after on small pc there s e =
-      option_and_then_some (instruction_after j) (instruction_after i task.hart) after e
-      (λ middle p q. pair i j c t task k middle after there (s task.hart.pc i (inl (refl, pc)))
-      (let goes : middle.pc ≡ sum task.hart.pc 4 = on task.hart middle p in s middle.pc j (inr (refl, omega arith))) p q)
+  all : (e : Expansion) (first c t : ℕ) (hart : Hart) (b : Board) (after : Hart) → GoesOn e → first + 4 < 18446744073709551616 → hart.pc ≡ first
+      → slice_get b.parts.harts t ≡ Some hart → ((a : ℕ) (i : Inst) → IsAmong e first i a → Stands b.memory a i) → expansion_after e hart ≡ Some after
+      → all_executed e c t b ≡ with_hart t after b
+  all Empty first c t hart b after on small pc there s e = absurd on
+  all (Single i) first c t hart b after on small pc there s e = alone i c t hart b after there (s hart.pc i (refl, pc)) e
+  all (Double i j) first c t hart b after on small pc there s e =
+      option_and_then_some (instruction_after j) (instruction_after i hart) after e
+      (λ middle p q. pair i j c t hart b middle after there (s hart.pc i (inl (refl, pc)))
+      (let goes : middle.pc ≡ sum hart.pc 4 = on hart middle p in s middle.pc j (inr (refl, omega arith))) p q)
 
   -- what a line of a source becomes
   module _ (stand : AllThatIsMeantStands) (worded : LinesAreWorded) where
-    stands : (source : List ℕ) (p : Assembled) (n : ℕ) (statement : Statement) (e : Expansion) (ram : List ℕ) → program_of source ≡ Ok p → Becomes source n statement e
-        → All (HasLine ram) p.lines → (a : ℕ) (i : Inst) → IsAmong e (address_of_line source n) i a → Stands ram a i
-    stands source p n statement e ram is b words a i among =
+    stands : (source : List ℕ) (p : Assembled) (n : ℕ) (statement : Statement) (e : Expansion) (memory : Memory) → program_of source ≡ Ok p → Becomes source n statement e
+        → All (HasLine memory) p.lines → (a : ℕ) (i : Inst) → IsAmong e (address_of_line source n) i a → Stands memory a i
+    stands source p n statement e memory is b words a i among =
         let any = stand source p is n a i (record { statement = statement; expansion = e; says = b.says; becomes = b.becomes; stands = among }) in
         record {
           line = slice_index_or p.lines any.0 any.1;
@@ -113,13 +116,12 @@ module _ (law : (w : ℕ) (i : Inst) → w < 2 ^ 32 → (decoded w ≡ Some i) �
           is = ap (λ (l : ProgramLine). l.instruction) any.3 ∙ any.4.2;
         }
 
-    pub line_executed : (source : List ℕ) (p : Assembled) (n : ℕ) (statement : Statement) (e : Expansion) (c t : ℕ) (task : Task) (k : Kernel) (change : Hart → Hart)
-        → Becomes source n statement e → GoesOn e → ComesTo source p n t task k → expansion_after e task.hart ≡ Some (change task.hart) → all_executed e c t k ≡ changed t change k
-    unfolding with_hart
-    line_executed source p n statement e c t task k change b on h is =
+    pub line_executed : (source : List ℕ) (p : Assembled) (n : ℕ) (statement : Statement) (e : Expansion) (c t : ℕ) (hart : Hart) (b : Board) (f : Hart → Hart)
+        → Becomes source n statement e → GoesOn e → ComesTo source p n t hart b → expansion_after e hart ≡ Some (f hart) → all_executed e c t b ≡ on_parts (on_hart t f) b
+    line_executed source p n statement e c t hart b f becomes on h is =
         let near = (all_bounded (take (n - 1) (lines_of source))).place.text in
-        all e (address_of_line source n) c t task k (change task.hart) on (omega (arith, near)) h.pc h.there (stands source p n statement e k.ram h.assembled b h.words) is
-        ∙ sym (ap (λ (o : Option Task). changed_task o change t k) h.there)
+        all e (address_of_line source n) c t hart b (f hart) on (omega (arith, near)) h.pc h.there (stands source p n statement e b.memory h.assembled becomes h.words) is
+        ∙ sym (change_known t f hart b h.there)
 
 -- ---- li and la
 
@@ -148,11 +150,11 @@ la_goes source n rd spot e b =
 
 module _ (law : (w : ℕ) (i : Inst) → w < 2 ^ 32 → (decoded w ≡ Some i) ↔ Row i w) (stand : AllThatIsMeantStands) (worded : LinesAreWorded) where
   pub each_li_is_executed : EachLiLoads → EachLiIsExecuted
-  each_li_is_executed loads source p n rd value e b c t task k h =
-      line_executed law stand worded source p n (LoadImmediate rd value) e c t task k (loaded rd (extended value) (load_size value)) b (li_goes source n rd value e b) h
-      (loads source n rd value e task.hart b h.registers)
+  each_li_is_executed loads source p n rd value e becomes c t hart b h =
+      line_executed law stand worded source p n (LoadImmediate rd value) e c t hart b (loaded rd (extended value) (load_size value)) becomes (li_goes source n rd value e becomes) h
+      (loads source n rd value e hart becomes h.registers)
 
   pub each_la_is_executed : EachLaLoads → EachLaIsExecuted
-  each_la_is_executed loads source p n rd spot e b c t task k h =
-      line_executed law stand worded source p n (LoadAddress rd (Some spot)) e c t task k (loaded rd (address (size_of_text source) spot) 8) b (la_goes source n rd spot e b) h
-      (loads source n rd spot e task.hart b h.registers h.pc)
+  each_la_is_executed loads source p n rd spot e becomes c t hart b h =
+      line_executed law stand worded source p n (LoadAddress rd (Some spot)) e c t hart b (loaded rd (address (size_of_text source) spot) 8) becomes (la_goes source n rd spot e becomes) h
+      (loads source n rd spot e hart becomes h.registers h.pc)

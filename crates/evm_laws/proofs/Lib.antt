@@ -8,4 +8,3 @@ pub mod Sparing
 pub mod Standing
 pub mod Statements_read
 pub mod Taking
-pub mod Untouched

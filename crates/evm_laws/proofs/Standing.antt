@@ -1,5 +1,5 @@
 -- What stands in RAM after the bytes of a program were loaded.
-use Rattle.std.proofs.Common.{◌≡◌, ℕ, ◌+◌, ◌-◌, ◌<◌, ◌≤◌, ◌^◌, Bool, true, false, ◌&&◌, ◌||◌, nat_eq, nat_le, List, Some, length, take, drop, option_map, refl, sym, ap, ◌∙◌, arith}
+use Rattle.std.proofs.Common.{◌≡◌, ℕ, zero, suc, ◌+◌, ◌-◌, ◌<◌, ◌≤◌, ◌^◌, Bool, true, false, ◌&&◌, ◌||◌, nat_eq, nat_le, List, Some, length, take, drop, option_map, refl, sym, ap, ◌∙◌, arith}
 use Rattle.std.specs.Prelude.{slice_index}
 use Rattle.std.specs.Int.{w32, to_le_bytes}
 use Rattle.std.proofs.lemmas.Bool.{le-leb}
@@ -11,8 +11,21 @@ use Rattle.evm_ram.specs.Bytes.{little_endian}
 use Rattle.evm_ram.specs.Laws.{bytes_at-inside}
 use Rattle.evm_ram.specs.Ram.{is_inside, bytes_at, read_at}
 use Rattle.evm_ram.specs.declared.ram.TheConstants.{BASE}
-use Rattle.evm_model.specs.Load.{bytes_from, loads_so_many_bytes, loads_each_byte}
+use Rattle.evm_model.specs.Load.{bytes_from}
 use Rattle.evm_laws.specs.Running.{HasLine}
+
+loads_so_many_bytes : (byte : ℕ → ℕ) (address n : ℕ) → length (bytes_from byte address n) ≡ n
+unfolding bytes_from
+loads_so_many_bytes byte address zero = refl
+loads_so_many_bytes byte address (suc n) = ap suc (loads_so_many_bytes byte (address + 1) n)
+
+loads_each_byte : (byte : ℕ → ℕ) (address n i : ℕ) → i < n → slice_index (bytes_from byte address n) i ≡ byte (address + i)
+unfolding bytes_from
+loads_each_byte byte address zero i h = absurd (omega arith)
+loads_each_byte byte address (suc n) zero h = let same : address ≡ address + 0 = omega arith in ap byte same
+loads_each_byte byte address (suc n) (suc i) h =
+    let same : address + 1 + i ≡ address + suc i = omega arith in
+    loads_each_byte byte (address + 1) n i (omega arith) ∙ ap byte same
 
 either_test : (a b c : Bool) → b ≡ true → c ≡ true → (a || (b && c)) ≡ true
 either_test true b c p q = refl
@@ -46,7 +59,7 @@ module _ (byte : ℕ → ℕ) (bytes : List ℕ) (n : ℕ) (same : (i : ℕ) →
   all_bytes = piece BASE (length bytes) (omega arith) (omega arith) ∙ ap Some (take_all (length bytes) bytes (omega arith))
 
   -- each line's word
-  pub line_stands : (l : ProgramLine) → IsWorded l → StandsIn bytes l → HasLine (bytes_from byte BASE n) l
+  pub line_stands : (l : ProgramLine) → IsWorded l → StandsIn bytes l → HasLine (record { ram = bytes_from byte BASE n }) l
   unfolding read_at
   line_stands l w h =
       ap (option_map little_endian) (piece l.address 4 h.above h.within ∙ ap Some h.bytes_are)

@@ -4,25 +4,29 @@ use Rattle.std.specs.Prelude.{slice_get, slice_set, slice_index, nat_lt}
 use Rattle.std.proofs.lemmas.Bool.{cases_lt, and_right, le-ltb, lt-ltb}
 use Rattle.std.proofs.lemmas.Bool.Decides.{nat_tests}
 use Rattle.std.proofs.lemmas.List.{length-replicate}
-use Rattle.evm_lines.specs.declared.TheConstants.{LINES}
+use Rattle.std.proofs.lemmas.Option.{same_Some}
 use Rattle.evm_asm.specs.Assembled.{Assembled, IsWorded, StandsIn}
 use Rattle.evm_asm.specs.declared.output.ProgramLine.{ProgramLine}
 use Rattle.evm_elf.specs.Files.{program_of as image_of_bytes}
 use Rattle.evm_image.specs.Images.{Loaded, byte_at, range_start}
+use Rattle.evm_ram.specs.Ram.{bytes_at}
 use Rattle.evm_ram.specs.declared.ram.TheConstants.{BASE}
 use Rattle.evm_ram.specs.declared.refusal.Refusal.{Refusal}
 use Rattle.evm_ram.specs.declared.refusal.Refusal.TheVariants.{BadAddress}
 use Rattle.evm_core.specs.Load.{load, passes_ram}
-use Rattle.evm_model.specs.Load.{loaded, bytes_from}
-use Rattle.evm_model.specs.Replay.{bad_boot, bad_cpus, bad_ram, bad_capacity, start, accepted, step}
-use Rattle.evm_model.specs.Rows.{unskipped}
-use Rattle.evm_model.specs.Settle.{settled_and_nudged}
-use Rattle.evm_model.specs.State.{State, Kernel, booted, booted_cpu, first_task}
+use Rattle.evm_model.specs.Harts.{first_hart}
+use Rattle.evm_model.specs.Load.{load as load_board, bytes_from}
+use Rattle.evm_model.specs.Pipes.{idle_pipe}
+use Rattle.evm_model.specs.Replay.{bad_boot, bad_cpus, bad_ram, bad_capacity, start, accept, apply}
+use Rattle.evm_model.specs.Settle.{settle_and_nudge}
+use Rattle.evm_model.specs.State.{State, Board, Memory, Parts, booted, booted_parts, first_processor, on_parts}
 use Rattle.evm_model.specs.declared.boot.Boot.{Boot}
-use Rattle.evm_model.specs.declared.cpu.Cpu.{Cpu}
 use Rattle.evm_model.specs.declared.event.Answer.TheVariants.{Ran}
 use Rattle.evm_model.specs.declared.event.Event.TheVariants.{Step}
-use Rattle.evm_laws.specs.Running.{HasLine, IsAt, Proceeds, AcceptsStep, line_done, line_stepped}
+use Rattle.evm_model.specs.declared.limits.TheConstants.{PROCESSOR_LIMIT, CAPACITY_LIMIT}
+use Rattle.evm_model.specs.declared.processor.Processor.{Processor}
+use Rattle.evm_model.proofs.Lists.{change-same}
+use Rattle.evm_laws.specs.Running.{HasLine, IsAt, Proceeds, AcceptsStep, line_done, line_stepped, skip_off}
 use Rattle.evm_laws.specs.Loading.{HoldsProgram, booted_with, BeginsWithLine}
 use Rattle.evm_laws.proofs.Standing.{all_bytes, line_stands}
 
@@ -32,7 +36,7 @@ segment bytes = record { address = range_start; bytes = bytes; memsz = length by
 
 -- the machine after the program's bytes were loaded
 unfoldable pub after : Boot → List ℕ → State
-after boot bytes = record (start boot) { kernel = loaded (byte_at (image_of_bytes bytes)) range_start (booted boot LINES) }
+after boot bytes = record (start boot) { board = load_board (byte_at (image_of_bytes bytes)) range_start (booted boot) }
 
 zeros : (n : ℕ) → length {A = ℕ} (replicate n 0) ≡ n
 zeros n = length-replicate {A = ℕ} n 0
@@ -62,9 +66,9 @@ refuses boot bytes h =
     let yes : passes_ram (length {A = ℕ} (replicate boot.ram 0)) (segment bytes) ≡ true = passes (length {A = ℕ} (replicate boot.ram 0)) bytes (omega arith) in
     rw yes refl
 
-ram_after : (boot : Boot) (bytes : List ℕ) → (after boot bytes).kernel.ram ≡ bytes_from (byte_at (image_of_bytes bytes)) BASE boot.ram
-unfolding after loaded booted
-ram_after boot bytes = ap (bytes_from (byte_at (image_of_bytes bytes)) BASE) (zeros boot.ram)
+memory_after : (boot : Boot) (bytes : List ℕ) → (after boot bytes).board.memory ≡ record { ram = bytes_from (byte_at (image_of_bytes bytes)) BASE boot.ram }
+unfolding after load_board booted
+memory_after boot bytes = ap (λ (n : ℕ). record { ram = bytes_from (byte_at (image_of_bytes bytes)) BASE n }) (zeros boot.ram)
 
 same_state : (s t : State) → ◌≡◌ {A = Result State Refusal} (Ok s) (Ok t) → s ≡ t
 same_state s t e = cc
@@ -87,29 +91,31 @@ not_zero zero rest e = cc
 not_zero (suc n) rest e = omega arith
 
 has_cpu : (boot : Boot) → bad_boot boot ≡ false → 0 < boot.cpus
-has_cpu boot good = not_zero boot.cpus (nat_lt 8 boot.cpus) (none_true (bad_cpus boot.cpus) (bad_ram boot.ram) (bad_capacity boot.capacity) good).0
+has_cpu boot good = not_zero boot.cpus (nat_lt PROCESSOR_LIMIT boot.cpus) (none_true (bad_cpus boot.cpus) (bad_ram boot.ram) (bad_capacity boot.capacity) good).0
 
 has_room : (boot : Boot) → bad_boot boot ≡ false → 0 < boot.capacity
-has_room boot good = not_zero boot.capacity (nat_lt 1048576 boot.capacity) (none_true (bad_cpus boot.cpus) (bad_ram boot.ram) (bad_capacity boot.capacity) good).2
+has_room boot good = not_zero boot.capacity (nat_lt CAPACITY_LIMIT boot.capacity) (none_true (bad_cpus boot.cpus) (bad_ram boot.ram) (bad_capacity boot.capacity) good).2
 
 first_set : {X : Type 0} (n : ℕ) (x y : X) → 0 < n → slice_get (slice_set (replicate n x) 0 y) 0 ≡ Some y
 first_set zero x y h = absurd (omega arith)
 first_set (suc n) x y h = refl
 
-set_twice : {X : Type 0} (n : ℕ) (x y : X) → slice_set (slice_set (replicate n x) 0 y) 0 y ≡ slice_set (replicate n x) 0 y
-set_twice zero x y = refl
-set_twice (suc n) x y = refl
+first_of_many : {X : Type 0} (n : ℕ) (x : X) → 0 < n → slice_get (replicate n x) 0 ≡ Some x
+first_of_many zero x h = absurd (omega arith)
+first_of_many (suc n) x h = refl
 
 -- ---- after boot and loading
-is_at : (boot : Boot) (bytes : List ℕ) (l : ProgramLine) → l.address ≡ range_start → HasLine (after boot bytes).kernel.ram l
-    → IsAt l 0 (first_task boot.ram) (after boot bytes).kernel
-unfolding after loaded booted
+is_at : (boot : Boot) (bytes : List ℕ) (l : ProgramLine) → l.address ≡ range_start → HasLine (after boot bytes).board.memory l
+    → IsAt l 0 (first_hart boot.ram) (after boot bytes).board
+unfolding after load_board booted booted_parts
 is_at boot bytes l first has = record { there = refl; pc = sym first; word = has }
 
-proceeds : (boot : Boot) (bytes : List ℕ) (address : ℕ) → bad_boot boot ≡ false → Proceeds address 0 0 (booted_cpu (Some 0)) (after boot bytes).kernel
-unfolding after loaded booted
+proceeds : (boot : Boot) (bytes : List ℕ) (address : ℕ) → bad_boot boot ≡ false
+    → Proceeds address 0 0 (first_processor (Some 0)) idle_pipe (after boot bytes).board
+unfolding after load_board booted booted_parts
 proceeds boot bytes address good = record {
-  there = first_set boot.cpus (booted_cpu None) (booted_cpu (Some 0)) (has_cpu boot good);
+  there = first_set boot.cpus (first_processor None) (first_processor (Some 0)) (has_cpu boot good);
+  its_pipe = first_of_many boot.cpus idle_pipe (has_cpu boot good);
   goes = refl;
   wire = refl;
   current = refl;
@@ -117,37 +123,45 @@ proceeds boot bytes address good = record {
 }
 
 -- no breakpoint was to be passed
-not_skipped : (boot : Boot) (bytes : List ℕ) → unskipped (booted_cpu (Some 0)) 0 (after boot bytes).kernel ≡ (after boot bytes).kernel
-unfolding after loaded booted
-not_skipped boot bytes =
-    let k = (after boot bytes).kernel in
-    ap (λ (cpus : List Cpu). record k { cpus = cpus }) (set_twice boot.cpus (booted_cpu None) (booted_cpu (Some 0)))
+not_skipped : (boot : Boot) (bytes : List ℕ) → bad_boot boot ≡ false → skip_off 0 (after boot bytes).board ≡ (after boot bytes).board
+not_skipped boot bytes good =
+    let b = (after boot bytes).board in
+    let first = (proceeds boot bytes 0 good).there in
+    ap (λ (processors : List Processor). on_parts (λ (k : Parts). record k { processors = processors }) b)
+    (change-same (λ (p : Processor). record p { skip = false }) b.parts.processors 0
+    (λ p e. let is : p ≡ first_processor (Some 0) = same_Some p (first_processor (Some 0)) (sym e ∙ first) in rw is refl))
 
-first_stepped : (boot : Boot) (bytes : List ℕ) (l : ProgramLine) → AcceptsStep l → bad_boot boot ≡ false → HasLine (after boot bytes).kernel.ram l → l.address ≡ range_start
-    → step (after boot bytes) (Step 0) ≡ Ok (accepted (Step 0) (line_stepped l (first_task boot.ram) (booted_cpu (Some 0)) 0 0 (after boot bytes).kernel, Ran 0) (after boot bytes))
+first_stepped : (boot : Boot) (bytes : List ℕ) (l : ProgramLine) → AcceptsStep l → bad_boot boot ≡ false → HasLine (after boot bytes).board.memory l → l.address ≡ range_start
+    → apply (after boot bytes) (Step 0) ≡ Ok (accept (Step 0) (line_stepped l (first_hart boot.ram) 0 0 (after boot bytes).board, Ran 0) (after boot bytes))
 unfolding after
 first_stepped boot bytes l accepts good has first =
-    accepts 0 0 (booted_cpu (Some 0)) (first_task boot.ram) (after boot bytes)
+    accepts 0 0 (first_processor (Some 0)) idle_pipe (first_hart boot.ram) (after boot bytes)
     (has_room boot good) (proceeds boot bytes l.address good) (is_at boot bytes l first has)
 
-first_line : (boot : Boot) (bytes : List ℕ) (l : ProgramLine) → AcceptsStep l → bad_boot boot ≡ false → HasLine (after boot bytes).kernel.ram l
+first_line : (boot : Boot) (bytes : List ℕ) (l : ProgramLine) → AcceptsStep l → bad_boot boot ≡ false → HasLine (after boot bytes).board.memory l
     → BeginsWithLine boot (after boot bytes) l
 first_line boot bytes l accepts good has first =
     first_stepped boot bytes l accepts good has first
-    ∙ ap (λ (k : Kernel). Ok (accepted (Step 0) (settled_and_nudged 0 (line_done l (first_task boot.ram) 0 0 k), Ran 0) (after boot bytes)))
-    (not_skipped boot bytes)
+    ∙ ap (λ (b : Board). Ok (accept (Step 0) (on_parts (settle_and_nudge 0) (line_done l (first_hart boot.ram) 0 0 b), Ran 0) (after boot bytes)))
+    (not_skipped boot bytes good)
 
 module _ (fill : (bytes : List ℕ) (i : ℕ) → byte_at (image_of_bytes bytes) (range_start + i) ≡ slice_index bytes i) where
   line_after : (boot : Boot) (bytes : List ℕ) (l : ProgramLine) → length bytes ≤ boot.ram → IsWorded l → StandsIn bytes l
-      → HasLine (after boot bytes).kernel.ram l
+      → HasLine (after boot bytes).board.memory l
   line_after boot bytes l room w h =
-      rw (ram_after boot bytes) (line_stands (byte_at (image_of_bytes bytes)) bytes boot.ram (fill bytes) room l w h)
+      subst (λ (m : Memory). HasLine m l) (sym (memory_after boot bytes))
+      (line_stands (byte_at (image_of_bytes bytes)) bytes boot.ram (fill bytes) room l w h)
+
+  bytes_after : (boot : Boot) (bytes : List ℕ) → length bytes ≤ boot.ram → bytes_at (after boot bytes).board.memory.ram range_start (length bytes) ≡ Some bytes
+  bytes_after boot bytes room =
+      subst (λ (m : Memory). bytes_at m.ram range_start (length bytes) ≡ Some bytes) (sym (memory_after boot bytes))
+      (all_bytes (byte_at (image_of_bytes bytes)) bytes boot.ram (fill bytes) room)
 
   pub holds : (boot : Boot) (p : Assembled) → length p.bytes ≤ boot.ram → All IsWorded p.lines → All (StandsIn p.bytes) p.lines
-      → HoldsProgram p (after boot p.bytes).kernel
-  unfolding after loaded booted
+      → HoldsProgram p (after boot p.bytes).board
+  unfolding after load_board booted booted_parts
   holds boot p room words stand = record {
-    bytes = rw (ram_after boot p.bytes) (all_bytes (byte_at (image_of_bytes p.bytes)) p.bytes boot.ram (fill p.bytes) room);
+    bytes = bytes_after boot p.bytes room;
     lines = λ k d less. line_after boot p.bytes _ room (words k d less) (stand k d less);
     begins = refl;
   }
@@ -162,7 +176,7 @@ module _ (fill : (bytes : List ℕ) (i : ℕ) → byte_at (image_of_bytes bytes)
 
   -- so each line's word stands where the program was loaded
   pub all_hold : (boot : Boot) (p : Assembled) (s : State) → booted_with boot p ≡ Ok s → All IsWorded p.lines → All (StandsIn p.bytes) p.lines
-      → All (HasLine s.kernel.ram) p.lines
+      → All (HasLine s.board.memory) p.lines
   all_hold boot p s e words stand =
       let is = taken boot p.bytes s e in
-      subst (λ (t : State). All (HasLine t.kernel.ram) p.lines) is.1 (holds boot p is.0 words stand).lines
+      subst (λ (t : State). All (HasLine t.board.memory) p.lines) is.1 (holds boot p is.0 words stand).lines

@@ -9,36 +9,35 @@ use Rattle.evm_asm.specs.Sizes.{address_of_line, size_of_text}
 use Rattle.evm_asm.specs.declared.item.Expansion.{Expansion}
 use Rattle.evm_asm.specs.declared.item.Expansion.TheVariants.{Empty, Single, Double}
 use Rattle.evm_exec.specs.Numbers.{extended}
-use Rattle.evm_model.specs.Instructions.{executed}
-use Rattle.evm_model.specs.State.{Kernel, changed}
-use Rattle.evm_model.specs.declared.task.Task.{Task}
+use Rattle.evm_exec.specs.declared.hart.Hart.{Hart}
+use Rattle.evm_model.specs.State.{Board, on_hart, on_parts}
 use Rattle.evm_laws.specs.Pseudo.{Becomes, loaded}
-use Rattle.evm_laws.specs.Running.{HasLine}
+use Rattle.evm_laws.specs.Running.{HasLine, execute_task}
 
 -- task t of processor c executes as many instructions as a statement becomes
-abbrev pub all_executed : Expansion → ℕ → ℕ → Kernel → Kernel
-all_executed Empty c t k = k
-all_executed (Single i) c t k = executed c t k
-all_executed (Double i j) c t k = executed c t (executed c t k)
+abbrev pub all_executed : Expansion → ℕ → ℕ → Board → Board
+all_executed Empty c t b = b
+all_executed (Single i) c t b = execute_task c t b
+all_executed (Double i j) c t b = execute_task c t (execute_task c t b)
 
 -- the words of a program stand in RAM, and the pc of task t, which has 32 registers, is at line n of the source
-pub record ComesTo (source : List ℕ) (p : Assembled) (n t : ℕ) (task : Task) (k : Kernel) : Type 0 where
+pub record ComesTo (source : List ℕ) (p : Assembled) (n t : ℕ) (hart : Hart) (b : Board) : Type 0 where
   pub assembled : program_of source ≡ Ok p
-  pub words : All (HasLine k.ram) p.lines
-  pub there : slice_get k.tasks t ≡ Some task
-  pub pc : task.hart.pc ≡ address_of_line source n
-  pub registers : length task.hart.regs ≡ 32
+  pub words : All (HasLine b.memory) p.lines
+  pub there : slice_get b.parts.harts t ≡ Some hart
+  pub pc : hart.pc ≡ address_of_line source n
+  pub registers : length hart.regs ≡ 32
 
 -- at li the task gets its number, and nothing else of the machine changes
 abbrev pub EachLiIsExecuted : Type 0
 EachLiIsExecuted =
     (source : List ℕ) (p : Assembled) (n rd : ℕ) (value : ℤ) (expansion : Expansion) → Becomes source n (LoadImmediate rd value) expansion
-    → (c t : ℕ) (task : Task) (k : Kernel) → ComesTo source p n t task k
-    → all_executed expansion c t k ≡ changed t (loaded rd (extended value) (load_size value)) k
+    → (c t : ℕ) (hart : Hart) (b : Board) → ComesTo source p n t hart b
+    → all_executed expansion c t b ≡ on_parts (on_hart t (loaded rd (extended value) (load_size value))) b
 
 -- at la it gets the label's address
 abbrev pub EachLaIsExecuted : Type 0
 EachLaIsExecuted =
     (source : List ℕ) (p : Assembled) (n rd : ℕ) (spot : Spot) (expansion : Expansion) → Becomes source n (LoadAddress rd (Some spot)) expansion
-    → (c t : ℕ) (task : Task) (k : Kernel) → ComesTo source p n t task k
-    → all_executed expansion c t k ≡ changed t (loaded rd (address (size_of_text source) spot) 8) k
+    → (c t : ℕ) (hart : Hart) (b : Board) → ComesTo source p n t hart b
+    → all_executed expansion c t b ≡ on_parts (on_hart t (loaded rd (address (size_of_text source) spot) 8)) b

@@ -8,19 +8,20 @@ use Rattle.evm_ram.specs.Ram.{bytes_at}
 use Rattle.evm_ram.specs.declared.refusal.Refusal.{Refusal}
 use Rattle.evm_ram.specs.declared.refusal.Refusal.TheVariants.{BadAddress}
 use Rattle.evm_core.specs.Load.{load}
-use Rattle.evm_model.specs.Replay.{bad_boot, start, accepted, step}
-use Rattle.evm_model.specs.Settle.{settled_and_nudged}
-use Rattle.evm_model.specs.State.{State, Kernel, first_task}
+use Rattle.evm_model.specs.Harts.{first_hart}
+use Rattle.evm_model.specs.Replay.{bad_boot, start, accept, apply}
+use Rattle.evm_model.specs.Settle.{settle_and_nudge}
+use Rattle.evm_model.specs.State.{State, Board, on_parts}
 use Rattle.evm_model.specs.declared.boot.Boot.{Boot}
 use Rattle.evm_model.specs.declared.event.Answer.TheVariants.{Ran}
 use Rattle.evm_model.specs.declared.event.Event.TheVariants.{Step}
 use Rattle.evm_laws.specs.Running.{HasLine, line_done}
 
 -- the program's bytes stand in RAM from its start on, and each line's word at the line's address; task 0 begins there
-pub record HoldsProgram (p : Assembled) (k : Kernel) : Type 0 where
-  pub bytes : bytes_at k.ram range_start (length p.bytes) ≡ Some p.bytes
-  pub lines : All (HasLine k.ram) p.lines
-  pub begins : option_map (λ task. task.hart.pc) (slice_get k.tasks 0) ≡ Some range_start
+pub record HoldsProgram (p : Assembled) (b : Board) : Type 0 where
+  pub bytes : bytes_at b.memory.ram range_start (length p.bytes) ≡ Some p.bytes
+  pub lines : All (HasLine b.memory) p.lines
+  pub begins : option_map (λ hart. hart.pc) (slice_get b.parts.harts 0) ≡ Some range_start
 
 -- a machine is booted, and the program's image loaded into it
 abbrev pub booted_with : Boot → Assembled → Result State Refusal
@@ -30,7 +31,7 @@ booted_with boot p = load (image_of_bytes p.bytes) (start boot)
 abbrev pub LoadsWhereItFits : Type 0
 LoadsWhereItFits =
     (source : List ℕ) (p : Assembled) (boot : Boot) → program_of source ≡ Ok p → length p.bytes ≤ boot.ram
-    → (s : State) × (booted_with boot p ≡ Ok s) × HoldsProgram p s.kernel
+    → (s : State) × (booted_with boot p ≡ Ok s) × HoldsProgram p s.board
 
 -- RAM that is shorter doesn't
 abbrev pub RefusedWhereItDoesNot : Type 0
@@ -42,7 +43,7 @@ RefusedWhereItDoesNot =
 abbrev pub BeginsWithLine : Boot → State → ProgramLine → Type 0
 BeginsWithLine boot s l =
     l.address ≡ range_start
-    → step s (Step 0) ≡ Ok (accepted (Step 0) (settled_and_nudged 0 (line_done l (first_task boot.ram) 0 0 s.kernel), Ran 0) s)
+    → apply s (Step 0) ≡ Ok (accept (Step 0) (on_parts (settle_and_nudge 0) (line_done l (first_hart boot.ram) 0 0 s.board), Ran 0) s)
 
 abbrev pub AssembledAndRun : Type 0
 AssembledAndRun =
