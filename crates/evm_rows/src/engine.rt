@@ -2,7 +2,7 @@
 
 use crate::folder::{bytes_of, has, spelled_bytes};
 use crate::row::{Job, Row};
-use evm_elf::Image;
+use evm_image::Image;
 use evm_serve::{Ending, ReadStop, assemble_to, import, read_utf8, replay_to, serve};
 use std::alloc::Global;
 use std::io;
