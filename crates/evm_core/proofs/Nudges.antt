@@ -38,8 +38,8 @@ unfolding changed_below
 below {X = X} f zero i xs h = absurd (omega arith)
 below {X = X} f (suc n) i xs h = elim (eq-or-lt_of_le {n = i} {m = n} (omega arith)) [
   | inl at ↦
-    let step : slice_get (change (f n) (changed_below f n xs) n) n ≡ option_map (f n) (slice_get (changed_below f n xs) n) = change-here (f n) (changed_below f n xs) n in
-    rw at (step ∙ ap (option_map (f n)) (above f n n xs (omega arith)))
+      let step : slice_get (change (f n) (changed_below f n xs) n) n ≡ option_map (f n) (slice_get (changed_below f n xs) n) = change-here (f n) (changed_below f n xs) n in
+      rw at (step ∙ ap (option_map (f n)) (above f n n xs (omega arith)))
   | inr less ↦ change-elsewhere (f n) (changed_below f n xs) n i (λ same. omega arith) ∙ below f n i xs less
 ]
 

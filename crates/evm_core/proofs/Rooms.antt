@@ -63,6 +63,4 @@ pub room-bits : (c : ℕ) (stopped skip : Bool) (k : Parts) → AreWithin (2 ^ 6
 unfolding set_bits
 room-bits c stopped skip k h = record { are = h.are; up = h.up }
 
-
-
 pub ruleset wider = (room-raise, room-tick)

@@ -1,15 +1,15 @@
 ghost use Rattle.std.specs.Prelude.{◌≡◌, ◌^◌};
 ghost use Rattle.evm_model.specs.Good.{Good};
-ghost use Rattle.evm_model.specs.Instructions.{end_task, fault, stop, finish, execute};
+ghost use Rattle.evm_model.specs.Instructions.{end_task, fault, stop, finish};
 ghost use Rattle.evm_model.specs.Settle.{settle_and_nudge};
 ghost use Rattle.evm_model.specs.State.{on_parts};
+ghost use Rattle.evm_core.specs.Wants.{wants, follow};
 ghost use Rattle.evm_rules.proofs.Bounded.{AreWithin};
 ghost use Rattle.evm_rules.proofs.Private.{IsClear};
 
 use crate::board::Board;
-use crate::quiet::{
-    advance_quietly, answer_quietly, jump_quietly, load_quietly, stop_quietly,
-};
+use crate::memory::Memory;
+use crate::quiet::{advance_quietly, answer_quietly, jump_quietly, load_quietly, stop_quietly};
 use crate::settle::settle_and_nudge;
 use evm_exec::{Effect, Hart, effect, load_width, loaded};
 use evm_isa::decode;
@@ -73,20 +73,31 @@ impl Board {
         }
     }
 
-    /// A task does the instruction at its pc, and what follows on its processor.
-    #[tactic(auto, unfolding(evm_model::specs::Instructions::execute))]
-    pub(crate) fn execute(&mut self, hart: &Hart, c: u8, t: u8)
+    /// Does what an instruction wants, and what follows on its processor.
+    pub(crate) fn follow(&mut self, c: u8, t: u8, wanted: Result<Effect, Fault>)
         requires good { Good self.old.parts }
         requires clear { IsClear c t self.old.parts }
         requires room { AreWithin (2 ^ 61) self.old.parts }
-        ensures { self.new ≡ on_parts (settle_and_nudge c) (execute hart.now c t self.old) }
+        ensures { self.new ≡ on_parts (settle_and_nudge c) (follow wanted c t self.old) }
     {
-        let Some(word) = self.memory.fetch(hart.pc) else {
-            return fault(&mut self.parts, c, t, Fault::Fetch);
+        match wanted {
+            Ok(effect) => self.finish(c, t, effect),
+            Err(reason) => fault(&mut self.parts, c, t, reason),
+        }
+    }
+}
+
+impl Memory {
+    /// The effect of the instruction at a hart's pc, or why there is none.
+    pub(crate) fn wants(&self, hart: &Hart) -> Result<Effect, Fault>
+        ensures { result ≡ wants hart.now self.now }
+    {
+        let Some(word) = self.fetch(hart.pc) else {
+            return Err(Fault::Fetch);
         };
-        let Some(inst) = decode(word as u32) else {
-            return fault(&mut self.parts, c, t, Fault::Illegal);
-        };
-        self.finish(c, t, effect(&inst, hart));
+        match decode(word as u32) {
+            None => Err(Fault::Illegal),
+            Some(inst) => Ok(effect(&inst, hart)),
+        }
     }
 }

@@ -16,4 +16,3 @@ mod step;
 pub use evm_model::{Answer, Boot, Event};
 pub use evm_ram::Refusal;
 pub use machine::Machine;
-

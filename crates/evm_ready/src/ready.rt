@@ -47,13 +47,7 @@ fn leader_of(tasks: &[Task], leading: Option<u8>, t: u8) -> u8
 {
     match leading {
         None => t,
-        Some(u) => {
-            if is_before(tasks, t, u) {
-                t
-            } else {
-                u
-            }
-        }
+        Some(u) => { if is_before(tasks, t, u) { t } else { u } }
     }
 }
 

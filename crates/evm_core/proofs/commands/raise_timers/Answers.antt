@@ -15,7 +15,7 @@ pub loop-c-preserved : goal.loop-c-preserved
 loop-c-preserved c = record {
   raised = c.raise.ensures ∙ ap (on_pipe c.loop-c.c (raise 0)) c.loop-c.invariant.raised ∙ timers-more c.loop-c.c c.args.parts.now;
   room =
-    rw c.raise.ensures (PipesUpTo-more (2 ^ 61 + c.loop-c.c + 1) _ _ (omega arith) (on_raise-up _ c.loop-c.c 0 c.loop-c.parts c.loop-c.invariant.room));
+      rw c.raise.ensures (PipesUpTo-more (2 ^ 61 + c.loop-c.c + 1) _ _ (omega arith) (on_raise-up _ c.loop-c.c 0 c.loop-c.parts c.loop-c.invariant.room));
 }
 
 pub returns : goal.returns

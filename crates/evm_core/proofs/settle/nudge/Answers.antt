@@ -14,7 +14,7 @@ pub loop-d-preserved : goal.loop-d-preserved
 loop-d-preserved c = record {
   told = c.nudge_one.ensures ∙ ap (nudge_one c.args.c c.loop-d.d) c.loop-d.invariant.told ∙ nudge_one-more c.args.c c.loop-d.d c.args.parts.now;
   room =
-    rw c.nudge_one.ensures (PipesUpTo-more (2 ^ 62 + 128 + c.loop-d.d + 1) _ _ (omega arith) (nudge_one-up _ c.args.c c.loop-d.d c.loop-d.parts c.loop-d.invariant.room));
+      rw c.nudge_one.ensures (PipesUpTo-more (2 ^ 62 + 128 + c.loop-d.d + 1) _ _ (omega arith) (nudge_one-up _ c.args.c c.loop-d.d c.loop-d.parts c.loop-d.invariant.room));
 }
 
 pub returns : goal.returns
