@@ -1,0 +1,41 @@
+use Rattle.std.proofs.Common.{ap, arith}
+use Rattle.evm_model.specs.declared.boot.Boot.{Boot}
+use Rattle.evm_claims.proofs.safe_and_total.counts_never_wrap.Goals as goal
+
+pub returns-clause-journal : goal.returns-clause-journal
+returns-clause-journal c boot events fits =
+    let kept = ap (λ (b : Boot). b.capacity) (c.stays_as_booted.ensures.booted boot events).boot_kept in
+    omega (arith, (c.counts_fit.ensures.booted boot fits events).journal, kept)
+
+pub returns-clause-ticks : goal.returns-clause-ticks
+returns-clause-ticks c boot events fits =
+    let fit = c.counts_fit.ensures.booted boot fits events in
+    omega (arith, fit.few_ticks, fit.small)
+
+pub returns-clause-counts : goal.returns-clause-counts
+returns-clause-counts c boot events fits p l pipe n here there =
+    let fit = c.counts_fit.ensures.booted boot fits events in
+    let most = (fit.counts.each p pipe here).lines l n there in (
+      omega (arith, most.raised, fit.small),
+      omega (arith, most.merged, fit.small),
+      omega (arith, most.received, fit.small),
+      omega (arith, most.oob.arrivals, fit.small),
+      omega (arith, most.oob.merged, fit.small),
+      omega (arith, most.oob.played, fit.small),
+      omega (arith, most.inband.arrivals, fit.small),
+      omega (arith, most.inband.merged, fit.small),
+      omega (arith, most.inband.played, fit.small),
+    )
+
+pub returns-clause-lines : goal.returns-clause-lines
+returns-clause-lines c boot events fits p pipe here = (c.counts_fit.ensures.booted boot fits events).lines p pipe here
+
+pub returns-clause-raised_loaded : goal.returns-clause-raised_loaded
+returns-clause-raised_loaded c byte entry boot events fits p l pipe n here there =
+    let fit = c.counts_fit.ensures.loaded byte entry boot fits events in
+    omega (arith, ((fit.counts.each p pipe here).lines l n there).raised, fit.small)
+
+pub returns-clause-raised_fresh : goal.returns-clause-raised_fresh
+returns-clause-raised_fresh c boot board events fits pipes ticks p l pipe n here there =
+    let fit = c.counts_fit.ensures.fresh boot board fits (record { pipes = pipes; ticks = ticks }) events in
+    omega (arith, ((fit.counts.each p pipe here).lines l n there).raised, fit.small)

@@ -1,0 +1,21 @@
+//! Each claim once more, in the model's first words: a law whose statement grows weaker, or that goes, is missed here.
+//! A call of a law does nothing and tells what it ensures. The page docs/CLAIMS.md follows these files line by line.
+#![tactic(auto)]
+
+mod headline;
+mod no_interrupt_lost;
+mod parts;
+mod safe_and_total;
+
+pub use headline::{a_machine_is_its_journals_replay, replays_join};
+pub use no_interrupt_lost::{
+    no_line_is_lost_in_a_stage, no_line_is_lost_on_its_wire, raised_as_often_as_the_journal_says,
+    what_is_received_comes_to_a_stage,
+};
+pub use parts::{
+    a_command_changes_one_place, a_raise_puts_its_line_on_the_wire, a_register_keeps_its_number,
+    a_step_keeps_to_its_processor, a_tick_moves_the_clock, an_accepted_event_is_journaled,
+    an_image_stands_in_ram, the_best_task_is_first, the_least_refusal_is_told,
+    words_and_instructions_are_inverse,
+};
+pub use safe_and_total::{a_machine_is_as_it_was_booted, counts_never_wrap, sizes_never_change};

@@ -1,0 +1,84 @@
+//! No interrupt is lost and none is played twice: for every list of events and every line of every processor.
+ghost use Rattle.std.specs.Prelude.{◌≡◌, ◌≢◌, ◌+◌, ◌<◌, ◌≤◌, ℕ, List, [], ◌∷◌, Option, if◌then◌else◌, slice_get, count_by};
+ghost use Rattle.evm_lines.specs.Lines.{has_line};
+ghost use Rattle.evm_model.specs.Load.{start_loaded};
+ghost use Rattle.evm_model.specs.Pipes.{Pipe, idle_pipe};
+ghost use Rattle.evm_model.specs.Replay.{start, replay};
+ghost use Rattle.evm_model.specs.State.{State};
+ghost use Rattle.evm_model.specs.declared.boot.Boot.{Boot};
+ghost use Rattle.evm_model.specs.declared.counts.Counts.{Counts};
+ghost use Rattle.evm_model.specs.declared.event.Event.{Event};
+ghost use Rattle.evm_claims.specs.Raising.{raises};
+
+/// After every boot, with an image loaded or none, and every list of events, each line of each processor was raised
+/// as often as it merged on the wire, is there still, or was received; likewise from any first state whose journal
+/// is empty and whose pipes are idle.
+pub fn no_line_is_lost_on_its_wire()
+    ensures booted { (boot : Boot) (events : List Event) (c l : ℕ) (pipe : Pipe) (n : Counts) →
+        slice_get (replay (start boot) events).board.parts.pipes c ≡ Option.Some pipe →
+        slice_get pipe.counts l ≡ Option.Some n →
+        n.raised ≡ n.merged + (if has_line pipe.wire l then 1 else 0) + n.received }
+    ensures loaded { (byte : ℕ → ℕ) (entry : ℕ) (boot : Boot) (events : List Event) (c l : ℕ) (pipe : Pipe) (n : Counts) →
+        slice_get (replay (start_loaded byte entry boot) events).board.parts.pipes c ≡ Option.Some pipe →
+        slice_get pipe.counts l ≡ Option.Some n →
+        n.raised ≡ n.merged + (if has_line pipe.wire l then 1 else 0) + n.received }
+    ensures fresh { (s : State) (events : List Event) (c l : ℕ) (pipe : Pipe) (n : Counts) → s.journal ≡ [] →
+        ((d : ℕ) (idle : Pipe) → slice_get s.board.parts.pipes d ≡ Option.Some idle → idle ≡ idle_pipe) →
+        slice_get (replay s events).board.parts.pipes c ≡ Option.Some pipe → slice_get pipe.counts l ≡ Option.Some n →
+        n.raised ≡ n.merged + (if has_line pipe.wire l then 1 else 0) + n.received }
+    // worked: line 5 is raised twice, merges once, and is on the wire; then a Step receives it
+    ensures on_the_wire { (ram : ℕ) (pipe : Pipe) (n : Counts) →
+        slice_get (replay (start (record { cpus = 1; ram = ram; capacity = 8 })) (Event.Raise 0 5 ∷ Event.Raise 0 5 ∷ [])).board.parts.pipes 0 ≡ Option.Some pipe →
+        slice_get pipe.counts 5 ≡ Option.Some n →
+        (n.raised ≡ 2) × (n.merged ≡ 1) × (n.received ≡ 0) × (pipe.wire ≡ 5 ∷ []) }
+    ensures received { (ram : ℕ) (pipe : Pipe) (n : Counts) →
+        slice_get (replay (start (record { cpus = 1; ram = ram; capacity = 8 })) (Event.Raise 0 5 ∷ Event.Raise 0 5 ∷ Event.Step 0 ∷ [])).board.parts.pipes 0 ≡ Option.Some pipe →
+        slice_get pipe.counts 5 ≡ Option.Some n →
+        (n.raised ≡ 2) × (n.merged ≡ 1) × (n.received ≡ 1) × (pipe.wire ≡ []) }
+{
+    evm_runs::balance_holds(); // the field wire
+}
+
+/// After every boot and every list of events, each line came to each stage of each processor as often as it merged
+/// in the stage's log, is there still, or was played.
+pub fn no_line_is_lost_in_a_stage()
+    ensures out_of_band { (boot : Boot) (events : List Event) (c l : ℕ) (pipe : Pipe) (n : Counts) →
+        slice_get (replay (start boot) events).board.parts.pipes c ≡ Option.Some pipe →
+        slice_get pipe.counts l ≡ Option.Some n →
+        n.oob.arrivals ≡ n.oob.merged + (if has_line pipe.oob.lines l then 1 else 0) + n.oob.played }
+    ensures in_band { (boot : Boot) (events : List Event) (c l : ℕ) (pipe : Pipe) (n : Counts) →
+        slice_get (replay (start boot) events).board.parts.pipes c ≡ Option.Some pipe →
+        slice_get pipe.counts l ≡ Option.Some n →
+        n.inband.arrivals ≡ n.inband.merged + (if has_line pipe.inband.lines l then 1 else 0) + n.inband.played }
+{
+    evm_runs::balance_holds(); // the fields oob and inband
+}
+
+/// After every boot and every list of events, what a processor received came to a stage: lines 0 and 1 to the
+/// out-of-band one, from which the timer's goes on in-band each time it is played and the request to reschedule
+/// never does, and each other line to one of the two.
+pub fn what_is_received_comes_to_a_stage()
+    ensures timer { (boot : Boot) (events : List Event) (c : ℕ) (pipe : Pipe) (n : Counts) →
+        slice_get (replay (start boot) events).board.parts.pipes c ≡ Option.Some pipe →
+        slice_get pipe.counts 0 ≡ Option.Some n →
+        (n.received ≡ n.oob.arrivals) × (n.inband.arrivals ≡ n.oob.played) }
+    ensures request { (boot : Boot) (events : List Event) (c : ℕ) (pipe : Pipe) (n : Counts) →
+        slice_get (replay (start boot) events).board.parts.pipes c ≡ Option.Some pipe →
+        slice_get pipe.counts 1 ≡ Option.Some n → (n.received ≡ n.oob.arrivals) × (n.inband.arrivals ≡ 0) }
+    ensures others { (boot : Boot) (events : List Event) (c l : ℕ) (pipe : Pipe) (n : Counts) → 2 ≤ l →
+        slice_get (replay (start boot) events).board.parts.pipes c ≡ Option.Some pipe →
+        slice_get pipe.counts l ≡ Option.Some n → n.received ≡ n.oob.arrivals + n.inband.arrivals }
+{
+    evm_runs::balance_holds(); // the field routes
+}
+
+/// After every boot and every list of events, each line of a processor but line 1, which processors raise on one
+/// another, was raised by as many events as the journal has that raise it there.
+pub fn raised_as_often_as_the_journal_says()
+    ensures { (boot : Boot) (events : List Event) (c l : ℕ) (pipe : Pipe) (n : Counts) → l ≢ 1 →
+        slice_get (replay (start boot) events).board.parts.pipes c ≡ Option.Some pipe →
+        slice_get pipe.counts l ≡ Option.Some n →
+        n.raised ≡ count_by (raises c l) (replay (start boot) events).journal }
+{
+    evm_runs::balance_holds(); // the field raised
+}

@@ -1,0 +1,84 @@
+//! Nothing overflows and nothing grows: sizes stay, and counts are far below what their types hold.
+ghost use Rattle.std.specs.Prelude.{◌≡◌, ◌<◌, ◌≤◌, ◌^◌, ℕ, List, Option, false, slice_get, length};
+ghost use Rattle.evm_exec.specs.declared.hart.Hart.{Hart};
+ghost use Rattle.evm_model.specs.Load.{start_loaded};
+ghost use Rattle.evm_model.specs.Pipes.{Pipe};
+ghost use Rattle.evm_model.specs.Replay.{bad_boot, start, replay};
+ghost use Rattle.evm_model.specs.State.{State, Board};
+ghost use Rattle.evm_model.specs.declared.boot.Boot.{Boot};
+ghost use Rattle.evm_model.specs.declared.counts.Counts.{Counts};
+ghost use Rattle.evm_model.specs.declared.event.Event.{Event};
+
+/// Whatever happens to a machine, it has as many processors, pipes, bytes of RAM, tasks and harts afterwards, and
+/// the boot numbers that it had.
+pub fn sizes_never_change()
+    ensures boot { (s : State) (events : List Event) → (replay s events).boot ≡ s.boot }
+    ensures processors { (s : State) (events : List Event) →
+        length (replay s events).board.parts.processors ≡ length s.board.parts.processors }
+    ensures pipes { (s : State) (events : List Event) →
+        length (replay s events).board.parts.pipes ≡ length s.board.parts.pipes }
+    ensures ram { (s : State) (events : List Event) →
+        length (replay s events).board.memory.ram ≡ length s.board.memory.ram }
+    ensures tasks { (s : State) (events : List Event) →
+        length (replay s events).board.parts.tasks ≡ length s.board.parts.tasks }
+    ensures harts { (s : State) (events : List Event) →
+        length (replay s events).board.parts.harts ≡ length s.board.parts.harts }
+{
+    evm_runs::sizes_stay();
+}
+
+/// After every boot, with an image loaded or none, and every list of events there are as many processors, pipes and
+/// bytes of RAM as the boot numbers say, and one task, whose 32 registers begin with an x0 of zero.
+pub fn a_machine_is_as_it_was_booted()
+    ensures processors { (boot : Boot) (events : List Event) →
+        length (replay (start boot) events).board.parts.processors ≡ boot.cpus }
+    ensures pipes { (boot : Boot) (events : List Event) →
+        length (replay (start boot) events).board.parts.pipes ≡ boot.cpus }
+    ensures ram { (boot : Boot) (events : List Event) →
+        length (replay (start boot) events).board.memory.ram ≡ boot.ram }
+    ensures tasks { (boot : Boot) (events : List Event) →
+        length (replay (start boot) events).board.parts.tasks ≡ 1 }
+    ensures registers { (boot : Boot) (events : List Event) (t : ℕ) (hart : Hart) →
+        slice_get (replay (start boot) events).board.parts.harts t ≡ Option.Some hart → length hart.regs ≡ 32 }
+    ensures x0 { (boot : Boot) (events : List Event) (t : ℕ) (hart : Hart) →
+        slice_get (replay (start boot) events).board.parts.harts t ≡ Option.Some hart →
+        slice_get hart.regs 0 ≡ Option.Some 0 }
+    ensures ram_loaded { (byte : ℕ → ℕ) (entry : ℕ) (boot : Boot) (events : List Event) →
+        length (replay (start_loaded byte entry boot) events).board.memory.ram ≡ boot.ram }
+    ensures x0_loaded { (byte : ℕ → ℕ) (entry : ℕ) (boot : Boot) (events : List Event) (t : ℕ) (hart : Hart) →
+        slice_get (replay (start_loaded byte entry boot) events).board.parts.harts t ≡ Option.Some hart →
+        slice_get hart.regs 0 ≡ Option.Some 0 }
+{
+    evm_runs::stays_as_booted();
+}
+
+/// After every boot whose numbers are inside their limits, with an image loaded or none, and every list of events
+/// the journal is within its capacity, and the ticks and every count of every line are below 2^29, so none has wrapped.
+pub fn counts_never_wrap()
+    ensures journal { (boot : Boot) (events : List Event) → bad_boot boot ≡ false →
+        length (replay (start boot) events).journal ≤ boot.capacity }
+    ensures ticks { (boot : Boot) (events : List Event) → bad_boot boot ≡ false →
+        (replay (start boot) events).board.parts.ticks < 2 ^ 29 }
+    ensures counts { (boot : Boot) (events : List Event) → bad_boot boot ≡ false →
+        (c l : ℕ) (pipe : Pipe) (n : Counts) →
+        slice_get (replay (start boot) events).board.parts.pipes c ≡ Option.Some pipe →
+        slice_get pipe.counts l ≡ Option.Some n →
+        (n.raised < 2 ^ 29) × (n.merged < 2 ^ 29) × (n.received < 2 ^ 29)
+        × (n.oob.arrivals < 2 ^ 29) × (n.oob.merged < 2 ^ 29) × (n.oob.played < 2 ^ 29)
+        × (n.inband.arrivals < 2 ^ 29) × (n.inband.merged < 2 ^ 29) × (n.inband.played < 2 ^ 29) }
+    ensures lines { (boot : Boot) (events : List Event) → bad_boot boot ≡ false → (c : ℕ) (pipe : Pipe) →
+        slice_get (replay (start boot) events).board.parts.pipes c ≡ Option.Some pipe → length pipe.counts ≡ 32 }
+    ensures raised_loaded { (byte : ℕ → ℕ) (entry : ℕ) (boot : Boot) (events : List Event) → bad_boot boot ≡ false →
+        (c l : ℕ) (pipe : Pipe) (n : Counts) →
+        slice_get (replay (start_loaded byte entry boot) events).board.parts.pipes c ≡ Option.Some pipe →
+        slice_get pipe.counts l ≡ Option.Some n → n.raised < 2 ^ 29 }
+    // whatever is in RAM and in the tasks at first, where nothing was counted yet
+    ensures raised_fresh { (boot : Boot) (board : Board) (events : List Event) → bad_boot boot ≡ false →
+        board.parts.pipes ≡ (start boot).board.parts.pipes → board.parts.ticks ≡ 0 →
+        (c l : ℕ) (pipe : Pipe) (n : Counts) →
+        slice_get (replay (record (start boot) { board = board }) events).board.parts.pipes c ≡ Option.Some pipe →
+        slice_get pipe.counts l ≡ Option.Some n → n.raised < 2 ^ 29 }
+{
+    evm_runs::counts_fit();
+    evm_runs::stays_as_booted();
+}
