@@ -30,14 +30,15 @@ ghost use Rattle.evm_ram.specs.Refusal.{number_of};
 ghost use Rattle.evm_ram.specs.declared.refusal.Refusal.{Refusal};
 ghost use Rattle.evm_ram.specs.declared.width.Width.{Width};
 
-/// What an instruction was encoded to is decoded to it, and the other way round; a word of 32 bits stands for at most
-/// one instruction of the table, and an instruction has at most one such word.
+/// What an instruction was encoded to is decoded to it, and the other way round, by the table; a word of 32 bits stands
+/// for at most one instruction of the table, and an instruction has at most one such word.
 pub fn words_and_instructions_are_inverse()
     ensures read_again { (i : Inst) (w : ℕ) → encoded i ≡ Option.Some w → decoded w ≡ Option.Some i }
     ensures written_again { (w : ℕ) (i : Inst) → w < 2 ^ 32 → decoded w ≡ Option.Some i → encoded i ≡ Option.Some w }
     ensures in_the_table { (w : ℕ) (i : Inst) → w < 2 ^ 32 → decoded w ≡ Option.Some i → Row i w }
     ensures all_of_it { (w : ℕ) (i : Inst) → w < 2 ^ 32 → Row i w →
         (decoded w ≡ Option.Some i) × (encoded i ≡ Option.Some w) }
+    ensures of_32_bits { (i : Inst) (w : ℕ) → encoded i ≡ Option.Some w → (w < 2 ^ 32) × Row i w }
     ensures one_instruction { (w : ℕ) (i j : Inst) → w < 2 ^ 32 → Row i w → Row j w → i ≡ j }
     ensures one_word { (i : Inst) (v w : ℕ) → v < 2 ^ 32 → w < 2 ^ 32 → Row i v → Row i w → v ≡ w }
 {
@@ -61,9 +62,12 @@ pub fn a_register_keeps_its_number()
     evm_exec::registers_hold();
 }
 
-/// Where an image is loaded into a machine that has had no event, each byte of its RAM is the image's at that address.
+/// Where an image is loaded into a machine at its start, RAM keeps its size, and each byte of it is the image's at that
+/// address.
 pub fn an_image_stands_in_ram()
-    ensures { (byte : ℕ → ℕ) (entry : ℕ) (boot : Boot) (i : ℕ) → i < boot.ram →
+    ensures size { (byte : ℕ → ℕ) (entry : ℕ) (boot : Boot) →
+        length (start_loaded byte entry boot).board.memory.ram ≡ boot.ram }
+    ensures each { (byte : ℕ → ℕ) (entry : ℕ) (boot : Boot) (i : ℕ) → i < boot.ram →
         slice_index (start_loaded byte entry boot).board.memory.ram i ≡ byte (0x80000000 + i) }
 {
     evm_runs::loads_each_byte();
@@ -114,7 +118,8 @@ pub fn a_raise_puts_its_line_on_the_wire()
 }
 
 /// Each accepted command of the debugger changes the one place that it names, and nothing else but the journal: the
-/// bits of a processor, the registers or the pc of its current task, bytes of RAM, or one breakpoint.
+/// bits of a processor, the registers or the pc of its current task, bytes of RAM, or one breakpoint. After a single step
+/// the processor is stopped, and the clock, the breakpoints and the other processors are as before.
 pub fn a_command_changes_one_place()
     ensures stops { (old new : State) (answer : Answer) (c : ℕ) → apply old (Event.Stop c) ≡ Result.Ok (new, answer) →
         (new.board ≡ record old.board { parts = record old.board.parts { processors = new.board.parts.processors } })
@@ -147,6 +152,9 @@ pub fn a_command_changes_one_place()
         × ((other : ℕ) → other ≢ address → is_set new.board.breakpoints other ≡ is_set old.board.breakpoints other) }
     ensures takes_one_step { (old new : State) (answer : Answer) (c : ℕ) (p : Processor) → apply old (Event.StepI c) ≡ Result.Ok (new, answer) →
         slice_get new.board.parts.processors c ≡ Option.Some p → (p.stopped ≡ true) × (p.skip ≡ false) }
+    ensures steps_alone { (old new : State) (answer : Answer) (c d : ℕ) → apply old (Event.StepI c) ≡ Result.Ok (new, answer) → d ≢ c →
+        (slice_get new.board.parts.processors d ≡ slice_get old.board.parts.processors d)
+        × (new.board.parts.ticks ≡ old.board.parts.ticks) × (new.board.breakpoints ≡ old.board.breakpoints) }
 {
     evm_runs::events_change_only();
 }
@@ -167,11 +175,11 @@ pub fn a_step_keeps_to_its_processor()
         current c old.board.parts ≢ Option.Some t →
         (slice_get new.board.parts.harts t ≡ slice_get old.board.parts.harts t)
         × (slice_get new.board.parts.tasks t ≡ slice_get old.board.parts.tasks t) }
-    ensures ram { (old new : State) (answer : Answer) (c task word : ℕ) (hart : Hart) (inst : Inst) →
-        apply old (Event.Step c) ≡ Result.Ok (new, answer) →
+    ensures ram { (old new : State) (answer : Answer) (c : ℕ) → apply old (Event.Step c) ≡ Result.Ok (new, answer) →
+        ((task word address value : ℕ) (hart : Hart) (inst : Inst) (width : Width) →
         current c old.board.parts ≡ Option.Some task → slice_get old.board.parts.harts task ≡ Option.Some hart →
         fetch hart.pc old.board.memory ≡ Option.Some word → decoded word ≡ Option.Some inst →
-        ((width : Width) (address value : ℕ) → does inst hart.regs hart.pc ≢ Effect.Store width address value) →
+        does inst hart.regs hart.pc ≢ Effect.Store width address value) →
         new.board.memory.ram ≡ old.board.memory.ram }
     ensures written { (old new : State) (answer : Answer) (c task word address value : ℕ) (hart : Hart) (inst : Inst) (width : Width) →
         apply old (Event.Step c) ≡ Result.Ok (new, answer) →

@@ -5,3 +5,9 @@ returns-clause-out_of_band c boot events p l pipe n here there = ((c.balance_hol
 
 pub returns-clause-in_band : goal.returns-clause-in_band
 returns-clause-in_band c boot events p l pipe n here there = ((c.balance_holds.ensures.booted boot events).each p l pipe n here there).inband
+
+pub returns-clause-out_of_band_loaded : goal.returns-clause-out_of_band_loaded
+returns-clause-out_of_band_loaded c byte entry boot events p l pipe n here there = ((c.balance_holds.ensures.loaded byte entry boot events).each p l pipe n here there).oob
+
+pub returns-clause-in_band_loaded : goal.returns-clause-in_band_loaded
+returns-clause-in_band_loaded c byte entry boot events p l pipe n here there = ((c.balance_holds.ensures.loaded byte entry boot events).each p l pipe n here there).inband

@@ -14,3 +14,17 @@ returns-clause-request c boot events p pipe n here there =
 pub returns-clause-others : goal.returns-clause-others
 returns-clause-others c boot events p l pipe n most here there =
     ((c.balance_holds.ensures.booted boot events).each p l pipe n here there).routes.others most
+
+pub returns-clause-timer_loaded : goal.returns-clause-timer_loaded
+returns-clause-timer_loaded c byte entry boot events p pipe n here there =
+    let routes = ((c.balance_holds.ensures.loaded byte entry boot events).each p 0 pipe n here there).routes in
+    (routes.oob_lines (omega arith), routes.timer refl)
+
+pub returns-clause-request_loaded : goal.returns-clause-request_loaded
+returns-clause-request_loaded c byte entry boot events p pipe n here there =
+    let routes = ((c.balance_holds.ensures.loaded byte entry boot events).each p 1 pipe n here there).routes in
+    (routes.oob_lines (omega arith), routes.request refl)
+
+pub returns-clause-others_loaded : goal.returns-clause-others_loaded
+returns-clause-others_loaded c byte entry boot events p l pipe n most here there =
+    ((c.balance_holds.ensures.loaded byte entry boot events).each p l pipe n here there).routes.others most

@@ -1,5 +1,6 @@
 use Rattle.std.proofs.Common.{◌≡◌, Option, Some, None, true, false, ap, sym, ◌∙◌}
 use Rattle.std.specs.Prelude.{option_map}
+use Rattle.evm_model.specs.State.{Board}
 use Rattle.evm_model.specs.declared.event.Event.TheVariants.{Stop, Go, StepI, SetReg, SetPc, Poke, Break, Unbreak}
 use Rattle.evm_model.specs.declared.processor.Processor.{Processor}
 use Rattle.evm_claims.proofs.parts.a_command_changes_one_place.Goals as goal
@@ -43,3 +44,11 @@ pub returns-clause-takes_one_step : goal.returns-clause-takes_one_step
 returns-clause-takes_one_step c old new answer p q e there =
     let b = (c.events_change_only.ensures old new (StepI p) answer e).board in
     stands_still _ q (sym b.stops.processors.here ∙ there)
+
+pub returns-clause-steps_alone : goal.returns-clause-steps_alone
+returns-clause-steps_alone c old new answer p d e other =
+    let b = (c.events_change_only.ensures old new (StepI p) answer e).board in (
+      b.stops.processors.others d other ∙ b.steps.processors d other ∙ b.goes.processors.others d other,
+      ap (λ (x : Board). x.parts.ticks) b.stops.rest ∙ b.steps.ticks ∙ ap (λ (x : Board). x.parts.ticks) b.goes.rest,
+      ap (λ (x : Board). x.breakpoints) b.stops.rest ∙ b.steps.breakpoints ∙ ap (λ (x : Board). x.breakpoints) b.goes.rest,
+    )

@@ -18,16 +18,11 @@ returns-clause-tasks c old new answer p t e other =
     let b = (c.events_change_only.ensures old new (Step p) answer e).board in (b.harts t other, b.tasks t other)
 
 pub returns-clause-ram : goal.returns-clause-ram
-returns-clause-ram c old new answer p task word hart inst e runs has fetched decodes never =
+returns-clause-ram c old new answer p e never =
     let b = (c.events_change_only.ensures old new (Step p) answer e).board in
     elim b.memory [
       | inl same ↦ ap (λ (m : Memory). m.ram) same
-      | inr w ↦
-          let at : w.task ≡ task = cc in
-          let of : w.hart ≡ hart = cc in
-          let reads : w.word ≡ word = cc in
-          let stands : w.inst ≡ inst = cc in
-          absurd (never w.width w.address w.value (cc))
+      | inr w ↦ absurd (never w.task w.word w.address w.value w.hart w.inst w.width w.runs w.has w.fetched w.decodes w.stores)
     ]
 
 pub returns-clause-written : goal.returns-clause-written
