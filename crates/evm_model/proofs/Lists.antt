@@ -1,5 +1,5 @@
 -- The elements of a list after one of them was set or changed, or each was.
-use Rattle.std.proofs.Common.{◌≡◌, ℕ, zero, suc, ◌+◌, ◌<◌, List, [], ◌∷◌, Option, Some, None, length, ◌⊎◌, inl, inr, refl, ap, sym, ◌∙◌, arith}
+use Rattle.std.proofs.Common.{◌≡◌, ℕ, zero, suc, ◌+◌, ◌<◌, List, [], ◌∷◌, ◌++◌, Option, Some, None, length, ◌⊎◌, inl, inr, refl, ap, sym, ◌∙◌, arith}
 use Rattle.std.specs.Prelude.{slice_get, slice_set, replicate, option_map}
 use Rattle.std.proofs.lemmas.List.{length-set}
 use Rattle.evm_model.specs.Lists.{change, change_some, each, each_from}
@@ -120,3 +120,18 @@ each_from-same {X = X} n f (x ∷ xs) h =
     let here : f n x ≡ x = rw (← e) (h 0 x refl) in
     let rest : each_from (n + 1) f xs ≡ xs = each_from-same (n + 1) f xs (λ i y g. let at : n + 1 + i ≡ n + suc i = omega arith in rw at (h (suc i) y g)) in
     ap (λ (z : X). z ∷ each_from (n + 1) f xs) here ∙ ap (λ (zs : List X). x ∷ zs) rest
+
+-- ---- one element more
+pub slice_get-push : {X : Type 0} (xs : List X) (y : X) (j : ℕ) (z : X) → slice_get (xs ++ y ∷ []) j ≡ Some z → (slice_get xs j ≡ Some z) ⊎ ((j ≡ length xs) × (z ≡ y))
+slice_get-push [] y zero z e = inr (refl, cc)
+slice_get-push [] y (suc j) z e = cc
+slice_get-push (x ∷ xs) y zero z e = inl e
+slice_get-push (x ∷ xs) y (suc j) z e = elim (slice_get-push xs y j z e) [
+  | inl at ↦ inl at
+  | inr last ↦ inr (ap suc last.0, last.1)
+]
+
+pub slice_get-before : {X : Type 0} (xs : List X) (y : X) (j : ℕ) (z : X) → slice_get xs j ≡ Some z → slice_get (xs ++ y ∷ []) j ≡ Some z
+slice_get-before [] y j z e = cc
+slice_get-before (x ∷ xs) y zero z e = e
+slice_get-before (x ∷ xs) y (suc j) z e = slice_get-before xs y j z e

@@ -8,6 +8,10 @@ use Rattle.evm_model.specs.declared.counts.Passage.{Passage}
 abbrev pub PER_EVENT : ℕ
 PER_EVENT = 256
 
+-- no event gives more stamps than this
+abbrev pub STAMPS_PER_EVENT : ℕ
+STAMPS_PER_EVENT = 4096
+
 -- no number of these is above the bound
 pub record PassageUpTo (bound : ℕ) (n : Passage) : Type 0 where
   pub arrivals : n.arrivals ≤ bound

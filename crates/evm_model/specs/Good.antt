@@ -3,7 +3,7 @@ use Rattle.std.specs.Prelude.{◌≡◌, ◌<◌, ◌≤◌, ℕ, ◌+◌, ◌*�
 use Rattle.evm_lines.specs.Lines.{has_line, IsLineSet}
 use Rattle.evm_lines.specs.declared.TheConstants.{LINES}
 use Rattle.evm_exec.specs.declared.hart.Hart.{Hart}
-use Rattle.evm_model.specs.Bounds.{PER_EVENT, PipesUpTo}
+use Rattle.evm_model.specs.Bounds.{PER_EVENT, STAMPS_PER_EVENT, PipesUpTo}
 use Rattle.evm_model.specs.Pipes.{Pipe}
 use Rattle.evm_model.specs.Ranks.{best}
 use Rattle.evm_model.specs.Replay.{bad_boot}
@@ -88,5 +88,7 @@ pub record GoodState (s : State) : Type 0 where
   pub journal : length s.journal ≤ s.boot.capacity
   -- the clock is the journal's ticks
   pub ticks : s.board.parts.ticks ≡ count_by is_tick s.journal
+  -- stamps are far below 2^64
+  pub stamps : s.board.parts.stamps ≤ 1 + STAMPS_PER_EVENT * length s.journal
   -- counts are far below 2^64
   pub counts : PipesUpTo (PER_EVENT * length s.journal) s.board.parts.pipes

@@ -1,4 +1,5 @@
 pub mod Bounds
+pub mod Calls
 pub mod Commands
 pub mod Errnos
 pub mod Faults
@@ -15,3 +16,4 @@ pub mod Replay
 pub mod Rows
 pub mod Settle
 pub mod State
+pub mod Tasks

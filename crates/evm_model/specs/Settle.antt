@@ -1,10 +1,11 @@
 -- What follows an event on a processor: it plays what waits, chooses its current task, and asks the others to reschedule.
-use Rattle.std.specs.Prelude.{ℕ, List, [], ◌∷◌, Option, Some, None, Bool, true, false, not, ◌==◌, ◌&&◌, if◌then◌else◌, slice_get}
+use Rattle.std.specs.Prelude.{ℕ, List, [], ◌∷◌, Option, Some, None, Bool, true, false, not, ◌==◌, ◌&&◌, if◌then◌else◌, slice_get, length}
 use Rattle.evm_lines.specs.Lines.{has_line}
 use Rattle.evm_model.specs.Lists.{each}
 use Rattle.evm_model.specs.Pipes.{Pipe, raise, arrive, play}
 use Rattle.evm_model.specs.Ranks.{best, next_in_band, is_oob_ready}
 use Rattle.evm_model.specs.State.{Parts, on_pipe, on_processor}
+use Rattle.evm_model.specs.Tasks.{wake_below}
 use Rattle.evm_model.specs.declared.processor.Processor.{Processor}
 use Rattle.evm_model.specs.declared.stage.Stage.TheVariants.{OutOfBand, InBand}
 use Rattle.evm_model.specs.declared.task.Task.{Task}
@@ -34,9 +35,9 @@ handle_oob c l k = if l == 0 then on_pipe c (arrive InBand 0) k else k
 unfoldable pub play_oob : ℕ → ℕ → Parts → Parts
 play_oob c l k = handle_oob c l (on_pipe c (play OutOfBand l) k)
 
--- line l is played in-band on c
+-- line l is played in-band on c: the tasks that wait there for it wake
 unfoldable pub play_in_band : ℕ → ℕ → Parts → Parts
-play_in_band c l k = on_pipe c (play InBand l) k
+play_in_band c l k = wake_below c l (length k.tasks) (on_pipe c (play InBand l) k)
 
 -- lines are played one after another, in the order of the list
 unfoldable pub play_oob_lines : ℕ → List ℕ → Parts → Parts

@@ -8,6 +8,7 @@ use Rattle.evm_model.specs.declared.boot.Boot.{Boot}
 use Rattle.evm_model.specs.declared.event.Event.{Event}
 use Rattle.evm_model.specs.declared.processor.Processor.{Processor}
 use Rattle.evm_model.specs.declared.task.Task.{Task}
+use Rattle.evm_model.specs.declared.task.Mode.{Mode}
 use Rattle.evm_model.specs.declared.task.Class.TheVariants.{Unattached}
 use Rattle.evm_model.specs.declared.task.TaskState.TheVariants.{InReady}
 
@@ -25,6 +26,8 @@ pub record Parts : Type 0 where
   pub pipes : List Pipe
   -- the stamp that is given next
   pub stamps : ℕ
+  -- what was put to the console, the last bytes of it
+  pub console : List ℕ
 
 -- where loads and stores go
 pub record Memory : Type 0 where
@@ -67,8 +70,15 @@ on_memory f b = record b { memory = f b.memory }
 abbrev pub first_processor : Option ℕ → Processor
 first_processor task = record { current = task; in_band_task = task; stopped = false; skip = false }
 
+abbrev pub no_mode : Mode
+no_mode = record { stage_switches = false; lock_mistakes = false }
+
+-- an unattached in-band task of a processor, with this stamp
+abbrev pub new_task : ℕ → ℕ → Task
+new_task cpu stamp = record { cpu = cpu; class = Unattached; priority = 0; slice = 0; mode = no_mode; stamp = stamp; deadline = 0; state = InReady }
+
 abbrev pub first_task : Task
-first_task = record { cpu = 0; class = Unattached; priority = 0; stamp = 0; state = InReady }
+first_task = new_task 0 0
 
 -- task 0 is current on processor 0
 unfoldable pub booted_parts : Boot → Parts
@@ -79,6 +89,7 @@ booted_parts boot = record {
   processors = slice_set (replicate boot.cpus (first_processor None)) 0 (first_processor (Some 0));
   pipes = replicate boot.cpus idle_pipe;
   stamps = 1;
+  console = [];
 }
 
 -- RAM is zero

@@ -4,6 +4,12 @@ ghost use Rattle.evm_model.specs.Errnos.{refusal_answer};
 /// Why a call is refused.
 #[derive(Clone, Copy, Debug, PartialEq, Eq)]
 pub enum Errno {
+    /// The task may not do this now (EPERM, 1).
+    NotPermitted,
+    /// There is no number left (ENOMEM, 12).
+    NoNumber,
+    /// An argument is out of range, or names nothing (EINVAL, 22).
+    Invalid,
     /// No call has this number (ENOSYS, 38).
     NoSuchCall,
 }
@@ -14,6 +20,9 @@ impl Errno {
         ensures { result ≡ refusal_answer self }
     {
         match self {
+            Errno::NotPermitted => 0u64.wrapping_sub(1),
+            Errno::NoNumber => 0u64.wrapping_sub(12),
+            Errno::Invalid => 0u64.wrapping_sub(22),
             Errno::NoSuchCall => 0u64.wrapping_sub(38),
         }
     }

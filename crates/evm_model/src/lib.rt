@@ -2,6 +2,7 @@
 #![tactic(auto)]
 
 mod boot;
+mod call;
 mod counts;
 mod errno;
 mod event;
@@ -12,13 +13,14 @@ mod stage;
 mod task;
 
 pub use boot::Boot;
+pub use call::{Call, Outcome};
 pub use counts::{Counts, Passage};
 pub use errno::Errno;
 pub use event::{Answer, Event};
 pub use fault::Fault;
 pub use limits::{
-    BREAKPOINT_LIMIT, CAPACITY_LIMIT, POKE_LIMIT, PROCESSOR_LIMIT, RAM_LEAST, RAM_UNIT, TASK_LIMIT,
+    BREAKPOINT_LIMIT, CAPACITY_LIMIT, CONSOLE_LIMIT, POKE_LIMIT, PROCESSOR_LIMIT, RAM_LEAST, RAM_UNIT, TASK_LIMIT,
 };
 pub use processor::Processor;
 pub use stage::{Stage, StageLog};
-pub use task::{Class, Task, TaskState, Wait};
+pub use task::{Class, Mode, Task, TaskState, Wait};

@@ -10,6 +10,9 @@ pub const BREAKPOINT_LIMIT: usize = 64;
 /// The most bytes that one Poke may write.
 pub const POKE_LIMIT: usize = 64;
 
+/// How many bytes of the console are kept, the last ones.
+pub const CONSOLE_LIMIT: usize = 4_096;
+
 /// The most events that a journal may take.
 pub const CAPACITY_LIMIT: u64 = 1_048_576;
 

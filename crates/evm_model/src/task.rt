@@ -34,6 +34,15 @@ pub enum TaskState {
     Faulted(Fault),
 }
 
+/// What a task is told of its own mistakes (EVL, "Thread mode bits"), which the calls of the out-of-band stage set.
+#[derive(Clone, Copy, Debug, PartialEq, Eq)]
+pub struct Mode {
+    /// T_WOSS: it is told when it is demoted.
+    pub stage_switches: bool,
+    /// T_WOLI: it is told when it locks or unlocks wrongly.
+    pub lock_mistakes: bool,
+}
+
 /// What the scheduler knows of a task; its registers stand apart.
 #[derive(Clone, Copy, Debug)]
 pub struct Task {
@@ -42,8 +51,13 @@ pub struct Task {
     pub class: Class,
     /// 1 to 99, 0 to 99 for weak tasks, 0 for unattached ones.
     pub priority: u8,
+    /// How many ticks it still has where it is of the round-robin class.
+    pub slice: u8,
+    pub mode: Mode,
     /// Of two tasks of one rank the one with the lesser stamp goes first.
     pub stamp: u64,
+    /// The tick at which its wait ends, 0 where it has no end.
+    pub deadline: u64,
     pub state: TaskState,
 }
 
@@ -54,7 +68,13 @@ impl Default for Task {
             cpu: 0,
             class: Class::Unattached,
             priority: 0,
+            slice: 0,
+            mode: Mode {
+                stage_switches: false,
+                lock_mistakes: false,
+            },
             stamp: 0,
+            deadline: 0,
             state: TaskState::InReady,
         }
     }

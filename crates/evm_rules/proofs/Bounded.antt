@@ -12,6 +12,7 @@ use Rattle.evm_model.specs.State.{Parts, on_pipe}
 use Rattle.evm_model.specs.declared.stage.Stage.{Stage}
 use Rattle.evm_model.specs.declared.stage.Stage.TheVariants.{OutOfBand, InBand}
 use Rattle.evm_rules.proofs.Sets.{ArePipes, length-set, IsPipe-raise, IsPipe-arrive, IsPipe-receive, IsPipe-play, IsPipe-stall, IsPipe-idle}
+use Rattle.evm_walk.proofs.Tasks.{wakes-pipes}
 use Rattle.evm_rules.proofs.Counting.{each-change, each-each, each-map, PipesUpTo-more, PipeUpTo-more, raise-up, each-up, on_raise-up, on_receive-up, on_stall-up, tick-up, play_oob_lines-up, play_in_band_lines-up}
 
 -- ---- pipes stay pipes
@@ -28,7 +29,7 @@ play_oob-are c l k h = handle-are c (l == 0) (on_pipe c (play OutOfBand l) k) (a
 
 pub play_in_band-are : (c l : ℕ) (k : Parts) → ArePipes k.pipes → ArePipes (play_in_band c l k).pipes
 unfolding play_in_band
-play_in_band-are c l k h = are-change c (play InBand l) k (IsPipe-play InBand l) h
+play_in_band-are c l k h = rw (wakes-pipes c l (length k.tasks) (on_pipe c (play InBand l) k)) (are-change c (play InBand l) k (IsPipe-play InBand l) h)
 
 pub play_oob_lines-are : (c : ℕ) (lines : List ℕ) (k : Parts) → ArePipes k.pipes → ArePipes (play_oob_lines c lines k).pipes
 unfolding play_oob_lines

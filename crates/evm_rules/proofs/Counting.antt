@@ -9,6 +9,7 @@ use Rattle.evm_model.specs.Commands.{tick}
 use Rattle.evm_model.specs.Lists.{change, each}
 use Rattle.evm_model.specs.Pipes.{Pipe, more_if, count_raise, count_receipt, count_arrival, count_play, on_passage, raise, arrive, leave_wire, receive, play, set_stall, stage_of}
 use Rattle.evm_model.specs.Settle.{handle_oob, play_oob, play_in_band, play_oob_lines, play_in_band_lines}
+use Rattle.evm_walk.proofs.Tasks.{wakes-pipes}
 use Rattle.evm_model.specs.State.{Parts, on_pipe}
 use Rattle.evm_model.specs.declared.counts.Counts.{Counts}
 use Rattle.evm_model.specs.declared.counts.Passage.{Passage}
@@ -183,7 +184,7 @@ play_oob-up b c l k u =
 
 pub play_in_band-up : (b c l : ℕ) (k : Parts) → PipesUpTo b k.pipes → PipesUpTo (b + 1) (play_in_band c l k).pipes
 unfolding play_in_band
-play_in_band-up b c l k u = on_play-up b c InBand l k u
+play_in_band-up b c l k u = rw (wakes-pipes c l (length k.tasks) (on_pipe c (play InBand l) k)) (on_play-up b c InBand l k u)
 
 pub play_oob_lines-up : (b c : ℕ) (lines : List ℕ) (k : Parts) → PipesUpTo b k.pipes → PipesUpTo (b + 2 * length lines) (play_oob_lines c lines k).pipes
 unfolding play_oob_lines

@@ -7,7 +7,11 @@ pub mod Counting
 pub mod Bounded
 pub mod Playing
 pub mod Settling
+pub mod Shapes
 pub mod Aligned
 pub mod Keeps
 pub mod Ram
 pub mod States
+pub mod Waking
+pub mod Acting
+pub mod Stamps

@@ -1,13 +1,16 @@
 -- What playing a whole log makes of one pipe.
-use Rattle.std.proofs.Common.{◌≡◌, ℕ, List, [], ◌∷◌, Bool, true, false, refl, ap, sym, ◌∙◌}
+use Rattle.std.proofs.Common.{◌≡◌, ℕ, List, [], ◌∷◌, Bool, true, false, length, refl, ap, sym, ◌∙◌}
 use Rattle.std.specs.Prelude.{◌==◌, if◌then◌else◌}
 use Rattle.evm_lines.specs.Lines.{without_line}
 use Rattle.evm_lines.specs.Laws.{without_line-least}
+use Rattle.evm_model.proofs.Lists.{change-same}
 use Rattle.evm_model.specs.Good.{IsPipe}
+use Rattle.evm_model.specs.Lists.{change}
 use Rattle.evm_model.specs.Pipes.{Pipe, arrive, play}
 use Rattle.evm_model.specs.Settle.{play_oob, play_in_band, play_oob_lines, play_in_band_lines}
 use Rattle.evm_model.specs.State.{Parts, on_pipe}
 use Rattle.evm_model.specs.declared.stage.Stage.TheVariants.{OutOfBand, InBand}
+use Rattle.evm_walk.proofs.Tasks.{wakes-pipes}
 use Rattle.evm_rules.proofs.Places.{on_pipe-same, change_twice}
 use Rattle.evm_rules.proofs.Sets.{IsPipe-arrive, IsPipe-play}
 
@@ -44,10 +47,17 @@ play_oob_lines-is c (l ∷ ls) k =
     play_oob_lines-is c ls (play_oob c l k) ∙ ap (on_pipe c (plays_oob ls)) (play_oob-is c l k)
     ∙ on_pipe-twice c (λ p. hand_on l (play OutOfBand l p)) (plays_oob ls) k
 
-pub play_in_band_lines-is : (c : ℕ) (lines : List ℕ) (k : Parts) → play_in_band_lines c lines k ≡ on_pipe c (plays_in_band lines) k
-unfolding play_in_band_lines plays_in_band play_in_band
-play_in_band_lines-is c [] k = sym (on_pipe-none c k)
-play_in_band_lines-is c (l ∷ ls) k = play_in_band_lines-is c ls (play_in_band c l k) ∙ on_pipe-twice c (play InBand l) (plays_in_band ls) k
+pub play_in_band-pipes : (c l : ℕ) (k : Parts) → (play_in_band c l k).pipes ≡ change (play InBand l) k.pipes c
+unfolding play_in_band
+play_in_band-pipes c l k = wakes-pipes c l (length k.tasks) (on_pipe c (play InBand l) k)
+
+pub play_in_band_lines-pipes : (c : ℕ) (lines : List ℕ) (k : Parts) → (play_in_band_lines c lines k).pipes ≡ change (plays_in_band lines) k.pipes c
+unfolding play_in_band_lines plays_in_band
+play_in_band_lines-pipes c [] k = sym (change-same (λ p. p) k.pipes c (λ p e. refl))
+play_in_band_lines-pipes c (l ∷ ls) k =
+    play_in_band_lines-pipes c ls (play_in_band c l k)
+    ∙ ap (λ (pipes : List Pipe). change (plays_in_band ls) pipes c) (play_in_band-pipes c l k)
+    ∙ change_twice (play InBand l) (plays_in_band ls) k.pipes c
 
 -- ---- playing leaves the stall bits
 pub record HasSameStalls (p q : Pipe) : Type 0 where

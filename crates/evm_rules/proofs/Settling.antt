@@ -15,35 +15,14 @@ use Rattle.evm_model.specs.State.{Parts, on_pipe, on_processor}
 use Rattle.evm_model.specs.declared.limits.TheConstants.{PROCESSOR_LIMIT, TASK_LIMIT}
 use Rattle.evm_model.specs.declared.processor.Processor.{Processor}
 use Rattle.evm_model.specs.declared.task.Task.{Task}
-use Rattle.evm_rules.proofs.Bounded.{are-settle_oob, are-settle, are-nudge}
+use Rattle.evm_rules.proofs.Bounded.{are-settle_oob, are-settle_in_band, are-nudge}
 use Rattle.evm_rules.proofs.Counting.{mapped}
 use Rattle.evm_rules.proofs.Firsts.{best-is_oob, best-own, own-live, next-own, eqb-is}
-use Rattle.evm_rules.proofs.Playing.{plays_oob, plays_in_band, play_oob_lines-is, play_in_band_lines-is, HasSameStalls, plays_oob-stalls, plays_in_band-stalls, plays_oob-empty, plays_in_band-empty, plays_in_band-oob, plays_oob-pipe}
+use Rattle.evm_rules.proofs.Playing.{plays_oob, plays_in_band, play_oob_lines-is, play_in_band_lines-pipes, HasSameStalls, plays_oob-stalls, plays_in_band-stalls, plays_oob-empty, plays_in_band-empty, plays_in_band-oob, plays_oob-pipe}
 use Rattle.evm_rules.proofs.Places.{changed-is, changed-from}
 use Rattle.evm_rules.proofs.Sets.{ArePipes}
-
--- ---- what holds of each processor's tasks, harts and sizes
-pub record IsShaped (k : Parts) : Type 0 where
-  pub aligned : (t : ℕ) (hart : Hart) → slice_get k.harts t ≡ Some hart → hart.pc % 4 ≡ 0
-  pub homes : (t : ℕ) (task : Task) → slice_get k.tasks t ≡ Some task → task.cpu < length k.processors
-  pub stamps_below : (t : ℕ) (task : Task) → slice_get k.tasks t ≡ Some task → task.stamp < k.stamps
-  pub stamps_differ : (t u : ℕ) (a b : Task) → slice_get k.tasks t ≡ Some a → slice_get k.tasks u ≡ Some b → a.stamp ≡ b.stamp → t ≡ u
-  pub harts_count : length k.harts ≡ length k.tasks
-  pub pipes_count : length k.pipes ≡ length k.processors
-  pub few_tasks : length k.tasks ≤ TASK_LIMIT
-  pub few_processors : length k.processors ≤ PROCESSOR_LIMIT
-
-pub shaped : (k : Parts) → Good k → IsShaped k
-shaped k g = record {
-  aligned = g.aligned;
-  homes = g.homes;
-  stamps_below = g.stamps_below;
-  stamps_differ = g.stamps_differ;
-  harts_count = g.harts_count;
-  pipes_count = g.pipes_count;
-  few_tasks = g.few_tasks;
-  few_processors = g.few_processors;
-}
+use Rattle.evm_rules.proofs.Shapes.{IsShaped, shaped, shaped-processor}
+use Rattle.evm_rules.proofs.Waking.{AreSame, same-own, same-oob, Rouses, rouses-none, rouses-if, rouses-lines, none-best}
 
 -- only pipe and processor c changed
 pub record IsOnly (c : ℕ) (k new : Parts) : Type 0 where
@@ -115,9 +94,6 @@ only-shaped c k new o s = record {
 only-oob_lines : (c : ℕ) (lines : List ℕ) (k : Parts) → IsOnly c k (play_oob_lines c lines k)
 only-oob_lines c lines k = rw (play_oob_lines-is c lines k) (only-pipe c (plays_oob lines) k)
 
-only-in_band_lines : (c : ℕ) (lines : List ℕ) (k : Parts) → IsOnly c k (play_in_band_lines c lines k)
-only-in_band_lines c lines k = rw (play_in_band_lines-is c lines k) (only-pipe c (plays_in_band lines) k)
-
 only-oob_pipe : (c : ℕ) (o : Option Pipe) (k : Parts) → IsOnly c k (settle_oob_pipe o c k)
 only-oob_pipe c None k = only-none c k
 only-oob_pipe c (Some pipe) k =
@@ -127,24 +103,6 @@ only-oob_pipe c (Some pipe) k =
 pub only-settle_oob : (c : ℕ) (k : Parts) → IsOnly c k (settle_oob c k)
 unfolding settle_oob
 only-settle_oob c k = only-oob_pipe c (slice_get k.pipes c) k
-
-only-in_band_pipe : (c : ℕ) (o : Option Pipe) (k : Parts) → IsOnly c k (play_in_band_pipe o c k)
-only-in_band_pipe c None k = only-none c k
-only-in_band_pipe c (Some pipe) k = only-if c pipe.inband.stalled k k (play_in_band_lines c pipe.inband.lines k) (only-none c k) (only-in_band_lines c pipe.inband.lines k)
-
-only-turn : (c : ℕ) (k : Parts) → IsOnly c k (turn_in_band c k)
-unfolding turn_in_band
-only-turn c k =
-    let played : Parts = play_in_band_pipe (slice_get k.pipes c) c k in
-    only-then c k played (run_in_band c played) (only-in_band_pipe c (slice_get k.pipes c) k) (only-processor c _ played)
-
-pub only-settle_in_band : (c : ℕ) (k : Parts) → IsOnly c k (settle_in_band c k)
-unfolding settle_in_band
-only-settle_in_band c k = only-if c (is_oob (current c k) k.tasks) k k (turn_in_band c k) (only-none c k) (only-turn c k)
-
-pub only-settle : (c : ℕ) (k : Parts) → IsOnly c k (settle c k)
-unfolding settle
-only-settle c k = only-then c k (settle_oob c k) _ (only-settle_oob c k) (only-settle_in_band c (settle_oob c k))
 
 -- ---- a good state but for the acting processor
 -- another processor: all but that it runs its best task, which nudging sees to
@@ -179,6 +137,20 @@ calm_of c pipe p tasks s = record {
   oob_open = s.oob_open;
   in_band_staller = s.in_band_staller;
 }
+
+-- where its own tasks are as they were
+pub calm-same : (d : ℕ) (pipe : Pipe) (p : Processor) (tasks new : List Task) → AreSame d tasks new → IsCalm d pipe p tasks → IsCalm d pipe p new
+calm-same d pipe p tasks new a s =
+    let same = same-oob d p.current tasks new a s.current_own in
+    record {
+      current_own = λ u e. same-own d u tasks new a (s.current_own u e);
+      in_band_own = λ u e. same-own d u tasks new a (s.in_band_own u e);
+      runs_in_band = λ m. s.runs_in_band (sym same ∙ m);
+      oob_played = s.oob_played;
+      in_band_played = λ v m. s.in_band_played v (sym same ∙ m);
+      oob_open = s.oob_open;
+      in_band_staller = s.in_band_staller;
+    }
 
 pub acting_of : (c : ℕ) (pipe : Pipe) (p : Processor) (tasks : List Task) → IsSettled c pipe p tasks → IsActing c pipe p tasks
 acting_of c pipe p tasks s = record { in_band_own = s.in_band_own; oob_open = s.oob_open; in_band_staller = s.in_band_staller }
@@ -264,75 +236,82 @@ in_band_pipe-if : (c : ℕ) (k : Parts) (pipe : Pipe) (b : Bool) → pipe.inband
 in_band_pipe-if c k pipe true s e w q f = let it : pipe ≡ q = cc in rw (← it) (record { oob = refl; inband = refl }, refl, λ u. let no : true ≡ false = sym s ∙ u in cc)
 in_band_pipe-if c k pipe false s e w q f =
     let ls : List ℕ = pipe.inband.lines in
-    let there : slice_get (change (plays_in_band ls) k.pipes c) c ≡ Some q = ap (λ (x : Parts). slice_get x.pipes c) (sym (play_in_band_lines-is c ls k)) ∙ f in
+    let there : slice_get (change (plays_in_band ls) k.pipes c) c ≡ Some q = ap (λ (pipes : List Pipe). slice_get pipes c) (sym (play_in_band_lines-pipes c ls k)) ∙ f in
     let it : plays_in_band ls pipe ≡ q = changed-is (plays_in_band ls) k.pipes c pipe q e there in
     rw (← it) (plays_in_band-stalls ls pipe, plays_in_band-oob ls pipe, λ u. plays_in_band-empty ls pipe w refl)
 
-in_band_processors-if : (c : ℕ) (k : Parts) (b : Bool) (lines : List ℕ) → (if b then k else play_in_band_lines c lines k).processors ≡ k.processors
-in_band_processors-if c k true lines = refl
-in_band_processors-if c k false lines = ap (λ x. x.processors) (play_in_band_lines-is c lines k)
+rouses-pipe : (c : ℕ) (o : Option Pipe) (k : Parts) → Rouses c k (play_in_band_pipe o c k)
+rouses-pipe c None k = rouses-none c k
+rouses-pipe c (Some pipe) k = rouses-if c pipe.inband.stalled k k (play_in_band_lines c pipe.inband.lines k) (λ e. rouses-none c k) (λ e. rouses-lines c pipe.inband.lines k)
 
-in_band_tasks-if : (c : ℕ) (k : Parts) (b : Bool) (lines : List ℕ) → (if b then k else play_in_band_lines c lines k).tasks ≡ k.tasks
-in_band_tasks-if c k true lines = refl
-in_band_tasks-if c k false lines = ap (λ x. x.tasks) (play_in_band_lines-is c lines k)
-
-settled-turn : (c : ℕ) (k x : Parts) (pipe q : Pipe) (p : Processor) → (x.processors ≡ k.processors) → (x.tasks ≡ k.tasks)
+settled-turn : (c : ℕ) (k x : Parts) (pipe q : Pipe) (p : Processor) → Rouses c k x
     → HasSameStalls pipe q × (q.oob ≡ pipe.oob) × (q.inband.stalled ≡ false → q.inband.lines ≡ [])
     → ((p : Processor) → slice_get k.processors c ≡ Some p → IsOobSettled c pipe p k.tasks)
     → ((p : Processor) → slice_get k.processors c ≡ Some p → is_oob p.current k.tasks ≡ false)
-    → slice_get (run_in_band c x).processors c ≡ Some p → IsSettled c q p k.tasks
-settled-turn c k x pipe q p ps ts same s n h =
+    → slice_get (run_in_band c x).processors c ≡ Some p → IsSettled c q p x.tasks
+settled-turn c k x pipe q p r same s n h =
     let from = changed-from (λ (p : Processor). run_task (take_up p.in_band_task (next_in_band c x.tasks)) p) x.processors c p h in
-    let there : slice_get k.processors c ≡ Some from.0 = ap (λ (xs : List Processor). slice_get xs c) (sym ps) ∙ from.1 in
+    let there : slice_get k.processors c ≡ Some from.0 = ap (λ (xs : List Processor). slice_get xs c) (sym r.processors) ∙ from.1 in
     let z = s from.0 there in
     let none : from.0.current ≡ None = no_best-is c k.tasks from.0.current (sym z.runs) (n from.0 there) in
-    let next : take_up from.0.in_band_task (next_in_band c x.tasks) ≡ take_up from.0.in_band_task (next_in_band c k.tasks) = ap (λ (tasks : List Task). take_up from.0.in_band_task (next_in_band c tasks)) ts in
-    rw (from.2, next) (record {
-      current_own = λ t e. up-own c k.tasks from.0.in_band_task t z.in_band_own e;
-      in_band_own = λ t e. up-own c k.tasks from.0.in_band_task t z.in_band_own e;
-      runs_best = λ u v t e. let no : None ≡ Some t = sym none ∙ z.runs ∙ e in cc;
+    rw from.2 (record {
+      current_own = λ t e. up-own c x.tasks from.0.in_band_task t (λ u f. r.own u (z.in_band_own u f)) e;
+      in_band_own = λ t e. up-own c x.tasks from.0.in_band_task t (λ u f. r.own u (z.in_band_own u f)) e;
+      runs_best = λ u v t e. absurd (none-best c t k.tasks x.tasks r.oob (sym z.runs ∙ none) e);
       runs_in_band = λ m. refl;
       oob_played = λ u. ap (λ log. log.lines) same.1 ∙ z.oob_lines;
       in_band_played = λ u m. same.2 u;
       oob_open = same.0.oob ∙ z.oob_open;
       oob_staller = λ u. let no : true ≡ false = sym u ∙ same.0.oob ∙ z.oob_open in cc;
-      in_band_staller = λ u m. z.in_band_staller (sym same.0.inband ∙ u) (up-none from.0.in_band_task (next_in_band c k.tasks) m);
+      in_band_staller = λ u m. z.in_band_staller (sym same.0.inband ∙ u) (up-none from.0.in_band_task (next_in_band c x.tasks) m);
     })
 
-settled-turn_pipe : (c : ℕ) (k : Parts) (o : Option Pipe) (q : Pipe) (p : Processor) → slice_get k.pipes c ≡ o
+-- ---- what settling in-band makes, of a processor that has settled out-of-band
+record Turned (c : ℕ) (k new : Parts) : Type 0 where
+  rouses : (d : ℕ) → (d ≡ c → ⊥) → AreSame d k.tasks new.tasks × (slice_get new.pipes d ≡ slice_get k.pipes d) × (slice_get new.processors d ≡ slice_get k.processors d)
+  own : (q : Pipe) (p : Processor) → slice_get new.pipes c ≡ Some q → slice_get new.processors c ≡ Some p → IsSettled c q p new.tasks
+  shape : IsShaped k → IsShaped new
+
+turned-pipe : (c : ℕ) (k : Parts) (o : Option Pipe) → slice_get k.pipes c ≡ o
     → ((q : Pipe) (p : Processor) → slice_get k.pipes c ≡ Some q → slice_get k.processors c ≡ Some p → IsOobSettled c q p k.tasks)
     → ((p : Processor) → slice_get k.processors c ≡ Some p → is_oob p.current k.tasks ≡ false)
     → ((q : Pipe) → slice_get k.pipes c ≡ Some q → IsPipe q)
-    → slice_get (run_in_band c (play_in_band_pipe o c k)).pipes c ≡ Some q → slice_get (run_in_band c (play_in_band_pipe o c k)).processors c ≡ Some p → IsSettled c q p k.tasks
-settled-turn_pipe c k None q p e s n w f h = cc
-settled-turn_pipe c k (Some pipe) q p e s n w f h =
-    let b : Bool = pipe.inband.stalled in
-    let x : Parts = if b then k else play_in_band_lines c pipe.inband.lines k in
-    settled-turn c k x pipe q p (in_band_processors-if c k b pipe.inband.lines) (in_band_tasks-if c k b pipe.inband.lines)
-    (in_band_pipe-if c k pipe b refl e (w pipe e) q f) (λ p g. s pipe p e g) n h
+    → (q : Pipe) (p : Processor) → slice_get (play_in_band_pipe o c k).pipes c ≡ Some q → slice_get (run_in_band c (play_in_band_pipe o c k)).processors c ≡ Some p → IsSettled c q p (play_in_band_pipe o c k).tasks
+turned-pipe c k None e s n w q p f h = cc
+turned-pipe c k (Some pipe) e s n w q p f h =
+    settled-turn c k (play_in_band_pipe (Some pipe) c k) pipe q p (rouses-pipe c (Some pipe) k)
+    (in_band_pipe-if c k pipe pipe.inband.stalled refl e (w pipe e) q f) (λ p g. s pipe p e g) n h
 
-settled-in_band_if : (c : ℕ) (k : Parts) (b : Bool) (q : Pipe) (p : Processor) → is_oob (current c k) k.tasks ≡ b
+turned : (c : ℕ) (k : Parts)
     → ((q : Pipe) (p : Processor) → slice_get k.pipes c ≡ Some q → slice_get k.processors c ≡ Some p → IsOobSettled c q p k.tasks)
-    → ((q : Pipe) → slice_get k.pipes c ≡ Some q → IsPipe q)
-    → slice_get (if b then k else turn_in_band c k).pipes c ≡ Some q → slice_get (if b then k else turn_in_band c k).processors c ≡ Some p → IsSettled c q p k.tasks
+    → ((p : Processor) → slice_get k.processors c ≡ Some p → is_oob p.current k.tasks ≡ false)
+    → ((q : Pipe) → slice_get k.pipes c ≡ Some q → IsPipe q) → Turned c k (turn_in_band c k)
 unfolding turn_in_band
-settled-in_band_if c k true q p o s w f h = settled-oob c q p k.tasks (s q p f h) (rw h at o)
-settled-in_band_if c k false q p o s w f h = settled-turn_pipe c k (slice_get k.pipes c) q p refl s (λ p g. rw g at o) w f h
+turned c k s n w =
+    let x : Parts = play_in_band_pipe (slice_get k.pipes c) c k in
+    let r : Rouses c k x = rouses-pipe c (slice_get k.pipes c) k in
+    let up : Processor → Processor = λ p. run_task (take_up p.in_band_task (next_in_band c x.tasks)) p in
+    record {
+      rouses = λ d m. (r.others d m, r.pipes d m, change-elsewhere up x.processors c d m ∙ ap (λ (xs : List Processor). slice_get xs d) r.processors);
+      own = λ q p f h. turned-pipe c k (slice_get k.pipes c) refl s n w q p f h;
+      shape = λ h. shaped-processor c up x (r.shape h);
+    }
 
-settled-in_band : (c : ℕ) (k : Parts) (q : Pipe) (p : Processor)
+turned-if : (c : ℕ) (k : Parts) (b : Bool) → is_oob (current c k) k.tasks ≡ b
     → ((q : Pipe) (p : Processor) → slice_get k.pipes c ≡ Some q → slice_get k.processors c ≡ Some p → IsOobSettled c q p k.tasks)
-    → ((q : Pipe) → slice_get k.pipes c ≡ Some q → IsPipe q)
-    → slice_get (settle_in_band c k).pipes c ≡ Some q → slice_get (settle_in_band c k).processors c ≡ Some p → IsSettled c q p k.tasks
-unfolding settle_in_band
-settled-in_band c k q p s w f h = settled-in_band_if c k (is_oob (current c k) k.tasks) q p refl s w f h
+    → ((q : Pipe) → slice_get k.pipes c ≡ Some q → IsPipe q) → Turned c k (if b then k else turn_in_band c k)
+turned-if c k true o s w = record {
+  rouses = λ d m. (record { each = λ u task e h. e }, refl, refl);
+  own = λ q p f h. settled-oob c q p k.tasks (s q p f h) (rw h at o);
+  shape = λ h. h;
+}
+turned-if c k false o s w = turned c k s (λ p g. rw g at o) w
 
-settled-own : (c : ℕ) (k : Parts) → GoodBut c k → (q : Pipe) (p : Processor) → slice_get (settle c k).pipes c ≡ Some q → slice_get (settle c k).processors c ≡ Some p → IsSettled c q p k.tasks
-unfolding settle
-settled-own c k g q p f h =
-    let o : Parts = settle_oob c k in
-    let same : o.tasks ≡ k.tasks = (only-settle_oob c k).tasks in
-    rw (← same)
-    (settled-in_band c o q p (λ x y e d. rw same (oob_settled c k g x y e d)) (λ x e. are-settle_oob c k g.pipes c x e) f h)
+settles-in_band : (c : ℕ) (k : Parts)
+    → ((q : Pipe) (p : Processor) → slice_get k.pipes c ≡ Some q → slice_get k.processors c ≡ Some p → IsOobSettled c q p k.tasks)
+    → ((q : Pipe) → slice_get k.pipes c ≡ Some q → IsPipe q) → Turned c k (settle_in_band c k)
+unfolding settle_in_band
+settles-in_band c k s w = turned-if c k (is_oob (current c k) k.tasks) refl s w
 
 -- ---- settled, and the others not yet told
 pub record IsUntold (c : ℕ) (k : Parts) : Type 0 where
@@ -342,14 +321,21 @@ pub record IsUntold (c : ℕ) (k : Parts) : Type 0 where
   pub shape : IsShaped k
 
 settle-untold : (c : ℕ) (k : Parts) → GoodBut c k → IsUntold c (settle c k)
+unfolding settle
 settle-untold c k g =
-    let new : Parts = settle c k in
-    let o : IsOnly c k new = only-settle c k in
+    let mid : Parts = settle_oob c k in
+    let new : Parts = settle_in_band c mid in
+    let o : IsOnly c k mid = only-settle_oob c k in
+    let t : Turned c mid new = settles-in_band c mid (λ x y e d. rw o.tasks (oob_settled c k g x y e d)) (λ x e. are-settle_oob c k g.pipes c x e) in
     record {
-      pipes = are-settle c k g.pipes;
-      others = λ d pipe p n e f. rw o.tasks (g.others d pipe p n (sym (o.pipes d n) ∙ e) (sym (o.processors d n) ∙ f));
-      own = λ pipe p e f. rw o.tasks (settled-own c k g pipe p e f);
-      shape = only-shaped c k new o g.shape;
+      pipes = are-settle_in_band c mid (are-settle_oob c k g.pipes);
+      others = λ d pipe p n e f.
+          let r = t.rouses d n in
+          let calm : IsCalm d pipe p k.tasks = g.others d pipe p n (sym (r.1 ∙ o.pipes d n) ∙ e) (sym (r.2 ∙ o.processors d n) ∙ f) in
+          let same : AreSame d k.tasks new.tasks = record { each = λ u task e h. r.0.each u task (ap (λ (tasks : List Task). slice_get tasks u) o.tasks ∙ e) h } in
+          calm-same d pipe p k.tasks new.tasks same calm;
+      own = t.own;
+      shape = t.shape (only-shaped c k mid o g.shape);
     }
 
 -- ---- telling the others

@@ -8,7 +8,7 @@ use Rattle.evm_ram.specs.declared.ram.TheConstants.{BASE}
 use Rattle.evm_ram.specs.declared.refusal.Refusal.{Refusal}
 use Rattle.evm_ram.specs.declared.refusal.Refusal.TheVariants.{Full}
 use Rattle.evm_exec.specs.declared.hart.Hart.{Hart}
-use Rattle.evm_model.specs.Bounds.{PER_EVENT, PipesUpTo}
+use Rattle.evm_model.specs.Bounds.{PER_EVENT, STAMPS_PER_EVENT, PipesUpTo}
 use Rattle.evm_model.specs.Commands.{tick, set_bits, on_number, set_breakpoint, unset_breakpoint}
 use Rattle.evm_model.specs.Good.{Good, GoodState, IsOwn, IsSettled, is_tick}
 use Rattle.evm_model.specs.Harts.{set_register, set_pc, first_hart}
@@ -40,6 +40,7 @@ use Rattle.evm_rules.proofs.Keeps.{row-good, hart-good}
 use Rattle.evm_rules.proofs.Ram.{row-ram}
 use Rattle.evm_rules.proofs.Replays.{accepted}
 use Rattle.evm_rules.proofs.Sets.{IsPipe-idle}
+use Rattle.evm_rules.proofs.Stamps.{Gives, row-gives}
 
 -- ---- the clock
 one_if : Bool → ℕ
@@ -90,6 +91,7 @@ accepted-good s event f e g =
     let size = takes_sizes (actor event) (raised_line event) PER_EVENT s.board.parts new t in
     let room : length s.journal < s.boot.capacity = leb-false s.boot.capacity (length s.journal) f in
     let grown : length (s.journal ++ event ∷ []) ≡ length s.journal + 1 = length-append s.journal (event ∷ []) in
+    let stamped : Gives STAMPS_PER_EVENT s.board.parts new = row-gives event s.board g.good in
     let more : PER_EVENT * length (s.journal ++ event ∷ []) ≡ PER_EVENT * length s.journal + PER_EVENT = omega arith in
     record {
       good = row-good event s.board e g.good;
@@ -98,6 +100,7 @@ accepted-good s event f e g =
       ram = row-ram event s.board ∙ g.ram;
       journal = omega arith;
       ticks = row-ticks event s.board e a ∙ ap (λ n. n + cond (is_tick event) 1 0) g.ticks ∙ sym (counted-tick s.journal event);
+      stamps = omega (arith, stamped.most, g.stamps, grown);
       counts = rw more (takes_counted (actor event) (raised_line event) PER_EVENT (PER_EVENT * length s.journal) s.board.parts new t g.counts);
     }
 
@@ -220,6 +223,10 @@ booted-ticks : (boot : Boot) → (booted_parts boot).ticks ≡ 0
 unfolding booted_parts
 booted-ticks boot = refl
 
+booted-stamps : (boot : Boot) → (booted_parts boot).stamps ≤ 1
+unfolding booted_parts
+booted-stamps boot = omega arith
+
 -- a machine that has had no event is good
 pub GoodState-start : (boot : Boot) → bad_boot boot ≡ false → GoodState (start boot)
 unfolding booted
@@ -230,6 +237,7 @@ GoodState-start boot e = record {
   ram = length-replicate boot.ram 0;
   journal = omega arith;
   ticks = booted-ticks boot;
+  stamps = booted-stamps boot;
   counts = booted-counts boot;
 }
 
@@ -248,6 +256,7 @@ GoodState-load byte entry s e g = record {
   ram = length-bytes_from byte BASE (length s.board.memory.ram) ∙ g.ram;
   journal = g.journal;
   ticks = g.ticks;
+  stamps = g.stamps;
   counts = g.counts;
 }
 
@@ -269,6 +278,10 @@ few_events s g =
 pub counts_room : (s : State) → GoodState s → AreWithin (2 ^ 28) s.board.parts
 counts_room s g = let few : length s.journal ≤ CAPACITY_LIMIT = few_events s g in
     record { are = g.good.pipes; up = PipesUpTo-more (PER_EVENT * length s.journal) (2 ^ 28) s.board.parts.pipes (omega arith) g.counts }
+
+-- stamps are at most 2 ^ 33
+pub stamps_room : (s : State) → GoodState s → s.board.parts.stamps ≤ 2 ^ 33
+stamps_room s g = let few : length s.journal ≤ CAPACITY_LIMIT = few_events s g in omega (arith, g.stamps)
 
 -- ticks are at most 2 ^ 20
 pub ticks_room : (s : State) → GoodState s → s.board.parts.ticks ≤ CAPACITY_LIMIT

@@ -1,5 +1,5 @@
 -- A command changes only the place that it names, and an accepted event is in the journal afterwards.
-use Rattle.std.proofs.Common.{◌≡◌, ℕ, List, Bool, true, false, cond, Option, Some, None, Ok, length, refl, ap}
+use Rattle.std.proofs.Common.{◌≡◌, ℕ, List, Bool, true, false, cond, Option, Some, None, Ok, length, refl, ap, ◌∙◌, arith}
 use Rattle.std.specs.Prelude.{◌==◌, is_none, nat_lt, if◌then◌else◌}
 use Rattle.std.proofs.lemmas.Option.{slice_get-map}
 use Rattle.std.proofs.lemmas.List.{length-map}
@@ -30,7 +30,8 @@ use Rattle.evm_walk.proofs.Refused.{passes}
 use Rattle.evm_runs.specs.Changes.{OneChanges, RaisesOneLine, ProcessorChanges, CurrentChanges, RamChanges, ClockTicks, StepsOnce, ChangesOnly, IsDone, EventChanges, EventsChangeOnly}
 use Rattle.evm_runs.proofs.Breakpoints.{set-changes, unset-changes}
 use Rattle.evm_runs.proofs.Frames.{Keeps, keeps_pc, keeps_register, change-registers}
-use Rattle.evm_runs.proofs.Steps.{SameCounts, same_then, step_done}
+use Rattle.evm_runs.proofs.Added.{SameCounts, same_then}
+use Rattle.evm_runs.proofs.Steps.{step_done}
 
 one_change : {X : Type 0} (i : ℕ) (f : X → X) (xs : List X) → OneChanges i f xs (change f xs i)
 one_change i f xs = record { here = change-here f xs i; others = λ j other. change-elsewhere f xs i j other }
@@ -130,26 +131,26 @@ events_change_only old new event answer e = outcome old new event answer (is_ful
 
 -- ---- how many there are of each
 same_board : (b : Board) → SameCounts b b
-same_board b = record { processors = refl; pipes = refl; ram = refl; tasks = refl; harts = refl; registers = λ h. h }
+same_board b = record { processors = refl; pipes = refl; ram = refl; tasks = omega arith; harts = omega arith; few_tasks = λ few. few; a_hart_each = λ each. each; registers = λ h. h }
 
 processor-counts : (c : ℕ) (f : Processor → Processor) (b : Board) → SameCounts b (on_parts (on_processor c f) b)
-processor-counts c f b = record { processors = length-change f b.parts.processors c; pipes = refl; ram = refl; tasks = refl; harts = refl; registers = λ h. h }
+processor-counts c f b = record { processors = length-change f b.parts.processors c; pipes = refl; ram = refl; tasks = omega arith; harts = omega arith; few_tasks = λ few. few; a_hart_each = λ each. each; registers = λ h. h }
 
 pipe-counts : (c : ℕ) (f : Pipe → Pipe) (b : Board) → SameCounts b (on_parts (on_pipe c f) b)
-pipe-counts c f b = record { processors = refl; pipes = length-change f b.parts.pipes c; ram = refl; tasks = refl; harts = refl; registers = λ h. h }
+pipe-counts c f b = record { processors = refl; pipes = length-change f b.parts.pipes c; ram = refl; tasks = omega arith; harts = omega arith; few_tasks = λ few. few; a_hart_each = λ each. each; registers = λ h. h }
 
 number-counts : (o : Option ℕ) (f : Hart → Hart) (b : Board) → Keeps f → SameCounts b (on_parts (on_number o f) b)
 number-counts None f b g = same_board b
-number-counts (Some t) f b g = record { processors = refl; pipes = refl; ram = refl; tasks = refl; harts = length-change f b.parts.harts t; registers = change-registers t f b.parts.harts g }
+number-counts (Some t) f b g = record { processors = refl; pipes = refl; ram = refl; tasks = omega arith; harts = omega (arith, length-change f b.parts.harts t); few_tasks = λ few. few; a_hart_each = λ each. length-change f b.parts.harts t ∙ each; registers = change-registers t f b.parts.harts g }
 
 poke-counts : (address : ℕ) (bytes : List ℕ) (b : Board) (o : Option (List ℕ)) → poke_at b.memory.ram address bytes ≡ o → SameCounts b (on_memory (ram_or o) b)
 poke-counts address bytes b None e = same_board b
-poke-counts address bytes b (Some ram) e = record { processors = refl; pipes = refl; ram = length-poke_at b.memory.ram address bytes ram e; tasks = refl; harts = refl; registers = λ h. h }
+poke-counts address bytes b (Some ram) e = record { processors = refl; pipes = refl; ram = length-poke_at b.memory.ram address bytes ram e; tasks = omega arith; harts = omega arith; few_tasks = λ few. few; a_hart_each = λ each. each; registers = λ h. h }
 
 pub row-counts : (event : Event) (b : Board) → SameCounts b (row event b).0
 unfolding row stop set_bits tick single_step poke set_breakpoint unset_breakpoint
 row-counts (Step c) b = (step_done c b).counts
-row-counts Tick b = record { processors = refl; pipes = length-map b.parts.pipes (raise 0); ram = refl; tasks = refl; harts = refl; registers = λ h. h }
+row-counts Tick b = record { processors = refl; pipes = length-map b.parts.pipes (raise 0); ram = refl; tasks = omega arith; harts = omega arith; few_tasks = λ few. few; a_hart_each = λ each. each; registers = λ h. h }
 row-counts (Raise c l) b = pipe-counts c (raise l) b
 row-counts (Bell c l) b = pipe-counts c (raise l) b
 row-counts (Stop c) b = processor-counts c _ b
@@ -160,5 +161,5 @@ row-counts (StepI c) b =
 row-counts (SetReg c r value) b = number-counts (current c b.parts) (set_register r value) b (keeps_register r value)
 row-counts (SetPc c pc) b = number-counts (current c b.parts) (set_pc pc) b (keeps_pc pc)
 row-counts (Poke address bytes) b = poke-counts address bytes.items b (poke_at b.memory.ram address bytes.items) refl
-row-counts (Break address) b = record { processors = refl; pipes = refl; ram = refl; tasks = refl; harts = refl; registers = λ h. h }
-row-counts (Unbreak address) b = record { processors = refl; pipes = refl; ram = refl; tasks = refl; harts = refl; registers = λ h. h }
+row-counts (Break address) b = record { processors = refl; pipes = refl; ram = refl; tasks = omega arith; harts = omega arith; few_tasks = λ few. few; a_hart_each = λ each. each; registers = λ h. h }
+row-counts (Unbreak address) b = record { processors = refl; pipes = refl; ram = refl; tasks = omega arith; harts = omega arith; few_tasks = λ few. few; a_hart_each = λ each. each; registers = λ h. h }

@@ -1,68 +1,158 @@
--- What a step leaves alone, walked once.
-use Rattle.std.proofs.Common.{◌≡◌, ℕ, List, [], ◌∷◌, Bool, true, false, Option, Some, None, length, inl, inr, refl, ap, sym, ◌∙◌}
-use Rattle.std.specs.Prelude.{slice_get, slice_set, ◌==◌, if◌then◌else◌}
-use Rattle.std.proofs.lemmas.List.{length-set}
+-- What a row leaves alone: only c's processor and pipe change, and only the acting task and such as wake on c.
+use Rattle.std.proofs.Common.{◌≡◌, ℕ, zero, suc, ◌+◌, ◌≤◌, List, [], ◌∷◌, ◌++◌, Bool, true, false, ◌&&◌, Option, Some, None, length, ◌⊎◌, inl, inr, refl, ap, sym, ◌∙◌, arith, replicate}
+use Rattle.std.specs.Prelude.{slice_get, slice_set, option_map, ◌==◌, if◌then◌else◌}
+use Rattle.std.proofs.lemmas.Bool.{cases_eq}
+use Rattle.std.proofs.lemmas.Bool.Decides.{eqb_tells}
+use Rattle.std.proofs.lemmas.List.{length-set, length-replicate}
 use Rattle.evm_exec.specs.Registers.{with_register}
 use Rattle.evm_exec.specs.declared.hart.Hart.{Hart}
-use Rattle.evm_model.specs.Harts.{set_register, set_pc, advance}
+use Rattle.evm_model.specs.Calls.{add_task}
+use Rattle.evm_model.specs.Harts.{A0, set_register, set_pc, advance, spawned_hart}
 use Rattle.evm_model.specs.Lists.{change}
-use Rattle.evm_model.specs.Pipes.{Pipe, play}
-use Rattle.evm_model.specs.Settle.{current, is_oob, play_in_band, play_oob_lines, play_in_band_lines, settle_oob_pipe, settle_oob, play_in_band_pipe, turn_in_band, settle_in_band, settle}
-use Rattle.evm_model.specs.State.{Parts, on_hart, on_task, on_processor, on_pipe}
+use Rattle.evm_model.specs.Pipes.{Pipe}
+use Rattle.evm_model.specs.State.{Parts, new_task, on_hart, on_task, on_processor, on_pipe}
+use Rattle.evm_model.specs.Tasks.{restamp, set_state, leave_in_band, wake_in_band, wake_below, wake_waiter, awaits, is_wait_for}
 use Rattle.evm_model.specs.declared.processor.Processor.{Processor}
-use Rattle.evm_model.specs.declared.stage.Stage.TheVariants.{InBand}
 use Rattle.evm_model.specs.declared.task.Task.{Task}
-use Rattle.evm_model.proofs.Lists.{slice_get-set_other, length-change, change-elsewhere, change-cases}
-use Rattle.evm_walk.proofs.Playing.{play_oob-on, oob_played_if}
+use Rattle.evm_model.specs.declared.task.TaskState.{TaskState}
+use Rattle.evm_model.specs.declared.task.TaskState.TheVariants.{InReady, Waits}
+use Rattle.evm_model.specs.declared.task.Wait.TheVariants.{Line}
+use Rattle.evm_model.proofs.Lists.{slice_get-set_other, length-change, change-here, change-elsewhere, change-cases, slice_get-push, slice_get-before}
+use Rattle.evm_runs.specs.Changes.{Rests, Wakes}
 use Rattle.evm_runs.specs.Kept.{AreRegisters, AllHaveRegisters}
 
--- only c's processor and pipe, and only this task and its hart
+-- only c's processor and pipe, and only this task and such as wake on c
 pub record Frame (c : ℕ) (task : Option ℕ) (old new : Parts) : Type 0 where
   pub ticks : new.ticks ≡ old.ticks
-  pub stamps : new.stamps ≡ old.stamps
+  pub stamps : old.stamps ≤ new.stamps
   pub processors : (d : ℕ) → (d ≡ c → ⊥) → slice_get new.processors d ≡ slice_get old.processors d
   pub pipes : (d : ℕ) → (d ≡ c → ⊥) → slice_get new.pipes d ≡ slice_get old.pipes d
-  pub harts : (t : ℕ) → (task ≡ Some t → ⊥) → slice_get new.harts t ≡ slice_get old.harts t
-  pub tasks : (t : ℕ) → (task ≡ Some t → ⊥) → slice_get new.tasks t ≡ slice_get old.tasks t
+  pub others : (t : ℕ) → (task ≡ Some t → ⊥) → Rests t old new ⊎ Wakes c t old new
+  -- what is there of a task was there, or is ready
+  pub back : (t : ℕ) (x : Task) → (task ≡ Some t → ⊥) → slice_get new.tasks t ≡ Some x → (x.state ≡ InReady) ⊎ (slice_get old.tasks t ≡ Some x)
   pub processors_count : length new.processors ≡ length old.processors
   pub pipes_count : length new.pipes ≡ length old.pipes
-  pub harts_count : length new.harts ≡ length old.harts
-  pub tasks_count : length new.tasks ≡ length old.tasks
   pub registers : AllHaveRegisters old.harts → AllHaveRegisters new.harts
+
+-- as many tasks and harts, and the same console
+pub record Still (old new : Parts) : Type 0 where
+  pub tasks : length new.tasks ≡ length old.tasks
+  pub harts : length new.harts ≡ length old.harts
+  pub console : new.console ≡ old.console
+
+pub still_none : (k : Parts) → Still k k
+still_none k = record { tasks = refl; harts = refl; console = refl }
+
+pub still_then : (x y z : Parts) → Still x y → Still y z → Still x z
+still_then x y z p q = record { tasks = q.tasks ∙ p.tasks; harts = q.harts ∙ p.harts; console = q.console ∙ p.console }
+
+pub still_if : (k x y : Parts) (b : Bool) → Still k x → Still k y → Still k (if b then x else y)
+still_if k x y true p q = p
+still_if k x y false p q = q
+
+pub rests_none : (t : ℕ) (k : Parts) → Rests t k k
+rests_none t k = record { task = λ task e. e; hart = λ hart e. e }
 
 pub frame_none : (c : ℕ) (o : Option ℕ) (k : Parts) → Frame c o k k
 frame_none c o k = record {
   ticks = refl;
-  stamps = refl;
+  stamps = omega arith;
   processors = λ d h. refl;
   pipes = λ d h. refl;
-  harts = λ t h. refl;
-  tasks = λ t h. refl;
+  others = λ t h. inl (rests_none t k);
+  back = λ t x h e. inr e;
   processors_count = refl;
   pipes_count = refl;
-  harts_count = refl;
-  tasks_count = refl;
   registers = λ h. h;
 }
+
+-- a task that is ready does not wait
+woken_once : (c t : ℕ) (x y z : Parts) → Wakes c t x y → Wakes c t y z → ⊥
+woken_once c t x y z p q =
+    let two : Some (record p.task { stamp = p.stamp; state = InReady }) ≡ Some q.task = sym p.wakes ∙ q.waited in
+    let same : record p.task { stamp = p.stamp; state = InReady } ≡ q.task = cc in
+    let ready : InReady ≡ Waits (Line q.line) = ap (λ (task : Task). task.state) same ∙ q.on in cc
+
+wakes_then : (c t : ℕ) (x y z : Parts) → Wakes c t x y → Rests t y z → Wakes c t x z
+wakes_then c t x y z w r = record {
+  task = w.task;
+  line = w.line;
+  stamp = w.stamp;
+  waited = w.waited;
+  on = w.on;
+  at_home = w.at_home;
+  fresh = w.fresh;
+  wakes = r.task (record w.task { stamp = w.stamp; state = InReady }) w.wakes;
+  hart = λ hart e. r.hart (set_register A0 0 hart) (w.hart hart e);
+}
+
+-- the waiting task was there before
+rests_back : (c t : ℕ) (x y z : Parts) → ((task : Task) → slice_get y.tasks t ≡ Some task → (task.state ≡ InReady) ⊎ (slice_get x.tasks t ≡ Some task)) → x.stamps ≤ y.stamps
+    → Rests t x y → Wakes c t y z → Wakes c t x z
+rests_back c t x y z back s r w = elim (back w.task w.waited) [
+  | inl ready ↦ let no : InReady ≡ Waits (Line w.line) = sym ready ∙ w.on in cc
+  | inr there ↦ record {
+    task = w.task;
+    line = w.line;
+    stamp = w.stamp;
+    waited = there;
+    on = w.on;
+    at_home = w.at_home;
+    fresh = omega (arith, s, w.fresh);
+    wakes = w.wakes;
+    hart = λ hart e. w.hart hart (r.hart hart e);
+  }
+]
+
+rests_then : (t : ℕ) (x y z : Parts) → Rests t x y → Rests t y z → Rests t x z
+rests_then t x y z p q = record { task = λ task e. q.task task (p.task task e); hart = λ hart e. q.hart hart (p.hart hart e) }
+
+others_then : (c t : ℕ) (x y z : Parts) → ((task : Task) → slice_get y.tasks t ≡ Some task → (task.state ≡ InReady) ⊎ (slice_get x.tasks t ≡ Some task)) → x.stamps ≤ y.stamps
+    → Rests t x y ⊎ Wakes c t x y → Rests t y z ⊎ Wakes c t y z → Rests t x z ⊎ Wakes c t x z
+others_then c t x y z back s p q = elim p [
+  | inl r ↦ elim q [
+    | inl r2 ↦ inl (rests_then t x y z r r2)
+    | inr w ↦ inr (rests_back c t x y z back s r w)
+  ]
+  | inr w ↦ elim q [
+    | inl r ↦ inr (wakes_then c t x y z w r)
+    | inr w2 ↦ absurd (woken_once c t x y z w w2)
+  ]
+]
 
 pub frame_then : (c : ℕ) (o : Option ℕ) (x y z : Parts) → Frame c o x y → Frame c o y z → Frame c o x z
 frame_then c o x y z p q = record {
   ticks = q.ticks ∙ p.ticks;
-  stamps = q.stamps ∙ p.stamps;
+  stamps = omega (arith, p.stamps, q.stamps);
   processors = λ d h. q.processors d h ∙ p.processors d h;
   pipes = λ d h. q.pipes d h ∙ p.pipes d h;
-  harts = λ t h. q.harts t h ∙ p.harts t h;
-  tasks = λ t h. q.tasks t h ∙ p.tasks t h;
+  others = λ t h. others_then c t x y z (λ task e. p.back t task h e) p.stamps (p.others t h) (q.others t h);
+  back = λ t task h e. elim (q.back t task h e) [
+    | inl ready ↦ inl ready
+    | inr there ↦ p.back t task h there
+  ];
   processors_count = q.processors_count ∙ p.processors_count;
   pipes_count = q.pipes_count ∙ p.pipes_count;
-  harts_count = q.harts_count ∙ p.harts_count;
-  tasks_count = q.tasks_count ∙ p.tasks_count;
   registers = λ h. q.registers (p.registers h);
 }
 
 pub frame_if : (c : ℕ) (o : Option ℕ) (k x y : Parts) (b : Bool) → Frame c o k x → Frame c o k y → Frame c o k (if b then x else y)
 frame_if c o k x y true p q = p
 frame_if c o k x y false p q = q
+
+-- what holds of all tasks but none, holds of all but one
+pub frame_wider : (c : ℕ) (o : Option ℕ) (x y : Parts) → Frame c None x y → Frame c o x y
+frame_wider c o x y p = record {
+  ticks = p.ticks;
+  stamps = p.stamps;
+  processors = p.processors;
+  pipes = p.pipes;
+  others = λ t h. p.others t (λ e. cc);
+  back = λ t task h e. p.back t task (λ f. cc) e;
+  processors_count = p.processors_count;
+  pipes_count = p.pipes_count;
+  registers = p.registers;
+}
 
 -- ---- registers
 set-cond : (b : Bool) (regs : List ℕ) (r value : ℕ) → (r == 0) ≡ b → AreRegisters regs → AreRegisters (if b then regs else slice_set regs r value)
@@ -104,89 +194,123 @@ change-registers t f harts g h = λ u hart e. elim (change-cases f harts t u har
 pub frame_hart : (c t : ℕ) (f : Hart → Hart) (k : Parts) → Keeps f → Frame c (Some t) k (on_hart t f k)
 frame_hart c t f k g = record {
   ticks = refl;
-  stamps = refl;
+  stamps = omega arith;
   processors = λ d h. refl;
   pipes = λ d h. refl;
-  harts = λ u h. change-elsewhere f k.harts t u (λ same. h (ap Some (sym same)));
-  tasks = λ u h. refl;
+  others = λ u h. inl (record { task = λ task e. e; hart = λ hart e. change-elsewhere f k.harts t u (λ same. h (ap Some (sym same))) ∙ e });
+  back = λ u x h e. inr e;
   processors_count = refl;
   pipes_count = refl;
-  harts_count = length-change f k.harts t;
-  tasks_count = refl;
   registers = change-registers t f k.harts g;
 }
 
-pub frame_task : (c t : ℕ) (f : Task → Task) (k : Parts) → Frame c (Some t) k (on_task t f k)
+pub still_hart : (t : ℕ) (f : Hart → Hart) (k : Parts) → Still k (on_hart t f k)
+still_hart t f k = record { tasks = refl; harts = length-change f k.harts t; console = refl }
+
+frame_task : (c t : ℕ) (f : Task → Task) (k : Parts) → Frame c (Some t) k (on_task t f k)
 frame_task c t f k = record {
   ticks = refl;
-  stamps = refl;
+  stamps = omega arith;
   processors = λ d h. refl;
   pipes = λ d h. refl;
-  harts = λ u h. refl;
-  tasks = λ u h. change-elsewhere f k.tasks t u (λ same. h (ap Some (sym same)));
+  others = λ u h. inl (record { task = λ task e. change-elsewhere f k.tasks t u (λ same. h (ap Some (sym same))) ∙ e; hart = λ hart e. e });
+  back = λ u x h e. inr (sym (change-elsewhere f k.tasks t u (λ same. h (ap Some (sym same)))) ∙ e);
   processors_count = refl;
   pipes_count = refl;
-  harts_count = refl;
-  tasks_count = length-change f k.tasks t;
   registers = λ h. h;
 }
+
+pub frame_state : (c t : ℕ) (state : TaskState) (k : Parts) → Frame c (Some t) k (set_state t state k)
+unfolding set_state
+frame_state c t state k = frame_task c t _ k
+
+pub still_state : (t : ℕ) (state : TaskState) (k : Parts) → Still k (set_state t state k)
+unfolding set_state
+still_state t state k = record { tasks = length-change _ k.tasks t; harts = refl; console = refl }
+
+pub frame_restamp : (c t : ℕ) (k : Parts) → Frame c (Some t) k (restamp t k)
+unfolding restamp
+frame_restamp c t k =
+    let f : Task → Task = λ task. record task { stamp = k.stamps } in
+    record {
+      ticks = refl;
+      stamps = omega arith;
+      processors = λ d h. refl;
+      pipes = λ d h. refl;
+      others = λ u h. inl (record { task = λ task e. change-elsewhere f k.tasks t u (λ same. h (ap Some (sym same))) ∙ e; hart = λ hart e. e });
+      back = λ u x h e. inr (sym (change-elsewhere f k.tasks t u (λ same. h (ap Some (sym same)))) ∙ e);
+      processors_count = refl;
+      pipes_count = refl;
+      registers = λ h. h;
+    }
+
+pub still_restamp : (t : ℕ) (k : Parts) → Still k (restamp t k)
+unfolding restamp
+still_restamp t k = record { tasks = length-change _ k.tasks t; harts = refl; console = refl }
 
 pub frame_processor : (c : ℕ) (o : Option ℕ) (f : Processor → Processor) (k : Parts) → Frame c o k (on_processor c f k)
 frame_processor c o f k = record {
   ticks = refl;
-  stamps = refl;
+  stamps = omega arith;
   processors = λ d h. change-elsewhere f k.processors c d h;
   pipes = λ d h. refl;
-  harts = λ u h. refl;
-  tasks = λ u h. refl;
+  others = λ u h. inl (record { task = λ task e. e; hart = λ hart e. e });
+  back = λ u x h e. inr e;
   processors_count = length-change f k.processors c;
   pipes_count = refl;
-  harts_count = refl;
-  tasks_count = refl;
   registers = λ h. h;
 }
+
+pub still_processor : (c : ℕ) (f : Processor → Processor) (k : Parts) → Still k (on_processor c f k)
+still_processor c f k = record { tasks = refl; harts = refl; console = refl }
+
+pub frame_leave : (c : ℕ) (o : Option ℕ) (k : Parts) → Frame c o k (leave_in_band c k)
+unfolding leave_in_band
+frame_leave c o k = frame_processor c o _ k
+
+pub still_leave : (c : ℕ) (k : Parts) → Still k (leave_in_band c k)
+unfolding leave_in_band
+still_leave c k = still_processor c _ k
 
 pub frame_pipe : (c : ℕ) (o : Option ℕ) (f : Pipe → Pipe) (k : Parts) → Frame c o k (on_pipe c f k)
 frame_pipe c o f k = record {
   ticks = refl;
-  stamps = refl;
+  stamps = omega arith;
   processors = λ d h. refl;
   pipes = λ d h. change-elsewhere f k.pipes c d h;
-  harts = λ u h. refl;
-  tasks = λ u h. refl;
+  others = λ u h. inl (record { task = λ task e. e; hart = λ hart e. e });
+  back = λ u x h e. inr e;
   processors_count = refl;
   pipes_count = length-change f k.pipes c;
-  harts_count = refl;
-  tasks_count = refl;
   registers = λ h. h;
 }
 
--- ---- settling
-oob_lines : (c : ℕ) (o : Option ℕ) (ls : List ℕ) (k : Parts) → Frame c o k (play_oob_lines c ls k)
-unfolding play_oob_lines
-oob_lines c o [] k = frame_none c o k
-oob_lines c o (l ∷ ls) k = rw (play_oob-on c l k) (frame_then c o k (on_pipe c (oob_played_if (l == 0) l) k) _ (frame_pipe c o _ k) (oob_lines c o ls _))
+pub still_pipe : (c : ℕ) (f : Pipe → Pipe) (k : Parts) → Still k (on_pipe c f k)
+still_pipe c f k = record { tasks = refl; harts = refl; console = refl }
 
-in_band_lines : (c : ℕ) (o : Option ℕ) (ls : List ℕ) (k : Parts) → Frame c o k (play_in_band_lines c ls k)
-unfolding play_in_band_lines play_in_band
-in_band_lines c o [] k = frame_none c o k
-in_band_lines c o (l ∷ ls) k = frame_then c o k (on_pipe c (play InBand l) k) _ (frame_pipe c o _ k) (in_band_lines c o ls _)
+-- a task more
+spawned-are : (entry value : ℕ) → AreRegisters (spawned_hart entry value).regs
+spawned-are entry value = record { count = length-set (replicate 32 0) 10 value ∙ length-replicate {A = ℕ} 32 0; zero_first = refl }
 
-oob_pipe : (c : ℕ) (o : Option ℕ) (k : Parts) (p : Option Pipe) → Frame c o k (settle_oob_pipe p c k)
-oob_pipe c o k None = frame_none c o k
-oob_pipe c o k (Some pipe) = frame_if c o k k _ pipe.oob.stalled (frame_none c o k)
-    (frame_then c o k (play_oob_lines c pipe.oob.lines k) _ (oob_lines c o pipe.oob.lines k) (frame_processor c o _ (play_oob_lines c pipe.oob.lines k)))
-
-in_band_pipe : (c : ℕ) (o : Option ℕ) (k : Parts) (p : Option Pipe) → Frame c o k (play_in_band_pipe p c k)
-in_band_pipe c o k None = frame_none c o k
-in_band_pipe c o k (Some pipe) = frame_if c o k k _ pipe.inband.stalled (frame_none c o k) (in_band_lines c o pipe.inband.lines k)
-
-turns : (c : ℕ) (o : Option ℕ) (k : Parts) → Frame c o k (turn_in_band c k)
-unfolding turn_in_band
-turns c o k = let played : Parts = play_in_band_pipe (slice_get k.pipes c) c k in
-    frame_then c o k played _ (in_band_pipe c o k (slice_get k.pipes c)) (frame_processor c o _ played)
-
-pub frame_settle : (c : ℕ) (o : Option ℕ) (k : Parts) → Frame c o k (settle c k)
-unfolding settle settle_oob settle_in_band
-frame_settle c o k = frame_then c o k (settle_oob c k) _ (oob_pipe c o k (slice_get k.pipes c))
-    (frame_if c o (settle_oob c k) (settle_oob c k) _ (is_oob (current c (settle_oob c k)) (settle_oob c k).tasks) (frame_none c o _) (turns c o (settle_oob c k)))
+pub frame_add : (c entry value cpu : ℕ) (o : Option ℕ) (k : Parts) → Frame c o k (add_task entry value cpu k)
+unfolding add_task
+frame_add c entry value cpu o k =
+    let task : Task = new_task cpu k.stamps in
+    let hart : Hart = spawned_hart entry value in
+    record {
+      ticks = refl;
+      stamps = omega arith;
+      processors = λ d h. refl;
+      pipes = λ d h. refl;
+      others = λ u h. inl (record { task = λ x e. slice_get-before k.tasks task u x e; hart = λ x e. slice_get-before k.harts hart u x e });
+      back = λ u x h e. elim (slice_get-push k.tasks task u x e) [
+        | inl there ↦ inr there
+        | inr last ↦ inl (ap (λ (y : Task). y.state) last.1)
+      ];
+      processors_count = refl;
+      pipes_count = refl;
+      registers = λ h u x e. elim (slice_get-push k.harts hart u x e) [
+        | inl there ↦ h u x there
+        | inr last ↦ rw last.1 (spawned-are entry value)
+      ];
+    }

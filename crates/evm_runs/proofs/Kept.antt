@@ -12,18 +12,18 @@ use Rattle.evm_model.specs.State.{State, Board, booted, booted_parts, first_proc
 use Rattle.evm_model.specs.declared.boot.Boot.{Boot}
 use Rattle.evm_model.specs.declared.event.Event.{Event}
 use Rattle.evm_walk.proofs.Runs.{IsKept, replay_keeps}
-use Rattle.evm_runs.specs.Kept.{AllHaveRegisters, SameSizes, SizesStay, TasksStay, IsAsBooted, StaysAsBooted, StaysAsLoaded}
+use Rattle.evm_runs.specs.Kept.{AllHaveRegisters, SameSizes, SizesStay, IsAsBooted, StaysAsBooted, StaysAsLoaded}
 use Rattle.evm_runs.proofs.Commands.{row-counts}
 use Rattle.evm_runs.proofs.Frames.{keeps_pc, change-registers}
 use Rattle.evm_runs.proofs.Replays.{loads_so_many_bytes}
-use Rattle.evm_runs.proofs.Steps.{SameCounts, same_then}
+use Rattle.evm_runs.proofs.Added.{SameCounts, same_then}
 
 record Same (old new : State) : Type 0 where
   boot : new.boot ≡ old.boot
   counts : SameCounts old.board new.board
 
 same_start : (s : State) → Same s s
-same_start s = record { boot = refl; counts = record { processors = refl; pipes = refl; ram = refl; tasks = refl; harts = refl; registers = λ h. h } }
+same_start s = record { boot = refl; counts = record { processors = refl; pipes = refl; ram = refl; tasks = omega arith; harts = omega arith; few_tasks = λ h. h; a_hart_each = λ h. h; registers = λ h. h } }
 
 same_kept : (first : State) → IsKept (Same first)
 same_kept first = record {
@@ -38,18 +38,15 @@ sizes old new h = record {
   processors = h.processors;
   pipes = h.pipes;
   ram = h.ram;
-  tasks = omega (arith, h.tasks);
-  harts = omega (arith, h.harts);
-  few_tasks = λ few. omega (arith, h.tasks);
-  few_harts = λ few. omega (arith, h.harts);
+  tasks = h.tasks;
+  harts = h.harts;
+  few_tasks = h.few_tasks;
+  a_hart_each = h.a_hart_each;
   registers = h.registers;
 }
 
 pub sizes_stay : SizesStay
 sizes_stay s events = let h = same_after s events in record { boot = h.boot; sizes = sizes s.board (replay s events).board h.counts }
-
-pub tasks_stay : TasksStay
-tasks_stay s events = let h = same_after s events in record { tasks = h.counts.tasks; harts = h.counts.harts }
 
 -- ---- from boot on
 as_after : (boot : Boot) (first s : State) → IsAsBooted boot first → Same first s → IsAsBooted boot s
@@ -58,8 +55,9 @@ as_after boot first s f h = record {
   processors = h.counts.processors ∙ f.processors;
   pipes = h.counts.pipes ∙ f.pipes;
   ram = h.counts.ram ∙ f.ram;
-  tasks = h.counts.tasks ∙ f.tasks;
-  harts = h.counts.harts ∙ f.harts;
+  some_tasks = omega (arith, h.counts.tasks, f.some_tasks);
+  few_tasks = h.counts.few_tasks f.few_tasks;
+  harts = h.counts.a_hart_each f.harts;
   registers = h.counts.registers f.registers;
 }
 
@@ -74,7 +72,8 @@ as_booted boot = record {
   processors = length-set (replicate boot.cpus (first_processor None)) 0 (first_processor (Some 0)) ∙ length-replicate boot.cpus (first_processor None);
   pipes = length-replicate boot.cpus idle_pipe;
   ram = length-replicate {A = ℕ} boot.ram 0;
-  tasks = refl;
+  some_tasks = omega arith;
+  few_tasks = omega arith;
   harts = refl;
   registers = first_registers boot.ram;
 }
@@ -86,7 +85,8 @@ as_loaded byte entry boot = record {
   processors = length-set (replicate boot.cpus (first_processor None)) 0 (first_processor (Some 0)) ∙ length-replicate boot.cpus (first_processor None);
   pipes = length-replicate boot.cpus idle_pipe;
   ram = loads_so_many_bytes byte BASE (length (replicate boot.ram 0)) ∙ length-replicate {A = ℕ} boot.ram 0;
-  tasks = refl;
+  some_tasks = omega arith;
+  few_tasks = omega arith;
   harts = refl;
   registers = change-registers 0 (set_pc entry) (first_hart boot.ram ∷ []) (keeps_pc entry) (first_registers boot.ram);
 }

@@ -10,3 +10,7 @@ pub mod Raised
 pub mod Replays
 pub mod Runs
 pub mod Steps
+pub mod Settled
+pub mod Wakings
+pub mod Calling
+pub mod Added

@@ -14,25 +14,23 @@ use Rattle.evm_ram.specs.Laws.{length-write_at}
 use Rattle.evm_ram.specs.Ram.{write_at}
 use Rattle.evm_ram.specs.declared.width.Width.{Width}
 use Rattle.evm_model.specs.Commands.{is_set}
-use Rattle.evm_model.specs.Harts.{A0, advance}
-use Rattle.evm_model.specs.Errnos.{refusal_answer}
-use Rattle.evm_model.specs.declared.errno.Errno.TheVariants.{NoSuchCall}
-use Rattle.evm_model.specs.Instructions.{end_task, stop, finish, finish_load, finish_store, execute, execute_inst, execute_word}
+use Rattle.evm_model.specs.Harts.{advance}
+use Rattle.evm_model.specs.Instructions.{stop, finish, finish_load, finish_store, execute, execute_inst, execute_word}
 use Rattle.evm_model.specs.Lists.{each}
 use Rattle.evm_model.specs.Memory.{fetch, read, write, with_ram}
 use Rattle.evm_model.specs.Pipes.{Pipe, raise, receive}
 use Rattle.evm_model.specs.Rows.{run, step_hart, step_current, step_wire, step_pipe, step_processor, step}
 use Rattle.evm_model.specs.Settle.{current, current_of, settle, nudge, nudge_pipe, settle_and_nudge, wants_nudge}
-use Rattle.evm_model.specs.State.{Board, Memory, Parts, on_hart, on_task, on_processor, on_pipe, on_parts}
+use Rattle.evm_model.specs.State.{Board, Memory, Parts, on_hart, on_processor, on_pipe, on_parts}
 use Rattle.evm_model.specs.declared.event.Answer.{Answer}
 use Rattle.evm_model.specs.declared.event.Answer.TheVariants.{Stopped}
 use Rattle.evm_model.specs.declared.processor.Processor.{Processor}
-use Rattle.evm_model.specs.declared.task.Task.{Task}
-use Rattle.evm_model.specs.declared.task.TaskState.{TaskState}
 use Rattle.evm_model.proofs.Lists.{slice_get-each, length-each_from}
-use Rattle.evm_runs.specs.Changes.{StoreWrites, StepChanges}
-use Rattle.evm_runs.specs.Kept.{AllHaveRegisters}
-use Rattle.evm_runs.proofs.Frames.{Frame, frame_none, frame_then, frame_hart, frame_task, frame_processor, frame_pipe, frame_settle, keeps_advance, keeps_register_pc, keeps_answer}
+use Rattle.evm_runs.specs.Changes.{StoreWrites, StepChanges, Added, Typed}
+use Rattle.evm_runs.proofs.Added.{SameCounts, more_tasks, more_harts, few_more, each_more, added_rests, passes_added, others_pipes, added_pipes}
+use Rattle.evm_runs.proofs.Calling.{Acts, acts_still, ends, calls}
+use Rattle.evm_runs.proofs.Frames.{Frame, Keeps, frame_none, frame_then, frame_wider, frame_hart, frame_processor, frame_pipe, keeps_advance, keeps_register_pc, keeps_answer, still_then, still_hart, still_processor}
+use Rattle.evm_runs.proofs.Settled.{Settles, settles}
 
 -- ---- an instruction
 -- an effect has written memory
@@ -45,22 +43,19 @@ record Wrote (effect : Effect) (old new : Memory) : Type 0 where
 
 -- a task of c has done an effect
 record Does (effect : Effect) (c t : ℕ) (old new : Board) : Type 0 where
-  frame : Frame c (Some t) old.parts new.parts
+  acts : Acts c t old.parts new.parts
   breakpoints : new.breakpoints ≡ old.breakpoints
   memory : (new.memory ≡ old.memory) ⊎ Wrote effect old.memory new.memory
 
-ends : (c t : ℕ) (state : TaskState) (k : Parts) → Frame c (Some t) k (end_task c t state k)
-unfolding end_task
-ends c t state k =
-    let f : Task → Task = λ task. record task { state = state } in
-    frame_then c (Some t) k (on_task t f k) _ (frame_task c t f k) (frame_then c (Some t) _ _ _ (frame_pipe c (Some t) _ (on_task t f k)) (frame_processor c (Some t) _ _))
+parts_only : (effect : Effect) (c t : ℕ) (k : Parts) (b : Board) → Acts c t b.parts k → Does effect c t b (record b { parts = k })
+parts_only effect c t k b h = record { acts = h; breakpoints = refl; memory = inl refl }
 
-parts_only : (effect : Effect) (c t : ℕ) (k : Parts) (b : Board) → Frame c (Some t) b.parts k → Does effect c t b (record b { parts = k })
-parts_only effect c t k b h = record { frame = h; breakpoints = refl; memory = inl refl }
+on_own : (c t : ℕ) (f : Hart → Hart) (k : Parts) → Keeps f → Acts c t k (on_hart t f k)
+on_own c t f k g = acts_still c t k _ (frame_hart c t f k g) (still_hart t f k)
 
 loads : (effect : Effect) (c t : ℕ) (o : Option ℕ) (op : LoadOp) (rd : ℕ) (b : Board) → Does effect c t b (finish_load o op rd c t b)
 loads effect c t None op rd b = parts_only effect c t _ b (ends c t _ b.parts)
-loads effect c t (Some n) op rd b = parts_only effect c t _ b (frame_hart c t _ b.parts (keeps_answer rd _))
+loads effect c t (Some n) op rd b = parts_only effect c t _ b (on_own c t _ b.parts (keeps_answer rd _))
 
 with_ram-some : (o : Option (List ℕ)) (old new : Memory) → with_ram o old ≡ Some new → o ≡ Some new.ram
 with_ram-some None old new e = cc
@@ -69,18 +64,22 @@ with_ram-some (Some ram) old new e = let same : record old { ram = ram } ≡ new
 stores : (width : Width) (address value c t : ℕ) (o : Option Memory) (b : Board) → write address width value b.memory ≡ o → Does (Store width address value) c t b (finish_store o c t b)
 stores width address value c t None b e = parts_only _ c t _ b (ends c t _ b.parts)
 stores width address value c t (Some memory) b e = record {
-  frame = frame_hart c t advance b.parts keeps_advance;
+  acts = on_own c t advance b.parts keeps_advance;
   breakpoints = refl;
   memory = inr (record { width = width; address = address; value = value; stores = refl; ram = with_ram-some (write_at b.memory.ram address width value) b.memory memory e });
 }
 
 effects : (effect : Effect) (c t : ℕ) (b : Board) → Does effect c t b (finish effect c t b)
 unfolding finish stop
-effects (Next rd value pc) c t b = parts_only _ c t _ b (frame_hart c t _ b.parts (keeps_register_pc rd value pc))
+effects (Next rd value pc) c t b = parts_only _ c t _ b (on_own c t _ b.parts (keeps_register_pc rd value pc))
 effects (Load op rd address) c t b = loads _ c t (read address (width_of_load op) b.memory) op rd b
 effects (Store width address value) c t b = stores width address value c t (write address width value b.memory) b refl
-effects Call c t b = parts_only _ c t _ b (frame_hart c t _ b.parts (keeps_answer A0 (refusal_answer NoSuchCall)))
-effects Break c t b = parts_only _ c t _ b (frame_then c (Some t) b.parts (on_hart t advance b.parts) _ (frame_hart c t advance b.parts keeps_advance) (frame_processor c (Some t) _ (on_hart t advance b.parts)))
+effects Call c t b = parts_only _ c t _ b (calls (length b.memory.ram) c t b.parts)
+effects Break c t b =
+    let went : Parts = on_hart t advance b.parts in
+    parts_only _ c t _ b
+    (acts_still c t b.parts _ (frame_then c (Some t) b.parts went _ (frame_hart c t advance b.parts keeps_advance) (frame_processor c (Some t) _ went))
+    (still_then b.parts went _ (still_hart t advance b.parts) (still_processor c _ went)))
 effects Misaligned c t b = parts_only _ c t _ b (ends c t _ b.parts)
 
 -- the word at the pc has written memory
@@ -92,17 +91,17 @@ record Executed (hart : Hart) (old new : Memory) : Type 0 where
   wrote : Wrote (does inst hart.regs hart.pc) old new
 
 record Executes (hart : Hart) (c t : ℕ) (old new : Board) : Type 0 where
-  frame : Frame c (Some t) old.parts new.parts
+  acts : Acts c t old.parts new.parts
   breakpoints : new.breakpoints ≡ old.breakpoints
   memory : (new.memory ≡ old.memory) ⊎ Executed hart old.memory new.memory
 
-quietly : (hart : Hart) (c t : ℕ) (k : Parts) (b : Board) → Frame c (Some t) b.parts k → Executes hart c t b (record b { parts = k })
-quietly hart c t k b h = record { frame = h; breakpoints = refl; memory = inl refl }
+quietly : (hart : Hart) (c t : ℕ) (k : Parts) (b : Board) → Acts c t b.parts k → Executes hart c t b (record b { parts = k })
+quietly hart c t k b h = record { acts = h; breakpoints = refl; memory = inl refl }
 
 insts : (word : ℕ) (o : Option Inst) (hart : Hart) (c t : ℕ) (b : Board) → fetch hart.pc b.memory ≡ Some word → decoded word ≡ o → Executes hart c t b (execute_inst o hart c t b)
 insts word None hart c t b f e = quietly hart c t _ b (ends c t _ b.parts)
 insts word (Some inst) hart c t b f e = let d = effects (does inst hart.regs hart.pc) c t b in record {
-  frame = d.frame;
+  acts = d.acts;
   breakpoints = d.breakpoints;
   memory = elim d.memory [
     | inl same ↦ inl same
@@ -118,30 +117,12 @@ executes : (hart : Hart) (c t : ℕ) (b : Board) → Executes hart c t b (execut
 unfolding execute
 executes hart c t b = words (fetch hart.pc b.memory) hart c t b refl
 
--- ---- sizes
--- as many of each, and tasks keep their registers
-pub record SameCounts (old new : Board) : Type 0 where
-  pub processors : length new.parts.processors ≡ length old.parts.processors
-  pub pipes : length new.parts.pipes ≡ length old.parts.pipes
-  pub ram : length new.memory.ram ≡ length old.memory.ram
-  pub tasks : length new.parts.tasks ≡ length old.parts.tasks
-  pub harts : length new.parts.harts ≡ length old.parts.harts
-  pub registers : AllHaveRegisters old.parts.harts → AllHaveRegisters new.parts.harts
-
-pub same_then : (x y z : Board) → SameCounts x y → SameCounts y z → SameCounts x z
-same_then x y z p q = record {
-  processors = q.processors ∙ p.processors;
-  pipes = q.pipes ∙ p.pipes;
-  ram = q.ram ∙ p.ram;
-  tasks = q.tasks ∙ p.tasks;
-  harts = q.harts ∙ p.harts;
-  registers = λ h. q.registers (p.registers h);
-}
-
 -- ---- a step
 -- what a step has changed before it tells the others
 record Before (c : ℕ) (old new : Board) : Type 0 where
   frame : Frame c (current c old.parts) old.parts new.parts
+  added : Added old.parts new.parts
+  typed : Typed old.parts new.parts
   breakpoints : new.breakpoints ≡ old.breakpoints
   memory : (new.memory ≡ old.memory) ⊎ StoreWrites c old new
 
@@ -162,15 +143,18 @@ quiet_step c old new h = record {
     stamps = h.frame.stamps;
     processors = h.frame.processors;
     pipes = λ d other. inl (h.frame.pipes d other);
-    harts = h.frame.harts;
-    tasks = h.frame.tasks;
+    others = h.frame.others;
+    added = h.added;
+    typed = h.typed;
   };
   counts = record {
     processors = h.frame.processors_count;
     pipes = h.frame.pipes_count;
     ram = ram_count c old new h.memory;
-    tasks = h.frame.tasks_count;
-    harts = h.frame.harts_count;
+    tasks = more_tasks old.parts new.parts h.added;
+    harts = more_harts old.parts new.parts h.added;
+    few_tasks = few_more old.parts new.parts h.added;
+    a_hart_each = each_more old.parts new.parts h.added;
     registers = h.frame.registers;
   };
 }
@@ -219,15 +203,18 @@ nudged_step c old new h = let k : Parts = new.parts in record {
           | inl same ↦ inl (at ∙ same ∙ before)
           | inr raised ↦ inr (at ∙ raised ∙ ap (option_map (raise 1)) before)
         ];
-    harts = h.frame.harts;
-    tasks = h.frame.tasks;
+    others = λ t other. others_pipes c t old.parts k (each (nudge_pipe c k) k.pipes) (h.frame.others t other);
+    added = added_pipes old.parts k (each (nudge_pipe c k) k.pipes) h.added;
+    typed = h.typed;
   };
   counts = record {
     processors = h.frame.processors_count;
     pipes = length-each_from 0 (nudge_pipe c k) k.pipes ∙ h.frame.pipes_count;
     ram = ram_count c old new h.memory;
-    tasks = h.frame.tasks_count;
-    harts = h.frame.harts_count;
+    tasks = more_tasks old.parts new.parts h.added;
+    harts = more_harts old.parts new.parts h.added;
+    few_tasks = few_more old.parts new.parts h.added;
+    a_hart_each = each_more old.parts new.parts h.added;
     registers = h.frame.registers;
   };
 }
@@ -235,21 +222,33 @@ nudged_step c old new h = let k : Parts = new.parts in record {
 -- a step ends by settling, and telling the others
 settled_step : (c : ℕ) (old new : Board) → Before c old new → StepDone c old (on_parts (settle_and_nudge c) new)
 unfolding settle_and_nudge
-settled_step c old new h = nudged_step c old (on_parts (settle c) new) (record {
-  frame = frame_then c (current c old.parts) old.parts new.parts (settle c new.parts) h.frame (frame_settle c (current c old.parts) new.parts);
-  breakpoints = h.breakpoints;
-  memory = same_writes c (settle c) old new h.memory;
-})
+settled_step c old new h =
+    let s : Settles c new.parts (settle c new.parts) = settles c new.parts in
+    nudged_step c old (on_parts (settle c) new) (record {
+      frame = frame_then c (current c old.parts) old.parts new.parts (settle c new.parts) h.frame (frame_wider c (current c old.parts) new.parts (settle c new.parts) s.frame);
+      added = added_rests c old.parts new.parts (settle c new.parts) s.frame s.still h.added;
+      typed = elim h.typed [
+        | inl same ↦ inl (s.still.console ∙ same)
+        | inr more ↦ inr (more.0, s.still.console ∙ more.1)
+      ];
+      breakpoints = h.breakpoints;
+      memory = same_writes c (settle c) old new h.memory;
+    })
 
 none_yet : (c : ℕ) (b : Board) → Before c b b
-none_yet c b = record { frame = frame_none c (current c b.parts) b.parts; breakpoints = refl; memory = inl refl }
+none_yet c b = record { frame = frame_none c (current c b.parts) b.parts; added = inl (refl, refl); typed = inl refl; breakpoints = refl; memory = inl refl }
+
+on_processor_only : (c : ℕ) (f : Processor → Processor) (b : Board) → Before c b (on_parts (on_processor c f) b)
+on_processor_only c f b = record { frame = frame_processor c (current c b.parts) f b.parts; added = inl (refl, refl); typed = inl refl; breakpoints = refl; memory = inl refl }
 
 run_done : (hart : Hart) (c t : ℕ) (b : Board) → current c b.parts ≡ Some t → slice_get b.parts.harts t ≡ Some hart → StepDone c b (run hart c t b).0
 run_done hart c t b r e =
     let passed : Board = on_parts (on_processor c (λ p. record p { skip = false })) b in
     let x = executes hart c t passed in
     settled_step c b (execute hart c t passed) (record {
-      frame = rw r (frame_then c (Some t) b.parts passed.parts (execute hart c t passed).parts (frame_processor c (Some t) _ b.parts) x.frame);
+      frame = rw r (frame_then c (Some t) b.parts passed.parts (execute hart c t passed).parts (frame_processor c (Some t) _ b.parts) x.acts.frame);
+      added = passes_added b.parts passed.parts (execute hart c t passed).parts refl refl x.acts.added;
+      typed = x.acts.typed;
       breakpoints = x.breakpoints;
       memory = elim x.memory [
         | inl same ↦ inl same
@@ -280,7 +279,7 @@ hart_done : (o : Option Hart) (p : Processor) (c t : ℕ) (b : Board) → curren
 unfolding stop
 hart_done None p c t b r e = quiet_step c b b (none_yet c b)
 hart_done (Some hart) p c t b r e = either_done c b _ (run hart c t b) (is_set b.breakpoints hart.pc && not p.skip)
-    (quiet_step c b _ (record { frame = frame_processor c (current c b.parts) _ b.parts; breakpoints = refl; memory = inl refl })) (run_done hart c t b r e)
+    (quiet_step c b _ (on_processor_only c _ b)) (run_done hart c t b r e)
 
 current_done : (o : Option ℕ) (p : Processor) (c : ℕ) (b : Board) → current c b.parts ≡ o → StepDone c b (step_current o p c b).0
 current_done None p c b r = settled_step c b b (none_yet c b)
@@ -288,7 +287,7 @@ current_done (Some t) p c b r = hart_done (slice_get b.parts.harts t) p c t b r 
 
 wire_done : (o : Option ℕ) (p : Processor) (c : ℕ) (b : Board) → current c b.parts ≡ p.current → StepDone c b (step_wire o p c b).0
 wire_done None p c b r = current_done p.current p c b r
-wire_done (Some l) p c b r = settled_step c b (on_parts (on_pipe c (receive l)) b) (record { frame = frame_pipe c (current c b.parts) (receive l) b.parts; breakpoints = refl; memory = inl refl })
+wire_done (Some l) p c b r = settled_step c b (on_parts (on_pipe c (receive l)) b) (record { frame = frame_pipe c (current c b.parts) (receive l) b.parts; added = inl (refl, refl); typed = inl refl; breakpoints = refl; memory = inl refl })
 
 pipe_done : (o : Option Pipe) (p : Processor) (c : ℕ) (b : Board) → current c b.parts ≡ p.current → StepDone c b (step_pipe o p c b).0
 pipe_done None p c b r = quiet_step c b b (none_yet c b)

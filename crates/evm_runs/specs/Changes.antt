@@ -1,5 +1,5 @@
 -- What each event changes: the places that it names, and nothing else.
-use Rattle.std.specs.Prelude.{◌≡◌, ℕ, ◌+◌, ◌++◌, List, [], ◌∷◌, Some, Bool, true, false, ◌⊎◌, if◌then◌else◌, slice_get, option_map, Ok}
+use Rattle.std.specs.Prelude.{◌≡◌, ℕ, ◌+◌, ◌++◌, ◌<◌, ◌≤◌, List, [], ◌∷◌, Some, Bool, true, false, ◌⊎◌, if◌then◌else◌, slice_get, option_map, length, Ok}
 use Rattle.evm_lines.specs.Lines.{has_line, with_line}
 use Rattle.evm_isa.specs.Decoded.{decoded}
 use Rattle.evm_isa.specs.declared.inst.Inst.{Inst}
@@ -9,18 +9,24 @@ use Rattle.evm_exec.specs.declared.hart.Hart.{Hart}
 use Rattle.evm_exec.specs.declared.outcome.Effect.TheVariants.{Store}
 use Rattle.evm_ram.specs.Ram.{poke_at, write_at}
 use Rattle.evm_ram.specs.declared.width.Width.{Width}
+use Rattle.evm_model.specs.Calls.{last_bytes}
 use Rattle.evm_model.specs.Commands.{is_set}
+use Rattle.evm_model.specs.Harts.{A0, set_register, spawned_hart}
 use Rattle.evm_model.specs.Memory.{fetch}
 use Rattle.evm_model.specs.Pipes.{Pipe, raise}
 use Rattle.evm_model.specs.Replay.{apply}
 use Rattle.evm_model.specs.Rows.{step}
 use Rattle.evm_model.specs.Settle.{current}
-use Rattle.evm_model.specs.State.{State, Board}
+use Rattle.evm_model.specs.State.{State, Board, Parts, new_task}
 use Rattle.evm_model.specs.declared.event.Answer.{Answer}
 use Rattle.evm_model.specs.declared.event.Answer.TheVariants.{Done}
 use Rattle.evm_model.specs.declared.event.Event.{Event}
 use Rattle.evm_model.specs.declared.event.Event.TheVariants.{Step, Tick, Raise, Bell, Stop, Go, StepI, SetReg, SetPc, Poke, Break, Unbreak}
+use Rattle.evm_model.specs.declared.limits.TheConstants.{TASK_LIMIT}
 use Rattle.evm_model.specs.declared.processor.Processor.{Processor}
+use Rattle.evm_model.specs.declared.task.Task.{Task}
+use Rattle.evm_model.specs.declared.task.TaskState.TheVariants.{InReady, Waits}
+use Rattle.evm_model.specs.declared.task.Wait.TheVariants.{Line}
 
 -- the i-th of a list is changed so, and no other
 pub record OneChanges {X : Type 0} (i : ℕ) (change : X → X) (old new : List X) : Type 0 where
@@ -88,16 +94,54 @@ pub record StoreWrites (c : ℕ) (old new : Board) : Type 0 where
   pub rest : new.memory ≡ record old.memory { ram = new.memory.ram }
   pub ram : write_at old.memory.ram address width value ≡ Some new.memory.ram
 
--- a step of c changes RAM only by a store, of the tasks only the one that was current on c, and of other processors only that line 1 may be raised there
+-- what was there of task t, is there
+pub record Rests (t : ℕ) (old new : Parts) : Type 0 where
+  pub task : (task : Task) → slice_get old.tasks t ≡ Some task → slice_get new.tasks t ≡ Some task
+  pub hart : (hart : Hart) → slice_get old.harts t ≡ Some hart → slice_get new.harts t ≡ Some hart
+
+-- task t waited in-band on c for a line, and is ready now: its call is answered by 0, its stamp is a later one
+pub record Wakes (c t : ℕ) (old new : Parts) : Type 0 where
+  pub task : Task
+  pub line : ℕ
+  pub stamp : ℕ
+  pub waited : slice_get old.tasks t ≡ Some task
+  pub on : task.state ≡ Waits (Line line)
+  pub at_home : task.cpu ≡ c
+  pub fresh : old.stamps ≤ stamp
+  pub wakes : slice_get new.tasks t ≡ Some (record task { stamp = stamp; state = InReady })
+  pub hart : (hart : Hart) → slice_get old.harts t ≡ Some hart → slice_get new.harts t ≡ Some (set_register A0 0 hart)
+
+-- there is one task more, the last: unattached, ready in-band, its registers zero but for a0
+pub record Adds (old new : Parts) : Type 0 where
+  pub cpu : ℕ
+  pub stamp : ℕ
+  pub entry : ℕ
+  pub value : ℕ
+  pub tasks : length new.tasks ≡ length old.tasks + 1
+  pub harts : length new.harts ≡ length old.harts + 1
+  pub room : length old.tasks < TASK_LIMIT
+  pub task : slice_get new.tasks (length old.tasks) ≡ Some (new_task cpu stamp)
+  pub hart : length old.harts ≡ length old.tasks → slice_get new.harts (length old.tasks) ≡ Some (spawned_hart entry value)
+
+-- as many tasks and harts as before, or one more
+abbrev pub Added : Parts → Parts → Type 0
+Added old new = ((length new.tasks ≡ length old.tasks) × (length new.harts ≡ length old.harts)) ⊎ Adds old new
+
+-- the console is as before, or has one byte more
+abbrev pub Typed : Parts → Parts → Type 0
+Typed old new = (new.console ≡ old.console) ⊎ ((byte : ℕ) × (new.console ≡ last_bytes (old.console ++ byte ∷ [])))
+
+-- a step of c changes RAM only by a store; of the tasks it changes the one that was current on c, wakes such as waited there for a line, and adds one at most; of other processors it changes only that line 1 may be raised there
 pub record StepChanges (c : ℕ) (old new : Board) : Type 0 where
   pub breakpoints : new.breakpoints ≡ old.breakpoints
   pub memory : (new.memory ≡ old.memory) ⊎ StoreWrites c old new
   pub ticks : new.parts.ticks ≡ old.parts.ticks
-  pub stamps : new.parts.stamps ≡ old.parts.stamps
+  pub stamps : old.parts.stamps ≤ new.parts.stamps
   pub processors : (d : ℕ) → (d ≡ c → ⊥) → slice_get new.parts.processors d ≡ slice_get old.parts.processors d
   pub pipes : (d : ℕ) → (d ≡ c → ⊥) → (slice_get new.parts.pipes d ≡ slice_get old.parts.pipes d) ⊎ (slice_get new.parts.pipes d ≡ option_map (raise 1) (slice_get old.parts.pipes d))
-  pub harts : (t : ℕ) → (current c old.parts ≡ Some t → ⊥) → slice_get new.parts.harts t ≡ slice_get old.parts.harts t
-  pub tasks : (t : ℕ) → (current c old.parts ≡ Some t → ⊥) → slice_get new.parts.tasks t ≡ slice_get old.parts.tasks t
+  pub others : (t : ℕ) → (current c old.parts ≡ Some t → ⊥) → Rests t old.parts new.parts ⊎ Wakes c t old.parts new.parts
+  pub added : Added old.parts new.parts
+  pub typed : Typed old.parts new.parts
 
 -- c is let go past a breakpoint, takes a step, and is stopped
 pub record StepsOnce (c : ℕ) (old new : Board) : Type 0 where

@@ -16,7 +16,7 @@ pub record AreRegisters (regs : List ℕ) : Type 0 where
 abbrev pub AllHaveRegisters : List Hart → Type 0
 AllHaveRegisters harts = (t : ℕ) (hart : Hart) → slice_get harts t ≡ Some hart → AreRegisters hart.regs
 
--- as many processors, pipes and bytes of RAM as before, no fewer tasks and harts, and no more of them than there may be; tasks keep their registers
+-- as many processors, pipes and bytes of RAM as before, no fewer tasks, a hart for each, and no more of them than there may be; tasks keep their registers
 pub record SameSizes (old new : Board) : Type 0 where
   pub processors : length new.parts.processors ≡ length old.parts.processors
   pub pipes : length new.parts.pipes ≡ length old.parts.pipes
@@ -24,7 +24,7 @@ pub record SameSizes (old new : Board) : Type 0 where
   pub tasks : length old.parts.tasks ≤ length new.parts.tasks
   pub harts : length old.parts.harts ≤ length new.parts.harts
   pub few_tasks : length old.parts.tasks ≤ TASK_LIMIT → length new.parts.tasks ≤ TASK_LIMIT
-  pub few_harts : length old.parts.harts ≤ TASK_LIMIT → length new.parts.harts ≤ TASK_LIMIT
+  pub a_hart_each : length old.parts.harts ≡ length old.parts.tasks → length new.parts.harts ≡ length new.parts.tasks
   pub registers : AllHaveRegisters old.parts.harts → AllHaveRegisters new.parts.harts
 
 -- no list of events changes a size, nor the boot numbers
@@ -35,23 +35,15 @@ pub record Stays (old new : State) : Type 0 where
 abbrev pub SizesStay : Type 0
 SizesStay = (s : State) (events : List Event) → Stays s (replay s events)
 
--- as many tasks, and as many harts
-pub record SameTasks (old new : State) : Type 0 where
-  pub tasks : length new.board.parts.tasks ≡ length old.board.parts.tasks
-  pub harts : length new.board.parts.harts ≡ length old.board.parts.harts
-
--- no event makes a task
-abbrev pub TasksStay : Type 0
-TasksStay = (s : State) (events : List Event) → SameTasks s (replay s events)
-
--- as many processors, pipes and bytes as the boot numbers say, one task, and x0 is zero
+-- as many processors, pipes and bytes as the boot numbers say, 1 to 64 tasks, a hart for each, and x0 is zero
 pub record IsAsBooted (boot : Boot) (s : State) : Type 0 where
   pub boot_kept : s.boot ≡ boot
   pub processors : length s.board.parts.processors ≡ boot.cpus
   pub pipes : length s.board.parts.pipes ≡ boot.cpus
   pub ram : length s.board.memory.ram ≡ boot.ram
-  pub tasks : length s.board.parts.tasks ≡ 1
-  pub harts : length s.board.parts.harts ≡ 1
+  pub some_tasks : 1 ≤ length s.board.parts.tasks
+  pub few_tasks : length s.board.parts.tasks ≤ TASK_LIMIT
+  pub harts : length s.board.parts.harts ≡ length s.board.parts.tasks
   pub registers : AllHaveRegisters s.board.parts.harts
 
 -- from boot on, also where an image was loaded before

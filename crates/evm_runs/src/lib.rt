@@ -5,7 +5,7 @@ ghost use Rattle.evm_runs.specs.Balance.{AlwaysBalances, AlwaysBalancesFresh, Al
 ghost use Rattle.evm_runs.specs.Changes.{EventsChangeOnly, RaisesOneLine};
 ghost use Rattle.evm_runs.specs.First.{AlwaysFindsFirst};
 ghost use Rattle.evm_runs.specs.Fit.{CountsAlwaysFit, CountsAlwaysFitFresh, CountsAlwaysFitLoaded};
-ghost use Rattle.evm_runs.specs.Kept.{SizesStay, StaysAsBooted, StaysAsLoaded, TasksStay};
+ghost use Rattle.evm_runs.specs.Kept.{SizesStay, StaysAsBooted, StaysAsLoaded};
 ghost use Rattle.evm_runs.specs.Least.{AlwaysTellsLeast};
 ghost use Rattle.evm_runs.specs.Replays.{LoadsEachByte, LoadsSoManyBytes, ReplaysJoin, StartsAsReplay, StaysReplay};
 
@@ -28,8 +28,8 @@ pub fn counts_fit()
 {}
 
 /// An accepted event is in the journal afterwards. A command answers Done, and changes only the place that it
-/// names. A step changes RAM only by a store, of the tasks only the one that was current, and of the other
-/// processors only that line 1 may be raised there.
+/// names. A step changes RAM only by a store; of the tasks it changes the one that was current, wakes such as
+/// waited there for a line, and adds one at most; of the other processors only line 1 may be raised.
 pub fn events_change_only()
     ensures { EventsChangeOnly }
 {}
@@ -40,14 +40,13 @@ pub fn raises_one_line()
 {}
 
 /// No event changes the boot numbers, nor how many processors, pipes, bytes of RAM or registers there are;
-/// tasks only get more, up to 64. No event of today makes one.
+/// tasks only get more, up to 64, with a hart for each.
 pub fn sizes_stay()
-    ensures sizes { SizesStay }
-    ensures tasks { TasksStay }
+    ensures { SizesStay }
 {}
 
 /// After every list of events there are as many processors, pipes and bytes of RAM as the boot numbers say,
-/// one task, and x0 of each task is zero; also where an image was loaded before.
+/// 1 to 64 tasks, a hart for each, and x0 of each task is zero; also where an image was loaded before.
 pub fn stays_as_booted()
     ensures booted { StaysAsBooted }
     ensures loaded { StaysAsLoaded }

@@ -1,3 +1,4 @@
+pub mod Calls
 pub mod Counted
 pub mod Lift
 pub mod Moves
@@ -7,4 +8,5 @@ pub mod Rows
 pub mod Runs
 pub mod Sets
 pub mod Sizes
+pub mod Tasks
 pub mod Twice

@@ -12,6 +12,8 @@ use Rattle.evm_model.specs.declared.stage.Stage.TheVariants.{OutOfBand, InBand}
 use Rattle.evm_model.proofs.Lists.{change-here}
 use Rattle.evm_walk.proofs.Moves.{PipeMove, plays_timer, plays_oob, plays_in_band, Takes, takes_none, takes_then, takes_pipe}
 use Rattle.evm_walk.proofs.Sets.{move_kept}
+use Rattle.evm_model.specs.Tasks.{wake_below}
+use Rattle.evm_walk.proofs.Tasks.{takes_wakes, wakes-pipes}
 use Rattle.evm_walk.proofs.Twice.{change-twice}
 
 pub first_on : (l : ℕ) (rest : List ℕ) → has_line (l ∷ rest) l ≡ true
@@ -73,6 +75,10 @@ in_band_lines_take c line (l ∷ ls) k p e g s =
     let move : PipeMove line 1 p (f p) = plays_in_band line l p on in
     let set : IsLineSet (l ∷ ls) = subst IsLineSet g s.inband in
     let left : (f p).inband.lines ≡ ls = in_band_left l p ∙ rw g (without_line-least l ls set) in
-    takes_then c line 1 (length ls) (suc (length ls)) k (on_pipe c f k) _ (omega arith)
-    (takes_pipe c line 1 f k (λ q d. let same : p ≡ q = cc in rw (← same) move))
-    (in_band_lines_take c line ls (on_pipe c f k) (f p) (there_after f c k p e) left (move_kept line 1 p (f p) move s))
+    let played : Parts = on_pipe c f k in
+    let woken : Parts = wake_below c l (length k.tasks) played in
+    let first : Takes c line 1 k woken = takes_then c line 1 0 1 k played woken (omega arith)
+    (takes_pipe c line 1 f k (λ q d. let same : p ≡ q = cc in rw (← same) move)) (takes_wakes c line c l (length k.tasks) played) in
+    let there : slice_get woken.pipes c ≡ Some (f p) = ap (λ (pipes : List Pipe). slice_get pipes c) (wakes-pipes c l (length k.tasks) played) ∙ there_after f c k p e in
+    takes_then c line 1 (length ls) (suc (length ls)) k woken _ (omega arith) first
+    (in_band_lines_take c line ls woken (f p) there left (move_kept line 1 p (f p) move s))

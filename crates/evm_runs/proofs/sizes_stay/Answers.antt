@@ -1,5 +1,5 @@
-use Rattle.evm_runs.proofs.Kept.{sizes_stay, tasks_stay}
+use Rattle.evm_runs.proofs.Kept.{sizes_stay}
 use Rattle.evm_runs.proofs.sizes_stay.Goals as goal
 
 pub returns : goal.returns
-returns c = record { sizes = sizes_stay; tasks = tasks_stay }
+returns c = sizes_stay

@@ -1,0 +1,187 @@
+-- What holds of tasks, harts and sizes, whatever processors and pipes do.
+use Rattle.std.proofs.Common.{◌≡◌, ℕ, ◌+◌, ◌<◌, ◌≤◌, ◌%◌, List, [], ◌∷◌, ◌++◌, Some, length, length-append, refl, ap, sym, ◌∙◌, ◌⊎◌, inl, inr, arith}
+use Rattle.std.specs.Prelude.{slice_get}
+use Rattle.evm_exec.specs.declared.hart.Hart.{Hart}
+use Rattle.evm_model.proofs.Lists.{change-cases, length-change, slice_get-push}
+use Rattle.evm_model.specs.Calls.{add_task}
+use Rattle.evm_model.specs.Good.{Good}
+use Rattle.evm_model.specs.Harts.{spawned_hart}
+use Rattle.evm_model.specs.Lists.{change}
+use Rattle.evm_model.specs.Pipes.{Pipe}
+use Rattle.evm_model.specs.State.{Parts, new_task, on_hart, on_pipe, on_processor}
+use Rattle.evm_model.specs.Tasks.{restamp, set_state, leave_in_band}
+use Rattle.evm_model.specs.declared.limits.TheConstants.{PROCESSOR_LIMIT, TASK_LIMIT}
+use Rattle.evm_model.specs.declared.processor.Processor.{Processor}
+use Rattle.evm_model.specs.declared.task.Task.{Task}
+use Rattle.evm_model.specs.declared.task.TaskState.{TaskState}
+
+pub record IsShaped (k : Parts) : Type 0 where
+  pub aligned : (t : ℕ) (hart : Hart) → slice_get k.harts t ≡ Some hart → hart.pc % 4 ≡ 0
+  pub homes : (t : ℕ) (task : Task) → slice_get k.tasks t ≡ Some task → task.cpu < length k.processors
+  pub stamps_below : (t : ℕ) (task : Task) → slice_get k.tasks t ≡ Some task → task.stamp < k.stamps
+  pub stamps_differ : (t u : ℕ) (a b : Task) → slice_get k.tasks t ≡ Some a → slice_get k.tasks u ≡ Some b → a.stamp ≡ b.stamp → t ≡ u
+  pub harts_count : length k.harts ≡ length k.tasks
+  pub pipes_count : length k.pipes ≡ length k.processors
+  pub few_tasks : length k.tasks ≤ TASK_LIMIT
+  pub few_processors : length k.processors ≤ PROCESSOR_LIMIT
+
+pub shaped : (k : Parts) → Good k → IsShaped k
+shaped k g = record {
+  aligned = g.aligned;
+  homes = g.homes;
+  stamps_below = g.stamps_below;
+  stamps_differ = g.stamps_differ;
+  harts_count = g.harts_count;
+  pipes_count = g.pipes_count;
+  few_tasks = g.few_tasks;
+  few_processors = g.few_processors;
+}
+
+pub shaped-pipe : (c : ℕ) (f : Pipe → Pipe) (k : Parts) → IsShaped k → IsShaped (on_pipe c f k)
+shaped-pipe c f k s = record {
+  aligned = s.aligned;
+  homes = s.homes;
+  stamps_below = s.stamps_below;
+  stamps_differ = s.stamps_differ;
+  harts_count = s.harts_count;
+  pipes_count = length-change f k.pipes c ∙ s.pipes_count;
+  few_tasks = s.few_tasks;
+  few_processors = s.few_processors;
+}
+
+pub shaped-processor : (c : ℕ) (f : Processor → Processor) (k : Parts) → IsShaped k → IsShaped (on_processor c f k)
+shaped-processor c f k s = let same : length (change f k.processors c) ≡ length k.processors = length-change f k.processors c in record {
+  aligned = s.aligned;
+  homes = λ t task e. rw same (s.homes t task e);
+  stamps_below = s.stamps_below;
+  stamps_differ = s.stamps_differ;
+  harts_count = s.harts_count;
+  pipes_count = s.pipes_count ∙ sym same;
+  few_tasks = s.few_tasks;
+  few_processors = rw same s.few_processors;
+}
+
+pub shaped-leave : (c : ℕ) (k : Parts) → IsShaped k → IsShaped (leave_in_band c k)
+unfolding leave_in_band
+shaped-leave c k s = shaped-processor c _ k s
+
+pub shaped-hart : (t : ℕ) (f : Hart → Hart) (k : Parts) → ((hart : Hart) → hart.pc % 4 ≡ 0 → (f hart).pc % 4 ≡ 0) → IsShaped k → IsShaped (on_hart t f k)
+shaped-hart t f k h s = record {
+  aligned = λ u hart e. elim (change-cases f k.harts t u hart e) [
+    | inl w ↦ rw w.3 (h w.1 (s.aligned t w.1 w.2))
+    | inr w ↦ s.aligned u hart w.1
+  ];
+  homes = s.homes;
+  stamps_below = s.stamps_below;
+  stamps_differ = s.stamps_differ;
+  harts_count = length-change f k.harts t ∙ s.harts_count;
+  pipes_count = s.pipes_count;
+  few_tasks = s.few_tasks;
+  few_processors = s.few_processors;
+}
+
+-- ---- a task's state
+was : (f : Task → Task) (xs : List Task) (t u : ℕ) (z : Task) → ((x : Task) → (f x).cpu ≡ x.cpu) → ((x : Task) → (f x).stamp ≡ x.stamp) → slice_get (change f xs t) u ≡ Some z
+    → (x : Task) × (slice_get xs u ≡ Some x) × (z.cpu ≡ x.cpu) × (z.stamp ≡ x.stamp)
+was f xs t u z a b h = elim (change-cases f xs t u z h) [
+  | inl w ↦ (w.1, rw w.0 w.2, ap (λ y. y.cpu) w.3 ∙ a w.1, ap (λ y. y.stamp) w.3 ∙ b w.1)
+  | inr w ↦ (z, w.1, refl, refl)
+]
+
+pub shaped-state : (t : ℕ) (state : TaskState) (k : Parts) → IsShaped k → IsShaped (set_state t state k)
+unfolding set_state
+shaped-state t state k s =
+    let f : Task → Task = λ task. record task { state = state } in
+    let before = λ (u : ℕ) (x : Task) (e : slice_get (change f k.tasks t) u ≡ Some x). was f k.tasks t u x (λ x. refl) (λ x. refl) e in
+    record {
+      aligned = s.aligned;
+      homes = λ u x e. let w = before u x e in rw w.2 (s.homes u w.0 w.1);
+      stamps_below = λ u x e. let w = before u x e in rw w.3 (s.stamps_below u w.0 w.1);
+      stamps_differ = λ u v a b e h same. let x = before u a e in let y = before v b h in s.stamps_differ u v x.0 y.0 x.1 y.1 (sym x.3 ∙ same ∙ y.3);
+      harts_count = s.harts_count ∙ sym (length-change f k.tasks t);
+      pipes_count = s.pipes_count;
+      few_tasks = rw (length-change f k.tasks t) s.few_tasks;
+      few_processors = s.few_processors;
+    }
+
+-- ---- a fresh stamp
+-- a task of which the stamp is the fresh one, or is as it was
+record Stamped (k : Parts) (t u : ℕ) (z : Task) : Type 0 where
+  old : Task
+  there : slice_get k.tasks u ≡ Some old
+  cpu : z.cpu ≡ old.cpu
+  which : ((u ≡ t) × (z.stamp ≡ k.stamps)) ⊎ ((u ≡ t → ⊥) × (z.stamp ≡ old.stamp))
+
+stamped : (k : Parts) (t u : ℕ) (z : Task) → slice_get (change (λ (task : Task). record task { stamp = k.stamps }) k.tasks t) u ≡ Some z → Stamped k t u z
+stamped k t u z e = elim (change-cases (λ (task : Task). record task { stamp = k.stamps }) k.tasks t u z e) [
+  | inl w ↦ record { old = w.1; there = rw w.0 w.2; cpu = ap (λ y. y.cpu) w.3; which = inl (w.0, ap (λ y. y.stamp) w.3) }
+  | inr w ↦ record { old = z; there = w.1; cpu = refl; which = inr (w.0, refl) }
+]
+
+fresh-below : (k : Parts) (t u : ℕ) (z : Task) → IsShaped k → Stamped k t u z → z.stamp < k.stamps + 1
+fresh-below k t u z s w = elim w.which [
+  | inl fresh ↦ rw fresh.1 (omega arith)
+  | inr same ↦ let below : w.old.stamp < k.stamps = s.stamps_below u w.old w.there in rw same.1 (omega arith)
+]
+
+fresh-differ : (k : Parts) (t u v : ℕ) (a b : Task) → IsShaped k → Stamped k t u a → Stamped k t v b → a.stamp ≡ b.stamp → u ≡ v
+fresh-differ k t u v a b s x y same = elim x.which [
+  | inl f ↦ elim y.which [
+    | inl g ↦ f.0 ∙ sym g.0
+    | inr g ↦ let below : y.old.stamp < k.stamps = s.stamps_below v y.old y.there in let is : k.stamps ≡ y.old.stamp = sym f.1 ∙ same ∙ g.1 in absurd (omega arith)
+  ]
+  | inr f ↦ elim y.which [
+    | inl g ↦ let below : x.old.stamp < k.stamps = s.stamps_below u x.old x.there in let is : x.old.stamp ≡ k.stamps = sym f.1 ∙ same ∙ g.1 in absurd (omega arith)
+    | inr g ↦ s.stamps_differ u v x.old y.old x.there y.there (sym f.1 ∙ same ∙ g.1)
+  ]
+]
+
+pub shaped-restamp : (t : ℕ) (k : Parts) → IsShaped k → IsShaped (restamp t k)
+unfolding restamp
+shaped-restamp t k s =
+    let f : Task → Task = λ task. record task { stamp = k.stamps } in
+    record {
+      aligned = s.aligned;
+      homes = λ u x e. let w = stamped k t u x e in rw w.cpu (s.homes u w.old w.there);
+      stamps_below = λ u x e. fresh-below k t u x s (stamped k t u x e);
+      stamps_differ = λ u v a b e h same. fresh-differ k t u v a b s (stamped k t u a e) (stamped k t v b h) same;
+      harts_count = s.harts_count ∙ sym (length-change f k.tasks t);
+      pipes_count = s.pipes_count;
+      few_tasks = rw (length-change f k.tasks t) s.few_tasks;
+      few_processors = s.few_processors;
+    }
+
+-- ---- a task more
+pub shaped-add : (entry value cpu : ℕ) (k : Parts) → entry % 4 ≡ 0 → cpu < length k.processors → length k.tasks < TASK_LIMIT → IsShaped k → IsShaped (add_task entry value cpu k)
+unfolding add_task
+shaped-add entry value cpu k a home room s =
+    let task : Task = new_task cpu k.stamps in
+    let hart : Hart = spawned_hart entry value in
+    record {
+      aligned = λ u x e. elim (slice_get-push k.harts hart u x e) [
+        | inl w ↦ s.aligned u x w
+        | inr w ↦ rw w.1 a
+      ];
+      homes = λ u x e. elim (slice_get-push k.tasks task u x e) [
+        | inl w ↦ s.homes u x w
+        | inr w ↦ rw w.1 home
+      ];
+      stamps_below = λ u x e. elim (slice_get-push k.tasks task u x e) [
+        | inl w ↦ omega (arith, s.stamps_below u x w)
+        | inr w ↦ rw w.1 (omega arith)
+      ];
+      stamps_differ = λ u v x y e h same. elim (slice_get-push k.tasks task u x e) [
+        | inl p ↦ elim (slice_get-push k.tasks task v y h) [
+          | inl q ↦ s.stamps_differ u v x y p q same
+          | inr q ↦ let below : x.stamp < k.stamps = s.stamps_below u x p in let is : x.stamp ≡ k.stamps = same ∙ ap (λ z. z.stamp) q.1 in absurd (omega arith)
+        ]
+        | inr p ↦ elim (slice_get-push k.tasks task v y h) [
+          | inl q ↦ let below : y.stamp < k.stamps = s.stamps_below v y q in let is : k.stamps ≡ y.stamp = sym (ap (λ z. z.stamp) p.1) ∙ same in absurd (omega arith)
+          | inr q ↦ p.0 ∙ sym q.0
+        ]
+      ];
+      harts_count = length-append k.harts (hart ∷ []) ∙ ap (λ n. n + 1) s.harts_count ∙ sym (length-append k.tasks (task ∷ []));
+      pipes_count = s.pipes_count;
+      few_tasks = omega (arith, length-append k.tasks (task ∷ []));
+      few_processors = s.few_processors;
+    }

@@ -1,0 +1,114 @@
+-- How many tasks there are, and what was added stays.
+use Rattle.std.proofs.Common.{◌≡◌, ℕ, ◌+◌, ◌≤◌, List, Some, None, length, ◌⊎◌, inl, inr, ap, sym, ◌∙◌, arith}
+use Rattle.std.specs.Prelude.{slice_get}
+use Rattle.evm_exec.specs.declared.hart.Hart.{Hart}
+use Rattle.evm_model.specs.Harts.{spawned_hart}
+use Rattle.evm_model.specs.Pipes.{Pipe}
+use Rattle.evm_model.specs.State.{Board, Parts, new_task}
+use Rattle.evm_model.specs.declared.limits.TheConstants.{TASK_LIMIT}
+use Rattle.evm_model.specs.declared.task.Task.{Task}
+use Rattle.evm_model.specs.declared.task.TaskState.TheVariants.{InReady, Waits}
+use Rattle.evm_model.specs.declared.task.Wait.TheVariants.{Line}
+use Rattle.evm_runs.specs.Changes.{Rests, Wakes, Added}
+use Rattle.evm_runs.specs.Kept.{AllHaveRegisters}
+use Rattle.evm_runs.proofs.Frames.{Frame, Still}
+
+-- as many of each, but for tasks, of which there may be more, a hart for each; and tasks keep their registers
+pub record SameCounts (old new : Board) : Type 0 where
+  pub processors : length new.parts.processors ≡ length old.parts.processors
+  pub pipes : length new.parts.pipes ≡ length old.parts.pipes
+  pub ram : length new.memory.ram ≡ length old.memory.ram
+  pub tasks : length old.parts.tasks ≤ length new.parts.tasks
+  pub harts : length old.parts.harts ≤ length new.parts.harts
+  pub few_tasks : length old.parts.tasks ≤ TASK_LIMIT → length new.parts.tasks ≤ TASK_LIMIT
+  pub a_hart_each : length old.parts.harts ≡ length old.parts.tasks → length new.parts.harts ≡ length new.parts.tasks
+  pub registers : AllHaveRegisters old.parts.harts → AllHaveRegisters new.parts.harts
+
+pub same_then : (x y z : Board) → SameCounts x y → SameCounts y z → SameCounts x z
+same_then x y z p q = record {
+  processors = q.processors ∙ p.processors;
+  pipes = q.pipes ∙ p.pipes;
+  ram = q.ram ∙ p.ram;
+  tasks = omega (arith, p.tasks, q.tasks);
+  harts = omega (arith, p.harts, q.harts);
+  few_tasks = λ few. q.few_tasks (p.few_tasks few);
+  a_hart_each = λ each. q.a_hart_each (p.a_hart_each each);
+  registers = λ h. q.registers (p.registers h);
+}
+
+pub more_tasks : (x y : Parts) → Added x y → length x.tasks ≤ length y.tasks
+more_tasks x y p = elim p [
+  | inl same ↦ omega (arith, same.0)
+  | inr a ↦ omega (arith, a.tasks)
+]
+
+pub more_harts : (x y : Parts) → Added x y → length x.harts ≤ length y.harts
+more_harts x y p = elim p [
+  | inl same ↦ omega (arith, same.1)
+  | inr a ↦ omega (arith, a.harts)
+]
+
+pub few_more : (x y : Parts) → Added x y → length x.tasks ≤ TASK_LIMIT → length y.tasks ≤ TASK_LIMIT
+few_more x y p few = elim p [
+  | inl same ↦ omega (arith, same.0)
+  | inr a ↦ omega (arith, a.tasks, a.room)
+]
+
+pub each_more : (x y : Parts) → Added x y → length x.harts ≡ length x.tasks → length y.harts ≡ length y.tasks
+each_more x y p each = elim p [
+  | inl same ↦ same.1 ∙ each ∙ sym same.0
+  | inr a ↦ a.harts ∙ ap (λ n. n + 1) each ∙ sym a.tasks
+]
+
+-- the task that was added settles as it was: it does not wait
+pub added_rests : (c : ℕ) (x y z : Parts) → Frame c None y z → Still y z → Added x y → Added x z
+added_rests c x y z f s p = elim p [
+  | inl same ↦ inl (s.tasks ∙ same.0, s.harts ∙ same.1)
+  | inr a ↦ elim (f.others (length x.tasks) (λ e. cc)) [
+    | inl r ↦ inr (record {
+      cpu = a.cpu;
+      stamp = a.stamp;
+      entry = a.entry;
+      value = a.value;
+      tasks = s.tasks ∙ a.tasks;
+      harts = s.harts ∙ a.harts;
+      room = a.room;
+      task = r.task (new_task a.cpu a.stamp) a.task;
+      hart = λ each. r.hart (spawned_hart a.entry a.value) (a.hart each);
+    })
+    | inr w ↦
+        let two : Some (new_task a.cpu a.stamp) ≡ Some w.task = sym a.task ∙ w.waited in
+        let same : new_task a.cpu a.stamp ≡ w.task = cc in
+        let no : InReady ≡ Waits (Line w.line) = ap (λ (task : Task). task.state) same ∙ w.on in cc
+  ]
+]
+
+-- the skip bit is no task
+pub passes_added : (x y z : Parts) → y.tasks ≡ x.tasks → y.harts ≡ x.harts → Added y z → Added x z
+passes_added x y z e f p = elim p [
+  | inl same ↦ inl (same.0 ∙ ap length e, same.1 ∙ ap length f)
+  | inr a ↦ inr (record {
+    cpu = a.cpu;
+    stamp = a.stamp;
+    entry = a.entry;
+    value = a.value;
+    tasks = a.tasks ∙ ap (λ (tasks : List Task). length tasks + 1) e;
+    harts = a.harts ∙ ap (λ (harts : List Hart). length harts + 1) f;
+    room = rw (← e) a.room;
+    task = ap (slice_get z.tasks) (ap length (sym e)) ∙ a.task;
+    hart = λ each. ap (slice_get z.harts) (ap length (sym e)) ∙ a.hart (ap length f ∙ each ∙ sym (ap length e));
+  })
+]
+
+-- ---- pipes are no tasks
+pub others_pipes : (c t : ℕ) (x y : Parts) (pipes : List Pipe) → Rests t x y ⊎ Wakes c t x y → Rests t x (record y { pipes = pipes }) ⊎ Wakes c t x (record y { pipes = pipes })
+others_pipes c t x y pipes p = elim p [
+  | inl r ↦ inl (record { task = r.task; hart = r.hart })
+  | inr w ↦ inr (record { task = w.task; line = w.line; stamp = w.stamp; waited = w.waited; on = w.on; at_home = w.at_home; fresh = w.fresh; wakes = w.wakes; hart = w.hart })
+]
+
+pub added_pipes : (x y : Parts) (pipes : List Pipe) → Added x y → Added x (record y { pipes = pipes })
+added_pipes x y pipes p = elim p [
+  | inl same ↦ inl same
+  | inr a ↦ inr (record { cpu = a.cpu; stamp = a.stamp; entry = a.entry; value = a.value; tasks = a.tasks; harts = a.harts; room = a.room; task = a.task; hart = a.hart })
+]

@@ -1,0 +1,108 @@
+-- What is done to one task is made of moves that touch no pipe.
+use Rattle.std.proofs.Common.{◌≡◌, ℕ, zero, suc, ◌+◌, ◌≤◌, [], ◌∷◌, ◌++◌, Bool, true, false, length, length-append, refl, ap, ◌∙◌, inl, arith}
+use Rattle.std.specs.Prelude.{slice_get, if◌then◌else◌}
+use Rattle.evm_model.specs.Calls.{add_task}
+use Rattle.evm_model.specs.Harts.{A0, set_register, spawned_hart}
+use Rattle.evm_model.specs.Pipes.{set_stall}
+use Rattle.evm_model.specs.State.{Parts, new_task, on_hart, on_pipe}
+use Rattle.evm_model.specs.Tasks.{restamp, set_state, leave_in_band, end_task, wake_in_band, wake_waiter, wake_below, awaits}
+use Rattle.evm_model.specs.declared.stage.Stage.TheVariants.{InBand}
+use Rattle.evm_model.specs.declared.task.Task.{Task}
+use Rattle.evm_model.specs.declared.task.TaskState.{TaskState}
+use Rattle.evm_model.specs.declared.task.TaskState.TheVariants.{InReady}
+use Rattle.evm_model.proofs.Lists.{length-change}
+use Rattle.evm_walk.proofs.Moves.{stalls, Takes, takes_once, takes_then, takes_none, takes_if, takes_hart, takes_task, takes_processor, takes_pipe}
+
+-- neither pipes, processors nor the clock change, and tasks only get more
+pub record IsQuiet (k new : Parts) : Type 0 where
+  pub pipes : new.pipes ≡ k.pipes
+  pub processors : new.processors ≡ k.processors
+  pub ticks : new.ticks ≡ k.ticks
+  pub harts_count : length k.harts ≤ length new.harts
+  pub tasks_count : length k.tasks ≤ length new.tasks
+
+pub takes_quiet : (a line : ℕ) (k new : Parts) → IsQuiet k new → Takes a line 0 k new
+takes_quiet a line k new q = takes_once a line 0 k new (record {
+  pipes = λ d. inl (ap (λ pipes. slice_get pipes d) q.pipes);
+  pipes_count = ap length q.pipes;
+  processors = λ d other. ap (λ processors. slice_get processors d) q.processors;
+  processors_count = ap length q.processors;
+  harts_count = q.harts_count;
+  tasks_count = q.tasks_count;
+  ticks = λ h. q.ticks;
+})
+
+pub restamp_quiet : (t : ℕ) (k : Parts) → IsQuiet k (restamp t k)
+unfolding restamp
+restamp_quiet t k = record {
+  pipes = refl;
+  processors = refl;
+  ticks = refl;
+  harts_count = omega arith;
+  tasks_count = omega (arith, length-change (λ (task : Task). record task { stamp = k.stamps }) k.tasks t);
+}
+
+pub state_quiet : (t : ℕ) (state : TaskState) (k : Parts) → IsQuiet k (set_state t state k)
+unfolding set_state
+state_quiet t state k = record {
+  pipes = refl;
+  processors = refl;
+  ticks = refl;
+  harts_count = omega arith;
+  tasks_count = omega (arith, length-change (λ (task : Task). record task { state = state }) k.tasks t);
+}
+
+pub add_quiet : (entry value cpu : ℕ) (k : Parts) → IsQuiet k (add_task entry value cpu k)
+unfolding add_task
+add_quiet entry value cpu k = record {
+  pipes = refl;
+  processors = refl;
+  ticks = refl;
+  harts_count = omega (arith, length-append k.harts (spawned_hart entry value ∷ []));
+  tasks_count = omega (arith, length-append k.tasks (new_task cpu k.stamps ∷ []));
+}
+
+pub takes_leave : (c line : ℕ) (k : Parts) → Takes c line 0 k (leave_in_band c k)
+unfolding leave_in_band
+takes_leave c line k = takes_processor c line _ k
+
+pub takes_end : (c t : ℕ) (state : TaskState) (k : Parts) → Takes c 1 0 k (end_task c t state k)
+unfolding end_task
+takes_end c t state k =
+    let freed : Parts = on_pipe c (set_stall InBand false) k in
+    takes_then c 1 0 0 0 k freed _ (omega arith) (takes_pipe c 1 0 (set_stall InBand false) k (λ p e. stalls 1 InBand false p))
+    (takes_then c 1 0 0 0 freed (leave_in_band c freed) _ (omega arith) (takes_leave c 1 freed)
+    (takes_quiet c 1 (leave_in_band c freed) _ (state_quiet t state (leave_in_band c freed))))
+
+-- ---- wakes
+pub takes_wake : (a line t value : ℕ) (k : Parts) → Takes a line 0 k (wake_in_band t value k)
+unfolding wake_in_band
+takes_wake a line t value k =
+    let told : Parts = on_hart t (set_register A0 value) k in
+    let ready : Parts = set_state t InReady told in
+    takes_then a line 0 0 0 k told _ (omega arith) (takes_hart a line t _ k)
+    (takes_then a line 0 0 0 told ready _ (omega arith) (takes_quiet a line told ready (state_quiet t InReady told)) (takes_quiet a line ready _ (restamp_quiet t ready)))
+
+pub takes_wakes : (a line c l n : ℕ) (k : Parts) → Takes a line 0 k (wake_below c l n k)
+unfolding wake_below
+takes_wakes a line c l zero k = takes_none a line 0 k
+takes_wakes a line c l (suc t) k =
+    let before : Parts = wake_below c l t k in
+    takes_then a line 0 0 0 k before _ (omega arith) (takes_wakes a line c l t k)
+    (takes_if a line 0 before (wake_in_band t 0 before) before (awaits c l (slice_get before.tasks t)) (takes_wake a line t 0 before) (takes_none a line 0 before))
+
+-- a wake touches no pipe
+wake-pipes : (t value : ℕ) (k : Parts) → (wake_in_band t value k).pipes ≡ k.pipes
+unfolding wake_in_band restamp set_state
+wake-pipes t value k = refl
+
+if-pipes : (b : Bool) (x y : Parts) → x.pipes ≡ y.pipes → (if b then x else y).pipes ≡ y.pipes
+if-pipes true x y e = e
+if-pipes false x y e = refl
+
+pub wakes-pipes : (c l n : ℕ) (k : Parts) → (wake_below c l n k).pipes ≡ k.pipes
+unfolding wake_below
+wakes-pipes c l zero k = refl
+wakes-pipes c l (suc t) k =
+    let before : Parts = wake_below c l t k in
+    if-pipes (awaits c l (slice_get before.tasks t)) (wake_in_band t 0 before) before (wake-pipes t 0 before) ∙ wakes-pipes c l t k
