@@ -1,14 +1,22 @@
 -- Room for counts, as a row takes it up.
 use Rattle.std.proofs.Common.{◌≡◌, ℕ, ◌+◌, ◌-◌, ◌^◌, ◌≤◌, List, Bool, false, None, length, arith}
 use Rattle.evm_model.specs.Bounds.{PipesUpTo}
+use Rattle.evm_model.specs.Calls.{call}
 use Rattle.evm_model.specs.Commands.{set_bits}
-use Rattle.evm_model.specs.Instructions.{end_task}
 use Rattle.evm_model.specs.Pipes.{play, receive, set_stall}
 use Rattle.evm_model.specs.Settle.{settle, settle_oob}
+use Rattle.evm_model.specs.Tasks.{end_task}
 use Rattle.evm_model.specs.State.{Parts, on_pipe, on_task, on_processor}
 use Rattle.evm_model.specs.declared.stage.Stage.{Stage}
 use Rattle.evm_model.specs.declared.stage.Stage.TheVariants.{InBand}
 use Rattle.evm_model.specs.declared.task.TaskState.{TaskState}
+use Rattle.evm_walk.proofs.Calls.{call_takes}
+use Rattle.evm_walk.proofs.Counted.{takes_counted}
+use Rattle.evm_walk.proofs.Moves.{Takes}
+use Rattle.evm_walk.proofs.Sets.{takes_pipes}
+use Rattle.evm_walk.proofs.Tasks.{takes_end}
+use Rattle.evm_rules.proofs.Settling.{only-settle_oob}
+use Rattle.evm_rules.proofs.Stamps.{call-gives}
 use Rattle.evm_rules.proofs.Bounded.{AreWithin, within-more, within-settle_oob, within-settle, within-receive, within-stall}
 use Rattle.evm_rules.proofs.Counting.{PipesUpTo-more, on_play-up}
 
@@ -31,14 +39,28 @@ room-second c k h = (within-settle_oob (2 ^ 62) c k h).up
 pub room-nudge : (c : ℕ) (k : Parts) → AreWithin (2 ^ 62) k → PipesUpTo (2 ^ 62 + 128) (settle c k).pipes
 room-nudge c k h = PipesUpTo-more (2 ^ 62 + 96) (2 ^ 62 + 128) (settle c k).pipes (omega arith) (within-settle (2 ^ 62) c k h).up
 
-pub ruleset settles = (room-first, room-second, room-nudge)
+pub stamps-second : (c : ℕ) (k : Parts) → k.stamps ≤ 2 ^ 61 → (settle_oob c k).stamps ≤ 2 ^ 61
+stamps-second c k h = rw (only-settle_oob c k).stamps h
+
+pub ruleset settles = (room-first, room-second, room-nudge, stamps-second)
+
+-- moves that count nothing
+within-takes : (a line b : ℕ) (k new : Parts) → Takes a line 0 k new → AreWithin b k → AreWithin b new
+within-takes a line b k new t w =
+    record { are = (takes_pipes a line 0 k new t (record { each = w.are })).each; up = PipesUpTo-more (b + 0) b new.pipes (omega arith) (takes_counted a line 0 b k new t w.up) }
 
 -- a task ended before its processor settles
 pub room-end : (c t : ℕ) (state : TaskState) (k : Parts) → AreWithin (2 ^ 61) k → AreWithin (2 ^ 62) (end_task c t state k)
-unfolding end_task
-room-end c t state k h =
-    let w = within-more (2 ^ 61) (2 ^ 62) _ (omega arith) (within-stall (2 ^ 61) c InBand false k h) in
-    record { are = w.are; up = w.up }
+room-end c t state k h = within-more (2 ^ 61) (2 ^ 62) _ (omega arith) (within-takes c 1 (2 ^ 61) k _ (takes_end c t state k) h)
+
+-- a call before its processor settles
+pub room-call : (ram c t : ℕ) (k : Parts) → AreWithin (2 ^ 61) k → AreWithin (2 ^ 62) (call ram c t k)
+room-call ram c t k h = within-more (2 ^ 61) (2 ^ 62) _ (omega arith) (within-takes c 1 (2 ^ 61) k _ (call_takes ram c t k) h)
+
+pub stamps-call : (ram c t : ℕ) (k : Parts) → k.stamps ≤ 2 ^ 60 → (call ram c t k).stamps ≤ 2 ^ 61
+stamps-call ram c t k h = let g = call-gives ram c t k in omega (arith, g.most)
+
+pub ruleset calls = (stamps-call)
 
 pub room-less_61 : (k : Parts) → AreWithin (2 ^ 61) k → AreWithin (2 ^ 62) k
 room-less_61 k h = within-more (2 ^ 61) (2 ^ 62) k (omega arith) h
@@ -62,5 +84,9 @@ room-skip c k h = record { are = h.are; up = h.up }
 pub room-bits : (c : ℕ) (stopped skip : Bool) (k : Parts) → AreWithin (2 ^ 61) k → AreWithin (2 ^ 61) (set_bits stopped skip c k)
 unfolding set_bits
 room-bits c stopped skip k h = record { are = h.are; up = h.up }
+
+pub stamps-bits : (c : ℕ) (stopped skip : Bool) (k : Parts) → k.stamps ≤ 2 ^ 60 → (set_bits stopped skip c k).stamps ≤ 2 ^ 60
+unfolding set_bits
+stamps-bits c stopped skip k h = h
 
 pub ruleset wider = (room-raise, room-tick)

@@ -11,9 +11,9 @@ use arrayvec::ArrayVec;
 use evm_breaks::Breakpoints;
 use evm_exec::Hart;
 use evm_model::{
-    Boot, CAPACITY_LIMIT, Class, PROCESSOR_LIMIT, Processor, RAM_LEAST, RAM_UNIT, Task, TaskState,
+    Boot, CAPACITY_LIMIT, Class, Mode, PROCESSOR_LIMIT, Processor, RAM_LEAST, RAM_UNIT, Task, TaskState,
 };
-use evm_parts::Parts;
+use evm_parts::{Console, Parts};
 use evm_pipe::Pipe;
 use evm_ram::{BASE, NoMemory, Ram, Refusal, SIZE_LIMIT};
 use evm_task::{Harts, Tasks};
@@ -58,7 +58,13 @@ fn task_zero() -> Task
         cpu: 0,
         class: Class::Unattached,
         priority: 0,
+        slice: 0,
+        mode: Mode {
+            stage_switches: false,
+            lock_mistakes: false,
+        },
         stamp: 0,
+        deadline: 0,
         state: TaskState::InReady,
     }
 }
@@ -91,8 +97,9 @@ fn pipes_of(count: u64) -> ArrayVec<Pipe, PROCESSOR_LIMIT>
 
 // The parts at boot: task 0 is current on processor 0.
 #[tactic(auto, unfolding(evm_model::specs::State::booted_parts))]
-fn parts_of(boot: &Boot) -> Parts
-    requires { bad_boot boot.now ≡ false }
+fn parts_of(boot: &Boot, console: Console) -> Parts
+    requires fits { bad_boot boot.now ≡ false }
+    requires empty { console ≡ [] }
     ensures { result ≡ booted_parts boot.now }
 {
     let mut processors = processors_of(boot.cpus);
@@ -107,6 +114,7 @@ fn parts_of(boot: &Boot) -> Parts
         processors,
         pipes: pipes_of(boot.cpus),
         stamps: 1,
+        console,
     }
 }
 
@@ -117,10 +125,13 @@ fn board_of(alloc: Global, boot: &Boot) -> Result<Board, NoMemory>
     ensures { IfOk result (λ board. board ≡ booted boot.now) }
 {
     let ram = Ram::new(alloc, boot.ram)?;
+    let Ok(console) = Console::new(alloc) else {
+        return Err(NoMemory);
+    };
     Ok(Board {
         memory: Memory::of_ram(ram),
         breakpoints: Breakpoints::new(),
-        parts: parts_of(boot),
+        parts: parts_of(boot, console),
     })
 }
 

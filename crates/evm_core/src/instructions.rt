@@ -1,6 +1,7 @@
-ghost use Rattle.std.specs.Prelude.{◌≡◌, ◌^◌};
+ghost use Rattle.std.specs.Prelude.{◌≡◌, ◌≤◌, ◌^◌, length};
+ghost use Rattle.evm_model.specs.Calls.{call};
 ghost use Rattle.evm_model.specs.Good.{Good};
-ghost use Rattle.evm_model.specs.Instructions.{end_task, fault, stop, finish};
+ghost use Rattle.evm_model.specs.Instructions.{fault, stop, finish};
 ghost use Rattle.evm_model.specs.Settle.{settle_and_nudge};
 ghost use Rattle.evm_model.specs.State.{on_parts};
 ghost use Rattle.evm_core.specs.Wants.{wants, follow};
@@ -9,29 +10,35 @@ ghost use Rattle.evm_rules.proofs.Private.{IsClear};
 
 use crate::board::Board;
 use crate::memory::Memory;
-use crate::quiet::{advance_quietly, answer_quietly, jump_quietly, load_quietly, stop_quietly};
+use crate::quiet::{advance_quietly, jump_quietly, load_quietly, stop_quietly};
 use crate::settle::settle_and_nudge;
 use evm_exec::{Effect, Hart, effect, load_width, loaded};
+use evm_inband::call::call;
 use evm_isa::decode;
-use evm_model::{Errno, Fault, Stage, TaskState};
+use evm_model::{Fault, TaskState};
 use evm_parts::Parts;
-
-// A task ends: in-band isn't stalled on its processor afterwards, and it is in-band current no more.
-#[tactic(auto, unfolding(evm_model::specs::Instructions::end_task))]
-fn end_task(parts: &mut Parts, c: u8, t: u8, state: TaskState)
-    ensures { parts.new ≡ end_task c t state parts.old }
-{
-    parts.tasks.set_state(t, state);
-    parts.set_stall(c, Stage::InBand, false);
-    parts.set_in_band_task(c, None);
-}
+use evm_ram::SIZE_LIMIT;
 
 // A task ends by a fault, and its processor settles.
 fn fault(parts: &mut Parts, c: u8, t: u8, reason: Fault)
-    requires { AreWithin (2 ^ 61) parts.old }
+    requires room { AreWithin (2 ^ 61) parts.old }
+    requires stamps { parts.old.stamps ≤ 2 ^ 60 }
     ensures { parts.new ≡ settle_and_nudge c (fault c t reason parts.old) }
 {
-    end_task(parts, c, t, TaskState::Faulted(reason));
+    parts.end_task(c, t, TaskState::Faulted(reason));
+    settle_and_nudge(parts, c);
+}
+
+// A task calls a kernel, and its processor settles.
+#[tactic(auto, using(crate::proofs::Rooms::calls))]
+fn call_and_settle(parts: &mut Parts, ram: u64, c: u8, t: u8)
+    requires ram { ram ≤ SIZE_LIMIT }
+    requires room { AreWithin (2 ^ 61) parts.old }
+    requires stamps { parts.old.stamps ≤ 2 ^ 60 }
+    requires harts { length parts.old.harts ≡ length parts.old.tasks }
+    ensures { parts.new ≡ settle_and_nudge c (call ram c t parts.old) }
+{
+    call(parts, ram, c, t);
     settle_and_nudge(parts, c);
 }
 
@@ -51,6 +58,7 @@ impl Board {
         requires good { Good self.old.parts }
         requires clear { IsClear c t self.old.parts }
         requires room { AreWithin (2 ^ 61) self.old.parts }
+        requires stamps { self.old.parts.stamps ≤ 2 ^ 60 }
         ensures { self.new ≡ on_parts (settle_and_nudge c) (finish effect c t self.old) }
     {
         match effect {
@@ -67,7 +75,7 @@ impl Board {
                 None => fault(&mut self.parts, c, t, Fault::Store),
                 Some(()) => advance_quietly(&mut self.parts, c, t),
             },
-            Effect::Call => answer_quietly(&mut self.parts, c, t, Errno::NoSuchCall.answer()),
+            Effect::Call => call_and_settle(&mut self.parts, self.memory.ram_size(), c, t),
             Effect::Break => stop_quietly(&mut self.parts, c, t),
             Effect::Misaligned => fault(&mut self.parts, c, t, Fault::Misaligned),
         }
@@ -78,6 +86,7 @@ impl Board {
         requires good { Good self.old.parts }
         requires clear { IsClear c t self.old.parts }
         requires room { AreWithin (2 ^ 61) self.old.parts }
+        requires stamps { self.old.parts.stamps ≤ 2 ^ 60 }
         ensures { self.new ≡ on_parts (settle_and_nudge c) (follow wanted c t self.old) }
     {
         match wanted {

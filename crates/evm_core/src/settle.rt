@@ -35,14 +35,17 @@ fn play_oob_lines(parts: &mut Parts, c: u8, lines: LineSet)
     }
 }
 
-// Plays a line in-band.
+// Plays a line in-band: the tasks that wait for it wake.
 #[tactic(auto, unfolding(evm_model::specs::Settle::play_in_band))]
 fn play_in_band(parts: &mut Parts, c: u8, line: u8)
     requires line { line < LINES }
     requires room { PipesUpTo (2 ^ 63) parts.old.pipes }
-    ensures { parts.new ≡ play_in_band c line parts.old }
+    requires stamps { parts.old.stamps ≤ 2 ^ 62 }
+    ensures row { parts.new ≡ play_in_band c line parts.old }
+    ensures stamps { parts.new.stamps ≤ parts.old.stamps + 64 }
 {
     parts.play(c, Stage::InBand, line);
+    parts.wake_waiters(c, line);
 }
 
 // Plays lines in-band, the least first.
@@ -50,6 +53,7 @@ fn play_in_band(parts: &mut Parts, c: u8, line: u8)
 fn play_in_band_lines(parts: &mut Parts, c: u8, lines: LineSet)
     requires few { length lines ≤ LINES }
     requires room { PipesUpTo (2 ^ 62 + 64) parts.old.pipes }
+    requires stamps { parts.old.stamps ≤ 2 ^ 61 }
     ensures { parts.new ≡ play_in_band_lines c lines parts.old }
 {
     let mut left = lines;
@@ -95,7 +99,8 @@ fn run_in_band(parts: &mut Parts, c: u8)
 // Unless it is stalled the in-band log is played.
 #[tactic(auto, unfolding(evm_model::specs::Settle::play_in_band_lines))]
 fn play_in_band_log(parts: &mut Parts, c: u8)
-    requires { PipesUpTo (2 ^ 62 + 64) parts.old.pipes }
+    requires room { PipesUpTo (2 ^ 62 + 64) parts.old.pipes }
+    requires stamps { parts.old.stamps ≤ 2 ^ 61 }
     ensures { parts.new ≡ play_in_band_pipe (slice_get parts.old.pipes c) c parts.old }
 {
     let Some(pipe) = parts.pipe(c) else {
@@ -113,7 +118,8 @@ fn play_in_band_log(parts: &mut Parts, c: u8)
 // The in-band part, where no out-of-band task is current.
 #[tactic(auto, unfolding(evm_model::specs::Settle::settle_in_band, evm_model::specs::Settle::turn_in_band))]
 fn settle_in_band(parts: &mut Parts, c: u8)
-    requires { PipesUpTo (2 ^ 62 + 64) parts.old.pipes }
+    requires room { PipesUpTo (2 ^ 62 + 64) parts.old.pipes }
+    requires stamps { parts.old.stamps ≤ 2 ^ 61 }
     ensures { parts.new ≡ settle_in_band c parts.old }
 {
     if !parts.tasks.is_oob(parts.current(c)) {
@@ -125,7 +131,8 @@ fn settle_in_band(parts: &mut Parts, c: u8)
 /// Plays what waits in a processor's logs, and chooses its current task.
 #[tactic(auto, using(crate::proofs::Rooms::settles), unfolding(evm_model::specs::Settle::settle))]
 pub(crate) fn settle(parts: &mut Parts, c: u8)
-    requires { AreWithin (2 ^ 62) parts.old }
+    requires room { AreWithin (2 ^ 62) parts.old }
+    requires stamps { parts.old.stamps ≤ 2 ^ 61 }
     ensures { parts.new ≡ settle c parts.old }
 {
     settle_oob(parts, c);
@@ -181,7 +188,8 @@ fn nudge(parts: &mut Parts, c: u8)
 /// A processor settles, and tells the others that should run another task.
 #[tactic(auto, using(crate::proofs::Rooms::settles), unfolding(evm_model::specs::Settle::settle_and_nudge))]
 pub(crate) fn settle_and_nudge(parts: &mut Parts, c: u8)
-    requires { AreWithin (2 ^ 62) parts.old }
+    requires room { AreWithin (2 ^ 62) parts.old }
+    requires stamps { parts.old.stamps ≤ 2 ^ 61 }
     ensures { parts.new ≡ settle_and_nudge c parts.old }
 {
     settle(parts, c);

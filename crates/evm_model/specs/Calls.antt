@@ -72,8 +72,8 @@ unfoldable pub putc : ℕ → Parts → Parts × Outcome
 putc byte k = (record k { console = last_bytes (k.console ++ (byte % 256) ∷ []) }, Answers 0)
 
 -- 2: the task goes behind the others that are ready; not while in-band is stalled
-unfoldable pub yield : ℕ → ℕ → Parts → Parts × Outcome
-yield c t k = if in_band_stalled c k then refused NotPermitted k else (leave_in_band c (restamp t k), Answers 0)
+unfoldable pub yield_now : ℕ → ℕ → Parts → Parts × Outcome
+yield_now c t k = if in_band_stalled c k then refused NotPermitted k else (leave_in_band c (restamp t k), Answers 0)
 
 -- an entry that is no multiple of 4 in RAM of so many bytes
 abbrev pub is_bad_entry : ℕ → ℕ → Bool
@@ -122,7 +122,7 @@ demote c t k = restamp t (set_state t InReady (on_pipe c (set_stall OutOfBand fa
 abbrev pub perform : Call → ℕ → Hart → ℕ → ℕ → Parts → Parts × Outcome
 perform Ends ram hart c t k = exit c t k
 perform Putc ram hart c t k = putc (argument 0 hart) k
-perform Yield ram hart c t k = yield c t k
+perform Yield ram hart c t k = yield_now c t k
 perform Spawn ram hart c t k = spawn ram (argument 0 hart) (argument 1 hart) (argument 2 hart) k
 perform Stall ram hart c t k = stall true c k
 perform Unstall ram hart c t k = stall false c k

@@ -1,7 +1,10 @@
 //! The parts of a machine side by side: what calls may change. Those above read and change a part by its own
-//! functions; what many rows do to one processor's part has a function here.
+//! functions; what many rows do to one processor's part, or to one task, has a function here.
 #![tactic(auto)]
 
+mod console;
 mod parts;
+mod tasks;
 
+pub use console::Console;
 pub use parts::Parts;

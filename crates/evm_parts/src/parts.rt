@@ -4,6 +4,7 @@ ghost use Rattle.evm_model.specs.Pipes.{raise, arrive, receive, play, set_stall}
 ghost use Rattle.evm_model.specs.Settle.{current};
 ghost use Rattle.evm_model.specs.State.{on_pipe, on_processor};
 
+use crate::console::Console;
 use arrayvec::ArrayVec;
 use evm_lines::LINES;
 use evm_model::{PROCESSOR_LIMIT, Processor, Stage};
@@ -26,6 +27,8 @@ pub struct Parts {
     pub pipes: ArrayVec<Pipe, PROCESSOR_LIMIT>,
     /// The stamp that is given next.
     pub stamps: u64,
+    /// What was put to the console.
+    pub console: Console,
 }
 
 impl Model for Parts {
@@ -40,6 +43,7 @@ impl Model for Parts {
       processors = k.processors.items;
       pipes = k.pipes.items;
       stamps = k.stamps;
+      console = k.console;
     } };
 }
 

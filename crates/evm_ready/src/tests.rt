@@ -1,14 +1,20 @@
 //! Which task goes first, against rows worked by hand.
 
 use crate::{best_of, next_in_band_of};
-use evm_model::{Class, Task, TaskState};
+use evm_model::{Class, Mode, Task, TaskState};
 
 fn ready(cpu: u8, class: Class, priority: u8, stamp: u64) -> Task {
     Task {
         cpu,
         class,
         priority,
+        slice: 4,
+        mode: Mode {
+            stage_switches: false,
+            lock_mistakes: false,
+        },
         stamp,
+        deadline: 0,
         state: TaskState::OobReady,
     }
 }

@@ -7,7 +7,7 @@ use Rattle.evm_exec.specs.declared.hart.Hart.{Hart}
 use Rattle.evm_lines.specs.declared.TheConstants.{LINES}
 use Rattle.evm_ram.specs.declared.ram.TheConstants.{BASE}
 use Rattle.evm_model.proofs.Lists.{change-elsewhere, change-cases, length-change, slice_get-below, slice_get-within}
-use Rattle.evm_model.specs.Calls.{call_of, refused, stalled_pipe, in_band_stalled, exit, putc, yield, is_bad_entry, add_task, spawn, stall, wait_line, set_line, demote, perform, answered, finish_call, call_on, call_known, call_of_hart, call}
+use Rattle.evm_model.specs.Calls.{call_of, refused, stalled_pipe, in_band_stalled, exit, putc, yield_now, is_bad_entry, add_task, spawn, stall, wait_line, set_line, demote, perform, answered, finish_call, call_on, call_known, call_of_hart, call}
 use Rattle.evm_model.specs.Good.{Good, IsOwn, IsPipe, IsSettled, is_live}
 use Rattle.evm_model.specs.Harts.{A7, argument}
 use Rattle.evm_model.specs.Pipes.{Pipe, set_stall}
@@ -242,8 +242,8 @@ module _ (c t : ℕ) (k : Parts) (g : GoodBut c k) (o : IsOwn c t k.tasks) where
     few_processors = g.shape.few_processors;
   } }
 
-  yield-but : GoodBut c (yield c t k).0
-  unfolding yield
+  yield-but : GoodBut c (yield_now c t k).0
+  unfolding yield_now
   yield-but = either c (in_band_stalled c k) _ _ (λ e. g) (λ e. but-leave c (restamp t k) (restamp-free c t k (not-stalled c k e)) (but-restamp c t k o g))
 
   spawn-but : (ram entry value cpu : ℕ) → GoodBut c (spawn ram entry value cpu k).0

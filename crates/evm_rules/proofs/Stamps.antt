@@ -14,7 +14,7 @@ use Rattle.evm_exec.specs.declared.outcome.Effect.{Effect}
 use Rattle.evm_exec.specs.declared.outcome.Effect.TheVariants.{Next, Load, Store, Call as Calls, Break, Misaligned}
 use Rattle.evm_model.proofs.Lists.{length-change}
 use Rattle.evm_model.specs.Bounds.{STAMPS_PER_EVENT}
-use Rattle.evm_model.specs.Calls.{call_of, refused, in_band_stalled, exit, putc, yield, is_bad_entry, spawn, add_task, stall, wait_line, set_line, demote, perform, answered, finish_call, call_on, call_known, call_of_hart, call}
+use Rattle.evm_model.specs.Calls.{call_of, refused, in_band_stalled, exit, putc, yield_now, is_bad_entry, spawn, add_task, stall, wait_line, set_line, demote, perform, answered, finish_call, call_on, call_known, call_of_hart, call}
 use Rattle.evm_model.specs.Commands.{tick, set_bits, on_number, is_set, set_breakpoint, unset_breakpoint}
 use Rattle.evm_model.specs.Good.{Good, IsPipe, IsOwn}
 use Rattle.evm_model.specs.Harts.{A7, argument}
@@ -139,8 +139,8 @@ end-gives : (c t : ℕ) (state : TaskState) (k : Parts) → Gives 1 k (end_task 
 unfolding end_task set_state leave_in_band
 end-gives c t state k = gives-none 1 k _ refl
 
-yield-gives : (c t : ℕ) (k : Parts) → Gives 1 k (yield c t k).0
-unfolding yield leave_in_band restamp
+yield-gives : (c t : ℕ) (k : Parts) → Gives 1 k (yield_now c t k).0
+unfolding yield_now leave_in_band restamp
 yield-gives c t k = either 1 k (in_band_stalled c k) _ _ (gives-none 1 k k refl) (record { least = omega arith; most = omega arith })
 
 spawn-gives : (ram entry value cpu : ℕ) (k : Parts) → Gives 1 k (spawn ram entry value cpu k).0

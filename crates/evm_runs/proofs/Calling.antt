@@ -5,7 +5,7 @@ use Rattle.std.proofs.lemmas.Bool.Decides.{nat_tests}
 use Rattle.evm_exec.specs.Registers.{register_of}
 use Rattle.evm_exec.specs.declared.hart.Hart.{Hart}
 use Rattle.evm_lines.specs.declared.TheConstants.{LINES}
-use Rattle.evm_model.specs.Calls.{call_of, refused, in_band_stalled, last_bytes, exit, putc, yield, is_bad_entry, add_task, spawn, stall, wait_line, set_line, demote, perform, answered, finish_call, call_on, call_known, call_of_hart, call}
+use Rattle.evm_model.specs.Calls.{call_of, refused, in_band_stalled, last_bytes, exit, putc, yield_now, is_bad_entry, add_task, spawn, stall, wait_line, set_line, demote, perform, answered, finish_call, call_on, call_known, call_of_hart, call}
 use Rattle.evm_model.specs.Harts.{A0, A7, argument, advance, spawned_hart}
 use Rattle.evm_model.specs.Pipes.{set_stall}
 use Rattle.evm_model.specs.Settle.{is_oob}
@@ -83,8 +83,8 @@ puts byte c t k = record {
   typed = inr (byte % 256, refl);
 }
 
-yields : (c t : ℕ) (k : Parts) → Acts c t k (yield c t k).0
-unfolding yield
+yields : (c t : ℕ) (k : Parts) → Acts c t k (yield_now c t k).0
+unfolding yield_now
 yields c t k = either c t k (in_band_stalled c k) _ _ (λ e. acts_none c t k) (λ e. leaves c t k k (frame_none c (Some t) k) (still_none k))
 
 room_for : (k : Parts) → nat_le TASK_LIMIT (length k.tasks) ≡ false → length k.tasks < TASK_LIMIT

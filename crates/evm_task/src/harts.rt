@@ -1,5 +1,6 @@
-ghost use Rattle.std.specs.Prelude.{◌≡◌, ◌∷◌, [], slice_get, option_copied};
-ghost use Rattle.evm_model.specs.Harts.{set_register, set_pc, advance, answer};
+ghost use Rattle.std.specs.Prelude.{◌≡◌, ◌<◌, ◌∷◌, ◌++◌, [], length, slice_get, option_copied};
+ghost use Rattle.evm_model.specs.Harts.{A0, set_register, set_pc, advance, answer, spawned_hart};
+ghost use Rattle.evm_task.specs.Asks.{Asks};
 ghost use Rattle.evm_model.specs.Lists.{change};
 
 use arrayvec::ArrayVec;
@@ -7,6 +8,19 @@ use evm_exec::Hart;
 use evm_isa::Register;
 use evm_model::TASK_LIMIT;
 use std::marker::Model;
+
+/// What a task asks of a kernel at an ECALL.
+#[derive(Clone, Copy, Debug)]
+pub struct Asked {
+    /// a7: the number of the call.
+    pub number: u64,
+    /// a0.
+    pub first: u64,
+    /// a1.
+    pub second: u64,
+    /// a2.
+    pub third: u64,
+}
 
 /// The registers and pc of each task, in the order of their numbers.
 #[derive(Debug, Drop)]
@@ -38,6 +52,31 @@ impl Harts {
         ensures { option_copied result ≡ slice_get self.now t }
     {
         self.harts.as_slice().get(t as usize)
+    }
+
+    /// One more, the last: all registers are 0 but a0, and the pc is this.
+    pub fn push_spawned(&mut self, entry: u64, value: u64)
+        requires { length self.old < TASK_LIMIT }
+        ensures { self.new ≡ self.old ++ spawned_hart entry value ∷ [] }
+    {
+        let mut regs = [0; 32];
+        regs[10] = value;
+        self.harts.push(Hart { regs, pc: entry });
+    }
+
+    /// What a call asks: the number in a7, and the first three arguments.
+    pub fn asked(&self, t: u8) -> Option<Asked>
+        ensures { Asks result (slice_get self.now t) }
+    {
+        match self.harts.as_slice().get(t as usize) {
+            None => None,
+            Some(hart) => Some(Asked {
+                number: hart.regs[17],
+                first: hart.regs[10],
+                second: hart.regs[11],
+                third: hart.regs[12],
+            }),
+        }
     }
 
     /// A register has another value.
@@ -84,6 +123,15 @@ impl Harts {
         if let Some(hart) = self.harts.get_mut(t as usize) {
             hart.set_register(register, value);
             hart.pc = pc;
+        }
+    }
+
+    /// a0 has another value.
+    pub fn set_a0(&mut self, t: u8, value: u64)
+        ensures { self.new ≡ change (set_register A0 value) self.old t }
+    {
+        if let Some(a0) = Register::new(10) {
+            self.set_register(t, a0, value);
         }
     }
 

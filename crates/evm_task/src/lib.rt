@@ -5,5 +5,5 @@
 mod harts;
 mod tasks;
 
-pub use harts::Harts;
+pub use harts::{Asked, Harts};
 pub use tasks::Tasks;

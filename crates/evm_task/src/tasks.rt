@@ -58,6 +58,23 @@ impl Tasks {
         }
     }
 
+    /// A task has another stamp.
+    pub fn set_stamp(&mut self, t: u8, stamp: u64)
+        ensures { self.new ≡ change (λ task. record task { stamp = stamp }) self.old t }
+    {
+        if let Some(task) = self.tasks.get_mut(t as usize) {
+            task.stamp = stamp;
+        }
+    }
+
+    /// One task more, the last.
+    pub fn push(&mut self, task: Task)
+        requires { length self.old < TASK_LIMIT }
+        ensures { self.new ≡ self.old ++ task ∷ [] }
+    {
+        self.tasks.push(task);
+    }
+
     /// Whether there is such a task and it is ready out-of-band.
     pub fn is_oob(&self, task: Option<u8>) -> bool
         ensures { result ≡ is_oob task self.now }

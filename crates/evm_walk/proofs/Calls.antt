@@ -4,7 +4,7 @@ use Rattle.std.specs.Prelude.{slice_get, is_none, nat_lt, nat_le, ◌==◌, if�
 use Rattle.evm_exec.specs.Registers.{register_of}
 use Rattle.evm_exec.specs.declared.hart.Hart.{Hart}
 use Rattle.evm_lines.specs.declared.TheConstants.{LINES}
-use Rattle.evm_model.specs.Calls.{call_of, refused, in_band_stalled, exit, putc, yield, is_bad_entry, add_task, spawn, stall, wait_line, set_line, demote, perform, answered, finish_call, call_on, call_known, call_of_hart, call}
+use Rattle.evm_model.specs.Calls.{call_of, refused, in_band_stalled, exit, putc, yield_now, is_bad_entry, add_task, spawn, stall, wait_line, set_line, demote, perform, answered, finish_call, call_on, call_known, call_of_hart, call}
 use Rattle.evm_model.specs.Harts.{A7, argument}
 use Rattle.evm_model.specs.Pipes.{set_stall}
 use Rattle.evm_model.specs.Settle.{is_oob}
@@ -45,8 +45,8 @@ puts : (byte c : ℕ) (k : Parts) → Takes c 1 0 k (putc byte k).0
 unfolding putc
 puts byte c k = takes_quiet c 1 k _ (record { pipes = refl; processors = refl; ticks = refl; harts_count = omega arith; tasks_count = omega arith })
 
-yields : (c t : ℕ) (k : Parts) → Takes c 1 0 k (yield c t k).0
-unfolding yield
+yields : (c t : ℕ) (k : Parts) → Takes c 1 0 k (yield_now c t k).0
+unfolding yield_now
 yields c t k = either c k (in_band_stalled c k) _ _ (takes_none c 1 0 k) (restamp_then_leave c t k k (takes_none c 1 0 k))
 
 spawns : (c ram entry value cpu : ℕ) (k : Parts) → Takes c 1 0 k (spawn ram entry value cpu k).0

@@ -9,6 +9,7 @@ invariant-playing l = record {
   rest : play_in_band_lines l.c l.left l.parts ≡ play_in_band_lines l.c l.fn.lines l.fn.parts;
   few : length l.left ≤ 32;
   room : PipesUpTo (2 ^ 62 + 64 + (32 - length l.left)) l.parts.pipes;
+  stamps : l.parts.stamps + 64 * length l.left ≤ 2 ^ 61 + 2048;
 }
 
 abbrev pub decreases-playing : goal.decreases-playing

@@ -1,0 +1,14 @@
+ghost use Rattle.std.specs.Prelude.{◌≡◌};
+ghost use Rattle.evm_model.specs.Calls.{putc};
+
+use evm_model::Outcome;
+use evm_parts::Parts;
+
+/// Call 1: the low byte goes to the console; answers 0.
+#[tactic(auto, unfolding(evm_model::specs::Calls::putc))]
+pub fn putc(parts: &mut Parts, byte: u64) -> Outcome
+    ensures { (parts.new, result) ≡ putc byte parts.old }
+{
+    parts.console.push((byte % 256) as u8);
+    Outcome::Answers(0)
+}

@@ -1,0 +1,59 @@
+ghost use Rattle.std.specs.Prelude.{◌≡◌, ◌∷◌, ◌++◌, [], IfOk, length, slice_get};
+ghost use Rattle.evm_model.specs.Calls.{last_bytes};
+
+use circular_buffer::HeapCircularBuffer;
+use evm_model::CONSOLE_LIMIT;
+use std::alloc::{AllocError, Global};
+use std::marker::Model;
+
+/// The last bytes that were put to the console. The room for all is taken at once.
+#[derive(Debug, Drop)]
+pub struct Console {
+    bytes: HeapCircularBuffer<u8>,
+}
+
+impl Model for Console {
+    ghost use Rattle.std.specs.Prelude.{ℕ, List, ◌≡◌};
+    ghost use Rattle.evm_model.specs.declared.limits.TheConstants.{CONSOLE_LIMIT};
+
+    ghost Value = { List ℕ };
+
+    ghost invariant = { λ c. c.bytes.capacity ≡ CONSOLE_LIMIT };
+
+    ghost view = { λ c. c.bytes.items };
+}
+
+impl Console {
+    /// An empty console.
+    ///
+    /// # Errors
+    ///
+    /// Where the allocation of its room failed.
+    pub fn new(alloc: Global) -> Result<Console, AllocError>
+        ensures { IfOk result (λ console. console ≡ []) }
+    {
+        let bytes = HeapCircularBuffer::with_capacity(alloc, CONSOLE_LIMIT)?;
+        Ok(Console { bytes })
+    }
+
+    /// One byte more; where there is no room the first one goes.
+    pub fn push(&mut self, byte: u8)
+        ensures { self.new ≡ last_bytes (self.old ++ byte ∷ []) }
+    {
+        let _first = self.bytes.push_back(byte);
+    }
+
+    /// How many bytes there are, 4,096 at the most.
+    pub fn len(&self) -> usize
+        ensures { result ≡ length self.now }
+    {
+        self.bytes.len()
+    }
+
+    /// A byte, the first at 0.
+    pub fn get(&self, i: usize) -> Option<u8>
+        ensures { result ≡ slice_get self.now i }
+    {
+        self.bytes.get(i).copied()
+    }
+}

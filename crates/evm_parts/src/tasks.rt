@@ -1,0 +1,143 @@
+//! What rows do to one task.
+
+ghost use Rattle.std.specs.Prelude.{◌≡◌, ◌<◌, ◌≤◌, ◌+◌, ◌^◌, false, slice_get, Option, length};
+ghost use Rattle.evm_model.specs.Calls.{in_band_stalled, add_task};
+ghost use Rattle.evm_model.specs.State.{new_task};
+ghost use Rattle.evm_model.specs.Tasks.{restamp, set_state, leave_in_band, end_task, wake_in_band, wake_waiter, wake_below, awaits};
+
+use crate::parts::Parts;
+use evm_model::{Class, Mode, Stage, TASK_LIMIT, Task, TaskState, Wait};
+
+// An unattached in-band task.
+fn new_task(cpu: u8, stamp: u64) -> Task
+    ensures { result ≡ new_task cpu stamp }
+{
+    Task {
+        cpu,
+        class: Class::Unattached,
+        priority: 0,
+        slice: 0,
+        mode: Mode {
+            stage_switches: false,
+            lock_mistakes: false,
+        },
+        stamp,
+        deadline: 0,
+        state: TaskState::InReady,
+    }
+}
+
+impl Parts {
+    /// Gives a task a fresh stamp.
+    #[tactic(auto, unfolding(evm_model::specs::Tasks::restamp))]
+    pub fn restamp(&mut self, t: u8)
+        requires room { self.old.stamps < 2 ^ 63 }
+        ensures row { self.new ≡ restamp t self.old }
+        ensures stamps { self.new.stamps ≡ self.old.stamps + 1 }
+    {
+        let stamp = self.stamps;
+        self.tasks.set_stamp(t, stamp);
+        self.stamps = stamp + 1;
+    }
+
+    /// A task has another state.
+    #[tactic(auto, unfolding(evm_model::specs::Tasks::set_state))]
+    pub fn set_state(&mut self, t: u8, state: TaskState)
+        ensures row { self.new ≡ set_state t state self.old }
+        ensures stamps { self.new.stamps ≡ self.old.stamps }
+    {
+        self.tasks.set_state(t, state);
+    }
+
+    /// A processor has no in-band current task.
+    #[tactic(auto, unfolding(evm_model::specs::Tasks::leave_in_band))]
+    pub fn leave_in_band(&mut self, c: u8)
+        ensures row { self.new ≡ leave_in_band c self.old }
+        ensures stamps { self.new.stamps ≡ self.old.stamps }
+    {
+        self.set_in_band_task(c, None);
+    }
+
+    /// A task ends: in-band isn't stalled on its processor afterwards, and it is in-band current no more.
+    #[tactic(auto, unfolding(evm_model::specs::Tasks::end_task))]
+    pub fn end_task(&mut self, c: u8, t: u8, state: TaskState)
+        ensures row { self.new ≡ end_task c t state self.old }
+        ensures stamps { self.new.stamps ≡ self.old.stamps }
+    {
+        self.set_stall(c, Stage::InBand, false);
+        self.leave_in_band(c);
+        self.set_state(t, state);
+    }
+
+    /// Whether the in-band stage of a processor is stalled.
+    pub fn is_in_band_stalled(&self, c: u8) -> bool
+        ensures { result ≡ in_band_stalled c self.now }
+    {
+        match self.pipe(c) {
+            None => false,
+            Some(pipe) => pipe.log(Stage::InBand).stalled,
+        }
+    }
+
+    /// One task more: unattached, ready in-band, its registers 0 but for a0.
+    #[tactic(auto, unfolding(evm_model::specs::Calls::add_task))]
+    pub fn add_task(&mut self, entry: u64, value: u64, cpu: u8)
+        requires stamps { self.old.stamps < 2 ^ 63 }
+        requires harts { length self.old.harts < TASK_LIMIT }
+        requires tasks { length self.old.tasks < TASK_LIMIT }
+        ensures { self.new ≡ add_task entry value cpu self.old }
+    {
+        let stamp = self.stamps;
+        self.harts.push_spawned(entry, value);
+        self.tasks.push(new_task(cpu, stamp));
+        self.stamps = stamp + 1;
+    }
+
+    // A task that waited in-band is ready there: its call is answered.
+    #[tactic(auto, unfolding(evm_model::specs::Tasks::wake_in_band))]
+    fn wake_in_band(&mut self, t: u8, value: u64)
+        requires room { self.old.stamps < 2 ^ 63 }
+        ensures row { self.new ≡ wake_in_band t value self.old }
+        ensures stamps { self.new.stamps ≤ self.old.stamps + 1 }
+    {
+        self.harts.set_a0(t, value);
+        self.set_state(t, TaskState::InReady);
+        self.restamp(t);
+    }
+
+    // Whether a task waits on a processor for a line.
+    fn awaits(&self, c: u8, line: u8, t: u8) -> bool
+        ensures { result ≡ awaits c line (slice_get self.now.tasks t) }
+    {
+        let Some(task) = self.tasks.get(t) else {
+            return false;
+        };
+        match task.state {
+            TaskState::Waits(Wait::Line(l)) => l == line && task.cpu == c,
+            _ => false,
+        }
+    }
+
+    // Wakes a task that waits on a processor for a line.
+    fn wake_waiter(&mut self, c: u8, line: u8, t: u8)
+        requires room { self.old.stamps < 2 ^ 63 }
+        ensures row { self.new ≡ wake_waiter c line t self.old }
+        ensures stamps { self.new.stamps ≤ self.old.stamps + 1 }
+    {
+        if self.awaits(c, line, t) {
+            self.wake_in_band(t, 0);
+        }
+    }
+
+    /// Wakes the tasks that wait on a processor for a line, by number.
+    #[tactic(auto, using(crate::proofs::Wakes::wakes))]
+    pub fn wake_waiters(&mut self, c: u8, line: u8)
+        requires room { self.old.stamps ≤ 2 ^ 62 }
+        ensures row { self.new ≡ wake_below c line (length self.old.tasks) self.old }
+        ensures stamps { self.new.stamps ≤ self.old.stamps + 64 }
+    {
+        'waking: for t in 0..self.tasks.count() {
+            self.wake_waiter(c, line, t);
+        }
+    }
+}
