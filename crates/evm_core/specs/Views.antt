@@ -1,8 +1,10 @@
 -- What is asked of a machine.
-use Rattle.std.specs.Prelude.{ℕ, Option, Some, None, slice_get}
-use Rattle.evm_model.specs.Pipes.{Pipe}
+use Rattle.std.specs.Prelude.{ℕ, List, Option, Some, None, slice_get}
+use Rattle.evm_model.specs.Pipes.{Pipe, log_of}
 use Rattle.evm_model.specs.State.{Parts}
 use Rattle.evm_model.specs.declared.counts.Counts.{Counts}
+use Rattle.evm_model.specs.declared.stage.Stage.{Stage}
+use Rattle.evm_model.specs.declared.stage.StageLog.{StageLog}
 
 -- the counts of line l, where there are a pipe and such a line
 abbrev pub counts_of : Option Pipe → ℕ → Option Counts
@@ -12,3 +14,13 @@ counts_of (Some pipe) l = slice_get pipe.counts l
 -- the counts of line l of processor c
 abbrev pub counts_at : ℕ → ℕ → Parts → Option Counts
 counts_at c l k = counts_of (slice_get k.pipes c) l
+
+-- the log of a stage, where there is a pipe
+abbrev pub log_in : Stage → Option Pipe → Option StageLog
+log_in stage None = None
+log_in stage (Some pipe) = Some (log_of stage pipe)
+
+-- the lines on the wire, where there is a pipe
+abbrev pub wire_of : Option Pipe → Option (List ℕ)
+wire_of None = None
+wire_of (Some pipe) = Some pipe.wire

@@ -11,8 +11,8 @@ use Rattle.evm_text.proofs.Options.{bind_some, guard_some}
 use Rattle.evm_text.proofs.Parts.{reads_decimal_then, reads_decimal_last, reads_u8_then, reads_u8_last, reads_hexadecimal_then}
 use Rattle.evm_text.proofs.RoundTrips.{reads_words}
 use Rattle.evm_model.specs.declared.event.Event.TheVariants.{Step, Tick, Raise, Bell, Stop, Go, StepI, SetReg, SetPc, Poke, Break, Unbreak}
-use Rattle.evm_journal.specs.declared.event_line.EventLine.{EventLine}
-use Rattle.evm_journal.specs.declared.event_line.EventLine.TheVariants as events
+use Rattle.evm_history.specs.declared.event_line.EventLine.{EventLine}
+use Rattle.evm_history.specs.declared.event_line.EventLine.TheVariants as events
 use Rattle.evm_journal.specs.EventLine.{event_line_text, HasEventLine}
 use Rattle.evm_journal.specs.EventLineReading.{keyword, or_else, event_line_at}
 use Rattle.evm_journal.proofs.Forms.{keyword_some, or_some}

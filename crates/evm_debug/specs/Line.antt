@@ -2,7 +2,7 @@
 use Rattle.std.specs.Prelude.{◌≡◌, ℕ, ◌<◌, ◌^◌, Bool, true, List, [], ◌∷◌, ◌==◌, codes}
 use Rattle.evm_text.specs.Written.{decimal, hexadecimal, spaced}
 use Rattle.evm_journal.specs.EventLine.{event_line_text, HasEventLine}
-use Rattle.evm_journal.specs.declared.event_line.EventLine.TheVariants as events
+use Rattle.evm_history.specs.declared.event_line.EventLine.TheVariants as events
 use Rattle.evm_debug.specs.declared.line.View.{View}
 use Rattle.evm_debug.specs.declared.line.View.TheVariants.{Regs, Mem, Stages, Tasks, Counts, Journal}
 use Rattle.evm_debug.specs.declared.line.Line.{Line}

@@ -3,8 +3,8 @@ use Rattle.std.specs.Prelude.{◌≡◌, ◌↔◌, ℕ, List, length, Option, S
 use Rattle.evm_text.specs.Reading.{◌>>=◌, word_at}
 use Rattle.evm_text.specs.Fields.{decimal_then, decimal_last, u8_then, u8_last, hexadecimal_then}
 use Rattle.evm_journal.specs.EventLineReading.{keyword, or_else, event_line_at}
-use Rattle.evm_journal.specs.declared.event_line.EventLine.{EventLine}
-use Rattle.evm_journal.specs.declared.event_line.EventLine.TheVariants as events
+use Rattle.evm_history.specs.declared.event_line.EventLine.{EventLine}
+use Rattle.evm_history.specs.declared.event_line.EventLine.TheVariants as events
 use Rattle.evm_debug.specs.declared.line.View.{View}
 use Rattle.evm_debug.specs.declared.line.View.TheVariants.{Regs, Mem, Stages, Tasks, Counts, Journal}
 use Rattle.evm_debug.specs.declared.line.Line.{Line}

@@ -89,7 +89,7 @@ pub(crate) fn push_regs(
     };
     match machine.hart(t) {
         None => out.push_str("none\n"),
-        Some(hart) => push_current(out, t, &task, hart),
+        Some(hart) => push_current(out, t, &task, &hart),
     }
 }
 
@@ -112,7 +112,7 @@ fn push_numbered_task(out: &mut String, t: u8, machine: &Machine) -> Result<(), 
     };
     match machine.hart(t) {
         None => Ok(()),
-        Some(hart) => push_task(out, t, &task, hart),
+        Some(hart) => push_task(out, t, &task, &hart),
     }
 }
 

@@ -1,5 +1,6 @@
 pub mod Cuts
 pub mod Endings
+pub mod Histories
 pub mod Known
 pub mod Replays
 pub mod Runs
