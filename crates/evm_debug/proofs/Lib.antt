@@ -1,3 +1,4 @@
 pub mod Lines
 pub mod RegisterLines
 pub mod Below
+pub mod Pairs

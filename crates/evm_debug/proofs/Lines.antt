@@ -18,7 +18,7 @@ use Rattle.evm_journal.specs.EventLineReading.{keyword, or_else, event_line_at}
 use Rattle.evm_journal.proofs.Forms.{keyword_some, or_some}
 use Rattle.evm_journal.proofs.Lines.{reads_event_lines}
 use Rattle.evm_debug.specs.declared.line.View.{View}
-use Rattle.evm_debug.specs.declared.line.View.TheVariants.{Regs, Mem, Stages, Tasks, Counts, Journal}
+use Rattle.evm_debug.specs.declared.line.View.TheVariants.{Regs, Mem, Stages, Tasks, Counts, Journal, Console}
 use Rattle.evm_debug.specs.declared.line.Line.{Line}
 use Rattle.evm_debug.specs.declared.line.Line.TheVariants.{Blank, Boot, Steps, One, Look}
 use Rattle.evm_debug.specs.Line.{view_text, HasViewLine, boot_text, is_blank, IsSpelled}
@@ -113,6 +113,12 @@ journal_takes view rest read =
     let none = nil_from_length rest (eqb-true (length rest) 0 g.0) in
     subst (IsViewOf (codes "journal") rest) (same_Some Journal view g.1) (ap (λ (t : List ℕ). codes "journal" ++ t) none, tt)
 
+console_takes : (view : View) (rest : List ℕ) → cond (eqb (length rest) 0) (Some Console) None ≡ Some view → IsViewOf (codes "console") rest view
+console_takes view rest read =
+    let g = guard_some (eqb (length rest) 0) (Some Console) view read in
+    let none = nil_from_length rest (eqb-true (length rest) 0 g.0) in
+    subst (IsViewOf (codes "console") rest) (same_Some Console view g.1) (ap (λ (t : List ℕ). codes "console" ++ t) none, tt)
+
 -- ---- a view
 
 by_word : (word bytes : List ℕ) (form : List ℕ → Option View) (other : Option View) (view : View) → ((rest : List ℕ) → form rest ≡ Some view → IsViewOf word rest view) → (other ≡ Some view → IsViewLine bytes view)
@@ -135,7 +141,8 @@ view_takes bytes view =
     (by_word (codes "tasks") bytes _ _ view (tasks_takes view)
     (by_word (codes "counts ") bytes _ _ view (counts_takes view)
     (by_word (codes "journal") bytes _ _ view (journal_takes view)
-    (nothing bytes view))))))
+    (by_word (codes "console") bytes _ _ view (console_takes view)
+    (nothing bytes view)))))))
 
 -- ---- a line
 
@@ -171,6 +178,7 @@ view_again (Stages cpu) has = let e = (reads_u8_last cpu (decimal cpu)).1 (refl,
 view_again Tasks has = refl
 view_again (Counts cpu line) has = let e = counts_again cpu line has.0 has.1 in rw e refl
 view_again Journal has = refl
+view_again Console has = refl
 
 -- no line of events begins as another line of a script does
 events_again : (line : EventLine) → HasEventLine line → line_at (event_line_text line) ≡ (event_line_at (event_line_text line) >>= λ x. Some (script_line x))

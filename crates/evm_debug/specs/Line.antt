@@ -4,7 +4,7 @@ use Rattle.evm_text.specs.Written.{decimal, hexadecimal, spaced}
 use Rattle.evm_journal.specs.EventLine.{event_line_text, HasEventLine}
 use Rattle.evm_history.specs.declared.event_line.EventLine.TheVariants as events
 use Rattle.evm_debug.specs.declared.line.View.{View}
-use Rattle.evm_debug.specs.declared.line.View.TheVariants.{Regs, Mem, Stages, Tasks, Counts, Journal}
+use Rattle.evm_debug.specs.declared.line.View.TheVariants.{Regs, Mem, Stages, Tasks, Counts, Journal, Console}
 use Rattle.evm_debug.specs.declared.line.Line.{Line}
 use Rattle.evm_debug.specs.declared.line.Line.TheVariants.{Blank, Boot, Steps, One, Look}
 
@@ -15,6 +15,7 @@ view_text (Stages cpu) = spaced (codes "stages" ∷ decimal cpu ∷ [])
 view_text Tasks = codes "tasks"
 view_text (Counts cpu line) = spaced (codes "counts" ∷ decimal cpu ∷ decimal line ∷ [])
 view_text Journal = codes "journal"
+view_text Console = codes "console"
 
 -- a line has a processor or a line below 256, an address and a count below 2 ^ 64
 abbrev pub HasViewLine : View → Type 0
@@ -24,6 +25,7 @@ HasViewLine (Stages cpu) = cpu < 256
 HasViewLine Tasks = Unit {0}
 HasViewLine (Counts cpu line) = (cpu < 256) × (line < 256)
 HasViewLine Journal = Unit {0}
+HasViewLine Console = Unit {0}
 
 abbrev pub boot_text : ℕ → ℕ → ℕ → List ℕ
 boot_text cpus ram capacity = spaced (codes "boot" ∷ decimal cpus ∷ decimal ram ∷ decimal capacity ∷ [])

@@ -5,7 +5,7 @@ use Rattle.evm_ram.specs.Ram.{bytes_at}
 use Rattle.evm_ram.specs.declared.refusal.Refusal.{Refusal}
 use Rattle.evm_ram.specs.declared.refusal.Refusal.TheVariants.{NoSuchCpu, NoSuchLine, BadAddress}
 use Rattle.evm_debug.specs.declared.line.View.{View}
-use Rattle.evm_debug.specs.declared.line.View.TheVariants.{Regs, Mem, Stages, Tasks, Counts as CountsView, Journal}
+use Rattle.evm_debug.specs.declared.line.View.TheVariants.{Regs, Mem, Stages, Tasks, Counts as CountsView, Journal, Console}
 use Rattle.evm_journal.specs.Journal.{journal_text}
 use Rattle.evm_debug.specs.declared.look.ViewRefusal.{ViewRefusal}
 use Rattle.evm_debug.specs.declared.look.ViewRefusal.TheVariants.{Refused, NoMemory}
@@ -175,6 +175,7 @@ shown (Stages c) s = stages_of c (slice_get s.board.parts.processors c) (slice_g
 shown Tasks s = Ok (tasks_text s.board.parts)
 shown (CountsView c l) s = counts_of (slice_get s.board.parts.pipes c) l
 shown Journal s = Ok (journal_text s.boot s.journal)
+shown Console s = Ok (pairs s.board.parts.console ++ codes "\n")
 
 -- what the code answers is what is shown, unless memory runs out
 abbrev pub ViewFails : ViewRefusal → Result (List ℕ) Refusal → Type 0

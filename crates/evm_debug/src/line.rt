@@ -15,6 +15,8 @@ pub enum View {
     Counts(u8, u8),
     /// `journal`: the journal's text.
     Journal,
+    /// `console`: the bytes that were put to the console, the last 4,096 of them.
+    Console,
 }
 
 /// A line of a script.

@@ -69,9 +69,16 @@ fn view_at(bytes: &[u8]) -> Option<View>
     if let Some(rest) = word_at(b"counts ", bytes) {
         return counts_at(rest);
     }
-    let rest = word_at(b"journal", bytes)?;
+    if let Some(rest) = word_at(b"journal", bytes) {
+        return if rest.is_empty() {
+            Some(View::Journal)
+        } else {
+            None
+        };
+    }
+    let rest = word_at(b"console", bytes)?;
     if rest.is_empty() {
-        Some(View::Journal)
+        Some(View::Console)
     } else {
         None
     }

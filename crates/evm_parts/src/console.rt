@@ -1,4 +1,4 @@
-ghost use Rattle.std.specs.Prelude.{◌≡◌, ◌∷◌, ◌++◌, [], IfOk, length, slice_get};
+ghost use Rattle.std.specs.Prelude.{◌≡◌, ◌∷◌, ◌++◌, [], IfOk};
 ghost use Rattle.evm_model.specs.Calls.{last_bytes};
 
 use circular_buffer::HeapCircularBuffer;
@@ -43,17 +43,10 @@ impl Console {
         let _first = self.bytes.push_back(byte);
     }
 
-    /// How many bytes there are, 4,096 at the most.
-    pub fn len(&self) -> usize
-        ensures { result ≡ length self.now }
+    /// What was put there, in two parts, the older one first.
+    pub fn parts(&self) -> (&[u8], &[u8])
+        ensures { result.0.now ++ result.1.now ≡ self.now }
     {
-        self.bytes.len()
-    }
-
-    /// A byte, the first at 0.
-    pub fn get(&self, i: usize) -> Option<u8>
-        ensures { result ≡ slice_get self.now i }
-    {
-        self.bytes.get(i).copied()
+        self.bytes.as_slices()
     }
 }
