@@ -146,7 +146,8 @@ pub fn a_command_changes_one_place()
     ensures sets_a_breakpoint { (old new : State) (answer : Answer) (address : ℕ) → apply old (Event.Break address) ≡ Result.Ok (new, answer) →
         (new.board ≡ record old.board { breakpoints = new.board.breakpoints })
         × (is_set new.board.breakpoints address ≡ true)
-        × ((other : ℕ) → other ≢ address → is_set new.board.breakpoints other ≡ is_set old.board.breakpoints other) }
+        × ((other : ℕ) → other ≢ address → is_set new.board.breakpoints other ≡ is_set old.board.breakpoints other)
+        × (is_set old.board.breakpoints address ≡ true → new.board ≡ old.board) }
     ensures takes_a_breakpoint { (old new : State) (answer : Answer) (address : ℕ) → apply old (Event.Unbreak address) ≡ Result.Ok (new, answer) →
         (new.board ≡ record old.board { breakpoints = new.board.breakpoints })
         × (is_set new.board.breakpoints address ≡ false)
@@ -209,7 +210,8 @@ pub fn a_step_keeps_to_its_processor()
 
 /// The best task of a processor is one that is ready out-of-band there, of no lesser rank than any other such, and of
 /// one rank of no greater stamp; there is none only where no task is ready out-of-band there. Where no two members of a
-/// set have one stamp, the first is the only one before which no other goes.
+/// set have one stamp, the first is the only one before which no other goes; the first of any set, as of the tasks that are
+/// ready in-band, is such a member, and there is none only where the set is empty.
 pub fn the_best_task_is_first()
     ensures best { (c t : ℕ) (tasks : List Task) → best c tasks ≡ Option.Some t →
         (task : Task) × ((slice_get tasks t ≡ Option.Some task) × (task.cpu ≡ c) × (task.state ≡ TaskState.OobReady)
@@ -218,6 +220,10 @@ pub fn the_best_task_is_first()
         × (own_rank other.class other.priority ≡ own_rank task.class task.priority → task.stamp ≤ other.stamp))) }
     ensures none_ready { (c t : ℕ) (tasks : List Task) (task : Task) → best c tasks ≡ Option.None →
         slice_get tasks t ≡ Option.Some task → task.cpu ≡ c → task.state ≢ TaskState.OobReady }
+    ensures found { (member : ℕ → Bool) (rank stamp : ℕ → ℕ) (count t : ℕ) → first member rank stamp count ≡ Option.Some t →
+        (t < count) × (member t ≡ true) × ((u : ℕ) → u < count → member u ≡ true → goes_before rank stamp u t ≡ false) }
+    ensures none_found { (member : ℕ → Bool) (rank stamp : ℕ → ℕ) (count t : ℕ) → first member rank stamp count ≡ Option.None →
+        t < count → member t ≡ false }
     ensures only { (member : ℕ → Bool) (rank stamp : ℕ → ℕ) (count t : ℕ) →
         ((u v : ℕ) → u < count → v < count → member u ≡ true → member v ≡ true → stamp u ≡ stamp v → u ≡ v) →
         t < count → member t ≡ true → ((u : ℕ) → u < count → member u ≡ true → goes_before rank stamp u t ≡ false) →

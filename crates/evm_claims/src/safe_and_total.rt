@@ -122,5 +122,5 @@ pub fn the_clock_is_its_ticks()
     ensures few_loaded { (byte : ℕ → ℕ) (entry : ℕ) (boot : Boot) (events : List Event) → bad_boot boot ≡ false →
         (replay (start_loaded byte entry boot) events).board.parts.ticks < 2 ^ 29 }
 {
-    evm_runs::counts_fit();
+    evm_runs::counts_fit(); // the fields ticks and few_ticks
 }

@@ -30,7 +30,7 @@ returns-clause-pokes c old new answer address bytes e =
 
 pub returns-clause-sets_a_breakpoint : goal.returns-clause-sets_a_breakpoint
 returns-clause-sets_a_breakpoint c old new answer address e =
-    let b = (c.events_change_only.ensures old new (Break address) answer e).board in (b.rest, b.here, b.others)
+    let b = (c.events_change_only.ensures old new (Break address) answer e).board in (b.rest, b.here, b.others, b.already)
 
 pub returns-clause-takes_a_breakpoint : goal.returns-clause-takes_a_breakpoint
 returns-clause-takes_a_breakpoint c old new answer address e =
