@@ -2,9 +2,11 @@ use super::*;
 use std::test::Fail;
 
 mod faults;
+mod lines;
 mod vectors;
 
 use faults::FAULTS;
+use lines::{ADDRESSES, BYTES, LINES, NOPS, PAIRS};
 use vectors::{DATA, DATA_AT, SOURCE, TEXT_AT, TEXT_NUMBERS, WORDS};
 
 #[test]
@@ -77,5 +79,61 @@ fn labels_and_data(rt: HostRuntime) -> Result<(), Fail> {
     }
     let empty = assemble(rt.alloc(), "")?;
     assert_eq!(rt; empty.bytes().len(), 0);
+    Ok(())
+}
+
+// Comments, blanks, line ends and labels change nothing of what a line says.
+#[test]
+fn a_line_is_a_nop(rt: HostRuntime) -> Result<(), Fail> {
+    for source in NOPS.iter() {
+        let program = assemble(rt.alloc(), *source)?;
+        assert_eq!(rt; program.bytes(), [0x13, 0, 0, 0].as_slice(), "in {source}");
+    }
+    Ok(())
+}
+
+// Of two faults of a line the one of the lesser number is told.
+#[test]
+fn the_least_of_two_faults_is_told(rt: HostRuntime) {
+    for (source, kind) in PAIRS.iter() {
+        let fault = assemble(rt.alloc(), *source).err();
+        let wanted = Some(AsmFault {
+            line: 1,
+            kind: *kind,
+        });
+        assert_eq!(rt; fault, wanted, "in {source}");
+    }
+}
+
+// Of two lines that have faults the lesser is told, and each line counts the bytes that its labels stand behind.
+#[test]
+fn the_least_line_is_told(rt: HostRuntime) {
+    for (source, line, kind) in LINES.iter() {
+        let fault = assemble(rt.alloc(), *source).err();
+        let wanted = Some(AsmFault {
+            line: *line,
+            kind: *kind,
+        });
+        assert_eq!(rt; fault, wanted, "in {source}");
+    }
+}
+
+// Numbers, zeros and alignments stand in their section byte by byte.
+#[test]
+fn bytes_stand_in_their_sections(rt: HostRuntime) -> Result<(), Fail> {
+    for (source, bytes) in BYTES.iter() {
+        let program = assemble(rt.alloc(), *source)?;
+        assert_eq!(rt; program.bytes(), *bytes, "in {source}");
+    }
+    Ok(())
+}
+
+// A label stands where its line begins, in the section in force before the line.
+#[test]
+fn labels_have_their_addresses(rt: HostRuntime) -> Result<(), Fail> {
+    for (source, name, address) in ADDRESSES.iter() {
+        let program = assemble(rt.alloc(), *source)?;
+        assert_eq!(rt; program.address_of(*name), *address, "in {source}");
+    }
     Ok(())
 }

@@ -18,4 +18,6 @@ pub use parts::{
     an_image_stands_in_ram, the_best_task_is_first, the_least_refusal_is_told,
     words_and_instructions_are_inverse,
 };
-pub use safe_and_total::{a_machine_is_as_it_was_booted, counts_never_wrap, sizes_never_change};
+pub use safe_and_total::{
+    a_machine_is_as_it_was_booted, counts_never_wrap, sizes_never_change, the_clock_is_its_ticks,
+};

@@ -40,7 +40,8 @@ pub fn no_line_is_lost_on_its_wire()
 }
 
 /// After every boot, with an image loaded or none, and every list of events, each line came to each stage of each
-/// processor as often as it merged in the stage's log, is there still, or was played.
+/// processor as often as it merged in the stage's log, is there still, or was played; likewise from any first state
+/// whose journal is empty and whose pipes are idle.
 pub fn no_line_is_lost_in_a_stage()
     ensures out_of_band { (boot : Boot) (events : List Event) (c l : ℕ) (pipe : Pipe) (n : Counts) →
         slice_get (replay (start boot) events).board.parts.pipes c ≡ Option.Some pipe →
@@ -58,13 +59,22 @@ pub fn no_line_is_lost_in_a_stage()
         slice_get (replay (start_loaded byte entry boot) events).board.parts.pipes c ≡ Option.Some pipe →
         slice_get pipe.counts l ≡ Option.Some n →
         n.inband.arrivals ≡ n.inband.merged + (if has_line pipe.inband.lines l then 1 else 0) + n.inband.played }
+    ensures out_of_band_fresh { (s : State) (events : List Event) (c l : ℕ) (pipe : Pipe) (n : Counts) → s.journal ≡ [] →
+        ((d : ℕ) (idle : Pipe) → slice_get s.board.parts.pipes d ≡ Option.Some idle → idle ≡ idle_pipe) →
+        slice_get (replay s events).board.parts.pipes c ≡ Option.Some pipe → slice_get pipe.counts l ≡ Option.Some n →
+        n.oob.arrivals ≡ n.oob.merged + (if has_line pipe.oob.lines l then 1 else 0) + n.oob.played }
+    ensures in_band_fresh { (s : State) (events : List Event) (c l : ℕ) (pipe : Pipe) (n : Counts) → s.journal ≡ [] →
+        ((d : ℕ) (idle : Pipe) → slice_get s.board.parts.pipes d ≡ Option.Some idle → idle ≡ idle_pipe) →
+        slice_get (replay s events).board.parts.pipes c ≡ Option.Some pipe → slice_get pipe.counts l ≡ Option.Some n →
+        n.inband.arrivals ≡ n.inband.merged + (if has_line pipe.inband.lines l then 1 else 0) + n.inband.played }
 {
     evm_runs::balance_holds(); // the fields oob and inband
 }
 
 /// After every boot, with an image loaded or none, and every list of events, what a processor received came to a
 /// stage: lines 0 and 1 to the out-of-band one, from which the timer's goes on in-band each time it is played and the
-/// request to reschedule never does, and each other line to one of the two.
+/// request to reschedule never does, and each other line to one of the two; likewise from any first state whose journal
+/// is empty and whose pipes are idle.
 pub fn what_is_received_comes_to_a_stage()
     ensures timer { (boot : Boot) (events : List Event) (c : ℕ) (pipe : Pipe) (n : Counts) →
         slice_get (replay (start boot) events).board.parts.pipes c ≡ Option.Some pipe →
@@ -86,12 +96,25 @@ pub fn what_is_received_comes_to_a_stage()
     ensures others_loaded { (byte : ℕ → ℕ) (entry : ℕ) (boot : Boot) (events : List Event) (c l : ℕ) (pipe : Pipe) (n : Counts) → 2 ≤ l →
         slice_get (replay (start_loaded byte entry boot) events).board.parts.pipes c ≡ Option.Some pipe →
         slice_get pipe.counts l ≡ Option.Some n → n.received ≡ n.oob.arrivals + n.inband.arrivals }
+    ensures timer_fresh { (s : State) (events : List Event) (c : ℕ) (pipe : Pipe) (n : Counts) → s.journal ≡ [] →
+        ((d : ℕ) (idle : Pipe) → slice_get s.board.parts.pipes d ≡ Option.Some idle → idle ≡ idle_pipe) →
+        slice_get (replay s events).board.parts.pipes c ≡ Option.Some pipe → slice_get pipe.counts 0 ≡ Option.Some n →
+        (n.received ≡ n.oob.arrivals) × (n.inband.arrivals ≡ n.oob.played) }
+    ensures request_fresh { (s : State) (events : List Event) (c : ℕ) (pipe : Pipe) (n : Counts) → s.journal ≡ [] →
+        ((d : ℕ) (idle : Pipe) → slice_get s.board.parts.pipes d ≡ Option.Some idle → idle ≡ idle_pipe) →
+        slice_get (replay s events).board.parts.pipes c ≡ Option.Some pipe → slice_get pipe.counts 1 ≡ Option.Some n →
+        (n.received ≡ n.oob.arrivals) × (n.inband.arrivals ≡ 0) }
+    ensures others_fresh { (s : State) (events : List Event) (c l : ℕ) (pipe : Pipe) (n : Counts) → 2 ≤ l → s.journal ≡ [] →
+        ((d : ℕ) (idle : Pipe) → slice_get s.board.parts.pipes d ≡ Option.Some idle → idle ≡ idle_pipe) →
+        slice_get (replay s events).board.parts.pipes c ≡ Option.Some pipe → slice_get pipe.counts l ≡ Option.Some n →
+        n.received ≡ n.oob.arrivals + n.inband.arrivals }
 {
     evm_runs::balance_holds(); // the field routes
 }
 
 /// After every boot, with an image loaded or none, and every list of events, each line of a processor but line 1,
-/// which processors raise on one another, was raised by as many events as the journal has that raise it there.
+/// which processors raise on one another, was raised by as many events as the journal has that raise it there;
+/// likewise from any first state whose journal is empty and whose pipes are idle.
 pub fn raised_as_often_as_the_journal_says()
     ensures booted { (boot : Boot) (events : List Event) (c l : ℕ) (pipe : Pipe) (n : Counts) → l ≢ 1 →
         slice_get (replay (start boot) events).board.parts.pipes c ≡ Option.Some pipe →
@@ -101,6 +124,10 @@ pub fn raised_as_often_as_the_journal_says()
         slice_get (replay (start_loaded byte entry boot) events).board.parts.pipes c ≡ Option.Some pipe →
         slice_get pipe.counts l ≡ Option.Some n →
         n.raised ≡ count_by (raises c l) (replay (start_loaded byte entry boot) events).journal }
+    ensures fresh { (s : State) (events : List Event) (c l : ℕ) (pipe : Pipe) (n : Counts) → l ≢ 1 → s.journal ≡ [] →
+        ((d : ℕ) (idle : Pipe) → slice_get s.board.parts.pipes d ≡ Option.Some idle → idle ≡ idle_pipe) →
+        slice_get (replay s events).board.parts.pipes c ≡ Option.Some pipe → slice_get pipe.counts l ≡ Option.Some n →
+        n.raised ≡ count_by (raises c l) (replay s events).journal }
 {
     evm_runs::balance_holds(); // the field raised
 }

@@ -119,7 +119,8 @@ pub fn a_raise_puts_its_line_on_the_wire()
 
 /// Each accepted command of the debugger changes the one place that it names, and nothing else but the journal: the
 /// bits of a processor, the registers or the pc of its current task, bytes of RAM, or one breakpoint. After a single step
-/// the processor is stopped, and the clock, the breakpoints and the other processors are as before.
+/// the processor is stopped; the clock, the breakpoints, the other processors and every task but its own current one are
+/// as before, so is RAM unless the instruction at that task's pc is a store, and other pipes have at most line 1 raised.
 pub fn a_command_changes_one_place()
     ensures stops { (old new : State) (answer : Answer) (c : ℕ) → apply old (Event.Stop c) ≡ Result.Ok (new, answer) →
         (new.board ≡ record old.board { parts = record old.board.parts { processors = new.board.parts.processors } })
@@ -145,7 +146,8 @@ pub fn a_command_changes_one_place()
     ensures sets_a_breakpoint { (old new : State) (answer : Answer) (address : ℕ) → apply old (Event.Break address) ≡ Result.Ok (new, answer) →
         (new.board ≡ record old.board { breakpoints = new.board.breakpoints })
         × (is_set new.board.breakpoints address ≡ true)
-        × ((other : ℕ) → other ≢ address → is_set new.board.breakpoints other ≡ is_set old.board.breakpoints other) }
+        × ((other : ℕ) → other ≢ address → is_set new.board.breakpoints other ≡ is_set old.board.breakpoints other)
+        × (is_set old.board.breakpoints address ≡ true → new.board ≡ old.board) }
     ensures takes_a_breakpoint { (old new : State) (answer : Answer) (address : ℕ) → apply old (Event.Unbreak address) ≡ Result.Ok (new, answer) →
         (new.board ≡ record old.board { breakpoints = new.board.breakpoints })
         × (is_set new.board.breakpoints address ≡ false)
@@ -154,7 +156,21 @@ pub fn a_command_changes_one_place()
         slice_get new.board.parts.processors c ≡ Option.Some p → (p.stopped ≡ true) × (p.skip ≡ false) }
     ensures steps_alone { (old new : State) (answer : Answer) (c d : ℕ) → apply old (Event.StepI c) ≡ Result.Ok (new, answer) → d ≢ c →
         (slice_get new.board.parts.processors d ≡ slice_get old.board.parts.processors d)
-        × (new.board.parts.ticks ≡ old.board.parts.ticks) × (new.board.breakpoints ≡ old.board.breakpoints) }
+        × (new.board.parts.ticks ≡ old.board.parts.ticks) × (new.board.parts.stamps ≡ old.board.parts.stamps)
+        × (new.board.breakpoints ≡ old.board.breakpoints) }
+    ensures steps_pipes { (old new : State) (answer : Answer) (c d : ℕ) → apply old (Event.StepI c) ≡ Result.Ok (new, answer) → d ≢ c →
+        (slice_get new.board.parts.pipes d ≡ slice_get old.board.parts.pipes d)
+        ⊎ (slice_get new.board.parts.pipes d ≡ option_map (raise 1) (slice_get old.board.parts.pipes d)) }
+    ensures steps_tasks { (old new : State) (answer : Answer) (c t : ℕ) → apply old (Event.StepI c) ≡ Result.Ok (new, answer) →
+        current c old.board.parts ≢ Option.Some t →
+        (slice_get new.board.parts.harts t ≡ slice_get old.board.parts.harts t)
+        × (slice_get new.board.parts.tasks t ≡ slice_get old.board.parts.tasks t) }
+    ensures steps_ram { (old new : State) (answer : Answer) (c : ℕ) → apply old (Event.StepI c) ≡ Result.Ok (new, answer) →
+        ((task word address value : ℕ) (hart : Hart) (inst : Inst) (width : Width) →
+        current c old.board.parts ≡ Option.Some task → slice_get old.board.parts.harts task ≡ Option.Some hart →
+        fetch hart.pc old.board.memory ≡ Option.Some word → decoded word ≡ Option.Some inst →
+        does inst hart.regs hart.pc ≢ Effect.Store width address value) →
+        new.board.memory.ram ≡ old.board.memory.ram }
 {
     evm_runs::events_change_only();
 }
@@ -194,7 +210,8 @@ pub fn a_step_keeps_to_its_processor()
 
 /// The best task of a processor is one that is ready out-of-band there, of no lesser rank than any other such, and of
 /// one rank of no greater stamp; there is none only where no task is ready out-of-band there. Where no two members of a
-/// set have one stamp, the first is the only one before which no other goes.
+/// set have one stamp, the first is the only one before which no other goes; the first of any set, as of the tasks that are
+/// ready in-band, is such a member, and there is none only where the set is empty.
 pub fn the_best_task_is_first()
     ensures best { (c t : ℕ) (tasks : List Task) → best c tasks ≡ Option.Some t →
         (task : Task) × ((slice_get tasks t ≡ Option.Some task) × (task.cpu ≡ c) × (task.state ≡ TaskState.OobReady)
@@ -203,6 +220,10 @@ pub fn the_best_task_is_first()
         × (own_rank other.class other.priority ≡ own_rank task.class task.priority → task.stamp ≤ other.stamp))) }
     ensures none_ready { (c t : ℕ) (tasks : List Task) (task : Task) → best c tasks ≡ Option.None →
         slice_get tasks t ≡ Option.Some task → task.cpu ≡ c → task.state ≢ TaskState.OobReady }
+    ensures found { (member : ℕ → Bool) (rank stamp : ℕ → ℕ) (count t : ℕ) → first member rank stamp count ≡ Option.Some t →
+        (t < count) × (member t ≡ true) × ((u : ℕ) → u < count → member u ≡ true → goes_before rank stamp u t ≡ false) }
+    ensures none_found { (member : ℕ → Bool) (rank stamp : ℕ → ℕ) (count t : ℕ) → first member rank stamp count ≡ Option.None →
+        t < count → member t ≡ false }
     ensures only { (member : ℕ → Bool) (rank stamp : ℕ → ℕ) (count t : ℕ) →
         ((u v : ℕ) → u < count → v < count → member u ≡ true → member v ≡ true → stamp u ≡ stamp v → u ≡ v) →
         t < count → member t ≡ true → ((u : ℕ) → u < count → member u ≡ true → goes_before rank stamp u t ≡ false) →

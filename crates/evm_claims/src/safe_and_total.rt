@@ -1,6 +1,7 @@
 //! Nothing overflows and nothing grows: sizes stay, and counts are far below what their types hold.
-ghost use Rattle.std.specs.Prelude.{◌≡◌, ◌<◌, ◌≤◌, ◌^◌, ℕ, List, Option, false, slice_get, length};
+ghost use Rattle.std.specs.Prelude.{◌≡◌, ◌<◌, ◌≤◌, ◌^◌, ℕ, List, Option, false, slice_get, length, count_by};
 ghost use Rattle.evm_exec.specs.declared.hart.Hart.{Hart};
+ghost use Rattle.evm_model.specs.Good.{is_tick};
 ghost use Rattle.evm_model.specs.Load.{start_loaded};
 ghost use Rattle.evm_model.specs.Pipes.{Pipe};
 ghost use Rattle.evm_model.specs.Replay.{bad_boot, start, replay};
@@ -10,7 +11,7 @@ ghost use Rattle.evm_model.specs.declared.counts.Counts.{Counts};
 ghost use Rattle.evm_model.specs.declared.event.Event.{Event};
 
 /// Whatever happens to a machine, it has as many processors, pipes, bytes of RAM, tasks and harts afterwards, and
-/// the boot numbers that it had.
+/// the boot numbers that it had; where each task had 32 registers and an x0 of zero, each has so still.
 pub fn sizes_never_change()
     ensures boot { (s : State) (events : List Event) → (replay s events).boot ≡ s.boot }
     ensures processors { (s : State) (events : List Event) →
@@ -23,6 +24,11 @@ pub fn sizes_never_change()
         length (replay s events).board.parts.tasks ≡ length s.board.parts.tasks }
     ensures harts { (s : State) (events : List Event) →
         length (replay s events).board.parts.harts ≡ length s.board.parts.harts }
+    ensures registers { (s : State) (events : List Event) →
+        ((t : ℕ) (hart : Hart) → slice_get s.board.parts.harts t ≡ Option.Some hart →
+        (length hart.regs ≡ 32) × (slice_get hart.regs 0 ≡ Option.Some 0)) →
+        (t : ℕ) (hart : Hart) → slice_get (replay s events).board.parts.harts t ≡ Option.Some hart →
+        (length hart.regs ≡ 32) × (slice_get hart.regs 0 ≡ Option.Some 0) }
 {
     evm_runs::sizes_stay();
 }
@@ -43,6 +49,15 @@ pub fn a_machine_is_as_it_was_booted()
     ensures x0 { (boot : Boot) (events : List Event) (t : ℕ) (hart : Hart) →
         slice_get (replay (start boot) events).board.parts.harts t ≡ Option.Some hart →
         slice_get hart.regs 0 ≡ Option.Some 0 }
+    ensures processors_loaded { (byte : ℕ → ℕ) (entry : ℕ) (boot : Boot) (events : List Event) →
+        length (replay (start_loaded byte entry boot) events).board.parts.processors ≡ boot.cpus }
+    ensures pipes_loaded { (byte : ℕ → ℕ) (entry : ℕ) (boot : Boot) (events : List Event) →
+        length (replay (start_loaded byte entry boot) events).board.parts.pipes ≡ boot.cpus }
+    ensures tasks_loaded { (byte : ℕ → ℕ) (entry : ℕ) (boot : Boot) (events : List Event) →
+        length (replay (start_loaded byte entry boot) events).board.parts.tasks ≡ 1 }
+    ensures registers_loaded { (byte : ℕ → ℕ) (entry : ℕ) (boot : Boot) (events : List Event) (t : ℕ) (hart : Hart) →
+        slice_get (replay (start_loaded byte entry boot) events).board.parts.harts t ≡ Option.Some hart →
+        length hart.regs ≡ 32 }
     ensures ram_loaded { (byte : ℕ → ℕ) (entry : ℕ) (boot : Boot) (events : List Event) →
         length (replay (start_loaded byte entry boot) events).board.memory.ram ≡ boot.ram }
     ensures x0_loaded { (byte : ℕ → ℕ) (entry : ℕ) (boot : Boot) (events : List Event) (t : ℕ) (hart : Hart) →
@@ -68,17 +83,44 @@ pub fn counts_never_wrap()
         × (n.inband.arrivals < 2 ^ 29) × (n.inband.merged < 2 ^ 29) × (n.inband.played < 2 ^ 29) }
     ensures lines { (boot : Boot) (events : List Event) → bad_boot boot ≡ false → (c : ℕ) (pipe : Pipe) →
         slice_get (replay (start boot) events).board.parts.pipes c ≡ Option.Some pipe → length pipe.counts ≡ 32 }
-    ensures raised_loaded { (byte : ℕ → ℕ) (entry : ℕ) (boot : Boot) (events : List Event) → bad_boot boot ≡ false →
+    ensures journal_loaded { (byte : ℕ → ℕ) (entry : ℕ) (boot : Boot) (events : List Event) → bad_boot boot ≡ false →
+        length (replay (start_loaded byte entry boot) events).journal ≤ boot.capacity }
+    ensures counts_loaded { (byte : ℕ → ℕ) (entry : ℕ) (boot : Boot) (events : List Event) → bad_boot boot ≡ false →
         (c l : ℕ) (pipe : Pipe) (n : Counts) →
         slice_get (replay (start_loaded byte entry boot) events).board.parts.pipes c ≡ Option.Some pipe →
-        slice_get pipe.counts l ≡ Option.Some n → n.raised < 2 ^ 29 }
+        slice_get pipe.counts l ≡ Option.Some n →
+        (n.raised < 2 ^ 29) × (n.merged < 2 ^ 29) × (n.received < 2 ^ 29)
+        × (n.oob.arrivals < 2 ^ 29) × (n.oob.merged < 2 ^ 29) × (n.oob.played < 2 ^ 29)
+        × (n.inband.arrivals < 2 ^ 29) × (n.inband.merged < 2 ^ 29) × (n.inband.played < 2 ^ 29) }
     // whatever is in RAM and in the tasks at first, where nothing was counted yet
-    ensures raised_fresh { (boot : Boot) (board : Board) (events : List Event) → bad_boot boot ≡ false →
+    ensures counts_fresh { (boot : Boot) (board : Board) (events : List Event) → bad_boot boot ≡ false →
         board.parts.pipes ≡ (start boot).board.parts.pipes → board.parts.ticks ≡ 0 →
         (c l : ℕ) (pipe : Pipe) (n : Counts) →
         slice_get (replay (record (start boot) { board = board }) events).board.parts.pipes c ≡ Option.Some pipe →
-        slice_get pipe.counts l ≡ Option.Some n → n.raised < 2 ^ 29 }
+        slice_get pipe.counts l ≡ Option.Some n →
+        (n.raised < 2 ^ 29) × (n.merged < 2 ^ 29) × (n.received < 2 ^ 29)
+        × (n.oob.arrivals < 2 ^ 29) × (n.oob.merged < 2 ^ 29) × (n.oob.played < 2 ^ 29)
+        × (n.inband.arrivals < 2 ^ 29) × (n.inband.merged < 2 ^ 29) × (n.inband.played < 2 ^ 29) }
 {
     evm_runs::counts_fit();
     evm_runs::stays_as_booted();
+}
+
+/// After every boot whose numbers are inside their limits, with an image loaded or none, and every list of events the
+/// clock has ticked as often as the journal has a Tick, which is less than 2^29 times; likewise whatever is in RAM and in
+/// the tasks at first, where nothing was counted yet.
+pub fn the_clock_is_its_ticks()
+    ensures booted { (boot : Boot) (events : List Event) → bad_boot boot ≡ false →
+        (replay (start boot) events).board.parts.ticks ≡ count_by is_tick (replay (start boot) events).journal }
+    ensures loaded { (byte : ℕ → ℕ) (entry : ℕ) (boot : Boot) (events : List Event) → bad_boot boot ≡ false →
+        (replay (start_loaded byte entry boot) events).board.parts.ticks
+        ≡ count_by is_tick (replay (start_loaded byte entry boot) events).journal }
+    ensures fresh { (boot : Boot) (board : Board) (events : List Event) → bad_boot boot ≡ false →
+        board.parts.pipes ≡ (start boot).board.parts.pipes → board.parts.ticks ≡ 0 →
+        (replay (record (start boot) { board = board }) events).board.parts.ticks
+        ≡ count_by is_tick (replay (record (start boot) { board = board }) events).journal }
+    ensures few_loaded { (byte : ℕ → ℕ) (entry : ℕ) (boot : Boot) (events : List Event) → bad_boot boot ≡ false →
+        (replay (start_loaded byte entry boot) events).board.parts.ticks < 2 ^ 29 }
+{
+    evm_runs::counts_fit(); // the fields ticks and few_ticks
 }

@@ -1,3 +1,4 @@
+pub mod Idle
 pub mod Lists
 pub mod Loads
 pub mod Nudges

@@ -16,3 +16,6 @@ mod step;
 pub use evm_model::{Answer, Boot, Event};
 pub use evm_ram::Refusal;
 pub use machine::Machine;
+
+#[cfg(test)]
+mod tests;

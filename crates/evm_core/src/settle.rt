@@ -195,3 +195,6 @@ pub(crate) fn settle_and_nudge(parts: &mut Parts, c: u8)
     settle(parts, c);
     nudge(parts, c);
 }
+
+#[cfg(test)]
+mod tests;

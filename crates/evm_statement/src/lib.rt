@@ -16,3 +16,6 @@ pub use labels::Labels;
 pub use operand::{first, name_in, starts_with_name};
 pub use spot::Spot;
 pub use statement::{Datum, Reading, Statement, statement_of, zero};
+
+#[cfg(test)]
+mod tests;

@@ -14,3 +14,6 @@ pub use names::mnemonic_named;
 pub use registers::register_named;
 pub use text::{after, before, behind_word, has, is_name_start, skip_blanks, word};
 pub use token::{is_sound, size, starts_with_digit};
+
+#[cfg(test)]
+mod tests;

@@ -1,6 +1,9 @@
-use Rattle.std.proofs.Common.{◌≡◌, Option, Some, None, true, false, ap, sym, ◌∙◌}
+use Rattle.std.proofs.Common.{◌≡◌, ℕ, Option, Some, None, true, false, inl, inr, slice_get, refl, ap, sym, ◌∙◌}
 use Rattle.std.specs.Prelude.{option_map}
-use Rattle.evm_model.specs.State.{Board}
+use Rattle.evm_model.specs.Memory.{fetch}
+use Rattle.evm_model.specs.Pipes.{raise}
+use Rattle.evm_model.specs.Settle.{current, current_of}
+use Rattle.evm_model.specs.State.{Board, Memory}
 use Rattle.evm_model.specs.declared.event.Event.TheVariants.{Stop, Go, StepI, SetReg, SetPc, Poke, Break, Unbreak}
 use Rattle.evm_model.specs.declared.processor.Processor.{Processor}
 use Rattle.evm_claims.proofs.parts.a_command_changes_one_place.Goals as goal
@@ -27,7 +30,7 @@ returns-clause-pokes c old new answer address bytes e =
 
 pub returns-clause-sets_a_breakpoint : goal.returns-clause-sets_a_breakpoint
 returns-clause-sets_a_breakpoint c old new answer address e =
-    let b = (c.events_change_only.ensures old new (Break address) answer e).board in (b.rest, b.here, b.others)
+    let b = (c.events_change_only.ensures old new (Break address) answer e).board in (b.rest, b.here, b.others, b.already)
 
 pub returns-clause-takes_a_breakpoint : goal.returns-clause-takes_a_breakpoint
 returns-clause-takes_a_breakpoint c old new answer address e =
@@ -50,5 +53,42 @@ returns-clause-steps_alone c old new answer p d e other =
     let b = (c.events_change_only.ensures old new (StepI p) answer e).board in (
       b.stops.processors.others d other ∙ b.steps.processors d other ∙ b.goes.processors.others d other,
       ap (λ (x : Board). x.parts.ticks) b.stops.rest ∙ b.steps.ticks ∙ ap (λ (x : Board). x.parts.ticks) b.goes.rest,
+      ap (λ (x : Board). x.parts.stamps) b.stops.rest ∙ b.steps.stamps ∙ ap (λ (x : Board). x.parts.stamps) b.goes.rest,
       ap (λ (x : Board). x.breakpoints) b.stops.rest ∙ b.steps.breakpoints ∙ ap (λ (x : Board). x.breakpoints) b.goes.rest,
     )
+
+-- a processor that goes runs what it ran
+runs_still : (o : Option Processor) → current_of (option_map (λ (q : Processor). record q { stopped = false; skip = true }) o) ≡ current_of o
+runs_still None = refl
+runs_still (Some q) = refl
+
+pub returns-clause-steps_pipes : goal.returns-clause-steps_pipes
+returns-clause-steps_pipes c old new answer p d e other =
+    let b = (c.events_change_only.ensures old new (StepI p) answer e).board in
+    let before = ap (λ (x : Board). slice_get x.parts.pipes d) b.goes.rest in
+    let after = ap (λ (x : Board). slice_get x.parts.pipes d) b.stops.rest in
+    elim (b.steps.pipes d other) [
+      | inl same ↦ inl (after ∙ same ∙ before)
+      | inr raised ↦ inr (after ∙ raised ∙ ap (option_map (raise 1)) before)
+    ]
+
+pub returns-clause-steps_tasks : goal.returns-clause-steps_tasks
+returns-clause-steps_tasks c old new answer p t e other =
+    let b = (c.events_change_only.ensures old new (StepI p) answer e).board in
+    let still : current p b.freed.parts ≡ current p old.board.parts = ap current_of b.goes.processors.here ∙ runs_still (slice_get old.board.parts.processors p) in
+    let mine : current p b.freed.parts ≡ Some t → ⊥ = λ m. other (sym still ∙ m) in (
+      ap (λ (x : Board). slice_get x.parts.harts t) b.stops.rest ∙ b.steps.harts t mine ∙ ap (λ (x : Board). slice_get x.parts.harts t) b.goes.rest,
+      ap (λ (x : Board). slice_get x.parts.tasks t) b.stops.rest ∙ b.steps.tasks t mine ∙ ap (λ (x : Board). slice_get x.parts.tasks t) b.goes.rest,
+    )
+
+pub returns-clause-steps_ram : goal.returns-clause-steps_ram
+returns-clause-steps_ram c old new answer p e never =
+    let b = (c.events_change_only.ensures old new (StepI p) answer e).board in
+    let still : current p b.freed.parts ≡ current p old.board.parts = ap current_of b.goes.processors.here ∙ runs_still (slice_get old.board.parts.processors p) in
+    elim b.steps.memory [
+      | inl same ↦ ap (λ (x : Board). x.memory.ram) b.stops.rest ∙ ap (λ (m : Memory). m.ram) same ∙ ap (λ (x : Board). x.memory.ram) b.goes.rest
+      | inr w ↦
+          let has = sym (ap (λ (x : Board). slice_get x.parts.harts w.task) b.goes.rest) ∙ w.has in
+          let fetched = sym (ap (λ (x : Board). fetch w.hart.pc x.memory) b.goes.rest) ∙ w.fetched in
+          absurd (never w.task w.word w.address w.value w.hart w.inst w.width (sym still ∙ w.runs) has fetched w.decodes w.stores)
+    ]

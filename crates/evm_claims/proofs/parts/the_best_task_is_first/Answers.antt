@@ -75,3 +75,10 @@ returns-clause-only c member rank stamp count t differ below is_member leads =
 
 pub returns-clause-none : goal.returns-clause-none
 returns-clause-none c member rank stamp count none = (c.finds_first.ensures member rank stamp count).finds_none none
+
+pub returns-clause-found : goal.returns-clause-found
+returns-clause-found c member rank stamp count t e =
+    let found = (c.finds_first.ensures member rank stamp count).found t e in (found.below, found.is_member, found.leads)
+
+pub returns-clause-none_found : goal.returns-clause-none_found
+returns-clause-none_found c member rank stamp count t e low = (c.finds_first.ensures member rank stamp count).none_found e t low

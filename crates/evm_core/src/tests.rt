@@ -1,0 +1,117 @@
+//! Each kind of event once, accepted and refused, against answers worked by hand. After boot no event takes memory:
+//! with every growth behind the boot's refused (`rt try --test --fail-alloc N`, N from 3 on) each answer stays.
+
+use crate::{Answer, Event, Machine, Refusal};
+use arrayvec::ArrayVec;
+use evm_model::POKE_LIMIT;
+use std::process::Abort;
+use std::test::Fail;
+
+// One instruction of each format, from RAM's first byte on (RISC-V Unprivileged ISA 20191213); zeros follow.
+const CODE: [u32; 16] = [
+    0x0050_0293, // addi x5, x0, 5
+    0x8000_0337, // lui x6, 0x80000
+    0x0000_0317, // auipc x6, 0
+    0x0022_9393, // slli x7, x5, 2
+    0x0052_83b3, // add x7, x5, x5
+    0x0052_83bb, // addw x7, x5, x5
+    0x0453_3023, // sd x5, 64(x6)
+    0x0403_3383, // ld x7, 64(x6)
+    0x0050_0463, // beq x0, x5, 8
+    0x0052_8263, // beq x5, x5, 4
+    0x0040_00ef, // jal x1, 4
+    0x0000_0317, // auipc x6, 0
+    0x0083_00e7, // jalr x1, 8(x6)
+    0x0ff0_000f, // fence
+    0x0000_0073, // ecall
+    0x0010_0073, // ebreak
+];
+
+const BASE: u64 = 0x8000_0000;
+
+fn push_word(bytes: &mut ArrayVec<u8, POKE_LIMIT>, word: u32) {
+    let [a, b, c, d] = word.to_le_bytes();
+    let _a = bytes.try_push(a);
+    let _b = bytes.try_push(b);
+    let _c = bytes.try_push(c);
+    let _d = bytes.try_push(d);
+}
+
+fn poke_of(words: &[u32]) -> Event {
+    let mut bytes = ArrayVec::new();
+    for word in words {
+        push_word(&mut bytes, *word);
+    }
+    Event::Poke(BASE, bytes)
+}
+
+fn answers(rt: &impl Abort, machine: &mut Machine, event: Event, wanted: Answer) {
+    assert_eq!(rt; machine.apply(event), Ok(wanted));
+}
+
+fn refuses(rt: &impl Abort, machine: &mut Machine, event: Event, wanted: Refusal) {
+    assert_eq!(rt; machine.apply(event), Err(wanted));
+}
+
+// The debugger's commands, up to the task's second instruction.
+fn commands(rt: &impl Abort, machine: &mut Machine) {
+    answers(rt, machine, poke_of(&CODE), Answer::Done);
+    answers(rt, machine, Event::Break(BASE), Answer::Done);
+    answers(rt, machine, Event::Step(0), Answer::Hit);
+    answers(rt, machine, Event::Step(0), Answer::Stopped);
+    answers(rt, machine, Event::Unbreak(BASE), Answer::Done);
+    answers(rt, machine, Event::StepI(0), Answer::Done);
+    answers(rt, machine, Event::SetReg(0, 5, 5), Answer::Done);
+    refuses(rt, machine, Event::SetReg(0, 0, 5), Refusal::BadRegister);
+    answers(rt, machine, Event::SetPc(0, BASE + 4), Answer::Done);
+    answers(rt, machine, Event::Go(0), Answer::Done);
+}
+
+// The instructions up to the one that stops its processor; then a word that is none, which ends the task.
+fn instructions(rt: &impl Abort, machine: &mut Machine) {
+    for _ in 1..CODE.len() {
+        answers(rt, machine, Event::Step(0), Answer::Ran(0));
+    }
+    answers(rt, machine, Event::Step(0), Answer::Stopped);
+    answers(rt, machine, Event::Go(0), Answer::Done);
+    answers(rt, machine, Event::Step(0), Answer::Ran(0));
+    answers(rt, machine, Event::Step(0), Answer::Idle);
+}
+
+// A tick, a raise and a bell that merge, and their receipts.
+fn interrupts(rt: &impl Abort, machine: &mut Machine) {
+    answers(rt, machine, Event::Tick, Answer::Done);
+    answers(rt, machine, Event::Raise(1, 5), Answer::Done);
+    answers(rt, machine, Event::Bell(1, 5), Answer::Done);
+    answers(rt, machine, Event::Step(0), Answer::Received(0));
+    answers(rt, machine, Event::Step(1), Answer::Received(0));
+    answers(rt, machine, Event::Step(1), Answer::Received(5));
+    answers(rt, machine, Event::Step(1), Answer::Idle);
+    answers(rt, machine, Event::Stop(1), Answer::Done);
+}
+
+// One event for each reason that an event of today can have, on a machine whose processor 1 is stopped without a task.
+fn refusals(rt: &impl Abort, machine: &mut Machine) {
+    refuses(rt, machine, Event::Step(2), Refusal::NoSuchCpu);
+    refuses(rt, machine, Event::Raise(0, 32), Refusal::NoSuchLine);
+    refuses(rt, machine, Event::Go(0), Refusal::NotStopped);
+    refuses(rt, machine, Event::SetReg(1, 5, 0), Refusal::NoTask);
+    refuses(rt, machine, Event::Break(BASE + 2), Refusal::BadAddress);
+    refuses(rt, machine, poke_of(&[]), Refusal::BadAddress);
+    refuses(rt, machine, Event::Unbreak(BASE), Refusal::NoBreakpoint);
+}
+
+#[test]
+fn each_kind_of_event(rt: HostRuntime) -> Result<(), Fail> {
+    let Ok(mut machine) = Machine::boot(rt.alloc(), 2, 65536, 37) else {
+        return Err(Fail::from("the boot was refused"));
+    };
+    commands(&rt, &mut machine);
+    instructions(&rt, &mut machine);
+    interrupts(&rt, &mut machine);
+    refusals(&rt, &mut machine);
+    answers(&rt, &mut machine, Event::Go(1), Answer::Done);
+    refuses(&rt, &mut machine, Event::Tick, Refusal::Full);
+    assert_eq!(rt; machine.room(), 0);
+    Ok(())
+}
