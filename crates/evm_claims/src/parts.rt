@@ -25,6 +25,7 @@ ghost use Rattle.evm_model.specs.declared.event.Event.{Event};
 ghost use Rattle.evm_model.specs.declared.processor.Processor.{Processor};
 ghost use Rattle.evm_model.specs.declared.task.Task.{Task};
 ghost use Rattle.evm_model.specs.declared.task.TaskState.{TaskState};
+ghost use Rattle.evm_model.specs.declared.task.Wait.{Wait};
 ghost use Rattle.evm_ram.specs.Ram.{poke_at, write_at};
 ghost use Rattle.evm_ram.specs.Refusal.{number_of};
 ghost use Rattle.evm_ram.specs.declared.refusal.Refusal.{Refusal};
@@ -156,15 +157,20 @@ pub fn a_command_changes_one_place()
         slice_get new.board.parts.processors c ≡ Option.Some p → (p.stopped ≡ true) × (p.skip ≡ false) }
     ensures steps_alone { (old new : State) (answer : Answer) (c d : ℕ) → apply old (Event.StepI c) ≡ Result.Ok (new, answer) → d ≢ c →
         (slice_get new.board.parts.processors d ≡ slice_get old.board.parts.processors d)
-        × (new.board.parts.ticks ≡ old.board.parts.ticks) × (new.board.parts.stamps ≡ old.board.parts.stamps)
+        × (new.board.parts.ticks ≡ old.board.parts.ticks) × (old.board.parts.stamps ≤ new.board.parts.stamps)
         × (new.board.breakpoints ≡ old.board.breakpoints) }
     ensures steps_pipes { (old new : State) (answer : Answer) (c d : ℕ) → apply old (Event.StepI c) ≡ Result.Ok (new, answer) → d ≢ c →
         (slice_get new.board.parts.pipes d ≡ slice_get old.board.parts.pipes d)
         ⊎ (slice_get new.board.parts.pipes d ≡ option_map (raise 1) (slice_get old.board.parts.pipes d)) }
-    ensures steps_tasks { (old new : State) (answer : Answer) (c t : ℕ) → apply old (Event.StepI c) ≡ Result.Ok (new, answer) →
+    ensures steps_tasks { (old new : State) (answer : Answer) (c t : ℕ) (task : Task) (hart : Hart) → apply old (Event.StepI c) ≡ Result.Ok (new, answer) →
         current c old.board.parts ≢ Option.Some t →
-        (slice_get new.board.parts.harts t ≡ slice_get old.board.parts.harts t)
-        × (slice_get new.board.parts.tasks t ≡ slice_get old.board.parts.tasks t) }
+        slice_get old.board.parts.tasks t ≡ Option.Some task → slice_get old.board.parts.harts t ≡ Option.Some hart →
+        ((slice_get new.board.parts.tasks t ≡ Option.Some task) × (slice_get new.board.parts.harts t ≡ Option.Some hart))
+        ⊎ ((line : ℕ) × ((stamp : ℕ) × ((task.state ≡ TaskState.Waits (Wait.Line line)) × (task.cpu ≡ c) × (old.board.parts.stamps ≤ stamp)
+        × (slice_get new.board.parts.tasks t ≡ Option.Some (record task { stamp = stamp; state = TaskState.InReady }))
+        × (slice_get new.board.parts.harts t ≡ Option.Some (record hart { regs = with_register hart.regs 10 0 }))))) }
+    ensures steps_add { (old new : State) (answer : Answer) (c : ℕ) → apply old (Event.StepI c) ≡ Result.Ok (new, answer) →
+        (length new.board.parts.tasks ≡ length old.board.parts.tasks) ⊎ (length new.board.parts.tasks ≡ length old.board.parts.tasks + 1) }
     ensures steps_ram { (old new : State) (answer : Answer) (c : ℕ) → apply old (Event.StepI c) ≡ Result.Ok (new, answer) →
         ((task word address value : ℕ) (hart : Hart) (inst : Inst) (width : Width) →
         current c old.board.parts ≡ Option.Some task → slice_get old.board.parts.harts task ≡ Option.Some hart →
@@ -175,22 +181,28 @@ pub fn a_command_changes_one_place()
     evm_runs::events_change_only();
 }
 
-/// An accepted Step of a processor leaves the clock, the breakpoints, the other processors and all tasks but its own
-/// current one as they are; on other pipes at most line 1 is raised; and RAM changes only where the instruction at
+/// An accepted Step of a processor leaves the clock, the breakpoints and the other processors as they are, and of the
+/// tasks all but its own current one and those that waited there for a line, which may wake: they are ready then, with
+/// a later stamp and an a0 of 0; there is one task more at the most; on other pipes at most line 1 is raised; and RAM changes only where the instruction at
 /// that task's pc is a store, which then has written its value at its address.
 pub fn a_step_keeps_to_its_processor()
     ensures clock { (old new : State) (answer : Answer) (c : ℕ) → apply old (Event.Step c) ≡ Result.Ok (new, answer) →
-        (new.board.parts.ticks ≡ old.board.parts.ticks) × (new.board.parts.stamps ≡ old.board.parts.stamps)
+        (new.board.parts.ticks ≡ old.board.parts.ticks) × (old.board.parts.stamps ≤ new.board.parts.stamps)
         × (new.board.breakpoints ≡ old.board.breakpoints) }
     ensures processors { (old new : State) (answer : Answer) (c d : ℕ) → apply old (Event.Step c) ≡ Result.Ok (new, answer) → d ≢ c →
         slice_get new.board.parts.processors d ≡ slice_get old.board.parts.processors d }
     ensures pipes { (old new : State) (answer : Answer) (c d : ℕ) → apply old (Event.Step c) ≡ Result.Ok (new, answer) → d ≢ c →
         (slice_get new.board.parts.pipes d ≡ slice_get old.board.parts.pipes d)
         ⊎ (slice_get new.board.parts.pipes d ≡ option_map (raise 1) (slice_get old.board.parts.pipes d)) }
-    ensures tasks { (old new : State) (answer : Answer) (c t : ℕ) → apply old (Event.Step c) ≡ Result.Ok (new, answer) →
+    ensures tasks { (old new : State) (answer : Answer) (c t : ℕ) (task : Task) (hart : Hart) → apply old (Event.Step c) ≡ Result.Ok (new, answer) →
         current c old.board.parts ≢ Option.Some t →
-        (slice_get new.board.parts.harts t ≡ slice_get old.board.parts.harts t)
-        × (slice_get new.board.parts.tasks t ≡ slice_get old.board.parts.tasks t) }
+        slice_get old.board.parts.tasks t ≡ Option.Some task → slice_get old.board.parts.harts t ≡ Option.Some hart →
+        ((slice_get new.board.parts.tasks t ≡ Option.Some task) × (slice_get new.board.parts.harts t ≡ Option.Some hart))
+        ⊎ ((line : ℕ) × ((stamp : ℕ) × ((task.state ≡ TaskState.Waits (Wait.Line line)) × (task.cpu ≡ c) × (old.board.parts.stamps ≤ stamp)
+        × (slice_get new.board.parts.tasks t ≡ Option.Some (record task { stamp = stamp; state = TaskState.InReady }))
+        × (slice_get new.board.parts.harts t ≡ Option.Some (record hart { regs = with_register hart.regs 10 0 }))))) }
+    ensures adds { (old new : State) (answer : Answer) (c : ℕ) → apply old (Event.Step c) ≡ Result.Ok (new, answer) →
+        (length new.board.parts.tasks ≡ length old.board.parts.tasks) ⊎ (length new.board.parts.tasks ≡ length old.board.parts.tasks + 1) }
     ensures ram { (old new : State) (answer : Answer) (c : ℕ) → apply old (Event.Step c) ≡ Result.Ok (new, answer) →
         ((task word address value : ℕ) (hart : Hart) (inst : Inst) (width : Width) →
         current c old.board.parts ≡ Option.Some task → slice_get old.board.parts.harts task ≡ Option.Some hart →

@@ -10,8 +10,9 @@ ghost use Rattle.evm_model.specs.declared.boot.Boot.{Boot};
 ghost use Rattle.evm_model.specs.declared.counts.Counts.{Counts};
 ghost use Rattle.evm_model.specs.declared.event.Event.{Event};
 
-/// Whatever happens to a machine, it has as many processors, pipes, bytes of RAM, tasks and harts afterwards, and
-/// the boot numbers that it had; where each task had 32 registers and an x0 of zero, each has so still.
+/// Whatever happens to a machine, it has as many processors, pipes and bytes of RAM afterwards, no fewer tasks and
+/// harts, and the boot numbers that it had; where there were 64 tasks at the most there are, and where each had a
+/// hart each has one; where each task had 32 registers and an x0 of zero, each has so still.
 pub fn sizes_never_change()
     ensures boot { (s : State) (events : List Event) → (replay s events).boot ≡ s.boot }
     ensures processors { (s : State) (events : List Event) →
@@ -21,9 +22,14 @@ pub fn sizes_never_change()
     ensures ram { (s : State) (events : List Event) →
         length (replay s events).board.memory.ram ≡ length s.board.memory.ram }
     ensures tasks { (s : State) (events : List Event) →
-        length (replay s events).board.parts.tasks ≡ length s.board.parts.tasks }
+        length s.board.parts.tasks ≤ length (replay s events).board.parts.tasks }
     ensures harts { (s : State) (events : List Event) →
-        length (replay s events).board.parts.harts ≡ length s.board.parts.harts }
+        length s.board.parts.harts ≤ length (replay s events).board.parts.harts }
+    ensures few_tasks { (s : State) (events : List Event) →
+        length s.board.parts.tasks ≤ 64 → length (replay s events).board.parts.tasks ≤ 64 }
+    ensures a_hart_each { (s : State) (events : List Event) →
+        length s.board.parts.harts ≡ length s.board.parts.tasks →
+        length (replay s events).board.parts.harts ≡ length (replay s events).board.parts.tasks }
     ensures registers { (s : State) (events : List Event) →
         ((t : ℕ) (hart : Hart) → slice_get s.board.parts.harts t ≡ Option.Some hart →
         (length hart.regs ≡ 32) × (slice_get hart.regs 0 ≡ Option.Some 0)) →
@@ -34,7 +40,7 @@ pub fn sizes_never_change()
 }
 
 /// After every boot, with an image loaded or none, and every list of events there are as many processors, pipes and
-/// bytes of RAM as the boot numbers say, and one task, whose 32 registers begin with an x0 of zero.
+/// bytes of RAM as the boot numbers say, and 1 to 64 tasks, whose 32 registers begin with an x0 of zero.
 pub fn a_machine_is_as_it_was_booted()
     ensures processors { (boot : Boot) (events : List Event) →
         length (replay (start boot) events).board.parts.processors ≡ boot.cpus }
@@ -43,7 +49,10 @@ pub fn a_machine_is_as_it_was_booted()
     ensures ram { (boot : Boot) (events : List Event) →
         length (replay (start boot) events).board.memory.ram ≡ boot.ram }
     ensures tasks { (boot : Boot) (events : List Event) →
-        length (replay (start boot) events).board.parts.tasks ≡ 1 }
+        (1 ≤ length (replay (start boot) events).board.parts.tasks)
+        × (length (replay (start boot) events).board.parts.tasks ≤ 64) }
+    ensures harts { (boot : Boot) (events : List Event) →
+        length (replay (start boot) events).board.parts.harts ≡ length (replay (start boot) events).board.parts.tasks }
     ensures registers { (boot : Boot) (events : List Event) (t : ℕ) (hart : Hart) →
         slice_get (replay (start boot) events).board.parts.harts t ≡ Option.Some hart → length hart.regs ≡ 32 }
     ensures x0 { (boot : Boot) (events : List Event) (t : ℕ) (hart : Hart) →
@@ -54,7 +63,8 @@ pub fn a_machine_is_as_it_was_booted()
     ensures pipes_loaded { (byte : ℕ → ℕ) (entry : ℕ) (boot : Boot) (events : List Event) →
         length (replay (start_loaded byte entry boot) events).board.parts.pipes ≡ boot.cpus }
     ensures tasks_loaded { (byte : ℕ → ℕ) (entry : ℕ) (boot : Boot) (events : List Event) →
-        length (replay (start_loaded byte entry boot) events).board.parts.tasks ≡ 1 }
+        (1 ≤ length (replay (start_loaded byte entry boot) events).board.parts.tasks)
+        × (length (replay (start_loaded byte entry boot) events).board.parts.tasks ≤ 64) }
     ensures registers_loaded { (byte : ℕ → ℕ) (entry : ℕ) (boot : Boot) (events : List Event) (t : ℕ) (hart : Hart) →
         slice_get (replay (start_loaded byte entry boot) events).board.parts.harts t ≡ Option.Some hart →
         length hart.regs ≡ 32 }

@@ -76,13 +76,13 @@ pub fn show(alloc: Global, machine: &Machine, view: &View) -> Result<String, Vie
     made(out, pushed)
 }
 
-#[tactic(auto, using(crate::proofs::Pairs::all_pairs))]
 fn push_console(out: &mut String, older: &[u8], newer: &[u8]) -> Result<(), AllocError>
     ensures { OnOk result (string_bytes out.new ≡ string_bytes out.old ++ (pairs (older.now ++ newer.now) ++ codes "\n")) }
 {
     push_pairs(out, older)?;
     push_pairs(out, newer)?;
-    out.push_str("\n")
+    out.push_str("\n")?;
+    Ok(())
 }
 
 fn push_bytes(out: &mut String, bytes: &[u8]) -> Result<(), AllocError>

@@ -1,4 +1,4 @@
-use Rattle.std.proofs.Common.{◌≡◌, ℕ, Option, Some, None, true, false, inl, inr, slice_get, refl, ap, sym, ◌∙◌}
+use Rattle.std.proofs.Common.{◌≡◌, ℕ, Option, Some, None, true, false, inl, inr, slice_get, length, refl, ap, sym, ◌∙◌, ◌+◌, arith}
 use Rattle.std.specs.Prelude.{option_map}
 use Rattle.evm_model.specs.Memory.{fetch}
 use Rattle.evm_model.specs.Pipes.{raise}
@@ -53,7 +53,7 @@ returns-clause-steps_alone c old new answer p d e other =
     let b = (c.events_change_only.ensures old new (StepI p) answer e).board in (
       b.stops.processors.others d other ∙ b.steps.processors d other ∙ b.goes.processors.others d other,
       ap (λ (x : Board). x.parts.ticks) b.stops.rest ∙ b.steps.ticks ∙ ap (λ (x : Board). x.parts.ticks) b.goes.rest,
-      ap (λ (x : Board). x.parts.stamps) b.stops.rest ∙ b.steps.stamps ∙ ap (λ (x : Board). x.parts.stamps) b.goes.rest,
+      (let after = ap (λ (x : Board). x.parts.stamps) b.stops.rest in let before = ap (λ (x : Board). x.parts.stamps) b.goes.rest in let more = b.steps.stamps in omega arith),
       ap (λ (x : Board). x.breakpoints) b.stops.rest ∙ b.steps.breakpoints ∙ ap (λ (x : Board). x.breakpoints) b.goes.rest,
     )
 
@@ -73,13 +73,33 @@ returns-clause-steps_pipes c old new answer p d e other =
     ]
 
 pub returns-clause-steps_tasks : goal.returns-clause-steps_tasks
-returns-clause-steps_tasks c old new answer p t e other =
+returns-clause-steps_tasks c old new answer p t task hart e other there at =
     let b = (c.events_change_only.ensures old new (StepI p) answer e).board in
     let still : current p b.freed.parts ≡ current p old.board.parts = ap current_of b.goes.processors.here ∙ runs_still (slice_get old.board.parts.processors p) in
-    let mine : current p b.freed.parts ≡ Some t → ⊥ = λ m. other (sym still ∙ m) in (
-      ap (λ (x : Board). slice_get x.parts.harts t) b.stops.rest ∙ b.steps.harts t mine ∙ ap (λ (x : Board). slice_get x.parts.harts t) b.goes.rest,
-      ap (λ (x : Board). slice_get x.parts.tasks t) b.stops.rest ∙ b.steps.tasks t mine ∙ ap (λ (x : Board). slice_get x.parts.tasks t) b.goes.rest,
-    )
+    let mine : current p b.freed.parts ≡ Some t → ⊥ = λ m. other (sym still ∙ m) in
+    let tasks = ap (λ (x : Board). slice_get x.parts.tasks t) b.stops.rest in
+    let harts = ap (λ (x : Board). slice_get x.parts.harts t) b.stops.rest in
+    let was = ap (λ (x : Board). slice_get x.parts.tasks t) b.goes.rest ∙ there in
+    let had = ap (λ (x : Board). slice_get x.parts.harts t) b.goes.rest ∙ at in
+    elim (b.steps.others t mine) [
+      | inl r ↦ inl (tasks ∙ r.task task was, harts ∙ r.hart hart had)
+      | inr w ↦
+          let two : Some w.task ≡ Some task = sym w.waited ∙ was in
+          let same : w.task ≡ task = cc in
+          let fresh = w.fresh in
+          let stamps = ap (λ (x : Board). x.parts.stamps) b.goes.rest in
+          inr (w.line, (w.stamp, (rw (← same) w.on, rw (← same) w.at_home, omega arith, tasks ∙ rw (← same) w.wakes, harts ∙ w.hart hart had)))
+    ]
+
+pub returns-clause-steps_add : goal.returns-clause-steps_add
+returns-clause-steps_add c old new answer p e =
+    let b = (c.events_change_only.ensures old new (StepI p) answer e).board in
+    let tasks = ap (λ (x : Board). length x.parts.tasks) b.stops.rest in
+    let was = ap (λ (x : Board). length x.parts.tasks) b.goes.rest in
+    elim b.steps.added [
+      | inl same ↦ inl (tasks ∙ same.0 ∙ was)
+      | inr a ↦ inr (tasks ∙ a.tasks ∙ ap (λ n. n + 1) was)
+    ]
 
 pub returns-clause-steps_ram : goal.returns-clause-steps_ram
 returns-clause-steps_ram c old new answer p e never =
