@@ -2,14 +2,14 @@
 //! reading with it.
 #![tactic(auto)]
 
-use evm_journal::read_journal;
+use evm_journal::read_history;
 use std::io;
 
 fn main(rt: HostRuntime) -> io::Result<()> {
     let text = io::read_to_string(rt.alloc(), rt.reader())?;
-    match read_journal(rt.alloc(), text.as_str()) {
-        Ok((_, events)) => {
-            let count = events.len();
+    match read_history(rt.alloc(), text.as_str()) {
+        Ok((_, history)) => {
+            let count = history.len();
             println!(rt; "events {count}")
         }
         Err(fault) => {
