@@ -1,6 +1,6 @@
 -- What each job asks of the system, one call after another, and the status that it ends with. What a call answered is known by that call
 -- alone, so these clauses fix which files are opened or created, in which order, and what is never asked for.
-use Rattle.std.specs.Prelude.{◌≡◌, ℕ, List, Option, Some, None, Result, Ok, Err}
+use Rattle.std.specs.Prelude.{◌≡◌, ℕ, List, Option, Some, None, Result, Ok, Err, codes}
 use Rattle.evm_streams.specs.declared.source.Reading.{Reading}
 use Rattle.evm_streams.specs.declared.source.ReadStop.{ReadStop}
 use Rattle.evm_streams.specs.declared.sink.Writing.{Writing}
@@ -25,6 +25,10 @@ module _ {S O C I W E : Type 0} where
   abbrev pub Behind : Result Contents ℕ → (Contents → World S O C I W E → World S O C I W E → ℕ → Type 0) → World S O C I W E → World S O C I W E → ℕ → Type 0
   Behind (Ok image) job w w' status = job image w w' status
   Behind (Err ended) job w w' status = (w' ≡ w) × (status ≡ ended)
+
+  -- Words that are no text end a run with status 2.
+  abbrev pub NotWords : (E → Writing → List ℕ → E → Type 0) → World S O C I W E → World S O C I W E → ℕ → Type 0
+  NotWords tells w w' status = AsksNothing w w' × ((w'.output ≡ w.output) × Tells tells (codes "evltool: a word of the command line is not UTF-8\n") w.errors w'.errors × (status ≡ 2))
 
   -- A source that can't be read ends a job, and nothing else is asked for; where memory was refused, the line `memory` is written.
   abbrev pub NotRead : (W → Writing → List ℕ → W → Type 0) → (E → Writing → List ℕ → E → Type 0) → ReadStop → World S O C I W E → World S O C I W E → ℕ → Type 0

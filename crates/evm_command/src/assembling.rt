@@ -1,19 +1,11 @@
 //! `asm`: the source of a file assembled into another.
 
-ghost use Rattle.evm_command.specs.Jobs.{NotRead, Creates, AssemblesFile};
+ghost use Rattle.evm_command.specs.Jobs.{Creates, AssemblesFile};
 
-use crate::saying::{ended, not_opened, unread};
+use crate::saying::{ended, not_opened, not_read};
 use crate::system::{System, World};
-use evm_serve::{ReadStop, assemble_to, read_utf8};
+use evm_serve::{assemble_to, read_utf8};
 use std::alloc::Global;
-
-// The end of a job whose source was not read.
-fn not_read<S: System>(stop: ReadStop, world: &mut World<S>) -> u8
-    ensures { NotRead S.Output.takes S.Errors.takes stop world.old world.new result }
-{
-    let ending = unread(stop, &mut world.output);
-    ended(&ending, &mut world.errors)
-}
 
 // Creates OUT, and assembles a source into it.
 fn assemble_source<S: System>(alloc: Global, source: &str, out: &str, world: &mut World<S>) -> u8

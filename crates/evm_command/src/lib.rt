@@ -2,10 +2,15 @@
 #![tactic(auto)]
 
 mod assembling;
+mod command;
+mod host;
 mod loading;
 mod replaying;
 mod running;
 mod saying;
 mod system;
+mod words;
 
+pub use command::answer;
+pub use host::{Host, run};
 pub use system::{System, World};

@@ -2,13 +2,18 @@
 
 ghost use Rattle.std.specs.Prelude.{◌≡◌, ◌++◌, codes};
 ghost use Rattle.evm_serve.specs.Serving.{Unread};
+ghost use Rattle.evm_command.specs.Jobs.{NotRead, NotWords};
 ghost use Rattle.evm_command.specs.Telling.{Tells, Ended, not_opened_text, not_read_text, not_written_text};
 
+use crate::system::{System, World};
 use evm_serve::{Ending, ReadFault, ReadStop};
 use evm_streams::{Sink, write_all};
 
 /// The status where a file can't be opened, created, read or written.
 pub(crate) const FAILED: u8 = 4;
+
+/// The status where the words are no command.
+pub(crate) const USAGE: u8 = 2;
 
 // Writes a sentence. Where it can't be told, the status has to do.
 fn tell<E: Sink>(text: &str, errors: &mut E)
@@ -67,8 +72,8 @@ pub(crate) fn ended<E: Sink>(ending: &Ending, errors: &mut E) -> u8
     ending.status()
 }
 
-/// How a job ends that has not read its input. Where an allocation failed, the line `memory` is written.
-pub(crate) fn unread<W: Sink>(stop: ReadStop, output: &mut W) -> Ending
+// How a job ends that has not read its input. Where an allocation failed, the line `memory` is written.
+fn unread<W: Sink>(stop: ReadStop, output: &mut W) -> Ending
     ensures { Unread W.takes stop output.old output.new result }
 {
     match stop {
@@ -78,4 +83,27 @@ pub(crate) fn unread<W: Sink>(stop: ReadStop, output: &mut W) -> Ending
             Err(fault) => Ending::WriteFailed(fault),
         },
     }
+}
+
+/// The status of a job that has not read its source.
+pub(crate) fn not_read<S: System>(stop: ReadStop, world: &mut World<S>) -> u8
+    ensures { NotRead S.Output.takes S.Errors.takes stop world.old world.new result }
+{
+    let ending = unread(stop, &mut world.output);
+    ended(&ending, &mut world.errors)
+}
+
+/// The status of a run to which memory is refused before it has a job.
+pub(crate) fn memory_refused<S: System>(world: &mut World<S>) -> u8
+    ensures { NotRead S.Output.takes S.Errors.takes ReadStop.NoMemory world.old world.new result }
+{
+    not_read(ReadStop::NoMemory, world)
+}
+
+/// The status of a run that has a word which is no text.
+pub(crate) fn words_not_read<S: System>(world: &mut World<S>) -> u8
+    ensures { NotWords S.Errors.takes world.old world.new result }
+{
+    tell("evltool: a word of the command line is not UTF-8\n", &mut world.errors);
+    USAGE
 }
