@@ -1,7 +1,7 @@
 -- What the words of the command line ask for: the command, and the job that a subcommand and its values name.
-use Rattle.std.specs.Prelude.{◌≡◌, ℕ, List, [], Option, Some, None, if◌then◌else◌, codes, true, option_copied}
+use Rattle.std.specs.Prelude.{List, Option, Some, None, if◌then◌else◌, codes, true, option_copied}
 use Rattle.std.specs.Str.{bytes_eq}
-use Rattle.clap.specs.Words.{App, Row, Rule, Shape, Text, first_of, new_app, new_rule, with_rule, with_subcommand}
+use Rattle.clap.specs.Words.{App, Row, Rule, Text, first_of, new_app, new_rule, with_rule, with_subcommand}
 use Rattle.clap.specs.Simple.{on_top}
 use Rattle.evm_command.specs.declared.words.Job.{Job}
 use Rattle.evm_command.specs.declared.words.Job.TheVariants as jobs

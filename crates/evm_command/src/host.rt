@@ -39,14 +39,19 @@ impl System for Host<'_> {
     }
 }
 
-/// Runs the program on the words of its command line, and answers the exit status.
-pub fn run(rt: &HostRuntime) -> u8 {
-    let mut world = World {
+/// The system that the program runs on, and its streams.
+pub fn host_world(rt: &HostRuntime) -> World<Host<'_>> {
+    World {
         files: Host { rt },
         input: rt.stdin(),
         output: rt.stdout(),
         errors: rt.stderr(),
-    };
+    }
+}
+
+/// Runs the program on the words of its command line, and answers the exit status.
+pub fn run(rt: &HostRuntime) -> u8 {
+    let mut world = host_world(rt);
     let arguments = match std::env::args(rt) {
         Ok(arguments) => arguments,
         Err(error) if error.kind() == ErrorKind::OutOfMemory => return memory_refused(&mut world),

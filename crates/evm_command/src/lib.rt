@@ -12,5 +12,8 @@ mod system;
 mod words;
 
 pub use command::answer;
-pub use host::{Host, run};
+pub use host::{Host, host_world, run};
 pub use system::{System, World};
+
+#[cfg(test)]
+mod tests;

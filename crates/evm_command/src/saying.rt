@@ -104,6 +104,9 @@ pub(crate) fn memory_refused<S: System>(world: &mut World<S>) -> u8
 pub(crate) fn words_not_read<S: System>(world: &mut World<S>) -> u8
     ensures { NotWords S.Errors.takes world.old world.new result }
 {
-    tell("evltool: a word of the command line is not UTF-8\n", &mut world.errors);
+    tell(
+        "evltool: a word of the command line is not UTF-8\n",
+        &mut world.errors,
+    );
     USAGE
 }

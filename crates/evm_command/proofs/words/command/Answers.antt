@@ -1,7 +1,7 @@
-use Rattle.std.proofs.Common.{rules, ap, ap₂, ◌≡◌, ◌∙◌}
+use Rattle.std.proofs.Common.{ap, ap₂, ◌≡◌, ◌∙◌}
 use Rattle.std.proofs.lemmas.Result.{IfOk-weaker}
 use Rattle.clap.specs.Words.{App, app_of, with_subcommand}
-use Rattle.evm_command.specs.Words.{asm, run, replay, bare, evltool}
+use Rattle.evm_command.specs.Words.{asm, run, bare}
 use Rattle.evm_command.proofs.words.command.Goals as goal
 
 pub returns : goal.returns
@@ -11,4 +11,4 @@ returns c =
     let second : app_of c.in_ok-subcommand-2.field-0 ≡ with_subcommand (with_subcommand bare asm.top) run.top = c.in_ok-subcommand-2.ensures.shape c.in_ok-run_command.ensures.local
     ∙ ap₂ with_subcommand first (ap (λ (a : App). a.top) c.in_ok-run_command.ensures.app) in
     IfOk-weaker c.subcommand-3.result _ _ (λ r h. h.shape c.in_ok-replay_command.ensures.local
-        ∙ ap₂ with_subcommand second (ap (λ (a : App). a.top) c.in_ok-replay_command.ensures.app)) c.subcommand-3.ensures
+    ∙ ap₂ with_subcommand second (ap (λ (a : App). a.top) c.in_ok-replay_command.ensures.app)) c.subcommand-3.ensures
