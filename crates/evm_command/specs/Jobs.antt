@@ -1,0 +1,115 @@
+-- What each job asks of the system, one call after another, and the status that it ends with. What a call answered is known by that call
+-- alone, so these clauses fix which files are opened or created, in which order, and what is never asked for.
+use Rattle.std.specs.Prelude.{◌≡◌, ℕ, List, Option, Some, None, Result, Ok, Err, codes}
+use Rattle.evm_streams.specs.declared.source.Reading.{Reading}
+use Rattle.evm_streams.specs.declared.source.ReadStop.{ReadStop}
+use Rattle.evm_streams.specs.declared.sink.Writing.{Writing}
+use Rattle.evm_streams.specs.Reads.{Reads, ReadsText}
+use Rattle.evm_image.specs.Images.{Contents}
+use Rattle.evm_asm.specs.Assembled.{program_of}
+use Rattle.evm_serve.specs.Told.{told}
+use Rattle.evm_serve.specs.Serving.{Serves, Unread}
+use Rattle.evm_serve.specs.Replaying.{replay_told}
+use Rattle.evm_serve.specs.Assembling.{Assembles}
+use Rattle.evm_serve.specs.Imaging.{Imports}
+use Rattle.evm_serve.specs.declared.ending.Ending.{Ending}
+use Rattle.evm_command.specs.declared.system.World.{World}
+use Rattle.evm_command.specs.Telling.{not_opened_text, Tells, Ended}
+
+module _ {S O C I W E : Type 0} where
+  -- no file is asked for, and standard input is not read
+  abbrev pub AsksNothing : World S O C I W E → World S O C I W E → Type 0
+  AsksNothing w w' = (w'.files ≡ w.files) × (w'.input ≡ w.input)
+
+  -- What comes behind an image: a job with it, or, where there is none, nothing but the status.
+  abbrev pub Behind : Result Contents ℕ → (Contents → World S O C I W E → World S O C I W E → ℕ → Type 0) → World S O C I W E → World S O C I W E → ℕ → Type 0
+  Behind (Ok image) job w w' status = job image w w' status
+  Behind (Err ended) job w w' status = (w' ≡ w) × (status ≡ ended)
+
+  -- Words that are no text end a run with status 2.
+  abbrev pub NotWords : (E → Writing → List ℕ → E → Type 0) → World S O C I W E → World S O C I W E → ℕ → Type 0
+  NotWords tells w w' status = AsksNothing w w' × ((w'.output ≡ w.output) × Tells tells (codes "evltool: a word of the command line is not UTF-8\n") w.errors w'.errors × (status ≡ 2))
+
+  -- A source that can't be read ends a job, and nothing else is asked for; where memory was refused, the line `memory` is written.
+  abbrev pub NotRead : (W → Writing → List ℕ → W → Type 0) → (E → Writing → List ℕ → E → Type 0) → ReadStop → World S O C I W E → World S O C I W E → ℕ → Type 0
+  NotRead writes tells stop w w' status = AsksNothing w w' × ((ending : Ending) × Unread writes stop w.output w'.output ending × Ended tells ending w.errors w'.errors status)
+
+  -- A file that can't be opened or created ends a job with status 4: standard error is told its name, and nothing else is asked for.
+  abbrev pub NotOpened : (E → Writing → List ℕ → E → Type 0) → List ℕ → World S O C I W E → World S O C I W E → ℕ → Type 0
+  NotOpened tells path w w' status = AsksNothing w w' × ((w'.output ≡ w.output) × Tells tells (not_opened_text path) w.errors w'.errors × (status ≡ 4))
+
+module _ {S O C I W E : Type 0} (creates : S → List ℕ → Option C → S → Type 0) (created : C → Writing → List ℕ → C → Type 0)
+    (writes : W → Writing → List ℕ → W → Type 0) (tells : E → Writing → List ℕ → E → Type 0) where
+  -- a source is assembled into the file that was created
+  abbrev pub AssemblesSource : List ℕ → List ℕ → Option C → World S O C I W E → World S O C I W E → ℕ → Type 0
+  AssemblesSource out source None w w' status = NotOpened tells out w w' status
+  AssemblesSource out source (Some file) w w' status = AsksNothing w w' × ((ending : Ending) × (file' : C)
+      × Assembles created writes (program_of source) file file' w.output w'.output ending × Ended tells ending w.errors w'.errors status)
+
+  -- OUT is created for a source that was read
+  abbrev pub Creates : List ℕ → List ℕ → World S O C I W E → World S O C I W E → ℕ → Type 0
+  Creates out source w w' status = (answer : Option C) × (files : S) × creates w.files out answer files × AssemblesSource out source answer (record w { files = files }) w' status
+
+module _ {S O C I W E : Type 0} (opens : S → List ℕ → Option O → S → Type 0) (creates : S → List ℕ → Option C → S → Type 0)
+    (opened : O → Reading → List ℕ → O → Type 0) (created : C → Writing → List ℕ → C → Type 0)
+    (writes : W → Writing → List ℕ → W → Type 0) (tells : E → Writing → List ℕ → E → Type 0) where
+  -- Where the source was not read, OUT is never asked for.
+  abbrev pub ReadsSource : List ℕ → Result (List ℕ) ReadStop → World S O C I W E → World S O C I W E → ℕ → Type 0
+  ReadsSource out (Ok source) w w' status = Creates creates created writes tells out source w w' status
+  ReadsSource out (Err stop) w w' status = NotRead writes tells stop w w' status
+
+  -- the source is read to its end from the file that was opened
+  abbrev pub OpensSource : List ℕ → List ℕ → Option O → World S O C I W E → World S O C I W E → ℕ → Type 0
+  OpensSource source out None w w' status = NotOpened tells source w w' status
+  OpensSource source out (Some file) w w' status = (read : Result (List ℕ) ReadStop) × (file' : O) × ReadsText opened file file' read × ReadsSource out read w w' status
+
+  -- `asm SRC OUT`: SRC is opened and read, and then OUT is created.
+  abbrev pub AssemblesFile : List ℕ → List ℕ → World S O C I W E → World S O C I W E → ℕ → Type 0
+  AssemblesFile source out w w' status = (answer : Option O) × (files : S) × opens w.files source answer files × OpensSource source out answer (record w { files = files }) w' status
+
+module _ {S O C I W E : Type 0} (opens : S → List ℕ → Option O → S → Type 0)
+    (opened : O → Reading → List ℕ → O → Type 0) (writes : W → Writing → List ℕ → W → Type 0) (tells : E → Writing → List ℕ → E → Type 0) where
+  -- the image of a file that was read, or the status of the ending
+  abbrev pub Imported : Result (List ℕ) ReadStop → World S O C I W E → World S O C I W E → Result Contents ℕ → Type 0
+  Imported read w w' (Ok image) = Imports writes read w.output w'.output (Ok image) × (w'.errors ≡ w.errors)
+  Imported read w w' (Err status) = (ending : Ending) × Imports writes read w.output w'.output (Err ending) × Ended tells ending w.errors w'.errors status
+
+  abbrev pub ReadsImage : List ℕ → Option O → World S O C I W E → World S O C I W E → Result Contents ℕ → Type 0
+  ReadsImage path None w w' (Ok image) = ⊥
+  ReadsImage path None w w' (Err status) = NotOpened tells path w w' status
+  ReadsImage path (Some file) w w' result = AsksNothing w w' × ((read : Result (List ℕ) ReadStop) × (file' : O) × Reads opened file file' read × Imported read w w' result)
+
+  -- IMAGE is opened and imported.
+  abbrev pub Loads : List ℕ → World S O C I W E → World S O C I W E → Result Contents ℕ → Type 0
+  Loads path w w' result = (answer : Option O) × (files : S) × opens w.files path answer files × ReadsImage path answer (record w { files = files }) w' result
+
+  -- a journal is replayed on an image, from the file that was opened
+  abbrev pub ReplaysFile : List ℕ → Contents → Option O → World S O C I W E → World S O C I W E → ℕ → Type 0
+  ReplaysFile path image None w w' status = NotOpened tells path w w' status
+  ReplaysFile path image (Some file) w w' status = AsksNothing w w' × ((read : Result (List ℕ) ReadStop) × (ending : Ending) × (file' : O)
+      × ReadsText opened file file' read × Serves writes (replay_told image) read w.output w'.output ending × Ended tells ending w.errors w'.errors status)
+
+  abbrev pub ReplaysJournal : List ℕ → Contents → World S O C I W E → World S O C I W E → ℕ → Type 0
+  ReplaysJournal path image w w' status = (answer : Option O) × (files : S) × opens w.files path answer files × ReplaysFile path image answer (record w { files = files }) w' status
+
+  -- `replay IMAGE JOURNAL`: once IMAGE is imported, JOURNAL is opened.
+  abbrev pub Replays : List ℕ → List ℕ → World S O C I W E → World S O C I W E → ℕ → Type 0
+  Replays path journal w w' status = (loaded : Result Contents ℕ) × (between : World S O C I W E) × Loads path w between loaded × Behind loaded (ReplaysJournal journal) between w' status
+
+module _ {S O C I W E : Type 0} (gives : I → Reading → List ℕ → I → Type 0) (writes : W → Writing → List ℕ → W → Type 0) (tells : E → Writing → List ℕ → E → Type 0) where
+  -- the script of standard input is served, with an image or none
+  abbrev pub ServesInput : Option Contents → World S O C I W E → World S O C I W E → ℕ → Type 0
+  ServesInput image w w' status = (w'.files ≡ w.files) × ((read : Result (List ℕ) ReadStop) × (ending : Ending)
+      × Reads gives w.input w'.input read × Serves writes (told image) read w.output w'.output ending × Ended tells ending w.errors w'.errors status)
+
+module _ {S O C I W E : Type 0} (opens : S → List ℕ → Option O → S → Type 0) (opened : O → Reading → List ℕ → O → Type 0)
+    (gives : I → Reading → List ℕ → I → Type 0) (writes : W → Writing → List ℕ → W → Type 0) (tells : E → Writing → List ℕ → E → Type 0) where
+  -- `run IMAGE`: once IMAGE is imported, standard input is served with it.
+  abbrev pub RunsImage : List ℕ → World S O C I W E → World S O C I W E → ℕ → Type 0
+  RunsImage path w w' status = (loaded : Result Contents ℕ) × (between : World S O C I W E)
+      × Loads opens opened writes tells path w between loaded × Behind loaded (λ image. ServesInput gives writes tells (Some image)) between w' status
+
+  -- `run` alone opens nothing.
+  abbrev pub Runs : Option (List ℕ) → World S O C I W E → World S O C I W E → ℕ → Type 0
+  Runs None w w' status = ServesInput gives writes tells None w w' status
+  Runs (Some path) w w' status = RunsImage path w w' status

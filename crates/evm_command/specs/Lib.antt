@@ -1,0 +1,5 @@
+pub mod Jobs
+pub mod Telling
+pub mod Words
+pub mod Running
+pub mod Trusted

@@ -1,0 +1,55 @@
+-- What a run of the program does, from the words of the command line to its exit status.
+use Rattle.std.specs.Prelude.{◌≡◌, ℕ, List, [], ◌⊎◌, Option, Some, None}
+use Rattle.evm_streams.specs.declared.source.Reading.{Reading}
+use Rattle.evm_streams.specs.declared.source.ReadStop.TheVariants.{NoMemory}
+use Rattle.evm_streams.specs.declared.sink.Writing.{Writing}
+use Rattle.evm_streams.specs.Writes.{Took, TookPrefix}
+use Rattle.clap.specs.Words.{Text, IsAmong, fault_of, subcommand_of}
+use Rattle.clap.specs.declared.error.ErrorKind.{ErrorKind}
+use Rattle.clap.specs.declared.error.ErrorKind.TheVariants.{DisplayHelp, DisplayVersion, OutOfMemory}
+use Rattle.evm_serve.specs.Serving.{WritesAll}
+use Rattle.evm_serve.specs.declared.ending.Ending.{Ending}
+use Rattle.evm_command.specs.declared.system.World.{World}
+use Rattle.evm_command.specs.Telling.{Ended}
+use Rattle.evm_command.specs.Jobs.{AsksNothing, NotRead, AssemblesFile, Runs, Replays}
+use Rattle.evm_command.specs.Words.{Wanted, Assemble, Run, Replay, evltool, job_of}
+
+module _ {S O C I W E : Type 0} (writes : W → Writing → List ℕ → W → Type 0) (tells : E → Writing → List ℕ → E → Type 0) where
+  -- Help or the version is written to standard output.
+  abbrev pub Shows : List ℕ → World S O C I W E → World S O C I W E → ℕ → Type 0
+  Shows text w w' status = AsksNothing w w' × ((ending : Ending) × WritesAll writes (record { text = text; status = 0 }) w.output w'.output ending × Ended tells ending w.errors w'.errors status)
+
+  -- What is wrong with the words is written to standard error: the status is 2, or 4 where a write failed.
+  abbrev pub Blames : List ℕ → World S O C I W E → World S O C I W E → ℕ → Type 0
+  Blames text w w' status = AsksNothing w w' × ((w'.output ≡ w.output)
+      × ((Took tells w.errors text w'.errors × (status ≡ 2)) ⊎ (TookPrefix tells w.errors text w'.errors × (status ≡ 4))))
+
+  -- The text for the words, by its kind, unless memory is refused to it.
+  abbrev pub Says : ErrorKind → List ℕ → World S O C I W E → World S O C I W E → ℕ → Type 0
+  Says DisplayHelp text w w' status = Shows text w w' status
+  Says DisplayVersion text w w' status = Shows text w w' status
+  Says OutOfMemory text w w' status = NotRead writes tells NoMemory w w' status
+  Says kind text w w' status = Blames text w w' status
+
+  abbrev pub Refuses : ErrorKind → World S O C I W E → World S O C I W E → ℕ → Type 0
+  Refuses kind w w' status = NotRead writes tells NoMemory w w' status ⊎ ((text : List ℕ) × Says kind text w w' status)
+
+module _ {S O C I W E : Type 0} (opens : S → List ℕ → Option O → S → Type 0) (creates : S → List ℕ → Option C → S → Type 0)
+    (opened : O → Reading → List ℕ → O → Type 0) (created : C → Writing → List ℕ → C → Type 0) (gives : I → Reading → List ℕ → I → Type 0)
+    (writes : W → Writing → List ℕ → W → Type 0) (tells : E → Writing → List ℕ → E → Type 0) where
+  -- a job, with the names of its files
+  abbrev pub Does : Wanted → World S O C I W E → World S O C I W E → ℕ → Type 0
+  Does (Assemble source out) w w' status = AssemblesFile opens creates opened created writes tells source out w w' status
+  Does (Run image) w w' status = Runs opens opened gives writes tells image w w' status
+  Does (Replay image journal) w w' status = Replays opens opened writes tells image journal w w' status
+
+  -- where no job is named, nothing is asked for
+  abbrev pub DoesNamed : Option Wanted → World S O C I W E → World S O C I W E → ℕ → Type 0
+  DoesNamed (Some job) w w' status = Does job w w' status
+  DoesNamed None w w' status = (w' ≡ w) × (status ≡ 2)
+
+  -- Words without a fault name a job, which is done. Words with faults are told one of them; and memory may be refused to any.
+  abbrev pub Answers : List Text → World S O C I W E → World S O C I W E → ℕ → Type 0
+  Answers words w w' status =
+      ((fault_of evltool words ≡ []) × DoesNamed (job_of (subcommand_of evltool words)) w w' status)
+      ⊎ ((kind : ErrorKind) × ((kind ≡ OutOfMemory) ⊎ IsAmong kind (fault_of evltool words)) × Refuses writes tells kind w w' status)

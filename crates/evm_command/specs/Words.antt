@@ -1,0 +1,65 @@
+-- What the words of the command line ask for: the command, and the job that a subcommand and its values name.
+use Rattle.std.specs.Prelude.{List, Option, Some, None, if◌then◌else◌, codes, true, option_copied}
+use Rattle.std.specs.Str.{bytes_eq}
+use Rattle.clap.specs.Words.{App, Row, Rule, Text, first_of, new_app, new_rule, with_rule, with_subcommand}
+use Rattle.clap.specs.Simple.{on_top}
+use Rattle.evm_command.specs.declared.words.Job.{Job}
+use Rattle.evm_command.specs.declared.words.Job.TheVariants as jobs
+
+-- a word that stands at its place
+abbrev pub place : Text → Rule
+place id = record (new_rule id) { required = true }
+
+-- the three subcommands
+abbrev pub asm : App
+asm = with_rule (with_rule (new_app (codes "asm")) (place (codes "SRC"))) (place (codes "OUT"))
+
+abbrev pub run : App
+run = with_rule (new_app (codes "run")) (new_rule (codes "IMAGE"))
+
+abbrev pub replay : App
+replay = with_rule (with_rule (new_app (codes "replay")) (place (codes "IMAGE"))) (place (codes "JOURNAL"))
+
+-- the command: it has a version, and wants one of the subcommands
+abbrev pub bare : App
+bare = on_top (λ s. record s { has_version = true; subcommand_required = true }) (new_app (codes "evltool"))
+
+abbrev pub evltool : App
+evltool = with_subcommand (with_subcommand (with_subcommand bare asm.top) run.top) replay.top
+
+-- a job, with the names of its files
+pub data Wanted : Type 0 where
+  Assemble : (source out : Text) → Wanted
+  Run : (image : Option Text) → Wanted
+  Replay : (image journal : Text) → Wanted
+
+abbrev pub seen : Option Text → Option Text → (Text → Text → Wanted) → Option Wanted
+seen (Some a) (Some b) job = Some (job a b)
+seen _ _ job = None
+
+abbrev pub asm_job : List Row → Option Wanted
+asm_job values = seen (first_of (codes "SRC") values) (first_of (codes "OUT") values) Assemble
+
+abbrev pub run_job : List Row → Option Wanted
+run_job values = Some (Run (first_of (codes "IMAGE") values))
+
+abbrev pub replay_job : List Row → Option Wanted
+replay_job values = seen (first_of (codes "IMAGE") values) (first_of (codes "JOURNAL") values) Replay
+
+-- the job of a subcommand of this name, with these values
+abbrev pub job_named : Text → List Row → Option Wanted
+job_named name values =
+    if bytes_eq name (codes "asm") then asm_job values
+    else (if bytes_eq name (codes "run") then run_job values
+    else (if bytes_eq name (codes "replay") then replay_job values else None))
+
+-- the job of the subcommand that a parse entered, if it entered one
+abbrev pub job_of : Option (Text × List Row) → Option Wanted
+job_of None = None
+job_of (Some entered) = job_named entered.0 entered.1
+
+-- what the code has of a job
+abbrev pub wanted : Job → Wanted
+wanted (jobs.Assemble source out) = Assemble source.now out.now
+wanted (jobs.Run image) = Run (option_copied image)
+wanted (jobs.Replay image journal) = Replay image.now journal.now

@@ -1,0 +1,92 @@
+//! A run of the program, from its words to its exit status.
+
+ghost use Rattle.std.specs.Prelude.{map, option_map};
+ghost use Rattle.std.specs.String.{string_bytes};
+ghost use Rattle.clap.specs.Words.{kind_of};
+ghost use Rattle.evm_command.specs.Running.{Shows, Blames, Says, Refuses, Does, DoesNamed, Answers};
+ghost use Rattle.evm_command.specs.Words.{wanted};
+
+use crate::assembling::assemble_file;
+use crate::replaying::replay;
+use crate::running::run;
+use crate::saying::{FAILED, USAGE, ended, memory_refused};
+use crate::system::{System, World};
+use crate::words::{Job, job_of, parse};
+use clap::Error;
+use clap::error::ErrorKind;
+use evm_serve::{Ending, Verdict};
+use evm_streams::write_all;
+use std::alloc::Global;
+
+// Writes help or the version.
+fn show<S: System>(text: &str, world: &mut World<S>) -> u8
+    ensures { Shows S.Output.takes S.Errors.takes text.now world.old world.new result }
+{
+    let ending = match write_all(&mut world.output, text.as_bytes()) {
+        Ok(()) => Ending::Complete(Verdict::Done),
+        Err(fault) => Ending::WriteFailed(fault),
+    };
+    ended(&ending, &mut world.errors)
+}
+
+// Writes what is wrong with the words.
+fn blame<S: System>(text: &str, world: &mut World<S>) -> u8
+    ensures { Blames S.Output.takes S.Errors.takes text.now world.old world.new result }
+{
+    match write_all(&mut world.errors, text.as_bytes()) {
+        Ok(()) => USAGE,
+        Err(_) => FAILED,
+    }
+}
+
+// Says what is to be said of the words.
+fn say<S: System>(kind: ErrorKind, text: &str, world: &mut World<S>) -> u8
+    ensures { Says S.Output.takes S.Errors.takes kind text.now world.old world.new result }
+{
+    match kind {
+        ErrorKind::DisplayHelp | ErrorKind::DisplayVersion => show(text, world),
+        ErrorKind::OutOfMemory => memory_refused(world),
+        _ => blame(text, world),
+    }
+}
+
+// Ends a run whose words are no command, or ask for help or the version.
+fn refuse<S: System>(alloc: Global, error: &Error, world: &mut World<S>) -> u8
+    ensures { Refuses S.Output.takes S.Errors.takes (kind_of error.now) world.old world.new result }
+{
+    match format!(in alloc; "{error}") {
+        Ok(text) => say(error.kind(), text.as_str(), world),
+        Err(_) => memory_refused(world),
+    }
+}
+
+// Does a job.
+fn do_job<S: System>(alloc: Global, job: Job<'_>, world: &mut World<S>) -> u8
+    ensures { Does S.opens S.creates S.Opened.gives S.Created.takes S.Input.gives S.Output.takes S.Errors.takes (wanted job.entry) world.old world.new result }
+{
+    match job {
+        Job::Assemble { source, out } => assemble_file(alloc, source, out, world),
+        Job::Run { image } => run(alloc, image, world),
+        Job::Replay { image, journal } => replay(alloc, image, journal, world),
+    }
+}
+
+// Does the job that the words name. They have been checked: they name one.
+fn do_named<S: System>(alloc: Global, job: Option<Job<'_>>, world: &mut World<S>) -> u8
+    ensures { DoesNamed S.opens S.creates S.Opened.gives S.Created.takes S.Input.gives S.Output.takes S.Errors.takes (option_map wanted job.entry) world.old world.new result }
+{
+    match job {
+        Some(job) => do_job(alloc, job, world),
+        None => USAGE,
+    }
+}
+
+/// Does what the words ask for, and answers the exit status.
+pub fn answer<S: System>(alloc: Global, words: &[String], world: &mut World<S>) -> u8
+    ensures { Answers S.opens S.creates S.Opened.gives S.Created.takes S.Input.gives S.Output.takes S.Errors.takes (map string_bytes words.now) world.old world.new result }
+{
+    match parse(alloc, words) {
+        Ok(matches) => do_named(alloc, job_of(&matches), world),
+        Err(error) => refuse(alloc, &error, world),
+    }
+}

@@ -1,0 +1,19 @@
+//! The command line, from its words to the exit status, over a system that opens files and has three streams.
+#![tactic(auto)]
+
+mod assembling;
+mod command;
+mod host;
+mod loading;
+mod replaying;
+mod running;
+mod saying;
+mod system;
+mod words;
+
+pub use command::answer;
+pub use host::{Host, host_world, run};
+pub use system::{System, World};
+
+#[cfg(test)]
+mod tests;

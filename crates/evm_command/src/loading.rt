@@ -1,0 +1,30 @@
+//! The image of a file that the words name.
+
+ghost use Rattle.evm_command.specs.Jobs.{Loads};
+
+use crate::saying::{ended, not_opened};
+use crate::system::{System, World};
+use evm_image::Image;
+use evm_serve::import;
+use std::alloc::Global;
+
+/// The image of a file.
+///
+/// # Errors
+///
+/// The status of the job, where the file can't be opened or read or has a fault.
+pub(crate) fn image_at<S: System>(
+    alloc: Global,
+    path: &str,
+    world: &mut World<S>,
+) -> Result<Image, u8>
+    ensures { Loads S.opens S.Opened.gives S.Output.takes S.Errors.takes path.now world.old world.new result }
+{
+    let Some(mut file) = world.files.open(path) else {
+        return Err(not_opened(path, &mut world.errors));
+    };
+    match import(alloc, &mut file, &mut world.output) {
+        Ok(image) => Ok(image),
+        Err(ending) => Err(ended(&ending, &mut world.errors)),
+    }
+}

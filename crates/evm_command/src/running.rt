@@ -1,0 +1,39 @@
+//! `run`: the script of standard input served.
+
+ghost use Rattle.std.specs.Prelude.{option_copied};
+ghost use Rattle.evm_command.specs.Jobs.{ServesInput, RunsImage, Runs};
+
+use crate::loading::image_at;
+use crate::saying::ended;
+use crate::system::{System, World};
+use evm_image::Image;
+use evm_serve::serve;
+use std::alloc::Global;
+
+// Serves the script of standard input.
+fn serve_input<S: System>(alloc: Global, image: Option<&Image>, world: &mut World<S>) -> u8
+    ensures { ServesInput S.Input.gives S.Output.takes S.Errors.takes (option_copied image.entry) world.old world.new result }
+{
+    let ending = serve(alloc, &mut world.input, &mut world.output, image);
+    ended(&ending, &mut world.errors)
+}
+
+// Serves it with the image of a file.
+fn run_image<S: System>(alloc: Global, path: &str, world: &mut World<S>) -> u8
+    ensures { RunsImage S.opens S.Opened.gives S.Input.gives S.Output.takes S.Errors.takes path.now world.old world.new result }
+{
+    match image_at(alloc, path, world) {
+        Ok(image) => serve_input(alloc, Some(&image), world),
+        Err(status) => status,
+    }
+}
+
+/// Serves the script of standard input, with the image of a file in the machine, if one is named.
+pub(crate) fn run<S: System>(alloc: Global, image: Option<&str>, world: &mut World<S>) -> u8
+    ensures { Runs S.opens S.Opened.gives S.Input.gives S.Output.takes S.Errors.takes (option_copied image.entry) world.old world.new result }
+{
+    match image {
+        None => serve_input(alloc, None, world),
+        Some(path) => run_image(alloc, path, world),
+    }
+}

@@ -1,0 +1,50 @@
+//! What the program asks of the system that it runs on.
+
+use evm_streams::{Sink, Source};
+
+/// A system that opens files and creates them, and that has three streams.
+pub trait System {
+    ghost use Rattle.std.specs.Prelude.{ℕ, List, Option};
+
+    /// A file that was opened.
+    type Opened: Source + Drop;
+
+    /// A file that was created.
+    type Created: Sink + Drop;
+
+    /// Standard input.
+    type Input: Source + Drop;
+
+    /// Standard output.
+    type Output: Sink + Drop;
+
+    /// Standard error.
+    type Errors: Sink + Drop;
+
+    // What opening the file of a name may answer at one state, and the state after it; and what creating it may. Nothing else is known of
+    // these relations, so that only a call of this very system shows what was asked of it, and in which order.
+    ghost opens: { Self → List ℕ → Option Self.Opened → Self → Type 0 };
+
+    ghost creates: { Self → List ℕ → Option Self.Created → Self → Type 0 };
+
+    /// Opens a file to be read; None where it can't be opened.
+    fn open(&mut self, path: &str) -> Option<Self::Opened>
+        ensures { opens self.old path.now result self.new };
+
+    /// Creates a file to be written, or empties the one of this name; None where it can't be created.
+    fn create(&mut self, path: &str) -> Option<Self::Created>
+        ensures { creates self.old path.now result self.new };
+}
+
+/// A system, and its streams.
+#[derive(Drop)]
+pub struct World<S: System> {
+    /// The system, which opens files.
+    pub files: S,
+    /// Standard input.
+    pub input: S::Input,
+    /// Standard output.
+    pub output: S::Output,
+    /// Standard error.
+    pub errors: S::Errors,
+}
