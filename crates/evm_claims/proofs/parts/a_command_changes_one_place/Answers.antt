@@ -1,5 +1,4 @@
 use Rattle.std.proofs.Common.{◌≡◌, ℕ, Option, Some, None, true, false, inl, inr, slice_get, length, refl, ap, sym, ◌∙◌, ◌+◌, arith}
-use Rattle.std.proofs.Common.{◌≡◌, Option, Some, None, true, false, inl, inr, slice_get, refl, ap, sym, ◌∙◌}
 use Rattle.std.specs.Prelude.{option_map}
 use Rattle.evm_model.specs.Memory.{fetch}
 use Rattle.evm_model.specs.Pipes.{raise}
