@@ -55,7 +55,7 @@ fn characters(rt: HostRuntime) {
 
 // Numbers are decimal, leading zeros too, or hexadecimal behind 0x, and below 2^64.
 #[test]
-fn sizes(rt: HostRuntime) {
+fn numbers_have_their_sizes(rt: HostRuntime) {
     for (text, wanted) in SIZES {
         assert_eq!(rt; size(text.as_bytes()), Some(*wanted), "of {text}");
     }
@@ -109,7 +109,7 @@ fn cuts(rt: HostRuntime) {
 
 // Every mnemonic, pseudo instruction and directive has its meaning.
 #[test]
-fn mnemonics(rt: HostRuntime) {
+fn mnemonics_have_their_meanings(rt: HostRuntime) {
     for (name, wanted) in MNEMONICS {
         assert_eq!(rt; mnemonic_named(name.as_bytes()), Some(*wanted), "of {name}");
     }
@@ -125,7 +125,7 @@ fn neighbours_of_mnemonics(rt: HostRuntime) {
 
 // Each register has its number and its name of the calling convention, and s0 the name fp too.
 #[test]
-fn registers(rt: HostRuntime) {
+fn registers_have_their_names(rt: HostRuntime) {
     for (number, plain, name) in REGISTERS {
         let wanted = evm_isa::Register::new(*number);
         assert!(rt; wanted.is_some(), "of {name}");
