@@ -217,12 +217,12 @@ fn failed_reads_end_with_status_4(rt: HostRuntime) -> Result<(), Fail> {
 
 #[test]
 fn failed_writes_end_with_status_4(rt: HostRuntime) -> Result<(), Fail> {
-    for (line, bytes) in [
-        ("evltool asm src out", 124),
-        ("evltool run", 44),
-        ("evltool --version", 14),
+    for (line, less, bytes) in [
+        ("evltool asm src out", 123, 124),
+        ("evltool run", 43, 44),
+        ("evltool --version", 13, 14),
     ] {
-        for room in [0, 3, bytes - 1, bytes] {
+        for room in [0, 3, less, bytes] {
             let given = Given::new(1000, room);
             let answered = status_of(rt.alloc(), line, &given)?;
             let wanted = if room == bytes { 0 } else { 4 };
