@@ -1,5 +1,5 @@
 //! Each kind of event once, accepted and refused, against answers worked by hand. After boot no event takes memory:
-//! with every growth behind the boot's refused (`rt try --test --fail-alloc N`, N from 3 on) each answer stays.
+//! with a growth behind the boot's refused (`rt try --test --fail-alloc N`) each answer stays.
 
 use crate::{Answer, Event, Machine, Refusal};
 use arrayvec::ArrayVec;
