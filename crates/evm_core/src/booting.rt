@@ -11,7 +11,8 @@ use arrayvec::ArrayVec;
 use evm_breaks::Breakpoints;
 use evm_exec::Hart;
 use evm_model::{
-    Boot, CAPACITY_LIMIT, Class, Mode, PROCESSOR_LIMIT, Processor, RAM_LEAST, RAM_UNIT, Task, TaskState,
+    Boot, CAPACITY_LIMIT, Class, Mode, PROCESSOR_LIMIT, Processor, RAM_LEAST, RAM_UNIT, Task,
+    TaskState,
 };
 use evm_parts::{Console, Parts};
 use evm_pipe::Pipe;

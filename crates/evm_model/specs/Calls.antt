@@ -1,5 +1,5 @@
 -- The calls of the in-band kernel: their numbers, and what each does.
-use Rattle.std.specs.Prelude.{ℕ, ◌+◌, ◌-◌, ◌*◌, ◌%◌, List, [], ◌∷◌, ◌++◌, Option, Some, None, Bool, true, false, not, ◌==◌, nat_lt, nat_le, is_none, drop, if◌then◌else◌, slice_get, length}
+use Rattle.std.specs.Prelude.{ℕ, ◌+◌, ◌-◌, ◌%◌, List, [], ◌∷◌, ◌++◌, Option, Some, None, Bool, true, false, not, ◌==◌, nat_lt, nat_le, is_none, drop, if◌then◌else◌, slice_get, length}
 use Rattle.evm_exec.specs.Registers.{register_of}
 use Rattle.evm_exec.specs.declared.hart.Hart.{Hart}
 use Rattle.evm_lines.specs.declared.TheConstants.{LINES}
@@ -7,7 +7,7 @@ use Rattle.evm_model.specs.Errnos.{refusal_answer}
 use Rattle.evm_model.specs.Harts.{A7, advance, answer, argument, spawned_hart}
 use Rattle.evm_model.specs.Pipes.{Pipe, set_stall}
 use Rattle.evm_model.specs.Settle.{is_oob}
-use Rattle.evm_model.specs.State.{Parts, new_task, on_hart, on_task, on_processor, on_pipe}
+use Rattle.evm_model.specs.State.{Parts, new_task, on_hart, on_pipe}
 use Rattle.evm_model.specs.Tasks.{restamp, set_state, leave_in_band, end_task}
 use Rattle.evm_ram.specs.declared.ram.TheConstants.{BASE}
 use Rattle.evm_model.specs.declared.call.Call.{Call}

@@ -1,5 +1,5 @@
 -- The rules that hold after every event.
-use Rattle.std.specs.Prelude.{◌≡◌, ◌<◌, ◌≤◌, ℕ, ◌+◌, ◌*◌, ◌%◌, ◌==◌, List, [], Option, Some, None, Bool, true, false, IfSome, slice_get, length, count_by}
+use Rattle.std.specs.Prelude.{◌≡◌, ◌<◌, ◌≤◌, ℕ, ◌+◌, ◌*◌, ◌%◌, List, [], Some, None, Bool, true, false, slice_get, length, count_by}
 use Rattle.evm_lines.specs.Lines.{has_line, IsLineSet}
 use Rattle.evm_lines.specs.declared.TheConstants.{LINES}
 use Rattle.evm_exec.specs.declared.hart.Hart.{Hart}
@@ -15,7 +15,7 @@ use Rattle.evm_model.specs.declared.limits.TheConstants.{PROCESSOR_LIMIT, TASK_L
 use Rattle.evm_model.specs.declared.processor.Processor.{Processor}
 use Rattle.evm_model.specs.declared.task.Task.{Task}
 use Rattle.evm_model.specs.declared.task.TaskState.{TaskState}
-use Rattle.evm_model.specs.declared.task.TaskState.TheVariants.{InReady, OobReady, Waits, Exit, Faulted}
+use Rattle.evm_model.specs.declared.task.TaskState.TheVariants.{Exit, Faulted}
 
 -- a task that has not ended
 abbrev pub is_live : TaskState → Bool

@@ -1,5 +1,5 @@
 -- One processor's pipe of interrupts: its wire, the logs of its two stages, and its counts.
-use Rattle.std.specs.Prelude.{ℕ, ◌+◌, List, [], Bool, true, false, nat_lt, if◌then◌else◌, replicate}
+use Rattle.std.specs.Prelude.{ℕ, ◌+◌, List, [], Bool, false, nat_lt, if◌then◌else◌, replicate}
 use Rattle.evm_lines.specs.Lines.{has_line, with_line, without_line}
 use Rattle.evm_lines.specs.declared.TheConstants.{LINES}
 use Rattle.evm_model.specs.Lists.{change}

@@ -10,7 +10,7 @@ use Rattle.evm_model.specs.State.{State, Board}
 use Rattle.evm_model.specs.declared.limits.TheConstants.{BREAKPOINT_LIMIT, POKE_LIMIT}
 use Rattle.evm_model.specs.declared.processor.Processor.{Processor}
 use Rattle.evm_model.specs.declared.event.Event.{Event}
-use Rattle.evm_model.specs.declared.event.Event.TheVariants.{Step, Tick, Raise, Bell, Stop, Go, StepI, SetReg, SetPc, Poke, Break, Unbreak}
+use Rattle.evm_model.specs.declared.event.Event.TheVariants.{Step, Raise, Bell, Stop, Go, StepI, SetReg, SetPc, Poke, Break, Unbreak}
 
 abbrev pub no_such_cpu : ℕ → Board → Bool
 no_such_cpu c b = is_none (slice_get b.parts.processors c)

@@ -1,5 +1,5 @@
 -- What a machine is: one field for each owner, and how a change of one owner is lifted.
-use Rattle.std.specs.Prelude.{ℕ, List, [], ◌∷◌, Option, Some, None, slice_get, slice_set, replicate, ◌+◌, false}
+use Rattle.std.specs.Prelude.{ℕ, List, [], ◌∷◌, Option, Some, None, slice_set, replicate, false}
 use Rattle.evm_exec.specs.declared.hart.Hart.{Hart}
 use Rattle.evm_model.specs.Harts.{first_hart}
 use Rattle.evm_model.specs.Lists.{change}

@@ -19,7 +19,8 @@ pub use errno::Errno;
 pub use event::{Answer, Event};
 pub use fault::Fault;
 pub use limits::{
-    BREAKPOINT_LIMIT, CAPACITY_LIMIT, CONSOLE_LIMIT, POKE_LIMIT, PROCESSOR_LIMIT, RAM_LEAST, RAM_UNIT, TASK_LIMIT,
+    BREAKPOINT_LIMIT, CAPACITY_LIMIT, CONSOLE_LIMIT, POKE_LIMIT, PROCESSOR_LIMIT, RAM_LEAST,
+    RAM_UNIT, TASK_LIMIT,
 };
 pub use processor::Processor;
 pub use stage::{Stage, StageLog};

@@ -1,14 +1,13 @@
 -- What the acting processor may do before it settles: each call leaves the state good but for that.
-use Rattle.std.proofs.Common.{◌≡◌, ℕ, ◌+◌, ◌<◌, ◌≤◌, ◌%◌, ◌^◌, List, [], ◌∷◌, Bool, true, false, not, Option, Some, None, length, refl, ap, sym, ◌∙◌, inl, inr, arith}
+use Rattle.std.proofs.Common.{◌≡◌, ℕ, ◌<◌, ◌%◌, List, Bool, true, false, not, Option, Some, None, length, refl, ap, sym, ◌∙◌, arith}
 use Rattle.std.specs.Prelude.{slice_get, is_none, nat_lt, nat_le, ◌==◌, if◌then◌else◌}
 use Rattle.std.proofs.lemmas.Bool.Decides.{nat_tests}
 use Rattle.evm_exec.specs.Registers.{register_of}
 use Rattle.evm_exec.specs.declared.hart.Hart.{Hart}
 use Rattle.evm_lines.specs.declared.TheConstants.{LINES}
-use Rattle.evm_ram.specs.declared.ram.TheConstants.{BASE}
-use Rattle.evm_model.proofs.Lists.{change-elsewhere, change-cases, length-change, slice_get-below, slice_get-within}
-use Rattle.evm_model.specs.Calls.{call_of, refused, stalled_pipe, in_band_stalled, exit, putc, yield_now, is_bad_entry, add_task, spawn, stall, wait_line, set_line, demote, perform, answered, finish_call, call_on, call_known, call_of_hart, call}
-use Rattle.evm_model.specs.Good.{Good, IsOwn, IsPipe, IsSettled, is_live}
+use Rattle.evm_model.proofs.Lists.{change-elsewhere, slice_get-below, slice_get-within}
+use Rattle.evm_model.specs.Calls.{call_of, refused, in_band_stalled, exit, putc, yield_now, is_bad_entry, add_task, spawn, stall, wait_line, set_line, demote, perform, answered, finish_call, call_on, call_known, call_of_hart, call}
+use Rattle.evm_model.specs.Good.{Good, IsOwn, IsSettled, is_live}
 use Rattle.evm_model.specs.Harts.{A7, argument}
 use Rattle.evm_model.specs.Pipes.{Pipe, set_stall}
 use Rattle.evm_model.specs.Settle.{current, is_oob}
@@ -25,14 +24,14 @@ use Rattle.evm_model.specs.declared.stage.Stage.{Stage}
 use Rattle.evm_model.specs.declared.stage.Stage.TheVariants.{OutOfBand, InBand}
 use Rattle.evm_model.specs.declared.task.Task.{Task}
 use Rattle.evm_model.specs.declared.task.TaskState.{TaskState}
-use Rattle.evm_model.specs.declared.task.TaskState.TheVariants.{InReady, Exit as Ended, Waits as Waiting}
+use Rattle.evm_model.specs.declared.task.TaskState.TheVariants.{InReady, Waits as Waiting}
 use Rattle.evm_model.specs.declared.task.Wait.TheVariants.{Line}
 use Rattle.evm_rules.proofs.Aligned.{next-aligned}
 use Rattle.evm_rules.proofs.Bounded.{are-change}
 use Rattle.evm_rules.proofs.Firsts.{eqb-is}
 use Rattle.evm_rules.proofs.Places.{changed-from}
-use Rattle.evm_rules.proofs.Sets.{ArePipes, IsPipe-stall}
-use Rattle.evm_rules.proofs.Settling.{IsCalm, IsActing, GoodBut, good_but, calm-same}
+use Rattle.evm_rules.proofs.Sets.{IsPipe-stall}
+use Rattle.evm_rules.proofs.Settling.{IsActing, GoodBut, good_but, calm-same}
 use Rattle.evm_rules.proofs.Shapes.{shaped-pipe, shaped-leave, shaped-hart, shaped-state, shaped-restamp, shaped-add}
 use Rattle.evm_rules.proofs.Waking.{AreSame, same-own, same-change, same-push, own-state, own-restamp}
 

@@ -21,7 +21,7 @@ use Rattle.evm_model.specs.Harts.{set_register, set_pc, advance}
 use Rattle.evm_model.specs.Instructions.{fault, stop, finish_load, finish_store, finish, execute_inst, execute_word, execute}
 use Rattle.evm_model.specs.Lists.{change}
 use Rattle.evm_model.specs.Memory.{fetch, read, write}
-use Rattle.evm_model.specs.Pipes.{Pipe, raise, receive, arrive, leave_wire, set_stall, stage_of}
+use Rattle.evm_model.specs.Pipes.{Pipe, raise, receive, arrive, leave_wire, stage_of}
 use Rattle.evm_model.specs.Rows.{run, step_hart, step_current, step_wire, step_pipe, step_processor, step, single_step, row}
 use Rattle.evm_model.specs.Settle.{current, current_of}
 use Rattle.evm_model.specs.State.{Parts, Memory, Board, on_hart, on_processor, on_pipe, on_parts}
@@ -33,7 +33,6 @@ use Rattle.evm_model.specs.declared.processor.Processor.{Processor}
 use Rattle.evm_model.specs.declared.stage.Stage.{Stage}
 use Rattle.evm_model.specs.declared.stage.Stage.TheVariants.{OutOfBand, InBand}
 use Rattle.evm_model.specs.declared.task.Task.{Task}
-use Rattle.evm_model.specs.declared.task.TaskState.{TaskState}
 use Rattle.evm_ram.specs.declared.refusal.Refusal.TheVariants.{BadAddress}
 use Rattle.evm_model.specs.Refusals.{board_refusal}
 use Rattle.evm_walk.proofs.Refused.{passes}
@@ -41,9 +40,8 @@ use Rattle.evm_rules.proofs.Aligned.{IsAligned, next-aligned, does-aligned}
 use Rattle.evm_rules.proofs.Bounded.{are-change}
 use Rattle.evm_rules.proofs.Counting.{each-map, mapped}
 use Rattle.evm_rules.proofs.Firsts.{eqb-is}
-use Rattle.evm_rules.proofs.Places.{changed-from}
 use Rattle.evm_rules.proofs.Private.{good-bits, good-skip}
-use Rattle.evm_rules.proofs.Sets.{ArePipes, IsPipe-raise, IsPipe-receive, IsPipe-stall}
+use Rattle.evm_rules.proofs.Sets.{ArePipes, IsPipe-raise, IsPipe-receive}
 use Rattle.evm_rules.proofs.Settling.{GoodBut, good_but, settle_and_nudge-good}
 use Rattle.evm_rules.proofs.Shapes.{shaped-pipe}
 use Rattle.evm_rules.proofs.Acting.{end-but, call-but}

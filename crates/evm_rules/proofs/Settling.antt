@@ -1,10 +1,9 @@
 -- Settling one processor and telling the others makes a state good again, whatever a row did to that processor.
-use Rattle.std.proofs.Common.{◌≡◌, ℕ, ◌<◌, ◌≤◌, ◌%◌, List, [], Bool, true, false, not, ◌&&◌, Option, Some, None, length, refl, ap, sym, ◌∙◌, inl, inr, arith, eq-eqb}
+use Rattle.std.proofs.Common.{◌≡◌, ℕ, List, [], Bool, true, false, not, ◌&&◌, Option, Some, None, length, refl, ap, sym, ◌∙◌, inl, inr, arith, eq-eqb}
 use Rattle.std.specs.Prelude.{slice_get, ◌==◌, if◌then◌else◌}
 use Rattle.std.proofs.lemmas.Bool.Decides.{eqb_tells}
 use Rattle.evm_lines.specs.Lines.{has_line}
 use Rattle.evm_lines.specs.Laws.{has_line-with_same}
-use Rattle.evm_exec.specs.declared.hart.Hart.{Hart}
 use Rattle.evm_model.proofs.Lists.{change-elsewhere, length-change, slice_get-each, length-each_from}
 use Rattle.evm_model.specs.Good.{Good, IsSettled, IsOwn, IsPipe}
 use Rattle.evm_model.specs.Lists.{change, each}
@@ -12,7 +11,6 @@ use Rattle.evm_model.specs.Pipes.{Pipe, raise}
 use Rattle.evm_model.specs.Ranks.{best, next_in_band}
 use Rattle.evm_model.specs.Settle.{current, is_oob, play_oob_lines, play_in_band_lines, run_best, settle_oob, settle_oob_pipe, take_up, run_task, run_in_band, play_in_band_pipe, turn_in_band, settle_in_band, settle, differs, wants_nudge, nudge_pipe, nudge, settle_and_nudge}
 use Rattle.evm_model.specs.State.{Parts, on_pipe, on_processor}
-use Rattle.evm_model.specs.declared.limits.TheConstants.{PROCESSOR_LIMIT, TASK_LIMIT}
 use Rattle.evm_model.specs.declared.processor.Processor.{Processor}
 use Rattle.evm_model.specs.declared.task.Task.{Task}
 use Rattle.evm_rules.proofs.Bounded.{are-settle_oob, are-settle_in_band, are-nudge}

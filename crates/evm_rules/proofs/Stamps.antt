@@ -1,5 +1,5 @@
 -- How many stamps an event gives.
-use Rattle.std.proofs.Common.{◌≡◌, ℕ, zero, suc, ◌+◌, ◌*◌, ◌≤◌, ◌%◌, List, [], ◌∷◌, Bool, true, false, not, ◌&&◌, Option, Some, None, length, refl, ap, sym, ◌∙◌, arith}
+use Rattle.std.proofs.Common.{◌≡◌, ℕ, zero, suc, ◌+◌, ◌*◌, ◌≤◌, ◌%◌, List, [], ◌∷◌, Bool, true, false, not, ◌&&◌, Option, Some, None, length, refl, ap, ◌∙◌, arith}
 use Rattle.std.specs.Prelude.{slice_get, is_none, nat_lt, nat_le, ◌==◌, if◌then◌else◌}
 use Rattle.evm_lines.specs.Lines.{least_line}
 use Rattle.evm_lines.specs.declared.TheConstants.{LINES}
@@ -22,8 +22,8 @@ use Rattle.evm_model.specs.Instructions.{stop, finish_load, finish_store, finish
 use Rattle.evm_model.specs.Memory.{fetch, read, write}
 use Rattle.evm_model.specs.Pipes.{Pipe, play, receive}
 use Rattle.evm_model.specs.Rows.{run, step_hart, step_current, step_wire, step_pipe, step_processor, step, single_step, row}
-use Rattle.evm_model.specs.Settle.{current, current_of, is_oob, play_in_band, play_in_band_lines, play_in_band_pipe, run_in_band, settle_oob, turn_in_band, settle_in_band, settle, nudge, settle_and_nudge}
-use Rattle.evm_model.specs.State.{Parts, Memory, Board, on_hart, on_processor, on_pipe, on_parts}
+use Rattle.evm_model.specs.Settle.{current, current_of, is_oob, play_in_band, play_in_band_lines, play_in_band_pipe, settle_oob, turn_in_band, settle_in_band, settle, nudge, settle_and_nudge}
+use Rattle.evm_model.specs.State.{Parts, Memory, Board, on_processor, on_pipe, on_parts}
 use Rattle.evm_model.specs.Tasks.{restamp, set_state, leave_in_band, end_task, wake_in_band, wake_below, awaits}
 use Rattle.evm_model.specs.declared.call.Call.{Call}
 use Rattle.evm_model.specs.declared.call.Call.TheVariants.{Exit, Putc, Yield, Spawn, Stall, Unstall, WaitLine, SetLine}

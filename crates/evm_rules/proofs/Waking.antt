@@ -1,23 +1,20 @@
 -- What a change of one task leaves of the others, and what waking tasks leaves of their processor.
-use Rattle.std.proofs.Common.{◌≡◌, ℕ, zero, suc, ◌<◌, List, [], ◌∷◌, ◌++◌, Bool, true, false, ◌&&◌, Option, Some, None, length, refl, ap, sym, ◌∙◌, inl, inr}
+use Rattle.std.proofs.Common.{◌≡◌, ℕ, zero, suc, ◌<◌, List, [], ◌∷◌, ◌++◌, Bool, true, false, Option, Some, None, length, refl, ap, sym, ◌∙◌, inl, inr}
 use Rattle.std.specs.Prelude.{slice_get, option_map, ◌==◌, if◌then◌else◌}
 use Rattle.std.proofs.lemmas.Bool.{cases_eq}
 use Rattle.evm_model.proofs.Lists.{change-here, change-elsewhere, slice_get-below, slice_get-before}
-use Rattle.evm_model.specs.Calls.{add_task}
 use Rattle.evm_model.specs.Good.{IsOwn, is_live}
 use Rattle.evm_model.specs.Harts.{A0, set_register}
 use Rattle.evm_model.specs.Lists.{change}
 use Rattle.evm_model.specs.Pipes.{Pipe, play}
-use Rattle.evm_model.specs.Ranks.{best, first, rank, stamp, runs_oob, runs_oob_task, is_oob_ready}
-use Rattle.evm_model.specs.Settle.{is_oob, is_oob_task, play_in_band, play_in_band_lines}
-use Rattle.evm_model.specs.State.{Parts, new_task, on_hart, on_pipe}
-use Rattle.evm_model.specs.Tasks.{restamp, set_state, wake_in_band, wake_waiter, wake_below, awaits, is_wait_for}
-use Rattle.evm_model.specs.declared.processor.Processor.{Processor}
+use Rattle.evm_model.specs.Ranks.{best, rank, stamp, runs_oob, runs_oob_task, is_oob_ready}
+use Rattle.evm_model.specs.Settle.{is_oob, play_in_band, play_in_band_lines}
+use Rattle.evm_model.specs.State.{Parts, on_hart, on_pipe}
+use Rattle.evm_model.specs.Tasks.{restamp, set_state, wake_in_band, wake_below, awaits, is_wait_for}
 use Rattle.evm_model.specs.declared.stage.Stage.TheVariants.{InBand}
 use Rattle.evm_model.specs.declared.task.Task.{Task}
 use Rattle.evm_model.specs.declared.task.TaskState.{TaskState}
 use Rattle.evm_model.specs.declared.task.TaskState.TheVariants.{InReady, Waits}
-use Rattle.evm_model.specs.declared.task.Wait.TheVariants.{Line}
 use Rattle.evm_rules.proofs.Firsts.{both, eqb-is, first-member, first-none}
 use Rattle.evm_rules.proofs.Shapes.{IsShaped, shaped-pipe, shaped-hart, shaped-state, shaped-restamp}
 

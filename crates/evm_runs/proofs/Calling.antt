@@ -1,11 +1,11 @@
 -- What a call leaves alone.
-use Rattle.std.proofs.Common.{◌≡◌, ℕ, ◌+◌, ◌<◌, ◌≤◌, ◌%◌, List, [], ◌∷◌, ◌++◌, Bool, true, false, Option, Some, None, length, length-append, ◌⊎◌, inl, inr, refl, ap, sym, ◌∙◌, arith}
+use Rattle.std.proofs.Common.{◌≡◌, ℕ, ◌<◌, ◌%◌, List, [], ◌∷◌, ◌++◌, Bool, true, false, Option, Some, None, length, length-append, inl, inr, refl, ap, sym, ◌∙◌, arith}
 use Rattle.std.specs.Prelude.{slice_get, is_none, nat_lt, nat_le, ◌==◌, if◌then◌else◌}
 use Rattle.std.proofs.lemmas.Bool.Decides.{nat_tests}
 use Rattle.evm_exec.specs.Registers.{register_of}
 use Rattle.evm_exec.specs.declared.hart.Hart.{Hart}
 use Rattle.evm_lines.specs.declared.TheConstants.{LINES}
-use Rattle.evm_model.specs.Calls.{call_of, refused, in_band_stalled, last_bytes, exit, putc, yield_now, is_bad_entry, add_task, spawn, stall, wait_line, set_line, demote, perform, answered, finish_call, call_on, call_known, call_of_hart, call}
+use Rattle.evm_model.specs.Calls.{call_of, refused, in_band_stalled, exit, putc, yield_now, is_bad_entry, add_task, spawn, stall, wait_line, set_line, demote, perform, answered, call_on, call_known, call_of_hart, call}
 use Rattle.evm_model.specs.Harts.{A0, A7, argument, advance, spawned_hart}
 use Rattle.evm_model.specs.Pipes.{set_stall}
 use Rattle.evm_model.specs.Settle.{is_oob}
@@ -19,13 +19,12 @@ use Rattle.evm_model.specs.declared.errno.Errno.TheVariants.{NoSuchCall}
 use Rattle.evm_model.specs.declared.limits.TheConstants.{TASK_LIMIT}
 use Rattle.evm_model.specs.declared.stage.Stage.{Stage}
 use Rattle.evm_model.specs.declared.stage.Stage.TheVariants.{OutOfBand, InBand}
-use Rattle.evm_model.specs.declared.task.Task.{Task}
 use Rattle.evm_model.specs.declared.task.TaskState.{TaskState}
 use Rattle.evm_model.specs.declared.task.TaskState.TheVariants.{InReady, Waits as Waiting}
 use Rattle.evm_model.specs.declared.task.Wait.TheVariants.{Line}
 use Rattle.evm_model.proofs.Lists.{change-elsewhere, length-change, slice_get-below}
 use Rattle.evm_runs.specs.Changes.{Adds, Added, Typed}
-use Rattle.evm_runs.proofs.Frames.{Frame, Still, Keeps, frame_none, frame_then, frame_hart, frame_state, frame_restamp, frame_processor, frame_leave, frame_pipe, frame_add, keeps_advance, keeps_answer, still_none, still_then, still_hart, still_state, still_restamp, still_leave, still_pipe}
+use Rattle.evm_runs.proofs.Frames.{Frame, Still, Keeps, frame_none, frame_then, frame_hart, frame_state, frame_restamp, frame_leave, frame_pipe, frame_add, keeps_advance, keeps_answer, still_none, still_then, still_state, still_restamp, still_leave, still_pipe}
 
 -- what an instruction of task t of c leaves alone
 pub record Acts (c t : ℕ) (old new : Parts) : Type 0 where

@@ -1,8 +1,6 @@
 -- What a row leaves alone: only c's processor and pipe change, and only the acting task and such as wake on c.
-use Rattle.std.proofs.Common.{◌≡◌, ℕ, zero, suc, ◌+◌, ◌≤◌, List, [], ◌∷◌, ◌++◌, Bool, true, false, ◌&&◌, Option, Some, None, length, ◌⊎◌, inl, inr, refl, ap, sym, ◌∙◌, arith, replicate}
-use Rattle.std.specs.Prelude.{slice_get, slice_set, option_map, ◌==◌, if◌then◌else◌}
-use Rattle.std.proofs.lemmas.Bool.{cases_eq}
-use Rattle.std.proofs.lemmas.Bool.Decides.{eqb_tells}
+use Rattle.std.proofs.Common.{◌≡◌, ℕ, ◌≤◌, List, Bool, true, false, Option, Some, None, length, ◌⊎◌, inl, inr, refl, ap, sym, ◌∙◌, arith, replicate}
+use Rattle.std.specs.Prelude.{slice_get, slice_set, ◌==◌, if◌then◌else◌}
 use Rattle.std.proofs.lemmas.List.{length-set, length-replicate}
 use Rattle.evm_exec.specs.Registers.{with_register}
 use Rattle.evm_exec.specs.declared.hart.Hart.{Hart}
@@ -11,13 +9,13 @@ use Rattle.evm_model.specs.Harts.{A0, set_register, set_pc, advance, spawned_har
 use Rattle.evm_model.specs.Lists.{change}
 use Rattle.evm_model.specs.Pipes.{Pipe}
 use Rattle.evm_model.specs.State.{Parts, new_task, on_hart, on_task, on_processor, on_pipe}
-use Rattle.evm_model.specs.Tasks.{restamp, set_state, leave_in_band, wake_in_band, wake_below, wake_waiter, awaits, is_wait_for}
+use Rattle.evm_model.specs.Tasks.{restamp, set_state, leave_in_band}
 use Rattle.evm_model.specs.declared.processor.Processor.{Processor}
 use Rattle.evm_model.specs.declared.task.Task.{Task}
 use Rattle.evm_model.specs.declared.task.TaskState.{TaskState}
 use Rattle.evm_model.specs.declared.task.TaskState.TheVariants.{InReady, Waits}
 use Rattle.evm_model.specs.declared.task.Wait.TheVariants.{Line}
-use Rattle.evm_model.proofs.Lists.{slice_get-set_other, length-change, change-here, change-elsewhere, change-cases, slice_get-push, slice_get-before}
+use Rattle.evm_model.proofs.Lists.{slice_get-set_other, length-change, change-elsewhere, change-cases, slice_get-push, slice_get-before}
 use Rattle.evm_runs.specs.Changes.{Rests, Wakes}
 use Rattle.evm_runs.specs.Kept.{AreRegisters, AllHaveRegisters}
 

@@ -1,10 +1,9 @@
 -- What settling a processor leaves alone.
-use Rattle.std.proofs.Common.{◌≡◌, ℕ, List, [], ◌∷◌, Option, Some, None, length}
+use Rattle.std.proofs.Common.{ℕ, List, [], ◌∷◌, Option, Some, None, length}
 use Rattle.std.specs.Prelude.{slice_get, ◌==◌}
 use Rattle.evm_model.specs.Pipes.{Pipe, play}
 use Rattle.evm_model.specs.Settle.{current, is_oob, play_in_band, play_oob_lines, play_in_band_lines, settle_oob_pipe, settle_oob, play_in_band_pipe, turn_in_band, settle_in_band, settle}
 use Rattle.evm_model.specs.State.{Parts, on_pipe}
-use Rattle.evm_model.specs.Tasks.{wake_below}
 use Rattle.evm_model.specs.declared.stage.Stage.TheVariants.{InBand}
 use Rattle.evm_walk.proofs.Playing.{play_oob-on, oob_played_if}
 use Rattle.evm_runs.proofs.Frames.{Frame, Still, frame_none, frame_then, frame_if, frame_processor, frame_pipe, still_none, still_then, still_if, still_processor, still_pipe}

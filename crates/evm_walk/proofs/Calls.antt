@@ -1,10 +1,10 @@
 -- One lemma a call: the call is made of moves.
-use Rattle.std.proofs.Common.{◌≡◌, ℕ, ◌+◌, ◌≤◌, Bool, true, false, Option, Some, None, length, refl, arith}
+use Rattle.std.proofs.Common.{ℕ, Bool, true, false, Option, Some, None, length, refl, arith}
 use Rattle.std.specs.Prelude.{slice_get, is_none, nat_lt, nat_le, ◌==◌, if◌then◌else◌}
 use Rattle.evm_exec.specs.Registers.{register_of}
 use Rattle.evm_exec.specs.declared.hart.Hart.{Hart}
 use Rattle.evm_lines.specs.declared.TheConstants.{LINES}
-use Rattle.evm_model.specs.Calls.{call_of, refused, in_band_stalled, exit, putc, yield_now, is_bad_entry, add_task, spawn, stall, wait_line, set_line, demote, perform, answered, finish_call, call_on, call_known, call_of_hart, call}
+use Rattle.evm_model.specs.Calls.{call_of, refused, in_band_stalled, exit, putc, yield_now, is_bad_entry, spawn, stall, wait_line, set_line, demote, perform, answered, finish_call, call_on, call_known, call_of_hart, call}
 use Rattle.evm_model.specs.Harts.{A7, argument}
 use Rattle.evm_model.specs.Pipes.{set_stall}
 use Rattle.evm_model.specs.Settle.{is_oob}
@@ -18,7 +18,6 @@ use Rattle.evm_model.specs.declared.errno.Errno.TheVariants.{NoSuchCall}
 use Rattle.evm_model.specs.declared.limits.TheConstants.{TASK_LIMIT}
 use Rattle.evm_model.specs.declared.stage.Stage.{Stage}
 use Rattle.evm_model.specs.declared.stage.Stage.TheVariants.{OutOfBand, InBand}
-use Rattle.evm_model.specs.declared.task.TaskState.{TaskState}
 use Rattle.evm_model.specs.declared.task.TaskState.TheVariants.{InReady, Waits as Waiting}
 use Rattle.evm_model.specs.declared.task.Wait.TheVariants.{Line}
 use Rattle.evm_walk.proofs.Moves.{stalls, Takes, takes_then, takes_none, takes_hart, takes_pipe}

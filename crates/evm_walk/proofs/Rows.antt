@@ -21,7 +21,7 @@ use Rattle.evm_model.specs.Harts.{advance}
 use Rattle.evm_model.specs.Instructions.{stop, finish, finish_load, finish_store, execute, execute_inst, execute_word}
 use Rattle.evm_model.specs.Lists.{each}
 use Rattle.evm_model.specs.Memory.{fetch, read, write}
-use Rattle.evm_model.specs.Pipes.{Pipe, raise, receive, set_stall}
+use Rattle.evm_model.specs.Pipes.{Pipe, raise, receive}
 use Rattle.evm_model.specs.Refusals.{board_refusal}
 use Rattle.evm_model.specs.Rows.{run, step_hart, step_current, step_wire, step_pipe, step_processor, step, single_step, row}
 use Rattle.evm_model.specs.Settle.{current, is_oob, settle_oob_pipe, settle_oob, play_in_band_pipe, turn_in_band, settle_in_band, settle, nudge_pipe, nudge, settle_and_nudge, wants_nudge, play_oob_lines}
@@ -31,11 +31,9 @@ use Rattle.evm_model.specs.declared.event.Answer.TheVariants.{Stopped}
 use Rattle.evm_model.specs.declared.event.Event.{Event}
 use Rattle.evm_model.specs.declared.event.Event.TheVariants.{Step, Tick, Raise, Bell, Stop, Go, StepI, SetReg, SetPc, Poke, Break, Unbreak}
 use Rattle.evm_model.specs.declared.processor.Processor.{Processor}
-use Rattle.evm_model.specs.declared.stage.Stage.TheVariants.{InBand}
-use Rattle.evm_model.specs.declared.task.TaskState.{TaskState}
 use Rattle.evm_ram.specs.declared.refusal.Refusal.TheVariants.{NoSuchLine}
 use Rattle.evm_model.proofs.Lists.{slice_get-each, length-each_from}
-use Rattle.evm_walk.proofs.Moves.{receives, stalls, Takes, takes_then, takes_more, takes_none, takes_if, takes_hart, takes_task, takes_processor, takes_pipe, takes_raise, takes_raises}
+use Rattle.evm_walk.proofs.Moves.{receives, Takes, takes_then, takes_more, takes_none, takes_if, takes_hart, takes_processor, takes_pipe, takes_raise, takes_raises}
 use Rattle.evm_walk.proofs.Playing.{first_on, oob_lines_take, in_band_lines_take}
 use Rattle.evm_walk.proofs.Refused.{passes, is_line}
 use Rattle.evm_walk.proofs.Calls.{call_takes}

@@ -1,17 +1,17 @@
 -- What is done to one task is made of moves that touch no pipe.
-use Rattle.std.proofs.Common.{◌≡◌, ℕ, zero, suc, ◌+◌, ◌≤◌, [], ◌∷◌, ◌++◌, Bool, true, false, length, length-append, refl, ap, ◌∙◌, inl, arith}
+use Rattle.std.proofs.Common.{◌≡◌, ℕ, zero, suc, ◌≤◌, [], ◌∷◌, Bool, true, false, length, length-append, refl, ap, ◌∙◌, inl, arith}
 use Rattle.std.specs.Prelude.{slice_get, if◌then◌else◌}
 use Rattle.evm_model.specs.Calls.{add_task}
 use Rattle.evm_model.specs.Harts.{A0, set_register, spawned_hart}
 use Rattle.evm_model.specs.Pipes.{set_stall}
 use Rattle.evm_model.specs.State.{Parts, new_task, on_hart, on_pipe}
-use Rattle.evm_model.specs.Tasks.{restamp, set_state, leave_in_band, end_task, wake_in_band, wake_waiter, wake_below, awaits}
+use Rattle.evm_model.specs.Tasks.{restamp, set_state, leave_in_band, end_task, wake_in_band, wake_below, awaits}
 use Rattle.evm_model.specs.declared.stage.Stage.TheVariants.{InBand}
 use Rattle.evm_model.specs.declared.task.Task.{Task}
 use Rattle.evm_model.specs.declared.task.TaskState.{TaskState}
 use Rattle.evm_model.specs.declared.task.TaskState.TheVariants.{InReady}
 use Rattle.evm_model.proofs.Lists.{length-change}
-use Rattle.evm_walk.proofs.Moves.{stalls, Takes, takes_once, takes_then, takes_none, takes_if, takes_hart, takes_task, takes_processor, takes_pipe}
+use Rattle.evm_walk.proofs.Moves.{stalls, Takes, takes_once, takes_then, takes_none, takes_if, takes_hart, takes_processor, takes_pipe}
 
 -- neither pipes, processors nor the clock change, and tasks only get more
 pub record IsQuiet (k new : Parts) : Type 0 where
