@@ -1,10 +1,10 @@
 -- Changing one processor's pipe after another is changing each.
-use Rattle.std.proofs.Common.{◌≡◌, ℕ, zero, suc, ◌+◌, ◌<◌, ◌≤◌, List, Bool, true, false, Option, Some, None, length, refl, sym, ap, ◌∙◌, ◌⊎◌, inl, inr, arith, add-one, leb-true, leb-false}
+use Rattle.std.proofs.Common.{◌≡◌, ℕ, zero, suc, ◌+◌, ◌<◌, ◌≤◌, List, Bool, true, false, Option, Some, None, length, refl, sym, ap, ◌∙◌, inl, inr, arith, add-one, leb-true, leb-false}
 use Rattle.std.specs.Prelude.{slice_get, slice_set, option_map, nat_le, ◌==◌, if◌then◌else◌, map}
 use Rattle.std.proofs.Math.Nat.{eq-or-lt_of_le}
 use Rattle.std.proofs.lemmas.Option.{slice_get-map, slice_get_past}
 use Rattle.evm_model.specs.Bounds.{PipesUpTo}
-use Rattle.evm_model.specs.Lists.{change, change_some, each}
+use Rattle.evm_model.specs.Lists.{change, each}
 use Rattle.evm_model.specs.Pipes.{Pipe, raise}
 use Rattle.evm_model.specs.Settle.{nudge_pipe, wants_nudge, nudge}
 use Rattle.evm_model.specs.State.{Parts, on_pipe}

@@ -1,14 +1,13 @@
 -- Room for counts, as a row takes it up.
-use Rattle.std.proofs.Common.{◌≡◌, ℕ, ◌+◌, ◌-◌, ◌^◌, ◌≤◌, List, Bool, false, None, length, arith}
+use Rattle.std.proofs.Common.{ℕ, ◌+◌, ◌-◌, ◌^◌, ◌≤◌, Bool, false, arith}
 use Rattle.evm_model.specs.Bounds.{PipesUpTo}
 use Rattle.evm_model.specs.Calls.{call}
 use Rattle.evm_model.specs.Commands.{set_bits}
-use Rattle.evm_model.specs.Pipes.{play, receive, set_stall}
+use Rattle.evm_model.specs.Pipes.{play, receive}
 use Rattle.evm_model.specs.Settle.{settle, settle_oob}
 use Rattle.evm_model.specs.Tasks.{end_task}
-use Rattle.evm_model.specs.State.{Parts, on_pipe, on_task, on_processor}
+use Rattle.evm_model.specs.State.{Parts, on_pipe, on_processor}
 use Rattle.evm_model.specs.declared.stage.Stage.{Stage}
-use Rattle.evm_model.specs.declared.stage.Stage.TheVariants.{InBand}
 use Rattle.evm_model.specs.declared.task.TaskState.{TaskState}
 use Rattle.evm_walk.proofs.Calls.{call_takes}
 use Rattle.evm_walk.proofs.Counted.{takes_counted}
@@ -17,7 +16,7 @@ use Rattle.evm_walk.proofs.Sets.{takes_pipes}
 use Rattle.evm_walk.proofs.Tasks.{takes_end}
 use Rattle.evm_rules.proofs.Settling.{only-settle_oob}
 use Rattle.evm_rules.proofs.Stamps.{call-gives}
-use Rattle.evm_rules.proofs.Bounded.{AreWithin, within-more, within-settle_oob, within-settle, within-receive, within-stall}
+use Rattle.evm_rules.proofs.Bounded.{AreWithin, within-more, within-settle_oob, within-settle, within-receive}
 use Rattle.evm_rules.proofs.Counting.{PipesUpTo-more, on_play-up}
 
 -- one play before one arrival

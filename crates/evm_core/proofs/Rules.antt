@@ -1,5 +1,5 @@
 -- The room that the machine's rules leave.
-use Rattle.std.proofs.Common.{ℕ, ◌^◌, ◌<◌, ◌≤◌, arith}
+use Rattle.std.proofs.Common.{◌^◌, ◌<◌, ◌≤◌, arith}
 use Rattle.evm_model.specs.Good.{GoodState}
 use Rattle.evm_model.specs.State.{State}
 use Rattle.evm_rules.proofs.Bounded.{AreWithin, within-more}

@@ -1,4 +1,4 @@
-use Rattle.std.proofs.Common.{◌≡◌, None}
+use Rattle.std.proofs.Common.{◌≡◌}
 use Rattle.std.specs.Prelude.{replicate}
 use Rattle.evm_model.specs.Pipes.{idle_pipe}
 use Rattle.evm_core.proofs.booting.pipes_of.Given as goal

@@ -1,4 +1,4 @@
-use Rattle.std.proofs.Common.{◌≡◌, ◌+◌, ◌^◌, ◌∙◌, List, sym, ap, arith}
+use Rattle.std.proofs.Common.{◌+◌, ◌^◌, ◌∙◌, List, sym, ap, arith}
 use Rattle.evm_model.specs.Pipes.{Pipe, raise}
 use Rattle.evm_model.specs.State.{Parts, on_pipe}
 use Rattle.evm_rules.proofs.Counting.{PipesUpTo-more, on_raise-up}

@@ -1,4 +1,4 @@
-use Rattle.std.proofs.Common.{◌≡◌, ◌+◌, ◌^◌, ◌∙◌, sym, ap, arith}
+use Rattle.std.proofs.Common.{◌+◌, ◌^◌, ◌∙◌, sym, ap, arith}
 use Rattle.evm_rules.proofs.Counting.{PipesUpTo-more}
 use Rattle.evm_core.specs.Nudges.{nudge_one}
 use Rattle.evm_core.proofs.Nudges.{nudge_one-none, nudge_one-more, nudge_one-all, nudge_one-up}

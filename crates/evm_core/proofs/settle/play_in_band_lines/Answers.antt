@@ -1,4 +1,4 @@
-use Rattle.std.proofs.Common.{◌≡◌, ◌+◌, ◌-◌, ◌*◌, ◌^◌, ◌∷◌, length, refl, ap, arith}
+use Rattle.std.proofs.Common.{◌≡◌, ◌+◌, ◌-◌, ◌^◌, ◌∷◌, length, refl, ap, arith}
 use Rattle.evm_model.specs.Settle.{play_in_band_lines}
 use Rattle.evm_rules.proofs.Counting.{PipesUpTo-more, play_in_band-up}
 use Rattle.evm_core.proofs.settle.play_in_band_lines.Goals as goal
