@@ -230,16 +230,21 @@ module _ (c t : ℕ) (k : Parts) (g : GoodBut c k) (o : IsOwn c t k.tasks) where
 
   putc-but : (byte : ℕ) → GoodBut c (putc byte k).0
   unfolding putc
-  putc-but byte = record { pipes = g.pipes; others = g.others; own = g.own; shape = record {
-    aligned = g.shape.aligned;
-    homes = g.shape.homes;
-    stamps_below = g.shape.stamps_below;
-    stamps_differ = g.shape.stamps_differ;
-    harts_count = g.shape.harts_count;
-    pipes_count = g.shape.pipes_count;
-    few_tasks = g.shape.few_tasks;
-    few_processors = g.shape.few_processors;
-  } }
+  putc-but byte = record {
+    pipes = g.pipes;
+    others = g.others;
+    own = g.own;
+    shape = record {
+      aligned = g.shape.aligned;
+      homes = g.shape.homes;
+      stamps_below = g.shape.stamps_below;
+      stamps_differ = g.shape.stamps_differ;
+      harts_count = g.shape.harts_count;
+      pipes_count = g.shape.pipes_count;
+      few_tasks = g.shape.few_tasks;
+      few_processors = g.shape.few_processors;
+    };
+  }
 
   yield-but : GoodBut c (yield_now c t k).0
   unfolding yield_now
