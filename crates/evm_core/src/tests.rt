@@ -10,7 +10,7 @@ use std::test::Fail;
 // One instruction of each format, from RAM's first byte on (RISC-V Unprivileged ISA 20191213); zeros follow.
 const CODE: [u32; 16] = [
     0x0050_0293, // addi x5, x0, 5
-    0x8000_0337, // lui x6, 0x80000
+    0x8000_08b7, // lui x17, 0x80000: a number that is no call's
     0x0000_0317, // auipc x6, 0
     0x0022_9393, // slli x7, x5, 2
     0x0052_83b3, // add x7, x5, x5
