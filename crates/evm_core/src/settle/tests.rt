@@ -9,10 +9,11 @@ ghost use Rattle.evm_rules.proofs.Bounded.{AreWithin};
 use super::{nudge, nudge_one, settle_and_nudge, wants_nudge};
 use arrayvec::ArrayVec;
 use evm_exec::Hart;
-use evm_model::{Class, Processor, Stage, Task, TaskState, Wait};
-use evm_parts::Parts;
+use evm_model::{Class, Mode, Processor, Stage, Task, TaskState, Wait};
+use evm_parts::{Console, Parts};
 use evm_pipe::Pipe;
 use evm_task::{Harts, Tasks};
+use std::alloc::Global;
 use std::test::Fail;
 
 // Processor 1, for which task 0 is ready, and whether it is to be told.
@@ -127,13 +128,19 @@ fn task_of(cpu: u8, state: TaskState) -> Task {
         cpu,
         class: Class::Fifo,
         priority: 10,
+        slice: 0,
+        mode: Mode {
+            stage_switches: false,
+            lock_mistakes: false,
+        },
         stamp: 0,
+        deadline: 0,
         state,
     }
 }
 
 // Three processors of which processor 1 runs what the row says, and this task, the only one.
-fn parts_with(task: Task, row: &Row) -> Parts
+fn parts_with(console: Console, task: Task, row: &Row) -> Parts
     ensures { result.pipes ≡ replicate 3 idle_pipe }
 {
     let mut processors = ArrayVec::new();
@@ -159,6 +166,15 @@ fn parts_with(task: Task, row: &Row) -> Parts
         processors,
         pipes,
         stamps: 1,
+        console,
+    }
+}
+
+// An empty console.
+fn console_of(alloc: Global) -> Result<Console, Fail> {
+    match Console::new(alloc) {
+        Ok(console) => Ok(console),
+        Err(_) => Err("no memory".into()),
     }
 }
 
@@ -177,10 +193,10 @@ fn wire(parts: &mut Parts, line: Line)
 }
 
 // The parts of a row.
-fn parts_of(task: Task, row: &Row) -> Parts
+fn parts_of(console: Console, task: Task, row: &Row) -> Parts
     ensures { AreWithin 1 result }
 {
-    let mut parts = parts_with(task, row);
+    let mut parts = parts_with(console, task, row);
     wire(&mut parts, row.wire);
     parts.set_stall(1, Stage::OutOfBand, row.oob_stalled);
     parts.set_stall(1, Stage::InBand, row.in_band_stalled);
@@ -199,7 +215,8 @@ fn raises(parts: &Parts, c: u8) -> Option<(u64, u64)> {
 #[tactic(auto, using(crate::proofs::Idle::idle))]
 fn others_are_told(rt: HostRuntime) -> Result<(), Fail> {
     for row in ROWS.iter() {
-        let mut parts = parts_of(task_of(1, TaskState::OobReady), row);
+        let console = console_of(rt.alloc())?;
+        let mut parts = parts_of(console, task_of(1, TaskState::OobReady), row);
         let name = row.name;
         let pipe = parts.pipe(1).ok_or("a pipe")?;
         assert_eq!(rt; wants_nudge(&parts, 1, pipe), row.told, "{name}");
@@ -216,23 +233,26 @@ fn others_are_told(rt: HostRuntime) -> Result<(), Fail> {
 // The processor that acts is never told: it has settled.
 #[test]
 #[tactic(auto, using(crate::proofs::Idle::idle))]
-fn the_acting_processor_is_not_told(rt: HostRuntime) {
+fn the_acting_processor_is_not_told(rt: HostRuntime) -> Result<(), Fail> {
     for row in ROWS.iter() {
         let name = row.name;
-        let mut parts = parts_of(task_of(1, TaskState::OobReady), row);
+        let console = console_of(rt.alloc())?;
+        let mut parts = parts_of(console, task_of(1, TaskState::OobReady), row);
         let before = raises(&parts, 1);
         nudge(&mut parts, 1);
         assert_eq!(rt; raises(&parts, 1), before, "{name}");
-        let mut parts = parts_of(task_of(1, TaskState::OobReady), row);
+        let console = console_of(rt.alloc())?;
+        let mut parts = parts_of(console, task_of(1, TaskState::OobReady), row);
         nudge_one(&mut parts, 1, 1);
         assert_eq!(rt; raises(&parts, 1), before, "{name}");
     }
+    Ok(())
 }
 
 // Nobody is told of a task that isn't ready out-of-band, or that belongs to the acting processor or to none.
 #[test]
 #[tactic(auto, using(crate::proofs::Idle::idle))]
-fn nobody_is_told_of_other_tasks(rt: HostRuntime) {
+fn nobody_is_told_of_other_tasks(rt: HostRuntime) -> Result<(), Fail> {
     for (cpu, state) in [
         (1, TaskState::InReady),
         (1, TaskState::Exit),
@@ -240,37 +260,47 @@ fn nobody_is_told_of_other_tasks(rt: HostRuntime) {
         (0, TaskState::OobReady),
         (3, TaskState::OobReady),
     ] {
-        let mut parts = parts_of(task_of(cpu, state), &IDLE);
+        let console = console_of(rt.alloc())?;
+        let mut parts = parts_of(console, task_of(cpu, state), &IDLE);
         nudge(&mut parts, 0);
         let told = [raises(&parts, 0), raises(&parts, 1), raises(&parts, 2)];
         assert_eq!(rt; told, [Some((0, 0)); 3], "of {state:?} on {cpu}");
     }
+    Ok(())
 }
 
 // A processor that there is not is told nothing, and one for which nothing is ready neither.
 #[test]
 #[tactic(auto, using(crate::proofs::Idle::idle))]
-fn one_processor_is_told(rt: HostRuntime) {
-    let mut parts = parts_of(task_of(1, TaskState::OobReady), &IDLE);
+fn one_processor_is_told(rt: HostRuntime) -> Result<(), Fail> {
+    let console = console_of(rt.alloc())?;
+    let mut parts = parts_of(console, task_of(1, TaskState::OobReady), &IDLE);
     nudge_one(&mut parts, 0, 3);
     assert_eq!(rt; raises(&parts, 1), Some((0, 0)));
     assert_eq!(rt; raises(&parts, 3), None);
-    let mut parts = parts_of(task_of(1, TaskState::OobReady), &IDLE);
+    let console = console_of(rt.alloc())?;
+    let mut parts = parts_of(console, task_of(1, TaskState::OobReady), &IDLE);
     nudge_one(&mut parts, 0, 2);
     assert_eq!(rt; raises(&parts, 1), Some((0, 0)));
     assert_eq!(rt; raises(&parts, 2), Some((0, 0)));
+    Ok(())
 }
 
 // A processor that settles tells the others, and takes the task up if it is its own.
 #[test]
 #[tactic(auto, using(crate::proofs::Idle::idle))]
-fn settling_tells(rt: HostRuntime) {
-    let mut parts = parts_of(task_of(1, TaskState::OobReady), &IDLE);
+fn settling_tells(rt: HostRuntime) -> Result<(), Fail> {
+    let console = console_of(rt.alloc())?;
+    let mut parts = parts_of(console, task_of(1, TaskState::OobReady), &IDLE);
+    assert_eq!(rt; parts.stamps, 1);
     settle_and_nudge(&mut parts, 0);
     assert_eq!(rt; raises(&parts, 1), Some((1, 0)));
     assert_eq!(rt; parts.current(1), None);
-    let mut parts = parts_of(task_of(1, TaskState::OobReady), &IDLE);
+    let console = console_of(rt.alloc())?;
+    let mut parts = parts_of(console, task_of(1, TaskState::OobReady), &IDLE);
+    assert_eq!(rt; parts.stamps, 1);
     settle_and_nudge(&mut parts, 1);
     assert_eq!(rt; raises(&parts, 1), Some((0, 0)));
     assert_eq!(rt; parts.current(1), Some(0));
+    Ok(())
 }
