@@ -3,7 +3,7 @@
 ghost use Rattle.evm_asm.specs.FirstFault.{RefusedWithTheFirst};
 
 /// A source becomes a program exactly where no line has a fault, and else the least fault of the first line that has
-/// any is told.
+/// any is reported.
 pub fn refused_with_the_first()
     ensures { RefusedWithTheFirst }
 {}

@@ -46,7 +46,7 @@ pub fn every_item_has_its_word()
     ensures { EveryItemHasItsWord }
 {}
 
-/// What a source means is spelled without a fault.
+/// What a source means is written without a fault.
 pub fn spelling_never_fails()
     ensures { SpellingNeverFails }
 {}

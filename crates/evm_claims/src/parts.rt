@@ -247,7 +247,7 @@ pub fn the_best_task_is_first()
 }
 
 /// Where the journal is full every event is refused with Full; else an event is refused exactly where a reason of the
-/// table applies, and of several the one of least number is told.
+/// table applies, and of several the one of least number is reported.
 pub fn the_least_refusal_is_told()
     ensures full { (s : State) (event : Event) → s.boot.capacity ≤ length s.journal → apply s event ≡ Result.Err Refusal.Full }
     ensures told { (s : State) (event : Event) (reason : Refusal) → apply s event ≡ Result.Err reason → reason ≢ Refusal.Full →

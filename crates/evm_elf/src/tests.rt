@@ -190,7 +190,7 @@ fn reads_what_gcc_built(rt: HostRuntime) -> Result<(), Fail> {
     Ok(())
 }
 
-/// Holds whichever growth is refused: a fault of the file is told with or without memory.
+/// Holds whichever growth is refused: a fault of the file is reported with or without memory.
 #[test]
 fn refused_growths_are_no_memory(rt: HostRuntime) {
     let alloc = rt.alloc();

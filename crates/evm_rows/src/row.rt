@@ -7,7 +7,7 @@ pub(crate) enum Job<'a> {
     Run,
     /// Runs a script with the image of this source.
     RunWith(&'a str),
-    /// Runs a script, or nothing at all, with the image whose bytes are spelled in hexadecimal digits.
+    /// Runs a script, or nothing at all, with the image whose bytes are written in hexadecimal digits.
     RunBytes,
     /// Assembles a source.
     Assemble,

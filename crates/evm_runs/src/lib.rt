@@ -58,7 +58,7 @@ pub fn finds_first()
     ensures { AlwaysFindsFirst }
 {}
 
-/// An event is refused exactly where there is a reason for it, and of several the one of least number is told:
+/// An event is refused exactly where there is a reason for it, and of several the one of least number is reported:
 /// that the journal is full goes before all others.
 pub fn tells_least()
     ensures { AlwaysTellsLeast }

@@ -5,7 +5,7 @@ ghost use Rattle.evm_serve.specs.Known.{ServesKnown, ServesKnownText, ImportsKno
 
 use std::io::{Read, Write};
 
-/// A refused event is told with the number of the line on which it stands in the journal.
+/// A refused event is reported with the number of the line on which it stands in the journal.
 pub fn refused_on_its_line()
     ensures { RefusedOnItsLine }
 {}

@@ -18,7 +18,7 @@ fn boot(alloc: Global, boot: &Boot) -> Result<Machine, Refusal>
     Machine::boot(alloc, boot.cpus as u8, boot.ram, boot.capacity as u32)
 }
 
-/// A machine with these numbers, and with the image in it, if there is one. Bad numbers are told before what the
+/// A machine with these numbers, and with the image in it, if there is one. Bad numbers are reported before what the
 /// image is refused for; `NoMemory` says that memory was refused.
 pub(crate) fn start(
     alloc: Global,

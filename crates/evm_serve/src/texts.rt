@@ -35,35 +35,35 @@ fn with_two(alloc: Global, word: &str, first: u64, second: u64) -> Result<String
     Ok(text)
 }
 
-/// What is told of a bad line, by its number.
+/// What is reported of a bad line, by its number.
 pub(crate) fn bad(alloc: Global, number: u64) -> Result<String, AllocError>
     ensures { IfOk result (λ text. string_bytes text ≡ bad_text number) }
 {
     with_one(alloc, "bad ", number)
 }
 
-/// What is told of a refused line, by its number.
+/// What is reported of a refused line, by its number.
 pub(crate) fn refused(alloc: Global, number: u64, refusal: Refusal) -> Result<String, AllocError>
     ensures { IfOk result (λ text. string_bytes text ≡ refused_text number refusal) }
 {
     with_two(alloc, "refused ", number, u64::from(refusal.number()))
 }
 
-/// What is told of a file that is no image.
+/// What is reported of a file that is no image.
 pub(crate) fn no_image(alloc: Global, fault: ElfFault) -> Result<String, AllocError>
     ensures { IfOk result (λ text. string_bytes text ≡ no_image_text fault) }
 {
     with_one(alloc, "image ", u64::from(fault.number()))
 }
 
-/// What is told of a source that has a fault.
+/// What is reported of a source that has a fault.
 pub(crate) fn no_program(alloc: Global, fault: &AsmFault) -> Result<String, AllocError>
     ensures { IfOk result (λ text. string_bytes text ≡ fault_text fault.now) }
 {
     with_two(alloc, "asm ", fault.line, u64::from(fault.kind.number()))
 }
 
-/// What is told of a text that is no journal.
+/// What is reported of a text that is no journal.
 pub(crate) fn no_journal(alloc: Global, fault: JournalFault) -> Result<String, AllocError>
     ensures { IfOk result (λ text. string_bytes text ≡ no_journal_text fault) }
 {

@@ -3,7 +3,7 @@
 ghost use Rattle.std.specs.Prelude.{◌≡◌};
 ghost use Rattle.evm_words.specs.Faults.{number_of, least, both};
 
-/// What is wrong with a line. Of several faults of one line the one of the least number is told.
+/// What is wrong with a line. Of several faults of one line the one of the least number is reported.
 #[derive(Clone, Copy, Debug, PartialEq, Eq)]
 pub enum AsmFaultKind {
     /// 1: characters that make no token, or a statement that begins with a number or a mark.

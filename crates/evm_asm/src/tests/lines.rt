@@ -69,7 +69,7 @@ pub const PAIRS: [(&str, AsmFaultKind); 34] = [
     ("x: y: x: y:", LabelTwice),
 ];
 
-/// Sources of more lines, with the line that is told and its fault.
+/// Sources of more lines, with the line that is reported and its fault.
 pub const LINES: [(&str, u64, AsmFaultKind); 36] = [
     // of two lines the lesser is told, whatever the numbers of their faults are
     ("j nowhere\n@", 1, LabelMissing),

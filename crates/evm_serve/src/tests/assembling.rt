@@ -7,7 +7,7 @@ use evm_streams::{ReadFault, ReadStop, read_utf8};
 use std::alloc::Global;
 use std::io::{self, Error, ErrorKind, Read, Write};
 
-/// One line that has a fault, and what is told of it.
+/// One line that has a fault, and what is reported of it.
 const FAULTY: &str = "addi a0,a0,2048";
 
 const TOLD: &[u8] = b"asm 1 4\n";

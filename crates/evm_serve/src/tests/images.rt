@@ -67,7 +67,7 @@ fn images_past_ram_are_refused(rt: HostRuntime) -> Result<(), Fail> {
     Ok(())
 }
 
-/// Reads the bytes as a file, and compares what is told of their fault.
+/// Reads the bytes as a file, and compares what is reported of their fault.
 fn check_fault(rt: &impl Abort, alloc: Global, file: &[u8], text: &str) {
     let mut reader = file;
     let mut written = Vec::new(alloc);
