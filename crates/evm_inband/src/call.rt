@@ -2,7 +2,8 @@
 
 ghost use Rattle.std.specs.Prelude.{◌≡◌, ◌<◌, ◌≤◌, ◌^◌, length};
 ghost use Rattle.evm_exec.specs.declared.hart.Hart.{Hart};
-ghost use Rattle.evm_model.specs.Calls.{demote, perform, answered, call};
+ghost use Rattle.evm_model.specs.Calls.{perform, answered, call};
+ghost use Rattle.evm_model.specs.Tasks.{demote};
 ghost use Rattle.evm_task.specs.Asks.{AskedBy};
 
 use crate::exit::exit;
@@ -49,7 +50,7 @@ fn answer(parts: &mut Parts, outcome: Outcome, t: u8)
 }
 
 // An out-of-band task goes in-band, its pc unchanged.
-#[tactic(auto, unfolding(evm_model::specs::Calls::demote))]
+#[tactic(auto, unfolding(evm_model::specs::Tasks::demote))]
 fn demote(parts: &mut Parts, c: u8, t: u8)
     requires { parts.old.stamps < 2 ^ 62 }
     ensures { parts.new ≡ demote c t parts.old }

@@ -1,11 +1,11 @@
 ghost use Rattle.std.specs.Prelude.{◌≡◌};
-ghost use Rattle.evm_model.specs.Calls.{exit};
+ghost use Rattle.evm_model.specs.InBandCalls.{exit};
 
 use evm_model::{Outcome, TaskState};
 use evm_parts::Parts;
 
 /// Call 0: the task ends. The stall of its processor's in-band stage ends with it.
-#[tactic(auto, unfolding(evm_model::specs::Calls::exit))]
+#[tactic(auto, unfolding(evm_model::specs::InBandCalls::exit))]
 pub fn exit(parts: &mut Parts, c: u8, t: u8) -> Outcome
     ensures { (parts.new, result) ≡ exit c t parts.old }
 {

@@ -1,5 +1,5 @@
 ghost use Rattle.std.specs.Prelude.{◌≡◌, ◌<◌, ◌≤◌, ◌^◌, length};
-ghost use Rattle.evm_model.specs.Calls.{is_bad_entry, spawn};
+ghost use Rattle.evm_model.specs.InBandCalls.{is_bad_entry, spawn};
 
 use crate::refused::refused;
 use evm_model::{Errno, Outcome, TASK_LIMIT};
@@ -17,7 +17,7 @@ fn is_bad_entry(ram: u64, entry: u64) -> bool
 /// Call 3: a new task of a processor, ready in-band, whose pc is the entry and whose a0 is the value; answers its
 /// number. -22 where the entry is no multiple of 4 in RAM or there is no such processor, else -12 where there are
 /// 64 tasks.
-#[tactic(auto, unfolding(evm_model::specs::Calls::spawn))]
+#[tactic(auto, unfolding(evm_model::specs::InBandCalls::spawn))]
 pub fn spawn(parts: &mut Parts, ram: u64, entry: u64, value: u64, cpu: u64) -> Outcome
     requires ram { ram ≤ SIZE_LIMIT }
     requires stamps { parts.old.stamps < 2 ^ 62 }

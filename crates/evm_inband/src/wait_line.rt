@@ -1,5 +1,5 @@
 ghost use Rattle.std.specs.Prelude.{◌≡◌, ◌<◌, ◌^◌};
-ghost use Rattle.evm_model.specs.Calls.{wait_line};
+ghost use Rattle.evm_model.specs.InBandCalls.{wait_line};
 
 use crate::refused::refused;
 use evm_lines::LINES;
@@ -8,7 +8,7 @@ use evm_parts::Parts;
 
 /// Call 6: the task waits until the line is played in-band on its processor, and is answered 0 then. -22 where there
 /// is no such line, else -1 while in-band is stalled.
-#[tactic(auto, unfolding(evm_model::specs::Calls::wait_line))]
+#[tactic(auto, unfolding(evm_model::specs::InBandCalls::wait_line))]
 pub fn wait_line(parts: &mut Parts, c: u8, t: u8, line: u64) -> Outcome
     requires stamps { parts.old.stamps < 2 ^ 62 }
     ensures { (parts.new, result) ≡ wait_line c t line parts.old }

@@ -1,12 +1,12 @@
 ghost use Rattle.std.specs.Prelude.{◌≡◌, ◌<◌, ◌^◌};
-ghost use Rattle.evm_model.specs.Calls.{yield_now};
+ghost use Rattle.evm_model.specs.InBandCalls.{yield_now};
 
 use crate::refused::refused;
 use evm_model::{Errno, Outcome};
 use evm_parts::Parts;
 
 /// Call 2: the task goes behind the others that are ready in-band; answers 0, or -1 while in-band is stalled.
-#[tactic(auto, unfolding(evm_model::specs::Calls::yield_now))]
+#[tactic(auto, unfolding(evm_model::specs::InBandCalls::yield_now))]
 pub fn yield_now(parts: &mut Parts, c: u8, t: u8) -> Outcome
     requires stamps { parts.old.stamps < 2 ^ 62 }
     ensures { (parts.new, result) ≡ yield_now c t parts.old }

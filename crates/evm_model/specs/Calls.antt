@@ -1,39 +1,58 @@
--- The calls of the in-band kernel: their numbers, and what each does.
-use Rattle.std.specs.Prelude.{ℕ, ◌+◌, ◌-◌, ◌%◌, List, [], ◌∷◌, ◌++◌, Option, Some, None, Bool, true, false, not, ◌==◌, nat_lt, nat_le, is_none, drop, if◌then◌else◌, slice_get, length}
+-- The calls: their numbers and stages, and the ECALL.
+use Rattle.std.specs.Prelude.{ℕ, List, [], ◌∷◌, Option, Some, None, Bool, true, false, ◌&&◌, ◌==◌, if◌then◌else◌, slice_get}
 use Rattle.evm_exec.specs.Registers.{register_of}
 use Rattle.evm_exec.specs.declared.hart.Hart.{Hart}
-use Rattle.evm_lines.specs.declared.TheConstants.{LINES}
-use Rattle.evm_model.specs.Errnos.{refusal_answer}
-use Rattle.evm_model.specs.Harts.{A7, advance, answer, argument, spawned_hart}
-use Rattle.evm_model.specs.Pipes.{Pipe, set_stall}
+use Rattle.evm_model.specs.Harts.{A7, advance, answer, argument}
+use Rattle.evm_model.specs.InBandCalls.{exit, putc, yield_now, spawn, wait_line, attach, detach, set_line}
+use Rattle.evm_model.specs.OobCalls.{stall, switch_oob, switch_in_band, set_sched, set_mode, yield_oob, clock, state_bits}
+use Rattle.evm_model.specs.Ranks.{is_oob_ready}
 use Rattle.evm_model.specs.Settle.{is_oob}
-use Rattle.evm_model.specs.State.{Parts, new_task, on_hart, on_pipe}
-use Rattle.evm_model.specs.Tasks.{restamp, set_state, leave_in_band, end_task}
-use Rattle.evm_ram.specs.declared.ram.TheConstants.{BASE}
+use Rattle.evm_model.specs.Stages.{refused, may_promote}
+use Rattle.evm_model.specs.State.{Parts, on_hart}
+use Rattle.evm_model.specs.Tasks.{demote, promote}
 use Rattle.evm_model.specs.declared.call.Call.{Call}
-use Rattle.evm_model.specs.declared.call.Call.TheVariants.{Exit as Ends, Putc, Yield, Spawn, Stall, Unstall, WaitLine, SetLine}
+use Rattle.evm_model.specs.declared.call.Call.TheVariants.{Exit as Ends, Putc, Yield, Spawn, Stall, Unstall, WaitLine, Attach, Detach, SetLine, SwitchOob, SwitchInBand, SetSched, SetMode, YieldOob, StallOob, UnstallOob, Clock, StateBits}
 use Rattle.evm_model.specs.declared.call.Outcome.{Outcome}
 use Rattle.evm_model.specs.declared.call.Outcome.TheVariants.{Answers, Waits, Leaves}
-use Rattle.evm_model.specs.declared.errno.Errno.{Errno}
-use Rattle.evm_model.specs.declared.errno.Errno.TheVariants.{NotPermitted, NoNumber, Invalid, NoSuchCall}
-use Rattle.evm_model.specs.declared.limits.TheConstants.{CONSOLE_LIMIT, TASK_LIMIT}
+use Rattle.evm_model.specs.declared.errno.Errno.TheVariants.{NotPermitted, NoSuchCall}
+use Rattle.evm_model.specs.declared.stage.Stage.{Stage}
 use Rattle.evm_model.specs.declared.stage.Stage.TheVariants.{OutOfBand, InBand}
-use Rattle.evm_model.specs.declared.task.TaskState.TheVariants.{InReady, Exit, Waits as Waiting}
-use Rattle.evm_model.specs.declared.task.Wait.TheVariants.{Line}
+use Rattle.evm_model.specs.declared.task.Class.{Class}
+use Rattle.evm_model.specs.declared.task.Class.TheVariants.{Weak}
+use Rattle.evm_model.specs.declared.task.Task.{Task}
 
--- ---- numbers
+-- the number of each call, and the stage that it is of; None where it is of either
+abbrev pub call_row : Call → ℕ × Option Stage
+call_row Ends = (0, Some InBand)
+call_row Putc = (1, Some InBand)
+call_row Yield = (2, Some InBand)
+call_row Spawn = (3, Some InBand)
+call_row Stall = (4, Some InBand)
+call_row Unstall = (5, Some InBand)
+call_row WaitLine = (6, Some InBand)
+call_row Attach = (7, Some InBand)
+call_row Detach = (8, Some InBand)
+call_row SetLine = (14, Some InBand)
+call_row SwitchOob = (32, Some OutOfBand)
+call_row SwitchInBand = (33, Some OutOfBand)
+call_row SetSched = (34, Some OutOfBand)
+call_row SetMode = (35, Some OutOfBand)
+call_row YieldOob = (50, Some OutOfBand)
+call_row StallOob = (51, Some OutOfBand)
+call_row UnstallOob = (52, Some OutOfBand)
+call_row Clock = (53, None)
+call_row StateBits = (54, None)
+
 abbrev pub call_number : Call → ℕ
-call_number Ends = 0
-call_number Putc = 1
-call_number Yield = 2
-call_number Spawn = 3
-call_number Stall = 4
-call_number Unstall = 5
-call_number WaitLine = 6
-call_number SetLine = 14
+call_number call = (call_row call).0
+
+abbrev pub call_stage : Call → Option Stage
+call_stage call = (call_row call).1
 
 abbrev pub all_calls : List Call
-all_calls = Ends ∷ Putc ∷ Yield ∷ Spawn ∷ Stall ∷ Unstall ∷ WaitLine ∷ SetLine ∷ []
+all_calls =
+    Ends ∷ Putc ∷ Yield ∷ Spawn ∷ Stall ∷ Unstall ∷ WaitLine ∷ Attach ∷ Detach ∷ SetLine ∷ SwitchOob ∷ SwitchInBand ∷ SetSched
+    ∷ SetMode ∷ YieldOob ∷ StallOob ∷ UnstallOob ∷ Clock ∷ StateBits ∷ []
 
 -- the first of the calls that has the number
 abbrev pub numbered : ℕ → List Call → Option Call
@@ -44,108 +63,64 @@ numbered n (call ∷ calls) = if n == call_number call then Some call else numbe
 abbrev pub call_of : ℕ → Option Call
 call_of n = numbered n all_calls
 
--- ---- what a call does to the parts, and what comes of it
-abbrev pub refused : Errno → Parts → Parts × Outcome
-refused e k = (k, Answers (refusal_answer e))
-
-abbrev pub stalled_pipe : Option Pipe → Bool
-stalled_pipe None = false
-stalled_pipe (Some pipe) = pipe.inband.stalled
-
--- whether in-band is stalled on c
-abbrev pub in_band_stalled : ℕ → Parts → Bool
-in_band_stalled c k = stalled_pipe (slice_get k.pipes c)
-
-abbrev pub bit : Bool → ℕ
-bit b = if b then 1 else 0
-
--- 0: the task ends
-unfoldable pub exit : ℕ → ℕ → Parts → Parts × Outcome
-exit c t k = (end_task c t Exit k, Leaves)
-
--- the last bytes that there is room for
-abbrev pub last_bytes : List ℕ → List ℕ
-last_bytes bytes = drop (length bytes - CONSOLE_LIMIT) bytes
-
--- 1: the low byte goes to the console
-unfoldable pub putc : ℕ → Parts → Parts × Outcome
-putc byte k = (record k { console = last_bytes (k.console ++ (byte % 256) ∷ []) }, Answers 0)
-
--- 2: the task goes behind the others that are ready; not while in-band is stalled
-unfoldable pub yield_now : ℕ → ℕ → Parts → Parts × Outcome
-yield_now c t k = if in_band_stalled c k then refused NotPermitted k else (leave_in_band c (restamp t k), Answers 0)
-
--- an entry that is no multiple of 4 in RAM of so many bytes
-abbrev pub is_bad_entry : ℕ → ℕ → Bool
-is_bad_entry ram entry = if not (entry % 4 == 0) then true else (if nat_lt entry BASE then true else nat_le (BASE + ram) entry)
-
--- a task more, whose a0 is the value
-unfoldable pub add_task : ℕ → ℕ → ℕ → Parts → Parts
-add_task entry value cpu k = record k {
-  harts = k.harts ++ spawned_hart entry value ∷ [];
-  tasks = k.tasks ++ new_task cpu k.stamps ∷ [];
-  stamps = k.stamps + 1;
-}
-
--- 3: a new task, ready in-band; its number is answered
-unfoldable pub spawn : ℕ → ℕ → ℕ → ℕ → Parts → Parts × Outcome
-spawn ram entry value cpu k =
-    if is_bad_entry ram entry then refused Invalid k
-    else (if is_none (slice_get k.processors cpu) then refused Invalid k
-    else (if nat_le TASK_LIMIT (length k.tasks) then refused NoNumber k
-    else (add_task entry value cpu k, Answers (length k.tasks))))
-
--- 4 and 5: in-band is stalled, or not; the old bit is answered
-unfoldable pub stall : Bool → ℕ → Parts → Parts × Outcome
-stall stalled c k = (on_pipe c (set_stall InBand stalled) k, Answers (bit (in_band_stalled c k)))
-
--- 6: the task waits until the line is played in-band; not while in-band is stalled
-unfoldable pub wait_line : ℕ → ℕ → ℕ → Parts → Parts × Outcome
-wait_line c t l k =
-    if nat_le LINES l then refused Invalid k
-    else (if in_band_stalled c k then refused NotPermitted k
-    else (leave_in_band c (restamp t (set_state t (Waiting (Line l)) k)), Waits))
-
--- 14: lines 2 to 31 have an action, 0 for none; the others name an object, and there is none yet
-unfoldable pub set_line : ℕ → ℕ → Parts → Parts × Outcome
-set_line l action k =
-    if nat_lt l 2 then refused Invalid k
-    else (if nat_le LINES l then refused Invalid k
-    else (if action == 0 then (k, Answers 0) else refused Invalid k))
-
--- ---- the ECALL
--- an out-of-band task goes in-band, its pc unchanged
-unfoldable pub demote : ℕ → ℕ → Parts → Parts
-demote c t k = restamp t (set_state t InReady (on_pipe c (set_stall OutOfBand false) k))
-
 -- what a call does for task t of processor c, which has this hart
 abbrev pub perform : Call → ℕ → Hart → ℕ → ℕ → Parts → Parts × Outcome
 perform Ends ram hart c t k = exit c t k
 perform Putc ram hart c t k = putc (argument 0 hart) k
 perform Yield ram hart c t k = yield_now c t k
 perform Spawn ram hart c t k = spawn ram (argument 0 hart) (argument 1 hart) (argument 2 hart) k
-perform Stall ram hart c t k = stall true c k
-perform Unstall ram hart c t k = stall false c k
+perform Stall ram hart c t k = stall InBand true c k
+perform Unstall ram hart c t k = stall InBand false c k
 perform WaitLine ram hart c t k = wait_line c t (argument 0 hart) k
+perform Attach ram hart c t k = attach t (argument 0 hart) (argument 1 hart) k
+perform Detach ram hart c t k = detach t k
 perform SetLine ram hart c t k = set_line (argument 0 hart) (argument 1 hart) k
+perform SwitchOob ram hart c t k = switch_oob k
+perform SwitchInBand ram hart c t k = switch_in_band c t k
+perform SetSched ram hart c t k = set_sched (argument 0 hart) (argument 1 hart) (argument 2 hart) k
+perform SetMode ram hart c t k = set_mode t (argument 0 hart) k
+perform YieldOob ram hart c t k = yield_oob t k
+perform StallOob ram hart c t k = stall OutOfBand true c k
+perform UnstallOob ram hart c t k = stall OutOfBand false c k
+perform Clock ram hart c t k = clock k
+perform StateBits ram hart c t k = state_bits c t k
+
+abbrev pub is_weak : Class → Bool
+is_weak Weak = true
+is_weak _ = false
+
+abbrev pub is_weak_oob : Option Task → Bool
+is_weak_oob None = false
+is_weak_oob (Some task) = is_oob_ready task.state && is_weak task.class
+
+-- a weak task stays out-of-band only until its call is answered
+unfoldable pub return_weak : ℕ → ℕ → Parts → Parts
+return_weak c t k = if is_weak_oob (slice_get k.tasks t) then demote c t k else k
 
 -- a call is answered, or its task waits, or has left
-abbrev pub answered : Outcome → ℕ → Parts → Parts
-answered (Answers value) t k = on_hart t (answer value) k
-answered Waits t k = on_hart t advance k
-answered Leaves t k = k
+abbrev pub answered : Outcome → ℕ → ℕ → Parts → Parts
+answered (Answers value) c t k = return_weak c t (on_hart t (answer value) k)
+answered Waits c t k = on_hart t advance k
+answered Leaves c t k = k
 
-abbrev pub finish_call : ℕ → Parts × Outcome → Parts
-finish_call t done = answered done.1 t done.0
+abbrev pub finish_call : ℕ → ℕ → Parts × Outcome → Parts
+finish_call c t done = answered done.1 c t done.0
 
--- an out-of-band task goes in-band first
-abbrev pub call_on : Bool → Call → ℕ → Hart → ℕ → ℕ → Parts → Parts
-call_on true call ram hart c t k = demote c t k
-call_on false call ram hart c t k = finish_call t (perform call ram hart c t k)
+-- a task that may goes out-of-band, its pc unchanged, so that it makes its call again there
+unfoldable pub ask_oob : ℕ → ℕ → Parts → Parts
+ask_oob c t k = if may_promote c t k then promote c t k else finish_call c t (refused NotPermitted k)
+
+-- a call of the other stage changes the task's stage first; one of either stage never does
+abbrev pub call_on : Option Stage → Call → ℕ → Hart → ℕ → ℕ → Parts → Parts
+call_on None call ram hart c t k = finish_call c t (perform call ram hart c t k)
+call_on (Some InBand) call ram hart c t k =
+    if is_oob (Some t) k.tasks then demote c t k else finish_call c t (perform call ram hart c t k)
+call_on (Some OutOfBand) call ram hart c t k =
+    if is_oob (Some t) k.tasks then finish_call c t (perform call ram hart c t k) else ask_oob c t k
 
 abbrev pub call_known : Option Call → ℕ → Hart → ℕ → ℕ → Parts → Parts
-call_known None ram hart c t k = finish_call t (refused NoSuchCall k)
-call_known (Some call) ram hart c t k = call_on (is_oob (Some t) k.tasks) call ram hart c t k
+call_known None ram hart c t k = finish_call c t (refused NoSuchCall k)
+call_known (Some call) ram hart c t k = call_on (call_stage call) call ram hart c t k
 
 abbrev pub call_of_hart : ℕ → Option Hart → ℕ → ℕ → Parts → Parts
 call_of_hart ram None c t k = k

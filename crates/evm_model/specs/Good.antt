@@ -9,19 +9,12 @@ use Rattle.evm_model.specs.Ranks.{best}
 use Rattle.evm_model.specs.Replay.{bad_boot}
 use Rattle.evm_model.specs.Settle.{is_oob}
 use Rattle.evm_model.specs.State.{State, Parts}
+use Rattle.evm_model.specs.Tasks.{is_live}
 use Rattle.evm_model.specs.declared.event.Event.{Event}
 use Rattle.evm_model.specs.declared.event.Event.TheVariants.{Tick}
 use Rattle.evm_model.specs.declared.limits.TheConstants.{PROCESSOR_LIMIT, TASK_LIMIT}
 use Rattle.evm_model.specs.declared.processor.Processor.{Processor}
 use Rattle.evm_model.specs.declared.task.Task.{Task}
-use Rattle.evm_model.specs.declared.task.TaskState.{TaskState}
-use Rattle.evm_model.specs.declared.task.TaskState.TheVariants.{Exit, Faulted}
-
--- a task that has not ended
-abbrev pub is_live : TaskState → Bool
-is_live Exit = false
-is_live (Faulted f) = false
-is_live _ = true
 
 -- task t is one of processor c's, and has not ended
 pub record IsOwn (c t : ℕ) (tasks : List Task) : Type 0 where
@@ -43,8 +36,6 @@ pub record IsSettled (c : ℕ) (pipe : Pipe) (p : Processor) (tasks : List Task)
   pub oob_played : pipe.oob.stalled ≡ false → pipe.oob.lines ≡ []
   -- an in-band log only while that stage is stalled or an out-of-band task is current
   pub in_band_played : pipe.inband.stalled ≡ false → is_oob p.current tasks ≡ false → pipe.inband.lines ≡ []
-  -- no call stalls out-of-band
-  pub oob_open : pipe.oob.stalled ≡ false
   -- a stage is stalled only by a current task of it
   pub oob_staller : pipe.oob.stalled ≡ true → is_oob p.current tasks ≡ true
   pub in_band_staller : pipe.inband.stalled ≡ true → p.in_band_task ≡ None → ⊥

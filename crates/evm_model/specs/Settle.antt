@@ -5,7 +5,7 @@ use Rattle.evm_model.specs.Lists.{each}
 use Rattle.evm_model.specs.Pipes.{Pipe, raise, arrive, play}
 use Rattle.evm_model.specs.Ranks.{best, next_in_band, is_oob_ready}
 use Rattle.evm_model.specs.State.{Parts, on_pipe, on_processor}
-use Rattle.evm_model.specs.Tasks.{wake_below}
+use Rattle.evm_model.specs.Tasks.{wake_below, spend_task}
 use Rattle.evm_model.specs.declared.processor.Processor.{Processor}
 use Rattle.evm_model.specs.declared.stage.Stage.TheVariants.{OutOfBand, InBand}
 use Rattle.evm_model.specs.declared.task.Task.{Task}
@@ -27,9 +27,18 @@ abbrev pub is_oob : Option ℕ → List Task → Bool
 is_oob None tasks = false
 is_oob (Some t) tasks = is_oob_task (slice_get tasks t)
 
--- what an out-of-band play does: the timer's line goes on into the in-band log, for the in-band tick
+-- a tick of the slice of c's current task
+abbrev pub spend_of : Option ℕ → Parts → Parts
+spend_of None k = k
+spend_of (Some t) k = spend_task (slice_get k.tasks t) t k
+
+unfoldable pub spend_current : ℕ → Parts → Parts
+spend_current c k = spend_of (current c k) k
+
+-- what an out-of-band play does: the timer's line takes a tick of the current task's slice, and goes on into the
+-- in-band log, for the in-band tick
 abbrev pub handle_oob : ℕ → ℕ → Parts → Parts
-handle_oob c l k = if l == 0 then on_pipe c (arrive InBand 0) k else k
+handle_oob c l k = if l == 0 then on_pipe c (arrive InBand 0) (spend_current c k) else k
 
 -- line l is played out-of-band on c
 unfoldable pub play_oob : ℕ → ℕ → Parts → Parts

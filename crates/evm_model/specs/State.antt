@@ -8,7 +8,7 @@ use Rattle.evm_model.specs.declared.boot.Boot.{Boot}
 use Rattle.evm_model.specs.declared.event.Event.{Event}
 use Rattle.evm_model.specs.declared.processor.Processor.{Processor}
 use Rattle.evm_model.specs.declared.task.Task.{Task}
-use Rattle.evm_model.specs.declared.task.Mode.{Mode}
+use Rattle.evm_model.specs.declared.mode.Mode.{Mode}
 use Rattle.evm_model.specs.declared.task.Class.TheVariants.{Unattached}
 use Rattle.evm_model.specs.declared.task.TaskState.TheVariants.{InReady}
 
@@ -71,7 +71,7 @@ abbrev pub first_processor : Option ℕ → Processor
 first_processor task = record { current = task; in_band_task = task; stopped = false; skip = false }
 
 abbrev pub no_mode : Mode
-no_mode = record { stage_switches = false; lock_mistakes = false }
+no_mode = record { bits = 0 }
 
 -- an unattached in-band task of a processor, with this stamp
 abbrev pub new_task : ℕ → ℕ → Task

@@ -1,12 +1,16 @@
 -- What is done to one task.
-use Rattle.std.specs.Prelude.{ℕ, zero, suc, ◌+◌, ◌==◌, ◌&&◌, Option, Some, None, Bool, false, if◌then◌else◌, slice_get}
+use Rattle.std.specs.Prelude.{ℕ, zero, suc, ◌+◌, ◌-◌, ◌==◌, ◌&&◌, nat_le, Option, Some, None, Bool, true, false, if◌then◌else◌, slice_get}
 use Rattle.evm_model.specs.Harts.{A0, set_register}
 use Rattle.evm_model.specs.Pipes.{set_stall}
-use Rattle.evm_model.specs.State.{Parts, on_hart, on_task, on_processor, on_pipe}
-use Rattle.evm_model.specs.declared.stage.Stage.TheVariants.{InBand}
+use Rattle.evm_model.specs.Ranks.{is_oob_ready}
+use Rattle.evm_model.specs.State.{Parts, no_mode, on_hart, on_task, on_processor, on_pipe}
+use Rattle.evm_model.specs.declared.limits.TheConstants.{SLICE}
+use Rattle.evm_model.specs.declared.stage.Stage.TheVariants.{OutOfBand, InBand}
+use Rattle.evm_model.specs.declared.task.Class.{Class}
+use Rattle.evm_model.specs.declared.task.Class.TheVariants.{Unattached, RoundRobin}
 use Rattle.evm_model.specs.declared.task.Task.{Task}
 use Rattle.evm_model.specs.declared.task.TaskState.{TaskState}
-use Rattle.evm_model.specs.declared.task.TaskState.TheVariants.{InReady, Waits}
+use Rattle.evm_model.specs.declared.task.TaskState.TheVariants.{InReady, OobReady, Waits, Exit, Faulted}
 use Rattle.evm_model.specs.declared.task.Wait.TheVariants.{Line}
 
 -- task t has a fresh stamp
@@ -28,6 +32,49 @@ end_task c t state k = set_state t state (leave_in_band c (on_pipe c (set_stall 
 -- task t, which waited in-band, is ready there: its call is answered
 unfoldable pub wake_in_band : ℕ → ℕ → Parts → Parts
 wake_in_band t value k = restamp t (set_state t InReady (on_hart t (set_register A0 value) k))
+
+-- task t goes in-band: it is ready there, and out-of-band isn't stalled on its processor c
+unfoldable pub demote : ℕ → ℕ → Parts → Parts
+demote c t k = restamp t (set_state t InReady (on_pipe c (set_stall OutOfBand false) k))
+
+-- task t goes out-of-band: it is ready there, and in-band current on c no more
+unfoldable pub promote : ℕ → ℕ → Parts → Parts
+promote c t k = leave_in_band c (restamp t (set_state t OobReady k))
+
+-- task t has a class and a priority, and a whole slice
+unfoldable pub set_policy : ℕ → Class → ℕ → Parts → Parts
+set_policy t class priority k = on_task t (λ task. record task { class = class; priority = priority; slice = SLICE }) k
+
+-- task t has no class, no priority and no mode bits
+unfoldable pub clear_policy : ℕ → Parts → Parts
+clear_policy t k = on_task t (λ task. record task { class = Unattached; priority = 0; mode = no_mode }) k
+
+-- task t has these mode bits
+unfoldable pub set_mode_bits : ℕ → ℕ → Parts → Parts
+set_mode_bits t bits k = on_task t (λ task. record task { mode = record { bits = bits } }) k
+
+-- task t has so many ticks left
+unfoldable pub set_slice : ℕ → ℕ → Parts → Parts
+set_slice t slice k = on_task t (λ task. record task { slice = slice }) k
+
+-- a task that has not ended
+abbrev pub is_live : TaskState → Bool
+is_live Exit = false
+is_live (Faulted f) = false
+is_live _ = true
+
+abbrev pub is_round_robin : Class → Bool
+is_round_robin RoundRobin = true
+is_round_robin _ = false
+
+-- a tick less; the last one gives a whole slice, and a fresh stamp
+unfoldable pub spend_slice : ℕ → ℕ → Parts → Parts
+spend_slice t slice k = if nat_le slice 1 then restamp t (set_slice t SLICE k) else set_slice t (slice - 1) k
+
+-- a task that is ready out-of-band and of the round-robin class spends a tick of its slice
+abbrev pub spend_task : Option Task → ℕ → Parts → Parts
+spend_task None t k = k
+spend_task (Some task) t k = if is_oob_ready task.state && is_round_robin task.class then spend_slice t task.slice k else k
 
 abbrev pub is_wait_for : ℕ → TaskState → Bool
 is_wait_for l (Waits (Line m)) = m == l

@@ -1,5 +1,7 @@
 ghost use Rattle.std.specs.Prelude.{◌≡◌};
-ghost use Rattle.evm_model.specs.Calls.{call_of};
+ghost use Rattle.evm_model.specs.Calls.{call_of, call_stage};
+
+use crate::Stage;
 
 /// What a7 asks of a kernel at an ECALL.
 #[derive(Clone, Copy, Debug, PartialEq, Eq)]
@@ -17,8 +19,29 @@ pub enum Call {
     Unstall,
     /// The task waits until a line is played in-band.
     WaitLine,
+    /// The task gets a class and a priority for the out-of-band stage.
+    Attach,
+    /// The task has no class any more.
+    Detach,
     /// What is done with a line.
     SetLine,
+    /// The task goes out-of-band.
+    SwitchOob,
+    /// The task goes in-band.
+    SwitchInBand,
+    /// A task gets another class and priority.
+    SetSched,
+    /// The task gets other mode bits.
+    SetMode,
+    /// The task goes behind the others of its rank that are ready out-of-band.
+    YieldOob,
+    /// The out-of-band stage plays nothing until it is unstalled, and its current task stays.
+    StallOob,
+    UnstallOob,
+    /// The clock.
+    Clock,
+    /// The task's stage, whether it is attached, and whether its stage is stalled.
+    StateBits,
 }
 
 impl Call {
@@ -34,8 +57,45 @@ impl Call {
             4 => Some(Call::Stall),
             5 => Some(Call::Unstall),
             6 => Some(Call::WaitLine),
+            7 => Some(Call::Attach),
+            8 => Some(Call::Detach),
             14 => Some(Call::SetLine),
+            32 => Some(Call::SwitchOob),
+            33 => Some(Call::SwitchInBand),
+            34 => Some(Call::SetSched),
+            35 => Some(Call::SetMode),
+            50 => Some(Call::YieldOob),
+            51 => Some(Call::StallOob),
+            52 => Some(Call::UnstallOob),
+            53 => Some(Call::Clock),
+            54 => Some(Call::StateBits),
             _ => None,
+        }
+    }
+
+    /// The stage that the call is of; None where it is of either.
+    pub fn stage(self) -> Option<Stage>
+        ensures { result ≡ call_stage self }
+    {
+        match self {
+            Call::Exit
+            | Call::Putc
+            | Call::Yield
+            | Call::Spawn
+            | Call::Stall
+            | Call::Unstall
+            | Call::WaitLine
+            | Call::Attach
+            | Call::Detach
+            | Call::SetLine => Some(Stage::InBand),
+            Call::SwitchOob
+            | Call::SwitchInBand
+            | Call::SetSched
+            | Call::SetMode
+            | Call::YieldOob
+            | Call::StallOob
+            | Call::UnstallOob => Some(Stage::OutOfBand),
+            Call::Clock | Call::StateBits => None,
         }
     }
 }

@@ -6,8 +6,12 @@ ghost use Rattle.evm_model.specs.Errnos.{refusal_answer};
 pub enum Errno {
     /// The task may not do this now (EPERM, 1).
     NotPermitted,
+    /// There is no such task (ESRCH, 3).
+    NoSuchTask,
     /// There is no number left (ENOMEM, 12).
     NoNumber,
+    /// It is so already (EBUSY, 16).
+    Busy,
     /// An argument is out of range, or names nothing (EINVAL, 22).
     Invalid,
     /// No call has this number (ENOSYS, 38).
@@ -21,7 +25,9 @@ impl Errno {
     {
         match self {
             Errno::NotPermitted => 0u64.wrapping_sub(1),
+            Errno::NoSuchTask => 0u64.wrapping_sub(3),
             Errno::NoNumber => 0u64.wrapping_sub(12),
+            Errno::Busy => 0u64.wrapping_sub(16),
             Errno::Invalid => 0u64.wrapping_sub(22),
             Errno::NoSuchCall => 0u64.wrapping_sub(38),
         }

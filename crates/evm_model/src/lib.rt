@@ -8,6 +8,7 @@ mod errno;
 mod event;
 mod fault;
 mod limits;
+mod mode;
 mod processor;
 mod stage;
 mod task;
@@ -19,9 +20,10 @@ pub use errno::Errno;
 pub use event::{Answer, Event};
 pub use fault::Fault;
 pub use limits::{
-    BREAKPOINT_LIMIT, CAPACITY_LIMIT, CONSOLE_LIMIT, POKE_LIMIT, PROCESSOR_LIMIT, RAM_LEAST,
-    RAM_UNIT, TASK_LIMIT,
+    BREAKPOINT_LIMIT, CAPACITY_LIMIT, CONSOLE_LIMIT, MODE_LIMIT, POKE_LIMIT, PRIORITY_LIMIT,
+    PROCESSOR_LIMIT, RAM_LEAST, RAM_UNIT, SLICE, TASK_LIMIT,
 };
+pub use mode::Mode;
 pub use processor::Processor;
 pub use stage::{Stage, StageLog};
-pub use task::{Class, Mode, Task, TaskState, Wait};
+pub use task::{Class, Task, TaskState, Wait};

@@ -21,3 +21,12 @@ pub const RAM_LEAST: u64 = 65_536;
 
 /// RAM has a multiple of so many bytes.
 pub const RAM_UNIT: u64 = 4_096;
+
+/// The ticks of a task of the round-robin class before it goes behind the others of its rank.
+pub const SLICE: u8 = 4;
+
+/// The greatest priority of a class.
+pub const PRIORITY_LIMIT: u8 = 99;
+
+/// The greatest sum of a task's mode bits.
+pub const MODE_LIMIT: u8 = 3;

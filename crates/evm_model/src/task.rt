@@ -1,4 +1,4 @@
-use crate::Fault;
+use crate::{Fault, Mode};
 
 /// How a task is scheduled out-of-band (EVL, "Scheduling policies").
 #[derive(Clone, Copy, Debug, PartialEq, Eq)]
@@ -34,15 +34,6 @@ pub enum TaskState {
     Faulted(Fault),
 }
 
-/// What a task is told of its own mistakes (EVL, "Thread mode bits"), which the calls of the out-of-band stage set.
-#[derive(Clone, Copy, Debug, PartialEq, Eq)]
-pub struct Mode {
-    /// T_WOSS: it is told when it is demoted.
-    pub stage_switches: bool,
-    /// T_WOLI: it is told when it locks or unlocks wrongly.
-    pub lock_mistakes: bool,
-}
-
 /// What the scheduler knows of a task; its registers stand apart.
 #[derive(Clone, Copy, Debug)]
 pub struct Task {
@@ -69,10 +60,7 @@ impl Default for Task {
             class: Class::Unattached,
             priority: 0,
             slice: 0,
-            mode: Mode {
-                stage_switches: false,
-                lock_mistakes: false,
-            },
+            mode: Mode { bits: 0 },
             stamp: 0,
             deadline: 0,
             state: TaskState::InReady,

@@ -1,5 +1,5 @@
 ghost use Rattle.std.specs.Prelude.{◌≡◌, ◌∷◌, ◌++◌, [], IfOk};
-ghost use Rattle.evm_model.specs.Calls.{last_bytes};
+ghost use Rattle.evm_model.specs.InBandCalls.{last_bytes};
 
 use circular_buffer::HeapCircularBuffer;
 use evm_model::CONSOLE_LIMIT;

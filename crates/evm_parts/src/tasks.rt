@@ -1,7 +1,8 @@
 //! What rows do to one task.
 
 ghost use Rattle.std.specs.Prelude.{◌≡◌, ◌<◌, ◌≤◌, ◌+◌, ◌^◌, false, slice_get, Option, length};
-ghost use Rattle.evm_model.specs.Calls.{in_band_stalled, add_task};
+ghost use Rattle.evm_model.specs.InBandCalls.{add_task};
+ghost use Rattle.evm_model.specs.Stages.{is_stalled};
 ghost use Rattle.evm_model.specs.State.{new_task};
 ghost use Rattle.evm_model.specs.Tasks.{restamp, set_state, leave_in_band, end_task, wake_in_band, wake_waiter, wake_below, awaits};
 
@@ -71,7 +72,7 @@ impl Parts {
 
     /// Whether the in-band stage of a processor is stalled.
     pub fn is_in_band_stalled(&self, c: u8) -> bool
-        ensures { result ≡ in_band_stalled c self.now }
+        ensures { result ≡ is_stalled InBand c self.now }
     {
         match self.pipe(c) {
             None => false,
@@ -80,7 +81,7 @@ impl Parts {
     }
 
     /// One task more: unattached, ready in-band, its registers 0 but for a0.
-    #[tactic(auto, unfolding(evm_model::specs::Calls::add_task))]
+    #[tactic(auto, unfolding(evm_model::specs::InBandCalls::add_task))]
     pub fn add_task(&mut self, entry: u64, value: u64, cpu: u8)
         requires stamps { self.old.stamps < 2 ^ 63 }
         requires harts { length self.old.harts < TASK_LIMIT }

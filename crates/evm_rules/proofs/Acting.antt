@@ -6,13 +6,16 @@ use Rattle.evm_exec.specs.Registers.{register_of}
 use Rattle.evm_exec.specs.declared.hart.Hart.{Hart}
 use Rattle.evm_lines.specs.declared.TheConstants.{LINES}
 use Rattle.evm_model.proofs.Lists.{change-elsewhere, slice_get-below, slice_get-within}
-use Rattle.evm_model.specs.Calls.{call_of, refused, in_band_stalled, exit, putc, yield_now, is_bad_entry, add_task, spawn, stall, wait_line, set_line, demote, perform, answered, finish_call, call_on, call_known, call_of_hart, call}
-use Rattle.evm_model.specs.Good.{Good, IsOwn, IsSettled, is_live}
+use Rattle.evm_model.specs.Calls.{call_of, perform, answered, finish_call, call_on, call_known, call_of_hart, call}
+use Rattle.evm_model.specs.Good.{Good, IsOwn, IsSettled}
+use Rattle.evm_model.specs.InBandCalls.{exit, putc, yield_now, is_bad_entry, add_task, spawn, wait_line, set_line}
+use Rattle.evm_model.specs.OobCalls.{stall}
+use Rattle.evm_model.specs.Stages.{refused, is_stalled}
 use Rattle.evm_model.specs.Harts.{A7, argument}
 use Rattle.evm_model.specs.Pipes.{Pipe, set_stall}
 use Rattle.evm_model.specs.Settle.{current, is_oob}
 use Rattle.evm_model.specs.State.{Parts, new_task, on_hart, on_pipe}
-use Rattle.evm_model.specs.Tasks.{restamp, set_state, leave_in_band, end_task}
+use Rattle.evm_model.specs.Tasks.{restamp, set_state, leave_in_band, end_task, demote, is_live}
 use Rattle.evm_model.specs.declared.call.Call.{Call}
 use Rattle.evm_model.specs.declared.call.Call.TheVariants.{Exit, Putc, Yield, Spawn, Stall, Unstall, WaitLine, SetLine}
 use Rattle.evm_model.specs.declared.call.Outcome.{Outcome}
@@ -183,7 +186,7 @@ but-add c entry value cpu k a home room g =
     }
 
 -- ---- each call
-not-stalled : (c : ℕ) (k : Parts) → in_band_stalled c k ≡ false → IsFree c k
+not-stalled : (c : ℕ) (k : Parts) → is_stalled InBand c k ≡ false → IsFree c k
 not-stalled c k e = record { free = λ pipe h. rw h at e }
 
 restamp-free : (c t : ℕ) (k : Parts) → IsFree c k → IsFree c (restamp t k)
@@ -248,7 +251,7 @@ module _ (c t : ℕ) (k : Parts) (g : GoodBut c k) (o : IsOwn c t k.tasks) where
 
   yield-but : GoodBut c (yield_now c t k).0
   unfolding yield_now
-  yield-but = either c (in_band_stalled c k) _ _ (λ e. g) (λ e. but-leave c (restamp t k) (restamp-free c t k (not-stalled c k e)) (but-restamp c t k o g))
+  yield-but = either c (is_stalled InBand c k) _ _ (λ e. g) (λ e. but-leave c (restamp t k) (restamp-free c t k (not-stalled c k e)) (but-restamp c t k o g))
 
   spawn-but : (ram entry value cpu : ℕ) → GoodBut c (spawn ram entry value cpu k).0
   unfolding spawn
@@ -269,7 +272,7 @@ module _ (c t : ℕ) (k : Parts) (g : GoodBut c k) (o : IsOwn c t k.tasks) where
       let state : TaskState = Waiting (Line l) in
       let waiting : Parts = set_state t state k in
       either c (nat_le LINES l) _ _ (λ e. g) (λ line_ok.
-      either c (in_band_stalled c k) _ _ (λ e. g) (λ e.
+      either c (is_stalled InBand c k) _ _ (λ e. g) (λ e.
       but-leave c (restamp t waiting) (restamp-free c t waiting (state-free c t state k (not-stalled c k e)))
       (but-restamp c t waiting (state-own c t state k refl o) (but-live c t state k refl o g))))
 

@@ -4,7 +4,8 @@ use Rattle.std.proofs.lemmas.Bool.Decides.{eqb_tells}
 use Rattle.std.proofs.Math.Nat.{eq-or-lt_of_le}
 use Rattle.std.specs.Prelude.{slice_get, ◌==◌, if◌then◌else◌}
 use Rattle.evm_model.proofs.Lists.{slice_get-below}
-use Rattle.evm_model.specs.Good.{IsOwn, is_live}
+use Rattle.evm_model.specs.Good.{IsOwn}
+use Rattle.evm_model.specs.Tasks.{is_live}
 use Rattle.evm_model.specs.Ranks.{best, next_in_band, first, leader, goes_before, runs_oob, runs_oob_task, runs_in_band, runs_in_band_task, rank, stamp, is_oob_ready, is_in_ready}
 use Rattle.evm_model.specs.Settle.{is_oob, is_oob_task}
 use Rattle.evm_model.specs.declared.task.Task.{Task}

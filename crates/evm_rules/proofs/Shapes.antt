@@ -3,8 +3,8 @@ use Rattle.std.proofs.Common.{◌≡◌, ℕ, ◌+◌, ◌<◌, ◌≤◌, ◌%�
 use Rattle.std.specs.Prelude.{slice_get}
 use Rattle.evm_exec.specs.declared.hart.Hart.{Hart}
 use Rattle.evm_model.proofs.Lists.{change-cases, length-change, slice_get-push}
-use Rattle.evm_model.specs.Calls.{add_task}
 use Rattle.evm_model.specs.Good.{Good}
+use Rattle.evm_model.specs.InBandCalls.{add_task}
 use Rattle.evm_model.specs.Harts.{spawned_hart}
 use Rattle.evm_model.specs.Lists.{change}
 use Rattle.evm_model.specs.Pipes.{Pipe}

@@ -14,9 +14,12 @@ use Rattle.evm_exec.specs.declared.outcome.Effect.{Effect}
 use Rattle.evm_exec.specs.declared.outcome.Effect.TheVariants.{Next, Load, Store, Call as Calls, Break, Misaligned}
 use Rattle.evm_model.proofs.Lists.{length-change}
 use Rattle.evm_model.specs.Bounds.{STAMPS_PER_EVENT}
-use Rattle.evm_model.specs.Calls.{call_of, refused, in_band_stalled, exit, putc, yield_now, is_bad_entry, spawn, add_task, stall, wait_line, set_line, demote, perform, answered, finish_call, call_on, call_known, call_of_hart, call}
+use Rattle.evm_model.specs.Calls.{call_of, perform, answered, finish_call, call_on, call_known, call_of_hart, call}
 use Rattle.evm_model.specs.Commands.{tick, set_bits, on_number, is_set, set_breakpoint, unset_breakpoint}
 use Rattle.evm_model.specs.Good.{Good, IsPipe, IsOwn}
+use Rattle.evm_model.specs.InBandCalls.{exit, putc, yield_now, is_bad_entry, spawn, add_task, wait_line, set_line}
+use Rattle.evm_model.specs.OobCalls.{stall}
+use Rattle.evm_model.specs.Stages.{refused, is_stalled}
 use Rattle.evm_model.specs.Harts.{A7, argument}
 use Rattle.evm_model.specs.Instructions.{stop, finish_load, finish_store, finish, execute_inst, execute_word, execute}
 use Rattle.evm_model.specs.Memory.{fetch, read, write}
@@ -24,7 +27,7 @@ use Rattle.evm_model.specs.Pipes.{Pipe, play, receive}
 use Rattle.evm_model.specs.Rows.{run, step_hart, step_current, step_wire, step_pipe, step_processor, step, single_step, row}
 use Rattle.evm_model.specs.Settle.{current, current_of, is_oob, play_in_band, play_in_band_lines, play_in_band_pipe, settle_oob, turn_in_band, settle_in_band, settle, nudge, settle_and_nudge}
 use Rattle.evm_model.specs.State.{Parts, Memory, Board, on_processor, on_pipe, on_parts}
-use Rattle.evm_model.specs.Tasks.{restamp, set_state, leave_in_band, end_task, wake_in_band, wake_below, awaits}
+use Rattle.evm_model.specs.Tasks.{restamp, set_state, leave_in_band, end_task, wake_in_band, wake_below, awaits, demote}
 use Rattle.evm_model.specs.declared.call.Call.{Call}
 use Rattle.evm_model.specs.declared.call.Call.TheVariants.{Exit, Putc, Yield, Spawn, Stall, Unstall, WaitLine, SetLine}
 use Rattle.evm_model.specs.declared.call.Outcome.{Outcome}
@@ -141,7 +144,7 @@ end-gives c t state k = gives-none 1 k _ refl
 
 yield-gives : (c t : ℕ) (k : Parts) → Gives 1 k (yield_now c t k).0
 unfolding yield_now leave_in_band restamp
-yield-gives c t k = either 1 k (in_band_stalled c k) _ _ (gives-none 1 k k refl) (record { least = omega arith; most = omega arith })
+yield-gives c t k = either 1 k (is_stalled InBand c k) _ _ (gives-none 1 k k refl) (record { least = omega arith; most = omega arith })
 
 spawn-gives : (ram entry value cpu : ℕ) (k : Parts) → Gives 1 k (spawn ram entry value cpu k).0
 unfolding spawn add_task
@@ -154,7 +157,7 @@ wait_line-gives : (c t l : ℕ) (k : Parts) → Gives 1 k (wait_line c t l k).0
 unfolding wait_line leave_in_band restamp set_state
 wait_line-gives c t l k =
     either 1 k (nat_le LINES l) _ _ (gives-none 1 k k refl)
-    (either 1 k (in_band_stalled c k) _ _ (gives-none 1 k k refl) (record { least = omega arith; most = omega arith }))
+    (either 1 k (is_stalled InBand c k) _ _ (gives-none 1 k k refl) (record { least = omega arith; most = omega arith }))
 
 set_line-gives : (l action : ℕ) (k : Parts) → Gives 1 k (set_line l action k).0
 unfolding set_line

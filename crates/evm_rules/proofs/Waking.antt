@@ -3,14 +3,14 @@ use Rattle.std.proofs.Common.{◌≡◌, ℕ, zero, suc, ◌<◌, List, [], ◌�
 use Rattle.std.specs.Prelude.{slice_get, option_map, ◌==◌, if◌then◌else◌}
 use Rattle.std.proofs.lemmas.Bool.{cases_eq}
 use Rattle.evm_model.proofs.Lists.{change-here, change-elsewhere, slice_get-below, slice_get-before}
-use Rattle.evm_model.specs.Good.{IsOwn, is_live}
+use Rattle.evm_model.specs.Good.{IsOwn}
 use Rattle.evm_model.specs.Harts.{A0, set_register}
 use Rattle.evm_model.specs.Lists.{change}
 use Rattle.evm_model.specs.Pipes.{Pipe, play}
 use Rattle.evm_model.specs.Ranks.{best, rank, stamp, runs_oob, runs_oob_task, is_oob_ready}
 use Rattle.evm_model.specs.Settle.{is_oob, play_in_band, play_in_band_lines}
 use Rattle.evm_model.specs.State.{Parts, on_hart, on_pipe}
-use Rattle.evm_model.specs.Tasks.{restamp, set_state, wake_in_band, wake_below, awaits, is_wait_for}
+use Rattle.evm_model.specs.Tasks.{restamp, set_state, wake_in_band, wake_below, awaits, is_wait_for, is_live}
 use Rattle.evm_model.specs.declared.stage.Stage.TheVariants.{InBand}
 use Rattle.evm_model.specs.declared.task.Task.{Task}
 use Rattle.evm_model.specs.declared.task.TaskState.{TaskState}

@@ -5,12 +5,15 @@ use Rattle.std.proofs.lemmas.Bool.Decides.{nat_tests}
 use Rattle.evm_exec.specs.Registers.{register_of}
 use Rattle.evm_exec.specs.declared.hart.Hart.{Hart}
 use Rattle.evm_lines.specs.declared.TheConstants.{LINES}
-use Rattle.evm_model.specs.Calls.{call_of, refused, in_band_stalled, exit, putc, yield_now, is_bad_entry, add_task, spawn, stall, wait_line, set_line, demote, perform, answered, call_on, call_known, call_of_hart, call}
+use Rattle.evm_model.specs.Calls.{call_of, perform, answered, call_on, call_known, call_of_hart, call}
+use Rattle.evm_model.specs.InBandCalls.{exit, putc, yield_now, is_bad_entry, add_task, spawn, wait_line, set_line}
+use Rattle.evm_model.specs.OobCalls.{stall}
+use Rattle.evm_model.specs.Stages.{refused, is_stalled}
 use Rattle.evm_model.specs.Harts.{A0, A7, argument, advance, spawned_hart}
 use Rattle.evm_model.specs.Pipes.{set_stall}
 use Rattle.evm_model.specs.Settle.{is_oob}
 use Rattle.evm_model.specs.State.{Parts, new_task, on_hart, on_pipe}
-use Rattle.evm_model.specs.Tasks.{restamp, set_state, leave_in_band, end_task}
+use Rattle.evm_model.specs.Tasks.{restamp, set_state, leave_in_band, end_task, demote}
 use Rattle.evm_model.specs.declared.call.Call.{Call}
 use Rattle.evm_model.specs.declared.call.Call.TheVariants.{Exit, Putc, Yield, Spawn, Stall, Unstall, WaitLine, SetLine}
 use Rattle.evm_model.specs.declared.call.Outcome.{Outcome}
@@ -84,7 +87,7 @@ puts byte c t k = record {
 
 yields : (c t : ℕ) (k : Parts) → Acts c t k (yield_now c t k).0
 unfolding yield_now
-yields c t k = either c t k (in_band_stalled c k) _ _ (λ e. acts_none c t k) (λ e. leaves c t k k (frame_none c (Some t) k) (still_none k))
+yields c t k = either c t k (is_stalled InBand c k) _ _ (λ e. acts_none c t k) (λ e. leaves c t k k (frame_none c (Some t) k) (still_none k))
 
 room_for : (k : Parts) → nat_le TASK_LIMIT (length k.tasks) ≡ false → length k.tasks < TASK_LIMIT
 room_for k e = grind (arith, nat_tests)
@@ -131,7 +134,7 @@ unfolding wait_line
 waits_line c t l k =
     let state : TaskState = Waiting (Line l) in
     either c t k (nat_le LINES l) _ _ (λ e. acts_none c t k) (λ e.
-    either c t k (in_band_stalled c k) _ _ (λ e. acts_none c t k) (λ e. leaves c t k (set_state t state k) (frame_state c t state k) (still_state t state k)))
+    either c t k (is_stalled InBand c k) _ _ (λ e. acts_none c t k) (λ e. leaves c t k (set_state t state k) (frame_state c t state k) (still_state t state k)))
 
 sets_line : (c t l action : ℕ) (k : Parts) → Acts c t k (set_line l action k).0
 unfolding set_line

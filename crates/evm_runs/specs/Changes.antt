@@ -9,7 +9,7 @@ use Rattle.evm_exec.specs.declared.hart.Hart.{Hart}
 use Rattle.evm_exec.specs.declared.outcome.Effect.TheVariants.{Store}
 use Rattle.evm_ram.specs.Ram.{poke_at, write_at}
 use Rattle.evm_ram.specs.declared.width.Width.{Width}
-use Rattle.evm_model.specs.Calls.{last_bytes}
+use Rattle.evm_model.specs.InBandCalls.{last_bytes}
 use Rattle.evm_model.specs.Commands.{is_set}
 use Rattle.evm_model.specs.Harts.{A0, set_register, spawned_hart}
 use Rattle.evm_model.specs.Memory.{fetch}

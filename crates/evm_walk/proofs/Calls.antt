@@ -4,12 +4,15 @@ use Rattle.std.specs.Prelude.{slice_get, is_none, nat_lt, nat_le, ◌==◌, if�
 use Rattle.evm_exec.specs.Registers.{register_of}
 use Rattle.evm_exec.specs.declared.hart.Hart.{Hart}
 use Rattle.evm_lines.specs.declared.TheConstants.{LINES}
-use Rattle.evm_model.specs.Calls.{call_of, refused, in_band_stalled, exit, putc, yield_now, is_bad_entry, spawn, stall, wait_line, set_line, demote, perform, answered, finish_call, call_on, call_known, call_of_hart, call}
+use Rattle.evm_model.specs.Calls.{call_of, perform, answered, finish_call, call_on, call_known, call_of_hart, call}
+use Rattle.evm_model.specs.InBandCalls.{exit, putc, yield_now, is_bad_entry, spawn, wait_line, set_line}
+use Rattle.evm_model.specs.OobCalls.{stall}
+use Rattle.evm_model.specs.Stages.{refused, is_stalled}
 use Rattle.evm_model.specs.Harts.{A7, argument}
 use Rattle.evm_model.specs.Pipes.{set_stall}
 use Rattle.evm_model.specs.Settle.{is_oob}
 use Rattle.evm_model.specs.State.{Parts, on_pipe}
-use Rattle.evm_model.specs.Tasks.{restamp, set_state, leave_in_band}
+use Rattle.evm_model.specs.Tasks.{restamp, set_state, leave_in_band, demote}
 use Rattle.evm_model.specs.declared.call.Call.{Call}
 use Rattle.evm_model.specs.declared.call.Call.TheVariants.{Exit, Putc, Yield, Spawn, Stall, Unstall, WaitLine, SetLine}
 use Rattle.evm_model.specs.declared.call.Outcome.{Outcome}
@@ -46,7 +49,7 @@ puts byte c k = takes_quiet c 1 k _ (record { pipes = refl; processors = refl; t
 
 yields : (c t : ℕ) (k : Parts) → Takes c 1 0 k (yield_now c t k).0
 unfolding yield_now
-yields c t k = either c k (in_band_stalled c k) _ _ (takes_none c 1 0 k) (restamp_then_leave c t k k (takes_none c 1 0 k))
+yields c t k = either c k (is_stalled InBand c k) _ _ (takes_none c 1 0 k) (restamp_then_leave c t k k (takes_none c 1 0 k))
 
 spawns : (c ram entry value cpu : ℕ) (k : Parts) → Takes c 1 0 k (spawn ram entry value cpu k).0
 unfolding spawn
@@ -64,7 +67,7 @@ unfolding wait_line
 waits_line c t l k =
     let waiting : Parts = set_state t (Waiting (Line l)) k in
     either c k (nat_le LINES l) _ _ (takes_none c 1 0 k)
-    (either c k (in_band_stalled c k) _ _ (takes_none c 1 0 k) (restamp_then_leave c t k waiting (takes_quiet c 1 k waiting (state_quiet t _ k))))
+    (either c k (is_stalled InBand c k) _ _ (takes_none c 1 0 k) (restamp_then_leave c t k waiting (takes_quiet c 1 k waiting (state_quiet t _ k))))
 
 sets_line : (c l action : ℕ) (k : Parts) → Takes c 1 0 k (set_line l action k).0
 unfolding set_line

@@ -1,7 +1,7 @@
 -- What is done to one task is made of moves that touch no pipe.
 use Rattle.std.proofs.Common.{◌≡◌, ℕ, zero, suc, ◌≤◌, [], ◌∷◌, Bool, true, false, length, length-append, refl, ap, ◌∙◌, inl, arith}
 use Rattle.std.specs.Prelude.{slice_get, if◌then◌else◌}
-use Rattle.evm_model.specs.Calls.{add_task}
+use Rattle.evm_model.specs.InBandCalls.{add_task}
 use Rattle.evm_model.specs.Harts.{A0, set_register, spawned_hart}
 use Rattle.evm_model.specs.Pipes.{set_stall}
 use Rattle.evm_model.specs.State.{Parts, new_task, on_hart, on_pipe}

@@ -1,0 +1,80 @@
+-- What each call of the in-band kernel does to the parts, and what comes of it.
+use Rattle.std.specs.Prelude.{ℕ, ◌+◌, ◌-◌, ◌%◌, List, [], ◌∷◌, ◌++◌, Option, Some, None, Bool, true, not, ◌==◌, nat_lt, nat_le, is_none, drop, if◌then◌else◌, slice_get, length}
+use Rattle.evm_lines.specs.declared.TheConstants.{LINES}
+use Rattle.evm_model.specs.Harts.{spawned_hart}
+use Rattle.evm_model.specs.Policies.{policy_of}
+use Rattle.evm_model.specs.Stages.{refused, is_stalled, is_attached}
+use Rattle.evm_model.specs.State.{Parts, new_task}
+use Rattle.evm_model.specs.Tasks.{restamp, set_state, leave_in_band, end_task, set_policy, clear_policy}
+use Rattle.evm_ram.specs.declared.ram.TheConstants.{BASE}
+use Rattle.evm_model.specs.declared.call.Outcome.{Outcome}
+use Rattle.evm_model.specs.declared.call.Outcome.TheVariants.{Answers, Waits, Leaves}
+use Rattle.evm_model.specs.declared.errno.Errno.TheVariants.{NotPermitted, NoNumber, Busy, Invalid}
+use Rattle.evm_model.specs.declared.limits.TheConstants.{CONSOLE_LIMIT, TASK_LIMIT}
+use Rattle.evm_model.specs.declared.stage.Stage.TheVariants.{InBand}
+use Rattle.evm_model.specs.declared.task.Class.{Class}
+use Rattle.evm_model.specs.declared.task.TaskState.TheVariants.{Exit, Waits as Waiting}
+use Rattle.evm_model.specs.declared.task.Wait.TheVariants.{Line}
+
+-- 0: the task ends
+unfoldable pub exit : ℕ → ℕ → Parts → Parts × Outcome
+exit c t k = (end_task c t Exit k, Leaves)
+
+-- the last bytes that there is room for
+abbrev pub last_bytes : List ℕ → List ℕ
+last_bytes bytes = drop (length bytes - CONSOLE_LIMIT) bytes
+
+-- 1: the low byte goes to the console
+unfoldable pub putc : ℕ → Parts → Parts × Outcome
+putc byte k = (record k { console = last_bytes (k.console ++ (byte % 256) ∷ []) }, Answers 0)
+
+-- 2: the task goes behind the others that are ready; not while in-band is stalled
+unfoldable pub yield_now : ℕ → ℕ → Parts → Parts × Outcome
+yield_now c t k = if is_stalled InBand c k then refused NotPermitted k else (leave_in_band c (restamp t k), Answers 0)
+
+-- an entry that is no multiple of 4 in RAM of so many bytes
+abbrev pub is_bad_entry : ℕ → ℕ → Bool
+is_bad_entry ram entry = if not (entry % 4 == 0) then true else (if nat_lt entry BASE then true else nat_le (BASE + ram) entry)
+
+-- a task more, whose a0 is the value
+unfoldable pub add_task : ℕ → ℕ → ℕ → Parts → Parts
+add_task entry value cpu k = record k {
+  harts = k.harts ++ spawned_hart entry value ∷ [];
+  tasks = k.tasks ++ new_task cpu k.stamps ∷ [];
+  stamps = k.stamps + 1;
+}
+
+-- 3: a new task, ready in-band; its number is answered
+unfoldable pub spawn : ℕ → ℕ → ℕ → ℕ → Parts → Parts × Outcome
+spawn ram entry value cpu k =
+    if is_bad_entry ram entry then refused Invalid k
+    else (if is_none (slice_get k.processors cpu) then refused Invalid k
+    else (if nat_le TASK_LIMIT (length k.tasks) then refused NoNumber k
+    else (add_task entry value cpu k, Answers (length k.tasks))))
+
+-- 6: the task waits until the line is played in-band; not while in-band is stalled
+unfoldable pub wait_line : ℕ → ℕ → ℕ → Parts → Parts × Outcome
+wait_line c t l k =
+    if nat_le LINES l then refused Invalid k
+    else (if is_stalled InBand c k then refused NotPermitted k
+    else (leave_in_band c (restamp t (set_state t (Waiting (Line l)) k)), Waits))
+
+-- 7: the task has a class and a priority; not where it has one
+abbrev pub attach_as : Option Class → ℕ → ℕ → Parts → Parts × Outcome
+attach_as None t priority k = refused Invalid k
+attach_as (Some class) t priority k =
+    if is_attached t k then refused Busy k else (set_policy t class priority k, Answers 0)
+
+unfoldable pub attach : ℕ → ℕ → ℕ → Parts → Parts × Outcome
+attach t class priority k = attach_as (policy_of class priority) t priority k
+
+-- 8: the task has no class
+unfoldable pub detach : ℕ → Parts → Parts × Outcome
+detach t k = if is_attached t k then (clear_policy t k, Answers 0) else refused NotPermitted k
+
+-- 14: lines 2 to 31 have an action, 0 for none; the others name an object, and there is none yet
+unfoldable pub set_line : ℕ → ℕ → Parts → Parts × Outcome
+set_line l action k =
+    if nat_lt l 2 then refused Invalid k
+    else (if nat_le LINES l then refused Invalid k
+    else (if action == 0 then (k, Answers 0) else refused Invalid k))

@@ -1,0 +1,66 @@
+-- What each call of the out-of-band kernel does to the parts, and what comes of it; and the calls of either stage.
+use Rattle.std.specs.Prelude.{ℕ, ◌+◌, ◌*◌, Option, Some, None, Bool, false, ◌&&◌, nat_lt, if◌then◌else◌, slice_get}
+use Rattle.evm_model.specs.Pipes.{set_stall}
+use Rattle.evm_model.specs.Policies.{policy_of}
+use Rattle.evm_model.specs.Settle.{is_oob}
+use Rattle.evm_model.specs.Stages.{refused, bit, is_stalled, is_class, is_attached, stage_at}
+use Rattle.evm_model.specs.State.{Parts, on_pipe}
+use Rattle.evm_model.specs.Tasks.{restamp, is_live, demote, set_policy, set_mode_bits}
+use Rattle.evm_model.specs.declared.call.Outcome.{Outcome}
+use Rattle.evm_model.specs.declared.call.Outcome.TheVariants.{Answers}
+use Rattle.evm_model.specs.declared.errno.Errno.TheVariants.{NotPermitted, NoSuchTask, Invalid}
+use Rattle.evm_model.specs.declared.limits.TheConstants.{MODE_LIMIT}
+use Rattle.evm_model.specs.declared.stage.Stage.{Stage}
+use Rattle.evm_model.specs.declared.stage.Stage.TheVariants.{OutOfBand}
+use Rattle.evm_model.specs.declared.task.Class.{Class}
+use Rattle.evm_model.specs.declared.task.Task.{Task}
+
+-- 4 and 5, 51 and 52: a stage is stalled, or not; the old bit is answered
+unfoldable pub stall : Stage → Bool → ℕ → Parts → Parts × Outcome
+stall stage stalled c k = (on_pipe c (set_stall stage stalled) k, Answers (bit (is_stalled stage c k)))
+
+-- 32: the task is out-of-band, as it was promoted for the call
+unfoldable pub switch_oob : Parts → Parts × Outcome
+switch_oob k = (k, Answers 0)
+
+-- 33: the task goes in-band; not while out-of-band is stalled
+unfoldable pub switch_in_band : ℕ → ℕ → Parts → Parts × Outcome
+switch_in_band c t k = if is_stalled OutOfBand c k then refused NotPermitted k else (demote c t k, Answers 0)
+
+-- a task that has not ended and has a class
+abbrev pub is_scheduled_task : Option Task → Bool
+is_scheduled_task None = false
+is_scheduled_task (Some task) = is_live task.state && is_class task.class
+
+-- 34: task u, of whatever processor, has another class and priority; its stamp stays
+abbrev pub schedule_as : Option Class → ℕ → ℕ → Parts → Parts × Outcome
+schedule_as None u priority k = refused Invalid k
+schedule_as (Some class) u priority k = (set_policy u class priority k, Answers 0)
+
+unfoldable pub set_sched : ℕ → ℕ → ℕ → Parts → Parts × Outcome
+set_sched u class priority k =
+    if is_scheduled_task (slice_get k.tasks u) then schedule_as (policy_of class priority) u priority k
+    else refused NoSuchTask k
+
+abbrev pub mode_of : Option Task → ℕ
+mode_of None = 0
+mode_of (Some task) = task.mode.bits
+
+-- 35: the task has these mode bits; the old ones are answered
+unfoldable pub set_mode : ℕ → ℕ → Parts → Parts × Outcome
+set_mode t bits k =
+    if nat_lt MODE_LIMIT bits then refused Invalid k
+    else (set_mode_bits t bits k, Answers (mode_of (slice_get k.tasks t)))
+
+-- 50: the task goes behind the others of its rank
+unfoldable pub yield_oob : ℕ → Parts → Parts × Outcome
+yield_oob t k = (restamp t k, Answers 0)
+
+-- 53: how many ticks there were
+unfoldable pub clock : Parts → Parts × Outcome
+clock k = (k, Answers k.ticks)
+
+-- 54: 1 for an out-of-band task, 2 for an attached one, 4 where its own stage is stalled
+unfoldable pub state_bits : ℕ → ℕ → Parts → Parts × Outcome
+state_bits c t k =
+    (k, Answers (bit (is_oob (Some t) k.tasks) + 2 * bit (is_attached t k) + 4 * bit (is_stalled (stage_at t k) c k)))

@@ -1,0 +1,49 @@
+-- What calls ask of a task's stage, and how they are refused.
+use Rattle.std.specs.Prelude.{ℕ, Option, Some, None, Bool, true, false, not, ◌&&◌, if◌then◌else◌, slice_get}
+use Rattle.evm_model.specs.Errnos.{refusal_answer}
+use Rattle.evm_model.specs.Pipes.{Pipe, log_of}
+use Rattle.evm_model.specs.Settle.{is_oob}
+use Rattle.evm_model.specs.State.{Parts}
+use Rattle.evm_model.specs.declared.call.Outcome.{Outcome}
+use Rattle.evm_model.specs.declared.call.Outcome.TheVariants.{Answers}
+use Rattle.evm_model.specs.declared.errno.Errno.{Errno}
+use Rattle.evm_model.specs.declared.stage.Stage.{Stage}
+use Rattle.evm_model.specs.declared.stage.Stage.TheVariants.{OutOfBand, InBand}
+use Rattle.evm_model.specs.declared.task.Class.{Class}
+use Rattle.evm_model.specs.declared.task.Class.TheVariants.{Unattached}
+use Rattle.evm_model.specs.declared.task.Task.{Task}
+
+-- a call that is refused changes nothing, and answers its error
+abbrev pub refused : Errno → Parts → Parts × Outcome
+refused e k = (k, Answers (refusal_answer e))
+
+abbrev pub bit : Bool → ℕ
+bit b = if b then 1 else 0
+
+abbrev pub stalled_pipe : Stage → Option Pipe → Bool
+stalled_pipe stage None = false
+stalled_pipe stage (Some pipe) = (log_of stage pipe).stalled
+
+-- whether a stage is stalled on c
+abbrev pub is_stalled : Stage → ℕ → Parts → Bool
+is_stalled stage c k = stalled_pipe stage (slice_get k.pipes c)
+
+abbrev pub is_class : Class → Bool
+is_class Unattached = false
+is_class _ = true
+
+abbrev pub is_attached_task : Option Task → Bool
+is_attached_task None = false
+is_attached_task (Some task) = is_class task.class
+
+-- whether task t has a class
+abbrev pub is_attached : ℕ → Parts → Bool
+is_attached t k = is_attached_task (slice_get k.tasks t)
+
+-- the stage that task t is on
+abbrev pub stage_at : ℕ → Parts → Stage
+stage_at t k = if is_oob (Some t) k.tasks then OutOfBand else InBand
+
+-- a task of c may go out-of-band where it has a class and in-band isn't stalled
+abbrev pub may_promote : ℕ → ℕ → Parts → Bool
+may_promote c t k = is_attached t k && not (is_stalled InBand c k)
