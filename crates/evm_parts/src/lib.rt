@@ -4,6 +4,7 @@
 
 mod console;
 mod parts;
+mod stages;
 mod tasks;
 
 pub use console::Console;

@@ -2,7 +2,6 @@
 
 ghost use Rattle.std.specs.Prelude.{◌≡◌, ◌<◌, ◌≤◌, ◌+◌, ◌^◌, false, slice_get, Option, length};
 ghost use Rattle.evm_model.specs.InBandCalls.{add_task};
-ghost use Rattle.evm_model.specs.Stages.{is_stalled};
 ghost use Rattle.evm_model.specs.State.{new_task};
 ghost use Rattle.evm_model.specs.Tasks.{restamp, set_state, leave_in_band, end_task, wake_in_band, wake_waiter, wake_below, awaits};
 
@@ -18,10 +17,7 @@ fn new_task(cpu: u8, stamp: u64) -> Task
         class: Class::Unattached,
         priority: 0,
         slice: 0,
-        mode: Mode {
-            stage_switches: false,
-            lock_mistakes: false,
-        },
+        mode: Mode { bits: 0 },
         stamp,
         deadline: 0,
         state: TaskState::InReady,
@@ -68,16 +64,6 @@ impl Parts {
         self.set_stall(c, Stage::InBand, false);
         self.leave_in_band(c);
         self.set_state(t, state);
-    }
-
-    /// Whether the in-band stage of a processor is stalled.
-    pub fn is_in_band_stalled(&self, c: u8) -> bool
-        ensures { result ≡ is_stalled InBand c self.now }
-    {
-        match self.pipe(c) {
-            None => false,
-            Some(pipe) => pipe.log(Stage::InBand).stalled,
-        }
     }
 
     /// One task more: unattached, ready in-band, its registers 0 but for a0.

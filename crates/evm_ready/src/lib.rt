@@ -1,8 +1,10 @@
-//! Which task a processor should run.
+//! Which task a processor should run, and what changes that.
 #![tactic(auto)]
 
+mod changes;
 mod ready;
 
+pub use changes::{put, rerank, set_slice, set_stamp, take};
 pub use ready::{best_of, next_in_band_of};
 
 #[cfg(test)]

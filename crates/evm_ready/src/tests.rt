@@ -1,7 +1,7 @@
 //! Which task goes first, against rows worked by hand.
 
-use crate::{best_of, next_in_band_of};
-use evm_model::{Class, Mode, Task, TaskState};
+use crate::{best_of, next_in_band_of, put, rerank, set_slice, set_stamp, take};
+use evm_model::{Class, Mode, SLICE, Task, TaskState};
 
 fn ready(cpu: u8, class: Class, priority: u8, stamp: u64) -> Task {
     Task {
@@ -9,10 +9,7 @@ fn ready(cpu: u8, class: Class, priority: u8, stamp: u64) -> Task {
         class,
         priority,
         slice: 4,
-        mode: Mode {
-            stage_switches: false,
-            lock_mistakes: false,
-        },
+        mode: Mode { bits: 0 },
         stamp,
         deadline: 0,
         state: TaskState::OobReady,
@@ -42,4 +39,73 @@ fn in_band_the_least_stamp_goes_first(rt: HostRuntime) {
     let tasks = [second, first, ready(0, Class::Fifo, 1, 0)];
     assert_eq!(rt; next_in_band_of(0, &tasks), Some(1));
     assert_eq!(rt; best_of(0, &tasks), Some(2));
+}
+
+// A tick of the slice of task t, as the parts take it: the last one gives a whole slice, and a fresh stamp.
+fn tick(tasks: &mut [Task], t: u8, stamp: u64) {
+    match tasks.get(t as usize) {
+        Some(task) if task.slice > 1 => {
+            let left = task.slice - 1;
+            set_slice(tasks, t, left);
+        }
+        _ => {
+            set_slice(tasks, t, SLICE);
+            set_stamp(tasks, t, stamp);
+        }
+    }
+}
+
+#[test]
+fn two_round_robin_tasks_take_turns(rt: HostRuntime) {
+    let mut tasks = [
+        ready(0, Class::RoundRobin, 10, 5),
+        ready(0, Class::RoundRobin, 10, 6),
+    ];
+    for _ in 0..3 {
+        tick(&mut tasks, 0, 7);
+        assert_eq!(rt; best_of(0, &tasks), Some(0));
+    }
+    assert_eq!(rt; tasks[0].slice, 1);
+    tick(&mut tasks, 0, 7);
+    assert_eq!(rt; tasks[0].slice, 4);
+    assert_eq!(rt; tasks[0].stamp, 7);
+    assert_eq!(rt; best_of(0, &tasks), Some(1));
+    for _ in 0..4 {
+        tick(&mut tasks, 1, 8);
+    }
+    assert_eq!(rt; best_of(0, &tasks), Some(0));
+}
+
+#[test]
+fn weak_tasks_stand_below_the_others(rt: HostRuntime) {
+    let tasks = [
+        ready(0, Class::Weak, 99, 1),
+        ready(0, Class::Fifo, 1, 2),
+        ready(1, Class::Weak, 0, 3),
+        ready(1, Class::Weak, 1, 4),
+    ];
+    assert_eq!(rt; best_of(0, &tasks), Some(1));
+    assert_eq!(rt; best_of(1, &tasks), Some(3));
+}
+
+#[test]
+fn the_best_changes_with_its_tasks(rt: HostRuntime) {
+    let mut tasks = [
+        ready(0, Class::Fifo, 10, 1),
+        ready(0, Class::Fifo, 20, 2),
+        ready(0, Class::Weak, 50, 3),
+    ];
+    assert_eq!(rt; best_of(0, &tasks), Some(1));
+    take(&mut tasks, 1, TaskState::InReady);
+    assert_eq!(rt; best_of(0, &tasks), Some(0));
+    assert_eq!(rt; next_in_band_of(0, &tasks), Some(1));
+    put(&mut tasks, 1);
+    assert_eq!(rt; best_of(0, &tasks), Some(1));
+    assert_eq!(rt; next_in_band_of(0, &tasks), None);
+    rerank(&mut tasks, 1, Class::RoundRobin, 10);
+    assert_eq!(rt; best_of(0, &tasks), Some(0));
+    rerank(&mut tasks, 0, Class::Weak, 99);
+    assert_eq!(rt; best_of(0, &tasks), Some(1));
+    put(&mut tasks, 3);
+    assert_eq!(rt; best_of(0, &tasks), Some(1));
 }

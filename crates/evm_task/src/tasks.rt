@@ -1,12 +1,18 @@
 ghost use Rattle.std.specs.Prelude.{◌≡◌, ◌<◌, ◌≤◌, [], ◌∷◌, ◌++◌, length, slice_get};
 ghost use Rattle.arrayvec.specs.ArrayVec.{array_vec_len};
+ghost use Rattle.evm_model.specs.Calls.{is_weak_oob};
 ghost use Rattle.evm_model.specs.Lists.{change};
+ghost use Rattle.evm_model.specs.declared.limits.TheConstants.{SLICE};
+ghost use Rattle.evm_model.specs.OobCalls.{is_scheduled_task, mode_of};
 ghost use Rattle.evm_model.specs.Ranks.{best, next_in_band};
 ghost use Rattle.evm_model.specs.Settle.{is_oob};
+ghost use Rattle.evm_model.specs.Stages.{is_attached_task};
+ghost use Rattle.evm_model.specs.State.{no_mode};
+ghost use Rattle.evm_model.specs.Tasks.{is_live};
 
 use arrayvec::ArrayVec;
-use evm_model::{TASK_LIMIT, Task, TaskState};
-use evm_ready::{best_of, next_in_band_of};
+use evm_model::{Class, Mode, TASK_LIMIT, Task, TaskState};
+use evm_ready::{best_of, next_in_band_of, put, rerank, set_slice, set_stamp, take};
 use std::marker::Model;
 
 /// The tasks, in the order of their numbers.
@@ -22,6 +28,12 @@ impl Model for Tasks {
     ghost Value = { List Task };
 
     ghost view = { λ t. t.tasks.items };
+}
+
+fn is_live(state: TaskState) -> bool
+    ensures { result ≡ is_live state }
+{
+    !matches!(state, TaskState::Exit | TaskState::Faulted(_))
 }
 
 impl Tasks {
@@ -53,8 +65,9 @@ impl Tasks {
     pub fn set_state(&mut self, t: u8, state: TaskState)
         ensures { self.new ≡ change (λ task. record task { state = state }) self.old t }
     {
-        if let Some(task) = self.tasks.get_mut(t as usize) {
-            task.state = state;
+        match state {
+            TaskState::OobReady => put(self.tasks.as_mut_slice(), t),
+            _ => take(self.tasks.as_mut_slice(), t, state),
         }
     }
 
@@ -62,8 +75,40 @@ impl Tasks {
     pub fn set_stamp(&mut self, t: u8, stamp: u64)
         ensures { self.new ≡ change (λ task. record task { stamp = stamp }) self.old t }
     {
+        set_stamp(self.tasks.as_mut_slice(), t, stamp);
+    }
+
+    /// A task has so many ticks left.
+    pub fn set_slice(&mut self, t: u8, slice: u8)
+        ensures { self.new ≡ change (λ task. record task { slice = slice }) self.old t }
+    {
+        set_slice(self.tasks.as_mut_slice(), t, slice);
+    }
+
+    /// A task has a class and a priority, and a whole slice.
+    pub fn set_policy(&mut self, t: u8, class: Class, priority: u8)
+        ensures { self.new ≡ change (λ task. record task { class = class; priority = priority; slice = SLICE }) self.old t }
+    {
+        rerank(self.tasks.as_mut_slice(), t, class, priority);
+    }
+
+    /// A task has no class, no priority and no mode bits.
+    pub fn clear_policy(&mut self, t: u8)
+        ensures { self.new ≡ change (λ task. record task { class = Class.Unattached; priority = 0; mode = no_mode }) self.old t }
+    {
         if let Some(task) = self.tasks.get_mut(t as usize) {
-            task.stamp = stamp;
+            task.class = Class::Unattached;
+            task.priority = 0;
+            task.mode = Mode { bits: 0 };
+        }
+    }
+
+    /// A task has these mode bits.
+    pub fn set_mode(&mut self, t: u8, bits: u8)
+        ensures { self.new ≡ change (λ task. record task { mode = record { bits = bits } }) self.old t }
+    {
+        if let Some(task) = self.tasks.get_mut(t as usize) {
+            task.mode = Mode { bits };
         }
     }
 
@@ -85,6 +130,46 @@ impl Tasks {
         match self.get(t) {
             None => false,
             Some(task) => task.state == TaskState::OobReady,
+        }
+    }
+
+    /// Whether there is such a task and it has a class.
+    pub fn is_attached(&self, t: u8) -> bool
+        ensures { result ≡ is_attached_task (slice_get self.now t) }
+    {
+        match self.get(t) {
+            None => false,
+            Some(task) => task.class != Class::Unattached,
+        }
+    }
+
+    /// Whether there is such a task, it has not ended, and it has a class.
+    pub fn is_scheduled(&self, t: u8) -> bool
+        ensures { result ≡ is_scheduled_task (slice_get self.now t) }
+    {
+        match self.get(t) {
+            None => false,
+            Some(task) => is_live(task.state) && task.class != Class::Unattached,
+        }
+    }
+
+    /// Whether a task is ready out-of-band and of the weak class.
+    pub fn is_weak_oob(&self, t: u8) -> bool
+        ensures { result ≡ is_weak_oob (slice_get self.now t) }
+    {
+        match self.get(t) {
+            None => false,
+            Some(task) => task.state == TaskState::OobReady && task.class == Class::Weak,
+        }
+    }
+
+    /// The sum of a task's mode bits.
+    pub fn mode_bits(&self, t: u8) -> u8
+        ensures { result ≡ mode_of (slice_get self.now t) }
+    {
+        match self.get(t) {
+            None => 0,
+            Some(task) => task.mode.bits,
         }
     }
 

@@ -1,0 +1,139 @@
+//! What rows do to the stage of a task, and to its policy.
+
+ghost use Rattle.std.specs.Prelude.{◌≡◌, ◌<◌, ◌≤◌, ◌+◌, ◌^◌};
+ghost use Rattle.evm_model.specs.Settle.{spend_current};
+ghost use Rattle.evm_model.specs.Stages.{is_stalled, is_attached, may_promote, stage_at};
+ghost use Rattle.evm_model.specs.Tasks.{demote, promote, set_policy, clear_policy, set_mode_bits, set_slice, spend_slice};
+
+use crate::parts::Parts;
+use evm_model::{Class, SLICE, Stage, TaskState};
+
+impl Parts {
+    /// A task goes in-band: it is ready there, and out-of-band isn't stalled on its processor.
+    #[tactic(auto, unfolding(evm_model::specs::Tasks::demote))]
+    pub fn demote(&mut self, c: u8, t: u8)
+        requires room { self.old.stamps < 2 ^ 63 }
+        ensures row { self.new ≡ demote c t self.old }
+        ensures stamps { self.new.stamps ≡ self.old.stamps + 1 }
+    {
+        self.set_stall(c, Stage::OutOfBand, false);
+        self.set_state(t, TaskState::InReady);
+        self.restamp(t);
+    }
+
+    /// A task goes out-of-band: it is ready there, and in-band current no more.
+    #[tactic(auto, unfolding(evm_model::specs::Tasks::promote))]
+    pub fn promote(&mut self, c: u8, t: u8)
+        requires room { self.old.stamps < 2 ^ 63 }
+        ensures row { self.new ≡ promote c t self.old }
+        ensures stamps { self.new.stamps ≡ self.old.stamps + 1 }
+    {
+        self.set_state(t, TaskState::OobReady);
+        self.restamp(t);
+        self.leave_in_band(c);
+    }
+
+    /// A task has a class and a priority, and a whole slice.
+    #[tactic(auto, unfolding(evm_model::specs::Tasks::set_policy))]
+    pub fn set_policy(&mut self, t: u8, class: Class, priority: u8)
+        ensures row { self.new ≡ set_policy t class priority self.old }
+        ensures stamps { self.new.stamps ≡ self.old.stamps }
+    {
+        self.tasks.set_policy(t, class, priority);
+    }
+
+    /// A task has no class, no priority and no mode bits.
+    #[tactic(auto, unfolding(evm_model::specs::Tasks::clear_policy))]
+    pub fn clear_policy(&mut self, t: u8)
+        ensures row { self.new ≡ clear_policy t self.old }
+        ensures stamps { self.new.stamps ≡ self.old.stamps }
+    {
+        self.tasks.clear_policy(t);
+    }
+
+    /// A task has these mode bits.
+    #[tactic(auto, unfolding(evm_model::specs::Tasks::set_mode_bits))]
+    pub fn set_mode_bits(&mut self, t: u8, bits: u8)
+        ensures row { self.new ≡ set_mode_bits t bits self.old }
+        ensures stamps { self.new.stamps ≡ self.old.stamps }
+    {
+        self.tasks.set_mode(t, bits);
+    }
+
+    // A task has so many ticks left.
+    #[tactic(auto, unfolding(evm_model::specs::Tasks::set_slice))]
+    fn set_slice(&mut self, t: u8, slice: u8)
+        ensures row { self.new ≡ set_slice t slice self.old }
+        ensures stamps { self.new.stamps ≡ self.old.stamps }
+    {
+        self.tasks.set_slice(t, slice);
+    }
+
+    /// A tick less of a task's slice; the last one gives a whole slice, and a fresh stamp.
+    #[tactic(auto, unfolding(evm_model::specs::Tasks::spend_slice))]
+    pub fn spend_slice(&mut self, t: u8, slice: u8)
+        requires room { self.old.stamps < 2 ^ 63 }
+        ensures row { self.new ≡ spend_slice t slice self.old }
+        ensures stamps { self.new.stamps ≤ self.old.stamps + 1 }
+    {
+        if slice <= 1 {
+            self.set_slice(t, SLICE);
+            self.restamp(t);
+        } else {
+            self.set_slice(t, slice - 1);
+        }
+    }
+
+    /// A tick of the slice of a processor's current task, if that is out-of-band and of the round-robin class.
+    #[tactic(auto, unfolding(evm_model::specs::Settle::spend_current))]
+    pub fn spend_current(&mut self, c: u8)
+        requires room { self.old.stamps < 2 ^ 63 }
+        ensures row { self.new ≡ spend_current c self.old }
+        ensures stamps { self.new.stamps ≤ self.old.stamps + 1 }
+    {
+        let Some(t) = self.current(c) else {
+            return;
+        };
+        let Some(task) = self.tasks.get(t) else {
+            return;
+        };
+        if task.state == TaskState::OobReady && task.class == Class::RoundRobin {
+            self.spend_slice(t, task.slice);
+        }
+    }
+
+    /// Whether a stage of a processor is stalled.
+    pub fn is_stalled(&self, c: u8, stage: Stage) -> bool
+        ensures { result ≡ is_stalled stage c self.now }
+    {
+        match self.pipe(c) {
+            None => false,
+            Some(pipe) => pipe.log(stage).stalled,
+        }
+    }
+
+    /// Whether a task has a class.
+    pub fn is_attached(&self, t: u8) -> bool
+        ensures { result ≡ is_attached t self.now }
+    {
+        self.tasks.is_attached(t)
+    }
+
+    /// The stage that a task is on.
+    pub fn stage_at(&self, t: u8) -> Stage
+        ensures { result ≡ stage_at t self.now }
+    {
+        if self.tasks.is_oob(Some(t)) {
+            Stage::OutOfBand
+        } else {
+            Stage::InBand
+        }
+    }
+
+    /// Whether a task of a processor may go out-of-band: it has a class, and in-band isn't stalled there.
+    pub fn may_promote(&self, c: u8, t: u8) -> bool
+        ensures { result ≡ may_promote c t self.now }
+    {
+        self.is_attached(t) && !self.is_stalled(c, Stage::InBand)
+    }
+}
