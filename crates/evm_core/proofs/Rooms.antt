@@ -14,34 +14,9 @@ use Rattle.evm_walk.proofs.Counted.{takes_counted}
 use Rattle.evm_walk.proofs.Moves.{Takes}
 use Rattle.evm_walk.proofs.Sets.{takes_pipes}
 use Rattle.evm_walk.proofs.Tasks.{takes_end}
-use Rattle.evm_rules.proofs.Settling.{only-settle_oob}
 use Rattle.evm_rules.proofs.Stamps.{call-gives}
 use Rattle.evm_rules.proofs.Bounded.{AreWithin, within-more, within-settle_oob, within-settle, within-receive}
 use Rattle.evm_rules.proofs.Counting.{PipesUpTo-more, on_play-up}
-
--- one play before one arrival
-pub room-play : (c : ℕ) (stage : Stage) (l : ℕ) (k : Parts) → PipesUpTo (2 ^ 63 - 1) k.pipes → PipesUpTo (2 ^ 63) (on_pipe c (play stage l) k).pipes
-room-play c stage l k h = on_play-up (2 ^ 63 - 1) c stage l k h
-
-pub room-less : (k : Parts) → PipesUpTo (2 ^ 63 - 1) k.pipes → PipesUpTo (2 ^ 63) k.pipes
-room-less k h = PipesUpTo-more (2 ^ 63 - 1) (2 ^ 63) k.pipes (omega arith) h
-
-pub ruleset rooms = (room-play, room-less)
-
--- one stage settled before the other, and both before the others are told
-pub room-first : (k : Parts) → AreWithin (2 ^ 62) k → PipesUpTo (2 ^ 62) k.pipes
-room-first k h = h.up
-
-pub room-second : (c : ℕ) (k : Parts) → AreWithin (2 ^ 62) k → PipesUpTo (2 ^ 62 + 64) (settle_oob c k).pipes
-room-second c k h = (within-settle_oob (2 ^ 62) c k h).up
-
-pub room-nudge : (c : ℕ) (k : Parts) → AreWithin (2 ^ 62) k → PipesUpTo (2 ^ 62 + 128) (settle c k).pipes
-room-nudge c k h = PipesUpTo-more (2 ^ 62 + 96) (2 ^ 62 + 128) (settle c k).pipes (omega arith) (within-settle (2 ^ 62) c k h).up
-
-pub stamps-second : (c : ℕ) (k : Parts) → k.stamps ≤ 2 ^ 61 → (settle_oob c k).stamps ≤ 2 ^ 61
-stamps-second c k h = rw (only-settle_oob c k).stamps h
-
-pub ruleset settles = (room-first, room-second, room-nudge, stamps-second)
 
 -- moves that count nothing
 within-takes : (a line b : ℕ) (k new : Parts) → Takes a line 0 k new → AreWithin b k → AreWithin b new

@@ -72,9 +72,9 @@ gives-restamp t k = record { least = omega arith; most = omega arith }
 
 -- ---- playing
 -- .. while there are as many tasks
-record Plays (n : ℕ) (k new : Parts) : Type 0 where
-  gives : Gives n k new
-  tasks : length new.tasks ≡ length k.tasks
+pub record Plays (n : ℕ) (k new : Parts) : Type 0 where
+  pub gives : Gives n k new
+  pub tasks : length new.tasks ≡ length k.tasks
 
 plays-then : (m n t : ℕ) (x y z : Parts) → m + n ≤ t → Plays m x y → Plays n y z → Plays t x z
 plays-then m n t x y z h p q = record { gives = gives-then m n t x y z h p.gives q.gives; tasks = q.tasks ∙ p.tasks }
@@ -133,7 +133,7 @@ oob_pipe-plays c (Some pipe) k e w =
     plays-if 32 pipe.oob.stalled k k (run_best c (play_oob_lines c pipe.oob.lines k)) (record { gives = gives-none 32 k k refl; tasks = refl })
     (record { gives = record { least = all.gives.least; most = omega (arith, all.gives.most) }; tasks = all.tasks })
 
-settle_oob-plays : (c : ℕ) (k : Parts) → ((q : Pipe) → slice_get k.pipes c ≡ Some q → IsPipe q) → Plays 32 k (settle_oob c k)
+pub settle_oob-plays : (c : ℕ) (k : Parts) → ((q : Pipe) → slice_get k.pipes c ≡ Some q → IsPipe q) → Plays 32 k (settle_oob c k)
 unfolding settle_oob
 settle_oob-plays c k w = oob_pipe-plays c (slice_get k.pipes c) k refl w
 

@@ -1,8 +1,8 @@
 use Rattle.std.proofs.Common.{◌≡◌, ◌+◌, ◌^◌}
 use Rattle.evm_model.specs.Bounds.{PipesUpTo}
 use Rattle.evm_model.specs.Settle.{nudge_pipe}
-use Rattle.evm_core.proofs.Nudges.{changed_below}
-use Rattle.evm_core.proofs.settle.nudge.Given as goal
+use Rattle.evm_settle.proofs.Nudges.{changed_below}
+use Rattle.evm_settle.proofs.nudging.nudge.Given as goal
 
 -- the processors below d are told
 abbrev pub invariant-loop-d : goal.invariant-loop-d

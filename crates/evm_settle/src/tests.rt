@@ -6,7 +6,8 @@ ghost use Rattle.std.specs.Prelude.{◌≡◌, replicate};
 ghost use Rattle.evm_model.specs.Pipes.{idle_pipe};
 ghost use Rattle.evm_rules.proofs.Bounded.{AreWithin};
 
-use super::{nudge, nudge_one, settle_and_nudge, wants_nudge};
+use crate::nudging::{nudge, nudge_one, wants_nudge};
+use crate::settle_and_nudge;
 use arrayvec::ArrayVec;
 use evm_exec::Hart;
 use evm_model::{Class, Mode, Processor, Stage, Task, TaskState, Wait};
@@ -129,10 +130,7 @@ fn task_of(cpu: u8, state: TaskState) -> Task {
         class: Class::Fifo,
         priority: 10,
         slice: 0,
-        mode: Mode {
-            stage_switches: false,
-            lock_mistakes: false,
-        },
+        mode: Mode { bits: 0 },
         stamp: 0,
         deadline: 0,
         state,

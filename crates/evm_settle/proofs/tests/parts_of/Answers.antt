@@ -1,5 +1,5 @@
-use Rattle.evm_core.proofs.Idle.{idle-three, idle-stall}
-use Rattle.evm_core.proofs.settle.tests.parts_of.Goals as goal
+use Rattle.evm_settle.proofs.Idle.{idle-three, idle-stall}
+use Rattle.evm_settle.proofs.tests.parts_of.Goals as goal
 
 pub wire-requires : goal.wire-requires
 wire-requires c = idle-three _ c.parts_with-parts.ensures

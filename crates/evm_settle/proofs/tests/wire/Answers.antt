@@ -1,5 +1,5 @@
-use Rattle.evm_core.proofs.Idle.{idle-raise}
-use Rattle.evm_core.proofs.settle.tests.wire.Goals as goal
+use Rattle.evm_settle.proofs.Idle.{idle-raise}
+use Rattle.evm_settle.proofs.tests.wire.Goals as goal
 
 pub returns-in-Timer : goal.returns-in-Timer
 returns-in-Timer c = idle-raise _ _ _ _ c.raise.ensures c.requires

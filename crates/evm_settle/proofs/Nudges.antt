@@ -1,8 +1,8 @@
 -- Changing one processor's pipe after another is changing each.
 use Rattle.std.proofs.Common.{◌≡◌, ℕ, zero, suc, ◌+◌, ◌<◌, ◌≤◌, List, Bool, true, false, Option, Some, None, length, refl, sym, ap, ◌∙◌, inl, inr, arith, add-one, leb-true, leb-false}
-use Rattle.std.specs.Prelude.{slice_get, slice_set, option_map, nat_le, ◌==◌, if◌then◌else◌, map}
+use Rattle.std.specs.Prelude.{slice_get, slice_set, option_map, nat_le, ◌==◌, if◌then◌else◌}
 use Rattle.std.proofs.Math.Nat.{eq-or-lt_of_le}
-use Rattle.std.proofs.lemmas.Option.{slice_get-map, slice_get_past}
+use Rattle.std.proofs.lemmas.Option.{slice_get_past}
 use Rattle.evm_model.specs.Bounds.{PipesUpTo}
 use Rattle.evm_model.specs.Lists.{change, each}
 use Rattle.evm_model.specs.Pipes.{Pipe, raise}
@@ -10,7 +10,7 @@ use Rattle.evm_model.specs.Settle.{nudge_pipe, wants_nudge, nudge}
 use Rattle.evm_model.specs.State.{Parts, on_pipe}
 use Rattle.evm_model.proofs.Lists.{change-here, change-elsewhere, change-same, slice_get-each, same_elements}
 use Rattle.evm_rules.proofs.Counting.{PipesUpTo-more, on_raise-up}
-use Rattle.evm_core.specs.Nudges.{nudge_one, nudge_if}
+use Rattle.evm_settle.specs.Nudges.{nudge_one, nudge_if}
 
 -- the elements below n are changed, each by its number
 unfoldable pub changed_below : {X : Type 0} → (ℕ → X → X) → ℕ → List X → List X
@@ -44,7 +44,7 @@ below {X = X} f (suc n) i xs h = elim (eq-or-lt_of_le {n = i} {m = n} (omega ari
 ]
 
 -- all are changed
-all-at : {X : Type 0} (f : ℕ → X → X) (n i : ℕ) (xs : List X) (b : Bool) → nat_le n i ≡ b → length xs ≤ n → slice_get (changed_below f n xs) i ≡ option_map (f i) (slice_get xs i)
+pub all-at : {X : Type 0} (f : ℕ → X → X) (n i : ℕ) (xs : List X) (b : Bool) → nat_le n i ≡ b → length xs ≤ n → slice_get (changed_below f n xs) i ≡ option_map (f i) (slice_get xs i)
 all-at f n i xs true e h =
     let past : n ≤ i = leb-true n i e in
     let none : slice_get xs i ≡ None = slice_get_past xs i (omega arith) in
@@ -107,19 +107,3 @@ up-one b d k false h = up-pipe b d k (slice_get k.pipes d) h
 
 pub nudge_one-up : (b c d : ℕ) (k : Parts) → PipesUpTo b k.pipes → PipesUpTo (b + 1) (nudge_one c d k).pipes
 nudge_one-up b c d k h = up-one b d k (d == c) h
-
--- ---- the timer's line of each processor
-abbrev pub raise_timer : ℕ → Pipe → Pipe
-raise_timer c pipe = raise 0 pipe
-
-timers-map : (n i : ℕ) (xs : List Pipe) (b : Bool) → nat_le n i ≡ b → length xs ≤ n → slice_get (changed_below raise_timer n xs) i ≡ slice_get (map (raise 0) xs) i
-timers-map n i xs b e h = all-at raise_timer n i xs b e h ∙ sym (slice_get-map (raise 0) xs i)
-
-pub timers-all : (n : ℕ) (xs : List Pipe) → length xs ≤ n → changed_below raise_timer n xs ≡ map (raise 0) xs
-timers-all n xs h = same_elements (changed_below raise_timer n xs) (map (raise 0) xs) (λ i. timers-map n i xs (nat_le n i) refl h)
-
-pub timers-more : (c : ℕ) (k : Parts) → on_pipe c (raise 0) (record k { pipes = changed_below raise_timer c k.pipes }) ≡ record k { pipes = changed_below raise_timer (c + 1) k.pipes }
-timers-more c k = ap (λ (ps : List Pipe). record k { pipes = ps }) (sym (changed_below-more raise_timer c k.pipes))
-
-pub timers-none : (k : Parts) → record k { pipes = changed_below raise_timer 0 k.pipes } ≡ k
-timers-none k = ap (λ (ps : List Pipe). record k { pipes = ps }) (changed_below-none raise_timer k.pipes)

@@ -1,7 +1,7 @@
 use Rattle.std.proofs.Common.{◌≡◌, ◌+◌, ◌-◌, ◌^◌, ◌∷◌, length, refl, ap, arith}
 use Rattle.evm_model.specs.Settle.{play_in_band_lines}
 use Rattle.evm_rules.proofs.Counting.{PipesUpTo-more, play_in_band-up}
-use Rattle.evm_core.proofs.settle.play_in_band_lines.Goals as goal
+use Rattle.evm_settle.proofs.playing.play_in_band_lines.Goals as goal
 
 pub playing-init : goal.playing-init
 playing-init c = record { rest = refl; few = c.requires.few; room = PipesUpTo-more _ _ _ (omega arith) c.requires.room; stamps = omega (arith, c.requires.stamps, c.requires.few) }
