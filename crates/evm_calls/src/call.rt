@@ -1,20 +1,28 @@
 //! The ECALL itself.
 
-ghost use Rattle.std.specs.Prelude.{◌≡◌, ◌<◌, ◌≤◌, ◌^◌, length};
+ghost use Rattle.std.specs.Prelude.{◌≡◌, ◌<◌, ◌≤◌, ◌+◌, ◌^◌, length};
 ghost use Rattle.evm_exec.specs.declared.hart.Hart.{Hart};
-ghost use Rattle.evm_model.specs.Calls.{perform, answered, call};
-ghost use Rattle.evm_model.specs.Tasks.{demote};
+ghost use Rattle.evm_model.specs.Calls.{perform, return_weak, answered, finish_call, ask_oob, call_on, call_stage, call};
 ghost use Rattle.evm_task.specs.Asks.{AskedBy};
 
-use crate::exit::exit;
-use crate::putc::putc;
-use crate::refused::refused;
-use crate::set_line::set_line;
-use crate::spawn::spawn;
+use crate::clock::clock;
+use crate::set_mode::set_mode;
+use crate::set_sched::set_sched;
 use crate::stall::stall;
-use crate::wait_line::wait_line;
-use crate::yield_now::yield_now;
-use evm_model::{Call, Errno, Outcome, Stage, TaskState};
+use crate::state_bits::state_bits;
+use crate::switch_in_band::switch_in_band;
+use crate::switch_oob::switch_oob;
+use crate::yield_oob::yield_oob;
+use evm_inband::attach::attach;
+use evm_inband::detach::detach;
+use evm_inband::exit::exit;
+use evm_inband::putc::putc;
+use evm_inband::refused::refused;
+use evm_inband::set_line::set_line;
+use evm_inband::spawn::spawn;
+use evm_inband::wait_line::wait_line;
+use evm_inband::yield_now::yield_now;
+use evm_model::{Call, Errno, Outcome, Stage};
 use evm_parts::Parts;
 use evm_ram::SIZE_LIMIT;
 use evm_task::Asked;
@@ -24,44 +32,101 @@ fn perform(parts: &mut Parts, call: Call, ram: u64, asked: Asked, c: u8, t: u8) 
     requires ram { ram ≤ SIZE_LIMIT }
     requires stamps { parts.old.stamps < 2 ^ 62 }
     requires harts { length parts.old.harts ≡ length parts.old.tasks }
-    ensures { (hart : Hart) → AskedBy asked hart → (parts.new, result) ≡ perform call ram hart c t parts.old }
+    ensures row { (hart : Hart) → AskedBy asked hart → (parts.new, result) ≡ perform call ram hart c t parts.old }
+    ensures stamps { parts.new.stamps ≤ parts.old.stamps + 1 }
 {
     match call {
         Call::Exit => exit(parts, c, t),
         Call::Putc => putc(parts, asked.first),
         Call::Yield => yield_now(parts, c, t),
         Call::Spawn => spawn(parts, ram, asked.first, asked.second, asked.third),
-        Call::Stall => stall(parts, true, c),
-        Call::Unstall => stall(parts, false, c),
+        Call::Stall => stall(parts, Stage::InBand, true, c),
+        Call::Unstall => stall(parts, Stage::InBand, false, c),
         Call::WaitLine => wait_line(parts, c, t, asked.first),
+        Call::Attach => attach(parts, t, asked.first, asked.second),
+        Call::Detach => detach(parts, t),
         Call::SetLine => set_line(parts, asked.first, asked.second),
+        Call::SwitchOob => switch_oob(parts),
+        Call::SwitchInBand => switch_in_band(parts, c, t),
+        Call::SetSched => set_sched(parts, asked.first, asked.second, asked.third),
+        Call::SetMode => set_mode(parts, t, asked.first),
+        Call::YieldOob => yield_oob(parts, t),
+        Call::StallOob => stall(parts, Stage::OutOfBand, true, c),
+        Call::UnstallOob => stall(parts, Stage::OutOfBand, false, c),
+        Call::Clock => clock(parts),
+        Call::StateBits => state_bits(parts, c, t),
+    }
+}
+
+// A weak task stays out-of-band only until its call is answered.
+#[tactic(auto, unfolding(evm_model::specs::Calls::return_weak))]
+fn return_weak(parts: &mut Parts, c: u8, t: u8)
+    requires room { parts.old.stamps < 2 ^ 63 }
+    ensures { parts.new ≡ return_weak c t parts.old }
+{
+    if parts.tasks.is_weak_oob(t) {
+        parts.demote(c, t);
     }
 }
 
 // A call is answered, or its task waits, or has left.
-fn answer(parts: &mut Parts, outcome: Outcome, t: u8)
-    ensures { parts.new ≡ answered outcome t parts.old }
+fn answer(parts: &mut Parts, outcome: Outcome, c: u8, t: u8)
+    requires room { parts.old.stamps < 2 ^ 63 }
+    ensures { parts.new ≡ answered outcome c t parts.old }
 {
     match outcome {
-        Outcome::Answers(value) => parts.harts.answer(t, value),
+        Outcome::Answers(value) => {
+            parts.harts.answer(t, value);
+            return_weak(parts, c, t);
+        }
         Outcome::Waits => parts.harts.advance(t),
         Outcome::Leaves => {}
     }
 }
 
-// An out-of-band task goes in-band, its pc unchanged.
-#[tactic(auto, unfolding(evm_model::specs::Tasks::demote))]
-fn demote(parts: &mut Parts, c: u8, t: u8)
-    requires { parts.old.stamps < 2 ^ 62 }
-    ensures { parts.new ≡ demote c t parts.old }
+// What a call does, and what comes of it.
+fn finish(parts: &mut Parts, call: Call, ram: u64, asked: Asked, c: u8, t: u8)
+    requires ram { ram ≤ SIZE_LIMIT }
+    requires stamps { parts.old.stamps < 2 ^ 62 }
+    requires harts { length parts.old.harts ≡ length parts.old.tasks }
+    ensures { (hart : Hart) → AskedBy asked hart → parts.new ≡ finish_call c t (perform call ram hart c t parts.old) }
 {
-    parts.set_stall(c, Stage::OutOfBand, false);
-    parts.set_state(t, TaskState::InReady);
-    parts.restamp(t);
+    let outcome = perform(parts, call, ram, asked, c, t);
+    answer(parts, outcome, c, t);
 }
 
-/// What the ECALL of a task does, on a machine with so many bytes of RAM. An out-of-band task goes in-band first,
-/// and a number that is no call's answers -38.
+// A task that may goes out-of-band, its pc unchanged, so that it makes its call again there.
+#[tactic(auto, unfolding(evm_model::specs::Calls::ask_oob))]
+fn ask_oob(parts: &mut Parts, c: u8, t: u8)
+    requires stamps { parts.old.stamps < 2 ^ 62 }
+    ensures { parts.new ≡ ask_oob c t parts.old }
+{
+    if parts.may_promote(c, t) {
+        parts.promote(c, t);
+    } else {
+        answer(parts, refused(Errno::NotPermitted), c, t);
+    }
+}
+
+// A call of the other stage changes the task's stage first; one of either stage never does.
+fn call_on(parts: &mut Parts, call: Call, ram: u64, asked: Asked, c: u8, t: u8)
+    requires ram { ram ≤ SIZE_LIMIT }
+    requires stamps { parts.old.stamps < 2 ^ 62 }
+    requires harts { length parts.old.harts ≡ length parts.old.tasks }
+    ensures { (hart : Hart) → AskedBy asked hart → parts.new ≡ call_on (call_stage call) call ram hart c t parts.old }
+{
+    let is_oob = parts.tasks.is_oob(Some(t));
+    match call.stage() {
+        Some(Stage::InBand) if is_oob => parts.demote(c, t),
+        Some(Stage::OutOfBand) if !is_oob => ask_oob(parts, c, t),
+        _ => finish(parts, call, ram, asked, c, t),
+    }
+}
+
+/// What the ECALL of a task does, on a machine with so many bytes of RAM. At a call of the in-band kernel an
+/// out-of-band task goes in-band, its pc unchanged, and at one of the out-of-band kernel an in-band task goes
+/// out-of-band, or is answered -1 where it may not; so it makes the call again on the other stage. A number that is
+/// no call's answers -38.
 #[tactic(auto, unfolding(evm_model::specs::Calls::call))]
 pub fn call(parts: &mut Parts, ram: u64, c: u8, t: u8)
     requires ram { ram ≤ SIZE_LIMIT }
@@ -72,14 +137,8 @@ pub fn call(parts: &mut Parts, ram: u64, c: u8, t: u8)
     let Some(asked) = parts.harts.asked(t) else {
         return;
     };
-    let Some(call) = Call::of_number(asked.number) else {
-        answer(parts, refused(Errno::NoSuchCall), t);
-        return;
-    };
-    if parts.tasks.is_oob(Some(t)) {
-        demote(parts, c, t);
-        return;
+    match Call::of_number(asked.number) {
+        None => answer(parts, refused(Errno::NoSuchCall), c, t),
+        Some(call) => call_on(parts, call, ram, asked, c, t),
     }
-    let outcome = perform(parts, call, ram, asked, c, t);
-    answer(parts, outcome, t);
 }

@@ -4,12 +4,14 @@ ghost use Rattle.evm_model.specs.OobCalls.{stall};
 use evm_model::{Outcome, Stage};
 use evm_parts::Parts;
 
-/// Calls 4 and 5: the in-band stage of the processor is stalled, or not; answers the old bit.
+/// Calls 4 and 5, 51 and 52: a stage of the processor, in-band or out-of-band, is stalled, or not; answers the old
+/// bit.
 #[tactic(auto, unfolding(evm_model::specs::OobCalls::stall))]
-pub fn stall(parts: &mut Parts, stalled: bool, c: u8) -> Outcome
-    ensures { (parts.new, result) ≡ stall stalled c parts.old }
+pub fn stall(parts: &mut Parts, stage: Stage, stalled: bool, c: u8) -> Outcome
+    ensures row { (parts.new, result) ≡ stall stage stalled c parts.old }
+    ensures stamps { parts.new.stamps ≡ parts.old.stamps }
 {
-    let old = parts.is_in_band_stalled(c);
-    parts.set_stall(c, Stage::InBand, stalled);
+    let old = parts.is_stalled(c, stage);
+    parts.set_stall(c, stage, stalled);
     Outcome::Answers(u64::from(old))
 }

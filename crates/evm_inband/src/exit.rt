@@ -7,7 +7,8 @@ use evm_parts::Parts;
 /// Call 0: the task ends. The stall of its processor's in-band stage ends with it.
 #[tactic(auto, unfolding(evm_model::specs::InBandCalls::exit))]
 pub fn exit(parts: &mut Parts, c: u8, t: u8) -> Outcome
-    ensures { (parts.new, result) ≡ exit c t parts.old }
+    ensures row { (parts.new, result) ≡ exit c t parts.old }
+    ensures stamps { parts.new.stamps ≡ parts.old.stamps }
 {
     parts.end_task(c, t, TaskState::Exit);
     Outcome::Leaves

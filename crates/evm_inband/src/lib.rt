@@ -1,12 +1,14 @@
-//! The calls of the in-band kernel, a module each: what a task asks for by an ECALL.
+//! The calls of the in-band kernel, a module each: what a task asks for by an ECALL. And what the calls of either
+//! kernel share: how one is refused, and how a class and a priority are given.
 #![tactic(auto)]
 
-pub mod call;
+pub mod attach;
+pub mod detach;
 pub mod exit;
+pub mod policy;
 pub mod putc;
-mod refused;
+pub mod refused;
 pub mod set_line;
 pub mod spawn;
-pub mod stall;
 pub mod wait_line;
 pub mod yield_now;

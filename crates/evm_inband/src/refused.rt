@@ -4,7 +4,7 @@ ghost use Rattle.evm_model.specs.Errnos.{refusal_answer};
 use evm_model::{Errno, Outcome};
 
 /// A call that is refused is answered at once.
-pub(crate) fn refused(error: Errno) -> Outcome
+pub fn refused(error: Errno) -> Outcome
     ensures { result ≡ Outcome.Answers (refusal_answer error) }
 {
     Outcome::Answers(error.answer())

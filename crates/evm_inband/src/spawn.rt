@@ -1,4 +1,4 @@
-ghost use Rattle.std.specs.Prelude.{◌≡◌, ◌<◌, ◌≤◌, ◌^◌, length};
+ghost use Rattle.std.specs.Prelude.{◌≡◌, ◌<◌, ◌≤◌, ◌+◌, ◌^◌, length};
 ghost use Rattle.evm_model.specs.InBandCalls.{is_bad_entry, spawn};
 
 use crate::refused::refused;
@@ -22,7 +22,8 @@ pub fn spawn(parts: &mut Parts, ram: u64, entry: u64, value: u64, cpu: u64) -> O
     requires ram { ram ≤ SIZE_LIMIT }
     requires stamps { parts.old.stamps < 2 ^ 62 }
     requires harts { length parts.old.harts ≡ length parts.old.tasks }
-    ensures { (parts.new, result) ≡ spawn ram entry value cpu parts.old }
+    ensures row { (parts.new, result) ≡ spawn ram entry value cpu parts.old }
+    ensures stamps { parts.new.stamps ≤ parts.old.stamps + 1 }
 {
     if is_bad_entry(ram, entry) || cpu >= u64::from(parts.processor_count()) {
         return refused(Errno::Invalid);

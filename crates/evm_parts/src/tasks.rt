@@ -69,10 +69,11 @@ impl Parts {
     /// One task more: unattached, ready in-band, its registers 0 but for a0.
     #[tactic(auto, unfolding(evm_model::specs::InBandCalls::add_task))]
     pub fn add_task(&mut self, entry: u64, value: u64, cpu: u8)
-        requires stamps { self.old.stamps < 2 ^ 63 }
+        requires room { self.old.stamps < 2 ^ 63 }
         requires harts { length self.old.harts < TASK_LIMIT }
         requires tasks { length self.old.tasks < TASK_LIMIT }
-        ensures { self.new ≡ add_task entry value cpu self.old }
+        ensures row { self.new ≡ add_task entry value cpu self.old }
+        ensures stamps { self.new.stamps ≡ self.old.stamps + 1 }
     {
         let stamp = self.stamps;
         self.harts.push_spawned(entry, value);

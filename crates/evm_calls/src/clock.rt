@@ -1,0 +1,13 @@
+ghost use Rattle.std.specs.Prelude.{◌≡◌};
+ghost use Rattle.evm_model.specs.OobCalls.{clock};
+
+use evm_model::Outcome;
+use evm_parts::Parts;
+
+/// Call 53, of either stage: answers how many ticks there were.
+#[tactic(auto, unfolding(evm_model::specs::OobCalls::clock))]
+pub fn clock(parts: &Parts) -> Outcome
+    ensures { (parts.now, result) ≡ clock parts.now }
+{
+    Outcome::Answers(parts.ticks)
+}
