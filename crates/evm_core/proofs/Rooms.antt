@@ -3,29 +3,32 @@ use Rattle.std.proofs.Common.{ℕ, ◌+◌, ◌-◌, ◌^◌, ◌≤◌, Bool, f
 use Rattle.evm_model.specs.Bounds.{PipesUpTo}
 use Rattle.evm_model.specs.Calls.{call}
 use Rattle.evm_model.specs.Commands.{set_bits}
-use Rattle.evm_model.specs.Pipes.{play, receive}
-use Rattle.evm_model.specs.Settle.{settle, settle_oob}
-use Rattle.evm_model.specs.Tasks.{end_task}
+use Rattle.evm_model.specs.Instructions.{fault}
+use Rattle.evm_model.specs.Pipes.{receive}
 use Rattle.evm_model.specs.State.{Parts, on_pipe, on_processor}
-use Rattle.evm_model.specs.declared.stage.Stage.{Stage}
-use Rattle.evm_model.specs.declared.task.TaskState.{TaskState}
+use Rattle.evm_model.specs.declared.fault.Fault.{Fault}
 use Rattle.evm_walk.proofs.Calls.{call_takes}
 use Rattle.evm_walk.proofs.Counted.{takes_counted}
 use Rattle.evm_walk.proofs.Moves.{Takes}
 use Rattle.evm_walk.proofs.Sets.{takes_pipes}
-use Rattle.evm_walk.proofs.Tasks.{takes_end}
-use Rattle.evm_rules.proofs.Stamps.{call-gives}
-use Rattle.evm_rules.proofs.Bounded.{AreWithin, within-more, within-settle_oob, within-settle, within-receive}
-use Rattle.evm_rules.proofs.Counting.{PipesUpTo-more, on_play-up}
+use Rattle.evm_walk.proofs.Rows.{faults}
+use Rattle.evm_rules.proofs.Stamps.{call-gives, fault-gives}
+use Rattle.evm_rules.proofs.Bounded.{AreWithin, within-more, within-receive}
+use Rattle.evm_rules.proofs.Counting.{PipesUpTo-more}
 
 -- moves that count nothing
 within-takes : (a line b : ℕ) (k new : Parts) → Takes a line 0 k new → AreWithin b k → AreWithin b new
 within-takes a line b k new t w =
     record { are = (takes_pipes a line 0 k new t (record { each = w.are })).each; up = PipesUpTo-more (b + 0) b new.pipes (omega arith) (takes_counted a line 0 b k new t w.up) }
 
--- a task ended before its processor settles
-pub room-end : (c t : ℕ) (state : TaskState) (k : Parts) → AreWithin (2 ^ 61) k → AreWithin (2 ^ 62) (end_task c t state k)
-room-end c t state k h = within-more (2 ^ 61) (2 ^ 62) _ (omega arith) (within-takes c 1 (2 ^ 61) k _ (takes_end c t state k) h)
+-- a fault before its processor settles
+pub room-fault : (c t : ℕ) (f : Fault) (k : Parts) → AreWithin (2 ^ 61) k → AreWithin (2 ^ 62) (fault c t f k)
+room-fault c t f k h = within-more (2 ^ 61) (2 ^ 62) _ (omega arith) (within-takes c 1 (2 ^ 61) k _ (faults c t f k) h)
+
+pub stamps-fault : (c t : ℕ) (f : Fault) (k : Parts) → k.stamps ≤ 2 ^ 60 → (fault c t f k).stamps ≤ 2 ^ 61
+stamps-fault c t f k h = let g = fault-gives c t f k in omega (arith, g.most)
+
+pub ruleset fault_stamps = (stamps-fault)
 
 -- a call before its processor settles
 pub room-call : (ram c t : ℕ) (k : Parts) → AreWithin (2 ^ 61) k → AreWithin (2 ^ 62) (call ram c t k)

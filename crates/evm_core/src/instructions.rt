@@ -32,7 +32,7 @@ fn fault(parts: &mut Parts, c: u8, t: u8, reason: Fault)
 }
 
 // A task's instruction faults, and its processor settles.
-#[tactic(auto, using(crate::proofs::Rooms::faults))]
+#[tactic(auto, using(crate::proofs::Rooms::fault_stamps))]
 fn fault_and_settle(parts: &mut Parts, c: u8, t: u8, reason: Fault)
     requires room { AreWithin (2 ^ 61) parts.old }
     requires stamps { parts.old.stamps ≤ 2 ^ 60 }

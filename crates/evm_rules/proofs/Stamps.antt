@@ -297,7 +297,7 @@ unfolding call
 call-gives ram c t k = hart-gives ram (slice_get k.harts t) c t k
 
 -- ---- an instruction
-fault-gives : (c t : ℕ) (f : Fault) (k : Parts) → Gives 2 k (fault c t f k)
+pub fault-gives : (c t : ℕ) (f : Fault) (k : Parts) → Gives 2 k (fault c t f k)
 fault-gives c t f k = gives-if 2 (is_oob (Some t) k.tasks) k _ _ (more-gives k _ (demote-gives c t k)) (more-gives k _ (end-gives c t _ k))
 
 load-gives : (o : Option ℕ) (op : LoadOp) (rd c t : ℕ) (b : Board) → Gives 2 b.parts (finish_load o op rd c t b).parts

@@ -102,7 +102,7 @@ stops : (c line : ℕ) (k : Parts) → Takes c line 0 k (stop c k)
 unfolding stop
 stops c line k = takes_processor c line _ k
 
-faults : (c t : ℕ) (f : Fault) (k : Parts) → Takes c 1 0 k (fault c t f k)
+pub faults : (c t : ℕ) (f : Fault) (k : Parts) → Takes c 1 0 k (fault c t f k)
 faults c t f k = takes_if c 1 0 k _ _ (is_oob (Some t) k.tasks) (takes_demote c t k) (takes_end c t _ k)
 
 loads : (c t : ℕ) (o : Option ℕ) (op : LoadOp) (rd : ℕ) (b : Board) → Takes c 1 0 b.parts (finish_load o op rd c t b).parts
