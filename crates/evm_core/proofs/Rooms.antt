@@ -3,54 +3,32 @@ use Rattle.std.proofs.Common.{ℕ, ◌+◌, ◌-◌, ◌^◌, ◌≤◌, Bool, f
 use Rattle.evm_model.specs.Bounds.{PipesUpTo}
 use Rattle.evm_model.specs.Calls.{call}
 use Rattle.evm_model.specs.Commands.{set_bits}
-use Rattle.evm_model.specs.Pipes.{play, receive}
-use Rattle.evm_model.specs.Settle.{settle, settle_oob}
-use Rattle.evm_model.specs.Tasks.{end_task}
+use Rattle.evm_model.specs.Instructions.{fault}
+use Rattle.evm_model.specs.Pipes.{receive}
 use Rattle.evm_model.specs.State.{Parts, on_pipe, on_processor}
-use Rattle.evm_model.specs.declared.stage.Stage.{Stage}
-use Rattle.evm_model.specs.declared.task.TaskState.{TaskState}
+use Rattle.evm_model.specs.declared.fault.Fault.{Fault}
 use Rattle.evm_walk.proofs.Calls.{call_takes}
 use Rattle.evm_walk.proofs.Counted.{takes_counted}
 use Rattle.evm_walk.proofs.Moves.{Takes}
 use Rattle.evm_walk.proofs.Sets.{takes_pipes}
-use Rattle.evm_walk.proofs.Tasks.{takes_end}
-use Rattle.evm_rules.proofs.Settling.{only-settle_oob}
-use Rattle.evm_rules.proofs.Stamps.{call-gives}
-use Rattle.evm_rules.proofs.Bounded.{AreWithin, within-more, within-settle_oob, within-settle, within-receive}
-use Rattle.evm_rules.proofs.Counting.{PipesUpTo-more, on_play-up}
-
--- one play before one arrival
-pub room-play : (c : ℕ) (stage : Stage) (l : ℕ) (k : Parts) → PipesUpTo (2 ^ 63 - 1) k.pipes → PipesUpTo (2 ^ 63) (on_pipe c (play stage l) k).pipes
-room-play c stage l k h = on_play-up (2 ^ 63 - 1) c stage l k h
-
-pub room-less : (k : Parts) → PipesUpTo (2 ^ 63 - 1) k.pipes → PipesUpTo (2 ^ 63) k.pipes
-room-less k h = PipesUpTo-more (2 ^ 63 - 1) (2 ^ 63) k.pipes (omega arith) h
-
-pub ruleset rooms = (room-play, room-less)
-
--- one stage settled before the other, and both before the others are told
-pub room-first : (k : Parts) → AreWithin (2 ^ 62) k → PipesUpTo (2 ^ 62) k.pipes
-room-first k h = h.up
-
-pub room-second : (c : ℕ) (k : Parts) → AreWithin (2 ^ 62) k → PipesUpTo (2 ^ 62 + 64) (settle_oob c k).pipes
-room-second c k h = (within-settle_oob (2 ^ 62) c k h).up
-
-pub room-nudge : (c : ℕ) (k : Parts) → AreWithin (2 ^ 62) k → PipesUpTo (2 ^ 62 + 128) (settle c k).pipes
-room-nudge c k h = PipesUpTo-more (2 ^ 62 + 96) (2 ^ 62 + 128) (settle c k).pipes (omega arith) (within-settle (2 ^ 62) c k h).up
-
-pub stamps-second : (c : ℕ) (k : Parts) → k.stamps ≤ 2 ^ 61 → (settle_oob c k).stamps ≤ 2 ^ 61
-stamps-second c k h = rw (only-settle_oob c k).stamps h
-
-pub ruleset settles = (room-first, room-second, room-nudge, stamps-second)
+use Rattle.evm_walk.proofs.Rows.{faults}
+use Rattle.evm_rules.proofs.Stamps.{call-gives, fault-gives}
+use Rattle.evm_rules.proofs.Bounded.{AreWithin, within-more, within-receive}
+use Rattle.evm_rules.proofs.Counting.{PipesUpTo-more}
 
 -- moves that count nothing
 within-takes : (a line b : ℕ) (k new : Parts) → Takes a line 0 k new → AreWithin b k → AreWithin b new
 within-takes a line b k new t w =
     record { are = (takes_pipes a line 0 k new t (record { each = w.are })).each; up = PipesUpTo-more (b + 0) b new.pipes (omega arith) (takes_counted a line 0 b k new t w.up) }
 
--- a task ended before its processor settles
-pub room-end : (c t : ℕ) (state : TaskState) (k : Parts) → AreWithin (2 ^ 61) k → AreWithin (2 ^ 62) (end_task c t state k)
-room-end c t state k h = within-more (2 ^ 61) (2 ^ 62) _ (omega arith) (within-takes c 1 (2 ^ 61) k _ (takes_end c t state k) h)
+-- a fault before its processor settles
+pub room-fault : (c t : ℕ) (f : Fault) (k : Parts) → AreWithin (2 ^ 61) k → AreWithin (2 ^ 62) (fault c t f k)
+room-fault c t f k h = within-more (2 ^ 61) (2 ^ 62) _ (omega arith) (within-takes c 1 (2 ^ 61) k _ (faults c t f k) h)
+
+pub stamps-fault : (c t : ℕ) (f : Fault) (k : Parts) → k.stamps ≤ 2 ^ 60 → (fault c t f k).stamps ≤ 2 ^ 61
+stamps-fault c t f k h = let g = fault-gives c t f k in omega (arith, g.most)
+
+pub ruleset fault_stamps = (stamps-fault)
 
 -- a call before its processor settles
 pub room-call : (ram c t : ℕ) (k : Parts) → AreWithin (2 ^ 61) k → AreWithin (2 ^ 62) (call ram c t k)

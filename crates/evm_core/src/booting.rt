@@ -60,10 +60,7 @@ fn task_zero() -> Task
         class: Class::Unattached,
         priority: 0,
         slice: 0,
-        mode: Mode {
-            stage_switches: false,
-            lock_mistakes: false,
-        },
+        mode: Mode { bits: 0 },
         stamp: 0,
         deadline: 0,
         state: TaskState::InReady,

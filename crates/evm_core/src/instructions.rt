@@ -11,21 +11,34 @@ ghost use Rattle.evm_rules.proofs.Private.{IsClear};
 use crate::board::Board;
 use crate::memory::Memory;
 use crate::quiet::{advance_quietly, jump_quietly, load_quietly, stop_quietly};
-use crate::settle::settle_and_nudge;
+use evm_calls::call::call;
 use evm_exec::{Effect, Hart, effect, load_width, loaded};
-use evm_inband::call::call;
 use evm_isa::decode;
 use evm_model::{Fault, TaskState};
 use evm_parts::Parts;
 use evm_ram::SIZE_LIMIT;
+use evm_settle::settle_and_nudge;
 
-// A task ends by a fault, and its processor settles.
+// A fault sends an out-of-band task in-band, and ends another.
 fn fault(parts: &mut Parts, c: u8, t: u8, reason: Fault)
+    requires { parts.old.stamps ≤ 2 ^ 60 }
+    ensures { parts.new ≡ fault c t reason parts.old }
+{
+    if parts.tasks.is_oob(Some(t)) {
+        parts.demote(c, t);
+    } else {
+        parts.end_task(c, t, TaskState::Faulted(reason));
+    }
+}
+
+// A task's instruction faults, and its processor settles.
+#[tactic(auto, using(crate::proofs::Rooms::fault_stamps))]
+fn fault_and_settle(parts: &mut Parts, c: u8, t: u8, reason: Fault)
     requires room { AreWithin (2 ^ 61) parts.old }
     requires stamps { parts.old.stamps ≤ 2 ^ 60 }
     ensures { parts.new ≡ settle_and_nudge c (fault c t reason parts.old) }
 {
-    parts.end_task(c, t, TaskState::Faulted(reason));
+    fault(parts, c, t, reason);
     settle_and_nudge(parts, c);
 }
 
@@ -64,7 +77,7 @@ impl Board {
         match effect {
             Effect::Next { rd, value, pc } => jump_quietly(&mut self.parts, c, t, rd, value, pc),
             Effect::Load { op, rd, address } => match self.memory.read(address, load_width(op)) {
-                None => fault(&mut self.parts, c, t, Fault::Load),
+                None => fault_and_settle(&mut self.parts, c, t, Fault::Load),
                 Some(number) => load_quietly(&mut self.parts, c, t, rd, loaded(op, number)),
             },
             Effect::Store {
@@ -72,12 +85,12 @@ impl Board {
                 address,
                 value,
             } => match self.memory.write(address, width, value) {
-                None => fault(&mut self.parts, c, t, Fault::Store),
+                None => fault_and_settle(&mut self.parts, c, t, Fault::Store),
                 Some(()) => advance_quietly(&mut self.parts, c, t),
             },
             Effect::Call => call_and_settle(&mut self.parts, self.memory.ram_size(), c, t),
             Effect::Break => stop_quietly(&mut self.parts, c, t),
-            Effect::Misaligned => fault(&mut self.parts, c, t, Fault::Misaligned),
+            Effect::Misaligned => fault_and_settle(&mut self.parts, c, t, Fault::Misaligned),
         }
     }
 
@@ -91,7 +104,7 @@ impl Board {
     {
         match wanted {
             Ok(effect) => self.finish(c, t, effect),
-            Err(reason) => fault(&mut self.parts, c, t, reason),
+            Err(reason) => fault_and_settle(&mut self.parts, c, t, reason),
         }
     }
 }

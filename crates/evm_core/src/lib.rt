@@ -10,7 +10,6 @@ mod machine;
 mod memory;
 mod quiet;
 mod refusals;
-mod settle;
 mod step;
 
 pub use evm_model::{Answer, Boot, Event};

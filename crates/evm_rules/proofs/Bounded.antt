@@ -7,11 +7,12 @@ use Rattle.evm_model.specs.Bounds.{PipeUpTo, PipesUpTo}
 use Rattle.evm_model.specs.Commands.{tick}
 use Rattle.evm_model.specs.Good.{IsPipe}
 use Rattle.evm_model.specs.Pipes.{Pipe, raise, arrive, receive, play, set_stall, idle_pipe, no_counts}
-use Rattle.evm_model.specs.Settle.{current, is_oob, play_oob, play_in_band, play_oob_lines, play_in_band_lines, settle_oob, settle_oob_pipe, run_best, play_in_band_pipe, turn_in_band, settle_in_band, settle, wants_nudge, nudge_pipe, nudge, settle_and_nudge}
+use Rattle.evm_model.specs.Settle.{current, is_oob, spend_current, play_oob, play_in_band, play_oob_lines, play_in_band_lines, settle_oob, settle_oob_pipe, run_best, play_in_band_pipe, turn_in_band, settle_in_band, settle, wants_nudge, nudge_pipe, nudge, settle_and_nudge}
 use Rattle.evm_model.specs.State.{Parts, on_pipe}
 use Rattle.evm_model.specs.declared.stage.Stage.{Stage}
 use Rattle.evm_model.specs.declared.stage.Stage.TheVariants.{OutOfBand, InBand}
 use Rattle.evm_rules.proofs.Sets.{ArePipes, length-set, IsPipe-raise, IsPipe-arrive, IsPipe-receive, IsPipe-play, IsPipe-stall, IsPipe-idle}
+use Rattle.evm_rules.proofs.Spending.{current-spends}
 use Rattle.evm_walk.proofs.Tasks.{wakes-pipes}
 use Rattle.evm_rules.proofs.Counting.{each-change, each-each, each-map, PipesUpTo-more, PipeUpTo-more, raise-up, each-up, on_raise-up, on_receive-up, on_stall-up, tick-up, play_oob_lines-up, play_in_band_lines-up}
 
@@ -19,8 +20,8 @@ use Rattle.evm_rules.proofs.Counting.{each-change, each-each, each-map, PipesUpT
 pub are-change : (c : ℕ) (f : Pipe → Pipe) (k : Parts) → ((p : Pipe) → IsPipe p → IsPipe (f p)) → ArePipes k.pipes → ArePipes (on_pipe c f k).pipes
 are-change c f k here h = each-change IsPipe IsPipe f k.pipes c (λ p s. s) (λ p e. here p) h
 
-handle-are : (c : ℕ) (first : Bool) (k : Parts) → ArePipes k.pipes → ArePipes (if first then on_pipe c (arrive InBand 0) k else k).pipes
-handle-are c true k h = are-change c (arrive InBand 0) k (IsPipe-arrive InBand 0) h
+handle-are : (c : ℕ) (first : Bool) (k : Parts) → ArePipes k.pipes → ArePipes (if first then on_pipe c (arrive InBand 0) (spend_current c k) else k).pipes
+handle-are c true k h = are-change c (arrive InBand 0) (spend_current c k) (IsPipe-arrive InBand 0) (rw (current-spends c k).pipes h)
 handle-are c false k h = h
 
 pub play_oob-are : (c l : ℕ) (k : Parts) → ArePipes k.pipes → ArePipes (play_oob c l k).pipes

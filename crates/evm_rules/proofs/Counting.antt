@@ -8,7 +8,8 @@ use Rattle.evm_model.specs.Bounds.{PassageUpTo, UpTo, PipeUpTo, PipesUpTo}
 use Rattle.evm_model.specs.Commands.{tick}
 use Rattle.evm_model.specs.Lists.{change, each}
 use Rattle.evm_model.specs.Pipes.{Pipe, more_if, count_raise, count_receipt, count_arrival, count_play, on_passage, raise, arrive, leave_wire, receive, play, set_stall, stage_of}
-use Rattle.evm_model.specs.Settle.{handle_oob, play_oob, play_in_band, play_oob_lines, play_in_band_lines}
+use Rattle.evm_model.specs.Settle.{spend_current, handle_oob, play_oob, play_in_band, play_oob_lines, play_in_band_lines}
+use Rattle.evm_rules.proofs.Spending.{current-spends}
 use Rattle.evm_walk.proofs.Tasks.{wakes-pipes}
 use Rattle.evm_model.specs.State.{Parts, on_pipe}
 use Rattle.evm_model.specs.declared.counts.Counts.{Counts}
@@ -169,8 +170,8 @@ unfolding tick
 tick-up b k u = raises-up b 0 k.pipes u
 
 -- ---- playing
-handle-up : (b c : ℕ) (first : Bool) (k : Parts) → PipesUpTo b k.pipes → PipesUpTo (b + 1) (if first then on_pipe c (arrive InBand 0) k else k).pipes
-handle-up b c true k u = on_arrive-up b c InBand 0 k u
+handle-up : (b c : ℕ) (first : Bool) (k : Parts) → PipesUpTo b k.pipes → PipesUpTo (b + 1) (if first then on_pipe c (arrive InBand 0) (spend_current c k) else k).pipes
+handle-up b c true k u = on_arrive-up b c InBand 0 (spend_current c k) (rw (current-spends c k).pipes u)
 handle-up b c false k u = PipesUpTo-more b (b + 1) k.pipes (omega arith) u
 
 pub handle_oob-up : (b c l : ℕ) (k : Parts) → PipesUpTo b k.pipes → PipesUpTo (b + 1) (handle_oob c l k).pipes

@@ -18,7 +18,7 @@ use Rattle.evm_model.proofs.Lists.{change-here, change-elsewhere, change-cases, 
 use Rattle.evm_model.specs.Commands.{tick, set_bits, on_number, is_set, set_breakpoint, unset_breakpoint}
 use Rattle.evm_model.specs.Good.{Good, IsSettled, IsOwn, IsPipe}
 use Rattle.evm_model.specs.Harts.{set_register, set_pc, advance}
-use Rattle.evm_model.specs.Instructions.{fault, stop, finish_load, finish_store, finish, execute_inst, execute_word, execute}
+use Rattle.evm_model.specs.Instructions.{stop, finish_load, finish_store, finish, execute_inst, execute_word, execute}
 use Rattle.evm_model.specs.Lists.{change}
 use Rattle.evm_model.specs.Memory.{fetch, read, write}
 use Rattle.evm_model.specs.Pipes.{Pipe, raise, receive, arrive, leave_wire, stage_of}
@@ -28,7 +28,6 @@ use Rattle.evm_model.specs.State.{Parts, Memory, Board, on_hart, on_processor, o
 use Rattle.evm_model.specs.declared.event.Answer.TheVariants.{Stopped, Hit}
 use Rattle.evm_model.specs.declared.event.Event.{Event}
 use Rattle.evm_model.specs.declared.event.Event.TheVariants.{Step, Tick, Raise, Bell, Stop, Go, StepI, SetReg, SetPc, Poke, Break as Set_break, Unbreak}
-use Rattle.evm_model.specs.declared.fault.Fault.{Fault}
 use Rattle.evm_model.specs.declared.processor.Processor.{Processor}
 use Rattle.evm_model.specs.declared.stage.Stage.{Stage}
 use Rattle.evm_model.specs.declared.stage.Stage.TheVariants.{OutOfBand, InBand}
@@ -42,9 +41,9 @@ use Rattle.evm_rules.proofs.Counting.{each-map, mapped}
 use Rattle.evm_rules.proofs.Firsts.{eqb-is}
 use Rattle.evm_rules.proofs.Private.{good-bits, good-skip}
 use Rattle.evm_rules.proofs.Sets.{ArePipes, IsPipe-raise, IsPipe-receive}
-use Rattle.evm_rules.proofs.Settling.{GoodBut, good_but, settle_and_nudge-good}
-use Rattle.evm_rules.proofs.Shapes.{shaped-pipe}
-use Rattle.evm_rules.proofs.Acting.{end-but, call-but}
+use Rattle.evm_rules.proofs.Settling.{GoodBut, good_but, good_of, settle_and_nudge-good}
+use Rattle.evm_rules.proofs.Shapes.{shaped, shaped-pipe, shaped-hart}
+use Rattle.evm_rules.proofs.Calling.{fault-but, call-but}
 
 -- ---- a line more on a wire
 raised_clear : (wire : List ℕ) (l : ℕ) → has_line (with_line wire l) 1 ≡ false → has_line wire 1 ≡ false
@@ -62,7 +61,6 @@ settled-raised d l pipe p tasks s = record {
   runs_in_band = s.runs_in_band;
   oob_played = s.oob_played;
   in_band_played = s.in_band_played;
-  oob_open = s.oob_open;
   oob_staller = s.oob_staller;
   in_band_staller = s.in_band_staller;
 }
@@ -116,21 +114,7 @@ tick-good k g =
 
 -- ---- registers and the pc
 pub hart-good : (t : ℕ) (f : Hart → Hart) (k : Parts) → ((hart : Hart) → hart.pc % 4 ≡ 0 → (f hart).pc % 4 ≡ 0) → Good k → Good (on_hart t f k)
-hart-good t f k h g = record {
-  pipes = g.pipes;
-  settled = g.settled;
-  aligned = λ u hart e. elim (change-cases f k.harts t u hart e) [
-    | inl w ↦ rw w.3 (h w.1 (g.aligned t w.1 w.2))
-    | inr w ↦ g.aligned u hart w.1
-  ];
-  homes = g.homes;
-  stamps_below = g.stamps_below;
-  stamps_differ = g.stamps_differ;
-  harts_count = length-change f k.harts t ∙ g.harts_count;
-  pipes_count = g.pipes_count;
-  few_tasks = g.few_tasks;
-  few_processors = g.few_processors;
-}
+hart-good t f k h g = good_of (on_hart t f k) g.pipes g.settled (shaped-hart t f k h (shaped k g))
 
 pub stop-good : (c : ℕ) (k : Parts) → Good k → Good (stop c k)
 unfolding stop
@@ -161,7 +145,7 @@ pipe-but c f k b w g = record {
   others = λ d pipe p n e h. g.others d pipe p n (sym (change-elsewhere f k.pipes c d n) ∙ e) h;
   own = λ pipe p e h. elim (change-cases f k.pipes c c pipe e) [
     | inl q ↦ let a = g.own q.1 p q.2 h in let same = b q.1 in
-        rw q.3 (record { in_band_own = a.in_band_own; oob_open = same.0 ∙ a.oob_open; in_band_staller = λ u. a.in_band_staller (sym same.1 ∙ u) })
+        rw q.3 (record { in_band_own = a.in_band_own; held = λ u. a.held (sym same.0 ∙ u); in_band_staller = λ u. a.in_band_staller (sym same.1 ∙ u) })
     | inr q ↦ absurd (q.0 refl)
   ];
   shape = shaped-pipe c f k g.shape;
@@ -170,35 +154,31 @@ pipe-but c f k b w g = record {
 pub receive-but : (c l : ℕ) (k : Parts) → Good k → GoodBut c (on_pipe c (receive l) k)
 receive-but c l k g = pipe-but c (receive l) k (received-bits l) (IsPipe-receive l) (good_but c k g)
 
--- ---- a task ends
-fault-but : (c t : ℕ) (f : Fault) (k : Parts) → Good k → IsOwn c t k.tasks → GoodBut c (fault c t f k)
-fault-but c t f k g o = end-but c t _ k (good_but c k g) o
-
 -- ---- an instruction
 module _ (c t : ℕ) where
-  load-but : (o : Option ℕ) (op : LoadOp) (rd : ℕ) (b : Board) → Good b.parts → IsOwn c t b.parts.tasks → GoodBut c (finish_load o op rd c t b).parts
-  load-but None op rd b g o = fault-but c t _ b.parts g o
-  load-but (Some n) op rd b g o = good_but c _ (hart-good t _ b.parts (λ hart. next-aligned hart.pc) g)
+  load-but : (o : Option ℕ) (op : LoadOp) (rd : ℕ) (b : Board) → Good b.parts → IsOwn c t b.parts.tasks → current c b.parts ≡ Some t → GoodBut c (finish_load o op rd c t b).parts
+  load-but None op rd b g o r = fault-but c t _ b.parts g o r
+  load-but (Some n) op rd b g o r = good_but c _ (hart-good t _ b.parts (λ hart. next-aligned hart.pc) g)
 
-  store-but : (o : Option Memory) (b : Board) → Good b.parts → IsOwn c t b.parts.tasks → GoodBut c (finish_store o c t b).parts
-  store-but None b g o = fault-but c t _ b.parts g o
-  store-but (Some memory) b g o = good_but c _ (hart-good t advance b.parts (λ hart. next-aligned hart.pc) g)
+  store-but : (o : Option Memory) (b : Board) → Good b.parts → IsOwn c t b.parts.tasks → current c b.parts ≡ Some t → GoodBut c (finish_store o c t b).parts
+  store-but None b g o r = fault-but c t _ b.parts g o r
+  store-but (Some memory) b g o r = good_but c _ (hart-good t advance b.parts (λ hart. next-aligned hart.pc) g)
 
   finish-but : (effect : Effect) (b : Board) → IsAligned effect → Good b.parts → IsOwn c t b.parts.tasks → current c b.parts ≡ Some t → GoodBut c (finish effect c t b).parts
   unfolding finish
   finish-but (Next rd value pc) b a g o r = good_but c _ (hart-good t (λ hart. set_pc pc (set_register rd value hart)) b.parts (λ hart h. a) g)
-  finish-but (Load op rd address) b a g o r = load-but (read address (width_of_load op) b.memory) op rd b g o
-  finish-but (Store width address value) b a g o r = store-but (write address width value b.memory) b g o
+  finish-but (Load op rd address) b a g o r = load-but (read address (width_of_load op) b.memory) op rd b g o r
+  finish-but (Store width address value) b a g o r = store-but (write address width value b.memory) b g o r
   finish-but Call b a g o r = call-but (length b.memory.ram) c t b.parts g o r
   finish-but Break b a g o r = good_but c _ (stop-good c _ (hart-good t advance b.parts (λ hart. next-aligned hart.pc) g))
-  finish-but Misaligned b a g o r = fault-but c t _ b.parts g o
+  finish-but Misaligned b a g o r = fault-but c t _ b.parts g o r
 
   inst-but : (o : Option Inst) (hart : Hart) (b : Board) → hart.pc % 4 ≡ 0 → Good b.parts → IsOwn c t b.parts.tasks → current c b.parts ≡ Some t → GoodBut c (execute_inst o hart c t b).parts
-  inst-but None hart b h g o r = fault-but c t _ b.parts g o
+  inst-but None hart b h g o r = fault-but c t _ b.parts g o r
   inst-but (Some inst) hart b h g o r = finish-but (does inst hart.regs hart.pc) b (does-aligned inst hart.regs hart.pc h) g o r
 
   word-but : (o : Option ℕ) (hart : Hart) (b : Board) → hart.pc % 4 ≡ 0 → Good b.parts → IsOwn c t b.parts.tasks → current c b.parts ≡ Some t → GoodBut c (execute_word o hart c t b).parts
-  word-but None hart b h g o r = fault-but c t _ b.parts g o
+  word-but None hart b h g o r = fault-but c t _ b.parts g o r
   word-but (Some word) hart b h g o r = inst-but (decoded word) hart b h g o r
 
 pub execute-but : (hart : Hart) (c t : ℕ) (b : Board) → hart.pc % 4 ≡ 0 → Good b.parts → IsOwn c t b.parts.tasks → current c b.parts ≡ Some t → GoodBut c (execute hart c t b).parts

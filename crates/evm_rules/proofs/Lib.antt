@@ -13,5 +13,7 @@ pub mod Keeps
 pub mod Ram
 pub mod States
 pub mod Waking
+pub mod Spending
 pub mod Acting
+pub mod Calling
 pub mod Stamps

@@ -7,11 +7,12 @@ use Rattle.evm_model.proofs.Lists.{change-same}
 use Rattle.evm_model.specs.Good.{IsPipe}
 use Rattle.evm_model.specs.Lists.{change}
 use Rattle.evm_model.specs.Pipes.{Pipe, arrive, play}
-use Rattle.evm_model.specs.Settle.{play_oob, play_in_band, play_oob_lines, play_in_band_lines}
+use Rattle.evm_model.specs.Settle.{spend_current, play_oob, play_in_band, play_oob_lines, play_in_band_lines}
 use Rattle.evm_model.specs.State.{Parts, on_pipe}
 use Rattle.evm_model.specs.declared.stage.Stage.TheVariants.{OutOfBand, InBand}
 use Rattle.evm_walk.proofs.Tasks.{wakes-pipes}
-use Rattle.evm_rules.proofs.Places.{on_pipe-same, change_twice}
+use Rattle.evm_rules.proofs.Places.{change_twice}
+use Rattle.evm_rules.proofs.Spending.{current-spends}
 use Rattle.evm_rules.proofs.Sets.{IsPipe-arrive, IsPipe-play}
 
 -- ---- on one pipe
@@ -26,26 +27,21 @@ unfoldable pub plays_in_band : List ℕ → Pipe → Pipe
 plays_in_band [] p = p
 plays_in_band (l ∷ ls) p = plays_in_band ls (play InBand l p)
 
-on_pipe-twice : (c : ℕ) (f g : Pipe → Pipe) (k : Parts) → on_pipe c g (on_pipe c f k) ≡ on_pipe c (λ p. g (f p)) k
-on_pipe-twice c f g k = ap (λ ps. record k { pipes = ps }) (change_twice f g k.pipes c)
+handle-pipes : (c : ℕ) (first : Bool) (k : Parts) → (if first then on_pipe c (arrive InBand 0) (spend_current c k) else k).pipes ≡ change (λ p. if first then arrive InBand 0 p else p) k.pipes c
+handle-pipes c true k = ap (λ (pipes : List Pipe). change (arrive InBand 0) pipes c) (current-spends c k).pipes
+handle-pipes c false k = sym (change-same (λ p. p) k.pipes c (λ p e. refl))
 
-on_pipe-none : (c : ℕ) (k : Parts) → on_pipe c (λ p. p) k ≡ k
-on_pipe-none c k = on_pipe-same c (λ p. p) k (λ p e. refl)
-
-hand_on-if : (c : ℕ) (first : Bool) (k : Parts) → (if first then on_pipe c (arrive InBand 0) k else k) ≡ on_pipe c (λ p. if first then arrive InBand 0 p else p) k
-hand_on-if c true k = refl
-hand_on-if c false k = sym (on_pipe-none c k)
-
-play_oob-is : (c l : ℕ) (k : Parts) → play_oob c l k ≡ on_pipe c (λ p. hand_on l (play OutOfBand l p)) k
+play_oob-pipes : (c l : ℕ) (k : Parts) → (play_oob c l k).pipes ≡ change (λ p. hand_on l (play OutOfBand l p)) k.pipes c
 unfolding play_oob
-play_oob-is c l k = hand_on-if c (l == 0) (on_pipe c (play OutOfBand l) k) ∙ on_pipe-twice c (play OutOfBand l) (hand_on l) k
+play_oob-pipes c l k = handle-pipes c (l == 0) (on_pipe c (play OutOfBand l) k) ∙ change_twice (play OutOfBand l) (hand_on l) k.pipes c
 
-pub play_oob_lines-is : (c : ℕ) (lines : List ℕ) (k : Parts) → play_oob_lines c lines k ≡ on_pipe c (plays_oob lines) k
+pub play_oob_lines-pipes : (c : ℕ) (lines : List ℕ) (k : Parts) → (play_oob_lines c lines k).pipes ≡ change (plays_oob lines) k.pipes c
 unfolding play_oob_lines plays_oob
-play_oob_lines-is c [] k = sym (on_pipe-none c k)
-play_oob_lines-is c (l ∷ ls) k =
-    play_oob_lines-is c ls (play_oob c l k) ∙ ap (on_pipe c (plays_oob ls)) (play_oob-is c l k)
-    ∙ on_pipe-twice c (λ p. hand_on l (play OutOfBand l p)) (plays_oob ls) k
+play_oob_lines-pipes c [] k = sym (change-same (λ p. p) k.pipes c (λ p e. refl))
+play_oob_lines-pipes c (l ∷ ls) k =
+    play_oob_lines-pipes c ls (play_oob c l k)
+    ∙ ap (λ (pipes : List Pipe). change (plays_oob ls) pipes c) (play_oob-pipes c l k)
+    ∙ change_twice (λ p. hand_on l (play OutOfBand l p)) (plays_oob ls) k.pipes c
 
 pub play_in_band-pipes : (c l : ℕ) (k : Parts) → (play_in_band c l k).pipes ≡ change (play InBand l) k.pipes c
 unfolding play_in_band

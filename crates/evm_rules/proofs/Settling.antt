@@ -4,103 +4,62 @@ use Rattle.std.specs.Prelude.{slice_get, ◌==◌, if◌then◌else◌}
 use Rattle.std.proofs.lemmas.Bool.Decides.{eqb_tells}
 use Rattle.evm_lines.specs.Lines.{has_line}
 use Rattle.evm_lines.specs.Laws.{has_line-with_same}
-use Rattle.evm_model.proofs.Lists.{change-elsewhere, length-change, slice_get-each, length-each_from}
+use Rattle.evm_model.proofs.Lists.{change-elsewhere, slice_get-each, length-each_from}
 use Rattle.evm_model.specs.Good.{Good, IsSettled, IsOwn, IsPipe}
 use Rattle.evm_model.specs.Lists.{change, each}
 use Rattle.evm_model.specs.Pipes.{Pipe, raise}
-use Rattle.evm_model.specs.Ranks.{best, next_in_band}
+use Rattle.evm_model.specs.Ranks.{best, next_in_band, is_oob_ready}
 use Rattle.evm_model.specs.Settle.{current, is_oob, play_oob_lines, play_in_band_lines, run_best, settle_oob, settle_oob_pipe, take_up, run_task, run_in_band, play_in_band_pipe, turn_in_band, settle_in_band, settle, differs, wants_nudge, nudge_pipe, nudge, settle_and_nudge}
-use Rattle.evm_model.specs.State.{Parts, on_pipe, on_processor}
+use Rattle.evm_model.specs.State.{Parts, on_processor}
 use Rattle.evm_model.specs.declared.processor.Processor.{Processor}
 use Rattle.evm_model.specs.declared.task.Task.{Task}
 use Rattle.evm_rules.proofs.Bounded.{are-settle_oob, are-settle_in_band, are-nudge}
 use Rattle.evm_rules.proofs.Counting.{mapped}
-use Rattle.evm_rules.proofs.Firsts.{best-is_oob, best-own, own-live, next-own, eqb-is}
-use Rattle.evm_rules.proofs.Playing.{plays_oob, plays_in_band, play_oob_lines-is, play_in_band_lines-pipes, HasSameStalls, plays_oob-stalls, plays_in_band-stalls, plays_oob-empty, plays_in_band-empty, plays_in_band-oob, plays_oob-pipe}
+use Rattle.evm_rules.proofs.Firsts.{IsOobOwn, own-is_oob, best-is_oob, best-own, own-live, next-own, eqb-is}
+use Rattle.evm_rules.proofs.Playing.{plays_oob, plays_in_band, play_oob_lines-pipes, play_in_band_lines-pipes, HasSameStalls, plays_oob-stalls, plays_in_band-stalls, plays_oob-empty, plays_in_band-empty, plays_in_band-oob, plays_oob-pipe}
 use Rattle.evm_rules.proofs.Places.{changed-is, changed-from}
 use Rattle.evm_rules.proofs.Sets.{ArePipes}
 use Rattle.evm_rules.proofs.Shapes.{IsShaped, shaped, shaped-processor}
-use Rattle.evm_rules.proofs.Waking.{AreSame, same-own, same-oob, Rouses, rouses-none, rouses-if, rouses-lines, none-best}
+use Rattle.evm_rules.proofs.Waking.{AreAlike, alike-none, alike-then, alike-own, alike-oob, Rouses, rouses-none, rouses-if, rouses-lines, rouses-oob_lines, none-best}
 
--- only pipe and processor c changed
-pub record IsOnly (c : ℕ) (k new : Parts) : Type 0 where
-  pub ticks : new.ticks ≡ k.ticks
-  pub harts : new.harts ≡ k.harts
-  pub tasks : new.tasks ≡ k.tasks
-  pub stamps : new.stamps ≡ k.stamps
-  pub pipes_length : length new.pipes ≡ length k.pipes
-  pub processors_length : length new.processors ≡ length k.processors
-  pub pipes : (d : ℕ) → (d ≡ c → ⊥) → slice_get new.pipes d ≡ slice_get k.pipes d
-  pub processors : (d : ℕ) → (d ≡ c → ⊥) → slice_get new.processors d ≡ slice_get k.processors d
+-- of the other processors only how a task is ranked may change, and of their tasks neither where nor how they are
+pub record IsApart (c : ℕ) (k new : Parts) : Type 0 where
+  pub others : (d : ℕ) → (d ≡ c → ⊥) → AreAlike d k.tasks new.tasks × (slice_get new.pipes d ≡ slice_get k.pipes d) × (slice_get new.processors d ≡ slice_get k.processors d)
+  pub shape : IsShaped k → IsShaped new
 
-only-none : (c : ℕ) (k : Parts) → IsOnly c k k
-only-none c k = record { ticks = refl; harts = refl; tasks = refl; stamps = refl; pipes_length = refl; processors_length = refl; pipes = λ d h. refl; processors = λ d h. refl }
+apart-none : (c : ℕ) (k : Parts) → IsApart c k k
+apart-none c k = record { others = λ d n. (alike-none d k.tasks, refl, refl); shape = λ s. s }
 
-pub only-then : (c : ℕ) (x y z : Parts) → IsOnly c x y → IsOnly c y z → IsOnly c x z
-only-then c x y z p q = record {
-  ticks = q.ticks ∙ p.ticks;
-  harts = q.harts ∙ p.harts;
-  tasks = q.tasks ∙ p.tasks;
-  stamps = q.stamps ∙ p.stamps;
-  pipes_length = q.pipes_length ∙ p.pipes_length;
-  processors_length = q.processors_length ∙ p.processors_length;
-  pipes = λ d h. q.pipes d h ∙ p.pipes d h;
-  processors = λ d h. q.processors d h ∙ p.processors d h;
+apart-then : (c : ℕ) (x y z : Parts) → IsApart c x y → IsApart c y z → IsApart c x z
+apart-then c x y z p q = record {
+  others = λ d n.
+      let a = p.others d n in
+      let b = q.others d n in
+      (alike-then d x.tasks y.tasks z.tasks a.0 b.0, b.1 ∙ a.1, b.2 ∙ a.2);
+  shape = λ s. q.shape (p.shape s);
 }
 
-pub only-pipe : (c : ℕ) (f : Pipe → Pipe) (k : Parts) → IsOnly c k (on_pipe c f k)
-only-pipe c f k = record {
-  ticks = refl;
-  harts = refl;
-  tasks = refl;
-  stamps = refl;
-  pipes_length = length-change f k.pipes c;
-  processors_length = refl;
-  pipes = λ d h. change-elsewhere f k.pipes c d h;
-  processors = λ d h. refl;
-}
+apart-if : (c : ℕ) (b : Bool) (k x y : Parts) → IsApart c k x → IsApart c k y → IsApart c k (if b then x else y)
+apart-if c true k x y p q = p
+apart-if c false k x y p q = q
 
-pub only-processor : (c : ℕ) (f : Processor → Processor) (k : Parts) → IsOnly c k (on_processor c f k)
-only-processor c f k = record {
-  ticks = refl;
-  harts = refl;
-  tasks = refl;
-  stamps = refl;
-  pipes_length = refl;
-  processors_length = length-change f k.processors c;
-  pipes = λ d h. refl;
-  processors = λ d h. change-elsewhere f k.processors c d h;
-}
+apart-rouses : (c : ℕ) (k x : Parts) → Rouses c k x → IsApart c k x
+apart-rouses c k x r = record { others = λ d n. (r.others d n, r.pipes d n, ap (λ (xs : List Processor). slice_get xs d) r.processors); shape = r.shape }
 
-only-if : (c : ℕ) (b : Bool) (k x y : Parts) → IsOnly c k x → IsOnly c k y → IsOnly c k (if b then x else y)
-only-if c true k x y p q = p
-only-if c false k x y p q = q
+apart-processor : (c : ℕ) (f : Processor → Processor) (k : Parts) → IsApart c k (on_processor c f k)
+apart-processor c f k = record { others = λ d n. (alike-none d k.tasks, refl, change-elsewhere f k.processors c d n); shape = shaped-processor c f k }
 
-pub only-shaped : (c : ℕ) (k new : Parts) → IsOnly c k new → IsShaped k → IsShaped new
-only-shaped c k new o s = record {
-  aligned = λ t hart e. s.aligned t hart (rw (← o.harts) e);
-  homes = λ t task e. rw o.processors_length (s.homes t task (rw (← o.tasks) e));
-  stamps_below = λ t task e. rw o.stamps (s.stamps_below t task (rw (← o.tasks) e));
-  stamps_differ = λ t u a b e f. s.stamps_differ t u a b (rw (← o.tasks) e) (rw (← o.tasks) f);
-  harts_count = rw (o.harts, o.tasks) s.harts_count;
-  pipes_count = o.pipes_length ∙ s.pipes_count ∙ sym o.processors_length;
-  few_tasks = rw o.tasks s.few_tasks;
-  few_processors = rw o.processors_length s.few_processors;
-}
-
--- ---- settling changes only its processor
-only-oob_lines : (c : ℕ) (lines : List ℕ) (k : Parts) → IsOnly c k (play_oob_lines c lines k)
-only-oob_lines c lines k = rw (play_oob_lines-is c lines k) (only-pipe c (plays_oob lines) k)
-
-only-oob_pipe : (c : ℕ) (o : Option Pipe) (k : Parts) → IsOnly c k (settle_oob_pipe o c k)
-only-oob_pipe c None k = only-none c k
-only-oob_pipe c (Some pipe) k =
+-- ---- settling out-of-band changes only its processor
+apart-oob_pipe : (c : ℕ) (o : Option Pipe) (k : Parts) → IsApart c k (settle_oob_pipe o c k)
+apart-oob_pipe c None k = apart-none c k
+apart-oob_pipe c (Some pipe) k =
     let played : Parts = play_oob_lines c pipe.oob.lines k in
-    only-if c pipe.oob.stalled k k (run_best c played) (only-none c k) (only-then c k played (run_best c played) (only-oob_lines c pipe.oob.lines k) (only-processor c _ played))
+    apart-if c pipe.oob.stalled k k (run_best c played) (apart-none c k)
+    (apart-then c k played (run_best c played) (apart-rouses c k played (rouses-oob_lines c pipe.oob.lines k)) (apart-processor c _ played))
 
-pub only-settle_oob : (c : ℕ) (k : Parts) → IsOnly c k (settle_oob c k)
+apart-settle_oob : (c : ℕ) (k : Parts) → IsApart c k (settle_oob c k)
 unfolding settle_oob
-only-settle_oob c k = only-oob_pipe c (slice_get k.pipes c) k
+apart-settle_oob c k = apart-oob_pipe c (slice_get k.pipes c) k
 
 -- ---- a good state but for the acting processor
 -- another processor: all but that it runs its best task, which nudging sees to
@@ -110,13 +69,19 @@ pub record IsCalm (c : ℕ) (pipe : Pipe) (p : Processor) (tasks : List Task) : 
   pub runs_in_band : is_oob p.current tasks ≡ false → p.current ≡ p.in_band_task
   pub oob_played : pipe.oob.stalled ≡ false → pipe.oob.lines ≡ []
   pub in_band_played : pipe.inband.stalled ≡ false → is_oob p.current tasks ≡ false → pipe.inband.lines ≡ []
-  pub oob_open : pipe.oob.stalled ≡ false
+  pub oob_staller : pipe.oob.stalled ≡ true → is_oob p.current tasks ≡ true
   pub in_band_staller : pipe.inband.stalled ≡ true → p.in_band_task ≡ None → ⊥
+
+-- it runs an out-of-band task of its own
+pub record IsHeld (c : ℕ) (p : Processor) (tasks : List Task) : Type 0 where
+  pub number : ℕ
+  pub runs : p.current ≡ Some number
+  pub own : IsOobOwn c number tasks
 
 -- the acting one: what settling it needs
 pub record IsActing (c : ℕ) (pipe : Pipe) (p : Processor) (tasks : List Task) : Type 0 where
   pub in_band_own : (t : ℕ) → p.in_band_task ≡ Some t → IsOwn c t tasks
-  pub oob_open : pipe.oob.stalled ≡ false
+  pub held : pipe.oob.stalled ≡ true → IsHeld c p tasks
   pub in_band_staller : pipe.inband.stalled ≡ true → p.in_band_task ≡ None → ⊥
 
 pub record GoodBut (c : ℕ) (k : Parts) : Type 0 where
@@ -132,26 +97,36 @@ calm_of c pipe p tasks s = record {
   runs_in_band = s.runs_in_band;
   oob_played = s.oob_played;
   in_band_played = s.in_band_played;
-  oob_open = s.oob_open;
+  oob_staller = s.oob_staller;
   in_band_staller = s.in_band_staller;
 }
 
 -- where its own tasks are as they were
-pub calm-same : (d : ℕ) (pipe : Pipe) (p : Processor) (tasks new : List Task) → AreSame d tasks new → IsCalm d pipe p tasks → IsCalm d pipe p new
-calm-same d pipe p tasks new a s =
-    let same = same-oob d p.current tasks new a s.current_own in
+pub calm-alike : (d : ℕ) (pipe : Pipe) (p : Processor) (tasks new : List Task) → AreAlike d tasks new → IsCalm d pipe p tasks → IsCalm d pipe p new
+calm-alike d pipe p tasks new a s =
+    let same = alike-oob d p.current tasks new a s.current_own in
     record {
-      current_own = λ u e. same-own d u tasks new a (s.current_own u e);
-      in_band_own = λ u e. same-own d u tasks new a (s.in_band_own u e);
+      current_own = λ u e. alike-own d u tasks new a (s.current_own u e);
+      in_band_own = λ u e. alike-own d u tasks new a (s.in_band_own u e);
       runs_in_band = λ m. s.runs_in_band (sym same ∙ m);
       oob_played = s.oob_played;
       in_band_played = λ v m. s.in_band_played v (sym same ∙ m);
-      oob_open = s.oob_open;
+      oob_staller = λ u. same ∙ s.oob_staller u;
       in_band_staller = s.in_band_staller;
     }
 
+oob-ready : (t : ℕ) (task : Task) (tasks : List Task) → slice_get tasks t ≡ Some task → is_oob (Some t) tasks ≡ true → is_oob_ready task.state ≡ true
+oob-ready t task tasks e m = rw e at m
+
+pub oob_own : (c t : ℕ) (tasks : List Task) → IsOwn c t tasks → is_oob (Some t) tasks ≡ true → IsOobOwn c t tasks
+oob_own c t tasks o m = record { task = o.task; there = o.there; at_home = o.at_home; ready = oob-ready t o.task tasks o.there m }
+
+held-of : (c : ℕ) (p : Processor) (tasks : List Task) (now : Option ℕ) → p.current ≡ now → ((t : ℕ) → p.current ≡ Some t → IsOwn c t tasks) → is_oob now tasks ≡ true → IsHeld c p tasks
+held-of c p tasks None e h m = cc
+held-of c p tasks (Some t) e h m = record { number = t; runs = e; own = oob_own c t tasks (h t e) m }
+
 pub acting_of : (c : ℕ) (pipe : Pipe) (p : Processor) (tasks : List Task) → IsSettled c pipe p tasks → IsActing c pipe p tasks
-acting_of c pipe p tasks s = record { in_band_own = s.in_band_own; oob_open = s.oob_open; in_band_staller = s.in_band_staller }
+acting_of c pipe p tasks s = record { in_band_own = s.in_band_own; held = λ u. held-of c p tasks p.current refl s.current_own (s.oob_staller u); in_band_staller = s.in_band_staller }
 
 pub good_but : (c : ℕ) (k : Parts) → Good k → GoodBut c k
 good_but c k g = record {
@@ -163,58 +138,85 @@ good_but c k g = record {
 
 -- ---- the acting processor, settled out-of-band
 record IsOobSettled (c : ℕ) (pipe : Pipe) (p : Processor) (tasks : List Task) : Type 0 where
+  current_own : (t : ℕ) → p.current ≡ Some t → IsOwn c t tasks
   in_band_own : (t : ℕ) → p.in_band_task ≡ Some t → IsOwn c t tasks
-  oob_open : pipe.oob.stalled ≡ false
-  oob_lines : pipe.oob.lines ≡ []
+  oob_lines : pipe.oob.stalled ≡ false → pipe.oob.lines ≡ []
+  oob_staller : pipe.oob.stalled ≡ true → is_oob p.current tasks ≡ true
   in_band_staller : pipe.inband.stalled ≡ true → p.in_band_task ≡ None → ⊥
-  runs : p.current ≡ best c tasks
+  runs : pipe.oob.stalled ≡ false → p.current ≡ best c tasks
   whole : IsPipe pipe
+
+held-own : (c t : ℕ) (p : Processor) (tasks : List Task) (h : IsHeld c p tasks) → p.current ≡ Some t → IsOwn c t tasks
+held-own c t p tasks h e = let is : h.number ≡ t = (let two : Some h.number ≡ Some t = sym h.runs ∙ e in cc) in rw (← is) (own-live c h.number tasks h.own)
+
+-- where it is stalled it stays
+stalled-settled : (c : ℕ) (pipe : Pipe) (p : Processor) (tasks : List Task) → pipe.oob.stalled ≡ true → IsPipe pipe → IsActing c pipe p tasks → IsOobSettled c pipe p tasks
+stalled-settled c pipe p tasks s whole a =
+    let h : IsHeld c p tasks = a.held s in
+    record {
+      current_own = λ t e. held-own c t p tasks h e;
+      in_band_own = a.in_band_own;
+      oob_lines = λ u. let no : true ≡ false = sym s ∙ u in cc;
+      oob_staller = λ u. rw h.runs (own-is_oob c h.number tasks h.own);
+      in_band_staller = a.in_band_staller;
+      runs = λ u. let no : true ≡ false = sym s ∙ u in cc;
+      whole = whole;
+    }
 
 oob_settled-if : (c : ℕ) (k : Parts) (pipe : Pipe) (b : Bool) → pipe.oob.stalled ≡ b → slice_get k.pipes c ≡ Some pipe → GoodBut c k
     → (q : Pipe) (p : Processor) → slice_get (if b then k else run_best c (play_oob_lines c pipe.oob.lines k)).pipes c ≡ Some q
-    → slice_get (if b then k else run_best c (play_oob_lines c pipe.oob.lines k)).processors c ≡ Some p → IsOobSettled c q p k.tasks
-oob_settled-if c k pipe true s e g q p f h = let a = g.own pipe p e h in let no : true ≡ false = sym s ∙ a.oob_open in cc
+    → slice_get (if b then k else run_best c (play_oob_lines c pipe.oob.lines k)).processors c ≡ Some p
+    → IsOobSettled c q p (if b then k else run_best c (play_oob_lines c pipe.oob.lines k)).tasks
+oob_settled-if c k pipe true s e g q p f h =
+    let it : pipe ≡ q = cc in
+    rw (← it) (stalled-settled c pipe p k.tasks s (g.pipes c pipe e) (g.own pipe p e h))
 oob_settled-if c k pipe false s e g q p f h =
     let ls : List ℕ = pipe.oob.lines in
+    let x : Parts = play_oob_lines c ls k in
+    let r : Rouses c k x = rouses-oob_lines c ls k in
     let whole : IsPipe pipe = g.pipes c pipe e in
-    let is : play_oob_lines c ls k ≡ on_pipe c (plays_oob ls) k = play_oob_lines-is c ls k in
-    let there : slice_get (change (plays_oob ls) k.pipes c) c ≡ Some q = ap (λ (x : Parts). slice_get x.pipes c) (sym is) ∙ f in
+    let there : slice_get (change (plays_oob ls) k.pipes c) c ≡ Some q = ap (λ (pipes : List Pipe). slice_get pipes c) (sym (play_oob_lines-pipes c ls k)) ∙ f in
     let it : plays_oob ls pipe ≡ q = changed-is (plays_oob ls) k.pipes c pipe q e there in
-    let at : slice_get (change (λ (p : Processor). record p { current = best c k.tasks }) k.processors c) c ≡ Some p = ap (λ (x : Parts). slice_get (run_best c x).processors c) (sym is) ∙ h in
-    let from = changed-from (λ (p : Processor). record p { current = best c k.tasks }) k.processors c p at in
-    let a = g.own pipe from.0 e from.1 in
+    let from = changed-from (λ (p : Processor). record p { current = best c x.tasks }) x.processors c p h in
+    let was : slice_get k.processors c ≡ Some from.0 = ap (λ (xs : List Processor). slice_get xs c) (sym r.processors) ∙ from.1 in
+    let a = g.own pipe from.0 e was in
     let same = plays_oob-stalls ls pipe in
     rw (from.2, ← it) (record {
-      in_band_own = a.in_band_own;
-      oob_open = same.oob ∙ s;
-      oob_lines = plays_oob-empty ls pipe whole refl;
+      current_own = λ t m. own-live c t x.tasks (best-own c t x.tasks m);
+      in_band_own = λ t m. r.own t (a.in_band_own t m);
+      oob_lines = λ u. plays_oob-empty ls pipe whole refl;
+      oob_staller = λ u. let no : true ≡ false = sym u ∙ same.oob ∙ s in cc;
       in_band_staller = λ u. a.in_band_staller (sym same.inband ∙ u);
-      runs = refl;
+      runs = λ u. refl;
       whole = plays_oob-pipe ls pipe whole;
     })
 
 oob_settled-pipe : (c : ℕ) (k : Parts) (o : Option Pipe) → slice_get k.pipes c ≡ o → GoodBut c k
-    → (q : Pipe) (p : Processor) → slice_get (settle_oob_pipe o c k).pipes c ≡ Some q → slice_get (settle_oob_pipe o c k).processors c ≡ Some p → IsOobSettled c q p k.tasks
+    → (q : Pipe) (p : Processor) → slice_get (settle_oob_pipe o c k).pipes c ≡ Some q → slice_get (settle_oob_pipe o c k).processors c ≡ Some p → IsOobSettled c q p (settle_oob_pipe o c k).tasks
 oob_settled-pipe c k None e g q p f h = cc
 oob_settled-pipe c k (Some pipe) e g q p f h = oob_settled-if c k pipe pipe.oob.stalled refl e g q p f h
 
-oob_settled : (c : ℕ) (k : Parts) → GoodBut c k → (q : Pipe) (p : Processor) → slice_get (settle_oob c k).pipes c ≡ Some q → slice_get (settle_oob c k).processors c ≡ Some p → IsOobSettled c q p k.tasks
+oob_settled : (c : ℕ) (k : Parts) → GoodBut c k → (q : Pipe) (p : Processor) → slice_get (settle_oob c k).pipes c ≡ Some q → slice_get (settle_oob c k).processors c ≡ Some p → IsOobSettled c q p (settle_oob c k).tasks
 unfolding settle_oob
 oob_settled c k g q p f h = oob_settled-pipe c k (slice_get k.pipes c) refl g q p f h
 
--- an out-of-band task is current: it is the best
+-- an out-of-band task is current: where that stage isn't stalled it is the best
 settled-oob : (c : ℕ) (q : Pipe) (p : Processor) (tasks : List Task) → IsOobSettled c q p tasks → is_oob p.current tasks ≡ true → IsSettled c q p tasks
 settled-oob c q p tasks s o = record {
-  current_own = λ t e. own-live c t tasks (best-own c t tasks (sym s.runs ∙ e));
+  current_own = s.current_own;
   in_band_own = s.in_band_own;
-  runs_best = λ u v t e. s.runs ∙ e;
+  runs_best = λ u v t e. s.runs u ∙ e;
   runs_in_band = λ n. let no : true ≡ false = sym o ∙ n in cc;
-  oob_played = λ u. s.oob_lines;
+  oob_played = s.oob_lines;
   in_band_played = λ u n. let no : true ≡ false = sym o ∙ n in cc;
-  oob_open = s.oob_open;
-  oob_staller = λ u. let no : true ≡ false = sym u ∙ s.oob_open in cc;
+  oob_staller = λ u. o;
   in_band_staller = s.in_band_staller;
 }
+
+-- where none is it isn't stalled
+pub is_open : (b m : Bool) → (b ≡ true → m ≡ true) → m ≡ false → b ≡ false
+is_open true m h e = let no : true ≡ false = sym (h refl) ∙ e in cc
+is_open false m h e = refl
 
 -- none is: the in-band log is played, and the in-band task is current
 no_best-is : (c : ℕ) (tasks : List Task) (o : Option ℕ) → best c tasks ≡ o → is_oob o tasks ≡ false → o ≡ None
@@ -251,24 +253,24 @@ settled-turn c k x pipe q p r same s n h =
     let from = changed-from (λ (p : Processor). run_task (take_up p.in_band_task (next_in_band c x.tasks)) p) x.processors c p h in
     let there : slice_get k.processors c ≡ Some from.0 = ap (λ (xs : List Processor). slice_get xs c) (sym r.processors) ∙ from.1 in
     let z = s from.0 there in
-    let none : from.0.current ≡ None = no_best-is c k.tasks from.0.current (sym z.runs) (n from.0 there) in
+    let free : pipe.oob.stalled ≡ false = is_open pipe.oob.stalled (is_oob from.0.current k.tasks) z.oob_staller (n from.0 there) in
+    let none : from.0.current ≡ None = no_best-is c k.tasks from.0.current (sym (z.runs free)) (n from.0 there) in
+    let still : q.oob.stalled ≡ false = same.0.oob ∙ free in
     rw from.2 (record {
       current_own = λ t e. up-own c x.tasks from.0.in_band_task t (λ u f. r.own u (z.in_band_own u f)) e;
       in_band_own = λ t e. up-own c x.tasks from.0.in_band_task t (λ u f. r.own u (z.in_band_own u f)) e;
-      runs_best = λ u v t e. absurd (none-best c t k.tasks x.tasks r.oob (sym z.runs ∙ none) e);
+      runs_best = λ u v t e. absurd (none-best c t k.tasks x.tasks r.oob (sym (z.runs free) ∙ none) e);
       runs_in_band = λ m. refl;
-      oob_played = λ u. ap (λ log. log.lines) same.1 ∙ z.oob_lines;
+      oob_played = λ u. ap (λ log. log.lines) same.1 ∙ z.oob_lines free;
       in_band_played = λ u m. same.2 u;
-      oob_open = same.0.oob ∙ z.oob_open;
-      oob_staller = λ u. let no : true ≡ false = sym u ∙ same.0.oob ∙ z.oob_open in cc;
+      oob_staller = λ u. let no : true ≡ false = sym u ∙ still in cc;
       in_band_staller = λ u m. z.in_band_staller (sym same.0.inband ∙ u) (up-none from.0.in_band_task (next_in_band c x.tasks) m);
     })
 
 -- ---- what settling in-band makes, of a processor that has settled out-of-band
 record Turned (c : ℕ) (k new : Parts) : Type 0 where
-  rouses : (d : ℕ) → (d ≡ c → ⊥) → AreSame d k.tasks new.tasks × (slice_get new.pipes d ≡ slice_get k.pipes d) × (slice_get new.processors d ≡ slice_get k.processors d)
+  apart : IsApart c k new
   own : (q : Pipe) (p : Processor) → slice_get new.pipes c ≡ Some q → slice_get new.processors c ≡ Some p → IsSettled c q p new.tasks
-  shape : IsShaped k → IsShaped new
 
 turned-pipe : (c : ℕ) (k : Parts) (o : Option Pipe) → slice_get k.pipes c ≡ o
     → ((q : Pipe) (p : Processor) → slice_get k.pipes c ≡ Some q → slice_get k.processors c ≡ Some p → IsOobSettled c q p k.tasks)
@@ -290,18 +292,16 @@ turned c k s n w =
     let r : Rouses c k x = rouses-pipe c (slice_get k.pipes c) k in
     let up : Processor → Processor = λ p. run_task (take_up p.in_band_task (next_in_band c x.tasks)) p in
     record {
-      rouses = λ d m. (r.others d m, r.pipes d m, change-elsewhere up x.processors c d m ∙ ap (λ (xs : List Processor). slice_get xs d) r.processors);
+      apart = apart-then c k x _ (apart-rouses c k x r) (apart-processor c up x);
       own = λ q p f h. turned-pipe c k (slice_get k.pipes c) refl s n w q p f h;
-      shape = λ h. shaped-processor c up x (r.shape h);
     }
 
 turned-if : (c : ℕ) (k : Parts) (b : Bool) → is_oob (current c k) k.tasks ≡ b
     → ((q : Pipe) (p : Processor) → slice_get k.pipes c ≡ Some q → slice_get k.processors c ≡ Some p → IsOobSettled c q p k.tasks)
     → ((q : Pipe) → slice_get k.pipes c ≡ Some q → IsPipe q) → Turned c k (if b then k else turn_in_band c k)
 turned-if c k true o s w = record {
-  rouses = λ d m. (record { each = λ u task e h. e }, refl, refl);
+  apart = apart-none c k;
   own = λ q p f h. settled-oob c q p k.tasks (s q p f h) (rw h at o);
-  shape = λ h. h;
 }
 turned-if c k false o s w = turned c k s (λ p g. rw g at o) w
 
@@ -323,17 +323,13 @@ unfolding settle
 settle-untold c k g =
     let mid : Parts = settle_oob c k in
     let new : Parts = settle_in_band c mid in
-    let o : IsOnly c k mid = only-settle_oob c k in
-    let t : Turned c mid new = settles-in_band c mid (λ x y e d. rw o.tasks (oob_settled c k g x y e d)) (λ x e. are-settle_oob c k g.pipes c x e) in
+    let t : Turned c mid new = settles-in_band c mid (oob_settled c k g) (λ x e. are-settle_oob c k g.pipes c x e) in
+    let a : IsApart c k new = apart-then c k mid new (apart-settle_oob c k) t.apart in
     record {
       pipes = are-settle_in_band c mid (are-settle_oob c k g.pipes);
-      others = λ d pipe p n e f.
-          let r = t.rouses d n in
-          let calm : IsCalm d pipe p k.tasks = g.others d pipe p n (sym (r.1 ∙ o.pipes d n) ∙ e) (sym (r.2 ∙ o.processors d n) ∙ f) in
-          let same : AreSame d k.tasks new.tasks = record { each = λ u task e h. r.0.each u task (ap (λ (tasks : List Task). slice_get tasks u) o.tasks ∙ e) h } in
-          calm-same d pipe p k.tasks new.tasks same calm;
+      others = λ d pipe p n e f. let r = a.others d n in calm-alike d pipe p k.tasks new.tasks r.0 (g.others d pipe p n (sym r.1 ∙ e) (sym r.2 ∙ f));
       own = t.own;
-      shape = t.shape (only-shaped c k mid o g.shape);
+      shape = a.shape g.shape;
     }
 
 -- ---- telling the others
@@ -345,8 +341,7 @@ calm-settled d pipe p tasks s h = record {
   runs_in_band = s.runs_in_band;
   oob_played = s.oob_played;
   in_band_played = s.in_band_played;
-  oob_open = s.oob_open;
-  oob_staller = λ u. let no : true ≡ false = sym u ∙ s.oob_open in cc;
+  oob_staller = s.oob_staller;
   in_band_staller = s.in_band_staller;
 }
 
@@ -358,7 +353,7 @@ calm-raised d l pipe p tasks s = record {
   runs_in_band = s.runs_in_band;
   oob_played = s.oob_played;
   in_band_played = s.in_band_played;
-  oob_open = s.oob_open;
+  oob_staller = s.oob_staller;
   in_band_staller = s.in_band_staller;
 }
 

@@ -8,7 +8,7 @@ use Rattle.evm_model.specs.InBandCalls.{add_task}
 use Rattle.evm_model.specs.Harts.{spawned_hart}
 use Rattle.evm_model.specs.Lists.{change}
 use Rattle.evm_model.specs.Pipes.{Pipe}
-use Rattle.evm_model.specs.State.{Parts, new_task, on_hart, on_pipe, on_processor}
+use Rattle.evm_model.specs.State.{Parts, new_task, on_hart, on_task, on_pipe, on_processor}
 use Rattle.evm_model.specs.Tasks.{restamp, set_state, leave_in_band}
 use Rattle.evm_model.specs.declared.limits.TheConstants.{PROCESSOR_LIMIT, TASK_LIMIT}
 use Rattle.evm_model.specs.declared.processor.Processor.{Processor}
@@ -80,7 +80,7 @@ shaped-hart t f k h s = record {
   few_processors = s.few_processors;
 }
 
--- ---- a task's state
+-- ---- a task
 was : (f : Task → Task) (xs : List Task) (t u : ℕ) (z : Task) → ((x : Task) → (f x).cpu ≡ x.cpu) → ((x : Task) → (f x).stamp ≡ x.stamp) → slice_get (change f xs t) u ≡ Some z
     → (x : Task) × (slice_get xs u ≡ Some x) × (z.cpu ≡ x.cpu) × (z.stamp ≡ x.stamp)
 was f xs t u z a b h = elim (change-cases f xs t u z h) [
@@ -88,11 +88,10 @@ was f xs t u z a b h = elim (change-cases f xs t u z h) [
   | inr w ↦ (z, w.1, refl, refl)
 ]
 
-pub shaped-state : (t : ℕ) (state : TaskState) (k : Parts) → IsShaped k → IsShaped (set_state t state k)
-unfolding set_state
-shaped-state t state k s =
-    let f : Task → Task = λ task. record task { state = state } in
-    let before = λ (u : ℕ) (x : Task) (e : slice_get (change f k.tasks t) u ≡ Some x). was f k.tasks t u x (λ x. refl) (λ x. refl) e in
+-- a task's processor and stamp stay
+pub shaped-task : (t : ℕ) (f : Task → Task) (k : Parts) → ((x : Task) → (f x).cpu ≡ x.cpu) → ((x : Task) → (f x).stamp ≡ x.stamp) → IsShaped k → IsShaped (on_task t f k)
+shaped-task t f k cpu stamp s =
+    let before = λ (u : ℕ) (x : Task) (e : slice_get (change f k.tasks t) u ≡ Some x). was f k.tasks t u x cpu stamp e in
     record {
       aligned = s.aligned;
       homes = λ u x e. let w = before u x e in rw w.2 (s.homes u w.0 w.1);
@@ -103,6 +102,10 @@ shaped-state t state k s =
       few_tasks = rw (length-change f k.tasks t) s.few_tasks;
       few_processors = s.few_processors;
     }
+
+pub shaped-state : (t : ℕ) (state : TaskState) (k : Parts) → IsShaped k → IsShaped (set_state t state k)
+unfolding set_state
+shaped-state t state k s = shaped-task t (λ task. record task { state = state }) k (λ x. refl) (λ x. refl) s
 
 -- ---- a fresh stamp
 -- a task of which the stamp is the fresh one, or is as it was

@@ -14,37 +14,42 @@ use Rattle.evm_exec.specs.declared.outcome.Effect.{Effect}
 use Rattle.evm_exec.specs.declared.outcome.Effect.TheVariants.{Next, Load, Store, Call as Calls, Break, Misaligned}
 use Rattle.evm_model.proofs.Lists.{length-change}
 use Rattle.evm_model.specs.Bounds.{STAMPS_PER_EVENT}
-use Rattle.evm_model.specs.Calls.{call_of, perform, answered, finish_call, call_on, call_known, call_of_hart, call}
+use Rattle.evm_model.specs.Calls.{call_of, call_stage, perform, is_weak_oob, return_weak, answered, finish_call, ask_oob, call_on, call_known, call_of_hart, call}
 use Rattle.evm_model.specs.Commands.{tick, set_bits, on_number, is_set, set_breakpoint, unset_breakpoint}
 use Rattle.evm_model.specs.Good.{Good, IsPipe, IsOwn}
-use Rattle.evm_model.specs.InBandCalls.{exit, putc, yield_now, is_bad_entry, spawn, add_task, wait_line, set_line}
-use Rattle.evm_model.specs.OobCalls.{stall}
-use Rattle.evm_model.specs.Stages.{refused, is_stalled}
-use Rattle.evm_model.specs.Harts.{A7, argument}
-use Rattle.evm_model.specs.Instructions.{stop, finish_load, finish_store, finish, execute_inst, execute_word, execute}
+use Rattle.evm_model.specs.InBandCalls.{exit, putc, yield_now, is_bad_entry, spawn, add_task, wait_line, attach_as, attach, detach, set_line}
+use Rattle.evm_model.specs.OobCalls.{stall, switch_oob, switch_in_band, is_scheduled_task, schedule_as, set_sched, set_mode, yield_oob, clock, state_bits}
+use Rattle.evm_model.specs.Policies.{policy_of}
+use Rattle.evm_model.specs.Stages.{refused, is_stalled, is_attached, may_promote}
+use Rattle.evm_model.specs.Harts.{A7, argument, answer}
+use Rattle.evm_model.specs.Instructions.{fault, stop, finish_load, finish_store, finish, execute_inst, execute_word, execute}
 use Rattle.evm_model.specs.Memory.{fetch, read, write}
 use Rattle.evm_model.specs.Pipes.{Pipe, play, receive}
 use Rattle.evm_model.specs.Rows.{run, step_hart, step_current, step_wire, step_pipe, step_processor, step, single_step, row}
-use Rattle.evm_model.specs.Settle.{current, current_of, is_oob, play_in_band, play_in_band_lines, play_in_band_pipe, settle_oob, turn_in_band, settle_in_band, settle, nudge, settle_and_nudge}
-use Rattle.evm_model.specs.State.{Parts, Memory, Board, on_processor, on_pipe, on_parts}
-use Rattle.evm_model.specs.Tasks.{restamp, set_state, leave_in_band, end_task, wake_in_band, wake_below, awaits, demote}
+use Rattle.evm_model.specs.Settle.{current, current_of, is_oob, spend_current, handle_oob, play_oob, play_oob_lines, run_best, settle_oob_pipe, play_in_band, play_in_band_lines, play_in_band_pipe, settle_oob, turn_in_band, settle_in_band, settle, nudge, settle_and_nudge}
+use Rattle.evm_model.specs.State.{Parts, Memory, Board, on_hart, on_processor, on_pipe, on_parts}
+use Rattle.evm_model.specs.Tasks.{restamp, set_state, leave_in_band, end_task, demote, promote, set_policy, clear_policy, set_mode_bits, wake_in_band, wake_below, awaits}
 use Rattle.evm_model.specs.declared.call.Call.{Call}
-use Rattle.evm_model.specs.declared.call.Call.TheVariants.{Exit, Putc, Yield, Spawn, Stall, Unstall, WaitLine, SetLine}
+use Rattle.evm_model.specs.declared.call.Call.TheVariants.{Exit, Putc, Yield, Spawn, Stall, Unstall, WaitLine, Attach, Detach, SetLine, SwitchOob, SwitchInBand, SetSched, SetMode, YieldOob, StallOob, UnstallOob, Clock, StateBits}
 use Rattle.evm_model.specs.declared.call.Outcome.{Outcome}
 use Rattle.evm_model.specs.declared.call.Outcome.TheVariants.{Answers, Waits, Leaves}
-use Rattle.evm_model.specs.declared.errno.Errno.TheVariants.{NoSuchCall}
+use Rattle.evm_model.specs.declared.errno.Errno.TheVariants.{NotPermitted, NoSuchCall}
 use Rattle.evm_model.specs.declared.event.Answer.TheVariants.{Stopped, Hit}
 use Rattle.evm_model.specs.declared.event.Event.{Event}
 use Rattle.evm_model.specs.declared.event.Event.TheVariants.{Step, Tick, Raise, Bell, Stop, Go, StepI, SetReg, SetPc, Poke, Break as Set_break, Unbreak}
-use Rattle.evm_model.specs.declared.limits.TheConstants.{TASK_LIMIT}
+use Rattle.evm_model.specs.declared.limits.TheConstants.{TASK_LIMIT, MODE_LIMIT}
 use Rattle.evm_model.specs.declared.processor.Processor.{Processor}
-use Rattle.evm_model.specs.declared.stage.Stage.TheVariants.{InBand}
+use Rattle.evm_model.specs.declared.stage.Stage.{Stage}
+use Rattle.evm_model.specs.declared.stage.Stage.TheVariants.{OutOfBand, InBand}
+use Rattle.evm_model.specs.declared.fault.Fault.{Fault}
+use Rattle.evm_model.specs.declared.task.Class.{Class}
 use Rattle.evm_model.specs.declared.task.TaskState.{TaskState}
 use Rattle.evm_rules.proofs.Bounded.{are-settle_oob}
 use Rattle.evm_rules.proofs.Keeps.{execute-but, receive-but, passed-current, bits-good}
 use Rattle.evm_rules.proofs.Private.{good-skip}
 use Rattle.evm_rules.proofs.Sets.{length-set}
-use Rattle.evm_rules.proofs.Settling.{IsOnly, only-settle_oob, GoodBut, good_but}
+use Rattle.evm_rules.proofs.Settling.{GoodBut, good_but}
+use Rattle.evm_rules.proofs.Spending.{Spends, current-spends}
 
 -- so many stamps at most were given
 pub record Gives (n : ℕ) (k new : Parts) : Type 0 where
@@ -67,9 +72,9 @@ gives-restamp t k = record { least = omega arith; most = omega arith }
 
 -- ---- playing
 -- .. while there are as many tasks
-record Plays (n : ℕ) (k new : Parts) : Type 0 where
-  gives : Gives n k new
-  tasks : length new.tasks ≡ length k.tasks
+pub record Plays (n : ℕ) (k new : Parts) : Type 0 where
+  pub gives : Gives n k new
+  pub tasks : length new.tasks ≡ length k.tasks
 
 plays-then : (m n t : ℕ) (x y z : Parts) → m + n ≤ t → Plays m x y → Plays n y z → Plays t x z
 plays-then m n t x y z h p q = record { gives = gives-then m n t x y z h p.gives q.gives; tasks = q.tasks ∙ p.tasks }
@@ -104,6 +109,34 @@ lines-play c (l ∷ ls) k few =
     plays-then (length k.tasks) (64 * length ls) (64 * suc (length ls)) k (play_in_band c l k) _ (omega arith) first
     (lines-play c ls (play_in_band c l k) (omega (arith, first.tasks)))
 
+-- an out-of-band play may spend the last tick of a slice
+handle_oob-plays : (c l : ℕ) (k : Parts) → Plays 1 k (handle_oob c l k)
+handle_oob-plays c l k =
+    let spent : Spends k (spend_current c k) = current-spends c k in
+    plays-if 1 (l == 0) k _ k (record { gives = record { least = spent.least; most = spent.most }; tasks = spent.tasks })
+    (record { gives = gives-none 1 k k refl; tasks = refl })
+
+oob-plays : (c l : ℕ) (k : Parts) → Plays 1 k (play_oob c l k)
+unfolding play_oob
+oob-plays c l k = let done : Plays 1 (on_pipe c (play OutOfBand l) k) _ = handle_oob-plays c l (on_pipe c (play OutOfBand l) k) in record { gives = record { least = done.gives.least; most = done.gives.most }; tasks = done.tasks }
+
+oob_lines-play : (c : ℕ) (lines : List ℕ) (k : Parts) → Plays (length lines) k (play_oob_lines c lines k)
+unfolding play_oob_lines
+oob_lines-play c [] k = record { gives = gives-none 0 k k refl; tasks = refl }
+oob_lines-play c (l ∷ ls) k = plays-then 1 (length ls) (suc (length ls)) k (play_oob c l k) _ (omega arith) (oob-plays c l k) (oob_lines-play c ls (play_oob c l k))
+
+oob_pipe-plays : (c : ℕ) (o : Option Pipe) (k : Parts) → slice_get k.pipes c ≡ o → ((q : Pipe) → slice_get k.pipes c ≡ Some q → IsPipe q) → Plays 32 k (settle_oob_pipe o c k)
+oob_pipe-plays c None k e w = record { gives = gives-none 32 k k refl; tasks = refl }
+oob_pipe-plays c (Some pipe) k e w =
+    let short : length pipe.oob.lines ≤ LINES = length-set pipe.oob.lines (w pipe e).oob in
+    let all : Plays (length pipe.oob.lines) k (play_oob_lines c pipe.oob.lines k) = oob_lines-play c pipe.oob.lines k in
+    plays-if 32 pipe.oob.stalled k k (run_best c (play_oob_lines c pipe.oob.lines k)) (record { gives = gives-none 32 k k refl; tasks = refl })
+    (record { gives = record { least = all.gives.least; most = omega (arith, all.gives.most) }; tasks = all.tasks })
+
+pub settle_oob-plays : (c : ℕ) (k : Parts) → ((q : Pipe) → slice_get k.pipes c ≡ Some q → IsPipe q) → Plays 32 k (settle_oob c k)
+unfolding settle_oob
+settle_oob-plays c k w = oob_pipe-plays c (slice_get k.pipes c) k refl w
+
 pipe-plays : (c : ℕ) (o : Option Pipe) (k : Parts) → slice_get k.pipes c ≡ o → ((q : Pipe) → slice_get k.pipes c ≡ Some q → IsPipe q) → length k.tasks ≤ TASK_LIMIT → Gives 2048 k (play_in_band_pipe o c k)
 pipe-plays c None k e w few = gives-none 2048 k k refl
 pipe-plays c (Some pipe) k e w few =
@@ -122,16 +155,16 @@ in_band-gives : (c : ℕ) (k : Parts) → ((q : Pipe) → slice_get k.pipes c �
 unfolding settle_in_band
 in_band-gives c k w few = gives-if 2048 (is_oob (current c k) k.tasks) k k (turn_in_band c k) (gives-none 2048 k k refl) (turn-gives c k w few)
 
-settle-gives : (c : ℕ) (k : Parts) → GoodBut c k → Gives 2048 k (settle c k)
+settle-gives : (c : ℕ) (k : Parts) → GoodBut c k → Gives 2080 k (settle c k)
 unfolding settle
 settle-gives c k g =
-    let o : IsOnly c k (settle_oob c k) = only-settle_oob c k in
-    gives-then 0 2048 2048 k (settle_oob c k) _ (omega arith) (gives-none 0 k (settle_oob c k) o.stamps)
-    (in_band-gives c (settle_oob c k) (λ q e. are-settle_oob c k g.pipes c q e) (rw o.tasks g.shape.few_tasks))
+    let first : Plays 32 k (settle_oob c k) = settle_oob-plays c k (λ q e. g.pipes c q e) in
+    gives-then 32 2048 2080 k (settle_oob c k) _ (omega arith) first.gives
+    (in_band-gives c (settle_oob c k) (λ q e. are-settle_oob c k g.pipes c q e) (rw first.tasks g.shape.few_tasks))
 
-settled-gives : (c : ℕ) (k : Parts) → GoodBut c k → Gives 2048 k (settle_and_nudge c k)
+settled-gives : (c : ℕ) (k : Parts) → GoodBut c k → Gives 2080 k (settle_and_nudge c k)
 unfolding settle_and_nudge nudge
-settled-gives c k g = let all : Gives 2048 k (settle c k) = settle-gives c k g in record { least = all.least; most = all.most }
+settled-gives c k g = let all : Gives 2080 k (settle c k) = settle-gives c k g in record { least = all.least; most = all.most }
 
 -- ---- a call
 either : (n : ℕ) (k : Parts) (b : Bool) (x y : Parts × Outcome) → Gives n k x.0 → Gives n k y.0 → Gives n k (if b then x else y).0
@@ -165,8 +198,46 @@ set_line-gives l action k =
     either 1 k (nat_lt l 2) _ _ (gives-none 1 k k refl)
     (either 1 k (nat_le LINES l) _ _ (gives-none 1 k k refl) (either 1 k (action == 0) _ _ (gives-none 1 k k refl) (gives-none 1 k k refl)))
 
+demote-gives : (c t : ℕ) (k : Parts) → Gives 1 k (demote c t k)
+unfolding demote restamp set_state
+demote-gives c t k = record { least = omega arith; most = omega arith }
+
+promote-gives : (c t : ℕ) (k : Parts) → Gives 1 k (promote c t k)
+unfolding promote leave_in_band restamp set_state
+promote-gives c t k = record { least = omega arith; most = omega arith }
+
+attach_as-gives : (x : Option Class) (t priority : ℕ) (k : Parts) → Gives 1 k (attach_as x t priority k).0
+unfolding set_policy
+attach_as-gives None t priority k = gives-none 1 k k refl
+attach_as-gives (Some class) t priority k = either 1 k (is_attached t k) _ _ (gives-none 1 k k refl) (gives-none 1 k _ refl)
+
+attach-gives : (t class priority : ℕ) (k : Parts) → Gives 1 k (attach t class priority k).0
+unfolding attach
+attach-gives t class priority k = attach_as-gives (policy_of class priority) t priority k
+
+detach-gives : (t : ℕ) (k : Parts) → Gives 1 k (detach t k).0
+unfolding detach clear_policy
+detach-gives t k = either 1 k (is_attached t k) _ _ (gives-none 1 k _ refl) (gives-none 1 k k refl)
+
+switch_in_band-gives : (c t : ℕ) (k : Parts) → Gives 1 k (switch_in_band c t k).0
+unfolding switch_in_band
+switch_in_band-gives c t k = either 1 k (is_stalled OutOfBand c k) _ _ (gives-none 1 k k refl) (demote-gives c t k)
+
+schedule_as-gives : (x : Option Class) (u priority : ℕ) (k : Parts) → Gives 1 k (schedule_as x u priority k).0
+unfolding set_policy
+schedule_as-gives None u priority k = gives-none 1 k k refl
+schedule_as-gives (Some class) u priority k = gives-none 1 k _ refl
+
+set_sched-gives : (u class priority : ℕ) (k : Parts) → Gives 1 k (set_sched u class priority k).0
+unfolding set_sched
+set_sched-gives u class priority k = either 1 k (is_scheduled_task (slice_get k.tasks u)) _ _ (schedule_as-gives (policy_of class priority) u priority k) (gives-none 1 k k refl)
+
+set_mode-gives : (t bits : ℕ) (k : Parts) → Gives 1 k (set_mode t bits k).0
+unfolding set_mode set_mode_bits
+set_mode-gives t bits k = either 1 k (nat_lt MODE_LIMIT bits) _ _ (gives-none 1 k k refl) (gives-none 1 k _ refl)
+
 perform-gives : (call : Call) (ram : ℕ) (hart : Hart) (c t : ℕ) (k : Parts) → Gives 1 k (perform call ram hart c t k).0
-unfolding exit putc stall
+unfolding exit putc stall switch_oob yield_oob clock state_bits
 perform-gives Exit ram hart c t k = end-gives c t _ k
 perform-gives Putc ram hart c t k = gives-none 1 k _ refl
 perform-gives Yield ram hart c t k = yield-gives c t k
@@ -174,63 +245,87 @@ perform-gives Spawn ram hart c t k = spawn-gives ram (argument 0 hart) (argument
 perform-gives Stall ram hart c t k = gives-none 1 k _ refl
 perform-gives Unstall ram hart c t k = gives-none 1 k _ refl
 perform-gives WaitLine ram hart c t k = wait_line-gives c t (argument 0 hart) k
+perform-gives Attach ram hart c t k = attach-gives t (argument 0 hart) (argument 1 hart) k
+perform-gives Detach ram hart c t k = detach-gives t k
 perform-gives SetLine ram hart c t k = set_line-gives (argument 0 hart) (argument 1 hart) k
+perform-gives SwitchOob ram hart c t k = gives-none 1 k _ refl
+perform-gives SwitchInBand ram hart c t k = switch_in_band-gives c t k
+perform-gives SetSched ram hart c t k = set_sched-gives (argument 0 hart) (argument 1 hart) (argument 2 hart) k
+perform-gives SetMode ram hart c t k = set_mode-gives t (argument 0 hart) k
+perform-gives YieldOob ram hart c t k = gives-restamp t k
+perform-gives StallOob ram hart c t k = gives-none 1 k _ refl
+perform-gives UnstallOob ram hart c t k = gives-none 1 k _ refl
+perform-gives Clock ram hart c t k = gives-none 1 k _ refl
+perform-gives StateBits ram hart c t k = gives-none 1 k _ refl
 
-answer-gives : (outcome : Outcome) (t : ℕ) (k : Parts) → Gives 0 k (answered outcome t k)
-answer-gives (Answers value) t k = gives-none 0 k _ refl
-answer-gives Waits t k = gives-none 0 k _ refl
-answer-gives Leaves t k = gives-none 0 k k refl
+return-gives : (c t : ℕ) (k : Parts) → Gives 1 k (return_weak c t k)
+unfolding return_weak
+return-gives c t k = gives-if 1 (is_weak_oob (slice_get k.tasks t)) k _ k (demote-gives c t k) (gives-none 1 k k refl)
 
-done-gives : (t : ℕ) (k : Parts) (done : Parts × Outcome) → Gives 1 k done.0 → Gives 1 k (finish_call t done)
-done-gives t k done p = gives-then 1 0 1 k done.0 _ (omega arith) p (answer-gives done.1 t done.0)
+answer-gives : (outcome : Outcome) (c t : ℕ) (k : Parts) → Gives 1 k (answered outcome c t k)
+answer-gives (Answers value) c t k = let back : Gives 1 (on_hart t (answer value) k) _ = return-gives c t (on_hart t (answer value) k) in record { least = back.least; most = back.most }
+answer-gives Waits c t k = gives-none 1 k _ refl
+answer-gives Leaves c t k = gives-none 1 k k refl
 
-demote-gives : (c t : ℕ) (k : Parts) → Gives 1 k (demote c t k)
-unfolding demote restamp set_state
-demote-gives c t k = record { least = omega arith; most = omega arith }
+done-gives : (c t : ℕ) (k : Parts) (done : Parts × Outcome) → Gives 1 k done.0 → Gives 2 k (finish_call c t done)
+done-gives c t k done p = gives-then 1 1 2 k done.0 _ (omega arith) p (answer-gives done.1 c t done.0)
 
-on-gives : (b : Bool) (call : Call) (ram : ℕ) (hart : Hart) (c t : ℕ) (k : Parts) → Gives 1 k (call_on b call ram hart c t k)
-on-gives true call ram hart c t k = demote-gives c t k
-on-gives false call ram hart c t k = done-gives t k (perform call ram hart c t k) (perform-gives call ram hart c t k)
+more-gives : (k new : Parts) → Gives 1 k new → Gives 2 k new
+more-gives k new p = record { least = p.least; most = omega (arith, p.most) }
 
-known-gives : (o : Option Call) (ram : ℕ) (hart : Hart) (c t : ℕ) (k : Parts) → Gives 1 k (call_known o ram hart c t k)
-known-gives None ram hart c t k = done-gives t k (refused NoSuchCall k) (gives-none 1 k k refl)
-known-gives (Some call) ram hart c t k = on-gives (is_oob (Some t) k.tasks) call ram hart c t k
+ask-gives : (c t : ℕ) (k : Parts) → Gives 2 k (ask_oob c t k)
+unfolding ask_oob
+ask-gives c t k = gives-if 2 (may_promote c t k) k _ _ (more-gives k _ (promote-gives c t k)) (done-gives c t k (refused NotPermitted k) (gives-none 1 k k refl))
 
-hart-gives : (ram : ℕ) (o : Option Hart) (c t : ℕ) (k : Parts) → Gives 1 k (call_of_hart ram o c t k)
-hart-gives ram None c t k = gives-none 1 k k refl
+on-gives : (stage : Option Stage) (call : Call) (ram : ℕ) (hart : Hart) (c t : ℕ) (k : Parts) → Gives 2 k (call_on stage call ram hart c t k)
+on-gives None call ram hart c t k = done-gives c t k (perform call ram hart c t k) (perform-gives call ram hart c t k)
+on-gives (Some InBand) call ram hart c t k =
+    gives-if 2 (is_oob (Some t) k.tasks) k _ _ (more-gives k _ (demote-gives c t k)) (done-gives c t k (perform call ram hart c t k) (perform-gives call ram hart c t k))
+on-gives (Some OutOfBand) call ram hart c t k =
+    gives-if 2 (is_oob (Some t) k.tasks) k _ _ (done-gives c t k (perform call ram hart c t k) (perform-gives call ram hart c t k)) (ask-gives c t k)
+
+known-gives : (o : Option Call) (ram : ℕ) (hart : Hart) (c t : ℕ) (k : Parts) → Gives 2 k (call_known o ram hart c t k)
+known-gives None ram hart c t k = done-gives c t k (refused NoSuchCall k) (gives-none 1 k k refl)
+known-gives (Some call) ram hart c t k = on-gives (call_stage call) call ram hart c t k
+
+hart-gives : (ram : ℕ) (o : Option Hart) (c t : ℕ) (k : Parts) → Gives 2 k (call_of_hart ram o c t k)
+hart-gives ram None c t k = gives-none 2 k k refl
 hart-gives ram (Some hart) c t k = known-gives (call_of (register_of hart.regs A7)) ram hart c t k
 
-pub call-gives : (ram c t : ℕ) (k : Parts) → Gives 1 k (call ram c t k)
+pub call-gives : (ram c t : ℕ) (k : Parts) → Gives 2 k (call ram c t k)
 unfolding call
 call-gives ram c t k = hart-gives ram (slice_get k.harts t) c t k
 
 -- ---- an instruction
-load-gives : (o : Option ℕ) (op : LoadOp) (rd c t : ℕ) (b : Board) → Gives 1 b.parts (finish_load o op rd c t b).parts
-load-gives None op rd c t b = end-gives c t _ b.parts
-load-gives (Some n) op rd c t b = gives-none 1 b.parts _ refl
+pub fault-gives : (c t : ℕ) (f : Fault) (k : Parts) → Gives 2 k (fault c t f k)
+fault-gives c t f k = gives-if 2 (is_oob (Some t) k.tasks) k _ _ (more-gives k _ (demote-gives c t k)) (more-gives k _ (end-gives c t _ k))
 
-store-gives : (o : Option Memory) (c t : ℕ) (b : Board) → Gives 1 b.parts (finish_store o c t b).parts
-store-gives None c t b = end-gives c t _ b.parts
-store-gives (Some memory) c t b = gives-none 1 b.parts _ refl
+load-gives : (o : Option ℕ) (op : LoadOp) (rd c t : ℕ) (b : Board) → Gives 2 b.parts (finish_load o op rd c t b).parts
+load-gives None op rd c t b = fault-gives c t _ b.parts
+load-gives (Some n) op rd c t b = gives-none 2 b.parts _ refl
 
-finish-gives : (effect : Effect) (c t : ℕ) (b : Board) → Gives 1 b.parts (finish effect c t b).parts
+store-gives : (o : Option Memory) (c t : ℕ) (b : Board) → Gives 2 b.parts (finish_store o c t b).parts
+store-gives None c t b = fault-gives c t _ b.parts
+store-gives (Some memory) c t b = gives-none 2 b.parts _ refl
+
+finish-gives : (effect : Effect) (c t : ℕ) (b : Board) → Gives 2 b.parts (finish effect c t b).parts
 unfolding finish stop
-finish-gives (Next rd value pc) c t b = gives-none 1 b.parts _ refl
+finish-gives (Next rd value pc) c t b = gives-none 2 b.parts _ refl
 finish-gives (Load op rd address) c t b = load-gives (read address (width_of_load op) b.memory) op rd c t b
 finish-gives (Store width address value) c t b = store-gives (write address width value b.memory) c t b
 finish-gives Calls c t b = call-gives (length b.memory.ram) c t b.parts
-finish-gives Break c t b = gives-none 1 b.parts _ refl
-finish-gives Misaligned c t b = end-gives c t _ b.parts
+finish-gives Break c t b = gives-none 2 b.parts _ refl
+finish-gives Misaligned c t b = fault-gives c t _ b.parts
 
-inst-gives : (o : Option Inst) (hart : Hart) (c t : ℕ) (b : Board) → Gives 1 b.parts (execute_inst o hart c t b).parts
-inst-gives None hart c t b = end-gives c t _ b.parts
+inst-gives : (o : Option Inst) (hart : Hart) (c t : ℕ) (b : Board) → Gives 2 b.parts (execute_inst o hart c t b).parts
+inst-gives None hart c t b = fault-gives c t _ b.parts
 inst-gives (Some inst) hart c t b = finish-gives (does inst hart.regs hart.pc) c t b
 
-word-gives : (o : Option ℕ) (hart : Hart) (c t : ℕ) (b : Board) → Gives 1 b.parts (execute_word o hart c t b).parts
-word-gives None hart c t b = end-gives c t _ b.parts
+word-gives : (o : Option ℕ) (hart : Hart) (c t : ℕ) (b : Board) → Gives 2 b.parts (execute_word o hart c t b).parts
+word-gives None hart c t b = fault-gives c t _ b.parts
 word-gives (Some word) hart c t b = inst-gives (decoded word) hart c t b
 
-execute-gives : (hart : Hart) (c t : ℕ) (b : Board) → Gives 1 b.parts (execute hart c t b).parts
+execute-gives : (hart : Hart) (c t : ℕ) (b : Board) → Gives 2 b.parts (execute hart c t b).parts
 unfolding execute
 execute-gives hart c t b = word-gives (fetch hart.pc b.memory) hart c t b
 
@@ -239,8 +334,8 @@ run-gives : (hart : Hart) (c t : ℕ) (b : Board) → hart.pc % 4 ≡ 0 → Good
 run-gives hart c t b h g o r =
     let passed : Board = on_parts (on_processor c (λ p. record p { skip = false })) b in
     let done : Board = execute hart c t passed in
-    let first : Gives 1 passed.parts done.parts = execute-gives hart c t passed in
-    gives-then 1 2048 4096 b.parts done.parts _ (omega arith) (record { least = first.least; most = first.most })
+    let first : Gives 2 passed.parts done.parts = execute-gives hart c t passed in
+    gives-then 2 2080 4096 b.parts done.parts _ (omega arith) (record { least = first.least; most = first.most })
     (settled-gives c done.parts (execute-but hart c t passed h (good-skip c b.parts g) o (passed-current c b.parts ∙ r)))
 
 hart-if : (hit : Bool) (hart : Hart) (c t : ℕ) (b : Board) → hart.pc % 4 ≡ 0 → Good b.parts → IsOwn c t b.parts.tasks → current c b.parts ≡ Some t → Gives 4096 b.parts (if hit then (on_parts (stop c) b, Hit) else run hart c t b).0.parts
@@ -253,7 +348,7 @@ hart-step None p c t b e g o r = gives-none 4096 b.parts b.parts refl
 hart-step (Some hart) p c t b e g o r = hart-if (is_set b.breakpoints hart.pc && not p.skip) hart c t b (g.aligned t hart e) g o r
 
 settled-more : (c : ℕ) (x k : Parts) → k.stamps ≡ x.stamps → GoodBut c k → Gives 4096 x (settle_and_nudge c k)
-settled-more c x k e g = gives-then 0 2048 4096 x k _ (omega arith) (gives-none 0 x k e) (settled-gives c k g)
+settled-more c x k e g = gives-then 0 2080 4096 x k _ (omega arith) (gives-none 0 x k e) (settled-gives c k g)
 
 current-step : (o : Option ℕ) (p : Processor) (c : ℕ) (b : Board) → Good b.parts → ((t : ℕ) → o ≡ Some t → IsOwn c t b.parts.tasks × (current c b.parts ≡ Some t)) → Gives 4096 b.parts (step_current o p c b).0.parts
 current-step None p c b g h = settled-more c b.parts b.parts refl (good_but c b.parts g)

@@ -161,7 +161,6 @@ settled-first pipe e = rw e (record {
   runs_in_band = λ n. refl;
   oob_played = λ u. refl;
   in_band_played = λ u n. refl;
-  oob_open = refl;
   oob_staller = λ u. cc;
   in_band_staller = λ u n. cc;
 })
@@ -174,7 +173,6 @@ settled-idle c pipe e = rw e (record {
   runs_in_band = λ n. refl;
   oob_played = λ u. refl;
   in_band_played = λ u n. refl;
-  oob_open = refl;
   oob_staller = λ u. cc;
   in_band_staller = λ u n. cc;
 })

@@ -1,54 +1,97 @@
 -- What a change of one task leaves of the others, and what waking tasks leaves of their processor.
 use Rattle.std.proofs.Common.{◌≡◌, ℕ, zero, suc, ◌<◌, List, [], ◌∷◌, ◌++◌, Bool, true, false, Option, Some, None, length, refl, ap, sym, ◌∙◌, inl, inr}
-use Rattle.std.specs.Prelude.{slice_get, option_map, ◌==◌, if◌then◌else◌}
+use Rattle.std.specs.Prelude.{slice_get, option_map, nat_le, ◌==◌, ◌&&◌, if◌then◌else◌}
 use Rattle.std.proofs.lemmas.Bool.{cases_eq}
 use Rattle.evm_model.proofs.Lists.{change-here, change-elsewhere, slice_get-below, slice_get-before}
 use Rattle.evm_model.specs.Good.{IsOwn}
 use Rattle.evm_model.specs.Harts.{A0, set_register}
 use Rattle.evm_model.specs.Lists.{change}
-use Rattle.evm_model.specs.Pipes.{Pipe, play}
+use Rattle.evm_model.specs.Pipes.{Pipe, arrive, play}
 use Rattle.evm_model.specs.Ranks.{best, rank, stamp, runs_oob, runs_oob_task, is_oob_ready}
-use Rattle.evm_model.specs.Settle.{is_oob, play_in_band, play_in_band_lines}
+use Rattle.evm_model.specs.Settle.{current, is_oob, spend_of, spend_current, play_oob, play_oob_lines, play_in_band, play_in_band_lines}
 use Rattle.evm_model.specs.State.{Parts, on_hart, on_pipe}
-use Rattle.evm_model.specs.Tasks.{restamp, set_state, wake_in_band, wake_below, awaits, is_wait_for, is_live}
-use Rattle.evm_model.specs.declared.stage.Stage.TheVariants.{InBand}
+use Rattle.evm_model.specs.Tasks.{restamp, set_state, wake_in_band, wake_below, awaits, is_wait_for, is_live, set_slice, spend_slice, spend_task, is_round_robin}
+use Rattle.evm_model.specs.declared.limits.TheConstants.{SLICE}
+use Rattle.evm_model.specs.declared.stage.Stage.TheVariants.{OutOfBand, InBand}
 use Rattle.evm_model.specs.declared.task.Task.{Task}
 use Rattle.evm_model.specs.declared.task.TaskState.{TaskState}
 use Rattle.evm_model.specs.declared.task.TaskState.TheVariants.{InReady, Waits}
-use Rattle.evm_rules.proofs.Firsts.{both, eqb-is, first-member, first-none}
-use Rattle.evm_rules.proofs.Shapes.{IsShaped, shaped-pipe, shaped-hart, shaped-state, shaped-restamp}
+use Rattle.evm_rules.proofs.Firsts.{IsOobOwn, both, eqb-is, first-member, first-none}
+use Rattle.evm_rules.proofs.Shapes.{IsShaped, shaped-task, shaped-pipe, shaped-hart, shaped-state, shaped-restamp}
 
 -- ---- the tasks of a processor
--- each task of processor d is as it was
-pub record AreSame (d : ℕ) (tasks new : List Task) : Type 0 where
-  pub each : (u : ℕ) (task : Task) → slice_get tasks u ≡ Some task → task.cpu ≡ d → slice_get new u ≡ Some task
+-- where and how a task is: its processor and its state
+pub record IsAlike (u : ℕ) (task : Task) (new : List Task) : Type 0 where
+  pub now : Task
+  pub there : slice_get new u ≡ Some now
+  pub cpu : now.cpu ≡ task.cpu
+  pub state : now.state ≡ task.state
 
-pub same-own : (d u : ℕ) (tasks new : List Task) → AreSame d tasks new → IsOwn d u tasks → IsOwn d u new
-same-own d u tasks new s o = record { task = o.task; there = s.each u o.task o.there o.at_home; at_home = o.at_home; live = o.live }
+-- each task of processor d is there as it was, and in the same state
+pub record AreAlike (d : ℕ) (tasks new : List Task) : Type 0 where
+  pub each : (u : ℕ) (task : Task) → slice_get tasks u ≡ Some task → task.cpu ≡ d → IsAlike u task new
 
-pub same-oob : (d : ℕ) (now : Option ℕ) (tasks new : List Task) → AreSame d tasks new → ((u : ℕ) → now ≡ Some u → IsOwn d u tasks) → is_oob now new ≡ is_oob now tasks
-same-oob d None tasks new s h = refl
-same-oob d (Some u) tasks new s h = let o = h u refl in rw (o.there, s.each u o.task o.there o.at_home) refl
+alike-is : (u : ℕ) (task : Task) (new : List Task) → slice_get new u ≡ Some task → IsAlike u task new
+alike-is u task new e = record { now = task; there = e; cpu = refl; state = refl }
+
+pub alike-none : (d : ℕ) (tasks : List Task) → AreAlike d tasks tasks
+alike-none d tasks = record { each = λ u task e h. alike-is u task tasks e }
+
+pub alike-then : (d : ℕ) (x y z : List Task) → AreAlike d x y → AreAlike d y z → AreAlike d x z
+alike-then d x y z p q = record {
+  each = λ u task e h.
+      let a = p.each u task e h in
+      let b = q.each u a.now a.there (a.cpu ∙ h) in
+      record { now = b.now; there = b.there; cpu = b.cpu ∙ a.cpu; state = b.state ∙ a.state };
+}
+
+pub alike-own : (d u : ℕ) (tasks new : List Task) → AreAlike d tasks new → IsOwn d u tasks → IsOwn d u new
+alike-own d u tasks new s o =
+    let a = s.each u o.task o.there o.at_home in
+    record { task = a.now; there = a.there; at_home = a.cpu ∙ o.at_home; live = ap is_live a.state ∙ o.live }
+
+pub alike-oob_own : (d u : ℕ) (tasks new : List Task) → AreAlike d tasks new → IsOobOwn d u tasks → IsOobOwn d u new
+alike-oob_own d u tasks new s o =
+    let a = s.each u o.task o.there o.at_home in
+    record { task = a.now; there = a.there; at_home = a.cpu ∙ o.at_home; ready = ap is_oob_ready a.state ∙ o.ready }
+
+pub alike-oob : (d : ℕ) (now : Option ℕ) (tasks new : List Task) → AreAlike d tasks new → ((u : ℕ) → now ≡ Some u → IsOwn d u tasks) → is_oob now new ≡ is_oob now tasks
+alike-oob d None tasks new s h = refl
+alike-oob d (Some u) tasks new s h =
+    let o = h u refl in
+    let a = s.each u o.task o.there o.at_home in
+    rw (o.there, a.there) (ap is_oob_ready a.state)
 
 some-is : (x y : Task) → Some x ≡ Some y → x ≡ y
 some-is x y e = cc
 
 -- a task of another processor changes
-pub same-change : (c d t : ℕ) (f : Task → Task) (tasks : List Task) → (d ≡ c → ⊥) → ((task : Task) → slice_get tasks t ≡ Some task → task.cpu ≡ c) → AreSame d tasks (change f tasks t)
-same-change c d t f tasks n home = record {
+pub alike-other : (c d t : ℕ) (f : Task → Task) (tasks : List Task) → (d ≡ c → ⊥) → ((task : Task) → slice_get tasks t ≡ Some task → task.cpu ≡ c) → AreAlike d tasks (change f tasks t)
+alike-other c d t f tasks n home = record {
   each = λ u task e h.
       let other : u ≡ t → ⊥ = λ same. n (sym h ∙ home task (ap (slice_get tasks) (sym same) ∙ e)) in
-      change-elsewhere f tasks t u other ∙ e;
+      alike-is u task (change f tasks t) (change-elsewhere f tasks t u other ∙ e);
 }
 
-pub same-push : (d : ℕ) (task : Task) (tasks : List Task) → AreSame d tasks (tasks ++ task ∷ [])
-same-push d task tasks = record { each = λ u old e h. slice_get-before tasks task u old e }
+-- any task changes, but not where and how it is
+pub alike-change : (d t : ℕ) (f : Task → Task) (tasks : List Task) → ((task : Task) → (f task).cpu ≡ task.cpu) → ((task : Task) → (f task).state ≡ task.state) → AreAlike d tasks (change f tasks t)
+alike-change d t f tasks cpu state = record {
+  each = λ u task e h. elim (cases_eq u t) [
+    | inl same ↦ record {
+      now = f task;
+      there = rw same (change-here f tasks t) ∙ ap (option_map f) (ap (slice_get tasks) (sym same) ∙ e);
+      cpu = cpu task;
+      state = state task;
+    }
+    | inr other ↦ alike-is u task (change f tasks t) (change-elsewhere f tasks t u other ∙ e)
+  ];
+}
 
-pub same-then : (d : ℕ) (x y z : List Task) → AreSame d x y → AreSame d y z → AreSame d x z
-same-then d x y z p q = record { each = λ u task e h. q.each u task (p.each u task e h) h }
+pub alike-push : (d : ℕ) (task : Task) (tasks : List Task) → AreAlike d tasks (tasks ++ task ∷ [])
+alike-push d task tasks = record { each = λ u old e h. alike-is u old _ (slice_get-before tasks task u old e) }
 
 -- an own task that changes stays own where it stays alive
-own-cases : (c t u : ℕ) (f : Task → Task) (tasks : List Task) (o : IsOwn c u tasks) → ((task : Task) → (f task).cpu ≡ task.cpu) → ((task : Task) → is_live task.state ≡ true → is_live (f task).state ≡ true)
+pub own-cases : (c t u : ℕ) (f : Task → Task) (tasks : List Task) (o : IsOwn c u tasks) → ((task : Task) → (f task).cpu ≡ task.cpu) → ((task : Task) → is_live task.state ≡ true → is_live (f task).state ≡ true)
     → IsOwn c u (change f tasks t)
 own-cases c t u f tasks o home live = elim (cases_eq u t) [
   | inl same ↦ record {
@@ -74,7 +117,7 @@ pub record Rouses (c : ℕ) (k x : Parts) : Type 0 where
   pub processors : x.processors ≡ k.processors
   pub pipes : (d : ℕ) → (d ≡ c → ⊥) → slice_get x.pipes d ≡ slice_get k.pipes d
   pub shape : IsShaped k → IsShaped x
-  pub others : (d : ℕ) → (d ≡ c → ⊥) → AreSame d k.tasks x.tasks
+  pub others : (d : ℕ) → (d ≡ c → ⊥) → AreAlike d k.tasks x.tasks
   pub own : (u : ℕ) → IsOwn c u k.tasks → IsOwn c u x.tasks
   pub oob : (u : ℕ) → runs_oob c x.tasks u ≡ runs_oob c k.tasks u
 
@@ -83,7 +126,7 @@ rouses-none c k = record {
   processors = refl;
   pipes = λ d n. refl;
   shape = λ s. s;
-  others = λ d n. record { each = λ u task e h. e };
+  others = λ d n. alike-none d k.tasks;
   own = λ u o. o;
   oob = λ u. refl;
 }
@@ -93,7 +136,7 @@ rouses-then c x y z p q = record {
   processors = q.processors ∙ p.processors;
   pipes = λ d n. q.pipes d n ∙ p.pipes d n;
   shape = λ s. q.shape (p.shape s);
-  others = λ d n. same-then d x.tasks y.tasks z.tasks (p.others d n) (q.others d n);
+  others = λ d n. alike-then d x.tasks y.tasks z.tasks (p.others d n) (q.others d n);
   own = λ u o. q.own u (p.own u o);
   oob = λ u. q.oob u ∙ p.oob u;
 }
@@ -107,7 +150,7 @@ rouses-pipe c f k = record {
   processors = refl;
   pipes = λ d n. change-elsewhere f k.pipes c d n;
   shape = shaped-pipe c f k;
-  others = λ d n. record { each = λ u task e h. e };
+  others = λ d n. alike-none d k.tasks;
   own = λ u o. o;
   oob = λ u. refl;
 }
@@ -141,15 +184,12 @@ oob-change c t u f tasks w h = elim (cases_eq u t) [
 waiter-home : (c t : ℕ) (tasks : List Task) → Waiter c t tasks → (task : Task) → slice_get tasks t ≡ Some task → task.cpu ≡ c
 waiter-home c t tasks w task e = let same : w.task ≡ task = some-is w.task task (sym w.there ∙ e) in rw (← same) w.at_home
 
-waiter-after : (c t : ℕ) (f : Task → Task) (tasks : List Task) → (w : Waiter c t tasks) → (f w.task).cpu ≡ w.task.cpu → is_oob_ready (f w.task).state ≡ false → Waiter c t (change f tasks t)
-waiter-after c t f tasks w home h = record { task = f w.task; there = change-here f tasks t ∙ ap (option_map f) w.there; at_home = home ∙ w.at_home; idle = h }
-
 rouses-hart : (c t value : ℕ) (k : Parts) → Rouses c k (on_hart t (set_register A0 value) k)
 rouses-hart c t value k = record {
   processors = refl;
   pipes = λ d n. refl;
   shape = shaped-hart t (set_register A0 value) k (λ hart h. h);
-  others = λ d n. record { each = λ u task e h. e };
+  others = λ d n. alike-none d k.tasks;
   own = λ u o. o;
   oob = λ u. refl;
 }
@@ -160,25 +200,32 @@ rouses-state c t k w = record {
   processors = refl;
   pipes = λ d n. refl;
   shape = shaped-state t InReady k;
-  others = λ d n. same-change c d t (λ task. record task { state = InReady }) k.tasks n (waiter-home c t k.tasks w);
+  others = λ d n. alike-other c d t (λ task. record task { state = InReady }) k.tasks n (waiter-home c t k.tasks w);
   own = λ u o. own-state c t u InReady k refl o;
   oob = λ u. oob-change c t u (λ task. record task { state = InReady }) k.tasks w refl;
 }
 
-rouses-restamp : (c t : ℕ) (k : Parts) → Waiter c t k.tasks → Rouses c k (restamp t k)
+-- whether a task runs out-of-band is told by where and how it is
+option-runs : (c : ℕ) (f : Task → Task) (o : Option Task) → ((task : Task) → (f task).cpu ≡ task.cpu) → ((task : Task) → (f task).state ≡ task.state) → runs_oob_task c (option_map f o) ≡ runs_oob_task c o
+option-runs c f None cpu state = refl
+option-runs c f (Some task) cpu state = rw (cpu task, state task) refl
+
+runs-change : (c t u : ℕ) (f : Task → Task) (tasks : List Task) → ((task : Task) → (f task).cpu ≡ task.cpu) → ((task : Task) → (f task).state ≡ task.state) → runs_oob c (change f tasks t) u ≡ runs_oob c tasks u
+runs-change c t u f tasks cpu state = elim (cases_eq u t) [
+  | inl same ↦ rw same (ap (runs_oob_task c) (change-here f tasks t) ∙ option-runs c f (slice_get tasks t) cpu state)
+  | inr other ↦ ap (runs_oob_task c) (change-elsewhere f tasks t u other)
+]
+
+pub rouses-restamp : (c t : ℕ) (k : Parts) → Rouses c k (restamp t k)
 unfolding restamp
-rouses-restamp c t k w = record {
+rouses-restamp c t k = record {
   processors = refl;
   pipes = λ d n. refl;
   shape = shaped-restamp t k;
-  others = λ d n. same-change c d t (λ task. record task { stamp = k.stamps }) k.tasks n (waiter-home c t k.tasks w);
+  others = λ d n. alike-change d t (λ task. record task { stamp = k.stamps }) k.tasks (λ task. refl) (λ task. refl);
   own = λ u o. own-restamp c t u k o;
-  oob = λ u. oob-change c t u (λ task. record task { stamp = k.stamps }) k.tasks w w.idle;
+  oob = λ u. runs-change c t u (λ task. record task { stamp = k.stamps }) k.tasks (λ task. refl) (λ task. refl);
 }
-
-state-waiter : (c t : ℕ) (k : Parts) → Waiter c t k.tasks → Waiter c t (set_state t InReady k).tasks
-unfolding set_state
-state-waiter c t k w = waiter-after c t (λ task. record task { state = InReady }) k.tasks w refl refl
 
 rouses-wake : (c t value : ℕ) (k : Parts) → Waiter c t k.tasks → Rouses c k (wake_in_band t value k)
 unfolding wake_in_band
@@ -186,7 +233,7 @@ rouses-wake c t value k w =
     let told : Parts = on_hart t (set_register A0 value) k in
     let ready : Parts = set_state t InReady told in
     rouses-then c k told _ (rouses-hart c t value k)
-    (rouses-then c told ready _ (rouses-state c t told w) (rouses-restamp c t ready (state-waiter c t told w)))
+    (rouses-then c told ready _ (rouses-state c t told w) (rouses-restamp c t ready))
 
 pub rouses-wakes : (c l n : ℕ) (k : Parts) → Rouses c k (wake_below c l n k)
 unfolding wake_below
@@ -205,6 +252,52 @@ pub rouses-lines : (c : ℕ) (lines : List ℕ) (k : Parts) → Rouses c k (play
 unfolding play_in_band_lines
 rouses-lines c [] k = rouses-none c k
 rouses-lines c (l ∷ ls) k = rouses-then c k (play_in_band c l k) _ (rouses-play c l k) (rouses-lines c ls (play_in_band c l k))
+
+-- ---- a tick of a slice
+rouses-slice : (c t slice : ℕ) (k : Parts) → Rouses c k (set_slice t slice k)
+unfolding set_slice
+rouses-slice c t slice k =
+    let f : Task → Task = λ task. record task { slice = slice } in
+    record {
+      processors = refl;
+      pipes = λ d n. refl;
+      shape = shaped-task t f k (λ task. refl) (λ task. refl);
+      others = λ d n. alike-change d t f k.tasks (λ task. refl) (λ task. refl);
+      own = λ u o. own-cases c t u f k.tasks o (λ task. refl) (λ task h. h);
+      oob = λ u. runs-change c t u f k.tasks (λ task. refl) (λ task. refl);
+    }
+
+rouses-spend : (c t slice : ℕ) (k : Parts) → Rouses c k (spend_slice t slice k)
+unfolding spend_slice
+rouses-spend c t slice k =
+    rouses-if c (nat_le slice 1) k _ _ (λ e. rouses-then c k (set_slice t SLICE k) _ (rouses-slice c t SLICE k) (rouses-restamp c t (set_slice t SLICE k)))
+    (λ e. rouses-slice c t _ k)
+
+rouses-task : (c : ℕ) (o : Option Task) (t : ℕ) (k : Parts) → Rouses c k (spend_task o t k)
+rouses-task c None t k = rouses-none c k
+rouses-task c (Some task) t k = rouses-if c (is_oob_ready task.state && is_round_robin task.class) k _ k (λ e. rouses-spend c t task.slice k) (λ e. rouses-none c k)
+
+rouses-of : (c : ℕ) (o : Option ℕ) (k : Parts) → Rouses c k (spend_of o k)
+rouses-of c None k = rouses-none c k
+rouses-of c (Some t) k = rouses-task c (slice_get k.tasks t) t k
+
+rouses-current : (c : ℕ) (k : Parts) → Rouses c k (spend_current c k)
+unfolding spend_current
+rouses-current c k = rouses-of c (current c k) k
+
+rouses-play_oob : (c l : ℕ) (k : Parts) → Rouses c k (play_oob c l k)
+unfolding play_oob
+rouses-play_oob c l k =
+    let played : Parts = on_pipe c (play OutOfBand l) k in
+    rouses-then c k played _ (rouses-pipe c (play OutOfBand l) k)
+    (rouses-if c (l == 0) played _ played
+    (λ e. rouses-then c played (spend_current c played) _ (rouses-current c played) (rouses-pipe c (arrive InBand 0) (spend_current c played)))
+    (λ e. rouses-none c played))
+
+pub rouses-oob_lines : (c : ℕ) (lines : List ℕ) (k : Parts) → Rouses c k (play_oob_lines c lines k)
+unfolding play_oob_lines
+rouses-oob_lines c [] k = rouses-none c k
+rouses-oob_lines c (l ∷ ls) k = rouses-then c k (play_oob c l k) _ (rouses-play_oob c l k) (rouses-oob_lines c ls (play_oob c l k))
 
 -- ---- where no task is out-of-band ready, none is best
 runs-there : (c u : ℕ) (tasks : List Task) (o : Option Task) → slice_get tasks u ≡ o → runs_oob_task c o ≡ true → u < length tasks

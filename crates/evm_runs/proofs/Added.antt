@@ -7,11 +7,12 @@ use Rattle.evm_model.specs.Pipes.{Pipe}
 use Rattle.evm_model.specs.State.{Board, Parts, new_task}
 use Rattle.evm_model.specs.declared.limits.TheConstants.{TASK_LIMIT}
 use Rattle.evm_model.specs.declared.task.Task.{Task}
-use Rattle.evm_model.specs.declared.task.TaskState.TheVariants.{InReady, Waits}
+use Rattle.evm_model.specs.declared.task.TaskState.TheVariants.{InReady, OobReady, Waits}
 use Rattle.evm_model.specs.declared.task.Wait.TheVariants.{Line}
-use Rattle.evm_runs.specs.Changes.{Rests, Wakes, Added}
+use Rattle.evm_runs.specs.Changes.{Stays, Spends, Added}
 use Rattle.evm_runs.specs.Kept.{AllHaveRegisters}
 use Rattle.evm_runs.proofs.Frames.{Frame, Still}
+use Rattle.evm_runs.proofs.Spending.{Spent}
 
 -- as many of each, but for tasks, of which there may be more, a hart for each; and tasks keep their registers
 pub record SameCounts (old new : Board) : Type 0 where
@@ -83,25 +84,53 @@ added_rests c x y z f s p = elim p [
   ]
 ]
 
--- the skip bit is no task
-pub passes_added : (x y z : Parts) → y.tasks ≡ x.tasks → y.harts ≡ x.harts → Added y z → Added x z
-passes_added x y z e f p = elim p [
-  | inl same ↦ inl (same.0 ∙ ap length e, same.1 ∙ ap length f)
+-- the task that was added, where it and the harts stay
+pub added_kept : (x y z : Parts) → length z.tasks ≡ length y.tasks → z.harts ≡ y.harts
+    → ((cpu stamp : ℕ) → slice_get y.tasks (length x.tasks) ≡ Some (new_task cpu stamp) → slice_get z.tasks (length x.tasks) ≡ Some (new_task cpu stamp)) → Added x y → Added x z
+added_kept x y z e f kept p = elim p [
+  | inl same ↦ inl (e ∙ same.0, ap length f ∙ same.1)
   | inr a ↦ inr (record {
     cpu = a.cpu;
     stamp = a.stamp;
     entry = a.entry;
     value = a.value;
-    tasks = a.tasks ∙ ap (λ (tasks : List Task). length tasks + 1) e;
+    tasks = e ∙ a.tasks;
+    harts = ap length f ∙ a.harts;
+    room = a.room;
+    task = kept a.cpu a.stamp a.task;
+    hart = λ each. ap (λ (harts : List Hart). slice_get harts (length x.tasks)) f ∙ a.hart each;
+  })
+]
+
+-- it isn't out-of-band: it spends nothing
+pub added_spent : (c : ℕ) (x y z : Parts) → Spent c y z → Added x y → Added x z
+added_spent c x y z s p = added_kept x y z s.tasks_count s.harts (λ cpu stamp there. elim (s.tasks (length x.tasks)) [
+  | inl same ↦ same ∙ there
+  | inr q ↦
+      let two : Some (new_task cpu stamp) ≡ Some q.task = sym there ∙ q.there in
+      let same : new_task cpu stamp ≡ q.task = cc in
+      let no : InReady ≡ OobReady = ap (λ (task : Task). task.state) same ∙ q.on in cc
+]) p
+
+-- neither the skip bit nor a task's class is a task more
+pub passes_added : (x y z : Parts) → length y.tasks ≡ length x.tasks → y.harts ≡ x.harts → Added y z → Added x z
+passes_added x y z e f p = elim p [
+  | inl same ↦ inl (same.0 ∙ e, same.1 ∙ ap length f)
+  | inr a ↦ inr (record {
+    cpu = a.cpu;
+    stamp = a.stamp;
+    entry = a.entry;
+    value = a.value;
+    tasks = a.tasks ∙ ap (λ n. n + 1) e;
     harts = a.harts ∙ ap (λ (harts : List Hart). length harts + 1) f;
     room = rw (← e) a.room;
-    task = ap (slice_get z.tasks) (ap length (sym e)) ∙ a.task;
-    hart = λ each. ap (slice_get z.harts) (ap length (sym e)) ∙ a.hart (ap length f ∙ each ∙ sym (ap length e));
+    task = ap (slice_get z.tasks) (sym e) ∙ a.task;
+    hart = λ each. ap (slice_get z.harts) (sym e) ∙ a.hart (ap length f ∙ each ∙ sym e);
   })
 ]
 
 -- ---- pipes are no tasks
-pub others_pipes : (c t : ℕ) (x y : Parts) (pipes : List Pipe) → Rests t x y ⊎ Wakes c t x y → Rests t x (record y { pipes = pipes }) ⊎ Wakes c t x (record y { pipes = pipes })
+pub others_pipes : (c t : ℕ) (x y : Parts) (pipes : List Pipe) → Stays c t x y → Stays c t x (record y { pipes = pipes })
 others_pipes c t x y pipes p = elim p [
   | inl r ↦ inl (record { task = r.task; hart = r.hart })
   | inr w ↦ inr (record { task = w.task; line = w.line; stamp = w.stamp; waited = w.waited; on = w.on; at_home = w.at_home; fresh = w.fresh; wakes = w.wakes; hart = w.hart })
@@ -112,3 +141,18 @@ added_pipes x y pipes p = elim p [
   | inl same ↦ inl same
   | inr a ↦ inr (record { cpu = a.cpu; stamp = a.stamp; entry = a.entry; value = a.value; tasks = a.tasks; harts = a.harts; room = a.room; task = a.task; hart = a.hart })
 ]
+
+pub spends_pipes : (c t : ℕ) (x y : Parts) (pipes : List Pipe) → Stays c t x y ⊎ Spends c t x y → Stays c t x (record y { pipes = pipes }) ⊎ Spends c t x (record y { pipes = pipes })
+spends_pipes c t x y pipes (inl p) = inl (others_pipes c t x y pipes p)
+spends_pipes c t x y pipes (inr q) = inr (record {
+  task = q.task;
+  slice = q.slice;
+  stamp = q.stamp;
+  runs = q.runs;
+  there = q.there;
+  on = q.on;
+  robin = q.robin;
+  left = q.left;
+  spends = q.spends;
+  hart = q.hart;
+})

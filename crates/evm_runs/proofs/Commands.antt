@@ -12,7 +12,6 @@ use Rattle.evm_ram.specs.declared.refusal.Refusal.TheVariants.{Full, NoTask, Bad
 use Rattle.evm_model.specs.Commands.{tick, set_bits, on_number, set_breakpoint, unset_breakpoint}
 use Rattle.evm_model.specs.Harts.{set_register, set_pc}
 use Rattle.evm_model.specs.Instructions.{stop}
-use Rattle.evm_model.specs.Lists.{change}
 use Rattle.evm_model.specs.Memory.{poke, ram_or}
 use Rattle.evm_model.specs.Pipes.{Pipe, raise, count_raise}
 use Rattle.evm_model.specs.Refusals.{board_refusal, is_full, bad_bytes}
@@ -25,16 +24,13 @@ use Rattle.evm_model.specs.declared.event.Event.{Event}
 use Rattle.evm_model.specs.declared.event.Event.TheVariants.{Step, Tick, Raise, Bell, Stop, Go, StepI, SetReg, SetPc, Poke, Break, Unbreak}
 use Rattle.evm_model.specs.declared.limits.TheConstants.{POKE_LIMIT}
 use Rattle.evm_model.specs.declared.processor.Processor.{Processor}
-use Rattle.evm_model.proofs.Lists.{change-here, change-elsewhere, length-change}
+use Rattle.evm_model.proofs.Lists.{length-change}
 use Rattle.evm_walk.proofs.Refused.{passes}
-use Rattle.evm_runs.specs.Changes.{OneChanges, RaisesOneLine, ProcessorChanges, CurrentChanges, RamChanges, ClockTicks, StepsOnce, ChangesOnly, IsDone, EventChanges, EventsChangeOnly}
+use Rattle.evm_runs.specs.Changes.{RaisesOneLine, ProcessorChanges, CurrentChanges, RamChanges, ClockTicks, StepsOnce, ChangesOnly, IsDone, EventChanges, EventsChangeOnly}
 use Rattle.evm_runs.proofs.Breakpoints.{set-changes, unset-changes}
-use Rattle.evm_runs.proofs.Frames.{Keeps, keeps_pc, keeps_register, change-registers}
+use Rattle.evm_runs.proofs.Frames.{Keeps, one_change, keeps_pc, keeps_register, change-registers}
 use Rattle.evm_runs.proofs.Added.{SameCounts, same_then}
 use Rattle.evm_runs.proofs.Steps.{step_done}
-
-one_change : {X : Type 0} (i : ℕ) (f : X → X) (xs : List X) → OneChanges i f xs (change f xs i)
-one_change i f xs = record { here = change-here f xs i; others = λ j other. change-elsewhere f xs i j other }
 
 pub raises_one_line : RaisesOneLine
 unfolding raise

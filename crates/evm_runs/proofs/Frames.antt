@@ -15,9 +15,12 @@ use Rattle.evm_model.specs.declared.task.Task.{Task}
 use Rattle.evm_model.specs.declared.task.TaskState.{TaskState}
 use Rattle.evm_model.specs.declared.task.TaskState.TheVariants.{InReady, Waits}
 use Rattle.evm_model.specs.declared.task.Wait.TheVariants.{Line}
-use Rattle.evm_model.proofs.Lists.{slice_get-set_other, length-change, change-elsewhere, change-cases, slice_get-push, slice_get-before}
-use Rattle.evm_runs.specs.Changes.{Rests, Wakes}
+use Rattle.evm_model.proofs.Lists.{slice_get-set_other, length-change, change-here, change-elsewhere, change-cases, slice_get-push, slice_get-before}
+use Rattle.evm_runs.specs.Changes.{OneChanges, Rests, Wakes}
 use Rattle.evm_runs.specs.Kept.{AreRegisters, AllHaveRegisters}
+
+pub one_change : {X : Type 0} (i : ℕ) (f : X → X) (xs : List X) → OneChanges i f xs (change f xs i)
+one_change i f xs = record { here = change-here f xs i; others = λ j other. change-elsewhere f xs i j other }
 
 -- only c's processor and pipe, and only this task and such as wake on c
 pub record Frame (c : ℕ) (task : Option ℕ) (old new : Parts) : Type 0 where
@@ -205,7 +208,7 @@ frame_hart c t f k g = record {
 pub still_hart : (t : ℕ) (f : Hart → Hart) (k : Parts) → Still k (on_hart t f k)
 still_hart t f k = record { tasks = refl; harts = length-change f k.harts t; console = refl }
 
-frame_task : (c t : ℕ) (f : Task → Task) (k : Parts) → Frame c (Some t) k (on_task t f k)
+pub frame_task : (c t : ℕ) (f : Task → Task) (k : Parts) → Frame c (Some t) k (on_task t f k)
 frame_task c t f k = record {
   ticks = refl;
   stamps = omega arith;
@@ -218,13 +221,16 @@ frame_task c t f k = record {
   registers = λ h. h;
 }
 
+pub still_task : (t : ℕ) (f : Task → Task) (k : Parts) → Still k (on_task t f k)
+still_task t f k = record { tasks = length-change f k.tasks t; harts = refl; console = refl }
+
 pub frame_state : (c t : ℕ) (state : TaskState) (k : Parts) → Frame c (Some t) k (set_state t state k)
 unfolding set_state
 frame_state c t state k = frame_task c t _ k
 
 pub still_state : (t : ℕ) (state : TaskState) (k : Parts) → Still k (set_state t state k)
 unfolding set_state
-still_state t state k = record { tasks = length-change _ k.tasks t; harts = refl; console = refl }
+still_state t state k = still_task t _ k
 
 pub frame_restamp : (c t : ℕ) (k : Parts) → Frame c (Some t) k (restamp t k)
 unfolding restamp

@@ -1,7 +1,7 @@
 -- What a step changes, and how many there are of each afterwards.
-use Rattle.std.proofs.Common.{◌≡◌, ℕ, List, Bool, true, false, Option, Some, None, length, ◌⊎◌, inl, inr, refl, ap, ◌∙◌}
+use Rattle.std.proofs.Common.{◌≡◌, ℕ, List, [], ◌∷◌, Bool, true, false, Option, Some, None, length, ◌⊎◌, inl, inr, refl, ap, sym, ◌∙◌, arith}
 use Rattle.std.specs.Prelude.{slice_get, option_map, ◌==◌, ◌&&◌, not, if◌then◌else◌}
-use Rattle.evm_lines.specs.Lines.{least_line}
+use Rattle.evm_lines.specs.Lines.{has_line, least_line}
 use Rattle.evm_isa.specs.Decoded.{decoded}
 use Rattle.evm_isa.specs.declared.inst.Inst.{Inst}
 use Rattle.evm_isa.specs.declared.inst.LoadOp.{LoadOp}
@@ -14,23 +14,31 @@ use Rattle.evm_ram.specs.Laws.{length-write_at}
 use Rattle.evm_ram.specs.Ram.{write_at}
 use Rattle.evm_ram.specs.declared.width.Width.{Width}
 use Rattle.evm_model.specs.Commands.{is_set}
-use Rattle.evm_model.specs.Harts.{advance}
-use Rattle.evm_model.specs.Instructions.{stop, finish, finish_load, finish_store, execute, execute_inst, execute_word}
+use Rattle.evm_model.specs.Calls.{call}
+use Rattle.evm_model.specs.Harts.{advance, argument}
+use Rattle.evm_model.specs.Instructions.{fault, stop, finish, finish_load, finish_store, execute, execute_inst, execute_word}
 use Rattle.evm_model.specs.Lists.{each}
 use Rattle.evm_model.specs.Memory.{fetch, read, write, with_ram}
 use Rattle.evm_model.specs.Pipes.{Pipe, raise, receive}
 use Rattle.evm_model.specs.Rows.{run, step_hart, step_current, step_wire, step_pipe, step_processor, step}
-use Rattle.evm_model.specs.Settle.{current, current_of, settle, nudge, nudge_pipe, settle_and_nudge, wants_nudge}
+use Rattle.evm_model.specs.Settle.{current, current_of, is_oob, settle, nudge, nudge_pipe, settle_and_nudge, wants_nudge}
 use Rattle.evm_model.specs.State.{Board, Memory, Parts, on_hart, on_processor, on_pipe, on_parts}
+use Rattle.evm_model.specs.Tasks.{demote, end_task}
 use Rattle.evm_model.specs.declared.event.Answer.{Answer}
 use Rattle.evm_model.specs.declared.event.Answer.TheVariants.{Stopped}
+use Rattle.evm_model.specs.declared.fault.Fault.{Fault}
+use Rattle.evm_model.specs.declared.limits.TheConstants.{SLICE}
 use Rattle.evm_model.specs.declared.processor.Processor.{Processor}
-use Rattle.evm_model.proofs.Lists.{slice_get-each, length-each_from}
-use Rattle.evm_runs.specs.Changes.{StoreWrites, StepChanges, Added, Typed}
-use Rattle.evm_runs.proofs.Added.{SameCounts, more_tasks, more_harts, few_more, each_more, added_rests, passes_added, others_pipes, added_pipes}
-use Rattle.evm_runs.proofs.Calling.{Acts, acts_still, ends, calls}
-use Rattle.evm_runs.proofs.Frames.{Frame, Keeps, frame_none, frame_then, frame_wider, frame_hart, frame_processor, frame_pipe, keeps_advance, keeps_register_pc, keeps_answer, still_then, still_hart, still_processor}
-use Rattle.evm_runs.proofs.Settled.{Settles, settles}
+use Rattle.evm_model.specs.declared.task.Task.{Task}
+use Rattle.evm_model.specs.declared.task.TaskState.TheVariants.{Faulted}
+use Rattle.evm_model.proofs.Lists.{length-change, slice_get-each, length-each_from}
+use Rattle.evm_runs.specs.Changes.{StoreWrites, Stays, Spends, Schedules, Hears, StepChanges, Added, Typed}
+use Rattle.evm_runs.proofs.Added.{SameCounts, more_tasks, more_harts, few_more, each_more, added_rests, added_spent, passes_added, others_pipes, spends_pipes, added_pipes}
+use Rattle.evm_runs.proofs.Calling.{Acts, Asked, Called, acts_own, calls}
+use Rattle.evm_runs.proofs.Frames.{Frame, Keeps, one_change, frame_none, frame_then, frame_wider, frame_processor, frame_pipe, keeps_advance, keeps_register_pc, keeps_answer}
+use Rattle.evm_runs.proofs.Own.{own_then, own_hart, own_processor, own_end, own_demote}
+use Rattle.evm_runs.proofs.Settled.{Settles, Same, settles, own_settles}
+use Rattle.evm_runs.proofs.Spending.{frame_spent}
 
 -- ---- an instruction
 -- an effect has written memory
@@ -41,20 +49,29 @@ record Wrote (effect : Effect) (old new : Memory) : Type 0 where
   stores : effect ≡ Store width address value
   ram : write_at old.ram address width value ≡ Some new.ram
 
--- a task of c has done an effect
+-- a task of c has done an effect, by which a task may have another class
 record Does (effect : Effect) (c t : ℕ) (old new : Board) : Type 0 where
-  acts : Acts c t old.parts new.parts
+  asked : List Task
+  scheduled : (asked ≡ old.parts.tasks) ⊎ ((effect ≡ Call) × Asked t old.parts asked)
+  acts : Acts c t (record old.parts { tasks = asked }) new.parts
   breakpoints : new.breakpoints ≡ old.breakpoints
   memory : (new.memory ≡ old.memory) ⊎ Wrote effect old.memory new.memory
 
 parts_only : (effect : Effect) (c t : ℕ) (k : Parts) (b : Board) → Acts c t b.parts k → Does effect c t b (record b { parts = k })
-parts_only effect c t k b h = record { acts = h; breakpoints = refl; memory = inl refl }
+parts_only effect c t k b h = record { asked = b.parts.tasks; scheduled = inl refl; acts = h; breakpoints = refl; memory = inl refl }
 
 on_own : (c t : ℕ) (f : Hart → Hart) (k : Parts) → Keeps f → Acts c t k (on_hart t f k)
-on_own c t f k g = acts_still c t k _ (frame_hart c t f k g) (still_hart t f k)
+on_own c t f k g = acts_own c t k _ (own_hart c t f k g)
+
+faults_if : (oob : Bool) (c t : ℕ) (f : Fault) (k : Parts) → Acts c t k (if oob then demote c t k else end_task c t (Faulted f) k)
+faults_if true c t f k = acts_own c t k _ (own_demote c t k)
+faults_if false c t f k = acts_own c t k _ (own_end c t (Faulted f) k)
+
+faults : (c t : ℕ) (f : Fault) (k : Parts) → Acts c t k (fault c t f k)
+faults c t f k = faults_if (is_oob (Some t) k.tasks) c t f k
 
 loads : (effect : Effect) (c t : ℕ) (o : Option ℕ) (op : LoadOp) (rd : ℕ) (b : Board) → Does effect c t b (finish_load o op rd c t b)
-loads effect c t None op rd b = parts_only effect c t _ b (ends c t _ b.parts)
+loads effect c t None op rd b = parts_only effect c t _ b (faults c t _ b.parts)
 loads effect c t (Some n) op rd b = parts_only effect c t _ b (on_own c t _ b.parts (keeps_answer rd _))
 
 with_ram-some : (o : Option (List ℕ)) (old new : Memory) → with_ram o old ≡ Some new → o ≡ Some new.ram
@@ -62,11 +79,25 @@ with_ram-some None old new e = cc
 with_ram-some (Some ram) old new e = let same : record old { ram = ram } ≡ new = cc in ap Some (ap (λ (m : Memory). m.ram) same)
 
 stores : (width : Width) (address value c t : ℕ) (o : Option Memory) (b : Board) → write address width value b.memory ≡ o → Does (Store width address value) c t b (finish_store o c t b)
-stores width address value c t None b e = parts_only _ c t _ b (ends c t _ b.parts)
+stores width address value c t None b e = parts_only _ c t _ b (faults c t _ b.parts)
 stores width address value c t (Some memory) b e = record {
+  asked = b.parts.tasks;
+  scheduled = inl refl;
   acts = on_own c t advance b.parts keeps_advance;
   breakpoints = refl;
   memory = inr (record { width = width; address = address; value = value; stores = refl; ram = with_ram-some (write_at b.memory.ram address width value) b.memory memory e });
+}
+
+calls_done : (c t : ℕ) (k : Parts) (b : Board) → Called c t b.parts k → Does Call c t b (record b { parts = k })
+calls_done c t k b p = record {
+  asked = p.asked;
+  scheduled = elim p.scheduled [
+    | inl same ↦ inl same
+    | inr a ↦ inr (refl, a)
+  ];
+  acts = p.acts;
+  breakpoints = refl;
+  memory = inl refl;
 }
 
 effects : (effect : Effect) (c t : ℕ) (b : Board) → Does effect c t b (finish effect c t b)
@@ -74,13 +105,12 @@ unfolding finish stop
 effects (Next rd value pc) c t b = parts_only _ c t _ b (on_own c t _ b.parts (keeps_register_pc rd value pc))
 effects (Load op rd address) c t b = loads _ c t (read address (width_of_load op) b.memory) op rd b
 effects (Store width address value) c t b = stores width address value c t (write address width value b.memory) b refl
-effects Call c t b = parts_only _ c t _ b (calls (length b.memory.ram) c t b.parts)
+effects Call c t b = calls_done c t (call (length b.memory.ram) c t b.parts) b (calls (length b.memory.ram) c t b.parts)
 effects Break c t b =
     let went : Parts = on_hart t advance b.parts in
     parts_only _ c t _ b
-    (acts_still c t b.parts _ (frame_then c (Some t) b.parts went _ (frame_hart c t advance b.parts keeps_advance) (frame_processor c (Some t) _ went))
-    (still_then b.parts went _ (still_hart t advance b.parts) (still_processor c _ went)))
-effects Misaligned c t b = parts_only _ c t _ b (ends c t _ b.parts)
+    (acts_own c t b.parts _ (own_then c t b.parts went _ (own_hart c t advance b.parts keeps_advance) (own_processor c t _ went (λ p. refl))))
+effects Misaligned c t b = parts_only _ c t _ b (faults c t _ b.parts)
 
 -- the word at the pc has written memory
 record Executed (hart : Hart) (old new : Memory) : Type 0 where
@@ -90,17 +120,33 @@ record Executed (hart : Hart) (old new : Memory) : Type 0 where
   decodes : decoded word ≡ Some inst
   wrote : Wrote (does inst hart.regs hart.pc) old new
 
+-- the word at the pc has asked for another class of a task
+record Asks (hart : Hart) (t : ℕ) (old : Board) (asked : List Task) : Type 0 where
+  word : ℕ
+  inst : Inst
+  fetched : fetch hart.pc old.memory ≡ Some word
+  decodes : decoded word ≡ Some inst
+  calls : does inst hart.regs hart.pc ≡ Call
+  call : Asked t old.parts asked
+
 record Executes (hart : Hart) (c t : ℕ) (old new : Board) : Type 0 where
-  acts : Acts c t old.parts new.parts
+  asked : List Task
+  scheduled : (asked ≡ old.parts.tasks) ⊎ Asks hart t old asked
+  acts : Acts c t (record old.parts { tasks = asked }) new.parts
   breakpoints : new.breakpoints ≡ old.breakpoints
   memory : (new.memory ≡ old.memory) ⊎ Executed hart old.memory new.memory
 
 quietly : (hart : Hart) (c t : ℕ) (k : Parts) (b : Board) → Acts c t b.parts k → Executes hart c t b (record b { parts = k })
-quietly hart c t k b h = record { acts = h; breakpoints = refl; memory = inl refl }
+quietly hart c t k b h = record { asked = b.parts.tasks; scheduled = inl refl; acts = h; breakpoints = refl; memory = inl refl }
 
 insts : (word : ℕ) (o : Option Inst) (hart : Hart) (c t : ℕ) (b : Board) → fetch hart.pc b.memory ≡ Some word → decoded word ≡ o → Executes hart c t b (execute_inst o hart c t b)
-insts word None hart c t b f e = quietly hart c t _ b (ends c t _ b.parts)
+insts word None hart c t b f e = quietly hart c t _ b (faults c t _ b.parts)
 insts word (Some inst) hart c t b f e = let d = effects (does inst hart.regs hart.pc) c t b in record {
+  asked = d.asked;
+  scheduled = elim d.scheduled [
+    | inl same ↦ inl same
+    | inr a ↦ inr (record { word = word; inst = inst; fetched = f; decodes = e; calls = a.0; call = a.1 })
+  ];
   acts = d.acts;
   breakpoints = d.breakpoints;
   memory = elim d.memory [
@@ -110,7 +156,7 @@ insts word (Some inst) hart c t b f e = let d = effects (does inst hart.regs har
 }
 
 words : (o : Option ℕ) (hart : Hart) (c t : ℕ) (b : Board) → fetch hart.pc b.memory ≡ o → Executes hart c t b (execute_word o hart c t b)
-words None hart c t b f = quietly hart c t _ b (ends c t _ b.parts)
+words None hart c t b f = quietly hart c t _ b (faults c t _ b.parts)
 words (Some word) hart c t b f = insts word (decoded word) hart c t b f refl
 
 executes : (hart : Hart) (c t : ℕ) (b : Board) → Executes hart c t b (execute hart c t b)
@@ -118,13 +164,28 @@ unfolding execute
 executes hart c t b = words (fetch hart.pc b.memory) hart c t b refl
 
 -- ---- a step
--- what a step has changed before it tells the others
+-- what a step has changed before it settles
 record Before (c : ℕ) (old new : Board) : Type 0 where
-  frame : Frame c (current c old.parts) old.parts new.parts
+  asked : List Task
+  scheduled : (asked ≡ old.parts.tasks) ⊎ Schedules c old asked
+  frame : Frame c (current c old.parts) (record old.parts { tasks = asked }) new.parts
   added : Added old.parts new.parts
   typed : Typed old.parts new.parts
   breakpoints : new.breakpoints ≡ old.breakpoints
   memory : (new.memory ≡ old.memory) ⊎ StoreWrites c old new
+  runs : current c new.parts ≡ current c old.parts
+  hears : Hears c old.parts → (asked ≡ old.parts.tasks) × Same c old.parts new.parts
+
+-- .. and before it tells the others
+record After (c : ℕ) (old new : Board) : Type 0 where
+  asked : List Task
+  scheduled : (asked ≡ old.parts.tasks) ⊎ Schedules c old asked
+  frame : Frame c (current c old.parts) (record old.parts { tasks = asked }) new.parts
+  added : Added old.parts new.parts
+  typed : Typed old.parts new.parts
+  breakpoints : new.breakpoints ≡ old.breakpoints
+  memory : (new.memory ≡ old.memory) ⊎ StoreWrites c old new
+  hears : Hears c old.parts → (asked ≡ old.parts.tasks) × ((t : ℕ) → current c old.parts ≡ Some t → Stays c t old.parts new.parts ⊎ Spends c t old.parts new.parts)
 
 pub record StepDone (c : ℕ) (old new : Board) : Type 0 where
   pub changes : StepChanges c old new
@@ -134,9 +195,17 @@ ram_count : (c : ℕ) (old new : Board) → (new.memory ≡ old.memory) ⊎ Stor
 ram_count c old new (inl same) = ap (λ (m : Memory). length m.ram) same
 ram_count c old new (inr w) = length-write_at old.memory.ram w.address w.width w.value new.memory.ram w.ram
 
+rests_same : (c t : ℕ) (old new : Parts) → Same c old new → Stays c t old new
+rests_same c t old new s = inl (record {
+  task = λ task e. ap (λ (all : List Task). slice_get all t) s.tasks ∙ e;
+  hart = λ hart e. ap (λ (all : List Hart). slice_get all t) s.harts ∙ e;
+})
+
 quiet_step : (c : ℕ) (old new : Board) → Before c old new → StepDone c old new
 quiet_step c old new h = record {
   changes = record {
+    asked = h.asked;
+    scheduled = h.scheduled;
     breakpoints = h.breakpoints;
     memory = h.memory;
     ticks = h.frame.ticks;
@@ -144,6 +213,7 @@ quiet_step c old new h = record {
     processors = h.frame.processors;
     pipes = λ d other. inl (h.frame.pipes d other);
     others = h.frame.others;
+    hears = λ line. let quiet = h.hears line in (quiet.0, λ t runs. inl (rests_same c t old.parts new.parts quiet.1));
     added = h.added;
     typed = h.typed;
   };
@@ -187,10 +257,12 @@ same_writes c f old new (inr w) = inr (record {
   ram = w.ram;
 })
 
-nudged_step : (c : ℕ) (old new : Board) → Before c old new → StepDone c old (on_parts (nudge c) new)
+nudged_step : (c : ℕ) (old new : Board) → After c old new → StepDone c old (on_parts (nudge c) new)
 unfolding nudge
 nudged_step c old new h = let k : Parts = new.parts in record {
   changes = record {
+    asked = h.asked;
+    scheduled = h.scheduled;
     breakpoints = h.breakpoints;
     memory = same_writes c (nudge c) old new h.memory;
     ticks = h.frame.ticks;
@@ -203,7 +275,8 @@ nudged_step c old new h = let k : Parts = new.parts in record {
           | inl same ↦ inl (at ∙ same ∙ before)
           | inr raised ↦ inr (at ∙ raised ∙ ap (option_map (raise 1)) before)
         ];
-    others = λ t other. others_pipes c t old.parts k (each (nudge_pipe c k) k.pipes) (h.frame.others t other);
+    others = λ t other. others_pipes c t (record old.parts { tasks = h.asked }) k (each (nudge_pipe c k) k.pipes) (h.frame.others t other);
+    hears = λ line. let quiet = h.hears line in (quiet.0, λ t runs. spends_pipes c t old.parts k (each (nudge_pipe c k) k.pipes) (quiet.1 t runs));
     added = added_pipes old.parts k (each (nudge_pipe c k) k.pipes) h.added;
     typed = h.typed;
   };
@@ -223,31 +296,92 @@ nudged_step c old new h = let k : Parts = new.parts in record {
 settled_step : (c : ℕ) (old new : Board) → Before c old new → StepDone c old (on_parts (settle_and_nudge c) new)
 unfolding settle_and_nudge
 settled_step c old new h =
-    let s : Settles c new.parts (settle c new.parts) = settles c new.parts in
+    let k : Parts = new.parts in
+    let s : Settles c k (settle c k) = settles c k in
+    let o : Option ℕ = current c old.parts in
+    let asked : Parts = record old.parts { tasks = h.asked } in
     nudged_step c old (on_parts (settle c) new) (record {
-      frame = frame_then c (current c old.parts) old.parts new.parts (settle c new.parts) h.frame (frame_wider c (current c old.parts) new.parts (settle c new.parts) s.frame);
-      added = added_rests c old.parts new.parts (settle c new.parts) s.frame s.still h.added;
+      asked = h.asked;
+      scheduled = h.scheduled;
+      frame = frame_then c o asked k (settle c k) h.frame (frame_then c o k s.between (settle c k) (frame_spent c o k s.between h.runs s.spent) (frame_wider c o s.between (settle c k) s.frame));
+      added = added_rests c old.parts s.between (settle c k) s.frame s.still (added_spent c old.parts k s.between s.spent h.added);
       typed = elim h.typed [
-        | inl same ↦ inl (s.still.console ∙ same)
-        | inr more ↦ inr (more.0, s.still.console ∙ more.1)
+        | inl same ↦ inl (s.still.console ∙ s.spent.console ∙ same)
+        | inr more ↦ inr (more.0, s.still.console ∙ s.spent.console ∙ more.1)
       ];
       breakpoints = h.breakpoints;
       memory = same_writes c (settle c) old new h.memory;
+      hears = λ line. let quiet = h.hears line in (quiet.0, λ t runs. own_settles c t old.parts k (settle c k) quiet.1 s);
     })
 
+same_all : (c : ℕ) (k : Parts) → Same c k k
+same_all c k = record { tasks = refl; harts = refl; stamps = omega arith; runs = refl }
+
+-- no task changes, nor memory
+no_task : (c : ℕ) (k : Parts) (b : Board) → Frame c (current c b.parts) b.parts k → Added b.parts k → Typed b.parts k → Same c b.parts k → Before c b (record b { parts = k })
+no_task c k b f a y s = record {
+  asked = b.parts.tasks;
+  scheduled = inl refl;
+  frame = f;
+  added = a;
+  typed = y;
+  breakpoints = refl;
+  memory = inl refl;
+  runs = s.runs;
+  hears = λ line. (refl, s);
+}
+
 none_yet : (c : ℕ) (b : Board) → Before c b b
-none_yet c b = record { frame = frame_none c (current c b.parts) b.parts; added = inl (refl, refl); typed = inl refl; breakpoints = refl; memory = inl refl }
+none_yet c b = no_task c b.parts b (frame_none c (current c b.parts) b.parts) (inl (refl, refl)) (inl refl) (same_all c b.parts)
 
-on_processor_only : (c : ℕ) (f : Processor → Processor) (b : Board) → Before c b (on_parts (on_processor c f) b)
-on_processor_only c f b = record { frame = frame_processor c (current c b.parts) f b.parts; added = inl (refl, refl); typed = inl refl; breakpoints = refl; memory = inl refl }
+on_processor_only : (c : ℕ) (f : Processor → Processor) (b : Board) → ((p : Processor) → (f p).current ≡ p.current) → Before c b (on_parts (on_processor c f) b)
+on_processor_only c f b h =
+    no_task c (on_processor c f b.parts) b (frame_processor c (current c b.parts) f b.parts) (inl (refl, refl)) (inl refl)
+    (record { tasks = refl; harts = refl; stamps = omega arith; runs = (own_processor c 0 f b.parts h).runs })
 
-run_done : (hart : Hart) (c t : ℕ) (b : Board) → current c b.parts ≡ Some t → slice_get b.parts.harts t ≡ Some hart → StepDone c b (run hart c t b).0
-run_done hart c t b r e =
-    let passed : Board = on_parts (on_processor c (λ p. record p { skip = false })) b in
+asked_count : (c t : ℕ) (hart : Hart) (b : Board) (asked : List Task) → (asked ≡ b.parts.tasks) ⊎ Asks hart t b asked → length asked ≡ length b.parts.tasks
+asked_count c t hart b asked (inl same) = ap length same
+asked_count c t hart b asked (inr a) = ap length a.call.tasks ∙ length-change _ b.parts.tasks (argument 0 a.call.hart)
+
+asks_schedules : (hart : Hart) (c t : ℕ) (b : Board) (k : Parts) (asked : List Task) → current c b.parts ≡ Some t → slice_get b.parts.harts t ≡ Some hart → k.tasks ≡ b.parts.tasks → k.harts ≡ b.parts.harts
+    → (asked ≡ k.tasks) ⊎ Asks hart t (record b { parts = k }) asked → (asked ≡ b.parts.tasks) ⊎ Schedules c b asked
+asks_schedules hart c t b k asked runs has same harts (inl none) = inl (none ∙ same)
+asks_schedules hart c t b k asked runs has same harts (inr a) =
+    let its : Hart = a.call.hart in
+    let two : Some hart ≡ Some its = sym has ∙ ap (λ (all : List Hart). slice_get all t) (sym harts) ∙ a.call.has in
+    let one : hart ≡ its = cc in
+    let change_to : Task → Task = λ task. record task { class = a.call.class; priority = argument 2 its; slice = SLICE } in
+    inr (record {
+      task = t;
+      hart = its;
+      word = a.word;
+      inst = a.inst;
+      class = a.call.class;
+      runs = runs;
+      has = has ∙ ap Some one;
+      on = rw same at a.call.on;
+      fetched = rw one at a.fetched;
+      decodes = a.decodes;
+      calls = rw one at a.calls;
+      number = a.call.number;
+      live = rw same at a.call.live;
+      policy = a.call.policy;
+      tasks = rw (a.call.tasks, same) (one_change (argument 0 its) change_to b.parts.tasks);
+    })
+
+run_done : (hart : Hart) (c t : ℕ) (b : Board) → (Hears c b.parts → ⊥) → current c b.parts ≡ Some t → slice_get b.parts.harts t ≡ Some hart → StepDone c b (run hart c t b).0
+run_done hart c t b deaf r e =
+    let skips : Processor → Processor = λ p. record p { skip = false } in
+    let passed : Board = on_parts (on_processor c skips) b in
+    let new : Board = execute hart c t passed in
     let x = executes hart c t passed in
-    settled_step c b (execute hart c t passed) (record {
-      frame = rw r (frame_then c (Some t) b.parts passed.parts (execute hart c t passed).parts (frame_processor c (Some t) _ b.parts) x.acts.frame);
-      added = passes_added b.parts passed.parts (execute hart c t passed).parts refl refl x.acts.added;
+    let before : Parts = record b.parts { tasks = x.asked } in
+    let between : Parts = record passed.parts { tasks = x.asked } in
+    settled_step c b new (record {
+      asked = x.asked;
+      scheduled = asks_schedules hart c t b passed.parts x.asked r e refl refl x.scheduled;
+      frame = rw r (frame_then c (Some t) before between new.parts (frame_processor c (Some t) skips before) x.acts.frame);
+      added = passes_added b.parts between new.parts (asked_count c t hart passed x.asked x.scheduled) refl x.acts.added;
       typed = x.acts.typed;
       breakpoints = x.breakpoints;
       memory = elim x.memory [
@@ -269,33 +403,47 @@ run_done hart c t b r e =
           ram = w.wrote.ram;
         })
       ];
+      runs = x.acts.runs ∙ (own_processor c t skips b.parts (λ p. refl)).runs;
+      hears = λ line. absurd (deaf line);
     })
 
 either_done : (c : ℕ) (old : Board) (x y : Board × Answer) (b : Bool) → StepDone c old x.0 → StepDone c old y.0 → StepDone c old (if b then x else y).0
 either_done c old x y true p q = p
 either_done c old x y false p q = q
 
-hart_done : (o : Option Hart) (p : Processor) (c t : ℕ) (b : Board) → current c b.parts ≡ Some t → slice_get b.parts.harts t ≡ o → StepDone c b (step_hart o p c t b).0
+hart_done : (o : Option Hart) (p : Processor) (c t : ℕ) (b : Board) → (Hears c b.parts → ⊥) → current c b.parts ≡ Some t → slice_get b.parts.harts t ≡ o → StepDone c b (step_hart o p c t b).0
 unfolding stop
-hart_done None p c t b r e = quiet_step c b b (none_yet c b)
-hart_done (Some hart) p c t b r e = either_done c b _ (run hart c t b) (is_set b.breakpoints hart.pc && not p.skip)
-    (quiet_step c b _ (on_processor_only c _ b)) (run_done hart c t b r e)
+hart_done None p c t b deaf r e = quiet_step c b b (none_yet c b)
+hart_done (Some hart) p c t b deaf r e = either_done c b _ (run hart c t b) (is_set b.breakpoints hart.pc && not p.skip)
+    (quiet_step c b _ (on_processor_only c _ b (λ p. refl))) (run_done hart c t b deaf r e)
 
-current_done : (o : Option ℕ) (p : Processor) (c : ℕ) (b : Board) → current c b.parts ≡ o → StepDone c b (step_current o p c b).0
-current_done None p c b r = settled_step c b b (none_yet c b)
-current_done (Some t) p c b r = hart_done (slice_get b.parts.harts t) p c t b r refl
+current_done : (o : Option ℕ) (p : Processor) (c : ℕ) (b : Board) → (Hears c b.parts → ⊥) → current c b.parts ≡ o → StepDone c b (step_current o p c b).0
+current_done None p c b deaf r = settled_step c b b (none_yet c b)
+current_done (Some t) p c b deaf r = hart_done (slice_get b.parts.harts t) p c t b deaf r refl
 
-wire_done : (o : Option ℕ) (p : Processor) (c : ℕ) (b : Board) → current c b.parts ≡ p.current → StepDone c b (step_wire o p c b).0
-wire_done None p c b r = current_done p.current p c b r
-wire_done (Some l) p c b r = settled_step c b (on_parts (on_pipe c (receive l)) b) (record { frame = frame_pipe c (current c b.parts) (receive l) b.parts; added = inl (refl, refl); typed = inl refl; breakpoints = refl; memory = inl refl })
+no_line : (set : List ℕ) (l : ℕ) → least_line set ≡ None → has_line set l ≡ true → ⊥
+no_line [] l e h = cc
+no_line (x ∷ xs) l e h = cc
 
-pipe_done : (o : Option Pipe) (p : Processor) (c : ℕ) (b : Board) → current c b.parts ≡ p.current → StepDone c b (step_pipe o p c b).0
-pipe_done None p c b r = quiet_step c b b (none_yet c b)
-pipe_done (Some pipe) p c b r = wire_done (least_line pipe.wire) p c b r
+is_deaf : (c : ℕ) (pipe : Pipe) (k : Parts) → slice_get k.pipes c ≡ Some pipe → least_line pipe.wire ≡ None → Hears c k → ⊥
+is_deaf c pipe k e w h =
+    let two : Some h.pipe ≡ Some pipe = sym h.there ∙ e in
+    let same : h.pipe ≡ pipe = cc in
+    no_line pipe.wire h.line w (rw same at h.on)
+
+wire_done : (o : Option ℕ) (pipe : Pipe) (p : Processor) (c : ℕ) (b : Board) → slice_get b.parts.pipes c ≡ Some pipe → least_line pipe.wire ≡ o → current c b.parts ≡ p.current → StepDone c b (step_wire o p c b).0
+wire_done None pipe p c b e w r = current_done p.current p c b (is_deaf c pipe b.parts e w) r
+wire_done (Some l) pipe p c b e w r = settled_step c b (on_parts (on_pipe c (receive l)) b)
+    (no_task c (on_pipe c (receive l) b.parts) b (frame_pipe c (current c b.parts) (receive l) b.parts) (inl (refl, refl)) (inl refl)
+    (record { tasks = refl; harts = refl; stamps = omega arith; runs = refl }))
+
+pipe_done : (o : Option Pipe) (p : Processor) (c : ℕ) (b : Board) → slice_get b.parts.pipes c ≡ o → current c b.parts ≡ p.current → StepDone c b (step_pipe o p c b).0
+pipe_done None p c b e r = quiet_step c b b (none_yet c b)
+pipe_done (Some pipe) p c b e r = wire_done (least_line pipe.wire) pipe p c b e refl r
 
 processor_done : (o : Option Processor) (c : ℕ) (b : Board) → slice_get b.parts.processors c ≡ o → StepDone c b (step_processor o c b).0
 processor_done None c b e = quiet_step c b b (none_yet c b)
-processor_done (Some p) c b e = either_done c b (b, Stopped) _ p.stopped (quiet_step c b b (none_yet c b)) (pipe_done (slice_get b.parts.pipes c) p c b (ap current_of e))
+processor_done (Some p) c b e = either_done c b (b, Stopped) _ p.stopped (quiet_step c b b (none_yet c b)) (pipe_done (slice_get b.parts.pipes c) p c b refl (ap current_of e))
 
 pub step_done : (c : ℕ) (b : Board) → StepDone c b (step c b).0
 unfolding step

@@ -4,28 +4,32 @@ use Rattle.evm_lines.specs.Lines.{has_line, with_line}
 use Rattle.evm_isa.specs.Decoded.{decoded}
 use Rattle.evm_isa.specs.declared.inst.Inst.{Inst}
 use Rattle.evm_exec.specs.Does.{does}
-use Rattle.evm_exec.specs.Registers.{with_register}
+use Rattle.evm_exec.specs.Registers.{register_of, with_register}
 use Rattle.evm_exec.specs.declared.hart.Hart.{Hart}
-use Rattle.evm_exec.specs.declared.outcome.Effect.TheVariants.{Store}
+use Rattle.evm_exec.specs.declared.outcome.Effect.TheVariants.{Store, Call}
 use Rattle.evm_ram.specs.Ram.{poke_at, write_at}
 use Rattle.evm_ram.specs.declared.width.Width.{Width}
 use Rattle.evm_model.specs.InBandCalls.{last_bytes}
 use Rattle.evm_model.specs.Commands.{is_set}
-use Rattle.evm_model.specs.Harts.{A0, set_register, spawned_hart}
+use Rattle.evm_model.specs.Harts.{A0, A7, argument, set_register, spawned_hart}
 use Rattle.evm_model.specs.Memory.{fetch}
+use Rattle.evm_model.specs.OobCalls.{is_scheduled_task}
 use Rattle.evm_model.specs.Pipes.{Pipe, raise}
+use Rattle.evm_model.specs.Policies.{policy_of}
 use Rattle.evm_model.specs.Replay.{apply}
 use Rattle.evm_model.specs.Rows.{step}
-use Rattle.evm_model.specs.Settle.{current}
+use Rattle.evm_model.specs.Settle.{current, is_oob}
 use Rattle.evm_model.specs.State.{State, Board, Parts, new_task}
 use Rattle.evm_model.specs.declared.event.Answer.{Answer}
 use Rattle.evm_model.specs.declared.event.Answer.TheVariants.{Done}
 use Rattle.evm_model.specs.declared.event.Event.{Event}
 use Rattle.evm_model.specs.declared.event.Event.TheVariants.{Step, Tick, Raise, Bell, Stop, Go, StepI, SetReg, SetPc, Poke, Break, Unbreak}
-use Rattle.evm_model.specs.declared.limits.TheConstants.{TASK_LIMIT}
+use Rattle.evm_model.specs.declared.limits.TheConstants.{SLICE, TASK_LIMIT}
 use Rattle.evm_model.specs.declared.processor.Processor.{Processor}
+use Rattle.evm_model.specs.declared.task.Class.{Class}
+use Rattle.evm_model.specs.declared.task.Class.TheVariants.{RoundRobin}
 use Rattle.evm_model.specs.declared.task.Task.{Task}
-use Rattle.evm_model.specs.declared.task.TaskState.TheVariants.{InReady, Waits}
+use Rattle.evm_model.specs.declared.task.TaskState.TheVariants.{InReady, OobReady, Waits}
 use Rattle.evm_model.specs.declared.task.Wait.TheVariants.{Line}
 
 -- the i-th of a list is changed so, and no other
@@ -111,6 +115,48 @@ pub record Wakes (c t : ℕ) (old new : Parts) : Type 0 where
   pub wakes : slice_get new.tasks t ≡ Some (record task { stamp = stamp; state = InReady })
   pub hart : (hart : Hart) → slice_get old.harts t ≡ Some hart → slice_get new.harts t ≡ Some (set_register A0 0 hart)
 
+-- .. one of the two
+abbrev pub Stays : ℕ → ℕ → Parts → Parts → Type 0
+Stays c t old new = Rests t old new ⊎ Wakes c t old new
+
+-- task t, current on c, is ready out-of-band and of the round-robin class, and spends its slice: there is less of it with the stamp of before, or with a later stamp a whole one at most; nothing else of the task is another
+pub record Spends (c t : ℕ) (old new : Parts) : Type 0 where
+  pub task : Task
+  pub slice : ℕ
+  pub stamp : ℕ
+  pub runs : current c old ≡ Some t
+  pub there : slice_get old.tasks t ≡ Some task
+  pub on : task.state ≡ OobReady
+  pub robin : task.class ≡ RoundRobin
+  pub left : ((stamp ≡ task.stamp) × (slice < task.slice)) ⊎ ((old.stamps ≤ stamp) × (slice ≤ SLICE))
+  pub spends : slice_get new.tasks t ≡ Some (record task { slice = slice; stamp = stamp })
+  pub hart : (hart : Hart) → slice_get old.harts t ≡ Some hart → slice_get new.harts t ≡ Some hart
+
+-- the current task of c, which is out-of-band, makes call 34: the task that its a0 names, one that has not ended and has a class, has the class and the priority of its a1 and a2 and a whole slice, and these are the tasks then
+pub record Schedules (c : ℕ) (old : Board) (asked : List Task) : Type 0 where
+  pub task : ℕ
+  pub hart : Hart
+  pub word : ℕ
+  pub inst : Inst
+  pub class : Class
+  pub runs : current c old.parts ≡ Some task
+  pub has : slice_get old.parts.harts task ≡ Some hart
+  pub on : is_oob (Some task) old.parts.tasks ≡ true
+  pub fetched : fetch hart.pc old.memory ≡ Some word
+  pub decodes : decoded word ≡ Some inst
+  pub calls : does inst hart.regs hart.pc ≡ Call
+  pub number : register_of hart.regs A7 ≡ 34
+  pub live : is_scheduled_task (slice_get old.parts.tasks (argument 0 hart)) ≡ true
+  pub policy : policy_of (argument 1 hart) (argument 2 hart) ≡ Some class
+  pub tasks : OneChanges (argument 0 hart) (λ task. record task { class = class; priority = argument 2 hart; slice = SLICE }) old.parts.tasks asked
+
+-- a line is on the wire of c
+pub record Hears (c : ℕ) (k : Parts) : Type 0 where
+  pub pipe : Pipe
+  pub line : ℕ
+  pub there : slice_get k.pipes c ≡ Some pipe
+  pub on : has_line pipe.wire line ≡ true
+
 -- there is one task more, the last: unattached, ready in-band, its registers zero but for a0
 pub record Adds (old new : Parts) : Type 0 where
   pub cpu : ℕ
@@ -131,15 +177,20 @@ Added old new = ((length new.tasks ≡ length old.tasks) × (length new.harts �
 abbrev pub Typed : Parts → Parts → Type 0
 Typed old new = (new.console ≡ old.console) ⊎ ((byte : ℕ) × (new.console ≡ last_bytes (old.console ++ byte ∷ [])))
 
--- a step of c changes RAM only by a store; of the tasks it changes the one that was current on c, wakes such as waited there for a line, and adds one at most; of other processors it changes only that line 1 may be raised there
+-- a step of c changes RAM only by a store; of the tasks it changes the one that was current on c, the one that it calls to have another class, such as waited on c for a line, which wake, and adds one at most; of other processors it changes only that line 1 may be raised there
 pub record StepChanges (c : ℕ) (old new : Board) : Type 0 where
+  -- the tasks, but that one may have another class
+  pub asked : List Task
+  pub scheduled : (asked ≡ old.parts.tasks) ⊎ Schedules c old asked
   pub breakpoints : new.breakpoints ≡ old.breakpoints
   pub memory : (new.memory ≡ old.memory) ⊎ StoreWrites c old new
   pub ticks : new.parts.ticks ≡ old.parts.ticks
   pub stamps : old.parts.stamps ≤ new.parts.stamps
   pub processors : (d : ℕ) → (d ≡ c → ⊥) → slice_get new.parts.processors d ≡ slice_get old.parts.processors d
   pub pipes : (d : ℕ) → (d ≡ c → ⊥) → (slice_get new.parts.pipes d ≡ slice_get old.parts.pipes d) ⊎ (slice_get new.parts.pipes d ≡ option_map (raise 1) (slice_get old.parts.pipes d))
-  pub others : (t : ℕ) → (current c old.parts ≡ Some t → ⊥) → Rests t old.parts new.parts ⊎ Wakes c t old.parts new.parts
+  pub others : (t : ℕ) → (current c old.parts ≡ Some t → ⊥) → Stays c t (record old.parts { tasks = asked }) new.parts
+  -- where a line is on the wire the current task too stays, or its slice is spent
+  pub hears : Hears c old.parts → (asked ≡ old.parts.tasks) × ((t : ℕ) → current c old.parts ≡ Some t → Stays c t old.parts new.parts ⊎ Spends c t old.parts new.parts)
   pub added : Added old.parts new.parts
   pub typed : Typed old.parts new.parts
 

@@ -28,8 +28,10 @@ pub fn counts_fit()
 {}
 
 /// An accepted event is in the journal afterwards. A command answers Done, and changes only the place that it
-/// names. A step changes RAM only by a store; of the tasks it changes the one that was current, wakes such as
-/// waited there for a line, and adds one at most; of the other processors only line 1 may be raised.
+/// names. A step changes RAM only by a store; of the tasks it changes the one that was current, gives another class
+/// to the one for which that task asks it by call 34, wakes such as waited there for a line, and adds one at most;
+/// of the other processors only line 1 may be raised. Where a line is on the wire, of the task that was current at
+/// most the slice is spent.
 pub fn events_change_only()
     ensures { EventsChangeOnly }
 {}

@@ -18,7 +18,7 @@ use Rattle.evm_exec.specs.declared.outcome.Effect.TheVariants.{Next, Load, Store
 use Rattle.evm_model.specs.Bounds.{PER_EVENT}
 use Rattle.evm_model.specs.Commands.{tick, set_bits, on_number, is_set, set_breakpoint, unset_breakpoint}
 use Rattle.evm_model.specs.Harts.{advance}
-use Rattle.evm_model.specs.Instructions.{stop, finish, finish_load, finish_store, execute, execute_inst, execute_word}
+use Rattle.evm_model.specs.Instructions.{fault, stop, finish, finish_load, finish_store, execute, execute_inst, execute_word}
 use Rattle.evm_model.specs.Lists.{each}
 use Rattle.evm_model.specs.Memory.{fetch, read, write}
 use Rattle.evm_model.specs.Pipes.{Pipe, raise, receive}
@@ -29,6 +29,7 @@ use Rattle.evm_model.specs.State.{Board, Memory, Parts, on_hart, on_processor, o
 use Rattle.evm_model.specs.declared.event.Answer.{Answer}
 use Rattle.evm_model.specs.declared.event.Answer.TheVariants.{Stopped}
 use Rattle.evm_model.specs.declared.event.Event.{Event}
+use Rattle.evm_model.specs.declared.fault.Fault.{Fault}
 use Rattle.evm_model.specs.declared.event.Event.TheVariants.{Step, Tick, Raise, Bell, Stop, Go, StepI, SetReg, SetPc, Poke, Break, Unbreak}
 use Rattle.evm_model.specs.declared.processor.Processor.{Processor}
 use Rattle.evm_ram.specs.declared.refusal.Refusal.TheVariants.{NoSuchLine}
@@ -37,7 +38,7 @@ use Rattle.evm_walk.proofs.Moves.{receives, Takes, takes_then, takes_more, takes
 use Rattle.evm_walk.proofs.Playing.{first_on, oob_lines_take, in_band_lines_take}
 use Rattle.evm_walk.proofs.Refused.{passes, is_line}
 use Rattle.evm_walk.proofs.Calls.{call_takes}
-use Rattle.evm_walk.proofs.Tasks.{takes_end}
+use Rattle.evm_walk.proofs.Tasks.{takes_end, takes_demote}
 use Rattle.evm_walk.proofs.Sets.{ArePipes, takes_pipes}
 
 -- a set has as many members at most as there are lines
@@ -101,12 +102,15 @@ stops : (c line : ℕ) (k : Parts) → Takes c line 0 k (stop c k)
 unfolding stop
 stops c line k = takes_processor c line _ k
 
+pub faults : (c t : ℕ) (f : Fault) (k : Parts) → Takes c 1 0 k (fault c t f k)
+faults c t f k = takes_if c 1 0 k _ _ (is_oob (Some t) k.tasks) (takes_demote c t k) (takes_end c t _ k)
+
 loads : (c t : ℕ) (o : Option ℕ) (op : LoadOp) (rd : ℕ) (b : Board) → Takes c 1 0 b.parts (finish_load o op rd c t b).parts
-loads c t None op rd b = takes_end c t _ b.parts
+loads c t None op rd b = faults c t _ b.parts
 loads c t (Some n) op rd b = takes_hart c 1 t _ b.parts
 
 stores : (c t : ℕ) (o : Option Memory) (b : Board) → Takes c 1 0 b.parts (finish_store o c t b).parts
-stores c t None b = takes_end c t _ b.parts
+stores c t None b = faults c t _ b.parts
 stores c t (Some memory) b = takes_hart c 1 t advance b.parts
 
 pub effect_takes : (effect : Effect) (c t : ℕ) (b : Board) → Takes c 1 0 b.parts (finish effect c t b).parts
@@ -116,14 +120,14 @@ effect_takes (Load op rd address) c t b = loads c t (read address (width_of_load
 effect_takes (Store width address value) c t b = stores c t (write address width value b.memory) b
 effect_takes Call c t b = call_takes (length b.memory.ram) c t b.parts
 effect_takes Breaks c t b = takes_then c 1 0 0 0 b.parts (on_hart t advance b.parts) _ (omega arith) (takes_hart c 1 t advance b.parts) (stops c 1 (on_hart t advance b.parts))
-effect_takes Misaligned c t b = takes_end c t _ b.parts
+effect_takes Misaligned c t b = faults c t _ b.parts
 
 inst_takes : (o : Option Inst) (hart : Hart) (c t : ℕ) (b : Board) → Takes c 1 0 b.parts (execute_inst o hart c t b).parts
-inst_takes None hart c t b = takes_end c t _ b.parts
+inst_takes None hart c t b = faults c t _ b.parts
 inst_takes (Some inst) hart c t b = effect_takes (does inst hart.regs hart.pc) c t b
 
 word_takes : (o : Option ℕ) (hart : Hart) (c t : ℕ) (b : Board) → Takes c 1 0 b.parts (execute_word o hart c t b).parts
-word_takes None hart c t b = takes_end c t _ b.parts
+word_takes None hart c t b = faults c t _ b.parts
 word_takes (Some word) hart c t b = inst_takes (decoded word) hart c t b
 
 pub execute_takes : (hart : Hart) (c t : ℕ) (b : Board) → Takes c 1 0 b.parts (execute hart c t b).parts

@@ -1,15 +1,20 @@
 -- What is done to one task is made of moves that touch no pipe.
-use Rattle.std.proofs.Common.{◌≡◌, ℕ, zero, suc, ◌≤◌, [], ◌∷◌, Bool, true, false, length, length-append, refl, ap, ◌∙◌, inl, arith}
-use Rattle.std.specs.Prelude.{slice_get, if◌then◌else◌}
+use Rattle.std.proofs.Common.{◌≡◌, ℕ, zero, suc, ◌-◌, ◌≤◌, [], ◌∷◌, Option, Some, None, Bool, true, false, length, length-append, refl, ap, ◌∙◌, inl, arith}
+use Rattle.std.specs.Prelude.{slice_get, ◌&&◌, nat_le, if◌then◌else◌}
 use Rattle.evm_model.specs.InBandCalls.{add_task}
 use Rattle.evm_model.specs.Harts.{A0, set_register, spawned_hart}
 use Rattle.evm_model.specs.Pipes.{set_stall}
-use Rattle.evm_model.specs.State.{Parts, new_task, on_hart, on_pipe}
-use Rattle.evm_model.specs.Tasks.{restamp, set_state, leave_in_band, end_task, wake_in_band, wake_below, awaits}
-use Rattle.evm_model.specs.declared.stage.Stage.TheVariants.{InBand}
+use Rattle.evm_model.specs.Ranks.{is_oob_ready}
+use Rattle.evm_model.specs.Settle.{current, spend_of, spend_current}
+use Rattle.evm_model.specs.State.{Parts, new_task, on_hart, on_task, on_pipe}
+use Rattle.evm_model.specs.Tasks.{restamp, set_state, leave_in_band, end_task, wake_in_band, demote, promote, set_policy, clear_policy, set_mode_bits, set_slice, is_round_robin, spend_slice, spend_task, wake_below, awaits}
+use Rattle.evm_model.specs.declared.limits.TheConstants.{SLICE}
+use Rattle.evm_model.specs.declared.stage.Stage.{Stage}
+use Rattle.evm_model.specs.declared.stage.Stage.TheVariants.{OutOfBand, InBand}
+use Rattle.evm_model.specs.declared.task.Class.{Class}
 use Rattle.evm_model.specs.declared.task.Task.{Task}
 use Rattle.evm_model.specs.declared.task.TaskState.{TaskState}
-use Rattle.evm_model.specs.declared.task.TaskState.TheVariants.{InReady}
+use Rattle.evm_model.specs.declared.task.TaskState.TheVariants.{InReady, OobReady}
 use Rattle.evm_model.proofs.Lists.{length-change}
 use Rattle.evm_walk.proofs.Moves.{stalls, Takes, takes_once, takes_then, takes_none, takes_if, takes_hart, takes_processor, takes_pipe}
 
@@ -32,6 +37,31 @@ takes_quiet a line k new q = takes_once a line 0 k new (record {
   ticks = λ h. q.ticks;
 })
 
+quiet_none : (k : Parts) → IsQuiet k k
+quiet_none k = record { pipes = refl; processors = refl; ticks = refl; harts_count = omega arith; tasks_count = omega arith }
+
+quiet_then : (x y z : Parts) → IsQuiet x y → IsQuiet y z → IsQuiet x z
+quiet_then x y z p q = record {
+  pipes = q.pipes ∙ p.pipes;
+  processors = q.processors ∙ p.processors;
+  ticks = q.ticks ∙ p.ticks;
+  harts_count = omega (arith, p.harts_count, q.harts_count);
+  tasks_count = omega (arith, p.tasks_count, q.tasks_count);
+}
+
+quiet_if : (b : Bool) (k x y : Parts) → IsQuiet k x → IsQuiet k y → IsQuiet k (if b then x else y)
+quiet_if true k x y p q = p
+quiet_if false k x y p q = q
+
+task_quiet : (t : ℕ) (f : Task → Task) (k : Parts) → IsQuiet k (on_task t f k)
+task_quiet t f k = record {
+  pipes = refl;
+  processors = refl;
+  ticks = refl;
+  harts_count = omega arith;
+  tasks_count = omega (arith, length-change f k.tasks t);
+}
+
 pub restamp_quiet : (t : ℕ) (k : Parts) → IsQuiet k (restamp t k)
 unfolding restamp
 restamp_quiet t k = record {
@@ -44,13 +74,23 @@ restamp_quiet t k = record {
 
 pub state_quiet : (t : ℕ) (state : TaskState) (k : Parts) → IsQuiet k (set_state t state k)
 unfolding set_state
-state_quiet t state k = record {
-  pipes = refl;
-  processors = refl;
-  ticks = refl;
-  harts_count = omega arith;
-  tasks_count = omega (arith, length-change (λ (task : Task). record task { state = state }) k.tasks t);
-}
+state_quiet t state k = task_quiet t _ k
+
+pub policy_quiet : (t : ℕ) (class : Class) (priority : ℕ) (k : Parts) → IsQuiet k (set_policy t class priority k)
+unfolding set_policy
+policy_quiet t class priority k = task_quiet t _ k
+
+pub no_policy_quiet : (t : ℕ) (k : Parts) → IsQuiet k (clear_policy t k)
+unfolding clear_policy
+no_policy_quiet t k = task_quiet t _ k
+
+pub mode_quiet : (t bits : ℕ) (k : Parts) → IsQuiet k (set_mode_bits t bits k)
+unfolding set_mode_bits
+mode_quiet t bits k = task_quiet t _ k
+
+slice_quiet : (t slice : ℕ) (k : Parts) → IsQuiet k (set_slice t slice k)
+unfolding set_slice
+slice_quiet t slice k = task_quiet t _ k
 
 pub add_quiet : (entry value cpu : ℕ) (k : Parts) → IsQuiet k (add_task entry value cpu k)
 unfolding add_task
@@ -62,6 +102,28 @@ add_quiet entry value cpu k = record {
   tasks_count = omega (arith, length-append k.tasks (new_task cpu k.stamps ∷ []));
 }
 
+-- ---- a tick of a slice
+slice_spent : (t slice : ℕ) (k : Parts) → IsQuiet k (spend_slice t slice k)
+unfolding spend_slice
+slice_spent t slice k =
+    quiet_if (nat_le slice 1) k _ _ (quiet_then k (set_slice t SLICE k) _ (slice_quiet t SLICE k) (restamp_quiet t (set_slice t SLICE k))) (slice_quiet t (slice - 1) k)
+
+task_spent : (o : Option Task) (t : ℕ) (k : Parts) → IsQuiet k (spend_task o t k)
+task_spent None t k = quiet_none k
+task_spent (Some task) t k = quiet_if (is_oob_ready task.state && is_round_robin task.class) k _ _ (slice_spent t task.slice k) (quiet_none k)
+
+spent_of : (o : Option ℕ) (k : Parts) → IsQuiet k (spend_of o k)
+spent_of None k = quiet_none k
+spent_of (Some t) k = task_spent (slice_get k.tasks t) t k
+
+pub spend_quiet : (c : ℕ) (k : Parts) → IsQuiet k (spend_current c k)
+unfolding spend_current
+spend_quiet c k = spent_of (current c k) k
+
+-- ---- stages
+pub takes_stall : (c : ℕ) (stage : Stage) (b : Bool) (k : Parts) → Takes c 1 0 k (on_pipe c (set_stall stage b) k)
+takes_stall c stage b k = takes_pipe c 1 0 (set_stall stage b) k (λ p e. stalls 1 stage b p)
+
 pub takes_leave : (c line : ℕ) (k : Parts) → Takes c line 0 k (leave_in_band c k)
 unfolding leave_in_band
 takes_leave c line k = takes_processor c line _ k
@@ -70,9 +132,24 @@ pub takes_end : (c t : ℕ) (state : TaskState) (k : Parts) → Takes c 1 0 k (e
 unfolding end_task
 takes_end c t state k =
     let freed : Parts = on_pipe c (set_stall InBand false) k in
-    takes_then c 1 0 0 0 k freed _ (omega arith) (takes_pipe c 1 0 (set_stall InBand false) k (λ p e. stalls 1 InBand false p))
+    takes_then c 1 0 0 0 k freed _ (omega arith) (takes_stall c InBand false k)
     (takes_then c 1 0 0 0 freed (leave_in_band c freed) _ (omega arith) (takes_leave c 1 freed)
     (takes_quiet c 1 (leave_in_band c freed) _ (state_quiet t state (leave_in_band c freed))))
+
+pub takes_demote : (c t : ℕ) (k : Parts) → Takes c 1 0 k (demote c t k)
+unfolding demote
+takes_demote c t k =
+    let freed : Parts = on_pipe c (set_stall OutOfBand false) k in
+    let ready : Parts = set_state t InReady freed in
+    takes_then c 1 0 0 0 k freed _ (omega arith) (takes_stall c OutOfBand false k)
+    (takes_quiet c 1 freed _ (quiet_then freed ready _ (state_quiet t InReady freed) (restamp_quiet t ready)))
+
+pub takes_promote : (c t : ℕ) (k : Parts) → Takes c 1 0 k (promote c t k)
+unfolding promote
+takes_promote c t k =
+    let ready : Parts = set_state t OobReady k in
+    takes_then c 1 0 0 0 k (restamp t ready) _ (omega arith)
+    (takes_quiet c 1 k _ (quiet_then k ready _ (state_quiet t OobReady k) (restamp_quiet t ready))) (takes_leave c 1 (restamp t ready))
 
 -- ---- wakes
 pub takes_wake : (a line t value : ℕ) (k : Parts) → Takes a line 0 k (wake_in_band t value k)

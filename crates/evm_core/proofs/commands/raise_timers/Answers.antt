@@ -2,7 +2,7 @@ use Rattle.std.proofs.Common.{◌+◌, ◌^◌, ◌∙◌, List, sym, ap, arith}
 use Rattle.evm_model.specs.Pipes.{Pipe, raise}
 use Rattle.evm_model.specs.State.{Parts, on_pipe}
 use Rattle.evm_rules.proofs.Counting.{PipesUpTo-more, on_raise-up}
-use Rattle.evm_core.proofs.Nudges.{timers-none, timers-more, timers-all}
+use Rattle.evm_core.proofs.Timers.{timers-none, timers-more, timers-all}
 use Rattle.evm_core.proofs.commands.raise_timers.Goals as goal
 
 pub loop-c-init : goal.loop-c-init

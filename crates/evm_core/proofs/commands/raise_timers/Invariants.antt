@@ -1,6 +1,7 @@
 use Rattle.std.proofs.Common.{◌≡◌, ◌+◌, ◌^◌}
 use Rattle.evm_model.specs.Bounds.{PipesUpTo}
-use Rattle.evm_core.proofs.Nudges.{changed_below, raise_timer}
+use Rattle.evm_settle.proofs.Nudges.{changed_below}
+use Rattle.evm_core.proofs.Timers.{raise_timer}
 use Rattle.evm_core.proofs.commands.raise_timers.Given as goal
 
 -- line 0 of the processors below c is raised

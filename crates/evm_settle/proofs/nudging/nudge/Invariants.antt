@@ -1,0 +1,12 @@
+use Rattle.std.proofs.Common.{◌≡◌, ◌+◌, ◌^◌}
+use Rattle.evm_model.specs.Bounds.{PipesUpTo}
+use Rattle.evm_model.specs.Settle.{nudge_pipe}
+use Rattle.evm_settle.proofs.Nudges.{changed_below}
+use Rattle.evm_settle.proofs.nudging.nudge.Given as goal
+
+-- the processors below d are told
+abbrev pub invariant-loop-d : goal.invariant-loop-d
+invariant-loop-d l = record {
+  told : l.parts ≡ record l.fn.parts { pipes = changed_below (nudge_pipe l.c l.fn.parts) l.d l.fn.parts.pipes };
+  room : PipesUpTo (2 ^ 62 + 128 + l.d) l.parts.pipes;
+}

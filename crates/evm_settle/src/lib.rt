@@ -1,0 +1,11 @@
+//! What follows an event on a processor: it plays what waits, chooses its current task, and tells the others.
+#![tactic(auto)]
+
+mod nudging;
+mod playing;
+mod settling;
+
+pub use settling::{settle, settle_and_nudge};
+
+#[cfg(test)]
+mod tests;

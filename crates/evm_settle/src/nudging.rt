@@ -1,0 +1,54 @@
+ghost use Rattle.std.specs.Prelude.{◌≡◌, ◌+◌, ◌^◌};
+ghost use Rattle.evm_model.specs.Bounds.{PipesUpTo};
+ghost use Rattle.evm_model.specs.Settle.{nudge, differs, wants_nudge};
+ghost use Rattle.evm_settle.specs.Nudges.{nudge_one};
+
+use evm_model::Stage;
+use evm_parts::Parts;
+use evm_pipe::Pipe;
+
+// Whether a processor that should run the first runs another, or none.
+fn is_other(best: Option<u8>, current: Option<u8>) -> bool
+    ensures { result ≡ differs best current }
+{
+    match (best, current) {
+        (None, _) => false,
+        (Some(_), None) => true,
+        (Some(a), Some(b)) => a != b,
+    }
+}
+
+// Whether a processor has a better task than its current one, and can be told so.
+pub(crate) fn wants_nudge(parts: &Parts, d: u8, pipe: &Pipe) -> bool
+    ensures { result ≡ wants_nudge d pipe.now parts.now }
+{
+    !pipe.log(Stage::OutOfBand).stalled
+        && !pipe.wire().contains(1)
+        && is_other(parts.tasks.best(d), parts.current(d))
+}
+
+// Raises line 1 of another processor that wants it.
+pub(crate) fn nudge_one(parts: &mut Parts, c: u8, d: u8)
+    requires { PipesUpTo (2 ^ 63) parts.old.pipes }
+    ensures { parts.new ≡ nudge_one c d parts.old }
+{
+    if d == c {
+        return;
+    }
+    let Some(pipe) = parts.pipe(d) else {
+        return;
+    };
+    if wants_nudge(parts, d, pipe) {
+        parts.raise(d, 1);
+    }
+}
+
+// Raises line 1 of each other processor that wants it.
+pub(crate) fn nudge(parts: &mut Parts, c: u8)
+    requires { PipesUpTo (2 ^ 62 + 128) parts.old.pipes }
+    ensures { parts.new ≡ nudge c parts.old }
+{
+    for d in 0..parts.pipe_count() {
+        nudge_one(parts, c, d);
+    }
+}

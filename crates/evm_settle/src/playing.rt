@@ -1,0 +1,64 @@
+ghost use Rattle.std.specs.Prelude.{◌≡◌, ◌≤◌, ◌<◌, ◌+◌, ◌-◌, ◌^◌, length};
+ghost use Rattle.evm_model.specs.Bounds.{PipesUpTo};
+ghost use Rattle.evm_model.specs.Settle.{play_oob, play_in_band, play_oob_lines, play_in_band_lines};
+
+use evm_lines::{LINES, LineSet};
+use evm_model::Stage;
+use evm_parts::Parts;
+
+// Plays a line out-of-band: the timer's line takes a tick of a slice, and goes on into the in-band log.
+#[tactic(auto, using(crate::proofs::Rooms::rooms), unfolding(evm_model::specs::Settle::play_oob))]
+fn play_oob(parts: &mut Parts, c: u8, line: u8)
+    requires line { line < LINES }
+    requires room { PipesUpTo (2 ^ 63 - 1) parts.old.pipes }
+    requires stamps { parts.old.stamps ≤ 2 ^ 62 }
+    ensures row { parts.new ≡ play_oob c line parts.old }
+    ensures stamps { parts.new.stamps ≤ parts.old.stamps + 1 }
+{
+    parts.play(c, Stage::OutOfBand, line);
+    if line == 0 {
+        parts.spend_current(c);
+        parts.arrive(c, Stage::InBand, 0);
+    }
+}
+
+// Plays lines out-of-band, the least first.
+#[tactic(auto, unfolding(evm_model::specs::Settle::play_oob_lines))]
+pub(crate) fn play_oob_lines(parts: &mut Parts, c: u8, lines: LineSet)
+    requires few { length lines ≤ LINES }
+    requires room { PipesUpTo (2 ^ 62) parts.old.pipes }
+    requires stamps { parts.old.stamps ≤ 2 ^ 61 }
+    ensures { parts.new ≡ play_oob_lines c lines parts.old }
+{
+    let mut left = lines;
+    'playing: while let Some(line) = left.pop() {
+        play_oob(parts, c, line);
+    }
+}
+
+// Plays a line in-band: the tasks that wait for it wake.
+#[tactic(auto, unfolding(evm_model::specs::Settle::play_in_band))]
+fn play_in_band(parts: &mut Parts, c: u8, line: u8)
+    requires line { line < LINES }
+    requires room { PipesUpTo (2 ^ 63) parts.old.pipes }
+    requires stamps { parts.old.stamps ≤ 2 ^ 62 }
+    ensures row { parts.new ≡ play_in_band c line parts.old }
+    ensures stamps { parts.new.stamps ≤ parts.old.stamps + 64 }
+{
+    parts.play(c, Stage::InBand, line);
+    parts.wake_waiters(c, line);
+}
+
+// Plays lines in-band, the least first.
+#[tactic(auto, unfolding(evm_model::specs::Settle::play_in_band_lines))]
+pub(crate) fn play_in_band_lines(parts: &mut Parts, c: u8, lines: LineSet)
+    requires few { length lines ≤ LINES }
+    requires room { PipesUpTo (2 ^ 62 + 64) parts.old.pipes }
+    requires stamps { parts.old.stamps ≤ 2 ^ 61 + 32 }
+    ensures { parts.new ≡ play_in_band_lines c lines parts.old }
+{
+    let mut left = lines;
+    'playing: while let Some(line) = left.pop() {
+        play_in_band(parts, c, line);
+    }
+}

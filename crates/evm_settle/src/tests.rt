@@ -1,0 +1,304 @@
+//! Who is told that a better task is ready for it, against rows worked by hand: line 1 is raised on each other
+//! processor that has a better out-of-band task than its current one, is not stalled out-of-band, and does not
+//! have the line on its wire already.
+
+ghost use Rattle.std.specs.Prelude.{◌≡◌, replicate};
+ghost use Rattle.evm_model.specs.Pipes.{idle_pipe};
+ghost use Rattle.evm_rules.proofs.Bounded.{AreWithin};
+
+use crate::nudging::{nudge, nudge_one, wants_nudge};
+use crate::settle_and_nudge;
+use arrayvec::ArrayVec;
+use evm_exec::Hart;
+use evm_model::{Class, Mode, Processor, Stage, Task, TaskState, Wait};
+use evm_parts::{Console, Parts};
+use evm_pipe::Pipe;
+use evm_task::{Harts, Tasks};
+use std::alloc::Global;
+use std::test::Fail;
+
+// Processor 1, for which task 0 is ready, and whether it is to be told.
+struct Row {
+    name: &'static str,
+    running: Option<u8>,
+    in_band_task: Option<u8>,
+    oob_stalled: bool,
+    in_band_stalled: bool,
+    stopped: bool,
+    // A line that is on its wire.
+    wire: Line,
+    told: bool,
+}
+
+// The lines that the rows have on wires: that of the timer, that of a processor to be told, and one of a device.
+#[derive(Clone, Copy)]
+enum Line {
+    None,
+    Timer,
+    Nudge,
+    Device,
+}
+
+const IDLE: Row = Row {
+    name: "a processor that runs nothing",
+    running: None,
+    in_band_task: None,
+    oob_stalled: false,
+    in_band_stalled: false,
+    stopped: false,
+    wire: Line::None,
+    told: true,
+};
+
+const ROWS: [Row; 13] = [
+    IDLE,
+    Row {
+        name: "one that runs another task",
+        running: Some(7),
+        ..IDLE
+    },
+    Row {
+        name: "one that runs another task on both stages",
+        running: Some(7),
+        in_band_task: Some(7),
+        ..IDLE
+    },
+    Row {
+        name: "one that runs the task already",
+        running: Some(0),
+        told: false,
+        ..IDLE
+    },
+    Row {
+        name: "one that runs it already, and is stopped",
+        running: Some(0),
+        stopped: true,
+        told: false,
+        ..IDLE
+    },
+    Row {
+        name: "one that is stalled out-of-band",
+        oob_stalled: true,
+        told: false,
+        ..IDLE
+    },
+    Row {
+        name: "one that is stalled out-of-band and runs another task",
+        running: Some(7),
+        oob_stalled: true,
+        told: false,
+        ..IDLE
+    },
+    Row {
+        name: "one that is stalled in-band",
+        in_band_stalled: true,
+        ..IDLE
+    },
+    Row {
+        name: "one that has line 1 on its wire",
+        wire: Line::Nudge,
+        told: false,
+        ..IDLE
+    },
+    Row {
+        name: "one that has the timer's line on its wire",
+        wire: Line::Timer,
+        ..IDLE
+    },
+    Row {
+        name: "one that has a device's line on its wire",
+        wire: Line::Device,
+        ..IDLE
+    },
+    Row {
+        name: "one that is stopped",
+        stopped: true,
+        ..IDLE
+    },
+    Row {
+        name: "one that is stopped and runs another task",
+        running: Some(7),
+        stopped: true,
+        ..IDLE
+    },
+];
+
+// A task of a processor.
+fn task_of(cpu: u8, state: TaskState) -> Task {
+    Task {
+        cpu,
+        class: Class::Fifo,
+        priority: 10,
+        slice: 0,
+        mode: Mode { bits: 0 },
+        stamp: 0,
+        deadline: 0,
+        state,
+    }
+}
+
+// Three processors of which processor 1 runs what the row says, and this task, the only one.
+fn parts_with(console: Console, task: Task, row: &Row) -> Parts
+    ensures { result.pipes ≡ replicate 3 idle_pipe }
+{
+    let mut processors = ArrayVec::new();
+    processors.push(Processor::default());
+    processors.push(Processor {
+        current: row.running,
+        in_band_task: row.in_band_task,
+        stopped: row.stopped,
+        skip: false,
+    });
+    processors.push(Processor::default());
+    let mut pipes = ArrayVec::new();
+    pipes.push(Pipe::new());
+    pipes.push(Pipe::new());
+    pipes.push(Pipe::new());
+    Parts {
+        ticks: 0,
+        harts: Harts::of_first(Hart {
+            regs: [0; 32],
+            pc: 0x8000_0000,
+        }),
+        tasks: Tasks::of_first(task),
+        processors,
+        pipes,
+        stamps: 1,
+        console,
+    }
+}
+
+// An empty console.
+fn console_of(alloc: Global) -> Result<Console, Fail> {
+    match Console::new(alloc) {
+        Ok(console) => Ok(console),
+        Err(_) => Err("no memory".into()),
+    }
+}
+
+// Puts the row's line on processor 1's wire.
+#[tactic(auto, using(crate::proofs::Idle::idle))]
+fn wire(parts: &mut Parts, line: Line)
+    requires { AreWithin 0 parts.old }
+    ensures { AreWithin 1 parts.new }
+{
+    match line {
+        Line::None => (),
+        Line::Timer => parts.raise(1, 0),
+        Line::Nudge => parts.raise(1, 1),
+        Line::Device => parts.raise(1, 31),
+    }
+}
+
+// The parts of a row.
+fn parts_of(console: Console, task: Task, row: &Row) -> Parts
+    ensures { AreWithin 1 result }
+{
+    let mut parts = parts_with(console, task, row);
+    wire(&mut parts, row.wire);
+    parts.set_stall(1, Stage::OutOfBand, row.oob_stalled);
+    parts.set_stall(1, Stage::InBand, row.in_band_stalled);
+    parts
+}
+
+// How often line 1 of a processor was raised, and how often it was merged.
+fn raises(parts: &Parts, c: u8) -> Option<(u64, u64)> {
+    let pipe = parts.pipe(c)?;
+    let counts = pipe.counts(1)?;
+    Some((counts.raised, counts.merged))
+}
+
+// Another processor is told exactly where the row says so, by line 1 and once, and no other processor is.
+#[test]
+#[tactic(auto, using(crate::proofs::Idle::idle))]
+fn others_are_told(rt: HostRuntime) -> Result<(), Fail> {
+    for row in ROWS.iter() {
+        let console = console_of(rt.alloc())?;
+        let mut parts = parts_of(console, task_of(1, TaskState::OobReady), row);
+        let name = row.name;
+        let pipe = parts.pipe(1).ok_or("a pipe")?;
+        assert_eq!(rt; wants_nudge(&parts, 1, pipe), row.told, "{name}");
+        let was = u64::from(matches!(row.wire, Line::Nudge));
+        nudge(&mut parts, 0);
+        let now = was.saturating_add(u64::from(row.told));
+        assert_eq!(rt; raises(&parts, 1), Some((now, 0)), "{name}");
+        assert_eq!(rt; raises(&parts, 0), Some((0, 0)), "{name}");
+        assert_eq!(rt; raises(&parts, 2), Some((0, 0)), "{name}");
+    }
+    Ok(())
+}
+
+// The processor that acts is never told: it has settled.
+#[test]
+#[tactic(auto, using(crate::proofs::Idle::idle))]
+fn the_acting_processor_is_not_told(rt: HostRuntime) -> Result<(), Fail> {
+    for row in ROWS.iter() {
+        let name = row.name;
+        let console = console_of(rt.alloc())?;
+        let mut parts = parts_of(console, task_of(1, TaskState::OobReady), row);
+        let before = raises(&parts, 1);
+        nudge(&mut parts, 1);
+        assert_eq!(rt; raises(&parts, 1), before, "{name}");
+        let console = console_of(rt.alloc())?;
+        let mut parts = parts_of(console, task_of(1, TaskState::OobReady), row);
+        nudge_one(&mut parts, 1, 1);
+        assert_eq!(rt; raises(&parts, 1), before, "{name}");
+    }
+    Ok(())
+}
+
+// Nobody is told of a task that isn't ready out-of-band, or that belongs to the acting processor or to none.
+#[test]
+#[tactic(auto, using(crate::proofs::Idle::idle))]
+fn nobody_is_told_of_other_tasks(rt: HostRuntime) -> Result<(), Fail> {
+    for (cpu, state) in [
+        (1, TaskState::InReady),
+        (1, TaskState::Exit),
+        (1, TaskState::Waits(Wait::Line(3))),
+        (0, TaskState::OobReady),
+        (3, TaskState::OobReady),
+    ] {
+        let console = console_of(rt.alloc())?;
+        let mut parts = parts_of(console, task_of(cpu, state), &IDLE);
+        nudge(&mut parts, 0);
+        let told = [raises(&parts, 0), raises(&parts, 1), raises(&parts, 2)];
+        assert_eq!(rt; told, [Some((0, 0)); 3], "of {state:?} on {cpu}");
+    }
+    Ok(())
+}
+
+// A processor that there is not is told nothing, and one for which nothing is ready neither.
+#[test]
+#[tactic(auto, using(crate::proofs::Idle::idle))]
+fn one_processor_is_told(rt: HostRuntime) -> Result<(), Fail> {
+    let console = console_of(rt.alloc())?;
+    let mut parts = parts_of(console, task_of(1, TaskState::OobReady), &IDLE);
+    nudge_one(&mut parts, 0, 3);
+    assert_eq!(rt; raises(&parts, 1), Some((0, 0)));
+    assert_eq!(rt; raises(&parts, 3), None);
+    let console = console_of(rt.alloc())?;
+    let mut parts = parts_of(console, task_of(1, TaskState::OobReady), &IDLE);
+    nudge_one(&mut parts, 0, 2);
+    assert_eq!(rt; raises(&parts, 1), Some((0, 0)));
+    assert_eq!(rt; raises(&parts, 2), Some((0, 0)));
+    Ok(())
+}
+
+// A processor that settles tells the others, and takes the task up if it is its own.
+#[test]
+#[tactic(auto, using(crate::proofs::Idle::idle))]
+fn settling_tells(rt: HostRuntime) -> Result<(), Fail> {
+    let console = console_of(rt.alloc())?;
+    let mut parts = parts_of(console, task_of(1, TaskState::OobReady), &IDLE);
+    assert_eq!(rt; parts.stamps, 1);
+    settle_and_nudge(&mut parts, 0);
+    assert_eq!(rt; raises(&parts, 1), Some((1, 0)));
+    assert_eq!(rt; parts.current(1), None);
+    let console = console_of(rt.alloc())?;
+    let mut parts = parts_of(console, task_of(1, TaskState::OobReady), &IDLE);
+    assert_eq!(rt; parts.stamps, 1);
+    settle_and_nudge(&mut parts, 1);
+    assert_eq!(rt; raises(&parts, 1), Some((0, 0)));
+    assert_eq!(rt; parts.current(1), Some(0));
+    Ok(())
+}
