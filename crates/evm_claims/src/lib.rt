@@ -6,6 +6,7 @@ mod headline;
 mod no_interrupt_lost;
 mod parts;
 mod safe_and_total;
+mod steps;
 
 pub use headline::{a_machine_is_its_journals_replay, replays_join};
 pub use no_interrupt_lost::{
@@ -14,10 +15,13 @@ pub use no_interrupt_lost::{
 };
 pub use parts::{
     a_command_changes_one_place, a_raise_puts_its_line_on_the_wire, a_register_keeps_its_number,
-    a_step_keeps_to_its_processor, a_tick_moves_the_clock, an_accepted_event_is_journaled,
-    an_image_stands_in_ram, the_best_task_is_first, the_least_refusal_is_told,
-    words_and_instructions_are_inverse,
+    a_tick_moves_the_clock, an_accepted_event_is_journaled, an_image_stands_in_ram,
+    the_best_task_is_first, the_least_refusal_is_told, words_and_instructions_are_inverse,
 };
 pub use safe_and_total::{
     a_machine_is_as_it_was_booted, counts_never_wrap, sizes_never_change, the_clock_is_its_ticks,
+};
+pub use steps::{
+    a_single_step_keeps_to_its_processor, a_single_step_leaves_other_tasks, a_step_adds_one_task,
+    a_step_keeps_to_its_processor, a_step_leaves_other_tasks,
 };

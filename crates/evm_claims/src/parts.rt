@@ -1,9 +1,7 @@
-//! Each part meets its rows: what each event changes and what it leaves, which task is first, which refusal is told.
-ghost use Rattle.std.specs.Prelude.{◌≡◌, ◌≢◌, ◌+◌, ◌^◌, ◌<◌, ◌≤◌, ◌++◌, ◌⊎◌, ℕ, List, [], ◌∷◌, Bool, true, false, Option, Result, if◌then◌else◌, slice_get, slice_index, length, option_map};
-ghost use Rattle.evm_exec.specs.Does.{does};
+//! Each part meets its rows: what each event but a step changes, which task is first, which refusal is told.
+ghost use Rattle.std.specs.Prelude.{◌≡◌, ◌≢◌, ◌+◌, ◌^◌, ◌<◌, ◌≤◌, ◌++◌, ℕ, List, [], ◌∷◌, Bool, true, false, Option, Result, if◌then◌else◌, slice_get, slice_index, length, option_map};
 ghost use Rattle.evm_exec.specs.Registers.{register_of, with_register};
 ghost use Rattle.evm_exec.specs.declared.hart.Hart.{Hart};
-ghost use Rattle.evm_exec.specs.declared.outcome.Effect.{Effect};
 ghost use Rattle.evm_isa.specs.Decoded.{decoded};
 ghost use Rattle.evm_isa.specs.Encoded.{encoded};
 ghost use Rattle.evm_isa.specs.Table.{Row};
@@ -11,7 +9,6 @@ ghost use Rattle.evm_isa.specs.declared.inst.Inst.{Inst};
 ghost use Rattle.evm_lines.specs.Lines.{has_line, with_line};
 ghost use Rattle.evm_model.specs.Commands.{is_set};
 ghost use Rattle.evm_model.specs.Load.{start_loaded};
-ghost use Rattle.evm_model.specs.Memory.{fetch};
 ghost use Rattle.evm_model.specs.Pipes.{Pipe, raise};
 ghost use Rattle.evm_model.specs.Ranks.{best, first, goes_before, own_rank};
 ghost use Rattle.evm_model.specs.Refusals.{applies};
@@ -25,11 +22,9 @@ ghost use Rattle.evm_model.specs.declared.event.Event.{Event};
 ghost use Rattle.evm_model.specs.declared.processor.Processor.{Processor};
 ghost use Rattle.evm_model.specs.declared.task.Task.{Task};
 ghost use Rattle.evm_model.specs.declared.task.TaskState.{TaskState};
-ghost use Rattle.evm_model.specs.declared.task.Wait.{Wait};
-ghost use Rattle.evm_ram.specs.Ram.{poke_at, write_at};
+ghost use Rattle.evm_ram.specs.Ram.{poke_at};
 ghost use Rattle.evm_ram.specs.Refusal.{number_of};
 ghost use Rattle.evm_ram.specs.declared.refusal.Refusal.{Refusal};
-ghost use Rattle.evm_ram.specs.declared.width.Width.{Width};
 
 /// What an instruction was encoded to is decoded to it, and the other way round, by the table; a word of 32 bits stands
 /// for at most one instruction of the table, and an instruction has at most one such word.
@@ -118,10 +113,8 @@ pub fn a_raise_puts_its_line_on_the_wire()
     evm_runs::raises_one_line();
 }
 
-/// Each accepted command of the debugger changes the one place that it names, and nothing else but the journal: the
-/// bits of a processor, the registers or the pc of its current task, bytes of RAM, or one breakpoint. After a single step
-/// the processor is stopped; the clock, the breakpoints, the other processors and every task but its own current one are
-/// as before, so is RAM unless the instruction at that task's pc is a store, and other pipes have at most line 1 raised.
+/// Each accepted command of the debugger but a single step changes the one place that it names, and nothing else but the
+/// journal: the bits of a processor, the registers or the pc of its current task, bytes of RAM, or one breakpoint.
 pub fn a_command_changes_one_place()
     ensures stops { (old new : State) (answer : Answer) (c : ℕ) → apply old (Event.Stop c) ≡ Result.Ok (new, answer) →
         (new.board ≡ record old.board { parts = record old.board.parts { processors = new.board.parts.processors } })
@@ -153,69 +146,6 @@ pub fn a_command_changes_one_place()
         (new.board ≡ record old.board { breakpoints = new.board.breakpoints })
         × (is_set new.board.breakpoints address ≡ false)
         × ((other : ℕ) → other ≢ address → is_set new.board.breakpoints other ≡ is_set old.board.breakpoints other) }
-    ensures takes_one_step { (old new : State) (answer : Answer) (c : ℕ) (p : Processor) → apply old (Event.StepI c) ≡ Result.Ok (new, answer) →
-        slice_get new.board.parts.processors c ≡ Option.Some p → (p.stopped ≡ true) × (p.skip ≡ false) }
-    ensures steps_alone { (old new : State) (answer : Answer) (c d : ℕ) → apply old (Event.StepI c) ≡ Result.Ok (new, answer) → d ≢ c →
-        (slice_get new.board.parts.processors d ≡ slice_get old.board.parts.processors d)
-        × (new.board.parts.ticks ≡ old.board.parts.ticks) × (old.board.parts.stamps ≤ new.board.parts.stamps)
-        × (new.board.breakpoints ≡ old.board.breakpoints) }
-    ensures steps_pipes { (old new : State) (answer : Answer) (c d : ℕ) → apply old (Event.StepI c) ≡ Result.Ok (new, answer) → d ≢ c →
-        (slice_get new.board.parts.pipes d ≡ slice_get old.board.parts.pipes d)
-        ⊎ (slice_get new.board.parts.pipes d ≡ option_map (raise 1) (slice_get old.board.parts.pipes d)) }
-    ensures steps_tasks { (old new : State) (answer : Answer) (c t : ℕ) (task : Task) (hart : Hart) → apply old (Event.StepI c) ≡ Result.Ok (new, answer) →
-        current c old.board.parts ≢ Option.Some t →
-        slice_get old.board.parts.tasks t ≡ Option.Some task → slice_get old.board.parts.harts t ≡ Option.Some hart →
-        ((slice_get new.board.parts.tasks t ≡ Option.Some task) × (slice_get new.board.parts.harts t ≡ Option.Some hart))
-        ⊎ ((line : ℕ) × ((stamp : ℕ) × ((task.state ≡ TaskState.Waits (Wait.Line line)) × (task.cpu ≡ c) × (old.board.parts.stamps ≤ stamp)
-        × (slice_get new.board.parts.tasks t ≡ Option.Some (record task { stamp = stamp; state = TaskState.InReady }))
-        × (slice_get new.board.parts.harts t ≡ Option.Some (record hart { regs = with_register hart.regs 10 0 }))))) }
-    ensures steps_add { (old new : State) (answer : Answer) (c : ℕ) → apply old (Event.StepI c) ≡ Result.Ok (new, answer) →
-        (length new.board.parts.tasks ≡ length old.board.parts.tasks) ⊎ (length new.board.parts.tasks ≡ length old.board.parts.tasks + 1) }
-    ensures steps_ram { (old new : State) (answer : Answer) (c : ℕ) → apply old (Event.StepI c) ≡ Result.Ok (new, answer) →
-        ((task word address value : ℕ) (hart : Hart) (inst : Inst) (width : Width) →
-        current c old.board.parts ≡ Option.Some task → slice_get old.board.parts.harts task ≡ Option.Some hart →
-        fetch hart.pc old.board.memory ≡ Option.Some word → decoded word ≡ Option.Some inst →
-        does inst hart.regs hart.pc ≢ Effect.Store width address value) →
-        new.board.memory.ram ≡ old.board.memory.ram }
-{
-    evm_runs::events_change_only();
-}
-
-/// An accepted Step of a processor leaves the clock, the breakpoints and the other processors as they are, and of the
-/// tasks all but its own current one and those that waited there for a line, which may wake: they are ready then, with
-/// a later stamp and an a0 of 0; there is one task more at the most; on other pipes at most line 1 is raised; and RAM changes only where the instruction at
-/// that task's pc is a store, which then has written its value at its address.
-pub fn a_step_keeps_to_its_processor()
-    ensures clock { (old new : State) (answer : Answer) (c : ℕ) → apply old (Event.Step c) ≡ Result.Ok (new, answer) →
-        (new.board.parts.ticks ≡ old.board.parts.ticks) × (old.board.parts.stamps ≤ new.board.parts.stamps)
-        × (new.board.breakpoints ≡ old.board.breakpoints) }
-    ensures processors { (old new : State) (answer : Answer) (c d : ℕ) → apply old (Event.Step c) ≡ Result.Ok (new, answer) → d ≢ c →
-        slice_get new.board.parts.processors d ≡ slice_get old.board.parts.processors d }
-    ensures pipes { (old new : State) (answer : Answer) (c d : ℕ) → apply old (Event.Step c) ≡ Result.Ok (new, answer) → d ≢ c →
-        (slice_get new.board.parts.pipes d ≡ slice_get old.board.parts.pipes d)
-        ⊎ (slice_get new.board.parts.pipes d ≡ option_map (raise 1) (slice_get old.board.parts.pipes d)) }
-    ensures tasks { (old new : State) (answer : Answer) (c t : ℕ) (task : Task) (hart : Hart) → apply old (Event.Step c) ≡ Result.Ok (new, answer) →
-        current c old.board.parts ≢ Option.Some t →
-        slice_get old.board.parts.tasks t ≡ Option.Some task → slice_get old.board.parts.harts t ≡ Option.Some hart →
-        ((slice_get new.board.parts.tasks t ≡ Option.Some task) × (slice_get new.board.parts.harts t ≡ Option.Some hart))
-        ⊎ ((line : ℕ) × ((stamp : ℕ) × ((task.state ≡ TaskState.Waits (Wait.Line line)) × (task.cpu ≡ c) × (old.board.parts.stamps ≤ stamp)
-        × (slice_get new.board.parts.tasks t ≡ Option.Some (record task { stamp = stamp; state = TaskState.InReady }))
-        × (slice_get new.board.parts.harts t ≡ Option.Some (record hart { regs = with_register hart.regs 10 0 }))))) }
-    ensures adds { (old new : State) (answer : Answer) (c : ℕ) → apply old (Event.Step c) ≡ Result.Ok (new, answer) →
-        (length new.board.parts.tasks ≡ length old.board.parts.tasks) ⊎ (length new.board.parts.tasks ≡ length old.board.parts.tasks + 1) }
-    ensures ram { (old new : State) (answer : Answer) (c : ℕ) → apply old (Event.Step c) ≡ Result.Ok (new, answer) →
-        ((task word address value : ℕ) (hart : Hart) (inst : Inst) (width : Width) →
-        current c old.board.parts ≡ Option.Some task → slice_get old.board.parts.harts task ≡ Option.Some hart →
-        fetch hart.pc old.board.memory ≡ Option.Some word → decoded word ≡ Option.Some inst →
-        does inst hart.regs hart.pc ≢ Effect.Store width address value) →
-        new.board.memory.ram ≡ old.board.memory.ram }
-    ensures written { (old new : State) (answer : Answer) (c task word address value : ℕ) (hart : Hart) (inst : Inst) (width : Width) →
-        apply old (Event.Step c) ≡ Result.Ok (new, answer) →
-        current c old.board.parts ≡ Option.Some task → slice_get old.board.parts.harts task ≡ Option.Some hart →
-        fetch hart.pc old.board.memory ≡ Option.Some word → decoded word ≡ Option.Some inst →
-        does inst hart.regs hart.pc ≡ Effect.Store width address value →
-        (new.board.memory.ram ≡ old.board.memory.ram)
-        ⊎ (write_at old.board.memory.ram address width value ≡ Option.Some new.board.memory.ram) }
 {
     evm_runs::events_change_only();
 }

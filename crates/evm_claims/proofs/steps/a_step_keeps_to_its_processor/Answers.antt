@@ -1,7 +1,7 @@
-use Rattle.std.proofs.Common.{◌≡◌, Some, inl, inr, ap, sym, ◌∙◌}
+use Rattle.std.proofs.Common.{◌≡◌, inl, inr, ap}
 use Rattle.evm_model.specs.State.{Memory}
 use Rattle.evm_model.specs.declared.event.Event.TheVariants.{Step}
-use Rattle.evm_claims.proofs.parts.a_step_keeps_to_its_processor.Goals as goal
+use Rattle.evm_claims.proofs.steps.a_step_keeps_to_its_processor.Goals as goal
 
 pub returns-clause-clock : goal.returns-clause-clock
 returns-clause-clock c old new answer p e =
@@ -12,25 +12,6 @@ returns-clause-processors c old new answer p d e other = (c.events_change_only.e
 
 pub returns-clause-pipes : goal.returns-clause-pipes
 returns-clause-pipes c old new answer p d e other = (c.events_change_only.ensures old new (Step p) answer e).board.pipes d other
-
-pub returns-clause-tasks : goal.returns-clause-tasks
-returns-clause-tasks c old new answer p t task hart e other there at =
-    let b = (c.events_change_only.ensures old new (Step p) answer e).board in
-    elim (b.others t other) [
-      | inl r ↦ inl (r.task task there, r.hart hart at)
-      | inr w ↦
-          let two : Some w.task ≡ Some task = sym w.waited ∙ there in
-          let same : w.task ≡ task = cc in
-          inr (w.line, (w.stamp, (rw (← same) w.on, rw (← same) w.at_home, w.fresh, rw (← same) w.wakes, w.hart hart at)))
-    ]
-
-pub returns-clause-adds : goal.returns-clause-adds
-returns-clause-adds c old new answer p e =
-    let b = (c.events_change_only.ensures old new (Step p) answer e).board in
-    elim b.added [
-      | inl same ↦ inl same.0
-      | inr a ↦ inr a.tasks
-    ]
 
 pub returns-clause-ram : goal.returns-clause-ram
 returns-clause-ram c old new answer p e never =
@@ -55,3 +36,6 @@ returns-clause-written c old new answer p task word address value hart inst widt
           let number : w.value ≡ value = cc in
           inr (cc)
     ]
+
+pub returns-clause-console : goal.returns-clause-console
+returns-clause-console c old new answer p e = (c.events_change_only.ensures old new (Step p) answer e).board.typed

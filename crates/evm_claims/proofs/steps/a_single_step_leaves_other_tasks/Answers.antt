@@ -1,0 +1,45 @@
+use Rattle.std.proofs.Common.{◌≡◌, ℕ, ◌+◌, Option, Some, None, true, false, slice_get, length, inl, inr, refl, ap, sym, ◌∙◌, arith}
+use Rattle.std.specs.Prelude.{option_map}
+use Rattle.evm_exec.specs.declared.hart.Hart.{Hart}
+use Rattle.evm_model.specs.Rows.{step}
+use Rattle.evm_model.specs.Settle.{current, current_of}
+use Rattle.evm_model.specs.State.{Board, Parts}
+use Rattle.evm_model.specs.declared.event.Event.TheVariants.{StepI}
+use Rattle.evm_model.specs.declared.processor.Processor.{Processor}
+use Rattle.evm_model.specs.declared.task.Task.{Task}
+use Rattle.evm_claims.proofs.Given.{IsLeft, given_as, stepped}
+use Rattle.evm_claims.proofs.steps.a_single_step_leaves_other_tasks.Goals as goal
+
+-- a processor that goes runs what it ran
+runs_still : (o : Option Processor) → current_of (option_map (λ (q : Processor). record q { stopped = false; skip = true }) o) ≡ current_of o
+runs_still None = refl
+runs_still (Some q) = refl
+
+-- the same stamps before, the same tasks and harts after
+left_as : (c t : ℕ) (x y z w : Parts) (task : Task) (hart : Hart) → y.stamps ≡ x.stamps → slice_get w.tasks t ≡ slice_get z.tasks t → slice_get w.harts t ≡ slice_get z.harts t → IsLeft c t x z task hart → IsLeft c t y w task hart
+left_as c t x y z w task hart s tasks harts (inl r) = inl (tasks ∙ r.0, harts ∙ r.1)
+left_as c t x y z w task hart s tasks harts (inr (line, (stamp, r))) = inr (line, (stamp, (r.0, r.1, omega (arith, s, r.2), tasks ∙ r.3, harts ∙ r.4)))
+
+pub returns-clause-steps_tasks : goal.returns-clause-steps_tasks
+returns-clause-steps_tasks c old new answer p t task hart e other there at =
+    let b = (c.events_change_only.ensures old new (StepI p) answer e).board in
+    let still : current p b.freed.parts ≡ current p old.board.parts = ap current_of b.goes.processors.here ∙ runs_still (slice_get old.board.parts.processors p) in
+    let goes = b.goes.rest in
+    let stops = b.stops.rest in
+    let s = stepped p t b.freed _ task hart b.steps (λ m. other (sym still ∙ m)) (ap (λ (x : Board). slice_get x.parts.tasks t) goes ∙ there) (ap (λ (x : Board). slice_get x.parts.harts t) goes ∙ at) in (
+      s.given,
+      (
+        given_as p t b.freed old.board task s.given (sym still) (sym (ap (λ (x : Board). x.parts.harts) goes)) (sym (ap (λ (x : Board). x.parts.tasks) goes)) (sym (ap (λ (x : Board). x.memory) goes)) s.is_given,
+        left_as p t b.freed.parts old.board.parts (step p b.freed).0.parts new.board.parts s.given hart (sym (ap (λ (x : Board). x.parts.stamps) goes)) (ap (λ (x : Board). slice_get x.parts.tasks t) stops) (ap (λ (x : Board). slice_get x.parts.harts t) stops) s.left,
+      ),
+    )
+
+pub returns-clause-steps_add : goal.returns-clause-steps_add
+returns-clause-steps_add c old new answer p e =
+    let b = (c.events_change_only.ensures old new (StepI p) answer e).board in
+    let tasks = ap (λ (x : Board). length x.parts.tasks) b.stops.rest in
+    let was = ap (λ (x : Board). length x.parts.tasks) b.goes.rest in
+    elim b.steps.added [
+      | inl same ↦ inl (tasks ∙ same.0 ∙ was)
+      | inr a ↦ inr (tasks ∙ a.tasks ∙ ap (λ n. n + 1) was)
+    ]

@@ -1,0 +1,62 @@
+use Rattle.std.proofs.Common.{◌≡◌, ℕ, ◌<◌, ◌≤◌, List, Option, Some, None, slice_get, ◌⊎◌, inl, inr, refl, ap, sym, ◌∙◌}
+use Rattle.std.proofs.lemmas.Bool.{cases_eq}
+use Rattle.evm_exec.specs.declared.hart.Hart.{Hart}
+use Rattle.evm_model.specs.Settle.{current}
+use Rattle.evm_model.specs.State.{Board, Parts}
+use Rattle.evm_model.specs.declared.event.Event.TheVariants.{Step}
+use Rattle.evm_model.specs.declared.task.Class.TheVariants.{RoundRobin}
+use Rattle.evm_model.specs.declared.task.Task.{Task}
+use Rattle.evm_model.specs.declared.task.TaskState.TheVariants.{OobReady}
+use Rattle.evm_runs.specs.Changes.{Stays, Spends, Hears, StepChanges}
+use Rattle.evm_claims.proofs.Given.{IsLeft, left, stepped}
+use Rattle.evm_claims.proofs.steps.a_step_leaves_other_tasks.Goals as goal
+
+pub returns-clause-tasks : goal.returns-clause-tasks
+returns-clause-tasks c old new answer p t task hart e other there at =
+    let b = (c.events_change_only.ensures old new (Step p) answer e).board in
+    let s = stepped p t old.board new.board task hart b other there at in (s.given, (s.is_given, s.left))
+
+-- it stays, wakes, or has spent its slice
+abbrev IsSpent : ℕ → ℕ → Parts → Parts → Task → Hart → Type 0
+IsSpent c t old new task hart =
+    (slice : ℕ) × ((stamp : ℕ) × ((current c old ≡ Some t) × (task.state ≡ OobReady) × (task.class ≡ RoundRobin)
+    × (((stamp ≡ task.stamp) × (slice < task.slice)) ⊎ ((old.stamps ≤ stamp) × (slice ≤ 4)))
+    × (slice_get new.tasks t ≡ Some (record task { slice = slice; stamp = stamp }))
+    × (slice_get new.harts t ≡ Some hart)))
+
+abbrev IsHeard : ℕ → ℕ → Parts → Parts → Task → Hart → Type 0
+IsHeard c t old new task hart = IsLeft c t old new task hart ⊎ IsSpent c t old new task hart
+
+spent : (c t : ℕ) (old new : Parts) (task : Task) (hart : Hart) → slice_get old.tasks t ≡ Some task → slice_get old.harts t ≡ Some hart → Spends c t old new → IsSpent c t old new task hart
+spent c t old new task hart there at q =
+    let two : Some q.task ≡ Some task = sym q.there ∙ there in
+    let same : q.task ≡ task = cc in
+    (q.slice, (q.stamp, (q.runs, rw (← same) q.on, rw (← same) q.robin, rw (← same) q.left, rw (← same) q.spends, q.hart hart at)))
+
+own : (c t : ℕ) (old new : Parts) (task : Task) (hart : Hart) → slice_get old.tasks t ≡ Some task → slice_get old.harts t ≡ Some hart → Stays c t old new ⊎ Spends c t old new → IsHeard c t old new task hart
+own c t old new task hart there at (inl stays) = inl (left c t old new task hart there at stays)
+own c t old new task hart there at (inr spends) = inr (spent c t old new task hart there at spends)
+
+others : (c t : ℕ) (old new : Board) (task : Task) (hart : Hart) → StepChanges c old new → Hears c old.parts → (current c old.parts ≡ Some t → ⊥) → slice_get old.parts.tasks t ≡ Some task → slice_get old.parts.harts t ≡ Some hart
+    → IsHeard c t old.parts new.parts task hart
+others c t old new task hart b line other there at =
+    inl (left c t (record old.parts { tasks = b.asked }) new.parts task hart (ap (λ (all : List Task). slice_get all t) (b.hears line).0 ∙ there) at (b.others t other))
+
+heard : (o : Option ℕ) (c t : ℕ) (old new : Board) (task : Task) (hart : Hart) → current c old.parts ≡ o → StepChanges c old new → Hears c old.parts → slice_get old.parts.tasks t ≡ Some task → slice_get old.parts.harts t ≡ Some hart
+    → IsHeard c t old.parts new.parts task hart
+heard None c t old new task hart runs b line there at = others c t old new task hart b line (λ m. let no : None ≡ Some t = sym runs ∙ m in cc) there at
+heard (Some u) c t old new task hart runs b line there at = elim (cases_eq u t) [
+  | inl same ↦ own c t old.parts new.parts task hart there at ((b.hears line).1 t (runs ∙ ap Some same))
+  | inr differ ↦ others c t old new task hart b line (λ m. let one : Some u ≡ Some t = sym runs ∙ m in differ cc) there at
+]
+
+pub returns-clause-line : goal.returns-clause-line
+returns-clause-line c old new answer p t l pipe task hart e there on is has =
+    let b = (c.events_change_only.ensures old new (Step p) answer e).board in
+    elim (heard (current p old.board.parts) p t old.board new.board task hart refl b (record { pipe = pipe; line = l; there = there; on = on }) is has) [
+      | inl stays ↦ elim stays [
+        | inl rests ↦ inl rests
+        | inr wakes ↦ inr (inl wakes)
+      ]
+      | inr spends ↦ inr (inr spends)
+    ]
