@@ -69,9 +69,9 @@ impl Parts {
         self.tasks.set_slice(t, slice);
     }
 
-    /// A tick less of a task's slice; the last one gives a whole slice, and a fresh stamp.
+    // A tick less of a task's slice; the last one gives a whole slice, and a fresh stamp.
     #[tactic(auto, unfolding(evm_model::specs::Tasks::spend_slice))]
-    pub fn spend_slice(&mut self, t: u8, slice: u8)
+    fn spend_slice(&mut self, t: u8, slice: u8)
         requires room { self.old.stamps < 2 ^ 63 }
         ensures row { self.new ≡ spend_slice t slice self.old }
         ensures stamps { self.new.stamps ≤ self.old.stamps + 1 }

@@ -1,5 +1,5 @@
 -- One more task of a scan.
-use Rattle.std.proofs.Common.{◌≡◌, ℕ, zero, suc, ◌+◌, Option, Some, None, Bool, refl, add-one}
+use Rattle.std.proofs.Common.{◌≡◌, ℕ, ◌+◌, Some, None, Bool, refl, add-one}
 use Rattle.std.specs.Prelude.{if◌then◌else◌}
 use Rattle.evm_model.specs.Ranks.{first, leader}
 
