@@ -1,5 +1,5 @@
 -- Little has happened where a task's policy changes.
-use Rattle.std.proofs.Common.{◌≡◌, ℕ, ◌+◌, ◌-◌, ◌^◌, List, Bool, true, false, Option, Some, None, refl, ap, ◌∙◌, arith}
+use Rattle.std.proofs.Common.{◌≡◌, ℕ, ◌-◌, ◌^◌, List, Bool, true, false, Option, Some, None, refl, ap, ◌∙◌, arith}
 use Rattle.std.specs.Prelude.{slice_get, replicate, if◌then◌else◌}
 use Rattle.evm_model.specs.Bounds.{PipesUpTo}
 use Rattle.evm_model.specs.OobCalls.{is_scheduled_task, schedule_as, set_sched}

@@ -5,6 +5,7 @@ use Rattle.evm_model.specs.State.{Parts}
 use Rattle.evm_model.specs.declared.counts.Counts.{Counts}
 use Rattle.evm_model.specs.declared.stage.Stage.{Stage}
 use Rattle.evm_model.specs.declared.stage.StageLog.{StageLog}
+use Rattle.evm_core.specs.declared.stages.Stages.{Stages}
 
 -- the counts of line l, where there are a pipe and such a line
 abbrev pub counts_of : Option Pipe → ℕ → Option Counts
@@ -24,3 +25,12 @@ log_in stage (Some pipe) = Some (log_of stage pipe)
 abbrev pub wire_of : Option Pipe → Option (List ℕ)
 wire_of None = None
 wire_of (Some pipe) = Some pipe.wire
+
+-- the two logs and the wire, where there is a pipe
+abbrev pub stages_in : Option Pipe → Option Stages
+stages_in None = None
+stages_in (Some pipe) = Some (record { oob = pipe.oob; inband = pipe.inband; wire = pipe.wire })
+
+-- those of processor c
+abbrev pub stages_at : ℕ → Parts → Option Stages
+stages_at c k = stages_in (slice_get k.pipes c)

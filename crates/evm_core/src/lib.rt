@@ -10,11 +10,13 @@ mod machine;
 mod memory;
 mod quiet;
 mod refusals;
+mod stages;
 mod step;
 
 pub use evm_model::{Answer, Boot, Event};
 pub use evm_ram::Refusal;
 pub use machine::Machine;
+pub use stages::Stages;
 
 #[cfg(test)]
 mod tests;

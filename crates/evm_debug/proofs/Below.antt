@@ -1,7 +1,8 @@
 -- One more line of a view that goes by numbers.
-use Rattle.std.proofs.Common.{◌≡◌, ℕ, zero, suc, ◌+◌, List, [], ◌++◌, refl, ap, sym, ◌∙◌, append_assoc, add-one}
+use Rattle.std.proofs.Common.{◌≡◌, ℕ, ◌+◌, List, [], ◌++◌, refl, ap, sym, ◌∙◌, append_assoc, add-one}
 use Rattle.std.proofs.lemmas.List.{append-nil}
 use Rattle.std.specs.Prelude.{slice_get}
+use Rattle.evm_core.specs.Views.{stages_at}
 use Rattle.evm_model.specs.State.{Parts}
 use Rattle.evm_debug.specs.Summary.{stages_below, stages_or_none}
 use Rattle.evm_debug.specs.Views.{tasks_below, task_text}
@@ -18,7 +19,7 @@ pub stages_below-none : (k : Parts) → stages_below 0 k ≡ []
 unfolding stages_below
 stages_below-none k = refl
 
-pub stages_below-more : (c : ℕ) (k : Parts) → stages_below (c + 1) k ≡ stages_below c k ++ stages_or_none c (slice_get k.processors c) (slice_get k.pipes c)
+pub stages_below-more : (c : ℕ) (k : Parts) → stages_below (c + 1) k ≡ stages_below c k ++ stages_or_none c (slice_get k.processors c) (stages_at c k)
 unfolding stages_below
 stages_below-more c k = rw add-one refl
 

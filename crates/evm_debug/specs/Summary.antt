@@ -1,19 +1,20 @@
 -- What is shown of a machine at the end of a replay.
 use Rattle.std.specs.Prelude.{ℕ, zero, suc, List, [], ◌++◌, Option, Some, None, slice_get, length}
-use Rattle.evm_model.specs.Pipes.{Pipe}
+use Rattle.evm_core.specs.Views.{stages_at}
+use Rattle.evm_core.specs.declared.stages.Stages.{Stages}
 use Rattle.evm_model.specs.State.{Parts, State}
 use Rattle.evm_model.specs.declared.processor.Processor.{Processor}
 use Rattle.evm_debug.specs.Views.{stages_text, tasks_text}
 
-abbrev pub stages_or_none : ℕ → Option Processor → Option Pipe → List ℕ
-stages_or_none c None pipe = []
+abbrev pub stages_or_none : ℕ → Option Processor → Option Stages → List ℕ
+stages_or_none c None stages = []
 stages_or_none c (Some p) None = []
-stages_or_none c (Some p) (Some pipe) = stages_text c p pipe
+stages_or_none c (Some p) (Some stages) = stages_text c p stages
 
 -- the stages of the processors below a number, by their numbers
 unfoldable pub stages_below : ℕ → Parts → List ℕ
 stages_below zero k = []
-stages_below (suc c) k = stages_below c k ++ stages_or_none c (slice_get k.processors c) (slice_get k.pipes c)
+stages_below (suc c) k = stages_below c k ++ stages_or_none c (slice_get k.processors c) (stages_at c k)
 
 -- the owners of the mutexes: a machine has no mutexes yet, so it is empty
 abbrev pub owners_text : State → List ℕ

@@ -5,14 +5,15 @@ use Rattle.evm_ram.specs.Ram.{bytes_at}
 use Rattle.evm_ram.specs.declared.refusal.Refusal.{Refusal}
 use Rattle.evm_ram.specs.declared.refusal.Refusal.TheVariants.{NoSuchCpu, NoSuchLine, BadAddress}
 use Rattle.evm_debug.specs.declared.line.View.{View}
-use Rattle.evm_debug.specs.declared.line.View.TheVariants.{Regs, Mem, Stages, Tasks, Counts as CountsView, Journal, Console}
+use Rattle.evm_debug.specs.declared.line.View.TheVariants.{Regs, Mem, Stages as StagesView, Tasks, Counts as CountsView, Journal, Console}
 use Rattle.evm_journal.specs.Journal.{journal_text}
 use Rattle.evm_debug.specs.declared.look.ViewRefusal.{ViewRefusal}
 use Rattle.evm_debug.specs.declared.look.ViewRefusal.TheVariants.{Refused, NoMemory}
+use Rattle.evm_core.specs.Views.{counts_at, stages_at}
+use Rattle.evm_core.specs.declared.stages.Stages.{Stages}
 use Rattle.evm_exec.specs.Registers.{register_of}
 use Rattle.evm_lines.specs.Lines.{word_of}
 use Rattle.evm_model.specs.Faults.{fault_number}
-use Rattle.evm_model.specs.Pipes.{Pipe}
 use Rattle.evm_model.specs.State.{Memory, Parts, State}
 use Rattle.evm_model.specs.Ranks.{is_oob_ready}
 use Rattle.evm_exec.specs.declared.hart.Hart.{Hart}
@@ -123,12 +124,12 @@ abbrev pub tasks_text : Parts → List ℕ
 tasks_text k = tasks_below (length k.tasks) k
 
 -- processor c: its task, its two logs with their stall bits, its in-band task, its wire, and its stop and skip bits
-abbrev pub stages_text : ℕ → Processor → Pipe → List ℕ
-stages_text c p pipe = joined (
+abbrev pub stages_text : ℕ → Processor → Stages → List ℕ
+stages_text c p stages = joined (
     codes "cpu " ∷ decimal c ∷ codes " current " ∷ number_text p.current
-    ∷ codes " oob " ∷ bit_text pipe.oob.stalled ∷ codes " " ∷ lines_text pipe.oob.lines
-    ∷ codes " in " ∷ bit_text pipe.inband.stalled ∷ codes " " ∷ lines_text pipe.inband.lines
-    ∷ codes " task " ∷ number_text p.in_band_task ∷ codes " wire " ∷ lines_text pipe.wire
+    ∷ codes " oob " ∷ bit_text stages.oob.stalled ∷ codes " " ∷ lines_text stages.oob.lines
+    ∷ codes " in " ∷ bit_text stages.inband.stalled ∷ codes " " ∷ lines_text stages.inband.lines
+    ∷ codes " task " ∷ number_text p.in_band_task ∷ codes " wire " ∷ lines_text stages.wire
     ∷ codes " stop " ∷ bit_text p.stopped ∷ codes " skip " ∷ bit_text p.skip ∷ codes "\n" ∷ [])
 
 -- the counts of a line; of each stage its arrivals, merged and played
@@ -140,10 +141,10 @@ counts_text n = joined (
     ∷ codes "\n" ∷ [])
 
 -- the stages of a processor, if there is one
-abbrev pub stages_of : ℕ → Option Processor → Option Pipe → Result (List ℕ) Refusal
-stages_of c None pipe = Err NoSuchCpu
+abbrev pub stages_of : ℕ → Option Processor → Option Stages → Result (List ℕ) Refusal
+stages_of c None stages = Err NoSuchCpu
 stages_of c (Some p) None = Err NoSuchCpu
-stages_of c (Some p) (Some pipe) = Ok (stages_text c p pipe)
+stages_of c (Some p) (Some stages) = Ok (stages_text c p stages)
 
 abbrev pub regs_of : Option Processor → Parts → Result (List ℕ) Refusal
 regs_of None k = Err NoSuchCpu
@@ -154,9 +155,9 @@ line_of None = Err NoSuchLine
 line_of (Some n) = Ok (counts_text n)
 
 -- the processor is looked for before the line
-abbrev pub counts_of : Option Pipe → ℕ → Result (List ℕ) Refusal
-counts_of None l = Err NoSuchCpu
-counts_of (Some pipe) l = line_of (slice_get pipe.counts l)
+abbrev pub counts_shown : Option Stages → Option Counts → Result (List ℕ) Refusal
+counts_shown None counts = Err NoSuchCpu
+counts_shown (Some stages) counts = line_of counts
 
 abbrev pub bytes_text : Option (List ℕ) → Result (List ℕ) Refusal
 bytes_text None = Err BadAddress
@@ -171,9 +172,9 @@ mem_of address count m =
 unfoldable pub shown : View → State → Result (List ℕ) Refusal
 shown (Regs c) s = regs_of (slice_get s.board.parts.processors c) s.board.parts
 shown (Mem address count) s = mem_of address count s.board.memory
-shown (Stages c) s = stages_of c (slice_get s.board.parts.processors c) (slice_get s.board.parts.pipes c)
+shown (StagesView c) s = stages_of c (slice_get s.board.parts.processors c) (stages_at c s.board.parts)
 shown Tasks s = Ok (tasks_text s.board.parts)
-shown (CountsView c l) s = counts_of (slice_get s.board.parts.pipes c) l
+shown (CountsView c l) s = counts_shown (stages_at c s.board.parts) (counts_at c l s.board.parts)
 shown Journal s = Ok (journal_text s.boot s.journal)
 shown Console s = Ok (pairs s.board.parts.console ++ codes "\n")
 

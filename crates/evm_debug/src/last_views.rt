@@ -2,6 +2,7 @@
 
 ghost use Rattle.std.specs.Prelude.{◌≡◌, ◌++◌, length, slice_get, OnOk, IfOk};
 ghost use Rattle.std.specs.String.{string_bytes};
+ghost use Rattle.evm_core.specs.Views.{stages_at};
 ghost use Rattle.evm_debug.specs.Summary.{stages_below, stages_or_none, summary_text};
 
 use crate::views::{push_stages, push_tasks};
@@ -11,14 +12,14 @@ use std::alloc::{AllocError, Global};
 
 // The stages of the processor of a number, if there is one.
 fn push_stages_of(out: &mut String, c: u8, machine: &Machine) -> Result<(), AllocError>
-    ensures { OnOk result (string_bytes out.new ≡ string_bytes out.old ++ stages_or_none c (slice_get machine.now.board.parts.processors c) (slice_get machine.now.board.parts.pipes c)) }
+    ensures { OnOk result (string_bytes out.new ≡ string_bytes out.old ++ stages_or_none c (slice_get machine.now.board.parts.processors c) (stages_at c machine.now.board.parts)) }
 {
     let Some(processor) = machine.cpu(c) else {
         return Ok(());
     };
-    match machine.pipe(c) {
+    match machine.stages(c) {
         None => Ok(()),
-        Some(pipe) => push_stages(out, c, &processor, pipe),
+        Some(stages) => push_stages(out, c, &processor, &stages),
     }
 }
 

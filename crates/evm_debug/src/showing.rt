@@ -53,9 +53,9 @@ pub fn show(alloc: Global, machine: &Machine, view: &View) -> Result<String, Vie
             let Some(processor) = machine.cpu(*c) else {
                 return Err(ViewRefusal::Refused(Refusal::NoSuchCpu));
             };
-            match machine.pipe(*c) {
+            match machine.stages(*c) {
                 None => return Err(ViewRefusal::Refused(Refusal::NoSuchCpu)),
-                Some(pipe) => push_stages(&mut out, *c, &processor, pipe),
+                Some(stages) => push_stages(&mut out, *c, &processor, &stages),
             }
         }
         View::Tasks => push_tasks(&mut out, machine),
@@ -64,10 +64,10 @@ pub fn show(alloc: Global, machine: &Machine, view: &View) -> Result<String, Vie
             push_console(&mut out, older, newer)
         }
         View::Counts(c, line) => {
-            let Some(pipe) = machine.pipe(*c) else {
+            let Some(_) = machine.stages(*c) else {
                 return Err(ViewRefusal::Refused(Refusal::NoSuchCpu));
             };
-            match pipe.counts(*line) {
+            match machine.counts(*c, *line) {
                 None => return Err(ViewRefusal::Refused(Refusal::NoSuchLine)),
                 Some(counts) => push_counts(&mut out, &counts),
             }

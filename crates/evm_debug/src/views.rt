@@ -5,11 +5,10 @@ ghost use Rattle.evm_exec.specs.Registers.{register_of};
 
 use crate::piece::Piece;
 use crate::pieces::push_pieces;
-use evm_core::Machine;
+use evm_core::{Machine, Stages};
 use evm_exec::Hart;
 use evm_isa::Register;
-use evm_model::{Counts, Processor, Stage, Task};
-use evm_pipe::Pipe;
+use evm_model::{Counts, Processor, Task};
 use std::alloc::AllocError;
 
 // A register by its number.
@@ -140,29 +139,27 @@ pub(crate) fn push_stages(
     out: &mut String,
     c: u8,
     processor: &Processor,
-    pipe: &Pipe,
+    stages: &Stages,
 ) -> Result<(), AllocError>
-    ensures { OnOk result (string_bytes out.new ≡ string_bytes out.old ++ stages_text c processor.now pipe.now) }
+    ensures { OnOk result (string_bytes out.new ≡ string_bytes out.old ++ stages_text c processor.now stages.now) }
 {
-    let oob = pipe.log(Stage::OutOfBand);
-    let inband = pipe.log(Stage::InBand);
     let line = [
         Piece::Text("cpu "),
         Piece::Decimal(u64::from(c)),
         Piece::Text(" current "),
         Piece::Number(processor.current),
         Piece::Text(" oob "),
-        Piece::Bit(oob.stalled),
+        Piece::Bit(stages.oob.stalled),
         Piece::Text(" "),
-        Piece::Lines(oob.lines),
+        Piece::Lines(stages.oob.lines),
         Piece::Text(" in "),
-        Piece::Bit(inband.stalled),
+        Piece::Bit(stages.inband.stalled),
         Piece::Text(" "),
-        Piece::Lines(inband.lines),
+        Piece::Lines(stages.inband.lines),
         Piece::Text(" task "),
         Piece::Number(processor.in_band_task),
         Piece::Text(" wire "),
-        Piece::Lines(pipe.wire()),
+        Piece::Lines(stages.wire),
         Piece::Text(" stop "),
         Piece::Bit(processor.stopped),
         Piece::Text(" skip "),
