@@ -5,6 +5,7 @@
 mod headline;
 mod no_interrupt_lost;
 mod parts;
+mod rules;
 mod safe_and_total;
 mod steps;
 
@@ -17,6 +18,10 @@ pub use parts::{
     a_command_changes_one_place, a_raise_puts_its_line_on_the_wire, a_register_keeps_its_number,
     a_tick_moves_the_clock, an_accepted_event_is_journaled, an_image_stands_in_ram,
     the_best_task_is_first, the_least_refusal_is_told, words_and_instructions_are_inverse,
+};
+pub use rules::{
+    a_private_row_settles_nothing, a_processor_runs_its_best_task, a_stage_is_stalled_by_its_task,
+    nothing_waits_in_an_open_log,
 };
 pub use safe_and_total::{
     a_machine_is_as_it_was_booted, counts_never_wrap, sizes_never_change, the_clock_is_its_ticks,
