@@ -1,0 +1,5 @@
+pub mod Greatest
+pub mod Heights
+pub mod Links
+pub mod Rounds
+pub mod Walks
