@@ -1,0 +1,2 @@
+        li a0,1
+        j nowhere
