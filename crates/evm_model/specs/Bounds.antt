@@ -3,6 +3,7 @@ use Rattle.std.specs.Prelude.{◌≡◌, ℕ, ◌≤◌, List, Some, slice_get}
 use Rattle.evm_model.specs.Pipes.{Pipe}
 use Rattle.evm_model.specs.declared.counts.Counts.{Counts}
 use Rattle.evm_model.specs.declared.counts.Passage.{Passage}
+use Rattle.evm_model.specs.declared.mutex.Mutex.{Mutex}
 
 -- no event adds more than this to any count
 abbrev pub PER_EVENT : ℕ
@@ -32,3 +33,7 @@ pub record PipeUpTo (bound : ℕ) (p : Pipe) : Type 0 where
 -- .. of no processor
 pub record PipesUpTo (bound : ℕ) (pipes : List Pipe) : Type 0 where
   pub each : (c : ℕ) (p : Pipe) → slice_get pipes c ≡ Some p → PipeUpTo bound p
+
+-- no mutex is locked more often
+pub record HeldUpTo (bound : ℕ) (mutexes : List Mutex) : Type 0 where
+  pub count : (m : ℕ) (mutex : Mutex) → slice_get mutexes m ≡ Some mutex → mutex.count ≤ bound

@@ -1,9 +1,11 @@
 -- The calls: their numbers and stages, and the ECALL.
-use Rattle.std.specs.Prelude.{ℕ, List, [], ◌∷◌, Option, Some, None, Bool, true, false, ◌&&◌, ◌==◌, if◌then◌else◌, slice_get}
+use Rattle.std.specs.Prelude.{ℕ, List, [], ◌∷◌, Option, Some, None, Bool, true, false, not, ◌&&◌, ◌==◌, if◌then◌else◌, slice_get}
 use Rattle.evm_exec.specs.Registers.{register_of}
 use Rattle.evm_exec.specs.declared.hart.Hart.{Hart}
 use Rattle.evm_model.specs.Harts.{A7, advance, answer, argument}
 use Rattle.evm_model.specs.InBandCalls.{exit, putc, yield_now, spawn, wait_line, attach, detach, set_line}
+use Rattle.evm_model.specs.Locks.{new_mutex, lock, try_lock, unlock}
+use Rattle.evm_model.specs.Mutexes.{owns_any}
 use Rattle.evm_model.specs.OobCalls.{stall, switch_oob, switch_in_band, set_sched, set_mode, yield_oob, clock, state_bits}
 use Rattle.evm_model.specs.Ranks.{is_oob_ready}
 use Rattle.evm_model.specs.Settle.{is_oob}
@@ -11,7 +13,7 @@ use Rattle.evm_model.specs.Stages.{refused, may_promote}
 use Rattle.evm_model.specs.State.{Parts, on_hart}
 use Rattle.evm_model.specs.Tasks.{demote, promote}
 use Rattle.evm_model.specs.declared.call.Call.{Call}
-use Rattle.evm_model.specs.declared.call.Call.TheVariants.{Exit as Ends, Putc, Yield, Spawn, Stall, Unstall, WaitLine, Attach, Detach, SetLine, SwitchOob, SwitchInBand, SetSched, SetMode, YieldOob, StallOob, UnstallOob, Clock, StateBits}
+use Rattle.evm_model.specs.declared.call.Call.TheVariants.{Exit as Ends, Putc, Yield, Spawn, Stall, Unstall, WaitLine, Attach, Detach, NewMutex, SetLine, SwitchOob, SwitchInBand, SetSched, SetMode, Lock, TryLock, Unlock, YieldOob, StallOob, UnstallOob, Clock, StateBits}
 use Rattle.evm_model.specs.declared.call.Outcome.{Outcome}
 use Rattle.evm_model.specs.declared.call.Outcome.TheVariants.{Answers, Waits, Leaves}
 use Rattle.evm_model.specs.declared.errno.Errno.TheVariants.{NotPermitted, NoSuchCall}
@@ -32,11 +34,15 @@ call_row Unstall = (5, Some InBand)
 call_row WaitLine = (6, Some InBand)
 call_row Attach = (7, Some InBand)
 call_row Detach = (8, Some InBand)
+call_row NewMutex = (9, Some InBand)
 call_row SetLine = (14, Some InBand)
 call_row SwitchOob = (32, Some OutOfBand)
 call_row SwitchInBand = (33, Some OutOfBand)
 call_row SetSched = (34, Some OutOfBand)
 call_row SetMode = (35, Some OutOfBand)
+call_row Lock = (36, Some OutOfBand)
+call_row TryLock = (37, Some OutOfBand)
+call_row Unlock = (38, Some OutOfBand)
 call_row YieldOob = (50, Some OutOfBand)
 call_row StallOob = (51, Some OutOfBand)
 call_row UnstallOob = (52, Some OutOfBand)
@@ -51,8 +57,8 @@ call_stage call = (call_row call).1
 
 abbrev pub all_calls : List Call
 all_calls =
-    Ends ∷ Putc ∷ Yield ∷ Spawn ∷ Stall ∷ Unstall ∷ WaitLine ∷ Attach ∷ Detach ∷ SetLine ∷ SwitchOob ∷ SwitchInBand ∷ SetSched
-    ∷ SetMode ∷ YieldOob ∷ StallOob ∷ UnstallOob ∷ Clock ∷ StateBits ∷ []
+    Ends ∷ Putc ∷ Yield ∷ Spawn ∷ Stall ∷ Unstall ∷ WaitLine ∷ Attach ∷ Detach ∷ NewMutex ∷ SetLine ∷ SwitchOob ∷ SwitchInBand
+    ∷ SetSched ∷ SetMode ∷ Lock ∷ TryLock ∷ Unlock ∷ YieldOob ∷ StallOob ∷ UnstallOob ∷ Clock ∷ StateBits ∷ []
 
 -- the first of the calls that has the number
 abbrev pub numbered : ℕ → List Call → Option Call
@@ -74,11 +80,15 @@ perform Unstall ram hart c t k = stall InBand false c k
 perform WaitLine ram hart c t k = wait_line c t (argument 0 hart) k
 perform Attach ram hart c t k = attach t (argument 0 hart) (argument 1 hart) k
 perform Detach ram hart c t k = detach t k
+perform NewMutex ram hart c t k = new_mutex (argument 0 hart) (argument 1 hart) k
 perform SetLine ram hart c t k = set_line (argument 0 hart) (argument 1 hart) k
 perform SwitchOob ram hart c t k = switch_oob k
 perform SwitchInBand ram hart c t k = switch_in_band c t k
 perform SetSched ram hart c t k = set_sched (argument 0 hart) (argument 1 hart) (argument 2 hart) k
 perform SetMode ram hart c t k = set_mode t (argument 0 hart) k
+perform Lock ram hart c t k = lock c t (argument 0 hart) (argument 1 hart) k
+perform TryLock ram hart c t k = try_lock t (argument 0 hart) k
+perform Unlock ram hart c t k = unlock t (argument 0 hart) k
 perform YieldOob ram hart c t k = yield_oob t k
 perform StallOob ram hart c t k = stall OutOfBand true c k
 perform UnstallOob ram hart c t k = stall OutOfBand false c k
@@ -93,9 +103,9 @@ abbrev pub is_weak_oob : Option Task → Bool
 is_weak_oob None = false
 is_weak_oob (Some task) = is_oob_ready task.state && is_weak task.class
 
--- a weak task stays out-of-band only until its call is answered
+-- a weak task that owns no mutex stays out-of-band only until its call is answered
 unfoldable pub return_weak : ℕ → ℕ → Parts → Parts
-return_weak c t k = if is_weak_oob (slice_get k.tasks t) then demote c t k else k
+return_weak c t k = if is_weak_oob (slice_get k.tasks t) && not (owns_any t k.mutexes) then demote c t k else k
 
 -- a call is answered, or its task waits, or has left
 abbrev pub answered : Outcome → ℕ → ℕ → Parts → Parts

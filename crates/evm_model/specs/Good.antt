@@ -3,33 +3,43 @@ use Rattle.std.specs.Prelude.{◌≡◌, ◌<◌, ◌≤◌, ℕ, ◌+◌, ◌*�
 use Rattle.evm_lines.specs.Lines.{has_line, IsLineSet}
 use Rattle.evm_lines.specs.declared.TheConstants.{LINES}
 use Rattle.evm_exec.specs.declared.hart.Hart.{Hart}
-use Rattle.evm_model.specs.Bounds.{PER_EVENT, STAMPS_PER_EVENT, PipesUpTo}
+use Rattle.evm_ranks.specs.Boosts.{HasHeight}
+use Rattle.evm_model.specs.Bounds.{PER_EVENT, STAMPS_PER_EVENT, PipesUpTo, HeldUpTo}
+use Rattle.evm_model.specs.Mutexes.{owner, lock_at, waits_on}
 use Rattle.evm_model.specs.Pipes.{Pipe}
 use Rattle.evm_model.specs.Ranks.{best}
 use Rattle.evm_model.specs.Replay.{bad_boot}
 use Rattle.evm_model.specs.Settle.{is_oob}
 use Rattle.evm_model.specs.State.{State, Parts}
-use Rattle.evm_model.specs.Tasks.{is_live}
 use Rattle.evm_model.specs.declared.event.Event.{Event}
 use Rattle.evm_model.specs.declared.event.Event.TheVariants.{Tick}
-use Rattle.evm_model.specs.declared.limits.TheConstants.{PROCESSOR_LIMIT, TASK_LIMIT}
+use Rattle.evm_model.specs.declared.limits.TheConstants.{MUTEX_LIMIT, PROCESSOR_LIMIT, TASK_LIMIT}
+use Rattle.evm_model.specs.declared.mutex.Mutex.{Mutex}
 use Rattle.evm_model.specs.declared.processor.Processor.{Processor}
 use Rattle.evm_model.specs.declared.task.Task.{Task}
+use Rattle.evm_model.specs.declared.task.TaskState.{TaskState}
+use Rattle.evm_model.specs.declared.task.TaskState.TheVariants.{InReady, OobReady}
 
--- task t is one of processor c's, and has not ended
+-- a task that is ready, on whatever stage
+abbrev pub is_ready : TaskState → Bool
+is_ready InReady = true
+is_ready OobReady = true
+is_ready _ = false
+
+-- task t is one of processor c's, and ready
 pub record IsOwn (c t : ℕ) (tasks : List Task) : Type 0 where
   pub task : Task
   pub there : slice_get tasks t ≡ Some task
   pub at_home : task.cpu ≡ c
-  pub live : is_live task.state ≡ true
+  pub ready : is_ready task.state ≡ true
 
 -- processor c runs what its two stages say
-pub record IsSettled (c : ℕ) (pipe : Pipe) (p : Processor) (tasks : List Task) : Type 0 where
+pub record IsSettled (c : ℕ) (pipe : Pipe) (p : Processor) (mutexes : List Mutex) (tasks : List Task) : Type 0 where
   -- its current tasks are its own
   pub current_own : (t : ℕ) → p.current ≡ Some t → IsOwn c t tasks
   pub in_band_own : (t : ℕ) → p.in_band_task ≡ Some t → IsOwn c t tasks
   -- unless out-of-band is stalled or line 1 is on the wire, the best task that is ready there is current
-  pub runs_best : pipe.oob.stalled ≡ false → has_line pipe.wire 1 ≡ false → (t : ℕ) → best c tasks ≡ Some t → p.current ≡ Some t
+  pub runs_best : pipe.oob.stalled ≡ false → has_line pipe.wire 1 ≡ false → (t : ℕ) → best c mutexes tasks ≡ Some t → p.current ≡ Some t
   -- where no out-of-band task is current the in-band current one is, or none
   pub runs_in_band : is_oob p.current tasks ≡ false → p.current ≡ p.in_band_task
   -- an out-of-band log isn't empty only while that stage is stalled
@@ -47,14 +57,26 @@ pub record IsPipe (p : Pipe) : Type 0 where
   pub inband : IsLineSet p.inband.lines
   pub counts : length p.counts ≡ LINES
 
+-- who owns the mutexes, and who waits for them
+pub record AreLocks (mutexes : List Mutex) (tasks : List Task) : Type 0 where
+  -- each owner is a task
+  pub owners : (m t : ℕ) → owner mutexes m ≡ Some t → t < length tasks
+  -- a mutex for which a task waits has an owner
+  pub waited : (u m : ℕ) → lock_at tasks u ≡ Some m → owner mutexes m ≡ None → ⊥
+  -- some height falls from each task that waits to the owner that it waits for: so no chain returns to its start
+  pub chains : HasHeight (waits_on mutexes tasks) TASK_LIMIT
+  -- no more of them than there may be
+  pub few : length mutexes ≤ MUTEX_LIMIT
+
 -- what holds of the parts
 pub record Good (k : Parts) : Type 0 where
   pub pipes : (c : ℕ) (pipe : Pipe) → slice_get k.pipes c ≡ Some pipe → IsPipe pipe
-  pub settled : (c : ℕ) (pipe : Pipe) (p : Processor) → slice_get k.pipes c ≡ Some pipe → slice_get k.processors c ≡ Some p → IsSettled c pipe p k.tasks
+  pub settled : (c : ℕ) (pipe : Pipe) (p : Processor) → slice_get k.pipes c ≡ Some pipe → slice_get k.processors c ≡ Some p → IsSettled c pipe p k.mutexes k.tasks
   -- each pc is a multiple of 4
   pub aligned : (t : ℕ) (hart : Hart) → slice_get k.harts t ≡ Some hart → hart.pc % 4 ≡ 0
   -- each task is of a processor that is there
   pub homes : (t : ℕ) (task : Task) → slice_get k.tasks t ≡ Some task → task.cpu < length k.processors
+  pub locks : AreLocks k.mutexes k.tasks
   -- stamps are distinct, and below the next
   pub stamps_below : (t : ℕ) (task : Task) → slice_get k.tasks t ≡ Some task → task.stamp < k.stamps
   pub stamps_differ : (t u : ℕ) (a b : Task) → slice_get k.tasks t ≡ Some a → slice_get k.tasks u ≡ Some b → a.stamp ≡ b.stamp → t ≡ u
@@ -83,3 +105,4 @@ pub record GoodState (s : State) : Type 0 where
   pub stamps : s.board.parts.stamps ≤ 1 + STAMPS_PER_EVENT * length s.journal
   -- counts are far below 2^64
   pub counts : PipesUpTo (PER_EVENT * length s.journal) s.board.parts.pipes
+  pub holds : HeldUpTo (PER_EVENT * length s.journal) s.board.parts.mutexes

@@ -2,10 +2,12 @@
 use Rattle.std.specs.Prelude.{ℕ, ◌+◌, ◌-◌, ◌%◌, List, [], ◌∷◌, ◌++◌, Option, Some, None, Bool, true, not, ◌==◌, nat_lt, nat_le, is_none, drop, if◌then◌else◌, slice_get, length}
 use Rattle.evm_lines.specs.declared.TheConstants.{LINES}
 use Rattle.evm_model.specs.Harts.{spawned_hart}
+use Rattle.evm_model.specs.Mutexes.{owns_any}
+use Rattle.evm_model.specs.Passing.{end_task}
 use Rattle.evm_model.specs.Policies.{policy_of}
 use Rattle.evm_model.specs.Stages.{refused, is_stalled, is_attached}
 use Rattle.evm_model.specs.State.{Parts, new_task}
-use Rattle.evm_model.specs.Tasks.{restamp, set_state, leave_in_band, end_task, set_policy, clear_policy}
+use Rattle.evm_model.specs.Tasks.{restamp, set_state, leave_in_band, set_policy, clear_policy}
 use Rattle.evm_ram.specs.declared.ram.TheConstants.{BASE}
 use Rattle.evm_model.specs.declared.call.Outcome.{Outcome}
 use Rattle.evm_model.specs.declared.call.Outcome.TheVariants.{Answers, Waits, Leaves}
@@ -68,9 +70,11 @@ attach_as (Some class) t priority k =
 unfoldable pub attach : ℕ → ℕ → ℕ → Parts → Parts × Outcome
 attach t class priority k = attach_as (policy_of class priority) t priority k
 
--- 8: the task has no class
+-- 8: the task has no class; not while it owns a mutex
 unfoldable pub detach : ℕ → Parts → Parts × Outcome
-detach t k = if is_attached t k then (clear_policy t k, Answers 0) else refused NotPermitted k
+detach t k =
+    if not (is_attached t k) then refused NotPermitted k
+    else (if owns_any t k.mutexes then refused Busy k else (clear_policy t k, Answers 0))
 
 -- 14: lines 2 to 31 have an action, 0 for none; the others name an object, and there is none yet
 unfoldable pub set_line : ℕ → ℕ → Parts → Parts × Outcome

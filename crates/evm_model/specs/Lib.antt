@@ -9,8 +9,11 @@ pub mod InBandCalls
 pub mod Instructions
 pub mod Lists
 pub mod Load
+pub mod Locks
 pub mod Memory
+pub mod Mutexes
 pub mod OobCalls
+pub mod Passing
 pub mod Pipes
 pub mod Policies
 pub mod Ranks

@@ -1,30 +1,40 @@
 -- Which task goes first. Tasks are spoken of by their numbers, so that a rank may come from other tasks too.
 use Rattle.std.specs.Prelude.{◌≡◌, ℕ, zero, suc, ◌+◌, ◌<◌, List, Option, Some, None, Bool, true, false, ◌&&◌, ◌==◌, nat_lt, if◌then◌else◌, slice_get, length}
+use Rattle.evm_ranks.specs.Boosts.{greatest, rank_after}
+use Rattle.evm_model.specs.Mutexes.{raised, ceiling, boosts}
+use Rattle.evm_model.specs.declared.limits.TheConstants.{TASK_LIMIT}
+use Rattle.evm_model.specs.declared.mutex.Mutex.{Mutex}
 use Rattle.evm_model.specs.declared.task.Task.{Task}
 use Rattle.evm_model.specs.declared.task.Class.{Class}
 use Rattle.evm_model.specs.declared.task.Class.TheVariants.{Unattached, Fifo, RoundRobin, Weak}
 use Rattle.evm_model.specs.declared.task.TaskState.{TaskState}
 use Rattle.evm_model.specs.declared.task.TaskState.TheVariants.{InReady, OobReady}
 
--- a task's own rank: fixed-priority classes stand above the weak class, and that above unattached tasks
-abbrev pub own_rank : Class → ℕ → ℕ
-own_rank Unattached priority = 0
-own_rank Fifo priority = 100 + priority
-own_rank RoundRobin priority = 100 + priority
-own_rank Weak priority = priority
+-- the rank of a class: those of fixed priority stand above the weak one, and that above unattached tasks
+abbrev pub class_rank : Class → ℕ → ℕ
+class_rank Unattached priority = 0
+class_rank Fifo priority = 100 + priority
+class_rank RoundRobin priority = 100 + priority
+class_rank Weak priority = priority
 
-abbrev pub rank_of : Option Task → ℕ
-rank_of None = 0
-rank_of (Some task) = own_rank task.class task.priority
+abbrev pub class_rank_of : Option Task → ℕ
+class_rank_of None = 0
+class_rank_of (Some task) = class_rank task.class task.priority
+
+-- task t's own rank: that of its class, and of each ceiling mutex that it owns
+unfoldable pub own_rank : List Mutex → List Task → ℕ → ℕ
+own_rank mutexes tasks t = greatest (raised mutexes) (ceiling mutexes) t (class_rank_of (slice_get tasks t)) (length mutexes)
 
 abbrev pub stamp_of : Option Task → ℕ
 stamp_of None = 0
 stamp_of (Some task) = task.stamp
 
--- the rank of task t, and its stamp
-abbrev pub rank : List Task → ℕ → ℕ
-rank tasks t = rank_of (slice_get tasks t)
+-- the rank of task t: its own, and that of each task which it keeps waiting by a mutex of inheritance, through any
+-- chain of them
+unfoldable pub rank : List Mutex → List Task → ℕ → ℕ
+rank mutexes tasks t = rank_after (boosts mutexes tasks) (own_rank mutexes tasks) (length tasks) TASK_LIMIT t
 
+-- its stamp
 abbrev pub stamp : List Task → ℕ → ℕ
 stamp tasks t = stamp_of (slice_get tasks t)
 
@@ -74,8 +84,8 @@ abbrev pub runs_in_band : ℕ → List Task → ℕ → Bool
 runs_in_band c tasks t = runs_in_band_task c (slice_get tasks t)
 
 -- the out-of-band task that processor c should run
-unfoldable pub best : ℕ → List Task → Option ℕ
-best c tasks = first (runs_oob c tasks) (rank tasks) (stamp tasks) (length tasks)
+unfoldable pub best : ℕ → List Mutex → List Task → Option ℕ
+best c mutexes tasks = first (runs_oob c tasks) (rank mutexes tasks) (stamp tasks) (length tasks)
 
 -- the in-band task that processor c should take up: that of least stamp
 unfoldable pub next_in_band : ℕ → List Task → Option ℕ

@@ -59,7 +59,7 @@ play_in_band_lines c (l ∷ ls) k = play_in_band_lines c ls (play_in_band c l k)
 
 -- the best out-of-band task is current, or none
 abbrev pub run_best : ℕ → Parts → Parts
-run_best c k = on_processor c (λ p. record p { current = best c k.tasks }) k
+run_best c k = on_processor c (λ p. record p { current = best c k.mutexes k.tasks }) k
 
 -- the out-of-band part: unless it is stalled the log is played, and the best task is current
 abbrev pub settle_oob_pipe : Option Pipe → ℕ → Parts → Parts
@@ -103,7 +103,7 @@ differs (Some t) (Some u) = not (t == u)
 
 -- processor d has a better task than its current one, and can be told so: it isn't stalled, and line 1 isn't on its wire
 abbrev pub wants_nudge : ℕ → Pipe → Parts → Bool
-wants_nudge d pipe k = not pipe.oob.stalled && (not (has_line pipe.wire 1) && differs (best d k.tasks) (current d k))
+wants_nudge d pipe k = not pipe.oob.stalled && (not (has_line pipe.wire 1) && differs (best d k.mutexes k.tasks) (current d k))
 
 abbrev pub nudge_pipe : ℕ → Parts → ℕ → Pipe → Pipe
 nudge_pipe c k d pipe = if d == c then pipe else (if wants_nudge d pipe k then raise 1 pipe else pipe)

@@ -6,6 +6,7 @@ use Rattle.evm_model.specs.Lists.{change}
 use Rattle.evm_model.specs.Pipes.{Pipe, idle_pipe}
 use Rattle.evm_model.specs.declared.boot.Boot.{Boot}
 use Rattle.evm_model.specs.declared.event.Event.{Event}
+use Rattle.evm_model.specs.declared.mutex.Mutex.{Mutex}
 use Rattle.evm_model.specs.declared.processor.Processor.{Processor}
 use Rattle.evm_model.specs.declared.task.Task.{Task}
 use Rattle.evm_model.specs.declared.mode.Mode.{Mode}
@@ -26,6 +27,8 @@ pub record Parts : Type 0 where
   pub pipes : List Pipe
   -- the stamp that is given next
   pub stamps : ℕ
+  -- mutex m is the m-th
+  pub mutexes : List Mutex
   -- what was put to the console, the last bytes of it
   pub console : List ℕ
 
@@ -59,6 +62,9 @@ on_processor c f k = record k { processors = change f k.processors c }
 abbrev pub on_pipe : ℕ → (Pipe → Pipe) → Parts → Parts
 on_pipe c f k = record k { pipes = change f k.pipes c }
 
+abbrev pub on_mutex : ℕ → (Mutex → Mutex) → Parts → Parts
+on_mutex m f k = record k { mutexes = change f k.mutexes m }
+
 abbrev pub on_parts : (Parts → Parts) → Board → Board
 on_parts f b = record b { parts = f b.parts }
 
@@ -89,6 +95,7 @@ booted_parts boot = record {
   processors = slice_set (replicate boot.cpus (first_processor None)) 0 (first_processor (Some 0));
   pipes = replicate boot.cpus idle_pipe;
   stamps = 1;
+  mutexes = [];
   console = [];
 }
 

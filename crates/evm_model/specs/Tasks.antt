@@ -5,7 +5,7 @@ use Rattle.evm_model.specs.Pipes.{set_stall}
 use Rattle.evm_model.specs.Ranks.{is_oob_ready}
 use Rattle.evm_model.specs.State.{Parts, no_mode, on_hart, on_task, on_processor, on_pipe}
 use Rattle.evm_model.specs.declared.limits.TheConstants.{SLICE}
-use Rattle.evm_model.specs.declared.stage.Stage.TheVariants.{OutOfBand, InBand}
+use Rattle.evm_model.specs.declared.stage.Stage.TheVariants.{OutOfBand}
 use Rattle.evm_model.specs.declared.task.Class.{Class}
 use Rattle.evm_model.specs.declared.task.Class.TheVariants.{Unattached, RoundRobin}
 use Rattle.evm_model.specs.declared.task.Task.{Task}
@@ -24,10 +24,6 @@ set_state t state k = on_task t (λ task. record task { state = state }) k
 -- processor c has no in-band current task
 unfoldable pub leave_in_band : ℕ → Parts → Parts
 leave_in_band c k = on_processor c (λ p. record p { in_band_task = None }) k
-
--- task t of processor c ends: in-band isn't stalled there afterwards, and the task is in-band current no more
-unfoldable pub end_task : ℕ → ℕ → TaskState → Parts → Parts
-end_task c t state k = set_state t state (leave_in_band c (on_pipe c (set_stall InBand false) k))
 
 -- task t, which waited in-band, is ready there: its call is answered
 unfoldable pub wake_in_band : ℕ → ℕ → Parts → Parts

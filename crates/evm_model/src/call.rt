@@ -23,6 +23,8 @@ pub enum Call {
     Attach,
     /// The task has no class any more.
     Detach,
+    /// A new mutex.
+    NewMutex,
     /// What is done with a line.
     SetLine,
     /// The task goes out-of-band.
@@ -33,6 +35,12 @@ pub enum Call {
     SetSched,
     /// The task gets other mode bits.
     SetMode,
+    /// The task has a mutex, or waits for it.
+    Lock,
+    /// The task has a mutex, if it need not wait for it.
+    TryLock,
+    /// The task gives a mutex back.
+    Unlock,
     /// The task goes behind the others of its rank that are ready out-of-band.
     YieldOob,
     /// The out-of-band stage plays nothing until it is unstalled, and its current task stays.
@@ -59,11 +67,15 @@ impl Call {
             6 => Some(Call::WaitLine),
             7 => Some(Call::Attach),
             8 => Some(Call::Detach),
+            9 => Some(Call::NewMutex),
             14 => Some(Call::SetLine),
             32 => Some(Call::SwitchOob),
             33 => Some(Call::SwitchInBand),
             34 => Some(Call::SetSched),
             35 => Some(Call::SetMode),
+            36 => Some(Call::Lock),
+            37 => Some(Call::TryLock),
+            38 => Some(Call::Unlock),
             50 => Some(Call::YieldOob),
             51 => Some(Call::StallOob),
             52 => Some(Call::UnstallOob),
@@ -87,11 +99,15 @@ impl Call {
             | Call::WaitLine
             | Call::Attach
             | Call::Detach
+            | Call::NewMutex
             | Call::SetLine => Some(Stage::InBand),
             Call::SwitchOob
             | Call::SwitchInBand
             | Call::SetSched
             | Call::SetMode
+            | Call::Lock
+            | Call::TryLock
+            | Call::Unlock
             | Call::YieldOob
             | Call::StallOob
             | Call::UnstallOob => Some(Stage::OutOfBand),

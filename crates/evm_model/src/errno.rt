@@ -14,6 +14,8 @@ pub enum Errno {
     Busy,
     /// An argument is out of range, or names nothing (EINVAL, 22).
     Invalid,
+    /// The lock would never be had (EDEADLK, 35).
+    Deadlock,
     /// No call has this number (ENOSYS, 38).
     NoSuchCall,
 }
@@ -29,6 +31,7 @@ impl Errno {
             Errno::NoNumber => 0u64.wrapping_sub(12),
             Errno::Busy => 0u64.wrapping_sub(16),
             Errno::Invalid => 0u64.wrapping_sub(22),
+            Errno::Deadlock => 0u64.wrapping_sub(35),
             Errno::NoSuchCall => 0u64.wrapping_sub(38),
         }
     }

@@ -9,6 +9,7 @@ mod event;
 mod fault;
 mod limits;
 mod mode;
+mod mutex;
 mod processor;
 mod stage;
 mod task;
@@ -20,10 +21,11 @@ pub use errno::Errno;
 pub use event::{Answer, Event};
 pub use fault::Fault;
 pub use limits::{
-    BREAKPOINT_LIMIT, CAPACITY_LIMIT, CONSOLE_LIMIT, MODE_LIMIT, POKE_LIMIT, PRIORITY_LIMIT,
-    PROCESSOR_LIMIT, RAM_LEAST, RAM_UNIT, SLICE, TASK_LIMIT,
+    BREAKPOINT_LIMIT, CAPACITY_LIMIT, CONSOLE_LIMIT, MODE_LIMIT, MUTEX_LIMIT, POKE_LIMIT,
+    PRIORITY_LIMIT, PROCESSOR_LIMIT, RAM_LEAST, RAM_UNIT, SLICE, TASK_LIMIT,
 };
 pub use mode::Mode;
+pub use mutex::{Mutex, Protocol};
 pub use processor::Processor;
 pub use stage::{Stage, StageLog};
 pub use task::{Class, Task, TaskState, Wait};

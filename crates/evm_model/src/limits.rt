@@ -4,6 +4,9 @@ pub const PROCESSOR_LIMIT: usize = 8;
 /// The most tasks that there may be; a number is never used again.
 pub const TASK_LIMIT: usize = 64;
 
+/// The most mutexes that there may be; a number is never used again.
+pub const MUTEX_LIMIT: usize = 32;
+
 /// The most addresses at which breakpoints may be set.
 pub const BREAKPOINT_LIMIT: usize = 64;
 

@@ -1,0 +1,104 @@
+-- What each call on a mutex does to the parts, and what comes of it.
+use Rattle.std.specs.Prelude.{ℕ, ◌+◌, ◌-◌, [], ◌∷◌, ◌++◌, Option, Some, None, Bool, true, false, not, ◌==◌, nat_lt, nat_le, if◌then◌else◌, slice_get, length}
+use Rattle.evm_ranks.specs.Boosts.{is_number, meets}
+use Rattle.evm_model.specs.Mutexes.{free_mutex, held_by, waits_on}
+use Rattle.evm_model.specs.Passing.{pass_on}
+use Rattle.evm_model.specs.Stages.{refused, is_stalled}
+use Rattle.evm_model.specs.State.{Parts, on_mutex}
+use Rattle.evm_model.specs.Tasks.{restamp, set_state}
+use Rattle.evm_model.specs.declared.call.Outcome.{Outcome}
+use Rattle.evm_model.specs.declared.call.Outcome.TheVariants.{Answers, Waits}
+use Rattle.evm_model.specs.declared.errno.Errno.TheVariants.{NotPermitted, NoNumber, Busy, Invalid, Deadlock}
+use Rattle.evm_model.specs.declared.limits.TheConstants.{MUTEX_LIMIT, PRIORITY_LIMIT, TASK_LIMIT}
+use Rattle.evm_model.specs.declared.mutex.Mutex.{Mutex}
+use Rattle.evm_model.specs.declared.mutex.Protocol.TheVariants.{Inheritance, Ceiling}
+use Rattle.evm_model.specs.declared.stage.Stage.TheVariants.{OutOfBand}
+use Rattle.evm_model.specs.declared.task.TaskState.TheVariants.{Waits as Waiting}
+use Rattle.evm_model.specs.declared.task.Wait.TheVariants.{Lock}
+
+-- ---- 9: a new mutex
+-- a ceiling is a priority from 1 on
+abbrev pub with_ceiling : Bool → ℕ → Option Mutex
+with_ceiling recursive priority =
+    if nat_lt priority 1 then None
+    else (if nat_lt PRIORITY_LIMIT priority then None else Some (free_mutex recursive (Ceiling priority)))
+
+-- kind 1 and 3 are recursive, 2 and 3 have a ceiling
+abbrev pub mutex_of : ℕ → ℕ → Option Mutex
+mutex_of kind priority =
+    if kind == 0 then Some (free_mutex false Inheritance)
+    else (if kind == 1 then Some (free_mutex true Inheritance)
+    else (if kind == 2 then with_ceiling false priority
+    else (if kind == 3 then with_ceiling true priority else None)))
+
+unfoldable pub add_mutex : Mutex → Parts → Parts
+add_mutex mutex k = record k { mutexes = k.mutexes ++ mutex ∷ [] }
+
+abbrev pub new_mutex_as : Option Mutex → Parts → Parts × Outcome
+new_mutex_as None k = refused Invalid k
+new_mutex_as (Some mutex) k =
+    if nat_le MUTEX_LIMIT (length k.mutexes) then refused NoNumber k
+    else (add_mutex mutex k, Answers (length k.mutexes))
+
+-- its number is answered
+unfoldable pub new_mutex : ℕ → ℕ → Parts → Parts × Outcome
+new_mutex kind priority k = new_mutex_as (mutex_of kind priority) k
+
+-- ---- 36 and 37: a lock
+-- of a free mutex: the task has it
+unfoldable pub take_mutex : ℕ → ℕ → Parts → Parts
+take_mutex t m k = on_mutex m (held_by t 1) k
+
+-- of its own: it has it once more, where it is recursive
+unfoldable pub lock_again : ℕ → ℕ → Mutex → Parts → Parts × Outcome
+lock_again t m mutex k =
+    if mutex.recursive then (on_mutex m (held_by t (mutex.count + 1)) k, Answers 0) else refused Deadlock k
+
+-- task t waits for mutex m
+unfoldable pub wait_for : ℕ → ℕ → Parts → Parts
+wait_for t m k = restamp t (set_state t (Waiting (Lock m)) k)
+
+-- of task u's: it waits, unless out-of-band is stalled, or u waits for it by some chain; a wait has no end yet
+unfoldable pub lock_other : ℕ → ℕ → ℕ → ℕ → ℕ → Parts → Parts × Outcome
+lock_other c t m u deadline k =
+    if is_stalled OutOfBand c k then refused NotPermitted k
+    else (if meets (waits_on k.mutexes k.tasks) t TASK_LIMIT (Some u) then refused Deadlock k
+    else (if not (deadline == 0) then refused Invalid k else (wait_for t m k, Waits)))
+
+abbrev pub lock_owned : Option ℕ → ℕ → ℕ → ℕ → ℕ → Mutex → Parts → Parts × Outcome
+lock_owned None c t m deadline mutex k = (take_mutex t m k, Answers 0)
+lock_owned (Some u) c t m deadline mutex k =
+    if u == t then lock_again t m mutex k else lock_other c t m u deadline k
+
+abbrev pub lock_known : Option Mutex → ℕ → ℕ → ℕ → ℕ → Parts → Parts × Outcome
+lock_known None c t m deadline k = refused Invalid k
+lock_known (Some mutex) c t m deadline k = lock_owned mutex.owner c t m deadline mutex k
+
+-- 36: the task has the mutex, or waits for it
+unfoldable pub lock : ℕ → ℕ → ℕ → ℕ → Parts → Parts × Outcome
+lock c t m deadline k = lock_known (slice_get k.mutexes m) c t m deadline k
+
+abbrev pub try_owned : Option ℕ → ℕ → ℕ → Mutex → Parts → Parts × Outcome
+try_owned None t m mutex k = (take_mutex t m k, Answers 0)
+try_owned (Some u) t m mutex k = if u == t then lock_again t m mutex k else refused Busy k
+
+abbrev pub try_known : Option Mutex → ℕ → ℕ → Parts → Parts × Outcome
+try_known None t m k = refused Invalid k
+try_known (Some mutex) t m k = try_owned mutex.owner t m mutex k
+
+-- 37: the task has the mutex, if it need not wait for it
+unfoldable pub try_lock : ℕ → ℕ → Parts → Parts × Outcome
+try_lock t m k = try_known (slice_get k.mutexes m) t m k
+
+-- ---- 38: an unlock
+-- the last one passes the mutex on
+unfoldable pub unlock_once : ℕ → ℕ → Mutex → Parts → Parts
+unlock_once t m mutex k = if nat_le mutex.count 1 then pass_on m k else on_mutex m (held_by t (mutex.count - 1)) k
+
+abbrev pub unlock_known : Option Mutex → ℕ → ℕ → Parts → Parts × Outcome
+unlock_known None t m k = refused Invalid k
+unlock_known (Some mutex) t m k =
+    if is_number mutex.owner t then (unlock_once t m mutex k, Answers 0) else refused NotPermitted k
+
+unfoldable pub unlock : ℕ → ℕ → Parts → Parts × Outcome
+unlock t m k = unlock_known (slice_get k.mutexes m) t m k
