@@ -7,7 +7,7 @@ use Rattle.evm_ranks.specs.Boosts.{HasHeight}
 use Rattle.evm_model.specs.Bounds.{PER_EVENT, STAMPS_PER_EVENT, PipesUpTo, HeldUpTo}
 use Rattle.evm_model.specs.Mutexes.{owner, lock_at, waits_on}
 use Rattle.evm_model.specs.Pipes.{Pipe}
-use Rattle.evm_model.specs.Ranks.{best}
+use Rattle.evm_model.specs.Ranks.{best, is_in_ready}
 use Rattle.evm_model.specs.Replay.{bad_boot}
 use Rattle.evm_model.specs.Settle.{is_oob}
 use Rattle.evm_model.specs.State.{State, Parts}
@@ -26,18 +26,22 @@ is_ready InReady = true
 is_ready OobReady = true
 is_ready _ = false
 
--- task t is one of processor c's, and ready
-pub record IsOwn (c t : ℕ) (tasks : List Task) : Type 0 where
+-- task t is one of processor c's, and in such a state
+pub record IsOneOf (such : TaskState → Bool) (c t : ℕ) (tasks : List Task) : Type 0 where
   pub task : Task
   pub there : slice_get tasks t ≡ Some task
   pub at_home : task.cpu ≡ c
-  pub ready : is_ready task.state ≡ true
+  pub ready : such task.state ≡ true
+
+-- task t is one of processor c's, and ready
+abbrev pub IsOwn : ℕ → ℕ → List Task → Type 0
+IsOwn c t tasks = IsOneOf is_ready c t tasks
 
 -- processor c runs what its two stages say
 pub record IsSettled (c : ℕ) (pipe : Pipe) (p : Processor) (mutexes : List Mutex) (tasks : List Task) : Type 0 where
-  -- its current tasks are its own
+  -- its current tasks are its own and ready, the in-band one in-band
   pub current_own : (t : ℕ) → p.current ≡ Some t → IsOwn c t tasks
-  pub in_band_own : (t : ℕ) → p.in_band_task ≡ Some t → IsOwn c t tasks
+  pub in_band_own : (t : ℕ) → p.in_band_task ≡ Some t → IsOneOf is_in_ready c t tasks
   -- unless out-of-band is stalled or line 1 is on the wire, the best task that is ready there is current
   pub runs_best : pipe.oob.stalled ≡ false → has_line pipe.wire 1 ≡ false → (t : ℕ) → best c mutexes tasks ≡ Some t → p.current ≡ Some t
   -- where no out-of-band task is current the in-band current one is, or none
