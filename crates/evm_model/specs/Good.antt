@@ -109,4 +109,5 @@ pub record GoodState (s : State) : Type 0 where
   pub stamps : s.board.parts.stamps ≤ 1 + STAMPS_PER_EVENT * length s.journal
   -- counts are far below 2^64
   pub counts : PipesUpTo (PER_EVENT * length s.journal) s.board.parts.pipes
+  -- and so is how often each mutex is locked
   pub holds : HeldUpTo (PER_EVENT * length s.journal) s.board.parts.mutexes

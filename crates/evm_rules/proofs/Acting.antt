@@ -1,26 +1,33 @@
 -- What the acting processor may do before it settles: each leaves the state good but for that.
-use Rattle.std.proofs.Common.{◌≡◌, ℕ, ◌<◌, ◌%◌, List, Bool, true, false, Some, None, length, refl, ap, sym, ◌∙◌}
+use Rattle.std.proofs.Common.{◌≡◌, ℕ, ◌<◌, ◌%◌, List, Bool, true, false, Some, None, length, refl, ap, sym, ◌∙◌, arith}
 use Rattle.std.specs.Prelude.{slice_get}
 use Rattle.evm_exec.specs.declared.hart.Hart.{Hart}
-use Rattle.evm_model.proofs.Lists.{change-elsewhere}
+use Rattle.evm_ranks.specs.Boosts.{meets}
+use Rattle.evm_model.proofs.Lists.{change-elsewhere, length-change}
 use Rattle.evm_model.specs.InBandCalls.{add_task}
-use Rattle.evm_model.specs.Good.{IsOwn}
+use Rattle.evm_model.specs.Good.{IsOneOf, IsOwn, AreLocks}
+use Rattle.evm_model.specs.Lists.{change}
+use Rattle.evm_model.specs.Mutexes.{owner, lock_of, waits_on}
 use Rattle.evm_model.specs.Pipes.{Pipe, set_stall}
+use Rattle.evm_model.specs.Ranks.{is_in_ready, is_oob_ready}
 use Rattle.evm_model.specs.State.{Parts, new_task, on_hart, on_task, on_pipe}
-use Rattle.evm_model.specs.Tasks.{is_live, restamp, set_state, leave_in_band, end_task, demote, promote}
+use Rattle.evm_model.specs.Tasks.{restamp, set_state, leave_in_band, demote, promote}
 use Rattle.evm_model.specs.declared.limits.TheConstants.{TASK_LIMIT}
 use Rattle.evm_model.specs.declared.processor.Processor.{Processor}
 use Rattle.evm_model.specs.declared.stage.Stage.{Stage}
 use Rattle.evm_model.specs.declared.stage.Stage.TheVariants.{OutOfBand, InBand}
 use Rattle.evm_model.specs.declared.task.Task.{Task}
 use Rattle.evm_model.specs.declared.task.TaskState.{TaskState}
-use Rattle.evm_model.specs.declared.task.TaskState.TheVariants.{InReady, OobReady}
+use Rattle.evm_model.specs.declared.task.TaskState.TheVariants.{InReady, OobReady, Waits}
+use Rattle.evm_model.specs.declared.task.Wait.TheVariants.{Lock}
 use Rattle.evm_rules.proofs.Bounded.{are-change}
+use Rattle.evm_rules.proofs.Firsts.{IsOobOwn, own-live}
+use Rattle.evm_rules.proofs.Locks.{locks-fewer, fewer-change, locks-wait}
 use Rattle.evm_rules.proofs.Places.{changed-from}
 use Rattle.evm_rules.proofs.Sets.{IsPipe-stall}
 use Rattle.evm_rules.proofs.Settling.{IsActing, IsHeld, GoodBut, calm-alike}
-use Rattle.evm_rules.proofs.Shapes.{IsShaped, shaped-pipe, shaped-leave, shaped-hart, shaped-task, shaped-state, shaped-restamp, shaped-add}
-use Rattle.evm_rules.proofs.Waking.{AreAlike, alike-own, alike-oob_own, alike-change, alike-other, alike-push, own-state}
+use Rattle.evm_rules.proofs.Shapes.{IsShaped, shaped-pipe, shaped-leave, shaped-hart, shaped-with, shaped-task, shaped-restamp, shaped-add}
+use Rattle.evm_rules.proofs.Waking.{AreAlike, alike-own, alike-oob_own, alike-in_band, alike-change, alike-other, alike-push, one-cases, one-other, own-state}
 
 -- ---- registers
 pub but-hart : (c t : ℕ) (f : Hart → Hart) (k : Parts) → ((hart : Hart) → hart.pc % 4 ≡ 0 → (f hart).pc % 4 ≡ 0) → GoodBut c k → GoodBut c (on_hart t f k)
@@ -93,7 +100,7 @@ but-stalled_oob c k t g = but-stall c OutOfBand true k (λ pipe p e h. let a = g
   in_band_staller = λ u x. a.in_band_staller (ap (λ log. log.stalled) (sym f.1) ∙ u) x;
 }) g
 
-free-unstalled : (c : ℕ) (k : Parts) → IsFree c (on_pipe c (set_stall InBand false) k)
+pub free-unstalled : (c : ℕ) (k : Parts) → IsFree c (on_pipe c (set_stall InBand false) k)
 free-unstalled c k = record {
   free = λ pipe e. let from = changed-from (set_stall InBand false) k.pipes c pipe e in rw from.2 (stalls-in_band false from.0);
 }
@@ -103,7 +110,7 @@ open-unstalled c k = record {
   open_there = λ pipe e. let from = changed-from (set_stall OutOfBand false) k.pipes c pipe e in rw from.2 (stalls-own false from.0).0;
 }
 
-open-in_band : (c : ℕ) (b : Bool) (k : Parts) → IsOpen c k → IsOpen c (on_pipe c (set_stall InBand b) k)
+pub open-in_band : (c : ℕ) (b : Bool) (k : Parts) → IsOpen c k → IsOpen c (on_pipe c (set_stall InBand b) k)
 open-in_band c b k f = record {
   open_there = λ pipe e.
       let from = changed-from (set_stall InBand b) k.pipes c pipe e in
@@ -143,7 +150,7 @@ but-alike c k x pipes processors alike shape g = record {
   own = λ pipe p e h.
       let a = g.own pipe p (ap (λ (xs : List Pipe). slice_get xs c) (sym pipes) ∙ e) (ap (λ (xs : List Processor). slice_get xs c) (sym processors) ∙ h) in
       record {
-        in_band_own = λ u m. alike-own c u k.tasks x.tasks (alike c) (a.in_band_own u m);
+        in_band_own = λ u m. alike-in_band c u k.tasks x.tasks (alike c) (a.in_band_own u m);
         held = λ u. held-alike c p k.tasks x.tasks (alike c) (a.held u);
         in_band_staller = a.in_band_staller;
       };
@@ -158,7 +165,7 @@ but-restamp c t k g =
 -- a task's class, priority, slice or mode
 pub but-task : (c t : ℕ) (f : Task → Task) (k : Parts) → ((task : Task) → (f task).cpu ≡ task.cpu) → ((task : Task) → (f task).state ≡ task.state) → ((task : Task) → (f task).stamp ≡ task.stamp)
     → GoodBut c k → GoodBut c (on_task t f k)
-but-task c t f k cpu state stamp g = but-alike c k (on_task t f k) refl refl (λ d. alike-change d t f k.tasks cpu state) (shaped-task t f k cpu stamp) g
+but-task c t f k cpu state stamp g = but-alike c k (on_task t f k) refl refl (λ d. alike-change d t f k.tasks cpu state) (shaped-task t f k cpu stamp (λ x m e. ap lock_of (sym (state x)) ∙ e)) g
 
 -- a task more
 pub but-add : (c entry value cpu : ℕ) (k : Parts) → entry % 4 ≡ 0 → cpu < length k.processors → length k.tasks < TASK_LIMIT → GoodBut c k → GoodBut c (add_task entry value cpu k)
@@ -170,33 +177,67 @@ but-add c entry value cpu k a home room g =
 own-home : (c t : ℕ) (tasks : List Task) → IsOwn c t tasks → (task : Task) → slice_get tasks t ≡ Some task → task.cpu ≡ c
 own-home c t tasks o task e = let two : Some o.task ≡ Some task = sym o.there ∙ e in let same : o.task ≡ task = cc in rw (← same) o.at_home
 
-acts-open : (c : ℕ) (pipe : Pipe) (p : Processor) (tasks new : List Task) → pipe.oob.stalled ≡ false → ((u : ℕ) → p.in_band_task ≡ Some u → IsOwn c u tasks → IsOwn c u new) → IsActing c pipe p tasks → IsActing c pipe p new
+both-ready : (s : TaskState) → is_oob_ready s ≡ true → is_in_ready s ≡ true → ⊥
+both-ready OobReady e h = cc
+both-ready InReady e h = cc
+both-ready _ e h = cc
+
+acts-open : (c : ℕ) (pipe : Pipe) (p : Processor) (tasks new : List Task) → pipe.oob.stalled ≡ false → ((u : ℕ) → p.in_band_task ≡ Some u → IsOneOf is_in_ready c u tasks → IsOneOf is_in_ready c u new)
+    → IsActing c pipe p tasks → IsActing c pipe p new
 acts-open c pipe p tasks new f h a = record {
   in_band_own = λ u x. h u x (a.in_band_own u x);
   held = λ u. let no : true ≡ false = sym u ∙ f in cc;
   in_band_staller = a.in_band_staller;
 }
 
-pub but-live : (c t : ℕ) (state : TaskState) (k : Parts) → is_live state ≡ true → IsOpen c k → IsOwn c t k.tasks → GoodBut c k → GoodBut c (set_state t state k)
-unfolding set_state
-but-live c t state k live f o g = record {
+-- .. by a change that leaves the in-band current task ready in-band
+but-own : (c t : ℕ) (f : Task → Task) (k : Parts) → ((task : Task) → (f task).cpu ≡ task.cpu) → ((task : Task) → (f task).stamp ≡ task.stamp) → AreLocks k.mutexes (change f k.tasks t)
+    → ((u : ℕ) (p : Processor) → slice_get k.processors c ≡ Some p → p.in_band_task ≡ Some u → IsOneOf is_in_ready c u k.tasks → IsOneOf is_in_ready c u (change f k.tasks t))
+    → IsOpen c k → IsOwn c t k.tasks → GoodBut c k → GoodBut c (on_task t f k)
+but-own c t f k cpu stamp locks stays opened o g = record {
   pipes = g.pipes;
-  others = λ d pipe p n e h. calm-alike d pipe p k.tasks _ (alike-other c d t (λ task. record task { state = state }) k.tasks n (own-home c t k.tasks o)) (g.others d pipe p n e h);
-  own = λ pipe p e h. acts-open c pipe p k.tasks _ (f.open_there pipe e) (λ u x w. own-state c t u state k live w) (g.own pipe p e h);
-  shape = shaped-state t state k g.shape;
+  others = λ d pipe p n e h. calm-alike d pipe p k.tasks _ (alike-other c d t f k.tasks n (own-home c t k.tasks o)) (g.others d pipe p n e h);
+  own = λ pipe p e h. acts-open c pipe p k.tasks _ (opened.open_there pipe e) (λ u x w. stays u p h x w) (g.own pipe p e h);
+  shape = shaped-with t f k cpu stamp locks g.shape;
 }
 
--- where it is gone from in-band it may end
-but-ended : (c t : ℕ) (state : TaskState) (k : Parts) → ((p : Processor) → slice_get k.processors c ≡ Some p → p.in_band_task ≡ None) → IsOpen c k → IsOwn c t k.tasks → GoodBut c k → GoodBut c (set_state t state k)
-unfolding set_state
-but-ended c t state k gone f o g = record {
-  pipes = g.pipes;
-  others = λ d pipe p n e h. calm-alike d pipe p k.tasks _ (alike-other c d t (λ task. record task { state = state }) k.tasks n (own-home c t k.tasks o)) (g.others d pipe p n e h);
-  own = λ pipe p e h. acts-open c pipe p k.tasks _ (f.open_there pipe e) (λ u x w. let no : None ≡ Some u = sym (gone p h) ∙ x in cc) (g.own pipe p e h);
-  shape = shaped-state t state k g.shape;
-}
+-- no other lock than before is waited for
+state-locks : (t : ℕ) (state : TaskState) (k : Parts) → lock_of state ≡ None → AreLocks k.mutexes k.tasks → AreLocks k.mutexes (change (λ task. record task { state = state }) k.tasks t)
+state-locks t state k none l =
+    let f : Task → Task = λ task. record task { state = state } in
+    locks-fewer k.mutexes k.tasks (change f k.tasks t) (omega (arith, length-change f k.tasks t)) (fewer-change f k.tasks t (λ x m e. let no : None ≡ Some m = sym none ∙ e in cc)) l
 
-left : (c : ℕ) (k : Parts) (p : Processor) → slice_get (leave_in_band c k).processors c ≡ Some p → p.in_band_task ≡ None
+-- it is ready in-band
+pub but-ready : (c t : ℕ) (k : Parts) → IsOpen c k → IsOwn c t k.tasks → GoodBut c k → GoodBut c (set_state t InReady k)
+unfolding set_state
+but-ready c t k f o g =
+    but-own c t (λ task. record task { state = InReady }) k (λ x. refl) (λ x. refl) (state-locks t InReady k refl g.shape.locks)
+    (λ u p h x w. one-cases is_in_ready c t u (λ task. record task { state = InReady }) k.tasks w (λ x. refl) (λ x e. refl)) f o g
+
+-- where it is gone from in-band it may have any state
+pub but-gone : (c t : ℕ) (state : TaskState) (k : Parts) → lock_of state ≡ None → ((p : Processor) → slice_get k.processors c ≡ Some p → p.in_band_task ≡ None) → IsOpen c k → IsOwn c t k.tasks → GoodBut c k → GoodBut c (set_state t state k)
+unfolding set_state
+but-gone c t state k none gone f o g =
+    but-own c t (λ task. record task { state = state }) k (λ x. refl) (λ x. refl) (state-locks t state k none g.shape.locks)
+    (λ u p h x w. let no : None ≡ Some u = sym (gone p h) ∙ x in cc) f o g
+
+-- an out-of-band task is not the in-band current one
+oob-other : (c t u : ℕ) (tasks : List Task) → IsOobOwn c t tasks → IsOneOf is_in_ready c u tasks → u ≡ t → ⊥
+oob-other c t u tasks o w same =
+    let two : Some w.task ≡ Some o.task = sym w.there ∙ ap (slice_get tasks) same ∙ o.there in
+    let it : w.task ≡ o.task = cc in
+    both-ready o.task.state o.ready (ap (λ (x : Task). is_in_ready x.state) (sym it) ∙ w.ready)
+
+-- it waits for a lock
+pub but-waits : (c t m u : ℕ) (k : Parts) → owner k.mutexes m ≡ Some u → meets (waits_on k.mutexes k.tasks) t TASK_LIMIT (Some u) ≡ false → IsOpen c k → IsOobOwn c t k.tasks → GoodBut c k
+    → GoodBut c (set_state t (Waits (Lock m)) k)
+unfolding set_state
+but-waits c t m u k own away f o g =
+    let waiting : Task → Task = λ task. record task { state = Waits (Lock m) } in
+    but-own c t waiting k (λ x. refl) (λ x. refl) (locks-wait k.mutexes k.tasks t m u waiting (λ x. refl) g.shape.few_tasks own away g.shape.locks)
+    (λ v p h x w. one-other is_in_ready c t v waiting k.tasks (oob-other c t v k.tasks o w) w) f (own-live c t k.tasks o) g
+
+pub left : (c : ℕ) (k : Parts) (p : Processor) → slice_get (leave_in_band c k).processors c ≡ Some p → p.in_band_task ≡ None
 unfolding leave_in_band
 left c k p h = let from = changed-from (λ (p : Processor). record p { in_band_task = None }) k.processors c p h in ap (λ p. p.in_band_task) from.2
 
@@ -204,16 +245,9 @@ pub leave-own : (c d t : ℕ) (k : Parts) → IsOwn d t k.tasks → IsOwn d t (l
 unfolding leave_in_band
 leave-own c d t k o = o
 
-leave-open : (c : ℕ) (k : Parts) → IsOpen c k → IsOpen c (leave_in_band c k)
+pub leave-open : (c : ℕ) (k : Parts) → IsOpen c k → IsOpen c (leave_in_band c k)
 unfolding leave_in_band
 leave-open c k f = record { open_there = f.open_there }
-
-pub end-but : (c t : ℕ) (state : TaskState) (k : Parts) → IsOpen c k → GoodBut c k → IsOwn c t k.tasks → GoodBut c (end_task c t state k)
-unfolding end_task
-end-but c t state k f g o =
-    let freed : Parts = on_pipe c (set_stall InBand false) k in
-    but-ended c t state (leave_in_band c freed) (left c freed) (leave-open c freed (open-in_band c false k f)) (leave-own c c t freed o)
-    (but-leave c freed (free-unstalled c k) (but-unstall c k g))
 
 -- ---- what stays so
 pub add-own : (entry value cpu d u : ℕ) (k : Parts) → IsOwn d u k.tasks → IsOwn d u (add_task entry value cpu k).tasks
@@ -239,17 +273,27 @@ task-own c t u f k cpu state o = alike-own c u k.tasks _ (alike-change c t f k.t
 pub demote-but : (c t : ℕ) (k : Parts) → GoodBut c k → IsOwn c t k.tasks → GoodBut c (demote c t k)
 unfolding demote
 demote-but c t k g o =
-    let freed : Parts = on_pipe c (set_stall OutOfBand false) k in
-    but-restamp c t (set_state t InReady freed) (but-live c t InReady freed refl (open-unstalled c k) o (but-unstall_oob c k g))
+    let open_pipe : Parts = on_pipe c (set_stall OutOfBand false) k in
+    but-restamp c t (set_state t InReady open_pipe) (but-ready c t open_pipe (open-unstalled c k) o (but-unstall_oob c k g))
 
 pub demote-own : (c t : ℕ) (k : Parts) → IsOwn c t k.tasks → IsOwn c t (demote c t k).tasks
 unfolding demote
 demote-own c t k o =
-    let freed : Parts = on_pipe c (set_stall OutOfBand false) k in
-    restamp-own c t t (set_state t InReady freed) (own-state c t t InReady freed refl o)
+    let open_pipe : Parts = on_pipe c (set_stall OutOfBand false) k in
+    restamp-own c t t (set_state t InReady open_pipe) (own-state c t t InReady open_pipe refl o)
+
+-- leaving in-band, a task's state and its stamp change different parts
+pub leave-state : (c t : ℕ) (state : TaskState) (k : Parts) → leave_in_band c (restamp t (set_state t state k)) ≡ restamp t (set_state t state (leave_in_band c k))
+unfolding leave_in_band restamp set_state
+leave-state c t state k = refl
+
+-- it leaves in-band with another state
+pub leave-but : (c t : ℕ) (state : TaskState) (k : Parts) → lock_of state ≡ None → IsOpen c k → IsFree c k → GoodBut c k → IsOwn c t k.tasks → GoodBut c (leave_in_band c (restamp t (set_state t state k)))
+leave-but c t state k none f free g o =
+    let gone : Parts = leave_in_band c k in
+    rw (leave-state c t state k)
+    (but-restamp c t (set_state t state gone) (but-gone c t state gone none (left c k) (leave-open c k f) (leave-own c c t k o) (but-leave c k free g)))
 
 pub promote-but : (c t : ℕ) (k : Parts) → IsOpen c k → IsFree c k → GoodBut c k → IsOwn c t k.tasks → GoodBut c (promote c t k)
 unfolding promote
-promote-but c t k f free g o =
-    let ready : Parts = set_state t OobReady k in
-    but-leave c (restamp t ready) (restamp-free c t ready (state-free c t OobReady k free)) (but-restamp c t ready (but-live c t OobReady k refl f o g))
+promote-but c t k f free g o = leave-but c t OobReady k refl f free g o

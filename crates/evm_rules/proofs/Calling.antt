@@ -1,48 +1,57 @@
 -- Each call leaves the state good but for what its processor settles.
-use Rattle.std.proofs.Common.{◌≡◌, ℕ, ◌<◌, ◌%◌, Bool, true, false, not, Option, Some, None, length, refl, sym, ◌∙◌, arith}
+use Rattle.std.proofs.Common.{◌≡◌, ℕ, ◌+◌, ◌-◌, ◌<◌, ◌%◌, [], ◌∷◌, ◌++◌, Bool, true, false, not, ◌&&◌, Option, Some, None, length, refl, ap, sym, ◌∙◌, arith}
 use Rattle.std.specs.Prelude.{slice_get, is_none, nat_lt, nat_le, ◌==◌, if◌then◌else◌}
 use Rattle.std.proofs.lemmas.Bool.Decides.{nat_tests}
+use Rattle.evm_ranks.specs.Boosts.{is_number, meets}
 use Rattle.evm_exec.specs.Registers.{register_of}
 use Rattle.evm_exec.specs.declared.hart.Hart.{Hart}
 use Rattle.evm_lines.specs.declared.TheConstants.{LINES}
 use Rattle.evm_model.proofs.Lists.{slice_get-below, slice_get-within}
 use Rattle.evm_model.specs.Calls.{call_of, call_stage, perform, is_weak_oob, return_weak, answered, finish_call, ask_oob, call_on, call_known, call_of_hart, call}
-use Rattle.evm_model.specs.Good.{Good, IsOwn, IsSettled}
+use Rattle.evm_model.specs.Good.{Good, IsOwn, IsSettled, is_ready}
 use Rattle.evm_model.specs.Harts.{A7, argument, answer, advance}
 use Rattle.evm_model.specs.InBandCalls.{exit, putc, yield_now, is_bad_entry, spawn, wait_line, attach_as, attach, detach, set_line}
 use Rattle.evm_model.specs.Instructions.{fault}
+use Rattle.evm_model.specs.Locks.{with_ceiling, mutex_of, add_mutex, new_mutex_as, new_mutex, take_mutex, lock_again, wait_for, lock_other, lock_owned, lock_known, lock, try_owned, try_known, try_lock, unlock_once, unlock_known, unlock}
+use Rattle.evm_model.specs.Mutexes.{owner, owner_of, owns_any, free_mutex, held_by, lock_of, lock_of_task, lock_at, waits_on}
 use Rattle.evm_model.specs.OobCalls.{stall, switch_oob, switch_in_band, is_scheduled_task, schedule_as, set_sched, set_mode, yield_oob, clock, state_bits}
+use Rattle.evm_model.specs.Passing.{pass_on}
 use Rattle.evm_model.specs.Pipes.{Pipe}
 use Rattle.evm_model.specs.Policies.{policy_of}
 use Rattle.evm_model.specs.Settle.{current, is_oob}
 use Rattle.evm_model.specs.Stages.{refused, is_stalled, is_attached, may_promote}
-use Rattle.evm_model.specs.State.{Parts, on_hart}
+use Rattle.evm_model.specs.State.{Parts, on_hart, on_mutex}
 use Rattle.evm_model.specs.Tasks.{restamp, set_state, set_policy, clear_policy, set_mode_bits}
 use Rattle.evm_model.specs.declared.call.Call.{Call}
-use Rattle.evm_model.specs.declared.call.Call.TheVariants.{Exit, Putc, Yield, Spawn, Stall, Unstall, WaitLine, Attach, Detach, SetLine, SwitchOob, SwitchInBand, SetSched, SetMode, YieldOob, StallOob, UnstallOob, Clock, StateBits}
+use Rattle.evm_model.specs.declared.call.Call.TheVariants.{Exit, Putc, Yield, Spawn, Stall, Unstall, WaitLine, Attach, Detach, NewMutex, SetLine, SwitchOob, SwitchInBand, SetSched, SetMode, Lock as Lock_call, TryLock, Unlock, YieldOob, StallOob, UnstallOob, Clock, StateBits}
 use Rattle.evm_model.specs.declared.call.Outcome.{Outcome}
 use Rattle.evm_model.specs.declared.call.Outcome.TheVariants.{Answers, Waits, Leaves}
 use Rattle.evm_model.specs.declared.errno.Errno.{Errno}
 use Rattle.evm_model.specs.declared.errno.Errno.TheVariants.{NotPermitted, NoSuchCall}
 use Rattle.evm_model.specs.declared.fault.Fault.{Fault}
-use Rattle.evm_model.specs.declared.limits.TheConstants.{TASK_LIMIT, MODE_LIMIT}
+use Rattle.evm_model.specs.declared.limits.TheConstants.{TASK_LIMIT, MODE_LIMIT, MUTEX_LIMIT, PRIORITY_LIMIT}
+use Rattle.evm_model.specs.declared.mutex.Mutex.{Mutex}
+use Rattle.evm_model.specs.declared.mutex.Protocol.{Protocol}
+use Rattle.evm_model.specs.declared.mutex.Protocol.TheVariants.{Inheritance, Ceiling}
 use Rattle.evm_model.specs.declared.processor.Processor.{Processor}
 use Rattle.evm_model.specs.declared.stage.Stage.{Stage}
 use Rattle.evm_model.specs.declared.stage.Stage.TheVariants.{OutOfBand, InBand}
 use Rattle.evm_model.specs.declared.task.Class.{Class}
 use Rattle.evm_model.specs.declared.task.TaskState.{TaskState}
-use Rattle.evm_model.specs.declared.task.TaskState.TheVariants.{Waits as Waiting}
-use Rattle.evm_model.specs.declared.task.Wait.TheVariants.{Line}
-use Rattle.evm_rules.proofs.Acting.{IsFree, IsOpen, HasInBand, HasHeld, but-hart, but-unstall, but-stalled, but-unstall_oob, but-stalled_oob, but-leave, but-restamp, but-task, but-add, but-live, end-but, leave-own, add-own, restamp-free, state-free, restamp-own, task-own, demote-but, demote-own, promote-but}
+use Rattle.evm_model.specs.declared.task.TaskState.TheVariants.{InReady, OobReady, Waits as Waiting}
+use Rattle.evm_model.specs.declared.task.Wait.TheVariants.{Line, Lock}
+use Rattle.evm_rules.proofs.Acting.{IsFree, IsOpen, HasInBand, HasHeld, but-hart, but-unstall, but-stalled, but-unstall_oob, but-stalled_oob, but-leave, but-restamp, but-task, but-add, but-waits, leave-own, add-own, restamp-free, restamp-own, task-own, demote-but, demote-own, leave-but, promote-but}
 use Rattle.evm_rules.proofs.Aligned.{next-aligned}
-use Rattle.evm_rules.proofs.Firsts.{both, eqb-is}
+use Rattle.evm_rules.proofs.Firsts.{IsOobOwn, both, eqb-is}
+use Rattle.evm_rules.proofs.Locks.{locks-push}
+use Rattle.evm_rules.proofs.Passing.{but-mutexes, but-owned, pass_on-passes, end-but}
 use Rattle.evm_rules.proofs.Settling.{GoodBut, good_but, is_open, oob_own}
-use Rattle.evm_rules.proofs.Waking.{own-state}
+use Rattle.evm_rules.proofs.Waking.{alike-own}
 
--- what a call that isn't the end of its task leaves: all good but for settling, and the task is the processor's own
+-- what a call leaves: all good but for settling, and where it is answered the task is the processor's own
 pub record IsDone (c t : ℕ) (done : Parts × Outcome) : Type 0 where
   pub but : GoodBut c done.0
-  pub own : (done.1 ≡ Leaves → ⊥) → IsOwn c t done.0.tasks
+  pub own : (value : ℕ) → done.1 ≡ Answers value → IsOwn c t done.0.tasks
 
 either : (c t : ℕ) (b : Bool) (x y : Parts × Outcome) → (b ≡ true → IsDone c t x) → (b ≡ false → IsDone c t y) → IsDone c t (if b then x else y)
 either c t true x y p q = p refl
@@ -77,14 +86,52 @@ cpu-there cpu k e = let p = some-there (slice_get k.processors cpu) e in slice_g
 room-for : (k : Parts) → nat_le TASK_LIMIT (length k.tasks) ≡ false → length k.tasks < TASK_LIMIT
 room-for k e = grind (arith, nat_tests)
 
+room-mutex : (k : Parts) → nat_le MUTEX_LIMIT (length k.mutexes) ≡ false → length k.mutexes < MUTEX_LIMIT
+room-mutex k e = grind (arith, nat_tests)
+
+not-closed : (c : ℕ) (k : Parts) → is_stalled OutOfBand c k ≡ false → IsOpen c k
+not-closed c k e = record { open_there = λ pipe h. rw h at e }
+
+-- a task that is ready waits for no lock
+ready-idle : (s : TaskState) → is_ready s ≡ true → lock_of s ≡ None
+ready-idle InReady e = refl
+ready-idle OobReady e = refl
+ready-idle _ e = cc
+
+-- a new mutex is nobody's
+option-if : (b : Bool) (x y : Option Mutex) (mutex : Mutex) → ((mutex : Mutex) → x ≡ Some mutex → mutex.owner ≡ None) → ((mutex : Mutex) → y ≡ Some mutex → mutex.owner ≡ None) → (if b then x else y) ≡ Some mutex → mutex.owner ≡ None
+option-if true x y mutex p q e = p mutex e
+option-if false x y mutex p q e = q mutex e
+
+free-is : (recursive : Bool) (protocol : Protocol) (mutex : Mutex) → Some (free_mutex recursive protocol) ≡ Some mutex → mutex.owner ≡ None
+free-is recursive protocol mutex e = let is : free_mutex recursive protocol ≡ mutex = cc in ap (λ (x : Mutex). x.owner) (sym is)
+
+no-mutex : (mutex : Mutex) → None ≡ Some mutex → mutex.owner ≡ None
+no-mutex mutex e = cc
+
+ceiling-free : (recursive : Bool) (priority : ℕ) (mutex : Mutex) → with_ceiling recursive priority ≡ Some mutex → mutex.owner ≡ None
+ceiling-free recursive priority mutex e =
+    option-if (nat_lt priority 1) None _ mutex no-mutex (λ x h. option-if (nat_lt PRIORITY_LIMIT priority) None (Some (free_mutex recursive (Ceiling priority))) x no-mutex (free-is recursive (Ceiling priority)) h) e
+
+mutex_of-free : (kind priority : ℕ) (mutex : Mutex) → mutex_of kind priority ≡ Some mutex → mutex.owner ≡ None
+mutex_of-free kind priority mutex e =
+    option-if (kind == 0) _ _ mutex (free-is false Inheritance) (λ x h.
+    option-if (kind == 1) _ _ x (free-is true Inheritance) (λ y i.
+    option-if (kind == 2) _ _ y (ceiling-free false priority) (λ z j.
+    option-if (kind == 3) _ None z (ceiling-free true priority) no-mutex j) i) h) e
+
+each-of : (c t : ℕ) (b : Bool) (x y : Parts) (outcome : Outcome) → IsDone c t (x, outcome) → IsDone c t (y, outcome) → IsDone c t (if b then x else y, outcome)
+each-of c t true x y outcome p q = p
+each-of c t false x y outcome p q = q
+
 -- ---- each call
 module _ (c t : ℕ) (k : Parts) (g : GoodBut c k) (o : IsOwn c t k.tasks) where
   same : (outcome : Outcome) → IsDone c t (k, outcome)
-  same outcome = record { but = g; own = λ n. o }
+  same outcome = record { but = g; own = λ v n. o }
 
   exit-done : IsOpen c k → IsDone c t (exit c t k)
   unfolding exit
-  exit-done f = record { but = end-but c t _ k f g o; own = λ n. absurd (n refl) }
+  exit-done f = record { but = end-but c t _ k refl f g o; own = λ v n. cc }
 
   putc-done : (byte : ℕ) → IsDone c t (putc byte k)
   unfolding putc
@@ -102,16 +149,17 @@ module _ (c t : ℕ) (k : Parts) (g : GoodBut c k) (o : IsOwn c t k.tasks) where
         pipes_count = g.shape.pipes_count;
         few_tasks = g.shape.few_tasks;
         few_processors = g.shape.few_processors;
+        locks = g.shape.locks;
       };
     };
-    own = λ n. o;
+    own = λ v n. o;
   }
 
   yield-done : IsDone c t (yield_now c t k)
   unfolding yield_now
   yield-done = either c t (is_stalled InBand c k) _ _ (λ e. same _) (λ e. record {
     but = but-leave c (restamp t k) (restamp-free c t k (not-stalled c k e)) (but-restamp c t k g);
-    own = λ n. leave-own c c t (restamp t k) (restamp-own c t t k o);
+    own = λ v n. leave-own c c t (restamp t k) (restamp-own c t t k o);
   })
 
   spawn-done : (ram entry value cpu : ℕ) → IsDone c t (spawn ram entry value cpu k)
@@ -121,18 +169,16 @@ module _ (c t : ℕ) (k : Parts) (g : GoodBut c k) (o : IsOwn c t k.tasks) where
       either c t (is_none (slice_get k.processors cpu)) _ _ (λ e. same _) (λ cpu_ok.
       either c t (nat_le TASK_LIMIT (length k.tasks)) _ _ (λ e. same _) (λ room. record {
         but = but-add c entry value cpu k (entry-aligned ram entry entry_ok) (cpu-there cpu k cpu_ok) (room-for k room) g;
-        own = λ n. add-own entry value cpu c t k o;
+        own = λ v n. add-own entry value cpu c t k o;
       })))
 
   wait_line-done : (l : ℕ) → IsOpen c k → IsDone c t (wait_line c t l k)
   unfolding wait_line
   wait_line-done l f =
-      let state : TaskState = Waiting (Line l) in
-      let waiting : Parts = set_state t state k in
       either c t (nat_le LINES l) _ _ (λ e. same _) (λ line_ok.
       either c t (is_stalled InBand c k) _ _ (λ e. same _) (λ e. record {
-        but = but-leave c (restamp t waiting) (restamp-free c t waiting (state-free c t state k (not-stalled c k e))) (but-restamp c t waiting (but-live c t state k refl f o g));
-        own = λ n. leave-own c c t (restamp t waiting) (restamp-own c t t waiting (own-state c t t state k refl o));
+        but = leave-but c t (Waiting (Line l)) k refl f (not-stalled c k e) g o;
+        own = λ v n. cc;
       }))
 
   set_line-done : (l action : ℕ) → IsDone c t (set_line l action k)
@@ -144,7 +190,7 @@ module _ (c t : ℕ) (k : Parts) (g : GoodBut c k) (o : IsOwn c t k.tasks) where
   unfolding set_policy
   policy-done u class priority outcome = record {
     but = but-task c u _ k (λ task. refl) (λ task. refl) (λ task. refl) g;
-    own = λ n. task-own c u t _ k (λ task. refl) (λ task. refl) o;
+    own = λ v n. task-own c u t _ k (λ task. refl) (λ task. refl) o;
   }
 
   attach_as-done : (x : Option Class) (priority : ℕ) → IsDone c t (attach_as x t priority k)
@@ -159,22 +205,22 @@ module _ (c t : ℕ) (k : Parts) (g : GoodBut c k) (o : IsOwn c t k.tasks) where
   unfolding clear_policy
   clear-done outcome = record {
     but = but-task c t _ k (λ task. refl) (λ task. refl) (λ task. refl) g;
-    own = λ n. task-own c t t _ k (λ task. refl) (λ task. refl) o;
+    own = λ v n. task-own c t t _ k (λ task. refl) (λ task. refl) o;
   }
 
   detach-done : IsDone c t (detach t k)
   unfolding detach
-  detach-done = either c t (is_attached t k) _ _ (λ e. clear-done _) (λ e. same _)
+  detach-done = either c t (not (is_attached t k)) _ _ (λ e. same _) (λ e. either c t (owns_any t k.mutexes) _ _ (λ h. same _) (λ h. clear-done _))
 
   stall-done : (b : Bool) → HasInBand c k → IsDone c t (stall InBand b c k)
   unfolding stall
-  stall-done true h = record { but = but-stalled c k h g; own = λ n. o }
-  stall-done false h = record { but = but-unstall c k g; own = λ n. o }
+  stall-done true h = record { but = but-stalled c k h g; own = λ v n. o }
+  stall-done false h = record { but = but-unstall c k g; own = λ v n. o }
 
   stall_oob-done : (b : Bool) → HasHeld c k → IsDone c t (stall OutOfBand b c k)
   unfolding stall
-  stall_oob-done true h = record { but = but-stalled_oob c k h g; own = λ n. o }
-  stall_oob-done false h = record { but = but-unstall_oob c k g; own = λ n. o }
+  stall_oob-done true h = record { but = but-stalled_oob c k h g; own = λ v n. o }
+  stall_oob-done false h = record { but = but-unstall_oob c k g; own = λ v n. o }
 
   switch_oob-done : IsDone c t (switch_oob k)
   unfolding switch_oob
@@ -182,7 +228,7 @@ module _ (c t : ℕ) (k : Parts) (g : GoodBut c k) (o : IsOwn c t k.tasks) where
 
   switch_in_band-done : IsDone c t (switch_in_band c t k)
   unfolding switch_in_band
-  switch_in_band-done = either c t (is_stalled OutOfBand c k) _ _ (λ e. same _) (λ e. record { but = demote-but c t k g o; own = λ n. demote-own c t k o })
+  switch_in_band-done = either c t (is_stalled OutOfBand c k) _ _ (λ e. same _) (λ e. record { but = demote-but c t k g o; own = λ v n. demote-own c t k o })
 
   schedule_as-done : (x : Option Class) (u priority : ℕ) → IsDone c t (schedule_as x u priority k)
   schedule_as-done None u priority = same _
@@ -196,16 +242,96 @@ module _ (c t : ℕ) (k : Parts) (g : GoodBut c k) (o : IsOwn c t k.tasks) where
   unfolding set_mode_bits
   mode-done bits outcome = record {
     but = but-task c t _ k (λ task. refl) (λ task. refl) (λ task. refl) g;
-    own = λ n. task-own c t t _ k (λ task. refl) (λ task. refl) o;
+    own = λ v n. task-own c t t _ k (λ task. refl) (λ task. refl) o;
   }
 
   set_mode-done : (bits : ℕ) → IsDone c t (set_mode t bits k)
   unfolding set_mode
   set_mode-done bits = either c t (nat_lt MODE_LIMIT bits) _ _ (λ e. same _) (λ e. mode-done bits _)
 
+  -- ---- mutexes
+  own-there : t < length k.tasks
+  own-there = slice_get-below k.tasks t o.task o.there
+
+  own-idle : lock_at k.tasks t ≡ None
+  own-idle = ap lock_of_task o.there ∙ ready-idle o.task.state o.ready
+
+  add_mutex-done : (mutex : Mutex) → mutex.owner ≡ None → length k.mutexes < MUTEX_LIMIT → (outcome : Outcome) → IsDone c t (add_mutex mutex k, outcome)
+  unfolding add_mutex
+  add_mutex-done mutex free room outcome = record { but = but-mutexes c k (k.mutexes ++ mutex ∷ []) (locks-push k.mutexes k.tasks mutex free room g.shape.locks) g; own = λ v n. o }
+
+  new_mutex_as-done : (x : Option Mutex) → ((mutex : Mutex) → x ≡ Some mutex → mutex.owner ≡ None) → IsDone c t (new_mutex_as x k)
+  new_mutex_as-done None h = same _
+  new_mutex_as-done (Some mutex) h = either c t (nat_le MUTEX_LIMIT (length k.mutexes)) _ _ (λ e. same _) (λ room. add_mutex-done mutex (h mutex refl) (room-mutex k room) _)
+
+  new_mutex-done : (kind priority : ℕ) → IsDone c t (new_mutex kind priority k)
+  unfolding new_mutex
+  new_mutex-done kind priority = new_mutex_as-done (mutex_of kind priority) (mutex_of-free kind priority)
+
+  holds-done : (m : ℕ) (f : Mutex → Mutex) (outcome : Outcome) → ((x : Mutex) → (f x).owner ≡ Some t) → IsDone c t (on_mutex m f k, outcome)
+  holds-done m f outcome h = record { but = but-owned c m t f k h own-there own-idle g; own = λ v n. o }
+
+  take-done : (m : ℕ) (outcome : Outcome) → IsDone c t (take_mutex t m k, outcome)
+  unfolding take_mutex
+  take-done m outcome = holds-done m (held_by t 1) outcome (λ x. refl)
+
+  again-done : (m : ℕ) (mutex : Mutex) → IsDone c t (lock_again t m mutex k)
+  unfolding lock_again
+  again-done m mutex = either c t mutex.recursive _ _ (λ e. holds-done m (held_by t (mutex.count + 1)) _ (λ x. refl)) (λ e. same _)
+
+  waits-done : (m u : ℕ) → owner k.mutexes m ≡ Some u → meets (waits_on k.mutexes k.tasks) t TASK_LIMIT (Some u) ≡ false → IsOpen c k → IsOobOwn c t k.tasks → IsDone c t (wait_for t m k, Waits)
+  unfolding wait_for
+  waits-done m u own away f w = record { but = but-restamp c t (set_state t (Waiting (Lock m)) k) (but-waits c t m u k own away f w g); own = λ v n. cc }
+
+  other-done : (m u deadline : ℕ) → owner k.mutexes m ≡ Some u → IsOobOwn c t k.tasks → IsDone c t (lock_other c t m u deadline k)
+  unfolding lock_other
+  other-done m u deadline own w =
+      either c t (is_stalled OutOfBand c k) _ _ (λ e. same _) (λ f.
+      either c t (meets (waits_on k.mutexes k.tasks) t TASK_LIMIT (Some u)) _ _ (λ e. same _) (λ away.
+      either c t (not (deadline == 0)) _ _ (λ e. same _) (λ e. waits-done m u own away (not-closed c k f) w)))
+
+  owned-done : (x : Option ℕ) (m deadline : ℕ) (mutex : Mutex) → owner k.mutexes m ≡ x → IsOobOwn c t k.tasks → IsDone c t (lock_owned x c t m deadline mutex k)
+  owned-done None m deadline mutex own w = take-done m _
+  owned-done (Some u) m deadline mutex own w = either c t (u == t) _ _ (λ e. again-done m mutex) (λ e. other-done m u deadline own w)
+
+  known-done : (x : Option Mutex) (m deadline : ℕ) → slice_get k.mutexes m ≡ x → IsOobOwn c t k.tasks → IsDone c t (lock_known x c t m deadline k)
+  known-done None m deadline there w = same _
+  known-done (Some mutex) m deadline there w = owned-done mutex.owner m deadline mutex (ap owner_of there) w
+
+  lock-done : (m deadline : ℕ) → IsOobOwn c t k.tasks → IsDone c t (lock c t m deadline k)
+  unfolding lock
+  lock-done m deadline w = known-done (slice_get k.mutexes m) m deadline refl w
+
+  try_owned-done : (x : Option ℕ) (m : ℕ) (mutex : Mutex) → IsDone c t (try_owned x t m mutex k)
+  try_owned-done None m mutex = take-done m _
+  try_owned-done (Some u) m mutex = either c t (u == t) _ _ (λ e. again-done m mutex) (λ e. same _)
+
+  try_known-done : (x : Option Mutex) (m : ℕ) → IsDone c t (try_known x t m k)
+  try_known-done None m = same _
+  try_known-done (Some mutex) m = try_owned-done mutex.owner m mutex
+
+  try_lock-done : (m : ℕ) → IsDone c t (try_lock t m k)
+  unfolding try_lock
+  try_lock-done m = try_known-done (slice_get k.mutexes m) m
+
+  passes-done : (m : ℕ) (outcome : Outcome) → IsDone c t (pass_on m k, outcome)
+  passes-done m outcome = let p = pass_on-passes c m k g in record { but = p.but; own = λ v n. alike-own c t k.tasks (pass_on m k).tasks (p.alike c) o }
+
+  unlock_once-done : (m : ℕ) (mutex : Mutex) (outcome : Outcome) → IsDone c t (unlock_once t m mutex k, outcome)
+  unfolding unlock_once
+  unlock_once-done m mutex outcome = each-of c t (nat_le mutex.count 1) _ _ outcome (passes-done m outcome) (holds-done m (held_by t (mutex.count - 1)) outcome (λ x. refl))
+
+  unlock_known-done : (x : Option Mutex) (m : ℕ) → IsDone c t (unlock_known x t m k)
+  unlock_known-done None m = same _
+  unlock_known-done (Some mutex) m = either c t (is_number mutex.owner t) _ _ (λ e. unlock_once-done m mutex _) (λ e. same _)
+
+  unlock-done : (m : ℕ) → IsDone c t (unlock t m k)
+  unfolding unlock
+  unlock-done m = unlock_known-done (slice_get k.mutexes m) m
+
   yield_oob-done : IsDone c t (yield_oob t k)
   unfolding yield_oob
-  yield_oob-done = record { but = but-restamp c t k g; own = λ n. restamp-own c t t k o }
+  yield_oob-done = record { but = but-restamp c t k g; own = λ v n. restamp-own c t t k o }
 
   clock-done : IsDone c t (clock k)
   unfolding clock
@@ -216,12 +342,12 @@ module _ (c t : ℕ) (k : Parts) (g : GoodBut c k) (o : IsOwn c t k.tasks) where
   state_bits-done = same _
 
 -- what is known of the processor of a call, by the call's stage
-record IsOn (stage : Option Stage) (c : ℕ) (k : Parts) : Type 0 where
+record IsOn (stage : Option Stage) (c t : ℕ) (k : Parts) : Type 0 where
   in_band : stage ≡ Some InBand → HasInBand c k × IsOpen c k
-  oob : stage ≡ Some OutOfBand → HasHeld c k
+  oob : stage ≡ Some OutOfBand → HasHeld c k × IsOobOwn c t k.tasks
 
 module _ (c t : ℕ) (k : Parts) (g : GoodBut c k) (o : IsOwn c t k.tasks) where
-  perform-done : (call : Call) (ram : ℕ) (hart : Hart) → IsOn (call_stage call) c k → IsDone c t (perform call ram hart c t k)
+  perform-done : (call : Call) (ram : ℕ) (hart : Hart) → IsOn (call_stage call) c t k → IsDone c t (perform call ram hart c t k)
   perform-done Exit ram hart h = exit-done c t k g o (h.in_band refl).1
   perform-done Putc ram hart h = putc-done c t k g o (argument 0 hart)
   perform-done Yield ram hart h = yield-done c t k g o
@@ -231,14 +357,18 @@ module _ (c t : ℕ) (k : Parts) (g : GoodBut c k) (o : IsOwn c t k.tasks) where
   perform-done WaitLine ram hart h = wait_line-done c t k g o (argument 0 hart) (h.in_band refl).1
   perform-done Attach ram hart h = attach-done c t k g o (argument 0 hart) (argument 1 hart)
   perform-done Detach ram hart h = detach-done c t k g o
+  perform-done NewMutex ram hart h = new_mutex-done c t k g o (argument 0 hart) (argument 1 hart)
   perform-done SetLine ram hart h = set_line-done c t k g o (argument 0 hart) (argument 1 hart)
   perform-done SwitchOob ram hart h = switch_oob-done c t k g o
   perform-done SwitchInBand ram hart h = switch_in_band-done c t k g o
   perform-done SetSched ram hart h = set_sched-done c t k g o (argument 0 hart) (argument 1 hart) (argument 2 hart)
   perform-done SetMode ram hart h = set_mode-done c t k g o (argument 0 hart)
+  perform-done Lock_call ram hart h = lock-done c t k g o (argument 0 hart) (argument 1 hart) (h.oob refl).1
+  perform-done TryLock ram hart h = try_lock-done c t k g o (argument 0 hart)
+  perform-done Unlock ram hart h = unlock-done c t k g o (argument 0 hart)
   perform-done YieldOob ram hart h = yield_oob-done c t k g o
-  perform-done StallOob ram hart h = stall_oob-done c t k g o true (h.oob refl)
-  perform-done UnstallOob ram hart h = stall_oob-done c t k g o false (h.oob refl)
+  perform-done StallOob ram hart h = stall_oob-done c t k g o true (h.oob refl).0
+  perform-done UnstallOob ram hart h = stall_oob-done c t k g o false (h.oob refl).0
   perform-done Clock ram hart h = clock-done c t k g o
   perform-done StateBits ram hart h = state_bits-done c t k g o
 
@@ -249,10 +379,10 @@ but-if c false x y p q = q refl
 
 return-but : (c t : ℕ) (k : Parts) → GoodBut c k → IsOwn c t k.tasks → GoodBut c (return_weak c t k)
 unfolding return_weak
-return-but c t k g o = but-if c (is_weak_oob (slice_get k.tasks t)) _ k (λ e. demote-but c t k g o) (λ e. g)
+return-but c t k g o = but-if c (is_weak_oob (slice_get k.tasks t) && not (owns_any t k.mutexes)) _ k (λ e. demote-but c t k g o) (λ e. g)
 
-answer-but : (outcome : Outcome) (c t : ℕ) (k : Parts) → GoodBut c k → ((outcome ≡ Leaves → ⊥) → IsOwn c t k.tasks) → GoodBut c (answered outcome c t k)
-answer-but (Answers value) c t k g o = return-but c t (on_hart t (answer value) k) (but-hart c t (answer value) k (λ hart. next-aligned hart.pc) g) (o (λ e. cc))
+answer-but : (outcome : Outcome) (c t : ℕ) (k : Parts) → GoodBut c k → ((value : ℕ) → outcome ≡ Answers value → IsOwn c t k.tasks) → GoodBut c (answered outcome c t k)
+answer-but (Answers value) c t k g o = return-but c t (on_hart t (answer value) k) (but-hart c t (answer value) k (λ hart. next-aligned hart.pc) g) (o value refl)
 answer-but Waits c t k g o = but-hart c t advance k (λ hart. next-aligned hart.pc) g
 answer-but Leaves c t k g o = g
 
@@ -267,7 +397,7 @@ record Runs (c t : ℕ) (k : Parts) : Type 0 where
   current : current c k ≡ Some t
 
 -- the rules of a processor that is there
-settled-there : (c t : ℕ) (k : Parts) → Runs c t k → (p : Processor) → slice_get k.processors c ≡ Some p → (pipe : Pipe) × (slice_get k.pipes c ≡ Some pipe) × IsSettled c pipe p k.tasks
+settled-there : (c t : ℕ) (k : Parts) → Runs c t k → (p : Processor) → slice_get k.processors c ≡ Some p → (pipe : Pipe) × (slice_get k.pipes c ≡ Some pipe) × IsSettled c pipe p k.mutexes k.tasks
 settled-there c t k r p h =
     let pipe = slice_get-within k.pipes c (omega (arith, r.good.pipes_count, slice_get-below k.processors c p h)) in
     (pipe.0, pipe.1, r.good.settled c pipe.0 p pipe.1 h)
@@ -288,7 +418,7 @@ has-open c t k r e = record {
   open_there = λ pipe h.
       let p = slice_get-within k.processors c (omega (arith, r.good.pipes_count, slice_get-below k.pipes c pipe h)) in
       let now : p.0.current ≡ Some t = rw p.1 at r.current in
-      let s : IsSettled c pipe p.0 k.tasks = r.good.settled c pipe p.0 h p.1 in
+      let s : IsSettled c pipe p.0 k.mutexes k.tasks = r.good.settled c pipe p.0 h p.1 in
       is_open pipe.oob.stalled (is_oob p.0.current k.tasks) s.oob_staller (rw now e);
 }
 
@@ -296,7 +426,7 @@ has-held : (c t : ℕ) (k : Parts) → Runs c t k → is_oob (Some t) k.tasks �
 has-held c t k r e = record { held = λ p h. record { number = t; runs = rw h at r.current; own = oob_own c t k.tasks r.own e } }
 
 -- ---- the ECALL
-done-but : (call : Call) (ram : ℕ) (hart : Hart) (c t : ℕ) (k : Parts) → Runs c t k → IsOn (call_stage call) c k → GoodBut c (finish_call c t (perform call ram hart c t k))
+done-but : (call : Call) (ram : ℕ) (hart : Hart) (c t : ℕ) (k : Parts) → Runs c t k → IsOn (call_stage call) c t k → GoodBut c (finish_call c t (perform call ram hart c t k))
 done-but call ram hart c t k r h = finish_call-but c t (perform call ram hart c t k) (perform-done c t k (good_but c k r.good) r.own call ram hart h)
 
 refused-but : (e : Errno) (c t : ℕ) (k : Parts) → Runs c t k → GoodBut c (finish_call c t (refused e k))
@@ -311,17 +441,17 @@ ask-but c t k r e =
     promote-but c t k (has-open c t k r e) (not-stalled c k free) (good_but c k r.good) r.own)
     (λ m. refused-but NotPermitted c t k r)
 
-on_in_band : (stage : Option Stage) (c t : ℕ) (k : Parts) → stage ≡ Some InBand → Runs c t k → is_oob (Some t) k.tasks ≡ false → IsOn stage c k
+on_in_band : (stage : Option Stage) (c t : ℕ) (k : Parts) → stage ≡ Some InBand → Runs c t k → is_oob (Some t) k.tasks ≡ false → IsOn stage c t k
 on_in_band stage c t k s r e = record { in_band = λ h. (has-in_band c t k r e, has-open c t k r e); oob = λ h. let no : Some InBand ≡ Some OutOfBand = sym s ∙ h in cc }
 
-on_oob : (stage : Option Stage) (c t : ℕ) (k : Parts) → stage ≡ Some OutOfBand → Runs c t k → is_oob (Some t) k.tasks ≡ true → IsOn stage c k
-on_oob stage c t k s r e = record { in_band = λ h. let no : Some OutOfBand ≡ Some InBand = sym s ∙ h in cc; oob = λ h. has-held c t k r e }
+on_oob : (stage : Option Stage) (c t : ℕ) (k : Parts) → stage ≡ Some OutOfBand → Runs c t k → is_oob (Some t) k.tasks ≡ true → IsOn stage c t k
+on_oob stage c t k s r e = record { in_band = λ h. let no : Some OutOfBand ≡ Some InBand = sym s ∙ h in cc; oob = λ h. (has-held c t k r e, oob_own c t k.tasks r.own e) }
 
-on_either : (stage : Option Stage) (c : ℕ) (k : Parts) → stage ≡ None → IsOn stage c k
-on_either stage c k s = record { in_band = λ h. let no : None ≡ Some InBand = sym s ∙ h in cc; oob = λ h. let no : None ≡ Some OutOfBand = sym s ∙ h in cc }
+on_either : (stage : Option Stage) (c t : ℕ) (k : Parts) → stage ≡ None → IsOn stage c t k
+on_either stage c t k s = record { in_band = λ h. let no : None ≡ Some InBand = sym s ∙ h in cc; oob = λ h. let no : None ≡ Some OutOfBand = sym s ∙ h in cc }
 
 on-but : (stage : Option Stage) (call : Call) (ram : ℕ) (hart : Hart) (c t : ℕ) (k : Parts) → call_stage call ≡ stage → Runs c t k → GoodBut c (call_on stage call ram hart c t k)
-on-but None call ram hart c t k s r = done-but call ram hart c t k r (on_either (call_stage call) c k s)
+on-but None call ram hart c t k s r = done-but call ram hart c t k r (on_either (call_stage call) c t k s)
 on-but (Some InBand) call ram hart c t k s r =
     but-if c (is_oob (Some t) k.tasks) _ _ (λ e. demote-but c t k (good_but c k r.good) r.own)
     (λ e. done-but call ram hart c t k r (on_in_band (call_stage call) c t k s r e))
@@ -345,4 +475,4 @@ call-but ram c t k g o r = hart-but ram (slice_get k.harts t) c t k (record { go
 pub fault-but : (c t : ℕ) (f : Fault) (k : Parts) → Good k → IsOwn c t k.tasks → current c k ≡ Some t → GoodBut c (fault c t f k)
 fault-but c t f k g o r =
     let runs : Runs c t k = record { good = g; own = o; current = r } in
-    but-if c (is_oob (Some t) k.tasks) _ _ (λ e. demote-but c t k (good_but c k g) o) (λ e. end-but c t _ k (has-open c t k runs e) (good_but c k g) o)
+    but-if c (is_oob (Some t) k.tasks) _ _ (λ e. demote-but c t k (good_but c k g) o) (λ e. end-but c t _ k refl (has-open c t k runs e) (good_but c k g) o)

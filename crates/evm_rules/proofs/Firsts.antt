@@ -4,10 +4,10 @@ use Rattle.std.proofs.lemmas.Bool.Decides.{eqb_tells}
 use Rattle.std.proofs.Math.Nat.{eq-or-lt_of_le}
 use Rattle.std.specs.Prelude.{slice_get, ◌==◌, if◌then◌else◌}
 use Rattle.evm_model.proofs.Lists.{slice_get-below}
-use Rattle.evm_model.specs.Good.{IsOwn}
-use Rattle.evm_model.specs.Tasks.{is_live}
+use Rattle.evm_model.specs.Good.{IsOneOf, IsOwn, is_ready}
 use Rattle.evm_model.specs.Ranks.{best, next_in_band, first, leader, goes_before, runs_oob, runs_oob_task, runs_in_band, runs_in_band_task, rank, stamp, is_oob_ready, is_in_ready}
 use Rattle.evm_model.specs.Settle.{is_oob, is_oob_task}
+use Rattle.evm_model.specs.declared.mutex.Mutex.{Mutex}
 use Rattle.evm_model.specs.declared.task.Task.{Task}
 use Rattle.evm_model.specs.declared.task.TaskState.{TaskState}
 use Rattle.evm_model.specs.declared.task.TaskState.TheVariants.{InReady, OobReady}
@@ -53,33 +53,34 @@ first-none m r s (suc n) t e h =
     ]
 
 -- ---- out-of-band
-pub record IsOobOwn (c t : ℕ) (tasks : List Task) : Type 0 where
-  pub task : Task
-  pub there : slice_get tasks t ≡ Some task
-  pub at_home : task.cpu ≡ c
-  pub ready : is_oob_ready task.state ≡ true
+abbrev pub IsOobOwn : ℕ → ℕ → List Task → Type 0
+IsOobOwn c t tasks = IsOneOf is_oob_ready c t tasks
 
-oob-live : (s : TaskState) → is_oob_ready s ≡ true → is_live s ≡ true
-oob-live OobReady e = refl
-oob-live _ e = cc
+pub oob-ready : (s : TaskState) → is_oob_ready s ≡ true → is_ready s ≡ true
+oob-ready OobReady e = refl
+oob-ready _ e = cc
+
+pub in_band-ready : (s : TaskState) → is_in_ready s ≡ true → is_ready s ≡ true
+in_band-ready InReady e = refl
+in_band-ready _ e = cc
 
 oob-own : (c t : ℕ) (tasks : List Task) (o : Option Task) → slice_get tasks t ≡ o → runs_oob_task c o ≡ true → IsOobOwn c t tasks
 oob-own c t tasks None e h = cc
 oob-own c t tasks (Some task) e h = let b = both (is_oob_ready task.state) (task.cpu == c) h in record { task = task; there = e; at_home = eqb-is task.cpu c b.1; ready = b.0 }
 
 -- the best task is out-of-band ready, and the processor's own
-pub best-own : (c t : ℕ) (tasks : List Task) → best c tasks ≡ Some t → IsOobOwn c t tasks
+pub best-own : (c t : ℕ) (mutexes : List Mutex) (tasks : List Task) → best c mutexes tasks ≡ Some t → IsOobOwn c t tasks
 unfolding best
-best-own c t tasks e = oob-own c t tasks (slice_get tasks t) refl (first-member (runs_oob c tasks) (rank tasks) (stamp tasks) (length tasks) t e).1
+best-own c t mutexes tasks e = oob-own c t tasks (slice_get tasks t) refl (first-member (runs_oob c tasks) (rank mutexes tasks) (stamp tasks) (length tasks) t e).1
 
 pub own-is_oob : (c t : ℕ) (tasks : List Task) → IsOobOwn c t tasks → is_oob (Some t) tasks ≡ true
 own-is_oob c t tasks o = rw o.there o.ready
 
 pub own-live : (c t : ℕ) (tasks : List Task) → IsOobOwn c t tasks → IsOwn c t tasks
-own-live c t tasks o = record { task = o.task; there = o.there; at_home = o.at_home; live = oob-live o.task.state o.ready }
+own-live c t tasks o = record { task = o.task; there = o.there; at_home = o.at_home; ready = oob-ready o.task.state o.ready }
 
-pub best-is_oob : (c t : ℕ) (tasks : List Task) → best c tasks ≡ Some t → is_oob (Some t) tasks ≡ true
-best-is_oob c t tasks e = own-is_oob c t tasks (best-own c t tasks e)
+pub best-is_oob : (c t : ℕ) (mutexes : List Mutex) (tasks : List Task) → best c mutexes tasks ≡ Some t → is_oob (Some t) tasks ≡ true
+best-is_oob c t mutexes tasks e = own-is_oob c t tasks (best-own c t mutexes tasks e)
 
 both_true : (a b : Bool) → a ≡ true → b ≡ true → (a && b) ≡ true
 both_true true true h k = refl
@@ -94,25 +95,24 @@ not_oob c (Some x) task e h n =
       | false ↦ λ q. refl
     ] refl
 
+pub own-in_band : (c t : ℕ) (tasks : List Task) → IsOneOf is_in_ready c t tasks → IsOwn c t tasks
+own-in_band c t tasks o = record { task = o.task; there = o.there; at_home = o.at_home; ready = in_band-ready o.task.state o.ready }
+
 -- where there is no best task no own one is out-of-band ready
-pub no_best : (c t : ℕ) (tasks : List Task) → best c tasks ≡ None → IsOwn c t tasks → is_oob (Some t) tasks ≡ false
+pub no_best : (c t : ℕ) (mutexes : List Mutex) (tasks : List Task) → best c mutexes tasks ≡ None → IsOwn c t tasks → is_oob (Some t) tasks ≡ false
 unfolding best
-no_best c t tasks e o =
+no_best c t mutexes tasks e o =
     not_oob c (slice_get tasks t) o.task o.there o.at_home
-    (first-none (runs_oob c tasks) (rank tasks) (stamp tasks) (length tasks) t e (slice_get-below tasks t o.task o.there))
+    (first-none (runs_oob c tasks) (rank mutexes tasks) (stamp tasks) (length tasks) t e (slice_get-below tasks t o.task o.there))
 
 -- ---- in-band
-in_band-live : (s : TaskState) → is_in_ready s ≡ true → is_live s ≡ true
-in_band-live InReady e = refl
-in_band-live _ e = cc
-
-in_band-own : (c t : ℕ) (tasks : List Task) (o : Option Task) → slice_get tasks t ≡ o → runs_in_band_task c o ≡ true → IsOwn c t tasks
+in_band-own : (c t : ℕ) (tasks : List Task) (o : Option Task) → slice_get tasks t ≡ o → runs_in_band_task c o ≡ true → IsOneOf is_in_ready c t tasks
 in_band-own c t tasks None e h = cc
 in_band-own c t tasks (Some task) e h =
     let b = both (is_in_ready task.state) (task.cpu == c) h in
-    record { task = task; there = e; at_home = eqb-is task.cpu c b.1; live = in_band-live task.state b.0 }
+    record { task = task; there = e; at_home = eqb-is task.cpu c b.1; ready = b.0 }
 
 -- the task to take up is the processor's own
-pub next-own : (c t : ℕ) (tasks : List Task) → next_in_band c tasks ≡ Some t → IsOwn c t tasks
+pub next-own : (c t : ℕ) (tasks : List Task) → next_in_band c tasks ≡ Some t → IsOneOf is_in_ready c t tasks
 unfolding next_in_band
 next-own c t tasks e = in_band-own c t tasks (slice_get tasks t) refl (first-member (runs_in_band c tasks) (λ _. 0) (stamp tasks) (length tasks) t e).1

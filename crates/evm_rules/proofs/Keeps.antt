@@ -28,6 +28,7 @@ use Rattle.evm_model.specs.State.{Parts, Memory, Board, on_hart, on_processor, o
 use Rattle.evm_model.specs.declared.event.Answer.TheVariants.{Stopped, Hit}
 use Rattle.evm_model.specs.declared.event.Event.{Event}
 use Rattle.evm_model.specs.declared.event.Event.TheVariants.{Step, Tick, Raise, Bell, Stop, Go, StepI, SetReg, SetPc, Poke, Break as Set_break, Unbreak}
+use Rattle.evm_model.specs.declared.mutex.Mutex.{Mutex}
 use Rattle.evm_model.specs.declared.processor.Processor.{Processor}
 use Rattle.evm_model.specs.declared.stage.Stage.{Stage}
 use Rattle.evm_model.specs.declared.stage.Stage.TheVariants.{OutOfBand, InBand}
@@ -52,9 +53,9 @@ raised_clear wire l e = elim (eqb_tells 1 l) [
   | inr g ↦ sym (has_line-with_other wire l 1 g.1 (omega arith)) ∙ e
 ]
 
-settled-raised : (d l : ℕ) (pipe : Pipe) (p : Processor) (tasks : List Task) → IsSettled d pipe p tasks → IsSettled d (raise l pipe) p tasks
+settled-raised : (d l : ℕ) (pipe : Pipe) (p : Processor) (mutexes : List Mutex) (tasks : List Task) → IsSettled d pipe p mutexes tasks → IsSettled d (raise l pipe) p mutexes tasks
 unfolding raise
-settled-raised d l pipe p tasks s = record {
+settled-raised d l pipe p mutexes tasks s = record {
   current_own = s.current_own;
   in_band_own = s.in_band_own;
   runs_best = λ u v. s.runs_best u (raised_clear pipe.wire l v);
@@ -71,7 +72,7 @@ good-pipes k pipes e a h g = record {
   pipes = a;
   settled = λ d q p f r. let from = h d q f in elim from.2 [
     | inl same ↦ rw same (g.settled d from.0 p from.1 r)
-    | inr raised ↦ rw raised.1 (settled-raised d raised.0 from.0 p k.tasks (g.settled d from.0 p from.1 r))
+    | inr raised ↦ rw raised.1 (settled-raised d raised.0 from.0 p k.mutexes k.tasks (g.settled d from.0 p from.1 r))
   ];
   aligned = g.aligned;
   homes = g.homes;
@@ -81,6 +82,7 @@ good-pipes k pipes e a h g = record {
   pipes_count = e ∙ g.pipes_count;
   few_tasks = g.few_tasks;
   few_processors = g.few_processors;
+  locks = g.locks;
 }
 
 pub raise-good : (c l : ℕ) (k : Parts) → Good k → Good (on_pipe c (raise l) k)
@@ -103,6 +105,7 @@ good-ticks k ticks g = record {
   pipes_count = g.pipes_count;
   few_tasks = g.few_tasks;
   few_processors = g.few_processors;
+  locks = g.locks;
 }
 
 pub tick-good : (k : Parts) → Good k → Good (tick k)

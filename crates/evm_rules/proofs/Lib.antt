@@ -1,4 +1,6 @@
 pub mod Firsts
+pub mod Locks
+pub mod Passing
 pub mod Places
 pub mod Private
 pub mod Replays

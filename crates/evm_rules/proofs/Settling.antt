@@ -5,22 +5,23 @@ use Rattle.std.proofs.lemmas.Bool.Decides.{eqb_tells}
 use Rattle.evm_lines.specs.Lines.{has_line}
 use Rattle.evm_lines.specs.Laws.{has_line-with_same}
 use Rattle.evm_model.proofs.Lists.{change-elsewhere, slice_get-each, length-each_from}
-use Rattle.evm_model.specs.Good.{Good, IsSettled, IsOwn, IsPipe}
+use Rattle.evm_model.specs.Good.{Good, IsSettled, IsOneOf, IsOwn, IsPipe}
 use Rattle.evm_model.specs.Lists.{change, each}
 use Rattle.evm_model.specs.Pipes.{Pipe, raise}
-use Rattle.evm_model.specs.Ranks.{best, next_in_band, is_oob_ready}
+use Rattle.evm_model.specs.Ranks.{best, next_in_band, is_oob_ready, is_in_ready}
 use Rattle.evm_model.specs.Settle.{current, is_oob, play_oob_lines, play_in_band_lines, run_best, settle_oob, settle_oob_pipe, take_up, run_task, run_in_band, play_in_band_pipe, turn_in_band, settle_in_band, settle, differs, wants_nudge, nudge_pipe, nudge, settle_and_nudge}
 use Rattle.evm_model.specs.State.{Parts, on_processor}
+use Rattle.evm_model.specs.declared.mutex.Mutex.{Mutex}
 use Rattle.evm_model.specs.declared.processor.Processor.{Processor}
 use Rattle.evm_model.specs.declared.task.Task.{Task}
 use Rattle.evm_rules.proofs.Bounded.{are-settle_oob, are-settle_in_band, are-nudge}
 use Rattle.evm_rules.proofs.Counting.{mapped}
-use Rattle.evm_rules.proofs.Firsts.{IsOobOwn, own-is_oob, best-is_oob, best-own, own-live, next-own, eqb-is}
+use Rattle.evm_rules.proofs.Firsts.{IsOobOwn, own-is_oob, best-is_oob, best-own, own-live, own-in_band, next-own, eqb-is}
 use Rattle.evm_rules.proofs.Playing.{plays_oob, plays_in_band, play_oob_lines-pipes, play_in_band_lines-pipes, HasSameStalls, plays_oob-stalls, plays_in_band-stalls, plays_oob-empty, plays_in_band-empty, plays_in_band-oob, plays_oob-pipe}
 use Rattle.evm_rules.proofs.Places.{changed-is, changed-from}
 use Rattle.evm_rules.proofs.Sets.{ArePipes}
 use Rattle.evm_rules.proofs.Shapes.{IsShaped, shaped, shaped-processor}
-use Rattle.evm_rules.proofs.Waking.{AreAlike, alike-none, alike-then, alike-own, alike-oob, Rouses, rouses-none, rouses-if, rouses-lines, rouses-oob_lines, none-best}
+use Rattle.evm_rules.proofs.Waking.{AreAlike, alike-none, alike-then, alike-own, alike-oob, alike-in_band, Rouses, rouses-none, rouses-if, rouses-lines, rouses-oob_lines, none-best}
 
 -- of the other processors only how a task is ranked may change, and of their tasks neither where nor how they are
 pub record IsApart (c : ℕ) (k new : Parts) : Type 0 where
@@ -65,7 +66,7 @@ apart-settle_oob c k = apart-oob_pipe c (slice_get k.pipes c) k
 -- another processor: all but that it runs its best task, which nudging sees to
 pub record IsCalm (c : ℕ) (pipe : Pipe) (p : Processor) (tasks : List Task) : Type 0 where
   pub current_own : (t : ℕ) → p.current ≡ Some t → IsOwn c t tasks
-  pub in_band_own : (t : ℕ) → p.in_band_task ≡ Some t → IsOwn c t tasks
+  pub in_band_own : (t : ℕ) → p.in_band_task ≡ Some t → IsOneOf is_in_ready c t tasks
   pub runs_in_band : is_oob p.current tasks ≡ false → p.current ≡ p.in_band_task
   pub oob_played : pipe.oob.stalled ≡ false → pipe.oob.lines ≡ []
   pub in_band_played : pipe.inband.stalled ≡ false → is_oob p.current tasks ≡ false → pipe.inband.lines ≡ []
@@ -80,7 +81,7 @@ pub record IsHeld (c : ℕ) (p : Processor) (tasks : List Task) : Type 0 where
 
 -- the acting one: what settling it needs
 pub record IsActing (c : ℕ) (pipe : Pipe) (p : Processor) (tasks : List Task) : Type 0 where
-  pub in_band_own : (t : ℕ) → p.in_band_task ≡ Some t → IsOwn c t tasks
+  pub in_band_own : (t : ℕ) → p.in_band_task ≡ Some t → IsOneOf is_in_ready c t tasks
   pub held : pipe.oob.stalled ≡ true → IsHeld c p tasks
   pub in_band_staller : pipe.inband.stalled ≡ true → p.in_band_task ≡ None → ⊥
 
@@ -90,8 +91,8 @@ pub record GoodBut (c : ℕ) (k : Parts) : Type 0 where
   pub own : (pipe : Pipe) (p : Processor) → slice_get k.pipes c ≡ Some pipe → slice_get k.processors c ≡ Some p → IsActing c pipe p k.tasks
   pub shape : IsShaped k
 
-pub calm_of : (c : ℕ) (pipe : Pipe) (p : Processor) (tasks : List Task) → IsSettled c pipe p tasks → IsCalm c pipe p tasks
-calm_of c pipe p tasks s = record {
+pub calm_of : (c : ℕ) (pipe : Pipe) (p : Processor) (mutexes : List Mutex) (tasks : List Task) → IsSettled c pipe p mutexes tasks → IsCalm c pipe p tasks
+calm_of c pipe p mutexes tasks s = record {
   current_own = s.current_own;
   in_band_own = s.in_band_own;
   runs_in_band = s.runs_in_band;
@@ -107,7 +108,7 @@ calm-alike d pipe p tasks new a s =
     let same = alike-oob d p.current tasks new a s.current_own in
     record {
       current_own = λ u e. alike-own d u tasks new a (s.current_own u e);
-      in_band_own = λ u e. alike-own d u tasks new a (s.in_band_own u e);
+      in_band_own = λ u e. alike-in_band d u tasks new a (s.in_band_own u e);
       runs_in_band = λ m. s.runs_in_band (sym same ∙ m);
       oob_played = s.oob_played;
       in_band_played = λ v m. s.in_band_played v (sym same ∙ m);
@@ -125,33 +126,33 @@ held-of : (c : ℕ) (p : Processor) (tasks : List Task) (now : Option ℕ) → p
 held-of c p tasks None e h m = cc
 held-of c p tasks (Some t) e h m = record { number = t; runs = e; own = oob_own c t tasks (h t e) m }
 
-pub acting_of : (c : ℕ) (pipe : Pipe) (p : Processor) (tasks : List Task) → IsSettled c pipe p tasks → IsActing c pipe p tasks
-acting_of c pipe p tasks s = record { in_band_own = s.in_band_own; held = λ u. held-of c p tasks p.current refl s.current_own (s.oob_staller u); in_band_staller = s.in_band_staller }
+pub acting_of : (c : ℕ) (pipe : Pipe) (p : Processor) (mutexes : List Mutex) (tasks : List Task) → IsSettled c pipe p mutexes tasks → IsActing c pipe p tasks
+acting_of c pipe p mutexes tasks s = record { in_band_own = s.in_band_own; held = λ u. held-of c p tasks p.current refl s.current_own (s.oob_staller u); in_band_staller = s.in_band_staller }
 
 pub good_but : (c : ℕ) (k : Parts) → Good k → GoodBut c k
 good_but c k g = record {
   pipes = g.pipes;
-  others = λ d pipe p o e f. calm_of d pipe p k.tasks (g.settled d pipe p e f);
-  own = λ pipe p e f. acting_of c pipe p k.tasks (g.settled c pipe p e f);
+  others = λ d pipe p o e f. calm_of d pipe p k.mutexes k.tasks (g.settled d pipe p e f);
+  own = λ pipe p e f. acting_of c pipe p k.mutexes k.tasks (g.settled c pipe p e f);
   shape = shaped k g;
 }
 
 -- ---- the acting processor, settled out-of-band
-record IsOobSettled (c : ℕ) (pipe : Pipe) (p : Processor) (tasks : List Task) : Type 0 where
+record IsOobSettled (c : ℕ) (pipe : Pipe) (p : Processor) (mutexes : List Mutex) (tasks : List Task) : Type 0 where
   current_own : (t : ℕ) → p.current ≡ Some t → IsOwn c t tasks
-  in_band_own : (t : ℕ) → p.in_band_task ≡ Some t → IsOwn c t tasks
+  in_band_own : (t : ℕ) → p.in_band_task ≡ Some t → IsOneOf is_in_ready c t tasks
   oob_lines : pipe.oob.stalled ≡ false → pipe.oob.lines ≡ []
   oob_staller : pipe.oob.stalled ≡ true → is_oob p.current tasks ≡ true
   in_band_staller : pipe.inband.stalled ≡ true → p.in_band_task ≡ None → ⊥
-  runs : pipe.oob.stalled ≡ false → p.current ≡ best c tasks
+  runs : pipe.oob.stalled ≡ false → p.current ≡ best c mutexes tasks
   whole : IsPipe pipe
 
 held-own : (c t : ℕ) (p : Processor) (tasks : List Task) (h : IsHeld c p tasks) → p.current ≡ Some t → IsOwn c t tasks
 held-own c t p tasks h e = let is : h.number ≡ t = (let two : Some h.number ≡ Some t = sym h.runs ∙ e in cc) in rw (← is) (own-live c h.number tasks h.own)
 
 -- where it is stalled it stays
-stalled-settled : (c : ℕ) (pipe : Pipe) (p : Processor) (tasks : List Task) → pipe.oob.stalled ≡ true → IsPipe pipe → IsActing c pipe p tasks → IsOobSettled c pipe p tasks
-stalled-settled c pipe p tasks s whole a =
+stalled-settled : (c : ℕ) (pipe : Pipe) (p : Processor) (mutexes : List Mutex) (tasks : List Task) → pipe.oob.stalled ≡ true → IsPipe pipe → IsActing c pipe p tasks → IsOobSettled c pipe p mutexes tasks
+stalled-settled c pipe p mutexes tasks s whole a =
     let h : IsHeld c p tasks = a.held s in
     record {
       current_own = λ t e. held-own c t p tasks h e;
@@ -166,10 +167,10 @@ stalled-settled c pipe p tasks s whole a =
 oob_settled-if : (c : ℕ) (k : Parts) (pipe : Pipe) (b : Bool) → pipe.oob.stalled ≡ b → slice_get k.pipes c ≡ Some pipe → GoodBut c k
     → (q : Pipe) (p : Processor) → slice_get (if b then k else run_best c (play_oob_lines c pipe.oob.lines k)).pipes c ≡ Some q
     → slice_get (if b then k else run_best c (play_oob_lines c pipe.oob.lines k)).processors c ≡ Some p
-    → IsOobSettled c q p (if b then k else run_best c (play_oob_lines c pipe.oob.lines k)).tasks
+    → IsOobSettled c q p (if b then k else run_best c (play_oob_lines c pipe.oob.lines k)).mutexes (if b then k else run_best c (play_oob_lines c pipe.oob.lines k)).tasks
 oob_settled-if c k pipe true s e g q p f h =
     let it : pipe ≡ q = cc in
-    rw (← it) (stalled-settled c pipe p k.tasks s (g.pipes c pipe e) (g.own pipe p e h))
+    rw (← it) (stalled-settled c pipe p k.mutexes k.tasks s (g.pipes c pipe e) (g.own pipe p e h))
 oob_settled-if c k pipe false s e g q p f h =
     let ls : List ℕ = pipe.oob.lines in
     let x : Parts = play_oob_lines c ls k in
@@ -177,13 +178,13 @@ oob_settled-if c k pipe false s e g q p f h =
     let whole : IsPipe pipe = g.pipes c pipe e in
     let there : slice_get (change (plays_oob ls) k.pipes c) c ≡ Some q = ap (λ (pipes : List Pipe). slice_get pipes c) (sym (play_oob_lines-pipes c ls k)) ∙ f in
     let it : plays_oob ls pipe ≡ q = changed-is (plays_oob ls) k.pipes c pipe q e there in
-    let from = changed-from (λ (p : Processor). record p { current = best c x.tasks }) x.processors c p h in
+    let from = changed-from (λ (p : Processor). record p { current = best c x.mutexes x.tasks }) x.processors c p h in
     let was : slice_get k.processors c ≡ Some from.0 = ap (λ (xs : List Processor). slice_get xs c) (sym r.processors) ∙ from.1 in
     let a = g.own pipe from.0 e was in
     let same = plays_oob-stalls ls pipe in
     rw (from.2, ← it) (record {
-      current_own = λ t m. own-live c t x.tasks (best-own c t x.tasks m);
-      in_band_own = λ t m. r.own t (a.in_band_own t m);
+      current_own = λ t m. own-live c t x.tasks (best-own c t x.mutexes x.tasks m);
+      in_band_own = λ t m. r.in_band t (a.in_band_own t m);
       oob_lines = λ u. plays_oob-empty ls pipe whole refl;
       oob_staller = λ u. let no : true ≡ false = sym u ∙ same.oob ∙ s in cc;
       in_band_staller = λ u. a.in_band_staller (sym same.inband ∙ u);
@@ -192,17 +193,17 @@ oob_settled-if c k pipe false s e g q p f h =
     })
 
 oob_settled-pipe : (c : ℕ) (k : Parts) (o : Option Pipe) → slice_get k.pipes c ≡ o → GoodBut c k
-    → (q : Pipe) (p : Processor) → slice_get (settle_oob_pipe o c k).pipes c ≡ Some q → slice_get (settle_oob_pipe o c k).processors c ≡ Some p → IsOobSettled c q p (settle_oob_pipe o c k).tasks
+    → (q : Pipe) (p : Processor) → slice_get (settle_oob_pipe o c k).pipes c ≡ Some q → slice_get (settle_oob_pipe o c k).processors c ≡ Some p → IsOobSettled c q p (settle_oob_pipe o c k).mutexes (settle_oob_pipe o c k).tasks
 oob_settled-pipe c k None e g q p f h = cc
 oob_settled-pipe c k (Some pipe) e g q p f h = oob_settled-if c k pipe pipe.oob.stalled refl e g q p f h
 
-oob_settled : (c : ℕ) (k : Parts) → GoodBut c k → (q : Pipe) (p : Processor) → slice_get (settle_oob c k).pipes c ≡ Some q → slice_get (settle_oob c k).processors c ≡ Some p → IsOobSettled c q p (settle_oob c k).tasks
+oob_settled : (c : ℕ) (k : Parts) → GoodBut c k → (q : Pipe) (p : Processor) → slice_get (settle_oob c k).pipes c ≡ Some q → slice_get (settle_oob c k).processors c ≡ Some p → IsOobSettled c q p (settle_oob c k).mutexes (settle_oob c k).tasks
 unfolding settle_oob
 oob_settled c k g q p f h = oob_settled-pipe c k (slice_get k.pipes c) refl g q p f h
 
 -- an out-of-band task is current: where that stage isn't stalled it is the best
-settled-oob : (c : ℕ) (q : Pipe) (p : Processor) (tasks : List Task) → IsOobSettled c q p tasks → is_oob p.current tasks ≡ true → IsSettled c q p tasks
-settled-oob c q p tasks s o = record {
+settled-oob : (c : ℕ) (q : Pipe) (p : Processor) (mutexes : List Mutex) (tasks : List Task) → IsOobSettled c q p mutexes tasks → is_oob p.current tasks ≡ true → IsSettled c q p mutexes tasks
+settled-oob c q p mutexes tasks s o = record {
   current_own = s.current_own;
   in_band_own = s.in_band_own;
   runs_best = λ u v t e. s.runs u ∙ e;
@@ -219,11 +220,11 @@ is_open true m h e = let no : true ≡ false = sym (h refl) ∙ e in cc
 is_open false m h e = refl
 
 -- none is: the in-band log is played, and the in-band task is current
-no_best-is : (c : ℕ) (tasks : List Task) (o : Option ℕ) → best c tasks ≡ o → is_oob o tasks ≡ false → o ≡ None
-no_best-is c tasks None e n = refl
-no_best-is c tasks (Some t) e n = let no : true ≡ false = sym (best-is_oob c t tasks e) ∙ n in cc
+no_best-is : (c : ℕ) (mutexes : List Mutex) (tasks : List Task) (o : Option ℕ) → best c mutexes tasks ≡ o → is_oob o tasks ≡ false → o ≡ None
+no_best-is c mutexes tasks None e n = refl
+no_best-is c mutexes tasks (Some t) e n = let no : true ≡ false = sym (best-is_oob c t mutexes tasks e) ∙ n in cc
 
-up-own : (c : ℕ) (tasks : List Task) (held : Option ℕ) (t : ℕ) → ((t : ℕ) → held ≡ Some t → IsOwn c t tasks) → take_up held (next_in_band c tasks) ≡ Some t → IsOwn c t tasks
+up-own : (c : ℕ) (tasks : List Task) (held : Option ℕ) (t : ℕ) → ((t : ℕ) → held ≡ Some t → IsOneOf is_in_ready c t tasks) → take_up held (next_in_band c tasks) ≡ Some t → IsOneOf is_in_ready c t tasks
 up-own c tasks None t h e = next-own c t tasks e
 up-own c tasks (Some u) t h e = h t e
 
@@ -246,20 +247,20 @@ rouses-pipe c (Some pipe) k = rouses-if c pipe.inband.stalled k k (play_in_band_
 
 settled-turn : (c : ℕ) (k x : Parts) (pipe q : Pipe) (p : Processor) → Rouses c k x
     → HasSameStalls pipe q × (q.oob ≡ pipe.oob) × (q.inband.stalled ≡ false → q.inband.lines ≡ [])
-    → ((p : Processor) → slice_get k.processors c ≡ Some p → IsOobSettled c pipe p k.tasks)
+    → ((p : Processor) → slice_get k.processors c ≡ Some p → IsOobSettled c pipe p k.mutexes k.tasks)
     → ((p : Processor) → slice_get k.processors c ≡ Some p → is_oob p.current k.tasks ≡ false)
-    → slice_get (run_in_band c x).processors c ≡ Some p → IsSettled c q p x.tasks
+    → slice_get (run_in_band c x).processors c ≡ Some p → IsSettled c q p x.mutexes x.tasks
 settled-turn c k x pipe q p r same s n h =
     let from = changed-from (λ (p : Processor). run_task (take_up p.in_band_task (next_in_band c x.tasks)) p) x.processors c p h in
     let there : slice_get k.processors c ≡ Some from.0 = ap (λ (xs : List Processor). slice_get xs c) (sym r.processors) ∙ from.1 in
     let z = s from.0 there in
     let free : pipe.oob.stalled ≡ false = is_open pipe.oob.stalled (is_oob from.0.current k.tasks) z.oob_staller (n from.0 there) in
-    let none : from.0.current ≡ None = no_best-is c k.tasks from.0.current (sym (z.runs free)) (n from.0 there) in
+    let none : from.0.current ≡ None = no_best-is c k.mutexes k.tasks from.0.current (sym (z.runs free)) (n from.0 there) in
     let still : q.oob.stalled ≡ false = same.0.oob ∙ free in
     rw from.2 (record {
-      current_own = λ t e. up-own c x.tasks from.0.in_band_task t (λ u f. r.own u (z.in_band_own u f)) e;
-      in_band_own = λ t e. up-own c x.tasks from.0.in_band_task t (λ u f. r.own u (z.in_band_own u f)) e;
-      runs_best = λ u v t e. absurd (none-best c t k.tasks x.tasks r.oob (sym (z.runs free) ∙ none) e);
+      current_own = λ t e. own-in_band c t x.tasks (up-own c x.tasks from.0.in_band_task t (λ u f. r.in_band u (z.in_band_own u f)) e);
+      in_band_own = λ t e. up-own c x.tasks from.0.in_band_task t (λ u f. r.in_band u (z.in_band_own u f)) e;
+      runs_best = λ u v t e. absurd (none-best c t k.mutexes x.mutexes k.tasks x.tasks r.oob (sym (z.runs free) ∙ none) e);
       runs_in_band = λ m. refl;
       oob_played = λ u. ap (λ log. log.lines) same.1 ∙ z.oob_lines free;
       in_band_played = λ u m. same.2 u;
@@ -270,20 +271,20 @@ settled-turn c k x pipe q p r same s n h =
 -- ---- what settling in-band makes, of a processor that has settled out-of-band
 record Turned (c : ℕ) (k new : Parts) : Type 0 where
   apart : IsApart c k new
-  own : (q : Pipe) (p : Processor) → slice_get new.pipes c ≡ Some q → slice_get new.processors c ≡ Some p → IsSettled c q p new.tasks
+  own : (q : Pipe) (p : Processor) → slice_get new.pipes c ≡ Some q → slice_get new.processors c ≡ Some p → IsSettled c q p new.mutexes new.tasks
 
 turned-pipe : (c : ℕ) (k : Parts) (o : Option Pipe) → slice_get k.pipes c ≡ o
-    → ((q : Pipe) (p : Processor) → slice_get k.pipes c ≡ Some q → slice_get k.processors c ≡ Some p → IsOobSettled c q p k.tasks)
+    → ((q : Pipe) (p : Processor) → slice_get k.pipes c ≡ Some q → slice_get k.processors c ≡ Some p → IsOobSettled c q p k.mutexes k.tasks)
     → ((p : Processor) → slice_get k.processors c ≡ Some p → is_oob p.current k.tasks ≡ false)
     → ((q : Pipe) → slice_get k.pipes c ≡ Some q → IsPipe q)
-    → (q : Pipe) (p : Processor) → slice_get (play_in_band_pipe o c k).pipes c ≡ Some q → slice_get (run_in_band c (play_in_band_pipe o c k)).processors c ≡ Some p → IsSettled c q p (play_in_band_pipe o c k).tasks
+    → (q : Pipe) (p : Processor) → slice_get (play_in_band_pipe o c k).pipes c ≡ Some q → slice_get (run_in_band c (play_in_band_pipe o c k)).processors c ≡ Some p → IsSettled c q p (play_in_band_pipe o c k).mutexes (play_in_band_pipe o c k).tasks
 turned-pipe c k None e s n w q p f h = cc
 turned-pipe c k (Some pipe) e s n w q p f h =
     settled-turn c k (play_in_band_pipe (Some pipe) c k) pipe q p (rouses-pipe c (Some pipe) k)
     (in_band_pipe-if c k pipe pipe.inband.stalled refl e (w pipe e) q f) (λ p g. s pipe p e g) n h
 
 turned : (c : ℕ) (k : Parts)
-    → ((q : Pipe) (p : Processor) → slice_get k.pipes c ≡ Some q → slice_get k.processors c ≡ Some p → IsOobSettled c q p k.tasks)
+    → ((q : Pipe) (p : Processor) → slice_get k.pipes c ≡ Some q → slice_get k.processors c ≡ Some p → IsOobSettled c q p k.mutexes k.tasks)
     → ((p : Processor) → slice_get k.processors c ≡ Some p → is_oob p.current k.tasks ≡ false)
     → ((q : Pipe) → slice_get k.pipes c ≡ Some q → IsPipe q) → Turned c k (turn_in_band c k)
 unfolding turn_in_band
@@ -297,16 +298,16 @@ turned c k s n w =
     }
 
 turned-if : (c : ℕ) (k : Parts) (b : Bool) → is_oob (current c k) k.tasks ≡ b
-    → ((q : Pipe) (p : Processor) → slice_get k.pipes c ≡ Some q → slice_get k.processors c ≡ Some p → IsOobSettled c q p k.tasks)
+    → ((q : Pipe) (p : Processor) → slice_get k.pipes c ≡ Some q → slice_get k.processors c ≡ Some p → IsOobSettled c q p k.mutexes k.tasks)
     → ((q : Pipe) → slice_get k.pipes c ≡ Some q → IsPipe q) → Turned c k (if b then k else turn_in_band c k)
 turned-if c k true o s w = record {
   apart = apart-none c k;
-  own = λ q p f h. settled-oob c q p k.tasks (s q p f h) (rw h at o);
+  own = λ q p f h. settled-oob c q p k.mutexes k.tasks (s q p f h) (rw h at o);
 }
 turned-if c k false o s w = turned c k s (λ p g. rw g at o) w
 
 settles-in_band : (c : ℕ) (k : Parts)
-    → ((q : Pipe) (p : Processor) → slice_get k.pipes c ≡ Some q → slice_get k.processors c ≡ Some p → IsOobSettled c q p k.tasks)
+    → ((q : Pipe) (p : Processor) → slice_get k.pipes c ≡ Some q → slice_get k.processors c ≡ Some p → IsOobSettled c q p k.mutexes k.tasks)
     → ((q : Pipe) → slice_get k.pipes c ≡ Some q → IsPipe q) → Turned c k (settle_in_band c k)
 unfolding settle_in_band
 settles-in_band c k s w = turned-if c k (is_oob (current c k) k.tasks) refl s w
@@ -315,7 +316,7 @@ settles-in_band c k s w = turned-if c k (is_oob (current c k) k.tasks) refl s w
 pub record IsUntold (c : ℕ) (k : Parts) : Type 0 where
   pub pipes : ArePipes k.pipes
   pub others : (d : ℕ) (pipe : Pipe) (p : Processor) → (d ≡ c → ⊥) → slice_get k.pipes d ≡ Some pipe → slice_get k.processors d ≡ Some p → IsCalm d pipe p k.tasks
-  pub own : (pipe : Pipe) (p : Processor) → slice_get k.pipes c ≡ Some pipe → slice_get k.processors c ≡ Some p → IsSettled c pipe p k.tasks
+  pub own : (pipe : Pipe) (p : Processor) → slice_get k.pipes c ≡ Some pipe → slice_get k.processors c ≡ Some p → IsSettled c pipe p k.mutexes k.tasks
   pub shape : IsShaped k
 
 settle-untold : (c : ℕ) (k : Parts) → GoodBut c k → IsUntold c (settle c k)
@@ -333,8 +334,8 @@ settle-untold c k g =
     }
 
 -- ---- telling the others
-calm-settled : (d : ℕ) (pipe : Pipe) (p : Processor) (tasks : List Task) → IsCalm d pipe p tasks → (pipe.oob.stalled ≡ false → has_line pipe.wire 1 ≡ false → (t : ℕ) → best d tasks ≡ Some t → p.current ≡ Some t) → IsSettled d pipe p tasks
-calm-settled d pipe p tasks s h = record {
+calm-settled : (d : ℕ) (pipe : Pipe) (p : Processor) (mutexes : List Mutex) (tasks : List Task) → IsCalm d pipe p tasks → (pipe.oob.stalled ≡ false → has_line pipe.wire 1 ≡ false → (t : ℕ) → best d mutexes tasks ≡ Some t → p.current ≡ Some t) → IsSettled d pipe p mutexes tasks
+calm-settled d pipe p mutexes tasks s h = record {
   current_own = s.current_own;
   in_band_own = s.in_band_own;
   runs_best = h;
@@ -375,19 +376,19 @@ differs-is (Some u) None t e w = cc
 differs-is (Some u) (Some v) t e w = let same : u ≡ v = same_number u v e in let it : u ≡ t = cc in cc
 
 told-if : (c d : ℕ) (k : Parts) (pipe q : Pipe) (p : Processor) (own wants : Bool) → (d == c) ≡ own → wants_nudge d pipe k ≡ wants → IsUntold c k
-    → slice_get k.pipes d ≡ Some pipe → slice_get k.processors d ≡ Some p → (if own then pipe else (if wants then raise 1 pipe else pipe)) ≡ q → IsSettled d q p k.tasks
+    → slice_get k.pipes d ≡ Some pipe → slice_get k.processors d ≡ Some p → (if own then pipe else (if wants then raise 1 pipe else pipe)) ≡ q → IsSettled d q p k.mutexes k.tasks
 told-if c d k pipe q p true wants a b u e f h =
     let at : d ≡ c = eqb-is d c a in
     rw (← h, at) (u.own pipe p (rw (← at) e) (rw (← at) f))
 told-if c d k pipe q p false true a b u e f h =
     let other : d ≡ c → ⊥ = λ same. let yes = eq-eqb d c same in let no : true ≡ false = sym yes ∙ a in cc in
-    rw (← h) (calm-settled d (raise 1 pipe) p k.tasks (calm-raised d 1 pipe p k.tasks (u.others d pipe p other e f)) (λ s n. let no : true ≡ false = sym (raised-on pipe) ∙ n in cc))
+    rw (← h) (calm-settled d (raise 1 pipe) p k.mutexes k.tasks (calm-raised d 1 pipe p k.tasks (u.others d pipe p other e f)) (λ s n. let no : true ≡ false = sym (raised-on pipe) ∙ n in cc))
 told-if c d k pipe q p false false a b u e f h =
     let other : d ≡ c → ⊥ = λ same. let yes = eq-eqb d c same in let no : true ≡ false = sym yes ∙ a in cc in
     let now : current d k ≡ p.current = rw f refl in
     rw (← h)
-    (calm-settled d pipe p k.tasks (u.others d pipe p other e f)
-    (λ s n t x. sym now ∙ differs-is (best d k.tasks) (current d k) t (wanted-not pipe.oob.stalled (has_line pipe.wire 1) (differs (best d k.tasks) (current d k)) b s n) x))
+    (calm-settled d pipe p k.mutexes k.tasks (u.others d pipe p other e f)
+    (λ s n t x. sym now ∙ differs-is (best d k.mutexes k.tasks) (current d k) t (wanted-not pipe.oob.stalled (has_line pipe.wire 1) (differs (best d k.mutexes k.tasks) (current d k)) b s n) x))
 
 shaped-pipes : (k : Parts) (pipes : List Pipe) → length pipes ≡ length k.pipes → IsShaped k → IsShaped (record k { pipes = pipes })
 shaped-pipes k pipes e s = record {
@@ -399,9 +400,10 @@ shaped-pipes k pipes e s = record {
   pipes_count = e ∙ s.pipes_count;
   few_tasks = s.few_tasks;
   few_processors = s.few_processors;
+  locks = s.locks;
 }
 
-pub good_of : (k : Parts) → ArePipes k.pipes → ((c : ℕ) (pipe : Pipe) (p : Processor) → slice_get k.pipes c ≡ Some pipe → slice_get k.processors c ≡ Some p → IsSettled c pipe p k.tasks) → IsShaped k → Good k
+pub good_of : (k : Parts) → ArePipes k.pipes → ((c : ℕ) (pipe : Pipe) (p : Processor) → slice_get k.pipes c ≡ Some pipe → slice_get k.processors c ≡ Some p → IsSettled c pipe p k.mutexes k.tasks) → IsShaped k → Good k
 good_of k a s h = record {
   pipes = a;
   settled = s;
@@ -413,9 +415,10 @@ good_of k a s h = record {
   pipes_count = h.pipes_count;
   few_tasks = h.few_tasks;
   few_processors = h.few_processors;
+  locks = h.locks;
 }
 
-told : (c : ℕ) (k : Parts) → IsUntold c k → (d : ℕ) (q : Pipe) (p : Processor) → slice_get (nudge c k).pipes d ≡ Some q → slice_get (nudge c k).processors d ≡ Some p → IsSettled d q p (nudge c k).tasks
+told : (c : ℕ) (k : Parts) → IsUntold c k → (d : ℕ) (q : Pipe) (p : Processor) → slice_get (nudge c k).pipes d ≡ Some q → slice_get (nudge c k).processors d ≡ Some p → IsSettled d q p (nudge c k).mutexes (nudge c k).tasks
 unfolding nudge
 told c k u d q p e f =
     let from = mapped (nudge_pipe c k d) (slice_get k.pipes d) q (sym (slice_get-each (nudge_pipe c k) k.pipes d) ∙ e) in

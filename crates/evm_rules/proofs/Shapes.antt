@@ -1,19 +1,22 @@
 -- What holds of tasks, harts and sizes, whatever processors and pipes do.
-use Rattle.std.proofs.Common.{◌≡◌, ℕ, ◌+◌, ◌<◌, ◌≤◌, ◌%◌, List, [], ◌∷◌, Some, length, length-append, refl, ap, sym, ◌∙◌, ◌⊎◌, inl, inr, arith}
+use Rattle.std.proofs.Common.{◌≡◌, ℕ, ◌+◌, ◌<◌, ◌≤◌, ◌%◌, List, [], ◌∷◌, ◌++◌, Some, None, length, length-append, refl, ap, sym, ◌∙◌, ◌⊎◌, inl, inr, arith}
 use Rattle.std.specs.Prelude.{slice_get}
 use Rattle.evm_exec.specs.declared.hart.Hart.{Hart}
 use Rattle.evm_model.proofs.Lists.{change-cases, length-change, slice_get-push}
-use Rattle.evm_model.specs.Good.{Good}
+use Rattle.evm_model.specs.Good.{Good, AreLocks}
 use Rattle.evm_model.specs.InBandCalls.{add_task}
 use Rattle.evm_model.specs.Harts.{spawned_hart}
 use Rattle.evm_model.specs.Lists.{change}
+use Rattle.evm_model.specs.Mutexes.{lock_of}
 use Rattle.evm_model.specs.Pipes.{Pipe}
 use Rattle.evm_model.specs.State.{Parts, new_task, on_hart, on_task, on_pipe, on_processor}
 use Rattle.evm_model.specs.Tasks.{restamp, set_state, leave_in_band}
 use Rattle.evm_model.specs.declared.limits.TheConstants.{PROCESSOR_LIMIT, TASK_LIMIT}
+use Rattle.evm_model.specs.declared.mutex.Mutex.{Mutex}
 use Rattle.evm_model.specs.declared.processor.Processor.{Processor}
 use Rattle.evm_model.specs.declared.task.Task.{Task}
 use Rattle.evm_model.specs.declared.task.TaskState.{TaskState}
+use Rattle.evm_rules.proofs.Locks.{locks-fewer, fewer-change, fewer-push}
 
 pub record IsShaped (k : Parts) : Type 0 where
   pub aligned : (t : ℕ) (hart : Hart) → slice_get k.harts t ≡ Some hart → hart.pc % 4 ≡ 0
@@ -24,6 +27,7 @@ pub record IsShaped (k : Parts) : Type 0 where
   pub pipes_count : length k.pipes ≡ length k.processors
   pub few_tasks : length k.tasks ≤ TASK_LIMIT
   pub few_processors : length k.processors ≤ PROCESSOR_LIMIT
+  pub locks : AreLocks k.mutexes k.tasks
 
 pub shaped : (k : Parts) → Good k → IsShaped k
 shaped k g = record {
@@ -35,6 +39,7 @@ shaped k g = record {
   pipes_count = g.pipes_count;
   few_tasks = g.few_tasks;
   few_processors = g.few_processors;
+  locks = g.locks;
 }
 
 pub shaped-pipe : (c : ℕ) (f : Pipe → Pipe) (k : Parts) → IsShaped k → IsShaped (on_pipe c f k)
@@ -47,6 +52,7 @@ shaped-pipe c f k s = record {
   pipes_count = length-change f k.pipes c ∙ s.pipes_count;
   few_tasks = s.few_tasks;
   few_processors = s.few_processors;
+  locks = s.locks;
 }
 
 pub shaped-processor : (c : ℕ) (f : Processor → Processor) (k : Parts) → IsShaped k → IsShaped (on_processor c f k)
@@ -59,6 +65,7 @@ shaped-processor c f k s = let same : length (change f k.processors c) ≡ lengt
   pipes_count = s.pipes_count ∙ sym same;
   few_tasks = s.few_tasks;
   few_processors = rw same s.few_processors;
+  locks = s.locks;
 }
 
 pub shaped-leave : (c : ℕ) (k : Parts) → IsShaped k → IsShaped (leave_in_band c k)
@@ -78,6 +85,7 @@ shaped-hart t f k h s = record {
   pipes_count = s.pipes_count;
   few_tasks = s.few_tasks;
   few_processors = s.few_processors;
+  locks = s.locks;
 }
 
 -- ---- a task
@@ -89,8 +97,8 @@ was f xs t u z a b h = elim (change-cases f xs t u z h) [
 ]
 
 -- a task's processor and stamp stay
-pub shaped-task : (t : ℕ) (f : Task → Task) (k : Parts) → ((x : Task) → (f x).cpu ≡ x.cpu) → ((x : Task) → (f x).stamp ≡ x.stamp) → IsShaped k → IsShaped (on_task t f k)
-shaped-task t f k cpu stamp s =
+pub shaped-with : (t : ℕ) (f : Task → Task) (k : Parts) → ((x : Task) → (f x).cpu ≡ x.cpu) → ((x : Task) → (f x).stamp ≡ x.stamp) → AreLocks k.mutexes (change f k.tasks t) → IsShaped k → IsShaped (on_task t f k)
+shaped-with t f k cpu stamp locks s =
     let before = λ (u : ℕ) (x : Task) (e : slice_get (change f k.tasks t) u ≡ Some x). was f k.tasks t u x cpu stamp e in
     record {
       aligned = s.aligned;
@@ -101,11 +109,31 @@ shaped-task t f k cpu stamp s =
       pipes_count = s.pipes_count;
       few_tasks = rw (length-change f k.tasks t) s.few_tasks;
       few_processors = s.few_processors;
+      locks = locks;
     }
 
-pub shaped-state : (t : ℕ) (state : TaskState) (k : Parts) → IsShaped k → IsShaped (set_state t state k)
+-- .. and it waits for no other lock
+pub shaped-task : (t : ℕ) (f : Task → Task) (k : Parts) → ((x : Task) → (f x).cpu ≡ x.cpu) → ((x : Task) → (f x).stamp ≡ x.stamp) → ((x : Task) (m : ℕ) → lock_of (f x).state ≡ Some m → lock_of x.state ≡ Some m)
+    → IsShaped k → IsShaped (on_task t f k)
+shaped-task t f k cpu stamp lock s = shaped-with t f k cpu stamp (locks-fewer k.mutexes k.tasks (change f k.tasks t) (omega (arith, length-change f k.tasks t)) (fewer-change f k.tasks t lock) s.locks) s
+
+pub shaped-state : (t : ℕ) (state : TaskState) (k : Parts) → lock_of state ≡ None → IsShaped k → IsShaped (set_state t state k)
 unfolding set_state
-shaped-state t state k s = shaped-task t (λ task. record task { state = state }) k (λ x. refl) (λ x. refl) s
+shaped-state t state k none s = shaped-task t (λ task. record task { state = state }) k (λ x. refl) (λ x. refl) (λ x m e. let no : None ≡ Some m = sym none ∙ e in cc) s
+
+-- mutexes change
+pub shaped-mutexes : (k : Parts) (mutexes : List Mutex) → AreLocks mutexes k.tasks → IsShaped k → IsShaped (record k { mutexes = mutexes })
+shaped-mutexes k mutexes locks s = record {
+  aligned = s.aligned;
+  homes = s.homes;
+  stamps_below = s.stamps_below;
+  stamps_differ = s.stamps_differ;
+  harts_count = s.harts_count;
+  pipes_count = s.pipes_count;
+  few_tasks = s.few_tasks;
+  few_processors = s.few_processors;
+  locks = locks;
+}
 
 -- ---- a fresh stamp
 -- a task of which the stamp is the fresh one, or is as it was
@@ -152,6 +180,7 @@ shaped-restamp t k s =
       pipes_count = s.pipes_count;
       few_tasks = rw (length-change f k.tasks t) s.few_tasks;
       few_processors = s.few_processors;
+      locks = locks-fewer k.mutexes k.tasks (change f k.tasks t) (omega (arith, length-change f k.tasks t)) (fewer-change f k.tasks t (λ x m e. e)) s.locks;
     }
 
 -- ---- a task more
@@ -187,4 +216,5 @@ shaped-add entry value cpu k a home room s =
       pipes_count = s.pipes_count;
       few_tasks = omega (arith, length-append k.tasks (task ∷ []));
       few_processors = s.few_processors;
+      locks = locks-fewer k.mutexes k.tasks (k.tasks ++ task ∷ []) (omega (arith, length-append k.tasks (task ∷ []))) (fewer-push k.tasks task refl) s.locks;
     }

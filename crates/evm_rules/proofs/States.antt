@@ -8,14 +8,15 @@ use Rattle.evm_ram.specs.declared.ram.TheConstants.{BASE}
 use Rattle.evm_ram.specs.declared.refusal.Refusal.{Refusal}
 use Rattle.evm_ram.specs.declared.refusal.Refusal.TheVariants.{Full}
 use Rattle.evm_exec.specs.declared.hart.Hart.{Hart}
-use Rattle.evm_model.specs.Bounds.{PER_EVENT, STAMPS_PER_EVENT, PipesUpTo}
+use Rattle.evm_model.specs.Bounds.{PER_EVENT, STAMPS_PER_EVENT, PipesUpTo, HeldUpTo}
 use Rattle.evm_model.specs.Commands.{tick, set_bits, on_number, set_breakpoint, unset_breakpoint}
-use Rattle.evm_model.specs.Good.{Good, GoodState, IsOwn, IsSettled, is_tick}
+use Rattle.evm_model.specs.Good.{Good, GoodState, AreLocks, IsOneOf, IsSettled, is_tick}
 use Rattle.evm_model.specs.Harts.{set_register, set_pc, first_hart}
 use Rattle.evm_model.specs.Instructions.{stop}
 use Rattle.evm_model.specs.Load.{bytes_from, load, start_loaded}
 use Rattle.evm_model.specs.Pipes.{Pipe, idle_pipe}
-use Rattle.evm_model.specs.Ranks.{best}
+use Rattle.evm_model.specs.Mutexes.{lock_at, owner_for}
+use Rattle.evm_model.specs.Ranks.{best, is_in_ready}
 use Rattle.evm_model.specs.Refusals.{board_refusal, is_full}
 use Rattle.evm_model.specs.Replay.{accept, apply, bad_boot, bad_cpus, bad_ram, bad_capacity, left_by, replay, start}
 use Rattle.evm_model.specs.Rows.{step, single_step, row}
@@ -29,13 +30,14 @@ use Rattle.evm_model.specs.declared.limits.TheConstants.{PROCESSOR_LIMIT, CAPACI
 use Rattle.evm_model.specs.declared.processor.Processor.{Processor}
 use Rattle.evm_model.proofs.Lists.{slice_get-replicate, slice_get-slice_set}
 use Rattle.evm_walk.proofs.Counted.{takes_counted}
+use Rattle.evm_walk.proofs.Held.{row_holds}
 use Rattle.evm_walk.proofs.Moves.{Takes}
 use Rattle.evm_walk.proofs.Rows.{row_takes, actor, raised_line}
 use Rattle.evm_walk.proofs.Sets.{ArePipes}
 use Rattle.evm_walk.proofs.Sizes.{takes_sizes, moves_ticks}
 use Rattle.evm_rules.proofs.Bounded.{AreWithin, within-idle}
 use Rattle.evm_rules.proofs.Counting.{PipesUpTo-more}
-use Rattle.evm_rules.proofs.Firsts.{best-is_oob}
+use Rattle.evm_rules.proofs.Firsts.{best-is_oob, own-in_band}
 use Rattle.evm_rules.proofs.Keeps.{row-good, hart-good}
 use Rattle.evm_rules.proofs.Ram.{row-ram}
 use Rattle.evm_rules.proofs.Replays.{accepted}
@@ -102,6 +104,7 @@ accepted-good s event f e g =
       ticks = row-ticks event s.board e a ∙ ap (λ n. n + cond (is_tick event) 1 0) g.ticks ∙ sym (counted-tick s.journal event);
       stamps = omega (arith, stamped.most, g.stamps, grown);
       counts = rw more (takes_counted (actor event) (raised_line event) PER_EVENT (PER_EVENT * length s.journal) s.board.parts new t g.counts);
+      holds = rw more (row_holds event s.board (PER_EVENT * length s.journal) e a g.holds);
     }
 
 -- an event that is not refused keeps the machine good
@@ -146,16 +149,16 @@ no_oob : (t : ℕ) → is_oob (Some t) (first_task ∷ []) ≡ false
 no_oob zero = refl
 no_oob (suc t) = refl
 
-no_best : (c t : ℕ) → best c (first_task ∷ []) ≡ Some t → ⊥
-no_best c t e = let no : true ≡ false = sym (best-is_oob c t (first_task ∷ []) e) ∙ no_oob t in cc
+no_best : (c t : ℕ) → best c [] (first_task ∷ []) ≡ Some t → ⊥
+no_best c t e = let no : true ≡ false = sym (best-is_oob c t [] (first_task ∷ []) e) ∙ no_oob t in cc
 
-first_own : (t : ℕ) → Some 0 ≡ Some t → IsOwn 0 t (first_task ∷ [])
-first_own zero e = record { task = first_task; there = refl; at_home = refl; live = refl }
+first_own : (t : ℕ) → Some 0 ≡ Some t → IsOneOf is_in_ready 0 t (first_task ∷ [])
+first_own zero e = record { task = first_task; there = refl; at_home = refl; ready = refl }
 first_own (suc t) e = cc
 
-settled-first : (pipe : Pipe) → pipe ≡ idle_pipe → IsSettled 0 pipe (first_processor (Some 0)) (first_task ∷ [])
+settled-first : (pipe : Pipe) → pipe ≡ idle_pipe → IsSettled 0 pipe (first_processor (Some 0)) [] (first_task ∷ [])
 settled-first pipe e = rw e (record {
-  current_own = first_own;
+  current_own = λ t h. own-in_band 0 t (first_task ∷ []) (first_own t h);
   in_band_own = first_own;
   runs_best = λ u v t b. absurd (no_best 0 t b);
   runs_in_band = λ n. refl;
@@ -165,7 +168,7 @@ settled-first pipe e = rw e (record {
   in_band_staller = λ u n. cc;
 })
 
-settled-idle : (c : ℕ) (pipe : Pipe) → pipe ≡ idle_pipe → IsSettled c pipe (first_processor None) (first_task ∷ [])
+settled-idle : (c : ℕ) (pipe : Pipe) → pipe ≡ idle_pipe → IsSettled c pipe (first_processor None) [] (first_task ∷ [])
 settled-idle c pipe e = rw e (record {
   current_own = λ t h. cc;
   in_band_own = λ t h. cc;
@@ -178,7 +181,7 @@ settled-idle c pipe e = rw e (record {
 })
 
 settled-booted : (cpus c : ℕ) (pipe : Pipe) (p : Processor) → slice_get (replicate cpus idle_pipe) c ≡ Some pipe
-    → slice_get (slice_set (replicate cpus (first_processor None)) 0 (first_processor (Some 0))) c ≡ Some p → IsSettled c pipe p (first_task ∷ [])
+    → slice_get (slice_set (replicate cpus (first_processor None)) 0 (first_processor (Some 0))) c ≡ Some p → IsSettled c pipe p [] (first_task ∷ [])
 settled-booted cpus c pipe p e f =
     let idle : pipe ≡ idle_pipe = slice_get-replicate cpus idle_pipe c pipe e in
     elim (slice_get-slice_set (replicate cpus (first_processor None)) 0 c (first_processor (Some 0)) p f) [
@@ -189,6 +192,19 @@ settled-booted cpus c pipe p e f =
 one-there : {X : Type 0} (x z : X) (t : ℕ) → slice_get (x ∷ []) t ≡ Some z → (t ≡ 0) × (z ≡ x)
 one-there x z zero e = (refl, cc)
 one-there x z (suc t) e = cc
+
+no-lock : (u : ℕ) → lock_at (first_task ∷ []) u ≡ None
+no-lock zero = refl
+no-lock (suc u) = refl
+
+-- there is no mutex
+first-locks : AreLocks [] (first_task ∷ [])
+first-locks = record {
+  owners = λ m t e. cc;
+  waited = λ u m e none. let no : None ≡ Some m = sym (no-lock u) ∙ e in cc;
+  chains = record { height = λ t. 0; low = λ t. omega arith; falls = λ u t e. let no : None ≡ Some t = ap (owner_for []) (sym (no-lock u)) ∙ e in cc };
+  few = omega arith;
+}
 
 pub booted-good : (boot : Boot) → bad_boot boot ≡ false → Good (booted_parts boot)
 unfolding booted_parts
@@ -207,11 +223,16 @@ booted-good boot e =
       pipes_count = length-replicate boot.cpus idle_pipe ∙ sym processors;
       few_tasks = omega arith;
       few_processors = rw processors cpus.1;
+      locks = first-locks;
     }
 
 booted-counts : (boot : Boot) → PipesUpTo 0 (booted_parts boot).pipes
 unfolding booted_parts
 booted-counts boot = (within-idle boot.cpus (booted_parts boot) refl).up
+
+booted-holds : (boot : Boot) → HeldUpTo 0 (booted_parts boot).mutexes
+unfolding booted_parts
+booted-holds boot = record { count = λ m mutex e. cc }
 
 booted-processors : (boot : Boot) → length (booted_parts boot).processors ≡ boot.cpus
 unfolding booted_parts
@@ -237,6 +258,7 @@ GoodState-start boot e = record {
   ticks = booted-ticks boot;
   stamps = booted-stamps boot;
   counts = booted-counts boot;
+  holds = booted-holds boot;
 }
 
 length-bytes_from : (byte : ℕ → ℕ) (address n : ℕ) → length (bytes_from byte address n) ≡ n
@@ -256,6 +278,7 @@ GoodState-load byte entry s e g = record {
   ticks = g.ticks;
   stamps = g.stamps;
   counts = g.counts;
+  holds = g.holds;
 }
 
 pub GoodState-loaded : (byte : ℕ → ℕ) (entry : ℕ) (boot : Boot) → bad_boot boot ≡ false → entry % 4 ≡ 0 → GoodState (start_loaded byte entry boot)
@@ -276,6 +299,11 @@ few_events s g =
 pub counts_room : (s : State) → GoodState s → AreWithin (2 ^ 28) s.board.parts
 counts_room s g = let few : length s.journal ≤ CAPACITY_LIMIT = few_events s g in
     record { are = g.good.pipes; up = PipesUpTo-more (PER_EVENT * length s.journal) (2 ^ 28) s.board.parts.pipes (omega arith) g.counts }
+
+-- a mutex is locked at most 2 ^ 62 times
+pub holds_room : (s : State) → GoodState s → HeldUpTo (2 ^ 62) s.board.parts.mutexes
+holds_room s g = let few : length s.journal ≤ CAPACITY_LIMIT = few_events s g in
+    record { count = λ m mutex e. let some = g.holds.count m mutex e in omega (arith, some, few) }
 
 -- stamps are at most 2 ^ 33
 pub stamps_room : (s : State) → GoodState s → s.board.parts.stamps ≤ 2 ^ 33

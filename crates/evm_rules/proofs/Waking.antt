@@ -3,36 +3,37 @@ use Rattle.std.proofs.Common.{◌≡◌, ℕ, zero, suc, ◌<◌, List, [], ◌�
 use Rattle.std.specs.Prelude.{slice_get, option_map, nat_le, ◌==◌, ◌&&◌, if◌then◌else◌}
 use Rattle.std.proofs.lemmas.Bool.{cases_eq}
 use Rattle.evm_model.proofs.Lists.{change-here, change-elsewhere, slice_get-below, slice_get-before}
-use Rattle.evm_model.specs.Good.{IsOwn}
+use Rattle.evm_model.specs.Good.{IsOneOf, IsOwn, is_ready}
 use Rattle.evm_model.specs.Harts.{A0, set_register}
 use Rattle.evm_model.specs.Lists.{change}
 use Rattle.evm_model.specs.Pipes.{Pipe, arrive, play}
-use Rattle.evm_model.specs.Ranks.{best, rank, stamp, runs_oob, runs_oob_task, is_oob_ready}
+use Rattle.evm_model.specs.Ranks.{best, rank, stamp, runs_oob, runs_oob_task, is_oob_ready, is_in_ready}
 use Rattle.evm_model.specs.Settle.{current, is_oob, spend_of, spend_current, play_oob, play_oob_lines, play_in_band, play_in_band_lines}
 use Rattle.evm_model.specs.State.{Parts, on_hart, on_pipe}
-use Rattle.evm_model.specs.Tasks.{restamp, set_state, wake_in_band, wake_below, awaits, is_wait_for, is_live, set_slice, spend_slice, spend_task, is_round_robin}
+use Rattle.evm_model.specs.Tasks.{restamp, set_state, wake_in_band, wake_below, awaits, is_wait_for, set_slice, spend_slice, spend_task, is_round_robin}
 use Rattle.evm_model.specs.declared.limits.TheConstants.{SLICE}
 use Rattle.evm_model.specs.declared.stage.Stage.TheVariants.{OutOfBand, InBand}
+use Rattle.evm_model.specs.declared.mutex.Mutex.{Mutex}
 use Rattle.evm_model.specs.declared.task.Task.{Task}
 use Rattle.evm_model.specs.declared.task.TaskState.{TaskState}
 use Rattle.evm_model.specs.declared.task.TaskState.TheVariants.{InReady, Waits}
-use Rattle.evm_rules.proofs.Firsts.{IsOobOwn, both, eqb-is, first-member, first-none}
+use Rattle.evm_rules.proofs.Firsts.{IsOobOwn, both, eqb-is, oob-ready, in_band-ready, first-member, first-none}
 use Rattle.evm_rules.proofs.Shapes.{IsShaped, shaped-task, shaped-pipe, shaped-hart, shaped-state, shaped-restamp}
 
 -- ---- the tasks of a processor
--- where and how a task is: its processor and its state
+-- where and how a task is: its processor, and its state if it was ready
 pub record IsAlike (u : ℕ) (task : Task) (new : List Task) : Type 0 where
   pub now : Task
   pub there : slice_get new u ≡ Some now
   pub cpu : now.cpu ≡ task.cpu
-  pub state : now.state ≡ task.state
+  pub state : is_ready task.state ≡ true → now.state ≡ task.state
 
--- each task of processor d is there as it was, and in the same state
+-- each task of processor d is there as it was, and such as were ready are in the same state
 pub record AreAlike (d : ℕ) (tasks new : List Task) : Type 0 where
   pub each : (u : ℕ) (task : Task) → slice_get tasks u ≡ Some task → task.cpu ≡ d → IsAlike u task new
 
 alike-is : (u : ℕ) (task : Task) (new : List Task) → slice_get new u ≡ Some task → IsAlike u task new
-alike-is u task new e = record { now = task; there = e; cpu = refl; state = refl }
+alike-is u task new e = record { now = task; there = e; cpu = refl; state = λ r. refl }
 
 pub alike-none : (d : ℕ) (tasks : List Task) → AreAlike d tasks tasks
 alike-none d tasks = record { each = λ u task e h. alike-is u task tasks e }
@@ -42,25 +43,30 @@ alike-then d x y z p q = record {
   each = λ u task e h.
       let a = p.each u task e h in
       let b = q.each u a.now a.there (a.cpu ∙ h) in
-      record { now = b.now; there = b.there; cpu = b.cpu ∙ a.cpu; state = b.state ∙ a.state };
+      record { now = b.now; there = b.there; cpu = b.cpu ∙ a.cpu; state = λ r. b.state (ap is_ready (a.state r) ∙ r) ∙ a.state r };
 }
 
-pub alike-own : (d u : ℕ) (tasks new : List Task) → AreAlike d tasks new → IsOwn d u tasks → IsOwn d u new
-alike-own d u tasks new s o =
+-- one that is ready in some way stays so
+alike-one : (such : TaskState → Bool) (d u : ℕ) (tasks new : List Task) → ((s : TaskState) → such s ≡ true → is_ready s ≡ true) → AreAlike d tasks new → IsOneOf such d u tasks → IsOneOf such d u new
+alike-one such d u tasks new ready s o =
     let a = s.each u o.task o.there o.at_home in
-    record { task = a.now; there = a.there; at_home = a.cpu ∙ o.at_home; live = ap is_live a.state ∙ o.live }
+    record { task = a.now; there = a.there; at_home = a.cpu ∙ o.at_home; ready = ap such (a.state (ready o.task.state o.ready)) ∙ o.ready }
+
+pub alike-own : (d u : ℕ) (tasks new : List Task) → AreAlike d tasks new → IsOwn d u tasks → IsOwn d u new
+alike-own d u tasks new s o = alike-one is_ready d u tasks new (λ x e. e) s o
 
 pub alike-oob_own : (d u : ℕ) (tasks new : List Task) → AreAlike d tasks new → IsOobOwn d u tasks → IsOobOwn d u new
-alike-oob_own d u tasks new s o =
-    let a = s.each u o.task o.there o.at_home in
-    record { task = a.now; there = a.there; at_home = a.cpu ∙ o.at_home; ready = ap is_oob_ready a.state ∙ o.ready }
+alike-oob_own d u tasks new s o = alike-one is_oob_ready d u tasks new oob-ready s o
+
+pub alike-in_band : (d u : ℕ) (tasks new : List Task) → AreAlike d tasks new → IsOneOf is_in_ready d u tasks → IsOneOf is_in_ready d u new
+alike-in_band d u tasks new s o = alike-one is_in_ready d u tasks new in_band-ready s o
 
 pub alike-oob : (d : ℕ) (now : Option ℕ) (tasks new : List Task) → AreAlike d tasks new → ((u : ℕ) → now ≡ Some u → IsOwn d u tasks) → is_oob now new ≡ is_oob now tasks
 alike-oob d None tasks new s h = refl
 alike-oob d (Some u) tasks new s h =
     let o = h u refl in
     let a = s.each u o.task o.there o.at_home in
-    rw (o.there, a.there) (ap is_oob_ready a.state)
+    rw (o.there, a.there) (ap is_oob_ready (a.state o.ready))
 
 some-is : (x y : Task) → Some x ≡ Some y → x ≡ y
 some-is x y e = cc
@@ -81,8 +87,24 @@ alike-change d t f tasks cpu state = record {
       now = f task;
       there = rw same (change-here f tasks t) ∙ ap (option_map f) (ap (slice_get tasks) (sym same) ∙ e);
       cpu = cpu task;
-      state = state task;
+      state = λ r. state task;
     }
+    | inr other ↦ alike-is u task (change f tasks t) (change-elsewhere f tasks t u other ∙ e)
+  ];
+}
+
+-- one that wasn't ready changes in any way, on its processor
+pub alike-idle : (d t : ℕ) (f : Task → Task) (tasks : List Task) → ((task : Task) → (f task).cpu ≡ task.cpu) → ((task : Task) → slice_get tasks t ≡ Some task → is_ready task.state ≡ false) → AreAlike d tasks (change f tasks t)
+alike-idle d t f tasks cpu idle = record {
+  each = λ u task e h. elim (cases_eq u t) [
+    | inl same ↦
+        let at : slice_get tasks t ≡ Some task = ap (slice_get tasks) (sym same) ∙ e in
+        record {
+          now = f task;
+          there = rw same (change-here f tasks t) ∙ ap (option_map f) at;
+          cpu = cpu task;
+          state = λ r. let no : true ≡ false = sym r ∙ idle task at in cc;
+        }
     | inr other ↦ alike-is u task (change f tasks t) (change-elsewhere f tasks t u other ∙ e)
   ];
 }
@@ -90,26 +112,30 @@ alike-change d t f tasks cpu state = record {
 pub alike-push : (d : ℕ) (task : Task) (tasks : List Task) → AreAlike d tasks (tasks ++ task ∷ [])
 alike-push d task tasks = record { each = λ u old e h. alike-is u old _ (slice_get-before tasks task u old e) }
 
--- an own task that changes stays own where it stays alive
-pub own-cases : (c t u : ℕ) (f : Task → Task) (tasks : List Task) (o : IsOwn c u tasks) → ((task : Task) → (f task).cpu ≡ task.cpu) → ((task : Task) → is_live task.state ≡ true → is_live (f task).state ≡ true)
-    → IsOwn c u (change f tasks t)
-own-cases c t u f tasks o home live = elim (cases_eq u t) [
+-- an own task that changes stays so where its state does
+pub one-cases : (such : TaskState → Bool) (c t u : ℕ) (f : Task → Task) (tasks : List Task) (o : IsOneOf such c u tasks) → ((task : Task) → (f task).cpu ≡ task.cpu)
+    → ((task : Task) → such task.state ≡ true → such (f task).state ≡ true) → IsOneOf such c u (change f tasks t)
+one-cases such c t u f tasks o home ready = elim (cases_eq u t) [
   | inl same ↦ record {
     task = f o.task;
     there = rw same (change-here f tasks t) ∙ ap (option_map f) (ap (slice_get tasks) (sym same) ∙ o.there);
     at_home = home o.task ∙ o.at_home;
-    live = live o.task o.live;
+    ready = ready o.task o.ready;
   }
-  | inr other ↦ record { task = o.task; there = change-elsewhere f tasks t u other ∙ o.there; at_home = o.at_home; live = o.live }
+  | inr other ↦ record { task = o.task; there = change-elsewhere f tasks t u other ∙ o.there; at_home = o.at_home; ready = o.ready }
 ]
 
-pub own-state : (c t u : ℕ) (state : TaskState) (k : Parts) → is_live state ≡ true → IsOwn c u k.tasks → IsOwn c u (set_state t state k).tasks
-unfolding set_state
-own-state c t u state k live o = own-cases c t u (λ task. record task { state = state }) k.tasks o (λ task. refl) (λ task h. live)
+-- another one changes
+pub one-other : (such : TaskState → Bool) (c t u : ℕ) (f : Task → Task) (tasks : List Task) → (u ≡ t → ⊥) → IsOneOf such c u tasks → IsOneOf such c u (change f tasks t)
+one-other such c t u f tasks other o = record { task = o.task; there = change-elsewhere f tasks t u other ∙ o.there; at_home = o.at_home; ready = o.ready }
 
-pub own-restamp : (c t u : ℕ) (k : Parts) → IsOwn c u k.tasks → IsOwn c u (restamp t k).tasks
-unfolding restamp
-own-restamp c t u k o = own-cases c t u (λ task. record task { stamp = k.stamps }) k.tasks o (λ task. refl) (λ task h. h)
+pub own-state : (c t u : ℕ) (state : TaskState) (k : Parts) → is_ready state ≡ true → IsOwn c u k.tasks → IsOwn c u (set_state t state k).tasks
+unfolding set_state
+own-state c t u state k ready o = one-cases is_ready c t u (λ task. record task { state = state }) k.tasks o (λ task. refl) (λ task h. ready)
+
+pub in_band-state : (c t u : ℕ) (k : Parts) → IsOneOf is_in_ready c u k.tasks → IsOneOf is_in_ready c u (set_state t InReady k).tasks
+unfolding set_state
+in_band-state c t u k o = one-cases is_in_ready c t u (λ task. record task { state = InReady }) k.tasks o (λ task. refl) (λ task h. refl)
 
 -- ---- waking
 -- tasks of c woke, lines of its log were played: its own tasks stay its own, as many are out-of-band ready, and nothing else changes but registers
@@ -118,7 +144,7 @@ pub record Rouses (c : ℕ) (k x : Parts) : Type 0 where
   pub pipes : (d : ℕ) → (d ≡ c → ⊥) → slice_get x.pipes d ≡ slice_get k.pipes d
   pub shape : IsShaped k → IsShaped x
   pub others : (d : ℕ) → (d ≡ c → ⊥) → AreAlike d k.tasks x.tasks
-  pub own : (u : ℕ) → IsOwn c u k.tasks → IsOwn c u x.tasks
+  pub in_band : (u : ℕ) → IsOneOf is_in_ready c u k.tasks → IsOneOf is_in_ready c u x.tasks
   pub oob : (u : ℕ) → runs_oob c x.tasks u ≡ runs_oob c k.tasks u
 
 pub rouses-none : (c : ℕ) (k : Parts) → Rouses c k k
@@ -127,7 +153,7 @@ rouses-none c k = record {
   pipes = λ d n. refl;
   shape = λ s. s;
   others = λ d n. alike-none d k.tasks;
-  own = λ u o. o;
+  in_band = λ u o. o;
   oob = λ u. refl;
 }
 
@@ -137,7 +163,7 @@ rouses-then c x y z p q = record {
   pipes = λ d n. q.pipes d n ∙ p.pipes d n;
   shape = λ s. q.shape (p.shape s);
   others = λ d n. alike-then d x.tasks y.tasks z.tasks (p.others d n) (q.others d n);
-  own = λ u o. q.own u (p.own u o);
+  in_band = λ u o. q.in_band u (p.in_band u o);
   oob = λ u. q.oob u ∙ p.oob u;
 }
 
@@ -151,7 +177,7 @@ rouses-pipe c f k = record {
   pipes = λ d n. change-elsewhere f k.pipes c d n;
   shape = shaped-pipe c f k;
   others = λ d n. alike-none d k.tasks;
-  own = λ u o. o;
+  in_band = λ u o. o;
   oob = λ u. refl;
 }
 
@@ -190,7 +216,7 @@ rouses-hart c t value k = record {
   pipes = λ d n. refl;
   shape = shaped-hart t (set_register A0 value) k (λ hart h. h);
   others = λ d n. alike-none d k.tasks;
-  own = λ u o. o;
+  in_band = λ u o. o;
   oob = λ u. refl;
 }
 
@@ -199,9 +225,9 @@ unfolding set_state
 rouses-state c t k w = record {
   processors = refl;
   pipes = λ d n. refl;
-  shape = shaped-state t InReady k;
+  shape = shaped-state t InReady k refl;
   others = λ d n. alike-other c d t (λ task. record task { state = InReady }) k.tasks n (waiter-home c t k.tasks w);
-  own = λ u o. own-state c t u InReady k refl o;
+  in_band = λ u o. in_band-state c t u k o;
   oob = λ u. oob-change c t u (λ task. record task { state = InReady }) k.tasks w refl;
 }
 
@@ -223,7 +249,7 @@ rouses-restamp c t k = record {
   pipes = λ d n. refl;
   shape = shaped-restamp t k;
   others = λ d n. alike-change d t (λ task. record task { stamp = k.stamps }) k.tasks (λ task. refl) (λ task. refl);
-  own = λ u o. own-restamp c t u k o;
+  in_band = λ u o. one-cases is_in_ready c t u (λ task. record task { stamp = k.stamps }) k.tasks o (λ task. refl) (λ task h. h);
   oob = λ u. runs-change c t u (λ task. record task { stamp = k.stamps }) k.tasks (λ task. refl) (λ task. refl);
 }
 
@@ -261,9 +287,9 @@ rouses-slice c t slice k =
     record {
       processors = refl;
       pipes = λ d n. refl;
-      shape = shaped-task t f k (λ task. refl) (λ task. refl);
+      shape = shaped-task t f k (λ task. refl) (λ task. refl) (λ task m e. e);
       others = λ d n. alike-change d t f k.tasks (λ task. refl) (λ task. refl);
-      own = λ u o. own-cases c t u f k.tasks o (λ task. refl) (λ task h. h);
+      in_band = λ u o. one-cases is_in_ready c t u f k.tasks o (λ task. refl) (λ task h. h);
       oob = λ u. runs-change c t u f k.tasks (λ task. refl) (λ task. refl);
     }
 
@@ -304,10 +330,10 @@ runs-there : (c u : ℕ) (tasks : List Task) (o : Option Task) → slice_get tas
 runs-there c u tasks None e h = cc
 runs-there c u tasks (Some task) e h = slice_get-below tasks u task e
 
-pub none-best : (c t : ℕ) (tasks new : List Task) → ((u : ℕ) → runs_oob c new u ≡ runs_oob c tasks u) → best c tasks ≡ None → best c new ≡ Some t → ⊥
+pub none-best : (c t : ℕ) (mutexes others : List Mutex) (tasks new : List Task) → ((u : ℕ) → runs_oob c new u ≡ runs_oob c tasks u) → best c mutexes tasks ≡ None → best c others new ≡ Some t → ⊥
 unfolding best
-none-best c t tasks new same none e =
-    let member : runs_oob c new t ≡ true = (first-member (runs_oob c new) (rank new) (stamp new) (length new) t e).1 in
+none-best c t mutexes others tasks new same none e =
+    let member : runs_oob c new t ≡ true = (first-member (runs_oob c new) (rank others new) (stamp new) (length new) t e).1 in
     let was : runs_oob c tasks t ≡ true = sym (same t) ∙ member in
-    let not : runs_oob c tasks t ≡ false = first-none (runs_oob c tasks) (rank tasks) (stamp tasks) (length tasks) t none (runs-there c t tasks (slice_get tasks t) refl was) in
+    let not : runs_oob c tasks t ≡ false = first-none (runs_oob c tasks) (rank mutexes tasks) (stamp tasks) (length tasks) t none (runs-there c t tasks (slice_get tasks t) refl was) in
     let no : true ≡ false = sym was ∙ not in cc
