@@ -3,6 +3,7 @@ pub mod Locks
 pub mod Passing
 pub mod Places
 pub mod Private
+pub mod Ranking
 pub mod Replays
 pub mod Sets
 pub mod Counting

@@ -19,6 +19,7 @@ use Rattle.evm_rules.proofs.Counting.{mapped}
 use Rattle.evm_rules.proofs.Firsts.{IsOobOwn, own-is_oob, best-is_oob, best-own, own-live, own-in_band, next-own, eqb-is}
 use Rattle.evm_rules.proofs.Playing.{plays_oob, plays_in_band, play_oob_lines-pipes, play_in_band_lines-pipes, HasSameStalls, plays_oob-stalls, plays_in_band-stalls, plays_oob-empty, plays_in_band-empty, plays_in_band-oob, plays_oob-pipe}
 use Rattle.evm_rules.proofs.Places.{changed-is, changed-from}
+use Rattle.evm_rules.proofs.Ranking.{AreRanked, ranked-none, ranked-then}
 use Rattle.evm_rules.proofs.Sets.{ArePipes}
 use Rattle.evm_rules.proofs.Shapes.{IsShaped, shaped, shaped-processor}
 use Rattle.evm_rules.proofs.Waking.{AreAlike, alike-none, alike-then, alike-own, alike-oob, alike-in_band, Rouses, rouses-none, rouses-if, rouses-lines, rouses-oob_lines, none-best}
@@ -311,6 +312,24 @@ settles-in_band : (c : ℕ) (k : Parts)
     → ((q : Pipe) → slice_get k.pipes c ≡ Some q → IsPipe q) → Turned c k (settle_in_band c k)
 unfolding settle_in_band
 settles-in_band c k s w = turned-if c k (is_oob (current c k) k.tasks) refl s w
+
+-- it leaves the ranks
+ranked-processor : (c : ℕ) (f : Processor → Processor) (k : Parts) → AreRanked k (on_processor c f k)
+ranked-processor c f k = record { mutexes = refl; size = refl; locks = λ u. refl; classes = λ u. refl }
+
+ranked-turn : (c : ℕ) (k : Parts) → AreRanked k (turn_in_band c k)
+unfolding turn_in_band
+ranked-turn c k =
+    let x : Parts = play_in_band_pipe (slice_get k.pipes c) c k in
+    ranked-then k x _ (rouses-pipe c (slice_get k.pipes c) k).ranked (ranked-processor c _ x)
+
+ranked-if : (b : Bool) (k x : Parts) → AreRanked k x → AreRanked k (if b then k else x)
+ranked-if true k x r = ranked-none k
+ranked-if false k x r = r
+
+pub ranked-in_band : (c : ℕ) (k : Parts) → AreRanked k (settle_in_band c k)
+unfolding settle_in_band
+ranked-in_band c k = ranked-if (is_oob (current c k) k.tasks) k (turn_in_band c k) (ranked-turn c k)
 
 -- ---- settled, and the others not yet told
 pub record IsUntold (c : ℕ) (k : Parts) : Type 0 where

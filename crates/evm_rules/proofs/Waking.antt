@@ -6,6 +6,7 @@ use Rattle.evm_model.proofs.Lists.{change-here, change-elsewhere, slice_get-belo
 use Rattle.evm_model.specs.Good.{IsOneOf, IsOwn, is_ready}
 use Rattle.evm_model.specs.Harts.{A0, set_register}
 use Rattle.evm_model.specs.Lists.{change}
+use Rattle.evm_model.specs.Mutexes.{lock_of}
 use Rattle.evm_model.specs.Pipes.{Pipe, arrive, play}
 use Rattle.evm_model.specs.Ranks.{best, rank, stamp, runs_oob, runs_oob_task, is_oob_ready, is_in_ready}
 use Rattle.evm_model.specs.Settle.{current, is_oob, spend_of, spend_current, play_oob, play_oob_lines, play_in_band, play_in_band_lines}
@@ -17,7 +18,9 @@ use Rattle.evm_model.specs.declared.mutex.Mutex.{Mutex}
 use Rattle.evm_model.specs.declared.task.Task.{Task}
 use Rattle.evm_model.specs.declared.task.TaskState.{TaskState}
 use Rattle.evm_model.specs.declared.task.TaskState.TheVariants.{InReady, Waits}
+use Rattle.evm_model.specs.declared.task.Wait.TheVariants.{Line}
 use Rattle.evm_rules.proofs.Firsts.{IsOobOwn, both, eqb-is, oob-ready, in_band-ready, first-member, first-none}
+use Rattle.evm_rules.proofs.Ranking.{AreRanked, ranked-none, ranked-then, ranked-task}
 use Rattle.evm_rules.proofs.Shapes.{IsShaped, shaped-task, shaped-pipe, shaped-hart, shaped-state, shaped-restamp}
 
 -- ---- the tasks of a processor
@@ -146,6 +149,7 @@ pub record Rouses (c : ℕ) (k x : Parts) : Type 0 where
   pub others : (d : ℕ) → (d ≡ c → ⊥) → AreAlike d k.tasks x.tasks
   pub in_band : (u : ℕ) → IsOneOf is_in_ready c u k.tasks → IsOneOf is_in_ready c u x.tasks
   pub oob : (u : ℕ) → runs_oob c x.tasks u ≡ runs_oob c k.tasks u
+  pub ranked : AreRanked k x
 
 pub rouses-none : (c : ℕ) (k : Parts) → Rouses c k k
 rouses-none c k = record {
@@ -155,6 +159,7 @@ rouses-none c k = record {
   others = λ d n. alike-none d k.tasks;
   in_band = λ u o. o;
   oob = λ u. refl;
+  ranked = ranked-none k;
 }
 
 pub rouses-then : (c : ℕ) (x y z : Parts) → Rouses c x y → Rouses c y z → Rouses c x z
@@ -165,6 +170,7 @@ rouses-then c x y z p q = record {
   others = λ d n. alike-then d x.tasks y.tasks z.tasks (p.others d n) (q.others d n);
   in_band = λ u o. q.in_band u (p.in_band u o);
   oob = λ u. q.oob u ∙ p.oob u;
+  ranked = ranked-then x y z p.ranked q.ranked;
 }
 
 pub rouses-if : (c : ℕ) (b : Bool) (k x y : Parts) → (b ≡ true → Rouses c k x) → (b ≡ false → Rouses c k y) → Rouses c k (if b then x else y)
@@ -179,6 +185,7 @@ rouses-pipe c f k = record {
   others = λ d n. alike-none d k.tasks;
   in_band = λ u o. o;
   oob = λ u. refl;
+  ranked = record { mutexes = refl; size = refl; locks = λ u. refl; classes = λ u. refl };
 }
 
 -- the waiting task
@@ -187,16 +194,21 @@ record Waiter (c t : ℕ) (tasks : List Task) : Type 0 where
   there : slice_get tasks t ≡ Some task
   at_home : task.cpu ≡ c
   idle : is_oob_ready task.state ≡ false
+  lockless : lock_of task.state ≡ None
 
 wait-idle : (l : ℕ) (state : TaskState) → is_wait_for l state ≡ true → is_oob_ready state ≡ false
 wait-idle l (Waits on) e = refl
 wait-idle l _ e = cc
 
+wait-lockless : (l : ℕ) (state : TaskState) → is_wait_for l state ≡ true → lock_of state ≡ None
+wait-lockless l (Waits (Line m)) e = refl
+wait-lockless l _ e = cc
+
 waiter : (c l t : ℕ) (tasks : List Task) (o : Option Task) → slice_get tasks t ≡ o → awaits c l o ≡ true → Waiter c t tasks
 waiter c l t tasks None e h = cc
 waiter c l t tasks (Some task) e h =
     let b = both (is_wait_for l task.state) (task.cpu == c) h in
-    record { task = task; there = e; at_home = eqb-is task.cpu c b.1; idle = wait-idle l task.state b.0 }
+    record { task = task; there = e; at_home = eqb-is task.cpu c b.1; idle = wait-idle l task.state b.0; lockless = wait-lockless l task.state b.0 }
 
 -- the one that changes was not out-of-band ready, and isn't now
 oob-change : (c t u : ℕ) (f : Task → Task) (tasks : List Task) → (w : Waiter c t tasks) → is_oob_ready (f w.task).state ≡ false → runs_oob c (change f tasks t) u ≡ runs_oob c tasks u
@@ -210,6 +222,9 @@ oob-change c t u f tasks w h = elim (cases_eq u t) [
 waiter-home : (c t : ℕ) (tasks : List Task) → Waiter c t tasks → (task : Task) → slice_get tasks t ≡ Some task → task.cpu ≡ c
 waiter-home c t tasks w task e = let same : w.task ≡ task = some-is w.task task (sym w.there ∙ e) in rw (← same) w.at_home
 
+waiter-lock : (c t : ℕ) (tasks : List Task) (w : Waiter c t tasks) (task : Task) → slice_get tasks t ≡ Some task → lock_of task.state ≡ None
+waiter-lock c t tasks w task e = let same : w.task ≡ task = some-is w.task task (sym w.there ∙ e) in rw (← same) w.lockless
+
 rouses-hart : (c t value : ℕ) (k : Parts) → Rouses c k (on_hart t (set_register A0 value) k)
 rouses-hart c t value k = record {
   processors = refl;
@@ -218,6 +233,7 @@ rouses-hart c t value k = record {
   others = λ d n. alike-none d k.tasks;
   in_band = λ u o. o;
   oob = λ u. refl;
+  ranked = record { mutexes = refl; size = refl; locks = λ u. refl; classes = λ u. refl };
 }
 
 rouses-state : (c t : ℕ) (k : Parts) → Waiter c t k.tasks → Rouses c k (set_state t InReady k)
@@ -229,6 +245,7 @@ rouses-state c t k w = record {
   others = λ d n. alike-other c d t (λ task. record task { state = InReady }) k.tasks n (waiter-home c t k.tasks w);
   in_band = λ u o. in_band-state c t u k o;
   oob = λ u. oob-change c t u (λ task. record task { state = InReady }) k.tasks w refl;
+  ranked = ranked-task t (λ task. record task { state = InReady }) k _ refl refl (λ task e. sym (waiter-lock c t k.tasks w task e)) (λ task e. refl);
 }
 
 -- whether a task runs out-of-band is told by where and how it is
@@ -251,6 +268,7 @@ rouses-restamp c t k = record {
   others = λ d n. alike-change d t (λ task. record task { stamp = k.stamps }) k.tasks (λ task. refl) (λ task. refl);
   in_band = λ u o. one-cases is_in_ready c t u (λ task. record task { stamp = k.stamps }) k.tasks o (λ task. refl) (λ task h. h);
   oob = λ u. runs-change c t u (λ task. record task { stamp = k.stamps }) k.tasks (λ task. refl) (λ task. refl);
+  ranked = ranked-task t (λ task. record task { stamp = k.stamps }) k _ refl refl (λ task e. refl) (λ task e. refl);
 }
 
 rouses-wake : (c t value : ℕ) (k : Parts) → Waiter c t k.tasks → Rouses c k (wake_in_band t value k)
@@ -291,6 +309,7 @@ rouses-slice c t slice k =
       others = λ d n. alike-change d t f k.tasks (λ task. refl) (λ task. refl);
       in_band = λ u o. one-cases is_in_ready c t u f k.tasks o (λ task. refl) (λ task h. h);
       oob = λ u. runs-change c t u f k.tasks (λ task. refl) (λ task. refl);
+      ranked = ranked-task t f k _ refl refl (λ task e. refl) (λ task e. refl);
     }
 
 rouses-spend : (c t slice : ℕ) (k : Parts) → Rouses c k (spend_slice t slice k)
