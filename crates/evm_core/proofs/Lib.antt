@@ -1,6 +1,5 @@
 pub mod Lists
 pub mod Loads
-pub mod Rescheduling
 pub mod Rooms
 pub mod Rules
 pub mod Steps

@@ -8,6 +8,7 @@ use crate::board::Board;
 use crate::machine::Machine;
 use crate::memory::Memory;
 use arrayvec::ArrayVec;
+use evm_boost::Mutexes;
 use evm_breaks::Breakpoints;
 use evm_exec::Hart;
 use evm_model::{
@@ -112,6 +113,7 @@ fn parts_of(boot: &Boot, console: Console) -> Parts
         processors,
         pipes: pipes_of(boot.cpus),
         stamps: 1,
+        mutexes: Mutexes::new(),
         console,
     }
 }

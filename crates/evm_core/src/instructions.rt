@@ -1,4 +1,5 @@
 ghost use Rattle.std.specs.Prelude.{◌≡◌, ◌≤◌, ◌^◌, length};
+ghost use Rattle.evm_model.specs.Bounds.{HeldUpTo};
 ghost use Rattle.evm_model.specs.Calls.{call};
 ghost use Rattle.evm_model.specs.Good.{Good};
 ghost use Rattle.evm_model.specs.Instructions.{fault, stop, finish};
@@ -14,7 +15,7 @@ use crate::quiet::{advance_quietly, jump_quietly, load_quietly, stop_quietly};
 use evm_calls::call::call;
 use evm_exec::{Effect, Hart, effect, load_width, loaded};
 use evm_isa::decode;
-use evm_model::{Fault, TaskState};
+use evm_model::{Fault, MUTEX_LIMIT, TaskState};
 use evm_parts::Parts;
 use evm_ram::SIZE_LIMIT;
 use evm_settle::settle_and_nudge;
@@ -36,6 +37,7 @@ fn fault(parts: &mut Parts, c: u8, t: u8, reason: Fault)
 fn fault_and_settle(parts: &mut Parts, c: u8, t: u8, reason: Fault)
     requires room { AreWithin (2 ^ 61) parts.old }
     requires stamps { parts.old.stamps ≤ 2 ^ 60 }
+    requires few { length parts.old.mutexes ≤ MUTEX_LIMIT }
     ensures { parts.new ≡ settle_and_nudge c (fault c t reason parts.old) }
 {
     fault(parts, c, t, reason);
@@ -48,6 +50,8 @@ fn call_and_settle(parts: &mut Parts, ram: u64, c: u8, t: u8)
     requires ram { ram ≤ SIZE_LIMIT }
     requires room { AreWithin (2 ^ 61) parts.old }
     requires stamps { parts.old.stamps ≤ 2 ^ 60 }
+    requires held { HeldUpTo (2 ^ 62) parts.old.mutexes }
+    requires few { length parts.old.mutexes ≤ MUTEX_LIMIT }
     requires harts { length parts.old.harts ≡ length parts.old.tasks }
     ensures { parts.new ≡ settle_and_nudge c (call ram c t parts.old) }
 {
@@ -66,12 +70,13 @@ pub(crate) fn stop(parts: &mut Parts, c: u8)
 impl Board {
     // Does what an instruction does, and what follows on its processor. Where only registers, RAM or the stop
     // bit change nothing follows: the rules that hold between events say so.
-    #[tactic(auto, unfolding(evm_model::specs::Instructions::finish))]
+    #[tactic(auto, using(crate::proofs::Rooms::few), unfolding(evm_model::specs::Instructions::finish))]
     fn finish(&mut self, c: u8, t: u8, effect: Effect)
         requires good { Good self.old.parts }
         requires clear { IsClear c t self.old.parts }
         requires room { AreWithin (2 ^ 61) self.old.parts }
         requires stamps { self.old.parts.stamps ≤ 2 ^ 60 }
+        requires held { HeldUpTo (2 ^ 62) self.old.parts.mutexes }
         ensures { self.new ≡ on_parts (settle_and_nudge c) (finish effect c t self.old) }
     {
         match effect {
@@ -95,11 +100,13 @@ impl Board {
     }
 
     /// Does what an instruction wants, and what follows on its processor.
+    #[tactic(auto, using(crate::proofs::Rooms::few))]
     pub(crate) fn follow(&mut self, c: u8, t: u8, wanted: Result<Effect, Fault>)
         requires good { Good self.old.parts }
         requires clear { IsClear c t self.old.parts }
         requires room { AreWithin (2 ^ 61) self.old.parts }
         requires stamps { self.old.parts.stamps ≤ 2 ^ 60 }
+        requires held { HeldUpTo (2 ^ 62) self.old.parts.mutexes }
         ensures { self.new ≡ on_parts (settle_and_nudge c) (follow wanted c t self.old) }
     {
         match wanted {

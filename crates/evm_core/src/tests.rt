@@ -1,8 +1,6 @@
 //! Each kind of event once, accepted and refused, against answers worked by hand. After boot no event takes memory:
 //! with a growth behind the boot's refused (`rt try --test --fail-alloc N`) each answer stays.
 
-mod rescheduling;
-
 use crate::{Answer, Event, Machine, Refusal};
 use arrayvec::ArrayVec;
 use evm_model::POKE_LIMIT;

@@ -1,3 +1,4 @@
 pub mod Idle
 pub mod Nudges
+pub mod Rescheduling
 pub mod Rooms

@@ -1,12 +1,15 @@
 -- Room for counts and stamps, as settling takes it up.
-use Rattle.std.proofs.Common.{ℕ, ◌+◌, ◌-◌, ◌^◌, ◌≤◌, arith}
+use Rattle.std.proofs.Common.{List, sym, ◌∙◌, ℕ, ◌+◌, ◌-◌, ◌^◌, ◌≤◌, arith}
+use Rattle.evm_boost.specs.Scatter.{AreRanks}
 use Rattle.evm_model.specs.Bounds.{PipesUpTo}
 use Rattle.evm_model.specs.Pipes.{play}
-use Rattle.evm_model.specs.Settle.{spend_current, settle, settle_oob}
+use Rattle.evm_model.specs.Settle.{spend_current, settle, settle_oob, settle_in_band}
 use Rattle.evm_model.specs.State.{Parts, on_pipe}
 use Rattle.evm_model.specs.declared.stage.Stage.{Stage}
 use Rattle.evm_rules.proofs.Bounded.{AreWithin, within-settle_oob, within-settle}
 use Rattle.evm_rules.proofs.Counting.{PipesUpTo-more, on_play-up}
+use Rattle.evm_rules.proofs.Ranking.{AreRanked, ranked-same}
+use Rattle.evm_rules.proofs.Settling.{ranked-in_band}
 use Rattle.evm_rules.proofs.Spending.{current-spends}
 use Rattle.evm_rules.proofs.Stamps.{settle_oob-plays}
 
@@ -35,4 +38,10 @@ room-nudge c k h = PipesUpTo-more (2 ^ 62 + 96) (2 ^ 62 + 128) (settle c k).pipe
 pub stamps-second : (c : ℕ) (k : Parts) → AreWithin (2 ^ 62) k → k.stamps ≤ 2 ^ 61 → (settle_oob c k).stamps ≤ 2 ^ 61 + 32
 stamps-second c k w h = let all = settle_oob-plays c k (λ q e. w.are c q e) in omega (arith, all.gives.most)
 
-pub ruleset settles = (room-first, room-second, room-nudge, stamps-second)
+-- the in-band part leaves the ranks
+pub ranks-stay : (c : ℕ) (k : Parts) (ranks : List ℕ) → AreRanks ranks k.mutexes k.tasks → AreRanks ranks (settle_in_band c k).mutexes (settle_in_band c k).tasks
+ranks-stay c k ranks h t less =
+    let r : AreRanked k (settle_in_band c k) = ranked-in_band c k in
+    h t (rw (← r.size) less) ∙ sym (ranked-same k (settle_in_band c k) r t)
+
+pub ruleset settles = (room-first, room-second, room-nudge, stamps-second, ranks-stay)

@@ -5,7 +5,7 @@ mod nudging;
 mod playing;
 mod settling;
 
-pub use settling::{settle, settle_and_nudge};
+pub use settling::settle_and_nudge;
 
 #[cfg(test)]
 mod tests;

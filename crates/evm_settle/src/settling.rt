@@ -1,3 +1,4 @@
+ghost use Rattle.evm_boost.specs.Scatter.{AreRanks};
 ghost use Rattle.std.specs.Prelude.{◌≡◌, ◌≤◌, ◌+◌, ◌^◌, slice_get, Option};
 ghost use Rattle.evm_model.specs.Bounds.{PipesUpTo};
 ghost use Rattle.evm_model.specs.Settle.{settle_oob, turn_in_band, settle_in_band, run_in_band, settle, settle_and_nudge, play_in_band_pipe};
@@ -5,28 +6,31 @@ ghost use Rattle.evm_rules.proofs.Bounded.{AreWithin};
 
 use crate::nudging::nudge;
 use crate::playing::{play_in_band_lines, play_oob_lines};
-use evm_model::Stage;
+use evm_model::{Stage, TASK_LIMIT};
 use evm_parts::Parts;
 
-// The out-of-band part: unless it is stalled its log is played, and the best task is current.
+// The out-of-band part: unless it is stalled its log is played, and the best task is current. Answers the ranks.
 #[tactic(auto, unfolding(evm_model::specs::Settle::settle_oob, evm_model::specs::Settle::play_oob_lines))]
-fn settle_oob(parts: &mut Parts, c: u8)
+fn settle_oob(parts: &mut Parts, c: u8) -> [u16; TASK_LIMIT]
     requires room { PipesUpTo (2 ^ 62) parts.old.pipes }
     requires stamps { parts.old.stamps ≤ 2 ^ 61 }
-    ensures { parts.new ≡ settle_oob c parts.old }
+    ensures row { parts.new ≡ settle_oob c parts.old }
+    ensures ranks { AreRanks result parts.new.mutexes parts.new.tasks }
 {
     let Some(pipe) = parts.pipe(c) else {
-        return;
+        return parts.ranks();
     };
     let log = pipe.log(Stage::OutOfBand);
     if log.stalled {
-        return;
+        return parts.ranks();
     }
     if !log.lines.is_empty() {
         play_oob_lines(parts, c, log.lines);
     }
-    let best = parts.tasks.best(c);
+    let ranks = parts.ranks();
+    let best = parts.best(c, &ranks);
     parts.set_current(c, best);
+    ranks
 }
 
 // Takes up an in-band task where there is none, and makes it current.
@@ -75,15 +79,18 @@ fn settle_in_band(parts: &mut Parts, c: u8)
     }
 }
 
-/// Plays what waits in a processor's logs, and chooses its current task.
+// Plays what waits in a processor's logs, and chooses its current task. Answers the ranks, which the in-band part
+// leaves as they are.
 #[tactic(auto, using(crate::proofs::Rooms::settles), unfolding(evm_model::specs::Settle::settle))]
-pub fn settle(parts: &mut Parts, c: u8)
+fn settle(parts: &mut Parts, c: u8) -> [u16; TASK_LIMIT]
     requires room { AreWithin (2 ^ 62) parts.old }
     requires stamps { parts.old.stamps ≤ 2 ^ 61 }
-    ensures { parts.new ≡ settle c parts.old }
+    ensures row { parts.new ≡ settle c parts.old }
+    ensures ranks { AreRanks result parts.new.mutexes parts.new.tasks }
 {
-    settle_oob(parts, c);
+    let ranks = settle_oob(parts, c);
     settle_in_band(parts, c);
+    ranks
 }
 
 /// A processor settles, and tells the others that should run another task.
@@ -93,6 +100,6 @@ pub fn settle_and_nudge(parts: &mut Parts, c: u8)
     requires stamps { parts.old.stamps ≤ 2 ^ 61 }
     ensures { parts.new ≡ settle_and_nudge c parts.old }
 {
-    settle(parts, c);
-    nudge(parts, c);
+    let ranks = settle(parts, c);
+    nudge(parts, c, &ranks);
 }

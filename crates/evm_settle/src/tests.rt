@@ -13,9 +13,12 @@ use evm_exec::Hart;
 use evm_model::{Class, Mode, Processor, Stage, Task, TaskState, Wait};
 use evm_parts::{Console, Parts};
 use evm_pipe::Pipe;
+use evm_boost::Mutexes;
 use evm_task::{Harts, Tasks};
 use std::alloc::Global;
 use std::test::Fail;
+
+mod rescheduling;
 
 // Processor 1, for which task 0 is ready, and whether it is to be told.
 struct Row {
@@ -164,6 +167,7 @@ fn parts_with(console: Console, task: Task, row: &Row) -> Parts
         processors,
         pipes,
         stamps: 1,
+        mutexes: Mutexes::new(),
         console,
     }
 }
@@ -217,9 +221,10 @@ fn others_are_told(rt: HostRuntime) -> Result<(), Fail> {
         let mut parts = parts_of(console, task_of(1, TaskState::OobReady), row);
         let name = row.name;
         let pipe = parts.pipe(1).ok_or("a pipe")?;
-        assert_eq!(rt; wants_nudge(&parts, 1, pipe), row.told, "{name}");
+        let ranks = parts.ranks();
+        assert_eq!(rt; wants_nudge(&parts, 1, pipe, &ranks), row.told, "{name}");
         let was = u64::from(matches!(row.wire, Line::Nudge));
-        nudge(&mut parts, 0);
+        nudge(&mut parts, 0, &ranks);
         let now = was.saturating_add(u64::from(row.told));
         assert_eq!(rt; raises(&parts, 1), Some((now, 0)), "{name}");
         assert_eq!(rt; raises(&parts, 0), Some((0, 0)), "{name}");
@@ -237,11 +242,13 @@ fn the_acting_processor_is_not_told(rt: HostRuntime) -> Result<(), Fail> {
         let console = console_of(rt.alloc())?;
         let mut parts = parts_of(console, task_of(1, TaskState::OobReady), row);
         let before = raises(&parts, 1);
-        nudge(&mut parts, 1);
+        let ranks = parts.ranks();
+        nudge(&mut parts, 1, &ranks);
         assert_eq!(rt; raises(&parts, 1), before, "{name}");
         let console = console_of(rt.alloc())?;
         let mut parts = parts_of(console, task_of(1, TaskState::OobReady), row);
-        nudge_one(&mut parts, 1, 1);
+        let ranks = parts.ranks();
+        nudge_one(&mut parts, 1, 1, &ranks);
         assert_eq!(rt; raises(&parts, 1), before, "{name}");
     }
     Ok(())
@@ -260,7 +267,8 @@ fn nobody_is_told_of_other_tasks(rt: HostRuntime) -> Result<(), Fail> {
     ] {
         let console = console_of(rt.alloc())?;
         let mut parts = parts_of(console, task_of(cpu, state), &IDLE);
-        nudge(&mut parts, 0);
+        let ranks = parts.ranks();
+        nudge(&mut parts, 0, &ranks);
         let told = [raises(&parts, 0), raises(&parts, 1), raises(&parts, 2)];
         assert_eq!(rt; told, [Some((0, 0)); 3], "of {state:?} on {cpu}");
     }
@@ -273,12 +281,14 @@ fn nobody_is_told_of_other_tasks(rt: HostRuntime) -> Result<(), Fail> {
 fn one_processor_is_told(rt: HostRuntime) -> Result<(), Fail> {
     let console = console_of(rt.alloc())?;
     let mut parts = parts_of(console, task_of(1, TaskState::OobReady), &IDLE);
-    nudge_one(&mut parts, 0, 3);
+    let ranks = parts.ranks();
+    nudge_one(&mut parts, 0, 3, &ranks);
     assert_eq!(rt; raises(&parts, 1), Some((0, 0)));
     assert_eq!(rt; raises(&parts, 3), None);
     let console = console_of(rt.alloc())?;
     let mut parts = parts_of(console, task_of(1, TaskState::OobReady), &IDLE);
-    nudge_one(&mut parts, 0, 2);
+    let ranks = parts.ranks();
+    nudge_one(&mut parts, 0, 2, &ranks);
     assert_eq!(rt; raises(&parts, 1), Some((0, 0)));
     assert_eq!(rt; raises(&parts, 2), Some((0, 0)));
     Ok(())

@@ -1,4 +1,5 @@
 use Rattle.std.proofs.Common.{◌≡◌, ◌+◌, ◌^◌}
+use Rattle.evm_boost.specs.Scatter.{AreRanks}
 use Rattle.evm_model.specs.Bounds.{PipesUpTo}
 use Rattle.evm_model.specs.Settle.{nudge_pipe}
 use Rattle.evm_settle.proofs.Nudges.{changed_below}
@@ -9,4 +10,5 @@ abbrev pub invariant-loop-d : goal.invariant-loop-d
 invariant-loop-d l = record {
   told : l.parts ≡ record l.fn.parts { pipes = changed_below (nudge_pipe l.c l.fn.parts) l.d l.fn.parts.pipes };
   room : PipesUpTo (2 ^ 62 + 128 + l.d) l.parts.pipes;
+  ranks : AreRanks l.ranks l.parts.mutexes l.parts.tasks;
 }

@@ -1,6 +1,6 @@
 use Rattle.evm_rules.proofs.Bounded.{within-settle_and_nudge}
-use Rattle.evm_core.proofs.Rescheduling.{few-settle, sched-within}
-use Rattle.evm_core.proofs.tests.rescheduling.betters.Goals as goal
+use Rattle.evm_settle.proofs.Rescheduling.{few-settle, sched-within}
+use Rattle.evm_settle.proofs.tests.rescheduling.betters.Goals as goal
 
 pub settle_and_nudge-requires-clause-room : goal.settle_and_nudge-requires-clause-room
 settle_and_nudge-requires-clause-room c = few-settle _ (sched-within _ _ _ _ _ _ c.set_sched-outcome.ensures.row c.requires.room)

@@ -1,5 +1,5 @@
-use Rattle.evm_core.proofs.Rescheduling.{few-receive, received-settle}
-use Rattle.evm_core.proofs.tests.rescheduling.receives.Goals as goal
+use Rattle.evm_settle.proofs.Rescheduling.{few-receive, received-settle}
+use Rattle.evm_settle.proofs.tests.rescheduling.receives.Goals as goal
 
 pub receive-requires-clause-room : goal.receive-requires-clause-room
 receive-requires-clause-room c = few-receive _ c.requires.room

@@ -1,4 +1,4 @@
-//! A better rank of another processor's task, on parts that no program reaches before mutexes: two tasks of processor 1
+//! A better rank of another processor's task, on parts made by hand: two tasks of processor 1
 //! are ready out-of-band, of which the one behind becomes the better by `set_sched` from processor 0.
 
 ghost use Rattle.std.specs.Prelude.{◌≡◌, ◌≤◌, replicate};
@@ -11,9 +11,10 @@ use evm_exec::Hart;
 use evm_model::{Class, Mode, Outcome, Processor, Stage, Task, TaskState};
 use evm_parts::{Console, Parts};
 use evm_pipe::Pipe;
-use evm_settle::settle_and_nudge;
+use crate::settle_and_nudge;
+use evm_boost::Mutexes;
 use evm_task::{Harts, Tasks};
-use std::alloc::Global;
+use super::console_of;
 use std::test::Fail;
 
 // A first-in-first-out task that is ready out-of-band.
@@ -61,12 +62,13 @@ fn two_processors(console: Console) -> Parts
         processors,
         pipes,
         stamps: 3,
+        mutexes: Mutexes::new(),
         console,
     }
 }
 
 // Puts line 1 on processor 1's wire, or not.
-#[tactic(auto, using(evm_settle::proofs::Idle::idle))]
+#[tactic(auto, using(crate::proofs::Idle::idle))]
 fn wire(parts: &mut Parts, line: bool)
     requires { AreWithin 0 parts.old }
     ensures { AreWithin 1 parts.new }
@@ -84,13 +86,6 @@ fn parts_of(console: Console, line: bool, stalled: bool) -> Parts
     wire(&mut parts, line);
     parts.set_stall(1, Stage::OutOfBand, stalled);
     parts
-}
-
-fn console_of(alloc: Global) -> Result<Console, Fail> {
-    match Console::new(alloc) {
-        Ok(console) => Ok(console),
-        Err(_) => Err("no memory".into()),
-    }
 }
 
 // Processor 0 makes task 1 the better one, and settles.
