@@ -14,7 +14,8 @@ use Rattle.evm_walk.proofs.Counted.{takes_counted}
 use Rattle.evm_walk.proofs.Moves.{Takes}
 use Rattle.evm_walk.proofs.Sets.{takes_pipes}
 use Rattle.evm_walk.proofs.Rows.{faults}
-use Rattle.evm_rules.proofs.Stamps.{call-gives, fault-gives}
+use Rattle.evm_rules.proofs.CallStamps.{call-gives}
+use Rattle.evm_rules.proofs.Stamps.{fault-gives}
 use Rattle.evm_rules.proofs.Bounded.{AreWithin, within-more, within-receive}
 use Rattle.evm_rules.proofs.Counting.{PipesUpTo-more}
 

@@ -1,27 +1,24 @@
 -- Each call leaves the state good but for what its processor settles.
-use Rattle.std.proofs.Common.{◌≡◌, ℕ, ◌+◌, ◌-◌, ◌<◌, ◌%◌, [], ◌∷◌, ◌++◌, Bool, true, false, not, ◌&&◌, Option, Some, None, length, refl, ap, sym, ◌∙◌, arith}
+use Rattle.std.proofs.Common.{◌≡◌, ℕ, ◌<◌, ◌%◌, Bool, true, false, not, ◌&&◌, Option, Some, None, length, refl, sym, ◌∙◌, arith}
 use Rattle.std.specs.Prelude.{slice_get, is_none, nat_lt, nat_le, ◌==◌, if◌then◌else◌}
 use Rattle.std.proofs.lemmas.Bool.Decides.{nat_tests}
-use Rattle.evm_ranks.specs.Boosts.{is_number, meets}
 use Rattle.evm_exec.specs.Registers.{register_of}
 use Rattle.evm_exec.specs.declared.hart.Hart.{Hart}
 use Rattle.evm_lines.specs.declared.TheConstants.{LINES}
 use Rattle.evm_model.proofs.Lists.{slice_get-below, slice_get-within}
 use Rattle.evm_model.specs.Calls.{call_of, call_stage, perform, is_weak_oob, return_weak, answered, finish_call, ask_oob, call_on, call_known, call_of_hart, call}
-use Rattle.evm_model.specs.Good.{Good, IsOwn, IsSettled, is_ready}
+use Rattle.evm_model.specs.Good.{Good, IsOwn, IsSettled}
 use Rattle.evm_model.specs.Harts.{A7, argument, answer, advance}
 use Rattle.evm_model.specs.InBandCalls.{exit, putc, yield_now, is_bad_entry, spawn, wait_line, attach_as, attach, detach, set_line}
 use Rattle.evm_model.specs.Instructions.{fault}
-use Rattle.evm_model.specs.Locks.{with_ceiling, mutex_of, add_mutex, new_mutex_as, new_mutex, take_mutex, lock_again, wait_for, lock_other, lock_owned, lock_known, lock, try_owned, try_known, try_lock, unlock_once, unlock_known, unlock}
-use Rattle.evm_model.specs.Mutexes.{owner, owner_of, owns_any, free_mutex, held_by, lock_of, lock_of_task, lock_at, waits_on}
+use Rattle.evm_model.specs.Mutexes.{owns_any}
 use Rattle.evm_model.specs.OobCalls.{stall, switch_oob, switch_in_band, is_scheduled_task, schedule_as, set_sched, set_mode, yield_oob, clock, state_bits}
-use Rattle.evm_model.specs.Passing.{pass_on}
 use Rattle.evm_model.specs.Pipes.{Pipe}
 use Rattle.evm_model.specs.Policies.{policy_of}
 use Rattle.evm_model.specs.Settle.{current, is_oob}
 use Rattle.evm_model.specs.Stages.{refused, is_stalled, is_attached, may_promote}
-use Rattle.evm_model.specs.State.{Parts, on_hart, on_mutex}
-use Rattle.evm_model.specs.Tasks.{restamp, set_state, set_policy, clear_policy, set_mode_bits}
+use Rattle.evm_model.specs.State.{Parts, on_hart}
+use Rattle.evm_model.specs.Tasks.{restamp, set_policy, clear_policy, set_mode_bits}
 use Rattle.evm_model.specs.declared.call.Call.{Call}
 use Rattle.evm_model.specs.declared.call.Call.TheVariants.{Exit, Putc, Yield, Spawn, Stall, Unstall, WaitLine, Attach, Detach, NewMutex, SetLine, SwitchOob, SwitchInBand, SetSched, SetMode, Lock as Lock_call, TryLock, Unlock, YieldOob, StallOob, UnstallOob, Clock, StateBits}
 use Rattle.evm_model.specs.declared.call.Outcome.{Outcome}
@@ -29,36 +26,20 @@ use Rattle.evm_model.specs.declared.call.Outcome.TheVariants.{Answers, Waits, Le
 use Rattle.evm_model.specs.declared.errno.Errno.{Errno}
 use Rattle.evm_model.specs.declared.errno.Errno.TheVariants.{NotPermitted, NoSuchCall}
 use Rattle.evm_model.specs.declared.fault.Fault.{Fault}
-use Rattle.evm_model.specs.declared.limits.TheConstants.{TASK_LIMIT, MODE_LIMIT, MUTEX_LIMIT, PRIORITY_LIMIT}
-use Rattle.evm_model.specs.declared.mutex.Mutex.{Mutex}
-use Rattle.evm_model.specs.declared.mutex.Protocol.{Protocol}
-use Rattle.evm_model.specs.declared.mutex.Protocol.TheVariants.{Inheritance, Ceiling}
+use Rattle.evm_model.specs.declared.limits.TheConstants.{TASK_LIMIT, MODE_LIMIT}
 use Rattle.evm_model.specs.declared.processor.Processor.{Processor}
 use Rattle.evm_model.specs.declared.stage.Stage.{Stage}
 use Rattle.evm_model.specs.declared.stage.Stage.TheVariants.{OutOfBand, InBand}
 use Rattle.evm_model.specs.declared.task.Class.{Class}
-use Rattle.evm_model.specs.declared.task.TaskState.{TaskState}
-use Rattle.evm_model.specs.declared.task.TaskState.TheVariants.{InReady, OobReady, Waits as Waiting}
-use Rattle.evm_model.specs.declared.task.Wait.TheVariants.{Line, Lock}
-use Rattle.evm_rules.proofs.Acting.{IsFree, IsOpen, HasInBand, HasHeld, but-hart, but-unstall, but-stalled, but-unstall_oob, but-stalled_oob, but-leave, but-restamp, but-task, but-add, but-waits, leave-own, add-own, restamp-free, restamp-own, task-own, demote-but, demote-own, leave-but, promote-but}
+use Rattle.evm_model.specs.declared.task.TaskState.TheVariants.{Waits as Waiting}
+use Rattle.evm_model.specs.declared.task.Wait.TheVariants.{Line}
+use Rattle.evm_rules.proofs.Acting.{IsOpen, HasInBand, HasHeld, but-hart, but-unstall, but-stalled, but-unstall_oob, but-stalled_oob, but-leave, but-restamp, but-task, but-add, leave-own, add-own, restamp-free, restamp-own, task-own, demote-but, demote-own, leave-but, promote-but}
 use Rattle.evm_rules.proofs.Aligned.{next-aligned}
+use Rattle.evm_rules.proofs.Done.{IsDone, either, not-stalled}
 use Rattle.evm_rules.proofs.Firsts.{IsOobOwn, both, eqb-is}
-use Rattle.evm_rules.proofs.Locks.{locks-push}
-use Rattle.evm_rules.proofs.Passing.{but-mutexes, but-owned, pass_on-passes, end-but}
+use Rattle.evm_rules.proofs.Locking.{new_mutex-done, lock-done, try_lock-done, unlock-done}
+use Rattle.evm_rules.proofs.Passing.{end-but}
 use Rattle.evm_rules.proofs.Settling.{GoodBut, good_but, is_open, oob_own}
-use Rattle.evm_rules.proofs.Waking.{alike-own}
-
--- what a call leaves: all good but for settling, and where it is answered the task is the processor's own
-pub record IsDone (c t : ℕ) (done : Parts × Outcome) : Type 0 where
-  pub but : GoodBut c done.0
-  pub own : (value : ℕ) → done.1 ≡ Answers value → IsOwn c t done.0.tasks
-
-either : (c t : ℕ) (b : Bool) (x y : Parts × Outcome) → (b ≡ true → IsDone c t x) → (b ≡ false → IsDone c t y) → IsDone c t (if b then x else y)
-either c t true x y p q = p refl
-either c t false x y p q = q refl
-
-not-stalled : (c : ℕ) (k : Parts) → is_stalled InBand c k ≡ false → IsFree c k
-not-stalled c k e = record { free = λ pipe h. rw h at e }
 
 -- what a spawn that isn't refused was tested for
 if_false : (a b : Bool) → (if a then true else b) ≡ false → (a ≡ false) × (b ≡ false)
@@ -85,44 +66,6 @@ cpu-there cpu k e = let p = some-there (slice_get k.processors cpu) e in slice_g
 
 room-for : (k : Parts) → nat_le TASK_LIMIT (length k.tasks) ≡ false → length k.tasks < TASK_LIMIT
 room-for k e = grind (arith, nat_tests)
-
-room-mutex : (k : Parts) → nat_le MUTEX_LIMIT (length k.mutexes) ≡ false → length k.mutexes < MUTEX_LIMIT
-room-mutex k e = grind (arith, nat_tests)
-
-not-closed : (c : ℕ) (k : Parts) → is_stalled OutOfBand c k ≡ false → IsOpen c k
-not-closed c k e = record { open_there = λ pipe h. rw h at e }
-
--- a task that is ready waits for no lock
-ready-idle : (s : TaskState) → is_ready s ≡ true → lock_of s ≡ None
-ready-idle InReady e = refl
-ready-idle OobReady e = refl
-ready-idle _ e = cc
-
--- a new mutex is nobody's
-option-if : (b : Bool) (x y : Option Mutex) (mutex : Mutex) → ((mutex : Mutex) → x ≡ Some mutex → mutex.owner ≡ None) → ((mutex : Mutex) → y ≡ Some mutex → mutex.owner ≡ None) → (if b then x else y) ≡ Some mutex → mutex.owner ≡ None
-option-if true x y mutex p q e = p mutex e
-option-if false x y mutex p q e = q mutex e
-
-free-is : (recursive : Bool) (protocol : Protocol) (mutex : Mutex) → Some (free_mutex recursive protocol) ≡ Some mutex → mutex.owner ≡ None
-free-is recursive protocol mutex e = let is : free_mutex recursive protocol ≡ mutex = cc in ap (λ (x : Mutex). x.owner) (sym is)
-
-no-mutex : (mutex : Mutex) → None ≡ Some mutex → mutex.owner ≡ None
-no-mutex mutex e = cc
-
-ceiling-free : (recursive : Bool) (priority : ℕ) (mutex : Mutex) → with_ceiling recursive priority ≡ Some mutex → mutex.owner ≡ None
-ceiling-free recursive priority mutex e =
-    option-if (nat_lt priority 1) None _ mutex no-mutex (λ x h. option-if (nat_lt PRIORITY_LIMIT priority) None (Some (free_mutex recursive (Ceiling priority))) x no-mutex (free-is recursive (Ceiling priority)) h) e
-
-mutex_of-free : (kind priority : ℕ) (mutex : Mutex) → mutex_of kind priority ≡ Some mutex → mutex.owner ≡ None
-mutex_of-free kind priority mutex e =
-    option-if (kind == 0) _ _ mutex (free-is false Inheritance) (λ x h.
-    option-if (kind == 1) _ _ x (free-is true Inheritance) (λ y i.
-    option-if (kind == 2) _ _ y (ceiling-free false priority) (λ z j.
-    option-if (kind == 3) _ None z (ceiling-free true priority) no-mutex j) i) h) e
-
-each-of : (c t : ℕ) (b : Bool) (x y : Parts) (outcome : Outcome) → IsDone c t (x, outcome) → IsDone c t (y, outcome) → IsDone c t (if b then x else y, outcome)
-each-of c t true x y outcome p q = p
-each-of c t false x y outcome p q = q
 
 -- ---- each call
 module _ (c t : ℕ) (k : Parts) (g : GoodBut c k) (o : IsOwn c t k.tasks) where
@@ -248,86 +191,6 @@ module _ (c t : ℕ) (k : Parts) (g : GoodBut c k) (o : IsOwn c t k.tasks) where
   set_mode-done : (bits : ℕ) → IsDone c t (set_mode t bits k)
   unfolding set_mode
   set_mode-done bits = either c t (nat_lt MODE_LIMIT bits) _ _ (λ e. same _) (λ e. mode-done bits _)
-
-  -- ---- mutexes
-  own-there : t < length k.tasks
-  own-there = slice_get-below k.tasks t o.task o.there
-
-  own-idle : lock_at k.tasks t ≡ None
-  own-idle = ap lock_of_task o.there ∙ ready-idle o.task.state o.ready
-
-  add_mutex-done : (mutex : Mutex) → mutex.owner ≡ None → length k.mutexes < MUTEX_LIMIT → (outcome : Outcome) → IsDone c t (add_mutex mutex k, outcome)
-  unfolding add_mutex
-  add_mutex-done mutex free room outcome = record { but = but-mutexes c k (k.mutexes ++ mutex ∷ []) (locks-push k.mutexes k.tasks mutex free room g.shape.locks) g; own = λ v n. o }
-
-  new_mutex_as-done : (x : Option Mutex) → ((mutex : Mutex) → x ≡ Some mutex → mutex.owner ≡ None) → IsDone c t (new_mutex_as x k)
-  new_mutex_as-done None h = same _
-  new_mutex_as-done (Some mutex) h = either c t (nat_le MUTEX_LIMIT (length k.mutexes)) _ _ (λ e. same _) (λ room. add_mutex-done mutex (h mutex refl) (room-mutex k room) _)
-
-  new_mutex-done : (kind priority : ℕ) → IsDone c t (new_mutex kind priority k)
-  unfolding new_mutex
-  new_mutex-done kind priority = new_mutex_as-done (mutex_of kind priority) (mutex_of-free kind priority)
-
-  holds-done : (m : ℕ) (f : Mutex → Mutex) (outcome : Outcome) → ((x : Mutex) → (f x).owner ≡ Some t) → IsDone c t (on_mutex m f k, outcome)
-  holds-done m f outcome h = record { but = but-owned c m t f k h own-there own-idle g; own = λ v n. o }
-
-  take-done : (m : ℕ) (outcome : Outcome) → IsDone c t (take_mutex t m k, outcome)
-  unfolding take_mutex
-  take-done m outcome = holds-done m (held_by t 1) outcome (λ x. refl)
-
-  again-done : (m : ℕ) (mutex : Mutex) → IsDone c t (lock_again t m mutex k)
-  unfolding lock_again
-  again-done m mutex = either c t mutex.recursive _ _ (λ e. holds-done m (held_by t (mutex.count + 1)) _ (λ x. refl)) (λ e. same _)
-
-  waits-done : (m u : ℕ) → owner k.mutexes m ≡ Some u → meets (waits_on k.mutexes k.tasks) t TASK_LIMIT (Some u) ≡ false → IsOpen c k → IsOobOwn c t k.tasks → IsDone c t (wait_for t m k, Waits)
-  unfolding wait_for
-  waits-done m u own away f w = record { but = but-restamp c t (set_state t (Waiting (Lock m)) k) (but-waits c t m u k own away f w g); own = λ v n. cc }
-
-  other-done : (m u deadline : ℕ) → owner k.mutexes m ≡ Some u → IsOobOwn c t k.tasks → IsDone c t (lock_other c t m u deadline k)
-  unfolding lock_other
-  other-done m u deadline own w =
-      either c t (is_stalled OutOfBand c k) _ _ (λ e. same _) (λ f.
-      either c t (meets (waits_on k.mutexes k.tasks) t TASK_LIMIT (Some u)) _ _ (λ e. same _) (λ away.
-      either c t (not (deadline == 0)) _ _ (λ e. same _) (λ e. waits-done m u own away (not-closed c k f) w)))
-
-  owned-done : (x : Option ℕ) (m deadline : ℕ) (mutex : Mutex) → owner k.mutexes m ≡ x → IsOobOwn c t k.tasks → IsDone c t (lock_owned x c t m deadline mutex k)
-  owned-done None m deadline mutex own w = take-done m _
-  owned-done (Some u) m deadline mutex own w = either c t (u == t) _ _ (λ e. again-done m mutex) (λ e. other-done m u deadline own w)
-
-  known-done : (x : Option Mutex) (m deadline : ℕ) → slice_get k.mutexes m ≡ x → IsOobOwn c t k.tasks → IsDone c t (lock_known x c t m deadline k)
-  known-done None m deadline there w = same _
-  known-done (Some mutex) m deadline there w = owned-done mutex.owner m deadline mutex (ap owner_of there) w
-
-  lock-done : (m deadline : ℕ) → IsOobOwn c t k.tasks → IsDone c t (lock c t m deadline k)
-  unfolding lock
-  lock-done m deadline w = known-done (slice_get k.mutexes m) m deadline refl w
-
-  try_owned-done : (x : Option ℕ) (m : ℕ) (mutex : Mutex) → IsDone c t (try_owned x t m mutex k)
-  try_owned-done None m mutex = take-done m _
-  try_owned-done (Some u) m mutex = either c t (u == t) _ _ (λ e. again-done m mutex) (λ e. same _)
-
-  try_known-done : (x : Option Mutex) (m : ℕ) → IsDone c t (try_known x t m k)
-  try_known-done None m = same _
-  try_known-done (Some mutex) m = try_owned-done mutex.owner m mutex
-
-  try_lock-done : (m : ℕ) → IsDone c t (try_lock t m k)
-  unfolding try_lock
-  try_lock-done m = try_known-done (slice_get k.mutexes m) m
-
-  passes-done : (m : ℕ) (outcome : Outcome) → IsDone c t (pass_on m k, outcome)
-  passes-done m outcome = let p = pass_on-passes c m k g in record { but = p.but; own = λ v n. alike-own c t k.tasks (pass_on m k).tasks (p.alike c) o }
-
-  unlock_once-done : (m : ℕ) (mutex : Mutex) (outcome : Outcome) → IsDone c t (unlock_once t m mutex k, outcome)
-  unfolding unlock_once
-  unlock_once-done m mutex outcome = each-of c t (nat_le mutex.count 1) _ _ outcome (passes-done m outcome) (holds-done m (held_by t (mutex.count - 1)) outcome (λ x. refl))
-
-  unlock_known-done : (x : Option Mutex) (m : ℕ) → IsDone c t (unlock_known x t m k)
-  unlock_known-done None m = same _
-  unlock_known-done (Some mutex) m = either c t (is_number mutex.owner t) _ _ (λ e. unlock_once-done m mutex _) (λ e. same _)
-
-  unlock-done : (m : ℕ) → IsDone c t (unlock t m k)
-  unfolding unlock
-  unlock-done m = unlock_known-done (slice_get k.mutexes m) m
 
   yield_oob-done : IsDone c t (yield_oob t k)
   unfolding yield_oob

@@ -18,5 +18,9 @@ pub mod States
 pub mod Waking
 pub mod Spending
 pub mod Acting
+pub mod Done
+pub mod Locking
 pub mod Calling
+pub mod Given
+pub mod CallStamps
 pub mod Stamps

@@ -13,7 +13,6 @@ use Rattle.evm_model.specs.Mutexes.{owner, owner_of, owner_for, lock_of, lock_of
 use Rattle.evm_model.specs.declared.limits.TheConstants.{MUTEX_LIMIT, TASK_LIMIT}
 use Rattle.evm_model.specs.declared.mutex.Mutex.{Mutex}
 use Rattle.evm_model.specs.declared.task.Task.{Task}
-use Rattle.evm_model.specs.declared.task.TaskState.{TaskState}
 use Rattle.evm_model.specs.declared.task.TaskState.TheVariants.{Waits}
 use Rattle.evm_model.specs.declared.task.Wait.TheVariants.{Lock}
 
@@ -108,7 +107,7 @@ locks-wait mutexes tasks t m u f h few own away l =
         | inr other ↦ l.waited x n (sym (waits-other t x f tasks other) ∙ e) none
       ];
       chains = low-again mutexes (change f tasks t) (rw size few) there
-      (record { height = links.height; falls = λ x y e. links.falls x y (wait-link mutexes tasks t m u x y f h own e) });
+          (record { height = links.height; falls = λ x y e. links.falls x y (wait-link mutexes tasks t m u x y f h own e) });
       few = l.few;
     }
 
@@ -175,7 +174,7 @@ locks-owned g mutexes tasks m w h few there idle l =
       owners = owners;
       waited = λ u n e none. l.waited u n e (still-free g mutexes m n w h none);
       chains = low-again (change g mutexes m) tasks few owners
-      (record { height = above w l.chains.height; falls = λ u t e. owned-falls g mutexes tasks m w u t (t == w) l h idle refl e });
+          (record { height = above w l.chains.height; falls = λ u t e. owned-falls g mutexes tasks m w u t (t == w) l h idle refl e });
       few = rw (length-change g mutexes m) l.few;
     }
 

@@ -9,9 +9,9 @@ use Rattle.evm_model.specs.Good.{IsOwn, AreLocks, is_ready}
 use Rattle.evm_model.specs.Harts.{A0, set_register}
 use Rattle.evm_model.specs.Lists.{change}
 use Rattle.evm_model.specs.Mutexes.{owner, held_by, freed, lock_of, lock_of_task, lock_at, waits_for}
-use Rattle.evm_model.specs.Passing.{wake_oob, first_waiter, pass_to, pass_on, pass_if, pass_below, end_task}
+use Rattle.evm_model.specs.Passing.{wake_oob, first_waiter, pass_to, pass_on, pass_below, end_task}
 use Rattle.evm_model.specs.Pipes.{Pipe, set_stall}
-use Rattle.evm_model.specs.Ranks.{first, rank, stamp}
+use Rattle.evm_model.specs.Ranks.{rank, stamp}
 use Rattle.evm_model.specs.State.{Parts, on_hart, on_task, on_mutex, on_pipe}
 use Rattle.evm_model.specs.Tasks.{restamp, set_state, leave_in_band}
 use Rattle.evm_model.specs.declared.mutex.Mutex.{Mutex}

@@ -1,5 +1,5 @@
 -- Ranks are told by the mutexes, and of each task by its class, its priority and the mutex for which it waits.
-use Rattle.std.proofs.Common.{◌≡◌, ℕ, zero, suc, ◌+◌, ◌<◌, List, Bool, true, false, Option, Some, None, length, refl, ap, sym, ◌∙◌, inl, inr}
+use Rattle.std.proofs.Common.{◌≡◌, ℕ, zero, suc, List, Option, Some, None, length, refl, ap, ◌∙◌, inl, inr}
 use Rattle.std.specs.Prelude.{slice_get, option_map, if◌then◌else◌}
 use Rattle.std.proofs.lemmas.Bool.{cases_eq}
 use Rattle.evm_ranks.specs.Boosts.{greater, is_number, greatest, rank_after}

@@ -42,7 +42,8 @@ use Rattle.evm_rules.proofs.Keeps.{row-good, hart-good}
 use Rattle.evm_rules.proofs.Ram.{row-ram}
 use Rattle.evm_rules.proofs.Replays.{accepted}
 use Rattle.evm_rules.proofs.Sets.{IsPipe-idle}
-use Rattle.evm_rules.proofs.Stamps.{Gives, row-gives}
+use Rattle.evm_rules.proofs.Given.{Gives}
+use Rattle.evm_rules.proofs.Stamps.{row-gives}
 
 -- ---- the clock
 one_if : Bool → ℕ
