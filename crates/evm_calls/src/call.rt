@@ -2,20 +2,25 @@
 
 ghost use Rattle.std.specs.Prelude.{◌≡◌, ◌<◌, ◌≤◌, ◌+◌, ◌^◌, length};
 ghost use Rattle.evm_exec.specs.declared.hart.Hart.{Hart};
+ghost use Rattle.evm_model.specs.Bounds.{HeldUpTo};
 ghost use Rattle.evm_model.specs.Calls.{perform, return_weak, answered, finish_call, ask_oob, call_on, call_stage, call};
 ghost use Rattle.evm_task.specs.Asks.{AskedBy};
 
 use crate::clock::clock;
+use crate::lock::lock;
 use crate::set_mode::set_mode;
 use crate::set_sched::set_sched;
 use crate::stall::stall;
 use crate::state_bits::state_bits;
 use crate::switch_in_band::switch_in_band;
 use crate::switch_oob::switch_oob;
+use crate::try_lock::try_lock;
+use crate::unlock::unlock;
 use crate::yield_oob::yield_oob;
 use evm_inband::attach::attach;
 use evm_inband::detach::detach;
 use evm_inband::exit::exit;
+use evm_inband::new_mutex::new_mutex;
 use evm_inband::putc::putc;
 use evm_inband::refused::refused;
 use evm_inband::set_line::set_line;
@@ -32,8 +37,9 @@ fn perform(parts: &mut Parts, call: Call, ram: u64, asked: Asked, c: u8, t: u8) 
     requires ram { ram ≤ SIZE_LIMIT }
     requires stamps { parts.old.stamps < 2 ^ 62 }
     requires harts { length parts.old.harts ≡ length parts.old.tasks }
+    requires held { HeldUpTo (2 ^ 62) parts.old.mutexes }
     ensures row { (hart : Hart) → AskedBy asked hart → (parts.new, result) ≡ perform call ram hart c t parts.old }
-    ensures stamps { parts.new.stamps ≤ parts.old.stamps + 1 }
+    ensures stamps { parts.new.stamps ≤ parts.old.stamps + 32 }
 {
     match call {
         Call::Exit => exit(parts, c, t),
@@ -45,11 +51,15 @@ fn perform(parts: &mut Parts, call: Call, ram: u64, asked: Asked, c: u8, t: u8) 
         Call::WaitLine => wait_line(parts, c, t, asked.first),
         Call::Attach => attach(parts, t, asked.first, asked.second),
         Call::Detach => detach(parts, t),
+        Call::NewMutex => new_mutex(parts, asked.first, asked.second),
         Call::SetLine => set_line(parts, asked.first, asked.second),
         Call::SwitchOob => switch_oob(parts),
         Call::SwitchInBand => switch_in_band(parts, c, t),
         Call::SetSched => set_sched(parts, asked.first, asked.second, asked.third),
         Call::SetMode => set_mode(parts, t, asked.first),
+        Call::Lock => lock(parts, c, t, asked.first, asked.second),
+        Call::TryLock => try_lock(parts, t, asked.first),
+        Call::Unlock => unlock(parts, t, asked.first),
         Call::YieldOob => yield_oob(parts, t),
         Call::StallOob => stall(parts, Stage::OutOfBand, true, c),
         Call::UnstallOob => stall(parts, Stage::OutOfBand, false, c),
@@ -58,13 +68,13 @@ fn perform(parts: &mut Parts, call: Call, ram: u64, asked: Asked, c: u8, t: u8) 
     }
 }
 
-// A weak task stays out-of-band only until its call is answered.
+// A weak task that owns no mutex stays out-of-band only until its call is answered.
 #[tactic(auto, unfolding(evm_model::specs::Calls::return_weak))]
 fn return_weak(parts: &mut Parts, c: u8, t: u8)
     requires room { parts.old.stamps < 2 ^ 63 }
     ensures { parts.new ≡ return_weak c t parts.old }
 {
-    if parts.tasks.is_weak_oob(t) {
+    if parts.tasks.is_weak_oob(t) && !parts.owns_any(t) {
         parts.demote(c, t);
     }
 }
@@ -89,6 +99,7 @@ fn finish(parts: &mut Parts, call: Call, ram: u64, asked: Asked, c: u8, t: u8)
     requires ram { ram ≤ SIZE_LIMIT }
     requires stamps { parts.old.stamps < 2 ^ 62 }
     requires harts { length parts.old.harts ≡ length parts.old.tasks }
+    requires held { HeldUpTo (2 ^ 62) parts.old.mutexes }
     ensures { (hart : Hart) → AskedBy asked hart → parts.new ≡ finish_call c t (perform call ram hart c t parts.old) }
 {
     let outcome = perform(parts, call, ram, asked, c, t);
@@ -113,6 +124,7 @@ fn call_on(parts: &mut Parts, call: Call, ram: u64, asked: Asked, c: u8, t: u8)
     requires ram { ram ≤ SIZE_LIMIT }
     requires stamps { parts.old.stamps < 2 ^ 62 }
     requires harts { length parts.old.harts ≡ length parts.old.tasks }
+    requires held { HeldUpTo (2 ^ 62) parts.old.mutexes }
     ensures { (hart : Hart) → AskedBy asked hart → parts.new ≡ call_on (call_stage call) call ram hart c t parts.old }
 {
     let is_oob = parts.tasks.is_oob(Some(t));
@@ -132,6 +144,7 @@ pub fn call(parts: &mut Parts, ram: u64, c: u8, t: u8)
     requires ram { ram ≤ SIZE_LIMIT }
     requires stamps { parts.old.stamps < 2 ^ 62 }
     requires harts { length parts.old.harts ≡ length parts.old.tasks }
+    requires held { HeldUpTo (2 ^ 62) parts.old.mutexes }
     ensures { parts.new ≡ call ram c t parts.old }
 {
     let Some(asked) = parts.harts.asked(t) else {

@@ -3,10 +3,13 @@
 
 pub mod call;
 pub mod clock;
+pub mod lock;
 pub mod set_mode;
 pub mod set_sched;
 pub mod stall;
 pub mod state_bits;
 pub mod switch_in_band;
 pub mod switch_oob;
+pub mod try_lock;
+pub mod unlock;
 pub mod yield_oob;

@@ -5,6 +5,7 @@
 pub mod attach;
 pub mod detach;
 pub mod exit;
+pub mod new_mutex;
 pub mod policy;
 pub mod putc;
 pub mod refused;

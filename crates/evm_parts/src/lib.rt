@@ -3,6 +3,7 @@
 #![tactic(auto)]
 
 mod console;
+mod locks;
 mod parts;
 mod stages;
 mod tasks;

@@ -6,6 +6,7 @@ ghost use Rattle.evm_model.specs.State.{on_pipe, on_processor};
 
 use crate::console::Console;
 use arrayvec::ArrayVec;
+use evm_boost::Mutexes;
 use evm_lines::LINES;
 use evm_model::{PROCESSOR_LIMIT, Processor, Stage};
 use evm_pipe::Pipe;
@@ -27,6 +28,8 @@ pub struct Parts {
     pub pipes: ArrayVec<Pipe, PROCESSOR_LIMIT>,
     /// The stamp that is given next.
     pub stamps: u64,
+    /// The mutexes.
+    pub mutexes: Mutexes,
     /// What was put to the console.
     pub console: Console,
 }
@@ -43,6 +46,7 @@ impl Model for Parts {
       processors = k.processors.items;
       pipes = k.pipes.items;
       stamps = k.stamps;
+      mutexes = k.mutexes;
       console = k.console;
     } };
 }

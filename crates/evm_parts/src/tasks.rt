@@ -2,8 +2,9 @@
 
 ghost use Rattle.std.specs.Prelude.{◌≡◌, ◌<◌, ◌≤◌, ◌+◌, ◌^◌, false, slice_get, Option, length};
 ghost use Rattle.evm_model.specs.InBandCalls.{add_task};
+ghost use Rattle.evm_model.specs.Passing.{end_task};
 ghost use Rattle.evm_model.specs.State.{new_task};
-ghost use Rattle.evm_model.specs.Tasks.{restamp, set_state, leave_in_band, end_task, wake_in_band, wake_waiter, wake_below, awaits};
+ghost use Rattle.evm_model.specs.Tasks.{restamp, set_state, leave_in_band, wake_in_band, wake_waiter, wake_below, awaits};
 
 use crate::parts::Parts;
 use evm_model::{Class, Mode, Stage, TASK_LIMIT, Task, TaskState, Wait};
@@ -55,12 +56,15 @@ impl Parts {
         self.set_in_band_task(c, None);
     }
 
-    /// A task ends: in-band isn't stalled on its processor afterwards, and it is in-band current no more.
-    #[tactic(auto, unfolding(evm_model::specs::Tasks::end_task))]
+    /// A task ends: its mutexes pass on, in-band isn't stalled on its processor afterwards, and it is in-band current
+    /// no more.
+    #[tactic(auto, unfolding(evm_model::specs::Passing::end_task))]
     pub fn end_task(&mut self, c: u8, t: u8, state: TaskState)
+        requires room { self.old.stamps ≤ 2 ^ 62 }
         ensures row { self.new ≡ end_task c t state self.old }
-        ensures stamps { self.new.stamps ≡ self.old.stamps }
+        ensures stamps { self.new.stamps ≤ self.old.stamps + 32 }
     {
+        self.pass_all(t);
         self.set_stall(c, Stage::InBand, false);
         self.leave_in_band(c);
         self.set_state(t, state);

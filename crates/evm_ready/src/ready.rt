@@ -1,19 +1,16 @@
 ghost use Rattle.std.specs.Prelude.{◌≡◌, ◌≤◌, length};
-ghost use Rattle.evm_model.specs.Ranks.{best, next_in_band, rank, stamp, leader, goes_before, runs_oob, runs_in_band};
+ghost use Rattle.evm_model.specs.Ranks.{first, next_in_band, stamp, leader, goes_before, runs_oob, runs_in_band};
+ghost use Rattle.evm_ready.specs.Told.{told};
 
-use evm_model::{Class, TASK_LIMIT, Task, TaskState};
+use evm_model::{TASK_LIMIT, Task, TaskState};
 
-// The rank of the task of a number.
-fn rank_at(tasks: &[Task], t: u8) -> u16
-    ensures { result ≡ rank tasks.now t }
+// The rank that is told of a task.
+fn told(ranks: &[u16], t: u8) -> u16
+    ensures { result ≡ told ranks.now t }
 {
-    let Some(task) = tasks.get(t as usize) else {
-        return 0;
-    };
-    match task.class {
-        Class::Unattached => 0,
-        Class::Fifo | Class::RoundRobin => 100 + u16::from(task.priority),
-        Class::Weak => u16::from(task.priority),
+    match ranks.get(t as usize) {
+        None => 0,
+        Some(rank) => *rank,
     }
 }
 
@@ -27,11 +24,11 @@ fn stamp_at(tasks: &[Task], t: u8) -> u64
 }
 
 // Whether task t goes before task u: the greater rank, and of one rank the lesser stamp.
-fn is_before(tasks: &[Task], t: u8, u: u8) -> bool
-    ensures { result ≡ goes_before (rank tasks.now) (stamp tasks.now) t u }
+fn is_before(tasks: &[Task], ranks: &[u16], t: u8, u: u8) -> bool
+    ensures { result ≡ goes_before (told ranks.now) (stamp tasks.now) t u }
 {
-    let first = rank_at(tasks, t);
-    let second = rank_at(tasks, u);
+    let first = told(ranks, t);
+    let second = told(ranks, u);
     if second < first {
         true
     } else if first < second {
@@ -41,13 +38,13 @@ fn is_before(tasks: &[Task], t: u8, u: u8) -> bool
     }
 }
 
-// Of the one that leads so far and another, the one that goes first.
-fn leader_of(tasks: &[Task], leading: Option<u8>, t: u8) -> u8
-    ensures { result ≡ leader (rank tasks.now) (stamp tasks.now) leading t }
+/// Of the one that leads so far and another, the one that goes first by the ranks told.
+pub fn leader_of(tasks: &[Task], ranks: &[u16], leading: Option<u8>, t: u8) -> u8
+    ensures { result ≡ leader (told ranks.now) (stamp tasks.now) leading t }
 {
     match leading {
         None => t,
-        Some(u) => { if is_before(tasks, t, u) { t } else { u } }
+        Some(u) => { if is_before(tasks, ranks, t, u) { t } else { u } }
     }
 }
 
@@ -85,17 +82,17 @@ fn may_run_in_band(tasks: &[Task], c: u8, t: u8) -> bool
     }
 }
 
-/// The number of the out-of-band task that processor c should run: of those that are ready there, the one of
-/// greatest rank, then of least stamp.
-#[tactic(auto, using(crate::proofs::Scans::scans), unfolding(evm_model::specs::Ranks::best))]
-pub fn best_of(c: u8, tasks: &[Task]) -> Option<u8>
+/// The number of the out-of-band task that processor c should run by the ranks told: of those that are ready there,
+/// the one of greatest rank, then of least stamp.
+#[tactic(auto, using(crate::proofs::Scans::scans))]
+pub fn best_of(c: u8, tasks: &[Task], ranks: &[u16]) -> Option<u8>
     requires { length tasks.now ≤ TASK_LIMIT }
-    ensures { result ≡ best c tasks.now }
+    ensures { result ≡ first (runs_oob c tasks.now) (told ranks.now) (stamp tasks.now) (length tasks.now) }
 {
     let mut leading = None;
     for t in 0..tasks.len() as u8 {
         if may_run_oob(tasks, c, t) {
-            leading = Some(leader_of(tasks, leading, t));
+            leading = Some(leader_of(tasks, ranks, leading, t));
         }
     }
     leading

@@ -4,15 +4,17 @@ ghost use Rattle.evm_model.specs.Calls.{is_weak_oob};
 ghost use Rattle.evm_model.specs.Lists.{change};
 ghost use Rattle.evm_model.specs.declared.limits.TheConstants.{SLICE};
 ghost use Rattle.evm_model.specs.OobCalls.{is_scheduled_task, mode_of};
-ghost use Rattle.evm_model.specs.Ranks.{best, next_in_band};
+ghost use Rattle.evm_model.specs.Ranks.{first, next_in_band, runs_oob, stamp};
 ghost use Rattle.evm_model.specs.Settle.{is_oob};
 ghost use Rattle.evm_model.specs.Stages.{is_attached_task};
 ghost use Rattle.evm_model.specs.State.{no_mode};
 ghost use Rattle.evm_model.specs.Tasks.{is_live};
+ghost use Rattle.evm_ready.specs.Told.{told};
 
 use arrayvec::ArrayVec;
 use evm_model::{Class, Mode, TASK_LIMIT, Task, TaskState};
 use evm_ready::{best_of, next_in_band_of, put, rerank, set_slice, set_stamp, take};
+use evm_wait::put as put_waiting;
 use std::marker::Model;
 
 /// The tasks, in the order of their numbers.
@@ -67,6 +69,7 @@ impl Tasks {
     {
         match state {
             TaskState::OobReady => put(self.tasks.as_mut_slice(), t),
+            TaskState::Waits(wait) => put_waiting(self.tasks.as_mut_slice(), t, wait),
             _ => take(self.tasks.as_mut_slice(), t, state),
         }
     }
@@ -173,11 +176,19 @@ impl Tasks {
         }
     }
 
-    /// The number of the out-of-band task that a processor should run.
-    pub fn best(&self, c: u8) -> Option<u8>
-        ensures { result ≡ best c self.now }
+    /// All of them.
+    pub fn as_slice(&self) -> &[Task]
+        ensures value { result.now ≡ self.now }
+        ensures limit { length result.now ≤ TASK_LIMIT }
     {
-        best_of(c, self.tasks.as_slice())
+        self.tasks.as_slice()
+    }
+
+    /// The number of the out-of-band task that a processor should run, by the ranks told.
+    pub fn best(&self, c: u8, ranks: &[u16]) -> Option<u8>
+        ensures { result ≡ first (runs_oob c self.now) (told ranks.now) (stamp self.now) (length self.now) }
+    {
+        best_of(c, self.tasks.as_slice(), ranks)
     }
 
     /// The number of the in-band task that a processor should take up.

@@ -1,0 +1,4 @@
+pub mod Fills
+pub mod Meets
+pub mod Owners
+pub mod Raising

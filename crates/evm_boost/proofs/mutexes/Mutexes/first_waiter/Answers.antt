@@ -1,0 +1,6 @@
+use Rattle.std.proofs.Common.{◌∙◌}
+use Rattle.evm_ready.proofs.Firsts.{first-same}
+use Rattle.evm_boost.proofs.mutexes.Mutexes.first_waiter.Goals as goal
+
+pub returns : goal.returns
+returns c = c.first.ensures ∙ first-same _ _ _ _ _ c.ranks.ensures

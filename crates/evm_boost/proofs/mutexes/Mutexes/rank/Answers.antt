@@ -1,0 +1,5 @@
+use Rattle.std.proofs.Common.{◌∙◌}
+use Rattle.evm_boost.proofs.mutexes.Mutexes.rank.Goals as goal
+
+pub returns : goal.returns
+returns c = c.told.ensures ∙ c.ranks.ensures _ c.requires.there

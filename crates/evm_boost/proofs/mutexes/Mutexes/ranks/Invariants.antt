@@ -1,0 +1,12 @@
+use Rattle.std.proofs.Common.{◌≡◌, false, length}
+use Rattle.evm_boost.specs.Scatter.{next_ranks, ranks_after}
+use Rattle.evm_model.specs.declared.limits.TheConstants.{TASK_LIMIT}
+use Rattle.evm_boost.proofs.mutexes.Mutexes.ranks.Given as goal
+
+-- so many rounds are made, or the last one changed nothing
+abbrev pub invariant-loop-round : goal.invariant-loop-round
+invariant-loop-round l = record {
+  after : l.now ≡ ranks_after l.self l.tasks l.own l.round;
+  ended : l.moves ≡ false → next_ranks l.self l.tasks l.own l.now ≡ l.now;
+  long : length l.now ≡ TASK_LIMIT;
+}

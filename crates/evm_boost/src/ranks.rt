@@ -1,0 +1,166 @@
+//! The ranks of the tasks.
+
+ghost use Rattle.std.specs.Prelude.{◌≡◌, ◌<◌, ◌≤◌, true, length};
+ghost use Rattle.evm_boost.specs.Scatter.{filled, raise_to, class_rank_at, own_ranks, next_ranks, AreRanks};
+ghost use Rattle.evm_model.specs.Mutexes.{raised, ceiling, waits_for};
+ghost use Rattle.evm_model.specs.Ranks.{class_rank, first, rank, stamp};
+ghost use Rattle.evm_ranks.specs.Boosts.{greater};
+ghost use Rattle.evm_ready.specs.Told.{told};
+
+use crate::mutexes::Mutexes;
+use evm_model::{Class, Protocol, TASK_LIMIT, Task};
+use evm_wait::{first, rerank};
+
+fn class_rank(class: Class, priority: u8) -> u16
+    ensures { result ≡ class_rank class priority }
+{
+    match class {
+        Class::Unattached => 0,
+        Class::Fifo | Class::RoundRobin => 100 + u16::from(priority),
+        Class::Weak => u16::from(priority),
+    }
+}
+
+// The rank of a task's class.
+fn class_rank_at(tasks: &[Task], t: u8) -> u16
+    ensures { result ≡ class_rank_at tasks.now t }
+{
+    match tasks.get(t as usize) {
+        None => 0,
+        Some(task) => class_rank(task.class, task.priority),
+    }
+}
+
+fn greater(a: u16, b: u16) -> u16
+    ensures { result ≡ greater a b }
+{
+    if a <= b { b } else { a }
+}
+
+// The rank of a task, if there is one, is at least this.
+fn raise(ranks: &mut [u16], task: Option<u8>, least: u16)
+    ensures { ranks.new ≡ raise_to task least ranks.old }
+{
+    if let Some(t) = task {
+        if (t as usize) < ranks.len() {
+            let rank = greater(ranks[t as usize], least);
+            rerank(ranks, t, rank);
+        }
+    }
+}
+
+fn told(ranks: &[u16], t: u8) -> u16
+    ensures { result ≡ told ranks.now t }
+{
+    match ranks.get(t as usize) {
+        None => 0,
+        Some(rank) => *rank,
+    }
+}
+
+fn is_same(now: &[u16], next: &[u16]) -> bool
+    ensures { (result ≡ true) → now.now ≡ next.now }
+{
+    now == next
+}
+
+// The ranks of the tasks' classes.
+#[tactic(auto, using(crate::proofs::Fills::fills))]
+fn class_ranks(tasks: &[Task], ranks: &mut [u16])
+    requires { length tasks.now ≤ TASK_LIMIT }
+    ensures { ranks.new ≡ filled (class_rank_at tasks.now) ranks.old (length tasks.now) }
+{
+    for t in 0..tasks.len() as u8 {
+        rerank(ranks, t, class_rank_at(tasks, t));
+    }
+}
+
+impl Mutexes {
+    // The task that mutex m raises to its ceiling: its owner.
+    fn raised(&self, m: u8) -> Option<u8>
+        ensures { result ≡ raised self.now m }
+    {
+        let Some(mutex) = self.get(m) else {
+            return None;
+        };
+        match mutex.protocol {
+            Protocol::Inheritance => None,
+            Protocol::Ceiling(_) => mutex.owner,
+        }
+    }
+
+    // The rank of mutex m's ceiling.
+    fn ceiling(&self, m: u8) -> u16
+        ensures { result ≡ ceiling self.now m }
+    {
+        let Some(mutex) = self.get(m) else {
+            return 0;
+        };
+        match mutex.protocol {
+            Protocol::Inheritance => 0,
+            Protocol::Ceiling(priority) => 100 + u16::from(priority),
+        }
+    }
+
+    // The own ranks of the tasks: those of their classes, and of the ceiling mutexes that they own.
+    #[tactic(auto, using(crate::proofs::Fills::scatters), unfolding(crate::specs::Scatter::own_ranks))]
+    fn own_ranks(&self, tasks: &[Task], ranks: &mut [u16])
+        requires { length tasks.now ≤ TASK_LIMIT }
+        ensures { ranks.new ≡ own_ranks self.now tasks.now ranks.old }
+    {
+        class_ranks(tasks, ranks);
+        for m in 0..self.count() {
+            raise(ranks, self.raised(m), self.ceiling(m));
+        }
+    }
+
+    // One more round: each task raises the one that it boosts.
+    #[tactic(auto, using(crate::proofs::Fills::scatters), unfolding(crate::specs::Scatter::next_ranks))]
+    fn next_ranks(&self, tasks: &[Task], now: &[u16], ranks: &mut [u16])
+        requires { length tasks.now ≤ TASK_LIMIT }
+        ensures { ranks.new ≡ next_ranks self.now tasks.now ranks.old now.now }
+    {
+        for u in 0..tasks.len() as u8 {
+            raise(ranks, self.boosts(tasks, u), told(now, u));
+        }
+    }
+
+    /// The ranks of all tasks, by their numbers: the own ones, raised by those that each task keeps waiting. The
+    /// rounds end early where one changes nothing, and there is none where there is no mutex.
+    pub fn ranks(&self, tasks: &[Task]) -> [u16; TASK_LIMIT]
+        requires { length tasks.now ≤ TASK_LIMIT }
+        ensures { AreRanks result self.now tasks.now }
+    {
+        let mut own = [0; TASK_LIMIT];
+        self.own_ranks(tasks, &mut own);
+        let mut now = own;
+        let mut moves = self.count() > 0;
+        for round in 0..TASK_LIMIT {
+            if moves {
+                let mut next = own;
+                self.next_ranks(tasks, &now, &mut next);
+                moves = !is_same(&now, &next);
+                now = next;
+            }
+        }
+        now
+    }
+
+    /// The rank of a task.
+    pub fn rank(&self, tasks: &[Task], t: u8) -> u16
+        requires limit { length tasks.now ≤ TASK_LIMIT }
+        requires there { t < length tasks.now }
+        ensures { result ≡ rank self.now tasks.now t }
+    {
+        told(&self.ranks(tasks), t)
+    }
+
+    /// The number of the task that has mutex m next: of those that wait for it, the one of greatest rank, then of least
+    /// stamp.
+    pub fn first_waiter(&self, m: u8, tasks: &[Task]) -> Option<u8>
+        requires { length tasks.now ≤ TASK_LIMIT }
+        ensures { result ≡ first (waits_for m tasks.now) (rank self.now tasks.now) (stamp tasks.now) (length tasks.now) }
+    {
+        first(m, tasks, &self.ranks(tasks))
+    }
+}

@@ -1,0 +1,88 @@
+//! Who waits for whom.
+
+ghost use Rattle.std.specs.Prelude.{◌≡◌, Some, if◌then◌else◌};
+ghost use Rattle.evm_model.specs.Mutexes.{lock_at, waits_on, heir_by, heir_of, boosts};
+ghost use Rattle.evm_model.specs.declared.limits.TheConstants.{TASK_LIMIT};
+ghost use Rattle.evm_ranks.specs.Boosts.{is_number, meets, walk_on};
+
+use crate::mutexes::Mutexes;
+use evm_model::{Mutex, Protocol, TASK_LIMIT, Task, TaskState, Wait};
+
+// The mutex that a task waits for.
+fn lock_at(tasks: &[Task], u: u8) -> Option<u8>
+    ensures { result ≡ lock_at tasks.now u }
+{
+    let Some(task) = tasks.get(u as usize) else {
+        return None;
+    };
+    match task.state {
+        TaskState::Waits(Wait::Lock(m)) => Some(m),
+        _ => None,
+    }
+}
+
+// The task that inherits the ranks of those which wait for a mutex.
+fn heir_of(mutex: Option<Mutex>) -> Option<u8>
+    ensures { result ≡ heir_of mutex }
+{
+    let Some(mutex) = mutex else {
+        return None;
+    };
+    match mutex.protocol {
+        Protocol::Inheritance => mutex.owner,
+        Protocol::Ceiling(_) => None,
+    }
+}
+
+fn is_number(task: Option<u8>, t: u8) -> bool
+    ensures { result ≡ is_number task t }
+{
+    match task {
+        None => false,
+        Some(u) => u == t,
+    }
+}
+
+impl Mutexes {
+    /// The task that task u waits for: the owner of its mutex.
+    pub fn waits_on(&self, tasks: &[Task], u: u8) -> Option<u8>
+        ensures { result ≡ waits_on self.now tasks.now u }
+    {
+        match lock_at(tasks, u) {
+            None => None,
+            Some(m) => self.owner(m),
+        }
+    }
+
+    /// The task that task u boosts: the owner of its mutex, where that is one of inheritance.
+    pub fn boosts(&self, tasks: &[Task], u: u8) -> Option<u8>
+        ensures { result ≡ boosts self.now tasks.now u }
+    {
+        match lock_at(tasks, u) {
+            None => None,
+            Some(m) => heir_of(self.get(m)),
+        }
+    }
+
+    // The way to task t goes one link on, unless it is there.
+    fn walk_to(&self, tasks: &[Task], t: u8, at: Option<u8>) -> Option<u8>
+        ensures { result ≡ (if is_number at t then at else walk_on (waits_on self.now tasks.now) at) }
+    {
+        let Some(u) = at else {
+            return None;
+        };
+        if u == t { at } else { self.waits_on(tasks, u) }
+    }
+
+    /// Whether task u waits for task t by some chain, or is it.
+    #[tactic(auto, using(crate::proofs::Meets::ways))]
+    pub fn meets(&self, tasks: &[Task], t: u8, u: u8) -> bool
+        ensures { result ≡ meets (waits_on self.now tasks.now) t TASK_LIMIT (Some u) }
+    {
+        let mut at = Some(u);
+        for link in 0..TASK_LIMIT {
+            at = self.walk_to(tasks, t, at);
+        }
+        is_number(at, t)
+    }
+}

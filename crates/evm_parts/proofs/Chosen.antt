@@ -1,0 +1,13 @@
+-- The best task by ranks that are told is the best one.
+use Rattle.std.proofs.Common.{◌≡◌, ℕ, List, length}
+use Rattle.evm_boost.specs.Scatter.{AreRanks}
+use Rattle.evm_model.specs.Ranks.{best, first, rank, runs_oob, stamp}
+use Rattle.evm_model.specs.declared.mutex.Mutex.{Mutex}
+use Rattle.evm_model.specs.declared.task.Task.{Task}
+use Rattle.evm_ready.proofs.Firsts.{first-same}
+use Rattle.evm_ready.specs.Told.{told}
+
+pub best-told : (c : ℕ) (ranks : List ℕ) (mutexes : List Mutex) (tasks : List Task) → AreRanks ranks mutexes tasks
+    → first (runs_oob c tasks) (told ranks) (stamp tasks) (length tasks) ≡ best c mutexes tasks
+unfolding best
+best-told c ranks mutexes tasks are = first-same (runs_oob c tasks) (told ranks) (rank mutexes tasks) (stamp tasks) (length tasks) are

@@ -1,0 +1,141 @@
+//! What rows do to a mutex, and to the tasks that wait for it.
+
+ghost use Rattle.std.specs.Prelude.{◌≡◌, ◌<◌, ◌≤◌, ◌+◌, ◌^◌, Some, length};
+ghost use Rattle.evm_boost.specs.Scatter.{AreRanks};
+ghost use Rattle.evm_model.specs.Locks.{add_mutex, take_mutex, wait_for};
+ghost use Rattle.evm_model.specs.Mutexes.{owns_any, held_by, waits_on};
+ghost use Rattle.evm_model.specs.Passing.{wake_oob, first_waiter, pass_on, pass_if, pass_below};
+ghost use Rattle.evm_model.specs.Ranks.{best};
+ghost use Rattle.evm_model.specs.State.{on_mutex};
+ghost use Rattle.evm_ranks.specs.Boosts.{meets};
+
+use crate::parts::Parts;
+use evm_model::{MUTEX_LIMIT, Mutex, TASK_LIMIT, TaskState, Wait};
+
+impl Parts {
+    /// The ranks of all tasks, by their numbers.
+    pub fn ranks(&self) -> [u16; TASK_LIMIT]
+        ensures { AreRanks result self.now.mutexes self.now.tasks }
+    {
+        self.mutexes.ranks(self.tasks.as_slice())
+    }
+
+    /// The number of the out-of-band task that a processor should run, by the ranks of all.
+    pub fn best(&self, c: u8, ranks: &[u16]) -> Option<u8>
+        requires { AreRanks ranks.now self.now.mutexes self.now.tasks }
+        ensures { result ≡ best c self.now.mutexes self.now.tasks }
+    {
+        self.tasks.best(c, ranks)
+    }
+
+    /// Whether a task owns a mutex.
+    pub fn owns_any(&self, t: u8) -> bool
+        ensures { result ≡ owns_any t self.now.mutexes }
+    {
+        self.mutexes.owns_any(t)
+    }
+
+    /// Whether task u waits for task t by some chain, or is it.
+    pub fn meets(&self, t: u8, u: u8) -> bool
+        ensures { result ≡ meets (waits_on self.now.mutexes self.now.tasks) t TASK_LIMIT (Some u) }
+    {
+        self.mutexes.meets(self.tasks.as_slice(), t, u)
+    }
+
+    /// One mutex more.
+    #[tactic(auto, unfolding(evm_model::specs::Locks::add_mutex))]
+    pub fn add_mutex(&mut self, mutex: Mutex)
+        requires { length self.old.mutexes < MUTEX_LIMIT }
+        ensures row { self.new ≡ add_mutex mutex self.old }
+        ensures stamps { self.new.stamps ≡ self.old.stamps }
+    {
+        self.mutexes.create(mutex);
+    }
+
+    /// A task has a mutex, locked so often.
+    pub fn hold_mutex(&mut self, t: u8, m: u8, count: u64)
+        ensures row { self.new ≡ on_mutex m (held_by t count) self.old }
+        ensures stamps { self.new.stamps ≡ self.old.stamps }
+    {
+        self.mutexes.hold(m, t, count);
+    }
+
+    /// A task has a mutex that was free.
+    #[tactic(auto, unfolding(evm_model::specs::Locks::take_mutex))]
+    pub fn take_mutex(&mut self, t: u8, m: u8)
+        ensures row { self.new ≡ take_mutex t m self.old }
+        ensures stamps { self.new.stamps ≡ self.old.stamps }
+    {
+        self.hold_mutex(t, m, 1);
+    }
+
+    /// A task waits for a mutex.
+    #[tactic(auto, unfolding(evm_model::specs::Locks::wait_for))]
+    pub fn wait_for(&mut self, t: u8, m: u8)
+        requires room { self.old.stamps < 2 ^ 63 }
+        ensures row { self.new ≡ wait_for t m self.old }
+        ensures stamps { self.new.stamps ≡ self.old.stamps + 1 }
+    {
+        self.set_state(t, TaskState::Waits(Wait::Lock(m)));
+        self.restamp(t);
+    }
+
+    /// A task that waited out-of-band is ready there: its call is answered.
+    #[tactic(auto, unfolding(evm_model::specs::Passing::wake_oob))]
+    pub fn wake_oob(&mut self, t: u8, value: u64)
+        requires room { self.old.stamps < 2 ^ 63 }
+        ensures row { self.new ≡ wake_oob t value self.old }
+        ensures stamps { self.new.stamps ≡ self.old.stamps + 1 }
+    {
+        self.harts.set_a0(t, value);
+        self.set_state(t, TaskState::OobReady);
+        self.restamp(t);
+    }
+
+    // Of the tasks that wait for a mutex the one of greatest rank, then of least stamp.
+    #[tactic(auto, unfolding(evm_model::specs::Passing::first_waiter))]
+    fn first_waiter(&self, m: u8) -> Option<u8>
+        ensures { result ≡ first_waiter m self.now }
+    {
+        self.mutexes.first_waiter(m, self.tasks.as_slice())
+    }
+
+    /// A task that waited for a mutex wakes and owns it; where there is none it is free.
+    #[tactic(auto, unfolding(evm_model::specs::Passing::pass_on))]
+    pub fn pass_on(&mut self, m: u8)
+        requires room { self.old.stamps < 2 ^ 63 }
+        ensures row { self.new ≡ pass_on m self.old }
+        ensures stamps { self.new.stamps ≤ self.old.stamps + 1 }
+    {
+        match self.first_waiter(m) {
+            None => self.mutexes.leave(m),
+            Some(t) => {
+                self.wake_oob(t, 0);
+                self.hold_mutex(t, m, 1);
+            }
+        }
+    }
+
+    // A mutex passes on if the task owns it.
+    fn pass_if(&mut self, t: u8, m: u8)
+        requires room { self.old.stamps < 2 ^ 63 }
+        ensures row { self.new ≡ pass_if t m self.old }
+        ensures stamps { self.new.stamps ≤ self.old.stamps + 1 }
+    {
+        if self.mutexes.is_owner(m, t) {
+            self.pass_on(m);
+        }
+    }
+
+    /// The mutexes of a task pass on, by number.
+    #[tactic(auto, using(crate::proofs::Passes::passes))]
+    pub fn pass_all(&mut self, t: u8)
+        requires room { self.old.stamps ≤ 2 ^ 62 }
+        ensures row { self.new ≡ pass_below t (length self.old.mutexes) self.old }
+        ensures stamps { self.new.stamps ≤ self.old.stamps + 32 }
+    {
+        'passing: for m in 0..self.mutexes.count() {
+            self.pass_if(t, m);
+        }
+    }
+}

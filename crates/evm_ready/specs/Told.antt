@@ -1,0 +1,10 @@
+-- Ranks that are told: a list of them, by the numbers of the tasks.
+use Rattle.std.specs.Prelude.{ℕ, List, Option, Some, None, slice_get}
+
+abbrev pub told_of : Option ℕ → ℕ
+told_of None = 0
+told_of (Some rank) = rank
+
+-- the rank of task t, as it is told
+abbrev pub told : List ℕ → ℕ → ℕ
+told ranks t = told_of (slice_get ranks t)
