@@ -1,7 +1,10 @@
 pub mod Calls
 pub mod Counted
+pub mod Held
 pub mod Lift
+pub mod Locks
 pub mod Moves
+pub mod Passing
 pub mod Playing
 pub mod Refused
 pub mod Rows

@@ -5,14 +5,16 @@ use Rattle.std.proofs.lemmas.Bool.{cases_eq}
 use Rattle.evm_lines.specs.Lines.{has_line}
 use Rattle.evm_lines.specs.declared.TheConstants.{LINES}
 use Rattle.evm_exec.specs.declared.hart.Hart.{Hart}
+use Rattle.evm_model.specs.Bounds.{HeldUpTo}
 use Rattle.evm_model.specs.Lists.{change}
 use Rattle.evm_model.specs.Pipes.{Pipe, raise, arrive, receive, play, set_stall}
-use Rattle.evm_model.specs.State.{Parts, on_hart, on_task, on_processor, on_pipe}
+use Rattle.evm_model.specs.State.{Parts, on_hart, on_task, on_processor, on_pipe, on_mutex}
+use Rattle.evm_model.specs.declared.mutex.Mutex.{Mutex}
 use Rattle.evm_model.specs.declared.processor.Processor.{Processor}
 use Rattle.evm_model.specs.declared.stage.Stage.{Stage}
 use Rattle.evm_model.specs.declared.stage.Stage.TheVariants.{OutOfBand, InBand}
 use Rattle.evm_model.specs.declared.task.Task.{Task}
-use Rattle.evm_model.proofs.Lists.{length-change, change-here, change-elsewhere}
+use Rattle.evm_model.proofs.Lists.{length-change, change-here, change-elsewhere, change-cases}
 
 -- a change of one pipe that raises no line but this one, and by how much it raises a count at most
 pub data PipeMove : ℕ → ℕ → Pipe → Pipe → Type 0 where
@@ -44,6 +46,8 @@ pub record Once (actor line n : ℕ) (old new : Parts) : Type 0 where
   pub tasks_count : length old.tasks ≤ length new.tasks
   -- the clock goes on only by line 0
   pub ticks : (line ≡ 0 → ⊥) → new.ticks ≡ old.ticks
+  -- no mutex is locked so much more often
+  pub holds : (b : ℕ) → 1 ≤ b → HeldUpTo b old.mutexes → HeldUpTo (b + n) new.mutexes
 
 -- changes by an actor, raising only this line, by so much at most
 pub data Moves : ℕ → ℕ → ℕ → Parts → Parts → Type 0 where
@@ -65,6 +69,27 @@ takes_then a line m n t x y z h p q = record { count = p.count + q.count; few = 
 pub takes_more : (a line m n : ℕ) (x y : Parts) → m ≤ n → Takes a line m x y → Takes a line n x y
 takes_more a line m n x y h p = record { count = p.count; few = omega arith; moves = p.moves }
 
+-- one at most, where there is none
+pub takes_less : (a line : ℕ) (x y : Parts) → Takes a line 0 x y → Takes a line 1 x y
+takes_less a line x y p = takes_more a line 0 1 x y (omega arith) p
+
+-- ---- how often mutexes are locked
+pub held_more : (a b : ℕ) (mutexes : List Mutex) → a ≤ b → HeldUpTo a mutexes → HeldUpTo b mutexes
+held_more a b mutexes h s = record { count = λ m mutex e. omega (arith, s.count m mutex e) }
+
+held_still : (n : ℕ) (mutexes : List Mutex) (b : ℕ) → 1 ≤ b → HeldUpTo b mutexes → HeldUpTo (b + n) mutexes
+held_still n mutexes b h s = held_more b (b + n) mutexes (omega arith) s
+
+-- .. where one of them changes
+pub held_changed : (m a b : ℕ) (f : Mutex → Mutex) (mutexes : List Mutex) → a ≤ b
+    → ((mutex : Mutex) → slice_get mutexes m ≡ Some mutex → mutex.count ≤ a → (f mutex).count ≤ b) → HeldUpTo a mutexes → HeldUpTo b (change f mutexes m)
+held_changed m a b f mutexes h c s = record {
+  count = λ i mutex e. elim (change-cases f mutexes m i mutex e) [
+    | inl g ↦ rw g.3 (c g.1 g.2 (s.count m g.1 g.2))
+    | inr g ↦ omega (arith, s.count i mutex g.1)
+  ];
+}
+
 -- nothing changes
 pub takes_none : (a line n : ℕ) (k : Parts) → Takes a line n k k
 takes_none a line n k = takes_once a line n k k (record {
@@ -75,6 +100,7 @@ takes_none a line n k = takes_once a line n k k (record {
   harts_count = omega arith;
   tasks_count = omega arith;
   ticks = λ h. refl;
+  holds = held_still n k.mutexes;
 })
 
 pub takes_if : (a line n : ℕ) (k x y : Parts) (b : Bool) → Takes a line n k x → Takes a line n k y → Takes a line n k (if b then x else y)
@@ -91,6 +117,7 @@ takes_hart a line t f k = takes_once a line 0 k _ (record {
   harts_count = omega (arith, length-change f k.harts t);
   tasks_count = omega arith;
   ticks = λ h. refl;
+  holds = held_still 0 k.mutexes;
 })
 
 pub takes_task : (a line t : ℕ) (f : Task → Task) (k : Parts) → Takes a line 0 k (on_task t f k)
@@ -102,6 +129,7 @@ takes_task a line t f k = takes_once a line 0 k _ (record {
   harts_count = omega arith;
   tasks_count = omega (arith, length-change f k.tasks t);
   ticks = λ h. refl;
+  holds = held_still 0 k.mutexes;
 })
 
 pub takes_processor : (c line : ℕ) (f : Processor → Processor) (k : Parts) → Takes c line 0 k (on_processor c f k)
@@ -113,6 +141,7 @@ takes_processor c line f k = takes_once c line 0 k _ (record {
   harts_count = omega arith;
   tasks_count = omega arith;
   ticks = λ h. refl;
+  holds = held_still 0 k.mutexes;
 })
 
 pipe_changes : (a line n c : ℕ) (f : Pipe → Pipe) (pipes : List Pipe) (o : Option Pipe) → slice_get pipes c ≡ o
@@ -135,6 +164,7 @@ one_pipe a line n c f k m w = record {
   harts_count = omega arith;
   tasks_count = omega arith;
   ticks = λ h. refl;
+  holds = held_still n k.mutexes;
 }
 
 -- a change of the actor's own pipe
@@ -166,4 +196,19 @@ takes_raises a line ticks f k pipes h e n s t = takes_once a line 1 k _ (record 
   harts_count = omega arith;
   tasks_count = omega arith;
   ticks = t;
+  holds = held_still 1 k.mutexes;
+})
+
+-- a mutex is locked so much more often
+pub takes_mutex : (a line n m : ℕ) (f : Mutex → Mutex) (k : Parts)
+    → ((b : ℕ) → 1 ≤ b → (mutex : Mutex) → slice_get k.mutexes m ≡ Some mutex → mutex.count ≤ b → (f mutex).count ≤ b + n) → Takes a line n k (on_mutex m f k)
+takes_mutex a line n m f k c = takes_once a line n k _ (record {
+  pipes = λ d. inl refl;
+  pipes_count = refl;
+  processors = λ d other. refl;
+  processors_count = refl;
+  harts_count = omega arith;
+  tasks_count = omega arith;
+  ticks = λ h. refl;
+  holds = λ b h s. held_changed m b (b + n) f k.mutexes (omega arith) (c b h) s;
 })

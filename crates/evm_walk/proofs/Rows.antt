@@ -34,11 +34,12 @@ use Rattle.evm_model.specs.declared.event.Event.TheVariants.{Step, Tick, Raise, 
 use Rattle.evm_model.specs.declared.processor.Processor.{Processor}
 use Rattle.evm_ram.specs.declared.refusal.Refusal.TheVariants.{NoSuchLine}
 use Rattle.evm_model.proofs.Lists.{slice_get-each, length-each_from}
-use Rattle.evm_walk.proofs.Moves.{receives, Takes, takes_then, takes_more, takes_none, takes_if, takes_hart, takes_processor, takes_pipe, takes_raise, takes_raises}
+use Rattle.evm_walk.proofs.Moves.{receives, Takes, takes_then, takes_more, takes_less, takes_none, takes_if, takes_hart, takes_processor, takes_pipe, takes_raise, takes_raises}
+use Rattle.evm_walk.proofs.Passing.{takes_end}
 use Rattle.evm_walk.proofs.Playing.{first_on, oob_lines_take, in_band_lines_take}
 use Rattle.evm_walk.proofs.Refused.{passes, is_line}
 use Rattle.evm_walk.proofs.Calls.{call_takes}
-use Rattle.evm_walk.proofs.Tasks.{takes_end, takes_demote}
+use Rattle.evm_walk.proofs.Tasks.{takes_demote}
 use Rattle.evm_walk.proofs.Sets.{ArePipes, takes_pipes}
 
 -- a set has as many members at most as there are lines
@@ -113,24 +114,24 @@ stores : (c t : ℕ) (o : Option Memory) (b : Board) → Takes c 1 0 b.parts (fi
 stores c t None b = faults c t _ b.parts
 stores c t (Some memory) b = takes_hart c 1 t advance b.parts
 
-pub effect_takes : (effect : Effect) (c t : ℕ) (b : Board) → Takes c 1 0 b.parts (finish effect c t b).parts
+pub effect_takes : (effect : Effect) (c t : ℕ) (b : Board) → Takes c 1 1 b.parts (finish effect c t b).parts
 unfolding finish
-effect_takes (Next rd value pc) c t b = takes_hart c 1 t _ b.parts
-effect_takes (Load op rd address) c t b = loads c t (read address (width_of_load op) b.memory) op rd b
-effect_takes (Store width address value) c t b = stores c t (write address width value b.memory) b
+effect_takes (Next rd value pc) c t b = takes_less c 1 b.parts _ (takes_hart c 1 t _ b.parts)
+effect_takes (Load op rd address) c t b = takes_less c 1 b.parts _ (loads c t (read address (width_of_load op) b.memory) op rd b)
+effect_takes (Store width address value) c t b = takes_less c 1 b.parts _ (stores c t (write address width value b.memory) b)
 effect_takes Call c t b = call_takes (length b.memory.ram) c t b.parts
-effect_takes Breaks c t b = takes_then c 1 0 0 0 b.parts (on_hart t advance b.parts) _ (omega arith) (takes_hart c 1 t advance b.parts) (stops c 1 (on_hart t advance b.parts))
-effect_takes Misaligned c t b = faults c t _ b.parts
+effect_takes Breaks c t b = takes_then c 1 0 0 1 b.parts (on_hart t advance b.parts) _ (omega arith) (takes_hart c 1 t advance b.parts) (stops c 1 (on_hart t advance b.parts))
+effect_takes Misaligned c t b = takes_less c 1 b.parts _ (faults c t _ b.parts)
 
-inst_takes : (o : Option Inst) (hart : Hart) (c t : ℕ) (b : Board) → Takes c 1 0 b.parts (execute_inst o hart c t b).parts
-inst_takes None hart c t b = faults c t _ b.parts
+inst_takes : (o : Option Inst) (hart : Hart) (c t : ℕ) (b : Board) → Takes c 1 1 b.parts (execute_inst o hart c t b).parts
+inst_takes None hart c t b = takes_less c 1 b.parts _ (faults c t _ b.parts)
 inst_takes (Some inst) hart c t b = effect_takes (does inst hart.regs hart.pc) c t b
 
-word_takes : (o : Option ℕ) (hart : Hart) (c t : ℕ) (b : Board) → Takes c 1 0 b.parts (execute_word o hart c t b).parts
-word_takes None hart c t b = faults c t _ b.parts
+word_takes : (o : Option ℕ) (hart : Hart) (c t : ℕ) (b : Board) → Takes c 1 1 b.parts (execute_word o hart c t b).parts
+word_takes None hart c t b = takes_less c 1 b.parts _ (faults c t _ b.parts)
 word_takes (Some word) hart c t b = inst_takes (decoded word) hart c t b
 
-pub execute_takes : (hart : Hart) (c t : ℕ) (b : Board) → Takes c 1 0 b.parts (execute hart c t b).parts
+pub execute_takes : (hart : Hart) (c t : ℕ) (b : Board) → Takes c 1 1 b.parts (execute hart c t b).parts
 unfolding execute
 execute_takes hart c t b = word_takes (fetch hart.pc b.memory) hart c t b
 
@@ -141,8 +142,8 @@ finishes_after c m old k h t s = takes_then c 1 m 65 PER_EVENT old k _ (omega ar
 run_takes : (hart : Hart) (c t : ℕ) (b : Board) → ArePipes b.parts → Takes c 1 PER_EVENT b.parts (run hart c t b).0.parts
 run_takes hart c t b s =
     let passed : Parts = on_processor c (λ p. record p { skip = false }) b.parts in
-    finishes_after c 0 b.parts _ (omega arith)
-    (takes_then c 1 0 0 0 b.parts passed _ (omega arith) (takes_processor c 1 _ b.parts) (execute_takes hart c t (record b { parts = passed }))) s
+    finishes_after c 1 b.parts _ (omega arith)
+    (takes_then c 1 0 1 1 b.parts passed _ (omega arith) (takes_processor c 1 _ b.parts) (execute_takes hart c t (record b { parts = passed }))) s
 
 either_takes : (a line n : ℕ) (k : Parts) (x y : Board × Answer) (b : Bool) → Takes a line n k x.0.parts → Takes a line n k y.0.parts → Takes a line n k (if b then x else y).0.parts
 either_takes a line n k x y true p q = p

@@ -1,30 +1,33 @@
 -- What is done to one task is made of moves that touch no pipe.
-use Rattle.std.proofs.Common.{◌≡◌, ℕ, zero, suc, ◌-◌, ◌≤◌, [], ◌∷◌, Option, Some, None, Bool, true, false, length, length-append, refl, ap, ◌∙◌, inl, arith}
+use Rattle.std.proofs.Common.{◌≡◌, ℕ, zero, suc, ◌+◌, ◌-◌, ◌≤◌, [], ◌∷◌, Option, Some, None, Bool, true, false, length, length-append, refl, ap, ◌∙◌, inl, arith}
 use Rattle.std.specs.Prelude.{slice_get, ◌&&◌, nat_le, if◌then◌else◌}
-use Rattle.evm_model.specs.InBandCalls.{add_task}
+use Rattle.evm_exec.specs.declared.hart.Hart.{Hart}
+use Rattle.evm_model.specs.Bounds.{HeldUpTo}
 use Rattle.evm_model.specs.Harts.{A0, set_register, spawned_hart}
+use Rattle.evm_model.specs.InBandCalls.{add_task}
 use Rattle.evm_model.specs.Pipes.{set_stall}
 use Rattle.evm_model.specs.Ranks.{is_oob_ready}
 use Rattle.evm_model.specs.Settle.{current, spend_of, spend_current}
 use Rattle.evm_model.specs.State.{Parts, new_task, on_hart, on_task, on_pipe}
-use Rattle.evm_model.specs.Tasks.{restamp, set_state, leave_in_band, end_task, wake_in_band, demote, promote, set_policy, clear_policy, set_mode_bits, set_slice, is_round_robin, spend_slice, spend_task, wake_below, awaits}
+use Rattle.evm_model.specs.Tasks.{restamp, set_state, leave_in_band, wake_in_band, demote, promote, set_policy, clear_policy, set_mode_bits, set_slice, is_round_robin, spend_slice, spend_task, wake_below, awaits}
 use Rattle.evm_model.specs.declared.limits.TheConstants.{SLICE}
 use Rattle.evm_model.specs.declared.stage.Stage.{Stage}
-use Rattle.evm_model.specs.declared.stage.Stage.TheVariants.{OutOfBand, InBand}
+use Rattle.evm_model.specs.declared.stage.Stage.TheVariants.{OutOfBand}
 use Rattle.evm_model.specs.declared.task.Class.{Class}
 use Rattle.evm_model.specs.declared.task.Task.{Task}
 use Rattle.evm_model.specs.declared.task.TaskState.{TaskState}
 use Rattle.evm_model.specs.declared.task.TaskState.TheVariants.{InReady, OobReady}
 use Rattle.evm_model.proofs.Lists.{length-change}
-use Rattle.evm_walk.proofs.Moves.{stalls, Takes, takes_once, takes_then, takes_none, takes_if, takes_hart, takes_processor, takes_pipe}
+use Rattle.evm_walk.proofs.Moves.{stalls, held_more, Takes, takes_once, takes_then, takes_none, takes_if, takes_hart, takes_processor, takes_pipe}
 
--- neither pipes, processors nor the clock change, and tasks only get more
+-- neither pipes, processors nor the clock change, tasks only get more, and no mutex is locked more often
 pub record IsQuiet (k new : Parts) : Type 0 where
   pub pipes : new.pipes ≡ k.pipes
   pub processors : new.processors ≡ k.processors
   pub ticks : new.ticks ≡ k.ticks
   pub harts_count : length k.harts ≤ length new.harts
   pub tasks_count : length k.tasks ≤ length new.tasks
+  pub holds : (b : ℕ) → 1 ≤ b → HeldUpTo b k.mutexes → HeldUpTo b new.mutexes
 
 pub takes_quiet : (a line : ℕ) (k new : Parts) → IsQuiet k new → Takes a line 0 k new
 takes_quiet a line k new q = takes_once a line 0 k new (record {
@@ -35,23 +38,35 @@ takes_quiet a line k new q = takes_once a line 0 k new (record {
   harts_count = q.harts_count;
   tasks_count = q.tasks_count;
   ticks = λ h. q.ticks;
+  holds = λ b h s. held_more b (b + 0) new.mutexes (omega arith) (q.holds b h s);
 })
 
-quiet_none : (k : Parts) → IsQuiet k k
-quiet_none k = record { pipes = refl; processors = refl; ticks = refl; harts_count = omega arith; tasks_count = omega arith }
+pub quiet_none : (k : Parts) → IsQuiet k k
+quiet_none k = record { pipes = refl; processors = refl; ticks = refl; harts_count = omega arith; tasks_count = omega arith; holds = λ b h s. s }
 
-quiet_then : (x y z : Parts) → IsQuiet x y → IsQuiet y z → IsQuiet x z
+pub quiet_then : (x y z : Parts) → IsQuiet x y → IsQuiet y z → IsQuiet x z
 quiet_then x y z p q = record {
   pipes = q.pipes ∙ p.pipes;
   processors = q.processors ∙ p.processors;
   ticks = q.ticks ∙ p.ticks;
   harts_count = omega (arith, p.harts_count, q.harts_count);
   tasks_count = omega (arith, p.tasks_count, q.tasks_count);
+  holds = λ b h s. q.holds b h (p.holds b h s);
 }
 
-quiet_if : (b : Bool) (k x y : Parts) → IsQuiet k x → IsQuiet k y → IsQuiet k (if b then x else y)
+pub quiet_if : (b : Bool) (k x y : Parts) → IsQuiet k x → IsQuiet k y → IsQuiet k (if b then x else y)
 quiet_if true k x y p q = p
 quiet_if false k x y p q = q
+
+pub hart_quiet : (t : ℕ) (f : Hart → Hart) (k : Parts) → IsQuiet k (on_hart t f k)
+hart_quiet t f k = record {
+  pipes = refl;
+  processors = refl;
+  ticks = refl;
+  harts_count = omega (arith, length-change f k.harts t);
+  tasks_count = omega arith;
+  holds = λ b h s. s;
+}
 
 task_quiet : (t : ℕ) (f : Task → Task) (k : Parts) → IsQuiet k (on_task t f k)
 task_quiet t f k = record {
@@ -60,6 +75,7 @@ task_quiet t f k = record {
   ticks = refl;
   harts_count = omega arith;
   tasks_count = omega (arith, length-change f k.tasks t);
+  holds = λ b h s. s;
 }
 
 pub restamp_quiet : (t : ℕ) (k : Parts) → IsQuiet k (restamp t k)
@@ -70,6 +86,7 @@ restamp_quiet t k = record {
   ticks = refl;
   harts_count = omega arith;
   tasks_count = omega (arith, length-change (λ (task : Task). record task { stamp = k.stamps }) k.tasks t);
+  holds = λ b h s. s;
 }
 
 pub state_quiet : (t : ℕ) (state : TaskState) (k : Parts) → IsQuiet k (set_state t state k)
@@ -100,6 +117,7 @@ add_quiet entry value cpu k = record {
   ticks = refl;
   harts_count = omega (arith, length-append k.harts (spawned_hart entry value ∷ []));
   tasks_count = omega (arith, length-append k.tasks (new_task cpu k.stamps ∷ []));
+  holds = λ b h s. s;
 }
 
 -- ---- a tick of a slice
@@ -127,14 +145,6 @@ takes_stall c stage b k = takes_pipe c 1 0 (set_stall stage b) k (λ p e. stalls
 pub takes_leave : (c line : ℕ) (k : Parts) → Takes c line 0 k (leave_in_band c k)
 unfolding leave_in_band
 takes_leave c line k = takes_processor c line _ k
-
-pub takes_end : (c t : ℕ) (state : TaskState) (k : Parts) → Takes c 1 0 k (end_task c t state k)
-unfolding end_task
-takes_end c t state k =
-    let freed : Parts = on_pipe c (set_stall InBand false) k in
-    takes_then c 1 0 0 0 k freed _ (omega arith) (takes_stall c InBand false k)
-    (takes_then c 1 0 0 0 freed (leave_in_band c freed) _ (omega arith) (takes_leave c 1 freed)
-    (takes_quiet c 1 (leave_in_band c freed) _ (state_quiet t state (leave_in_band c freed))))
 
 pub takes_demote : (c t : ℕ) (k : Parts) → Takes c 1 0 k (demote c t k)
 unfolding demote
