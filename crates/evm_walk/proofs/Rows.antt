@@ -136,10 +136,14 @@ unfolding execute
 execute_takes hart c t b = word_takes (fetch hart.pc b.memory) hart c t b
 
 -- ---- a Step
-finishes_after : (c m : ℕ) (old k : Parts) → m ≤ 1 → Takes c 1 m old k → ArePipes old → Takes c 1 PER_EVENT old (settle_and_nudge c k)
-finishes_after c m old k h t s = takes_then c 1 m 65 PER_EVENT old k _ (omega arith) t (finishes c k (takes_pipes c 1 m old k t s))
+-- no event counts more, which leaves one to spare
+abbrev pub MOVES : ℕ
+MOVES = 255
 
-run_takes : (hart : Hart) (c t : ℕ) (b : Board) → ArePipes b.parts → Takes c 1 PER_EVENT b.parts (run hart c t b).0.parts
+finishes_after : (c m : ℕ) (old k : Parts) → m ≤ 1 → Takes c 1 m old k → ArePipes old → Takes c 1 MOVES old (settle_and_nudge c k)
+finishes_after c m old k h t s = takes_then c 1 m 65 MOVES old k _ (omega arith) t (finishes c k (takes_pipes c 1 m old k t s))
+
+run_takes : (hart : Hart) (c t : ℕ) (b : Board) → ArePipes b.parts → Takes c 1 MOVES b.parts (run hart c t b).0.parts
 run_takes hart c t b s =
     let passed : Parts = on_processor c (λ p. record p { skip = false }) b.parts in
     finishes_after c 1 b.parts _ (omega arith)
@@ -149,12 +153,12 @@ either_takes : (a line n : ℕ) (k : Parts) (x y : Board × Answer) (b : Bool) �
 either_takes a line n k x y true p q = p
 either_takes a line n k x y false p q = q
 
-hart_takes : (o : Option Hart) (p : Processor) (c t : ℕ) (b : Board) → ArePipes b.parts → Takes c 1 PER_EVENT b.parts (step_hart o p c t b).0.parts
-hart_takes None p c t b s = takes_none c 1 PER_EVENT b.parts
-hart_takes (Some hart) p c t b s = either_takes c 1 PER_EVENT b.parts _ (run hart c t b) (is_set b.breakpoints hart.pc && not p.skip)
-    (takes_more c 1 0 PER_EVENT b.parts _ (omega arith) (stops c 1 b.parts)) (run_takes hart c t b s)
+hart_takes : (o : Option Hart) (p : Processor) (c t : ℕ) (b : Board) → ArePipes b.parts → Takes c 1 MOVES b.parts (step_hart o p c t b).0.parts
+hart_takes None p c t b s = takes_none c 1 MOVES b.parts
+hart_takes (Some hart) p c t b s = either_takes c 1 MOVES b.parts _ (run hart c t b) (is_set b.breakpoints hart.pc && not p.skip)
+    (takes_more c 1 0 MOVES b.parts _ (omega arith) (stops c 1 b.parts)) (run_takes hart c t b s)
 
-current_takes : (o : Option ℕ) (p : Processor) (c : ℕ) (b : Board) → ArePipes b.parts → Takes c 1 PER_EVENT b.parts (step_current o p c b).0.parts
+current_takes : (o : Option ℕ) (p : Processor) (c : ℕ) (b : Board) → ArePipes b.parts → Takes c 1 MOVES b.parts (step_current o p c b).0.parts
 current_takes None p c b s = finishes_after c 0 b.parts b.parts (omega arith) (takes_none c 1 0 b.parts) s
 current_takes (Some t) p c b s = hart_takes (slice_get b.parts.harts t) p c t b s
 
@@ -163,20 +167,20 @@ least_on [] l e = cc
 least_on (x ∷ xs) l e = let same : x ≡ l = cc in rw same (first_on l xs)
 
 wire_takes : (o : Option ℕ) (p : Processor) (c : ℕ) (b : Board) (pipe : Pipe) → slice_get b.parts.pipes c ≡ Some pipe → least_line pipe.wire ≡ o → ArePipes b.parts
-    → Takes c 1 PER_EVENT b.parts (step_wire o p c b).0.parts
+    → Takes c 1 MOVES b.parts (step_wire o p c b).0.parts
 wire_takes None p c b pipe e w s = current_takes p.current p c b s
 wire_takes (Some l) p c b pipe e w s = finishes_after c 1 b.parts (on_pipe c (receive l) b.parts) (omega arith)
     (takes_pipe c 1 1 (receive l) b.parts (λ q d. let same : pipe ≡ q = cc in receives 1 l q (least_on q.wire l (rw (← same) w)))) s
 
-pipe_takes : (o : Option Pipe) (p : Processor) (c : ℕ) (b : Board) → slice_get b.parts.pipes c ≡ o → ArePipes b.parts → Takes c 1 PER_EVENT b.parts (step_pipe o p c b).0.parts
-pipe_takes None p c b e s = takes_none c 1 PER_EVENT b.parts
+pipe_takes : (o : Option Pipe) (p : Processor) (c : ℕ) (b : Board) → slice_get b.parts.pipes c ≡ o → ArePipes b.parts → Takes c 1 MOVES b.parts (step_pipe o p c b).0.parts
+pipe_takes None p c b e s = takes_none c 1 MOVES b.parts
 pipe_takes (Some pipe) p c b e s = wire_takes (least_line pipe.wire) p c b pipe e refl s
 
-processor_takes : (o : Option Processor) (c : ℕ) (b : Board) → ArePipes b.parts → Takes c 1 PER_EVENT b.parts (step_processor o c b).0.parts
-processor_takes None c b s = takes_none c 1 PER_EVENT b.parts
-processor_takes (Some p) c b s = either_takes c 1 PER_EVENT b.parts (b, Stopped) _ p.stopped (takes_none c 1 PER_EVENT b.parts) (pipe_takes (slice_get b.parts.pipes c) p c b refl s)
+processor_takes : (o : Option Processor) (c : ℕ) (b : Board) → ArePipes b.parts → Takes c 1 MOVES b.parts (step_processor o c b).0.parts
+processor_takes None c b s = takes_none c 1 MOVES b.parts
+processor_takes (Some p) c b s = either_takes c 1 MOVES b.parts (b, Stopped) _ p.stopped (takes_none c 1 MOVES b.parts) (pipe_takes (slice_get b.parts.pipes c) p c b refl s)
 
-pub step_takes : (c : ℕ) (b : Board) → ArePipes b.parts → Takes c 1 PER_EVENT b.parts (step c b).0.parts
+pub step_takes : (c : ℕ) (b : Board) → ArePipes b.parts → Takes c 1 MOVES b.parts (step c b).0.parts
 unfolding step
 step_takes c b s = processor_takes (slice_get b.parts.processors c) c b s
 
@@ -213,26 +217,29 @@ raised_line (Raise c l) = l
 raised_line (Bell c l) = l
 raised_line _ = 1
 
-single_takes : (c : ℕ) (b : Board) → ArePipes b.parts → Takes c 1 PER_EVENT b.parts (single_step c b).parts
+single_takes : (c : ℕ) (b : Board) → ArePipes b.parts → Takes c 1 MOVES b.parts (single_step c b).parts
 unfolding single_step
 single_takes c b s =
     let freed : Board = on_parts (set_bits false true c) b in
     let first : Takes c 1 0 b.parts freed.parts = bits_take false true c 1 b.parts in
-    takes_then c 1 0 PER_EVENT PER_EVENT b.parts freed.parts _ (omega arith) first
-    (takes_then c 1 PER_EVENT 0 PER_EVENT freed.parts (step c freed).0.parts _ (omega arith)
+    takes_then c 1 0 MOVES MOVES b.parts freed.parts _ (omega arith) first
+    (takes_then c 1 MOVES 0 MOVES freed.parts (step c freed).0.parts _ (omega arith)
     (step_takes c freed (takes_pipes c 1 0 b.parts freed.parts first s)) (bits_take true false c 1 (step c freed).0.parts))
 
-pub row_takes : (event : Event) (b : Board) → board_refusal event b ≡ None → ArePipes b.parts → Takes (actor event) (raised_line event) PER_EVENT b.parts (row event b).0.parts
+pub row_moves : (event : Event) (b : Board) → board_refusal event b ≡ None → ArePipes b.parts → Takes (actor event) (raised_line event) MOVES b.parts (row event b).0.parts
 unfolding row set_breakpoint unset_breakpoint
-row_takes (Step c) b e s = step_takes c b s
-row_takes Tick b e s = takes_more 0 0 1 PER_EVENT b.parts _ (omega arith) (tick_takes 0 b.parts)
-row_takes (Raise c l) b e s = takes_more c l 1 PER_EVENT b.parts _ (omega arith) (takes_raise c c l b.parts (is_line l (passes (Raise c l) b NoSuchLine e)))
-row_takes (Bell c l) b e s = takes_more c l 1 PER_EVENT b.parts _ (omega arith) (takes_raise c c l b.parts (is_line l (passes (Bell c l) b NoSuchLine e)))
-row_takes (Stop c) b e s = takes_more c 1 0 PER_EVENT b.parts _ (omega arith) (stops c 1 b.parts)
-row_takes (Go c) b e s = takes_more c 1 0 PER_EVENT b.parts _ (omega arith) (bits_take false true c 1 b.parts)
-row_takes (StepI c) b e s = single_takes c b s
-row_takes (SetReg c r value) b e s = takes_more c 1 0 PER_EVENT b.parts _ (omega arith) (number_takes (current c b.parts) c 1 _ b.parts)
-row_takes (SetPc c pc) b e s = takes_more c 1 0 PER_EVENT b.parts _ (omega arith) (number_takes (current c b.parts) c 1 _ b.parts)
-row_takes (Poke address bytes) b e s = takes_none 0 1 PER_EVENT b.parts
-row_takes (Break address) b e s = takes_none 0 1 PER_EVENT b.parts
-row_takes (Unbreak address) b e s = takes_none 0 1 PER_EVENT b.parts
+row_moves (Step c) b e s = step_takes c b s
+row_moves Tick b e s = takes_more 0 0 1 MOVES b.parts _ (omega arith) (tick_takes 0 b.parts)
+row_moves (Raise c l) b e s = takes_more c l 1 MOVES b.parts _ (omega arith) (takes_raise c c l b.parts (is_line l (passes (Raise c l) b NoSuchLine e)))
+row_moves (Bell c l) b e s = takes_more c l 1 MOVES b.parts _ (omega arith) (takes_raise c c l b.parts (is_line l (passes (Bell c l) b NoSuchLine e)))
+row_moves (Stop c) b e s = takes_more c 1 0 MOVES b.parts _ (omega arith) (stops c 1 b.parts)
+row_moves (Go c) b e s = takes_more c 1 0 MOVES b.parts _ (omega arith) (bits_take false true c 1 b.parts)
+row_moves (StepI c) b e s = single_takes c b s
+row_moves (SetReg c r value) b e s = takes_more c 1 0 MOVES b.parts _ (omega arith) (number_takes (current c b.parts) c 1 _ b.parts)
+row_moves (SetPc c pc) b e s = takes_more c 1 0 MOVES b.parts _ (omega arith) (number_takes (current c b.parts) c 1 _ b.parts)
+row_moves (Poke address bytes) b e s = takes_none 0 1 MOVES b.parts
+row_moves (Break address) b e s = takes_none 0 1 MOVES b.parts
+row_moves (Unbreak address) b e s = takes_none 0 1 MOVES b.parts
+
+pub row_takes : (event : Event) (b : Board) → board_refusal event b ≡ None → ArePipes b.parts → Takes (actor event) (raised_line event) PER_EVENT b.parts (row event b).0.parts
+row_takes event b e s = takes_more (actor event) (raised_line event) MOVES PER_EVENT b.parts _ (omega arith) (row_moves event b e s)
