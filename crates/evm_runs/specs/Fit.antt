@@ -1,7 +1,7 @@
 -- Counts stay far below 2^64, so that they are plain numbers though they are kept in 64 bits.
-use Rattle.std.specs.Prelude.{◌≡◌, ℕ, ◌*◌, ◌^◌, ◌<◌, ◌≤◌, List, Some, false, slice_get, length, count_by}
+use Rattle.std.specs.Prelude.{◌≡◌, ℕ, ◌*◌, ◌^◌, ◌<◌, ◌≤◌, List, [], Some, false, slice_get, length, count_by}
 use Rattle.evm_lines.specs.declared.TheConstants.{LINES}
-use Rattle.evm_model.specs.Bounds.{PER_EVENT, PipesUpTo}
+use Rattle.evm_model.specs.Bounds.{PER_EVENT, PipesUpTo, HeldUpTo}
 use Rattle.evm_model.specs.Good.{is_tick}
 use Rattle.evm_model.specs.Load.{start_loaded}
 use Rattle.evm_model.specs.Pipes.{Pipe}
@@ -10,7 +10,7 @@ use Rattle.evm_model.specs.State.{State, Board}
 use Rattle.evm_model.specs.declared.boot.Boot.{Boot}
 use Rattle.evm_model.specs.declared.event.Event.{Event}
 
--- the journal is within its capacity; each line of each processor has counts, which are within a fixed number for each event of the journal, so below 2^29; the ticks are the journal's
+-- the journal is within its capacity; each line of each processor has counts, which are within a fixed number for each event of the journal, so below 2^29, and so is how often each mutex is locked; the ticks are the journal's
 pub record CountsFit (s : State) : Type 0 where
   pub journal : length s.journal ≤ s.boot.capacity
   pub small : PER_EVENT * length s.journal < 2 ^ 29
@@ -19,10 +19,12 @@ pub record CountsFit (s : State) : Type 0 where
   pub pipes : length s.board.parts.pipes ≡ s.boot.cpus
   pub lines : (c : ℕ) (p : Pipe) → slice_get s.board.parts.pipes c ≡ Some p → length p.counts ≡ LINES
   pub counts : PipesUpTo (PER_EVENT * length s.journal) s.board.parts.pipes
+  pub holds : HeldUpTo (PER_EVENT * length s.journal) s.board.parts.mutexes
 
--- a board on which nothing was counted yet, whatever its RAM, tasks and processors
+-- a board on which nothing was counted yet and no mutex was made, whatever its RAM, tasks and processors
 pub record IsUncounted (boot : Boot) (board : Board) : Type 0 where
   pub pipes : board.parts.pipes ≡ (start boot).board.parts.pipes
+  pub mutexes : board.parts.mutexes ≡ []
   pub ticks : board.parts.ticks ≡ 0
 
 -- after every list of events
