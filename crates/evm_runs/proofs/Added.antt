@@ -8,7 +8,7 @@ use Rattle.evm_model.specs.State.{Board, Parts, new_task}
 use Rattle.evm_model.specs.declared.limits.TheConstants.{TASK_LIMIT}
 use Rattle.evm_model.specs.declared.task.Task.{Task}
 use Rattle.evm_model.specs.declared.task.TaskState.TheVariants.{InReady, OobReady, Waits}
-use Rattle.evm_model.specs.declared.task.Wait.TheVariants.{Line, Lock}
+use Rattle.evm_model.specs.declared.task.Wait.TheVariants.{Line}
 use Rattle.evm_runs.specs.Changes.{Wakes, Inherits, Stays, Spends, Added}
 use Rattle.evm_runs.specs.Kept.{AllHaveRegisters}
 use Rattle.evm_runs.proofs.Frames.{Frame, Still}
@@ -67,10 +67,7 @@ ready_rests c t cpu stamp y z there (inl w) =
     let two : Some (new_task cpu stamp) ≡ Some w.task = sym there ∙ w.waited in
     let same : new_task cpu stamp ≡ w.task = cc in
     let no : InReady ≡ Waits (Line w.line) = ap (λ (task : Task). task.state) same ∙ w.on in cc
-ready_rests c t cpu stamp y z there (inr i) =
-    let two : Some (new_task cpu stamp) ≡ Some i.task = sym there ∙ i.waited in
-    let same : new_task cpu stamp ≡ i.task = cc in
-    let no : InReady ≡ Waits (Lock i.mutex) = ap (λ (task : Task). task.state) same ∙ i.on in cc
+ready_rests c t cpu stamp y z there (inr i) = let no = i.held in cc
 
 -- the task that was added settles as it was: it does not wait
 pub added_rests : (c : ℕ) (x y z : Parts) → Frame c None y z → Still y z → Added x y → Added x z
@@ -144,11 +141,13 @@ others_pipes c t x y pipes (inr (inl w)) = inr (inl (record { task = w.task; lin
 others_pipes c t x y pipes (inr (inr i)) = inr (inr (record {
   task = i.task;
   mutex = i.mutex;
+  giver = i.giver;
   stamp = i.stamp;
   after = i.after;
   waited = i.waited;
   on = i.on;
-  whose = i.whose;
+  held = i.held;
+  had = i.had;
   there = i.there;
   owns = i.owns;
   once = i.once;

@@ -15,7 +15,7 @@ use Rattle.evm_model.specs.Stages.{refused, is_stalled, is_attached, may_promote
 use Rattle.evm_model.specs.Harts.{A0, A7, argument, advance, answer, spawned_hart}
 use Rattle.evm_model.specs.Settle.{current, is_oob}
 use Rattle.evm_model.specs.State.{Parts, new_task, on_hart}
-use Rattle.evm_model.specs.Tasks.{restamp, demote, set_policy}
+use Rattle.evm_model.specs.Tasks.{restamp, leave_in_band, demote, set_policy}
 use Rattle.evm_model.specs.declared.call.Call.{Call}
 use Rattle.evm_model.specs.declared.call.Call.TheVariants.{Exit, Putc, Yield, Spawn, Stall, Unstall, WaitLine, Attach, Detach, NewMutex, SetLine, SwitchOob, SwitchInBand, SetSched, SetMode, Lock, TryLock, Unlock, YieldOob, StallOob, UnstallOob, Clock, StateBits}
 use Rattle.evm_model.specs.declared.call.Outcome.{Outcome}
@@ -32,7 +32,7 @@ use Rattle.evm_model.proofs.Lists.{change-elsewhere, length-change, slice_get-be
 use Rattle.evm_runs.specs.Changes.{Adds, Added}
 use Rattle.evm_runs.proofs.Acts.{Acts, acts_own, acts_none, either}
 use Rattle.evm_runs.proofs.Added.{added_kept}
-use Rattle.evm_runs.proofs.Frames.{Keeps, frame_then, frame_hart, frame_add, keeps_advance, keeps_answer}
+use Rattle.evm_runs.proofs.Frames.{Keeps, passes_second, frame_then, frame_hart, frame_add, keeps_advance, keeps_answer}
 use Rattle.evm_runs.proofs.Locking.{makes, locks, tries, unlocks}
 use Rattle.evm_runs.proofs.Own.{Own, own_then, own_restamp, own_clear, own_policy, own_mode, own_pipe, own_leave, own_wait, own_promote, own_demote, demote-elsewhere, demote-harts, demote-mutexes}
 use Rattle.evm_runs.proofs.Passing.{own_end}
@@ -63,8 +63,8 @@ puts byte c t k = record {
 }
 
 yields : (c t : ℕ) (k : Parts) → Acts c t k (yield_now c t k).0
-unfolding yield_now
-yields c t k = either c t k (is_stalled InBand c k) _ _ (λ e. acts_none c t k) (λ e. acts_own c t k _ (own_then c t k (restamp t k) _ (own_restamp c t k) (own_leave c t (restamp t k))))
+unfolding yield_now leave_in_band
+yields c t k = either c t k (is_stalled InBand c k) _ _ (λ e. acts_none c t k) (λ e. acts_own c t k _ (own_then c t k (restamp t k) _ refl (own_restamp c t k) (own_leave c t (restamp t k))))
 
 room_for : (k : Parts) → nat_le TASK_LIMIT (length k.tasks) ≡ false → length k.tasks < TASK_LIMIT
 room_for k e = grind (arith, nat_tests)
@@ -294,7 +294,7 @@ answer_added t f x y below p = elim p [
 
 answer_acts : (c t : ℕ) (f : Hart → Hart) (x y : Parts) → Keeps f → t < length x.harts → Acts c t x y → Acts c t x (on_hart t f y)
 answer_acts c t f x y keeps below a = record {
-  frame = frame_then c (Some t) x y _ a.frame (frame_hart c t f y keeps);
+  frame = frame_then c (Some t) x y _ (passes_second (Some t) x.mutexes y.mutexes y.mutexes refl) a.frame (frame_hart c t f y keeps);
   added = answer_added t f x y below a.added;
   made = a.made;
   typed = a.typed;
@@ -310,7 +310,7 @@ demote_acts : (c t : ℕ) (x y : Parts) → is_weak_oob (slice_get y.tasks t) �
 demote_acts c t x y weak a =
     let p : Own c t y (demote c t y) = own_demote c t y in
     record {
-      frame = frame_then c (Some t) x y _ a.frame p.frame;
+      frame = frame_then c (Some t) x y _ (passes_second (Some t) x.mutexes y.mutexes (demote c t y).mutexes (demote-mutexes c t y)) a.frame p.frame;
       added = added_kept x y (demote c t y) p.still.tasks (demote-harts c t y)
           (λ cpu stamp there. demote-elsewhere c t (length x.tasks) y (weak_other t (length x.tasks) cpu stamp y weak there) ∙ there) a.added;
       made = rw (demote-mutexes c t y) a.made;

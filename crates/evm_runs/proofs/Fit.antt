@@ -6,7 +6,7 @@ use Rattle.std.proofs.lemmas.List.{length-replicate}
 use Rattle.std.proofs.lemmas.List.Sums.{count_by-le-length}
 use Rattle.evm_exec.specs.declared.hart.Hart.{Hart}
 use Rattle.evm_lines.specs.declared.TheConstants.{LINES}
-use Rattle.evm_model.specs.Bounds.{PER_EVENT, PipesUpTo, HeldUpTo}
+use Rattle.evm_model.specs.Bounds.{PER_EVENT, PipesUpTo}
 use Rattle.evm_model.specs.Commands.{tick, set_bits, on_number, set_breakpoint, unset_breakpoint}
 use Rattle.evm_model.specs.Good.{is_tick}
 use Rattle.evm_model.specs.Harts.{set_register, set_pc}
@@ -28,7 +28,7 @@ use Rattle.evm_walk.proofs.Moves.{held_more}
 use Rattle.evm_walk.proofs.Rows.{row_takes, actor, raised_line}
 use Rattle.evm_walk.proofs.Runs.{IsKept, replay_keeps}
 use Rattle.evm_walk.proofs.Sets.{ArePipes, takes_pipes}
-use Rattle.evm_runs.specs.Fit.{CountsFit, IsUncounted, CountsAlwaysFit, CountsAlwaysFitLoaded, CountsAlwaysFitFresh}
+use Rattle.evm_runs.specs.Fit.{CountsFit, IsUncounted, CountsAlwaysFit, CountsAlwaysFitLoaded, CountsAlwaysFitFresh, HoldsFit, HoldsAlwaysFit, HoldsAlwaysFitLoaded, HoldsAlwaysFitFresh}
 use Rattle.evm_runs.proofs.Commands.{row-counts}
 use Rattle.evm_runs.proofs.Runs.{idle_balances, count_last}
 use Rattle.evm_runs.proofs.Steps.{step_done}
@@ -61,7 +61,6 @@ record RunFits (boot : Boot) (s : State) : Type 0 where
   count : length s.board.parts.pipes ≡ boot.cpus
   pipes : ArePipes s.board.parts
   counts : PipesUpTo (PER_EVENT * length s.journal) s.board.parts.pipes
-  holds : HeldUpTo (PER_EVENT * length s.journal) s.board.parts.mutexes
 
 fits_kept : (boot : Boot) → IsKept (RunFits boot)
 fits_kept boot = record {
@@ -78,8 +77,6 @@ fits_kept boot = record {
         pipes = takes_pipes (actor event) (raised_line event) PER_EVENT s.board.parts _ t h.pipes;
         counts = PipesUpTo-more (PER_EVENT * length s.journal + PER_EVENT) (PER_EVENT * length (s.journal ++ event ∷ [])) _ (omega arith)
             (takes_counted (actor event) (raised_line event) PER_EVENT (PER_EVENT * length s.journal) s.board.parts _ t h.counts);
-        holds = held_more (PER_EVENT * length s.journal + PER_EVENT) (PER_EVENT * length (s.journal ++ event ∷ [])) _ (omega arith)
-            (row_holds event s.board (PER_EVENT * length s.journal) e h.pipes h.holds);
       };
 }
 
@@ -106,7 +103,6 @@ start_fits boot board u = record {
   count = ap length u.pipes ∙ length-replicate boot.cpus idle_pipe;
   pipes = record { each = λ c p e. let there : slice_get (replicate boot.cpus idle_pipe) c ≡ Some p = rw u.pipes at e in rw (slice_get-replicate boot.cpus idle_pipe c p there) idle_balances.pipe };
   counts = rw u.pipes (idle_up boot.cpus _);
-  holds = rw u.mutexes (record { count = λ m mutex e. cc });
 }
 
 last : (a b c : Bool) → (if a then true else (if b then true else c)) ≡ false → c ≡ false
@@ -133,7 +129,6 @@ run_fits boot s good h =
       pipes = rw h.boot_kept h.count;
       lines = λ c p e. (h.pipes.each c p e).counts;
       counts = h.counts;
-      holds = h.holds;
     }
 
 pub counts_always_fit_fresh : CountsAlwaysFitFresh
@@ -142,8 +137,38 @@ counts_always_fit_fresh boot board good u events =
 
 pub counts_always_fit : CountsAlwaysFit
 unfolding booted booted_parts
-counts_always_fit boot good = counts_always_fit_fresh boot (start boot).board good (record { pipes = refl; mutexes = refl; ticks = refl })
+counts_always_fit boot good = counts_always_fit_fresh boot (start boot).board good (record { pipes = refl; ticks = refl })
 
 pub counts_always_fit_loaded : CountsAlwaysFitLoaded
 unfolding booted booted_parts load
-counts_always_fit_loaded byte entry boot good = counts_always_fit_fresh boot (start_loaded byte entry boot).board good (record { pipes = refl; mutexes = refl; ticks = refl })
+counts_always_fit_loaded byte entry boot good = counts_always_fit_fresh boot (start_loaded byte entry boot).board good (record { pipes = refl; ticks = refl })
+
+-- ---- how often mutexes are locked
+record RunHolds (s : State) : Type 0 where
+  pipes : ArePipes s.board.parts
+  holds : HoldsFit s
+
+holds_kept : IsKept RunHolds
+holds_kept = record {
+  accepted = λ s event room e h.
+      let grown : length (s.journal ++ event ∷ []) ≡ length s.journal + 1 = length-append s.journal (event ∷ []) in
+      record {
+        pipes = takes_pipes (actor event) (raised_line event) PER_EVENT s.board.parts _ (row_takes event s.board e h.pipes) h.pipes;
+        holds = held_more (PER_EVENT * length s.journal + PER_EVENT) (PER_EVENT * length (s.journal ++ event ∷ [])) _ (omega arith)
+            (row_holds event s.board (PER_EVENT * length s.journal) e h.pipes h.holds);
+      };
+}
+
+pub holds_always_fit_fresh : HoldsAlwaysFitFresh
+holds_always_fit_fresh boot board u none events =
+    let first : State = record (start boot) { board = board } in
+    let begins : RunHolds first = record { pipes = (start_fits boot board u).pipes; holds = rw none (record { count = λ m mutex e. cc }) } in
+    (replay_keeps RunHolds first events holds_kept begins).holds
+
+pub holds_always_fit : HoldsAlwaysFit
+unfolding booted booted_parts
+holds_always_fit boot = holds_always_fit_fresh boot (start boot).board (record { pipes = refl; ticks = refl }) refl
+
+pub holds_always_fit_loaded : HoldsAlwaysFitLoaded
+unfolding booted booted_parts load
+holds_always_fit_loaded byte entry boot = holds_always_fit_fresh boot (start_loaded byte entry boot).board (record { pipes = refl; ticks = refl }) refl

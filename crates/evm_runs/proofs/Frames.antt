@@ -131,11 +131,13 @@ inherits_then : (o : Option ℕ) (t : ℕ) (x y z : Parts) → (o ≡ Some t →
 inherits_then o t x y z h i s r = record {
   task = i.task;
   mutex = i.mutex;
+  giver = i.giver;
   stamp = i.stamp;
   after = i.after;
   waited = i.waited;
   on = i.on;
-  whose = i.whose;
+  held = i.held;
+  had = i.had;
   there = stays_owned o t i.mutex y.mutexes z.mutexes i.after h i.owns i.there s;
   owns = i.owns;
   once = i.once;
@@ -162,30 +164,43 @@ rests_back c t x y z back s r w = elim (back w.task w.waited) [
   }
 ]
 
--- whose a mutex is now, whose it was
-was_whose : (o : Option ℕ) (m : ℕ) (old new : List Mutex) (found : Option Mutex) → slice_get old m ≡ found → MutexesStay o old new → (owner new m ≡ None) ⊎ (owner new m ≡ o)
-    → (owner_of found ≡ None) ⊎ (owner_of found ≡ o)
-was_whose o m old new None e s w = inl refl
-was_whose o m old new (Some before) e s w = elim (s m before e) [
-  | inl same ↦ let its : owner new m ≡ before.owner = ap owner_of same in elim w [
-    | inl none ↦ inl (sym its ∙ none)
-    | inr held ↦ inr (sym its ∙ held)
-  ]
-  | inr g ↦ g.whose
+-- the second passes on none that the first took
+abbrev pub PassesOld : Option ℕ → List Mutex → List Mutex → List Mutex → Type 0
+PassesOld o x y z = (m u : ℕ) → o ≡ Some u → owner y m ≡ Some u → (owner x m ≡ Some u) ⊎ (slice_get z m ≡ slice_get y m)
+
+pub passes_first : (o : Option ℕ) (x y z : List Mutex) → y ≡ x → PassesOld o x y z
+passes_first o x y z same m u h e = inl (ap (λ (all : List Mutex). owner all m) (sym same) ∙ e)
+
+pub passes_second : (o : Option ℕ) (x y z : List Mutex) → z ≡ y → PassesOld o x y z
+passes_second o x y z same m u h e = inr (ap (λ (all : List Mutex). slice_get all m) same)
+
+pub passes_none : (x y z : List Mutex) → PassesOld None x y z
+passes_none x y z m u h e = cc
+
+-- so it was its before
+had_before : (o : Option ℕ) (t : ℕ) (x y z : Parts) (i : Inherits o t y z) → (o ≡ Some t → ⊥) → PassesOld o x.mutexes y.mutexes z.mutexes → owner x.mutexes i.mutex ≡ Some i.giver
+had_before o t x y z i other g = elim (g i.mutex i.giver i.held i.had) [
+  | inl had ↦ had
+  | inr same ↦
+      let its : owner z.mutexes i.mutex ≡ Some t = ap owner_of i.there ∙ i.owns in
+      let two : Some t ≡ Some i.giver = sym its ∙ ap owner_of same ∙ i.had in
+      absurd (other (i.held ∙ sym two))
 ]
 
 inherits_back : (o : Option ℕ) (t : ℕ) (x y z : Parts) → ((task : Task) → slice_get y.tasks t ≡ Some task → (is_ready task.state ≡ true) ⊎ (slice_get x.tasks t ≡ Some task)) → x.stamps ≤ y.stamps
-    → MutexesStay o x.mutexes y.mutexes → Rests t x y → Inherits o t y z → Inherits o t x z
-inherits_back o t x y z back s m r i = elim (back i.task i.waited) [
+    → (o ≡ Some t → ⊥) → PassesOld o x.mutexes y.mutexes z.mutexes → Rests t x y → Inherits o t y z → Inherits o t x z
+inherits_back o t x y z back s other g r i = elim (back i.task i.waited) [
   | inl ready ↦ let no : true ≡ false = sym ready ∙ ap is_ready i.on in cc
   | inr there ↦ record {
     task = i.task;
     mutex = i.mutex;
+    giver = i.giver;
     stamp = i.stamp;
     after = i.after;
     waited = there;
     on = i.on;
-    whose = was_whose o i.mutex x.mutexes y.mutexes (slice_get x.mutexes i.mutex) refl m i.whose;
+    held = i.held;
+    had = had_before o t x y z i other g;
     there = i.there;
     owns = i.owns;
     once = i.once;
@@ -203,13 +218,13 @@ record Between (o : Option ℕ) (t : ℕ) (x y z : Parts) : Type 0 where
   back : (task : Task) → slice_get y.tasks t ≡ Some task → (is_ready task.state ≡ true) ⊎ (slice_get x.tasks t ≡ Some task)
   other : o ≡ Some t → ⊥
   stamps : x.stamps ≤ y.stamps
-  first : MutexesStay o x.mutexes y.mutexes
+  old : PassesOld o x.mutexes y.mutexes z.mutexes
   second : MutexesStay o y.mutexes z.mutexes
 
 others_then : (o : Option ℕ) (c t : ℕ) (x y z : Parts) → Between o t x y z → StaysBy o c t x y → StaysBy o c t y z → StaysBy o c t x z
 others_then o c t x y z b (inl r) (inl r2) = inl (rests_then t x y z r r2)
 others_then o c t x y z b (inl r) (inr (inl w)) = inr (inl (rests_back c t x y z b.back b.stamps r w))
-others_then o c t x y z b (inl r) (inr (inr i)) = inr (inr (inherits_back o t x y z b.back b.stamps b.first r i))
+others_then o c t x y z b (inl r) (inr (inr i)) = inr (inr (inherits_back o t x y z b.back b.stamps b.other b.old r i))
 others_then o c t x y z b (inr (inl w)) (inl r) = inr (inl (wakes_then c t x y z w r))
 others_then o c t x y z b (inr (inl w)) (inr (inl w2)) = absurd (woken_once t y (woke c t x y w) (woke_from c t y z w2))
 others_then o c t x y z b (inr (inl w)) (inr (inr i)) = absurd (woken_once t y (woke c t x y w) (inherited_from o t y z i))
@@ -238,13 +253,13 @@ mutexes_then o x y z p q m before e = elim (p m before e) [
   ]
 ]
 
-pub frame_then : (c : ℕ) (o : Option ℕ) (x y z : Parts) → Frame c o x y → Frame c o y z → Frame c o x z
-frame_then c o x y z p q = record {
+pub frame_then : (c : ℕ) (o : Option ℕ) (x y z : Parts) → PassesOld o x.mutexes y.mutexes z.mutexes → Frame c o x y → Frame c o y z → Frame c o x z
+frame_then c o x y z g p q = record {
   ticks = q.ticks ∙ p.ticks;
   stamps = omega (arith, p.stamps, q.stamps);
   processors = λ d h. q.processors d h ∙ p.processors d h;
   pipes = λ d h. q.pipes d h ∙ p.pipes d h;
-  others = λ t h. others_then o c t x y z (record { back = λ task e. p.back t task h e; other = h; stamps = p.stamps; first = p.mutexes; second = q.mutexes }) (p.others t h) (q.others t h);
+  others = λ t h. others_then o c t x y z (record { back = λ task e. p.back t task h e; other = h; stamps = p.stamps; old = g; second = q.mutexes }) (p.others t h) (q.others t h);
   back = λ t task h e. elim (q.back t task h e) [
     | inl ready ↦ inl ready
     | inr there ↦ p.back t task h there
@@ -267,21 +282,7 @@ whose_wider o found (inr none) = inl none
 others_wider : (o : Option ℕ) (c t : ℕ) (x y : Parts) → StaysBy None c t x y → StaysBy o c t x y
 others_wider o c t x y (inl r) = inl r
 others_wider o c t x y (inr (inl w)) = inr (inl w)
-others_wider o c t x y (inr (inr i)) = inr (inr (record {
-  task = i.task;
-  mutex = i.mutex;
-  stamp = i.stamp;
-  after = i.after;
-  waited = i.waited;
-  on = i.on;
-  whose = whose_wider o (owner x.mutexes i.mutex) i.whose;
-  there = i.there;
-  owns = i.owns;
-  once = i.once;
-  fresh = i.fresh;
-  wakes = i.wakes;
-  hart = i.hart;
-}))
+others_wider o c t x y (inr (inr i)) = let no = i.held in cc
 
 mutexes_wider : (o : Option ℕ) (x y : List Mutex) → MutexesStay None x y → MutexesStay o x y
 mutexes_wider o x y s m before e = elim (s m before e) [

@@ -9,7 +9,7 @@ use Rattle.evm_model.specs.Mutexes.{free_mutex, owner_of, held_by, waits_on}
 use Rattle.evm_model.specs.Passing.{pass_on}
 use Rattle.evm_model.specs.Stages.{is_stalled}
 use Rattle.evm_model.specs.State.{Parts, on_mutex}
-use Rattle.evm_model.specs.Tasks.{set_state}
+use Rattle.evm_model.specs.Tasks.{restamp, set_state}
 use Rattle.evm_model.specs.declared.limits.TheConstants.{MUTEX_LIMIT, TASK_LIMIT}
 use Rattle.evm_model.specs.declared.mutex.Mutex.{Mutex}
 use Rattle.evm_model.specs.declared.stage.Stage.TheVariants.{OutOfBand}
@@ -93,10 +93,10 @@ locks_again c t m mutex k e its =
     either c t k mutex.recursive _ _ (λ recursive. acts_own c t k _ (holds c t m (mutex.count + 1) mutex k e its)) (λ once. acts_none c t k)
 
 waits_for : (c t m : ℕ) (k : Parts) → Own c t k (wait_for t m k)
-unfolding wait_for
+unfolding wait_for restamp
 waits_for c t m k =
     let waiting : Parts = set_state t (Waiting (Lock m)) k in
-    own_then c t k waiting _ (own_state c t (Waiting (Lock m)) k) (own_restamp c t waiting)
+    own_then c t k waiting _ refl (own_state c t (Waiting (Lock m)) k) (own_restamp c t waiting)
 
 locks_other : (c t m u deadline : ℕ) (k : Parts) → Acts c t k (lock_other c t m u deadline k).0
 unfolding lock_other

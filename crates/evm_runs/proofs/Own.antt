@@ -14,7 +14,7 @@ use Rattle.evm_model.specs.declared.task.Task.{Task}
 use Rattle.evm_model.specs.declared.task.TaskState.{TaskState}
 use Rattle.evm_model.specs.declared.task.TaskState.TheVariants.{InReady, OobReady}
 use Rattle.evm_model.proofs.Lists.{change-here, change-elsewhere}
-use Rattle.evm_runs.proofs.Frames.{Frame, Keeps, Still, frame_none, frame_then, frame_hart, frame_task, frame_restamp, frame_processor, frame_pipe, frame_mutex, still_none, still_then, still_hart, still_task, still_restamp, still_processor, still_pipe, still_mutex}
+use Rattle.evm_runs.proofs.Frames.{Frame, Keeps, Still, PassesOld, passes_second, frame_none, frame_then, frame_hart, frame_task, frame_restamp, frame_processor, frame_pipe, frame_mutex, still_none, still_then, still_hart, still_task, still_restamp, still_processor, still_pipe, still_mutex}
 
 pub record Own (c t : ℕ) (old new : Parts) : Type 0 where
   pub frame : Frame c (Some t) old new
@@ -24,12 +24,17 @@ pub record Own (c t : ℕ) (old new : Parts) : Type 0 where
 pub own_none : (c t : ℕ) (k : Parts) → Own c t k k
 own_none c t k = record { frame = frame_none c (Some t) k; still = still_none k; runs = refl }
 
-pub own_then : (c t : ℕ) (x y z : Parts) → Own c t x y → Own c t y z → Own c t x z
-own_then c t x y z p q = record {
-  frame = frame_then c (Some t) x y z p.frame q.frame;
+-- .. where the second passes on none that the first took
+pub own_passes : (c t : ℕ) (x y z : Parts) → PassesOld (Some t) x.mutexes y.mutexes z.mutexes → Own c t x y → Own c t y z → Own c t x z
+own_passes c t x y z g p q = record {
+  frame = frame_then c (Some t) x y z g p.frame q.frame;
   still = still_then x y z p.still q.still;
   runs = q.runs ∙ p.runs;
 }
+
+-- .. where the second changes no mutex
+pub own_then : (c t : ℕ) (x y z : Parts) → z.mutexes ≡ y.mutexes → Own c t x y → Own c t y z → Own c t x z
+own_then c t x y z same p q = own_passes c t x y z (passes_second (Some t) x.mutexes y.mutexes z.mutexes same) p q
 
 pub own_hart : (c t : ℕ) (f : Hart → Hart) (k : Parts) → Keeps f → Own c t k (on_hart t f k)
 own_hart c t f k g = record { frame = frame_hart c t f k g; still = still_hart t f k; runs = refl }
@@ -82,20 +87,21 @@ unfolding leave_in_band
 own_leave c t k = own_processor c t _ k (λ p. refl)
 
 pub own_wait : (c t : ℕ) (state : TaskState) (k : Parts) → Own c t k (leave_in_band c (restamp t (set_state t state k)))
+unfolding leave_in_band restamp set_state
 own_wait c t state k =
     let next : Parts = set_state t state k in
-    own_then c t k next _ (own_state c t state k) (own_then c t next (restamp t next) _ (own_restamp c t next) (own_leave c t (restamp t next)))
+    own_then c t k next _ refl (own_state c t state k) (own_then c t next (restamp t next) _ refl (own_restamp c t next) (own_leave c t (restamp t next)))
 
 pub own_promote : (c t : ℕ) (k : Parts) → Own c t k (promote c t k)
 unfolding promote
 own_promote c t k = own_wait c t OobReady k
 
 pub own_demote : (c t : ℕ) (k : Parts) → Own c t k (demote c t k)
-unfolding demote
+unfolding demote restamp set_state
 own_demote c t k =
     let freed : Parts = on_pipe c (set_stall OutOfBand false) k in
     let ready : Parts = set_state t InReady freed in
-    own_then c t k freed _ (own_pipe c t _ k) (own_then c t freed ready _ (own_state c t InReady freed) (own_restamp c t ready))
+    own_then c t k freed _ refl (own_pipe c t _ k) (own_then c t freed ready _ refl (own_state c t InReady freed) (own_restamp c t ready))
 
 -- a demoted task is no other
 pub demote-elsewhere : (c t u : ℕ) (k : Parts) → (u ≡ t → ⊥) → slice_get (demote c t k).tasks u ≡ slice_get k.tasks u

@@ -1,5 +1,5 @@
 -- What it leaves alone that a mutex passes on, and that a task ends.
-use Rattle.std.proofs.Common.{◌≡◌, ℕ, zero, suc, Bool, true, false, Option, Some, None, length, ◌⊎◌, inl, inr, refl, ap, sym, ◌∙◌, arith}
+use Rattle.std.proofs.Common.{◌≡◌, ℕ, zero, suc, ◌≤◌, Bool, true, false, Option, Some, None, length, ◌⊎◌, inl, inr, refl, ap, sym, ◌∙◌, arith}
 use Rattle.std.specs.Prelude.{slice_get, option_map, ◌==◌, if◌then◌else◌}
 use Rattle.std.proofs.lemmas.Bool.{cases_eq}
 use Rattle.std.proofs.lemmas.Bool.Decides.{eqb_tells}
@@ -23,8 +23,8 @@ use Rattle.evm_model.specs.declared.task.Wait.TheVariants.{Lock}
 use Rattle.evm_model.proofs.Lists.{change-here, change-elsewhere}
 use Rattle.evm_runs.specs.Changes.{Rests, Inherits}
 use Rattle.evm_runs.proofs.First.{always_finds_first}
-use Rattle.evm_runs.proofs.Frames.{Frame, Still, frame_mutex, keeps_register, change-registers, still_then, still_hart, still_state, still_restamp, still_mutex}
-use Rattle.evm_runs.proofs.Own.{Own, own_none, own_then, own_pipe, own_leave, own_state, own_mutex}
+use Rattle.evm_runs.proofs.Frames.{Frame, Still, PassesOld, frame_mutex, keeps_register, change-registers, still_then, still_hart, still_state, still_restamp, still_mutex}
+use Rattle.evm_runs.proofs.Own.{Own, own_none, own_passes, own_then, own_pipe, own_leave, own_state, own_mutex}
 
 -- ---- the first waiter
 pub record Waiter (t m : ℕ) (k : Parts) : Type 0 where
@@ -74,11 +74,13 @@ inherits_here t u m k w h =
     record {
       task = w.task;
       mutex = m;
+      giver = t;
       stamp = k.stamps;
       after = held_by u 1 h.mutex;
       waited = w.there;
       on = w.on;
-      whose = inr (ap owner_of h.there ∙ h.its);
+      held = refl;
+      had = ap owner_of h.there ∙ h.its;
       there = change-here (held_by u 1) k.mutexes m ∙ ap (option_map (held_by u 1)) h.there;
       owns = refl;
       once = refl;
@@ -161,18 +163,44 @@ pass_when : (b : Bool) (c t m : ℕ) (k : Parts) → is_number (owner k.mutexes 
 pass_when true c t m k e = own_pass c t m k (boosts-is (owner k.mutexes m) t e)
 pass_when false c t m k e = own_none c t k
 
+-- another mutex
+passes_elsewhere : (o : Option ℕ) (m i : ℕ) (k : Parts) → (i ≡ m → ⊥) → slice_get (pass_to o m k).mutexes i ≡ slice_get k.mutexes i
+unfolding wake_oob restamp set_state
+passes_elsewhere None m i k other = change-elsewhere freed k.mutexes m i other
+passes_elsewhere (Some u) m i k other = change-elsewhere (held_by u 1) k.mutexes m i other
+
+pass_elsewhere : (b : Bool) (m i : ℕ) (k : Parts) → (i ≡ m → ⊥) → slice_get (if b then pass_on m k else k).mutexes i ≡ slice_get k.mutexes i
+unfolding pass_on
+pass_elsewhere true m i k other = passes_elsewhere (first_waiter m k) m i k other
+pass_elsewhere false m i k other = refl
+
+-- the mutexes from a number on
+untouched : (t n i : ℕ) (k : Parts) → n ≤ i → slice_get (pass_below t n k).mutexes i ≡ slice_get k.mutexes i
+unfolding pass_below
+untouched t zero i k h = refl
+untouched t (suc m) i k h =
+    let before : Parts = pass_below t m k in
+    pass_elsewhere (is_number (owner before.mutexes m) t) m i before (λ same. omega arith) ∙ untouched t m i k (omega arith)
+
+each_once : (t m : ℕ) (k : Parts) (b : Bool) → PassesOld (Some t) k.mutexes (pass_below t m k).mutexes (if b then pass_on m (pass_below t m k) else pass_below t m k).mutexes
+each_once t m k b i u h e = elim (cases_eq i m) [
+  | inl same ↦ inl (ap owner_of (sym (untouched t m i k (omega (arith, same)))) ∙ e)
+  | inr other ↦ inr (pass_elsewhere b m i (pass_below t m k) other)
+]
+
 own_below : (c t n : ℕ) (k : Parts) → Own c t k (pass_below t n k)
 unfolding pass_below
 own_below c t zero k = own_none c t k
 own_below c t (suc m) k =
     let before : Parts = pass_below t m k in
-    own_then c t k before _ (own_below c t m k) (pass_when (is_number (owner before.mutexes m) t) c t m before refl)
+    let b : Bool = is_number (owner before.mutexes m) t in
+    own_passes c t k before _ (each_once t m k b) (own_below c t m k) (pass_when b c t m before refl)
 
 pub own_end : (c t : ℕ) (state : TaskState) (k : Parts) → Own c t k (end_task c t state k)
-unfolding end_task
+unfolding end_task leave_in_band set_state
 own_end c t state k =
     let passed : Parts = pass_below t (length k.mutexes) k in
     let freed : Parts = on_pipe c (set_stall InBand false) passed in
     let left : Parts = leave_in_band c freed in
-    own_then c t k passed _ (own_below c t (length k.mutexes) k)
-    (own_then c t passed freed _ (own_pipe c t _ passed) (own_then c t freed left _ (own_leave c t freed) (own_state c t state left)))
+    own_then c t k passed _ refl (own_below c t (length k.mutexes) k)
+    (own_then c t passed freed _ refl (own_pipe c t _ passed) (own_then c t freed left _ refl (own_leave c t freed) (own_state c t state left)))

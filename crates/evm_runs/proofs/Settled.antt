@@ -2,17 +2,15 @@
 use Rattle.std.proofs.Common.{◌≡◌, ℕ, ◌≤◌, List, [], ◌∷◌, Bool, true, false, Option, Some, None, length, ◌⊎◌, inl, inr, ap, sym, refl, ◌∙◌, arith}
 use Rattle.std.specs.Prelude.{slice_get, if◌then◌else◌}
 use Rattle.evm_exec.specs.declared.hart.Hart.{Hart}
-use Rattle.evm_model.specs.Mutexes.{owner}
 use Rattle.evm_model.specs.Pipes.{Pipe, play}
 use Rattle.evm_model.specs.Settle.{current, is_oob, play_in_band, play_oob_lines, play_in_band_lines, settle_oob_pipe, settle_oob, play_in_band_pipe, turn_in_band, settle_in_band, settle}
 use Rattle.evm_model.specs.State.{Parts, on_pipe}
-use Rattle.evm_model.specs.declared.mutex.Mutex.{Mutex}
 use Rattle.evm_model.specs.declared.stage.Stage.TheVariants.{InBand}
 use Rattle.evm_model.specs.declared.task.Task.{Task}
 use Rattle.evm_model.specs.declared.task.TaskState.TheVariants.{OobReady, Waits}
-use Rattle.evm_model.specs.declared.task.Wait.TheVariants.{Line, Lock}
+use Rattle.evm_model.specs.declared.task.Wait.TheVariants.{Line}
 use Rattle.evm_runs.specs.Changes.{StaysBy, Stays, Spends}
-use Rattle.evm_runs.proofs.Frames.{Frame, Still, frame_none, frame_then, frame_if, frame_processor, frame_pipe, still_none, still_then, still_if, still_processor, still_pipe}
+use Rattle.evm_runs.proofs.Frames.{Frame, Still, passes_none, frame_none, frame_then, frame_if, frame_processor, frame_pipe, still_none, still_then, still_if, still_processor, still_pipe}
 use Rattle.evm_runs.proofs.Spending.{Spent, spent_none, spent_lines}
 use Rattle.evm_runs.proofs.Wakings.{frame_wakes, still_wakes, wakes_mutexes}
 
@@ -26,7 +24,7 @@ turns_none : (c : ℕ) (k : Parts) → Turns c k k
 turns_none c k = record { frame = frame_none c None k; still = still_none k; mutexes = refl }
 
 turns_then : (c : ℕ) (x y z : Parts) → Turns c x y → Turns c y z → Turns c x z
-turns_then c x y z p q = record { frame = frame_then c None x y z p.frame q.frame; still = still_then x y z p.still q.still; mutexes = q.mutexes ∙ p.mutexes }
+turns_then c x y z p q = record { frame = frame_then c None x y z (passes_none x.mutexes y.mutexes z.mutexes) p.frame q.frame; still = still_then x y z p.still q.still; mutexes = q.mutexes ∙ p.mutexes }
 
 plays : (c l : ℕ) (k : Parts) → Turns c k (play_in_band c l k)
 unfolding play_in_band
@@ -101,7 +99,7 @@ settles c k =
     record {
       between = first.between;
       spent = first.spent;
-      frame = frame_then c None first.between (settle_oob c k) _ first.frame turned.frame;
+      frame = frame_then c None first.between (settle_oob c k) _ (passes_none first.between.mutexes (settle_oob c k).mutexes _) first.frame turned.frame;
       still = still_then first.between (settle_oob c k) _ first.still turned.still;
       mutexes = turned.mutexes ∙ first.mutexes;
     }
@@ -115,14 +113,10 @@ pub record Same (c : ℕ) (old new : Parts) : Type 0 where
   pub stamps : old.stamps ≤ new.stamps
   pub runs : current c new ≡ current c old
 
-nobody : (o : Option ℕ) → (o ≡ None) ⊎ (o ≡ None) → o ≡ None
-nobody o (inl none) = none
-nobody o (inr none) = none
-
 -- one of whose tasks is as before
-stays_same : (c t : ℕ) (x y z : Parts) → slice_get y.tasks t ≡ slice_get x.tasks t → y.harts ≡ x.harts → y.mutexes ≡ x.mutexes → x.stamps ≤ y.stamps → StaysBy None c t y z → Stays c t x z
-stays_same c t x y z same harts mutexes s (inl r) = inl (record { task = λ task e. r.task task (same ∙ e); hart = λ hart e. r.hart hart (ap (λ (all : List Hart). slice_get all t) harts ∙ e) })
-stays_same c t x y z same harts mutexes s (inr (inl w)) = inr (inl (record {
+stays_same : (c t : ℕ) (x y z : Parts) → slice_get y.tasks t ≡ slice_get x.tasks t → y.harts ≡ x.harts → x.stamps ≤ y.stamps → StaysBy None c t y z → Stays c t x z
+stays_same c t x y z same harts s (inl r) = inl (record { task = λ task e. r.task task (same ∙ e); hart = λ hart e. r.hart hart (ap (λ (all : List Hart). slice_get all t) harts ∙ e) })
+stays_same c t x y z same harts s (inr (inl w)) = inr (inl (record {
   task = w.task;
   line = w.line;
   stamp = w.stamp;
@@ -133,21 +127,7 @@ stays_same c t x y z same harts mutexes s (inr (inl w)) = inr (inl (record {
   wakes = w.wakes;
   hart = λ hart e. w.hart hart (ap (λ (all : List Hart). slice_get all t) harts ∙ e);
 }))
-stays_same c t x y z same harts mutexes s (inr (inr i)) = inr (inr (record {
-  task = i.task;
-  mutex = i.mutex;
-  stamp = i.stamp;
-  after = i.after;
-  waited = sym same ∙ i.waited;
-  on = i.on;
-  whose = inl (ap (λ (all : List Mutex). owner all i.mutex) (sym mutexes) ∙ nobody (owner y.mutexes i.mutex) i.whose);
-  there = i.there;
-  owns = i.owns;
-  once = i.once;
-  fresh = omega (arith, s, i.fresh);
-  wakes = i.wakes;
-  hart = λ hart e. i.hart hart (ap (λ (all : List Hart). slice_get all t) harts ∙ e);
-}))
+stays_same c t x y z same harts s (inr (inr i)) = let no = i.held in cc
 
 -- a task that has spent its slice doesn't wait
 spends_stays : (c t : ℕ) (x y z : Parts) → Spends c t x y → StaysBy None c t y z → Spends c t x z
@@ -163,10 +143,7 @@ spends_stays c t x y z q (inl r) = record {
   spends = r.task (record q.task { slice = q.slice; stamp = q.stamp }) q.spends;
   hart = λ hart e. r.hart hart (q.hart hart e);
 }
-spends_stays c t x y z q (inr (inr i)) =
-    let two : Some (record q.task { slice = q.slice; stamp = q.stamp }) ≡ Some i.task = sym q.spends ∙ i.waited in
-    let same : record q.task { slice = q.slice; stamp = q.stamp } ≡ i.task = cc in
-    let no : OobReady ≡ Waits (Lock i.mutex) = sym q.on ∙ ap (λ (task : Task). task.state) same ∙ i.on in cc
+spends_stays c t x y z q (inr (inr i)) = let no = i.held in cc
 spends_stays c t x y z q (inr (inl w)) =
     let two : Some (record q.task { slice = q.slice; stamp = q.stamp }) ≡ Some w.task = sym q.spends ∙ w.waited in
     let same : record q.task { slice = q.slice; stamp = q.stamp } ≡ w.task = cc in
@@ -191,6 +168,6 @@ spends_same c t x y z s q = record {
 
 pub own_settles : (c t : ℕ) (old k new : Parts) → Same c old k → Settles c k new → Stays c t old new ⊎ Spends c t old new
 own_settles c t old k new s z = elim (z.spent.tasks t) [
-  | inl same ↦ inl (stays_same c t old z.between new (same ∙ ap (λ (all : List Task). slice_get all t) s.tasks) (z.spent.harts ∙ s.harts) (z.spent.mutexes ∙ s.mutexes) (omega (arith, s.stamps, z.spent.stamps)) (z.frame.others t (λ e. cc)))
+  | inl same ↦ inl (stays_same c t old z.between new (same ∙ ap (λ (all : List Task). slice_get all t) s.tasks) (z.spent.harts ∙ s.harts) (omega (arith, s.stamps, z.spent.stamps)) (z.frame.others t (λ e. cc)))
   | inr q ↦ inr (spends_same c t old k new s (spends_stays c t k z.between new q (z.frame.others t (λ e. cc))))
 ]

@@ -37,7 +37,7 @@ use Rattle.evm_runs.specs.Changes.{StoreWrites, Stays, Spends, Schedules, Hears,
 use Rattle.evm_runs.proofs.Added.{SameCounts, more_tasks, more_harts, few_more, each_more, added_rests, added_spent, passes_added, others_pipes, spends_pipes, added_pipes}
 use Rattle.evm_runs.proofs.Acts.{Acts, acts_own}
 use Rattle.evm_runs.proofs.Calling.{Asked, Called, calls}
-use Rattle.evm_runs.proofs.Frames.{Frame, Keeps, one_change, frame_none, frame_then, frame_wider, frame_processor, frame_pipe, keeps_advance, keeps_register_pc, keeps_answer}
+use Rattle.evm_runs.proofs.Frames.{Frame, Keeps, passes_first, passes_second, one_change, frame_none, frame_then, frame_wider, frame_processor, frame_pipe, keeps_advance, keeps_register_pc, keeps_answer}
 use Rattle.evm_runs.proofs.Own.{own_then, own_hart, own_processor, own_demote}
 use Rattle.evm_runs.proofs.Passing.{own_end}
 use Rattle.evm_runs.proofs.Settled.{Settles, Same, settles, own_settles}
@@ -112,7 +112,7 @@ effects Call c t b = calls_done c t (call (length b.memory.ram) c t b.parts) b (
 effects Break c t b =
     let went : Parts = on_hart t advance b.parts in
     parts_only _ c t _ b
-    (acts_own c t b.parts _ (own_then c t b.parts went _ (own_hart c t advance b.parts keeps_advance) (own_processor c t _ went (λ p. refl))))
+    (acts_own c t b.parts _ (own_then c t b.parts went _ refl (own_hart c t advance b.parts keeps_advance) (own_processor c t _ went (λ p. refl))))
 effects Misaligned c t b = parts_only _ c t _ b (faults c t _ b.parts)
 
 -- the word at the pc has written memory
@@ -312,7 +312,8 @@ settled_step c old new h =
     nudged_step c old (on_parts (settle c) new) (record {
       asked = h.asked;
       scheduled = h.scheduled;
-      frame = frame_then c o asked k (settle c k) h.frame (frame_then c o k s.between (settle c k) (frame_spent c o k s.between h.runs s.spent) (frame_wider c o s.between (settle c k) s.frame));
+      frame = frame_then c o asked k (settle c k) (passes_second o old.parts.mutexes k.mutexes (settle c k).mutexes (s.mutexes ∙ s.spent.mutexes)) h.frame
+          (frame_then c o k s.between (settle c k) (passes_second o k.mutexes s.between.mutexes (settle c k).mutexes s.mutexes) (frame_spent c o k s.between h.runs s.spent) (frame_wider c o s.between (settle c k) s.frame));
       added = added_rests c old.parts s.between (settle c k) s.frame s.still (added_spent c old.parts k s.between s.spent h.added);
       made = rw (s.mutexes ∙ s.spent.mutexes) h.made;
       typed = elim h.typed [
@@ -391,7 +392,7 @@ run_done hart c t b deaf r e =
     settled_step c b new (record {
       asked = x.asked;
       scheduled = asks_schedules hart c t b passed.parts x.asked r e refl refl x.scheduled;
-      frame = rw r (frame_then c (Some t) before between new.parts (frame_processor c (Some t) skips before) x.acts.frame);
+      frame = rw r (frame_then c (Some t) before between new.parts (passes_first (Some t) b.parts.mutexes b.parts.mutexes new.parts.mutexes refl) (frame_processor c (Some t) skips before) x.acts.frame);
       added = passes_added b.parts between new.parts (asked_count c t hart passed x.asked x.scheduled) refl x.acts.added;
       made = x.acts.made;
       typed = x.acts.typed;

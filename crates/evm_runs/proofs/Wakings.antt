@@ -15,7 +15,7 @@ use Rattle.evm_model.specs.declared.task.TaskState.TheVariants.{InReady, Waits}
 use Rattle.evm_model.specs.declared.task.Wait.TheVariants.{Line}
 use Rattle.evm_model.proofs.Lists.{change-here, change-elsewhere}
 use Rattle.evm_runs.specs.Changes.{Rests, Wakes}
-use Rattle.evm_runs.proofs.Frames.{Frame, Still, frame_none, frame_then, frame_hart, frame_state, frame_restamp, keeps_register, still_none, still_then, still_if, still_hart, still_state, still_restamp}
+use Rattle.evm_runs.proofs.Frames.{Frame, Still, passes_second, passes_none, frame_none, frame_then, frame_hart, frame_state, frame_restamp, keeps_register, still_none, still_then, still_if, still_hart, still_state, still_restamp}
 
 record Waited (c l t : ℕ) (k : Parts) : Type 0 where
   task : Task
@@ -83,12 +83,12 @@ wake_mutexes t k = refl
 
 -- seen from another task
 wake_frame : (c t : ℕ) (k : Parts) → Frame c (Some t) k (wake_in_band t 0 k)
-unfolding wake_in_band
+unfolding wake_in_band restamp set_state
 wake_frame c t k =
     let told : Parts = on_hart t (set_register A0 0) k in
     let ready : Parts = set_state t InReady told in
-    frame_then c (Some t) k told _ (frame_hart c t _ k (keeps_register A0 0))
-    (frame_then c (Some t) told ready _ (frame_state c t InReady told) (frame_restamp c t ready))
+    frame_then c (Some t) k told _ (passes_second (Some t) k.mutexes k.mutexes k.mutexes refl) (frame_hart c t _ k (keeps_register A0 0))
+    (frame_then c (Some t) told ready _ (passes_second (Some t) k.mutexes k.mutexes k.mutexes refl) (frame_state c t InReady told) (frame_restamp c t ready))
 
 frame_wake : (c l t : ℕ) (k : Parts) → Waited c l t k → Frame c None k (wake_in_band t 0 k)
 frame_wake c l t k w =
@@ -132,7 +132,7 @@ unfolding wake_below
 frame_wakes c l zero k = frame_none c None k
 frame_wakes c l (suc t) k =
     let before : Parts = wake_below c l t k in
-    frame_then c None k before _ (frame_wakes c l t k) (if_wakes c l t before (awaits c l (slice_get before.tasks t)) refl)
+    frame_then c None k before _ (passes_none k.mutexes before.mutexes _) (frame_wakes c l t k) (if_wakes c l t before (awaits c l (slice_get before.tasks t)) refl)
 
 pub still_wakes : (c l n : ℕ) (k : Parts) → Still k (wake_below c l n k)
 unfolding wake_below

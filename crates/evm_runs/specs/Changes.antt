@@ -118,15 +118,17 @@ pub record Wakes (c t : ℕ) (old new : Parts) : Type 0 where
   pub wakes : slice_get new.tasks t ≡ Some (record task { stamp = stamp; state = InReady })
   pub hart : (hart : Hart) → slice_get old.harts t ≡ Some hart → slice_get new.harts t ≡ Some (set_register A0 0 hart)
 
--- task t, of whatever processor, waited for a mutex that this task had, if one had it, and has it now, locked once: it is ready out-of-band, its call is answered by 0, its stamp is a later one
+-- task t, of whatever processor, waited for a mutex that this task had, and has it now, locked once: it is ready out-of-band, its call is answered by 0, its stamp is a later one
 pub record Inherits (holder : Option ℕ) (t : ℕ) (old new : Parts) : Type 0 where
   pub task : Task
   pub mutex : ℕ
+  pub giver : ℕ
   pub stamp : ℕ
   pub after : Mutex
   pub waited : slice_get old.tasks t ≡ Some task
   pub on : task.state ≡ Waits (Lock mutex)
-  pub whose : (owner old.mutexes mutex ≡ None) ⊎ (owner old.mutexes mutex ≡ holder)
+  pub held : holder ≡ Some giver
+  pub had : owner old.mutexes mutex ≡ Some giver
   pub there : slice_get new.mutexes mutex ≡ Some after
   pub owns : after.owner ≡ Some t
   pub once : after.count ≡ 1

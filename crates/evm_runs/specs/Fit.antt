@@ -10,7 +10,7 @@ use Rattle.evm_model.specs.State.{State, Board}
 use Rattle.evm_model.specs.declared.boot.Boot.{Boot}
 use Rattle.evm_model.specs.declared.event.Event.{Event}
 
--- the journal is within its capacity; each line of each processor has counts, which are within a fixed number for each event of the journal, so below 2^29, and so is how often each mutex is locked; the ticks are the journal's
+-- the journal is within its capacity; each line of each processor has counts, which are within a fixed number for each event of the journal, so below 2^29; the ticks are the journal's
 pub record CountsFit (s : State) : Type 0 where
   pub journal : length s.journal ≤ s.boot.capacity
   pub small : PER_EVENT * length s.journal < 2 ^ 29
@@ -19,12 +19,10 @@ pub record CountsFit (s : State) : Type 0 where
   pub pipes : length s.board.parts.pipes ≡ s.boot.cpus
   pub lines : (c : ℕ) (p : Pipe) → slice_get s.board.parts.pipes c ≡ Some p → length p.counts ≡ LINES
   pub counts : PipesUpTo (PER_EVENT * length s.journal) s.board.parts.pipes
-  pub holds : HeldUpTo (PER_EVENT * length s.journal) s.board.parts.mutexes
 
--- a board on which nothing was counted yet and no mutex was made, whatever its RAM, tasks and processors
+-- a board on which nothing was counted yet, whatever its RAM, tasks and processors
 pub record IsUncounted (boot : Boot) (board : Board) : Type 0 where
   pub pipes : board.parts.pipes ≡ (start boot).board.parts.pipes
-  pub mutexes : board.parts.mutexes ≡ []
   pub ticks : board.parts.ticks ≡ 0
 
 -- after every list of events
@@ -39,3 +37,19 @@ CountsAlwaysFitLoaded = (byte : ℕ → ℕ) (entry : ℕ) (boot : Boot) → bad
 
 abbrev pub CountsAlwaysFitFresh : Type 0
 CountsAlwaysFitFresh = (boot : Boot) (board : Board) → bad_boot boot ≡ false → IsUncounted boot board → FitsFrom (record (start boot) { board = board })
+
+-- no mutex is locked more often than the fixed number for each event of the journal
+abbrev pub HoldsFit : State → Type 0
+HoldsFit s = HeldUpTo (PER_EVENT * length s.journal) s.board.parts.mutexes
+
+abbrev pub HoldsFitFrom : State → Type 0
+HoldsFitFrom s = (events : List Event) → HoldsFit (replay s events)
+
+abbrev pub HoldsAlwaysFit : Type 0
+HoldsAlwaysFit = (boot : Boot) → HoldsFitFrom (start boot)
+
+abbrev pub HoldsAlwaysFitLoaded : Type 0
+HoldsAlwaysFitLoaded = (byte : ℕ → ℕ) (entry : ℕ) (boot : Boot) → HoldsFitFrom (start_loaded byte entry boot)
+
+abbrev pub HoldsAlwaysFitFresh : Type 0
+HoldsAlwaysFitFresh = (boot : Boot) (board : Board) → IsUncounted boot board → board.parts.mutexes ≡ [] → HoldsFitFrom (record (start boot) { board = board })
