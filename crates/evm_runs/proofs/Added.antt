@@ -1,5 +1,5 @@
 -- How many tasks there are, and what was added stays.
-use Rattle.std.proofs.Common.{◌≡◌, ℕ, ◌+◌, ◌≤◌, List, Some, None, length, ◌⊎◌, inl, inr, ap, sym, ◌∙◌, arith}
+use Rattle.std.proofs.Common.{◌≡◌, ℕ, ◌+◌, ◌≤◌, List, Option, Some, None, length, ◌⊎◌, inl, inr, ap, sym, ◌∙◌, arith}
 use Rattle.std.specs.Prelude.{slice_get}
 use Rattle.evm_exec.specs.declared.hart.Hart.{Hart}
 use Rattle.evm_model.specs.Harts.{spawned_hart}
@@ -9,7 +9,7 @@ use Rattle.evm_model.specs.declared.limits.TheConstants.{TASK_LIMIT}
 use Rattle.evm_model.specs.declared.task.Task.{Task}
 use Rattle.evm_model.specs.declared.task.TaskState.TheVariants.{InReady, OobReady, Waits}
 use Rattle.evm_model.specs.declared.task.Wait.TheVariants.{Line}
-use Rattle.evm_runs.specs.Changes.{Wakes, Inherits, Stays, Spends, Added}
+use Rattle.evm_runs.specs.Changes.{Wakes, Inherits, StaysBy, Spends, Added}
 use Rattle.evm_runs.specs.Kept.{AllHaveRegisters}
 use Rattle.evm_runs.proofs.Frames.{Frame, Still}
 use Rattle.evm_runs.proofs.Spending.{Spent}
@@ -135,10 +135,10 @@ passes_added x y z e f p = elim p [
 ]
 
 -- ---- pipes are no tasks
-pub others_pipes : (c t : ℕ) (x y : Parts) (pipes : List Pipe) → Stays c t x y → Stays c t x (record y { pipes = pipes })
-others_pipes c t x y pipes (inl r) = inl (record { task = r.task; hart = r.hart })
-others_pipes c t x y pipes (inr (inl w)) = inr (inl (record { task = w.task; line = w.line; stamp = w.stamp; waited = w.waited; on = w.on; at_home = w.at_home; fresh = w.fresh; wakes = w.wakes; hart = w.hart }))
-others_pipes c t x y pipes (inr (inr i)) = inr (inr (record {
+pub others_pipes : (o : Option ℕ) (c t : ℕ) (x y : Parts) (pipes : List Pipe) → StaysBy o c t x y → StaysBy o c t x (record y { pipes = pipes })
+others_pipes o c t x y pipes (inl r) = inl (record { task = r.task; hart = r.hart })
+others_pipes o c t x y pipes (inr (inl w)) = inr (inl (record { task = w.task; line = w.line; stamp = w.stamp; waited = w.waited; on = w.on; at_home = w.at_home; fresh = w.fresh; wakes = w.wakes; hart = w.hart }))
+others_pipes o c t x y pipes (inr (inr i)) = inr (inr (record {
   task = i.task;
   mutex = i.mutex;
   giver = i.giver;
@@ -162,8 +162,8 @@ added_pipes x y pipes p = elim p [
   | inr a ↦ inr (record { cpu = a.cpu; stamp = a.stamp; entry = a.entry; value = a.value; tasks = a.tasks; harts = a.harts; room = a.room; task = a.task; hart = a.hart })
 ]
 
-pub spends_pipes : (c t : ℕ) (x y : Parts) (pipes : List Pipe) → Stays c t x y ⊎ Spends c t x y → Stays c t x (record y { pipes = pipes }) ⊎ Spends c t x (record y { pipes = pipes })
-spends_pipes c t x y pipes (inl p) = inl (others_pipes c t x y pipes p)
+pub spends_pipes : (c t : ℕ) (x y : Parts) (pipes : List Pipe) → StaysBy None c t x y ⊎ Spends c t x y → StaysBy None c t x (record y { pipes = pipes }) ⊎ Spends c t x (record y { pipes = pipes })
+spends_pipes c t x y pipes (inl p) = inl (others_pipes None c t x y pipes p)
 spends_pipes c t x y pipes (inr q) = inr (record {
   task = q.task;
   slice = q.slice;

@@ -9,7 +9,7 @@ use Rattle.evm_model.specs.declared.stage.Stage.TheVariants.{InBand}
 use Rattle.evm_model.specs.declared.task.Task.{Task}
 use Rattle.evm_model.specs.declared.task.TaskState.TheVariants.{OobReady, Waits}
 use Rattle.evm_model.specs.declared.task.Wait.TheVariants.{Line}
-use Rattle.evm_runs.specs.Changes.{StaysBy, Stays, Spends}
+use Rattle.evm_runs.specs.Changes.{StaysBy, Spends}
 use Rattle.evm_runs.proofs.Frames.{Frame, Still, passes_none, frame_none, frame_then, frame_if, frame_processor, frame_pipe, still_none, still_then, still_if, still_processor, still_pipe}
 use Rattle.evm_runs.proofs.Spending.{Spent, spent_none, spent_lines}
 use Rattle.evm_runs.proofs.Wakings.{frame_wakes, still_wakes, wakes_mutexes}
@@ -114,7 +114,7 @@ pub record Same (c : ℕ) (old new : Parts) : Type 0 where
   pub runs : current c new ≡ current c old
 
 -- one of whose tasks is as before
-stays_same : (c t : ℕ) (x y z : Parts) → slice_get y.tasks t ≡ slice_get x.tasks t → y.harts ≡ x.harts → x.stamps ≤ y.stamps → StaysBy None c t y z → Stays c t x z
+stays_same : (c t : ℕ) (x y z : Parts) → slice_get y.tasks t ≡ slice_get x.tasks t → y.harts ≡ x.harts → x.stamps ≤ y.stamps → StaysBy None c t y z → StaysBy None c t x z
 stays_same c t x y z same harts s (inl r) = inl (record { task = λ task e. r.task task (same ∙ e); hart = λ hart e. r.hart hart (ap (λ (all : List Hart). slice_get all t) harts ∙ e) })
 stays_same c t x y z same harts s (inr (inl w)) = inr (inl (record {
   task = w.task;
@@ -166,7 +166,7 @@ spends_same c t x y z s q = record {
   hart = λ hart e. q.hart hart (ap (λ (all : List Hart). slice_get all t) s.harts ∙ e);
 }
 
-pub own_settles : (c t : ℕ) (old k new : Parts) → Same c old k → Settles c k new → Stays c t old new ⊎ Spends c t old new
+pub own_settles : (c t : ℕ) (old k new : Parts) → Same c old k → Settles c k new → StaysBy None c t old new ⊎ Spends c t old new
 own_settles c t old k new s z = elim (z.spent.tasks t) [
   | inl same ↦ inl (stays_same c t old z.between new (same ∙ ap (λ (all : List Task). slice_get all t) s.tasks) (z.spent.harts ∙ s.harts) (omega (arith, s.stamps, z.spent.stamps)) (z.frame.others t (λ e. cc)))
   | inr q ↦ inr (spends_same c t old k new s (spends_stays c t k z.between new q (z.frame.others t (λ e. cc))))

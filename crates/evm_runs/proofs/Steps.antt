@@ -33,7 +33,7 @@ use Rattle.evm_model.specs.declared.processor.Processor.{Processor}
 use Rattle.evm_model.specs.declared.task.Task.{Task}
 use Rattle.evm_model.specs.declared.task.TaskState.TheVariants.{Faulted}
 use Rattle.evm_model.proofs.Lists.{length-change, slice_get-each, length-each_from}
-use Rattle.evm_runs.specs.Changes.{StoreWrites, Stays, Spends, Schedules, Hears, StepChanges, Added, Made, Typed}
+use Rattle.evm_runs.specs.Changes.{StoreWrites, StaysBy, Spends, Schedules, Hears, StepChanges, Added, Made, Typed}
 use Rattle.evm_runs.proofs.Added.{SameCounts, more_tasks, more_harts, few_more, each_more, added_rests, added_spent, passes_added, others_pipes, spends_pipes, added_pipes}
 use Rattle.evm_runs.proofs.Acts.{Acts, acts_own}
 use Rattle.evm_runs.proofs.Calling.{Asked, Called, calls}
@@ -190,7 +190,7 @@ record After (c : ℕ) (old new : Board) : Type 0 where
   typed : Typed old.parts new.parts
   breakpoints : new.breakpoints ≡ old.breakpoints
   memory : (new.memory ≡ old.memory) ⊎ StoreWrites c old new
-  hears : Hears c old.parts → (asked ≡ old.parts.tasks) × ((t : ℕ) → current c old.parts ≡ Some t → Stays c t old.parts new.parts ⊎ Spends c t old.parts new.parts) × (new.parts.mutexes ≡ old.parts.mutexes)
+  hears : Hears c old.parts → (asked ≡ old.parts.tasks) × ((t : ℕ) → current c old.parts ≡ Some t → StaysBy None c t old.parts new.parts ⊎ Spends c t old.parts new.parts) × (new.parts.mutexes ≡ old.parts.mutexes)
 
 pub record StepDone (c : ℕ) (old new : Board) : Type 0 where
   pub changes : StepChanges c old new
@@ -200,7 +200,7 @@ ram_count : (c : ℕ) (old new : Board) → (new.memory ≡ old.memory) ⊎ Stor
 ram_count c old new (inl same) = ap (λ (m : Memory). length m.ram) same
 ram_count c old new (inr w) = length-write_at old.memory.ram w.address w.width w.value new.memory.ram w.ram
 
-rests_same : (c t : ℕ) (old new : Parts) → Same c old new → Stays c t old new
+rests_same : (c t : ℕ) (old new : Parts) → Same c old new → StaysBy None c t old new
 rests_same c t old new s = inl (record {
   task = λ task e. ap (λ (all : List Task). slice_get all t) s.tasks ∙ e;
   hart = λ hart e. ap (λ (all : List Hart). slice_get all t) s.harts ∙ e;
@@ -282,7 +282,7 @@ nudged_step c old new h = let k : Parts = new.parts in record {
           | inl same ↦ inl (at ∙ same ∙ before)
           | inr raised ↦ inr (at ∙ raised ∙ ap (option_map (raise 1)) before)
         ];
-    others = λ t other. others_pipes c t (record old.parts { tasks = h.asked }) k (each (nudge_pipe c k) k.pipes) (h.frame.others t other);
+    others = λ t other. others_pipes (current c old.parts) c t (record old.parts { tasks = h.asked }) k (each (nudge_pipe c k) k.pipes) (h.frame.others t other);
     mutexes = h.frame.mutexes;
     hears = λ line. let quiet = h.hears line in (quiet.0, (λ t runs. spends_pipes c t old.parts k (each (nudge_pipe c k) k.pipes) (quiet.1 t runs)), quiet.2);
     added = added_pipes old.parts k (each (nudge_pipe c k) k.pipes) h.added;

@@ -239,7 +239,7 @@ pub record StepChanges (c : ℕ) (old new : Board) : Type 0 where
   pub others : (t : ℕ) → (current c old.parts ≡ Some t → ⊥) → Stays c t (record old.parts { tasks = asked }) new.parts
   pub mutexes : MutexesStay (current c old.parts) old.parts.mutexes new.parts.mutexes
   -- where a line is on the wire the current task too stays, or its slice is spent, and no mutex changes
-  pub hears : Hears c old.parts → (asked ≡ old.parts.tasks) × ((t : ℕ) → current c old.parts ≡ Some t → Stays c t old.parts new.parts ⊎ Spends c t old.parts new.parts) × (new.parts.mutexes ≡ old.parts.mutexes)
+  pub hears : Hears c old.parts → (asked ≡ old.parts.tasks) × ((t : ℕ) → current c old.parts ≡ Some t → StaysBy None c t old.parts new.parts ⊎ Spends c t old.parts new.parts) × (new.parts.mutexes ≡ old.parts.mutexes)
   pub added : Added old.parts new.parts
   pub made : Made old.parts.mutexes new.parts.mutexes
   pub typed : Typed old.parts new.parts
