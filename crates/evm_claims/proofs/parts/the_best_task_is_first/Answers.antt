@@ -47,8 +47,8 @@ member p u tasks task there home ready = let same : (task.cpu == p) ≡ true = e
 
 pub returns-clause-best : goal.returns-clause-best
 unfolding best
-returns-clause-best c p t tasks e =
-    let found = (c.finds_first.ensures (runs_oob p tasks) (rank tasks) (stamp tasks) (length tasks)).found t e in
+returns-clause-best c p t mutexes tasks e =
+    let found = (c.finds_first.ensures (runs_oob p tasks) (rank mutexes tasks) (stamp tasks) (length tasks)).found t e in
     let r = runs p (slice_get tasks t) found.is_member in (
       r.task,
       (
@@ -57,15 +57,15 @@ returns-clause-best c p t tasks e =
         r.ready,
         λ u other there home ready.
             let behind = found.leads u (slice_get_within tasks u other there) (member p u tasks other there home ready) in
-            let so = leads (rank tasks u) (stamp tasks u) (rank tasks t) (stamp tasks t) behind in
+            let so = leads (rank mutexes tasks u) (stamp tasks u) (rank mutexes tasks t) (stamp tasks t) behind in
             rw (there, r.there) at so,
       ),
     )
 
 pub returns-clause-none_ready : goal.returns-clause-none_ready
 unfolding best
-returns-clause-none_ready c p t tasks task e there home ready =
-    let none = (c.finds_first.ensures (runs_oob p tasks) (rank tasks) (stamp tasks) (length tasks)).none_found e t (slice_get_within tasks t task there) in
+returns-clause-none_ready c p t mutexes tasks task e there home ready =
+    let none = (c.finds_first.ensures (runs_oob p tasks) (rank mutexes tasks) (stamp tasks) (length tasks)).none_found e t (slice_get_within tasks t task there) in
     let some = member p t tasks task there home ready in
     cc
 
