@@ -30,17 +30,29 @@ left_as : (c t : ℕ) (x y z w : Parts) (task : Task) (hart : Hart) → Alike c 
 left_as c t x y z w task hart a (inl r) = inl (a.tasks ∙ r.0, a.harts ∙ r.1)
 left_as c t x y z w task hart a (inr (inl (line, (stamp, r)))) = inr (inl (line, (stamp, (r.0, r.1, omega (arith, a.stamps, r.2), a.tasks ∙ r.3, a.harts ∙ r.4))))
 left_as c t x y z w task hart a (inr (inr (m, (giver, (stamp, (mutex, r)))))) =
-    inr (inr (m, (giver, (stamp, (mutex, (
-      r.0,
-      a.runs ∙ r.1,
-      ap (λ (all : List Mutex). owner all m) a.had ∙ r.2,
-      ap (λ (all : List Mutex). slice_get all m) a.mutexes ∙ r.3,
-      r.4,
-      r.5,
-      omega (arith, a.stamps, r.6),
-      a.tasks ∙ r.7,
-      a.harts ∙ r.8,
-    ))))))
+    inr (inr (
+      m,
+      (
+        giver,
+        (
+          stamp,
+          (
+            mutex,
+            (
+              r.0,
+              a.runs ∙ r.1,
+              ap (λ (all : List Mutex). owner all m) a.had ∙ r.2,
+              ap (λ (all : List Mutex). slice_get all m) a.mutexes ∙ r.3,
+              r.4,
+              r.5,
+              omega (arith, a.stamps, r.6),
+              a.tasks ∙ r.7,
+              a.harts ∙ r.8,
+            ),
+          ),
+        ),
+      ),
+    ))
 
 pub returns-clause-steps_tasks : goal.returns-clause-steps_tasks
 returns-clause-steps_tasks c old new answer p t task hart e other there at =
