@@ -10,18 +10,20 @@ use Rattle.evm_isa.specs.Decoded.{decoded}
 use Rattle.evm_isa.specs.declared.inst.Inst.{Inst}
 use Rattle.evm_model.specs.Harts.{argument}
 use Rattle.evm_model.specs.Memory.{fetch}
+use Rattle.evm_model.specs.Mutexes.{owner}
 use Rattle.evm_model.specs.OobCalls.{is_scheduled_task}
 use Rattle.evm_model.specs.Policies.{policy_of}
 use Rattle.evm_model.specs.Settle.{current, is_oob}
 use Rattle.evm_model.specs.Stages.{is_class}
 use Rattle.evm_model.specs.State.{Board, Memory, Parts}
 use Rattle.evm_model.specs.Tasks.{is_live}
+use Rattle.evm_model.specs.declared.mutex.Mutex.{Mutex}
 use Rattle.evm_model.specs.declared.task.Class.{Class}
 use Rattle.evm_model.specs.declared.task.Class.TheVariants.{Unattached}
 use Rattle.evm_model.specs.declared.task.Task.{Task}
-use Rattle.evm_model.specs.declared.task.TaskState.TheVariants.{InReady, Waits}
-use Rattle.evm_model.specs.declared.task.Wait.TheVariants.{Line}
-use Rattle.evm_runs.specs.Changes.{Stays, Schedules, StepChanges}
+use Rattle.evm_model.specs.declared.task.TaskState.TheVariants.{InReady, OobReady, Waits}
+use Rattle.evm_model.specs.declared.task.Wait.TheVariants.{Line, Lock}
+use Rattle.evm_runs.specs.Changes.{Wakes, Stays, Schedules, StepChanges}
 
 -- a task as the current one of c may give it, or as it was
 abbrev pub IsGiven : ℕ → ℕ → Board → Task → Task → Type 0
@@ -34,20 +36,38 @@ IsGiven c t old task given =
     × (policy_of (register_of its.regs 11) (register_of its.regs 12) ≡ Some class)
     × (given ≡ record task { class = class; priority = register_of its.regs 12; slice = 4 })))))))
 
--- it stays so, or wakes
+-- it waited for a line, and wakes
+abbrev pub IsWoken : ℕ → ℕ → Parts → Parts → Task → Hart → Type 0
+IsWoken c t old new given hart =
+    (line : ℕ) × ((stamp : ℕ) × ((given.state ≡ Waits (Line line)) × (given.cpu ≡ c) × (old.stamps ≤ stamp)
+    × (slice_get new.tasks t ≡ Some (record given { stamp = stamp; state = InReady }))
+    × (slice_get new.harts t ≡ Some (record hart { regs = with_register hart.regs 10 0 }))))
+
+-- it stays so, wakes, or inherits a mutex of the current task
 abbrev pub IsLeft : ℕ → ℕ → Parts → Parts → Task → Hart → Type 0
 IsLeft c t old new given hart =
     ((slice_get new.tasks t ≡ Some given) × (slice_get new.harts t ≡ Some hart))
-    ⊎ ((line : ℕ) × ((stamp : ℕ) × ((given.state ≡ Waits (Line line)) × (given.cpu ≡ c) × (old.stamps ≤ stamp)
-    × (slice_get new.tasks t ≡ Some (record given { stamp = stamp; state = InReady }))
-    × (slice_get new.harts t ≡ Some (record hart { regs = with_register hart.regs 10 0 })))))
+    ⊎ IsWoken c t old new given hart
+    ⊎ ((m : ℕ) × ((giver : ℕ) × ((stamp : ℕ) × ((mutex : Mutex) × ((given.state ≡ Waits (Lock m))
+    × (current c old ≡ Some giver) × (owner old.mutexes m ≡ Some giver)
+    × (slice_get new.mutexes m ≡ Some mutex) × (mutex.owner ≡ Some t) × (mutex.count ≡ 1)
+    × (old.stamps ≤ stamp)
+    × (slice_get new.tasks t ≡ Some (record given { stamp = stamp; state = OobReady }))
+    × (slice_get new.harts t ≡ Some (record hart { regs = with_register hart.regs 10 0 })))))))
+
+pub woken : (c t : ℕ) (old new : Parts) (task : Task) (hart : Hart) → slice_get old.tasks t ≡ Some task → slice_get old.harts t ≡ Some hart → Wakes c t old new → IsWoken c t old new task hart
+woken c t old new task hart there at w =
+    let two : Some w.task ≡ Some task = sym w.waited ∙ there in
+    let same : w.task ≡ task = cc in
+    (w.line, (w.stamp, (rw (← same) w.on, rw (← same) w.at_home, w.fresh, rw (← same) w.wakes, w.hart hart at)))
 
 pub left : (c t : ℕ) (old new : Parts) (task : Task) (hart : Hart) → slice_get old.tasks t ≡ Some task → slice_get old.harts t ≡ Some hart → Stays c t old new → IsLeft c t old new task hart
 left c t old new task hart there at (inl r) = inl (r.task task there, r.hart hart at)
-left c t old new task hart there at (inr w) =
-    let two : Some w.task ≡ Some task = sym w.waited ∙ there in
-    let same : w.task ≡ task = cc in
-    inr (w.line, (w.stamp, (rw (← same) w.on, rw (← same) w.at_home, w.fresh, rw (← same) w.wakes, w.hart hart at)))
+left c t old new task hart there at (inr (inl w)) = inr (inl (woken c t old new task hart there at w))
+left c t old new task hart there at (inr (inr i)) =
+    let two : Some i.task ≡ Some task = sym i.waited ∙ there in
+    let same : i.task ≡ task = cc in
+    inr (inr (i.mutex, (i.giver, (i.stamp, (i.after, (rw (← same) i.on, i.held, i.had, i.there, i.owns, i.once, i.fresh, rw (← same) i.wakes, i.hart hart at))))))
 
 both : (a b : Bool) → (a && b) ≡ true → (a ≡ true) × (b ≡ true)
 both true true h = (refl, refl)

@@ -1,2 +1,4 @@
 pub mod Given
+pub mod Leads
+pub mod Ranking
 pub mod Settled

@@ -11,6 +11,7 @@ use Rattle.evm_model.specs.Settle.{is_oob}
 use Rattle.evm_model.specs.State.{State, Parts}
 use Rattle.evm_model.specs.declared.boot.Boot.{Boot}
 use Rattle.evm_model.specs.declared.event.Event.{Event}
+use Rattle.evm_model.specs.declared.mutex.Mutex.{Mutex}
 use Rattle.evm_model.specs.declared.processor.Processor.{Processor}
 use Rattle.evm_model.specs.declared.task.Task.{Task}
 use Rattle.evm_rules.proofs.Firsts.{best-is_oob}
@@ -25,19 +26,19 @@ follows-good boot byte entry events s fits (inl e) = rw e (GoodState-replay (sta
 follows-good boot byte entry events s fits (inr e) = rw e.1 (GoodState-replay (start_loaded byte entry boot) events (GoodState-loaded byte entry boot fits e.0))
 
 pub settled : (boot : Boot) (byte : ℕ → ℕ) (entry : ℕ) (events : List Event) (s : State) (c : ℕ) (pipe : Pipe) (p : Processor) → bad_boot boot ≡ false → Follows boot byte entry events s
-    → slice_get s.board.parts.pipes c ≡ Some pipe → slice_get s.board.parts.processors c ≡ Some p → IsSettled c pipe p s.board.parts.tasks
+    → slice_get s.board.parts.pipes c ≡ Some pipe → slice_get s.board.parts.processors c ≡ Some p → IsSettled c pipe p s.board.parts.mutexes s.board.parts.tasks
 settled boot byte entry events s c pipe p fits from e f = (follows-good boot byte entry events s fits from).good.settled c pipe p e f
 
 -- where the current task isn't out-of-band none is ready there
-none-if : (c : ℕ) (pipe : Pipe) (p : Processor) (tasks : List Task) (o : Option ℕ) → best c tasks ≡ o → IsSettled c pipe p tasks → pipe.oob.stalled ≡ false → has_line pipe.wire 1 ≡ false → is_oob p.current tasks ≡ false → o ≡ None
-none-if c pipe p tasks None b s u v m = refl
-none-if c pipe p tasks (Some t) b s u v m =
+none-if : (c : ℕ) (pipe : Pipe) (p : Processor) (mutexes : List Mutex) (tasks : List Task) (o : Option ℕ) → best c mutexes tasks ≡ o → IsSettled c pipe p mutexes tasks → pipe.oob.stalled ≡ false → has_line pipe.wire 1 ≡ false → is_oob p.current tasks ≡ false → o ≡ None
+none-if c pipe p mutexes tasks None b s u v m = refl
+none-if c pipe p mutexes tasks (Some t) b s u v m =
     let now : p.current ≡ Some t = s.runs_best u v t b in
     let no : is_oob (Some t) tasks ≡ false = rw now at m in
-    let two : true ≡ false = sym (best-is_oob c t tasks b) ∙ no in cc
+    let two : true ≡ false = sym (best-is_oob c t mutexes tasks b) ∙ no in cc
 
-pub none-ready : (c : ℕ) (pipe : Pipe) (p : Processor) (tasks : List Task) → IsSettled c pipe p tasks → pipe.oob.stalled ≡ false → has_line pipe.wire 1 ≡ false → is_oob p.current tasks ≡ false → best c tasks ≡ None
-none-ready c pipe p tasks s u v m = none-if c pipe p tasks (best c tasks) refl s u v m
+pub none-ready : (c : ℕ) (pipe : Pipe) (p : Processor) (mutexes : List Mutex) (tasks : List Task) → IsSettled c pipe p mutexes tasks → pipe.oob.stalled ≡ false → has_line pipe.wire 1 ≡ false → is_oob p.current tasks ≡ false → best c mutexes tasks ≡ None
+none-ready c pipe p mutexes tasks s u v m = none-if c pipe p mutexes tasks (best c mutexes tasks) refl s u v m
 
 -- a processor that has a current task and nothing on its wire
 pub clear : (c t : ℕ) (k : Parts) (pipe : Pipe) (p : Processor) → slice_get k.pipes c ≡ Some pipe → slice_get k.processors c ≡ Some p → pipe.wire ≡ [] → p.current ≡ Some t → IsClear c t k

@@ -3,6 +3,7 @@
 #![tactic(auto)]
 
 mod headline;
+mod mutexes;
 mod no_interrupt_lost;
 mod parts;
 mod rules;
@@ -10,6 +11,11 @@ mod safe_and_total;
 mod steps;
 
 pub use headline::{a_machine_is_its_journals_replay, replays_join};
+pub use mutexes::{
+    a_mutex_passes_to_the_first_waiter, a_rank_is_never_below_its_own,
+    an_owner_ranks_no_lower_than_its_waiters, each_waited_mutex_has_an_owner,
+    no_chain_of_waiting_returns, ranks_are_the_only_settled_ones,
+};
 pub use no_interrupt_lost::{
     no_line_is_lost_in_a_stage, no_line_is_lost_on_its_wire, raised_as_often_as_the_journal_says,
     what_is_received_comes_to_a_stage,
@@ -27,6 +33,7 @@ pub use safe_and_total::{
     a_machine_is_as_it_was_booted, counts_never_wrap, sizes_never_change, the_clock_is_its_ticks,
 };
 pub use steps::{
-    a_single_step_keeps_to_its_processor, a_single_step_leaves_other_tasks, a_step_adds_one_task,
-    a_step_keeps_to_its_processor, a_step_leaves_other_tasks,
+    a_single_step_keeps_to_its_processor, a_single_step_leaves_other_mutexes,
+    a_single_step_leaves_other_tasks, a_step_adds_one_task, a_step_keeps_to_its_processor,
+    a_step_leaves_other_mutexes, a_step_leaves_other_tasks,
 };

@@ -10,7 +10,7 @@ ghost use Rattle.evm_lines.specs.Lines.{has_line, with_line};
 ghost use Rattle.evm_model.specs.Commands.{is_set};
 ghost use Rattle.evm_model.specs.Load.{start_loaded};
 ghost use Rattle.evm_model.specs.Pipes.{Pipe, raise};
-ghost use Rattle.evm_model.specs.Ranks.{best, first, goes_before, own_rank};
+ghost use Rattle.evm_model.specs.Ranks.{best, first, goes_before, rank};
 ghost use Rattle.evm_model.specs.Refusals.{applies};
 ghost use Rattle.evm_model.specs.Replay.{apply};
 ghost use Rattle.evm_model.specs.Settle.{current};
@@ -19,6 +19,7 @@ ghost use Rattle.evm_model.specs.declared.boot.Boot.{Boot};
 ghost use Rattle.evm_model.specs.declared.counts.Counts.{Counts};
 ghost use Rattle.evm_model.specs.declared.event.Answer.{Answer};
 ghost use Rattle.evm_model.specs.declared.event.Event.{Event};
+ghost use Rattle.evm_model.specs.declared.mutex.Mutex.{Mutex};
 ghost use Rattle.evm_model.specs.declared.processor.Processor.{Processor};
 ghost use Rattle.evm_model.specs.declared.task.Task.{Task};
 ghost use Rattle.evm_model.specs.declared.task.TaskState.{TaskState};
@@ -155,12 +156,12 @@ pub fn a_command_changes_one_place()
 /// set have one stamp, the first is the only one before which no other goes; the first of any set, as of the tasks that are
 /// ready in-band, is such a member, and there is none only where the set is empty.
 pub fn the_best_task_is_first()
-    ensures best { (c t : ℕ) (tasks : List Task) → best c tasks ≡ Option.Some t →
+    ensures best { (c t : ℕ) (mutexes : List Mutex) (tasks : List Task) → best c mutexes tasks ≡ Option.Some t →
         (task : Task) × ((slice_get tasks t ≡ Option.Some task) × (task.cpu ≡ c) × (task.state ≡ TaskState.OobReady)
         × ((u : ℕ) (other : Task) → slice_get tasks u ≡ Option.Some other → other.cpu ≡ c → other.state ≡ TaskState.OobReady →
-        (own_rank other.class other.priority ≤ own_rank task.class task.priority)
-        × (own_rank other.class other.priority ≡ own_rank task.class task.priority → task.stamp ≤ other.stamp))) }
-    ensures none_ready { (c t : ℕ) (tasks : List Task) (task : Task) → best c tasks ≡ Option.None →
+        (rank mutexes tasks u ≤ rank mutexes tasks t)
+        × (rank mutexes tasks u ≡ rank mutexes tasks t → task.stamp ≤ other.stamp))) }
+    ensures none_ready { (c t : ℕ) (mutexes : List Mutex) (tasks : List Task) (task : Task) → best c mutexes tasks ≡ Option.None →
         slice_get tasks t ≡ Option.Some task → task.cpu ≡ c → task.state ≢ TaskState.OobReady }
     ensures found { (member : ℕ → Bool) (rank stamp : ℕ → ℕ) (count t : ℕ) → first member rank stamp count ≡ Option.Some t →
         (t < count) × (member t ≡ true) × ((u : ℕ) → u < count → member u ≡ true → goes_before rank stamp u t ≡ false) }

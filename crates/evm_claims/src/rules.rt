@@ -22,12 +22,12 @@ pub fn a_processor_runs_its_best_task()
         (s ≡ replay (start boot) events) ⊎ ((entry % 4 ≡ 0) × (s ≡ replay (start_loaded byte entry boot) events)) →
         slice_get s.board.parts.pipes c ≡ Option.Some pipe → slice_get s.board.parts.processors c ≡ Option.Some p →
         pipe.oob.stalled ≡ false → has_line pipe.wire 1 ≡ false →
-        best c s.board.parts.tasks ≡ Option.Some t → p.current ≡ Option.Some t }
+        best c s.board.parts.mutexes s.board.parts.tasks ≡ Option.Some t → p.current ≡ Option.Some t }
     ensures none_ready { (boot : Boot) (byte : ℕ → ℕ) (entry : ℕ) (events : List Event) (s : State) (c : ℕ) (pipe : Pipe) (p : Processor) → bad_boot boot ≡ false →
         (s ≡ replay (start boot) events) ⊎ ((entry % 4 ≡ 0) × (s ≡ replay (start_loaded byte entry boot) events)) →
         slice_get s.board.parts.pipes c ≡ Option.Some pipe → slice_get s.board.parts.processors c ≡ Option.Some p →
         pipe.oob.stalled ≡ false → has_line pipe.wire 1 ≡ false →
-        is_oob p.current s.board.parts.tasks ≡ false → best c s.board.parts.tasks ≡ Option.None }
+        is_oob p.current s.board.parts.tasks ≡ false → best c s.board.parts.mutexes s.board.parts.tasks ≡ Option.None }
     ensures in_band { (boot : Boot) (byte : ℕ → ℕ) (entry : ℕ) (events : List Event) (s : State) (c : ℕ) (pipe : Pipe) (p : Processor) → bad_boot boot ≡ false →
         (s ≡ replay (start boot) events) ⊎ ((entry % 4 ≡ 0) × (s ≡ replay (start_loaded byte entry boot) events)) →
         slice_get s.board.parts.pipes c ≡ Option.Some pipe → slice_get s.board.parts.processors c ≡ Option.Some p →

@@ -9,6 +9,7 @@ ghost use Rattle.evm_model.specs.State.{State, Board};
 ghost use Rattle.evm_model.specs.declared.boot.Boot.{Boot};
 ghost use Rattle.evm_model.specs.declared.counts.Counts.{Counts};
 ghost use Rattle.evm_model.specs.declared.event.Event.{Event};
+ghost use Rattle.evm_model.specs.declared.mutex.Mutex.{Mutex};
 
 /// Whatever happens to a machine, it has as many processors, pipes and bytes of RAM afterwards, no fewer tasks and
 /// harts, and the boot numbers that it had; where there were 64 tasks at the most there are, and where each had a
@@ -78,7 +79,8 @@ pub fn a_machine_is_as_it_was_booted()
 }
 
 /// After every boot whose numbers are inside their limits, with an image loaded or none, and every list of events
-/// the journal is within its capacity, and the ticks and every count of every line are below 2^29, so none has wrapped.
+/// the journal is within its capacity, and the ticks, every count of every line and how often each mutex is locked are
+/// below 2^29, so none has wrapped.
 pub fn counts_never_wrap()
     ensures journal { (boot : Boot) (events : List Event) → bad_boot boot ≡ false →
         length (replay (start boot) events).journal ≤ boot.capacity }
@@ -111,6 +113,12 @@ pub fn counts_never_wrap()
         (n.raised < 2 ^ 29) × (n.merged < 2 ^ 29) × (n.received < 2 ^ 29)
         × (n.oob.arrivals < 2 ^ 29) × (n.oob.merged < 2 ^ 29) × (n.oob.played < 2 ^ 29)
         × (n.inband.arrivals < 2 ^ 29) × (n.inband.merged < 2 ^ 29) × (n.inband.played < 2 ^ 29) }
+    ensures holds { (boot : Boot) (events : List Event) → bad_boot boot ≡ false → (m : ℕ) (mutex : Mutex) →
+        slice_get (replay (start boot) events).board.parts.mutexes m ≡ Option.Some mutex → mutex.count < 2 ^ 29 }
+    ensures holds_loaded { (byte : ℕ → ℕ) (entry : ℕ) (boot : Boot) (events : List Event) → bad_boot boot ≡ false →
+        (m : ℕ) (mutex : Mutex) →
+        slice_get (replay (start_loaded byte entry boot) events).board.parts.mutexes m ≡ Option.Some mutex →
+        mutex.count < 2 ^ 29 }
 {
     evm_runs::counts_fit();
     evm_runs::stays_as_booted();

@@ -1,5 +1,5 @@
 //! What a step changes, and what it leaves.
-ghost use Rattle.std.specs.Prelude.{◌≡◌, ◌≢◌, ◌+◌, ◌-◌, ◌<◌, ◌≤◌, ◌++◌, ◌⊎◌, ℕ, [], ◌∷◌, true, false, Option, Result, slice_get, slice_set, length, option_map, replicate, drop};
+ghost use Rattle.std.specs.Prelude.{◌≡◌, ◌≢◌, ◌+◌, ◌-◌, ◌<◌, ◌≤◌, ◌++◌, ◌⊎◌, ℕ, [], ◌∷◌, Bool, true, false, Option, Result, slice_get, slice_set, length, option_map, replicate, drop};
 ghost use Rattle.evm_exec.specs.Does.{does};
 ghost use Rattle.evm_exec.specs.Registers.{register_of, with_register};
 ghost use Rattle.evm_exec.specs.declared.hart.Hart.{Hart};
@@ -8,6 +8,7 @@ ghost use Rattle.evm_isa.specs.Decoded.{decoded};
 ghost use Rattle.evm_isa.specs.declared.inst.Inst.{Inst};
 ghost use Rattle.evm_lines.specs.Lines.{has_line};
 ghost use Rattle.evm_model.specs.Memory.{fetch};
+ghost use Rattle.evm_model.specs.Mutexes.{owner};
 ghost use Rattle.evm_model.specs.Pipes.{Pipe, raise};
 ghost use Rattle.evm_model.specs.Policies.{policy_of};
 ghost use Rattle.evm_model.specs.Replay.{apply};
@@ -16,6 +17,8 @@ ghost use Rattle.evm_model.specs.State.{State};
 ghost use Rattle.evm_model.specs.Tasks.{is_live};
 ghost use Rattle.evm_model.specs.declared.event.Answer.{Answer};
 ghost use Rattle.evm_model.specs.declared.event.Event.{Event};
+ghost use Rattle.evm_model.specs.declared.mutex.Mutex.{Mutex};
+ghost use Rattle.evm_model.specs.declared.mutex.Protocol.{Protocol};
 ghost use Rattle.evm_model.specs.declared.processor.Processor.{Processor};
 ghost use Rattle.evm_model.specs.declared.task.Class.{Class};
 ghost use Rattle.evm_model.specs.declared.task.Task.{Task};
@@ -56,8 +59,9 @@ pub fn a_step_keeps_to_its_processor()
     evm_runs::events_change_only();
 }
 
-/// An accepted Step leaves all tasks but the processor's current one and those that waited there for a line, which may
-/// wake: they are ready then, with a later stamp and an a0 of 0. But where the current task is out-of-band and makes call
+/// An accepted Step leaves all tasks but the processor's current one, those that waited there for a line, which may
+/// wake in-band, and those that waited anywhere for a mutex of the current one, which may wake out-of-band and own it
+/// then, locked once: they are ready, with a later stamp and an a0 of 0. But where the current task is out-of-band and makes call
 /// 34, the task that its a0 names, if it has not ended and has a class, may be given the class and the priority of its a1 and
 /// a2 and a slice of 4, and nothing else by that. Where a line is on the processor's wire no task is given a class, and the
 /// current task is left too: it may wake, or, if it is ready out-of-band and of the round-robin class, have less of its
@@ -74,9 +78,15 @@ pub fn a_step_leaves_other_tasks()
         × (policy_of (register_of its.regs 11) (register_of its.regs 12) ≡ Option.Some class)
         × (given ≡ record task { class = class; priority = register_of its.regs 12; slice = 4 }))))))))
         × (((slice_get new.board.parts.tasks t ≡ Option.Some given) × (slice_get new.board.parts.harts t ≡ Option.Some hart))
-        ⊎ ((line : ℕ) × ((stamp : ℕ) × ((given.state ≡ TaskState.Waits (Wait.Line line)) × (given.cpu ≡ c) × (old.board.parts.stamps ≤ stamp)
+        ⊎ (((line : ℕ) × ((stamp : ℕ) × ((given.state ≡ TaskState.Waits (Wait.Line line)) × (given.cpu ≡ c) × (old.board.parts.stamps ≤ stamp)
         × (slice_get new.board.parts.tasks t ≡ Option.Some (record given { stamp = stamp; state = TaskState.InReady }))
-        × (slice_get new.board.parts.harts t ≡ Option.Some (record hart { regs = with_register hart.regs 10 0 }))))))) }
+        × (slice_get new.board.parts.harts t ≡ Option.Some (record hart { regs = with_register hart.regs 10 0 })))))
+        ⊎ ((m : ℕ) × ((giver : ℕ) × ((stamp : ℕ) × ((mutex : Mutex) × ((given.state ≡ TaskState.Waits (Wait.Lock m))
+        × (current c old.board.parts ≡ Option.Some giver) × (owner old.board.parts.mutexes m ≡ Option.Some giver)
+        × (slice_get new.board.parts.mutexes m ≡ Option.Some mutex) × (mutex.owner ≡ Option.Some t) × (mutex.count ≡ 1)
+        × (old.board.parts.stamps ≤ stamp)
+        × (slice_get new.board.parts.tasks t ≡ Option.Some (record given { stamp = stamp; state = TaskState.OobReady }))
+        × (slice_get new.board.parts.harts t ≡ Option.Some (record hart { regs = with_register hart.regs 10 0 })))))))))) }
     ensures line { (old new : State) (answer : Answer) (c t l : ℕ) (pipe : Pipe) (task : Task) (hart : Hart) →
         apply old (Event.Step c) ≡ Result.Ok (new, answer) →
         slice_get old.board.parts.pipes c ≡ Option.Some pipe → has_line pipe.wire l ≡ true →
@@ -90,6 +100,29 @@ pub fn a_step_leaves_other_tasks()
         × (((stamp ≡ task.stamp) × (slice < task.slice)) ⊎ ((old.board.parts.stamps ≤ stamp) × (slice ≤ 4)))
         × (slice_get new.board.parts.tasks t ≡ Option.Some (record task { slice = slice; stamp = stamp }))
         × (slice_get new.board.parts.harts t ≡ Option.Some hart))))) }
+{
+    evm_runs::events_change_only();
+}
+
+/// An accepted Step changes only such mutexes as were free or the current task's, and of those only the owner and how
+/// often they are locked; it adds one at the most, where there were fewer than 32: the last, a free one. Where a line is
+/// on the processor's wire it changes none.
+pub fn a_step_leaves_other_mutexes()
+    ensures mutexes { (old new : State) (answer : Answer) (c m : ℕ) (before : Mutex) → apply old (Event.Step c) ≡ Result.Ok (new, answer) →
+        slice_get old.board.parts.mutexes m ≡ Option.Some before →
+        (slice_get new.board.parts.mutexes m ≡ Option.Some before)
+        ⊎ ((after : Mutex) × ((slice_get new.board.parts.mutexes m ≡ Option.Some after)
+        × (after ≡ record before { owner = after.owner; count = after.count })
+        × ((before.owner ≡ Option.None) ⊎ (before.owner ≡ current c old.board.parts)))) }
+    ensures adds { (old new : State) (answer : Answer) (c : ℕ) → apply old (Event.Step c) ≡ Result.Ok (new, answer) →
+        (length new.board.parts.mutexes ≡ length old.board.parts.mutexes)
+        ⊎ ((recursive : Bool) × ((protocol : Protocol) × ((length new.board.parts.mutexes ≡ length old.board.parts.mutexes + 1)
+        × (length old.board.parts.mutexes < 32)
+        × (slice_get new.board.parts.mutexes (length old.board.parts.mutexes)
+        ≡ Option.Some (record { recursive = recursive; protocol = protocol; owner = Option.None; count = 0 }))))) }
+    ensures line { (old new : State) (answer : Answer) (c l : ℕ) (pipe : Pipe) → apply old (Event.Step c) ≡ Result.Ok (new, answer) →
+        slice_get old.board.parts.pipes c ≡ Option.Some pipe → has_line pipe.wire l ≡ true →
+        new.board.parts.mutexes ≡ old.board.parts.mutexes }
 {
     evm_runs::events_change_only();
 }
@@ -155,11 +188,32 @@ pub fn a_single_step_leaves_other_tasks()
         × (policy_of (register_of its.regs 11) (register_of its.regs 12) ≡ Option.Some class)
         × (given ≡ record task { class = class; priority = register_of its.regs 12; slice = 4 }))))))))
         × (((slice_get new.board.parts.tasks t ≡ Option.Some given) × (slice_get new.board.parts.harts t ≡ Option.Some hart))
-        ⊎ ((line : ℕ) × ((stamp : ℕ) × ((given.state ≡ TaskState.Waits (Wait.Line line)) × (given.cpu ≡ c) × (old.board.parts.stamps ≤ stamp)
+        ⊎ (((line : ℕ) × ((stamp : ℕ) × ((given.state ≡ TaskState.Waits (Wait.Line line)) × (given.cpu ≡ c) × (old.board.parts.stamps ≤ stamp)
         × (slice_get new.board.parts.tasks t ≡ Option.Some (record given { stamp = stamp; state = TaskState.InReady }))
-        × (slice_get new.board.parts.harts t ≡ Option.Some (record hart { regs = with_register hart.regs 10 0 }))))))) }
+        × (slice_get new.board.parts.harts t ≡ Option.Some (record hart { regs = with_register hart.regs 10 0 })))))
+        ⊎ ((m : ℕ) × ((giver : ℕ) × ((stamp : ℕ) × ((mutex : Mutex) × ((given.state ≡ TaskState.Waits (Wait.Lock m))
+        × (current c old.board.parts ≡ Option.Some giver) × (owner old.board.parts.mutexes m ≡ Option.Some giver)
+        × (slice_get new.board.parts.mutexes m ≡ Option.Some mutex) × (mutex.owner ≡ Option.Some t) × (mutex.count ≡ 1)
+        × (old.board.parts.stamps ≤ stamp)
+        × (slice_get new.board.parts.tasks t ≡ Option.Some (record given { stamp = stamp; state = TaskState.OobReady }))
+        × (slice_get new.board.parts.harts t ≡ Option.Some (record hart { regs = with_register hart.regs 10 0 })))))))))) }
     ensures steps_add { (old new : State) (answer : Answer) (c : ℕ) → apply old (Event.StepI c) ≡ Result.Ok (new, answer) →
         (length new.board.parts.tasks ≡ length old.board.parts.tasks) ⊎ (length new.board.parts.tasks ≡ length old.board.parts.tasks + 1) }
+{
+    evm_runs::events_change_only();
+}
+
+/// An accepted single step leaves the mutexes that a Step leaves, and adds one at the most.
+pub fn a_single_step_leaves_other_mutexes()
+    ensures steps_mutexes { (old new : State) (answer : Answer) (c m : ℕ) (before : Mutex) → apply old (Event.StepI c) ≡ Result.Ok (new, answer) →
+        slice_get old.board.parts.mutexes m ≡ Option.Some before →
+        (slice_get new.board.parts.mutexes m ≡ Option.Some before)
+        ⊎ ((after : Mutex) × ((slice_get new.board.parts.mutexes m ≡ Option.Some after)
+        × (after ≡ record before { owner = after.owner; count = after.count })
+        × ((before.owner ≡ Option.None) ⊎ (before.owner ≡ current c old.board.parts)))) }
+    ensures steps_make { (old new : State) (answer : Answer) (c : ℕ) → apply old (Event.StepI c) ≡ Result.Ok (new, answer) →
+        (length new.board.parts.mutexes ≡ length old.board.parts.mutexes)
+        ⊎ ((length new.board.parts.mutexes ≡ length old.board.parts.mutexes + 1) × (length old.board.parts.mutexes < 32)) }
 {
     evm_runs::events_change_only();
 }

@@ -1,5 +1,5 @@
 -- How many tasks there are, and what was added stays.
-use Rattle.std.proofs.Common.{◌≡◌, ℕ, ◌+◌, ◌≤◌, List, Some, None, length, ◌⊎◌, inl, inr, ap, sym, ◌∙◌, arith}
+use Rattle.std.proofs.Common.{◌≡◌, ℕ, ◌+◌, ◌≤◌, List, Option, Some, None, length, ◌⊎◌, inl, inr, ap, sym, ◌∙◌, arith}
 use Rattle.std.specs.Prelude.{slice_get}
 use Rattle.evm_exec.specs.declared.hart.Hart.{Hart}
 use Rattle.evm_model.specs.Harts.{spawned_hart}
@@ -9,7 +9,7 @@ use Rattle.evm_model.specs.declared.limits.TheConstants.{TASK_LIMIT}
 use Rattle.evm_model.specs.declared.task.Task.{Task}
 use Rattle.evm_model.specs.declared.task.TaskState.TheVariants.{InReady, OobReady, Waits}
 use Rattle.evm_model.specs.declared.task.Wait.TheVariants.{Line}
-use Rattle.evm_runs.specs.Changes.{Stays, Spends, Added}
+use Rattle.evm_runs.specs.Changes.{Wakes, Inherits, StaysBy, Spends, Added}
 use Rattle.evm_runs.specs.Kept.{AllHaveRegisters}
 use Rattle.evm_runs.proofs.Frames.{Frame, Still}
 use Rattle.evm_runs.proofs.Spending.{Spent}
@@ -61,6 +61,14 @@ each_more x y p each = elim p [
   | inr a ↦ a.harts ∙ ap (λ n. n + 1) each ∙ sym a.tasks
 ]
 
+-- a new task doesn't wait
+ready_rests : (c t cpu stamp : ℕ) (y z : Parts) → slice_get y.tasks t ≡ Some (new_task cpu stamp) → Wakes c t y z ⊎ Inherits None t y z → ⊥
+ready_rests c t cpu stamp y z there (inl w) =
+    let two : Some (new_task cpu stamp) ≡ Some w.task = sym there ∙ w.waited in
+    let same : new_task cpu stamp ≡ w.task = cc in
+    let no : InReady ≡ Waits (Line w.line) = ap (λ (task : Task). task.state) same ∙ w.on in cc
+ready_rests c t cpu stamp y z there (inr i) = let no = i.held in cc
+
 -- the task that was added settles as it was: it does not wait
 pub added_rests : (c : ℕ) (x y z : Parts) → Frame c None y z → Still y z → Added x y → Added x z
 added_rests c x y z f s p = elim p [
@@ -77,10 +85,7 @@ added_rests c x y z f s p = elim p [
       task = r.task (new_task a.cpu a.stamp) a.task;
       hart = λ each. r.hart (spawned_hart a.entry a.value) (a.hart each);
     })
-    | inr w ↦
-        let two : Some (new_task a.cpu a.stamp) ≡ Some w.task = sym a.task ∙ w.waited in
-        let same : new_task a.cpu a.stamp ≡ w.task = cc in
-        let no : InReady ≡ Waits (Line w.line) = ap (λ (task : Task). task.state) same ∙ w.on in cc
+    | inr woke ↦ absurd (ready_rests c (length x.tasks) a.cpu a.stamp y z a.task woke)
   ]
 ]
 
@@ -130,11 +135,26 @@ passes_added x y z e f p = elim p [
 ]
 
 -- ---- pipes are no tasks
-pub others_pipes : (c t : ℕ) (x y : Parts) (pipes : List Pipe) → Stays c t x y → Stays c t x (record y { pipes = pipes })
-others_pipes c t x y pipes p = elim p [
-  | inl r ↦ inl (record { task = r.task; hart = r.hart })
-  | inr w ↦ inr (record { task = w.task; line = w.line; stamp = w.stamp; waited = w.waited; on = w.on; at_home = w.at_home; fresh = w.fresh; wakes = w.wakes; hart = w.hart })
-]
+pub others_pipes : (o : Option ℕ) (c t : ℕ) (x y : Parts) (pipes : List Pipe) → StaysBy o c t x y → StaysBy o c t x (record y { pipes = pipes })
+others_pipes o c t x y pipes (inl r) = inl (record { task = r.task; hart = r.hart })
+others_pipes o c t x y pipes (inr (inl w)) = inr (inl (record { task = w.task; line = w.line; stamp = w.stamp; waited = w.waited; on = w.on; at_home = w.at_home; fresh = w.fresh; wakes = w.wakes; hart = w.hart }))
+others_pipes o c t x y pipes (inr (inr i)) = inr (inr (record {
+  task = i.task;
+  mutex = i.mutex;
+  giver = i.giver;
+  stamp = i.stamp;
+  after = i.after;
+  waited = i.waited;
+  on = i.on;
+  held = i.held;
+  had = i.had;
+  there = i.there;
+  owns = i.owns;
+  once = i.once;
+  fresh = i.fresh;
+  wakes = i.wakes;
+  hart = i.hart;
+}))
 
 pub added_pipes : (x y : Parts) (pipes : List Pipe) → Added x y → Added x (record y { pipes = pipes })
 added_pipes x y pipes p = elim p [
@@ -142,8 +162,8 @@ added_pipes x y pipes p = elim p [
   | inr a ↦ inr (record { cpu = a.cpu; stamp = a.stamp; entry = a.entry; value = a.value; tasks = a.tasks; harts = a.harts; room = a.room; task = a.task; hart = a.hart })
 ]
 
-pub spends_pipes : (c t : ℕ) (x y : Parts) (pipes : List Pipe) → Stays c t x y ⊎ Spends c t x y → Stays c t x (record y { pipes = pipes }) ⊎ Spends c t x (record y { pipes = pipes })
-spends_pipes c t x y pipes (inl p) = inl (others_pipes c t x y pipes p)
+pub spends_pipes : (c t : ℕ) (x y : Parts) (pipes : List Pipe) → StaysBy None c t x y ⊎ Spends c t x y → StaysBy None c t x (record y { pipes = pipes }) ⊎ Spends c t x (record y { pipes = pipes })
+spends_pipes c t x y pipes (inl p) = inl (others_pipes None c t x y pipes p)
 spends_pipes c t x y pipes (inr q) = inr (record {
   task = q.task;
   slice = q.slice;

@@ -1,12 +1,13 @@
 -- What a call leaves alone.
 use Rattle.std.proofs.Common.{◌≡◌, ℕ, ◌<◌, ◌%◌, List, [], ◌∷◌, ◌++◌, Bool, true, false, Option, Some, None, length, length-append, ◌⊎◌, inl, inr, refl, ap, sym, ◌∙◌, arith}
-use Rattle.std.specs.Prelude.{slice_get, is_none, nat_lt, nat_le, ◌==◌, if◌then◌else◌}
+use Rattle.std.specs.Prelude.{slice_get, is_none, nat_lt, nat_le, not, ◌&&◌, ◌==◌, if◌then◌else◌}
 use Rattle.std.proofs.lemmas.Bool.Decides.{eqb_tells, nat_tests}
 use Rattle.evm_exec.specs.Registers.{register_of}
 use Rattle.evm_exec.specs.declared.hart.Hart.{Hart}
 use Rattle.evm_lines.specs.declared.TheConstants.{LINES}
 use Rattle.evm_model.specs.Calls.{call_number, call_stage, all_calls, numbered, call_of, perform, is_weak_oob, return_weak, answered, finish_call, ask_oob, call_on, call_known, call_of_hart, call}
 use Rattle.evm_model.specs.InBandCalls.{exit, putc, yield_now, is_bad_entry, add_task, spawn, wait_line, attach_as, attach, detach, set_line}
+use Rattle.evm_model.specs.Mutexes.{owns_any}
 use Rattle.evm_model.specs.OobCalls.{stall, switch_oob, switch_in_band, is_scheduled_task, schedule_as, set_sched, set_mode, yield_oob, clock, state_bits}
 use Rattle.evm_model.specs.Lists.{change}
 use Rattle.evm_model.specs.Policies.{policy_of}
@@ -14,9 +15,9 @@ use Rattle.evm_model.specs.Stages.{refused, is_stalled, is_attached, may_promote
 use Rattle.evm_model.specs.Harts.{A0, A7, argument, advance, answer, spawned_hart}
 use Rattle.evm_model.specs.Settle.{current, is_oob}
 use Rattle.evm_model.specs.State.{Parts, new_task, on_hart}
-use Rattle.evm_model.specs.Tasks.{restamp, demote, set_policy}
+use Rattle.evm_model.specs.Tasks.{restamp, leave_in_band, demote, set_policy}
 use Rattle.evm_model.specs.declared.call.Call.{Call}
-use Rattle.evm_model.specs.declared.call.Call.TheVariants.{Exit, Putc, Yield, Spawn, Stall, Unstall, WaitLine, Attach, Detach, SetLine, SwitchOob, SwitchInBand, SetSched, SetMode, YieldOob, StallOob, UnstallOob, Clock, StateBits}
+use Rattle.evm_model.specs.declared.call.Call.TheVariants.{Exit, Putc, Yield, Spawn, Stall, Unstall, WaitLine, Attach, Detach, NewMutex, SetLine, SwitchOob, SwitchInBand, SetSched, SetMode, Lock, TryLock, Unlock, YieldOob, StallOob, UnstallOob, Clock, StateBits}
 use Rattle.evm_model.specs.declared.call.Outcome.{Outcome}
 use Rattle.evm_model.specs.declared.call.Outcome.TheVariants.{Answers, Waits, Leaves}
 use Rattle.evm_model.specs.declared.errno.Errno.TheVariants.{NotPermitted, NoSuchCall}
@@ -28,28 +29,13 @@ use Rattle.evm_model.specs.declared.task.Task.{Task}
 use Rattle.evm_model.specs.declared.task.TaskState.TheVariants.{Waits as Waiting}
 use Rattle.evm_model.specs.declared.task.Wait.TheVariants.{Line}
 use Rattle.evm_model.proofs.Lists.{change-elsewhere, length-change, slice_get-below}
-use Rattle.evm_runs.specs.Changes.{Adds, Added, Typed}
+use Rattle.evm_runs.specs.Changes.{Adds, Added}
+use Rattle.evm_runs.proofs.Acts.{Acts, acts_own, acts_none, either}
 use Rattle.evm_runs.proofs.Added.{added_kept}
-use Rattle.evm_runs.proofs.Frames.{Frame, Keeps, frame_then, frame_hart, frame_add, keeps_advance, keeps_answer}
-use Rattle.evm_runs.proofs.Own.{Own, own_none, own_then, own_restamp, own_clear, own_policy, own_mode, own_pipe, own_leave, own_wait, own_end, own_promote, own_demote, demote-elsewhere, demote-harts}
-
--- what an instruction of task t of c leaves alone
-pub record Acts (c t : ℕ) (old new : Parts) : Type 0 where
-  pub frame : Frame c (Some t) old new
-  pub added : Added old new
-  pub typed : Typed old new
-  -- c's current task is the same yet
-  pub runs : current c new ≡ current c old
-
-pub acts_own : (c t : ℕ) (k new : Parts) → Own c t k new → Acts c t k new
-acts_own c t k new p = record { frame = p.frame; added = inl (p.still.tasks, p.still.harts); typed = inl p.still.console; runs = p.runs }
-
-pub acts_none : (c t : ℕ) (k : Parts) → Acts c t k k
-acts_none c t k = acts_own c t k k (own_none c t k)
-
-either : (c t : ℕ) (k : Parts) (b : Bool) (x y : Parts × Outcome) → (b ≡ true → Acts c t k x.0) → (b ≡ false → Acts c t k y.0) → Acts c t k (if b then x else y).0
-either c t k true x y p q = p refl
-either c t k false x y p q = q refl
+use Rattle.evm_runs.proofs.Frames.{Keeps, passes_second, frame_then, frame_hart, frame_add, keeps_advance, keeps_answer}
+use Rattle.evm_runs.proofs.Locking.{makes, locks, tries, unlocks}
+use Rattle.evm_runs.proofs.Own.{Own, own_then, own_restamp, own_clear, own_policy, own_mode, own_pipe, own_leave, own_wait, own_promote, own_demote, demote-elsewhere, demote-harts, demote-mutexes}
+use Rattle.evm_runs.proofs.Passing.{own_end}
 
 exits : (c t : ℕ) (k : Parts) → Acts c t k (exit c t k).0
 unfolding exit
@@ -65,18 +51,20 @@ puts byte c t k = record {
     pipes = λ d h. refl;
     others = λ u h. inl (record { task = λ task e. e; hart = λ hart e. e });
     back = λ u x h e. inr e;
+    mutexes = λ m before e. inl e;
     processors_count = refl;
     pipes_count = refl;
     registers = λ h. h;
   };
   added = inl (refl, refl);
+  made = inl refl;
   typed = inr (byte % 256, refl);
   runs = refl;
 }
 
 yields : (c t : ℕ) (k : Parts) → Acts c t k (yield_now c t k).0
-unfolding yield_now
-yields c t k = either c t k (is_stalled InBand c k) _ _ (λ e. acts_none c t k) (λ e. acts_own c t k _ (own_then c t k (restamp t k) _ (own_restamp c t k) (own_leave c t (restamp t k))))
+unfolding yield_now leave_in_band
+yields c t k = either c t k (is_stalled InBand c k) _ _ (λ e. acts_none c t k) (λ e. acts_own c t k _ (own_then c t k (restamp t k) _ refl (own_restamp c t k) (own_leave c t (restamp t k))))
 
 room_for : (k : Parts) → nat_le TASK_LIMIT (length k.tasks) ≡ false → length k.tasks < TASK_LIMIT
 room_for k e = grind (arith, nat_tests)
@@ -103,6 +91,10 @@ same_current : (entry value cpu c : ℕ) (k : Parts) → current c (add_task ent
 unfolding add_task
 same_current entry value cpu c k = refl
 
+same_mutexes : (entry value cpu : ℕ) (k : Parts) → (add_task entry value cpu k).mutexes ≡ k.mutexes
+unfolding add_task
+same_mutexes entry value cpu k = refl
+
 same_console : (entry value cpu : ℕ) (k : Parts) → (add_task entry value cpu k).console ≡ k.console
 unfolding add_task
 same_console entry value cpu k = refl
@@ -115,6 +107,7 @@ spawns c t ram entry value cpu k =
     either c t k (nat_le TASK_LIMIT (length k.tasks)) _ _ (λ e. acts_none c t k) (λ room. record {
       frame = frame_add c entry value cpu (Some t) k;
       added = inr (adds entry value cpu k (room_for k room));
+      made = inl (ap length (same_mutexes entry value cpu k));
       typed = inl (same_console entry value cpu k);
       runs = same_current entry value cpu c k;
     })))
@@ -141,7 +134,9 @@ attaches c t class priority k = attaches_as (policy_of class priority) c t prior
 
 detaches : (c t : ℕ) (k : Parts) → Acts c t k (detach t k).0
 unfolding detach
-detaches c t k = either c t k (is_attached t k) _ _ (λ e. acts_own c t k _ (own_clear c t k)) (λ e. acts_none c t k)
+detaches c t k =
+    either c t k (not (is_attached t k)) _ _ (λ e. acts_none c t k) (λ e.
+    either c t k (owns_any t k.mutexes) _ _ (λ e. acts_none c t k) (λ e. acts_own c t k _ (own_clear c t k)))
 
 -- ---- of the out-of-band kernel, and of either
 stalls : (stage : Stage) (b : Bool) (c t : ℕ) (k : Parts) → Acts c t k (stall stage b c k).0
@@ -264,11 +259,15 @@ performs Unstall ram hart c t k g = alone c t k _ (stalls InBand false c t k)
 performs WaitLine ram hart c t k g = alone c t k _ (waits_line c t (argument 0 hart) k)
 performs Attach ram hart c t k g = alone c t k _ (attaches c t (argument 0 hart) (argument 1 hart) k)
 performs Detach ram hart c t k g = alone c t k _ (detaches c t k)
+performs NewMutex ram hart c t k g = alone c t k _ (makes c t (argument 0 hart) (argument 1 hart) k)
 performs SetLine ram hart c t k g = alone c t k _ (sets_line c t (argument 0 hart) (argument 1 hart) k)
 performs SwitchOob ram hart c t k g = alone c t k _ (switches_oob c t k)
 performs SwitchInBand ram hart c t k g = alone c t k _ (switches_in_band c t k)
 performs SetSched ram hart c t k g = schedules c t hart k g
 performs SetMode ram hart c t k g = alone c t k _ (sets_mode c t (argument 0 hart) k)
+performs Lock ram hart c t k g = alone c t k _ (locks c t (argument 0 hart) (argument 1 hart) k)
+performs TryLock ram hart c t k g = alone c t k _ (tries c t (argument 0 hart) k)
+performs Unlock ram hart c t k g = alone c t k _ (unlocks c t (argument 0 hart) k)
 performs YieldOob ram hart c t k g = alone c t k _ (yields_oob c t k)
 performs StallOob ram hart c t k g = alone c t k _ (stalls OutOfBand true c t k)
 performs UnstallOob ram hart c t k g = alone c t k _ (stalls OutOfBand false c t k)
@@ -295,8 +294,9 @@ answer_added t f x y below p = elim p [
 
 answer_acts : (c t : ℕ) (f : Hart → Hart) (x y : Parts) → Keeps f → t < length x.harts → Acts c t x y → Acts c t x (on_hart t f y)
 answer_acts c t f x y keeps below a = record {
-  frame = frame_then c (Some t) x y _ a.frame (frame_hart c t f y keeps);
+  frame = frame_then c (Some t) x y _ (passes_second (Some t) x.mutexes y.mutexes y.mutexes refl) a.frame (frame_hart c t f y keeps);
   added = answer_added t f x y below a.added;
+  made = a.made;
   typed = a.typed;
   runs = a.runs;
 }
@@ -310,9 +310,10 @@ demote_acts : (c t : ℕ) (x y : Parts) → is_weak_oob (slice_get y.tasks t) �
 demote_acts c t x y weak a =
     let p : Own c t y (demote c t y) = own_demote c t y in
     record {
-      frame = frame_then c (Some t) x y _ a.frame p.frame;
+      frame = frame_then c (Some t) x y _ (passes_second (Some t) x.mutexes y.mutexes (demote c t y).mutexes (demote-mutexes c t y)) a.frame p.frame;
       added = added_kept x y (demote c t y) p.still.tasks (demote-harts c t y)
           (λ cpu stamp there. demote-elsewhere c t (length x.tasks) y (weak_other t (length x.tasks) cpu stamp y weak there) ∙ there) a.added;
+      made = rw (demote-mutexes c t y) a.made;
       typed = elim a.typed [
         | inl same ↦ inl (p.still.console ∙ same)
         | inr more ↦ inr (more.0, p.still.console ∙ more.1)
@@ -320,13 +321,14 @@ demote_acts c t x y weak a =
       runs = p.runs ∙ a.runs;
     }
 
-demote_if : (b : Bool) (c t : ℕ) (x y : Parts) → is_weak_oob (slice_get y.tasks t) ≡ b → Acts c t x y → Acts c t x (if b then demote c t y else y)
-demote_if true c t x y weak a = demote_acts c t x y weak a
-demote_if false c t x y weak a = a
+demote_if : (weak free : Bool) (c t : ℕ) (x y : Parts) → is_weak_oob (slice_get y.tasks t) ≡ weak → Acts c t x y → Acts c t x (if weak && free then demote c t y else y)
+demote_if true true c t x y weak a = demote_acts c t x y weak a
+demote_if true false c t x y weak a = a
+demote_if false free c t x y weak a = a
 
 returns_weak : (c t : ℕ) (x y : Parts) → Acts c t x y → Acts c t x (return_weak c t y)
 unfolding return_weak
-returns_weak c t x y a = demote_if (is_weak_oob (slice_get y.tasks t)) c t x y refl a
+returns_weak c t x y a = demote_if (is_weak_oob (slice_get y.tasks t)) (not (owns_any t y.mutexes)) c t x y refl a
 
 answers : (outcome : Outcome) (c t : ℕ) (x y : Parts) → t < length x.harts → Acts c t x y → Acts c t x (answered outcome c t y)
 answers (Answers value) c t x y below a = returns_weak c t x (on_hart t (answer value) y) (answer_acts c t _ x y (keeps_answer A0 value) below a)

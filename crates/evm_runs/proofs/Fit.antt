@@ -23,10 +23,12 @@ use Rattle.evm_model.specs.declared.event.Event.TheVariants.{Step, Tick, Raise, 
 use Rattle.evm_model.specs.declared.limits.TheConstants.{CAPACITY_LIMIT}
 use Rattle.evm_model.proofs.Lists.{slice_get-replicate}
 use Rattle.evm_walk.proofs.Counted.{takes_counted, PipesUpTo-more}
+use Rattle.evm_walk.proofs.Held.{row_holds}
+use Rattle.evm_walk.proofs.Moves.{held_more}
 use Rattle.evm_walk.proofs.Rows.{row_takes, actor, raised_line}
 use Rattle.evm_walk.proofs.Runs.{IsKept, replay_keeps}
 use Rattle.evm_walk.proofs.Sets.{ArePipes, takes_pipes}
-use Rattle.evm_runs.specs.Fit.{CountsFit, IsUncounted, CountsAlwaysFit, CountsAlwaysFitLoaded, CountsAlwaysFitFresh}
+use Rattle.evm_runs.specs.Fit.{CountsFit, IsUncounted, CountsAlwaysFit, CountsAlwaysFitLoaded, CountsAlwaysFitFresh, HoldsFit, HoldsAlwaysFit, HoldsAlwaysFitLoaded, HoldsAlwaysFitFresh}
 use Rattle.evm_runs.proofs.Commands.{row-counts}
 use Rattle.evm_runs.proofs.Runs.{idle_balances, count_last}
 use Rattle.evm_runs.proofs.Steps.{step_done}
@@ -140,3 +142,33 @@ counts_always_fit boot good = counts_always_fit_fresh boot (start boot).board go
 pub counts_always_fit_loaded : CountsAlwaysFitLoaded
 unfolding booted booted_parts load
 counts_always_fit_loaded byte entry boot good = counts_always_fit_fresh boot (start_loaded byte entry boot).board good (record { pipes = refl; ticks = refl })
+
+-- ---- how often mutexes are locked
+record RunHolds (s : State) : Type 0 where
+  pipes : ArePipes s.board.parts
+  holds : HoldsFit s
+
+holds_kept : IsKept RunHolds
+holds_kept = record {
+  accepted = λ s event room e h.
+      let grown : length (s.journal ++ event ∷ []) ≡ length s.journal + 1 = length-append s.journal (event ∷ []) in
+      record {
+        pipes = takes_pipes (actor event) (raised_line event) PER_EVENT s.board.parts _ (row_takes event s.board e h.pipes) h.pipes;
+        holds = held_more (PER_EVENT * length s.journal + PER_EVENT) (PER_EVENT * length (s.journal ++ event ∷ [])) _ (omega arith)
+            (row_holds event s.board (PER_EVENT * length s.journal) e h.pipes h.holds);
+      };
+}
+
+pub holds_always_fit_fresh : HoldsAlwaysFitFresh
+holds_always_fit_fresh boot board u none events =
+    let first : State = record (start boot) { board = board } in
+    let begins : RunHolds first = record { pipes = (start_fits boot board u).pipes; holds = rw none (record { count = λ m mutex e. cc }) } in
+    (replay_keeps RunHolds first events holds_kept begins).holds
+
+pub holds_always_fit : HoldsAlwaysFit
+unfolding booted booted_parts
+holds_always_fit boot = holds_always_fit_fresh boot (start boot).board (record { pipes = refl; ticks = refl }) refl
+
+pub holds_always_fit_loaded : HoldsAlwaysFitLoaded
+unfolding booted booted_parts load
+holds_always_fit_loaded byte entry boot = holds_always_fit_fresh boot (start_loaded byte entry boot).board (record { pipes = refl; ticks = refl }) refl

@@ -1,3 +1,4 @@
+pub mod Acts
 pub mod Added
 pub mod Balance
 pub mod Breakpoints
@@ -8,7 +9,9 @@ pub mod Fit
 pub mod Frames
 pub mod Kept
 pub mod Least
+pub mod Locking
 pub mod Own
+pub mod Passing
 pub mod Raised
 pub mod Replays
 pub mod Runs

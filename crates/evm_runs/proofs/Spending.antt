@@ -11,6 +11,7 @@ use Rattle.evm_model.specs.Settle.{current, current_of, spend_of, spend_current,
 use Rattle.evm_model.specs.State.{Parts, on_pipe}
 use Rattle.evm_model.specs.Tasks.{restamp, set_slice, is_round_robin, spend_slice, spend_task}
 use Rattle.evm_model.specs.declared.limits.TheConstants.{SLICE}
+use Rattle.evm_model.specs.declared.mutex.Mutex.{Mutex}
 use Rattle.evm_model.specs.declared.processor.Processor.{Processor}
 use Rattle.evm_model.specs.declared.task.Class.{Class}
 use Rattle.evm_model.specs.declared.task.Class.TheVariants.{RoundRobin}
@@ -30,6 +31,7 @@ pub record Spent (c : ℕ) (old new : Parts) : Type 0 where
   pub pipes : (d : ℕ) → (d ≡ c → ⊥) → slice_get new.pipes d ≡ slice_get old.pipes d
   pub pipes_count : length new.pipes ≡ length old.pipes
   pub harts : new.harts ≡ old.harts
+  pub mutexes : new.mutexes ≡ old.mutexes
   pub console : new.console ≡ old.console
   pub tasks_count : length new.tasks ≡ length old.tasks
   pub tasks : (t : ℕ) → (slice_get new.tasks t ≡ slice_get old.tasks t) ⊎ Spends c t old new
@@ -42,6 +44,7 @@ spent_none c k = record {
   pipes = λ d h. refl;
   pipes_count = refl;
   harts = refl;
+  mutexes = refl;
   console = refl;
   tasks_count = refl;
   tasks = λ t. inl refl;
@@ -122,6 +125,7 @@ spent_then c x y z p q = record {
   pipes = λ d h. q.pipes d h ∙ p.pipes d h;
   pipes_count = q.pipes_count ∙ p.pipes_count;
   harts = q.harts ∙ p.harts;
+  mutexes = q.mutexes ∙ p.mutexes;
   console = q.console ∙ p.console;
   tasks_count = q.tasks_count ∙ p.tasks_count;
   tasks = λ t. tasks_then c t x y z p q.harts (p.tasks t) (q.tasks t);
@@ -143,6 +147,7 @@ one_task c t slice stamp stamps task f k g does when later = record {
   pipes = λ d h. refl;
   pipes_count = refl;
   harts = refl;
+  mutexes = refl;
   console = refl;
   tasks_count = length-change f k.tasks t;
   tasks = λ u. elim (cases_eq t u) [
@@ -220,6 +225,7 @@ spent_pipe c f k = record {
   pipes = λ d h. change-elsewhere f k.pipes c d h;
   pipes_count = length-change f k.pipes c;
   harts = refl;
+  mutexes = refl;
   console = refl;
   tasks_count = refl;
   tasks = λ t. inl refl;
@@ -249,10 +255,11 @@ frame_spent c o x y runs s = record {
     | inl same ↦ inr (sym same ∙ e)
     | inr p ↦ absurd (h (sym runs ∙ p.runs))
   ];
+  mutexes = λ m before e. inl (ap (λ (all : List Mutex). slice_get all m) s.mutexes ∙ e);
   processors_count = ap length s.processors;
   pipes_count = s.pipes_count;
   registers = λ h. rw s.harts h;
 }
 
 pub still_spent : (c : ℕ) (x y : Parts) → Spent c x y → Still x y
-still_spent c x y s = record { tasks = s.tasks_count; harts = ap length s.harts; console = s.console }
+still_spent c x y s = record { tasks = s.tasks_count; harts = ap length s.harts; mutexes = ap length s.mutexes; console = s.console }

@@ -19,11 +19,12 @@ use Rattle.evm_model.specs.Harts.{advance, argument}
 use Rattle.evm_model.specs.Instructions.{fault, stop, finish, finish_load, finish_store, execute, execute_inst, execute_word}
 use Rattle.evm_model.specs.Lists.{each}
 use Rattle.evm_model.specs.Memory.{fetch, read, write, with_ram}
+use Rattle.evm_model.specs.Passing.{end_task}
 use Rattle.evm_model.specs.Pipes.{Pipe, raise, receive}
 use Rattle.evm_model.specs.Rows.{run, step_hart, step_current, step_wire, step_pipe, step_processor, step}
 use Rattle.evm_model.specs.Settle.{current, current_of, is_oob, settle, nudge, nudge_pipe, settle_and_nudge, wants_nudge}
 use Rattle.evm_model.specs.State.{Board, Memory, Parts, on_hart, on_processor, on_pipe, on_parts}
-use Rattle.evm_model.specs.Tasks.{demote, end_task}
+use Rattle.evm_model.specs.Tasks.{demote}
 use Rattle.evm_model.specs.declared.event.Answer.{Answer}
 use Rattle.evm_model.specs.declared.event.Answer.TheVariants.{Stopped}
 use Rattle.evm_model.specs.declared.fault.Fault.{Fault}
@@ -32,11 +33,13 @@ use Rattle.evm_model.specs.declared.processor.Processor.{Processor}
 use Rattle.evm_model.specs.declared.task.Task.{Task}
 use Rattle.evm_model.specs.declared.task.TaskState.TheVariants.{Faulted}
 use Rattle.evm_model.proofs.Lists.{length-change, slice_get-each, length-each_from}
-use Rattle.evm_runs.specs.Changes.{StoreWrites, Stays, Spends, Schedules, Hears, StepChanges, Added, Typed}
+use Rattle.evm_runs.specs.Changes.{StoreWrites, StaysBy, Spends, Schedules, Hears, StepChanges, Added, Made, Typed}
 use Rattle.evm_runs.proofs.Added.{SameCounts, more_tasks, more_harts, few_more, each_more, added_rests, added_spent, passes_added, others_pipes, spends_pipes, added_pipes}
-use Rattle.evm_runs.proofs.Calling.{Acts, Asked, Called, acts_own, calls}
-use Rattle.evm_runs.proofs.Frames.{Frame, Keeps, one_change, frame_none, frame_then, frame_wider, frame_processor, frame_pipe, keeps_advance, keeps_register_pc, keeps_answer}
-use Rattle.evm_runs.proofs.Own.{own_then, own_hart, own_processor, own_end, own_demote}
+use Rattle.evm_runs.proofs.Acts.{Acts, acts_own}
+use Rattle.evm_runs.proofs.Calling.{Asked, Called, calls}
+use Rattle.evm_runs.proofs.Frames.{Frame, Keeps, passes_first, passes_second, one_change, frame_none, frame_then, frame_wider, frame_processor, frame_pipe, keeps_advance, keeps_register_pc, keeps_answer}
+use Rattle.evm_runs.proofs.Own.{own_then, own_hart, own_processor, own_demote}
+use Rattle.evm_runs.proofs.Passing.{own_end}
 use Rattle.evm_runs.proofs.Settled.{Settles, Same, settles, own_settles}
 use Rattle.evm_runs.proofs.Spending.{frame_spent}
 
@@ -109,7 +112,7 @@ effects Call c t b = calls_done c t (call (length b.memory.ram) c t b.parts) b (
 effects Break c t b =
     let went : Parts = on_hart t advance b.parts in
     parts_only _ c t _ b
-    (acts_own c t b.parts _ (own_then c t b.parts went _ (own_hart c t advance b.parts keeps_advance) (own_processor c t _ went (λ p. refl))))
+    (acts_own c t b.parts _ (own_then c t b.parts went _ refl (own_hart c t advance b.parts keeps_advance) (own_processor c t _ went (λ p. refl))))
 effects Misaligned c t b = parts_only _ c t _ b (faults c t _ b.parts)
 
 -- the word at the pc has written memory
@@ -170,6 +173,7 @@ record Before (c : ℕ) (old new : Board) : Type 0 where
   scheduled : (asked ≡ old.parts.tasks) ⊎ Schedules c old asked
   frame : Frame c (current c old.parts) (record old.parts { tasks = asked }) new.parts
   added : Added old.parts new.parts
+  made : Made old.parts.mutexes new.parts.mutexes
   typed : Typed old.parts new.parts
   breakpoints : new.breakpoints ≡ old.breakpoints
   memory : (new.memory ≡ old.memory) ⊎ StoreWrites c old new
@@ -182,10 +186,11 @@ record After (c : ℕ) (old new : Board) : Type 0 where
   scheduled : (asked ≡ old.parts.tasks) ⊎ Schedules c old asked
   frame : Frame c (current c old.parts) (record old.parts { tasks = asked }) new.parts
   added : Added old.parts new.parts
+  made : Made old.parts.mutexes new.parts.mutexes
   typed : Typed old.parts new.parts
   breakpoints : new.breakpoints ≡ old.breakpoints
   memory : (new.memory ≡ old.memory) ⊎ StoreWrites c old new
-  hears : Hears c old.parts → (asked ≡ old.parts.tasks) × ((t : ℕ) → current c old.parts ≡ Some t → Stays c t old.parts new.parts ⊎ Spends c t old.parts new.parts)
+  hears : Hears c old.parts → (asked ≡ old.parts.tasks) × ((t : ℕ) → current c old.parts ≡ Some t → StaysBy None c t old.parts new.parts ⊎ Spends c t old.parts new.parts) × (new.parts.mutexes ≡ old.parts.mutexes)
 
 pub record StepDone (c : ℕ) (old new : Board) : Type 0 where
   pub changes : StepChanges c old new
@@ -195,7 +200,7 @@ ram_count : (c : ℕ) (old new : Board) → (new.memory ≡ old.memory) ⊎ Stor
 ram_count c old new (inl same) = ap (λ (m : Memory). length m.ram) same
 ram_count c old new (inr w) = length-write_at old.memory.ram w.address w.width w.value new.memory.ram w.ram
 
-rests_same : (c t : ℕ) (old new : Parts) → Same c old new → Stays c t old new
+rests_same : (c t : ℕ) (old new : Parts) → Same c old new → StaysBy None c t old new
 rests_same c t old new s = inl (record {
   task = λ task e. ap (λ (all : List Task). slice_get all t) s.tasks ∙ e;
   hart = λ hart e. ap (λ (all : List Hart). slice_get all t) s.harts ∙ e;
@@ -213,8 +218,10 @@ quiet_step c old new h = record {
     processors = h.frame.processors;
     pipes = λ d other. inl (h.frame.pipes d other);
     others = h.frame.others;
-    hears = λ line. let quiet = h.hears line in (quiet.0, λ t runs. inl (rests_same c t old.parts new.parts quiet.1));
+    mutexes = h.frame.mutexes;
+    hears = λ line. let quiet = h.hears line in (quiet.0, (λ t runs. inl (rests_same c t old.parts new.parts quiet.1)), quiet.1.mutexes);
     added = h.added;
+    made = h.made;
     typed = h.typed;
   };
   counts = record {
@@ -275,9 +282,11 @@ nudged_step c old new h = let k : Parts = new.parts in record {
           | inl same ↦ inl (at ∙ same ∙ before)
           | inr raised ↦ inr (at ∙ raised ∙ ap (option_map (raise 1)) before)
         ];
-    others = λ t other. others_pipes c t (record old.parts { tasks = h.asked }) k (each (nudge_pipe c k) k.pipes) (h.frame.others t other);
-    hears = λ line. let quiet = h.hears line in (quiet.0, λ t runs. spends_pipes c t old.parts k (each (nudge_pipe c k) k.pipes) (quiet.1 t runs));
+    others = λ t other. others_pipes (current c old.parts) c t (record old.parts { tasks = h.asked }) k (each (nudge_pipe c k) k.pipes) (h.frame.others t other);
+    mutexes = h.frame.mutexes;
+    hears = λ line. let quiet = h.hears line in (quiet.0, (λ t runs. spends_pipes c t old.parts k (each (nudge_pipe c k) k.pipes) (quiet.1 t runs)), quiet.2);
     added = added_pipes old.parts k (each (nudge_pipe c k) k.pipes) h.added;
+    made = h.made;
     typed = h.typed;
   };
   counts = record {
@@ -303,19 +312,21 @@ settled_step c old new h =
     nudged_step c old (on_parts (settle c) new) (record {
       asked = h.asked;
       scheduled = h.scheduled;
-      frame = frame_then c o asked k (settle c k) h.frame (frame_then c o k s.between (settle c k) (frame_spent c o k s.between h.runs s.spent) (frame_wider c o s.between (settle c k) s.frame));
+      frame = frame_then c o asked k (settle c k) (passes_second o old.parts.mutexes k.mutexes (settle c k).mutexes (s.mutexes ∙ s.spent.mutexes)) h.frame
+          (frame_then c o k s.between (settle c k) (passes_second o k.mutexes s.between.mutexes (settle c k).mutexes s.mutexes) (frame_spent c o k s.between h.runs s.spent) (frame_wider c o s.between (settle c k) s.frame));
       added = added_rests c old.parts s.between (settle c k) s.frame s.still (added_spent c old.parts k s.between s.spent h.added);
+      made = rw (s.mutexes ∙ s.spent.mutexes) h.made;
       typed = elim h.typed [
         | inl same ↦ inl (s.still.console ∙ s.spent.console ∙ same)
         | inr more ↦ inr (more.0, s.still.console ∙ s.spent.console ∙ more.1)
       ];
       breakpoints = h.breakpoints;
       memory = same_writes c (settle c) old new h.memory;
-      hears = λ line. let quiet = h.hears line in (quiet.0, λ t runs. own_settles c t old.parts k (settle c k) quiet.1 s);
+      hears = λ line. let quiet = h.hears line in (quiet.0, (λ t runs. own_settles c t old.parts k (settle c k) quiet.1 s), s.mutexes ∙ s.spent.mutexes ∙ quiet.1.mutexes);
     })
 
 same_all : (c : ℕ) (k : Parts) → Same c k k
-same_all c k = record { tasks = refl; harts = refl; stamps = omega arith; runs = refl }
+same_all c k = record { tasks = refl; harts = refl; mutexes = refl; stamps = omega arith; runs = refl }
 
 -- no task changes, nor memory
 no_task : (c : ℕ) (k : Parts) (b : Board) → Frame c (current c b.parts) b.parts k → Added b.parts k → Typed b.parts k → Same c b.parts k → Before c b (record b { parts = k })
@@ -324,6 +335,7 @@ no_task c k b f a y s = record {
   scheduled = inl refl;
   frame = f;
   added = a;
+  made = inl (ap length s.mutexes);
   typed = y;
   breakpoints = refl;
   memory = inl refl;
@@ -337,7 +349,7 @@ none_yet c b = no_task c b.parts b (frame_none c (current c b.parts) b.parts) (i
 on_processor_only : (c : ℕ) (f : Processor → Processor) (b : Board) → ((p : Processor) → (f p).current ≡ p.current) → Before c b (on_parts (on_processor c f) b)
 on_processor_only c f b h =
     no_task c (on_processor c f b.parts) b (frame_processor c (current c b.parts) f b.parts) (inl (refl, refl)) (inl refl)
-    (record { tasks = refl; harts = refl; stamps = omega arith; runs = (own_processor c 0 f b.parts h).runs })
+    (record { tasks = refl; harts = refl; mutexes = refl; stamps = omega arith; runs = (own_processor c 0 f b.parts h).runs })
 
 asked_count : (c t : ℕ) (hart : Hart) (b : Board) (asked : List Task) → (asked ≡ b.parts.tasks) ⊎ Asks hart t b asked → length asked ≡ length b.parts.tasks
 asked_count c t hart b asked (inl same) = ap length same
@@ -380,8 +392,9 @@ run_done hart c t b deaf r e =
     settled_step c b new (record {
       asked = x.asked;
       scheduled = asks_schedules hart c t b passed.parts x.asked r e refl refl x.scheduled;
-      frame = rw r (frame_then c (Some t) before between new.parts (frame_processor c (Some t) skips before) x.acts.frame);
+      frame = rw r (frame_then c (Some t) before between new.parts (passes_first (Some t) b.parts.mutexes b.parts.mutexes new.parts.mutexes refl) (frame_processor c (Some t) skips before) x.acts.frame);
       added = passes_added b.parts between new.parts (asked_count c t hart passed x.asked x.scheduled) refl x.acts.added;
+      made = x.acts.made;
       typed = x.acts.typed;
       breakpoints = x.breakpoints;
       memory = elim x.memory [
@@ -435,7 +448,7 @@ wire_done : (o : Option ℕ) (pipe : Pipe) (p : Processor) (c : ℕ) (b : Board)
 wire_done None pipe p c b e w r = current_done p.current p c b (is_deaf c pipe b.parts e w) r
 wire_done (Some l) pipe p c b e w r = settled_step c b (on_parts (on_pipe c (receive l)) b)
     (no_task c (on_pipe c (receive l) b.parts) b (frame_pipe c (current c b.parts) (receive l) b.parts) (inl (refl, refl)) (inl refl)
-    (record { tasks = refl; harts = refl; stamps = omega arith; runs = refl }))
+    (record { tasks = refl; harts = refl; mutexes = refl; stamps = omega arith; runs = refl }))
 
 pipe_done : (o : Option Pipe) (p : Processor) (c : ℕ) (b : Board) → slice_get b.parts.pipes c ≡ o → current c b.parts ≡ p.current → StepDone c b (step_pipe o p c b).0
 pipe_done None p c b e r = quiet_step c b b (none_yet c b)

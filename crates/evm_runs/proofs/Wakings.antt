@@ -1,19 +1,21 @@
 -- What a wake leaves alone.
-use Rattle.std.proofs.Common.{◌≡◌, ℕ, zero, suc, Bool, true, false, ◌&&◌, Option, Some, None, inl, inr, refl, ap, sym, ◌∙◌, arith}
+use Rattle.std.proofs.Common.{◌≡◌, ℕ, zero, suc, List, Bool, true, false, ◌&&◌, Option, Some, None, inl, inr, refl, ap, sym, ◌∙◌, arith}
 use Rattle.std.specs.Prelude.{slice_get, option_map, ◌==◌, if◌then◌else◌}
 use Rattle.std.proofs.lemmas.Bool.{cases_eq}
 use Rattle.std.proofs.lemmas.Bool.Decides.{eqb_tells}
+use Rattle.evm_model.specs.Good.{is_ready}
 use Rattle.evm_model.specs.Harts.{A0, set_register}
 use Rattle.evm_model.specs.Lists.{change}
 use Rattle.evm_model.specs.State.{Parts, on_hart}
 use Rattle.evm_model.specs.Tasks.{restamp, set_state, wake_in_band, wake_below, awaits, is_wait_for}
+use Rattle.evm_model.specs.declared.mutex.Mutex.{Mutex}
 use Rattle.evm_model.specs.declared.task.Task.{Task}
 use Rattle.evm_model.specs.declared.task.TaskState.{TaskState}
 use Rattle.evm_model.specs.declared.task.TaskState.TheVariants.{InReady, Waits}
 use Rattle.evm_model.specs.declared.task.Wait.TheVariants.{Line}
-use Rattle.evm_model.proofs.Lists.{change-here}
-use Rattle.evm_runs.specs.Changes.{Wakes}
-use Rattle.evm_runs.proofs.Frames.{Frame, Still, frame_none, frame_then, frame_hart, frame_state, frame_restamp, keeps_register, still_none, still_then, still_if, still_hart, still_state, still_restamp}
+use Rattle.evm_model.proofs.Lists.{change-here, change-elsewhere}
+use Rattle.evm_runs.specs.Changes.{Rests, Wakes}
+use Rattle.evm_runs.proofs.Frames.{Frame, Still, passes_second, passes_none, frame_none, frame_then, frame_hart, frame_state, frame_restamp, keeps_register, still_none, still_then, still_if, still_hart, still_state, still_restamp}
 
 record Waited (c l t : ℕ) (k : Parts) : Type 0 where
   task : Task
@@ -64,14 +66,29 @@ wakes_here c l t k w =
       hart = λ hart e. change-here (set_register A0 0) k.harts t ∙ ap (option_map (set_register A0 0)) e;
     }
 
+-- another task, and the mutexes
+wake_rests : (t u : ℕ) (k : Parts) → (u ≡ t → ⊥) → Rests u k (wake_in_band t 0 k)
+unfolding wake_in_band restamp set_state
+wake_rests t u k other =
+    let ready : Task → Task = λ task. record task { state = InReady } in
+    let stamped : Task → Task = λ task. record task { stamp = k.stamps } in
+    record {
+      task = λ task e. change-elsewhere stamped (change ready k.tasks t) t u other ∙ change-elsewhere ready k.tasks t u other ∙ e;
+      hart = λ hart e. change-elsewhere (set_register A0 0) k.harts t u other ∙ e;
+    }
+
+wake_mutexes : (t : ℕ) (k : Parts) → (wake_in_band t 0 k).mutexes ≡ k.mutexes
+unfolding wake_in_band restamp set_state
+wake_mutexes t k = refl
+
 -- seen from another task
 wake_frame : (c t : ℕ) (k : Parts) → Frame c (Some t) k (wake_in_band t 0 k)
-unfolding wake_in_band
+unfolding wake_in_band restamp set_state
 wake_frame c t k =
     let told : Parts = on_hart t (set_register A0 0) k in
     let ready : Parts = set_state t InReady told in
-    frame_then c (Some t) k told _ (frame_hart c t _ k (keeps_register A0 0))
-    (frame_then c (Some t) told ready _ (frame_state c t InReady told) (frame_restamp c t ready))
+    frame_then c (Some t) k told _ (passes_second (Some t) k.mutexes k.mutexes k.mutexes refl) (frame_hart c t _ k (keeps_register A0 0))
+    (frame_then c (Some t) told ready _ (passes_second (Some t) k.mutexes k.mutexes k.mutexes refl) (frame_state c t InReady told) (frame_restamp c t ready))
 
 frame_wake : (c l t : ℕ) (k : Parts) → Waited c l t k → Frame c None k (wake_in_band t 0 k)
 frame_wake c l t k w =
@@ -83,16 +100,17 @@ frame_wake c l t k w =
       processors = f.processors;
       pipes = f.pipes;
       others = λ u h. elim (cases_eq t u) [
-        | inl same ↦ rw (← same) (inr here)
-        | inr other ↦ f.others u (λ e. other cc)
+        | inl same ↦ rw (← same) (inr (inl here))
+        | inr other ↦ inl (wake_rests t u k (λ same. other (sym same)))
       ];
       back = λ u x h e. elim (cases_eq t u) [
         | inl same ↦
             let two : Some (record here.task { stamp = here.stamp; state = InReady }) ≡ Some x = sym here.wakes ∙ ap (slice_get (wake_in_band t 0 k).tasks) same ∙ e in
             let it : record here.task { stamp = here.stamp; state = InReady } ≡ x = cc in
-            inl (ap (λ (y : Task). y.state) (sym it))
+            inl (ap (λ (y : Task). is_ready y.state) (sym it))
         | inr other ↦ f.back u x (λ e. other cc) e
       ];
+      mutexes = λ m before e. inl (ap (λ (all : List Mutex). slice_get all m) (wake_mutexes t k) ∙ e);
       processors_count = f.processors_count;
       pipes_count = f.pipes_count;
       registers = f.registers;
@@ -114,7 +132,7 @@ unfolding wake_below
 frame_wakes c l zero k = frame_none c None k
 frame_wakes c l (suc t) k =
     let before : Parts = wake_below c l t k in
-    frame_then c None k before _ (frame_wakes c l t k) (if_wakes c l t before (awaits c l (slice_get before.tasks t)) refl)
+    frame_then c None k before _ (passes_none k.mutexes before.mutexes _) (frame_wakes c l t k) (if_wakes c l t before (awaits c l (slice_get before.tasks t)) refl)
 
 pub still_wakes : (c l n : ℕ) (k : Parts) → Still k (wake_below c l n k)
 unfolding wake_below
@@ -122,3 +140,14 @@ still_wakes c l zero k = still_none k
 still_wakes c l (suc t) k =
     let before : Parts = wake_below c l t k in
     still_then k before _ (still_wakes c l t k) (still_if before (wake_in_band t 0 before) before (awaits c l (slice_get before.tasks t)) (still_wake t before) (still_none before))
+
+if_mutexes : (b : Bool) (x y : Parts) → x.mutexes ≡ y.mutexes → (if b then x else y).mutexes ≡ y.mutexes
+if_mutexes true x y e = e
+if_mutexes false x y e = refl
+
+pub wakes_mutexes : (c l n : ℕ) (k : Parts) → (wake_below c l n k).mutexes ≡ k.mutexes
+unfolding wake_below
+wakes_mutexes c l zero k = refl
+wakes_mutexes c l (suc t) k =
+    let before : Parts = wake_below c l t k in
+    if_mutexes (awaits c l (slice_get before.tasks t)) (wake_in_band t 0 before) before (wake_mutexes t before) ∙ wakes_mutexes c l t k

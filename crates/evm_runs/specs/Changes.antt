@@ -1,5 +1,5 @@
 -- What each event changes: the places that it names, and nothing else.
-use Rattle.std.specs.Prelude.{◌≡◌, ℕ, ◌+◌, ◌++◌, ◌<◌, ◌≤◌, List, [], ◌∷◌, Some, Bool, true, false, ◌⊎◌, if◌then◌else◌, slice_get, option_map, length, Ok}
+use Rattle.std.specs.Prelude.{◌≡◌, ℕ, ◌+◌, ◌++◌, ◌<◌, ◌≤◌, List, [], ◌∷◌, Option, Some, None, Bool, true, false, ◌⊎◌, if◌then◌else◌, slice_get, option_map, length, Ok}
 use Rattle.evm_lines.specs.Lines.{has_line, with_line}
 use Rattle.evm_isa.specs.Decoded.{decoded}
 use Rattle.evm_isa.specs.declared.inst.Inst.{Inst}
@@ -13,6 +13,7 @@ use Rattle.evm_model.specs.InBandCalls.{last_bytes}
 use Rattle.evm_model.specs.Commands.{is_set}
 use Rattle.evm_model.specs.Harts.{A0, A7, argument, set_register, spawned_hart}
 use Rattle.evm_model.specs.Memory.{fetch}
+use Rattle.evm_model.specs.Mutexes.{owner, free_mutex}
 use Rattle.evm_model.specs.OobCalls.{is_scheduled_task}
 use Rattle.evm_model.specs.Pipes.{Pipe, raise}
 use Rattle.evm_model.specs.Policies.{policy_of}
@@ -24,13 +25,15 @@ use Rattle.evm_model.specs.declared.event.Answer.{Answer}
 use Rattle.evm_model.specs.declared.event.Answer.TheVariants.{Done}
 use Rattle.evm_model.specs.declared.event.Event.{Event}
 use Rattle.evm_model.specs.declared.event.Event.TheVariants.{Step, Tick, Raise, Bell, Stop, Go, StepI, SetReg, SetPc, Poke, Break, Unbreak}
-use Rattle.evm_model.specs.declared.limits.TheConstants.{SLICE, TASK_LIMIT}
+use Rattle.evm_model.specs.declared.limits.TheConstants.{SLICE, MUTEX_LIMIT, TASK_LIMIT}
+use Rattle.evm_model.specs.declared.mutex.Mutex.{Mutex}
+use Rattle.evm_model.specs.declared.mutex.Protocol.{Protocol}
 use Rattle.evm_model.specs.declared.processor.Processor.{Processor}
 use Rattle.evm_model.specs.declared.task.Class.{Class}
 use Rattle.evm_model.specs.declared.task.Class.TheVariants.{RoundRobin}
 use Rattle.evm_model.specs.declared.task.Task.{Task}
 use Rattle.evm_model.specs.declared.task.TaskState.TheVariants.{InReady, OobReady, Waits}
-use Rattle.evm_model.specs.declared.task.Wait.TheVariants.{Line}
+use Rattle.evm_model.specs.declared.task.Wait.TheVariants.{Line, Lock}
 
 -- the i-th of a list is changed so, and no other
 pub record OneChanges {X : Type 0} (i : ℕ) (change : X → X) (old new : List X) : Type 0 where
@@ -115,9 +118,54 @@ pub record Wakes (c t : ℕ) (old new : Parts) : Type 0 where
   pub wakes : slice_get new.tasks t ≡ Some (record task { stamp = stamp; state = InReady })
   pub hart : (hart : Hart) → slice_get old.harts t ≡ Some hart → slice_get new.harts t ≡ Some (set_register A0 0 hart)
 
--- .. one of the two
+-- task t, of whatever processor, waited for a mutex that this task had, and has it now, locked once: it is ready out-of-band, its call is answered by 0, its stamp is a later one
+pub record Inherits (holder : Option ℕ) (t : ℕ) (old new : Parts) : Type 0 where
+  pub task : Task
+  pub mutex : ℕ
+  pub giver : ℕ
+  pub stamp : ℕ
+  pub after : Mutex
+  pub waited : slice_get old.tasks t ≡ Some task
+  pub on : task.state ≡ Waits (Lock mutex)
+  pub held : holder ≡ Some giver
+  pub had : owner old.mutexes mutex ≡ Some giver
+  pub there : slice_get new.mutexes mutex ≡ Some after
+  pub owns : after.owner ≡ Some t
+  pub once : after.count ≡ 1
+  pub fresh : old.stamps ≤ stamp
+  pub wakes : slice_get new.tasks t ≡ Some (record task { stamp = stamp; state = OobReady })
+  pub hart : (hart : Hart) → slice_get old.harts t ≡ Some hart → slice_get new.harts t ≡ Some (set_register A0 0 hart)
+
+-- .. one of the three
+abbrev pub StaysBy : Option ℕ → ℕ → ℕ → Parts → Parts → Type 0
+StaysBy holder c t old new = Rests t old new ⊎ Wakes c t old new ⊎ Inherits holder t old new
+
+-- .. where it is the current task of c whose mutex passes on
 abbrev pub Stays : ℕ → ℕ → Parts → Parts → Type 0
-Stays c t old new = Rests t old new ⊎ Wakes c t old new
+Stays c t old new = StaysBy (current c old) c t old new
+
+-- mutex m, which was free or this task's, has another owner or count; it is of the same kind
+pub record MutexChanges (holder : Option ℕ) (m : ℕ) (before : Mutex) (new : List Mutex) : Type 0 where
+  pub after : Mutex
+  pub there : slice_get new m ≡ Some after
+  pub kind : after ≡ record before { owner = after.owner; count = after.count }
+  pub whose : (before.owner ≡ None) ⊎ (before.owner ≡ holder)
+
+-- each mutex is as it was, or was free or this task's
+abbrev pub MutexesStay : Option ℕ → List Mutex → List Mutex → Type 0
+MutexesStay holder old new = (m : ℕ) (before : Mutex) → slice_get old m ≡ Some before → (slice_get new m ≡ Some before) ⊎ MutexChanges holder m before new
+
+-- there is one mutex more, the last, and it is free
+pub record Makes (old new : List Mutex) : Type 0 where
+  pub recursive : Bool
+  pub protocol : Protocol
+  pub count : length new ≡ length old + 1
+  pub room : length old < MUTEX_LIMIT
+  pub mutex : slice_get new (length old) ≡ Some (free_mutex recursive protocol)
+
+-- as many mutexes as before, or one more
+abbrev pub Made : List Mutex → List Mutex → Type 0
+Made old new = (length new ≡ length old) ⊎ Makes old new
 
 -- task t, current on c, is ready out-of-band and of the round-robin class, and spends its slice: there is less of it with the stamp of before, or with a later stamp a whole one at most; nothing else of the task is another
 pub record Spends (c t : ℕ) (old new : Parts) : Type 0 where
@@ -177,7 +225,7 @@ Added old new = ((length new.tasks ≡ length old.tasks) × (length new.harts �
 abbrev pub Typed : Parts → Parts → Type 0
 Typed old new = (new.console ≡ old.console) ⊎ ((byte : ℕ) × (new.console ≡ last_bytes (old.console ++ byte ∷ [])))
 
--- a step of c changes RAM only by a store; of the tasks it changes the one that was current on c, the one that it calls to have another class, such as waited on c for a line, which wake, and adds one at most; of other processors it changes only that line 1 may be raised there
+-- a step of c changes RAM only by a store; of the tasks it changes the one that was current on c, the one that it calls to have another class, such as waited on c for a line, which wake, such as waited for a mutex of the current one, which have it now, and adds one at most; of the mutexes it changes only such as were free or the current task's, and adds one at most; of other processors it changes only that line 1 may be raised there
 pub record StepChanges (c : ℕ) (old new : Board) : Type 0 where
   -- the tasks, but that one may have another class
   pub asked : List Task
@@ -189,9 +237,11 @@ pub record StepChanges (c : ℕ) (old new : Board) : Type 0 where
   pub processors : (d : ℕ) → (d ≡ c → ⊥) → slice_get new.parts.processors d ≡ slice_get old.parts.processors d
   pub pipes : (d : ℕ) → (d ≡ c → ⊥) → (slice_get new.parts.pipes d ≡ slice_get old.parts.pipes d) ⊎ (slice_get new.parts.pipes d ≡ option_map (raise 1) (slice_get old.parts.pipes d))
   pub others : (t : ℕ) → (current c old.parts ≡ Some t → ⊥) → Stays c t (record old.parts { tasks = asked }) new.parts
-  -- where a line is on the wire the current task too stays, or its slice is spent
-  pub hears : Hears c old.parts → (asked ≡ old.parts.tasks) × ((t : ℕ) → current c old.parts ≡ Some t → Stays c t old.parts new.parts ⊎ Spends c t old.parts new.parts)
+  pub mutexes : MutexesStay (current c old.parts) old.parts.mutexes new.parts.mutexes
+  -- where a line is on the wire the current task too stays, or its slice is spent, and no mutex changes
+  pub hears : Hears c old.parts → (asked ≡ old.parts.tasks) × ((t : ℕ) → current c old.parts ≡ Some t → StaysBy None c t old.parts new.parts ⊎ Spends c t old.parts new.parts) × (new.parts.mutexes ≡ old.parts.mutexes)
   pub added : Added old.parts new.parts
+  pub made : Made old.parts.mutexes new.parts.mutexes
   pub typed : Typed old.parts new.parts
 
 -- c is let go past a breakpoint, takes a step, and is stopped

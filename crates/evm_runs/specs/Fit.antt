@@ -1,7 +1,7 @@
 -- Counts stay far below 2^64, so that they are plain numbers though they are kept in 64 bits.
-use Rattle.std.specs.Prelude.{◌≡◌, ℕ, ◌*◌, ◌^◌, ◌<◌, ◌≤◌, List, Some, false, slice_get, length, count_by}
+use Rattle.std.specs.Prelude.{◌≡◌, ℕ, ◌*◌, ◌^◌, ◌<◌, ◌≤◌, List, [], Some, false, slice_get, length, count_by}
 use Rattle.evm_lines.specs.declared.TheConstants.{LINES}
-use Rattle.evm_model.specs.Bounds.{PER_EVENT, PipesUpTo}
+use Rattle.evm_model.specs.Bounds.{PER_EVENT, PipesUpTo, HeldUpTo}
 use Rattle.evm_model.specs.Good.{is_tick}
 use Rattle.evm_model.specs.Load.{start_loaded}
 use Rattle.evm_model.specs.Pipes.{Pipe}
@@ -37,3 +37,19 @@ CountsAlwaysFitLoaded = (byte : ℕ → ℕ) (entry : ℕ) (boot : Boot) → bad
 
 abbrev pub CountsAlwaysFitFresh : Type 0
 CountsAlwaysFitFresh = (boot : Boot) (board : Board) → bad_boot boot ≡ false → IsUncounted boot board → FitsFrom (record (start boot) { board = board })
+
+-- no mutex is locked more often than the fixed number for each event of the journal
+abbrev pub HoldsFit : State → Type 0
+HoldsFit s = HeldUpTo (PER_EVENT * length s.journal) s.board.parts.mutexes
+
+abbrev pub HoldsFitFrom : State → Type 0
+HoldsFitFrom s = (events : List Event) → HoldsFit (replay s events)
+
+abbrev pub HoldsAlwaysFit : Type 0
+HoldsAlwaysFit = (boot : Boot) → HoldsFitFrom (start boot)
+
+abbrev pub HoldsAlwaysFitLoaded : Type 0
+HoldsAlwaysFitLoaded = (byte : ℕ → ℕ) (entry : ℕ) (boot : Boot) → HoldsFitFrom (start_loaded byte entry boot)
+
+abbrev pub HoldsAlwaysFitFresh : Type 0
+HoldsAlwaysFitFresh = (boot : Boot) (board : Board) → IsUncounted boot board → board.parts.mutexes ≡ [] → HoldsFitFrom (record (start boot) { board = board })

@@ -4,7 +4,7 @@
 ghost use Rattle.evm_runs.specs.Balance.{AlwaysBalances, AlwaysBalancesFresh, AlwaysBalancesLoaded};
 ghost use Rattle.evm_runs.specs.Changes.{EventsChangeOnly, RaisesOneLine};
 ghost use Rattle.evm_runs.specs.First.{AlwaysFindsFirst};
-ghost use Rattle.evm_runs.specs.Fit.{CountsAlwaysFit, CountsAlwaysFitFresh, CountsAlwaysFitLoaded};
+ghost use Rattle.evm_runs.specs.Fit.{CountsAlwaysFit, CountsAlwaysFitFresh, CountsAlwaysFitLoaded, HoldsAlwaysFit, HoldsAlwaysFitFresh, HoldsAlwaysFitLoaded};
 ghost use Rattle.evm_runs.specs.Kept.{SizesStay, StaysAsBooted, StaysAsLoaded};
 ghost use Rattle.evm_runs.specs.Least.{AlwaysTellsLeast};
 ghost use Rattle.evm_runs.specs.Replays.{LoadsEachByte, LoadsSoManyBytes, ReplaysJoin, StartsAsReplay, StaysReplay};
@@ -20,18 +20,23 @@ pub fn balance_holds()
 {}
 
 /// After every list of events, also where an image was loaded before, the journal is within its capacity, the
-/// clock is its ticks, and all counts are below 2^29, so that none has wrapped.
+/// clock is its ticks, and all counts are below 2^29, so that none has wrapped; and so is how often each mutex is
+/// locked.
 pub fn counts_fit()
     ensures booted { CountsAlwaysFit }
     ensures loaded { CountsAlwaysFitLoaded }
     ensures fresh { CountsAlwaysFitFresh }
+    ensures holds { HoldsAlwaysFit }
+    ensures holds_loaded { HoldsAlwaysFitLoaded }
+    ensures holds_fresh { HoldsAlwaysFitFresh }
 {}
 
 /// An accepted event is in the journal afterwards. A command answers Done, and changes only the place that it
 /// names. A step changes RAM only by a store; of the tasks it changes the one that was current, gives another class
-/// to the one for which that task asks it by call 34, wakes such as waited there for a line, and adds one at most;
-/// of the other processors only line 1 may be raised. Where a line is on the wire, of the task that was current at
-/// most the slice is spent.
+/// to the one for which that task asks it by call 34, wakes such as waited there for a line, gives mutexes of that task
+/// to such as waited for them, and adds one at most; of the mutexes it changes such as were free or that task's, and
+/// adds one at most; of the other processors only line 1 may be raised. Where a line is on the wire, of the task that
+/// was current at most the slice is spent, and no mutex changes.
 pub fn events_change_only()
     ensures { EventsChangeOnly }
 {}

@@ -1,22 +1,13 @@
-use Rattle.std.proofs.Common.{◌≡◌, ℕ, ◌<◌, ◌≤◌, List, Option, Some, None, Bool, true, false, slice_get, length, inl, inr, eq-eqb, refl, arith}
-use Rattle.std.specs.Prelude.{nat_lt, ◌==◌, ◌&&◌, if◌then◌else◌}
-use Rattle.std.proofs.lemmas.Bool.Decides.{eqb_tells, nat_tests}
+use Rattle.std.proofs.Common.{◌≡◌, ℕ, List, Option, Some, None, Bool, true, false, slice_get, length, inl, inr, eq-eqb, refl}
+use Rattle.std.specs.Prelude.{◌==◌, ◌&&◌}
+use Rattle.std.proofs.lemmas.Bool.Decides.{eqb_tells}
 use Rattle.std.proofs.lemmas.Option.{slice_get_within}
 use Rattle.evm_model.specs.Ranks.{best, rank, stamp, is_oob_ready, runs_oob, runs_oob_task}
 use Rattle.evm_model.specs.declared.task.Task.{Task}
 use Rattle.evm_model.specs.declared.task.TaskState.{TaskState}
 use Rattle.evm_model.specs.declared.task.TaskState.TheVariants.{OobReady}
+use Rattle.evm_claims.proofs.Leads.{leads}
 use Rattle.evm_claims.proofs.parts.the_best_task_is_first.Goals as goal
-
--- of two tasks' ranks and stamps, where the one does not go before the other
-leads : (r s r' s' : ℕ) → (if nat_lt r' r then true else (if nat_lt r r' then false else nat_lt s s')) ≡ false → (r ≤ r') × (r ≡ r' → s' ≤ s)
-leads r s r' s' h = by (nat_lt r' r) (nat_lt r r') (nat_lt s s') refl refl refl h
-  where
-    by : (a b c : Bool) → nat_lt r' r ≡ a → nat_lt r r' ≡ b → nat_lt s s' ≡ c → (if a then true else (if b then false else c)) ≡ false → (r ≤ r') × (r ≡ r' → s' ≤ s)
-    by true b c e f g h = cc
-    by false true c e f g h = let less : r < r' = grind (arith, nat_tests) in (omega arith, λ same. omega arith)
-    by false false true e f g h = cc
-    by false false false e f g h = let most : r ≤ r' = grind (arith, nat_tests) in let late : s' ≤ s = grind (arith, nat_tests) in (most, λ same. late)
 
 is_ready : (state : TaskState) → is_oob_ready state ≡ true → state ≡ OobReady
 is_ready OobReady h = refl
@@ -47,8 +38,8 @@ member p u tasks task there home ready = let same : (task.cpu == p) ≡ true = e
 
 pub returns-clause-best : goal.returns-clause-best
 unfolding best
-returns-clause-best c p t tasks e =
-    let found = (c.finds_first.ensures (runs_oob p tasks) (rank tasks) (stamp tasks) (length tasks)).found t e in
+returns-clause-best c p t mutexes tasks e =
+    let found = (c.finds_first.ensures (runs_oob p tasks) (rank mutexes tasks) (stamp tasks) (length tasks)).found t e in
     let r = runs p (slice_get tasks t) found.is_member in (
       r.task,
       (
@@ -57,15 +48,15 @@ returns-clause-best c p t tasks e =
         r.ready,
         λ u other there home ready.
             let behind = found.leads u (slice_get_within tasks u other there) (member p u tasks other there home ready) in
-            let so = leads (rank tasks u) (stamp tasks u) (rank tasks t) (stamp tasks t) behind in
+            let so = leads (rank mutexes tasks u) (stamp tasks u) (rank mutexes tasks t) (stamp tasks t) behind in
             rw (there, r.there) at so,
       ),
     )
 
 pub returns-clause-none_ready : goal.returns-clause-none_ready
 unfolding best
-returns-clause-none_ready c p t tasks task e there home ready =
-    let none = (c.finds_first.ensures (runs_oob p tasks) (rank tasks) (stamp tasks) (length tasks)).none_found e t (slice_get_within tasks t task there) in
+returns-clause-none_ready c p t mutexes tasks task e there home ready =
+    let none = (c.finds_first.ensures (runs_oob p tasks) (rank mutexes tasks) (stamp tasks) (length tasks)).none_found e t (slice_get_within tasks t task there) in
     let some = member p t tasks task there home ready in
     cc
 

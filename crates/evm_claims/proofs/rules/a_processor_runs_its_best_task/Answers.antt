@@ -6,7 +6,7 @@ returns-clause-best g boot byte entry events s c t pipe p fits from e f u v b = 
 
 pub returns-clause-none_ready : goal.returns-clause-none_ready
 returns-clause-none_ready g boot byte entry events s c pipe p fits from e f u v m =
-    none-ready c pipe p s.board.parts.tasks (settled boot byte entry events s c pipe p fits from e f) u v m
+    none-ready c pipe p s.board.parts.mutexes s.board.parts.tasks (settled boot byte entry events s c pipe p fits from e f) u v m
 
 pub returns-clause-in_band : goal.returns-clause-in_band
 returns-clause-in_band g boot byte entry events s c pipe p fits from e f m = (settled boot byte entry events s c pipe p fits from e f).runs_in_band m

@@ -64,3 +64,11 @@ returns-clause-counts_fresh c boot board events fits pipes ticks p l pipe n here
       omega (arith, most.inband.merged, fit.small),
       omega (arith, most.inband.played, fit.small),
     )
+
+pub returns-clause-holds : goal.returns-clause-holds
+returns-clause-holds c boot events fits m mutex there =
+    omega (arith, (c.counts_fit.ensures.holds boot events).count m mutex there, (c.counts_fit.ensures.booted boot fits events).small)
+
+pub returns-clause-holds_loaded : goal.returns-clause-holds_loaded
+returns-clause-holds_loaded c byte entry boot events fits m mutex there =
+    omega (arith, (c.counts_fit.ensures.holds_loaded byte entry boot events).count m mutex there, (c.counts_fit.ensures.loaded byte entry boot fits events).small)

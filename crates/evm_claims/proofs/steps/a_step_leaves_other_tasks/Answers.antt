@@ -1,14 +1,16 @@
 use Rattle.std.proofs.Common.{◌≡◌, ℕ, ◌<◌, ◌≤◌, List, Option, Some, None, slice_get, ◌⊎◌, inl, inr, refl, ap, sym, ◌∙◌}
 use Rattle.std.proofs.lemmas.Bool.{cases_eq}
 use Rattle.evm_exec.specs.declared.hart.Hart.{Hart}
+use Rattle.evm_model.specs.Mutexes.{owner, owner_of}
 use Rattle.evm_model.specs.Settle.{current}
 use Rattle.evm_model.specs.State.{Board, Parts}
 use Rattle.evm_model.specs.declared.event.Event.TheVariants.{Step}
+use Rattle.evm_model.specs.declared.mutex.Mutex.{Mutex}
 use Rattle.evm_model.specs.declared.task.Class.TheVariants.{RoundRobin}
 use Rattle.evm_model.specs.declared.task.Task.{Task}
 use Rattle.evm_model.specs.declared.task.TaskState.TheVariants.{OobReady}
-use Rattle.evm_runs.specs.Changes.{Stays, Spends, Hears, StepChanges}
-use Rattle.evm_claims.proofs.Given.{IsLeft, left, stepped}
+use Rattle.evm_runs.specs.Changes.{Inherits, StaysBy, Spends, Hears, StepChanges}
+use Rattle.evm_claims.proofs.Given.{IsWoken, woken, stepped}
 use Rattle.evm_claims.proofs.steps.a_step_leaves_other_tasks.Goals as goal
 
 pub returns-clause-tasks : goal.returns-clause-tasks
@@ -25,7 +27,8 @@ IsSpent c t old new task hart =
     × (slice_get new.harts t ≡ Some hart)))
 
 abbrev IsHeard : ℕ → ℕ → Parts → Parts → Task → Hart → Type 0
-IsHeard c t old new task hart = IsLeft c t old new task hart ⊎ IsSpent c t old new task hart
+IsHeard c t old new task hart =
+    ((slice_get new.tasks t ≡ Some task) × (slice_get new.harts t ≡ Some hart)) ⊎ IsWoken c t old new task hart ⊎ IsSpent c t old new task hart
 
 spent : (c t : ℕ) (old new : Parts) (task : Task) (hart : Hart) → slice_get old.tasks t ≡ Some task → slice_get old.harts t ≡ Some hart → Spends c t old new → IsSpent c t old new task hart
 spent c t old new task hart there at q =
@@ -33,14 +36,28 @@ spent c t old new task hart there at q =
     let same : q.task ≡ task = cc in
     (q.slice, (q.stamp, (q.runs, rw (← same) q.on, rw (← same) q.robin, rw (← same) q.left, rw (← same) q.spends, q.hart hart at)))
 
-own : (c t : ℕ) (old new : Parts) (task : Task) (hart : Hart) → slice_get old.tasks t ≡ Some task → slice_get old.harts t ≡ Some hart → Stays c t old new ⊎ Spends c t old new → IsHeard c t old new task hart
-own c t old new task hart there at (inl stays) = inl (left c t old new task hart there at stays)
-own c t old new task hart there at (inr spends) = inr (spent c t old new task hart there at spends)
+own : (c t : ℕ) (old new : Parts) (task : Task) (hart : Hart) → slice_get old.tasks t ≡ Some task → slice_get old.harts t ≡ Some hart → StaysBy None c t old new ⊎ Spends c t old new → IsHeard c t old new task hart
+own c t old new task hart there at (inl (inl r)) = inl (r.task task there, r.hart hart at)
+own c t old new task hart there at (inl (inr (inl w))) = inr (inl (woken c t old new task hart there at w))
+own c t old new task hart there at (inl (inr (inr i))) = let no = i.held in cc
+own c t old new task hart there at (inr spends) = inr (inr (spent c t old new task hart there at spends))
+
+-- a mutex that doesn't change is inherited by no other task
+none_inherits : (o : Option ℕ) (t : ℕ) (old new : Parts) → new.mutexes ≡ old.mutexes → (o ≡ Some t → ⊥) → Inherits o t old new → ⊥
+none_inherits o t old new same other i =
+    let its : owner old.mutexes i.mutex ≡ Some t = ap (λ (all : List Mutex). owner all i.mutex) (sym same) ∙ ap owner_of i.there ∙ i.owns in
+    let two : Some i.giver ≡ Some t = sym i.had ∙ its in
+    other (i.held ∙ two)
+
+another : (o : Option ℕ) (c t : ℕ) (old new : Parts) (task : Task) (hart : Hart) → slice_get old.tasks t ≡ Some task → slice_get old.harts t ≡ Some hart → new.mutexes ≡ old.mutexes → (o ≡ Some t → ⊥) → StaysBy o c t old new → IsHeard c t old new task hart
+another o c t old new task hart there at same other (inl r) = inl (r.task task there, r.hart hart at)
+another o c t old new task hart there at same other (inr (inl w)) = inr (inl (woken c t old new task hart there at w))
+another o c t old new task hart there at same other (inr (inr i)) = absurd (none_inherits o t old new same other i)
 
 others : (c t : ℕ) (old new : Board) (task : Task) (hart : Hart) → StepChanges c old new → Hears c old.parts → (current c old.parts ≡ Some t → ⊥) → slice_get old.parts.tasks t ≡ Some task → slice_get old.parts.harts t ≡ Some hart
     → IsHeard c t old.parts new.parts task hart
 others c t old new task hart b line other there at =
-    inl (left c t (record old.parts { tasks = b.asked }) new.parts task hart (ap (λ (all : List Task). slice_get all t) (b.hears line).0 ∙ there) at (b.others t other))
+    another (current c old.parts) c t (record old.parts { tasks = b.asked }) new.parts task hart (ap (λ (all : List Task). slice_get all t) (b.hears line).0 ∙ there) at (b.hears line).2 other (b.others t other)
 
 heard : (o : Option ℕ) (c t : ℕ) (old new : Board) (task : Task) (hart : Hart) → current c old.parts ≡ o → StepChanges c old new → Hears c old.parts → slice_get old.parts.tasks t ≡ Some task → slice_get old.parts.harts t ≡ Some hart
     → IsHeard c t old.parts new.parts task hart
@@ -53,10 +70,4 @@ heard (Some u) c t old new task hart runs b line there at = elim (cases_eq u t) 
 pub returns-clause-line : goal.returns-clause-line
 returns-clause-line c old new answer p t l pipe task hart e there on is has =
     let b = (c.events_change_only.ensures old new (Step p) answer e).board in
-    elim (heard (current p old.board.parts) p t old.board new.board task hart refl b (record { pipe = pipe; line = l; there = there; on = on }) is has) [
-      | inl stays ↦ elim stays [
-        | inl rests ↦ inl rests
-        | inr wakes ↦ inr (inl wakes)
-      ]
-      | inr spends ↦ inr (inr spends)
-    ]
+    heard (current p old.board.parts) p t old.board new.board task hart refl b (record { pipe = pipe; line = l; there = there; on = on }) is has

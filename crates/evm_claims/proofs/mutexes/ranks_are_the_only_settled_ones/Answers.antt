@@ -1,0 +1,29 @@
+use Rattle.std.proofs.Common.{◌≡◌, ℕ, ◌<◌, List, length}
+use Rattle.evm_ranks.proofs.Rounds.{rounds_settle, settled_is_one}
+use Rattle.evm_ranks.specs.Boosts.{IsSettledRank}
+use Rattle.evm_model.specs.Good.{AreLocks}
+use Rattle.evm_model.specs.Mutexes.{boosts}
+use Rattle.evm_model.specs.Ranks.{own_rank, rank}
+use Rattle.evm_model.specs.declared.limits.TheConstants.{TASK_LIMIT}
+use Rattle.evm_model.specs.declared.mutex.Mutex.{Mutex}
+use Rattle.evm_model.specs.declared.task.Task.{Task}
+use Rattle.evm_claims.proofs.Ranking.{boosts_fall}
+use Rattle.evm_claims.proofs.Settled.{follows-good}
+use Rattle.evm_claims.proofs.mutexes.ranks_are_the_only_settled_ones.Goals as goal
+
+settles : (mutexes : List Mutex) (tasks : List Task) → AreLocks mutexes tasks → IsSettledRank (boosts mutexes tasks) (own_rank mutexes tasks) (length tasks) (rank mutexes tasks)
+unfolding rank
+settles mutexes tasks l = rounds_settle (boosts mutexes tasks) (own_rank mutexes tasks) (length tasks) TASK_LIMIT (boosts_fall mutexes tasks l)
+
+only : (mutexes : List Mutex) (tasks : List Task) (other : ℕ → ℕ) (t : ℕ) → AreLocks mutexes tasks → IsSettledRank (boosts mutexes tasks) (own_rank mutexes tasks) (length tasks) other → t < length tasks → other t ≡ rank mutexes tasks t
+unfolding rank
+only mutexes tasks other t l s below =
+    settled_is_one (boosts mutexes tasks) (own_rank mutexes tasks) (length tasks) TASK_LIMIT other (boosts_fall mutexes tasks l) s t below
+
+pub returns-clause-settled : goal.returns-clause-settled
+returns-clause-settled g boot byte entry events s t fits from below =
+    settles s.board.parts.mutexes s.board.parts.tasks (follows-good boot byte entry events s fits from).good.locks t below
+
+pub returns-clause-only : goal.returns-clause-only
+returns-clause-only g boot byte entry events s other t fits from same below =
+    only s.board.parts.mutexes s.board.parts.tasks other t (follows-good boot byte entry events s fits from).good.locks same below

@@ -1,0 +1,121 @@
+//! Who owns a mutex, who waits for it, and how it ranks its owner: the rules that hold after every event, and how a mutex
+//! passes on.
+ghost use Rattle.std.specs.Prelude.{◌≡◌, ◌≢◌, ◌+◌, ◌%◌, ◌<◌, ◌≤◌, ◌⊎◌, ℕ, suc, List, false, Option, slice_get, length};
+ghost use Rattle.evm_model.specs.Load.{start_loaded};
+ghost use Rattle.evm_model.specs.Mutexes.{owner, waits_on, boosts};
+ghost use Rattle.evm_model.specs.Passing.{first_waiter, pass_on};
+ghost use Rattle.evm_model.specs.Ranks.{class_rank, own_rank, rank};
+ghost use Rattle.evm_model.specs.Replay.{bad_boot, start, replay};
+ghost use Rattle.evm_model.specs.State.{State, Parts};
+ghost use Rattle.evm_model.specs.declared.boot.Boot.{Boot};
+ghost use Rattle.evm_model.specs.declared.event.Event.{Event};
+ghost use Rattle.evm_model.specs.declared.mutex.Mutex.{Mutex};
+ghost use Rattle.evm_model.specs.declared.mutex.Protocol.{Protocol};
+ghost use Rattle.evm_model.specs.declared.task.Task.{Task};
+ghost use Rattle.evm_model.specs.declared.task.TaskState.{TaskState};
+ghost use Rattle.evm_model.specs.declared.task.Wait.{Wait};
+ghost use Rattle.evm_ranks.specs.Boosts.{greatest, walk};
+
+/// After every boot whose numbers are inside their limits, with an image loaded or none, and every list of events: a mutex
+/// for which a task waits is there, and another task owns it; each owner is a task that is there; and there are 32 mutexes
+/// at the most.
+pub fn each_waited_mutex_has_an_owner()
+    ensures waited { (boot : Boot) (byte : ℕ → ℕ) (entry : ℕ) (events : List Event) (s : State) (u m : ℕ) (task : Task) → bad_boot boot ≡ false →
+        (s ≡ replay (start boot) events) ⊎ ((entry % 4 ≡ 0) × (s ≡ replay (start_loaded byte entry boot) events)) →
+        slice_get s.board.parts.tasks u ≡ Option.Some task → task.state ≡ TaskState.Waits (Wait.Lock m) →
+        (t : ℕ) × ((mutex : Mutex) × ((slice_get s.board.parts.mutexes m ≡ Option.Some mutex) × (mutex.owner ≡ Option.Some t)
+        × (t < length s.board.parts.tasks) × (t ≢ u))) }
+    ensures owners { (boot : Boot) (byte : ℕ → ℕ) (entry : ℕ) (events : List Event) (s : State) (m t : ℕ) (mutex : Mutex) → bad_boot boot ≡ false →
+        (s ≡ replay (start boot) events) ⊎ ((entry % 4 ≡ 0) × (s ≡ replay (start_loaded byte entry boot) events)) →
+        slice_get s.board.parts.mutexes m ≡ Option.Some mutex → mutex.owner ≡ Option.Some t → t < length s.board.parts.tasks }
+    ensures few { (boot : Boot) (byte : ℕ → ℕ) (entry : ℕ) (events : List Event) (s : State) → bad_boot boot ≡ false →
+        (s ≡ replay (start boot) events) ⊎ ((entry % 4 ≡ 0) × (s ≡ replay (start_loaded byte entry boot) events)) →
+        length s.board.parts.mutexes ≤ 32 }
+{}
+
+/// Likewise: no chain of tasks, each of which waits for a mutex of the next, returns to its start, and none is longer than
+/// 64 links. A task waits for the owner of its mutex.
+pub fn no_chain_of_waiting_returns()
+    ensures returns { (boot : Boot) (byte : ℕ → ℕ) (entry : ℕ) (events : List Event) (s : State) (links t : ℕ) → bad_boot boot ≡ false →
+        (s ≡ replay (start boot) events) ⊎ ((entry % 4 ≡ 0) × (s ≡ replay (start_loaded byte entry boot) events)) →
+        walk (waits_on s.board.parts.mutexes s.board.parts.tasks) (suc links) t ≢ Option.Some t }
+    ensures ends { (boot : Boot) (byte : ℕ → ℕ) (entry : ℕ) (events : List Event) (s : State) (t : ℕ) → bad_boot boot ≡ false →
+        (s ≡ replay (start boot) events) ⊎ ((entry % 4 ≡ 0) × (s ≡ replay (start_loaded byte entry boot) events)) →
+        walk (waits_on s.board.parts.mutexes s.board.parts.tasks) 65 t ≡ Option.None }
+    ensures links { (mutexes : List Mutex) (tasks : List Task) (u t m : ℕ) (task : Task) (mutex : Mutex) →
+        slice_get tasks u ≡ Option.Some task → task.state ≡ TaskState.Waits (Wait.Lock m) →
+        slice_get mutexes m ≡ Option.Some mutex → mutex.owner ≡ Option.Some t → waits_on mutexes tasks u ≡ Option.Some t }
+{}
+
+/// Likewise: the owner of a mutex of inheritance ranks no lower than each task that waits for it; and a task's rank is its
+/// own, or that of a task which it boosts so.
+pub fn an_owner_ranks_no_lower_than_its_waiters()
+    ensures inherits { (boot : Boot) (byte : ℕ → ℕ) (entry : ℕ) (events : List Event) (s : State) (u t m : ℕ) (task : Task) (mutex : Mutex) → bad_boot boot ≡ false →
+        (s ≡ replay (start boot) events) ⊎ ((entry % 4 ≡ 0) × (s ≡ replay (start_loaded byte entry boot) events)) →
+        slice_get s.board.parts.tasks u ≡ Option.Some task → task.state ≡ TaskState.Waits (Wait.Lock m) →
+        slice_get s.board.parts.mutexes m ≡ Option.Some mutex → mutex.protocol ≡ Protocol.Inheritance → mutex.owner ≡ Option.Some t →
+        rank s.board.parts.mutexes s.board.parts.tasks u ≤ rank s.board.parts.mutexes s.board.parts.tasks t }
+    ensures one_of_them { (boot : Boot) (byte : ℕ → ℕ) (entry : ℕ) (events : List Event) (s : State) (t : ℕ) → bad_boot boot ≡ false →
+        (s ≡ replay (start boot) events) ⊎ ((entry % 4 ≡ 0) × (s ≡ replay (start_loaded byte entry boot) events)) →
+        t < length s.board.parts.tasks →
+        (rank s.board.parts.mutexes s.board.parts.tasks t ≡ own_rank s.board.parts.mutexes s.board.parts.tasks t)
+        ⊎ ((u : ℕ) × ((u < length s.board.parts.tasks) × (boosts s.board.parts.mutexes s.board.parts.tasks u ≡ Option.Some t)
+        × (rank s.board.parts.mutexes s.board.parts.tasks t ≡ rank s.board.parts.mutexes s.board.parts.tasks u))) }
+    ensures boosters { (mutexes : List Mutex) (tasks : List Task) (u t : ℕ) → boosts mutexes tasks u ≡ Option.Some t →
+        (m : ℕ) × ((task : Task) × ((mutex : Mutex) × ((slice_get tasks u ≡ Option.Some task) × (task.state ≡ TaskState.Waits (Wait.Lock m))
+        × (slice_get mutexes m ≡ Option.Some mutex) × (mutex.protocol ≡ Protocol.Inheritance) × (mutex.owner ≡ Option.Some t)))) }
+{}
+
+/// Likewise: another round of boosts changes no rank, and there are no other ranks that none changes.
+pub fn ranks_are_the_only_settled_ones()
+    ensures settled { (boot : Boot) (byte : ℕ → ℕ) (entry : ℕ) (events : List Event) (s : State) (t : ℕ) → bad_boot boot ≡ false →
+        (s ≡ replay (start boot) events) ⊎ ((entry % 4 ≡ 0) × (s ≡ replay (start_loaded byte entry boot) events)) →
+        t < length s.board.parts.tasks →
+        rank s.board.parts.mutexes s.board.parts.tasks t
+        ≡ greatest (boosts s.board.parts.mutexes s.board.parts.tasks) (rank s.board.parts.mutexes s.board.parts.tasks) t
+        (own_rank s.board.parts.mutexes s.board.parts.tasks t) (length s.board.parts.tasks) }
+    ensures only { (boot : Boot) (byte : ℕ → ℕ) (entry : ℕ) (events : List Event) (s : State) (other : ℕ → ℕ) (t : ℕ) → bad_boot boot ≡ false →
+        (s ≡ replay (start boot) events) ⊎ ((entry % 4 ≡ 0) × (s ≡ replay (start_loaded byte entry boot) events)) →
+        ((u : ℕ) → u < length s.board.parts.tasks →
+        other u ≡ greatest (boosts s.board.parts.mutexes s.board.parts.tasks) other u
+        (own_rank s.board.parts.mutexes s.board.parts.tasks u) (length s.board.parts.tasks)) →
+        t < length s.board.parts.tasks → other t ≡ rank s.board.parts.mutexes s.board.parts.tasks t }
+{}
+
+/// A task never ranks below its class and priority, nor below the ceiling of a mutex that it owns: its own rank is one of
+/// these. A task that owns no mutex ranks as its class and priority say.
+pub fn a_rank_is_never_below_its_own()
+    ensures own { (mutexes : List Mutex) (tasks : List Task) (t : ℕ) → own_rank mutexes tasks t ≤ rank mutexes tasks t }
+    ensures class { (mutexes : List Mutex) (tasks : List Task) (t : ℕ) (task : Task) → slice_get tasks t ≡ Option.Some task →
+        class_rank task.class task.priority ≤ own_rank mutexes tasks t }
+    ensures ceiling { (mutexes : List Mutex) (tasks : List Task) (t m priority : ℕ) (mutex : Mutex) →
+        slice_get mutexes m ≡ Option.Some mutex → mutex.protocol ≡ Protocol.Ceiling priority → mutex.owner ≡ Option.Some t →
+        100 + priority ≤ own_rank mutexes tasks t }
+    ensures one_of_them { (mutexes : List Mutex) (tasks : List Task) (t : ℕ) (task : Task) → slice_get tasks t ≡ Option.Some task →
+        (own_rank mutexes tasks t ≡ class_rank task.class task.priority)
+        ⊎ ((m : ℕ) × ((mutex : Mutex) × ((priority : ℕ) × ((slice_get mutexes m ≡ Option.Some mutex)
+        × (mutex.protocol ≡ Protocol.Ceiling priority) × (mutex.owner ≡ Option.Some t) × (own_rank mutexes tasks t ≡ 100 + priority))))) }
+    ensures alone { (mutexes : List Mutex) (tasks : List Task) (t : ℕ) (task : Task) → slice_get tasks t ≡ Option.Some task →
+        ((m : ℕ) → owner mutexes m ≢ Option.Some t) → rank mutexes tasks t ≡ class_rank task.class task.priority }
+{}
+
+/// A mutex passes on to the first that waits for it: no other that waits for it ranks higher, nor as high with a lesser
+/// stamp. That task owns it then, locked once, and is ready out-of-band; where none waits for it, it is free.
+pub fn a_mutex_passes_to_the_first_waiter()
+    ensures waits { (m t : ℕ) (k : Parts) → first_waiter m k ≡ Option.Some t →
+        (task : Task) × ((slice_get k.tasks t ≡ Option.Some task) × (task.state ≡ TaskState.Waits (Wait.Lock m))
+        × ((u : ℕ) (other : Task) → slice_get k.tasks u ≡ Option.Some other → other.state ≡ TaskState.Waits (Wait.Lock m) →
+        (rank k.mutexes k.tasks u ≤ rank k.mutexes k.tasks t)
+        × (rank k.mutexes k.tasks u ≡ rank k.mutexes k.tasks t → task.stamp ≤ other.stamp))) }
+    ensures none_waits { (m u : ℕ) (k : Parts) (other : Task) → first_waiter m k ≡ Option.None →
+        slice_get k.tasks u ≡ Option.Some other → other.state ≢ TaskState.Waits (Wait.Lock m) }
+    ensures passes { (m t : ℕ) (k : Parts) (mutex : Mutex) (task : Task) → first_waiter m k ≡ Option.Some t →
+        slice_get k.mutexes m ≡ Option.Some mutex → slice_get k.tasks t ≡ Option.Some task →
+        (slice_get (pass_on m k).mutexes m ≡ Option.Some (record mutex { owner = Option.Some t; count = 1 }))
+        × (slice_get (pass_on m k).tasks t ≡ Option.Some (record task { stamp = k.stamps; state = TaskState.OobReady })) }
+    ensures frees { (m : ℕ) (k : Parts) (mutex : Mutex) → first_waiter m k ≡ Option.None → slice_get k.mutexes m ≡ Option.Some mutex →
+        (slice_get (pass_on m k).mutexes m ≡ Option.Some (record mutex { owner = Option.None; count = 0 }))
+        × ((pass_on m k).tasks ≡ k.tasks) }
+{
+    evm_runs::finds_first();
+}
