@@ -49,7 +49,9 @@ fn ceiling_of(priority: u8, owner: Option<u8>) -> Mutex {
     }
 }
 
-fn two(first: Mutex, second: Mutex) -> Mutexes {
+fn two(first: Mutex, second: Mutex) -> Mutexes
+    ensures { length result ≡ 2 }
+{
     let mut mutexes = Mutexes::new();
     mutexes.create(first);
     mutexes.create(second);
@@ -181,7 +183,8 @@ fn owners_are_known(rt: HostRuntime) {
     assert!(rt; mutexes.get(1) == Some(FREE));
 }
 
-// 2 waits for 1, which waits for 0: each of them waits for 0 by some chain, and 0 for none of them.
+// 2 waits for 1, which waits for 0: each of them waits for 0 by some chain, so if 0 waited for 2 that were a cycle of
+// three. 0 waits for none of them, and 3 stands apart.
 #[test]
 fn a_chain_is_walked(rt: HostRuntime) {
     let tasks = [

@@ -1,6 +1,8 @@
 -- The best task by ranks that are told is the best one.
-use Rattle.std.proofs.Common.{◌≡◌, ℕ, List, length}
+use Rattle.std.proofs.Common.{◌≡◌, ℕ, ◌<◌, List, Some, length}
+use Rattle.std.specs.Prelude.{slice_get}
 use Rattle.evm_boost.specs.Scatter.{AreRanks}
+use Rattle.evm_model.proofs.Lists.{slice_get-below}
 use Rattle.evm_model.specs.Ranks.{best, first, rank, runs_oob, stamp}
 use Rattle.evm_model.specs.declared.mutex.Mutex.{Mutex}
 use Rattle.evm_model.specs.declared.task.Task.{Task}
@@ -11,3 +13,9 @@ pub best-told : (c : ℕ) (ranks : List ℕ) (mutexes : List Mutex) (tasks : Lis
     → first (runs_oob c tasks) (told ranks) (stamp tasks) (length tasks) ≡ best c mutexes tasks
 unfolding best
 best-told c ranks mutexes tasks are = first-same (runs_oob c tasks) (told ranks) (rank mutexes tasks) (stamp tasks) (length tasks) are
+
+-- a task that is there has a number below their count
+pub task-below : (tasks : List Task) (t : ℕ) (task : Task) → slice_get tasks t ≡ Some task → t < length tasks
+task-below tasks t task e = slice_get-below tasks t task e
+
+pub ruleset there = (task-below)

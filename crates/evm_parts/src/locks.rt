@@ -1,12 +1,13 @@
 //! What rows do to a mutex, and to the tasks that wait for it.
 
-ghost use Rattle.std.specs.Prelude.{◌≡◌, ◌<◌, ◌≤◌, ◌+◌, ◌^◌, Some, length};
+ghost use Rattle.std.specs.Prelude.{◌≡◌, ◌<◌, ◌≤◌, ◌+◌, ◌^◌, Some, length, slice_get};
 ghost use Rattle.evm_boost.specs.Scatter.{AreRanks};
 ghost use Rattle.evm_model.specs.Locks.{add_mutex, take_mutex, wait_for};
 ghost use Rattle.evm_model.specs.Mutexes.{owns_any, held_by, waits_on};
 ghost use Rattle.evm_model.specs.Passing.{wake_oob, first_waiter, pass_on, pass_if, pass_below};
-ghost use Rattle.evm_model.specs.Ranks.{best};
+ghost use Rattle.evm_model.specs.Ranks.{best, rank};
 ghost use Rattle.evm_model.specs.State.{on_mutex};
+ghost use Rattle.evm_model.specs.declared.task.Task.{Task};
 ghost use Rattle.evm_ranks.specs.Boosts.{meets};
 
 use crate::parts::Parts;
@@ -18,6 +19,17 @@ impl Parts {
         ensures { AreRanks result self.now.mutexes self.now.tasks }
     {
         self.mutexes.ranks(self.tasks.as_slice())
+    }
+
+    /// The rank of a task, 0 where there is no such task.
+    #[tactic(auto, using(crate::proofs::Chosen::there))]
+    pub fn rank(&self, t: u8) -> u16
+        ensures { (task : Task) → slice_get self.now.tasks t ≡ Some task → result ≡ rank self.now.mutexes self.now.tasks t }
+    {
+        if t >= self.tasks.count() {
+            return 0;
+        }
+        self.mutexes.rank(self.tasks.as_slice(), t)
     }
 
     /// The number of the out-of-band task that a processor should run, by the ranks of all.
