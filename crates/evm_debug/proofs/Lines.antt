@@ -18,7 +18,7 @@ use Rattle.evm_journal.specs.EventLineReading.{keyword, or_else, event_line_at}
 use Rattle.evm_journal.proofs.Forms.{keyword_some, or_some}
 use Rattle.evm_journal.proofs.Lines.{reads_event_lines}
 use Rattle.evm_debug.specs.declared.line.View.{View}
-use Rattle.evm_debug.specs.declared.line.View.TheVariants.{Regs, Mem, Stages, Tasks, Counts, Journal, Console}
+use Rattle.evm_debug.specs.declared.line.View.TheVariants.{Regs, Mem, Stages, Tasks, Owners, Rank, Counts, Journal, Console}
 use Rattle.evm_debug.specs.declared.line.Line.{Line}
 use Rattle.evm_debug.specs.declared.line.Line.TheVariants.{Blank, Boot, Steps, One, Look}
 use Rattle.evm_debug.specs.Line.{view_text, HasViewLine, boot_text, is_blank, IsSpelled}
@@ -107,6 +107,18 @@ tasks_takes view rest read =
     let none = nil_from_length rest (eqb-true (length rest) 0 g.0) in
     subst (IsViewOf (codes "tasks") rest) (same_Some Tasks view g.1) (ap (λ (t : List ℕ). codes "tasks" ++ t) none, tt)
 
+owners_takes : (view : View) (rest : List ℕ) → cond (eqb (length rest) 0) (Some Owners) None ≡ Some view → IsViewOf (codes "owners") rest view
+owners_takes view rest read =
+    let g = guard_some (eqb (length rest) 0) (Some Owners) view read in
+    let none = nil_from_length rest (eqb-true (length rest) 0 g.0) in
+    subst (IsViewOf (codes "owners") rest) (same_Some Owners view g.1) (ap (λ (t : List ℕ). codes "owners" ++ t) none, tt)
+
+rank_takes : (view : View) (rest : List ℕ) → (u8_last rest >>= λ task. Some (Rank task)) ≡ Some view → IsViewOf (codes "rank ") rest view
+rank_takes view rest read =
+    let a = bind_some (u8_last rest) (λ task. Some (Rank task)) view read in
+    let task = (reads_u8_last a.0 rest).0 a.1 in
+    subst (IsViewOf (codes "rank ") rest) (same_Some (Rank a.0) view a.2) (ap (λ (t : List ℕ). codes "rank " ++ t) task.0, task.1)
+
 journal_takes : (view : View) (rest : List ℕ) → cond (eqb (length rest) 0) (Some Journal) None ≡ Some view → IsViewOf (codes "journal") rest view
 journal_takes view rest read =
     let g = guard_some (eqb (length rest) 0) (Some Journal) view read in
@@ -139,10 +151,12 @@ view_takes bytes view =
     (by_word (codes "mem ") bytes _ _ view (mem_takes view)
     (by_word (codes "stages ") bytes _ _ view (stages_takes view)
     (by_word (codes "tasks") bytes _ _ view (tasks_takes view)
+    (by_word (codes "owners") bytes _ _ view (owners_takes view)
+    (by_word (codes "rank ") bytes _ _ view (rank_takes view)
     (by_word (codes "counts ") bytes _ _ view (counts_takes view)
     (by_word (codes "journal") bytes _ _ view (journal_takes view)
     (by_word (codes "console") bytes _ _ view (console_takes view)
-    (nothing bytes view)))))))
+    (nothing bytes view)))))))))
 
 -- ---- a line
 
@@ -176,6 +190,8 @@ view_again (Regs cpu) has = let e = (reads_u8_last cpu (decimal cpu)).1 (refl, h
 view_again (Mem address count) has = let e = mem_again address count has.0 has.1 in rw e refl
 view_again (Stages cpu) has = let e = (reads_u8_last cpu (decimal cpu)).1 (refl, has) in rw e refl
 view_again Tasks has = refl
+view_again Owners has = refl
+view_again (Rank task) has = let e = (reads_u8_last task (decimal task)).1 (refl, has) in rw e refl
 view_again (Counts cpu line) has = let e = counts_again cpu line has.0 has.1 in rw e refl
 view_again Journal has = refl
 view_again Console has = refl

@@ -4,7 +4,7 @@ use Rattle.evm_text.specs.Written.{decimal, hexadecimal, spaced}
 use Rattle.evm_journal.specs.EventLine.{event_line_text, HasEventLine}
 use Rattle.evm_history.specs.declared.event_line.EventLine.TheVariants as events
 use Rattle.evm_debug.specs.declared.line.View.{View}
-use Rattle.evm_debug.specs.declared.line.View.TheVariants.{Regs, Mem, Stages, Tasks, Counts, Journal, Console}
+use Rattle.evm_debug.specs.declared.line.View.TheVariants.{Regs, Mem, Stages, Tasks, Owners, Rank, Counts, Journal, Console}
 use Rattle.evm_debug.specs.declared.line.Line.{Line}
 use Rattle.evm_debug.specs.declared.line.Line.TheVariants.{Blank, Boot, Steps, One, Look}
 
@@ -13,16 +13,20 @@ view_text (Regs cpu) = spaced (codes "regs" ∷ decimal cpu ∷ [])
 view_text (Mem address count) = spaced (codes "mem" ∷ hexadecimal address ∷ decimal count ∷ [])
 view_text (Stages cpu) = spaced (codes "stages" ∷ decimal cpu ∷ [])
 view_text Tasks = codes "tasks"
+view_text Owners = codes "owners"
+view_text (Rank task) = spaced (codes "rank" ∷ decimal task ∷ [])
 view_text (Counts cpu line) = spaced (codes "counts" ∷ decimal cpu ∷ decimal line ∷ [])
 view_text Journal = codes "journal"
 view_text Console = codes "console"
 
--- a line has a processor or a line below 256, an address and a count below 2 ^ 64
+-- a line has a processor, a task or a line below 256, an address and a count below 2 ^ 64
 abbrev pub HasViewLine : View → Type 0
 HasViewLine (Regs cpu) = cpu < 256
 HasViewLine (Mem address count) = (address < 2 ^ 64) × (count < 2 ^ 64)
 HasViewLine (Stages cpu) = cpu < 256
 HasViewLine Tasks = Unit {0}
+HasViewLine Owners = Unit {0}
+HasViewLine (Rank task) = task < 256
 HasViewLine (Counts cpu line) = (cpu < 256) × (line < 256)
 HasViewLine Journal = Unit {0}
 HasViewLine Console = Unit {0}

@@ -6,7 +6,7 @@ use Rattle.evm_journal.specs.EventLineReading.{keyword, or_else, event_line_at}
 use Rattle.evm_history.specs.declared.event_line.EventLine.{EventLine}
 use Rattle.evm_history.specs.declared.event_line.EventLine.TheVariants as events
 use Rattle.evm_debug.specs.declared.line.View.{View}
-use Rattle.evm_debug.specs.declared.line.View.TheVariants.{Regs, Mem, Stages, Tasks, Counts, Journal, Console}
+use Rattle.evm_debug.specs.declared.line.View.TheVariants.{Regs, Mem, Stages, Tasks, Owners, Rank, Counts, Journal, Console}
 use Rattle.evm_debug.specs.declared.line.Line.{Line}
 use Rattle.evm_debug.specs.declared.line.Line.TheVariants.{Blank, Boot, Steps, One, Look}
 use Rattle.evm_debug.specs.Line.{is_blank, IsSpelled}
@@ -39,10 +39,12 @@ view_at bytes =
     (keyword (word_at (codes "mem ") bytes) mem_at
     (keyword (word_at (codes "stages ") bytes) (λ rest. u8_last rest >>= λ cpu. Some (Stages cpu))
     (keyword (word_at (codes "tasks") bytes) (λ rest. if length rest == 0 then Some Tasks else None)
+    (keyword (word_at (codes "owners") bytes) (λ rest. if length rest == 0 then Some Owners else None)
+    (keyword (word_at (codes "rank ") bytes) (λ rest. u8_last rest >>= λ task. Some (Rank task))
     (keyword (word_at (codes "counts ") bytes) counts_at
     (keyword (word_at (codes "journal") bytes) (λ rest. if length rest == 0 then Some Journal else None)
     (keyword (word_at (codes "console") bytes) (λ rest. if length rest == 0 then Some Console else None)
-    None))))))
+    None))))))))
 
 -- a line of events in a script
 abbrev pub script_line : EventLine → Line

@@ -4,7 +4,7 @@ use Rattle.evm_core.specs.Views.{stages_at}
 use Rattle.evm_core.specs.declared.stages.Stages.{Stages}
 use Rattle.evm_model.specs.State.{Parts, State}
 use Rattle.evm_model.specs.declared.processor.Processor.{Processor}
-use Rattle.evm_debug.specs.Views.{stages_text, tasks_text}
+use Rattle.evm_debug.specs.Views.{stages_text, tasks_text, owners_text}
 
 abbrev pub stages_or_none : ℕ → Option Processor → Option Stages → List ℕ
 stages_or_none c None stages = []
@@ -16,10 +16,6 @@ unfoldable pub stages_below : ℕ → Parts → List ℕ
 stages_below zero k = []
 stages_below (suc c) k = stages_below c k ++ stages_or_none c (slice_get k.processors c) (stages_at c k)
 
--- the owners of the mutexes: a machine has no mutexes yet, so it is empty
-abbrev pub owners_text : State → List ℕ
-owners_text s = []
-
--- the stages of each processor, the tasks, and the owners
+-- the stages of each processor, the tasks, and the owners of the mutexes
 abbrev pub summary_text : State → List ℕ
-summary_text s = stages_below (length s.board.parts.processors) s.board.parts ++ tasks_text s.board.parts ++ owners_text s
+summary_text s = stages_below (length s.board.parts.processors) s.board.parts ++ tasks_text s.board.parts ++ owners_text s.board.parts

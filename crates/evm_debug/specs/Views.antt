@@ -3,9 +3,9 @@ use Rattle.std.specs.Prelude.{ℕ, zero, suc, ◌+◌, ◌/◌, ◌%◌, List, [
 use Rattle.evm_text.specs.Written.{decimal, hexadecimal_padded, pairs}
 use Rattle.evm_ram.specs.Ram.{bytes_at}
 use Rattle.evm_ram.specs.declared.refusal.Refusal.{Refusal}
-use Rattle.evm_ram.specs.declared.refusal.Refusal.TheVariants.{NoSuchCpu, NoSuchLine, BadAddress}
+use Rattle.evm_ram.specs.declared.refusal.Refusal.TheVariants.{NoSuchCpu, NoSuchLine, NoTask, BadAddress}
 use Rattle.evm_debug.specs.declared.line.View.{View}
-use Rattle.evm_debug.specs.declared.line.View.TheVariants.{Regs, Mem, Stages as StagesView, Tasks, Counts as CountsView, Journal, Console}
+use Rattle.evm_debug.specs.declared.line.View.TheVariants.{Regs, Mem, Stages as StagesView, Tasks, Owners, Rank, Counts as CountsView, Journal, Console}
 use Rattle.evm_journal.specs.Journal.{journal_text}
 use Rattle.evm_debug.specs.declared.look.ViewRefusal.{ViewRefusal}
 use Rattle.evm_debug.specs.declared.look.ViewRefusal.TheVariants.{Refused, NoMemory}
@@ -15,9 +15,10 @@ use Rattle.evm_exec.specs.Registers.{register_of}
 use Rattle.evm_lines.specs.Lines.{word_of}
 use Rattle.evm_model.specs.Faults.{fault_number}
 use Rattle.evm_model.specs.State.{Memory, Parts, State}
-use Rattle.evm_model.specs.Ranks.{is_oob_ready}
+use Rattle.evm_model.specs.Ranks.{is_oob_ready, rank}
 use Rattle.evm_exec.specs.declared.hart.Hart.{Hart}
 use Rattle.evm_model.specs.declared.limits.TheConstants.{POKE_LIMIT}
+use Rattle.evm_model.specs.declared.mutex.Mutex.{Mutex}
 use Rattle.evm_model.specs.declared.processor.Processor.{Processor}
 use Rattle.evm_model.specs.declared.counts.Counts.{Counts}
 use Rattle.evm_model.specs.declared.task.Task.{Task}
@@ -123,6 +124,24 @@ tasks_below (suc t) k = tasks_below t k ++ task_text t (slice_get k.tasks t) (sl
 abbrev pub tasks_text : Parts → List ℕ
 tasks_text k = tasks_below (length k.tasks) k
 
+-- mutex m: who owns it, and how often it is locked, if there is such a mutex
+abbrev pub owner_text : ℕ → Option Mutex → List ℕ
+owner_text m None = []
+owner_text m (Some mutex) =
+    joined (decimal m ∷ codes " owner " ∷ number_text mutex.owner ∷ codes " count " ∷ decimal mutex.count ∷ codes "\n" ∷ [])
+
+-- the mutexes below a number, by their numbers
+unfoldable pub owners_below : ℕ → List Mutex → List ℕ
+owners_below zero mutexes = []
+owners_below (suc m) mutexes = owners_below m mutexes ++ owner_text m (slice_get mutexes m)
+
+-- all mutexes
+abbrev pub owners_text : Parts → List ℕ
+owners_text k = owners_below (length k.mutexes) k.mutexes
+
+abbrev pub rank_text : ℕ → List ℕ
+rank_text n = joined (codes "rank " ∷ decimal n ∷ codes "\n" ∷ [])
+
 -- processor c: its task, its two logs with their stall bits, its in-band task, its wire, and its stop and skip bits
 abbrev pub stages_text : ℕ → Processor → Stages → List ℕ
 stages_text c p stages = joined (
@@ -150,6 +169,11 @@ abbrev pub regs_of : Option Processor → Parts → Result (List ℕ) Refusal
 regs_of None k = Err NoSuchCpu
 regs_of (Some p) k = Ok (regs_text p.current k)
 
+-- of a task that is there; one that has ended has a rank too
+abbrev pub rank_of : Option Task → ℕ → Result (List ℕ) Refusal
+rank_of None n = Err NoTask
+rank_of (Some task) n = Ok (rank_text n)
+
 abbrev pub line_of : Option Counts → Result (List ℕ) Refusal
 line_of None = Err NoSuchLine
 line_of (Some n) = Ok (counts_text n)
@@ -174,6 +198,8 @@ shown (Regs c) s = regs_of (slice_get s.board.parts.processors c) s.board.parts
 shown (Mem address count) s = mem_of address count s.board.memory
 shown (StagesView c) s = stages_of c (slice_get s.board.parts.processors c) (stages_at c s.board.parts)
 shown Tasks s = Ok (tasks_text s.board.parts)
+shown Owners s = Ok (owners_text s.board.parts)
+shown (Rank t) s = rank_of (slice_get s.board.parts.tasks t) (rank s.board.parts.mutexes s.board.parts.tasks t)
 shown (CountsView c l) s = counts_shown (stages_at c s.board.parts) (counts_at c l s.board.parts)
 shown Journal s = Ok (journal_text s.boot s.journal)
 shown Console s = Ok (pairs s.board.parts.console ++ codes "\n")

@@ -5,7 +5,7 @@ ghost use Rattle.std.specs.String.{string_bytes};
 ghost use Rattle.evm_core.specs.Views.{stages_at};
 ghost use Rattle.evm_debug.specs.Summary.{stages_below, stages_or_none, summary_text};
 
-use crate::views::{push_stages, push_tasks};
+use crate::views::{push_owners, push_stages, push_tasks};
 use evm_core::Machine;
 use evm_ram::NoMemory;
 use std::alloc::{AllocError, Global};
@@ -37,11 +37,12 @@ fn push_summary(out: &mut String, machine: &Machine) -> Result<(), AllocError>
     ensures { OnOk result (string_bytes out.new ≡ string_bytes out.old ++ summary_text machine.now) }
 {
     push_all_stages(out, machine)?;
-    push_tasks(out, machine)
+    push_tasks(out, machine)?;
+    push_owners(out, machine)
 }
 
 /// The views of a machine that a replay ends with: the stages of each processor, the tasks, and the owners of
-/// its mutexes, of which there are none yet.
+/// its mutexes.
 pub fn summary(alloc: Global, machine: &Machine) -> Result<String, NoMemory>
     ensures { IfOk result (λ text. string_bytes text ≡ summary_text machine.now) }
 {

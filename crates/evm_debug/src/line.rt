@@ -11,6 +11,10 @@ pub enum View {
     Stages(u8),
     /// `tasks`: the tasks.
     Tasks,
+    /// `owners`: who owns each mutex, and how often it is locked.
+    Owners,
+    /// `rank T`: a task's rank, with what others that it keeps waiting give it.
+    Rank(u8),
     /// `counts C L`: the counts of a processor's line.
     Counts(u8, u8),
     /// `journal`: the journal's text.

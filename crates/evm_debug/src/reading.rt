@@ -66,6 +66,16 @@ fn view_at(bytes: &[u8]) -> Option<View>
             None
         };
     }
+    if let Some(rest) = word_at(b"owners", bytes) {
+        return if rest.is_empty() {
+            Some(View::Owners)
+        } else {
+            None
+        };
+    }
+    if let Some(rest) = word_at(b"rank ", bytes) {
+        return Some(View::Rank(u8_last(rest)?));
+    }
     if let Some(rest) = word_at(b"counts ", bytes) {
         return counts_at(rest);
     }

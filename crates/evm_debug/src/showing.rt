@@ -5,7 +5,7 @@ ghost use Rattle.evm_debug.specs.Views.{shown, ViewFails};
 
 use crate::line::View;
 use crate::look::ViewRefusal;
-use crate::views::{push_counts, push_regs, push_stages, push_tasks};
+use crate::views::{push_counts, push_owners, push_rank, push_regs, push_stages, push_tasks};
 use evm_core::Machine;
 use evm_journal::write_journal;
 use evm_model::POKE_LIMIT;
@@ -59,6 +59,11 @@ pub fn show(alloc: Global, machine: &Machine, view: &View) -> Result<String, Vie
             }
         }
         View::Tasks => push_tasks(&mut out, machine),
+        View::Owners => push_owners(&mut out, machine),
+        View::Rank(t) => match machine.task(*t) {
+            None => return Err(ViewRefusal::Refused(Refusal::NoTask)),
+            Some(_) => push_rank(&mut out, machine.rank(*t)),
+        },
         View::Console => {
             let (older, newer) = machine.console();
             push_console(&mut out, older, newer)

@@ -23,6 +23,9 @@ fn other_lines_are_bad(rt: HostRuntime) {
     is_bad(&rt, b"mem 8000000G 1");
     is_bad(&rt, b"mem 0080 1");
     is_bad(&rt, b"tasks ");
+    is_bad(&rt, b"owners 0");
+    is_bad(&rt, b"rank");
+    is_bad(&rt, b"rank 256");
     is_bad(&rt, b"journal\r");
     is_bad(&rt, b"step 0 0");
     is_bad(&rt, &[255, 254]);
@@ -50,6 +53,8 @@ fn lines_are_read(rt: HostRuntime) {
     is(&rt, b"mem 80000000 0", Line::Look(View::Mem(2147483648, 0)));
     is(&rt, b"stages 1", Line::Look(View::Stages(1)));
     is(&rt, b"tasks", Line::Look(View::Tasks));
+    is(&rt, b"owners", Line::Look(View::Owners));
+    is(&rt, b"rank 63", Line::Look(View::Rank(63)));
     is(&rt, b"counts 1 9", Line::Look(View::Counts(1, 9)));
     is(&rt, b"journal", Line::Look(View::Journal));
 }

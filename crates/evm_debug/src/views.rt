@@ -1,6 +1,6 @@
 ghost use Rattle.std.specs.Prelude.{◌≡◌, ◌<◌, ◌+◌, ◌++◌, OnOk, Option, slice_get};
 ghost use Rattle.std.specs.String.{string_bytes};
-ghost use Rattle.evm_debug.specs.Views.{register_line, registers_text, current_text, regs_text, task_text, tasks_text, stages_text, counts_text};
+ghost use Rattle.evm_debug.specs.Views.{register_line, registers_text, current_text, regs_text, task_text, tasks_text, owner_text, owners_text, rank_text, stages_text, counts_text};
 ghost use Rattle.evm_exec.specs.Registers.{register_of};
 
 use crate::piece::Piece;
@@ -8,7 +8,7 @@ use crate::pieces::push_pieces;
 use evm_core::{Machine, Stages};
 use evm_exec::Hart;
 use evm_isa::Register;
-use evm_model::{Counts, Processor, Task};
+use evm_model::{Counts, Mutex, Processor, Task};
 use std::alloc::AllocError;
 
 // A register by its number.
@@ -130,6 +130,51 @@ fn push_task(out: &mut String, t: u8, task: &Task, hart: &Hart) -> Result<(), Al
         Piece::State(task.state),
         Piece::Text(" pc "),
         Piece::Word(hart.pc),
+        Piece::Text("\n"),
+    ];
+    push_pieces(out, &line)
+}
+
+#[tactic(auto, using(crate::proofs::Below::owners))]
+pub(crate) fn push_owners(out: &mut String, machine: &Machine) -> Result<(), AllocError>
+    ensures { OnOk result (string_bytes out.new ≡ string_bytes out.old ++ owners_text machine.now.board.parts) }
+{
+    for m in 0..machine.mutex_count() {
+        push_numbered_mutex(out, m, machine)?;
+    }
+    Ok(())
+}
+
+// The mutex of a number, if there is one.
+fn push_numbered_mutex(out: &mut String, m: u8, machine: &Machine) -> Result<(), AllocError>
+    ensures { OnOk result (string_bytes out.new ≡ string_bytes out.old ++ owner_text m (slice_get machine.now.board.parts.mutexes m)) }
+{
+    match machine.mutex(m) {
+        None => Ok(()),
+        Some(mutex) => push_owner(out, m, &mutex),
+    }
+}
+
+fn push_owner(out: &mut String, m: u8, mutex: &Mutex) -> Result<(), AllocError>
+    ensures { OnOk result (string_bytes out.new ≡ string_bytes out.old ++ owner_text m (Option.Some mutex.now)) }
+{
+    let line = [
+        Piece::Decimal(u64::from(m)),
+        Piece::Text(" owner "),
+        Piece::Number(mutex.owner),
+        Piece::Text(" count "),
+        Piece::Decimal(mutex.count),
+        Piece::Text("\n"),
+    ];
+    push_pieces(out, &line)
+}
+
+pub(crate) fn push_rank(out: &mut String, rank: u16) -> Result<(), AllocError>
+    ensures { OnOk result (string_bytes out.new ≡ string_bytes out.old ++ rank_text rank) }
+{
+    let line = [
+        Piece::Text("rank "),
+        Piece::Decimal(u64::from(rank)),
         Piece::Text("\n"),
     ];
     push_pieces(out, &line)
