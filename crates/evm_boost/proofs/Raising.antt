@@ -143,11 +143,11 @@ no-heir : (o : Option ℕ) → heir_for [] o ≡ None
 no-heir None = refl
 no-heir (Some m) = refl
 
-scatter-none : (boosts : ℕ → Option ℕ) (rank : ℕ → ℕ) (ranks : List ℕ) (n : ℕ) → ((u : ℕ) → boosts u ≡ None) → scatter boosts rank ranks n ≡ ranks
+nobody-raises : (boosts : ℕ → Option ℕ) (rank : ℕ → ℕ) (ranks : List ℕ) (n : ℕ) → ((u : ℕ) → boosts u ≡ None) → scatter boosts rank ranks n ≡ ranks
 unfolding scatter
-scatter-none boosts rank ranks zero h = refl
-scatter-none boosts rank ranks (suc u) h = rw (h u) (scatter-none boosts rank ranks u h)
+nobody-raises boosts rank ranks zero h = refl
+nobody-raises boosts rank ranks (suc u) h = rw (h u) (nobody-raises boosts rank ranks u h)
 
 pub next-none : (mutexes : List Mutex) (tasks : List Task) (own now : List ℕ) → mutexes ≡ [] → next_ranks mutexes tasks own now ≡ own
 unfolding next_ranks
-next-none mutexes tasks own now e = rw e (scatter-none (boosts [] tasks) (told now) own (length tasks) (λ u. no-heir (lock_at tasks u)))
+next-none mutexes tasks own now e = rw e (nobody-raises (boosts [] tasks) (told now) own (length tasks) (λ u. no-heir (lock_at tasks u)))

@@ -103,6 +103,21 @@ fn the_greatest_waiter_boosts(rt: HostRuntime) {
     assert_eq!(rt; ranks[1], 110);
 }
 
+// How often its owner has locked it is nothing to its waiters.
+#[test]
+fn a_recursive_mutex_boosts_its_owner(rt: HostRuntime) {
+    let tasks = [task(Class::Weak, 5), waiting(Class::Fifo, 80, 0)];
+    let mut twice = owned_by(0);
+    twice.recursive = true;
+    twice.count = 2;
+    let mut mutexes = two(twice, FREE);
+    assert_eq!(rt; mutexes.ranks(&tasks)[0], 180);
+    mutexes.hold(0, 0, 1);
+    assert_eq!(rt; mutexes.ranks(&tasks)[0], 180);
+    mutexes.leave(0);
+    assert_eq!(rt; mutexes.ranks(&tasks)[0], 5);
+}
+
 // A ceiling raises its owner at once, and nobody boosts through it; what it raises goes on through other mutexes.
 #[test]
 fn a_ceiling_raises_its_owner_alone(rt: HostRuntime) {
