@@ -1,15 +1,14 @@
-ghost use Rattle.std.specs.Prelude.{◌≡◌, ◌++◌, Option, Result, MatchResult, OnOk, codes, slice_get};
+ghost use Rattle.std.specs.Prelude.{◌≡◌, ◌++◌, Result, MatchResult, OnOk, codes};
 ghost use Rattle.std.specs.String.{string_bytes};
 ghost use Rattle.evm_text.specs.Written.{pairs};
 ghost use Rattle.evm_debug.specs.Views.{shown, ViewFails};
-ghost use Rattle.evm_model.specs.Ranks.{rank};
 
 use crate::line::View;
 use crate::look::ViewRefusal;
 use crate::views::{push_counts, push_owners, push_rank, push_regs, push_stages, push_tasks};
 use evm_core::Machine;
 use evm_journal::write_journal;
-use evm_model::{POKE_LIMIT, Task};
+use evm_model::POKE_LIMIT;
 use evm_ram::Refusal;
 use evm_text::push_pairs;
 use std::alloc::{AllocError, Global};
@@ -22,14 +21,6 @@ fn made(out: String, pushed: Result<(), AllocError>) -> Result<String, ViewRefus
         Ok(()) => Ok(out),
         Err(_) => Err(ViewRefusal::NoMemory),
     }
-}
-
-// The rank of a task that is there.
-fn rank_of(machine: &Machine, t: u8, task: Task) -> u16
-    requires { slice_get machine.now.board.parts.tasks t ≡ Option.Some task }
-    ensures { result ≡ rank machine.now.board.parts.mutexes machine.now.board.parts.tasks t }
-{
-    machine.rank(t)
 }
 
 /// What a view shows, or why it is refused.
@@ -71,7 +62,7 @@ pub fn show(alloc: Global, machine: &Machine, view: &View) -> Result<String, Vie
         View::Owners => push_owners(&mut out, machine),
         View::Rank(t) => match machine.task(*t) {
             None => return Err(ViewRefusal::Refused(Refusal::NoTask)),
-            Some(task) => push_rank(&mut out, rank_of(machine, *t, task)),
+            Some(_) => push_rank(&mut out, machine.rank(*t)),
         },
         View::Console => {
             let (older, newer) = machine.console();
