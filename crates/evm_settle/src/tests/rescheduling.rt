@@ -5,16 +5,16 @@ ghost use Rattle.std.specs.Prelude.{◌≡◌, ◌≤◌, replicate};
 ghost use Rattle.evm_model.specs.Pipes.{idle_pipe};
 ghost use Rattle.evm_rules.proofs.Bounded.{AreWithin};
 
+use super::console_of;
+use crate::settle_and_nudge;
 use arrayvec::ArrayVec;
+use evm_boost::Mutexes;
 use evm_calls::set_sched::set_sched;
 use evm_exec::Hart;
 use evm_model::{Class, Mode, Outcome, Processor, Stage, Task, TaskState};
 use evm_parts::{Console, Parts};
 use evm_pipe::Pipe;
-use crate::settle_and_nudge;
-use evm_boost::Mutexes;
 use evm_task::{Harts, Tasks};
-use super::console_of;
 use std::test::Fail;
 
 // A first-in-first-out task that is ready out-of-band.
