@@ -21,7 +21,7 @@ impl Parts {
         self.mutexes.ranks(self.tasks.as_slice())
     }
 
-    /// The rank of a task, 0 where there is no such task.
+    /// The rank of a task that is there.
     #[tactic(auto, using(crate::proofs::Chosen::there))]
     pub fn rank(&self, t: u8) -> u16
         ensures { (task : Task) → slice_get self.now.tasks t ≡ Some task → result ≡ rank self.now.mutexes self.now.tasks t }
