@@ -1,16 +1,12 @@
 -- An image in a machine that has had no event.
-use Rattle.std.specs.Prelude.{ℕ, ◌+◌, ◌==◌, nat_lt, Bool, ◌&&◌, not, if◌then◌else◌, length, Option, Some, None, Result, Ok, Err}
+use Rattle.std.specs.Prelude.{◌==◌, if◌then◌else◌, length, Option, Some, None, Result, Ok, Err}
 use Rattle.std.specs.List.{list_any}
-use Rattle.evm_image.specs.Images.{Loaded, Contents, byte_at}
-use Rattle.evm_ram.specs.declared.ram.TheConstants.{BASE}
+use Rattle.evm_board.specs.Room.{passes_ram}
+use Rattle.evm_image.specs.Images.{Contents, byte_at}
 use Rattle.evm_ram.specs.declared.refusal.Refusal.{Refusal}
 use Rattle.evm_ram.specs.declared.refusal.Refusal.TheVariants.{BadAddress, Started}
 use Rattle.evm_model.specs.Load.{load as load_board}
 use Rattle.evm_model.specs.State.{State}
-
--- a byte of the segment lies past RAM of so many bytes
-abbrev pub passes_ram : ℕ → Loaded → Bool
-passes_ram size s = not (s.memsz == 0) && nat_lt (BASE + size) (s.address + s.memsz)
 
 -- why an image isn't loaded
 abbrev pub load_refusal : Contents → State → Option Refusal

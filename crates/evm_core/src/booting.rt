@@ -4,10 +4,9 @@ ghost use Rattle.evm_model.specs.Pipes.{idle_pipe};
 ghost use Rattle.evm_model.specs.State.{booted, booted_parts, first_processor, first_task};
 ghost use Rattle.evm_model.specs.Replay.{bad_boot, BootAnswers};
 
-use crate::board::Board;
 use crate::machine::Machine;
-use crate::memory::Memory;
 use arrayvec::ArrayVec;
+use evm_board::{Board, Memory};
 use evm_boost::Mutexes;
 use evm_breaks::Breakpoints;
 use evm_exec::Hart;

@@ -13,7 +13,8 @@ use Rattle.evm_ram.specs.Ram.{bytes_at}
 use Rattle.evm_ram.specs.declared.ram.TheConstants.{BASE}
 use Rattle.evm_ram.specs.declared.refusal.Refusal.{Refusal}
 use Rattle.evm_ram.specs.declared.refusal.Refusal.TheVariants.{BadAddress}
-use Rattle.evm_core.specs.Load.{load, passes_ram}
+use Rattle.evm_board.specs.Room.{passes_ram}
+use Rattle.evm_core.specs.Load.{load}
 use Rattle.evm_model.specs.Harts.{first_hart}
 use Rattle.evm_model.specs.Load.{load as load_board, bytes_from}
 use Rattle.evm_model.specs.Pipes.{idle_pipe}

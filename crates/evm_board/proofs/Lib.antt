@@ -1,0 +1,4 @@
+pub mod Loads
+pub mod Rooms
+pub mod Steps
+pub mod Timers

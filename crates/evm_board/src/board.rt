@@ -1,0 +1,59 @@
+ghost use Rattle.std.specs.Prelude.{◌≡◌, false, length};
+ghost use Rattle.evm_model.specs.Commands.{is_set, set_breakpoint, unset_breakpoint};
+ghost use Rattle.evm_model.specs.Refusals.{no_slot};
+
+use crate::memory::Memory;
+use evm_breaks::Breakpoints;
+use evm_parts::Parts;
+use std::marker::Model;
+
+/// What events change.
+#[derive(Debug, Drop)]
+pub struct Board {
+    pub memory: Memory,
+    pub breakpoints: Breakpoints,
+    pub parts: Parts,
+}
+
+impl Model for Board {
+    ghost use Rattle.evm_model.specs.State as model;
+
+    ghost Value = { model.Board };
+
+    ghost view = { λ b. record { memory = b.memory; breakpoints = b.breakpoints; parts = b.parts } };
+}
+
+impl Board {
+    /// Whether a breakpoint is set at an address.
+    pub fn is_breakpoint(&self, address: u64) -> bool
+        ensures { result ≡ is_set self.now.breakpoints address }
+    {
+        self.breakpoints.contains(address)
+    }
+
+    /// How many breakpoints are set.
+    pub fn breakpoint_count(&self) -> usize
+        ensures { result ≡ length self.now.breakpoints }
+    {
+        self.breakpoints.len()
+    }
+
+    /// Sets a breakpoint.
+    #[tactic(auto, unfolding(evm_model::specs::Commands::set_breakpoint))]
+    pub(crate) fn set_breakpoint(&mut self, address: u64)
+        requires { no_slot address self.old ≡ false }
+        ensures { self.new ≡ set_breakpoint address self.old }
+    {
+        if !self.breakpoints.contains(address) {
+            self.breakpoints.push(address);
+        }
+    }
+
+    /// Takes a breakpoint away.
+    #[tactic(auto, unfolding(evm_model::specs::Commands::unset_breakpoint))]
+    pub(crate) fn unset_breakpoint(&mut self, address: u64)
+        ensures { self.new ≡ unset_breakpoint address self.old }
+    {
+        self.breakpoints = self.breakpoints.without(address);
+    }
+}

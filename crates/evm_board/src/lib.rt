@@ -1,0 +1,16 @@
+//! What events change: memory, breakpoints, and the parts of the kernels. `Board::row` is what an event does, and
+//! `Board::refusal` why one is refused.
+#![tactic(auto)]
+
+mod board;
+mod commands;
+mod instructions;
+mod loading;
+mod memory;
+mod quiet;
+mod refusals;
+mod row;
+mod step;
+
+pub use board::Board;
+pub use memory::Memory;

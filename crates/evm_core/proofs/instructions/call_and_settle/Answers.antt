@@ -1,5 +1,0 @@
-use Rattle.evm_core.proofs.Rooms.{room-call}
-use Rattle.evm_core.proofs.instructions.call_and_settle.Goals as goal
-
-pub settle_and_nudge-requires-clause-room : goal.settle_and_nudge-requires-clause-room
-settle_and_nudge-requires-clause-room c = rw c.call.ensures (room-call c.args.ram c.args.c c.args.t c.args.parts.now c.requires.room)
