@@ -1,4 +1,5 @@
 pub mod Loads
+pub mod Quietly
 pub mod Rooms
 pub mod Steps
 pub mod Timers

@@ -5,6 +5,7 @@ ghost use Rattle.evm_model.specs.Refusals.{no_slot};
 use crate::memory::Memory;
 use evm_breaks::Breakpoints;
 use evm_parts::Parts;
+use evm_quiet::Slots;
 use std::marker::Model;
 
 /// What events change.
@@ -13,6 +14,8 @@ pub struct Board {
     pub memory: Memory,
     pub breakpoints: Breakpoints,
     pub parts: Parts,
+    // which words were decoded: it changes no answer
+    pub slots: Slots,
 }
 
 impl Model for Board {

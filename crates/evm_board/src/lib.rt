@@ -11,6 +11,7 @@ mod quiet;
 mod refusals;
 mod row;
 mod step;
+mod stepping;
 
 pub use board::Board;
 pub use memory::Memory;

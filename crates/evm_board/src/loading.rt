@@ -2,7 +2,7 @@ ghost use Rattle.std.specs.Prelude.{◌≡◌, ◌%◌, length, false};
 ghost use Rattle.std.specs.List.{list_any};
 ghost use Rattle.evm_image.specs.Images.{byte_at};
 ghost use Rattle.evm_model.specs.Load.{load, bytes_from};
-ghost use Rattle.evm_board.specs.Load.{passes_ram};
+ghost use Rattle.evm_board.specs.Room.{passes_ram};
 
 use crate::board::Board;
 use crate::memory::Memory;
