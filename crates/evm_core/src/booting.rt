@@ -16,6 +16,7 @@ use evm_model::{
 };
 use evm_parts::{Console, Parts};
 use evm_pipe::Pipe;
+use evm_quiet::Slots;
 use evm_ram::{BASE, NoMemory, Ram, Refusal, SIZE_LIMIT};
 use evm_task::{Harts, Tasks};
 use std::alloc::Global;
@@ -131,6 +132,7 @@ fn board_of(alloc: Global, boot: &Boot) -> Result<Board, NoMemory>
         memory: Memory::of_ram(ram),
         breakpoints: Breakpoints::new(),
         parts: parts_of(boot, console),
+        slots: Slots::new(alloc)?,
     })
 }
 

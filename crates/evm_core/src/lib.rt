@@ -4,6 +4,7 @@
 mod booting;
 mod machine;
 mod stages;
+mod stepping;
 
 pub use evm_model::{Answer, Boot, Event};
 pub use evm_ram::Refusal;
