@@ -11,6 +11,7 @@ ghost use Rattle.evm_exec.specs.Values.{
 use evm_isa::{BranchOp, ImmediateOp, RegisterOp, ShiftOp, WordOp};
 
 // The number in 64 bits.
+#[inline(always)]
 pub fn extend(number: i32) -> u64
     ensures { result ≡ extended number }
 {
@@ -18,6 +19,7 @@ pub fn extend(number: i32) -> u64
 }
 
 // The low 32 bits.
+#[inline(always)]
 fn low_bits(x: u64) -> u32
     ensures { result ≡ x % 2 ^ 32 }
 {
@@ -25,12 +27,14 @@ fn low_bits(x: u64) -> u32
 }
 
 // The low 32 bits, sign-extended to 64.
+#[inline(always)]
 pub fn extend_word(x: u64) -> u64
     ensures { result ≡ word x }
 {
     extend(low_bits(x).cast_signed())
 }
 
+#[inline(always)]
 #[tactic(auto, unfolding(crate::specs::Values::immediate_value))]
 pub fn on_immediate(op: ImmediateOp, a: u64, i: u64) -> u64
     ensures { result ≡ immediate_value op a i }
@@ -46,6 +50,7 @@ pub fn on_immediate(op: ImmediateOp, a: u64, i: u64) -> u64
     }
 }
 
+#[inline(always)]
 #[tactic(auto, unfolding(crate::specs::Values::shift_value))]
 pub fn on_shift(op: ShiftOp, a: u64, n: u8) -> u64
     ensures { result ≡ shift_value op a n }
@@ -60,6 +65,7 @@ pub fn on_shift(op: ShiftOp, a: u64, n: u8) -> u64
     }
 }
 
+#[inline(always)]
 #[tactic(auto, unfolding(crate::specs::Values::register_value))]
 pub fn on_registers(op: RegisterOp, a: u64, b: u64) -> u64
     ensures { result ≡ register_value op a b }
@@ -78,6 +84,7 @@ pub fn on_registers(op: RegisterOp, a: u64, b: u64) -> u64
     }
 }
 
+#[inline(always)]
 #[tactic(auto, unfolding(crate::specs::Values::word_value))]
 pub fn on_words(op: WordOp, a: u64, b: u64) -> u64
     ensures { result ≡ word_value op a b }
@@ -91,6 +98,7 @@ pub fn on_words(op: WordOp, a: u64, b: u64) -> u64
     }
 }
 
+#[inline(always)]
 #[tactic(auto, unfolding(crate::specs::Values::taken))]
 pub fn is_taken(op: BranchOp, a: u64, b: u64) -> bool
     ensures { result ≡ taken op a b }

@@ -8,6 +8,7 @@ use crate::outcome::{Access, Direction, Effect};
 use evm_isa::{Inst, Register};
 
 // x0, which stands for no register.
+#[inline(always)]
 fn no_register() -> Register
     ensures { result ≡ 0 }
 {
@@ -18,6 +19,7 @@ fn no_register() -> Register
 }
 
 // rd gets the value, and the pc moves on.
+#[inline(always)]
 fn move_on(rd: Register, value: u64, pc: u64) -> Effect
     ensures { result ≡ proceed rd value pc }
 {
@@ -29,6 +31,7 @@ fn move_on(rd: Register, value: u64, pc: u64) -> Effect
 }
 
 // A jump to the target, with the value in rd.
+#[inline(always)]
 fn go_to(rd: Register, value: u64, target: u64) -> Effect
     ensures { result ≡ arrive rd value target }
 {
@@ -44,6 +47,7 @@ fn go_to(rd: Register, value: u64, target: u64) -> Effect
 }
 
 // A branch to the target, if it is taken.
+#[inline(always)]
 fn branch_to(is_taken: bool, target: u64, pc: u64) -> Effect
     ensures { result ≡ branch is_taken target pc }
 {
@@ -55,6 +59,7 @@ fn branch_to(is_taken: bool, target: u64, pc: u64) -> Effect
 }
 
 /// What the instruction does in this state of the hart. All arithmetic is modulo 2^64, that of the pc too.
+#[inline(always)]
 #[tactic(auto, unfolding(crate::specs::Does::does))]
 pub fn effect(inst: &Inst, hart: &Hart) -> Effect
     ensures done { result ≡ does inst.now hart.now.regs hart.now.pc }

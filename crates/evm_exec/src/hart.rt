@@ -14,6 +14,7 @@ impl Hart {
     ghost use Rattle.evm_exec.specs.Registers.{register_of, with_register};
 
     /// What the register reads.
+    #[inline(always)]
     pub fn register(&self, register: Register) -> u64
         ensures { result ≡ register_of self.now.regs register }
     {
@@ -26,6 +27,7 @@ impl Hart {
     }
 
     /// Writes the register; a write to x0 is lost.
+    #[inline(always)]
     pub fn set_register(&mut self, register: Register, value: u64)
         ensures x0 { slice_index self.new.regs 0 ≡ slice_index self.old.regs 0 }
         ensures written { self.new ≡ record self.old { regs = with_register self.old.regs register value } }

@@ -7,6 +7,7 @@ use evm_isa::{LoadOp, StoreOp};
 use evm_ram::Width;
 
 /// How many bytes the load reads.
+#[inline(always)]
 #[tactic(auto, unfolding(crate::specs::Memory::width_of_load))]
 pub fn load_width(op: LoadOp) -> Width
     ensures { result ≡ width_of_load op }
@@ -20,6 +21,7 @@ pub fn load_width(op: LoadOp) -> Width
 }
 
 /// What the load writes to its register, of the little-endian number of the bytes that it read.
+#[inline(always)]
 #[tactic(auto, unfolding(crate::specs::Memory::loaded_value))]
 pub fn loaded(op: LoadOp, bytes: u64) -> u64
     ensures { result ≡ loaded_value op bytes }
@@ -36,6 +38,7 @@ pub fn loaded(op: LoadOp, bytes: u64) -> u64
 }
 
 /// How many bytes the store writes.
+#[inline(always)]
 #[tactic(auto, unfolding(crate::specs::Memory::width_of_store))]
 pub fn store_width(op: StoreOp) -> Width
     ensures { result ≡ width_of_store op }
@@ -49,6 +52,7 @@ pub fn store_width(op: StoreOp) -> Width
 }
 
 /// What the store writes where its register has `b`: the low bytes, as a little-endian number.
+#[inline(always)]
 #[tactic(auto, unfolding(crate::specs::Memory::width_of_store))]
 pub fn stored(op: StoreOp, b: u64) -> u64
     ensures value { result ≡ stored_value op b }

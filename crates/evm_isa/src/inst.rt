@@ -43,6 +43,7 @@ impl Register {
     }
 
     /// Its number, 0 to 31.
+    #[inline(always)]
     pub fn number(self) -> u8
         ensures value { result ≡ self }
         ensures in_range { result < 32 }
@@ -92,6 +93,7 @@ impl Shift {
     }
 
     /// Its amount, 0 to 63.
+    #[inline(always)]
     pub fn amount(self) -> u8
         ensures value { result ≡ self }
         ensures in_range { result < 64 }

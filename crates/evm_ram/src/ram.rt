@@ -48,6 +48,7 @@ impl Ram {
     }
 
     /// The number of bytes.
+    #[inline(always)]
     pub fn size(&self) -> u64
         ensures value { result ≡ length self.now }
         ensures limit { result ≤ SIZE_LIMIT }
@@ -56,7 +57,7 @@ impl Ram {
     }
 
     /// Where `count` bytes from `address` on begin in the list; None exactly where one of them is outside.
-    #[inline]
+    #[inline(always)]
     fn place(&self, address: u64, count: u64) -> Option<usize>
         requires { 0 < count }
         ensures { result ≡ (if is_inside self.now address count then Some (address - BASE) else None) }
@@ -75,7 +76,7 @@ impl Ram {
 
     /// The `count` bytes from `address` on; None exactly where one of them is outside. No bytes are found
     /// at every address.
-    #[inline]
+    #[inline(always)]
     pub fn bytes(&self, address: u64, count: u64) -> Option<&[u8]>
         ensures found { option_copied result ≡ bytes_at self.now address count }
         ensures count { IfSome result (λ bytes. length bytes.now ≡ count) }
@@ -89,7 +90,7 @@ impl Ram {
 
     /// The number that is stored at `address`, its lowest byte first; None exactly where one of its bytes is
     /// outside. The address need not be a multiple of the width.
-    #[inline]
+    #[inline(always)]
     pub fn read(&self, address: u64, width: Width) -> Option<u64>
         ensures value { result ≡ read_at self.now address width }
         ensures fits { IfSome result (λ value. value < 256 ^ bytes_of width) }
@@ -100,7 +101,7 @@ impl Ram {
 
     /// Puts `bytes` from `address` on; None, and nothing is changed, exactly where one of them would be
     /// outside. No bytes can be put at every address.
-    #[inline]
+    #[inline(always)]
     pub fn poke(&mut self, address: u64, bytes: &[u8]) -> Option<()>
         ensures poked { MatchOption result (poke_at self.old address bytes.now ≡ None) (λ _. poke_at self.old address bytes.now ≡ Some self.new) }
         ensures unchanged { IfNone result (self.new ≡ self.old) }
@@ -116,7 +117,7 @@ impl Ram {
 
     /// Stores the low bytes of `value` at `address`, the lowest first; None, and nothing is changed, exactly
     /// where one of them would be outside. The address need not be a multiple of the width.
-    #[inline]
+    #[inline(always)]
     pub fn write(&mut self, address: u64, width: Width, value: u64) -> Option<()>
         ensures written { MatchOption result (write_at self.old address width value ≡ None) (λ _. write_at self.old address width value ≡ Some self.new) }
         ensures unchanged { IfNone result (self.new ≡ self.old) }
@@ -140,7 +141,7 @@ impl Ram {
 }
 
 /// The number that these bytes stand for, the lowest byte first.
-#[inline]
+#[inline(always)]
 fn number(bytes: &[u8], width: Width) -> u64
     requires { length bytes.now ≡ bytes_of width }
     ensures value { result ≡ little_endian bytes.now }

@@ -12,6 +12,7 @@ pub enum Width {
 
 impl Width {
     /// 1, 2, 4 or 8.
+    #[inline(always)]
     pub fn bytes(self) -> u64
         ensures { result ≡ bytes_of self }
     {
