@@ -37,12 +37,7 @@ fn ends_refused(alloc: Global, number: u64, refusal: Refusal) -> Result<Reply, N
 fn take_steps(machine: &mut Machine, c: u8, count: u32) -> Result<(), Refusal>
     ensures { MatchResult result (λ _. steps c count machine.old ≡ Result.Ok machine.new) (λ refusal. steps c count machine.old ≡ Result.Err refusal) }
 {
-    for i in 0..count {
-        if let Err(refusal) = machine.apply(Event::Step(c)) {
-            return Err(refusal);
-        }
-    }
-    Ok(())
+    machine.steps(c, count)
 }
 
 // A boot, which puts the image into the machine, if there is one.
