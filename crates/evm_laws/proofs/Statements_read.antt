@@ -7,7 +7,7 @@ use Rattle.evm_words.specs.declared.mnemonic.Width.{Width}
 use Rattle.evm_words.specs.declared.mnemonic.Mnemonic.{Mnemonic}
 use Rattle.evm_words.specs.declared.mnemonic.Mnemonic.TheVariants as names
 use Rattle.evm_words.specs.Faults.{both, least, ◌>>=◌}
-use Rattle.evm_words.specs.Text.{after, skip_blanks, word, behind_word, starts_with, is_name_start, is_empty, is_sound}
+use Rattle.evm_words.specs.Text.{after, skip_blanks, first_word, behind_word, starts_with, is_name_start, is_empty, is_sound}
 use Rattle.evm_words.specs.Names.{mnemonic_named}
 use Rattle.evm_statement.specs.declared.statement.Statement.{Statement}
 use Rattle.evm_statement.specs.declared.statement.Statement.TheVariants.{Nothing, One, Branch, Jump, LoadImmediate, LoadAddress, Section, Numbers, Space, Align}
@@ -145,4 +145,4 @@ statement_in_loads labels place text h =
     either CanLoad (not (is_sound false text)) (Err BadToken) _ tt
     (either CanLoad (is_empty (skip_blanks text)) (Ok Nothing) _ tt
     (either CanLoad (not (starts_with is_name_start (skip_blanks text))) (Err BadToken) _ tt
-    (of_mnemonic_loads labels place (mnemonic_named (word (skip_blanks text))) (behind_word (skip_blanks text)) h)))
+    (of_mnemonic_loads labels place (mnemonic_named (first_word (skip_blanks text))) (behind_word (skip_blanks text)) h)))

@@ -59,8 +59,8 @@ pub data Form : Type 0 where
   Many : (width : Width) → (ℕ → Statement) → Form
 
 -- the immediate of most instructions
-abbrev pub immediate : Slot
-immediate = Integer 2048 2047
+abbrev pub immediate_slot : Slot
+immediate_slot = Integer 2048 2047
 
 abbrev pub greatest_shift : ShiftOp → ℕ
 greatest_shift Slli = 63
@@ -92,7 +92,7 @@ unary_instruction Sgtz rd rs = inst.Register Slt rd 0 rs
 abbrev pub form : ℕ → Mnemonic → Form
 form count (names.Register op) = Each (Register ∷ Register ∷ Register ∷ []) (λ v. One (inst.Register op v.0 v.1.0 v.1.1))
 form count (names.Word op) = Each (Register ∷ Register ∷ Register ∷ []) (λ v. One (inst.Word op v.0 v.1.0 v.1.1))
-form count (names.Immediate op) = Each (Register ∷ Register ∷ immediate ∷ []) (λ v. One (inst.Immediate op v.0 v.1.0 v.1.1))
+form count (names.Immediate op) = Each (Register ∷ Register ∷ immediate_slot ∷ []) (λ v. One (inst.Immediate op v.0 v.1.0 v.1.1))
 form count (names.Shift op) = Each (Register ∷ Register ∷ Natural (greatest_shift op) ∷ []) (λ v. One (inst.Shift op v.0 v.1.0 v.1.1))
 form count (names.Load op) = Each (Register ∷ Address ∷ []) (λ v. One (inst.Load op v.0 v.1.1 v.1.0))
 form count (names.Store op) = Each (Register ∷ Address ∷ []) (λ v. One (inst.Store op v.1.1 v.0 v.1.0))

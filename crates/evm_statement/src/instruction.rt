@@ -6,7 +6,7 @@ ghost use Rattle.evm_words.specs.declared.mnemonic.Mnemonic.TheVariants as names
 ghost use Rattle.evm_statement.specs.declared.statement.Statement.TheVariants.{One};
 ghost use Rattle.evm_statement.specs.Operands.{natural_in, upper, upper_in};
 ghost use Rattle.evm_statement.specs.Forms as slot;
-ghost use Rattle.evm_statement.specs.Forms.{Each, immediate, greatest_shift};
+ghost use Rattle.evm_statement.specs.Forms.{Each, immediate_slot, greatest_shift};
 ghost use Rattle.evm_statement.specs.Statements.{all_operands_in, said, statement_of};
 
 use crate::operand::{
@@ -51,7 +51,7 @@ pub fn word_line(op: WordOp, text: &[u8]) -> Reading
 
 #[tactic(auto, unfolding(crate::specs::Operands::immediate_in))]
 fn two_registers_and_immediate(text: &[u8]) -> Result<(Register, (Register, i32)), AsmFaultKind>
-    ensures { result ≡ all_operands_in [] (slot.Register ∷ slot.Register ∷ immediate ∷ []) text.now }
+    ensures { result ≡ all_operands_in [] (slot.Register ∷ slot.Register ∷ immediate_slot ∷ []) text.now }
 {
     let sources = both(
         register_in(second_operand(text)),
