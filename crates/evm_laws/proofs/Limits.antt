@@ -11,7 +11,7 @@ use Rattle.evm_words.specs.Names.{named}
 use Rattle.evm_statement.specs.declared.spot.Spot.{Spot}
 use Rattle.evm_statement.specs.declared.statement.Statement.{Statement}
 use Rattle.evm_statement.specs.declared.statement.Statement.TheVariants.{Section}
-use Rattle.evm_statement.specs.Statements.{Spots}
+use Rattle.evm_statement.specs.Operands.{Spots}
 use Rattle.evm_asm.specs.declared.place.Place.{Place}
 use Rattle.evm_asm.specs.Places.{offset, section_size, farther, grown, size_at, place_behind, here, statement_in}
 use Rattle.evm_asm.specs.Sources.{Defined, Laid, with_label, defined, label_at, outcome, measured, line_defined, line_laid, with_line_laid, laid, nothing_laid, code_of, statement_text}
