@@ -47,7 +47,7 @@ if_ok : (r : Reading) (s : Statement) → IfOk r IsNone → r ≡ Ok s → IsNon
 if_ok (Ok t) s h e = let same : t ≡ s = cc in subst IsNone same h
 if_ok (Err f) s h e = cc
 
-also_ok : {A B : Type 0} (r : Result A AsmFaultKind) (s : Result B AsmFaultKind) (a : A) → also r s ≡ Ok a → (b : B) × (r ≡ Ok a) × (s ≡ Ok b)
+pub also_ok : {A B : Type 0} (r : Result A AsmFaultKind) (s : Result B AsmFaultKind) (a : A) → also r s ≡ Ok a → (b : B) × (r ≡ Ok a) × (s ≡ Ok b)
 unfolding also
 also_ok (Ok x) (Ok y) a h = (y, h, refl)
 also_ok (Ok x) (Err f) a h = cc

@@ -39,3 +39,5 @@ pub mod Labels_found
 pub mod Numbers_present
 pub mod Numbers_there
 pub mod Refused_first
+pub mod Operand_faults
+pub mod Line_faults

@@ -13,7 +13,7 @@ mod program;
 mod program_laws;
 
 pub use evm_words::{AsmFault, AsmFaultKind};
-pub use fault_laws::refused_with_the_first;
+pub use fault_laws::{refused_with_the_first, refused_with_the_least};
 pub use laws::{
     every_item_has_its_word, la_loads, li_loads, no_fault_is_ignored, nops_are_addi, programs_fit,
     refused_as_meant, spelling_never_fails, words_stand,
