@@ -40,4 +40,5 @@ pub mod Numbers_present
 pub mod Numbers_there
 pub mod Refused_first
 pub mod Operand_faults
+pub mod Reading_faults
 pub mod Line_faults

@@ -21,118 +21,16 @@ use Rattle.evm_asm.specs.declared.place.Place.{Place}
 use Rattle.evm_asm.specs.declared.item.Item.TheVariants as item
 use Rattle.evm_asm.specs.declared.item.Expansion.{Expansion}
 use Rattle.evm_asm.specs.declared.item.Placed.{Placed}
-use Rattle.evm_asm.specs.Places.{grown, place_behind, may_stand, placed, of_mnemonic, statement_in}
+use Rattle.evm_asm.specs.Places.{grown, place_behind, placed, of_mnemonic, statement_in}
 use Rattle.evm_asm.specs.Sources.{Laid, nothing_laid, laid, outcome, measured, line_defined, line_laid, source_lines, code_of}
 use Rattle.evm_asm.specs.Items.{text_base, address, distance, load_address, expanded, with_item, with_instructions, value_of, value_in, number_pushed, with_numbers, operands, with_statement, statement_meant, line_meant, layout_of}
 use Rattle.evm_asm.specs.Least.{fault_in, lesser, line_fault, fault_at, IsFirstFault}
-use Rattle.evm_asm.specs.HasFault.{HasUnknownRegister, HasMisfit, HasNumberOutside, SomeOperand, text_of, BeginsWithNoName, HasUnknownMnemonic, Of, OfForm, IsMisplaced, IsFar, LacksLabel, Said, IsWrong, HasFault, IsLeastOfFirst, RefusedWithTheLeast}
+use Rattle.evm_asm.specs.HasFault.{SomeOperand, text_behind_labels, IsFar, LacksLabel, Said, IsWrong, HasFault, IsLeastOfFirst, RefusedWithTheLeast}
 use Rattle.evm_asm.proofs.Alike.{measured_alike}
 use Rattle.evm_asm.proofs.Instructions_in_text.{also_ok}
-use Rattle.evm_asm.proofs.Operand_faults.{IsLeast, same_least, either_least, also_fault, Three, three_joined, by_test, clash, statement_least}
+use Rattle.evm_asm.proofs.Operand_faults.{IsLeast, same_least, either_least}
 use Rattle.evm_asm.proofs.Refused_first.{refused_with_the_first}
-
--- ---- the reading of a statement
-
--- what is wrong with a statement by itself
-abbrev ReadingFault : Place → List ℕ → AsmFaultKind → Type 0
-ReadingFault place text BadToken = (is_sound false text ≡ false) ⊎ BeginsWithNoName text
-ReadingFault place text UnknownName = HasUnknownMnemonic text ⊎ OfForm text HasUnknownRegister
-ReadingFault place text BadOperand = OfForm text HasMisfit ⊎ IsMisplaced place text
-ReadingFault place text RangeOfImmediate = OfForm text HasNumberOutside
-ReadingFault place text other = ⊥
-
-from_one : (kind : AsmFaultKind) → 1 ≤ kind_number kind
-from_one BadToken = omega arith
-from_one UnknownName = omega arith
-from_one BadOperand = omega arith
-from_one RangeOfImmediate = omega arith
-from_one LabelTwice = omega arith
-from_one LabelMissing = omega arith
-from_one TooLarge = omega arith
-from_one NoMemory = omega arith
-
-not_true : (t : Bool) → not t ≡ true → t ≡ false
-not_true true h = cc
-not_true false h = refl
-
-not_false : (t : Bool) → not t ≡ false → t ≡ true
-not_false true h = refl
-not_false false h = cc
-
-module _ (labels : Spots) (place : Place) (text : List ℕ) where
-  none_wrong : is_sound false text ≡ true → is_empty (skip_blanks text) ≡ true → (kind : AsmFaultKind) → ReadingFault place text kind → ⊥
-  none_wrong s b BadToken w = ⊎_elim (λ x. clash _ s x) (λ x. clash _ b x.0) w
-  none_wrong s b UnknownName w = ⊎_elim (λ x. clash _ b x.0) (λ x. clash _ b x.1) w
-  none_wrong s b BadOperand w = ⊎_elim (λ x. clash _ b x.1) (λ x. clash _ b x.1) w
-  none_wrong s b RangeOfImmediate w = clash _ b w.1
-  none_wrong s b kind w = w
-
-  module _ (s : is_sound false text ≡ true) (b : is_empty (skip_blanks text) ≡ false) (n : starts_with is_name_start (skip_blanks text) ≡ true) where
-    no_bad_token : ReadingFault place text BadToken → ⊥
-    no_bad_token w = ⊎_elim (λ x. clash _ s x) (λ x. clash _ n x.1) w
-
-    from_two : (kind : AsmFaultKind) → ReadingFault place text kind → 2 ≤ kind_number kind
-    from_two BadToken w = absurd (no_bad_token w)
-    from_two UnknownName w = omega arith
-    from_two BadOperand w = omega arith
-    from_two RangeOfImmediate w = omega arith
-    from_two kind w = absurd w
-
-    module _ (m : Mnemonic) (e : mnemonic_named (first_word (skip_blanks text)) ≡ Some m) where
-      of_it : (P : Mnemonic → Type 0) → Of text P → P m
-      of_it P x = let both : ◌≡◌ {A = Option Mnemonic} (Some x.0) (Some m) = sym x.2 ∙ e in let same : x.0 ≡ m = cc in subst P same x.3
-
-      to : (kind : AsmFaultKind)
-          → Three (HasUnknownRegister (form (how_many (operands text)) m) (operands text) ⊎ ⊥) (HasMisfit (form (how_many (operands text)) m) (operands text) ⊎ (may_stand m place ≡ false)) (HasNumberOutside (form (how_many (operands text)) m) (operands text) ⊎ ⊥) kind
-          → ReadingFault place text kind
-      to UnknownName w = ⊎_elim (λ x. inr (m, b, e, x)) (λ x. absurd x) w
-      to BadOperand w = ⊎_elim (λ x. inl (m, b, e, x)) (λ x. inr (m, b, e, x)) w
-      to RangeOfImmediate w = ⊎_elim (λ x. (m, b, e, x)) (λ x. absurd x) w
-      to kind w = absurd w
-
-      from : (kind : AsmFaultKind) → ReadingFault place text kind
-          → Three (HasUnknownRegister (form (how_many (operands text)) m) (operands text) ⊎ ⊥) (HasMisfit (form (how_many (operands text)) m) (operands text) ⊎ (may_stand m place ≡ false)) (HasNumberOutside (form (how_many (operands text)) m) (operands text) ⊎ ⊥) kind
-      from BadToken w = absurd (no_bad_token w)
-      from UnknownName w = ⊎_elim (λ x. let wrong : ◌≡◌ {A = Option Mnemonic} None (Some m) = sym x.1 ∙ e in cc) (λ x. inl (of_it (λ m. HasUnknownRegister (form (how_many (operands text)) m) (operands text)) x)) w
-      from BadOperand w = ⊎_elim (λ x. inl (of_it (λ m. HasMisfit (form (how_many (operands text)) m) (operands text)) x)) (λ x. inr (of_it (λ m. may_stand m place ≡ false) x)) w
-      from RangeOfImmediate w = inl (of_it (λ m. HasNumberOutside (form (how_many (operands text)) m) (operands text)) w)
-      from kind w = absurd w
-
-      placed_least : IsLeast (Three ⊥ (may_stand m place ≡ false) ⊥) (fault_in (placed m place))
-      unfolding placed
-      placed_least = by_test (Three ⊥ (may_stand m place ≡ false) ⊥) (may_stand m place) (Ok place) (Err BadOperand) stands (λ e. (e, misplaced))
-        where
-          stands : may_stand m place ≡ true → (kind : AsmFaultKind) → Three ⊥ (may_stand m place ≡ false) ⊥ kind → ⊥
-          stands e UnknownName w = w
-          stands e BadOperand w = clash _ e w
-          stands e RangeOfImmediate w = w
-          stands e kind w = w
-
-          misplaced : (kind : AsmFaultKind) → Three ⊥ (may_stand m place ≡ false) ⊥ kind → 3 ≤ kind_number kind
-          misplaced UnknownName w = absurd w
-          misplaced BadOperand w = omega arith
-          misplaced RangeOfImmediate w = absurd w
-          misplaced kind w = absurd w
-
-      known_least : IsLeast (ReadingFault place text) (fault_in (of_mnemonic labels place (Some m) (operands text)))
-      known_least =
-          same_least _ (ReadingFault place text) _ to from
-          (subst (IsLeast (Three (HasUnknownRegister (form (how_many (operands text)) m) (operands text) ⊎ ⊥) (HasMisfit (form (how_many (operands text)) m) (operands text) ⊎ (may_stand m place ≡ false)) (HasNumberOutside (form (how_many (operands text)) m) (operands text) ⊎ ⊥)))
-          (also_fault (statement_of labels m (operands text)) (placed m place))
-          (three_joined _ _ _ ⊥ (may_stand m place ≡ false) ⊥ _ _ (statement_least labels m (operands text)) placed_least))
-
-    mnemonic_least : (o : Option Mnemonic) → mnemonic_named (first_word (skip_blanks text)) ≡ o → IsLeast (ReadingFault place text) (fault_in (of_mnemonic labels place o (operands text)))
-    mnemonic_least None e = (inl (b, e), from_two)
-    mnemonic_least (Some m) e = known_least m e
-
-  reading_least : IsLeast (ReadingFault place text) (fault_in (statement_in labels place text))
-  unfolding statement_in
-  reading_least =
-      by_test _ (not (is_sound false text)) _ _ (λ e. (inl (not_true _ e), λ kind w. from_one kind))
-      (λ e. let s = not_false _ e in
-      by_test _ (is_empty (skip_blanks text)) _ _ (λ b. none_wrong s b)
-      (λ b. by_test _ (not (starts_with is_name_start (skip_blanks text))) _ _ (λ n. (inr (b, not_true _ n), λ kind w. from_one kind))
-      (λ n. mnemonic_least s b (not_false _ n) (mnemonic_named (first_word (skip_blanks text))) refl)))
+use Rattle.evm_asm.proofs.Reading_faults.{ReadingFault, reading_least}
 
 -- ---- the labels and the size of a statement that is read
 
@@ -383,24 +281,24 @@ module _ (whole before : Laid) (line : List ℕ) where
   abbrev Twice : Type 0
   Twice = (line_defined before.labels before.place (code_of line)).twice ≡ true
 
-  laid_least : IsLeast (λ kind. Only LabelTwice Twice kind ⊎ (ReadingFault before.place (text_of line) kind ⊎ Large whole.labels whole.place.text_size before.place (text_of line) kind)) (line_laid before.labels before.place (code_of line)).1.1
+  laid_least : IsLeast (λ kind. Only LabelTwice Twice kind ⊎ (ReadingFault before.place (text_behind_labels line) kind ⊎ Large whole.labels whole.place.text_size before.place (text_behind_labels line) kind)) (line_laid before.labels before.place (code_of line)).1.1
   unfolding line_laid
   laid_least =
       let known = (line_defined before.labels before.place (code_of line)).labels in
       let twice = (line_defined before.labels before.place (code_of line)).twice in
-      let same = measured_alike whole.labels known before.place (text_of line) in
-      subst (IsLeast (λ kind. Only LabelTwice Twice kind ⊎ (ReadingFault before.place (text_of line) kind ⊎ Large whole.labels whole.place.text_size before.place (text_of line) kind)))
-      (outcome_fault before.place twice (measured known before.place (text_of line)))
+      let same = measured_alike whole.labels known before.place (text_behind_labels line) in
+      subst (IsLeast (λ kind. Only LabelTwice Twice kind ⊎ (ReadingFault before.place (text_behind_labels line) kind ⊎ Large whole.labels whole.place.text_size before.place (text_behind_labels line) kind)))
+      (outcome_fault before.place twice (measured known before.place (text_behind_labels line)))
       (either_least (Only LabelTwice Twice) _ _ _ (twice_least twice)
-      (subst (λ (r : Result Place AsmFaultKind). IsLeast (λ kind. ReadingFault before.place (text_of line) kind ⊎ Large whole.labels whole.place.text_size before.place (text_of line) kind) (fault_in r)) same
-      (measured_least whole.labels whole.place.text_size before.place (text_of line))))
+      (subst (λ (r : Result Place AsmFaultKind). IsLeast (λ kind. ReadingFault before.place (text_behind_labels line) kind ⊎ Large whole.labels whole.place.text_size before.place (text_behind_labels line) kind) (fault_in r)) same
+      (measured_least whole.labels whole.place.text_size before.place (text_behind_labels line))))
 
   abbrev All : AsmFaultKind → Type 0
   All kind =
-      (Only LabelTwice Twice kind ⊎ (ReadingFault before.place (text_of line) kind ⊎ Large whole.labels whole.place.text_size before.place (text_of line) kind))
-      ⊎ (ReadingFault before.place (text_of line) kind ⊎ (Labelling whole.labels whole.place.text_size before.place (text_of line) kind ⊎ Large whole.labels whole.place.text_size before.place (text_of line) kind))
+      (Only LabelTwice Twice kind ⊎ (ReadingFault before.place (text_behind_labels line) kind ⊎ Large whole.labels whole.place.text_size before.place (text_behind_labels line) kind))
+      ⊎ (ReadingFault before.place (text_behind_labels line) kind ⊎ (Labelling whole.labels whole.place.text_size before.place (text_behind_labels line) kind ⊎ Large whole.labels whole.place.text_size before.place (text_behind_labels line) kind))
 
-  reading_wrong : (kind : AsmFaultKind) → ReadingFault before.place (text_of line) kind → IsWrong whole before line kind
+  reading_wrong : (kind : AsmFaultKind) → ReadingFault before.place (text_behind_labels line) kind → IsWrong whole before line kind
   reading_wrong BadToken w = w
   reading_wrong UnknownName w = w
   reading_wrong BadOperand w = w
@@ -431,7 +329,7 @@ module _ (whole before : Laid) (line : List ℕ) where
   line_least : IsLeast (IsWrong whole before line) (line_fault whole before line)
   line_least =
       same_least All (IsWrong whole before line) _ all_wrong wrong_all
-      (either_least _ _ _ _ laid_least (meant_least whole.labels whole.place.text_size before.place (text_of line) 0))
+      (either_least _ _ _ _ laid_least (meant_least whole.labels whole.place.text_size before.place (text_behind_labels line) 0))
 
 -- ---- the source
 

@@ -115,8 +115,8 @@ HasNumberOutside (Many width makes) text = SomeOperand (IsDatumOutside width) (h
 -- ---- what is wrong with a line
 
 -- the text behind a line's labels
-abbrev pub text_of : List ℕ → List ℕ
-text_of line = statement_text (code_of line)
+abbrev pub text_behind_labels : List ℕ → List ℕ
+text_behind_labels line = statement_text (code_of line)
 
 -- a statement that begins with no name
 abbrev pub BeginsWithNoName : List ℕ → Type 0
@@ -157,15 +157,15 @@ Said labels place text P = (s : Statement) × (statement_in labels place text �
 
 -- What is wrong with a line that stands behind others, in a source that is laid out as a whole.
 abbrev pub IsWrong : Laid → Laid → List ℕ → AsmFaultKind → Type 0
-IsWrong whole before line BadToken = (is_sound false (text_of line) ≡ false) ⊎ BeginsWithNoName (text_of line)
-IsWrong whole before line UnknownName = HasUnknownMnemonic (text_of line) ⊎ OfForm (text_of line) HasUnknownRegister
-IsWrong whole before line BadOperand = OfForm (text_of line) HasMisfit ⊎ IsMisplaced before.place (text_of line)
+IsWrong whole before line BadToken = (is_sound false (text_behind_labels line) ≡ false) ⊎ BeginsWithNoName (text_behind_labels line)
+IsWrong whole before line UnknownName = HasUnknownMnemonic (text_behind_labels line) ⊎ OfForm (text_behind_labels line) HasUnknownRegister
+IsWrong whole before line BadOperand = OfForm (text_behind_labels line) HasMisfit ⊎ IsMisplaced before.place (text_behind_labels line)
 IsWrong whole before line RangeOfImmediate =
-    OfForm (text_of line) HasNumberOutside
-    ⊎ Said whole.labels before.place (text_of line) (IsFar whole.place.text_size (text_base + before.place.text_size))
+    OfForm (text_behind_labels line) HasNumberOutside
+    ⊎ Said whole.labels before.place (text_behind_labels line) (IsFar whole.place.text_size (text_base + before.place.text_size))
 IsWrong whole before line LabelTwice = (line_defined before.labels before.place (code_of line)).twice ≡ true
-IsWrong whole before line LabelMissing = Said whole.labels before.place (text_of line) (LacksLabel whole.labels (text_of line))
-IsWrong whole before line TooLarge = Said whole.labels before.place (text_of line) (λ s. place_behind before.place s ≡ Err TooLarge)
+IsWrong whole before line LabelMissing = Said whole.labels before.place (text_behind_labels line) (LacksLabel whole.labels (text_behind_labels line))
+IsWrong whole before line TooLarge = Said whole.labels before.place (text_behind_labels line) (λ s. place_behind before.place s ≡ Err TooLarge)
 IsWrong whole before line NoMemory = ⊥
 
 -- Line n of a source, from 1, has this fault.
