@@ -42,3 +42,4 @@ pub mod Refused_first
 pub mod Operand_faults
 pub mod Reading_faults
 pub mod Line_faults
+pub mod Labels_in_order

@@ -1,5 +1,5 @@
 -- Where the lines of a source stand, and how many bytes its sections have.
-use Rattle.std.specs.Prelude.{◌≡◌, ℕ, zero, suc, ◌+◌, ◌-◌, ◌*◌, ◌<◌, ◌⊎◌, List, ◌++◌, length, take, drop, replicate, slice_get, All, Any, Some, Ok}
+use Rattle.std.specs.Prelude.{◌≡◌, ℕ, zero, suc, ◌+◌, ◌-◌, ◌*◌, ◌<◌, ◌⊎◌, List, [], ◌∷◌, ◌++◌, length, take, drop, replicate, map, slice_get, All, Any, Some, None, Ok}
 use Rattle.evm_isa.specs.declared.inst.Inst.{Inst}
 use Rattle.evm_asm.specs.declared.item.Expansion.{Expansion}
 use Rattle.evm_asm.specs.declared.item.Expansion.TheVariants.{Empty, Single, Double}
@@ -93,6 +93,20 @@ LabelsStandWhereTheirLinesDo = (source : List ℕ) (p : Assembled) → program_o
 abbrev pub AllLabelsAreFound : Type 0
 AllLabelsAreFound = (source : List ℕ) (p : Assembled) → program_of source ≡ Ok p → (n : ℕ) (name : List ℕ) → HasLabel source n name
     → named p.labels name ≡ Some (address (size_of_text source) (here (place_before source n)))
+
+-- the names of the labels at the front of a text, of which there are at most n
+unfoldable pub labels_at : ℕ → List ℕ → List (List ℕ)
+labels_at zero text = []
+labels_at (suc n) text = elim (label_at text) [ None ↦ [] | Some label ↦ label.0 ∷ labels_at n label.1 ]
+
+-- the names of the labels of lines, in their order
+unfoldable pub labels_of : List (List ℕ) → List (List ℕ)
+labels_of [] = []
+labels_of (line ∷ lines) = labels_at (length (code_of line)) (code_of line) ++ labels_of lines
+
+-- The labels of a program are those of the source's lines, each once, in the source's order.
+abbrev pub LabelsStandInOrder : Type 0
+LabelsStandInOrder = (source : List ℕ) (p : Assembled) → program_of source ≡ Ok p → map (λ l. l.0) p.labels ≡ labels_of (source_lines source)
 
 -- the operand that stands behind so many commas
 abbrev pub operand_at : ℕ → List ℕ → List ℕ
