@@ -21,10 +21,8 @@ use Rattle.evm_asm.specs.declared.place.Place.{Place}
 use Rattle.evm_statement.specs.declared.statement.Statement.{Statement}
 use Rattle.evm_statement.specs.declared.statement.Statement.TheVariants.{Nothing, One, Branch, Jump, LoadImmediate, LoadAddress, Section, Numbers, Space, Align}
 use Rattle.evm_words.specs.Faults.{◌>>=◌}
-use Rattle.evm_words.specs.Text.{after}
-use Rattle.evm_statement.specs.Operands.{first}
-use Rattle.evm_statement.specs.Statements.{Spots}
-use Rattle.evm_asm.specs.Places.{offset, offset_in, farther, grown, is_small, low_word, needs_low_part, bytes_in, padding, load_size, size_at, behind, is_text}
+use Rattle.evm_statement.specs.Operands.{Spots, first_operand, other_operands}
+use Rattle.evm_asm.specs.Places.{offset, section_size, farther, grown, is_small, low_word, needs_low_part, bytes_in, padding, load_size, size_at, place_behind, is_text}
 use Rattle.evm_asm.specs.Items.{text_base, distance_to, load_immediate, load_address, expanded, with_item, with_instructions, value_in, number_pushed, with_numbers, filling, operands, with_statement}
 use Rattle.evm_asm.proofs.Counted.{in_text, in_data, item_size, item_section, text_in, data_in, text_in-push, data_in-push}
 use Rattle.evm_asm.proofs.Instructions_in_text.{is_instruction}
@@ -92,9 +90,9 @@ numbers_add : (labels : Spots) (size : ℕ) (part : Part) (width : Width) (n : �
 unfolding with_numbers
 numbers_add labels size part width zero text a b h = subst (λ (c : List Placed). Adds part (0 * bytes_in width) a c) (same_items a b h) (adds_none part (0 * bytes_in width) a (omega arith))
 numbers_add labels size part width (suc n) text a b h =
-    let one = bind_ok (number_pushed labels size part width (first text) a) (λ items. with_numbers labels size part width n (after 44 text) items) b h in
+    let one = bind_ok (number_pushed labels size part width (first_operand text) a) (λ items. with_numbers labels size part width n (other_operands text) items) b h in
     adds_both part (bytes_in width) (n * bytes_in width) (suc n * bytes_in width) a one.0 b (omega arith)
-    (number_adds labels size part width (first text) a one.0 one.1) (numbers_add labels size part width n (after 44 text) one.0 b one.2)
+    (number_adds labels size part width (first_operand text) a one.0 one.1) (numbers_add labels size part width n (other_operands text) one.0 b one.2)
 
 abbrev pub expansion_size : Expansion → ℕ
 expansion_size Empty = 0
@@ -163,7 +161,7 @@ padded : (o power : ℕ) → o % 4 ≡ 0 → 2 ≤ power → padding o power / 4
 padded o power k h = padded_by o (2 ^ power) (2 ^ (power - 2)) (power_of_four power h) (pow_pos (power - 2)) k
 
 filled_by : (part : Part) (place : Place) (power : ℕ) (t u : Bool) → (place.text_size % 4 == 0) ≡ t → nat_le 2 power ≡ u
-    → item_size (cond (is_text part && (t && u)) (Nops (padding (offset_in part place) power / 4)) (Zeros (padding (offset_in part place) power))) ≡ padding (offset_in part place) power
+    → item_size (cond (is_text part && (t && u)) (Nops (padding (section_size part place) power / 4)) (Zeros (padding (section_size part place) power))) ≡ padding (section_size part place) power
 filled_by Text place power true true e f = let le : 2 ≤ power = leb-true 2 power f in let zero : place.text_size % 4 ≡ 0 = grind (arith, nat_tests) in padded place.text_size power zero le
 filled_by Text place power true false e f = refl
 filled_by Text place power false u e f = refl
@@ -182,8 +180,8 @@ align_adds place power a =
 
 -- behind a statement the items have the bytes that the place counts
 pub statement_balanced : (labels : Spots) (size line : ℕ) (place next : Place) (text : List ℕ) (s : Statement) (a b : List Placed)
-    → (is_instruction s ≡ true → place.section ≡ Text) → with_statement labels size line place text s a ≡ Ok b → behind place s ≡ Ok next → IsBalanced place a → IsBalanced next b
-unfolding with_statement behind expanded with_instructions size_at
+    → (is_instruction s ≡ true → place.section ≡ Text) → with_statement labels size line place text s a ≡ Ok b → place_behind place s ≡ Ok next → IsBalanced place a → IsBalanced next b
+unfolding with_statement place_behind expanded with_instructions size_at
 statement_balanced labels size line place next text Nothing a b t h k balanced =
     grown_balanced place next 0 a b k (λ _. subst (λ (c : List Placed). Adds place.section 0 a c) (same_items a b h) (adds_none place.section 0 a refl)) balanced
 statement_balanced labels size line place next text (Section part) a b t h k balanced =

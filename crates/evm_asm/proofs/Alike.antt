@@ -1,6 +1,5 @@
 -- How long a statement is doesn't depend on where the labels are.
-use Rattle.std.proofs.Common.{◌≡◌, ℕ, zero, suc, false, not, ◌==◌, List, Option, Some, None, Ok, refl}
-use Rattle.evm_isa.specs.declared.inst.BranchOp.{BranchOp}
+use Rattle.std.proofs.Common.{◌≡◌, ℕ, zero, suc, Bool, true, false, cond, not, ◌==◌, List, [], ◌∷◌, length, Option, Some, None, Ok, ap, refl}
 use Rattle.evm_words.specs.declared.fault.AsmFaultKind.TheVariants.{BadToken, BadOperand, UnknownName}
 use Rattle.evm_words.specs.declared.mnemonic.Mnemonic.{Mnemonic}
 use Rattle.evm_words.specs.declared.mnemonic.Mnemonic.TheVariants as names
@@ -10,19 +9,67 @@ use Rattle.evm_statement.specs.declared.operand.Number.{Number}
 use Rattle.evm_asm.specs.declared.place.Place.{Place}
 use Rattle.evm_statement.specs.declared.statement.Datum.TheVariants as datum
 use Rattle.evm_statement.specs.declared.statement.Statement.{Statement}
-use Rattle.evm_statement.specs.declared.statement.Statement.TheVariants.{Nothing, Branch, Jump, LoadAddress, Numbers}
+use Rattle.evm_statement.specs.declared.statement.Statement.TheVariants.{Nothing, LoadImmediate, Space, Align}
 use Rattle.evm_words.specs.Faults.{◌>>=◌}
-use Rattle.evm_words.specs.Text.{after, skip_blanks, word, behind_word, starts_with, is_name_start, is_empty, is_sound}
+use Rattle.evm_words.specs.Text.{skip_blanks, first_word, behind_word, starts_with, is_name_start, is_empty, is_sound}
 use Rattle.evm_words.specs.Names.{mnemonic_named}
-use Rattle.evm_statement.specs.Operands.{first, second, third, how_many, name_in, register_in, labelled, label_in, number_in}
-use Rattle.evm_statement.specs.Statements.{Spots, Reading, two_registers_and_label, register_and_label, branch_line, swapped_line, branch_zero_line, zero_branch_line, jump_line, jal_line, load_address_line, label_datum, datum_of, datum_in, with_data, numbers_line, statement_of}
-use Rattle.evm_asm.specs.Places.{size_at, behind, placed, of_mnemonic, statement_in}
+use Rattle.evm_statement.specs.Operands.{Spots, first_operand, other_operands, how_many, name_in, labelled, label_in, number_in, label_datum, datum_of, datum_in}
+use Rattle.evm_statement.specs.Forms.{Slot, Register, Integer, Natural, Upper, Label, Address, FullAddress, Name, Value, Values, Form, Each, Many, form}
+use Rattle.evm_statement.specs.Statements.{Reading, operand_in, operands_in, with_data, said, statement_of}
+use Rattle.evm_asm.specs.Places.{size_at, place_behind, placed, of_mnemonic, statement_in}
 use Rattle.evm_asm.specs.Sources.{measured}
-use Rattle.evm_asm.proofs.Like.{Like, values, faults, Whatever, Beside, like_itself, like_either, like_both, like_counted, like_mapped, like_also}
+use Rattle.evm_asm.proofs.Like.{Like, values, faults, Whatever, like_itself, like_either, like_both, like_counted, like_mapped, like_also}
 
 -- the two statements take the same room
 abbrev pub SameSize : Statement → Statement → Type 0
-SameSize s t = (place : Place) → behind place s ≡ behind place t
+SameSize s t = (place : Place) → place_behind place s ≡ place_behind place t
+
+-- what is read in a place is the same, but for the spot of a label
+abbrev Same : (slot : Slot) → Value slot → Value slot → Type 0
+Same Label s t = Unit {0}
+Same slot a b = a ≡ b
+
+abbrev AllSame : (slots : List Slot) → Values slots → Values slots → Type 0
+AllSame [] v w = Unit {0}
+AllSame (slot ∷ []) v w = Same slot v w
+AllSame (slot ∷ next ∷ slots) v w = Same slot v.0 w.0 × AllSame (next ∷ slots) v.1 w.1
+
+abbrev MakesAlike : Form → Type 0
+MakesAlike (Each slots makes) = (v w : Values slots) → AllSame slots v w → SameSize (makes v) (makes w)
+MakesAlike (Many width makes) = (n : ℕ) → SameSize (makes n) (makes n)
+
+either_alike : (t : Bool) (f g : Form) → MakesAlike f → MakesAlike g → MakesAlike (cond t f g)
+either_alike true f g h k = h
+either_alike false f g h k = k
+
+-- each row of the table makes statements of one size
+forms_alike : (count : ℕ) (m : Mnemonic) → MakesAlike (form count m)
+unfolding place_behind size_at
+forms_alike count (names.Register op) = λ v w h. λ place. refl
+forms_alike count (names.Word op) = λ v w h. λ place. refl
+forms_alike count (names.Immediate op) = λ v w h. λ place. refl
+forms_alike count (names.Shift op) = λ v w h. λ place. refl
+forms_alike count (names.Load op) = λ v w h. λ place. refl
+forms_alike count (names.Store op) = λ v w h. λ place. refl
+forms_alike count (names.Branch op) = λ v w h. λ place. refl
+forms_alike count names.Lui = λ v w h. λ place. refl
+forms_alike count names.Auipc = λ v w h. λ place. refl
+forms_alike count names.Jal = either_alike (count == 1) _ _ (λ v w h. λ place. refl) (λ v w h. λ place. refl)
+forms_alike count names.Jalr = either_alike (count == 1) _ _ (λ v w h. λ place. refl) (λ v w h. λ place. refl)
+forms_alike count (names.Bare op) = λ v w h. λ place. refl
+forms_alike count (names.Unary op) = λ v w h. λ place. refl
+forms_alike count (names.BranchSwapped op) = λ v w h. λ place. refl
+forms_alike count (names.BranchZero op) = λ v w h. λ place. refl
+forms_alike count (names.ZeroBranch op) = λ v w h. λ place. refl
+forms_alike count names.Jump = λ v w h. λ place. refl
+forms_alike count names.JumpRegister = λ v w h. λ place. refl
+forms_alike count names.LoadImmediate = λ v w h. λ place. ap (λ value. place_behind place (LoadImmediate 0 value)) h.1
+forms_alike count names.LoadAddress = λ v w h. λ place. refl
+forms_alike count (names.Section s) = λ v w h. λ place. refl
+forms_alike count (names.Numbers width) = λ n. λ place. refl
+forms_alike count names.Space = λ v w h. λ place. ap (λ n. place_behind place (Space n)) h
+forms_alike count names.Align = λ v w h. λ place. ap (λ n. place_behind place (Align n)) h
+forms_alike count names.Global = λ v w h. λ place. refl
 
 module _ (known all : Spots) where
   named_alike : (o : Option (List ℕ)) → Like Whatever (labelled known o) (labelled all o)
@@ -32,47 +79,6 @@ module _ (known all : Spots) where
   label_alike : (text : List ℕ) → Like Whatever (label_in known text) (label_in all text)
   unfolding label_in
   label_alike text = named_alike (name_in text)
-
-  three_alike : (text : List ℕ) → Like (Beside (Beside Whatever)) (two_registers_and_label known text) (two_registers_and_label all text)
-  unfolding two_registers_and_label
-  three_alike text =
-      like_counted _ 3 (how_many text) _ _
-      (like_both _ (register_in (first text)) _ _ (like_both _ (register_in (second text)) _ _ (label_alike (third text))))
-
-  two_alike : (text : List ℕ) → Like (Beside Whatever) (register_and_label known text) (register_and_label all text)
-  unfolding register_and_label
-  two_alike text = like_counted _ 2 (how_many text) _ _ (like_both _ (register_in (first text)) _ _ (label_alike (second text)))
-
-  jump_alike : (rd : ℕ) (text : List ℕ) → Like SameSize (jump_line known rd text) (jump_line all rd text)
-  unfolding jump_line behind size_at
-  jump_alike rd text =
-      like_mapped Whatever SameSize (λ t. Jump rd t) _ _ (λ a b h. λ place. refl) (like_counted Whatever 1 (how_many text) _ _ (label_alike (first text)))
-
-  jal_alike : (text : List ℕ) → Like SameSize (jal_line known text) (jal_line all text)
-  unfolding jal_line behind size_at
-  jal_alike text =
-      like_either SameSize (how_many text == 1) _ _ _ _ (jump_alike 1 text)
-      (like_mapped (Beside Whatever) SameSize (λ r. Jump r.0 r.1) _ _ (λ a b h. λ place. refl) (two_alike text))
-
-  branch_alike : (op : BranchOp) (text : List ℕ) → Like SameSize (branch_line known op text) (branch_line all op text)
-  unfolding branch_line behind size_at
-  branch_alike op text = like_mapped (Beside (Beside Whatever)) SameSize (λ r. Branch op r.0 r.1.0 r.1.1) _ _ (λ a b h. λ place. refl) (three_alike text)
-
-  swapped_alike : (op : BranchOp) (text : List ℕ) → Like SameSize (swapped_line known op text) (swapped_line all op text)
-  unfolding swapped_line behind size_at
-  swapped_alike op text = like_mapped (Beside (Beside Whatever)) SameSize (λ r. Branch op r.1.0 r.0 r.1.1) _ _ (λ a b h. λ place. refl) (three_alike text)
-
-  branch_zero_alike : (op : BranchOp) (text : List ℕ) → Like SameSize (branch_zero_line known op text) (branch_zero_line all op text)
-  unfolding branch_zero_line behind size_at
-  branch_zero_alike op text = like_mapped (Beside Whatever) SameSize (λ r. Branch op r.0 0 r.1) _ _ (λ a b h. λ place. refl) (two_alike text)
-
-  zero_branch_alike : (op : BranchOp) (text : List ℕ) → Like SameSize (zero_branch_line known op text) (zero_branch_line all op text)
-  unfolding zero_branch_line behind size_at
-  zero_branch_alike op text = like_mapped (Beside Whatever) SameSize (λ r. Branch op 0 r.0 r.1) _ _ (λ a b h. λ place. refl) (two_alike text)
-
-  load_address_alike : (text : List ℕ) → Like SameSize (load_address_line known text) (load_address_line all text)
-  unfolding load_address_line behind size_at
-  load_address_alike text = like_mapped (Beside Whatever) SameSize (λ r. LoadAddress r.0 r.1) _ _ (λ a b h. λ place. refl) (two_alike text)
 
   label_datum_alike : (width : Width) (text : List ℕ) → Like Whatever (label_datum known width text) (label_datum all width text)
   label_datum_alike Byte text = faults BadOperand
@@ -87,31 +93,41 @@ module _ (known all : Spots) where
   unfolding datum_in
   datum_alike width text = datum_of_alike width text (number_in text)
 
-  pub data_alike : (R : Statement → Statement → Type 0) (width : Width) (n : ℕ) (r r' : Reading) (text : List ℕ) → Like R r r' → Like R (with_data known width n r text) (with_data all width n r' text)
+  data_alike : (R : Statement → Statement → Type 0) (width : Width) (n : ℕ) (r r' : Reading) (text : List ℕ) → Like R r r' → Like R (with_data known width n r text) (with_data all width n r' text)
   unfolding with_data
   data_alike R width zero r r' text h = h
-  data_alike R width (suc n) r r' text h = data_alike R width n _ _ (after 44 text) (like_also R Whatever _ _ _ _ h (datum_alike width (first text)))
+  data_alike R width (suc n) r r' text h = data_alike R width n _ _ (other_operands text) (like_also R Whatever _ _ _ _ h (datum_alike width (first_operand text)))
 
-  pub numbers_alike : (R : Statement → Statement → Type 0) (width : Width) (text : List ℕ) → R (Numbers width (how_many text)) (Numbers width (how_many text)) → Like R (numbers_line known width text) (numbers_line all width text)
-  unfolding numbers_line
-  numbers_alike R width text h =
-      like_either R (how_many text == 0) _ _ _ _ (faults BadOperand)
-      (data_alike R width (how_many text) _ _ text (values (Numbers width (how_many text)) (Numbers width (how_many text)) h))
+  operand_alike : (slot : Slot) (text : List ℕ) → Like (Same slot) (operand_in known slot text) (operand_in all slot text)
+  operand_alike Register text = like_itself (Same Register) _ (λ a. refl)
+  operand_alike (Integer below above) text = like_itself (Same (Integer below above)) _ (λ a. refl)
+  operand_alike (Natural above) text = like_itself (Same (Natural above)) _ (λ a. refl)
+  operand_alike Upper text = like_itself (Same Upper) _ (λ a. refl)
+  operand_alike Label text = label_alike text
+  operand_alike Address text = like_itself (Same Address) _ (λ a. refl)
+  operand_alike FullAddress text = like_itself (Same FullAddress) _ (λ a. refl)
+  operand_alike Name text = like_itself (Same Name) _ (λ a. refl)
+
+  operands_alike : (slots : List Slot) (text : List ℕ) → Like (AllSame slots) (operands_in known slots text) (operands_in all slots text)
+  operands_alike [] text = values tt tt tt
+  operands_alike (slot ∷ []) text = operand_alike slot (first_operand text)
+  operands_alike (slot ∷ next ∷ slots) text =
+      like_both (Same slot) (AllSame (next ∷ slots)) _ _ _ _ (operand_alike slot (first_operand text)) (operands_alike (next ∷ slots) (other_operands text))
+
+  said_alike : (f : Form) (text : List ℕ) → MakesAlike f → Like SameSize (said known f text) (said all f text)
+  unfolding said
+  said_alike (Each slots makes) text h =
+      like_mapped (AllSame slots) SameSize makes _ _ h (like_counted (AllSame slots) (length slots) (how_many text) _ _ (operands_alike slots text))
+  said_alike (Many width makes) text h =
+      like_either SameSize (how_many text == 0) _ _ _ _ (faults BadOperand)
+      (data_alike SameSize width (how_many text) _ _ text (values (makes (how_many text)) (makes (how_many text)) (h (how_many text))))
 
   same_reading : (r : Reading) → Like SameSize r r
   same_reading r = like_itself SameSize r (λ s. λ place. refl)
 
   statement_alike : (m : Mnemonic) (text : List ℕ) → Like SameSize (statement_of known m text) (statement_of all m text)
   unfolding statement_of
-  statement_alike (names.Branch op) text = branch_alike op text
-  statement_alike names.Jal text = jal_alike text
-  statement_alike (names.BranchSwapped op) text = swapped_alike op text
-  statement_alike (names.BranchZero op) text = branch_zero_alike op text
-  statement_alike (names.ZeroBranch op) text = zero_branch_alike op text
-  statement_alike names.Jump text = jump_alike 0 text
-  statement_alike names.LoadAddress text = load_address_alike text
-  statement_alike (names.Numbers width) text = numbers_alike SameSize width text (λ place. refl)
-  statement_alike m text = same_reading _
+  statement_alike m text = said_alike (form (how_many text) m) text (forms_alike (how_many text) m)
 
   mnemonic_alike : (place : Place) (o : Option Mnemonic) (text : List ℕ) → Like SameSize (of_mnemonic known place o text) (of_mnemonic all place o text)
   mnemonic_alike place (Some m) text = like_also SameSize Whatever _ _ _ _ (statement_alike m text) (like_itself Whatever (placed m place) (λ a. tt))
@@ -123,9 +139,9 @@ module _ (known all : Spots) where
       like_either SameSize (not (is_sound false text)) _ _ _ _ (faults BadToken)
       (like_either SameSize (is_empty (skip_blanks text)) _ _ _ _ (same_reading (Ok Nothing))
       (like_either SameSize (not (starts_with is_name_start (skip_blanks text))) _ _ _ _ (faults BadToken)
-      (mnemonic_alike place (mnemonic_named (word (skip_blanks text))) (behind_word (skip_blanks text)))))
+      (mnemonic_alike place (mnemonic_named (first_word (skip_blanks text))) (behind_word (skip_blanks text)))))
 
-measured_by : (place : Place) (r s : Reading) → Like SameSize r s → (r >>= behind place) ≡ (s >>= behind place)
+measured_by : (place : Place) (r s : Reading) → Like SameSize r s → (r >>= place_behind place) ≡ (s >>= place_behind place)
 measured_by place _ _ (values s t h) = h place
 measured_by place _ _ (faults e) = refl
 

@@ -7,7 +7,7 @@ use Rattle.evm_asm.specs.declared.output.ProgramLine.{ProgramLine}
 use Rattle.evm_asm.specs.declared.place.Place.{Place}
 use Rattle.evm_statement.specs.declared.statement.Statement.{Statement}
 use Rattle.evm_asm.specs.Places.{statement_in}
-use Rattle.evm_asm.specs.Sources.{lines_of, code_of, statement_text, nothing_laid, laid}
+use Rattle.evm_asm.specs.Sources.{source_lines, code_of, statement_text, nothing_laid, laid}
 use Rattle.evm_asm.specs.Items.{text_base, expanded, and_then, layout_of, meaning_of}
 use Rattle.evm_asm.specs.Programs.{nothing_spelled, spelled}
 use Rattle.evm_asm.specs.Assembled.{Assembled, assembled, program_of}
@@ -25,7 +25,7 @@ module _ (source : List ℕ) (n address : ℕ) (i : Inst) (m : Means source n ad
   abbrev Is : ℕ → ℕ → Inst → Type 0
   Is line at j = (line ≡ n) × (at ≡ address) × (j ≡ i)
 
-  comes_here : (xs : List (List ℕ)) (line : List ℕ) (rest : List (List ℕ)) → lines_of source ≡ xs ++ line ∷ rest → n ≡ length xs + 1 → (k : ℕ) → k ≡ n → (place next : Place) → place ≡ (laid nothing_laid xs).place
+  comes_here : (xs : List (List ℕ)) (line : List ℕ) (rest : List (List ℕ)) → source_lines source ≡ xs ++ line ∷ rest → n ≡ length xs + 1 → (k : ℕ) → k ≡ n → (place next : Place) → place ≡ (laid nothing_laid xs).place
       → (a b : List Placed) → IsBalanced place a → Line (layout_of source).labels (size_of_text source) k place next (statement_text (code_of line)) a b → Has (Such Is) 0 0 b
   comes_here xs line rest split number k same place next is a b balanced l =
       let labels = (layout_of source).labels in

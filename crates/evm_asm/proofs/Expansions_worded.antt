@@ -13,7 +13,7 @@ use Rattle.evm_statement.specs.declared.statement.Statement.TheVariants.{Nothing
 use Rattle.evm_asm.specs.Places.{is_small, low_word, low_part, high_part, needs_low_part}
 use Rattle.evm_asm.specs.Items.{address, distance, distance_to, load_immediate, load_address_by, load_address, expanded}
 use Rattle.evm_asm.specs.Wording.{HasWord}
-use Rattle.evm_asm.proofs.Outcomes.{either_ok, tested_ok, read_ok}
+use Rattle.evm_statement.proofs.Outcomes.{either_ok, tested_ok, read_ok}
 use Rattle.evm_asm.proofs.Registers_below.{IsRegister, zero_register}
 use Rattle.evm_asm.proofs.Numbers_in_range.{minus_within, upper_within}
 use Rattle.evm_asm.proofs.Statements_worded.{IsFit}

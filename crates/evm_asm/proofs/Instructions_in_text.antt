@@ -1,5 +1,5 @@
 -- Statements that become instructions stand in the text.
-use Rattle.std.proofs.Common.{◌≡◌, ℕ, Bool, true, false, cond, not, ◌&&◌, ◌==◌, ◌%◌, List, Option, Some, None, Result, Ok, Err, refl}
+use Rattle.std.proofs.Common.{◌≡◌, ℕ, Bool, true, false, cond, not, ◌&&◌, ◌==◌, ◌%◌, List, Option, Some, None, Result, Ok, Err, IfOk, ◌∙◌, sym, refl, subst}
 use Rattle.evm_words.specs.declared.fault.AsmFaultKind.{AsmFaultKind}
 use Rattle.evm_words.specs.declared.fault.AsmFaultKind.TheVariants.{BadToken, BadOperand}
 use Rattle.evm_words.specs.declared.mnemonic.Mnemonic.{Mnemonic}
@@ -8,15 +8,17 @@ use Rattle.evm_words.specs.declared.mnemonic.Section.{Section as Part}
 use Rattle.evm_words.specs.declared.mnemonic.Section.TheVariants.{Text, Data}
 use Rattle.evm_asm.specs.declared.place.Place.{Place}
 use Rattle.evm_statement.specs.declared.statement.Statement.{Statement}
-use Rattle.evm_statement.specs.declared.statement.Statement.TheVariants.{Nothing, One, Branch, Jump, LoadImmediate, LoadAddress, Section, Space, Align}
-use Rattle.evm_words.specs.Text.{skip_blanks, word, behind_word, starts_with, is_name_start, is_empty, is_sound}
+use Rattle.evm_statement.specs.declared.statement.Statement.TheVariants.{Nothing, One, Branch, Jump, LoadImmediate, LoadAddress}
+use Rattle.evm_words.specs.Text.{skip_blanks, first_word, behind_word, starts_with, is_name_start, is_empty, is_sound}
 use Rattle.evm_words.specs.Names.{mnemonic_named}
-use Rattle.evm_statement.specs.Operands.{first, how_many, name_in}
-use Rattle.evm_statement.specs.Statements.{Spots, Reading, also, space_line, align_line, one_name, global_line, statement_of}
+use Rattle.evm_statement.specs.Operands.{Spots, how_many}
+use Rattle.evm_statement.specs.Forms.{form}
+use Rattle.evm_statement.specs.Statements.{Reading, operand_in, also, statement_of}
 use Rattle.evm_asm.specs.Places.{is_directive, is_text, may_stand, placed, of_mnemonic, statement_in}
-use Rattle.evm_asm.proofs.Like.{Like, values, faults, Whatever, like_itself, like_counted, like_mapped, like_ok}
-use Rattle.evm_asm.proofs.Alike.{numbers_alike}
+use Rattle.evm_statement.proofs.Outcomes.{any_ok}
+use Rattle.evm_statement.proofs.Forms_hold.{Makes, statement_holds}
 
+-- a statement that becomes instructions
 abbrev pub is_instruction : Statement → Bool
 is_instruction (One i) = true
 is_instruction (Branch op rs1 rs2 target) = true
@@ -25,23 +27,27 @@ is_instruction (LoadImmediate rd value) = true
 is_instruction (LoadAddress rd target) = true
 is_instruction statement = false
 
-abbrev AreNone : Statement → Statement → Type 0
-AreNone s t = is_instruction t ≡ false
+abbrev IsNone : Statement → Type 0
+IsNone s = is_instruction s ≡ false
 
-one_name_none : (o : Option (List ℕ)) → Like AreNone (one_name o) (one_name o)
-one_name_none (Some name) = values Nothing Nothing refl
-one_name_none None = faults BadOperand
+-- each row of a directive makes no instruction
+directives_make_none : (count : ℕ) (m : Mnemonic) → is_directive m ≡ true → Makes (λ slot v. Unit {0}) IsNone (form count m)
+directives_make_none count (names.Section s) h = λ v k. refl
+directives_make_none count (names.Numbers width) h = λ n. refl
+directives_make_none count names.Space h = λ v k. refl
+directives_make_none count names.Align h = λ v k. refl
+directives_make_none count names.Global h = λ v k. refl
+directives_make_none count m h = absurd cc
 
-directive_none : (labels : Spots) (m : Mnemonic) (text : List ℕ) → is_directive m ≡ true → Like AreNone (statement_of labels m text) (statement_of labels m text)
-unfolding statement_of space_line align_line global_line
-directive_none labels (names.Section s) text h = like_counted AreNone 0 (how_many text) _ _ (values (Section s) (Section s) refl)
-directive_none labels (names.Numbers width) text h = numbers_alike labels labels AreNone width text refl
-directive_none labels names.Space text h = like_mapped Whatever AreNone (λ n. Space n) _ _ (λ a b k. refl) (like_itself Whatever _ (λ a. tt))
-directive_none labels names.Align text h = like_mapped Whatever AreNone (λ n. Align n) _ _ (λ a b k. refl) (like_itself Whatever _ (λ a. tt))
-directive_none labels names.Global text h = like_counted AreNone 1 (how_many text) _ _ (one_name_none (name_in (first text)))
-directive_none labels m text h = cc
+directive_none : (labels : Spots) (m : Mnemonic) (text : List ℕ) → is_directive m ≡ true → IfOk (statement_of labels m text) IsNone
+directive_none labels m text h =
+    statement_holds labels (λ slot v. Unit {0}) (λ slot text. any_ok (operand_in labels slot text)) IsNone m text (directives_make_none (how_many text) m h)
 
-also_ok : {A B : Type 0} (r : Result A AsmFaultKind) (s : Result B AsmFaultKind) (a : A) → also r s ≡ Ok a → (b : B) × (r ≡ Ok a) × (s ≡ Ok b)
+if_ok : (r : Reading) (s : Statement) → IfOk r IsNone → r ≡ Ok s → IsNone s
+if_ok (Ok t) s h e = let same : t ≡ s = cc in subst IsNone same h
+if_ok (Err f) s h e = cc
+
+pub also_ok : {A B : Type 0} (r : Result A AsmFaultKind) (s : Result B AsmFaultKind) (a : A) → also r s ≡ Ok a → (b : B) × (r ≡ Ok a) × (s ≡ Ok b)
 unfolding also
 also_ok (Ok x) (Ok y) a h = (y, h, refl)
 also_ok (Ok x) (Err f) a h = cc
@@ -65,7 +71,7 @@ unfolding placed may_stand
 mnemonic_in_text labels place (Some m) text s h k =
     let parts = also_ok (statement_of labels m text) (placed m place) s h in
     where_by (is_directive m) place.section (place.text_size % 4 == 0) (may_by (may_stand m place) place parts.0 parts.2)
-    (λ d. let t = like_ok AreNone _ _ s (directive_none labels m text d) parts.1 in let same : t.0 ≡ s = cc in cc)
+    (λ d. let none : is_instruction s ≡ false = if_ok (statement_of labels m text) s (directive_none labels m text d) parts.1 in let wrong : true ≡ false = sym k ∙ none in cc)
 mnemonic_in_text labels place None text s h k = cc
 
 by_tests : (a b c : Bool) (r : Reading) (s : Statement) → cond a (Err BadToken) (cond b (Ok Nothing) (cond c (Err BadToken) r)) ≡ Ok s → is_instruction s ≡ true → r ≡ Ok s
@@ -77,5 +83,5 @@ by_tests false false false r s h k = h
 pub in_the_text : (labels : Spots) (place : Place) (text : List ℕ) (s : Statement) → statement_in labels place text ≡ Ok s → is_instruction s ≡ true → place.section ≡ Text
 unfolding statement_in
 in_the_text labels place text s h k =
-    mnemonic_in_text labels place (mnemonic_named (word (skip_blanks text))) (behind_word (skip_blanks text)) s
+    mnemonic_in_text labels place (mnemonic_named (first_word (skip_blanks text))) (behind_word (skip_blanks text)) s
     (by_tests (not (is_sound false text)) (is_empty (skip_blanks text)) (not (starts_with is_name_start (skip_blanks text))) _ s h k) k

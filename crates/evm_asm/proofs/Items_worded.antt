@@ -16,16 +16,15 @@ use Rattle.evm_asm.specs.declared.place.Place.{Place}
 use Rattle.evm_statement.specs.declared.statement.Statement.{Statement}
 use Rattle.evm_statement.specs.declared.statement.Statement.TheVariants.{Numbers, Space, Align}
 use Rattle.evm_words.specs.Faults.{◌>>=◌}
-use Rattle.evm_words.specs.Text.{after}
-use Rattle.evm_statement.specs.Operands.{first}
-use Rattle.evm_statement.specs.Statements.{Spots}
-use Rattle.evm_asm.specs.Places.{offset, padding, behind, statement_in, is_text}
-use Rattle.evm_asm.specs.Sources.{Laid, start, lines_of, code_of, statement_text}
-use Rattle.evm_asm.specs.Items.{text_base, expanded, with_item, with_instructions, value_in, number_pushed, with_numbers, filling, operands, with_statement, statement_meant, line_meant, stop_at, unless_stopped, told, and_then, line_told, lines_meant, layout_of, meaning_of}
+use Rattle.evm_statement.specs.Operands.{Spots, first_operand, other_operands}
+use Rattle.evm_asm.specs.Places.{offset, padding, place_behind, statement_in, is_text}
+use Rattle.evm_asm.specs.Sources.{Laid, source_start, source_lines, code_of, statement_text}
+use Rattle.evm_asm.specs.Items.{text_base, expanded, with_item, with_instructions, value_in, number_pushed, with_numbers, filling, operands, with_statement, statement_meant, line_meant, stop_at, unless_stopped, meaning_or_fault, and_then, line_or_fault, lines_meant, layout_of, meaning_of}
 use Rattle.evm_asm.specs.Programs.{Spelled, nothing_spelled, with_word, worded, spelled_item, spelled}
 use Rattle.evm_asm.specs.Assembled.{Assembled, assembled, program_of}
 use Rattle.evm_asm.specs.Wording.{HasItsWord, EveryItemHasItsWord, SpellingNeverFails, RefusedAsMeant}
-use Rattle.evm_asm.proofs.Outcomes.{any_ok, read_ok, and_then_if_ok}
+use Rattle.evm_statement.proofs.Outcomes.{any_ok, read_ok}
+use Rattle.evm_asm.proofs.Outcomes.{and_then_if_ok}
 use Rattle.evm_asm.proofs.Statements_worded.{IsFit, statement_in_fit}
 use Rattle.evm_asm.proofs.Expansions_worded.{HaveWords, expanded_worded}
 
@@ -59,8 +58,8 @@ values_pushed : (labels : Spots) (text_size : ℕ) (part : Part) (width : Width)
 unfolding with_numbers
 values_pushed labels text_size part width zero text so_far all = all
 values_pushed labels text_size part width (suc n) text so_far all =
-    read_ok (number_pushed labels text_size part width (first text) so_far) (with_numbers labels text_size part width n (after 44 text)) AllSpellable AllSpellable
-    (value_pushed labels text_size part width (first text) so_far all) (λ items h. values_pushed labels text_size part width n (after 44 text) items h)
+    read_ok (number_pushed labels text_size part width (first_operand text) so_far) (with_numbers labels text_size part width n (other_operands text)) AllSpellable AllSpellable
+    (value_pushed labels text_size part width (first_operand text) so_far all) (λ items h. values_pushed labels text_size part width n (other_operands text) items h)
 
 filling_spellable : (place : Place) (power : ℕ) (t : Bool)
     → HasItsWord (cond t (Nops (padding (offset place) power / 4)) (Zeros (padding (offset place) power)))
@@ -94,7 +93,7 @@ line_pushed labels text_size line place text so_far all =
     read_ok (statement_in labels place text) _ IsFit (λ x. AllSpellable x.1) (statement_in_fit labels place text) (λ statement h.
     read_ok (with_statement labels text_size line place text statement so_far) _ AllSpellable (λ x. AllSpellable x.1)
     (statement_pushed labels text_size line place text statement so_far h all) (λ items k.
-    read_ok (behind place statement) (λ next. Ok (next, items)) (λ _. Unit {0}) (λ x. AllSpellable x.1) (any_ok (behind place statement)) (λ _ _. k)))
+    read_ok (place_behind place statement) (λ next. Ok (next, items)) (λ _. Unit {0}) (λ x. AllSpellable x.1) (any_ok (place_behind place statement)) (λ _ _. k)))
 
 -- ---- the lines of a source
 
@@ -102,23 +101,23 @@ unless_stopped_ok : {A : Type 0} (o : Option AsmFault) (a : A) (P : A → Type 0
 unless_stopped_ok None a P h = h
 unless_stopped_ok (Some fault) a P h = tt
 
-told_ok : {A : Type 0} (first : Option AsmFault) (line : ℕ) (r : Result A AsmFaultKind) (P : A → Type 0) → IfOk r P → IfOk (told first line r) P
+told_ok : {A : Type 0} (first : Option AsmFault) (line : ℕ) (r : Result A AsmFaultKind) (P : A → Type 0) → IfOk r P → IfOk (meaning_or_fault first line r) P
 told_ok first line (Ok a) P h = unless_stopped_ok (stop_at first line) a P h
 told_ok first line (Err kind) P h = tt
 
 lines_pushed : (l : Laid) (before : ℕ) (place : Place) (lines : List (List ℕ)) (so_far : List Placed)
     → AllSpellable so_far → IfOk (lines_meant l before place lines so_far) AllSpellable
-unfolding lines_meant line_told
+unfolding lines_meant line_or_fault
 lines_pushed l before place [] so_far all = all
 lines_pushed l before place (line ∷ lines) so_far all =
     let meant = line_meant l.labels l.place.text_size (before + 1) place (statement_text (code_of line)) so_far in
-    and_then_if_ok (told l.first (before + 1) meant) (λ x. lines_meant l (before + 1) x.0 lines x.1) (λ x. AllSpellable x.1) AllSpellable
+    and_then_if_ok (meaning_or_fault l.first (before + 1) meant) (λ x. lines_meant l (before + 1) x.0 lines x.1) (λ x. AllSpellable x.1) AllSpellable
     (told_ok l.first (before + 1) meant (λ x. AllSpellable x.1) (line_pushed l.labels l.place.text_size (before + 1) place (statement_text (code_of line)) so_far all))
     (λ x h. lines_pushed l (before + 1) x.0 lines x.1 h)
 
 meaning_spellable : (source : List ℕ) → IfOk (meaning_of source) AllSpellable
 unfolding meaning_of
-meaning_spellable source = lines_pushed (layout_of source) 0 start (lines_of source) [] (All-nil IsSpellable)
+meaning_spellable source = lines_pushed (layout_of source) 0 source_start (source_lines source) [] (All-nil IsSpellable)
 
 pub every_item_has_its_word : EveryItemHasItsWord
 every_item_has_its_word source items h = IfOk-at_ok AllSpellable h (meaning_spellable source)

@@ -6,7 +6,7 @@ use Rattle.evm_statement.specs.declared.spot.Spot.{Spot}
 use Rattle.evm_asm.specs.declared.place.Place.{Place}
 use Rattle.evm_words.specs.Names.{named}
 use Rattle.evm_asm.specs.Places.{here}
-use Rattle.evm_asm.specs.Sources.{lines_of, code_of, label_at, behind_labels, Defined, with_label, defined, line_laid, Laid, nothing_laid, with_line, laid}
+use Rattle.evm_asm.specs.Sources.{source_lines, code_of, label_at, behind_labels, Defined, with_label, defined, line_laid, Laid, nothing_laid, with_line_laid, laid}
 use Rattle.evm_asm.specs.Items.{address, and_then, layout_of, meaning_of}
 use Rattle.evm_asm.specs.Programs.{nothing_spelled, spelled}
 use Rattle.evm_asm.specs.Assembled.{Assembled, assembled, addressed, program_of}
@@ -55,9 +55,9 @@ module _ (P : List ℕ × Spot → Type 0) (spot : Spot) (code : List ℕ) (all 
 Stands : List ℕ → List ℕ × Spot → Type 0
 Stands source l = (n : ℕ) × HasLabel source n l.0 × (l.1 ≡ here (place_before source n))
 
-line_stands : (source : List ℕ) (xs : List (List ℕ)) (line : List ℕ) (rest : List (List ℕ)) → lines_of source ≡ xs ++ line ∷ rest → All (Stands source) (laid nothing_laid xs).labels
-    → All (Stands source) (with_line (laid nothing_laid xs) line).labels
-unfolding with_line line_laid Stands behind_labels
+line_stands : (source : List ℕ) (xs : List (List ℕ)) (line : List ℕ) (rest : List (List ℕ)) → source_lines source ≡ xs ++ line ∷ rest → All (Stands source) (laid nothing_laid xs).labels
+    → All (Stands source) (with_line_laid (laid nothing_laid xs) line).labels
+unfolding with_line_laid line_laid Stands behind_labels
 line_stands source xs line rest split h =
     let s : Laid = laid nothing_laid xs in
     let code : List ℕ = code_of line in
@@ -70,7 +70,7 @@ line_stands source xs line rest split h =
     ))
     (length code) 0 code (record { labels = s.labels; twice = false }) refl h
 
-lines_stand : (source : List ℕ) (xs rest : List (List ℕ)) → lines_of source ≡ xs ++ rest → All (Stands source) (laid nothing_laid xs).labels → All (Stands source) (layout_of source).labels
+lines_stand : (source : List ℕ) (xs rest : List (List ℕ)) → source_lines source ≡ xs ++ rest → All (Stands source) (laid nothing_laid xs).labels → All (Stands source) (layout_of source).labels
 unfolding laid
 lines_stand source xs [] split h = subst (λ (ls : List (List ℕ)). All (Stands source) (laid nothing_laid ls).labels) (sym (split ∙ append-nil xs)) h
 lines_stand source xs (line ∷ rest) split h =
@@ -82,7 +82,7 @@ none_stand source = λ k d h. absurd (omega arith)
 
 all_stand : (source : List ℕ) → All (Stands source) (layout_of source).labels
 unfolding laid
-all_stand source = lines_stand source [] (lines_of source) refl (none_stand source)
+all_stand source = lines_stand source [] (source_lines source) refl (none_stand source)
 
 HasAddress : List ℕ → List ℕ × ℕ → Type 0
 HasAddress source l = (n : ℕ) × HasLabel source n l.0 × (l.1 ≡ address (size_of_text source) (here (place_before source n)))

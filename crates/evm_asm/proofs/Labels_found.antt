@@ -4,15 +4,15 @@ use Rattle.std.specs.List.{slice_get}
 use Rattle.std.specs.Option.{option_map}
 use Rattle.std.specs.Str.{bytes_eq}
 use Rattle.std.proofs.lemmas.Slice.Eq.{bytes_eq-Decides}
+use Rattle.evm_words.specs.Characters.{colon}
 use Rattle.evm_words.specs.declared.fault.AsmFaultKind.{AsmFaultKind}
 use Rattle.evm_statement.specs.declared.spot.Spot.{Spot}
 use Rattle.evm_asm.specs.declared.place.Place.{Place}
 use Rattle.evm_words.specs.Text.{before, after, has}
 use Rattle.evm_words.specs.Names.{named}
-use Rattle.evm_statement.specs.Operands.{name_in}
-use Rattle.evm_statement.specs.Statements.{Spots}
+use Rattle.evm_statement.specs.Operands.{Spots, name_in}
 use Rattle.evm_asm.specs.Places.{here}
-use Rattle.evm_asm.specs.Sources.{lines_of, code_of, label_at, behind_labels, Defined, with_label, defined, outcome, measured, line_defined, line_laid, Laid, nothing_laid, with_line, laid, statement_text}
+use Rattle.evm_asm.specs.Sources.{source_lines, code_of, label_at, behind_labels, Defined, with_label, defined, outcome, measured, line_defined, line_laid, Laid, nothing_laid, with_line_laid, laid, statement_text}
 use Rattle.evm_asm.specs.Items.{address, and_then, layout_of, meaning_of}
 use Rattle.evm_asm.specs.Programs.{nothing_spelled, spelled}
 use Rattle.evm_asm.specs.Assembled.{Assembled, assembled, program_of}
@@ -128,18 +128,18 @@ no_label : label_at [] ≡ None
 unfolding label_at
 no_label = refl
 
-shorter_by : (t : Bool) (o : Option (List ℕ)) (b : ℕ) (bs : List ℕ) (label : List ℕ × List ℕ) → cond t (option_map (λ name. (name, after 58 (b ∷ bs))) o) None ≡ Some label → length label.1 ≤ length bs
+shorter_by : (t : Bool) (o : Option (List ℕ)) (b : ℕ) (bs : List ℕ) (label : List ℕ × List ℕ) → cond t (option_map (λ name. (name, after colon (b ∷ bs))) o) None ≡ Some label → length label.1 ≤ length bs
 shorter_by true (Some name) b bs label h =
-    let e : ◌≡◌ {A = List ℕ × List ℕ} (name, after 58 (b ∷ bs)) label = cc in
-    let rest : length (after 58 (b ∷ bs)) ≡ length label.1 = ap (λ (l : List ℕ × List ℕ). length l.1) e in
-    let less = after-shorter 58 b bs in omega arith
+    let e : ◌≡◌ {A = List ℕ × List ℕ} (name, after colon (b ∷ bs)) label = cc in
+    let rest : length (after colon (b ∷ bs)) ≡ length label.1 = ap (λ (l : List ℕ × List ℕ). length l.1) e in
+    let less = after-shorter colon b bs in omega arith
 shorter_by true None b bs label h = cc
 shorter_by false o b bs label h = cc
 
 shorter : (text : List ℕ) (label : List ℕ × List ℕ) → label_at text ≡ Some label → length label.1 < length text
 unfolding label_at
 shorter [] label h = cc
-shorter (b ∷ bs) label h = let k = shorter_by (has 58 (b ∷ bs)) (name_in (before 58 (b ∷ bs))) b bs label h in omega arith
+shorter (b ∷ bs) label h = let k = shorter_by (has colon (b ∷ bs)) (name_in (before colon (b ∷ bs))) b bs label h in omega arith
 
 -- a text has fewer labels at its front than bytes
 few : (j : ℕ) (text : List ℕ) (o : Option (List ℕ × List ℕ)) (label : List ℕ × List ℕ) → label_at text ≡ o → label_at (behind_labels j text) ≡ Some label → j < length text
@@ -156,8 +156,8 @@ once_told place true (Ok next) h = cc
 once_told place true (Err kind) h = cc
 
 -- a label of a line without a fault is found behind the line
-line_found : (s : Laid) (line : List ℕ) (j : ℕ) (name rest : List ℕ) → (with_line s line).first ≡ None → label_at (behind_labels j (code_of line)) ≡ Some (name, rest) → named (with_line s line).labels name ≡ Some (here s.place)
-unfolding with_line line_laid
+line_found : (s : Laid) (line : List ℕ) (j : ℕ) (name rest : List ℕ) → (with_line_laid s line).first ≡ None → label_at (behind_labels j (code_of line)) ≡ Some (name, rest) → named (with_line_laid s line).labels name ≡ Some (here s.place)
+unfolding with_line_laid line_laid
 line_found s line j name rest none h =
     let code : List ℕ = code_of line in
     let d = line_defined s.labels s.place code in
@@ -165,9 +165,9 @@ line_found s line j name rest none h =
     found (here s.place) (length code) j code (record { labels = s.labels; twice = false }) (label_at code) name rest refl (few j code (label_at code) (name, rest) refl h) h clean
 
 lines_keep : (s : Laid) (lines : List (List ℕ)) (name : List ℕ) (v : Spot) → named s.labels name ≡ Some v → named (laid s lines).labels name ≡ Some v
-unfolding laid with_line line_laid
+unfolding laid with_line_laid line_laid
 lines_keep s [] name v h = h
-lines_keep s (line ∷ lines) name v h = lines_keep (with_line s line) lines name v (keeps (here s.place) (length (code_of line)) (code_of line) (record { labels = s.labels; twice = false }) name v h)
+lines_keep s (line ∷ lines) name v h = lines_keep (with_line_laid s line) lines name v (keeps (here s.place) (length (code_of line)) (code_of line) (record { labels = s.labels; twice = false }) name v h)
 
 split_at : (lines : List (List ℕ)) (k : ℕ) (line : List ℕ) → slice_get lines k ≡ Some line → (front back : List (List ℕ)) × (lines ≡ front ++ line ∷ back) × (length front ≡ k)
 split_at [] k line h = cc
@@ -177,15 +177,15 @@ split_at (x ∷ lines) (suc k) line h = let s = split_at lines k line h in (x �
 label_found : (source : List ℕ) (n : ℕ) (name : List ℕ) → HasLabel source n name → (layout_of source).first ≡ None → named (layout_of source).labels name ≡ Some (here (place_before source n))
 unfolding laid
 label_found source n name h none =
-    let split = split_at (lines_of source) (n - 1) h.line h.is_line in
+    let split = split_at (source_lines source) (n - 1) h.line h.is_line in
     let one = h.from_one in
     let number : n ≡ length split.0 + 1 = omega (arith, split.3) in
     let s : Laid = laid nothing_laid split.0 in
-    let whole : layout_of source ≡ laid (with_line s h.line) split.1 = ap (λ (ls : List (List ℕ)). laid nothing_laid ls) split.2 ∙ laid-append nothing_laid split.0 (h.line ∷ split.1) in
-    let clean : (with_line s h.line).first ≡ None = lines_none (with_line s h.line) split.1 (ap (λ (l : Laid). l.first) (sym whole) ∙ none) in
+    let whole : layout_of source ≡ laid (with_line_laid s h.line) split.1 = ap (λ (ls : List (List ℕ)). laid nothing_laid ls) split.2 ∙ laid-append nothing_laid split.0 (h.line ∷ split.1) in
+    let clean : (with_line_laid s h.line).first ≡ None = lines_none (with_line_laid s h.line) split.1 (ap (λ (l : Laid). l.first) (sym whole) ∙ none) in
     let there : s.place ≡ place_before source n = sym (place_is source split.0 h.line split.1 split.2 n number) in
     ap (λ (l : Laid). named l.labels name) whole
-    ∙ lines_keep (with_line s h.line) split.1 name (here s.place) (line_found s h.line h.others name h.behind clean h.is_label)
+    ∙ lines_keep (with_line_laid s h.line) split.1 name (here s.place) (line_found s h.line h.others name h.behind clean h.is_label)
     ∙ ap (λ (p : Place). Some (here p)) there
 
 pub labels_found : (source : List ℕ) (p : Assembled) → program_of source ≡ Ok p → (n : ℕ) (name : List ℕ) → HasLabel source n name

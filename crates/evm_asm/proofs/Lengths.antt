@@ -11,7 +11,7 @@ use Rattle.evm_words.specs.declared.mnemonic.Section.TheVariants.{Text, Data}
 use Rattle.evm_words.specs.declared.mnemonic.Width.{Width}
 use Rattle.evm_words.specs.declared.mnemonic.Width.TheVariants.{Byte, Word, Dword}
 use Rattle.evm_asm.specs.Places.{bytes_in}
-use Rattle.evm_asm.specs.Programs.{Spelled, spelled, spelled_item, worded, repeated, image_of, number_bytes}
+use Rattle.evm_asm.specs.Programs.{Spelled, spelled, spelled_item, worded, repeated, program_bytes, number_bytes}
 use Rattle.evm_asm.proofs.Worded.{and_then_ok, same_ok}
 
 -- so many bytes in a section, as far as another section sees them
@@ -80,7 +80,7 @@ spelled_added part (p ∷ ps) s t h =
     spelled_added part ps step.0 t step.2 ∙ omega (arith, one)
 
 -- text and data within their sections are together within the limit
-pub image_fits : (text bytes : List ℕ) → length text ≤ 8388608 → length bytes ≤ 8388608 → length (image_of text bytes) ≤ 16777216
+pub image_fits : (text bytes : List ℕ) → length text ≤ 8388608 → length bytes ≤ 8388608 → length (program_bytes text bytes) ≤ 16777216
 image_fits text [] h k = omega arith
 image_fits text (b ∷ bs) h k =
     let padded : List ℕ = repeated ((4096 - length text % 4096) % 4096) (0 ∷ []) text in

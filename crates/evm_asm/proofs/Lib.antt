@@ -39,3 +39,7 @@ pub mod Labels_found
 pub mod Numbers_present
 pub mod Numbers_there
 pub mod Refused_first
+pub mod Operand_faults
+pub mod Reading_faults
+pub mod Line_faults
+pub mod Labels_in_order

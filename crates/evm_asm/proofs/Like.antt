@@ -1,5 +1,5 @@
 -- Readings that differ in their labels alone.
-use Rattle.std.proofs.Common.{◌≡◌, ℕ, Bool, true, false, cond, ◌==◌, Result, Ok, Err, refl, subst}
+use Rattle.std.proofs.Common.{ℕ, Bool, true, false, cond, ◌==◌, Result, Ok, Err}
 use Rattle.evm_words.specs.declared.fault.AsmFaultKind.{AsmFaultKind}
 use Rattle.evm_words.specs.declared.fault.AsmFaultKind.TheVariants.{BadOperand}
 use Rattle.evm_words.specs.Faults.{both, least, ◌>>=◌}
@@ -14,9 +14,6 @@ pub data Like {A : Type 0} (R : A → A → Type 0) : Result A AsmFaultKind → 
 abbrev pub Whatever : {A : Type 0} → A → A → Type 0
 Whatever a b = Unit {0}
 
-abbrev pub Beside : {A B : Type 0} → (B → B → Type 0) → A × B → A × B → Type 0
-Beside R p q = R p.1 q.1
-
 pub like_itself : {A : Type 0} (R : A → A → Type 0) (r : Result A AsmFaultKind) → ((a : A) → R a a) → Like R r r
 like_itself R (Ok a) h = values a a (h a)
 like_itself R (Err e) h = faults e
@@ -25,12 +22,13 @@ pub like_either : {A : Type 0} (R : A → A → Type 0) (t : Bool) (r r' s s' : 
 like_either R true r r' s s' h k = h
 like_either R false r r' s s' h k = k
 
-pub like_both : {A B : Type 0} (R : B → B → Type 0) (r : Result A AsmFaultKind) (s s' : Result B AsmFaultKind) → Like R s s' → Like (Beside {A = A} R) (both r s) (both r s')
+pub like_both : {A B : Type 0} (R : A → A → Type 0) (S : B → B → Type 0) (r r' : Result A AsmFaultKind) (s s' : Result B AsmFaultKind) → Like R r r' → Like S s s'
+    → Like (λ x y. R x.0 y.0 × S x.1 y.1) (both r s) (both r' s')
 unfolding both
-like_both R (Ok a) _ _ (values b b' h) = values (a, b) (a, b') h
-like_both R (Ok a) _ _ (faults f) = faults f
-like_both R (Err e) _ _ (values b b' h) = faults e
-like_both R (Err e) _ _ (faults f) = faults (least e f)
+like_both R S _ _ _ _ (values a a' h) (values b b' k) = values (a, b) (a', b') (h, k)
+like_both R S _ _ _ _ (values a a' h) (faults f) = faults f
+like_both R S _ _ _ _ (faults e) (values b b' k) = faults e
+like_both R S _ _ _ _ (faults e) (faults f) = faults (least e f)
 
 pub like_counted : {A : Type 0} (R : A → A → Type 0) (n count : ℕ) (r r' : Result A AsmFaultKind) → Like R r r' → Like R (counted n count r) (counted n count r')
 unfolding counted
@@ -48,7 +46,3 @@ like_also R Q _ _ _ _ (values a b h) (values x y k) = values a b h
 like_also R Q _ _ _ _ (values a b h) (faults f) = faults f
 like_also R Q _ _ _ _ (faults e) (values x y k) = faults e
 like_also R Q _ _ _ _ (faults e) (faults f) = faults (least e f)
-
-pub like_ok : {A : Type 0} (R : A → A → Type 0) (r s : Result A AsmFaultKind) (a : A) → Like R r s → r ≡ Ok a → (b : A) × (s ≡ Ok b) × R a b
-like_ok R _ _ a (values x b k) h = let same : x ≡ a = cc in (b, refl, subst (λ (y : _). R y b) same k)
-like_ok R _ _ a (faults e) h = cc

@@ -4,8 +4,9 @@ use Rattle.std.specs.List.{position_or_len}
 use Rattle.std.proofs.lemmas.Bool.{ltb-false}
 use Rattle.std.specs.Option.{unwrap_or}
 use Rattle.std.proofs.lemmas.List.Sums.{prefix_len-le-length}
+use Rattle.evm_words.specs.Characters.{newline}
 use Rattle.evm_words.specs.Text.{before, after, place_by, tail}
-use Rattle.evm_asm.specs.Sources.{lines_of, in_front}
+use Rattle.evm_asm.specs.Sources.{source_lines, in_front}
 
 picked : (n m : ℕ) → n ≤ m → (t : Bool) → nat_lt n m ≡ t → unwrap_or (cond t (Some n) None) m ≡ n
 picked n m h true e = refl
@@ -31,29 +32,29 @@ unfolding after
 after-cons c b bs true e = ap (λ n. tail (drop n (b ∷ bs))) (place-cons c b bs true e)
 after-cons c b bs false e = ap (λ n. tail (drop n (b ∷ bs))) (place-cons c b bs false e)
 
-first_line : (b : ℕ) (bs : List ℕ) (t : Bool) → (b == 10) ≡ t → lines_of (b ∷ bs) ≡ cond t ([] ∷ lines_of bs) (in_front b (lines_of bs))
-unfolding lines_of
-first_line b bs t e = ap (λ t. cond t ([] ∷ lines_of bs) (in_front b (lines_of bs))) e
+first_line : (b : ℕ) (bs : List ℕ) (t : Bool) → (b == newline) ≡ t → source_lines (b ∷ bs) ≡ cond t ([] ∷ source_lines bs) (in_front b (source_lines bs))
+unfolding source_lines
+first_line b bs t e = ap (λ t. cond t ([] ∷ source_lines bs) (in_front b (source_lines bs))) e
 
-by_first : (b : ℕ) (bs : List ℕ) (t : Bool) → (b == 10) ≡ t → in_front b (lines_of bs) ≡ (b ∷ before 10 bs) ∷ lines_of (after 10 bs)
-    → lines_of (b ∷ bs) ≡ before 10 (b ∷ bs) ∷ lines_of (after 10 (b ∷ bs))
+by_first : (b : ℕ) (bs : List ℕ) (t : Bool) → (b == newline) ≡ t → in_front b (source_lines bs) ≡ (b ∷ before newline bs) ∷ source_lines (after newline bs)
+    → source_lines (b ∷ bs) ≡ before newline (b ∷ bs) ∷ source_lines (after newline (b ∷ bs))
 by_first b bs true e h =
     first_line b bs true e
-    ∙ ap (λ (l : List ℕ). l ∷ lines_of bs) (sym (before-cons 10 b bs true e))
-    ∙ ap (λ (r : List ℕ). before 10 (b ∷ bs) ∷ lines_of r) (sym (after-cons 10 b bs true e))
+    ∙ ap (λ (l : List ℕ). l ∷ source_lines bs) (sym (before-cons newline b bs true e))
+    ∙ ap (λ (r : List ℕ). before newline (b ∷ bs) ∷ source_lines r) (sym (after-cons newline b bs true e))
 by_first b bs false e h =
     first_line b bs false e ∙ h
-    ∙ ap (λ (l : List ℕ). l ∷ lines_of (after 10 bs)) (sym (before-cons 10 b bs false e))
-    ∙ ap (λ (r : List ℕ). before 10 (b ∷ bs) ∷ lines_of r) (sym (after-cons 10 b bs false e))
+    ∙ ap (λ (l : List ℕ). l ∷ source_lines (after newline bs)) (sym (before-cons newline b bs false e))
+    ∙ ap (λ (r : List ℕ). before newline (b ∷ bs) ∷ source_lines r) (sym (after-cons newline b bs false e))
 
-nothing_behind : (b : ℕ) → in_front b (lines_of []) ≡ (b ∷ before 10 []) ∷ lines_of (after 10 [])
-unfolding lines_of before after
+nothing_behind : (b : ℕ) → in_front b (source_lines []) ≡ (b ∷ before newline []) ∷ source_lines (after newline [])
+unfolding source_lines before after
 nothing_behind b = refl
 
 -- a text that isn't empty is its first line, and the lines behind it
-pub lines-cut : (b : ℕ) (bs : List ℕ) → lines_of (b ∷ bs) ≡ before 10 (b ∷ bs) ∷ lines_of (after 10 (b ∷ bs))
-lines-cut b [] = by_first b [] (b == 10) refl (nothing_behind b)
-lines-cut b (x ∷ xs) = by_first b (x ∷ xs) (b == 10) refl (ap (in_front b) (lines-cut x xs))
+pub lines-cut : (b : ℕ) (bs : List ℕ) → source_lines (b ∷ bs) ≡ before newline (b ∷ bs) ∷ source_lines (after newline (b ∷ bs))
+lines-cut b [] = by_first b [] (b == newline) refl (nothing_behind b)
+lines-cut b (x ∷ xs) = by_first b (x ∷ xs) (b == newline) refl (ap (in_front b) (lines-cut x xs))
 
 none_behind : (c : ℕ) → length (after c []) ≡ 0
 unfolding after

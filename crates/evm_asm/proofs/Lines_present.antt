@@ -16,7 +16,7 @@ use Rattle.evm_asm.specs.declared.output.ProgramLine.{ProgramLine}
 use Rattle.evm_asm.specs.declared.place.Place.{Place}
 use Rattle.evm_statement.specs.declared.statement.Statement.{Statement}
 use Rattle.evm_statement.specs.declared.statement.Statement.TheVariants.{Numbers, Space, Align}
-use Rattle.evm_statement.specs.Statements.{Spots}
+use Rattle.evm_statement.specs.Operands.{Spots}
 use Rattle.evm_asm.specs.Items.{text_base, expanded, with_item, with_instructions, with_statement}
 use Rattle.evm_asm.specs.Programs.{Spelled, spelled, spelled_item, worded}
 use Rattle.evm_asm.specs.Sizes.{IsAmong}

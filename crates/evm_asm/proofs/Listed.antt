@@ -15,9 +15,7 @@ use Rattle.evm_asm.specs.declared.output.ProgramLine.{ProgramLine}
 use Rattle.evm_asm.specs.declared.place.Place.{Place}
 use Rattle.evm_statement.specs.declared.statement.Statement.{Statement}
 use Rattle.evm_statement.specs.declared.statement.Statement.TheVariants.{Numbers, Space, Align}
-use Rattle.evm_words.specs.Text.{after}
-use Rattle.evm_statement.specs.Operands.{first}
-use Rattle.evm_statement.specs.Statements.{Spots}
+use Rattle.evm_statement.specs.Operands.{Spots, first_operand, other_operands}
 use Rattle.evm_asm.specs.Places.{offset, padding, is_text}
 use Rattle.evm_asm.specs.Items.{text_base, expanded, with_item, with_instructions, value_in, number_pushed, with_numbers, filling, operands, with_statement}
 use Rattle.evm_asm.specs.Programs.{Spelled, spelled, spelled_item, worded}
@@ -56,8 +54,8 @@ module _ (P : ℕ → ℕ → Inst → Type 0) where
   unfolding with_numbers
   each_numbers labels size part width zero text a b h k = subst (λ (c : List Placed). Each 0 c) (same_items a b h) k
   each_numbers labels size part width (suc n) text a b h k =
-      let one = bind_ok (number_pushed labels size part width (first text) a) (λ items. with_numbers labels size part width n (after 44 text) items) b h in
-      each_numbers labels size part width n (after 44 text) one.0 b one.2 (each_number labels size part width (first text) a one.0 one.1 k)
+      let one = bind_ok (number_pushed labels size part width (first_operand text) a) (λ items. with_numbers labels size part width n (other_operands text) items) b h in
+      each_numbers labels size part width n (other_operands text) one.0 b one.2 (each_number labels size part width (first_operand text) a one.0 one.1 k)
 
   filling_none : (off : ℕ) (t : Bool) (m n : ℕ) → OfItem off (cond t (Nops m) (Zeros n))
   filling_none off true m n = tt

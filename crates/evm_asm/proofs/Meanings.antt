@@ -1,42 +1,43 @@
 -- One more line's items.
 use Rattle.std.proofs.Common.{◌≡◌, ◌∙◌, ℕ, ◌+◌, ◌<◌, List, [], ◌∷◌, length, Option, Result, Ok, Err, ap, refl, arith}
+use Rattle.evm_words.specs.Characters.{newline}
 use Rattle.evm_words.specs.declared.fault.AsmFault.{AsmFault}
 use Rattle.evm_asm.specs.declared.item.Placed.{Placed}
 use Rattle.evm_asm.specs.declared.place.Place.{Place}
 use Rattle.evm_words.specs.Text.{before, after}
-use Rattle.evm_statement.specs.Statements.{Spots}
-use Rattle.evm_asm.specs.Sources.{lines_of, code_of, Laid, IsLaid}
-use Rattle.evm_asm.specs.Items.{line_told, lines_meant, and_then}
+use Rattle.evm_statement.specs.Operands.{Spots}
+use Rattle.evm_asm.specs.Sources.{source_lines, code_of, Laid, IsLaid}
+use Rattle.evm_asm.specs.Items.{line_or_fault, lines_meant, and_then}
 use Rattle.evm_asm.proofs.Lines.{lines-cut}
 
 pub same-line : (labels : Spots) (place : Place) (first : Option AsmFault) (l : Laid) → IsLaid labels place first l → (n : ℕ) (at : Place) (code : List ℕ) (so_far : List Placed)
-    → line_told labels place.text_size first n at code so_far ≡ line_told l.labels l.place.text_size l.first n at code so_far
+    → line_or_fault labels place.text_size first n at code so_far ≡ line_or_fault l.labels l.place.text_size l.first n at code so_far
 same-line labels place first l h n at code so_far =
-    ap (λ (s : Spots). line_told s place.text_size first n at code so_far) h.labels_are
-    ∙ ap (λ (p : Place). line_told l.labels p.text_size first n at code so_far) h.place_is
-    ∙ ap (λ (f : Option AsmFault). line_told l.labels l.place.text_size f n at code so_far) h.first_is
+    ap (λ (s : Spots). line_or_fault s place.text_size first n at code so_far) h.labels_are
+    ∙ ap (λ (p : Place). line_or_fault l.labels p.text_size first n at code so_far) h.place_is
+    ∙ ap (λ (f : Option AsmFault). line_or_fault l.labels l.place.text_size f n at code so_far) h.first_is
 
 module _ (l : Laid) (n : ℕ) (place : Place) where
   told_line : (rest : List ℕ) (so_far : List Placed) → 0 < length rest
-      → lines_meant l n place (lines_of rest) so_far
-      ≡ and_then (line_told l.labels l.place.text_size l.first (n + 1) place (code_of (before 10 rest)) so_far) (λ x. lines_meant l (n + 1) x.0 (lines_of (after 10 rest)) x.1)
+      → lines_meant l n place (source_lines rest) so_far
+      ≡ and_then (line_or_fault l.labels l.place.text_size l.first (n + 1) place (code_of (before newline rest)) so_far) (λ x. lines_meant l (n + 1) x.0 (source_lines (after newline rest)) x.1)
   unfolding lines_meant
   told_line [] so_far h = absurd (omega arith)
   told_line (b ∷ bs) so_far h = ap (λ (ls : List (List ℕ)). lines_meant l n place ls so_far) (lines-cut b bs)
 
   pub goes-on : (rest : List ℕ) (so_far : List Placed) (next : Place) (items : List Placed) → 0 < length rest
-      → line_told l.labels l.place.text_size l.first (n + 1) place (code_of (before 10 rest)) so_far ≡ Ok (next, items)
-      → lines_meant l n place (lines_of rest) so_far ≡ lines_meant l (n + 1) next (lines_of (after 10 rest)) items
+      → line_or_fault l.labels l.place.text_size l.first (n + 1) place (code_of (before newline rest)) so_far ≡ Ok (next, items)
+      → lines_meant l n place (source_lines rest) so_far ≡ lines_meant l (n + 1) next (source_lines (after newline rest)) items
   goes-on rest so_far next items h e =
-      told_line rest so_far h ∙ ap (λ (r : Result (Place × List Placed) AsmFault). and_then r (λ x. lines_meant l (n + 1) x.0 (lines_of (after 10 rest)) x.1)) e
+      told_line rest so_far h ∙ ap (λ (r : Result (Place × List Placed) AsmFault). and_then r (λ x. lines_meant l (n + 1) x.0 (source_lines (after newline rest)) x.1)) e
 
   pub stops : (rest : List ℕ) (so_far : List Placed) (fault : AsmFault) → 0 < length rest
-      → line_told l.labels l.place.text_size l.first (n + 1) place (code_of (before 10 rest)) so_far ≡ Err fault
-      → lines_meant l n place (lines_of rest) so_far ≡ Err fault
+      → line_or_fault l.labels l.place.text_size l.first (n + 1) place (code_of (before newline rest)) so_far ≡ Err fault
+      → lines_meant l n place (source_lines rest) so_far ≡ Err fault
   stops rest so_far fault h e =
-      told_line rest so_far h ∙ ap (λ (r : Result (Place × List Placed) AsmFault). and_then r (λ x. lines_meant l (n + 1) x.0 (lines_of (after 10 rest)) x.1)) e
+      told_line rest so_far h ∙ ap (λ (r : Result (Place × List Placed) AsmFault). and_then r (λ x. lines_meant l (n + 1) x.0 (source_lines (after newline rest)) x.1)) e
 
-  pub ends : (rest : List ℕ) (so_far : List Placed) → length rest ≡ 0 → lines_meant l n place (lines_of rest) so_far ≡ Ok so_far
-  unfolding lines_meant lines_of
+  pub ends : (rest : List ℕ) (so_far : List Placed) → length rest ≡ 0 → lines_meant l n place (source_lines rest) so_far ≡ Ok so_far
+  unfolding lines_meant source_lines
   ends [] so_far h = refl
   ends (b ∷ bs) so_far h = absurd (omega arith)

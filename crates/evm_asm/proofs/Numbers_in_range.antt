@@ -4,16 +4,16 @@ use Rattle.std.proofs.lemmas.Bool.{leb-true, ltb-true, ltb-false}
 use Rattle.std.proofs.lemmas.Result.{IfOk-weaker}
 use Rattle.evm_words.specs.declared.fault.AsmFaultKind.TheVariants.{BadOperand, RangeOfImmediate}
 use Rattle.evm_statement.specs.declared.operand.Number.{Number}
+use Rattle.evm_words.specs.Characters.{left_parenthesis, right_parenthesis}
 use Rattle.evm_words.specs.Text.{before, after, has}
-use Rattle.evm_statement.specs.Operands.{number_in, integer, ranged, integer_in, immediate_in, offset_in, base_in, address_in, full_address_in, natural, limited, natural_in, register_in, is_blank_text}
-use Rattle.evm_statement.specs.Statements.{upper, upper_in}
-use Rattle.evm_asm.proofs.Outcomes.{either_ok, tested_ok, both_ok, read_ok}
+use Rattle.evm_statement.specs.Operands.{number_in, integer, ranged, integer_in, immediate_in, offset_in, base_in, address_in, full_address_in, natural, limited, natural_in, register_in, is_blank_text, upper, upper_in}
+use Rattle.evm_statement.proofs.Outcomes.{either_ok, tested_ok, both_ok, read_ok}
 use Rattle.evm_asm.proofs.Registers_below.{IsRegister, register_below}
 use Rattle.evm_asm.proofs.Words_found.{IsWithin, IsMultiple}
 
 -- ---- from -below to above
 
-abbrev IsFrom : ℕ → ℕ → ℤ → Type 0
+abbrev pub IsFrom : ℕ → ℕ → ℤ → Type 0
 IsFrom below above (pos n) = n ≤ above
 IsFrom below above (negsuc n) = n < below
 
@@ -32,19 +32,20 @@ ranged_from : (below above : ℕ) (o : Option Number) → IfOk (ranged below abo
 ranged_from below above (Some n) = integer_from below above n
 ranged_from below above None = tt
 
-immediate_from : (text : List ℕ) → IfOk (immediate_in text) (IsFrom 2048 2047)
-unfolding immediate_in integer_in
-immediate_from text = ranged_from 2048 2047 (number_in text)
+pub integer_within : (below above : ℕ) (text : List ℕ) → IfOk (integer_in below above text) (IsFrom below above)
+unfolding integer_in
+integer_within below above text = ranged_from below above (number_in text)
 
-twelve_bits : (i : ℤ) → IsFrom 2048 2047 i → IsWithin 2048 i
+pub twelve_bits : (i : ℤ) → IsFrom 2048 2047 i → IsWithin 2048 i
 twelve_bits (pos n) h = omega arith
 twelve_bits (negsuc n) h = h
 
 pub minus_within : (n : ℕ) → n ≤ 2048 → IsWithin 2048 (neg_ℤ (pos n))
 minus_within n h = twelve_bits (neg_ℤ (pos n)) (minus_from 2048 2047 n h)
 
-pub immediate_within : (text : List ℕ) → IfOk (immediate_in text) (IsWithin 2048)
-immediate_within text = IfOk-weaker (immediate_in text) (IsFrom 2048 2047) (IsWithin 2048) twelve_bits (immediate_from text)
+immediate_within : (text : List ℕ) → IfOk (immediate_in text) (IsWithin 2048)
+unfolding immediate_in
+immediate_within text = IfOk-weaker (integer_in 2048 2047 text) (IsFrom 2048 2047) (IsWithin 2048) twelve_bits (integer_within 2048 2047 text)
 
 -- ---- addresses
 
@@ -54,19 +55,19 @@ offset_within text = either_ok (is_blank_text text) (Ok (pos 0)) (immediate_in t
 
 base_below : (text : List ℕ) → IfOk (base_in text) IsRegister
 unfolding base_in
-base_below text = either_ok _ (register_in (before 41 text)) (Err BadOperand) IsRegister (register_below (before 41 text)) tt
+base_below text = either_ok _ (register_in (before right_parenthesis text)) (Err BadOperand) IsRegister (register_below (before right_parenthesis text)) tt
 
 pub address_within : (text : List ℕ) → IfOk (address_in text) (λ x. IsWithin 2048 x.0 × IsRegister x.1)
 unfolding address_in
 address_within text =
-    either_ok (has 40 text) _ (Err BadOperand) (λ x. IsWithin 2048 x.0 × IsRegister x.1)
-    (both_ok (offset_in (before 40 text)) (base_in (after 40 text)) (IsWithin 2048) IsRegister (offset_within (before 40 text)) (base_below (after 40 text))) tt
+    either_ok (has left_parenthesis text) _ (Err BadOperand) (λ x. IsWithin 2048 x.0 × IsRegister x.1)
+    (both_ok (offset_in (before left_parenthesis text)) (base_in (after left_parenthesis text)) (IsWithin 2048) IsRegister (offset_within (before left_parenthesis text)) (base_below (after left_parenthesis text))) tt
 
 pub full_address_within : (text : List ℕ) → IfOk (full_address_in text) (λ x. IsWithin 2048 x.0 × IsRegister x.1)
 unfolding full_address_in
 full_address_within text =
-    either_ok (has 40 text) _ (Err BadOperand) (λ x. IsWithin 2048 x.0 × IsRegister x.1)
-    (both_ok (immediate_in (before 40 text)) (base_in (after 40 text)) (IsWithin 2048) IsRegister (immediate_within (before 40 text)) (base_below (after 40 text))) tt
+    either_ok (has left_parenthesis text) _ (Err BadOperand) (λ x. IsWithin 2048 x.0 × IsRegister x.1)
+    (both_ok (immediate_in (before left_parenthesis text)) (base_in (after left_parenthesis text)) (IsWithin 2048) IsRegister (immediate_within (before left_parenthesis text)) (base_below (after left_parenthesis text))) tt
 
 -- ---- from 0 to above
 

@@ -12,9 +12,7 @@ use Rattle.evm_asm.specs.declared.item.Placed.{Placed}
 use Rattle.evm_words.specs.declared.mnemonic.Section.{Section as Part}
 use Rattle.evm_words.specs.declared.mnemonic.Section.TheVariants.{Text, Data}
 use Rattle.evm_words.specs.declared.mnemonic.Width.{Width}
-use Rattle.evm_words.specs.Text.{after}
-use Rattle.evm_statement.specs.Operands.{first}
-use Rattle.evm_statement.specs.Statements.{Spots}
+use Rattle.evm_statement.specs.Operands.{Spots, first_operand, other_operands}
 use Rattle.evm_asm.specs.Places.{bytes_in}
 use Rattle.evm_asm.specs.Items.{with_item, value_in, number_pushed, with_numbers}
 use Rattle.evm_asm.specs.Programs.{Spelled, spelled, spelled_item, worded, repeated, number_bytes, nop_bytes}
@@ -134,12 +132,12 @@ module _ (part : Part) (width : Width) (value at : ℕ) where
   unfolding with_numbers
   numbers_come labels size zero k text a b less h v e = absurd (omega arith)
   numbers_come labels size (suc n) zero text a b less h v e =
-      let one = bind_ok (number_pushed labels size part width (first text) a) (λ items. with_numbers labels size part width n (after 44 text) items) b h in
-      numbers_stay IsThis labels size part width n (after 44 text) one.0 b one.2 (number_comes labels size (first text) a one.0 one.1 v (omega arith))
+      let one = bind_ok (number_pushed labels size part width (first_operand text) a) (λ items. with_numbers labels size part width n (other_operands text) items) b h in
+      numbers_stay IsThis labels size part width n (other_operands text) one.0 b one.2 (number_comes labels size (first_operand text) a one.0 one.1 v (omega arith))
   numbers_come labels size (suc n) (suc k) text a b less h v e =
-      let one = bind_ok (number_pushed labels size part width (first text) a) (λ items. with_numbers labels size part width n (after 44 text) items) b h in
-      let more = adds_bytes part (bytes_in width) a one.0 (number_adds labels size part width (first text) a one.0 one.1) in
-      numbers_come labels size n k (after 44 text) one.0 b (omega arith) one.2 v (omega (arith, more))
+      let one = bind_ok (number_pushed labels size part width (first_operand text) a) (λ items. with_numbers labels size part width n (other_operands text) items) b h in
+      let more = adds_bytes part (bytes_in width) a one.0 (number_adds labels size part width (first_operand text) a one.0 one.1) in
+      numbers_come labels size n k (other_operands text) one.0 b (omega arith) one.2 v (omega (arith, more))
 
   items_stay_in : (items : List Placed) (s t : Spelled) → spelled items s ≡ Ok t → IsIn width value at (section_bytes part s) → IsIn width value at (section_bytes part t)
   unfolding spelled

@@ -12,9 +12,9 @@ use Rattle.evm_words.specs.declared.mnemonic.Width.TheVariants.{Byte, Word, Dwor
 use Rattle.evm_asm.specs.declared.place.Place.{Place}
 use Rattle.evm_statement.specs.declared.statement.Statement.{Statement}
 use Rattle.evm_statement.specs.declared.statement.Statement.TheVariants.{Numbers}
-use Rattle.evm_asm.specs.Places.{offset, offset_in, here, bytes_in, statement_in}
-use Rattle.evm_asm.specs.Sources.{lines_of, code_of, statement_text, nothing_laid, laid}
-use Rattle.evm_asm.specs.Items.{text_base, data_base, address_in, address, value_in, operands, with_statement, and_then, layout_of, meaning_of}
+use Rattle.evm_asm.specs.Places.{offset, section_size, here, bytes_in, statement_in}
+use Rattle.evm_asm.specs.Sources.{source_lines, code_of, statement_text, nothing_laid, laid}
+use Rattle.evm_asm.specs.Items.{text_base, data_base, address_of_offset, address, value_in, operands, with_statement, and_then, layout_of, meaning_of}
 use Rattle.evm_asm.specs.Programs.{Spelled, nothing_spelled, spelled, number_bytes}
 use Rattle.evm_asm.specs.Assembled.{Assembled, assembled, program_of}
 use Rattle.evm_asm.specs.Sizes.{size_of_text, size_of_data, gap, place_before, operand_at, HasNumber}
@@ -27,7 +27,7 @@ use Rattle.evm_asm.proofs.Present.{Has, statement_stays}
 use Rattle.evm_asm.proofs.Reached.{reached}
 use Rattle.evm_asm.proofs.Numbers_present.{bytes_of, section_bytes, IsIn, stays_in, IsThis, numbers_come, items_come_in}
 
-balanced_bytes : (part : Part) (place : Place) (a : List Placed) → IsBalanced place a → bytes_of part (text_in a) (data_in a) ≡ offset_in part place
+balanced_bytes : (part : Part) (place : Place) (a : List Placed) → IsBalanced place a → bytes_of part (text_in a) (data_in a) ≡ section_size part place
 balanced_bytes Text place a h = h.text_is
 balanced_bytes Data place a h = h.rest_is
 
@@ -60,12 +60,12 @@ module _ (width : Width) (value : ℕ) (size data_size : ℕ) (text bytes all : 
 
 section_in_all : (part : Part) (width : Width) (value size data_size o more : ℕ) (s : Spelled) (all : List ℕ) → length s.text_bytes ≡ size → length s.data_bytes ≡ data_size
     → (0 < data_size → all ≡ s.text_bytes ++ replicate (gap size) 0 ++ s.data_bytes) → (data_size ≡ 0 → all ≡ s.text_bytes) → IsIn width value (o + more) (section_bytes part s)
-    → take (bytes_in width) (drop (address_in size part o - text_base + more) all) ≡ number_bytes (bytes_in width) value
+    → take (bytes_in width) (drop (address_of_offset size part o - text_base + more) all) ≡ number_bytes (bytes_in width) value
 section_in_all Text width value size data_size o more s all t d f g h =
-    let at : address_in size Text o - text_base + more ≡ o + more = omega arith in
+    let at : address_of_offset size Text o - text_base + more ≡ o + more = omega arith in
     ap (λ (m : ℕ). take (bytes_in width) (drop m all)) at ∙ (text_in_all width value size data_size s.text_bytes s.data_bytes all t d f g (o + more) h).bytes_are
 section_in_all Data width value size data_size o more s all t d f g h =
-    let at : address_in size Data o - text_base + more ≡ data_base size - text_base + (o + more) = omega arith in
+    let at : address_of_offset size Data o - text_base + more ≡ data_base size - text_base + (o + more) = omega arith in
     ap (λ (m : ℕ). take (bytes_in width) (drop m all)) at ∙ data_in_all width value size data_size s.text_bytes s.data_bytes all t d f g (o + more) h
 
 module _ (source : List ℕ) (n k : ℕ) (width : Width) (value : ℕ) (h : HasNumber source n k width value) where
@@ -73,7 +73,7 @@ module _ (source : List ℕ) (n k : ℕ) (width : Width) (value : ℕ) (h : HasN
   abbrev Number_at : Place → ℕ → ℕ → Placed → Type 0
   Number_at place = IsThis place.section width value (offset place + k * bytes_in width)
 
-  comes_here : (xs : List (List ℕ)) (line : List ℕ) (rest : List (List ℕ)) → lines_of source ≡ xs ++ line ∷ rest → n ≡ length xs + 1 → (place next : Place) → place ≡ (laid nothing_laid xs).place
+  comes_here : (xs : List (List ℕ)) (line : List ℕ) (rest : List (List ℕ)) → source_lines source ≡ xs ++ line ∷ rest → n ≡ length xs + 1 → (place next : Place) → place ≡ (laid nothing_laid xs).place
       → (a b : List Placed) → IsBalanced place a → Line (layout_of source).labels (size_of_text source) n place next (statement_text (code_of line)) a b → Has (Number_at (place_before source n)) 0 0 b
   unfolding with_statement
   comes_here xs line rest split number place next is a b balanced l =

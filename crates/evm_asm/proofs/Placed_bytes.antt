@@ -6,7 +6,7 @@ use Rattle.evm_words.specs.declared.fault.AsmFault.{AsmFault}
 use Rattle.evm_asm.specs.declared.item.Placed.{Placed}
 use Rattle.evm_asm.specs.declared.output.ProgramLine.{ProgramLine}
 use Rattle.evm_asm.specs.Items.{and_then, layout_of, meaning_of}
-use Rattle.evm_asm.specs.Programs.{Spelled, nothing_spelled, spelled, repeated, image_of}
+use Rattle.evm_asm.specs.Programs.{Spelled, nothing_spelled, spelled, repeated, program_bytes}
 use Rattle.evm_asm.specs.Assembled.{Assembled, assembled, program_of}
 use Rattle.evm_asm.specs.Sizes.{size_of_text, size_of_data, gap, Means}
 use Rattle.evm_asm.proofs.Worded.{and_then_ok, same_program}
@@ -26,17 +26,17 @@ unfolding repeated
 zeros zero bytes = sym (append-nil bytes)
 zeros (suc n) bytes = zeros n (bytes ++ 0 ∷ []) ∙ append_assoc bytes (0 ∷ []) (replicate n 0)
 
-image_with : (text bytes : List ℕ) → 0 < length bytes → image_of text bytes ≡ repeated ((4096 - length text % 4096) % 4096) (0 ∷ []) text ++ bytes
+image_with : (text bytes : List ℕ) → 0 < length bytes → program_bytes text bytes ≡ repeated ((4096 - length text % 4096) % 4096) (0 ∷ []) text ++ bytes
 image_with text [] h = absurd (omega arith)
 image_with text (b ∷ bs) h = refl
 
-image_without : (text bytes : List ℕ) → length bytes ≡ 0 → image_of text bytes ≡ text
+image_without : (text bytes : List ℕ) → length bytes ≡ 0 → program_bytes text bytes ≡ text
 image_without text [] h = refl
 image_without text (b ∷ bs) h = absurd (omega arith)
 
 pub image_at_base : (source : List ℕ) (items : List Placed) (s : Spelled) → meaning_of source ≡ Ok items → spelled items nothing_spelled ≡ Ok s
-    → (0 < size_of_data source → image_of s.text_bytes s.data_bytes ≡ s.text_bytes ++ replicate (gap (size_of_text source)) 0 ++ s.data_bytes)
-    × (size_of_data source ≡ 0 → image_of s.text_bytes s.data_bytes ≡ s.text_bytes)
+    → (0 < size_of_data source → program_bytes s.text_bytes s.data_bytes ≡ s.text_bytes ++ replicate (gap (size_of_text source)) 0 ++ s.data_bytes)
+    × (size_of_data source ≡ 0 → program_bytes s.text_bytes s.data_bytes ≡ s.text_bytes)
 image_at_base source items s h k =
     let sizes = sizes_agree source items s h k in
     let text : ℕ = size_of_text source in
@@ -63,7 +63,7 @@ pub data_at_base : (source : List ℕ) (items : List Placed) (s : Spelled) (p : 
     × (size_of_data source ≡ 0 → p.bytes ≡ s.text_bytes)
 data_at_base source items s p h k e =
     let image = image_at_base source items s h k in
-    let bytes : p.bytes ≡ image_of s.text_bytes s.data_bytes = ap (λ (q : Assembled). q.bytes) (sym (program_is source items s p h k e)) in
+    let bytes : p.bytes ≡ program_bytes s.text_bytes s.data_bytes = ap (λ (q : Assembled). q.bytes) (sym (program_is source items s p h k e)) in
     ((λ more. bytes ∙ image.0 more), λ none. bytes ∙ image.1 none)
 
 none_listed : (source : List ℕ) → All (λ (l : ProgramLine). Means source l.line l.address l.instruction) []

@@ -11,9 +11,7 @@ use Rattle.evm_words.specs.declared.mnemonic.Width.{Width}
 use Rattle.evm_asm.specs.declared.place.Place.{Place}
 use Rattle.evm_statement.specs.declared.statement.Statement.{Statement}
 use Rattle.evm_statement.specs.declared.statement.Statement.TheVariants.{Numbers, Space, Align}
-use Rattle.evm_words.specs.Text.{after}
-use Rattle.evm_statement.specs.Operands.{first}
-use Rattle.evm_statement.specs.Statements.{Spots}
+use Rattle.evm_statement.specs.Operands.{Spots, first_operand, other_operands}
 use Rattle.evm_asm.specs.Items.{text_base, expanded, with_item, with_instructions, value_in, number_pushed, with_numbers, filling, operands, with_statement}
 use Rattle.evm_asm.proofs.Counted.{text_of, data_of, text_in, data_in}
 use Rattle.evm_asm.proofs.Added.{bind_ok, same_items}
@@ -55,8 +53,8 @@ module _ (R : ℕ → ℕ → Placed → Type 0) where
   unfolding with_numbers
   numbers_stay labels size part width zero text a b h k = subst (λ (c : List Placed). Has 0 0 c) (same_items a b h) k
   numbers_stay labels size part width (suc n) text a b h k =
-      let one = bind_ok (number_pushed labels size part width (first text) a) (λ items. with_numbers labels size part width n (after 44 text) items) b h in
-      numbers_stay labels size part width n (after 44 text) one.0 b one.2 (number_stays labels size part width (first text) a one.0 one.1 k)
+      let one = bind_ok (number_pushed labels size part width (first_operand text) a) (λ items. with_numbers labels size part width n (other_operands text) items) b h in
+      numbers_stay labels size part width n (other_operands text) one.0 b one.2 (number_stays labels size part width (first_operand text) a one.0 one.1 k)
 
   instructions_stay : (line : ℕ) (e : Expansion) (a : List Placed) → Has 0 0 a → Has 0 0 (with_instructions line e a)
   unfolding with_instructions

@@ -7,17 +7,17 @@ use Rattle.evm_words.specs.declared.fault.AsmFault.{AsmFault}
 use Rattle.evm_words.specs.declared.fault.AsmFaultKind.{AsmFaultKind}
 use Rattle.evm_asm.specs.declared.item.Placed.{Placed}
 use Rattle.evm_asm.specs.declared.place.Place.{Place}
-use Rattle.evm_asm.specs.Sources.{lines_of, code_of, start, Laid, nothing_laid, laid}
-use Rattle.evm_asm.specs.Items.{line_told, lines_meant, and_then, layout_of, meaning_of}
-use Rattle.evm_asm.specs.Least.{fault_at, IsFirst}
+use Rattle.evm_asm.specs.Sources.{source_lines, code_of, source_start, Laid, nothing_laid, laid}
+use Rattle.evm_asm.specs.Items.{line_or_fault, lines_meant, and_then, layout_of, meaning_of}
+use Rattle.evm_asm.specs.Least.{fault_at, IsFirstFault}
 use Rattle.evm_asm.proofs.Faultless.{fault_past, one_more, refused, passed}
 
 -- no line has a fault, or this one is the first and least
 abbrev Tells : List ℕ → Result (List Placed) AsmFault → Type 0
 Tells source (Ok items) = (n : ℕ) → fault_at source n ≡ None
-Tells source (Err fault) = IsFirst source fault
+Tells source (Err fault) = IsFirstFault source fault
 
-told_line : (source : List ℕ) (before : ℕ) (rest : List (List ℕ)) (t : Result (Place × List Placed) AsmFault) → ((f : AsmFault) → t ≡ Err f → IsFirst source f)
+told_line : (source : List ℕ) (before : ℕ) (rest : List (List ℕ)) (t : Result (Place × List Placed) AsmFault) → ((f : AsmFault) → t ≡ Err f → IsFirstFault source f)
     → ((x : Place × List Placed) → t ≡ Ok x → Tells source (lines_meant (layout_of source) before x.0 rest x.1)) → Tells source (and_then t (λ x. lines_meant (layout_of source) before x.0 rest x.1))
 told_line source before rest (Ok x) h k = k x refl
 told_line source before rest (Err f) h k = h f refl
@@ -26,17 +26,17 @@ one_line_more : (source : List ℕ) (m : ℕ) → ((n : ℕ) → n < suc m → f
 one_line_more source m h k n less =
     ⊎_elim (λ (lt : n < suc m). h n lt) (λ (le : suc m ≤ n). let e : suc m ≡ n = omega arith in subst (λ (i : ℕ). fault_at source i ≡ None) e k) (cases_lt n (suc m))
 
-told : (source : List ℕ) (xs rest : List (List ℕ)) → lines_of source ≡ xs ++ rest → (laid nothing_laid xs).first ≡ None → (before : ℕ) (place : Place) → before ≡ length xs → place ≡ (laid nothing_laid xs).place
+told : (source : List ℕ) (xs rest : List (List ℕ)) → source_lines source ≡ xs ++ rest → (laid nothing_laid xs).first ≡ None → (before : ℕ) (place : Place) → before ≡ length xs → place ≡ (laid nothing_laid xs).place
     → ((n : ℕ) → n < suc (length xs) → fault_at source n ≡ None) → (a : List Placed) → Tells source (lines_meant (layout_of source) before place rest a)
 unfolding lines_meant
 told source xs [] split clean before place number is none a = λ n.
-    let all : length (lines_of source) ≡ length xs = ap (λ (ls : List (List ℕ)). length ls) (split ∙ append-nil xs) in
+    let all : length (source_lines source) ≡ length xs = ap (λ (ls : List (List ℕ)). length ls) (split ∙ append-nil xs) in
     ⊎_elim (λ (lt : n < suc (length xs)). none n lt) (λ (le : suc (length xs) ≤ n). fault_past source n (omega arith)) (cases_lt n (suc (length xs)))
 told source xs (line ∷ rest) split clean before place number is none a =
     let l = layout_of source in
     let n : before + 1 ≡ length xs + 1 = omega arith in
     let longer : length (xs ++ line ∷ []) ≡ suc (length xs) = omega (arith, length-append xs (line ∷ [])) in
-    told_line source (before + 1) rest (line_told l.labels l.place.text_size l.first (before + 1) place (code_of line) a)
+    told_line source (before + 1) rest (line_or_fault l.labels l.place.text_size l.first (before + 1) place (code_of line) a)
     (λ f h.
     let here = refused source xs line rest split clean (before + 1) place n is a f h in
     (ap (λ (i : ℕ). fault_at source i) here.0 ∙ here.1, λ m less. none m (omega (arith, here.0))))
@@ -53,13 +53,13 @@ none_before source (suc n) h = absurd (omega arith)
 
 meaning_told : (source : List ℕ) → Tells source (meaning_of source)
 unfolding meaning_of laid
-meaning_told source = told source [] (lines_of source) refl refl 0 start refl refl (none_before source) []
+meaning_told source = told source [] (source_lines source) refl refl 0 source_start refl refl (none_before source) []
 
 same_fault : (f g : AsmFault) → f.line ≡ g.line → f.kind ≡ g.kind → f ≡ g
 same_fault f g h k =
     ap (λ (n : ℕ). let r : AsmFault = record { line = n; kind = f.kind } in r) h ∙ ap (λ (kind : AsmFaultKind). let r : AsmFault = record { line = g.line; kind = kind } in r) k
 
-one_first : (source : List ℕ) (f g : AsmFault) → IsFirst source f → IsFirst source g → f ≡ g
+one_first : (source : List ℕ) (f g : AsmFault) → IsFirstFault source f → IsFirstFault source g → f ≡ g
 one_first source f g h k =
     let not_less : f.line < g.line → ⊥ = λ less. let none = k.1 f.line less in let some = h.0 in cc in
     let not_more : g.line < f.line → ⊥ = λ less. let none = h.1 g.line less in let some = k.0 in cc in
@@ -68,11 +68,11 @@ one_first source f g h k =
     let kind : f.kind ≡ g.kind = cc in
     same_fault f g line kind
 
-told_first : (source : List ℕ) (fault : AsmFault) (r : Result (List Placed) AsmFault) → Tells source r → IsFirst source fault → r ≡ Err fault
+told_first : (source : List ℕ) (fault : AsmFault) (r : Result (List Placed) AsmFault) → Tells source r → IsFirstFault source fault → r ≡ Err fault
 told_first source fault (Ok items) h k = let none = h fault.line in let some = k.0 in cc
 told_first source fault (Err f) h k = ap (λ (g : AsmFault). Err g) (one_first source f fault h k)
 
-pub refuses : (source : List ℕ) (fault : AsmFault) → meaning_of source ≡ Err fault ↔ IsFirst source fault
+pub refuses : (source : List ℕ) (fault : AsmFault) → meaning_of source ≡ Err fault ↔ IsFirstFault source fault
 refuses source fault = (λ h. subst (λ (r : Result (List Placed) AsmFault). Tells source r) h (meaning_told source), λ h. told_first source fault (meaning_of source) (meaning_told source) h)
 
 none_told : (source : List ℕ) (r : Result (List Placed) AsmFault) → Tells source r → IsOk r → (n : ℕ) → fault_at source n ≡ None

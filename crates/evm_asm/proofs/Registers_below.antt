@@ -1,7 +1,7 @@
 -- The registers of the language are 0 to 31.
 use Rattle.std.proofs.Common.{◌≡◌, ℕ, ◌<◌, Bool, true, false, cond, ◌&&◌, nat_lt, List, [], ◌∷◌, Option, Some, None, IfOk, IfSome, refl, bytes_eq, lit<}
 use Rattle.std.proofs.lemmas.Bool.{ltb-true, and_parts}
-use Rattle.evm_words.specs.Names.{named, or_else, register_named, fixed_registers, argument_registers, saved_registers, temporary_registers, registers_to_7, registers_to_15, registers_to_23, registers_to_31}
+use Rattle.evm_words.specs.Names.{named, register_named, registers, fixed_registers, argument_registers, saved_registers, temporary_registers, registers_to_7, registers_to_15, registers_to_23, registers_to_31}
 use Rattle.evm_statement.specs.Operands.{register_in, named_register, known, name_in}
 
 abbrev pub IsRegister : ℕ → Type 0
@@ -24,53 +24,13 @@ found (e ∷ es) name h =
     let p = and_parts (nat_lt e.1 32) (all_registers es) h in
     picked (bytes_eq name e.0) e.1 (named es name) (ltb-true e.1 32 p.0) (found es name p.1)
 
-found_or_else : (o others : Option ℕ) → IfSome o IsRegister → IfSome others IsRegister → IfSome (or_else o (λ n. n) others) IsRegister
-found_or_else (Some n) others h k = h
-found_or_else None others h k = k
-
-fixed : all_registers fixed_registers ≡ true
-unfolding fixed_registers
-fixed = refl
-
-arguments : all_registers argument_registers ≡ true
-unfolding argument_registers
-arguments = refl
-
-saved : all_registers saved_registers ≡ true
-unfolding saved_registers
-saved = refl
-
-temporaries : all_registers temporary_registers ≡ true
-unfolding temporary_registers
-temporaries = refl
-
-to_7 : all_registers registers_to_7 ≡ true
-unfolding registers_to_7
-to_7 = refl
-
-to_15 : all_registers registers_to_15 ≡ true
-unfolding registers_to_15
-to_15 = refl
-
-to_23 : all_registers registers_to_23 ≡ true
-unfolding registers_to_23
-to_23 = refl
-
-to_31 : all_registers registers_to_31 ≡ true
-unfolding registers_to_31
-to_31 = refl
+all_below : all_registers registers ≡ true
+unfolding registers fixed_registers argument_registers saved_registers temporary_registers registers_to_7 registers_to_15 registers_to_23 registers_to_31
+all_below = refl
 
 named_below : (name : List ℕ) → IfSome (register_named name) IsRegister
 unfolding register_named
-named_below name =
-    found_or_else (named fixed_registers name) _ (found fixed_registers name fixed) (
-    found_or_else (named argument_registers name) _ (found argument_registers name arguments) (
-    found_or_else (named saved_registers name) _ (found saved_registers name saved) (
-    found_or_else (named temporary_registers name) _ (found temporary_registers name temporaries) (
-    found_or_else (named registers_to_7 name) _ (found registers_to_7 name to_7) (
-    found_or_else (named registers_to_15 name) _ (found registers_to_15 name to_15) (
-    found_or_else (named registers_to_23 name) _ (found registers_to_23 name to_23) (
-    found registers_to_31 name to_31)))))))
+named_below name = found registers name all_below
 
 known_below : (o : Option ℕ) → IfSome o IsRegister → IfOk (known o) IsRegister
 known_below (Some r) h = h

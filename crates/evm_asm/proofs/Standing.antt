@@ -14,7 +14,7 @@ use Rattle.evm_words.specs.declared.mnemonic.Section.{Section}
 use Rattle.evm_words.specs.declared.mnemonic.Section.TheVariants.{Text, Data}
 use Rattle.evm_asm.specs.declared.output.ProgramLine.{ProgramLine}
 use Rattle.evm_asm.specs.Items.{Tells, and_then, meaning_of, layout_of, text_base}
-use Rattle.evm_asm.specs.Programs.{Spelled, nothing_spelled, spelled, spelled_item, worded, repeated, image_of}
+use Rattle.evm_asm.specs.Programs.{Spelled, nothing_spelled, spelled, spelled_item, worded, repeated, program_bytes}
 use Rattle.evm_asm.specs.Assembled.{StandsIn, Assembled, assembled, program_of}
 use Rattle.evm_asm.proofs.Worded.{and_then_ok, same_ok, same_program}
 
@@ -71,7 +71,7 @@ spelled_stands (p ∷ ps) s t h all =
     let step = and_then_ok (spelled_item p.section p.item s) (spelled ps) t h in
     spelled_stands ps step.0 t step.2 (item_stands p.section p.item s step.0 step.1 all)
 
-in_image : (text bytes : List ℕ) (ls : List ProgramLine) → All (StandsIn text) ls → All (StandsIn (image_of text bytes)) ls
+in_image : (text bytes : List ℕ) (ls : List ProgramLine) → All (StandsIn text) ls → All (StandsIn (program_bytes text bytes)) ls
 in_image text [] ls all = all
 in_image text (b ∷ bs) ls all = all_stay _ (b ∷ bs) ls (all_repeated _ _ text ls all)
 

@@ -14,12 +14,11 @@ use Rattle.evm_asm.specs.declared.place.Place.{Place}
 use Rattle.evm_statement.specs.declared.statement.Statement.{Statement}
 use Rattle.evm_statement.specs.declared.statement.Statement.TheVariants.{Nothing, One, Branch, Jump, LoadImmediate, LoadAddress, Section, Numbers, Space, Align}
 use Rattle.evm_words.specs.Faults.{◌>>=◌}
-use Rattle.evm_words.specs.Text.{after}
-use Rattle.evm_statement.specs.Operands.{first}
-use Rattle.evm_statement.specs.Statements.{Spots}
+use Rattle.evm_statement.specs.Operands.{Spots, first_operand, other_operands}
 use Rattle.evm_asm.specs.Places.{offset, is_small, low_word, needs_low_part, bytes_in, padding, load_size, size_at, is_text}
 use Rattle.evm_asm.specs.Items.{text_base, with_item, with_instructions, expanded, load_immediate, load_address, distance_to, value_in, number_pushed, with_numbers, filling, operands, with_statement}
 use Rattle.evm_asm.proofs.Lengths.{seen_in, added, size_in}
+use Rattle.evm_asm.proofs.Instructions_in_text.{is_instruction}
 
 -- what was bound to another reading
 pub bound : {A B : Type 0} (r : Result A AsmFaultKind) (f : A → Result B AsmFaultKind) (y : B) → (r >>= f) ≡ Ok y → (x : A) × (r ≡ Ok x) × (f x ≡ Ok y)
@@ -117,33 +116,24 @@ numbers_size part labels text_size home width zero text so_far items h =
     let none : bytes_in width * 0 ≡ 0 = omega arith in
     ap (size_in part) (sym (same_items so_far items h)) ∙ omega (arith, seen-zero part home, ap (λ n. seen_in part home n) none)
 numbers_size part labels text_size home width (suc n) text so_far items h =
-    let step = bound (number_pushed labels text_size home width (first text) so_far) (λ items. with_numbers labels text_size home width n (after 44 text) items) items h in
-    let value = bound (value_in labels text_size width (first text)) (λ v. Ok (with_item home (Number width v) so_far)) step.0 step.1 in
+    let step = bound (number_pushed labels text_size home width (first_operand text) so_far) (λ items. with_numbers labels text_size home width n (other_operands text) items) items h in
+    let value = bound (value_in labels text_size width (first_operand text)) (λ v. Ok (with_item home (Number width v) so_far)) step.0 step.1 in
     let one : size_in part step.0 ≡ size_in part so_far + seen_in part home (bytes_in width) =
     ap (size_in part) (sym (same_items _ step.0 value.2)) ∙ size-item part home (Number width value.0) so_far in
     let more : bytes_in width * suc n ≡ bytes_in width + bytes_in width * n = omega arith in
     let sum = ap (λ m. seen_in part home m) more ∙ seen-plus part home (bytes_in width) (bytes_in width * n) in
-    numbers_size part labels text_size home width n (after 44 text) step.0 items step.2 ∙ omega (arith, one, sum)
+    numbers_size part labels text_size home width n (other_operands text) step.0 items step.2 ∙ omega (arith, one, sum)
 
 filling_size : (part home : Part) (n : ℕ) (t : Bool) → added part home (cond t (Nops (n / 4)) (Zeros n)) ≤ seen_in part home n
 filling_size part home n true = seen-le part home (n / 4 * 4) n (omega arith)
 filling_size part home n false = omega arith
-
--- a statement that makes instructions
-abbrev pub makes_code : Statement → Bool
-makes_code (One i) = true
-makes_code (Branch op rs1 rs2 target) = true
-makes_code (Jump rd target) = true
-makes_code (LoadImmediate rd value) = true
-makes_code (LoadAddress rd target) = true
-makes_code statement = false
 
 at_home : (part home : Part) (n a b : ℕ) → home ≡ Text → a ≡ b + seen_in part Text n → a ≤ b + seen_in part home n
 at_home part home n a b e h = omega (arith, ap (λ (s : Part). seen_in part s n) e, h)
 
 -- a statement adds no more bytes than it takes
 pub statement_size : (part : Part) (labels : Spots) (text_size line : ℕ) (place : Place) (text : List ℕ) (statement : Statement) (so_far items : List Placed)
-    → with_statement labels text_size line place text statement so_far ≡ Ok items → (makes_code statement ≡ true → place.section ≡ Text) → size_at (offset place) statement ≤ 8388608
+    → with_statement labels text_size line place text statement so_far ≡ Ok items → (is_instruction statement ≡ true → place.section ≡ Text) → size_at (offset place) statement ≤ 8388608
     → size_in part items ≤ size_in part so_far + seen_in part place.section (size_at (offset place) statement)
 unfolding with_statement size_at filling
 statement_size part labels text_size line place text Nothing so_far items h stands few =

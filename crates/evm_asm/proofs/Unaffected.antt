@@ -8,10 +8,8 @@ use Rattle.evm_asm.specs.declared.place.Place.{Place}
 use Rattle.evm_statement.specs.declared.statement.Statement.{Statement}
 use Rattle.evm_statement.specs.declared.statement.Statement.TheVariants.{Numbers, Space, Align}
 use Rattle.evm_words.specs.Faults.{◌>>=◌}
-use Rattle.evm_words.specs.Text.{after}
-use Rattle.evm_statement.specs.Operands.{first}
-use Rattle.evm_statement.specs.Statements.{Spots}
-use Rattle.evm_asm.specs.Places.{behind, statement_in}
+use Rattle.evm_statement.specs.Operands.{Spots, first_operand, other_operands}
+use Rattle.evm_asm.specs.Places.{place_behind, statement_in}
 use Rattle.evm_asm.specs.Items.{text_base, expanded, value_in, number_pushed, with_numbers, operands, with_statement, statement_meant, line_meant}
 use Rattle.evm_asm.specs.Least.{fault_in}
 use Rattle.evm_asm.proofs.Like.{Like, values, faults, Whatever}
@@ -34,8 +32,8 @@ module _ (labels : Spots) (size : ℕ) where
   unfolding with_numbers
   numbers_same part width zero text a b = values a b tt
   numbers_same part width (suc n) text a b =
-      goes_on _ _ (λ items. with_numbers labels size part width n (after 44 text) items) (λ items. with_numbers labels size part width n (after 44 text) items)
-      (number_same part width (first text) a b) (λ x y. numbers_same part width n (after 44 text) x y)
+      goes_on _ _ (λ items. with_numbers labels size part width n (other_operands text) items) (λ items. with_numbers labels size part width n (other_operands text) items)
+      (number_same part width (first_operand text) a b) (λ x y. numbers_same part width n (other_operands text) x y)
 
   statement_same : (m n : ℕ) (place : Place) (text : List ℕ) (s : Statement) (a b : List Placed) → Like Whatever (with_statement labels size m place text s a) (with_statement labels size n place text s b)
   unfolding with_statement
@@ -48,7 +46,7 @@ module _ (labels : Spots) (size : ℕ) where
   unfolding line_meant statement_meant
   line_same m n place text a b =
       each_goes_on (statement_in labels place text) _ _
-      (λ s. goes_on _ _ _ _ (statement_same m n place text s a b) (λ x y. each_goes_on (behind place s) _ _ (λ next. values _ _ tt)))
+      (λ s. goes_on _ _ _ _ (statement_same m n place text s a b) (λ x y. each_goes_on (place_behind place s) _ _ (λ next. values _ _ tt)))
 
 same_fault : {A : Type 0} (r s : Result A AsmFaultKind) → Like Whatever r s → fault_in r ≡ fault_in s
 same_fault _ _ (values a b h) = refl

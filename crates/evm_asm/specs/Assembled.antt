@@ -6,7 +6,7 @@ use Rattle.evm_words.specs.declared.fault.AsmFault.{AsmFault}
 use Rattle.evm_asm.specs.declared.output.ProgramLine.{ProgramLine}
 use Rattle.evm_statement.specs.declared.spot.Spot.{Spot}
 use Rattle.evm_asm.specs.Items.{text_base, address, and_then, layout_of, meaning_of}
-use Rattle.evm_asm.specs.Programs.{Spelled, nothing_spelled, spelled, image_of}
+use Rattle.evm_asm.specs.Programs.{Spelled, nothing_spelled, spelled, program_bytes}
 
 -- What a user sees of a program: its instructions, its bytes, and its labels with their addresses.
 pub record Assembled : Type 0 where
@@ -18,7 +18,7 @@ abbrev pub addressed : ℕ → List (List ℕ × Spot) → List (List ℕ × ℕ
 addressed text_size labels = map (λ l. (l.0, address text_size l.1)) labels
 
 abbrev pub assembled : ℕ → List (List ℕ × Spot) → Spelled → Assembled
-assembled text_size labels s = record { lines = s.lines; bytes = image_of s.text_bytes s.data_bytes; labels = addressed text_size labels }
+assembled text_size labels s = record { lines = s.lines; bytes = program_bytes s.text_bytes s.data_bytes; labels = addressed text_size labels }
 
 -- The program of a source, or its fault: the least line that has one, and the least of its faults.
 unfoldable pub program_of : List ℕ → Result Assembled AsmFault

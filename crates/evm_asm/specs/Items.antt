@@ -22,11 +22,10 @@ use Rattle.evm_statement.specs.declared.statement.Datum.TheVariants as datum
 use Rattle.evm_statement.specs.declared.statement.Statement.{Statement}
 use Rattle.evm_statement.specs.declared.statement.Statement.TheVariants.{One, Branch, Jump, LoadImmediate, LoadAddress, Numbers, Space, Align}
 use Rattle.evm_words.specs.Faults.{least, ◌>>=◌}
-use Rattle.evm_words.specs.Text.{after, skip_blanks, behind_word}
-use Rattle.evm_statement.specs.Operands.{first}
-use Rattle.evm_statement.specs.Statements.{Spots, datum_in}
-use Rattle.evm_asm.specs.Places.{offset, behind, statement_in, is_small, low_word, low_part, high_part, needs_low_part, padding, is_text}
-use Rattle.evm_asm.specs.Sources.{Laid, nothing_laid, laid, start, lines_of, code_of, statement_text}
+use Rattle.evm_words.specs.Text.{skip_blanks, behind_word}
+use Rattle.evm_statement.specs.Operands.{Spots, datum_in, first_operand, other_operands}
+use Rattle.evm_asm.specs.Places.{offset, place_behind, statement_in, is_small, low_word, low_part, high_part, needs_low_part, padding, is_text}
+use Rattle.evm_asm.specs.Sources.{Laid, nothing_laid, laid, source_start, source_lines, code_of, statement_text}
 
 -- The text begins at 0x80000000, the data at the first multiple of 4,096 at or after its end.
 abbrev pub text_base : ℕ
@@ -35,12 +34,12 @@ text_base = 2147483648
 abbrev pub data_base : ℕ → ℕ
 data_base text_size = text_base + (text_size + 4095) / 4096 * 4096
 
-abbrev pub address_in : ℕ → Part → ℕ → ℕ
-address_in text_size section.Text offset = text_base + offset
-address_in text_size section.Data offset = data_base text_size + offset
+abbrev pub address_of_offset : ℕ → Part → ℕ → ℕ
+address_of_offset text_size section.Text offset = text_base + offset
+address_of_offset text_size section.Data offset = data_base text_size + offset
 
 abbrev pub address : ℕ → Spot → ℕ
-address text_size spot = address_in text_size spot.section spot.offset
+address text_size spot = address_of_offset text_size spot.section spot.offset
 
 -- From an instruction to its target: an even number, from -below to above.
 unfoldable pub distance : ℕ → ℕ → ℕ → ℕ → Result ℤ AsmFaultKind
@@ -110,8 +109,8 @@ number_pushed labels text_size part width text so_far = do
 unfoldable pub with_numbers : Spots → ℕ → Part → Width → ℕ → List ℕ → List Placed → Result (List Placed) AsmFaultKind
 with_numbers labels text_size part width zero text so_far = Ok so_far
 with_numbers labels text_size part width (suc n) text so_far = do
-  items ← number_pushed labels text_size part width (first text) so_far
-  with_numbers labels text_size part width n (after 44 text) items
+  items ← number_pushed labels text_size part width (first_operand text) so_far
+  with_numbers labels text_size part width n (other_operands text) items
 
 -- In the text, at a multiple of 4, an alignment to a multiple of 4 is filled with nops, else with zeros.
 unfoldable pub filling : Place → ℕ → Item
@@ -135,7 +134,7 @@ with_statement labels text_size line place text statement so_far = do
 unfoldable pub statement_meant : Spots → ℕ → ℕ → Place → List ℕ → Statement → List Placed → Result (Place × List Placed) AsmFaultKind
 statement_meant labels text_size line place text statement so_far = do
   items ← with_statement labels text_size line place text statement so_far
-  next ← behind place statement
+  next ← place_behind place statement
   Ok (next, items)
 
 -- the place behind a line, and the items so far with those of the line
@@ -145,9 +144,9 @@ line_meant labels text_size line place text so_far = do
   statement_meant labels text_size line place text statement so_far
 
 -- the fault of a line whose labels cause one, beside what was found before: the least of them
-abbrev pub refusal : Option AsmFault → ℕ → AsmFaultKind → AsmFault
-refusal None line kind = record { line = line; kind = kind }
-refusal (Some fault) line kind = record { line = line; kind = if fault.line == line then least fault.kind kind else kind }
+abbrev pub least_so_far : Option AsmFault → ℕ → AsmFaultKind → AsmFault
+least_so_far None line kind = record { line = line; kind = kind }
+least_so_far (Some fault) line kind = record { line = line; kind = if fault.line == line then least fault.kind kind else kind }
 
 -- the fault that was found in this line before
 abbrev pub stop_at : Option AsmFault → ℕ → Option AsmFault
@@ -159,30 +158,30 @@ unless_stopped None a = Ok a
 unless_stopped (Some fault) a = Err fault
 
 -- what a line means, or the least of its faults
-abbrev pub told : {A : Type 0} → Option AsmFault → ℕ → Result A AsmFaultKind → Result A AsmFault
-told first line (Ok a) = unless_stopped (stop_at first line) a
-told first line (Err kind) = Err (refusal first line kind)
+abbrev pub meaning_or_fault : {A : Type 0} → Option AsmFault → ℕ → Result A AsmFaultKind → Result A AsmFault
+meaning_or_fault first line (Ok a) = unless_stopped (stop_at first line) a
+meaning_or_fault first line (Err kind) = Err (least_so_far first line kind)
 
 abbrev pub and_then : {A B : Type 0} → Result A AsmFault → (A → Result B AsmFault) → Result B AsmFault
 and_then (Ok a) f = f a
 and_then (Err e) f = Err e
 
 -- the place behind a line, and the items so far with those of the line, or the least of its faults
-unfoldable pub line_told : Spots → ℕ → Option AsmFault → ℕ → Place → List ℕ → List Placed → Result (Place × List Placed) AsmFault
-line_told labels text_size first line place code so_far = told first line (line_meant labels text_size line place (statement_text code) so_far)
+unfoldable pub line_or_fault : Spots → ℕ → Option AsmFault → ℕ → Place → List ℕ → List Placed → Result (Place × List Placed) AsmFault
+line_or_fault labels text_size first line place code so_far = meaning_or_fault first line (line_meant labels text_size line place (statement_text code) so_far)
 
 -- the items so far, and behind them those of the lines, of which so many stand before
 unfoldable pub lines_meant : Laid → ℕ → Place → List (List ℕ) → List Placed → Result (List Placed) AsmFault
 lines_meant l before place [] so_far = Ok so_far
 lines_meant l before place (line ∷ lines) so_far =
-    and_then (line_told l.labels l.place.text_size l.first (before + 1) place (code_of line) so_far) (λ x. lines_meant l (before + 1) x.0 lines x.1)
+    and_then (line_or_fault l.labels l.place.text_size l.first (before + 1) place (code_of line) so_far) (λ x. lines_meant l (before + 1) x.0 lines x.1)
 
 abbrev pub layout_of : List ℕ → Laid
-layout_of source = laid nothing_laid (lines_of source)
+layout_of source = laid nothing_laid (source_lines source)
 
 -- What a source means, or its fault: the least line that has one, and the least of its faults.
 unfoldable pub meaning_of : List ℕ → Result (List Placed) AsmFault
-meaning_of source = lines_meant (layout_of source) 0 start (lines_of source) []
+meaning_of source = lines_meant (layout_of source) 0 source_start (source_lines source) []
 
 -- Where a source means something, laying it out found no fault.
 abbrev pub NoFaultIsIgnored : Type 0
@@ -193,9 +192,9 @@ abbrev pub Fails : {Y : Type 0} → Stop → Result Y AsmFaultKind → Type 0
 Fails stop.Memory meant = Unit {0}
 Fails (stop.Fault kind) meant = meant ≡ Err kind
 
-abbrev pub Gives : {X Y : Type 0} → (X → Y) → Result X Stop → Result Y AsmFaultKind → Type 0
-Gives view (Ok x) meant = meant ≡ Ok (view x)
-Gives view (Err e) meant = Fails e meant
+abbrev pub IsMeant : {X Y : Type 0} → (X → Y) → Result X Stop → Result Y AsmFaultKind → Type 0
+IsMeant view (Ok x) meant = meant ≡ Ok (view x)
+IsMeant view (Err e) meant = Fails e meant
 
 -- A fault that was told is the source's, unless memory ran out.
 abbrev pub Refused : {Y : Type 0} → AsmFault → Result Y AsmFault → Type 0

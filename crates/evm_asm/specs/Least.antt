@@ -4,7 +4,7 @@ use Rattle.evm_words.specs.declared.fault.AsmFault.{AsmFault}
 use Rattle.evm_words.specs.declared.fault.AsmFaultKind.{AsmFaultKind}
 use Rattle.evm_asm.specs.declared.place.Place.{Place}
 use Rattle.evm_words.specs.Faults.{least}
-use Rattle.evm_asm.specs.Sources.{Laid, nothing_laid, laid, line_laid, lines_of, code_of, statement_text}
+use Rattle.evm_asm.specs.Sources.{Laid, nothing_laid, laid, line_laid, source_lines, code_of, statement_text}
 use Rattle.evm_asm.specs.Items.{line_meant, layout_of, meaning_of}
 
 abbrev pub fault_in : {A : Type 0} → Result A AsmFaultKind → Option AsmFaultKind
@@ -29,14 +29,14 @@ line_fault whole before line = lesser (line_laid before.labels before.place (cod
 unfoldable pub fault_at : List ℕ → ℕ → Option AsmFaultKind
 fault_at source zero = None
 fault_at source (suc n) =
-    option_and_then (line_fault (layout_of source) (laid nothing_laid (take n (lines_of source)))) (slice_get (lines_of source) n)
+    option_and_then (line_fault (layout_of source) (laid nothing_laid (take n (source_lines source)))) (slice_get (source_lines source) n)
 
-abbrev pub IsFirst : List ℕ → AsmFault → Type 0
-IsFirst source fault = (fault_at source fault.line ≡ Some fault.kind) × ((n : ℕ) → n < fault.line → fault_at source n ≡ None)
+abbrev pub IsFirstFault : List ℕ → AsmFault → Type 0
+IsFirstFault source fault = (fault_at source fault.line ≡ Some fault.kind) × ((n : ℕ) → n < fault.line → fault_at source n ≡ None)
 
 -- A source is refused with the least fault of its first line that has any.
 abbrev pub RefusesTheLeast : Type 0
-RefusesTheLeast = (source : List ℕ) (fault : AsmFault) → meaning_of source ≡ Err fault ↔ IsFirst source fault
+RefusesTheLeast = (source : List ℕ) (fault : AsmFault) → meaning_of source ≡ Err fault ↔ IsFirstFault source fault
 
 -- A source means something exactly where no line has a fault.
 abbrev pub MeansWithoutFaults : Type 0

@@ -10,4 +10,5 @@ pub mod Wording
 pub mod ProgramLaws
 pub mod Sizes
 pub mod Least
+pub mod HasFault
 pub mod FirstFault

@@ -12,17 +12,18 @@ use Rattle.evm_statement.specs.declared.spot.Spot.{Spot}
 use Rattle.evm_asm.specs.declared.place.Place.{Place}
 use Rattle.evm_statement.specs.declared.statement.Statement.{Statement}
 use Rattle.evm_statement.specs.declared.statement.Statement.TheVariants.{Nothing, One, Branch, Jump, LoadImmediate, LoadAddress, Section, Numbers, Space, Align}
-use Rattle.evm_words.specs.Text.{skip_blanks, word, behind_word, starts_with, is_name_start, is_empty, is_sound}
+use Rattle.evm_words.specs.Text.{skip_blanks, first_word, behind_word, starts_with, is_name_start, is_empty, is_sound}
 use Rattle.evm_words.specs.Names.{mnemonic_named}
-use Rattle.evm_statement.specs.Statements.{Reading, Spots, statement_of, also, upper}
+use Rattle.evm_statement.specs.Operands.{Spots, upper}
+use Rattle.evm_statement.specs.Statements.{Reading, statement_of, also}
 
 -- how far the section is that the place is in
-abbrev pub offset_in : Part → Place → ℕ
-offset_in section.Text place = place.text_size
-offset_in section.Data place = place.data_size
+abbrev pub section_size : Part → Place → ℕ
+section_size section.Text place = place.text_size
+section_size section.Data place = place.data_size
 
 abbrev pub offset : Place → ℕ
-offset place = offset_in place.section place
+offset place = section_size place.section place
 
 abbrev pub here : Place → Spot
 here place = record { section = place.section; offset = offset place }
@@ -82,9 +83,9 @@ size_at offset (Space size) = size
 size_at offset (Align power) = padding offset power
 
 -- the place behind a statement
-unfoldable pub behind : Place → Statement → Result Place AsmFaultKind
-behind place (Section part) = Ok (record place { section = part })
-behind place statement = grown place (size_at (offset place) statement)
+unfoldable pub place_behind : Place → Statement → Result Place AsmFaultKind
+place_behind place (Section part) = Ok (record place { section = part })
+place_behind place statement = grown place (size_at (offset place) statement)
 
 -- directives stand anywhere, instructions in the text, at a multiple of 4
 abbrev pub is_directive : Mnemonic → Bool
@@ -115,4 +116,4 @@ statement_in labels place text =
     if not (is_sound false text) then Err BadToken
     else (if is_empty (skip_blanks text) then Ok Nothing
     else (if not (starts_with is_name_start (skip_blanks text)) then Err BadToken
-    else of_mnemonic labels place (mnemonic_named (word (skip_blanks text))) (behind_word (skip_blanks text))))
+    else of_mnemonic labels place (mnemonic_named (first_word (skip_blanks text))) (behind_word (skip_blanks text))))

@@ -67,6 +67,6 @@ spelled [] s = Ok s
 spelled (p ∷ ps) s = and_then (spelled_item p.section p.item s) (spelled ps)
 
 -- The text, and where there is data zeros up to a multiple of 4,096, and the data.
-abbrev pub image_of : List ℕ → List ℕ → List ℕ
-image_of text [] = text
-image_of text (b ∷ bs) = repeated ((4096 - length text % 4096) % 4096) (0 ∷ []) text ++ b ∷ bs
+abbrev pub program_bytes : List ℕ → List ℕ → List ℕ
+program_bytes text [] = text
+program_bytes text (b ∷ bs) = repeated ((4096 - length text % 4096) % 4096) (0 ∷ []) text ++ b ∷ bs

@@ -1,5 +1,5 @@
 -- Where the lines of a source stand, and how many bytes its sections have.
-use Rattle.std.specs.Prelude.{◌≡◌, ℕ, zero, suc, ◌+◌, ◌-◌, ◌*◌, ◌<◌, ◌⊎◌, List, ◌++◌, length, take, drop, replicate, slice_get, All, Any, Some, Ok}
+use Rattle.std.specs.Prelude.{◌≡◌, ℕ, zero, suc, ◌+◌, ◌-◌, ◌*◌, ◌<◌, ◌⊎◌, List, [], ◌∷◌, ◌++◌, length, take, drop, replicate, map, slice_get, All, Any, Some, None, Ok}
 use Rattle.evm_isa.specs.declared.inst.Inst.{Inst}
 use Rattle.evm_asm.specs.declared.item.Expansion.{Expansion}
 use Rattle.evm_asm.specs.declared.item.Expansion.TheVariants.{Empty, Single, Double}
@@ -8,11 +8,10 @@ use Rattle.evm_words.specs.declared.mnemonic.Width.{Width}
 use Rattle.evm_asm.specs.declared.place.Place.{Place}
 use Rattle.evm_statement.specs.declared.statement.Statement.{Statement}
 use Rattle.evm_statement.specs.declared.statement.Statement.TheVariants.{Numbers}
-use Rattle.evm_words.specs.Text.{after}
 use Rattle.evm_words.specs.Names.{named}
-use Rattle.evm_statement.specs.Operands.{first}
+use Rattle.evm_statement.specs.Operands.{first_operand, other_operands}
 use Rattle.evm_asm.specs.Places.{here, bytes_in, statement_in}
-use Rattle.evm_asm.specs.Sources.{nothing_laid, laid, lines_of, code_of, label_at, behind_labels, statement_text}
+use Rattle.evm_asm.specs.Sources.{nothing_laid, laid, source_lines, code_of, label_at, behind_labels, statement_text}
 use Rattle.evm_asm.specs.Items.{text_base, data_base, address, expanded, value_in, operands, layout_of, meaning_of}
 use Rattle.evm_asm.specs.Programs.{Spelled, nothing_spelled, spelled, number_bytes}
 use Rattle.evm_asm.specs.Assembled.{Assembled, program_of}
@@ -40,7 +39,7 @@ DataStandsAtItsBase = (source : List ℕ) (items : List Placed) (s : Spelled) (p
 
 -- the place before line n, which is where laying out the lines before it ends
 abbrev pub place_before : List ℕ → ℕ → Place
-place_before source n = (laid nothing_laid (take (n - 1) (lines_of source))).place
+place_before source n = (laid nothing_laid (take (n - 1) (source_lines source))).place
 
 -- where the statement of line n stands, if it is in the text
 abbrev pub address_of_line : List ℕ → ℕ → ℕ
@@ -50,7 +49,7 @@ address_of_line source n = text_base + (place_before source n).text_size
 pub record Says (source : List ℕ) (n : ℕ) (statement : Statement) : Type 0 where
   pub line : List ℕ
   pub from_one : 0 < n
-  pub is_line : slice_get (lines_of source) (n - 1) ≡ Some line
+  pub is_line : slice_get (source_lines source) (n - 1) ≡ Some line
   pub reads : statement_in (layout_of source).labels (place_before source n) (statement_text (code_of line)) ≡ Ok statement
 
 -- An instruction at an address is one of those that stand from `first` on, 4 bytes apart.
@@ -82,7 +81,7 @@ pub record HasLabel (source : List ℕ) (n : ℕ) (name : List ℕ) : Type 0 whe
   pub others : ℕ
   pub behind : List ℕ
   pub from_one : 0 < n
-  pub is_line : slice_get (lines_of source) (n - 1) ≡ Some line
+  pub is_line : slice_get (source_lines source) (n - 1) ≡ Some line
   pub is_label : label_at (behind_labels others (code_of line)) ≡ Some (name, behind)
 
 -- Each label of a program has the address where its line's statement, or what comes next in its section, stands.
@@ -95,10 +94,24 @@ abbrev pub AllLabelsAreFound : Type 0
 AllLabelsAreFound = (source : List ℕ) (p : Assembled) → program_of source ≡ Ok p → (n : ℕ) (name : List ℕ) → HasLabel source n name
     → named p.labels name ≡ Some (address (size_of_text source) (here (place_before source n)))
 
+-- the names of the labels at the front of a text, of which there are at most n
+unfoldable pub labels_at : ℕ → List ℕ → List (List ℕ)
+labels_at zero text = []
+labels_at (suc n) text = elim (label_at text) [ None ↦ [] | Some label ↦ label.0 ∷ labels_at n label.1 ]
+
+-- the names of the labels of lines, in their order
+unfoldable pub labels_of : List (List ℕ) → List (List ℕ)
+labels_of [] = []
+labels_of (line ∷ lines) = labels_at (length (code_of line)) (code_of line) ++ labels_of lines
+
+-- The labels of a program are those of the source's lines, each once, in the source's order.
+abbrev pub LabelsStandInOrder : Type 0
+LabelsStandInOrder = (source : List ℕ) (p : Assembled) → program_of source ≡ Ok p → map (λ l. l.0) p.labels ≡ labels_of (source_lines source)
+
 -- the operand that stands behind so many commas
 abbrev pub operand_at : ℕ → List ℕ → List ℕ
-operand_at zero text = first text
-operand_at (suc k) text = operand_at k (after 44 text)
+operand_at zero text = first_operand text
+operand_at (suc k) text = operand_at k (other_operands text)
 
 -- Number k, from 0, of the data in line n of a source has this value.
 pub record HasNumber (source : List ℕ) (n k : ℕ) (width : Width) (value : ℕ) : Type 0 where

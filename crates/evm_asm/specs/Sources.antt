@@ -1,6 +1,7 @@
 -- The lines of a source, its labels, and where they are.
 use Rattle.std.specs.Prelude.{◌≡◌, ℕ, zero, suc, ◌+◌, Bool, true, false, ◌==◌, if◌then◌else◌, List, [], ◌∷◌, ◌++◌, length, Option, Some, None, is_some, Result, Ok, Err}
 use Rattle.std.specs.Option.{option_map}
+use Rattle.evm_words.specs.Characters.{newline, hash, colon}
 use Rattle.evm_words.specs.declared.fault.AsmFault.{AsmFault}
 use Rattle.evm_words.specs.declared.fault.AsmFaultKind.{AsmFaultKind}
 use Rattle.evm_words.specs.declared.fault.AsmFaultKind.TheVariants.{LabelTwice}
@@ -10,26 +11,25 @@ use Rattle.evm_asm.specs.declared.place.Place.{Place}
 use Rattle.evm_words.specs.Faults.{least, ◌>>=◌}
 use Rattle.evm_words.specs.Text.{before, after, has}
 use Rattle.evm_words.specs.Names.{named}
-use Rattle.evm_statement.specs.Operands.{name_in}
-use Rattle.evm_statement.specs.Statements.{Spots}
-use Rattle.evm_asm.specs.Places.{here, behind, statement_in}
+use Rattle.evm_statement.specs.Operands.{Spots, name_in}
+use Rattle.evm_asm.specs.Places.{here, place_behind, statement_in}
 
 abbrev pub in_front : ℕ → List (List ℕ) → List (List ℕ)
 in_front b [] = (b ∷ []) ∷ []
 in_front b (line ∷ lines) = (b ∷ line) ∷ lines
 
 -- Lines end with a newline; the last may lack it.
-unfoldable pub lines_of : List ℕ → List (List ℕ)
-lines_of [] = []
-lines_of (b ∷ bs) = if b == 10 then [] ∷ lines_of bs else in_front b (lines_of bs)
+unfoldable pub source_lines : List ℕ → List (List ℕ)
+source_lines [] = []
+source_lines (b ∷ bs) = if b == newline then [] ∷ source_lines bs else in_front b (source_lines bs)
 
 -- a line without its comment
 unfoldable pub code_of : List ℕ → List ℕ
-code_of line = before 35 line
+code_of line = before hash line
 
 -- The label at the front of a text: one name and a ':'. Behind it the text goes on.
 unfoldable pub label_at : List ℕ → Option (List ℕ × List ℕ)
-label_at text = if has 58 text then option_map (λ name. (name, after 58 text)) (name_in (before 58 text)) else None
+label_at text = if has colon text then option_map (λ name. (name, after colon text)) (name_in (before colon text)) else None
 
 -- the text behind its labels, of which there are at most n
 unfoldable pub behind_labels : ℕ → List ℕ → List ℕ
@@ -63,7 +63,7 @@ outcome place true (Ok next) = (place, Some LabelTwice)
 outcome place true (Err kind) = (place, Some (least LabelTwice kind))
 
 unfoldable pub measured : Spots → Place → List ℕ → Result Place AsmFaultKind
-measured labels place text = statement_in labels place text >>= behind place
+measured labels place text = statement_in labels place text >>= place_behind place
 
 abbrev pub line_defined : Spots → Place → List ℕ → Defined
 line_defined labels place code = defined (length code) (here place) code (record { labels = labels; twice = false })
@@ -72,10 +72,10 @@ unfoldable pub line_laid : Spots → Place → List ℕ → Spots × (Place × O
 line_laid labels place code =
     ((line_defined labels place code).labels, outcome place (line_defined labels place code).twice (measured (line_defined labels place code).labels place (statement_text code)))
 
-abbrev pub first_of : Option AsmFault → ℕ → Option AsmFaultKind → Option AsmFault
-first_of (Some fault) line kind = Some fault
-first_of None line (Some kind) = Some (record { line = line; kind = kind })
-first_of None line None = None
+abbrev pub first_fault : Option AsmFault → ℕ → Option AsmFaultKind → Option AsmFault
+first_fault (Some fault) line kind = Some fault
+first_fault None line (Some kind) = Some (record { line = line; kind = kind })
+first_fault None line None = None
 
 -- How far a source is laid out: its lines so far, the place behind them, their labels, and the first line with a fault.
 pub record Laid : Type 0 where
@@ -84,20 +84,20 @@ pub record Laid : Type 0 where
   pub labels : Spots
   pub first : Option AsmFault
 
-abbrev pub start : Place
-start = record { section = section.Text; text_size = 0; data_size = 0 }
+abbrev pub source_start : Place
+source_start = record { section = section.Text; text_size = 0; data_size = 0 }
 
 abbrev pub nothing_laid : Laid
-nothing_laid = record { lines = 0; place = start; labels = []; first = None }
+nothing_laid = record { lines = 0; place = source_start; labels = []; first = None }
 
-unfoldable pub with_line : Laid → List ℕ → Laid
-with_line s line =
+unfoldable pub with_line_laid : Laid → List ℕ → Laid
+with_line_laid s line =
     let o = line_laid s.labels s.place (code_of line) in
-    record { lines = s.lines + 1; place = o.1.0; labels = o.0; first = first_of s.first (s.lines + 1) o.1.1 }
+    record { lines = s.lines + 1; place = o.1.0; labels = o.0; first = first_fault s.first (s.lines + 1) o.1.1 }
 
 unfoldable pub laid : Laid → List (List ℕ) → Laid
 laid s [] = s
-laid s (line ∷ lines) = laid (with_line s line) lines
+laid s (line ∷ lines) = laid (with_line_laid s line) lines
 
 -- these are the labels, the place and the first fault of what is laid out
 pub record IsLaid (labels : Spots) (place : Place) (first : Option AsmFault) (s : Laid) : Type 0 where

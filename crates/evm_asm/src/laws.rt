@@ -4,7 +4,7 @@ ghost use Rattle.std.specs.Prelude.{◌≡◌, Some};
 ghost use Rattle.std.specs.Int.{w32, from_le_bytes};
 ghost use Rattle.evm_isa.specs.Encoded.{encoded};
 ghost use Rattle.evm_words.specs.declared.mnemonic.BareOp.TheVariants.{Nop};
-ghost use Rattle.evm_statement.specs.Statements.{bare};
+ghost use Rattle.evm_statement.specs.Forms.{bare_instruction};
 ghost use Rattle.evm_asm.specs.Programs.{nop_bytes};
 ghost use Rattle.evm_asm.specs.Items.{NoFaultIsIgnored};
 ghost use Rattle.evm_asm.specs.Bounds.{ProgramsFit, WordsStand};
@@ -28,7 +28,7 @@ pub fn no_fault_is_ignored()
 
 /// What fills the text at an alignment is the word of `addi x0,x0,0`.
 pub fn nops_are_addi()
-    ensures { encoded (bare Nop) ≡ Some (from_le_bytes w32 nop_bytes) }
+    ensures { encoded (bare_instruction Nop) ≡ Some (from_le_bytes w32 nop_bytes) }
 {}
 
 /// No program has more than 16,777,216 bytes.

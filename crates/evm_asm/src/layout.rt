@@ -3,10 +3,10 @@
 ghost use Rattle.std.specs.Prelude.{◌≡◌, IfOk, IfErr, length, false};
 ghost use Rattle.std.specs.Option.{option_map};
 ghost use Rattle.evm_words.specs.declared.fault.AsmFaultKind.TheVariants.{NoMemory};
-ghost use Rattle.evm_asm.specs.Sources.{code_of, label_at, behind_labels, with_label, defined, outcome, measured, line_laid, first_of, laid, nothing_laid, lines_of, start, IsLaid};
+ghost use Rattle.evm_asm.specs.Sources.{code_of, label_at, behind_labels, with_label, defined, outcome, measured, line_laid, first_fault, laid, nothing_laid, source_lines, source_start, IsLaid};
 ghost use Rattle.evm_asm.specs.Places.{here};
 
-use crate::place::{Place, behind, here, start, statement_in};
+use crate::place::{Place, here, place_behind, source_start, statement_in};
 use evm_statement::{Labels, Spot, name_in};
 use evm_words::{AsmFault, AsmFaultKind, after, before, has, least};
 use std::alloc::{AllocError, Global};
@@ -112,7 +112,7 @@ fn measured(labels: &Labels, place: Place, text: &[u8]) -> Result<Place, AsmFaul
     ensures { result ≡ measured labels.now place text.now }
 {
     match statement_in(labels, place, text) {
-        Ok(statement) => behind(place, statement),
+        Ok(statement) => place_behind(place, statement),
         Err(kind) => Err(kind),
     }
 }
@@ -131,8 +131,8 @@ fn lay_line(
     Ok(outcome(place, twice, end))
 }
 
-fn first_of(first: Option<AsmFault>, line: u64, kind: Option<AsmFaultKind>) -> Option<AsmFault>
-    ensures { result ≡ first_of first line kind }
+fn first_fault(first: Option<AsmFault>, line: u64, kind: Option<AsmFaultKind>) -> Option<AsmFault>
+    ensures { result ≡ first_fault first line kind }
 {
     match (first, kind) {
         (Some(fault), _) => Some(fault),
@@ -152,11 +152,11 @@ pub struct Layout {
 
 /// Lays out a source.
 pub fn lay_out(alloc: Global, source: &[u8]) -> Result<Layout, AsmFault>
-    ensures laid { IfOk result (λ l. IsLaid l.labels l.place l.first (laid nothing_laid (lines_of source.now))) }
+    ensures laid { IfOk result (λ l. IsLaid l.labels l.place l.first (laid nothing_laid (source_lines source.now))) }
     ensures memory { IfErr result (λ e. e.kind ≡ NoMemory) }
 {
     let mut labels = Labels::new(alloc);
-    let mut place = start();
+    let mut place = source_start();
     let mut first = None;
     let mut lines: u64 = 0;
     let mut rest = source;
@@ -172,7 +172,7 @@ pub fn lay_out(alloc: Global, source: &[u8]) -> Result<Layout, AsmFault>
             }
         };
         lines += 1;
-        first = first_of(first, lines, fault);
+        first = first_fault(first, lines, fault);
         place = next;
         rest = after(b'\n', rest);
     }

@@ -13,7 +13,7 @@ mod program;
 mod program_laws;
 
 pub use evm_words::{AsmFault, AsmFaultKind};
-pub use fault_laws::refused_with_the_first;
+pub use fault_laws::{refused_with_the_first, refused_with_the_least};
 pub use laws::{
     every_item_has_its_word, la_loads, li_loads, no_fault_is_ignored, nops_are_addi, programs_fit,
     refused_as_meant, spelling_never_fails, words_stand,
@@ -21,7 +21,7 @@ pub use laws::{
 pub use output::ProgramLine;
 pub use place_laws::{
     all_labels_are_found, all_that_is_meant_stands, data_stands_at_its_base,
-    labels_stand_where_their_lines_do, lines_stand_where_they_are_meant, means_without_faults,
+    labels_stand_in_order, labels_stand_where_their_lines_do, lines_stand_where_they_are_meant, means_without_faults,
     numbers_stand_where_they_are_meant, refuses_the_least, sizes_are_bytes,
 };
 pub use program::{Program, assemble};

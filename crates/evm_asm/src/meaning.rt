@@ -1,14 +1,14 @@
 //! The items of a source, line by line.
 
 ghost use Rattle.std.specs.Prelude.{◌≡◌, Ok, IfOk, IfErr};
-ghost use Rattle.evm_asm.specs.Places.{behind};
+ghost use Rattle.evm_asm.specs.Places.{place_behind};
 ghost use Rattle.evm_asm.specs.Sources.{IsLaid};
-ghost use Rattle.evm_asm.specs.Items.{Gives, Refused, Tells, unless_stopped, line_told, layout_of, with_item, with_instructions, number_pushed, with_numbers, operands, with_statement, statement_meant, line_meant, refusal, stop_at, lines_meant, meaning_of};
+ghost use Rattle.evm_asm.specs.Items.{IsMeant, Refused, Tells, unless_stopped, line_or_fault, layout_of, with_item, with_instructions, number_pushed, with_numbers, operands, with_statement, statement_meant, line_meant, least_so_far, stop_at, lines_meant, meaning_of};
 
 use crate::item::{Expansion, Item, Placed, TEXT_BASE, expanded, filling, value_in};
 use crate::layout::{Layout, code_of, statement_text};
-use crate::place::{Place, behind, start, statement_in};
-use evm_statement::{Labels, Statement, first};
+use crate::place::{Place, place_behind, source_start, statement_in};
+use evm_statement::{Labels, Statement, first_operand, other_operands};
 use evm_words::{
     AsmFault, AsmFaultKind, Section, Width, after, before, behind_word, least, skip_blanks,
 };
@@ -22,7 +22,7 @@ pub enum Stop {
 }
 
 fn push_item(items: &mut Vec<Placed>, section: Section, item: Item) -> Result<(), Stop>
-    ensures { Gives (λ _. items.new.items) result (Ok (with_item section item items.old.items)) }
+    ensures { IsMeant (λ _. items.new.items) result (Ok (with_item section item items.old.items)) }
 {
     match items.push(Placed { section, item }) {
         Ok(()) => Ok(()),
@@ -32,7 +32,7 @@ fn push_item(items: &mut Vec<Placed>, section: Section, item: Item) -> Result<()
 
 #[tactic(auto, unfolding(crate::specs::Items::with_instructions))]
 fn push_instructions(items: &mut Vec<Placed>, line: u64, expansion: Expansion) -> Result<(), Stop>
-    ensures { Gives (λ _. items.new.items) result (Ok (with_instructions line expansion items.old.items)) }
+    ensures { IsMeant (λ _. items.new.items) result (Ok (with_instructions line expansion items.old.items)) }
 {
     match expansion {
         Expansion::Empty => Ok(()),
@@ -59,7 +59,7 @@ fn push_number(
     width: Width,
     text: &[u8],
 ) -> Result<(), Stop>
-    ensures { Gives (λ _. items.new.items) result (number_pushed labels.now text_size section width text.now items.old.items) }
+    ensures { IsMeant (λ _. items.new.items) result (number_pushed labels.now text_size section width text.now items.old.items) }
 {
     match value_in(labels, text_size, width, text) {
         Ok(value) => push_item(items, section, Item::Number(width, value)),
@@ -76,12 +76,19 @@ fn push_numbers(
     count: u64,
     text: &[u8],
 ) -> Result<(), Stop>
-    ensures { Gives (λ _. items.new.items) result (with_numbers labels.now text_size section width count text.now items.old.items) }
+    ensures { IsMeant (λ _. items.new.items) result (with_numbers labels.now text_size section width count text.now items.old.items) }
 {
     let mut rest = text;
     for _ in 0..count {
-        match push_number(items, labels, text_size, section, width, first(rest)) {
-            Ok(()) => rest = after(b',', rest),
+        match push_number(
+            items,
+            labels,
+            text_size,
+            section,
+            width,
+            first_operand(rest),
+        ) {
+            Ok(()) => rest = other_operands(rest),
             Err(stop) => return Err(stop),
         }
     }
@@ -98,7 +105,7 @@ fn push_statement(
     text: &[u8],
     statement: &Statement,
 ) -> Result<(), Stop>
-    ensures { Gives (λ _. items.new.items) result (with_statement labels.now text_size line place text.now statement.now items.old.items) }
+    ensures { IsMeant (λ _. items.new.items) result (with_statement labels.now text_size line place text.now statement.now items.old.items) }
 {
     match *statement {
         Statement::Numbers { width, count } => {
@@ -117,10 +124,10 @@ fn push_statement(
     }
 }
 
-fn place_behind(place: Place, statement: &Statement) -> Result<Place, Stop>
-    ensures { Gives (λ next. next) result (behind place statement.now) }
+fn next_place(place: Place, statement: &Statement) -> Result<Place, Stop>
+    ensures { IsMeant (λ next. next) result (place_behind place statement.now) }
 {
-    match behind(place, *statement) {
+    match place_behind(place, *statement) {
         Ok(next) => Ok(next),
         Err(kind) => Err(Stop::Fault(kind)),
     }
@@ -137,10 +144,10 @@ fn push_placed(
     text: &[u8],
     statement: &Statement,
 ) -> Result<Place, Stop>
-    ensures { Gives (λ next. (next, items.new.items)) result (statement_meant labels.now text_size line place text.now statement.now items.old.items) }
+    ensures { IsMeant (λ next. (next, items.new.items)) result (statement_meant labels.now text_size line place text.now statement.now items.old.items) }
 {
     match push_statement(items, labels, text_size, line, place, text, statement) {
-        Ok(()) => place_behind(place, statement),
+        Ok(()) => next_place(place, statement),
         Err(stop) => Err(stop),
     }
 }
@@ -155,7 +162,7 @@ fn push_line(
     place: Place,
     text: &[u8],
 ) -> Result<Place, Stop>
-    ensures { Gives (λ next. (next, items.new.items)) result (line_meant labels.now text_size line place text.now items.old.items) }
+    ensures { IsMeant (λ next. (next, items.new.items)) result (line_meant labels.now text_size line place text.now items.old.items) }
 {
     match statement_in(labels, place, text) {
         Ok(statement) => push_placed(items, labels, text_size, line, place, text, &statement),
@@ -164,8 +171,8 @@ fn push_line(
 }
 
 /// The fault of a line whose labels cause one, beside what was found before.
-fn refusal(first: Option<AsmFault>, line: u64, kind: AsmFaultKind) -> AsmFault
-    ensures { result ≡ refusal first line kind }
+fn least_so_far(first: Option<AsmFault>, line: u64, kind: AsmFaultKind) -> AsmFault
+    ensures { result ≡ least_so_far first line kind }
 {
     match first {
         None => AsmFault { line, kind },
@@ -208,7 +215,7 @@ fn unless_stopped(stop: Option<AsmFault>, place: Place) -> Result<Place, AsmFaul
 }
 
 /// Adds the items of a line; the place behind it, or the least of its faults.
-#[tactic(auto, unfolding(crate::specs::Items::line_told))]
+#[tactic(auto, unfolding(crate::specs::Items::line_or_fault))]
 fn push_told(
     items: &mut Vec<Placed>,
     layout: &Layout,
@@ -216,7 +223,7 @@ fn push_told(
     place: Place,
     code: &[u8],
 ) -> Result<Place, AsmFault>
-    ensures { Tells (λ next. (next, items.new.items)) result (line_told layout.now.labels layout.now.place.text_size layout.now.first line place code.now items.old.items) }
+    ensures { Tells (λ next. (next, items.new.items)) result (line_or_fault layout.now.labels layout.now.place.text_size layout.now.first line place code.now items.old.items) }
 {
     let text_size = layout.place.text_size;
     match push_line(
@@ -232,7 +239,7 @@ fn push_told(
             line,
             kind: AsmFaultKind::NoMemory,
         }),
-        Err(Stop::Fault(kind)) => Err(refusal(layout.first, line, kind)),
+        Err(Stop::Fault(kind)) => Err(least_so_far(layout.first, line, kind)),
     }
 }
 
@@ -242,7 +249,7 @@ pub fn meaning(alloc: Global, source: &[u8], layout: &Layout) -> Result<Vec<Plac
     ensures { Tells (λ v. v.items) result (meaning_of source.now) }
 {
     let mut items = Vec::new(alloc);
-    let mut place = start();
+    let mut place = source_start();
     let mut lines: u64 = 0;
     let mut rest = source;
     while !rest.is_empty() {

@@ -1,11 +1,11 @@
 //! The words and bytes of what a source means.
 
 ghost use Rattle.std.specs.Prelude.{◌≡◌, ◌≤◌, Ok, [], length, IfOk, OnOk, IfErr, IsOk};
-ghost use Rattle.evm_asm.specs.Items.{Tells, Gives};
+ghost use Rattle.evm_asm.specs.Items.{Tells, IsMeant};
 ghost use Rattle.evm_words.specs.declared.fault.AsmFaultKind.TheVariants.{NoMemory};
 ghost use Rattle.evm_isa.specs.Encoded.{encoded};
 ghost use Rattle.evm_asm.specs.Views.{view};
-ghost use Rattle.evm_asm.specs.Programs.{Spelled, nothing_spelled, with_bytes, repeated, with_repeated, number_bytes, nop_bytes, with_word, worded, spelled_item, spelled, image_of};
+ghost use Rattle.evm_asm.specs.Programs.{Spelled, nothing_spelled, with_bytes, repeated, with_repeated, number_bytes, nop_bytes, with_word, worded, spelled_item, spelled, program_bytes};
 ghost use Rattle.evm_asm.specs.Places.{bytes_in};
 
 use crate::item::{Item, Placed, TEXT_BASE};
@@ -159,7 +159,7 @@ pub fn spell(alloc: Global, items: &[Placed]) -> Result<Output, AsmFault>
 
 /// The bytes of a program: the text, and where there is data zeros up to a multiple of 4,096, and the data.
 pub fn image(text: Vec<u8>, data_bytes: &[u8]) -> Result<Vec<u8>, AllocError>
-    ensures { IfOk result (λ v. v.items ≡ image_of text.items data_bytes.now) }
+    ensures { IfOk result (λ v. v.items ≡ program_bytes text.items data_bytes.now) }
 {
     if data_bytes.is_empty() {
         return Ok(text);

@@ -1,15 +1,15 @@
 //! Where a label is, how far a program has come, and how many bytes a statement takes.
 
 ghost use Rattle.std.specs.Prelude.{◌≡◌, ◌≤◌, ◌<◌};
-ghost use Rattle.evm_asm.specs.Places.{offset, here, farther, grown, is_small, low_word, low_part, high_part, needs_low_part, bytes_in, padding, load_size, size_at, behind, is_directive, may_stand, placed, statement_in};
-ghost use Rattle.evm_statement.specs.Statements.{upper};
-ghost use Rattle.evm_asm.specs.Sources.{start};
+ghost use Rattle.evm_asm.specs.Places.{offset, here, farther, grown, is_small, low_word, low_part, high_part, needs_low_part, bytes_in, padding, load_size, size_at, place_behind, is_directive, may_stand, placed, statement_in};
+ghost use Rattle.evm_statement.specs.Operands.{upper};
+ghost use Rattle.evm_asm.specs.Sources.{source_start};
 
 use evm_isa::Shift;
 use evm_statement::{Labels, Spot, Statement, also, starts_with_name, statement_of, upper};
 use evm_words::{
-    AsmFaultKind, Mnemonic, Section, Width, behind_word, is_sound, mnemonic_named, skip_blanks,
-    word,
+    AsmFaultKind, Mnemonic, Section, Width, behind_word, first_word, is_sound, mnemonic_named,
+    skip_blanks,
 };
 
 /// How far a program has come: the section in force, and the bytes of each so far.
@@ -34,8 +34,8 @@ pub fn offset(place: Place) -> u64
 }
 
 /// The place where a program begins.
-pub fn start() -> Place
-    ensures { result ≡ start }
+pub fn source_start() -> Place
+    ensures { result ≡ source_start }
 {
     Place {
         section: Section::Text,
@@ -165,9 +165,9 @@ fn size_at(offset: u64, statement: Statement) -> u64
 }
 
 /// The place behind a statement.
-#[tactic(auto, unfolding(crate::specs::Places::behind))]
-pub fn behind(place: Place, statement: Statement) -> Result<Place, AsmFaultKind>
-    ensures { result ≡ behind place statement }
+#[tactic(auto, unfolding(crate::specs::Places::place_behind))]
+pub fn place_behind(place: Place, statement: Statement) -> Result<Place, AsmFaultKind>
+    ensures { result ≡ place_behind place statement }
 {
     match statement {
         Statement::Section(section) => Ok(Place { section, ..place }),
@@ -228,7 +228,7 @@ pub fn statement_in(labels: &Labels, place: Place, text: &[u8]) -> Result<Statem
     if !starts_with_name(statement) {
         return Err(AsmFaultKind::BadToken);
     }
-    match mnemonic_named(word(statement)) {
+    match mnemonic_named(first_word(statement)) {
         Some(mnemonic) => {
             let reading = statement_of(labels, mnemonic, behind_word(statement));
             also(reading, placed(mnemonic, place))

@@ -1,7 +1,7 @@
 //! Where the lines of a source stand. The functions do nothing: their contracts are the laws.
 
 ghost use Rattle.evm_asm.specs.Least.{RefusesTheLeast, MeansWithoutFaults};
-ghost use Rattle.evm_asm.specs.Sizes.{SizesAreBytes, DataStandsAtItsBase, LinesStandWhereTheyAreMeant, AllThatIsMeantStands, LabelsStandWhereTheirLinesDo, AllLabelsAreFound, NumbersStandWhereTheyAreMeant};
+ghost use Rattle.evm_asm.specs.Sizes.{SizesAreBytes, DataStandsAtItsBase, LinesStandWhereTheyAreMeant, AllThatIsMeantStands, LabelsStandWhereTheirLinesDo, AllLabelsAreFound, LabelsStandInOrder, NumbersStandWhereTheyAreMeant};
 
 /// The sizes by which the lines and labels of a source are placed are those of the bytes that it becomes.
 pub fn sizes_are_bytes()
@@ -32,6 +32,11 @@ pub fn labels_stand_where_their_lines_do()
 /// A program has each label of its source.
 pub fn all_labels_are_found()
     ensures { AllLabelsAreFound }
+{}
+
+/// A program's labels are in the order of the source, each once.
+pub fn labels_stand_in_order()
+    ensures { LabelsStandInOrder }
 {}
 
 /// The bytes of each number of a line stand from the line's place on.

@@ -7,7 +7,7 @@ ghost use Rattle.evm_asm.specs.Items.{Tells};
 ghost use Rattle.evm_words.specs.Names.{named};
 ghost use Rattle.evm_asm.specs.Assembled.{assembled, program_of, IsWorded, StandsIn};
 ghost use Rattle.evm_asm.specs.Views.{view};
-ghost use Rattle.evm_asm.specs.Programs.{image_of};
+ghost use Rattle.evm_asm.specs.Programs.{program_bytes};
 ghost use Rattle.evm_asm.specs.Bounds.{bytes_max};
 
 use crate::item::address;
@@ -80,7 +80,7 @@ impl Program {
 }
 
 fn finished(layout: Layout, out: Output) -> Result<Program, AllocError>
-    requires { length (image_of (view out).text_bytes (view out).data_bytes) ≤ bytes_max }
+    requires { length (program_bytes (view out).text_bytes (view out).data_bytes) ≤ bytes_max }
     ensures { IfOk result (λ p. p ≡ assembled layout.place.text_size layout.labels (view out)) }
 {
     let Output {

@@ -5,7 +5,7 @@ use Rattle.evm_asm.specs.declared.output.ProgramLine.{ProgramLine}
 use Rattle.evm_asm.specs.Assembled.{StandsIn}
 use Rattle.evm_asm.specs.Bounds.{ProgramsFit, WordsStand}
 use Rattle.evm_image.specs.Images.{Contents, byte_at, range_start}
-use Rattle.evm_elf.specs.Files.{program_of}
+use Rattle.evm_elf.specs.Files.{image_of_bytes}
 use Rattle.evm_elf.specs.Programs.{AssembledIsRead, Holds, WordsAreLoaded}
 use Rattle.evm_elf.proofs.Written.{no_fault, image_is, memory_is}
 
@@ -16,13 +16,13 @@ at_start : (address i : ℕ) → range_start ≤ address → address + i ≡ ran
 at_start address i h = omega arith
 
 -- a line's bytes in memory
-line_held : (bytes : List ℕ) (l : ProgramLine) → StandsIn bytes l → Holds (program_of bytes) l
+line_held : (bytes : List ℕ) (l : ProgramLine) → StandsIn bytes l → Holds (image_of_bytes bytes) l
 line_held bytes l h i few =
     let k : ℕ = l.address - range_start in
-    ap (byte_at (program_of bytes)) (at_start l.address i h.above) ∙ memory_is bytes (k + i)
+    ap (byte_at (image_of_bytes bytes)) (at_start l.address i h.above) ∙ memory_is bytes (k + i)
     ∙ sym (get_or-drop k bytes i 0) ∙ sym (get_or-take 4 (drop k bytes) i 0 few) ∙ ap (λ (b : List ℕ). get_or b i 0) h.bytes_are
 
 pub words_loaded : ProgramsFit → WordsStand → WordsAreLoaded
 words_loaded fit stand source p h = λ k d inside.
-    let held : Holds (program_of p.bytes) (get_or p.lines k d) = line_held p.bytes (get_or p.lines k d) (stand source p h k d inside) in
+    let held : Holds (image_of_bytes p.bytes) (get_or p.lines k d) = line_held p.bytes (get_or p.lines k d) (stand source p h k d inside) in
     subst (λ (image : Contents). Holds image (get_or p.lines k d)) (sym (assembled_read fit source p h).1) held

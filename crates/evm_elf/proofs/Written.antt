@@ -11,7 +11,7 @@ use Rattle.std.specs.List.{list_any, filter_map, find, AllByRecursion}
 use Rattle.std.proofs.lemmas.Bool.{cases_lt, or_from, and_right, and_from, lt-ltb, le-leb, le-ltb, cond-false, not_from_true}
 use Rattle.evm_image.specs.Images.{Loaded, Contents, covers, byte_at, range_start, range_end}
 use Rattle.evm_elf.specs.Faults.{load_of, loads, is_dynamic, is_outside, passes_end, leaves_range, is_overfull, share, some_two, has_other_class, has_other_kind, has_other_header_size, is_entry, segment_of, applies, faults, fault_of, image_of}
-use Rattle.evm_elf.specs.Files.{file_of, program_of}
+use Rattle.evm_elf.specs.Files.{file_of, image_of_bytes}
 
 length_file : (bytes : List ℕ) → length (file_of bytes) ≡ 120 + length bytes
 unfolding file_of
@@ -115,7 +115,7 @@ no_fault bytes few =
     none_found (applies file) faults
     (le-ltb _ _ (omega arith), (fields.0, (fields.1, (fields.2, (fields.3, (fields.4, (dynamic, (outside, (overlap, (sizes, (not_from_true _ fields.6, tt)))))))))))
 
-pub image_is : (bytes : List ℕ) → length bytes < 2 ^ 64 → image_of (file_of bytes) ≡ program_of bytes
+pub image_is : (bytes : List ℕ) → length bytes < 2 ^ 64 → image_of (file_of bytes) ≡ image_of_bytes bytes
 unfolding image_of the_header
 image_is bytes few =
     let file = file_of bytes in
@@ -127,7 +127,7 @@ image_is bytes few =
     ∙ ap (λ b. make range_start (record { address = range_start; bytes = b; memsz = length bytes } ∷ [])) own)
 
 -- the program's bytes in memory
-pub memory_is : (bytes : List ℕ) (i : ℕ) → byte_at (program_of bytes) (range_start + i) ≡ slice_index bytes i
+pub memory_is : (bytes : List ℕ) (i : ℕ) → byte_at (image_of_bytes bytes) (range_start + i) ≡ slice_index bytes i
 memory_is bytes i = elim (cases_lt i (length bytes)) [
   | inl less ↦
       let above : leb range_start (range_start + i) ≡ true = le-leb _ _ (omega arith) in

@@ -46,8 +46,8 @@ unfoldable pub file_of : List ℕ → List ℕ
 file_of bytes = file_header ++ load_header (length bytes) ++ bytes
 
 -- the image of these bytes
-abbrev pub program_of : List ℕ → Contents
-program_of bytes = record {
+abbrev pub image_of_bytes : List ℕ → Contents
+image_of_bytes bytes = record {
   entry = range_start;
   segments = record { address = range_start; bytes = bytes; memsz = length bytes } ∷ [];
 }

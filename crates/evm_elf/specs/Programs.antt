@@ -6,11 +6,11 @@ use Rattle.evm_asm.specs.Assembled.{Assembled}
 use Rattle.evm_asm.specs.Assembled.{program_of as assembled_of}
 use Rattle.evm_image.specs.Images.{Contents, byte_at}
 use Rattle.evm_elf.specs.Faults.{fault_of, image_of}
-use Rattle.evm_elf.specs.Files.{file_of, program_of}
+use Rattle.evm_elf.specs.Files.{file_of, image_of_bytes}
 
 -- The file of every assembled program has no fault, and its image is one segment of the program's bytes at the start of the range.
 abbrev pub AssembledIsRead : Type 0
-AssembledIsRead = (source : List ℕ) (p : Assembled) → assembled_of source ≡ Ok p → (fault_of (file_of p.bytes) ≡ None) × (image_of (file_of p.bytes) ≡ program_of p.bytes)
+AssembledIsRead = (source : List ℕ) (p : Assembled) → assembled_of source ≡ Ok p → (fault_of (file_of p.bytes) ≡ None) × (image_of (file_of p.bytes) ≡ image_of_bytes p.bytes)
 
 -- The four bytes from a line's address on are those of its word, the lowest first.
 abbrev pub Holds : Contents → ProgramLine → Type 0

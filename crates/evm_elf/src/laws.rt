@@ -3,7 +3,7 @@
 ghost use Rattle.std.specs.Prelude.{◌≡◌, ◌≤◌, ◌+◌, ◌↔◌, ℕ, List, length, slice_index, true, Some, None};
 ghost use Rattle.evm_elf.specs.declared.fault.ElfFault.TheVariants.{SegmentOverlap};
 ghost use Rattle.evm_image.specs.Images.{byte_at, range_start, IsSound};
-ghost use Rattle.evm_elf.specs.Files.{file_of, program_of};
+ghost use Rattle.evm_elf.specs.Files.{file_of, image_of_bytes};
 ghost use Rattle.evm_elf.specs.Programs.{AssembledIsRead, WordsAreLoaded};
 ghost use Rattle.evm_elf.specs.declared.writing.TheConstants.{PROGRAM_MAX};
 ghost use Rattle.evm_elf.specs.Faults.{applies, fault_of, image_of, IsTakenTwice, loads};
@@ -25,8 +25,8 @@ pub fn overlap_is_shared_address()
 /// segment of these bytes at the start of the range, where the program begins.
 pub fn written_is_read()
     ensures accepted { (bytes : List ℕ) → length bytes ≤ PROGRAM_MAX → fault_of (file_of bytes) ≡ None }
-    ensures image { (bytes : List ℕ) → length bytes ≤ PROGRAM_MAX → image_of (file_of bytes) ≡ program_of bytes }
-    ensures bytes { (bytes : List ℕ) (i : ℕ) → byte_at (program_of bytes) (range_start + i) ≡ slice_index bytes i }
+    ensures image { (bytes : List ℕ) → length bytes ≤ PROGRAM_MAX → image_of (file_of bytes) ≡ image_of_bytes bytes }
+    ensures bytes { (bytes : List ℕ) (i : ℕ) → byte_at (image_of_bytes bytes) (range_start + i) ≡ slice_index bytes i }
 {}
 
 /// What `write_image` writes of the program of a source is read again as that program: the file has no fault,

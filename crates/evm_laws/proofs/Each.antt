@@ -6,11 +6,11 @@ use Rattle.evm_words.specs.declared.mnemonic.Section.{Section as Part}
 use Rattle.evm_words.specs.declared.mnemonic.Section.TheVariants.{Text, Data}
 use Rattle.evm_statement.specs.declared.statement.Statement.{Statement}
 use Rattle.evm_statement.specs.declared.statement.Statement.TheVariants.{LoadImmediate, LoadAddress}
-use Rattle.evm_asm.specs.Items.{address, address_in, expanded, load_address, load_address_by, load_immediate, layout_of}
+use Rattle.evm_asm.specs.Items.{address, address_of_offset, expanded, load_address, load_address_by, load_immediate, layout_of}
 use Rattle.evm_asm.specs.Loading.{LoadsImmediate, LoadsAddress}
 use Rattle.evm_asm.specs.Places.{load_size}
 use Rattle.evm_asm.specs.Sizes.{Says, place_before, size_of_text}
-use Rattle.evm_asm.specs.Sources.{code_of, lines_of, statement_text}
+use Rattle.evm_asm.specs.Sources.{code_of, source_lines, statement_text}
 use Rattle.evm_asm.specs.declared.item.Expansion.{Expansion}
 use Rattle.evm_exec.specs.Numbers.{extended}
 use Rattle.evm_laws.specs.Pseudo.{EachLiLoads, EachLaLoads, OperandsAreInRange, expansion_after, loaded}
@@ -21,7 +21,7 @@ use Rattle.evm_laws.proofs.Statements_read.{CanLoad, statement_in_loads}
 can_load : (source : List ℕ) (n : ℕ) (statement : Statement) → Says source n statement → CanLoad statement
 can_load source n statement says =
     IfOk-at_ok CanLoad says.reads
-    (statement_in_loads (layout_of source).labels (place_before source n) (statement_text (code_of says.line)) (all_bounded (lines_of source)).labels)
+    (statement_in_loads (layout_of source).labels (place_before source n) (statement_text (code_of says.line)) (all_bounded (source_lines source)).labels)
 
 pub same_expansion : (a b : Expansion) → ◌≡◌ {A = Result Expansion AsmFaultKind} (Ok a) (Ok b) → a ≡ b
 same_expansion a b e = cc
@@ -42,7 +42,7 @@ each_li_loads law source n rd value expansion hart b registers =
 
 -- where a label can be
 address_near : (text_size offset : ℕ) (part : Part) → text_size ≤ 8388608 → offset ≤ 8388608
-    → (2147483648 ≤ address_in text_size part offset) × (address_in text_size part offset ≤ 2164264959)
+    → (2147483648 ≤ address_of_offset text_size part offset) × (address_of_offset text_size part offset ≤ 2164264959)
 address_near text_size offset Text h k = (omega arith, omega arith)
 address_near text_size offset Data h k = (omega arith, omega arith)
 
@@ -51,8 +51,8 @@ unfolding expanded load_address
 each_la_loads law source n rd spot expansion hart b registers pc =
     let fits : CanLoad (LoadAddress rd (Some spot)) = can_load source n (LoadAddress rd (Some spot)) b.says in
     let target : ℕ = address (size_of_text source) spot in
-    let whole = all_bounded (lines_of source) in
-    let before = all_bounded (take (n - 1) (lines_of source)) in
+    let whole = all_bounded (source_lines source) in
+    let before = all_bounded (take (n - 1) (source_lines source)) in
     let near = address_near (size_of_text source) spot.offset spot.section whole.place.text fits.1 in
     let is : load_address_by rd ((target + 4294967296 - hart.pc) % 4294967296) ≡ expansion =
     ap (λ (at : ℕ). load_address_by rd ((target + 4294967296 - at) % 4294967296)) pc ∙ same_expansion _ expansion b.becomes in

@@ -13,7 +13,7 @@ use Rattle.evm_statement.specs.declared.statement.Statement.TheVariants.{LoadImm
 use Rattle.evm_asm.specs.Assembled.{Assembled, IsWorded, program_of}
 use Rattle.evm_asm.specs.Items.{address, expanded, load_address, load_immediate}
 use Rattle.evm_asm.specs.Places.{is_small, needs_low_part, low_word, high_part, load_size}
-use Rattle.evm_asm.specs.Sources.{lines_of}
+use Rattle.evm_asm.specs.Sources.{source_lines}
 use Rattle.evm_asm.specs.ProgramLaws.{LinesAreWorded}
 use Rattle.evm_asm.specs.Sizes.{AllThatIsMeantStands, IsAmong, address_of_line, size_of_text}
 use Rattle.evm_asm.specs.declared.item.Expansion.{Expansion}
@@ -119,7 +119,7 @@ module _ (law : (w : ℕ) (i : Inst) → w < 2 ^ 32 → (decoded w ≡ Some i) �
     pub line_executed : (source : List ℕ) (p : Assembled) (n : ℕ) (statement : Statement) (e : Expansion) (c t : ℕ) (hart : Hart) (b : Board) (f : Hart → Hart)
         → Becomes source n statement e → GoesOn e → ComesTo source p n t hart b → expansion_after e hart ≡ Some (f hart) → all_executed e c t b ≡ on_parts (on_hart t f) b
     line_executed source p n statement e c t hart b f becomes on h is =
-        let near = (all_bounded (take (n - 1) (lines_of source))).place.text in
+        let near = (all_bounded (take (n - 1) (source_lines source))).place.text in
         all e (address_of_line source n) c t hart b (f hart) on (omega (arith, near)) h.pc h.there (stands source p n statement e b.memory h.assembled becomes h.words) is
         ∙ sym (change_known t f hart b h.there)
 

@@ -11,17 +11,17 @@ use Rattle.evm_words.specs.Names.{named}
 use Rattle.evm_statement.specs.declared.spot.Spot.{Spot}
 use Rattle.evm_statement.specs.declared.statement.Statement.{Statement}
 use Rattle.evm_statement.specs.declared.statement.Statement.TheVariants.{Section}
-use Rattle.evm_statement.specs.Statements.{Spots}
+use Rattle.evm_statement.specs.Operands.{Spots}
 use Rattle.evm_asm.specs.declared.place.Place.{Place}
-use Rattle.evm_asm.specs.Places.{offset, offset_in, farther, grown, size_at, behind, here, statement_in}
-use Rattle.evm_asm.specs.Sources.{Defined, Laid, with_label, defined, label_at, outcome, measured, line_defined, line_laid, with_line, laid, nothing_laid, code_of, statement_text}
+use Rattle.evm_asm.specs.Places.{offset, section_size, farther, grown, size_at, place_behind, here, statement_in}
+use Rattle.evm_asm.specs.Sources.{Defined, Laid, with_label, defined, label_at, outcome, measured, line_defined, line_laid, with_line_laid, laid, nothing_laid, code_of, statement_text}
 use Rattle.evm_laws.proofs.Operands_read.{IsNear, AreNear}
 
 pub record IsLimited (place : Place) : Type 0 where
   pub text : place.text_size ≤ 8388608
   pub bytes : place.data_size ≤ 8388608
 
-farther_limited : (part : Part) (place : Place) (size : ℕ) → IsLimited place → size ≤ 8388608 - offset_in part place → IsLimited (farther part place size)
+farther_limited : (part : Part) (place : Place) (size : ℕ) → IsLimited place → size ≤ 8388608 - section_size part place → IsLimited (farther part place size)
 farther_limited Text place size h k = record { text = omega arith; bytes = h.bytes }
 farther_limited Data place size h k = record { text = h.text; bytes = omega arith }
 
@@ -33,8 +33,8 @@ grown_limited place size h = by_size (nat_le size (8388608 - offset place)) refl
     by_size true e = farther_limited place.section place size h (leb-true _ _ e)
     by_size false e = tt
 
-behind_limited : (place : Place) (statement : Statement) → IsLimited place → IfOk (behind place statement) IsLimited
-unfolding behind
+behind_limited : (place : Place) (statement : Statement) → IsLimited place → IfOk (place_behind place statement) IsLimited
+unfolding place_behind
 behind_limited place (Section part) h = record { text = h.text; bytes = h.bytes }
 behind_limited place statement h = grown_limited place (size_at (offset place) statement) h
 
@@ -42,7 +42,7 @@ measured_limited : (labels : Spots) (place : Place) (text : List ℕ) → IsLimi
 unfolding measured
 measured_limited labels place text h = by_reading (statement_in labels place text)
   where
-    by_reading : (r : Result Statement AsmFaultKind) → IfOk (r >>= behind place) IsLimited
+    by_reading : (r : Result Statement AsmFaultKind) → IfOk (r >>= place_behind place) IsLimited
     by_reading (Ok statement) = behind_limited place statement h
     by_reading (Err e) = tt
 
@@ -57,7 +57,7 @@ outcome_limited place true (Err kind) h k = h
 here_near : (place : Place) → IsLimited place → IsNear (here place)
 here_near place h = by_section place.section
   where
-    by_section : (part : Part) → offset_in part place ≤ 8388608
+    by_section : (part : Part) → section_size part place ≤ 8388608
     by_section Text = h.text
     by_section Data = h.bytes
 
@@ -91,8 +91,8 @@ pub record IsBounded (s : Laid) : Type 0 where
   pub place : IsLimited s.place
   pub labels : AreNear s.labels
 
-line_bounded : (s : Laid) (line : List ℕ) → IsBounded s → IsBounded (with_line s line)
-unfolding with_line line_laid
+line_bounded : (s : Laid) (line : List ℕ) → IsBounded s → IsBounded (with_line_laid s line)
+unfolding with_line_laid line_laid
 line_bounded s line h =
     let code = code_of line in
     let d = line_defined s.labels s.place code in
@@ -104,7 +104,7 @@ line_bounded s line h =
 laid_bounded : (s : Laid) (lines : List (List ℕ)) → IsBounded s → IsBounded (laid s lines)
 unfolding laid
 laid_bounded s [] h = h
-laid_bounded s (line ∷ lines) h = laid_bounded (with_line s line) lines (line_bounded s line h)
+laid_bounded s (line ∷ lines) h = laid_bounded (with_line_laid s line) lines (line_bounded s line h)
 
 pub all_bounded : (lines : List (List ℕ)) → IsBounded (laid nothing_laid lines)
 all_bounded lines = laid_bounded nothing_laid lines (record { place = record { text = omega arith; bytes = omega arith }; labels = tt })

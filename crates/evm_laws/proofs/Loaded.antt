@@ -6,7 +6,7 @@ use Rattle.std.proofs.lemmas.List.{set-set}
 use Rattle.evm_isa.specs.declared.inst.ImmediateOp.TheVariants.{Addi, Addiw}
 use Rattle.evm_isa.specs.declared.inst.Inst.TheVariants.{Lui, Auipc, Immediate}
 use Rattle.evm_asm.specs.Items.{load_immediate}
-use Rattle.evm_asm.specs.Loading.{register_of as in_register, sign_extended, left_by, LoadsImmediate, LoadsAddress}
+use Rattle.evm_asm.specs.Loading.{in_register, sign_extended, left_in_register, LoadsImmediate, LoadsAddress}
 use Rattle.evm_asm.specs.Places.{is_small, low_word, low_part, high_part, needs_low_part, load_size}
 use Rattle.evm_asm.specs.declared.item.Expansion.TheVariants.{Single, Double}
 use Rattle.evm_exec.specs.Does.{does}
@@ -95,7 +95,7 @@ small_alone rd i hart v e = ap (λ (x : ℕ). hart_with (with_register hart.regs
 
 -- li, by what its parts are
 number_left : (rd : ℕ) (value hi lo : ℤ) (hart : Hart) → rd < length hart.regs → extended value ≡ in_register value → extended hi ≡ in_register hi → (t u : Bool)
-    → left_by (cond t (Single (Immediate Addi rd 0 value)) (cond u (Double (Lui rd hi) (Immediate Addiw rd rd lo)) (Single (Lui rd hi)))) hart.pc ≡ in_register value
+    → left_in_register (cond t (Single (Immediate Addi rd 0 value)) (cond u (Double (Lui rd hi) (Immediate Addiw rd rd lo)) (Single (Lui rd hi)))) hart.pc ≡ in_register value
     → expansion_after (cond t (Single (Immediate Addi rd 0 value)) (cond u (Double (Lui rd hi) (Immediate Addiw rd rd lo)) (Single (Lui rd hi)))) hart
     ≡ Some (loaded rd (extended value) (cond t 4 (cond u 8 4)) hart)
 number_left rd value hi lo hart h same high true u e = small_alone rd value hart (extended value) (same_sum 0 value ∙ e ∙ sym same)

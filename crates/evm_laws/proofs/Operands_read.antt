@@ -5,11 +5,10 @@ use Rattle.std.proofs.lemmas.Bool.{ltb-true, leb-true, and_parts}
 use Rattle.std.proofs.lemmas.Int.{ints}
 use Rattle.evm_words.specs.declared.fault.AsmFaultKind.{AsmFaultKind}
 use Rattle.evm_words.specs.declared.fault.AsmFaultKind.TheVariants.{RangeOfImmediate}
-use Rattle.evm_words.specs.Names.{named, or_else, register_named, fixed_registers, argument_registers, saved_registers, temporary_registers, registers_to_7, registers_to_15, registers_to_23, registers_to_31}
+use Rattle.evm_words.specs.Names.{named, register_named, registers, fixed_registers, argument_registers, saved_registers, temporary_registers, registers_to_7, registers_to_15, registers_to_23, registers_to_31}
 use Rattle.evm_statement.specs.declared.operand.Number.{Number}
 use Rattle.evm_statement.specs.declared.spot.Spot.{Spot}
-use Rattle.evm_statement.specs.Operands.{register_in, named_register, known, name_in, label_in, labelled, number_in, integer, ranged, integer_in}
-use Rattle.evm_statement.specs.Statements.{Spots}
+use Rattle.evm_statement.specs.Operands.{register_in, named_register, known, name_in, label_in, labelled, number_in, integer, ranged, integer_in, Spots}
 
 abbrev pub IsRegister : ℕ → Type 0
 IsRegister r = r < 32
@@ -28,25 +27,13 @@ found (e ∷ es) name h =
     let p = and_parts (nat_lt e.1 32) (all_registers es) h in
     picked IsRegister (bytes_eq name e.0) e.1 (named es name) (ltb-true e.1 32 p.0) (found es name p.1)
 
-or_found : (es : List (List ℕ × ℕ)) (name : List ℕ) (others : Option ℕ) → all_registers es ≡ true → IfSome others IsRegister
-    → IfSome (or_else (named es name) (λ n. n) others) IsRegister
-or_found es name others h k = either (named es name) others (found es name h) k
-  where
-    either : (o others : Option ℕ) → IfSome o IsRegister → IfSome others IsRegister → IfSome (or_else o (λ n. n) others) IsRegister
-    either (Some n) others h k = h
-    either None others h k = k
+all_below : all_registers registers ≡ true
+unfolding registers fixed_registers argument_registers saved_registers temporary_registers registers_to_7 registers_to_15 registers_to_23 registers_to_31
+all_below = refl
 
 named_below : (name : List ℕ) → IfSome (register_named name) IsRegister
-unfolding register_named fixed_registers argument_registers saved_registers temporary_registers registers_to_7 registers_to_15 registers_to_23 registers_to_31
-named_below name =
-    or_found fixed_registers name _ refl (
-    or_found argument_registers name _ refl (
-    or_found saved_registers name _ refl (
-    or_found temporary_registers name _ refl (
-    or_found registers_to_7 name _ refl (
-    or_found registers_to_15 name _ refl (
-    or_found registers_to_23 name _ refl (
-    found registers_to_31 name refl)))))))
+unfolding register_named
+named_below name = found registers name all_below
 
 known_below : (o : Option ℕ) → IfSome o IsRegister → IfOk (known o) IsRegister
 known_below (Some r) h = h
@@ -72,9 +59,9 @@ tested : {A E : Type 0} (P : A → Type 0) (t : Bool) (x : A) (e : E) → (t ≡
 tested P true x e h = h refl
 tested P false x e h = tt
 
-integer_within : (n : Number) → IfOk (integer 2147483648 2147483647 n) IsInRange
+number_within : (n : Number) → IfOk (integer 2147483648 2147483647 n) IsInRange
 unfolding integer
-integer_within n =
+number_within n =
     by_sign n.negative _ _
     (tested IsInRange (nat_le n.size 2147483648) (neg_ℤ (pos n.size)) RangeOfImmediate (λ e. least_number n.size (leb-true _ _ e)))
     (tested IsInRange (nat_le n.size 2147483647) (pos n.size) RangeOfImmediate (λ e. let small : n.size ≤ 2147483647 = leb-true _ _ e in (omega (arith, ints), omega (arith, ints))))
@@ -84,12 +71,22 @@ integer_within n =
     by_sign false r s h k = k
 
 ranged_within : (o : Option Number) → IfOk (ranged 2147483648 2147483647 o) IsInRange
-ranged_within (Some n) = integer_within n
+ranged_within (Some n) = number_within n
 ranged_within None = tt
 
-pub number_within : (text : List ℕ) → IfOk (integer_in 2147483648 2147483647 text) IsInRange
+read_within : (text : List ℕ) → IfOk (integer_in 2147483648 2147483647 text) IsInRange
 unfolding integer_in
-number_within text = ranged_within (number_in text)
+read_within text = ranged_within (number_in text)
+
+-- a number that is read in the range of li
+pub integer_within : (below above : ℕ) (text : List ℕ)
+    → IfOk (integer_in below above text) (λ n. below ≡ 2147483648 → above ≡ 2147483647 → IsInRange n)
+integer_within below above text = by_range (integer_in below above text) (λ e f. rw (e, f) (read_within text))
+  where
+    by_range : (r : Result ℤ AsmFaultKind) → (below ≡ 2147483648 → above ≡ 2147483647 → IfOk r IsInRange)
+        → IfOk r (λ n. below ≡ 2147483648 → above ≡ 2147483647 → IsInRange n)
+    by_range (Ok n) h = h
+    by_range (Err e) h = tt
 
 -- a place that a section can have
 abbrev pub IsNear : Spot → Type 0

@@ -7,7 +7,7 @@ use Rattle.std.proofs.lemmas.List.{length-replicate}
 use Rattle.std.proofs.lemmas.Option.{same_Some}
 use Rattle.evm_asm.specs.Assembled.{Assembled, IsWorded, StandsIn}
 use Rattle.evm_asm.specs.declared.output.ProgramLine.{ProgramLine}
-use Rattle.evm_elf.specs.Files.{program_of as image_of_bytes}
+use Rattle.evm_elf.specs.Files.{image_of_bytes}
 use Rattle.evm_image.specs.Images.{Loaded, byte_at, range_start}
 use Rattle.evm_ram.specs.Ram.{bytes_at}
 use Rattle.evm_ram.specs.declared.ram.TheConstants.{BASE}

@@ -3,7 +3,7 @@ use Rattle.std.specs.Prelude.{◌≡◌, ℕ, List, [], ◌++◌, ◌⊎◌, Res
 use Rattle.evm_streams.specs.declared.sink.Writing.{Writing}
 use Rattle.evm_text.specs.Written.{decimal}
 use Rattle.evm_asm.specs.Assembled.{Assembled}
-use Rattle.evm_words.specs.Faults.{number_of}
+use Rattle.evm_words.specs.Faults.{kind_number}
 use Rattle.evm_words.specs.declared.fault.AsmFault.{AsmFault}
 use Rattle.evm_elf.specs.Files.{file_of}
 use Rattle.evm_serve.specs.Told.{Told}
@@ -12,7 +12,7 @@ use Rattle.evm_serve.specs.declared.ending.Ending.{Ending}
 
 -- the report of a source that has a fault
 abbrev pub fault_text : AsmFault → List ℕ
-fault_text fault = codes "asm " ++ decimal fault.line ++ codes " " ++ decimal (number_of fault.kind) ++ codes "\n"
+fault_text fault = codes "asm " ++ decimal fault.line ++ codes " " ++ decimal (kind_number fault.kind) ++ codes "\n"
 
 abbrev pub fault_report : AsmFault → Told
 fault_report fault = record { text = fault_text fault; status = 1 }

@@ -1,12 +1,11 @@
 -- One more operand of a list.
 use Rattle.std.proofs.Common.{◌≡◌, ℕ, suc, ◌-◌, ◌<◌, ◌≤◌, ◌+◌, List, ap, arith}
 use Rattle.evm_words.specs.declared.mnemonic.Width.{Width}
-use Rattle.evm_statement.specs.Statements.{Spots, Reading, with_data, also, datum_in}
-use Rattle.evm_statement.specs.Operands.{first}
-use Rattle.evm_words.specs.Text.{after}
+use Rattle.evm_statement.specs.Statements.{Reading, with_data, also}
+use Rattle.evm_statement.specs.Operands.{Spots, first_operand, other_operands, datum_in}
 
 pub with_data-more : (labels : Spots) (width : Width) (count i : ℕ) (reading : Reading) (text : List ℕ) → i < count →
-    with_data labels width (count - i) reading text ≡ with_data labels width (count - (i + 1)) (also reading (datum_in labels width (first text))) (after 44 text)
+    with_data labels width (count - i) reading text ≡ with_data labels width (count - (i + 1)) (also reading (datum_in labels width (first_operand text))) (other_operands text)
 unfolding with_data
 with_data-more labels width count i reading text h =
     let e : count - i ≡ suc (count - (i + 1)) = omega arith in

@@ -1,2 +1,3 @@
 pub mod Operands
+pub mod Forms
 pub mod Statements

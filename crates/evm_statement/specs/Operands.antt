@@ -1,28 +1,34 @@
 -- What an operand says: the text between two commas, in the place of a register, a number, an address or a label.
-use Rattle.std.specs.Prelude.{ℕ, ◌+◌, ◌-◌, ◌%◌, ◌^◌, Bool, true, false, ◌&&◌, ◌==◌, nat_le, if◌then◌else◌, List, count_by, Option, Some, None, Result, Ok, Err, ℤ, pos, neg_ℤ}
+use Rattle.std.specs.Prelude.{ℕ, ◌+◌, ◌-◌, ◌*◌, ◌%◌, ◌^◌, Bool, true, false, ◌&&◌, ◌==◌, nat_lt, nat_le, if◌then◌else◌, List, count_by, Option, Some, None, option_map, Result, Ok, Err, ℤ, pos, neg_ℤ}
 use Rattle.evm_words.specs.declared.fault.AsmFaultKind.{AsmFaultKind}
 use Rattle.evm_words.specs.declared.fault.AsmFaultKind.TheVariants.{UnknownName, BadOperand, RangeOfImmediate}
+use Rattle.evm_words.specs.declared.mnemonic.Width.{Width}
+use Rattle.evm_words.specs.declared.mnemonic.Width.TheVariants.{Byte, Word, Dword}
 use Rattle.evm_statement.specs.declared.operand.Number.{Number}
 use Rattle.evm_statement.specs.declared.spot.Spot.{Spot}
-use Rattle.evm_words.specs.Faults.{both, least}
-use Rattle.evm_words.specs.Text.{before, after, has, skip_blanks, word, behind_word, starts_with, is_digit, is_name_start, is_empty, size, tail}
+use Rattle.evm_statement.specs.declared.statement.Datum.{Datum}
+use Rattle.evm_statement.specs.declared.statement.Datum.TheVariants as datum
+use Rattle.evm_words.specs.Characters.{comma, minus, left_parenthesis, right_parenthesis}
+use Rattle.evm_words.specs.Faults.{both, least, ◌>>=◌}
+use Rattle.evm_words.specs.Text.{before, after, has, skip_blanks, first_word, behind_word, starts_with, is_digit, is_name_start, is_empty, size, tail}
 use Rattle.evm_words.specs.Names.{named, register_named}
+
+-- the labels that are known, each with its spot
+abbrev pub Spots : Type 0
+Spots = List (List ℕ × Spot)
 
 abbrev pub is_blank_text : List ℕ → Bool
 is_blank_text text = is_empty (skip_blanks text)
 
--- Operands stand between commas; a statement without any has none.
-unfoldable pub first : List ℕ → List ℕ
-first text = before 44 text
+-- Operands stand between commas: the first of them, and the others. A statement without any has none.
+abbrev pub first_operand : List ℕ → List ℕ
+first_operand text = before comma text
 
-unfoldable pub second : List ℕ → List ℕ
-second text = before 44 (after 44 text)
-
-unfoldable pub third : List ℕ → List ℕ
-third text = before 44 (after 44 (after 44 text))
+abbrev pub other_operands : List ℕ → List ℕ
+other_operands text = after comma text
 
 unfoldable pub how_many : List ℕ → ℕ
-how_many text = if is_blank_text text then 0 else count_by (λ b. b == 44) text + 1
+how_many text = if is_blank_text text then 0 else count_by (λ b. b == comma) text + 1
 
 -- what was read of n operands, where there are so many
 unfoldable pub counted : {A : Type 0} → ℕ → ℕ → Result A AsmFaultKind → Result A AsmFaultKind
@@ -33,7 +39,7 @@ counted n count (Err e) = if count == n then Err e else Err (least e BadOperand)
 unfoldable pub name_in : List ℕ → Option (List ℕ)
 name_in text =
     if starts_with is_name_start (skip_blanks text) && is_blank_text (behind_word (skip_blanks text))
-    then Some (word (skip_blanks text)) else None
+    then Some (first_word (skip_blanks text)) else None
 
 abbrev pub known : Option ℕ → Result ℕ AsmFaultKind
 known (Some r) = Ok r
@@ -46,27 +52,24 @@ named_register None = Err BadOperand
 unfoldable pub register_in : List ℕ → Result ℕ AsmFaultKind
 register_in text = named_register (name_in text)
 
-abbrev pub labelled : List (List ℕ × Spot) → Option (List ℕ) → Result (Option Spot) AsmFaultKind
+abbrev pub labelled : Spots → Option (List ℕ) → Result (Option Spot) AsmFaultKind
 labelled labels (Some name) = Ok (named labels name)
 labelled labels None = Err BadOperand
 
 -- where the label that the text names is, if it is anywhere
-unfoldable pub label_in : List (List ℕ × Spot) → List ℕ → Result (Option Spot) AsmFaultKind
+unfoldable pub label_in : Spots → List ℕ → Result (Option Spot) AsmFaultKind
 label_in labels text = labelled labels (name_in text)
 
 -- a text that is one number without a sign, with blanks behind it
 unfoldable pub size_in : List ℕ → Option ℕ
-size_in text = if starts_with is_digit text && is_blank_text (behind_word text) then size (word text) else None
-
-abbrev pub signed : Bool → Option ℕ → Option Number
-signed negative (Some n) = Some (record { negative = negative; size = n })
-signed negative None = None
+size_in text = if starts_with is_digit text && is_blank_text (behind_word text) then size (first_word text) else None
 
 -- a text that is one number, with blanks around it
 unfoldable pub number_in : List ℕ → Option Number
 number_in text =
-    if starts_with (λ b. b == 45) (skip_blanks text) then signed true (size_in (tail (skip_blanks text)))
-    else signed false (size_in (skip_blanks text))
+    if starts_with (λ b. b == minus) (skip_blanks text)
+    then option_map (λ n. record { negative = true; size = n }) (size_in (tail (skip_blanks text)))
+    else option_map (λ n. record { negative = false; size = n }) (size_in (skip_blanks text))
 
 -- the number, where it is from -below to above
 unfoldable pub integer : ℕ → ℕ → Number → Result ℤ AsmFaultKind
@@ -91,14 +94,14 @@ offset_in text = if is_blank_text text then Ok (pos 0) else immediate_in text
 
 -- what stands behind it: a register and ')'
 unfoldable pub base_in : List ℕ → Result ℕ AsmFaultKind
-base_in text = if has 41 text && is_blank_text (after 41 text) then register_in (before 41 text) else Err BadOperand
+base_in text = if has right_parenthesis text && is_blank_text (after right_parenthesis text) then register_in (before right_parenthesis text) else Err BadOperand
 
 unfoldable pub address_in : List ℕ → Result (ℤ × ℕ) AsmFaultKind
-address_in text = if has 40 text then both (offset_in (before 40 text)) (base_in (after 40 text)) else Err BadOperand
+address_in text = if has left_parenthesis text then both (offset_in (before left_parenthesis text)) (base_in (after left_parenthesis text)) else Err BadOperand
 
 -- an address whose offset is written
 unfoldable pub full_address_in : List ℕ → Result (ℤ × ℕ) AsmFaultKind
-full_address_in text = if has 40 text then both (immediate_in (before 40 text)) (base_in (after 40 text)) else Err BadOperand
+full_address_in text = if has left_parenthesis text then both (immediate_in (before left_parenthesis text)) (base_in (after left_parenthesis text)) else Err BadOperand
 
 -- the number, where it is from 0 to above
 unfoldable pub natural : ℕ → Number → Result ℕ AsmFaultKind
@@ -118,3 +121,28 @@ unfoldable pub wrapped : ℕ → ℕ → Number → Result ℕ AsmFaultKind
 wrapped below above n =
     if n.negative then (if nat_le n.size below then Ok ((2 ^ 64 - n.size) % 2 ^ 64) else Err RangeOfImmediate)
     else (if nat_le n.size above then Ok n.size else Err RangeOfImmediate)
+
+-- the upper 20 bits of a word, as the number that the instruction adds
+abbrev pub upper : ℕ → ℤ
+upper n = if nat_lt n 524288 then pos (n * 4096) else neg_ℤ (pos ((1048576 - n) * 4096))
+
+unfoldable pub upper_in : List ℕ → Result ℤ AsmFaultKind
+upper_in text = natural_in 1048575 text >>= λ n. Ok (upper n)
+
+-- One number of a data directive, modulo 2 ^ 64, or a label.
+abbrev pub number_datum : Width → Number → Result ℕ AsmFaultKind
+number_datum Byte n = wrapped 128 255 n
+number_datum Word n = wrapped 2147483648 4294967295 n
+number_datum Dword n = wrapped 9223372036854775808 18446744073709551615 n
+
+abbrev pub label_datum : Spots → Width → List ℕ → Result (Option Spot) AsmFaultKind
+label_datum labels Byte text = Err BadOperand
+label_datum labels Word text = label_in labels text
+label_datum labels Dword text = label_in labels text
+
+abbrev pub datum_of : Spots → Width → List ℕ → Option Number → Result Datum AsmFaultKind
+datum_of labels width text (Some n) = number_datum width n >>= λ v. Ok (datum.Value v)
+datum_of labels width text None = label_datum labels width text >>= λ s. Ok (datum.Label s)
+
+unfoldable pub datum_in : Spots → Width → List ℕ → Result Datum AsmFaultKind
+datum_in labels width text = datum_of labels width text (number_in text)

@@ -1,18 +1,20 @@
 //! The directives: lists of numbers and labels, zeros, alignment and names.
 
-ghost use Rattle.std.specs.Prelude.{◌≡◌, Ok};
+ghost use Rattle.std.specs.Prelude.{◌≡◌, [], Ok};
+ghost use Rattle.evm_words.specs.declared.mnemonic.Mnemonic.TheVariants as names;
 ghost use Rattle.evm_statement.specs.declared.statement.Statement.TheVariants.{Numbers};
-ghost use Rattle.evm_statement.specs.Operands.{how_many, natural_in};
-ghost use Rattle.evm_statement.specs.Statements.{number_datum, label_datum, datum_in, also, with_data, numbers_line, space_line, align_line, global_line};
+ghost use Rattle.evm_statement.specs.Operands.{natural_in, number_datum, label_datum, datum_in};
+ghost use Rattle.evm_statement.specs.Statements.{also, with_data, statement_of};
 
 use crate::labels::Labels;
 use crate::operand::{
-    Number, counted, first, how_many, label_in, name_in, natural_in, number_in, wrapped,
+    Number, counted, first_operand, how_many, label_in, name_in, natural_in, number_in,
+    other_operands, wrapped,
 };
 use crate::spot::Spot;
 use crate::statement::{Datum, Reading, Statement};
 use evm_isa::Shift;
-use evm_words::{AsmFaultKind, Width, after, least};
+use evm_words::{AsmFaultKind, Width, least};
 
 fn number_datum(width: Width, number: Number) -> Result<u64, AsmFaultKind>
     ensures { result ≡ number_datum width number }
@@ -34,7 +36,7 @@ fn label_datum(labels: &Labels, width: Width, text: &[u8]) -> Result<Option<Spot
 }
 
 /// The number or label that a text is, for a place of this width.
-#[tactic(auto, unfolding(crate::specs::Statements::datum_in))]
+#[tactic(auto, unfolding(crate::specs::Operands::datum_in))]
 pub fn datum_in(labels: &Labels, width: Width, text: &[u8]) -> Result<Datum, AsmFaultKind>
     ensures { result ≡ datum_in labels.now width text.now }
 {
@@ -73,16 +75,16 @@ fn with_data(labels: &Labels, width: Width, count: u64, text: &[u8]) -> Reading
     let mut read = Ok(Statement::Numbers { width, count });
     let mut rest = text;
     for _ in 0..count {
-        read = also(read, datum_in(labels, width, first(rest)));
-        rest = after(b',', rest);
+        read = also(read, datum_in(labels, width, first_operand(rest)));
+        rest = other_operands(rest);
     }
     read
 }
 
 /// A list of numbers and labels.
-#[tactic(auto, unfolding(crate::specs::Statements::numbers_line))]
+#[tactic(auto, unfolding(crate::specs::Statements::statement_of, crate::specs::Statements::said))]
 pub fn numbers_line(labels: &Labels, width: Width, text: &[u8]) -> Reading
-    ensures { result ≡ numbers_line labels.now width text.now }
+    ensures { result ≡ statement_of labels.now (names.Numbers width) text.now }
 {
     let count = how_many(text);
     if count == 0 {
@@ -92,11 +94,11 @@ pub fn numbers_line(labels: &Labels, width: Width, text: &[u8]) -> Reading
 }
 
 /// A number of zero bytes.
-#[tactic(auto, unfolding(crate::specs::Statements::space_line))]
+#[tactic(auto, unfolding(crate::specs::Statements::statement_of, crate::specs::Statements::said))]
 pub fn space_line(text: &[u8]) -> Reading
-    ensures { result ≡ space_line text.now }
+    ensures { result ≡ statement_of [] names.Space text.now }
 {
-    let number = natural_in(u64::MAX, first(text));
+    let number = natural_in(u64::MAX, first_operand(text));
     let size = counted(1, how_many(text), number)?;
     Ok(Statement::Space(size))
 }
@@ -113,22 +115,23 @@ fn power_in(text: &[u8]) -> Result<Shift, AsmFaultKind>
 }
 
 /// A power of 2, 0 to 12.
-#[tactic(auto, unfolding(crate::specs::Statements::align_line))]
+#[tactic(auto, unfolding(crate::specs::Statements::statement_of, crate::specs::Statements::said))]
 pub fn align_line(text: &[u8]) -> Reading
-    ensures { result ≡ align_line text.now }
+    ensures { result ≡ statement_of [] names.Align text.now }
 {
-    let power = counted(1, how_many(text), power_in(first(text)))?;
+    let power = counted(1, how_many(text), power_in(first_operand(text)))?;
     Ok(Statement::Align(power))
 }
 
 /// A name, to no effect.
-#[tactic(auto, unfolding(crate::specs::Statements::global_line))]
+#[tactic(auto, unfolding(crate::specs::Statements::statement_of, crate::specs::Statements::said))]
 pub fn global_line(text: &[u8]) -> Reading
-    ensures { result ≡ global_line text.now }
+    ensures { result ≡ statement_of [] names.Global text.now }
 {
-    let read = match name_in(first(text)) {
-        Some(_) => Ok(Statement::Nothing),
+    let read = match name_in(first_operand(text)) {
+        Some(_) => Ok(()),
         None => Err(AsmFaultKind::BadOperand),
     };
-    counted(1, how_many(text), read)
+    counted(1, how_many(text), read)?;
+    Ok(Statement::Nothing)
 }

@@ -13,7 +13,7 @@ mod target;
 pub use directive::{also, datum_in};
 pub use instruction::upper;
 pub use labels::Labels;
-pub use operand::{first, name_in, starts_with_name};
+pub use operand::{first_operand, name_in, other_operands, starts_with_name};
 pub use spot::Spot;
 pub use statement::{Datum, Reading, Statement, statement_of, zero};
 

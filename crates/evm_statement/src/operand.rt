@@ -2,15 +2,16 @@
 //! or a label.
 
 ghost use Rattle.std.specs.Prelude.{◌≡◌, ◌≤◌, ◌==◌, option_copied, ℤ, IfOk};
+ghost use Rattle.evm_words.specs.Characters.{minus};
 ghost use Rattle.evm_words.specs.Text.{starts_with, is_name_start};
-ghost use Rattle.evm_statement.specs.Operands.{is_blank_text, first, second, third, how_many, counted, name_in, register_in, label_in, size_in, number_in, integer, integer_in, immediate_in, offset_in, base_in, address_in, full_address_in, natural, natural_in, wrapped};
+ghost use Rattle.evm_statement.specs.Operands.{is_blank_text, first_operand, other_operands, how_many, counted, name_in, register_in, label_in, size_in, number_in, integer, integer_in, immediate_in, offset_in, base_in, address_in, full_address_in, natural, natural_in, wrapped};
 
 use crate::labels::Labels;
 use crate::spot::Spot;
 use evm_isa::Register;
 use evm_words::{
-    AsmFaultKind, after, before, behind_word, both, has, is_name_start, least, register_named,
-    size, skip_blanks, starts_with_digit, word,
+    AsmFaultKind, after, before, behind_word, both, first_word, has, is_name_start, least,
+    register_named, size, skip_blanks, starts_with_digit,
 };
 
 /// A number as it is written: its size, and whether a `-` stands before it.
@@ -28,27 +29,31 @@ pub fn is_blank_text(text: &[u8]) -> bool
 }
 
 /// The first operand: the text before the first `,`.
-#[tactic(auto, unfolding(crate::specs::Operands::first))]
-pub fn first(text: &[u8]) -> &[u8]
-    ensures { result.now ≡ first text.now }
+pub fn first_operand(text: &[u8]) -> &[u8]
+    ensures { result.now ≡ first_operand text.now }
 {
     before(b',', text)
 }
 
-/// The second operand; nothing where there is none.
-#[tactic(auto, unfolding(crate::specs::Operands::second))]
-pub fn second(text: &[u8]) -> &[u8]
-    ensures { result.now ≡ second text.now }
+/// The operands behind the first.
+pub fn other_operands(text: &[u8]) -> &[u8]
+    ensures { result.now ≡ other_operands text.now }
 {
-    before(b',', after(b',', text))
+    after(b',', text)
+}
+
+/// The second operand; nothing where there is none.
+pub fn second_operand(text: &[u8]) -> &[u8]
+    ensures { result.now ≡ first_operand (other_operands text.now) }
+{
+    first_operand(other_operands(text))
 }
 
 /// The third operand; nothing where there is none.
-#[tactic(auto, unfolding(crate::specs::Operands::third))]
-pub fn third(text: &[u8]) -> &[u8]
-    ensures { result.now ≡ third text.now }
+pub fn third_operand(text: &[u8]) -> &[u8]
+    ensures { result.now ≡ first_operand (other_operands (other_operands text.now)) }
 {
-    before(b',', after(b',', after(b',', text)))
+    second_operand(other_operands(text))
 }
 
 /// How many operands a text has.
@@ -101,7 +106,7 @@ pub fn starts_with_name(text: &[u8]) -> bool
 }
 
 fn starts_with_minus(text: &[u8]) -> bool
-    ensures { result ≡ starts_with (λ b. b == 45) text.now }
+    ensures { result ≡ starts_with (λ b. b == minus) text.now }
 {
     match text {
         [] => false,
@@ -116,7 +121,7 @@ pub fn name_in(text: &[u8]) -> Option<&[u8]>
 {
     let text = skip_blanks(text);
     if starts_with_name(text) && is_blank_text(behind_word(text)) {
-        Some(word(text))
+        Some(first_word(text))
     } else {
         None
     }
@@ -149,7 +154,7 @@ fn size_in(text: &[u8]) -> Option<u64>
     ensures { result ≡ size_in text.now }
 {
     if starts_with_digit(text) && is_blank_text(behind_word(text)) {
-        size(word(text))
+        size(first_word(text))
     } else {
         None
     }

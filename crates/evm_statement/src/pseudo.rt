@@ -1,16 +1,19 @@
 //! Lines without operands, and pseudo instructions that name no label.
 
-ghost use Rattle.std.specs.Prelude.{◌≡◌};
+ghost use Rattle.std.specs.Prelude.{◌≡◌, [], ◌∷◌};
 ghost use Rattle.evm_isa.specs.declared.inst.Inst.TheVariants as inst;
-ghost use Rattle.evm_statement.specs.Statements.{bare, bare_line, unary, two_registers, unary_line, load_immediate_line};
+ghost use Rattle.evm_words.specs.declared.mnemonic.Mnemonic.TheVariants as names;
+ghost use Rattle.evm_statement.specs.Forms as slot;
+ghost use Rattle.evm_statement.specs.Forms.{bare_instruction, unary_instruction};
+ghost use Rattle.evm_statement.specs.Statements.{all_operands_in, statement_of};
 
-use crate::operand::{counted, first, how_many, integer_in, register_in, second};
+use crate::operand::{counted, first_operand, how_many, integer_in, register_in, second_operand};
 use crate::statement::{Reading, Statement, return_address, zero};
 use evm_isa::{ImmediateOp, Inst, Register, RegisterOp, WordOp};
 use evm_words::{AsmFaultKind, BareOp, UnaryOp, both};
 
-fn bare(op: BareOp) -> Inst
-    ensures { result ≡ bare op }
+fn bare_instruction(op: BareOp) -> Inst
+    ensures { result ≡ bare_instruction op }
 {
     let rd = zero();
     match op {
@@ -36,11 +39,12 @@ fn bare(op: BareOp) -> Inst
 }
 
 /// A line without operands.
-#[tactic(auto, unfolding(crate::specs::Statements::bare_line))]
+#[tactic(auto, unfolding(crate::specs::Statements::statement_of, crate::specs::Statements::said))]
 pub fn bare_line(op: BareOp, text: &[u8]) -> Reading
-    ensures { result ≡ bare_line op text.now }
+    ensures { result ≡ statement_of [] (names.Bare op) text.now }
 {
-    counted(0, how_many(text), Ok(Statement::One(bare(op))))
+    counted(0, how_many(text), Ok(()))?;
+    Ok(Statement::One(bare_instruction(op)))
 }
 
 fn plus(op: ImmediateOp, rd: Register, rs1: Register, immediate: i32) -> Inst
@@ -60,8 +64,8 @@ fn registers(op: RegisterOp, rd: Register, rs1: Register, rs2: Register) -> Inst
     Inst::Register { op, rd, rs1, rs2 }
 }
 
-fn unary(op: UnaryOp, rd: Register, rs: Register) -> Inst
-    ensures { result ≡ unary op rd rs }
+fn unary_instruction(op: UnaryOp, rd: Register, rs: Register) -> Inst
+    ensures { result ≡ unary_instruction op rd rs }
 {
     match op {
         UnaryOp::Mv => plus(ImmediateOp::Addi, rd, rs, 0),
@@ -81,30 +85,32 @@ fn unary(op: UnaryOp, rd: Register, rs: Register) -> Inst
     }
 }
 
-#[tactic(auto, unfolding(crate::specs::Statements::two_registers))]
 fn two_registers(text: &[u8]) -> Result<(Register, Register), AsmFaultKind>
-    ensures { result ≡ two_registers text.now }
+    ensures { result ≡ all_operands_in [] (slot.Register ∷ slot.Register ∷ []) text.now }
 {
-    let read = both(register_in(first(text)), register_in(second(text)));
+    let read = both(
+        register_in(first_operand(text)),
+        register_in(second_operand(text)),
+    );
     counted(2, how_many(text), read)
 }
 
 /// `rd, rs`.
-#[tactic(auto, unfolding(crate::specs::Statements::unary_line))]
+#[tactic(auto, unfolding(crate::specs::Statements::statement_of, crate::specs::Statements::said))]
 pub fn unary_line(op: UnaryOp, text: &[u8]) -> Reading
-    ensures { result ≡ unary_line op text.now }
+    ensures { result ≡ statement_of [] (names.Unary op) text.now }
 {
     let (rd, rs) = two_registers(text)?;
-    Ok(Statement::One(unary(op, rd, rs)))
+    Ok(Statement::One(unary_instruction(op, rd, rs)))
 }
 
 /// `rd, number`, from -2147483648 to 2147483647.
-#[tactic(auto, unfolding(crate::specs::Statements::load_immediate_line))]
+#[tactic(auto, unfolding(crate::specs::Statements::statement_of, crate::specs::Statements::said))]
 pub fn load_immediate_line(text: &[u8]) -> Reading
-    ensures { result ≡ load_immediate_line text.now }
+    ensures { result ≡ statement_of [] names.LoadImmediate text.now }
 {
-    let number = integer_in(2147483648, 2147483647, second(text));
-    let read = both(register_in(first(text)), number);
+    let number = integer_in(2147483648, 2147483647, second_operand(text));
+    let read = both(register_in(first_operand(text)), number);
     let (rd, value) = counted(2, how_many(text), read)?;
     Ok(Statement::LoadImmediate { rd, value })
 }

@@ -88,7 +88,7 @@ pub fn return_address() -> Register
 }
 
 /// The statement of a mnemonic and the text of its operands.
-#[tactic(auto, unfolding(crate::specs::Statements::statement_of))]
+#[tactic(auto, unfolding(crate::specs::Statements::statement_of, crate::specs::Statements::said))]
 pub fn statement_of(labels: &Labels, mnemonic: Mnemonic, text: &[u8]) -> Reading
     ensures { result ≡ statement_of labels.now mnemonic text.now }
 {
@@ -114,7 +114,8 @@ pub fn statement_of(labels: &Labels, mnemonic: Mnemonic, text: &[u8]) -> Reading
         Mnemonic::LoadImmediate => load_immediate_line(text),
         Mnemonic::LoadAddress => load_address_line(labels, text),
         Mnemonic::Section(section) => {
-            counted(0, how_many(text), Ok(Statement::Section(section)))
+            counted(0, how_many(text), Ok(()))?;
+            Ok(Statement::Section(section))
         }
         Mnemonic::Numbers(width) => numbers_line(labels, width, text),
         Mnemonic::Space => space_line(text),

@@ -2,12 +2,12 @@
 
 use crate::operand::{
     Number, address_in, full_address_in, how_many, immediate_in, natural_in, number_in,
-    register_in, second, third, wrapped,
+    register_in, second_operand, third_operand, wrapped,
 };
 use crate::*;
 use evm_isa::Register;
 use evm_words::AsmFaultKind::{BadOperand, RangeOfImmediate, UnknownName};
-use evm_words::{AsmFaultKind, Section, behind_word, mnemonic_named, word};
+use evm_words::{AsmFaultKind, Section, behind_word, first_word, mnemonic_named};
 use std::test::Fail;
 
 mod faults;
@@ -33,7 +33,7 @@ fn labels_with_here(rt: &impl AllocGlobal) -> Result<Labels, Fail> {
 // What a line without labels says, where its mnemonic is known.
 fn reading_of(labels: &Labels, line: &str) -> Option<Reading> {
     let text = line.as_bytes();
-    match mnemonic_named(word(text)) {
+    match mnemonic_named(first_word(text)) {
         Some(mnemonic) => Some(statement_of(labels, mnemonic, behind_word(text))),
         None => None,
     }
@@ -55,10 +55,10 @@ fn operands_are_counted(rt: HostRuntime) {
     ] {
         assert_eq!(rt; how_many(text.as_bytes()), count, "in {text}");
     }
-    assert_eq!(rt; first(b"a, b ,c"), b"a".as_slice());
-    assert_eq!(rt; second(b"a, b ,c"), b" b ".as_slice());
-    assert_eq!(rt; third(b"a, b ,c,d"), b"c".as_slice());
-    assert_eq!(rt; third(b"a,b"), b"".as_slice());
+    assert_eq!(rt; first_operand(b"a, b ,c"), b"a".as_slice());
+    assert_eq!(rt; second_operand(b"a, b ,c"), b" b ".as_slice());
+    assert_eq!(rt; third_operand(b"a, b ,c,d"), b"c".as_slice());
+    assert_eq!(rt; third_operand(b"a,b"), b"".as_slice());
 }
 
 // A number has one word of digits, and at most a minus right before it.

@@ -3,18 +3,18 @@ use Rattle.std.specs.Prelude.{ℕ, nat_le, if◌then◌else◌, Result, Ok, Err}
 use Rattle.evm_words.specs.declared.fault.AsmFaultKind.{AsmFaultKind}
 use Rattle.evm_words.specs.declared.fault.AsmFaultKind.TheVariants.{BadToken, UnknownName, BadOperand, RangeOfImmediate, LabelTwice, LabelMissing, TooLarge, NoMemory}
 
-abbrev pub number_of : AsmFaultKind → ℕ
-number_of BadToken = 1
-number_of UnknownName = 2
-number_of BadOperand = 3
-number_of RangeOfImmediate = 4
-number_of LabelTwice = 5
-number_of LabelMissing = 6
-number_of TooLarge = 7
-number_of NoMemory = 8
+abbrev pub kind_number : AsmFaultKind → ℕ
+kind_number BadToken = 1
+kind_number UnknownName = 2
+kind_number BadOperand = 3
+kind_number RangeOfImmediate = 4
+kind_number LabelTwice = 5
+kind_number LabelMissing = 6
+kind_number TooLarge = 7
+kind_number NoMemory = 8
 
 abbrev pub least : AsmFaultKind → AsmFaultKind → AsmFaultKind
-least a b = if nat_le (number_of a) (number_of b) then a else b
+least a b = if nat_le (kind_number a) (kind_number b) then a else b
 
 -- Two things that are read at once: both, or the least of their faults.
 unfoldable pub both : {A B : Type 0} → Result A AsmFaultKind → Result B AsmFaultKind → Result (A × B) AsmFaultKind

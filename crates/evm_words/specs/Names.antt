@@ -1,5 +1,6 @@
 -- The names of the language, each with what it stands for: registers, mnemonics, pseudo instructions, directives.
-use Rattle.std.specs.Prelude.{ℕ, List, [], ◌∷◌, Option, Some, None, if◌then◌else◌, codes}
+use Rattle.std.specs.Prelude.{◌≡◌, ℕ, Bool, true, not, ◌&&◌, List, [], ◌∷◌, ◌++◌, map, Option, Some, None, if◌then◌else◌, codes}
+use Rattle.std.specs.List.{list_any}
 use Rattle.std.specs.Str.{bytes_eq}
 use Rattle.evm_isa.specs.declared.inst.BranchOp.{BranchOp}
 use Rattle.evm_isa.specs.declared.inst.BranchOp.TheVariants as branch
@@ -28,11 +29,6 @@ use Rattle.evm_words.specs.declared.mnemonic.Mnemonic.TheVariants.{Register, Wor
 abbrev pub named : {A : Type 0} → List (List ℕ × A) → List ℕ → Option A
 named [] name = None
 named (entry ∷ entries) name = if bytes_eq name entry.0 then Some entry.1 else named entries name
-
--- what the name has in the first table, else what it has in the others
-abbrev pub or_else : {A B : Type 0} → Option A → (A → B) → Option B → Option B
-or_else (Some a) f others = Some (f a)
-or_else None f others = others
 
 unfoldable pub fixed_registers : List (List ℕ × ℕ)
 fixed_registers =
@@ -75,17 +71,15 @@ registers_to_31 =
     (codes "x24", 24) ∷ (codes "x25", 25) ∷ (codes "x26", 26) ∷ (codes "x27", 27) ∷ (codes "x28", 28) ∷
     (codes "x29", 29) ∷ (codes "x30", 30) ∷ (codes "x31", 31) ∷ []
 
+-- the names of the registers, each with its number
+unfoldable pub registers : List (List ℕ × ℕ)
+registers =
+    fixed_registers ++ argument_registers ++ saved_registers ++ temporary_registers
+    ++ registers_to_7 ++ registers_to_15 ++ registers_to_23 ++ registers_to_31
+
 -- the number of the register of this name
 unfoldable pub register_named : List ℕ → Option ℕ
-register_named name =
-    or_else (named fixed_registers name) (λ n. n) (
-    or_else (named argument_registers name) (λ n. n) (
-    or_else (named saved_registers name) (λ n. n) (
-    or_else (named temporary_registers name) (λ n. n) (
-    or_else (named registers_to_7 name) (λ n. n) (
-    or_else (named registers_to_15 name) (λ n. n) (
-    or_else (named registers_to_23 name) (λ n. n) (
-    named registers_to_31 name)))))))
+register_named name = named registers name
 
 unfoldable pub register_ops : List (List ℕ × RegisterOp)
 register_ops =
@@ -155,18 +149,26 @@ directives =
     (codes ".dword", Numbers width.Dword) ∷ (codes ".space", Space) ∷ (codes ".align", Align) ∷
     (codes ".globl", Global) ∷ (codes ".global", Global) ∷ []
 
+-- a table of operations, as one of mnemonics
+abbrev pub each_as : {A : Type 0} → (A → Mnemonic) → List (List ℕ × A) → List (List ℕ × Mnemonic)
+each_as f entries = map (λ e. (e.0, f e.1)) entries
+
+-- the names of the mnemonics, pseudo instructions and directives, each with what it is
+unfoldable pub mnemonics : List (List ℕ × Mnemonic)
+mnemonics =
+    each_as Register register_ops ++ each_as Word word_ops ++ each_as Immediate immediate_ops ++ each_as Shift shift_ops
+    ++ each_as Load load_ops ++ each_as Store store_ops ++ each_as Branch branch_ops ++ each_as Bare bare_ops
+    ++ each_as Unary unary_ops ++ branch_pseudos ++ jumps_and_loads ++ directives
+
 -- what the mnemonic, pseudo instruction or directive of this name is
 unfoldable pub mnemonic_named : List ℕ → Option Mnemonic
-mnemonic_named name =
-    or_else (named register_ops name) Register (
-    or_else (named word_ops name) Word (
-    or_else (named immediate_ops name) Immediate (
-    or_else (named shift_ops name) Shift (
-    or_else (named load_ops name) Load (
-    or_else (named store_ops name) Store (
-    or_else (named branch_ops name) Branch (
-    or_else (named bare_ops name) Bare (
-    or_else (named unary_ops name) Unary (
-    or_else (named branch_pseudos name) (λ m. m) (
-    or_else (named jumps_and_loads name) (λ m. m) (
-    named directives name)))))))))))
+mnemonic_named name = named mnemonics name
+
+-- Whether no name of a table stands in two of its entries.
+abbrev pub no_name_twice : {A : Type 0} → List (List ℕ × A) → Bool
+no_name_twice [] = true
+no_name_twice (entry ∷ entries) = not (list_any (λ e. bytes_eq e.0 entry.0) entries) && no_name_twice entries
+
+-- Each register and each mnemonic stands in its table by a name that is no other's.
+abbrev pub NoNameStandsTwice : Type 0
+NoNameStandsTwice = (no_name_twice registers ≡ true) × (no_name_twice mnemonics ≡ true)

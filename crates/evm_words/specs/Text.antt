@@ -3,32 +3,29 @@ use Rattle.std.specs.Prelude.{ℕ, ◌+◌, ◌-◌, ◌*◌, ◌^◌, Bool, tru
 use Rattle.std.specs.List.{position}
 use Rattle.std.specs.Option.{unwrap_or}
 use Rattle.std.specs.Str.{bytes_eq}
-
-infixl 10 ◌>>=◌
-abbrev pub ◌>>=◌ : {A B : Type 0} → Option A → (A → Option B) → Option B
-o >>= f = option_and_then f o
+use Rattle.evm_words.specs.Characters.{tab, carriage_return, blank, dollar, left_parenthesis, right_parenthesis, comma, minus, dot, digit_0, digit_9, colon, capital_a, capital_f, capital_z, underscore, small_a, small_f, small_z}
 
 abbrev pub within : ℕ → ℕ → ℕ → Bool
 within low high b = nat_le low b && nat_le b high
 
 -- '0' to '9'
 abbrev pub is_digit : ℕ → Bool
-is_digit b = within 48 57 b
+is_digit b = within digit_0 digit_9 b
 
 -- a letter, '_', '.' or '$'
 abbrev pub is_name_start : ℕ → Bool
-is_name_start b = within 97 122 b || within 65 90 b || b == 95 || b == 46 || b == 36
+is_name_start b = within small_a small_z b || within capital_a capital_z b || b == underscore || b == dot || b == dollar
 
 abbrev pub is_word_byte : ℕ → Bool
 is_word_byte b = is_name_start b || is_digit b
 
 -- a blank, a tab or a carriage return
-abbrev pub is_blank : ℕ → Bool
-is_blank b = b == 32 || b == 9 || b == 13
+abbrev pub is_white : ℕ → Bool
+is_white b = b == blank || b == tab || b == carriage_return
 
 -- ',' '(' ')' ':'
 abbrev pub is_mark : ℕ → Bool
-is_mark b = b == 44 || b == 40 || b == 41 || b == 58
+is_mark b = b == comma || b == left_parenthesis || b == right_parenthesis || b == colon
 
 -- the first place at which p passes, or the length
 abbrev pub place_by : (ℕ → Bool) → List ℕ → ℕ
@@ -50,14 +47,14 @@ has c text = is_some (position (λ b. b == c) text)
 
 -- the text from its first byte on that isn't blank
 unfoldable pub skip_blanks : List ℕ → List ℕ
-skip_blanks text = drop (place_by (λ b. not (is_blank b)) text) text
+skip_blanks text = drop (place_by (λ b. not (is_white b)) text) text
 
 abbrev pub is_empty : List ℕ → Bool
 is_empty text = length text == 0
 
 -- the longest word at the front, and what follows it
-unfoldable pub word : List ℕ → List ℕ
-word text = take (place_by (λ b. not (is_word_byte b)) text) text
+unfoldable pub first_word : List ℕ → List ℕ
+first_word text = take (place_by (λ b. not (is_word_byte b)) text) text
 
 unfoldable pub behind_word : List ℕ → List ℕ
 behind_word text = drop (place_by (λ b. not (is_word_byte b)) text) text
@@ -69,23 +66,20 @@ starts_with p (b ∷ bs) = p b
 -- What a digit stands for: '0' to '9', and 'a' to 'f' in either case.
 abbrev pub digit : ℕ → Option ℕ
 digit b =
-    if is_digit b then Some (b - 48)
-    else (if within 97 102 b then Some (b - 87)
-    else (if within 65 70 b then Some (b - 55)
+    if is_digit b then Some (b - digit_0)
+    else (if within small_a small_f b then Some (b - small_a + 10)
+    else (if within capital_a capital_f b then Some (b - capital_a + 10)
     else None))
 
 -- The number that n becomes with one more digit of the base; none of 2 ^ 64 or above.
 unfoldable pub with_digit : ℕ → ℕ → ℕ → Option ℕ
-with_digit base n b = do
-  d ← digit b
-  if nat_lt d base && nat_lt (n * base + d) (2 ^ 64) then Some (n * base + d) else None
+with_digit base n b =
+    option_and_then (λ d. if nat_lt d base && nat_lt (n * base + d) (2 ^ 64) then Some (n * base + d) else None) (digit b)
 
 -- the number that n becomes with these digits behind it
 unfoldable pub with_digits : ℕ → ℕ → List ℕ → Option ℕ
 with_digits base n [] = Some n
-with_digits base n (b ∷ bs) = do
-  more ← with_digit base n b
-  with_digits base more bs
+with_digits base n (b ∷ bs) = option_and_then (λ more. with_digits base more bs) (with_digit base n b)
 
 -- The number of at least one digit.
 unfoldable pub digits : ℕ → List ℕ → Option ℕ
@@ -104,9 +98,9 @@ is_name_or_number text = if starts_with is_digit text then is_some (size text) e
 unfoldable pub begins_well : Bool → List ℕ → Bool
 begins_well inside [] = true
 begins_well inside (b ∷ bs) =
-    if is_word_byte b then inside || is_name_or_number (word (b ∷ bs))
-    else (if b == 45 then starts_with is_digit bs
-    else is_blank b || is_mark b)
+    if is_word_byte b then inside || is_name_or_number (first_word (b ∷ bs))
+    else (if b == minus then starts_with is_digit bs
+    else is_white b || is_mark b)
 
 -- Whether all tokens of a text are sound; `inside` where the text goes on with a word that began before it.
 unfoldable pub is_sound : Bool → List ℕ → Bool

@@ -1,7 +1,7 @@
 //! Why a source is refused.
 
 ghost use Rattle.std.specs.Prelude.{◌≡◌};
-ghost use Rattle.evm_words.specs.Faults.{number_of, least, both};
+ghost use Rattle.evm_words.specs.Faults.{kind_number, least, both};
 
 /// What is wrong with a line. Of several faults of one line the one of the least number is reported.
 #[derive(Clone, Copy, Debug, PartialEq, Eq)]
@@ -27,7 +27,7 @@ pub enum AsmFaultKind {
 impl AsmFaultKind {
     /// Its number, 1 to 8.
     pub fn number(self) -> u8
-        ensures { result ≡ number_of self }
+        ensures { result ≡ kind_number self }
     {
         match self {
             AsmFaultKind::BadToken => 1,

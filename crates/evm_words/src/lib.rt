@@ -2,6 +2,7 @@
 #![tactic(auto)]
 
 mod fault;
+pub mod laws;
 mod mnemonic;
 mod names;
 mod registers;
@@ -12,7 +13,7 @@ pub use fault::{AsmFault, AsmFaultKind, both, least};
 pub use mnemonic::{BareOp, Mnemonic, Section, UnaryOp, Width};
 pub use names::mnemonic_named;
 pub use registers::register_named;
-pub use text::{after, before, behind_word, has, is_name_start, skip_blanks, word};
+pub use text::{after, before, behind_word, first_word, has, is_name_start, skip_blanks};
 pub use token::{is_sound, size, starts_with_digit};
 
 #[cfg(test)]

@@ -224,7 +224,7 @@ fn directive(name: &[u8]) -> Option<Mnemonic>
 }
 
 /// What the mnemonic, pseudo instruction or directive of this name is.
-#[tactic(auto, unfolding(crate::specs::Names::mnemonic_named))]
+#[tactic(auto, using(crate::proofs::Tables::mnemonic_in_parts))]
 pub fn mnemonic_named(name: &[u8]) -> Option<Mnemonic>
     ensures { result ≡ mnemonic_named name.now }
 {

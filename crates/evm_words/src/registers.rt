@@ -150,7 +150,7 @@ fn register_to_31(name: &[u8]) -> Option<u8>
     }
 }
 
-#[tactic(auto, unfolding(crate::specs::Names::register_named))]
+#[tactic(auto, using(crate::proofs::Tables::register_in_parts))]
 fn register_number(name: &[u8]) -> Option<u8>
     ensures value { result ≡ register_named name.now }
     ensures in_range { IfSome result (λ n. n < 32) }

@@ -78,7 +78,7 @@ fn words_end(rt: HostRuntime) {
         (" a", "", " a"),
         ("", "", ""),
     ] {
-        assert_eq!(rt; word(text.as_bytes()), front.as_bytes(), "in {text}");
+        assert_eq!(rt; first_word(text.as_bytes()), front.as_bytes(), "in {text}");
         assert_eq!(rt; behind_word(text.as_bytes()), rest.as_bytes(), "in {text}");
     }
 }

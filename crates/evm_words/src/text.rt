@@ -2,7 +2,7 @@
 
 ghost use Rattle.std.specs.Prelude.{◌≡◌, ◌<◌, ◌≤◌, ◌==◌, not, length, IfSome};
 ghost use Rattle.std.specs.List.{position};
-ghost use Rattle.evm_words.specs.Text.{is_digit, is_name_start, is_word_byte, is_blank, is_mark, before, after, has, place_by, skip_blanks, word, behind_word};
+ghost use Rattle.evm_words.specs.Text.{is_digit, is_name_start, is_word_byte, is_white, is_mark, before, after, has, place_by, skip_blanks, first_word, behind_word};
 
 /// Whether a byte is `0` to `9`.
 pub fn is_digit(b: u8) -> bool
@@ -26,8 +26,8 @@ pub fn is_word_byte(b: u8) -> bool
 }
 
 /// Whether a byte is a blank, a tab or a carriage return.
-pub fn is_blank(b: u8) -> bool
-    ensures { result ≡ is_blank b }
+pub fn is_white(b: u8) -> bool
+    ensures { result ≡ is_white b }
 {
     b == b' ' || b == b'\t' || b == b'\r'
 }
@@ -47,10 +47,10 @@ fn position_of(c: u8, text: &[u8]) -> Option<usize>
 }
 
 fn text_position(text: &[u8]) -> Option<usize>
-    ensures value { result ≡ position (λ b. not (is_blank b)) text.now }
+    ensures value { result ≡ position (λ b. not (is_white b)) text.now }
     ensures within { IfSome result (λ i. i < length text.now) }
 {
-    text.iter().position(|b| !is_blank(*b))
+    text.iter().position(|b| !is_white(*b))
 }
 
 fn end_position(text: &[u8]) -> Option<usize>
@@ -68,7 +68,7 @@ fn place_of(c: u8, text: &[u8]) -> usize
 }
 
 fn text_start(text: &[u8]) -> usize
-    ensures value { result ≡ place_by (λ b. not (is_blank b)) text.now }
+    ensures value { result ≡ place_by (λ b. not (is_white b)) text.now }
     ensures within { result ≤ length text.now }
 {
     text_position(text).unwrap_or(text.len())
@@ -119,9 +119,9 @@ pub fn skip_blanks(text: &[u8]) -> &[u8]
 }
 
 /// The longest word at the front.
-#[tactic(auto, unfolding(crate::specs::Text::word))]
-pub fn word(text: &[u8]) -> &[u8]
-    ensures { result.now ≡ word text.now }
+#[tactic(auto, unfolding(crate::specs::Text::first_word))]
+pub fn first_word(text: &[u8]) -> &[u8]
+    ensures { result.now ≡ first_word text.now }
 {
     let place = word_len(text);
     &text[..place]

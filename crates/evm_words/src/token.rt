@@ -3,7 +3,7 @@
 ghost use Rattle.std.specs.Prelude.{◌≡◌, ◌≤◌, false};
 ghost use Rattle.evm_words.specs.Text.{starts_with, is_digit, digit, with_digit, with_digits, digits, size, is_name_or_number, begins_well, is_sound};
 
-use crate::text::{is_blank, is_digit, is_mark, is_word_byte, word};
+use crate::text::{first_word, is_digit, is_mark, is_white, is_word_byte};
 
 /// Whether the text begins with a digit.
 pub fn starts_with_digit(text: &[u8]) -> bool
@@ -88,11 +88,11 @@ fn begins_well(inside: bool, text: &[u8]) -> bool
         [] => true,
         [b, rest @ ..] => {
             if is_word_byte(*b) {
-                inside || is_name_or_number(word(text))
+                inside || is_name_or_number(first_word(text))
             } else if *b == b'-' {
                 starts_with_digit(rest)
             } else {
-                is_blank(*b) || is_mark(*b)
+                is_white(*b) || is_mark(*b)
             }
         }
     }

@@ -1,6 +1,7 @@
 use Rattle.std.proofs.Common.{◌≡◌, ◌∙◌, ◌<◌, ◌+◌, sym, ap, arith, length, rules, List, ℕ}
+use Rattle.evm_words.specs.Characters.{newline}
 use Rattle.evm_words.specs.Text.{before}
-use Rattle.evm_asm.specs.Sources.{lines_of, code_of, start}
+use Rattle.evm_asm.specs.Sources.{source_lines, code_of, source_start}
 use Rattle.evm_asm.specs.Items.{layout_of, lines_meant, meaning_of}
 use Rattle.evm_asm.specs.declared.item.Placed.{Placed}
 use Rattle.evm_asm.specs.declared.place.Place.{Place}
@@ -14,8 +15,8 @@ loop-rest-init c = record {
   counted = omega arith;
   meant_so_far =
       let l = layout_of c.args.source.now in
-      ap (λ (p : Place). lines_meant l 0 p (lines_of c.args.source.now) c.new-items.result.items) c.start-place.ensures
-      ∙ ap (λ (i : List Placed). lines_meant l 0 start (lines_of c.args.source.now) i) c.new-items.ensures.items;
+      ap (λ (p : Place). lines_meant l 0 p (source_lines c.args.source.now) c.new-items.result.items) c.source_start-place.ensures
+      ∙ ap (λ (i : List Placed). lines_meant l 0 source_start (source_lines c.args.source.now) i) c.new-items.ensures.items;
 }
 
 pub returns-in-Err : goal.returns-in-Err
@@ -23,24 +24,24 @@ returns-in-Err c = λ h.
     let some : 0 < length c.loop-rest.rest.now = search rules in
     let l = layout_of c.args.source.now in
     let a = c.args.layout.now in
-    let code : c.code_of-code.result.now ≡ code_of (before 10 c.loop-rest.rest.now) = c.code_of-code.ensures ∙ ap code_of c.before-in-loop-rest.ensures in
-    let here = sym (same-line a.labels a.place a.first l c.requires (c.loop-rest.lines + 1) c.loop-rest.place (code_of (before 10 c.loop-rest.rest.now)) c.loop-rest.items.items) ∙ (rw code at c.in-Err.ensures) h in
+    let code : c.code_of-code.result.now ≡ code_of (before newline c.loop-rest.rest.now) = c.code_of-code.ensures ∙ ap code_of c.before-in-loop-rest.ensures in
+    let here = sym (same-line a.labels a.place a.first l c.requires (c.loop-rest.lines + 1) c.loop-rest.place (code_of (before newline c.loop-rest.rest.now)) c.loop-rest.items.items) ∙ (rw code at c.in-Err.ensures) h in
     sym c.loop-rest.invariant.meant_so_far ∙ stops l c.loop-rest.lines c.loop-rest.place c.loop-rest.rest.now c.loop-rest.items.items c.in-Err.fault some here
 
 pub loop-rest-smaller : goal.loop-rest-smaller
 loop-rest-smaller c =
     let some : 0 < length c.loop-rest.rest.now = search rules in
-    let less = after-less 10 c.loop-rest.rest.now some in
+    let less = after-less newline c.loop-rest.rest.now some in
     omega (arith, ap (λ (l : List ℕ). length l) c.after-rest.ensures)
 
 pub loop-rest-preserved : goal.loop-rest-preserved
 loop-rest-preserved c =
     let some : 0 < length c.loop-rest.rest.now = search rules in
-    let less = after-less 10 c.loop-rest.rest.now some in
+    let less = after-less newline c.loop-rest.rest.now some in
     let l = layout_of c.args.source.now in
     let a = c.args.layout.now in
-    let code : c.code_of-code.result.now ≡ code_of (before 10 c.loop-rest.rest.now) = c.code_of-code.ensures ∙ ap code_of c.before-in-loop-rest.ensures in
-    let here = sym (same-line a.labels a.place a.first l c.requires (c.loop-rest.lines + 1) c.loop-rest.place (code_of (before 10 c.loop-rest.rest.now)) c.loop-rest.items.items) ∙ (rw code at c.in-Ok.ensures) in
+    let code : c.code_of-code.result.now ≡ code_of (before newline c.loop-rest.rest.now) = c.code_of-code.ensures ∙ ap code_of c.before-in-loop-rest.ensures in
+    let here = sym (same-line a.labels a.place a.first l c.requires (c.loop-rest.lines + 1) c.loop-rest.place (code_of (before newline c.loop-rest.rest.now)) c.loop-rest.items.items) ∙ (rw code at c.in-Ok.ensures) in
     record {
       counted = omega (arith, ap (λ (l : List ℕ). length l) c.after-rest.ensures);
       meant_so_far =

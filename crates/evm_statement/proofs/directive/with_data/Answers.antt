@@ -4,7 +4,7 @@ use Rattle.evm_statement.proofs.directive.with_data.Goals as goal
 
 pub loop-preserved : goal.loop-preserved
 loop-preserved c =
-    rw (c.after-rest.ensures, c.also-read.ensures, c.datum_in.ensures, c.first.ensures)
+    rw (c.other_operands-rest.ensures, c.also-read.ensures, c.datum_in.ensures, c.first_operand.ensures)
     (sym (with_data-more c.args.labels.now c.args.width c.args.count c.loop.counter c.loop.read c.loop.rest.now c.loop-test.true) ∙ c.loop.invariant)
 
 pub returns : goal.returns
