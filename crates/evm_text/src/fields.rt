@@ -2,7 +2,7 @@
 
 ghost use Rattle.std.specs.Prelude.{◌≡◌};
 ghost use Rattle.evm_text.specs.Reading.{Reads};
-ghost use Rattle.evm_text.specs.Fields.{u8_at, decimal_then, decimal_last, u8_then, u8_last, hexadecimal_then, hexadecimal_last, pairs_last};
+ghost use Rattle.evm_text.specs.Fields.{u8_at, count_at, count_last, decimal_then, decimal_last, u8_then, u8_last, hexadecimal_then, hexadecimal_last, pairs_last};
 
 use crate::reading::{decimal_at, hexadecimal_at, pairs_at, word_at};
 use arrayvec::ArrayVec;
@@ -17,6 +17,20 @@ fn u8_at(bytes: &[u8]) -> Option<(u8, &[u8])>
     } else {
         None
     }
+}
+
+#[tactic(auto, unfolding(crate::specs::Fields::count_at))]
+fn count_at(greatest: u64, bytes: &[u8]) -> Option<(u64, &[u8])>
+    ensures { Reads (λ x. (x.0, x.1.now)) result (count_at greatest bytes.now) }
+{
+    let (number, rest) = decimal_at(bytes)?;
+    if number == 0 {
+        return None;
+    }
+    if number > greatest {
+        return None;
+    }
+    Some((number, rest))
 }
 
 /// A decimal number below 2^64 and one blank at the front, and the bytes behind them.
@@ -34,6 +48,15 @@ pub fn decimal_last(bytes: &[u8]) -> Option<u64>
     ensures { result ≡ decimal_last bytes.now }
 {
     let (number, rest) = decimal_at(bytes)?;
+    if rest.is_empty() { Some(number) } else { None }
+}
+
+/// A decimal number from 1 to a greatest that is all of the bytes.
+#[tactic(auto, unfolding(crate::specs::Fields::then_end))]
+pub fn count_last(greatest: u64, bytes: &[u8]) -> Option<u64>
+    ensures { result ≡ count_last greatest bytes.now }
+{
+    let (number, rest) = count_at(greatest, bytes)?;
     if rest.is_empty() { Some(number) } else { None }
 }
 
