@@ -1,6 +1,6 @@
 //! The parts of a line, with one blank between them.
 
-ghost use Rattle.std.specs.Prelude.{◌≡◌};
+ghost use Rattle.std.specs.Prelude.{◌≡◌, ◌≤◌, IfSome};
 ghost use Rattle.evm_text.specs.Reading.{Reads};
 ghost use Rattle.evm_text.specs.Fields.{u8_at, count_at, count_last, decimal_then, decimal_last, u8_then, u8_last, hexadecimal_then, hexadecimal_last, pairs_last};
 
@@ -21,7 +21,8 @@ fn u8_at(bytes: &[u8]) -> Option<(u8, &[u8])>
 
 #[tactic(auto, unfolding(crate::specs::Fields::count_at))]
 fn count_at(greatest: u64, bytes: &[u8]) -> Option<(u64, &[u8])>
-    ensures { Reads (λ x. (x.0, x.1.now)) result (count_at greatest bytes.now) }
+    ensures range { IfSome result (λ x. x.0 ≤ greatest) }
+    ensures exact { Reads (λ x. (x.0, x.1.now)) result (count_at greatest bytes.now) }
 {
     let (number, rest) = decimal_at(bytes)?;
     if number == 0 {
@@ -54,7 +55,8 @@ pub fn decimal_last(bytes: &[u8]) -> Option<u64>
 /// A decimal number from 1 to a greatest that is all of the bytes.
 #[tactic(auto, unfolding(crate::specs::Fields::then_end))]
 pub fn count_last(greatest: u64, bytes: &[u8]) -> Option<u64>
-    ensures { result ≡ count_last greatest bytes.now }
+    ensures range { IfSome result (λ number. number ≤ greatest) }
+    ensures exact { result ≡ count_last greatest bytes.now }
 {
     let (number, rest) = count_at(greatest, bytes)?;
     if rest.is_empty() { Some(number) } else { None }
