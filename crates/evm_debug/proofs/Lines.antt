@@ -16,7 +16,7 @@ use Rattle.evm_debug.specs.declared.line.View.{View}
 use Rattle.evm_debug.specs.declared.line.View.TheVariants.{Regs, Mem, Stages, Tasks, Owners, Rank, Counts, Journal, Console}
 use Rattle.evm_debug.specs.declared.line.Line.{Line}
 use Rattle.evm_debug.specs.declared.line.Line.TheVariants.{Blank, Boot, Steps, One, Look}
-use Rattle.evm_debug.specs.Line.{bare_rows, view_rows, view_text, HasViewLine, script_boot, script_line, script_rows, is_blank, IsSpelled}
+use Rattle.evm_debug.specs.Line.{bare_rows, view_rows, view_text, HasViewLine, script_boot, script_line, script_rows, is_blank_line, IsSpelled}
 use Rattle.evm_debug.specs.LineReading.{line_at, ReadsLines}
 
 -- ---- a view
@@ -88,7 +88,7 @@ said_grows : (text rest : List ℕ) → is_said text ≡ true → is_said (text 
 said_grows [] rest e = absurd cc
 said_grows (b ∷ text) rest e = e
 
-said_blank : (bytes : List ℕ) → is_said bytes ≡ true → is_blank bytes ≡ false
+said_blank : (bytes : List ℕ) → is_said bytes ≡ true → is_blank_line bytes ≡ false
 said_blank [] e = absurd cc
 said_blank (b ∷ bytes) e =
     elim (cases_Bool (eqb b 35)) [
@@ -105,12 +105,12 @@ row_read line bytes is =
 line_takes : (bytes : List ℕ) (line : Line) → line_at bytes ≡ Some line → IsSpelled line bytes
 unfolding line_at
 line_takes bytes line read =
-    elim (cases_Bool (is_blank bytes)) [
+    elim (cases_Bool (is_blank_line bytes)) [
       | inl blank ↦ subst (λ (x : Line). IsSpelled x bytes) (same_Some Blank line (rw blank at read)) blank
       | inr text ↦ let rest : rows_at script_rows bytes ≡ Some line = rw text at read in row_is_spelled line bytes ((reads_table script_rows line bytes refl).0 rest)
     ]
 
-blank_read : (bytes : List ℕ) → is_blank bytes ≡ true → line_at bytes ≡ Some Blank
+blank_read : (bytes : List ℕ) → is_blank_line bytes ≡ true → line_at bytes ≡ Some Blank
 unfolding line_at
 blank_read bytes blank = rw blank refl
 

@@ -1,6 +1,6 @@
 -- The table of the lines of a script, and their spelling.
 use Rattle.std.specs.Prelude.{◌≡◌, ℕ, Bool, true, List, [], ◌∷◌, ◌++◌, ◌==◌, Option, Some, codes}
-use Rattle.evm_text.specs.Rows.{Byte, Decimal, Hexadecimal, Row, row, Filled, filled, row_text, Fit, values_at, rows_as}
+use Rattle.evm_text.specs.Rows.{Byte, Decimal, Hexadecimal, LineRow, line_row, Filled, with_values, row_text, Fit, values_at, rows_as}
 use Rattle.evm_text.specs.Reading.{◌>>=◌}
 use Rattle.evm_journal.specs.EventLine.{event_rows, event_line_text, HasEventLine}
 use Rattle.evm_journal.specs.Journal.{boot_row, boot_text, HasBootLine}
@@ -14,51 +14,51 @@ use Rattle.evm_debug.specs.declared.line.Line.TheVariants.{Blank, Boot, Steps, O
 
 -- ---- views
 
-abbrev pub regs_row : Row View
-regs_row = row (codes "regs") (Byte ∷ []) Regs
+abbrev pub regs_row : LineRow View
+regs_row = line_row (codes "regs") (Byte ∷ []) Regs
 
-abbrev pub mem_row : Row View
-mem_row = row (codes "mem") (Hexadecimal ∷ Decimal ∷ []) Mem
+abbrev pub mem_row : LineRow View
+mem_row = line_row (codes "mem") (Hexadecimal ∷ Decimal ∷ []) Mem
 
-abbrev pub stages_row : Row View
-stages_row = row (codes "stages") (Byte ∷ []) Stages
+abbrev pub stages_row : LineRow View
+stages_row = line_row (codes "stages") (Byte ∷ []) Stages
 
-abbrev pub rank_row : Row View
-rank_row = row (codes "rank") (Byte ∷ []) Rank
+abbrev pub rank_row : LineRow View
+rank_row = line_row (codes "rank") (Byte ∷ []) Rank
 
-abbrev pub counts_row : Row View
-counts_row = row (codes "counts") (Byte ∷ Byte ∷ []) Counts
+abbrev pub counts_row : LineRow View
+counts_row = line_row (codes "counts") (Byte ∷ Byte ∷ []) Counts
 
-abbrev pub tasks_row : Row View
-tasks_row = row (codes "tasks") [] Tasks
+abbrev pub tasks_row : LineRow View
+tasks_row = line_row (codes "tasks") [] Tasks
 
-abbrev pub owners_row : Row View
-owners_row = row (codes "owners") [] Owners
+abbrev pub owners_row : LineRow View
+owners_row = line_row (codes "owners") [] Owners
 
-abbrev pub journal_row : Row View
-journal_row = row (codes "journal") [] Journal
+abbrev pub journal_row : LineRow View
+journal_row = line_row (codes "journal") [] Journal
 
-abbrev pub console_row : Row View
-console_row = row (codes "console") [] Console
+abbrev pub console_row : LineRow View
+console_row = line_row (codes "console") [] Console
 
 -- the views whose keyword is all of their line
-abbrev pub bare_rows : List (Row View)
+abbrev pub bare_rows : List (LineRow View)
 bare_rows = tasks_row ∷ owners_row ∷ journal_row ∷ console_row ∷ []
 
-abbrev pub view_rows : List (Row View)
+abbrev pub view_rows : List (LineRow View)
 view_rows = regs_row ∷ mem_row ∷ stages_row ∷ rank_row ∷ counts_row ∷ bare_rows
 
 -- the row of a view, with what stands in its fields
 abbrev pub view_row : View → Filled View
-view_row (Regs cpu) = filled regs_row cpu
-view_row (Mem address count) = filled mem_row (address, count)
-view_row (Stages cpu) = filled stages_row cpu
-view_row Tasks = filled tasks_row tt
-view_row Owners = filled owners_row tt
-view_row (Rank task) = filled rank_row task
-view_row (Counts cpu line) = filled counts_row (cpu, line)
-view_row Journal = filled journal_row tt
-view_row Console = filled console_row tt
+view_row (Regs cpu) = with_values regs_row cpu
+view_row (Mem address count) = with_values mem_row (address, count)
+view_row (Stages cpu) = with_values stages_row cpu
+view_row Tasks = with_values tasks_row tt
+view_row Owners = with_values owners_row tt
+view_row (Rank task) = with_values rank_row task
+view_row (Counts cpu line) = with_values counts_row (cpu, line)
+view_row Journal = with_values journal_row tt
+view_row Console = with_values console_row tt
 
 abbrev pub view_text : View → List ℕ
 view_text view = row_text (view_row view)
@@ -82,17 +82,17 @@ script_line (events.One event) = One event
 abbrev pub bare_said : View → List ℕ → Option Line
 bare_said view rest = values_at [] rest >>= λ values. Some (Look view)
 
-abbrev pub script_rows : List (Row Line)
+abbrev pub script_rows : List (LineRow Line)
 script_rows = rows_as script_boot (boot_row ∷ []) ++ (rows_as Look view_rows ++ rows_as script_line event_rows)
 
 -- no bytes, or a # first and any bytes behind it
-abbrev pub is_blank : List ℕ → Bool
-is_blank [] = true
-is_blank (b ∷ bytes) = b == 35
+abbrev pub is_blank_line : List ℕ → Bool
+is_blank_line [] = true
+is_blank_line (b ∷ bytes) = b == 35
 
 -- The bytes, without a newline, are a spelling of the line. Only a blank line has more than one.
 abbrev pub IsSpelled : Line → List ℕ → Type 0
-IsSpelled Blank bytes = is_blank bytes ≡ true
+IsSpelled Blank bytes = is_blank_line bytes ≡ true
 IsSpelled (Boot cpus ram capacity) bytes =
     (bytes ≡ boot_text (record { cpus = cpus; ram = ram; capacity = capacity })) × HasBootLine (record { cpus = cpus; ram = ram; capacity = capacity })
 IsSpelled (Steps cpu count) bytes = (bytes ≡ event_line_text (events.Steps cpu count)) × HasEventLine (events.Steps cpu count)

@@ -3,10 +3,10 @@ use Rattle.std.specs.Prelude.{◌≡◌, ◌↔◌, ℕ, List, Option, Some, if�
 use Rattle.evm_text.specs.Rows.{rows_at}
 use Rattle.evm_debug.specs.declared.line.Line.{Line}
 use Rattle.evm_debug.specs.declared.line.Line.TheVariants.{Blank}
-use Rattle.evm_debug.specs.Line.{script_rows, is_blank, IsSpelled}
+use Rattle.evm_debug.specs.Line.{script_rows, is_blank_line, IsSpelled}
 
 unfoldable pub line_at : List ℕ → Option Line
-line_at bytes = if is_blank bytes then Some Blank else rows_at script_rows bytes
+line_at bytes = if is_blank_line bytes then Some Blank else rows_at script_rows bytes
 
 -- a line is read exactly where the bytes spell it
 abbrev pub ReadsLines : Type 0

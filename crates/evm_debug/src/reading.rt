@@ -3,16 +3,16 @@ ghost use Rattle.std.specs.Result.{result_ok};
 ghost use Rattle.evm_text.specs.Rows.{said_at, rows_at, row_as, rows_as};
 ghost use Rattle.evm_journal.specs.EventLine.{event_rows};
 ghost use Rattle.evm_journal.specs.Journal.{boot_row};
-ghost use Rattle.evm_debug.specs.Line.{mem_row, counts_row, bare_rows, bare_said, view_rows, script_boot, script_line, is_blank, IsSpelled};
+ghost use Rattle.evm_debug.specs.Line.{mem_row, counts_row, bare_rows, bare_said, view_rows, script_boot, script_line, is_blank_line, IsSpelled};
 ghost use Rattle.evm_debug.specs.LineReading.{line_at};
 ghost use Rattle.evm_debug.specs.declared.line.Line.TheVariants.{Look};
 
 use crate::line::{Bad, Line, View};
 use evm_journal::{EventLine, read_event_line};
-use evm_text::{decimal_last, decimal_then, hexadecimal_then, u8_last, u8_then, word_at};
+use evm_text::{after_word, decimal_last, decimal_then, hexadecimal_then, u8_last, u8_then};
 
-fn is_blank(bytes: &[u8]) -> bool
-    ensures { result ≡ is_blank bytes.now }
+fn is_blank_line(bytes: &[u8]) -> bool
+    ensures { result ≡ is_blank_line bytes.now }
 {
     match bytes {
         [] => true,
@@ -70,16 +70,16 @@ fn events_at(bytes: &[u8]) -> Option<Line>
 fn bare_at(bytes: &[u8]) -> Option<Line>
     ensures { result ≡ rows_at (rows_as Look bare_rows ++ rows_as script_line event_rows) bytes.now }
 {
-    if let Some(rest) = word_at(b"tasks", bytes) {
+    if let Some(rest) = after_word(b"tasks", bytes) {
         return bare(View::Tasks, rest);
     }
-    if let Some(rest) = word_at(b"owners", bytes) {
+    if let Some(rest) = after_word(b"owners", bytes) {
         return bare(View::Owners, rest);
     }
-    if let Some(rest) = word_at(b"journal", bytes) {
+    if let Some(rest) = after_word(b"journal", bytes) {
         return bare(View::Journal, rest);
     }
-    if let Some(rest) = word_at(b"console", bytes) {
+    if let Some(rest) = after_word(b"console", bytes) {
         return bare(View::Console, rest);
     }
     events_at(bytes)
@@ -88,19 +88,19 @@ fn bare_at(bytes: &[u8]) -> Option<Line>
 fn view_at(bytes: &[u8]) -> Option<Line>
     ensures { result ≡ rows_at (rows_as Look view_rows ++ rows_as script_line event_rows) bytes.now }
 {
-    if let Some(rest) = word_at(b"regs ", bytes) {
+    if let Some(rest) = after_word(b"regs ", bytes) {
         return Some(Line::Look(View::Regs(u8_last(rest)?)));
     }
-    if let Some(rest) = word_at(b"mem ", bytes) {
+    if let Some(rest) = after_word(b"mem ", bytes) {
         return mem_at(rest);
     }
-    if let Some(rest) = word_at(b"stages ", bytes) {
+    if let Some(rest) = after_word(b"stages ", bytes) {
         return Some(Line::Look(View::Stages(u8_last(rest)?)));
     }
-    if let Some(rest) = word_at(b"rank ", bytes) {
+    if let Some(rest) = after_word(b"rank ", bytes) {
         return Some(Line::Look(View::Rank(u8_last(rest)?)));
     }
-    if let Some(rest) = word_at(b"counts ", bytes) {
+    if let Some(rest) = after_word(b"counts ", bytes) {
         return counts_at(rest);
     }
     bare_at(bytes)
@@ -110,10 +110,10 @@ fn view_at(bytes: &[u8]) -> Option<Line>
 fn line_at(bytes: &[u8]) -> Option<Line>
     ensures { result ≡ line_at bytes.now }
 {
-    if is_blank(bytes) {
+    if is_blank_line(bytes) {
         return Some(Line::Blank);
     }
-    if let Some(rest) = word_at(b"boot ", bytes) {
+    if let Some(rest) = after_word(b"boot ", bytes) {
         return boot_at(rest);
     }
     view_at(bytes)

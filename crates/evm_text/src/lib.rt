@@ -16,7 +16,7 @@ pub use laws::{
     reads_hexadecimals, reads_pairs, reads_pairs_last, reads_u8_last, reads_u8_then, reads_values,
     reads_words,
 };
-pub use reading::{decimal_at, hexadecimal_at, pairs_at, word_at};
+pub use reading::{after_word, decimal_at, hexadecimal_at, pairs_at};
 pub use writing::{push_decimal, push_hexadecimal, push_hexadecimal_padded, push_pairs};
 
 #[cfg(test)]
