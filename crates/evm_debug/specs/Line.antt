@@ -1,48 +1,100 @@
--- The spelling of the lines of a script.
-use Rattle.std.specs.Prelude.{◌≡◌, ℕ, ◌<◌, ◌^◌, Bool, true, List, [], ◌∷◌, ◌==◌, codes}
-use Rattle.evm_text.specs.Written.{decimal, hexadecimal, spaced}
-use Rattle.evm_journal.specs.EventLine.{event_line_text, HasEventLine}
+-- The table of the lines of a script, and their spelling.
+use Rattle.std.specs.Prelude.{◌≡◌, ℕ, Bool, true, List, [], ◌∷◌, ◌++◌, ◌==◌, Option, Some, codes}
+use Rattle.evm_text.specs.Rows.{Byte, Decimal, Hexadecimal, LineRow, line_row, Filled, with_values, row_text, Fit, values_at, rows_as}
+use Rattle.evm_text.specs.Reading.{◌>>=◌}
+use Rattle.evm_journal.specs.EventLine.{event_rows, event_line_text, HasEventLine}
+use Rattle.evm_journal.specs.Journal.{boot_row, boot_text, HasBootLine}
+use Rattle.evm_model.specs.declared.boot.Boot.{Boot as Numbers}
+use Rattle.evm_history.specs.declared.event_line.EventLine.{EventLine}
 use Rattle.evm_history.specs.declared.event_line.EventLine.TheVariants as events
 use Rattle.evm_debug.specs.declared.line.View.{View}
 use Rattle.evm_debug.specs.declared.line.View.TheVariants.{Regs, Mem, Stages, Tasks, Owners, Rank, Counts, Journal, Console}
 use Rattle.evm_debug.specs.declared.line.Line.{Line}
 use Rattle.evm_debug.specs.declared.line.Line.TheVariants.{Blank, Boot, Steps, One, Look}
 
+-- ---- views
+
+abbrev pub regs_row : LineRow View
+regs_row = line_row (codes "regs") (Byte ∷ []) Regs
+
+abbrev pub mem_row : LineRow View
+mem_row = line_row (codes "mem") (Hexadecimal ∷ Decimal ∷ []) Mem
+
+abbrev pub stages_row : LineRow View
+stages_row = line_row (codes "stages") (Byte ∷ []) Stages
+
+abbrev pub rank_row : LineRow View
+rank_row = line_row (codes "rank") (Byte ∷ []) Rank
+
+abbrev pub counts_row : LineRow View
+counts_row = line_row (codes "counts") (Byte ∷ Byte ∷ []) Counts
+
+abbrev pub tasks_row : LineRow View
+tasks_row = line_row (codes "tasks") [] Tasks
+
+abbrev pub owners_row : LineRow View
+owners_row = line_row (codes "owners") [] Owners
+
+abbrev pub journal_row : LineRow View
+journal_row = line_row (codes "journal") [] Journal
+
+abbrev pub console_row : LineRow View
+console_row = line_row (codes "console") [] Console
+
+-- the views whose keyword is all of their line
+abbrev pub bare_rows : List (LineRow View)
+bare_rows = tasks_row ∷ owners_row ∷ journal_row ∷ console_row ∷ []
+
+abbrev pub view_rows : List (LineRow View)
+view_rows = regs_row ∷ mem_row ∷ stages_row ∷ rank_row ∷ counts_row ∷ bare_rows
+
+-- the row of a view, with what stands in its fields
+abbrev pub view_row : View → Filled View
+view_row (Regs cpu) = with_values regs_row cpu
+view_row (Mem address count) = with_values mem_row (address, count)
+view_row (Stages cpu) = with_values stages_row cpu
+view_row Tasks = with_values tasks_row tt
+view_row Owners = with_values owners_row tt
+view_row (Rank task) = with_values rank_row task
+view_row (Counts cpu line) = with_values counts_row (cpu, line)
+view_row Journal = with_values journal_row tt
+view_row Console = with_values console_row tt
+
 abbrev pub view_text : View → List ℕ
-view_text (Regs cpu) = spaced (codes "regs" ∷ decimal cpu ∷ [])
-view_text (Mem address count) = spaced (codes "mem" ∷ hexadecimal address ∷ decimal count ∷ [])
-view_text (Stages cpu) = spaced (codes "stages" ∷ decimal cpu ∷ [])
-view_text Tasks = codes "tasks"
-view_text Owners = codes "owners"
-view_text (Rank task) = spaced (codes "rank" ∷ decimal task ∷ [])
-view_text (Counts cpu line) = spaced (codes "counts" ∷ decimal cpu ∷ decimal line ∷ [])
-view_text Journal = codes "journal"
-view_text Console = codes "console"
+view_text view = row_text (view_row view)
 
--- a line has a processor, a task or a line below 256, an address and a count below 2 ^ 64
+-- a view has values that its fields take
 abbrev pub HasViewLine : View → Type 0
-HasViewLine (Regs cpu) = cpu < 256
-HasViewLine (Mem address count) = (address < 2 ^ 64) × (count < 2 ^ 64)
-HasViewLine (Stages cpu) = cpu < 256
-HasViewLine Tasks = Unit {0}
-HasViewLine Owners = Unit {0}
-HasViewLine (Rank task) = task < 256
-HasViewLine (Counts cpu line) = (cpu < 256) × (line < 256)
-HasViewLine Journal = Unit {0}
-HasViewLine Console = Unit {0}
+HasViewLine view = Fit (view_row view)
 
-abbrev pub boot_text : ℕ → ℕ → ℕ → List ℕ
-boot_text cpus ram capacity = spaced (codes "boot" ∷ decimal cpus ∷ decimal ram ∷ decimal capacity ∷ [])
+-- ---- a script
+
+-- a boot line in a script
+abbrev pub script_boot : Numbers → Line
+script_boot boot = Boot boot.cpus boot.ram boot.capacity
+
+-- a line of events in a script
+abbrev pub script_line : EventLine → Line
+script_line (events.Steps cpu count) = Steps cpu count
+script_line (events.One event) = One event
+
+-- what a view says whose keyword is all of its line, where nothing stands behind
+abbrev pub bare_said : View → List ℕ → Option Line
+bare_said view rest = values_at [] rest >>= λ values. Some (Look view)
+
+abbrev pub script_rows : List (LineRow Line)
+script_rows = rows_as script_boot (boot_row ∷ []) ++ (rows_as Look view_rows ++ rows_as script_line event_rows)
 
 -- no bytes, or a # first and any bytes behind it
-abbrev pub is_blank : List ℕ → Bool
-is_blank [] = true
-is_blank (b ∷ bytes) = b == 35
+abbrev pub is_blank_line : List ℕ → Bool
+is_blank_line [] = true
+is_blank_line (b ∷ bytes) = b == 35
 
 -- The bytes, without a newline, are a spelling of the line. Only a blank line has more than one.
 abbrev pub IsSpelled : Line → List ℕ → Type 0
-IsSpelled Blank bytes = is_blank bytes ≡ true
-IsSpelled (Boot cpus ram capacity) bytes = (bytes ≡ boot_text cpus ram capacity) × (cpus < 2 ^ 64) × (ram < 2 ^ 64) × (capacity < 2 ^ 64)
+IsSpelled Blank bytes = is_blank_line bytes ≡ true
+IsSpelled (Boot cpus ram capacity) bytes =
+    (bytes ≡ boot_text (record { cpus = cpus; ram = ram; capacity = capacity })) × HasBootLine (record { cpus = cpus; ram = ram; capacity = capacity })
 IsSpelled (Steps cpu count) bytes = (bytes ≡ event_line_text (events.Steps cpu count)) × HasEventLine (events.Steps cpu count)
 IsSpelled (One event) bytes = (bytes ≡ event_line_text (events.One event)) × HasEventLine (events.One event)
 IsSpelled (Look view) bytes = (bytes ≡ view_text view) × HasViewLine view

@@ -1,7 +1,7 @@
 -- The pieces of a line, as the code strings them together.
 use Rattle.std.specs.Prelude.{ℕ, List, [], ◌∷◌, ◌++◌}
 use Rattle.evm_text.specs.Written.{decimal}
-use Rattle.evm_debug.specs.Views.{word_text, lines_text, bit_text, number_text, two_digits, state_text, class_text, stage_text}
+use Rattle.evm_debug.specs.Views.{word_text, line_set_text, bit_text, number_text, two_digits, state_text, class_text, stage_text}
 use Rattle.evm_debug.specs.declared.piece.Piece.{Piece}
 use Rattle.evm_debug.specs.declared.piece.Piece.TheVariants.{Text, Decimal, Word, Lines, Bit, Number, TwoDigits, State, Class, Stage}
 
@@ -9,7 +9,7 @@ abbrev pub piece_text : Piece → List ℕ
 piece_text (Text s) = s.now
 piece_text (Decimal n) = decimal n
 piece_text (Word n) = word_text n
-piece_text (Lines lines) = lines_text lines
+piece_text (Lines lines) = line_set_text lines
 piece_text (Bit b) = bit_text b
 piece_text (Number t) = number_text t
 piece_text (TwoDigits n) = two_digits n

@@ -30,17 +30,17 @@ use Rattle.evm_model.specs.declared.task.Wait.{Wait}
 use Rattle.evm_model.specs.declared.task.Wait.TheVariants as wait
 
 -- parts of a text, one behind another
-abbrev pub joined : List (List ℕ) → List ℕ
-joined [] = []
-joined (part ∷ parts) = part ++ joined parts
+abbrev pub parts_text : List (List ℕ) → List ℕ
+parts_text [] = []
+parts_text (part ∷ parts) = part ++ parts_text parts
 
 -- a number of 16 hexadecimal digits
 abbrev pub word_text : ℕ → List ℕ
 word_text n = hexadecimal_padded 16 n
 
 -- a set of lines, as a number of 8 hexadecimal digits with bit l for line l
-abbrev pub lines_text : List ℕ → List ℕ
-lines_text lines = hexadecimal_padded 8 (word_of lines)
+abbrev pub line_set_text : List ℕ → List ℕ
+line_set_text lines = hexadecimal_padded 8 (word_of lines)
 
 abbrev pub bit_text : Bool → List ℕ
 bit_text b = if b then codes "1" else codes "0"
@@ -54,8 +54,8 @@ abbrev pub two_digits : ℕ → List ℕ
 two_digits n = decimal (n / 10) ++ decimal (n % 10)
 
 -- four registers from r on, each with its number of two digits
-abbrev pub register_line : ℕ → List ℕ → List ℕ
-register_line r regs = joined (
+abbrev pub four_registers : ℕ → List ℕ → List ℕ
+four_registers r regs = parts_text (
     codes "x" ∷ two_digits r ∷ codes " " ∷ word_text (register_of regs r)
     ∷ codes " x" ∷ two_digits (r + 1) ∷ codes " " ∷ word_text (register_of regs (r + 1))
     ∷ codes " x" ∷ two_digits (r + 2) ∷ codes " " ∷ word_text (register_of regs (r + 2))
@@ -64,7 +64,7 @@ register_line r regs = joined (
 -- four registers a line, from r on
 unfoldable pub register_lines : ℕ → ℕ → List ℕ → List ℕ
 register_lines r zero regs = []
-register_lines r (suc count) regs = register_line r regs ++ register_lines (r + 4) count regs
+register_lines r (suc count) regs = four_registers r regs ++ register_lines (r + 4) count regs
 
 abbrev pub registers_text : List ℕ → List ℕ
 registers_text regs = register_lines 0 8 regs
@@ -78,7 +78,7 @@ abbrev pub current_text : ℕ → Option Task → Option Hart → List ℕ
 current_text t None hart = codes "none\n"
 current_text t (Some task) None = codes "none\n"
 current_text t (Some task) (Some hart) =
-    joined (codes "task " ∷ decimal t ∷ codes " " ∷ stage_text task.state ∷ codes " pc " ∷ word_text hart.pc ∷ codes "\n" ∷ [])
+    parts_text (codes "task " ∷ decimal t ∷ codes " " ∷ stage_text task.state ∷ codes " pc " ∷ word_text hart.pc ∷ codes "\n" ∷ [])
     ++ registers_text hart.regs
 
 abbrev pub regs_text : Option ℕ → Parts → List ℕ
@@ -111,7 +111,7 @@ state_text (state.Faulted fault) = codes "fault " ++ decimal (fault_number fault
 abbrev pub task_text : ℕ → Option Task → Option Hart → List ℕ
 task_text t None hart = []
 task_text t (Some task) None = []
-task_text t (Some task) (Some hart) = joined (
+task_text t (Some task) (Some hart) = parts_text (
     decimal t ∷ codes " cpu " ∷ decimal task.cpu ∷ codes " " ∷ class_text task.class ∷ codes " " ∷ decimal task.priority
     ∷ codes " " ∷ state_text task.state ∷ codes " pc " ∷ word_text hart.pc ∷ codes "\n" ∷ [])
 
@@ -128,7 +128,7 @@ tasks_text k = tasks_below (length k.tasks) k
 abbrev pub owner_text : ℕ → Option Mutex → List ℕ
 owner_text m None = []
 owner_text m (Some mutex) =
-    joined (decimal m ∷ codes " owner " ∷ number_text mutex.owner ∷ codes " count " ∷ decimal mutex.count ∷ codes "\n" ∷ [])
+    parts_text (decimal m ∷ codes " owner " ∷ number_text mutex.owner ∷ codes " count " ∷ decimal mutex.count ∷ codes "\n" ∷ [])
 
 -- the mutexes below a number, by their numbers
 unfoldable pub owners_below : ℕ → List Mutex → List ℕ
@@ -140,20 +140,20 @@ abbrev pub owners_text : Parts → List ℕ
 owners_text k = owners_below (length k.mutexes) k.mutexes
 
 abbrev pub rank_text : ℕ → List ℕ
-rank_text n = joined (codes "rank " ∷ decimal n ∷ codes "\n" ∷ [])
+rank_text n = parts_text (codes "rank " ∷ decimal n ∷ codes "\n" ∷ [])
 
 -- processor c: its task, its two logs with their stall bits, its in-band task, its wire, and its stop and skip bits
 abbrev pub stages_text : ℕ → Processor → Stages → List ℕ
-stages_text c p stages = joined (
+stages_text c p stages = parts_text (
     codes "cpu " ∷ decimal c ∷ codes " current " ∷ number_text p.current
-    ∷ codes " oob " ∷ bit_text stages.oob.stalled ∷ codes " " ∷ lines_text stages.oob.lines
-    ∷ codes " in " ∷ bit_text stages.inband.stalled ∷ codes " " ∷ lines_text stages.inband.lines
-    ∷ codes " task " ∷ number_text p.in_band_task ∷ codes " wire " ∷ lines_text stages.wire
+    ∷ codes " oob " ∷ bit_text stages.oob.stalled ∷ codes " " ∷ line_set_text stages.oob.lines
+    ∷ codes " in " ∷ bit_text stages.inband.stalled ∷ codes " " ∷ line_set_text stages.inband.lines
+    ∷ codes " task " ∷ number_text p.in_band_task ∷ codes " wire " ∷ line_set_text stages.wire
     ∷ codes " stop " ∷ bit_text p.stopped ∷ codes " skip " ∷ bit_text p.skip ∷ codes "\n" ∷ [])
 
 -- the counts of a line; of each stage its arrivals, merged and played
 abbrev pub counts_text : Counts → List ℕ
-counts_text n = joined (
+counts_text n = parts_text (
     codes "raised " ∷ decimal n.raised ∷ codes " merged " ∷ decimal n.merged ∷ codes " received " ∷ decimal n.received
     ∷ codes " oob " ∷ decimal n.oob.arrivals ∷ codes " " ∷ decimal n.oob.merged ∷ codes " " ∷ decimal n.oob.played
     ∷ codes " in " ∷ decimal n.inband.arrivals ∷ codes " " ∷ decimal n.inband.merged ∷ codes " " ∷ decimal n.inband.played
@@ -174,14 +174,14 @@ abbrev pub rank_of : Option Task → ℕ → Result (List ℕ) Refusal
 rank_of None n = Err NoTask
 rank_of (Some task) n = Ok (rank_text n)
 
-abbrev pub line_of : Option Counts → Result (List ℕ) Refusal
-line_of None = Err NoSuchLine
-line_of (Some n) = Ok (counts_text n)
+abbrev pub counts_of_line : Option Counts → Result (List ℕ) Refusal
+counts_of_line None = Err NoSuchLine
+counts_of_line (Some n) = Ok (counts_text n)
 
 -- the processor is looked for before the line
 abbrev pub counts_shown : Option Stages → Option Counts → Result (List ℕ) Refusal
 counts_shown None counts = Err NoSuchCpu
-counts_shown (Some stages) counts = line_of counts
+counts_shown (Some stages) counts = counts_of_line counts
 
 abbrev pub bytes_text : Option (List ℕ) → Result (List ℕ) Refusal
 bytes_text None = Err BadAddress

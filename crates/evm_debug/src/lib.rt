@@ -16,7 +16,7 @@ pub use laws::reads_lines;
 pub use line::{Bad, Line, View};
 pub use look::ViewRefusal;
 pub use reading::read_line;
-pub use showing::show;
+pub use showing::view;
 
 #[cfg(test)]
 mod tests;

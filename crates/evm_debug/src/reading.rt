@@ -1,14 +1,18 @@
-ghost use Rattle.std.specs.Prelude.{◌≡◌, ◌↔◌, Ok};
+ghost use Rattle.std.specs.Prelude.{◌≡◌, ◌↔◌, ◌++◌, Ok, Some, []};
 ghost use Rattle.std.specs.Result.{result_ok};
-ghost use Rattle.evm_debug.specs.Line.{is_blank, IsSpelled};
-ghost use Rattle.evm_debug.specs.LineReading.{boot_at, mem_at, counts_at, view_at, line_at};
+ghost use Rattle.evm_text.specs.Rows.{said_at, rows_at, row_as, rows_as};
+ghost use Rattle.evm_journal.specs.EventLine.{event_rows};
+ghost use Rattle.evm_journal.specs.Journal.{boot_row};
+ghost use Rattle.evm_debug.specs.Line.{mem_row, counts_row, bare_rows, bare_said, view_rows, script_boot, script_line, is_blank_line, IsSpelled};
+ghost use Rattle.evm_debug.specs.LineReading.{line_at};
+ghost use Rattle.evm_debug.specs.declared.line.Line.TheVariants.{Look};
 
 use crate::line::{Bad, Line, View};
 use evm_journal::{EventLine, read_event_line};
-use evm_text::{decimal_last, decimal_then, hexadecimal_then, u8_last, u8_then, word_at};
+use evm_text::{after_word, decimal_last, decimal_then, hexadecimal_then, u8_last, u8_then};
 
-fn is_blank(bytes: &[u8]) -> bool
-    ensures { result ≡ is_blank bytes.now }
+fn is_blank_line(bytes: &[u8]) -> bool
+    ensures { result ≡ is_blank_line bytes.now }
 {
     match bytes {
         [] => true,
@@ -16,9 +20,8 @@ fn is_blank(bytes: &[u8]) -> bool
     }
 }
 
-#[tactic(auto, unfolding(crate::specs::LineReading::boot_at))]
 fn boot_at(bytes: &[u8]) -> Option<Line>
-    ensures { result ≡ boot_at bytes.now }
+    ensures { result ≡ said_at (row_as script_boot boot_row) bytes.now }
 {
     let (cpus, rest) = decimal_then(bytes)?;
     let (ram, rest) = decimal_then(rest)?;
@@ -30,87 +33,90 @@ fn boot_at(bytes: &[u8]) -> Option<Line>
     })
 }
 
-#[tactic(auto, unfolding(crate::specs::LineReading::mem_at))]
-fn mem_at(bytes: &[u8]) -> Option<View>
-    ensures { result ≡ mem_at bytes.now }
+fn mem_at(bytes: &[u8]) -> Option<Line>
+    ensures { result ≡ said_at (row_as Look mem_row) bytes.now }
 {
     let (address, rest) = hexadecimal_then(bytes)?;
-    Some(View::Mem(address, decimal_last(rest)?))
+    Some(Line::Look(View::Mem(address, decimal_last(rest)?)))
 }
 
-#[tactic(auto, unfolding(crate::specs::LineReading::counts_at))]
-fn counts_at(bytes: &[u8]) -> Option<View>
-    ensures { result ≡ counts_at bytes.now }
+fn counts_at(bytes: &[u8]) -> Option<Line>
+    ensures { result ≡ said_at (row_as Look counts_row) bytes.now }
 {
     let (cpu, rest) = u8_then(bytes)?;
-    Some(View::Counts(cpu, u8_last(rest)?))
+    Some(Line::Look(View::Counts(cpu, u8_last(rest)?)))
 }
 
-#[tactic(auto, unfolding(crate::specs::LineReading::view_at))]
-fn view_at(bytes: &[u8]) -> Option<View>
-    ensures { result ≡ view_at bytes.now }
+// A view whose keyword is all of its line.
+fn bare(view: View, rest: &[u8]) -> Option<Line>
+    ensures { result ≡ bare_said view rest.now }
 {
-    if let Some(rest) = word_at(b"regs ", bytes) {
-        return Some(View::Regs(u8_last(rest)?));
-    }
-    if let Some(rest) = word_at(b"mem ", bytes) {
-        return mem_at(rest);
-    }
-    if let Some(rest) = word_at(b"stages ", bytes) {
-        return Some(View::Stages(u8_last(rest)?));
-    }
-    if let Some(rest) = word_at(b"tasks", bytes) {
-        return if rest.is_empty() {
-            Some(View::Tasks)
-        } else {
-            None
-        };
-    }
-    if let Some(rest) = word_at(b"owners", bytes) {
-        return if rest.is_empty() {
-            Some(View::Owners)
-        } else {
-            None
-        };
-    }
-    if let Some(rest) = word_at(b"rank ", bytes) {
-        return Some(View::Rank(u8_last(rest)?));
-    }
-    if let Some(rest) = word_at(b"counts ", bytes) {
-        return counts_at(rest);
-    }
-    if let Some(rest) = word_at(b"journal", bytes) {
-        return if rest.is_empty() {
-            Some(View::Journal)
-        } else {
-            None
-        };
-    }
-    let rest = word_at(b"console", bytes)?;
     if rest.is_empty() {
-        Some(View::Console)
+        Some(Line::Look(view))
     } else {
         None
     }
+}
+
+fn events_at(bytes: &[u8]) -> Option<Line>
+    ensures { result ≡ rows_at (rows_as script_line event_rows) bytes.now }
+{
+    match read_event_line(bytes)? {
+        EventLine::Steps(cpu, count) => Some(Line::Steps(cpu, count)),
+        EventLine::One(event) => Some(Line::One(event)),
+    }
+}
+
+fn bare_at(bytes: &[u8]) -> Option<Line>
+    ensures { result ≡ rows_at (rows_as Look bare_rows ++ rows_as script_line event_rows) bytes.now }
+{
+    if let Some(rest) = after_word(b"tasks", bytes) {
+        return bare(View::Tasks, rest);
+    }
+    if let Some(rest) = after_word(b"owners", bytes) {
+        return bare(View::Owners, rest);
+    }
+    if let Some(rest) = after_word(b"journal", bytes) {
+        return bare(View::Journal, rest);
+    }
+    if let Some(rest) = after_word(b"console", bytes) {
+        return bare(View::Console, rest);
+    }
+    events_at(bytes)
+}
+
+fn view_at(bytes: &[u8]) -> Option<Line>
+    ensures { result ≡ rows_at (rows_as Look view_rows ++ rows_as script_line event_rows) bytes.now }
+{
+    if let Some(rest) = after_word(b"regs ", bytes) {
+        return Some(Line::Look(View::Regs(u8_last(rest)?)));
+    }
+    if let Some(rest) = after_word(b"mem ", bytes) {
+        return mem_at(rest);
+    }
+    if let Some(rest) = after_word(b"stages ", bytes) {
+        return Some(Line::Look(View::Stages(u8_last(rest)?)));
+    }
+    if let Some(rest) = after_word(b"rank ", bytes) {
+        return Some(Line::Look(View::Rank(u8_last(rest)?)));
+    }
+    if let Some(rest) = after_word(b"counts ", bytes) {
+        return counts_at(rest);
+    }
+    bare_at(bytes)
 }
 
 #[tactic(auto, unfolding(crate::specs::LineReading::line_at))]
 fn line_at(bytes: &[u8]) -> Option<Line>
     ensures { result ≡ line_at bytes.now }
 {
-    if is_blank(bytes) {
+    if is_blank_line(bytes) {
         return Some(Line::Blank);
     }
-    if let Some(rest) = word_at(b"boot ", bytes) {
+    if let Some(rest) = after_word(b"boot ", bytes) {
         return boot_at(rest);
     }
-    if let Some(view) = view_at(bytes) {
-        return Some(Line::Look(view));
-    }
-    match read_event_line(bytes)? {
-        EventLine::Steps(cpu, count) => Some(Line::Steps(cpu, count)),
-        EventLine::One(event) => Some(Line::One(event)),
-    }
+    view_at(bytes)
 }
 
 /// What a line of a script says. It comes without its newline.

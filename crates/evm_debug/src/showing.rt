@@ -23,13 +23,13 @@ fn made(out: String, pushed: Result<(), AllocError>) -> Result<String, ViewRefus
     }
 }
 
-/// What a view shows, or why it is refused.
+/// The text of a view, or why it is refused.
 #[tactic(auto, unfolding(crate::specs::Views::shown))]
-pub fn show(alloc: Global, machine: &Machine, view: &View) -> Result<String, ViewRefusal>
-    ensures { MatchResult result (λ text. shown view.now machine.now ≡ Result.Ok (string_bytes text)) (λ e. ViewFails e (shown view.now machine.now)) }
+pub fn view(alloc: Global, machine: &Machine, what: &View) -> Result<String, ViewRefusal>
+    ensures { MatchResult result (λ text. shown what.now machine.now ≡ Result.Ok (string_bytes text)) (λ e. ViewFails e (shown what.now machine.now)) }
 {
     let mut out = String::new(alloc);
-    let pushed = match view {
+    let pushed = match what {
         View::Journal => {
             return match write_journal(alloc, machine) {
                 Ok(text) => Ok(text),

@@ -1,6 +1,6 @@
 ghost use Rattle.std.specs.Prelude.{◌≡◌, ◌<◌, ◌+◌, ◌++◌, OnOk, Option, slice_get};
 ghost use Rattle.std.specs.String.{string_bytes};
-ghost use Rattle.evm_debug.specs.Views.{register_line, registers_text, current_text, regs_text, task_text, tasks_text, owner_text, owners_text, rank_text, stages_text, counts_text};
+ghost use Rattle.evm_debug.specs.Views.{four_registers, registers_text, current_text, regs_text, task_text, tasks_text, owner_text, owners_text, rank_text, stages_text, counts_text};
 ghost use Rattle.evm_exec.specs.Registers.{register_of};
 
 use crate::piece::Piece;
@@ -24,7 +24,7 @@ fn value(hart: &Hart, r: u8) -> u64
 
 fn push_register_line(out: &mut String, r: u8, hart: &Hart) -> Result<(), AllocError>
     requires { r + 3 < 32 }
-    ensures { OnOk result (string_bytes out.new ≡ string_bytes out.old ++ register_line r hart.now.regs) }
+    ensures { OnOk result (string_bytes out.new ≡ string_bytes out.old ++ four_registers r hart.now.regs) }
 {
     let line = [
         Piece::Text("x"),

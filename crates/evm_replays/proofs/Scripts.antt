@@ -5,6 +5,7 @@ use Rattle.evm_image.specs.Images.{Contents}
 use Rattle.evm_history.specs.Runs.{line_of}
 use Rattle.evm_history.specs.declared.event_line.EventLine.TheVariants as events
 use Rattle.evm_journal.specs.EventLine.{HasEventLine}
+use Rattle.evm_journal.specs.Journal.{HasBootLine}
 use Rattle.evm_model.specs.Replay.{apply}
 use Rattle.evm_model.specs.State.{State}
 use Rattle.evm_model.specs.declared.event.Answer.{Answer}
@@ -44,7 +45,7 @@ steps-lead image n c count s (Ok new) e cpu d = driven-steps image c count s new
 steps-lead image n c count s (Err refusal) e cpu d = tt
 
 boot-leads : (image : Contents) (n : ℕ) (boot : Boot) (r : Result State Refusal) → started (Some image) boot ≡ r
-    → (boot.cpus < 2 ^ 64) × (boot.ram < 2 ^ 64) × (boot.capacity < 2 ^ 64) → LeadsOn image (machine_told n r)
+    → HasBootLine boot → LeadsOn image (machine_told n r)
 boot-leads image n boot (Ok s) e line = driven-boot image boot s line e
 boot-leads image n boot (Err refusal) e line = tt
 
@@ -70,7 +71,7 @@ one-line (Unbreak a) h = h
 spelled-leads : (image : Contents) (n : ℕ) (machine : Option State) (line : Line) (bytes : List ℕ) → IsSpelled line bytes → AreDriven image machine → LeadsOn image (told_at (Some image) n machine line)
 spelled-leads image n None lines.Blank bytes h d = tt
 spelled-leads image n None (lines.Boot cpus ram capacity) bytes h d =
-    boot-leads image n (record { cpus = cpus; ram = ram; capacity = capacity }) (started (Some image) (record { cpus = cpus; ram = ram; capacity = capacity })) refl (h.1, h.2, h.3)
+    boot-leads image n (record { cpus = cpus; ram = ram; capacity = capacity }) (started (Some image) (record { cpus = cpus; ram = ram; capacity = capacity })) refl h.1
 spelled-leads image n None (lines.Steps c count) bytes h d = tt
 spelled-leads image n None (lines.One event) bytes h d = tt
 spelled-leads image n None (lines.Look view) bytes h d = tt

@@ -156,7 +156,7 @@ abbrev pub MutexesStay : Option ℕ → List Mutex → List Mutex → Type 0
 MutexesStay holder old new = (m : ℕ) (before : Mutex) → slice_get old m ≡ Some before → (slice_get new m ≡ Some before) ⊎ MutexChanges holder m before new
 
 -- there is one mutex more, the last, and it is free
-pub record Makes (old new : List Mutex) : Type 0 where
+pub record AddsMutex (old new : List Mutex) : Type 0 where
   pub recursive : Bool
   pub protocol : Protocol
   pub count : length new ≡ length old + 1
@@ -165,7 +165,7 @@ pub record Makes (old new : List Mutex) : Type 0 where
 
 -- as many mutexes as before, or one more
 abbrev pub Made : List Mutex → List Mutex → Type 0
-Made old new = (length new ≡ length old) ⊎ Makes old new
+Made old new = (length new ≡ length old) ⊎ AddsMutex old new
 
 -- task t, current on c, is ready out-of-band and of the round-robin class, and spends its slice: there is less of it with the stamp of before, or with a later stamp a whole one at most; nothing else of the task is another
 pub record Spends (c t : ℕ) (old new : Parts) : Type 0 where

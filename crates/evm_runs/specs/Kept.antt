@@ -28,12 +28,12 @@ pub record SameSizes (old new : Board) : Type 0 where
   pub registers : AllHaveRegisters old.parts.harts → AllHaveRegisters new.parts.harts
 
 -- no list of events changes a size, nor the boot numbers
-pub record Stays (old new : State) : Type 0 where
+pub record KeepsSizes (old new : State) : Type 0 where
   pub boot : new.boot ≡ old.boot
   pub sizes : SameSizes old.board new.board
 
 abbrev pub SizesStay : Type 0
-SizesStay = (s : State) (events : List Event) → Stays s (replay s events)
+SizesStay = (s : State) (events : List Event) → KeepsSizes s (replay s events)
 
 -- as many processors, pipes and bytes as the boot numbers say, 1 to 64 tasks, a hart for each, and x0 is zero
 pub record IsAsBooted (boot : Boot) (s : State) : Type 0 where

@@ -9,7 +9,7 @@ use crate::ending::Reply;
 use crate::starting::start;
 use crate::texts::{bad, refused};
 use evm_core::{Boot, Event, Machine, Refusal};
-use evm_debug::{Line, View, ViewRefusal, read_line, show};
+use evm_debug::{Line, View, ViewRefusal, read_line, view};
 use evm_image::Image;
 use evm_ram::NoMemory;
 use std::alloc::Global;
@@ -110,7 +110,7 @@ fn tell_booted(
             Ok(_) => Ok(Reply::Goes(String::new(alloc))),
             Err(refusal) => ends_refused(alloc, number, refusal),
         },
-        Line::Look(view) => match show(alloc, machine, &view) {
+        Line::Look(what) => match view(alloc, machine, &what) {
             Ok(text) => Ok(Reply::Goes(text)),
             Err(ViewRefusal::Refused(refusal)) => ends_refused(alloc, number, refusal),
             Err(ViewRefusal::NoMemory) => Err(NoMemory),

@@ -7,3 +7,4 @@ pub mod Numbers
 pub mod Steps
 pub mod RoundTrips
 pub mod Parts
+pub mod Rows

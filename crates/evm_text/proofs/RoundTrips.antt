@@ -5,13 +5,13 @@ use Rattle.std.proofs.Math.Nat.{pow-suc}
 use Rattle.std.proofs.lemmas.Nat.{div_below}
 use Rattle.std.proofs.lemmas.Bool.{cases_lt, le-ltb}
 use Rattle.evm_text.specs.Written.{numeral, hexadecimal_padded, character}
-use Rattle.evm_text.specs.Reading.{number_at, pairs_at, word_at}
+use Rattle.evm_text.specs.Reading.{number_at, pairs_at, after_word}
 use Rattle.evm_text.specs.Laws.{ReadsDecimals, ReadsHexadecimals, ReadsPairs, ReadsWords, PadsToCount, DividesDecimals, DividesHexadecimals, PadsWithZeros}
 use Rattle.evm_text.proofs.Numerals.{IsBase, Fits, Fits_from_power, numeral-divides}
 use Rattle.evm_text.proofs.Numbers.{number_at-takes, number_at-again}
 use Rattle.evm_text.proofs.Steps.{numeral_one}
 use Rattle.evm_text.proofs.Pairs.{pairs_at-takes, pairs_at-again}
-use Rattle.evm_text.proofs.Words.{word_at-takes, word_at-again}
+use Rattle.evm_text.proofs.Words.{after_word-takes, after_word-again}
 
 ten : IsBase 10
 ten = record { low = omega arith; high = omega arith }
@@ -41,7 +41,7 @@ pub reads_pairs : ReadsPairs
 reads_pairs block rest bytes = (pairs_at-takes block rest bytes, λ s. ap pairs_at s.0.whole ∙ pairs_at-again block rest s.1 s.0.apart)
 
 pub reads_words : ReadsWords
-reads_words word rest bytes = (word_at-takes word rest bytes, λ e. ap (word_at word) e ∙ word_at-again word rest)
+reads_words word rest bytes = (after_word-takes word rest bytes, λ e. ap (after_word word) e ∙ after_word-again word rest)
 
 pub pads_to_count : PadsToCount
 unfolding hexadecimal_padded

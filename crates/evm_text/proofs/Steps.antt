@@ -64,3 +64,8 @@ unfolding pairs
 pairs_more old bytes i lt =
     let more = pairs-append (take i bytes) (get_or bytes i 0 ∷ []) in
     rw (take_more bytes i 0 lt, more) (simp append_assoc)
+
+pub length_pairs : (bytes : List ℕ) → length (pairs bytes) ≡ 2 * length bytes
+unfolding pairs
+length_pairs [] = refl
+length_pairs (byte ∷ bytes) = omega (arith, length_pairs bytes)

@@ -2,7 +2,7 @@
 use Rattle.std.specs.Prelude.{◌≡◌, ◌↔◌, ℕ, ◌/◌, ◌%◌, ◌<◌, ◌≤◌, ◌^◌, false, List, [], ◌∷◌, ◌++◌, length, replicate, Some, nat_lt, if◌then◌else◌}
 use Rattle.std.specs.List.{AllByRecursion}
 use Rattle.evm_text.specs.Written.{character, decimal, hexadecimal, hexadecimal_padded, pairs}
-use Rattle.evm_text.specs.Reading.{begins_with_digit, decimal_at, hexadecimal_at, pairs_at, word_at}
+use Rattle.evm_text.specs.Reading.{begins_with_digit, decimal_at, hexadecimal_at, pairs_at, after_word}
 
 -- the bytes are a text, and behind it a rest that doesn't go on with a digit of the base
 pub record Splits (base : ℕ) (text rest bytes : List ℕ) : Type 0 where
@@ -25,7 +25,7 @@ abbrev pub ReadsPairs : Type 0
 ReadsPairs = (block rest bytes : List ℕ) → (pairs_at bytes ≡ Some (block, rest)) ↔ (Splits 16 (pairs block) rest bytes × IsBlock block)
 
 abbrev pub ReadsWords : Type 0
-ReadsWords = (word rest bytes : List ℕ) → (word_at word bytes ≡ Some rest) ↔ (bytes ≡ word ++ rest)
+ReadsWords = (word rest bytes : List ℕ) → (after_word word bytes ≡ Some rest) ↔ (bytes ≡ word ++ rest)
 
 -- a number's digits are its quotient's and then its remainder's, as long as there is a quotient
 abbrev pub DividesDecimals : Type 0

@@ -8,9 +8,9 @@ abbrev pub ◌>>=◌ : {A B : Type 0} → Option A → (A → Option B) → Opti
 None >>= f = None
 
 -- what a function answered, seen so, is what is read
-abbrev pub Reads : {X Y : Type 0} → (X → Y) → Option X → Option Y → Type 0
-Reads view (Some x) read = read ≡ Some (view x)
-Reads view None read = read ≡ None
+abbrev pub ReadsAs : {X Y : Type 0} → (X → Y) → Option X → Option Y → Type 0
+ReadsAs view (Some x) read = read ≡ Some (view x)
+ReadsAs view None read = read ≡ None
 
 -- what a character is worth as a digit: 0 to 9, ten to fifteen for a to f, and sixteen for any other character
 unfoldable pub worth : ℕ → ℕ
@@ -58,7 +58,7 @@ unfoldable pub pairs_at : List ℕ → Option (List ℕ × List ℕ)
 pairs_at bytes = pairs_on [] bytes >>= λ x. if length x.0 == 0 then None else Some x
 
 -- the bytes behind a word that stands at the front
-unfoldable pub word_at : List ℕ → List ℕ → Option (List ℕ)
-word_at [] bytes = Some bytes
-word_at (c ∷ word) [] = None
-word_at (c ∷ word) (b ∷ bytes) = if b == c then word_at word bytes else None
+unfoldable pub after_word : List ℕ → List ℕ → Option (List ℕ)
+after_word [] bytes = Some bytes
+after_word (c ∷ word) [] = None
+after_word (c ∷ word) (b ∷ bytes) = if b == c then after_word word bytes else None

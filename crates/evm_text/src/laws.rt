@@ -1,5 +1,6 @@
 ghost use Rattle.evm_text.specs.Laws.{ReadsDecimals, ReadsHexadecimals, ReadsPairs, ReadsWords, PadsToCount, DividesDecimals, DividesHexadecimals, PadsWithZeros};
 ghost use Rattle.evm_text.specs.Fields.{ReadsDecimalThen, ReadsDecimalLast, ReadsU8Then, ReadsU8Last, ReadsHexadecimalThen, ReadsHexadecimalLast, ReadsPairsLast};
+ghost use Rattle.evm_text.specs.Rows.{ReadsValues};
 
 /// A decimal number is read exactly where its numeral stands and no other digit follows.
 pub fn reads_decimals()
@@ -74,4 +75,9 @@ pub fn divides_hexadecimals()
 /// A padded number is its numeral behind zeros, where the digits are enough for it.
 pub fn pads_with_zeros()
     ensures { PadsWithZeros }
+{}
+
+/// The values of any fields are read exactly where their texts stand with one blank between them.
+pub fn reads_values()
+    ensures { ReadsValues }
 {}

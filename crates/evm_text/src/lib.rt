@@ -7,14 +7,16 @@ mod reading;
 mod writing;
 
 pub use fields::{
-    decimal_last, decimal_then, hexadecimal_last, hexadecimal_then, pairs_last, u8_last, u8_then,
+    count_last, decimal_last, decimal_then, hexadecimal_last, hexadecimal_then, pairs_last,
+    u8_last, u8_then,
 };
 pub use laws::{
     divides_decimals, divides_hexadecimals, pads_to_count, pads_with_zeros, reads_decimal_last,
     reads_decimal_then, reads_decimals, reads_hexadecimal_last, reads_hexadecimal_then,
-    reads_hexadecimals, reads_pairs, reads_pairs_last, reads_u8_last, reads_u8_then, reads_words,
+    reads_hexadecimals, reads_pairs, reads_pairs_last, reads_u8_last, reads_u8_then, reads_values,
+    reads_words,
 };
-pub use reading::{decimal_at, hexadecimal_at, pairs_at, word_at};
+pub use reading::{after_word, decimal_at, hexadecimal_at, pairs_at};
 pub use writing::{push_decimal, push_hexadecimal, push_hexadecimal_padded, push_pairs};
 
 #[cfg(test)]

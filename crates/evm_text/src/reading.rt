@@ -1,5 +1,5 @@
 ghost use Rattle.std.specs.Prelude.{◌≡◌, []};
-ghost use Rattle.evm_text.specs.Reading.{worth, begins_with_digit, number_on, number_at, decimal_at, hexadecimal_at, pairs_on, pairs_at, word_at, Reads};
+ghost use Rattle.evm_text.specs.Reading.{worth, begins_with_digit, number_on, number_at, decimal_at, hexadecimal_at, pairs_on, pairs_at, after_word, ReadsAs};
 
 use arrayvec::ArrayVec;
 
@@ -25,7 +25,7 @@ fn begins_with_digit(base: u8, bytes: &[u8]) -> bool
 
 #[tactic(auto, unfolding(crate::specs::Reading::number_on))]
 fn number_on(base: u8, first: u8, bytes: &[u8]) -> Option<(u64, &[u8])>
-    ensures { Reads (λ x. (x.0, x.1.now)) result (number_on base first bytes.now) }
+    ensures { ReadsAs (λ x. (x.0, x.1.now)) result (number_on base first bytes.now) }
 {
     let mut number = u64::from(first);
     let mut rest = bytes;
@@ -44,7 +44,7 @@ fn number_on(base: u8, first: u8, bytes: &[u8]) -> Option<(u64, &[u8])>
 
 #[tactic(auto, unfolding(crate::specs::Reading::number_at))]
 fn number_at(base: u8, bytes: &[u8]) -> Option<(u64, &[u8])>
-    ensures { Reads (λ x. (x.0, x.1.now)) result (number_at base bytes.now) }
+    ensures { ReadsAs (λ x. (x.0, x.1.now)) result (number_at base bytes.now) }
 {
     let [first, rest @ ..] = bytes else {
         return None;
@@ -61,21 +61,21 @@ fn number_at(base: u8, bytes: &[u8]) -> Option<(u64, &[u8])>
 
 /// The decimal number at the front, below 2^64 and with no leading zero, and the bytes behind it.
 pub fn decimal_at(bytes: &[u8]) -> Option<(u64, &[u8])>
-    ensures { Reads (λ x. (x.0, x.1.now)) result (decimal_at bytes.now) }
+    ensures { ReadsAs (λ x. (x.0, x.1.now)) result (decimal_at bytes.now) }
 {
     number_at(10, bytes)
 }
 
 /// The same in hexadecimal, of lower-case digits.
 pub fn hexadecimal_at(bytes: &[u8]) -> Option<(u64, &[u8])>
-    ensures { Reads (λ x. (x.0, x.1.now)) result (hexadecimal_at bytes.now) }
+    ensures { ReadsAs (λ x. (x.0, x.1.now)) result (hexadecimal_at bytes.now) }
 {
     number_at(16, bytes)
 }
 
 #[tactic(auto, unfolding(crate::specs::Reading::pairs_on))]
 fn pairs_on(bytes: &[u8]) -> Option<(ArrayVec<u8, 64>, &[u8])>
-    ensures { Reads (λ x. (x.0.items, x.1.now)) result (pairs_on [] bytes.now) }
+    ensures { ReadsAs (λ x. (x.0.items, x.1.now)) result (pairs_on [] bytes.now) }
 {
     let mut pairs = ArrayVec::new();
     let mut rest = bytes;
@@ -104,7 +104,7 @@ fn pairs_on(bytes: &[u8]) -> Option<(ArrayVec<u8, 64>, &[u8])>
 /// character, and what is behind them.
 #[tactic(auto, unfolding(crate::specs::Reading::pairs_at))]
 pub fn pairs_at(bytes: &[u8]) -> Option<(ArrayVec<u8, 64>, &[u8])>
-    ensures { Reads (λ x. (x.0.items, x.1.now)) result (pairs_at bytes.now) }
+    ensures { ReadsAs (λ x. (x.0.items, x.1.now)) result (pairs_at bytes.now) }
 {
     let (pairs, rest) = pairs_on(bytes)?;
     if pairs.is_empty() {
@@ -114,8 +114,8 @@ pub fn pairs_at(bytes: &[u8]) -> Option<(ArrayVec<u8, 64>, &[u8])>
 }
 
 /// The bytes behind a word that stands at the front.
-pub fn word_at<'a>(word: &[u8], bytes: &'a [u8]) -> Option<&'a [u8]>
-    ensures { Reads (λ x. x.now) result (word_at word.now bytes.now) }
+pub fn after_word<'a>(word: &[u8], bytes: &'a [u8]) -> Option<&'a [u8]>
+    ensures { ReadsAs (λ x. x.now) result (after_word word.now bytes.now) }
 {
     bytes.strip_prefix(word)
 }

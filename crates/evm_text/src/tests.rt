@@ -42,8 +42,8 @@ fn pairs_are_read(rt: HostRuntime) {
     let (bytes, rest) = pairs_at(b"0fe2 x").expect(&rt, "two bytes");
     assert_eq!(rt; bytes.as_slice(), [15, 226].as_slice());
     assert_eq!(rt; rest, b" x".as_slice());
-    assert_eq!(rt; word_at(b"0fe2", b"0fe2 x"), Some(b" x".as_slice()));
-    assert_eq!(rt; word_at(b"0fe3", b"0fe2 x"), None);
+    assert_eq!(rt; after_word(b"0fe2", b"0fe2 x"), Some(b" x".as_slice()));
+    assert_eq!(rt; after_word(b"0fe3", b"0fe2 x"), None);
 }
 
 #[test]

@@ -1,6 +1,6 @@
 ghost use Rattle.std.specs.Prelude.{◌≡◌, ◌+◌, ◌^◌, ◌<◌, ◌≤◌, ◌∷◌, [], ◌++◌, length, OnOk, OnErr};
 ghost use Rattle.std.specs.Char.{encode_utf8};
-ghost use Rattle.std.specs.String.{string_bytes};
+ghost use Rattle.std.specs.String.{string_bytes, string_capacity, string_len};
 ghost use Rattle.evm_text.specs.Written.{character, numeral, decimal, hexadecimal, hexadecimal_padded, pairs};
 
 use arrayvec::ArrayString;
@@ -53,6 +53,10 @@ fn put_padded(text: &mut ArrayString<DIGITS>, count: u8, n: u64)
 pub fn push_decimal(out: &mut String, n: u64) -> Result<(), AllocError>
     ensures ok { OnOk result (string_bytes out.new ≡ string_bytes out.old ++ decimal n) }
     ensures err { OnErr result (string_bytes out.new ≡ string_bytes out.old) }
+    // It gives up only where there is no room for the text.
+    ensures len { OnOk result (string_len out.new ≡ string_len out.old + length (decimal n)) }
+    ensures full { OnErr result (string_capacity out.old < string_len out.old + length (decimal n)) }
+    ensures capacity { string_capacity out.old ≤ string_capacity out.new }
 {
     let mut text = ArrayString::new();
     put_numeral(&mut text, 10, 19, n);
@@ -63,6 +67,10 @@ pub fn push_decimal(out: &mut String, n: u64) -> Result<(), AllocError>
 pub fn push_hexadecimal(out: &mut String, n: u64) -> Result<(), AllocError>
     ensures ok { OnOk result (string_bytes out.new ≡ string_bytes out.old ++ hexadecimal n) }
     ensures err { OnErr result (string_bytes out.new ≡ string_bytes out.old) }
+    // It gives up only where there is no room for the text.
+    ensures len { OnOk result (string_len out.new ≡ string_len out.old + length (hexadecimal n)) }
+    ensures full { OnErr result (string_capacity out.old < string_len out.old + length (hexadecimal n)) }
+    ensures capacity { string_capacity out.old ≤ string_capacity out.new }
 {
     let mut text = ArrayString::new();
     put_numeral(&mut text, 16, 15, n);
@@ -75,6 +83,10 @@ pub fn push_hexadecimal_padded(out: &mut String, count: u8, n: u64) -> Result<()
     requires { count ≤ 16 }
     ensures ok { OnOk result (string_bytes out.new ≡ string_bytes out.old ++ hexadecimal_padded count n) }
     ensures err { OnErr result (string_bytes out.new ≡ string_bytes out.old) }
+    // It gives up only where there is no room for the text.
+    ensures len { OnOk result (string_len out.new ≡ string_len out.old + length (hexadecimal_padded count n)) }
+    ensures full { OnErr result (string_capacity out.old < string_len out.old + length (hexadecimal_padded count n)) }
+    ensures capacity { string_capacity out.old ≤ string_capacity out.new }
 {
     let mut text = ArrayString::new();
     put_padded(&mut text, count, n);
@@ -82,9 +94,14 @@ pub fn push_hexadecimal_padded(out: &mut String, count: u8, n: u64) -> Result<()
 }
 
 /// Appends two hexadecimal digits for each byte.
+#[tactic(auto, using(crate::proofs::Steps::length_pairs))]
 pub fn push_pairs(out: &mut String, bytes: &[u8]) -> Result<(), AllocError>
     ensures ok { OnOk result (string_bytes out.new ≡ string_bytes out.old ++ pairs bytes.now) }
     ensures err { OnErr result (string_bytes out.new ≡ string_bytes out.old) }
+    // It gives up only where there is no room for the text.
+    ensures len { OnOk result (string_len out.new ≡ string_len out.old + length (pairs bytes.now)) }
+    ensures full { OnErr result (string_capacity out.old < string_len out.old + length (pairs bytes.now)) }
+    ensures capacity { string_capacity out.old ≤ string_capacity out.new }
 {
     // From here on no push can fail, so a refusal leaves the text as it was.
     out.reserve(bytes.len() * 2)?;
