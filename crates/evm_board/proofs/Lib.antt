@@ -1,3 +1,4 @@
+pub mod Idle
 pub mod Loads
 pub mod Quietly
 pub mod Rooms

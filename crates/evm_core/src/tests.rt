@@ -115,3 +115,76 @@ fn each_kind_of_event(rt: HostRuntime) -> Result<(), Fail> {
     assert_eq!(rt; machine.room(), 0);
     Ok(())
 }
+
+fn steps(rt: &impl Abort, machine: &mut Machine, count: u32, wanted: Result<(), Refusal>) {
+    assert_eq!(rt; machine.steps(0, count), wanted);
+}
+
+fn register(machine: &Machine, r: usize) -> u64 {
+    match machine.hart(0) {
+        Some(hart) if r < 32 => hart.regs[r],
+        _ => 0,
+    }
+}
+
+// A loop of two instructions, a breakpoint in it, and a journal that ends.
+#[test]
+fn many_steps(rt: HostRuntime) -> Result<(), Fail> {
+    let Ok(mut machine) = Machine::boot(rt.alloc(), 2, 65536, 64) else {
+        return Err(Fail::from("the boot was refused"));
+    };
+    // addi x5, x5, 1; jal x0, -4
+    answers(&rt, &mut machine, poke_of(&[0x0012_8293, 0xffdf_f06f]), Answer::Done);
+    steps(&rt, &mut machine, 11, Ok(()));
+    assert_eq!(rt; register(&machine, 5), 6);
+    answers(&rt, &mut machine, Event::Break(BASE), Answer::Done);
+    steps(&rt, &mut machine, 5, Ok(()));
+    assert_eq!(rt; register(&machine, 5), 6);
+    assert_eq!(rt; machine.event_count(), 18);
+    answers(&rt, &mut machine, Event::Step(0), Answer::Stopped);
+    answers(&rt, &mut machine, Event::Unbreak(BASE), Answer::Done);
+    answers(&rt, &mut machine, Event::Go(0), Answer::Done);
+    steps(&rt, &mut machine, 0, Ok(()));
+    steps(&rt, &mut machine, 1000, Err(Refusal::Full));
+    assert_eq!(rt; machine.room(), 0);
+    // 43 Steps more: 22 of them from BASE
+    assert_eq!(rt; register(&machine, 5), 28);
+    Ok(())
+}
+
+// A raised line comes before the next instruction, and a processor that isn't there takes no Step.
+#[test]
+fn steps_behind_a_raise(rt: HostRuntime) -> Result<(), Fail> {
+    let Ok(mut machine) = Machine::boot(rt.alloc(), 1, 65536, 64) else {
+        return Err(Fail::from("the boot was refused"));
+    };
+    // addi x5, x5, 1; jal x0, -4
+    answers(&rt, &mut machine, poke_of(&[0x0012_8293, 0xffdf_f06f]), Answer::Done);
+    steps(&rt, &mut machine, 2, Ok(()));
+    answers(&rt, &mut machine, Event::Raise(0, 5), Answer::Done);
+    steps(&rt, &mut machine, 2, Ok(()));
+    assert_eq!(rt; register(&machine, 5), 2);
+    assert_eq!(rt; machine.steps(1, 0), Ok(()));
+    assert_eq!(rt; machine.steps(1, 1), Err(Refusal::NoSuchCpu));
+    assert_eq!(rt; machine.event_count(), 6);
+    Ok(())
+}
+
+// A store changes an instruction that was done before: the next time the new one is done.
+#[test]
+fn steps_of_changed_code(rt: HostRuntime) -> Result<(), Fail> {
+    let Ok(mut machine) = Machine::boot(rt.alloc(), 1, 65536, 64) else {
+        return Err(Fail::from("the boot was refused"));
+    };
+    // nop; sw x6, 0(x5); jal x0, -8
+    let code = poke_of(&[0x0000_0013, 0x0062_a023, 0xff9f_f06f]);
+    answers(&rt, &mut machine, code, Answer::Done);
+    answers(&rt, &mut machine, Event::Stop(0), Answer::Done);
+    answers(&rt, &mut machine, Event::SetReg(0, 5, BASE), Answer::Done);
+    // addi x7, x7, 7
+    answers(&rt, &mut machine, Event::SetReg(0, 6, 0x0073_8393), Answer::Done);
+    answers(&rt, &mut machine, Event::Go(0), Answer::Done);
+    steps(&rt, &mut machine, 12, Ok(()));
+    assert_eq!(rt; register(&machine, 7), 21);
+    Ok(())
+}
