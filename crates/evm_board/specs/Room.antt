@@ -1,5 +1,5 @@
 -- Which images RAM has room for.
-use Rattle.std.specs.Prelude.{ℕ, ◌+◌, ◌==◌, nat_lt, Bool, ◌&&◌, not, length}
+use Rattle.std.specs.Prelude.{ℕ, ◌+◌, ◌==◌, nat_lt, Bool, ◌&&◌, not}
 use Rattle.evm_image.specs.Images.{Loaded}
 use Rattle.evm_ram.specs.declared.ram.TheConstants.{BASE}
 
