@@ -36,6 +36,7 @@ pub mod Reached
 pub mod All_there
 pub mod Labelled
 pub mod Labels_found
+pub mod Items_there
 pub mod Numbers_present
 pub mod Numbers_there
 pub mod Refused_first
