@@ -37,7 +37,7 @@ defined_by : (m : ℕ) (spot : Spot) (d : Defined) (o : Option (List ℕ × List
     → ((text : List ℕ) (e : Defined) → (defined m spot text e).twice ≡ false → (names_of (defined m spot text e).labels ≡ names_of e.labels ++ labels_at m text) × (e.twice ≡ false))
     → (elim o as (λ _. Defined) [ None ↦ d | Some label ↦ defined m spot label.1 (with_label spot label.0 d) ]).twice ≡ false
     → (names_of (elim o as (λ _. Defined) [ None ↦ d | Some label ↦ defined m spot label.1 (with_label spot label.0 d) ]).labels
-      ≡ names_of d.labels ++ elim o as (λ _. List (List ℕ)) [ None ↦ [] | Some label ↦ label.0 ∷ labels_at m label.1 ]) × (d.twice ≡ false)
+    ≡ names_of d.labels ++ elim o as (λ _. List (List ℕ)) [ None ↦ [] | Some label ↦ label.0 ∷ labels_at m label.1 ]) × (d.twice ≡ false)
 defined_by m spot d None more h = (sym (append-nil (names_of d.labels)), h)
 defined_by m spot d (Some label) more h =
     let rest = more label.1 (with_label spot label.0 d) h in

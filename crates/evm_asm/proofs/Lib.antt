@@ -44,3 +44,4 @@ pub mod Operand_faults
 pub mod Reading_faults
 pub mod Line_faults
 pub mod Labels_in_order
+pub mod Fillings_there
