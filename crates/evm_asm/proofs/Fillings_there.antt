@@ -1,34 +1,26 @@
 -- The bytes of .space and .align stand at their line's place.
-use Rattle.std.proofs.Common.{◌≡◌, ◌∙◌, ℕ, zero, suc, ◌+◌, ◌-◌, ◌*◌, ◌/◌, ◌%◌, ◌<◌, ◌≤◌, Bool, true, false, cond, ◌&&◌, ◌==◌, nat_le, List, [], ◌∷◌, ◌++◌, length, take, drop, Ok, ap, refl, sym, subst, ⊎_elim, arith, length-append}
+use Rattle.std.proofs.Common.{◌≡◌, ◌∙◌, ℕ, ◌+◌, ◌-◌, ◌/◌, ◌%◌, Bool, true, false, cond, ◌&&◌, ◌==◌, nat_le, List, [], ◌∷◌, ◌++◌, length, take, drop, Ok, refl, sym, subst, arith}
 use Rattle.std.specs.Prelude.{replicate}
-use Rattle.std.proofs.lemmas.Bool.{cases_lt}
-use Rattle.std.proofs.lemmas.List.{length-replicate}
-use Rattle.std.proofs.Math.Seq.{drop-append-add}
 use Rattle.evm_asm.specs.declared.item.Placed.{Placed}
-use Rattle.evm_words.specs.declared.mnemonic.Section.{Section as Part}
-use Rattle.evm_words.specs.declared.mnemonic.Section.TheVariants.{Text, Data}
-use Rattle.evm_words.specs.declared.mnemonic.Width.{Width}
-use Rattle.evm_words.specs.declared.mnemonic.Width.TheVariants.{Byte, Word, Dword}
 use Rattle.evm_statement.specs.Operands.{Spots}
 use Rattle.evm_asm.specs.declared.place.Place.{Place}
 use Rattle.evm_statement.specs.declared.statement.Statement.{Statement}
 use Rattle.evm_statement.specs.declared.statement.Statement.TheVariants.{Space, Align}
-use Rattle.evm_asm.specs.Places.{offset, section_size, here, padding, is_text, statement_in}
+use Rattle.evm_asm.specs.Places.{offset, here, padding, is_text, statement_in}
 use Rattle.evm_asm.specs.Sources.{source_lines, code_of, statement_text, nothing_laid, laid}
-use Rattle.evm_asm.specs.Items.{text_base, address_of_offset, address, with_item, filling, operands, with_statement, and_then, layout_of, meaning_of}
-use Rattle.evm_asm.specs.Programs.{Spelled, nothing_spelled, spelled, repeated, nop_bytes}
+use Rattle.evm_asm.specs.Items.{text_base, address, with_item, filling, with_statement, and_then, layout_of, meaning_of}
+use Rattle.evm_asm.specs.Programs.{nothing_spelled, spelled, repeated, nop_bytes}
 use Rattle.evm_asm.specs.Assembled.{Assembled, assembled, program_of}
 use Rattle.evm_asm.specs.Sizes.{size_of_text, size_of_data, place_before, Says, filling_bytes, SpacesAreZeros, AlignmentsAreFilled}
 use Rattle.evm_asm.proofs.Worded.{and_then_ok}
 use Rattle.evm_asm.specs.declared.item.Item.{Item}
 use Rattle.evm_asm.specs.declared.item.Item.TheVariants.{Zeros, Nops}
-use Rattle.evm_asm.proofs.Counted.{text_in, data_in, number_length}
 use Rattle.evm_asm.proofs.Added.{IsBalanced}
 use Rattle.evm_asm.proofs.Walked.{same_some, same_statement, Line, line_is, place_is}
 use Rattle.evm_asm.proofs.Placed_bytes.{sizes_agree, data_at_base}
 use Rattle.evm_asm.proofs.Present.{Has, item_comes, statement_stays}
 use Rattle.evm_asm.proofs.Reached.{reached}
-use Rattle.evm_asm.proofs.Items_there.{bytes_of, balanced_bytes, section_bytes, bytes_of_item, IsData, IsIn, IsThis, items_come_in, section_in_all}
+use Rattle.evm_asm.proofs.Items_there.{balanced_bytes, section_bytes, bytes_of_item, IsData, IsIn, IsThis, items_come_in, section_in_all}
 use Rattle.evm_asm.proofs.Added.{same_items, padding_sized}
 use Rattle.evm_asm.proofs.Counted.{item_size, length-repeated}
 use Rattle.evm_asm.proofs.Placed_bytes.{zeros}
@@ -94,7 +86,7 @@ spaces_are_zeros source p e n size says =
     let long : length (repeated size (0 ∷ []) []) ≡ size = omega (arith, length-repeated size (0 ∷ []) []) in
     subst (λ (m : ℕ). take m (drop (address (size_of_text source) (here (place_before source n)) - text_base) p.bytes) ≡ replicate size 0) long (there ∙ bytes)
 
-filling_data : (place : Place) (power : ℕ) → IsData (filling place power)
+pub filling_data : (place : Place) (power : ℕ) → IsData (filling place power)
 unfolding filling
 filling_data place power = by (is_text place.section && (place.text_size % 4 == 0 && nat_le 2 power))
   where

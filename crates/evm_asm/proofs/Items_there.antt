@@ -1,37 +1,26 @@
 -- The bytes of an item that is data stand in the program, at its place in its section.
-use Rattle.std.proofs.Common.{◌≡◌, ◌∙◌, ℕ, zero, suc, ◌+◌, ◌*◌, ◌<◌, ◌≤◌, List, [], ◌∷◌, ◌++◌, length, take, drop, Option, Some, None, Result, Ok, ap, refl, sym, subst, ⊎_elim, arith, append_assoc, length-append, length-drop, ◌-◌}
+use Rattle.std.proofs.Common.{◌≡◌, ◌∙◌, ℕ, zero, suc, ◌+◌, ◌<◌, ◌≤◌, List, [], ◌∷◌, ◌++◌, length, take, drop, Option, Some, None, Ok, ap, refl, sym, subst, ⊎_elim, arith, append_assoc, length-append, length-drop, ◌-◌}
 use Rattle.std.specs.Int.{w32, to_le_bytes}
 use Rattle.std.proofs.lemmas.List.{append-nil, take-append-le, drop-append-le, length-replicate}
 use Rattle.std.proofs.Math.Seq.{drop-append_seam, take-length, drop-append-add}
 use Rattle.evm_isa.specs.declared.inst.Inst.{Inst}
 use Rattle.evm_isa.specs.Encoded.{encoded}
-use Rattle.evm_words.specs.declared.fault.AsmFaultKind.{AsmFaultKind}
 use Rattle.evm_asm.specs.declared.item.Item.{Item}
 use Rattle.evm_asm.specs.declared.item.Item.TheVariants.{Instruction, Number, Zeros, Nops}
 use Rattle.evm_asm.specs.declared.item.Placed.{Placed}
 use Rattle.evm_words.specs.declared.mnemonic.Section.{Section as Part}
 use Rattle.evm_words.specs.declared.mnemonic.Section.TheVariants.{Text, Data}
-use Rattle.evm_words.specs.declared.mnemonic.Width.{Width}
-use Rattle.evm_statement.specs.Operands.{Spots, first_operand, other_operands}
-use Rattle.evm_asm.specs.Places.{bytes_in, offset, section_size, here, statement_in}
-use Rattle.evm_asm.specs.Items.{with_item, value_in, number_pushed, with_numbers, text_base, data_base, address_of_offset, address, operands, with_statement, and_then, layout_of, meaning_of}
-use Rattle.evm_asm.specs.Programs.{Spelled, spelled, spelled_item, worded, repeated, number_bytes, nop_bytes, nothing_spelled}
-use Rattle.evm_asm.specs.Sizes.{operand_at, size_of_text, size_of_data, gap, place_before, HasNumber}
+use Rattle.evm_asm.specs.Places.{bytes_in, section_size}
+use Rattle.evm_asm.specs.Items.{text_base, data_base, address_of_offset}
+use Rattle.evm_asm.specs.Programs.{Spelled, spelled, spelled_item, worded, repeated, number_bytes, nop_bytes}
+use Rattle.evm_asm.specs.Sizes.{gap}
 use Rattle.evm_asm.proofs.Worded.{and_then_ok, same_ok}
-use Rattle.evm_asm.proofs.Counted.{data_of, text_in, data_in, number_length, item_longer}
-use Rattle.evm_asm.proofs.Added.{bind_ok, same_items, Adds, number_adds, IsBalanced}
-use Rattle.evm_asm.proofs.Present.{Has, item_comes, numbers_stay, statement_stays}
+use Rattle.evm_asm.proofs.Counted.{data_of, text_in, data_in, item_longer}
+use Rattle.evm_asm.proofs.Added.{IsBalanced}
+use Rattle.evm_asm.proofs.Present.{Has}
 use Rattle.std.specs.Prelude.{replicate}
 use Rattle.std.proofs.lemmas.Bool.{cases_lt}
-use Rattle.evm_words.specs.declared.mnemonic.Width.TheVariants.{Byte, Word, Dword}
 use Rattle.evm_asm.specs.declared.place.Place.{Place}
-use Rattle.evm_statement.specs.declared.statement.Statement.{Statement}
-use Rattle.evm_statement.specs.declared.statement.Statement.TheVariants.{Numbers}
-use Rattle.evm_asm.specs.Sources.{source_lines, code_of, statement_text, nothing_laid, laid}
-use Rattle.evm_asm.specs.Assembled.{Assembled, assembled, program_of}
-use Rattle.evm_asm.proofs.Walked.{same_some, same_statement, Line, line_is, place_is}
-use Rattle.evm_asm.proofs.Placed_bytes.{sizes_agree, data_at_base}
-use Rattle.evm_asm.proofs.Reached.{reached}
 
 -- how many bytes of a section there are, of so many of text and of data
 abbrev pub bytes_of : Part → ℕ → ℕ → ℕ

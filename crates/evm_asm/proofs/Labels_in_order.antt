@@ -1,5 +1,5 @@
 -- The labels of a program stand in the order of the source's lines.
-use Rattle.std.proofs.Common.{◌≡◌, ◌∙◌, ℕ, zero, suc, ◌+◌, Bool, true, false, cond, List, [], ◌∷◌, ◌++◌, map, length, Option, Some, None, is_some, Result, Ok, Err, ap, refl, sym, subst}
+use Rattle.std.proofs.Common.{◌≡◌, ◌∙◌, ℕ, zero, suc, Bool, true, false, cond, List, [], ◌∷◌, ◌++◌, map, length, Option, Some, None, is_some, Result, Ok, Err, ap, refl, sym, subst}
 use Rattle.std.proofs.lemmas.List.{append_assoc, append-nil}
 use Rattle.evm_words.specs.declared.fault.AsmFaultKind.{AsmFaultKind}
 use Rattle.evm_words.specs.Names.{named}
@@ -8,7 +8,7 @@ use Rattle.evm_statement.specs.Operands.{Spots}
 use Rattle.evm_asm.specs.declared.place.Place.{Place}
 use Rattle.evm_asm.specs.Places.{here}
 use Rattle.evm_asm.specs.Sources.{source_lines, code_of, label_at, Defined, with_label, defined, outcome, measured, line_defined, line_laid, Laid, nothing_laid, with_line_laid, laid, statement_text}
-use Rattle.evm_asm.specs.Items.{address, and_then, layout_of, meaning_of}
+use Rattle.evm_asm.specs.Items.{and_then, layout_of, meaning_of}
 use Rattle.evm_asm.specs.Programs.{nothing_spelled, spelled}
 use Rattle.evm_asm.specs.Assembled.{Assembled, addressed, assembled, program_of}
 use Rattle.evm_asm.specs.Sizes.{labels_at, labels_of, LabelsStandInOrder}

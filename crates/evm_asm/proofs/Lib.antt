@@ -45,3 +45,4 @@ pub mod Reading_faults
 pub mod Line_faults
 pub mod Labels_in_order
 pub mod Fillings_there
+pub mod Lines_in_order

@@ -1,13 +1,7 @@
 -- A number of a list of items becomes its bytes, behind those of the items before it.
-use Rattle.std.proofs.Common.{◌≡◌, ◌∙◌, ℕ, zero, suc, ◌+◌, ◌*◌, ◌<◌, ◌≤◌, List, [], ◌∷◌, ◌++◌, length, take, drop, Option, Some, None, Result, Ok, ap, refl, sym, subst, ⊎_elim, arith, append_assoc, length-append, length-drop}
-use Rattle.std.specs.Int.{w32, to_le_bytes}
-use Rattle.std.proofs.lemmas.List.{append-nil, take-append-le, drop-append-le}
-use Rattle.std.proofs.Math.Seq.{drop-append_seam, take-length}
-use Rattle.evm_isa.specs.declared.inst.Inst.{Inst}
-use Rattle.evm_isa.specs.Encoded.{encoded}
+use Rattle.std.proofs.Common.{◌≡◌, ℕ, zero, suc, ◌+◌, ◌*◌, ◌<◌, List, Result, Ok, ap, subst, arith}
 use Rattle.evm_words.specs.declared.fault.AsmFaultKind.{AsmFaultKind}
-use Rattle.evm_asm.specs.declared.item.Item.{Item}
-use Rattle.evm_asm.specs.declared.item.Item.TheVariants.{Instruction, Number, Zeros, Nops}
+use Rattle.evm_asm.specs.declared.item.Item.TheVariants.{Number}
 use Rattle.evm_asm.specs.declared.item.Placed.{Placed}
 use Rattle.evm_words.specs.declared.mnemonic.Section.{Section as Part}
 use Rattle.evm_words.specs.declared.mnemonic.Section.TheVariants.{Text, Data}
@@ -15,10 +9,8 @@ use Rattle.evm_words.specs.declared.mnemonic.Width.{Width}
 use Rattle.evm_statement.specs.Operands.{Spots, first_operand, other_operands}
 use Rattle.evm_asm.specs.Places.{bytes_in}
 use Rattle.evm_asm.specs.Items.{with_item, value_in, number_pushed, with_numbers}
-use Rattle.evm_asm.specs.Programs.{Spelled, spelled, spelled_item, worded, repeated, number_bytes, nop_bytes}
 use Rattle.evm_asm.specs.Sizes.{operand_at}
-use Rattle.evm_asm.proofs.Worded.{and_then_ok, same_ok}
-use Rattle.evm_asm.proofs.Counted.{data_of, text_in, data_in, number_length, item_longer}
+use Rattle.evm_asm.proofs.Counted.{text_in, data_in}
 use Rattle.evm_asm.proofs.Added.{bind_ok, same_items, Adds, number_adds}
 use Rattle.evm_asm.proofs.Items_there.{bytes_of, IsThis}
 use Rattle.evm_asm.proofs.Present.{Has, item_comes, numbers_stay}

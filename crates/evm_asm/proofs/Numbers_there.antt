@@ -1,23 +1,16 @@
 -- The bytes of each number of a source stand in the program.
-use Rattle.std.proofs.Common.{◌≡◌, ◌∙◌, ℕ, ◌+◌, ◌-◌, ◌*◌, ◌<◌, ◌≤◌, List, ◌∷◌, ◌++◌, length, take, drop, Ok, ap, sym, subst, ⊎_elim, arith, length-append}
-use Rattle.std.specs.Prelude.{replicate}
-use Rattle.std.proofs.lemmas.Bool.{cases_lt}
-use Rattle.std.proofs.lemmas.List.{length-replicate}
-use Rattle.std.proofs.Math.Seq.{drop-append-add}
+use Rattle.std.proofs.Common.{◌≡◌, ◌∙◌, ℕ, ◌+◌, ◌-◌, ◌*◌, List, ◌∷◌, ◌++◌, length, take, drop, Ok, ap, sym, subst}
 use Rattle.evm_asm.specs.declared.item.Placed.{Placed}
-use Rattle.evm_words.specs.declared.mnemonic.Section.{Section as Part}
-use Rattle.evm_words.specs.declared.mnemonic.Section.TheVariants.{Text, Data}
 use Rattle.evm_words.specs.declared.mnemonic.Width.{Width}
-use Rattle.evm_words.specs.declared.mnemonic.Width.TheVariants.{Byte, Word, Dword}
 use Rattle.evm_asm.specs.declared.place.Place.{Place}
 use Rattle.evm_statement.specs.declared.statement.Statement.{Statement}
 use Rattle.evm_statement.specs.declared.statement.Statement.TheVariants.{Numbers}
-use Rattle.evm_asm.specs.Places.{offset, section_size, here, bytes_in, statement_in}
+use Rattle.evm_asm.specs.Places.{offset, here, bytes_in, statement_in}
 use Rattle.evm_asm.specs.Sources.{source_lines, code_of, statement_text, nothing_laid, laid}
-use Rattle.evm_asm.specs.Items.{text_base, data_base, address_of_offset, address, value_in, operands, with_statement, and_then, layout_of, meaning_of}
-use Rattle.evm_asm.specs.Programs.{Spelled, nothing_spelled, spelled, number_bytes}
+use Rattle.evm_asm.specs.Items.{text_base, address, value_in, operands, with_statement, and_then, layout_of, meaning_of}
+use Rattle.evm_asm.specs.Programs.{nothing_spelled, spelled, number_bytes}
 use Rattle.evm_asm.specs.Assembled.{Assembled, assembled, program_of}
-use Rattle.evm_asm.specs.Sizes.{size_of_text, size_of_data, gap, place_before, operand_at, HasNumber}
+use Rattle.evm_asm.specs.Sizes.{size_of_text, size_of_data, place_before, operand_at, HasNumber}
 use Rattle.evm_asm.proofs.Worded.{and_then_ok}
 use Rattle.evm_asm.specs.declared.item.Item.TheVariants.{Number}
 use Rattle.evm_asm.proofs.Counted.{text_in, data_in, number_length}

@@ -1,9 +1,10 @@
 -- Where the lines of a source stand, and how many bytes its sections have.
-use Rattle.std.specs.Prelude.{◌≡◌, ℕ, zero, suc, ◌+◌, ◌-◌, ◌*◌, ◌/◌, ◌%◌, ◌<◌, ◌⊎◌, ◌&&◌, ◌==◌, nat_le, if◌then◌else◌, List, [], ◌∷◌, ◌++◌, length, take, drop, replicate, map, slice_get, All, Any, Some, None, Ok}
+use Rattle.std.specs.Prelude.{◌≡◌, ℕ, zero, suc, ◌+◌, ◌-◌, ◌*◌, ◌/◌, ◌%◌, ◌<◌, ◌≤◌, ◌⊎◌, ◌&&◌, ◌==◌, nat_le, if◌then◌else◌, List, [], ◌∷◌, ◌++◌, length, take, drop, replicate, map, slice_get, All, Any, AllPairs, Some, None, Ok}
 use Rattle.evm_isa.specs.declared.inst.Inst.{Inst}
 use Rattle.evm_asm.specs.declared.item.Expansion.{Expansion}
 use Rattle.evm_asm.specs.declared.item.Expansion.TheVariants.{Empty, Single, Double}
 use Rattle.evm_asm.specs.declared.item.Placed.{Placed}
+use Rattle.evm_asm.specs.declared.output.ProgramLine.{ProgramLine}
 use Rattle.evm_words.specs.declared.mnemonic.Width.{Width}
 use Rattle.evm_asm.specs.declared.place.Place.{Place}
 use Rattle.evm_statement.specs.declared.statement.Statement.{Statement}
@@ -74,6 +75,14 @@ LinesStandWhereTheyAreMeant = (source : List ℕ) (p : Assembled) → program_of
 abbrev pub AllThatIsMeantStands : Type 0
 AllThatIsMeantStands = (source : List ℕ) (p : Assembled) → program_of source ≡ Ok p → (n address : ℕ) (i : Inst) → Means source n address i
     → Any (λ l. (l.line ≡ n) × (l.address ≡ address) × (l.instruction ≡ i)) p.lines
+
+-- a line stands behind another, and comes from no earlier line of the source
+abbrev pub ComesLater : ProgramLine → ProgramLine → Type 0
+ComesLater l m = (l.line ≤ m.line) × (l.address + 4 ≤ m.address)
+
+-- The lines of a program stand in the source's order, none twice.
+abbrev pub LinesStandInOrder : Type 0
+LinesStandInOrder = (source : List ℕ) (p : Assembled) → program_of source ≡ Ok p → AllPairs ComesLater p.lines
 
 -- Line n of a source, from 1, has a label of this name at its front, behind so many others.
 pub record HasLabel (source : List ℕ) (n : ℕ) (name : List ℕ) : Type 0 where
