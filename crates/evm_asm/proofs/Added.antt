@@ -171,6 +171,10 @@ filled_section : (part : Part) (t : Bool) (m n : ℕ) → item_section part (con
 filled_section part true m n = refl
 filled_section part false m n = refl
 
+pub padding_sized : (place : Place) (power : ℕ) → item_size (filling place power) ≡ padding (offset place) power
+unfolding filling
+padding_sized place power = filled_by place.section place power (place.text_size % 4 == 0) (nat_le 2 power) refl refl
+
 align_adds : (place : Place) (power : ℕ) (a : List Placed) → Adds place.section (padding (offset place) power) a (with_item place.section (filling place power) a)
 unfolding filling
 align_adds place power a =

@@ -1,5 +1,5 @@
 -- The labels of a program stand in the order of the source's lines.
-use Rattle.std.proofs.Common.{◌≡◌, ◌∙◌, ℕ, zero, suc, ◌+◌, Bool, true, false, cond, List, [], ◌∷◌, ◌++◌, map, length, Option, Some, None, is_some, Result, Ok, Err, ap, refl, sym, subst}
+use Rattle.std.proofs.Common.{◌≡◌, ◌∙◌, ℕ, zero, suc, Bool, true, false, cond, List, [], ◌∷◌, ◌++◌, map, length, Option, Some, None, is_some, Result, Ok, Err, ap, refl, sym, subst}
 use Rattle.std.proofs.lemmas.List.{append_assoc, append-nil}
 use Rattle.evm_words.specs.declared.fault.AsmFaultKind.{AsmFaultKind}
 use Rattle.evm_words.specs.Names.{named}
@@ -8,7 +8,7 @@ use Rattle.evm_statement.specs.Operands.{Spots}
 use Rattle.evm_asm.specs.declared.place.Place.{Place}
 use Rattle.evm_asm.specs.Places.{here}
 use Rattle.evm_asm.specs.Sources.{source_lines, code_of, label_at, Defined, with_label, defined, outcome, measured, line_defined, line_laid, Laid, nothing_laid, with_line_laid, laid, statement_text}
-use Rattle.evm_asm.specs.Items.{address, and_then, layout_of, meaning_of}
+use Rattle.evm_asm.specs.Items.{and_then, layout_of, meaning_of}
 use Rattle.evm_asm.specs.Programs.{nothing_spelled, spelled}
 use Rattle.evm_asm.specs.Assembled.{Assembled, addressed, assembled, program_of}
 use Rattle.evm_asm.specs.Sizes.{labels_at, labels_of, LabelsStandInOrder}
@@ -37,7 +37,7 @@ defined_by : (m : ℕ) (spot : Spot) (d : Defined) (o : Option (List ℕ × List
     → ((text : List ℕ) (e : Defined) → (defined m spot text e).twice ≡ false → (names_of (defined m spot text e).labels ≡ names_of e.labels ++ labels_at m text) × (e.twice ≡ false))
     → (elim o as (λ _. Defined) [ None ↦ d | Some label ↦ defined m spot label.1 (with_label spot label.0 d) ]).twice ≡ false
     → (names_of (elim o as (λ _. Defined) [ None ↦ d | Some label ↦ defined m spot label.1 (with_label spot label.0 d) ]).labels
-      ≡ names_of d.labels ++ elim o as (λ _. List (List ℕ)) [ None ↦ [] | Some label ↦ label.0 ∷ labels_at m label.1 ]) × (d.twice ≡ false)
+    ≡ names_of d.labels ++ elim o as (λ _. List (List ℕ)) [ None ↦ [] | Some label ↦ label.0 ∷ labels_at m label.1 ]) × (d.twice ≡ false)
 defined_by m spot d None more h = (sym (append-nil (names_of d.labels)), h)
 defined_by m spot d (Some label) more h =
     let rest = more label.1 (with_label spot label.0 d) h in

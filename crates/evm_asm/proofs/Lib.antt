@@ -36,6 +36,7 @@ pub mod Reached
 pub mod All_there
 pub mod Labelled
 pub mod Labels_found
+pub mod Items_there
 pub mod Numbers_present
 pub mod Numbers_there
 pub mod Refused_first
@@ -43,3 +44,5 @@ pub mod Operand_faults
 pub mod Reading_faults
 pub mod Line_faults
 pub mod Labels_in_order
+pub mod Fillings_there
+pub mod Lines_in_order

@@ -1,77 +1,31 @@
 -- The bytes of each number of a source stand in the program.
-use Rattle.std.proofs.Common.{◌≡◌, ◌∙◌, ℕ, ◌+◌, ◌-◌, ◌*◌, ◌<◌, ◌≤◌, List, ◌∷◌, ◌++◌, length, take, drop, Ok, ap, sym, subst, ⊎_elim, arith, length-append}
-use Rattle.std.specs.Prelude.{replicate}
-use Rattle.std.proofs.lemmas.Bool.{cases_lt}
-use Rattle.std.proofs.lemmas.List.{length-replicate}
-use Rattle.std.proofs.Math.Seq.{drop-append-add}
+use Rattle.std.proofs.Common.{◌≡◌, ◌∙◌, ℕ, ◌+◌, ◌-◌, ◌*◌, List, ◌∷◌, ◌++◌, length, take, drop, Ok, ap, sym, subst}
 use Rattle.evm_asm.specs.declared.item.Placed.{Placed}
-use Rattle.evm_words.specs.declared.mnemonic.Section.{Section as Part}
-use Rattle.evm_words.specs.declared.mnemonic.Section.TheVariants.{Text, Data}
 use Rattle.evm_words.specs.declared.mnemonic.Width.{Width}
-use Rattle.evm_words.specs.declared.mnemonic.Width.TheVariants.{Byte, Word, Dword}
 use Rattle.evm_asm.specs.declared.place.Place.{Place}
 use Rattle.evm_statement.specs.declared.statement.Statement.{Statement}
 use Rattle.evm_statement.specs.declared.statement.Statement.TheVariants.{Numbers}
-use Rattle.evm_asm.specs.Places.{offset, section_size, here, bytes_in, statement_in}
+use Rattle.evm_asm.specs.Places.{offset, here, bytes_in, statement_in}
 use Rattle.evm_asm.specs.Sources.{source_lines, code_of, statement_text, nothing_laid, laid}
-use Rattle.evm_asm.specs.Items.{text_base, data_base, address_of_offset, address, value_in, operands, with_statement, and_then, layout_of, meaning_of}
-use Rattle.evm_asm.specs.Programs.{Spelled, nothing_spelled, spelled, number_bytes}
+use Rattle.evm_asm.specs.Items.{text_base, address, value_in, operands, with_statement, and_then, layout_of, meaning_of}
+use Rattle.evm_asm.specs.Programs.{nothing_spelled, spelled, number_bytes}
 use Rattle.evm_asm.specs.Assembled.{Assembled, assembled, program_of}
-use Rattle.evm_asm.specs.Sizes.{size_of_text, size_of_data, gap, place_before, operand_at, HasNumber}
+use Rattle.evm_asm.specs.Sizes.{size_of_text, size_of_data, place_before, operand_at, HasNumber}
 use Rattle.evm_asm.proofs.Worded.{and_then_ok}
-use Rattle.evm_asm.proofs.Counted.{text_in, data_in}
+use Rattle.evm_asm.specs.declared.item.Item.TheVariants.{Number}
+use Rattle.evm_asm.proofs.Counted.{text_in, data_in, number_length}
 use Rattle.evm_asm.proofs.Added.{IsBalanced}
 use Rattle.evm_asm.proofs.Walked.{same_some, same_statement, Line, line_is, place_is}
 use Rattle.evm_asm.proofs.Placed_bytes.{sizes_agree, data_at_base}
 use Rattle.evm_asm.proofs.Present.{Has, statement_stays}
 use Rattle.evm_asm.proofs.Reached.{reached}
-use Rattle.evm_asm.proofs.Numbers_present.{bytes_of, section_bytes, IsIn, stays_in, IsThis, numbers_come, items_come_in}
-
-balanced_bytes : (part : Part) (place : Place) (a : List Placed) → IsBalanced place a → bytes_of part (text_in a) (data_in a) ≡ section_size part place
-balanced_bytes Text place a h = h.text_is
-balanced_bytes Data place a h = h.rest_is
-
-some_bytes : (width : Width) → 0 < bytes_in width
-some_bytes Byte = omega arith
-some_bytes Word = omega arith
-some_bytes Dword = omega arith
-
--- the bytes of a number in a section stand in the program
-module _ (width : Width) (value : ℕ) (size data_size : ℕ) (text bytes all : List ℕ) (text_is : length text ≡ size) (bytes_are : length bytes ≡ data_size)
-    (with_data : 0 < data_size → all ≡ text ++ replicate (gap size) 0 ++ bytes) (with_none : data_size ≡ 0 → all ≡ text) where
-  text_in_all : (at : ℕ) → IsIn width value at text → IsIn width value at all
-  text_in_all at h =
-      ⊎_elim (λ (more : 0 < data_size). subst (λ (b : List ℕ). IsIn width value at b) (sym (with_data more)) (stays_in width value at (text ++ replicate (gap size) 0) bytes (stays_in width value at text (replicate (gap size) 0) h)))
-      (λ (none : data_size ≤ 0). let zero : data_size ≡ 0 = omega arith in subst (λ (b : List ℕ). IsIn width value at b) (sym (with_none zero)) h)
-      (cases_lt 0 data_size)
-
-  data_in_all : (at : ℕ) → IsIn width value at bytes → take (bytes_in width) (drop (data_base size - text_base + at) all) ≡ number_bytes (bytes_in width) value
-  data_in_all at h =
-      let front : List ℕ = text ++ replicate (gap size) 0 in
-      let some = some_bytes width in
-      let room = h.within in
-      let more : 0 < data_size = omega arith in
-      let filled : length {A = ℕ} (replicate (gap size) 0) ≡ gap size = length-replicate (gap size) 0 in
-      let long : data_base size - text_base ≡ length front = omega (arith, length-append text (replicate (gap size) 0), filled) in
-      ap (λ (b : List ℕ). take (bytes_in width) (drop (data_base size - text_base + at) b)) (with_data more)
-      ∙ ap (λ (m : ℕ). take (bytes_in width) (drop (m + at) (front ++ bytes))) long
-      ∙ ap (λ (b : List ℕ). take (bytes_in width) b) (drop-append-add front bytes at)
-      ∙ h.bytes_are
-
-section_in_all : (part : Part) (width : Width) (value size data_size o more : ℕ) (s : Spelled) (all : List ℕ) → length s.text_bytes ≡ size → length s.data_bytes ≡ data_size
-    → (0 < data_size → all ≡ s.text_bytes ++ replicate (gap size) 0 ++ s.data_bytes) → (data_size ≡ 0 → all ≡ s.text_bytes) → IsIn width value (o + more) (section_bytes part s)
-    → take (bytes_in width) (drop (address_of_offset size part o - text_base + more) all) ≡ number_bytes (bytes_in width) value
-section_in_all Text width value size data_size o more s all t d f g h =
-    let at : address_of_offset size Text o - text_base + more ≡ o + more = omega arith in
-    ap (λ (m : ℕ). take (bytes_in width) (drop m all)) at ∙ (text_in_all width value size data_size s.text_bytes s.data_bytes all t d f g (o + more) h).bytes_are
-section_in_all Data width value size data_size o more s all t d f g h =
-    let at : address_of_offset size Data o - text_base + more ≡ data_base size - text_base + (o + more) = omega arith in
-    ap (λ (m : ℕ). take (bytes_in width) (drop m all)) at ∙ data_in_all width value size data_size s.text_bytes s.data_bytes all t d f g (o + more) h
+use Rattle.evm_asm.proofs.Items_there.{bytes_of, balanced_bytes, IsThis, items_come_in, section_in_all}
+use Rattle.evm_asm.proofs.Numbers_present.{numbers_come}
 
 module _ (source : List ℕ) (n k : ℕ) (width : Width) (value : ℕ) (h : HasNumber source n k width value) where
   -- number k of line n, where the line is at a place
   abbrev Number_at : Place → ℕ → ℕ → Placed → Type 0
-  Number_at place = IsThis place.section width value (offset place + k * bytes_in width)
+  Number_at place = IsThis place.section (Number width value) (offset place + k * bytes_in width)
 
   comes_here : (xs : List (List ℕ)) (line : List ℕ) (rest : List (List ℕ)) → source_lines source ≡ xs ++ line ∷ rest → n ≡ length xs + 1 → (place next : Place) → place ≡ (laid nothing_laid xs).place
       → (a b : List Placed) → IsBalanced place a → Line (layout_of source).labels (size_of_text source) n place next (statement_text (code_of line)) a b → Has (Number_at (place_before source n)) 0 0 b
@@ -108,5 +62,7 @@ module _ (source : List ℕ) (n k : ℕ) (width : Width) (value : ℕ) (h : HasN
       let spelt = and_then_ok (spelled meant.0 nothing_spelled) (λ s. Ok (assembled (layout_of source).place.text_size (layout_of source).labels s)) p meant.2 in
       let sizes = sizes_agree source meant.0 spelt.0 meant.1 spelt.1 in
       let image = data_at_base source meant.0 spelt.0 p meant.1 spelt.1 e in
-      section_in_all place.section width value (size_of_text source) (size_of_data source) (offset place) (k * bytes_in width) spelt.0 p.bytes sizes.0 sizes.1 image.0 image.1
-      (items_come_in place.section width value (offset place + k * bytes_in width) meant.0 nothing_spelled spelt.0 spelt.1 (meaning_has meant.0 meant.1))
+      let long : length (number_bytes (bytes_in width) value) ≡ bytes_in width = number_length width value in
+      subst (λ (m : ℕ). take m (drop (address (size_of_text source) (here place) - text_base + k * bytes_in width) p.bytes) ≡ number_bytes (bytes_in width) value) long
+      (section_in_all place.section (number_bytes (bytes_in width) value) (size_of_text source) (size_of_data source) (offset place) (k * bytes_in width) spelt.0 p.bytes sizes.0 sizes.1 image.0 image.1
+      (items_come_in place.section (Number width value) (offset place + k * bytes_in width) meant.0 nothing_spelled spelt.0 tt spelt.1 (meaning_has meant.0 meant.1)))

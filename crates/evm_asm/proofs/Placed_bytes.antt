@@ -21,7 +21,7 @@ sizes_agree source items s h k =
     let longer = items_longer items nothing_spelled s k in
     (omega (arith, longer.text_is, walked.balanced.text_is), omega (arith, longer.rest_is, walked.balanced.rest_is))
 
-zeros : (n : ℕ) (bytes : List ℕ) → repeated n (0 ∷ []) bytes ≡ bytes ++ replicate n 0
+pub zeros : (n : ℕ) (bytes : List ℕ) → repeated n (0 ∷ []) bytes ≡ bytes ++ replicate n 0
 unfolding repeated
 zeros zero bytes = sym (append-nil bytes)
 zeros (suc n) bytes = zeros n (bytes ++ 0 ∷ []) ∙ append_assoc bytes (0 ∷ []) (replicate n 0)

@@ -1,19 +1,20 @@
 -- Where the lines of a source stand, and how many bytes its sections have.
-use Rattle.std.specs.Prelude.{◌≡◌, ℕ, zero, suc, ◌+◌, ◌-◌, ◌*◌, ◌<◌, ◌⊎◌, List, [], ◌∷◌, ◌++◌, length, take, drop, replicate, map, slice_get, All, Any, Some, None, Ok}
+use Rattle.std.specs.Prelude.{◌≡◌, ℕ, zero, suc, ◌+◌, ◌-◌, ◌*◌, ◌/◌, ◌%◌, ◌<◌, ◌≤◌, ◌⊎◌, ◌&&◌, ◌==◌, nat_le, if◌then◌else◌, List, [], ◌∷◌, ◌++◌, length, take, drop, replicate, map, slice_get, All, Any, AllPairs, Some, None, Ok}
 use Rattle.evm_isa.specs.declared.inst.Inst.{Inst}
 use Rattle.evm_asm.specs.declared.item.Expansion.{Expansion}
 use Rattle.evm_asm.specs.declared.item.Expansion.TheVariants.{Empty, Single, Double}
 use Rattle.evm_asm.specs.declared.item.Placed.{Placed}
+use Rattle.evm_asm.specs.declared.output.ProgramLine.{ProgramLine}
 use Rattle.evm_words.specs.declared.mnemonic.Width.{Width}
 use Rattle.evm_asm.specs.declared.place.Place.{Place}
 use Rattle.evm_statement.specs.declared.statement.Statement.{Statement}
-use Rattle.evm_statement.specs.declared.statement.Statement.TheVariants.{Numbers}
+use Rattle.evm_statement.specs.declared.statement.Statement.TheVariants.{Numbers, Space, Align}
 use Rattle.evm_words.specs.Names.{named}
 use Rattle.evm_statement.specs.Operands.{first_operand, other_operands}
-use Rattle.evm_asm.specs.Places.{here, bytes_in, statement_in}
+use Rattle.evm_asm.specs.Places.{offset, here, padding, is_text, bytes_in, statement_in}
 use Rattle.evm_asm.specs.Sources.{nothing_laid, laid, source_lines, code_of, label_at, behind_labels, statement_text}
 use Rattle.evm_asm.specs.Items.{text_base, data_base, address, expanded, value_in, operands, layout_of, meaning_of}
-use Rattle.evm_asm.specs.Programs.{Spelled, nothing_spelled, spelled, number_bytes}
+use Rattle.evm_asm.specs.Programs.{Spelled, nothing_spelled, spelled, repeated, nop_bytes, number_bytes}
 use Rattle.evm_asm.specs.Assembled.{Assembled, program_of}
 
 abbrev pub size_of_text : List ℕ → ℕ
@@ -75,6 +76,14 @@ abbrev pub AllThatIsMeantStands : Type 0
 AllThatIsMeantStands = (source : List ℕ) (p : Assembled) → program_of source ≡ Ok p → (n address : ℕ) (i : Inst) → Means source n address i
     → Any (λ l. (l.line ≡ n) × (l.address ≡ address) × (l.instruction ≡ i)) p.lines
 
+-- a line stands behind another, and comes from no earlier line of the source
+abbrev pub ComesLater : ProgramLine → ProgramLine → Type 0
+ComesLater l m = (l.line ≤ m.line) × (l.address + 4 ≤ m.address)
+
+-- The lines of a program stand in the source's order, none twice.
+abbrev pub LinesStandInOrder : Type 0
+LinesStandInOrder = (source : List ℕ) (p : Assembled) → program_of source ≡ Ok p → AllPairs ComesLater p.lines
+
 -- Line n of a source, from 1, has a label of this name at its front, behind so many others.
 pub record HasLabel (source : List ℕ) (n : ℕ) (name : List ℕ) : Type 0 where
   pub line : List ℕ
@@ -124,3 +133,23 @@ pub record HasNumber (source : List ℕ) (n k : ℕ) (width : Width) (value : �
 abbrev pub NumbersStandWhereTheyAreMeant : Type 0
 NumbersStandWhereTheyAreMeant = (source : List ℕ) (p : Assembled) → program_of source ≡ Ok p → (n k : ℕ) (width : Width) (value : ℕ) → HasNumber source n k width value
     → take (bytes_in width) (drop (address (size_of_text source) (here (place_before source n)) - text_base + k * bytes_in width) p.bytes) ≡ number_bytes (bytes_in width) value
+
+-- so many bytes of a program from the place of line n on
+abbrev pub bytes_at_line : List ℕ → ℕ → ℕ → List ℕ → List ℕ
+bytes_at_line source n count bytes = take count (drop (address (size_of_text source) (here (place_before source n)) - text_base) bytes)
+
+-- At the place of a line `.space size` stand so many zeros.
+abbrev pub SpacesAreZeros : Type 0
+SpacesAreZeros = (source : List ℕ) (p : Assembled) → program_of source ≡ Ok p → (n size : ℕ) → Says source n (Space size)
+    → bytes_at_line source n size p.bytes ≡ replicate size 0
+
+-- What fills up to a multiple of 2 ^ power: nops in the text, where they are whole, else zeros.
+abbrev pub filling_bytes : Place → ℕ → List ℕ
+filling_bytes place power =
+    if is_text place.section && (place.text_size % 4 == 0 && nat_le 2 power)
+    then repeated (padding (offset place) power / 4) nop_bytes [] else replicate (padding (offset place) power) 0
+
+-- From the place of a line `.align power` up to the next multiple stands what fills it.
+abbrev pub AlignmentsAreFilled : Type 0
+AlignmentsAreFilled = (source : List ℕ) (p : Assembled) → program_of source ≡ Ok p → (n power : ℕ) → Says source n (Align power)
+    → bytes_at_line source n (padding (offset (place_before source n)) power) p.bytes ≡ filling_bytes (place_before source n) power

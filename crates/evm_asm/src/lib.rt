@@ -20,9 +20,10 @@ pub use laws::{
 };
 pub use output::ProgramLine;
 pub use place_laws::{
-    all_labels_are_found, all_that_is_meant_stands, data_stands_at_its_base,
-    labels_stand_in_order, labels_stand_where_their_lines_do, lines_stand_where_they_are_meant, means_without_faults,
-    numbers_stand_where_they_are_meant, refuses_the_least, sizes_are_bytes,
+    alignments_are_filled, all_labels_are_found, all_that_is_meant_stands, data_stands_at_its_base,
+    labels_stand_in_order, labels_stand_where_their_lines_do, lines_stand_in_order,
+    lines_stand_where_they_are_meant, means_without_faults, numbers_stand_where_they_are_meant,
+    refuses_the_least, sizes_are_bytes, spaces_are_zeros,
 };
 pub use program::{Program, assemble};
 pub use program_laws::lines_are_worded;

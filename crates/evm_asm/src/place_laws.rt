@@ -1,7 +1,7 @@
 //! Where the lines of a source stand. The functions do nothing: their contracts are the laws.
 
 ghost use Rattle.evm_asm.specs.Least.{RefusesTheLeast, MeansWithoutFaults};
-ghost use Rattle.evm_asm.specs.Sizes.{SizesAreBytes, DataStandsAtItsBase, LinesStandWhereTheyAreMeant, AllThatIsMeantStands, LabelsStandWhereTheirLinesDo, AllLabelsAreFound, LabelsStandInOrder, NumbersStandWhereTheyAreMeant};
+ghost use Rattle.evm_asm.specs.Sizes.{SizesAreBytes, LinesStandInOrder, DataStandsAtItsBase, LinesStandWhereTheyAreMeant, AllThatIsMeantStands, LabelsStandWhereTheirLinesDo, AllLabelsAreFound, LabelsStandInOrder, NumbersStandWhereTheyAreMeant, SpacesAreZeros, AlignmentsAreFilled};
 
 /// The sizes by which the lines and labels of a source are placed are those of the bytes that it becomes.
 pub fn sizes_are_bytes()
@@ -17,6 +17,11 @@ pub fn data_stands_at_its_base()
 /// line's offsets were reckoned.
 pub fn lines_stand_where_they_are_meant()
     ensures { LinesStandWhereTheyAreMeant }
+{}
+
+/// A program's lines are in the order of the source and of their addresses, none twice.
+pub fn lines_stand_in_order()
+    ensures { LinesStandInOrder }
 {}
 
 /// A program lacks no instruction that a line of its source means.
@@ -42,6 +47,16 @@ pub fn labels_stand_in_order()
 /// The bytes of each number of a line stand from the line's place on.
 pub fn numbers_stand_where_they_are_meant()
     ensures { NumbersStandWhereTheyAreMeant }
+{}
+
+/// `.space size` puts so many zeros at its line's place.
+pub fn spaces_are_zeros()
+    ensures { SpacesAreZeros }
+{}
+
+/// `.align power` fills up to the next multiple with nops or zeros.
+pub fn alignments_are_filled()
+    ensures { AlignmentsAreFilled }
 {}
 
 /// A source that means nothing is refused with the least fault of its first line that has any, and only so.
