@@ -5,6 +5,7 @@ mod fault;
 mod mnemonic;
 mod names;
 mod registers;
+mod sentences;
 mod text;
 mod token;
 
