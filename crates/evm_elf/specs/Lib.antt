@@ -3,3 +3,4 @@ pub mod Faults
 pub mod Rising
 pub mod Files
 pub mod Programs
+pub mod Sentences

@@ -11,41 +11,29 @@ use thiserror::Error;
 #[derive(Clone, Copy, Debug, Drop, PartialEq, Eq, Error)]
 pub enum ElfFault {
     /// The file has fewer than 64 bytes.
-    #[error("the file is shorter than a file header")]
     Short,
     /// It doesn't begin with `7f 45 4c 46`.
-    #[error("this is no ELF file")]
     Magic,
     /// It isn't of 64 bits, little-endian and of version 1.
-    #[error("the file isn't of 64 bits, little-endian and of version 1")]
     Class,
     /// It isn't an executable of version 1.
-    #[error("the file is no executable")]
     Kind,
     /// The machine isn't RISC-V, 243.
-    #[error("the machine isn't RISC-V")]
     MachineNumber,
     /// The flags ask for compressed instructions.
-    #[error("the program has compressed instructions")]
     Compressed,
     /// A program header is of dynamic linking or of an interpreter.
-    #[error("the program is linked dynamically")]
     Dynamic,
     /// A program header isn't of 56 bytes or passes the file's end, or a segment passes it or leaves the
     /// range of memory.
-    #[error("a segment isn't in the file or leaves memory")]
     SegmentOutside,
     /// Two segments share an address.
-    #[error("two segments share an address")]
     SegmentOverlap,
     /// A segment has more bytes in the file than in memory.
-    #[error("a segment has more bytes in the file than in memory")]
     SizeOrder,
     /// The entry isn't a multiple of 4 in the range of memory.
-    #[error("the entry is no address of an instruction")]
     Entry,
     /// Memory ran out.
-    #[error("out of memory")]
     NoMemory,
 }
 

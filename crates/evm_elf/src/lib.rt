@@ -8,6 +8,7 @@ mod laws;
 mod overlap;
 mod reading;
 mod segments;
+mod sentences;
 mod writing;
 
 pub use fault::ElfFault;

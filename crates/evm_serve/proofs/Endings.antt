@@ -1,25 +1,33 @@
 -- How a run ends, from what it has written on the way.
-use Rattle.std.proofs.Common.{◌≡◌, ℕ, List, [], ◌⊎◌, Result, Ok, Err, refl, sym, ◌∙◌, subst, inl, inr}
+use Rattle.std.proofs.Common.{◌≡◌, ℕ, List, [], ◌++◌, ◌⊎◌, Result, Ok, Err, refl, ap, sym, ◌∙◌, subst, inl, inr, append_assoc}
 use Rattle.evm_streams.specs.declared.sink.WriteFault.{WriteFault}
 use Rattle.evm_streams.specs.declared.sink.Writing.{Writing}
 use Rattle.evm_streams.specs.Writes.{Took, TookPrefix}
 use Rattle.evm_streams.proofs.Calls.{took_append, prefix_behind}
 use Rattle.evm_serve.specs.Told.{Told, memory_text}
-use Rattle.evm_serve.specs.Serving.{status_of, IsPrefix, WritesAll, WritesMemory, Finishes}
+use Rattle.evm_serve.specs.Faults.{fault_text, no_image_text}
+use Rattle.evm_serve.specs.Serving.{status_of, IsPrefix, EndsIn, WritesAll, WritesMemory, Finishes}
 use Rattle.evm_serve.specs.Playing.{Plays, Says, EndsAs}
 use Rattle.evm_serve.specs.declared.ending.Verdict.{Verdict}
+use Rattle.evm_serve.specs.declared.ending.Verdict.TheVariants.{Done, Refused, ImageRefused}
 use Rattle.evm_serve.specs.declared.ending.Halt.{Halt}
 use Rattle.evm_serve.specs.declared.ending.Halt.TheVariants as halts
 use Rattle.evm_serve.specs.declared.ending.Ending.{Ending}
 use Rattle.evm_serve.specs.declared.ending.Ending.TheVariants.{Complete, NoMemory, ReadFailed, WriteFailed}
 
+-- the fault with which a text ends is that of the text with more in front
+pub ends_behind : (verdict : Verdict) (prefix text : List ℕ) → EndsIn verdict text → EndsIn verdict (prefix ++ text)
+ends_behind Done prefix text is = tt
+ends_behind (Refused fault) prefix text is = (prefix ++ is.0, ap (λ (t : List ℕ). prefix ++ t) is.1 ∙ sym (append_assoc prefix is.0 (fault_text fault)))
+ends_behind (ImageRefused fault) prefix text is = (prefix ++ is.0, ap (λ (t : List ℕ). prefix ++ t) is.1 ∙ sym (append_assoc prefix is.0 (no_image_text fault)))
+
 module _ {W : Type 0} (takes : W → Writing → List ℕ → W → Type 0) where
   -- a verdict, and no more is written
-  complete : (all : Told) (verdict : Verdict) (a b c : W) (ending : Ending) → Took takes a all.text b → status_of verdict ≡ all.status → c ≡ b → ending ≡ Complete verdict → WritesAll takes all a c ending
-  complete all verdict a b c ending took status same is =
+  complete : (all : Told) (verdict : Verdict) (a b c : W) (ending : Ending) → Took takes a all.text b → status_of verdict ≡ all.status → EndsIn verdict all.text → c ≡ b → ending ≡ Complete verdict → WritesAll takes all a c ending
+  complete all verdict a b c ending took status fault same is =
       let P : W → Type 0 = λ w. Took takes a all.text w in
       let Q : Ending → Type 0 = λ e. WritesAll takes all a c e in
-      subst Q (sym is) (subst P (sym same) took, status)
+      subst Q (sym is) (subst P (sym same) took, status, fault)
 
   -- a write failed, and no more is written
   failed : (all : Told) (a b c : W) (ending : Ending) (fault : WriteFault) → TookPrefix takes a all.text b → c ≡ b → ending ≡ WriteFailed fault → WritesAll takes all a c ending
@@ -37,13 +45,13 @@ module _ {W : Type 0} (takes : W → Writing → List ℕ → W → Type 0) wher
 
   -- a run that wrote several texts
   pub finishes : (all : Told) (a b c : W) (outcome : Result Verdict Halt) (ending : Ending) → Plays takes all a b outcome → EndsAs takes outcome b c ending → Finishes takes all a c ending
-  finishes all a b c (Ok verdict) ending plays ends = inl (complete all verdict a b c ending plays.0 plays.1 ends.0 ends.1)
+  finishes all a b c (Ok verdict) ending plays ends = inl (complete all verdict a b c ending plays.0 plays.1 plays.2 ends.0 ends.1)
   finishes all a b c (Err halts.NoMemory) ending plays ends = inr (plays.0, plays.1, memory_behind a b c plays.0 ending plays.2 ends)
   finishes all a b c (Err (halts.WriteFailed fault)) ending plays ends = inl (failed all a b c ending fault plays ends.0 ends.1)
 
   -- a run that wrote one text
   pub says : (all : Told) (a b c : W) (outcome : Result Verdict Halt) (ending : Ending) → Says takes all a b outcome → EndsAs takes outcome b c ending → WritesAll takes all a c ending ⊎ WritesMemory takes [] a c ending
-  says all a b c (Ok verdict) ending written ends = inl (complete all verdict a b c ending written.0 written.1 ends.0 ends.1)
+  says all a b c (Ok verdict) ending written ends = inl (complete all verdict a b c ending written.0 written.1 written.2 ends.0 ends.1)
   says all a b c (Err halts.NoMemory) ending written ends = let P : W → Type 0 = λ w. WritesMemory takes [] w c ending in inr (subst P written ends)
   says all a b c (Err (halts.WriteFailed fault)) ending written ends = inl (failed all a b c ending fault written ends.0 ends.1)
 
@@ -54,8 +62,9 @@ module _ {W : Type 0} (takes : W → Writing → List ℕ → W → Type 0) wher
   -- the last text of a script was written, or could not be written whole
   pub plays_ended : (all : Told) (a b c : W) (text : List ℕ) (outcome : Result Verdict Halt)
       → (Took takes b text c → Took takes a all.text c × (1 ≡ all.status)) → (TookPrefix takes b text c → TookPrefix takes a all.text c)
+      → ((verdict : Verdict) → EndsIn verdict text → EndsIn verdict all.text)
       → (prefix : List ℕ) → IsPrefix prefix all.text → Took takes a prefix b
       → Says takes (record { text = text; status = 1 }) b c outcome → Plays takes all a c outcome
-  plays_ended all a b c text (Ok verdict) whole part prefix is took says = let w = whole says.0 in (w.0, says.1 ∙ w.1)
-  plays_ended all a b c text (Err halts.NoMemory) whole part prefix is took says = let P : W → Type 0 = λ w. Took takes a prefix w in (prefix, is, subst P (sym says) took)
-  plays_ended all a b c text (Err (halts.WriteFailed fault)) whole part prefix is took says = part says
+  plays_ended all a b c text (Ok verdict) whole part ends prefix is took says = let w = whole says.0 in (w.0, says.1 ∙ w.1, ends verdict says.2)
+  plays_ended all a b c text (Err halts.NoMemory) whole part ends prefix is took says = let P : W → Type 0 = λ w. Took takes a prefix w in (prefix, is, subst P (sym says) took)
+  plays_ended all a b c text (Err (halts.WriteFailed fault)) whole part ends prefix is took says = part says

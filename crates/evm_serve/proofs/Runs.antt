@@ -8,6 +8,9 @@ use Rattle.evm_image.specs.Images.{Contents}
 use Rattle.evm_model.specs.State.{State}
 use Rattle.evm_debug.specs.LineReading.{line_at}
 use Rattle.evm_serve.specs.Lines.{lines_of, CutsLine}
+use Rattle.evm_serve.specs.Serving.{EndsIn}
+use Rattle.evm_serve.specs.declared.ending.Verdict.{Verdict}
+use Rattle.evm_serve.proofs.Endings.{ends_behind}
 use Rattle.evm_serve.specs.Told.{Told, Goes, Ends, told, lines_told, line_told, behind}
 
 behind-behind : (a b : List ℕ) (t : Told) → behind a (behind b t) ≡ behind (a ++ b) t
@@ -57,6 +60,11 @@ module _ {W : Type 0} (takes : W → Writing → List ℕ → W → Type 0) wher
       let others : List ℕ = (lines_told image (n + 1) (lines_of after) machine').text in
       let left : all ≡ behind h.prefix (behind text (lines_told image (n + 1) (lines_of after) machine')) = h.left ∙ ap (behind h.prefix) (rw (cut.lines, goes) refl) in
       rw left (prefix_behind takes old now new h.prefix (text ++ others) h.written (prefix_longer takes now new text others written))
+
+  -- a line ends the run at its fault
+  pub Tells-ended_in : (image : Option Contents) (all : Told) (old now : W) (n : ℕ) (rest line after text : List ℕ) (machine : Option State) → Tells image all old now n rest machine → CutsLine rest line after → line_told image n machine (line_at line) ≡ Ends text → (verdict : Verdict) → EndsIn verdict text → EndsIn verdict all.text
+  Tells-ended_in image all old now n rest line after text machine h cut ends verdict is =
+      rw (Tells-ends image all old now n rest line after text machine h cut ends) (ends_behind verdict h.prefix text is)
 
   -- a line ends the run, and its text was written
   pub Tells-ended : (image : Option Contents) (all : Told) (old now new : W) (n : ℕ) (rest line after text : List ℕ) (machine : Option State) → Tells image all old now n rest machine → CutsLine rest line after → line_told image n machine (line_at line) ≡ Ends text → Took takes now text new → Took takes old all.text new × (1 ≡ all.status)

@@ -1,21 +1,18 @@
 -- What assembling a source writes to a file and reports.
-use Rattle.std.specs.Prelude.{◌≡◌, ℕ, List, [], ◌++◌, ◌⊎◌, Result, Ok, Err, codes}
+use Rattle.std.specs.Prelude.{◌≡◌, ℕ, List, [], ◌⊎◌, Result, Ok, Err}
 use Rattle.evm_streams.specs.declared.sink.Writing.{Writing}
-use Rattle.evm_text.specs.Written.{decimal}
 use Rattle.evm_asm.specs.Assembled.{Assembled}
-use Rattle.evm_words.specs.Faults.{kind_number}
 use Rattle.evm_words.specs.declared.fault.AsmFault.{AsmFault}
 use Rattle.evm_elf.specs.Files.{file_of}
 use Rattle.evm_serve.specs.Told.{Told}
+use Rattle.evm_serve.specs.Faults.{fault_text}
 use Rattle.evm_serve.specs.Serving.{WritesAll, WritesMemory}
 use Rattle.evm_serve.specs.declared.ending.Ending.{Ending}
+use Rattle.evm_serve.specs.declared.fault.Fault.TheVariants.{NoProgram}
 
 -- the report of a source that has a fault
-abbrev pub fault_text : AsmFault → List ℕ
-fault_text fault = codes "asm " ++ decimal fault.line ++ codes " " ++ decimal (kind_number fault.kind) ++ codes "\n"
-
 abbrev pub fault_report : AsmFault → Told
-fault_report fault = record { text = fault_text fault; status = 1 }
+fault_report fault = record { text = fault_text (NoProgram fault); status = 1 }
 
 module _ {W T : Type 0} (takes : W → Writing → List ℕ → W → Type 0) (takes_report : T → Writing → List ℕ → T → Type 0) where
   -- The file of a program is written and nothing reported; a fault is reported and no file written; or an allocation failed, the line

@@ -1,19 +1,16 @@
 -- How the reading of an image may end, and what it has written then.
-use Rattle.std.specs.Prelude.{◌≡◌, ℕ, List, [], ◌++◌, None, ◌⊎◌, Result, Ok, Err, IsSomeAnd, codes}
+use Rattle.std.specs.Prelude.{◌≡◌, ℕ, List, [], None, ◌⊎◌, Result, Ok, Err, IsSomeAnd}
 use Rattle.evm_streams.specs.declared.sink.Writing.{Writing}
 use Rattle.evm_streams.specs.declared.source.ReadStop.{ReadStop}
-use Rattle.evm_text.specs.Written.{decimal}
 use Rattle.evm_image.specs.Images.{Contents}
-use Rattle.evm_elf.specs.Faults.{fault_of, fault_number, image_of}
+use Rattle.evm_elf.specs.Faults.{fault_of, image_of}
 use Rattle.evm_elf.specs.declared.fault.ElfFault.{ElfFault}
 use Rattle.evm_serve.specs.Told.{Told}
+use Rattle.evm_serve.specs.Faults.{no_image_text}
 use Rattle.evm_serve.specs.Serving.{WritesAll, WritesMemory, Unread}
 use Rattle.evm_serve.specs.declared.ending.Ending.{Ending}
 
 -- the report of a file that has a fault
-abbrev pub no_image_text : ElfFault → List ℕ
-no_image_text fault = codes "image " ++ decimal (fault_number fault) ++ codes "\n"
-
 abbrev pub fault_report : ElfFault → Told
 fault_report fault = record { text = no_image_text fault; status = 3 }
 

@@ -1,4 +1,5 @@
 pub mod Assembling
+pub mod Faults
 pub mod Imaging
 pub mod Known
 pub mod Lines

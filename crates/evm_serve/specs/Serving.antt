@@ -1,5 +1,5 @@
 -- How a run may end, and what it has written then.
-use Rattle.std.specs.Prelude.{◌≡◌, ℕ, List, [], ◌++◌, ◌⊎◌, Option, Result, Ok, Err}
+use Rattle.std.specs.Prelude.{◌≡◌, ℕ, List, [], ◌++◌, ◌⊎◌, Option, Result, Ok, Err, ⊤}
 use Rattle.std.specs.String.{string_bytes}
 use Rattle.evm_streams.specs.declared.sink.Writing.{Writing}
 use Rattle.evm_streams.specs.declared.source.ReadStop.{ReadStop}
@@ -7,6 +7,7 @@ use Rattle.evm_streams.specs.declared.source.ReadStop.TheVariants as stops
 use Rattle.evm_streams.specs.Writes.{Took, TookPrefix}
 use Rattle.evm_model.specs.State.{State}
 use Rattle.evm_serve.specs.Told.{Told, memory_text, Telling, Goes, Ends}
+use Rattle.evm_serve.specs.Faults.{fault_text, no_image_text}
 use Rattle.evm_serve.specs.declared.ending.Verdict.{Verdict}
 use Rattle.evm_serve.specs.declared.ending.Verdict.TheVariants.{Done, Refused, ImageRefused}
 use Rattle.evm_serve.specs.declared.ending.Ending.{Ending}
@@ -17,13 +18,13 @@ use Rattle.evm_serve.specs.declared.ending.Reply.TheVariants as replies
 -- what the code replies to a line is what the line tells, and leaves its machine
 abbrev pub Replies : Reply → Option State → Telling → Type 0
 Replies (replies.Goes text) machine telling = telling ≡ Goes (string_bytes text) machine
-Replies (replies.Ends text) machine telling = telling ≡ Ends (string_bytes text)
+Replies (replies.Ends fault) machine telling = telling ≡ Ends (fault_text fault)
 
 -- the status of a run whose report was written to its end
 abbrev pub status_of : Verdict → ℕ
 status_of Done = 0
-status_of Refused = 1
-status_of ImageRefused = 3
+status_of (Refused fault) = 1
+status_of (ImageRefused fault) = 3
 
 -- the status that a run ends with
 abbrev pub status_at : Ending → ℕ
@@ -35,10 +36,16 @@ status_at (WriteFailed fault) = 4
 abbrev pub IsPrefix : List ℕ → List ℕ → Type 0
 IsPrefix prefix text = (rest : List ℕ) × (text ≡ prefix ++ rest)
 
+-- The fault of a verdict is the one with which the report ends.
+abbrev pub EndsIn : Verdict → List ℕ → Type 0
+EndsIn Done text = ⊤
+EndsIn (Refused fault) text = (front : List ℕ) × (text ≡ front ++ fault_text fault)
+EndsIn (ImageRefused fault) text = (front : List ℕ) × (text ≡ front ++ no_image_text fault)
+
 module _ {W : Type 0} (takes : W → Writing → List ℕ → W → Type 0) where
-  -- All of a report was written, with its status; or a write failed, after a prefix of it.
+  -- All of a report was written, with its status and its fault; or a write failed, after a prefix of it.
   abbrev pub WritesAll : Told → W → W → Ending → Type 0
-  WritesAll all w w' (Complete verdict) = Took takes w all.text w' × (status_of verdict ≡ all.status)
+  WritesAll all w w' (Complete verdict) = Took takes w all.text w' × (status_of verdict ≡ all.status) × EndsIn verdict all.text
   WritesAll all w w' NoMemory = ⊥
   WritesAll all w w' (ReadFailed fault) = ⊥
   WritesAll all w w' (WriteFailed fault) = TookPrefix takes w all.text w'

@@ -3,25 +3,15 @@
 ghost use Rattle.evm_elf.specs.Files.{file_of};
 ghost use Rattle.evm_asm.specs.Assembled.{program_of};
 ghost use Rattle.evm_serve.specs.Playing.{Says};
-ghost use Rattle.evm_serve.specs.Assembling.{Assembles, fault_report};
+ghost use Rattle.evm_serve.specs.Assembling.{Assembles};
 
 use crate::ending::{Ending, Halt, Verdict};
-use crate::halting::{ended, say};
-use crate::texts::no_program;
-use evm_asm::{AsmFault, AsmFaultKind, Program, assemble};
+use crate::fault::Fault;
+use crate::halting::{ended, say, say_fault};
+use evm_asm::{AsmFaultKind, Program, assemble};
 use evm_elf::write_image;
 use evm_streams::Sink;
 use std::alloc::Global;
-
-// Reports the fault of a source.
-fn say_fault<T: Sink>(alloc: Global, fault: &AsmFault, report: &mut T) -> Result<Verdict, Halt>
-    ensures { Says T.takes (fault_report fault.now) report.old report.new result }
-{
-    match no_program(alloc, fault) {
-        Ok(line) => say(Verdict::Refused, line.as_bytes(), report),
-        Err(_) => Err(Halt::NoMemory),
-    }
-}
 
 // Writes the file of a program.
 fn write_file<W: Sink>(alloc: Global, program: &Program, out: &mut W) -> Result<Verdict, Halt>
@@ -47,7 +37,7 @@ pub fn assemble_to<W: Sink, T: Sink>(
     let outcome = match assemble(alloc, source) {
         Ok(program) => write_file(alloc, &program, out),
         Err(fault) if matches!(fault.kind, AsmFaultKind::NoMemory) => Err(Halt::NoMemory),
-        Err(fault) => say_fault(alloc, &fault, report),
+        Err(fault) => say_fault(alloc, Fault::NoProgram(fault), report),
     };
     ended(outcome, report)
 }

@@ -3,6 +3,8 @@
 ghost use Rattle.std.specs.Prelude.{◌≡◌};
 ghost use Rattle.evm_serve.specs.Serving.{status_of, status_at};
 
+use crate::fault::Fault;
+use evm_elf::ElfFault;
 use evm_streams::{ReadFault, WriteFault};
 
 /// What a line of a script replies.
@@ -10,8 +12,8 @@ use evm_streams::{ReadFault, WriteFault};
 pub enum Reply {
     /// The run goes on, with this text.
     Goes(String),
-    /// The run ends with this text.
-    Ends(String),
+    /// The run ends at this fault.
+    Ends(Fault),
 }
 
 /// What a run came to whose report was written to its end.
@@ -20,9 +22,9 @@ pub enum Verdict {
     /// All was done.
     Done,
     /// A line, a journal, a source or an event was bad or refused.
-    Refused,
+    Refused(Fault),
     /// The file of the image has a fault.
-    ImageRefused,
+    ImageRefused(ElfFault),
 }
 
 /// Why a run halts before its report is written to its end.
@@ -55,8 +57,8 @@ impl Ending {
     {
         match self {
             Ending::Complete(Verdict::Done) => 0,
-            Ending::Complete(Verdict::Refused) | Ending::NoMemory => 1,
-            Ending::Complete(Verdict::ImageRefused) => 3,
+            Ending::Complete(Verdict::Refused(_)) | Ending::NoMemory => 1,
+            Ending::Complete(Verdict::ImageRefused(_)) => 3,
             Ending::ReadFailed(_) | Ending::WriteFailed(_) => 4,
         }
     }

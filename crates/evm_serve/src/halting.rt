@@ -1,18 +1,38 @@
 //! Reports written in one piece, and the end of a run that came to a verdict or halted.
 
+ghost use Rattle.std.specs.Prelude.{◌≡◌};
 ghost use Rattle.evm_serve.specs.Playing.{Says, EndsAs};
-ghost use Rattle.evm_serve.specs.Serving.{status_of, Unread};
+ghost use Rattle.evm_serve.specs.Faults.{fault_text};
+ghost use Rattle.evm_serve.specs.Serving.{status_of, EndsIn, Unread};
 
 use crate::ending::{Ending, Halt, Verdict};
+use crate::fault::Fault;
+use crate::texts::fault_line;
 use evm_streams::{ReadStop, Sink, write_all};
+use std::alloc::Global;
 
 /// Writes the report of a run that comes to this verdict.
 pub(crate) fn say<W: Sink>(verdict: Verdict, text: &[u8], writer: &mut W) -> Result<Verdict, Halt>
+    requires { EndsIn verdict text.now }
     ensures { Says W.takes (record { text = text.now; status = status_of verdict }) writer.old writer.new result }
 {
     match write_all(writer, text) {
         Ok(()) => Ok(verdict),
         Err(fault) => Err(Halt::WriteFailed(fault)),
+    }
+}
+
+/// Writes the line of a fault, at which the run ends.
+pub(crate) fn say_fault<W: Sink>(
+    alloc: Global,
+    fault: Fault,
+    writer: &mut W,
+) -> Result<Verdict, Halt>
+    ensures { Says W.takes (record { text = fault_text fault; status = 1 }) writer.old writer.new result }
+{
+    match fault_line(alloc, fault) {
+        Ok(line) => say(Verdict::Refused(fault), line.as_bytes(), writer),
+        Err(_) => Err(Halt::NoMemory),
     }
 }
 

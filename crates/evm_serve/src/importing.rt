@@ -15,11 +15,11 @@ use evm_streams::{Sink, Source, read_all};
 use std::alloc::Global;
 
 // Reports the fault of a file.
-fn say_fault<W: Sink>(alloc: Global, fault: ElfFault, writer: &mut W) -> Result<Verdict, Halt>
+fn say_no_image<W: Sink>(alloc: Global, fault: ElfFault, writer: &mut W) -> Result<Verdict, Halt>
     ensures { Says W.takes (fault_report fault) writer.old writer.new result }
 {
     match no_image(alloc, fault) {
-        Ok(text) => say(Verdict::ImageRefused, text.as_bytes(), writer),
+        Ok(text) => say(Verdict::ImageRefused(fault), text.as_bytes(), writer),
         Err(_) => Err(Halt::NoMemory),
     }
 }
@@ -32,7 +32,7 @@ fn check<W: Sink>(alloc: Global, file: &[u8], writer: &mut W) -> Result<Image, E
         Ok(image) => Ok(image),
         Err(ElfFault::NoMemory) => Err(ended(Err(Halt::NoMemory), writer)),
         Err(fault) => {
-            let outcome = say_fault(alloc, fault, writer);
+            let outcome = say_no_image(alloc, fault, writer);
             Err(ended(outcome, writer))
         }
     }

@@ -3,6 +3,7 @@
 
 mod assembling;
 mod ending;
+mod fault;
 mod halting;
 mod importing;
 mod laws;
@@ -16,6 +17,7 @@ mod texts;
 pub use assembling::assemble_to;
 pub use ending::{Ending, Verdict};
 pub use evm_streams::{ReadFault, ReadStop, WriteFault, read_utf8};
+pub use fault::Fault;
 pub use importing::import;
 pub use laws::{
     known_contents_are_assembled_into, known_files_are_imported, known_inputs_are_served,

@@ -6,7 +6,7 @@ ghost use Rattle.evm_serve.specs.Playing.{Plays};
 ghost use Rattle.evm_serve.specs.Serving.{Serves};
 
 use crate::ending::{Ending, Halt, Reply, Verdict};
-use crate::halting::{ended, say, unread};
+use crate::halting::{ended, say_fault, unread};
 use crate::lines::cut_line;
 use crate::tell::tell;
 use evm_image::Image;
@@ -33,7 +33,7 @@ fn play<W: Sink>(
                     return Err(Halt::WriteFailed(fault));
                 }
             }
-            Ok(Reply::Ends(text)) => return say(Verdict::Refused, text.as_bytes(), writer),
+            Ok(Reply::Ends(fault)) => return say_fault(alloc, fault, writer),
         }
         rest = after;
         number += 1;

@@ -2,38 +2,19 @@ ghost use Rattle.std.specs.Prelude.{◌≡◌, Option, Result, IfOk, MatchResult
 ghost use Rattle.evm_model.specs.State.{State};
 ghost use Rattle.evm_debug.specs.LineReading.{line_at};
 ghost use Rattle.evm_serve.specs.Starting.{started};
-ghost use Rattle.evm_serve.specs.Told.{bad_text, refused_text, steps, machine_told, told_unbooted, told_booted, line_told, Goes, Ends};
+ghost use Rattle.evm_serve.specs.Told.{steps, machine_told, told_unbooted, told_booted, line_told};
 ghost use Rattle.evm_serve.specs.Serving.{Replies};
 
 use crate::ending::Reply;
+use crate::fault::Fault;
 use crate::starting::start;
-use crate::texts::{bad, refused};
 use evm_core::{Boot, Event, Machine, Refusal};
 use evm_debug::{Line, View, ViewRefusal, read_line, view};
 use evm_image::Image;
 use evm_ram::NoMemory;
 use std::alloc::Global;
 
-fn ends_bad(alloc: Global, number: u64) -> Result<Reply, NoMemory>
-    ensures { IfOk result (λ reply. (m : Option State) → Replies reply m (Ends (bad_text number))) }
-{
-    match bad(alloc, number) {
-        Ok(text) => Ok(Reply::Ends(text)),
-        Err(_) => Err(NoMemory),
-    }
-}
-
-fn ends_refused(alloc: Global, number: u64, refusal: Refusal) -> Result<Reply, NoMemory>
-    ensures { IfOk result (λ reply. (m : Option State) → Replies reply m (Ends (refused_text number refusal))) }
-{
-    match refused(alloc, number, refusal) {
-        Ok(text) => Ok(Reply::Ends(text)),
-        Err(_) => Err(NoMemory),
-    }
-}
-
 // A processor takes so many Steps, or those before the first that is refused.
-#[tactic(auto, using(crate::proofs::StepLemmas::step_lemmas))]
 fn take_steps(machine: &mut Machine, c: u8, count: u32) -> Result<(), Refusal>
     ensures { MatchResult result (λ _. steps c count machine.old ≡ Result.Ok machine.new) (λ refusal. steps c count machine.old ≡ Result.Err refusal) }
 {
@@ -57,7 +38,7 @@ fn tell_boot(
             Ok(Reply::Goes(String::new(alloc)))
         }
         Err(Refusal::NoMemory) => Err(NoMemory),
-        Err(refusal) => ends_refused(alloc, number, refusal),
+        Err(refusal) => Ok(Reply::Ends(Fault::Refused(number, refusal))),
     }
 }
 
@@ -86,7 +67,7 @@ fn tell_unbooted(
             };
             tell_boot(alloc, image, number, &numbers, machine)
         }
-        _ => ends_bad(alloc, number),
+        _ => Ok(Reply::Ends(Fault::BadLine(number))),
     }
 }
 
@@ -101,18 +82,18 @@ fn tell_booted(
 {
     match line {
         Line::Blank => Ok(Reply::Goes(String::new(alloc))),
-        Line::Boot { .. } => ends_bad(alloc, number),
+        Line::Boot { .. } => Ok(Reply::Ends(Fault::BadLine(number))),
         Line::Steps(c, count) => match take_steps(machine, c, count) {
             Ok(()) => Ok(Reply::Goes(String::new(alloc))),
-            Err(refusal) => ends_refused(alloc, number, refusal),
+            Err(refusal) => Ok(Reply::Ends(Fault::Refused(number, refusal))),
         },
         Line::One(event) => match machine.apply(event) {
             Ok(_) => Ok(Reply::Goes(String::new(alloc))),
-            Err(refusal) => ends_refused(alloc, number, refusal),
+            Err(refusal) => Ok(Reply::Ends(Fault::Refused(number, refusal))),
         },
         Line::Look(what) => match view(alloc, machine, &what) {
             Ok(text) => Ok(Reply::Goes(text)),
-            Err(ViewRefusal::Refused(refusal)) => ends_refused(alloc, number, refusal),
+            Err(ViewRefusal::Refused(refusal)) => Ok(Reply::Ends(Fault::Refused(number, refusal))),
             Err(ViewRefusal::NoMemory) => Err(NoMemory),
         },
     }
@@ -130,7 +111,7 @@ pub(crate) fn tell(
     ensures { IfOk result (λ reply. Replies reply machine.new (line_told (option_copied image.entry) number machine.old (line_at line.now))) }
 {
     let Ok(line) = read_line(line) else {
-        return ends_bad(alloc, number);
+        return Ok(Reply::Ends(Fault::BadLine(number)));
     };
     match machine {
         None => tell_unbooted(alloc, image, number, &line, machine),

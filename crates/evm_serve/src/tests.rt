@@ -10,6 +10,7 @@ use std::test::Fail;
 
 mod assembling;
 mod fakes;
+mod faults;
 mod images;
 mod journals;
 mod loading;

@@ -3,13 +3,10 @@
 ghost use Rattle.std.specs.Prelude.{◌≡◌, ◌++◌, IfOk, codes};
 ghost use Rattle.std.specs.String.{string_bytes};
 ghost use Rattle.evm_text.specs.Written.{decimal};
-ghost use Rattle.evm_serve.specs.Told.{bad_text, refused_text};
-ghost use Rattle.evm_serve.specs.Assembling.{fault_text};
-ghost use Rattle.evm_serve.specs.Imaging.{no_image_text};
-ghost use Rattle.evm_serve.specs.Replaying.{no_journal_text};
+ghost use Rattle.evm_serve.specs.Faults.{fault_text, no_image_text};
 
+use crate::fault::Fault;
 use evm_asm::AsmFault;
-use evm_core::Refusal;
 use evm_elf::ElfFault;
 use evm_journal::JournalFault;
 use evm_text::push_decimal;
@@ -35,18 +32,22 @@ fn with_two(alloc: Global, word: &str, first: u64, second: u64) -> Result<String
     Ok(text)
 }
 
-/// What is reported of a bad line, by its number.
-pub(crate) fn bad(alloc: Global, number: u64) -> Result<String, AllocError>
-    ensures { IfOk result (λ text. string_bytes text ≡ bad_text number) }
+/// The line of a fault, at which a run ends.
+pub(crate) fn fault_line(alloc: Global, fault: Fault) -> Result<String, AllocError>
+    ensures { IfOk result (λ text. string_bytes text ≡ fault_text fault) }
 {
-    with_one(alloc, "bad ", number)
-}
-
-/// What is reported of a refused line, by its number.
-pub(crate) fn refused(alloc: Global, number: u64, refusal: Refusal) -> Result<String, AllocError>
-    ensures { IfOk result (λ text. string_bytes text ≡ refused_text number refusal) }
-{
-    with_two(alloc, "refused ", number, u64::from(refusal.number()))
+    match fault {
+        Fault::BadLine(line) => with_one(alloc, "bad ", line),
+        Fault::Refused(line, refusal) => {
+            with_two(alloc, "refused ", line, u64::from(refusal.number()))
+        }
+        Fault::NoProgram(AsmFault { line, kind }) => {
+            with_two(alloc, "asm ", line, u64::from(kind.number()))
+        }
+        Fault::NoJournal(JournalFault { line, kind }) => {
+            with_two(alloc, "journal ", line, u64::from(kind.number()))
+        }
+    }
 }
 
 /// What is reported of a file that is no image.
@@ -54,23 +55,4 @@ pub(crate) fn no_image(alloc: Global, fault: ElfFault) -> Result<String, AllocEr
     ensures { IfOk result (λ text. string_bytes text ≡ no_image_text fault) }
 {
     with_one(alloc, "image ", u64::from(fault.number()))
-}
-
-/// What is reported of a source that has a fault.
-pub(crate) fn no_program(alloc: Global, fault: &AsmFault) -> Result<String, AllocError>
-    ensures { IfOk result (λ text. string_bytes text ≡ fault_text fault.now) }
-{
-    with_two(alloc, "asm ", fault.line, u64::from(fault.kind.number()))
-}
-
-/// What is reported of a text that is no journal.
-pub(crate) fn no_journal(alloc: Global, fault: JournalFault) -> Result<String, AllocError>
-    ensures { IfOk result (λ text. string_bytes text ≡ no_journal_text fault) }
-{
-    with_two(
-        alloc,
-        "journal ",
-        fault.line,
-        u64::from(fault.kind.number()),
-    )
 }

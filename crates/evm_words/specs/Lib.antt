@@ -2,3 +2,4 @@ pub mod Characters
 pub mod Faults
 pub mod Text
 pub mod Names
+pub mod Sentences

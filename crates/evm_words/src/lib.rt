@@ -6,6 +6,7 @@ pub mod laws;
 mod mnemonic;
 mod names;
 mod registers;
+mod sentences;
 mod text;
 mod token;
 

@@ -5,6 +5,7 @@ use crate::AsmFaultKind::{
     UnknownName,
 };
 use crate::*;
+use std::test::Fail;
 
 mod names;
 mod tokens;
@@ -182,4 +183,36 @@ fn the_least_fault_is_told(rt: HostRuntime) {
         ),
         Err(UnknownName)
     );
+}
+
+// What a person is told of each kind of fault, and of a fault with its line.
+#[test]
+fn faults_are_told_in_words(rt: HostRuntime) -> Result<(), Fail> {
+    for (kind, text) in [
+        (
+            BadToken,
+            "characters that make no token, or a statement that begins with a number or a mark",
+        ),
+        (UnknownName, "unknown name"),
+        (
+            BadOperand,
+            "operands of another number or kind, or an instruction in the data or not at a multiple of 4",
+        ),
+        (
+            RangeOfImmediate,
+            "a number outside its range, or a label that is odd or too far",
+        ),
+        (LabelTwice, "a label that is defined already"),
+        (LabelMissing, "no line defines this label"),
+        (TooLarge, "more than 8388608 bytes of text or of data"),
+        (NoMemory, "out of memory"),
+    ] {
+        let told = format!(in rt.alloc(); "{kind}")?;
+        assert_eq!(rt; told.as_str(), text);
+        let fault = AsmFault { line: 8, kind };
+        let told = format!(in rt.alloc(); "{fault}")?;
+        let wanted = format!(in rt.alloc(); "line 8: {text}")?;
+        assert_eq!(rt; told.as_str(), wanted.as_str());
+    }
+    Ok(())
 }

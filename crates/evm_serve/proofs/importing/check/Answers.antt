@@ -14,5 +14,5 @@ returns-in-Err g c =
     let differs : c.in-Err.fault ≢ NoMemory = search rules in
     let is : fault_of c.args.file.now ≡ Some c.in-Err.fault = (c.in-Err.ensures.fault c.in-Err.fault differs).0 refl in
     let told : WritesAll g.W.Sink.takes (fault_report c.in-Err.fault) c.args.writer.now c.ended-in-Err.new.writer c.ended-in-Err.result ⊎ WritesMemory g.W.Sink.takes [] c.args.writer.now c.ended-in-Err.new.writer c.ended-in-Err.result =
-    says _ _ _ _ _ c.say_fault-outcome.result _ c.say_fault-outcome.ensures c.ended-in-Err.ensures in
+    says _ _ _ _ _ c.say_no_image-outcome.result _ c.say_no_image-outcome.ensures c.ended-in-Err.ensures in
     rw is told

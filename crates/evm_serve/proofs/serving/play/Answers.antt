@@ -4,8 +4,9 @@ use Rattle.evm_streams.specs.Writes.{Took, TookPrefix}
 use Rattle.evm_debug.specs.LineReading.{line_at}
 use Rattle.evm_serve.specs.Lines.{CutsLine}
 use Rattle.evm_serve.specs.Told.{Goes, Ends, line_told}
+use Rattle.evm_serve.specs.Faults.{fault_text}
 use Rattle.evm_serve.proofs.Endings.{plays_ended}
-use Rattle.evm_serve.proofs.Runs.{Tells-start, Tells-goes, Tells-done, Tells-rest, Tells-goes_fault, Tells-ended, Tells-ended_fault}
+use Rattle.evm_serve.proofs.Runs.{Tells-start, Tells-goes, Tells-done, Tells-rest, Tells-goes_fault, Tells-ended, Tells-ended_fault, Tells-ended_in}
 use Rattle.evm_serve.proofs.serving.play.Goals as goal
 
 pub lines-init : goal.lines-init
@@ -32,11 +33,12 @@ pub returns-in-Err : goal.returns-in-Err
 returns-in-Err g c = (c.lines.invariant.tells.prefix, Tells-rest _ _ _ _ _ _ _ _ c.lines.invariant.tells, c.lines.invariant.tells.written)
 
 pub returns : goal.returns
-returns g c = Tells-done _ _ _ _ _ _ _ _ c.lines.invariant.tells (search rules)
+returns g c = let done = Tells-done _ _ _ _ _ _ _ _ c.lines.invariant.tells (search rules) in (done.0, done.1, tt)
 
 pub returns-in-Ok-Ends : goal.returns-in-Ok-Ends
 returns-in-Ok-Ends g c =
-    let ends : line_told (option_copied c.args.image) c.lines.number c.lines.machine (line_at c.in-Some.line.now) ≡ Ends (string_bytes c.in-Ok-Ends.text) = search rules in
+    let ends : line_told (option_copied c.args.image) c.lines.number c.lines.machine (line_at c.in-Some.line.now) ≡ Ends (fault_text c.in-Ok-Ends.fault) = search rules in
     let cut : CutsLine c.lines.rest.now c.in-Some.line.now c.in-Some.after.now = search rules in
     plays_ended _ _ _ _ _ _ _ (Tells-ended _ _ _ _ _ _ _ _ _ _ _ _ c.lines.invariant.tells cut ends) (Tells-ended_fault _ _ _ _ _ _ _ _ _ _ _ _ c.lines.invariant.tells cut ends)
+    (Tells-ended_in _ _ _ _ _ _ _ _ _ _ _ c.lines.invariant.tells cut ends)
     _ (Tells-rest _ _ _ _ _ _ _ _ c.lines.invariant.tells) c.lines.invariant.tells.written (search rules)

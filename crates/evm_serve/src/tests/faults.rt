@@ -1,0 +1,160 @@
+//! The fault with which each job ends, and what a person is told of it.
+
+use super::image_of;
+use crate::assembling::assemble_to;
+use crate::ending::{Ending, Verdict};
+use crate::fault::Fault;
+use crate::importing::import;
+use crate::replay::replay_to;
+use crate::serving::serve;
+use evm_asm::{AsmFault, AsmFaultKind};
+use evm_core::Refusal;
+use evm_elf::ElfFault;
+use evm_journal::{JournalFault, JournalFaultKind};
+use std::process::Abort;
+use std::test::Fail;
+
+/// A job ended with this fault.
+fn check_fault(rt: &impl Abort, ending: Ending, fault: Fault) {
+    let wanted = Ending::Complete(Verdict::Refused(fault));
+    assert!(rt; ending == wanted, "{ending:?} for {fault:?}");
+}
+
+#[test]
+fn scripts_end_with_their_fault(rt: HostRuntime) {
+    for (script, fault) in [
+        ("boot 1 65536 8\n\ntock\n", Fault::BadLine(3)),
+        ("tasks\n", Fault::BadLine(1)),
+        ("#\nboot 9 65536 8\n", Fault::Refused(2, Refusal::BadSize)),
+        (
+            "boot 1 65536 8\ntasks\nset 0 1 5\n",
+            Fault::Refused(3, Refusal::NotStopped),
+        ),
+        (
+            "boot 1 65536 1\nstep 0 2\n",
+            Fault::Refused(2, Refusal::Full),
+        ),
+        (
+            "boot 1 65536 8\nstages 1\n",
+            Fault::Refused(2, Refusal::NoSuchCpu),
+        ),
+    ] {
+        let mut reader = script.as_bytes();
+        let mut written = Vec::new(rt.alloc());
+        let ending = serve(rt.alloc(), &mut reader, &mut written, None);
+        check_fault(&rt, ending, fault);
+    }
+}
+
+#[test]
+fn journals_end_with_their_fault(rt: HostRuntime) -> Result<(), Fail> {
+    let alloc = rt.alloc();
+    let image = image_of(alloc, b"")?;
+    for (journal, fault) in [
+        (
+            "evl-journal 2\n",
+            Fault::NoJournal(JournalFault {
+                line: 1,
+                kind: JournalFaultKind::Header,
+            }),
+        ),
+        (
+            "evl-journal 1\nboot 1 65536 16\nstep 0 1\nstep 0 2\n",
+            Fault::NoJournal(JournalFault {
+                line: 4,
+                kind: JournalFaultKind::NotCanonical,
+            }),
+        ),
+        (
+            "evl-journal 1\nboot 1 65536 16\nstep 0 9\nraise 0 64\n",
+            Fault::Refused(4, Refusal::NoSuchLine),
+        ),
+    ] {
+        let mut reader = journal.as_bytes();
+        let mut written = Vec::new(alloc);
+        let ending = replay_to(alloc, &image, &mut reader, &mut written);
+        check_fault(&rt, ending, fault);
+    }
+    Ok(())
+}
+
+#[test]
+fn sources_and_images_end_with_their_fault(rt: HostRuntime) {
+    let alloc = rt.alloc();
+    let mut out = Vec::new(alloc);
+    let mut told = Vec::new(alloc);
+    let ending = assemble_to(alloc, "nop\naddi a9,a0,1\n", &mut out, &mut told);
+    let kind = AsmFaultKind::UnknownName;
+    check_fault(&rt, ending, Fault::NoProgram(AsmFault { line: 2, kind }));
+    let mut reader = b"\x7fELF".as_slice();
+    let mut written = Vec::new(alloc);
+    let wanted = Ending::Complete(Verdict::ImageRefused(ElfFault::Short));
+    match import(alloc, &mut reader, &mut written) {
+        Ok(_) => panic!(rt; "an image of four bytes"),
+        Err(ending) => assert!(rt; ending == wanted, "{ending:?}"),
+    }
+}
+
+#[test]
+fn faults_are_told_in_words(rt: HostRuntime) -> Result<(), Fail> {
+    for (fault, text) in [
+        (
+            Fault::BadLine(7),
+            "line 7: bad line: outside the grammar, before the boot, or a second boot",
+        ),
+        (
+            Fault::Refused(2, Refusal::NotStopped),
+            "line 2: refused: the processor is not stopped (NotStopped, 4)",
+        ),
+        (
+            Fault::Refused(1, Refusal::SeatsOut),
+            "line 1: refused: a seat is still out (SeatsOut, 14)",
+        ),
+        (
+            Fault::NoProgram(AsmFault {
+                line: 8,
+                kind: AsmFaultKind::UnknownName,
+            }),
+            "line 8: unknown name",
+        ),
+        (
+            Fault::NoJournal(JournalFault {
+                line: 4,
+                kind: JournalFaultKind::NotCanonical,
+            }),
+            "line 4: steps of the processor of the line before, which one line tells",
+        ),
+    ] {
+        let told = format!(in rt.alloc(); "{fault}")?;
+        assert_eq!(rt; told.as_str(), text);
+    }
+    Ok(())
+}
+
+// The name and the number that each refusal tells are its own.
+#[test]
+fn refusals_tell_their_numbers(rt: HostRuntime) -> Result<(), Fail> {
+    for refusal in [
+        Refusal::Full,
+        Refusal::NoSuchCpu,
+        Refusal::NoSuchLine,
+        Refusal::NotStopped,
+        Refusal::NoTask,
+        Refusal::BadAddress,
+        Refusal::BadRegister,
+        Refusal::NoSlot,
+        Refusal::NoBreakpoint,
+        Refusal::BadSize,
+        Refusal::NoMemory,
+        Refusal::Started,
+        Refusal::PortsOut,
+        Refusal::SeatsOut,
+    ] {
+        let number = refusal.number();
+        let behind = format!(in rt.alloc(); " ({refusal:?}, {number})")?;
+        let sentence = Fault::Refused(1, refusal).sentence();
+        assert!(rt; sentence.starts_with("refused: "), "{sentence}");
+        assert!(rt; sentence.ends_with(behind.as_str()), "{sentence}");
+    }
+    Ok(())
+}
