@@ -134,7 +134,12 @@ fn many_steps(rt: HostRuntime) -> Result<(), Fail> {
         return Err(Fail::from("the boot was refused"));
     };
     // addi x5, x5, 1; jal x0, -4
-    answers(&rt, &mut machine, poke_of(&[0x0012_8293, 0xffdf_f06f]), Answer::Done);
+    answers(
+        &rt,
+        &mut machine,
+        poke_of(&[0x0012_8293, 0xffdf_f06f]),
+        Answer::Done,
+    );
     steps(&rt, &mut machine, 11, Ok(()));
     assert_eq!(rt; register(&machine, 5), 6);
     answers(&rt, &mut machine, Event::Break(BASE), Answer::Done);
@@ -159,7 +164,12 @@ fn steps_behind_a_raise(rt: HostRuntime) -> Result<(), Fail> {
         return Err(Fail::from("the boot was refused"));
     };
     // addi x5, x5, 1; jal x0, -4
-    answers(&rt, &mut machine, poke_of(&[0x0012_8293, 0xffdf_f06f]), Answer::Done);
+    answers(
+        &rt,
+        &mut machine,
+        poke_of(&[0x0012_8293, 0xffdf_f06f]),
+        Answer::Done,
+    );
     steps(&rt, &mut machine, 2, Ok(()));
     answers(&rt, &mut machine, Event::Raise(0, 5), Answer::Done);
     steps(&rt, &mut machine, 2, Ok(()));
@@ -182,7 +192,12 @@ fn steps_of_changed_code(rt: HostRuntime) -> Result<(), Fail> {
     answers(&rt, &mut machine, Event::Stop(0), Answer::Done);
     answers(&rt, &mut machine, Event::SetReg(0, 5, BASE), Answer::Done);
     // addi x7, x7, 7
-    answers(&rt, &mut machine, Event::SetReg(0, 6, 0x0073_8393), Answer::Done);
+    answers(
+        &rt,
+        &mut machine,
+        Event::SetReg(0, 6, 0x0073_8393),
+        Answer::Done,
+    );
     answers(&rt, &mut machine, Event::Go(0), Answer::Done);
     steps(&rt, &mut machine, 12, Ok(()));
     assert_eq!(rt; register(&machine, 7), 21);

@@ -8,7 +8,7 @@ ghost use Rattle.evm_serve.specs.Serving.{Replies};
 use crate::ending::Reply;
 use crate::fault::Fault;
 use crate::starting::start;
-use evm_core::{Boot, Event, Machine, Refusal};
+use evm_core::{Boot, Machine, Refusal};
 use evm_debug::{Line, View, ViewRefusal, read_line, view};
 use evm_image::Image;
 use evm_ram::NoMemory;
