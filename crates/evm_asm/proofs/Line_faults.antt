@@ -29,7 +29,7 @@ use Rattle.evm_asm.specs.HasFault.{SomeOperand, text_behind_labels, IsFar, Lacks
 use Rattle.evm_asm.proofs.Alike.{measured_alike}
 use Rattle.evm_asm.proofs.Instructions_in_text.{also_ok}
 use Rattle.evm_asm.proofs.Operand_faults.{IsLeast, same_least, either_least}
-use Rattle.evm_asm.proofs.Refused_first.{refused_with_the_first}
+use Rattle.evm_asm.proofs.Refusals.{refused_with_the_first}
 use Rattle.evm_asm.proofs.Reading_faults.{ReadingFault, reading_least}
 
 -- ---- the labels and the size of a statement that is read

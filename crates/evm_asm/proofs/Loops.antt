@@ -1,7 +1,20 @@
--- One more label of a line.
-use Rattle.std.proofs.Common.{◌≡◌, ◌∙◌, ℕ, zero, suc, ◌-◌, ◌<◌, ◌≤◌, ◌+◌, List, Option, Some, None, ap, refl, arith}
+-- Loops that write one thing after another.
+use Rattle.std.proofs.Common.{◌≡◌, ℕ, suc, ◌-◌, ◌+◌, ◌<◌, ◌≤◌, List, ◌++◌, ap, arith, ◌∙◌, zero, Option, Some, None, refl}
+use Rattle.evm_asm.specs.Programs.{repeated}
 use Rattle.evm_statement.specs.declared.spot.Spot.{Spot}
 use Rattle.evm_asm.specs.Sources.{label_at, behind_labels, Defined, with_label, defined}
+
+pub repeated-more : (count i : ℕ) (unit bytes : List ℕ) → i < count → repeated (count - i) unit bytes ≡ repeated (count - (i + 1)) unit (bytes ++ unit)
+unfolding repeated
+repeated-more count i unit bytes lt =
+    let e : count - i ≡ suc (count - (i + 1)) = omega arith in
+    ap (λ n. repeated n unit bytes) e
+
+pub repeated-done : (count i : ℕ) (unit bytes : List ℕ) → count ≤ i → repeated (count - i) unit bytes ≡ bytes
+unfolding repeated
+repeated-done count i unit bytes h =
+    let e : count - i ≡ 0 = omega arith in
+    ap (λ n. repeated n unit bytes) e
 
 pub behind_labels-none : (n : ℕ) (text : List ℕ) → label_at text ≡ None → behind_labels n text ≡ text
 unfolding behind_labels

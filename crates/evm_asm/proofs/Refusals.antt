@@ -11,6 +11,8 @@ use Rattle.evm_asm.specs.Sources.{source_lines, code_of, source_start, Laid, not
 use Rattle.evm_asm.specs.Items.{line_or_fault, lines_meant, and_then, layout_of, meaning_of}
 use Rattle.evm_asm.specs.Least.{fault_at, IsFirstFault}
 use Rattle.evm_asm.proofs.Faultless.{fault_past, one_more, refused, passed}
+use Rattle.evm_asm.specs.FirstFault.{RefusedWithTheFirst}
+use Rattle.evm_asm.proofs.Items_worded.{refused_as_meant}
 
 -- no line has a fault, or this one is the first and least
 abbrev Tells : List ℕ → Result (List Placed) AsmFault → Type 0
@@ -85,3 +87,10 @@ all_clean source (Err f) h k = let none = k f.line in let some = h.0 in cc
 
 pub means : (source : List ℕ) → IsOk (meaning_of source) ↔ ((n : ℕ) → fault_at source n ≡ None)
 means source = (λ h. none_told source (meaning_of source) (meaning_told source) h, λ h. all_clean source (meaning_of source) (meaning_told source) h)
+
+pub refused_with_the_first : RefusedWithTheFirst
+refused_with_the_first source =
+    let program = refused_as_meant source in (
+      λ fault. let one = program.0 fault in let two = refuses source fault in (λ h. two.0 (one.0 h), λ h. one.1 (two.1 h)),
+      (λ h. (means source).0 (program.1.0 h), λ h. program.1.1 ((means source).1 h)),
+    )

@@ -12,7 +12,7 @@ use Rattle.evm_statement.specs.Operands.{Spots, first_operand, other_operands}
 use Rattle.evm_asm.specs.Places.{place_behind, statement_in}
 use Rattle.evm_asm.specs.Items.{text_base, expanded, value_in, number_pushed, with_numbers, operands, with_statement, statement_meant, line_meant}
 use Rattle.evm_asm.specs.Least.{fault_in}
-use Rattle.evm_asm.proofs.Like.{Like, values, faults, Whatever}
+use Rattle.evm_asm.proofs.Alike.{Like, values, faults, Whatever}
 
 -- one reading twice, with two continuations that have the same faults
 each_goes_on : {A B : Type 0} (r : Result A AsmFaultKind) (f g : A → Result B AsmFaultKind) → ((x : A) → Like Whatever (f x) (g x)) → Like Whatever (r >>= f) (r >>= g)
