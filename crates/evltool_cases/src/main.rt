@@ -6,10 +6,12 @@ use std::alloc::{AllocError, Global};
 use std::io;
 
 /// The command lines. The first `run` has the script of standard input, a later one finds it at its end.
-const LINES: [&str; 18] = [
+const LINES: [&str; 20] = [
     "--version",
     "--help",
     "help asm",
+    "run --help",
+    "replay --help",
     "asm sum.s sum.elf",
     "run sum.elf",
     "replay sum.elf sum.journal",

@@ -10,14 +10,14 @@ use Rattle.clap.specs.declared.error.ErrorKind.TheVariants.{DisplayHelp, Display
 use Rattle.evm_serve.specs.Serving.{WritesAll}
 use Rattle.evm_serve.specs.declared.ending.Ending.{Ending}
 use Rattle.evm_command.specs.declared.system.World.{World}
-use Rattle.evm_command.specs.Telling.{Ended}
+use Rattle.evm_command.specs.Telling.{program_name, Ended}
 use Rattle.evm_command.specs.Jobs.{AsksNothing, NotRead, AssemblesFile, Runs, Replays}
 use Rattle.evm_command.specs.Words.{Wanted, Assemble, Run, Replay, evltool, job_of}
 
 module _ {S O C I W E : Type 0} (writes : W → Writing → List ℕ → W → Type 0) (tells : E → Writing → List ℕ → E → Type 0) where
   -- Help or the version is written to standard output.
   abbrev pub Shows : List ℕ → World S O C I W E → World S O C I W E → ℕ → Type 0
-  Shows text w w' status = AsksNothing w w' × ((ending : Ending) × WritesAll writes (record { text = text; status = 0 }) w.output w'.output ending × Ended tells ending w.errors w'.errors status)
+  Shows text w w' status = AsksNothing w w' × ((ending : Ending) × WritesAll writes (record { text = text; status = 0 }) w.output w'.output ending × Ended tells program_name ending w.errors w'.errors status)
 
   -- What is wrong with the words is written to standard error: the status is 2, or 4 where a write failed.
   abbrev pub Blames : List ℕ → World S O C I W E → World S O C I W E → ℕ → Type 0
@@ -28,11 +28,11 @@ module _ {S O C I W E : Type 0} (writes : W → Writing → List ℕ → W → T
   abbrev pub Says : ErrorKind → List ℕ → World S O C I W E → World S O C I W E → ℕ → Type 0
   Says DisplayHelp text w w' status = Shows text w w' status
   Says DisplayVersion text w w' status = Shows text w w' status
-  Says OutOfMemory text w w' status = NotRead writes tells NoMemory w w' status
+  Says OutOfMemory text w w' status = NotRead writes tells program_name NoMemory w w' status
   Says kind text w w' status = Blames text w w' status
 
   abbrev pub Refuses : ErrorKind → World S O C I W E → World S O C I W E → ℕ → Type 0
-  Refuses kind w w' status = NotRead writes tells NoMemory w w' status ⊎ ((text : List ℕ) × Says kind text w w' status)
+  Refuses kind w w' status = NotRead writes tells program_name NoMemory w w' status ⊎ ((text : List ℕ) × Says kind text w w' status)
 
 module _ {S O C I W E : Type 0} (opens : S → List ℕ → Option O → S → Type 0) (creates : S → List ℕ → Option C → S → Type 0)
     (opened : O → Reading → List ℕ → O → Type 0) (created : C → Writing → List ℕ → C → Type 0) (gives : I → Reading → List ℕ → I → Type 0)

@@ -1,39 +1,66 @@
 -- What standard error is told, and the status that a job ends with.
-use Rattle.std.specs.Prelude.{◌≡◌, ℕ, List, ◌++◌, ◌⊎◌, codes}
+use Rattle.std.specs.Prelude.{◌≡◌, ℕ, List, ◌++◌, ◌⊎◌, Result, Ok, Err, codes}
 use Rattle.evm_streams.specs.declared.sink.Writing.{Writing}
+use Rattle.evm_streams.specs.declared.sink.WriteFault.{WriteFault}
 use Rattle.evm_streams.specs.declared.source.ReadFault.{ReadFault}
 use Rattle.evm_streams.specs.declared.source.ReadFault.TheVariants.{Failed, TooLong, NotUtf8}
 use Rattle.evm_streams.specs.Writes.{Took, TookPrefix}
+use Rattle.evm_text.specs.Written.{decimal}
+use Rattle.evm_elf.specs.Sentences.{elf_sentence}
+use Rattle.evm_serve.specs.Faults.{line_at_fault, fault_sentence}
 use Rattle.evm_serve.specs.Serving.{status_at}
+use Rattle.evm_serve.specs.declared.ending.Verdict.TheVariants.{Done, Refused, ImageRefused}
 use Rattle.evm_serve.specs.declared.ending.Ending.{Ending}
 use Rattle.evm_serve.specs.declared.ending.Ending.TheVariants.{Complete, NoMemory, ReadFailed, WriteFailed}
 
--- the sentence of a file that can't be opened or created
+-- what stands behind a place
+abbrev pub said : List ℕ → List ℕ
+said sentence = codes ": " ++ sentence ++ codes "\n"
+
+-- a sentence about a file, or about the program
+abbrev pub about : List ℕ → List ℕ → List ℕ
+about name sentence = name ++ said sentence
+
+-- a sentence about a line of a file, in the form that editors jump to
+abbrev pub about_line : List ℕ → ℕ → List ℕ → List ℕ
+about_line name line sentence = name ++ (codes ":" ++ (decimal line ++ said sentence))
+
+abbrev pub program_name : List ℕ
+program_name = codes "evltool"
+
+-- the name of what standard input gives
+abbrev pub script_name : List ℕ
+script_name = codes "script"
+
+-- of a file that can't be opened or created
 abbrev pub not_opened_text : List ℕ → List ℕ
-not_opened_text path = (codes "evltool: " ++ path) ++ codes " can't be opened\n"
+not_opened_text path = about path (codes "can't be opened")
 
--- that of one that can't be read
-abbrev pub not_read_text : ReadFault → List ℕ
-not_read_text Failed = codes "evltool: a read failed\n"
-not_read_text TooLong = codes "evltool: there are more than 16777216 bytes to read\n"
-not_read_text NotUtf8 = codes "evltool: what was read is not UTF-8\n"
-
--- that of a failed write
-abbrev pub not_written_text : List ℕ
-not_written_text = codes "evltool: a write failed\n"
+-- why something was not read
+abbrev pub not_read_sentence : ReadFault → List ℕ
+not_read_sentence Failed = codes "a read failed"
+not_read_sentence TooLong = codes "more than 16777216 bytes"
+not_read_sentence NotUtf8 = codes "not UTF-8"
 
 module _ {E : Type 0} (takes : E → Writing → List ℕ → E → Type 0) where
-  -- A sentence was written, or a write failed after a prefix of it.
+  -- A text was written, or a write failed after a prefix of it, as the answer says.
+  abbrev pub Writes : List ℕ → Result (Unit {0}) WriteFault → E → E → Type 0
+  Writes text (Ok done) e e' = Took takes e text e'
+  Writes text (Err fault) e e' = TookPrefix takes e text e'
+
+  -- the same, whatever the answer
   abbrev pub Tells : List ℕ → E → E → Type 0
   Tells text e e' = Took takes e text e' ⊎ TookPrefix takes e text e'
 
-  -- Why a read or a write failed is told; of any other ending nothing is.
-  abbrev pub Explains : Ending → E → E → Type 0
-  Explains (Complete verdict) e e' = e' ≡ e
-  Explains NoMemory e e' = e' ≡ e
-  Explains (ReadFailed fault) e e' = Tells (not_read_text fault) e e'
-  Explains (WriteFailed fault) e e' = Tells not_written_text e e'
+  -- What a job on a file tells of its ending: nothing where all is done, else what went wrong, and on which line.
+  abbrev pub Explains : List ℕ → Ending → E → E → Type 0
+  Explains name (Complete Done) e e' = e' ≡ e
+  Explains name (Complete (Refused fault)) e e' = Tells (about_line name (line_at_fault fault) (fault_sentence fault)) e e'
+  Explains name (Complete (ImageRefused fault)) e e' = Tells (about name (elf_sentence fault)) e e'
+  Explains name NoMemory e e' = Tells (about name (codes "out of memory")) e e'
+  Explains name (ReadFailed fault) e e' = Tells (about name (not_read_sentence fault)) e e'
+  Explains name (WriteFailed fault) e e' = Tells (about program_name (codes "a write failed")) e e'
 
   -- A job that ends so has the status of its ending, and has told why.
-  abbrev pub Ended : Ending → E → E → ℕ → Type 0
-  Ended ending e e' status = Explains ending e e' × (status ≡ status_at ending)
+  abbrev pub Ended : List ℕ → Ending → E → E → ℕ → Type 0
+  Ended name ending e e' status = Explains name ending e e' × (status ≡ status_at ending)

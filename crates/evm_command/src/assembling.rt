@@ -7,15 +7,21 @@ use crate::system::{System, World};
 use evm_serve::{assemble_to, read_utf8};
 use std::alloc::Global;
 
-// Creates OUT, and assembles a source into it.
-fn assemble_source<S: System>(alloc: Global, source: &str, out: &str, world: &mut World<S>) -> u8
-    ensures { Creates S.creates S.Created.takes S.Output.takes S.Errors.takes out.now source.now world.old world.new result }
+// Creates OUT, and assembles the text of a source into it.
+fn assemble_text<S: System>(
+    alloc: Global,
+    source: &str,
+    out: &str,
+    text: &str,
+    world: &mut World<S>,
+) -> u8
+    ensures { Creates S.creates S.Created.takes S.Output.takes S.Errors.takes source.now out.now text.now world.old world.new result }
 {
     match world.files.create(out) {
         None => not_opened(out, &mut world.errors),
         Some(mut file) => {
-            let ending = assemble_to(alloc, source, &mut file, &mut world.output);
-            ended(&ending, &mut world.errors)
+            let ending = assemble_to(alloc, text, &mut file, &mut world.output);
+            ended(source, &ending, &mut world.errors)
         }
     }
 }
@@ -33,7 +39,7 @@ pub(crate) fn assemble_file<S: System>(
         return not_opened(source, &mut world.errors);
     };
     match read_utf8(alloc, &mut file) {
-        Ok(text) => assemble_source(alloc, text.as_str(), out, world),
-        Err(stop) => not_read(stop, world),
+        Ok(text) => assemble_text(alloc, source, out, text.as_str(), world),
+        Err(stop) => not_read(stop, source, world),
     }
 }

@@ -9,7 +9,7 @@ ghost use Rattle.evm_command.specs.Words.{wanted};
 use crate::assembling::assemble_file;
 use crate::replaying::replay;
 use crate::running::run;
-use crate::saying::{FAILED, USAGE, ended, memory_refused};
+use crate::saying::{FAILED, PROGRAM, USAGE, ended, memory_refused};
 use crate::system::{System, World};
 use crate::words::{Job, job_of, parse};
 use clap::Error;
@@ -26,7 +26,7 @@ fn show<S: System>(text: &str, world: &mut World<S>) -> u8
         Ok(()) => Ending::Complete(Verdict::Done),
         Err(fault) => Ending::WriteFailed(fault),
     };
-    ended(&ending, &mut world.errors)
+    ended(PROGRAM, &ending, &mut world.errors)
 }
 
 // Writes what is wrong with the words.

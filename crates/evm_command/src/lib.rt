@@ -3,12 +3,14 @@
 
 mod assembling;
 mod command;
+mod help;
 mod host;
 mod loading;
 mod replaying;
 mod running;
 mod saying;
 mod system;
+mod telling;
 mod words;
 
 pub use command::answer;

@@ -25,6 +25,6 @@ pub(crate) fn image_at<S: System>(
     };
     match import(alloc, &mut file, &mut world.output) {
         Ok(image) => Ok(image),
-        Err(ending) => Err(ended(&ending, &mut world.errors)),
+        Err(ending) => Err(ended(path, &ending, &mut world.errors)),
     }
 }

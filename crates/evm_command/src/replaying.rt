@@ -17,7 +17,7 @@ fn replay_on<S: System>(alloc: Global, image: &Image, journal: &str, world: &mut
         return not_opened(journal, &mut world.errors);
     };
     let ending = replay_to(alloc, image, &mut file, &mut world.output);
-    ended(&ending, &mut world.errors)
+    ended(journal, &ending, &mut world.errors)
 }
 
 /// Replays the journal of a file on the image of another, which is opened and imported first.

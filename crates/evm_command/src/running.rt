@@ -10,12 +10,15 @@ use evm_image::Image;
 use evm_serve::serve;
 use std::alloc::Global;
 
+/// The name under which a fault of the script is told.
+const SCRIPT: &str = "script";
+
 // Serves the script of standard input.
 fn serve_input<S: System>(alloc: Global, image: Option<&Image>, world: &mut World<S>) -> u8
     ensures { ServesInput S.Input.gives S.Output.takes S.Errors.takes (option_copied image.entry) world.old world.new result }
 {
     let ending = serve(alloc, &mut world.input, &mut world.output, image);
-    ended(&ending, &mut world.errors)
+    ended(SCRIPT, &ending, &mut world.errors)
 }
 
 // Serves it with the image of a file.

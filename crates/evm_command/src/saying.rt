@@ -1,12 +1,13 @@
 //! What standard error is told, and the status of a job.
 
-ghost use Rattle.std.specs.Prelude.{◌≡◌, ◌++◌, codes};
+ghost use Rattle.std.specs.Prelude.{◌≡◌};
 ghost use Rattle.evm_serve.specs.Serving.{Unread};
 ghost use Rattle.evm_command.specs.Jobs.{NotRead, NotWords};
-ghost use Rattle.evm_command.specs.Telling.{Tells, Ended, not_opened_text, not_read_text, not_written_text};
+ghost use Rattle.evm_command.specs.Telling.{Tells, Explains, Ended, program_name, not_opened_text, not_read_sentence};
 
 use crate::system::{System, World};
-use evm_serve::{Ending, ReadFault, ReadStop};
+use crate::telling::{tell_about, tell_about_line};
+use evm_serve::{Ending, ReadFault, ReadStop, Verdict};
 use evm_streams::{Sink, write_all};
 
 /// The status where a file can't be opened, created, read or written.
@@ -15,60 +16,51 @@ pub(crate) const FAILED: u8 = 4;
 /// The status where the words are no command.
 pub(crate) const USAGE: u8 = 2;
 
-// Writes a sentence. Where it can't be told, the status has to do.
-fn tell<E: Sink>(text: &str, errors: &mut E)
-    ensures { Tells E.takes text.now errors.old errors.new }
-{
-    let _told = write_all(errors, text.as_bytes());
-}
-
-// The same of a sentence in three parts.
-fn tell_parts<E: Sink>(first: &str, second: &str, third: &str, errors: &mut E)
-    ensures { Tells E.takes ((first.now ++ second.now) ++ third.now) errors.old errors.new }
-{
-    let Ok(()) = write_all(errors, first.as_bytes()) else {
-        return;
-    };
-    let Ok(()) = write_all(errors, second.as_bytes()) else {
-        return;
-    };
-    tell(third, errors);
-}
+/// The name under which the program tells what is about no file.
+pub(crate) const PROGRAM: &str = "evltool";
 
 /// Tells that a file can't be opened or created, and answers the status.
 pub(crate) fn not_opened<E: Sink>(path: &str, errors: &mut E) -> u8
     ensures told { Tells E.takes (not_opened_text path.now) errors.old errors.new }
     ensures status { result ≡ 4 }
 {
-    tell_parts("evltool: ", path, " can't be opened\n", errors);
+    tell_about(path, "can't be opened", errors);
     FAILED
 }
 
-fn not_read_text(fault: ReadFault) -> &'static str
-    ensures { result.now ≡ not_read_text fault }
+fn not_read_sentence(fault: ReadFault) -> &'static str
+    ensures { result.now ≡ not_read_sentence fault }
 {
     match fault {
-        ReadFault::Failed => "evltool: a read failed\n",
-        ReadFault::TooLong => "evltool: there are more than 16777216 bytes to read\n",
-        ReadFault::NotUtf8 => "evltool: what was read is not UTF-8\n",
+        ReadFault::Failed => "a read failed",
+        ReadFault::TooLong => "more than 16777216 bytes",
+        ReadFault::NotUtf8 => "not UTF-8",
     }
 }
 
-fn not_written_text() -> &'static str
-    ensures { result.now ≡ not_written_text }
-{
-    "evltool: a write failed\n"
-}
-
-/// The status of a job, once standard error is told why a read or a write failed.
-pub(crate) fn ended<E: Sink>(ending: &Ending, errors: &mut E) -> u8
-    ensures { Ended E.takes ending.now errors.old errors.new result }
+// Tells why a job on a file did not end well.
+fn explain<E: Sink>(name: &str, ending: Ending, errors: &mut E)
+    ensures { Explains E.takes name.now ending errors.old errors.new }
 {
     match ending {
-        Ending::ReadFailed(fault) => tell(not_read_text(*fault), errors),
-        Ending::WriteFailed(_) => tell(not_written_text(), errors),
-        Ending::Complete(_) | Ending::NoMemory => {}
+        Ending::Complete(Verdict::Done) => {}
+        Ending::Complete(Verdict::Refused(fault)) => {
+            tell_about_line(name, fault.line(), fault.sentence(), errors)
+        }
+        Ending::Complete(Verdict::ImageRefused(fault)) => {
+            tell_about(name, fault.sentence(), errors)
+        }
+        Ending::NoMemory => tell_about(name, "out of memory", errors),
+        Ending::ReadFailed(fault) => tell_about(name, not_read_sentence(fault), errors),
+        Ending::WriteFailed(_) => tell_about(PROGRAM, "a write failed", errors),
     }
+}
+
+/// The status of a job on a file, once standard error is told why it did not end well.
+pub(crate) fn ended<E: Sink>(name: &str, ending: &Ending, errors: &mut E) -> u8
+    ensures { Ended E.takes name.now ending.now errors.old errors.new result }
+{
+    explain(name, *ending, errors);
     ending.status()
 }
 
@@ -85,27 +77,28 @@ fn unread<W: Sink>(stop: ReadStop, output: &mut W) -> Ending
     }
 }
 
-/// The status of a job that has not read its source.
-pub(crate) fn not_read<S: System>(stop: ReadStop, world: &mut World<S>) -> u8
-    ensures { NotRead S.Output.takes S.Errors.takes stop world.old world.new result }
+/// The status of a job that has not read the file of this name.
+pub(crate) fn not_read<S: System>(stop: ReadStop, name: &str, world: &mut World<S>) -> u8
+    ensures { NotRead S.Output.takes S.Errors.takes name.now stop world.old world.new result }
 {
     let ending = unread(stop, &mut world.output);
-    ended(&ending, &mut world.errors)
+    ended(name, &ending, &mut world.errors)
 }
 
 /// The status of a run to which memory is refused before it has a job.
 pub(crate) fn memory_refused<S: System>(world: &mut World<S>) -> u8
-    ensures { NotRead S.Output.takes S.Errors.takes ReadStop.NoMemory world.old world.new result }
+    ensures { NotRead S.Output.takes S.Errors.takes program_name ReadStop.NoMemory world.old world.new result }
 {
-    not_read(ReadStop::NoMemory, world)
+    not_read(ReadStop::NoMemory, PROGRAM, world)
 }
 
 /// The status of a run that has a word which is no text.
 pub(crate) fn words_not_read<S: System>(world: &mut World<S>) -> u8
     ensures { NotWords S.Errors.takes world.old world.new result }
 {
-    tell(
-        "evltool: a word of the command line is not UTF-8\n",
+    tell_about(
+        PROGRAM,
+        "a word of the command line is not UTF-8",
         &mut world.errors,
     );
     USAGE

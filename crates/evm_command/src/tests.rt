@@ -8,6 +8,8 @@ use std::io::{self, Error, ErrorKind, Read, Write};
 use std::process::Abort;
 use std::test::Fail;
 
+mod sentences;
+
 /// Gives bytes at most seven at a call, and fails after so many calls.
 #[derive(Drop)]
 struct Reader<'a> {

@@ -6,6 +6,7 @@ ghost use Rattle.clap.specs.Words.{FailsBy, app_of, fault_of, first_of, found_of
 ghost use Rattle.clap.specs.declared.builder.command.Command.TheViews.{out-Command};
 ghost use Rattle.evm_command.specs.Words.{place, asm, run, replay, bare, evltool, asm_job, replay_job, job_named, job_of, wanted};
 
+use crate::help::{ASM_HELP, PROGRAM_HELP, REPLAY_HELP, RUN_HELP};
 use clap::{Arg, ArgMatches, Command, Error};
 use std::alloc::{AllocError, Global};
 
@@ -56,6 +57,7 @@ fn run_command<'a>(alloc: Global) -> Result<Command<'a>, AllocError>
     );
     Command::new(alloc, "run")
         .about("Serves a script from standard input")
+        .after_help(RUN_HELP)
         .arg(image.required(false))
 }
 
@@ -66,6 +68,7 @@ fn replay_command<'a>(alloc: Global) -> Result<Command<'a>, AllocError>
 {
     Command::new(alloc, "replay")
         .about("Replays a journal and shows the machine that it makes")
+        .after_help(REPLAY_HELP)
         .arg(place(alloc, "IMAGE", "The file of the program"))?
         .arg(place(alloc, "JOURNAL", "The file of the journal"))
 }
@@ -77,6 +80,7 @@ fn asm_command<'a>(alloc: Global) -> Result<Command<'a>, AllocError>
 {
     Command::new(alloc, "asm")
         .about("Assembles a source into the file of a program")
+        .after_help(ASM_HELP)
         .arg(place(alloc, "SRC", "The file of the source"))?
         .arg(place(alloc, "OUT", "The file that the program is written to"))
 }
@@ -88,6 +92,7 @@ fn bare_command<'a>(alloc: Global) -> Command<'a>
     Command::new(alloc, "evltool")
         .version(VERSION)
         .about("An emulated multiprocessor with two kernels, driven by scripts")
+        .after_help(PROGRAM_HELP)
         .subcommand_required(true)
 }
 

@@ -5,9 +5,9 @@ use Rattle.evm_command.proofs.assembling.assemble_file.Goals as goal
 
 pub returns-in-Ok : goal.returns-in-Ok
 returns-in-Ok g c =
-    let P : List ℕ → Type 0 = λ source. Creates g.S.System.creates g.S.Created.Sink.takes g.S.Output.Sink.takes g.S.Errors.Sink.takes
-    c.args.out.now source (record c.args.world.now { files = c.open.new.self }) c.assemble_source.new.world c.assemble_source.result in
-    let created : P (string_bytes c.in-Ok.text) = subst P c.as_str.ensures.value c.assemble_source.ensures in
+    let P : List ℕ → Type 0 = λ text. Creates g.S.System.creates g.S.Created.Sink.takes g.S.Output.Sink.takes g.S.Errors.Sink.takes
+    c.args.source.now c.args.out.now text (record c.args.world.now { files = c.open.new.self }) c.assemble_text.new.world c.assemble_text.result in
+    let created : P (string_bytes c.in-Ok.text) = subst P c.as_str.ensures.value c.assemble_text.ensures in
     (Some c.in-Some.file, c.open.new.self, rw (← c.in-Some.is) c.open.ensures, (Ok (string_bytes c.in-Ok.text), c.read_utf8.new.source, c.in-Ok.ensures, created))
 
 pub returns : goal.returns

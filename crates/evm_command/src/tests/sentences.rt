@@ -1,0 +1,126 @@
+//! What standard error is told, for each way in which a job ends.
+
+use crate::command::answer;
+use crate::system::{System, World};
+use std::alloc::Global;
+use std::process::Abort;
+use std::test::Fail;
+
+/// A system whose streams are kept.
+#[derive(Drop)]
+struct Kept {
+    alloc: Global,
+}
+
+impl System for Kept {
+    ghost opens = { λ _ _ _ _. Unit {0} };
+
+    ghost creates = { λ _ _ _ _. Unit {0} };
+
+    type Opened = &'static [u8];
+
+    type Created = Vec<u8>;
+
+    type Input = &'static [u8];
+
+    type Output = Vec<u8>;
+
+    type Errors = Vec<u8>;
+
+    fn open(&mut self, path: &str) -> Option<&'static [u8]> {
+        for (name, bytes) in FILES {
+            if name == path {
+                return Some(bytes);
+            }
+        }
+        None
+    }
+
+    fn create(&mut self, path: &str) -> Option<Vec<u8>> {
+        if path == "p.elf" {
+            Some(Vec::new(self.alloc))
+        } else {
+            None
+        }
+    }
+}
+
+const FILES: [(&str, &[u8]); 4] = [
+    ("p.s", b"nop\n"),
+    ("q.s", b"nop\n\nli a9,1\n"),
+    ("range.s", b"addi a0,a0,2048\n"),
+    ("bytes.s", b"\xff\n"),
+];
+
+/// Runs a command line on a script, and compares what standard error is told.
+fn check_told(
+    rt: &impl Abort,
+    alloc: Global,
+    line: &str,
+    script: &'static [u8],
+    told: &str,
+) -> Result<(), Fail> {
+    let mut world = World {
+        files: Kept { alloc },
+        input: script,
+        output: Vec::new(alloc),
+        errors: Vec::new(alloc),
+    };
+    let mut words = Vec::new(alloc);
+    for word in line.split(' ') {
+        words.push(String::from_str(alloc, word)?)?;
+    }
+    let _ = answer(alloc, words.as_slice(), &mut world);
+    assert_eq!(rt; world.errors.as_slice(), told.as_bytes(), "{line}");
+    Ok(())
+}
+
+#[test]
+fn files_are_told_of(rt: HostRuntime) -> Result<(), Fail> {
+    for (line, told) in [
+        ("evltool asm p.s p.elf", ""),
+        ("evltool asm q.s p.elf", "q.s:3: unknown name\n"),
+        (
+            "evltool asm range.s p.elf",
+            "range.s:1: a number outside its range, or a label that is odd or too far\n",
+        ),
+        ("evltool asm bytes.s p.elf", "bytes.s: not UTF-8\n"),
+        ("evltool asm none.s p.elf", "none.s: can't be opened\n"),
+        (
+            "evltool asm p.s none/p.elf",
+            "none/p.elf: can't be opened\n",
+        ),
+        (
+            "evltool run p.s",
+            "p.s: shorter than a file header, 64 bytes\n",
+        ),
+        ("evltool replay p.elf journal", "p.elf: can't be opened\n"),
+        ("evltool --version", ""),
+    ] {
+        check_told(&rt, rt.alloc(), line, b"", told)?;
+    }
+    Ok(())
+}
+
+#[test]
+fn lines_of_scripts_are_told_of(rt: HostRuntime) -> Result<(), Fail> {
+    let scripts: [(&'static [u8], &str); 4] = [
+        (b"boot 1 65536 8\ntasks\n", ""),
+        (
+            b"boot 1 65536 8\nset 0 1 5\n",
+            "script:2: refused: the processor is not stopped (NotStopped, 4)\n",
+        ),
+        (
+            b"\n\n\n\n\n\n\n\n\n\n\ntock\n",
+            "script:12: bad line: outside the grammar, before the boot, or a second boot\n",
+        ),
+        (
+            b"boot 9 65536 8\n",
+            "script:1: refused: a number outside its limits (BadSize, 10)\n",
+        ),
+    ];
+    for (script, told) in scripts {
+        check_told(&rt, rt.alloc(), "evltool run", script, told)?;
+    }
+    Ok(())
+}
