@@ -7,25 +7,25 @@ use Rattle.evm_command.specs.declared.words.Job.{Job}
 use Rattle.evm_command.specs.declared.words.Job.TheVariants as jobs
 
 -- a word that stands at its place
-abbrev pub place : Text → Rule
-place id = record (new_rule id) { required = true }
+abbrev pub place_rule : Text → Rule
+place_rule id = record (new_rule id) { required = true }
 
 -- the three subcommands
-abbrev pub asm : App
-asm = with_rule (with_rule (new_app (codes "asm")) (place (codes "SRC"))) (place (codes "OUT"))
+abbrev pub asm_app : App
+asm_app = with_rule (with_rule (new_app (codes "asm")) (place_rule (codes "SRC"))) (place_rule (codes "OUT"))
 
-abbrev pub run : App
-run = with_rule (new_app (codes "run")) (new_rule (codes "IMAGE"))
+abbrev pub run_app : App
+run_app = with_rule (new_app (codes "run")) (new_rule (codes "IMAGE"))
 
-abbrev pub replay : App
-replay = with_rule (with_rule (new_app (codes "replay")) (place (codes "IMAGE"))) (place (codes "JOURNAL"))
+abbrev pub replay_app : App
+replay_app = with_rule (with_rule (new_app (codes "replay")) (place_rule (codes "IMAGE"))) (place_rule (codes "JOURNAL"))
 
 -- the command: it has a version, and wants one of the subcommands
-abbrev pub bare : App
-bare = on_top (λ s. record s { has_version = true; subcommand_required = true }) (new_app (codes "evltool"))
+abbrev pub bare_app : App
+bare_app = on_top (λ s. record s { has_version = true; subcommand_required = true }) (new_app (codes "evltool"))
 
 abbrev pub evltool : App
-evltool = with_subcommand (with_subcommand (with_subcommand bare asm.top) run.top) replay.top
+evltool = with_subcommand (with_subcommand (with_subcommand bare_app asm_app.top) run_app.top) replay_app.top
 
 -- a job, with the names of its files
 pub data Wanted : Type 0 where

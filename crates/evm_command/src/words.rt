@@ -4,7 +4,7 @@ ghost use Rattle.std.specs.Prelude.{◌≡◌, IfOk, false, map, option_copied, 
 ghost use Rattle.std.specs.String.{string_bytes};
 ghost use Rattle.clap.specs.Words.{FailsBy, app_of, fault_of, first_of, found_of, rows_of, rule_of, subcommand_of, subcommand_rows_of};
 ghost use Rattle.clap.specs.declared.builder.command.Command.TheViews.{out-Command};
-ghost use Rattle.evm_command.specs.Words.{place, asm, run, replay, bare, evltool, asm_job, replay_job, job_named, job_of, wanted};
+ghost use Rattle.evm_command.specs.Words.{place_rule, asm_app, run_app, replay_app, bare_app, evltool, asm_job, replay_job, job_named, job_of, wanted};
 
 use crate::help::{ASM_HELP, PROGRAM_HELP, REPLAY_HELP, RUN_HELP};
 use clap::{Arg, ArgMatches, Command, Error};
@@ -39,7 +39,7 @@ pub enum Job<'a> {
 
 // A word that stands at its place.
 fn place<'a>(alloc: Global, name: &'a str, help: &'a str) -> Arg<'a>
-    ensures rule { rule_of result ≡ place name.entry.now }
+    ensures rule { rule_of result ≡ place_rule name.entry.now }
     ensures local { result.global ≡ false }
 {
     Arg::new(alloc, name).required(true).help(help)
@@ -47,7 +47,7 @@ fn place<'a>(alloc: Global, name: &'a str, help: &'a str) -> Arg<'a>
 
 // The subcommand that serves a script.
 fn run_command<'a>(alloc: Global) -> Result<Command<'a>, AllocError>
-    ensures app { IfOk result (λ c. app_of c ≡ run) }
+    ensures app { IfOk result (λ c. app_of c ≡ run_app) }
     ensures local { IfOk result (λ c. (out-Command c).has_globals ≡ false) }
 {
     let image = place(
@@ -63,7 +63,7 @@ fn run_command<'a>(alloc: Global) -> Result<Command<'a>, AllocError>
 
 // The subcommand that replays a journal.
 fn replay_command<'a>(alloc: Global) -> Result<Command<'a>, AllocError>
-    ensures app { IfOk result (λ c. app_of c ≡ replay) }
+    ensures app { IfOk result (λ c. app_of c ≡ replay_app) }
     ensures local { IfOk result (λ c. (out-Command c).has_globals ≡ false) }
 {
     Command::new(alloc, "replay")
@@ -75,7 +75,7 @@ fn replay_command<'a>(alloc: Global) -> Result<Command<'a>, AllocError>
 
 // The subcommand that assembles.
 fn asm_command<'a>(alloc: Global) -> Result<Command<'a>, AllocError>
-    ensures app { IfOk result (λ c. app_of c ≡ asm) }
+    ensures app { IfOk result (λ c. app_of c ≡ asm_app) }
     ensures local { IfOk result (λ c. (out-Command c).has_globals ≡ false) }
 {
     Command::new(alloc, "asm")
@@ -87,7 +87,7 @@ fn asm_command<'a>(alloc: Global) -> Result<Command<'a>, AllocError>
 
 // The command line, without its subcommands.
 fn bare_command<'a>(alloc: Global) -> Command<'a>
-    ensures { app_of result ≡ bare }
+    ensures { app_of result ≡ bare_app }
 {
     Command::new(alloc, "evltool")
         .version(VERSION)
