@@ -63,7 +63,7 @@ driven-event image s new event answer e line d =
 -- so many Steps more
 steps-more : (image : Contents) (c count : ℕ) (s new : State) (r : Result (State × Answer) Refusal) → apply s (Step c) ≡ r → c < 256 → IsDriven image s
     → ((s : State) → steps c count s ≡ Ok new → IsDriven image s → IsDriven image new) → steps_on r (steps c count) ≡ Ok new → IsDriven image new
-steps-more image c count s new (Ok after) e cpu d more h = more after.0 h (driven-event image s after.0 (Step c) after.1 e (cpu, omega arith, omega arith) d)
+steps-more image c count s new (Ok after) e cpu d more h = more after.0 h (driven-event image s after.0 (Step c) after.1 e (cpu, (omega arith, omega arith, omega arith)) d)
 steps-more image c count s new (Err refusal) e cpu d more h = cc
 
 pub driven-steps : (image : Contents) (c count : ℕ) (s new : State) → steps c count s ≡ Ok new → c < 256 → IsDriven image s → IsDriven image new
