@@ -10,7 +10,7 @@ use Rattle.evm_isa.specs.declared.inst.ShiftOp.{ShiftOp}
 use Rattle.evm_isa.specs.declared.inst.StoreOp.{StoreOp}
 use Rattle.evm_isa.specs.declared.inst.WordOp.{WordOp}
 use Rattle.evm_isa.specs.declared.inst.Inst.TheVariants.{Lui, Auipc, Jal, Jalr, Branch, Load, Store, Immediate, Shift, Register, Word, Fence, Ecall, Ebreak}
-use Rattle.evm_isa.specs.Encoded.{twos_complement, multiple, i_placed, s_placed, b_placed, j_placed, i_bits, s_bits, b_bits, u_bits, j_bits, is_register, amounts, amount_placed, fence_placed, joined, encoded}
+use Rattle.evm_isa.specs.Encoded.{twos_complement, multiple, i_placed, s_placed, b_placed, j_placed, i_bits, s_bits, b_bits, u_bits, j_bits, is_register, amounts, amount_placed, fence_placed, bits_joined, encoded}
 use Rattle.evm_asm.specs.Wording.{HasWord}
 use Rattle.evm_asm.proofs.Registers_below.{IsRegister}
 
@@ -77,7 +77,7 @@ two a b h k = rw (one a h, one b k) refl
 three : (a b c : ℕ) → IsRegister a → IsRegister b → IsRegister c → (is_register a && is_register b && is_register c) ≡ true
 three a b c h k l = rw (one a h, one b k, one c l) refl
 
-both_found : (t : Bool) (n : ℕ) (o : Option ℕ) → t ≡ true → Found o → Found (joined t n o)
+both_found : (t : Bool) (n : ℕ) (o : Option ℕ) → t ≡ true → Found o → Found (bits_joined t n o)
 both_found t n o h k = (n + k.0, rw (h, k.1) refl)
 
 -- ---- the words

@@ -1,7 +1,7 @@
 ghost use Rattle.std.specs.Prelude.{◌≡◌, ◌%◌, length, false};
 ghost use Rattle.std.specs.List.{list_any};
 ghost use Rattle.evm_image.specs.Images.{byte_at};
-ghost use Rattle.evm_model.specs.Load.{load, bytes_from};
+ghost use Rattle.evm_model.specs.Load.{load_board, bytes_from};
 ghost use Rattle.evm_board.specs.Room.{passes_ram};
 
 use crate::board::Board;
@@ -43,10 +43,10 @@ impl Board {
     }
 
     /// RAM has an image's bytes, and zeros elsewhere, and task 0 begins at its entry.
-    #[tactic(auto, unfolding(evm_model::specs::Load::load))]
+    #[tactic(auto, unfolding(evm_model::specs::Load::load_board))]
     pub fn load(&mut self, image: &Image)
         requires { list_any (passes_ram (length self.old.memory.ram)) image.now.segments ≡ false }
-        ensures loaded { self.new ≡ load (byte_at image.now) image.now.entry self.old }
+        ensures loaded { self.new ≡ load_board (byte_at image.now) image.now.entry self.old }
         ensures aligned { image.now.entry % 4 ≡ 0 }
     {
         self.memory.load(image);

@@ -5,7 +5,7 @@ ghost use Rattle.evm_boost.specs.Scatter.{filled, raise_to, class_rank_at, own_r
 ghost use Rattle.evm_model.specs.Mutexes.{raised, ceiling, waits_for};
 ghost use Rattle.evm_model.specs.Ranks.{class_rank, first, rank, stamp};
 ghost use Rattle.evm_ranks.specs.Boosts.{greater};
-ghost use Rattle.evm_ready.specs.Told.{told};
+ghost use Rattle.evm_ready.specs.Told.{rank_told};
 
 use crate::mutexes::Mutexes;
 use evm_model::{Class, Protocol, TASK_LIMIT, Task};
@@ -49,8 +49,8 @@ fn raise(ranks: &mut [u16], task: Option<u8>, least: u16)
     }
 }
 
-fn told(ranks: &[u16], t: u8) -> u16
-    ensures { result ≡ told ranks.now t }
+fn rank_told(ranks: &[u16], t: u8) -> u16
+    ensures { result ≡ rank_told ranks.now t }
 {
     match ranks.get(t as usize) {
         None => 0,
@@ -121,7 +121,7 @@ impl Mutexes {
         ensures { ranks.new ≡ next_ranks self.now tasks.now ranks.old now.now }
     {
         for u in 0..tasks.len() as u8 {
-            raise(ranks, self.boosts(tasks, u), told(now, u));
+            raise(ranks, self.boosts(tasks, u), rank_told(now, u));
         }
     }
 
@@ -152,7 +152,7 @@ impl Mutexes {
         requires there { t < length tasks.now }
         ensures { result ≡ rank self.now tasks.now t }
     {
-        told(&self.ranks(tasks), t)
+        rank_told(&self.ranks(tasks), t)
     }
 
     /// The number of the task that has mutex m next: of those that wait for it, the one of greatest rank, then of least

@@ -5,7 +5,7 @@ use Rattle.evm_board.specs.Room.{passes_ram}
 use Rattle.evm_image.specs.Images.{Contents, byte_at}
 use Rattle.evm_ram.specs.declared.refusal.Refusal.{Refusal}
 use Rattle.evm_ram.specs.declared.refusal.Refusal.TheVariants.{BadAddress, Started}
-use Rattle.evm_model.specs.Load.{load as load_board}
+use Rattle.evm_model.specs.Load.{load_board}
 use Rattle.evm_model.specs.State.{State}
 
 -- why an image isn't loaded

@@ -1,5 +1,5 @@
 ghost use Rattle.std.specs.Prelude.{◌≡◌, IfSome, slice_index};
-ghost use Rattle.evm_exec.specs.Does.{does, hart_after, access_of, proceed, arrive, branch, FitsWidth};
+ghost use Rattle.evm_exec.specs.Does.{does, hart_after, access_of, proceed, jump_to, branch_if, FitsWidth};
 
 use crate::arithmetic::{extend, is_taken, on_immediate, on_registers, on_shift, on_words};
 use crate::hart::Hart;
@@ -33,7 +33,7 @@ fn move_on(rd: Register, value: u64, pc: u64) -> Effect
 // A jump to the target, with the value in rd.
 #[inline(always)]
 fn go_to(rd: Register, value: u64, target: u64) -> Effect
-    ensures { result ≡ arrive rd value target }
+    ensures { result ≡ jump_to rd value target }
 {
     if target % 4 == 0 {
         Effect::Next {
@@ -49,7 +49,7 @@ fn go_to(rd: Register, value: u64, target: u64) -> Effect
 // A branch to the target, if it is taken.
 #[inline(always)]
 fn branch_to(is_taken: bool, target: u64, pc: u64) -> Effect
-    ensures { result ≡ branch is_taken target pc }
+    ensures { result ≡ branch_if is_taken target pc }
 {
     if is_taken {
         go_to(no_register(), 0, target)

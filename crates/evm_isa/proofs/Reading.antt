@@ -5,7 +5,7 @@ use Rattle.std.specs.Option.{option_map}
 use Rattle.std.specs.Int.Bits.{bit_and}
 use Rattle.std.proofs.lemmas.Bool.Decides.{Decides-eqb, nat_tests}
 use Rattle.evm_isa.specs.Fields.{opcode_of, funct3_of, funct6_of, funct7_of}
-use Rattle.evm_isa.specs.Table.{branch, load, store, immediate, shift, shift_mask, register, word, Row}
+use Rattle.evm_isa.specs.Table.{branch_bits, load_bits, store_bits, immediate_bits, shift_bits, shift_mask, register_bits, word_bits, Row}
 use Rattle.evm_isa.specs.Decoded.{branch_by, load_by, store_by, immediate_by, shift_by, word_shift_by, register_by, word_by, jalr_at, branch_at, load_at, store_at, immediate_or_shift, immediate_form, shift_form, immediate_at, word_immediate_at, register_at, word_at, fence_at, system_at, decoded}
 use Rattle.evm_isa.proofs.Masks.{under_opcode, under_funct3, under_funct6, under_funct7, opcode_under, funct3_under, funct6_under, funct7_under}
 use Rattle.evm_isa.specs.declared.inst.Inst.{Inst}
@@ -40,28 +40,28 @@ mapped Q P g (Some o) q f = f o q
 
 -- ---- a mnemonic that is found by its fields has them in its bits
 
-branch_sound : (f : ℕ) → IfSome (branch_by f) (λ o. branch o ≡ 0x63 + 2 ^ 12 * f)
+branch_sound : (f : ℕ) → IfSome (branch_by f) (λ o. branch_bits o ≡ 0x63 + 2 ^ 12 * f)
 branch_sound f = grind (arith, nat_tests)
 
-load_sound : (f : ℕ) → IfSome (load_by f) (λ o. load o ≡ 0x03 + 2 ^ 12 * f)
+load_sound : (f : ℕ) → IfSome (load_by f) (λ o. load_bits o ≡ 0x03 + 2 ^ 12 * f)
 load_sound f = grind (arith, nat_tests)
 
-store_sound : (f : ℕ) → IfSome (store_by f) (λ o. store o ≡ 0x23 + 2 ^ 12 * f)
+store_sound : (f : ℕ) → IfSome (store_by f) (λ o. store_bits o ≡ 0x23 + 2 ^ 12 * f)
 store_sound f = grind (arith, nat_tests)
 
-immediate_sound : (f : ℕ) → IfSome (immediate_by f) (λ o. immediate o ≡ 0x13 + 2 ^ 12 * f)
+immediate_sound : (f : ℕ) → IfSome (immediate_by f) (λ o. immediate_bits o ≡ 0x13 + 2 ^ 12 * f)
 immediate_sound f = grind (arith, nat_tests)
 
-shift_sound : (f t : ℕ) → IfSome (shift_by f t) (λ o. (shift_mask o ≡ 0xfc00707f) × (shift o ≡ 0x13 + 2 ^ 12 * f + 2 ^ 26 * t))
+shift_sound : (f t : ℕ) → IfSome (shift_by f t) (λ o. (shift_mask o ≡ 0xfc00707f) × (shift_bits o ≡ 0x13 + 2 ^ 12 * f + 2 ^ 26 * t))
 shift_sound f t = grind (arith, nat_tests)
 
-word_shift_sound : (f t : ℕ) → IfSome (word_shift_by f t) (λ o. (shift_mask o ≡ 0xfe00707f) × (shift o ≡ 0x1b + 2 ^ 12 * f + 2 ^ 25 * t))
+word_shift_sound : (f t : ℕ) → IfSome (word_shift_by f t) (λ o. (shift_mask o ≡ 0xfe00707f) × (shift_bits o ≡ 0x1b + 2 ^ 12 * f + 2 ^ 25 * t))
 word_shift_sound f t = grind (arith, nat_tests)
 
-register_sound : (f t : ℕ) → IfSome (register_by f t) (λ o. register o ≡ 0x33 + 2 ^ 12 * f + 2 ^ 25 * t)
+register_sound : (f t : ℕ) → IfSome (register_by f t) (λ o. register_bits o ≡ 0x33 + 2 ^ 12 * f + 2 ^ 25 * t)
 register_sound f t = grind (arith, nat_tests)
 
-word_sound : (f t : ℕ) → IfSome (word_by f t) (λ o. word o ≡ 0x3b + 2 ^ 12 * f + 2 ^ 25 * t)
+word_sound : (f t : ℕ) → IfSome (word_by f t) (λ o. word_bits o ≡ 0x3b + 2 ^ 12 * f + 2 ^ 25 * t)
 word_sound f t = grind (arith, nat_tests)
 
 -- ---- what is found in an opcode fits its row
@@ -143,7 +143,7 @@ decoded_sound w h =
 
 -- ---- each mnemonic is found by its bits
 
-branch_found : (o : BranchOp) → (branch o % 2 ^ 7 ≡ 0x63) × (branch_by (branch o / 2 ^ 12) ≡ Some o)
+branch_found : (o : BranchOp) → (branch_bits o % 2 ^ 7 ≡ 0x63) × (branch_by (branch_bits o / 2 ^ 12) ≡ Some o)
 branch_found Beq = (refl, refl)
 branch_found Bne = (refl, refl)
 branch_found Blt = (refl, refl)
@@ -151,7 +151,7 @@ branch_found Bge = (refl, refl)
 branch_found Bltu = (refl, refl)
 branch_found Bgeu = (refl, refl)
 
-load_found : (o : LoadOp) → (load o % 2 ^ 7 ≡ 0x03) × (load_by (load o / 2 ^ 12) ≡ Some o)
+load_found : (o : LoadOp) → (load_bits o % 2 ^ 7 ≡ 0x03) × (load_by (load_bits o / 2 ^ 12) ≡ Some o)
 load_found Lb = (refl, refl)
 load_found Lh = (refl, refl)
 load_found Lw = (refl, refl)
@@ -160,13 +160,13 @@ load_found Lbu = (refl, refl)
 load_found Lhu = (refl, refl)
 load_found Lwu = (refl, refl)
 
-store_found : (o : StoreOp) → (store o % 2 ^ 7 ≡ 0x23) × (store_by (store o / 2 ^ 12) ≡ Some o)
+store_found : (o : StoreOp) → (store_bits o % 2 ^ 7 ≡ 0x23) × (store_by (store_bits o / 2 ^ 12) ≡ Some o)
 store_found Sb = (refl, refl)
 store_found Sh = (refl, refl)
 store_found Sw = (refl, refl)
 store_found Sd = (refl, refl)
 
-register_found : (o : RegisterOp) → (register o % 2 ^ 7 ≡ 0x33) × (register_by (register o / 2 ^ 12 % 2 ^ 3) (register o / 2 ^ 25) ≡ Some o)
+register_found : (o : RegisterOp) → (register_bits o % 2 ^ 7 ≡ 0x33) × (register_by (register_bits o / 2 ^ 12 % 2 ^ 3) (register_bits o / 2 ^ 25) ≡ Some o)
 register_found Add = (refl, refl)
 register_found Sub = (refl, refl)
 register_found Sll = (refl, refl)
@@ -178,7 +178,7 @@ register_found Sra = (refl, refl)
 register_found Or = (refl, refl)
 register_found And = (refl, refl)
 
-word_found : (o : WordOp) → (word o % 2 ^ 7 ≡ 0x3b) × (word_by (word o / 2 ^ 12 % 2 ^ 3) (word o / 2 ^ 25) ≡ Some o)
+word_found : (o : WordOp) → (word_bits o % 2 ^ 7 ≡ 0x3b) × (word_by (word_bits o / 2 ^ 12 % 2 ^ 3) (word_bits o / 2 ^ 25) ≡ Some o)
 word_found Addw = (refl, refl)
 word_found Subw = (refl, refl)
 word_found Sllw = (refl, refl)
@@ -187,7 +187,7 @@ word_found Sraw = (refl, refl)
 
 -- ---- what fits a row is found
 
-immediate_of_table : (o : ImmediateOp) (w : ℕ) → (opcode_of w ≡ immediate o % 2 ^ 7) × (funct3_of w ≡ immediate o / 2 ^ 12) → decoded w ≡ Some (immediate_form w o)
+immediate_of_table : (o : ImmediateOp) (w : ℕ) → (opcode_of w ≡ immediate_bits o % 2 ^ 7) × (funct3_of w ≡ immediate_bits o / 2 ^ 12) → decoded w ≡ Some (immediate_form w o)
 unfolding decoded immediate_at word_immediate_at
 immediate_of_table Addi w f = rw (f.0, f.1) refl
 immediate_of_table Slti w f = rw (f.0, f.1) refl
@@ -197,14 +197,14 @@ immediate_of_table Ori w f = rw (f.0, f.1) refl
 immediate_of_table Andi w f = rw (f.0, f.1) refl
 immediate_of_table Addiw w f = rw (f.0, f.1) refl
 
-shift_of_table : (o : ShiftOp) (w : ℕ) → w < 2 ^ 32 → bit_and w (shift_mask o) ≡ shift o → decoded w ≡ Some (shift_form w o)
+shift_of_table : (o : ShiftOp) (w : ℕ) → w < 2 ^ 32 → bit_and w (shift_mask o) ≡ shift_bits o → decoded w ≡ Some (shift_form w o)
 unfolding decoded immediate_at word_immediate_at
-shift_of_table Slli w h e = let f = funct6_under w (shift Slli) h e in rw (f.0, f.1, f.2) refl
-shift_of_table Srli w h e = let f = funct6_under w (shift Srli) h e in rw (f.0, f.1, f.2) refl
-shift_of_table Srai w h e = let f = funct6_under w (shift Srai) h e in rw (f.0, f.1, f.2) refl
-shift_of_table Slliw w h e = let f = funct7_under w (shift Slliw) h e in rw (f.0, f.1, f.2) refl
-shift_of_table Srliw w h e = let f = funct7_under w (shift Srliw) h e in rw (f.0, f.1, f.2) refl
-shift_of_table Sraiw w h e = let f = funct7_under w (shift Sraiw) h e in rw (f.0, f.1, f.2) refl
+shift_of_table Slli w h e = let f = funct6_under w (shift_bits Slli) h e in rw (f.0, f.1, f.2) refl
+shift_of_table Srli w h e = let f = funct6_under w (shift_bits Srli) h e in rw (f.0, f.1, f.2) refl
+shift_of_table Srai w h e = let f = funct6_under w (shift_bits Srai) h e in rw (f.0, f.1, f.2) refl
+shift_of_table Slliw w h e = let f = funct7_under w (shift_bits Slliw) h e in rw (f.0, f.1, f.2) refl
+shift_of_table Srliw w h e = let f = funct7_under w (shift_bits Srliw) h e in rw (f.0, f.1, f.2) refl
+shift_of_table Sraiw w h e = let f = funct7_under w (shift_bits Sraiw) h e in rw (f.0, f.1, f.2) refl
 
 pub decoded_complete : (i : Inst) (w : ℕ) → w < 2 ^ 32 → Row i w → decoded w ≡ Some i
 unfolding decoded Row jalr_at branch_at load_at store_at register_at word_at fence_at system_at
@@ -212,13 +212,13 @@ decoded_complete (Lui d i) w h r = let e = opcode_under w 0x37 r.0 in rw (e, r.1
 decoded_complete (Auipc d i) w h r = let e = opcode_under w 0x17 r.0 in rw (e, r.1, r.2) refl
 decoded_complete (Jal d i) w h r = let e = opcode_under w 0x6f r.0 in rw (e, r.1, r.2) refl
 decoded_complete (Jalr d a i) w h r = let f = funct3_under w 0x67 r.0 in rw (f.0, f.1, r.1, r.2, r.3) refl
-decoded_complete (Branch o a b i) w h r = let f = funct3_under w (branch o) r.0 in rw (f.0, (branch_found o).0, f.1, (branch_found o).1, r.1, r.2, r.3) refl
-decoded_complete (Load o d a i) w h r = let f = funct3_under w (load o) r.0 in rw (f.0, (load_found o).0, f.1, (load_found o).1, r.1, r.2, r.3) refl
-decoded_complete (Store o a b i) w h r = let f = funct3_under w (store o) r.0 in rw (f.0, (store_found o).0, f.1, (store_found o).1, r.1, r.2, r.3) refl
-decoded_complete (Immediate o d a i) w h r = rw (immediate_of_table o w (funct3_under w (immediate o) r.0), r.1, r.2, r.3) refl
+decoded_complete (Branch o a b i) w h r = let f = funct3_under w (branch_bits o) r.0 in rw (f.0, (branch_found o).0, f.1, (branch_found o).1, r.1, r.2, r.3) refl
+decoded_complete (Load o d a i) w h r = let f = funct3_under w (load_bits o) r.0 in rw (f.0, (load_found o).0, f.1, (load_found o).1, r.1, r.2, r.3) refl
+decoded_complete (Store o a b i) w h r = let f = funct3_under w (store_bits o) r.0 in rw (f.0, (store_found o).0, f.1, (store_found o).1, r.1, r.2, r.3) refl
+decoded_complete (Immediate o d a i) w h r = rw (immediate_of_table o w (funct3_under w (immediate_bits o) r.0), r.1, r.2, r.3) refl
 decoded_complete (Shift o d a n) w h r = rw (shift_of_table o w h r.0, r.1, r.2, r.3) refl
-decoded_complete (Register o d a b) w h r = let f = funct7_under w (register o) h r.0 in rw (f.0, (register_found o).0, f.1, f.2, (register_found o).1, r.1, r.2, r.3) refl
-decoded_complete (Word o d a b) w h r = let f = funct7_under w (word o) h r.0 in rw (f.0, (word_found o).0, f.1, f.2, (word_found o).1, r.1, r.2, r.3) refl
+decoded_complete (Register o d a b) w h r = let f = funct7_under w (register_bits o) h r.0 in rw (f.0, (register_found o).0, f.1, f.2, (register_found o).1, r.1, r.2, r.3) refl
+decoded_complete (Word o d a b) w h r = let f = funct7_under w (word_bits o) h r.0 in rw (f.0, (word_found o).0, f.1, f.2, (word_found o).1, r.1, r.2, r.3) refl
 decoded_complete (Fence d a n) w h r = let f = funct3_under w 0x0f r.0 in rw (f.0, f.1, r.1, r.2, r.3) refl
 decoded_complete Ecall w h r = rw r refl
 decoded_complete Ebreak w h r = rw r refl

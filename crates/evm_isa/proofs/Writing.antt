@@ -4,9 +4,9 @@ use Rattle.std.specs.Prelude.{ℤ}
 use Rattle.std.specs.Int.Bits.{bit_and}
 use Rattle.std.proofs.lemmas.Option.{same_Some}
 use Rattle.std.proofs.lemmas.Bool.Decides.{nat_tests}
-use Rattle.evm_isa.specs.Fields.{signed, rd_of, rs1_of, rs2_of, shamt_of, fence_of}
-use Rattle.evm_isa.specs.Table.{branch, load, store, immediate, shift, shift_mask, register, word, Row}
-use Rattle.evm_isa.specs.Encoded.{i_placed, s_placed, b_placed, j_placed, i_bits, s_bits, b_bits, u_bits, j_bits, is_register, amounts, amount_placed, fence_placed, joined, encoded}
+use Rattle.evm_isa.specs.Fields.{sign_extended, rd_of, rs1_of, rs2_of, shamt_of, fence_of}
+use Rattle.evm_isa.specs.Table.{branch_bits, load_bits, store_bits, immediate_bits, shift_bits, shift_mask, register_bits, word_bits, Row}
+use Rattle.evm_isa.specs.Encoded.{i_placed, s_placed, b_placed, j_placed, i_bits, s_bits, b_bits, u_bits, j_bits, is_register, amounts, amount_placed, fence_placed, bits_joined, encoded}
 use Rattle.evm_isa.proofs.Bits.{map_parts, i_sound, i_found, s_sound, s_found, b_sound, b_found, u_sound, u_found, j_sound, j_found}
 use Rattle.evm_isa.proofs.Packing.{i_gathered, s_gathered, b_gathered, u_gathered, j_gathered, Bits3, Bits7, i_word, s_word, b_word, u_word, j_word, r_word, shift_word, word_shift_word, i_sum, s_sum, b_sum, u_sum, j_sum, r_sum, shift_sum, word_shift_sum}
 use Rattle.evm_isa.specs.declared.inst.Inst.{Inst}
@@ -28,11 +28,11 @@ use Rattle.evm_isa.specs.declared.inst.WordOp.TheVariants.{Addw, Subw, Sllw, Srl
 
 -- ---- a sum that is there
 
-joined_parts : (t : Bool) (n : ℕ) (m : Option ℕ) (w : ℕ) → joined t n m ≡ Some w → (t ≡ true) × (x : ℕ) × (m ≡ Some x) × (w ≡ n + x)
+joined_parts : (t : Bool) (n : ℕ) (m : Option ℕ) (w : ℕ) → bits_joined t n m ≡ Some w → (t ≡ true) × (x : ℕ) × (m ≡ Some x) × (w ≡ n + x)
 joined_parts false n m w e = absurd (cc)
 joined_parts true n m w e = let p = map_parts (λ x. n + x) m w e in (refl, p.0, p.1, p.2)
 
-joined_found : (t : Bool) (n : ℕ) (m : Option ℕ) (x w : ℕ) → t ≡ true → m ≡ Some x → n + x ≡ w → joined t n m ≡ Some w
+joined_found : (t : Bool) (n : ℕ) (m : Option ℕ) (x w : ℕ) → t ≡ true → m ≡ Some x → n + x ≡ w → bits_joined t n m ≡ Some w
 joined_found t n m x w p q e = rw (p, q, e) refl
 
 one : (a : ℕ) → is_register a ≡ true → a < 32
@@ -67,7 +67,7 @@ fence_found n h = grind (arith, nat_tests)
 
 -- ---- the bits of each mnemonic
 
-branch_three : (o : BranchOp) → Bits3 (branch o) (branch o / 2 ^ 12)
+branch_three : (o : BranchOp) → Bits3 (branch_bits o) (branch_bits o / 2 ^ 12)
 branch_three Beq = record { sum = refl; funct3 = lit< tt }
 branch_three Bne = record { sum = refl; funct3 = lit< tt }
 branch_three Blt = record { sum = refl; funct3 = lit< tt }
@@ -75,7 +75,7 @@ branch_three Bge = record { sum = refl; funct3 = lit< tt }
 branch_three Bltu = record { sum = refl; funct3 = lit< tt }
 branch_three Bgeu = record { sum = refl; funct3 = lit< tt }
 
-load_three : (o : LoadOp) → Bits3 (load o) (load o / 2 ^ 12)
+load_three : (o : LoadOp) → Bits3 (load_bits o) (load_bits o / 2 ^ 12)
 load_three Lb = record { sum = refl; funct3 = lit< tt }
 load_three Lh = record { sum = refl; funct3 = lit< tt }
 load_three Lw = record { sum = refl; funct3 = lit< tt }
@@ -84,13 +84,13 @@ load_three Lbu = record { sum = refl; funct3 = lit< tt }
 load_three Lhu = record { sum = refl; funct3 = lit< tt }
 load_three Lwu = record { sum = refl; funct3 = lit< tt }
 
-store_three : (o : StoreOp) → Bits3 (store o) (store o / 2 ^ 12)
+store_three : (o : StoreOp) → Bits3 (store_bits o) (store_bits o / 2 ^ 12)
 store_three Sb = record { sum = refl; funct3 = lit< tt }
 store_three Sh = record { sum = refl; funct3 = lit< tt }
 store_three Sw = record { sum = refl; funct3 = lit< tt }
 store_three Sd = record { sum = refl; funct3 = lit< tt }
 
-immediate_three : (o : ImmediateOp) → Bits3 (immediate o) (immediate o / 2 ^ 12)
+immediate_three : (o : ImmediateOp) → Bits3 (immediate_bits o) (immediate_bits o / 2 ^ 12)
 immediate_three Addi = record { sum = refl; funct3 = lit< tt }
 immediate_three Slti = record { sum = refl; funct3 = lit< tt }
 immediate_three Sltiu = record { sum = refl; funct3 = lit< tt }
@@ -99,7 +99,7 @@ immediate_three Ori = record { sum = refl; funct3 = lit< tt }
 immediate_three Andi = record { sum = refl; funct3 = lit< tt }
 immediate_three Addiw = record { sum = refl; funct3 = lit< tt }
 
-register_seven : (o : RegisterOp) → Bits7 (register o) (register o / 2 ^ 12 % 2 ^ 3) (register o / 2 ^ 25)
+register_seven : (o : RegisterOp) → Bits7 (register_bits o) (register_bits o / 2 ^ 12 % 2 ^ 3) (register_bits o / 2 ^ 25)
 register_seven Add = record { sum = refl; funct3 = lit< tt; funct7 = lit< tt }
 register_seven Sub = record { sum = refl; funct3 = lit< tt; funct7 = lit< tt }
 register_seven Sll = record { sum = refl; funct3 = lit< tt; funct7 = lit< tt }
@@ -111,7 +111,7 @@ register_seven Sra = record { sum = refl; funct3 = lit< tt; funct7 = lit< tt }
 register_seven Or = record { sum = refl; funct3 = lit< tt; funct7 = lit< tt }
 register_seven And = record { sum = refl; funct3 = lit< tt; funct7 = lit< tt }
 
-word_seven : (o : WordOp) → Bits7 (word o) (word o / 2 ^ 12 % 2 ^ 3) (word o / 2 ^ 25)
+word_seven : (o : WordOp) → Bits7 (word_bits o) (word_bits o / 2 ^ 12 % 2 ^ 3) (word_bits o / 2 ^ 25)
 word_seven Addw = record { sum = refl; funct3 = lit< tt; funct7 = lit< tt }
 word_seven Subw = record { sum = refl; funct3 = lit< tt; funct7 = lit< tt }
 word_seven Sllw = record { sum = refl; funct3 = lit< tt; funct7 = lit< tt }
@@ -119,23 +119,23 @@ word_seven Srlw = record { sum = refl; funct3 = lit< tt; funct7 = lit< tt }
 word_seven Sraw = record { sum = refl; funct3 = lit< tt; funct7 = lit< tt }
 
 -- the shifts, whose masks differ
-shift_fields : (o : ShiftOp) (d a n w : ℕ) → d < 32 → a < 32 → n < amounts o → w ≡ shift o + d * 2 ^ 7 + a * 2 ^ 15 + n * 2 ^ 20 →
-    (w < 2 ^ 32) × (bit_and w (shift_mask o) ≡ shift o) × (d ≡ rd_of w) × (a ≡ rs1_of w) × (n ≡ shamt_of w)
-shift_fields Slli d a n w = shift_word (shift Slli) 1 0 d a n w (record { sum = refl; funct3 = lit< tt; funct6 = lit< tt })
-shift_fields Srli d a n w = shift_word (shift Srli) 5 0 d a n w (record { sum = refl; funct3 = lit< tt; funct6 = lit< tt })
-shift_fields Srai d a n w = shift_word (shift Srai) 5 0x10 d a n w (record { sum = refl; funct3 = lit< tt; funct6 = lit< tt })
-shift_fields Slliw d a n w = word_shift_word (shift Slliw) 1 0 d a n w (record { sum = refl; funct3 = lit< tt; funct7 = lit< tt })
-shift_fields Srliw d a n w = word_shift_word (shift Srliw) 5 0 d a n w (record { sum = refl; funct3 = lit< tt; funct7 = lit< tt })
-shift_fields Sraiw d a n w = word_shift_word (shift Sraiw) 5 0x10 d a n w (record { sum = refl; funct3 = lit< tt; funct7 = lit< tt })
+shift_fields : (o : ShiftOp) (d a n w : ℕ) → d < 32 → a < 32 → n < amounts o → w ≡ shift_bits o + d * 2 ^ 7 + a * 2 ^ 15 + n * 2 ^ 20 →
+    (w < 2 ^ 32) × (bit_and w (shift_mask o) ≡ shift_bits o) × (d ≡ rd_of w) × (a ≡ rs1_of w) × (n ≡ shamt_of w)
+shift_fields Slli d a n w = shift_word (shift_bits Slli) 1 0 d a n w (record { sum = refl; funct3 = lit< tt; funct6 = lit< tt })
+shift_fields Srli d a n w = shift_word (shift_bits Srli) 5 0 d a n w (record { sum = refl; funct3 = lit< tt; funct6 = lit< tt })
+shift_fields Srai d a n w = shift_word (shift_bits Srai) 5 0x10 d a n w (record { sum = refl; funct3 = lit< tt; funct6 = lit< tt })
+shift_fields Slliw d a n w = word_shift_word (shift_bits Slliw) 1 0 d a n w (record { sum = refl; funct3 = lit< tt; funct7 = lit< tt })
+shift_fields Srliw d a n w = word_shift_word (shift_bits Srliw) 5 0 d a n w (record { sum = refl; funct3 = lit< tt; funct7 = lit< tt })
+shift_fields Sraiw d a n w = word_shift_word (shift_bits Sraiw) 5 0x10 d a n w (record { sum = refl; funct3 = lit< tt; funct7 = lit< tt })
 
-shift_adds : (o : ShiftOp) (w : ℕ) → w < 2 ^ 32 → bit_and w (shift_mask o) ≡ shift o →
-    (shamt_of w < amounts o) × (shift o + rd_of w * 2 ^ 7 + rs1_of w * 2 ^ 15 + shamt_of w * 2 ^ 20 ≡ w)
-shift_adds Slli w h e = (omega arith, shift_sum (shift Slli) w h e)
-shift_adds Srli w h e = (omega arith, shift_sum (shift Srli) w h e)
-shift_adds Srai w h e = (omega arith, shift_sum (shift Srai) w h e)
-shift_adds Slliw w h e = word_shift_sum (shift Slliw) 0 w h refl e
-shift_adds Srliw w h e = word_shift_sum (shift Srliw) 0 w h refl e
-shift_adds Sraiw w h e = word_shift_sum (shift Sraiw) 0x10 w h refl e
+shift_adds : (o : ShiftOp) (w : ℕ) → w < 2 ^ 32 → bit_and w (shift_mask o) ≡ shift_bits o →
+    (shamt_of w < amounts o) × (shift_bits o + rd_of w * 2 ^ 7 + rs1_of w * 2 ^ 15 + shamt_of w * 2 ^ 20 ≡ w)
+shift_adds Slli w h e = (omega arith, shift_sum (shift_bits Slli) w h e)
+shift_adds Srli w h e = (omega arith, shift_sum (shift_bits Srli) w h e)
+shift_adds Srai w h e = (omega arith, shift_sum (shift_bits Srai) w h e)
+shift_adds Slliw w h e = word_shift_sum (shift_bits Slliw) 0 w h refl e
+shift_adds Srliw w h e = word_shift_sum (shift_bits Srliw) 0 w h refl e
+shift_adds Sraiw w h e = word_shift_sum (shift_bits Sraiw) 0x10 w h refl e
 
 -- ---- what is encoded stands in the table
 
@@ -143,50 +143,50 @@ shift_adds Sraiw w h e = word_shift_sum (shift Sraiw) 0x10 w h refl e
 abbrev pub Spells : Inst → ℕ → Type 0
 Spells i w = (w < 2 ^ 32) × Row i w
 
-u_spells : (c d : ℕ) (i : ℤ) (w : ℕ) → c < 2 ^ 7 → joined (is_register d) (c + d * 2 ^ 7) (u_bits i) ≡ Some w →
-    (w < 2 ^ 32) × (bit_and w 0x7f ≡ c) × (d ≡ rd_of w) × (i ≡ signed (2 ^ 31) (u_gathered w))
+u_spells : (c d : ℕ) (i : ℤ) (w : ℕ) → c < 2 ^ 7 → bits_joined (is_register d) (c + d * 2 ^ 7) (u_bits i) ≡ Some w →
+    (w < 2 ^ 32) × (bit_and w 0x7f ≡ c) × (d ≡ rd_of w) × (i ≡ sign_extended (2 ^ 31) (u_gathered w))
 u_spells c d i w hc e =
     let p = joined_parts (is_register d) (c + d * 2 ^ 7) (u_bits i) w e in
     let s = u_sound i p.1 p.2 in
     let f = u_word c d p.1 w hc (one d p.0) s.0 s.1 p.3 in
-    (f.0, f.1, f.2, s.2 ∙ ap (signed (2 ^ 31)) (sym f.3))
+    (f.0, f.1, f.2, s.2 ∙ ap (sign_extended (2 ^ 31)) (sym f.3))
 
-j_spells : (c d : ℕ) (i : ℤ) (w : ℕ) → c < 2 ^ 7 → joined (is_register d) (c + d * 2 ^ 7) (j_bits i) ≡ Some w →
-    (w < 2 ^ 32) × (bit_and w 0x7f ≡ c) × (d ≡ rd_of w) × (i ≡ signed (2 ^ 20) (j_gathered w))
+j_spells : (c d : ℕ) (i : ℤ) (w : ℕ) → c < 2 ^ 7 → bits_joined (is_register d) (c + d * 2 ^ 7) (j_bits i) ≡ Some w →
+    (w < 2 ^ 32) × (bit_and w 0x7f ≡ c) × (d ≡ rd_of w) × (i ≡ sign_extended (2 ^ 20) (j_gathered w))
 j_spells c d i w hc e =
     let p = joined_parts (is_register d) (c + d * 2 ^ 7) (j_bits i) w e in
     let s = j_sound i p.1 p.2 in
     let f = j_word c d s.0 w hc (one d p.0) s.1 s.2 (p.3 ∙ ap (λ x. c + d * 2 ^ 7 + x) s.4) in
-    (f.0, f.1, f.2, s.3 ∙ ap (signed (2 ^ 20)) (sym f.3))
+    (f.0, f.1, f.2, s.3 ∙ ap (sign_extended (2 ^ 20)) (sym f.3))
 
-i_spells : (c f d a : ℕ) (i : ℤ) (w : ℕ) → Bits3 c f → joined (is_register d && is_register a) (c + d * 2 ^ 7 + a * 2 ^ 15) (i_bits i) ≡ Some w →
-    (w < 2 ^ 32) × (bit_and w 0x707f ≡ c) × (d ≡ rd_of w) × (a ≡ rs1_of w) × (i ≡ signed (2 ^ 11) (i_gathered w))
+i_spells : (c f d a : ℕ) (i : ℤ) (w : ℕ) → Bits3 c f → bits_joined (is_register d && is_register a) (c + d * 2 ^ 7 + a * 2 ^ 15) (i_bits i) ≡ Some w →
+    (w < 2 ^ 32) × (bit_and w 0x707f ≡ c) × (d ≡ rd_of w) × (a ≡ rs1_of w) × (i ≡ sign_extended (2 ^ 11) (i_gathered w))
 i_spells c f d a i w k e =
     let p = joined_parts (is_register d && is_register a) (c + d * 2 ^ 7 + a * 2 ^ 15) (i_bits i) w e in
     let t = two d a p.0 in
     let s = i_sound i p.1 p.2 in
     let g = i_word c f d a s.0 w k t.0 t.1 s.1 (p.3 ∙ ap (λ x. c + d * 2 ^ 7 + a * 2 ^ 15 + x) s.3) in
-    (g.0, g.1, g.2, g.3, s.2 ∙ ap (signed (2 ^ 11)) (sym g.4))
+    (g.0, g.1, g.2, g.3, s.2 ∙ ap (sign_extended (2 ^ 11)) (sym g.4))
 
-s_spells : (c f a b : ℕ) (i : ℤ) (w : ℕ) → Bits3 c f → joined (is_register a && is_register b) (c + a * 2 ^ 15 + b * 2 ^ 20) (s_bits i) ≡ Some w →
-    (w < 2 ^ 32) × (bit_and w 0x707f ≡ c) × (a ≡ rs1_of w) × (b ≡ rs2_of w) × (i ≡ signed (2 ^ 11) (s_gathered w))
+s_spells : (c f a b : ℕ) (i : ℤ) (w : ℕ) → Bits3 c f → bits_joined (is_register a && is_register b) (c + a * 2 ^ 15 + b * 2 ^ 20) (s_bits i) ≡ Some w →
+    (w < 2 ^ 32) × (bit_and w 0x707f ≡ c) × (a ≡ rs1_of w) × (b ≡ rs2_of w) × (i ≡ sign_extended (2 ^ 11) (s_gathered w))
 s_spells c f a b i w k e =
     let p = joined_parts (is_register a && is_register b) (c + a * 2 ^ 15 + b * 2 ^ 20) (s_bits i) w e in
     let t = two a b p.0 in
     let s = s_sound i p.1 p.2 in
     let g = s_word c f a b s.0 w k t.0 t.1 s.1 (p.3 ∙ ap (λ x. c + a * 2 ^ 15 + b * 2 ^ 20 + x) s.3) in
-    (g.0, g.1, g.2, g.3, s.2 ∙ ap (signed (2 ^ 11)) (sym g.4))
+    (g.0, g.1, g.2, g.3, s.2 ∙ ap (sign_extended (2 ^ 11)) (sym g.4))
 
-b_spells : (c f a b : ℕ) (i : ℤ) (w : ℕ) → Bits3 c f → joined (is_register a && is_register b) (c + a * 2 ^ 15 + b * 2 ^ 20) (b_bits i) ≡ Some w →
-    (w < 2 ^ 32) × (bit_and w 0x707f ≡ c) × (a ≡ rs1_of w) × (b ≡ rs2_of w) × (i ≡ signed (2 ^ 12) (b_gathered w))
+b_spells : (c f a b : ℕ) (i : ℤ) (w : ℕ) → Bits3 c f → bits_joined (is_register a && is_register b) (c + a * 2 ^ 15 + b * 2 ^ 20) (b_bits i) ≡ Some w →
+    (w < 2 ^ 32) × (bit_and w 0x707f ≡ c) × (a ≡ rs1_of w) × (b ≡ rs2_of w) × (i ≡ sign_extended (2 ^ 12) (b_gathered w))
 b_spells c f a b i w k e =
     let p = joined_parts (is_register a && is_register b) (c + a * 2 ^ 15 + b * 2 ^ 20) (b_bits i) w e in
     let t = two a b p.0 in
     let s = b_sound i p.1 p.2 in
     let g = b_word c f a b s.0 w k t.0 t.1 s.1 s.2 (p.3 ∙ ap (λ x. c + a * 2 ^ 15 + b * 2 ^ 20 + x) s.4) in
-    (g.0, g.1, g.2, g.3, s.3 ∙ ap (signed (2 ^ 12)) (sym g.4))
+    (g.0, g.1, g.2, g.3, s.3 ∙ ap (sign_extended (2 ^ 12)) (sym g.4))
 
-r_spells : (c f t d a b w : ℕ) → Bits7 c f t → joined (is_register d && is_register a && is_register b) (c + d * 2 ^ 7 + a * 2 ^ 15) (Some (b * 2 ^ 20)) ≡ Some w →
+r_spells : (c f t d a b w : ℕ) → Bits7 c f t → bits_joined (is_register d && is_register a && is_register b) (c + d * 2 ^ 7 + a * 2 ^ 15) (Some (b * 2 ^ 20)) ≡ Some w →
     (w < 2 ^ 32) × (bit_and w 0xfe00707f ≡ c) × (d ≡ rd_of w) × (a ≡ rs1_of w) × (b ≡ rs2_of w)
 r_spells c f t d a b w k e =
     let p = joined_parts (is_register d && is_register a && is_register b) (c + d * 2 ^ 7 + a * 2 ^ 15) (Some (b * 2 ^ 20)) w e in
@@ -194,15 +194,15 @@ r_spells c f t d a b w k e =
     let x : b * 2 ^ 20 ≡ p.1 = same_Some _ _ p.2 in
     r_word c f t d a b w k r.0 r.1 r.2 (omega arith)
 
-shift_spells : (o : ShiftOp) (d a n w : ℕ) → joined (is_register d && is_register a) (shift o + d * 2 ^ 7 + a * 2 ^ 15) (amount_placed o n) ≡ Some w →
-    (w < 2 ^ 32) × (bit_and w (shift_mask o) ≡ shift o) × (d ≡ rd_of w) × (a ≡ rs1_of w) × (n ≡ shamt_of w)
+shift_spells : (o : ShiftOp) (d a n w : ℕ) → bits_joined (is_register d && is_register a) (shift_bits o + d * 2 ^ 7 + a * 2 ^ 15) (amount_placed o n) ≡ Some w →
+    (w < 2 ^ 32) × (bit_and w (shift_mask o) ≡ shift_bits o) × (d ≡ rd_of w) × (a ≡ rs1_of w) × (n ≡ shamt_of w)
 shift_spells o d a n w e =
-    let p = joined_parts (is_register d && is_register a) (shift o + d * 2 ^ 7 + a * 2 ^ 15) (amount_placed o n) w e in
+    let p = joined_parts (is_register d && is_register a) (shift_bits o + d * 2 ^ 7 + a * 2 ^ 15) (amount_placed o n) w e in
     let t = two d a p.0 in
     let s = amount_parts o n p.1 p.2 in
     shift_fields o d a n w t.0 t.1 s.0 (omega arith)
 
-fence_spells : (d a n w : ℕ) → joined (is_register d && is_register a) (0x0f + d * 2 ^ 7 + a * 2 ^ 15) (fence_placed n) ≡ Some w →
+fence_spells : (d a n w : ℕ) → bits_joined (is_register d && is_register a) (0x0f + d * 2 ^ 7 + a * 2 ^ 15) (fence_placed n) ≡ Some w →
     (w < 2 ^ 32) × (bit_and w 0x707f ≡ 0x0f) × (d ≡ rd_of w) × (a ≡ rs1_of w) × (n ≡ fence_of w)
 fence_spells d a n w e =
     let p = joined_parts (is_register d && is_register a) (0x0f + d * 2 ^ 7 + a * 2 ^ 15) (fence_placed n) w e in
@@ -220,13 +220,13 @@ encoded_sound (Lui d i) w e = let s = u_spells 0x37 d i w (lit< tt) e in (s.0, (
 encoded_sound (Auipc d i) w e = let s = u_spells 0x17 d i w (lit< tt) e in (s.0, (s.1, s.2, s.3))
 encoded_sound (Jal d i) w e = let s = j_spells 0x6f d i w (lit< tt) e in (s.0, (s.1, s.2, s.3))
 encoded_sound (Jalr d a i) w e = let s = i_spells 0x67 0 d a i w (zero_three 0x67 (lit< tt)) e in (s.0, (s.1, s.2, s.3, s.4))
-encoded_sound (Branch o a b i) w e = let s = b_spells (branch o) (branch o / 2 ^ 12) a b i w (branch_three o) e in (s.0, (s.1, s.2, s.3, s.4))
-encoded_sound (Load o d a i) w e = let s = i_spells (load o) (load o / 2 ^ 12) d a i w (load_three o) e in (s.0, (s.1, s.2, s.3, s.4))
-encoded_sound (Store o a b i) w e = let s = s_spells (store o) (store o / 2 ^ 12) a b i w (store_three o) e in (s.0, (s.1, s.2, s.3, s.4))
-encoded_sound (Immediate o d a i) w e = let s = i_spells (immediate o) (immediate o / 2 ^ 12) d a i w (immediate_three o) e in (s.0, (s.1, s.2, s.3, s.4))
+encoded_sound (Branch o a b i) w e = let s = b_spells (branch_bits o) (branch_bits o / 2 ^ 12) a b i w (branch_three o) e in (s.0, (s.1, s.2, s.3, s.4))
+encoded_sound (Load o d a i) w e = let s = i_spells (load_bits o) (load_bits o / 2 ^ 12) d a i w (load_three o) e in (s.0, (s.1, s.2, s.3, s.4))
+encoded_sound (Store o a b i) w e = let s = s_spells (store_bits o) (store_bits o / 2 ^ 12) a b i w (store_three o) e in (s.0, (s.1, s.2, s.3, s.4))
+encoded_sound (Immediate o d a i) w e = let s = i_spells (immediate_bits o) (immediate_bits o / 2 ^ 12) d a i w (immediate_three o) e in (s.0, (s.1, s.2, s.3, s.4))
 encoded_sound (Shift o d a n) w e = let s = shift_spells o d a n w e in (s.0, (s.1, s.2, s.3, s.4))
-encoded_sound (Register o d a b) w e = let s = r_spells (register o) (register o / 2 ^ 12 % 2 ^ 3) (register o / 2 ^ 25) d a b w (register_seven o) e in (s.0, (s.1, s.2, s.3, s.4))
-encoded_sound (Word o d a b) w e = let s = r_spells (word o) (word o / 2 ^ 12 % 2 ^ 3) (word o / 2 ^ 25) d a b w (word_seven o) e in (s.0, (s.1, s.2, s.3, s.4))
+encoded_sound (Register o d a b) w e = let s = r_spells (register_bits o) (register_bits o / 2 ^ 12 % 2 ^ 3) (register_bits o / 2 ^ 25) d a b w (register_seven o) e in (s.0, (s.1, s.2, s.3, s.4))
+encoded_sound (Word o d a b) w e = let s = r_spells (word_bits o) (word_bits o / 2 ^ 12 % 2 ^ 3) (word_bits o / 2 ^ 25) d a b w (word_seven o) e in (s.0, (s.1, s.2, s.3, s.4))
 encoded_sound (Fence d a n) w e = let s = fence_spells d a n w e in (s.0, (s.1, s.2, s.3, s.4))
 encoded_sound Ecall w e = let x : 0x73 ≡ w = same_Some _ _ e in (omega arith, sym x)
 encoded_sound Ebreak w e = let x : 0x100073 ≡ w = same_Some _ _ e in (omega arith, sym x)
@@ -244,20 +244,20 @@ encoded_complete (Jal d i) w h r =
 encoded_complete (Jalr d a i) w h r =
     joined_found (is_register d && is_register a) (0x67 + d * 2 ^ 7 + a * 2 ^ 15) (i_bits i) (i_placed (i_gathered w)) w (is_two d a (is_one d w (2 ^ 7) r.1) (is_one a w (2 ^ 15) r.2)) (i_found (i_gathered w) i (omega arith) r.3) (rw (r.1, r.2) (i_sum 0x67 w h r.0))
 encoded_complete (Branch o a b i) w h r =
-    joined_found (is_register a && is_register b) (branch o + a * 2 ^ 15 + b * 2 ^ 20) (b_bits i) (b_placed (b_gathered w)) w (is_two a b (is_one a w (2 ^ 15) r.1) (is_one b w (2 ^ 20) r.2)) (b_found (b_gathered w) i (omega arith) (omega arith) r.3) (rw (r.1, r.2) (b_sum (branch o) w h r.0))
+    joined_found (is_register a && is_register b) (branch_bits o + a * 2 ^ 15 + b * 2 ^ 20) (b_bits i) (b_placed (b_gathered w)) w (is_two a b (is_one a w (2 ^ 15) r.1) (is_one b w (2 ^ 20) r.2)) (b_found (b_gathered w) i (omega arith) (omega arith) r.3) (rw (r.1, r.2) (b_sum (branch_bits o) w h r.0))
 encoded_complete (Load o d a i) w h r =
-    joined_found (is_register d && is_register a) (load o + d * 2 ^ 7 + a * 2 ^ 15) (i_bits i) (i_placed (i_gathered w)) w (is_two d a (is_one d w (2 ^ 7) r.1) (is_one a w (2 ^ 15) r.2)) (i_found (i_gathered w) i (omega arith) r.3) (rw (r.1, r.2) (i_sum (load o) w h r.0))
+    joined_found (is_register d && is_register a) (load_bits o + d * 2 ^ 7 + a * 2 ^ 15) (i_bits i) (i_placed (i_gathered w)) w (is_two d a (is_one d w (2 ^ 7) r.1) (is_one a w (2 ^ 15) r.2)) (i_found (i_gathered w) i (omega arith) r.3) (rw (r.1, r.2) (i_sum (load_bits o) w h r.0))
 encoded_complete (Store o a b i) w h r =
-    joined_found (is_register a && is_register b) (store o + a * 2 ^ 15 + b * 2 ^ 20) (s_bits i) (s_placed (s_gathered w)) w (is_two a b (is_one a w (2 ^ 15) r.1) (is_one b w (2 ^ 20) r.2)) (s_found (s_gathered w) i (omega arith) r.3) (rw (r.1, r.2) (s_sum (store o) w h r.0))
+    joined_found (is_register a && is_register b) (store_bits o + a * 2 ^ 15 + b * 2 ^ 20) (s_bits i) (s_placed (s_gathered w)) w (is_two a b (is_one a w (2 ^ 15) r.1) (is_one b w (2 ^ 20) r.2)) (s_found (s_gathered w) i (omega arith) r.3) (rw (r.1, r.2) (s_sum (store_bits o) w h r.0))
 encoded_complete (Immediate o d a i) w h r =
-    joined_found (is_register d && is_register a) (immediate o + d * 2 ^ 7 + a * 2 ^ 15) (i_bits i) (i_placed (i_gathered w)) w (is_two d a (is_one d w (2 ^ 7) r.1) (is_one a w (2 ^ 15) r.2)) (i_found (i_gathered w) i (omega arith) r.3) (rw (r.1, r.2) (i_sum (immediate o) w h r.0))
+    joined_found (is_register d && is_register a) (immediate_bits o + d * 2 ^ 7 + a * 2 ^ 15) (i_bits i) (i_placed (i_gathered w)) w (is_two d a (is_one d w (2 ^ 7) r.1) (is_one a w (2 ^ 15) r.2)) (i_found (i_gathered w) i (omega arith) r.3) (rw (r.1, r.2) (i_sum (immediate_bits o) w h r.0))
 encoded_complete (Shift o d a n) w h r =
     let s = shift_adds o w h r.0 in
-    joined_found (is_register d && is_register a) (shift o + d * 2 ^ 7 + a * 2 ^ 15) (amount_placed o n) (n * 2 ^ 20) w (is_two d a (is_one d w (2 ^ 7) r.1) (is_one a w (2 ^ 15) r.2)) (amount_found o n (rw r.3 s.0)) (rw (r.1, r.2, r.3) s.1)
+    joined_found (is_register d && is_register a) (shift_bits o + d * 2 ^ 7 + a * 2 ^ 15) (amount_placed o n) (n * 2 ^ 20) w (is_two d a (is_one d w (2 ^ 7) r.1) (is_one a w (2 ^ 15) r.2)) (amount_found o n (rw r.3 s.0)) (rw (r.1, r.2, r.3) s.1)
 encoded_complete (Register o d a b) w h r =
-    joined_found (is_register d && is_register a && is_register b) (register o + d * 2 ^ 7 + a * 2 ^ 15) (Some (b * 2 ^ 20)) (b * 2 ^ 20) w (is_three d a b (is_one d w (2 ^ 7) r.1) (is_one a w (2 ^ 15) r.2) (is_one b w (2 ^ 20) r.3)) refl (rw (r.1, r.2, r.3) (r_sum (register o) w h r.0))
+    joined_found (is_register d && is_register a && is_register b) (register_bits o + d * 2 ^ 7 + a * 2 ^ 15) (Some (b * 2 ^ 20)) (b * 2 ^ 20) w (is_three d a b (is_one d w (2 ^ 7) r.1) (is_one a w (2 ^ 15) r.2) (is_one b w (2 ^ 20) r.3)) refl (rw (r.1, r.2, r.3) (r_sum (register_bits o) w h r.0))
 encoded_complete (Word o d a b) w h r =
-    joined_found (is_register d && is_register a && is_register b) (word o + d * 2 ^ 7 + a * 2 ^ 15) (Some (b * 2 ^ 20)) (b * 2 ^ 20) w (is_three d a b (is_one d w (2 ^ 7) r.1) (is_one a w (2 ^ 15) r.2) (is_one b w (2 ^ 20) r.3)) refl (rw (r.1, r.2, r.3) (r_sum (word o) w h r.0))
+    joined_found (is_register d && is_register a && is_register b) (word_bits o + d * 2 ^ 7 + a * 2 ^ 15) (Some (b * 2 ^ 20)) (b * 2 ^ 20) w (is_three d a b (is_one d w (2 ^ 7) r.1) (is_one a w (2 ^ 15) r.2) (is_one b w (2 ^ 20) r.3)) refl (rw (r.1, r.2, r.3) (r_sum (word_bits o) w h r.0))
 encoded_complete (Fence d a n) w h r =
     joined_found (is_register d && is_register a) (0x0f + d * 2 ^ 7 + a * 2 ^ 15) (fence_placed n) (n * 2 ^ 20) w (is_two d a (is_one d w (2 ^ 7) r.1) (is_one a w (2 ^ 15) r.2)) (fence_found n (omega arith)) (rw (r.1, r.2, r.3) (i_sum 0x0f w h r.0))
 encoded_complete Ecall w h r = rw r refl

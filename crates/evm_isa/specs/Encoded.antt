@@ -1,7 +1,7 @@
 -- The table read from the instruction's side: the word of an instruction, as a function.
 use Rattle.std.specs.Prelude.{ℕ, ℤ, pos, negsuc, ◌+◌, ◌-◌, ◌*◌, ◌/◌, ◌%◌, ◌^◌, Bool, ◌&&◌, nat_lt, Option, Some, None, ◌==◌, if◌then◌else◌}
 use Rattle.std.specs.Option.{option_map, option_and_then}
-use Rattle.evm_isa.specs.Table.{branch, load, store, immediate, shift, register, word}
+use Rattle.evm_isa.specs.Table.{branch_bits, load_bits, store_bits, immediate_bits, shift_bits, register_bits, word_bits}
 use Rattle.evm_isa.specs.declared.inst.Inst.{Inst}
 use Rattle.evm_isa.specs.declared.inst.Inst.TheVariants.{Lui, Auipc, Jal, Jalr, Branch, Load, Store, Immediate, Shift, Register, Word, Fence, Ecall, Ebreak}
 use Rattle.evm_isa.specs.declared.inst.ShiftOp.{ShiftOp}
@@ -74,22 +74,22 @@ abbrev pub fence_placed : ℕ → Option ℕ
 fence_placed f = if nat_lt f (2 ^ 12) then Some (f * 2 ^ 20) else None
 
 -- the sum of both, where the test is passed
-abbrev pub joined : Bool → ℕ → Option ℕ → Option ℕ
-joined test n m = if test then option_map (λ x. n + x) m else None
+abbrev pub bits_joined : Bool → ℕ → Option ℕ → Option ℕ
+bits_joined test n m = if test then option_map (λ x. n + x) m else None
 
 -- The word of an instruction; None where a field is out of range.
 unfoldable pub encoded : Inst → Option ℕ
-encoded (Lui d i) = joined (is_register d) (0x37 + d * 2 ^ 7) (u_bits i)
-encoded (Auipc d i) = joined (is_register d) (0x17 + d * 2 ^ 7) (u_bits i)
-encoded (Jal d i) = joined (is_register d) (0x6f + d * 2 ^ 7) (j_bits i)
-encoded (Jalr d a i) = joined (is_register d && is_register a) (0x67 + d * 2 ^ 7 + a * 2 ^ 15) (i_bits i)
-encoded (Branch o a b i) = joined (is_register a && is_register b) (branch o + a * 2 ^ 15 + b * 2 ^ 20) (b_bits i)
-encoded (Load o d a i) = joined (is_register d && is_register a) (load o + d * 2 ^ 7 + a * 2 ^ 15) (i_bits i)
-encoded (Store o a b i) = joined (is_register a && is_register b) (store o + a * 2 ^ 15 + b * 2 ^ 20) (s_bits i)
-encoded (Immediate o d a i) = joined (is_register d && is_register a) (immediate o + d * 2 ^ 7 + a * 2 ^ 15) (i_bits i)
-encoded (Shift o d a n) = joined (is_register d && is_register a) (shift o + d * 2 ^ 7 + a * 2 ^ 15) (amount_placed o n)
-encoded (Register o d a b) = joined (is_register d && is_register a && is_register b) (register o + d * 2 ^ 7 + a * 2 ^ 15) (Some (b * 2 ^ 20))
-encoded (Word o d a b) = joined (is_register d && is_register a && is_register b) (word o + d * 2 ^ 7 + a * 2 ^ 15) (Some (b * 2 ^ 20))
-encoded (Fence d a f) = joined (is_register d && is_register a) (0x0f + d * 2 ^ 7 + a * 2 ^ 15) (fence_placed f)
+encoded (Lui d i) = bits_joined (is_register d) (0x37 + d * 2 ^ 7) (u_bits i)
+encoded (Auipc d i) = bits_joined (is_register d) (0x17 + d * 2 ^ 7) (u_bits i)
+encoded (Jal d i) = bits_joined (is_register d) (0x6f + d * 2 ^ 7) (j_bits i)
+encoded (Jalr d a i) = bits_joined (is_register d && is_register a) (0x67 + d * 2 ^ 7 + a * 2 ^ 15) (i_bits i)
+encoded (Branch o a b i) = bits_joined (is_register a && is_register b) (branch_bits o + a * 2 ^ 15 + b * 2 ^ 20) (b_bits i)
+encoded (Load o d a i) = bits_joined (is_register d && is_register a) (load_bits o + d * 2 ^ 7 + a * 2 ^ 15) (i_bits i)
+encoded (Store o a b i) = bits_joined (is_register a && is_register b) (store_bits o + a * 2 ^ 15 + b * 2 ^ 20) (s_bits i)
+encoded (Immediate o d a i) = bits_joined (is_register d && is_register a) (immediate_bits o + d * 2 ^ 7 + a * 2 ^ 15) (i_bits i)
+encoded (Shift o d a n) = bits_joined (is_register d && is_register a) (shift_bits o + d * 2 ^ 7 + a * 2 ^ 15) (amount_placed o n)
+encoded (Register o d a b) = bits_joined (is_register d && is_register a && is_register b) (register_bits o + d * 2 ^ 7 + a * 2 ^ 15) (Some (b * 2 ^ 20))
+encoded (Word o d a b) = bits_joined (is_register d && is_register a && is_register b) (word_bits o + d * 2 ^ 7 + a * 2 ^ 15) (Some (b * 2 ^ 20))
+encoded (Fence d a f) = bits_joined (is_register d && is_register a) (0x0f + d * 2 ^ 7 + a * 2 ^ 15) (fence_placed f)
 encoded Ecall = Some 0x00000073
 encoded Ebreak = Some 0x00100073

@@ -13,7 +13,7 @@ ghost use Rattle.evm_isa.specs.Encoded.{
   encoded,
 };
 ghost use Rattle.evm_isa.specs.Decoded.{decoded};
-ghost use Rattle.evm_isa.specs.Table.{Row, branch, load, store, immediate, shift, register, word};
+ghost use Rattle.evm_isa.specs.Table.{Row, branch_bits, load_bits, store_bits, immediate_bits, shift_bits, register_bits, word_bits};
 ghost use Rattle.std.specs.Prelude.{ℕ, ◌≡◌, ◌↔◌, ◌<◌, ◌≤◌, ◌+◌, ◌*◌, ◌^◌, IfSome};
 
 use crate::inst::{
@@ -21,7 +21,7 @@ use crate::inst::{
 };
 
 fn branch_bits(op: BranchOp) -> u32
-    ensures value { result ≡ branch op }
+    ensures value { result ≡ branch_bits op }
     ensures small { result < 2 ^ 15 }
 {
     match op {
@@ -35,7 +35,7 @@ fn branch_bits(op: BranchOp) -> u32
 }
 
 fn load_bits(op: LoadOp) -> u32
-    ensures value { result ≡ load op }
+    ensures value { result ≡ load_bits op }
     ensures small { result < 2 ^ 15 }
 {
     match op {
@@ -50,7 +50,7 @@ fn load_bits(op: LoadOp) -> u32
 }
 
 fn store_bits(op: StoreOp) -> u32
-    ensures value { result ≡ store op }
+    ensures value { result ≡ store_bits op }
     ensures small { result < 2 ^ 15 }
 {
     match op {
@@ -62,7 +62,7 @@ fn store_bits(op: StoreOp) -> u32
 }
 
 fn immediate_bits(op: ImmediateOp) -> u32
-    ensures value { result ≡ immediate op }
+    ensures value { result ≡ immediate_bits op }
     ensures small { result < 2 ^ 15 }
 {
     match op {
@@ -77,7 +77,7 @@ fn immediate_bits(op: ImmediateOp) -> u32
 }
 
 fn shift_bits(op: ShiftOp) -> u32
-    ensures value { result ≡ shift op }
+    ensures value { result ≡ shift_bits op }
     ensures small { result < 2 ^ 31 }
 {
     match op {
@@ -101,7 +101,7 @@ fn shift_amounts(op: ShiftOp) -> u8
 }
 
 fn register_bits(op: RegisterOp) -> u32
-    ensures value { result ≡ register op }
+    ensures value { result ≡ register_bits op }
     ensures small { result < 2 ^ 31 }
 {
     match op {
@@ -119,7 +119,7 @@ fn register_bits(op: RegisterOp) -> u32
 }
 
 fn word_bits(op: WordOp) -> u32
-    ensures value { result ≡ word op }
+    ensures value { result ≡ word_bits op }
     ensures small { result < 2 ^ 31 }
 {
     match op {

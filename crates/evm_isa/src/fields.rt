@@ -10,7 +10,7 @@ ghost use Rattle.evm_isa.specs.Fields.{
   funct6_of,
   shamt_of,
   fence_of,
-  signed,
+  sign_extended,
   i_immediate,
   s_immediate,
   b_immediate,
@@ -80,7 +80,7 @@ pub(crate) fn fence_fields(word: u32) -> u16
 fn sign_extended(bits: u32, sign: u32) -> i32
     requires sign { sign ≤ 2 ^ 20 }
     requires bits { bits < 2 * sign }
-    ensures { result ≡ signed sign bits }
+    ensures { result ≡ sign_extended sign bits }
 {
     if bits < sign {
         bits as i32

@@ -16,7 +16,7 @@ use Rattle.evm_ram.specs.declared.refusal.Refusal.TheVariants.{BadAddress}
 use Rattle.evm_board.specs.Room.{passes_ram}
 use Rattle.evm_core.specs.Load.{load}
 use Rattle.evm_model.specs.Harts.{first_hart}
-use Rattle.evm_model.specs.Load.{load as load_board, bytes_from}
+use Rattle.evm_model.specs.Load.{load_board, bytes_from}
 use Rattle.evm_model.specs.Pipes.{idle_pipe}
 use Rattle.evm_model.specs.Replay.{bad_boot, bad_cpus, bad_ram, bad_capacity, start, accept, apply}
 use Rattle.evm_model.specs.Settle.{settle_and_nudge}

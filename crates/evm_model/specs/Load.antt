@@ -16,9 +16,9 @@ abbrev pub fill : (ℕ → ℕ) → Board → Board
 fill byte b = on_memory (λ m. record m { ram = bytes_from byte BASE (length m.ram) }) b
 
 -- RAM has the byte of each address, and task 0 begins at the entry
-unfoldable pub load : (ℕ → ℕ) → ℕ → Board → Board
-load byte entry b = on_parts (on_hart 0 (set_pc entry)) (fill byte b)
+unfoldable pub load_board : (ℕ → ℕ) → ℕ → Board → Board
+load_board byte entry b = on_parts (on_hart 0 (set_pc entry)) (fill byte b)
 
 -- a machine that has had no event, with these bytes and this entry
 abbrev pub start_loaded : (ℕ → ℕ) → ℕ → Boot → State
-start_loaded byte entry boot = record (start boot) { board = load byte entry (start boot).board }
+start_loaded byte entry boot = record (start boot) { board = load_board byte entry (start boot).board }

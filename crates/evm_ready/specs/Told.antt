@@ -6,5 +6,5 @@ told_of None = 0
 told_of (Some rank) = rank
 
 -- the rank of task t, as it is told
-abbrev pub told : List ℕ → ℕ → ℕ
-told ranks t = told_of (slice_get ranks t)
+abbrev pub rank_told : List ℕ → ℕ → ℕ
+rank_told ranks t = told_of (slice_get ranks t)

@@ -1,12 +1,12 @@
 ghost use Rattle.std.specs.Prelude.{◌≡◌, ◌≤◌, length};
 ghost use Rattle.evm_model.specs.Ranks.{first, next_in_band, stamp, leader, goes_before, runs_oob, runs_in_band};
-ghost use Rattle.evm_ready.specs.Told.{told};
+ghost use Rattle.evm_ready.specs.Told.{rank_told};
 
 use evm_model::{TASK_LIMIT, Task, TaskState};
 
 // The rank that is told of a task.
-fn told(ranks: &[u16], t: u8) -> u16
-    ensures { result ≡ told ranks.now t }
+fn rank_told(ranks: &[u16], t: u8) -> u16
+    ensures { result ≡ rank_told ranks.now t }
 {
     match ranks.get(t as usize) {
         None => 0,
@@ -25,10 +25,10 @@ fn stamp_at(tasks: &[Task], t: u8) -> u64
 
 // Whether task t goes before task u: the greater rank, and of one rank the lesser stamp.
 fn is_before(tasks: &[Task], ranks: &[u16], t: u8, u: u8) -> bool
-    ensures { result ≡ goes_before (told ranks.now) (stamp tasks.now) t u }
+    ensures { result ≡ goes_before (rank_told ranks.now) (stamp tasks.now) t u }
 {
-    let first = told(ranks, t);
-    let second = told(ranks, u);
+    let first = rank_told(ranks, t);
+    let second = rank_told(ranks, u);
     if second < first {
         true
     } else if first < second {
@@ -40,7 +40,7 @@ fn is_before(tasks: &[Task], ranks: &[u16], t: u8, u: u8) -> bool
 
 /// Of the one that leads so far and another, the one that goes first by the ranks told.
 pub fn leader_of(tasks: &[Task], ranks: &[u16], leading: Option<u8>, t: u8) -> u8
-    ensures { result ≡ leader (told ranks.now) (stamp tasks.now) leading t }
+    ensures { result ≡ leader (rank_told ranks.now) (stamp tasks.now) leading t }
 {
     match leading {
         None => t,
@@ -87,7 +87,7 @@ fn may_run_in_band(tasks: &[Task], c: u8, t: u8) -> bool
 #[tactic(auto, using(crate::proofs::Scans::scans))]
 pub fn best_of(c: u8, tasks: &[Task], ranks: &[u16]) -> Option<u8>
     requires { length tasks.now ≤ TASK_LIMIT }
-    ensures { result ≡ first (runs_oob c tasks.now) (told ranks.now) (stamp tasks.now) (length tasks.now) }
+    ensures { result ≡ first (runs_oob c tasks.now) (rank_told ranks.now) (stamp tasks.now) (length tasks.now) }
 {
     let mut leading = None;
     for t in 0..tasks.len() as u8 {

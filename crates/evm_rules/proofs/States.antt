@@ -13,7 +13,7 @@ use Rattle.evm_model.specs.Commands.{tick, set_bits, on_number, set_breakpoint, 
 use Rattle.evm_model.specs.Good.{Good, GoodState, AreLocks, IsOneOf, IsSettled, is_tick}
 use Rattle.evm_model.specs.Harts.{set_register, set_pc, first_hart}
 use Rattle.evm_model.specs.Instructions.{stop}
-use Rattle.evm_model.specs.Load.{bytes_from, load, start_loaded}
+use Rattle.evm_model.specs.Load.{bytes_from, load_board, start_loaded}
 use Rattle.evm_model.specs.Pipes.{Pipe, idle_pipe}
 use Rattle.evm_model.specs.Mutexes.{lock_at, owner_for}
 use Rattle.evm_model.specs.Ranks.{best, is_in_ready}
@@ -268,8 +268,8 @@ length-bytes_from byte address zero = refl
 length-bytes_from byte address (suc n) = ap suc (length-bytes_from byte (address + 1) n)
 
 -- and so is one into which an image was loaded, whose entry is a multiple of 4
-pub GoodState-load : (byte : ℕ → ℕ) (entry : ℕ) (s : State) → entry % 4 ≡ 0 → GoodState s → GoodState (record s { board = load byte entry s.board })
-unfolding load
+pub GoodState-load : (byte : ℕ → ℕ) (entry : ℕ) (s : State) → entry % 4 ≡ 0 → GoodState s → GoodState (record s { board = load_board byte entry s.board })
+unfolding load_board
 GoodState-load byte entry s e g = record {
   good = hart-good 0 (set_pc entry) s.board.parts (λ hart h. e) g.good;
   boot = g.boot;

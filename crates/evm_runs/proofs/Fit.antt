@@ -11,7 +11,7 @@ use Rattle.evm_model.specs.Commands.{tick, set_bits, on_number, set_breakpoint, 
 use Rattle.evm_model.specs.Good.{is_tick}
 use Rattle.evm_model.specs.Harts.{set_register, set_pc}
 use Rattle.evm_model.specs.Instructions.{stop}
-use Rattle.evm_model.specs.Load.{load, start_loaded}
+use Rattle.evm_model.specs.Load.{load_board, start_loaded}
 use Rattle.evm_model.specs.Pipes.{idle_pipe, no_counts, more_if}
 use Rattle.evm_model.specs.Replay.{bad_boot, bad_cpus, bad_ram, bad_capacity, start}
 use Rattle.evm_model.specs.Rows.{row, single_step}
@@ -140,7 +140,7 @@ unfolding booted booted_parts
 counts_always_fit boot good = counts_always_fit_fresh boot (start boot).board good (record { pipes = refl; ticks = refl })
 
 pub counts_always_fit_loaded : CountsAlwaysFitLoaded
-unfolding booted booted_parts load
+unfolding booted booted_parts load_board
 counts_always_fit_loaded byte entry boot good = counts_always_fit_fresh boot (start_loaded byte entry boot).board good (record { pipes = refl; ticks = refl })
 
 -- ---- how often mutexes are locked
@@ -170,5 +170,5 @@ unfolding booted booted_parts
 holds_always_fit boot = holds_always_fit_fresh boot (start boot).board (record { pipes = refl; ticks = refl }) refl
 
 pub holds_always_fit_loaded : HoldsAlwaysFitLoaded
-unfolding booted booted_parts load
+unfolding booted booted_parts load_board
 holds_always_fit_loaded byte entry boot = holds_always_fit_fresh boot (start_loaded byte entry boot).board (record { pipes = refl; ticks = refl }) refl

@@ -4,7 +4,7 @@ use Rattle.std.specs.Prelude.{replicate}
 use Rattle.std.proofs.lemmas.List.{length-set, length-replicate}
 use Rattle.evm_ram.specs.declared.ram.TheConstants.{BASE}
 use Rattle.evm_model.specs.Harts.{first_hart, set_pc}
-use Rattle.evm_model.specs.Load.{load, start_loaded}
+use Rattle.evm_model.specs.Load.{load_board, start_loaded}
 use Rattle.evm_model.specs.Pipes.{idle_pipe}
 use Rattle.evm_model.specs.Replay.{start, replay}
 use Rattle.evm_model.specs.Rows.{row}
@@ -79,7 +79,7 @@ as_booted boot = record {
 }
 
 as_loaded : (byte : ℕ → ℕ) (entry : ℕ) (boot : Boot) → IsAsBooted boot (start_loaded byte entry boot)
-unfolding booted booted_parts load
+unfolding booted booted_parts load_board
 as_loaded byte entry boot = record {
   boot_kept = refl;
   processors = length-set (replicate boot.cpus (first_processor None)) 0 (first_processor (Some 0)) ∙ length-replicate boot.cpus (first_processor None);

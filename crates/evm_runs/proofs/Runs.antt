@@ -5,7 +5,7 @@ use Rattle.std.proofs.lemmas.List.Sums.{sum_by-append}
 use Rattle.evm_lines.specs.Laws.{IsLineSet-empty}
 use Rattle.evm_lines.specs.declared.TheConstants.{LINES}
 use Rattle.evm_model.specs.Bounds.{PER_EVENT}
-use Rattle.evm_model.specs.Load.{start_loaded, load}
+use Rattle.evm_model.specs.Load.{start_loaded, load_board}
 use Rattle.evm_model.specs.Pipes.{Pipe, idle_pipe, no_counts, more_if}
 use Rattle.evm_model.specs.Replay.{start}
 use Rattle.evm_model.specs.State.{State, Parts, booted, booted_parts}
@@ -88,5 +88,5 @@ unfolding booted booted_parts
 always_balances boot = always_balances_fresh (start boot) (record { journal = refl; pipes = λ c p e. slice_get-replicate boot.cpus idle_pipe c p e })
 
 pub always_balances_loaded : AlwaysBalancesLoaded
-unfolding booted booted_parts load
+unfolding booted booted_parts load_board
 always_balances_loaded byte entry boot = always_balances_fresh (start_loaded byte entry boot) (record { journal = refl; pipes = λ c p e. slice_get-replicate boot.cpus idle_pipe c p e })

@@ -9,7 +9,7 @@ ghost use Rattle.evm_model.specs.Settle.{is_oob};
 ghost use Rattle.evm_model.specs.Stages.{is_attached_task};
 ghost use Rattle.evm_model.specs.State.{no_mode};
 ghost use Rattle.evm_model.specs.Tasks.{is_live};
-ghost use Rattle.evm_ready.specs.Told.{told};
+ghost use Rattle.evm_ready.specs.Told.{rank_told};
 
 use arrayvec::ArrayVec;
 use evm_model::{Class, Mode, TASK_LIMIT, Task, TaskState};
@@ -186,7 +186,7 @@ impl Tasks {
 
     /// The number of the out-of-band task that a processor should run, by the ranks told.
     pub fn best(&self, c: u8, ranks: &[u16]) -> Option<u8>
-        ensures { result ≡ first (runs_oob c self.now) (told ranks.now) (stamp self.now) (length self.now) }
+        ensures { result ≡ first (runs_oob c self.now) (rank_told ranks.now) (stamp self.now) (length self.now) }
     {
         best_of(c, self.tasks.as_slice(), ranks)
     }

@@ -2,7 +2,7 @@ ghost use Rattle.std.specs.Prelude.{◌≡◌, ◌≤◌, None, length, slice_se
 ghost use Rattle.evm_model.specs.Lists.{change};
 ghost use Rattle.evm_model.specs.Mutexes.{lock_of, waits_for};
 ghost use Rattle.evm_model.specs.Ranks.{first, stamp};
-ghost use Rattle.evm_ready.specs.Told.{told};
+ghost use Rattle.evm_ready.specs.Told.{rank_told};
 
 use evm_model::{TASK_LIMIT, Task, TaskState, Wait};
 use evm_ready::leader_of;
@@ -56,7 +56,7 @@ fn waits_for(tasks: &[Task], m: u8, t: u8) -> bool
 #[tactic(auto, using(evm_ready::proofs::Scans::scans))]
 pub fn first(m: u8, tasks: &[Task], ranks: &[u16]) -> Option<u8>
     requires { length tasks.now ≤ TASK_LIMIT }
-    ensures { result ≡ first (waits_for m tasks.now) (told ranks.now) (stamp tasks.now) (length tasks.now) }
+    ensures { result ≡ first (waits_for m tasks.now) (rank_told ranks.now) (stamp tasks.now) (length tasks.now) }
 {
     let mut leading = None;
     for t in 0..tasks.len() as u8 {
