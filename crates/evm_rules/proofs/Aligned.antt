@@ -3,7 +3,7 @@ use Rattle.std.proofs.Common.{◌≡◌, ℕ, ◌+◌, ◌%◌, ◌^◌, List, B
 use Rattle.std.specs.Prelude.{◌==◌, if◌then◌else◌}
 use Rattle.evm_isa.specs.declared.inst.Inst.{Inst}
 use Rattle.evm_isa.specs.declared.inst.Inst.TheVariants.{Lui, Auipc, Jal, Jalr, Branch, Load, Store, Immediate, Shift, Register, Word, Fence, Ecall, Ebreak}
-use Rattle.evm_exec.specs.Does.{does, arrive, branch}
+use Rattle.evm_exec.specs.Does.{does, jump_to, branch_if}
 use Rattle.evm_exec.specs.Registers.{register_of}
 use Rattle.evm_exec.specs.Values.{sum, taken}
 use Rattle.evm_exec.specs.declared.outcome.Effect.{Effect}
@@ -22,10 +22,10 @@ arrive-if : (rd value target : ℕ) (b : Bool) → (target % 4 == 0) ≡ b → I
 arrive-if rd value target true e = eqb-is (target % 4) 0 e
 arrive-if rd value target false e = tt
 
-arrive-aligned : (rd value target : ℕ) → IsAligned (arrive rd value target)
+arrive-aligned : (rd value target : ℕ) → IsAligned (jump_to rd value target)
 arrive-aligned rd value target = arrive-if rd value target (target % 4 == 0) refl
 
-branch-aligned : (b : Bool) (target pc : ℕ) → pc % 4 ≡ 0 → IsAligned (branch b target pc)
+branch-aligned : (b : Bool) (target pc : ℕ) → pc % 4 ≡ 0 → IsAligned (branch_if b target pc)
 branch-aligned true target pc h = arrive-aligned 0 0 target
 branch-aligned false target pc h = next-aligned pc h
 
