@@ -57,6 +57,6 @@ impl Board {
     pub(crate) fn unset_breakpoint(&mut self, address: u64)
         ensures { self.new ≡ unset_breakpoint address self.old }
     {
-        self.breakpoints = self.breakpoints.without(address);
+        self.breakpoints.remove(address);
     }
 }

@@ -7,9 +7,9 @@ use crate::memory::{load_width, store_width, stored};
 use crate::outcome::{Access, Direction, Effect};
 use evm_isa::{Inst, Register};
 
-// x0, which stands for no register.
+/// x0, which stands for no register.
 #[inline(always)]
-fn no_register() -> Register
+pub fn no_register() -> Register
     ensures { result ≡ 0 }
 {
     match Register::new(0) {
@@ -18,9 +18,9 @@ fn no_register() -> Register
     }
 }
 
-// rd gets the value, and the pc moves on.
+/// rd gets the value, and the pc moves on.
 #[inline(always)]
-fn move_on(rd: Register, value: u64, pc: u64) -> Effect
+pub fn move_on(rd: Register, value: u64, pc: u64) -> Effect
     ensures { result ≡ proceed rd value pc }
 {
     Effect::Next {
@@ -30,9 +30,9 @@ fn move_on(rd: Register, value: u64, pc: u64) -> Effect
     }
 }
 
-// A jump to the target, with the value in rd.
+/// A jump to the target, with the value in rd.
 #[inline(always)]
-fn go_to(rd: Register, value: u64, target: u64) -> Effect
+pub fn go_to(rd: Register, value: u64, target: u64) -> Effect
     ensures { result ≡ jump_to rd value target }
 {
     if target % 4 == 0 {
@@ -46,9 +46,9 @@ fn go_to(rd: Register, value: u64, target: u64) -> Effect
     }
 }
 
-// A branch to the target, if it is taken.
+/// A branch to the target, if it is taken.
 #[inline(always)]
-fn branch_to(is_taken: bool, target: u64, pc: u64) -> Effect
+pub fn branch_to(is_taken: bool, target: u64, pc: u64) -> Effect
     ensures { result ≡ branch_if is_taken target pc }
 {
     if is_taken {

@@ -63,14 +63,13 @@ impl Ram {
         ensures { result ≡ (if is_inside self.now address count then Some (address - BASE) else None) }
     {
         let size = self.size();
-        if address < BASE {
+        let offset = address.wrapping_sub(BASE);
+        if count > size {
             None
-        } else if count > size {
-            None
-        } else if address - BASE > size - count {
+        } else if offset > size - count {
             None
         } else {
-            Some((address - BASE) as usize)
+            Some(offset as usize)
         }
     }
 

@@ -1,6 +1,9 @@
 ghost use Rattle.std.specs.Prelude.{◌≡◌, ◌<◌, ◌∷◌, ◌++◌, [], length, slice_get, option_copied};
 ghost use Rattle.evm_model.specs.Harts.{A0, set_register, set_pc, advance, answer, spawned_hart};
 ghost use Rattle.evm_task.specs.Asks.{Asks};
+ghost use Rattle.evm_task.specs.Lending.{lends_hart};
+ghost use Rattle.std.specs.Borrow.{sem};
+ghost use Rattle.std.specs.Option.{option_copied_mut};
 ghost use Rattle.evm_model.specs.Lists.{change};
 
 use arrayvec::ArrayVec;
@@ -52,6 +55,15 @@ impl Harts {
         ensures { option_copied result ≡ slice_get self.now t }
     {
         self.harts.as_slice().get(t as usize)
+    }
+
+    /// The registers and pc of a task, to be changed in place.
+    #[inline(always)]
+    pub fn get_mut(&mut self, t: u8) -> Option<&mut Hart>
+        ensures* writes_back { sem 𝓛 (lends_hart self.entry t result) }
+        ensures value { option_copied_mut result ≡ slice_get self.old t }
+    {
+        self.harts.get_mut(t as usize)
     }
 
     /// A task has other registers and another pc.
