@@ -66,15 +66,6 @@ impl Harts {
         self.harts.get_mut(t as usize)
     }
 
-    /// A task has other registers and another pc.
-    pub fn put(&mut self, t: u8, hart: Hart)
-        ensures { self.new ≡ change (λ _. hart) self.old t }
-    {
-        if let Some(old) = self.harts.get_mut(t as usize) {
-            *old = hart;
-        }
-    }
-
     /// One more, the last: all registers are 0 but a0, and the pc is this.
     pub fn push_spawned(&mut self, entry: u64, value: u64)
         requires { length self.old < TASK_LIMIT }
