@@ -32,7 +32,8 @@ use Rattle.evm_model.proofs.Lists.{change-elsewhere, length-change, slice_get-be
 use Rattle.evm_runs.specs.Changes.{Adds, Added}
 use Rattle.evm_runs.proofs.Acts.{Acts, acts_own, acts_none, either}
 use Rattle.evm_runs.proofs.Added.{added_kept}
-use Rattle.evm_runs.proofs.Frames.{Keeps, passes_second, frame_then, frame_hart, frame_add, keeps_advance, keeps_answer}
+use Rattle.evm_runs.proofs.Frames.{Keeps, passes_second, frame_then, keeps_advance, keeps_answer}
+use Rattle.evm_runs.proofs.PartFrames.{frame_hart, frame_add}
 use Rattle.evm_runs.proofs.Locking.{makes, locks, tries, unlocks}
 use Rattle.evm_runs.proofs.Own.{Own, own_then, own_restamp, own_clear, own_policy, own_mode, own_pipe, own_leave, own_wait, own_promote, own_demote, demote-elsewhere, demote-harts, demote-mutexes}
 use Rattle.evm_runs.proofs.Passing.{own_end}

@@ -7,10 +7,12 @@ pub mod Commands
 pub mod First
 pub mod Fit
 pub mod Frames
+pub mod Instructions
 pub mod Kept
 pub mod Least
 pub mod Locking
 pub mod Own
+pub mod PartFrames
 pub mod Passing
 pub mod Raised
 pub mod Replays

@@ -14,7 +14,8 @@ use Rattle.evm_model.specs.declared.task.Task.{Task}
 use Rattle.evm_model.specs.declared.task.TaskState.{TaskState}
 use Rattle.evm_model.specs.declared.task.TaskState.TheVariants.{InReady, OobReady}
 use Rattle.evm_model.proofs.Lists.{change-here, change-elsewhere}
-use Rattle.evm_runs.proofs.Frames.{Frame, Keeps, Still, PassesOld, passes_second, frame_none, frame_then, frame_hart, frame_task, frame_restamp, frame_processor, frame_pipe, frame_mutex, still_none, still_then, still_hart, still_task, still_restamp, still_processor, still_pipe, still_mutex}
+use Rattle.evm_runs.proofs.Frames.{Frame, Keeps, Still, PassesOld, passes_second, frame_none, frame_then, still_none, still_then}
+use Rattle.evm_runs.proofs.PartFrames.{frame_hart, frame_task, frame_restamp, frame_processor, frame_pipe, frame_mutex, still_hart, still_task, still_restamp, still_processor, still_pipe, still_mutex}
 
 pub record Own (c t : ℕ) (old new : Parts) : Type 0 where
   pub frame : Frame c (Some t) old new

@@ -23,7 +23,8 @@ use Rattle.evm_model.specs.declared.task.Wait.TheVariants.{Lock}
 use Rattle.evm_model.proofs.Lists.{change-here, change-elsewhere}
 use Rattle.evm_runs.specs.Changes.{Rests, Inherits}
 use Rattle.evm_runs.proofs.First.{always_finds_first}
-use Rattle.evm_runs.proofs.Frames.{Frame, Still, PassesOld, frame_mutex, keeps_register, change-registers, still_then, still_hart, still_state, still_restamp, still_mutex}
+use Rattle.evm_runs.proofs.Frames.{Frame, Still, PassesOld, keeps_register, change-registers, still_then}
+use Rattle.evm_runs.proofs.PartFrames.{frame_mutex, still_hart, still_state, still_restamp, still_mutex}
 use Rattle.evm_runs.proofs.Own.{Own, own_none, own_passes, own_then, own_pipe, own_leave, own_state, own_mutex}
 
 -- ---- the first waiter

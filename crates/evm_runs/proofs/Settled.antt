@@ -10,7 +10,8 @@ use Rattle.evm_model.specs.declared.task.Task.{Task}
 use Rattle.evm_model.specs.declared.task.TaskState.TheVariants.{OobReady, Waits}
 use Rattle.evm_model.specs.declared.task.Wait.TheVariants.{Line}
 use Rattle.evm_runs.specs.Changes.{StaysBy, Spends}
-use Rattle.evm_runs.proofs.Frames.{Frame, Still, passes_none, frame_none, frame_then, frame_if, frame_processor, frame_pipe, still_none, still_then, still_if, still_processor, still_pipe}
+use Rattle.evm_runs.proofs.Frames.{Frame, Still, passes_none, frame_none, frame_then, frame_if, still_none, still_then, still_if}
+use Rattle.evm_runs.proofs.PartFrames.{frame_processor, frame_pipe, still_processor, still_pipe}
 use Rattle.evm_runs.proofs.Spending.{Spent, spent_none, spent_lines}
 use Rattle.evm_runs.proofs.Wakings.{frame_wakes, still_wakes, wakes_mutexes}
 

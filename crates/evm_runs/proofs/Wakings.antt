@@ -15,7 +15,8 @@ use Rattle.evm_model.specs.declared.task.TaskState.TheVariants.{InReady, Waits}
 use Rattle.evm_model.specs.declared.task.Wait.TheVariants.{Line}
 use Rattle.evm_model.proofs.Lists.{change-here, change-elsewhere}
 use Rattle.evm_runs.specs.Changes.{Rests, Wakes}
-use Rattle.evm_runs.proofs.Frames.{Frame, Still, passes_second, passes_none, frame_none, frame_then, frame_hart, frame_state, frame_restamp, keeps_register, still_none, still_then, still_if, still_hart, still_state, still_restamp}
+use Rattle.evm_runs.proofs.Frames.{Frame, Still, passes_second, passes_none, frame_none, frame_then, keeps_register, still_none, still_then, still_if}
+use Rattle.evm_runs.proofs.PartFrames.{frame_hart, frame_state, frame_restamp, still_hart, still_state, still_restamp}
 
 record Waited (c l t : ℕ) (k : Parts) : Type 0 where
   task : Task
