@@ -6,22 +6,20 @@ use Rattle.std.specs.Str.{bytes_eq}
 use Rattle.std.proofs.lemmas.Slice.Eq.{bytes_eq-Decides}
 use Rattle.evm_words.specs.Characters.{colon}
 use Rattle.evm_words.specs.declared.fault.AsmFaultKind.{AsmFaultKind}
-use Rattle.evm_statement.specs.declared.spot.Spot.{Spot}
-use Rattle.evm_asm.specs.declared.place.Place.{Place}
 use Rattle.evm_words.specs.Text.{before, after, has}
 use Rattle.evm_words.specs.Names.{named}
+use Rattle.evm_statement.specs.declared.spot.Spot.{Spot}
 use Rattle.evm_statement.specs.Operands.{Spots, name_in}
+use Rattle.evm_asm.specs.declared.place.Place.{Place}
 use Rattle.evm_asm.specs.Places.{here}
 use Rattle.evm_asm.specs.Sources.{source_lines, code_of, label_at, behind_labels, Defined, with_label, defined, outcome, measured, line_defined, line_laid, Laid, nothing_laid, with_line_laid, laid, statement_text}
 use Rattle.evm_asm.specs.Items.{address, and_then, layout_of, meaning_of}
 use Rattle.evm_asm.specs.Programs.{nothing_spelled, spelled}
 use Rattle.evm_asm.specs.Assembled.{Assembled, assembled, program_of}
 use Rattle.evm_asm.specs.Sizes.{size_of_text, place_before, HasLabel}
-use Rattle.evm_asm.proofs.Addressed.{named-addressed}
-use Rattle.evm_asm.proofs.Ignored.{none_ignored}
-use Rattle.evm_asm.proofs.Lines.{after-shorter}
-use Rattle.evm_asm.proofs.Worded.{and_then_ok, same_program}
-use Rattle.evm_asm.proofs.Walked.{laid-append, lines_none, line_none, place_is}
+use Rattle.evm_asm.proofs.Line_by_line.{named-addressed, after-shorter, behind_labels-none, one_label, one_defined}
+use Rattle.evm_asm.proofs.Placed_where_laid.{none_ignored, laid-append, lines_none, line_none, place_is}
+use Rattle.evm_asm.proofs.Results.{and_then_ok, same_program}
 
 bytes_eq_self : (xs : List ℕ) → bytes_eq xs xs ≡ true
 bytes_eq_self xs = (bytes_eq-Decides xs xs).1 refl
@@ -66,15 +64,6 @@ behind_zero : (text : List ℕ) → behind_labels 0 text ≡ text
 unfolding behind_labels
 behind_zero text = refl
 
-behind_none : (j : ℕ) (text : List ℕ) → label_at text ≡ None → behind_labels j text ≡ text
-unfolding behind_labels
-behind_none zero text h = refl
-behind_none (suc j) text h = ap (λ (o : Option (List ℕ × List ℕ)). elim o as (λ _. List ℕ) [ None ↦ text | Some label ↦ behind_labels j label.1 ]) h
-
-behind_some : (j : ℕ) (text : List ℕ) (label : List ℕ × List ℕ) → label_at text ≡ Some label → behind_labels (suc j) text ≡ behind_labels j label.1
-unfolding behind_labels
-behind_some j text label h = ap (λ (o : Option (List ℕ × List ℕ)). elim o as (λ _. List ℕ) [ None ↦ text | Some label ↦ behind_labels j label.1 ]) h
-
 same_name : (label : List ℕ × List ℕ) (name rest : List ℕ) → ◌≡◌ {A = Option (List ℕ × List ℕ)} (Some label) (Some (name, rest)) → label.0 ≡ name
 same_name label name rest h = let e : ◌≡◌ {A = List ℕ × List ℕ} label (name, rest) = cc in ap (λ (l : List ℕ × List ℕ). l.0) e
 
@@ -99,17 +88,13 @@ module _ (spot : Spot) where
   once zero text d h = h
   once (suc m) text d h = once_by m d (label_at text) (λ t e k. once m t e k) h
 
-  defined_next : (m : ℕ) (text : List ℕ) (d : Defined) (label : List ℕ × List ℕ) → label_at text ≡ Some label → defined (suc m) spot text d ≡ defined m spot label.1 (with_label spot label.0 d)
-  unfolding defined
-  defined_next m text d label h = ap (λ (o : Option (List ℕ × List ℕ)). elim o as (λ _. Defined) [ None ↦ d | Some label ↦ defined m spot label.1 (with_label spot label.0 d) ]) h
-
   -- label j of a text is found, if none comes twice
   found : (m j : ℕ) (text : List ℕ) (d : Defined) (o : Option (List ℕ × List ℕ)) (name rest : List ℕ) → label_at text ≡ o → j < m → label_at (behind_labels j text) ≡ Some (name, rest)
       → (defined m spot text d).twice ≡ false → named (defined m spot text d).labels name ≡ Some spot
   found zero j text d o name rest e less h clean = absurd (omega arith)
-  found (suc m) j text d None name rest e less h clean = let same : label_at text ≡ Some (name, rest) = ap (λ (t : List ℕ). label_at t) (sym (behind_none j text e)) ∙ h in cc
+  found (suc m) j text d None name rest e less h clean = let same : label_at text ≡ Some (name, rest) = ap (λ (t : List ℕ). label_at t) (sym (behind_labels-none j text e)) ∙ h in cc
   found (suc m) zero text d (Some label) name rest e less h clean =
-      let next = defined_next m text d label e in
+      let next = one_defined m spot text label.0 label.1 d e in
       let with : Defined = with_label spot label.0 d in
       let clean' : (defined m spot label.1 with).twice ≡ false = ap (λ (x : Defined). x.twice) (sym next) ∙ clean in
       let first : label_at text ≡ Some (name, rest) = ap (λ (t : List ℕ). label_at t) (sym (behind_zero text)) ∙ h in
@@ -118,10 +103,10 @@ module _ (spot : Spot) where
       ∙ subst (λ (q : List ℕ). named (defined m spot label.1 with).labels q ≡ Some spot) name_is
       (keeps m label.1 with label.0 spot (label_new label.0 spot d (once m label.1 with clean')).0)
   found (suc m) (suc j) text d (Some label) name rest e less h clean =
-      let next = defined_next m text d label e in
+      let next = one_defined m spot text label.0 label.1 d e in
       let with : Defined = with_label spot label.0 d in
       let clean' : (defined m spot label.1 with).twice ≡ false = ap (λ (x : Defined). x.twice) (sym next) ∙ clean in
-      let later : label_at (behind_labels j label.1) ≡ Some (name, rest) = ap (λ (t : List ℕ). label_at t) (sym (behind_some j text label e)) ∙ h in
+      let later : label_at (behind_labels j label.1) ≡ Some (name, rest) = ap (λ (t : List ℕ). label_at t) (sym (one_label j text label.0 label.1 e)) ∙ h in
       ap (λ (x : Defined). named x.labels name) next ∙ found m j label.1 with (label_at label.1) name rest refl (omega arith) later clean'
 
 no_label : label_at [] ≡ None
@@ -144,13 +129,13 @@ shorter (b ∷ bs) label h = let k = shorter_by (has colon (b ∷ bs)) (name_in 
 -- a text has fewer labels at its front than bytes
 few : (j : ℕ) (text : List ℕ) (o : Option (List ℕ × List ℕ)) (label : List ℕ × List ℕ) → label_at text ≡ o → label_at (behind_labels j text) ≡ Some label → j < length text
 few zero text o label e h = let k = shorter text label (ap (λ (t : List ℕ). label_at t) (sym (behind_zero text)) ∙ h) in omega arith
-few (suc j) text None label e h = let same : label_at text ≡ Some label = ap (λ (t : List ℕ). label_at t) (sym (behind_none (suc j) text e)) ∙ h in cc
+few (suc j) text None label e h = let same : label_at text ≡ Some label = ap (λ (t : List ℕ). label_at t) (sym (behind_labels-none (suc j) text e)) ∙ h in cc
 few (suc j) text (Some first) label e h =
     let less = shorter text first e in
-    let others = few j first.1 (label_at first.1) label refl (ap (λ (t : List ℕ). label_at t) (sym (behind_some j text first e)) ∙ h) in
+    let others = few j first.1 (label_at first.1) label refl (ap (λ (t : List ℕ). label_at t) (sym (one_label j text first.0 first.1 e)) ∙ h) in
     omega arith
 
-once_told : (place : Place) (twice : Bool) (r : Result Place AsmFaultKind) → (outcome place twice r).1 ≡ None → twice ≡ false
+pub once_told : (place : Place) (twice : Bool) (r : Result Place AsmFaultKind) → (outcome place twice r).1 ≡ None → twice ≡ false
 once_told place false r h = refl
 once_told place true (Ok next) h = cc
 once_told place true (Err kind) h = cc

@@ -5,20 +5,17 @@ use Rattle.evm_words.specs.declared.fault.AsmFaultKind.{AsmFaultKind}
 use Rattle.evm_words.specs.declared.fault.AsmFaultKind.TheVariants.{BadToken, UnknownName, BadOperand, RangeOfImmediate, LabelTwice, LabelMissing, TooLarge, NoMemory}
 use Rattle.evm_words.specs.declared.mnemonic.Width.{Width}
 use Rattle.evm_words.specs.declared.mnemonic.Mnemonic.{Mnemonic}
-use Rattle.evm_words.specs.declared.mnemonic.Mnemonic.TheVariants as names
 use Rattle.evm_words.specs.declared.mnemonic.Section.{Section as Part}
 use Rattle.evm_words.specs.Faults.{kind_number, ◌>>=◌}
 use Rattle.evm_words.specs.Text.{skip_blanks, first_word, starts_with, is_name_start, is_empty, is_sound}
 use Rattle.evm_words.specs.Names.{mnemonic_named}
 use Rattle.evm_statement.specs.declared.statement.Datum.{Datum}
-use Rattle.evm_statement.specs.declared.statement.Datum.TheVariants as datum
 use Rattle.evm_statement.specs.declared.statement.Statement.{Statement}
 use Rattle.evm_statement.specs.declared.statement.Statement.TheVariants.{Nothing, Branch, Jump, LoadAddress, Section, Numbers}
 use Rattle.evm_statement.specs.Operands.{Spots, first_operand, other_operands, how_many, datum_in}
 use Rattle.evm_statement.specs.Forms.{Values, Form, Each, Many, form}
 use Rattle.evm_statement.specs.Statements.{Reading, all_operands_in, also, with_data, said, statement_of}
 use Rattle.evm_asm.specs.declared.place.Place.{Place}
-use Rattle.evm_asm.specs.declared.item.Item.TheVariants as item
 use Rattle.evm_asm.specs.declared.item.Expansion.{Expansion}
 use Rattle.evm_asm.specs.declared.item.Placed.{Placed}
 use Rattle.evm_asm.specs.Places.{grown, place_behind, placed, of_mnemonic, statement_in}
@@ -26,11 +23,13 @@ use Rattle.evm_asm.specs.Sources.{Laid, nothing_laid, laid, outcome, measured, l
 use Rattle.evm_asm.specs.Items.{text_base, address, distance, load_address, expanded, with_item, with_instructions, value_of, value_in, number_pushed, with_numbers, operands, with_statement, statement_meant, line_meant, layout_of}
 use Rattle.evm_asm.specs.Least.{fault_in, lesser, line_fault, fault_at, IsFirstFault}
 use Rattle.evm_asm.specs.HasFault.{SomeOperand, text_behind_labels, IsFar, LacksLabel, Said, IsWrong, HasFault, IsLeastOfFirst, RefusedWithTheLeast}
-use Rattle.evm_asm.proofs.Alike.{measured_alike}
-use Rattle.evm_asm.proofs.Instructions_in_text.{also_ok}
+use Rattle.evm_asm.proofs.Statements_without_labels.{measured_alike, also_ok}
 use Rattle.evm_asm.proofs.Operand_faults.{IsLeast, same_least, either_least}
-use Rattle.evm_asm.proofs.Refusals.{refused_with_the_first}
+use Rattle.evm_asm.proofs.First_fault_told.{refused_with_the_first}
 use Rattle.evm_asm.proofs.Reading_faults.{ReadingFault, reading_least}
+use Rattle.evm_words.specs.declared.mnemonic.Mnemonic.TheVariants as names
+use Rattle.evm_statement.specs.declared.statement.Datum.TheVariants as datum
+use Rattle.evm_asm.specs.declared.item.Item.TheVariants as item
 
 -- ---- the labels and the size of a statement that is read
 
