@@ -13,5 +13,5 @@ pub mod Labels_found
 pub mod Source_order
 pub mod First_fault_told
 pub mod Operand_faults
-pub mod Reading_faults
+pub mod Statement_faults
 pub mod Line_faults
