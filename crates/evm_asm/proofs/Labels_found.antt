@@ -20,7 +20,7 @@ use Rattle.evm_asm.specs.Sizes.{size_of_text, place_before, HasLabel, labels_at,
 use Rattle.evm_asm.proofs.Line_by_line.{named-addressed, after-shorter, behind_labels-none, one_label, one_defined}
 use Rattle.evm_asm.proofs.Placed_where_laid.{none_ignored, laid-append, lines_none, line_none, place_is}
 use Rattle.evm_asm.proofs.Results.{and_then_ok, same_program}
-use Rattle.evm_asm.specs.HasFault.{IsOneOf, SomeTwice, HasLabelTwice}
+use Rattle.evm_asm.specs.HasFault.{StandsAmong, SomeTwice, HasLabelTwice}
 use Rattle.std.proofs.lemmas.List.{append-nil}
 
 bytes_eq_self : (xs : List ℕ) → bytes_eq xs xs ≡ true
@@ -187,15 +187,15 @@ labels_found source p h n name has =
 
 -- ---- labels that stand twice
 
-one_of_more : (name : List ℕ) (xs ys : List (List ℕ)) → IsOneOf name xs → IsOneOf name (xs ++ ys)
+one_of_more : (name : List ℕ) (xs ys : List (List ℕ)) → StandsAmong name xs → StandsAmong name (xs ++ ys)
 one_of_more name [] ys h = absurd h
 one_of_more name (x ∷ xs) ys h = ⊎_elim (λ e. inl e) (λ k. inr (one_of_more name xs ys k)) h
 
-one_of_last : (name : List ℕ) (xs : List (List ℕ)) → IsOneOf name (xs ++ name ∷ [])
+one_of_last : (name : List ℕ) (xs : List (List ℕ)) → StandsAmong name (xs ++ name ∷ [])
 one_of_last name [] = inl refl
 one_of_last name (x ∷ xs) = inr (one_of_last name xs)
 
-one_of_either : (name : List ℕ) (xs : List (List ℕ)) (y : List ℕ) → IsOneOf name (xs ++ y ∷ []) → IsOneOf name xs ⊎ (name ≡ y)
+one_of_either : (name : List ℕ) (xs : List (List ℕ)) (y : List ℕ) → StandsAmong name (xs ++ y ∷ []) → StandsAmong name xs ⊎ (name ≡ y)
 one_of_either name [] y h = ⊎_elim (λ e. inr e) (λ k. absurd k) h
 one_of_either name (x ∷ xs) y h = ⊎_elim (λ e. inl (inl e)) (λ k. ⊎_elim (λ a. inl (inr a)) (λ b. inr b) (one_of_either name xs y k)) h
 
@@ -232,8 +232,8 @@ knows_either (x ∷ xs) other v name h = by (bytes_eq name x.0) (λ k. knows_eit
 
 -- the labels have these names
 record HasNames (labels : Spots) (names : List (List ℕ)) : Type 0 where
-  pub to : (name : List ℕ) → Knows labels name → IsOneOf name names
-  pub from : (name : List ℕ) → IsOneOf name names → Knows labels name
+  pub to : (name : List ℕ) → Knows labels name → StandsAmong name names
+  pub from : (name : List ℕ) → StandsAmong name names → Knows labels name
 
 label_named_by : (spot : Spot) (name : List ℕ) (d : Defined) (names : List (List ℕ)) (t : Bool) → is_some (named d.labels name) ≡ t → HasNames d.labels names
     → HasNames (cond {A = Defined} t (record { labels = d.labels; twice = true }) (record { labels = d.labels ++ (name, spot) ∷ []; twice = d.twice })).labels (names ++ name ∷ [])
@@ -243,7 +243,7 @@ label_named_by spot name d names true e h = record {
 }
 label_named_by spot name d names false e h = record {
   to = λ q k. ⊎_elim (λ x. one_of_more q names (name ∷ []) (h.to q x))
-      (λ same. subst (λ (n : List ℕ). IsOneOf n (names ++ name ∷ [])) (sym same) (one_of_last name names)) (knows_either d.labels name spot q k);
+      (λ same. subst (λ (n : List ℕ). StandsAmong n (names ++ name ∷ [])) (sym same) (one_of_last name names)) (knows_either d.labels name spot q k);
   from = λ q k. ⊎_elim (λ x. knows_more d.labels ((name, spot) ∷ []) q (h.from q x))
       (λ same. subst (λ (n : List ℕ). Knows (d.labels ++ (name, spot) ∷ []) n) (sym same) (knows_last d.labels name spot)) (one_of_either q names name k);
 }

@@ -148,15 +148,15 @@ IsFar text_size from (Branch op rs1 rs2 (Some spot)) = IsBeyond 4096 4094 from (
 IsFar text_size from (Jump rd (Some spot)) = IsBeyond 1048576 1048574 from (address text_size spot)
 IsFar text_size from statement = ⊥
 
--- a name is one of these
-abbrev pub IsOneOf : List ℕ → List (List ℕ) → Type 0
-IsOneOf name [] = ⊥
-IsOneOf name (other ∷ names) = (name ≡ other) ⊎ IsOneOf name names
+-- a name stands among these
+abbrev pub StandsAmong : List ℕ → List (List ℕ) → Type 0
+StandsAmong name [] = ⊥
+StandsAmong name (other ∷ names) = (name ≡ other) ⊎ StandsAmong name names
 
 -- one of these names is among those before it: the earlier ones, or those in front of it here
 abbrev pub SomeTwice : List (List ℕ) → List (List ℕ) → Type 0
 SomeTwice earlier [] = ⊥
-SomeTwice earlier (name ∷ names) = IsOneOf name earlier ⊎ SomeTwice (earlier ++ name ∷ []) names
+SomeTwice earlier (name ∷ names) = StandsAmong name earlier ⊎ SomeTwice (earlier ++ name ∷ []) names
 
 -- A label of the line is a label of an earlier line too, or stands in this one before.
 abbrev pub HasLabelTwice : List (List ℕ) → List ℕ → Type 0
