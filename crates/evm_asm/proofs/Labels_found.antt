@@ -1,27 +1,27 @@
--- A label at the front of a line is found, with the place before the line's statement.
-use Rattle.std.proofs.Common.{◌≡◌, ◌∙◌, ℕ, zero, suc, ◌+◌, ◌-◌, ◌<◌, ◌≤◌, Bool, true, false, cond, List, [], ◌∷◌, ◌++◌, length, Option, Some, None, is_some, Result, Ok, Err, ap, refl, sym, subst, arith}
+-- A label at the front of a line is found, with the place before the line's statement, or stands twice.
+use Rattle.std.proofs.Common.{◌≡◌, ◌∙◌, ℕ, zero, suc, ◌+◌, ◌-◌, ◌<◌, ◌≤◌, Bool, true, false, cond, List, [], ◌∷◌, ◌++◌, length, Option, Some, None, is_some, Result, Ok, Err, ap, refl, sym, subst, arith, ⊎_elim, inl, inr, ◌⊎◌, append_assoc}
 use Rattle.std.specs.List.{slice_get}
 use Rattle.std.specs.Option.{option_map}
 use Rattle.std.specs.Str.{bytes_eq}
 use Rattle.std.proofs.lemmas.Slice.Eq.{bytes_eq-Decides}
 use Rattle.evm_words.specs.Characters.{colon}
 use Rattle.evm_words.specs.declared.fault.AsmFaultKind.{AsmFaultKind}
-use Rattle.evm_statement.specs.declared.spot.Spot.{Spot}
-use Rattle.evm_asm.specs.declared.place.Place.{Place}
 use Rattle.evm_words.specs.Text.{before, after, has}
 use Rattle.evm_words.specs.Names.{named}
+use Rattle.evm_statement.specs.declared.spot.Spot.{Spot}
 use Rattle.evm_statement.specs.Operands.{Spots, name_in}
+use Rattle.evm_asm.specs.declared.place.Place.{Place}
 use Rattle.evm_asm.specs.Places.{here}
 use Rattle.evm_asm.specs.Sources.{source_lines, code_of, label_at, behind_labels, Defined, with_label, defined, outcome, measured, line_defined, line_laid, Laid, nothing_laid, with_line_laid, laid, statement_text}
 use Rattle.evm_asm.specs.Items.{address, and_then, layout_of, meaning_of}
 use Rattle.evm_asm.specs.Programs.{nothing_spelled, spelled}
 use Rattle.evm_asm.specs.Assembled.{Assembled, assembled, program_of}
-use Rattle.evm_asm.specs.Sizes.{size_of_text, place_before, HasLabel}
-use Rattle.evm_asm.proofs.Addressed.{named-addressed}
-use Rattle.evm_asm.proofs.Ignored.{none_ignored}
-use Rattle.evm_asm.proofs.Lines.{after-shorter}
-use Rattle.evm_asm.proofs.Worded.{and_then_ok, same_program}
-use Rattle.evm_asm.proofs.Walked.{laid-append, lines_none, line_none, place_is}
+use Rattle.evm_asm.specs.Sizes.{size_of_text, place_before, HasLabel, labels_at, labels_of}
+use Rattle.evm_asm.proofs.Line_by_line.{named-addressed, after-shorter, behind_labels-none, one_label, one_defined}
+use Rattle.evm_asm.proofs.Placed_where_laid.{none_ignored, laid-append, lines_none, line_none, place_is}
+use Rattle.evm_asm.proofs.Results.{and_then_ok, same_program}
+use Rattle.evm_asm.specs.HasFault.{StandsAmong, SomeTwice, HasLabelTwice}
+use Rattle.std.proofs.lemmas.List.{append-nil}
 
 bytes_eq_self : (xs : List ℕ) → bytes_eq xs xs ≡ true
 bytes_eq_self xs = (bytes_eq-Decides xs xs).1 refl
@@ -66,15 +66,6 @@ behind_zero : (text : List ℕ) → behind_labels 0 text ≡ text
 unfolding behind_labels
 behind_zero text = refl
 
-behind_none : (j : ℕ) (text : List ℕ) → label_at text ≡ None → behind_labels j text ≡ text
-unfolding behind_labels
-behind_none zero text h = refl
-behind_none (suc j) text h = ap (λ (o : Option (List ℕ × List ℕ)). elim o as (λ _. List ℕ) [ None ↦ text | Some label ↦ behind_labels j label.1 ]) h
-
-behind_some : (j : ℕ) (text : List ℕ) (label : List ℕ × List ℕ) → label_at text ≡ Some label → behind_labels (suc j) text ≡ behind_labels j label.1
-unfolding behind_labels
-behind_some j text label h = ap (λ (o : Option (List ℕ × List ℕ)). elim o as (λ _. List ℕ) [ None ↦ text | Some label ↦ behind_labels j label.1 ]) h
-
 same_name : (label : List ℕ × List ℕ) (name rest : List ℕ) → ◌≡◌ {A = Option (List ℕ × List ℕ)} (Some label) (Some (name, rest)) → label.0 ≡ name
 same_name label name rest h = let e : ◌≡◌ {A = List ℕ × List ℕ} label (name, rest) = cc in ap (λ (l : List ℕ × List ℕ). l.0) e
 
@@ -99,17 +90,13 @@ module _ (spot : Spot) where
   once zero text d h = h
   once (suc m) text d h = once_by m d (label_at text) (λ t e k. once m t e k) h
 
-  defined_next : (m : ℕ) (text : List ℕ) (d : Defined) (label : List ℕ × List ℕ) → label_at text ≡ Some label → defined (suc m) spot text d ≡ defined m spot label.1 (with_label spot label.0 d)
-  unfolding defined
-  defined_next m text d label h = ap (λ (o : Option (List ℕ × List ℕ)). elim o as (λ _. Defined) [ None ↦ d | Some label ↦ defined m spot label.1 (with_label spot label.0 d) ]) h
-
   -- label j of a text is found, if none comes twice
   found : (m j : ℕ) (text : List ℕ) (d : Defined) (o : Option (List ℕ × List ℕ)) (name rest : List ℕ) → label_at text ≡ o → j < m → label_at (behind_labels j text) ≡ Some (name, rest)
       → (defined m spot text d).twice ≡ false → named (defined m spot text d).labels name ≡ Some spot
   found zero j text d o name rest e less h clean = absurd (omega arith)
-  found (suc m) j text d None name rest e less h clean = let same : label_at text ≡ Some (name, rest) = ap (λ (t : List ℕ). label_at t) (sym (behind_none j text e)) ∙ h in cc
+  found (suc m) j text d None name rest e less h clean = let same : label_at text ≡ Some (name, rest) = ap (λ (t : List ℕ). label_at t) (sym (behind_labels-none j text e)) ∙ h in cc
   found (suc m) zero text d (Some label) name rest e less h clean =
-      let next = defined_next m text d label e in
+      let next = one_defined m spot text label.0 label.1 d e in
       let with : Defined = with_label spot label.0 d in
       let clean' : (defined m spot label.1 with).twice ≡ false = ap (λ (x : Defined). x.twice) (sym next) ∙ clean in
       let first : label_at text ≡ Some (name, rest) = ap (λ (t : List ℕ). label_at t) (sym (behind_zero text)) ∙ h in
@@ -118,10 +105,10 @@ module _ (spot : Spot) where
       ∙ subst (λ (q : List ℕ). named (defined m spot label.1 with).labels q ≡ Some spot) name_is
       (keeps m label.1 with label.0 spot (label_new label.0 spot d (once m label.1 with clean')).0)
   found (suc m) (suc j) text d (Some label) name rest e less h clean =
-      let next = defined_next m text d label e in
+      let next = one_defined m spot text label.0 label.1 d e in
       let with : Defined = with_label spot label.0 d in
       let clean' : (defined m spot label.1 with).twice ≡ false = ap (λ (x : Defined). x.twice) (sym next) ∙ clean in
-      let later : label_at (behind_labels j label.1) ≡ Some (name, rest) = ap (λ (t : List ℕ). label_at t) (sym (behind_some j text label e)) ∙ h in
+      let later : label_at (behind_labels j label.1) ≡ Some (name, rest) = ap (λ (t : List ℕ). label_at t) (sym (one_label j text label.0 label.1 e)) ∙ h in
       ap (λ (x : Defined). named x.labels name) next ∙ found m j label.1 with (label_at label.1) name rest refl (omega arith) later clean'
 
 no_label : label_at [] ≡ None
@@ -144,13 +131,13 @@ shorter (b ∷ bs) label h = let k = shorter_by (has colon (b ∷ bs)) (name_in 
 -- a text has fewer labels at its front than bytes
 few : (j : ℕ) (text : List ℕ) (o : Option (List ℕ × List ℕ)) (label : List ℕ × List ℕ) → label_at text ≡ o → label_at (behind_labels j text) ≡ Some label → j < length text
 few zero text o label e h = let k = shorter text label (ap (λ (t : List ℕ). label_at t) (sym (behind_zero text)) ∙ h) in omega arith
-few (suc j) text None label e h = let same : label_at text ≡ Some label = ap (λ (t : List ℕ). label_at t) (sym (behind_none (suc j) text e)) ∙ h in cc
+few (suc j) text None label e h = let same : label_at text ≡ Some label = ap (λ (t : List ℕ). label_at t) (sym (behind_labels-none (suc j) text e)) ∙ h in cc
 few (suc j) text (Some first) label e h =
     let less = shorter text first e in
-    let others = few j first.1 (label_at first.1) label refl (ap (λ (t : List ℕ). label_at t) (sym (behind_some j text first e)) ∙ h) in
+    let others = few j first.1 (label_at first.1) label refl (ap (λ (t : List ℕ). label_at t) (sym (one_label j text first.0 first.1 e)) ∙ h) in
     omega arith
 
-once_told : (place : Place) (twice : Bool) (r : Result Place AsmFaultKind) → (outcome place twice r).1 ≡ None → twice ≡ false
+pub once_told : (place : Place) (twice : Bool) (r : Result Place AsmFaultKind) → (outcome place twice r).1 ≡ None → twice ≡ false
 once_told place false r h = refl
 once_told place true (Ok next) h = cc
 once_told place true (Err kind) h = cc
@@ -197,3 +184,139 @@ labels_found source p h n name has =
     ap (λ (q : Assembled). named q.labels name) (sym (same_program _ p spelt.2))
     ∙ named-addressed (address (size_of_text source)) (layout_of source).labels name
     ∙ ap (λ (o : Option Spot). option_map (address (size_of_text source)) o) (label_found source n name has (none_ignored source meant.0 meant.1))
+
+-- ---- labels that stand twice
+
+one_of_more : (name : List ℕ) (xs ys : List (List ℕ)) → StandsAmong name xs → StandsAmong name (xs ++ ys)
+one_of_more name [] ys h = absurd h
+one_of_more name (x ∷ xs) ys h = ⊎_elim (λ e. inl e) (λ k. inr (one_of_more name xs ys k)) h
+
+one_of_last : (name : List ℕ) (xs : List (List ℕ)) → StandsAmong name (xs ++ name ∷ [])
+one_of_last name [] = inl refl
+one_of_last name (x ∷ xs) = inr (one_of_last name xs)
+
+one_of_either : (name : List ℕ) (xs : List (List ℕ)) (y : List ℕ) → StandsAmong name (xs ++ y ∷ []) → StandsAmong name xs ⊎ (name ≡ y)
+one_of_either name [] y h = ⊎_elim (λ e. inr e) (λ k. absurd k) h
+one_of_either name (x ∷ xs) y h = ⊎_elim (λ e. inl (inl e)) (λ k. ⊎_elim (λ a. inl (inr a)) (λ b. inr b) (one_of_either name xs y k)) h
+
+abbrev Knows : Spots → List ℕ → Type 0
+Knows labels name = is_some (named labels name) ≡ true
+
+some_spot : (o : Option Spot) → is_some o ≡ true → (v : Spot) × (o ≡ Some v)
+some_spot (Some v) h = (v, refl)
+some_spot None h = cc
+
+knows_more : (xs ys : Spots) (name : List ℕ) → Knows xs name → Knows (xs ++ ys) name
+knows_more xs ys name h = let s = some_spot (named xs name) h in ap (λ (o : Option Spot). is_some o) (named-append xs ys name s.0 s.1)
+
+knows_last : (xs : Spots) (name : List ℕ) (v : Spot) → Knows (xs ++ (name, v) ∷ []) name
+knows_last [] name v = ap (λ (t : Bool). is_some (cond t (Some v) None)) (bytes_eq_self name)
+knows_last (x ∷ xs) name v = by (bytes_eq name x.0) (knows_last xs name v)
+  where
+    by : (t : Bool) → Knows (xs ++ (name, v) ∷ []) name → is_some (cond t (Some x.1) (named (xs ++ (name, v) ∷ []) name)) ≡ true
+    by true k = refl
+    by false k = k
+
+knows_either : (xs : Spots) (other : List ℕ) (v : Spot) (name : List ℕ) → Knows (xs ++ (other, v) ∷ []) name → Knows xs name ⊎ (name ≡ other)
+knows_either [] other v name h = by (bytes_eq name other) refl h
+  where
+    by : (t : Bool) → bytes_eq name other ≡ t → is_some (cond t (Some v) None) ≡ true → Knows [] name ⊎ (name ≡ other)
+    by true e k = inr ((bytes_eq-Decides name other).0 e)
+    by false e k = cc
+knows_either (x ∷ xs) other v name h = by (bytes_eq name x.0) (λ k. knows_either xs other v name k) h
+  where
+    by : (t : Bool) → (Knows (xs ++ (other, v) ∷ []) name → Knows xs name ⊎ (name ≡ other)) → is_some (cond t (Some x.1) (named (xs ++ (other, v) ∷ []) name)) ≡ true
+        → (is_some (cond t (Some x.1) (named xs name)) ≡ true) ⊎ (name ≡ other)
+    by true rest k = inl refl
+    by false rest k = rest k
+
+-- the labels have these names
+record HasNames (labels : Spots) (names : List (List ℕ)) : Type 0 where
+  pub to : (name : List ℕ) → Knows labels name → StandsAmong name names
+  pub from : (name : List ℕ) → StandsAmong name names → Knows labels name
+
+label_named_by : (spot : Spot) (name : List ℕ) (d : Defined) (names : List (List ℕ)) (t : Bool) → is_some (named d.labels name) ≡ t → HasNames d.labels names
+    → HasNames (cond {A = Defined} t (record { labels = d.labels; twice = true }) (record { labels = d.labels ++ (name, spot) ∷ []; twice = d.twice })).labels (names ++ name ∷ [])
+label_named_by spot name d names true e h = record {
+  to = λ q k. one_of_more q names (name ∷ []) (h.to q k);
+  from = λ q k. ⊎_elim (λ x. h.from q x) (λ same. ap (λ (n : List ℕ). is_some (named d.labels n)) same ∙ e) (one_of_either q names name k);
+}
+label_named_by spot name d names false e h = record {
+  to = λ q k. ⊎_elim (λ x. one_of_more q names (name ∷ []) (h.to q x))
+      (λ same. subst (λ (n : List ℕ). StandsAmong n (names ++ name ∷ [])) (sym same) (one_of_last name names)) (knows_either d.labels name spot q k);
+  from = λ q k. ⊎_elim (λ x. knows_more d.labels ((name, spot) ∷ []) q (h.from q x))
+      (λ same. subst (λ (n : List ℕ). Knows (d.labels ++ (name, spot) ∷ []) n) (sym same) (knows_last d.labels name spot)) (one_of_either q names name k);
+}
+
+label_named : (spot : Spot) (name : List ℕ) (d : Defined) (names : List (List ℕ)) → HasNames d.labels names → HasNames (with_label spot name d).labels (names ++ name ∷ [])
+unfolding with_label
+label_named spot name d names h = label_named_by spot name d names (is_some (named d.labels name)) refl h
+
+label_tells_by : (spot : Spot) (name : List ℕ) (d : Defined) (t : Bool) (r : Bool)
+    → r ≡ (cond {A = Defined} t (record { labels = d.labels; twice = true }) (record { labels = d.labels ++ (name, spot) ∷ []; twice = d.twice })).twice
+    → (r ≡ true → (d.twice ≡ true) ⊎ (t ≡ true)) × ((d.twice ≡ true) ⊎ (t ≡ true) → r ≡ true)
+label_tells_by spot name d true r is = ((λ h. inr refl), λ h. is)
+label_tells_by spot name d false r is = ((λ h. inl (sym is ∙ h)), λ h. ⊎_elim (λ x. is ∙ x) (λ x. cc) h)
+
+label_tells : (spot : Spot) (name : List ℕ) (d : Defined)
+    → ((with_label spot name d).twice ≡ true → (d.twice ≡ true) ⊎ Knows d.labels name) × ((d.twice ≡ true) ⊎ Knows d.labels name → (with_label spot name d).twice ≡ true)
+unfolding with_label
+label_tells spot name d = label_tells_by spot name d (is_some (named d.labels name)) _ refl
+
+-- what becomes of labels that have names, where labels of further names come behind
+record Grows (names more : List (List ℕ)) (d e : Defined) : Type 0 where
+  pub named_so : HasNames e.labels (names ++ more)
+  pub to : e.twice ≡ true → (d.twice ≡ true) ⊎ SomeTwice names more
+  pub from : (d.twice ≡ true) ⊎ SomeTwice names more → e.twice ≡ true
+
+none_grows : (names : List (List ℕ)) (d : Defined) → HasNames d.labels names → Grows names [] d d
+none_grows names d h = record {
+  named_so = subst (HasNames d.labels) (sym (append-nil names)) h;
+  to = λ k. inl k;
+  from = λ k. ⊎_elim (λ x. x) (λ x. absurd x) k;
+}
+
+module _ (spot : Spot) (m : ℕ) where
+  one_grows : (names : List (List ℕ)) (d : Defined) (name text : List ℕ) → HasNames d.labels names
+      → Grows (names ++ name ∷ []) (labels_at m text) (with_label spot name d) (defined m spot text (with_label spot name d)) → Grows names (name ∷ labels_at m text) d (defined m spot text (with_label spot name d))
+  one_grows names d name text h more =
+      let tells = label_tells spot name d in
+      record {
+        named_so = subst (HasNames (defined m spot text (with_label spot name d)).labels) (append_assoc names (name ∷ []) (labels_at m text)) more.named_so;
+        to = λ k. ⊎_elim (λ x. ⊎_elim (λ y. inl y) (λ y. inr (inl (h.to name y))) (tells.0 x)) (λ x. inr (inr x)) (more.to k);
+        from = λ k. more.from (⊎_elim (λ x. inl (tells.1 (inl x))) (λ x. ⊎_elim (λ y. inl (tells.1 (inr (h.from name y)))) (λ y. inr y) x) k);
+      }
+
+  grows_by : (names : List (List ℕ)) (d : Defined) (o : Option (List ℕ × List ℕ)) → HasNames d.labels names
+      → ((text : List ℕ) (e : Defined) (ns : List (List ℕ)) → HasNames e.labels ns → Grows ns (labels_at m text) e (defined m spot text e))
+      → Grows names (elim o as (λ _. List (List ℕ)) [ None ↦ [] | Some label ↦ label.0 ∷ labels_at m label.1 ]) d
+      (elim o as (λ _. Defined) [ None ↦ d | Some label ↦ defined m spot label.1 (with_label spot label.0 d) ])
+  grows_by names d None h more = none_grows names d h
+  grows_by names d (Some label) h more = one_grows names d label.0 label.1 h (more label.1 (with_label spot label.0 d) (names ++ label.0 ∷ []) (label_named spot label.0 d names h))
+
+grows : (spot : Spot) (m : ℕ) (text : List ℕ) (d : Defined) (names : List (List ℕ)) → HasNames d.labels names → Grows names (labels_at m text) d (defined m spot text d)
+unfolding defined labels_at
+grows spot zero text d names h = none_grows names d h
+grows spot (suc m) text d names h = grows_by spot m names d (label_at text) h (λ t e ns k. grows spot m t e ns k)
+
+laid_named : (s : Laid) (lines : List (List ℕ)) (names : List (List ℕ)) → HasNames s.labels names → HasNames (laid s lines).labels (names ++ labels_of lines)
+unfolding laid labels_of with_line_laid line_laid
+laid_named s [] names h = subst (HasNames s.labels) (sym (append-nil names)) h
+laid_named s (line ∷ lines) names h =
+    let code : List ℕ = code_of line in
+    let one = grows (here s.place) (length code) code (record { labels = s.labels; twice = false }) names h in
+    subst (HasNames (laid (with_line_laid s line) lines).labels) (append_assoc names (labels_at (length code) code) (labels_of lines))
+    (laid_named (with_line_laid s line) lines (names ++ labels_at (length code) code) one.named_so)
+
+none_named : HasNames [] []
+none_named = record { to = λ name h. cc; from = λ name h. absurd h }
+
+-- a label is told to stand twice exactly where an earlier line has it too, or the line itself before
+pub label_twice : (earlier : List (List ℕ)) (line : List ℕ)
+    → ((line_defined (laid nothing_laid earlier).labels (laid nothing_laid earlier).place (code_of line)).twice ≡ true → HasLabelTwice earlier line)
+    × (HasLabelTwice earlier line → (line_defined (laid nothing_laid earlier).labels (laid nothing_laid earlier).place (code_of line)).twice ≡ true)
+label_twice earlier line =
+    let s = laid nothing_laid earlier in
+    let code : List ℕ = code_of line in
+    let grown = grows (here s.place) (length code) code (record { labels = s.labels; twice = false }) (labels_of earlier) (laid_named nothing_laid earlier [] none_named) in
+    ((λ h. ⊎_elim (λ x. cc) (λ x. x) (grown.to h)), λ h. grown.from (inr h))

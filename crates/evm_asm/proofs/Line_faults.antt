@@ -1,173 +1,26 @@
 -- The fault that is told of a line is the least of what is wrong with it.
-use Rattle.std.proofs.Common.{◌≡◌, ◌∙◌, ◌≤◌, ◌⊎◌, ℕ, zero, suc, ◌+◌, Bool, true, false, cond, not, ◌==◌, nat_le, List, [], take, slice_get, Option, Some, None, option_and_then, Result, Ok, Err, ap, refl, sym, subst, inl, inr, ⊎_elim, arith}
+use Rattle.std.proofs.Common.{◌≡◌, ◌∙◌, ◌≤◌, ◌⊎◌, ℕ, zero, suc, ◌+◌, Bool, true, false, cond, ◌==◌, List, [], take, slice_get, Option, Some, None, option_and_then, Result, Ok, Err, ap, refl, sym, subst, inl, inr, ⊎_elim, arith}
 use Rattle.evm_words.specs.declared.fault.AsmFault.{AsmFault}
 use Rattle.evm_words.specs.declared.fault.AsmFaultKind.{AsmFaultKind}
 use Rattle.evm_words.specs.declared.fault.AsmFaultKind.TheVariants.{BadToken, UnknownName, BadOperand, RangeOfImmediate, LabelTwice, LabelMissing, TooLarge, NoMemory}
-use Rattle.evm_words.specs.declared.mnemonic.Width.{Width}
-use Rattle.evm_words.specs.declared.mnemonic.Mnemonic.{Mnemonic}
-use Rattle.evm_words.specs.declared.mnemonic.Mnemonic.TheVariants as names
-use Rattle.evm_words.specs.declared.mnemonic.Section.{Section as Part}
 use Rattle.evm_words.specs.Faults.{kind_number, ◌>>=◌}
-use Rattle.evm_words.specs.Text.{skip_blanks, first_word, starts_with, is_name_start, is_empty, is_sound}
-use Rattle.evm_words.specs.Names.{mnemonic_named}
-use Rattle.evm_statement.specs.declared.statement.Datum.{Datum}
-use Rattle.evm_statement.specs.declared.statement.Datum.TheVariants as datum
 use Rattle.evm_statement.specs.declared.statement.Statement.{Statement}
-use Rattle.evm_statement.specs.declared.statement.Statement.TheVariants.{Nothing, Branch, Jump, LoadAddress, Section, Numbers}
-use Rattle.evm_statement.specs.Operands.{Spots, first_operand, other_operands, how_many, datum_in}
-use Rattle.evm_statement.specs.Forms.{Values, Form, Each, Many, form}
-use Rattle.evm_statement.specs.Statements.{Reading, all_operands_in, also, with_data, said, statement_of}
+use Rattle.evm_statement.specs.declared.statement.Statement.TheVariants.{Branch, Jump, LoadAddress, Numbers}
+use Rattle.evm_statement.specs.Operands.{Spots}
+use Rattle.evm_statement.specs.Statements.{Reading}
 use Rattle.evm_asm.specs.declared.place.Place.{Place}
-use Rattle.evm_asm.specs.declared.item.Item.TheVariants as item
 use Rattle.evm_asm.specs.declared.item.Expansion.{Expansion}
 use Rattle.evm_asm.specs.declared.item.Placed.{Placed}
-use Rattle.evm_asm.specs.Places.{grown, place_behind, placed, of_mnemonic, statement_in}
+use Rattle.evm_asm.specs.Places.{place_behind, statement_in}
 use Rattle.evm_asm.specs.Sources.{Laid, nothing_laid, laid, outcome, measured, line_defined, line_laid, source_lines, code_of}
-use Rattle.evm_asm.specs.Items.{text_base, address, distance, load_address, expanded, with_item, with_instructions, value_of, value_in, number_pushed, with_numbers, operands, with_statement, statement_meant, line_meant, layout_of}
+use Rattle.evm_asm.specs.Items.{text_base, address, distance, load_address, expanded, with_instructions, operands, with_statement, statement_meant, line_meant, layout_of}
 use Rattle.evm_asm.specs.Least.{fault_in, lesser, line_fault, fault_at, IsFirstFault}
-use Rattle.evm_asm.specs.HasFault.{SomeOperand, text_behind_labels, IsFar, LacksLabel, Said, IsWrong, HasFault, IsLeastOfFirst, RefusedWithTheLeast}
-use Rattle.evm_asm.proofs.Alike.{measured_alike}
-use Rattle.evm_asm.proofs.Instructions_in_text.{also_ok}
+use Rattle.evm_asm.specs.HasFault.{HasLabelTwice, text_behind_labels, IsFar, LacksLabel, Said, IsWrong, HasFault, IsLeastOfFirst, RefusedWithTheLeast}
+use Rattle.evm_asm.proofs.Statements_without_labels.{measured_alike}
 use Rattle.evm_asm.proofs.Operand_faults.{IsLeast, same_least, either_least}
-use Rattle.evm_asm.proofs.Refusals.{refused_with_the_first}
-use Rattle.evm_asm.proofs.Reading_faults.{ReadingFault, reading_least}
-
--- ---- the labels and the size of a statement that is read
-
-abbrev Only : AsmFaultKind → Type 0 → AsmFaultKind → Type 0
-Only e P kind = (kind ≡ e) × P
-
-only_least : (e : AsmFaultKind) (P : Type 0) → P → IsLeast (Only e P) (Some e)
-only_least e P p = ((refl, p), λ kind w. subst (λ (k : AsmFaultKind). kind_number e ≤ kind_number k) (sym w.0) (omega arith))
-
-only_same : (e : AsmFaultKind) (P Q : Type 0) (o : Option AsmFaultKind) → (P → Q) → (Q → P) → IsLeast (Only e P) o → IsLeast (Only e Q) o
-only_same e P Q o to from h = same_least (Only e P) (Only e Q) o (λ kind w. (w.0, to w.1)) (λ kind w. (w.0, from w.1)) h
-
--- a result that fails with one fault alone
-only_fault : {A : Type 0} (e : AsmFaultKind) (r : Result A AsmFaultKind) → ((f : AsmFaultKind) → r ≡ Err f → f ≡ e) → IsLeast (Only e (r ≡ Err e)) (fault_in r)
-only_fault e (Ok a) h = λ kind w. cc
-only_fault {A} e (Err f) h =
-    let same : f ≡ e = h f refl in
-    subst (λ (g : AsmFaultKind). IsLeast (Only e (◌≡◌ {A = Result A AsmFaultKind} (Err g) (Err e))) (Some g)) (sym same) (only_least e (◌≡◌ {A = Result A AsmFaultKind} (Err e) (Err e)) refl)
-
-one_of : {A : Type 0} (t : Bool) (a : A) (e f : AsmFaultKind) → ◌≡◌ {A = Result A AsmFaultKind} (cond t (Ok a) (Err e)) (Err f) → f ≡ e
-one_of true a e f h = cc
-one_of false a e f h = cc
-
-one_of_both : {A : Type 0} (t : Bool) (r s : Result A AsmFaultKind) (e f : AsmFaultKind) → (r ≡ Err f → f ≡ e) → (s ≡ Err f → f ≡ e) → cond t r s ≡ Err f → f ≡ e
-one_of_both true r s e f a b h = a h
-one_of_both false r s e f a b h = b h
-
-distance_fails : (below above from target : ℕ) (f : AsmFaultKind) → distance below above from target ≡ Err f → f ≡ RangeOfImmediate
-unfolding distance
-distance_fails below above from target f h =
-    one_of_both (nat_le from target) _ _ RangeOfImmediate f (λ k. one_of _ _ RangeOfImmediate f k) (λ k. one_of _ _ RangeOfImmediate f k) h
-
-distance_least : (below above from target : ℕ) → IsLeast (Only RangeOfImmediate (distance below above from target ≡ Err RangeOfImmediate)) (fault_in (distance below above from target))
-distance_least below above from target = only_fault RangeOfImmediate (distance below above from target) (distance_fails below above from target)
-
-behind_fails : (place : Place) (s : Statement) (f : AsmFaultKind) → place_behind place s ≡ Err f → f ≡ TooLarge
-unfolding place_behind grown
-behind_fails place (Section part) f h = cc
-behind_fails place s f h = one_of _ _ TooLarge f h
-
-behind_least : (place : Place) (s : Statement) → IsLeast (Only TooLarge (place_behind place s ≡ Err TooLarge)) (fault_in (place_behind place s))
-behind_least place s = only_fault TooLarge (place_behind place s) (behind_fails place s)
-
--- each of the first n operands is a number or a label
-abbrev AllRead : Spots → Width → ℕ → List ℕ → Type 0
-AllRead labels width zero text = Unit {0}
-AllRead labels width (suc n) text = ((d : Datum) × (datum_in labels width (first_operand text) ≡ Ok d)) × AllRead labels width n (other_operands text)
-
-also_read : {B : Type 0} (r : Reading) (b : Result B AsmFaultKind) (s : Statement) → also r b ≡ Ok s → (r ≡ Ok s) × (x : B) × (b ≡ Ok x)
-also_read r b s h = let k = also_ok r b s h in (k.1, k.0, k.2)
-
-data_read : (labels : Spots) (width : Width) (n : ℕ) (r : Reading) (text : List ℕ) (s : Statement) → with_data labels width n r text ≡ Ok s → (r ≡ Ok s) × AllRead labels width n text
-unfolding with_data
-data_read labels width zero r text s h = (h, tt)
-data_read labels width (suc n) r text s h =
-    let more = data_read labels width n (also r (datum_in labels width (first_operand text))) (other_operands text) s h in
-    let one = also_read r (datum_in labels width (first_operand text)) s more.0 in
-    (one.0, ((one.1, one.2), more.1))
-
--- a form makes lists of numbers of as many as there are, or none
-abbrev MakesLists : Form → Type 0
-MakesLists (Each slots makes) = (v : Values slots) (w : Width) (c : ℕ) → makes v ≡ Numbers w c → ⊥
-MakesLists (Many width makes) = (n : ℕ) → makes n ≡ Numbers width n
-
-either_lists : (t : Bool) (f g : Form) → MakesLists f → MakesLists g → MakesLists (cond t f g)
-either_lists true f g h k = h
-either_lists false f g h k = k
-
-forms_list : (count : ℕ) (m : Mnemonic) → MakesLists (form count m)
-forms_list count names.Jal = either_lists (count == 1) _ _ (λ v w c h. cc) (λ v w c h. cc)
-forms_list count names.Jalr = either_lists (count == 1) _ _ (λ v w c h. cc) (λ v w c h. cc)
-forms_list count (names.Numbers width) = λ n. refl
-forms_list count m = λ v w c h. cc
-
-made_by : {A : Type 0} (r : Result A AsmFaultKind) (makes : A → Statement) (s : Statement) → (r >>= λ v. Ok (makes v)) ≡ Ok s → (v : A) × (makes v ≡ s)
-made_by (Ok v) makes s h = (v, cc)
-made_by (Err e) makes s h = cc
-
-unless_err : (t : Bool) (r : Reading) (s : Statement) → cond t (Err BadOperand) r ≡ Ok s → r ≡ Ok s
-unless_err true r s h = cc
-unless_err false r s h = h
-
-list_read : (labels : Spots) (f : Form) (text : List ℕ) (w : Width) (c : ℕ) → MakesLists f → said labels f text ≡ Ok (Numbers w c) → AllRead labels w c text
-unfolding said
-list_read labels (Each slots makes) text w c lists h = let v = made_by (all_operands_in labels slots text) makes (Numbers w c) h in absurd (lists v.0 w c v.1)
-list_read labels (Many width makes) text w c lists h =
-    let r = data_read labels width (how_many text) (Ok (makes (how_many text))) text (Numbers w c) (unless_err (how_many text == 0) _ (Numbers w c) h) in
-    let made : makes (how_many text) ≡ Numbers w c = cc in
-    let both : Numbers width (how_many text) ≡ Numbers w c = sym (lists (how_many text)) ∙ made in
-    let width_is : width ≡ w = cc in
-    let count_is : how_many text ≡ c = cc in
-    subst (λ (n : ℕ). AllRead labels w n text) count_is (subst (λ (x : Width). AllRead labels x (how_many text) text) width_is r.1)
-
-mnemonic_list_read : (labels : Spots) (place : Place) (o : Option Mnemonic) (text : List ℕ) (w : Width) (c : ℕ) → of_mnemonic labels place o text ≡ Ok (Numbers w c) → AllRead labels w c text
-unfolding statement_of
-mnemonic_list_read labels place (Some m) text w c h =
-    list_read labels (form (how_many text) m) text w c (forms_list (how_many text) m) (also_read (statement_of labels m text) (placed m place) (Numbers w c) h).0
-mnemonic_list_read labels place None text w c h = cc
-
-list_by_tests : (a b d : Bool) (r : Reading) (w : Width) (c : ℕ) → cond a (Err BadToken) (cond b (Ok Nothing) (cond d (Err BadToken) r)) ≡ Ok (Numbers w c) → r ≡ Ok (Numbers w c)
-list_by_tests true b d r w c h = cc
-list_by_tests false true d r w c h = cc
-list_by_tests false false true r w c h = cc
-list_by_tests false false false r w c h = h
-
-all_read : (labels : Spots) (place : Place) (text : List ℕ) (w : Width) (c : ℕ) → statement_in labels place text ≡ Ok (Numbers w c) → AllRead labels w c (operands text)
-unfolding statement_in
-all_read labels place text w c h =
-    mnemonic_list_read labels place (mnemonic_named (first_word (skip_blanks text))) (operands text) w c
-    (list_by_tests (not (is_sound false text)) (is_empty (skip_blanks text)) (not (starts_with is_name_start (skip_blanks text))) _ w c h)
-
--- the fault of a list is that of a label that no line defines
-module _ (labels : Spots) (size : ℕ) (part : Part) (width : Width) where
-  abbrev Lacks : ℕ → List ℕ → Type 0
-  Lacks n text = SomeOperand (λ operand. datum_in labels width operand ≡ Ok (datum.Label None)) n text
-
-  module _ (n : ℕ) (text : List ℕ) (least : (b : List Placed) → IsLeast (Only LabelMissing (Lacks n (other_operands text))) (fault_in (with_numbers labels size part width n (other_operands text) b))) where
-    goes_on : (d : Datum) → datum_in labels width (first_operand text) ≡ Ok d → (◌≡◌ {A = Datum} d (datum.Label None) → ⊥) → (b : List Placed)
-        → IsLeast (Only LabelMissing (Lacks (suc n) text)) (fault_in (with_numbers labels size part width n (other_operands text) b))
-    goes_on d e other b =
-        only_same LabelMissing _ _ _ (λ k. inr k)
-        (λ k. ⊎_elim (λ x. let both : ◌≡◌ {A = Result Datum AsmFaultKind} (Ok d) (Ok (datum.Label None)) = sym e ∙ x in let same : d ≡ datum.Label None = cc in absurd (other same)) (λ x. x) k)
-        (least b)
-
-    by_datum : (a : List Placed) (d : Datum) (r : Result Datum AsmFaultKind) → datum_in labels width (first_operand text) ≡ r → r ≡ Ok d
-        → IsLeast (Only LabelMissing (Lacks (suc n) text)) (fault_in (((r >>= value_of size) >>= λ v. Ok (with_item part (item.Number width v) a)) >>= λ items. with_numbers labels size part width n (other_operands text) items))
-    by_datum a d (Ok (datum.Value v)) e is = goes_on (datum.Value v) e (λ x. cc) _
-    by_datum a d (Ok (datum.Label (Some spot))) e is = goes_on (datum.Label (Some spot)) e (λ x. cc) _
-    by_datum a d (Ok (datum.Label None)) e is = only_least LabelMissing (Lacks (suc n) text) (inl e)
-    by_datum a d (Err f) e is = cc
-
-  numbers_least : (n : ℕ) (text : List ℕ) (a : List Placed) → AllRead labels width n text
-      → IsLeast (Only LabelMissing (Lacks n text)) (fault_in (with_numbers labels size part width n text a))
-  unfolding with_numbers number_pushed value_in
-  numbers_least zero text a all = λ kind w. w.1
-  numbers_least (suc n) text a all =
-      by_datum n text (λ b. numbers_least n (other_operands text) b all.1) a all.0.0 (datum_in labels width (first_operand text)) refl all.0.1
+use Rattle.evm_asm.proofs.First_fault_told.{refused_with_the_first}
+use Rattle.evm_asm.proofs.Statement_faults.{Only, only_least, only_same, distance_least, behind_least, all_read, numbers_least, ReadingFault, reading_least}
+use Rattle.evm_asm.proofs.Labels_found.{label_twice}
 
 -- ---- what is wrong with a statement that was read
 
@@ -273,13 +126,16 @@ outcome_fault place false (Err kind) = refl
 outcome_fault place true (Ok next) = refl
 outcome_fault place true (Err kind) = refl
 
-twice_least : (t : Bool) → IsLeast (Only LabelTwice (t ≡ true)) (cond t (Some LabelTwice) None)
-twice_least true = only_least LabelTwice (true ≡ true) refl
-twice_least false = λ kind w. cc
+twice_least : (t : Bool) (P : Type 0) → (t ≡ true → P) → (P → t ≡ true) → IsLeast (Only LabelTwice P) (cond t (Some LabelTwice) None)
+twice_least true P to from = only_least LabelTwice P (to refl)
+twice_least false P to from = λ kind w. let wrong = from w.1 in cc
 
-module _ (whole before : Laid) (line : List ℕ) where
+module _ (whole : Laid) (earlier : List (List ℕ)) (line : List ℕ) where
+  abbrev before : Laid
+  before = laid nothing_laid earlier
+
   abbrev Twice : Type 0
-  Twice = (line_defined before.labels before.place (code_of line)).twice ≡ true
+  Twice = HasLabelTwice earlier line
 
   laid_least : IsLeast (λ kind. Only LabelTwice Twice kind ⊎ (ReadingFault before.place (text_behind_labels line) kind ⊎ Large whole.labels whole.place.text_size before.place (text_behind_labels line) kind)) (line_laid before.labels before.place (code_of line)).1.1
   unfolding line_laid
@@ -289,7 +145,7 @@ module _ (whole before : Laid) (line : List ℕ) where
       let same = measured_alike whole.labels known before.place (text_behind_labels line) in
       subst (IsLeast (λ kind. Only LabelTwice Twice kind ⊎ (ReadingFault before.place (text_behind_labels line) kind ⊎ Large whole.labels whole.place.text_size before.place (text_behind_labels line) kind)))
       (outcome_fault before.place twice (measured known before.place (text_behind_labels line)))
-      (either_least (Only LabelTwice Twice) _ _ _ (twice_least twice)
+      (either_least (Only LabelTwice Twice) _ _ _ (let told = label_twice earlier line in twice_least twice Twice told.0 told.1)
       (subst (λ (r : Result Place AsmFaultKind). IsLeast (λ kind. ReadingFault before.place (text_behind_labels line) kind ⊎ Large whole.labels whole.place.text_size before.place (text_behind_labels line) kind) (fault_in r)) same
       (measured_least whole.labels whole.place.text_size before.place (text_behind_labels line))))
 
@@ -298,17 +154,17 @@ module _ (whole before : Laid) (line : List ℕ) where
       (Only LabelTwice Twice kind ⊎ (ReadingFault before.place (text_behind_labels line) kind ⊎ Large whole.labels whole.place.text_size before.place (text_behind_labels line) kind))
       ⊎ (ReadingFault before.place (text_behind_labels line) kind ⊎ (Labelling whole.labels whole.place.text_size before.place (text_behind_labels line) kind ⊎ Large whole.labels whole.place.text_size before.place (text_behind_labels line) kind))
 
-  reading_wrong : (kind : AsmFaultKind) → ReadingFault before.place (text_behind_labels line) kind → IsWrong whole before line kind
+  reading_wrong : (kind : AsmFaultKind) → ReadingFault before.place (text_behind_labels line) kind → IsWrong whole earlier line kind
   reading_wrong BadToken w = w
   reading_wrong UnknownName w = w
   reading_wrong BadOperand w = w
   reading_wrong RangeOfImmediate w = inl w
   reading_wrong kind w = absurd w
 
-  only_wrong : (e kind : AsmFaultKind) (P : Type 0) → (P → IsWrong whole before line e) → Only e P kind → IsWrong whole before line kind
-  only_wrong e kind P f w = subst (IsWrong whole before line) (sym w.0) (f w.1)
+  only_wrong : (e kind : AsmFaultKind) (P : Type 0) → (P → IsWrong whole earlier line e) → Only e P kind → IsWrong whole earlier line kind
+  only_wrong e kind P f w = subst (IsWrong whole earlier line) (sym w.0) (f w.1)
 
-  all_wrong : (kind : AsmFaultKind) → All kind → IsWrong whole before line kind
+  all_wrong : (kind : AsmFaultKind) → All kind → IsWrong whole earlier line kind
   all_wrong kind w =
       ⊎_elim
       (λ a. ⊎_elim (λ x. only_wrong LabelTwice kind _ (λ p. p) x) (λ b. ⊎_elim (λ x. reading_wrong kind x) (λ x. only_wrong TooLarge kind _ (λ p. p) x) b) a)
@@ -316,7 +172,7 @@ module _ (whole before : Laid) (line : List ℕ) where
       (λ b. ⊎_elim (λ x. ⊎_elim (λ y. only_wrong RangeOfImmediate kind _ (λ p. inr p) y) (λ y. only_wrong LabelMissing kind _ (λ p. p) y) x) (λ x. only_wrong TooLarge kind _ (λ p. p) x) b) a)
       w
 
-  wrong_all : (kind : AsmFaultKind) → IsWrong whole before line kind → All kind
+  wrong_all : (kind : AsmFaultKind) → IsWrong whole earlier line kind → All kind
   wrong_all BadToken w = inr (inl w)
   wrong_all UnknownName w = inr (inl w)
   wrong_all BadOperand w = inr (inl w)
@@ -326,25 +182,25 @@ module _ (whole before : Laid) (line : List ℕ) where
   wrong_all TooLarge w = inl (inr (inr (refl, w)))
   wrong_all NoMemory w = absurd w
 
-  line_least : IsLeast (IsWrong whole before line) (line_fault whole before line)
+  line_least : IsLeast (IsWrong whole earlier line) (line_fault whole before line)
   line_least =
-      same_least All (IsWrong whole before line) _ all_wrong wrong_all
+      same_least All (IsWrong whole earlier line) _ all_wrong wrong_all
       (either_least _ _ _ _ laid_least (meant_least whole.labels whole.place.text_size before.place (text_behind_labels line) 0))
 
 -- ---- the source
 
-found_least : (whole before : Laid) (lines : List (List ℕ)) (n : ℕ) (o : Option (List ℕ)) → slice_get lines n ≡ o
-    → IsLeast (λ kind. (line : List ℕ) × (slice_get lines n ≡ Some line) × IsWrong whole before line kind) (option_and_then (line_fault whole before) o)
-found_least whole before lines n None e = λ kind w. let wrong : ◌≡◌ {A = Option (List ℕ)} None (Some w.0) = sym e ∙ w.1 in cc
-found_least whole before lines n (Some line) e =
-    same_least (IsWrong whole before line) _ (line_fault whole before line) (λ kind w. (line, e, w))
-    (λ kind w. let both : ◌≡◌ {A = Option (List ℕ)} (Some w.0) (Some line) = sym w.1 ∙ e in let same : w.0 ≡ line = cc in subst (λ (l : List ℕ). IsWrong whole before l kind) same w.2)
-    (line_least whole before line)
+found_least : (whole : Laid) (earlier lines : List (List ℕ)) (n : ℕ) (o : Option (List ℕ)) → slice_get lines n ≡ o
+    → IsLeast (λ kind. (line : List ℕ) × (slice_get lines n ≡ Some line) × IsWrong whole earlier line kind) (option_and_then (line_fault whole (laid nothing_laid earlier)) o)
+found_least whole earlier lines n None e = λ kind w. let wrong : ◌≡◌ {A = Option (List ℕ)} None (Some w.0) = sym e ∙ w.1 in cc
+found_least whole earlier lines n (Some line) e =
+    same_least (IsWrong whole earlier line) _ (line_fault whole (laid nothing_laid earlier) line) (λ kind w. (line, e, w))
+    (λ kind w. let both : ◌≡◌ {A = Option (List ℕ)} (Some w.0) (Some line) = sym w.1 ∙ e in let same : w.0 ≡ line = cc in subst (λ (l : List ℕ). IsWrong whole earlier l kind) same w.2)
+    (line_least whole earlier line)
 
 fault_least : (source : List ℕ) (n : ℕ) → IsLeast (HasFault source n) (fault_at source n)
 unfolding fault_at
 fault_least source zero = λ kind w. w
-fault_least source (suc n) = found_least (layout_of source) (laid nothing_laid (take n (source_lines source))) (source_lines source) n (slice_get (source_lines source) n) refl
+fault_least source (suc n) = found_least (layout_of source) (take n (source_lines source)) (source_lines source) n (slice_get (source_lines source) n) refl
 
 kind_of : ℕ → AsmFaultKind
 kind_of n =

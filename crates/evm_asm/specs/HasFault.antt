@@ -1,5 +1,5 @@
 -- What is wrong with a line of a source: a sentence for each kind of fault.
-use Rattle.std.specs.Prelude.{◌≡◌, ◌≢◌, ◌<◌, ◌≤◌, ◌⊎◌, ◌&&◌, ◌↔◌, IsOk, ℕ, zero, suc, ◌+◌, Bool, true, false, List, [], ◌∷◌, length, take, slice_get, Some, None, Ok, Err}
+use Rattle.std.specs.Prelude.{◌≡◌, ◌≢◌, ◌<◌, ◌≤◌, ◌%◌, ◌++◌, ◌⊎◌, ◌&&◌, ◌↔◌, IsOk, ℕ, zero, suc, ◌+◌, Bool, true, false, List, [], ◌∷◌, length, take, slice_get, Some, None, Ok, Err}
 use Rattle.evm_words.specs.declared.fault.AsmFault.{AsmFault}
 use Rattle.evm_words.specs.declared.fault.AsmFaultKind.{AsmFaultKind}
 use Rattle.evm_words.specs.declared.fault.AsmFaultKind.TheVariants.{BadToken, UnknownName, BadOperand, RangeOfImmediate, LabelTwice, LabelMissing, TooLarge, NoMemory}
@@ -18,9 +18,10 @@ use Rattle.evm_statement.specs.Operands.{Spots, first_operand, other_operands, h
 use Rattle.evm_statement.specs.Forms.{Slot, Register, Integer, Natural, Upper, Label, Address, FullAddress, Name, Form, Each, Many, form}
 use Rattle.evm_asm.specs.declared.place.Place.{Place}
 use Rattle.evm_asm.specs.Places.{may_stand, place_behind, statement_in}
-use Rattle.evm_asm.specs.Sources.{Laid, nothing_laid, laid, line_defined, source_lines, code_of, statement_text}
+use Rattle.evm_asm.specs.Sources.{Laid, nothing_laid, laid, source_lines, code_of, statement_text}
 use Rattle.evm_asm.specs.Assembled.{program_of}
-use Rattle.evm_asm.specs.Items.{text_base, address, distance, operands, layout_of}
+use Rattle.evm_asm.specs.Sizes.{labels_at, labels_of}
+use Rattle.evm_asm.specs.Items.{text_base, address, operands, layout_of}
 
 -- ---- what is wrong with what stands in a place
 
@@ -137,11 +138,29 @@ OfForm text P = Of text (λ m. P (form (how_many (operands text)) m) (operands t
 abbrev pub IsMisplaced : Place → List ℕ → Type 0
 IsMisplaced place text = Of text (λ m. may_stand m place ≡ false)
 
+-- The way from an address to a target is odd, or goes back further than so many bytes, or ahead further.
+abbrev pub IsBeyond : ℕ → ℕ → ℕ → ℕ → Type 0
+IsBeyond back ahead from target = (from % 2 ≢ target % 2) ⊎ (target + back < from) ⊎ (from + ahead < target)
+
 -- a branch or a jump to a label that is odd or too far
 abbrev pub IsFar : ℕ → ℕ → Statement → Type 0
-IsFar text_size from (Branch op rs1 rs2 (Some spot)) = distance 4096 4094 from (address text_size spot) ≡ Err RangeOfImmediate
-IsFar text_size from (Jump rd (Some spot)) = distance 1048576 1048574 from (address text_size spot) ≡ Err RangeOfImmediate
+IsFar text_size from (Branch op rs1 rs2 (Some spot)) = IsBeyond 4096 4094 from (address text_size spot)
+IsFar text_size from (Jump rd (Some spot)) = IsBeyond 1048576 1048574 from (address text_size spot)
 IsFar text_size from statement = ⊥
+
+-- a name stands among these
+abbrev pub StandsAmong : List ℕ → List (List ℕ) → Type 0
+StandsAmong name [] = ⊥
+StandsAmong name (other ∷ names) = (name ≡ other) ⊎ StandsAmong name names
+
+-- one of these names is among those before it: the earlier ones, or those in front of it here
+abbrev pub SomeTwice : List (List ℕ) → List (List ℕ) → Type 0
+SomeTwice earlier [] = ⊥
+SomeTwice earlier (name ∷ names) = StandsAmong name earlier ⊎ SomeTwice (earlier ++ name ∷ []) names
+
+-- A label of the line is a label of an earlier line too, or stands in this one before.
+abbrev pub HasLabelTwice : List (List ℕ) → List ℕ → Type 0
+HasLabelTwice earlier line = SomeTwice (labels_of earlier) (labels_at (length (code_of line)) (code_of line))
 
 -- a label that no line defines
 abbrev pub LacksLabel : Spots → List ℕ → Statement → Type 0
@@ -155,25 +174,29 @@ LacksLabel labels text statement = ⊥
 abbrev pub Said : Spots → Place → List ℕ → (Statement → Type 0) → Type 0
 Said labels place text P = (s : Statement) × (statement_in labels place text ≡ Ok s) × P s
 
--- What is wrong with a line that stands behind others, in a source that is laid out as a whole.
-abbrev pub IsWrong : Laid → Laid → List ℕ → AsmFaultKind → Type 0
-IsWrong whole before line BadToken = (is_sound false (text_behind_labels line) ≡ false) ⊎ BeginsWithNoName (text_behind_labels line)
-IsWrong whole before line UnknownName = HasUnknownMnemonic (text_behind_labels line) ⊎ OfForm (text_behind_labels line) HasUnknownRegister
-IsWrong whole before line BadOperand = OfForm (text_behind_labels line) HasMisfit ⊎ IsMisplaced before.place (text_behind_labels line)
-IsWrong whole before line RangeOfImmediate =
+-- the place behind these lines
+abbrev pub place_behind_lines : List (List ℕ) → Place
+place_behind_lines lines = (laid nothing_laid lines).place
+
+-- What is wrong with a line that stands behind earlier ones, in a source that is laid out as a whole.
+abbrev pub IsWrong : Laid → List (List ℕ) → List ℕ → AsmFaultKind → Type 0
+IsWrong whole earlier line BadToken = (is_sound false (text_behind_labels line) ≡ false) ⊎ BeginsWithNoName (text_behind_labels line)
+IsWrong whole earlier line UnknownName = HasUnknownMnemonic (text_behind_labels line) ⊎ OfForm (text_behind_labels line) HasUnknownRegister
+IsWrong whole earlier line BadOperand = OfForm (text_behind_labels line) HasMisfit ⊎ IsMisplaced (place_behind_lines earlier) (text_behind_labels line)
+IsWrong whole earlier line RangeOfImmediate =
     OfForm (text_behind_labels line) HasNumberOutside
-    ⊎ Said whole.labels before.place (text_behind_labels line) (IsFar whole.place.text_size (text_base + before.place.text_size))
-IsWrong whole before line LabelTwice = (line_defined before.labels before.place (code_of line)).twice ≡ true
-IsWrong whole before line LabelMissing = Said whole.labels before.place (text_behind_labels line) (LacksLabel whole.labels (text_behind_labels line))
-IsWrong whole before line TooLarge = Said whole.labels before.place (text_behind_labels line) (λ s. place_behind before.place s ≡ Err TooLarge)
-IsWrong whole before line NoMemory = ⊥
+    ⊎ Said whole.labels (place_behind_lines earlier) (text_behind_labels line) (IsFar whole.place.text_size (text_base + (place_behind_lines earlier).text_size))
+IsWrong whole earlier line LabelTwice = HasLabelTwice earlier line
+IsWrong whole earlier line LabelMissing = Said whole.labels (place_behind_lines earlier) (text_behind_labels line) (LacksLabel whole.labels (text_behind_labels line))
+IsWrong whole earlier line TooLarge = Said whole.labels (place_behind_lines earlier) (text_behind_labels line) (λ s. place_behind (place_behind_lines earlier) s ≡ Err TooLarge)
+IsWrong whole earlier line NoMemory = ⊥
 
 -- Line n of a source, from 1, has this fault.
 abbrev pub HasFault : List ℕ → ℕ → AsmFaultKind → Type 0
 HasFault source zero kind = ⊥
 HasFault source (suc n) kind =
     (line : List ℕ) × (slice_get (source_lines source) n ≡ Some line)
-    × IsWrong (layout_of source) (laid nothing_laid (take n (source_lines source))) line kind
+    × IsWrong (layout_of source) (take n (source_lines source)) line kind
 
 -- the least fault of the first line that has any
 abbrev pub IsLeastOfFirst : List ℕ → AsmFault → Type 0

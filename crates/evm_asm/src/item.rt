@@ -15,7 +15,7 @@ use evm_words::{AsmFaultKind, Section, Width};
 pub const TEXT_BASE: u64 = 0x8000_0000;
 
 /// What a statement adds to a section.
-#[derive(Clone, Copy, Debug, PartialEq, Eq)]
+#[derive(Clone, Copy)]
 pub enum Item {
     /// An instruction of a line.
     Instruction(u64, Inst),
@@ -28,14 +28,14 @@ pub enum Item {
 }
 
 /// An item and its section.
-#[derive(Clone, Copy, Debug, PartialEq, Eq)]
+#[derive(Clone, Copy)]
 pub struct Placed {
     pub section: Section,
     pub item: Item,
 }
 
 /// The instructions of one statement.
-#[derive(Clone, Copy, Debug, PartialEq, Eq)]
+#[derive(Clone, Copy)]
 pub enum Expansion {
     Empty,
     Single(Inst),

@@ -15,7 +15,7 @@ use evm_words::{
 use std::alloc::Global;
 
 /// Why the meaning of a line is not told: an allocation was refused, or the line has a fault.
-#[derive(Clone, Copy, Debug, PartialEq, Eq)]
+#[derive(Clone, Copy)]
 pub enum Stop {
     Memory,
     Fault(AsmFaultKind),

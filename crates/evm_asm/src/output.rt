@@ -32,7 +32,8 @@ pub struct Output {
     pub data_bytes: Vec<u8>,
 }
 
-fn memory(line: u64) -> AsmFault
+/// Memory ran out in a line.
+pub fn memory(line: u64) -> AsmFault
     ensures kind { result.kind ≡ NoMemory }
 {
     AsmFault {

@@ -13,7 +13,7 @@ use evm_words::{
 };
 
 /// How far a program has come: the section in force, and the bytes of each so far.
-#[derive(Clone, Copy, Debug, PartialEq, Eq)]
+#[derive(Clone, Copy)]
 pub struct Place {
     pub section: Section,
     pub text_size: u32,

@@ -2,7 +2,6 @@
 
 ghost use Rattle.std.specs.Prelude.{◌≡◌, ◌≤◌, IfOk, IfErr, length, slice_get, All};
 ghost use Rattle.std.specs.Option.{option_map};
-ghost use Rattle.evm_words.specs.declared.fault.AsmFaultKind.TheVariants.{NoMemory};
 ghost use Rattle.evm_asm.specs.Items.{Tells};
 ghost use Rattle.evm_words.specs.Names.{named};
 ghost use Rattle.evm_asm.specs.Assembled.{assembled, program_of, IsWorded, StandsIn};
@@ -13,10 +12,10 @@ ghost use Rattle.evm_asm.specs.Bounds.{bytes_max};
 use crate::item::address;
 use crate::layout::{Layout, lay_out};
 use crate::meaning::meaning;
-use crate::output::{Output, ProgramLine, image, spell};
+use crate::output::{Output, ProgramLine, image, memory, spell};
 use evm_isa::encoded_by_table;
 use evm_statement::Labels;
-use evm_words::{AsmFault, AsmFaultKind};
+use evm_words::AsmFault;
 use std::alloc::{AllocError, Global};
 use std::marker::Model;
 
@@ -102,15 +101,6 @@ fn finished(layout: Layout, out: Output) -> Result<Program, AllocError>
     })
 }
 
-fn out_of_memory() -> AsmFault
-    ensures { result.kind ≡ NoMemory }
-{
-    AsmFault {
-        line: 1,
-        kind: AsmFaultKind::NoMemory,
-    }
-}
-
 #[tactic(auto, unfolding(crate::specs::Assembled::program_of))]
 fn assembled(alloc: Global, source: &str) -> Result<Program, AsmFault>
     ensures { Tells (λ p. p) result (program_of source.now) }
@@ -130,7 +120,7 @@ fn assembled(alloc: Global, source: &str) -> Result<Program, AsmFault>
     };
     match finished(layout, out) {
         Ok(program) => Ok(program),
-        Err(_) => Err(out_of_memory()),
+        Err(_) => Err(memory(1)),
     }
 }
 

@@ -3,8 +3,10 @@
 ghost use Rattle.std.specs.Prelude.{◌≡◌};
 ghost use Rattle.evm_words.specs.Faults.{kind_number, least, both};
 
+use thiserror::Error;
+
 /// What is wrong with a line. Of several faults of one line the one of the least number is reported.
-#[derive(Clone, Copy, Debug, PartialEq, Eq)]
+#[derive(Clone, Copy, Debug, PartialEq, Eq, Error)]
 pub enum AsmFaultKind {
     /// 1: characters that make no token, or a statement that begins with a number or a mark.
     BadToken,
@@ -43,7 +45,8 @@ impl AsmFaultKind {
 }
 
 /// The fault of a source: the least line that has one, and the least of its faults.
-#[derive(Clone, Copy, Debug, PartialEq, Eq)]
+#[derive(Clone, Copy, Debug, PartialEq, Eq, Error)]
+#[error("line {line}: {kind}")]
 pub struct AsmFault {
     /// The line, from 1.
     pub line: u64,

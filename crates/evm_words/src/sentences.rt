@@ -3,8 +3,7 @@
 ghost use Rattle.std.specs.Prelude.{◌≡◌, Some};
 ghost use Rattle.evm_words.specs.Sentences.{asm_sentence};
 
-use crate::fault::{AsmFault, AsmFaultKind};
-use std::error::Error;
+use crate::fault::AsmFaultKind;
 use std::fmt;
 
 impl AsmFaultKind {
@@ -38,15 +37,3 @@ impl fmt::Display for AsmFaultKind {
         f.write_str(self.sentence())
     }
 }
-
-impl Error for AsmFaultKind {}
-
-impl fmt::Display for AsmFault {
-    fn fmt<W: fmt::Write>(&self, f: &mut fmt::Formatter<W>) -> fmt::Result {
-        let line = self.line;
-        let kind = self.kind;
-        write!(f, "line {line}: {kind}")
-    }
-}
-
-impl Error for AsmFault {}

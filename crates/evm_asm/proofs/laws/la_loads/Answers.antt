@@ -1,5 +1,5 @@
 use Rattle.std.proofs.Common.{◌+◌, ◌-◌, ◌%◌, refl}
-use Rattle.evm_asm.proofs.Parts.{address_again}
+use Rattle.evm_asm.proofs.Li_and_la_load.{address_again}
 use Rattle.evm_asm.proofs.laws.la_loads.Goals as goal
 
 pub returns : goal.returns

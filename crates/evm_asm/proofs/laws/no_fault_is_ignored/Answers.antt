@@ -1,4 +1,4 @@
-use Rattle.evm_asm.proofs.Ignored.{none_ignored}
+use Rattle.evm_asm.proofs.Placed_where_laid.{none_ignored}
 use Rattle.evm_asm.proofs.laws.no_fault_is_ignored.Goals as goal
 
 pub returns : goal.returns

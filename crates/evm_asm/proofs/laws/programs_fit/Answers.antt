@@ -1,4 +1,4 @@
-use Rattle.evm_asm.proofs.Fitting.{program_fits}
+use Rattle.evm_asm.proofs.Programs_as_meant.{program_fits}
 use Rattle.evm_asm.proofs.laws.programs_fit.Goals as goal
 
 pub returns : goal.returns

@@ -1,4 +1,4 @@
-use Rattle.evm_asm.proofs.Standing.{program_stands}
+use Rattle.evm_asm.proofs.Lines_worded.{program_stands}
 use Rattle.evm_asm.proofs.laws.words_stand.Goals as goal
 
 pub returns : goal.returns

@@ -1,6 +1,6 @@
 use Rattle.std.proofs.Common.{◌∙◌, ◌-◌, ◌+◌, sym, ap, length}
 use Rattle.evm_asm.specs.Sources.{defined, Defined}
-use Rattle.evm_asm.proofs.Loops.{defined-none, defined-some, defined-done}
+use Rattle.evm_asm.proofs.Line_by_line.{defined-none, defined-some, defined-done}
 use Rattle.evm_asm.proofs.layout.define.Goals as goal
 
 pub returns-in-None : goal.returns-in-None

@@ -1,5 +1,5 @@
 use Rattle.std.proofs.Common.{◌∙◌, ◌-◌, sym, length}
-use Rattle.evm_asm.proofs.Loops.{behind_labels-none, behind_labels-some, behind_labels-done}
+use Rattle.evm_asm.proofs.Line_by_line.{behind_labels-none, behind_labels-some, behind_labels-done}
 use Rattle.evm_asm.proofs.layout.statement_text.Goals as goal
 
 pub returns-in-None : goal.returns-in-None

@@ -5,8 +5,8 @@ use Rattle.evm_asm.specs.Sources.{source_lines, code_of, source_start}
 use Rattle.evm_asm.specs.Items.{layout_of, lines_meant, meaning_of}
 use Rattle.evm_asm.specs.declared.item.Placed.{Placed}
 use Rattle.evm_asm.specs.declared.place.Place.{Place}
-use Rattle.evm_asm.proofs.Lines.{after-less}
-use Rattle.evm_asm.proofs.Meanings.{same-line, goes-on, stops, ends}
+use Rattle.evm_asm.proofs.Line_by_line.{after-less}
+use Rattle.evm_asm.proofs.Line_by_line.{same-line, goes-on, stops, ends}
 use Rattle.evm_asm.proofs.meaning.meaning.Goals as goal
 
 pub loop-rest-init : goal.loop-rest-init

@@ -1,5 +1,5 @@
 use Rattle.std.proofs.Common.{◌∙◌, sym}
-use Rattle.evm_asm.proofs.Meanings.{numbers-ok, numbers-stop, numbers-done}
+use Rattle.evm_asm.proofs.Line_by_line.{numbers-ok, numbers-stop, numbers-done}
 use Rattle.evm_asm.proofs.meaning.push_numbers.Goals as goal
 
 pub returns-in-Err : goal.returns-in-Err

@@ -1,6 +1,6 @@
 use Rattle.std.proofs.Common.{◌∙◌, ◌-◌, ◌+◌, sym, ap}
 use Rattle.evm_asm.specs.Programs.{repeated}
-use Rattle.evm_asm.proofs.Loops.{repeated-more, repeated-done}
+use Rattle.evm_asm.proofs.Line_by_line.{repeated-more, repeated-done}
 use Rattle.evm_asm.proofs.output.push_repeated.Goals as goal
 
 pub loop-preserved : goal.loop-preserved

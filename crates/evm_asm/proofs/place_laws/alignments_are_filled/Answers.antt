@@ -1,4 +1,4 @@
-use Rattle.evm_asm.proofs.Fillings_there.{alignments_are_filled}
+use Rattle.evm_asm.proofs.Data_there.{alignments_are_filled}
 use Rattle.evm_asm.proofs.place_laws.alignments_are_filled.Goals as goal
 
 pub returns : goal.returns

@@ -1,4 +1,4 @@
-use Rattle.evm_asm.proofs.All_there.{all_there}
+use Rattle.evm_asm.proofs.Programs_as_meant.{all_there}
 use Rattle.evm_asm.proofs.place_laws.all_that_is_meant_stands.Goals as goal
 
 pub returns : goal.returns

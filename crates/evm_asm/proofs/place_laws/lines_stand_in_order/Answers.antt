@@ -1,4 +1,4 @@
-use Rattle.evm_asm.proofs.Lines_in_order.{lines_stand_in_order}
+use Rattle.evm_asm.proofs.Source_order.{lines_stand_in_order}
 use Rattle.evm_asm.proofs.place_laws.lines_stand_in_order.Goals as goal
 
 pub returns : goal.returns

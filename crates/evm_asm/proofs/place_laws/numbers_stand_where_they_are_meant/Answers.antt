@@ -1,4 +1,4 @@
-use Rattle.evm_asm.proofs.Numbers_there.{number_there}
+use Rattle.evm_asm.proofs.Data_there.{number_there}
 use Rattle.evm_asm.proofs.place_laws.numbers_stand_where_they_are_meant.Goals as goal
 
 pub returns : goal.returns

@@ -1,4 +1,4 @@
-use Rattle.evm_asm.proofs.Placed_bytes.{sizes_agree}
+use Rattle.evm_asm.proofs.Programs_as_meant.{sizes_agree}
 use Rattle.evm_asm.proofs.place_laws.sizes_are_bytes.Goals as goal
 
 pub returns : goal.returns

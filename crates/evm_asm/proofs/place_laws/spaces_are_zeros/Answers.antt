@@ -1,4 +1,4 @@
-use Rattle.evm_asm.proofs.Fillings_there.{spaces_are_zeros}
+use Rattle.evm_asm.proofs.Data_there.{spaces_are_zeros}
 use Rattle.evm_asm.proofs.place_laws.spaces_are_zeros.Goals as goal
 
 pub returns : goal.returns

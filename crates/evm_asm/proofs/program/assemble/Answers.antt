@@ -1,5 +1,5 @@
-use Rattle.evm_asm.proofs.Worded.{result_worded}
-use Rattle.evm_asm.proofs.Standing.{result_stands}
+use Rattle.evm_asm.proofs.Lines_worded.{result_worded}
+use Rattle.evm_asm.proofs.Lines_worded.{result_stands}
 use Rattle.evm_asm.proofs.program.assemble.Goals as goal
 
 pub returns-clause-words : goal.returns-clause-words

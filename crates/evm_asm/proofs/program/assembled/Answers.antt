@@ -2,7 +2,7 @@ use Rattle.std.proofs.Common.{◌∙◌, List, sym, ap}
 use Rattle.evm_asm.specs.declared.item.Placed.{Placed}
 use Rattle.evm_asm.specs.Programs.{nothing_spelled, spelled}
 use Rattle.evm_asm.specs.Views.{view}
-use Rattle.evm_asm.proofs.Fitting.{meant_fits}
+use Rattle.evm_asm.proofs.Programs_as_meant.{meant_fits}
 use Rattle.evm_asm.proofs.program.assembled.Goals as goal
 
 pub finished-requires : goal.finished-requires

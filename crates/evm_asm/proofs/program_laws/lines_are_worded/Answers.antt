@@ -1,4 +1,4 @@
-use Rattle.evm_asm.proofs.Worded.{program_worded}
+use Rattle.evm_asm.proofs.Lines_worded.{program_worded}
 use Rattle.evm_asm.proofs.program_laws.lines_are_worded.Goals as goal
 
 pub returns : goal.returns

@@ -4,7 +4,7 @@ use Rattle.evm_statement.specs.declared.spot.Spot.{Spot}
 use Rattle.evm_asm.specs.Items.{address}
 use Rattle.evm_words.specs.Names.{named}
 use Rattle.evm_asm.specs.Assembled.{Assembled, addressed}
-use Rattle.evm_asm.proofs.Addressed.{named-addressed}
+use Rattle.evm_asm.proofs.Line_by_line.{named-addressed}
 use Rattle.evm_asm.proofs.program.Program.address_of.Goals as goal
 
 pub returns-in-Some : goal.returns-in-Some

@@ -1,4 +1,4 @@
--- Two parts of a 32-bit number, added again.
+-- The parts in which `li` and `la` load a number and an address make it again.
 use Rattle.std.proofs.Common.{◌≡◌, ◌∙◌, ℕ, zero, suc, ◌+◌, ◌-◌, ◌*◌, ◌/◌, ◌%◌, ◌<◌, ◌≤◌, Bool, true, false, cond, not, ◌==◌, nat_lt, ℤ, pos, negsuc, neg_ℤ, ◌≤ℤ◌, ap, refl, sym, arith}
 use Rattle.std.proofs.lemmas.Bool.{ltb-false, ltb-true}
 use Rattle.std.proofs.lemmas.Int.{ints}

@@ -1,41 +1,137 @@
--- What a statement adds to the sections is its size.
-use Rattle.std.proofs.Common.{◌≡◌, ◌∙◌, ℕ, zero, suc, min, ◌+◌, ◌-◌, ◌*◌, ◌/◌, ◌%◌, ◌^◌, ◌<◌, ◌≤◌, Bool, true, false, cond, ◌&&◌, ◌==◌, nat_le, List, Option, Some, None, Result, Ok, Err, ap, refl, sym, subst, arith}
+-- What a statement adds to the items is its size, and what is there stays.
+use Rattle.std.proofs.Common.{◌≡◌, ℕ, zero, suc, ◌+◌, ◌*◌, List, [], ◌∷◌, ◌++◌, length, Option, Some, None, Ok, refl, subst, arith, length-append, ◌∙◌, min, ◌-◌, ◌/◌, ◌%◌, ◌^◌, ◌<◌, ◌≤◌, Bool, true, false, cond, ◌&&◌, ◌==◌, nat_le, Err, ap, sym, ◌⊎◌, inl, inr, ⊎_elim}
+use Rattle.std.specs.Int.{w32, to_le_bytes}
 use Rattle.std.specs.Prelude.{ℤ}
 use Rattle.std.proofs.lemmas.Bool.{leb-true}
 use Rattle.std.proofs.lemmas.Bool.Decides.{nat_tests}
 use Rattle.std.proofs.lemmas.Nat.{pow-add}
 use Rattle.std.proofs.Math.Pow.{pow_pos}
 use Rattle.evm_isa.specs.declared.inst.Inst.{Inst}
-use Rattle.evm_words.specs.declared.fault.AsmFaultKind.{AsmFaultKind}
-use Rattle.evm_words.specs.declared.fault.AsmFaultKind.TheVariants.{TooLarge}
-use Rattle.evm_asm.specs.declared.item.Expansion.{Expansion}
-use Rattle.evm_asm.specs.declared.item.Expansion.TheVariants.{Empty, Single, Double}
-use Rattle.evm_asm.specs.declared.item.Item.{Item}
-use Rattle.evm_asm.specs.declared.item.Item.TheVariants.{Instruction, Number, Zeros, Nops}
-use Rattle.evm_asm.specs.declared.item.Placed.{Placed}
+use Rattle.evm_isa.specs.Encoded.{encoded}
 use Rattle.evm_words.specs.declared.mnemonic.Section.{Section as Part}
 use Rattle.evm_words.specs.declared.mnemonic.Section.TheVariants.{Text, Data}
 use Rattle.evm_words.specs.declared.mnemonic.Width.{Width}
+use Rattle.evm_words.specs.declared.mnemonic.Width.TheVariants.{Byte, Word, Dword}
+use Rattle.evm_words.specs.declared.fault.AsmFaultKind.TheVariants.{TooLarge}
+use Rattle.evm_words.specs.Faults.{◌>>=◌}
 use Rattle.evm_statement.specs.declared.spot.Spot.{Spot}
-use Rattle.evm_asm.specs.declared.place.Place.{Place}
 use Rattle.evm_statement.specs.declared.statement.Statement.{Statement}
 use Rattle.evm_statement.specs.declared.statement.Statement.TheVariants.{Nothing, One, Branch, Jump, LoadImmediate, LoadAddress, Section, Numbers, Space, Align}
-use Rattle.evm_words.specs.Faults.{◌>>=◌}
 use Rattle.evm_statement.specs.Operands.{Spots, first_operand, other_operands}
-use Rattle.evm_asm.specs.Places.{offset, section_size, farther, grown, is_small, low_word, needs_low_part, bytes_in, padding, load_size, size_at, place_behind, is_text}
+use Rattle.evm_asm.specs.declared.item.Item.{Item}
+use Rattle.evm_asm.specs.declared.item.Item.TheVariants.{Instruction, Number, Zeros, Nops}
+use Rattle.evm_asm.specs.declared.item.Placed.{Placed}
+use Rattle.evm_asm.specs.Places.{bytes_in, offset, section_size, farther, grown, is_small, low_word, needs_low_part, padding, load_size, size_at, place_behind, is_text}
+use Rattle.evm_asm.specs.Programs.{Spelled, spelled, spelled_item, worded, repeated, number_bytes, nop_bytes}
+use Rattle.evm_asm.specs.declared.item.Expansion.{Expansion}
+use Rattle.evm_asm.specs.declared.item.Expansion.TheVariants.{Empty, Single, Double}
+use Rattle.evm_asm.specs.declared.place.Place.{Place}
 use Rattle.evm_asm.specs.Items.{text_base, distance_to, load_immediate, load_address, expanded, with_item, with_instructions, value_in, number_pushed, with_numbers, filling, operands, with_statement}
-use Rattle.evm_asm.proofs.Counted.{in_text, in_data, item_size, item_section, text_in, data_in, text_in-push, data_in-push}
-use Rattle.evm_asm.proofs.Instructions_in_text.{is_instruction}
+use Rattle.evm_asm.proofs.Results.{and_then_ok, same_ok, bind_ok, same_items, same_place, same_expansion}
+use Rattle.evm_asm.proofs.Statements_without_labels.{is_instruction}
 
-pub bind_ok : {A B : Type 0} (r : Result A AsmFaultKind) (f : A → Result B AsmFaultKind) (y : B) → (r >>= f) ≡ Ok y → (x : A) × (r ≡ Ok x) × (f x ≡ Ok y)
-bind_ok (Ok x) f y h = (x, refl, h)
-bind_ok (Err e) f y h = cc
+-- ---- how many bytes a list of items adds to each section
 
-pub same_items : (a b : List Placed) → ◌≡◌ {A = Result (List Placed) AsmFaultKind} (Ok a) (Ok b) → a ≡ b
-same_items a b h = cc
+-- so many bytes of a section, as the text and the data see them
+abbrev pub in_text : Part → ℕ → ℕ
+in_text Text n = n
+in_text Data n = 0
 
-pub same_place : (a b : Place) → ◌≡◌ {A = Result Place AsmFaultKind} (Ok a) (Ok b) → a ≡ b
-same_place a b h = cc
+abbrev pub in_data : Part → ℕ → ℕ
+in_data Text n = 0
+in_data Data n = n
+
+abbrev pub item_size : Item → ℕ
+item_size (Instruction line i) = 4
+item_size (Number width value) = bytes_in width
+item_size (Zeros n) = n
+item_size (Nops n) = n * 4
+
+-- an instruction stands in the text, whatever its section is
+abbrev pub item_section : Part → Item → Part
+item_section part (Instruction line i) = Text
+item_section part item = part
+
+abbrev pub text_of : Placed → ℕ
+text_of p = in_text (item_section p.section p.item) (item_size p.item)
+
+abbrev pub data_of : Placed → ℕ
+data_of p = in_data (item_section p.section p.item) (item_size p.item)
+
+abbrev pub text_in : List Placed → ℕ
+text_in [] = 0
+text_in (p ∷ ps) = text_of p + text_in ps
+
+abbrev pub data_in : List Placed → ℕ
+data_in [] = 0
+data_in (p ∷ ps) = data_of p + data_in ps
+
+pub text_in-push : (ps : List Placed) (p : Placed) → text_in (ps ++ p ∷ []) ≡ text_in ps + text_of p
+text_in-push [] p = omega arith
+text_in-push (q ∷ ps) p = let h = text_in-push ps p in omega (arith, h)
+
+pub data_in-push : (ps : List Placed) (p : Placed) → data_in (ps ++ p ∷ []) ≡ data_in ps + data_of p
+data_in-push [] p = omega arith
+data_in-push (q ∷ ps) p = let h = data_in-push ps p in omega (arith, h)
+
+pub length-repeated : (n : ℕ) (unit bytes : List ℕ) → length (repeated n unit bytes) ≡ length bytes + n * length unit
+unfolding repeated
+length-repeated zero unit bytes = omega arith
+length-repeated (suc n) unit bytes = let h = length-repeated n unit (bytes ++ unit) in let k = length-append bytes unit in omega (arith, h, k)
+
+-- the lengths of the two sections behind an item
+pub record IsLonger (text more : ℕ) (s u : Spelled) : Type 0 where
+  pub text_is : length u.text_bytes ≡ length s.text_bytes + text
+  pub rest_is : length u.data_bytes ≡ length s.data_bytes + more
+
+pub number_length : (width : Width) (value : ℕ) → length (number_bytes (bytes_in width) value) ≡ bytes_in width
+number_length Byte value = refl
+number_length Word value = refl
+number_length Dword value = refl
+
+word_longer : (line : ℕ) (i : Inst) (o : Option ℕ) (s u : Spelled) → worded line i o s ≡ Ok u → IsLonger 4 0 s u
+word_longer line i (Some w) s u h =
+    let four : length (to_le_bytes w32 w) ≡ 4 = refl in
+    subst (λ (t : Spelled). IsLonger 4 0 s t) (same_ok _ u h)
+    (record { text_is = omega (arith, length-append s.text_bytes (to_le_bytes w32 w)); rest_is = omega arith })
+word_longer line i None s u h = cc
+
+longer_by : (part : Part) (item : Item) (s u : Spelled) → spelled_item part item s ≡ Ok u
+    → IsLonger (in_text (item_section part item) (item_size item)) (in_data (item_section part item) (item_size item)) s u
+unfolding spelled_item
+longer_by part (Instruction line i) s u h = word_longer line i (encoded i) s u h
+longer_by Text (Number width value) s u h =
+    subst (λ (t : Spelled). IsLonger (bytes_in width) 0 s t) (same_ok _ u h)
+    (record { text_is = omega (arith, length-append s.text_bytes (number_bytes (bytes_in width) value), number_length width value); rest_is = omega arith })
+longer_by Data (Number width value) s u h =
+    subst (λ (t : Spelled). IsLonger 0 (bytes_in width) s t) (same_ok _ u h)
+    (record { text_is = omega arith; rest_is = omega (arith, length-append s.data_bytes (number_bytes (bytes_in width) value), number_length width value) })
+longer_by Text (Zeros n) s u h =
+    subst (λ (t : Spelled). IsLonger n 0 s t) (same_ok _ u h)
+    (record { text_is = omega (arith, length-repeated n (0 ∷ []) s.text_bytes); rest_is = omega arith })
+longer_by Data (Zeros n) s u h =
+    subst (λ (t : Spelled). IsLonger 0 n s t) (same_ok _ u h)
+    (record { text_is = omega arith; rest_is = omega (arith, length-repeated n (0 ∷ []) s.data_bytes) })
+longer_by Text (Nops n) s u h =
+    subst (λ (t : Spelled). IsLonger (n * 4) 0 s t) (same_ok _ u h)
+    (record { text_is = omega (arith, length-repeated n nop_bytes s.text_bytes); rest_is = omega arith })
+longer_by Data (Nops n) s u h =
+    subst (λ (t : Spelled). IsLonger 0 (n * 4) s t) (same_ok _ u h)
+    (record { text_is = omega arith; rest_is = omega (arith, length-repeated n nop_bytes s.data_bytes) })
+
+pub item_longer : (p : Placed) (s u : Spelled) → spelled_item p.section p.item s ≡ Ok u → IsLonger (text_of p) (data_of p) s u
+item_longer p s u h = longer_by p.section p.item s u h
+
+pub items_longer : (items : List Placed) (s t : Spelled) → spelled items s ≡ Ok t → IsLonger (text_in items) (data_in items) s t
+unfolding spelled
+items_longer [] s t h = subst (λ (t : Spelled). IsLonger 0 0 s t) (same_ok s t h) (record { text_is = omega arith; rest_is = omega arith })
+items_longer (p ∷ ps) s t h =
+    let step = and_then_ok (spelled_item p.section p.item s) (spelled ps) t h in
+    let one = item_longer p s step.0 step.1 in
+    let others = items_longer ps step.0 t step.2 in
+    record { text_is = omega (arith, one.text_is, others.text_is); rest_is = omega (arith, one.rest_is, others.rest_is) }
+
+-- ---- what a statement adds to the sections is its size
 
 -- the second list has so many bytes more of a section
 pub record Adds (part : Part) (n : ℕ) (a b : List Placed) : Type 0 where
@@ -114,9 +210,6 @@ immediate_size_by a b c d false false = refl
 immediate_size : (rd : ℕ) (value : ℤ) → load_size value ≡ expansion_size (load_immediate rd value)
 unfolding load_size load_immediate
 immediate_size rd value = immediate_size_by _ _ _ _ (is_small value) (needs_low_part (low_word value))
-
-pub same_expansion : (a b : Expansion) → ◌≡◌ {A = Result Expansion AsmFaultKind} (Ok a) (Ok b) → a ≡ b
-same_expansion a b h = cc
 
 address_size : (size from rd : ℕ) (o : Option Spot) (e : Expansion) → load_address size from rd o ≡ Ok e → 8 ≡ expansion_size e
 unfolding load_address
@@ -200,3 +293,60 @@ statement_balanced labels size line place next text (Space n) a b t h k balanced
 statement_balanced labels size line place next text (Align power) a b t h k balanced =
     grown_balanced place next (padding (offset place) power) a b k (λ _. subst (λ (c : List Placed). Adds place.section (padding (offset place) power) a c) (same_items _ b h) (align_adds place power a)) balanced
 statement_balanced labels size line place next text s a b t h k balanced = instruction_balanced size line place next s a b refl (t refl) h k balanced
+
+-- ---- what stands in a list of items stays there
+
+module _ (R : ℕ → ℕ → Placed → Type 0) where
+  -- R holds of one of the items, behind so many bytes of text and of data
+  abbrev pub Has : ℕ → ℕ → List Placed → Type 0
+  Has t d [] = ⊥
+  Has t d (p ∷ ps) = R t d p ⊎ Has (t + text_of p) (d + data_of p) ps
+
+  stays : (t d : ℕ) (ps : List Placed) (p : Placed) → Has t d ps → Has t d (ps ++ p ∷ [])
+  stays t d [] p h = absurd h
+  stays t d (q ∷ ps) p h = ⊎_elim (λ k. inl k) (λ k. inr (stays (t + text_of q) (d + data_of q) ps p k)) h
+
+  at_bytes : (p : Placed) (t u d e : ℕ) → t ≡ u → d ≡ e → R t d p → R u e p
+  at_bytes p t u d e h k r = subst (λ (m : ℕ). R u m p) k (subst (λ (m : ℕ). R m d p) h r)
+
+  comes : (t d : ℕ) (ps : List Placed) (p : Placed) → R (t + text_in ps) (d + data_in ps) p → Has t d (ps ++ p ∷ [])
+  comes t d [] p r = inl (at_bytes p (t + 0) t (d + 0) d (omega arith) (omega arith) r)
+  comes t d (q ∷ ps) p r =
+      inr (comes (t + text_of q) (d + data_of q) ps p
+      (at_bytes p (t + (text_of q + text_in ps)) (t + text_of q + text_in ps) (d + (data_of q + data_in ps)) (d + data_of q + data_in ps) (omega arith) (omega arith) r))
+
+  pub item_stays : (part : Part) (item : Item) (a : List Placed) → Has 0 0 a → Has 0 0 (with_item part item a)
+  item_stays part item a h = stays 0 0 a (record { section = part; item = item }) h
+
+  pub item_comes : (part : Part) (item : Item) (a : List Placed) → R (text_in a) (data_in a) (record { section = part; item = item }) → Has 0 0 (with_item part item a)
+  item_comes part item a r =
+      let p : Placed = record { section = part; item = item } in
+      comes 0 0 a p (at_bytes p (text_in a) (0 + text_in a) (data_in a) (0 + data_in a) (omega arith) (omega arith) r)
+
+  number_stays : (labels : Spots) (size : ℕ) (part : Part) (width : Width) (text : List ℕ) (a b : List Placed) → number_pushed labels size part width text a ≡ Ok b → Has 0 0 a → Has 0 0 b
+  unfolding number_pushed
+  number_stays labels size part width text a b h k =
+      let v = bind_ok (value_in labels size width text) (λ v. Ok (with_item part (Number width v) a)) b h in
+      subst (λ (c : List Placed). Has 0 0 c) (same_items _ b v.2) (item_stays part (Number width v.0) a k)
+
+  pub numbers_stay : (labels : Spots) (size : ℕ) (part : Part) (width : Width) (n : ℕ) (text : List ℕ) (a b : List Placed) → with_numbers labels size part width n text a ≡ Ok b → Has 0 0 a → Has 0 0 b
+  unfolding with_numbers
+  numbers_stay labels size part width zero text a b h k = subst (λ (c : List Placed). Has 0 0 c) (same_items a b h) k
+  numbers_stay labels size part width (suc n) text a b h k =
+      let one = bind_ok (number_pushed labels size part width (first_operand text) a) (λ items. with_numbers labels size part width n (other_operands text) items) b h in
+      numbers_stay labels size part width n (other_operands text) one.0 b one.2 (number_stays labels size part width (first_operand text) a one.0 one.1 k)
+
+  instructions_stay : (line : ℕ) (e : Expansion) (a : List Placed) → Has 0 0 a → Has 0 0 (with_instructions line e a)
+  unfolding with_instructions
+  instructions_stay line Empty a k = k
+  instructions_stay line (Single i) a k = item_stays Text (Instruction line i) a k
+  instructions_stay line (Double i j) a k = item_stays Text (Instruction line j) _ (item_stays Text (Instruction line i) a k)
+
+  pub statement_stays : (labels : Spots) (size line : ℕ) (place : Place) (text : List ℕ) (s : Statement) (a b : List Placed) → with_statement labels size line place text s a ≡ Ok b → Has 0 0 a → Has 0 0 b
+  unfolding with_statement
+  statement_stays labels size line place text (Numbers width count) a b h k = numbers_stay labels size place.section width count (operands text) a b h k
+  statement_stays labels size line place text (Space n) a b h k = subst (λ (c : List Placed). Has 0 0 c) (same_items _ b h) (item_stays place.section (Zeros n) a k)
+  statement_stays labels size line place text (Align power) a b h k = subst (λ (c : List Placed). Has 0 0 c) (same_items _ b h) (item_stays place.section (filling place power) a k)
+  statement_stays labels size line place text s a b h k =
+      let e = bind_ok (expanded size (text_base + place.text_size) s) (λ e. Ok (with_instructions line e a)) b h in
+      subst (λ (c : List Placed). Has 0 0 c) (same_items _ b e.2) (instructions_stay line e.0 a k)

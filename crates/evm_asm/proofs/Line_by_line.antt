@@ -1,0 +1,236 @@
+-- The loops over the lines, labels and numbers of a source do what is defined of them.
+use Rattle.std.proofs.Common.{◌≡◌, ℕ, List, [], ◌∷◌, map, Some, cond, Bool, true, false, refl, suc, ◌-◌, ◌+◌, ◌<◌, ◌≤◌, ◌++◌, ap, arith, ◌∙◌, zero, Option, None, not, ◌==◌, nat_lt, length, take, drop, sym, Result, Ok, Err}
+use Rattle.std.specs.Option.{option_map, unwrap_or}
+use Rattle.std.specs.Str.{bytes_eq}
+use Rattle.std.specs.List.{position_or_len}
+use Rattle.std.proofs.lemmas.Bool.{ltb-false}
+use Rattle.std.proofs.lemmas.List.Sums.{prefix_len-le-length}
+use Rattle.evm_words.specs.Names.{named}
+use Rattle.evm_words.specs.Characters.{newline}
+use Rattle.evm_words.specs.Text.{before, after, place_by, tail}
+use Rattle.evm_words.specs.declared.fault.AsmFaultKind.{AsmFaultKind}
+use Rattle.evm_words.specs.declared.mnemonic.Section.{Section}
+use Rattle.evm_words.specs.declared.mnemonic.Width.{Width}
+use Rattle.evm_words.specs.Faults.{◌>>=◌}
+use Rattle.evm_words.specs.declared.fault.AsmFault.{AsmFault}
+use Rattle.evm_statement.specs.declared.spot.Spot.{Spot}
+use Rattle.evm_statement.specs.Operands.{Spots, first_operand, other_operands}
+use Rattle.evm_asm.specs.Programs.{repeated}
+use Rattle.evm_asm.specs.Sources.{label_at, behind_labels, Defined, with_label, defined, source_lines, in_front, code_of, Laid, laid, with_line_laid, line_laid, first_fault, IsLaid}
+use Rattle.evm_asm.specs.declared.place.Place.{Place}
+use Rattle.evm_asm.specs.declared.meaning.Stop.{Stop}
+use Rattle.evm_asm.specs.declared.item.Placed.{Placed}
+use Rattle.evm_asm.specs.Items.{Fails, with_numbers, number_pushed, line_or_fault, lines_meant, and_then}
+use Rattle.evm_asm.specs.declared.meaning.Stop.TheVariants as stop
+
+-- ---- the address of the label of a name
+
+pub named-addressed : (f : Spot → ℕ) (ls : List (List ℕ × Spot)) (q : List ℕ) → named (map (λ l. (l.0, f l.1)) ls) q ≡ option_map f (named ls q)
+named-addressed f [] q = refl
+named-addressed f (l ∷ ls) q = by (bytes_eq q l.0) (named-addressed f ls q)
+  where
+    by : (t : Bool) → named (map (λ l. (l.0, f l.1)) ls) q ≡ option_map f (named ls q)
+        → cond t (Some (f l.1)) (named (map (λ l. (l.0, f l.1)) ls) q) ≡ option_map f (cond t (Some l.1) (named ls q))
+    by true h = refl
+    by false h = h
+
+-- ---- loops that write one thing after another
+
+pub repeated-more : (count i : ℕ) (unit bytes : List ℕ) → i < count → repeated (count - i) unit bytes ≡ repeated (count - (i + 1)) unit (bytes ++ unit)
+unfolding repeated
+repeated-more count i unit bytes lt =
+    let e : count - i ≡ suc (count - (i + 1)) = omega arith in
+    ap (λ n. repeated n unit bytes) e
+
+pub repeated-done : (count i : ℕ) (unit bytes : List ℕ) → count ≤ i → repeated (count - i) unit bytes ≡ bytes
+unfolding repeated
+repeated-done count i unit bytes h =
+    let e : count - i ≡ 0 = omega arith in
+    ap (λ n. repeated n unit bytes) e
+
+pub behind_labels-none : (n : ℕ) (text : List ℕ) → label_at text ≡ None → behind_labels n text ≡ text
+unfolding behind_labels
+behind_labels-none zero text h = refl
+behind_labels-none (suc n) text h =
+    ap (λ (o : Option (List ℕ × List ℕ)). elim o as (λ _. List ℕ) [ None ↦ text | Some label ↦ behind_labels n label.1 ]) h
+
+pub one_label : (n : ℕ) (text name tail : List ℕ) → label_at text ≡ Some (name, tail) → behind_labels (suc n) text ≡ behind_labels n tail
+unfolding behind_labels
+one_label n text name tail h =
+    ap (λ (o : Option (List ℕ × List ℕ)). elim o as (λ _. List ℕ) [ None ↦ text | Some label ↦ behind_labels n label.1 ]) h
+
+pub behind_labels-some : (count i : ℕ) (text name tail : List ℕ) → i < count → label_at text ≡ Some (name, tail) → behind_labels (count - i) text ≡ behind_labels (count - (i + 1)) tail
+behind_labels-some count i text name tail lt h =
+    let e : count - i ≡ suc (count - (i + 1)) = omega arith in
+    ap (λ n. behind_labels n text) e ∙ one_label (count - (i + 1)) text name tail h
+
+pub behind_labels-done : (count i : ℕ) (text : List ℕ) → count ≤ i → behind_labels (count - i) text ≡ text
+unfolding behind_labels
+behind_labels-done count i text h =
+    let e : count - i ≡ 0 = omega arith in
+    ap (λ n. behind_labels n text) e
+
+pub defined-none : (n : ℕ) (spot : Spot) (text : List ℕ) (d : Defined) → label_at text ≡ None → defined n spot text d ≡ d
+unfolding defined
+defined-none zero spot text d h = refl
+defined-none (suc n) spot text d h =
+    ap (λ (o : Option (List ℕ × List ℕ)). elim o as (λ _. Defined) [ None ↦ d | Some label ↦ defined n spot label.1 (with_label spot label.0 d) ]) h
+
+pub one_defined : (n : ℕ) (spot : Spot) (text name tail : List ℕ) (d : Defined) → label_at text ≡ Some (name, tail) → defined (suc n) spot text d ≡ defined n spot tail (with_label spot name d)
+unfolding defined
+one_defined n spot text name tail d h =
+    ap (λ (o : Option (List ℕ × List ℕ)). elim o as (λ _. Defined) [ None ↦ d | Some label ↦ defined n spot label.1 (with_label spot label.0 d) ]) h
+
+pub defined-some : (count i : ℕ) (spot : Spot) (text name tail : List ℕ) (d : Defined) → i < count → label_at text ≡ Some (name, tail) → defined (count - i) spot text d ≡ defined (count - (i + 1)) spot tail (with_label spot name d)
+defined-some count i spot text name tail d lt h =
+    let e : count - i ≡ suc (count - (i + 1)) = omega arith in
+    ap (λ n. defined n spot text d) e ∙ one_defined (count - (i + 1)) spot text name tail d h
+
+pub defined-done : (count i : ℕ) (spot : Spot) (text : List ℕ) (d : Defined) → count ≤ i → defined (count - i) spot text d ≡ d
+unfolding defined
+defined-done count i spot text d h =
+    let e : count - i ≡ 0 = omega arith in
+    ap (λ n. defined n spot text d) e
+
+-- ---- a source is cut into its lines, and laid out line by line
+
+picked : (n m : ℕ) → n ≤ m → (t : Bool) → nat_lt n m ≡ t → unwrap_or (cond t (Some n) None) m ≡ n
+picked n m h true e = refl
+picked n m h false e = omega (arith, ltb-false n m e)
+
+place-is : (p : ℕ → Bool) (xs : List ℕ) → place_by p xs ≡ position_or_len p xs
+place-is p xs = picked (position_or_len p xs) (length xs) (prefix_len-le-length (λ x. not (p x)) xs) _ refl
+
+place-cons : (c b : ℕ) (bs : List ℕ) (t : Bool) → (b == c) ≡ t → place_by (λ x. x == c) (b ∷ bs) ≡ cond t 0 (suc (place_by (λ x. x == c) bs))
+place-cons c b bs true e = place-is (λ x. x == c) (b ∷ bs) ∙ ap (λ t. cond (not t) (1 + position_or_len (λ x. x == c) bs) 0) e
+place-cons c b bs false e =
+    let one : 1 + position_or_len (λ x. x == c) bs ≡ suc (position_or_len (λ x. x == c) bs) = omega arith in
+    place-is (λ x. x == c) (b ∷ bs) ∙ ap (λ t. cond (not t) (1 + position_or_len (λ x. x == c) bs) 0) e ∙ one
+    ∙ ap (λ n. suc n) (sym (place-is (λ x. x == c) bs))
+
+before-cons : (c b : ℕ) (bs : List ℕ) (t : Bool) → (b == c) ≡ t → before c (b ∷ bs) ≡ cond t [] (b ∷ before c bs)
+unfolding before
+before-cons c b bs true e = ap (λ n. take n (b ∷ bs)) (place-cons c b bs true e)
+before-cons c b bs false e = ap (λ n. take n (b ∷ bs)) (place-cons c b bs false e)
+
+after-cons : (c b : ℕ) (bs : List ℕ) (t : Bool) → (b == c) ≡ t → after c (b ∷ bs) ≡ cond t bs (after c bs)
+unfolding after
+after-cons c b bs true e = ap (λ n. tail (drop n (b ∷ bs))) (place-cons c b bs true e)
+after-cons c b bs false e = ap (λ n. tail (drop n (b ∷ bs))) (place-cons c b bs false e)
+
+first_line : (b : ℕ) (bs : List ℕ) (t : Bool) → (b == newline) ≡ t → source_lines (b ∷ bs) ≡ cond t ([] ∷ source_lines bs) (in_front b (source_lines bs))
+unfolding source_lines
+first_line b bs t e = ap (λ t. cond t ([] ∷ source_lines bs) (in_front b (source_lines bs))) e
+
+by_first : (b : ℕ) (bs : List ℕ) (t : Bool) → (b == newline) ≡ t → in_front b (source_lines bs) ≡ (b ∷ before newline bs) ∷ source_lines (after newline bs)
+    → source_lines (b ∷ bs) ≡ before newline (b ∷ bs) ∷ source_lines (after newline (b ∷ bs))
+by_first b bs true e h =
+    first_line b bs true e
+    ∙ ap (λ (l : List ℕ). l ∷ source_lines bs) (sym (before-cons newline b bs true e))
+    ∙ ap (λ (r : List ℕ). before newline (b ∷ bs) ∷ source_lines r) (sym (after-cons newline b bs true e))
+by_first b bs false e h =
+    first_line b bs false e ∙ h
+    ∙ ap (λ (l : List ℕ). l ∷ source_lines (after newline bs)) (sym (before-cons newline b bs false e))
+    ∙ ap (λ (r : List ℕ). before newline (b ∷ bs) ∷ source_lines r) (sym (after-cons newline b bs false e))
+
+nothing_behind : (b : ℕ) → in_front b (source_lines []) ≡ (b ∷ before newline []) ∷ source_lines (after newline [])
+unfolding source_lines before after
+nothing_behind b = refl
+
+-- a text that isn't empty is its first line, and the lines behind it
+pub lines-cut : (b : ℕ) (bs : List ℕ) → source_lines (b ∷ bs) ≡ before newline (b ∷ bs) ∷ source_lines (after newline (b ∷ bs))
+lines-cut b [] = by_first b [] (b == newline) refl (nothing_behind b)
+lines-cut b (x ∷ xs) = by_first b (x ∷ xs) (b == newline) refl (ap (in_front b) (lines-cut x xs))
+
+none_behind : (c : ℕ) → length (after c []) ≡ 0
+unfolding after
+none_behind c = refl
+
+shorter : (c b : ℕ) (bs : List ℕ) (t : Bool) → (b == c) ≡ t → length (after c bs) ≤ length bs → length (after c (b ∷ bs)) ≤ length bs
+shorter c b bs true e h = omega (arith, ap (λ (l : List ℕ). length l) (after-cons c b bs true e))
+shorter c b bs false e h = omega (arith, ap (λ (l : List ℕ). length l) (after-cons c b bs false e))
+
+pub after-shorter : (c b : ℕ) (bs : List ℕ) → length (after c (b ∷ bs)) ≤ length bs
+after-shorter c b [] = shorter c b [] (b == c) refl (omega (arith, none_behind c))
+after-shorter c b (x ∷ xs) = let h : length (after c (x ∷ xs)) ≤ length xs = after-shorter c x xs in shorter c b (x ∷ xs) (b == c) refl (omega arith)
+
+pub one-line : (s : Laid) (rest : List ℕ) → 0 < length rest → laid s (source_lines rest) ≡ laid (with_line_laid s (before newline rest)) (source_lines (after newline rest))
+unfolding laid
+one-line s [] h = absurd (omega arith)
+one-line s (b ∷ bs) h = ap (λ (ls : List (List ℕ)). laid s ls) (lines-cut b bs)
+
+pub line-is : (s : Laid) (line : List ℕ) (labels : Spots) (next : Place × Option AsmFaultKind) → (labels, next) ≡ line_laid s.labels s.place (code_of line)
+    → with_line_laid s line ≡ record { lines = s.lines + 1; place = next.0; labels = labels; first = first_fault s.first (s.lines + 1) next.1 }
+unfolding with_line_laid
+line-is s line labels next h =
+    ap (λ (o : Spots × (Place × Option AsmFaultKind)). let r : Laid = record { lines = s.lines + 1; place = o.1.0; labels = o.0; first = first_fault s.first (s.lines + 1) o.1.1 } in r) (sym h)
+
+pub no-lines : (s : Laid) (rest : List ℕ) → length rest ≡ 0 → laid s (source_lines rest) ≡ s
+unfolding laid source_lines
+no-lines s [] h = refl
+no-lines s (b ∷ bs) h = absurd (omega arith)
+
+pub after-less : (c : ℕ) (rest : List ℕ) → 0 < length rest → length (after c rest) + 1 ≤ length rest
+after-less c [] h = absurd (omega arith)
+after-less c (b ∷ bs) h = let k = after-shorter c b bs in omega arith
+
+-- ---- the meaning of a source, item by item and line by line
+
+module _ (labels : Spots) (size : ℕ) (part : Section) (width : Width) (count i : ℕ) (text : List ℕ) (so_far : List Placed) where
+  one : i < count → with_numbers labels size part width (count - i) text so_far
+      ≡ (number_pushed labels size part width (first_operand text) so_far >>= λ items. with_numbers labels size part width (count - (i + 1)) (other_operands text) items)
+  unfolding with_numbers
+  one lt =
+      let e : count - i ≡ suc (count - (i + 1)) = omega arith in
+      ap (λ n. with_numbers labels size part width n text so_far) e
+
+  pub numbers-ok : (items : List Placed) → i < count → number_pushed labels size part width (first_operand text) so_far ≡ Ok items
+      → with_numbers labels size part width (count - i) text so_far ≡ with_numbers labels size part width (count - (i + 1)) (other_operands text) items
+  numbers-ok items lt h =
+      one lt ∙ ap (λ (r : Result (List Placed) AsmFaultKind). r >>= λ items. with_numbers labels size part width (count - (i + 1)) (other_operands text) items) h
+
+  pub numbers-done : count ≤ i → with_numbers labels size part width (count - i) text so_far ≡ Ok so_far
+  unfolding with_numbers
+  numbers-done h =
+      let e : count - i ≡ 0 = omega arith in
+      ap (λ n. with_numbers labels size part width n text so_far) e
+
+pub numbers-stop : (s : Stop) (labels : Spots) (size : ℕ) (part : Section) (width : Width) (count i : ℕ) (text : List ℕ) (so_far : List Placed) (whole : Result (List Placed) AsmFaultKind)
+    → i < count → Fails s (number_pushed labels size part width (first_operand text) so_far)
+    → with_numbers labels size part width (count - i) text so_far ≡ whole → Fails s whole
+numbers-stop stop.Memory labels size part width count i text so_far whole lt h w = tt
+numbers-stop (stop.Fault kind) labels size part width count i text so_far whole lt h w =
+    sym w ∙ one labels size part width count i text so_far lt
+    ∙ ap (λ (r : Result (List Placed) AsmFaultKind). r >>= λ items. with_numbers labels size part width (count - (i + 1)) (other_operands text) items) h
+
+pub same-line : (labels : Spots) (place : Place) (first : Option AsmFault) (l : Laid) → IsLaid labels place first l → (n : ℕ) (at : Place) (code : List ℕ) (so_far : List Placed)
+    → line_or_fault labels place.text_size first n at code so_far ≡ line_or_fault l.labels l.place.text_size l.first n at code so_far
+same-line labels place first l h n at code so_far =
+    ap (λ (s : Spots). line_or_fault s place.text_size first n at code so_far) h.labels_are
+    ∙ ap (λ (p : Place). line_or_fault l.labels p.text_size first n at code so_far) h.place_is
+    ∙ ap (λ (f : Option AsmFault). line_or_fault l.labels l.place.text_size f n at code so_far) h.first_is
+
+module _ (l : Laid) (n : ℕ) (place : Place) where
+  told_line : (rest : List ℕ) (so_far : List Placed) → 0 < length rest
+      → lines_meant l n place (source_lines rest) so_far
+      ≡ and_then (line_or_fault l.labels l.place.text_size l.first (n + 1) place (code_of (before newline rest)) so_far) (λ x. lines_meant l (n + 1) x.0 (source_lines (after newline rest)) x.1)
+  unfolding lines_meant
+  told_line [] so_far h = absurd (omega arith)
+  told_line (b ∷ bs) so_far h = ap (λ (ls : List (List ℕ)). lines_meant l n place ls so_far) (lines-cut b bs)
+
+  pub goes-on : (rest : List ℕ) (so_far : List Placed) (next : Place) (items : List Placed) → 0 < length rest
+      → line_or_fault l.labels l.place.text_size l.first (n + 1) place (code_of (before newline rest)) so_far ≡ Ok (next, items)
+      → lines_meant l n place (source_lines rest) so_far ≡ lines_meant l (n + 1) next (source_lines (after newline rest)) items
+  goes-on rest so_far next items h e =
+      told_line rest so_far h ∙ ap (λ (r : Result (Place × List Placed) AsmFault). and_then r (λ x. lines_meant l (n + 1) x.0 (source_lines (after newline rest)) x.1)) e
+
+  pub stops : (rest : List ℕ) (so_far : List Placed) (fault : AsmFault) → 0 < length rest
+      → line_or_fault l.labels l.place.text_size l.first (n + 1) place (code_of (before newline rest)) so_far ≡ Err fault
+      → lines_meant l n place (source_lines rest) so_far ≡ Err fault
+  stops rest so_far fault h e =
+      told_line rest so_far h ∙ ap (λ (r : Result (Place × List Placed) AsmFault). and_then r (λ x. lines_meant l (n + 1) x.0 (source_lines (after newline rest)) x.1)) e
+
+  pub ends : (rest : List ℕ) (so_far : List Placed) → length rest ≡ 0 → lines_meant l n place (source_lines rest) so_far ≡ Ok so_far
+  unfolding lines_meant source_lines
+  ends [] so_far h = refl
+  ends (b ∷ bs) so_far h = absurd (omega arith)

@@ -1,0 +1,47 @@
+-- What follows of a result that is Ok.
+use Rattle.std.proofs.Common.{Ok, Err, IfOk, ◌≡◌, ℕ, List, Option, Some, None, Result, refl}
+use Rattle.evm_words.specs.declared.fault.AsmFault.{AsmFault}
+use Rattle.evm_words.specs.declared.fault.AsmFaultKind.{AsmFaultKind}
+use Rattle.evm_words.specs.Faults.{◌>>=◌}
+use Rattle.evm_asm.specs.Items.{and_then, stop_at, unless_stopped, meaning_or_fault}
+use Rattle.evm_asm.specs.declared.item.Expansion.{Expansion}
+use Rattle.evm_asm.specs.declared.item.Placed.{Placed}
+use Rattle.evm_asm.specs.declared.place.Place.{Place}
+use Rattle.evm_asm.specs.Programs.{Spelled}
+use Rattle.evm_asm.specs.Assembled.{Assembled}
+
+pub and_then_if_ok : {A B : Type 0} (r : Result A AsmFault) (f : A → Result B AsmFault) (P : A → Type 0) (Q : B → Type 0)
+    → IfOk r P → ((x : A) → P x → IfOk (f x) Q) → IfOk (and_then r f) Q
+and_then_if_ok (Ok x) f P Q h k = k x h
+and_then_if_ok (Err e) f P Q h k = tt
+
+pub bind_ok : {A B : Type 0} (r : Result A AsmFaultKind) (f : A → Result B AsmFaultKind) (y : B) → (r >>= f) ≡ Ok y → (x : A) × (r ≡ Ok x) × (f x ≡ Ok y)
+bind_ok (Ok x) f y h = (x, refl, h)
+bind_ok (Err e) f y h = cc
+
+pub same_items : (a b : List Placed) → ◌≡◌ {A = Result (List Placed) AsmFaultKind} (Ok a) (Ok b) → a ≡ b
+same_items a b h = cc
+
+pub same_place : (a b : Place) → ◌≡◌ {A = Result Place AsmFaultKind} (Ok a) (Ok b) → a ≡ b
+same_place a b h = cc
+
+pub same_expansion : (a b : Expansion) → ◌≡◌ {A = Result Expansion AsmFaultKind} (Ok a) (Ok b) → a ≡ b
+same_expansion a b h = cc
+
+pub and_then_ok : {A B : Type 0} (r : Result A AsmFault) (f : A → Result B AsmFault) (y : B) → and_then r f ≡ Ok y → (x : A) × (r ≡ Ok x) × (f x ≡ Ok y)
+and_then_ok (Ok x) f y h = (x, refl, h)
+and_then_ok (Err e) f y h = cc
+
+pub same_ok : (s t : Spelled) → ◌≡◌ {A = Result Spelled AsmFault} (Ok s) (Ok t) → s ≡ t
+same_ok s t h = cc
+
+pub same_program : (s t : Assembled) → ◌≡◌ {A = Result Assembled AsmFault} (Ok s) (Ok t) → s ≡ t
+same_program s t h = cc
+
+unless_stopped_ok : {A : Type 0} (o : Option AsmFault) (a : A) (P : A → Type 0) → P a → IfOk (unless_stopped o a) P
+unless_stopped_ok None a P h = h
+unless_stopped_ok (Some fault) a P h = tt
+
+pub told_ok : {A : Type 0} (first : Option AsmFault) (line : ℕ) (r : Result A AsmFaultKind) (P : A → Type 0) → IfOk r P → IfOk (meaning_or_fault first line r) P
+told_ok first line (Ok a) P h = unless_stopped_ok (stop_at first line) a P h
+told_ok first line (Err kind) P h = tt
