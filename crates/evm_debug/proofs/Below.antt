@@ -1,10 +1,11 @@
 -- One more line of a view that goes by numbers.
-use Rattle.std.proofs.Common.{◌≡◌, ℕ, ◌+◌, List, [], ◌++◌, refl, ap, sym, ◌∙◌, append_assoc, add-one}
-use Rattle.std.proofs.lemmas.List.{append-nil}
-use Rattle.std.specs.Prelude.{slice_get}
+use Rattle.std.proofs.Common.{◌≡◌, ℕ, zero, suc, ◌+◌, ◌<◌, ◌≤◌, ◌-◌, List, [], ◌++◌, length, refl, ap, sym, ◌∙◌, append_assoc, add-one, arith}
+use Rattle.std.proofs.lemmas.List.{append-nil, length-append}
+use Rattle.std.specs.Prelude.{slice_get, Result, Ok, Err, OnErr}
 use Rattle.evm_core.specs.Views.{stages_at}
 use Rattle.evm_model.specs.State.{Parts}
 use Rattle.evm_model.specs.declared.mutex.Mutex.{Mutex}
+use Rattle.evm_debug.proofs.Pairs.{pairs-append}
 use Rattle.evm_debug.specs.Summary.{stages_below, stages_or_none}
 use Rattle.evm_debug.specs.Views.{tasks_below, task_text, owners_below, owner_text}
 
@@ -39,8 +40,49 @@ grown a b c whole x y last so_far all = last ∙ ap (λ (t : List ℕ). t ++ c) 
 pub begun : (a none : List ℕ) → none ≡ [] → a ≡ a ++ none
 begun a none e = sym (append-nil a) ∙ ap (λ (t : List ℕ). a ++ t) (sym e)
 
+-- its length
+pub grown_length : (a n m : ℕ) (b c whole : List ℕ) → m ≡ n + length c → n ≡ a + length b → whole ≡ b ++ c → m ≡ a + length whole
+grown_length a n m b c whole last so_far all = let size = ap length all ∙ length-append b c in omega (arith, last, so_far, size)
+
+-- ---- the line behind those so far is no longer than what is left
+
+no_shorter : (f : ℕ → List ℕ) → ((n : ℕ) → length (f n) ≤ length (f (n + 1))) → (i more : ℕ) → length (f i) ≤ length (f (i + more))
+no_shorter f step i zero = let same : i + 0 ≡ i = omega arith in rw same (omega arith)
+no_shorter f step i (suc more) =
+    let so_far = no_shorter f step i more in
+    let last = step (i + more) in
+    let next : i + suc more ≡ i + more + 1 = omega arith in
+    rw next (omega (arith, so_far, last))
+
+longer : (f : ℕ → List ℕ) (line : ℕ → List ℕ) → ((n : ℕ) → f (n + 1) ≡ f n ++ line n) → (i end : ℕ) → i < end → length (f i) + length (line i) ≤ length (f end)
+longer f line more i end below =
+    let step : (n : ℕ) → length (f n) ≤ length (f (n + 1)) = λ n. (let size = ap length (more n) ∙ length-append (f n) (line n) in omega (arith, size)) in
+    let rest = no_shorter f step (i + 1) (end - (i + 1)) in
+    let all : i + 1 + (end - (i + 1)) ≡ end = omega (arith, below) in
+    let size = ap length (more i) ∙ length-append (f i) (line i) in
+    let whole : length (f (i + 1)) ≤ length (f end) = rw all at rest in
+    omega (arith, size, whole)
+
+pub tasks_below-longer : (t end : ℕ) (k : Parts) → t < end → length (tasks_below t k) + length (task_text t (slice_get k.tasks t) (slice_get k.harts t)) ≤ length (tasks_below end k)
+tasks_below-longer t end k below = longer (λ n. tasks_below n k) (λ n. task_text n (slice_get k.tasks n) (slice_get k.harts n)) (λ n. tasks_below-more n k) t end below
+
+pub owners_below-longer : (m end : ℕ) (mutexes : List Mutex) → m < end → length (owners_below m mutexes) + length (owner_text m (slice_get mutexes m)) ≤ length (owners_below end mutexes)
+owners_below-longer m end mutexes below = longer (λ n. owners_below n mutexes) (λ n. owner_text n (slice_get mutexes n)) (λ n. owners_below-more n mutexes) m end below
+
+pub stages_below-longer : (c end : ℕ) (k : Parts) → c < end → length (stages_below c k) + length (stages_or_none c (slice_get k.processors c) (stages_at c k)) ≤ length (stages_below end k)
+stages_below-longer c end k below = longer (λ n. stages_below n k) (λ n. stages_or_none n (slice_get k.processors n) (stages_at n k)) (λ n. stages_below-more n k) c end below
+
+-- what holds anyhow holds where there is an error
+pub on_err : {A E : Type 0} (r : Result A E) (P : Type 0) → P → OnErr r P
+on_err (Ok x) P p = tt
+on_err (Err e) P p = p
+
 pub ruleset tasks = (tasks_below-none, tasks_below-more)
 
 pub ruleset owners = (owners_below-none, owners_below-more)
 
 pub ruleset stages = (stages_below-none, stages_below-more)
+
+pub ruleset lengths = (length-append, append_assoc)
+
+pub ruleset consoles = (length-append, pairs-append)

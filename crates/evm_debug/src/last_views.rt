@@ -1,7 +1,7 @@
 //! What is shown of a machine at the end of a replay.
 
-ghost use Rattle.std.specs.Prelude.{◌≡◌, ◌++◌, length, slice_get, OnOk, IfOk};
-ghost use Rattle.std.specs.String.{string_bytes};
+ghost use Rattle.std.specs.Prelude.{◌≡◌, ◌<◌, ◌≤◌, ◌+◌, ◌++◌, length, slice_get, OnOk, OnErr, IfOk};
+ghost use Rattle.std.specs.String.{string_bytes, string_capacity, string_len};
 ghost use Rattle.evm_core.specs.Views.{stages_at};
 ghost use Rattle.evm_debug.specs.Summary.{stages_below, stages_or_none, summary_text};
 
@@ -12,7 +12,11 @@ use std::alloc::{AllocError, Global};
 
 // The stages of the processor of a number, if there is one.
 fn push_stages_of(out: &mut String, c: u8, machine: &Machine) -> Result<(), AllocError>
-    ensures { OnOk result (string_bytes out.new ≡ string_bytes out.old ++ stages_or_none c (slice_get machine.now.board.parts.processors c) (stages_at c machine.now.board.parts)) }
+    ensures ok { OnOk result (string_bytes out.new ≡ string_bytes out.old ++ stages_or_none c (slice_get machine.now.board.parts.processors c) (stages_at c machine.now.board.parts)) }
+    // It gives up only where there is no room for the text.
+    ensures len { OnOk result (string_len out.new ≡ string_len out.old + length (stages_or_none c (slice_get machine.now.board.parts.processors c) (stages_at c machine.now.board.parts))) }
+    ensures full { OnErr result (string_capacity out.old < string_len out.old + length (stages_or_none c (slice_get machine.now.board.parts.processors c) (stages_at c machine.now.board.parts))) }
+    ensures capacity { string_capacity out.old ≤ string_capacity out.new }
 {
     let Some(processor) = machine.cpu(c) else {
         return Ok(());
@@ -25,7 +29,11 @@ fn push_stages_of(out: &mut String, c: u8, machine: &Machine) -> Result<(), Allo
 
 #[tactic(auto, using(crate::proofs::Below::stages))]
 fn push_all_stages(out: &mut String, machine: &Machine) -> Result<(), AllocError>
-    ensures { OnOk result (string_bytes out.new ≡ string_bytes out.old ++ stages_below (length machine.now.board.parts.processors) machine.now.board.parts) }
+    ensures ok { OnOk result (string_bytes out.new ≡ string_bytes out.old ++ stages_below (length machine.now.board.parts.processors) machine.now.board.parts) }
+    // It gives up only where there is no room for the text.
+    ensures len { OnOk result (string_len out.new ≡ string_len out.old + length (stages_below (length machine.now.board.parts.processors) machine.now.board.parts)) }
+    ensures full { OnErr result (string_capacity out.old < string_len out.old + length (stages_below (length machine.now.board.parts.processors) machine.now.board.parts)) }
+    ensures capacity { string_capacity out.old ≤ string_capacity out.new }
 {
     for c in 0..machine.cpu_count() {
         push_stages_of(out, c, machine)?;
@@ -33,8 +41,13 @@ fn push_all_stages(out: &mut String, machine: &Machine) -> Result<(), AllocError
     Ok(())
 }
 
+#[tactic(auto, using(crate::proofs::Below::lengths))]
 fn push_summary(out: &mut String, machine: &Machine) -> Result<(), AllocError>
-    ensures { OnOk result (string_bytes out.new ≡ string_bytes out.old ++ summary_text machine.now) }
+    ensures ok { OnOk result (string_bytes out.new ≡ string_bytes out.old ++ summary_text machine.now) }
+    // It gives up only where there is no room for the text.
+    ensures len { OnOk result (string_len out.new ≡ string_len out.old + length (summary_text machine.now)) }
+    ensures full { OnErr result (string_capacity out.old < string_len out.old + length (summary_text machine.now)) }
+    ensures capacity { string_capacity out.old ≤ string_capacity out.new }
 {
     push_all_stages(out, machine)?;
     push_tasks(out, machine)?;

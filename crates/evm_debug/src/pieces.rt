@@ -1,5 +1,5 @@
-ghost use Rattle.std.specs.Prelude.{◌≡◌, ◌<◌, ◌++◌, OnOk};
-ghost use Rattle.std.specs.String.{string_bytes};
+ghost use Rattle.std.specs.Prelude.{◌≡◌, ◌<◌, ◌≤◌, ◌+◌, ◌++◌, length, OnOk, OnErr};
+ghost use Rattle.std.specs.String.{string_bytes, string_capacity, string_len};
 ghost use Rattle.evm_text.specs.Written.{decimal};
 ghost use Rattle.evm_debug.specs.Views.{state_text, wait_text, class_text, number_text, two_digits};
 ghost use Rattle.evm_debug.specs.Pieces.{piece_text, pieces_text};
@@ -21,15 +21,24 @@ fn class_name(class: Class) -> &'static str
 }
 
 // A word and a number behind it.
+#[tactic(auto, using(crate::proofs::Below::lengths))]
 fn push_numbered(out: &mut String, word: &str, number: u8) -> Result<(), AllocError>
-    ensures { OnOk result (string_bytes out.new ≡ string_bytes out.old ++ (word.now ++ decimal number)) }
+    ensures ok { OnOk result (string_bytes out.new ≡ string_bytes out.old ++ (word.now ++ decimal number)) }
+    // It gives up only where there is no room for the text.
+    ensures len { OnOk result (string_len out.new ≡ string_len out.old + length (word.now ++ decimal number)) }
+    ensures full { OnErr result (string_capacity out.old < string_len out.old + length (word.now ++ decimal number)) }
+    ensures capacity { string_capacity out.old ≤ string_capacity out.new }
 {
     out.push_str(word)?;
     push_decimal(out, u64::from(number))
 }
 
 fn push_wait(out: &mut String, wait: Wait) -> Result<(), AllocError>
-    ensures { OnOk result (string_bytes out.new ≡ string_bytes out.old ++ wait_text wait) }
+    ensures ok { OnOk result (string_bytes out.new ≡ string_bytes out.old ++ wait_text wait) }
+    // It gives up only where there is no room for the text.
+    ensures len { OnOk result (string_len out.new ≡ string_len out.old + length (wait_text wait)) }
+    ensures full { OnErr result (string_capacity out.old < string_len out.old + length (wait_text wait)) }
+    ensures capacity { string_capacity out.old ≤ string_capacity out.new }
 {
     match wait {
         Wait::Line(line) => push_numbered(out, "in-wait ", line),
@@ -43,7 +52,11 @@ fn push_wait(out: &mut String, wait: Wait) -> Result<(), AllocError>
 }
 
 fn push_state(out: &mut String, state: TaskState) -> Result<(), AllocError>
-    ensures { OnOk result (string_bytes out.new ≡ string_bytes out.old ++ state_text state) }
+    ensures ok { OnOk result (string_bytes out.new ≡ string_bytes out.old ++ state_text state) }
+    // It gives up only where there is no room for the text.
+    ensures len { OnOk result (string_len out.new ≡ string_len out.old + length (state_text state)) }
+    ensures full { OnErr result (string_capacity out.old < string_len out.old + length (state_text state)) }
+    ensures capacity { string_capacity out.old ≤ string_capacity out.new }
 {
     match state {
         TaskState::InReady => out.push_str("in-ready"),
@@ -55,7 +68,11 @@ fn push_state(out: &mut String, state: TaskState) -> Result<(), AllocError>
 }
 
 fn push_number(out: &mut String, task: Option<u8>) -> Result<(), AllocError>
-    ensures { OnOk result (string_bytes out.new ≡ string_bytes out.old ++ number_text task) }
+    ensures ok { OnOk result (string_bytes out.new ≡ string_bytes out.old ++ number_text task) }
+    // It gives up only where there is no room for the text.
+    ensures len { OnOk result (string_len out.new ≡ string_len out.old + length (number_text task)) }
+    ensures full { OnErr result (string_capacity out.old < string_len out.old + length (number_text task)) }
+    ensures capacity { string_capacity out.old ≤ string_capacity out.new }
 {
     match task {
         None => out.push_str("none"),
@@ -63,15 +80,24 @@ fn push_number(out: &mut String, task: Option<u8>) -> Result<(), AllocError>
     }
 }
 
+#[tactic(auto, using(crate::proofs::Below::lengths))]
 fn push_two_digits(out: &mut String, n: u8) -> Result<(), AllocError>
-    ensures { OnOk result (string_bytes out.new ≡ string_bytes out.old ++ two_digits n) }
+    ensures ok { OnOk result (string_bytes out.new ≡ string_bytes out.old ++ two_digits n) }
+    // It gives up only where there is no room for the text.
+    ensures len { OnOk result (string_len out.new ≡ string_len out.old + length (two_digits n)) }
+    ensures full { OnErr result (string_capacity out.old < string_len out.old + length (two_digits n)) }
+    ensures capacity { string_capacity out.old ≤ string_capacity out.new }
 {
     push_decimal(out, u64::from(n / 10))?;
     push_decimal(out, u64::from(n % 10))
 }
 
 fn push_piece(out: &mut String, piece: &Piece<'_>) -> Result<(), AllocError>
-    ensures { OnOk result (string_bytes out.new ≡ string_bytes out.old ++ piece_text piece.now) }
+    ensures ok { OnOk result (string_bytes out.new ≡ string_bytes out.old ++ piece_text piece.now) }
+    // It gives up only where there is no room for the text.
+    ensures len { OnOk result (string_len out.new ≡ string_len out.old + length (piece_text piece.now)) }
+    ensures full { OnErr result (string_capacity out.old < string_len out.old + length (piece_text piece.now)) }
+    ensures capacity { string_capacity out.old ≤ string_capacity out.new }
 {
     match piece {
         Piece::Text(text) => out.push_str(text),
@@ -92,8 +118,13 @@ fn push_piece(out: &mut String, piece: &Piece<'_>) -> Result<(), AllocError>
 }
 
 /// Appends the pieces, one behind another.
+#[tactic(auto, using(crate::proofs::Below::lengths))]
 pub(crate) fn push_pieces(out: &mut String, pieces: &[Piece<'_>]) -> Result<(), AllocError>
-    ensures { OnOk result (string_bytes out.new ≡ string_bytes out.old ++ pieces_text pieces.now) }
+    ensures ok { OnOk result (string_bytes out.new ≡ string_bytes out.old ++ pieces_text pieces.now) }
+    // It gives up only where there is no room for the text.
+    ensures len { OnOk result (string_len out.new ≡ string_len out.old + length (pieces_text pieces.now)) }
+    ensures full { OnErr result (string_capacity out.old < string_len out.old + length (pieces_text pieces.now)) }
+    ensures capacity { string_capacity out.old ≤ string_capacity out.new }
 {
     for piece in pieces {
         push_piece(out, piece)?;

@@ -1,5 +1,5 @@
-ghost use Rattle.std.specs.Prelude.{◌≡◌, ◌++◌, Result, MatchResult, OnOk, codes};
-ghost use Rattle.std.specs.String.{string_bytes};
+ghost use Rattle.std.specs.Prelude.{◌≡◌, ◌<◌, ◌≤◌, ◌+◌, ◌++◌, length, Result, MatchResult, OnOk, OnErr, codes};
+ghost use Rattle.std.specs.String.{string_bytes, string_capacity, string_len};
 ghost use Rattle.evm_text.specs.Written.{pairs};
 ghost use Rattle.evm_debug.specs.Views.{shown, ViewFails};
 
@@ -81,8 +81,13 @@ pub fn view(alloc: Global, machine: &Machine, what: &View) -> Result<String, Vie
     made(out, pushed)
 }
 
+#[tactic(auto, using(crate::proofs::Below::consoles))]
 fn push_console(out: &mut String, older: &[u8], newer: &[u8]) -> Result<(), AllocError>
-    ensures { OnOk result (string_bytes out.new ≡ string_bytes out.old ++ (pairs (older.now ++ newer.now) ++ codes "\n")) }
+    ensures ok { OnOk result (string_bytes out.new ≡ string_bytes out.old ++ (pairs (older.now ++ newer.now) ++ codes "\n")) }
+    // It gives up only where there is no room for the text.
+    ensures len { OnOk result (string_len out.new ≡ string_len out.old + length (pairs (older.now ++ newer.now) ++ codes "\n")) }
+    ensures full { OnErr result (string_capacity out.old < string_len out.old + length (pairs (older.now ++ newer.now) ++ codes "\n")) }
+    ensures capacity { string_capacity out.old ≤ string_capacity out.new }
 {
     push_pairs(out, older)?;
     push_pairs(out, newer)?;
@@ -90,8 +95,13 @@ fn push_console(out: &mut String, older: &[u8], newer: &[u8]) -> Result<(), Allo
     Ok(())
 }
 
+#[tactic(auto, using(crate::proofs::Below::lengths))]
 fn push_bytes(out: &mut String, bytes: &[u8]) -> Result<(), AllocError>
-    ensures { OnOk result (string_bytes out.new ≡ string_bytes out.old ++ (pairs bytes.now ++ codes "\n")) }
+    ensures ok { OnOk result (string_bytes out.new ≡ string_bytes out.old ++ (pairs bytes.now ++ codes "\n")) }
+    // It gives up only where there is no room for the text.
+    ensures len { OnOk result (string_len out.new ≡ string_len out.old + length (pairs bytes.now ++ codes "\n")) }
+    ensures full { OnErr result (string_capacity out.old < string_len out.old + length (pairs bytes.now ++ codes "\n")) }
+    ensures capacity { string_capacity out.old ≤ string_capacity out.new }
 {
     push_pairs(out, bytes)?;
     out.push_str("\n")

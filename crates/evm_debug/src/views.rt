@@ -1,5 +1,5 @@
-ghost use Rattle.std.specs.Prelude.{◌≡◌, ◌<◌, ◌+◌, ◌++◌, OnOk, Option, slice_get};
-ghost use Rattle.std.specs.String.{string_bytes};
+ghost use Rattle.std.specs.Prelude.{◌≡◌, ◌<◌, ◌≤◌, ◌+◌, ◌++◌, length, OnOk, OnErr, Option, slice_get};
+ghost use Rattle.std.specs.String.{string_bytes, string_capacity, string_len};
 ghost use Rattle.evm_debug.specs.Views.{four_registers, registers_text, current_text, regs_text, task_text, tasks_text, owner_text, owners_text, rank_text, stages_text, counts_text};
 ghost use Rattle.evm_exec.specs.Registers.{register_of};
 
@@ -24,7 +24,11 @@ fn value(hart: &Hart, r: u8) -> u64
 
 fn push_register_line(out: &mut String, r: u8, hart: &Hart) -> Result<(), AllocError>
     requires { r + 3 < 32 }
-    ensures { OnOk result (string_bytes out.new ≡ string_bytes out.old ++ four_registers r hart.now.regs) }
+    ensures ok { OnOk result (string_bytes out.new ≡ string_bytes out.old ++ four_registers r hart.now.regs) }
+    // It gives up only where there is no room for the text.
+    ensures len { OnOk result (string_len out.new ≡ string_len out.old + length (four_registers r hart.now.regs)) }
+    ensures full { OnErr result (string_capacity out.old < string_len out.old + length (four_registers r hart.now.regs)) }
+    ensures capacity { string_capacity out.old ≤ string_capacity out.new }
 {
     let line = [
         Piece::Text("x"),
@@ -49,7 +53,11 @@ fn push_register_line(out: &mut String, r: u8, hart: &Hart) -> Result<(), AllocE
 }
 
 fn push_registers(out: &mut String, hart: &Hart) -> Result<(), AllocError>
-    ensures { OnOk result (string_bytes out.new ≡ string_bytes out.old ++ registers_text hart.now.regs) }
+    ensures ok { OnOk result (string_bytes out.new ≡ string_bytes out.old ++ registers_text hart.now.regs) }
+    // It gives up only where there is no room for the text.
+    ensures len { OnOk result (string_len out.new ≡ string_len out.old + length (registers_text hart.now.regs)) }
+    ensures full { OnErr result (string_capacity out.old < string_len out.old + length (registers_text hart.now.regs)) }
+    ensures capacity { string_capacity out.old ≤ string_capacity out.new }
 {
     for line in 0..8u8 {
         push_register_line(out, line * 4, hart)?;
@@ -57,8 +65,13 @@ fn push_registers(out: &mut String, hart: &Hart) -> Result<(), AllocError>
     Ok(())
 }
 
+#[tactic(auto, using(crate::proofs::Below::lengths))]
 fn push_current(out: &mut String, t: u8, task: &Task, hart: &Hart) -> Result<(), AllocError>
-    ensures { OnOk result (string_bytes out.new ≡ string_bytes out.old ++ current_text t (Option.Some task.now) (Option.Some hart.now)) }
+    ensures ok { OnOk result (string_bytes out.new ≡ string_bytes out.old ++ current_text t (Option.Some task.now) (Option.Some hart.now)) }
+    // It gives up only where there is no room for the text.
+    ensures len { OnOk result (string_len out.new ≡ string_len out.old + length (current_text t (Option.Some task.now) (Option.Some hart.now))) }
+    ensures full { OnErr result (string_capacity out.old < string_len out.old + length (current_text t (Option.Some task.now) (Option.Some hart.now))) }
+    ensures capacity { string_capacity out.old ≤ string_capacity out.new }
 {
     let line = [
         Piece::Text("task "),
@@ -78,7 +91,11 @@ pub(crate) fn push_regs(
     current: Option<u8>,
     machine: &Machine,
 ) -> Result<(), AllocError>
-    ensures { OnOk result (string_bytes out.new ≡ string_bytes out.old ++ regs_text current machine.now.board.parts) }
+    ensures ok { OnOk result (string_bytes out.new ≡ string_bytes out.old ++ regs_text current machine.now.board.parts) }
+    // It gives up only where there is no room for the text.
+    ensures len { OnOk result (string_len out.new ≡ string_len out.old + length (regs_text current machine.now.board.parts)) }
+    ensures full { OnErr result (string_capacity out.old < string_len out.old + length (regs_text current machine.now.board.parts)) }
+    ensures capacity { string_capacity out.old ≤ string_capacity out.new }
 {
     let Some(t) = current else {
         return out.push_str("none\n");
@@ -94,7 +111,11 @@ pub(crate) fn push_regs(
 
 #[tactic(auto, using(crate::proofs::Below::tasks))]
 pub(crate) fn push_tasks(out: &mut String, machine: &Machine) -> Result<(), AllocError>
-    ensures { OnOk result (string_bytes out.new ≡ string_bytes out.old ++ tasks_text machine.now.board.parts) }
+    ensures ok { OnOk result (string_bytes out.new ≡ string_bytes out.old ++ tasks_text machine.now.board.parts) }
+    // It gives up only where there is no room for the text.
+    ensures len { OnOk result (string_len out.new ≡ string_len out.old + length (tasks_text machine.now.board.parts)) }
+    ensures full { OnErr result (string_capacity out.old < string_len out.old + length (tasks_text machine.now.board.parts)) }
+    ensures capacity { string_capacity out.old ≤ string_capacity out.new }
 {
     for t in 0..machine.task_count() {
         push_numbered_task(out, t, machine)?;
@@ -104,7 +125,11 @@ pub(crate) fn push_tasks(out: &mut String, machine: &Machine) -> Result<(), Allo
 
 // The task of a number, if there is one.
 fn push_numbered_task(out: &mut String, t: u8, machine: &Machine) -> Result<(), AllocError>
-    ensures { OnOk result (string_bytes out.new ≡ string_bytes out.old ++ task_text t (slice_get machine.now.board.parts.tasks t) (slice_get machine.now.board.parts.harts t)) }
+    ensures ok { OnOk result (string_bytes out.new ≡ string_bytes out.old ++ task_text t (slice_get machine.now.board.parts.tasks t) (slice_get machine.now.board.parts.harts t)) }
+    // It gives up only where there is no room for the text.
+    ensures len { OnOk result (string_len out.new ≡ string_len out.old + length (task_text t (slice_get machine.now.board.parts.tasks t) (slice_get machine.now.board.parts.harts t))) }
+    ensures full { OnErr result (string_capacity out.old < string_len out.old + length (task_text t (slice_get machine.now.board.parts.tasks t) (slice_get machine.now.board.parts.harts t))) }
+    ensures capacity { string_capacity out.old ≤ string_capacity out.new }
 {
     let Some(task) = machine.task(t) else {
         return Ok(());
@@ -116,7 +141,11 @@ fn push_numbered_task(out: &mut String, t: u8, machine: &Machine) -> Result<(), 
 }
 
 fn push_task(out: &mut String, t: u8, task: &Task, hart: &Hart) -> Result<(), AllocError>
-    ensures { OnOk result (string_bytes out.new ≡ string_bytes out.old ++ task_text t (Option.Some task.now) (Option.Some hart.now)) }
+    ensures ok { OnOk result (string_bytes out.new ≡ string_bytes out.old ++ task_text t (Option.Some task.now) (Option.Some hart.now)) }
+    // It gives up only where there is no room for the text.
+    ensures len { OnOk result (string_len out.new ≡ string_len out.old + length (task_text t (Option.Some task.now) (Option.Some hart.now))) }
+    ensures full { OnErr result (string_capacity out.old < string_len out.old + length (task_text t (Option.Some task.now) (Option.Some hart.now))) }
+    ensures capacity { string_capacity out.old ≤ string_capacity out.new }
 {
     let line = [
         Piece::Decimal(u64::from(t)),
@@ -137,7 +166,11 @@ fn push_task(out: &mut String, t: u8, task: &Task, hart: &Hart) -> Result<(), Al
 
 #[tactic(auto, using(crate::proofs::Below::owners))]
 pub(crate) fn push_owners(out: &mut String, machine: &Machine) -> Result<(), AllocError>
-    ensures { OnOk result (string_bytes out.new ≡ string_bytes out.old ++ owners_text machine.now.board.parts) }
+    ensures ok { OnOk result (string_bytes out.new ≡ string_bytes out.old ++ owners_text machine.now.board.parts) }
+    // It gives up only where there is no room for the text.
+    ensures len { OnOk result (string_len out.new ≡ string_len out.old + length (owners_text machine.now.board.parts)) }
+    ensures full { OnErr result (string_capacity out.old < string_len out.old + length (owners_text machine.now.board.parts)) }
+    ensures capacity { string_capacity out.old ≤ string_capacity out.new }
 {
     for m in 0..machine.mutex_count() {
         push_numbered_mutex(out, m, machine)?;
@@ -147,7 +180,11 @@ pub(crate) fn push_owners(out: &mut String, machine: &Machine) -> Result<(), All
 
 // The mutex of a number, if there is one.
 fn push_numbered_mutex(out: &mut String, m: u8, machine: &Machine) -> Result<(), AllocError>
-    ensures { OnOk result (string_bytes out.new ≡ string_bytes out.old ++ owner_text m (slice_get machine.now.board.parts.mutexes m)) }
+    ensures ok { OnOk result (string_bytes out.new ≡ string_bytes out.old ++ owner_text m (slice_get machine.now.board.parts.mutexes m)) }
+    // It gives up only where there is no room for the text.
+    ensures len { OnOk result (string_len out.new ≡ string_len out.old + length (owner_text m (slice_get machine.now.board.parts.mutexes m))) }
+    ensures full { OnErr result (string_capacity out.old < string_len out.old + length (owner_text m (slice_get machine.now.board.parts.mutexes m))) }
+    ensures capacity { string_capacity out.old ≤ string_capacity out.new }
 {
     match machine.mutex(m) {
         None => Ok(()),
@@ -156,7 +193,11 @@ fn push_numbered_mutex(out: &mut String, m: u8, machine: &Machine) -> Result<(),
 }
 
 fn push_owner(out: &mut String, m: u8, mutex: &Mutex) -> Result<(), AllocError>
-    ensures { OnOk result (string_bytes out.new ≡ string_bytes out.old ++ owner_text m (Option.Some mutex.now)) }
+    ensures ok { OnOk result (string_bytes out.new ≡ string_bytes out.old ++ owner_text m (Option.Some mutex.now)) }
+    // It gives up only where there is no room for the text.
+    ensures len { OnOk result (string_len out.new ≡ string_len out.old + length (owner_text m (Option.Some mutex.now))) }
+    ensures full { OnErr result (string_capacity out.old < string_len out.old + length (owner_text m (Option.Some mutex.now))) }
+    ensures capacity { string_capacity out.old ≤ string_capacity out.new }
 {
     let line = [
         Piece::Decimal(u64::from(m)),
@@ -170,7 +211,11 @@ fn push_owner(out: &mut String, m: u8, mutex: &Mutex) -> Result<(), AllocError>
 }
 
 pub(crate) fn push_rank(out: &mut String, rank: u16) -> Result<(), AllocError>
-    ensures { OnOk result (string_bytes out.new ≡ string_bytes out.old ++ rank_text rank) }
+    ensures ok { OnOk result (string_bytes out.new ≡ string_bytes out.old ++ rank_text rank) }
+    // It gives up only where there is no room for the text.
+    ensures len { OnOk result (string_len out.new ≡ string_len out.old + length (rank_text rank)) }
+    ensures full { OnErr result (string_capacity out.old < string_len out.old + length (rank_text rank)) }
+    ensures capacity { string_capacity out.old ≤ string_capacity out.new }
 {
     let line = [
         Piece::Text("rank "),
@@ -186,7 +231,11 @@ pub(crate) fn push_stages(
     processor: &Processor,
     stages: &Stages,
 ) -> Result<(), AllocError>
-    ensures { OnOk result (string_bytes out.new ≡ string_bytes out.old ++ stages_text c processor.now stages.now) }
+    ensures ok { OnOk result (string_bytes out.new ≡ string_bytes out.old ++ stages_text c processor.now stages.now) }
+    // It gives up only where there is no room for the text.
+    ensures len { OnOk result (string_len out.new ≡ string_len out.old + length (stages_text c processor.now stages.now)) }
+    ensures full { OnErr result (string_capacity out.old < string_len out.old + length (stages_text c processor.now stages.now)) }
+    ensures capacity { string_capacity out.old ≤ string_capacity out.new }
 {
     let line = [
         Piece::Text("cpu "),
@@ -215,7 +264,11 @@ pub(crate) fn push_stages(
 }
 
 pub(crate) fn push_counts(out: &mut String, counts: &Counts) -> Result<(), AllocError>
-    ensures { OnOk result (string_bytes out.new ≡ string_bytes out.old ++ counts_text counts.now) }
+    ensures ok { OnOk result (string_bytes out.new ≡ string_bytes out.old ++ counts_text counts.now) }
+    // It gives up only where there is no room for the text.
+    ensures len { OnOk result (string_len out.new ≡ string_len out.old + length (counts_text counts.now)) }
+    ensures full { OnErr result (string_capacity out.old < string_len out.old + length (counts_text counts.now)) }
+    ensures capacity { string_capacity out.old ≤ string_capacity out.new }
 {
     let line = [
         Piece::Text("raised "),

@@ -5,6 +5,7 @@ mod fault;
 mod faults;
 mod header;
 mod laws;
+mod memory;
 mod overlap;
 mod reading;
 mod segments;

@@ -1,6 +1,6 @@
 //! Files read as images.
 
-ghost use Rattle.std.specs.Prelude.{◌≡◌, ◌≢◌, ◌≤◌, ◌↔◌, ℕ, map, take, drop, length, IfOk, None, Some, Err};
+ghost use Rattle.std.specs.Prelude.{◌≡◌, ◌≢◌, ◌≤◌, ◌↔◌, ℕ, ◌∷◌, [], ◌++◌, map, take, drop, length, IfOk, IfErr, OnOk, None, Some, Err};
 ghost use Rattle.std.specs.List.{filter_map};
 ghost use Rattle.evm_elf.specs.declared.fault.ElfFault.{ElfFault};
 ghost use Rattle.evm_elf.specs.Fields.{headers_from};
@@ -9,12 +9,14 @@ ghost use Rattle.evm_elf.specs.Faults.{load_of, segment_of, fault_of, image_of, 
 use crate::fault::ElfFault;
 use crate::faults::first_fault;
 use crate::header::{Header, half_at, load_header, long_at};
+use crate::memory::{Refused, grow};
 use evm_image::{Image, Segment};
-use std::alloc::{AllocError, Global};
+use std::alloc::Global;
 
 /// The `filesz` bytes of the file from `offset` on, or what there is of them.
 fn file_bytes(file: &[u8], offset: u64, filesz: u64) -> &[u8]
-    ensures { result.now ≡ take filesz (drop offset file.now) }
+    ensures bytes { result.now ≡ take filesz (drop offset file.now) }
+    ensures short { length result.now ≤ length file.now }
 {
     let start = offset.min(file.len() as u64) as usize;
     let rest = &file[start..];
@@ -22,23 +24,56 @@ fn file_bytes(file: &[u8], offset: u64, filesz: u64) -> &[u8]
     &rest[..len]
 }
 
-/// The segment of a header.
-fn segment(alloc: Global, file: &[u8], header: &Header) -> Result<Segment, AllocError>
-    ensures { IfOk result (λ s. s ≡ segment_of file.now header.now) }
+/// The same bytes once more.
+fn copied(alloc: Global, part: &[u8]) -> Result<Vec<u8>, Refused>
+    ensures ok { IfOk result (λ bytes. bytes.items ≡ part.now) }
+    ensures refused { IfErr result (λ asked. asked ≡ length part.now) }
 {
-    let bytes = Vec::from_slice(alloc, file_bytes(file, header.offset, header.filesz))?;
+    let mut bytes = Vec::new(alloc);
+    grow(&mut bytes, part.len())?;
+    match bytes.extend_from_slice(part) {
+        Ok(()) => Ok(bytes),
+        Err(_) => unreachable!(),
+    }
+}
+
+/// The segment of a header.
+fn segment(alloc: Global, file: &[u8], header: &Header) -> Result<Segment, Refused>
+    ensures ok { IfOk result (λ s. s ≡ segment_of file.now header.now) }
+    ensures refused { IfErr result (λ asked. asked ≤ length file.now) }
+{
+    let bytes = copied(alloc, file_bytes(file, header.offset, header.filesz))?;
     Ok(Segment::new(header.address, bytes, header.memsz))
 }
 
-/// The segments of the first `count` program headers, in their order.
-fn segments(alloc: Global, file: &[u8], count: u16) -> Result<Vec<Segment>, AllocError>
+/// Puts the segment of a header behind the others.
+fn push_segment(
+    loaded: &mut Vec<Segment>,
+    alloc: Global,
+    file: &[u8],
+    header: &Header,
+) -> Result<(), Refused>
     requires { 64 ≤ length file.now }
-    ensures { IfOk result (λ v. v.items ≡ map (segment_of file.now) (filter_map load_of (headers_from file.now 0 count))) }
+    ensures ok { OnOk result (loaded.new.items ≡ loaded.old.items ++ segment_of file.now header.now ∷ []) }
+    ensures refused { IfErr result (λ asked. asked ≤ length file.now) }
+{
+    let segment = segment(alloc, file, header)?;
+    grow(loaded, 1)?;
+    loaded.push_reserved(segment);
+    Ok(())
+}
+
+/// The segments of the first `count` program headers, in their order.
+fn segments(alloc: Global, file: &[u8], count: u16) -> Result<Vec<Segment>, Refused>
+    requires { 64 ≤ length file.now }
+    ensures ok { IfOk result (λ v. v.items ≡ map (segment_of file.now) (filter_map load_of (headers_from file.now 0 count))) }
+    // It gives up only where a growth was refused that isn't greater than the file.
+    ensures refused { IfErr result (λ asked. asked ≤ length file.now) }
 {
     let mut loaded = Vec::new(alloc);
     for i in 0..count {
         if let Some(header) = load_header(file, i) {
-            loaded.push(segment(alloc, file, &header)?)?;
+            push_segment(&mut loaded, alloc, file, &header)?;
         }
     }
     Ok(loaded)
@@ -46,10 +81,11 @@ fn segments(alloc: Global, file: &[u8], count: u16) -> Result<Vec<Segment>, Allo
 
 /// The image of a file without a fault.
 #[tactic(auto, unfolding(crate::specs::Faults::image_of))]
-fn image(alloc: Global, file: &[u8]) -> Result<Image, AllocError>
+fn image(alloc: Global, file: &[u8]) -> Result<Image, Refused>
     requires long { 64 ≤ length file.now }
     requires sound { fault_of file.now ≡ None }
-    ensures { IfOk result (λ image. Loads file.now image) }
+    ensures ok { IfOk result (λ image. Loads file.now image) }
+    ensures refused { IfErr result (λ asked. asked ≤ length file.now) }
 {
     let segments = segments(alloc, file, half_at(file, 56))?;
     Ok(Image::new(long_at(file, 24), segments))
@@ -70,5 +106,8 @@ pub fn read_image(alloc: Global, file: &[u8]) -> Result<Image, ElfFault>
     if let Some(fault) = first_fault(alloc, file) {
         return Err(fault);
     }
-    Ok(image(alloc, file)?)
+    match image(alloc, file) {
+        Ok(image) => Ok(image),
+        Err(_) => Err(ElfFault::NoMemory),
+    }
 }

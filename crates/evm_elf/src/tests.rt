@@ -207,3 +207,41 @@ fn refused_growths_are_no_memory(rt: HostRuntime) {
         Err(fault) => assert_eq!(rt; fault, NoMemory),
     }
 }
+
+/// Each fault is told in the words of docs/FORMATS.md.
+#[test]
+fn faults_have_their_sentences(rt: HostRuntime) -> Result<(), Fail> {
+    use ElfFault::{
+        Class, Compressed, Dynamic, Entry, Kind, MachineNumber, Magic, SegmentOutside,
+        SegmentOverlap, Short, SizeOrder,
+    };
+    let rows = [
+        (Short, "shorter than a file header, 64 bytes"),
+        (Magic, "no ELF file"),
+        (Class, "not of 64 bits, little-endian and of version 1"),
+        (Kind, "no executable of version 1"),
+        (MachineNumber, "not for RISC-V"),
+        (Compressed, "compressed instructions"),
+        (Dynamic, "linked dynamically"),
+        (
+            SegmentOutside,
+            "segment outside 80000000..81000000, or outside the file",
+        ),
+        (SegmentOverlap, "two segments share an address"),
+        (
+            SizeOrder,
+            "segment with more bytes in the file than in memory",
+        ),
+        (
+            Entry,
+            "entry outside 80000000..81000000, or no multiple of 4",
+        ),
+        (ElfFault::NoMemory, "out of memory"),
+    ];
+    for (fault, sentence) in rows {
+        assert_eq!(rt; fault.sentence(), sentence);
+        let told = format!(in rt.alloc(); "{fault}")?;
+        assert_eq!(rt; told.as_str(), sentence);
+    }
+    Ok(())
+}

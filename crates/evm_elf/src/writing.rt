@@ -1,10 +1,11 @@
 //! Images written as files.
 
-ghost use Rattle.std.specs.Prelude.{◌≡◌, ◌≤◌, ◌++◌, length, IfOk, OnOk};
+ghost use Rattle.std.specs.Prelude.{◌≡◌, ◌≤◌, ◌+◌, ◌++◌, length, IfOk, IfErr, vec_len, vec_capacity};
 ghost use Rattle.byteorder.specs.Endian.{little_bytes};
 ghost use Rattle.evm_elf.specs.Files.{load_header, file_of};
 
 use crate::header::{PT_LOAD, RANGE_START};
+use crate::memory::{Refused, grow};
 use evm_asm::Program;
 use std::alloc::{AllocError, Global};
 use thiserror::Error;
@@ -49,32 +50,64 @@ const FILE_HEADER: [u8; 64] = [
 ];
 
 /// Writes a 32-bit number at the end.
-fn push_word(file: &mut Vec<u8>, number: u32) -> Result<(), AllocError>
-    ensures { OnOk result (file.new.items ≡ file.old.items ++ little_bytes 4 number) }
+fn push_word(file: &mut Vec<u8>, number: u32)
+    requires { vec_len file.old + 4 ≤ vec_capacity file.old }
+    ensures items { file.new.items ≡ file.old.items ++ little_bytes 4 number }
+    ensures len { vec_len file.new ≡ vec_len file.old + 4 }
+    ensures capacity { vec_capacity file.old ≤ vec_capacity file.new }
 {
-    file.extend_from_slice(&number.to_le_bytes())
+    let Ok(()) = file.extend_from_slice(&number.to_le_bytes()) else {
+        unreachable!();
+    };
 }
 
 /// Writes a 64-bit number at the end.
-fn push_long(file: &mut Vec<u8>, number: u64) -> Result<(), AllocError>
-    ensures { OnOk result (file.new.items ≡ file.old.items ++ little_bytes 8 number) }
+fn push_long(file: &mut Vec<u8>, number: u64)
+    requires { vec_len file.old + 8 ≤ vec_capacity file.old }
+    ensures items { file.new.items ≡ file.old.items ++ little_bytes 8 number }
+    ensures len { vec_len file.new ≡ vec_len file.old + 8 }
+    ensures capacity { vec_capacity file.old ≤ vec_capacity file.new }
 {
-    file.extend_from_slice(&number.to_le_bytes())
+    let Ok(()) = file.extend_from_slice(&number.to_le_bytes()) else {
+        unreachable!();
+    };
 }
 
 /// Writes the program header of `len` bytes at the end.
-fn push_load_header(file: &mut Vec<u8>, len: u64) -> Result<(), AllocError>
-    ensures { OnOk result (file.new.items ≡ file.old.items ++ load_header len) }
+fn push_load_header(file: &mut Vec<u8>, len: u64)
+    requires { vec_len file.old + 56 ≤ vec_capacity file.old }
+    ensures items { file.new.items ≡ file.old.items ++ load_header len }
+    ensures len { vec_len file.new ≡ vec_len file.old + 56 }
+    ensures capacity { vec_capacity file.old ≤ vec_capacity file.new }
 {
-    push_word(file, PT_LOAD)?; // p_type
-    push_word(file, READ_WRITE_EXECUTE)?; // p_flags
-    push_long(file, PROGRAM_OFFSET as u64)?; // p_offset
-    push_long(file, RANGE_START)?; // p_vaddr
-    push_long(file, RANGE_START)?; // p_paddr
-    push_long(file, len)?; // p_filesz
-    push_long(file, len)?; // p_memsz
-    push_long(file, 4)?; // p_align
-    Ok(())
+    push_word(file, PT_LOAD); // p_type
+    push_word(file, READ_WRITE_EXECUTE); // p_flags
+    push_long(file, PROGRAM_OFFSET as u64); // p_offset
+    push_long(file, RANGE_START); // p_vaddr
+    push_long(file, RANGE_START); // p_paddr
+    push_long(file, len); // p_filesz
+    push_long(file, len); // p_memsz
+    push_long(file, 4); // p_align
+}
+
+/// The same, or the growth that was refused.
+#[tactic(auto, unfolding(crate::specs::Files::file_of))]
+fn written(alloc: Global, bytes: &[u8]) -> Result<Vec<u8>, Refused>
+    requires { length bytes.now ≤ PROGRAM_MAX }
+    ensures ok { IfOk result (λ file. file.items ≡ file_of bytes.now) }
+    // It gives up only where room for the file was refused.
+    ensures refused { IfErr result (λ asked. asked ≡ PROGRAM_OFFSET + length bytes.now) }
+{
+    let mut file = Vec::new(alloc);
+    grow(&mut file, PROGRAM_OFFSET + bytes.len())?;
+    let Ok(()) = file.extend_from_slice(&FILE_HEADER) else {
+        unreachable!();
+    };
+    push_load_header(&mut file, bytes.len() as u64);
+    let Ok(()) = file.extend_from_slice(bytes) else {
+        unreachable!();
+    };
+    Ok(file)
 }
 
 /// The ELF64 file of a program whose bytes are these and lie at the start of the range, where it begins.
@@ -82,16 +115,14 @@ fn push_load_header(file: &mut Vec<u8>, len: u64) -> Result<(), AllocError>
 /// # Errors
 ///
 /// Memory ran out.
-#[tactic(auto, unfolding(crate::specs::Files::file_of))]
 pub fn write_bytes(alloc: Global, bytes: &[u8]) -> Result<Vec<u8>, NoMemory>
     requires { length bytes.now ≤ PROGRAM_MAX }
     ensures { IfOk result (λ file. file.items ≡ file_of bytes.now) }
 {
-    let mut file = Vec::with_capacity(alloc, PROGRAM_OFFSET + bytes.len())?;
-    file.extend_from_slice(&FILE_HEADER)?;
-    push_load_header(&mut file, bytes.len() as u64)?;
-    file.extend_from_slice(bytes)?;
-    Ok(file)
+    match written(alloc, bytes) {
+        Ok(file) => Ok(file),
+        Err(_) => Err(NoMemory),
+    }
 }
 
 /// The ELF64 file of an assembled program.

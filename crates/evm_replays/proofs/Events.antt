@@ -76,7 +76,7 @@ unless-journal : (o : Option Refusal) (image : Contents) (s first : State) → l
 unless-journal None image s first e = let is : record s { board = first.board } ≡ first = cc in (ap (λ (x : State). x.journal) (sym is), ap (λ (x : State). x.boot) (sym is))
 unless-journal (Some refusal) image s first e = cc
 
-loaded : (image : Contents) (s first : State) → load image s ≡ Ok first → (first.journal ≡ s.journal) × (first.boot ≡ s.boot)
+pub loaded : (image : Contents) (s first : State) → load image s ≡ Ok first → (first.journal ≡ s.journal) × (first.boot ≡ s.boot)
 unfolding load
 loaded image s first e = unless-journal (load_refusal image s) image s first e
 

@@ -1,3 +1,4 @@
 pub mod Events
 pub mod Printing
 pub mod Scripts
+pub mod Written

@@ -1,7 +1,15 @@
-//! Laws over whole scripts: what a script leaves behind is given back by its journal.
+//! Laws over whole scripts and whole machines: what they leave behind is given back by its journal.
 #![tactic(auto)]
 
+ghost use Rattle.std.specs.Prelude.{IfOk};
+ghost use Rattle.std.specs.String.{string_bytes};
+ghost use Rattle.evm_replays.specs.Machines.{ShowsAgain};
 ghost use Rattle.evm_replays.specs.Scripts.{PrintsItsJournal, ShowsItsMachine};
+
+use evm_core::Machine;
+use evm_journal::write_journal;
+use evm_ram::NoMemory;
+use std::alloc::Global;
 
 /// Of every script that comes to its end with an image in its machine: one more line `journal` prints the journal of
 /// the machine that it leaves, and that text, given to a replay with the same image, shows that machine, with status
@@ -10,3 +18,18 @@ pub fn a_printed_journal_shows_its_machine()
     ensures prints { PrintsItsJournal }
     ensures shows { ShowsItsMachine }
 {}
+
+/// The journal of a machine: of one that was booted, loaded with an image and driven, however it was, the text, given
+/// to a replay with the same image, shows that machine, with status 0. Nothing else is asked of the machine.
+pub fn a_written_journal_shows_its_machine(
+    alloc: Global,
+    machine: &Machine,
+) -> Result<String, NoMemory>
+    ensures { IfOk result (λ text. ShowsAgain (string_bytes text) machine.now) }
+{
+    machine.rules();
+    match write_journal(alloc, machine) {
+        Ok(text) => Ok(text),
+        Err(_) => Err(NoMemory),
+    }
+}
