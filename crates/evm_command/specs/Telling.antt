@@ -14,16 +14,16 @@ use Rattle.evm_serve.specs.declared.ending.Ending.{Ending}
 use Rattle.evm_serve.specs.declared.ending.Ending.TheVariants.{Complete, NoMemory, ReadFailed, WriteFailed}
 
 -- what stands behind a place
-abbrev pub said : List ℕ → List ℕ
-said sentence = codes ": " ++ sentence ++ codes "\n"
+abbrev pub behind_place : List ℕ → List ℕ
+behind_place sentence = codes ": " ++ sentence ++ codes "\n"
 
 -- a sentence about a file, or about the program
 abbrev pub about : List ℕ → List ℕ → List ℕ
-about name sentence = name ++ said sentence
+about name sentence = name ++ behind_place sentence
 
 -- a sentence about a line of a file, in the form that editors jump to
 abbrev pub about_line : List ℕ → ℕ → List ℕ → List ℕ
-about_line name line sentence = name ++ (codes ":" ++ (decimal line ++ said sentence))
+about_line name line sentence = name ++ (codes ":" ++ (decimal line ++ behind_place sentence))
 
 abbrev pub program_name : List ℕ
 program_name = codes "evltool"

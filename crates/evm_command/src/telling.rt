@@ -2,7 +2,7 @@
 
 ghost use Rattle.std.specs.Prelude.{◌≡◌, ◌<◌, ◌+◌, ◌^◌, ◌++◌, codes};
 ghost use Rattle.evm_text.specs.Written.{numeral, decimal};
-ghost use Rattle.evm_command.specs.Telling.{Writes, Tells, said, about, about_line};
+ghost use Rattle.evm_command.specs.Telling.{Writes, Tells, behind_place, about, about_line};
 
 use evm_streams::{Sink, WriteFault, write_all};
 
@@ -32,7 +32,7 @@ fn write_sentence<E: Sink>(sentence: &str, errors: &mut E) -> Result<(), WriteFa
 
 // Writes a sentence behind a place.
 fn write_behind<E: Sink>(sentence: &str, errors: &mut E) -> Result<(), WriteFault>
-    ensures { Writes E.takes (said sentence.now) result errors.old errors.new }
+    ensures { Writes E.takes (behind_place sentence.now) result errors.old errors.new }
 {
     match write_all(errors, b": ") {
         Ok(()) => write_sentence(sentence, errors),
@@ -52,7 +52,7 @@ fn write_about<E: Sink>(name: &str, sentence: &str, errors: &mut E) -> Result<()
 
 // Writes the number of a line, and a sentence behind it.
 fn write_numbered<E: Sink>(line: u64, sentence: &str, errors: &mut E) -> Result<(), WriteFault>
-    ensures { Writes E.takes (decimal line ++ said sentence.now) result errors.old errors.new }
+    ensures { Writes E.takes (decimal line ++ behind_place sentence.now) result errors.old errors.new }
 {
     match write_decimal(line, 19, errors) {
         Ok(()) => write_behind(sentence, errors),
@@ -62,7 +62,7 @@ fn write_numbered<E: Sink>(line: u64, sentence: &str, errors: &mut E) -> Result<
 
 // Writes a sentence behind the number of a line.
 fn write_line<E: Sink>(line: u64, sentence: &str, errors: &mut E) -> Result<(), WriteFault>
-    ensures { Writes E.takes (codes ":" ++ (decimal line ++ said sentence.now)) result errors.old errors.new }
+    ensures { Writes E.takes (codes ":" ++ (decimal line ++ behind_place sentence.now)) result errors.old errors.new }
 {
     match write_all(errors, b":") {
         Ok(()) => write_numbered(line, sentence, errors),

@@ -10,7 +10,7 @@ use Rattle.evm_debug.specs.Views.{shown}
 use Rattle.evm_debug.specs.declared.line.Line.TheVariants as lines
 use Rattle.evm_debug.specs.declared.line.View.TheVariants.{Journal}
 use Rattle.evm_debug.proofs.Lines.{reads_lines}
-use Rattle.evm_serve.specs.Lines.{lines_of}
+use Rattle.evm_text.specs.Lines.{text_lines}
 use Rattle.evm_serve.specs.Told.{Told, Telling, Goes, Ends, behind, run_on, line_told, lines_told}
 use Rattle.evm_replays.specs.Scripts.{goes_on, machine_after, PrintsItsJournal}
 
@@ -40,4 +40,4 @@ prints-on image n (line ∷ ls) machine s e =
     (journal_text s.boot s.journal) (λ m h. prints-on image (n + 1) ls m s h) e
 
 pub prints_its_journal : PrintsItsJournal
-prints_its_journal image script s e = prints-on image 1 (lines_of script) None s e
+prints_its_journal image script s e = prints-on image 1 (text_lines script) None s e

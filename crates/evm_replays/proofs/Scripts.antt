@@ -19,9 +19,10 @@ use Rattle.evm_debug.specs.Views.{shown}
 use Rattle.evm_debug.specs.declared.line.Line.{Line}
 use Rattle.evm_debug.specs.declared.line.Line.TheVariants as lines
 use Rattle.evm_debug.proofs.Lines.{reads_lines}
-use Rattle.evm_serve.specs.Lines.{lines_of}
+use Rattle.evm_text.specs.Lines.{text_lines}
+use Rattle.evm_core.specs.Steps.{steps}
 use Rattle.evm_serve.specs.Starting.{started}
-use Rattle.evm_serve.specs.Told.{Telling, Goes, Ends, event_told, steps, machine_told, view_told, told_at, line_told}
+use Rattle.evm_serve.specs.Told.{Telling, Goes, Ends, event_told, after_steps, machine_told, view_told, told_at, line_told}
 use Rattle.evm_serve.proofs.Replays.{replays_saved}
 use Rattle.evm_replays.specs.Scripts.{goes_on, machine_after, ShowsItsMachine}
 use Rattle.evm_replays.proofs.Events.{IsDriven, driven-event, driven-steps, driven-boot, driven-journal}
@@ -40,9 +41,9 @@ event-leads : (image : Contents) (n : ℕ) (s : State) (event : Event) (r : Resu
 event-leads image n s event (Ok after) e line d = driven-event image s after.0 event after.1 e line d
 event-leads image n s event (Err refusal) e line d = tt
 
-steps-lead : (image : Contents) (n c count : ℕ) (s : State) (r : Result State Refusal) → steps c count s ≡ r → c < 256 → IsDriven image s → LeadsOn image (machine_told n r)
-steps-lead image n c count s (Ok new) e cpu d = driven-steps image c count s new e cpu d
-steps-lead image n c count s (Err refusal) e cpu d = tt
+steps-lead : (image : Contents) (n c count : ℕ) (s new : State) (o : Option Refusal) → steps c count s ≡ (new, o) → c < 256 → IsDriven image s → LeadsOn image (after_steps n new o)
+steps-lead image n c count s new None e cpu d = driven-steps image c count s new e cpu d
+steps-lead image n c count s new (Some refusal) e cpu d = tt
 
 boot-leads : (image : Contents) (n : ℕ) (boot : Boot) (r : Result State Refusal) → started (Some image) boot ≡ r
     → HasBootLine boot → LeadsOn image (machine_told n r)
@@ -77,7 +78,7 @@ spelled-leads image n None (lines.One event) bytes h d = tt
 spelled-leads image n None (lines.Look view) bytes h d = tt
 spelled-leads image n (Some s) lines.Blank bytes h d = d
 spelled-leads image n (Some s) (lines.Boot cpus ram capacity) bytes h d = tt
-spelled-leads image n (Some s) (lines.Steps c count) bytes h d = steps-lead image n c count s (steps c count s) refl h.1.0 d
+spelled-leads image n (Some s) (lines.Steps c count) bytes h d = steps-lead image n c count s (steps c count s).0 (steps c count s).1 refl h.1.0 d
 spelled-leads image n (Some s) (lines.One event) bytes h d = event-leads image n s event (apply s event) refl (one-line event h.1) d
 spelled-leads image n (Some s) (lines.Look view) bytes h d = view-leads image n s (shown view s) d
 
@@ -100,5 +101,5 @@ after-driven image n (line ∷ ls) machine s e d =
 
 pub shows_its_machine : ShowsItsMachine
 shows_its_machine image script s e =
-    let d : IsDriven image s = after-driven image 1 (lines_of script) None s e tt in
+    let d : IsDriven image s = after-driven image 1 (text_lines script) None s e tt in
     replays_saved image d.first s d.fits d.loads d.replays (driven-journal image s d)

@@ -144,7 +144,7 @@ module _ {R W : Type 0} (remaining : R → Option (List ℕ)) (contents : W → 
 
   -- bytes that were checked
   import_of : (file : List ℕ) (w w' : W) (ending : Ending)
-      → (IsSomeAnd (fault_of file) (λ fault. AppendsAll (imaging.fault_report fault) (contents w) (contents w') ending) ⊎ AppendsMemory [] (contents w) (contents w') ending)
+      → (IsSomeAnd (fault_of file) (λ fault. AppendsAll (imaging.no_image_report fault) (contents w) (contents w') ending) ⊎ AppendsMemory [] (contents w) (contents w') ending)
       → IsWithin file ending → ImportsKnown file (contents w) (contents w') (Err ending)
   import_of file w w' (Complete verdict) h within = (h, within)
   import_of file w w' NoMemory h within = (h, within)
@@ -152,16 +152,16 @@ module _ {R W : Type 0} (remaining : R → Option (List ℕ)) (contents : W → 
   import_of file w w' (ReadFailed fault) (inr h) within = absurd h
   import_of file w w' (WriteFailed fault) h within = (h, within)
 
-  some_known : (fault : Option ElfFault) (w w' : W) (ending : Ending) → IsSomeAnd fault (λ f. WritesAll (WriterTakes contents) (imaging.fault_report f) w w' ending)
-      → IsSomeAnd fault (λ f. AppendsAll (imaging.fault_report f) (contents w) (contents w') ending)
+  some_known : (fault : Option ElfFault) (w w' : W) (ending : Ending) → IsSomeAnd fault (λ f. WritesAll (WriterTakes contents) (imaging.no_image_report f) w w' ending)
+      → IsSomeAnd fault (λ f. AppendsAll (imaging.no_image_report f) (contents w) (contents w') ending)
   some_known None w w' ending h = h
-  some_known (Some f) w w' ending h = all_known contents (imaging.fault_report f) w w' ending h
+  some_known (Some f) w w' ending h = all_known contents (imaging.no_image_report f) w w' ending h
 
   checked_within : (fault : Option ElfFault) (w w' : W) (file : List ℕ) (ending : Ending) → length file ≤ LIMIT
-      → (IsSomeAnd fault (λ f. WritesAll (WriterTakes contents) (imaging.fault_report f) w w' ending) ⊎ WritesMemory (WriterTakes contents) [] w w' ending) → IsWithin file ending
+      → (IsSomeAnd fault (λ f. WritesAll (WriterTakes contents) (imaging.no_image_report f) w w' ending) ⊎ WritesMemory (WriterTakes contents) [] w w' ending) → IsWithin file ending
   checked_within fault w w' file ending most (inr h) = memory_within contents [] w w' file ending h
   checked_within None w w' file ending most (inl h) = absurd h
-  checked_within (Some f) w w' file ending most (inl h) = finished_within contents (imaging.fault_report f) w w' file ending most (inl h)
+  checked_within (Some f) w w' file ending most (inl h) = finished_within contents (imaging.no_image_report f) w w' file ending most (inl h)
 
   pub imports_known : ImportsKnownFile remaining contents
   imports_known s t w w' (Ok bytes) (Ok image) reads h =
@@ -181,8 +181,8 @@ module _ {R W : Type 0} (remaining : R → Option (List ℕ)) (contents : W → 
 
 module _ {W T : Type 0} (contents : W → Option (List ℕ)) (reported : T → Option (List ℕ)) where
   either_known : (fault : AsmFault) (report report' : T) (ending : Ending)
-      → (WritesAll (WriterTakes reported) (assembling.fault_report fault) report report' ending ⊎ WritesMemory (WriterTakes reported) [] report report' ending)
-      → (AppendsAll (assembling.fault_report fault) (reported report) (reported report') ending ⊎ AppendsMemory [] (reported report) (reported report') ending)
+      → (WritesAll (WriterTakes reported) (assembling.no_program_report fault) report report' ending ⊎ WritesMemory (WriterTakes reported) [] report report' ending)
+      → (AppendsAll (assembling.no_program_report fault) (reported report) (reported report') ending ⊎ AppendsMemory [] (reported report) (reported report') ending)
   either_known fault report report' ending (inl h) = inl (all_known reported _ report report' ending h)
   either_known fault report report' ending (inr h) = inr (memory_known reported [] report report' ending h)
 

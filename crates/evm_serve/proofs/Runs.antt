@@ -7,7 +7,7 @@ use Rattle.evm_streams.proofs.Calls.{took_none, took_append, prefix_behind, pref
 use Rattle.evm_image.specs.Images.{Contents}
 use Rattle.evm_model.specs.State.{State}
 use Rattle.evm_debug.specs.LineReading.{line_at}
-use Rattle.evm_serve.specs.Lines.{lines_of, CutsLine}
+use Rattle.evm_text.specs.Lines.{text_lines, CutsLine}
 use Rattle.evm_serve.specs.Serving.{EndsIn}
 use Rattle.evm_serve.specs.declared.ending.Verdict.{Verdict}
 use Rattle.evm_serve.proofs.Endings.{ends_behind}
@@ -21,7 +21,7 @@ module _ {W : Type 0} (takes : W → Writing → List ℕ → W → Type 0) wher
   pub record Tells (image : Option Contents) (all : Told) (old now : W) (n : ℕ) (rest : List ℕ) (machine : Option State) : Type 0 where
     pub prefix : List ℕ
     pub written : Took takes old prefix now
-    pub left : all ≡ behind prefix (lines_told image n (lines_of rest) machine)
+    pub left : all ≡ behind prefix (lines_told image n (text_lines rest) machine)
 
   -- at the start nothing is written, and all lines are left
   pub Tells-start : (image : Option Contents) (script : List ℕ) (old : W) → Tells image (told image script) old old 1 script None
@@ -34,7 +34,7 @@ module _ {W : Type 0} (takes : W → Writing → List ℕ → W → Type 0) wher
   Tells-goes image all old now new n rest line after text machine machine' h cut goes written = record {
     prefix = h.prefix ++ text;
     written = took_append takes old now new h.prefix text h.written written;
-    left = h.left ∙ ap (behind h.prefix) (rw (cut.lines, goes) refl) ∙ behind-behind h.prefix text (lines_told image (n + 1) (lines_of after) machine');
+    left = h.left ∙ ap (behind h.prefix) (rw (cut.lines, goes) refl) ∙ behind-behind h.prefix text (lines_told image (n + 1) (text_lines after) machine');
   }
 
   -- a line ends the run
@@ -44,21 +44,21 @@ module _ {W : Type 0} (takes : W → Writing → List ℕ → W → Type 0) wher
 
   -- no line is left
   pub Tells-done : (image : Option Contents) (all : Told) (old now : W) (n : ℕ) (rest : List ℕ) (machine : Option State) → Tells image all old now n rest machine → rest ≡ [] → Took takes old all.text now × (0 ≡ all.status)
-  unfolding lines_told lines_of
+  unfolding lines_told text_lines
   Tells-done image all old now n rest machine h none =
-      let over : all ≡ record { text = h.prefix ++ []; status = 0 } = h.left ∙ ap (λ r. behind h.prefix (lines_told image n (lines_of r) machine)) none in
+      let over : all ≡ record { text = h.prefix ++ []; status = 0 } = h.left ∙ ap (λ r. behind h.prefix (lines_told image n (text_lines r) machine)) none in
       rw over (rw (append-nil h.prefix) h.written, refl)
 
   -- what was written so far is a prefix of what the script tells
   pub Tells-rest : (image : Option Contents) (all : Told) (old now : W) (n : ℕ) (rest : List ℕ) (machine : Option State) (h : Tells image all old now n rest machine) → (rest : List ℕ) × (all.text ≡ h.prefix ++ rest)
-  Tells-rest image all old now n rest machine h = ((lines_told image n (lines_of rest) machine).text, ap (λ (t : Told). t.text) h.left)
+  Tells-rest image all old now n rest machine h = ((lines_told image n (text_lines rest) machine).text, ap (λ (t : Told). t.text) h.left)
 
   -- a line goes on, and its text could not be written whole
   pub Tells-goes_fault : (image : Option Contents) (all : Told) (old now new : W) (n : ℕ) (rest line after text : List ℕ) (machine machine' : Option State) → Tells image all old now n rest machine → CutsLine rest line after → line_told image n machine (line_at line) ≡ Goes text machine' → TookPrefix takes now text new → TookPrefix takes old all.text new
   unfolding lines_told
   Tells-goes_fault image all old now new n rest line after text machine machine' h cut goes written =
-      let others : List ℕ = (lines_told image (n + 1) (lines_of after) machine').text in
-      let left : all ≡ behind h.prefix (behind text (lines_told image (n + 1) (lines_of after) machine')) = h.left ∙ ap (behind h.prefix) (rw (cut.lines, goes) refl) in
+      let others : List ℕ = (lines_told image (n + 1) (text_lines after) machine').text in
+      let left : all ≡ behind h.prefix (behind text (lines_told image (n + 1) (text_lines after) machine')) = h.left ∙ ap (behind h.prefix) (rw (cut.lines, goes) refl) in
       rw left (prefix_behind takes old now new h.prefix (text ++ others) h.written (prefix_longer takes now new text others written))
 
   -- a line ends the run at its fault

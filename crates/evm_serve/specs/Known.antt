@@ -55,7 +55,7 @@ IsTextWithin input ending = IsWithin input ending
 abbrev pub ImportsKnown : List ℕ → Option (List ℕ) → Option (List ℕ) → Result Contents Ending → Type 0
 ImportsKnown file old new (Ok image) = (fault_of file ≡ None) × (image ≡ image_of file) × Keeps old new × (length file ≤ LIMIT)
 ImportsKnown file old new (Err (ReadFailed fault)) = Keeps old new × IsWithin file (ReadFailed fault)
-ImportsKnown file old new (Err ending) = (IsSomeAnd (fault_of file) (λ fault. AppendsAll (imaging.fault_report fault) old new ending) ⊎ AppendsMemory [] old new ending) × IsWithin file ending
+ImportsKnown file old new (Err ending) = (IsSomeAnd (fault_of file) (λ fault. AppendsAll (imaging.no_image_report fault) old new ending) ⊎ AppendsMemory [] old new ending) × IsWithin file ending
 
 -- what assembling has written to a file and reported, each of known contents
 abbrev pub AssemblesKnown : Result Assembled AsmFault → Option (List ℕ) → Option (List ℕ) → Option (List ℕ) → Option (List ℕ) → Ending → Type 0
@@ -63,7 +63,7 @@ AssemblesKnown (Ok p) out out' report report' ending =
     (AppendsAll (record { text = file_of p.bytes; status = 0 }) out out' ending × Keeps report report')
     ⊎ (Keeps out out' × AppendsMemory [] report report' ending)
 AssemblesKnown (Err fault) out out' report report' ending =
-    Keeps out out' × (AppendsAll (assembling.fault_report fault) report report' ending ⊎ AppendsMemory [] report report' ending)
+    Keeps out out' × (AppendsAll (assembling.no_program_report fault) report report' ending ⊎ AppendsMemory [] report report' ending)
 
 module _ {R W : Type 0} (remaining : R → Option (List ℕ)) (contents : W → Option (List ℕ)) where
   -- a run that reads known bytes is the run of these

@@ -1,18 +1,18 @@
 -- What a run of a script tells: its text and its status.
-use Rattle.std.specs.Prelude.{ℕ, zero, suc, ◌+◌, List, [], ◌∷◌, ◌++◌, Option, Some, None, Result, Ok, Err, codes}
+use Rattle.std.specs.Prelude.{ℕ, ◌+◌, List, [], ◌∷◌, ◌++◌, Option, Some, None, Result, Ok, Err, codes}
 use Rattle.evm_image.specs.Images.{Contents}
 use Rattle.evm_text.specs.Written.{decimal}
 use Rattle.evm_ram.specs.Refusal.{number_of}
 use Rattle.evm_ram.specs.declared.refusal.Refusal.{Refusal}
+use Rattle.evm_core.specs.Steps.{steps}
 use Rattle.evm_model.specs.State.{State}
 use Rattle.evm_model.specs.Replay.{apply}
-use Rattle.evm_model.specs.declared.event.Event.TheVariants.{Step}
 use Rattle.evm_model.specs.declared.event.Answer.{Answer}
 use Rattle.evm_debug.specs.LineReading.{line_at}
 use Rattle.evm_debug.specs.Views.{shown}
 use Rattle.evm_debug.specs.declared.line.Line.{Line}
 use Rattle.evm_debug.specs.declared.line.Line.TheVariants as lines
-use Rattle.evm_serve.specs.Lines.{lines_of}
+use Rattle.evm_text.specs.Lines.{text_lines}
 use Rattle.evm_serve.specs.Starting.{started}
 
 -- what the last line of a run says that ended at line n
@@ -35,14 +35,13 @@ abbrev pub event_told : ℕ → Result (State × Answer) Refusal → Telling
 event_told n (Ok after) = Goes [] (Some after.0)
 event_told n (Err refusal) = Ends (refused_text n refusal)
 
--- so many Steps of a processor, or those before the first that is refused
-abbrev pub steps_on : Result (State × Answer) Refusal → (State → Result State Refusal) → Result State Refusal
-steps_on (Ok after) others = others after.0
-steps_on (Err refusal) others = Err refusal
+-- so many Steps: the machine after them, with which the run goes on, or the refusal of one, which ends it
+abbrev pub after_steps : ℕ → State → Option Refusal → Telling
+after_steps n s None = Goes [] (Some s)
+after_steps n s (Some refusal) = Ends (refused_text n refusal)
 
-unfoldable pub steps : ℕ → ℕ → State → Result State Refusal
-steps c zero s = Ok s
-steps c (suc count) s = steps_on (apply s (Step c)) (steps c count)
+abbrev pub steps_told : ℕ → State × Option Refusal → Telling
+steps_told n after = after_steps n after.0 after.1
 
 -- a machine with which the run goes on, or the refusal that ends it
 abbrev pub machine_told : ℕ → Result State Refusal → Telling
@@ -65,7 +64,7 @@ told_unbooted image n (lines.Look view) = Ends (bad_text n)
 abbrev pub told_booted : ℕ → State → Line → Telling
 told_booted n s lines.Blank = Goes [] (Some s)
 told_booted n s (lines.Boot cpus ram capacity) = Ends (bad_text n)
-told_booted n s (lines.Steps c count) = machine_told n (steps c count s)
+told_booted n s (lines.Steps c count) = steps_told n (steps c count s)
 told_booted n s (lines.One event) = event_told n (apply s event)
 told_booted n s (lines.Look view) = view_told n s (shown view s)
 
@@ -97,4 +96,4 @@ lines_told image n (line ∷ rest) machine = run_on (line_told image n machine (
 
 -- what a script tells, with an image for its machine or with none
 unfoldable pub told : Option Contents → List ℕ → Told
-told image script = lines_told image 1 (lines_of script) None
+told image script = lines_told image 1 (text_lines script) None

@@ -7,7 +7,6 @@ mod fault;
 mod halting;
 mod importing;
 mod laws;
-mod lines;
 mod replay;
 mod serving;
 mod starting;

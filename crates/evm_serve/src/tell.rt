@@ -1,8 +1,7 @@
-ghost use Rattle.std.specs.Prelude.{◌≡◌, Option, Result, IfOk, MatchResult, option_copied};
-ghost use Rattle.evm_model.specs.State.{State};
+ghost use Rattle.std.specs.Prelude.{◌≡◌, Option, IfOk, option_copied};
 ghost use Rattle.evm_debug.specs.LineReading.{line_at};
 ghost use Rattle.evm_serve.specs.Starting.{started};
-ghost use Rattle.evm_serve.specs.Told.{steps, machine_told, told_unbooted, told_booted, line_told};
+ghost use Rattle.evm_serve.specs.Told.{machine_told, told_unbooted, told_booted, line_told};
 ghost use Rattle.evm_serve.specs.Serving.{Replies};
 
 use crate::ending::Reply;
@@ -13,13 +12,6 @@ use evm_debug::{Line, View, ViewRefusal, read_line, view};
 use evm_image::Image;
 use evm_ram::NoMemory;
 use std::alloc::Global;
-
-// A processor takes so many Steps, or those before the first that is refused.
-fn take_steps(machine: &mut Machine, c: u8, count: u32) -> Result<(), Refusal>
-    ensures { MatchResult result (λ _. steps c count machine.old ≡ Result.Ok machine.new) (λ refusal. steps c count machine.old ≡ Result.Err refusal) }
-{
-    machine.steps(c, count)
-}
 
 // A boot, which puts the image into the machine, if there is one.
 fn tell_boot(
@@ -83,7 +75,7 @@ fn tell_booted(
     match line {
         Line::Blank => Ok(Reply::Goes(String::new(alloc))),
         Line::Boot { .. } => Ok(Reply::Ends(Fault::BadLine(number))),
-        Line::Steps(c, count) => match take_steps(machine, c, count) {
+        Line::Steps(c, count) => match machine.steps(c, count) {
             Ok(()) => Ok(Reply::Goes(String::new(alloc))),
             Err(refusal) => Ok(Reply::Ends(Fault::Refused(number, refusal))),
         },
