@@ -9,10 +9,11 @@ use Rattle.evm_serve.specs.Told.{Told}
 use Rattle.evm_serve.specs.Faults.{no_image_text}
 use Rattle.evm_serve.specs.Serving.{WritesAll, WritesMemory, Unread}
 use Rattle.evm_serve.specs.declared.ending.Ending.{Ending}
+use Rattle.evm_serve.specs.declared.ending.Verdict.TheVariants.{ImageRefused}
 
 -- the report of a file that has a fault
 abbrev pub no_image_report : ElfFault → Told
-no_image_report fault = record { text = no_image_text fault; status = 3 }
+no_image_report fault = record { text = no_image_text fault; verdict = ImageRefused fault }
 
 module _ {W : Type 0} (takes : W → Writing → List ℕ → W → Type 0) where
   -- Bytes without a fault give their image, and the writer has no call. Of others the first fault is reported; or an allocation failed, and
