@@ -13,8 +13,9 @@ use Rattle.evm_serve.specs.Replaying.{replay_told}
 use Rattle.evm_serve.specs.Assembling.{Assembles}
 use Rattle.evm_serve.specs.Imaging.{Imports}
 use Rattle.evm_serve.specs.declared.ending.Ending.{Ending}
+use Rattle.evm_command.specs.declared.system.OpenFault.{OpenFault}
 use Rattle.evm_command.specs.declared.system.World.{World}
-use Rattle.evm_command.specs.Telling.{about, program_name, script_name, not_opened_text, Tells, Ended}
+use Rattle.evm_command.specs.Telling.{about, program_name, script_name, not_opened_text, not_created_text, Tells, Ended}
 
 module _ {S O C I W E : Type 0} where
   -- no file is asked for, and standard input is not read
@@ -34,23 +35,23 @@ module _ {S O C I W E : Type 0} where
   abbrev pub NotRead : (W → Writing → List ℕ → W → Type 0) → (E → Writing → List ℕ → E → Type 0) → List ℕ → ReadStop → World S O C I W E → World S O C I W E → ℕ → Type 0
   NotRead writes tells name stop w w' status = AsksNothing w w' × ((ending : Ending) × Unread writes stop w.output w'.output ending × Ended tells name ending w.errors w'.errors status)
 
-  -- A file that can't be opened or created ends a job with status 4: standard error is told its name, and nothing else is asked for.
+  -- A file that can't be opened or created ends a job with status 4: standard error is told its name and why, and nothing else is asked for.
   abbrev pub NotOpened : (E → Writing → List ℕ → E → Type 0) → List ℕ → World S O C I W E → World S O C I W E → ℕ → Type 0
-  NotOpened tells path w w' status = AsksNothing w w' × ((w'.output ≡ w.output) × Tells tells (not_opened_text path) w.errors w'.errors × (status ≡ 4))
+  NotOpened tells text w w' status = AsksNothing w w' × ((w'.output ≡ w.output) × Tells tells text w.errors w'.errors × (status ≡ 4))
 
-module _ {S O C I W E : Type 0} (creates : S → List ℕ → Option C → S → Type 0) (created : C → Writing → List ℕ → C → Type 0)
+module _ {S O C I W E : Type 0} (creates : S → List ℕ → Result C OpenFault → S → Type 0) (created : C → Writing → List ℕ → C → Type 0)
     (writes : W → Writing → List ℕ → W → Type 0) (tells : E → Writing → List ℕ → E → Type 0) where
   -- the text of a source is assembled into the file that was created
-  abbrev pub AssemblesSource : List ℕ → List ℕ → List ℕ → Option C → World S O C I W E → World S O C I W E → ℕ → Type 0
-  AssemblesSource source out text None w w' status = NotOpened tells out w w' status
-  AssemblesSource source out text (Some file) w w' status = AsksNothing w w' × ((ending : Ending) × (file' : C)
+  abbrev pub AssemblesSource : List ℕ → List ℕ → List ℕ → Result C OpenFault → World S O C I W E → World S O C I W E → ℕ → Type 0
+  AssemblesSource source out text (Err fault) w w' status = NotOpened tells (not_created_text out fault) w w' status
+  AssemblesSource source out text (Ok file) w w' status = AsksNothing w w' × ((ending : Ending) × (file' : C)
       × Assembles created writes (program_of text) file file' w.output w'.output ending × Ended tells source ending w.errors w'.errors status)
 
   -- OUT is created for a source that was read
   abbrev pub Creates : List ℕ → List ℕ → List ℕ → World S O C I W E → World S O C I W E → ℕ → Type 0
-  Creates source out text w w' status = (answer : Option C) × (files : S) × creates w.files out answer files × AssemblesSource source out text answer (record w { files = files }) w' status
+  Creates source out text w w' status = (answer : Result C OpenFault) × (files : S) × creates w.files out answer files × AssemblesSource source out text answer (record w { files = files }) w' status
 
-module _ {S O C I W E : Type 0} (opens : S → List ℕ → Option O → S → Type 0) (creates : S → List ℕ → Option C → S → Type 0)
+module _ {S O C I W E : Type 0} (opens : S → List ℕ → Result O OpenFault → S → Type 0) (creates : S → List ℕ → Result C OpenFault → S → Type 0)
     (opened : O → Reading → List ℕ → O → Type 0) (created : C → Writing → List ℕ → C → Type 0)
     (writes : W → Writing → List ℕ → W → Type 0) (tells : E → Writing → List ℕ → E → Type 0) where
   -- Where the source was not read, OUT is never asked for.
@@ -59,38 +60,38 @@ module _ {S O C I W E : Type 0} (opens : S → List ℕ → Option O → S → T
   ReadsSource source out (Err stop) w w' status = NotRead writes tells source stop w w' status
 
   -- the source is read to its end from the file that was opened
-  abbrev pub OpensSource : List ℕ → List ℕ → Option O → World S O C I W E → World S O C I W E → ℕ → Type 0
-  OpensSource source out None w w' status = NotOpened tells source w w' status
-  OpensSource source out (Some file) w w' status = (read : Result (List ℕ) ReadStop) × (file' : O) × ReadsText opened file file' read × ReadsSource source out read w w' status
+  abbrev pub OpensSource : List ℕ → List ℕ → Result O OpenFault → World S O C I W E → World S O C I W E → ℕ → Type 0
+  OpensSource source out (Err fault) w w' status = NotOpened tells (not_opened_text source fault) w w' status
+  OpensSource source out (Ok file) w w' status = (read : Result (List ℕ) ReadStop) × (file' : O) × ReadsText opened file file' read × ReadsSource source out read w w' status
 
   -- `asm SRC OUT`: SRC is opened and read, and then OUT is created.
   abbrev pub AssemblesFile : List ℕ → List ℕ → World S O C I W E → World S O C I W E → ℕ → Type 0
-  AssemblesFile source out w w' status = (answer : Option O) × (files : S) × opens w.files source answer files × OpensSource source out answer (record w { files = files }) w' status
+  AssemblesFile source out w w' status = (answer : Result O OpenFault) × (files : S) × opens w.files source answer files × OpensSource source out answer (record w { files = files }) w' status
 
-module _ {S O C I W E : Type 0} (opens : S → List ℕ → Option O → S → Type 0)
+module _ {S O C I W E : Type 0} (opens : S → List ℕ → Result O OpenFault → S → Type 0)
     (opened : O → Reading → List ℕ → O → Type 0) (writes : W → Writing → List ℕ → W → Type 0) (tells : E → Writing → List ℕ → E → Type 0) where
   -- the image of a file that was read, or the status of the ending
   abbrev pub Imported : List ℕ → Result (List ℕ) ReadStop → World S O C I W E → World S O C I W E → Result Contents ℕ → Type 0
   Imported path read w w' (Ok image) = Imports writes read w.output w'.output (Ok image) × (w'.errors ≡ w.errors)
   Imported path read w w' (Err status) = (ending : Ending) × Imports writes read w.output w'.output (Err ending) × Ended tells path ending w.errors w'.errors status
 
-  abbrev pub ReadsImage : List ℕ → Option O → World S O C I W E → World S O C I W E → Result Contents ℕ → Type 0
-  ReadsImage path None w w' (Ok image) = ⊥
-  ReadsImage path None w w' (Err status) = NotOpened tells path w w' status
-  ReadsImage path (Some file) w w' result = AsksNothing w w' × ((read : Result (List ℕ) ReadStop) × (file' : O) × Reads opened file file' read × Imported path read w w' result)
+  abbrev pub ReadsImage : List ℕ → Result O OpenFault → World S O C I W E → World S O C I W E → Result Contents ℕ → Type 0
+  ReadsImage path (Err fault) w w' (Ok image) = ⊥
+  ReadsImage path (Err fault) w w' (Err status) = NotOpened tells (not_opened_text path fault) w w' status
+  ReadsImage path (Ok file) w w' result = AsksNothing w w' × ((read : Result (List ℕ) ReadStop) × (file' : O) × Reads opened file file' read × Imported path read w w' result)
 
   -- IMAGE is opened and imported.
   abbrev pub Loads : List ℕ → World S O C I W E → World S O C I W E → Result Contents ℕ → Type 0
-  Loads path w w' result = (answer : Option O) × (files : S) × opens w.files path answer files × ReadsImage path answer (record w { files = files }) w' result
+  Loads path w w' result = (answer : Result O OpenFault) × (files : S) × opens w.files path answer files × ReadsImage path answer (record w { files = files }) w' result
 
   -- a journal is replayed on an image, from the file that was opened
-  abbrev pub ReplaysFile : List ℕ → Contents → Option O → World S O C I W E → World S O C I W E → ℕ → Type 0
-  ReplaysFile path image None w w' status = NotOpened tells path w w' status
-  ReplaysFile path image (Some file) w w' status = AsksNothing w w' × ((read : Result (List ℕ) ReadStop) × (ending : Ending) × (file' : O)
+  abbrev pub ReplaysFile : List ℕ → Contents → Result O OpenFault → World S O C I W E → World S O C I W E → ℕ → Type 0
+  ReplaysFile path image (Err fault) w w' status = NotOpened tells (not_opened_text path fault) w w' status
+  ReplaysFile path image (Ok file) w w' status = AsksNothing w w' × ((read : Result (List ℕ) ReadStop) × (ending : Ending) × (file' : O)
       × ReadsText opened file file' read × Serves writes (replay_told image) read w.output w'.output ending × Ended tells path ending w.errors w'.errors status)
 
   abbrev pub ReplaysJournal : List ℕ → Contents → World S O C I W E → World S O C I W E → ℕ → Type 0
-  ReplaysJournal path image w w' status = (answer : Option O) × (files : S) × opens w.files path answer files × ReplaysFile path image answer (record w { files = files }) w' status
+  ReplaysJournal path image w w' status = (answer : Result O OpenFault) × (files : S) × opens w.files path answer files × ReplaysFile path image answer (record w { files = files }) w' status
 
   -- `replay IMAGE JOURNAL`: once IMAGE is imported, JOURNAL is opened.
   abbrev pub Replays : List ℕ → List ℕ → World S O C I W E → World S O C I W E → ℕ → Type 0
@@ -102,7 +103,7 @@ module _ {S O C I W E : Type 0} (gives : I → Reading → List ℕ → I → Ty
   ServesInput image w w' status = (w'.files ≡ w.files) × ((read : Result (List ℕ) ReadStop) × (ending : Ending)
       × Reads gives w.input w'.input read × Serves writes (told image) read w.output w'.output ending × Ended tells script_name ending w.errors w'.errors status)
 
-module _ {S O C I W E : Type 0} (opens : S → List ℕ → Option O → S → Type 0) (opened : O → Reading → List ℕ → O → Type 0)
+module _ {S O C I W E : Type 0} (opens : S → List ℕ → Result O OpenFault → S → Type 0) (opened : O → Reading → List ℕ → O → Type 0)
     (gives : I → Reading → List ℕ → I → Type 0) (writes : W → Writing → List ℕ → W → Type 0) (tells : E → Writing → List ℕ → E → Type 0) where
   -- `run IMAGE`: once IMAGE is imported, standard input is served with it.
   abbrev pub RunsImage : List ℕ → World S O C I W E → World S O C I W E → ℕ → Type 0

@@ -1,5 +1,5 @@
 -- What a run of the program does, from the words of the command line to its exit status.
-use Rattle.std.specs.Prelude.{◌≡◌, ℕ, List, [], ◌⊎◌, Option, Some, None}
+use Rattle.std.specs.Prelude.{◌≡◌, ℕ, List, [], ◌⊎◌, Option, Some, None, Result}
 use Rattle.evm_streams.specs.declared.source.Reading.{Reading}
 use Rattle.evm_streams.specs.declared.source.ReadStop.TheVariants.{NoMemory}
 use Rattle.evm_streams.specs.declared.sink.Writing.{Writing}
@@ -9,6 +9,8 @@ use Rattle.clap.specs.declared.error.ErrorKind.{ErrorKind}
 use Rattle.clap.specs.declared.error.ErrorKind.TheVariants.{DisplayHelp, DisplayVersion, OutOfMemory}
 use Rattle.evm_serve.specs.Serving.{WritesAll}
 use Rattle.evm_serve.specs.declared.ending.Ending.{Ending}
+use Rattle.evm_serve.specs.declared.ending.Verdict.TheVariants.{Done}
+use Rattle.evm_command.specs.declared.system.OpenFault.{OpenFault}
 use Rattle.evm_command.specs.declared.system.World.{World}
 use Rattle.evm_command.specs.Telling.{program_name, Ended}
 use Rattle.evm_command.specs.Jobs.{AsksNothing, NotRead, AssemblesFile, Runs, Replays}
@@ -17,7 +19,7 @@ use Rattle.evm_command.specs.Words.{Wanted, Assemble, Run, Replay, evltool, job_
 module _ {S O C I W E : Type 0} (writes : W → Writing → List ℕ → W → Type 0) (tells : E → Writing → List ℕ → E → Type 0) where
   -- Help or the version is written to standard output.
   abbrev pub Shows : List ℕ → World S O C I W E → World S O C I W E → ℕ → Type 0
-  Shows text w w' status = AsksNothing w w' × ((ending : Ending) × WritesAll writes (record { text = text; status = 0 }) w.output w'.output ending × Ended tells program_name ending w.errors w'.errors status)
+  Shows text w w' status = AsksNothing w w' × ((ending : Ending) × WritesAll writes (record { text = text; verdict = Done }) w.output w'.output ending × Ended tells program_name ending w.errors w'.errors status)
 
   -- What is wrong with the words is written to standard error: the status is 2, or 4 where a write failed.
   abbrev pub Blames : List ℕ → World S O C I W E → World S O C I W E → ℕ → Type 0
@@ -34,7 +36,7 @@ module _ {S O C I W E : Type 0} (writes : W → Writing → List ℕ → W → T
   abbrev pub Refuses : ErrorKind → World S O C I W E → World S O C I W E → ℕ → Type 0
   Refuses kind w w' status = NotRead writes tells program_name NoMemory w w' status ⊎ ((text : List ℕ) × Says kind text w w' status)
 
-module _ {S O C I W E : Type 0} (opens : S → List ℕ → Option O → S → Type 0) (creates : S → List ℕ → Option C → S → Type 0)
+module _ {S O C I W E : Type 0} (opens : S → List ℕ → Result O OpenFault → S → Type 0) (creates : S → List ℕ → Result C OpenFault → S → Type 0)
     (opened : O → Reading → List ℕ → O → Type 0) (created : C → Writing → List ℕ → C → Type 0) (gives : I → Reading → List ℕ → I → Type 0)
     (writes : W → Writing → List ℕ → W → Type 0) (tells : E → Writing → List ℕ → E → Type 0) where
   -- a job, with the names of its files

@@ -12,18 +12,20 @@ use Rattle.evm_serve.specs.Serving.{status_at}
 use Rattle.evm_serve.specs.declared.ending.Verdict.TheVariants.{Done, Refused, ImageRefused}
 use Rattle.evm_serve.specs.declared.ending.Ending.{Ending}
 use Rattle.evm_serve.specs.declared.ending.Ending.TheVariants.{Complete, NoMemory, ReadFailed, WriteFailed}
+use Rattle.evm_command.specs.declared.system.OpenFault.{OpenFault}
+use Rattle.evm_command.specs.declared.system.OpenFault.TheVariants.{Missing, Denied, Folder, Other}
 
 -- what stands behind a place
-abbrev pub said : List ℕ → List ℕ
-said sentence = codes ": " ++ sentence ++ codes "\n"
+abbrev pub behind_place : List ℕ → List ℕ
+behind_place sentence = codes ": " ++ sentence ++ codes "\n"
 
 -- a sentence about a file, or about the program
 abbrev pub about : List ℕ → List ℕ → List ℕ
-about name sentence = name ++ said sentence
+about name sentence = name ++ behind_place sentence
 
 -- a sentence about a line of a file, in the form that editors jump to
 abbrev pub about_line : List ℕ → ℕ → List ℕ → List ℕ
-about_line name line sentence = name ++ (codes ":" ++ (decimal line ++ said sentence))
+about_line name line sentence = name ++ (codes ":" ++ (decimal line ++ behind_place sentence))
 
 abbrev pub program_name : List ℕ
 program_name = codes "evltool"
@@ -32,9 +34,25 @@ program_name = codes "evltool"
 abbrev pub script_name : List ℕ
 script_name = codes "script"
 
--- of a file that can't be opened or created
-abbrev pub not_opened_text : List ℕ → List ℕ
-not_opened_text path = about path (codes "can't be opened")
+-- why a file can't be opened
+abbrev pub not_opened_sentence : OpenFault → List ℕ
+not_opened_sentence Missing = codes "can't be opened: no such file"
+not_opened_sentence Denied = codes "can't be opened: permission denied"
+not_opened_sentence Folder = codes "can't be opened: it is a folder"
+not_opened_sentence Other = codes "can't be opened"
+
+abbrev pub not_opened_text : List ℕ → OpenFault → List ℕ
+not_opened_text path fault = about path (not_opened_sentence fault)
+
+-- why it can't be created
+abbrev pub not_created_sentence : OpenFault → List ℕ
+not_created_sentence Missing = codes "can't be created: no such folder"
+not_created_sentence Denied = codes "can't be created: permission denied"
+not_created_sentence Folder = codes "can't be created: it is a folder"
+not_created_sentence Other = codes "can't be created"
+
+abbrev pub not_created_text : List ℕ → OpenFault → List ℕ
+not_created_text path fault = about path (not_created_sentence fault)
 
 -- why something was not read
 abbrev pub not_read_sentence : ReadFault → List ℕ

@@ -2,7 +2,7 @@
 
 ghost use Rattle.evm_command.specs.Jobs.{Creates, AssemblesFile};
 
-use crate::saying::{ended, not_opened, not_read};
+use crate::saying::{ended, not_created, not_opened, not_read};
 use crate::system::{System, World};
 use evm_serve::{assemble_to, read_utf8};
 use std::alloc::Global;
@@ -18,8 +18,8 @@ fn assemble_text<S: System>(
     ensures { Creates S.creates S.Created.takes S.Output.takes S.Errors.takes source.now out.now text.now world.old world.new result }
 {
     match world.files.create(out) {
-        None => not_opened(out, &mut world.errors),
-        Some(mut file) => {
+        Err(fault) => not_created(out, fault, &mut world.errors),
+        Ok(mut file) => {
             let ending = assemble_to(alloc, text, &mut file, &mut world.output);
             ended(source, &ending, &mut world.errors)
         }
@@ -35,8 +35,9 @@ pub(crate) fn assemble_file<S: System>(
 ) -> u8
     ensures { AssemblesFile S.opens S.creates S.Opened.gives S.Created.takes S.Output.takes S.Errors.takes source.now out.now world.old world.new result }
 {
-    let Some(mut file) = world.files.open(source) else {
-        return not_opened(source, &mut world.errors);
+    let mut file = match world.files.open(source) {
+        Ok(file) => file,
+        Err(fault) => return not_opened(source, fault, &mut world.errors),
     };
     match read_utf8(alloc, &mut file) {
         Ok(text) => assemble_text(alloc, source, out, text.as_str(), world),

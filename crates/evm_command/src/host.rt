@@ -3,9 +3,19 @@
 
 use crate::command::answer;
 use crate::saying::{memory_refused, words_not_read};
-use crate::system::{System, World};
+use crate::system::{OpenFault, System, World};
 use std::fs::File;
 use std::io::{ErrorKind, Stderr, Stdin, Stdout};
+
+// Why std says that a file can't be opened or created.
+fn open_fault(kind: ErrorKind) -> OpenFault {
+    match kind {
+        ErrorKind::NotFound => OpenFault::Missing,
+        ErrorKind::PermissionDenied => OpenFault::Denied,
+        ErrorKind::IsADirectory => OpenFault::Folder,
+        _ => OpenFault::Other,
+    }
+}
 
 /// The files of the system.
 #[derive(Drop)]
@@ -30,12 +40,18 @@ impl System for Host<'_> {
 
     ghost creates = { StdCreates };
 
-    fn open(&mut self, path: &str) -> Option<File> {
-        File::open(self.rt, path).ok()
+    fn open(&mut self, path: &str) -> Result<File, OpenFault> {
+        match File::open(self.rt, path) {
+            Ok(file) => Ok(file),
+            Err(error) => Err(open_fault(error.kind())),
+        }
     }
 
-    fn create(&mut self, path: &str) -> Option<File> {
-        File::create(self.rt, path).ok()
+    fn create(&mut self, path: &str) -> Result<File, OpenFault> {
+        match File::create(self.rt, path) {
+            Ok(file) => Ok(file),
+            Err(error) => Err(open_fault(error.kind())),
+        }
     }
 }
 

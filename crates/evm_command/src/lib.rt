@@ -15,7 +15,7 @@ mod words;
 
 pub use command::answer;
 pub use host::{Host, host_world, run};
-pub use system::{System, World};
+pub use system::{OpenFault, System, World};
 
 #[cfg(test)]
 mod tests;

@@ -20,8 +20,9 @@ pub(crate) fn image_at<S: System>(
 ) -> Result<Image, u8>
     ensures { Loads S.opens S.Opened.gives S.Output.takes S.Errors.takes path.now world.old world.new result }
 {
-    let Some(mut file) = world.files.open(path) else {
-        return Err(not_opened(path, &mut world.errors));
+    let mut file = match world.files.open(path) {
+        Ok(file) => file,
+        Err(fault) => return Err(not_opened(path, fault, &mut world.errors)),
     };
     match import(alloc, &mut file, &mut world.output) {
         Ok(image) => Ok(image),

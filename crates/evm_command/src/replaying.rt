@@ -13,8 +13,9 @@ use std::alloc::Global;
 fn replay_on<S: System>(alloc: Global, image: &Image, journal: &str, world: &mut World<S>) -> u8
     ensures { ReplaysJournal S.opens S.Opened.gives S.Output.takes S.Errors.takes journal.now image.now world.old world.new result }
 {
-    let Some(mut file) = world.files.open(journal) else {
-        return not_opened(journal, &mut world.errors);
+    let mut file = match world.files.open(journal) {
+        Ok(file) => file,
+        Err(fault) => return not_opened(journal, fault, &mut world.errors),
     };
     let ending = replay_to(alloc, image, &mut file, &mut world.output);
     ended(journal, &ending, &mut world.errors)

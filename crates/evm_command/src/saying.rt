@@ -3,11 +3,11 @@
 ghost use Rattle.std.specs.Prelude.{◌≡◌};
 ghost use Rattle.evm_serve.specs.Serving.{Unread};
 ghost use Rattle.evm_command.specs.Jobs.{NotRead, NotWords};
-ghost use Rattle.evm_command.specs.Telling.{Tells, Explains, Ended, program_name, not_opened_text, not_read_sentence};
+ghost use Rattle.evm_command.specs.Telling.{Tells, Explains, Ended, program_name, not_opened_sentence, not_opened_text, not_created_sentence, not_created_text, not_read_sentence};
 
-use crate::system::{System, World};
+use crate::system::{OpenFault, System, World};
 use crate::telling::{tell_about, tell_about_line};
-use evm_serve::{Ending, ReadFault, ReadStop, Verdict};
+use evm_serve::{Ending, ReadFault, ReadStop, Sentence, Verdict};
 use evm_streams::{Sink, write_all};
 
 /// The status where a file can't be opened, created, read or written.
@@ -19,12 +19,43 @@ pub(crate) const USAGE: u8 = 2;
 /// The name under which the program tells what is about no file.
 pub(crate) const PROGRAM: &str = "evltool";
 
-/// Tells that a file can't be opened or created, and answers the status.
-pub(crate) fn not_opened<E: Sink>(path: &str, errors: &mut E) -> u8
-    ensures told { Tells E.takes (not_opened_text path.now) errors.old errors.new }
+fn not_opened_sentence(fault: OpenFault) -> &'static str
+    ensures { result.now ≡ not_opened_sentence fault }
+{
+    match fault {
+        OpenFault::Missing => "can't be opened: no such file",
+        OpenFault::Denied => "can't be opened: permission denied",
+        OpenFault::Folder => "can't be opened: it is a folder",
+        OpenFault::Other => "can't be opened",
+    }
+}
+
+/// Tells that a file can't be opened, and why, and answers the status.
+pub(crate) fn not_opened<E: Sink>(path: &str, fault: OpenFault, errors: &mut E) -> u8
+    ensures told { Tells E.takes (not_opened_text path.now fault) errors.old errors.new }
     ensures status { result ≡ 4 }
 {
-    tell_about(path, "can't be opened", errors);
+    tell_about(path, Sentence::Plain(not_opened_sentence(fault)), errors);
+    FAILED
+}
+
+fn not_created_sentence(fault: OpenFault) -> &'static str
+    ensures { result.now ≡ not_created_sentence fault }
+{
+    match fault {
+        OpenFault::Missing => "can't be created: no such folder",
+        OpenFault::Denied => "can't be created: permission denied",
+        OpenFault::Folder => "can't be created: it is a folder",
+        OpenFault::Other => "can't be created",
+    }
+}
+
+/// Tells that a file can't be created, and why, and answers the status.
+pub(crate) fn not_created<E: Sink>(path: &str, fault: OpenFault, errors: &mut E) -> u8
+    ensures told { Tells E.takes (not_created_text path.now fault) errors.old errors.new }
+    ensures status { result ≡ 4 }
+{
+    tell_about(path, Sentence::Plain(not_created_sentence(fault)), errors);
     FAILED
 }
 
@@ -48,11 +79,13 @@ fn explain<E: Sink>(name: &str, ending: Ending, errors: &mut E)
             tell_about_line(name, fault.line(), fault.sentence(), errors)
         }
         Ending::Complete(Verdict::ImageRefused(fault)) => {
-            tell_about(name, fault.sentence(), errors)
+            tell_about(name, Sentence::Plain(fault.sentence()), errors)
         }
-        Ending::NoMemory => tell_about(name, "out of memory", errors),
-        Ending::ReadFailed(fault) => tell_about(name, not_read_sentence(fault), errors),
-        Ending::WriteFailed(_) => tell_about(PROGRAM, "a write failed", errors),
+        Ending::NoMemory => tell_about(name, Sentence::Plain("out of memory"), errors),
+        Ending::ReadFailed(fault) => {
+            tell_about(name, Sentence::Plain(not_read_sentence(fault)), errors)
+        }
+        Ending::WriteFailed(_) => { tell_about(PROGRAM, Sentence::Plain("a write failed"), errors) }
     }
 }
 
@@ -98,7 +131,7 @@ pub(crate) fn words_not_read<S: System>(world: &mut World<S>) -> u8
 {
     tell_about(
         PROGRAM,
-        "a word of the command line is not UTF-8",
+        Sentence::Plain("a word of the command line is not UTF-8"),
         &mut world.errors,
     );
     USAGE

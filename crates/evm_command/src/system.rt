@@ -2,9 +2,23 @@
 
 use evm_streams::{Sink, Source};
 
+/// Why a file can't be opened or created.
+#[derive(Clone, Copy, Debug, PartialEq, Eq)]
+pub enum OpenFault {
+    /// There is no such file; of one that is to be created, its folder.
+    Missing,
+    /// The system doesn't allow it.
+    Denied,
+    /// It is a folder.
+    Folder,
+    /// Any other reason.
+    Other,
+}
+
 /// A system that opens files and creates them, and that has three streams.
 pub trait System {
-    ghost use Rattle.std.specs.Prelude.{ℕ, List, Option};
+    ghost use Rattle.std.specs.Prelude.{ℕ, List, Result};
+    ghost use Rattle.evm_command.specs.declared.system.OpenFault.{OpenFault};
 
     /// A file that was opened.
     type Opened: Source + Drop;
@@ -23,16 +37,16 @@ pub trait System {
 
     // What opening the file of a name may answer at one state, and the state after it; and what creating it may. Nothing else is known of
     // these relations, so that only a call of this very system shows what was asked of it, and in which order.
-    ghost opens: { Self → List ℕ → Option Self.Opened → Self → Type 0 };
+    ghost opens: { Self → List ℕ → Result Self.Opened OpenFault → Self → Type 0 };
 
-    ghost creates: { Self → List ℕ → Option Self.Created → Self → Type 0 };
+    ghost creates: { Self → List ℕ → Result Self.Created OpenFault → Self → Type 0 };
 
-    /// Opens a file to be read; None where it can't be opened.
-    fn open(&mut self, path: &str) -> Option<Self::Opened>
+    /// Opens a file to be read, or tells why it can't be opened.
+    fn open(&mut self, path: &str) -> Result<Self::Opened, OpenFault>
         ensures { opens self.old path.now result self.new };
 
-    /// Creates a file to be written, or empties the one of this name; None where it can't be created.
-    fn create(&mut self, path: &str) -> Option<Self::Created>
+    /// Creates a file to be written, or empties the one of this name, or tells why it can't be created.
+    fn create(&mut self, path: &str) -> Result<Self::Created, OpenFault>
         ensures { creates self.old path.now result self.new };
 }
 

@@ -2,8 +2,10 @@
 
 ghost use Rattle.std.specs.Prelude.{◌≡◌, ◌<◌, ◌+◌, ◌^◌, ◌++◌, codes};
 ghost use Rattle.evm_text.specs.Written.{numeral, decimal};
-ghost use Rattle.evm_command.specs.Telling.{Writes, Tells, said, about, about_line};
+ghost use Rattle.evm_serve.specs.Faults.{sentence_text};
+ghost use Rattle.evm_command.specs.Telling.{Writes, Tells, behind_place, about, about_line};
 
+use evm_serve::Sentence;
 use evm_streams::{Sink, WriteFault, write_all};
 
 // Writes a number in decimal, of at most so many digits behind its first.
@@ -20,19 +22,49 @@ fn write_decimal<E: Sink>(number: u64, behind: u8, errors: &mut E) -> Result<(),
     }
 }
 
-// Writes a sentence to its end.
-fn write_sentence<E: Sink>(sentence: &str, errors: &mut E) -> Result<(), WriteFault>
-    ensures { Writes E.takes (sentence.now ++ codes "\n") result errors.old errors.new }
+// Writes the number of a processor, and the words behind it.
+fn write_cpu<E: Sink>(cpu: u8, back: &str, errors: &mut E) -> Result<(), WriteFault>
+    ensures { Writes E.takes (decimal cpu ++ back.now) result errors.old errors.new }
 {
-    match write_all(errors, sentence.as_bytes()) {
+    match write_decimal(u64::from(cpu), 19, errors) {
+        Ok(()) => write_all(errors, back.as_bytes()),
+        Err(fault) => Err(fault),
+    }
+}
+
+// Writes words about a processor.
+fn write_of_cpu<E: Sink>(front: &str, cpu: u8, back: &str, errors: &mut E) -> Result<(), WriteFault>
+    ensures { Writes E.takes (front.now ++ (decimal cpu ++ back.now)) result errors.old errors.new }
+{
+    match write_all(errors, front.as_bytes()) {
+        Ok(()) => write_cpu(cpu, back, errors),
+        Err(fault) => Err(fault),
+    }
+}
+
+// Writes the words of a sentence.
+fn write_words<E: Sink>(sentence: Sentence, errors: &mut E) -> Result<(), WriteFault>
+    ensures { Writes E.takes (sentence_text sentence) result errors.old errors.new }
+{
+    match sentence {
+        Sentence::Plain(words) => write_all(errors, words.as_bytes()),
+        Sentence::OfCpu(front, cpu, back) => write_of_cpu(front, cpu, back, errors),
+    }
+}
+
+// Writes a sentence to its end.
+fn write_sentence<E: Sink>(sentence: Sentence, errors: &mut E) -> Result<(), WriteFault>
+    ensures { Writes E.takes (sentence_text sentence ++ codes "\n") result errors.old errors.new }
+{
+    match write_words(sentence, errors) {
         Ok(()) => write_all(errors, b"\n"),
         Err(fault) => Err(fault),
     }
 }
 
 // Writes a sentence behind a place.
-fn write_behind<E: Sink>(sentence: &str, errors: &mut E) -> Result<(), WriteFault>
-    ensures { Writes E.takes (said sentence.now) result errors.old errors.new }
+fn write_behind<E: Sink>(sentence: Sentence, errors: &mut E) -> Result<(), WriteFault>
+    ensures { Writes E.takes (behind_place (sentence_text sentence)) result errors.old errors.new }
 {
     match write_all(errors, b": ") {
         Ok(()) => write_sentence(sentence, errors),
@@ -41,8 +73,8 @@ fn write_behind<E: Sink>(sentence: &str, errors: &mut E) -> Result<(), WriteFaul
 }
 
 // Writes a sentence about a file.
-fn write_about<E: Sink>(name: &str, sentence: &str, errors: &mut E) -> Result<(), WriteFault>
-    ensures { Writes E.takes (about name.now sentence.now) result errors.old errors.new }
+fn write_about<E: Sink>(name: &str, sentence: Sentence, errors: &mut E) -> Result<(), WriteFault>
+    ensures { Writes E.takes (about name.now (sentence_text sentence)) result errors.old errors.new }
 {
     match write_all(errors, name.as_bytes()) {
         Ok(()) => write_behind(sentence, errors),
@@ -51,8 +83,8 @@ fn write_about<E: Sink>(name: &str, sentence: &str, errors: &mut E) -> Result<()
 }
 
 // Writes the number of a line, and a sentence behind it.
-fn write_numbered<E: Sink>(line: u64, sentence: &str, errors: &mut E) -> Result<(), WriteFault>
-    ensures { Writes E.takes (decimal line ++ said sentence.now) result errors.old errors.new }
+fn write_numbered<E: Sink>(line: u64, sentence: Sentence, errors: &mut E) -> Result<(), WriteFault>
+    ensures { Writes E.takes (decimal line ++ behind_place (sentence_text sentence)) result errors.old errors.new }
 {
     match write_decimal(line, 19, errors) {
         Ok(()) => write_behind(sentence, errors),
@@ -61,8 +93,8 @@ fn write_numbered<E: Sink>(line: u64, sentence: &str, errors: &mut E) -> Result<
 }
 
 // Writes a sentence behind the number of a line.
-fn write_line<E: Sink>(line: u64, sentence: &str, errors: &mut E) -> Result<(), WriteFault>
-    ensures { Writes E.takes (codes ":" ++ (decimal line ++ said sentence.now)) result errors.old errors.new }
+fn write_line<E: Sink>(line: u64, sentence: Sentence, errors: &mut E) -> Result<(), WriteFault>
+    ensures { Writes E.takes (codes ":" ++ (decimal line ++ behind_place (sentence_text sentence))) result errors.old errors.new }
 {
     match write_all(errors, b":") {
         Ok(()) => write_numbered(line, sentence, errors),
@@ -74,10 +106,10 @@ fn write_line<E: Sink>(line: u64, sentence: &str, errors: &mut E) -> Result<(), 
 fn write_about_line<E: Sink>(
     name: &str,
     line: u64,
-    sentence: &str,
+    sentence: Sentence,
     errors: &mut E,
 ) -> Result<(), WriteFault>
-    ensures { Writes E.takes (about_line name.now line sentence.now) result errors.old errors.new }
+    ensures { Writes E.takes (about_line name.now line (sentence_text sentence)) result errors.old errors.new }
 {
     match write_all(errors, name.as_bytes()) {
         Ok(()) => write_line(line, sentence, errors),
@@ -86,15 +118,15 @@ fn write_about_line<E: Sink>(
 }
 
 /// Tells a sentence about a file. Where it can't be told, the status has to do.
-pub(crate) fn tell_about<E: Sink>(name: &str, sentence: &str, errors: &mut E)
-    ensures { Tells E.takes (about name.now sentence.now) errors.old errors.new }
+pub(crate) fn tell_about<E: Sink>(name: &str, sentence: Sentence, errors: &mut E)
+    ensures { Tells E.takes (about name.now (sentence_text sentence)) errors.old errors.new }
 {
     let _told = write_about(name, sentence, errors);
 }
 
 /// The same about a line of a file.
-pub(crate) fn tell_about_line<E: Sink>(name: &str, line: u64, sentence: &str, errors: &mut E)
-    ensures { Tells E.takes (about_line name.now line sentence.now) errors.old errors.new }
+pub(crate) fn tell_about_line<E: Sink>(name: &str, line: u64, sentence: Sentence, errors: &mut E)
+    ensures { Tells E.takes (about_line name.now line (sentence_text sentence)) errors.old errors.new }
 {
     let _told = write_about_line(name, line, sentence, errors);
 }

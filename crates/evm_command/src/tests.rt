@@ -1,7 +1,7 @@
 //! Command lines over a system that is not there: files that can't be opened or created, and streams that fail.
 
 use crate::command::answer;
-use crate::system::{System, World};
+use crate::system::{OpenFault, System, World};
 use std::alloc::Global;
 use std::cell::Cell;
 use std::io::{self, Error, ErrorKind, Read, Write};
@@ -111,25 +111,25 @@ impl<'a> System for Fake<'a> {
 
     type Errors = Writer<'a>;
 
-    fn open(&mut self, path: &str) -> Option<Reader<'a>> {
+    fn open(&mut self, path: &str) -> Result<Reader<'a>, OpenFault> {
         self.note(1);
         for (name, bytes) in self.given.files.iter() {
             if *name == path {
-                return Some(Reader {
+                return Ok(Reader {
                     rest: *bytes,
                     calls: self.given.reads,
                 });
             }
         }
-        None
+        Err(OpenFault::Missing)
     }
 
-    fn create(&mut self, path: &str) -> Option<Writer<'a>> {
+    fn create(&mut self, path: &str) -> Result<Writer<'a>, OpenFault> {
         self.note(2);
         if path != "out" {
-            return None;
+            return Err(OpenFault::Denied);
         }
-        Some(Writer {
+        Ok(Writer {
             taken: &self.given.out,
             room: self.given.room,
         })

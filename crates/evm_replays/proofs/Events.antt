@@ -20,9 +20,9 @@ use Rattle.evm_model.specs.declared.limits.TheConstants.{CAPACITY_LIMIT}
 use Rattle.evm_ram.specs.declared.refusal.Refusal.{Refusal}
 use Rattle.evm_ram.specs.declared.refusal.Refusal.TheVariants.{Full, BadSize}
 use Rattle.evm_core.specs.Load.{load, load_unless, load_refusal}
+use Rattle.evm_core.specs.Steps.{behind_step, steps}
 use Rattle.evm_rules.proofs.Replays.{accepted, accepted-journal, IsReplayOf-step, empty_as_replay}
 use Rattle.evm_serve.specs.Starting.{started, with_image}
-use Rattle.evm_serve.specs.Told.{steps, steps_on}
 
 -- its numbers are good, it began with the image, and what it had since is in its journal
 pub record IsDriven (image : Contents) (s : State) : Type 0 where
@@ -62,13 +62,13 @@ driven-event image s new event answer e line d =
 
 -- so many Steps more
 steps-more : (image : Contents) (c count : ℕ) (s new : State) (r : Result (State × Answer) Refusal) → apply s (Step c) ≡ r → c < 256 → IsDriven image s
-    → ((s : State) → steps c count s ≡ Ok new → IsDriven image s → IsDriven image new) → steps_on r (steps c count) ≡ Ok new → IsDriven image new
+    → ((s : State) → steps c count s ≡ (new, None) → IsDriven image s → IsDriven image new) → behind_step r s (steps c count) ≡ (new, None) → IsDriven image new
 steps-more image c count s new (Ok after) e cpu d more h = more after.0 h (driven-event image s after.0 (Step c) after.1 e (cpu, (omega arith, omega arith, omega arith)) d)
-steps-more image c count s new (Err refusal) e cpu d more h = cc
+steps-more image c count s new (Err refusal) e cpu d more h = let none : ◌≡◌ {A = Option Refusal} (Some refusal) None = ap (λ (x : State × Option Refusal). x.1) h in cc
 
-pub driven-steps : (image : Contents) (c count : ℕ) (s new : State) → steps c count s ≡ Ok new → c < 256 → IsDriven image s → IsDriven image new
+pub driven-steps : (image : Contents) (c count : ℕ) (s new : State) → steps c count s ≡ (new, None) → c < 256 → IsDriven image s → IsDriven image new
 unfolding steps
-driven-steps image c zero s new e cpu d = let it : s ≡ new = cc in rw (← it) d
+driven-steps image c zero s new e cpu d = let it : s ≡ new = ap (λ (x : State × Option Refusal). x.0) e in rw (← it) d
 driven-steps image c (suc count) s new e cpu d = steps-more image c count s new (apply s (Step c)) refl cpu d (λ x h g. driven-steps image c count x new h cpu g) e
 
 -- ---- a boot

@@ -10,29 +10,30 @@ use Rattle.evm_debug.specs.Views.{shown}
 use Rattle.evm_debug.specs.declared.line.Line.TheVariants as lines
 use Rattle.evm_debug.specs.declared.line.View.TheVariants.{Journal}
 use Rattle.evm_debug.proofs.Lines.{reads_lines}
-use Rattle.evm_serve.specs.Lines.{lines_of}
+use Rattle.evm_text.specs.Lines.{text_lines}
 use Rattle.evm_serve.specs.Told.{Told, Telling, Goes, Ends, behind, run_on, line_told, lines_told}
+use Rattle.evm_serve.specs.declared.ending.Verdict.TheVariants.{Done}
 use Rattle.evm_replays.specs.Scripts.{goes_on, machine_after, PrintsItsJournal}
 
 journal-line : line_at (codes "journal") ≡ Some (lines.Look Journal)
 journal-line = (reads_lines (lines.Look Journal) (codes "journal")).1 (refl, tt)
 
 -- a text in front of a report
-front : (text : List ℕ) (a b : Told) (more : List ℕ) → a ≡ record { text = b.text ++ more; status = 0 } → behind text a ≡ record { text = (behind text b).text ++ more; status = 0 }
-front text a b more e = rw e (ap (λ (t : List ℕ). record { text = t; status = 0 }) (sym (append_assoc text b.text more)))
+front : (text : List ℕ) (a b : Told) (more : List ℕ) → a ≡ record { text = b.text ++ more; verdict = Done } → behind text a ≡ record { text = (behind text b).text ++ more; verdict = Done }
+front text a b more e = rw e (ap (λ (t : List ℕ). record { text = t; verdict = Done }) (sym (append_assoc text b.text more)))
 
 on-printed : (t : Telling) (long short : Option State → Told) (others : Option State → Option State) (s : State) (more : List ℕ)
-    → ((machine : Option State) → others machine ≡ Some s → long machine ≡ record { text = (short machine).text ++ more; status = 0 })
-    → goes_on t others ≡ Some s → run_on t long ≡ record { text = (run_on t short).text ++ more; status = 0 }
+    → ((machine : Option State) → others machine ≡ Some s → long machine ≡ record { text = (short machine).text ++ more; verdict = Done })
+    → goes_on t others ≡ Some s → run_on t long ≡ record { text = (run_on t short).text ++ more; verdict = Done }
 on-printed (Goes text machine) long short others s more h e = front text (long machine) (short machine) more (h machine e)
-on-printed (Ends text) long short others s more h e = cc
+on-printed (Ends fault) long short others s more h e = cc
 
-last-printed : (image : Option Contents) (n : ℕ) (s : State) → lines_told image n (codes "journal" ∷ []) (Some s) ≡ record { text = journal_text s.boot s.journal; status = 0 }
+last-printed : (image : Option Contents) (n : ℕ) (s : State) → lines_told image n (codes "journal" ∷ []) (Some s) ≡ record { text = journal_text s.boot s.journal; verdict = Done }
 unfolding lines_told shown
-last-printed image n s = rw journal-line (ap (λ (t : List ℕ). record { text = t; status = 0 }) (append-nil (journal_text s.boot s.journal)))
+last-printed image n s = rw journal-line (ap (λ (t : List ℕ). record { text = t; verdict = Done }) (append-nil (journal_text s.boot s.journal)))
 
 prints-on : (image : Option Contents) (n : ℕ) (ls : List (List ℕ)) (machine : Option State) (s : State) → machine_after image n ls machine ≡ Some s
-    → lines_told image n (ls ++ codes "journal" ∷ []) machine ≡ record { text = (lines_told image n ls machine).text ++ journal_text s.boot s.journal; status = 0 }
+    → lines_told image n (ls ++ codes "journal" ∷ []) machine ≡ record { text = (lines_told image n ls machine).text ++ journal_text s.boot s.journal; verdict = Done }
 unfolding machine_after lines_told
 prints-on image n [] machine s e = ap (lines_told image n (codes "journal" ∷ [])) e ∙ last-printed image n s
 prints-on image n (line ∷ ls) machine s e =
@@ -40,4 +41,4 @@ prints-on image n (line ∷ ls) machine s e =
     (journal_text s.boot s.journal) (λ m h. prints-on image (n + 1) ls m s h) e
 
 pub prints_its_journal : PrintsItsJournal
-prints_its_journal image script s e = prints-on image 1 (lines_of script) None s e
+prints_its_journal image script s e = prints-on image 1 (text_lines script) None s e

@@ -18,10 +18,12 @@ use Rattle.evm_debug.specs.LineReading.{line_at}
 use Rattle.evm_debug.specs.Views.{shown}
 use Rattle.evm_debug.specs.declared.line.Line.{Line}
 use Rattle.evm_debug.specs.declared.line.Line.TheVariants as lines
+use Rattle.evm_debug.specs.declared.line.View.{View}
 use Rattle.evm_debug.proofs.Lines.{reads_lines}
-use Rattle.evm_serve.specs.Lines.{lines_of}
+use Rattle.evm_text.specs.Lines.{text_lines}
+use Rattle.evm_core.specs.Steps.{steps}
 use Rattle.evm_serve.specs.Starting.{started}
-use Rattle.evm_serve.specs.Told.{Telling, Goes, Ends, event_told, steps, machine_told, view_told, told_at, line_told}
+use Rattle.evm_serve.specs.Told.{Telling, Goes, Ends, event_told, after_steps, boot_told, view_told, told_at, line_told}
 use Rattle.evm_serve.proofs.Replays.{replays_saved}
 use Rattle.evm_replays.specs.Scripts.{goes_on, machine_after, ShowsItsMachine}
 use Rattle.evm_replays.proofs.Events.{IsDriven, driven-event, driven-steps, driven-boot, driven-journal}
@@ -34,24 +36,24 @@ AreDriven image (Some s) = IsDriven image s
 -- .. and so is the one that a line goes on with
 abbrev LeadsOn : Contents → Telling → Type 0
 LeadsOn image (Goes text machine) = AreDriven image machine
-LeadsOn image (Ends text) = Unit {0}
+LeadsOn image (Ends fault) = Unit {0}
 
-event-leads : (image : Contents) (n : ℕ) (s : State) (event : Event) (r : Result (State × Answer) Refusal) → apply s event ≡ r → HasEventLine (line_of event) → IsDriven image s → LeadsOn image (event_told n r)
+event-leads : (image : Contents) (n : ℕ) (s : State) (event : Event) (r : Result (State × Answer) Refusal) → apply s event ≡ r → HasEventLine (line_of event) → IsDriven image s → LeadsOn image (event_told n event r)
 event-leads image n s event (Ok after) e line d = driven-event image s after.0 event after.1 e line d
 event-leads image n s event (Err refusal) e line d = tt
 
-steps-lead : (image : Contents) (n c count : ℕ) (s : State) (r : Result State Refusal) → steps c count s ≡ r → c < 256 → IsDriven image s → LeadsOn image (machine_told n r)
-steps-lead image n c count s (Ok new) e cpu d = driven-steps image c count s new e cpu d
-steps-lead image n c count s (Err refusal) e cpu d = tt
+steps-lead : (image : Contents) (n c count : ℕ) (s new : State) (o : Option Refusal) → steps c count s ≡ (new, o) → c < 256 → IsDriven image s → LeadsOn image (after_steps n c new o)
+steps-lead image n c count s new None e cpu d = driven-steps image c count s new e cpu d
+steps-lead image n c count s new (Some refusal) e cpu d = tt
 
 boot-leads : (image : Contents) (n : ℕ) (boot : Boot) (r : Result State Refusal) → started (Some image) boot ≡ r
-    → HasBootLine boot → LeadsOn image (machine_told n r)
+    → HasBootLine boot → LeadsOn image (boot_told n r)
 boot-leads image n boot (Ok s) e line = driven-boot image boot s line e
 boot-leads image n boot (Err refusal) e line = tt
 
-view-leads : (image : Contents) (n : ℕ) (s : State) (r : Result (List ℕ) Refusal) → IsDriven image s → LeadsOn image (view_told n s r)
-view-leads image n s (Ok text) d = d
-view-leads image n s (Err refusal) d = tt
+view-leads : (image : Contents) (n : ℕ) (view : View) (s : State) (r : Result (List ℕ) Refusal) → IsDriven image s → LeadsOn image (view_told n view s r)
+view-leads image n view s (Ok text) d = d
+view-leads image n view s (Err refusal) d = tt
 
 -- an event line that isn't a run's has a line of its own
 one-line : (event : Event) → HasEventLine (events.One event) → HasEventLine (line_of event)
@@ -77,9 +79,9 @@ spelled-leads image n None (lines.One event) bytes h d = tt
 spelled-leads image n None (lines.Look view) bytes h d = tt
 spelled-leads image n (Some s) lines.Blank bytes h d = d
 spelled-leads image n (Some s) (lines.Boot cpus ram capacity) bytes h d = tt
-spelled-leads image n (Some s) (lines.Steps c count) bytes h d = steps-lead image n c count s (steps c count s) refl h.1.0 d
+spelled-leads image n (Some s) (lines.Steps c count) bytes h d = steps-lead image n c count s (steps c count s).0 (steps c count s).1 refl h.1.0 d
 spelled-leads image n (Some s) (lines.One event) bytes h d = event-leads image n s event (apply s event) refl (one-line event h.1) d
-spelled-leads image n (Some s) (lines.Look view) bytes h d = view-leads image n s (shown view s) d
+spelled-leads image n (Some s) (lines.Look view) bytes h d = view-leads image n view s (shown view s) d
 
 line-leads : (image : Contents) (n : ℕ) (machine : Option State) (bytes : List ℕ) (o : Option Line) → line_at bytes ≡ o → AreDriven image machine → LeadsOn image (line_told (Some image) n machine o)
 line-leads image n machine bytes None e d = tt
@@ -88,7 +90,7 @@ line-leads image n machine bytes (Some line) e d = spelled-leads image n machine
 telling-leads : (image : Contents) (t : Telling) (others : Option State → Option State) (s : State) → LeadsOn image t
     → ((machine : Option State) → others machine ≡ Some s → AreDriven image machine → IsDriven image s) → goes_on t others ≡ Some s → IsDriven image s
 telling-leads image (Goes text machine) others s d more e = more machine e d
-telling-leads image (Ends text) others s d more e = cc
+telling-leads image (Ends fault) others s d more e = cc
 
 -- the machine with which a run comes to its end is driven
 after-driven : (image : Contents) (n : ℕ) (ls : List (List ℕ)) (machine : Option State) (s : State) → machine_after (Some image) n ls machine ≡ Some s → AreDriven image machine → IsDriven image s
@@ -100,5 +102,5 @@ after-driven image n (line ∷ ls) machine s e d =
 
 pub shows_its_machine : ShowsItsMachine
 shows_its_machine image script s e =
-    let d : IsDriven image s = after-driven image 1 (lines_of script) None s e tt in
+    let d : IsDriven image s = after-driven image 1 (text_lines script) None s e tt in
     replays_saved image d.first s d.fits d.loads d.replays (driven-journal image s d)

@@ -5,14 +5,15 @@ use Rattle.evm_model.specs.State.{State}
 use Rattle.evm_journal.specs.Journal.{journal_text}
 use Rattle.evm_debug.specs.LineReading.{line_at}
 use Rattle.evm_debug.specs.Summary.{summary_text}
-use Rattle.evm_serve.specs.Lines.{lines_of}
+use Rattle.evm_text.specs.Lines.{text_lines}
 use Rattle.evm_serve.specs.Told.{Told, Telling, Goes, Ends, line_told, lines_told}
 use Rattle.evm_serve.specs.Replaying.{replay_told}
+use Rattle.evm_serve.specs.declared.ending.Verdict.TheVariants.{Done}
 
 -- a line goes on with its machine to the others, or ends the run
 abbrev pub goes_on : Telling → (Option State → Option State) → Option State
 goes_on (Goes text machine) others = others machine
-goes_on (Ends text) others = None
+goes_on (Ends fault) others = None
 
 -- the machine with which a run of lines comes to its end, the first being line n; none where none is booted, or a line
 -- is bad or refused
@@ -22,15 +23,15 @@ machine_after image n (line ∷ lines) machine = goes_on (line_told image n mach
 
 -- the machine that a script leaves
 abbrev pub machine_left : Option Contents → List ℕ → Option State
-machine_left image script = machine_after image 1 (lines_of script) None
+machine_left image script = machine_after image 1 (text_lines script) None
 
 -- one more line, `journal`, tells the journal of that machine behind the rest
 abbrev pub PrintsItsJournal : Type 0
 PrintsItsJournal = (image : Option Contents) (script : List ℕ) (s : State) → machine_left image script ≡ Some s
-    → lines_told image 1 (lines_of script ++ codes "journal" ∷ []) None
-    ≡ record { text = (lines_told image 1 (lines_of script) None).text ++ journal_text s.boot s.journal; status = 0 }
+    → lines_told image 1 (text_lines script ++ codes "journal" ∷ []) None
+    ≡ record { text = (lines_told image 1 (text_lines script) None).text ++ journal_text s.boot s.journal; verdict = Done }
 
 -- its journal, replayed with the same image, shows it
 abbrev pub ShowsItsMachine : Type 0
 ShowsItsMachine = (image : Contents) (script : List ℕ) (s : State) → machine_left (Some image) script ≡ Some s
-    → replay_told image (journal_text s.boot s.journal) ≡ record { text = summary_text s; status = 0 }
+    → replay_told image (journal_text s.boot s.journal) ≡ record { text = summary_text s; verdict = Done }

@@ -6,7 +6,7 @@ use Rattle.evm_streams.specs.Writes.{Took, TookPrefix}
 use Rattle.evm_streams.proofs.Calls.{took_append, prefix_behind}
 use Rattle.evm_serve.specs.Told.{Told, memory_text}
 use Rattle.evm_serve.specs.Faults.{fault_text, no_image_text}
-use Rattle.evm_serve.specs.Serving.{status_of, IsPrefix, EndsIn, WritesAll, WritesMemory, Finishes}
+use Rattle.evm_serve.specs.Serving.{IsPrefix, EndsIn, WritesAll, WritesMemory, Finishes}
 use Rattle.evm_serve.specs.Playing.{Plays, Says, EndsAs}
 use Rattle.evm_serve.specs.declared.ending.Verdict.{Verdict}
 use Rattle.evm_serve.specs.declared.ending.Verdict.TheVariants.{Done, Refused, ImageRefused}
@@ -23,11 +23,11 @@ ends_behind (ImageRefused fault) prefix text is = (prefix ++ is.0, ap (λ (t : L
 
 module _ {W : Type 0} (takes : W → Writing → List ℕ → W → Type 0) where
   -- a verdict, and no more is written
-  complete : (all : Told) (verdict : Verdict) (a b c : W) (ending : Ending) → Took takes a all.text b → status_of verdict ≡ all.status → EndsIn verdict all.text → c ≡ b → ending ≡ Complete verdict → WritesAll takes all a c ending
-  complete all verdict a b c ending took status fault same is =
+  complete : (all : Told) (verdict : Verdict) (a b c : W) (ending : Ending) → Took takes a all.text b → verdict ≡ all.verdict → EndsIn verdict all.text → c ≡ b → ending ≡ Complete verdict → WritesAll takes all a c ending
+  complete all verdict a b c ending took came fault same is =
       let P : W → Type 0 = λ w. Took takes a all.text w in
       let Q : Ending → Type 0 = λ e. WritesAll takes all a c e in
-      subst Q (sym is) (subst P (sym same) took, status, fault)
+      subst Q (sym is) (subst P (sym same) took, came, fault)
 
   -- a write failed, and no more is written
   failed : (all : Told) (a b c : W) (ending : Ending) (fault : WriteFault) → TookPrefix takes a all.text b → c ≡ b → ending ≡ WriteFailed fault → WritesAll takes all a c ending
@@ -60,11 +60,11 @@ module _ {W : Type 0} (takes : W → Writing → List ℕ → W → Type 0) wher
   finishes_one all a c ending (inr told) = inr ([], (all.text, refl), told)
 
   -- the last text of a script was written, or could not be written whole
-  pub plays_ended : (all : Told) (a b c : W) (text : List ℕ) (outcome : Result Verdict Halt)
-      → (Took takes b text c → Took takes a all.text c × (1 ≡ all.status)) → (TookPrefix takes b text c → TookPrefix takes a all.text c)
+  pub plays_ended : (all : Told) (a b c : W) (text : List ℕ) (last : Verdict) (outcome : Result Verdict Halt)
+      → (Took takes b text c → Took takes a all.text c × (last ≡ all.verdict)) → (TookPrefix takes b text c → TookPrefix takes a all.text c)
       → ((verdict : Verdict) → EndsIn verdict text → EndsIn verdict all.text)
       → (prefix : List ℕ) → IsPrefix prefix all.text → Took takes a prefix b
-      → Says takes (record { text = text; status = 1 }) b c outcome → Plays takes all a c outcome
-  plays_ended all a b c text (Ok verdict) whole part ends prefix is took says = let w = whole says.0 in (w.0, says.1 ∙ w.1, ends verdict says.2)
-  plays_ended all a b c text (Err halts.NoMemory) whole part ends prefix is took says = let P : W → Type 0 = λ w. Took takes a prefix w in (prefix, is, subst P (sym says) took)
-  plays_ended all a b c text (Err (halts.WriteFailed fault)) whole part ends prefix is took says = part says
+      → Says takes (record { text = text; verdict = last }) b c outcome → Plays takes all a c outcome
+  plays_ended all a b c text last (Ok verdict) whole part ends prefix is took says = let w = whole says.0 in (w.0, says.1 ∙ w.1, ends verdict says.2)
+  plays_ended all a b c text last (Err halts.NoMemory) whole part ends prefix is took says = let P : W → Type 0 = λ w. Took takes a prefix w in (prefix, is, subst P (sym says) took)
+  plays_ended all a b c text last (Err (halts.WriteFailed fault)) whole part ends prefix is took says = part says

@@ -5,7 +5,8 @@ use Rattle.std.specs.Io.KnownBytes.{Keeps}
 use Rattle.evm_streams.specs.declared.source.ReadFault.{ReadFault}
 use Rattle.evm_streams.specs.declared.source.ReadFault.TheVariants.{Failed, TooLong, NotUtf8}
 use Rattle.evm_streams.specs.declared.source.ReadStop.TheVariants as stops
-use Rattle.evm_streams.specs.Reads.{LIMIT, Stops}
+use Rattle.evm_streams.specs.declared.reads.TheConstants.{FILE_LIMIT}
+use Rattle.evm_streams.specs.Reads.{Stops}
 use Rattle.evm_streams.specs.Known.{ReaderGives, WriterTakes}
 use Rattle.evm_streams.proofs.KnownBytes.{reads_known, writes_known}
 use Rattle.evm_elf.specs.Faults.{fault_of}
@@ -78,7 +79,7 @@ module _ {W : Type 0} (contents : W → Option (List ℕ)) where
   fault_report all w w' ending fault same is = let P : Ending → Type 0 = λ e. AppendsReport all (contents w) (contents w') e in subst P (sym is) (kept w w' same)
 
   -- what was finished, or ended with `memory`, is within the limit where the input is
-  finished_within : (all : Told) (w w' : W) (input : List ℕ) (ending : Ending) → length input ≤ LIMIT → Finishes (WriterTakes contents) all w w' ending → IsWithin input ending
+  finished_within : (all : Told) (w w' : W) (input : List ℕ) (ending : Ending) → length input ≤ FILE_LIMIT → Finishes (WriterTakes contents) all w w' ending → IsWithin input ending
   finished_within all w w' input (Complete verdict) most h = most
   finished_within all w w' input NoMemory most h = tt
   finished_within all w w' input (ReadFailed fault) most (inl h) = absurd h
@@ -91,7 +92,7 @@ module _ {W : Type 0} (contents : W → Option (List ℕ)) where
   memory_within prefix w w' input (ReadFailed fault) h = absurd h
   memory_within prefix w w' input (WriteFailed fault) h = tt
 
-  finished_text : (all : Told) (w w' : W) (input : List ℕ) (ending : Ending) → length input ≤ LIMIT → IsUtf8 input → Finishes (WriterTakes contents) all w w' ending → IsTextWithin input ending
+  finished_text : (all : Told) (w w' : W) (input : List ℕ) (ending : Ending) → length input ≤ FILE_LIMIT → IsUtf8 input → Finishes (WriterTakes contents) all w w' ending → IsTextWithin input ending
   finished_text all w w' input (Complete verdict) most utf8 h = (most, utf8)
   finished_text all w w' input NoMemory most utf8 h = tt
   finished_text all w w' input (ReadFailed fault) most utf8 (inl h) = absurd h
@@ -144,7 +145,7 @@ module _ {R W : Type 0} (remaining : R → Option (List ℕ)) (contents : W → 
 
   -- bytes that were checked
   import_of : (file : List ℕ) (w w' : W) (ending : Ending)
-      → (IsSomeAnd (fault_of file) (λ fault. AppendsAll (imaging.fault_report fault) (contents w) (contents w') ending) ⊎ AppendsMemory [] (contents w) (contents w') ending)
+      → (IsSomeAnd (fault_of file) (λ fault. AppendsAll (imaging.no_image_report fault) (contents w) (contents w') ending) ⊎ AppendsMemory [] (contents w) (contents w') ending)
       → IsWithin file ending → ImportsKnown file (contents w) (contents w') (Err ending)
   import_of file w w' (Complete verdict) h within = (h, within)
   import_of file w w' NoMemory h within = (h, within)
@@ -152,16 +153,16 @@ module _ {R W : Type 0} (remaining : R → Option (List ℕ)) (contents : W → 
   import_of file w w' (ReadFailed fault) (inr h) within = absurd h
   import_of file w w' (WriteFailed fault) h within = (h, within)
 
-  some_known : (fault : Option ElfFault) (w w' : W) (ending : Ending) → IsSomeAnd fault (λ f. WritesAll (WriterTakes contents) (imaging.fault_report f) w w' ending)
-      → IsSomeAnd fault (λ f. AppendsAll (imaging.fault_report f) (contents w) (contents w') ending)
+  some_known : (fault : Option ElfFault) (w w' : W) (ending : Ending) → IsSomeAnd fault (λ f. WritesAll (WriterTakes contents) (imaging.no_image_report f) w w' ending)
+      → IsSomeAnd fault (λ f. AppendsAll (imaging.no_image_report f) (contents w) (contents w') ending)
   some_known None w w' ending h = h
-  some_known (Some f) w w' ending h = all_known contents (imaging.fault_report f) w w' ending h
+  some_known (Some f) w w' ending h = all_known contents (imaging.no_image_report f) w w' ending h
 
-  checked_within : (fault : Option ElfFault) (w w' : W) (file : List ℕ) (ending : Ending) → length file ≤ LIMIT
-      → (IsSomeAnd fault (λ f. WritesAll (WriterTakes contents) (imaging.fault_report f) w w' ending) ⊎ WritesMemory (WriterTakes contents) [] w w' ending) → IsWithin file ending
+  checked_within : (fault : Option ElfFault) (w w' : W) (file : List ℕ) (ending : Ending) → length file ≤ FILE_LIMIT
+      → (IsSomeAnd fault (λ f. WritesAll (WriterTakes contents) (imaging.no_image_report f) w w' ending) ⊎ WritesMemory (WriterTakes contents) [] w w' ending) → IsWithin file ending
   checked_within fault w w' file ending most (inr h) = memory_within contents [] w w' file ending h
   checked_within None w w' file ending most (inl h) = absurd h
-  checked_within (Some f) w w' file ending most (inl h) = finished_within contents (imaging.fault_report f) w w' file ending most (inl h)
+  checked_within (Some f) w w' file ending most (inl h) = finished_within contents (imaging.no_image_report f) w w' file ending most (inl h)
 
   pub imports_known : ImportsKnownFile remaining contents
   imports_known s t w w' (Ok bytes) (Ok image) reads h =
@@ -181,8 +182,8 @@ module _ {R W : Type 0} (remaining : R → Option (List ℕ)) (contents : W → 
 
 module _ {W T : Type 0} (contents : W → Option (List ℕ)) (reported : T → Option (List ℕ)) where
   either_known : (fault : AsmFault) (report report' : T) (ending : Ending)
-      → (WritesAll (WriterTakes reported) (assembling.fault_report fault) report report' ending ⊎ WritesMemory (WriterTakes reported) [] report report' ending)
-      → (AppendsAll (assembling.fault_report fault) (reported report) (reported report') ending ⊎ AppendsMemory [] (reported report) (reported report') ending)
+      → (WritesAll (WriterTakes reported) (assembling.no_program_report fault) report report' ending ⊎ WritesMemory (WriterTakes reported) [] report report' ending)
+      → (AppendsAll (assembling.no_program_report fault) (reported report) (reported report') ending ⊎ AppendsMemory [] (reported report) (reported report') ending)
   either_known fault report report' ending (inl h) = inl (all_known reported _ report report' ending h)
   either_known fault report report' ending (inr h) = inr (memory_known reported [] report report' ending h)
 

@@ -1,4 +1,3 @@
-pub mod Cuts
 pub mod Endings
 pub mod Histories
 pub mod Known

@@ -3,7 +3,8 @@ use Rattle.std.specs.Prelude.{◌≡◌, ◌<◌, ◌≤◌, ℕ, List, [], ◌+
 use Rattle.std.specs.Io.KnownBytes.{Appends, Keeps}
 use Rattle.evm_streams.specs.declared.source.ReadFault.TheVariants.{Failed, TooLong, NotUtf8}
 use Rattle.evm_streams.specs.declared.source.ReadStop.{ReadStop}
-use Rattle.evm_streams.specs.Reads.{LIMIT, Reads, ReadsText}
+use Rattle.evm_streams.specs.declared.reads.TheConstants.{FILE_LIMIT}
+use Rattle.evm_streams.specs.Reads.{Reads, ReadsText}
 use Rattle.evm_streams.specs.Known.{ReaderGives, WriterTakes, AppendsPrefix}
 use Rattle.evm_image.specs.Images.{Contents}
 use Rattle.evm_elf.specs.Faults.{fault_of, image_of}
@@ -11,15 +12,16 @@ use Rattle.evm_elf.specs.Files.{file_of}
 use Rattle.evm_asm.specs.Assembled.{Assembled}
 use Rattle.evm_words.specs.declared.fault.AsmFault.{AsmFault}
 use Rattle.evm_serve.specs.Told.{Told, memory_text}
-use Rattle.evm_serve.specs.Serving.{status_of, IsPrefix, Serves}
+use Rattle.evm_serve.specs.Serving.{IsPrefix, Serves}
 use Rattle.evm_serve.specs.Imaging as imaging
 use Rattle.evm_serve.specs.Assembling as assembling
 use Rattle.evm_serve.specs.declared.ending.Ending.{Ending}
+use Rattle.evm_serve.specs.declared.ending.Verdict.TheVariants.{Done}
 use Rattle.evm_serve.specs.declared.ending.Ending.TheVariants.{Complete, NoMemory, ReadFailed, WriteFailed}
 
--- all of a report stands behind known contents, with its status, or a prefix of it
+-- all of a report stands behind known contents, with its verdict, or a prefix of it
 abbrev pub AppendsAll : Told → Option (List ℕ) → Option (List ℕ) → Ending → Type 0
-AppendsAll all old new (Complete verdict) = Appends old new all.text × (status_of verdict ≡ all.status)
+AppendsAll all old new (Complete verdict) = Appends old new all.text × (verdict ≡ all.verdict)
 AppendsAll all old new NoMemory = ⊥
 AppendsAll all old new (ReadFailed fault) = ⊥
 AppendsAll all old new (WriteFailed fault) = AppendsPrefix old new all.text
@@ -38,32 +40,32 @@ AppendsReport all old new ending = AppendsAll all old new ending ⊎ ((prefix : 
 
 -- only an input within the limit has its report written to the end, and the end says why it was not read
 abbrev pub IsWithin : List ℕ → Ending → Type 0
-IsWithin input (Complete verdict) = length input ≤ LIMIT
+IsWithin input (Complete verdict) = length input ≤ FILE_LIMIT
 IsWithin input NoMemory = ⊤
 IsWithin input (ReadFailed Failed) = ⊤
-IsWithin input (ReadFailed TooLong) = LIMIT < length input
+IsWithin input (ReadFailed TooLong) = FILE_LIMIT < length input
 IsWithin input (ReadFailed NotUtf8) = ⊥
 IsWithin input (WriteFailed fault) = ⊤
 
 -- the same of an input that is a text
 abbrev pub IsTextWithin : List ℕ → Ending → Type 0
-IsTextWithin input (Complete verdict) = (length input ≤ LIMIT) × IsUtf8 input
+IsTextWithin input (Complete verdict) = (length input ≤ FILE_LIMIT) × IsUtf8 input
 IsTextWithin input (ReadFailed NotUtf8) = ¬ IsUtf8 input
 IsTextWithin input ending = IsWithin input ending
 
 -- what reading an image of a known file answers, and what it has written then
 abbrev pub ImportsKnown : List ℕ → Option (List ℕ) → Option (List ℕ) → Result Contents Ending → Type 0
-ImportsKnown file old new (Ok image) = (fault_of file ≡ None) × (image ≡ image_of file) × Keeps old new × (length file ≤ LIMIT)
+ImportsKnown file old new (Ok image) = (fault_of file ≡ None) × (image ≡ image_of file) × Keeps old new × (length file ≤ FILE_LIMIT)
 ImportsKnown file old new (Err (ReadFailed fault)) = Keeps old new × IsWithin file (ReadFailed fault)
-ImportsKnown file old new (Err ending) = (IsSomeAnd (fault_of file) (λ fault. AppendsAll (imaging.fault_report fault) old new ending) ⊎ AppendsMemory [] old new ending) × IsWithin file ending
+ImportsKnown file old new (Err ending) = (IsSomeAnd (fault_of file) (λ fault. AppendsAll (imaging.no_image_report fault) old new ending) ⊎ AppendsMemory [] old new ending) × IsWithin file ending
 
 -- what assembling has written to a file and reported, each of known contents
 abbrev pub AssemblesKnown : Result Assembled AsmFault → Option (List ℕ) → Option (List ℕ) → Option (List ℕ) → Option (List ℕ) → Ending → Type 0
 AssemblesKnown (Ok p) out out' report report' ending =
-    (AppendsAll (record { text = file_of p.bytes; status = 0 }) out out' ending × Keeps report report')
+    (AppendsAll (record { text = file_of p.bytes; verdict = Done }) out out' ending × Keeps report report')
     ⊎ (Keeps out out' × AppendsMemory [] report report' ending)
 AssemblesKnown (Err fault) out out' report report' ending =
-    Keeps out out' × (AppendsAll (assembling.fault_report fault) report report' ending ⊎ AppendsMemory [] report report' ending)
+    Keeps out out' × (AppendsAll (assembling.no_program_report fault) report report' ending ⊎ AppendsMemory [] report report' ending)
 
 module _ {R W : Type 0} (remaining : R → Option (List ℕ)) (contents : W → Option (List ℕ)) where
   -- a run that reads known bytes is the run of these

@@ -2,7 +2,6 @@ pub mod Assembling
 pub mod Faults
 pub mod Imaging
 pub mod Known
-pub mod Lines
 pub mod Playing
 pub mod ReplayLaws
 pub mod Replaying

@@ -9,7 +9,8 @@ use Rattle.evm_model.specs.declared.event.Event.{Event}
 use Rattle.evm_history.specs.Runs.{runs}
 use Rattle.evm_journal.specs.Journal.{journal_text, HasJournal}
 use Rattle.evm_debug.specs.Summary.{summary_text}
-use Rattle.evm_serve.specs.Told.{refused_text}
+use Rattle.evm_serve.specs.Faults.{event_refused}
+use Rattle.evm_serve.specs.declared.ending.Verdict.TheVariants.{Done}
 use Rattle.evm_serve.specs.Replaying.{events_on, replay_told}
 
 -- The first event that is refused is told with the number of its line: behind the header and the boot there are as many lines as the
@@ -17,10 +18,10 @@ use Rattle.evm_serve.specs.Replaying.{events_on, replay_told}
 abbrev pub RefusedOnItsLine : Type 0
 RefusedOnItsLine = (first s : State) (front rest : List Event) (event : Event) (refusal : Refusal)
     → events_on 2 None front first ≡ Ok s → apply s event ≡ Err refusal
-    → events_on 2 None (front ++ event ∷ rest) first ≡ Err (refused_text (2 + length (runs (front ++ event ∷ []))) refusal)
+    → events_on 2 None (front ++ event ∷ rest) first ≡ Err (event_refused (2 + length (runs (front ++ event ∷ []))) event refusal)
 
 -- the journal of a machine that booted with an image, replayed with the image, shows that machine
 abbrev pub ReplaysSaved : Type 0
 ReplaysSaved = (image : Contents) (first s : State) → bad_boot s.boot ≡ false → load image (start s.boot) ≡ Ok first
     → IsReplayOf first s → HasJournal s.boot s.journal
-    → replay_told image (journal_text s.boot s.journal) ≡ record { text = summary_text s; status = 0 }
+    → replay_told image (journal_text s.boot s.journal) ≡ record { text = summary_text s; verdict = Done }

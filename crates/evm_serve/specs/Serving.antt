@@ -18,7 +18,7 @@ use Rattle.evm_serve.specs.declared.ending.Reply.TheVariants as replies
 -- what the code replies to a line is what the line tells, and leaves its machine
 abbrev pub Replies : Reply → Option State → Telling → Type 0
 Replies (replies.Goes text) machine telling = telling ≡ Goes (string_bytes text) machine
-Replies (replies.Ends fault) machine telling = telling ≡ Ends (fault_text fault)
+Replies (replies.Ends fault) machine telling = telling ≡ Ends fault
 
 -- the status of a run whose report was written to its end
 abbrev pub status_of : Verdict → ℕ
@@ -43,9 +43,9 @@ EndsIn (Refused fault) text = (front : List ℕ) × (text ≡ front ++ fault_tex
 EndsIn (ImageRefused fault) text = (front : List ℕ) × (text ≡ front ++ no_image_text fault)
 
 module _ {W : Type 0} (takes : W → Writing → List ℕ → W → Type 0) where
-  -- All of a report was written, with its status and its fault; or a write failed, after a prefix of it.
+  -- All of a report was written, with its verdict, whose fault is the one that it ends with; or a write failed, after a prefix of it.
   abbrev pub WritesAll : Told → W → W → Ending → Type 0
-  WritesAll all w w' (Complete verdict) = Took takes w all.text w' × (status_of verdict ≡ all.status) × EndsIn verdict all.text
+  WritesAll all w w' (Complete verdict) = Took takes w all.text w' × (verdict ≡ all.verdict) × EndsIn verdict all.text
   WritesAll all w w' NoMemory = ⊥
   WritesAll all w w' (ReadFailed fault) = ⊥
   WritesAll all w w' (WriteFailed fault) = TookPrefix takes w all.text w'

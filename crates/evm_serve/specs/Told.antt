@@ -1,73 +1,71 @@
--- What a run of a script tells: its text and its status.
-use Rattle.std.specs.Prelude.{ℕ, zero, suc, ◌+◌, List, [], ◌∷◌, ◌++◌, Option, Some, None, Result, Ok, Err, codes}
+-- What a run of a script tells: its text and what it came to.
+use Rattle.std.specs.Prelude.{ℕ, ◌+◌, List, [], ◌∷◌, ◌++◌, Option, Some, None, Result, Ok, Err, codes}
 use Rattle.evm_image.specs.Images.{Contents}
-use Rattle.evm_text.specs.Written.{decimal}
-use Rattle.evm_ram.specs.Refusal.{number_of}
 use Rattle.evm_ram.specs.declared.refusal.Refusal.{Refusal}
+use Rattle.evm_core.specs.Steps.{steps}
 use Rattle.evm_model.specs.State.{State}
 use Rattle.evm_model.specs.Replay.{apply}
-use Rattle.evm_model.specs.declared.event.Event.TheVariants.{Step}
 use Rattle.evm_model.specs.declared.event.Answer.{Answer}
+use Rattle.evm_model.specs.declared.event.Event.{Event}
 use Rattle.evm_debug.specs.LineReading.{line_at}
 use Rattle.evm_debug.specs.Views.{shown}
 use Rattle.evm_debug.specs.declared.line.Line.{Line}
 use Rattle.evm_debug.specs.declared.line.Line.TheVariants as lines
-use Rattle.evm_serve.specs.Lines.{lines_of}
+use Rattle.evm_debug.specs.declared.line.View.{View}
+use Rattle.evm_text.specs.Lines.{text_lines}
+use Rattle.evm_serve.specs.Faults.{fault_text, event_refused, view_refused}
 use Rattle.evm_serve.specs.Starting.{started}
+use Rattle.evm_serve.specs.declared.ending.Verdict.{Verdict}
+use Rattle.evm_serve.specs.declared.ending.Verdict.TheVariants as verdicts
+use Rattle.evm_serve.specs.declared.fault.Fault.{Fault}
+use Rattle.evm_serve.specs.declared.fault.Fault.TheVariants.{BadLine, Refused}
 
--- what the last line of a run says that ended at line n
-abbrev pub bad_text : ℕ → List ℕ
-bad_text n = codes "bad " ++ decimal n ++ codes "\n"
-
-abbrev pub refused_text : ℕ → Refusal → List ℕ
-refused_text n refusal = codes "refused " ++ decimal n ++ codes " " ++ decimal (number_of refusal) ++ codes "\n"
-
+-- the last line of a run to which memory was refused
 abbrev pub memory_text : List ℕ
 memory_text = codes "memory\n"
 
--- What a line tells. The run goes on, with a text and the machine, if one is booted; or it ends with a text.
+-- What a line tells. The run goes on, with a text and the machine, if one is booted; or it ends at a fault.
 pub data Telling : Type 0 where
   Goes : (text : List ℕ) → (machine : Option State) → Telling
-  Ends : (text : List ℕ) → Telling
+  Ends : (fault : Fault) → Telling
 
 -- an event's outcome: its answer is not told
-abbrev pub event_told : ℕ → Result (State × Answer) Refusal → Telling
-event_told n (Ok after) = Goes [] (Some after.0)
-event_told n (Err refusal) = Ends (refused_text n refusal)
+abbrev pub event_told : ℕ → Event → Result (State × Answer) Refusal → Telling
+event_told n event (Ok after) = Goes [] (Some after.0)
+event_told n event (Err refusal) = Ends (event_refused n event refusal)
 
--- so many Steps of a processor, or those before the first that is refused
-abbrev pub steps_on : Result (State × Answer) Refusal → (State → Result State Refusal) → Result State Refusal
-steps_on (Ok after) others = others after.0
-steps_on (Err refusal) others = Err refusal
+-- so many Steps of processor c: the machine after them, with which the run goes on, or the refusal of one, which ends it
+abbrev pub after_steps : ℕ → ℕ → State → Option Refusal → Telling
+after_steps n c s None = Goes [] (Some s)
+after_steps n c s (Some refusal) = Ends (Refused n (Some c) refusal)
 
-unfoldable pub steps : ℕ → ℕ → State → Result State Refusal
-steps c zero s = Ok s
-steps c (suc count) s = steps_on (apply s (Step c)) (steps c count)
+abbrev pub steps_told : ℕ → ℕ → State × Option Refusal → Telling
+steps_told n c after = after_steps n c after.0 after.1
 
--- a machine with which the run goes on, or the refusal that ends it
-abbrev pub machine_told : ℕ → Result State Refusal → Telling
-machine_told n (Ok s) = Goes [] (Some s)
-machine_told n (Err refusal) = Ends (refused_text n refusal)
+-- a machine with which the run goes on, or the refusal of the boot, which ends it
+abbrev pub boot_told : ℕ → Result State Refusal → Telling
+boot_told n (Ok s) = Goes [] (Some s)
+boot_told n (Err refusal) = Ends (Refused n None refusal)
 
-abbrev pub view_told : ℕ → State → Result (List ℕ) Refusal → Telling
-view_told n s (Ok text) = Goes text (Some s)
-view_told n s (Err refusal) = Ends (refused_text n refusal)
+abbrev pub view_told : ℕ → View → State → Result (List ℕ) Refusal → Telling
+view_told n view s (Ok text) = Goes text (Some s)
+view_told n view s (Err refusal) = Ends (view_refused n view refusal)
 
 -- a line, where no machine is booted: only a boot goes on, with the image in the machine, if there is one
 abbrev pub told_unbooted : Option Contents → ℕ → Line → Telling
 told_unbooted image n lines.Blank = Goes [] None
-told_unbooted image n (lines.Boot cpus ram capacity) = machine_told n (started image (record { cpus = cpus; ram = ram; capacity = capacity }))
-told_unbooted image n (lines.Steps c count) = Ends (bad_text n)
-told_unbooted image n (lines.One event) = Ends (bad_text n)
-told_unbooted image n (lines.Look view) = Ends (bad_text n)
+told_unbooted image n (lines.Boot cpus ram capacity) = boot_told n (started image (record { cpus = cpus; ram = ram; capacity = capacity }))
+told_unbooted image n (lines.Steps c count) = Ends (BadLine n)
+told_unbooted image n (lines.One event) = Ends (BadLine n)
+told_unbooted image n (lines.Look view) = Ends (BadLine n)
 
 -- a line, where a machine is booted: boot comes once
 abbrev pub told_booted : ℕ → State → Line → Telling
 told_booted n s lines.Blank = Goes [] (Some s)
-told_booted n s (lines.Boot cpus ram capacity) = Ends (bad_text n)
-told_booted n s (lines.Steps c count) = machine_told n (steps c count s)
-told_booted n s (lines.One event) = event_told n (apply s event)
-told_booted n s (lines.Look view) = view_told n s (shown view s)
+told_booted n s (lines.Boot cpus ram capacity) = Ends (BadLine n)
+told_booted n s (lines.Steps c count) = steps_told n c (steps c count s)
+told_booted n s (lines.One event) = event_told n event (apply s event)
+told_booted n s (lines.Look view) = view_told n view s (shown view s)
 
 abbrev pub told_at : Option Contents → ℕ → Option State → Line → Telling
 told_at image n None line = told_unbooted image n line
@@ -75,26 +73,26 @@ told_at image n (Some s) line = told_booted n s line
 
 -- what line n of a script tells; one outside the grammar is bad
 abbrev pub line_told : Option Contents → ℕ → Option State → Option Line → Telling
-line_told image n machine None = Ends (bad_text n)
+line_told image n machine None = Ends (BadLine n)
 line_told image n machine (Some line) = told_at image n machine line
 
--- the text of a run, and its status: 0, or 1 where a line was bad or refused
+-- the text of a run, and what it came to
 pub record Told : Type 0 where
   pub text : List ℕ
-  pub status : ℕ
+  pub verdict : Verdict
 
 abbrev pub behind : List ℕ → Told → Told
 behind text told = record told { text = text ++ told.text }
 
 abbrev pub run_on : Telling → (Option State → Told) → Told
 run_on (Goes text machine) others = behind text (others machine)
-run_on (Ends text) others = record { text = text; status = 1 }
+run_on (Ends fault) others = record { text = fault_text fault; verdict = verdicts.Refused fault }
 
 -- the lines of a script, whose numbers begin at n
 unfoldable pub lines_told : Option Contents → ℕ → List (List ℕ) → Option State → Told
-lines_told image n [] machine = record { text = []; status = 0 }
+lines_told image n [] machine = record { text = []; verdict = verdicts.Done }
 lines_told image n (line ∷ rest) machine = run_on (line_told image n machine (line_at line)) (lines_told image (n + 1) rest)
 
 -- what a script tells, with an image for its machine or with none
 unfoldable pub told : Option Contents → List ℕ → Told
-told image script = lines_told image 1 (lines_of script) None
+told image script = lines_told image 1 (text_lines script) None

@@ -15,7 +15,7 @@ use std::alloc::Global;
 
 // Writes the file of a program.
 fn write_file<W: Sink>(alloc: Global, program: &Program, out: &mut W) -> Result<Verdict, Halt>
-    ensures { Says W.takes (record { text = file_of program.now.bytes; status = 0 }) out.old out.new result }
+    ensures { Says W.takes (record { text = file_of program.now.bytes; verdict = Verdict.Done }) out.old out.new result }
 {
     match write_image(alloc, program) {
         Ok(file) => say(Verdict::Done, file.as_slice(), out),

@@ -1,10 +1,12 @@
 //! Why a script, a journal or a source is not done to its end.
 
 ghost use Rattle.std.specs.Prelude.{◌≡◌};
-ghost use Rattle.evm_serve.specs.Faults.{line_at_fault, fault_sentence, refusal_sentence};
+ghost use Rattle.evm_serve.specs.Faults.{event_cpu, view_cpu, line_at_fault, sentence_text, about_cpu, fault_sentence, refusal_sentence};
 
+use crate::sentence::Sentence;
 use evm_asm::AsmFault;
-use evm_core::Refusal;
+use evm_core::{Event, Refusal};
+use evm_debug::View;
 use evm_journal::JournalFault;
 use std::fmt;
 use thiserror::Error;
@@ -14,24 +16,92 @@ use thiserror::Error;
 pub enum Fault {
     /// The line of this number is outside the grammar of scripts, comes before the boot, or boots again.
     BadLine(u64),
-    /// The machine refuses the line of this number.
-    Refused(u64, Refusal),
+    /// The machine refuses the line of this number, which names this processor, or none.
+    Refused(u64, Option<u8>, Refusal),
     /// The source has a fault.
     NoProgram(AsmFault),
     /// The journal has a fault.
     NoJournal(JournalFault),
 }
 
-// What a refusal says, with its name and its number.
-fn refusal_sentence(refusal: Refusal) -> &'static str
-    ensures { result.now ≡ refusal_sentence refusal }
+/// The processor of an event.
+pub(crate) fn event_cpu(event: &Event) -> Option<u8>
+    ensures { result ≡ event_cpu event.now }
 {
-    match refusal {
+    match event {
+        Event::Step(c)
+        | Event::Raise(c, _)
+        | Event::Bell(c, _)
+        | Event::Stop(c)
+        | Event::Go(c)
+        | Event::StepI(c)
+        | Event::SetReg(c, _, _)
+        | Event::SetPc(c, _) => Some(*c),
+        Event::Tick | Event::Poke(_, _) | Event::Break(_) | Event::Unbreak(_) => None,
+    }
+}
+
+/// The processor of a view.
+pub(crate) fn view_cpu(view: &View) -> Option<u8>
+    ensures { result ≡ view_cpu view.now }
+{
+    match view {
+        View::Regs(c) | View::Stages(c) | View::Counts(c, _) => Some(*c),
+        View::Mem(_, _)
+        | View::Tasks
+        | View::Owners
+        | View::Rank(_)
+        | View::Journal
+        | View::Console => None,
+    }
+}
+
+// Words about a processor, where one is named, else other words.
+fn about_cpu(
+    cpu: Option<u8>,
+    front: &'static str,
+    back: &'static str,
+    others: &'static str,
+) -> Sentence
+    ensures { sentence_text result ≡ about_cpu cpu front.now back.now others.now }
+{
+    match cpu {
+        None => Sentence::Plain(others),
+        Some(c) => Sentence::OfCpu(front, c, back),
+    }
+}
+
+// What a refusal says, with its name and its number.
+fn refusal_sentence(cpu: Option<u8>, refusal: Refusal) -> Sentence
+    ensures { sentence_text result ≡ refusal_sentence cpu refusal }
+{
+    let words = match refusal {
+        Refusal::NoSuchCpu => {
+            return about_cpu(
+                cpu,
+                "refused: there is no processor ",
+                " (NoSuchCpu, 2)",
+                "refused: no processor has this number (NoSuchCpu, 2)",
+            );
+        }
+        Refusal::NotStopped => {
+            return about_cpu(
+                cpu,
+                "refused: processor ",
+                " is not stopped (NotStopped, 4)",
+                "refused: the processor is not stopped (NotStopped, 4)",
+            );
+        }
+        Refusal::NoTask => {
+            return about_cpu(
+                cpu,
+                "refused: processor ",
+                " has no current task (NoTask, 5)",
+                "refused: no task has this number (NoTask, 5)",
+            );
+        }
         Refusal::Full => "refused: the journal is full (Full, 1)",
-        Refusal::NoSuchCpu => "refused: no processor has this number (NoSuchCpu, 2)",
         Refusal::NoSuchLine => "refused: no interrupt line has this number (NoSuchLine, 3)",
-        Refusal::NotStopped => "refused: the processor is not stopped (NotStopped, 4)",
-        Refusal::NoTask => "refused: no current task, or no task of this number (NoTask, 5)",
         Refusal::BadAddress => "refused: bytes or an address that can't be (BadAddress, 6)",
         Refusal::BadRegister => "refused: register 0, or above 31 (BadRegister, 7)",
         Refusal::NoSlot => "refused: no room for another breakpoint (NoSlot, 8)",
@@ -41,7 +111,8 @@ fn refusal_sentence(refusal: Refusal) -> &'static str
         Refusal::Started => "refused: the machine has had an event (Started, 12)",
         Refusal::PortsOut => "refused: a port is still out (PortsOut, 13)",
         Refusal::SeatsOut => "refused: a seat is still out (SeatsOut, 14)",
-    }
+    };
+    Sentence::Plain(words)
 }
 
 impl Fault {
@@ -50,21 +121,23 @@ impl Fault {
         ensures { result ≡ line_at_fault self }
     {
         match self {
-            Fault::BadLine(line) | Fault::Refused(line, _) => line,
+            Fault::BadLine(line) | Fault::Refused(line, _, _) => line,
             Fault::NoProgram(fault) => fault.line,
             Fault::NoJournal(fault) => fault.line,
         }
     }
 
     /// What is wrong with it, in words.
-    pub fn sentence(self) -> &'static str
-        ensures { result.now ≡ fault_sentence self }
+    pub fn sentence(self) -> Sentence
+        ensures { sentence_text result ≡ fault_sentence self }
     {
         match self {
-            Fault::BadLine(_) => "bad line: outside the grammar, before the boot, or a second boot",
-            Fault::Refused(_, refusal) => refusal_sentence(refusal),
-            Fault::NoProgram(fault) => fault.kind.sentence(),
-            Fault::NoJournal(fault) => fault.kind.sentence(),
+            Fault::BadLine(_) => Sentence::Plain(
+                "bad line: outside the grammar, before the boot, or a second boot",
+            ),
+            Fault::Refused(_, cpu, refusal) => refusal_sentence(cpu, refusal),
+            Fault::NoProgram(fault) => Sentence::Plain(fault.kind.sentence()),
+            Fault::NoJournal(fault) => Sentence::Plain(fault.kind.sentence()),
         }
     }
 }

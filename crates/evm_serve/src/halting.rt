@@ -3,7 +3,7 @@
 ghost use Rattle.std.specs.Prelude.{◌≡◌};
 ghost use Rattle.evm_serve.specs.Playing.{Says, EndsAs};
 ghost use Rattle.evm_serve.specs.Faults.{fault_text};
-ghost use Rattle.evm_serve.specs.Serving.{status_of, EndsIn, Unread};
+ghost use Rattle.evm_serve.specs.Serving.{EndsIn, Unread};
 
 use crate::ending::{Ending, Halt, Verdict};
 use crate::fault::Fault;
@@ -14,7 +14,7 @@ use std::alloc::Global;
 /// Writes the report of a run that comes to this verdict.
 pub(crate) fn say<W: Sink>(verdict: Verdict, text: &[u8], writer: &mut W) -> Result<Verdict, Halt>
     requires { EndsIn verdict text.now }
-    ensures { Says W.takes (record { text = text.now; status = status_of verdict }) writer.old writer.new result }
+    ensures { Says W.takes (record { text = text.now; verdict = verdict }) writer.old writer.new result }
 {
     match write_all(writer, text) {
         Ok(()) => Ok(verdict),
@@ -28,7 +28,7 @@ pub(crate) fn say_fault<W: Sink>(
     fault: Fault,
     writer: &mut W,
 ) -> Result<Verdict, Halt>
-    ensures { Says W.takes (record { text = fault_text fault; status = 1 }) writer.old writer.new result }
+    ensures { Says W.takes (record { text = fault_text fault; verdict = Verdict.Refused fault }) writer.old writer.new result }
 {
     match fault_line(alloc, fault) {
         Ok(line) => say(Verdict::Refused(fault), line.as_bytes(), writer),

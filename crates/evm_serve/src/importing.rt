@@ -4,7 +4,7 @@ ghost use Rattle.std.specs.Prelude.{List, ℕ, Result};
 ghost use Rattle.evm_streams.specs.declared.source.ReadStop.{ReadStop};
 ghost use Rattle.evm_streams.specs.Reads.{Reads};
 ghost use Rattle.evm_serve.specs.Playing.{Says};
-ghost use Rattle.evm_serve.specs.Imaging.{Checks, Imports, fault_report};
+ghost use Rattle.evm_serve.specs.Imaging.{Checks, Imports, no_image_report};
 
 use crate::ending::{Ending, Halt, Verdict};
 use crate::halting::{ended, say, unread};
@@ -16,7 +16,7 @@ use std::alloc::Global;
 
 // Reports the fault of a file.
 fn say_no_image<W: Sink>(alloc: Global, fault: ElfFault, writer: &mut W) -> Result<Verdict, Halt>
-    ensures { Says W.takes (fault_report fault) writer.old writer.new result }
+    ensures { Says W.takes (no_image_report fault) writer.old writer.new result }
 {
     match no_image(alloc, fault) {
         Ok(text) => say(Verdict::ImageRefused(fault), text.as_bytes(), writer),

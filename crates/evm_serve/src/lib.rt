@@ -7,8 +7,8 @@ mod fault;
 mod halting;
 mod importing;
 mod laws;
-mod lines;
 mod replay;
+mod sentence;
 mod serving;
 mod starting;
 mod tell;
@@ -24,6 +24,7 @@ pub use laws::{
     known_texts_are_served, refused_on_its_line, replays_saved,
 };
 pub use replay::replay_to;
+pub use sentence::Sentence;
 pub use serving::serve;
 
 #[cfg(test)]

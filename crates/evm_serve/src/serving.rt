@@ -7,10 +7,10 @@ ghost use Rattle.evm_serve.specs.Serving.{Serves};
 
 use crate::ending::{Ending, Halt, Reply, Verdict};
 use crate::halting::{ended, say_fault, unread};
-use crate::lines::cut_line;
 use crate::tell::tell;
 use evm_image::Image;
 use evm_streams::{Sink, Source, read_all, write_all};
+use evm_text::cut_line;
 use std::alloc::Global;
 
 // Runs the lines of a script.

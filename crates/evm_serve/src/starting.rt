@@ -6,13 +6,14 @@ ghost use Rattle.evm_serve.specs.Starting.{Starts};
 
 use evm_core::{Boot, Machine, Refusal};
 use evm_image::Image;
+use evm_model::{CAPACITY_LIMIT, PROCESSOR_LIMIT};
 use std::alloc::Global;
 
 // A machine with these numbers.
 fn boot(alloc: Global, boot: &Boot) -> Result<Machine, Refusal>
     ensures { BootAnswers boot.now result }
 {
-    if boot.cpus > 8 || boot.capacity > 1_048_576 {
+    if boot.cpus > PROCESSOR_LIMIT as u64 || boot.capacity > CAPACITY_LIMIT {
         return Err(Refusal::BadSize);
     }
     Machine::boot(alloc, boot.cpus as u8, boot.ram, boot.capacity as u32)

@@ -1,25 +1,19 @@
-ghost use Rattle.std.specs.Prelude.{◌≡◌, Option, Result, IfOk, MatchResult, option_copied};
-ghost use Rattle.evm_model.specs.State.{State};
+ghost use Rattle.std.specs.Prelude.{◌≡◌, Option, IfOk, option_copied};
 ghost use Rattle.evm_debug.specs.LineReading.{line_at};
 ghost use Rattle.evm_serve.specs.Starting.{started};
-ghost use Rattle.evm_serve.specs.Told.{steps, machine_told, told_unbooted, told_booted, line_told};
+ghost use Rattle.evm_model.specs.Replay.{apply};
+ghost use Rattle.evm_debug.specs.Views.{shown};
+ghost use Rattle.evm_serve.specs.Told.{boot_told, event_told, view_told, told_unbooted, told_booted, line_told};
 ghost use Rattle.evm_serve.specs.Serving.{Replies};
 
 use crate::ending::Reply;
-use crate::fault::Fault;
+use crate::fault::{Fault, event_cpu, view_cpu};
 use crate::starting::start;
-use evm_core::{Boot, Machine, Refusal};
+use evm_core::{Boot, Event, Machine, Refusal};
 use evm_debug::{Line, View, ViewRefusal, read_line, view};
 use evm_image::Image;
 use evm_ram::NoMemory;
 use std::alloc::Global;
-
-// A processor takes so many Steps, or those before the first that is refused.
-fn take_steps(machine: &mut Machine, c: u8, count: u32) -> Result<(), Refusal>
-    ensures { MatchResult result (λ _. steps c count machine.old ≡ Result.Ok machine.new) (λ refusal. steps c count machine.old ≡ Result.Err refusal) }
-{
-    machine.steps(c, count)
-}
 
 // A boot, which puts the image into the machine, if there is one.
 fn tell_boot(
@@ -30,7 +24,7 @@ fn tell_boot(
     machine: &mut Option<Machine>,
 ) -> Result<Reply, NoMemory>
     requires { machine.old ≡ Option.None }
-    ensures { IfOk result (λ reply. Replies reply machine.new (machine_told number (started (option_copied image.entry) numbers.now))) }
+    ensures { IfOk result (λ reply. Replies reply machine.new (boot_told number (started (option_copied image.entry) numbers.now))) }
 {
     match start(alloc, image, numbers) {
         Ok(booted) => {
@@ -38,7 +32,7 @@ fn tell_boot(
             Ok(Reply::Goes(String::new(alloc)))
         }
         Err(Refusal::NoMemory) => Err(NoMemory),
-        Err(refusal) => Ok(Reply::Ends(Fault::Refused(number, refusal))),
+        Err(refusal) => Ok(Reply::Ends(Fault::Refused(number, None, refusal))),
     }
 }
 
@@ -71,6 +65,30 @@ fn tell_unbooted(
     }
 }
 
+// What came of an event.
+fn tell_event(alloc: Global, number: u64, event: Event, machine: &mut Machine) -> Reply
+    ensures { Replies result (Option.Some machine.new) (event_told number event (apply machine.old event)) }
+{
+    let cpu = event_cpu(&event);
+    match machine.apply(event) {
+        Ok(_) => Reply::Goes(String::new(alloc)),
+        Err(refusal) => Reply::Ends(Fault::Refused(number, cpu, refusal)),
+    }
+}
+
+// A view.
+fn tell_view(alloc: Global, number: u64, what: &View, machine: &Machine) -> Result<Reply, NoMemory>
+    ensures { IfOk result (λ reply. Replies reply (Option.Some machine.now) (view_told number what.now machine.now (shown what.now machine.now))) }
+{
+    match view(alloc, machine, what) {
+        Ok(text) => Ok(Reply::Goes(text)),
+        Err(ViewRefusal::Refused(refusal)) => {
+            Ok(Reply::Ends(Fault::Refused(number, view_cpu(what), refusal)))
+        }
+        Err(ViewRefusal::NoMemory) => Err(NoMemory),
+    }
+}
+
 // A line, where a machine is booted.
 fn tell_booted(
     alloc: Global,
@@ -83,19 +101,12 @@ fn tell_booted(
     match line {
         Line::Blank => Ok(Reply::Goes(String::new(alloc))),
         Line::Boot { .. } => Ok(Reply::Ends(Fault::BadLine(number))),
-        Line::Steps(c, count) => match take_steps(machine, c, count) {
+        Line::Steps(c, count) => match machine.steps(c, count) {
             Ok(()) => Ok(Reply::Goes(String::new(alloc))),
-            Err(refusal) => Ok(Reply::Ends(Fault::Refused(number, refusal))),
+            Err(refusal) => Ok(Reply::Ends(Fault::Refused(number, Some(c), refusal))),
         },
-        Line::One(event) => match machine.apply(event) {
-            Ok(_) => Ok(Reply::Goes(String::new(alloc))),
-            Err(refusal) => Ok(Reply::Ends(Fault::Refused(number, refusal))),
-        },
-        Line::Look(what) => match view(alloc, machine, &what) {
-            Ok(text) => Ok(Reply::Goes(text)),
-            Err(ViewRefusal::Refused(refusal)) => Ok(Reply::Ends(Fault::Refused(number, refusal))),
-            Err(ViewRefusal::NoMemory) => Err(NoMemory),
-        },
+        Line::One(event) => Ok(tell_event(alloc, number, event, machine)),
+        Line::Look(what) => tell_view(alloc, number, &what, machine),
     }
 }
 

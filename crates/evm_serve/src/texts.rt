@@ -38,7 +38,7 @@ pub(crate) fn fault_line(alloc: Global, fault: Fault) -> Result<String, AllocErr
 {
     match fault {
         Fault::BadLine(line) => with_one(alloc, "bad ", line),
-        Fault::Refused(line, refusal) => {
+        Fault::Refused(line, _, refusal) => {
             with_two(alloc, "refused ", line, u64::from(refusal.number()))
         }
         Fault::NoProgram(AsmFault { line, kind }) => {

@@ -4,7 +4,8 @@ use Rattle.std.specs.Io.KnownBytes.{Appends, Consumes, IsAtEnd, Keeps}
 use Rattle.std.proofs.lemmas.List.{append-nil}
 use Rattle.evm_streams.specs.declared.source.Reading.TheVariants as readings
 use Rattle.evm_streams.specs.declared.sink.Writing.TheVariants as writings
-use Rattle.evm_streams.specs.Reads.{LIMIT, Gave, none, more, Whole}
+use Rattle.evm_streams.specs.declared.reads.TheConstants.{FILE_LIMIT}
+use Rattle.evm_streams.specs.Reads.{Gave, none, more, Whole}
 use Rattle.evm_streams.specs.Writes.{Took, TookPrefix}
 use Rattle.evm_streams.specs.Writes as writes
 use Rattle.evm_streams.specs.Known.{ReaderGives, WriterTakes, known_read, known_write, KnownRead, KnownWritten}
@@ -26,7 +27,7 @@ consumed_all (Some p) None c x y h k e = absurd h
 consumed_all (Some p) (Some q) None x y h k e = absurd k
 consumed_all (Some p) (Some q) (Some r) x y h k e = sym (h ∙ ap (λ z. x ++ z) (k ∙ e) ∙ append-nil x)
 
-consumed_many : (a b : Option (List ℕ)) (x : List ℕ) → Consumes a b x → LIMIT < length x → IfSome a (λ known. LIMIT < length known)
+consumed_many : (a b : Option (List ℕ)) (x : List ℕ) → Consumes a b x → FILE_LIMIT < length x → IfSome a (λ known. FILE_LIMIT < length known)
 consumed_many None b x h many = tt
 consumed_many (Some p) None x h many = absurd h
 consumed_many (Some p) (Some q) x h many = rw h (omega (arith, length-append x q))

@@ -5,7 +5,8 @@ use Rattle.evm_streams.specs.declared.source.Reading.{Reading}
 use Rattle.evm_streams.specs.declared.source.Reading.TheVariants as readings
 use Rattle.evm_streams.specs.declared.sink.Writing.{Writing}
 use Rattle.evm_streams.specs.declared.sink.Writing.TheVariants as writings
-use Rattle.evm_streams.specs.Reads.{LIMIT, Gave, Whole, TooMany}
+use Rattle.evm_streams.specs.declared.reads.TheConstants.{FILE_LIMIT}
+use Rattle.evm_streams.specs.Reads.{Gave, Whole, TooMany}
 use Rattle.evm_streams.specs.Writes.{Took, TookPrefix}
 
 -- What std says of a call of `read`: known bytes lose those that it gave, and are at their end where it gave none of them.
@@ -47,7 +48,7 @@ known_write contents s writing text t h = h
 pub record KnownRead {R : Type 0} (remaining : R → Option (List ℕ)) : Type 0 where
   pub gave : (s t : R) (bytes : List ℕ) → Gave (ReaderGives remaining) s bytes t → Consumes (remaining s) (remaining t) bytes
   pub whole : (s t : R) (bytes : List ℕ) → Whole (ReaderGives remaining) s bytes t → IfSome (remaining s) (λ known. bytes ≡ known)
-  pub too_many : (s t : R) → TooMany (ReaderGives remaining) s t → IfSome (remaining s) (λ known. LIMIT < length known)
+  pub too_many : (s t : R) → TooMany (ReaderGives remaining) s t → IfSome (remaining s) (λ known. FILE_LIMIT < length known)
 
 -- Behind known contents stands a prefix of the text.
 pub record AppendsPrefix (old new : Option (List ℕ)) (text : List ℕ) : Type 0 where

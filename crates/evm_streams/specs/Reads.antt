@@ -1,14 +1,11 @@
 -- What the calls of a source did, one after another. Of what a call gives nothing is known but what the call itself shows.
 use Rattle.std.specs.Prelude.{◌<◌, ◌≤◌, ℕ, List, [], ◌++◌, length, take, Result, Ok, Err, IsUtf8}
+use Rattle.evm_streams.specs.declared.reads.TheConstants.{FILE_LIMIT}
 use Rattle.evm_streams.specs.declared.source.Reading.{Reading}
 use Rattle.evm_streams.specs.declared.source.Reading.TheVariants.{Bytes, Failed}
 use Rattle.evm_streams.specs.declared.source.ReadFault.TheVariants as faults
 use Rattle.evm_streams.specs.declared.source.ReadStop.{ReadStop}
 use Rattle.evm_streams.specs.declared.source.ReadStop.TheVariants.{NoMemory, Fault}
-
--- the most bytes that are read
-abbrev pub LIMIT : ℕ
-LIMIT = 16777216
 
 -- These bytes were given by calls that led from one state to the other, each of which gave some.
 pub data Gave {R : Type 0} (gives : R → Reading → List ℕ → R → Type 0) : R → List ℕ → R → Type 0 where
@@ -36,7 +33,7 @@ module _ {R : Type 0} (gives : R → Reading → List ℕ → R → Type 0) wher
   pub record TooMany (s t : R) : Type 0 where
     pub bytes : List ℕ
     pub gave : Gave gives s bytes t
-    pub many : LIMIT < length bytes
+    pub many : FILE_LIMIT < length bytes
 
   -- Some bytes were given.
   pub record GaveSome (s t : R) : Type 0 where
@@ -47,7 +44,7 @@ module _ {R : Type 0} (gives : R → Reading → List ℕ → R → Type 0) wher
   pub record NoText (s t : R) : Type 0 where
     pub bytes : List ℕ
     pub whole : Whole s bytes t
-    pub within : length bytes ≤ LIMIT
+    pub within : length bytes ≤ FILE_LIMIT
     pub not_utf8 : ¬ IsUtf8 bytes
 
   -- why bytes were not read
@@ -59,11 +56,11 @@ module _ {R : Type 0} (gives : R → Reading → List ℕ → R → Type 0) wher
 
   -- all bytes, within the limit, or why there are none
   abbrev pub Reads : R → R → Result (List ℕ) ReadStop → Type 0
-  Reads s t (Ok bytes) = Whole s bytes t × (length bytes ≤ LIMIT)
+  Reads s t (Ok bytes) = Whole s bytes t × (length bytes ≤ FILE_LIMIT)
   Reads s t (Err stop) = Stops s t stop
 
   -- the same of a text
   abbrev pub ReadsText : R → R → Result (List ℕ) ReadStop → Type 0
-  ReadsText s t (Ok bytes) = Whole s bytes t × (length bytes ≤ LIMIT) × IsUtf8 bytes
+  ReadsText s t (Ok bytes) = Whole s bytes t × (length bytes ≤ FILE_LIMIT) × IsUtf8 bytes
   ReadsText s t (Err (Fault faults.NotUtf8)) = NoText s t
   ReadsText s t (Err stop) = Stops s t stop

@@ -9,7 +9,7 @@ mod source;
 mod writes;
 
 pub use laws::{known_bytes_are_read, known_bytes_are_written};
-pub use reads::{read_all, read_utf8};
+pub use reads::{FILE_LIMIT, read_all, read_utf8};
 pub use sink::{Sink, WriteFault, Writing};
 pub use source::{ReadFault, ReadStop, Reading, Source};
 pub use writes::write_all;

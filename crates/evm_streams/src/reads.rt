@@ -7,8 +7,8 @@ ghost use Rattle.evm_streams.specs.Reads.{Reads, ReadsText};
 use crate::source::{ReadFault, ReadStop, Reading, Source};
 use std::alloc::Global;
 
-/// The most bytes that are read.
-const LIMIT: usize = 16_777_216;
+/// The most bytes that are read of a file, a script or a journal.
+pub const FILE_LIMIT: usize = 16_777_216;
 
 /// Reads a source to its end.
 ///
@@ -25,7 +25,7 @@ pub fn read_all<R: Source>(alloc: Global, source: &mut R) -> Result<Vec<u8>, Rea
             Reading::Failed => return Err(ReadStop::Fault(ReadFault::Failed)),
             Reading::Bytes(0) => return Ok(bytes),
             Reading::Bytes(n) => {
-                if bytes.len() + n > LIMIT {
+                if bytes.len() + n > FILE_LIMIT {
                     return Err(ReadStop::Fault(ReadFault::TooLong));
                 }
                 if bytes.extend_from_slice(&part[..n]).is_err() {

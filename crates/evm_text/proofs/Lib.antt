@@ -8,3 +8,4 @@ pub mod Steps
 pub mod RoundTrips
 pub mod Parts
 pub mod Rows
+pub mod Cuts

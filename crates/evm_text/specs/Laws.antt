@@ -2,6 +2,7 @@
 use Rattle.std.specs.Prelude.{◌≡◌, ◌↔◌, ℕ, ◌/◌, ◌%◌, ◌<◌, ◌≤◌, ◌^◌, false, List, [], ◌∷◌, ◌++◌, length, replicate, Some, nat_lt, if◌then◌else◌}
 use Rattle.std.specs.List.{AllByRecursion}
 use Rattle.evm_text.specs.Written.{character, decimal, hexadecimal, hexadecimal_padded, pairs}
+use Rattle.evm_text.specs.declared.reading.TheConstants.{BLOCK_LIMIT}
 use Rattle.evm_text.specs.Reading.{begins_with_digit, decimal_at, hexadecimal_at, pairs_at, after_word}
 
 -- the bytes are a text, and behind it a rest that doesn't go on with a digit of the base
@@ -12,7 +13,7 @@ pub record Splits (base : ℕ) (text rest bytes : List ℕ) : Type 0 where
 -- 1 to 64 bytes
 pub record IsBlock (block : List ℕ) : Type 0 where
   pub some : 0 < length block
-  pub most : length block ≤ 64
+  pub most : length block ≤ BLOCK_LIMIT
   pub each : AllByRecursion (λ byte. byte < 256) block
 
 abbrev pub ReadsDecimals : Type 0

@@ -1,5 +1,6 @@
 pub mod Written
 pub mod Reading
 pub mod Laws
+pub mod Lines
 pub mod Fields
 pub mod Rows

@@ -1,5 +1,6 @@
 -- Reading from the front of some bytes: what stands there, and the bytes behind it.
 use Rattle.std.specs.Prelude.{◌≡◌, ℕ, ◌+◌, ◌-◌, ◌*◌, ◌^◌, Bool, false, ◌&&◌, List, [], ◌∷◌, ◌++◌, length, Option, Some, None, nat_lt, ◌==◌, if◌then◌else◌}
+use Rattle.evm_text.specs.declared.reading.TheConstants.{BLOCK_LIMIT}
 
 -- what was read goes on to the next step
 infixl 10 ◌>>=◌
@@ -42,14 +43,14 @@ decimal_at bytes = number_at 10 bytes
 abbrev pub hexadecimal_at : List ℕ → Option (ℕ × List ℕ)
 hexadecimal_at bytes = number_at 16 bytes
 
--- bytes go on with the pairs of hexadecimal digits at the front, up to another character, and are at most 64
+-- bytes go on with the pairs of hexadecimal digits at the front, up to another character, and are no more than the limit
 unfoldable pub pairs_on : List ℕ → List ℕ → Option (List ℕ × List ℕ)
 pairs_on so_far [] = Some (so_far, [])
 pairs_on so_far (high ∷ []) = if nat_lt (worth high) 16 then None else Some (so_far, high ∷ [])
 pairs_on so_far (high ∷ low ∷ bytes) =
     if nat_lt (worth high) 16
     then (if nat_lt (worth low) 16
-    then (if nat_lt (length so_far) 64 then pairs_on (so_far ++ (worth high * 16 + worth low) ∷ []) bytes else None)
+    then (if nat_lt (length so_far) BLOCK_LIMIT then pairs_on (so_far ++ (worth high * 16 + worth low) ∷ []) bytes else None)
     else None)
     else Some (so_far, high ∷ low ∷ bytes)
 

@@ -4,7 +4,7 @@ ghost use Rattle.std.specs.Prelude.{◌≡◌, ◌≤◌, IfSome};
 ghost use Rattle.evm_text.specs.Reading.{ReadsAs};
 ghost use Rattle.evm_text.specs.Fields.{u8_at, count_at, count_last, decimal_then, decimal_last, u8_then, u8_last, hexadecimal_then, hexadecimal_last, pairs_last};
 
-use crate::reading::{after_word, decimal_at, hexadecimal_at, pairs_at};
+use crate::reading::{BLOCK_LIMIT, after_word, decimal_at, hexadecimal_at, pairs_at};
 use arrayvec::ArrayVec;
 
 #[tactic(auto, unfolding(crate::specs::Fields::u8_at))]
@@ -100,7 +100,7 @@ pub fn hexadecimal_last(bytes: &[u8]) -> Option<u64>
 
 /// The 1 to 64 bytes whose pairs of hexadecimal digits are all of the bytes.
 #[tactic(auto, unfolding(crate::specs::Fields::then_end))]
-pub fn pairs_last(bytes: &[u8]) -> Option<ArrayVec<u8, 64>>
+pub fn pairs_last(bytes: &[u8]) -> Option<ArrayVec<u8, BLOCK_LIMIT>>
     ensures { ReadsAs (λ x. x.items) result (pairs_last bytes.now) }
 {
     let (block, rest) = pairs_at(bytes)?;

@@ -1,8 +1,9 @@
-//! Numbers, bytes and words as ASCII text: written, and read from the front of some bytes.
+//! Numbers, bytes and words as ASCII text: written, and read from the front of some bytes. The lines of a text.
 #![tactic(auto)]
 
 mod fields;
 mod laws;
+mod lines;
 mod reading;
 mod writing;
 
@@ -16,7 +17,8 @@ pub use laws::{
     reads_hexadecimals, reads_pairs, reads_pairs_last, reads_u8_last, reads_u8_then, reads_values,
     reads_words,
 };
-pub use reading::{after_word, decimal_at, hexadecimal_at, pairs_at};
+pub use lines::cut_line;
+pub use reading::{BLOCK_LIMIT, after_word, decimal_at, hexadecimal_at, pairs_at};
 pub use writing::{push_decimal, push_hexadecimal, push_hexadecimal_padded, push_pairs};
 
 #[cfg(test)]

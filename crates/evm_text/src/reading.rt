@@ -3,6 +3,9 @@ ghost use Rattle.evm_text.specs.Reading.{worth, begins_with_digit, number_on, nu
 
 use arrayvec::ArrayVec;
 
+/// How many bytes pairs of digits may spell.
+pub const BLOCK_LIMIT: usize = 64;
+
 #[tactic(auto, unfolding(crate::specs::Reading::worth))]
 fn worth(character: u8) -> u8
     ensures { result ≡ worth character }
@@ -74,7 +77,7 @@ pub fn hexadecimal_at(bytes: &[u8]) -> Option<(u64, &[u8])>
 }
 
 #[tactic(auto, unfolding(crate::specs::Reading::pairs_on))]
-fn pairs_on(bytes: &[u8]) -> Option<(ArrayVec<u8, 64>, &[u8])>
+fn pairs_on(bytes: &[u8]) -> Option<(ArrayVec<u8, BLOCK_LIMIT>, &[u8])>
     ensures { ReadsAs (λ x. (x.0.items, x.1.now)) result (pairs_on [] bytes.now) }
 {
     let mut pairs = ArrayVec::new();
@@ -103,7 +106,7 @@ fn pairs_on(bytes: &[u8]) -> Option<(ArrayVec<u8, 64>, &[u8])>
 /// The 1 to 64 bytes whose pairs of lower-case hexadecimal digits stand at the front, up to another
 /// character, and what is behind them.
 #[tactic(auto, unfolding(crate::specs::Reading::pairs_at))]
-pub fn pairs_at(bytes: &[u8]) -> Option<(ArrayVec<u8, 64>, &[u8])>
+pub fn pairs_at(bytes: &[u8]) -> Option<(ArrayVec<u8, BLOCK_LIMIT>, &[u8])>
     ensures { ReadsAs (λ x. (x.0.items, x.1.now)) result (pairs_at bytes.now) }
 {
     let (pairs, rest) = pairs_on(bytes)?;

@@ -68,3 +68,17 @@ fn numbers_are_written(rt: HostRuntime) -> Result<(), Fail> {
     );
     Ok(())
 }
+
+#[test]
+fn lines_are_cut(rt: HostRuntime) {
+    assert_eq!(rt; cut_line(b""), None);
+    let (line, rest) = cut_line(b"a b\n\nc").expect(&rt, "a line");
+    assert_eq!(rt; line, b"a b".as_slice());
+    assert_eq!(rt; rest, b"\nc".as_slice());
+    let (line, rest) = cut_line(rest).expect(&rt, "an empty line");
+    assert_eq!(rt; line, b"".as_slice());
+    assert_eq!(rt; rest, b"c".as_slice());
+    let (line, rest) = cut_line(rest).expect(&rt, "a line with no newline");
+    assert_eq!(rt; line, b"c".as_slice());
+    assert_eq!(rt; rest, b"".as_slice());
+}

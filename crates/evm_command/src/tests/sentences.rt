@@ -1,7 +1,7 @@
 //! What standard error is told, for each way in which a job ends.
 
 use crate::command::answer;
-use crate::system::{System, World};
+use crate::system::{OpenFault, System, World};
 use std::alloc::Global;
 use std::process::Abort;
 use std::test::Fail;
@@ -27,21 +27,31 @@ impl System for Kept {
 
     type Errors = Vec<u8>;
 
-    fn open(&mut self, path: &str) -> Option<&'static [u8]> {
+    fn open(&mut self, path: &str) -> Result<&'static [u8], OpenFault> {
         for (name, bytes) in FILES {
             if name == path {
-                return Some(bytes);
+                return Ok(bytes);
             }
         }
-        None
+        Err(fault_of(path))
     }
 
-    fn create(&mut self, path: &str) -> Option<Vec<u8>> {
+    fn create(&mut self, path: &str) -> Result<Vec<u8>, OpenFault> {
         if path == "p.elf" {
-            Some(Vec::new(self.alloc))
+            Ok(Vec::new(self.alloc))
         } else {
-            None
+            Err(fault_of(path))
         }
+    }
+}
+
+/// Why there is no file of this name.
+fn fault_of(path: &str) -> OpenFault {
+    match path {
+        "secret" => OpenFault::Denied,
+        "folder" => OpenFault::Folder,
+        "tape" => OpenFault::Other,
+        _ => OpenFault::Missing,
     }
 }
 
@@ -85,16 +95,40 @@ fn files_are_told_of(rt: HostRuntime) -> Result<(), Fail> {
             "range.s:1: a number outside its range, or a label that is odd or too far\n",
         ),
         ("evltool asm bytes.s p.elf", "bytes.s: not UTF-8\n"),
-        ("evltool asm none.s p.elf", "none.s: can't be opened\n"),
+        (
+            "evltool asm none.s p.elf",
+            "none.s: can't be opened: no such file\n",
+        ),
         (
             "evltool asm p.s none/p.elf",
-            "none/p.elf: can't be opened\n",
+            "none/p.elf: can't be created: no such folder\n",
         ),
+        (
+            "evltool run secret",
+            "secret: can't be opened: permission denied\n",
+        ),
+        (
+            "evltool asm p.s secret",
+            "secret: can't be created: permission denied\n",
+        ),
+        (
+            "evltool asm folder p.elf",
+            "folder: can't be opened: it is a folder\n",
+        ),
+        (
+            "evltool asm p.s folder",
+            "folder: can't be created: it is a folder\n",
+        ),
+        ("evltool run tape", "tape: can't be opened\n"),
+        ("evltool asm p.s tape", "tape: can't be created\n"),
         (
             "evltool run p.s",
             "p.s: shorter than a file header, 64 bytes\n",
         ),
-        ("evltool replay p.elf journal", "p.elf: can't be opened\n"),
+        (
+            "evltool replay p.elf journal",
+            "p.elf: can't be opened: no such file\n",
+        ),
         ("evltool --version", ""),
     ] {
         check_told(&rt, rt.alloc(), line, b"", told)?;
@@ -104,11 +138,23 @@ fn files_are_told_of(rt: HostRuntime) -> Result<(), Fail> {
 
 #[test]
 fn lines_of_scripts_are_told_of(rt: HostRuntime) -> Result<(), Fail> {
-    let scripts: [(&'static [u8], &str); 4] = [
+    let scripts: [(&'static [u8], &str); 7] = [
         (b"boot 1 65536 8\ntasks\n", ""),
         (
             b"boot 1 65536 8\nset 0 1 5\n",
-            "script:2: refused: the processor is not stopped (NotStopped, 4)\n",
+            "script:2: refused: processor 0 is not stopped (NotStopped, 4)\n",
+        ),
+        (
+            b"boot 2 65536 8\nraise 12 5\n",
+            "script:2: refused: there is no processor 12 (NoSuchCpu, 2)\n",
+        ),
+        (
+            b"boot 2 65536 8\nregs 255\n",
+            "script:2: refused: there is no processor 255 (NoSuchCpu, 2)\n",
+        ),
+        (
+            b"boot 1 65536 8\nrank 9\n",
+            "script:2: refused: no task has this number (NoTask, 5)\n",
         ),
         (
             b"\n\n\n\n\n\n\n\n\n\n\ntock\n",

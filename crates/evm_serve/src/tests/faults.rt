@@ -25,18 +25,25 @@ fn scripts_end_with_their_fault(rt: HostRuntime) {
     for (script, fault) in [
         ("boot 1 65536 8\n\ntock\n", Fault::BadLine(3)),
         ("tasks\n", Fault::BadLine(1)),
-        ("#\nboot 9 65536 8\n", Fault::Refused(2, Refusal::BadSize)),
+        (
+            "#\nboot 9 65536 8\n",
+            Fault::Refused(2, None, Refusal::BadSize),
+        ),
         (
             "boot 1 65536 8\ntasks\nset 0 1 5\n",
-            Fault::Refused(3, Refusal::NotStopped),
+            Fault::Refused(3, Some(0), Refusal::NotStopped),
         ),
         (
             "boot 1 65536 1\nstep 0 2\n",
-            Fault::Refused(2, Refusal::Full),
+            Fault::Refused(2, Some(0), Refusal::Full),
         ),
         (
             "boot 1 65536 8\nstages 1\n",
-            Fault::Refused(2, Refusal::NoSuchCpu),
+            Fault::Refused(2, Some(1), Refusal::NoSuchCpu),
+        ),
+        (
+            "boot 1 65536 8\nrank 9\n",
+            Fault::Refused(2, None, Refusal::NoTask),
         ),
     ] {
         let mut reader = script.as_bytes();
@@ -67,7 +74,7 @@ fn journals_end_with_their_fault(rt: HostRuntime) -> Result<(), Fail> {
         ),
         (
             "evl-journal 1\nboot 1 65536 16\nstep 0 9\nraise 0 64\n",
-            Fault::Refused(4, Refusal::NoSuchLine),
+            Fault::Refused(4, Some(0), Refusal::NoSuchLine),
         ),
     ] {
         let mut reader = journal.as_bytes();
@@ -103,11 +110,23 @@ fn faults_are_told_in_words(rt: HostRuntime) -> Result<(), Fail> {
             "line 7: bad line: outside the grammar, before the boot, or a second boot",
         ),
         (
-            Fault::Refused(2, Refusal::NotStopped),
-            "line 2: refused: the processor is not stopped (NotStopped, 4)",
+            Fault::Refused(2, Some(7), Refusal::NotStopped),
+            "line 2: refused: processor 7 is not stopped (NotStopped, 4)",
         ),
         (
-            Fault::Refused(1, Refusal::SeatsOut),
+            Fault::Refused(2, Some(255), Refusal::NoSuchCpu),
+            "line 2: refused: there is no processor 255 (NoSuchCpu, 2)",
+        ),
+        (
+            Fault::Refused(2, Some(0), Refusal::NoTask),
+            "line 2: refused: processor 0 has no current task (NoTask, 5)",
+        ),
+        (
+            Fault::Refused(2, None, Refusal::NoTask),
+            "line 2: refused: no task has this number (NoTask, 5)",
+        ),
+        (
+            Fault::Refused(1, None, Refusal::SeatsOut),
             "line 1: refused: a seat is still out (SeatsOut, 14)",
         ),
         (
@@ -152,9 +171,12 @@ fn refusals_tell_their_numbers(rt: HostRuntime) -> Result<(), Fail> {
     ] {
         let number = refusal.number();
         let behind = format!(in rt.alloc(); " ({refusal:?}, {number})")?;
-        let sentence = Fault::Refused(1, refusal).sentence();
-        assert!(rt; sentence.starts_with("refused: "), "{sentence}");
-        assert!(rt; sentence.ends_with(behind.as_str()), "{sentence}");
+        for cpu in [None, Some(3)] {
+            let told = Fault::Refused(1, cpu, refusal).sentence();
+            let sentence = format!(in rt.alloc(); "{told}")?;
+            assert!(rt; sentence.as_str().starts_with("refused: "), "{sentence}");
+            assert!(rt; sentence.as_str().ends_with(behind.as_str()), "{sentence}");
+        }
     }
     Ok(())
 }

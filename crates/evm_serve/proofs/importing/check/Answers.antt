@@ -1,7 +1,7 @@
 use Rattle.std.proofs.Common.{◌≡◌, ◌≢◌, ◌⊎◌, [], Some, refl, rules, inr}
 use Rattle.evm_elf.specs.Faults.{fault_of}
 use Rattle.evm_elf.specs.declared.fault.ElfFault.TheVariants.{NoMemory}
-use Rattle.evm_serve.specs.Imaging.{fault_report}
+use Rattle.evm_serve.specs.Imaging.{no_image_report}
 use Rattle.evm_serve.specs.Serving.{WritesAll, WritesMemory}
 use Rattle.evm_serve.proofs.Endings.{says}
 use Rattle.evm_serve.proofs.importing.check.Goals as goal
@@ -13,6 +13,6 @@ pub returns-in-Err : goal.returns-in-Err
 returns-in-Err g c =
     let differs : c.in-Err.fault ≢ NoMemory = search rules in
     let is : fault_of c.args.file.now ≡ Some c.in-Err.fault = (c.in-Err.ensures.fault c.in-Err.fault differs).0 refl in
-    let told : WritesAll g.W.Sink.takes (fault_report c.in-Err.fault) c.args.writer.now c.ended-in-Err.new.writer c.ended-in-Err.result ⊎ WritesMemory g.W.Sink.takes [] c.args.writer.now c.ended-in-Err.new.writer c.ended-in-Err.result =
+    let told : WritesAll g.W.Sink.takes (no_image_report c.in-Err.fault) c.args.writer.now c.ended-in-Err.new.writer c.ended-in-Err.result ⊎ WritesMemory g.W.Sink.takes [] c.args.writer.now c.ended-in-Err.new.writer c.ended-in-Err.result =
     says _ _ _ _ _ c.say_no_image-outcome.result _ c.say_no_image-outcome.ensures c.ended-in-Err.ensures in
     rw is told

@@ -2,9 +2,8 @@ use Rattle.std.proofs.Common.{◌≡◌, arith, rules, option_copied}
 use Rattle.std.specs.String.{string_bytes}
 use Rattle.evm_streams.specs.Writes.{Took, TookPrefix}
 use Rattle.evm_debug.specs.LineReading.{line_at}
-use Rattle.evm_serve.specs.Lines.{CutsLine}
+use Rattle.evm_text.specs.Lines.{CutsLine}
 use Rattle.evm_serve.specs.Told.{Goes, Ends, line_told}
-use Rattle.evm_serve.specs.Faults.{fault_text}
 use Rattle.evm_serve.proofs.Endings.{plays_ended}
 use Rattle.evm_serve.proofs.Runs.{Tells-start, Tells-goes, Tells-done, Tells-rest, Tells-goes_fault, Tells-ended, Tells-ended_fault, Tells-ended_in}
 use Rattle.evm_serve.proofs.serving.play.Goals as goal
@@ -37,8 +36,8 @@ returns g c = let done = Tells-done _ _ _ _ _ _ _ _ c.lines.invariant.tells (sea
 
 pub returns-in-Ok-Ends : goal.returns-in-Ok-Ends
 returns-in-Ok-Ends g c =
-    let ends : line_told (option_copied c.args.image) c.lines.number c.lines.machine (line_at c.in-Some.line.now) ≡ Ends (fault_text c.in-Ok-Ends.fault) = search rules in
+    let ends : line_told (option_copied c.args.image) c.lines.number c.lines.machine (line_at c.in-Some.line.now) ≡ Ends c.in-Ok-Ends.fault = search rules in
     let cut : CutsLine c.lines.rest.now c.in-Some.line.now c.in-Some.after.now = search rules in
-    plays_ended _ _ _ _ _ _ _ (Tells-ended _ _ _ _ _ _ _ _ _ _ _ _ c.lines.invariant.tells cut ends) (Tells-ended_fault _ _ _ _ _ _ _ _ _ _ _ _ c.lines.invariant.tells cut ends)
+    plays_ended _ _ _ _ _ _ _ _ (Tells-ended _ _ _ _ _ _ _ _ _ _ _ _ c.lines.invariant.tells cut ends) (Tells-ended_fault _ _ _ _ _ _ _ _ _ _ _ _ c.lines.invariant.tells cut ends)
     (Tells-ended_in _ _ _ _ _ _ _ _ _ _ _ c.lines.invariant.tells cut ends)
     _ (Tells-rest _ _ _ _ _ _ _ _ c.lines.invariant.tells) c.lines.invariant.tells.written (search rules)

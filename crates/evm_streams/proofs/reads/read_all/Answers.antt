@@ -5,8 +5,8 @@ use Rattle.evm_streams.proofs.reads.read_all.Goals as goal
 pub parts-init : goal.parts-init
 parts-init g c = record { gave = gave_none _ _ _ c.new-bytes.ensures.items; limit = search rules }
 
-pub returns-then-len-n-gt-LIMIT : goal.returns-then-len-n-gt-LIMIT
-returns-then-len-n-gt-LIMIT g c =
+pub returns-then-len-n-gt-FILE_LIMIT : goal.returns-then-len-n-gt-FILE_LIMIT
+returns-then-len-n-gt-FILE_LIMIT g c =
     let some : 0 < c.in-Bytes.n = omega arith in record {
       bytes = c.parts.bytes.items ++ take c.in-Bytes.n c.read.new.part;
       gave = gave_more _ _ _ _ _ _ _ _ c.parts.invariant.gave some c.in-Bytes.ensures.call refl;

@@ -10,11 +10,11 @@ with_first b [] = (b ∷ []) ∷ []
 with_first b (line ∷ lines) = (b ∷ line) ∷ lines
 
 -- the lines of a text, without their newlines
-unfoldable pub lines_of : List ℕ → List (List ℕ)
-lines_of [] = []
-lines_of (b ∷ bytes) = if b == NEWLINE then [] ∷ lines_of bytes else with_first b (lines_of bytes)
+unfoldable pub text_lines : List ℕ → List (List ℕ)
+text_lines [] = []
+text_lines (b ∷ bytes) = if b == NEWLINE then [] ∷ text_lines bytes else with_first b (text_lines bytes)
 
 -- the first line of a text, and the text behind it
 pub record CutsLine (bytes line rest : List ℕ) : Type 0 where
-  pub lines : lines_of bytes ≡ line ∷ lines_of rest
+  pub lines : text_lines bytes ≡ line ∷ text_lines rest
   pub shorter : length rest < length bytes
