@@ -13,8 +13,8 @@ in_register (pos n) = n % 18446744073709551616
 in_register (negsuc n) = 18446744073709551615 - n
 
 -- the low 32 bits of a number, sign-extended to 64
-abbrev pub sign_extended : ℕ → ℕ
-sign_extended n =
+abbrev pub low_extended : ℕ → ℕ
+low_extended n =
     if nat_lt (n % 4294967296) 2147483648 then n % 4294967296 else n % 4294967296 + 18446744069414584320
 
 -- What an instruction at an address puts into its register, where its source, if it has one, has the value a.
@@ -22,7 +22,7 @@ abbrev pub put_by : Inst → ℕ → ℕ → ℕ
 put_by (Lui rd i) at a = in_register i
 put_by (Auipc rd i) at a = (at + in_register i) % 18446744073709551616
 put_by (Immediate Addi rd rs1 i) at a = (a + in_register i) % 18446744073709551616
-put_by (Immediate Addiw rd rs1 i) at a = sign_extended (a + in_register i)
+put_by (Immediate Addiw rd rs1 i) at a = low_extended (a + in_register i)
 put_by inst at a = a
 
 -- What an expansion at an address leaves in its register: the first instruction has no source but x0, the second
