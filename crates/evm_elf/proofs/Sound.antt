@@ -8,7 +8,7 @@ use Rattle.evm_elf.specs.declared.header.Header.{Header}
 use Rattle.evm_elf.specs.declared.fault.ElfFault.TheVariants.{NoMemory}
 use Rattle.evm_elf.specs.Fields.{headers, headers_from, header_count, entry}
 use Rattle.evm_image.specs.Images.{Loaded, Contents, Covers, byte_in, IsFree, IsOnly, Fills, IsApart, IsSound, range_start, range_end}
-use Rattle.evm_elf.specs.Faults.{is_load, load_of, loads, is_outside, passes_end, leaves_range, share, some_two, is_overfull, is_entry, applies, faults, fault_of, segment_of, image_of}
+use Rattle.evm_elf.specs.Faults.{is_load, load_of, loads, is_outside, passes_end, leaves_range, share, some_two, is_overfull, is_entry, file_has, faults, fault_of, segment_of, image_of}
 use Rattle.evm_elf.proofs.Sharing.{holds, point_share}
 
 -- where none is found, no element passes the test
@@ -28,13 +28,13 @@ find_passes p (x ∷ xs) y e = elim (cases_Bool (p x)) [
 
 -- no file has the fault of memory
 pub never_memory : (file : List ℕ) → fault_of file ≡ Some NoMemory → ⊥
-unfolding fault_of applies
-never_memory file e = let wrong : false ≡ true = find_passes (applies file) faults NoMemory e in absurd (cc)
+unfolding fault_of file_has
+never_memory file e = let wrong : false ≡ true = find_passes (file_has file) faults NoMemory e in absurd (cc)
 
 -- a file without a fault has a whole header
 pub has_header : (file : List ℕ) → fault_of file ≡ None → 64 ≤ length file
-unfolding fault_of applies
-has_header file none = ltb-false _ _ (find_none (applies file) faults none).0
+unfolding fault_of file_has
+has_header file none = ltb-false _ _ (find_none (file_has file) faults none).0
 
 -- the faults that matter for the image
 pub record Passes (file : List ℕ) : Type 0 where
@@ -44,9 +44,9 @@ pub record Passes (file : List ℕ) : Type 0 where
   pub enters : is_entry (entry file) ≡ true
 
 pub passes : (file : List ℕ) → fault_of file ≡ None → Passes file
-unfolding fault_of applies
+unfolding fault_of file_has
 passes file none =
-    let from_dynamic = (find_none (applies file) faults none).1.1.1.1.1.1 in
+    let from_dynamic = (find_none (file_has file) faults none).1.1.1.1.1.1 in
     let from_overlap = from_dynamic.1.1 in
     record {
       outside = (or_parts _ _ from_dynamic.1.0).1;

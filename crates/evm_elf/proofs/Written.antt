@@ -10,7 +10,7 @@ use Rattle.std.proofs.lemmas.List.{get_or_past}
 use Rattle.std.specs.List.{list_any, filter_map, find, AllByRecursion}
 use Rattle.std.proofs.lemmas.Bool.{cases_lt, or_from, and_right, and_from, lt-ltb, le-leb, le-ltb, cond-false, not_from_true}
 use Rattle.evm_image.specs.Images.{Loaded, Contents, covers, byte_at, range_start, range_end}
-use Rattle.evm_elf.specs.Faults.{load_of, loads, is_dynamic, is_outside, passes_end, leaves_range, is_overfull, share, some_two, has_other_class, has_other_kind, has_other_header_size, is_entry, segment_of, applies, faults, fault_of, image_of}
+use Rattle.evm_elf.specs.Faults.{load_of, loads, is_dynamic, is_outside, passes_end, leaves_range, is_overfull, share, some_two, has_other_class, has_other_kind, has_other_header_size, is_entry, segment_of, file_has, faults, fault_of, image_of}
 use Rattle.evm_elf.specs.Files.{file_of, image_of_bytes}
 
 length_file : (bytes : List ℕ) → length (file_of bytes) ≡ 120 + length bytes
@@ -100,7 +100,7 @@ none_found p [] all = refl
 none_found p (x ∷ xs) all = cond-false (p x) _ _ all.0 ∙ none_found p xs all.1
 
 pub no_fault : (bytes : List ℕ) → length bytes ≤ 0x100_0000 → fault_of (file_of bytes) ≡ None
-unfolding fault_of applies
+unfolding fault_of file_has
 no_fault bytes few =
     let file = file_of bytes in
     let long = length_file bytes in
@@ -108,11 +108,11 @@ no_fault bytes few =
     let fits : length bytes < 2 ^ 64 = omega arith in
     let headers = headers_is bytes fits in
     let loaded = loads_is bytes fits in
-    let dynamic : applies file Dynamic ≡ false = ap (list_any is_dynamic) headers ∙ or_from _ _ (not_dynamic bytes) refl in
-    let outside : applies file SegmentOutside ≡ false = or_from _ _ fields.5 (ap (list_any (is_outside (length file))) headers ∙ or_from _ _ (not_outside bytes few) refl) in
-    let overlap : applies file SegmentOverlap ≡ false = ap (some_two share) loaded in
-    let sizes : applies file SizeOrder ≡ false = ap (list_any is_overfull) loaded ∙ or_from _ _ (not_overfull bytes) refl in
-    none_found (applies file) faults
+    let dynamic : file_has file Dynamic ≡ false = ap (list_any is_dynamic) headers ∙ or_from _ _ (not_dynamic bytes) refl in
+    let outside : file_has file SegmentOutside ≡ false = or_from _ _ fields.5 (ap (list_any (is_outside (length file))) headers ∙ or_from _ _ (not_outside bytes few) refl) in
+    let overlap : file_has file SegmentOverlap ≡ false = ap (some_two share) loaded in
+    let sizes : file_has file SizeOrder ≡ false = ap (list_any is_overfull) loaded ∙ or_from _ _ (not_overfull bytes) refl in
+    none_found (file_has file) faults
     (le-ltb _ _ (omega arith), (fields.0, (fields.1, (fields.2, (fields.3, (fields.4, (dynamic, (outside, (overlap, (sizes, (not_from_true _ fields.6, tt)))))))))))
 
 pub image_is : (bytes : List ℕ) → length bytes < 2 ^ 64 → image_of (file_of bytes) ≡ image_of_bytes bytes

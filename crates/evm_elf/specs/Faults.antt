@@ -77,19 +77,19 @@ abbrev pub has_other_header_size : List ℕ → Bool
 has_other_header_size file = not (header_count file == 0) && not (header_size file == 56)
 
 -- whether a fault applies to a file
-unfoldable pub applies : List ℕ → ElfFault → Bool
-applies file Short = nat_lt (length file) 64
-applies file Magic = not (magic file == 0x464c_457f)
-applies file Class = has_other_class file
-applies file Kind = has_other_kind file
-applies file MachineNumber = not (machine_number file == 243)
-applies file Compressed = flags file % 2 == 1
-applies file Dynamic = list_any is_dynamic (headers file)
-applies file SegmentOutside = has_other_header_size file || list_any (is_outside (length file)) (headers file)
-applies file SegmentOverlap = some_two share (loads file)
-applies file SizeOrder = list_any is_overfull (loads file)
-applies file Entry = not (is_entry (entry file))
-applies file NoMemory = false
+unfoldable pub file_has : List ℕ → ElfFault → Bool
+file_has file Short = nat_lt (length file) 64
+file_has file Magic = not (magic file == 0x464c_457f)
+file_has file Class = has_other_class file
+file_has file Kind = has_other_kind file
+file_has file MachineNumber = not (machine_number file == 243)
+file_has file Compressed = flags file % 2 == 1
+file_has file Dynamic = list_any is_dynamic (headers file)
+file_has file SegmentOutside = has_other_header_size file || list_any (is_outside (length file)) (headers file)
+file_has file SegmentOverlap = some_two share (loads file)
+file_has file SizeOrder = list_any is_overfull (loads file)
+file_has file Entry = not (is_entry (entry file))
+file_has file NoMemory = false
 
 -- the faults of a file in the order of their numbers
 abbrev pub faults : List ElfFault
@@ -98,7 +98,7 @@ faults =
 
 -- the first of them that applies
 unfoldable pub fault_of : List ℕ → Option ElfFault
-fault_of file = find (applies file) faults
+fault_of file = find (file_has file) faults
 
 -- what a header loads of the file
 abbrev pub segment_of : List ℕ → Header → Loaded
@@ -113,16 +113,16 @@ abbrev pub Loads : List ℕ → Contents → Type 0
 Loads file image = (image ≡ image_of file) × ((address : ℕ) → Fills image.segments address (byte_at image address))
 
 -- the number of a fault
-abbrev pub fault_number : ElfFault → ℕ
-fault_number Short = 1
-fault_number Magic = 2
-fault_number Class = 3
-fault_number Kind = 4
-fault_number MachineNumber = 5
-fault_number Compressed = 6
-fault_number Dynamic = 7
-fault_number SegmentOutside = 8
-fault_number SegmentOverlap = 9
-fault_number SizeOrder = 10
-fault_number Entry = 11
-fault_number NoMemory = 12
+abbrev pub file_fault_number : ElfFault → ℕ
+file_fault_number Short = 1
+file_fault_number Magic = 2
+file_fault_number Class = 3
+file_fault_number Kind = 4
+file_fault_number MachineNumber = 5
+file_fault_number Compressed = 6
+file_fault_number Dynamic = 7
+file_fault_number SegmentOutside = 8
+file_fault_number SegmentOverlap = 9
+file_fault_number SizeOrder = 10
+file_fault_number Entry = 11
+file_fault_number NoMemory = 12

@@ -1,7 +1,7 @@
 //! Why a file is no image.
 
 ghost use Rattle.std.specs.Prelude.{◌≡◌};
-ghost use Rattle.evm_elf.specs.Faults.{fault_number};
+ghost use Rattle.evm_elf.specs.Faults.{file_fault_number};
 ghost use Rattle.evm_elf.specs.declared.fault.ElfFault.TheVariants.{NoMemory};
 
 use std::alloc::AllocError;
@@ -40,7 +40,7 @@ pub enum ElfFault {
 impl ElfFault {
     /// The fault's number, 1 to 12 in the order of the variants.
     pub fn number(self) -> u8
-        ensures { result ≡ fault_number self }
+        ensures { result ≡ file_fault_number self }
     {
         self as u8 + 1
     }

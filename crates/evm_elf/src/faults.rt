@@ -3,7 +3,7 @@
 ghost use Rattle.std.specs.Prelude.{◌≡◌, ◌≤◌, List, [], ◌∷◌, length};
 ghost use Rattle.std.specs.List.{find};
 ghost use Rattle.evm_elf.specs.declared.fault.ElfFault.TheVariants.{Magic, Class, Kind, MachineNumber, Compressed, Dynamic, SegmentOutside, SegmentOverlap, SizeOrder, Entry};
-ghost use Rattle.evm_elf.specs.Faults.{applies, fault_of, has_other_class, has_other_kind, has_other_header_size, is_entry};
+ghost use Rattle.evm_elf.specs.Faults.{file_has, fault_of, has_other_class, has_other_kind, has_other_header_size, is_entry};
 
 use crate::fault::ElfFault;
 use crate::header::{RANGE_END, RANGE_START, byte_at, half_at, long_at, word_at};
@@ -51,10 +51,10 @@ fn is_entry(address: u64) -> bool
 }
 
 /// The first fault of the file header, the entry apart.
-#[tactic(auto, unfolding(crate::specs::Faults::applies))]
+#[tactic(auto, unfolding(crate::specs::Faults::file_has))]
 fn header_fault(file: &[u8]) -> Option<ElfFault>
     requires { 64 ≤ length file.now }
-    ensures { result ≡ find (applies file.now) (Magic ∷ Class ∷ Kind ∷ MachineNumber ∷ Compressed ∷ []) }
+    ensures { result ≡ find (file_has file.now) (Magic ∷ Class ∷ Kind ∷ MachineNumber ∷ Compressed ∷ []) }
 {
     if word_at(file, 0) != MAGIC {
         Some(ElfFault::Magic)
@@ -72,10 +72,10 @@ fn header_fault(file: &[u8]) -> Option<ElfFault>
 }
 
 /// The first fault of the program headers, their segments and the entry.
-#[tactic(auto, unfolding(crate::specs::Faults::applies))]
+#[tactic(auto, unfolding(crate::specs::Faults::file_has))]
 fn segment_fault(alloc: Global, file: &[u8]) -> Option<ElfFault>
     requires { 64 ≤ length file.now }
-    ensures { result ≡ find (applies file.now) (Dynamic ∷ SegmentOutside ∷ SegmentOverlap ∷ SizeOrder ∷ Entry ∷ []) }
+    ensures { result ≡ find (file_has file.now) (Dynamic ∷ SegmentOutside ∷ SegmentOverlap ∷ SizeOrder ∷ Entry ∷ []) }
 {
     let count = half_at(file, 56);
     if any_dynamic(file, count) {
@@ -94,7 +94,7 @@ fn segment_fault(alloc: Global, file: &[u8]) -> Option<ElfFault>
 }
 
 /// The first fault of the file. Memory is taken to be fast, and isn't needed.
-#[tactic(auto, unfolding(crate::specs::Faults::applies, crate::specs::Faults::fault_of))]
+#[tactic(auto, unfolding(crate::specs::Faults::file_has, crate::specs::Faults::fault_of))]
 pub(crate) fn first_fault(alloc: Global, file: &[u8]) -> Option<ElfFault>
     ensures { result ≡ fault_of file.now }
 {

@@ -6,7 +6,7 @@ use Rattle.evm_ram.specs.declared.refusal.Refusal.{Refusal}
 use Rattle.evm_ram.specs.declared.refusal.Refusal.TheVariants as refusals
 use Rattle.evm_words.specs.Faults as words
 use Rattle.evm_words.specs.Sentences.{asm_sentence}
-use Rattle.evm_elf.specs.Faults.{fault_number}
+use Rattle.evm_elf.specs.Faults.{file_fault_number}
 use Rattle.evm_elf.specs.declared.fault.ElfFault.{ElfFault}
 use Rattle.evm_journal.specs.Faults as journals
 use Rattle.evm_journal.specs.Sentences.{journal_sentence}
@@ -37,7 +37,7 @@ fault_text (NoJournal fault) = codes "journal " ++ decimal fault.line ++ codes "
 
 -- that of a file that is no image
 abbrev pub no_image_text : ElfFault → List ℕ
-no_image_text fault = codes "image " ++ decimal (fault_number fault) ++ codes "\n"
+no_image_text fault = codes "image " ++ decimal (file_fault_number fault) ++ codes "\n"
 
 -- the line of the input on which the fault is
 abbrev pub line_at_fault : Fault → ℕ
