@@ -5,16 +5,16 @@ use Rattle.std.specs.Str.{bytes_eq}
 use Rattle.std.specs.List.{position_or_len}
 use Rattle.std.proofs.lemmas.Bool.{ltb-false}
 use Rattle.std.proofs.lemmas.List.Sums.{prefix_len-le-length}
-use Rattle.evm_words.specs.Names.{named}
-use Rattle.evm_words.specs.Characters.{newline}
-use Rattle.evm_words.specs.Text.{before, after, place_by, tail}
-use Rattle.evm_words.specs.declared.fault.AsmFaultKind.{AsmFaultKind}
-use Rattle.evm_words.specs.declared.mnemonic.Section.{Section}
-use Rattle.evm_words.specs.declared.mnemonic.Width.{Width}
-use Rattle.evm_words.specs.Faults.{◌>>=◌}
-use Rattle.evm_words.specs.declared.fault.AsmFault.{AsmFault}
-use Rattle.evm_statement.specs.declared.spot.Spot.{Spot}
-use Rattle.evm_statement.specs.Operands.{Spots, first_operand, other_operands}
+use Rattle.evm_asm_lexer.specs.Names.{named}
+use Rattle.evm_asm_lexer.specs.Characters.{newline}
+use Rattle.evm_asm_lexer.specs.Text.{before, after, place_by, tail}
+use Rattle.evm_asm_lexer.specs.declared.fault.AsmFaultKind.{AsmFaultKind}
+use Rattle.evm_asm_lexer.specs.declared.mnemonic.Section.{Section}
+use Rattle.evm_asm_lexer.specs.declared.mnemonic.Width.{Width}
+use Rattle.evm_asm_lexer.specs.Faults.{◌>>=◌}
+use Rattle.evm_asm_lexer.specs.declared.fault.AsmFault.{AsmFault}
+use Rattle.evm_asm_parser.specs.declared.spot.Spot.{Spot}
+use Rattle.evm_asm_parser.specs.Operands.{Spots, first_operand, other_operands}
 use Rattle.evm_asm.specs.Programs.{repeated}
 use Rattle.evm_asm.specs.Sources.{label_at, behind_labels, Defined, with_label, defined, source_lines, in_front, code_of, Laid, laid, with_line_laid, line_laid, first_fault, IsLaid}
 use Rattle.evm_asm.specs.declared.place.Place.{Place}

@@ -7,15 +7,15 @@ use Rattle.std.proofs.lemmas.List.{append-nil}
 use Rattle.std.proofs.Math.Seq.{take-append_seam}
 use Rattle.evm_isa.specs.declared.inst.Inst.{Inst}
 use Rattle.evm_isa.specs.Encoded.{encoded}
-use Rattle.evm_words.specs.declared.fault.AsmFault.{AsmFault}
-use Rattle.evm_words.specs.declared.fault.AsmFaultKind.{AsmFaultKind}
-use Rattle.evm_words.specs.declared.mnemonic.Section.{Section as Part}
-use Rattle.evm_words.specs.declared.mnemonic.Section.TheVariants.{Text, Data}
-use Rattle.evm_words.specs.declared.mnemonic.Width.{Width}
-use Rattle.evm_words.specs.Faults.{◌>>=◌}
-use Rattle.evm_statement.specs.declared.statement.Statement.{Statement}
-use Rattle.evm_statement.specs.declared.statement.Statement.TheVariants.{Numbers, Space, Align}
-use Rattle.evm_statement.specs.Operands.{Spots, first_operand, other_operands}
+use Rattle.evm_asm_lexer.specs.declared.fault.AsmFault.{AsmFault}
+use Rattle.evm_asm_lexer.specs.declared.fault.AsmFaultKind.{AsmFaultKind}
+use Rattle.evm_asm_lexer.specs.declared.mnemonic.Section.{Section as Part}
+use Rattle.evm_asm_lexer.specs.declared.mnemonic.Section.TheVariants.{Text, Data}
+use Rattle.evm_asm_lexer.specs.declared.mnemonic.Width.{Width}
+use Rattle.evm_asm_lexer.specs.Faults.{◌>>=◌}
+use Rattle.evm_asm_parser.specs.declared.statement.Statement.{Statement}
+use Rattle.evm_asm_parser.specs.declared.statement.Statement.TheVariants.{Numbers, Space, Align}
+use Rattle.evm_asm_parser.specs.Operands.{Spots, first_operand, other_operands}
 use Rattle.evm_asm.specs.declared.item.Placed.{Placed}
 use Rattle.evm_asm.specs.declared.place.Place.{Place}
 use Rattle.evm_asm.specs.Sources.{source_lines, code_of, Laid, laid, with_line_laid, line_laid, first_fault, nothing_laid, source_start, statement_text, outcome, measured, line_defined}

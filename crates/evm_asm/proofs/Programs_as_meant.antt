@@ -9,14 +9,14 @@ use Rattle.std.proofs.lemmas.List.Quantifiers.{Any-push}
 use Rattle.std.proofs.Math.ListN.{get_or-append}
 use Rattle.evm_isa.specs.declared.inst.Inst.{Inst}
 use Rattle.evm_isa.specs.Encoded.{encoded}
-use Rattle.evm_words.specs.declared.fault.AsmFault.{AsmFault}
-use Rattle.evm_words.specs.declared.fault.AsmFaultKind.{AsmFaultKind}
-use Rattle.evm_words.specs.declared.fault.AsmFaultKind.TheVariants.{TooLarge}
-use Rattle.evm_words.specs.declared.mnemonic.Section.{Section as Part}
-use Rattle.evm_words.specs.declared.mnemonic.Section.TheVariants.{Text, Data}
-use Rattle.evm_statement.specs.declared.statement.Statement.{Statement}
-use Rattle.evm_statement.specs.declared.statement.Statement.TheVariants.{Section, Numbers, Space, Align}
-use Rattle.evm_statement.specs.Operands.{Spots}
+use Rattle.evm_asm_lexer.specs.declared.fault.AsmFault.{AsmFault}
+use Rattle.evm_asm_lexer.specs.declared.fault.AsmFaultKind.{AsmFaultKind}
+use Rattle.evm_asm_lexer.specs.declared.fault.AsmFaultKind.TheVariants.{TooLarge}
+use Rattle.evm_asm_lexer.specs.declared.mnemonic.Section.{Section as Part}
+use Rattle.evm_asm_lexer.specs.declared.mnemonic.Section.TheVariants.{Text, Data}
+use Rattle.evm_asm_parser.specs.declared.statement.Statement.{Statement}
+use Rattle.evm_asm_parser.specs.declared.statement.Statement.TheVariants.{Section, Numbers, Space, Align}
+use Rattle.evm_asm_parser.specs.Operands.{Spots}
 use Rattle.evm_asm.specs.declared.item.Placed.{Placed}
 use Rattle.evm_asm.specs.declared.output.ProgramLine.{ProgramLine}
 use Rattle.evm_asm.specs.Items.{and_then, layout_of, meaning_of, line_or_fault, lines_meant, text_base, expanded, with_item, with_instructions, with_statement}

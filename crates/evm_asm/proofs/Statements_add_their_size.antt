@@ -8,16 +8,16 @@ use Rattle.std.proofs.lemmas.Nat.{pow-add}
 use Rattle.std.proofs.Math.Pow.{pow_pos}
 use Rattle.evm_isa.specs.declared.inst.Inst.{Inst}
 use Rattle.evm_isa.specs.Encoded.{encoded}
-use Rattle.evm_words.specs.declared.mnemonic.Section.{Section as Part}
-use Rattle.evm_words.specs.declared.mnemonic.Section.TheVariants.{Text, Data}
-use Rattle.evm_words.specs.declared.mnemonic.Width.{Width}
-use Rattle.evm_words.specs.declared.mnemonic.Width.TheVariants.{Byte, Word, Dword}
-use Rattle.evm_words.specs.declared.fault.AsmFaultKind.TheVariants.{TooLarge}
-use Rattle.evm_words.specs.Faults.{◌>>=◌}
-use Rattle.evm_statement.specs.declared.spot.Spot.{Spot}
-use Rattle.evm_statement.specs.declared.statement.Statement.{Statement}
-use Rattle.evm_statement.specs.declared.statement.Statement.TheVariants.{Nothing, One, Branch, Jump, LoadImmediate, LoadAddress, Section, Numbers, Space, Align}
-use Rattle.evm_statement.specs.Operands.{Spots, first_operand, other_operands}
+use Rattle.evm_asm_lexer.specs.declared.mnemonic.Section.{Section as Part}
+use Rattle.evm_asm_lexer.specs.declared.mnemonic.Section.TheVariants.{Text, Data}
+use Rattle.evm_asm_lexer.specs.declared.mnemonic.Width.{Width}
+use Rattle.evm_asm_lexer.specs.declared.mnemonic.Width.TheVariants.{Byte, Word, Dword}
+use Rattle.evm_asm_lexer.specs.declared.fault.AsmFaultKind.TheVariants.{TooLarge}
+use Rattle.evm_asm_lexer.specs.Faults.{◌>>=◌}
+use Rattle.evm_asm_parser.specs.declared.spot.Spot.{Spot}
+use Rattle.evm_asm_parser.specs.declared.statement.Statement.{Statement}
+use Rattle.evm_asm_parser.specs.declared.statement.Statement.TheVariants.{Nothing, One, Branch, Jump, LoadImmediate, LoadAddress, Section, Numbers, Space, Align}
+use Rattle.evm_asm_parser.specs.Operands.{Spots, first_operand, other_operands}
 use Rattle.evm_asm.specs.declared.item.Item.{Item}
 use Rattle.evm_asm.specs.declared.item.Item.TheVariants.{Instruction, Number, Zeros, Nops}
 use Rattle.evm_asm.specs.declared.item.Placed.{Placed}

@@ -2,9 +2,9 @@
 use Rattle.std.specs.Prelude.{◌≡◌, ℕ, ◌+◌, ◌-◌, ◌<◌, ◌≤◌, ◌^◌, List, length, take, drop, map, Result, Ok}
 use Rattle.std.specs.Int.{w32, to_le_bytes}
 use Rattle.evm_isa.specs.Table.{Row}
-use Rattle.evm_words.specs.declared.fault.AsmFault.{AsmFault}
+use Rattle.evm_asm_lexer.specs.declared.fault.AsmFault.{AsmFault}
 use Rattle.evm_asm.specs.declared.output.ProgramLine.{ProgramLine}
-use Rattle.evm_statement.specs.declared.spot.Spot.{Spot}
+use Rattle.evm_asm_parser.specs.declared.spot.Spot.{Spot}
 use Rattle.evm_asm.specs.Items.{text_base, address, and_then, layout_of, meaning_of}
 use Rattle.evm_asm.specs.Programs.{Spelled, nothing_spelled, spelled, program_bytes}
 

@@ -5,12 +5,12 @@ use Rattle.evm_asm.specs.declared.item.Expansion.{Expansion}
 use Rattle.evm_asm.specs.declared.item.Expansion.TheVariants.{Empty, Single, Double}
 use Rattle.evm_asm.specs.declared.item.Placed.{Placed}
 use Rattle.evm_asm.specs.declared.output.ProgramLine.{ProgramLine}
-use Rattle.evm_words.specs.declared.mnemonic.Width.{Width}
+use Rattle.evm_asm_lexer.specs.declared.mnemonic.Width.{Width}
 use Rattle.evm_asm.specs.declared.place.Place.{Place}
-use Rattle.evm_statement.specs.declared.statement.Statement.{Statement}
-use Rattle.evm_statement.specs.declared.statement.Statement.TheVariants.{Numbers, Space, Align}
-use Rattle.evm_words.specs.Names.{named}
-use Rattle.evm_statement.specs.Operands.{first_operand, other_operands}
+use Rattle.evm_asm_parser.specs.declared.statement.Statement.{Statement}
+use Rattle.evm_asm_parser.specs.declared.statement.Statement.TheVariants.{Numbers, Space, Align}
+use Rattle.evm_asm_lexer.specs.Names.{named}
+use Rattle.evm_asm_parser.specs.Operands.{first_operand, other_operands}
 use Rattle.evm_asm.specs.Places.{offset, here, padding, is_text, bytes_in, statement_in}
 use Rattle.evm_asm.specs.Sources.{nothing_laid, laid, source_lines, code_of, label_at, behind_labels, statement_text}
 use Rattle.evm_asm.specs.Items.{text_base, data_base, address, expanded, value_in, operands, layout_of, meaning_of}

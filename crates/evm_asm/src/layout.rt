@@ -2,13 +2,13 @@
 
 ghost use Rattle.std.specs.Prelude.{◌≡◌, IfOk, IfErr, length, false};
 ghost use Rattle.std.specs.Option.{option_map};
-ghost use Rattle.evm_words.specs.declared.fault.AsmFaultKind.TheVariants.{NoMemory};
+ghost use Rattle.evm_asm_lexer.specs.declared.fault.AsmFaultKind.TheVariants.{NoMemory};
 ghost use Rattle.evm_asm.specs.Sources.{code_of, label_at, behind_labels, with_label, defined, outcome, measured, line_laid, first_fault, laid, nothing_laid, source_lines, source_start, IsLaid};
 ghost use Rattle.evm_asm.specs.Places.{here};
 
 use crate::place::{Place, here, place_behind, source_start, statement_in};
-use evm_statement::{Labels, Spot, name_in};
-use evm_words::{AsmFault, AsmFaultKind, after, before, has, least};
+use evm_asm_lexer::{AsmFault, AsmFaultKind, after, before, has, least};
+use evm_asm_parser::{Labels, Spot, name_in};
 use std::alloc::{AllocError, Global};
 
 /// A line without its comment.

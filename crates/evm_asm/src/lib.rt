@@ -12,7 +12,7 @@ mod place_laws;
 mod program;
 mod program_laws;
 
-pub use evm_words::{AsmFault, AsmFaultKind};
+pub use evm_asm_lexer::{AsmFault, AsmFaultKind};
 pub use fault_laws::{refused_with_the_first, refused_with_the_least};
 pub use laws::{
     every_item_has_its_word, la_loads, li_loads, no_fault_is_ignored, nops_are_addi, programs_fit,

@@ -8,10 +8,10 @@ ghost use Rattle.evm_asm.specs.Items.{IsMeant, Refused, Tells, unless_stopped, l
 use crate::item::{Expansion, Item, Placed, TEXT_BASE, expanded, filling, value_in};
 use crate::layout::{Layout, code_of, statement_text};
 use crate::place::{Place, place_behind, source_start, statement_in};
-use evm_statement::{Labels, Statement, first_operand, other_operands};
-use evm_words::{
+use evm_asm_lexer::{
     AsmFault, AsmFaultKind, Section, Width, after, before, behind_word, least, skip_blanks,
 };
+use evm_asm_parser::{Labels, Statement, first_operand, other_operands};
 use std::alloc::Global;
 
 /// Why the meaning of a line is not told: an allocation was refused, or the line has a fault.

@@ -2,7 +2,7 @@
 
 ghost use Rattle.std.specs.Prelude.{◌≡◌, ◌≤◌, Ok, [], length, IfOk, OnOk, IfErr, IsOk};
 ghost use Rattle.evm_asm.specs.Items.{Tells, IsMeant};
-ghost use Rattle.evm_words.specs.declared.fault.AsmFaultKind.TheVariants.{NoMemory};
+ghost use Rattle.evm_asm_lexer.specs.declared.fault.AsmFaultKind.TheVariants.{NoMemory};
 ghost use Rattle.evm_isa.specs.Encoded.{encoded};
 ghost use Rattle.evm_asm.specs.Views.{view};
 ghost use Rattle.evm_asm.specs.Programs.{Spelled, nothing_spelled, with_bytes, repeated, with_repeated, number_bytes, nop_bytes, with_word, worded, spelled_item, spelled, program_bytes};
@@ -10,8 +10,8 @@ ghost use Rattle.evm_asm.specs.Places.{bytes_in};
 
 use crate::item::{Item, Placed, TEXT_BASE};
 use crate::place::bytes_in;
+use evm_asm_lexer::{AsmFault, AsmFaultKind, Section, Width};
 use evm_isa::{Inst, encode};
-use evm_words::{AsmFault, AsmFaultKind, Section, Width};
 use std::alloc::{AllocError, Global};
 
 /// An instruction of a program: where it is, the source line that it comes from (from 1), its word, and the

@@ -2,15 +2,15 @@
 
 ghost use Rattle.std.specs.Prelude.{◌≡◌, ◌≤◌, ◌<◌};
 ghost use Rattle.evm_asm.specs.Places.{offset, here, farther, grown, is_small, low_word, low_part, high_part, needs_low_part, bytes_in, padding, load_size, size_at, place_behind, is_directive, may_stand, placed, statement_in};
-ghost use Rattle.evm_statement.specs.Operands.{upper};
+ghost use Rattle.evm_asm_parser.specs.Operands.{upper};
 ghost use Rattle.evm_asm.specs.Sources.{source_start};
 
-use evm_isa::Shift;
-use evm_statement::{Labels, Spot, Statement, also, starts_with_name, statement_of, upper};
-use evm_words::{
+use evm_asm_lexer::{
     AsmFaultKind, Mnemonic, Section, Width, behind_word, first_word, is_sound, mnemonic_named,
     skip_blanks,
 };
+use evm_asm_parser::{Labels, Spot, Statement, also, starts_with_name, statement_of, upper};
+use evm_isa::Shift;
 
 /// How far a program has come: the section in force, and the bytes of each so far.
 #[derive(Clone, Copy)]

@@ -1,11 +1,11 @@
 -- Each li and each la of a source is one that the laws of both are about.
 use Rattle.std.proofs.Common.{◌≡◌, ◌∙◌, ℕ, ◌+◌, ◌-◌, ◌%◌, ◌≤◌, List, Some, Result, Ok, take, ap, subst, arith}
 use Rattle.std.proofs.lemmas.Result.{IfOk-at_ok}
-use Rattle.evm_words.specs.declared.fault.AsmFaultKind.{AsmFaultKind}
-use Rattle.evm_words.specs.declared.mnemonic.Section.{Section as Part}
-use Rattle.evm_words.specs.declared.mnemonic.Section.TheVariants.{Text, Data}
-use Rattle.evm_statement.specs.declared.statement.Statement.{Statement}
-use Rattle.evm_statement.specs.declared.statement.Statement.TheVariants.{LoadImmediate, LoadAddress}
+use Rattle.evm_asm_lexer.specs.declared.fault.AsmFaultKind.{AsmFaultKind}
+use Rattle.evm_asm_lexer.specs.declared.mnemonic.Section.{Section as Part}
+use Rattle.evm_asm_lexer.specs.declared.mnemonic.Section.TheVariants.{Text, Data}
+use Rattle.evm_asm_parser.specs.declared.statement.Statement.{Statement}
+use Rattle.evm_asm_parser.specs.declared.statement.Statement.TheVariants.{LoadImmediate, LoadAddress}
 use Rattle.evm_asm.specs.Items.{address, address_of_offset, expanded, load_address, load_address_by, load_immediate, layout_of}
 use Rattle.evm_asm.specs.Loading.{LoadsImmediate, LoadsAddress}
 use Rattle.evm_asm.specs.Places.{load_size}

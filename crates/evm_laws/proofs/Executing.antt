@@ -7,9 +7,9 @@ use Rattle.evm_isa.specs.Decoded.{decoded}
 use Rattle.evm_isa.specs.Table.{Row}
 use Rattle.evm_isa.specs.declared.inst.Inst.{Inst}
 use Rattle.evm_isa.specs.declared.inst.Inst.TheVariants.{Lui, Auipc}
-use Rattle.evm_statement.specs.declared.spot.Spot.{Spot}
-use Rattle.evm_statement.specs.declared.statement.Statement.{Statement}
-use Rattle.evm_statement.specs.declared.statement.Statement.TheVariants.{LoadImmediate, LoadAddress}
+use Rattle.evm_asm_parser.specs.declared.spot.Spot.{Spot}
+use Rattle.evm_asm_parser.specs.declared.statement.Statement.{Statement}
+use Rattle.evm_asm_parser.specs.declared.statement.Statement.TheVariants.{LoadImmediate, LoadAddress}
 use Rattle.evm_asm.specs.Assembled.{Assembled, IsWorded, program_of}
 use Rattle.evm_asm.specs.Items.{address, expanded, load_address, load_immediate}
 use Rattle.evm_asm.specs.Places.{is_small, needs_low_part, low_word, high_part, load_size}

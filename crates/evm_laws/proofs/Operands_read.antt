@@ -3,12 +3,12 @@ use Rattle.std.proofs.Common.{◌≡◌, ℕ, zero, suc, ◌<◌, ◌≤◌, Boo
 use Rattle.std.specs.List.{AllByRecursion}
 use Rattle.std.proofs.lemmas.Bool.{ltb-true, leb-true, and_parts}
 use Rattle.std.proofs.lemmas.Int.{ints}
-use Rattle.evm_words.specs.declared.fault.AsmFaultKind.{AsmFaultKind}
-use Rattle.evm_words.specs.declared.fault.AsmFaultKind.TheVariants.{RangeOfImmediate}
-use Rattle.evm_words.specs.Names.{named, register_named, registers, fixed_registers, argument_registers, saved_registers, temporary_registers, registers_to_7, registers_to_15, registers_to_23, registers_to_31}
-use Rattle.evm_statement.specs.declared.operand.Number.{Number}
-use Rattle.evm_statement.specs.declared.spot.Spot.{Spot}
-use Rattle.evm_statement.specs.Operands.{register_in, named_register, known, name_in, label_in, labelled, number_in, integer, ranged, integer_in, Spots}
+use Rattle.evm_asm_lexer.specs.declared.fault.AsmFaultKind.{AsmFaultKind}
+use Rattle.evm_asm_lexer.specs.declared.fault.AsmFaultKind.TheVariants.{RangeOfImmediate}
+use Rattle.evm_asm_lexer.specs.Names.{named, register_named, registers, fixed_registers, argument_registers, saved_registers, temporary_registers, registers_to_7, registers_to_15, registers_to_23, registers_to_31}
+use Rattle.evm_asm_parser.specs.declared.operand.Number.{Number}
+use Rattle.evm_asm_parser.specs.declared.spot.Spot.{Spot}
+use Rattle.evm_asm_parser.specs.Operands.{register_in, named_register, known, name_in, label_in, labelled, number_in, integer, ranged, integer_in, Spots}
 
 abbrev pub IsRegister : ℕ → Type 0
 IsRegister r = r < 32

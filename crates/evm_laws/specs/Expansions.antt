@@ -1,7 +1,7 @@
 -- What a task does at the li and la of a source, where the words of the program stand in RAM.
 use Rattle.std.specs.Prelude.{◌≡◌, ℕ, List, Some, Ok, slice_get, length, All, ℤ}
-use Rattle.evm_statement.specs.declared.spot.Spot.{Spot}
-use Rattle.evm_statement.specs.declared.statement.Statement.TheVariants.{LoadImmediate, LoadAddress}
+use Rattle.evm_asm_parser.specs.declared.spot.Spot.{Spot}
+use Rattle.evm_asm_parser.specs.declared.statement.Statement.TheVariants.{LoadImmediate, LoadAddress}
 use Rattle.evm_asm.specs.Assembled.{Assembled, program_of}
 use Rattle.evm_asm.specs.Items.{address}
 use Rattle.evm_asm.specs.Places.{load_size}

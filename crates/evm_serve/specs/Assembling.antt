@@ -2,7 +2,7 @@
 use Rattle.std.specs.Prelude.{◌≡◌, ℕ, List, [], ◌⊎◌, Result, Ok, Err}
 use Rattle.evm_streams.specs.declared.sink.Writing.{Writing}
 use Rattle.evm_asm.specs.Assembled.{Assembled}
-use Rattle.evm_words.specs.declared.fault.AsmFault.{AsmFault}
+use Rattle.evm_asm_lexer.specs.declared.fault.AsmFault.{AsmFault}
 use Rattle.evm_elf.specs.Files.{file_of}
 use Rattle.evm_serve.specs.Told.{Told}
 use Rattle.evm_serve.specs.Faults.{fault_text}

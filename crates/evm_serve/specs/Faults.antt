@@ -4,8 +4,8 @@ use Rattle.evm_text.specs.Written.{decimal}
 use Rattle.evm_ram.specs.Refusal.{number_of}
 use Rattle.evm_ram.specs.declared.refusal.Refusal.{Refusal}
 use Rattle.evm_ram.specs.declared.refusal.Refusal.TheVariants as refusals
-use Rattle.evm_words.specs.Faults as words
-use Rattle.evm_words.specs.Sentences.{asm_sentence}
+use Rattle.evm_asm_lexer.specs.Faults as words
+use Rattle.evm_asm_lexer.specs.Sentences.{asm_sentence}
 use Rattle.evm_elf.specs.Faults.{file_fault_number}
 use Rattle.evm_elf.specs.declared.fault.ElfFault.{ElfFault}
 use Rattle.evm_journal.specs.Faults as journals

@@ -1,6 +1,6 @@
 use Rattle.std.proofs.Common.{◌≡◌, ◌∙◌, ◌<◌, sym, ap, arith, length, rules, List, ℕ}
-use Rattle.evm_words.specs.Characters.{newline}
-use Rattle.evm_words.specs.Text.{after, before}
+use Rattle.evm_asm_lexer.specs.Characters.{newline}
+use Rattle.evm_asm_lexer.specs.Text.{after, before}
 use Rattle.evm_asm.specs.Sources.{laid, source_lines, Laid, code_of}
 use Rattle.evm_asm.proofs.Line_by_line.{one-line, line-is, no-lines, after-less}
 use Rattle.evm_asm.proofs.layout.lay_out.Goals as goal

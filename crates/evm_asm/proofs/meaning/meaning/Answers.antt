@@ -1,6 +1,6 @@
 use Rattle.std.proofs.Common.{◌≡◌, ◌∙◌, ◌<◌, ◌+◌, sym, ap, arith, length, rules, List, ℕ}
-use Rattle.evm_words.specs.Characters.{newline}
-use Rattle.evm_words.specs.Text.{before}
+use Rattle.evm_asm_lexer.specs.Characters.{newline}
+use Rattle.evm_asm_lexer.specs.Text.{before}
 use Rattle.evm_asm.specs.Sources.{source_lines, code_of, source_start}
 use Rattle.evm_asm.specs.Items.{layout_of, lines_meant, meaning_of}
 use Rattle.evm_asm.specs.declared.item.Placed.{Placed}

@@ -1,8 +1,8 @@
 use Rattle.std.proofs.Common.{◌∙◌, sym, ap, Option, Some}
 use Rattle.std.specs.Option.{option_map}
-use Rattle.evm_statement.specs.declared.spot.Spot.{Spot}
+use Rattle.evm_asm_parser.specs.declared.spot.Spot.{Spot}
 use Rattle.evm_asm.specs.Items.{address}
-use Rattle.evm_words.specs.Names.{named}
+use Rattle.evm_asm_lexer.specs.Names.{named}
 use Rattle.evm_asm.specs.Assembled.{Assembled, addressed}
 use Rattle.evm_asm.proofs.Line_by_line.{named-addressed}
 use Rattle.evm_asm.proofs.program.Program.address_of.Goals as goal

@@ -1,8 +1,0 @@
-use evm_words::Section;
-
-/// Where a label is: so many bytes into a section.
-#[derive(Clone, Copy, Debug, PartialEq, Eq)]
-pub struct Spot {
-    pub section: Section,
-    pub offset: u32,
-}
