@@ -6,7 +6,7 @@ use Rattle.std.proofs.lemmas.List.{set-set}
 use Rattle.evm_isa.specs.declared.inst.ImmediateOp.TheVariants.{Addi, Addiw}
 use Rattle.evm_isa.specs.declared.inst.Inst.TheVariants.{Lui, Auipc, Immediate}
 use Rattle.evm_asm.specs.Items.{load_immediate}
-use Rattle.evm_asm.specs.Loading.{in_register, sign_extended, left_in_register, LoadsImmediate, LoadsAddress}
+use Rattle.evm_asm.specs.Loading.{in_register, low_extended, left_in_register, LoadsImmediate, LoadsAddress}
 use Rattle.evm_asm.specs.Places.{is_small, low_word, low_part, high_part, needs_low_part, load_size}
 use Rattle.evm_asm.specs.declared.item.Expansion.TheVariants.{Single, Double}
 use Rattle.evm_exec.specs.Does.{does}
@@ -44,7 +44,7 @@ low_word_of : (n : ℕ) → n < 4294967296 → (t : Bool) → nat_lt n 214748364
 low_word_of n h true e = refl
 low_word_of n h false e = omega arith
 
-same_word : (x : ℕ) → word (x % 18446744073709551616) ≡ sign_extended x
+same_word : (x : ℕ) → word (x % 18446744073709551616) ≡ low_extended x
 same_word x =
     let same : x % 18446744073709551616 % 4294967296 ≡ x % 4294967296 = omega arith in
     ap (λ (n : ℕ). extended (cond (nat_lt n 2147483648) (pos n) (negsuc (4294967296 - suc n)))) same
@@ -103,7 +103,7 @@ number_left rd value hi lo hart h same high false true e =
     upper_then_word rd hi lo hart (extended value) h
     (ap word (same_sum (extended hi) lo)
     ∙ same_word (extended hi + in_register lo)
-    ∙ ap (λ (a : ℕ). sign_extended (a + in_register lo)) high
+    ∙ ap (λ (a : ℕ). low_extended (a + in_register lo)) high
     ∙ e
     ∙ sym same)
 number_left rd value hi lo hart h same high false false e = upper_alone rd hi hart (extended value) (high ∙ e ∙ sym same)

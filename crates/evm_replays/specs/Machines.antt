@@ -7,8 +7,9 @@ use Rattle.evm_model.specs.State.{State}
 use Rattle.evm_debug.specs.Summary.{summary_text}
 use Rattle.evm_serve.specs.Told.{Told}
 use Rattle.evm_serve.specs.Replaying.{replay_told}
+use Rattle.evm_serve.specs.declared.ending.Verdict.TheVariants.{Done}
 
 -- a text that, replayed with the image that the machine began with, shows the machine
 abbrev pub ShowsAgain : List ℕ → State → Type 0
 ShowsAgain text s = (image : Contents) (first : State) → load image (start s.boot) ≡ Ok first → IsReplayOf first s
-    → replay_told image text ≡ record { text = summary_text s; status = 0 }
+    → replay_told image text ≡ record { text = summary_text s; verdict = Done }
