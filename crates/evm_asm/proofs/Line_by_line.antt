@@ -1,5 +1,5 @@
 -- The loops over the lines, labels and numbers of a source do what is defined of them.
-use Rattle.std.proofs.Common.{◌≡◌, ℕ, List, [], ◌∷◌, map, Some, cond, Bool, true, false, refl, suc, ◌-◌, ◌+◌, ◌<◌, ◌≤◌, ◌++◌, ap, arith, ◌∙◌, zero, Option, None, not, ◌==◌, nat_lt, length, take, drop, sym, Result, Ok, Err}
+use Rattle.std.proofs.Common.{◌≡◌, ℕ, List, [], ◌∷◌, map, Some, cond, Bool, true, false, refl, suc, ◌-◌, ◌+◌, ◌<◌, ◌≤◌, ◌++◌, ap, arith, ◌∙◌, zero, Option, None, not, ◌==◌, nat_lt, length, take, drop, sym, subst, Result, Ok, Err}
 use Rattle.std.specs.Option.{option_map, unwrap_or}
 use Rattle.std.specs.Str.{bytes_eq}
 use Rattle.std.specs.List.{position_or_len}
@@ -16,7 +16,9 @@ use Rattle.evm_asm_lexer.specs.declared.fault.AsmFault.{AsmFault}
 use Rattle.evm_asm_parser.specs.declared.spot.Spot.{Spot}
 use Rattle.evm_asm_parser.specs.Operands.{Spots, first_operand, other_operands}
 use Rattle.evm_asm.specs.Programs.{repeated}
-use Rattle.evm_asm.specs.Sources.{label_at, behind_labels, Defined, with_label, defined, source_lines, in_front, code_of, Laid, laid, with_line_laid, line_laid, first_fault, IsLaid}
+use Rattle.evm_asm.specs.Sources.{label_at, behind_labels, Defined, with_label, defined, source_lines, in_front, code_of, Laid, laid, with_line_laid, line_laid, first_fault, IsLaid, statement_text}
+use Rattle.evm_asm.specs.Kept.{IsKept, AreKept, first_kept, other_kept}
+use Rattle.evm_asm_parser.specs.declared.kept.Kept.{Kept}
 use Rattle.evm_asm.specs.declared.place.Place.{Place}
 use Rattle.evm_asm.specs.declared.meaning.Stop.{Stop}
 use Rattle.evm_asm.specs.declared.item.Placed.{Placed}
@@ -173,6 +175,24 @@ no-lines s (b ∷ bs) h = absurd (omega arith)
 pub after-less : (c : ℕ) (rest : List ℕ) → 0 < length rest → length (after c rest) + 1 ≤ length rest
 after-less c [] h = absurd (omega arith)
 after-less c (b ∷ bs) h = let k = after-shorter c b bs in omega arith
+
+-- what is kept of a line, and of those behind it
+pub kept-first : (k : Option Kept) (more : List (Option Kept)) (rest : List ℕ) → 0 < length rest → IsKept k (statement_text (code_of (before newline rest)))
+    → AreKept more (source_lines (after newline rest)) → AreKept (k ∷ more) (source_lines rest)
+unfolding AreKept
+kept-first k more [] h one others = absurd (omega arith)
+kept-first k more (b ∷ bs) h one others = subst (λ ls. AreKept (k ∷ more) ls) (sym (lines-cut b bs)) (one, others)
+
+pub kept-rest : (kept : List (Option Kept)) (rest : List ℕ) → 0 < length rest → AreKept kept (source_lines rest)
+    → IsKept (first_kept kept) (statement_text (code_of (before newline rest))) × AreKept (other_kept kept) (source_lines (after newline rest))
+unfolding AreKept
+kept-rest kept [] h all = absurd (omega arith)
+kept-rest kept (b ∷ bs) h all = subst (λ ls. AreKept kept ls) (lines-cut b bs) all
+
+pub kept-none : (rest : List ℕ) → length rest ≡ 0 → AreKept [] (source_lines rest)
+unfolding AreKept source_lines
+kept-none [] h = tt
+kept-none (b ∷ bs) h = absurd (omega arith)
 
 -- ---- the meaning of a source, item by item and line by line
 

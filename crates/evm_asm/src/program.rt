@@ -106,11 +106,11 @@ fn assembled(alloc: Global, source: &str) -> Result<Program, AsmFault>
     ensures { Tells (λ p. p) result (program_of source.now) }
 {
     let source = source.as_bytes();
-    let layout = match lay_out(alloc, source) {
-        Ok(layout) => layout,
+    let (layout, kept) = match lay_out(alloc, source) {
+        Ok(laid) => laid,
         Err(fault) => return Err(fault),
     };
-    let items = match meaning(alloc, source, &layout) {
+    let items = match meaning(alloc, source, &layout, kept) {
         Ok(items) => items,
         Err(fault) => return Err(fault),
     };
