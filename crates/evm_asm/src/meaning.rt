@@ -4,30 +4,33 @@ ghost use Rattle.std.specs.Prelude.{◌≡◌, Ok, IfOk, IfErr};
 ghost use Rattle.evm_asm.specs.Places.{place_behind, statement_in};
 ghost use Rattle.evm_asm.specs.Sources.{IsLaid, source_lines, statement_text};
 ghost use Rattle.evm_asm.specs.Kept.{IsKept, AreKept, first_kept, other_kept};
-ghost use Rattle.evm_asm.specs.Items.{IsMeant, Refused, Tells, unless_stopped, line_or_fault, layout_of, with_item, with_instructions, number_pushed, with_numbers, operands, with_statement, statement_meant, line_meant, least_so_far, stop_at, lines_meant, meaning_of};
+ghost use Rattle.evm_asm.specs.Items.{IsMeant, Gives, unless_stopped, line_or_fault, layout_of, with_item, with_instructions, number_pushed, with_numbers, operands, with_statement, statement_meant, line_meant, least_so_far, stop_at, lines_meant, meaning_of};
 
+use crate::failure::{Failure, Shortage};
 use crate::item::{Expansion, Item, Placed, TEXT_BASE, expanded, filling, value_in};
 use crate::layout::{Layout, code_of, statement_text};
 use crate::place::{Place, here, place_behind, source_start, statement_in};
 use evm_asm_lexer::{
     AsmFault, AsmFaultKind, Section, Width, after, before, behind_word, least, skip_blanks,
 };
-use evm_asm_parser::{Kept, KeptLines, Labels, Reading, Statement, first_operand, other_operands};
+use evm_asm_parser::{
+    Kept, KeptLines, Labels, Reading, Refused, Statement, first_operand, other_operands, push,
+};
 use std::alloc::Global;
 
-/// Why the meaning of a line is not told: an allocation was refused, or the line has a fault.
-#[derive(Clone, Copy)]
+/// Why the meaning of a line is not told: a growth was refused, or the line has a fault.
+#[derive(Drop)]
 pub enum Stop {
-    Memory,
+    Memory(Refused),
     Fault(AsmFaultKind),
 }
 
 fn push_item(items: &mut Vec<Placed>, section: Section, item: Item) -> Result<(), Stop>
     ensures { IsMeant (λ _. items.new.items) result (Ok (with_item section item items.old.items)) }
 {
-    match items.push(Placed { section, item }) {
+    match push(items, Placed { section, item }) {
         Ok(()) => Ok(()),
-        Err(_) => Err(Stop::Memory),
+        Err(refused) => Err(Stop::Memory(refused)),
     }
 }
 
@@ -237,9 +240,9 @@ fn push_told(
     place: Place,
     code: &[u8],
     kept: Option<Kept>,
-) -> Result<Place, AsmFault>
+) -> Result<Place, Failure>
     requires { IsKept kept (statement_text code.now) }
-    ensures { Tells (λ next. (next, items.new.items)) result (line_or_fault layout.now.labels layout.now.place.text_size layout.now.first line place code.now items.old.items) }
+    ensures { Gives (λ next. (next, items.new.items)) 1 result (line_or_fault layout.now.labels layout.now.place.text_size layout.now.first line place code.now items.old.items) }
 {
     let text_size = layout.place.text_size;
     match push_line(
@@ -251,12 +254,12 @@ fn push_told(
         statement_text(code),
         kept,
     ) {
-        Ok(next) => unless_stopped(stop_at(layout.first, line), next),
-        Err(Stop::Memory) => Err(AsmFault {
-            line,
-            kind: AsmFaultKind::NoMemory,
-        }),
-        Err(Stop::Fault(kind)) => Err(least_so_far(layout.first, line, kind)),
+        Ok(next) => match unless_stopped(stop_at(layout.first, line), next) {
+            Ok(next) => Ok(next),
+            Err(fault) => Err(Failure::Fault(fault)),
+        },
+        Err(Stop::Memory(refused)) => Err(Failure::Memory(Shortage { line, refused })),
+        Err(Stop::Fault(kind)) => Err(Failure::Fault(least_so_far(layout.first, line, kind))),
     }
 }
 
@@ -286,10 +289,10 @@ pub fn meaning(
     source: &[u8],
     layout: &Layout,
     kept: KeptLines,
-) -> Result<Vec<Placed>, AsmFault>
+) -> Result<Vec<Placed>, Failure>
     requires laid { IsLaid layout.now.labels layout.now.place layout.now.first (layout_of source.now) }
     requires kept { AreKept kept (source_lines source.now) }
-    ensures { Tells (λ v. v.items) result (meaning_of source.now) }
+    ensures { Gives (λ v. v.items) 1 result (meaning_of source.now) }
 {
     let mut items = Vec::new(alloc);
     let mut place = source_start();
@@ -307,7 +310,7 @@ pub fn meaning(
             first_kept(known),
         ) {
             Ok(next) => place = next,
-            Err(fault) => return Err(fault),
+            Err(failure) => return Err(failure),
         }
         lines += 1;
         rest = after(b'\n', rest);

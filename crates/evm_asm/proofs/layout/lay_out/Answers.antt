@@ -1,4 +1,4 @@
-use Rattle.std.proofs.Common.{◌≡◌, ◌∙◌, ◌<◌, ◌++◌, ◌∷◌, [], sym, ap, arith, subst, length, rules, List, ℕ, Option, None}
+use Rattle.std.proofs.Common.{◌≡◌, ◌∙◌, ◌<◌, ◌≤◌, ◌+◌, ◌++◌, ◌∷◌, [], sym, ap, arith, subst, length, rules, List, ℕ, Option, None}
 use Rattle.std.proofs.lemmas.List.{append_assoc, append-nil}
 use Rattle.evm_asm_lexer.specs.Characters.{newline}
 use Rattle.evm_asm_lexer.specs.Text.{after, before}
@@ -9,7 +9,7 @@ use Rattle.evm_asm.specs.Kept.{AreKept}
 use Rattle.evm_asm.specs.declared.place.Place.{Place}
 use Rattle.evm_asm.specs.Places.{here, statement_in}
 use Rattle.evm_asm.specs.Sources.{laid, source_lines, source_start, Laid, code_of, statement_text}
-use Rattle.evm_asm.proofs.Line_by_line.{one-line, line-is, no-lines, after-less, kept-first, kept-none}
+use Rattle.evm_asm.proofs.Line_by_line.{one-line, line-is, no-lines, after-less, code-within, kept-first, kept-none}
 use Rattle.evm_asm.proofs.Statements_without_labels.{is_kept}
 use Rattle.evm_asm.proofs.layout.lay_out.Goals as goal
 
@@ -21,6 +21,14 @@ loop-rest-init c = record {
       ∙ ap (λ (l : Spots). laid (record { lines = 0; place = source_start; labels = l; first = None }) (source_lines c.args.source.now)) c.new-labels.ensures;
   kept_so_far = λ more all. subst (λ (k : List (Option Kept)). AreKept (k ++ more) (source_lines c.args.source.now)) (sym c.new-kept.ensures) all;
 }
+
+pub returns-in-Err-clause-refused : goal.returns-in-Err-clause-refused
+returns-in-Err-clause-refused c =
+    let code : c.code_of-code.result.now ≡ code_of (before newline c.loop-rest.rest.now) = c.code_of-code.ensures ∙ ap code_of c.before-in-loop-rest.ensures in
+    let asked : c.in-Err.refused ≤ length (code_of (before newline c.loop-rest.rest.now)) + 1 = rw code at c.in-Err.ensures.refused in
+    let within = code-within c.loop-rest.rest.now in
+    let counted = c.loop-rest.invariant.counted in
+    omega arith
 
 pub loop-rest-smaller : goal.loop-rest-smaller
 loop-rest-smaller c =

@@ -8,7 +8,7 @@ use Rattle.evm_asm.specs.Items.{layout_of, lines_meant, meaning_of}
 use Rattle.evm_asm.specs.declared.item.Placed.{Placed}
 use Rattle.evm_asm.specs.declared.place.Place.{Place}
 use Rattle.evm_asm.proofs.Line_by_line.{after-less, kept-rest}
-use Rattle.evm_asm.proofs.Line_by_line.{same-line, goes-on, stops, ends}
+use Rattle.evm_asm.proofs.Line_by_line.{same-line, goes-on, stops, ends, fails-on}
 use Rattle.evm_asm.proofs.meaning.meaning.Goals as goal
 
 pub loop-rest-init : goal.loop-rest-init
@@ -30,13 +30,16 @@ push_told-requires c =
     (subst (λ (t : List ℕ). IsKept (first_kept c.loop-rest.known.now) (statement_text t)) (sym code) (kept-rest c.loop-rest.known.now c.loop-rest.rest.now some c.loop-rest.invariant.kept).0)
 
 pub returns-in-Err : goal.returns-in-Err
-returns-in-Err c = λ h.
+returns-in-Err c =
     let some : 0 < length c.loop-rest.rest.now = search rules in
     let l = layout_of c.args.source.now in
     let a = c.args.layout.now in
     let code : c.code_of-code.result.now ≡ code_of (before newline c.loop-rest.rest.now) = c.code_of-code.ensures ∙ ap code_of c.before-in-loop-rest.ensures in
-    let here = sym (same-line a.labels a.place a.first l c.requires.laid (c.loop-rest.lines + 1) c.loop-rest.place (code_of (before newline c.loop-rest.rest.now)) c.loop-rest.items.items) ∙ (rw code at c.in-Err.ensures) h in
-    sym c.loop-rest.invariant.meant_so_far ∙ stops l c.loop-rest.lines c.loop-rest.place c.loop-rest.rest.now c.loop-rest.items.items c.in-Err.fault some here
+    fails-on 1 c.in-Err.failure _ (meaning_of c.args.source.now)
+    (λ fault h.
+    let here = sym (same-line a.labels a.place a.first l c.requires.laid (c.loop-rest.lines + 1) c.loop-rest.place (code_of (before newline c.loop-rest.rest.now)) c.loop-rest.items.items) ∙ h in
+    sym c.loop-rest.invariant.meant_so_far ∙ stops l c.loop-rest.lines c.loop-rest.place c.loop-rest.rest.now c.loop-rest.items.items fault some here)
+    (rw code at c.in-Err.ensures)
 
 pub loop-rest-smaller : goal.loop-rest-smaller
 loop-rest-smaller c =
