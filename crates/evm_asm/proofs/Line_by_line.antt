@@ -1,26 +1,31 @@
 -- The loops over the lines, labels and numbers of a source do what is defined of them.
-use Rattle.std.proofs.Common.{◌≡◌, ℕ, List, [], ◌∷◌, map, Some, cond, Bool, true, false, refl, suc, ◌-◌, ◌+◌, ◌<◌, ◌≤◌, ◌++◌, ap, arith, ◌∙◌, zero, Option, None, not, ◌==◌, nat_lt, length, take, drop, sym, Result, Ok, Err}
+use Rattle.std.proofs.Common.{◌≡◌, ℕ, List, [], ◌∷◌, map, Some, cond, Bool, true, false, refl, suc, ◌-◌, ◌+◌, ◌<◌, ◌≤◌, ◌++◌, ap, arith, ◌∙◌, zero, Option, None, not, ◌==◌, nat_lt, length, take, drop, sym, subst, Result, Ok, Err}
 use Rattle.std.specs.Option.{option_map, unwrap_or}
 use Rattle.std.specs.Str.{bytes_eq}
 use Rattle.std.specs.List.{position_or_len}
 use Rattle.std.proofs.lemmas.Bool.{ltb-false}
 use Rattle.std.proofs.lemmas.List.Sums.{prefix_len-le-length}
 use Rattle.evm_asm_lexer.specs.Names.{named}
-use Rattle.evm_asm_lexer.specs.Characters.{newline}
-use Rattle.evm_asm_lexer.specs.Text.{before, after, place_by, tail}
+use Rattle.std.proofs.lemmas.List.{length-take, length-drop}
+use Rattle.evm_asm_lexer.specs.Characters.{newline, hash, colon}
+use Rattle.evm_asm_lexer.specs.Text.{before, after, has, place_by, tail, first_word, skip_blanks, is_white, is_word_byte}
 use Rattle.evm_asm_lexer.specs.declared.fault.AsmFaultKind.{AsmFaultKind}
 use Rattle.evm_asm_lexer.specs.declared.mnemonic.Section.{Section}
 use Rattle.evm_asm_lexer.specs.declared.mnemonic.Width.{Width}
 use Rattle.evm_asm_lexer.specs.Faults.{◌>>=◌}
 use Rattle.evm_asm_lexer.specs.declared.fault.AsmFault.{AsmFault}
 use Rattle.evm_asm_parser.specs.declared.spot.Spot.{Spot}
-use Rattle.evm_asm_parser.specs.Operands.{Spots, first_operand, other_operands}
+use Rattle.evm_asm_parser.specs.Operands.{Spots, first_operand, other_operands, name_in}
 use Rattle.evm_asm.specs.Programs.{repeated}
-use Rattle.evm_asm.specs.Sources.{label_at, behind_labels, Defined, with_label, defined, source_lines, in_front, code_of, Laid, laid, with_line_laid, line_laid, first_fault, IsLaid}
+use Rattle.evm_asm.specs.Sources.{label_at, behind_labels, Defined, with_label, defined, source_lines, in_front, code_of, Laid, laid, with_line_laid, line_laid, first_fault, IsLaid, statement_text}
+use Rattle.evm_asm.specs.Kept.{IsKept, AreKept, first_kept, other_kept}
+use Rattle.evm_asm_parser.specs.declared.kept.Kept.{Kept}
 use Rattle.evm_asm.specs.declared.place.Place.{Place}
+use Rattle.evm_asm.specs.declared.failure.Failure.{Failure}
+use Rattle.evm_asm.specs.declared.failure.Failure.TheVariants as failure
 use Rattle.evm_asm.specs.declared.meaning.Stop.{Stop}
 use Rattle.evm_asm.specs.declared.item.Placed.{Placed}
-use Rattle.evm_asm.specs.Items.{Fails, with_numbers, number_pushed, line_or_fault, lines_meant, and_then}
+use Rattle.evm_asm.specs.Items.{Fails, FailsBy, with_numbers, number_pushed, line_or_fault, lines_meant, and_then}
 use Rattle.evm_asm.specs.declared.meaning.Stop.TheVariants as stop
 
 -- ---- the address of the label of a name
@@ -47,6 +52,65 @@ unfolding repeated
 repeated-done count i unit bytes h =
     let e : count - i ≡ 0 = omega arith in
     ap (λ n. repeated n unit bytes) e
+
+-- what is cut from a text is no longer
+take-within : (n : ℕ) (xs : List ℕ) → length (take n xs) ≤ length xs
+take-within n xs = omega (length-take n xs, arith)
+
+drop-within : (n : ℕ) (xs : List ℕ) → length (drop n xs) ≤ length xs
+drop-within n xs = omega (length-drop n xs, arith)
+
+tail-within : (xs : List ℕ) → length (tail xs) ≤ length xs
+tail-within [] = omega arith
+tail-within (x ∷ xs) = omega arith
+
+before-within : (c : ℕ) (text : List ℕ) → length (before c text) ≤ length text
+unfolding before
+before-within c text = take-within _ text
+
+after-within : (c : ℕ) (text : List ℕ) → length (after c text) ≤ length text
+unfolding after
+after-within c text = let a = tail-within (drop (place_by (λ b. b == c) text) text) in let b = drop-within (place_by (λ b. b == c) text) text in omega arith
+
+word-within : (text : List ℕ) → length (first_word (skip_blanks text)) ≤ length text
+unfolding first_word skip_blanks
+word-within text =
+    let a = take-within (place_by (λ b. not (is_word_byte b)) (drop (place_by (λ b. not (is_white b)) text) text)) (drop (place_by (λ b. not (is_white b)) text) text) in
+    let b = drop-within (place_by (λ b. not (is_white b)) text) text in omega arith
+
+named_by : (t : Bool) (x name : List ℕ) → cond t (Some x) None ≡ Some name → x ≡ name
+named_by true x name h = cc
+named_by false x name h = cc
+
+name-within : (text name : List ℕ) → name_in text ≡ Some name → length name ≤ length text
+unfolding name_in
+name-within text name h = let a = word-within text in omega (arith, ap (λ (l : List ℕ). length l) (named_by _ (first_word (skip_blanks text)) name h))
+
+label_by : (t : Bool) (o : Option (List ℕ)) (others name rest : List ℕ) → cond t (option_map {U = List ℕ × List ℕ} (λ n. (n, others)) o) None ≡ Some (name, rest) → (o ≡ Some name) × (others ≡ rest)
+label_by true (Some n) others name rest h =
+    let e : ◌≡◌ {A = List ℕ × List ℕ} (n, others) (name, rest) = cc in
+    (ap (λ (p : List ℕ × List ℕ). Some p.0) e, ap (λ (p : List ℕ × List ℕ). p.1) e)
+label_by true None others name rest h = cc
+label_by false o others name rest h = cc
+
+pub label-within : (text name rest : List ℕ) → label_at text ≡ Some (name, rest) → (length name ≤ length text) × (length rest ≤ length text)
+unfolding label_at
+label-within text name rest h =
+    let is = label_by (has colon text) (name_in (before colon text)) (after colon text) name rest h in
+    let a = name-within (before colon text) name is.0 in
+    let b = before-within colon text in
+    let c = after-within colon text in
+    (omega arith, omega (arith, ap (λ (l : List ℕ). length l) is.1))
+
+pub code-within : (rest : List ℕ) → length (code_of (before newline rest)) ≤ length rest
+unfolding code_of
+code-within rest = let a = before-within hash (before newline rest) in let b = before-within newline rest in omega arith
+
+-- a failure of a part is one of the whole
+pub fails-on : {Y Z : Type 0} (most : ℕ) (f : Failure) (part : Result Y AsmFault) (whole : Result Z AsmFault) → ((fault : AsmFault) → part ≡ Err fault → whole ≡ Err fault)
+    → FailsBy most f part → FailsBy most f whole
+fails-on most (failure.Fault fault) part whole g h = g fault h
+fails-on most (failure.Memory shortage) part whole g h = h
 
 pub behind_labels-none : (n : ℕ) (text : List ℕ) → label_at text ≡ None → behind_labels n text ≡ text
 unfolding behind_labels
@@ -174,6 +238,24 @@ pub after-less : (c : ℕ) (rest : List ℕ) → 0 < length rest → length (aft
 after-less c [] h = absurd (omega arith)
 after-less c (b ∷ bs) h = let k = after-shorter c b bs in omega arith
 
+-- what is kept of a line, and of those behind it
+pub kept-first : (k : Option Kept) (more : List (Option Kept)) (rest : List ℕ) → 0 < length rest → IsKept k (statement_text (code_of (before newline rest)))
+    → AreKept more (source_lines (after newline rest)) → AreKept (k ∷ more) (source_lines rest)
+unfolding AreKept
+kept-first k more [] h one others = absurd (omega arith)
+kept-first k more (b ∷ bs) h one others = subst (λ ls. AreKept (k ∷ more) ls) (sym (lines-cut b bs)) (one, others)
+
+pub kept-rest : (kept : List (Option Kept)) (rest : List ℕ) → 0 < length rest → AreKept kept (source_lines rest)
+    → IsKept (first_kept kept) (statement_text (code_of (before newline rest))) × AreKept (other_kept kept) (source_lines (after newline rest))
+unfolding AreKept
+kept-rest kept [] h all = absurd (omega arith)
+kept-rest kept (b ∷ bs) h all = subst (λ ls. AreKept kept ls) (lines-cut b bs) all
+
+pub kept-none : (rest : List ℕ) → length rest ≡ 0 → AreKept [] (source_lines rest)
+unfolding AreKept source_lines
+kept-none [] h = tt
+kept-none (b ∷ bs) h = absurd (omega arith)
+
 -- ---- the meaning of a source, item by item and line by line
 
 module _ (labels : Spots) (size : ℕ) (part : Section) (width : Width) (count i : ℕ) (text : List ℕ) (so_far : List Placed) where
@@ -198,7 +280,7 @@ module _ (labels : Spots) (size : ℕ) (part : Section) (width : Width) (count i
 pub numbers-stop : (s : Stop) (labels : Spots) (size : ℕ) (part : Section) (width : Width) (count i : ℕ) (text : List ℕ) (so_far : List Placed) (whole : Result (List Placed) AsmFaultKind)
     → i < count → Fails s (number_pushed labels size part width (first_operand text) so_far)
     → with_numbers labels size part width (count - i) text so_far ≡ whole → Fails s whole
-numbers-stop stop.Memory labels size part width count i text so_far whole lt h w = tt
+numbers-stop (stop.Memory asked) labels size part width count i text so_far whole lt h w = h
 numbers-stop (stop.Fault kind) labels size part width count i text so_far whole lt h w =
     sym w ∙ one labels size part width count i text so_far lt
     ∙ ap (λ (r : Result (List Placed) AsmFaultKind). r >>= λ items. with_numbers labels size part width (count - (i + 1)) (other_operands text) items) h

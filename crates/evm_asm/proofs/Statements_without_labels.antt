@@ -1,4 +1,5 @@
--- What a statement is, and how long, doesn't depend on where the labels are; those that are instructions stand in the text.
+-- How long a statement is, and what it is where it names no label, doesn't depend on where the labels are; those that are
+-- instructions stand in the text.
 use Rattle.std.proofs.Common.{ℕ, Bool, true, false, cond, ◌==◌, Result, Ok, Err, ◌≡◌, zero, suc, not, List, [], ◌∷◌, length, Option, Some, None, ap, refl, ◌&&◌, ◌%◌, IfOk, ◌∙◌, sym, subst}
 use Rattle.evm_asm_lexer.specs.declared.fault.AsmFaultKind.{AsmFaultKind}
 use Rattle.evm_asm_lexer.specs.declared.fault.AsmFaultKind.TheVariants.{BadOperand, BadToken, UnknownName}
@@ -16,10 +17,13 @@ use Rattle.evm_asm_parser.specs.declared.operand.Number.{Number}
 use Rattle.evm_asm_parser.specs.declared.statement.Statement.{Statement}
 use Rattle.evm_asm_parser.specs.declared.statement.Statement.TheVariants.{Nothing, LoadImmediate, Space, Align, One, Branch, Jump, LoadAddress}
 use Rattle.evm_asm_parser.specs.Forms.{Slot, Register, Integer, Natural, Upper, Label, Address, FullAddress, Name, Value, Values, Form, Each, Many, form}
+use Rattle.evm_asm_parser.specs.declared.spot.Spot.{Spot}
+use Rattle.evm_asm_parser.specs.Kept.{names_label, kept_of}
 use Rattle.evm_asm_parser.proofs.Outcomes.{any_ok}
 use Rattle.evm_asm_parser.proofs.Forms_hold.{Makes, statement_holds}
 use Rattle.evm_asm.specs.declared.place.Place.{Place}
-use Rattle.evm_asm.specs.Places.{size_at, place_behind, placed, of_mnemonic, statement_in, is_directive, is_text, may_stand}
+use Rattle.evm_asm.specs.Kept.{IsKept}
+use Rattle.evm_asm.specs.Places.{section_size, here, size_at, place_behind, placed, of_mnemonic, statement_in, is_directive, is_text, may_stand}
 use Rattle.evm_asm.specs.Sources.{measured}
 use Rattle.evm_asm_lexer.specs.declared.mnemonic.Mnemonic.TheVariants as names
 use Rattle.evm_asm_parser.specs.declared.statement.Datum.TheVariants as datum
@@ -81,16 +85,17 @@ AllSame [] v w = Unit {0}
 AllSame (slot ∷ []) v w = Same slot v w
 AllSame (slot ∷ next ∷ slots) v w = Same slot v.0 w.0 × AllSame (next ∷ slots) v.1 w.1
 
-abbrev MakesAlike : Form → Type 0
-MakesAlike (Each slots makes) = (v w : Values slots) → AllSame slots v w → SameSize (makes v) (makes w)
-MakesAlike (Many width makes) = (n : ℕ) → SameSize (makes n) (makes n)
+-- a form makes statements that R relates, of values that are the same
+abbrev MakesBy : (Statement → Statement → Type 0) → Form → Type 0
+MakesBy R (Each slots makes) = (v w : Values slots) → AllSame slots v w → R (makes v) (makes w)
+MakesBy R (Many width makes) = (n : ℕ) → R (makes n) (makes n)
 
-either_alike : (t : Bool) (f g : Form) → MakesAlike f → MakesAlike g → MakesAlike (cond t f g)
-either_alike true f g h k = h
-either_alike false f g h k = k
+either_by : (R : Statement → Statement → Type 0) (t : Bool) (f g : Form) → MakesBy R f → MakesBy R g → MakesBy R (cond t f g)
+either_by R true f g h k = h
+either_by R false f g h k = k
 
 -- each row of the table makes statements of one size
-forms_alike : (count : ℕ) (m : Mnemonic) → MakesAlike (form count m)
+forms_alike : (count : ℕ) (m : Mnemonic) → MakesBy SameSize (form count m)
 unfolding place_behind size_at
 forms_alike count (names.Register op) = λ v w h. λ place. refl
 forms_alike count (names.Word op) = λ v w h. λ place. refl
@@ -101,8 +106,8 @@ forms_alike count (names.Store op) = λ v w h. λ place. refl
 forms_alike count (names.Branch op) = λ v w h. λ place. refl
 forms_alike count names.Lui = λ v w h. λ place. refl
 forms_alike count names.Auipc = λ v w h. λ place. refl
-forms_alike count names.Jal = either_alike (count == 1) _ _ (λ v w h. λ place. refl) (λ v w h. λ place. refl)
-forms_alike count names.Jalr = either_alike (count == 1) _ _ (λ v w h. λ place. refl) (λ v w h. λ place. refl)
+forms_alike count names.Jal = either_by SameSize (count == 1) _ _ (λ v w h. λ place. refl) (λ v w h. λ place. refl)
+forms_alike count names.Jalr = either_by SameSize (count == 1) _ _ (λ v w h. λ place. refl) (λ v w h. λ place. refl)
 forms_alike count (names.Bare op) = λ v w h. λ place. refl
 forms_alike count (names.Unary op) = λ v w h. λ place. refl
 forms_alike count (names.BranchSwapped op) = λ v w h. λ place. refl
@@ -117,6 +122,80 @@ forms_alike count (names.Numbers width) = λ n. λ place. refl
 forms_alike count names.Space = λ v w h. λ place. ap (λ n. place_behind place (Space n)) h
 forms_alike count names.Align = λ v w h. λ place. ap (λ n. place_behind place (Align n)) h
 forms_alike count names.Global = λ v w h. λ place. refl
+
+-- ---- a statement that names no label is the same whatever labels are known
+
+abbrev SameUnlabelled : Statement → Statement → Type 0
+SameUnlabelled s t = names_label s ≡ false → t ≡ s
+
+abbrev is_label : Slot → Bool
+is_label Label = true
+is_label slot = false
+
+abbrev none_is_label : List Slot → Bool
+none_is_label [] = true
+none_is_label (slot ∷ []) = not (is_label slot)
+none_is_label (slot ∷ next ∷ slots) = not (is_label slot) && none_is_label (next ∷ slots)
+
+same_value : (slot : Slot) → not (is_label slot) ≡ true → (v w : Value slot) → Same slot v w → w ≡ v
+same_value Register n v w h = sym h
+same_value (Integer below above) n v w h = sym h
+same_value (Natural above) n v w h = sym h
+same_value Upper n v w h = sym h
+same_value Label n v w h = cc
+same_value Address n v w h = sym h
+same_value FullAddress n v w h = sym h
+same_value Name n v w h = sym h
+
+both_true : (a b : Bool) → (a && b) ≡ true → (a ≡ true) × (b ≡ true)
+both_true true true h = (refl, refl)
+both_true true false h = cc
+both_true false b h = cc
+
+same_values : (slots : List Slot) → none_is_label slots ≡ true → (v w : Values slots) → AllSame slots v w → w ≡ v
+same_values [] n v w h = refl
+same_values (slot ∷ []) n v w h = same_value slot n v w h
+same_values (slot ∷ next ∷ slots) n v w h =
+    let each = both_true (not (is_label slot)) (none_is_label (next ∷ slots)) n in
+    ap (λ a. (a, w.1)) (same_value slot each.0 v.0 w.0 h.0) ∙ ap (λ b. (v.0, b)) (same_values (next ∷ slots) each.1 v.1 w.1 h.1)
+
+abbrev is_unlabelled : Form → Bool
+is_unlabelled (Each slots makes) = none_is_label slots
+is_unlabelled (Many width makes) = true
+
+unlabelled_form : (f : Form) → is_unlabelled f ≡ true → MakesBy SameUnlabelled f
+unlabelled_form (Each slots makes) n = λ v w h k. ap makes (same_values slots n v w h)
+unlabelled_form (Many width makes) n = λ m k. refl
+
+-- each row of the table with a label makes statements that name one
+forms_unlabelled : (count : ℕ) (m : Mnemonic) → MakesBy SameUnlabelled (form count m)
+forms_unlabelled count (names.Register op) = unlabelled_form (form count (names.Register op)) refl
+forms_unlabelled count (names.Word op) = unlabelled_form (form count (names.Word op)) refl
+forms_unlabelled count (names.Immediate op) = unlabelled_form (form count (names.Immediate op)) refl
+forms_unlabelled count (names.Shift op) = unlabelled_form (form count (names.Shift op)) refl
+forms_unlabelled count (names.Load op) = unlabelled_form (form count (names.Load op)) refl
+forms_unlabelled count (names.Store op) = unlabelled_form (form count (names.Store op)) refl
+forms_unlabelled count (names.Branch op) = λ v w h k. cc
+forms_unlabelled count names.Lui = unlabelled_form (form count names.Lui) refl
+forms_unlabelled count names.Auipc = unlabelled_form (form count names.Auipc) refl
+forms_unlabelled count names.Jal = either_by SameUnlabelled (count == 1) _ _ (λ v w h k. cc) (λ v w h k. cc)
+forms_unlabelled count names.Jalr = either_by SameUnlabelled (count == 1) _ _ (unlabelled_form (form 1 names.Jalr) refl) (unlabelled_form (form 2 names.Jalr) refl)
+forms_unlabelled count (names.Bare op) = unlabelled_form (form count (names.Bare op)) refl
+forms_unlabelled count (names.Unary op) = unlabelled_form (form count (names.Unary op)) refl
+forms_unlabelled count (names.BranchSwapped op) = λ v w h k. cc
+forms_unlabelled count (names.BranchZero op) = λ v w h k. cc
+forms_unlabelled count (names.ZeroBranch op) = λ v w h k. cc
+forms_unlabelled count names.Jump = λ v w h k. cc
+forms_unlabelled count names.JumpRegister = unlabelled_form (form count names.JumpRegister) refl
+forms_unlabelled count names.LoadImmediate = unlabelled_form (form count names.LoadImmediate) refl
+forms_unlabelled count names.LoadAddress = λ v w h k. cc
+forms_unlabelled count (names.Section s) = unlabelled_form (form count (names.Section s)) refl
+forms_unlabelled count (names.Numbers width) = unlabelled_form (form count (names.Numbers width)) refl
+forms_unlabelled count names.Space = unlabelled_form (form count names.Space) refl
+forms_unlabelled count names.Align = unlabelled_form (form count names.Align) refl
+forms_unlabelled count names.Global = unlabelled_form (form count names.Global) refl
+
+-- ---- a reading with some labels and one with others
 
 module _ (known all : Spots) where
   named_alike : (o : Option (List ℕ)) → Like Whatever (labelled known o) (labelled all o)
@@ -161,32 +240,30 @@ module _ (known all : Spots) where
   operands_alike (slot ∷ next ∷ slots) text =
       like_both (Same slot) (AllSame (next ∷ slots)) _ _ _ _ (operand_alike slot (first_operand text)) (operands_alike (next ∷ slots) (other_operands text))
 
-  said_alike : (f : Form) (text : List ℕ) → MakesAlike f → Like SameSize (said known f text) (said all f text)
-  unfolding said
-  said_alike (Each slots makes) text h =
-      like_mapped (AllSame slots) SameSize makes _ _ h (like_counted (AllSame slots) (length slots) (how_many text) _ _ (operands_alike slots text))
-  said_alike (Many width makes) text h =
-      like_either SameSize (how_many text == 0) _ _ _ _ (faults BadOperand)
-      (data_alike SameSize width (how_many text) _ _ text (values (makes (how_many text)) (makes (how_many text)) (h (how_many text))))
+  module _ (R : Statement → Statement → Type 0) (itself : (s : Statement) → R s s) (rows : (count : ℕ) (m : Mnemonic) → MakesBy R (form count m)) where
+    said_alike : (f : Form) (text : List ℕ) → MakesBy R f → Like R (said known f text) (said all f text)
+    unfolding said
+    said_alike (Each slots makes) text h =
+        like_mapped (AllSame slots) R makes _ _ h (like_counted (AllSame slots) (length slots) (how_many text) _ _ (operands_alike slots text))
+    said_alike (Many width makes) text h =
+        like_either R (how_many text == 0) _ _ _ _ (faults BadOperand)
+        (data_alike R width (how_many text) _ _ text (values (makes (how_many text)) (makes (how_many text)) (h (how_many text))))
 
-  same_reading : (r : Reading) → Like SameSize r r
-  same_reading r = like_itself SameSize r (λ s. λ place. refl)
+    statement_alike : (m : Mnemonic) (text : List ℕ) → Like R (statement_of known m text) (statement_of all m text)
+    unfolding statement_of
+    statement_alike m text = said_alike (form (how_many text) m) text (rows (how_many text) m)
 
-  statement_alike : (m : Mnemonic) (text : List ℕ) → Like SameSize (statement_of known m text) (statement_of all m text)
-  unfolding statement_of
-  statement_alike m text = said_alike (form (how_many text) m) text (forms_alike (how_many text) m)
+    mnemonic_alike : (place : Place) (o : Option Mnemonic) (text : List ℕ) → Like R (of_mnemonic known place o text) (of_mnemonic all place o text)
+    mnemonic_alike place (Some m) text = like_also R Whatever _ _ _ _ (statement_alike m text) (like_itself Whatever (placed m place) (λ a. tt))
+    mnemonic_alike place None text = faults UnknownName
 
-  mnemonic_alike : (place : Place) (o : Option Mnemonic) (text : List ℕ) → Like SameSize (of_mnemonic known place o text) (of_mnemonic all place o text)
-  mnemonic_alike place (Some m) text = like_also SameSize Whatever _ _ _ _ (statement_alike m text) (like_itself Whatever (placed m place) (λ a. tt))
-  mnemonic_alike place None text = faults UnknownName
-
-  pub reading_alike : (place : Place) (text : List ℕ) → Like SameSize (statement_in known place text) (statement_in all place text)
-  unfolding statement_in
-  reading_alike place text =
-      like_either SameSize (not (is_sound false text)) _ _ _ _ (faults BadToken)
-      (like_either SameSize (is_empty (skip_blanks text)) _ _ _ _ (same_reading (Ok Nothing))
-      (like_either SameSize (not (starts_with is_name_start (skip_blanks text))) _ _ _ _ (faults BadToken)
-      (mnemonic_alike place (mnemonic_named (first_word (skip_blanks text))) (behind_word (skip_blanks text)))))
+    reading_alike : (place : Place) (text : List ℕ) → Like R (statement_in known place text) (statement_in all place text)
+    unfolding statement_in
+    reading_alike place text =
+        like_either R (not (is_sound false text)) _ _ _ _ (faults BadToken)
+        (like_either R (is_empty (skip_blanks text)) _ _ _ _ (like_itself R (Ok Nothing) itself)
+        (like_either R (not (starts_with is_name_start (skip_blanks text))) _ _ _ _ (faults BadToken)
+        (mnemonic_alike place (mnemonic_named (first_word (skip_blanks text))) (behind_word (skip_blanks text)))))
 
 measured_by : (place : Place) (r s : Reading) → Like SameSize r s → (r >>= place_behind place) ≡ (s >>= place_behind place)
 measured_by place _ _ (values s t h) = h place
@@ -195,7 +272,63 @@ measured_by place _ _ (faults e) = refl
 -- the place behind a line doesn't depend on where the labels are, nor does the line's fault
 pub measured_alike : (known all : Spots) (place : Place) (text : List ℕ) → measured known place text ≡ measured all place text
 unfolding measured
-measured_alike known all place text = measured_by place _ _ (reading_alike known all place text)
+measured_alike known all place text = measured_by place _ _ (reading_alike known all SameSize (λ s. λ place. refl) forms_alike place text)
+
+-- ---- what is kept of a line is its statement
+
+-- where a line stands, and what stands there, matters only by its spot
+may_at : (d : Bool) (a b : Part) (t u s r : ℕ) → a ≡ b → section_size a (record { section = a; text_size = t; data_size = s }) ≡ section_size b (record { section = b; text_size = u; data_size = r })
+    → cond d true (is_text a && t % 4 == 0) ≡ cond d true (is_text b && u % 4 == 0)
+may_at true a b t u s r e h = refl
+may_at false Text Text t u s r e h = ap (λ n. n % 4 == 0) h
+may_at false Text Data t u s r e h = cc
+may_at false Data Text t u s r e h = cc
+may_at false Data Data t u s r e h = refl
+
+may_same : (m : Mnemonic) (p q : Place) → here p ≡ here q → may_stand m p ≡ may_stand m q
+unfolding may_stand
+may_same m p q h =
+    may_at (is_directive m) p.section q.section p.text_size q.text_size p.data_size q.data_size (ap (λ (s : Spot). s.section) h) (ap (λ (s : Spot). s.offset) h)
+
+also_placed : (r : Reading) (t : Bool) (p q : Place) → also r (cond t (Ok p) (Err BadOperand)) ≡ also r (cond t (Ok q) (Err BadOperand))
+unfolding also
+also_placed (Ok s) true p q = refl
+also_placed (Ok s) false p q = refl
+also_placed (Err e) true p q = refl
+also_placed (Err e) false p q = refl
+
+mnemonic_at : (labels : Spots) (p q : Place) → here p ≡ here q → (o : Option Mnemonic) (text : List ℕ) → of_mnemonic labels p o text ≡ of_mnemonic labels q o text
+unfolding placed
+mnemonic_at labels p q h (Some m) text =
+    also_placed (statement_of labels m text) (may_stand m p) p q
+    ∙ ap (λ t. also (statement_of labels m text) (cond t (Ok q) (Err BadOperand))) (may_same m p q h)
+mnemonic_at labels p q h None text = refl
+
+reading_at : (labels : Spots) (p q : Place) → here p ≡ here q → (text : List ℕ) → statement_in labels p text ≡ statement_in labels q text
+unfolding statement_in
+reading_at labels p q h text =
+    ap (λ (r : Reading). cond (not (is_sound false text)) (Err BadToken) (cond (is_empty (skip_blanks text)) (Ok Nothing) (cond (not (starts_with is_name_start (skip_blanks text))) (Err BadToken) r)))
+    (mnemonic_at labels p q h (mnemonic_named (first_word (skip_blanks text))) (behind_word (skip_blanks text)))
+
+same_ok : (s : Statement) (r : Reading) → Like SameUnlabelled (Ok s) r → names_label s ≡ false → r ≡ Ok s
+same_ok s _ (values _ t h) k = ap (λ x. Ok x) (h k)
+
+kept_where : (s : Statement) (spot : Spot) (text : List ℕ) (t : Bool) → names_label s ≡ t
+    → (names_label s ≡ false → (labels : Spots) (place : Place) → here place ≡ spot → statement_in labels place text ≡ Ok s)
+    → IsKept (cond t None (Some (record { spot = spot; statement = s }))) text
+kept_where s spot text true e h = tt
+kept_where s spot text false e h = h e
+
+kept_by : (known : Spots) (at : Place) (text : List ℕ) (r : Reading) → statement_in known at text ≡ r → IsKept (kept_of (here at) r) text
+kept_by known at text (Err e) h = tt
+kept_by known at text (Ok s) h = kept_where s (here at) text (names_label s) refl
+    (λ none labels place same.
+    reading_at labels place at same text
+    ∙ same_ok s (statement_in labels at text)
+    (subst (λ r. Like SameUnlabelled r (statement_in labels at text)) h (reading_alike known labels SameUnlabelled (λ s k. refl) forms_unlabelled at text)) none)
+
+pub is_kept : (known : Spots) (place : Place) (text : List ℕ) → IsKept (kept_of (here place) (statement_in known place text)) text
+is_kept known place text = kept_by known place text _ refl
 
 -- ---- statements that become instructions stand in the text
 

@@ -1,10 +1,12 @@
 -- What a source means: its instructions and data in their order. No instruction bits stand here.
-use Rattle.std.specs.Prelude.{◌≡◌, ℕ, zero, suc, ◌+◌, ◌-◌, ◌*◌, ◌/◌, ◌%◌, ◌&&◌, ◌==◌, nat_le, if◌then◌else◌, List, [], ◌∷◌, ◌++◌, Option, Some, None, Result, Ok, Err, ℤ, pos, neg_ℤ}
+use Rattle.std.specs.Prelude.{◌≡◌, ◌≤◌, ℕ, zero, suc, ◌+◌, ◌-◌, ◌*◌, ◌/◌, ◌%◌, ◌&&◌, ◌==◌, nat_le, if◌then◌else◌, List, [], ◌∷◌, ◌++◌, Option, Some, None, Result, Ok, Err, ℤ, pos, neg_ℤ}
 use Rattle.evm_isa.specs.declared.inst.ImmediateOp.TheVariants.{Addi, Addiw}
 use Rattle.evm_isa.specs.declared.inst.Inst.TheVariants as inst
 use Rattle.evm_asm_lexer.specs.declared.fault.AsmFault.{AsmFault}
 use Rattle.evm_asm_lexer.specs.declared.fault.AsmFaultKind.{AsmFaultKind}
 use Rattle.evm_asm_lexer.specs.declared.fault.AsmFaultKind.TheVariants.{RangeOfImmediate, LabelMissing, NoMemory}
+use Rattle.evm_asm.specs.declared.failure.Failure.{Failure}
+use Rattle.evm_asm.specs.declared.failure.Failure.TheVariants as failure
 use Rattle.evm_asm.specs.declared.meaning.Stop.{Stop}
 use Rattle.evm_asm.specs.declared.meaning.Stop.TheVariants as stop
 use Rattle.evm_asm.specs.declared.item.Expansion.{Expansion}
@@ -187,19 +189,25 @@ meaning_of source = lines_meant (layout_of source) 0 source_start (source_lines 
 abbrev pub NoFaultIsIgnored : Type 0
 NoFaultIsIgnored = (source : List ℕ) (items : List Placed) → meaning_of source ≡ Ok items → (layout_of source).first ≡ None
 
--- What a function returned, seen by view, is what is meant, unless memory ran out.
+-- What a function returned, seen by view, is what is meant, unless room for one element more was refused.
 abbrev pub Fails : {Y : Type 0} → Stop → Result Y AsmFaultKind → Type 0
-Fails stop.Memory meant = Unit {0}
+Fails (stop.Memory asked) meant = asked ≤ 1
 Fails (stop.Fault kind) meant = meant ≡ Err kind
 
 abbrev pub IsMeant : {X Y : Type 0} → (X → Y) → Result X Stop → Result Y AsmFaultKind → Type 0
 IsMeant view (Ok x) meant = meant ≡ Ok (view x)
 IsMeant view (Err e) meant = Fails e meant
 
--- A fault that was told is the source's, unless memory ran out.
-abbrev pub Refused : {Y : Type 0} → AsmFault → Result Y AsmFault → Type 0
-Refused fault meant = (fault.kind ≡ NoMemory → ⊥) → meant ≡ Err fault
+-- The same of a source or its items, unless room for so many more was refused.
+abbrev pub FailsBy : {Y : Type 0} → ℕ → Failure → Result Y AsmFault → Type 0
+FailsBy most (failure.Fault fault) meant = meant ≡ Err fault
+FailsBy most (failure.Memory shortage) meant = shortage.refused ≤ most
 
+abbrev pub Gives : {X Y : Type 0} → (X → Y) → ℕ → Result X Failure → Result Y AsmFault → Type 0
+Gives view most (Ok x) meant = meant ≡ Ok (view x)
+Gives view most (Err e) meant = FailsBy most e meant
+
+-- A fault that was told is the source's, unless memory ran out.
 abbrev pub Tells : {X Y : Type 0} → (X → Y) → Result X AsmFault → Result Y AsmFault → Type 0
 Tells view (Ok x) meant = meant ≡ Ok (view x)
-Tells view (Err e) meant = Refused e meant
+Tells view (Err e) meant = (e.kind ≡ NoMemory → ⊥) → meant ≡ Err e

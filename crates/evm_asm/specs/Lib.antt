@@ -1,6 +1,7 @@
 pub mod Places
 pub mod Sources
 pub mod Items
+pub mod Kept
 pub mod Programs
 pub mod Views
 pub mod Assembled

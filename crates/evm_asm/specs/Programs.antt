@@ -5,6 +5,8 @@ use Rattle.evm_isa.specs.declared.inst.Inst.{Inst}
 use Rattle.evm_isa.specs.Encoded.{encoded}
 use Rattle.evm_asm_lexer.specs.declared.fault.AsmFault.{AsmFault}
 use Rattle.evm_asm_lexer.specs.declared.fault.AsmFaultKind.TheVariants.{RangeOfImmediate}
+use Rattle.evm_asm.specs.declared.failure.Failure.{Failure}
+use Rattle.evm_asm.specs.declared.failure.Failure.TheVariants as failure
 use Rattle.evm_asm.specs.declared.item.Item.{Item}
 use Rattle.evm_asm.specs.declared.item.Item.TheVariants as item
 use Rattle.evm_asm.specs.declared.item.Placed.{Placed}
@@ -70,3 +72,8 @@ spelled (p ∷ ps) s = and_then (spelled_item p.section p.item s) (spelled ps)
 abbrev pub program_bytes : List ℕ → List ℕ → List ℕ
 program_bytes text [] = text
 program_bytes text (b ∷ bs) = repeated ((4096 - length text % 4096) % 4096) (0 ∷ []) text ++ b ∷ bs
+
+-- For contracts of bodies: what was pushed of no line of its own.
+abbrev pub noted : Result (Unit {0}) ℕ → Result (Unit {0}) Failure
+noted (Ok x) = Ok x
+noted (Err asked) = Err (failure.Memory (record { line = 1; refused = asked }))

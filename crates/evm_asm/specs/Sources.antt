@@ -12,6 +12,7 @@ use Rattle.evm_asm_lexer.specs.Faults.{least, ◌>>=◌}
 use Rattle.evm_asm_lexer.specs.Text.{before, after, has}
 use Rattle.evm_asm_lexer.specs.Names.{named}
 use Rattle.evm_asm_parser.specs.Operands.{Spots, name_in}
+use Rattle.evm_asm_parser.specs.Statements.{Reading}
 use Rattle.evm_asm.specs.Places.{here, place_behind, statement_in}
 
 abbrev pub in_front : ℕ → List (List ℕ) → List (List ℕ)
@@ -62,8 +63,12 @@ outcome place false (Err kind) = (place, Some kind)
 outcome place true (Ok next) = (place, Some LabelTwice)
 outcome place true (Err kind) = (place, Some (least LabelTwice kind))
 
+-- the place behind what is read
+abbrev pub behind : Place → Reading → Result Place AsmFaultKind
+behind place reading = reading >>= place_behind place
+
 unfoldable pub measured : Spots → Place → List ℕ → Result Place AsmFaultKind
-measured labels place text = statement_in labels place text >>= place_behind place
+measured labels place text = behind place (statement_in labels place text)
 
 abbrev pub line_defined : Spots → Place → List ℕ → Defined
 line_defined labels place code = defined (length code) (here place) code (record { labels = labels; twice = false })

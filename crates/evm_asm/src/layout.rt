@@ -1,15 +1,17 @@
 //! The lines of a source, its labels, and where they are.
 
-ghost use Rattle.std.specs.Prelude.{◌≡◌, IfOk, IfErr, length, false};
+ghost use Rattle.std.specs.Prelude.{◌≡◌, ◌≤◌, ◌+◌, IfOk, IfErr, OnOk, length, false, [], ◌∷◌, ◌++◌};
 ghost use Rattle.std.specs.Option.{option_map};
-ghost use Rattle.evm_asm_lexer.specs.declared.fault.AsmFaultKind.TheVariants.{NoMemory};
-ghost use Rattle.evm_asm.specs.Sources.{code_of, label_at, behind_labels, with_label, defined, outcome, measured, line_laid, first_fault, laid, nothing_laid, source_lines, source_start, IsLaid};
-ghost use Rattle.evm_asm.specs.Places.{here};
+ghost use Rattle.evm_asm_parser.specs.Kept.{kept_of};
+ghost use Rattle.evm_asm.specs.Sources.{code_of, label_at, behind_labels, with_label, defined, statement_text, outcome, behind, line_laid, first_fault, laid, nothing_laid, source_lines, source_start, IsLaid};
+ghost use Rattle.evm_asm.specs.Kept.{AreKept};
+ghost use Rattle.evm_asm.specs.Places.{here, statement_in};
 
+use crate::failure::Shortage;
 use crate::place::{Place, here, place_behind, source_start, statement_in};
 use evm_asm_lexer::{AsmFault, AsmFaultKind, after, before, has, least};
-use evm_asm_parser::{Labels, Spot, name_in};
-use std::alloc::{AllocError, Global};
+use evm_asm_parser::{KeptLines, Labels, Reading, Refused, Spot, name_in};
+use std::alloc::Global;
 
 /// A line without its comment.
 #[tactic(auto, unfolding(crate::specs::Sources::code_of))]
@@ -54,8 +56,9 @@ fn add_label(
     spot: Spot,
     name: &[u8],
     twice: bool,
-) -> Result<bool, AllocError>
-    ensures { IfOk result (λ after. record { labels = labels.new; twice = after } ≡ with_label spot name.now (record { labels = labels.old; twice = twice })) }
+) -> Result<bool, Refused>
+    ensures refused { IfErr result (λ asked. asked ≤ length name.now + 1) }
+    ensures added { IfOk result (λ after. record { labels = labels.new; twice = after } ≡ with_label spot name.now (record { labels = labels.old; twice = twice })) }
 {
     if labels.find(name).is_some() {
         return Ok(true);
@@ -65,8 +68,9 @@ fn add_label(
 }
 
 /// Adds the labels at the front of a text; true where one came twice.
-fn define(alloc: Global, labels: &mut Labels, spot: Spot, text: &[u8]) -> Result<bool, AllocError>
-    ensures { IfOk result (λ after. record { labels = labels.new; twice = after } ≡ defined (length text.now) spot text.now (record { labels = labels.old; twice = false })) }
+fn define(alloc: Global, labels: &mut Labels, spot: Spot, text: &[u8]) -> Result<bool, Refused>
+    ensures refused { IfErr result (λ asked. asked ≤ length text.now + 1) }
+    ensures defined { IfOk result (λ after. record { labels = labels.new; twice = after } ≡ defined (length text.now) spot text.now (record { labels = labels.old; twice = false })) }
 {
     let mut twice = false;
     let mut rest = text;
@@ -107,27 +111,32 @@ fn outcome(
     }
 }
 
-#[tactic(auto, unfolding(crate::specs::Sources::measured))]
-fn measured(labels: &Labels, place: Place, text: &[u8]) -> Result<Place, AsmFaultKind>
-    ensures { result ≡ measured labels.now place text.now }
+/// The place behind what is read.
+fn behind(place: Place, reading: &Reading) -> Result<Place, AsmFaultKind>
+    ensures { result ≡ behind place reading.now }
 {
-    match statement_in(labels, place, text) {
-        Ok(statement) => place_behind(place, statement),
-        Err(kind) => Err(kind),
+    match reading {
+        Ok(statement) => place_behind(place, *statement),
+        Err(kind) => Err(*kind),
     }
 }
 
-#[tactic(auto, unfolding(crate::specs::Sources::line_laid))]
+#[tactic(auto, unfolding(crate::specs::Sources::line_laid, crate::specs::Sources::measured))]
 fn lay_line(
     alloc: Global,
     labels: &mut Labels,
+    kept: &mut KeptLines,
     place: Place,
     code: &[u8],
-) -> Result<(Place, Option<AsmFaultKind>), AllocError>
-    ensures { IfOk result (λ after. (labels.new, after) ≡ line_laid labels.old place code.now) }
+) -> Result<(Place, Option<AsmFaultKind>), Refused>
+    ensures laid { IfOk result (λ after. (labels.new, after) ≡ line_laid labels.old place code.now) }
+    ensures refused { IfErr result (λ asked. asked ≤ length code.now + 1) }
+    ensures kept { OnOk result (kept.new ≡ kept.old ++ kept_of (here place) (statement_in labels.new place (statement_text code.now)) ∷ []) }
 {
     let twice = define(alloc, labels, here(place), code)?;
-    let end = measured(labels, place, statement_text(code));
+    let reading = statement_in(labels, place, statement_text(code));
+    kept.keep(here(place), &reading)?;
+    let end = behind(place, &reading);
     Ok(outcome(place, twice, end))
 }
 
@@ -150,24 +159,27 @@ pub struct Layout {
     pub first: Option<AsmFault>,
 }
 
-/// Lays out a source.
-pub fn lay_out(alloc: Global, source: &[u8]) -> Result<Layout, AsmFault>
-    ensures laid { IfOk result (λ l. IsLaid l.labels l.place l.first (laid nothing_laid (source_lines source.now))) }
-    ensures memory { IfErr result (λ e. e.kind ≡ NoMemory) }
+/// Lays out a source, and keeps of its lines what need not be read again.
+pub fn lay_out(alloc: Global, source: &[u8]) -> Result<(Layout, KeptLines), Shortage>
+    ensures laid { IfOk result (λ r. IsLaid r.0.labels r.0.place r.0.first (laid nothing_laid (source_lines source.now))) }
+    ensures kept { IfOk result (λ r. AreKept r.1 (source_lines source.now)) }
+    // It gives up only where a growth was refused that is hardly greater than the source.
+    ensures refused { IfErr result (λ shortage. shortage.refused ≤ length source.now + 1) }
 {
     let mut labels = Labels::new(alloc);
+    let mut kept = KeptLines::new(alloc);
     let mut place = source_start();
     let mut first = None;
     let mut lines: u64 = 0;
     let mut rest = source;
     while !rest.is_empty() {
         let code = code_of(before(b'\n', rest));
-        let (next, fault) = match lay_line(alloc, &mut labels, place, code) {
+        let (next, fault) = match lay_line(alloc, &mut labels, &mut kept, place, code) {
             Ok(laid) => laid,
-            Err(_) => {
-                return Err(AsmFault {
+            Err(refused) => {
+                return Err(Shortage {
                     line: lines + 1,
-                    kind: AsmFaultKind::NoMemory,
+                    refused,
                 });
             }
         };
@@ -176,9 +188,10 @@ pub fn lay_out(alloc: Global, source: &[u8]) -> Result<Layout, AsmFault>
         place = next;
         rest = after(b'\n', rest);
     }
-    Ok(Layout {
+    let layout = Layout {
         labels,
         place,
         first,
-    })
+    };
+    Ok((layout, kept))
 }

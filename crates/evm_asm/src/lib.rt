@@ -1,6 +1,7 @@
 //! An assembler of RV64I.
 #![tactic(auto)]
 
+mod failure;
 mod fault_laws;
 mod item;
 mod laws;

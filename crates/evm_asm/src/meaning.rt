@@ -1,32 +1,36 @@
 //! The items of a source, line by line.
 
 ghost use Rattle.std.specs.Prelude.{◌≡◌, Ok, IfOk, IfErr};
-ghost use Rattle.evm_asm.specs.Places.{place_behind};
-ghost use Rattle.evm_asm.specs.Sources.{IsLaid};
-ghost use Rattle.evm_asm.specs.Items.{IsMeant, Refused, Tells, unless_stopped, line_or_fault, layout_of, with_item, with_instructions, number_pushed, with_numbers, operands, with_statement, statement_meant, line_meant, least_so_far, stop_at, lines_meant, meaning_of};
+ghost use Rattle.evm_asm.specs.Places.{place_behind, statement_in};
+ghost use Rattle.evm_asm.specs.Sources.{IsLaid, source_lines, statement_text};
+ghost use Rattle.evm_asm.specs.Kept.{IsKept, AreKept, first_kept, other_kept};
+ghost use Rattle.evm_asm.specs.Items.{IsMeant, Gives, unless_stopped, line_or_fault, layout_of, with_item, with_instructions, number_pushed, with_numbers, operands, with_statement, statement_meant, line_meant, least_so_far, stop_at, lines_meant, meaning_of};
 
+use crate::failure::{Failure, Shortage};
 use crate::item::{Expansion, Item, Placed, TEXT_BASE, expanded, filling, value_in};
 use crate::layout::{Layout, code_of, statement_text};
-use crate::place::{Place, place_behind, source_start, statement_in};
+use crate::place::{Place, here, place_behind, source_start, statement_in};
 use evm_asm_lexer::{
     AsmFault, AsmFaultKind, Section, Width, after, before, behind_word, least, skip_blanks,
 };
-use evm_asm_parser::{Labels, Statement, first_operand, other_operands};
+use evm_asm_parser::{
+    Kept, KeptLines, Labels, Reading, Refused, Statement, first_operand, other_operands, push,
+};
 use std::alloc::Global;
 
-/// Why the meaning of a line is not told: an allocation was refused, or the line has a fault.
-#[derive(Clone, Copy)]
+/// Why the meaning of a line is not told: a growth was refused, or the line has a fault.
+#[derive(Drop)]
 pub enum Stop {
-    Memory,
+    Memory(Refused),
     Fault(AsmFaultKind),
 }
 
 fn push_item(items: &mut Vec<Placed>, section: Section, item: Item) -> Result<(), Stop>
     ensures { IsMeant (λ _. items.new.items) result (Ok (with_item section item items.old.items)) }
 {
-    match items.push(Placed { section, item }) {
+    match push(items, Placed { section, item }) {
         Ok(()) => Ok(()),
-        Err(_) => Err(Stop::Memory),
+        Err(refused) => Err(Stop::Memory(refused)),
     }
 }
 
@@ -152,7 +156,18 @@ fn push_placed(
     }
 }
 
-/// Adds the items of a line; the place behind it.
+/// What the text behind the labels of a line says, of which this is kept.
+fn reading(labels: &Labels, place: Place, text: &[u8], kept: Option<Kept>) -> Reading
+    requires { IsKept kept text.now }
+    ensures { result ≡ statement_in labels.now place text.now }
+{
+    match kept {
+        Some(kept) if kept.spot == here(place) => Ok(kept.statement),
+        _ => statement_in(labels, place, text),
+    }
+}
+
+/// Adds the items of a line, of which this is kept; the place behind it.
 #[tactic(auto, unfolding(crate::specs::Items::line_meant))]
 fn push_line(
     items: &mut Vec<Placed>,
@@ -161,10 +176,12 @@ fn push_line(
     line: u64,
     place: Place,
     text: &[u8],
+    kept: Option<Kept>,
 ) -> Result<Place, Stop>
+    requires { IsKept kept text.now }
     ensures { IsMeant (λ next. (next, items.new.items)) result (line_meant labels.now text_size line place text.now items.old.items) }
 {
-    match statement_in(labels, place, text) {
+    match reading(labels, place, text, kept) {
         Ok(statement) => push_placed(items, labels, text_size, line, place, text, &statement),
         Err(kind) => Err(Stop::Fault(kind)),
     }
@@ -214,7 +231,7 @@ fn unless_stopped(stop: Option<AsmFault>, place: Place) -> Result<Place, AsmFaul
     }
 }
 
-/// Adds the items of a line; the place behind it, or the least of its faults.
+/// Adds the items of a line, of which this is kept; the place behind it, or the least of its faults.
 #[tactic(auto, unfolding(crate::specs::Items::line_or_fault))]
 fn push_told(
     items: &mut Vec<Placed>,
@@ -222,8 +239,10 @@ fn push_told(
     line: u64,
     place: Place,
     code: &[u8],
-) -> Result<Place, AsmFault>
-    ensures { Tells (λ next. (next, items.new.items)) result (line_or_fault layout.now.labels layout.now.place.text_size layout.now.first line place code.now items.old.items) }
+    kept: Option<Kept>,
+) -> Result<Place, Failure>
+    requires { IsKept kept (statement_text code.now) }
+    ensures { Gives (λ next. (next, items.new.items)) 1 result (line_or_fault layout.now.labels layout.now.place.text_size layout.now.first line place code.now items.old.items) }
 {
     let text_size = layout.place.text_size;
     match push_line(
@@ -233,33 +252,69 @@ fn push_told(
         line,
         place,
         statement_text(code),
+        kept,
     ) {
-        Ok(next) => unless_stopped(stop_at(layout.first, line), next),
-        Err(Stop::Memory) => Err(AsmFault {
-            line,
-            kind: AsmFaultKind::NoMemory,
-        }),
-        Err(Stop::Fault(kind)) => Err(least_so_far(layout.first, line, kind)),
+        Ok(next) => match unless_stopped(stop_at(layout.first, line), next) {
+            Ok(next) => Ok(next),
+            Err(fault) => Err(Failure::Fault(fault)),
+        },
+        Err(Stop::Memory(refused)) => Err(Failure::Memory(Shortage { line, refused })),
+        Err(Stop::Fault(kind)) => Err(Failure::Fault(least_so_far(layout.first, line, kind))),
     }
 }
 
-/// The items that a source means.
-pub fn meaning(alloc: Global, source: &[u8], layout: &Layout) -> Result<Vec<Placed>, AsmFault>
-    requires { IsLaid layout.now.labels layout.now.place layout.now.first (layout_of source.now) }
-    ensures { Tells (λ v. v.items) result (meaning_of source.now) }
+/// What is kept of the first line.
+fn first_kept(kept: &[Option<Kept>]) -> Option<Kept>
+    ensures { result ≡ first_kept kept.now }
+{
+    match kept {
+        [] => None,
+        [first, ..] => *first,
+    }
+}
+
+/// What is kept of the lines behind the first.
+fn other_kept(kept: &[Option<Kept>]) -> &[Option<Kept>]
+    ensures { result.now ≡ other_kept kept.now }
+{
+    match kept {
+        [] => &[],
+        [_, others @ ..] => others,
+    }
+}
+
+/// The items that a source means, of whose lines this is kept.
+pub fn meaning(
+    alloc: Global,
+    source: &[u8],
+    layout: &Layout,
+    kept: KeptLines,
+) -> Result<Vec<Placed>, Failure>
+    requires laid { IsLaid layout.now.labels layout.now.place layout.now.first (layout_of source.now) }
+    requires kept { AreKept kept (source_lines source.now) }
+    ensures { Gives (λ v. v.items) 1 result (meaning_of source.now) }
 {
     let mut items = Vec::new(alloc);
     let mut place = source_start();
     let mut lines: u64 = 0;
     let mut rest = source;
+    let mut known = kept.lines();
     while !rest.is_empty() {
         let code = code_of(before(b'\n', rest));
-        match push_told(&mut items, layout, lines + 1, place, code) {
+        match push_told(
+            &mut items,
+            layout,
+            lines + 1,
+            place,
+            code,
+            first_kept(known),
+        ) {
             Ok(next) => place = next,
-            Err(fault) => return Err(fault),
+            Err(failure) => return Err(failure),
         }
         lines += 1;
         rest = after(b'\n', rest);
+        known = other_kept(known);
     }
     Ok(items)
 }

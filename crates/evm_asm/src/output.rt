@@ -1,18 +1,19 @@
 //! The words and bytes of what a source means.
 
-ghost use Rattle.std.specs.Prelude.{◌≡◌, ◌≤◌, Ok, [], length, IfOk, OnOk, IfErr, IsOk};
-ghost use Rattle.evm_asm.specs.Items.{Tells, IsMeant};
-ghost use Rattle.evm_asm_lexer.specs.declared.fault.AsmFaultKind.TheVariants.{NoMemory};
+ghost use Rattle.std.specs.Prelude.{◌≡◌, ◌≤◌, Ok, Err, [], length, IfOk, OnOk, IfErr};
+ghost use Rattle.evm_asm.specs.Items.{Gives};
 ghost use Rattle.evm_isa.specs.Encoded.{encoded};
 ghost use Rattle.evm_asm.specs.Views.{view};
-ghost use Rattle.evm_asm.specs.Programs.{Spelled, nothing_spelled, with_bytes, repeated, with_repeated, number_bytes, nop_bytes, with_word, worded, spelled_item, spelled, program_bytes};
+ghost use Rattle.evm_asm.specs.Programs.{Spelled, nothing_spelled, with_bytes, repeated, with_repeated, number_bytes, nop_bytes, with_word, worded, spelled_item, spelled, program_bytes, noted};
 ghost use Rattle.evm_asm.specs.Places.{bytes_in};
 
+use crate::failure::{Failure, Shortage};
 use crate::item::{Item, Placed, TEXT_BASE};
 use crate::place::bytes_in;
 use evm_asm_lexer::{AsmFault, AsmFaultKind, Section, Width};
+use evm_asm_parser::{Refused, extend, push};
 use evm_isa::{Inst, encode};
-use std::alloc::{AllocError, Global};
+use std::alloc::Global;
 
 /// An instruction of a program: where it is, the source line that it comes from (from 1), its word, and the
 /// instruction that the word stands for.
@@ -32,42 +33,30 @@ pub struct Output {
     pub data_bytes: Vec<u8>,
 }
 
-/// Memory ran out in a line.
-pub fn memory(line: u64) -> AsmFault
-    ensures kind { result.kind ≡ NoMemory }
-{
-    AsmFault {
-        line,
-        kind: AsmFaultKind::NoMemory,
-    }
-}
-
-fn push_bytes(out: &mut Output, section: Section, bytes: &[u8]) -> Result<(), AllocError>
-    ensures { OnOk result (view out.new ≡ with_bytes section bytes.now (view out.old)) }
+fn push_bytes(out: &mut Output, section: Section, bytes: &[u8]) -> Result<(), Refused>
+    ensures ok { OnOk result (view out.new ≡ with_bytes section bytes.now (view out.old)) }
+    ensures refused { IfErr result (λ asked. asked ≡ length bytes.now) }
 {
     match section {
-        Section::Text => out.text_bytes.extend_from_slice(bytes),
-        Section::Data => out.data_bytes.extend_from_slice(bytes),
+        Section::Text => extend(&mut out.text_bytes, bytes),
+        Section::Data => extend(&mut out.data_bytes, bytes),
     }
 }
 
 /// Adds bytes so many times.
-fn push_repeated(bytes: &mut Vec<u8>, count: u64, unit: &[u8]) -> Result<(), AllocError>
-    ensures { OnOk result (bytes.new.items ≡ repeated count unit.now bytes.old.items) }
+fn push_repeated(bytes: &mut Vec<u8>, count: u64, unit: &[u8]) -> Result<(), Refused>
+    ensures ok { OnOk result (bytes.new.items ≡ repeated count unit.now bytes.old.items) }
+    ensures refused { IfErr result (λ asked. asked ≡ length unit.now) }
 {
     for _ in 0..count {
-        bytes.extend_from_slice(unit)?;
+        extend(bytes, unit)?;
     }
     Ok(())
 }
 
-fn push_filling(
-    out: &mut Output,
-    section: Section,
-    count: u64,
-    unit: &[u8],
-) -> Result<(), AllocError>
-    ensures { OnOk result (view out.new ≡ with_repeated section count unit.now (view out.old)) }
+fn push_filling(out: &mut Output, section: Section, count: u64, unit: &[u8]) -> Result<(), Refused>
+    ensures ok { OnOk result (view out.new ≡ with_repeated section count unit.now (view out.old)) }
+    ensures refused { IfErr result (λ asked. asked ≡ length unit.now) }
 {
     match section {
         Section::Text => push_repeated(&mut out.text_bytes, count, unit),
@@ -75,60 +64,58 @@ fn push_filling(
     }
 }
 
-fn push_number(
-    out: &mut Output,
-    section: Section,
-    width: Width,
-    value: u64,
-) -> Result<(), AllocError>
-    ensures { OnOk result (view out.new ≡ with_bytes section (number_bytes (bytes_in width) value) (view out.old)) }
+fn push_number(out: &mut Output, section: Section, width: Width, value: u64) -> Result<(), Refused>
+    ensures ok { OnOk result (view out.new ≡ with_bytes section (number_bytes (bytes_in width) value) (view out.old)) }
+    ensures refused { IfErr result (λ asked. asked ≤ 8) }
 {
     let bytes = value.to_le_bytes();
     let count = bytes_in(width) as usize;
     push_bytes(out, section, &bytes[..count])
 }
 
-fn push_word(out: &mut Output, line: u64, instruction: &Inst, word: u32) -> Result<(), AllocError>
-    ensures { OnOk result (view out.new ≡ with_word line instruction.now word (view out.old)) }
+fn push_word(out: &mut Output, line: u64, instruction: &Inst, word: u32) -> Result<(), Refused>
+    ensures ok { OnOk result (view out.new ≡ with_word line instruction.now word (view out.old)) }
+    ensures refused { IfErr result (λ asked. asked ≤ 8) }
 {
     let address = TEXT_BASE + out.text_bytes.len() as u64;
-    out.lines.push(ProgramLine {
+    let program_line = ProgramLine {
         address,
         line,
         word,
         instruction: *instruction,
-    })?;
-    out.text_bytes.extend_from_slice(&word.to_le_bytes())
+    };
+    push(&mut out.lines, program_line)?;
+    extend(&mut out.text_bytes, &word.to_le_bytes())
 }
 
-fn push_instruction(out: &mut Output, line: u64, instruction: &Inst) -> Result<(), AsmFault>
-    ensures { Tells (λ _. view out.new) result (worded line instruction.now (encoded instruction.now) (view out.old)) }
+fn push_instruction(out: &mut Output, line: u64, instruction: &Inst) -> Result<(), Failure>
+    ensures { Gives (λ _. view out.new) 8 result (worded line instruction.now (encoded instruction.now) (view out.old)) }
 {
     match encode(*instruction) {
         Some(word) => match push_word(out, line, instruction, word) {
             Ok(()) => Ok(()),
-            Err(_) => Err(memory(line)),
+            Err(refused) => Err(Failure::Memory(Shortage { line, refused })),
         },
-        None => Err(AsmFault {
+        None => Err(Failure::Fault(AsmFault {
             line,
             kind: AsmFaultKind::RangeOfImmediate,
-        }),
+        })),
     }
 }
 
-fn noted(pushed: Result<(), AllocError>) -> Result<(), AsmFault>
-    ensures ok { IsOk result → IsOk pushed }
-    ensures err { IfErr result (λ e. e.kind ≡ NoMemory) }
+/// What was pushed of no line of its own.
+fn noted(pushed: Result<(), Refused>) -> Result<(), Failure>
+    ensures { result ≡ noted pushed }
 {
     match pushed {
         Ok(()) => Ok(()),
-        Err(_) => Err(memory(1)),
+        Err(refused) => Err(Failure::Memory(Shortage { line: 1, refused })),
     }
 }
 
 #[tactic(auto, unfolding(crate::specs::Programs::spelled_item))]
-fn push_placed(out: &mut Output, section: Section, item: Item) -> Result<(), AsmFault>
-    ensures { Tells (λ _. view out.new) result (spelled_item section item (view out.old)) }
+fn push_placed(out: &mut Output, section: Section, item: Item) -> Result<(), Failure>
+    ensures { Gives (λ _. view out.new) 8 result (spelled_item section item (view out.old)) }
 {
     match item {
         Item::Instruction(line, instruction) => push_instruction(out, line, &instruction),
@@ -140,8 +127,8 @@ fn push_placed(out: &mut Output, section: Section, item: Item) -> Result<(), Asm
 
 /// The words and bytes of the items.
 #[tactic(auto, unfolding(crate::specs::Programs::spelled))]
-pub fn spell(alloc: Global, items: &[Placed]) -> Result<Output, AsmFault>
-    ensures { Tells view result (spelled items.now nothing_spelled) }
+pub fn spell(alloc: Global, items: &[Placed]) -> Result<Output, Failure>
+    ensures { Gives view 8 result (spelled items.now nothing_spelled) }
 {
     let mut out = Output {
         lines: Vec::new(alloc),
@@ -152,15 +139,16 @@ pub fn spell(alloc: Global, items: &[Placed]) -> Result<Output, AsmFault>
     while let [placed, tail @ ..] = rest {
         match push_placed(&mut out, placed.section, placed.item) {
             Ok(()) => rest = tail,
-            Err(fault) => return Err(fault),
+            Err(failure) => return Err(failure),
         }
     }
     Ok(out)
 }
 
 /// The bytes of a program: the text, and where there is data zeros up to a multiple of 4,096, and the data.
-pub fn image(text: Vec<u8>, data_bytes: &[u8]) -> Result<Vec<u8>, AllocError>
-    ensures { IfOk result (λ v. v.items ≡ program_bytes text.items data_bytes.now) }
+pub fn image(text: Vec<u8>, data_bytes: &[u8]) -> Result<Vec<u8>, Refused>
+    ensures ok { IfOk result (λ v. v.items ≡ program_bytes text.items data_bytes.now) }
+    ensures refused { IfErr result (λ asked. asked ≤ length data_bytes.now) }
 {
     if data_bytes.is_empty() {
         return Ok(text);
@@ -168,6 +156,6 @@ pub fn image(text: Vec<u8>, data_bytes: &[u8]) -> Result<Vec<u8>, AllocError>
     let mut bytes = text;
     let padding = (4096 - bytes.len() as u64 % 4096) % 4096;
     push_repeated(&mut bytes, padding, &[0])?;
-    bytes.extend_from_slice(data_bytes)?;
+    extend(&mut bytes, data_bytes)?;
     Ok(bytes)
 }

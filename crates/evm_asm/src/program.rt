@@ -1,22 +1,23 @@
 //! An assembled program.
 
-ghost use Rattle.std.specs.Prelude.{◌≡◌, ◌≤◌, IfOk, IfErr, length, slice_get, All};
+ghost use Rattle.std.specs.Prelude.{◌≡◌, ◌≤◌, ◌+◌, IfOk, IfErr, length, slice_get, All};
 ghost use Rattle.std.specs.Option.{option_map};
-ghost use Rattle.evm_asm.specs.Items.{Tells};
+ghost use Rattle.evm_asm.specs.Items.{Gives, Tells};
 ghost use Rattle.evm_asm_lexer.specs.Names.{named};
 ghost use Rattle.evm_asm.specs.Assembled.{assembled, program_of, IsWorded, StandsIn};
 ghost use Rattle.evm_asm.specs.Views.{view};
 ghost use Rattle.evm_asm.specs.Programs.{program_bytes};
 ghost use Rattle.evm_asm.specs.Bounds.{bytes_max};
 
+use crate::failure::{Failure, Shortage};
 use crate::item::address;
 use crate::layout::{Layout, lay_out};
 use crate::meaning::meaning;
-use crate::output::{Output, ProgramLine, image, memory, spell};
-use evm_asm_lexer::AsmFault;
-use evm_asm_parser::Labels;
+use crate::output::{Output, ProgramLine, image, spell};
+use evm_asm_lexer::{AsmFault, AsmFaultKind};
+use evm_asm_parser::{Labels, Refused};
 use evm_isa::encoded_by_table;
-use std::alloc::{AllocError, Global};
+use std::alloc::Global;
 use std::marker::Model;
 
 /// A program: its instructions in their order, its bytes, which begin at 0x80000000 and are at most 16,777,216,
@@ -78,9 +79,10 @@ impl Program {
     }
 }
 
-fn finished(layout: Layout, out: Output) -> Result<Program, AllocError>
+fn finished(layout: Layout, out: Output) -> Result<Program, Refused>
     requires { length (program_bytes (view out).text_bytes (view out).data_bytes) ≤ bytes_max }
-    ensures { IfOk result (λ p. p ≡ assembled layout.place.text_size layout.labels (view out)) }
+    ensures ok { IfOk result (λ p. p ≡ assembled layout.place.text_size layout.labels (view out)) }
+    ensures refused { IfErr result (λ asked. asked ≤ bytes_max) }
 {
     let Output {
         lines,
@@ -101,26 +103,28 @@ fn finished(layout: Layout, out: Output) -> Result<Program, AllocError>
     })
 }
 
+/// The same, or the fault or the growth that was refused.
 #[tactic(auto, unfolding(crate::specs::Assembled::program_of))]
-fn assembled(alloc: Global, source: &str) -> Result<Program, AsmFault>
-    ensures { Tells (λ p. p) result (program_of source.now) }
+fn assembled(alloc: Global, source: &str) -> Result<Program, Failure>
+    // It gives up only where a growth was refused that is hardly greater than the source, or no greater than a program.
+    ensures { Gives (λ p. p) (length source.now + bytes_max) result (program_of source.now) }
 {
     let source = source.as_bytes();
-    let layout = match lay_out(alloc, source) {
-        Ok(layout) => layout,
-        Err(fault) => return Err(fault),
+    let (layout, kept) = match lay_out(alloc, source) {
+        Ok(laid) => laid,
+        Err(shortage) => return Err(Failure::Memory(shortage)),
     };
-    let items = match meaning(alloc, source, &layout) {
+    let items = match meaning(alloc, source, &layout, kept) {
         Ok(items) => items,
-        Err(fault) => return Err(fault),
+        Err(failure) => return Err(failure),
     };
     let out = match spell(alloc, items.as_slice()) {
         Ok(out) => out,
-        Err(fault) => return Err(fault),
+        Err(failure) => return Err(failure),
     };
     match finished(layout, out) {
         Ok(program) => Ok(program),
-        Err(_) => Err(memory(1)),
+        Err(refused) => Err(Failure::Memory(Shortage { line: 1, refused })),
     }
 }
 
@@ -134,5 +138,12 @@ pub fn assemble(alloc: Global, source: &str) -> Result<Program, AsmFault>
     ensures placed { IfOk result (λ p. All (StandsIn p.bytes) p.lines) }
 {
     encoded_by_table();
-    assembled(alloc, source)
+    match assembled(alloc, source) {
+        Ok(program) => Ok(program),
+        Err(Failure::Fault(fault)) => Err(fault),
+        Err(Failure::Memory(shortage)) => Err(AsmFault {
+            line: shortage.line,
+            kind: AsmFaultKind::NoMemory,
+        }),
+    }
 }

@@ -1,3 +1,4 @@
 pub mod Operands
 pub mod Forms
 pub mod Statements
+pub mod Kept

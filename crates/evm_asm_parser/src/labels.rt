@@ -1,12 +1,13 @@
 //! The labels of a source, in its order.
 
-ghost use Rattle.std.specs.Prelude.{◌≡◌, OnOk, slice_get, List, [], ◌∷◌, ◌++◌, None};
+ghost use Rattle.std.specs.Prelude.{◌≡◌, ◌≤◌, ◌+◌, OnOk, IfErr, slice_get, List, [], ◌∷◌, ◌++◌, None, length};
 ghost use Rattle.std.specs.Option.{option_map};
 ghost use Rattle.evm_asm_lexer.specs.Names.{named};
 
+use crate::memory::{Refused, copied, grow_by_label};
 use crate::spot::Spot;
 use indexmap::IndexMap;
-use std::alloc::{AllocError, Global};
+use std::alloc::Global;
 use std::marker::Model;
 
 /// The labels of a source, each with its spot.
@@ -52,12 +53,16 @@ impl Labels {
     }
 
     /// Adds a label behind the others.
-    pub fn add(&mut self, alloc: Global, name: &[u8], spot: Spot) -> Result<(), AllocError>
+    pub fn add(&mut self, alloc: Global, name: &[u8], spot: Spot) -> Result<(), Refused>
         requires { named self.old name.now ≡ None }
-        ensures { OnOk result (self.new ≡ self.old ++ (name.now, spot) ∷ []) }
+        ensures ok { OnOk result (self.new ≡ self.old ++ (name.now, spot) ∷ []) }
+        ensures refused { IfErr result (λ asked. asked ≤ length name.now + 1) }
     {
-        let name = Vec::from_slice(alloc, name)?;
-        self.spots.insert(name, spot)?;
-        Ok(())
+        let name = copied(alloc, name)?;
+        grow_by_label(&mut self.spots)?;
+        match self.spots.insert(name, spot) {
+            Ok(_) => Ok(()),
+            Err(_) => unreachable!(),
+        }
     }
 }

@@ -3,7 +3,9 @@
 
 mod directive;
 mod instruction;
+mod kept;
 mod labels;
+mod memory;
 mod operand;
 mod pseudo;
 mod spot;
@@ -12,7 +14,9 @@ mod target;
 
 pub use directive::{also, datum_in};
 pub use instruction::upper;
+pub use kept::{Kept, KeptLines};
 pub use labels::Labels;
+pub use memory::{Refused, extend, push};
 pub use operand::{first_operand, name_in, other_operands, starts_with_name};
 pub use spot::Spot;
 pub use statement::{Datum, Reading, Statement, statement_of, zero};

@@ -224,6 +224,23 @@ fn labels_are_kept(rt: HostRuntime) -> Result<(), Fail> {
     Ok(())
 }
 
+// A statement is kept where it names no label, and each line has a place of its own.
+#[test]
+fn statements_are_kept(rt: HostRuntime) -> Result<(), Fail> {
+    let labels = labels_with_here(&rt)?;
+    let mut kept = KeptLines::new(rt.alloc());
+    for line in ["li a0,5", "j here", "la a0,here", "addi a0,a9,0", "nop"] {
+        let Some(reading) = reading_of(&labels, line) else {
+            return Err(Fail::from(line));
+        };
+        kept.keep(HERE, &reading)
+            .map_err(|_| Fail::from("out of memory"))?;
+    }
+    let stand = kept.lines().iter().map(|line| line.is_some());
+    assert!(rt; stand.eq([true, false, false, false, true]));
+    Ok(())
+}
+
 // Each form of operands says its statement.
 #[test]
 fn each_form(rt: HostRuntime) -> Result<(), Fail> {

@@ -1,12 +1,14 @@
-use Rattle.std.proofs.Common.{◌≡◌, ◌∙◌, ◌<◌, ◌+◌, sym, ap, arith, length, rules, List, ℕ}
+use Rattle.std.proofs.Common.{◌≡◌, ◌∙◌, ◌<◌, ◌+◌, sym, ap, arith, subst, length, rules, List, ℕ, Option}
+use Rattle.evm_asm_parser.specs.declared.kept.Kept.{Kept}
+use Rattle.evm_asm.specs.Kept.{IsKept, AreKept, first_kept, other_kept}
 use Rattle.evm_asm_lexer.specs.Characters.{newline}
 use Rattle.evm_asm_lexer.specs.Text.{before}
-use Rattle.evm_asm.specs.Sources.{source_lines, code_of, source_start}
+use Rattle.evm_asm.specs.Sources.{source_lines, code_of, source_start, statement_text}
 use Rattle.evm_asm.specs.Items.{layout_of, lines_meant, meaning_of}
 use Rattle.evm_asm.specs.declared.item.Placed.{Placed}
 use Rattle.evm_asm.specs.declared.place.Place.{Place}
-use Rattle.evm_asm.proofs.Line_by_line.{after-less}
-use Rattle.evm_asm.proofs.Line_by_line.{same-line, goes-on, stops, ends}
+use Rattle.evm_asm.proofs.Line_by_line.{after-less, kept-rest}
+use Rattle.evm_asm.proofs.Line_by_line.{same-line, goes-on, stops, ends, fails-on}
 use Rattle.evm_asm.proofs.meaning.meaning.Goals as goal
 
 pub loop-rest-init : goal.loop-rest-init
@@ -17,16 +19,27 @@ loop-rest-init c = record {
       let l = layout_of c.args.source.now in
       ap (λ (p : Place). lines_meant l 0 p (source_lines c.args.source.now) c.new-items.result.items) c.source_start-place.ensures
       ∙ ap (λ (i : List Placed). lines_meant l 0 source_start (source_lines c.args.source.now) i) c.new-items.ensures.items;
+  kept = subst (λ (k : List (Option Kept)). AreKept k (source_lines c.args.source.now)) (sym c.lines-known.ensures) c.requires.kept;
 }
 
+pub push_told-requires : goal.push_told-requires
+push_told-requires c =
+    let some : 0 < length c.loop-rest.rest.now = search rules in
+    let code : c.code_of-code.result.now ≡ code_of (before newline c.loop-rest.rest.now) = c.code_of-code.ensures ∙ ap code_of c.before-in-loop-rest.ensures in
+    subst (λ (k : Option Kept). IsKept k (statement_text c.code_of-code.result.now)) (sym c.first_kept.ensures)
+    (subst (λ (t : List ℕ). IsKept (first_kept c.loop-rest.known.now) (statement_text t)) (sym code) (kept-rest c.loop-rest.known.now c.loop-rest.rest.now some c.loop-rest.invariant.kept).0)
+
 pub returns-in-Err : goal.returns-in-Err
-returns-in-Err c = λ h.
+returns-in-Err c =
     let some : 0 < length c.loop-rest.rest.now = search rules in
     let l = layout_of c.args.source.now in
     let a = c.args.layout.now in
     let code : c.code_of-code.result.now ≡ code_of (before newline c.loop-rest.rest.now) = c.code_of-code.ensures ∙ ap code_of c.before-in-loop-rest.ensures in
-    let here = sym (same-line a.labels a.place a.first l c.requires (c.loop-rest.lines + 1) c.loop-rest.place (code_of (before newline c.loop-rest.rest.now)) c.loop-rest.items.items) ∙ (rw code at c.in-Err.ensures) h in
-    sym c.loop-rest.invariant.meant_so_far ∙ stops l c.loop-rest.lines c.loop-rest.place c.loop-rest.rest.now c.loop-rest.items.items c.in-Err.fault some here
+    fails-on 1 c.in-Err.failure _ (meaning_of c.args.source.now)
+    (λ fault h.
+    let here = sym (same-line a.labels a.place a.first l c.requires.laid (c.loop-rest.lines + 1) c.loop-rest.place (code_of (before newline c.loop-rest.rest.now)) c.loop-rest.items.items) ∙ h in
+    sym c.loop-rest.invariant.meant_so_far ∙ stops l c.loop-rest.lines c.loop-rest.place c.loop-rest.rest.now c.loop-rest.items.items fault some here)
+    (rw code at c.in-Err.ensures)
 
 pub loop-rest-smaller : goal.loop-rest-smaller
 loop-rest-smaller c =
@@ -41,12 +54,16 @@ loop-rest-preserved c =
     let l = layout_of c.args.source.now in
     let a = c.args.layout.now in
     let code : c.code_of-code.result.now ≡ code_of (before newline c.loop-rest.rest.now) = c.code_of-code.ensures ∙ ap code_of c.before-in-loop-rest.ensures in
-    let here = sym (same-line a.labels a.place a.first l c.requires (c.loop-rest.lines + 1) c.loop-rest.place (code_of (before newline c.loop-rest.rest.now)) c.loop-rest.items.items) ∙ (rw code at c.in-Ok.ensures) in
+    let here = sym (same-line a.labels a.place a.first l c.requires.laid (c.loop-rest.lines + 1) c.loop-rest.place (code_of (before newline c.loop-rest.rest.now)) c.loop-rest.items.items) ∙ (rw code at c.in-Ok.ensures) in
     record {
       counted = omega (arith, ap (λ (l : List ℕ). length l) c.after-rest.ensures);
       meant_so_far =
           rw c.after-rest.ensures
           (sym (goes-on l c.loop-rest.lines c.loop-rest.place c.loop-rest.rest.now c.loop-rest.items.items c.in-Ok.next c.push_told.new.items.items some here) ∙ c.loop-rest.invariant.meant_so_far);
+      kept =
+          subst (λ (ks : List (Option Kept)). AreKept ks (source_lines c.after-rest.result.now)) (sym c.other_kept-known.ensures)
+          (subst (λ (r : List ℕ). AreKept (other_kept c.loop-rest.known.now) (source_lines r)) (sym c.after-rest.ensures)
+          (kept-rest c.loop-rest.known.now c.loop-rest.rest.now some c.loop-rest.invariant.kept).1);
     }
 
 pub returns : goal.returns

@@ -5,8 +5,8 @@ use Rattle.evm_asm.proofs.output.push_repeated.Goals as goal
 
 pub loop-preserved : goal.loop-preserved
 loop-preserved c =
-    ap (λ b. repeated (c.args.count - (c.loop.counter + 1)) c.args.unit.now b) c.in_ok-extend_from_slice.ensures.items
+    ap (λ b. repeated (c.args.count - (c.loop.counter + 1)) c.args.unit.now b) c.in_ok-extend.ensures.ok
     ∙ sym (repeated-more c.args.count c.loop.counter c.args.unit.now c.loop.bytes.items c.loop-test.true) ∙ c.loop.invariant
 
-pub returns : goal.returns
-returns c = sym (repeated-done c.args.count c.loop.counter c.args.unit.now c.loop.bytes.items c.loop-test.false) ∙ c.loop.invariant
+pub returns-clause-ok : goal.returns-clause-ok
+returns-clause-ok c = sym (repeated-done c.args.count c.loop.counter c.args.unit.now c.loop.bytes.items c.loop-test.false) ∙ c.loop.invariant

@@ -1,0 +1,18 @@
+//! Why a source has no program.
+
+use evm_asm_lexer::AsmFault;
+use evm_asm_parser::Refused;
+
+/// A growth was refused in a line.
+#[derive(Drop)]
+pub struct Shortage {
+    pub line: u64,
+    pub refused: Refused,
+}
+
+/// Why a source has no program: it has a fault, or memory ran out.
+#[derive(Drop)]
+pub enum Failure {
+    Fault(AsmFault),
+    Memory(Shortage),
+}
