@@ -72,16 +72,26 @@ owners_below-longer m end mutexes below = longer (λ n. owners_below n mutexes) 
 pub stages_below-longer : (c end : ℕ) (k : Parts) → c < end → length (stages_below c k) + length (stages_or_none c (slice_get k.processors c) (stages_at c k)) ≤ length (stages_below end k)
 stages_below-longer c end k below = longer (λ n. stages_below n k) (λ n. stages_or_none n (slice_get k.processors n) (stages_at n k)) (λ n. stages_below-more n k) c end below
 
+-- nor is it alone
+pub tasks_below-line : (t end : ℕ) (k : Parts) → t < end → length (task_text t (slice_get k.tasks t) (slice_get k.harts t)) ≤ length (tasks_below end k)
+tasks_below-line t end k below = let h = tasks_below-longer t end k below in omega (arith, h)
+
+pub owners_below-line : (m end : ℕ) (mutexes : List Mutex) → m < end → length (owner_text m (slice_get mutexes m)) ≤ length (owners_below end mutexes)
+owners_below-line m end mutexes below = let h = owners_below-longer m end mutexes below in omega (arith, h)
+
+pub stages_below-line : (c end : ℕ) (k : Parts) → c < end → length (stages_or_none c (slice_get k.processors c) (stages_at c k)) ≤ length (stages_below end k)
+stages_below-line c end k below = let h = stages_below-longer c end k below in omega (arith, h)
+
 -- what holds anyhow holds where there is an error
 pub on_err : {A E : Type 0} (r : Result A E) (P : Type 0) → P → OnErr r P
 on_err (Ok x) P p = tt
 on_err (Err e) P p = p
 
-pub ruleset tasks = (tasks_below-none, tasks_below-more)
+pub ruleset tasks = (tasks_below-none, tasks_below-more, tasks_below-line)
 
-pub ruleset owners = (owners_below-none, owners_below-more)
+pub ruleset owners = (owners_below-none, owners_below-more, owners_below-line)
 
-pub ruleset stages = (stages_below-none, stages_below-more)
+pub ruleset stages = (stages_below-none, stages_below-more, stages_below-line)
 
 pub ruleset lengths = (length-append, append_assoc)
 

@@ -1,5 +1,6 @@
 -- The views of a machine as text; each line ends with a newline.
-use Rattle.std.specs.Prelude.{ℕ, zero, suc, ◌+◌, ◌/◌, ◌%◌, List, [], ◌∷◌, ◌++◌, Option, Some, None, Bool, codes, slice_get, length, if◌then◌else◌, ◌==◌, nat_lt, Result, Ok, Err, ◌≡◌, ⊤}
+use Rattle.std.specs.Prelude.{ℕ, zero, suc, ◌+◌, ◌/◌, ◌%◌, List, [], ◌∷◌, ◌++◌, Option, Some, None, Bool, codes, slice_get, length, if◌then◌else◌, ◌==◌, nat_lt, Result, Ok, Err, IsOkAnd, ◌≡◌}
+use Rattle.evm_room.specs.Growth.{RefusedWithin}
 use Rattle.evm_text.specs.Written.{decimal, hexadecimal_padded, pairs}
 use Rattle.evm_ram.specs.Ram.{bytes_at}
 use Rattle.evm_ram.specs.declared.refusal.Refusal.{Refusal}
@@ -204,7 +205,15 @@ shown (CountsView c l) s = counts_shown (stages_at c s.board.parts) (counts_at c
 shown Journal s = Ok (journal_text s.boot s.journal)
 shown Console s = Ok (pairs s.board.parts.console ++ codes "\n")
 
+-- what is shown stands behind what stood there
+abbrev pub Shows : Result (List ℕ) Refusal → List ℕ → List ℕ → Type 0
+Shows shown old new = IsOkAnd shown (λ text. new ≡ old ++ text)
+
+-- memory ran out for a text: a growth was refused that is no greater than the text
+abbrev pub LacksMemory : Result (List ℕ) Refusal → Type 0
+LacksMemory shown = IsOkAnd shown (λ text. RefusedWithin (length text))
+
 -- what the code answers is what is shown, unless memory runs out
 abbrev pub ViewFails : ViewRefusal → Result (List ℕ) Refusal → Type 0
 ViewFails (Refused r) shown = shown ≡ Err r
-ViewFails NoMemory shown = ⊤
+ViewFails NoMemory shown = LacksMemory shown

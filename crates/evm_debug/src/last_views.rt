@@ -1,21 +1,24 @@
 //! What is shown of a machine at the end of a replay.
 
-ghost use Rattle.std.specs.Prelude.{◌≡◌, ◌<◌, ◌≤◌, ◌+◌, ◌++◌, length, slice_get, OnOk, OnErr, IfOk};
+ghost use Rattle.std.specs.Prelude.{◌≡◌, ◌<◌, ◌≤◌, ◌+◌, ◌++◌, length, slice_get, OnOk, OnErr, IfOk, IfErr};
 ghost use Rattle.std.specs.String.{string_bytes, string_capacity, string_len};
 ghost use Rattle.evm_core.specs.Views.{stages_at};
 ghost use Rattle.evm_debug.specs.Summary.{stages_below, stages_or_none, summary_text};
+ghost use Rattle.evm_room.specs.Growth.{RefusedWithin};
 
 use crate::views::{push_owners, push_stages, push_tasks};
 use evm_core::Machine;
 use evm_ram::NoMemory;
-use std::alloc::{AllocError, Global};
+use evm_room::Refused;
+use std::alloc::Global;
 
 // The stages of the processor of a number, if there is one.
-fn push_stages_of(out: &mut String, c: u8, machine: &Machine) -> Result<(), AllocError>
+fn push_stages_of(out: &mut String, c: u8, machine: &Machine) -> Result<(), Refused>
     ensures ok { OnOk result (string_bytes out.new ≡ string_bytes out.old ++ stages_or_none c (slice_get machine.now.board.parts.processors c) (stages_at c machine.now.board.parts)) }
-    // It gives up only where there is no room for the text.
+    // It gives up only where there is no room for the text, and a growth by no more than the text was refused.
     ensures len { OnOk result (string_len out.new ≡ string_len out.old + length (stages_or_none c (slice_get machine.now.board.parts.processors c) (stages_at c machine.now.board.parts))) }
     ensures full { OnErr result (string_capacity out.old < string_len out.old + length (stages_or_none c (slice_get machine.now.board.parts.processors c) (stages_at c machine.now.board.parts))) }
+    ensures refused { IfErr result (λ asked. asked ≤ length (stages_or_none c (slice_get machine.now.board.parts.processors c) (stages_at c machine.now.board.parts))) }
     ensures capacity { string_capacity out.old ≤ string_capacity out.new }
 {
     let Some(processor) = machine.cpu(c) else {
@@ -28,11 +31,12 @@ fn push_stages_of(out: &mut String, c: u8, machine: &Machine) -> Result<(), Allo
 }
 
 #[tactic(auto, using(crate::proofs::Below::stages))]
-fn push_all_stages(out: &mut String, machine: &Machine) -> Result<(), AllocError>
+fn push_all_stages(out: &mut String, machine: &Machine) -> Result<(), Refused>
     ensures ok { OnOk result (string_bytes out.new ≡ string_bytes out.old ++ stages_below (length machine.now.board.parts.processors) machine.now.board.parts) }
-    // It gives up only where there is no room for the text.
+    // It gives up only where there is no room for the text, and a growth by no more than the text was refused.
     ensures len { OnOk result (string_len out.new ≡ string_len out.old + length (stages_below (length machine.now.board.parts.processors) machine.now.board.parts)) }
     ensures full { OnErr result (string_capacity out.old < string_len out.old + length (stages_below (length machine.now.board.parts.processors) machine.now.board.parts)) }
+    ensures refused { IfErr result (λ asked. asked ≤ length (stages_below (length machine.now.board.parts.processors) machine.now.board.parts)) }
     ensures capacity { string_capacity out.old ≤ string_capacity out.new }
 {
     for c in 0..machine.cpu_count() {
@@ -41,12 +45,15 @@ fn push_all_stages(out: &mut String, machine: &Machine) -> Result<(), AllocError
     Ok(())
 }
 
+/// Appends the views of a machine that a replay ends with: the stages of each processor, the tasks, and the owners of
+/// its mutexes. On an `Err` a part of them may have been appended.
 #[tactic(auto, using(crate::proofs::Below::lengths))]
-fn push_summary(out: &mut String, machine: &Machine) -> Result<(), AllocError>
+pub fn push_summary(out: &mut String, machine: &Machine) -> Result<(), Refused>
     ensures ok { OnOk result (string_bytes out.new ≡ string_bytes out.old ++ summary_text machine.now) }
-    // It gives up only where there is no room for the text.
+    // It gives up only where there is no room for the text, and a growth by no more than the text was refused.
     ensures len { OnOk result (string_len out.new ≡ string_len out.old + length (summary_text machine.now)) }
     ensures full { OnErr result (string_capacity out.old < string_len out.old + length (summary_text machine.now)) }
+    ensures refused { IfErr result (λ asked. asked ≤ length (summary_text machine.now)) }
     ensures capacity { string_capacity out.old ≤ string_capacity out.new }
 {
     push_all_stages(out, machine)?;
@@ -54,14 +61,18 @@ fn push_summary(out: &mut String, machine: &Machine) -> Result<(), AllocError>
     push_owners(out, machine)
 }
 
-/// The views of a machine that a replay ends with: the stages of each processor, the tasks, and the owners of
-/// its mutexes.
+/// The views of a machine that a replay ends with, as `push_summary` appends them.
 pub fn summary(alloc: Global, machine: &Machine) -> Result<String, NoMemory>
-    ensures { IfOk result (λ text. string_bytes text ≡ summary_text machine.now) }
+    ensures ok { IfOk result (λ text. string_bytes text ≡ summary_text machine.now) }
+    // It gives up only where a growth was refused that is no greater than the text.
+    ensures refused { OnErr result (RefusedWithin (length (summary_text machine.now))) }
 {
     let mut text = String::new(alloc);
     match push_summary(&mut text, machine) {
         Ok(()) => Ok(text),
-        Err(_) => Err(NoMemory),
+        Err(refused) => {
+            refused.within();
+            Err(NoMemory)
+        }
     }
 }

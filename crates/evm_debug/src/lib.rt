@@ -11,12 +11,12 @@ mod reading;
 mod showing;
 mod views;
 
-pub use last_views::summary;
+pub use last_views::{push_summary, summary};
 pub use laws::reads_lines;
 pub use line::{Bad, Line, View};
 pub use look::ViewRefusal;
 pub use reading::read_line;
-pub use showing::view;
+pub use showing::{push_view, view};
 
 #[cfg(test)]
 mod tests;

@@ -1,108 +1,131 @@
-ghost use Rattle.std.specs.Prelude.{◌≡◌, ◌<◌, ◌≤◌, ◌+◌, ◌++◌, length, Result, MatchResult, OnOk, OnErr, codes};
+ghost use Rattle.std.specs.Prelude.{◌≡◌, ◌<◌, ◌≤◌, ◌+◌, ◌++◌, length, Result, MatchResult, OnOk, OnErr, IfOk, IfErr, IsOkAnd, codes};
 ghost use Rattle.std.specs.String.{string_bytes, string_capacity, string_len};
 ghost use Rattle.evm_text.specs.Written.{pairs};
-ghost use Rattle.evm_debug.specs.Views.{shown, ViewFails};
+ghost use Rattle.evm_debug.specs.Views.{shown, Shows, ViewFails};
 
 use crate::line::View;
 use crate::look::ViewRefusal;
 use crate::views::{push_counts, push_owners, push_rank, push_regs, push_stages, push_tasks};
 use evm_core::Machine;
-use evm_journal::write_journal;
+use evm_journal::push_journal;
 use evm_model::POKE_LIMIT;
 use evm_ram::Refusal;
+use evm_room::{Refused, push_text};
 use evm_text::push_pairs;
-use std::alloc::{AllocError, Global};
+use std::alloc::Global;
 
-// Why nothing is shown, or how the text was made.
-fn made(out: String, pushed: Result<(), AllocError>) -> Result<String, ViewRefusal>
-    ensures { MatchResult result (λ text. (pushed ≡ Result.Ok tt) × (text ≡ out)) (λ e. e ≡ ViewRefusal.NoMemory) }
-{
-    match pushed {
-        Ok(()) => Ok(out),
-        Err(_) => Err(ViewRefusal::NoMemory),
-    }
-}
-
-/// The text of a view, or why it is refused.
+// Appends the text of a view, as far as memory goes, or answers why it is refused.
 #[tactic(auto, unfolding(crate::specs::Views::shown))]
-pub fn view(alloc: Global, machine: &Machine, what: &View) -> Result<String, ViewRefusal>
-    ensures { MatchResult result (λ text. shown what.now machine.now ≡ Result.Ok (string_bytes text)) (λ e. ViewFails e (shown what.now machine.now)) }
+fn push_shown(
+    out: &mut String,
+    machine: &Machine,
+    what: &View,
+) -> Result<Result<(), Refused>, Refusal>
+    ensures ok { IfOk result (λ pushed. IsOkAnd (shown what.now machine.now) (λ text. OnOk pushed (string_bytes out.new ≡ string_bytes out.old ++ text))) }
+    ensures full { IfOk result (λ pushed. IsOkAnd (shown what.now machine.now) (λ text. OnErr pushed (string_capacity out.old < string_len out.old + length text))) }
+    ensures refused { IfOk result (λ pushed. IsOkAnd (shown what.now machine.now) (λ text. IfErr pushed (λ asked. asked ≤ length text))) }
+    ensures err { IfErr result (λ refusal. shown what.now machine.now ≡ Result.Err refusal) }
 {
-    let mut out = String::new(alloc);
-    let pushed = match what {
-        View::Journal => {
-            return match write_journal(alloc, machine) {
-                Ok(text) => Ok(text),
-                Err(_) => Err(ViewRefusal::NoMemory),
-            };
-        }
+    match what {
+        View::Journal => Ok(push_journal(out, machine)),
         View::Regs(c) => match machine.cpu(*c) {
-            None => return Err(ViewRefusal::Refused(Refusal::NoSuchCpu)),
-            Some(processor) => push_regs(&mut out, processor.current, machine),
+            None => Err(Refusal::NoSuchCpu),
+            Some(processor) => Ok(push_regs(out, processor.current, machine)),
         },
         View::Mem(address, count) => {
             if *count == 0 || *count > POKE_LIMIT as u64 {
-                return Err(ViewRefusal::Refused(Refusal::BadAddress));
+                return Err(Refusal::BadAddress);
             }
             match machine.bytes(*address, *count) {
-                None => return Err(ViewRefusal::Refused(Refusal::BadAddress)),
-                Some(bytes) => push_bytes(&mut out, bytes),
+                None => Err(Refusal::BadAddress),
+                Some(bytes) => Ok(push_bytes(out, bytes)),
             }
         }
         View::Stages(c) => {
             let Some(processor) = machine.cpu(*c) else {
-                return Err(ViewRefusal::Refused(Refusal::NoSuchCpu));
+                return Err(Refusal::NoSuchCpu);
             };
             match machine.stages(*c) {
-                None => return Err(ViewRefusal::Refused(Refusal::NoSuchCpu)),
-                Some(stages) => push_stages(&mut out, *c, &processor, &stages),
+                None => Err(Refusal::NoSuchCpu),
+                Some(stages) => Ok(push_stages(out, *c, &processor, &stages)),
             }
         }
-        View::Tasks => push_tasks(&mut out, machine),
-        View::Owners => push_owners(&mut out, machine),
+        View::Tasks => Ok(push_tasks(out, machine)),
+        View::Owners => Ok(push_owners(out, machine)),
         View::Rank(t) => match machine.task(*t) {
-            None => return Err(ViewRefusal::Refused(Refusal::NoTask)),
-            Some(_) => push_rank(&mut out, machine.rank(*t)),
+            None => Err(Refusal::NoTask),
+            Some(_) => Ok(push_rank(out, machine.rank(*t))),
         },
         View::Console => {
             let (older, newer) = machine.console();
-            push_console(&mut out, older, newer)
+            Ok(push_console(out, older, newer))
         }
         View::Counts(c, line) => {
             let Some(_) = machine.stages(*c) else {
-                return Err(ViewRefusal::Refused(Refusal::NoSuchCpu));
+                return Err(Refusal::NoSuchCpu);
             };
             match machine.counts(*c, *line) {
-                None => return Err(ViewRefusal::Refused(Refusal::NoSuchLine)),
-                Some(counts) => push_counts(&mut out, &counts),
+                None => Err(Refusal::NoSuchLine),
+                Some(counts) => Ok(push_counts(out, &counts)),
             }
         }
-    };
-    made(out, pushed)
+    }
+}
+
+/// Appends the text of a view, or answers why it is refused. Where memory is refused a part of it may have been appended.
+#[tactic(auto, using(crate::proofs::Shown::lacks))]
+pub fn push_view(out: &mut String, machine: &Machine, what: &View) -> Result<(), ViewRefusal>
+    ensures ok { OnOk result (Shows (shown what.now machine.now) (string_bytes out.old) (string_bytes out.new)) }
+    ensures err { IfErr result (λ e. ViewFails e (shown what.now machine.now)) }
+    // Memory is refused only where there is no room for the text.
+    ensures full { result ≡ Result.Err ViewRefusal.NoMemory → IsOkAnd (shown what.now machine.now) (λ text. string_capacity out.old < string_len out.old + length text) }
+{
+    match push_shown(out, machine, what) {
+        Err(refusal) => Err(ViewRefusal::Refused(refusal)),
+        Ok(Ok(())) => Ok(()),
+        Ok(Err(refused)) => {
+            refused.within();
+            Err(ViewRefusal::NoMemory)
+        }
+    }
+}
+
+/// The text of a view, or why it is refused.
+#[tactic(auto, using(crate::proofs::Shown::shows_all))]
+pub fn view(alloc: Global, machine: &Machine, what: &View) -> Result<String, ViewRefusal>
+    ensures { MatchResult result (λ text. shown what.now machine.now ≡ Result.Ok (string_bytes text)) (λ e. ViewFails e (shown what.now machine.now)) }
+{
+    let mut text = String::new(alloc);
+    match push_view(&mut text, machine, what) {
+        Ok(()) => Ok(text),
+        Err(refusal) => Err(refusal),
+    }
 }
 
 #[tactic(auto, using(crate::proofs::Below::consoles))]
-fn push_console(out: &mut String, older: &[u8], newer: &[u8]) -> Result<(), AllocError>
+fn push_console(out: &mut String, older: &[u8], newer: &[u8]) -> Result<(), Refused>
     ensures ok { OnOk result (string_bytes out.new ≡ string_bytes out.old ++ (pairs (older.now ++ newer.now) ++ codes "\n")) }
-    // It gives up only where there is no room for the text.
+    // It gives up only where there is no room for the text, and a growth by no more than the text was refused.
     ensures len { OnOk result (string_len out.new ≡ string_len out.old + length (pairs (older.now ++ newer.now) ++ codes "\n")) }
     ensures full { OnErr result (string_capacity out.old < string_len out.old + length (pairs (older.now ++ newer.now) ++ codes "\n")) }
+    ensures refused { IfErr result (λ asked. asked ≤ length (pairs (older.now ++ newer.now) ++ codes "\n")) }
     ensures capacity { string_capacity out.old ≤ string_capacity out.new }
 {
     push_pairs(out, older)?;
     push_pairs(out, newer)?;
-    out.push_str("\n")?;
+    push_text(out, "\n")?;
     Ok(())
 }
 
 #[tactic(auto, using(crate::proofs::Below::lengths))]
-fn push_bytes(out: &mut String, bytes: &[u8]) -> Result<(), AllocError>
+fn push_bytes(out: &mut String, bytes: &[u8]) -> Result<(), Refused>
     ensures ok { OnOk result (string_bytes out.new ≡ string_bytes out.old ++ (pairs bytes.now ++ codes "\n")) }
-    // It gives up only where there is no room for the text.
+    // It gives up only where there is no room for the text, and a growth by no more than the text was refused.
     ensures len { OnOk result (string_len out.new ≡ string_len out.old + length (pairs bytes.now ++ codes "\n")) }
     ensures full { OnErr result (string_capacity out.old < string_len out.old + length (pairs bytes.now ++ codes "\n")) }
+    ensures refused { IfErr result (λ asked. asked ≤ length (pairs bytes.now ++ codes "\n")) }
     ensures capacity { string_capacity out.old ≤ string_capacity out.new }
 {
     push_pairs(out, bytes)?;
-    out.push_str("\n")
+    push_text(out, "\n")
 }

@@ -1,4 +1,4 @@
-ghost use Rattle.std.specs.Prelude.{◌≡◌, ◌<◌, ◌≤◌, ◌+◌, ◌++◌, length, OnOk, OnErr, Option, slice_get};
+ghost use Rattle.std.specs.Prelude.{◌≡◌, ◌<◌, ◌≤◌, ◌+◌, ◌++◌, length, OnOk, OnErr, IfErr, Option, slice_get};
 ghost use Rattle.std.specs.String.{string_bytes, string_capacity, string_len};
 ghost use Rattle.evm_debug.specs.Views.{four_registers, registers_text, current_text, regs_text, task_text, tasks_text, owner_text, owners_text, rank_text, stages_text, counts_text};
 ghost use Rattle.evm_exec.specs.Registers.{register_of};
@@ -9,7 +9,7 @@ use evm_core::{Machine, Stages};
 use evm_exec::Hart;
 use evm_isa::Register;
 use evm_model::{Counts, Mutex, Processor, Task};
-use std::alloc::AllocError;
+use evm_room::{Refused, push_text};
 
 // A register by its number.
 fn value(hart: &Hart, r: u8) -> u64
@@ -22,12 +22,13 @@ fn value(hart: &Hart, r: u8) -> u64
     }
 }
 
-fn push_register_line(out: &mut String, r: u8, hart: &Hart) -> Result<(), AllocError>
+fn push_register_line(out: &mut String, r: u8, hart: &Hart) -> Result<(), Refused>
     requires { r + 3 < 32 }
     ensures ok { OnOk result (string_bytes out.new ≡ string_bytes out.old ++ four_registers r hart.now.regs) }
-    // It gives up only where there is no room for the text.
+    // It gives up only where there is no room for the text, and a growth by no more than the text was refused.
     ensures len { OnOk result (string_len out.new ≡ string_len out.old + length (four_registers r hart.now.regs)) }
     ensures full { OnErr result (string_capacity out.old < string_len out.old + length (four_registers r hart.now.regs)) }
+    ensures refused { IfErr result (λ asked. asked ≤ length (four_registers r hart.now.regs)) }
     ensures capacity { string_capacity out.old ≤ string_capacity out.new }
 {
     let line = [
@@ -52,11 +53,13 @@ fn push_register_line(out: &mut String, r: u8, hart: &Hart) -> Result<(), AllocE
     push_pieces(out, &line)
 }
 
-fn push_registers(out: &mut String, hart: &Hart) -> Result<(), AllocError>
+#[tactic(auto, using(crate::proofs::RegisterLines::first_line))]
+fn push_registers(out: &mut String, hart: &Hart) -> Result<(), Refused>
     ensures ok { OnOk result (string_bytes out.new ≡ string_bytes out.old ++ registers_text hart.now.regs) }
-    // It gives up only where there is no room for the text.
+    // It gives up only where there is no room for the text, and a growth by no more than the text was refused.
     ensures len { OnOk result (string_len out.new ≡ string_len out.old + length (registers_text hart.now.regs)) }
     ensures full { OnErr result (string_capacity out.old < string_len out.old + length (registers_text hart.now.regs)) }
+    ensures refused { IfErr result (λ asked. asked ≤ length (registers_text hart.now.regs)) }
     ensures capacity { string_capacity out.old ≤ string_capacity out.new }
 {
     for line in 0..8u8 {
@@ -66,11 +69,12 @@ fn push_registers(out: &mut String, hart: &Hart) -> Result<(), AllocError>
 }
 
 #[tactic(auto, using(crate::proofs::Below::lengths))]
-fn push_current(out: &mut String, t: u8, task: &Task, hart: &Hart) -> Result<(), AllocError>
+fn push_current(out: &mut String, t: u8, task: &Task, hart: &Hart) -> Result<(), Refused>
     ensures ok { OnOk result (string_bytes out.new ≡ string_bytes out.old ++ current_text t (Option.Some task.now) (Option.Some hart.now)) }
-    // It gives up only where there is no room for the text.
+    // It gives up only where there is no room for the text, and a growth by no more than the text was refused.
     ensures len { OnOk result (string_len out.new ≡ string_len out.old + length (current_text t (Option.Some task.now) (Option.Some hart.now))) }
     ensures full { OnErr result (string_capacity out.old < string_len out.old + length (current_text t (Option.Some task.now) (Option.Some hart.now))) }
+    ensures refused { IfErr result (λ asked. asked ≤ length (current_text t (Option.Some task.now) (Option.Some hart.now))) }
     ensures capacity { string_capacity out.old ≤ string_capacity out.new }
 {
     let line = [
@@ -90,31 +94,33 @@ pub(crate) fn push_regs(
     out: &mut String,
     current: Option<u8>,
     machine: &Machine,
-) -> Result<(), AllocError>
+) -> Result<(), Refused>
     ensures ok { OnOk result (string_bytes out.new ≡ string_bytes out.old ++ regs_text current machine.now.board.parts) }
-    // It gives up only where there is no room for the text.
+    // It gives up only where there is no room for the text, and a growth by no more than the text was refused.
     ensures len { OnOk result (string_len out.new ≡ string_len out.old + length (regs_text current machine.now.board.parts)) }
     ensures full { OnErr result (string_capacity out.old < string_len out.old + length (regs_text current machine.now.board.parts)) }
+    ensures refused { IfErr result (λ asked. asked ≤ length (regs_text current machine.now.board.parts)) }
     ensures capacity { string_capacity out.old ≤ string_capacity out.new }
 {
     let Some(t) = current else {
-        return out.push_str("none\n");
+        return push_text(out, "none\n");
     };
     let Some(task) = machine.task(t) else {
-        return out.push_str("none\n");
+        return push_text(out, "none\n");
     };
     match machine.hart(t) {
-        None => out.push_str("none\n"),
+        None => push_text(out, "none\n"),
         Some(hart) => push_current(out, t, &task, &hart),
     }
 }
 
 #[tactic(auto, using(crate::proofs::Below::tasks))]
-pub(crate) fn push_tasks(out: &mut String, machine: &Machine) -> Result<(), AllocError>
+pub(crate) fn push_tasks(out: &mut String, machine: &Machine) -> Result<(), Refused>
     ensures ok { OnOk result (string_bytes out.new ≡ string_bytes out.old ++ tasks_text machine.now.board.parts) }
-    // It gives up only where there is no room for the text.
+    // It gives up only where there is no room for the text, and a growth by no more than the text was refused.
     ensures len { OnOk result (string_len out.new ≡ string_len out.old + length (tasks_text machine.now.board.parts)) }
     ensures full { OnErr result (string_capacity out.old < string_len out.old + length (tasks_text machine.now.board.parts)) }
+    ensures refused { IfErr result (λ asked. asked ≤ length (tasks_text machine.now.board.parts)) }
     ensures capacity { string_capacity out.old ≤ string_capacity out.new }
 {
     for t in 0..machine.task_count() {
@@ -124,11 +130,12 @@ pub(crate) fn push_tasks(out: &mut String, machine: &Machine) -> Result<(), Allo
 }
 
 // The task of a number, if there is one.
-fn push_numbered_task(out: &mut String, t: u8, machine: &Machine) -> Result<(), AllocError>
+fn push_numbered_task(out: &mut String, t: u8, machine: &Machine) -> Result<(), Refused>
     ensures ok { OnOk result (string_bytes out.new ≡ string_bytes out.old ++ task_text t (slice_get machine.now.board.parts.tasks t) (slice_get machine.now.board.parts.harts t)) }
-    // It gives up only where there is no room for the text.
+    // It gives up only where there is no room for the text, and a growth by no more than the text was refused.
     ensures len { OnOk result (string_len out.new ≡ string_len out.old + length (task_text t (slice_get machine.now.board.parts.tasks t) (slice_get machine.now.board.parts.harts t))) }
     ensures full { OnErr result (string_capacity out.old < string_len out.old + length (task_text t (slice_get machine.now.board.parts.tasks t) (slice_get machine.now.board.parts.harts t))) }
+    ensures refused { IfErr result (λ asked. asked ≤ length (task_text t (slice_get machine.now.board.parts.tasks t) (slice_get machine.now.board.parts.harts t))) }
     ensures capacity { string_capacity out.old ≤ string_capacity out.new }
 {
     let Some(task) = machine.task(t) else {
@@ -140,11 +147,12 @@ fn push_numbered_task(out: &mut String, t: u8, machine: &Machine) -> Result<(), 
     }
 }
 
-fn push_task(out: &mut String, t: u8, task: &Task, hart: &Hart) -> Result<(), AllocError>
+fn push_task(out: &mut String, t: u8, task: &Task, hart: &Hart) -> Result<(), Refused>
     ensures ok { OnOk result (string_bytes out.new ≡ string_bytes out.old ++ task_text t (Option.Some task.now) (Option.Some hart.now)) }
-    // It gives up only where there is no room for the text.
+    // It gives up only where there is no room for the text, and a growth by no more than the text was refused.
     ensures len { OnOk result (string_len out.new ≡ string_len out.old + length (task_text t (Option.Some task.now) (Option.Some hart.now))) }
     ensures full { OnErr result (string_capacity out.old < string_len out.old + length (task_text t (Option.Some task.now) (Option.Some hart.now))) }
+    ensures refused { IfErr result (λ asked. asked ≤ length (task_text t (Option.Some task.now) (Option.Some hart.now))) }
     ensures capacity { string_capacity out.old ≤ string_capacity out.new }
 {
     let line = [
@@ -165,11 +173,12 @@ fn push_task(out: &mut String, t: u8, task: &Task, hart: &Hart) -> Result<(), Al
 }
 
 #[tactic(auto, using(crate::proofs::Below::owners))]
-pub(crate) fn push_owners(out: &mut String, machine: &Machine) -> Result<(), AllocError>
+pub(crate) fn push_owners(out: &mut String, machine: &Machine) -> Result<(), Refused>
     ensures ok { OnOk result (string_bytes out.new ≡ string_bytes out.old ++ owners_text machine.now.board.parts) }
-    // It gives up only where there is no room for the text.
+    // It gives up only where there is no room for the text, and a growth by no more than the text was refused.
     ensures len { OnOk result (string_len out.new ≡ string_len out.old + length (owners_text machine.now.board.parts)) }
     ensures full { OnErr result (string_capacity out.old < string_len out.old + length (owners_text machine.now.board.parts)) }
+    ensures refused { IfErr result (λ asked. asked ≤ length (owners_text machine.now.board.parts)) }
     ensures capacity { string_capacity out.old ≤ string_capacity out.new }
 {
     for m in 0..machine.mutex_count() {
@@ -179,11 +188,12 @@ pub(crate) fn push_owners(out: &mut String, machine: &Machine) -> Result<(), All
 }
 
 // The mutex of a number, if there is one.
-fn push_numbered_mutex(out: &mut String, m: u8, machine: &Machine) -> Result<(), AllocError>
+fn push_numbered_mutex(out: &mut String, m: u8, machine: &Machine) -> Result<(), Refused>
     ensures ok { OnOk result (string_bytes out.new ≡ string_bytes out.old ++ owner_text m (slice_get machine.now.board.parts.mutexes m)) }
-    // It gives up only where there is no room for the text.
+    // It gives up only where there is no room for the text, and a growth by no more than the text was refused.
     ensures len { OnOk result (string_len out.new ≡ string_len out.old + length (owner_text m (slice_get machine.now.board.parts.mutexes m))) }
     ensures full { OnErr result (string_capacity out.old < string_len out.old + length (owner_text m (slice_get machine.now.board.parts.mutexes m))) }
+    ensures refused { IfErr result (λ asked. asked ≤ length (owner_text m (slice_get machine.now.board.parts.mutexes m))) }
     ensures capacity { string_capacity out.old ≤ string_capacity out.new }
 {
     match machine.mutex(m) {
@@ -192,11 +202,12 @@ fn push_numbered_mutex(out: &mut String, m: u8, machine: &Machine) -> Result<(),
     }
 }
 
-fn push_owner(out: &mut String, m: u8, mutex: &Mutex) -> Result<(), AllocError>
+fn push_owner(out: &mut String, m: u8, mutex: &Mutex) -> Result<(), Refused>
     ensures ok { OnOk result (string_bytes out.new ≡ string_bytes out.old ++ owner_text m (Option.Some mutex.now)) }
-    // It gives up only where there is no room for the text.
+    // It gives up only where there is no room for the text, and a growth by no more than the text was refused.
     ensures len { OnOk result (string_len out.new ≡ string_len out.old + length (owner_text m (Option.Some mutex.now))) }
     ensures full { OnErr result (string_capacity out.old < string_len out.old + length (owner_text m (Option.Some mutex.now))) }
+    ensures refused { IfErr result (λ asked. asked ≤ length (owner_text m (Option.Some mutex.now))) }
     ensures capacity { string_capacity out.old ≤ string_capacity out.new }
 {
     let line = [
@@ -210,11 +221,12 @@ fn push_owner(out: &mut String, m: u8, mutex: &Mutex) -> Result<(), AllocError>
     push_pieces(out, &line)
 }
 
-pub(crate) fn push_rank(out: &mut String, rank: u16) -> Result<(), AllocError>
+pub(crate) fn push_rank(out: &mut String, rank: u16) -> Result<(), Refused>
     ensures ok { OnOk result (string_bytes out.new ≡ string_bytes out.old ++ rank_text rank) }
-    // It gives up only where there is no room for the text.
+    // It gives up only where there is no room for the text, and a growth by no more than the text was refused.
     ensures len { OnOk result (string_len out.new ≡ string_len out.old + length (rank_text rank)) }
     ensures full { OnErr result (string_capacity out.old < string_len out.old + length (rank_text rank)) }
+    ensures refused { IfErr result (λ asked. asked ≤ length (rank_text rank)) }
     ensures capacity { string_capacity out.old ≤ string_capacity out.new }
 {
     let line = [
@@ -230,11 +242,12 @@ pub(crate) fn push_stages(
     c: u8,
     processor: &Processor,
     stages: &Stages,
-) -> Result<(), AllocError>
+) -> Result<(), Refused>
     ensures ok { OnOk result (string_bytes out.new ≡ string_bytes out.old ++ stages_text c processor.now stages.now) }
-    // It gives up only where there is no room for the text.
+    // It gives up only where there is no room for the text, and a growth by no more than the text was refused.
     ensures len { OnOk result (string_len out.new ≡ string_len out.old + length (stages_text c processor.now stages.now)) }
     ensures full { OnErr result (string_capacity out.old < string_len out.old + length (stages_text c processor.now stages.now)) }
+    ensures refused { IfErr result (λ asked. asked ≤ length (stages_text c processor.now stages.now)) }
     ensures capacity { string_capacity out.old ≤ string_capacity out.new }
 {
     let line = [
@@ -263,11 +276,12 @@ pub(crate) fn push_stages(
     push_pieces(out, &line)
 }
 
-pub(crate) fn push_counts(out: &mut String, counts: &Counts) -> Result<(), AllocError>
+pub(crate) fn push_counts(out: &mut String, counts: &Counts) -> Result<(), Refused>
     ensures ok { OnOk result (string_bytes out.new ≡ string_bytes out.old ++ counts_text counts.now) }
-    // It gives up only where there is no room for the text.
+    // It gives up only where there is no room for the text, and a growth by no more than the text was refused.
     ensures len { OnOk result (string_len out.new ≡ string_len out.old + length (counts_text counts.now)) }
     ensures full { OnErr result (string_capacity out.old < string_len out.old + length (counts_text counts.now)) }
+    ensures refused { IfErr result (λ asked. asked ≤ length (counts_text counts.now)) }
     ensures capacity { string_capacity out.old ≤ string_capacity out.new }
 {
     let line = [

@@ -13,7 +13,7 @@ use Rattle.evm_image.specs.Images.{Loaded, Contents, covers, byte_at, range_star
 use Rattle.evm_elf.specs.Faults.{load_of, loads, is_dynamic, is_outside, passes_end, leaves_range, is_overfull, share, some_two, has_other_class, has_other_kind, has_other_header_size, is_entry, segment_of, file_has, faults, fault_of, image_of}
 use Rattle.evm_elf.specs.Files.{file_of, image_of_bytes}
 
-length_file : (bytes : List ℕ) → length (file_of bytes) ≡ 120 + length bytes
+pub length_file : (bytes : List ℕ) → length (file_of bytes) ≡ 120 + length bytes
 unfolding file_of
 length_file bytes = omega arith
 

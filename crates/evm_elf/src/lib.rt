@@ -5,7 +5,6 @@ mod fault;
 mod faults;
 mod header;
 mod laws;
-mod memory;
 mod overlap;
 mod reading;
 mod segments;

@@ -5,12 +5,13 @@ ghost use Rattle.std.specs.List.{filter_map};
 ghost use Rattle.evm_elf.specs.declared.fault.ElfFault.{ElfFault};
 ghost use Rattle.evm_elf.specs.Fields.{headers_from};
 ghost use Rattle.evm_elf.specs.Faults.{load_of, segment_of, fault_of, image_of, Loads};
+ghost use Rattle.evm_room.specs.Growth.{RefusedWithin};
 
 use crate::fault::ElfFault;
 use crate::faults::first_fault;
 use crate::header::{Header, half_at, load_header, long_at};
-use crate::memory::{Refused, grow};
 use evm_image::{Image, Segment};
+use evm_room::{Refused, grow};
 use std::alloc::Global;
 
 /// The `filesz` bytes of the file from `offset` on, or what there is of them.
@@ -102,12 +103,17 @@ pub fn read_image(alloc: Global, file: &[u8]) -> Result<Image, ElfFault>
     ensures ok { IfOk result (λ image. (fault_of file.now ≡ None) × Loads file.now image) }
     ensures fault { (fault : ElfFault) → fault ≢ ElfFault.NoMemory → (result ≡ Err fault) ↔ (fault_of file.now ≡ Some fault) }
     ensures memory { result ≡ Err ElfFault.NoMemory → fault_of file.now ≡ None }
+    // Memory ran out only where a growth was refused that isn't greater than the file.
+    ensures refused { result ≡ Err ElfFault.NoMemory → RefusedWithin (length file.now) }
 {
     if let Some(fault) = first_fault(alloc, file) {
         return Err(fault);
     }
     match image(alloc, file) {
         Ok(image) => Ok(image),
-        Err(_) => Err(ElfFault::NoMemory),
+        Err(refused) => {
+            refused.within();
+            Err(ElfFault::NoMemory)
+        }
     }
 }

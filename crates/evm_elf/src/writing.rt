@@ -1,12 +1,13 @@
 //! Images written as files.
 
-ghost use Rattle.std.specs.Prelude.{◌≡◌, ◌≤◌, ◌+◌, ◌++◌, length, IfOk, IfErr, vec_len, vec_capacity};
+ghost use Rattle.std.specs.Prelude.{◌≡◌, ◌≤◌, ◌+◌, ◌++◌, length, IfOk, IfErr, OnErr, vec_len, vec_capacity};
 ghost use Rattle.byteorder.specs.Endian.{little_bytes};
 ghost use Rattle.evm_elf.specs.Files.{load_header, file_of};
+ghost use Rattle.evm_room.specs.Growth.{RefusedWithin};
 
 use crate::header::{PT_LOAD, RANGE_START};
-use crate::memory::{Refused, grow};
 use evm_asm::Program;
+use evm_room::{Refused, grow};
 use std::alloc::{AllocError, Global};
 use thiserror::Error;
 
@@ -115,13 +116,19 @@ fn written(alloc: Global, bytes: &[u8]) -> Result<Vec<u8>, Refused>
 /// # Errors
 ///
 /// Memory ran out.
+#[tactic(auto, using(crate::proofs::Written::length_file))]
 pub fn write_bytes(alloc: Global, bytes: &[u8]) -> Result<Vec<u8>, NoMemory>
     requires { length bytes.now ≤ PROGRAM_MAX }
-    ensures { IfOk result (λ file. file.items ≡ file_of bytes.now) }
+    ensures ok { IfOk result (λ file. file.items ≡ file_of bytes.now) }
+    // It gives up only where a growth was refused that isn't greater than the file.
+    ensures refused { OnErr result (RefusedWithin (length (file_of bytes.now))) }
 {
     match written(alloc, bytes) {
         Ok(file) => Ok(file),
-        Err(_) => Err(NoMemory),
+        Err(refused) => {
+            refused.within();
+            Err(NoMemory)
+        }
     }
 }
 
@@ -131,7 +138,9 @@ pub fn write_bytes(alloc: Global, bytes: &[u8]) -> Result<Vec<u8>, NoMemory>
 ///
 /// Memory ran out.
 pub fn write_image(alloc: Global, program: &Program) -> Result<Vec<u8>, NoMemory>
-    ensures { IfOk result (λ file. file.items ≡ file_of program.now.bytes) }
+    ensures ok { IfOk result (λ file. file.items ≡ file_of program.now.bytes) }
+    // It gives up only where a growth was refused that isn't greater than the file.
+    ensures refused { OnErr result (RefusedWithin (length (file_of program.now.bytes))) }
 {
     write_bytes(alloc, program.bytes())
 }

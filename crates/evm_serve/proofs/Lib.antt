@@ -4,3 +4,4 @@ pub mod Known
 pub mod Replays
 pub mod Runs
 pub mod StepLemmas
+pub mod Lengths

@@ -1,6 +1,6 @@
 //! The lines with which a run ends.
 
-ghost use Rattle.std.specs.Prelude.{◌≡◌, ◌++◌, IfOk, codes};
+ghost use Rattle.std.specs.Prelude.{◌≡◌, ◌≤◌, ◌++◌, length, IfOk, IfErr, codes};
 ghost use Rattle.std.specs.String.{string_bytes};
 ghost use Rattle.evm_text.specs.Written.{decimal};
 ghost use Rattle.evm_serve.specs.Faults.{fault_text, no_image_text};
@@ -9,32 +9,41 @@ use crate::fault::Fault;
 use evm_asm::AsmFault;
 use evm_elf::ElfFault;
 use evm_journal::JournalFault;
+use evm_room::{Refused, push_text};
 use evm_text::push_decimal;
-use std::alloc::{AllocError, Global};
+use std::alloc::Global;
 
-fn with_one(alloc: Global, word: &str, number: u64) -> Result<String, AllocError>
-    ensures { IfOk result (λ text. string_bytes text ≡ word.now ++ decimal number ++ codes "\n") }
+#[tactic(auto, using(crate::proofs::Lengths::lengths))]
+fn with_one(alloc: Global, word: &str, number: u64) -> Result<String, Refused>
+    ensures ok { IfOk result (λ text. string_bytes text ≡ word.now ++ decimal number ++ codes "\n") }
+    // It gives up only where a growth by no more than the text was refused.
+    ensures refused { IfErr result (λ asked. asked ≤ length (word.now ++ decimal number ++ codes "\n")) }
 {
-    let mut text = String::from_str(alloc, word)?;
+    let mut text = String::new(alloc);
+    push_text(&mut text, word)?;
     push_decimal(&mut text, number)?;
-    text.push_str("\n")?;
+    push_text(&mut text, "\n")?;
     Ok(text)
 }
 
-fn with_two(alloc: Global, word: &str, first: u64, second: u64) -> Result<String, AllocError>
-    ensures { IfOk result (λ text. string_bytes text ≡ word.now ++ decimal first ++ codes " " ++ decimal second ++ codes "\n") }
+#[tactic(auto, using(crate::proofs::Lengths::lengths))]
+fn with_two(alloc: Global, word: &str, first: u64, second: u64) -> Result<String, Refused>
+    ensures ok { IfOk result (λ text. string_bytes text ≡ word.now ++ decimal first ++ codes " " ++ decimal second ++ codes "\n") }
+    ensures refused { IfErr result (λ asked. asked ≤ length (word.now ++ decimal first ++ codes " " ++ decimal second ++ codes "\n")) }
 {
-    let mut text = String::from_str(alloc, word)?;
+    let mut text = String::new(alloc);
+    push_text(&mut text, word)?;
     push_decimal(&mut text, first)?;
-    text.push_str(" ")?;
+    push_text(&mut text, " ")?;
     push_decimal(&mut text, second)?;
-    text.push_str("\n")?;
+    push_text(&mut text, "\n")?;
     Ok(text)
 }
 
 /// The line of a fault, at which a run ends.
-pub(crate) fn fault_line(alloc: Global, fault: Fault) -> Result<String, AllocError>
-    ensures { IfOk result (λ text. string_bytes text ≡ fault_text fault) }
+pub(crate) fn fault_line(alloc: Global, fault: Fault) -> Result<String, Refused>
+    ensures ok { IfOk result (λ text. string_bytes text ≡ fault_text fault) }
+    ensures refused { IfErr result (λ asked. asked ≤ length (fault_text fault)) }
 {
     match fault {
         Fault::BadLine(line) => with_one(alloc, "bad ", line),
@@ -51,8 +60,9 @@ pub(crate) fn fault_line(alloc: Global, fault: Fault) -> Result<String, AllocErr
 }
 
 /// What is reported of a file that is no image.
-pub(crate) fn no_image(alloc: Global, fault: ElfFault) -> Result<String, AllocError>
-    ensures { IfOk result (λ text. string_bytes text ≡ no_image_text fault) }
+pub(crate) fn no_image(alloc: Global, fault: ElfFault) -> Result<String, Refused>
+    ensures ok { IfOk result (λ text. string_bytes text ≡ no_image_text fault) }
+    ensures refused { IfErr result (λ asked. asked ≤ length (no_image_text fault)) }
 {
     with_one(alloc, "image ", u64::from(fault.number()))
 }

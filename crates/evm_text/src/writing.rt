@@ -1,10 +1,10 @@
-ghost use Rattle.std.specs.Prelude.{◌≡◌, ◌+◌, ◌^◌, ◌<◌, ◌≤◌, ◌∷◌, [], ◌++◌, length, OnOk, OnErr};
+ghost use Rattle.std.specs.Prelude.{◌≡◌, ◌+◌, ◌^◌, ◌<◌, ◌≤◌, ◌∷◌, [], ◌++◌, length, OnOk, OnErr, IfErr};
 ghost use Rattle.std.specs.Char.{encode_utf8};
 ghost use Rattle.std.specs.String.{string_bytes, string_capacity, string_len};
 ghost use Rattle.evm_text.specs.Written.{character, numeral, decimal, hexadecimal, hexadecimal_padded, pairs};
 
 use arrayvec::ArrayString;
-use std::alloc::AllocError;
+use evm_room::{Refused, grow_text, push_text};
 
 /// How many digits a number can have: 2^64 - 1 has 20 in decimal.
 const DIGITS: usize = 20;
@@ -50,64 +50,72 @@ fn put_padded(text: &mut ArrayString<DIGITS>, count: u8, n: u64)
 }
 
 /// Appends a number in decimal.
-pub fn push_decimal(out: &mut String, n: u64) -> Result<(), AllocError>
+pub fn push_decimal(out: &mut String, n: u64) -> Result<(), Refused>
     ensures ok { OnOk result (string_bytes out.new ≡ string_bytes out.old ++ decimal n) }
     ensures err { OnErr result (string_bytes out.new ≡ string_bytes out.old) }
-    // It gives up only where there is no room for the text.
+    // It gives up only where there is no room for the text, and a growth by no more than the text was refused.
     ensures len { OnOk result (string_len out.new ≡ string_len out.old + length (decimal n)) }
     ensures full { OnErr result (string_capacity out.old < string_len out.old + length (decimal n)) }
+    ensures refused { IfErr result (λ asked. asked ≤ length (decimal n)) }
     ensures capacity { string_capacity out.old ≤ string_capacity out.new }
 {
     let mut text = ArrayString::new();
     put_numeral(&mut text, 10, 19, n);
-    out.push_str(text.as_str())
+    push_text(out, text.as_str())
 }
 
 /// Appends a number in hexadecimal.
-pub fn push_hexadecimal(out: &mut String, n: u64) -> Result<(), AllocError>
+pub fn push_hexadecimal(out: &mut String, n: u64) -> Result<(), Refused>
     ensures ok { OnOk result (string_bytes out.new ≡ string_bytes out.old ++ hexadecimal n) }
     ensures err { OnErr result (string_bytes out.new ≡ string_bytes out.old) }
-    // It gives up only where there is no room for the text.
+    // It gives up only where there is no room for the text, and a growth by no more than the text was refused.
     ensures len { OnOk result (string_len out.new ≡ string_len out.old + length (hexadecimal n)) }
     ensures full { OnErr result (string_capacity out.old < string_len out.old + length (hexadecimal n)) }
+    ensures refused { IfErr result (λ asked. asked ≤ length (hexadecimal n)) }
     ensures capacity { string_capacity out.old ≤ string_capacity out.new }
 {
     let mut text = ArrayString::new();
     put_numeral(&mut text, 16, 15, n);
-    out.push_str(text.as_str())
+    push_text(out, text.as_str())
 }
 
 /// Appends the last hexadecimal digits of a number, so many of them (at most 16), with zeros in
 /// front where the number is shorter.
-pub fn push_hexadecimal_padded(out: &mut String, count: u8, n: u64) -> Result<(), AllocError>
+pub fn push_hexadecimal_padded(out: &mut String, count: u8, n: u64) -> Result<(), Refused>
     requires { count ≤ 16 }
     ensures ok { OnOk result (string_bytes out.new ≡ string_bytes out.old ++ hexadecimal_padded count n) }
     ensures err { OnErr result (string_bytes out.new ≡ string_bytes out.old) }
-    // It gives up only where there is no room for the text.
+    // It gives up only where there is no room for the text, and a growth by no more than the text was refused.
     ensures len { OnOk result (string_len out.new ≡ string_len out.old + length (hexadecimal_padded count n)) }
     ensures full { OnErr result (string_capacity out.old < string_len out.old + length (hexadecimal_padded count n)) }
+    ensures refused { IfErr result (λ asked. asked ≤ length (hexadecimal_padded count n)) }
     ensures capacity { string_capacity out.old ≤ string_capacity out.new }
 {
     let mut text = ArrayString::new();
     put_padded(&mut text, count, n);
-    out.push_str(text.as_str())
+    push_text(out, text.as_str())
 }
 
 /// Appends two hexadecimal digits for each byte.
 #[tactic(auto, using(crate::proofs::Steps::length_pairs))]
-pub fn push_pairs(out: &mut String, bytes: &[u8]) -> Result<(), AllocError>
+pub fn push_pairs(out: &mut String, bytes: &[u8]) -> Result<(), Refused>
     ensures ok { OnOk result (string_bytes out.new ≡ string_bytes out.old ++ pairs bytes.now) }
     ensures err { OnErr result (string_bytes out.new ≡ string_bytes out.old) }
-    // It gives up only where there is no room for the text.
+    // It gives up only where there is no room for the text, and a growth by no more than the text was refused.
     ensures len { OnOk result (string_len out.new ≡ string_len out.old + length (pairs bytes.now)) }
     ensures full { OnErr result (string_capacity out.old < string_len out.old + length (pairs bytes.now)) }
+    ensures refused { IfErr result (λ asked. asked ≤ length (pairs bytes.now)) }
     ensures capacity { string_capacity out.old ≤ string_capacity out.new }
 {
     // From here on no push can fail, so a refusal leaves the text as it was.
-    out.reserve(bytes.len() * 2)?;
+    grow_text(out, bytes.len() * 2)?;
     for byte in bytes {
-        out.push(character(*byte / 16))?;
-        out.push(character(*byte % 16))?;
+        let Ok(()) = out.push(character(*byte / 16)) else {
+            unreachable!();
+        };
+        let Ok(()) = out.push(character(*byte % 16)) else {
+            unreachable!();
+        };
     }
     Ok(())
 }

@@ -8,5 +8,6 @@ abbrev pub invariant-loop-piece : goal.invariant-loop-piece
 invariant-loop-piece l = record {
   bytes : string_bytes l.out ++ pieces_text (drop l.piece-index l.pieces) ≡ string_bytes l.fn.out ++ pieces_text l.pieces;
   len : string_len l.out + length (pieces_text (drop l.piece-index l.pieces)) ≡ string_len l.fn.out + length (pieces_text l.pieces);
+  rest : length (pieces_text (drop l.piece-index l.pieces)) ≤ length (pieces_text l.pieces);
   capacity : string_capacity l.fn.out ≤ string_capacity l.out;
 }

@@ -22,6 +22,9 @@ loop-line-preserved c =
       len =
           let size = ap length more ∙ length-append (four_registers (i * 4) regs) tail in
           omega (arith, size, c.in_ok-push_register_line.ensures.len, c.loop-line.invariant.len);
+      rest =
+          let size = ap length more ∙ length-append (four_registers (i * 4) regs) tail in
+          omega (arith, size, c.loop-line.invariant.rest);
       capacity = omega (arith, c.loop-line.invariant.capacity);
     }
 

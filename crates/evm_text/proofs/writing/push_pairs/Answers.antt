@@ -5,13 +5,13 @@ use Rattle.evm_text.proofs.writing.push_pairs.Goals as goal
 
 pub loop-byte-init : goal.loop-byte-init
 loop-byte-init c =
-    let ensured = c.in_ok-reserve.ensures in
+    let ensured = c.in_ok-grow_text.ensures in
     record { told = ensured.bytes ∙ pairs_start (string_bytes c.args.out.now); len = omega (arith, ensured.len); room = omega (arith, ensured.ok); grown = omega (arith, ensured.capacity) }
 
 pub loop-byte-preserved : goal.loop-byte-preserved
 loop-byte-preserved c =
-    let first = c.in_ok-push.ensures in
-    let second = c.in_ok-push-2.ensures in
+    let first = c.in-Ok.ensures in
+    let second = c.in-Ok-push.ensures in
     let high = c.character.ensures.ascii in
     let low = c.character-in-loop-byte.ensures.ascii in
     let inv = c.loop-byte.invariant in
