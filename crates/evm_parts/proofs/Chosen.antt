@@ -1,8 +1,8 @@
 -- The best task by ranks that are told is the best one.
-use Rattle.std.proofs.Common.{◌≡◌, ℕ, ◌<◌, List, Some, length}
+use Rattle.std.proofs.Common.{◌≡◌, ℕ, ◌<◌, List, Some, None, length, sym, ◌∙◌}
 use Rattle.std.specs.Prelude.{slice_get}
 use Rattle.evm_boost.specs.Scatter.{AreRanks}
-use Rattle.evm_model.proofs.Lists.{slice_get-below}
+use Rattle.evm_model.proofs.Lists.{slice_get-below, slice_get-within}
 use Rattle.evm_model.specs.Ranks.{best, first, rank, runs_oob, stamp}
 use Rattle.evm_model.specs.declared.mutex.Mutex.{Mutex}
 use Rattle.evm_model.specs.declared.task.Task.{Task}
@@ -18,4 +18,8 @@ best-told c ranks mutexes tasks are = first-same (runs_oob c tasks) (rank_told r
 pub task-below : (tasks : List Task) (t : ℕ) (task : Task) → slice_get tasks t ≡ Some task → t < length tasks
 task-below tasks t task e = slice_get-below tasks t task e
 
-pub ruleset there = (task-below)
+-- and below it each is there
+pub task-there : (tasks : List Task) (t : ℕ) → t < length tasks → slice_get tasks t ≡ None → ⊥
+task-there tasks t h e = let x = slice_get-within tasks t h in let no : Some x.0 ≡ None = sym x.1 ∙ e in cc
+
+pub ruleset there = (task-below, task-there)

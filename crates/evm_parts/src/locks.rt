@@ -1,6 +1,6 @@
 //! What rows do to a mutex, and to the tasks that wait for it.
 
-ghost use Rattle.std.specs.Prelude.{◌≡◌, ◌<◌, ◌≤◌, ◌+◌, ◌^◌, Some, length, slice_get};
+ghost use Rattle.std.specs.Prelude.{◌≡◌, ◌<◌, ◌≤◌, ◌+◌, ◌^◌, Some, None, length, slice_get};
 ghost use Rattle.evm_boost.specs.Scatter.{AreRanks};
 ghost use Rattle.evm_model.specs.Locks.{add_mutex, take_mutex, wait_for};
 ghost use Rattle.evm_model.specs.Mutexes.{owns_any, held_by, waits_on};
@@ -21,10 +21,11 @@ impl Parts {
         self.mutexes.ranks(self.tasks.as_slice())
     }
 
-    /// The rank of a task that is there.
+    /// The rank of a task; 0 where there is none.
     #[tactic(auto, using(crate::proofs::Chosen::there))]
     pub fn rank(&self, t: u8) -> u16
-        ensures { (task : Task) → slice_get self.now.tasks t ≡ Some task → result ≡ rank self.now.mutexes self.now.tasks t }
+        ensures there { (task : Task) → slice_get self.now.tasks t ≡ Some task → result ≡ rank self.now.mutexes self.now.tasks t }
+        ensures absent { slice_get self.now.tasks t ≡ None → result ≡ 0 }
     {
         if t >= self.tasks.count() {
             return 0;

@@ -10,6 +10,7 @@ pub mod Counting
 pub mod Bounded
 pub mod Playing
 pub mod Settling
+pub mod Nudging
 pub mod Shapes
 pub mod Aligned
 pub mod Keeps
