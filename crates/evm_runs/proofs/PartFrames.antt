@@ -1,5 +1,5 @@
 -- What it leaves alone to change one part: a hart, a task, a processor, a pipe, a mutex.
-use Rattle.std.proofs.Common.{◌≡◌, ℕ, Option, Some, None, ◌⊎◌, inl, inr, refl, ap, sym, ◌∙◌, arith, replicate}
+use Rattle.std.proofs.Common.{◌≡◌, ℕ, Option, Some, None, ◌⊎◌, inl, inr, refl, ap, sym, ◌∙◌, ◌≤◌, ◌+◌, arith, replicate}
 use Rattle.std.specs.Prelude.{slice_get, option_map}
 use Rattle.std.proofs.lemmas.Bool.{cases_eq}
 use Rattle.std.proofs.lemmas.List.{length-set, length-replicate}
@@ -36,10 +36,11 @@ frame_hart c t f k g = record {
 pub still_hart : (t : ℕ) (f : Hart → Hart) (k : Parts) → Still k (on_hart t f k)
 still_hart t f k = record { tasks = refl; harts = length-change f k.harts t; mutexes = refl; console = refl }
 
-pub frame_task : (c t : ℕ) (f : Task → Task) (k : Parts) → Frame c (Some t) k (on_task t f k)
-frame_task c t f k = record {
+-- .. and the stamp that is given next, if only to a greater one
+frame_stamped : (c t stamps : ℕ) (f : Task → Task) (k : Parts) → k.stamps ≤ stamps → Frame c (Some t) k (record (on_task t f k) { stamps = stamps })
+frame_stamped c t stamps f k more = record {
   ticks = refl;
-  stamps = omega arith;
+  stamps = more;
   processors = λ d h. refl;
   pipes = λ d h. refl;
   others = λ u h. inl (record { task = λ task e. change-elsewhere f k.tasks t u (λ same. h (ap Some (sym same))) ∙ e; hart = λ hart e. e });
@@ -49,6 +50,9 @@ frame_task c t f k = record {
   pipes_count = refl;
   registers = λ h. h;
 }
+
+pub frame_task : (c t : ℕ) (f : Task → Task) (k : Parts) → Frame c (Some t) k (on_task t f k)
+frame_task c t f k = frame_stamped c t k.stamps f k (omega arith)
 
 pub still_task : (t : ℕ) (f : Task → Task) (k : Parts) → Still k (on_task t f k)
 still_task t f k = record { tasks = length-change f k.tasks t; harts = refl; mutexes = refl; console = refl }
@@ -63,20 +67,7 @@ still_state t state k = still_task t _ k
 
 pub frame_restamp : (c t : ℕ) (k : Parts) → Frame c (Some t) k (restamp t k)
 unfolding restamp
-frame_restamp c t k =
-    let f : Task → Task = λ task. record task { stamp = k.stamps } in
-    record {
-      ticks = refl;
-      stamps = omega arith;
-      processors = λ d h. refl;
-      pipes = λ d h. refl;
-      others = λ u h. inl (record { task = λ task e. change-elsewhere f k.tasks t u (λ same. h (ap Some (sym same))) ∙ e; hart = λ hart e. e });
-      back = λ u x h e. inr (sym (change-elsewhere f k.tasks t u (λ same. h (ap Some (sym same)))) ∙ e);
-      mutexes = λ m before e. inl e;
-      processors_count = refl;
-      pipes_count = refl;
-      registers = λ h. h;
-    }
+frame_restamp c t k = frame_stamped c t (k.stamps + 1) _ k (omega arith)
 
 pub still_restamp : (t : ℕ) (k : Parts) → Still k (restamp t k)
 unfolding restamp
