@@ -15,6 +15,7 @@ use Rattle.evm_asm.specs.Places.{place_behind, statement_in}
 use Rattle.evm_asm.specs.Sources.{Laid, nothing_laid, laid, outcome, measured, line_defined, line_laid, source_lines, code_of}
 use Rattle.evm_asm.specs.Items.{text_base, address, distance, load_address, expanded, with_instructions, operands, with_statement, statement_meant, line_meant, layout_of}
 use Rattle.evm_asm.specs.Least.{fault_in, lesser, line_fault, fault_at, IsFirstFault}
+use Rattle.evm_asm.specs.Assembled.{program_of}
 use Rattle.evm_asm.specs.HasFault.{HasLabelTwice, text_behind_labels, IsFar, LacksLabel, Said, IsWrong, HasFault, IsLeastOfFirst, RefusedWithTheLeast}
 use Rattle.evm_asm.proofs.Statements_without_labels.{measured_alike}
 use Rattle.evm_asm.proofs.Operand_faults.{IsLeast, same_least, either_least}
@@ -249,3 +250,13 @@ refused_with_the_least source =
         λ h. first.1.1 (λ n. none_least (HasFault source n) (fault_at source n) (fault_least source n) (h n)),
       ),
     )
+
+-- no source means that memory ran out
+lacks_no_memory : (source : List ℕ) (n : ℕ) → HasFault source n NoMemory → ⊥
+lacks_no_memory source zero h = h
+lacks_no_memory source (suc n) h = h.2
+
+pub never_out_of_memory : (source : List ℕ) (fault : AsmFault) → program_of source ≡ Err fault → fault.kind ≡ NoMemory → ⊥
+never_out_of_memory source fault e k =
+    let least : IsLeastOfFirst source fault = ((refused_with_the_least source).0 fault).0 e in
+    lacks_no_memory source fault.line (rw (← k) least.0)

@@ -1,7 +1,7 @@
 //! Why a source has no program.
 
 use evm_asm_lexer::AsmFault;
-use evm_asm_parser::Refused;
+use evm_room::Refused;
 
 /// A growth was refused in a line.
 #[derive(Drop)]

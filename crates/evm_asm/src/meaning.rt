@@ -14,8 +14,9 @@ use evm_asm_lexer::{
     AsmFault, AsmFaultKind, Section, Width, after, before, behind_word, least, skip_blanks,
 };
 use evm_asm_parser::{
-    Kept, KeptLines, Labels, Reading, Refused, Statement, first_operand, other_operands, push,
+    Kept, KeptLines, Labels, Reading, Statement, first_operand, other_operands, push,
 };
+use evm_room::Refused;
 use std::alloc::Global;
 
 /// Why the meaning of a line is not told: a growth was refused, or the line has a fault.

@@ -11,8 +11,9 @@ use crate::failure::{Failure, Shortage};
 use crate::item::{Item, Placed, TEXT_BASE};
 use crate::place::bytes_in;
 use evm_asm_lexer::{AsmFault, AsmFaultKind, Section, Width};
-use evm_asm_parser::{Refused, extend, push};
+use evm_asm_parser::{extend, push};
 use evm_isa::{Inst, encode};
+use evm_room::Refused;
 use std::alloc::Global;
 
 /// An instruction of a program: where it is, the source line that it comes from (from 1), its word, and the

@@ -8,6 +8,7 @@ ghost use Rattle.evm_asm.specs.Assembled.{assembled, program_of, IsWorded, Stand
 ghost use Rattle.evm_asm.specs.Views.{view};
 ghost use Rattle.evm_asm.specs.Programs.{program_bytes};
 ghost use Rattle.evm_asm.specs.Bounds.{bytes_max};
+ghost use Rattle.evm_room.specs.Growth.{RefusedWithin};
 
 use crate::failure::{Failure, Shortage};
 use crate::item::address;
@@ -15,8 +16,9 @@ use crate::layout::{Layout, lay_out};
 use crate::meaning::meaning;
 use crate::output::{Output, ProgramLine, image, spell};
 use evm_asm_lexer::{AsmFault, AsmFaultKind};
-use evm_asm_parser::{Labels, Refused};
+use evm_asm_parser::Labels;
 use evm_isa::encoded_by_table;
+use evm_room::Refused;
 use std::alloc::Global;
 use std::marker::Model;
 
@@ -34,6 +36,7 @@ impl Model for Program {
     ghost use Rattle.std.specs.Prelude.{◌≤◌, length};
     ghost use Rattle.evm_asm.specs.Assembled.{Assembled, addressed};
     ghost use Rattle.evm_asm.specs.Bounds.{bytes_max};
+    ghost use Rattle.evm_room.specs.Growth.{RefusedWithin};
 
     ghost Value = { Assembled };
 
@@ -132,6 +135,8 @@ fn assembled(alloc: Global, source: &str) -> Result<Program, Failure>
 pub fn assemble(alloc: Global, source: &str) -> Result<Program, AsmFault>
     // The program or the fault is the one that the source means, unless memory runs out.
     ensures exact { Tells (λ p. p) result (program_of source.now) }
+    // Memory runs out only where a growth was refused that is hardly greater than the source, or no greater than a program.
+    ensures memory { IfErr result (λ fault. fault.kind ≡ AsmFaultKind.NoMemory → RefusedWithin (length source.now + bytes_max)) }
     // The word of each line stands for its instruction, by the table of instructions.
     ensures words { IfOk result (λ p. All IsWorded p.lines) }
     // It stands at the line's address.
@@ -141,9 +146,12 @@ pub fn assemble(alloc: Global, source: &str) -> Result<Program, AsmFault>
     match assembled(alloc, source) {
         Ok(program) => Ok(program),
         Err(Failure::Fault(fault)) => Err(fault),
-        Err(Failure::Memory(shortage)) => Err(AsmFault {
-            line: shortage.line,
-            kind: AsmFaultKind::NoMemory,
-        }),
+        Err(Failure::Memory(shortage)) => {
+            shortage.refused.within();
+            Err(AsmFault {
+                line: shortage.line,
+                kind: AsmFaultKind::NoMemory,
+            })
+        }
     }
 }

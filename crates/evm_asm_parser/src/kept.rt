@@ -3,9 +3,10 @@
 ghost use Rattle.std.specs.Prelude.{◌≡◌, OnOk, IfErr, [], ◌∷◌, ◌++◌};
 ghost use Rattle.evm_asm_parser.specs.Kept.{kept_of};
 
-use crate::memory::{Refused, push};
+use crate::memory::push;
 use crate::spot::Spot;
 use crate::statement::{Reading, Statement};
+use evm_room::Refused;
 use std::alloc::Global;
 use std::marker::Model;
 

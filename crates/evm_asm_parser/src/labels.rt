@@ -4,8 +4,9 @@ ghost use Rattle.std.specs.Prelude.{◌≡◌, ◌≤◌, ◌+◌, OnOk, IfErr, 
 ghost use Rattle.std.specs.Option.{option_map};
 ghost use Rattle.evm_asm_lexer.specs.Names.{named};
 
-use crate::memory::{Refused, copied, grow_by_label};
+use crate::memory::copied;
 use crate::spot::Spot;
+use evm_room::{Refused, grow_map};
 use indexmap::IndexMap;
 use std::alloc::Global;
 use std::marker::Model;
@@ -59,7 +60,7 @@ impl Labels {
         ensures refused { IfErr result (λ asked. asked ≤ length name.now + 1) }
     {
         let name = copied(alloc, name)?;
-        grow_by_label(&mut self.spots)?;
+        grow_map(&mut self.spots, 1)?;
         match self.spots.insert(name, spot) {
             Ok(_) => Ok(()),
             Err(_) => unreachable!(),

@@ -16,7 +16,7 @@ pub use directive::{also, datum_in};
 pub use instruction::upper;
 pub use kept::{Kept, KeptLines};
 pub use labels::Labels;
-pub use memory::{Refused, extend, push};
+pub use memory::{extend, push};
 pub use operand::{first_operand, name_in, other_operands, starts_with_name};
 pub use spot::Spot;
 pub use statement::{Datum, Reading, Statement, statement_of, zero};

@@ -3,7 +3,7 @@
 
 mod growth;
 
-pub use growth::{Refused, grow, grow_text, push_text};
+pub use growth::{Refused, grow, grow_map, grow_text, push_text};
 
 #[cfg(test)]
 mod tests;
