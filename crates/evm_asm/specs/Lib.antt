@@ -13,3 +13,4 @@ pub mod Sizes
 pub mod Least
 pub mod HasFault
 pub mod FirstFault
+pub mod Quoting

@@ -22,8 +22,9 @@ pub fn code_of(line: &[u8]) -> &[u8]
     before(b'#', line)
 }
 
+/// The label at the front of a text, and what is behind it.
 #[tactic(auto, unfolding(crate::specs::Sources::label_at))]
-fn label_at(text: &[u8]) -> Option<(&[u8], &[u8])>
+pub fn label_at(text: &[u8]) -> Option<(&[u8], &[u8])>
     ensures { option_map (λ x. (x.0.now, x.1.now)) result ≡ label_at text.now }
 {
     if !has(b':', text) {

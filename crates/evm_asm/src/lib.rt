@@ -12,6 +12,7 @@ mod place;
 mod place_laws;
 mod program;
 mod program_laws;
+mod quoting;
 
 pub use evm_asm_lexer::{AsmFault, AsmFaultKind};
 pub use fault_laws::{refused_with_the_first, refused_with_the_least};
@@ -28,6 +29,7 @@ pub use place_laws::{
 };
 pub use program::{Program, assemble};
 pub use program_laws::lines_are_worded;
+pub use quoting::quoted;
 
 #[cfg(test)]
 mod tests;

@@ -175,7 +175,8 @@ pub fn place_behind(place: Place, statement: Statement) -> Result<Place, AsmFaul
     }
 }
 
-fn is_directive(mnemonic: Mnemonic) -> bool
+/// Whether a mnemonic is a directive's.
+pub fn is_directive(mnemonic: Mnemonic) -> bool
     ensures { result ≡ is_directive mnemonic }
 {
     match mnemonic {

@@ -5,7 +5,7 @@ mod faults;
 mod lines;
 mod vectors;
 
-use faults::FAULTS;
+use faults::{FAULTS, QUOTED};
 use lines::{ADDRESSES, BYTES, LINES, NOPS, PAIRS};
 use vectors::{DATA, DATA_AT, SOURCE, TEXT_AT, TEXT_NUMBERS, WORDS};
 
@@ -134,6 +134,22 @@ fn labels_have_their_addresses(rt: HostRuntime) -> Result<(), Fail> {
     for (source, name, address) in ADDRESSES.iter() {
         let program = assemble(rt.alloc(), *source)?;
         assert_eq!(rt; program.address_of(*name), *address, "in {source}");
+    }
+    Ok(())
+}
+
+// The word that is quoted is the one that is wrong; where the fault doesn't tell which, none is.
+#[test]
+fn wrong_words_are_quoted(rt: HostRuntime) -> Result<(), Fail> {
+    for (source, word) in QUOTED.iter() {
+        let Some(fault) = assemble(rt.alloc(), *source).err() else {
+            return Err(Fail::from(*source));
+        };
+        let wanted = match word.as_bytes() {
+            [] => None,
+            word => Some(word),
+        };
+        assert_eq!(rt; quoted(*source, fault), wanted, "in {source}");
     }
     Ok(())
 }

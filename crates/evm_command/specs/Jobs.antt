@@ -15,7 +15,7 @@ use Rattle.evm_serve.specs.Imaging.{Imports}
 use Rattle.evm_serve.specs.declared.ending.Ending.{Ending}
 use Rattle.evm_command.specs.declared.system.OpenFault.{OpenFault}
 use Rattle.evm_command.specs.declared.system.World.{World}
-use Rattle.evm_command.specs.Telling.{about, program_name, script_name, not_opened_text, not_created_text, Tells, Ended}
+use Rattle.evm_command.specs.Telling.{about, program_name, script_name, not_opened_text, not_created_text, Tells, Ended, EndedWith}
 
 module _ {S O C I W E : Type 0} where
   -- no file is asked for, and standard input is not read
@@ -45,7 +45,7 @@ module _ {S O C I W E : Type 0} (creates : S → List ℕ → Result C OpenFault
   abbrev pub AssemblesSource : List ℕ → List ℕ → List ℕ → Result C OpenFault → World S O C I W E → World S O C I W E → ℕ → Type 0
   AssemblesSource source out text (Err fault) w w' status = NotOpened tells (not_created_text out fault) w w' status
   AssemblesSource source out text (Ok file) w w' status = AsksNothing w w' × ((ending : Ending) × (file' : C)
-      × Assembles created writes (program_of text) file file' w.output w'.output ending × Ended tells source ending w.errors w'.errors status)
+      × Assembles created writes (program_of text) file file' w.output w'.output ending × EndedWith tells (Some text) source ending w.errors w'.errors status)
 
   -- OUT is created for a source that was read
   abbrev pub Creates : List ℕ → List ℕ → List ℕ → World S O C I W E → World S O C I W E → ℕ → Type 0

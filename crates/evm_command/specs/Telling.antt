@@ -1,5 +1,5 @@
 -- What standard error is told, and the status that a job ends with.
-use Rattle.std.specs.Prelude.{◌≡◌, ℕ, List, ◌++◌, ◌⊎◌, Result, Ok, Err, codes}
+use Rattle.std.specs.Prelude.{◌≡◌, ℕ, List, ◌++◌, ◌⊎◌, Option, Some, None, Result, Ok, Err, codes}
 use Rattle.evm_streams.specs.declared.sink.Writing.{Writing}
 use Rattle.evm_streams.specs.declared.sink.WriteFault.{WriteFault}
 use Rattle.evm_streams.specs.declared.source.ReadFault.{ReadFault}
@@ -7,11 +7,17 @@ use Rattle.evm_streams.specs.declared.source.ReadFault.TheVariants.{Failed, TooL
 use Rattle.evm_streams.specs.Writes.{Took, TookPrefix}
 use Rattle.evm_text.specs.Written.{decimal}
 use Rattle.evm_elf.specs.Sentences.{elf_sentence}
-use Rattle.evm_serve.specs.Faults.{line_at_fault, fault_sentence}
+use Rattle.evm_asm_lexer.specs.Sentences.{asm_sentence}
+use Rattle.evm_asm.specs.Quoting.{quoted}
+use Rattle.evm_serve.specs.Faults.{line_at_fault, fault_sentence, sentence_text}
+use Rattle.evm_serve.specs.declared.fault.Fault.{Fault}
+use Rattle.evm_serve.specs.declared.fault.Fault.TheVariants.{NoProgram}
 use Rattle.evm_serve.specs.Serving.{status_at}
 use Rattle.evm_serve.specs.declared.ending.Verdict.TheVariants.{Done, Refused, ImageRefused}
 use Rattle.evm_serve.specs.declared.ending.Ending.{Ending}
 use Rattle.evm_serve.specs.declared.ending.Ending.TheVariants.{Complete, NoMemory, ReadFailed, WriteFailed}
+use Rattle.evm_command.specs.declared.telling.Words.{Words}
+use Rattle.evm_command.specs.declared.telling.Words.TheVariants.{Said, Quoting}
 use Rattle.evm_command.specs.declared.system.OpenFault.{OpenFault}
 use Rattle.evm_command.specs.declared.system.OpenFault.TheVariants.{Missing, Denied, Folder, Other}
 
@@ -60,6 +66,22 @@ not_read_sentence Failed = codes "a read failed"
 not_read_sentence TooLong = codes "more than 16777216 bytes"
 not_read_sentence NotUtf8 = codes "not UTF-8"
 
+-- ---- the words of a sentence, and the word that it quotes
+
+abbrev pub quoting : List ℕ → Option (List ℕ) → List ℕ
+quoting sentence None = sentence
+quoting sentence (Some word) = sentence ++ (codes " \"" ++ (word ++ codes "\""))
+
+-- what is said of the fault of a job: of a source that has one, with the word that is wrong, where the fault tells which
+abbrev pub fault_words : Option (List ℕ) → Fault → List ℕ
+fault_words None fault = fault_sentence fault
+fault_words (Some source) (NoProgram fault) = quoting (asm_sentence fault.kind) (quoted source fault)
+fault_words (Some source) fault = fault_sentence fault
+
+abbrev pub words_text : Words → List ℕ
+words_text (Said sentence) = sentence_text sentence
+words_text (Quoting sentence word) = quoting sentence.now (Some word.now)
+
 module _ {E : Type 0} (takes : E → Writing → List ℕ → E → Type 0) where
   -- A text was written, or a write failed after a prefix of it, as the answer says.
   abbrev pub Writes : List ℕ → Result (Unit {0}) WriteFault → E → E → Type 0
@@ -70,15 +92,20 @@ module _ {E : Type 0} (takes : E → Writing → List ℕ → E → Type 0) wher
   abbrev pub Tells : List ℕ → E → E → Type 0
   Tells text e e' = Took takes e text e' ⊎ TookPrefix takes e text e'
 
-  -- What a job on a file tells of its ending: nothing where all is done, else what went wrong, and on which line.
-  abbrev pub Explains : List ℕ → Ending → E → E → Type 0
-  Explains name (Complete Done) e e' = e' ≡ e
-  Explains name (Complete (Refused fault)) e e' = Tells (about_line name (line_at_fault fault) (fault_sentence fault)) e e'
-  Explains name (Complete (ImageRefused fault)) e e' = Tells (about name (elf_sentence fault)) e e'
-  Explains name NoMemory e e' = Tells (about name (codes "out of memory")) e e'
-  Explains name (ReadFailed fault) e e' = Tells (about name (not_read_sentence fault)) e e'
-  Explains name (WriteFailed fault) e e' = Tells (about program_name (codes "a write failed")) e e'
+  -- What a job on a file tells of its ending: nothing where all is done, else what went wrong, and on which line. Of a source that was read
+  -- the text is known.
+  abbrev pub Explains : Option (List ℕ) → List ℕ → Ending → E → E → Type 0
+  Explains source name (Complete Done) e e' = e' ≡ e
+  Explains source name (Complete (Refused fault)) e e' = Tells (about_line name (line_at_fault fault) (fault_words source fault)) e e'
+  Explains source name (Complete (ImageRefused fault)) e e' = Tells (about name (elf_sentence fault)) e e'
+  Explains source name NoMemory e e' = Tells (about name (codes "out of memory")) e e'
+  Explains source name (ReadFailed fault) e e' = Tells (about name (not_read_sentence fault)) e e'
+  Explains source name (WriteFailed fault) e e' = Tells (about program_name (codes "a write failed")) e e'
 
   -- A job that ends so has the status of its ending, and has told why.
+  abbrev pub EndedWith : Option (List ℕ) → List ℕ → Ending → E → E → ℕ → Type 0
+  EndedWith source name ending e e' status = Explains source name ending e e' × (status ≡ status_at ending)
+
+  -- the same of a job on no source
   abbrev pub Ended : List ℕ → Ending → E → E → ℕ → Type 0
-  Ended name ending e e' status = Explains name ending e e' × (status ≡ status_at ending)
+  Ended name ending e e' status = EndedWith None name ending e e' status

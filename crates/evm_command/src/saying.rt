@@ -1,13 +1,16 @@
 //! What standard error is told, and the status of a job.
 
-ghost use Rattle.std.specs.Prelude.{◌≡◌};
+ghost use Rattle.std.specs.Prelude.{◌≡◌, Some, option_copied};
+ghost use Rattle.evm_asm_lexer.specs.Sentences.{asm_sentence};
+ghost use Rattle.evm_asm.specs.Quoting.{quoted};
 ghost use Rattle.evm_serve.specs.Serving.{Unread};
 ghost use Rattle.evm_command.specs.Jobs.{NotRead, NotWords};
-ghost use Rattle.evm_command.specs.Telling.{Tells, Explains, Ended, program_name, not_opened_sentence, not_opened_text, not_created_sentence, not_created_text, not_read_sentence};
+ghost use Rattle.evm_command.specs.Telling.{Tells, Explains, Ended, EndedWith, quoting, words_text, fault_words, program_name, not_opened_sentence, not_opened_text, not_created_sentence, not_created_text, not_read_sentence};
 
 use crate::system::{OpenFault, System, World};
-use crate::telling::{tell_about, tell_about_line};
-use evm_serve::{Ending, ReadFault, ReadStop, Sentence, Verdict};
+use crate::telling::{Words, tell_about, tell_about_line};
+use evm_asm::{AsmFault, quoted};
+use evm_serve::{Ending, Fault, ReadFault, ReadStop, Sentence, Verdict};
 use evm_streams::{Sink, write_all};
 
 /// The status where a file can't be opened, created, read or written.
@@ -69,14 +72,40 @@ fn not_read_sentence(fault: ReadFault) -> &'static str
     }
 }
 
+// What is said of a source that has a fault.
+fn program_words(source: &str, fault: AsmFault) -> Words<'_>
+    ensures { words_text result ≡ quoting (asm_sentence fault.kind) (quoted source.now fault) }
+{
+    let sentence = fault.kind.sentence();
+    match quoted(source, fault) {
+        Some(word) => Words::Quoting(sentence, word),
+        None => Words::Said(Sentence::Plain(sentence)),
+    }
+}
+
+// What is said of the fault of a job.
+fn fault_words(source: Option<&str>, fault: Fault) -> Words<'_>
+    ensures { words_text result ≡ fault_words (option_copied source.entry) fault }
+{
+    let Some(source) = source else {
+        return Words::Said(fault.sentence());
+    };
+    match fault {
+        Fault::NoProgram(fault) => program_words(source, fault),
+        Fault::BadLine(_) | Fault::Refused(_, _, _) | Fault::NoJournal(_) => {
+            Words::Said(fault.sentence())
+        }
+    }
+}
+
 // Tells why a job on a file did not end well.
-fn explain<E: Sink>(name: &str, ending: Ending, errors: &mut E)
-    ensures { Explains E.takes name.now ending errors.old errors.new }
+fn explain<E: Sink>(source: Option<&str>, name: &str, ending: Ending, errors: &mut E)
+    ensures { Explains E.takes (option_copied source.entry) name.now ending errors.old errors.new }
 {
     match ending {
         Ending::Complete(Verdict::Done) => {}
         Ending::Complete(Verdict::Refused(fault)) => {
-            tell_about_line(name, fault.line(), fault.sentence(), errors)
+            tell_about_line(name, fault.line(), fault_words(source, fault), errors)
         }
         Ending::Complete(Verdict::ImageRefused(fault)) => {
             tell_about(name, Sentence::Plain(fault.sentence()), errors)
@@ -89,12 +118,25 @@ fn explain<E: Sink>(name: &str, ending: Ending, errors: &mut E)
     }
 }
 
-/// The status of a job on a file, once standard error is told why it did not end well.
+/// The status of a job on a file, once standard error is told why it did not end well. Of a source that was read the
+/// text is known.
+pub(crate) fn ended_with<E: Sink>(
+    source: Option<&str>,
+    name: &str,
+    ending: &Ending,
+    errors: &mut E,
+) -> u8
+    ensures { EndedWith E.takes (option_copied source.entry) name.now ending.now errors.old errors.new result }
+{
+    explain(source, name, *ending, errors);
+    ending.status()
+}
+
+/// The same of a job on no source.
 pub(crate) fn ended<E: Sink>(name: &str, ending: &Ending, errors: &mut E) -> u8
     ensures { Ended E.takes name.now ending.now errors.old errors.new result }
 {
-    explain(name, *ending, errors);
-    ending.status()
+    ended_with(None, name, ending, errors)
 }
 
 // How a job ends that has not read its input. Where an allocation failed, the line `memory` is written.

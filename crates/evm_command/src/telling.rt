@@ -1,12 +1,19 @@
 //! Sentences about files and about their lines, on standard error.
 
-ghost use Rattle.std.specs.Prelude.{◌≡◌, ◌<◌, ◌+◌, ◌^◌, ◌++◌, codes};
+ghost use Rattle.std.specs.Prelude.{◌≡◌, ◌<◌, ◌+◌, ◌^◌, ◌++◌, Some, codes};
 ghost use Rattle.evm_text.specs.Written.{numeral, decimal};
 ghost use Rattle.evm_serve.specs.Faults.{sentence_text};
-ghost use Rattle.evm_command.specs.Telling.{Writes, Tells, behind_place, about, about_line};
+ghost use Rattle.evm_command.specs.Telling.{Writes, Tells, behind_place, about, about_line, quoting, words_text};
 
 use evm_serve::Sentence;
 use evm_streams::{Sink, WriteFault, write_all};
+
+/// What is said: a sentence, or one that quotes a word.
+#[derive(Clone, Copy)]
+pub(crate) enum Words<'a> {
+    Said(Sentence),
+    Quoting(&'static str, &'a [u8]),
+}
 
 // Writes a number in decimal, of at most so many digits behind its first.
 fn write_decimal<E: Sink>(number: u64, behind: u8, errors: &mut E) -> Result<(), WriteFault>
@@ -42,8 +49,38 @@ fn write_of_cpu<E: Sink>(front: &str, cpu: u8, back: &str, errors: &mut E) -> Re
     }
 }
 
+// Writes the end of a quoted word.
+fn write_closed<E: Sink>(word: &[u8], errors: &mut E) -> Result<(), WriteFault>
+    ensures { Writes E.takes (word.now ++ codes "\"") result errors.old errors.new }
+{
+    match write_all(errors, word) {
+        Ok(()) => write_all(errors, b"\""),
+        Err(fault) => Err(fault),
+    }
+}
+
+// Writes a quoted word.
+fn write_quoted<E: Sink>(word: &[u8], errors: &mut E) -> Result<(), WriteFault>
+    ensures { Writes E.takes (codes " \"" ++ (word.now ++ codes "\"")) result errors.old errors.new }
+{
+    match write_all(errors, b" \"") {
+        Ok(()) => write_closed(word, errors),
+        Err(fault) => Err(fault),
+    }
+}
+
+// Writes a sentence that quotes a word.
+fn write_quoting<E: Sink>(sentence: &str, word: &[u8], errors: &mut E) -> Result<(), WriteFault>
+    ensures { Writes E.takes (quoting sentence.now (Some word.now)) result errors.old errors.new }
+{
+    match write_all(errors, sentence.as_bytes()) {
+        Ok(()) => write_quoted(word, errors),
+        Err(fault) => Err(fault),
+    }
+}
+
 // Writes the words of a sentence.
-fn write_words<E: Sink>(sentence: Sentence, errors: &mut E) -> Result<(), WriteFault>
+fn write_said<E: Sink>(sentence: Sentence, errors: &mut E) -> Result<(), WriteFault>
     ensures { Writes E.takes (sentence_text sentence) result errors.old errors.new }
 {
     match sentence {
@@ -52,52 +89,62 @@ fn write_words<E: Sink>(sentence: Sentence, errors: &mut E) -> Result<(), WriteF
     }
 }
 
-// Writes a sentence to its end.
-fn write_sentence<E: Sink>(sentence: Sentence, errors: &mut E) -> Result<(), WriteFault>
-    ensures { Writes E.takes (sentence_text sentence ++ codes "\n") result errors.old errors.new }
+// Writes what is said.
+fn write_words<E: Sink>(words: Words<'_>, errors: &mut E) -> Result<(), WriteFault>
+    ensures { Writes E.takes (words_text words.entry) result errors.old errors.new }
 {
-    match write_words(sentence, errors) {
+    match words {
+        Words::Said(sentence) => write_said(sentence, errors),
+        Words::Quoting(sentence, word) => write_quoting(sentence, word, errors),
+    }
+}
+
+// Writes a sentence to its end.
+fn write_sentence<E: Sink>(words: Words<'_>, errors: &mut E) -> Result<(), WriteFault>
+    ensures { Writes E.takes (words_text words.entry ++ codes "\n") result errors.old errors.new }
+{
+    match write_words(words, errors) {
         Ok(()) => write_all(errors, b"\n"),
         Err(fault) => Err(fault),
     }
 }
 
 // Writes a sentence behind a place.
-fn write_behind<E: Sink>(sentence: Sentence, errors: &mut E) -> Result<(), WriteFault>
-    ensures { Writes E.takes (behind_place (sentence_text sentence)) result errors.old errors.new }
+fn write_behind<E: Sink>(words: Words<'_>, errors: &mut E) -> Result<(), WriteFault>
+    ensures { Writes E.takes (behind_place (words_text words.entry)) result errors.old errors.new }
 {
     match write_all(errors, b": ") {
-        Ok(()) => write_sentence(sentence, errors),
+        Ok(()) => write_sentence(words, errors),
         Err(fault) => Err(fault),
     }
 }
 
 // Writes a sentence about a file.
-fn write_about<E: Sink>(name: &str, sentence: Sentence, errors: &mut E) -> Result<(), WriteFault>
-    ensures { Writes E.takes (about name.now (sentence_text sentence)) result errors.old errors.new }
+fn write_about<E: Sink>(name: &str, words: Words<'_>, errors: &mut E) -> Result<(), WriteFault>
+    ensures { Writes E.takes (about name.now (words_text words.entry)) result errors.old errors.new }
 {
     match write_all(errors, name.as_bytes()) {
-        Ok(()) => write_behind(sentence, errors),
+        Ok(()) => write_behind(words, errors),
         Err(fault) => Err(fault),
     }
 }
 
 // Writes the number of a line, and a sentence behind it.
-fn write_numbered<E: Sink>(line: u64, sentence: Sentence, errors: &mut E) -> Result<(), WriteFault>
-    ensures { Writes E.takes (decimal line ++ behind_place (sentence_text sentence)) result errors.old errors.new }
+fn write_numbered<E: Sink>(line: u64, words: Words<'_>, errors: &mut E) -> Result<(), WriteFault>
+    ensures { Writes E.takes (decimal line ++ behind_place (words_text words.entry)) result errors.old errors.new }
 {
     match write_decimal(line, 19, errors) {
-        Ok(()) => write_behind(sentence, errors),
+        Ok(()) => write_behind(words, errors),
         Err(fault) => Err(fault),
     }
 }
 
 // Writes a sentence behind the number of a line.
-fn write_line<E: Sink>(line: u64, sentence: Sentence, errors: &mut E) -> Result<(), WriteFault>
-    ensures { Writes E.takes (codes ":" ++ (decimal line ++ behind_place (sentence_text sentence))) result errors.old errors.new }
+fn write_line<E: Sink>(line: u64, words: Words<'_>, errors: &mut E) -> Result<(), WriteFault>
+    ensures { Writes E.takes (codes ":" ++ (decimal line ++ behind_place (words_text words.entry))) result errors.old errors.new }
 {
     match write_all(errors, b":") {
-        Ok(()) => write_numbered(line, sentence, errors),
+        Ok(()) => write_numbered(line, words, errors),
         Err(fault) => Err(fault),
     }
 }
@@ -106,13 +153,13 @@ fn write_line<E: Sink>(line: u64, sentence: Sentence, errors: &mut E) -> Result<
 fn write_about_line<E: Sink>(
     name: &str,
     line: u64,
-    sentence: Sentence,
+    words: Words<'_>,
     errors: &mut E,
 ) -> Result<(), WriteFault>
-    ensures { Writes E.takes (about_line name.now line (sentence_text sentence)) result errors.old errors.new }
+    ensures { Writes E.takes (about_line name.now line (words_text words.entry)) result errors.old errors.new }
 {
     match write_all(errors, name.as_bytes()) {
-        Ok(()) => write_line(line, sentence, errors),
+        Ok(()) => write_line(line, words, errors),
         Err(fault) => Err(fault),
     }
 }
@@ -121,12 +168,12 @@ fn write_about_line<E: Sink>(
 pub(crate) fn tell_about<E: Sink>(name: &str, sentence: Sentence, errors: &mut E)
     ensures { Tells E.takes (about name.now (sentence_text sentence)) errors.old errors.new }
 {
-    let _told = write_about(name, sentence, errors);
+    let _told = write_about(name, Words::Said(sentence), errors);
 }
 
 /// The same about a line of a file.
-pub(crate) fn tell_about_line<E: Sink>(name: &str, line: u64, sentence: Sentence, errors: &mut E)
-    ensures { Tells E.takes (about_line name.now line (sentence_text sentence)) errors.old errors.new }
+pub(crate) fn tell_about_line<E: Sink>(name: &str, line: u64, words: Words<'_>, errors: &mut E)
+    ensures { Tells E.takes (about_line name.now line (words_text words.entry)) errors.old errors.new }
 {
-    let _told = write_about_line(name, line, sentence, errors);
+    let _told = write_about_line(name, line, words, errors);
 }

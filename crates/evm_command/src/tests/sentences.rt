@@ -55,9 +55,13 @@ fn fault_of(path: &str) -> OpenFault {
     }
 }
 
-const FILES: [(&str, &[u8]); 4] = [
+const FILES: [(&str, &[u8]); 8] = [
     ("p.s", b"nop\n"),
     ("q.s", b"nop\n\nli a9,1\n"),
+    ("base.s", b"here: lw a0, 8( sp8 ) # t9\n"),
+    ("word.s", b"nop\nhere: move a0,a1"),
+    ("twice.s", b"here: nop\nthere:\nhere: nop\n"),
+    ("missing.s", b"nop\nbeqz a0,there\n"),
     ("range.s", b"addi a0,a0,2048\n"),
     ("bytes.s", b"\xff\n"),
 ];
@@ -89,7 +93,23 @@ fn check_told(
 fn files_are_told_of(rt: HostRuntime) -> Result<(), Fail> {
     for (line, told) in [
         ("evltool asm p.s p.elf", ""),
-        ("evltool asm q.s p.elf", "q.s:3: unknown name\n"),
+        ("evltool asm q.s p.elf", "q.s:3: unknown name \"a9\"\n"),
+        (
+            "evltool asm base.s p.elf",
+            "base.s:1: unknown name \"sp8\"\n",
+        ),
+        (
+            "evltool asm word.s p.elf",
+            "word.s:2: unknown name \"move\"\n",
+        ),
+        (
+            "evltool asm twice.s p.elf",
+            "twice.s:3: a label that is defined already \"here\"\n",
+        ),
+        (
+            "evltool asm missing.s p.elf",
+            "missing.s:2: no line defines this label \"there\"\n",
+        ),
         (
             "evltool asm range.s p.elf",
             "range.s:1: a number outside its range, or a label that is odd or too far\n",
