@@ -7,6 +7,7 @@ use Rattle.evm_streams.specs.declared.sink.Writing.{Writing}
 use Rattle.evm_streams.specs.Reads.{Reads, ReadsText}
 use Rattle.evm_image.specs.Images.{Contents}
 use Rattle.evm_asm.specs.Assembled.{program_of}
+use Rattle.evm_serve.specs.Given.{Given, an_image, nothing}
 use Rattle.evm_serve.specs.Told.{told}
 use Rattle.evm_serve.specs.Serving.{Serves, Unread}
 use Rattle.evm_serve.specs.Replaying.{replay_told}
@@ -88,7 +89,7 @@ module _ {S O C I W E : Type 0} (opens : S → List ℕ → Result O OpenFault �
   abbrev pub ReplaysFile : List ℕ → Contents → Result O OpenFault → World S O C I W E → World S O C I W E → ℕ → Type 0
   ReplaysFile path image (Err fault) w w' status = NotOpened tells (not_opened_text path fault) w w' status
   ReplaysFile path image (Ok file) w w' status = AsksNothing w w' × ((read : Result (List ℕ) ReadStop) × (ending : Ending) × (file' : O)
-      × ReadsText opened file file' read × Serves writes (replay_told image) read w.output w'.output ending × Ended tells path ending w.errors w'.errors status)
+      × ReadsText opened file file' read × Serves writes (replay_told (an_image image)) read w.output w'.output ending × Ended tells path ending w.errors w'.errors status)
 
   abbrev pub ReplaysJournal : List ℕ → Contents → World S O C I W E → World S O C I W E → ℕ → Type 0
   ReplaysJournal path image w w' status = (answer : Result O OpenFault) × (files : S) × opens w.files path answer files × ReplaysFile path image answer (record w { files = files }) w' status
@@ -98,19 +99,19 @@ module _ {S O C I W E : Type 0} (opens : S → List ℕ → Result O OpenFault �
   Replays path journal w w' status = (loaded : Result Contents ℕ) × (between : World S O C I W E) × Loads path w between loaded × Behind loaded (ReplaysJournal journal) between w' status
 
 module _ {S O C I W E : Type 0} (gives : I → Reading → List ℕ → I → Type 0) (writes : W → Writing → List ℕ → W → Type 0) (tells : E → Writing → List ℕ → E → Type 0) where
-  -- the script of standard input is served, with an image or none
-  abbrev pub ServesInput : Option Contents → World S O C I W E → World S O C I W E → ℕ → Type 0
-  ServesInput image w w' status = (w'.files ≡ w.files) × ((read : Result (List ℕ) ReadStop) × (ending : Ending)
-      × Reads gives w.input w'.input read × Serves writes (told image) read w.output w'.output ending × Ended tells script_name ending w.errors w'.errors status)
+  -- the script of standard input is served, with what is given to its run
+  abbrev pub ServesInput : Given → World S O C I W E → World S O C I W E → ℕ → Type 0
+  ServesInput given w w' status = (w'.files ≡ w.files) × ((read : Result (List ℕ) ReadStop) × (ending : Ending)
+      × Reads gives w.input w'.input read × Serves writes (told given) read w.output w'.output ending × Ended tells script_name ending w.errors w'.errors status)
 
 module _ {S O C I W E : Type 0} (opens : S → List ℕ → Result O OpenFault → S → Type 0) (opened : O → Reading → List ℕ → O → Type 0)
     (gives : I → Reading → List ℕ → I → Type 0) (writes : W → Writing → List ℕ → W → Type 0) (tells : E → Writing → List ℕ → E → Type 0) where
   -- `run IMAGE`: once IMAGE is imported, standard input is served with it.
   abbrev pub RunsImage : List ℕ → World S O C I W E → World S O C I W E → ℕ → Type 0
   RunsImage path w w' status = (loaded : Result Contents ℕ) × (between : World S O C I W E)
-      × Loads opens opened writes tells path w between loaded × Behind loaded (λ image. ServesInput gives writes tells (Some image)) between w' status
+      × Loads opens opened writes tells path w between loaded × Behind loaded (λ image. ServesInput gives writes tells (an_image image)) between w' status
 
   -- `run` alone opens nothing.
   abbrev pub Runs : Option (List ℕ) → World S O C I W E → World S O C I W E → ℕ → Type 0
-  Runs None w w' status = ServesInput gives writes tells None w w' status
+  Runs None w w' status = ServesInput gives writes tells nothing w w' status
   Runs (Some path) w w' status = RunsImage path w w' status

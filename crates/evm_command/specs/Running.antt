@@ -10,10 +10,13 @@ use Rattle.clap.specs.declared.error.ErrorKind.TheVariants.{DisplayHelp, Display
 use Rattle.evm_serve.specs.Serving.{WritesAll}
 use Rattle.evm_serve.specs.declared.ending.Ending.{Ending}
 use Rattle.evm_serve.specs.declared.ending.Verdict.TheVariants.{Done}
+use Rattle.evm_command.specs.declared.command.WordsFault.{WordsFault}
+use Rattle.evm_command.specs.declared.command.WordsFault.TheVariants.{NotText}
+use Rattle.evm_command.specs.declared.command.WordsFault.TheVariants as faults
 use Rattle.evm_command.specs.declared.system.OpenFault.{OpenFault}
 use Rattle.evm_command.specs.declared.system.World.{World}
 use Rattle.evm_command.specs.Telling.{program_name, Ended}
-use Rattle.evm_command.specs.Jobs.{AsksNothing, NotRead, AssemblesFile, Runs, Replays}
+use Rattle.evm_command.specs.Jobs.{AsksNothing, NotWords, NotRead, AssemblesFile, Runs, Replays}
 use Rattle.evm_command.specs.Words.{Wanted, Assemble, Run, Replay, evltool, job_of}
 
 module _ {S O C I W E : Type 0} (writes : W → Writing → List ℕ → W → Type 0) (tells : E → Writing → List ℕ → E → Type 0) where
@@ -55,3 +58,9 @@ module _ {S O C I W E : Type 0} (opens : S → List ℕ → Result O OpenFault �
   Answers words w w' status =
       ((fault_of evltool words ≡ []) × DoesNamed (job_of (subcommand_of evltool words)) w w' status)
       ⊎ ((kind : ErrorKind) × ((kind ≡ OutOfMemory) ⊎ IsAmong kind (fault_of evltool words)) × Refuses writes tells kind w w' status)
+
+module _ {S O C I W E : Type 0} (writes : W → Writing → List ℕ → W → Type 0) (tells : E → Writing → List ℕ → E → Type 0) where
+  -- Where there are no words, nothing is asked for but that this is told.
+  abbrev pub HasNoWords : WordsFault → World S O C I W E → World S O C I W E → ℕ → Type 0
+  HasNoWords NotText w w' status = NotWords tells w w' status
+  HasNoWords faults.NoMemory w w' status = NotRead writes tells program_name NoMemory w w' status

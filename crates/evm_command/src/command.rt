@@ -1,15 +1,15 @@
 //! A run of the program, from its words to its exit status.
 
-ghost use Rattle.std.specs.Prelude.{map, option_map};
+ghost use Rattle.std.specs.Prelude.{MatchResult, map, option_map};
 ghost use Rattle.std.specs.String.{string_bytes};
 ghost use Rattle.clap.specs.Words.{kind_of};
-ghost use Rattle.evm_command.specs.Running.{Shows, Blames, Says, Refuses, Does, DoesNamed, Answers};
+ghost use Rattle.evm_command.specs.Running.{Shows, Blames, Says, Refuses, Does, DoesNamed, Answers, HasNoWords};
 ghost use Rattle.evm_command.specs.Words.{wanted};
 
 use crate::assembling::assemble_file;
 use crate::replaying::replay;
 use crate::running::run;
-use crate::saying::{FAILED, PROGRAM, USAGE, ended, memory_refused};
+use crate::saying::{FAILED, PROGRAM, USAGE, ended, memory_refused, words_not_read};
 use crate::system::{System, World};
 use crate::words::{Job, job_of, parse};
 use clap::Error;
@@ -88,5 +88,29 @@ pub fn answer<S: System>(alloc: Global, words: &[String], world: &mut World<S>) 
     match parse(alloc, words) {
         Ok(matches) => do_named(alloc, job_of(&matches), world),
         Err(error) => refuse(alloc, &error, world),
+    }
+}
+
+/// Why the words of a command line are not read.
+#[derive(Clone, Copy, Debug, PartialEq, Eq)]
+pub enum WordsFault {
+    /// One of them is no text.
+    NotText,
+    /// Memory was refused.
+    NoMemory,
+}
+
+/// Does what the words ask for that were read, or says why there are none, and answers the exit status.
+pub fn answer_read<S: System>(
+    alloc: Global,
+    words: Result<Vec<String>, WordsFault>,
+    world: &mut World<S>,
+) -> u8
+    ensures { MatchResult words (λ read. Answers S.opens S.creates S.Opened.gives S.Created.takes S.Input.gives S.Output.takes S.Errors.takes (map string_bytes read.items) world.old world.new result) (λ fault. HasNoWords S.Output.takes S.Errors.takes fault world.old world.new result) }
+{
+    match words {
+        Ok(words) => answer(alloc, words.as_slice(), world),
+        Err(WordsFault::NotText) => words_not_read(world),
+        Err(WordsFault::NoMemory) => memory_refused(world),
     }
 }

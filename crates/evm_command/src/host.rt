@@ -1,8 +1,7 @@
 //! The system that the program runs on. That a call of `File::open` or `File::create` did what it answered is trusted
 //! here, and nowhere else.
 
-use crate::command::answer;
-use crate::saying::{memory_refused, words_not_read};
+use crate::command::{WordsFault, answer_read};
 use crate::system::{OpenFault, System, World};
 use std::fs::File;
 use std::io::{ErrorKind, Stderr, Stdin, Stdout};
@@ -65,17 +64,25 @@ pub fn host_world(rt: &HostRuntime) -> World<Host<'_>> {
     }
 }
 
-/// Runs the program on the words of its command line, and answers the exit status.
-pub fn run(rt: &HostRuntime) -> u8 {
-    let mut world = host_world(rt);
+// The words of the command line, as std gives them.
+fn words_of(rt: &HostRuntime) -> Result<Vec<String>, WordsFault> {
     let arguments = match std::env::args(rt) {
         Ok(arguments) => arguments,
-        Err(error) if error.kind() == ErrorKind::OutOfMemory => return memory_refused(&mut world),
-        Err(_) => return words_not_read(&mut world),
+        Err(error) if error.kind() == ErrorKind::OutOfMemory => return Err(WordsFault::NoMemory),
+        Err(_) => return Err(WordsFault::NotText),
     };
-    let words: Vec<String> = match arguments.collect(rt.alloc()) {
-        Ok(words) => words,
-        Err(_) => return memory_refused(&mut world),
-    };
-    answer(rt.alloc(), words.as_slice(), &mut world)
+    match arguments.collect(rt.alloc()) {
+        Ok(words) => Ok(words),
+        Err(_) => Err(WordsFault::NoMemory),
+    }
+}
+
+/// Runs the program on the words of its command line, and answers the exit status.
+///
+/// It has no contract: which words std gives, and what its streams did before, no clause can name. What is done with
+/// the words, or why there are none, is the contract of `answer_read`, of any system.
+pub fn run(rt: &HostRuntime) -> u8 {
+    let mut world = host_world(rt);
+    let words = words_of(rt);
+    answer_read(rt.alloc(), words, &mut world)
 }

@@ -13,7 +13,7 @@ mod system;
 mod telling;
 mod words;
 
-pub use command::answer;
+pub use command::{WordsFault, answer, answer_read};
 pub use host::{Host, host_world, run};
 pub use system::{OpenFault, System, World};
 

@@ -6,7 +6,7 @@ use crate::loading::image_at;
 use crate::saying::{ended, not_opened};
 use crate::system::{System, World};
 use evm_image::Image;
-use evm_serve::replay_to;
+use evm_serve::{Given, replay_to};
 use std::alloc::Global;
 
 // Replays the journal of a file on an image.
@@ -17,7 +17,8 @@ fn replay_on<S: System>(alloc: Global, image: &Image, journal: &str, world: &mut
         Ok(file) => file,
         Err(fault) => return not_opened(journal, fault, &mut world.errors),
     };
-    let ending = replay_to(alloc, image, &mut file, &mut world.output);
+    let given = Given { image: Some(image) };
+    let ending = replay_to(alloc, given, &mut file, &mut world.output);
     ended(journal, &ending, &mut world.errors)
 }
 

@@ -1,23 +1,23 @@
 //! `run`: the script of standard input served.
 
 ghost use Rattle.std.specs.Prelude.{option_copied};
+ghost use Rattle.evm_serve.specs.Given.{given_of};
 ghost use Rattle.evm_command.specs.Jobs.{ServesInput, RunsImage, Runs};
 
 use crate::loading::image_at;
 use crate::saying::ended;
 use crate::system::{System, World};
-use evm_image::Image;
-use evm_serve::serve;
+use evm_serve::{Given, serve};
 use std::alloc::Global;
 
 /// The name under which a fault of the script is told.
 const SCRIPT: &str = "script";
 
 // Serves the script of standard input.
-fn serve_input<S: System>(alloc: Global, image: Option<&Image>, world: &mut World<S>) -> u8
-    ensures { ServesInput S.Input.gives S.Output.takes S.Errors.takes (option_copied image.entry) world.old world.new result }
+fn serve_input<S: System>(alloc: Global, given: Given<'_>, world: &mut World<S>) -> u8
+    ensures { ServesInput S.Input.gives S.Output.takes S.Errors.takes (given_of given.entry) world.old world.new result }
 {
-    let ending = serve(alloc, &mut world.input, &mut world.output, image);
+    let ending = serve(alloc, &mut world.input, &mut world.output, given);
     ended(SCRIPT, &ending, &mut world.errors)
 }
 
@@ -26,7 +26,12 @@ fn run_image<S: System>(alloc: Global, path: &str, world: &mut World<S>) -> u8
     ensures { RunsImage S.opens S.Opened.gives S.Input.gives S.Output.takes S.Errors.takes path.now world.old world.new result }
 {
     match image_at(alloc, path, world) {
-        Ok(image) => serve_input(alloc, Some(&image), world),
+        Ok(image) => {
+            let given = Given {
+                image: Some(&image),
+            };
+            serve_input(alloc, given, world)
+        }
         Err(status) => status,
     }
 }
@@ -36,7 +41,7 @@ pub(crate) fn run<S: System>(alloc: Global, image: Option<&str>, world: &mut Wor
     ensures { Runs S.opens S.Opened.gives S.Input.gives S.Output.takes S.Errors.takes (option_copied image.entry) world.old world.new result }
 {
     match image {
-        None => serve_input(alloc, None, world),
+        None => serve_input(alloc, Given { image: None }, world),
         Some(path) => run_image(alloc, path, world),
     }
 }

@@ -3,7 +3,7 @@
 #![tactic(auto)]
 
 use evm_image::Image;
-use evm_serve::{Ending, assemble_to, import, replay_to, serve};
+use evm_serve::{Ending, Given, assemble_to, import, replay_to, serve};
 use std::rt::Files;
 use std::{fs, io};
 
@@ -40,7 +40,7 @@ fn served(
     let script = fs::read(rt, script)?;
     let mut reader = script.as_slice();
     let mut written = Vec::new(rt.alloc());
-    let ending = serve(rt.alloc(), &mut reader, &mut written, image);
+    let ending = serve(rt.alloc(), &mut reader, &mut written, Given { image });
     Ok(Outcome::new(written, &ending))
 }
 
@@ -59,7 +59,14 @@ fn replayed(rt: &(impl Files + AllocGlobal), image: &str, journal: &str) -> io::
     let journal = fs::read(rt, journal)?;
     let mut reader = journal.as_slice();
     let mut written = Vec::new(rt.alloc());
-    let ending = replay_to(rt.alloc(), &image, &mut reader, &mut written);
+    let ending = replay_to(
+        rt.alloc(),
+        Given {
+            image: Some(&image),
+        },
+        &mut reader,
+        &mut written,
+    );
     Ok(Outcome::new(written, &ending))
 }
 

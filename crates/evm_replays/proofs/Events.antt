@@ -22,6 +22,7 @@ use Rattle.evm_ram.specs.declared.refusal.Refusal.TheVariants.{Full, BadSize}
 use Rattle.evm_core.specs.Load.{load, load_unless, load_refusal}
 use Rattle.evm_core.specs.Steps.{behind_step, steps}
 use Rattle.evm_rules.proofs.Replays.{accepted, accepted-journal, IsReplayOf-step, empty_as_replay}
+use Rattle.evm_serve.specs.Given.{an_image}
 use Rattle.evm_serve.specs.Starting.{started, with_image}
 
 -- its numbers are good, it began with the image, and what it had since is in its journal
@@ -96,7 +97,7 @@ boot-if image boot s false b line e =
       few = rw empty (omega arith);
     }
 
-pub driven-boot : (image : Contents) (boot : Boot) (s : State) → HasBootLine boot → started (Some image) boot ≡ Ok s → IsDriven image s
+pub driven-boot : (image : Contents) (boot : Boot) (s : State) → HasBootLine boot → started (an_image image) boot ≡ Ok s → IsDriven image s
 driven-boot image boot s line e = boot-if image boot s (bad_boot boot) refl line e
 
 -- ---- what its journal may hold

@@ -2,7 +2,6 @@
 use Rattle.std.proofs.Common.{◌≡◌, ℕ, ◌+◌, List, [], ◌∷◌, ◌++◌, Option, Some, None, refl, ap, sym, ◌∙◌}
 use Rattle.std.specs.Prelude.{codes}
 use Rattle.std.proofs.lemmas.List.{append-nil, append_assoc}
-use Rattle.evm_image.specs.Images.{Contents}
 use Rattle.evm_model.specs.State.{State}
 use Rattle.evm_journal.specs.Journal.{journal_text}
 use Rattle.evm_debug.specs.LineReading.{line_at}
@@ -11,6 +10,7 @@ use Rattle.evm_debug.specs.declared.line.Line.TheVariants as lines
 use Rattle.evm_debug.specs.declared.line.View.TheVariants.{Journal}
 use Rattle.evm_debug.proofs.Lines.{reads_lines}
 use Rattle.evm_text.specs.Lines.{text_lines}
+use Rattle.evm_serve.specs.Given.{Given}
 use Rattle.evm_serve.specs.Told.{Told, Telling, Goes, Ends, behind, run_on, line_told, lines_told}
 use Rattle.evm_serve.specs.declared.ending.Verdict.TheVariants.{Done}
 use Rattle.evm_replays.specs.Scripts.{goes_on, machine_after, PrintsItsJournal}
@@ -28,17 +28,17 @@ on-printed : (t : Telling) (long short : Option State → Told) (others : Option
 on-printed (Goes text machine) long short others s more h e = front text (long machine) (short machine) more (h machine e)
 on-printed (Ends fault) long short others s more h e = cc
 
-last-printed : (image : Option Contents) (n : ℕ) (s : State) → lines_told image n (codes "journal" ∷ []) (Some s) ≡ record { text = journal_text s.boot s.journal; verdict = Done }
+last-printed : (given : Given) (n : ℕ) (s : State) → lines_told given n (codes "journal" ∷ []) (Some s) ≡ record { text = journal_text s.boot s.journal; verdict = Done }
 unfolding lines_told shown
-last-printed image n s = rw journal-line (ap (λ (t : List ℕ). record { text = t; verdict = Done }) (append-nil (journal_text s.boot s.journal)))
+last-printed given n s = rw journal-line (ap (λ (t : List ℕ). record { text = t; verdict = Done }) (append-nil (journal_text s.boot s.journal)))
 
-prints-on : (image : Option Contents) (n : ℕ) (ls : List (List ℕ)) (machine : Option State) (s : State) → machine_after image n ls machine ≡ Some s
-    → lines_told image n (ls ++ codes "journal" ∷ []) machine ≡ record { text = (lines_told image n ls machine).text ++ journal_text s.boot s.journal; verdict = Done }
+prints-on : (given : Given) (n : ℕ) (ls : List (List ℕ)) (machine : Option State) (s : State) → machine_after given n ls machine ≡ Some s
+    → lines_told given n (ls ++ codes "journal" ∷ []) machine ≡ record { text = (lines_told given n ls machine).text ++ journal_text s.boot s.journal; verdict = Done }
 unfolding machine_after lines_told
-prints-on image n [] machine s e = ap (lines_told image n (codes "journal" ∷ [])) e ∙ last-printed image n s
-prints-on image n (line ∷ ls) machine s e =
-    on-printed (line_told image n machine (line_at line)) (lines_told image (n + 1) (ls ++ codes "journal" ∷ [])) (lines_told image (n + 1) ls) (machine_after image (n + 1) ls) s
-    (journal_text s.boot s.journal) (λ m h. prints-on image (n + 1) ls m s h) e
+prints-on given n [] machine s e = ap (lines_told given n (codes "journal" ∷ [])) e ∙ last-printed given n s
+prints-on given n (line ∷ ls) machine s e =
+    on-printed (line_told given n machine (line_at line)) (lines_told given (n + 1) (ls ++ codes "journal" ∷ [])) (lines_told given (n + 1) ls) (machine_after given (n + 1) ls) s
+    (journal_text s.boot s.journal) (λ m h. prints-on given (n + 1) ls m s h) e
 
 pub prints_its_journal : PrintsItsJournal
-prints_its_journal image script s e = prints-on image 1 (text_lines script) None s e
+prints_its_journal given script s e = prints-on given 1 (text_lines script) None s e

@@ -22,6 +22,7 @@ use Rattle.evm_debug.specs.declared.line.View.{View}
 use Rattle.evm_debug.proofs.Lines.{reads_lines}
 use Rattle.evm_text.specs.Lines.{text_lines}
 use Rattle.evm_core.specs.Steps.{steps}
+use Rattle.evm_serve.specs.Given.{an_image}
 use Rattle.evm_serve.specs.Starting.{started}
 use Rattle.evm_serve.specs.Told.{Telling, Goes, Ends, event_told, after_steps, boot_told, view_told, told_at, line_told}
 use Rattle.evm_serve.proofs.Replays.{replays_saved}
@@ -46,7 +47,7 @@ steps-lead : (image : Contents) (n c count : ℕ) (s new : State) (o : Option Re
 steps-lead image n c count s new None e cpu d = driven-steps image c count s new e cpu d
 steps-lead image n c count s new (Some refusal) e cpu d = tt
 
-boot-leads : (image : Contents) (n : ℕ) (boot : Boot) (r : Result State Refusal) → started (Some image) boot ≡ r
+boot-leads : (image : Contents) (n : ℕ) (boot : Boot) (r : Result State Refusal) → started (an_image image) boot ≡ r
     → HasBootLine boot → LeadsOn image (boot_told n r)
 boot-leads image n boot (Ok s) e line = driven-boot image boot s line e
 boot-leads image n boot (Err refusal) e line = tt
@@ -70,10 +71,10 @@ one-line (Poke a b) h = h
 one-line (Break a) h = h
 one-line (Unbreak a) h = h
 
-spelled-leads : (image : Contents) (n : ℕ) (machine : Option State) (line : Line) (bytes : List ℕ) → IsSpelled line bytes → AreDriven image machine → LeadsOn image (told_at (Some image) n machine line)
+spelled-leads : (image : Contents) (n : ℕ) (machine : Option State) (line : Line) (bytes : List ℕ) → IsSpelled line bytes → AreDriven image machine → LeadsOn image (told_at (an_image image) n machine line)
 spelled-leads image n None lines.Blank bytes h d = tt
 spelled-leads image n None (lines.Boot cpus ram capacity) bytes h d =
-    boot-leads image n (record { cpus = cpus; ram = ram; capacity = capacity }) (started (Some image) (record { cpus = cpus; ram = ram; capacity = capacity })) refl h.1
+    boot-leads image n (record { cpus = cpus; ram = ram; capacity = capacity }) (started (an_image image) (record { cpus = cpus; ram = ram; capacity = capacity })) refl h.1
 spelled-leads image n None (lines.Steps c count) bytes h d = tt
 spelled-leads image n None (lines.One event) bytes h d = tt
 spelled-leads image n None (lines.Look view) bytes h d = tt
@@ -83,7 +84,7 @@ spelled-leads image n (Some s) (lines.Steps c count) bytes h d = steps-lead imag
 spelled-leads image n (Some s) (lines.One event) bytes h d = event-leads image n s event (apply s event) refl (one-line event h.1) d
 spelled-leads image n (Some s) (lines.Look view) bytes h d = view-leads image n view s (shown view s) d
 
-line-leads : (image : Contents) (n : ℕ) (machine : Option State) (bytes : List ℕ) (o : Option Line) → line_at bytes ≡ o → AreDriven image machine → LeadsOn image (line_told (Some image) n machine o)
+line-leads : (image : Contents) (n : ℕ) (machine : Option State) (bytes : List ℕ) (o : Option Line) → line_at bytes ≡ o → AreDriven image machine → LeadsOn image (line_told (an_image image) n machine o)
 line-leads image n machine bytes None e d = tt
 line-leads image n machine bytes (Some line) e d = spelled-leads image n machine line bytes ((reads_lines line bytes).0 e) d
 
@@ -93,11 +94,11 @@ telling-leads image (Goes text machine) others s d more e = more machine e d
 telling-leads image (Ends fault) others s d more e = cc
 
 -- the machine with which a run comes to its end is driven
-after-driven : (image : Contents) (n : ℕ) (ls : List (List ℕ)) (machine : Option State) (s : State) → machine_after (Some image) n ls machine ≡ Some s → AreDriven image machine → IsDriven image s
+after-driven : (image : Contents) (n : ℕ) (ls : List (List ℕ)) (machine : Option State) (s : State) → machine_after (an_image image) n ls machine ≡ Some s → AreDriven image machine → IsDriven image s
 unfolding machine_after
 after-driven image n [] machine s e d = rw e at d
 after-driven image n (line ∷ ls) machine s e d =
-    telling-leads image (line_told (Some image) n machine (line_at line)) (machine_after (Some image) (n + 1) ls) s (line-leads image n machine line (line_at line) refl d)
+    telling-leads image (line_told (an_image image) n machine (line_at line)) (machine_after (an_image image) (n + 1) ls) s (line-leads image n machine line (line_at line) refl d)
     (λ m h g. after-driven image (n + 1) ls m s h g) e
 
 pub shows_its_machine : ShowsItsMachine

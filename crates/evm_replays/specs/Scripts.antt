@@ -6,6 +6,7 @@ use Rattle.evm_journal.specs.Journal.{journal_text}
 use Rattle.evm_debug.specs.LineReading.{line_at}
 use Rattle.evm_debug.specs.Summary.{summary_text}
 use Rattle.evm_text.specs.Lines.{text_lines}
+use Rattle.evm_serve.specs.Given.{Given, an_image}
 use Rattle.evm_serve.specs.Told.{Told, Telling, Goes, Ends, line_told, lines_told}
 use Rattle.evm_serve.specs.Replaying.{replay_told}
 use Rattle.evm_serve.specs.declared.ending.Verdict.TheVariants.{Done}
@@ -17,21 +18,21 @@ goes_on (Ends fault) others = None
 
 -- the machine with which a run of lines comes to its end, the first being line n; none where none is booted, or a line
 -- is bad or refused
-unfoldable pub machine_after : Option Contents → ℕ → List (List ℕ) → Option State → Option State
-machine_after image n [] machine = machine
-machine_after image n (line ∷ lines) machine = goes_on (line_told image n machine (line_at line)) (machine_after image (n + 1) lines)
+unfoldable pub machine_after : Given → ℕ → List (List ℕ) → Option State → Option State
+machine_after given n [] machine = machine
+machine_after given n (line ∷ lines) machine = goes_on (line_told given n machine (line_at line)) (machine_after given (n + 1) lines)
 
 -- the machine that a script leaves
-abbrev pub machine_left : Option Contents → List ℕ → Option State
-machine_left image script = machine_after image 1 (text_lines script) None
+abbrev pub machine_left : Given → List ℕ → Option State
+machine_left given script = machine_after given 1 (text_lines script) None
 
 -- one more line, `journal`, tells the journal of that machine behind the rest
 abbrev pub PrintsItsJournal : Type 0
-PrintsItsJournal = (image : Option Contents) (script : List ℕ) (s : State) → machine_left image script ≡ Some s
-    → lines_told image 1 (text_lines script ++ codes "journal" ∷ []) None
-    ≡ record { text = (lines_told image 1 (text_lines script) None).text ++ journal_text s.boot s.journal; verdict = Done }
+PrintsItsJournal = (given : Given) (script : List ℕ) (s : State) → machine_left given script ≡ Some s
+    → lines_told given 1 (text_lines script ++ codes "journal" ∷ []) None
+    ≡ record { text = (lines_told given 1 (text_lines script) None).text ++ journal_text s.boot s.journal; verdict = Done }
 
 -- its journal, replayed with the same image, shows it
 abbrev pub ShowsItsMachine : Type 0
-ShowsItsMachine = (image : Contents) (script : List ℕ) (s : State) → machine_left (Some image) script ≡ Some s
-    → replay_told image (journal_text s.boot s.journal) ≡ record { text = summary_text s; verdict = Done }
+ShowsItsMachine = (image : Contents) (script : List ℕ) (s : State) → machine_left (an_image image) script ≡ Some s
+    → replay_told (an_image image) (journal_text s.boot s.journal) ≡ record { text = summary_text s; verdict = Done }

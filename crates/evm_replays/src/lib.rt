@@ -1,8 +1,10 @@
 //! Laws over whole scripts and whole machines: what they leave behind is given back by its journal.
 #![tactic(auto)]
 
-ghost use Rattle.std.specs.Prelude.{IfOk};
+ghost use Rattle.std.specs.Prelude.{IfOk, OnErr, length};
 ghost use Rattle.std.specs.String.{string_bytes};
+ghost use Rattle.evm_room.specs.Growth.{RefusedWithin};
+ghost use Rattle.evm_journal.specs.Journal.{journal_text};
 ghost use Rattle.evm_replays.specs.Machines.{ShowsAgain};
 ghost use Rattle.evm_replays.specs.Scripts.{PrintsItsJournal, ShowsItsMachine};
 
@@ -25,7 +27,9 @@ pub fn a_written_journal_shows_its_machine(
     alloc: Global,
     machine: &Machine,
 ) -> Result<String, NoMemory>
-    ensures { IfOk result (λ text. ShowsAgain (string_bytes text) machine.now) }
+    ensures again { IfOk result (λ text. ShowsAgain (string_bytes text) machine.now) }
+    // It gives up only where a growth was refused that is no greater than the text.
+    ensures refused { OnErr result (RefusedWithin (length (journal_text machine.now.boot machine.now.journal))) }
 {
     machine.rules();
     match write_journal(alloc, machine) {

@@ -3,7 +3,7 @@
 use crate::folder::{bytes_of, has, spelled_bytes};
 use crate::row::{Job, Row};
 use evm_image::Image;
-use evm_serve::{Ending, ReadStop, assemble_to, import, read_utf8, replay_to, serve};
+use evm_serve::{Ending, Given, ReadStop, assemble_to, import, read_utf8, replay_to, serve};
 use std::alloc::Global;
 use std::io;
 use std::rt::Files;
@@ -57,7 +57,7 @@ fn image_of(alloc: Global, source: &[u8]) -> Result<Image, Outcome> {
 fn served(alloc: Global, image: Option<&Image>, script: &[u8]) -> Outcome {
     let mut text = Vec::new(alloc);
     let mut reader = script;
-    let ending = serve(alloc, &mut reader, &mut text, image);
+    let ending = serve(alloc, &mut reader, &mut text, Given { image });
     Outcome::new(text, &ending)
 }
 
@@ -75,7 +75,14 @@ fn replayed(alloc: Global, image: Result<Image, Outcome>, journal: &[u8]) -> Out
     };
     let mut text = Vec::new(alloc);
     let mut reader = journal;
-    let ending = replay_to(alloc, &image, &mut reader, &mut text);
+    let ending = replay_to(
+        alloc,
+        Given {
+            image: Some(&image),
+        },
+        &mut reader,
+        &mut text,
+    );
     Outcome::new(text, &ending)
 }
 

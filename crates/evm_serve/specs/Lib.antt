@@ -1,3 +1,4 @@
+pub mod Given
 pub mod Assembling
 pub mod Faults
 pub mod Imaging

@@ -9,6 +9,7 @@ use Rattle.evm_model.specs.declared.event.Event.{Event}
 use Rattle.evm_history.specs.Runs.{runs}
 use Rattle.evm_journal.specs.Journal.{journal_text, HasJournal}
 use Rattle.evm_debug.specs.Summary.{summary_text}
+use Rattle.evm_serve.specs.Given.{an_image}
 use Rattle.evm_serve.specs.Faults.{event_refused}
 use Rattle.evm_serve.specs.declared.ending.Verdict.TheVariants.{Done}
 use Rattle.evm_serve.specs.Replaying.{events_on, replay_told}
@@ -24,4 +25,4 @@ RefusedOnItsLine = (first s : State) (front rest : List Event) (event : Event) (
 abbrev pub ReplaysSaved : Type 0
 ReplaysSaved = (image : Contents) (first s : State) → bad_boot s.boot ≡ false → load image (start s.boot) ≡ Ok first
     → IsReplayOf first s → HasJournal s.boot s.journal
-    → replay_told image (journal_text s.boot s.journal) ≡ record { text = summary_text s; verdict = Done }
+    → replay_told (an_image image) (journal_text s.boot s.journal) ≡ record { text = summary_text s; verdict = Done }

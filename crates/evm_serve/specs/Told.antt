@@ -1,6 +1,5 @@
 -- What a run of a script tells: its text and what it came to.
 use Rattle.std.specs.Prelude.{ℕ, ◌+◌, List, [], ◌∷◌, ◌++◌, Option, Some, None, Result, Ok, Err, codes}
-use Rattle.evm_image.specs.Images.{Contents}
 use Rattle.evm_ram.specs.declared.refusal.Refusal.{Refusal}
 use Rattle.evm_core.specs.Steps.{steps}
 use Rattle.evm_model.specs.State.{State}
@@ -13,6 +12,7 @@ use Rattle.evm_debug.specs.declared.line.Line.{Line}
 use Rattle.evm_debug.specs.declared.line.Line.TheVariants as lines
 use Rattle.evm_debug.specs.declared.line.View.{View}
 use Rattle.evm_text.specs.Lines.{text_lines}
+use Rattle.evm_serve.specs.Given.{Given}
 use Rattle.evm_serve.specs.Faults.{fault_text, event_refused, view_refused}
 use Rattle.evm_serve.specs.Starting.{started}
 use Rattle.evm_serve.specs.declared.ending.Verdict.{Verdict}
@@ -51,13 +51,13 @@ abbrev pub view_told : ℕ → View → State → Result (List ℕ) Refusal → 
 view_told n view s (Ok text) = Goes text (Some s)
 view_told n view s (Err refusal) = Ends (view_refused n view refusal)
 
--- a line, where no machine is booted: only a boot goes on, with the image in the machine, if there is one
-abbrev pub told_unbooted : Option Contents → ℕ → Line → Telling
-told_unbooted image n lines.Blank = Goes [] None
-told_unbooted image n (lines.Boot cpus ram capacity) = boot_told n (started image (record { cpus = cpus; ram = ram; capacity = capacity }))
-told_unbooted image n (lines.Steps c count) = Ends (BadLine n)
-told_unbooted image n (lines.One event) = Ends (BadLine n)
-told_unbooted image n (lines.Look view) = Ends (BadLine n)
+-- a line, where no machine is booted: only a boot goes on, with the image in the machine, if one is given
+abbrev pub told_unbooted : Given → ℕ → Line → Telling
+told_unbooted given n lines.Blank = Goes [] None
+told_unbooted given n (lines.Boot cpus ram capacity) = boot_told n (started given (record { cpus = cpus; ram = ram; capacity = capacity }))
+told_unbooted given n (lines.Steps c count) = Ends (BadLine n)
+told_unbooted given n (lines.One event) = Ends (BadLine n)
+told_unbooted given n (lines.Look view) = Ends (BadLine n)
 
 -- a line, where a machine is booted: boot comes once
 abbrev pub told_booted : ℕ → State → Line → Telling
@@ -67,14 +67,14 @@ told_booted n s (lines.Steps c count) = steps_told n c (steps c count s)
 told_booted n s (lines.One event) = event_told n event (apply s event)
 told_booted n s (lines.Look view) = view_told n view s (shown view s)
 
-abbrev pub told_at : Option Contents → ℕ → Option State → Line → Telling
-told_at image n None line = told_unbooted image n line
-told_at image n (Some s) line = told_booted n s line
+abbrev pub told_at : Given → ℕ → Option State → Line → Telling
+told_at given n None line = told_unbooted given n line
+told_at given n (Some s) line = told_booted n s line
 
 -- what line n of a script tells; one outside the grammar is bad
-abbrev pub line_told : Option Contents → ℕ → Option State → Option Line → Telling
-line_told image n machine None = Ends (BadLine n)
-line_told image n machine (Some line) = told_at image n machine line
+abbrev pub line_told : Given → ℕ → Option State → Option Line → Telling
+line_told given n machine None = Ends (BadLine n)
+line_told given n machine (Some line) = told_at given n machine line
 
 -- the text of a run, and what it came to
 pub record Told : Type 0 where
@@ -89,10 +89,10 @@ run_on (Goes text machine) others = behind text (others machine)
 run_on (Ends fault) others = record { text = fault_text fault; verdict = verdicts.Refused fault }
 
 -- the lines of a script, whose numbers begin at n
-unfoldable pub lines_told : Option Contents → ℕ → List (List ℕ) → Option State → Told
-lines_told image n [] machine = record { text = []; verdict = verdicts.Done }
-lines_told image n (line ∷ rest) machine = run_on (line_told image n machine (line_at line)) (lines_told image (n + 1) rest)
+unfoldable pub lines_told : Given → ℕ → List (List ℕ) → Option State → Told
+lines_told given n [] machine = record { text = []; verdict = verdicts.Done }
+lines_told given n (line ∷ rest) machine = run_on (line_told given n machine (line_at line)) (lines_told given (n + 1) rest)
 
--- what a script tells, with an image for its machine or with none
-unfoldable pub told : Option Contents → List ℕ → Told
-told image script = lines_told image 1 (text_lines script) None
+-- what a script tells, with what is given to its run
+unfoldable pub told : Given → List ℕ → Told
+told given script = lines_told given 1 (text_lines script) None

@@ -4,6 +4,7 @@
 mod assembling;
 mod ending;
 mod fault;
+mod given;
 mod halting;
 mod importing;
 mod laws;
@@ -18,6 +19,7 @@ pub use assembling::assemble_to;
 pub use ending::{Ending, Verdict};
 pub use evm_streams::{ReadFault, ReadStop, WriteFault, read_utf8};
 pub use fault::Fault;
+pub use given::Given;
 pub use importing::import;
 pub use laws::{
     known_contents_are_assembled_into, known_files_are_imported, known_inputs_are_served,

@@ -1,14 +1,15 @@
-ghost use Rattle.std.specs.Prelude.{List, ℕ, Result, option_copied};
+ghost use Rattle.std.specs.Prelude.{List, ℕ, Result};
 ghost use Rattle.evm_streams.specs.declared.source.ReadStop.{ReadStop};
 ghost use Rattle.evm_streams.specs.Reads.{Reads};
+ghost use Rattle.evm_serve.specs.Given.{given_of};
 ghost use Rattle.evm_serve.specs.Told.{told};
 ghost use Rattle.evm_serve.specs.Playing.{Plays};
 ghost use Rattle.evm_serve.specs.Serving.{Serves};
 
 use crate::ending::{Ending, Halt, Reply, Verdict};
+use crate::given::Given;
 use crate::halting::{ended, say_fault, unread};
 use crate::tell::tell;
-use evm_image::Image;
 use evm_streams::{Sink, Source, read_all, write_all};
 use evm_text::cut_line;
 use std::alloc::Global;
@@ -16,17 +17,17 @@ use std::alloc::Global;
 // Runs the lines of a script.
 fn play<W: Sink>(
     alloc: Global,
-    image: Option<&Image>,
+    given: Given<'_>,
     script: &[u8],
     writer: &mut W,
 ) -> Result<Verdict, Halt>
-    ensures { Plays W.takes (told (option_copied image.entry) script.now) writer.old writer.new result }
+    ensures { Plays W.takes (told (given_of given.entry) script.now) writer.old writer.new result }
 {
     let mut machine = None;
     let mut rest = script;
     let mut number = 1u64;
     'lines: while let Some((line, after)) = cut_line(rest) {
-        match tell(alloc, image, number, line, &mut machine) {
+        match tell(alloc, given, number, line, &mut machine) {
             Err(_) => return Err(Halt::NoMemory),
             Ok(Reply::Goes(text)) => {
                 if let Err(fault) = write_all(writer, text.as_bytes()) {
@@ -41,20 +42,20 @@ fn play<W: Sink>(
     Ok(Verdict::Done)
 }
 
-/// Reads a script to its end, runs its lines, and writes what they tell and nothing else. The image, if there is
-/// one, is put into the machine as it boots. Where the script can't be read, or has more than 16,777,216 bytes,
+/// Reads a script to its end, runs its lines, and writes what they tell and nothing else. The image, if one is
+/// given, is put into the machine as it boots. Where the script can't be read, or has more than 16,777,216 bytes,
 /// nothing is written.
 pub fn serve<R: Source, W: Sink>(
     alloc: Global,
     reader: &mut R,
     writer: &mut W,
-    image: Option<&Image>,
+    given: Given<'_>,
 ) -> Ending
-    ensures { (read : Result (List ℕ) ReadStop) × Reads R.gives reader.old reader.new read × Serves W.takes (told (option_copied image.entry)) read writer.old writer.new result }
+    ensures { (read : Result (List ℕ) ReadStop) × Reads R.gives reader.old reader.new read × Serves W.takes (told (given_of given.entry)) read writer.old writer.new result }
 {
     match read_all(alloc, reader) {
         Ok(script) => {
-            let outcome = play(alloc, image, script.as_slice(), writer);
+            let outcome = play(alloc, given, script.as_slice(), writer);
             ended(outcome, writer)
         }
         Err(stop) => unread(stop, writer),

@@ -1,5 +1,6 @@
-ghost use Rattle.std.specs.Prelude.{◌≡◌, Option, IfOk, option_copied};
+ghost use Rattle.std.specs.Prelude.{◌≡◌, Option, IfOk};
 ghost use Rattle.evm_debug.specs.LineReading.{line_at};
+ghost use Rattle.evm_serve.specs.Given.{given_of};
 ghost use Rattle.evm_serve.specs.Starting.{started};
 ghost use Rattle.evm_model.specs.Replay.{apply};
 ghost use Rattle.evm_debug.specs.Views.{shown};
@@ -8,25 +9,25 @@ ghost use Rattle.evm_serve.specs.Serving.{Replies};
 
 use crate::ending::Reply;
 use crate::fault::{Fault, event_cpu, view_cpu};
+use crate::given::Given;
 use crate::starting::start;
 use evm_core::{Boot, Event, Machine, Refusal};
 use evm_debug::{Line, View, ViewRefusal, read_line, view};
-use evm_image::Image;
 use evm_ram::NoMemory;
 use std::alloc::Global;
 
-// A boot, which puts the image into the machine, if there is one.
+// A boot, which puts the image into the machine, if one is given.
 fn tell_boot(
     alloc: Global,
-    image: Option<&Image>,
+    given: Given<'_>,
     number: u64,
     numbers: &Boot,
     machine: &mut Option<Machine>,
 ) -> Result<Reply, NoMemory>
     requires { machine.old ≡ Option.None }
-    ensures { IfOk result (λ reply. Replies reply machine.new (boot_told number (started (option_copied image.entry) numbers.now))) }
+    ensures { IfOk result (λ reply. Replies reply machine.new (boot_told number (started (given_of given.entry) numbers.now))) }
 {
-    match start(alloc, image, numbers) {
+    match start(alloc, given, numbers) {
         Ok(booted) => {
             *machine = Some(booted);
             Ok(Reply::Goes(String::new(alloc)))
@@ -39,13 +40,13 @@ fn tell_boot(
 // A line, where no machine is booted.
 fn tell_unbooted(
     alloc: Global,
-    image: Option<&Image>,
+    given: Given<'_>,
     number: u64,
     line: &Line,
     machine: &mut Option<Machine>,
 ) -> Result<Reply, NoMemory>
     requires { machine.old ≡ Option.None }
-    ensures { IfOk result (λ reply. Replies reply machine.new (told_unbooted (option_copied image.entry) number line.now)) }
+    ensures { IfOk result (λ reply. Replies reply machine.new (told_unbooted (given_of given.entry) number line.now)) }
 {
     match line {
         Line::Blank => Ok(Reply::Goes(String::new(alloc))),
@@ -59,7 +60,7 @@ fn tell_unbooted(
                 ram: *ram,
                 capacity: *capacity,
             };
-            tell_boot(alloc, image, number, &numbers, machine)
+            tell_boot(alloc, given, number, &numbers, machine)
         }
         _ => Ok(Reply::Ends(Fault::BadLine(number))),
     }
@@ -111,21 +112,21 @@ fn tell_booted(
 }
 
 /// What a line of a script replies, of the number that it has in the script, and what it makes of the
-/// machine, if one is booted. The line that boots one puts the image into it, if there is one.
+/// machine, if one is booted. The line that boots one puts the image into it, if one is given.
 pub(crate) fn tell(
     alloc: Global,
-    image: Option<&Image>,
+    given: Given<'_>,
     number: u64,
     line: &[u8],
     machine: &mut Option<Machine>,
 ) -> Result<Reply, NoMemory>
-    ensures { IfOk result (λ reply. Replies reply machine.new (line_told (option_copied image.entry) number machine.old (line_at line.now))) }
+    ensures { IfOk result (λ reply. Replies reply machine.new (line_told (given_of given.entry) number machine.old (line_at line.now))) }
 {
     let Ok(line) = read_line(line) else {
         return Ok(Reply::Ends(Fault::BadLine(number)));
     };
     match machine {
-        None => tell_unbooted(alloc, image, number, &line, machine),
+        None => tell_unbooted(alloc, given, number, &line, machine),
         Some(booted) => tell_booted(alloc, number, line, booted),
     }
 }

@@ -1,5 +1,6 @@
 //! Scripts, images and journals with the text wanted, and streams that fail.
 
+use crate::given::Given;
 use crate::replay::replay_to;
 use crate::serving::serve;
 use evm_elf::{PROGRAM_MAX, read_image, write_bytes};
@@ -28,7 +29,7 @@ fn check_with(
 ) {
     let mut reader = script;
     let mut written = Vec::new(alloc);
-    let ending = serve(alloc, &mut reader, &mut written, image);
+    let ending = serve(alloc, &mut reader, &mut written, Given { image });
     assert_eq!(rt;
         written.as_slice(),
         text.as_bytes(),
@@ -53,7 +54,12 @@ fn check_replay(
 ) {
     let mut reader = journal;
     let mut written = Vec::new(alloc);
-    let ending = replay_to(alloc, image, &mut reader, &mut written);
+    let ending = replay_to(
+        alloc,
+        Given { image: Some(image) },
+        &mut reader,
+        &mut written,
+    );
     assert_eq!(rt;
         written.as_slice(),
         text.as_bytes(),

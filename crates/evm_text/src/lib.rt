@@ -17,7 +17,7 @@ pub use laws::{
     reads_hexadecimals, reads_pairs, reads_pairs_last, reads_u8_last, reads_u8_then, reads_values,
     reads_words,
 };
-pub use lines::cut_line;
+pub use lines::{cut_ended, cut_line};
 pub use reading::{BLOCK_LIMIT, after_word, decimal_at, hexadecimal_at, pairs_at};
 pub use writing::{push_decimal, push_hexadecimal, push_hexadecimal_padded, push_pairs};
 

@@ -4,6 +4,7 @@ use super::image_of;
 use crate::assembling::assemble_to;
 use crate::ending::{Ending, Verdict};
 use crate::fault::Fault;
+use crate::given::Given;
 use crate::importing::import;
 use crate::replay::replay_to;
 use crate::serving::serve;
@@ -48,7 +49,7 @@ fn scripts_end_with_their_fault(rt: HostRuntime) {
     ] {
         let mut reader = script.as_bytes();
         let mut written = Vec::new(rt.alloc());
-        let ending = serve(rt.alloc(), &mut reader, &mut written, None);
+        let ending = serve(rt.alloc(), &mut reader, &mut written, Given { image: None });
         check_fault(&rt, ending, fault);
     }
 }
@@ -79,7 +80,14 @@ fn journals_end_with_their_fault(rt: HostRuntime) -> Result<(), Fail> {
     ] {
         let mut reader = journal.as_bytes();
         let mut written = Vec::new(alloc);
-        let ending = replay_to(alloc, &image, &mut reader, &mut written);
+        let ending = replay_to(
+            alloc,
+            Given {
+                image: Some(&image),
+            },
+            &mut reader,
+            &mut written,
+        );
         check_fault(&rt, ending, fault);
     }
     Ok(())

@@ -3,6 +3,7 @@
 use super::fakes::{FAULTS, Sink, Source};
 use super::images::PROGRAM;
 use super::{check_replay, image_of};
+use crate::given::Given;
 use crate::replay::replay_to;
 use crate::serving::serve;
 use evm_image::Image;
@@ -100,7 +101,12 @@ fn replays_show_the_machine(rt: HostRuntime) -> Result<(), Fail> {
 fn served(alloc: Global, image: &Image, script: &str) -> Vec<u8> {
     let mut reader = script.as_bytes();
     let mut written = Vec::new(alloc);
-    let _ = serve(alloc, &mut reader, &mut written, Some(image));
+    let _ = serve(
+        alloc,
+        &mut reader,
+        &mut written,
+        Given { image: Some(image) },
+    );
     written
 }
 
@@ -112,7 +118,12 @@ fn check_saved(rt: &impl Abort, alloc: Global, image: &Image, script: &str) -> R
     let views = served(alloc, image, shown.as_str());
     let mut reader = journal.as_slice();
     let mut written = Vec::new(alloc);
-    let ending = replay_to(alloc, image, &mut reader, &mut written);
+    let ending = replay_to(
+        alloc,
+        Given { image: Some(image) },
+        &mut reader,
+        &mut written,
+    );
     assert_eq!(rt; written.as_slice(), views.as_slice(), "{script}");
     assert_eq!(rt; ending.status(), 0, "{script}");
     Ok(())
@@ -153,7 +164,14 @@ fn unread_journals_are_not_replayed(rt: HostRuntime) -> Result<(), Fail> {
                 fault: Some(kind),
             };
             let mut written = Vec::new(alloc);
-            let ending = replay_to(alloc, &image, &mut source, &mut written);
+            let ending = replay_to(
+                alloc,
+                Given {
+                    image: Some(&image),
+                },
+                &mut source,
+                &mut written,
+            );
             let (text, status) = if calls < 5 {
                 (b"".as_slice(), 4)
             } else {
@@ -175,7 +193,14 @@ fn unread_journals_are_not_replayed(rt: HostRuntime) -> Result<(), Fail> {
     check_replay(&rt, alloc, &image, b"journal\n\xc3", "", 4);
     let mut long = io::repeat(b'#').take(16_777_217);
     let mut written = Vec::new(alloc);
-    let ending = replay_to(alloc, &image, &mut long, &mut written);
+    let ending = replay_to(
+        alloc,
+        Given {
+            image: Some(&image),
+        },
+        &mut long,
+        &mut written,
+    );
     assert_eq!(rt; ending.status(), 4);
     assert_eq!(rt; written.len(), 0);
     Ok(())
@@ -203,7 +228,14 @@ fn unwritten_views_leave_a_prefix(rt: HostRuntime) -> Result<(), Fail> {
                     fault,
                 };
                 let mut reader = journal;
-                let ending = replay_to(alloc, &image, &mut reader, &mut sink);
+                let ending = replay_to(
+                    alloc,
+                    Given {
+                        image: Some(&image),
+                    },
+                    &mut reader,
+                    &mut sink,
+                );
                 let taken = sink.taken.as_slice();
                 let whole = taken.len() == text.len();
                 assert!(rt; text.starts_with(taken), "{calls} writes");

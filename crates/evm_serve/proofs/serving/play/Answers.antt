@@ -1,8 +1,9 @@
-use Rattle.std.proofs.Common.{◌≡◌, arith, rules, option_copied}
+use Rattle.std.proofs.Common.{◌≡◌, arith, rules}
 use Rattle.std.specs.String.{string_bytes}
 use Rattle.evm_streams.specs.Writes.{Took, TookPrefix}
 use Rattle.evm_debug.specs.LineReading.{line_at}
 use Rattle.evm_text.specs.Lines.{CutsLine}
+use Rattle.evm_serve.specs.Given.{given_of}
 use Rattle.evm_serve.specs.Told.{Goes, Ends, line_told}
 use Rattle.evm_serve.proofs.Endings.{plays_ended}
 use Rattle.evm_serve.proofs.Runs.{Tells-start, Tells-goes, Tells-done, Tells-rest, Tells-goes_fault, Tells-ended, Tells-ended_fault, Tells-ended_in}
@@ -13,7 +14,7 @@ lines-init g c = record { tells = Tells-start _ _ _ _; numbered = omega arith }
 
 pub lines-preserved : goal.lines-preserved
 lines-preserved g c =
-    let goes : line_told (option_copied c.args.image) c.lines.number c.lines.machine (line_at c.in-Some.line.now) ≡ Goes (string_bytes c.in-Ok-Goes.text) c.tell.new.machine = search rules in
+    let goes : line_told (given_of c.args.given) c.lines.number c.lines.machine (line_at c.in-Some.line.now) ≡ Goes (string_bytes c.in-Ok-Goes.text) c.tell.new.machine = search rules in
     let cut : CutsLine c.lines.rest.now c.in-Some.line.now c.in-Some.after.now = search rules in
     let written : Took g.W.Sink.takes c.lines.writer (string_bytes c.in-Ok-Goes.text) c.write_all.new.sink = search rules in
     record {
@@ -23,7 +24,7 @@ lines-preserved g c =
 
 pub returns-in-Err-write_all : goal.returns-in-Err-write_all
 returns-in-Err-write_all g c =
-    let goes : line_told (option_copied c.args.image) c.lines.number c.lines.machine (line_at c.in-Some.line.now) ≡ Goes (string_bytes c.in-Ok-Goes.text) c.tell.new.machine = search rules in
+    let goes : line_told (given_of c.args.given) c.lines.number c.lines.machine (line_at c.in-Some.line.now) ≡ Goes (string_bytes c.in-Ok-Goes.text) c.tell.new.machine = search rules in
     let cut : CutsLine c.lines.rest.now c.in-Some.line.now c.in-Some.after.now = search rules in
     let written : TookPrefix g.W.Sink.takes c.lines.writer (string_bytes c.in-Ok-Goes.text) c.write_all.new.sink = search rules in
     Tells-goes_fault _ _ _ _ _ _ _ _ _ _ _ _ _ c.lines.invariant.tells cut goes written
@@ -36,7 +37,7 @@ returns g c = let done = Tells-done _ _ _ _ _ _ _ _ c.lines.invariant.tells (sea
 
 pub returns-in-Ok-Ends : goal.returns-in-Ok-Ends
 returns-in-Ok-Ends g c =
-    let ends : line_told (option_copied c.args.image) c.lines.number c.lines.machine (line_at c.in-Some.line.now) ≡ Ends c.in-Ok-Ends.fault = search rules in
+    let ends : line_told (given_of c.args.given) c.lines.number c.lines.machine (line_at c.in-Some.line.now) ≡ Ends c.in-Ok-Ends.fault = search rules in
     let cut : CutsLine c.lines.rest.now c.in-Some.line.now c.in-Some.after.now = search rules in
     plays_ended _ _ _ _ _ _ _ _ (Tells-ended _ _ _ _ _ _ _ _ _ _ _ _ c.lines.invariant.tells cut ends) (Tells-ended_fault _ _ _ _ _ _ _ _ _ _ _ _ c.lines.invariant.tells cut ends)
     (Tells-ended_in _ _ _ _ _ _ _ _ _ _ _ c.lines.invariant.tells cut ends)

@@ -1,4 +1,5 @@
-use Rattle.std.proofs.Common.{◌+◌, ◌≤◌, length, option_copied}
+use Rattle.std.proofs.Common.{◌+◌, ◌≤◌, length}
+use Rattle.evm_serve.specs.Given.{given_of}
 use Rattle.evm_serve.specs.Told.{told}
 use Rattle.evm_serve.proofs.Runs.{Tells}
 use Rattle.evm_serve.proofs.serving.play.Given as goal
@@ -6,7 +7,7 @@ use Rattle.evm_serve.proofs.serving.play.Given as goal
 -- what was told so far was written, and what is left is behind it
 abbrev pub invariant-lines : goal.invariant-lines
 invariant-lines g l = record {
-  tells : Tells g.W.Sink.takes (option_copied l.image) (told (option_copied l.image) l.script) l.fn.writer l.writer l.number l.rest l.machine;
+  tells : Tells g.W.Sink.takes (given_of l.given) (told (given_of l.given) l.script) l.fn.writer l.writer l.number l.rest l.machine;
   numbered : l.number + length l.rest ≤ length l.script + 1;
 }
 

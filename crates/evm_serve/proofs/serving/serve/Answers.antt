@@ -1,4 +1,5 @@
-use Rattle.std.proofs.Common.{Ok, Err, option_copied}
+use Rattle.std.proofs.Common.{Ok, Err}
+use Rattle.evm_serve.specs.Given.{given_of}
 use Rattle.evm_serve.specs.Told.{told}
 use Rattle.evm_serve.specs.Playing.{Plays}
 use Rattle.evm_serve.proofs.Endings.{finishes}
@@ -6,7 +7,7 @@ use Rattle.evm_serve.proofs.serving.serve.Goals as goal
 
 pub returns-in-Ok : goal.returns-in-Ok
 returns-in-Ok g c =
-    let plays : Plays g.W.Sink.takes (told (option_copied c.args.image) c.in-Ok.script.items) c.args.writer.now c.play-outcome.new.writer c.play-outcome.result = rw (← c.as_slice.ensures.value) c.play-outcome.ensures in
+    let plays : Plays g.W.Sink.takes (told (given_of c.args.given) c.in-Ok.script.items) c.args.writer.now c.play-outcome.new.writer c.play-outcome.result = rw (← c.as_slice.ensures.value) c.play-outcome.ensures in
     (Ok c.in-Ok.script.items, c.in-Ok.ensures, finishes _ _ _ _ _ c.play-outcome.result _ plays c.ended.ensures)
 
 pub returns-in-Err : goal.returns-in-Err

@@ -1,9 +1,9 @@
-use Rattle.std.proofs.Common.{length, refl, rules}
-use Rattle.evm_text.proofs.Cuts.{no_newline-found, CutsLine-whole, CutsLine-at}
+use Rattle.std.proofs.Common.{rules}
+use Rattle.evm_text.proofs.Cuts.{CutsLine-open, CutsLine-ended}
 use Rattle.evm_text.proofs.lines.cut_line.Goals as goal
 
 pub returns-in-None : goal.returns-in-None
-returns-in-None c = CutsLine-whole c.args.bytes.now (length c.args.bytes.now) (search rules) refl (no_newline-found _ _ c.in-None.ensures)
+returns-in-None c = CutsLine-open c.args.bytes.now _ (search rules) c.in-None.ensures.lines (search rules)
 
 pub returns-in-Some : goal.returns-in-Some
-returns-in-Some c = CutsLine-at c.args.bytes.now c.in-Some.end c.in-Some.ensures.0.high (search rules) (no_newline-found _ _ c.in-Some.ensures.0.before)
+returns-in-Some c = CutsLine-ended _ _ _ c.in-Some.ensures.lines c.in-Some.ensures.shorter
