@@ -64,11 +64,11 @@ outcome place true (Ok next) = (place, Some LabelTwice)
 outcome place true (Err kind) = (place, Some (least LabelTwice kind))
 
 -- the place behind what is read
-abbrev pub behind : Place → Reading → Result Place AsmFaultKind
-behind place reading = reading >>= place_behind place
+abbrev pub behind_reading : Place → Reading → Result Place AsmFaultKind
+behind_reading place reading = reading >>= place_behind place
 
 unfoldable pub measured : Spots → Place → List ℕ → Result Place AsmFaultKind
-measured labels place text = behind place (statement_in labels place text)
+measured labels place text = behind_reading place (statement_in labels place text)
 
 abbrev pub line_defined : Spots → Place → List ℕ → Defined
 line_defined labels place code = defined (length code) (here place) code (record { labels = labels; twice = false })

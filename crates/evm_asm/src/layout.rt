@@ -3,7 +3,7 @@
 ghost use Rattle.std.specs.Prelude.{◌≡◌, ◌≤◌, ◌+◌, IfOk, IfErr, OnOk, length, false, [], ◌∷◌, ◌++◌};
 ghost use Rattle.std.specs.Option.{option_map};
 ghost use Rattle.evm_asm_parser.specs.Kept.{kept_of};
-ghost use Rattle.evm_asm.specs.Sources.{code_of, label_at, behind_labels, with_label, defined, statement_text, outcome, behind, line_laid, first_fault, laid, nothing_laid, source_lines, source_start, IsLaid};
+ghost use Rattle.evm_asm.specs.Sources.{code_of, label_at, behind_labels, with_label, defined, statement_text, outcome, behind_reading, line_laid, first_fault, laid, nothing_laid, source_lines, source_start, IsLaid};
 ghost use Rattle.evm_asm.specs.Kept.{AreKept};
 ghost use Rattle.evm_asm.specs.Places.{here, statement_in};
 
@@ -114,8 +114,8 @@ fn outcome(
 }
 
 /// The place behind what is read.
-fn behind(place: Place, reading: &Reading) -> Result<Place, AsmFaultKind>
-    ensures { result ≡ behind place reading.now }
+fn behind_reading(place: Place, reading: &Reading) -> Result<Place, AsmFaultKind>
+    ensures { result ≡ behind_reading place reading.now }
 {
     match reading {
         Ok(statement) => place_behind(place, *statement),
@@ -138,7 +138,7 @@ fn lay_line(
     let twice = define(alloc, labels, here(place), code)?;
     let reading = statement_in(labels, place, statement_text(code));
     kept.keep(here(place), &reading)?;
-    let end = behind(place, &reading);
+    let end = behind_reading(place, &reading);
     Ok(outcome(place, twice, end))
 }
 
