@@ -14,7 +14,8 @@ use Rattle.evm_asm.specs.declared.place.Place.{Place}
 use Rattle.evm_asm.specs.Places.{placed, of_mnemonic, statement_in}
 use Rattle.evm_asm_parser.proofs.Outcomes.{any_ok, either_ok, also_ok}
 use Rattle.evm_asm_parser.proofs.Forms_hold.{Makes, either_makes, statement_holds}
-use Rattle.evm_laws.proofs.Operands_read.{IsRegister, IsInRange, IsNear, AreNear, register_below, integer_within, label_near}
+use Rattle.evm_asm.proofs.Operands_in_range.{IsRegister, register_below}
+use Rattle.evm_laws.proofs.Operands_read.{IsInRange, IsNear, AreNear, integer_within, label_near}
 
 -- li has a register and a number of 32 bits, la a register and a label that is near, if it is known
 abbrev pub CanLoad : Statement → Type 0
