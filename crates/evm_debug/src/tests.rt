@@ -1,6 +1,9 @@
 use super::*;
+use evm_core::Machine;
 use evm_model::Event;
+use evm_ram::Refusal;
 use std::process::Abort;
+use std::test::Fail;
 
 fn is_bad(rt: &impl Abort, text: &[u8]) {
     assert_eq!(rt; read_line(text), Err(Bad), "{text:?}");
@@ -57,4 +60,26 @@ fn lines_are_read(rt: HostRuntime) {
     is(&rt, b"rank 63", Line::Look(View::Rank(63)));
     is(&rt, b"counts 1 9", Line::Look(View::Counts(1, 9)));
     is(&rt, b"journal", Line::Look(View::Journal));
+}
+
+#[test]
+fn views_are_appended(rt: HostRuntime) -> Result<(), Fail> {
+    let alloc = rt.alloc();
+    let Ok(machine) = Machine::boot(alloc, 1, 65536, 16) else {
+        return Err("no machine".into());
+    };
+    let mut out = String::new(alloc);
+    push_view(&mut out, &machine, &View::Mem(0x8000_0000, 4))?;
+    push_view(&mut out, &machine, &View::Console)?;
+    assert_eq!(rt; out.as_str(), "00000000\n\n");
+    let refused = push_view(&mut out, &machine, &View::Regs(1));
+    assert!(rt; matches!(refused, Err(ViewRefusal::Refused(Refusal::NoSuchCpu))));
+    assert_eq!(rt; out.as_str(), "00000000\n\n");
+    let Ok(views) = summary(alloc, &machine) else {
+        return Err("no views".into());
+    };
+    let mut last = String::new(alloc);
+    push_summary(&mut last, &machine)?;
+    assert_eq!(rt; last.as_str(), views.as_str());
+    Ok(())
 }

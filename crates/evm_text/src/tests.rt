@@ -82,3 +82,12 @@ fn lines_are_cut(rt: HostRuntime) {
     assert_eq!(rt; line, b"c".as_slice());
     assert_eq!(rt; rest, b"".as_slice());
 }
+
+#[test]
+fn ended_lines_are_cut(rt: HostRuntime) {
+    assert_eq!(rt; cut_ended(b""), None);
+    assert_eq!(rt; cut_ended(b"a b"), None);
+    let (line, rest) = cut_ended(b"a b\nc").expect(&rt, "a line");
+    assert_eq!(rt; line, b"a b".as_slice());
+    assert_eq!(rt; rest, b"c".as_slice());
+}
