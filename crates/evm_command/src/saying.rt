@@ -92,7 +92,7 @@ fn fault_words(source: Option<&str>, fault: Fault) -> Words<'_>
     };
     match fault {
         Fault::NoProgram(fault) => program_words(source, fault),
-        Fault::BadLine(_) | Fault::Refused(_, _, _) | Fault::NoJournal(_) => {
+        Fault::BadLine(_, _) | Fault::Refused(_, _, _) | Fault::NoJournal(_) => {
             Words::Said(fault.sentence())
         }
     }

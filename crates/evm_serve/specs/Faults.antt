@@ -16,6 +16,8 @@ use Rattle.evm_debug.specs.declared.line.View.{View}
 use Rattle.evm_debug.specs.declared.line.View.TheVariants as views
 use Rattle.evm_serve.specs.declared.fault.Fault.{Fault}
 use Rattle.evm_serve.specs.declared.fault.Fault.TheVariants.{BadLine, Refused, NoProgram, NoJournal}
+use Rattle.evm_serve.specs.declared.fault.LineFault.{LineFault}
+use Rattle.evm_serve.specs.declared.fault.LineFault.TheVariants.{OutsideGrammar, NotBooted, BootedAgain}
 use Rattle.evm_serve.specs.declared.sentence.Sentence.{Sentence}
 use Rattle.evm_serve.specs.declared.sentence.Sentence.TheVariants.{Plain, OfCpu}
 
@@ -30,7 +32,7 @@ refused_text n refusal = codes "refused " ++ decimal n ++ codes " " ++ decimal (
 
 -- the line of a fault
 abbrev pub fault_text : Fault → List ℕ
-fault_text (BadLine n) = bad_text n
+fault_text (BadLine n fault) = bad_text n
 fault_text (Refused n cpu refusal) = refused_text n refusal
 fault_text (NoProgram fault) = codes "asm " ++ decimal fault.line ++ codes " " ++ decimal (words.kind_number fault.kind) ++ codes "\n"
 fault_text (NoJournal fault) = codes "journal " ++ decimal fault.line ++ codes " " ++ decimal (journals.journal_kind_number fault.kind) ++ codes "\n"
@@ -41,7 +43,7 @@ no_image_text fault = codes "image " ++ decimal (file_fault_number fault) ++ cod
 
 -- the line of the input on which the fault is
 abbrev pub line_at_fault : Fault → ℕ
-line_at_fault (BadLine n) = n
+line_at_fault (BadLine n fault) = n
 line_at_fault (Refused n cpu refusal) = n
 line_at_fault (NoProgram fault) = fault.line
 line_at_fault (NoJournal fault) = fault.line
@@ -112,8 +114,14 @@ refusal_sentence cpu refusals.Started = codes "refused: the machine has had an e
 refusal_sentence cpu refusals.PortsOut = codes "refused: a port is still out (PortsOut, 13)"
 refusal_sentence cpu refusals.SeatsOut = codes "refused: a seat is still out (SeatsOut, 14)"
 
+-- of a bad line what is wrong with it
+abbrev pub line_sentence : LineFault → List ℕ
+line_sentence OutsideGrammar = codes "bad line: outside the grammar of scripts"
+line_sentence NotBooted = codes "bad line: no machine is booted before it"
+line_sentence BootedAgain = codes "bad line: a machine is booted before it"
+
 abbrev pub fault_sentence : Fault → List ℕ
-fault_sentence (BadLine n) = codes "bad line: outside the grammar, before the boot, or a second boot"
+fault_sentence (BadLine n fault) = line_sentence fault
 fault_sentence (Refused n cpu refusal) = refusal_sentence cpu refusal
 fault_sentence (NoProgram fault) = asm_sentence fault.kind
 fault_sentence (NoJournal fault) = journal_sentence fault.kind

@@ -1,6 +1,5 @@
 -- How a run may end, and what it has written then.
 use Rattle.std.specs.Prelude.{◌≡◌, ℕ, List, [], ◌++◌, ◌⊎◌, Option, Result, Ok, Err, ⊤}
-use Rattle.std.specs.String.{string_bytes}
 use Rattle.evm_streams.specs.declared.sink.Writing.{Writing}
 use Rattle.evm_streams.specs.declared.source.ReadStop.{ReadStop}
 use Rattle.evm_streams.specs.declared.source.ReadStop.TheVariants as stops
@@ -16,9 +15,9 @@ use Rattle.evm_serve.specs.declared.ending.Reply.{Reply}
 use Rattle.evm_serve.specs.declared.ending.Reply.TheVariants as replies
 
 -- what the code replies to a line is what the line tells, and leaves its machine
-abbrev pub Replies : Reply → Option State → Telling → Type 0
-Replies (replies.Goes text) machine telling = telling ≡ Goes (string_bytes text) machine
-Replies (replies.Ends fault) machine telling = telling ≡ Ends fault
+abbrev pub Replies : Reply → List ℕ → Option State → Telling → Type 0
+Replies replies.Goes text machine telling = telling ≡ Goes text machine
+Replies (replies.Ends fault) text machine telling = telling ≡ Ends fault
 
 -- the status of a run whose report was written to its end
 abbrev pub status_of : Verdict → ℕ

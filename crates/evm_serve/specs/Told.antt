@@ -19,6 +19,7 @@ use Rattle.evm_serve.specs.declared.ending.Verdict.{Verdict}
 use Rattle.evm_serve.specs.declared.ending.Verdict.TheVariants as verdicts
 use Rattle.evm_serve.specs.declared.fault.Fault.{Fault}
 use Rattle.evm_serve.specs.declared.fault.Fault.TheVariants.{BadLine, Refused}
+use Rattle.evm_serve.specs.declared.fault.LineFault.TheVariants.{OutsideGrammar, NotBooted, BootedAgain}
 
 -- the last line of a run to which memory was refused
 abbrev pub memory_text : List ℕ
@@ -55,14 +56,14 @@ view_told n view s (Err refusal) = Ends (view_refused n view refusal)
 abbrev pub told_unbooted : Given → ℕ → Line → Telling
 told_unbooted given n lines.Blank = Goes [] None
 told_unbooted given n (lines.Boot cpus ram capacity) = boot_told n (started given (record { cpus = cpus; ram = ram; capacity = capacity }))
-told_unbooted given n (lines.Steps c count) = Ends (BadLine n)
-told_unbooted given n (lines.One event) = Ends (BadLine n)
-told_unbooted given n (lines.Look view) = Ends (BadLine n)
+told_unbooted given n (lines.Steps c count) = Ends (BadLine n NotBooted)
+told_unbooted given n (lines.One event) = Ends (BadLine n NotBooted)
+told_unbooted given n (lines.Look view) = Ends (BadLine n NotBooted)
 
 -- a line, where a machine is booted: boot comes once
 abbrev pub told_booted : ℕ → State → Line → Telling
 told_booted n s lines.Blank = Goes [] (Some s)
-told_booted n s (lines.Boot cpus ram capacity) = Ends (BadLine n)
+told_booted n s (lines.Boot cpus ram capacity) = Ends (BadLine n BootedAgain)
 told_booted n s (lines.Steps c count) = steps_told n c (steps c count s)
 told_booted n s (lines.One event) = event_told n event (apply s event)
 told_booted n s (lines.Look view) = view_told n view s (shown view s)
@@ -73,7 +74,7 @@ told_at given n (Some s) line = told_booted n s line
 
 -- what line n of a script tells; one outside the grammar is bad
 abbrev pub line_told : Given → ℕ → Option State → Option Line → Telling
-line_told given n machine None = Ends (BadLine n)
+line_told given n machine None = Ends (BadLine n OutsideGrammar)
 line_told given n machine (Some line) = told_at given n machine line
 
 -- the text of a run, and what it came to

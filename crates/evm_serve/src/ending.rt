@@ -7,11 +7,11 @@ use crate::fault::Fault;
 use evm_elf::ElfFault;
 use evm_streams::{ReadFault, WriteFault};
 
-/// What a line of a script replies.
-#[derive(Debug, Drop)]
+/// How a line of a script was taken.
+#[derive(Clone, Copy, Debug)]
 pub enum Reply {
-    /// The run goes on, with this text.
-    Goes(String),
+    /// The run goes on.
+    Goes,
     /// The run ends at this fault.
     Ends(Fault),
 }

@@ -1,7 +1,7 @@
 //! Why a script, a journal or a source is not done to its end.
 
 ghost use Rattle.std.specs.Prelude.{◌≡◌};
-ghost use Rattle.evm_serve.specs.Faults.{event_cpu, view_cpu, line_at_fault, sentence_text, about_cpu, fault_sentence, refusal_sentence};
+ghost use Rattle.evm_serve.specs.Faults.{event_cpu, view_cpu, line_at_fault, sentence_text, about_cpu, fault_sentence, line_sentence, refusal_sentence};
 
 use crate::sentence::Sentence;
 use evm_asm::AsmFault;
@@ -11,11 +11,22 @@ use evm_journal::JournalFault;
 use std::fmt;
 use thiserror::Error;
 
+/// What is wrong with a bad line of a script.
+#[derive(Clone, Copy, Debug, PartialEq, Eq)]
+pub enum LineFault {
+    /// It is outside the grammar.
+    OutsideGrammar,
+    /// No machine is booted before it.
+    NotBooted,
+    /// It boots, and a machine is booted before it.
+    BootedAgain,
+}
+
 /// What is wrong with a line of a script, a journal or a source.
 #[derive(Clone, Copy, Debug, PartialEq, Eq, Error)]
 pub enum Fault {
-    /// The line of this number is outside the grammar of scripts, comes before the boot, or boots again.
-    BadLine(u64),
+    /// The line of this number of a script is bad.
+    BadLine(u64, LineFault),
     /// The machine refuses the line of this number, which names this processor, or none.
     Refused(u64, Option<u8>, Refusal),
     /// The source has a fault.
@@ -115,13 +126,26 @@ fn refusal_sentence(cpu: Option<u8>, refusal: Refusal) -> Sentence
     Sentence::Plain(words)
 }
 
+impl LineFault {
+    /// What is wrong, in words.
+    fn sentence(self) -> &'static str
+        ensures { result.now ≡ line_sentence self }
+    {
+        match self {
+            LineFault::OutsideGrammar => "bad line: outside the grammar of scripts",
+            LineFault::NotBooted => "bad line: no machine is booted before it",
+            LineFault::BootedAgain => "bad line: a machine is booted before it",
+        }
+    }
+}
+
 impl Fault {
     /// The number of the line, from 1.
     pub fn line(self) -> u64
         ensures { result ≡ line_at_fault self }
     {
         match self {
-            Fault::BadLine(line) | Fault::Refused(line, _, _) => line,
+            Fault::BadLine(line, _) | Fault::Refused(line, _, _) => line,
             Fault::NoProgram(fault) => fault.line,
             Fault::NoJournal(fault) => fault.line,
         }
@@ -132,9 +156,7 @@ impl Fault {
         ensures { sentence_text result ≡ fault_sentence self }
     {
         match self {
-            Fault::BadLine(_) => Sentence::Plain(
-                "bad line: outside the grammar, before the boot, or a second boot",
-            ),
+            Fault::BadLine(_, fault) => Sentence::Plain(fault.sentence()),
             Fault::Refused(_, cpu, refusal) => refusal_sentence(cpu, refusal),
             Fault::NoProgram(fault) => Sentence::Plain(fault.kind.sentence()),
             Fault::NoJournal(fault) => Sentence::Plain(fault.kind.sentence()),

@@ -18,7 +18,7 @@ mod texts;
 pub use assembling::assemble_to;
 pub use ending::{Ending, Verdict};
 pub use evm_streams::{ReadFault, ReadStop, WriteFault, read_utf8};
-pub use fault::Fault;
+pub use fault::{Fault, LineFault};
 pub use given::Given;
 pub use importing::import;
 pub use laws::{

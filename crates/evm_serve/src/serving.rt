@@ -24,13 +24,14 @@ fn play<W: Sink>(
     ensures { Plays W.takes (told (given_of given.entry) script.now) writer.old writer.new result }
 {
     let mut machine = None;
+    let mut said = String::new(alloc);
     let mut rest = script;
     let mut number = 1u64;
     'lines: while let Some((line, after)) = cut_line(rest) {
-        match tell(alloc, given, number, line, &mut machine) {
+        match tell(alloc, given, number, line, &mut machine, &mut said) {
             Err(_) => return Err(Halt::NoMemory),
-            Ok(Reply::Goes(text)) => {
-                if let Err(fault) = write_all(writer, text.as_bytes()) {
+            Ok(Reply::Goes) => {
+                if let Err(fault) = write_all(writer, said.as_bytes()) {
                     return Err(Halt::WriteFailed(fault));
                 }
             }

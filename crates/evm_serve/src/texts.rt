@@ -46,7 +46,7 @@ pub(crate) fn fault_line(alloc: Global, fault: Fault) -> Result<String, Refused>
     ensures refused { IfErr result (λ asked. asked ≤ length (fault_text fault)) }
 {
     match fault {
-        Fault::BadLine(line) => with_one(alloc, "bad ", line),
+        Fault::BadLine(line, _) => with_one(alloc, "bad ", line),
         Fault::Refused(line, _, refusal) => {
             with_two(alloc, "refused ", line, u64::from(refusal.number()))
         }

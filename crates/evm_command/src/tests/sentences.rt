@@ -178,7 +178,7 @@ fn lines_of_scripts_are_told_of(rt: HostRuntime) -> Result<(), Fail> {
         ),
         (
             b"\n\n\n\n\n\n\n\n\n\n\ntock\n",
-            "script:12: bad line: outside the grammar, before the boot, or a second boot\n",
+            "script:12: bad line: outside the grammar of scripts\n",
         ),
         (
             b"boot 9 65536 8\n",

@@ -3,7 +3,7 @@
 use super::image_of;
 use crate::assembling::assemble_to;
 use crate::ending::{Ending, Verdict};
-use crate::fault::Fault;
+use crate::fault::{Fault, LineFault};
 use crate::given::Given;
 use crate::importing::import;
 use crate::replay::replay_to;
@@ -24,8 +24,16 @@ fn check_fault(rt: &impl Abort, ending: Ending, fault: Fault) {
 #[test]
 fn scripts_end_with_their_fault(rt: HostRuntime) {
     for (script, fault) in [
-        ("boot 1 65536 8\n\ntock\n", Fault::BadLine(3)),
-        ("tasks\n", Fault::BadLine(1)),
+        (
+            "boot 1 65536 8\n\ntock\n",
+            Fault::BadLine(3, LineFault::OutsideGrammar),
+        ),
+        ("tasks\n", Fault::BadLine(1, LineFault::NotBooted)),
+        ("tock\n", Fault::BadLine(1, LineFault::OutsideGrammar)),
+        (
+            "boot 1 65536 8\nboot 1 65536 8\n",
+            Fault::BadLine(2, LineFault::BootedAgain),
+        ),
         (
             "#\nboot 9 65536 8\n",
             Fault::Refused(2, None, Refusal::BadSize),
@@ -114,8 +122,16 @@ fn sources_and_images_end_with_their_fault(rt: HostRuntime) {
 fn faults_are_told_in_words(rt: HostRuntime) -> Result<(), Fail> {
     for (fault, text) in [
         (
-            Fault::BadLine(7),
-            "line 7: bad line: outside the grammar, before the boot, or a second boot",
+            Fault::BadLine(7, LineFault::OutsideGrammar),
+            "line 7: bad line: outside the grammar of scripts",
+        ),
+        (
+            Fault::BadLine(1, LineFault::NotBooted),
+            "line 1: bad line: no machine is booted before it",
+        ),
+        (
+            Fault::BadLine(9, LineFault::BootedAgain),
+            "line 9: bad line: a machine is booted before it",
         ),
         (
             Fault::Refused(2, Some(7), Refusal::NotStopped),

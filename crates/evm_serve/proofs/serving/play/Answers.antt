@@ -14,9 +14,9 @@ lines-init g c = record { tells = Tells-start _ _ _ _; numbered = omega arith }
 
 pub lines-preserved : goal.lines-preserved
 lines-preserved g c =
-    let goes : line_told (given_of c.args.given) c.lines.number c.lines.machine (line_at c.in-Some.line.now) ≡ Goes (string_bytes c.in-Ok-Goes.text) c.tell.new.machine = search rules in
+    let goes : line_told (given_of c.args.given) c.lines.number c.lines.machine (line_at c.in-Some.line.now) ≡ Goes (string_bytes c.tell.new.said) c.tell.new.machine = search rules in
     let cut : CutsLine c.lines.rest.now c.in-Some.line.now c.in-Some.after.now = search rules in
-    let written : Took g.W.Sink.takes c.lines.writer (string_bytes c.in-Ok-Goes.text) c.write_all.new.sink = search rules in
+    let written : Took g.W.Sink.takes c.lines.writer (string_bytes c.tell.new.said) c.write_all.new.sink = search rules in
     record {
       tells = Tells-goes _ _ _ _ _ _ _ _ _ _ _ _ _ c.lines.invariant.tells cut goes written;
       numbered = omega (arith, cut.shorter, c.lines.invariant.numbered);
@@ -24,9 +24,9 @@ lines-preserved g c =
 
 pub returns-in-Err-write_all : goal.returns-in-Err-write_all
 returns-in-Err-write_all g c =
-    let goes : line_told (given_of c.args.given) c.lines.number c.lines.machine (line_at c.in-Some.line.now) ≡ Goes (string_bytes c.in-Ok-Goes.text) c.tell.new.machine = search rules in
+    let goes : line_told (given_of c.args.given) c.lines.number c.lines.machine (line_at c.in-Some.line.now) ≡ Goes (string_bytes c.tell.new.said) c.tell.new.machine = search rules in
     let cut : CutsLine c.lines.rest.now c.in-Some.line.now c.in-Some.after.now = search rules in
-    let written : TookPrefix g.W.Sink.takes c.lines.writer (string_bytes c.in-Ok-Goes.text) c.write_all.new.sink = search rules in
+    let written : TookPrefix g.W.Sink.takes c.lines.writer (string_bytes c.tell.new.said) c.write_all.new.sink = search rules in
     Tells-goes_fault _ _ _ _ _ _ _ _ _ _ _ _ _ c.lines.invariant.tells cut goes written
 
 pub returns-in-Err : goal.returns-in-Err
