@@ -127,6 +127,16 @@ pub round-still : (mutexes : List Mutex) (tasks : List Task) (own now next : Lis
     → next_ranks mutexes tasks own next ≡ next
 round-still mutexes tasks own now next e same = ap (next_ranks mutexes tasks own) (sym same) ∙ sym e
 
+-- so that all rounds are made where some are, and the last of them changed nothing
+pub all-made : (mutexes : List Mutex) (tasks : List Task) (own now : List ℕ) (r k n : ℕ) → n ≡ r + k → now ≡ ranks_after mutexes tasks own r
+    → next_ranks mutexes tasks own now ≡ now → now ≡ ranks_after mutexes tasks own n
+all-made mutexes tasks own now r zero n e so_far still = so_far ∙ ap (ranks_after mutexes tasks own) (omega (arith, e))
+all-made mutexes tasks own now r (suc k) n e so_far still =
+    sym still
+    ∙ ap (next_ranks mutexes tasks own) (all-made mutexes tasks own now r k (r + k) refl so_far still)
+    ∙ sym (ranks_after-more mutexes tasks own (r + k))
+    ∙ ap (ranks_after mutexes tasks own) (omega (arith, e))
+
 pub was-same : (b : Bool) → not b ≡ false → b ≡ true
 was-same true e = refl
 was-same false e = cc

@@ -135,13 +135,13 @@ impl Mutexes {
         self.own_ranks(tasks, &mut own);
         let mut now = own;
         let mut moves = self.count() > 0;
-        for round in 0..TASK_LIMIT {
-            if moves {
-                let mut next = own;
-                self.next_ranks(tasks, &now, &mut next);
-                moves = !is_same(&now, &next);
-                now = next;
-            }
+        let mut rounds = 0;
+        while moves && rounds < TASK_LIMIT {
+            let mut next = own;
+            self.next_ranks(tasks, &now, &mut next);
+            moves = !is_same(&now, &next);
+            now = next;
+            rounds += 1;
         }
         now
     }
