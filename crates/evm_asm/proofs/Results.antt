@@ -3,6 +3,7 @@ use Rattle.std.proofs.Common.{Ok, Err, IfOk, ◌≡◌, ℕ, List, Option, Some,
 use Rattle.evm_asm_lexer.specs.declared.fault.AsmFault.{AsmFault}
 use Rattle.evm_asm_lexer.specs.declared.fault.AsmFaultKind.{AsmFaultKind}
 use Rattle.evm_asm_lexer.specs.Faults.{◌>>=◌}
+use Rattle.evm_asm_parser.specs.Statements.{also}
 use Rattle.evm_asm.specs.Items.{and_then, stop_at, unless_stopped, meaning_or_fault}
 use Rattle.evm_asm.specs.declared.item.Expansion.{Expansion}
 use Rattle.evm_asm.specs.declared.item.Placed.{Placed}
@@ -18,6 +19,13 @@ and_then_if_ok (Err e) f P Q h k = tt
 pub bind_ok : {A B : Type 0} (r : Result A AsmFaultKind) (f : A → Result B AsmFaultKind) (y : B) → (r >>= f) ≡ Ok y → (x : A) × (r ≡ Ok x) × (f x ≡ Ok y)
 bind_ok (Ok x) f y h = (x, refl, h)
 bind_ok (Err e) f y h = cc
+
+pub also_ok : {A B : Type 0} (r : Result A AsmFaultKind) (s : Result B AsmFaultKind) (a : A) → also r s ≡ Ok a → (b : B) × (r ≡ Ok a) × (s ≡ Ok b)
+unfolding also
+also_ok (Ok x) (Ok y) a h = (y, h, refl)
+also_ok (Ok x) (Err f) a h = cc
+also_ok (Err e) (Ok y) a h = cc
+also_ok (Err e) (Err f) a h = cc
 
 pub same_items : (a b : List Placed) → ◌≡◌ {A = Result (List Placed) AsmFaultKind} (Ok a) (Ok b) → a ≡ b
 same_items a b h = cc

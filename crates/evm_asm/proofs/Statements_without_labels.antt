@@ -25,6 +25,7 @@ use Rattle.evm_asm.specs.declared.place.Place.{Place}
 use Rattle.evm_asm.specs.Kept.{IsKept}
 use Rattle.evm_asm.specs.Places.{section_size, here, size_at, place_behind, placed, of_mnemonic, statement_in, is_directive, is_text, may_stand}
 use Rattle.evm_asm.specs.Sources.{measured}
+use Rattle.evm_asm.proofs.Results.{also_ok}
 use Rattle.evm_asm_lexer.specs.declared.mnemonic.Mnemonic.TheVariants as names
 use Rattle.evm_asm_parser.specs.declared.statement.Datum.TheVariants as datum
 
@@ -360,13 +361,6 @@ directive_none labels m text h =
 if_ok : (r : Reading) (s : Statement) → IfOk r IsNone → r ≡ Ok s → IsNone s
 if_ok (Ok t) s h e = let same : t ≡ s = cc in subst IsNone same h
 if_ok (Err f) s h e = cc
-
-pub also_ok : {A B : Type 0} (r : Result A AsmFaultKind) (s : Result B AsmFaultKind) (a : A) → also r s ≡ Ok a → (b : B) × (r ≡ Ok a) × (s ≡ Ok b)
-unfolding also
-also_ok (Ok x) (Ok y) a h = (y, h, refl)
-also_ok (Ok x) (Err f) a h = cc
-also_ok (Err e) (Ok y) a h = cc
-also_ok (Err e) (Err f) a h = cc
 
 may_by : (t : Bool) (p q : Place) → cond t (Ok p) (Err BadOperand) ≡ Ok q → t ≡ true
 may_by true p q h = refl

@@ -185,10 +185,6 @@ layout_of source = laid nothing_laid (source_lines source)
 unfoldable pub meaning_of : List ℕ → Result (List Placed) AsmFault
 meaning_of source = lines_meant (layout_of source) 0 source_start (source_lines source) []
 
--- Where a source means something, laying it out found no fault.
-abbrev pub NoFaultIsIgnored : Type 0
-NoFaultIsIgnored = (source : List ℕ) (items : List Placed) → meaning_of source ≡ Ok items → (layout_of source).first ≡ None
-
 -- What a function returned, seen by view, is what is meant, unless room for one element more was refused.
 abbrev pub Fails : {Y : Type 0} → Stop → Result Y AsmFaultKind → Type 0
 Fails (stop.Memory asked) meant = asked ≤ 1

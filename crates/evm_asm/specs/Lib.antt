@@ -7,10 +7,6 @@ pub mod Views
 pub mod Assembled
 pub mod Bounds
 pub mod Loading
-pub mod Wording
 pub mod ProgramLaws
 pub mod Sizes
-pub mod Least
-pub mod HasFault
-pub mod FirstFault
 pub mod Quoting

@@ -2,7 +2,7 @@ use Rattle.std.proofs.Common.{◌≡◌, ◌+◌, Ok, Err, length, subst}
 use Rattle.evm_asm.specs.Assembled.{program_of}
 use Rattle.evm_asm.specs.Bounds.{bytes_max}
 use Rattle.evm_asm.specs.Items.{FailsBy}
-use Rattle.evm_asm.proofs.Line_faults.{never_out_of_memory}
+use Rattle.evm_asm.proofs.Never_out_of_memory.{never_out_of_memory}
 use Rattle.evm_asm.proofs.Lines_worded.{result_worded, result_stands}
 use Rattle.evm_asm.proofs.program.assemble.Goals as goal
 

@@ -1,0 +1,5 @@
+pub mod Wording
+pub mod Standing
+pub mod Least
+pub mod HasFault
+pub mod FirstFault
