@@ -1,4 +1,4 @@
-ghost use Rattle.std.specs.Prelude.{◌≡◌, ◌≤◌, [], ◌∷◌, replicate, IfOk, Option, false};
+ghost use Rattle.std.specs.Prelude.{◌≡◌, ◌≤◌, [], ◌∷◌, replicate, IfErr, IfOk, Option, false};
 ghost use Rattle.evm_model.specs.Harts.{first_hart};
 ghost use Rattle.evm_model.specs.Pipes.{idle_pipe};
 ghost use Rattle.evm_model.specs.State.{booted, booted_parts, first_processor, first_task};
@@ -17,7 +17,8 @@ use evm_model::{
 use evm_parts::{Console, Parts};
 use evm_pipe::Pipe;
 use evm_quiet::Slots;
-use evm_ram::{BASE, NoMemory, Ram, Refusal, SIZE_LIMIT};
+use evm_ram::{BASE, Ram, Refusal, SIZE_LIMIT};
+use evm_room::Refused;
 use evm_task::{Harts, Tasks};
 use std::alloc::Global;
 
@@ -120,14 +121,13 @@ fn parts_of(boot: &Boot, console: Console) -> Parts
 
 // All that events change, at boot.
 #[tactic(auto, unfolding(evm_model::specs::State::booted))]
-fn board_of(alloc: Global, boot: &Boot) -> Result<Board, NoMemory>
+fn board_of(alloc: Global, boot: &Boot) -> Result<Board, Refused>
     requires { bad_boot boot.now ≡ false }
-    ensures { IfOk result (λ board. board ≡ booted boot.now) }
+    ensures booted { IfOk result (λ board. board ≡ booted boot.now) }
+    ensures refused { IfErr result (λ asked. asked ≤ boot.now.ram) }
 {
     let ram = Ram::new(alloc, boot.ram)?;
-    let Ok(console) = Console::new(alloc) else {
-        return Err(NoMemory);
-    };
+    let console = Console::new(alloc)?;
     Ok(Board {
         memory: Memory::of_ram(ram),
         breakpoints: Breakpoints::new(),
@@ -153,7 +153,10 @@ impl Machine {
             return Err(Refusal::BadSize);
         }
         match board_of(alloc, &boot) {
-            Err(_) => Err(Refusal::NoMemory),
+            Err(refused) => {
+                refused.within();
+                Err(Refusal::NoMemory)
+            }
             Ok(board) => Machine::of_board(alloc, boot, board),
         }
     }

@@ -1,9 +1,10 @@
-ghost use Rattle.std.specs.Prelude.{◌≡◌, ◌∷◌, ◌++◌, [], IfOk};
+ghost use Rattle.std.specs.Prelude.{◌≡◌, ◌∷◌, ◌++◌, [], IfErr, IfOk};
 ghost use Rattle.evm_model.specs.InBandCalls.{last_bytes};
 
 use circular_buffer::HeapCircularBuffer;
 use evm_model::CONSOLE_LIMIT;
-use std::alloc::{AllocError, Global};
+use evm_room::{Refused, ring};
+use std::alloc::Global;
 use std::marker::Model;
 
 /// The last bytes that were put to the console. The room for all is taken at once.
@@ -29,10 +30,11 @@ impl Console {
     /// # Errors
     ///
     /// Where the allocation of its room failed.
-    pub fn new(alloc: Global) -> Result<Console, AllocError>
-        ensures { IfOk result (λ console. console ≡ []) }
+    pub fn new(alloc: Global) -> Result<Console, Refused>
+        ensures empty { IfOk result (λ console. console ≡ []) }
+        ensures refused { IfErr result (λ asked. asked ≡ CONSOLE_LIMIT) }
     {
-        let bytes = HeapCircularBuffer::with_capacity(alloc, CONSOLE_LIMIT)?;
+        let bytes = ring(alloc, CONSOLE_LIMIT)?;
         Ok(Console { bytes })
     }
 

@@ -1,10 +1,11 @@
-ghost use Rattle.std.specs.Prelude.{◌≡◌, ◌+◌, ◌-◌, ◌*◌, ◌^◌, ◌≤◌, ◌<◌, ℕ, List, length, replicate, if◌then◌else◌, Option, Some, None, option_copied, IfOk, MatchOption};
+ghost use Rattle.std.specs.Prelude.{◌≡◌, ◌+◌, ◌-◌, ◌*◌, ◌^◌, ◌≤◌, ◌<◌, ℕ, List, length, replicate, if◌then◌else◌, Option, Some, None, option_copied, IfErr, IfOk, MatchOption};
 ghost use Rattle.std.specs.Option.{IfNone, IfSome};
 ghost use Rattle.evm_ram.specs.Bytes.{little_endian};
 ghost use Rattle.evm_ram.specs.Width.{bytes_of};
 ghost use Rattle.evm_ram.specs.Ram.{is_inside, bytes_at, read_at, poke_at, write_at};
 
 use crate::width::Width;
+use evm_room::{Refused, copies};
 use std::alloc::Global;
 use std::marker::Model;
 
@@ -37,14 +38,13 @@ impl Model for Ram {
 
 impl Ram {
     /// RAM of `size` bytes, each of them zero.
-    pub fn new(alloc: Global, size: u64) -> Result<Ram, NoMemory>
+    pub fn new(alloc: Global, size: u64) -> Result<Ram, Refused>
         requires { size ≤ SIZE_LIMIT }
-        ensures { IfOk result (λ ram. ram ≡ replicate size 0) }
+        ensures zeros { IfOk result (λ ram. ram ≡ replicate size 0) }
+        ensures refused { IfErr result (λ asked. asked ≡ size) }
     {
-        match vec![in alloc; 0u8; size as usize] {
-            Ok(bytes) => Ok(Ram { bytes }),
-            Err(_) => Err(NoMemory),
-        }
+        let bytes = copies(alloc, 0u8, size as usize)?;
+        Ok(Ram { bytes })
     }
 
     /// The number of bytes.

@@ -1,10 +1,11 @@
 //! Numbers and the bytes that they are stored as, at the edges of RAM.
 
-use crate::{BASE, NoMemory, Ram, Refusal, Width};
+use crate::{BASE, Ram, Refusal, Width};
+use evm_room::Refused;
 use std::alloc::Global;
 use std::test::Fail;
 
-fn ram_with(alloc: Global, bytes: &[u8]) -> Result<Option<Ram>, NoMemory> {
+fn ram_with(alloc: Global, bytes: &[u8]) -> Result<Option<Ram>, Refused> {
     if bytes.len() > 64 {
         return Ok(None);
     }

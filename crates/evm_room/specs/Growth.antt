@@ -5,7 +5,7 @@ use Rattle.std.specs.Prelude.{ℕ, ◌≤◌}
 pub WasRefused : ℕ → Type 0
 WasRefused asked = Unit {0}
 
--- What is trusted of a call that std refused: `grow` and `grow_text` alone cite this.
+-- What is trusted of a call that std refused: the functions of `growth.rt` that call std alone cite this.
 pub trusted_refusal : (asked : ℕ) → WasRefused asked
 unfolding WasRefused
 trusted_refusal asked = tt

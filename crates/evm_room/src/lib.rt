@@ -1,9 +1,9 @@
-//! Room for texts and lists: a growth, or that it was refused.
+//! Room for texts, lists and rings: a growth, or that it was refused.
 #![tactic(auto)]
 
 mod growth;
 
-pub use growth::{Refused, grow, grow_map, grow_text, push_text};
+pub use growth::{Refused, copies, grow, grow_map, grow_text, push_text, ring, with_room};
 
 #[cfg(test)]
 mod tests;

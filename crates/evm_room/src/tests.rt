@@ -23,3 +23,33 @@ fn what_nobody_has_is_refused(rt: HostRuntime) {
         Err(refused) => assert_eq!(rt; refused.asked(), usize::MAX),
     }
 }
+
+#[test]
+fn what_is_made_at_once_has_its_room(rt: HostRuntime) -> Result<(), Fail> {
+    assert_eq!(rt; copies(rt.alloc(), 7u8, 3)?.as_slice(), [7u8; 3].as_slice());
+    let mut items = with_room(rt.alloc(), 1)?;
+    items.push_reserved(7u8);
+    assert_eq!(rt; items.as_slice(), [7u8].as_slice());
+    let mut last = ring(rt.alloc(), 2)?;
+    for item in 1..=3u8 {
+        let _first = last.push_back(item);
+    }
+    assert_eq!(rt; last.front(), Some(&2));
+    Ok(())
+}
+
+#[test]
+fn what_nobody_has_is_not_made(rt: HostRuntime) {
+    match copies(rt.alloc(), 0u64, usize::MAX) {
+        Ok(_) => assert!(rt; false, "copies without end"),
+        Err(refused) => assert_eq!(rt; refused.asked(), usize::MAX),
+    }
+    match with_room::<u64>(rt.alloc(), usize::MAX) {
+        Ok(_) => assert!(rt; false, "room without end"),
+        Err(refused) => assert_eq!(rt; refused.asked(), usize::MAX),
+    }
+    match ring::<u64>(rt.alloc(), usize::MAX) {
+        Ok(_) => assert!(rt; false, "a ring without end"),
+        Err(refused) => assert_eq!(rt; refused.asked(), usize::MAX),
+    }
+}

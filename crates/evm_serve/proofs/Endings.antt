@@ -6,7 +6,7 @@ use Rattle.evm_streams.specs.Writes.{Took, TookPrefix}
 use Rattle.evm_streams.proofs.Calls.{took_append, prefix_behind}
 use Rattle.evm_serve.specs.Told.{Told, memory_text}
 use Rattle.evm_serve.specs.Faults.{fault_text, no_image_text}
-use Rattle.evm_serve.specs.Serving.{IsPrefix, EndsIn, WritesAll, WritesMemory, Finishes}
+use Rattle.evm_serve.specs.Serving.{IsPrefix, EndsIn, WritesAll, WritesMemory, EndsInMemory, Finishes}
 use Rattle.evm_serve.specs.Playing.{Plays, Says, EndsAs}
 use Rattle.evm_serve.specs.declared.ending.Verdict.{Verdict}
 use Rattle.evm_serve.specs.declared.ending.Verdict.TheVariants.{Done, Refused, ImageRefused}
@@ -46,16 +46,17 @@ module _ {W : Type 0} (takes : W → Writing → List ℕ → W → Type 0) wher
   -- a run that wrote several texts
   pub finishes : (all : Told) (a b c : W) (outcome : Result Verdict Halt) (ending : Ending) → Plays takes all a b outcome → EndsAs takes outcome b c ending → Finishes takes all a c ending
   finishes all a b c (Ok verdict) ending plays ends = inl (complete all verdict a b c ending plays.0 plays.1 plays.2 ends.0 ends.1)
-  finishes all a b c (Err halts.NoMemory) ending plays ends = inr (plays.0, plays.1, memory_behind a b c plays.0 ending plays.2 ends)
+  finishes all a b c (Err halts.NoMemory) ending plays ends =
+      let written = plays.1 in inr (written.0, written.1, (plays.0, memory_behind a b c written.0 ending written.2 ends))
   finishes all a b c (Err (halts.WriteFailed fault)) ending plays ends = inl (failed all a b c ending fault plays ends.0 ends.1)
 
   -- a run that wrote one text
-  pub says : (all : Told) (a b c : W) (outcome : Result Verdict Halt) (ending : Ending) → Says takes all a b outcome → EndsAs takes outcome b c ending → WritesAll takes all a c ending ⊎ WritesMemory takes [] a c ending
+  pub says : (all : Told) (a b c : W) (outcome : Result Verdict Halt) (ending : Ending) → Says takes all a b outcome → EndsAs takes outcome b c ending → WritesAll takes all a c ending ⊎ EndsInMemory takes [] a c ending
   says all a b c (Ok verdict) ending written ends = inl (complete all verdict a b c ending written.0 written.1 written.2 ends.0 ends.1)
-  says all a b c (Err halts.NoMemory) ending written ends = let P : W → Type 0 = λ w. WritesMemory takes [] w c ending in inr (subst P written ends)
+  says all a b c (Err halts.NoMemory) ending written ends = let P : W → Type 0 = λ w. WritesMemory takes [] w c ending in inr (written.0, subst P written.1 ends)
   says all a b c (Err (halts.WriteFailed fault)) ending written ends = inl (failed all a b c ending fault written ends.0 ends.1)
 
-  pub finishes_one : (all : Told) (a c : W) (ending : Ending) → WritesAll takes all a c ending ⊎ WritesMemory takes [] a c ending → Finishes takes all a c ending
+  pub finishes_one : (all : Told) (a c : W) (ending : Ending) → WritesAll takes all a c ending ⊎ EndsInMemory takes [] a c ending → Finishes takes all a c ending
   finishes_one all a c ending (inl told) = inl told
   finishes_one all a c ending (inr told) = inr ([], (all.text, refl), told)
 
@@ -66,5 +67,5 @@ module _ {W : Type 0} (takes : W → Writing → List ℕ → W → Type 0) wher
       → (prefix : List ℕ) → IsPrefix prefix all.text → Took takes a prefix b
       → Says takes (record { text = text; verdict = last }) b c outcome → Plays takes all a c outcome
   plays_ended all a b c text last (Ok verdict) whole part ends prefix is took says = let w = whole says.0 in (w.0, says.1 ∙ w.1, ends verdict says.2)
-  plays_ended all a b c text last (Err halts.NoMemory) whole part ends prefix is took says = let P : W → Type 0 = λ w. Took takes a prefix w in (prefix, is, subst P (sym says) took)
+  plays_ended all a b c text last (Err halts.NoMemory) whole part ends prefix is took says = let P : W → Type 0 = λ w. Took takes a prefix w in (says.0, (prefix, is, subst P (sym says.1) took))
   plays_ended all a b c text last (Err (halts.WriteFailed fault)) whole part ends prefix is took says = part says

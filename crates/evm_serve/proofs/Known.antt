@@ -13,7 +13,7 @@ use Rattle.evm_elf.specs.Faults.{fault_of}
 use Rattle.evm_elf.specs.declared.fault.ElfFault.{ElfFault}
 use Rattle.evm_asm_lexer.specs.declared.fault.AsmFault.{AsmFault}
 use Rattle.evm_serve.specs.Told.{Told}
-use Rattle.evm_serve.specs.Serving.{WritesAll, WritesMemory, Finishes}
+use Rattle.evm_serve.specs.Serving.{WritesAll, WritesMemory, EndsInMemory, Finishes}
 use Rattle.evm_serve.specs.Imaging as imaging
 use Rattle.evm_serve.specs.Assembling as assembling
 use Rattle.evm_serve.specs.Known.{AppendsAll, AppendsMemory, AppendsReport, IsWithin, IsTextWithin, ImportsKnown, ServesKnown, ServesKnownText, ImportsKnownFile, AssemblesIntoKnown}
@@ -69,7 +69,7 @@ module _ {W : Type 0} (contents : W → Option (List ℕ)) where
 
   finishes_known : (all : Told) (w w' : W) (ending : Ending) → Finishes (WriterTakes contents) all w w' ending → AppendsReport all (contents w) (contents w') ending
   finishes_known all w w' ending (inl h) = report_of all w w' ending (inl (all_known all w w' ending h))
-  finishes_known all w w' ending (inr h) = report_of all w w' ending (inr (h.0, h.1, memory_known h.0 w w' ending h.2))
+  finishes_known all w w' ending (inr h) = report_of all w w' ending (inr (h.0, h.1, memory_known h.0 w w' ending (h.2).1))
 
   -- the line `memory` alone is a report of anything
   memory_report : (all : Told) (w w' : W) (ending : Ending) → WritesMemory (WriterTakes contents) [] w w' ending → AppendsReport all (contents w) (contents w') ending
@@ -83,7 +83,7 @@ module _ {W : Type 0} (contents : W → Option (List ℕ)) where
   finished_within all w w' input (Complete verdict) most h = most
   finished_within all w w' input NoMemory most h = tt
   finished_within all w w' input (ReadFailed fault) most (inl h) = absurd h
-  finished_within all w w' input (ReadFailed fault) most (inr h) = absurd h.2
+  finished_within all w w' input (ReadFailed fault) most (inr h) = absurd (h.2).1
   finished_within all w w' input (WriteFailed fault) most h = tt
 
   memory_within : (prefix : List ℕ) (w w' : W) (input : List ℕ) (ending : Ending) → WritesMemory (WriterTakes contents) prefix w w' ending → IsWithin input ending
@@ -96,7 +96,7 @@ module _ {W : Type 0} (contents : W → Option (List ℕ)) where
   finished_text all w w' input (Complete verdict) most utf8 h = (most, utf8)
   finished_text all w w' input NoMemory most utf8 h = tt
   finished_text all w w' input (ReadFailed fault) most utf8 (inl h) = absurd h
-  finished_text all w w' input (ReadFailed fault) most utf8 (inr h) = absurd h.2
+  finished_text all w w' input (ReadFailed fault) most utf8 (inr h) = absurd (h.2).1
   finished_text all w w' input (WriteFailed fault) most utf8 h = tt
 
   memory_text : (prefix : List ℕ) (w w' : W) (input : List ℕ) (ending : Ending) → WritesMemory (WriterTakes contents) prefix w w' ending → IsTextWithin input ending
@@ -159,8 +159,8 @@ module _ {R W : Type 0} (remaining : R → Option (List ℕ)) (contents : W → 
   some_known (Some f) w w' ending h = all_known contents (imaging.no_image_report f) w w' ending h
 
   checked_within : (fault : Option ElfFault) (w w' : W) (file : List ℕ) (ending : Ending) → length file ≤ FILE_LIMIT
-      → (IsSomeAnd fault (λ f. WritesAll (WriterTakes contents) (imaging.no_image_report f) w w' ending) ⊎ WritesMemory (WriterTakes contents) [] w w' ending) → IsWithin file ending
-  checked_within fault w w' file ending most (inr h) = memory_within contents [] w w' file ending h
+      → (IsSomeAnd fault (λ f. WritesAll (WriterTakes contents) (imaging.no_image_report f) w w' ending) ⊎ EndsInMemory (WriterTakes contents) [] w w' ending) → IsWithin file ending
+  checked_within fault w w' file ending most (inr h) = memory_within contents [] w w' file ending h.1
   checked_within None w w' file ending most (inl h) = absurd h
   checked_within (Some f) w w' file ending most (inl h) = finished_within contents (imaging.no_image_report f) w w' file ending most (inl h)
 
@@ -172,7 +172,7 @@ module _ {R W : Type 0} (remaining : R → Option (List ℕ)) (contents : W → 
       (import_of bytes w w' ending (inl (some_known (fault_of bytes) w w' ending h)) (checked_within (fault_of bytes) w w' bytes ending reads.1 (inl h)))
   imports_known s t w w' (Ok bytes) (Err ending) reads (inr h) =
       known_of (remaining s) (λ file. ImportsKnown file (contents w) (contents w') (Err ending)) bytes ((reads_known remaining).whole s t bytes reads.0)
-      (import_of bytes w w' ending (inr (memory_known contents [] w w' ending h)) (memory_within contents [] w w' bytes ending h))
+      (import_of bytes w w' ending (inr (memory_known contents [] w w' ending h.1)) (memory_within contents [] w w' bytes ending h.1))
   imports_known s t w w' (Err stop) (Ok image) reads h = absurd h
   imports_known s t w w' (Err stops.NoMemory) (Err ending) reads h =
       known_always (remaining s) _ (λ file. import_of file w w' ending (inr (memory_known contents [] w w' ending h)) (memory_within contents [] w w' file ending h))
@@ -182,12 +182,12 @@ module _ {R W : Type 0} (remaining : R → Option (List ℕ)) (contents : W → 
 
 module _ {W T : Type 0} (contents : W → Option (List ℕ)) (reported : T → Option (List ℕ)) where
   either_known : (fault : AsmFault) (report report' : T) (ending : Ending)
-      → (WritesAll (WriterTakes reported) (assembling.no_program_report fault) report report' ending ⊎ WritesMemory (WriterTakes reported) [] report report' ending)
+      → (WritesAll (WriterTakes reported) (assembling.no_program_report fault) report report' ending ⊎ EndsInMemory (WriterTakes reported) [] report report' ending)
       → (AppendsAll (assembling.no_program_report fault) (reported report) (reported report') ending ⊎ AppendsMemory [] (reported report) (reported report') ending)
   either_known fault report report' ending (inl h) = inl (all_known reported _ report report' ending h)
-  either_known fault report report' ending (inr h) = inr (memory_known reported [] report report' ending h)
+  either_known fault report report' ending (inr h) = inr (memory_known reported [] report report' ending h.1)
 
   pub assembles_known : AssemblesIntoKnown contents reported
   assembles_known (Ok p) out out' report report' ending (inl h) = inl (all_known contents _ out out' ending h.0, kept reported report report' h.1)
-  assembles_known (Ok p) out out' report report' ending (inr h) = inr (kept contents out out' h.0, memory_known reported [] report report' ending h.1)
+  assembles_known (Ok p) out out' report report' ending (inr h) = inr (kept contents out out' h.0, memory_known reported [] report report' ending (h.1).1)
   assembles_known (Err fault) out out' report report' ending h = (kept contents out out' h.0, either_known fault report report' ending h.1)

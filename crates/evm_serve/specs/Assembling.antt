@@ -6,7 +6,7 @@ use Rattle.evm_asm_lexer.specs.declared.fault.AsmFault.{AsmFault}
 use Rattle.evm_elf.specs.Files.{file_of}
 use Rattle.evm_serve.specs.Told.{Told}
 use Rattle.evm_serve.specs.Faults.{fault_text}
-use Rattle.evm_serve.specs.Serving.{WritesAll, WritesMemory}
+use Rattle.evm_serve.specs.Serving.{WritesAll, EndsInMemory}
 use Rattle.evm_serve.specs.declared.ending.Ending.{Ending}
 use Rattle.evm_serve.specs.declared.ending.Verdict.TheVariants.{Done, Refused}
 use Rattle.evm_serve.specs.declared.fault.Fault.TheVariants.{NoProgram}
@@ -16,11 +16,11 @@ abbrev pub no_program_report : AsmFault → Told
 no_program_report fault = record { text = fault_text (NoProgram fault); verdict = Refused (NoProgram fault) }
 
 module _ {W T : Type 0} (takes : W → Writing → List ℕ → W → Type 0) (takes_report : T → Writing → List ℕ → T → Type 0) where
-  -- The file of a program is written and nothing reported; a fault is reported and no file written; or an allocation failed, the line
+  -- The file of a program is written and nothing reported; a fault is reported and no file written; or memory was refused, the line
   -- `memory` is reported and no file written. Where nothing is written there is no call.
   abbrev pub Assembles : Result Assembled AsmFault → W → W → T → T → Ending → Type 0
   Assembles (Ok p) out out' report report' ending =
       (WritesAll takes (record { text = file_of p.bytes; verdict = Done }) out out' ending × (report' ≡ report))
-      ⊎ ((out' ≡ out) × WritesMemory takes_report [] report report' ending)
+      ⊎ ((out' ≡ out) × EndsInMemory takes_report [] report report' ending)
   Assembles (Err fault) out out' report report' ending =
-      (out' ≡ out) × (WritesAll takes_report (no_program_report fault) report report' ending ⊎ WritesMemory takes_report [] report report' ending)
+      (out' ≡ out) × (WritesAll takes_report (no_program_report fault) report report' ending ⊎ EndsInMemory takes_report [] report report' ending)

@@ -7,7 +7,7 @@ use Rattle.evm_elf.specs.Faults.{fault_of, image_of}
 use Rattle.evm_elf.specs.declared.fault.ElfFault.{ElfFault}
 use Rattle.evm_serve.specs.Told.{Told}
 use Rattle.evm_serve.specs.Faults.{no_image_text}
-use Rattle.evm_serve.specs.Serving.{WritesAll, WritesMemory, Unread}
+use Rattle.evm_serve.specs.Serving.{WritesAll, EndsInMemory, Unread}
 use Rattle.evm_serve.specs.declared.ending.Ending.{Ending}
 use Rattle.evm_serve.specs.declared.ending.Verdict.TheVariants.{ImageRefused}
 
@@ -16,11 +16,11 @@ abbrev pub no_image_report : ElfFault → Told
 no_image_report fault = record { text = no_image_text fault; verdict = ImageRefused fault }
 
 module _ {W : Type 0} (takes : W → Writing → List ℕ → W → Type 0) where
-  -- Bytes without a fault give their image, and the writer has no call. Of others the first fault is reported; or an allocation failed, and
+  -- Bytes without a fault give their image, and the writer has no call. Of others the first fault is reported; or memory was refused, and
   -- the line `memory` is written.
   abbrev pub Checks : List ℕ → W → W → Result Contents Ending → Type 0
   Checks file w w' (Ok image) = (fault_of file ≡ None) × (image ≡ image_of file) × (w' ≡ w)
-  Checks file w w' (Err ending) = IsSomeAnd (fault_of file) (λ fault. WritesAll takes (no_image_report fault) w w' ending) ⊎ WritesMemory takes [] w w' ending
+  Checks file w w' (Err ending) = IsSomeAnd (fault_of file) (λ fault. WritesAll takes (no_image_report fault) w w' ending) ⊎ EndsInMemory takes [] w w' ending
 
   -- the same of a file that was read; or the end of a run that could not read it
   abbrev pub Imports : Result (List ℕ) ReadStop → W → W → Result Contents Ending → Type 0

@@ -9,3 +9,4 @@ pub mod Replaying
 pub mod Serving
 pub mod Starting
 pub mod Told
+pub mod Memory

@@ -5,6 +5,7 @@ use Rattle.evm_streams.specs.declared.source.ReadStop.{ReadStop}
 use Rattle.evm_streams.specs.declared.source.ReadStop.TheVariants as stops
 use Rattle.evm_streams.specs.Writes.{Took, TookPrefix}
 use Rattle.evm_model.specs.State.{State}
+use Rattle.evm_serve.specs.Memory.{MemoryRefused}
 use Rattle.evm_serve.specs.Told.{Told, memory_text, Telling, Goes, Ends}
 use Rattle.evm_serve.specs.Faults.{fault_text, no_image_text}
 use Rattle.evm_serve.specs.declared.ending.Verdict.{Verdict}
@@ -56,9 +57,13 @@ module _ {W : Type 0} (takes : W → Writing → List ℕ → W → Type 0) wher
   WritesMemory prefix w w' (ReadFailed fault) = ⊥
   WritesMemory prefix w w' (WriteFailed fault) = TookPrefix takes w (prefix ++ memory_text) w'
 
-  -- A run writes all of its report; or, once an allocation failed, a prefix of it and then the line `memory`.
+  -- The same, once memory was refused to the run.
+  abbrev pub EndsInMemory : List ℕ → W → W → Ending → Type 0
+  EndsInMemory prefix w w' ending = MemoryRefused × WritesMemory prefix w w' ending
+
+  -- A run writes all of its report; or, once memory was refused to it, a prefix of it and then the line `memory`.
   abbrev pub Finishes : Told → W → W → Ending → Type 0
-  Finishes all w w' ending = WritesAll all w w' ending ⊎ ((prefix : List ℕ) × IsPrefix prefix all.text × WritesMemory prefix w w' ending)
+  Finishes all w w' ending = WritesAll all w w' ending ⊎ ((prefix : List ℕ) × IsPrefix prefix all.text × EndsInMemory prefix w w' ending)
 
   -- A run that could not read its input ends with the fault, and the writer has no call; where an allocation failed, with the line `memory`.
   abbrev pub Unread : ReadStop → W → W → Ending → Type 0

@@ -3,6 +3,7 @@ use Rattle.std.specs.Prelude.{◌≡◌, Option, Some, None, Result, Ok, Err, fa
 use Rattle.evm_core.specs.Load.{load}
 use Rattle.evm_image.specs.Images.{Contents}
 use Rattle.evm_serve.specs.Given.{Given}
+use Rattle.evm_serve.specs.Memory.{MemoryRefused}
 use Rattle.evm_ram.specs.declared.refusal.Refusal.{Refusal}
 use Rattle.evm_ram.specs.declared.refusal.Refusal.TheVariants.{BadSize, NoMemory}
 use Rattle.evm_model.specs.State.{State}
@@ -21,5 +22,5 @@ started given boot = if bad_boot boot then Err BadSize else with_image given.ima
 -- what the code answers is that, unless memory is refused to a good boot
 abbrev pub Starts : Given → Boot → Result State Refusal → Type 0
 Starts given boot (Ok s) = started given boot ≡ Ok s
-Starts given boot (Err NoMemory) = bad_boot boot ≡ false
+Starts given boot (Err NoMemory) = (bad_boot boot ≡ false) × MemoryRefused
 Starts given boot (Err refusal) = started given boot ≡ Err refusal

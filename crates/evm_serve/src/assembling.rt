@@ -14,6 +14,7 @@ use evm_streams::Sink;
 use std::alloc::Global;
 
 // Writes the file of a program.
+#[tactic(auto, using(crate::proofs::Memory::memory))]
 fn write_file<W: Sink>(alloc: Global, program: &Program, out: &mut W) -> Result<Verdict, Halt>
     ensures { Says W.takes (record { text = file_of program.now.bytes; verdict = Verdict.Done }) out.old out.new result }
 {
@@ -26,6 +27,7 @@ fn write_file<W: Sink>(alloc: Global, program: &Program, out: &mut W) -> Result<
 /// Assembles a source, and writes the image of its program to `out`. Where the source has a fault, the line
 /// `asm LINE CODE` is reported and nothing is written. Where an allocation fails, the line `memory` is reported
 /// and nothing is written, since the file is whole before its first byte is written.
+#[tactic(auto, using(crate::proofs::Memory::memory))]
 pub fn assemble_to<W: Sink, T: Sink>(
     alloc: Global,
     source: &str,

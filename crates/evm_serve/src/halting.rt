@@ -23,6 +23,7 @@ pub(crate) fn say<W: Sink>(verdict: Verdict, text: &[u8], writer: &mut W) -> Res
 }
 
 /// Writes the line of a fault, at which the run ends.
+#[tactic(auto, using(crate::proofs::Memory::memory))]
 pub(crate) fn say_fault<W: Sink>(
     alloc: Global,
     fault: Fault,
@@ -32,7 +33,10 @@ pub(crate) fn say_fault<W: Sink>(
 {
     match fault_line(alloc, fault) {
         Ok(line) => say(Verdict::Refused(fault), line.as_bytes(), writer),
-        Err(_) => Err(Halt::NoMemory),
+        Err(refused) => {
+            refused.within();
+            Err(Halt::NoMemory)
+        }
     }
 }
 

@@ -15,12 +15,16 @@ use evm_streams::{Sink, Source, read_all};
 use std::alloc::Global;
 
 // Reports the fault of a file.
+#[tactic(auto, using(crate::proofs::Memory::memory))]
 fn say_no_image<W: Sink>(alloc: Global, fault: ElfFault, writer: &mut W) -> Result<Verdict, Halt>
     ensures { Says W.takes (no_image_report fault) writer.old writer.new result }
 {
     match no_image(alloc, fault) {
         Ok(text) => say(Verdict::ImageRefused(fault), text.as_bytes(), writer),
-        Err(_) => Err(Halt::NoMemory),
+        Err(refused) => {
+            refused.within();
+            Err(Halt::NoMemory)
+        }
     }
 }
 

@@ -21,6 +21,7 @@ fn boot(alloc: Global, boot: &Boot) -> Result<Machine, Refusal>
 
 /// A machine with these numbers, and with the image in it, if one is given. Bad numbers are reported before what the
 /// image is refused for; `NoMemory` says that memory was refused.
+#[tactic(auto, using(crate::proofs::Memory::memory))]
 pub(crate) fn start(alloc: Global, given: Given<'_>, numbers: &Boot) -> Result<Machine, Refusal>
     ensures { Starts (given_of given.entry) numbers.now result }
 {

@@ -1,7 +1,8 @@
-ghost use Rattle.std.specs.Prelude.{◌≡◌, Option, IfOk, []};
+ghost use Rattle.std.specs.Prelude.{◌≡◌, Option, IfOk, OnErr, []};
 ghost use Rattle.std.specs.String.{string_bytes};
 ghost use Rattle.evm_debug.specs.LineReading.{line_at};
 ghost use Rattle.evm_serve.specs.Given.{given_of};
+ghost use Rattle.evm_serve.specs.Memory.{MemoryRefused};
 ghost use Rattle.evm_serve.specs.Starting.{started};
 ghost use Rattle.evm_model.specs.Replay.{apply};
 ghost use Rattle.evm_debug.specs.Views.{shown};
@@ -26,7 +27,8 @@ fn tell_boot(
     machine: &mut Option<Machine>,
 ) -> Result<Reply, NoMemory>
     requires { machine.old ≡ Option.None }
-    ensures { IfOk result (λ reply. Replies reply [] machine.new (boot_told number (started (given_of given.entry) numbers.now))) }
+    ensures told { IfOk result (λ reply. Replies reply [] machine.new (boot_told number (started (given_of given.entry) numbers.now))) }
+    ensures memory { OnErr result MemoryRefused }
 {
     match start(alloc, given, numbers) {
         Ok(booted) => {
@@ -47,7 +49,8 @@ fn tell_unbooted(
     machine: &mut Option<Machine>,
 ) -> Result<Reply, NoMemory>
     requires { machine.old ≡ Option.None }
-    ensures { IfOk result (λ reply. Replies reply [] machine.new (told_unbooted (given_of given.entry) number line.now)) }
+    ensures told { IfOk result (λ reply. Replies reply [] machine.new (told_unbooted (given_of given.entry) number line.now)) }
+    ensures memory { OnErr result MemoryRefused }
 {
     match line {
         Line::Blank => Ok(Reply::Goes),
@@ -79,6 +82,7 @@ fn tell_event(number: u64, event: Event, machine: &mut Machine) -> Reply
 }
 
 // A view.
+#[tactic(auto, using(crate::proofs::Memory::memory))]
 fn tell_view(
     number: u64,
     what: &View,
@@ -86,7 +90,8 @@ fn tell_view(
     said: &mut String,
 ) -> Result<Reply, NoMemory>
     requires { string_bytes said.old ≡ [] }
-    ensures { IfOk result (λ reply. Replies reply (string_bytes said.new) (Option.Some machine.now) (view_told number what.now machine.now (shown what.now machine.now))) }
+    ensures told { IfOk result (λ reply. Replies reply (string_bytes said.new) (Option.Some machine.now) (view_told number what.now machine.now (shown what.now machine.now))) }
+    ensures memory { OnErr result MemoryRefused }
 {
     match push_view(said, machine, what) {
         Ok(()) => Ok(Reply::Goes),
@@ -105,7 +110,8 @@ fn tell_booted(
     said: &mut String,
 ) -> Result<Reply, NoMemory>
     requires { string_bytes said.old ≡ [] }
-    ensures { IfOk result (λ reply. Replies reply (string_bytes said.new) (Option.Some machine.new) (told_booted number machine.old line)) }
+    ensures told { IfOk result (λ reply. Replies reply (string_bytes said.new) (Option.Some machine.new) (told_booted number machine.old line)) }
+    ensures memory { OnErr result MemoryRefused }
 {
     match line {
         Line::Blank => Ok(Reply::Goes),
@@ -129,7 +135,8 @@ pub(crate) fn tell(
     machine: &mut Option<Machine>,
     said: &mut String,
 ) -> Result<Reply, NoMemory>
-    ensures { IfOk result (λ reply. Replies reply (string_bytes said.new) machine.new (line_told (given_of given.entry) number machine.old (line_at line.now))) }
+    ensures told { IfOk result (λ reply. Replies reply (string_bytes said.new) machine.new (line_told (given_of given.entry) number machine.old (line_at line.now))) }
+    ensures memory { OnErr result MemoryRefused }
 {
     said.clear();
     let Ok(line) = read_line(line) else {

@@ -1,5 +1,6 @@
 -- What the calls of a source did, one after another. Of what a call gives nothing is known but what the call itself shows.
 use Rattle.std.specs.Prelude.{◌<◌, ◌≤◌, ℕ, List, [], ◌++◌, length, take, Result, Ok, Err, IsUtf8}
+use Rattle.evm_room.specs.Growth.{RefusedWithin}
 use Rattle.evm_streams.specs.declared.reads.TheConstants.{FILE_LIMIT}
 use Rattle.evm_streams.specs.declared.source.Reading.{Reading}
 use Rattle.evm_streams.specs.declared.source.Reading.TheVariants.{Bytes, Failed}
@@ -47,9 +48,9 @@ module _ {R : Type 0} (gives : R → Reading → List ℕ → R → Type 0) wher
     pub within : length bytes ≤ FILE_LIMIT
     pub not_utf8 : ¬ IsUtf8 bytes
 
-  -- why bytes were not read
+  -- Why bytes were not read. Memory is no reason but where room was refused for no more bytes than the limit.
   abbrev pub Stops : R → R → ReadStop → Type 0
-  Stops s t NoMemory = GaveSome s t
+  Stops s t NoMemory = GaveSome s t × RefusedWithin FILE_LIMIT
   Stops s t (Fault faults.Failed) = FailedAfter s t
   Stops s t (Fault faults.TooLong) = TooMany s t
   Stops s t (Fault faults.NotUtf8) = ⊥

@@ -5,6 +5,7 @@ ghost use Rattle.std.specs.String.{string_bytes};
 ghost use Rattle.evm_streams.specs.Reads.{Reads, ReadsText};
 
 use crate::source::{ReadFault, ReadStop, Reading, Source};
+use evm_room::grow;
 use std::alloc::Global;
 
 /// The most bytes that are read of a file, a script or a journal.
@@ -28,9 +29,13 @@ pub fn read_all<R: Source>(alloc: Global, source: &mut R) -> Result<Vec<u8>, Rea
                 if bytes.len() + n > FILE_LIMIT {
                     return Err(ReadStop::Fault(ReadFault::TooLong));
                 }
-                if bytes.extend_from_slice(&part[..n]).is_err() {
+                if let Err(refused) = grow(&mut bytes, n) {
+                    refused.within();
                     return Err(ReadStop::NoMemory);
                 }
+                let Ok(()) = bytes.extend_from_slice(&part[..n]) else {
+                    unreachable!();
+                };
             }
         }
     }

@@ -30,7 +30,7 @@ returns-in-Err-write_all g c =
     Tells-goes_fault _ _ _ _ _ _ _ _ _ _ _ _ _ c.lines.invariant.tells cut goes written
 
 pub returns-in-Err : goal.returns-in-Err
-returns-in-Err g c = (c.lines.invariant.tells.prefix, Tells-rest _ _ _ _ _ _ _ _ c.lines.invariant.tells, c.lines.invariant.tells.written)
+returns-in-Err g c = (c.in-Err.ensures.memory, (c.lines.invariant.tells.prefix, Tells-rest _ _ _ _ _ _ _ _ c.lines.invariant.tells, c.lines.invariant.tells.written))
 
 pub returns : goal.returns
 returns g c = let done = Tells-done _ _ _ _ _ _ _ _ c.lines.invariant.tells (search rules) in (done.0, done.1, tt)

@@ -1,0 +1,5 @@
+use Rattle.evm_room.specs.Growth.{trusted_refusal}
+use Rattle.evm_room.proofs.growth.ring.Goals as goal
+
+pub invariant_of-result : goal.invariant_of-result
+invariant_of-result g c = trusted_refusal c.args.count
