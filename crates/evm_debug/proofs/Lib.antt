@@ -1,3 +1,4 @@
+pub mod Frequent
 pub mod Lines
 pub mod RegisterLines
 pub mod Below
