@@ -25,9 +25,9 @@ pub use laws::{
     known_contents_are_assembled_into, known_files_are_imported, known_inputs_are_served,
     known_texts_are_served, refused_on_its_line, replays_saved,
 };
-pub use replay::replay_to;
+pub use replay::{replay_text, replay_to};
 pub use sentence::Sentence;
-pub use serving::serve;
+pub use serving::{serve, serve_script};
 
 #[cfg(test)]
 mod tests;

@@ -4,7 +4,7 @@ ghost use Rattle.evm_streams.specs.Reads.{Reads};
 ghost use Rattle.evm_serve.specs.Given.{given_of};
 ghost use Rattle.evm_serve.specs.Told.{told};
 ghost use Rattle.evm_serve.specs.Playing.{Plays};
-ghost use Rattle.evm_serve.specs.Serving.{Serves};
+ghost use Rattle.evm_serve.specs.Serving.{Finishes, Serves};
 
 use crate::ending::{Ending, Halt, Reply, Verdict};
 use crate::given::Given;
@@ -43,8 +43,21 @@ fn play<W: Sink>(
     Ok(Verdict::Done)
 }
 
-/// Reads a script to its end, runs its lines, and writes what they tell and nothing else. The image, if one is
-/// given, is put into the machine as it boots. Where the script can't be read, or has more than 16,777,216 bytes,
+/// Runs the lines of a script, and writes what they tell and nothing else. The image, if one is given, is put into
+/// the machine as it boots.
+pub fn serve_script<W: Sink>(
+    alloc: Global,
+    script: &[u8],
+    writer: &mut W,
+    given: Given<'_>,
+) -> Ending
+    ensures { Finishes W.takes (told (given_of given.entry) script.now) writer.old writer.new result }
+{
+    let outcome = play(alloc, given, script, writer);
+    ended(outcome, writer)
+}
+
+/// The same of a script that it reads to its end. Where that can't be read, or has more than 16,777,216 bytes,
 /// nothing is written.
 pub fn serve<R: Source, W: Sink>(
     alloc: Global,
@@ -55,10 +68,7 @@ pub fn serve<R: Source, W: Sink>(
     ensures { (read : Result (List ℕ) ReadStop) × Reads R.gives reader.old reader.new read × Serves W.takes (told (given_of given.entry)) read writer.old writer.new result }
 {
     match read_all(alloc, reader) {
-        Ok(script) => {
-            let outcome = play(alloc, given, script.as_slice(), writer);
-            ended(outcome, writer)
-        }
+        Ok(script) => serve_script(alloc, script.as_slice(), writer, given),
         Err(stop) => unread(stop, writer),
     }
 }
