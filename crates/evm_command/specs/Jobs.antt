@@ -9,14 +9,14 @@ use Rattle.evm_image.specs.Images.{Contents}
 use Rattle.evm_asm.specs.Assembled.{program_of}
 use Rattle.evm_serve.specs.Given.{Given, an_image, nothing}
 use Rattle.evm_serve.specs.Told.{told}
-use Rattle.evm_serve.specs.Serving.{Serves, Unread}
+use Rattle.evm_serve.specs.Serving.{Finishes, Unread}
 use Rattle.evm_serve.specs.Replaying.{replay_told}
 use Rattle.evm_serve.specs.Assembling.{Assembles}
 use Rattle.evm_serve.specs.Imaging.{Imports}
 use Rattle.evm_serve.specs.declared.ending.Ending.{Ending}
 use Rattle.evm_command.specs.declared.system.OpenFault.{OpenFault}
 use Rattle.evm_command.specs.declared.system.World.{World}
-use Rattle.evm_command.specs.Telling.{about, program_name, script_name, not_opened_text, not_created_text, Tells, Ended, EndedWith}
+use Rattle.evm_command.specs.Telling.{about, program_name, script_name, not_opened_text, not_created_text, Source, Lines, Tells, Ended, EndedWith}
 
 module _ {S O C I W E : Type 0} where
   -- no file is asked for, and standard input is not read
@@ -32,7 +32,7 @@ module _ {S O C I W E : Type 0} where
   abbrev pub NotWords : (E → Writing → List ℕ → E → Type 0) → World S O C I W E → World S O C I W E → ℕ → Type 0
   NotWords tells w w' status = AsksNothing w w' × ((w'.output ≡ w.output) × Tells tells (about program_name (codes "a word of the command line is not UTF-8")) w.errors w'.errors × (status ≡ 2))
 
-  -- A source that can't be read ends a job, and nothing else is asked for; where memory was refused, the line `memory` is written.
+  -- An input that can't be read ends a job, and nothing else is asked for; where memory was refused, the line `memory` is written.
   abbrev pub NotRead : (W → Writing → List ℕ → W → Type 0) → (E → Writing → List ℕ → E → Type 0) → List ℕ → ReadStop → World S O C I W E → World S O C I W E → ℕ → Type 0
   NotRead writes tells name stop w w' status = AsksNothing w w' × ((ending : Ending) × Unread writes stop w.output w'.output ending × Ended tells name ending w.errors w'.errors status)
 
@@ -46,7 +46,7 @@ module _ {S O C I W E : Type 0} (creates : S → List ℕ → Result C OpenFault
   abbrev pub AssemblesSource : List ℕ → List ℕ → List ℕ → Result C OpenFault → World S O C I W E → World S O C I W E → ℕ → Type 0
   AssemblesSource source out text (Err fault) w w' status = NotOpened tells (not_created_text out fault) w w' status
   AssemblesSource source out text (Ok file) w w' status = AsksNothing w w' × ((ending : Ending) × (file' : C)
-      × Assembles created writes (program_of text) file file' w.output w'.output ending × EndedWith tells (Some text) source ending w.errors w'.errors status)
+      × Assembles created writes (program_of text) file file' w.output w'.output ending × EndedWith tells (Source text) source ending w.errors w'.errors status)
 
   -- OUT is created for a source that was read
   abbrev pub Creates : List ℕ → List ℕ → List ℕ → World S O C I W E → World S O C I W E → ℕ → Type 0
@@ -69,6 +69,25 @@ module _ {S O C I W E : Type 0} (opens : S → List ℕ → Result O OpenFault �
   abbrev pub AssemblesFile : List ℕ → List ℕ → World S O C I W E → World S O C I W E → ℕ → Type 0
   AssemblesFile source out w w' status = (answer : Result O OpenFault) × (files : S) × opens w.files source answer files × OpensSource source out answer (record w { files = files }) w' status
 
+module _ {S O C I W E : Type 0} (writes : W → Writing → List ℕ → W → Type 0) (tells : E → Writing → List ℕ → E → Type 0) where
+  -- the text of a journal is replayed on an image
+  abbrev pub ReplaysText : List ℕ → Contents → List ℕ → World S O C I W E → World S O C I W E → ℕ → Type 0
+  ReplaysText path image text w w' status = AsksNothing w w' × ((ending : Ending)
+      × Finishes writes (replay_told (an_image image) text) w.output w'.output ending × EndedWith tells (Lines text) path ending w.errors w'.errors status)
+
+  abbrev pub ReplaysRead : List ℕ → Contents → Result (List ℕ) ReadStop → World S O C I W E → World S O C I W E → ℕ → Type 0
+  ReplaysRead path image (Ok text) w w' status = ReplaysText path image text w w' status
+  ReplaysRead path image (Err stop) w w' status = NotRead writes tells path stop w w' status
+
+  -- a script is served, with what is given to its run
+  abbrev pub ServesScript : Given → List ℕ → World S O C I W E → World S O C I W E → ℕ → Type 0
+  ServesScript given script w w' status = AsksNothing w w' × ((ending : Ending)
+      × Finishes writes (told given script) w.output w'.output ending × EndedWith tells (Lines script) script_name ending w.errors w'.errors status)
+
+  abbrev pub ServesRead : Given → Result (List ℕ) ReadStop → World S O C I W E → World S O C I W E → ℕ → Type 0
+  ServesRead given (Ok script) w w' status = ServesScript given script w w' status
+  ServesRead given (Err stop) w w' status = NotRead writes tells script_name stop w w' status
+
 module _ {S O C I W E : Type 0} (opens : S → List ℕ → Result O OpenFault → S → Type 0)
     (opened : O → Reading → List ℕ → O → Type 0) (writes : W → Writing → List ℕ → W → Type 0) (tells : E → Writing → List ℕ → E → Type 0) where
   -- the image of a file that was read, or the status of the ending
@@ -85,11 +104,10 @@ module _ {S O C I W E : Type 0} (opens : S → List ℕ → Result O OpenFault �
   abbrev pub Loads : List ℕ → World S O C I W E → World S O C I W E → Result Contents ℕ → Type 0
   Loads path w w' result = (answer : Result O OpenFault) × (files : S) × opens w.files path answer files × ReadsImage path answer (record w { files = files }) w' result
 
-  -- a journal is replayed on an image, from the file that was opened
+  -- a journal is read to its end from the file that was opened
   abbrev pub ReplaysFile : List ℕ → Contents → Result O OpenFault → World S O C I W E → World S O C I W E → ℕ → Type 0
   ReplaysFile path image (Err fault) w w' status = NotOpened tells (not_opened_text path fault) w w' status
-  ReplaysFile path image (Ok file) w w' status = AsksNothing w w' × ((read : Result (List ℕ) ReadStop) × (ending : Ending) × (file' : O)
-      × ReadsText opened file file' read × Serves writes (replay_told (an_image image)) read w.output w'.output ending × Ended tells path ending w.errors w'.errors status)
+  ReplaysFile path image (Ok file) w w' status = (read : Result (List ℕ) ReadStop) × (file' : O) × ReadsText opened file file' read × ReplaysRead writes tells path image read w w' status
 
   abbrev pub ReplaysJournal : List ℕ → Contents → World S O C I W E → World S O C I W E → ℕ → Type 0
   ReplaysJournal path image w w' status = (answer : Result O OpenFault) × (files : S) × opens w.files path answer files × ReplaysFile path image answer (record w { files = files }) w' status
@@ -99,10 +117,9 @@ module _ {S O C I W E : Type 0} (opens : S → List ℕ → Result O OpenFault �
   Replays path journal w w' status = (loaded : Result Contents ℕ) × (between : World S O C I W E) × Loads path w between loaded × Behind loaded (ReplaysJournal journal) between w' status
 
 module _ {S O C I W E : Type 0} (gives : I → Reading → List ℕ → I → Type 0) (writes : W → Writing → List ℕ → W → Type 0) (tells : E → Writing → List ℕ → E → Type 0) where
-  -- the script of standard input is served, with what is given to its run
+  -- the script of standard input is read to its end, and then served
   abbrev pub ServesInput : Given → World S O C I W E → World S O C I W E → ℕ → Type 0
-  ServesInput given w w' status = (w'.files ≡ w.files) × ((read : Result (List ℕ) ReadStop) × (ending : Ending)
-      × Reads gives w.input w'.input read × Serves writes (told given) read w.output w'.output ending × Ended tells script_name ending w.errors w'.errors status)
+  ServesInput given w w' status = (read : Result (List ℕ) ReadStop) × (input : I) × Reads gives w.input input read × ServesRead writes tells given read (record w { input = input }) w' status
 
 module _ {S O C I W E : Type 0} (opens : S → List ℕ → Result O OpenFault → S → Type 0) (opened : O → Reading → List ℕ → O → Type 0)
     (gives : I → Reading → List ℕ → I → Type 0) (writes : W → Writing → List ℕ → W → Type 0) (tells : E → Writing → List ℕ → E → Type 0) where

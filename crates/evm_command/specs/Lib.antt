@@ -1,4 +1,5 @@
 pub mod Jobs
+pub mod Showing
 pub mod Telling
 pub mod Words
 pub mod Running

@@ -11,11 +11,14 @@ use Rattle.evm_asm_lexer.specs.Sentences.{asm_sentence}
 use Rattle.evm_asm.specs.Quoting.{quoted}
 use Rattle.evm_serve.specs.Faults.{line_at_fault, fault_sentence, sentence_text}
 use Rattle.evm_serve.specs.declared.fault.Fault.{Fault}
-use Rattle.evm_serve.specs.declared.fault.Fault.TheVariants.{NoProgram}
+use Rattle.evm_serve.specs.declared.fault.Fault.TheVariants.{BadLine, Refused, NoProgram, NoJournal}
 use Rattle.evm_serve.specs.Serving.{status_at}
-use Rattle.evm_serve.specs.declared.ending.Verdict.TheVariants.{Done, Refused, ImageRefused}
+use Rattle.evm_serve.specs.declared.ending.Verdict.TheVariants as verdicts
 use Rattle.evm_serve.specs.declared.ending.Ending.{Ending}
 use Rattle.evm_serve.specs.declared.ending.Ending.TheVariants.{Complete, NoMemory, ReadFailed, WriteFailed}
+use Rattle.evm_command.specs.Showing.{shown_at}
+use Rattle.evm_command.specs.declared.saying.Known as declared
+use Rattle.evm_command.specs.declared.saying.Known.TheVariants as knowns
 use Rattle.evm_command.specs.declared.telling.Words.{Words}
 use Rattle.evm_command.specs.declared.telling.Words.TheVariants.{Said, Quoting}
 use Rattle.evm_command.specs.declared.system.OpenFault.{OpenFault}
@@ -66,21 +69,43 @@ not_read_sentence Failed = codes "a read failed"
 not_read_sentence TooLong = codes "more than 16777216 bytes"
 not_read_sentence NotUtf8 = codes "not UTF-8"
 
--- ---- the words of a sentence, and the word that it quotes
+-- ---- the words of a sentence, and what it quotes
 
-abbrev pub quoting : List ℕ → Option (List ℕ) → List ℕ
-quoting sentence None = sentence
-quoting sentence (Some word) = sentence ++ (codes " \"" ++ (word ++ codes "\""))
+-- what is known of the input of a job: nothing, the source that it assembles, or the script or the journal that it takes line by line
+pub data Known : Type 0 where
+  Nothing : Known
+  Source : (text : List ℕ) → Known
+  Lines : (text : List ℕ) → Known
 
--- what is said of the fault of a job: of a source that has one, with the word that is wrong, where the fault tells which
-abbrev pub fault_words : Option (List ℕ) → Fault → List ℕ
-fault_words None fault = fault_sentence fault
-fault_words (Some source) (NoProgram fault) = quoting (asm_sentence fault.kind) (quoted source fault)
-fault_words (Some source) fault = fault_sentence fault
+-- what the code has of it
+abbrev pub known_of : declared.Known → Known
+known_of knowns.Nothing = Nothing
+known_of (knowns.Source text) = Source text.now
+known_of (knowns.Lines text) = Lines text.now
+
+-- a sentence, and behind it what it quotes, if anything
+abbrev pub quoting : List ℕ → List ℕ → Option (List ℕ) → List ℕ
+quoting sentence between None = sentence
+quoting sentence between (Some word) = sentence ++ (between ++ (word ++ codes "\""))
+
+-- the line of a script that is bad, or of a journal that is faulty, as it is shown; a line that the machine refuses is as it should be
+abbrev pub quoted_line : List ℕ → Fault → Option (List ℕ)
+quoted_line text (BadLine n fault) = shown_at n text
+quoted_line text (NoJournal fault) = shown_at fault.line text
+quoted_line text (Refused n cpu refusal) = None
+quoted_line text (NoProgram fault) = None
+
+-- What is said of the fault of a job: of a source that has one, with the word that is wrong, where the fault tells which; of a script or a
+-- journal with the line.
+abbrev pub fault_words : Known → Fault → List ℕ
+fault_words Nothing fault = fault_sentence fault
+fault_words (Source text) (NoProgram fault) = quoting (asm_sentence fault.kind) (codes " \"") (quoted text fault)
+fault_words (Source text) fault = fault_sentence fault
+fault_words (Lines text) fault = quoting (fault_sentence fault) (codes ": \"") (quoted_line text fault)
 
 abbrev pub words_text : Words → List ℕ
 words_text (Said sentence) = sentence_text sentence
-words_text (Quoting sentence word) = quoting sentence.now (Some word.now)
+words_text (Quoting sentence between word) = quoting (sentence_text sentence) between.now (Some word.now)
 
 module _ {E : Type 0} (takes : E → Writing → List ℕ → E → Type 0) where
   -- A text was written, or a write failed after a prefix of it, as the answer says.
@@ -92,20 +117,19 @@ module _ {E : Type 0} (takes : E → Writing → List ℕ → E → Type 0) wher
   abbrev pub Tells : List ℕ → E → E → Type 0
   Tells text e e' = Took takes e text e' ⊎ TookPrefix takes e text e'
 
-  -- What a job on a file tells of its ending: nothing where all is done, else what went wrong, and on which line. Of a source that was read
-  -- the text is known.
-  abbrev pub Explains : Option (List ℕ) → List ℕ → Ending → E → E → Type 0
-  Explains source name (Complete Done) e e' = e' ≡ e
-  Explains source name (Complete (Refused fault)) e e' = Tells (about_line name (line_at_fault fault) (fault_words source fault)) e e'
-  Explains source name (Complete (ImageRefused fault)) e e' = Tells (about name (elf_sentence fault)) e e'
-  Explains source name NoMemory e e' = Tells (about name (codes "out of memory")) e e'
-  Explains source name (ReadFailed fault) e e' = Tells (about name (not_read_sentence fault)) e e'
-  Explains source name (WriteFailed fault) e e' = Tells (about program_name (codes "a write failed")) e e'
+  -- What a job on a file tells of its ending: nothing where all is done, else what went wrong, and on which line.
+  abbrev pub Explains : Known → List ℕ → Ending → E → E → Type 0
+  Explains known name (Complete verdicts.Done) e e' = e' ≡ e
+  Explains known name (Complete (verdicts.Refused fault)) e e' = Tells (about_line name (line_at_fault fault) (fault_words known fault)) e e'
+  Explains known name (Complete (verdicts.ImageRefused fault)) e e' = Tells (about name (elf_sentence fault)) e e'
+  Explains known name NoMemory e e' = Tells (about name (codes "out of memory")) e e'
+  Explains known name (ReadFailed fault) e e' = Tells (about name (not_read_sentence fault)) e e'
+  Explains known name (WriteFailed fault) e e' = Tells (about program_name (codes "a write failed")) e e'
 
   -- A job that ends so has the status of its ending, and has told why.
-  abbrev pub EndedWith : Option (List ℕ) → List ℕ → Ending → E → E → ℕ → Type 0
-  EndedWith source name ending e e' status = Explains source name ending e e' × (status ≡ status_at ending)
+  abbrev pub EndedWith : Known → List ℕ → Ending → E → E → ℕ → Type 0
+  EndedWith known name ending e e' status = Explains known name ending e e' × (status ≡ status_at ending)
 
-  -- the same of a job on no source
+  -- the same of a job that knows nothing of its input
   abbrev pub Ended : List ℕ → Ending → E → E → ℕ → Type 0
-  Ended name ending e e' status = EndedWith None name ending e e' status
+  Ended name ending e e' status = EndedWith Nothing name ending e e' status

@@ -9,6 +9,7 @@ mod loading;
 mod replaying;
 mod running;
 mod saying;
+mod showing;
 mod system;
 mod telling;
 mod words;

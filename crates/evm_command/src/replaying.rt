@@ -1,13 +1,29 @@
 //! `replay`: a journal replayed on an image.
 
-ghost use Rattle.evm_command.specs.Jobs.{ReplaysJournal, Replays};
+ghost use Rattle.evm_command.specs.Jobs.{ReplaysText, ReplaysJournal, Replays};
 
 use crate::loading::image_at;
-use crate::saying::{ended, not_opened};
+use crate::saying::{Known, ended_with, not_opened, not_read};
 use crate::system::{System, World};
 use evm_image::Image;
-use evm_serve::{Given, replay_to};
+use evm_serve::{Given, read_utf8, replay_text};
 use std::alloc::Global;
+
+// Replays the text of a journal on an image.
+fn replay_read<S: System>(
+    alloc: Global,
+    image: &Image,
+    journal: &str,
+    text: &str,
+    world: &mut World<S>,
+) -> u8
+    ensures { ReplaysText S.Output.takes S.Errors.takes journal.now image.now text.now world.old world.new result }
+{
+    let given = Given { image: Some(image) };
+    let ending = replay_text(alloc, given, text, &mut world.output);
+    let known = Known::Lines(text.as_bytes());
+    ended_with(known, journal, &ending, &mut world.errors)
+}
 
 // Replays the journal of a file on an image.
 fn replay_on<S: System>(alloc: Global, image: &Image, journal: &str, world: &mut World<S>) -> u8
@@ -17,9 +33,10 @@ fn replay_on<S: System>(alloc: Global, image: &Image, journal: &str, world: &mut
         Ok(file) => file,
         Err(fault) => return not_opened(journal, fault, &mut world.errors),
     };
-    let given = Given { image: Some(image) };
-    let ending = replay_to(alloc, given, &mut file, &mut world.output);
-    ended(journal, &ending, &mut world.errors)
+    match read_utf8(alloc, &mut file) {
+        Ok(text) => replay_read(alloc, image, journal, text.as_str(), world),
+        Err(stop) => not_read(stop, journal, world),
+    }
 }
 
 /// Replays the journal of a file on the image of another, which is opened and imported first.

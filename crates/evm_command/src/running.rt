@@ -2,23 +2,34 @@
 
 ghost use Rattle.std.specs.Prelude.{option_copied};
 ghost use Rattle.evm_serve.specs.Given.{given_of};
-ghost use Rattle.evm_command.specs.Jobs.{ServesInput, RunsImage, Runs};
+ghost use Rattle.evm_command.specs.Jobs.{ServesScript, ServesInput, RunsImage, Runs};
 
 use crate::loading::image_at;
-use crate::saying::ended;
+use crate::saying::{Known, ended_with, not_read};
 use crate::system::{System, World};
-use evm_serve::{Given, serve};
+use evm_serve::{Given, serve_script};
+use evm_streams::read_all;
 use std::alloc::Global;
 
 /// The name under which a fault of the script is told.
 const SCRIPT: &str = "script";
 
+// Serves a script.
+fn serve_text<S: System>(alloc: Global, given: Given<'_>, script: &[u8], world: &mut World<S>) -> u8
+    ensures { ServesScript S.Output.takes S.Errors.takes (given_of given.entry) script.now world.old world.new result }
+{
+    let ending = serve_script(alloc, script, &mut world.output, given);
+    ended_with(Known::Lines(script), SCRIPT, &ending, &mut world.errors)
+}
+
 // Serves the script of standard input.
 fn serve_input<S: System>(alloc: Global, given: Given<'_>, world: &mut World<S>) -> u8
     ensures { ServesInput S.Input.gives S.Output.takes S.Errors.takes (given_of given.entry) world.old world.new result }
 {
-    let ending = serve(alloc, &mut world.input, &mut world.output, given);
-    ended(SCRIPT, &ending, &mut world.errors)
+    match read_all(alloc, &mut world.input) {
+        Ok(script) => serve_text(alloc, given, script.as_slice(), world),
+        Err(stop) => not_read(stop, SCRIPT, world),
+    }
 }
 
 // Serves it with the image of a file.

@@ -1,12 +1,14 @@
 //! What standard error is told, and the status of a job.
 
-ghost use Rattle.std.specs.Prelude.{◌≡◌, Some, option_copied};
+ghost use Rattle.std.specs.Prelude.{◌≡◌, codes, option_copied};
 ghost use Rattle.evm_asm_lexer.specs.Sentences.{asm_sentence};
 ghost use Rattle.evm_asm.specs.Quoting.{quoted};
+ghost use Rattle.evm_serve.specs.Faults.{fault_sentence};
 ghost use Rattle.evm_serve.specs.Serving.{Unread};
 ghost use Rattle.evm_command.specs.Jobs.{NotRead, NotWords};
-ghost use Rattle.evm_command.specs.Telling.{Tells, Explains, Ended, EndedWith, quoting, words_text, fault_words, program_name, not_opened_sentence, not_opened_text, not_created_sentence, not_created_text, not_read_sentence};
+ghost use Rattle.evm_command.specs.Telling.{Tells, Explains, Ended, EndedWith, Source, known_of, quoting, quoted_line, words_text, fault_words, program_name, not_opened_sentence, not_opened_text, not_created_sentence, not_created_text, not_read_sentence};
 
+use crate::showing::shown_at;
 use crate::system::{OpenFault, System, World};
 use crate::telling::{Words, tell_about, tell_about_line};
 use evm_asm::{AsmFault, quoted};
@@ -21,6 +23,16 @@ pub(crate) const USAGE: u8 = 2;
 
 /// The name under which the program tells what is about no file.
 pub(crate) const PROGRAM: &str = "evltool";
+
+/// What is known of the input of a job.
+#[derive(Clone, Copy)]
+pub(crate) enum Known<'a> {
+    Nothing,
+    /// The source that it assembles.
+    Source(&'a str),
+    /// The script or the journal that it takes line by line.
+    Lines(&'a [u8]),
+}
 
 fn not_opened_sentence(fault: OpenFault) -> &'static str
     ensures { result.now ≡ not_opened_sentence fault }
@@ -74,22 +86,41 @@ fn not_read_sentence(fault: ReadFault) -> &'static str
 
 // What is said of a source that has a fault.
 fn program_words(source: &str, fault: AsmFault) -> Words<'_>
-    ensures { words_text result ≡ quoting (asm_sentence fault.kind) (quoted source.now fault) }
+    ensures { words_text result ≡ quoting (asm_sentence fault.kind) (codes " \"") (quoted source.now fault) }
 {
-    let sentence = fault.kind.sentence();
+    let sentence = Sentence::Plain(fault.kind.sentence());
     match quoted(source, fault) {
-        Some(word) => Words::Quoting(sentence, word),
-        None => Words::Said(Sentence::Plain(sentence)),
+        Some(word) => Words::Quoting(sentence, " \"", word),
+        None => Words::Said(sentence),
     }
 }
 
-// What is said of the fault of a job.
-fn fault_words(source: Option<&str>, fault: Fault) -> Words<'_>
-    ensures { words_text result ≡ fault_words (option_copied source.entry) fault }
+// What is shown of the line of a script or a journal that is faulty. A line that the machine refuses is as it should be.
+fn quoted_line(text: &[u8], fault: Fault) -> Option<&[u8]>
+    ensures { option_copied result ≡ quoted_line text.now fault }
 {
-    let Some(source) = source else {
-        return Words::Said(fault.sentence());
-    };
+    match fault {
+        Fault::BadLine(number, _) => shown_at(number, text),
+        Fault::NoJournal(fault) => shown_at(fault.line, text),
+        Fault::Refused(_, _, _) | Fault::NoProgram(_) => None,
+    }
+}
+
+// What is said of a fault of a script or a journal.
+fn line_words(text: &[u8], fault: Fault) -> Words<'_>
+    ensures { words_text result ≡ quoting (fault_sentence fault) (codes ": \"") (quoted_line text.now fault) }
+{
+    let sentence = fault.sentence();
+    match quoted_line(text, fault) {
+        Some(line) => Words::Quoting(sentence, ": \"", line),
+        None => Words::Said(sentence),
+    }
+}
+
+// What is said of the fault of a job on a source.
+fn source_words(source: &str, fault: Fault) -> Words<'_>
+    ensures { words_text result ≡ fault_words (Source source.now) fault }
+{
     match fault {
         Fault::NoProgram(fault) => program_words(source, fault),
         Fault::BadLine(_, _) | Fault::Refused(_, _, _) | Fault::NoJournal(_) => {
@@ -98,14 +129,25 @@ fn fault_words(source: Option<&str>, fault: Fault) -> Words<'_>
     }
 }
 
+// What is said of the fault of a job.
+fn fault_words(known: Known<'_>, fault: Fault) -> Words<'_>
+    ensures { words_text result ≡ fault_words (known_of known.entry) fault }
+{
+    match known {
+        Known::Nothing => Words::Said(fault.sentence()),
+        Known::Source(source) => source_words(source, fault),
+        Known::Lines(text) => line_words(text, fault),
+    }
+}
+
 // Tells why a job on a file did not end well.
-fn explain<E: Sink>(source: Option<&str>, name: &str, ending: Ending, errors: &mut E)
-    ensures { Explains E.takes (option_copied source.entry) name.now ending errors.old errors.new }
+fn explain<E: Sink>(known: Known<'_>, name: &str, ending: Ending, errors: &mut E)
+    ensures { Explains E.takes (known_of known.entry) name.now ending errors.old errors.new }
 {
     match ending {
         Ending::Complete(Verdict::Done) => {}
         Ending::Complete(Verdict::Refused(fault)) => {
-            tell_about_line(name, fault.line(), fault_words(source, fault), errors)
+            tell_about_line(name, fault.line(), fault_words(known, fault), errors)
         }
         Ending::Complete(Verdict::ImageRefused(fault)) => {
             tell_about(name, Sentence::Plain(fault.sentence()), errors)
@@ -118,25 +160,24 @@ fn explain<E: Sink>(source: Option<&str>, name: &str, ending: Ending, errors: &m
     }
 }
 
-/// The status of a job on a file, once standard error is told why it did not end well. Of a source that was read the
-/// text is known.
+/// The status of a job on a file, once standard error is told why it did not end well.
 pub(crate) fn ended_with<E: Sink>(
-    source: Option<&str>,
+    known: Known<'_>,
     name: &str,
     ending: &Ending,
     errors: &mut E,
 ) -> u8
-    ensures { EndedWith E.takes (option_copied source.entry) name.now ending.now errors.old errors.new result }
+    ensures { EndedWith E.takes (known_of known.entry) name.now ending.now errors.old errors.new result }
 {
-    explain(source, name, *ending, errors);
+    explain(known, name, *ending, errors);
     ending.status()
 }
 
-/// The same of a job on no source.
+/// The same of a job that knows nothing of its input.
 pub(crate) fn ended<E: Sink>(name: &str, ending: &Ending, errors: &mut E) -> u8
     ensures { Ended E.takes name.now ending.now errors.old errors.new result }
 {
-    ended_with(None, name, ending, errors)
+    ended_with(Known::Nothing, name, ending, errors)
 }
 
 // How a job ends that has not read its input. Where an allocation failed, the line `memory` is written.

@@ -8,11 +8,11 @@ ghost use Rattle.evm_command.specs.Telling.{Writes, Tells, behind_place, about, 
 use evm_serve::Sentence;
 use evm_streams::{Sink, WriteFault, write_all};
 
-/// What is said: a sentence, or one that quotes a word.
+/// What is said: a sentence, or one that quotes a word or a line, with what stands between them.
 #[derive(Clone, Copy)]
 pub(crate) enum Words<'a> {
     Said(Sentence),
-    Quoting(&'static str, &'a [u8]),
+    Quoting(Sentence, &'static str, &'a [u8]),
 }
 
 // Writes a number in decimal, of at most so many digits behind its first.
@@ -59,22 +59,12 @@ fn write_closed<E: Sink>(word: &[u8], errors: &mut E) -> Result<(), WriteFault>
     }
 }
 
-// Writes a quoted word.
-fn write_quoted<E: Sink>(word: &[u8], errors: &mut E) -> Result<(), WriteFault>
-    ensures { Writes E.takes (codes " \"" ++ (word.now ++ codes "\"")) result errors.old errors.new }
+// Writes a quoted word behind what stands between it and a sentence.
+fn write_quoted<E: Sink>(between: &str, word: &[u8], errors: &mut E) -> Result<(), WriteFault>
+    ensures { Writes E.takes (between.now ++ (word.now ++ codes "\"")) result errors.old errors.new }
 {
-    match write_all(errors, b" \"") {
+    match write_all(errors, between.as_bytes()) {
         Ok(()) => write_closed(word, errors),
-        Err(fault) => Err(fault),
-    }
-}
-
-// Writes a sentence that quotes a word.
-fn write_quoting<E: Sink>(sentence: &str, word: &[u8], errors: &mut E) -> Result<(), WriteFault>
-    ensures { Writes E.takes (quoting sentence.now (Some word.now)) result errors.old errors.new }
-{
-    match write_all(errors, sentence.as_bytes()) {
-        Ok(()) => write_quoted(word, errors),
         Err(fault) => Err(fault),
     }
 }
@@ -89,13 +79,30 @@ fn write_said<E: Sink>(sentence: Sentence, errors: &mut E) -> Result<(), WriteFa
     }
 }
 
+// Writes a sentence that quotes a word.
+fn write_quoting<E: Sink>(
+    sentence: Sentence,
+    between: &str,
+    word: &[u8],
+    errors: &mut E,
+) -> Result<(), WriteFault>
+    ensures { Writes E.takes (quoting (sentence_text sentence) between.now (Some word.now)) result errors.old errors.new }
+{
+    match write_said(sentence, errors) {
+        Ok(()) => write_quoted(between, word, errors),
+        Err(fault) => Err(fault),
+    }
+}
+
 // Writes what is said.
 fn write_words<E: Sink>(words: Words<'_>, errors: &mut E) -> Result<(), WriteFault>
     ensures { Writes E.takes (words_text words.entry) result errors.old errors.new }
 {
     match words {
         Words::Said(sentence) => write_said(sentence, errors),
-        Words::Quoting(sentence, word) => write_quoting(sentence, word, errors),
+        Words::Quoting(sentence, between, word) => {
+            write_quoting(sentence, between, word, errors)
+        }
     }
 }
 

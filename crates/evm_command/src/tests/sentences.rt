@@ -2,22 +2,24 @@
 
 use crate::command::answer;
 use crate::system::{OpenFault, System, World};
+use evm_elf::write_bytes;
 use std::alloc::Global;
 use std::process::Abort;
 use std::test::Fail;
 
-/// A system whose streams are kept.
+/// A system whose streams are kept, with an image beside its files.
 #[derive(Drop)]
-struct Kept {
+struct Kept<'a> {
     alloc: Global,
+    image: &'a [u8],
 }
 
-impl System for Kept {
+impl<'a> System for Kept<'a> {
     ghost opens = { λ _ _ _ _. Unit {0} };
 
     ghost creates = { λ _ _ _ _. Unit {0} };
 
-    type Opened = &'static [u8];
+    type Opened = &'a [u8];
 
     type Created = Vec<u8>;
 
@@ -27,7 +29,10 @@ impl System for Kept {
 
     type Errors = Vec<u8>;
 
-    fn open(&mut self, path: &str) -> Result<&'static [u8], OpenFault> {
+    fn open(&mut self, path: &str) -> Result<&'a [u8], OpenFault> {
+        if path == "image.elf" {
+            return Ok(self.image);
+        }
         for (name, bytes) in FILES {
             if name == path {
                 return Ok(bytes);
@@ -55,8 +60,21 @@ fn fault_of(path: &str) -> OpenFault {
     }
 }
 
-const FILES: [(&str, &[u8]); 8] = [
+const FILES: [(&str, &[u8]); 15] = [
     ("p.s", b"nop\n"),
+    ("empty", b""),
+    ("one", b"evl-journal 1\n"),
+    ("old", b"evl-journal 2\nboot 1 65536 8\n"),
+    (
+        "tock",
+        b"evl-journal 1\nboot 1 65536 8\ntick\ntock\nstep 0 1\n",
+    ),
+    ("cut", b"evl-journal 1\nboot 1 65536 8\ntick\nstep 0"),
+    (
+        "apart",
+        b"evl-journal 1\nboot 1 65536 8\nstep 0 1\nstep 0 2\n",
+    ),
+    ("set", b"evl-journal 1\nboot 1 65536 8\nset 0 1 5\n"),
     ("q.s", b"nop\n\nli a9,1\n"),
     ("base.s", b"here: lw a0, 8( sp8 ) # t9\n"),
     ("word.s", b"nop\nhere: move a0,a1"),
@@ -74,8 +92,12 @@ fn check_told(
     script: &'static [u8],
     told: &str,
 ) -> Result<(), Fail> {
+    let image = write_bytes(alloc, b"")?;
     let mut world = World {
-        files: Kept { alloc },
+        files: Kept {
+            alloc,
+            image: image.as_slice(),
+        },
         input: script,
         output: Vec::new(alloc),
         errors: Vec::new(alloc),
@@ -158,7 +180,7 @@ fn files_are_told_of(rt: HostRuntime) -> Result<(), Fail> {
 
 #[test]
 fn lines_of_scripts_are_told_of(rt: HostRuntime) -> Result<(), Fail> {
-    let scripts: [(&'static [u8], &str); 7] = [
+    let scripts: [(&'static [u8], &str); 13] = [
         (b"boot 1 65536 8\ntasks\n", ""),
         (
             b"boot 1 65536 8\nset 0 1 5\n",
@@ -178,7 +200,31 @@ fn lines_of_scripts_are_told_of(rt: HostRuntime) -> Result<(), Fail> {
         ),
         (
             b"\n\n\n\n\n\n\n\n\n\n\ntock\n",
-            "script:12: bad line: outside the grammar of scripts\n",
+            "script:12: bad line: outside the grammar of scripts: \"tock\"\n",
+        ),
+        (
+            b"boot 1 65536 8\ntock 1\ntock 2\n",
+            "script:2: bad line: outside the grammar of scripts: \"tock 1\"\n",
+        ),
+        (
+            b"tock",
+            "script:1: bad line: outside the grammar of scripts: \"tock\"\n",
+        ),
+        (
+            b"boot 1 65536 8\npoke 80000000 111213141516171819202122232425262728293031323334353637383x\n",
+            "script:2: bad line: outside the grammar of scripts: \"poke 80000000 1112131415161718192021222324252627282930313233\"\n",
+        ),
+        (
+            b"step 0 \x1b[2J1\n",
+            "script:1: bad line: outside the grammar of scripts: \"step 0 \"\n",
+        ),
+        (
+            b"# no machine\ntick\n",
+            "script:2: bad line: no machine is booted before it: \"tick\"\n",
+        ),
+        (
+            b"boot 1 65536 8\nboot 2 65536 8\n",
+            "script:2: bad line: a machine is booted before it: \"boot 2 65536 8\"\n",
         ),
         (
             b"boot 9 65536 8\n",
@@ -187,6 +233,44 @@ fn lines_of_scripts_are_told_of(rt: HostRuntime) -> Result<(), Fail> {
     ];
     for (script, told) in scripts {
         check_told(&rt, rt.alloc(), "evltool run", script, told)?;
+    }
+    Ok(())
+}
+
+#[test]
+fn lines_of_journals_are_told_of(rt: HostRuntime) -> Result<(), Fail> {
+    for (line, told) in [
+        (
+            "evltool replay image.elf empty",
+            "empty:1: no journal: line 1 is evl-journal 1, line 2 tells the boot numbers\n",
+        ),
+        (
+            "evltool replay image.elf one",
+            "one:2: no journal: line 1 is evl-journal 1, line 2 tells the boot numbers\n",
+        ),
+        (
+            "evltool replay image.elf old",
+            "old:1: no journal: line 1 is evl-journal 1, line 2 tells the boot numbers: \"evl-journal 2\"\n",
+        ),
+        (
+            "evltool replay image.elf tock",
+            "tock:4: no line of events, no newline at its end, or more than 1048576 events: \"tock\"\n",
+        ),
+        (
+            "evltool replay image.elf cut",
+            "cut:4: no line of events, no newline at its end, or more than 1048576 events: \"step 0\"\n",
+        ),
+        (
+            "evltool replay image.elf apart",
+            "apart:4: steps of the processor of the line before, which one line tells: \"step 0 2\"\n",
+        ),
+        (
+            "evltool replay image.elf set",
+            "set:3: refused: processor 0 is not stopped (NotStopped, 4)\n",
+        ),
+        ("evltool replay image.elf bytes.s", "bytes.s: not UTF-8\n"),
+    ] {
+        check_told(&rt, rt.alloc(), line, b"", told)?;
     }
     Ok(())
 }

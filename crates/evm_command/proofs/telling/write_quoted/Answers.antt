@@ -5,10 +5,10 @@ use Rattle.evm_command.proofs.telling.write_quoted.Goals as goal
 
 pub returns-in-Ok : goal.returns-in-Ok
 returns-in-Ok g c =
-    let took : Took g.E.Sink.takes c.args.errors.now (codes " \"") c.write_all.new.sink = search rules in
-    writes_then _ _ _ _ (codes " \"") (c.args.word.now ++ codes "\"") _ took c.write_closed.ensures
+    let took : Took g.E.Sink.takes c.args.errors.now c.args.between.now c.write_all.new.sink = search rules in
+    writes_then _ _ _ _ c.args.between.now (c.args.word.now ++ codes "\"") _ took c.write_closed.ensures
 
 pub returns-in-Err : goal.returns-in-Err
 returns-in-Err g c =
-    let failed : TookPrefix g.E.Sink.takes c.args.errors.now (codes " \"") c.write_all.new.sink = search rules in
-    writes_failed _ _ _ (codes " \"") (c.args.word.now ++ codes "\"") failed
+    let failed : TookPrefix g.E.Sink.takes c.args.errors.now c.args.between.now c.write_all.new.sink = search rules in
+    writes_failed _ _ _ c.args.between.now (c.args.word.now ++ codes "\"") failed
