@@ -1,5 +1,6 @@
-use Rattle.std.proofs.Common.{◌≡◌, ◌≢◌, ◌⊎◌, [], Some, refl, rules, inr}
+use Rattle.std.proofs.Common.{◌≡◌, ◌≢◌, ◌⊎◌, [], Some, Err, refl, ap, rules, inr}
 use Rattle.evm_elf.specs.Faults.{fault_of}
+use Rattle.evm_elf.specs.declared.fault.ElfFault.{ElfFault}
 use Rattle.evm_elf.specs.declared.fault.ElfFault.TheVariants.{NoMemory}
 use Rattle.evm_serve.specs.Imaging.{no_image_report}
 use Rattle.evm_serve.specs.Serving.{WritesAll, EndsInMemory}
@@ -8,7 +9,9 @@ use Rattle.evm_serve.proofs.Memory.{by_most}
 use Rattle.evm_serve.proofs.importing.check.Goals as goal
 
 pub returns-in-Err-NoMemory : goal.returns-in-Err-NoMemory
-returns-in-Err-NoMemory g c = inr (by_most _ (c.in-Err-NoMemory.ensures.refused refl), c.ended.ensures)
+returns-in-Err-NoMemory g c =
+    let is : c.in-Err-NoMemory.field-0 ≡ NoMemory = search rules in
+    inr (by_most _ (c.in-Err-NoMemory.ensures.refused (ap (λ (f : ElfFault). Err f) is)), c.ended.ensures)
 
 pub returns-in-Err : goal.returns-in-Err
 returns-in-Err g c =
