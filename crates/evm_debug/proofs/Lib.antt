@@ -1,4 +1,3 @@
-pub mod Frequent
 pub mod Lines
 pub mod RegisterLines
 pub mod Below

@@ -1,10 +1,10 @@
-ghost use Rattle.std.specs.Prelude.{◌≡◌, ◌↔◌, ◌++◌, true, Ok, Some, []};
+ghost use Rattle.std.specs.Prelude.{◌≡◌, ◌↔◌, ◌++◌, Ok, Some, []};
 ghost use Rattle.std.specs.Result.{result_ok};
 ghost use Rattle.evm_text.specs.Rows.{said_at, rows_at, row_as, rows_as};
 ghost use Rattle.evm_journal.specs.EventLine.{event_rows};
 ghost use Rattle.evm_journal.specs.Journal.{boot_row};
 ghost use Rattle.evm_debug.specs.Line.{mem_row, counts_row, bare_rows, bare_said, view_rows, script_boot, script_line, is_blank_line, IsSpelled};
-ghost use Rattle.evm_debug.specs.LineReading.{line_at, IsEventsAlone};
+ghost use Rattle.evm_debug.specs.LineReading.{line_at};
 ghost use Rattle.evm_debug.specs.declared.line.Line.TheVariants.{Look};
 
 use crate::line::{Bad, Line, View};
@@ -106,32 +106,12 @@ fn view_at(bytes: &[u8]) -> Option<Line>
     bare_at(bytes)
 }
 
-// Most lines of a long script begin with `step`, `tick` or `raise`; no boot and no view begins so.
-#[tactic(auto, using(crate::proofs::Frequent::step_alone, crate::proofs::Frequent::tick_alone, crate::proofs::Frequent::raise_alone))]
-fn is_frequent(bytes: &[u8]) -> bool
-    ensures { result ≡ true → IsEventsAlone bytes.now }
-{
-    if let Some(_) = after_word(b"ste", bytes) {
-        return true;
-    }
-    if let Some(_) = after_word(b"ti", bytes) {
-        return true;
-    }
-    if let Some(_) = after_word(b"rai", bytes) {
-        return true;
-    }
-    false
-}
-
-#[tactic(auto, unfolding(crate::specs::LineReading::line_at, crate::specs::LineReading::IsEventsAlone))]
+#[tactic(auto, unfolding(crate::specs::LineReading::line_at))]
 fn line_at(bytes: &[u8]) -> Option<Line>
     ensures { result ≡ line_at bytes.now }
 {
     if is_blank_line(bytes) {
         return Some(Line::Blank);
-    }
-    if is_frequent(bytes) {
-        return events_at(bytes);
     }
     if let Some(rest) = after_word(b"boot ", bytes) {
         return boot_at(rest);
