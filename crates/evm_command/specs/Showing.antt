@@ -21,5 +21,5 @@ abbrev pub line_numbered : ℕ → List ℕ → Option (List ℕ)
 line_numbered number text = slice_get (text_lines text) (number - 1)
 
 -- what is shown of it
-abbrev pub shown_at : ℕ → List ℕ → Option (List ℕ)
-shown_at number text = option_map shown_line (line_numbered number text)
+abbrev pub line_shown : ℕ → List ℕ → Option (List ℕ)
+line_shown number text = option_map shown_line (line_numbered number text)

@@ -16,7 +16,7 @@ use Rattle.evm_serve.specs.Serving.{status_at}
 use Rattle.evm_serve.specs.declared.ending.Verdict.TheVariants as verdicts
 use Rattle.evm_serve.specs.declared.ending.Ending.{Ending}
 use Rattle.evm_serve.specs.declared.ending.Ending.TheVariants.{Complete, NoMemory, ReadFailed, WriteFailed}
-use Rattle.evm_command.specs.Showing.{shown_at}
+use Rattle.evm_command.specs.Showing.{line_shown}
 use Rattle.evm_command.specs.declared.saying.Known as declared
 use Rattle.evm_command.specs.declared.saying.Known.TheVariants as knowns
 use Rattle.evm_command.specs.declared.telling.Words.{Words}
@@ -90,8 +90,8 @@ quoting sentence between (Some word) = sentence ++ (between ++ (word ++ codes "\
 
 -- the line of a script that is bad, or of a journal that is faulty, as it is shown; a line that the machine refuses is as it should be
 abbrev pub quoted_line : List ℕ → Fault → Option (List ℕ)
-quoted_line text (BadLine n fault) = shown_at n text
-quoted_line text (NoJournal fault) = shown_at fault.line text
+quoted_line text (BadLine n fault) = line_shown n text
+quoted_line text (NoJournal fault) = line_shown fault.line text
 quoted_line text (Refused n cpu refusal) = None
 quoted_line text (NoProgram fault) = None
 

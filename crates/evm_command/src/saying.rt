@@ -8,7 +8,7 @@ ghost use Rattle.evm_serve.specs.Serving.{Unread};
 ghost use Rattle.evm_command.specs.Jobs.{NotRead, NotWords};
 ghost use Rattle.evm_command.specs.Telling.{Tells, Explains, Ended, EndedWith, Source, known_of, quoting, quoted_line, words_text, fault_words, program_name, not_opened_sentence, not_opened_text, not_created_sentence, not_created_text, not_read_sentence};
 
-use crate::showing::shown_at;
+use crate::showing::line_shown;
 use crate::system::{OpenFault, System, World};
 use crate::telling::{Words, tell_about, tell_about_line};
 use evm_asm::{AsmFault, quoted};
@@ -100,8 +100,8 @@ fn quoted_line(text: &[u8], fault: Fault) -> Option<&[u8]>
     ensures { option_copied result ≡ quoted_line text.now fault }
 {
     match fault {
-        Fault::BadLine(number, _) => shown_at(number, text),
-        Fault::NoJournal(fault) => shown_at(fault.line, text),
+        Fault::BadLine(number, _) => line_shown(number, text),
+        Fault::NoJournal(fault) => line_shown(fault.line, text),
         Fault::Refused(_, _, _) | Fault::NoProgram(_) => None,
     }
 }

@@ -2,7 +2,7 @@
 
 ghost use Rattle.std.specs.Prelude.{◌≡◌, ◌<◌, length, not, option_copied, IfSome};
 ghost use Rattle.std.specs.List.{position};
-ghost use Rattle.evm_command.specs.Showing.{is_printable, printable_front, shown_line, line_numbered, shown_at};
+ghost use Rattle.evm_command.specs.Showing.{is_printable, printable_front, shown_line, line_numbered, line_shown};
 
 use evm_text::cut_line;
 
@@ -62,8 +62,8 @@ fn line_numbered(number: u64, text: &[u8]) -> Option<&[u8]>
 }
 
 /// What is shown of the line of a number of a text, where it has one.
-pub(crate) fn shown_at(number: u64, text: &[u8]) -> Option<&[u8]>
-    ensures { option_copied result ≡ shown_at number text.now }
+pub(crate) fn line_shown(number: u64, text: &[u8]) -> Option<&[u8]>
+    ensures { option_copied result ≡ line_shown number text.now }
 {
     match line_numbered(number, text) {
         Some(line) => Some(shown_line(line)),
