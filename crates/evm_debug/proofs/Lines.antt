@@ -8,7 +8,7 @@ use Rattle.evm_text.proofs.Rows.{reads_table, Each, row_is, row_of_either, row_o
 use Rattle.evm_model.specs.declared.boot.Boot.{Boot as Numbers}
 use Rattle.evm_history.specs.declared.event_line.EventLine.{EventLine}
 use Rattle.evm_history.specs.declared.event_line.EventLine.TheVariants as events
-use Rattle.evm_journal.specs.EventLine.{event_rows}
+use Rattle.evm_journal.specs.EventLine.{event_rows, short_rows}
 use Rattle.evm_journal.specs.Journal.{boot_row}
 use Rattle.evm_journal.proofs.Lines.{IsLine, row_is_line, line_is_row}
 use Rattle.evm_journal.proofs.Boots.{row_is_boot, boot_is_row}
@@ -109,6 +109,14 @@ line_takes bytes line read =
       | inl blank ↦ subst (λ (x : Line). IsSpelled x bytes) (same_Some Blank line (rw blank at read)) blank
       | inr text ↦ let rest : rows_at script_rows bytes ≡ Some line = rw text at read in row_is_spelled line bytes ((reads_table script_rows line bytes refl).0 rest)
     ]
+
+-- what the rows of the events that hold no bytes read is what the whole table reads
+pub short_read : (line : EventLine) (bytes : List ℕ) → rows_at short_rows bytes ≡ Some line → line_at bytes ≡ Some (script_line line)
+short_read line bytes read =
+    let short : IsRowOf short_rows line bytes = (reads_table short_rows line bytes refl).0 read in
+    let event : IsRowOf event_rows line bytes = inr short in
+    row_read (script_line line) bytes
+    (later_is_row (script_line line) bytes (row_of_second (rows_as Look view_rows) (rows_as script_line event_rows) (script_line line) bytes (row_as_again script_line event_rows line bytes event)))
 
 blank_read : (bytes : List ℕ) → is_blank_line bytes ≡ true → line_at bytes ≡ Some Blank
 unfolding line_at

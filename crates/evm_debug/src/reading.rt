@@ -1,14 +1,15 @@
-ghost use Rattle.std.specs.Prelude.{◌≡◌, ◌↔◌, ◌++◌, Ok, Some, []};
+ghost use Rattle.std.specs.Prelude.{◌≡◌, ◌↔◌, ◌++◌, Ok, Some, [], IfSome, option_map};
 ghost use Rattle.std.specs.Result.{result_ok};
 ghost use Rattle.evm_text.specs.Rows.{said_at, rows_at, row_as, rows_as};
-ghost use Rattle.evm_journal.specs.EventLine.{event_rows};
+ghost use Rattle.evm_journal.specs.EventLine.{event_rows, short_rows};
+ghost use Rattle.evm_journal.specs.Short.{short_line};
 ghost use Rattle.evm_journal.specs.Journal.{boot_row};
 ghost use Rattle.evm_debug.specs.Line.{mem_row, counts_row, bare_rows, bare_said, view_rows, script_boot, script_line, is_blank_line, IsSpelled};
 ghost use Rattle.evm_debug.specs.LineReading.{line_at};
 ghost use Rattle.evm_debug.specs.declared.line.Line.TheVariants.{Look};
 
 use crate::line::{Bad, Line, View};
-use evm_journal::{EventLine, read_event_line};
+use evm_journal::{EventLine, ShortLine, read_event_line, read_short_line};
 use evm_text::{after_word, decimal_last, decimal_then, hexadecimal_then, u8_last, u8_then};
 
 fn is_blank_line(bytes: &[u8]) -> bool
@@ -117,6 +118,18 @@ fn line_at(bytes: &[u8]) -> Option<Line>
         return boot_at(rest);
     }
     view_at(bytes)
+}
+
+/// What a line of a script says that is one of events and holds no bytes, as most lines of a long script are. It comes
+/// without its newline. None where it is none such.
+#[tactic(auto, using(crate::proofs::Lines::short_read))]
+pub fn read_short(bytes: &[u8]) -> Option<ShortLine>
+    // It is what the whole grammar reads.
+    ensures read { IfSome result (λ short. line_at bytes.now ≡ Some (script_line (short_line short))) }
+    // Each that is such a line is read.
+    ensures exact { option_map short_line result ≡ rows_at short_rows bytes.now }
+{
+    read_short_line(bytes)
 }
 
 /// What a line of a script says. It comes without its newline.
