@@ -6,7 +6,10 @@ ghost use Rattle.evm_serve.specs.Memory.{MemoryRefused};
 ghost use Rattle.evm_serve.specs.Starting.{started};
 ghost use Rattle.evm_model.specs.Replay.{apply};
 ghost use Rattle.evm_debug.specs.Views.{shown};
-ghost use Rattle.evm_serve.specs.Told.{boot_told, event_told, view_told, told_unbooted, told_booted, line_told};
+ghost use Rattle.evm_core.specs.Steps.{steps};
+ghost use Rattle.evm_debug.specs.Line.{script_line};
+ghost use Rattle.evm_journal.specs.Short.{short_line};
+ghost use Rattle.evm_serve.specs.Told.{boot_told, event_told, steps_told, view_told, told_unbooted, told_booted, line_told};
 ghost use Rattle.evm_serve.specs.Serving.{Replies};
 
 use crate::ending::Reply;
@@ -14,7 +17,8 @@ use crate::fault::{Fault, LineFault, event_cpu, view_cpu};
 use crate::given::Given;
 use crate::starting::start;
 use evm_core::{Boot, Event, Machine, Refusal};
-use evm_debug::{Line, View, ViewRefusal, push_view, read_line};
+use evm_debug::{Line, View, ViewRefusal, push_view, read_line, read_short};
+use evm_journal::ShortLine;
 use evm_ram::NoMemory;
 use std::alloc::Global;
 
@@ -81,6 +85,26 @@ fn tell_event(number: u64, event: Event, machine: &mut Machine) -> Reply
     }
 }
 
+// So many Steps of a processor.
+fn tell_steps(number: u64, c: u8, count: u32, machine: &mut Machine) -> Reply
+    ensures { Replies result [] (Option.Some machine.new) (steps_told number c (steps c count machine.old)) }
+{
+    match machine.steps(c, count) {
+        Ok(()) => Reply::Goes,
+        Err(refusal) => Reply::Ends(Fault::Refused(number, Some(c), refusal)),
+    }
+}
+
+// A line of events that holds no bytes, where a machine is booted.
+fn tell_short(number: u64, line: ShortLine, machine: &mut Machine) -> Reply
+    ensures { Replies result [] (Option.Some machine.new) (told_booted number machine.old (script_line (short_line line))) }
+{
+    match line {
+        ShortLine::Steps(c, count) => tell_steps(number, c, count, machine),
+        ShortLine::One(event) => tell_event(number, event.event(), machine),
+    }
+}
+
 // A view.
 #[tactic(auto, using(crate::proofs::Memory::memory))]
 fn tell_view(
@@ -116,10 +140,7 @@ fn tell_booted(
     match line {
         Line::Blank => Ok(Reply::Goes),
         Line::Boot { .. } => Ok(Reply::Ends(Fault::BadLine(number, LineFault::BootedAgain))),
-        Line::Steps(c, count) => match machine.steps(c, count) {
-            Ok(()) => Ok(Reply::Goes),
-            Err(refusal) => Ok(Reply::Ends(Fault::Refused(number, Some(c), refusal))),
-        },
+        Line::Steps(c, count) => Ok(tell_steps(number, c, count, machine)),
         Line::One(event) => Ok(tell_event(number, event, machine)),
         Line::Look(what) => tell_view(number, &what, machine, said),
     }
@@ -139,6 +160,11 @@ pub(crate) fn tell(
     ensures memory { OnErr result MemoryRefused }
 {
     said.clear();
+    if let Some(booted) = machine {
+        if let Some(short) = read_short(line) {
+            return Ok(tell_short(number, short, booted));
+        }
+    }
     let Ok(line) = read_line(line) else {
         return Ok(Reply::Ends(Fault::BadLine(number, LineFault::OutsideGrammar)));
     };
