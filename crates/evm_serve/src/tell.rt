@@ -75,13 +75,12 @@ fn tell_unbooted(
 }
 
 // What came of an event.
-fn tell_event(number: u64, event: Event, machine: &mut Machine) -> Reply
-    ensures { Replies result [] (Option.Some machine.new) (event_told number event (apply machine.old event)) }
+fn tell_event(number: u64, event: &Event, machine: &mut Machine) -> Reply
+    ensures { Replies result [] (Option.Some machine.new) (event_told number event.now (apply machine.old event.now)) }
 {
-    let cpu = event_cpu(&event);
-    match machine.apply(event) {
+    match machine.apply_ref(event) {
         Ok(_) => Reply::Goes,
-        Err(refusal) => Reply::Ends(Fault::Refused(number, cpu, refusal)),
+        Err(refusal) => Reply::Ends(Fault::Refused(number, event_cpu(event), refusal)),
     }
 }
 
@@ -101,7 +100,7 @@ fn tell_short(number: u64, line: ShortLine, machine: &mut Machine) -> Reply
 {
     match line {
         ShortLine::Steps(c, count) => tell_steps(number, c, count, machine),
-        ShortLine::One(event) => tell_event(number, event.event(), machine),
+        ShortLine::One(event) => tell_event(number, &event.event(), machine),
     }
 }
 
@@ -141,8 +140,31 @@ fn tell_booted(
         Line::Blank => Ok(Reply::Goes),
         Line::Boot { .. } => Ok(Reply::Ends(Fault::BadLine(number, LineFault::BootedAgain))),
         Line::Steps(c, count) => Ok(tell_steps(number, c, count, machine)),
-        Line::One(event) => Ok(tell_event(number, event, machine)),
+        Line::One(event) => Ok(tell_event(number, &event, machine)),
         Line::Look(what) => tell_view(number, &what, machine, said),
+    }
+}
+
+// Any line, where nothing is told yet.
+#[inline(never)]
+fn tell_any(
+    alloc: Global,
+    given: Given<'_>,
+    number: u64,
+    line: &[u8],
+    machine: &mut Option<Machine>,
+    said: &mut String,
+) -> Result<Reply, NoMemory>
+    requires { string_bytes said.old ≡ [] }
+    ensures told { IfOk result (λ reply. Replies reply (string_bytes said.new) machine.new (line_told (given_of given.entry) number machine.old (line_at line.now))) }
+    ensures memory { OnErr result MemoryRefused }
+{
+    let Ok(line) = read_line(line) else {
+        return Ok(Reply::Ends(Fault::BadLine(number, LineFault::OutsideGrammar)));
+    };
+    match machine {
+        None => tell_unbooted(alloc, given, number, &line, machine),
+        Some(booted) => tell_booted(number, line, booted, said),
     }
 }
 
@@ -165,11 +187,5 @@ pub(crate) fn tell(
             return Ok(tell_short(number, short, booted));
         }
     }
-    let Ok(line) = read_line(line) else {
-        return Ok(Reply::Ends(Fault::BadLine(number, LineFault::OutsideGrammar)));
-    };
-    match machine {
-        None => tell_unbooted(alloc, given, number, &line, machine),
-        Some(booted) => tell_booted(number, line, booted, said),
-    }
+    tell_any(alloc, given, number, line, machine, said)
 }
