@@ -1,1 +1,2 @@
+pub mod Oob
 pub mod Told

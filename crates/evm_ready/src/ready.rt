@@ -1,5 +1,6 @@
 ghost use Rattle.std.specs.Prelude.{◌≡◌, ◌≤◌, length};
-ghost use Rattle.evm_model.specs.Ranks.{first, next_in_band, stamp, leader, goes_before, runs_oob, runs_in_band};
+ghost use Rattle.evm_model.specs.Ranks.{first, next_in_band, stamp, leader, goes_before, is_oob_ready, runs_oob, runs_in_band};
+ghost use Rattle.evm_ready.specs.Oob.{has_oob};
 ghost use Rattle.evm_ready.specs.Told.{rank_told};
 
 use evm_model::{TASK_LIMIT, Task, TaskState};
@@ -80,6 +81,19 @@ fn may_run_in_band(tasks: &[Task], c: u8, t: u8) -> bool
         None => false,
         Some(task) => task.state == TaskState::InReady && task.cpu == c,
     }
+}
+
+fn is_oob(task: &Task) -> bool
+    ensures { result ≡ is_oob_ready task.now.state }
+{
+    task.state == TaskState::OobReady
+}
+
+/// Whether any task is ready out-of-band, on whichever processor.
+pub fn has_oob(tasks: &[Task]) -> bool
+    ensures { result ≡ has_oob tasks.now }
+{
+    tasks.iter().any(is_oob)
 }
 
 /// The number of the out-of-band task that processor c should run by the ranks told: of those that are ready there,

@@ -1,6 +1,8 @@
 //! Which task goes first, against rows worked by hand.
 
-use crate::{best_of, leader_of, next_in_band_of, put, rerank, set_slice, set_stamp, take};
+use crate::{
+    best_of, has_oob, leader_of, next_in_band_of, put, rerank, set_slice, set_stamp, take,
+};
 use evm_model::{Class, Mode, SLICE, Task, TaskState};
 
 fn ready(cpu: u8, class: Class, priority: u8, stamp: u64) -> Task {
@@ -58,6 +60,8 @@ fn in_band_the_least_stamp_goes_first(rt: HostRuntime) {
     let tasks = [second, first, ready(0, Class::Fifo, 1, 0)];
     assert_eq!(rt; next_in_band_of(0, &tasks), Some(1));
     assert_eq!(rt; best_of(0, &tasks, &[150, 0, 101]), Some(2));
+    assert!(rt; has_oob(&tasks));
+    assert!(rt; !has_oob(&tasks[..2]));
 }
 
 // A tick of the slice of task t, as the parts take it: the last one gives a whole slice, and a fresh stamp.

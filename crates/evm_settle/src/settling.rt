@@ -1,36 +1,45 @@
 ghost use Rattle.evm_boost.specs.Scatter.{AreRanks};
 ghost use Rattle.std.specs.Prelude.{◌≡◌, ◌≤◌, ◌+◌, ◌^◌, slice_get, Option};
 ghost use Rattle.evm_model.specs.Bounds.{PipesUpTo};
-ghost use Rattle.evm_model.specs.Settle.{settle_oob, turn_in_band, settle_in_band, run_in_band, settle, settle_and_nudge, play_in_band_pipe};
+ghost use Rattle.evm_model.specs.Settle.{turn_in_band, settle_in_band, run_in_band, nudge, settle_and_nudge, play_in_band_pipe};
 ghost use Rattle.evm_rules.proofs.Bounded.{AreWithin};
+ghost use Rattle.evm_settle.specs.Steps.{play_oob_pipe, chooses, choose};
 
 use crate::nudging::nudge;
 use crate::playing::{play_in_band_lines, play_oob_lines};
 use evm_model::{Stage, TASK_LIMIT};
 use evm_parts::Parts;
 
-// The out-of-band part: unless it is stalled its log is played, and the best task is current. Answers the ranks.
-#[tactic(auto, unfolding(evm_model::specs::Settle::settle_oob, evm_model::specs::Settle::play_oob_lines))]
-fn settle_oob(parts: &mut Parts, c: u8) -> [u16; TASK_LIMIT]
+// Unless it is stalled the out-of-band log is played. Answers whether the best task is to be current then.
+#[tactic(auto, unfolding(evm_model::specs::Settle::play_oob_lines))]
+fn play_oob_log(parts: &mut Parts, c: u8) -> bool
     requires room { PipesUpTo (2 ^ 62) parts.old.pipes }
     requires stamps { parts.old.stamps ≤ 2 ^ 61 }
-    ensures row { parts.new ≡ settle_oob c parts.old }
-    ensures ranks { AreRanks result parts.new.mutexes parts.new.tasks }
+    ensures row { parts.new ≡ play_oob_pipe (slice_get parts.old.pipes c) c parts.old }
+    ensures chooses { result ≡ chooses (slice_get parts.old.pipes c) }
 {
     let Some(pipe) = parts.pipe(c) else {
-        return parts.ranks();
+        return false;
     };
     let log = pipe.log(Stage::OutOfBand);
     if log.stalled {
-        return parts.ranks();
+        return false;
     }
     if !log.lines.is_empty() {
         play_oob_lines(parts, c, log.lines);
     }
-    let ranks = parts.ranks();
-    let best = parts.best(c, &ranks);
-    parts.set_current(c, best);
-    ranks
+    true
+}
+
+// The best task is current, if it is to be.
+fn choose(parts: &mut Parts, c: u8, chooses: bool, ranks: &[u16])
+    requires { AreRanks ranks.now parts.old.mutexes parts.old.tasks }
+    ensures { parts.new ≡ choose chooses c parts.old }
+{
+    if chooses {
+        let best = parts.best(c, ranks);
+        parts.set_current(c, best);
+    }
 }
 
 // Takes up an in-band task where there is none, and makes it current.
@@ -66,40 +75,55 @@ fn play_in_band_log(parts: &mut Parts, c: u8)
     }
 }
 
+// The in-band log is played, and an in-band task is current.
+#[tactic(auto, unfolding(evm_model::specs::Settle::turn_in_band))]
+fn turn_in_band(parts: &mut Parts, c: u8)
+    requires room { PipesUpTo (2 ^ 62 + 64) parts.old.pipes }
+    requires stamps { parts.old.stamps ≤ 2 ^ 61 + 32 }
+    ensures { parts.new ≡ turn_in_band c parts.old }
+{
+    play_in_band_log(parts, c);
+    run_in_band(parts, c);
+}
+
 // The in-band part, where no out-of-band task is current.
-#[tactic(auto, unfolding(evm_model::specs::Settle::settle_in_band, evm_model::specs::Settle::turn_in_band))]
+#[tactic(auto, unfolding(evm_model::specs::Settle::settle_in_band))]
 fn settle_in_band(parts: &mut Parts, c: u8)
     requires room { PipesUpTo (2 ^ 62 + 64) parts.old.pipes }
     requires stamps { parts.old.stamps ≤ 2 ^ 61 + 32 }
     ensures { parts.new ≡ settle_in_band c parts.old }
 {
     if !parts.tasks.is_oob(parts.current(c)) {
-        play_in_band_log(parts, c);
-        run_in_band(parts, c);
+        turn_in_band(parts, c);
     }
 }
 
-// Plays what waits in a processor's logs, and chooses its current task. Answers the ranks, which the in-band part
-// leaves as they are.
-#[tactic(auto, using(crate::proofs::Rooms::settles), unfolding(evm_model::specs::Settle::settle))]
-fn settle(parts: &mut Parts, c: u8) -> [u16; TASK_LIMIT]
-    requires room { AreWithin (2 ^ 62) parts.old }
-    requires stamps { parts.old.stamps ≤ 2 ^ 61 }
-    ensures row { parts.new ≡ settle c parts.old }
-    ensures ranks { AreRanks result parts.new.mutexes parts.new.tasks }
+// What follows by the ranks, once the out-of-band log is played. It is apart, since they take room that would be
+// cleared after each event, also where no task is ready out-of-band.
+#[inline(never)]
+#[tactic(auto, using(crate::proofs::Steps::steps))]
+fn settle_by_ranks(parts: &mut Parts, c: u8, chooses: bool)
+    requires room { AreWithin (2 ^ 62 + 64) parts.old }
+    requires stamps { parts.old.stamps ≤ 2 ^ 61 + 32 }
+    ensures { parts.new ≡ nudge c (settle_in_band c (choose chooses c parts.old)) }
 {
-    let ranks = settle_oob(parts, c);
+    let ranks = parts.mutexes.ranks(parts.tasks.as_slice());
+    choose(parts, c, chooses, &ranks);
     settle_in_band(parts, c);
-    ranks
+    nudge(parts, c, &ranks);
 }
 
 /// A processor settles, and tells the others that should run another task.
-#[tactic(auto, using(crate::proofs::Rooms::settles), unfolding(evm_model::specs::Settle::settle_and_nudge))]
+#[tactic(auto, using(crate::proofs::Steps::steps, crate::proofs::Quiet::quiet))]
 pub fn settle_and_nudge(parts: &mut Parts, c: u8)
     requires room { AreWithin (2 ^ 62) parts.old }
     requires stamps { parts.old.stamps ≤ 2 ^ 61 }
     ensures { parts.new ≡ settle_and_nudge c parts.old }
 {
-    let ranks = settle(parts, c);
-    nudge(parts, c, &ranks);
+    let chooses = play_oob_log(parts, c);
+    if parts.tasks.has_oob() {
+        settle_by_ranks(parts, c, chooses);
+    } else {
+        turn_in_band(parts, c);
+    }
 }

@@ -9,11 +9,12 @@ ghost use Rattle.evm_model.specs.Settle.{is_oob};
 ghost use Rattle.evm_model.specs.Stages.{is_attached_task};
 ghost use Rattle.evm_model.specs.State.{no_mode};
 ghost use Rattle.evm_model.specs.Tasks.{is_live};
+ghost use Rattle.evm_ready.specs.Oob.{has_oob};
 ghost use Rattle.evm_ready.specs.Told.{rank_told};
 
 use arrayvec::ArrayVec;
 use evm_model::{Class, Mode, TASK_LIMIT, Task, TaskState};
-use evm_ready::{best_of, next_in_band_of, put, rerank, set_slice, set_stamp, take};
+use evm_ready::{best_of, has_oob, next_in_band_of, put, rerank, set_slice, set_stamp, take};
 use evm_wait::put as put_waiting;
 use std::marker::Model;
 
@@ -134,6 +135,13 @@ impl Tasks {
             None => false,
             Some(task) => task.state == TaskState::OobReady,
         }
+    }
+
+    /// Whether any task is ready out-of-band, on whichever processor.
+    pub fn has_oob(&self) -> bool
+        ensures { result ≡ has_oob self.now }
+    {
+        has_oob(self.tasks.as_slice())
     }
 
     /// Whether there is such a task and it has a class.
