@@ -49,8 +49,29 @@ fn put_padded(text: &mut ArrayString<DIGITS>, count: u8, n: u64)
     }
 }
 
-/// Appends a number in decimal.
-pub fn push_decimal(out: &mut String, n: u64) -> Result<(), Refused>
+/// Appends a number below ten, which is one digit.
+#[inline(always)]
+#[tactic(auto, using(crate::proofs::Steps::numeral_one))]
+fn push_digit(out: &mut String, n: u8) -> Result<(), Refused>
+    requires { n < 10 }
+    ensures ok { OnOk result (string_bytes out.new ≡ string_bytes out.old ++ decimal n) }
+    ensures err { OnErr result (string_bytes out.new ≡ string_bytes out.old) }
+    // It gives up only where there is no room for the text, and a growth by no more than the text was refused.
+    ensures len { OnOk result (string_len out.new ≡ string_len out.old + length (decimal n)) }
+    ensures full { OnErr result (string_capacity out.old < string_len out.old + length (decimal n)) }
+    ensures refused { IfErr result (λ asked. asked ≤ length (decimal n)) }
+    ensures capacity { string_capacity out.old ≤ string_capacity out.new }
+{
+    grow_text(out, 1)?;
+    let Ok(()) = out.push(character(n)) else {
+        unreachable!();
+    };
+    Ok(())
+}
+
+/// Appends a number of any length in decimal.
+#[inline(never)]
+fn push_digits(out: &mut String, n: u64) -> Result<(), Refused>
     ensures ok { OnOk result (string_bytes out.new ≡ string_bytes out.old ++ decimal n) }
     ensures err { OnErr result (string_bytes out.new ≡ string_bytes out.old) }
     // It gives up only where there is no room for the text, and a growth by no more than the text was refused.
@@ -62,6 +83,24 @@ pub fn push_decimal(out: &mut String, n: u64) -> Result<(), Refused>
     let mut text = ArrayString::new();
     put_numeral(&mut text, 10, 19, n);
     push_text(out, text.as_str())
+}
+
+/// Appends a number in decimal.
+#[inline(always)]
+pub fn push_decimal(out: &mut String, n: u64) -> Result<(), Refused>
+    ensures ok { OnOk result (string_bytes out.new ≡ string_bytes out.old ++ decimal n) }
+    ensures err { OnErr result (string_bytes out.new ≡ string_bytes out.old) }
+    // It gives up only where there is no room for the text, and a growth by no more than the text was refused.
+    ensures len { OnOk result (string_len out.new ≡ string_len out.old + length (decimal n)) }
+    ensures full { OnErr result (string_capacity out.old < string_len out.old + length (decimal n)) }
+    ensures refused { IfErr result (λ asked. asked ≤ length (decimal n)) }
+    ensures capacity { string_capacity out.old ≤ string_capacity out.new }
+{
+    if n < 10 {
+        push_digit(out, n as u8)
+    } else {
+        push_digits(out, n)
+    }
 }
 
 /// Appends a number in hexadecimal.
