@@ -130,6 +130,7 @@ pub fn settle_and_nudge(parts: &mut Parts, c: u8)
     ensures { parts.new ≡ settle_and_nudge c parts.old }
 {
     let chooses = play_oob_log(parts, c);
+    // Where no task is ready out-of-band no processor has a best one, so the in-band part is all that follows.
     if parts.tasks.has_oob() {
         settle_by_ranks(parts, c, chooses);
     } else {
