@@ -4,12 +4,11 @@ use Rattle.std.proofs.lemmas.Bool.{cases_eq, or_parts}
 use Rattle.std.specs.Prelude.{not, ◌&&◌, ◌==◌, slice_get, option_map, if◌then◌else◌}
 use Rattle.evm_lines.specs.Lines.{has_line}
 use Rattle.evm_model.proofs.Lists.{change-here, change-elsewhere, each_from-same}
-use Rattle.evm_model.specs.Harts.{A0, set_register}
-use Rattle.evm_model.specs.Lists.{change, each}
+use Rattle.evm_model.specs.Lists.{change}
 use Rattle.evm_model.specs.Pipes.{Pipe, play, raise}
 use Rattle.evm_model.specs.Ranks.{best, is_oob_ready, next_in_band}
-use Rattle.evm_model.specs.Settle.{current, differs, is_oob, is_oob_task, nudge, nudge_pipe, play_in_band, play_in_band_lines, play_in_band_pipe, run_best, run_in_band, run_task, settle_and_nudge, settle_in_band, take_up, turn_in_band, wants_nudge}
-use Rattle.evm_model.specs.State.{Parts, on_hart, on_pipe, on_processor}
+use Rattle.evm_model.specs.Settle.{current, is_oob, is_oob_task, nudge, nudge_pipe, play_in_band, play_in_band_lines, play_in_band_pipe, run_in_band, run_task, settle_and_nudge, settle_in_band, take_up, turn_in_band, wants_nudge}
+use Rattle.evm_model.specs.State.{Parts, on_pipe, on_processor}
 use Rattle.evm_model.specs.Tasks.{awaits, restamp, set_state, wake_below, wake_in_band}
 use Rattle.evm_model.specs.declared.mutex.Mutex.{Mutex}
 use Rattle.evm_model.specs.declared.processor.Processor.{Processor}

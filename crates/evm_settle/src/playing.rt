@@ -22,7 +22,8 @@ fn play_oob(parts: &mut Parts, c: u8, line: u8)
     }
 }
 
-// Plays lines out-of-band, the least first.
+// Plays lines out-of-band, the least first. Apart, as after most events there are none.
+#[inline(never)]
 #[tactic(auto, unfolding(evm_model::specs::Settle::play_oob_lines))]
 pub(crate) fn play_oob_lines(parts: &mut Parts, c: u8, lines: LineSet)
     requires few { length lines ≤ LINES }
@@ -49,7 +50,8 @@ fn play_in_band(parts: &mut Parts, c: u8, line: u8)
     parts.wake_waiters(c, line);
 }
 
-// Plays lines in-band, the least first.
+// Plays lines in-band, the least first. Apart, as after most events there are none.
+#[inline(never)]
 #[tactic(auto, unfolding(evm_model::specs::Settle::play_in_band_lines))]
 pub(crate) fn play_in_band_lines(parts: &mut Parts, c: u8, lines: LineSet)
     requires few { length lines ≤ LINES }

@@ -1,13 +1,14 @@
 ghost use Rattle.evm_boost.specs.Scatter.{AreRanks};
 ghost use Rattle.std.specs.Prelude.{◌≡◌, ◌≤◌, ◌+◌, ◌^◌, slice_get, Option};
 ghost use Rattle.evm_model.specs.Bounds.{PipesUpTo};
+ghost use Rattle.evm_model.specs.Ranks.{next_in_band};
 ghost use Rattle.evm_model.specs.Settle.{turn_in_band, settle_in_band, run_in_band, nudge, settle_and_nudge, play_in_band_pipe};
 ghost use Rattle.evm_rules.proofs.Bounded.{AreWithin};
 ghost use Rattle.evm_settle.specs.Steps.{play_oob_pipe, chooses, choose};
 
 use crate::nudging::nudge;
 use crate::playing::{play_in_band_lines, play_oob_lines};
-use evm_model::{Stage, TASK_LIMIT};
+use evm_model::Stage;
 use evm_parts::Parts;
 
 // Unless it is stalled the out-of-band log is played. Answers whether the best task is to be current then.
@@ -42,6 +43,14 @@ fn choose(parts: &mut Parts, c: u8, chooses: bool, ranks: &[u16])
     }
 }
 
+// The in-band task to take up. Apart, as it is looked for among all tasks, and mostly there is one already.
+#[inline(never)]
+fn next_in_band(parts: &Parts, c: u8) -> Option<u8>
+    ensures { result ≡ next_in_band c parts.now.tasks }
+{
+    parts.tasks.next_in_band(c)
+}
+
 // Takes up an in-band task where there is none, and makes it current.
 fn run_in_band(parts: &mut Parts, c: u8)
     ensures { parts.new ≡ run_in_band c parts.old }
@@ -51,7 +60,7 @@ fn run_in_band(parts: &mut Parts, c: u8)
     };
     let task = match processor.in_band_task {
         Some(task) => Some(task),
-        None => parts.tasks.next_in_band(c),
+        None => next_in_band(parts, c),
     };
     parts.run_in_band(c, task);
 }

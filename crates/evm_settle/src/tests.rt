@@ -21,6 +21,7 @@ use std::test::Fail;
 mod rescheduling;
 
 // Processor 1, for which task 0 is ready, and whether it is to be told.
+#[derive(Drop)]
 struct Row {
     name: &'static str,
     running: Option<u8>,
@@ -51,6 +52,11 @@ const IDLE: Row = Row {
     stopped: false,
     wire: Line::None,
     told: true,
+};
+
+const BUSY: Row = Row {
+    running: Some(7),
+    ..IDLE
 };
 
 const ROWS: [Row; 13] = [
@@ -310,5 +316,26 @@ fn settling_tells(rt: HostRuntime) -> Result<(), Fail> {
     settle_and_nudge(&mut parts, 1);
     assert_eq!(rt; raises(&parts, 1), Some((0, 0)));
     assert_eq!(rt; parts.current(1), Some(0));
+    Ok(())
+}
+
+// Where no task is ready out-of-band a processor runs its in-band task, if one is ready, whatever it ran before, and
+// nobody is told.
+#[test]
+#[tactic(auto, using(crate::proofs::Idle::idle))]
+fn settling_in_band(rt: HostRuntime) -> Result<(), Fail> {
+    for (state, current) in [
+        (TaskState::InReady, Some(0)),
+        (TaskState::Exit, None),
+        (TaskState::Waits(Wait::Line(3)), None),
+    ] {
+        let console = console_of(rt.alloc())?;
+        let mut parts = parts_of(console, task_of(1, state), &BUSY);
+        assert_eq!(rt; parts.stamps, 1);
+        settle_and_nudge(&mut parts, 1);
+        assert_eq!(rt; parts.current(1), current, "of {state:?}");
+        let told = [raises(&parts, 0), raises(&parts, 1), raises(&parts, 2)];
+        assert_eq!(rt; told, [Some((0, 0)); 3], "of {state:?}");
+    }
     Ok(())
 }
