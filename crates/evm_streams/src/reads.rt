@@ -20,7 +20,7 @@ pub fn read_all<R: Source>(alloc: Global, source: &mut R) -> Result<Vec<u8>, Rea
     ensures { MatchResult result (λ bytes. Reads R.gives source.old source.new (Result.Ok bytes.items)) (λ stop. Reads R.gives source.old source.new (Result.Err stop)) }
 {
     let mut bytes = Vec::new(alloc);
-    let mut part = [0u8; 4096];
+    let mut part = [0u8; 16_384];
     'parts: loop {
         match source.read(&mut part) {
             Reading::Failed => return Err(ReadStop::Fault(ReadFault::Failed)),
