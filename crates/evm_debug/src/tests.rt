@@ -1,5 +1,6 @@
 use super::*;
 use evm_core::Machine;
+use evm_journal::{ShortEvent, ShortLine};
 use evm_model::Event;
 use evm_ram::Refusal;
 use std::process::Abort;
@@ -60,6 +61,30 @@ fn lines_are_read(rt: HostRuntime) {
     is(&rt, b"rank 63", Line::Look(View::Rank(63)));
     is(&rt, b"counts 1 9", Line::Look(View::Counts(1, 9)));
     is(&rt, b"journal", Line::Look(View::Journal));
+}
+
+#[test]
+fn lines_that_hold_no_bytes_are_read_small(rt: HostRuntime) {
+    assert_eq!(rt;
+        read_short(b"step 7 1048576"),
+        Some(ShortLine::Steps(7, 1_048_576))
+    );
+    assert_eq!(rt; read_short(b"tick"), Some(ShortLine::One(ShortEvent::Tick)));
+    assert_eq!(rt;
+        read_short(b"unbreak 80000004"),
+        Some(ShortLine::One(ShortEvent::Unbreak(0x8000_0004)))
+    );
+    for text in [
+        b"".as_slice(),
+        b"# tick".as_slice(),
+        b"tick 1".as_slice(),
+        b"step 0 0".as_slice(),
+        b"boot 1 65536 1".as_slice(),
+        b"regs 0".as_slice(),
+        b"poke 80000000 00".as_slice(),
+    ] {
+        assert_eq!(rt; read_short(text), None, "{text:?}");
+    }
 }
 
 #[test]

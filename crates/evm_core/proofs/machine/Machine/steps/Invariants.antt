@@ -1,6 +1,4 @@
-use Rattle.std.proofs.Common.{◌≡◌, Option, None}
-use Rattle.evm_model.specs.Replay.{IsReplayOf}
-use Rattle.evm_model.specs.State.{State}
+use Rattle.std.proofs.Common.{◌≡◌}
 use Rattle.evm_core.specs.Steps.{steps}
 use Rattle.evm_core.proofs.machine.Machine.steps.Given as goal
 
