@@ -33,11 +33,11 @@ stamps-fault c t f k few h = let g = fault-gives c t f k few in omega (arith, g.
 pub ruleset fault_stamps = (stamps-fault)
 
 -- a call before its processor settles
-pub room-call : (ram c t : ℕ) (k : Parts) → AreWithin (2 ^ 61) k → AreWithin (2 ^ 62) (call ram c t k)
-room-call ram c t k h = within-more (2 ^ 61 + 1) (2 ^ 62) _ (omega arith) (within-takes c 1 1 (2 ^ 61) k _ (call_takes ram c t k) h)
+pub room-call : (c t : ℕ) (k : Parts) → AreWithin (2 ^ 61) k → AreWithin (2 ^ 62) (call c t k)
+room-call c t k h = within-more (2 ^ 61 + 1) (2 ^ 62) _ (omega arith) (within-takes c 1 1 (2 ^ 61) k _ (call_takes c t k) h)
 
-pub stamps-call : (ram c t : ℕ) (k : Parts) → length k.mutexes ≤ MUTEX_LIMIT → k.stamps ≤ 2 ^ 60 → (call ram c t k).stamps ≤ 2 ^ 61
-stamps-call ram c t k few h = let g = call-gives ram c t k few in omega (arith, g.most)
+pub stamps-call : (c t : ℕ) (k : Parts) → length k.mutexes ≤ MUTEX_LIMIT → k.stamps ≤ 2 ^ 60 → (call c t k).stamps ≤ 2 ^ 61
+stamps-call c t k few h = let g = call-gives c t k few in omega (arith, g.most)
 
 pub ruleset calls = (stamps-call)
 

@@ -17,7 +17,6 @@ use evm_exec::{Effect, Hart, effect, load_width, loaded};
 use evm_isa::decode;
 use evm_model::{Fault, MUTEX_LIMIT, TaskState};
 use evm_parts::Parts;
-use evm_ram::SIZE_LIMIT;
 use evm_settle::settle_and_nudge;
 
 // A fault sends an out-of-band task in-band, and ends another.
@@ -46,16 +45,15 @@ fn fault_and_settle(parts: &mut Parts, c: u8, t: u8, reason: Fault)
 
 // A task calls a kernel, and its processor settles.
 #[tactic(auto, using(crate::proofs::Rooms::calls))]
-fn call_and_settle(parts: &mut Parts, ram: u64, c: u8, t: u8)
-    requires ram { ram ≤ SIZE_LIMIT }
+fn call_and_settle(parts: &mut Parts, c: u8, t: u8)
     requires room { AreWithin (2 ^ 61) parts.old }
     requires stamps { parts.old.stamps ≤ 2 ^ 60 }
     requires held { HeldUpTo (2 ^ 62) parts.old.mutexes }
     requires few { length parts.old.mutexes ≤ MUTEX_LIMIT }
     requires harts { length parts.old.harts ≡ length parts.old.tasks }
-    ensures { parts.new ≡ settle_and_nudge c (call ram c t parts.old) }
+    ensures { parts.new ≡ settle_and_nudge c (call c t parts.old) }
 {
-    call(parts, ram, c, t);
+    call(parts, c, t);
     settle_and_nudge(parts, c);
 }
 
@@ -93,7 +91,7 @@ impl Board {
                 None => fault_and_settle(&mut self.parts, c, t, Fault::Store),
                 Some(()) => advance_quietly(&mut self.parts, c, t),
             },
-            Effect::Call => call_and_settle(&mut self.parts, self.memory.ram_size(), c, t),
+            Effect::Call => call_and_settle(&mut self.parts, c, t),
             Effect::Break => stop_quietly(&mut self.parts, c, t),
             Effect::Misaligned => fault_and_settle(&mut self.parts, c, t, Fault::Misaligned),
         }

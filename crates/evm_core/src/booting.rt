@@ -10,10 +10,7 @@ use evm_board::{Board, Memory};
 use evm_boost::Mutexes;
 use evm_breaks::Breakpoints;
 use evm_exec::Hart;
-use evm_model::{
-    Boot, CAPACITY_LIMIT, Class, Mode, PROCESSOR_LIMIT, Processor, RAM_LEAST, RAM_UNIT, Task,
-    TaskState,
-};
+use evm_model::{Boot, CAPACITY_LIMIT, Class, Mode, PROCESSOR_LIMIT, Processor, RAM_LEAST, RAM_UNIT, Task, TaskState, Profile};
 use evm_parts::{Console, Parts};
 use evm_pipe::Pipe;
 use evm_quiet::Slots;
@@ -108,6 +105,7 @@ fn parts_of(boot: &Boot, console: Console) -> Parts
         *place = first;
     }
     Parts {
+        profile: Profile { ram: boot.ram },
         ticks: 0,
         harts: Harts::of_first(hart_zero(boot.ram)),
         tasks: Tasks::of_first(task_zero()),

@@ -16,6 +16,7 @@ pub mod OobCalls
 pub mod Passing
 pub mod Pipes
 pub mod Policies
+pub mod Profiles
 pub mod Ranks
 pub mod Refusals
 pub mod Replay
@@ -24,3 +25,4 @@ pub mod Settle
 pub mod Stages
 pub mod State
 pub mod Tasks
+pub mod Waits

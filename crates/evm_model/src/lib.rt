@@ -11,6 +11,7 @@ mod limits;
 mod mode;
 mod mutex;
 mod processor;
+mod profile;
 mod stage;
 mod task;
 
@@ -27,5 +28,6 @@ pub use limits::{
 pub use mode::Mode;
 pub use mutex::{Mutex, Protocol};
 pub use processor::Processor;
+pub use profile::Profile;
 pub use stage::{Stage, StageLog};
 pub use task::{Class, Task, TaskState, Wait};

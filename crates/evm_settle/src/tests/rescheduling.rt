@@ -11,7 +11,7 @@ use arrayvec::ArrayVec;
 use evm_boost::Mutexes;
 use evm_calls::set_sched::set_sched;
 use evm_exec::Hart;
-use evm_model::{Class, Mode, Outcome, Processor, Stage, Task, TaskState};
+use evm_model::{Class, Mode, Outcome, Processor, Profile, Stage, Task, TaskState};
 use evm_parts::{Console, Parts};
 use evm_pipe::Pipe;
 use evm_task::{Harts, Tasks};
@@ -56,6 +56,7 @@ fn two_processors(console: Console) -> Parts
         pc: 0x8000_0000,
     };
     Parts {
+        profile: Profile { ram: 65_536 },
         ticks: 0,
         harts: Harts::of_first(hart),
         tasks,
