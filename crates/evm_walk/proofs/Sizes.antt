@@ -94,12 +94,21 @@ module _ (a : Actor) (old : Parts) where
   walk_most _ _ _ few start = omega arith
   walk_most _ _ _ few (next m n s u i j k x h g d w) = omega (arith, walk_most m s k few w, (does_give i j k x d).most, g few)
 
--- ---- the clock and the current task
+-- ---- the profile, the clock and the current task
 same_current : (f : Processor → Processor) (o : Option Processor) → ((p : Processor) → (f p).current ≡ p.current) → current_of (option_map f o) ≡ current_of o
 same_current f None h = refl
 same_current f (Some p) h = h p
 
 module _ (a : Actor) (old : Parts) where
+  does_profile : (i j : ℕ) (k x : Parts) → Does a old i j k x → x.profile ≡ k.profile
+  unfolding restamp set_policy set_slice wake tick add_task add_mutex
+  does_profile _ _ _ _ (spends t x k runs there on) = of_spend (λ y. y.profile ≡ k.profile) t x.slice k refl refl
+  does_profile _ _ _ _ _ = refl
+
+  pub walk_profile : (n s : ℕ) (k : Parts) → Walk a old n s k → k.profile ≡ old.profile
+  walk_profile _ _ _ start = refl
+  walk_profile _ _ _ (next m n s u i j k x h g d w) = does_profile i j k x d ∙ walk_profile m s k w
+
   does_ticks : (i j : ℕ) (k x : Parts) → a.may 0 0 ≡ false → Does a old i j k x → x.ticks ≡ k.ticks
   unfolding restamp set_policy set_slice wake tick add_task add_mutex
   does_ticks _ _ _ _ q (spends t x k runs there on) = of_spend (λ y. y.ticks ≡ k.ticks) t x.slice k refl refl
