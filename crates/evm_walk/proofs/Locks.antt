@@ -86,7 +86,7 @@ module _ (a : Actor) (old k : Parts) (t : ℕ) (own : a.task ≡ Some t) (fresh 
   takes : (i m count : ℕ) (mutex : Mutex) → i ≤ 1 → slice_get k.mutexes m ≡ Some mutex → (mutex.owner ≡ None) ⊎ (mutex.owner ≡ Some t) → count ≤ mutex.count + i → Walk a old 1 32 (on_mutex m (held_by t count) k)
   takes i m count mutex few e whose more =
       up (0 + i) 0 _ (omega (arith, few)) (omega arith)
-      (counted a old 0 0 k _ i (holds i t m (held_by t count) k own (λ x there. let one : mutex ≡ x = (let two : Some mutex ≡ Some x = sym e ∙ there in cc) in
+      (counted a old 0 0 k _ i (holds i t m (held_by t count) k own (ap (λ xs. slice_get xs m) fresh.mutexes) (λ x there. let one : mutex ≡ x = (let two : Some mutex ≡ Some x = sym e ∙ there in cc) in
       record { kind = refl; whose = rw (← one) whose; count = rw (← one) more })) w)
 
   locks_again : (m : ℕ) (mutex : Mutex) → slice_get k.mutexes m ≡ Some mutex → mutex.owner ≡ Some t → Walk a old 1 32 (lock_again t m mutex k).0

@@ -60,7 +60,7 @@ module _ (a : Actor) (old : Parts) (n t : ℕ) (own : a.task ≡ Some t) where
       → Walk a old n s k → Walk a old n (s + 1) (pass_to o m k)
   passes_to s m None k first same its w =
       slack a old n n s (s + 1) _ (λ g. omega arith) (λ g. omega arith)
-      (quietly a old n s k _ (holds 0 t m freed k own (λ x e. record { kind = refl; whose = inr (ap owner_of (sym e) ∙ its); count = omega arith })) w)
+      (quietly a old n s k _ (holds 0 t m freed k own same (λ x e. record { kind = refl; whose = inr (ap owner_of (sym e) ∙ its); count = omega arith })) w)
   passes_to s m (Some u) k first same its w = stamped a old n s k _ (inherits t u m k own same its first) w
 
   pub passes : (s m : ℕ) (k : Parts) → slice_get k.mutexes m ≡ slice_get old.mutexes m → owner k.mutexes m ≡ Some t → Walk a old n s k → Walk a old n (s + 1) (pass_on m k)

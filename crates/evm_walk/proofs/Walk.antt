@@ -119,7 +119,7 @@ pub data Does (a : Actor) (old : Parts) : ℕ → ℕ → Parts → Parts → Ty
   inherits : (t u m : ℕ) (k : Parts) → a.task ≡ Some t → slice_get k.mutexes m ≡ slice_get old.mutexes m → owner k.mutexes m ≡ Some t → first_waiter (Lock m) k ≡ Some u
       → Does a old 0 1 k (wake u 0 (on_mutex m (held_by u 1) k))
   -- a mutex that is free or the acting task's
-  holds : (i t m : ℕ) (f : Mutex → Mutex) (k : Parts) → a.task ≡ Some t → ((x : Mutex) → slice_get k.mutexes m ≡ Some x → IsHeld t i x (f x)) → Does a old i 0 k (on_mutex m f k)
+  holds : (i t m : ℕ) (f : Mutex → Mutex) (k : Parts) → a.task ≡ Some t → slice_get k.mutexes m ≡ slice_get old.mutexes m → ((x : Mutex) → slice_get k.mutexes m ≡ Some x → IsHeld t i x (f x)) → Does a old i 0 k (on_mutex m f k)
   -- the processor's bits and its in-band current task; its current task
   marks : (f : Processor → Processor) (k : Parts) → ((p : Processor) → (f p).current ≡ p.current) → Does a old 0 0 k (on_processor a.cpu f k)
   picks : (f : Processor → Processor) (k : Parts) → a.chooses ≡ true → Does a old 0 0 k (on_processor a.cpu f k)
