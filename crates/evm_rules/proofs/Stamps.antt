@@ -23,7 +23,7 @@ use Rattle.evm_model.specs.Settle.{current, current_of, is_oob, spend_current, h
 use Rattle.evm_model.specs.State.{Parts, Memory, Board, on_processor, on_pipe, on_parts}
 use Rattle.evm_model.specs.Tasks.{restamp, set_state, wake_in_band, wake_below, awaits}
 use Rattle.evm_model.specs.declared.event.Answer.TheVariants.{Stopped, Hit}
-use Rattle.evm_model.specs.declared.event.Event.{Event}
+use Rattle.evm_model.specs.Event.{Event}
 use Rattle.evm_model.specs.declared.event.Event.TheVariants.{Step, Tick, Raise, Bell, Stop, Go, StepI, SetReg, SetPc, Poke, Break as Set_break, Unbreak}
 use Rattle.evm_model.specs.declared.limits.TheConstants.{TASK_LIMIT, MUTEX_LIMIT}
 use Rattle.evm_model.specs.declared.processor.Processor.{Processor}

@@ -20,7 +20,7 @@ use Rattle.evm_model.specs.Rows.{row, step, single_step}
 use Rattle.evm_model.specs.Settle.{current}
 use Rattle.evm_model.specs.State.{State, Board, on_processor, on_pipe, on_parts, on_memory}
 use Rattle.evm_model.specs.declared.event.Answer.{Answer}
-use Rattle.evm_model.specs.declared.event.Event.{Event}
+use Rattle.evm_model.specs.Event.{Event}
 use Rattle.evm_model.specs.declared.event.Event.TheVariants.{Step, Tick, Raise, Bell, Stop, Go, StepI, SetReg, SetPc, Poke, Break, Unbreak}
 use Rattle.evm_model.specs.declared.limits.TheConstants.{POKE_LIMIT}
 use Rattle.evm_model.specs.declared.processor.Processor.{Processor}

@@ -4,7 +4,7 @@ use Rattle.evm_model.specs.Bounds.{PER_EVENT, HeldUpTo}
 use Rattle.evm_model.specs.Refusals.{board_refusal}
 use Rattle.evm_model.specs.Rows.{row}
 use Rattle.evm_model.specs.State.{Board, Parts}
-use Rattle.evm_model.specs.declared.event.Event.{Event}
+use Rattle.evm_model.specs.Event.{Event}
 use Rattle.evm_walk.proofs.Moves.{Moves, once, chain, Takes, held_more}
 use Rattle.evm_walk.proofs.Rows.{MOVES, actor, raised_line, row_moves}
 use Rattle.evm_walk.proofs.Sets.{ArePipes}
