@@ -66,7 +66,7 @@ both : (a b : Bool) → (a && b) ≡ true → (a ≡ true) × (b ≡ true)
 both true b h = (refl, h)
 both false b h = cc
 
-line_waiter : (c l t : ℕ) (k : Parts) (o : Option Task) → slice_get k.tasks t ≡ o → awaits_line c l o ≡ true → LineWaiter c l t k
+pub line_waiter : (c l t : ℕ) (k : Parts) (o : Option Task) → slice_get k.tasks t ≡ o → awaits_line c l o ≡ true → LineWaiter c l t k
 line_waiter c l t k None e h = cc
 line_waiter c l t k (Some x) e h = let b = both (is_wait_for (Line l) x.state) (x.cpu == c) h in record { task = x; there = e; on = line_is l x.state b.0; at_home = number_is c x.cpu b.1 }
 
