@@ -61,7 +61,7 @@ module _ (a : Actor) (old : Parts) where
   does_registers _ _ _ _ (spends t x k runs there on) h = of_spend (λ y. AllHaveRegisters y.harts) t x.slice k h h
   does_registers _ _ _ _ (wakes t l k on) h = change-registers t A0 0 (set_register A0 0) k.harts (λ x. refl) h
   does_registers _ _ _ _ (inherits t u m k own same its first) h = change-registers u A0 0 (set_register A0 0) k.harts (λ x. refl) h
-  does_registers _ _ _ _ (adds entry value cpu k fresh room) h = λ u x e. elim (slice_get-push k.harts (spawned_hart entry value) u x e) [
+  does_registers _ _ _ _ (adds t entry value cpu k own fresh room) h = λ u x e. elim (slice_get-push k.harts (spawned_hart entry value) u x e) [
     | inl there ↦ h u x there
     | inr last ↦ rw last.1 (spawned-are entry value)
   ]
@@ -149,7 +149,7 @@ module _ (a : Actor) (old : Parts) where
       added_one old k _ u (length-change _ _ u ∙ length-change _ k.tasks u) (length-change _ k.harts u) (λ v o. change-elsewhere _ _ u v o ∙ change-elsewhere _ k.tasks u v o) (λ v o. change-elsewhere _ k.harts u v o)
       (λ cpu stamp more new. not_new (length old.tasks) u cpu stamp k w.task new w.there (λ e. let no : Waits (Lock m) ≡ InReady = sym w.on ∙ e in cc)) p
   does_add _ _ _ _ (schedules u priority class k fresh asks) p = added_on old k _ (length-change _ k.tasks u) refl (λ more h. absurd (omega (arith, more, ap length fresh.tasks))) p
-  does_add _ _ _ _ (adds entry value cpu k fresh room) p =
+  does_add _ _ _ _ (adds t entry value cpu k own fresh room) p =
       let tasks : length k.tasks ≡ length old.tasks = ap length fresh.tasks in
       let harts : length k.harts ≡ length old.harts = ap length fresh.harts in
       inr (record {
@@ -188,7 +188,7 @@ module _ (a : Actor) (old : Parts) where
   does_make _ _ _ _ (spends t x k runs there on) p = of_spend (λ y. Made old.mutexes y.mutexes) t x.slice k p p
   does_make _ _ _ _ (inherits t u m k own same its first) p = made_one old.mutexes k.mutexes m (held_by u 1) same p
   does_make _ _ _ _ (holds i t m f k own same held) p = made_one old.mutexes k.mutexes m f same p
-  does_make _ _ _ _ (makes recursive protocol k fresh room) p =
+  does_make _ _ _ _ (makes t recursive protocol k own fresh room) p =
       let mutexes : length k.mutexes ≡ length old.mutexes = ap length fresh.mutexes in
       inr (record {
         recursive = recursive;
@@ -203,11 +203,24 @@ module _ (a : Actor) (old : Parts) where
   walk_made _ _ _ start = inl refl
   walk_made _ _ _ (next m n s u i j k x few g d w) = does_make i j k x d (walk_made m s k w)
 
+  does_mutexes : (i j : ℕ) (k x : Parts) → a.task ≡ None → Does a old i j k x → x.mutexes ≡ k.mutexes
+  unfolding restamp set_policy set_slice wake tick add_task add_mutex
+  does_mutexes _ _ _ _ none (spends t x k runs there on) = of_spend (λ y. y.mutexes ≡ k.mutexes) t x.slice k refl refl
+  does_mutexes _ _ _ _ none (inherits t u m k own same its first) = let no : None ≡ Some t = sym none ∙ own in cc
+  does_mutexes _ _ _ _ none (holds i t m f k own same held) = let no : None ≡ Some t = sym none ∙ own in cc
+  does_mutexes _ _ _ _ none (makes t recursive protocol k own fresh room) = let no : None ≡ Some t = sym none ∙ own in cc
+  does_mutexes _ _ _ _ none _ = refl
+
+  -- where no task acts
+  pub walk_mutexes : (n s : ℕ) (k : Parts) → a.task ≡ None → Walk a old n s k → k.mutexes ≡ old.mutexes
+  walk_mutexes _ _ _ none start = refl
+  walk_mutexes _ _ _ none (next m n s u i j k x few g d w) = does_mutexes i j k x none d ∙ walk_mutexes m s k none w
+
   -- ---- the console
   does_type : (i j : ℕ) (k x : Parts) → Does a old i j k x → Typed old k → Typed old x
   unfolding restamp set_policy set_slice wake tick add_task add_mutex
   does_type _ _ _ _ (spends t x k runs there on) p = of_spend (Typed old) t x.slice k p p
-  does_type _ _ _ _ (types byte k fresh) p = inr (byte, ap (λ (console : List ℕ). last_bytes (console ++ byte ∷ [])) fresh.console)
+  does_type _ _ _ _ (types t byte k own fresh) p = inr (byte, ap (λ (console : List ℕ). last_bytes (console ++ byte ∷ [])) fresh.console)
   does_type _ _ _ _ _ p = p
 
   pub walk_typed : (n s : ℕ) (k : Parts) → Walk a old n s k → Typed old k

@@ -521,13 +521,13 @@ module _ (a : Actor) (old : Parts) (acts : (g : ℕ) → a.task ≡ Some g → c
     back = λ t y h e. inr (record { task = y; there = e });
     mutexes = f.mutexes;
   }
-  does_frame _ _ _ _ later (adds entry value cpu k fresh room) f =
+  does_frame _ _ _ _ later (adds t entry value cpu k own fresh room) f =
       frame_on k _ f (λ u h. record { task = λ y e. slice_get-before k.tasks _ u y e; hart = λ y e. slice_get-before k.harts _ u y e; mutex = λ n y o e. e })
       (λ u y h e. elim (slice_get-push k.tasks (new_task cpu k.stamps) u y e) [
         | inl there ↦ inr there
         | inr last ↦ inl (ap (λ (z : Task). is_in_ready z.state) last.1)
       ]) (same_mutexes a.task k.mutexes k.mutexes refl)
-  does_frame _ _ _ _ later (makes recursive protocol k fresh room) f =
+  does_frame _ _ _ _ later (makes t recursive protocol k own fresh room) f =
       frame_on k _ f (λ u h. record { task = λ y e. e; hart = λ y e. e; mutex = λ n y o e. slice_get-before k.mutexes _ n y e }) (λ u y h e. inr e) (λ n before e. inl (slice_get-before k.mutexes _ n before e))
   does_frame _ _ k _ later _ f = frame_same k _ refl refl refl f
 

@@ -1,3 +1,14 @@
 pub mod Added
+pub mod Balance
+pub mod Breakpoints
+pub mod Commands
 pub mod First
+pub mod Fit
 pub mod Frames
+pub mod Instructions
+pub mod Kept
+pub mod Least
+pub mod Raised
+pub mod Replays
+pub mod Runs
+pub mod Steps

@@ -93,7 +93,7 @@ module _ (a : Actor) (old k : Parts) (t : ℕ) (own : a.task ≡ Some t) (fresh 
 
   puts : (byte : ℕ) → Walk a old 1 32 (putc byte k).0
   unfolding putc
-  puts byte = at_most 0 0 _ (omega arith) (omega arith) (quietly a old 0 0 k _ (types (byte % 256) k fresh) w)
+  puts byte = at_most 0 0 _ (omega arith) (omega arith) (quietly a old 0 0 k _ (types t (byte % 256) k own fresh) w)
 
   yields : Walk a old 1 32 (yield_now a.cpu t k).0
   unfolding yield_now
@@ -105,7 +105,7 @@ module _ (a : Actor) (old k : Parts) (t : ℕ) (own : a.task ≡ Some t) (fresh 
       either a old (is_bad_entry k.profile.ram entry) _ _ (λ e. none) (λ e.
       either a old (is_none (slice_get k.processors cpu)) _ _ (λ e. none) (λ e.
       either a old (nat_le TASK_LIMIT (length k.tasks)) _ _ (λ e. none) (λ e.
-      let room : length k.tasks < TASK_LIMIT = grind (arith, nat_tests) in at_most 0 1 _ (omega arith) (omega arith) (stamped a old 0 0 k _ (adds entry value cpu k fresh room) w))))
+      let room : length k.tasks < TASK_LIMIT = grind (arith, nat_tests) in at_most 0 1 _ (omega arith) (omega arith) (stamped a old 0 0 k _ (adds t entry value cpu k own fresh room) w))))
 
   waits_line_unless : (o : Option Errno) (l : ℕ) → Walk a old 1 32 (wait_line_unless o a.cpu t l k).0
   waits_line_unless (Some e) l = none

@@ -34,7 +34,7 @@ module _ (a : Actor) (old : Parts) where
   does_hold _ _ _ _ b h (spends t x k runs there on) q = of_spend (λ (y : Parts). HeldUpTo (b + 0) y.mutexes) t x.slice k (held_more b (b + 0) k.mutexes (omega arith) q) (held_more b (b + 0) k.mutexes (omega arith) q)
   does_hold _ _ _ _ b h (inherits t u m k own same its first) q = held_changed m b (b + 0) (held_by u 1) k.mutexes (omega arith) (λ x e c. omega (arith, h)) q
   does_hold _ _ _ _ b h (holds i t m f k own same x) q = held_changed m b (b + i) f k.mutexes (omega arith) (λ y e c. omega (arith, c, (x y e).count)) q
-  does_hold _ _ _ _ b h (makes recursive protocol k fresh room) q = record {
+  does_hold _ _ _ _ b h (makes t recursive protocol k own fresh room) q = record {
     count = λ m other e. elim (slice_get-push k.mutexes (free_mutex recursive protocol) m other e) [
       | inl there ↦ omega (arith, q.count m other there)
       | inr last ↦ rw last.1 (omega arith)

@@ -75,7 +75,7 @@ module _ (a : Actor) (old k : Parts) (t : ℕ) (own : a.task ≡ Some t) (fresh 
       let f = free.free mutex refl in
       either a old (nat_le MUTEX_LIMIT (length k.mutexes)) _ _ (λ full. same)
       (λ e. let room : length k.mutexes < MUTEX_LIMIT = grind (arith, nat_tests) in
-      up 0 0 _ (omega arith) (omega arith) (rw f.1.1 (quietly a old 0 0 k _ (makes f.0 f.1.0 k fresh room) w)))
+      up 0 0 _ (omega arith) (omega arith) (rw f.1.1 (quietly a old 0 0 k _ (makes t f.0 f.1.0 k own fresh room) w)))
 
   pub makes_mutex : (kind priority : ℕ) → Walk a old 1 32 (new_mutex kind priority k).0
   unfolding new_mutex

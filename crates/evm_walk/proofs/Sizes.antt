@@ -58,7 +58,7 @@ module _ (a : Actor) (old : Parts) where
   does_sizes _ _ _ _ (tells l f k h x) = sized k _ (length-each_from 0 f k.pipes) refl refl refl
   does_sizes _ _ _ _ (clock k x) = sized k _ (length-map k.pipes (raise 0)) refl refl refl
   does_sizes _ _ _ _ (schedules u priority class k fresh x) = sized k _ refl refl refl (length-change _ k.tasks u)
-  does_sizes _ _ _ _ (adds entry value cpu k fresh room) = record {
+  does_sizes _ _ _ _ (adds t entry value cpu k own fresh room) = record {
     pipes = refl;
     processors = refl;
     harts = omega (arith, length-append k.harts (spawned_hart entry value ∷ []));

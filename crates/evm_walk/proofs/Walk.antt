@@ -129,9 +129,9 @@ pub data Does (a : Actor) (old : Parts) : ℕ → ℕ → Parts → Parts → Ty
   clock : (k : Parts) → ((d : ℕ) → a.may d 0 ≡ true) → Does a old 1 0 k (tick k)
   -- another task has another class; a task more, a mutex more, a byte more on the console
   schedules : (u priority : ℕ) (class : Class) (k : Parts) → Untouched old k → Asks a old u priority class → Does a old 0 0 k (set_policy u class priority k)
-  adds : (entry value cpu : ℕ) (k : Parts) → Untouched old k → length k.tasks < TASK_LIMIT → Does a old 0 1 k (add_task entry value cpu k)
-  makes : (recursive : Bool) (protocol : Protocol) (k : Parts) → Untouched old k → length k.mutexes < MUTEX_LIMIT → Does a old 0 0 k (add_mutex (free_mutex recursive protocol) k)
-  types : (byte : ℕ) (k : Parts) → Untouched old k → Does a old 0 0 k (record k { console = last_bytes (k.console ++ byte ∷ []) })
+  adds : (t entry value cpu : ℕ) (k : Parts) → a.task ≡ Some t → Untouched old k → length k.tasks < TASK_LIMIT → Does a old 0 1 k (add_task entry value cpu k)
+  makes : (t : ℕ) (recursive : Bool) (protocol : Protocol) (k : Parts) → a.task ≡ Some t → Untouched old k → length k.mutexes < MUTEX_LIMIT → Does a old 0 0 k (add_mutex (free_mutex recursive protocol) k)
+  types : (t byte : ℕ) (k : Parts) → a.task ≡ Some t → Untouched old k → Does a old 0 0 k (record k { console = last_bytes (k.console ++ byte ∷ []) })
 
 -- one after another, with so much at most
 pub data Walk (a : Actor) (old : Parts) : ℕ → ℕ → Parts → Type 0 where

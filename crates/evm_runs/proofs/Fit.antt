@@ -1,0 +1,178 @@
+-- Counts stay small.
+use Rattle.std.proofs.Common.{◌≡◌, ℕ, ◌+◌, ◌*◌, ◌<◌, ◌≤◌, [], ◌∷◌, ◌++◌, Bool, true, false, Option, Some, None, length, length-append, refl, ap, ◌∙◌, arith, leb-false}
+use Rattle.std.specs.Prelude.{slice_get, count_by, replicate, ◌==◌, nat_lt, if◌then◌else◌}
+use Rattle.std.proofs.lemmas.Bool.Decides.{nat_tests}
+use Rattle.std.proofs.lemmas.List.{length-replicate}
+use Rattle.std.proofs.lemmas.List.Sums.{count_by-le-length}
+use Rattle.evm_exec.specs.declared.hart.Hart.{Hart}
+use Rattle.evm_lines.specs.declared.TheConstants.{LINES}
+use Rattle.evm_model.specs.Bounds.{PER_EVENT, STAMPS_PER_EVENT, PipesUpTo}
+use Rattle.evm_model.specs.Commands.{tick, set_bits, on_number, set_breakpoint, unset_breakpoint}
+use Rattle.evm_model.specs.Good.{is_tick}
+use Rattle.evm_model.specs.Harts.{set_register, set_pc}
+use Rattle.evm_model.specs.Instructions.{stop}
+use Rattle.evm_model.specs.Load.{load_board, start_loaded}
+use Rattle.evm_model.specs.Pipes.{idle_pipe, no_counts, more_if}
+use Rattle.evm_model.specs.Replay.{bad_boot, bad_cpus, bad_ram, bad_capacity, start}
+use Rattle.evm_model.specs.Rows.{row, single_step}
+use Rattle.evm_model.specs.Settle.{current}
+use Rattle.evm_model.specs.State.{State, Board, Parts, booted, booted_parts, on_parts}
+use Rattle.evm_model.specs.declared.boot.Boot.{Boot}
+use Rattle.evm_model.specs.declared.event.Event.{Event}
+use Rattle.evm_model.specs.declared.event.Event.TheVariants.{Step, Tick, Raise, Bell, Stop, Go, StepI, SetReg, SetPc, Poke, Break, Unbreak}
+use Rattle.evm_model.specs.declared.limits.TheConstants.{CAPACITY_LIMIT}
+use Rattle.evm_model.proofs.Lists.{slice_get-replicate}
+use Rattle.evm_walk.proofs.Counted.{walk_counted, PipesUpTo-more}
+use Rattle.evm_walk.proofs.Held.{held_more, walk_holds}
+use Rattle.evm_walk.proofs.Rows.{MOVES, acting, row_walks}
+use Rattle.evm_walk.proofs.Runs.{IsKept, replay_keeps}
+use Rattle.evm_walk.proofs.Sets.{walk_pipes}
+use Rattle.evm_walk.proofs.Walk.{Actor, ArePipes}
+use Rattle.evm_runs.specs.Fit.{CountsFit, IsUncounted, CountsAlwaysFit, CountsAlwaysFitLoaded, CountsAlwaysFitFresh, HoldsFit, HoldsAlwaysFit, HoldsAlwaysFitLoaded, HoldsAlwaysFitFresh}
+use Rattle.evm_runs.proofs.Commands.{row-counts}
+use Rattle.evm_runs.proofs.Runs.{idle_balances, count_last}
+use Rattle.evm_runs.proofs.Steps.{step_done}
+
+-- ---- the clock
+number-ticks : (o : Option ℕ) (f : Hart → Hart) (k : Parts) → (on_number o f k).ticks ≡ k.ticks
+number-ticks None f k = refl
+number-ticks (Some t) f k = refl
+
+row-ticks : (event : Event) (b : Board) → (row event b).0.parts.ticks ≡ more_if (is_tick event) b.parts.ticks
+unfolding row tick stop set_bits single_step set_breakpoint unset_breakpoint
+row-ticks (Step c) b = (step_done c b).changes.ticks
+row-ticks Tick b = refl
+row-ticks (Raise c l) b = refl
+row-ticks (Bell c l) b = refl
+row-ticks (Stop c) b = refl
+row-ticks (Go c) b = refl
+row-ticks (StepI c) b = (step_done c (on_parts (set_bits false true c) b)).changes.ticks
+row-ticks (SetReg c r value) b = number-ticks (current c b.parts) (set_register r value) b.parts
+row-ticks (SetPc c pc) b = number-ticks (current c b.parts) (set_pc pc) b.parts
+row-ticks (Poke address bytes) b = refl
+row-ticks (Break address) b = refl
+row-ticks (Unbreak address) b = refl
+
+-- ---- a run
+record RunFits (boot : Boot) (s : State) : Type 0 where
+  boot_kept : s.boot ≡ boot
+  journal : length s.journal ≤ boot.capacity
+  ticks : s.board.parts.ticks ≡ count_by is_tick s.journal
+  count : length s.board.parts.pipes ≡ boot.cpus
+  pipes : ArePipes s.board.parts
+  counts : PipesUpTo (PER_EVENT * length s.journal) s.board.parts.pipes
+
+fits_kept : (boot : Boot) → IsKept (RunFits boot)
+fits_kept boot = record {
+  accepted = λ s event room e h.
+      let a : Actor = acting event s.board.parts in
+      let t = row_walks event s.board e in
+      let grown : length (s.journal ++ event ∷ []) ≡ length s.journal + 1 = length-append s.journal (event ∷ []) in
+      let within : length s.journal < s.boot.capacity = leb-false s.boot.capacity (length s.journal) room in
+      let same : s.boot.capacity ≡ boot.capacity = ap (λ (x : Boot). x.capacity) h.boot_kept in
+      record {
+        boot_kept = h.boot_kept;
+        journal = omega arith;
+        ticks = rw (count_last is_tick s.journal event) (row-ticks event s.board ∙ ap (more_if (is_tick event)) h.ticks);
+        count = (row-counts event s.board).pipes ∙ h.count;
+        pipes = walk_pipes a s.board.parts MOVES STAMPS_PER_EVENT _ t h.pipes;
+        counts = PipesUpTo-more (PER_EVENT * length s.journal + MOVES) (PER_EVENT * length (s.journal ++ event ∷ [])) _ (omega arith)
+            (walk_counted a s.board.parts MOVES STAMPS_PER_EVENT (PER_EVENT * length s.journal) _ t h.pipes h.counts);
+      };
+}
+
+-- ---- the start
+idle_up : (cpus b : ℕ) → PipesUpTo b (replicate cpus idle_pipe)
+idle_up cpus b = record {
+  each = λ c p e. rw (slice_get-replicate cpus idle_pipe c p e) (record {
+    lines = λ l n g. rw (slice_get-replicate LINES no_counts l n g) (record {
+      raised = omega arith;
+      merged = omega arith;
+      received = omega arith;
+      oob = record { arrivals = omega arith; merged = omega arith; played = omega arith };
+      inband = record { arrivals = omega arith; merged = omega arith; played = omega arith };
+    });
+  });
+}
+
+start_fits : (boot : Boot) (board : Board) → IsUncounted boot board → RunFits boot (record (start boot) { board = board })
+unfolding booted booted_parts
+start_fits boot board u = record {
+  boot_kept = refl;
+  journal = omega arith;
+  ticks = u.ticks;
+  count = ap length u.pipes ∙ length-replicate boot.cpus idle_pipe;
+  pipes = record { each = λ c p e. let there : slice_get (replicate boot.cpus idle_pipe) c ≡ Some p = rw u.pipes at e in rw (slice_get-replicate boot.cpus idle_pipe c p there) idle_balances.pipe };
+  counts = rw u.pipes (idle_up boot.cpus _);
+}
+
+last : (a b c : Bool) → (if a then true else (if b then true else c)) ≡ false → c ≡ false
+last true b c h = cc
+last false true c h = cc
+last false false c h = h
+
+second : (a b : Bool) → (if a then true else b) ≡ false → b ≡ false
+second true b h = cc
+second false b h = h
+
+capacity_up : (boot : Boot) → bad_boot boot ≡ false → boot.capacity ≤ CAPACITY_LIMIT
+capacity_up boot good =
+    let few : nat_lt CAPACITY_LIMIT boot.capacity ≡ false = second (boot.capacity == 0) (nat_lt CAPACITY_LIMIT boot.capacity) (last (bad_cpus boot.cpus) (bad_ram boot.ram) (bad_capacity boot.capacity) good) in grind (arith, nat_tests)
+
+run_fits : (boot : Boot) (s : State) → bad_boot boot ≡ false → RunFits boot s → CountsFit s
+run_fits boot s good h =
+    let capacity = capacity_up boot good in
+    let j = h.journal in record {
+      journal = rw h.boot_kept h.journal;
+      small = omega arith;
+      ticks = h.ticks;
+      few_ticks = omega (arith, h.ticks, count_by-le-length is_tick s.journal);
+      pipes = rw h.boot_kept h.count;
+      lines = λ c p e. (h.pipes.each c p e).counts;
+      counts = h.counts;
+    }
+
+pub counts_always_fit_fresh : CountsAlwaysFitFresh
+counts_always_fit_fresh boot board good u events =
+    let first : State = record (start boot) { board = board } in run_fits boot _ good (replay_keeps (RunFits boot) first events (fits_kept boot) (start_fits boot board u))
+
+pub counts_always_fit : CountsAlwaysFit
+unfolding booted booted_parts
+counts_always_fit boot good = counts_always_fit_fresh boot (start boot).board good (record { pipes = refl; ticks = refl })
+
+pub counts_always_fit_loaded : CountsAlwaysFitLoaded
+unfolding booted booted_parts load_board
+counts_always_fit_loaded byte entry boot good = counts_always_fit_fresh boot (start_loaded byte entry boot).board good (record { pipes = refl; ticks = refl })
+
+-- ---- how often mutexes are locked
+record RunHolds (s : State) : Type 0 where
+  pipes : ArePipes s.board.parts
+  holds : HoldsFit s
+
+holds_kept : IsKept RunHolds
+holds_kept = record {
+  accepted = λ s event room e h.
+      let a : Actor = acting event s.board.parts in
+      let t = row_walks event s.board e in
+      let before : ℕ = PER_EVENT * length s.journal in
+      let grown : length (s.journal ++ event ∷ []) ≡ length s.journal + 1 = length-append s.journal (event ∷ []) in
+      record {
+        pipes = walk_pipes a s.board.parts MOVES STAMPS_PER_EVENT _ t h.pipes;
+        holds = held_more (before + 1 + MOVES) (PER_EVENT * length (s.journal ++ event ∷ [])) _ (omega arith)
+            (walk_holds a s.board.parts MOVES STAMPS_PER_EVENT _ (before + 1) h.pipes (omega arith) t (held_more before (before + 1) s.board.parts.mutexes (omega arith) h.holds));
+      };
+}
+
+pub holds_always_fit_fresh : HoldsAlwaysFitFresh
+holds_always_fit_fresh boot board u none events =
+    let first : State = record (start boot) { board = board } in
+    let begins : RunHolds first = record { pipes = (start_fits boot board u).pipes; holds = rw none (record { count = λ m mutex e. cc }) } in
+    (replay_keeps RunHolds first events holds_kept begins).holds
+
+pub holds_always_fit : HoldsAlwaysFit
+unfolding booted booted_parts
+holds_always_fit boot = holds_always_fit_fresh boot (start boot).board (record { pipes = refl; ticks = refl }) refl
+
+pub holds_always_fit_loaded : HoldsAlwaysFitLoaded
+unfolding booted booted_parts load_board
+holds_always_fit_loaded byte entry boot = holds_always_fit_fresh boot (start_loaded byte entry boot).board (record { pipes = refl; ticks = refl }) refl

@@ -1,0 +1,268 @@
+-- What a step changes, and how many there are of each afterwards.
+use Rattle.std.proofs.Common.{◌≡◌, ℕ, ◌+◌, ◌≤◌, List, [], ◌∷◌, Bool, true, false, not, Option, Some, None, length, ◌⊎◌, inl, inr, refl, ap, sym, ◌∙◌, subst, arith}
+use Rattle.std.specs.Prelude.{slice_get, option_map, is_none, ◌==◌, if◌then◌else◌}
+use Rattle.evm_lines.specs.Lines.{has_line, least_line}
+use Rattle.evm_exec.specs.declared.hart.Hart.{Hart}
+use Rattle.evm_ram.specs.Laws.{length-write_at}
+use Rattle.evm_model.specs.Harts.{argument}
+use Rattle.evm_model.specs.Memory.{fetch}
+use Rattle.evm_model.specs.OobCalls.{is_scheduled_task}
+use Rattle.evm_model.specs.Pipes.{Pipe, raise}
+use Rattle.evm_model.specs.Rows.{step}
+use Rattle.evm_model.specs.Settle.{current, nudge, nudge_pipe, wants_nudge}
+use Rattle.evm_model.specs.State.{Board, Memory, Parts}
+use Rattle.evm_model.specs.declared.limits.TheConstants.{SLICE, TASK_LIMIT}
+use Rattle.evm_model.specs.declared.mutex.Mutex.{Mutex}
+use Rattle.evm_model.specs.declared.task.Task.{Task}
+use Rattle.evm_model.proofs.Lists.{slice_get-each}
+use Rattle.evm_walk.proofs.Rows.{word_calls, MaySteps, Stepped, steps, stepped_walk}
+use Rattle.evm_walk.proofs.Sizes.{walk_sizes, walk_least, walk_ticks}
+use Rattle.evm_walk.proofs.Walk.{Actor, Untouched, Walk, start}
+use Rattle.evm_runs.specs.Changes.{StoreWrites, Inherits, StaysBy, Spends, MutexChanges, MutexesStay, Schedules, Hears, StepChanges, Added}
+use Rattle.evm_runs.specs.Kept.{AllHaveRegisters}
+use Rattle.evm_runs.proofs.Added.{walk_registers, walk_added, walk_made, walk_mutexes, walk_typed, walk_processors, walk_other_pipes}
+use Rattle.evm_runs.proofs.Frames.{one_change, Fares, Asked, Frame, walk_frame}
+use Rattle.evm_runs.proofs.Instructions.{Calls, called, Writes, step_writes}
+
+-- as many of each, but for tasks, of which there may be more, a hart for each; and tasks keep their registers
+pub record SameCounts (old new : Board) : Type 0 where
+  pub processors : length new.parts.processors ≡ length old.parts.processors
+  pub pipes : length new.parts.pipes ≡ length old.parts.pipes
+  pub ram : length new.memory.ram ≡ length old.memory.ram
+  pub tasks : length old.parts.tasks ≤ length new.parts.tasks
+  pub harts : length old.parts.harts ≤ length new.parts.harts
+  pub few_tasks : length old.parts.tasks ≤ TASK_LIMIT → length new.parts.tasks ≤ TASK_LIMIT
+  pub a_hart_each : length old.parts.harts ≡ length old.parts.tasks → length new.parts.harts ≡ length new.parts.tasks
+  pub registers : AllHaveRegisters old.parts.harts → AllHaveRegisters new.parts.harts
+
+pub same_then : (x y z : Board) → SameCounts x y → SameCounts y z → SameCounts x z
+same_then x y z p q = record {
+  processors = q.processors ∙ p.processors;
+  pipes = q.pipes ∙ p.pipes;
+  ram = q.ram ∙ p.ram;
+  tasks = omega (arith, p.tasks, q.tasks);
+  harts = omega (arith, p.harts, q.harts);
+  few_tasks = λ few. q.few_tasks (p.few_tasks few);
+  a_hart_each = λ each. q.a_hart_each (p.a_hart_each each);
+  registers = λ h. q.registers (p.registers h);
+}
+
+each_more : (x y : Parts) → Added x y → length x.harts ≡ length x.tasks → length y.harts ≡ length y.tasks
+each_more x y p each = elim p [
+  | inl same ↦ same.1 ∙ each ∙ sym same.0
+  | inr a ↦ a.harts ∙ ap (λ n. n + 1) each ∙ sym a.tasks
+]
+
+ram_count : (c : ℕ) (old new : Board) → (new.memory ≡ old.memory) ⊎ StoreWrites c old new → length new.memory.ram ≡ length old.memory.ram
+ram_count c old new (inl same) = ap (λ (m : Memory). length m.ram) same
+ram_count c old new (inr w) = length-write_at old.memory.ram w.address w.width w.value new.memory.ram w.ram
+
+-- ---- the others are told
+told_if : (own wants : Bool) (p : Pipe) → (Some (if own then p else (if wants then raise 1 p else p)) ≡ Some p) ⊎ (Some (if own then p else (if wants then raise 1 p else p)) ≡ Some (raise 1 p))
+told_if true wants p = inl refl
+told_if false true p = inr refl
+told_if false false p = inl refl
+
+told : (c d : ℕ) (k : Parts) (o : Option Pipe) → (option_map (nudge_pipe c k d) o ≡ o) ⊎ (option_map (nudge_pipe c k d) o ≡ option_map (raise 1) o)
+told c d k None = inl refl
+told c d k (Some p) = told_if (d == c) (wants_nudge d p k) p
+
+nudged : (c d : ℕ) (k : Parts) → (slice_get (nudge c k).pipes d ≡ slice_get k.pipes d) ⊎ (slice_get (nudge c k).pipes d ≡ option_map (raise 1) (slice_get k.pipes d))
+unfolding nudge
+nudged c d k = elim (told c d k (slice_get k.pipes d)) [
+  | inl same ↦ inl (slice_get-each (nudge_pipe c k) k.pipes d ∙ same)
+  | inr raised ↦ inr (slice_get-each (nudge_pipe c k) k.pipes d ∙ raised)
+]
+
+-- ---- who acts in a step
+abbrev pub hart_calls : Option Hart → Memory → Bool
+hart_calls None m = false
+hart_calls (Some x) m = word_calls (fetch x.pc m) x
+
+abbrev pub task_calls : Option ℕ → Board → Bool
+task_calls None b = false
+task_calls (Some t) b = hart_calls (slice_get b.parts.harts t) b.memory
+
+-- whether a line is on the wire
+abbrev pub hears : Option Pipe → Bool
+hears None = false
+hears (Some p) = not (is_none (least_line p.wire))
+
+no_line : (wire : List ℕ) (l : ℕ) → not (is_none (least_line wire)) ≡ false → has_line wire l ≡ true → ⊥
+no_line [] l e h = cc
+no_line (x ∷ xs) l e h = cc
+
+deaf : (c : ℕ) (k : Parts) → hears (slice_get k.pipes c) ≡ false → Hears c k → ⊥
+deaf c k e h = no_line h.pipe.wire h.line (sym (ap hears h.there) ∙ e) h.on
+
+not_heard : (pipe : Pipe) (o : Option Pipe) → o ≡ Some pipe → hears o ≡ true → least_line pipe.wire ≡ None → ⊥
+not_heard pipe o e h w = let no : false ≡ true = sym (ap (λ (x : Option ℕ). not (is_none x)) w) ∙ sym (ap hears e) ∙ h in cc
+
+abbrev actor : ℕ → Option ℕ → Bool → Bool → Actor
+actor c o loud calls = record { cpu = c; task = o; may = λ d l. if loud then l == 1 else false; chooses = true; calls = calls }
+
+pub record StepDone (c : ℕ) (old new : Board) : Type 0 where
+  pub changes : StepChanges c old new
+  pub counts : SameCounts old new
+
+untouched : (k : Parts) → Untouched k k
+untouched k = record { tasks = refl; harts = refl; mutexes = refl; console = refl }
+
+module _ (c : ℕ) (b : Board) where
+  abbrev new : Board
+  new = (step c b).0
+
+  -- ---- whoever acts
+  module _ (o : Option ℕ) (calls : Bool) (m : (loud : Bool) → MaySteps (actor c o loud calls) b) where
+    walk : Walk (actor c o true calls) b.parts 66 2113 new.parts
+    walk = stepped_walk (actor c o true calls) b.parts new.parts (λ d. refl) (steps (actor c o true calls) b.parts b (m true) (untouched b.parts) refl start)
+
+    other_pipes : (d : ℕ) → (d ≡ c → ⊥) → (slice_get new.parts.pipes d ≡ slice_get b.parts.pipes d) ⊎ (slice_get new.parts.pipes d ≡ option_map (raise 1) (slice_get b.parts.pipes d))
+    other_pipes d other =
+        let t : Stepped (actor c o false calls) b.parts new.parts = steps (actor c o false calls) b.parts b (m false) (untouched b.parts) refl start in
+        let before : slice_get t.between.pipes d ≡ slice_get b.parts.pipes d = walk_other_pipes (actor c o false calls) b.parts d other (λ e l. refl) 65 2113 t.between t.walk in
+        elim t.told [
+          | inl same ↦ inl (ap (λ (k : Parts). slice_get k.pipes d) same ∙ before)
+          | inr nudges ↦ elim (nudged c d t.between) [
+            | inl same ↦ inl (ap (λ (k : Parts). slice_get k.pipes d) nudges ∙ same ∙ before)
+            | inr raised ↦ inr (ap (λ (k : Parts). slice_get k.pipes d) nudges ∙ raised ∙ ap (option_map (raise 1)) before)
+          ]
+        ]
+
+    counted : SameCounts b new
+    counted =
+        let s = walk_sizes (actor c o true calls) b.parts 66 2113 new.parts walk in
+        record {
+          processors = s.processors;
+          pipes = s.pipes;
+          ram = ram_count c b new (step_writes c b).memory;
+          tasks = s.tasks;
+          harts = s.harts;
+          few_tasks = s.few;
+          a_hart_each = each_more b.parts new.parts (walk_added (actor c o true calls) b.parts 66 2113 new.parts walk);
+          registers = walk_registers (actor c o true calls) b.parts 66 2113 new.parts walk;
+        }
+
+    framed : ((g : ℕ) → o ≡ Some g → current c b.parts ≡ Some g) → Frame (actor c o true calls) b.parts new.parts
+    framed acts = walk_frame (actor c o true calls) b.parts acts 66 2113 new.parts walk
+
+    changes : (f : Frame (actor c o true calls) b.parts new.parts) → (f.asked ≡ b.parts.tasks) ⊎ Schedules c b f.asked
+        → ((t : ℕ) → (current c b.parts ≡ Some t → ⊥) → StaysBy (current c b.parts) c t (record b.parts { tasks = f.asked }) new.parts) → MutexesStay (current c b.parts) b.parts.mutexes new.parts.mutexes
+        → (Hears c b.parts → (f.asked ≡ b.parts.tasks) × ((t : ℕ) → current c b.parts ≡ Some t → StaysBy None c t b.parts new.parts ⊎ Spends c t b.parts new.parts) × (new.parts.mutexes ≡ b.parts.mutexes))
+        → StepDone c b new
+    changes f scheduled others mutexes hears = record {
+      changes = record {
+        asked = f.asked;
+        scheduled = scheduled;
+        breakpoints = (step_writes c b).breakpoints;
+        memory = (step_writes c b).memory;
+        ticks = walk_ticks (actor c o true calls) b.parts 66 2113 new.parts refl walk;
+        stamps = walk_least (actor c o true calls) b.parts 66 2113 new.parts walk;
+        processors = λ d other. walk_processors (actor c o true calls) b.parts d other 66 2113 new.parts walk;
+        pipes = other_pipes;
+        others = others;
+        mutexes = mutexes;
+        hears = hears;
+        added = walk_added (actor c o true calls) b.parts 66 2113 new.parts walk;
+        made = walk_made (actor c o true calls) b.parts 66 2113 new.parts walk;
+        typed = walk_typed (actor c o true calls) b.parts 66 2113 new.parts walk;
+      };
+      counts = counted;
+    }
+
+  -- ---- a line is on the wire: no task acts
+  others_wider : (o : Option ℕ) (t : ℕ) (x y : Parts) → StaysBy None c t x y → StaysBy o c t x y
+  others_wider o t x y (inl r) = inl r
+  others_wider o t x y (inr (inl w)) = inr (inl w)
+  others_wider o t x y (inr (inr i)) = let no = i.held in cc
+
+  whose_wider : (o found : Option ℕ) → (found ≡ None) ⊎ (found ≡ None) → (found ≡ None) ⊎ (found ≡ o)
+  whose_wider o found (inl none) = inl none
+  whose_wider o found (inr none) = inl none
+
+  mutexes_wider : (o : Option ℕ) (x y : List Mutex) → MutexesStay None x y → MutexesStay o x y
+  mutexes_wider o x y s m before e = elim (s m before e) [
+    | inl same ↦ inl same
+    | inr g ↦ inr (record { after = g.after; there = g.there; kind = g.kind; whose = whose_wider o before.owner g.whose })
+  ]
+
+  unasked : (f : Frame (actor c None true true) b.parts new.parts) → f.asked ≡ b.parts.tasks
+  unasked f = elim f.scheduled [
+    | inl same ↦ same
+    | inr q ↦ let no = q.asks.acts in cc
+  ]
+
+  stays : (t : ℕ) (x y : Parts) → (current c x ≡ Some t → ⊥) → StaysBy None c t x y ⊎ Spends c t x y → StaysBy (current c x) c t x y
+  stays t x y away (inl p) = others_wider (current c x) t x y p
+  stays t x y away (inr q) = absurd (away q.runs)
+
+  heard : hears (slice_get b.parts.pipes c) ≡ true → StepDone c b new
+  heard e =
+      let m : (loud : Bool) → MaySteps (actor c None loud true) b = λ loud. record {
+        chooses = refl;
+        acts = λ pipe there wire. absurd (not_heard pipe (slice_get b.parts.pipes c) there e wire);
+        calls = λ t x now has word. refl;
+      } in
+      let f : Frame (actor c None true true) b.parts new.parts = framed None true m (λ g h. cc) in
+      changes None true m f (inl (unasked f))
+      (λ t away. stays t (record b.parts { tasks = f.asked }) new.parts away (f.others t (λ h. cc)))
+      (mutexes_wider (current c b.parts) b.parts.mutexes new.parts.mutexes f.mutexes)
+      (λ line. (
+        unasked f,
+        (λ t now. subst (λ (all : List Task). Fares (actor c None true true) t (record b.parts { tasks = all }) new.parts) (unasked f) (f.others t (λ h. cc))),
+        walk_mutexes (actor c None true true) b.parts 66 2113 new.parts refl (walk None true m),
+      ))
+
+  -- ---- none is: the current task acts
+  asked_call : (x : Hart) (t : ℕ) → current c b.parts ≡ Some t → slice_get b.parts.harts t ≡ Some x → task_calls (current c b.parts) b ≡ true → Calls x b.memory
+  asked_call x t now has e = called x b.memory (sym (ap (λ (o : Option Hart). hart_calls o b.memory) has) ∙ sym (ap (λ (o : Option ℕ). task_calls o b) now) ∙ e)
+
+  scheduled : (asked : List Task) → Asked (actor c (current c b.parts) true (task_calls (current c b.parts) b)) b.parts asked → Schedules c b asked
+  scheduled asked q =
+      let k = q.asks in
+      let x = asked_call k.hart k.task k.acts k.has k.calls in
+      record {
+        task = k.task;
+        hart = k.hart;
+        word = x.word;
+        inst = x.inst;
+        class = q.class;
+        runs = k.acts;
+        has = k.has;
+        on = k.on;
+        fetched = x.fetched;
+        decodes = x.decodes;
+        calls = x.calls;
+        number = k.number;
+        live = rw (← k.names) k.live;
+        policy = rw (← k.asks) k.policy;
+        tasks = rw (q.tasks, ← k.names, ← k.asks) (one_change q.names (λ task. record task { class = q.class; priority = q.priority; slice = SLICE }) b.parts.tasks);
+      }
+
+  unheard : hears (slice_get b.parts.pipes c) ≡ false → StepDone c b new
+  unheard e =
+      let o : Option ℕ = current c b.parts in
+      let calls : Bool = task_calls o b in
+      let m : (loud : Bool) → MaySteps (actor c o loud calls) b = λ loud. record {
+        chooses = refl;
+        acts = λ pipe there wire. refl;
+        calls = λ t x now has word. ap (λ (o : Option ℕ). task_calls o b) now ∙ ap (λ (o : Option Hart). hart_calls o b.memory) has ∙ word;
+      } in
+      let f : Frame (actor c o true calls) b.parts new.parts = framed o calls m (λ g h. h) in
+      changes o calls m f
+      (elim f.scheduled [
+        | inl same ↦ inl same
+        | inr q ↦ inr (scheduled f.asked q)
+      ])
+      (λ t away. elim (f.others t away) [
+        | inl p ↦ p
+        | inr q ↦ absurd (away q.runs)
+      ])
+      f.mutexes (λ line. absurd (deaf c b.parts e line))
+
+  step_if : (line : Bool) → hears (slice_get b.parts.pipes c) ≡ line → StepDone c b new
+  step_if true e = heard e
+  step_if false e = unheard e
+
+  pub step_done : StepDone c b new
+  step_done = step_if (hears (slice_get b.parts.pipes c)) refl
