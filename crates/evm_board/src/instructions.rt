@@ -8,6 +8,7 @@ ghost use Rattle.evm_model.specs.State.{on_parts};
 ghost use Rattle.evm_board.specs.Wants.{wants, follow};
 ghost use Rattle.evm_rules.proofs.Bounded.{AreWithin};
 ghost use Rattle.evm_rules.proofs.Private.{IsClear};
+ghost use Rattle.evm_walk.proofs.Walk.{AreFew};
 
 use crate::board::Board;
 use crate::memory::Memory;
@@ -15,7 +16,7 @@ use crate::quiet::{advance_quietly, jump_quietly, load_quietly, stop_quietly};
 use evm_calls::call::call;
 use evm_exec::{Effect, Hart, effect, load_width, loaded};
 use evm_isa::decode;
-use evm_model::{Fault, MUTEX_LIMIT, TaskState};
+use evm_model::{Fault, TaskState};
 use evm_parts::Parts;
 use evm_settle::settle_and_nudge;
 
@@ -36,7 +37,7 @@ fn fault(parts: &mut Parts, c: u8, t: u8, reason: Fault)
 fn fault_and_settle(parts: &mut Parts, c: u8, t: u8, reason: Fault)
     requires room { AreWithin (2 ^ 61) parts.old }
     requires stamps { parts.old.stamps ≤ 2 ^ 60 }
-    requires few { length parts.old.mutexes ≤ MUTEX_LIMIT }
+    requires few { AreFew parts.old }
     ensures { parts.new ≡ settle_and_nudge c (fault c t reason parts.old) }
 {
     fault(parts, c, t, reason);
@@ -49,7 +50,7 @@ fn call_and_settle(parts: &mut Parts, c: u8, t: u8)
     requires room { AreWithin (2 ^ 61) parts.old }
     requires stamps { parts.old.stamps ≤ 2 ^ 60 }
     requires held { HeldUpTo (2 ^ 62) parts.old.mutexes }
-    requires few { length parts.old.mutexes ≤ MUTEX_LIMIT }
+    requires few { AreFew parts.old }
     requires harts { length parts.old.harts ≡ length parts.old.tasks }
     ensures { parts.new ≡ settle_and_nudge c (call c t parts.old) }
 {
