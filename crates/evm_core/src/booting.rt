@@ -142,11 +142,20 @@ impl Machine {
     pub fn boot(alloc: Global, cpus: u8, ram: u64, capacity: u32) -> Result<Machine, Refusal>
         ensures { BootAnswers (record { cpus = cpus; ram = ram; capacity = capacity }) result }
     {
-        let boot = Boot {
-            cpus: u64::from(cpus),
-            ram,
-            capacity: u64::from(capacity),
-        };
+        Machine::from_boot(
+            alloc,
+            Boot {
+                cpus: u64::from(cpus),
+                ram,
+                capacity: u64::from(capacity),
+            },
+        )
+    }
+
+    /// The same of the numbers of a boot line, which may be any.
+    pub fn from_boot(alloc: Global, boot: Boot) -> Result<Machine, Refusal>
+        ensures { BootAnswers boot result }
+    {
         if is_bad(&boot) {
             return Err(Refusal::BadSize);
         }

@@ -11,7 +11,7 @@ use Rattle.evm_model.specs.Ranks.{best, is_in_ready}
 use Rattle.evm_model.specs.Replay.{bad_boot}
 use Rattle.evm_model.specs.Settle.{is_oob}
 use Rattle.evm_model.specs.State.{State, Parts, profile_of}
-use Rattle.evm_model.specs.declared.event.Event.{Event}
+use Rattle.evm_model.specs.Event.{Event}
 use Rattle.evm_model.specs.declared.event.Event.TheVariants.{Tick}
 use Rattle.evm_model.specs.declared.limits.TheConstants.{MUTEX_LIMIT, PROCESSOR_LIMIT, TASK_LIMIT}
 use Rattle.evm_model.specs.declared.mutex.Mutex.{Mutex}

@@ -2,11 +2,13 @@ pub mod Bounds
 pub mod Calls
 pub mod Commands
 pub mod Errnos
+pub mod Event
 pub mod Faults
 pub mod Good
 pub mod Harts
 pub mod InBandCalls
 pub mod Instructions
+pub mod Kinds
 pub mod Lists
 pub mod Load
 pub mod Locks

@@ -19,7 +19,7 @@ pub use boot::Boot;
 pub use call::{Call, Outcome};
 pub use counts::{Counts, Passage};
 pub use errno::Errno;
-pub use event::{Answer, Event};
+pub use event::{Answer, Block, Event, NoBytes, copied, kinds_add_up};
 pub use fault::Fault;
 pub use limits::{
     BREAKPOINT_LIMIT, CAPACITY_LIMIT, CONSOLE_LIMIT, MODE_LIMIT, MUTEX_LIMIT, POKE_LIMIT,

@@ -26,7 +26,7 @@ use Rattle.evm_model.specs.Rows.{run, step_hart, step_current, step_wire, step_p
 use Rattle.evm_model.specs.Settle.{current, current_of}
 use Rattle.evm_model.specs.State.{Parts, Memory, Board, on_hart, on_processor, on_pipe, on_parts}
 use Rattle.evm_model.specs.declared.event.Answer.TheVariants.{Stopped, Hit}
-use Rattle.evm_model.specs.declared.event.Event.{Event}
+use Rattle.evm_model.specs.Event.{Event}
 use Rattle.evm_model.specs.declared.event.Event.TheVariants.{Step, Tick, Raise, Bell, Stop, Go, StepI, SetReg, SetPc, Poke, Break as Set_break, Unbreak}
 use Rattle.evm_model.specs.declared.mutex.Mutex.{Mutex}
 use Rattle.evm_model.specs.declared.processor.Processor.{Processor}

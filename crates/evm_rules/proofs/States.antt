@@ -24,7 +24,7 @@ use Rattle.evm_model.specs.Settle.{current, is_oob}
 use Rattle.evm_model.specs.State.{State, Parts, Board, booted, booted_parts, first_processor, first_task, profile_of}
 use Rattle.evm_model.specs.declared.boot.Boot.{Boot}
 use Rattle.evm_model.specs.declared.event.Answer.{Answer}
-use Rattle.evm_model.specs.declared.event.Event.{Event}
+use Rattle.evm_model.specs.Event.{Event}
 use Rattle.evm_model.specs.declared.event.Event.TheVariants.{Step, Tick, Raise, Bell, Stop, Go, StepI, SetReg, SetPc, Poke, Break, Unbreak}
 use Rattle.evm_model.specs.declared.limits.TheConstants.{PROCESSOR_LIMIT, CAPACITY_LIMIT}
 use Rattle.evm_model.specs.declared.processor.Processor.{Processor}

@@ -207,7 +207,7 @@ wait-lockless : (l : ℕ) (state : TaskState) → is_wait_for (Line l) state ≡
 wait-lockless l (Waits (Line m)) e = refl
 wait-lockless l _ e = cc
 
-wait-wakes : (l : ℕ) (returns : Bool) (state : TaskState) → is_wait_for (Line l) state ≡ true → is_oob_ready (woken_state returns state) ≡ false
+pub wait-wakes : (l : ℕ) (returns : Bool) (state : TaskState) → is_wait_for (Line l) state ≡ true → is_oob_ready (woken_state returns state) ≡ false
 wait-wakes l returns (Waits (Line m)) e = refl
 wait-wakes l returns _ e = cc
 

@@ -1,0 +1,368 @@
+/*
+ * evl.h - the calls of the emulated EVL core, for C programs.
+ *
+ * Each call of docs/CALLS.md is an inline function here. A call that means what a function of libevl means has
+ * that function's name; a comment says where it differs. docs/EVL.md compares the two in full.
+ *
+ * A call returns a number of 0 or above, or a negated errno. Nothing sets a variable `errno`.
+ */
+#ifndef EVL_H
+#define EVL_H
+
+/* Errnos. A call that is refused returns one of them, negated. */
+#define EVL_EPERM 1    /* not permitted: no class, a stalled stage, or not the owner */
+#define EVL_ESRCH 3    /* no such task */
+#define EVL_ENOMEM 12  /* all numbers of this kind are used */
+#define EVL_EBUSY 16   /* busy: has a class already, owns a mutex, or is owned by another task */
+#define EVL_EINVAL 22  /* an argument out of range, or no such object */
+#define EVL_EDEADLK 35 /* the wait would never end */
+#define EVL_ENOSYS 38  /* no such call */
+
+/* Limits. */
+#define EVL_TASKS 64   /* tasks, task 0 among them */
+#define EVL_MUTEXES 32 /* mutexes */
+#define EVL_LINES 32   /* interrupt lines of a processor */
+
+/* Interrupt lines with a meaning of their own. */
+#define EVL_TIMER_LINE 0
+#define EVL_RESCHEDULE_LINE 1
+
+/* Classes of evl_attach_self() and evl_set_schedattr(). */
+#define EVL_FIFO 1 /* first in first out, priority 1 to 99 */
+#define EVL_RR 2   /* round robin, priority 1 to 99, slices of 4 ticks */
+#define EVL_WEAK 3 /* weak, priority 0 to 99, below the other two */
+
+/* Mode bits of evl_set_thread_mode(). */
+#define EVL_T_WOSS 1
+#define EVL_T_WOLI 2
+
+/* Kinds of evl_create_mutex(): a protocol, and EVL_MUTEX_RECURSIVE. */
+#define EVL_MUTEX_INHERITANCE 0
+#define EVL_MUTEX_CEILING 2
+#define EVL_MUTEX_NORMAL 0
+#define EVL_MUTEX_RECURSIVE 1
+
+/* Bits of evl_state(). */
+#define EVL_STATE_OOB 1      /* the task is out-of-band */
+#define EVL_STATE_ATTACHED 2 /* the task has a class */
+#define EVL_STATE_STALLED 4  /* the stage that the task is on is stalled */
+
+/*
+ * The ECALL: the number in a7, arguments from a0 on, the answer in a0. No other register changes. Other tasks may
+ * run before it returns, so memory may change.
+ */
+static inline __attribute__((always_inline)) long evl_call0(long number)
+{
+	register long a7 __asm__("a7") = number;
+	register long a0 __asm__("a0");
+
+	__asm__ volatile("ecall" : "=r"(a0) : "r"(a7) : "memory");
+	return a0;
+}
+
+static inline __attribute__((always_inline)) long evl_call1(long number, long first)
+{
+	register long a7 __asm__("a7") = number;
+	register long a0 __asm__("a0") = first;
+
+	__asm__ volatile("ecall" : "+r"(a0) : "r"(a7) : "memory");
+	return a0;
+}
+
+static inline __attribute__((always_inline)) long evl_call2(long number, long first, long second)
+{
+	register long a7 __asm__("a7") = number;
+	register long a0 __asm__("a0") = first;
+	register long a1 __asm__("a1") = second;
+
+	__asm__ volatile("ecall" : "+r"(a0) : "r"(a7), "r"(a1) : "memory");
+	return a0;
+}
+
+static inline __attribute__((always_inline)) long evl_call3(long number, long first, long second, long third)
+{
+	register long a7 __asm__("a7") = number;
+	register long a0 __asm__("a0") = first;
+	register long a1 __asm__("a1") = second;
+	register long a2 __asm__("a2") = third;
+
+	__asm__ volatile("ecall" : "+r"(a0) : "r"(a7), "r"(a1), "r"(a2) : "memory");
+	return a0;
+}
+
+/* ---- In-band calls. An out-of-band task that makes one goes in-band first. */
+
+/* The task ends. Its mutexes pass on. libevl: a thread returns from its function. */
+static inline __attribute__((noreturn)) void evl_exit(void)
+{
+	for (;;)
+		evl_call0(0);
+}
+
+/* A byte to the console. libevl: evl_printf(), which stays out-of-band; this call doesn't. */
+static inline long evl_putc(int byte)
+{
+	return evl_call1(1, byte);
+}
+
+/* Behind the other tasks that are ready in-band on the processor. Linux: sched_yield(). */
+static inline long evl_yield_inband(void)
+{
+	return evl_call0(2);
+}
+
+/*
+ * A new task on a processor, which begins at `entry` with `value` in a0 and all other registers 0, sp among them.
+ * So `entry` can't be a C function: use evl_create(). Returns the task's number.
+ */
+static inline long evl_spawn(const void *entry, long value, long cpu)
+{
+	return evl_call3(3, (long)entry, value, cpu);
+}
+
+/* The in-band stage of the processor plays no lines. Returns the old bit. Dovetail: stall_inband(). */
+static inline long evl_stall_inband(void)
+{
+	return evl_call0(4);
+}
+
+/* It plays lines again. Returns the old bit. Dovetail: unstall_inband(). */
+static inline long evl_unstall_inband(void)
+{
+	return evl_call0(5);
+}
+
+/*
+ * Waits until the line is played in-band on this processor. A line that was played before isn't kept.
+ * libevl has no such call: there a driver's handler posts a semaphore or flags.
+ */
+static inline long evl_wait_line(long line)
+{
+	return evl_call1(6, line);
+}
+
+/*
+ * The task gets a class and a priority, and may go out-of-band.
+ * libevl: takes a name, and gives SCHED_WEAK 0; the class comes from pthread_setschedparam() or evl_set_schedattr().
+ */
+static inline long evl_attach_self(long sched_class, long priority)
+{
+	return evl_call2(7, sched_class, priority);
+}
+
+/* The task has no class any more. -EVL_EBUSY while it owns a mutex. */
+static inline long evl_detach_self(void)
+{
+	return evl_call0(8);
+}
+
+/*
+ * A new mutex; returns its number, which the calls below take. The ceiling counts with EVL_MUTEX_CEILING alone.
+ * libevl: fills a struct evl_mutex, and takes a clock and a name; a ceiling of 0 there means inheritance.
+ */
+static inline long evl_create_mutex(long kind, long ceiling)
+{
+	return evl_call2(9, kind, ceiling);
+}
+
+/* Reserved: action 0 is all that a line can have today. */
+static inline long evl_set_line(long line, long action, long object)
+{
+	return evl_call3(14, line, action, object);
+}
+
+/* ---- Out-of-band calls. An in-band task that has a class goes out-of-band first. */
+
+static inline long evl_switch_oob(void)
+{
+	return evl_call0(32);
+}
+
+/* -EVL_EPERM while out-of-band is stalled. */
+static inline long evl_switch_inband(void)
+{
+	return evl_call0(33);
+}
+
+/* The class and the priority of a task, by its number. libevl: takes a file descriptor and a struct. */
+static inline long evl_set_schedattr(long task, long sched_class, long priority)
+{
+	return evl_call3(34, task, sched_class, priority);
+}
+
+/*
+ * The mode bits of the calling task become `bits`; returns the old ones. They are kept, and nothing acts on them yet.
+ * libevl: sets bits of any thread, and evl_clear_thread_mode() clears them.
+ */
+static inline long evl_set_thread_mode(long bits)
+{
+	return evl_call1(35, bits);
+}
+
+static inline long evl_lock_mutex(long mutex)
+{
+	return evl_call2(36, mutex, 0);
+}
+
+/*
+ * Reserved: a deadline that isn't 0 is refused where the task would have to wait.
+ * libevl: a struct timespec of the mutex's clock.
+ */
+static inline long evl_timedlock_mutex(long mutex, long deadline)
+{
+	return evl_call2(36, mutex, deadline);
+}
+
+/* -EVL_EBUSY where another task owns it; that is EBUSY with libevl too. */
+static inline long evl_trylock_mutex(long mutex)
+{
+	return evl_call1(37, mutex);
+}
+
+static inline long evl_unlock_mutex(long mutex)
+{
+	return evl_call1(38, mutex);
+}
+
+/* Behind the others of its rank that are ready out-of-band on the processor. */
+static inline long evl_yield(void)
+{
+	return evl_call0(50);
+}
+
+/* The out-of-band stage of the processor plays no lines, and this task stays current. Dovetail: stall_oob(). */
+static inline long evl_stall_oob(void)
+{
+	return evl_call0(51);
+}
+
+/* It plays lines again. Returns the old bit. Dovetail: unstall_oob(). */
+static inline long evl_unstall_oob(void)
+{
+	return evl_call0(52);
+}
+
+/* ---- Calls of either stage. */
+
+/* Ticks since boot. libevl: fills a struct timespec of a clock. */
+static inline long evl_read_clock(void)
+{
+	return evl_call0(53);
+}
+
+/* A sum of EVL_STATE_ bits of the calling task. libevl: evl_get_state() of any thread. */
+static inline long evl_state(void)
+{
+	return evl_call0(54);
+}
+
+static inline int evl_is_inband(void)
+{
+	return !(evl_state() & EVL_STATE_OOB);
+}
+
+/* ---- Tasks of C functions. */
+
+#ifndef EVL_STACK_SIZE
+#define EVL_STACK_SIZE 4096
+#endif
+
+struct evl_stack {
+	unsigned char bytes[EVL_STACK_SIZE];
+} __attribute__((aligned(16)));
+
+struct evl_start {
+	void (*fn)(void *arg);
+	void *arg;
+};
+
+/* crt0.S: sp becomes the address in a0, which is that of an evl_start; then fn(arg), then the task ends. */
+extern const char evl_task_start[];
+
+/*
+ * A new task that runs fn(arg) on a processor and ends when it returns. Returns its number.
+ * A stack must not be used by two tasks. Nothing guards its end.
+ */
+static inline long evl_create(void (*fn)(void *arg), void *arg, long cpu, struct evl_stack *stack)
+{
+	struct evl_start *start = (struct evl_start *)(stack + 1) - 1;
+
+	start->fn = fn;
+	start->arg = arg;
+	return evl_spawn(evl_task_start, (long)start, cpu);
+}
+
+/*
+ * The name of the tasks that run a function, for tools that read the image: section .evl.names holds records of
+ * 32 bytes, the function's address (8 bytes, little-endian) and a name of at most 23 bytes, ended and padded by
+ * zeros. The section isn't loaded.
+ */
+#define EVL_NAME(fn, name)                                                                                             \
+	__asm__(".pushsection .evl.names,\"\",@progbits\n"                                                             \
+		"\t.dword " #fn "\n"                                                                                   \
+		"0:\t.asciz \"" name "\"\n"                                                                            \
+		"\t.org 0b + 24\n"                                                                                     \
+		"\t.popsection\n")
+
+/* ---- Assertions. */
+
+/* EBREAK with a number in a0: the debugger has stopped the processor then, and the view `regs` shows the number. */
+static inline void evl_break(long number)
+{
+	register long a0 __asm__("a0") = number;
+
+	__asm__ volatile("ebreak" : : "r"(a0) : "memory");
+}
+
+/* A condition that must hold; where it doesn't, a0 is the number of the source's line. */
+#define evl_assert(condition)                                                                                          \
+	do {                                                                                                           \
+		if (!(condition))                                                                                      \
+			evl_break(__LINE__);                                                                           \
+	} while (0)
+
+/* ---- The console, which the view `console` shows. Each byte is an in-band call. */
+
+static inline void evl_puts(const char *text)
+{
+	while (*text)
+		evl_putc(*text++);
+}
+
+/* 16 hexadecimal digits. */
+static inline void evl_put_hex(unsigned long number)
+{
+	for (int shift = 60; shift >= 0; shift -= 4)
+		evl_putc("0123456789abcdef"[number >> shift & 15]);
+}
+
+/* Decimal digits, by subtraction: RV64I has no division. */
+static inline void evl_put_decimal(long number)
+{
+	unsigned long rest = number;
+	static const unsigned long powers[] = {
+		10000000000000000000UL, 1000000000000000000UL, 100000000000000000UL, 10000000000000000UL,
+		1000000000000000UL, 100000000000000UL, 10000000000000UL, 1000000000000UL, 100000000000UL, 10000000000UL,
+		1000000000UL, 100000000UL, 10000000UL, 1000000UL, 100000UL, 10000UL, 1000UL, 100UL, 10UL, 1UL,
+	};
+	int begun = 0;
+
+	if (number < 0) {
+		evl_putc('-');
+		rest = -rest;
+	}
+	for (int place = 0; place < 20; place++) {
+		int digit = 0;
+
+		while (rest >= powers[place]) {
+			rest -= powers[place];
+			digit++;
+		}
+		if (digit || begun || place == 19) {
+			evl_putc('0' + digit);
+			begun = 1;
+		}
+	}
+}
+
+#endif
