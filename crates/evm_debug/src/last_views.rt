@@ -1,7 +1,7 @@
 //! What is shown of a machine at the end of a replay.
 
-ghost use Rattle.std.specs.Prelude.{◌≡◌, ◌<◌, ◌≤◌, ◌+◌, ◌++◌, length, slice_get, OnOk, OnErr, IfOk, IfErr};
-ghost use Rattle.std.specs.String.{string_bytes, string_capacity, string_len};
+ghost use Rattle.std.specs.Prelude.{◌≡◌, length, slice_get, OnErr, IfOk};
+ghost use Rattle.std.specs.String.{string_bytes};
 ghost use Rattle.evm_text.specs.Appending.{Appends};
 ghost use Rattle.evm_core.specs.Views.{stages_at};
 ghost use Rattle.evm_debug.specs.Summary.{stages_below, stages_or_none, summary_text};
