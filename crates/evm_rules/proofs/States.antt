@@ -40,7 +40,7 @@ use Rattle.evm_rules.proofs.Firsts.{best-is_oob, own-in_band}
 use Rattle.evm_rules.proofs.Keeps.{row-good, hart-good}
 use Rattle.evm_rules.proofs.Ram.{row-ram}
 use Rattle.evm_rules.proofs.Replays.{accepted}
-use Rattle.evm_rules.proofs.Sets.{IsPipe-idle}
+use Rattle.evm_walk.proofs.Sets.{IsPipe-idle}
 
 -- ---- the clock
 one_if : Bool → ℕ

@@ -38,17 +38,10 @@ use Rattle.evm_walk.proofs.Calls.{walks_call}
 use Rattle.evm_walk.proofs.Passing.{ends}
 use Rattle.evm_walk.proofs.Playing.{first_on, walks_oob_lines, walks_in_band_lines}
 use Rattle.evm_walk.proofs.Refused.{passes, is_line}
-use Rattle.evm_walk.proofs.Sets.{walk_pipes}
+use Rattle.evm_walk.proofs.Sets.{length-set, walk_pipes}
 use Rattle.evm_walk.proofs.Sizes.{walk_runs}
 use Rattle.evm_walk.proofs.Tasks.{demotes}
 use Rattle.evm_walk.proofs.Walk.{Actor, ArePipes, AreFew, Untouched, raises, receives, hart, marks, picks, moves, tells, clock, Walk, start, quietly, counted, slack, walk_if}
-
--- a set has as many members at most as there are lines
-pub length-set_of_lines : (set : List ℕ) → IsLineSet set → length set ≤ LINES
-unfolding all_lines
-length-set_of_lines set s =
-    let same : length set ≡ length (filter (has_line set) all_lines) = ap length s.members in
-    omega (arith, length-filter (has_line set) all_lines, count_by-le-length (has_line set) all_lines, length-range_with_len 0 LINES)
 
 -- ---- settling
 module _ (a : Actor) (old : Parts) (may : a.chooses ≡ true) where
@@ -57,7 +50,7 @@ module _ (a : Actor) (old : Parts) (may : a.chooses ≡ true) where
   settles_pipe (Some pipe) n s k e runs w =
       let ls : List ℕ = pipe.oob.lines in
       let played : Parts = play_oob_lines a.cpu ls k in
-      let few : ArePipes old → length ls ≤ LINES = λ are. length-set_of_lines ls ((walk_pipes a old n s k w are).each a.cpu pipe e).oob in
+      let few : ArePipes old → length ls ≤ LINES = λ are. length-set ls ((walk_pipes a old n s k w are).each a.cpu pipe e).oob in
       walk_if a old (n + 32) (s + 32) pipe.oob.stalled k (run_best a.cpu played)
       (λ stalled. slack a old n (n + 32) s (s + 32) k (λ p. omega arith) (λ p. omega arith) w)
       (λ free. slack a old (n + length ls) (n + 32) (s + length ls) (s + 32) _ (λ are. omega (arith, few are)) (λ p. omega (arith, few p.pipes))
@@ -72,7 +65,7 @@ module _ (a : Actor) (old : Parts) (may : a.chooses ≡ true) where
   plays_pipe None n s k e w = slack a old n (n + 32) s (s + 2048) k (λ p. omega arith) (λ p. omega arith) w
   plays_pipe (Some pipe) n s k e w =
       let ls : List ℕ = pipe.inband.lines in
-      let few : ArePipes old → length ls ≤ LINES = λ are. length-set_of_lines ls ((walk_pipes a old n s k w are).each a.cpu pipe e).inband in
+      let few : ArePipes old → length ls ≤ LINES = λ are. length-set ls ((walk_pipes a old n s k w are).each a.cpu pipe e).inband in
       walk_if a old (n + 32) (s + 2048) pipe.inband.stalled k _
       (λ stalled. slack a old n (n + 32) s (s + 2048) k (λ p. omega arith) (λ p. omega arith) w)
       (λ free. slack a old (n + length ls) (n + 32) (s + 64 * length ls) (s + 2048) _ (λ are. omega (arith, few are)) (λ p. omega (arith, few p.pipes))
