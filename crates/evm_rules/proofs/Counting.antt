@@ -1,20 +1,20 @@
 -- How much each change may add to a count.
 use Rattle.std.proofs.Common.{◌≡◌, ℕ, ◌+◌, ◌≤◌, List, Bool, true, false, Option, Some, None, length, inl, inr, refl, arith}
-use Rattle.std.specs.Prelude.{slice_get, option_map, ◌==◌, if◌then◌else◌, map}
+use Rattle.std.specs.Prelude.{slice_get, option_map, ◌==◌, map}
 use Rattle.std.proofs.lemmas.Bool.Decides.{nat_tests}
 use Rattle.std.proofs.lemmas.Option.{slice_get-map}
 use Rattle.evm_lines.specs.Lines.{has_line}
 use Rattle.evm_model.specs.Bounds.{PipeUpTo, PipesUpTo}
-use Rattle.evm_model.specs.Lists.{change, each}
-use Rattle.evm_model.specs.Pipes.{Pipe, raise, receive, play, set_stall, stage_of, log_of}
+use Rattle.evm_model.specs.Lists.{change}
+use Rattle.evm_model.specs.Pipes.{Pipe, raise, receive, play, stage_of, log_of}
 use Rattle.evm_model.specs.Settle.{play_oob, play_in_band}
 use Rattle.evm_model.specs.State.{Parts, on_pipe}
 use Rattle.evm_model.specs.declared.stage.Stage.{Stage}
 use Rattle.evm_model.specs.declared.stage.Stage.TheVariants.{OutOfBand, InBand}
-use Rattle.evm_model.proofs.Lists.{change-cases, slice_get-each}
+use Rattle.evm_model.proofs.Lists.{change-cases}
 use Rattle.evm_walk.proofs.Counted.{PipeUpTo-more, raise-up, receipt-up, oob-up, in_band-up, timer-up, counted-up, raise-counted, receive-counted, timer-counted, play-counted}
 pub use Rattle.evm_walk.proofs.Counted.{PipesUpTo-more}
-use Rattle.evm_walk.proofs.Playing.{Apart, oob_played_if, spent_if, spent_apart, play_oob-on, wakes-pipes}
+use Rattle.evm_walk.proofs.Playing.{oob_played_if, spent_if, spent_apart, play_oob-on, wakes-pipes}
 
 -- ---- what holds of each element, after changes
 abbrev pub EachIs : {X : Type 0} → (X → Type 0) → List X → Type 0

@@ -1,5 +1,5 @@
 -- Settling one processor, whatever a row did to it: then it is settled, and the others are not yet told.
-use Rattle.std.proofs.Common.{◌≡◌, ℕ, List, [], Bool, true, false, not, Option, Some, None, refl, ap, sym, ◌∙◌}
+use Rattle.std.proofs.Common.{◌≡◌, ℕ, List, [], Bool, true, false, Option, Some, None, refl, ap, sym, ◌∙◌}
 use Rattle.std.specs.Prelude.{slice_get, if◌then◌else◌}
 use Rattle.evm_model.proofs.Lists.{change-elsewhere}
 use Rattle.evm_model.specs.Good.{Good, IsSettled, IsOneOf, IsOwn, IsPipe}

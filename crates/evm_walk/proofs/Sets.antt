@@ -1,6 +1,5 @@
 -- Each move keeps a pipe's wire and logs sets of lines, and its counts as many.
-use Rattle.std.proofs.Common.{◌≡◌, ℕ, ◌≤◌, List, Bool, Some, length, filter, refl, ap, ◌∙◌, arith}
-use Rattle.std.specs.Prelude.{slice_get}
+use Rattle.std.proofs.Common.{◌≡◌, ℕ, ◌≤◌, List, Bool, length, filter, refl, ap, ◌∙◌, arith}
 use Rattle.std.proofs.lemmas.List.Sums.{length-filter, count_by-le-length}
 use Rattle.std.proofs.lemmas.List.FromFn.{length-range_with_len}
 use Rattle.evm_lines.specs.Lines.{all_lines, has_line, IsLineSet}
@@ -12,7 +11,7 @@ use Rattle.evm_model.specs.State.{Parts}
 use Rattle.evm_model.specs.declared.stage.Stage.{Stage}
 use Rattle.evm_model.specs.declared.stage.Stage.TheVariants.{OutOfBand, InBand}
 use Rattle.evm_model.proofs.Lists.{length-change}
-use Rattle.evm_walk.proofs.Lift.{Lifts, lift}
+use Rattle.evm_walk.proofs.Lift.{lift}
 use Rattle.evm_walk.proofs.Walk.{Actor, PipeMove, raises, receives, plays_timer, plays_oob, plays_in_band, stalls, ArePipes, Walk}
 
 -- a set has as many members at most as there are lines
