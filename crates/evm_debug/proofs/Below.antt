@@ -1,7 +1,7 @@
 -- One more line of a view that goes by numbers.
 use Rattle.std.proofs.Common.{◌≡◌, ℕ, zero, suc, ◌+◌, ◌<◌, ◌≤◌, ◌-◌, List, [], ◌++◌, length, refl, ap, sym, ◌∙◌, append_assoc, add-one, arith}
 use Rattle.std.proofs.lemmas.List.{append-nil, length-append}
-use Rattle.std.specs.Prelude.{slice_get, Result, Ok, Err, OnErr}
+use Rattle.std.specs.Prelude.{slice_get}
 use Rattle.evm_core.specs.Views.{stages_at}
 use Rattle.evm_model.specs.State.{Parts}
 use Rattle.evm_model.specs.declared.mutex.Mutex.{Mutex}
@@ -32,17 +32,6 @@ stages_below-none k = refl
 pub stages_below-more : (c : ℕ) (k : Parts) → stages_below (c + 1) k ≡ stages_below c k ++ stages_or_none c (slice_get k.processors c) (stages_at c k)
 unfolding stages_below
 stages_below-more c k = rw add-one refl
-
--- a text that grew by one more line
-pub grown : (a b c whole x y : List ℕ) → y ≡ x ++ c → x ≡ a ++ b → whole ≡ b ++ c → y ≡ a ++ whole
-grown a b c whole x y last so_far all = last ∙ ap (λ (t : List ℕ). t ++ c) so_far ∙ append_assoc a b c ∙ ap (λ (t : List ℕ). a ++ t) (sym all)
-
-pub begun : (a none : List ℕ) → none ≡ [] → a ≡ a ++ none
-begun a none e = sym (append-nil a) ∙ ap (λ (t : List ℕ). a ++ t) (sym e)
-
--- its length
-pub grown_length : (a n m : ℕ) (b c whole : List ℕ) → m ≡ n + length c → n ≡ a + length b → whole ≡ b ++ c → m ≡ a + length whole
-grown_length a n m b c whole last so_far all = let size = ap length all ∙ length-append b c in omega (arith, last, so_far, size)
 
 -- ---- the line behind those so far is no longer than what is left
 
@@ -81,11 +70,6 @@ owners_below-line m end mutexes below = let h = owners_below-longer m end mutexe
 
 pub stages_below-line : (c end : ℕ) (k : Parts) → c < end → length (stages_or_none c (slice_get k.processors c) (stages_at c k)) ≤ length (stages_below end k)
 stages_below-line c end k below = let h = stages_below-longer c end k below in omega (arith, h)
-
--- what holds anyhow holds where there is an error
-pub on_err : {A E : Type 0} (r : Result A E) (P : Type 0) → P → OnErr r P
-on_err (Ok x) P p = tt
-on_err (Err e) P p = p
 
 pub ruleset tasks = (tasks_below-none, tasks_below-more, tasks_below-line)
 
