@@ -25,7 +25,7 @@ use Rattle.evm_rules.proofs.Bounded.{are-change}
 use Rattle.evm_rules.proofs.Firsts.{IsOobOwn, own-live}
 use Rattle.evm_rules.proofs.Locks.{locks-fewer, fewer-change, locks-wait}
 use Rattle.evm_rules.proofs.Places.{changed-from}
-use Rattle.evm_rules.proofs.Sets.{IsPipe-stall}
+use Rattle.evm_walk.proofs.Sets.{IsPipe-stall}
 use Rattle.evm_rules.proofs.Settling.{IsActing, IsHeld, GoodBut, calm-alike}
 use Rattle.evm_rules.proofs.Shapes.{IsShaped, shaped-pipe, shaped-leave, shaped-hart, shaped-with, shaped-task, shaped-restamp, shaped-add}
 use Rattle.evm_rules.proofs.Waking.{AreAlike, alike-own, alike-oob_own, alike-in_band, alike-change, alike-other, alike-push, one-cases, one-other, own-state}

@@ -37,12 +37,12 @@ use Rattle.evm_ram.specs.declared.refusal.Refusal.TheVariants.{BadAddress}
 use Rattle.evm_model.specs.Refusals.{board_refusal}
 use Rattle.evm_walk.proofs.Refused.{passes}
 use Rattle.evm_rules.proofs.Aligned.{IsAligned, next-aligned, does-aligned}
-use Rattle.evm_rules.proofs.Bounded.{are-change}
+use Rattle.evm_rules.proofs.Bounded.{ArePipes, are-change}
 use Rattle.evm_rules.proofs.Counting.{each-map, mapped}
 use Rattle.evm_rules.proofs.Firsts.{eqb-is}
 use Rattle.evm_rules.proofs.Nudging.{good_of, settle_and_nudge-good}
 use Rattle.evm_rules.proofs.Private.{good-bits, good-skip}
-use Rattle.evm_rules.proofs.Sets.{ArePipes, IsPipe-raise, IsPipe-receive}
+use Rattle.evm_walk.proofs.Sets.{IsPipe-raise, IsPipe-receive}
 use Rattle.evm_rules.proofs.Settling.{GoodBut, good_but}
 use Rattle.evm_rules.proofs.Shapes.{shaped, shaped-pipe, shaped-hart}
 use Rattle.evm_rules.proofs.Calling.{fault-but, call-but}

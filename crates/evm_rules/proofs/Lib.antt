@@ -5,7 +5,6 @@ pub mod Places
 pub mod Private
 pub mod Ranking
 pub mod Replays
-pub mod Sets
 pub mod Counting
 pub mod Bounded
 pub mod Playing

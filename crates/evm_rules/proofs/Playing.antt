@@ -13,7 +13,7 @@ use Rattle.evm_model.specs.declared.stage.Stage.TheVariants.{OutOfBand, InBand}
 use Rattle.evm_walk.proofs.Playing.{wakes-pipes}
 use Rattle.evm_rules.proofs.Places.{change_twice}
 use Rattle.evm_rules.proofs.Spending.{current-spends}
-use Rattle.evm_rules.proofs.Sets.{IsPipe-arrive, IsPipe-play}
+use Rattle.evm_walk.proofs.Sets.{IsPipe-arrive, IsPipe-play}
 
 -- ---- on one pipe
 abbrev pub hand_on : ℕ → Pipe → Pipe

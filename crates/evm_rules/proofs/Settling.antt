@@ -1,5 +1,5 @@
 -- Settling one processor, whatever a row did to it: then it is settled, and the others are not yet told.
-use Rattle.std.proofs.Common.{◌≡◌, ℕ, List, [], Bool, true, false, not, Option, Some, None, refl, ap, sym, ◌∙◌}
+use Rattle.std.proofs.Common.{◌≡◌, ℕ, List, [], Bool, true, false, Option, Some, None, refl, ap, sym, ◌∙◌}
 use Rattle.std.specs.Prelude.{slice_get, if◌then◌else◌}
 use Rattle.evm_model.proofs.Lists.{change-elsewhere}
 use Rattle.evm_model.specs.Good.{Good, IsSettled, IsOneOf, IsOwn, IsPipe}
@@ -11,12 +11,11 @@ use Rattle.evm_model.specs.State.{Parts, on_processor}
 use Rattle.evm_model.specs.declared.mutex.Mutex.{Mutex}
 use Rattle.evm_model.specs.declared.processor.Processor.{Processor}
 use Rattle.evm_model.specs.declared.task.Task.{Task}
-use Rattle.evm_rules.proofs.Bounded.{are-settle_oob, are-settle_in_band}
+use Rattle.evm_rules.proofs.Bounded.{ArePipes, are-settle_oob, are-settle_in_band}
 use Rattle.evm_rules.proofs.Firsts.{IsOobOwn, own-is_oob, best-is_oob, best-own, own-live, own-in_band, next-own}
 use Rattle.evm_rules.proofs.Playing.{plays_oob, plays_in_band, play_oob_lines-pipes, play_in_band_lines-pipes, HasSameStalls, plays_oob-stalls, plays_in_band-stalls, plays_oob-empty, plays_in_band-empty, plays_in_band-oob, plays_oob-pipe}
 use Rattle.evm_rules.proofs.Places.{changed-is, changed-from}
 use Rattle.evm_rules.proofs.Ranking.{AreRanked, ranked-none, ranked-then}
-use Rattle.evm_rules.proofs.Sets.{ArePipes}
 use Rattle.evm_rules.proofs.Shapes.{IsShaped, shaped, shaped-processor}
 use Rattle.evm_rules.proofs.Waking.{AreAlike, alike-none, alike-then, alike-own, alike-oob, alike-in_band, Rouses, rouses-none, rouses-if, rouses-lines, rouses-oob_lines, none-best}
 

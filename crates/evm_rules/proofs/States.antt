@@ -19,7 +19,7 @@ use Rattle.evm_model.specs.Mutexes.{lock_at, owner_for}
 use Rattle.evm_model.specs.Ranks.{best, is_in_ready}
 use Rattle.evm_model.specs.Refusals.{board_refusal, is_full}
 use Rattle.evm_model.specs.Replay.{accept, apply, bad_boot, bad_cpus, bad_ram, bad_capacity, left_by, replay, start}
-use Rattle.evm_model.specs.Rows.{step, single_step, row}
+use Rattle.evm_model.specs.Rows.{row}
 use Rattle.evm_model.specs.Settle.{current, is_oob}
 use Rattle.evm_model.specs.State.{State, Parts, Board, booted, booted_parts, first_processor, first_task, profile_of}
 use Rattle.evm_model.specs.declared.boot.Boot.{Boot}
@@ -40,7 +40,7 @@ use Rattle.evm_rules.proofs.Firsts.{best-is_oob, own-in_band}
 use Rattle.evm_rules.proofs.Keeps.{row-good, hart-good}
 use Rattle.evm_rules.proofs.Ram.{row-ram}
 use Rattle.evm_rules.proofs.Replays.{accepted}
-use Rattle.evm_rules.proofs.Sets.{IsPipe-idle}
+use Rattle.evm_walk.proofs.Sets.{IsPipe-idle}
 
 -- ---- the clock
 one_if : Bool → ℕ

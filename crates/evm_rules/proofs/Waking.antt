@@ -23,7 +23,7 @@ use Rattle.evm_model.specs.declared.task.TaskState.TheVariants.{InReady, Waits}
 use Rattle.evm_model.specs.declared.task.Wait.TheVariants.{Line}
 use Rattle.evm_rules.proofs.Firsts.{IsOobOwn, both, eqb-is, oob-ready, in_band-ready, first-member, first-none}
 use Rattle.evm_rules.proofs.Ranking.{AreRanked, ranked-none, ranked-then, ranked-task}
-use Rattle.evm_rules.proofs.Shapes.{IsShaped, shaped-task, shaped-pipe, shaped-hart, shaped-state, shaped-restamp}
+use Rattle.evm_rules.proofs.Shapes.{IsShaped, shaped-task, shaped-pipe, shaped-hart, shaped-restamp}
 
 -- ---- the tasks of a processor
 -- where and how a task is: its processor, and its state if it was ready

@@ -1,7 +1,6 @@
 -- What a walk adds: a task, a mutex, a byte on the console at most; and the places of other processors.
-use Rattle.std.proofs.Common.{◌≡◌, ℕ, ◌+◌, ◌<◌, ◌≤◌, [], ◌∷◌, ◌++◌, List, Bool, true, false, Option, Some, None, length, length-append, ◌⊎◌, inl, inr, refl, ap, sym, ◌∙◌, arith}
+use Rattle.std.proofs.Common.{◌≡◌, ℕ, ◌+◌, [], ◌∷◌, ◌++◌, List, Bool, true, false, Option, Some, None, length, length-append, ◌⊎◌, inl, inr, refl, ap, sym, ◌∙◌, arith}
 use Rattle.std.specs.Prelude.{slice_get, slice_set, replicate, option_map, ◌==◌, ◌&&◌, if◌then◌else◌}
-use Rattle.std.proofs.lemmas.Bool.{cases_eq}
 use Rattle.std.proofs.lemmas.List.{length-set, length-replicate}
 use Rattle.evm_exec.specs.Registers.{with_register}
 use Rattle.evm_exec.specs.declared.hart.Hart.{Hart}
@@ -17,18 +16,17 @@ use Rattle.evm_model.specs.Settle.{is_oob}
 use Rattle.evm_model.specs.State.{Parts, new_task}
 use Rattle.evm_model.specs.Tasks.{restamp, set_policy, set_slice}
 use Rattle.evm_model.specs.Waits.{wake}
-use Rattle.evm_model.specs.declared.limits.TheConstants.{TASK_LIMIT, MUTEX_LIMIT}
 use Rattle.evm_model.specs.declared.mutex.Mutex.{Mutex}
 use Rattle.evm_model.specs.declared.task.Task.{Task}
 use Rattle.evm_model.specs.declared.task.TaskState.{TaskState}
-use Rattle.evm_model.specs.declared.task.TaskState.TheVariants.{InReady, OobReady, Waits}
+use Rattle.evm_model.specs.declared.task.TaskState.TheVariants.{InReady, Waits}
 use Rattle.evm_model.specs.declared.task.Wait.TheVariants.{Line, Lock}
 use Rattle.evm_model.proofs.Lists.{slice_get-set_other, change-elsewhere, change-cases, length-change, slice_get-push, slice_get-below, slice_get-each}
 use Rattle.evm_walk.proofs.Sizes.{of_spend}
-use Rattle.evm_walk.proofs.Walk.{Actor, IsOldTask, Untouched, Does, hart, task, stamps, turns, spends, wakes, inherits, holds, marks, picks, moves, tells, clock, schedules, adds, makes, types, Walk, start, next}
-use Rattle.evm_runs.specs.Changes.{Adds, Added, AddsMutex, Made, Typed}
+use Rattle.evm_walk.proofs.Walk.{Actor, IsOldTask, Does, hart, task, stamps, turns, spends, wakes, inherits, holds, marks, picks, moves, tells, clock, schedules, adds, makes, types, Walk, start, next}
+use Rattle.evm_runs.specs.Changes.{Added, Made, Typed}
 use Rattle.evm_runs.specs.Kept.{AreRegisters, AllHaveRegisters}
-use Rattle.evm_runs.proofs.Frames.{LineWaiter, line_waiter, Waiter, first_waits}
+use Rattle.evm_runs.proofs.Fares.{LineWaiter, line_waiter, Waiter, first_waits}
 
 last_there : {X : Type 0} (xs : List X) (y : X) → slice_get (xs ++ y ∷ []) (length xs) ≡ Some y
 last_there [] y = refl

@@ -21,7 +21,7 @@ use Rattle.evm_model.specs.Rows.{row, step, single_step}
 use Rattle.evm_model.specs.Settle.{current}
 use Rattle.evm_model.specs.State.{State, Board, on_processor, on_pipe, on_parts, on_memory}
 use Rattle.evm_model.specs.declared.event.Answer.{Answer}
-use Rattle.evm_model.specs.declared.event.Event.{Event}
+use Rattle.evm_model.specs.Event.{Event}
 use Rattle.evm_model.specs.declared.event.Event.TheVariants.{Step, Tick, Raise, Bell, Stop, Go, StepI, SetReg, SetPc, Poke, Break, Unbreak}
 use Rattle.evm_model.specs.declared.limits.TheConstants.{POKE_LIMIT}
 use Rattle.evm_model.specs.declared.processor.Processor.{Processor}
@@ -29,7 +29,7 @@ use Rattle.evm_model.proofs.Lists.{length-change}
 use Rattle.evm_walk.proofs.Refused.{passes}
 use Rattle.evm_runs.specs.Changes.{RaisesOneLine, ProcessorChanges, CurrentChanges, RamChanges, ClockTicks, StepsOnce, ChangesOnly, IsDone, EventChanges, EventsChangeOnly}
 use Rattle.evm_runs.proofs.Breakpoints.{set-changes, unset-changes}
-use Rattle.evm_runs.proofs.Frames.{one_change}
+use Rattle.evm_runs.proofs.Fares.{one_change}
 use Rattle.evm_runs.proofs.Added.{change-registers}
 use Rattle.evm_runs.proofs.Steps.{SameCounts, same_then, step_done}
 

@@ -18,7 +18,7 @@ use Rattle.evm_model.specs.Rows.{row, single_step}
 use Rattle.evm_model.specs.Settle.{current}
 use Rattle.evm_model.specs.State.{State, Board, Parts, booted, booted_parts, on_parts}
 use Rattle.evm_model.specs.declared.boot.Boot.{Boot}
-use Rattle.evm_model.specs.declared.event.Event.{Event}
+use Rattle.evm_model.specs.Event.{Event}
 use Rattle.evm_model.specs.declared.event.Event.TheVariants.{Step, Tick, Raise, Bell, Stop, Go, StepI, SetReg, SetPc, Poke, Break, Unbreak}
 use Rattle.evm_model.specs.declared.limits.TheConstants.{CAPACITY_LIMIT}
 use Rattle.evm_model.proofs.Lists.{slice_get-replicate}

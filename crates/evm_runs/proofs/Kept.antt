@@ -10,7 +10,7 @@ use Rattle.evm_model.specs.Replay.{start, replay}
 use Rattle.evm_model.specs.Rows.{row}
 use Rattle.evm_model.specs.State.{State, Board, booted, booted_parts, first_processor}
 use Rattle.evm_model.specs.declared.boot.Boot.{Boot}
-use Rattle.evm_model.specs.declared.event.Event.{Event}
+use Rattle.evm_model.specs.Event.{Event}
 use Rattle.evm_walk.proofs.Runs.{IsKept, replay_keeps}
 use Rattle.evm_runs.specs.Kept.{AllHaveRegisters, SameSizes, SizesStay, IsAsBooted, StaysAsBooted, StaysAsLoaded}
 use Rattle.evm_runs.proofs.Commands.{row-counts}

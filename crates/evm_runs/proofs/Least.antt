@@ -6,7 +6,7 @@ use Rattle.evm_ram.specs.declared.refusal.Refusal.{Refusal}
 use Rattle.evm_ram.specs.declared.refusal.Refusal.TheVariants.{Full, NoSuchCpu, NoSuchLine, NotStopped, NoTask, BadAddress, BadRegister, NoSlot, NoBreakpoint, BadSize, NoMemory, Started, PortsOut, SeatsOut}
 use Rattle.evm_model.specs.Refusals.{board_refusal, board_refusals, first_that, refusal}
 use Rattle.evm_model.specs.State.{State}
-use Rattle.evm_model.specs.declared.event.Event.{Event}
+use Rattle.evm_model.specs.Event.{Event}
 use Rattle.evm_runs.specs.Least.{is_reason, AlwaysTellsLeast}
 
 -- a list's numbers rise, from above one on

@@ -2,6 +2,7 @@ pub mod Added
 pub mod Balance
 pub mod Breakpoints
 pub mod Commands
+pub mod Fares
 pub mod First
 pub mod Fit
 pub mod Frames

@@ -1,7 +1,6 @@
 -- A line but line 1 is raised by the events that say so.
 use Rattle.std.proofs.Common.{◌≡◌, ℕ, ◌+◌, Bool, true, false, Option, Some, None, inl, inr, refl, ap, sym, ◌∙◌, arith}
 use Rattle.std.specs.Prelude.{slice_get, option_map, ◌==◌, ◌&&◌}
-use Rattle.std.proofs.lemmas.Bool.{cases_eq}
 use Rattle.std.proofs.lemmas.Bool.Decides.{nat_tests}
 use Rattle.std.proofs.lemmas.Option.{slice_get-map}
 use Rattle.evm_lines.specs.Lines.{has_line}
@@ -14,11 +13,11 @@ use Rattle.evm_model.specs.Rows.{row}
 use Rattle.evm_model.specs.State.{Board, Parts, on_pipe}
 use Rattle.evm_model.specs.declared.counts.Counts.{Counts}
 use Rattle.evm_model.specs.declared.counts.Passage.{Passage}
-use Rattle.evm_model.specs.declared.event.Event.{Event}
+use Rattle.evm_model.specs.Event.{Event}
 use Rattle.evm_model.specs.declared.event.Event.TheVariants.{Step, Tick, Raise, Bell, Stop, Go, StepI, SetReg, SetPc, Poke, Break, Unbreak}
 use Rattle.evm_model.specs.declared.stage.Stage.{Stage}
 use Rattle.evm_model.specs.declared.stage.Stage.TheVariants.{OutOfBand, InBand}
-use Rattle.evm_model.proofs.Lists.{change-cases, change-elsewhere}
+use Rattle.evm_model.proofs.Lists.{change-cases}
 use Rattle.evm_walk.proofs.Counted.{Counted, raise-counted, receive-counted, timer-counted, play-counted}
 use Rattle.evm_walk.proofs.Lift.{Lifts, At, lift}
 use Rattle.evm_walk.proofs.Rows.{MOVES, acting, may_raise, row_walks}

@@ -5,7 +5,7 @@ use Rattle.evm_model.specs.Refusals.{board_refusal, is_full}
 use Rattle.evm_model.specs.Replay.{IsReplayOf, accept, apply, left_by, replay}
 use Rattle.evm_model.specs.Rows.{row}
 use Rattle.evm_model.specs.State.{State}
-use Rattle.evm_model.specs.declared.event.Event.{Event}
+use Rattle.evm_model.specs.Event.{Event}
 use Rattle.evm_walk.proofs.Runs.{IsKept, replay_keeps}
 use Rattle.evm_runs.specs.Replays.{ReplaysJoin, StartsAsReplay, StaysReplay, LoadsSoManyBytes, LoadsEachByte}
 

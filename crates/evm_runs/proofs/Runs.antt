@@ -9,7 +9,7 @@ use Rattle.evm_model.specs.Load.{start_loaded, load_board}
 use Rattle.evm_model.specs.Pipes.{Pipe, idle_pipe, no_counts, more_if}
 use Rattle.evm_model.specs.Replay.{start}
 use Rattle.evm_model.specs.State.{State, Parts, booted, booted_parts}
-use Rattle.evm_model.specs.declared.event.Event.{Event}
+use Rattle.evm_model.specs.Event.{Event}
 use Rattle.evm_model.proofs.Lists.{slice_get-replicate}
 use Rattle.evm_walk.proofs.Lift.{Lifts, lift}
 use Rattle.evm_walk.proofs.Rows.{MOVES, acting, row_walks}

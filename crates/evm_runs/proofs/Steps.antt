@@ -4,9 +4,7 @@ use Rattle.std.specs.Prelude.{slice_get, option_map, is_none, ◌==◌, if◌the
 use Rattle.evm_lines.specs.Lines.{has_line, least_line}
 use Rattle.evm_exec.specs.declared.hart.Hart.{Hart}
 use Rattle.evm_ram.specs.Laws.{length-write_at}
-use Rattle.evm_model.specs.Harts.{argument}
 use Rattle.evm_model.specs.Memory.{fetch}
-use Rattle.evm_model.specs.OobCalls.{is_scheduled_task}
 use Rattle.evm_model.specs.Pipes.{Pipe, raise}
 use Rattle.evm_model.specs.Rows.{step}
 use Rattle.evm_model.specs.Settle.{current, nudge, nudge_pipe, wants_nudge}
@@ -18,11 +16,12 @@ use Rattle.evm_model.proofs.Lists.{slice_get-each}
 use Rattle.evm_walk.proofs.Rows.{word_calls, MaySteps, Stepped, steps, stepped_walk}
 use Rattle.evm_walk.proofs.Sizes.{walk_sizes, walk_least, walk_ticks}
 use Rattle.evm_walk.proofs.Walk.{Actor, Untouched, Walk, start}
-use Rattle.evm_runs.specs.Changes.{StoreWrites, Inherits, StaysBy, Spends, MutexChanges, MutexesStay, Schedules, Hears, StepChanges, Added}
+use Rattle.evm_runs.specs.Changes.{StoreWrites, StaysBy, Spends, MutexesStay, Schedules, Hears, StepChanges, Added}
 use Rattle.evm_runs.specs.Kept.{AllHaveRegisters}
 use Rattle.evm_runs.proofs.Added.{walk_registers, walk_added, walk_made, walk_mutexes, walk_typed, walk_processors, walk_other_pipes}
-use Rattle.evm_runs.proofs.Frames.{one_change, Fares, Asked, Frame, walk_frame}
-use Rattle.evm_runs.proofs.Instructions.{Calls, called, Writes, step_writes}
+use Rattle.evm_runs.proofs.Fares.{one_change, Fares}
+use Rattle.evm_runs.proofs.Frames.{Asked, Frame, walk_frame}
+use Rattle.evm_runs.proofs.Instructions.{Calls, called, step_writes}
 
 -- as many of each, but for tasks, of which there may be more, a hart for each; and tasks keep their registers
 pub record SameCounts (old new : Board) : Type 0 where

@@ -34,7 +34,7 @@ use Rattle.evm_model.proofs.Lists.{slice_get-below}
 use Rattle.evm_walk.proofs.Locks.{either, up, same, was_there, makes_mutex, locks, tries, unlocks}
 use Rattle.evm_walk.proofs.Passing.{ends}
 use Rattle.evm_walk.proofs.Tasks.{stalls_stage, leaves, begins_wait, demotes, promotes}
-use Rattle.evm_walk.proofs.Walk.{Actor, ArePipes, AreFew, IsOldTask, KeepsPlace, Untouched, hart, task, stamps, schedules, adds, types, Walk, quietly, stamped, slack, walk_if}
+use Rattle.evm_walk.proofs.Walk.{Actor, IsOldTask, Untouched, hart, task, stamps, schedules, adds, types, Walk, quietly, stamped, slack, walk_if}
 
 -- ---- a call that was found has its number
 if_numbered : (b : Bool) (n : ℕ) (call first : Call) (calls : List Call) → (n == call_number first) ≡ b → (if b then Some first else numbered n calls) ≡ Some call

@@ -32,7 +32,7 @@ more_if-up : (b : Bool) (n bound : ℕ) → n ≤ bound → more_if b n ≤ boun
 more_if-up true n bound h = omega arith
 more_if-up false n bound h = omega arith
 
-raise-up : (b : ℕ) (merged : Bool) (n : Counts) → UpTo b n → UpTo (b + 1) (count_raise merged n)
+pub raise-up : (b : ℕ) (merged : Bool) (n : Counts) → UpTo b n → UpTo (b + 1) (count_raise merged n)
 raise-up b merged n s = record {
   raised = omega arith;
   merged = more_if-up merged n.merged b s.merged;
@@ -47,7 +47,7 @@ arrival-up b merged n s = record { arrivals = omega arith; merged = more_if-up m
 play-up : (b : ℕ) (n : Passage) → PassageUpTo b n → PassageUpTo (b + 1) (count_play n)
 play-up b n s = record { arrivals = omega arith; merged = omega arith; played = omega arith }
 
-receipt-up : (b : ℕ) (stage : Stage) (merged : Bool) (n : Counts) → UpTo b n → UpTo (b + 1) (on_passage stage (count_arrival merged) (count_receipt n))
+pub receipt-up : (b : ℕ) (stage : Stage) (merged : Bool) (n : Counts) → UpTo b n → UpTo (b + 1) (on_passage stage (count_arrival merged) (count_receipt n))
 receipt-up b OutOfBand merged n s = record {
   raised = omega arith;
   merged = omega arith;
@@ -63,7 +63,7 @@ receipt-up b InBand merged n s = record {
   inband = arrival-up b merged n.inband s.inband;
 }
 
-oob-up : (b : ℕ) (n : Counts) → UpTo b n → UpTo (b + 1) (on_passage OutOfBand count_play n)
+pub oob-up : (b : ℕ) (n : Counts) → UpTo b n → UpTo (b + 1) (on_passage OutOfBand count_play n)
 oob-up b n s = record {
   raised = omega arith;
   merged = omega arith;
@@ -72,7 +72,7 @@ oob-up b n s = record {
   inband = Passage-more b (b + 1) n.inband (omega arith) s.inband;
 }
 
-in_band-up : (b : ℕ) (n : Counts) → UpTo b n → UpTo (b + 1) (on_passage InBand count_play n)
+pub in_band-up : (b : ℕ) (n : Counts) → UpTo b n → UpTo (b + 1) (on_passage InBand count_play n)
 in_band-up b n s = record {
   raised = omega arith;
   merged = omega arith;
@@ -81,7 +81,7 @@ in_band-up b n s = record {
   inband = play-up b n.inband s.inband;
 }
 
-timer-up : (b : ℕ) (merged : Bool) (n : Counts) → UpTo b n → UpTo (b + 1) (on_passage InBand (count_arrival merged) (on_passage OutOfBand count_play n))
+pub timer-up : (b : ℕ) (merged : Bool) (n : Counts) → UpTo b n → UpTo (b + 1) (on_passage InBand (count_arrival merged) (on_passage OutOfBand count_play n))
 timer-up b merged n s = record {
   raised = omega arith;
   merged = omega arith;
@@ -95,7 +95,7 @@ timer-up b merged n s = record {
 pub record Counted (l : ℕ) (f : Counts → Counts) (p q : Pipe) : Type 0 where
   pub counts : q.counts ≡ change f p.counts l
 
-counted-up : (b l : ℕ) (f : Counts → Counts) (p q : Pipe) → Counted l f p q → ((n : Counts) → UpTo b n → UpTo (b + 1) (f n)) → PipeUpTo b p → PipeUpTo (b + 1) q
+pub counted-up : (b l : ℕ) (f : Counts → Counts) (p q : Pipe) → Counted l f p q → ((n : Counts) → UpTo b n → UpTo (b + 1) (f n)) → PipeUpTo b p → PipeUpTo (b + 1) q
 counted-up b l f p q c up s = record {
   lines = λ m n e. let there : slice_get (change f p.counts l) m ≡ Some n = rw c.counts at e in
       elim (change-cases f p.counts l m n there) [
@@ -148,7 +148,7 @@ pub timer-counted : (p : Pipe)
 unfolding play
 timer-counted p = counted-then 0 (on_passage OutOfBand count_play) _ p (play OutOfBand 0 p) _ (play-counted OutOfBand 0 p) (arrive-counted InBand 0 (play OutOfBand 0 p))
 
-PipeUpTo-more : (a b : ℕ) (p : Pipe) → a ≤ b → PipeUpTo a p → PipeUpTo b p
+pub PipeUpTo-more : (a b : ℕ) (p : Pipe) → a ≤ b → PipeUpTo a p → PipeUpTo b p
 PipeUpTo-more a b p h s = record { lines = λ l n e. UpTo-more a b n h (s.lines l n e) }
 
 pub move_counted : (may : ℕ → Bool) (n b : ℕ) (p q : Pipe) → PipeMove may n p q → PipeUpTo b p → PipeUpTo (b + n) q

@@ -20,8 +20,7 @@ use Rattle.evm_model.specs.declared.task.Wait.{Wait}
 use Rattle.evm_model.specs.declared.task.Wait.TheVariants.{Lock}
 use Rattle.evm_walk.proofs.Passing.{passes}
 use Rattle.evm_walk.proofs.Tasks.{begins_wait}
-use Rattle.evm_walk.proofs.Walk.{Actor, IsOldTask, IsHeld, Untouched, holds, makes, Walk, quietly, counted, slack}
-
+use Rattle.evm_walk.proofs.Walk.{Actor, IsOldTask, Untouched, holds, makes, Walk, quietly, counted, slack}
 
 -- of two outcomes
 pub either : (a : Actor) (old : Parts) (b : Bool) (x y : Parts × Outcome) → (b ≡ true → Walk a old 1 32 x.0) → (b ≡ false → Walk a old 1 32 y.0) → Walk a old 1 32 (if b then x else y).0

@@ -1,10 +1,8 @@
 -- One lemma a row: the row is a walk.
-use Rattle.std.proofs.Common.{◌≡◌, ℕ, ◌+◌, ◌*◌, ◌<◌, ◌≤◌, List, [], ◌∷◌, Bool, true, false, filter, Option, Some, None, length, refl, ap, sym, ◌∙◌, ◌⊎◌, inl, inr, arith}
+use Rattle.std.proofs.Common.{◌≡◌, ℕ, ◌+◌, ◌*◌, ◌<◌, ◌≤◌, List, [], ◌∷◌, Bool, true, false, Option, Some, None, length, refl, ap, sym, ◌∙◌, ◌⊎◌, inl, inr, arith}
 use Rattle.std.specs.Prelude.{slice_get, option_map, ◌==◌, ◌&&◌, not, if◌then◌else◌}
 use Rattle.std.proofs.lemmas.Bool.Decides.{nat_tests}
-use Rattle.std.proofs.lemmas.List.Sums.{length-filter, count_by-le-length}
-use Rattle.std.proofs.lemmas.List.FromFn.{length-range_with_len}
-use Rattle.evm_lines.specs.Lines.{has_line, least_line, all_lines, IsLineSet}
+use Rattle.evm_lines.specs.Lines.{has_line, least_line}
 use Rattle.evm_lines.specs.declared.TheConstants.{LINES}
 use Rattle.evm_isa.specs.Decoded.{decoded}
 use Rattle.evm_isa.specs.declared.inst.Inst.{Inst}
@@ -14,15 +12,15 @@ use Rattle.evm_exec.specs.Memory.{loaded_value, width_of_load}
 use Rattle.evm_exec.specs.declared.hart.Hart.{Hart}
 use Rattle.evm_exec.specs.declared.outcome.Effect.{Effect}
 use Rattle.evm_exec.specs.declared.outcome.Effect.TheVariants.{Next, Load, Store, Call, Break as Breaks, Misaligned}
-use Rattle.evm_model.specs.Bounds.{PER_EVENT, STAMPS_PER_EVENT}
-use Rattle.evm_model.specs.Commands.{tick, set_bits, on_number, is_set, set_breakpoint, unset_breakpoint}
-use Rattle.evm_model.specs.Harts.{set_register, set_pc, advance}
+use Rattle.evm_model.specs.Bounds.{STAMPS_PER_EVENT}
+use Rattle.evm_model.specs.Commands.{set_bits, on_number, is_set, set_breakpoint, unset_breakpoint}
+use Rattle.evm_model.specs.Harts.{set_register, advance}
 use Rattle.evm_model.specs.Instructions.{fault, stop, finish, finish_load, finish_store, execute, execute_inst, execute_word}
 use Rattle.evm_model.specs.Memory.{fetch, read, write}
 use Rattle.evm_model.specs.Pipes.{Pipe, raise, receive}
 use Rattle.evm_model.specs.Refusals.{board_refusal}
 use Rattle.evm_model.specs.Rows.{run, step_hart, step_current, step_wire, step_pipe, step_processor, step, single_step, row}
-use Rattle.evm_model.specs.Settle.{current, current_of, is_oob, run_best, run_in_band, settle_oob_pipe, settle_oob, play_in_band_pipe, turn_in_band, settle_in_band, settle, nudge_pipe, nudge, settle_and_nudge, wants_nudge, play_oob_lines}
+use Rattle.evm_model.specs.Settle.{current, current_of, is_oob, run_best, settle_oob_pipe, settle_oob, play_in_band_pipe, turn_in_band, settle_in_band, settle, nudge_pipe, nudge, settle_and_nudge, wants_nudge, play_oob_lines}
 use Rattle.evm_model.specs.State.{Board, Memory, Parts, on_hart, on_processor, on_pipe, on_parts}
 use Rattle.evm_model.specs.Tasks.{demote}
 use Rattle.evm_model.specs.declared.event.Answer.{Answer}
@@ -33,22 +31,15 @@ use Rattle.evm_model.specs.declared.event.Event.TheVariants.{Step, Tick, Raise, 
 use Rattle.evm_model.specs.declared.processor.Processor.{Processor}
 use Rattle.evm_model.specs.declared.task.TaskState.TheVariants.{Faulted}
 use Rattle.evm_ram.specs.declared.refusal.Refusal.TheVariants.{NoSuchLine}
-use Rattle.evm_model.proofs.Lists.{change-here, slice_get-below}
+use Rattle.evm_model.proofs.Lists.{change-here}
 use Rattle.evm_walk.proofs.Calls.{walks_call}
 use Rattle.evm_walk.proofs.Passing.{ends}
 use Rattle.evm_walk.proofs.Playing.{first_on, walks_oob_lines, walks_in_band_lines}
 use Rattle.evm_walk.proofs.Refused.{passes, is_line}
-use Rattle.evm_walk.proofs.Sets.{walk_pipes}
+use Rattle.evm_walk.proofs.Sets.{length-set, walk_pipes}
 use Rattle.evm_walk.proofs.Sizes.{walk_runs}
 use Rattle.evm_walk.proofs.Tasks.{demotes}
-use Rattle.evm_walk.proofs.Walk.{Actor, ArePipes, AreFew, Untouched, raises, receives, hart, marks, picks, moves, tells, clock, Walk, start, quietly, counted, slack, walk_if}
-
--- a set has as many members at most as there are lines
-pub length-set_of_lines : (set : List ℕ) → IsLineSet set → length set ≤ LINES
-unfolding all_lines
-length-set_of_lines set s =
-    let same : length set ≡ length (filter (has_line set) all_lines) = ap length s.members in
-    omega (arith, length-filter (has_line set) all_lines, count_by-le-length (has_line set) all_lines, length-range_with_len 0 LINES)
+use Rattle.evm_walk.proofs.Walk.{Actor, ArePipes, Untouched, raises, receives, hart, marks, picks, moves, tells, clock, Walk, start, quietly, counted, slack, walk_if}
 
 -- ---- settling
 module _ (a : Actor) (old : Parts) (may : a.chooses ≡ true) where
@@ -57,7 +48,7 @@ module _ (a : Actor) (old : Parts) (may : a.chooses ≡ true) where
   settles_pipe (Some pipe) n s k e runs w =
       let ls : List ℕ = pipe.oob.lines in
       let played : Parts = play_oob_lines a.cpu ls k in
-      let few : ArePipes old → length ls ≤ LINES = λ are. length-set_of_lines ls ((walk_pipes a old n s k w are).each a.cpu pipe e).oob in
+      let few : ArePipes old → length ls ≤ LINES = λ are. length-set ls ((walk_pipes a old n s k w are).each a.cpu pipe e).oob in
       walk_if a old (n + 32) (s + 32) pipe.oob.stalled k (run_best a.cpu played)
       (λ stalled. slack a old n (n + 32) s (s + 32) k (λ p. omega arith) (λ p. omega arith) w)
       (λ free. slack a old (n + length ls) (n + 32) (s + length ls) (s + 32) _ (λ are. omega (arith, few are)) (λ p. omega (arith, few p.pipes))
@@ -72,7 +63,7 @@ module _ (a : Actor) (old : Parts) (may : a.chooses ≡ true) where
   plays_pipe None n s k e w = slack a old n (n + 32) s (s + 2048) k (λ p. omega arith) (λ p. omega arith) w
   plays_pipe (Some pipe) n s k e w =
       let ls : List ℕ = pipe.inband.lines in
-      let few : ArePipes old → length ls ≤ LINES = λ are. length-set_of_lines ls ((walk_pipes a old n s k w are).each a.cpu pipe e).inband in
+      let few : ArePipes old → length ls ≤ LINES = λ are. length-set ls ((walk_pipes a old n s k w are).each a.cpu pipe e).inband in
       walk_if a old (n + 32) (s + 2048) pipe.inband.stalled k _
       (λ stalled. slack a old n (n + 32) s (s + 2048) k (λ p. omega arith) (λ p. omega arith) w)
       (λ free. slack a old (n + length ls) (n + 32) (s + 64 * length ls) (s + 2048) _ (λ are. omega (arith, few are)) (λ p. omega (arith, few p.pipes))

@@ -14,7 +14,7 @@ use Rattle.evm_model.specs.Waits.{wake}
 use Rattle.evm_model.specs.declared.limits.TheConstants.{SLICE, TASK_LIMIT}
 use Rattle.evm_model.specs.declared.processor.Processor.{Processor}
 use Rattle.evm_model.proofs.Lists.{length-change, length-each_from, change-here}
-use Rattle.evm_walk.proofs.Walk.{Actor, AreFew, Does, rests, hart, task, stamps, turns, spends, wakes, inherits, holds, marks, picks, moves, tells, clock, schedules, adds, makes, types, Walk, start, next}
+use Rattle.evm_walk.proofs.Walk.{Actor, AreFew, Does, hart, task, stamps, turns, spends, wakes, inherits, marks, picks, moves, tells, clock, schedules, adds, Walk, start, next}
 
 -- what holds after a tick of a slice and after its last one
 pub of_spend : (P : Parts → Type 0) (t slice : ℕ) (k : Parts) → P (restamp t (set_slice t SLICE k)) → P (set_slice t (slice - 1) k) → P (spend_slice t slice k)

@@ -1,5 +1,5 @@
 -- Every event is a walk of exact primitives: each says what it does and to whom, so that a law is proved once a primitive.
-use Rattle.std.proofs.Common.{◌≡◌, ℕ, ◌+◌, ◌<◌, ◌≤◌, List, [], ◌∷◌, ◌++◌, Bool, true, false, Option, Some, None, length, ◌⊎◌, inl, inr, refl, arith}
+use Rattle.std.proofs.Common.{◌≡◌, ℕ, ◌+◌, ◌<◌, ◌≤◌, [], ◌∷◌, ◌++◌, Bool, true, false, Option, Some, None, length, ◌⊎◌, refl, arith}
 use Rattle.std.specs.Prelude.{slice_get, ◌&&◌, if◌then◌else◌}
 use Rattle.evm_lines.specs.Lines.{has_line}
 use Rattle.evm_lines.specs.declared.TheConstants.{LINES}

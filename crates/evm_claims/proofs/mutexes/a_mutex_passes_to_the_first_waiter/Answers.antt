@@ -13,7 +13,7 @@ use Rattle.evm_model.specs.declared.task.Task.{Task}
 use Rattle.evm_model.specs.declared.task.TaskState.TheVariants.{OobReady, Waits}
 use Rattle.evm_model.specs.declared.task.Wait.TheVariants.{Lock}
 use Rattle.evm_model.proofs.Lists.{change-here}
-use Rattle.evm_runs.proofs.Frames.{Waiter, first_waits, owns_it, woke_lock, woken_there}
+use Rattle.evm_runs.proofs.Fares.{Waiter, first_waits, owns_it, woke_lock, woken_there}
 use Rattle.evm_claims.proofs.Leads.{leads}
 use Rattle.evm_claims.proofs.mutexes.a_mutex_passes_to_the_first_waiter.Goals as goal
 
