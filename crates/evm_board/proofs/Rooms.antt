@@ -1,5 +1,5 @@
 -- Room for counts, as a row takes it up.
-use Rattle.std.proofs.Common.{length, ℕ, ◌+◌, ◌-◌, ◌^◌, ◌≤◌, Bool, false, arith}
+use Rattle.std.proofs.Common.{ℕ, ◌+◌, ◌-◌, ◌^◌, ◌≤◌, Bool, true, false, Some, refl, arith}
 use Rattle.evm_model.specs.Bounds.{PipesUpTo, HeldUpTo}
 use Rattle.evm_model.specs.Calls.{call}
 use Rattle.evm_model.specs.Commands.{set_bits}
@@ -8,38 +8,51 @@ use Rattle.evm_model.specs.Instructions.{fault}
 use Rattle.evm_model.specs.Pipes.{receive}
 use Rattle.evm_model.specs.State.{Parts, on_pipe, on_processor}
 use Rattle.evm_model.specs.declared.fault.Fault.{Fault}
-use Rattle.evm_model.specs.declared.limits.TheConstants.{MUTEX_LIMIT}
-use Rattle.evm_walk.proofs.Calls.{call_takes}
-use Rattle.evm_walk.proofs.Counted.{takes_counted}
-use Rattle.evm_walk.proofs.Moves.{Takes}
-use Rattle.evm_walk.proofs.Sets.{takes_pipes}
+use Rattle.evm_walk.proofs.Calls.{walks_call}
+use Rattle.evm_walk.proofs.Counted.{walk_counted}
 use Rattle.evm_walk.proofs.Rows.{faults}
-use Rattle.evm_rules.proofs.CallStamps.{call-gives}
-use Rattle.evm_rules.proofs.Stamps.{fault-gives}
+use Rattle.evm_walk.proofs.Sets.{walk_pipes}
+use Rattle.evm_walk.proofs.Sizes.{walk_most}
+use Rattle.evm_walk.proofs.Walk.{Actor, ArePipes, AreFew, Untouched, Walk, start}
 use Rattle.evm_rules.proofs.Bounded.{AreWithin, within-more, within-receive}
 use Rattle.evm_rules.proofs.Counting.{PipesUpTo-more}
 
--- moves that count so much
-within-takes : (a line n b : ℕ) (k new : Parts) → Takes a line n k new → AreWithin b k → AreWithin (b + n) new
-within-takes a line n b k new t w = record { are = (takes_pipes a line n k new t (record { each = w.are })).each; up = takes_counted a line n b k new t w.up }
+-- task t acts on processor c: it raises and chooses nothing
+abbrev acts : ℕ → ℕ → Actor
+acts c t = record { cpu = c; task = Some t; may = λ d l. false; chooses = false; calls = true }
+
+itself : (k : Parts) → Untouched k k
+itself k = record { tasks = refl; harts = refl; mutexes = refl; console = refl }
+
+-- a walk that counts so much
+within-walk : (a : Actor) (n s b : ℕ) (k new : Parts) → Walk a k n s new → AreWithin b k → AreWithin (b + n) new
+within-walk a n s b k new v w =
+    let are : ArePipes k = record { each = w.are } in
+    record { are = (walk_pipes a k n s new v are).each; up = walk_counted a k n s b new v are w.up }
 
 -- a fault before its processor settles
+walks-fault : (c t : ℕ) (f : Fault) (k : Parts) → Walk (acts c t) k 0 32 (fault c t f k)
+walks-fault c t f k = faults (acts c t) k k t refl (itself k) start f
+
 pub room-fault : (c t : ℕ) (f : Fault) (k : Parts) → AreWithin (2 ^ 61) k → AreWithin (2 ^ 62) (fault c t f k)
-room-fault c t f k h = within-more (2 ^ 61 + 0) (2 ^ 62) _ (omega arith) (within-takes c 1 0 (2 ^ 61) k _ (faults c t f k) h)
+room-fault c t f k h = within-more (2 ^ 61 + 0) (2 ^ 62) _ (omega arith) (within-walk (acts c t) 0 32 (2 ^ 61) k _ (walks-fault c t f k) h)
 
-pub stamps-fault : (c t : ℕ) (f : Fault) (k : Parts) → length k.mutexes ≤ MUTEX_LIMIT → k.stamps ≤ 2 ^ 60 → (fault c t f k).stamps ≤ 2 ^ 61
-stamps-fault c t f k few h = let g = fault-gives c t f k few in omega (arith, g.most)
+pub stamps-fault : (c t : ℕ) (f : Fault) (k : Parts) → AreFew k → k.stamps ≤ 2 ^ 60 → (fault c t f k).stamps ≤ 2 ^ 61
+stamps-fault c t f k few h = omega (arith, walk_most (acts c t) k 0 32 _ few (walks-fault c t f k))
 
-pub ruleset fault_stamps = (stamps-fault)
+pub ruleset fault_stamps = (room-fault, stamps-fault)
 
 -- a call before its processor settles
-pub room-call : (ram c t : ℕ) (k : Parts) → AreWithin (2 ^ 61) k → AreWithin (2 ^ 62) (call ram c t k)
-room-call ram c t k h = within-more (2 ^ 61 + 1) (2 ^ 62) _ (omega arith) (within-takes c 1 1 (2 ^ 61) k _ (call_takes ram c t k) h)
+walks : (c t : ℕ) (k : Parts) → Walk (acts c t) k 1 33 (call c t k)
+walks c t k = walks_call (acts c t) k k t refl (itself k) start refl
 
-pub stamps-call : (ram c t : ℕ) (k : Parts) → length k.mutexes ≤ MUTEX_LIMIT → k.stamps ≤ 2 ^ 60 → (call ram c t k).stamps ≤ 2 ^ 61
-stamps-call ram c t k few h = let g = call-gives ram c t k few in omega (arith, g.most)
+pub room-call : (c t : ℕ) (k : Parts) → AreWithin (2 ^ 61) k → AreWithin (2 ^ 62) (call c t k)
+room-call c t k h = within-more (2 ^ 61 + 1) (2 ^ 62) _ (omega arith) (within-walk (acts c t) 1 33 (2 ^ 61) k _ (walks c t k) h)
 
-pub ruleset calls = (stamps-call)
+pub stamps-call : (c t : ℕ) (k : Parts) → AreFew k → k.stamps ≤ 2 ^ 60 → (call c t k).stamps ≤ 2 ^ 61
+stamps-call c t k few h = omega (arith, walk_most (acts c t) k 1 33 _ few (walks c t k))
+
+pub ruleset calls = (room-call, stamps-call)
 
 pub room-less_61 : (k : Parts) → AreWithin (2 ^ 61) k → AreWithin (2 ^ 62) k
 room-less_61 k h = within-more (2 ^ 61) (2 ^ 62) k (omega arith) h
@@ -73,10 +86,10 @@ pub held-bits : (c : ℕ) (stopped skip : Bool) (k : Parts) → HeldUpTo (2 ^ 62
 unfolding set_bits
 held-bits c stopped skip k h = h
 
--- the rules that hold between events say how many mutexes there may be
-pub few-mutexes : (k : Parts) → Good k → length k.mutexes ≤ MUTEX_LIMIT
-few-mutexes k g = g.locks.few
+-- the rules that hold between events say how many tasks and mutexes there may be
+pub few-parts : (k : Parts) → Good k → AreFew k
+few-parts k g = record { pipes = record { each = g.pipes }; tasks = g.few_tasks; mutexes = g.locks.few }
 
-pub ruleset few = (few-mutexes)
+pub ruleset few = (few-parts)
 
 pub ruleset wider = (room-raise, room-tick)

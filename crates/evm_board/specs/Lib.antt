@@ -1,3 +1,3 @@
 pub mod Room
 pub mod Steps
-pub mod Wants
+pub mod Stops

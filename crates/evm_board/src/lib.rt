@@ -15,3 +15,4 @@ mod stepping;
 
 pub use board::Board;
 pub use memory::Memory;
+pub use stepping::Made;

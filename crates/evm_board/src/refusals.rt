@@ -1,10 +1,11 @@
 ghost use Rattle.std.specs.Prelude.{◌≡◌, if◌then◌else◌, not, Option, length};
 ghost use Rattle.evm_model.specs.Commands.{is_set};
+ghost use Rattle.evm_model.specs.Event.{event_lent};
 ghost use Rattle.evm_model.specs.Refusals.{board_refusal, no_such_cpu, no_such_line, not_stopped, no_task, bad_register, misaligned, bad_bytes, bad_place, no_slot};
 
 use crate::board::Board;
 use evm_lines::LINES;
-use evm_model::{BREAKPOINT_LIMIT, Event, POKE_LIMIT};
+use evm_model::{BREAKPOINT_LIMIT, Block, Event, POKE_LIMIT};
 use evm_ram::Refusal;
 
 fn is_misaligned(address: u64) -> bool
@@ -163,8 +164,8 @@ impl Board {
 
     /// Why an event is refused that finds room in the journal: the first reason by its number.
     #[tactic(auto, unfolding(evm_model::specs::Refusals::board_refusal))]
-    pub fn refusal(&self, event: &Event) -> Option<Refusal>
-        ensures { result ≡ board_refusal event.now self.now }
+    pub fn refusal(&self, event: &Event<&Block>) -> Option<Refusal>
+        ensures { result ≡ board_refusal (event_lent event.now) self.now }
     {
         match event {
             Event::Tick => None,

@@ -1,6 +1,7 @@
 ghost use Rattle.std.specs.Prelude.{◌≡◌, ◌<◌, ◌≤◌, ◌^◌, Option};
 ghost use Rattle.evm_model.specs.Bounds.{HeldUpTo};
 ghost use Rattle.evm_model.specs.Good.{Good};
+ghost use Rattle.evm_model.specs.Event.{event_lent};
 ghost use Rattle.evm_model.specs.Refusals.{board_refusal};
 ghost use Rattle.evm_model.specs.Rows.{row};
 ghost use Rattle.evm_rules.proofs.Bounded.{AreWithin};
@@ -8,19 +9,19 @@ ghost use Rattle.evm_rules.proofs.Bounded.{AreWithin};
 use crate::board::Board;
 use crate::commands::{set_bits, set_pc, set_register, tick};
 use crate::instructions::stop;
-use evm_model::{Answer, Event};
+use evm_model::{Answer, Block, Event};
 
 impl Board {
     /// Does what an event that isn't refused does.
     #[tactic(auto, using(crate::proofs::Rooms::wider), unfolding(evm_model::specs::Rows::row, evm_model::specs::Refusals::board_refusal))]
-    pub fn row(&mut self, event: &Event) -> Answer
-        requires accepted { board_refusal event.now self.old ≡ Option.None }
+    pub fn row(&mut self, event: &Event<&Block>) -> Answer
+        requires accepted { board_refusal (event_lent event.now) self.old ≡ Option.None }
         requires good { Good self.old.parts }
         requires clock { self.old.parts.ticks < 2 ^ 63 }
         requires room { AreWithin (2 ^ 61) self.old.parts }
         requires stamps { self.old.parts.stamps ≤ 2 ^ 60 }
         requires held { HeldUpTo (2 ^ 62) self.old.parts.mutexes }
-        ensures { (self.new, result) ≡ row event.now self.old }
+        ensures { (self.new, result) ≡ row (event_lent event.now) self.old }
     {
         match event {
             Event::Step(c) => return self.step(*c),

@@ -2,13 +2,14 @@
 
 ghost use Rattle.std.specs.Prelude.{◌≡◌, ◌<◌, ◌≤◌, true, length};
 ghost use Rattle.evm_boost.specs.Scatter.{filled, raise_to, class_rank_at, own_ranks, next_ranks, AreRanks};
-ghost use Rattle.evm_model.specs.Mutexes.{raised, ceiling, waits_for};
+ghost use Rattle.evm_model.specs.Mutexes.{raised, ceiling};
 ghost use Rattle.evm_model.specs.Ranks.{class_rank, first, rank, stamp};
+ghost use Rattle.evm_model.specs.Waits.{awaits};
 ghost use Rattle.evm_ranks.specs.Boosts.{greater};
 ghost use Rattle.evm_ready.specs.Told.{rank_told};
 
 use crate::mutexes::Mutexes;
-use evm_model::{Class, Protocol, TASK_LIMIT, Task};
+use evm_model::{Class, Protocol, TASK_LIMIT, Task, Wait};
 use evm_wait::{first, rerank};
 
 fn class_rank(class: Class, priority: u8) -> u16
@@ -155,12 +156,11 @@ impl Mutexes {
         rank_told(&self.ranks(tasks), t)
     }
 
-    /// The number of the task that has mutex m next: of those that wait for it, the one of greatest rank, then of least
-    /// stamp.
-    pub fn first_waiter(&self, m: u8, tasks: &[Task]) -> Option<u8>
+    /// The number of the first task that waits for this: the one of greatest rank, then of least stamp.
+    pub fn first_waiter(&self, wait: Wait, tasks: &[Task]) -> Option<u8>
         requires { length tasks.now ≤ TASK_LIMIT }
-        ensures { result ≡ first (waits_for m tasks.now) (rank self.now tasks.now) (stamp tasks.now) (length tasks.now) }
+        ensures { result ≡ first (awaits wait tasks.now) (rank self.now tasks.now) (stamp tasks.now) (length tasks.now) }
     {
-        first(m, tasks, &self.ranks(tasks))
+        first(wait, tasks, &self.ranks(tasks))
     }
 }

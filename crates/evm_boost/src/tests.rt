@@ -217,8 +217,8 @@ fn a_chain_is_walked(rt: HostRuntime) {
     assert!(rt; !mutexes.meets(&tasks, 3, 2));
     assert_eq!(rt; mutexes.waits_on(&tasks, 2), Some(1));
     assert_eq!(rt; mutexes.boosts(&tasks, 2), Some(1));
-    assert_eq!(rt; mutexes.first_waiter(1, &tasks), Some(2));
-    assert_eq!(rt; mutexes.first_waiter(2, &tasks), None);
+    assert_eq!(rt; mutexes.first_waiter(Wait::Lock(1), &tasks), Some(2));
+    assert_eq!(rt; mutexes.first_waiter(Wait::Lock(2), &tasks), None);
     assert_eq!(rt; mutexes.rank(&tasks, 0), 101);
     assert_eq!(rt; mutexes.waits_on(&tasks, 3), None);
 }

@@ -29,23 +29,21 @@ use evm_inband::wait_line::wait_line;
 use evm_inband::yield_now::yield_now;
 use evm_model::{Call, Errno, Outcome, Stage};
 use evm_parts::Parts;
-use evm_ram::SIZE_LIMIT;
 use evm_task::Asked;
 
 // What a call does.
-fn perform(parts: &mut Parts, call: Call, ram: u64, asked: Asked, c: u8, t: u8) -> Outcome
-    requires ram { ram ≤ SIZE_LIMIT }
+fn perform(parts: &mut Parts, call: Call, asked: Asked, c: u8, t: u8) -> Outcome
     requires stamps { parts.old.stamps < 2 ^ 62 }
     requires harts { length parts.old.harts ≡ length parts.old.tasks }
     requires held { HeldUpTo (2 ^ 62) parts.old.mutexes }
-    ensures row { (hart : Hart) → AskedBy asked hart → (parts.new, result) ≡ perform call ram hart c t parts.old }
+    ensures row { (hart : Hart) → AskedBy asked hart → (parts.new, result) ≡ perform call hart c t parts.old }
     ensures stamps { parts.new.stamps ≤ parts.old.stamps + 32 }
 {
     match call {
         Call::Exit => exit(parts, c, t),
         Call::Putc => putc(parts, asked.first),
         Call::Yield => yield_now(parts, c, t),
-        Call::Spawn => spawn(parts, ram, asked.first, asked.second, asked.third),
+        Call::Spawn => spawn(parts, asked.first, asked.second, asked.third),
         Call::Stall => stall(parts, Stage::InBand, true, c),
         Call::Unstall => stall(parts, Stage::InBand, false, c),
         Call::WaitLine => wait_line(parts, c, t, asked.first),
@@ -95,14 +93,13 @@ fn answer(parts: &mut Parts, outcome: Outcome, c: u8, t: u8)
 }
 
 // What a call does, and what comes of it.
-fn finish(parts: &mut Parts, call: Call, ram: u64, asked: Asked, c: u8, t: u8)
-    requires ram { ram ≤ SIZE_LIMIT }
+fn finish(parts: &mut Parts, call: Call, asked: Asked, c: u8, t: u8)
     requires stamps { parts.old.stamps < 2 ^ 62 }
     requires harts { length parts.old.harts ≡ length parts.old.tasks }
     requires held { HeldUpTo (2 ^ 62) parts.old.mutexes }
-    ensures { (hart : Hart) → AskedBy asked hart → parts.new ≡ finish_call c t (perform call ram hart c t parts.old) }
+    ensures { (hart : Hart) → AskedBy asked hart → parts.new ≡ finish_call c t (perform call hart c t parts.old) }
 {
-    let outcome = perform(parts, call, ram, asked, c, t);
+    let outcome = perform(parts, call, asked, c, t);
     answer(parts, outcome, c, t);
 }
 
@@ -120,38 +117,36 @@ fn ask_oob(parts: &mut Parts, c: u8, t: u8)
 }
 
 // A call of the other stage changes the task's stage first; one of either stage never does.
-fn call_on(parts: &mut Parts, call: Call, ram: u64, asked: Asked, c: u8, t: u8)
-    requires ram { ram ≤ SIZE_LIMIT }
+fn call_on(parts: &mut Parts, call: Call, asked: Asked, c: u8, t: u8)
     requires stamps { parts.old.stamps < 2 ^ 62 }
     requires harts { length parts.old.harts ≡ length parts.old.tasks }
     requires held { HeldUpTo (2 ^ 62) parts.old.mutexes }
-    ensures { (hart : Hart) → AskedBy asked hart → parts.new ≡ call_on (call_stage call) call ram hart c t parts.old }
+    ensures { (hart : Hart) → AskedBy asked hart → parts.new ≡ call_on (call_stage call) call hart c t parts.old }
 {
     let is_oob = parts.tasks.is_oob(Some(t));
     match call.stage() {
         Some(Stage::InBand) if is_oob => parts.demote(c, t),
         Some(Stage::OutOfBand) if !is_oob => ask_oob(parts, c, t),
-        _ => finish(parts, call, ram, asked, c, t),
+        _ => finish(parts, call, asked, c, t),
     }
 }
 
-/// What the ECALL of a task does, on a machine with so many bytes of RAM. At a call of the in-band kernel an
+/// What the ECALL of a task does. At a call of the in-band kernel an
 /// out-of-band task goes in-band, its pc unchanged, and at one of the out-of-band kernel an in-band task goes
 /// out-of-band, or is answered -1 where it may not; so it makes the call again on the other stage. A number that is
 /// no call's answers -38.
 #[tactic(auto, unfolding(evm_model::specs::Calls::call))]
-pub fn call(parts: &mut Parts, ram: u64, c: u8, t: u8)
-    requires ram { ram ≤ SIZE_LIMIT }
+pub fn call(parts: &mut Parts, c: u8, t: u8)
     requires stamps { parts.old.stamps < 2 ^ 62 }
     requires harts { length parts.old.harts ≡ length parts.old.tasks }
     requires held { HeldUpTo (2 ^ 62) parts.old.mutexes }
-    ensures { parts.new ≡ call ram c t parts.old }
+    ensures { parts.new ≡ call c t parts.old }
 {
     let Some(asked) = parts.harts.asked(t) else {
         return;
     };
     match Call::of_number(asked.number) {
         None => answer(parts, refused(Errno::NoSuchCall), c, t),
-        Some(call) => call_on(parts, call, ram, asked, c, t),
+        Some(call) => call_on(parts, call, asked, c, t),
     }
 }

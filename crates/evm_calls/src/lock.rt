@@ -3,7 +3,7 @@ ghost use Rattle.evm_model.specs.Bounds.{HeldUpTo};
 ghost use Rattle.evm_model.specs.Locks.{lock, lock_again, lock_other};
 
 use evm_inband::refused::refused;
-use evm_model::{Errno, Mutex, Outcome, Stage};
+use evm_model::{Errno, Mutex, Outcome, Stage, Wait};
 use evm_parts::Parts;
 
 // The task has a mutex of its own once more, where that is recursive.
@@ -36,7 +36,7 @@ fn lock_other(parts: &mut Parts, c: u8, t: u8, m: u8, u: u8, deadline: u64) -> O
     if deadline != 0 {
         return refused(Errno::Invalid);
     }
-    parts.wait_for(t, m);
+    parts.begin_wait(t, Wait::Lock(m), deadline);
     Outcome::Waits
 }
 

@@ -1,6 +1,6 @@
 -- Which events raise a line.
 use Rattle.std.specs.Prelude.{ℕ, Bool, false, ◌==◌, ◌&&◌}
-use Rattle.evm_model.specs.declared.event.Event.{Event}
+use Rattle.evm_model.specs.Event.{Event}
 use Rattle.evm_model.specs.declared.event.Event.TheVariants.{Tick, Raise, Bell}
 
 -- the event raises line l on processor c: a tick the timer's on every one, a raise and a bell the line that they name

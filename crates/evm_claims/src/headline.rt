@@ -3,7 +3,8 @@ ghost use Rattle.std.specs.Prelude.{◌≡◌, ◌++◌, ℕ, List, [], ◌∷�
 ghost use Rattle.evm_model.specs.Replay.{start, replay};
 ghost use Rattle.evm_model.specs.State.{State};
 ghost use Rattle.evm_model.specs.declared.boot.Boot.{Boot};
-ghost use Rattle.evm_model.specs.declared.event.Event.{Event};
+ghost use Rattle.evm_model.specs.Event.{Event};
+ghost use Rattle.evm_model.specs.declared.event.Event.TheVariants as Event;
 
 /// Events and then others make of every machine what all of them make in one list: a run may be cut anywhere.
 pub fn replays_join()

@@ -8,7 +8,7 @@ ghost use Rattle.evm_model.specs.Ranks.{class_rank, own_rank, rank};
 ghost use Rattle.evm_model.specs.Replay.{bad_boot, start, replay};
 ghost use Rattle.evm_model.specs.State.{State, Parts};
 ghost use Rattle.evm_model.specs.declared.boot.Boot.{Boot};
-ghost use Rattle.evm_model.specs.declared.event.Event.{Event};
+ghost use Rattle.evm_model.specs.Event.{Event};
 ghost use Rattle.evm_model.specs.declared.mutex.Mutex.{Mutex};
 ghost use Rattle.evm_model.specs.declared.mutex.Protocol.{Protocol};
 ghost use Rattle.evm_model.specs.declared.task.Task.{Task};

@@ -7,7 +7,8 @@ ghost use Rattle.evm_model.specs.Replay.{start, replay};
 ghost use Rattle.evm_model.specs.State.{State};
 ghost use Rattle.evm_model.specs.declared.boot.Boot.{Boot};
 ghost use Rattle.evm_model.specs.declared.counts.Counts.{Counts};
-ghost use Rattle.evm_model.specs.declared.event.Event.{Event};
+ghost use Rattle.evm_model.specs.Event.{Event};
+ghost use Rattle.evm_model.specs.declared.event.Event.TheVariants as Event;
 ghost use Rattle.evm_claims.specs.Raising.{raises};
 
 /// After every boot, with an image loaded or none, and every list of events, each line of each processor was raised

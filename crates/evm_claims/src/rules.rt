@@ -10,7 +10,7 @@ ghost use Rattle.evm_model.specs.Replay.{bad_boot, start, replay};
 ghost use Rattle.evm_model.specs.Settle.{is_oob, settle_and_nudge};
 ghost use Rattle.evm_model.specs.State.{State, on_processor};
 ghost use Rattle.evm_model.specs.declared.boot.Boot.{Boot};
-ghost use Rattle.evm_model.specs.declared.event.Event.{Event};
+ghost use Rattle.evm_model.specs.Event.{Event};
 ghost use Rattle.evm_model.specs.declared.processor.Processor.{Processor};
 
 /// After every boot whose numbers are inside their limits, with an image loaded or none, and every list of events: a

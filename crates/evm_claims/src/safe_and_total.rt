@@ -8,7 +8,7 @@ ghost use Rattle.evm_model.specs.Replay.{bad_boot, start, replay};
 ghost use Rattle.evm_model.specs.State.{State, Board};
 ghost use Rattle.evm_model.specs.declared.boot.Boot.{Boot};
 ghost use Rattle.evm_model.specs.declared.counts.Counts.{Counts};
-ghost use Rattle.evm_model.specs.declared.event.Event.{Event};
+ghost use Rattle.evm_model.specs.Event.{Event};
 ghost use Rattle.evm_model.specs.declared.mutex.Mutex.{Mutex};
 
 /// Whatever happens to a machine, it has as many processors, pipes and bytes of RAM afterwards, no fewer tasks and

@@ -4,7 +4,7 @@ use Rattle.evm_model.specs.Bounds.{HeldUpTo}
 use Rattle.evm_model.specs.Good.{GoodState}
 use Rattle.evm_model.specs.Replay.{IsReplayOf, replay}
 use Rattle.evm_model.specs.State.{State}
-use Rattle.evm_model.specs.declared.event.Event.{Event}
+use Rattle.evm_model.specs.Event.{Event}
 use Rattle.evm_rules.proofs.Bounded.{AreWithin, within-more}
 use Rattle.evm_rules.proofs.States.{counts_room, holds_room, ticks_room, stamps_room}
 

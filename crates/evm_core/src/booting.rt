@@ -10,10 +10,7 @@ use evm_board::{Board, Memory};
 use evm_boost::Mutexes;
 use evm_breaks::Breakpoints;
 use evm_exec::Hart;
-use evm_model::{
-    Boot, CAPACITY_LIMIT, Class, Mode, PROCESSOR_LIMIT, Processor, RAM_LEAST, RAM_UNIT, Task,
-    TaskState,
-};
+use evm_model::{Boot, CAPACITY_LIMIT, Class, Mode, PROCESSOR_LIMIT, Processor, RAM_LEAST, RAM_UNIT, Task, TaskState, Profile};
 use evm_parts::{Console, Parts};
 use evm_pipe::Pipe;
 use evm_quiet::Slots;
@@ -108,6 +105,7 @@ fn parts_of(boot: &Boot, console: Console) -> Parts
         *place = first;
     }
     Parts {
+        profile: Profile { ram: boot.ram },
         ticks: 0,
         harts: Harts::of_first(hart_zero(boot.ram)),
         tasks: Tasks::of_first(task_zero()),
@@ -144,11 +142,20 @@ impl Machine {
     pub fn boot(alloc: Global, cpus: u8, ram: u64, capacity: u32) -> Result<Machine, Refusal>
         ensures { BootAnswers (record { cpus = cpus; ram = ram; capacity = capacity }) result }
     {
-        let boot = Boot {
-            cpus: u64::from(cpus),
-            ram,
-            capacity: u64::from(capacity),
-        };
+        Machine::from_boot(
+            alloc,
+            Boot {
+                cpus: u64::from(cpus),
+                ram,
+                capacity: u64::from(capacity),
+            },
+        )
+    }
+
+    /// The same of the numbers of a boot line, which may be any.
+    pub fn from_boot(alloc: Global, boot: Boot) -> Result<Machine, Refusal>
+        ensures { BootAnswers boot result }
+    {
         if is_bad(&boot) {
             return Err(Refusal::BadSize);
         }

@@ -46,11 +46,11 @@ fn poke_of(words: &[u32]) -> Event {
 }
 
 fn answers(rt: &impl Abort, machine: &mut Machine, event: Event, wanted: Answer) {
-    assert_eq!(rt; machine.apply(event), Ok(wanted));
+    assert_eq!(rt; machine.apply(event.lend()), Ok(wanted));
 }
 
 fn refuses(rt: &impl Abort, machine: &mut Machine, event: Event, wanted: Refusal) {
-    assert_eq!(rt; machine.apply(event), Err(wanted));
+    assert_eq!(rt; machine.apply(event.lend()), Err(wanted));
 }
 
 // The debugger's commands, up to the task's second instruction.

@@ -6,7 +6,7 @@ use Rattle.std.proofs.lemmas.Bool.{cases_Bool}
 use Rattle.evm_text.specs.Rows.{IsRowOf, rows_at, rows_as}
 use Rattle.evm_text.proofs.Rows.{reads_table, Each, row_is, row_of_either, row_of_first, row_of_second, row_as_takes, row_as_again, row_begins_so}
 use Rattle.evm_model.specs.declared.boot.Boot.{Boot as Numbers}
-use Rattle.evm_history.specs.declared.event_line.EventLine.{EventLine}
+use Rattle.evm_history.specs.EventLine.{EventLine}
 use Rattle.evm_history.specs.declared.event_line.EventLine.TheVariants as events
 use Rattle.evm_journal.specs.EventLine.{event_rows, short_rows}
 use Rattle.evm_journal.specs.Journal.{boot_row}
@@ -16,7 +16,7 @@ use Rattle.evm_debug.specs.declared.line.View.{View}
 use Rattle.evm_debug.specs.declared.line.View.TheVariants.{Regs, Mem, Stages, Tasks, Owners, Rank, Counts, Journal, Console}
 use Rattle.evm_debug.specs.declared.line.Line.{Line}
 use Rattle.evm_debug.specs.declared.line.Line.TheVariants.{Blank, Boot, Steps, One, Look}
-use Rattle.evm_debug.specs.Line.{bare_rows, view_rows, view_text, HasViewLine, script_boot, script_line, script_rows, is_blank_line, IsSpelled}
+use Rattle.evm_debug.specs.Line.{bare_rows, view_rows, view_text, HasViewLine, script_line, script_rows, is_blank_line, IsSpelled}
 use Rattle.evm_debug.specs.LineReading.{line_at, ReadsLines}
 
 -- ---- a view
@@ -51,9 +51,9 @@ events_spelled (events.One event) bytes is = is
 
 row_is_spelled : (line : Line) (bytes : List ℕ) → IsRowOf script_rows line bytes → IsSpelled line bytes
 row_is_spelled line bytes is =
-    elim (row_of_either (rows_as script_boot (boot_row ∷ [])) (rows_as Look view_rows ++ rows_as script_line event_rows) line bytes is) [
+    elim (row_of_either (rows_as Boot (boot_row ∷ [])) (rows_as Look view_rows ++ rows_as script_line event_rows) line bytes is) [
       | inl boot ↦
-          let a = row_as_takes script_boot (boot_row ∷ []) line bytes boot in
+          let a = row_as_takes Boot (boot_row ∷ []) line bytes boot in
           subst (λ (x : Line). IsSpelled x bytes) a.2 (row_is_boot a.0 bytes a.1)
       | inr other ↦
           elim (row_of_either (rows_as Look view_rows) (rows_as script_line event_rows) line bytes other) [
@@ -66,12 +66,12 @@ row_is_spelled line bytes is =
           ]
     ]
 
-boot_is_spelled : (boot : Numbers) (bytes : List ℕ) → IsRowOf (boot_row ∷ []) boot bytes → IsRowOf script_rows (script_boot boot) bytes
+boot_is_spelled : (boot : Numbers) (bytes : List ℕ) → IsRowOf (boot_row ∷ []) boot bytes → IsRowOf script_rows (Boot boot) bytes
 boot_is_spelled boot bytes is =
-    row_of_first (rows_as script_boot (boot_row ∷ [])) (rows_as Look view_rows ++ rows_as script_line event_rows) (script_boot boot) bytes (row_as_again script_boot (boot_row ∷ []) boot bytes is)
+    row_of_first (rows_as Boot (boot_row ∷ [])) (rows_as Look view_rows ++ rows_as script_line event_rows) (Boot boot) bytes (row_as_again Boot (boot_row ∷ []) boot bytes is)
 
 later_is_row : (line : Line) (bytes : List ℕ) → IsRowOf (rows_as Look view_rows ++ rows_as script_line event_rows) line bytes → IsRowOf script_rows line bytes
-later_is_row line bytes is = row_of_second (rows_as script_boot (boot_row ∷ [])) (rows_as Look view_rows ++ rows_as script_line event_rows) line bytes is
+later_is_row line bytes is = row_of_second (rows_as Boot (boot_row ∷ [])) (rows_as Look view_rows ++ rows_as script_line event_rows) line bytes is
 
 event_is_spelled : (line : EventLine) (bytes : List ℕ) → IsLine line bytes → IsRowOf script_rows (script_line line) bytes
 event_is_spelled line bytes is =
@@ -124,9 +124,7 @@ blank_read bytes blank = rw blank refl
 
 line_again : (line : Line) (bytes : List ℕ) → IsSpelled line bytes → line_at bytes ≡ Some line
 line_again Blank bytes is = blank_read bytes is
-line_again (Boot cpus ram capacity) bytes is =
-    let boot : Numbers = record { cpus = cpus; ram = ram; capacity = capacity } in
-    row_read (Boot cpus ram capacity) bytes (boot_is_spelled boot bytes (boot_is_row boot bytes is))
+line_again (Boot boot) bytes is = row_read (Boot boot) bytes (boot_is_spelled boot bytes (boot_is_row boot bytes is))
 line_again (Steps cpu count) bytes is = row_read (Steps cpu count) bytes (event_is_spelled (events.Steps cpu count) bytes is)
 line_again (One event) bytes is = row_read (One event) bytes (event_is_spelled (events.One event) bytes is)
 line_again (Look view) bytes is =

@@ -4,8 +4,7 @@ use Rattle.evm_text.specs.Rows.{Byte, Decimal, Hexadecimal, LineRow, line_row, F
 use Rattle.evm_text.specs.Reading.{◌>>=◌}
 use Rattle.evm_journal.specs.EventLine.{event_rows, event_line_text, HasEventLine}
 use Rattle.evm_journal.specs.Journal.{boot_row, boot_text, HasBootLine}
-use Rattle.evm_model.specs.declared.boot.Boot.{Boot as Numbers}
-use Rattle.evm_history.specs.declared.event_line.EventLine.{EventLine}
+use Rattle.evm_history.specs.EventLine.{EventLine}
 use Rattle.evm_history.specs.declared.event_line.EventLine.TheVariants as events
 use Rattle.evm_debug.specs.declared.line.View.{View}
 use Rattle.evm_debug.specs.declared.line.View.TheVariants.{Regs, Mem, Stages, Tasks, Owners, Rank, Counts, Journal, Console}
@@ -69,10 +68,6 @@ HasViewLine view = Fit (view_row view)
 
 -- ---- a script
 
--- a boot line in a script
-abbrev pub script_boot : Numbers → Line
-script_boot boot = Boot boot.cpus boot.ram boot.capacity
-
 -- a line of events in a script
 abbrev pub script_line : EventLine → Line
 script_line (events.Steps cpu count) = Steps cpu count
@@ -83,7 +78,7 @@ abbrev pub bare_said : View → List ℕ → Option Line
 bare_said view rest = values_at [] rest >>= λ values. Some (Look view)
 
 abbrev pub script_rows : List (LineRow Line)
-script_rows = rows_as script_boot (boot_row ∷ []) ++ (rows_as Look view_rows ++ rows_as script_line event_rows)
+script_rows = rows_as Boot (boot_row ∷ []) ++ (rows_as Look view_rows ++ rows_as script_line event_rows)
 
 -- no bytes, or a # first and any bytes behind it
 abbrev pub is_blank_line : List ℕ → Bool
@@ -93,8 +88,7 @@ is_blank_line (b ∷ bytes) = b == 35
 -- The bytes, without a newline, are a spelling of the line. Only a blank line has more than one.
 abbrev pub IsSpelled : Line → List ℕ → Type 0
 IsSpelled Blank bytes = is_blank_line bytes ≡ true
-IsSpelled (Boot cpus ram capacity) bytes =
-    (bytes ≡ boot_text (record { cpus = cpus; ram = ram; capacity = capacity })) × HasBootLine (record { cpus = cpus; ram = ram; capacity = capacity })
+IsSpelled (Boot boot) bytes = (bytes ≡ boot_text boot) × HasBootLine boot
 IsSpelled (Steps cpu count) bytes = (bytes ≡ event_line_text (events.Steps cpu count)) × HasEventLine (events.Steps cpu count)
 IsSpelled (One event) bytes = (bytes ≡ event_line_text (events.One event)) × HasEventLine (events.One event)
 IsSpelled (Look view) bytes = (bytes ≡ view_text view) × HasViewLine view

@@ -2,6 +2,7 @@
 
 ghost use Rattle.std.specs.Prelude.{◌≡◌, ◌<◌, ◌≤◌, ◌+◌, ◌++◌, length, slice_get, OnOk, OnErr, IfOk, IfErr};
 ghost use Rattle.std.specs.String.{string_bytes, string_capacity, string_len};
+ghost use Rattle.evm_text.specs.Appending.{Appends};
 ghost use Rattle.evm_core.specs.Views.{stages_at};
 ghost use Rattle.evm_debug.specs.Summary.{stages_below, stages_or_none, summary_text};
 ghost use Rattle.evm_room.specs.Growth.{RefusedWithin};
@@ -14,12 +15,7 @@ use std::alloc::Global;
 
 // The stages of the processor of a number, if there is one.
 fn push_stages_of(out: &mut String, c: u8, machine: &Machine) -> Result<(), Refused>
-    ensures ok { OnOk result (string_bytes out.new ≡ string_bytes out.old ++ stages_or_none c (slice_get machine.now.board.parts.processors c) (stages_at c machine.now.board.parts)) }
-    // It gives up only where there is no room for the text, and a growth by no more than the text was refused.
-    ensures len { OnOk result (string_len out.new ≡ string_len out.old + length (stages_or_none c (slice_get machine.now.board.parts.processors c) (stages_at c machine.now.board.parts))) }
-    ensures full { OnErr result (string_capacity out.old < string_len out.old + length (stages_or_none c (slice_get machine.now.board.parts.processors c) (stages_at c machine.now.board.parts))) }
-    ensures refused { IfErr result (λ asked. asked ≤ length (stages_or_none c (slice_get machine.now.board.parts.processors c) (stages_at c machine.now.board.parts))) }
-    ensures capacity { string_capacity out.old ≤ string_capacity out.new }
+    ensures { Appends (stages_or_none c (slice_get machine.now.board.parts.processors c) (stages_at c machine.now.board.parts)) out.old out.new result }
 {
     let Some(processor) = machine.cpu(c) else {
         return Ok(());
@@ -32,15 +28,13 @@ fn push_stages_of(out: &mut String, c: u8, machine: &Machine) -> Result<(), Refu
 
 #[tactic(auto, using(crate::proofs::Below::stages))]
 fn push_all_stages(out: &mut String, machine: &Machine) -> Result<(), Refused>
-    ensures ok { OnOk result (string_bytes out.new ≡ string_bytes out.old ++ stages_below (length machine.now.board.parts.processors) machine.now.board.parts) }
-    // It gives up only where there is no room for the text, and a growth by no more than the text was refused.
-    ensures len { OnOk result (string_len out.new ≡ string_len out.old + length (stages_below (length machine.now.board.parts.processors) machine.now.board.parts)) }
-    ensures full { OnErr result (string_capacity out.old < string_len out.old + length (stages_below (length machine.now.board.parts.processors) machine.now.board.parts)) }
-    ensures refused { IfErr result (λ asked. asked ≤ length (stages_below (length machine.now.board.parts.processors) machine.now.board.parts)) }
-    ensures capacity { string_capacity out.old ≤ string_capacity out.new }
+    ensures { Appends (stages_below (length machine.now.board.parts.processors) machine.now.board.parts) out.old out.new result }
 {
     for c in 0..machine.cpu_count() {
-        push_stages_of(out, c, machine)?;
+        match push_stages_of(out, c, machine) {
+            Ok(()) => {}
+            Err(refused) => return Err(refused),
+        }
     }
     Ok(())
 }
@@ -49,12 +43,7 @@ fn push_all_stages(out: &mut String, machine: &Machine) -> Result<(), Refused>
 /// its mutexes. On an `Err` a part of them may have been appended.
 #[tactic(auto, using(crate::proofs::Below::lengths))]
 pub fn push_summary(out: &mut String, machine: &Machine) -> Result<(), Refused>
-    ensures ok { OnOk result (string_bytes out.new ≡ string_bytes out.old ++ summary_text machine.now) }
-    // It gives up only where there is no room for the text, and a growth by no more than the text was refused.
-    ensures len { OnOk result (string_len out.new ≡ string_len out.old + length (summary_text machine.now)) }
-    ensures full { OnErr result (string_capacity out.old < string_len out.old + length (summary_text machine.now)) }
-    ensures refused { IfErr result (λ asked. asked ≤ length (summary_text machine.now)) }
-    ensures capacity { string_capacity out.old ≤ string_capacity out.new }
+    ensures { Appends (summary_text machine.now) out.old out.new result }
 {
     push_all_stages(out, machine)?;
     push_tasks(out, machine)?;

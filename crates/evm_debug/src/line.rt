@@ -1,4 +1,4 @@
-use evm_model::Event;
+use evm_model::{Boot, Event};
 
 /// What a line asks to see.
 #[derive(Clone, Copy, Debug, PartialEq, Eq)]
@@ -30,7 +30,7 @@ pub enum Line {
     Blank,
     /// `boot P RAM CAP`: as many processors, bytes of RAM and events of the journal. Any numbers
     /// below 2^64 are grammatical.
-    Boot { cpus: u64, ram: u64, capacity: u64 },
+    Boot(Boot),
     /// `step C N`: a processor takes so many steps, 1 to 1048576.
     Steps(u8, u32),
     /// Any other event.

@@ -1,5 +1,6 @@
 ghost use Rattle.std.specs.Prelude.{◌≡◌, ◌<◌, ◌≤◌, ◌+◌, ◌++◌, length, OnOk, OnErr, IfErr};
 ghost use Rattle.std.specs.String.{string_bytes, string_capacity, string_len};
+ghost use Rattle.evm_text.specs.Appending.{Appends};
 ghost use Rattle.evm_text.specs.Written.{decimal};
 ghost use Rattle.evm_debug.specs.Views.{state_text, wait_text, class_text, number_text, two_digits};
 ghost use Rattle.evm_debug.specs.Pieces.{piece_text, pieces_text};
@@ -23,24 +24,14 @@ fn class_name(class: Class) -> &'static str
 // A word and a number behind it.
 #[tactic(auto, using(crate::proofs::Below::lengths))]
 fn push_numbered(out: &mut String, word: &str, number: u8) -> Result<(), Refused>
-    ensures ok { OnOk result (string_bytes out.new ≡ string_bytes out.old ++ (word.now ++ decimal number)) }
-    // It gives up only where there is no room for the text, and a growth by no more than the text was refused.
-    ensures len { OnOk result (string_len out.new ≡ string_len out.old + length (word.now ++ decimal number)) }
-    ensures full { OnErr result (string_capacity out.old < string_len out.old + length (word.now ++ decimal number)) }
-    ensures refused { IfErr result (λ asked. asked ≤ length (word.now ++ decimal number)) }
-    ensures capacity { string_capacity out.old ≤ string_capacity out.new }
+    ensures { Appends (word.now ++ decimal number) out.old out.new result }
 {
     push_text(out, word)?;
     push_decimal(out, u64::from(number))
 }
 
 fn push_wait(out: &mut String, wait: Wait) -> Result<(), Refused>
-    ensures ok { OnOk result (string_bytes out.new ≡ string_bytes out.old ++ wait_text wait) }
-    // It gives up only where there is no room for the text, and a growth by no more than the text was refused.
-    ensures len { OnOk result (string_len out.new ≡ string_len out.old + length (wait_text wait)) }
-    ensures full { OnErr result (string_capacity out.old < string_len out.old + length (wait_text wait)) }
-    ensures refused { IfErr result (λ asked. asked ≤ length (wait_text wait)) }
-    ensures capacity { string_capacity out.old ≤ string_capacity out.new }
+    ensures { Appends (wait_text wait) out.old out.new result }
 {
     match wait {
         Wait::Line(line) => push_numbered(out, "in-wait ", line),
@@ -54,12 +45,7 @@ fn push_wait(out: &mut String, wait: Wait) -> Result<(), Refused>
 }
 
 fn push_state(out: &mut String, state: TaskState) -> Result<(), Refused>
-    ensures ok { OnOk result (string_bytes out.new ≡ string_bytes out.old ++ state_text state) }
-    // It gives up only where there is no room for the text, and a growth by no more than the text was refused.
-    ensures len { OnOk result (string_len out.new ≡ string_len out.old + length (state_text state)) }
-    ensures full { OnErr result (string_capacity out.old < string_len out.old + length (state_text state)) }
-    ensures refused { IfErr result (λ asked. asked ≤ length (state_text state)) }
-    ensures capacity { string_capacity out.old ≤ string_capacity out.new }
+    ensures { Appends (state_text state) out.old out.new result }
 {
     match state {
         TaskState::InReady => push_text(out, "in-ready"),
@@ -71,12 +57,7 @@ fn push_state(out: &mut String, state: TaskState) -> Result<(), Refused>
 }
 
 fn push_number(out: &mut String, task: Option<u8>) -> Result<(), Refused>
-    ensures ok { OnOk result (string_bytes out.new ≡ string_bytes out.old ++ number_text task) }
-    // It gives up only where there is no room for the text, and a growth by no more than the text was refused.
-    ensures len { OnOk result (string_len out.new ≡ string_len out.old + length (number_text task)) }
-    ensures full { OnErr result (string_capacity out.old < string_len out.old + length (number_text task)) }
-    ensures refused { IfErr result (λ asked. asked ≤ length (number_text task)) }
-    ensures capacity { string_capacity out.old ≤ string_capacity out.new }
+    ensures { Appends (number_text task) out.old out.new result }
 {
     match task {
         None => push_text(out, "none"),
@@ -86,24 +67,14 @@ fn push_number(out: &mut String, task: Option<u8>) -> Result<(), Refused>
 
 #[tactic(auto, using(crate::proofs::Below::lengths))]
 fn push_two_digits(out: &mut String, n: u8) -> Result<(), Refused>
-    ensures ok { OnOk result (string_bytes out.new ≡ string_bytes out.old ++ two_digits n) }
-    // It gives up only where there is no room for the text, and a growth by no more than the text was refused.
-    ensures len { OnOk result (string_len out.new ≡ string_len out.old + length (two_digits n)) }
-    ensures full { OnErr result (string_capacity out.old < string_len out.old + length (two_digits n)) }
-    ensures refused { IfErr result (λ asked. asked ≤ length (two_digits n)) }
-    ensures capacity { string_capacity out.old ≤ string_capacity out.new }
+    ensures { Appends (two_digits n) out.old out.new result }
 {
     push_decimal(out, u64::from(n / 10))?;
     push_decimal(out, u64::from(n % 10))
 }
 
 fn push_piece(out: &mut String, piece: &Piece<'_>) -> Result<(), Refused>
-    ensures ok { OnOk result (string_bytes out.new ≡ string_bytes out.old ++ piece_text piece.now) }
-    // It gives up only where there is no room for the text, and a growth by no more than the text was refused.
-    ensures len { OnOk result (string_len out.new ≡ string_len out.old + length (piece_text piece.now)) }
-    ensures full { OnErr result (string_capacity out.old < string_len out.old + length (piece_text piece.now)) }
-    ensures refused { IfErr result (λ asked. asked ≤ length (piece_text piece.now)) }
-    ensures capacity { string_capacity out.old ≤ string_capacity out.new }
+    ensures { Appends (piece_text piece.now) out.old out.new result }
 {
     match piece {
         Piece::Text(text) => push_text(out, text),
@@ -129,12 +100,7 @@ fn push_piece(out: &mut String, piece: &Piece<'_>) -> Result<(), Refused>
 /// Appends the pieces, one behind another.
 #[tactic(auto, using(crate::proofs::Below::lengths))]
 pub(crate) fn push_pieces(out: &mut String, pieces: &[Piece<'_>]) -> Result<(), Refused>
-    ensures ok { OnOk result (string_bytes out.new ≡ string_bytes out.old ++ pieces_text pieces.now) }
-    // It gives up only where there is no room for the text, and a growth by no more than the text was refused.
-    ensures len { OnOk result (string_len out.new ≡ string_len out.old + length (pieces_text pieces.now)) }
-    ensures full { OnErr result (string_capacity out.old < string_len out.old + length (pieces_text pieces.now)) }
-    ensures refused { IfErr result (λ asked. asked ≤ length (pieces_text pieces.now)) }
-    ensures capacity { string_capacity out.old ≤ string_capacity out.new }
+    ensures { Appends (pieces_text pieces.now) out.old out.new result }
 {
     for piece in pieces {
         push_piece(out, piece)?;

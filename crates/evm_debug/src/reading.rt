@@ -1,16 +1,17 @@
 ghost use Rattle.std.specs.Prelude.{◌≡◌, ◌↔◌, ◌++◌, Ok, Some, [], IfSome, option_map};
 ghost use Rattle.std.specs.Result.{result_ok};
+ghost use Rattle.evm_history.specs.EventLine.{short_line};
 ghost use Rattle.evm_text.specs.Rows.{said_at, rows_at, row_as, rows_as};
 ghost use Rattle.evm_journal.specs.EventLine.{event_rows, short_rows};
-ghost use Rattle.evm_journal.specs.Short.{short_line};
 ghost use Rattle.evm_journal.specs.Journal.{boot_row};
-ghost use Rattle.evm_debug.specs.Line.{mem_row, counts_row, bare_rows, bare_said, view_rows, script_boot, script_line, is_blank_line, IsSpelled};
+ghost use Rattle.evm_debug.specs.Line.{mem_row, counts_row, bare_rows, bare_said, view_rows, script_line, is_blank_line, IsSpelled};
 ghost use Rattle.evm_debug.specs.LineReading.{line_at};
-ghost use Rattle.evm_debug.specs.declared.line.Line.TheVariants.{Look};
+ghost use Rattle.evm_debug.specs.declared.line.Line.TheVariants.{Boot, Look};
 
 use crate::line::{Bad, Line, View};
-use evm_journal::{EventLine, ShortLine, read_event_line, read_short_line};
-use evm_text::{after_word, decimal_last, decimal_then, hexadecimal_then, u8_last, u8_then};
+use evm_journal::{EventLine, read_boot_numbers, read_event_line, read_short_line};
+use evm_model::NoBytes;
+use evm_text::{after_word, decimal_last, hexadecimal_then, u8_last, u8_then};
 
 fn is_blank_line(bytes: &[u8]) -> bool
     ensures { result ≡ is_blank_line bytes.now }
@@ -22,16 +23,9 @@ fn is_blank_line(bytes: &[u8]) -> bool
 }
 
 fn boot_at(bytes: &[u8]) -> Option<Line>
-    ensures { result ≡ said_at (row_as script_boot boot_row) bytes.now }
+    ensures { result ≡ said_at (row_as Boot boot_row) bytes.now }
 {
-    let (cpus, rest) = decimal_then(bytes)?;
-    let (ram, rest) = decimal_then(rest)?;
-    let capacity = decimal_last(rest)?;
-    Some(Line::Boot {
-        cpus,
-        ram,
-        capacity,
-    })
+    Some(Line::Boot(read_boot_numbers(bytes)?))
 }
 
 fn mem_at(bytes: &[u8]) -> Option<Line>
@@ -123,7 +117,7 @@ fn line_at(bytes: &[u8]) -> Option<Line>
 /// What a line of a script says that is one of events and holds no bytes, as most lines of a long script are. It comes
 /// without its newline. None where it is none such.
 #[tactic(auto, using(crate::proofs::Lines::short_read))]
-pub fn read_short(bytes: &[u8]) -> Option<ShortLine>
+pub fn read_short(bytes: &[u8]) -> Option<EventLine<NoBytes>>
     // It is what the whole grammar reads.
     ensures read { IfSome result (λ short. line_at bytes.now ≡ Some (script_line (short_line short))) }
     // Each that is such a line is read.

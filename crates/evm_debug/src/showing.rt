@@ -1,5 +1,6 @@
 ghost use Rattle.std.specs.Prelude.{◌≡◌, ◌<◌, ◌≤◌, ◌+◌, ◌++◌, length, Result, MatchResult, OnOk, OnErr, IfOk, IfErr, IsOkAnd, codes};
 ghost use Rattle.std.specs.String.{string_bytes, string_capacity, string_len};
+ghost use Rattle.evm_text.specs.Appending.{Appends};
 ghost use Rattle.evm_text.specs.Written.{pairs};
 ghost use Rattle.evm_debug.specs.Views.{shown, Shows, ViewFails};
 
@@ -104,12 +105,7 @@ pub fn view(alloc: Global, machine: &Machine, what: &View) -> Result<String, Vie
 
 #[tactic(auto, using(crate::proofs::Below::consoles))]
 fn push_console(out: &mut String, older: &[u8], newer: &[u8]) -> Result<(), Refused>
-    ensures ok { OnOk result (string_bytes out.new ≡ string_bytes out.old ++ (pairs (older.now ++ newer.now) ++ codes "\n")) }
-    // It gives up only where there is no room for the text, and a growth by no more than the text was refused.
-    ensures len { OnOk result (string_len out.new ≡ string_len out.old + length (pairs (older.now ++ newer.now) ++ codes "\n")) }
-    ensures full { OnErr result (string_capacity out.old < string_len out.old + length (pairs (older.now ++ newer.now) ++ codes "\n")) }
-    ensures refused { IfErr result (λ asked. asked ≤ length (pairs (older.now ++ newer.now) ++ codes "\n")) }
-    ensures capacity { string_capacity out.old ≤ string_capacity out.new }
+    ensures { Appends (pairs (older.now ++ newer.now) ++ codes "\n") out.old out.new result }
 {
     push_pairs(out, older)?;
     push_pairs(out, newer)?;
@@ -119,12 +115,7 @@ fn push_console(out: &mut String, older: &[u8], newer: &[u8]) -> Result<(), Refu
 
 #[tactic(auto, using(crate::proofs::Below::lengths))]
 fn push_bytes(out: &mut String, bytes: &[u8]) -> Result<(), Refused>
-    ensures ok { OnOk result (string_bytes out.new ≡ string_bytes out.old ++ (pairs bytes.now ++ codes "\n")) }
-    // It gives up only where there is no room for the text, and a growth by no more than the text was refused.
-    ensures len { OnOk result (string_len out.new ≡ string_len out.old + length (pairs bytes.now ++ codes "\n")) }
-    ensures full { OnErr result (string_capacity out.old < string_len out.old + length (pairs bytes.now ++ codes "\n")) }
-    ensures refused { IfErr result (λ asked. asked ≤ length (pairs bytes.now ++ codes "\n")) }
-    ensures capacity { string_capacity out.old ≤ string_capacity out.new }
+    ensures { Appends (pairs bytes.now ++ codes "\n") out.old out.new result }
 {
     push_pairs(out, bytes)?;
     push_text(out, "\n")

@@ -1,7 +1,7 @@
 use super::*;
 use evm_core::Machine;
-use evm_journal::{ShortEvent, ShortLine};
-use evm_model::Event;
+use evm_journal::EventLine;
+use evm_model::{Boot, Event};
 use evm_ram::Refusal;
 use std::process::Abort;
 use std::test::Fail;
@@ -45,11 +45,11 @@ fn lines_are_read(rt: HostRuntime) {
     is(&rt, b"", Line::Blank);
     is(&rt, b"# a comment\r", Line::Blank);
     is(&rt, &[b'#', 255], Line::Blank);
-    let boot = Line::Boot {
+    let boot = Line::Boot(Boot {
         cpus: 1,
         ram: 65536,
         capacity: u64::MAX,
-    };
+    });
     is(&rt, b"boot 1 65536 18446744073709551615", boot);
     is(&rt, b"step 3 1048576", Line::Steps(3, 1048576));
     is(&rt, b"raise 0 31", Line::One(Event::Raise(0, 31)));
@@ -67,12 +67,12 @@ fn lines_are_read(rt: HostRuntime) {
 fn lines_that_hold_no_bytes_are_read_small(rt: HostRuntime) {
     assert_eq!(rt;
         read_short(b"step 7 1048576"),
-        Some(ShortLine::Steps(7, 1_048_576))
+        Some(EventLine::Steps(7, 1_048_576))
     );
-    assert_eq!(rt; read_short(b"tick"), Some(ShortLine::One(ShortEvent::Tick)));
+    assert_eq!(rt; read_short(b"tick"), Some(EventLine::One(Event::Tick)));
     assert_eq!(rt;
         read_short(b"unbreak 80000004"),
-        Some(ShortLine::One(ShortEvent::Unbreak(0x8000_0004)))
+        Some(EventLine::One(Event::Unbreak(0x8000_0004)))
     );
     for text in [
         b"".as_slice(),

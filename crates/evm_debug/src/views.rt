@@ -1,5 +1,6 @@
 ghost use Rattle.std.specs.Prelude.{◌≡◌, ◌<◌, ◌≤◌, ◌+◌, ◌++◌, length, OnOk, OnErr, IfErr, Option, slice_get};
 ghost use Rattle.std.specs.String.{string_bytes, string_capacity, string_len};
+ghost use Rattle.evm_text.specs.Appending.{Appends};
 ghost use Rattle.evm_debug.specs.Views.{four_registers, registers_text, current_text, regs_text, task_text, tasks_text, owner_text, owners_text, rank_text, stages_text, counts_text};
 ghost use Rattle.evm_exec.specs.Registers.{register_of};
 
@@ -24,12 +25,7 @@ fn value(hart: &Hart, r: u8) -> u64
 
 fn push_register_line(out: &mut String, r: u8, hart: &Hart) -> Result<(), Refused>
     requires { r + 3 < 32 }
-    ensures ok { OnOk result (string_bytes out.new ≡ string_bytes out.old ++ four_registers r hart.now.regs) }
-    // It gives up only where there is no room for the text, and a growth by no more than the text was refused.
-    ensures len { OnOk result (string_len out.new ≡ string_len out.old + length (four_registers r hart.now.regs)) }
-    ensures full { OnErr result (string_capacity out.old < string_len out.old + length (four_registers r hart.now.regs)) }
-    ensures refused { IfErr result (λ asked. asked ≤ length (four_registers r hart.now.regs)) }
-    ensures capacity { string_capacity out.old ≤ string_capacity out.new }
+    ensures { Appends (four_registers r hart.now.regs) out.old out.new result }
 {
     let line = [
         Piece::Text("x"),
@@ -55,27 +51,20 @@ fn push_register_line(out: &mut String, r: u8, hart: &Hart) -> Result<(), Refuse
 
 #[tactic(auto, using(crate::proofs::RegisterLines::first_line))]
 fn push_registers(out: &mut String, hart: &Hart) -> Result<(), Refused>
-    ensures ok { OnOk result (string_bytes out.new ≡ string_bytes out.old ++ registers_text hart.now.regs) }
-    // It gives up only where there is no room for the text, and a growth by no more than the text was refused.
-    ensures len { OnOk result (string_len out.new ≡ string_len out.old + length (registers_text hart.now.regs)) }
-    ensures full { OnErr result (string_capacity out.old < string_len out.old + length (registers_text hart.now.regs)) }
-    ensures refused { IfErr result (λ asked. asked ≤ length (registers_text hart.now.regs)) }
-    ensures capacity { string_capacity out.old ≤ string_capacity out.new }
+    ensures { Appends (registers_text hart.now.regs) out.old out.new result }
 {
     for line in 0..8u8 {
-        push_register_line(out, line * 4, hart)?;
+        match push_register_line(out, line * 4, hart) {
+            Ok(()) => {}
+            Err(refused) => return Err(refused),
+        }
     }
     Ok(())
 }
 
 #[tactic(auto, using(crate::proofs::Below::lengths))]
 fn push_current(out: &mut String, t: u8, task: &Task, hart: &Hart) -> Result<(), Refused>
-    ensures ok { OnOk result (string_bytes out.new ≡ string_bytes out.old ++ current_text t (Option.Some task.now) (Option.Some hart.now)) }
-    // It gives up only where there is no room for the text, and a growth by no more than the text was refused.
-    ensures len { OnOk result (string_len out.new ≡ string_len out.old + length (current_text t (Option.Some task.now) (Option.Some hart.now))) }
-    ensures full { OnErr result (string_capacity out.old < string_len out.old + length (current_text t (Option.Some task.now) (Option.Some hart.now))) }
-    ensures refused { IfErr result (λ asked. asked ≤ length (current_text t (Option.Some task.now) (Option.Some hart.now))) }
-    ensures capacity { string_capacity out.old ≤ string_capacity out.new }
+    ensures { Appends (current_text t (Option.Some task.now) (Option.Some hart.now)) out.old out.new result }
 {
     let line = [
         Piece::Text("task "),
@@ -95,12 +84,7 @@ pub(crate) fn push_regs(
     current: Option<u8>,
     machine: &Machine,
 ) -> Result<(), Refused>
-    ensures ok { OnOk result (string_bytes out.new ≡ string_bytes out.old ++ regs_text current machine.now.board.parts) }
-    // It gives up only where there is no room for the text, and a growth by no more than the text was refused.
-    ensures len { OnOk result (string_len out.new ≡ string_len out.old + length (regs_text current machine.now.board.parts)) }
-    ensures full { OnErr result (string_capacity out.old < string_len out.old + length (regs_text current machine.now.board.parts)) }
-    ensures refused { IfErr result (λ asked. asked ≤ length (regs_text current machine.now.board.parts)) }
-    ensures capacity { string_capacity out.old ≤ string_capacity out.new }
+    ensures { Appends (regs_text current machine.now.board.parts) out.old out.new result }
 {
     let Some(t) = current else {
         return push_text(out, "none\n");
@@ -116,27 +100,20 @@ pub(crate) fn push_regs(
 
 #[tactic(auto, using(crate::proofs::Below::tasks))]
 pub(crate) fn push_tasks(out: &mut String, machine: &Machine) -> Result<(), Refused>
-    ensures ok { OnOk result (string_bytes out.new ≡ string_bytes out.old ++ tasks_text machine.now.board.parts) }
-    // It gives up only where there is no room for the text, and a growth by no more than the text was refused.
-    ensures len { OnOk result (string_len out.new ≡ string_len out.old + length (tasks_text machine.now.board.parts)) }
-    ensures full { OnErr result (string_capacity out.old < string_len out.old + length (tasks_text machine.now.board.parts)) }
-    ensures refused { IfErr result (λ asked. asked ≤ length (tasks_text machine.now.board.parts)) }
-    ensures capacity { string_capacity out.old ≤ string_capacity out.new }
+    ensures { Appends (tasks_text machine.now.board.parts) out.old out.new result }
 {
     for t in 0..machine.task_count() {
-        push_numbered_task(out, t, machine)?;
+        match push_numbered_task(out, t, machine) {
+            Ok(()) => {}
+            Err(refused) => return Err(refused),
+        }
     }
     Ok(())
 }
 
 // The task of a number, if there is one.
 fn push_numbered_task(out: &mut String, t: u8, machine: &Machine) -> Result<(), Refused>
-    ensures ok { OnOk result (string_bytes out.new ≡ string_bytes out.old ++ task_text t (slice_get machine.now.board.parts.tasks t) (slice_get machine.now.board.parts.harts t)) }
-    // It gives up only where there is no room for the text, and a growth by no more than the text was refused.
-    ensures len { OnOk result (string_len out.new ≡ string_len out.old + length (task_text t (slice_get machine.now.board.parts.tasks t) (slice_get machine.now.board.parts.harts t))) }
-    ensures full { OnErr result (string_capacity out.old < string_len out.old + length (task_text t (slice_get machine.now.board.parts.tasks t) (slice_get machine.now.board.parts.harts t))) }
-    ensures refused { IfErr result (λ asked. asked ≤ length (task_text t (slice_get machine.now.board.parts.tasks t) (slice_get machine.now.board.parts.harts t))) }
-    ensures capacity { string_capacity out.old ≤ string_capacity out.new }
+    ensures { Appends (task_text t (slice_get machine.now.board.parts.tasks t) (slice_get machine.now.board.parts.harts t)) out.old out.new result }
 {
     let Some(task) = machine.task(t) else {
         return Ok(());
@@ -148,12 +125,7 @@ fn push_numbered_task(out: &mut String, t: u8, machine: &Machine) -> Result<(), 
 }
 
 fn push_task(out: &mut String, t: u8, task: &Task, hart: &Hart) -> Result<(), Refused>
-    ensures ok { OnOk result (string_bytes out.new ≡ string_bytes out.old ++ task_text t (Option.Some task.now) (Option.Some hart.now)) }
-    // It gives up only where there is no room for the text, and a growth by no more than the text was refused.
-    ensures len { OnOk result (string_len out.new ≡ string_len out.old + length (task_text t (Option.Some task.now) (Option.Some hart.now))) }
-    ensures full { OnErr result (string_capacity out.old < string_len out.old + length (task_text t (Option.Some task.now) (Option.Some hart.now))) }
-    ensures refused { IfErr result (λ asked. asked ≤ length (task_text t (Option.Some task.now) (Option.Some hart.now))) }
-    ensures capacity { string_capacity out.old ≤ string_capacity out.new }
+    ensures { Appends (task_text t (Option.Some task.now) (Option.Some hart.now)) out.old out.new result }
 {
     let line = [
         Piece::Decimal(u64::from(t)),
@@ -174,27 +146,20 @@ fn push_task(out: &mut String, t: u8, task: &Task, hart: &Hart) -> Result<(), Re
 
 #[tactic(auto, using(crate::proofs::Below::owners))]
 pub(crate) fn push_owners(out: &mut String, machine: &Machine) -> Result<(), Refused>
-    ensures ok { OnOk result (string_bytes out.new ≡ string_bytes out.old ++ owners_text machine.now.board.parts) }
-    // It gives up only where there is no room for the text, and a growth by no more than the text was refused.
-    ensures len { OnOk result (string_len out.new ≡ string_len out.old + length (owners_text machine.now.board.parts)) }
-    ensures full { OnErr result (string_capacity out.old < string_len out.old + length (owners_text machine.now.board.parts)) }
-    ensures refused { IfErr result (λ asked. asked ≤ length (owners_text machine.now.board.parts)) }
-    ensures capacity { string_capacity out.old ≤ string_capacity out.new }
+    ensures { Appends (owners_text machine.now.board.parts) out.old out.new result }
 {
     for m in 0..machine.mutex_count() {
-        push_numbered_mutex(out, m, machine)?;
+        match push_numbered_mutex(out, m, machine) {
+            Ok(()) => {}
+            Err(refused) => return Err(refused),
+        }
     }
     Ok(())
 }
 
 // The mutex of a number, if there is one.
 fn push_numbered_mutex(out: &mut String, m: u8, machine: &Machine) -> Result<(), Refused>
-    ensures ok { OnOk result (string_bytes out.new ≡ string_bytes out.old ++ owner_text m (slice_get machine.now.board.parts.mutexes m)) }
-    // It gives up only where there is no room for the text, and a growth by no more than the text was refused.
-    ensures len { OnOk result (string_len out.new ≡ string_len out.old + length (owner_text m (slice_get machine.now.board.parts.mutexes m))) }
-    ensures full { OnErr result (string_capacity out.old < string_len out.old + length (owner_text m (slice_get machine.now.board.parts.mutexes m))) }
-    ensures refused { IfErr result (λ asked. asked ≤ length (owner_text m (slice_get machine.now.board.parts.mutexes m))) }
-    ensures capacity { string_capacity out.old ≤ string_capacity out.new }
+    ensures { Appends (owner_text m (slice_get machine.now.board.parts.mutexes m)) out.old out.new result }
 {
     match machine.mutex(m) {
         None => Ok(()),
@@ -203,12 +168,7 @@ fn push_numbered_mutex(out: &mut String, m: u8, machine: &Machine) -> Result<(),
 }
 
 fn push_owner(out: &mut String, m: u8, mutex: &Mutex) -> Result<(), Refused>
-    ensures ok { OnOk result (string_bytes out.new ≡ string_bytes out.old ++ owner_text m (Option.Some mutex.now)) }
-    // It gives up only where there is no room for the text, and a growth by no more than the text was refused.
-    ensures len { OnOk result (string_len out.new ≡ string_len out.old + length (owner_text m (Option.Some mutex.now))) }
-    ensures full { OnErr result (string_capacity out.old < string_len out.old + length (owner_text m (Option.Some mutex.now))) }
-    ensures refused { IfErr result (λ asked. asked ≤ length (owner_text m (Option.Some mutex.now))) }
-    ensures capacity { string_capacity out.old ≤ string_capacity out.new }
+    ensures { Appends (owner_text m (Option.Some mutex.now)) out.old out.new result }
 {
     let line = [
         Piece::Decimal(u64::from(m)),
@@ -222,12 +182,7 @@ fn push_owner(out: &mut String, m: u8, mutex: &Mutex) -> Result<(), Refused>
 }
 
 pub(crate) fn push_rank(out: &mut String, rank: u16) -> Result<(), Refused>
-    ensures ok { OnOk result (string_bytes out.new ≡ string_bytes out.old ++ rank_text rank) }
-    // It gives up only where there is no room for the text, and a growth by no more than the text was refused.
-    ensures len { OnOk result (string_len out.new ≡ string_len out.old + length (rank_text rank)) }
-    ensures full { OnErr result (string_capacity out.old < string_len out.old + length (rank_text rank)) }
-    ensures refused { IfErr result (λ asked. asked ≤ length (rank_text rank)) }
-    ensures capacity { string_capacity out.old ≤ string_capacity out.new }
+    ensures { Appends (rank_text rank) out.old out.new result }
 {
     let line = [
         Piece::Text("rank "),
@@ -243,12 +198,7 @@ pub(crate) fn push_stages(
     processor: &Processor,
     stages: &Stages,
 ) -> Result<(), Refused>
-    ensures ok { OnOk result (string_bytes out.new ≡ string_bytes out.old ++ stages_text c processor.now stages.now) }
-    // It gives up only where there is no room for the text, and a growth by no more than the text was refused.
-    ensures len { OnOk result (string_len out.new ≡ string_len out.old + length (stages_text c processor.now stages.now)) }
-    ensures full { OnErr result (string_capacity out.old < string_len out.old + length (stages_text c processor.now stages.now)) }
-    ensures refused { IfErr result (λ asked. asked ≤ length (stages_text c processor.now stages.now)) }
-    ensures capacity { string_capacity out.old ≤ string_capacity out.new }
+    ensures { Appends (stages_text c processor.now stages.now) out.old out.new result }
 {
     let line = [
         Piece::Text("cpu "),
@@ -277,12 +227,7 @@ pub(crate) fn push_stages(
 }
 
 pub(crate) fn push_counts(out: &mut String, counts: &Counts) -> Result<(), Refused>
-    ensures ok { OnOk result (string_bytes out.new ≡ string_bytes out.old ++ counts_text counts.now) }
-    // It gives up only where there is no room for the text, and a growth by no more than the text was refused.
-    ensures len { OnOk result (string_len out.new ≡ string_len out.old + length (counts_text counts.now)) }
-    ensures full { OnErr result (string_capacity out.old < string_len out.old + length (counts_text counts.now)) }
-    ensures refused { IfErr result (λ asked. asked ≤ length (counts_text counts.now)) }
-    ensures capacity { string_capacity out.old ≤ string_capacity out.new }
+    ensures { Appends (counts_text counts.now) out.old out.new result }
 {
     let line = [
         Piece::Text("raised "),

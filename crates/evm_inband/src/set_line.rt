@@ -2,7 +2,6 @@ ghost use Rattle.std.specs.Prelude.{◌≡◌};
 ghost use Rattle.evm_model.specs.InBandCalls.{set_line};
 
 use crate::refused::refused;
-use evm_lines::LINES;
 use evm_model::{Errno, Outcome};
 use evm_parts::Parts;
 
@@ -12,7 +11,7 @@ use evm_parts::Parts;
 pub fn set_line(parts: &Parts, line: u64, action: u64) -> Outcome
     ensures { (parts.now, result) ≡ set_line line action parts.now }
 {
-    if line < 2 || line >= u64::from(LINES) || action != 0 {
+    if line < 2 || line >= u64::from(parts.line_count()) || action != 0 {
         return refused(Errno::Invalid);
     }
     Outcome::Answers(0)

@@ -2,8 +2,7 @@ ghost use Rattle.std.specs.Prelude.{◌≡◌, ◌<◌, ◌≤◌, ◌+◌, ◌^
 ghost use Rattle.evm_model.specs.InBandCalls.{wait_line};
 
 use crate::refused::refused;
-use evm_lines::LINES;
-use evm_model::{Errno, Outcome, Stage, TaskState, Wait};
+use evm_model::{Errno, Outcome, Stage, Wait};
 use evm_parts::Parts;
 
 /// Call 6: the task waits until the line is played in-band on its processor, and is answered 0 then. -22 where there
@@ -14,14 +13,13 @@ pub fn wait_line(parts: &mut Parts, c: u8, t: u8, line: u64) -> Outcome
     ensures row { (parts.new, result) ≡ wait_line c t line parts.old }
     ensures stamps { parts.new.stamps ≤ parts.old.stamps + 1 }
 {
-    if line >= u64::from(LINES) {
+    if line >= u64::from(parts.line_count()) {
         return refused(Errno::Invalid);
     }
     if parts.is_stalled(c, Stage::InBand) {
         return refused(Errno::NotPermitted);
     }
-    parts.set_state(t, TaskState::Waits(Wait::Line(line as u8)));
-    parts.restamp(t);
+    parts.begin_wait(t, Wait::Line(line as u8), 0);
     parts.leave_in_band(c);
     Outcome::Waits
 }

@@ -16,7 +16,7 @@ use Rattle.evm_model.specs.Settle.{current}
 use Rattle.evm_model.specs.State.{State, Board}
 use Rattle.evm_model.specs.declared.boot.Boot.{Boot}
 use Rattle.evm_model.specs.declared.event.Answer.TheVariants.{Ran}
-use Rattle.evm_model.specs.declared.event.Event.{Event}
+use Rattle.evm_model.specs.Event.{Event}
 use Rattle.evm_model.specs.declared.event.Event.TheVariants.{Step, StepI, Poke}
 use Rattle.evm_model.specs.declared.processor.Processor.{Processor}
 use Rattle.evm_laws.specs.Running.{HasLine, Proceeds, line_stepped}

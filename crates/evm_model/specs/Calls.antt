@@ -11,7 +11,7 @@ use Rattle.evm_model.specs.Ranks.{is_oob_ready}
 use Rattle.evm_model.specs.Settle.{is_oob}
 use Rattle.evm_model.specs.Stages.{refused, may_promote}
 use Rattle.evm_model.specs.State.{Parts, on_hart}
-use Rattle.evm_model.specs.Tasks.{demote, promote}
+use Rattle.evm_model.specs.Tasks.{demote, promote, is_weak}
 use Rattle.evm_model.specs.declared.call.Call.{Call}
 use Rattle.evm_model.specs.declared.call.Call.TheVariants.{Exit as Ends, Putc, Yield, Spawn, Stall, Unstall, WaitLine, Attach, Detach, NewMutex, SetLine, SwitchOob, SwitchInBand, SetSched, SetMode, Lock, TryLock, Unlock, YieldOob, StallOob, UnstallOob, Clock, StateBits}
 use Rattle.evm_model.specs.declared.call.Outcome.{Outcome}
@@ -19,8 +19,6 @@ use Rattle.evm_model.specs.declared.call.Outcome.TheVariants.{Answers, Waits, Le
 use Rattle.evm_model.specs.declared.errno.Errno.TheVariants.{NotPermitted, NoSuchCall}
 use Rattle.evm_model.specs.declared.stage.Stage.{Stage}
 use Rattle.evm_model.specs.declared.stage.Stage.TheVariants.{OutOfBand, InBand}
-use Rattle.evm_model.specs.declared.task.Class.{Class}
-use Rattle.evm_model.specs.declared.task.Class.TheVariants.{Weak}
 use Rattle.evm_model.specs.declared.task.Task.{Task}
 
 -- the number of each call, and the stage that it is of; None where it is of either
@@ -70,34 +68,30 @@ abbrev pub call_of : ℕ → Option Call
 call_of n = numbered n all_calls
 
 -- what a call does for task t of processor c, which has this hart
-abbrev pub perform : Call → ℕ → Hart → ℕ → ℕ → Parts → Parts × Outcome
-perform Ends ram hart c t k = exit c t k
-perform Putc ram hart c t k = putc (argument 0 hart) k
-perform Yield ram hart c t k = yield_now c t k
-perform Spawn ram hart c t k = spawn ram (argument 0 hart) (argument 1 hart) (argument 2 hart) k
-perform Stall ram hart c t k = stall InBand true c k
-perform Unstall ram hart c t k = stall InBand false c k
-perform WaitLine ram hart c t k = wait_line c t (argument 0 hart) k
-perform Attach ram hart c t k = attach t (argument 0 hart) (argument 1 hart) k
-perform Detach ram hart c t k = detach t k
-perform NewMutex ram hart c t k = new_mutex (argument 0 hart) (argument 1 hart) k
-perform SetLine ram hart c t k = set_line (argument 0 hart) (argument 1 hart) k
-perform SwitchOob ram hart c t k = switch_oob k
-perform SwitchInBand ram hart c t k = switch_in_band c t k
-perform SetSched ram hart c t k = set_sched (argument 0 hart) (argument 1 hart) (argument 2 hart) k
-perform SetMode ram hart c t k = set_mode t (argument 0 hart) k
-perform Lock ram hart c t k = lock c t (argument 0 hart) (argument 1 hart) k
-perform TryLock ram hart c t k = try_lock t (argument 0 hart) k
-perform Unlock ram hart c t k = unlock t (argument 0 hart) k
-perform YieldOob ram hart c t k = yield_oob t k
-perform StallOob ram hart c t k = stall OutOfBand true c k
-perform UnstallOob ram hart c t k = stall OutOfBand false c k
-perform Clock ram hart c t k = clock k
-perform StateBits ram hart c t k = state_bits c t k
-
-abbrev pub is_weak : Class → Bool
-is_weak Weak = true
-is_weak _ = false
+abbrev pub perform : Call → Hart → ℕ → ℕ → Parts → Parts × Outcome
+perform Ends hart c t k = exit c t k
+perform Putc hart c t k = putc (argument 0 hart) k
+perform Yield hart c t k = yield_now c t k
+perform Spawn hart c t k = spawn (argument 0 hart) (argument 1 hart) (argument 2 hart) k
+perform Stall hart c t k = stall InBand true c k
+perform Unstall hart c t k = stall InBand false c k
+perform WaitLine hart c t k = wait_line c t (argument 0 hart) k
+perform Attach hart c t k = attach t (argument 0 hart) (argument 1 hart) k
+perform Detach hart c t k = detach t k
+perform NewMutex hart c t k = new_mutex (argument 0 hart) (argument 1 hart) k
+perform SetLine hart c t k = set_line (argument 0 hart) (argument 1 hart) k
+perform SwitchOob hart c t k = switch_oob k
+perform SwitchInBand hart c t k = switch_in_band c t k
+perform SetSched hart c t k = set_sched (argument 0 hart) (argument 1 hart) (argument 2 hart) k
+perform SetMode hart c t k = set_mode t (argument 0 hart) k
+perform Lock hart c t k = lock c t (argument 0 hart) (argument 1 hart) k
+perform TryLock hart c t k = try_lock t (argument 0 hart) k
+perform Unlock hart c t k = unlock t (argument 0 hart) k
+perform YieldOob hart c t k = yield_oob t k
+perform StallOob hart c t k = stall OutOfBand true c k
+perform UnstallOob hart c t k = stall OutOfBand false c k
+perform Clock hart c t k = clock k
+perform StateBits hart c t k = state_bits c t k
 
 abbrev pub is_weak_oob : Option Task → Bool
 is_weak_oob None = false
@@ -121,21 +115,21 @@ unfoldable pub ask_oob : ℕ → ℕ → Parts → Parts
 ask_oob c t k = if may_promote c t k then promote c t k else finish_call c t (refused NotPermitted k)
 
 -- a call of the other stage changes the task's stage first; one of either stage never does
-abbrev pub call_on : Option Stage → Call → ℕ → Hart → ℕ → ℕ → Parts → Parts
-call_on None call ram hart c t k = finish_call c t (perform call ram hart c t k)
-call_on (Some InBand) call ram hart c t k =
-    if is_oob (Some t) k.tasks then demote c t k else finish_call c t (perform call ram hart c t k)
-call_on (Some OutOfBand) call ram hart c t k =
-    if is_oob (Some t) k.tasks then finish_call c t (perform call ram hart c t k) else ask_oob c t k
+abbrev pub call_on : Option Stage → Call → Hart → ℕ → ℕ → Parts → Parts
+call_on None call hart c t k = finish_call c t (perform call hart c t k)
+call_on (Some InBand) call hart c t k =
+    if is_oob (Some t) k.tasks then demote c t k else finish_call c t (perform call hart c t k)
+call_on (Some OutOfBand) call hart c t k =
+    if is_oob (Some t) k.tasks then finish_call c t (perform call hart c t k) else ask_oob c t k
 
-abbrev pub call_known : Option Call → ℕ → Hart → ℕ → ℕ → Parts → Parts
-call_known None ram hart c t k = finish_call c t (refused NoSuchCall k)
-call_known (Some call) ram hart c t k = call_on (call_stage call) call ram hart c t k
+abbrev pub call_known : Option Call → Hart → ℕ → ℕ → Parts → Parts
+call_known None hart c t k = finish_call c t (refused NoSuchCall k)
+call_known (Some call) hart c t k = call_on (call_stage call) call hart c t k
 
-abbrev pub call_of_hart : ℕ → Option Hart → ℕ → ℕ → Parts → Parts
-call_of_hart ram None c t k = k
-call_of_hart ram (Some hart) c t k = call_known (call_of (register_of hart.regs A7)) ram hart c t k
+abbrev pub call_of_hart : Option Hart → ℕ → ℕ → Parts → Parts
+call_of_hart None c t k = k
+call_of_hart (Some hart) c t k = call_known (call_of (register_of hart.regs A7)) hart c t k
 
--- task t of processor c calls a kernel, on a machine with so many bytes of RAM
-unfoldable pub call : ℕ → ℕ → ℕ → Parts → Parts
-call ram c t k = call_of_hart ram (slice_get k.harts t) c t k
+-- task t of processor c calls a kernel
+unfoldable pub call : ℕ → ℕ → Parts → Parts
+call c t k = call_of_hart (slice_get k.harts t) c t k

@@ -10,8 +10,8 @@ use Rattle.evm_model.specs.Pipes.{Pipe}
 use Rattle.evm_model.specs.Ranks.{best, is_in_ready}
 use Rattle.evm_model.specs.Replay.{bad_boot}
 use Rattle.evm_model.specs.Settle.{is_oob}
-use Rattle.evm_model.specs.State.{State, Parts}
-use Rattle.evm_model.specs.declared.event.Event.{Event}
+use Rattle.evm_model.specs.State.{State, Parts, profile_of}
+use Rattle.evm_model.specs.Event.{Event}
 use Rattle.evm_model.specs.declared.event.Event.TheVariants.{Tick}
 use Rattle.evm_model.specs.declared.limits.TheConstants.{MUTEX_LIMIT, PROCESSOR_LIMIT, TASK_LIMIT}
 use Rattle.evm_model.specs.declared.mutex.Mutex.{Mutex}
@@ -101,6 +101,7 @@ pub record GoodState (s : State) : Type 0 where
   pub boot : bad_boot s.boot ≡ false
   pub processors : length s.board.parts.processors ≡ s.boot.cpus
   pub ram : length s.board.memory.ram ≡ s.boot.ram
+  pub profile : s.board.parts.profile ≡ profile_of s.boot
   -- the journal is within its capacity
   pub journal : length s.journal ≤ s.boot.capacity
   -- the clock is the journal's ticks

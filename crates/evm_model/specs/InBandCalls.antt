@@ -1,21 +1,23 @@
 -- What each call of the in-band kernel does to the parts, and what comes of it.
 use Rattle.std.specs.Prelude.{ℕ, ◌+◌, ◌-◌, ◌%◌, List, [], ◌∷◌, ◌++◌, Option, Some, None, Bool, true, not, ◌==◌, nat_lt, nat_le, is_none, drop, if◌then◌else◌, slice_get, length}
-use Rattle.evm_lines.specs.declared.TheConstants.{LINES}
 use Rattle.evm_model.specs.Harts.{spawned_hart}
 use Rattle.evm_model.specs.Mutexes.{owns_any}
 use Rattle.evm_model.specs.Passing.{end_task}
 use Rattle.evm_model.specs.Policies.{policy_of}
-use Rattle.evm_model.specs.Stages.{refused, is_stalled, is_attached}
+use Rattle.evm_model.specs.Profiles.{line_count}
+use Rattle.evm_model.specs.Stages.{refused, is_stalled, is_attached, wait_refusal}
 use Rattle.evm_model.specs.State.{Parts, new_task}
-use Rattle.evm_model.specs.Tasks.{restamp, set_state, leave_in_band, set_policy, clear_policy}
+use Rattle.evm_model.specs.Tasks.{restamp, leave_in_band, set_policy, clear_policy}
+use Rattle.evm_model.specs.Waits.{begin_wait}
 use Rattle.evm_ram.specs.declared.ram.TheConstants.{BASE}
 use Rattle.evm_model.specs.declared.call.Outcome.{Outcome}
 use Rattle.evm_model.specs.declared.call.Outcome.TheVariants.{Answers, Waits, Leaves}
+use Rattle.evm_model.specs.declared.errno.Errno.{Errno}
 use Rattle.evm_model.specs.declared.errno.Errno.TheVariants.{NotPermitted, NoNumber, Busy, Invalid}
 use Rattle.evm_model.specs.declared.limits.TheConstants.{CONSOLE_LIMIT, TASK_LIMIT}
 use Rattle.evm_model.specs.declared.stage.Stage.TheVariants.{InBand}
 use Rattle.evm_model.specs.declared.task.Class.{Class}
-use Rattle.evm_model.specs.declared.task.TaskState.TheVariants.{Exit, Waits as Waiting}
+use Rattle.evm_model.specs.declared.task.TaskState.TheVariants.{Exit}
 use Rattle.evm_model.specs.declared.task.Wait.TheVariants.{Line}
 
 -- 0: the task ends
@@ -47,19 +49,23 @@ add_task entry value cpu k = record k {
 }
 
 -- 3: a new task, ready in-band; its number is answered
-unfoldable pub spawn : ℕ → ℕ → ℕ → ℕ → Parts → Parts × Outcome
-spawn ram entry value cpu k =
-    if is_bad_entry ram entry then refused Invalid k
+unfoldable pub spawn : ℕ → ℕ → ℕ → Parts → Parts × Outcome
+spawn entry value cpu k =
+    if is_bad_entry k.profile.ram entry then refused Invalid k
     else (if is_none (slice_get k.processors cpu) then refused Invalid k
     else (if nat_le TASK_LIMIT (length k.tasks) then refused NoNumber k
     else (add_task entry value cpu k, Answers (length k.tasks))))
 
+-- task t waits in-band for line l, unless the call is refused
+abbrev pub wait_line_unless : Option Errno → ℕ → ℕ → ℕ → Parts → Parts × Outcome
+wait_line_unless (Some e) c t l k = refused e k
+wait_line_unless None c t l k = (leave_in_band c (begin_wait t (Line l) 0 k), Waits)
+
 -- 6: the task waits until the line is played in-band; not while in-band is stalled
 unfoldable pub wait_line : ℕ → ℕ → ℕ → Parts → Parts × Outcome
 wait_line c t l k =
-    if nat_le LINES l then refused Invalid k
-    else (if is_stalled InBand c k then refused NotPermitted k
-    else (leave_in_band c (restamp t (set_state t (Waiting (Line l)) k)), Waits))
+    if nat_le (line_count k.profile) l then refused Invalid k
+    else wait_line_unless (wait_refusal (is_stalled InBand c k) None 0) c t l k
 
 -- 7: the task has a class and a priority; not where it has one
 abbrev pub attach_as : Option Class → ℕ → ℕ → Parts → Parts × Outcome
@@ -80,5 +86,5 @@ detach t k =
 unfoldable pub set_line : ℕ → ℕ → Parts → Parts × Outcome
 set_line l action k =
     if nat_lt l 2 then refused Invalid k
-    else (if nat_le LINES l then refused Invalid k
+    else (if nat_le (line_count k.profile) l then refused Invalid k
     else (if action == 0 then (k, Answers 0) else refused Invalid k))

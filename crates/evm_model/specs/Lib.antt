@@ -2,11 +2,13 @@ pub mod Bounds
 pub mod Calls
 pub mod Commands
 pub mod Errnos
+pub mod Event
 pub mod Faults
 pub mod Good
 pub mod Harts
 pub mod InBandCalls
 pub mod Instructions
+pub mod Kinds
 pub mod Lists
 pub mod Load
 pub mod Locks
@@ -16,6 +18,7 @@ pub mod OobCalls
 pub mod Passing
 pub mod Pipes
 pub mod Policies
+pub mod Profiles
 pub mod Ranks
 pub mod Refusals
 pub mod Replay
@@ -24,3 +27,4 @@ pub mod Settle
 pub mod Stages
 pub mod State
 pub mod Tasks
+pub mod Waits

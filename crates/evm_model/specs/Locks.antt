@@ -1,19 +1,18 @@
 -- What each call on a mutex does to the parts, and what comes of it.
-use Rattle.std.specs.Prelude.{ℕ, ◌+◌, ◌-◌, [], ◌∷◌, ◌++◌, Option, Some, None, Bool, true, false, not, ◌==◌, nat_lt, nat_le, if◌then◌else◌, slice_get, length}
+use Rattle.std.specs.Prelude.{ℕ, ◌+◌, ◌-◌, [], ◌∷◌, ◌++◌, Option, Some, None, Bool, true, false, ◌==◌, nat_lt, nat_le, if◌then◌else◌, slice_get, length}
 use Rattle.evm_ranks.specs.Boosts.{is_number, meets}
 use Rattle.evm_model.specs.Mutexes.{free_mutex, held_by, waits_on}
 use Rattle.evm_model.specs.Passing.{pass_on}
-use Rattle.evm_model.specs.Stages.{refused, is_stalled}
+use Rattle.evm_model.specs.Stages.{refused, is_stalled, wait_refusal, wait_unless}
 use Rattle.evm_model.specs.State.{Parts, on_mutex}
-use Rattle.evm_model.specs.Tasks.{restamp, set_state}
 use Rattle.evm_model.specs.declared.call.Outcome.{Outcome}
-use Rattle.evm_model.specs.declared.call.Outcome.TheVariants.{Answers, Waits}
+use Rattle.evm_model.specs.declared.call.Outcome.TheVariants.{Answers}
+use Rattle.evm_model.specs.declared.errno.Errno.{Errno}
 use Rattle.evm_model.specs.declared.errno.Errno.TheVariants.{NotPermitted, NoNumber, Busy, Invalid, Deadlock}
 use Rattle.evm_model.specs.declared.limits.TheConstants.{MUTEX_LIMIT, PRIORITY_LIMIT, TASK_LIMIT}
 use Rattle.evm_model.specs.declared.mutex.Mutex.{Mutex}
 use Rattle.evm_model.specs.declared.mutex.Protocol.TheVariants.{Inheritance, Ceiling}
 use Rattle.evm_model.specs.declared.stage.Stage.TheVariants.{OutOfBand}
-use Rattle.evm_model.specs.declared.task.TaskState.TheVariants.{Waits as Waiting}
 use Rattle.evm_model.specs.declared.task.Wait.TheVariants.{Lock}
 
 -- ---- 9: a new mutex
@@ -54,16 +53,14 @@ unfoldable pub lock_again : ℕ → ℕ → Mutex → Parts → Parts × Outcome
 lock_again t m mutex k =
     if mutex.recursive then (on_mutex m (held_by t (mutex.count + 1)) k, Answers 0) else refused Deadlock k
 
--- task t waits for mutex m
-unfoldable pub wait_for : ℕ → ℕ → Parts → Parts
-wait_for t m k = restamp t (set_state t (Waiting (Lock m)) k)
+-- the owner u waits for task t by some chain, or is it: the wait would never end
+abbrev pub cycle_refusal : ℕ → ℕ → Parts → Option Errno
+cycle_refusal t u k = if meets (waits_on k.mutexes k.tasks) t TASK_LIMIT (Some u) then Some Deadlock else None
 
--- of task u's: it waits, unless out-of-band is stalled, or u waits for it by some chain; a wait has no end yet
+-- of task u's: it waits
 unfoldable pub lock_other : ℕ → ℕ → ℕ → ℕ → ℕ → Parts → Parts × Outcome
 lock_other c t m u deadline k =
-    if is_stalled OutOfBand c k then refused NotPermitted k
-    else (if meets (waits_on k.mutexes k.tasks) t TASK_LIMIT (Some u) then refused Deadlock k
-    else (if not (deadline == 0) then refused Invalid k else (wait_for t m k, Waits)))
+    wait_unless (wait_refusal (is_stalled OutOfBand c k) (cycle_refusal t u k) deadline) t (Lock m) deadline k
 
 abbrev pub lock_owned : Option ℕ → ℕ → ℕ → ℕ → ℕ → Mutex → Parts → Parts × Outcome
 lock_owned None c t m deadline mutex k = (take_mutex t m k, Answers 0)

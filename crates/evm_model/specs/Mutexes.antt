@@ -52,10 +52,6 @@ lock_of_task (Some task) = lock_of task.state
 abbrev pub lock_at : List Task → ℕ → Option ℕ
 lock_at tasks u = lock_of_task (slice_get tasks u)
 
--- whether task u waits for mutex m
-abbrev pub waits_for : ℕ → List Task → ℕ → Bool
-waits_for m tasks u = is_number (lock_at tasks u) m
-
 abbrev pub owner_for : List Mutex → Option ℕ → Option ℕ
 owner_for mutexes None = None
 owner_for mutexes (Some m) = owner mutexes m

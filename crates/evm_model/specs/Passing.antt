@@ -1,31 +1,22 @@
 -- How a mutex passes on, and how a task ends.
 use Rattle.std.specs.Prelude.{ℕ, zero, suc, Option, Some, None, false, if◌then◌else◌, length}
 use Rattle.evm_ranks.specs.Boosts.{is_number}
-use Rattle.evm_model.specs.Harts.{A0, set_register}
-use Rattle.evm_model.specs.Mutexes.{owner, held_by, freed, waits_for}
+use Rattle.evm_model.specs.Mutexes.{owner, held_by, freed}
 use Rattle.evm_model.specs.Pipes.{set_stall}
-use Rattle.evm_model.specs.Ranks.{first, rank, stamp}
-use Rattle.evm_model.specs.State.{Parts, on_hart, on_pipe, on_mutex}
-use Rattle.evm_model.specs.Tasks.{restamp, set_state, leave_in_band}
+use Rattle.evm_model.specs.State.{Parts, on_pipe, on_mutex}
+use Rattle.evm_model.specs.Tasks.{set_state, leave_in_band}
+use Rattle.evm_model.specs.Waits.{first_waiter, wake}
 use Rattle.evm_model.specs.declared.stage.Stage.TheVariants.{InBand}
 use Rattle.evm_model.specs.declared.task.TaskState.{TaskState}
-use Rattle.evm_model.specs.declared.task.TaskState.TheVariants.{OobReady}
+use Rattle.evm_model.specs.declared.task.Wait.TheVariants.{Lock}
 
--- task t, which waited out-of-band, is ready there: its call is answered
-unfoldable pub wake_oob : ℕ → ℕ → Parts → Parts
-wake_oob t value k = restamp t (set_state t OobReady (on_hart t (set_register A0 value) k))
-
--- of the tasks that wait for mutex m the one of greatest rank, then of least stamp
-unfoldable pub first_waiter : ℕ → Parts → Option ℕ
-first_waiter m k = first (waits_for m k.tasks) (rank k.mutexes k.tasks) (stamp k.tasks) (length k.tasks)
-
--- a task that waited for mutex m wakes and owns it; where there is none it is free
+-- a task that waited for mutex m owns it and wakes; if there is none, the mutex is free
 abbrev pub pass_to : Option ℕ → ℕ → Parts → Parts
 pass_to None m k = on_mutex m freed k
-pass_to (Some t) m k = on_mutex m (held_by t 1) (wake_oob t 0 k)
+pass_to (Some t) m k = wake t 0 (on_mutex m (held_by t 1) k)
 
 unfoldable pub pass_on : ℕ → Parts → Parts
-pass_on m k = pass_to (first_waiter m k) m k
+pass_on m k = pass_to (first_waiter (Lock m) k) m k
 
 -- mutex m passes on if task t owns it
 abbrev pub pass_if : ℕ → ℕ → Parts → Parts

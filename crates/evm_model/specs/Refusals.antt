@@ -9,7 +9,7 @@ use Rattle.evm_model.specs.Settle.{current}
 use Rattle.evm_model.specs.State.{State, Board}
 use Rattle.evm_model.specs.declared.limits.TheConstants.{BREAKPOINT_LIMIT, POKE_LIMIT}
 use Rattle.evm_model.specs.declared.processor.Processor.{Processor}
-use Rattle.evm_model.specs.declared.event.Event.{Event}
+use Rattle.evm_model.specs.Event.{Event}
 use Rattle.evm_model.specs.declared.event.Event.TheVariants.{Step, Raise, Bell, Stop, Go, StepI, SetReg, SetPc, Poke, Break, Unbreak}
 
 abbrev pub no_such_cpu : ℕ → Board → Bool
@@ -59,10 +59,10 @@ names_no_cpu (SetPc c pc) b = no_such_cpu c b
 names_no_cpu _ b = false
 
 -- the event names a line that isn't there
-abbrev pub names_no_line : Event → Bool
-names_no_line (Raise c l) = no_such_line l
-names_no_line (Bell c l) = no_such_line l
-names_no_line _ = false
+abbrev pub names_no_line : Event → Board → Bool
+names_no_line (Raise c l) b = no_such_line l
+names_no_line (Bell c l) b = no_such_line l
+names_no_line _ b = false
 
 -- the event wants a stopped processor, and this one isn't
 abbrev pub wants_stopped : Event → Board → Bool
@@ -87,9 +87,9 @@ names_bad_address (Unbreak address) b = bad_place address b
 names_bad_address _ b = false
 
 -- the event names x0, or a register that isn't there
-abbrev pub names_bad_register : Event → Bool
-names_bad_register (SetReg c r value) = bad_register r
-names_bad_register _ = false
+abbrev pub names_bad_register : Event → Board → Bool
+names_bad_register (SetReg c r value) b = bad_register r
+names_bad_register _ b = false
 
 -- the event wants a place for a breakpoint more, and there is none
 abbrev pub wants_slot : Event → Board → Bool
@@ -104,11 +104,11 @@ wants_breakpoint _ b = false
 -- whether an event that finds room in the journal is refused for this reason
 abbrev pub applies : Event → Board → Refusal → Bool
 applies event b NoSuchCpu = names_no_cpu event b
-applies event b NoSuchLine = names_no_line event
+applies event b NoSuchLine = names_no_line event b
 applies event b NotStopped = wants_stopped event b
 applies event b NoTask = wants_task event b
 applies event b BadAddress = names_bad_address event b
-applies event b BadRegister = names_bad_register event
+applies event b BadRegister = names_bad_register event b
 applies event b NoSlot = wants_slot event b
 applies event b NoBreakpoint = wants_breakpoint event b
 applies event b _ = false

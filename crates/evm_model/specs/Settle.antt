@@ -5,7 +5,8 @@ use Rattle.evm_model.specs.Lists.{each}
 use Rattle.evm_model.specs.Pipes.{Pipe, raise, arrive, play}
 use Rattle.evm_model.specs.Ranks.{best, next_in_band, is_oob_ready}
 use Rattle.evm_model.specs.State.{Parts, on_pipe, on_processor}
-use Rattle.evm_model.specs.Tasks.{wake_below, spend_task}
+use Rattle.evm_model.specs.Tasks.{spend_task}
+use Rattle.evm_model.specs.Waits.{wake_below}
 use Rattle.evm_model.specs.declared.processor.Processor.{Processor}
 use Rattle.evm_model.specs.declared.stage.Stage.TheVariants.{OutOfBand, InBand}
 use Rattle.evm_model.specs.declared.task.Task.{Task}

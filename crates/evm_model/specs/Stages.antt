@@ -1,17 +1,20 @@
 -- What calls ask of a task's stage, and how they are refused.
-use Rattle.std.specs.Prelude.{ℕ, Option, Some, None, Bool, true, false, not, ◌&&◌, if◌then◌else◌, slice_get}
+use Rattle.std.specs.Prelude.{ℕ, Option, Some, None, Bool, true, false, not, ◌==◌, ◌&&◌, if◌then◌else◌, slice_get}
 use Rattle.evm_model.specs.Errnos.{refusal_answer}
 use Rattle.evm_model.specs.Pipes.{Pipe, log_of}
 use Rattle.evm_model.specs.Settle.{is_oob}
 use Rattle.evm_model.specs.State.{Parts}
+use Rattle.evm_model.specs.Waits.{begin_wait}
 use Rattle.evm_model.specs.declared.call.Outcome.{Outcome}
-use Rattle.evm_model.specs.declared.call.Outcome.TheVariants.{Answers}
+use Rattle.evm_model.specs.declared.call.Outcome.TheVariants.{Answers, Waits as Blocks}
 use Rattle.evm_model.specs.declared.errno.Errno.{Errno}
+use Rattle.evm_model.specs.declared.errno.Errno.TheVariants.{NotPermitted, Invalid}
 use Rattle.evm_model.specs.declared.stage.Stage.{Stage}
 use Rattle.evm_model.specs.declared.stage.Stage.TheVariants.{OutOfBand, InBand}
 use Rattle.evm_model.specs.declared.task.Class.{Class}
 use Rattle.evm_model.specs.declared.task.Class.TheVariants.{Unattached}
 use Rattle.evm_model.specs.declared.task.Task.{Task}
+use Rattle.evm_model.specs.declared.task.Wait.{Wait}
 
 -- a call that is refused changes nothing, and answers its error
 abbrev pub refused : Errno → Parts → Parts × Outcome
@@ -47,3 +50,21 @@ stage_at t k = if is_oob (Some t) k.tasks then OutOfBand else InBand
 -- a task of c may go out-of-band where it has a class and in-band isn't stalled
 abbrev pub may_promote : ℕ → ℕ → Parts → Bool
 may_promote c t k = is_attached t k && not (is_stalled InBand c k)
+
+-- ---- why a call may not wait
+-- a wait has no end yet
+abbrev pub late : ℕ → Option Errno
+late deadline = if deadline == 0 then None else Some Invalid
+
+abbrev pub or_else : Option Errno → Option Errno → Option Errno
+or_else None second = second
+or_else (Some e) second = Some e
+
+-- why a call may not wait, in this order: its stage is stalled, the call's own reason, its deadline
+abbrev pub wait_refusal : Bool → Option Errno → ℕ → Option Errno
+wait_refusal stalled own deadline = or_else (if stalled then Some NotPermitted else None) (or_else own (late deadline))
+
+-- task t waits, unless the call is refused
+abbrev pub wait_unless : Option Errno → ℕ → Wait → ℕ → Parts → Parts × Outcome
+wait_unless (Some e) t wait deadline k = refused e k
+wait_unless None t wait deadline k = (begin_wait t wait deadline k, Blocks)

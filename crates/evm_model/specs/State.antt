@@ -5,9 +5,10 @@ use Rattle.evm_model.specs.Harts.{first_hart}
 use Rattle.evm_model.specs.Lists.{change}
 use Rattle.evm_model.specs.Pipes.{Pipe, idle_pipe}
 use Rattle.evm_model.specs.declared.boot.Boot.{Boot}
-use Rattle.evm_model.specs.declared.event.Event.{Event}
+use Rattle.evm_model.specs.Event.{Event}
 use Rattle.evm_model.specs.declared.mutex.Mutex.{Mutex}
 use Rattle.evm_model.specs.declared.processor.Processor.{Processor}
+use Rattle.evm_model.specs.declared.profile.Profile.{Profile}
 use Rattle.evm_model.specs.declared.task.Task.{Task}
 use Rattle.evm_model.specs.declared.mode.Mode.{Mode}
 use Rattle.evm_model.specs.declared.task.Class.TheVariants.{Unattached}
@@ -15,6 +16,8 @@ use Rattle.evm_model.specs.declared.task.TaskState.TheVariants.{InReady}
 
 -- what calls may change
 pub record Parts : Type 0 where
+  -- what never changes
+  pub profile : Profile
   -- how many ticks there were
   pub ticks : ℕ
   -- the registers and pc of task t are the t-th
@@ -86,9 +89,13 @@ new_task cpu stamp = record { cpu = cpu; class = Unattached; priority = 0; slice
 abbrev pub first_task : Task
 first_task = new_task 0 0
 
+abbrev pub profile_of : Boot → Profile
+profile_of boot = record { ram = boot.ram }
+
 -- task 0 is current on processor 0
 unfoldable pub booted_parts : Boot → Parts
 booted_parts boot = record {
+  profile = profile_of boot;
   ticks = 0;
   harts = first_hart boot.ram ∷ [];
   tasks = first_task ∷ [];

@@ -1,17 +1,15 @@
 -- What is done to one task.
-use Rattle.std.specs.Prelude.{ℕ, zero, suc, ◌+◌, ◌-◌, ◌==◌, ◌&&◌, nat_le, Option, Some, None, Bool, true, false, if◌then◌else◌, slice_get}
-use Rattle.evm_model.specs.Harts.{A0, set_register}
+use Rattle.std.specs.Prelude.{ℕ, ◌+◌, ◌-◌, ◌&&◌, nat_le, Option, Some, None, Bool, true, false, if◌then◌else◌}
 use Rattle.evm_model.specs.Pipes.{set_stall}
 use Rattle.evm_model.specs.Ranks.{is_oob_ready}
-use Rattle.evm_model.specs.State.{Parts, no_mode, on_hart, on_task, on_processor, on_pipe}
+use Rattle.evm_model.specs.State.{Parts, no_mode, on_task, on_processor, on_pipe}
 use Rattle.evm_model.specs.declared.limits.TheConstants.{SLICE}
 use Rattle.evm_model.specs.declared.stage.Stage.TheVariants.{OutOfBand}
 use Rattle.evm_model.specs.declared.task.Class.{Class}
-use Rattle.evm_model.specs.declared.task.Class.TheVariants.{Unattached, RoundRobin}
+use Rattle.evm_model.specs.declared.task.Class.TheVariants.{Unattached, RoundRobin, Weak}
 use Rattle.evm_model.specs.declared.task.Task.{Task}
 use Rattle.evm_model.specs.declared.task.TaskState.{TaskState}
-use Rattle.evm_model.specs.declared.task.TaskState.TheVariants.{InReady, OobReady, Waits, Exit, Faulted}
-use Rattle.evm_model.specs.declared.task.Wait.TheVariants.{Line}
+use Rattle.evm_model.specs.declared.task.TaskState.TheVariants.{InReady, OobReady, Exit, Faulted}
 
 -- task t has a fresh stamp
 unfoldable pub restamp : ℕ → Parts → Parts
@@ -24,10 +22,6 @@ set_state t state k = on_task t (λ task. record task { state = state }) k
 -- processor c has no in-band current task
 unfoldable pub leave_in_band : ℕ → Parts → Parts
 leave_in_band c k = on_processor c (λ p. record p { in_band_task = None }) k
-
--- task t, which waited in-band, is ready there: its call is answered
-unfoldable pub wake_in_band : ℕ → ℕ → Parts → Parts
-wake_in_band t value k = restamp t (set_state t InReady (on_hart t (set_register A0 value) k))
 
 -- task t goes in-band: it is ready there, and out-of-band isn't stalled on its processor c
 unfoldable pub demote : ℕ → ℕ → Parts → Parts
@@ -63,6 +57,10 @@ abbrev pub is_round_robin : Class → Bool
 is_round_robin RoundRobin = true
 is_round_robin _ = false
 
+abbrev pub is_weak : Class → Bool
+is_weak Weak = true
+is_weak _ = false
+
 -- a tick less; the last one gives a whole slice, and a fresh stamp
 unfoldable pub spend_slice : ℕ → ℕ → Parts → Parts
 spend_slice t slice k = if nat_le slice 1 then restamp t (set_slice t SLICE k) else set_slice t (slice - 1) k
@@ -71,20 +69,3 @@ spend_slice t slice k = if nat_le slice 1 then restamp t (set_slice t SLICE k) e
 abbrev pub spend_task : Option Task → ℕ → Parts → Parts
 spend_task None t k = k
 spend_task (Some task) t k = if is_oob_ready task.state && is_round_robin task.class then spend_slice t task.slice k else k
-
-abbrev pub is_wait_for : ℕ → TaskState → Bool
-is_wait_for l (Waits (Line m)) = m == l
-is_wait_for l _ = false
-
-abbrev pub awaits : ℕ → ℕ → Option Task → Bool
-awaits c l None = false
-awaits c l (Some task) = is_wait_for l task.state && task.cpu == c
-
--- task t wakes if it waits on c for line l
-abbrev pub wake_waiter : ℕ → ℕ → ℕ → Parts → Parts
-wake_waiter c l t k = if awaits c l (slice_get k.tasks t) then wake_in_band t 0 k else k
-
--- of the tasks below a number those that wait on c for line l have woken, by number
-unfoldable pub wake_below : ℕ → ℕ → ℕ → Parts → Parts
-wake_below c l zero k = k
-wake_below c l (suc t) k = wake_waiter c l t (wake_below c l t k)

@@ -11,6 +11,7 @@ mod limits;
 mod mode;
 mod mutex;
 mod processor;
+mod profile;
 mod stage;
 mod task;
 
@@ -18,7 +19,7 @@ pub use boot::Boot;
 pub use call::{Call, Outcome};
 pub use counts::{Counts, Passage};
 pub use errno::Errno;
-pub use event::{Answer, Event};
+pub use event::{Answer, Block, Event, NoBytes, copied, kinds_add_up};
 pub use fault::Fault;
 pub use limits::{
     BREAKPOINT_LIMIT, CAPACITY_LIMIT, CONSOLE_LIMIT, MODE_LIMIT, MUTEX_LIMIT, POKE_LIMIT,
@@ -27,5 +28,6 @@ pub use limits::{
 pub use mode::Mode;
 pub use mutex::{Mutex, Protocol};
 pub use processor::Processor;
+pub use profile::Profile;
 pub use stage::{Stage, StageLog};
 pub use task::{Class, Task, TaskState, Wait};

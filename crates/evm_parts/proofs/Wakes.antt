@@ -1,7 +1,7 @@
 -- One more task of a scan.
 use Rattle.std.proofs.Common.{◌≡◌, ℕ, ◌+◌, refl, add-one}
 use Rattle.evm_model.specs.State.{Parts}
-use Rattle.evm_model.specs.Tasks.{wake_below, wake_waiter}
+use Rattle.evm_model.specs.Waits.{wake_below, wake_waiter}
 
 pub wake-none : (c l : ℕ) (k : Parts) → wake_below c l 0 k ≡ k
 unfolding wake_below

@@ -2,16 +2,17 @@
 
 ghost use Rattle.std.specs.Prelude.{◌≡◌, ◌<◌, ◌≤◌, ◌+◌, ◌^◌, Some, None, length, slice_get};
 ghost use Rattle.evm_boost.specs.Scatter.{AreRanks};
-ghost use Rattle.evm_model.specs.Locks.{add_mutex, take_mutex, wait_for};
+ghost use Rattle.evm_model.specs.Locks.{add_mutex, take_mutex};
 ghost use Rattle.evm_model.specs.Mutexes.{owns_any, held_by, waits_on};
-ghost use Rattle.evm_model.specs.Passing.{wake_oob, first_waiter, pass_on, pass_if, pass_below};
+ghost use Rattle.evm_model.specs.Passing.{pass_on, pass_if, pass_below};
 ghost use Rattle.evm_model.specs.Ranks.{best, rank};
 ghost use Rattle.evm_model.specs.State.{on_mutex};
+ghost use Rattle.evm_model.specs.Waits.{first_waiter};
 ghost use Rattle.evm_model.specs.declared.task.Task.{Task};
 ghost use Rattle.evm_ranks.specs.Boosts.{meets};
 
 use crate::parts::Parts;
-use evm_model::{MUTEX_LIMIT, Mutex, TASK_LIMIT, TaskState, Wait};
+use evm_model::{MUTEX_LIMIT, Mutex, TASK_LIMIT, Wait};
 
 impl Parts {
     /// The ranks of all tasks, by their numbers.
@@ -82,49 +83,26 @@ impl Parts {
         self.hold_mutex(t, m, 1);
     }
 
-    /// A task waits for a mutex.
-    #[tactic(auto, unfolding(evm_model::specs::Locks::wait_for))]
-    pub fn wait_for(&mut self, t: u8, m: u8)
-        requires room { self.old.stamps < 2 ^ 63 }
-        ensures row { self.new ≡ wait_for t m self.old }
-        ensures stamps { self.new.stamps ≡ self.old.stamps + 1 }
+    /// The first task that waits for this: the one of greatest rank, then of least stamp.
+    #[tactic(auto, unfolding(evm_model::specs::Waits::first_waiter))]
+    pub fn first_waiter(&self, wait: Wait) -> Option<u8>
+        ensures { result ≡ first_waiter wait self.now }
     {
-        self.set_state(t, TaskState::Waits(Wait::Lock(m)));
-        self.restamp(t);
+        self.mutexes.first_waiter(wait, self.tasks.as_slice())
     }
 
-    /// A task that waited out-of-band is ready there: its call is answered.
-    #[tactic(auto, unfolding(evm_model::specs::Passing::wake_oob))]
-    pub fn wake_oob(&mut self, t: u8, value: u64)
-        requires room { self.old.stamps < 2 ^ 63 }
-        ensures row { self.new ≡ wake_oob t value self.old }
-        ensures stamps { self.new.stamps ≡ self.old.stamps + 1 }
-    {
-        self.harts.set_a0(t, value);
-        self.set_state(t, TaskState::OobReady);
-        self.restamp(t);
-    }
-
-    // Of the tasks that wait for a mutex the one of greatest rank, then of least stamp.
-    #[tactic(auto, unfolding(evm_model::specs::Passing::first_waiter))]
-    fn first_waiter(&self, m: u8) -> Option<u8>
-        ensures { result ≡ first_waiter m self.now }
-    {
-        self.mutexes.first_waiter(m, self.tasks.as_slice())
-    }
-
-    /// A task that waited for a mutex wakes and owns it; where there is none it is free.
+    /// A task that waited for a mutex owns it and wakes; if there is none, the mutex is free.
     #[tactic(auto, unfolding(evm_model::specs::Passing::pass_on))]
     pub fn pass_on(&mut self, m: u8)
         requires room { self.old.stamps < 2 ^ 63 }
         ensures row { self.new ≡ pass_on m self.old }
         ensures stamps { self.new.stamps ≤ self.old.stamps + 1 }
     {
-        match self.first_waiter(m) {
+        match self.first_waiter(Wait::Lock(m)) {
             None => self.mutexes.leave(m),
             Some(t) => {
-                self.wake_oob(t, 0);
                 self.hold_mutex(t, m, 1);
+                self.wake(t, 0);
             }
         }
     }

@@ -1,5 +1,6 @@
 ghost use Rattle.std.specs.Prelude.{◌≡◌, ◌<◌, ◌≤◌, ◌-◌, ◌^◌, true, false, length, slice_get, option_copied, Option};
 ghost use Rattle.evm_model.specs.Bounds.{PipesUpTo};
+ghost use Rattle.evm_model.specs.Profiles.{line_count};
 ghost use Rattle.evm_model.specs.Pipes.{raise, arrive, receive, play, set_stall};
 ghost use Rattle.evm_model.specs.Settle.{current};
 ghost use Rattle.evm_model.specs.State.{on_pipe, on_processor};
@@ -8,7 +9,7 @@ use crate::console::Console;
 use arrayvec::ArrayVec;
 use evm_boost::Mutexes;
 use evm_lines::LINES;
-use evm_model::{PROCESSOR_LIMIT, Processor, Stage};
+use evm_model::{PROCESSOR_LIMIT, Processor, Profile, Stage};
 use evm_pipe::Pipe;
 use evm_task::{Harts, Tasks};
 use std::marker::Model;
@@ -16,6 +17,8 @@ use std::marker::Model;
 /// What calls may change. No field can grow past the room that it has from the start.
 #[derive(Debug, Drop)]
 pub struct Parts {
+    /// What never changes.
+    pub profile: Profile,
     /// How many ticks there were.
     pub ticks: u64,
     /// The registers and pc of each task.
@@ -40,6 +43,7 @@ impl Model for Parts {
     ghost Value = { model.Parts };
 
     ghost view = { λ k. record {
+      profile = k.profile;
       ticks = k.ticks;
       harts = k.harts;
       tasks = k.tasks;
@@ -52,6 +56,13 @@ impl Model for Parts {
 }
 
 impl Parts {
+    /// How many interrupt lines a processor has.
+    pub fn line_count(&self) -> u8
+        ensures { result ≡ line_count self.now.profile }
+    {
+        LINES
+    }
+
     /// How many processors there are, 8 at the most.
     pub fn processor_count(&self) -> u8
         ensures count { result ≡ length self.now.processors }

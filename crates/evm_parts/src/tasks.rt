@@ -4,7 +4,8 @@ ghost use Rattle.std.specs.Prelude.{◌≡◌, ◌<◌, ◌≤◌, ◌+◌, ◌^
 ghost use Rattle.evm_model.specs.InBandCalls.{add_task};
 ghost use Rattle.evm_model.specs.Passing.{end_task};
 ghost use Rattle.evm_model.specs.State.{new_task};
-ghost use Rattle.evm_model.specs.Tasks.{restamp, set_state, leave_in_band, wake_in_band, wake_waiter, wake_below, awaits};
+ghost use Rattle.evm_model.specs.Tasks.{restamp, set_state, leave_in_band};
+ghost use Rattle.evm_model.specs.Waits.{awaits_line, begin_wait, wake, wake_below, wake_waiter};
 
 use crate::parts::Parts;
 use evm_model::{Class, Mode, Stage, TASK_LIMIT, Task, TaskState, Wait};
@@ -85,21 +86,34 @@ impl Parts {
         self.stamps = stamp + 1;
     }
 
-    // A task that waited in-band is ready there: its call is answered.
-    #[tactic(auto, unfolding(evm_model::specs::Tasks::wake_in_band))]
-    fn wake_in_band(&mut self, t: u8, value: u64)
+    /// A task waits, until a deadline if that is not 0.
+    #[tactic(auto, unfolding(evm_model::specs::Waits::begin_wait))]
+    pub fn begin_wait(&mut self, t: u8, wait: Wait, deadline: u64)
         requires room { self.old.stamps < 2 ^ 63 }
-        ensures row { self.new ≡ wake_in_band t value self.old }
-        ensures stamps { self.new.stamps ≤ self.old.stamps + 1 }
+        ensures row { self.new ≡ begin_wait t wait deadline self.old }
+        ensures stamps { self.new.stamps ≡ self.old.stamps + 1 }
     {
+        self.tasks.begin_wait(t, wait, deadline);
+        self.restamp(t);
+    }
+
+    /// A task wakes, and its call is answered: it is ready on the stage on which it waited, but in-band if it is weak
+    /// and owns no mutex.
+    #[tactic(auto, unfolding(evm_model::specs::Waits::wake))]
+    pub fn wake(&mut self, t: u8, value: u64)
+        requires room { self.old.stamps < 2 ^ 63 }
+        ensures row { self.new ≡ wake t value self.old }
+        ensures stamps { self.new.stamps ≡ self.old.stamps + 1 }
+    {
+        let owns = self.mutexes.owns_any(t);
         self.harts.set_a0(t, value);
-        self.set_state(t, TaskState::InReady);
+        self.tasks.end_wait(t, owns);
         self.restamp(t);
     }
 
     // Whether a task waits on a processor for a line.
-    fn awaits(&self, c: u8, line: u8, t: u8) -> bool
-        ensures { result ≡ awaits c line (slice_get self.now.tasks t) }
+    fn awaits_line(&self, c: u8, line: u8, t: u8) -> bool
+        ensures { result ≡ awaits_line c line (slice_get self.now.tasks t) }
     {
         let Some(task) = self.tasks.get(t) else {
             return false;
@@ -116,8 +130,8 @@ impl Parts {
         ensures row { self.new ≡ wake_waiter c line t self.old }
         ensures stamps { self.new.stamps ≤ self.old.stamps + 1 }
     {
-        if self.awaits(c, line, t) {
-            self.wake_in_band(t, 0);
+        if self.awaits_line(c, line, t) {
+            self.wake(t, 0);
         }
     }
 

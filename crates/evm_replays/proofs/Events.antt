@@ -14,7 +14,7 @@ use Rattle.evm_model.specs.Rows.{row}
 use Rattle.evm_model.specs.State.{State}
 use Rattle.evm_model.specs.declared.boot.Boot.{Boot}
 use Rattle.evm_model.specs.declared.event.Answer.{Answer}
-use Rattle.evm_model.specs.declared.event.Event.{Event}
+use Rattle.evm_model.specs.Event.{Event}
 use Rattle.evm_model.specs.declared.event.Event.TheVariants.{Step}
 use Rattle.evm_model.specs.declared.limits.TheConstants.{CAPACITY_LIMIT}
 use Rattle.evm_ram.specs.declared.refusal.Refusal.{Refusal}

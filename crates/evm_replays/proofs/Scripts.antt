@@ -9,7 +9,7 @@ use Rattle.evm_journal.specs.Journal.{HasBootLine}
 use Rattle.evm_model.specs.Replay.{apply}
 use Rattle.evm_model.specs.State.{State}
 use Rattle.evm_model.specs.declared.event.Answer.{Answer}
-use Rattle.evm_model.specs.declared.event.Event.{Event}
+use Rattle.evm_model.specs.Event.{Event}
 use Rattle.evm_model.specs.declared.boot.Boot.{Boot}
 use Rattle.evm_model.specs.declared.event.Event.TheVariants.{Step, Tick, Raise, Bell, Stop, Go, StepI, SetReg, SetPc, Poke, Break, Unbreak}
 use Rattle.evm_ram.specs.declared.refusal.Refusal.{Refusal}
@@ -73,13 +73,12 @@ one-line (Unbreak a) h = h
 
 spelled-leads : (image : Contents) (n : ℕ) (machine : Option State) (line : Line) (bytes : List ℕ) → IsSpelled line bytes → AreDriven image machine → LeadsOn image (told_at (an_image image) n machine line)
 spelled-leads image n None lines.Blank bytes h d = tt
-spelled-leads image n None (lines.Boot cpus ram capacity) bytes h d =
-    boot-leads image n (record { cpus = cpus; ram = ram; capacity = capacity }) (started (an_image image) (record { cpus = cpus; ram = ram; capacity = capacity })) refl h.1
+spelled-leads image n None (lines.Boot boot) bytes h d = boot-leads image n boot (started (an_image image) boot) refl h.1
 spelled-leads image n None (lines.Steps c count) bytes h d = tt
 spelled-leads image n None (lines.One event) bytes h d = tt
 spelled-leads image n None (lines.Look view) bytes h d = tt
 spelled-leads image n (Some s) lines.Blank bytes h d = d
-spelled-leads image n (Some s) (lines.Boot cpus ram capacity) bytes h d = tt
+spelled-leads image n (Some s) (lines.Boot boot) bytes h d = tt
 spelled-leads image n (Some s) (lines.Steps c count) bytes h d = steps-lead image n c count s (steps c count s).0 (steps c count s).1 refl h.1.0 d
 spelled-leads image n (Some s) (lines.One event) bytes h d = event-leads image n s event (apply s event) refl (one-line event h.1) d
 spelled-leads image n (Some s) (lines.Look view) bytes h d = view-leads image n view s (shown view s) d

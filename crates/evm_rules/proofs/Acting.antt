@@ -19,7 +19,8 @@ use Rattle.evm_model.specs.declared.stage.Stage.TheVariants.{OutOfBand, InBand}
 use Rattle.evm_model.specs.declared.task.Task.{Task}
 use Rattle.evm_model.specs.declared.task.TaskState.{TaskState}
 use Rattle.evm_model.specs.declared.task.TaskState.TheVariants.{InReady, OobReady, Waits}
-use Rattle.evm_model.specs.declared.task.Wait.TheVariants.{Lock}
+use Rattle.evm_model.specs.Waits.{begin_wait}
+use Rattle.evm_model.specs.declared.task.Wait.TheVariants.{Line, Lock}
 use Rattle.evm_rules.proofs.Bounded.{are-change}
 use Rattle.evm_rules.proofs.Firsts.{IsOobOwn, own-live}
 use Rattle.evm_rules.proofs.Locks.{locks-fewer, fewer-change, locks-wait}
@@ -215,11 +216,12 @@ but-ready c t k f o g =
     (λ u p h x w. one-cases is_in_ready c t u (λ task. record task { state = InReady }) k.tasks w (λ x. refl) (λ x e. refl)) f o g
 
 -- where it is gone from in-band it may have any state
-pub but-gone : (c t : ℕ) (state : TaskState) (k : Parts) → lock_of state ≡ None → ((p : Processor) → slice_get k.processors c ≡ Some p → p.in_band_task ≡ None) → IsOpen c k → IsOwn c t k.tasks → GoodBut c k → GoodBut c (set_state t state k)
-unfolding set_state
-but-gone c t state k none gone f o g =
-    but-own c t (λ task. record task { state = state }) k (λ x. refl) (λ x. refl) (state-locks t state k none g.shape.locks)
-    (λ u p h x w. let no : None ≡ Some u = sym (gone p h) ∙ x in cc) f o g
+pub but-gone : (c t : ℕ) (f : Task → Task) (k : Parts) → ((x : Task) → (f x).cpu ≡ x.cpu) → ((x : Task) → (f x).stamp ≡ x.stamp) → ((x : Task) → lock_of (f x).state ≡ None)
+    → ((p : Processor) → slice_get k.processors c ≡ Some p → p.in_band_task ≡ None) → IsOpen c k → IsOwn c t k.tasks → GoodBut c k → GoodBut c (on_task t f k)
+but-gone c t f k cpu stamp none gone opened o g =
+    but-own c t f k cpu stamp
+    (locks-fewer k.mutexes k.tasks (change f k.tasks t) (omega (arith, length-change f k.tasks t)) (fewer-change f k.tasks t (λ x m e. let no : None ≡ Some m = sym (none x) ∙ e in cc)) g.shape.locks)
+    (λ u p h x w. let no : None ≡ Some u = sym (gone p h) ∙ x in cc) opened o g
 
 -- an out-of-band task is not the in-band current one
 oob-other : (c t u : ℕ) (tasks : List Task) → IsOobOwn c t tasks → IsOneOf is_in_ready c u tasks → u ≡ t → ⊥
@@ -229,13 +231,14 @@ oob-other c t u tasks o w same =
     both-ready o.task.state o.ready (ap (λ (x : Task). is_in_ready x.state) (sym it) ∙ w.ready)
 
 -- it waits for a lock
-pub but-waits : (c t m u : ℕ) (k : Parts) → owner k.mutexes m ≡ Some u → meets (waits_on k.mutexes k.tasks) t TASK_LIMIT (Some u) ≡ false → IsOpen c k → IsOobOwn c t k.tasks → GoodBut c k
-    → GoodBut c (set_state t (Waits (Lock m)) k)
-unfolding set_state
-but-waits c t m u k own away f o g =
-    let waiting : Task → Task = λ task. record task { state = Waits (Lock m) } in
-    but-own c t waiting k (λ x. refl) (λ x. refl) (locks-wait k.mutexes k.tasks t m u waiting (λ x. refl) g.shape.few_tasks own away g.shape.locks)
-    (λ v p h x w. one-other is_in_ready c t v waiting k.tasks (oob-other c t v k.tasks o w) w) f (own-live c t k.tasks o) g
+pub but-waits : (c t m u deadline : ℕ) (k : Parts) → owner k.mutexes m ≡ Some u → meets (waits_on k.mutexes k.tasks) t TASK_LIMIT (Some u) ≡ false → IsOpen c k → IsOobOwn c t k.tasks → GoodBut c k
+    → GoodBut c (begin_wait t (Lock m) deadline k)
+unfolding begin_wait
+but-waits c t m u deadline k own away f o g =
+    let waiting : Task → Task = λ task. record task { state = Waits (Lock m); deadline = deadline } in
+    but-restamp c t (on_task t waiting k)
+    (but-own c t waiting k (λ x. refl) (λ x. refl) (locks-wait k.mutexes k.tasks t m u waiting (λ x. refl) g.shape.few_tasks own away g.shape.locks)
+    (λ v p h x w. one-other is_in_ready c t v waiting k.tasks (oob-other c t v k.tasks o w) w) f (own-live c t k.tasks o) g)
 
 pub left : (c : ℕ) (k : Parts) (p : Processor) → slice_get (leave_in_band c k).processors c ≡ Some p → p.in_band_task ≡ None
 unfolding leave_in_band
@@ -282,18 +285,24 @@ demote-own c t k o =
     let open_pipe : Parts = on_pipe c (set_stall OutOfBand false) k in
     restamp-own c t t (set_state t InReady open_pipe) (own-state c t t InReady open_pipe refl o)
 
--- leaving in-band, a task's state and its stamp change different parts
-pub leave-state : (c t : ℕ) (state : TaskState) (k : Parts) → leave_in_band c (restamp t (set_state t state k)) ≡ restamp t (set_state t state (leave_in_band c k))
-unfolding leave_in_band restamp set_state
-leave-state c t state k = refl
+-- leaving in-band, a task and its stamp change different parts
+leave-turn : (c t : ℕ) (f : Task → Task) (k : Parts) → leave_in_band c (restamp t (on_task t f k)) ≡ restamp t (on_task t f (leave_in_band c k))
+unfolding leave_in_band restamp
+leave-turn c t f k = refl
 
 -- it leaves in-band with another state
-pub leave-but : (c t : ℕ) (state : TaskState) (k : Parts) → lock_of state ≡ None → IsOpen c k → IsFree c k → GoodBut c k → IsOwn c t k.tasks → GoodBut c (leave_in_band c (restamp t (set_state t state k)))
-leave-but c t state k none f free g o =
+leave-but : (c t : ℕ) (f : Task → Task) (k : Parts) → ((x : Task) → (f x).cpu ≡ x.cpu) → ((x : Task) → (f x).stamp ≡ x.stamp) → ((x : Task) → lock_of (f x).state ≡ None)
+    → IsOpen c k → IsFree c k → GoodBut c k → IsOwn c t k.tasks → GoodBut c (leave_in_band c (restamp t (on_task t f k)))
+leave-but c t f k cpu stamp none opened free g o =
     let gone : Parts = leave_in_band c k in
-    rw (leave-state c t state k)
-    (but-restamp c t (set_state t state gone) (but-gone c t state gone none (left c k) (leave-open c k f) (leave-own c c t k o) (but-leave c k free g)))
+    rw (leave-turn c t f k)
+    (but-restamp c t (on_task t f gone) (but-gone c t f gone cpu stamp none (left c k) (leave-open c k opened) (leave-own c c t k o) (but-leave c k free g)))
 
 pub promote-but : (c t : ℕ) (k : Parts) → IsOpen c k → IsFree c k → GoodBut c k → IsOwn c t k.tasks → GoodBut c (promote c t k)
-unfolding promote
-promote-but c t k f free g o = leave-but c t OobReady k refl f free g o
+unfolding promote set_state
+promote-but c t k f free g o = leave-but c t (λ task. record task { state = OobReady }) k (λ x. refl) (λ x. refl) (λ x. refl) f free g o
+
+-- it waits in-band
+pub wait_line-but : (c t l deadline : ℕ) (k : Parts) → IsOpen c k → IsFree c k → GoodBut c k → IsOwn c t k.tasks → GoodBut c (leave_in_band c (begin_wait t (Line l) deadline k))
+unfolding begin_wait
+wait_line-but c t l deadline k f free g o = leave-but c t (λ task. record task { state = Waits (Line l); deadline = deadline }) k (λ x. refl) (λ x. refl) (λ x. refl) f free g o

@@ -13,7 +13,7 @@ use Rattle.evm_model.specs.declared.stage.Stage.{Stage}
 use Rattle.evm_model.specs.declared.stage.Stage.TheVariants.{OutOfBand, InBand}
 use Rattle.evm_rules.proofs.Sets.{ArePipes, length-set, IsPipe-raise, IsPipe-arrive, IsPipe-receive, IsPipe-play, IsPipe-stall, IsPipe-idle}
 use Rattle.evm_rules.proofs.Spending.{current-spends}
-use Rattle.evm_walk.proofs.Tasks.{wakes-pipes}
+use Rattle.evm_walk.proofs.Playing.{wakes-pipes}
 use Rattle.evm_rules.proofs.Counting.{each-change, each-each, each-map, PipesUpTo-more, PipeUpTo-more, raise-up, each-up, on_raise-up, on_receive-up, on_stall-up, tick-up, play_oob_lines-up, play_in_band_lines-up}
 
 -- ---- pipes stay pipes

@@ -4,21 +4,22 @@ use Rattle.std.specs.Prelude.{slice_get, is_none, nat_lt, nat_le, ◌==◌, if�
 use Rattle.std.proofs.lemmas.Bool.Decides.{nat_tests}
 use Rattle.evm_exec.specs.Registers.{register_of}
 use Rattle.evm_exec.specs.declared.hart.Hart.{Hart}
-use Rattle.evm_lines.specs.declared.TheConstants.{LINES}
 use Rattle.evm_model.proofs.Lists.{slice_get-below, slice_get-within}
 use Rattle.evm_model.specs.Calls.{call_of, call_stage, perform, is_weak_oob, return_weak, answered, finish_call, ask_oob, call_on, call_known, call_of_hart, call}
 use Rattle.evm_model.specs.Good.{Good, IsOwn, IsSettled}
 use Rattle.evm_model.specs.Harts.{A7, argument, answer, advance}
-use Rattle.evm_model.specs.InBandCalls.{exit, putc, yield_now, is_bad_entry, spawn, wait_line, attach_as, attach, detach, set_line}
+use Rattle.evm_model.specs.InBandCalls.{exit, putc, yield_now, is_bad_entry, spawn, wait_line_unless, wait_line, attach_as, attach, detach, set_line}
 use Rattle.evm_model.specs.Instructions.{fault}
 use Rattle.evm_model.specs.Mutexes.{owns_any}
 use Rattle.evm_model.specs.OobCalls.{stall, switch_oob, switch_in_band, is_scheduled_task, schedule_as, set_sched, set_mode, yield_oob, clock, state_bits}
 use Rattle.evm_model.specs.Pipes.{Pipe}
 use Rattle.evm_model.specs.Policies.{policy_of}
+use Rattle.evm_model.specs.Profiles.{line_count}
 use Rattle.evm_model.specs.Settle.{current, is_oob}
-use Rattle.evm_model.specs.Stages.{refused, is_stalled, is_attached, may_promote}
+use Rattle.evm_model.specs.Stages.{refused, is_stalled, is_attached, may_promote, wait_refusal}
 use Rattle.evm_model.specs.State.{Parts, on_hart}
-use Rattle.evm_model.specs.Tasks.{restamp, set_policy, clear_policy, set_mode_bits}
+use Rattle.evm_model.specs.Waits.{begin_wait}
+use Rattle.evm_model.specs.Tasks.{restamp, leave_in_band, set_policy, clear_policy, set_mode_bits}
 use Rattle.evm_model.specs.declared.call.Call.{Call}
 use Rattle.evm_model.specs.declared.call.Call.TheVariants.{Exit, Putc, Yield, Spawn, Stall, Unstall, WaitLine, Attach, Detach, NewMutex, SetLine, SwitchOob, SwitchInBand, SetSched, SetMode, Lock as Lock_call, TryLock, Unlock, YieldOob, StallOob, UnstallOob, Clock, StateBits}
 use Rattle.evm_model.specs.declared.call.Outcome.{Outcome}
@@ -31,13 +32,12 @@ use Rattle.evm_model.specs.declared.processor.Processor.{Processor}
 use Rattle.evm_model.specs.declared.stage.Stage.{Stage}
 use Rattle.evm_model.specs.declared.stage.Stage.TheVariants.{OutOfBand, InBand}
 use Rattle.evm_model.specs.declared.task.Class.{Class}
-use Rattle.evm_model.specs.declared.task.TaskState.TheVariants.{Waits as Waiting}
 use Rattle.evm_model.specs.declared.task.Wait.TheVariants.{Line}
-use Rattle.evm_rules.proofs.Acting.{IsOpen, HasInBand, HasHeld, but-hart, but-unstall, but-stalled, but-unstall_oob, but-stalled_oob, but-leave, but-restamp, but-task, but-add, leave-own, add-own, restamp-free, restamp-own, task-own, demote-but, demote-own, leave-but, promote-but}
+use Rattle.evm_rules.proofs.Acting.{IsOpen, HasInBand, HasHeld, but-hart, but-unstall, but-stalled, but-unstall_oob, but-stalled_oob, but-leave, but-restamp, but-task, but-add, leave-own, add-own, restamp-free, restamp-own, task-own, demote-but, demote-own, wait_line-but, promote-but}
 use Rattle.evm_rules.proofs.Aligned.{next-aligned}
 use Rattle.evm_rules.proofs.Done.{IsDone, either, not-stalled}
 use Rattle.evm_rules.proofs.Firsts.{IsOobOwn, both, eqb-is}
-use Rattle.evm_rules.proofs.Locking.{new_mutex-done, lock-done, try_lock-done, unlock-done}
+use Rattle.evm_rules.proofs.Locking.{may-wait, new_mutex-done, lock-done, try_lock-done, unlock-done}
 use Rattle.evm_rules.proofs.Passing.{end-but}
 use Rattle.evm_rules.proofs.Settling.{GoodBut, good_but, is_open, oob_own}
 
@@ -105,29 +105,30 @@ module _ (c t : ℕ) (k : Parts) (g : GoodBut c k) (o : IsOwn c t k.tasks) where
     own = λ v n. leave-own c c t (restamp t k) (restamp-own c t t k o);
   })
 
-  spawn-done : (ram entry value cpu : ℕ) → IsDone c t (spawn ram entry value cpu k)
+  spawn-done : (entry value cpu : ℕ) → IsDone c t (spawn entry value cpu k)
   unfolding spawn
-  spawn-done ram entry value cpu =
-      either c t (is_bad_entry ram entry) _ _ (λ e. same _) (λ entry_ok.
+  spawn-done entry value cpu =
+      either c t (is_bad_entry k.profile.ram entry) _ _ (λ e. same _) (λ entry_ok.
       either c t (is_none (slice_get k.processors cpu)) _ _ (λ e. same _) (λ cpu_ok.
       either c t (nat_le TASK_LIMIT (length k.tasks)) _ _ (λ e. same _) (λ room. record {
-        but = but-add c entry value cpu k (entry-aligned ram entry entry_ok) (cpu-there cpu k cpu_ok) (room-for k room) g;
+        but = but-add c entry value cpu k (entry-aligned k.profile.ram entry entry_ok) (cpu-there cpu k cpu_ok) (room-for k room) g;
         own = λ v n. add-own entry value cpu c t k o;
       })))
+
+  line_unless-done : (x : Option Errno) (l : ℕ) → (x ≡ None → GoodBut c (leave_in_band c (begin_wait t (Line l) 0 k))) → IsDone c t (wait_line_unless x c t l k)
+  line_unless-done (Some e) l h = same _
+  line_unless-done None l h = record { but = h refl; own = λ v n. cc }
 
   wait_line-done : (l : ℕ) → IsOpen c k → IsDone c t (wait_line c t l k)
   unfolding wait_line
   wait_line-done l f =
-      either c t (nat_le LINES l) _ _ (λ e. same _) (λ line_ok.
-      either c t (is_stalled InBand c k) _ _ (λ e. same _) (λ e. record {
-        but = leave-but c t (Waiting (Line l)) k refl f (not-stalled c k e) g o;
-        own = λ v n. cc;
-      }))
+      either c t (nat_le (line_count k.profile) l) _ _ (λ e. same _)
+      (λ line. line_unless-done (wait_refusal (is_stalled InBand c k) None 0) l (λ e. wait_line-but c t l 0 k f (not-stalled c k (may-wait (is_stalled InBand c k) None 0 e).0) g o))
 
   set_line-done : (l action : ℕ) → IsDone c t (set_line l action k)
   unfolding set_line
   set_line-done l action =
-      either c t (nat_lt l 2) _ _ (λ e. same _) (λ low. either c t (nat_le LINES l) _ _ (λ e. same _) (λ high. either c t (action == 0) _ _ (λ e. same _) (λ e. same _)))
+      either c t (nat_lt l 2) _ _ (λ e. same _) (λ low. either c t (nat_le (line_count k.profile) l) _ _ (λ e. same _) (λ high. either c t (action == 0) _ _ (λ e. same _) (λ e. same _)))
 
   policy-done : (u : ℕ) (class : Class) (priority : ℕ) (outcome : Outcome) → IsDone c t (set_policy u class priority k, outcome)
   unfolding set_policy
@@ -210,30 +211,30 @@ record IsOn (stage : Option Stage) (c t : ℕ) (k : Parts) : Type 0 where
   oob : stage ≡ Some OutOfBand → HasHeld c k × IsOobOwn c t k.tasks
 
 module _ (c t : ℕ) (k : Parts) (g : GoodBut c k) (o : IsOwn c t k.tasks) where
-  perform-done : (call : Call) (ram : ℕ) (hart : Hart) → IsOn (call_stage call) c t k → IsDone c t (perform call ram hart c t k)
-  perform-done Exit ram hart h = exit-done c t k g o (h.in_band refl).1
-  perform-done Putc ram hart h = putc-done c t k g o (argument 0 hart)
-  perform-done Yield ram hart h = yield-done c t k g o
-  perform-done Spawn ram hart h = spawn-done c t k g o ram (argument 0 hart) (argument 1 hart) (argument 2 hart)
-  perform-done Stall ram hart h = stall-done c t k g o true (h.in_band refl).0
-  perform-done Unstall ram hart h = stall-done c t k g o false (h.in_band refl).0
-  perform-done WaitLine ram hart h = wait_line-done c t k g o (argument 0 hart) (h.in_band refl).1
-  perform-done Attach ram hart h = attach-done c t k g o (argument 0 hart) (argument 1 hart)
-  perform-done Detach ram hart h = detach-done c t k g o
-  perform-done NewMutex ram hart h = new_mutex-done c t k g o (argument 0 hart) (argument 1 hart)
-  perform-done SetLine ram hart h = set_line-done c t k g o (argument 0 hart) (argument 1 hart)
-  perform-done SwitchOob ram hart h = switch_oob-done c t k g o
-  perform-done SwitchInBand ram hart h = switch_in_band-done c t k g o
-  perform-done SetSched ram hart h = set_sched-done c t k g o (argument 0 hart) (argument 1 hart) (argument 2 hart)
-  perform-done SetMode ram hart h = set_mode-done c t k g o (argument 0 hart)
-  perform-done Lock_call ram hart h = lock-done c t k g o (argument 0 hart) (argument 1 hart) (h.oob refl).1
-  perform-done TryLock ram hart h = try_lock-done c t k g o (argument 0 hart)
-  perform-done Unlock ram hart h = unlock-done c t k g o (argument 0 hart)
-  perform-done YieldOob ram hart h = yield_oob-done c t k g o
-  perform-done StallOob ram hart h = stall_oob-done c t k g o true (h.oob refl).0
-  perform-done UnstallOob ram hart h = stall_oob-done c t k g o false (h.oob refl).0
-  perform-done Clock ram hart h = clock-done c t k g o
-  perform-done StateBits ram hart h = state_bits-done c t k g o
+  perform-done : (call : Call) (hart : Hart) → IsOn (call_stage call) c t k → IsDone c t (perform call hart c t k)
+  perform-done Exit hart h = exit-done c t k g o (h.in_band refl).1
+  perform-done Putc hart h = putc-done c t k g o (argument 0 hart)
+  perform-done Yield hart h = yield-done c t k g o
+  perform-done Spawn hart h = spawn-done c t k g o (argument 0 hart) (argument 1 hart) (argument 2 hart)
+  perform-done Stall hart h = stall-done c t k g o true (h.in_band refl).0
+  perform-done Unstall hart h = stall-done c t k g o false (h.in_band refl).0
+  perform-done WaitLine hart h = wait_line-done c t k g o (argument 0 hart) (h.in_band refl).1
+  perform-done Attach hart h = attach-done c t k g o (argument 0 hart) (argument 1 hart)
+  perform-done Detach hart h = detach-done c t k g o
+  perform-done NewMutex hart h = new_mutex-done c t k g o (argument 0 hart) (argument 1 hart)
+  perform-done SetLine hart h = set_line-done c t k g o (argument 0 hart) (argument 1 hart)
+  perform-done SwitchOob hart h = switch_oob-done c t k g o
+  perform-done SwitchInBand hart h = switch_in_band-done c t k g o
+  perform-done SetSched hart h = set_sched-done c t k g o (argument 0 hart) (argument 1 hart) (argument 2 hart)
+  perform-done SetMode hart h = set_mode-done c t k g o (argument 0 hart)
+  perform-done Lock_call hart h = lock-done c t k g o (argument 0 hart) (argument 1 hart) (h.oob refl).1
+  perform-done TryLock hart h = try_lock-done c t k g o (argument 0 hart)
+  perform-done Unlock hart h = unlock-done c t k g o (argument 0 hart)
+  perform-done YieldOob hart h = yield_oob-done c t k g o
+  perform-done StallOob hart h = stall_oob-done c t k g o true (h.oob refl).0
+  perform-done UnstallOob hart h = stall_oob-done c t k g o false (h.oob refl).0
+  perform-done Clock hart h = clock-done c t k g o
+  perform-done StateBits hart h = state_bits-done c t k g o
 
 -- ---- a call is answered
 but-if : (c : ℕ) (b : Bool) (x y : Parts) → (b ≡ true → GoodBut c x) → (b ≡ false → GoodBut c y) → GoodBut c (if b then x else y)
@@ -289,8 +290,8 @@ has-held : (c t : ℕ) (k : Parts) → Runs c t k → is_oob (Some t) k.tasks �
 has-held c t k r e = record { held = λ p h. record { number = t; runs = rw h at r.current; own = oob_own c t k.tasks r.own e } }
 
 -- ---- the ECALL
-done-but : (call : Call) (ram : ℕ) (hart : Hart) (c t : ℕ) (k : Parts) → Runs c t k → IsOn (call_stage call) c t k → GoodBut c (finish_call c t (perform call ram hart c t k))
-done-but call ram hart c t k r h = finish_call-but c t (perform call ram hart c t k) (perform-done c t k (good_but c k r.good) r.own call ram hart h)
+done-but : (call : Call) (hart : Hart) (c t : ℕ) (k : Parts) → Runs c t k → IsOn (call_stage call) c t k → GoodBut c (finish_call c t (perform call hart c t k))
+done-but call hart c t k r h = finish_call-but c t (perform call hart c t k) (perform-done c t k (good_but c k r.good) r.own call hart h)
 
 refused-but : (e : Errno) (c t : ℕ) (k : Parts) → Runs c t k → GoodBut c (finish_call c t (refused e k))
 refused-but e c t k r = finish_call-but c t (refused e k) (same c t k (good_but c k r.good) r.own _)
@@ -313,26 +314,26 @@ on_oob stage c t k s r e = record { in_band = λ h. let no : Some OutOfBand ≡ 
 on_either : (stage : Option Stage) (c t : ℕ) (k : Parts) → stage ≡ None → IsOn stage c t k
 on_either stage c t k s = record { in_band = λ h. let no : None ≡ Some InBand = sym s ∙ h in cc; oob = λ h. let no : None ≡ Some OutOfBand = sym s ∙ h in cc }
 
-on-but : (stage : Option Stage) (call : Call) (ram : ℕ) (hart : Hart) (c t : ℕ) (k : Parts) → call_stage call ≡ stage → Runs c t k → GoodBut c (call_on stage call ram hart c t k)
-on-but None call ram hart c t k s r = done-but call ram hart c t k r (on_either (call_stage call) c t k s)
-on-but (Some InBand) call ram hart c t k s r =
+on-but : (stage : Option Stage) (call : Call) (hart : Hart) (c t : ℕ) (k : Parts) → call_stage call ≡ stage → Runs c t k → GoodBut c (call_on stage call hart c t k)
+on-but None call hart c t k s r = done-but call hart c t k r (on_either (call_stage call) c t k s)
+on-but (Some InBand) call hart c t k s r =
     but-if c (is_oob (Some t) k.tasks) _ _ (λ e. demote-but c t k (good_but c k r.good) r.own)
-    (λ e. done-but call ram hart c t k r (on_in_band (call_stage call) c t k s r e))
-on-but (Some OutOfBand) call ram hart c t k s r =
-    but-if c (is_oob (Some t) k.tasks) _ _ (λ e. done-but call ram hart c t k r (on_oob (call_stage call) c t k s r e))
+    (λ e. done-but call hart c t k r (on_in_band (call_stage call) c t k s r e))
+on-but (Some OutOfBand) call hart c t k s r =
+    but-if c (is_oob (Some t) k.tasks) _ _ (λ e. done-but call hart c t k r (on_oob (call_stage call) c t k s r e))
     (λ e. ask-but c t k r e)
 
-known-but : (x : Option Call) (ram : ℕ) (hart : Hart) (c t : ℕ) (k : Parts) → Runs c t k → GoodBut c (call_known x ram hart c t k)
-known-but None ram hart c t k r = refused-but NoSuchCall c t k r
-known-but (Some call) ram hart c t k r = on-but (call_stage call) call ram hart c t k refl r
+known-but : (x : Option Call) (hart : Hart) (c t : ℕ) (k : Parts) → Runs c t k → GoodBut c (call_known x hart c t k)
+known-but None hart c t k r = refused-but NoSuchCall c t k r
+known-but (Some call) hart c t k r = on-but (call_stage call) call hart c t k refl r
 
-hart-but : (ram : ℕ) (x : Option Hart) (c t : ℕ) (k : Parts) → Runs c t k → GoodBut c (call_of_hart ram x c t k)
-hart-but ram None c t k r = good_but c k r.good
-hart-but ram (Some hart) c t k r = known-but (call_of (register_of hart.regs A7)) ram hart c t k r
+hart-but : (x : Option Hart) (c t : ℕ) (k : Parts) → Runs c t k → GoodBut c (call_of_hart x c t k)
+hart-but None c t k r = good_but c k r.good
+hart-but (Some hart) c t k r = known-but (call_of (register_of hart.regs A7)) hart c t k r
 
-pub call-but : (ram c t : ℕ) (k : Parts) → Good k → IsOwn c t k.tasks → current c k ≡ Some t → GoodBut c (call ram c t k)
+pub call-but : (c t : ℕ) (k : Parts) → Good k → IsOwn c t k.tasks → current c k ≡ Some t → GoodBut c (call c t k)
 unfolding call
-call-but ram c t k g o r = hart-but ram (slice_get k.harts t) c t k (record { good = g; own = o; current = r })
+call-but c t k g o r = hart-but (slice_get k.harts t) c t k (record { good = g; own = o; current = r })
 
 -- ---- a fault
 pub fault-but : (c t : ℕ) (f : Fault) (k : Parts) → Good k → IsOwn c t k.tasks → current c k ≡ Some t → GoodBut c (fault c t f k)

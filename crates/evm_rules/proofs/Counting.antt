@@ -10,7 +10,7 @@ use Rattle.evm_model.specs.Lists.{change, each}
 use Rattle.evm_model.specs.Pipes.{Pipe, more_if, count_raise, count_receipt, count_arrival, count_play, on_passage, raise, arrive, leave_wire, receive, play, set_stall, stage_of}
 use Rattle.evm_model.specs.Settle.{spend_current, handle_oob, play_oob, play_in_band, play_oob_lines, play_in_band_lines}
 use Rattle.evm_rules.proofs.Spending.{current-spends}
-use Rattle.evm_walk.proofs.Tasks.{wakes-pipes}
+use Rattle.evm_walk.proofs.Playing.{wakes-pipes}
 use Rattle.evm_model.specs.State.{Parts, on_pipe}
 use Rattle.evm_model.specs.declared.counts.Counts.{Counts}
 use Rattle.evm_model.specs.declared.counts.Passage.{Passage}

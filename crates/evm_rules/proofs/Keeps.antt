@@ -26,7 +26,7 @@ use Rattle.evm_model.specs.Rows.{run, step_hart, step_current, step_wire, step_p
 use Rattle.evm_model.specs.Settle.{current, current_of}
 use Rattle.evm_model.specs.State.{Parts, Memory, Board, on_hart, on_processor, on_pipe, on_parts}
 use Rattle.evm_model.specs.declared.event.Answer.TheVariants.{Stopped, Hit}
-use Rattle.evm_model.specs.declared.event.Event.{Event}
+use Rattle.evm_model.specs.Event.{Event}
 use Rattle.evm_model.specs.declared.event.Event.TheVariants.{Step, Tick, Raise, Bell, Stop, Go, StepI, SetReg, SetPc, Poke, Break as Set_break, Unbreak}
 use Rattle.evm_model.specs.declared.mutex.Mutex.{Mutex}
 use Rattle.evm_model.specs.declared.processor.Processor.{Processor}
@@ -173,7 +173,7 @@ module _ (c t : ℕ) where
   finish-but (Next rd value pc) b a g o r = good_but c _ (hart-good t (λ hart. set_pc pc (set_register rd value hart)) b.parts (λ hart h. a) g)
   finish-but (Load op rd address) b a g o r = load-but (read address (width_of_load op) b.memory) op rd b g o r
   finish-but (Store width address value) b a g o r = store-but (write address width value b.memory) b g o r
-  finish-but Call b a g o r = call-but (length b.memory.ram) c t b.parts g o r
+  finish-but Call b a g o r = call-but c t b.parts g o r
   finish-but Break b a g o r = good_but c _ (stop-good c _ (hart-good t advance b.parts (λ hart. next-aligned hart.pc) g))
   finish-but Misaligned b a g o r = fault-but c t _ b.parts g o r
 

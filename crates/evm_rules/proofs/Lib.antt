@@ -22,6 +22,3 @@ pub mod Acting
 pub mod Done
 pub mod Locking
 pub mod Calling
-pub mod Given
-pub mod CallStamps
-pub mod Stamps

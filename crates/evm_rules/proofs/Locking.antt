@@ -5,12 +5,14 @@ use Rattle.std.proofs.lemmas.Bool.Decides.{nat_tests}
 use Rattle.evm_ranks.specs.Boosts.{is_number, meets}
 use Rattle.evm_model.proofs.Lists.{slice_get-below}
 use Rattle.evm_model.specs.Good.{IsOwn, is_ready}
-use Rattle.evm_model.specs.Locks.{with_ceiling, mutex_of, add_mutex, new_mutex_as, new_mutex, take_mutex, lock_again, wait_for, lock_other, lock_owned, lock_known, lock, try_owned, try_known, try_lock, unlock_once, unlock_known, unlock}
+use Rattle.evm_model.specs.Locks.{with_ceiling, mutex_of, add_mutex, new_mutex_as, new_mutex, take_mutex, lock_again, cycle_refusal, lock_other, lock_owned, lock_known, lock, try_owned, try_known, try_lock, unlock_once, unlock_known, unlock}
 use Rattle.evm_model.specs.Mutexes.{owner, owner_of, free_mutex, held_by, lock_of, lock_of_task, lock_at, waits_on}
 use Rattle.evm_model.specs.Passing.{pass_on}
-use Rattle.evm_model.specs.Stages.{is_stalled}
+use Rattle.evm_model.specs.Stages.{is_stalled, wait_refusal, wait_unless}
 use Rattle.evm_model.specs.State.{Parts, on_mutex}
-use Rattle.evm_model.specs.Tasks.{set_state}
+use Rattle.evm_model.specs.Waits.{begin_wait}
+use Rattle.evm_model.specs.declared.errno.Errno.{Errno}
+use Rattle.evm_model.specs.declared.errno.Errno.TheVariants.{Deadlock}
 use Rattle.evm_model.specs.declared.call.Outcome.{Outcome}
 use Rattle.evm_model.specs.declared.call.Outcome.TheVariants.{Waits}
 use Rattle.evm_model.specs.declared.limits.TheConstants.{TASK_LIMIT, MUTEX_LIMIT, PRIORITY_LIMIT}
@@ -20,8 +22,9 @@ use Rattle.evm_model.specs.declared.mutex.Protocol.TheVariants.{Inheritance, Cei
 use Rattle.evm_model.specs.declared.stage.Stage.TheVariants.{OutOfBand}
 use Rattle.evm_model.specs.declared.task.TaskState.{TaskState}
 use Rattle.evm_model.specs.declared.task.TaskState.TheVariants.{InReady, OobReady, Waits as Waiting}
+use Rattle.evm_model.specs.declared.task.Wait.{Wait}
 use Rattle.evm_model.specs.declared.task.Wait.TheVariants.{Lock}
-use Rattle.evm_rules.proofs.Acting.{IsOpen, but-restamp, but-waits}
+use Rattle.evm_rules.proofs.Acting.{IsOpen, but-waits}
 use Rattle.evm_rules.proofs.Firsts.{IsOobOwn}
 use Rattle.evm_rules.proofs.Locks.{locks-push}
 use Rattle.evm_rules.proofs.Passing.{but-mutexes, but-owned, pass_on-passes}
@@ -34,6 +37,16 @@ room-mutex k e = grind (arith, nat_tests)
 
 not-closed : (c : ℕ) (k : Parts) → is_stalled OutOfBand c k ≡ false → IsOpen c k
 not-closed c k e = record { open_there = λ pipe h. rw h at e }
+
+-- a call that may wait
+pub may-wait : (stalled : Bool) (own : Option Errno) (deadline : ℕ) → wait_refusal stalled own deadline ≡ None → (stalled ≡ false) × (own ≡ None)
+may-wait true own deadline e = cc
+may-wait false None deadline e = (refl, refl)
+may-wait false (Some x) deadline e = cc
+
+no-cycle : (b : Bool) → (if b then Some Deadlock else None) ≡ None → b ≡ false
+no-cycle true e = cc
+no-cycle false e = refl
 
 -- a task that is ready waits for no lock
 ready-idle : (s : TaskState) → is_ready s ≡ true → lock_of s ≡ None
@@ -100,16 +113,16 @@ module _ (c t : ℕ) (k : Parts) (g : GoodBut c k) (o : IsOwn c t k.tasks) where
   unfolding lock_again
   again-done m mutex = either c t mutex.recursive _ _ (λ e. holds-done m (held_by t (mutex.count + 1)) _ (λ x. refl)) (λ e. same _)
 
-  waits-done : (m u : ℕ) → owner k.mutexes m ≡ Some u → meets (waits_on k.mutexes k.tasks) t TASK_LIMIT (Some u) ≡ false → IsOpen c k → IsOobOwn c t k.tasks → IsDone c t (wait_for t m k, Waits)
-  unfolding wait_for
-  waits-done m u own away f w = record { but = but-restamp c t (set_state t (Waiting (Lock m)) k) (but-waits c t m u k own away f w g); own = λ v n. cc }
+  unless-done : (x : Option Errno) (wait : Wait) (deadline : ℕ) → (x ≡ None → GoodBut c (begin_wait t wait deadline k)) → IsDone c t (wait_unless x t wait deadline k)
+  unless-done (Some e) wait deadline h = same _
+  unless-done None wait deadline h = record { but = h refl; own = λ v n. cc }
 
   other-done : (m u deadline : ℕ) → owner k.mutexes m ≡ Some u → IsOobOwn c t k.tasks → IsDone c t (lock_other c t m u deadline k)
   unfolding lock_other
   other-done m u deadline own w =
-      either c t (is_stalled OutOfBand c k) _ _ (λ e. same _) (λ f.
-      either c t (meets (waits_on k.mutexes k.tasks) t TASK_LIMIT (Some u)) _ _ (λ e. same _) (λ away.
-      either c t (not (deadline == 0)) _ _ (λ e. same _) (λ e. waits-done m u own away (not-closed c k f) w)))
+      unless-done (wait_refusal (is_stalled OutOfBand c k) (cycle_refusal t u k) deadline) (Lock m) deadline (λ e.
+      let free = may-wait (is_stalled OutOfBand c k) (cycle_refusal t u k) deadline e in
+      but-waits c t m u deadline k own (no-cycle (meets (waits_on k.mutexes k.tasks) t TASK_LIMIT (Some u)) free.1) (not-closed c k free.0) w g)
 
   owned-done : (x : Option ℕ) (m deadline : ℕ) (mutex : Mutex) → owner k.mutexes m ≡ x → IsOobOwn c t k.tasks → IsDone c t (lock_owned x c t m deadline mutex k)
   owned-done None m deadline mutex own w = take-done m _

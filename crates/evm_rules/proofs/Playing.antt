@@ -10,7 +10,7 @@ use Rattle.evm_model.specs.Pipes.{Pipe, arrive, play}
 use Rattle.evm_model.specs.Settle.{spend_current, play_oob, play_in_band, play_oob_lines, play_in_band_lines}
 use Rattle.evm_model.specs.State.{Parts, on_pipe}
 use Rattle.evm_model.specs.declared.stage.Stage.TheVariants.{OutOfBand, InBand}
-use Rattle.evm_walk.proofs.Tasks.{wakes-pipes}
+use Rattle.evm_walk.proofs.Playing.{wakes-pipes}
 use Rattle.evm_rules.proofs.Places.{change_twice}
 use Rattle.evm_rules.proofs.Spending.{current-spends}
 use Rattle.evm_rules.proofs.Sets.{IsPipe-arrive, IsPipe-play}

@@ -20,7 +20,7 @@ use Rattle.evm_model.specs.Pipes.{Pipe}
 use Rattle.evm_model.specs.Rows.{run, step_hart, step_current, step_wire, step_pipe, step_processor, step, single_step, row}
 use Rattle.evm_model.specs.State.{Memory, Board, on_parts, on_processor}
 use Rattle.evm_model.specs.declared.event.Answer.TheVariants.{Stopped, Hit}
-use Rattle.evm_model.specs.declared.event.Event.{Event}
+use Rattle.evm_model.specs.Event.{Event}
 use Rattle.evm_model.specs.declared.event.Event.TheVariants.{Step, Tick, Raise, Bell, Stop, Go, StepI, SetReg, SetPc, Poke, Break as Set_break, Unbreak}
 use Rattle.evm_model.specs.declared.processor.Processor.{Processor}
 

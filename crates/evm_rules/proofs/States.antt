@@ -21,20 +21,19 @@ use Rattle.evm_model.specs.Refusals.{board_refusal, is_full}
 use Rattle.evm_model.specs.Replay.{accept, apply, bad_boot, bad_cpus, bad_ram, bad_capacity, left_by, replay, start}
 use Rattle.evm_model.specs.Rows.{step, single_step, row}
 use Rattle.evm_model.specs.Settle.{current, is_oob}
-use Rattle.evm_model.specs.State.{State, Parts, Board, booted, booted_parts, first_processor, first_task}
+use Rattle.evm_model.specs.State.{State, Parts, Board, booted, booted_parts, first_processor, first_task, profile_of}
 use Rattle.evm_model.specs.declared.boot.Boot.{Boot}
 use Rattle.evm_model.specs.declared.event.Answer.{Answer}
-use Rattle.evm_model.specs.declared.event.Event.{Event}
+use Rattle.evm_model.specs.Event.{Event}
 use Rattle.evm_model.specs.declared.event.Event.TheVariants.{Step, Tick, Raise, Bell, Stop, Go, StepI, SetReg, SetPc, Poke, Break, Unbreak}
 use Rattle.evm_model.specs.declared.limits.TheConstants.{PROCESSOR_LIMIT, CAPACITY_LIMIT}
 use Rattle.evm_model.specs.declared.processor.Processor.{Processor}
 use Rattle.evm_model.proofs.Lists.{slice_get-replicate, slice_get-slice_set}
-use Rattle.evm_walk.proofs.Counted.{takes_counted}
-use Rattle.evm_walk.proofs.Held.{row_holds}
-use Rattle.evm_walk.proofs.Moves.{Takes}
-use Rattle.evm_walk.proofs.Rows.{row_takes, actor, raised_line}
-use Rattle.evm_walk.proofs.Sets.{ArePipes}
-use Rattle.evm_walk.proofs.Sizes.{takes_sizes, moves_ticks}
+use Rattle.evm_walk.proofs.Counted.{walk_counted}
+use Rattle.evm_walk.proofs.Held.{held_more, walk_holds}
+use Rattle.evm_walk.proofs.Rows.{MOVES, acting, may_raise, row_walks}
+use Rattle.evm_walk.proofs.Sizes.{walk_sizes, walk_most, walk_profile, walk_ticks}
+use Rattle.evm_walk.proofs.Walk.{Actor, AreFew, Walk}
 use Rattle.evm_rules.proofs.Bounded.{AreWithin, within-idle}
 use Rattle.evm_rules.proofs.Counting.{PipesUpTo-more}
 use Rattle.evm_rules.proofs.Firsts.{best-is_oob, own-in_band}
@@ -42,8 +41,6 @@ use Rattle.evm_rules.proofs.Keeps.{row-good, hart-good}
 use Rattle.evm_rules.proofs.Ram.{row-ram}
 use Rattle.evm_rules.proofs.Replays.{accepted}
 use Rattle.evm_rules.proofs.Sets.{IsPipe-idle}
-use Rattle.evm_rules.proofs.Given.{Gives}
-use Rattle.evm_rules.proofs.Stamps.{row-gives}
 
 -- ---- the clock
 one_if : Bool → ℕ
@@ -53,23 +50,24 @@ number-ticks : (o : Option ℕ) (f : Hart → Hart) (k : Parts) → (on_number o
 number-ticks None f k = omega arith
 number-ticks (Some t) f k = omega arith
 
-moved-ticks : (c : ℕ) (x y : Parts) → Takes c 1 PER_EVENT x y → y.ticks ≡ x.ticks + 0
-moved-ticks c x y t = let same : y.ticks ≡ x.ticks = moves_ticks c 1 t.count x y t.moves (λ e. absurd (omega arith)) in omega arith
+walked-ticks : (event : Event) (b : Board) → board_refusal event b ≡ None → may_raise event 0 0 ≡ false → (row event b).0.parts.ticks ≡ b.parts.ticks + 0
+walked-ticks event b e may =
+    let same : (row event b).0.parts.ticks ≡ b.parts.ticks = walk_ticks (acting event b.parts) b.parts MOVES STAMPS_PER_EVENT (row event b).0.parts may (row_walks event b e) in omega arith
 
-row-ticks : (event : Event) (b : Board) → board_refusal event b ≡ None → ArePipes b.parts → (row event b).0.parts.ticks ≡ b.parts.ticks + cond (is_tick event) 1 0
+row-ticks : (event : Event) (b : Board) → board_refusal event b ≡ None → (row event b).0.parts.ticks ≡ b.parts.ticks + cond (is_tick event) 1 0
 unfolding row tick set_bits stop set_breakpoint unset_breakpoint
-row-ticks (Step c) b e a = moved-ticks c b.parts (step c b).0.parts (row_takes (Step c) b e a)
-row-ticks Tick b e a = refl
-row-ticks (Raise c l) b e a = omega arith
-row-ticks (Bell c l) b e a = omega arith
-row-ticks (Stop c) b e a = omega arith
-row-ticks (Go c) b e a = omega arith
-row-ticks (StepI c) b e a = moved-ticks c b.parts (single_step c b).parts (row_takes (StepI c) b e a)
-row-ticks (SetReg c r value) b e a = number-ticks (current c b.parts) (set_register r value) b.parts
-row-ticks (SetPc c pc) b e a = number-ticks (current c b.parts) (set_pc pc) b.parts
-row-ticks (Poke address bytes) b e a = omega arith
-row-ticks (Break address) b e a = omega arith
-row-ticks (Unbreak address) b e a = omega arith
+row-ticks (Step c) b e = walked-ticks (Step c) b e refl
+row-ticks Tick b e = refl
+row-ticks (Raise c l) b e = omega arith
+row-ticks (Bell c l) b e = omega arith
+row-ticks (Stop c) b e = omega arith
+row-ticks (Go c) b e = omega arith
+row-ticks (StepI c) b e = walked-ticks (StepI c) b e refl
+row-ticks (SetReg c r value) b e = number-ticks (current c b.parts) (set_register r value) b.parts
+row-ticks (SetPc c pc) b e = number-ticks (current c b.parts) (set_pc pc) b.parts
+row-ticks (Poke address bytes) b e = omega arith
+row-ticks (Break address) b e = omega arith
+row-ticks (Unbreak address) b e = omega arith
 
 one-more : (b : Bool) → 0 + cond b 1 0 ≡ cond b 1 0
 one-more true = refl
@@ -86,26 +84,33 @@ allowed : (s : State) (event : Event) (full : Bool) → (if full then Some Full 
 allowed s event true e = cc
 allowed s event false e = (refl, e)
 
+pub few-of : (k : Parts) → Good k → AreFew k
+few-of k g = record { pipes = record { each = g.pipes }; tasks = g.few_tasks; mutexes = g.locks.few }
+
 pub accepted-good : (s : State) (event : Event) → is_full s ≡ false → board_refusal event s.board ≡ None → GoodState s → GoodState (accept event (row event s.board) s).0
 accepted-good s event f e g =
-    let a : ArePipes s.board.parts = record { each = g.good.pipes } in
+    let k : Parts = s.board.parts in
     let new : Parts = (row event s.board).0.parts in
-    let t : Takes (actor event) (raised_line event) PER_EVENT s.board.parts new = row_takes event s.board e a in
-    let size = takes_sizes (actor event) (raised_line event) PER_EVENT s.board.parts new t in
+    let a : Actor = acting event k in
+    let few : AreFew k = few-of k g.good in
+    let w : Walk a k MOVES STAMPS_PER_EVENT new = row_walks event s.board e in
+    let size = walk_sizes a k MOVES STAMPS_PER_EVENT new w in
     let room : length s.journal < s.boot.capacity = leb-false s.boot.capacity (length s.journal) f in
     let grown : length (s.journal ++ event ∷ []) ≡ length s.journal + 1 = length-append s.journal (event ∷ []) in
-    let stamped : Gives STAMPS_PER_EVENT s.board.parts new = row-gives event s.board g.good in
-    let more : PER_EVENT * length (s.journal ++ event ∷ []) ≡ PER_EVENT * length s.journal + PER_EVENT = omega arith in
+    let before : ℕ = PER_EVENT * length s.journal in
+    let after : ℕ = PER_EVENT * length (s.journal ++ event ∷ []) in
     record {
       good = row-good event s.board e g.good;
       boot = g.boot;
       processors = size.processors ∙ g.processors;
       ram = row-ram event s.board ∙ g.ram;
+      profile = walk_profile a k MOVES STAMPS_PER_EVENT new w ∙ g.profile;
       journal = omega arith;
-      ticks = row-ticks event s.board e a ∙ ap (λ n. n + cond (is_tick event) 1 0) g.ticks ∙ sym (counted-tick s.journal event);
-      stamps = omega (arith, stamped.most, g.stamps, grown);
-      counts = rw more (takes_counted (actor event) (raised_line event) PER_EVENT (PER_EVENT * length s.journal) s.board.parts new t g.counts);
-      holds = rw more (row_holds event s.board (PER_EVENT * length s.journal) e a g.holds);
+      ticks = row-ticks event s.board e ∙ ap (λ n. n + cond (is_tick event) 1 0) g.ticks ∙ sym (counted-tick s.journal event);
+      stamps = omega (arith, walk_most a k MOVES STAMPS_PER_EVENT new few w, g.stamps, grown);
+      counts = PipesUpTo-more (before + MOVES) after new.pipes (omega arith) (walk_counted a k MOVES STAMPS_PER_EVENT before new w few.pipes g.counts);
+      holds = held_more (before + 1 + MOVES) after new.mutexes (omega arith)
+          (walk_holds a k MOVES STAMPS_PER_EVENT new (before + 1) few.pipes (omega arith) w (held_more before (before + 1) k.mutexes (omega arith) g.holds));
     }
 
 -- an event that is not refused keeps the machine good
@@ -243,6 +248,10 @@ booted-ticks : (boot : Boot) → (booted_parts boot).ticks ≡ 0
 unfolding booted_parts
 booted-ticks boot = refl
 
+booted-profile : (boot : Boot) → (booted_parts boot).profile ≡ profile_of boot
+unfolding booted_parts
+booted-profile boot = refl
+
 booted-stamps : (boot : Boot) → (booted_parts boot).stamps ≤ 1
 unfolding booted_parts
 booted-stamps boot = omega arith
@@ -255,6 +264,7 @@ GoodState-start boot e = record {
   boot = e;
   processors = booted-processors boot;
   ram = length-replicate boot.ram 0;
+  profile = booted-profile boot;
   journal = omega arith;
   ticks = booted-ticks boot;
   stamps = booted-stamps boot;
@@ -275,6 +285,7 @@ GoodState-load byte entry s e g = record {
   boot = g.boot;
   processors = g.processors;
   ram = length-bytes_from byte BASE (length s.board.memory.ram) ∙ g.ram;
+  profile = g.profile;
   journal = g.journal;
   ticks = g.ticks;
   stamps = g.stamps;

@@ -1,18 +1,20 @@
 -- What a change of one task leaves of the others, and what waking tasks leaves of their processor.
-use Rattle.std.proofs.Common.{◌≡◌, ℕ, zero, suc, ◌<◌, List, [], ◌∷◌, ◌++◌, Bool, true, false, Option, Some, None, length, refl, ap, sym, ◌∙◌, inl, inr}
+use Rattle.std.proofs.Common.{◌≡◌, ℕ, zero, suc, ◌<◌, List, [], ◌∷◌, ◌++◌, Bool, true, false, not, Option, Some, None, length, refl, ap, sym, ◌∙◌, inl, inr}
 use Rattle.std.specs.Prelude.{slice_get, option_map, nat_le, ◌==◌, ◌&&◌, if◌then◌else◌}
 use Rattle.std.proofs.lemmas.Bool.{cases_eq}
 use Rattle.evm_model.proofs.Lists.{change-here, change-elsewhere, slice_get-below, slice_get-before}
 use Rattle.evm_model.specs.Good.{IsOneOf, IsOwn, is_ready}
 use Rattle.evm_model.specs.Harts.{A0, set_register}
 use Rattle.evm_model.specs.Lists.{change}
-use Rattle.evm_model.specs.Mutexes.{lock_of}
+use Rattle.evm_model.specs.Mutexes.{lock_of, owns_any}
 use Rattle.evm_model.specs.Pipes.{Pipe, arrive, play}
 use Rattle.evm_model.specs.Ranks.{best, rank, stamp, runs_oob, runs_oob_task, is_oob_ready, is_in_ready}
 use Rattle.evm_model.specs.Settle.{current, is_oob, spend_of, spend_current, play_oob, play_oob_lines, play_in_band, play_in_band_lines}
-use Rattle.evm_model.specs.State.{Parts, on_hart, on_pipe}
-use Rattle.evm_model.specs.Tasks.{restamp, set_state, wake_in_band, wake_below, awaits, is_wait_for, set_slice, spend_slice, spend_task, is_round_robin}
+use Rattle.evm_model.specs.State.{Parts, on_hart, on_task, on_pipe}
+use Rattle.evm_model.specs.Tasks.{restamp, set_state, set_slice, spend_slice, spend_task, is_round_robin, is_weak}
+use Rattle.evm_model.specs.Waits.{is_wait_for, stage_of_wait, ready_on, woken_state, woken, wake, awaits_line, wake_below}
 use Rattle.evm_model.specs.declared.limits.TheConstants.{SLICE}
+use Rattle.evm_model.specs.declared.stage.Stage.{Stage}
 use Rattle.evm_model.specs.declared.stage.Stage.TheVariants.{OutOfBand, InBand}
 use Rattle.evm_model.specs.declared.mutex.Mutex.{Mutex}
 use Rattle.evm_model.specs.declared.task.Task.{Task}
@@ -195,20 +197,39 @@ record Waiter (c t : ℕ) (tasks : List Task) : Type 0 where
   at_home : task.cpu ≡ c
   idle : is_oob_ready task.state ≡ false
   lockless : lock_of task.state ≡ None
+  wakes : (returns : Bool) → is_oob_ready (woken_state returns task.state) ≡ false
 
-wait-idle : (l : ℕ) (state : TaskState) → is_wait_for l state ≡ true → is_oob_ready state ≡ false
+wait-idle : (l : ℕ) (state : TaskState) → is_wait_for (Line l) state ≡ true → is_oob_ready state ≡ false
 wait-idle l (Waits on) e = refl
 wait-idle l _ e = cc
 
-wait-lockless : (l : ℕ) (state : TaskState) → is_wait_for l state ≡ true → lock_of state ≡ None
+wait-lockless : (l : ℕ) (state : TaskState) → is_wait_for (Line l) state ≡ true → lock_of state ≡ None
 wait-lockless l (Waits (Line m)) e = refl
 wait-lockless l _ e = cc
 
-waiter : (c l t : ℕ) (tasks : List Task) (o : Option Task) → slice_get tasks t ≡ o → awaits c l o ≡ true → Waiter c t tasks
+pub wait-wakes : (l : ℕ) (returns : Bool) (state : TaskState) → is_wait_for (Line l) state ≡ true → is_oob_ready (woken_state returns state) ≡ false
+wait-wakes l returns (Waits (Line m)) e = refl
+wait-wakes l returns _ e = cc
+
+-- a task that woke waits for no lock
+ready-lockless : (stage : Stage) (returns : Bool) → lock_of (ready_on stage returns) ≡ None
+ready-lockless InBand returns = refl
+ready-lockless OutOfBand true = refl
+ready-lockless OutOfBand false = refl
+
+pub woken-lockless : (returns : Bool) (state : TaskState) → lock_of (woken_state returns state) ≡ None
+woken-lockless returns (Waits wait) = ready-lockless (stage_of_wait wait) returns
+woken-lockless returns _ = refl
+
+woken-in_band : (returns : Bool) (state : TaskState) → is_in_ready state ≡ true → is_in_ready (woken_state returns state) ≡ true
+woken-in_band returns InReady e = refl
+woken-in_band returns _ e = cc
+
+waiter : (c l t : ℕ) (tasks : List Task) (o : Option Task) → slice_get tasks t ≡ o → awaits_line c l o ≡ true → Waiter c t tasks
 waiter c l t tasks None e h = cc
 waiter c l t tasks (Some task) e h =
-    let b = both (is_wait_for l task.state) (task.cpu == c) h in
-    record { task = task; there = e; at_home = eqb-is task.cpu c b.1; idle = wait-idle l task.state b.0; lockless = wait-lockless l task.state b.0 }
+    let b = both (is_wait_for (Line l) task.state) (task.cpu == c) h in
+    record { task = task; there = e; at_home = eqb-is task.cpu c b.1; idle = wait-idle l task.state b.0; lockless = wait-lockless l task.state b.0; wakes = λ returns. wait-wakes l returns task.state b.0 }
 
 -- the one that changes was not out-of-band ready, and isn't now
 oob-change : (c t u : ℕ) (f : Task → Task) (tasks : List Task) → (w : Waiter c t tasks) → is_oob_ready (f w.task).state ≡ false → runs_oob c (change f tasks t) u ≡ runs_oob c tasks u
@@ -236,16 +257,15 @@ rouses-hart c t value k = record {
   ranked = record { mutexes = refl; size = refl; locks = λ u. refl; classes = λ u. refl };
 }
 
-rouses-state : (c t : ℕ) (k : Parts) → Waiter c t k.tasks → Rouses c k (set_state t InReady k)
-unfolding set_state
-rouses-state c t k w = record {
+rouses-woken : (c t : ℕ) (owns : Bool) (k : Parts) → Waiter c t k.tasks → Rouses c k (on_task t (woken owns) k)
+rouses-woken c t owns k w = record {
   processors = refl;
   pipes = λ d n. refl;
-  shape = shaped-state t InReady k refl;
-  others = λ d n. alike-other c d t (λ task. record task { state = InReady }) k.tasks n (waiter-home c t k.tasks w);
-  in_band = λ u o. in_band-state c t u k o;
-  oob = λ u. oob-change c t u (λ task. record task { state = InReady }) k.tasks w refl;
-  ranked = ranked-task t (λ task. record task { state = InReady }) k _ refl refl (λ task e. sym (waiter-lock c t k.tasks w task e)) (λ task e. refl);
+  shape = shaped-task t (woken owns) k (λ x. refl) (λ x. refl) (λ x m e. let no : None ≡ Some m = sym (woken-lockless (is_weak x.class && not owns) x.state) ∙ e in cc);
+  others = λ d n. alike-other c d t (woken owns) k.tasks n (waiter-home c t k.tasks w);
+  in_band = λ u o. one-cases is_in_ready c t u (woken owns) k.tasks o (λ x. refl) (λ x h. woken-in_band (is_weak x.class && not owns) x.state h);
+  oob = λ u. oob-change c t u (woken owns) k.tasks w (w.wakes (is_weak w.task.class && not owns));
+  ranked = ranked-task t (woken owns) k _ refl refl (λ x e. woken-lockless (is_weak x.class && not owns) x.state ∙ sym (waiter-lock c t k.tasks w x e)) (λ x e. refl);
 }
 
 -- whether a task runs out-of-band is told by where and how it is
@@ -271,13 +291,14 @@ rouses-restamp c t k = record {
   ranked = ranked-task t (λ task. record task { stamp = k.stamps }) k _ refl refl (λ task e. refl) (λ task e. refl);
 }
 
-rouses-wake : (c t value : ℕ) (k : Parts) → Waiter c t k.tasks → Rouses c k (wake_in_band t value k)
-unfolding wake_in_band
+rouses-wake : (c t value : ℕ) (k : Parts) → Waiter c t k.tasks → Rouses c k (wake t value k)
+unfolding wake
 rouses-wake c t value k w =
     let told : Parts = on_hart t (set_register A0 value) k in
-    let ready : Parts = set_state t InReady told in
+    let owns : Bool = owns_any t k.mutexes in
+    let ready : Parts = on_task t (woken owns) told in
     rouses-then c k told _ (rouses-hart c t value k)
-    (rouses-then c told ready _ (rouses-state c t told w) (rouses-restamp c t ready))
+    (rouses-then c told ready _ (rouses-woken c t owns told w) (rouses-restamp c t ready))
 
 pub rouses-wakes : (c l n : ℕ) (k : Parts) → Rouses c k (wake_below c l n k)
 unfolding wake_below
@@ -285,7 +306,7 @@ rouses-wakes c l zero k = rouses-none c k
 rouses-wakes c l (suc t) k =
     let before : Parts = wake_below c l t k in
     rouses-then c k before _ (rouses-wakes c l t k)
-    (rouses-if c (awaits c l (slice_get before.tasks t)) before (wake_in_band t 0 before) before
+    (rouses-if c (awaits_line c l (slice_get before.tasks t)) before (wake t 0 before) before
     (λ e. rouses-wake c t 0 before (waiter c l t before.tasks (slice_get before.tasks t) refl e)) (λ e. rouses-none c before))
 
 pub rouses-play : (c l : ℕ) (k : Parts) → Rouses c k (play_in_band c l k)

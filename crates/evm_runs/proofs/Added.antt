@@ -1,178 +1,263 @@
--- How many tasks there are, and what was added stays.
-use Rattle.std.proofs.Common.{◌≡◌, ℕ, ◌+◌, ◌≤◌, List, Option, Some, None, length, ◌⊎◌, inl, inr, ap, sym, ◌∙◌, arith}
-use Rattle.std.specs.Prelude.{slice_get}
+-- What a walk adds: a task, a mutex, a byte on the console at most; and the places of other processors.
+use Rattle.std.proofs.Common.{◌≡◌, ℕ, ◌+◌, ◌<◌, ◌≤◌, [], ◌∷◌, ◌++◌, List, Bool, true, false, Option, Some, None, length, length-append, ◌⊎◌, inl, inr, refl, ap, sym, ◌∙◌, arith}
+use Rattle.std.specs.Prelude.{slice_get, slice_set, replicate, option_map, ◌==◌, ◌&&◌, if◌then◌else◌}
+use Rattle.std.proofs.lemmas.Bool.{cases_eq}
+use Rattle.std.proofs.lemmas.List.{length-set, length-replicate}
+use Rattle.evm_exec.specs.Registers.{with_register}
 use Rattle.evm_exec.specs.declared.hart.Hart.{Hart}
-use Rattle.evm_model.specs.Harts.{spawned_hart}
-use Rattle.evm_model.specs.Pipes.{Pipe}
-use Rattle.evm_model.specs.State.{Board, Parts, new_task}
-use Rattle.evm_model.specs.declared.limits.TheConstants.{TASK_LIMIT}
+use Rattle.evm_model.specs.Commands.{tick}
+use Rattle.evm_model.specs.Harts.{A0, set_register, spawned_hart}
+use Rattle.evm_model.specs.InBandCalls.{add_task, last_bytes}
+use Rattle.evm_model.specs.Lists.{change}
+use Rattle.evm_model.specs.Locks.{add_mutex}
+use Rattle.evm_model.specs.Mutexes.{free_mutex, held_by}
+use Rattle.evm_model.specs.Pipes.{Pipe, raise}
+use Rattle.evm_model.specs.Ranks.{is_oob_ready}
+use Rattle.evm_model.specs.Settle.{is_oob}
+use Rattle.evm_model.specs.State.{Parts, new_task}
+use Rattle.evm_model.specs.Tasks.{restamp, set_policy, set_slice}
+use Rattle.evm_model.specs.Waits.{wake}
+use Rattle.evm_model.specs.declared.limits.TheConstants.{TASK_LIMIT, MUTEX_LIMIT}
+use Rattle.evm_model.specs.declared.mutex.Mutex.{Mutex}
 use Rattle.evm_model.specs.declared.task.Task.{Task}
+use Rattle.evm_model.specs.declared.task.TaskState.{TaskState}
 use Rattle.evm_model.specs.declared.task.TaskState.TheVariants.{InReady, OobReady, Waits}
-use Rattle.evm_model.specs.declared.task.Wait.TheVariants.{Line}
-use Rattle.evm_runs.specs.Changes.{Wakes, Inherits, StaysBy, Spends, Added}
-use Rattle.evm_runs.specs.Kept.{AllHaveRegisters}
-use Rattle.evm_runs.proofs.Frames.{Frame, Still}
-use Rattle.evm_runs.proofs.Spending.{Spent}
+use Rattle.evm_model.specs.declared.task.Wait.TheVariants.{Line, Lock}
+use Rattle.evm_model.proofs.Lists.{slice_get-set_other, change-elsewhere, change-cases, length-change, slice_get-push, slice_get-below, slice_get-each}
+use Rattle.evm_walk.proofs.Sizes.{of_spend}
+use Rattle.evm_walk.proofs.Walk.{Actor, IsOldTask, Untouched, Does, hart, task, stamps, turns, spends, wakes, inherits, holds, marks, picks, moves, tells, clock, schedules, adds, makes, types, Walk, start, next}
+use Rattle.evm_runs.specs.Changes.{Adds, Added, AddsMutex, Made, Typed}
+use Rattle.evm_runs.specs.Kept.{AreRegisters, AllHaveRegisters}
+use Rattle.evm_runs.proofs.Frames.{LineWaiter, line_waiter, Waiter, first_waits}
 
--- as many of each, but for tasks, of which there may be more, a hart for each; and tasks keep their registers
-pub record SameCounts (old new : Board) : Type 0 where
-  pub processors : length new.parts.processors ≡ length old.parts.processors
-  pub pipes : length new.parts.pipes ≡ length old.parts.pipes
-  pub ram : length new.memory.ram ≡ length old.memory.ram
-  pub tasks : length old.parts.tasks ≤ length new.parts.tasks
-  pub harts : length old.parts.harts ≤ length new.parts.harts
-  pub few_tasks : length old.parts.tasks ≤ TASK_LIMIT → length new.parts.tasks ≤ TASK_LIMIT
-  pub a_hart_each : length old.parts.harts ≡ length old.parts.tasks → length new.parts.harts ≡ length new.parts.tasks
-  pub registers : AllHaveRegisters old.parts.harts → AllHaveRegisters new.parts.harts
+last_there : {X : Type 0} (xs : List X) (y : X) → slice_get (xs ++ y ∷ []) (length xs) ≡ Some y
+last_there [] y = refl
+last_there (x ∷ xs) y = last_there xs y
 
-pub same_then : (x y z : Board) → SameCounts x y → SameCounts y z → SameCounts x z
-same_then x y z p q = record {
-  processors = q.processors ∙ p.processors;
-  pipes = q.pipes ∙ p.pipes;
-  ram = q.ram ∙ p.ram;
-  tasks = omega (arith, p.tasks, q.tasks);
-  harts = omega (arith, p.harts, q.harts);
-  few_tasks = λ few. q.few_tasks (p.few_tasks few);
-  a_hart_each = λ each. q.a_hart_each (p.a_hart_each each);
-  registers = λ h. q.registers (p.registers h);
+-- ---- registers
+set-cond : (b : Bool) (regs : List ℕ) (r value : ℕ) → (r == 0) ≡ b → AreRegisters regs → AreRegisters (if b then regs else slice_set regs r value)
+set-cond true regs r value e s = s
+set-cond false regs r value e s = record {
+  count = length-set regs r value ∙ s.count;
+  zero_first = slice_get-set_other regs r 0 value (λ same. let yes : (r == 0) ≡ true = rw (← same) refl in cc) ∙ s.zero_first;
 }
 
-pub more_tasks : (x y : Parts) → Added x y → length x.tasks ≤ length y.tasks
-more_tasks x y p = elim p [
-  | inl same ↦ omega (arith, same.0)
-  | inr a ↦ omega (arith, a.tasks)
+with_register-are : (regs : List ℕ) (r value : ℕ) → AreRegisters regs → AreRegisters (with_register regs r value)
+with_register-are regs r value s = set-cond (r == 0) regs r value refl s
+
+pub change-registers : (t r value : ℕ) (f : Hart → Hart) (harts : List Hart) → ((x : Hart) → (f x).regs ≡ with_register x.regs r value) → AllHaveRegisters harts → AllHaveRegisters (change f harts t)
+change-registers t r value f harts g h = λ u y e. elim (change-cases f harts t u y e) [
+  | inl x ↦ rw (x.3, g x.1) (with_register-are x.1.regs r value (h t x.1 x.2))
+  | inr x ↦ h u y x.1
 ]
 
-pub more_harts : (x y : Parts) → Added x y → length x.harts ≤ length y.harts
-more_harts x y p = elim p [
-  | inl same ↦ omega (arith, same.1)
-  | inr a ↦ omega (arith, a.harts)
-]
+spawned-are : (entry value : ℕ) → AreRegisters (spawned_hart entry value).regs
+spawned-are entry value = record { count = length-set (replicate 32 0) 10 value ∙ length-replicate {A = ℕ} 32 0; zero_first = refl }
 
-pub few_more : (x y : Parts) → Added x y → length x.tasks ≤ TASK_LIMIT → length y.tasks ≤ TASK_LIMIT
-few_more x y p few = elim p [
-  | inl same ↦ omega (arith, same.0)
-  | inr a ↦ omega (arith, a.tasks, a.room)
-]
-
-pub each_more : (x y : Parts) → Added x y → length x.harts ≡ length x.tasks → length y.harts ≡ length y.tasks
-each_more x y p each = elim p [
-  | inl same ↦ same.1 ∙ each ∙ sym same.0
-  | inr a ↦ a.harts ∙ ap (λ n. n + 1) each ∙ sym a.tasks
-]
-
--- a new task doesn't wait
-ready_rests : (c t cpu stamp : ℕ) (y z : Parts) → slice_get y.tasks t ≡ Some (new_task cpu stamp) → Wakes c t y z ⊎ Inherits None t y z → ⊥
-ready_rests c t cpu stamp y z there (inl w) =
-    let two : Some (new_task cpu stamp) ≡ Some w.task = sym there ∙ w.waited in
-    let same : new_task cpu stamp ≡ w.task = cc in
-    let no : InReady ≡ Waits (Line w.line) = ap (λ (task : Task). task.state) same ∙ w.on in cc
-ready_rests c t cpu stamp y z there (inr i) = let no = i.held in cc
-
--- the task that was added settles as it was: it does not wait
-pub added_rests : (c : ℕ) (x y z : Parts) → Frame c None y z → Still y z → Added x y → Added x z
-added_rests c x y z f s p = elim p [
-  | inl same ↦ inl (s.tasks ∙ same.0, s.harts ∙ same.1)
-  | inr a ↦ elim (f.others (length x.tasks) (λ e. cc)) [
-    | inl r ↦ inr (record {
-      cpu = a.cpu;
-      stamp = a.stamp;
-      entry = a.entry;
-      value = a.value;
-      tasks = s.tasks ∙ a.tasks;
-      harts = s.harts ∙ a.harts;
-      room = a.room;
-      task = r.task (new_task a.cpu a.stamp) a.task;
-      hart = λ each. r.hart (spawned_hart a.entry a.value) (a.hart each);
-    })
-    | inr woke ↦ absurd (ready_rests c (length x.tasks) a.cpu a.stamp y z a.task woke)
+module _ (a : Actor) (old : Parts) where
+  does_registers : (i j : ℕ) (k x : Parts) → Does a old i j k x → AllHaveRegisters k.harts → AllHaveRegisters x.harts
+  unfolding restamp set_policy set_slice wake tick add_task add_mutex
+  does_registers _ _ _ _ (hart t r value f k own same there) h = change-registers t r value f k.harts same h
+  does_registers _ _ _ _ (spends t x k runs there on) h = of_spend (λ y. AllHaveRegisters y.harts) t x.slice k h h
+  does_registers _ _ _ _ (wakes t l k on) h = change-registers t A0 0 (set_register A0 0) k.harts (λ x. refl) h
+  does_registers _ _ _ _ (inherits t u m k own same its first) h = change-registers u A0 0 (set_register A0 0) k.harts (λ x. refl) h
+  does_registers _ _ _ _ (adds t entry value cpu k own fresh room) h = λ u x e. elim (slice_get-push k.harts (spawned_hart entry value) u x e) [
+    | inl there ↦ h u x there
+    | inr last ↦ rw last.1 (spawned-are entry value)
   ]
-]
+  does_registers _ _ _ _ _ h = h
 
--- the task that was added, where it and the harts stay
-pub added_kept : (x y z : Parts) → length z.tasks ≡ length y.tasks → z.harts ≡ y.harts
-    → ((cpu stamp : ℕ) → slice_get y.tasks (length x.tasks) ≡ Some (new_task cpu stamp) → slice_get z.tasks (length x.tasks) ≡ Some (new_task cpu stamp)) → Added x y → Added x z
-added_kept x y z e f kept p = elim p [
-  | inl same ↦ inl (e ∙ same.0, ap length f ∙ same.1)
-  | inr a ↦ inr (record {
-    cpu = a.cpu;
-    stamp = a.stamp;
-    entry = a.entry;
-    value = a.value;
-    tasks = e ∙ a.tasks;
-    harts = ap length f ∙ a.harts;
-    room = a.room;
-    task = kept a.cpu a.stamp a.task;
-    hart = λ each. ap (λ (harts : List Hart). slice_get harts (length x.tasks)) f ∙ a.hart each;
+  pub walk_registers : (n s : ℕ) (k : Parts) → Walk a old n s k → AllHaveRegisters old.harts → AllHaveRegisters k.harts
+  walk_registers _ _ _ start h = h
+  walk_registers _ _ _ (next m n s u i j k x few g d w) h = does_registers i j k x d (walk_registers m s k w h)
+
+-- ---- a task more
+-- a task that is out-of-band, or waits, is not a new one
+not_new : (n t cpu stamp : ℕ) (k : Parts) (x : Task) → slice_get k.tasks n ≡ Some (new_task cpu stamp) → slice_get k.tasks t ≡ Some x → (x.state ≡ InReady → ⊥) → n ≡ t → ⊥
+not_new n t cpu stamp k x new there away same =
+    let two : Some (new_task cpu stamp) ≡ Some x = sym new ∙ ap (slice_get k.tasks) same ∙ there in
+    let one : new_task cpu stamp ≡ x = cc in away (ap (λ (y : Task). y.state) (sym one))
+
+new_in_band : (n cpu stamp : ℕ) (k : Parts) → slice_get k.tasks n ≡ Some (new_task cpu stamp) → is_oob (Some n) k.tasks ≡ false
+new_in_band n cpu stamp k new = rw new refl
+
+oob_away : (n t cpu stamp : ℕ) (k : Parts) → slice_get k.tasks n ≡ Some (new_task cpu stamp) → is_oob (Some t) k.tasks ≡ true → n ≡ t → ⊥
+oob_away n t cpu stamp k new oob same = let no : false ≡ true = sym (new_in_band n cpu stamp k new) ∙ ap (λ u. is_oob (Some u) k.tasks) same ∙ oob in cc
+
+old_away : (old k : Parts) (t cpu stamp : ℕ) → IsOldTask old k t → length k.tasks ≡ length old.tasks + 1 → slice_get k.tasks (length old.tasks) ≡ Some (new_task cpu stamp) → length old.tasks ≡ t → ⊥
+old_away old k t cpu stamp (inl same) more new e = omega (arith, same, more)
+old_away old k t cpu stamp (inr oob) more new e = oob_away (length old.tasks) t cpu stamp k new oob e
+
+-- what a primitive leaves of a new task
+record KeepsNew (old k x : Parts) : Type 0 where
+  task : (cpu stamp : ℕ) → slice_get k.tasks (length old.tasks) ≡ Some (new_task cpu stamp) → slice_get x.tasks (length old.tasks) ≡ Some (new_task cpu stamp)
+  hart : (cpu stamp : ℕ) → slice_get k.tasks (length old.tasks) ≡ Some (new_task cpu stamp) → length old.harts ≡ length old.tasks → slice_get x.harts (length old.tasks) ≡ slice_get k.harts (length old.tasks)
+
+added_on : (old k x : Parts) → length x.tasks ≡ length k.tasks → length x.harts ≡ length k.harts → (length k.tasks ≡ length old.tasks + 1 → length k.harts ≡ length old.harts + 1 → KeepsNew old k x) → Added old k → Added old x
+added_on old k x e f keeps p = elim p [
+  | inl same ↦ inl (e ∙ same.0, f ∙ same.1)
+  | inr new ↦ let q = keeps new.tasks new.harts in inr (record {
+    cpu = new.cpu;
+    stamp = new.stamp;
+    entry = new.entry;
+    value = new.value;
+    tasks = e ∙ new.tasks;
+    harts = f ∙ new.harts;
+    room = new.room;
+    task = q.task new.cpu new.stamp new.task;
+    hart = λ each. q.hart new.cpu new.stamp new.task each ∙ new.hart each;
   })
 ]
 
--- it isn't out-of-band: it spends nothing
-pub added_spent : (c : ℕ) (x y z : Parts) → Spent c y z → Added x y → Added x z
-added_spent c x y z s p = added_kept x y z s.tasks_count s.harts (λ cpu stamp there. elim (s.tasks (length x.tasks)) [
-  | inl same ↦ same ∙ there
-  | inr q ↦
-      let two : Some (new_task cpu stamp) ≡ Some q.task = sym there ∙ q.there in
-      let same : new_task cpu stamp ≡ q.task = cc in
-      let no : InReady ≡ OobReady = ap (λ (task : Task). task.state) same ∙ q.on in cc
-]) p
+-- one old task changes, and its hart may
+added_one : (old k x : Parts) (t : ℕ) → length x.tasks ≡ length k.tasks → length x.harts ≡ length k.harts
+    → ((u : ℕ) → (u ≡ t → ⊥) → slice_get x.tasks u ≡ slice_get k.tasks u) → ((u : ℕ) → (u ≡ t → ⊥) → slice_get x.harts u ≡ slice_get k.harts u)
+    → ((cpu stamp : ℕ) → length k.tasks ≡ length old.tasks + 1 → slice_get k.tasks (length old.tasks) ≡ Some (new_task cpu stamp) → length old.tasks ≡ t → ⊥) → Added old k → Added old x
+added_one old k x t e f tasks harts away p =
+    added_on old k x e f (λ more h. record { task = λ cpu stamp new. tasks (length old.tasks) (away cpu stamp more new) ∙ new; hart = λ cpu stamp new each. harts (length old.tasks) (away cpu stamp more new) }) p
 
--- neither the skip bit nor a task's class is a task more
-pub passes_added : (x y z : Parts) → length y.tasks ≡ length x.tasks → y.harts ≡ x.harts → Added y z → Added x z
-passes_added x y z e f p = elim p [
-  | inl same ↦ inl (same.0 ∙ e, same.1 ∙ ap length f)
-  | inr a ↦ inr (record {
-    cpu = a.cpu;
-    stamp = a.stamp;
-    entry = a.entry;
-    value = a.value;
-    tasks = a.tasks ∙ ap (λ n. n + 1) e;
-    harts = a.harts ∙ ap (λ (harts : List Hart). length harts + 1) f;
-    room = rw (← e) a.room;
-    task = ap (slice_get z.tasks) (sym e) ∙ a.task;
-    hart = λ each. ap (slice_get z.harts) (sym e) ∙ a.hart (ap length f ∙ each ∙ sym e);
+oob_not : (state : TaskState) → is_oob_ready state ≡ true → state ≡ InReady → ⊥
+oob_not state h e = let no : true ≡ false = sym h ∙ ap is_oob_ready e in cc
+
+both : (a b : Bool) → (a && b) ≡ true → a ≡ true
+both true b h = refl
+both false b h = h
+
+module _ (a : Actor) (old : Parts) where
+  does_add : (i j : ℕ) (k x : Parts) → Does a old i j k x → Added old k → Added old x
+  unfolding restamp set_policy set_slice wake tick add_task add_mutex
+  does_add _ _ _ _ (hart t r value f k own same there) p =
+      added_on old k _ refl (length-change f k.harts t) (λ more h. record {
+        task = λ cpu stamp new. new;
+        hart = λ cpu stamp new each. change-elsewhere f k.harts t (length old.tasks) (λ one. elim there [ inl below ↦ omega (arith, below, each, one) | inr still ↦ omega (arith, still, h) ]);
+      }) p
+  does_add _ _ _ _ (task t f k own x there) p = added_one old k _ t (length-change f k.tasks t) refl (λ u o. change-elsewhere f k.tasks t u o) (λ u o. refl) (λ cpu stamp. old_away old k t cpu stamp there) p
+  does_add _ _ _ _ (stamps t k own there) p = added_one old k _ t (length-change _ k.tasks t) refl (λ u o. change-elsewhere _ k.tasks t u o) (λ u o. refl) (λ cpu stamp. old_away old k t cpu stamp there) p
+  does_add _ _ _ _ (turns t f k own x there) p =
+      added_one old k _ t (length-change _ _ t ∙ length-change f k.tasks t) refl (λ u o. change-elsewhere _ _ t u o ∙ change-elsewhere f k.tasks t u o) (λ u o. refl) (λ cpu stamp. old_away old k t cpu stamp there) p
+  does_add _ _ _ _ (spends t x k runs there on) p =
+      let away = λ (cpu stamp : ℕ) (more : length k.tasks ≡ length old.tasks + 1) (new : slice_get k.tasks (length old.tasks) ≡ Some (new_task cpu stamp)). not_new (length old.tasks) t cpu stamp k x new there (oob_not x.state (both (is_oob_ready x.state) _ on)) in
+      of_spend (Added old) t x.slice k
+      (added_one old k _ t (length-change _ _ t ∙ length-change _ k.tasks t) refl (λ u o. change-elsewhere _ _ t u o ∙ change-elsewhere _ k.tasks t u o) (λ u o. refl) away p)
+      (added_one old k _ t (length-change _ k.tasks t) refl (λ u o. change-elsewhere _ k.tasks t u o) (λ u o. refl) away p)
+  does_add _ _ _ _ (wakes t l k on) p =
+      let w : LineWaiter a.cpu l t k = line_waiter a.cpu l t k (slice_get k.tasks t) refl on in
+      added_one old k _ t (length-change _ _ t ∙ length-change _ k.tasks t) (length-change _ k.harts t) (λ u o. change-elsewhere _ _ t u o ∙ change-elsewhere _ k.tasks t u o) (λ u o. change-elsewhere _ k.harts t u o)
+      (λ cpu stamp more new. not_new (length old.tasks) t cpu stamp k w.task new w.there (λ e. let no : Waits (Line l) ≡ InReady = sym w.on ∙ e in cc)) p
+  does_add _ _ _ _ (inherits t u m k own same its first) p =
+      let w : Waiter u m k = first_waits u m k first in
+      added_one old k _ u (length-change _ _ u ∙ length-change _ k.tasks u) (length-change _ k.harts u) (λ v o. change-elsewhere _ _ u v o ∙ change-elsewhere _ k.tasks u v o) (λ v o. change-elsewhere _ k.harts u v o)
+      (λ cpu stamp more new. not_new (length old.tasks) u cpu stamp k w.task new w.there (λ e. let no : Waits (Lock m) ≡ InReady = sym w.on ∙ e in cc)) p
+  does_add _ _ _ _ (schedules u priority class k fresh asks) p = added_on old k _ (length-change _ k.tasks u) refl (λ more h. absurd (omega (arith, more, ap length fresh.tasks))) p
+  does_add _ _ _ _ (adds t entry value cpu k own fresh room) p =
+      let tasks : length k.tasks ≡ length old.tasks = ap length fresh.tasks in
+      let harts : length k.harts ≡ length old.harts = ap length fresh.harts in
+      inr (record {
+        cpu = cpu;
+        stamp = k.stamps;
+        entry = entry;
+        value = value;
+        tasks = length-append k.tasks (new_task cpu k.stamps ∷ []) ∙ ap (λ n. n + 1) tasks;
+        harts = length-append k.harts (spawned_hart entry value ∷ []) ∙ ap (λ n. n + 1) harts;
+        room = omega (arith, room, tasks);
+        task = ap (slice_get (k.tasks ++ new_task cpu k.stamps ∷ [])) (sym tasks) ∙ last_there k.tasks (new_task cpu k.stamps);
+        hart = λ each. ap (slice_get (k.harts ++ spawned_hart entry value ∷ [])) (sym (harts ∙ each)) ∙ last_there k.harts (spawned_hart entry value);
+      })
+  does_add _ _ k _ _ p = added_on old k _ refl refl (λ more h. record { task = λ cpu stamp new. new; hart = λ cpu stamp new each. refl }) p
+
+  pub walk_added : (n s : ℕ) (k : Parts) → Walk a old n s k → Added old k
+  walk_added _ _ _ start = inl (refl, refl)
+  walk_added _ _ _ (next m n s u i j k x few g d w) = does_add i j k x d (walk_added m s k w)
+
+-- ---- a mutex more
+made_one : (old k : List Mutex) (m : ℕ) (f : Mutex → Mutex) → slice_get k m ≡ slice_get old m → Made old k → Made old (change f k m)
+made_one old k m f same p = elim p [
+  | inl e ↦ inl (length-change f k m ∙ e)
+  | inr new ↦ inr (record {
+    recursive = new.recursive;
+    protocol = new.protocol;
+    count = length-change f k m ∙ new.count;
+    room = new.room;
+    mutex = change-elsewhere f k m (length old) (λ one. let there : slice_get old m ≡ Some (free_mutex new.recursive new.protocol) = sym same ∙ ap (slice_get k) (sym one) ∙ new.mutex in omega (arith, slice_get-below old m _ there, one)) ∙ new.mutex;
   })
 ]
 
--- ---- pipes are no tasks
-pub others_pipes : (o : Option ℕ) (c t : ℕ) (x y : Parts) (pipes : List Pipe) → StaysBy o c t x y → StaysBy o c t x (record y { pipes = pipes })
-others_pipes o c t x y pipes (inl r) = inl (record { task = r.task; hart = r.hart })
-others_pipes o c t x y pipes (inr (inl w)) = inr (inl (record { task = w.task; line = w.line; stamp = w.stamp; waited = w.waited; on = w.on; at_home = w.at_home; fresh = w.fresh; wakes = w.wakes; hart = w.hart }))
-others_pipes o c t x y pipes (inr (inr i)) = inr (inr (record {
-  task = i.task;
-  mutex = i.mutex;
-  giver = i.giver;
-  stamp = i.stamp;
-  after = i.after;
-  waited = i.waited;
-  on = i.on;
-  held = i.held;
-  had = i.had;
-  there = i.there;
-  owns = i.owns;
-  once = i.once;
-  fresh = i.fresh;
-  wakes = i.wakes;
-  hart = i.hart;
-}))
+module _ (a : Actor) (old : Parts) where
+  does_make : (i j : ℕ) (k x : Parts) → Does a old i j k x → Made old.mutexes k.mutexes → Made old.mutexes x.mutexes
+  unfolding restamp set_policy set_slice wake tick add_task add_mutex
+  does_make _ _ _ _ (spends t x k runs there on) p = of_spend (λ y. Made old.mutexes y.mutexes) t x.slice k p p
+  does_make _ _ _ _ (inherits t u m k own same its first) p = made_one old.mutexes k.mutexes m (held_by u 1) same p
+  does_make _ _ _ _ (holds i t m f k own same held) p = made_one old.mutexes k.mutexes m f same p
+  does_make _ _ _ _ (makes t recursive protocol k own fresh room) p =
+      let mutexes : length k.mutexes ≡ length old.mutexes = ap length fresh.mutexes in
+      inr (record {
+        recursive = recursive;
+        protocol = protocol;
+        count = length-append k.mutexes (free_mutex recursive protocol ∷ []) ∙ ap (λ n. n + 1) mutexes;
+        room = omega (arith, room, mutexes);
+        mutex = ap (slice_get (k.mutexes ++ free_mutex recursive protocol ∷ [])) (sym mutexes) ∙ last_there k.mutexes (free_mutex recursive protocol);
+      })
+  does_make _ _ _ _ _ p = p
 
-pub added_pipes : (x y : Parts) (pipes : List Pipe) → Added x y → Added x (record y { pipes = pipes })
-added_pipes x y pipes p = elim p [
-  | inl same ↦ inl same
-  | inr a ↦ inr (record { cpu = a.cpu; stamp = a.stamp; entry = a.entry; value = a.value; tasks = a.tasks; harts = a.harts; room = a.room; task = a.task; hart = a.hart })
-]
+  pub walk_made : (n s : ℕ) (k : Parts) → Walk a old n s k → Made old.mutexes k.mutexes
+  walk_made _ _ _ start = inl refl
+  walk_made _ _ _ (next m n s u i j k x few g d w) = does_make i j k x d (walk_made m s k w)
 
-pub spends_pipes : (c t : ℕ) (x y : Parts) (pipes : List Pipe) → StaysBy None c t x y ⊎ Spends c t x y → StaysBy None c t x (record y { pipes = pipes }) ⊎ Spends c t x (record y { pipes = pipes })
-spends_pipes c t x y pipes (inl p) = inl (others_pipes None c t x y pipes p)
-spends_pipes c t x y pipes (inr q) = inr (record {
-  task = q.task;
-  slice = q.slice;
-  stamp = q.stamp;
-  runs = q.runs;
-  there = q.there;
-  on = q.on;
-  robin = q.robin;
-  left = q.left;
-  spends = q.spends;
-  hart = q.hart;
-})
+  does_mutexes : (i j : ℕ) (k x : Parts) → a.task ≡ None → Does a old i j k x → x.mutexes ≡ k.mutexes
+  unfolding restamp set_policy set_slice wake tick add_task add_mutex
+  does_mutexes _ _ _ _ none (spends t x k runs there on) = of_spend (λ y. y.mutexes ≡ k.mutexes) t x.slice k refl refl
+  does_mutexes _ _ _ _ none (inherits t u m k own same its first) = let no : None ≡ Some t = sym none ∙ own in cc
+  does_mutexes _ _ _ _ none (holds i t m f k own same held) = let no : None ≡ Some t = sym none ∙ own in cc
+  does_mutexes _ _ _ _ none (makes t recursive protocol k own fresh room) = let no : None ≡ Some t = sym none ∙ own in cc
+  does_mutexes _ _ _ _ none _ = refl
+
+  -- where no task acts
+  pub walk_mutexes : (n s : ℕ) (k : Parts) → a.task ≡ None → Walk a old n s k → k.mutexes ≡ old.mutexes
+  walk_mutexes _ _ _ none start = refl
+  walk_mutexes _ _ _ none (next m n s u i j k x few g d w) = does_mutexes i j k x none d ∙ walk_mutexes m s k none w
+
+  -- ---- the console
+  does_type : (i j : ℕ) (k x : Parts) → Does a old i j k x → Typed old k → Typed old x
+  unfolding restamp set_policy set_slice wake tick add_task add_mutex
+  does_type _ _ _ _ (spends t x k runs there on) p = of_spend (Typed old) t x.slice k p p
+  does_type _ _ _ _ (types t byte k own fresh) p = inr (byte, ap (λ (console : List ℕ). last_bytes (console ++ byte ∷ [])) fresh.console)
+  does_type _ _ _ _ _ p = p
+
+  pub walk_typed : (n s : ℕ) (k : Parts) → Walk a old n s k → Typed old k
+  walk_typed _ _ _ start = inl refl
+  walk_typed _ _ _ (next m n s u i j k x few g d w) = does_type i j k x d (walk_typed m s k w)
+
+-- ---- other processors
+told_none : (f : Pipe → Pipe) (o : Option Pipe) → ((p : Pipe) → f p ≡ p) → option_map f o ≡ o
+told_none f None h = refl
+told_none f (Some p) h = ap Some (h p)
+
+quietly_told : (f p : Pipe) (l : ℕ) (may : Bool) → (f ≡ p) ⊎ ((f ≡ raise l p) × (may ≡ true)) → may ≡ false → f ≡ p
+quietly_told f p l may (inl same) q = same
+quietly_told f p l may (inr told) q = let no : true ≡ false = sym told.1 ∙ q in cc
+
+module _ (a : Actor) (old : Parts) (d : ℕ) (other : d ≡ a.cpu → ⊥) where
+  does_processors : (i j : ℕ) (k x : Parts) → Does a old i j k x → slice_get x.processors d ≡ slice_get k.processors d
+  unfolding restamp set_policy set_slice wake tick add_task add_mutex
+  does_processors _ _ _ _ (spends t x k runs there on) = of_spend (λ y. slice_get y.processors d ≡ slice_get k.processors d) t x.slice k refl refl
+  does_processors _ _ _ _ (marks f k x) = change-elsewhere f k.processors a.cpu d other
+  does_processors _ _ _ _ (picks f k x) = change-elsewhere f k.processors a.cpu d other
+  does_processors _ _ _ _ _ = refl
+
+  pub walk_processors : (n s : ℕ) (k : Parts) → Walk a old n s k → slice_get k.processors d ≡ slice_get old.processors d
+  walk_processors _ _ _ start = refl
+  walk_processors _ _ _ (next m n s u i j k x few g does w) = does_processors i j k x does ∙ walk_processors m s k w
+
+  module _ (quiet : (e l : ℕ) → a.may e l ≡ false) where
+    does_pipes : (i j : ℕ) (k x : Parts) → Does a old i j k x → slice_get x.pipes d ≡ slice_get k.pipes d
+    unfolding restamp set_policy set_slice wake tick add_task add_mutex
+    does_pipes _ _ _ _ (spends t x k runs there on) = of_spend (λ y. slice_get y.pipes d ≡ slice_get k.pipes d) t x.slice k refl refl
+    does_pipes _ _ _ _ (moves i f k x) = change-elsewhere f k.pipes a.cpu d other
+    does_pipes _ _ _ _ (tells l f k small how) = slice_get-each f k.pipes d ∙ told_none (f d) (slice_get k.pipes d) (λ p. quietly_told (f d p) p l (a.may d l) (how d p) (quiet d l))
+    does_pipes _ _ _ _ (clock k may) = let no : true ≡ false = sym (may 0) ∙ quiet 0 0 in cc
+    does_pipes _ _ _ _ _ = refl
+
+    -- where no line may be raised
+    pub walk_other_pipes : (n s : ℕ) (k : Parts) → Walk a old n s k → slice_get k.pipes d ≡ slice_get old.pipes d
+    walk_other_pipes _ _ _ start = refl
+    walk_other_pipes _ _ _ (next m n s u i j k x few g does w) = does_pipes i j k x does ∙ walk_other_pipes m s k w

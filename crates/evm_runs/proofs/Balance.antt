@@ -13,8 +13,8 @@ use Rattle.evm_model.specs.declared.stage.Stage.{Stage}
 use Rattle.evm_model.specs.declared.stage.Stage.TheVariants.{OutOfBand, InBand}
 use Rattle.evm_model.proofs.Lists.{change-cases, slice_get-below}
 use Rattle.evm_walk.proofs.Counted.{Counted, raise-counted, receive-counted, timer-counted, play-counted}
-use Rattle.evm_walk.proofs.Moves.{PipeMove, raises, receives, plays_timer, plays_oob, plays_in_band, stalls}
 use Rattle.evm_walk.proofs.Sets.{move_kept}
+use Rattle.evm_walk.proofs.Walk.{PipeMove, raises, receives, plays_timer, plays_oob, plays_in_band, stalls}
 use Rattle.evm_runs.specs.Balance.{one_if, Balances}
 
 -- ---- numbers
@@ -157,20 +157,20 @@ unfolding set_stall
 stall-balances OutOfBand b p s m n e = let old = s.lines m n e in record { wire = old.wire; oob = old.oob; inband = old.inband; routes = old.routes }
 stall-balances InBand b p s m n e = let old = s.lines m n e in record { wire = old.wire; oob = old.oob; inband = old.inband; routes = old.routes }
 
-lines-balance : (line n : ℕ) (p q : Pipe) → PipeMove line n p q → PipeBalances p → (m : ℕ) (n : Counts) → slice_get q.counts m ≡ Some n → Balances m q n
+lines-balance : (may : ℕ → Bool) (n : ℕ) (p q : Pipe) → PipeMove may n p q → PipeBalances p → (m : ℕ) (n : Counts) → slice_get q.counts m ≡ Some n → Balances m q n
 unfolding receive
-lines-balance _ _ _ _ (raises line p h) s = moved-balances line _ p _ (raise-counted line p) (raise-apart line p) (λ n. raise-here line p n h) s
-lines-balance _ _ _ _ (receives line l p on) s = let h : l < LINES = line_below p.wire l s.pipe.wire on in
+lines-balance may _ _ _ (raises l p h on) s = moved-balances l _ p _ (raise-counted l p) (raise-apart l p) (λ n. raise-here l p n h) s
+lines-balance may _ _ _ (receives l p on) s = let h : l < LINES = line_below p.wire l s.pipe.wire on in
     moved-balances l _ p _ (receive-counted l p) (apart-then l p (leave_wire l p) _ (leave-apart l p) (arrive-apart (stage_of l) l (leave_wire l p)))
     (λ n. received-here (stage_of l) l p n refl on h) s
-lines-balance _ _ _ _ (plays_timer line p on) s =
+lines-balance may _ _ _ (plays_timer p on) s =
     moved-balances 0 _ p _ (timer-counted p) (apart-then 0 p (play OutOfBand 0 p) _ (play-apart OutOfBand 0 p) (arrive-apart InBand 0 (play OutOfBand 0 p)))
     (λ n. timer-here p n on) s
-lines-balance _ _ _ _ (plays_oob line l p other on) s =
+lines-balance may _ _ _ (plays_oob l p other on) s =
     moved-balances l _ p _ (play-counted OutOfBand l p) (play-apart OutOfBand l p) (λ n. oob-here l p n other on (line_below p.oob.lines l s.pipe.oob on)) s
-lines-balance _ _ _ _ (plays_in_band line l p on) s =
+lines-balance may _ _ _ (plays_in_band l p on) s =
     moved-balances l _ p _ (play-counted InBand l p) (play-apart InBand l p) (λ n. in_band-here l p n on (line_below p.inband.lines l s.pipe.inband on)) s
-lines-balance _ _ _ _ (stalls line stage b p) s = stall-balances stage b p s
+lines-balance may _ _ _ (stalls stage b p) s = stall-balances stage b p s
 
-pub move-balances : (line n : ℕ) (p q : Pipe) → PipeMove line n p q → PipeBalances p → PipeBalances q
-move-balances line n p q m s = record { pipe = move_kept line n p q m s.pipe; lines = lines-balance line n p q m s }
+pub move-balances : (may : ℕ → Bool) (n : ℕ) (p q : Pipe) → PipeMove may n p q → PipeBalances p → PipeBalances q
+move-balances may n p q m s = record { pipe = move_kept may n p q m s.pipe; lines = lines-balance may n p q m s }

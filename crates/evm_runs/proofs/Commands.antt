@@ -3,6 +3,7 @@ use Rattle.std.proofs.Common.{◌≡◌, ℕ, List, Bool, true, false, cond, Opt
 use Rattle.std.specs.Prelude.{◌==◌, is_none, nat_lt, if◌then◌else◌}
 use Rattle.std.proofs.lemmas.Option.{slice_get-map}
 use Rattle.std.proofs.lemmas.List.{length-map}
+use Rattle.evm_exec.specs.Registers.{with_register}
 use Rattle.evm_exec.specs.declared.hart.Hart.{Hart}
 use Rattle.evm_lines.specs.Lines.{has_line}
 use Rattle.evm_ram.specs.Laws.{length-poke_at}
@@ -28,9 +29,9 @@ use Rattle.evm_model.proofs.Lists.{length-change}
 use Rattle.evm_walk.proofs.Refused.{passes}
 use Rattle.evm_runs.specs.Changes.{RaisesOneLine, ProcessorChanges, CurrentChanges, RamChanges, ClockTicks, StepsOnce, ChangesOnly, IsDone, EventChanges, EventsChangeOnly}
 use Rattle.evm_runs.proofs.Breakpoints.{set-changes, unset-changes}
-use Rattle.evm_runs.proofs.Frames.{Keeps, one_change, keeps_pc, keeps_register, change-registers}
-use Rattle.evm_runs.proofs.Added.{SameCounts, same_then}
-use Rattle.evm_runs.proofs.Steps.{step_done}
+use Rattle.evm_runs.proofs.Frames.{one_change}
+use Rattle.evm_runs.proofs.Added.{change-registers}
+use Rattle.evm_runs.proofs.Steps.{SameCounts, same_then, step_done}
 
 pub raises_one_line : RaisesOneLine
 unfolding raise
@@ -135,9 +136,9 @@ processor-counts c f b = record { processors = length-change f b.parts.processor
 pipe-counts : (c : ℕ) (f : Pipe → Pipe) (b : Board) → SameCounts b (on_parts (on_pipe c f) b)
 pipe-counts c f b = record { processors = refl; pipes = length-change f b.parts.pipes c; ram = refl; tasks = omega arith; harts = omega arith; few_tasks = λ few. few; a_hart_each = λ each. each; registers = λ h. h }
 
-number-counts : (o : Option ℕ) (f : Hart → Hart) (b : Board) → Keeps f → SameCounts b (on_parts (on_number o f) b)
-number-counts None f b g = same_board b
-number-counts (Some t) f b g = record { processors = refl; pipes = refl; ram = refl; tasks = omega arith; harts = omega (arith, length-change f b.parts.harts t); few_tasks = λ few. few; a_hart_each = λ each. length-change f b.parts.harts t ∙ each; registers = change-registers t f b.parts.harts g }
+number-counts : (o : Option ℕ) (r value : ℕ) (f : Hart → Hart) (b : Board) → ((x : Hart) → (f x).regs ≡ with_register x.regs r value) → SameCounts b (on_parts (on_number o f) b)
+number-counts None r value f b g = same_board b
+number-counts (Some t) r value f b g = record { processors = refl; pipes = refl; ram = refl; tasks = omega arith; harts = omega (arith, length-change f b.parts.harts t); few_tasks = λ few. few; a_hart_each = λ each. length-change f b.parts.harts t ∙ each; registers = change-registers t r value f b.parts.harts g }
 
 poke-counts : (address : ℕ) (bytes : List ℕ) (b : Board) (o : Option (List ℕ)) → poke_at b.memory.ram address bytes ≡ o → SameCounts b (on_memory (ram_or o) b)
 poke-counts address bytes b None e = same_board b
@@ -154,8 +155,8 @@ row-counts (Go c) b = processor-counts c _ b
 row-counts (StepI c) b =
     let freed : Board = on_parts (set_bits false true c) b in
     same_then b freed _ (processor-counts c _ b) (same_then freed (step c freed).0 _ (step_done c freed).counts (processor-counts c _ (step c freed).0))
-row-counts (SetReg c r value) b = number-counts (current c b.parts) (set_register r value) b (keeps_register r value)
-row-counts (SetPc c pc) b = number-counts (current c b.parts) (set_pc pc) b (keeps_pc pc)
+row-counts (SetReg c r value) b = number-counts (current c b.parts) r value (set_register r value) b (λ x. refl)
+row-counts (SetPc c pc) b = number-counts (current c b.parts) 0 0 (set_pc pc) b (λ x. refl)
 row-counts (Poke address bytes) b = poke-counts address bytes.items b (poke_at b.memory.ram address bytes.items) refl
 row-counts (Break address) b = record { processors = refl; pipes = refl; ram = refl; tasks = omega arith; harts = omega arith; few_tasks = λ few. few; a_hart_each = λ each. each; registers = λ h. h }
 row-counts (Unbreak address) b = record { processors = refl; pipes = refl; ram = refl; tasks = omega arith; harts = omega arith; few_tasks = λ few. few; a_hart_each = λ each. each; registers = λ h. h }

@@ -6,7 +6,7 @@ use Rattle.std.proofs.lemmas.List.{length-replicate}
 use Rattle.std.proofs.lemmas.List.Sums.{count_by-le-length}
 use Rattle.evm_exec.specs.declared.hart.Hart.{Hart}
 use Rattle.evm_lines.specs.declared.TheConstants.{LINES}
-use Rattle.evm_model.specs.Bounds.{PER_EVENT, PipesUpTo}
+use Rattle.evm_model.specs.Bounds.{PER_EVENT, STAMPS_PER_EVENT, PipesUpTo}
 use Rattle.evm_model.specs.Commands.{tick, set_bits, on_number, set_breakpoint, unset_breakpoint}
 use Rattle.evm_model.specs.Good.{is_tick}
 use Rattle.evm_model.specs.Harts.{set_register, set_pc}
@@ -22,12 +22,12 @@ use Rattle.evm_model.specs.declared.event.Event.{Event}
 use Rattle.evm_model.specs.declared.event.Event.TheVariants.{Step, Tick, Raise, Bell, Stop, Go, StepI, SetReg, SetPc, Poke, Break, Unbreak}
 use Rattle.evm_model.specs.declared.limits.TheConstants.{CAPACITY_LIMIT}
 use Rattle.evm_model.proofs.Lists.{slice_get-replicate}
-use Rattle.evm_walk.proofs.Counted.{takes_counted, PipesUpTo-more}
-use Rattle.evm_walk.proofs.Held.{row_holds}
-use Rattle.evm_walk.proofs.Moves.{held_more}
-use Rattle.evm_walk.proofs.Rows.{row_takes, actor, raised_line}
+use Rattle.evm_walk.proofs.Counted.{walk_counted, PipesUpTo-more}
+use Rattle.evm_walk.proofs.Held.{held_more, walk_holds}
+use Rattle.evm_walk.proofs.Rows.{MOVES, acting, row_walks}
 use Rattle.evm_walk.proofs.Runs.{IsKept, replay_keeps}
-use Rattle.evm_walk.proofs.Sets.{ArePipes, takes_pipes}
+use Rattle.evm_walk.proofs.Sets.{walk_pipes}
+use Rattle.evm_walk.proofs.Walk.{Actor, ArePipes}
 use Rattle.evm_runs.specs.Fit.{CountsFit, IsUncounted, CountsAlwaysFit, CountsAlwaysFitLoaded, CountsAlwaysFitFresh, HoldsFit, HoldsAlwaysFit, HoldsAlwaysFitLoaded, HoldsAlwaysFitFresh}
 use Rattle.evm_runs.proofs.Commands.{row-counts}
 use Rattle.evm_runs.proofs.Runs.{idle_balances, count_last}
@@ -65,7 +65,8 @@ record RunFits (boot : Boot) (s : State) : Type 0 where
 fits_kept : (boot : Boot) → IsKept (RunFits boot)
 fits_kept boot = record {
   accepted = λ s event room e h.
-      let t = row_takes event s.board e h.pipes in
+      let a : Actor = acting event s.board.parts in
+      let t = row_walks event s.board e in
       let grown : length (s.journal ++ event ∷ []) ≡ length s.journal + 1 = length-append s.journal (event ∷ []) in
       let within : length s.journal < s.boot.capacity = leb-false s.boot.capacity (length s.journal) room in
       let same : s.boot.capacity ≡ boot.capacity = ap (λ (x : Boot). x.capacity) h.boot_kept in
@@ -74,9 +75,9 @@ fits_kept boot = record {
         journal = omega arith;
         ticks = rw (count_last is_tick s.journal event) (row-ticks event s.board ∙ ap (more_if (is_tick event)) h.ticks);
         count = (row-counts event s.board).pipes ∙ h.count;
-        pipes = takes_pipes (actor event) (raised_line event) PER_EVENT s.board.parts _ t h.pipes;
-        counts = PipesUpTo-more (PER_EVENT * length s.journal + PER_EVENT) (PER_EVENT * length (s.journal ++ event ∷ [])) _ (omega arith)
-            (takes_counted (actor event) (raised_line event) PER_EVENT (PER_EVENT * length s.journal) s.board.parts _ t h.counts);
+        pipes = walk_pipes a s.board.parts MOVES STAMPS_PER_EVENT _ t h.pipes;
+        counts = PipesUpTo-more (PER_EVENT * length s.journal + MOVES) (PER_EVENT * length (s.journal ++ event ∷ [])) _ (omega arith)
+            (walk_counted a s.board.parts MOVES STAMPS_PER_EVENT (PER_EVENT * length s.journal) _ t h.pipes h.counts);
       };
 }
 
@@ -151,11 +152,14 @@ record RunHolds (s : State) : Type 0 where
 holds_kept : IsKept RunHolds
 holds_kept = record {
   accepted = λ s event room e h.
+      let a : Actor = acting event s.board.parts in
+      let t = row_walks event s.board e in
+      let before : ℕ = PER_EVENT * length s.journal in
       let grown : length (s.journal ++ event ∷ []) ≡ length s.journal + 1 = length-append s.journal (event ∷ []) in
       record {
-        pipes = takes_pipes (actor event) (raised_line event) PER_EVENT s.board.parts _ (row_takes event s.board e h.pipes) h.pipes;
-        holds = held_more (PER_EVENT * length s.journal + PER_EVENT) (PER_EVENT * length (s.journal ++ event ∷ [])) _ (omega arith)
-            (row_holds event s.board (PER_EVENT * length s.journal) e h.pipes h.holds);
+        pipes = walk_pipes a s.board.parts MOVES STAMPS_PER_EVENT _ t h.pipes;
+        holds = held_more (before + 1 + MOVES) (PER_EVENT * length (s.journal ++ event ∷ [])) _ (omega arith)
+            (walk_holds a s.board.parts MOVES STAMPS_PER_EVENT _ (before + 1) h.pipes (omega arith) t (held_more before (before + 1) s.board.parts.mutexes (omega arith) h.holds));
       };
 }
 

@@ -1,6 +1,7 @@
--- What an instruction changes, and how many there are of each afterwards.
-use Rattle.std.proofs.Common.{◌≡◌, ℕ, List, Bool, true, false, Option, Some, None, length, ◌⊎◌, inl, inr, refl, ap}
-use Rattle.std.specs.Prelude.{if◌then◌else◌}
+-- What an instruction does to memory, and how it calls.
+use Rattle.std.proofs.Common.{◌≡◌, ℕ, List, Bool, true, false, Option, Some, None, ◌⊎◌, inl, inr, refl, ap, sym, ◌∙◌}
+use Rattle.std.specs.Prelude.{slice_get, ◌==◌, ◌&&◌, not, if◌then◌else◌}
+use Rattle.evm_lines.specs.Lines.{least_line}
 use Rattle.evm_isa.specs.Decoded.{decoded}
 use Rattle.evm_isa.specs.declared.inst.Inst.{Inst}
 use Rattle.evm_isa.specs.declared.inst.LoadOp.{LoadOp}
@@ -11,142 +12,145 @@ use Rattle.evm_exec.specs.declared.outcome.Effect.{Effect}
 use Rattle.evm_exec.specs.declared.outcome.Effect.TheVariants.{Next, Load, Store, Call, Break, Misaligned}
 use Rattle.evm_ram.specs.Ram.{write_at}
 use Rattle.evm_ram.specs.declared.width.Width.{Width}
-use Rattle.evm_model.specs.Calls.{call}
-use Rattle.evm_model.specs.Harts.{advance}
-use Rattle.evm_model.specs.Instructions.{fault, stop, finish, finish_load, finish_store, execute, execute_inst, execute_word}
+use Rattle.evm_model.specs.Commands.{is_set}
+use Rattle.evm_model.specs.Instructions.{finish_load, finish_store, finish, execute_inst, execute_word, execute}
 use Rattle.evm_model.specs.Memory.{fetch, read, write, with_ram}
-use Rattle.evm_model.specs.Passing.{end_task}
-use Rattle.evm_model.specs.Settle.{is_oob}
-use Rattle.evm_model.specs.State.{Board, Memory, Parts, on_hart}
-use Rattle.evm_model.specs.Tasks.{demote}
-use Rattle.evm_model.specs.declared.fault.Fault.{Fault}
-use Rattle.evm_model.specs.declared.task.Task.{Task}
-use Rattle.evm_model.specs.declared.task.TaskState.TheVariants.{Faulted}
-use Rattle.evm_runs.proofs.Acts.{Acts, acts_own}
-use Rattle.evm_runs.proofs.Calling.{Asked, Called, calls}
-use Rattle.evm_runs.proofs.Frames.{Keeps, keeps_advance, keeps_register_pc, keeps_answer}
-use Rattle.evm_runs.proofs.Own.{own_then, own_hart, own_processor, own_demote}
-use Rattle.evm_runs.proofs.Passing.{own_end}
+use Rattle.evm_model.specs.Pipes.{Pipe}
+use Rattle.evm_model.specs.Rows.{run, step_hart, step_current, step_wire, step_pipe, step_processor, step}
+use Rattle.evm_model.specs.Settle.{current, current_of, settle_and_nudge}
+use Rattle.evm_model.specs.State.{Board, Memory, on_parts, on_processor}
+use Rattle.evm_model.specs.declared.event.Answer.{Answer}
+use Rattle.evm_model.specs.declared.event.Answer.TheVariants.{Stopped}
+use Rattle.evm_model.specs.declared.processor.Processor.{Processor}
+use Rattle.evm_walk.proofs.Rows.{is_call, inst_calls, word_calls}
+use Rattle.evm_runs.specs.Changes.{StoreWrites}
 
--- ---- an instruction
--- an effect has written memory
-pub record Wrote (effect : Effect) (old new : Memory) : Type 0 where
-  pub width : Width
-  pub address : ℕ
-  pub value : ℕ
-  pub stores : effect ≡ Store width address value
-  pub ram : write_at old.ram address width value ≡ Some new.ram
+-- ---- an ECALL
+-- the instruction at a hart's pc is an ECALL
+pub record Calls (x : Hart) (m : Memory) : Type 0 where
+  pub word : ℕ
+  pub inst : Inst
+  pub fetched : fetch x.pc m ≡ Some word
+  pub decodes : decoded word ≡ Some inst
+  pub calls : does inst x.regs x.pc ≡ Call
 
--- a task of c has done an effect, by which a task may have another class
-pub record Does (effect : Effect) (c t : ℕ) (old new : Board) : Type 0 where
-  pub asked : List Task
-  pub scheduled : (asked ≡ old.parts.tasks) ⊎ ((effect ≡ Call) × Asked t old.parts asked)
-  pub acts : Acts c t (record old.parts { tasks = asked }) new.parts
-  pub breakpoints : new.breakpoints ≡ old.breakpoints
-  pub memory : (new.memory ≡ old.memory) ⊎ Wrote effect old.memory new.memory
+effect_calls : (effect : Effect) → is_call effect ≡ true → effect ≡ Call
+effect_calls Call e = refl
+effect_calls _ e = cc
 
-parts_only : (effect : Effect) (c t : ℕ) (k : Parts) (b : Board) → Acts c t b.parts k → Does effect c t b (record b { parts = k })
-parts_only effect c t k b h = record { asked = b.parts.tasks; scheduled = inl refl; acts = h; breakpoints = refl; memory = inl refl }
+inst_called : (word : ℕ) (o : Option Inst) (x : Hart) (m : Memory) → fetch x.pc m ≡ Some word → decoded word ≡ o → inst_calls o x ≡ true → Calls x m
+inst_called word None x m f d e = cc
+inst_called word (Some inst) x m f d e = record { word = word; inst = inst; fetched = f; decodes = d; calls = effect_calls (does inst x.regs x.pc) e }
 
-on_own : (c t : ℕ) (f : Hart → Hart) (k : Parts) → Keeps f → Acts c t k (on_hart t f k)
-on_own c t f k g = acts_own c t k _ (own_hart c t f k g)
+word_called : (o : Option ℕ) (x : Hart) (m : Memory) → fetch x.pc m ≡ o → word_calls o x ≡ true → Calls x m
+word_called None x m f e = cc
+word_called (Some word) x m f e = inst_called word (decoded word) x m f refl e
 
-faults_if : (oob : Bool) (c t : ℕ) (f : Fault) (k : Parts) → Acts c t k (if oob then demote c t k else end_task c t (Faulted f) k)
-faults_if true c t f k = acts_own c t k _ (own_demote c t k)
-faults_if false c t f k = acts_own c t k _ (own_end c t (Faulted f) k)
+pub called : (x : Hart) (m : Memory) → word_calls (fetch x.pc m) x ≡ true → Calls x m
+called x m e = word_called (fetch x.pc m) x m refl e
 
-faults : (c t : ℕ) (f : Fault) (k : Parts) → Acts c t k (fault c t f k)
-faults c t f k = faults_if (is_oob (Some t) k.tasks) c t f k
-
-loads : (effect : Effect) (c t : ℕ) (o : Option ℕ) (op : LoadOp) (rd : ℕ) (b : Board) → Does effect c t b (finish_load o op rd c t b)
-loads effect c t None op rd b = parts_only effect c t _ b (faults c t _ b.parts)
-loads effect c t (Some n) op rd b = parts_only effect c t _ b (on_own c t _ b.parts (keeps_answer rd _))
+-- ---- memory
+-- breakpoints stay, and memory does but for a store
+record Stores (effect : Effect) (old new : Board) : Type 0 where
+  breakpoints : new.breakpoints ≡ old.breakpoints
+  memory : (new.memory ≡ old.memory) ⊎ ((width : Width) × ((address : ℕ) × ((value : ℕ) × ((effect ≡ Store width address value) × (write_at old.memory.ram address width value ≡ Some new.memory.ram)))))
 
 with_ram-some : (o : Option (List ℕ)) (old new : Memory) → with_ram o old ≡ Some new → o ≡ Some new.ram
 with_ram-some None old new e = cc
 with_ram-some (Some ram) old new e = let same : record old { ram = ram } ≡ new = cc in ap Some (ap (λ (m : Memory). m.ram) same)
 
-pub stores : (width : Width) (address value c t : ℕ) (o : Option Memory) (b : Board) → write address width value b.memory ≡ o → Does (Store width address value) c t b (finish_store o c t b)
-stores width address value c t None b e = parts_only _ c t _ b (faults c t _ b.parts)
+loads : (effect : Effect) (o : Option ℕ) (op : LoadOp) (rd c t : ℕ) (b : Board) → Stores effect b (finish_load o op rd c t b)
+loads effect None op rd c t b = record { breakpoints = refl; memory = inl refl }
+loads effect (Some n) op rd c t b = record { breakpoints = refl; memory = inl refl }
+
+stores : (width : Width) (address value c t : ℕ) (o : Option Memory) (b : Board) → write address width value b.memory ≡ o → Stores (Store width address value) b (finish_store o c t b)
+stores width address value c t None b e = record { breakpoints = refl; memory = inl refl }
 stores width address value c t (Some memory) b e = record {
-  asked = b.parts.tasks;
-  scheduled = inl refl;
-  acts = on_own c t advance b.parts keeps_advance;
   breakpoints = refl;
-  memory = inr (record { width = width; address = address; value = value; stores = refl; ram = with_ram-some (write_at b.memory.ram address width value) b.memory memory e });
+  memory = inr (width, (address, (value, (refl, with_ram-some (write_at b.memory.ram address width value) b.memory memory e))));
 }
 
-calls_done : (c t : ℕ) (k : Parts) (b : Board) → Called c t b.parts k → Does Call c t b (record b { parts = k })
-calls_done c t k b p = record {
-  asked = p.asked;
-  scheduled = elim p.scheduled [
-    | inl same ↦ inl same
-    | inr a ↦ inr (refl, a)
-  ];
-  acts = p.acts;
-  breakpoints = refl;
-  memory = inl refl;
-}
-
-effects : (effect : Effect) (c t : ℕ) (b : Board) → Does effect c t b (finish effect c t b)
-unfolding finish stop
-effects (Next rd value pc) c t b = parts_only _ c t _ b (on_own c t _ b.parts (keeps_register_pc rd value pc))
-effects (Load op rd address) c t b = loads _ c t (read address (width_of_load op) b.memory) op rd b
+effects : (effect : Effect) (c t : ℕ) (b : Board) → Stores effect b (finish effect c t b)
+unfolding finish
+effects (Load op rd address) c t b = loads (Load op rd address) (read address (width_of_load op) b.memory) op rd c t b
 effects (Store width address value) c t b = stores width address value c t (write address width value b.memory) b refl
-effects Call c t b = calls_done c t (call (length b.memory.ram) c t b.parts) b (calls (length b.memory.ram) c t b.parts)
-effects Break c t b =
-    let went : Parts = on_hart t advance b.parts in
-    parts_only _ c t _ b
-    (acts_own c t b.parts _ (own_then c t b.parts went _ refl (own_hart c t advance b.parts keeps_advance) (own_processor c t _ went (λ p. refl))))
-effects Misaligned c t b = parts_only _ c t _ b (faults c t _ b.parts)
+effects _ c t b = record { breakpoints = refl; memory = inl refl }
 
--- the word at the pc has written memory
-pub record Executed (hart : Hart) (old new : Memory) : Type 0 where
-  pub word : ℕ
-  pub inst : Inst
-  pub fetched : fetch hart.pc old ≡ Some word
-  pub decodes : decoded word ≡ Some inst
-  pub wrote : Wrote (does inst hart.regs hart.pc) old new
-
--- the word at the pc has asked for another class of a task
-pub record Asks (hart : Hart) (t : ℕ) (old : Board) (asked : List Task) : Type 0 where
-  pub word : ℕ
-  pub inst : Inst
-  pub fetched : fetch hart.pc old.memory ≡ Some word
-  pub decodes : decoded word ≡ Some inst
-  pub calls : does inst hart.regs hart.pc ≡ Call
-  pub call : Asked t old.parts asked
-
-pub record Executes (hart : Hart) (c t : ℕ) (old new : Board) : Type 0 where
-  pub asked : List Task
-  pub scheduled : (asked ≡ old.parts.tasks) ⊎ Asks hart t old asked
-  pub acts : Acts c t (record old.parts { tasks = asked }) new.parts
+-- ---- a step
+-- what a step leaves of breakpoints and memory
+pub record Writes (c : ℕ) (old new : Board) : Type 0 where
   pub breakpoints : new.breakpoints ≡ old.breakpoints
-  pub memory : (new.memory ≡ old.memory) ⊎ Executed hart old.memory new.memory
+  pub memory : (new.memory ≡ old.memory) ⊎ StoreWrites c old new
 
-quietly : (hart : Hart) (c t : ℕ) (k : Parts) (b : Board) → Acts c t b.parts k → Executes hart c t b (record b { parts = k })
-quietly hart c t k b h = record { asked = b.parts.tasks; scheduled = inl refl; acts = h; breakpoints = refl; memory = inl refl }
+module _ (c : ℕ) (b : Board) where
+  quietly : (new : Board) → new.breakpoints ≡ b.breakpoints → new.memory ≡ b.memory → Writes c b new
+  quietly new e f = record { breakpoints = e; memory = inl f }
 
-insts : (word : ℕ) (o : Option Inst) (hart : Hart) (c t : ℕ) (b : Board) → fetch hart.pc b.memory ≡ Some word → decoded word ≡ o → Executes hart c t b (execute_inst o hart c t b)
-insts word None hart c t b f e = quietly hart c t _ b (faults c t _ b.parts)
-insts word (Some inst) hart c t b f e = let d = effects (does inst hart.regs hart.pc) c t b in record {
-  asked = d.asked;
-  scheduled = elim d.scheduled [
-    | inl same ↦ inl same
-    | inr a ↦ inr (record { word = word; inst = inst; fetched = f; decodes = e; calls = a.0; call = a.1 })
-  ];
-  acts = d.acts;
-  breakpoints = d.breakpoints;
-  memory = elim d.memory [
-    | inl same ↦ inl same
-    | inr wrote ↦ inr (record { word = word; inst = inst; fetched = f; decodes = e; wrote = wrote })
-  ];
-}
+  -- the board with the skip bit off
+  abbrev passed : Board
+  passed = on_parts (on_processor c (λ p. record p { skip = false })) b
 
-words : (o : Option ℕ) (hart : Hart) (c t : ℕ) (b : Board) → fetch hart.pc b.memory ≡ o → Executes hart c t b (execute_word o hart c t b)
-words None hart c t b f = quietly hart c t _ b (faults c t _ b.parts)
-words (Some word) hart c t b f = insts word (decoded word) hart c t b f refl
+  module _ (t : ℕ) (x : Hart) (now : current c b.parts ≡ Some t) (has : slice_get b.parts.harts t ≡ Some x) where
+    wrote : (word : ℕ) (inst : Inst) (y : Board) → fetch x.pc b.memory ≡ Some word → decoded word ≡ Some inst → Stores (does inst x.regs x.pc) passed y → Writes c b (on_parts (settle_and_nudge c) y)
+    wrote word inst y f d s = record {
+      breakpoints = s.breakpoints;
+      memory = elim s.memory [
+        | inl same ↦ inl same
+        | inr w ↦ inr (record {
+          task = t;
+          hart = x;
+          word = word;
+          inst = inst;
+          width = w.0;
+          address = w.1.0;
+          value = w.1.1.0;
+          runs = now;
+          has = has;
+          fetched = f;
+          decodes = d;
+          stores = w.1.1.1.0;
+          rest = refl;
+          ram = w.1.1.1.1;
+        })
+      ];
+    }
 
-pub executes : (hart : Hart) (c t : ℕ) (b : Board) → Executes hart c t b (execute hart c t b)
-unfolding execute
-executes hart c t b = words (fetch hart.pc b.memory) hart c t b refl
+    insts : (word : ℕ) (o : Option Inst) → fetch x.pc b.memory ≡ Some word → decoded word ≡ o → Writes c b (on_parts (settle_and_nudge c) (execute_inst o x c t passed))
+    insts word None f d = quietly _ refl refl
+    insts word (Some inst) f d = wrote word inst (finish (does inst x.regs x.pc) c t passed) f d (effects (does inst x.regs x.pc) c t passed)
+
+    words : (o : Option ℕ) → fetch x.pc b.memory ≡ o → Writes c b (on_parts (settle_and_nudge c) (execute_word o x c t passed))
+    words None f = quietly _ refl refl
+    words (Some word) f = insts word (decoded word) f refl
+
+    runs : Writes c b (run x c t b).0
+    unfolding execute
+    runs = words (fetch x.pc b.memory) refl
+
+  either : (p : Bool) (x y : Board × Answer) → Writes c b x.0 → Writes c b y.0 → Writes c b (if p then x else y).0
+  either true x y g h = g
+  either false x y g h = h
+
+  hart_writes : (o : Option Hart) (p : Processor) (t : ℕ) → current c b.parts ≡ Some t → slice_get b.parts.harts t ≡ o → Writes c b (step_hart o p c t b).0
+  hart_writes None p t now has = quietly b refl refl
+  hart_writes (Some x) p t now has = either (is_set b.breakpoints x.pc && not p.skip) _ (run x c t b) (quietly _ refl refl) (runs t x now has)
+
+  current_writes : (o : Option ℕ) (p : Processor) → current c b.parts ≡ o → Writes c b (step_current o p c b).0
+  current_writes None p now = quietly _ refl refl
+  current_writes (Some t) p now = hart_writes (slice_get b.parts.harts t) p t now refl
+
+  wire_writes : (o : Option ℕ) (p : Processor) → current c b.parts ≡ p.current → Writes c b (step_wire o p c b).0
+  wire_writes None p now = current_writes p.current p now
+  wire_writes (Some l) p now = quietly _ refl refl
+
+  pipe_writes : (o : Option Pipe) (p : Processor) → current c b.parts ≡ p.current → Writes c b (step_pipe o p c b).0
+  pipe_writes None p now = quietly b refl refl
+  pipe_writes (Some pipe) p now = wire_writes (least_line pipe.wire) p now
+
+  processor_writes : (o : Option Processor) → slice_get b.parts.processors c ≡ o → Writes c b (step_processor o c b).0
+  processor_writes None e = quietly b refl refl
+  processor_writes (Some p) e = either p.stopped (b, Stopped) _ (quietly b refl refl) (pipe_writes (slice_get b.parts.pipes c) p (ap current_of e))
+
+  pub step_writes : Writes c b (step c b).0
+  unfolding step
+  step_writes = processor_writes (slice_get b.parts.processors c) refl

@@ -14,9 +14,9 @@ use Rattle.evm_model.specs.declared.event.Event.{Event}
 use Rattle.evm_walk.proofs.Runs.{IsKept, replay_keeps}
 use Rattle.evm_runs.specs.Kept.{AllHaveRegisters, SameSizes, SizesStay, IsAsBooted, StaysAsBooted, StaysAsLoaded}
 use Rattle.evm_runs.proofs.Commands.{row-counts}
-use Rattle.evm_runs.proofs.Frames.{keeps_pc, change-registers}
+use Rattle.evm_runs.proofs.Added.{change-registers}
 use Rattle.evm_runs.proofs.Replays.{loads_so_many_bytes}
-use Rattle.evm_runs.proofs.Added.{SameCounts, same_then}
+use Rattle.evm_runs.proofs.Steps.{SameCounts, same_then}
 
 record Same (old new : State) : Type 0 where
   boot : new.boot ≡ old.boot
@@ -88,7 +88,7 @@ as_loaded byte entry boot = record {
   some_tasks = omega arith;
   few_tasks = omega arith;
   harts = refl;
-  registers = change-registers 0 (set_pc entry) (first_hart boot.ram ∷ []) (keeps_pc entry) (first_registers boot.ram);
+  registers = change-registers 0 0 0 (set_pc entry) (first_hart boot.ram ∷ []) (λ x. refl) (first_registers boot.ram);
 }
 
 pub stays_as_booted : StaysAsBooted

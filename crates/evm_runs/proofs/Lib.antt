@@ -1,8 +1,6 @@
-pub mod Acts
 pub mod Added
 pub mod Balance
 pub mod Breakpoints
-pub mod Calling
 pub mod Commands
 pub mod First
 pub mod Fit
@@ -10,14 +8,7 @@ pub mod Frames
 pub mod Instructions
 pub mod Kept
 pub mod Least
-pub mod Locking
-pub mod Own
-pub mod PartFrames
-pub mod Passing
 pub mod Raised
 pub mod Replays
 pub mod Runs
-pub mod Settled
-pub mod Spending
 pub mod Steps
-pub mod Wakings

@@ -5,6 +5,7 @@ use Rattle.std.proofs.lemmas.Bool.{cases_eq}
 use Rattle.std.proofs.lemmas.Bool.Decides.{nat_tests}
 use Rattle.std.proofs.lemmas.Option.{slice_get-map}
 use Rattle.evm_lines.specs.Lines.{has_line}
+use Rattle.evm_model.specs.Bounds.{STAMPS_PER_EVENT}
 use Rattle.evm_model.specs.Commands.{tick}
 use Rattle.evm_model.specs.Lists.{change}
 use Rattle.evm_model.specs.Pipes.{Pipe, raise, more_if, count_raise, set_stall, stage_of, on_passage, count_receipt}
@@ -20,9 +21,8 @@ use Rattle.evm_model.specs.declared.stage.Stage.TheVariants.{OutOfBand, InBand}
 use Rattle.evm_model.proofs.Lists.{change-cases, change-elsewhere}
 use Rattle.evm_walk.proofs.Counted.{Counted, raise-counted, receive-counted, timer-counted, play-counted}
 use Rattle.evm_walk.proofs.Lift.{Lifts, At, lift}
-use Rattle.evm_walk.proofs.Moves.{PipeMove, raises, receives, plays_timer, plays_oob, plays_in_band, stalls, Takes}
-use Rattle.evm_walk.proofs.Rows.{row_takes, tick_takes}
-use Rattle.evm_walk.proofs.Sets.{ArePipes}
+use Rattle.evm_walk.proofs.Rows.{MOVES, acting, may_raise, row_walks}
+use Rattle.evm_walk.proofs.Walk.{Actor, PipeMove, raises, receives, plays_timer, plays_oob, plays_in_band, stalls, ArePipes, Walk}
 use Rattle.evm_runs.specs.Balance.{is_raise}
 
 -- line l of a pipe was raised r times
@@ -51,21 +51,21 @@ unfolding set_stall
 stall-raised l r OutOfBand b p s = record { times = s.times }
 stall-raised l r InBand b p s = record { times = s.times }
 
-move-raised : (l r line n : ℕ) (p q : Pipe) → (l ≡ line → ⊥) → PipeMove line n p q → LineRaised l r p → LineRaised l r q
-move-raised l r _ _ _ _ o (raises line p h) s = counted-raised l line r _ p _ (raise-counted line p) (λ n same. absurd (o same)) s
-move-raised l r _ _ _ _ o (receives line m p h) s = counted-raised l m r _ p _ (receive-counted m p) (λ n same. passage-raised (stage_of m) _ (count_receipt n)) s
-move-raised l r _ _ _ _ o (plays_timer line p h) s = counted-raised l 0 r _ p _ (timer-counted p) (λ n same. refl) s
-move-raised l r _ _ _ _ o (plays_oob line m p other h) s = counted-raised l m r _ p _ (play-counted OutOfBand m p) (λ n same. refl) s
-move-raised l r _ _ _ _ o (plays_in_band line m p h) s = counted-raised l m r _ p _ (play-counted InBand m p) (λ n same. refl) s
-move-raised l r _ _ _ _ o (stalls line stage b p) s = stall-raised l r stage b p s
+move-raised : (l r : ℕ) (may : ℕ → Bool) (n : ℕ) (p q : Pipe) → may l ≡ false → PipeMove may n p q → LineRaised l r p → LineRaised l r q
+move-raised l r may _ _ _ o (raises m p h on) s = counted-raised l m r _ p _ (raise-counted m p) (λ n same. let no : true ≡ false = sym on ∙ ap may (sym same) ∙ o in cc) s
+move-raised l r may _ _ _ o (receives m p h) s = counted-raised l m r _ p _ (receive-counted m p) (λ n same. passage-raised (stage_of m) _ (count_receipt n)) s
+move-raised l r may _ _ _ o (plays_timer p h) s = counted-raised l 0 r _ p _ (timer-counted p) (λ n same. refl) s
+move-raised l r may _ _ _ o (plays_oob m p other h) s = counted-raised l m r _ p _ (play-counted OutOfBand m p) (λ n same. refl) s
+move-raised l r may _ _ _ o (plays_in_band m p h) s = counted-raised l m r _ p _ (play-counted InBand m p) (λ n same. refl) s
+move-raised l r may _ _ _ o (stalls stage b p) s = stall-raised l r stage b p s
 
--- moves that raise another line
-takes-raised : (c l r a line most : ℕ) (old new : Parts) → (l ≡ line → ⊥) → Takes a line most old new → RaisedIs c l r old → RaisedIs c l r new
-takes-raised c l r a line most old new o t s =
+-- a walk that may not raise it there
+walk-raised : (c l r : ℕ) (a : Actor) (old : Parts) (n s : ℕ) (k : Parts) → a.may c l ≡ false → ArePipes old → Walk a old n s k → RaisedIs c l r old → RaisedIs c l r k
+walk-raised c l r a old n s k o are w h =
     let P : ℕ → Pipe → Type 0 = λ b p. LineRaised l r p in
-    let lifts : Lifts line P = record { more = λ b n p h. h; moved = λ b n p q. move-raised l r line n p q o } in
-    let after : At P c (0 + t.count) new = lift P a line t.count 0 c old new lifts t.moves (record { holds = λ p e. record { times = λ n g. s.times p n e g } }) in
-    record { times = λ p n e g. (after.holds p e).times n g }
+    let lifts : Lifts (a.may c) P = record { more = λ b m p g q. q; moved = λ b m p q. move-raised l r (a.may c) m p q o } in
+    let after : At P c (0 + n) k = lift a old P c lifts are n s 0 k w (record { holds = λ p e. record { times = λ m g. h.times p m e g } }) in
+    record { times = λ p m e g. (after.holds p e).times m g }
 
 -- ---- this line is raised
 raise-raised : (l r : ℕ) (p : Pipe) → LineRaised l r p → LineRaised l (r + 1) (raise l p)
@@ -86,9 +86,6 @@ raised-there c l r k s = record {
   ];
 }
 
-raised-elsewhere : (c d l m r : ℕ) (k : Parts) → (c ≡ d → ⊥) → RaisedIs c l r k → RaisedIs c l r (on_pipe d (raise m) k)
-raised-elsewhere c d l m r k o s = record { times = λ p n e g. s.times p n (sym (change-elsewhere (raise m) k.pipes d c o) ∙ e) g }
-
 raised-everywhere : (c r : ℕ) (k : Parts) → RaisedIs c 0 r k → RaisedIs c 0 (r + 1) (tick k)
 unfolding tick
 raised-everywhere c r k s = record { times = λ p n e g. ticked (slice_get k.pipes c) p n refl (sym (slice_get-map (raise 0) k.pipes c) ∙ e) g }
@@ -100,46 +97,38 @@ raised-everywhere c r k s = record { times = λ p n e g. ticked (slice_get k.pip
         (raise-raised 0 r old (record { times = λ m h. s.times old m e h })).times n now
 
 -- ---- a row
-no_more : (c d l m r : ℕ) → (c ≡ d → l ≡ m → ⊥) → more_if (d == c && m == l) r ≡ r
-no_more c d l m r o = elim (cases_eq c d) [
-  | inl same ↦ let test : (m == l) ≡ false = let other : l ≡ m → ⊥ = o same in grind (arith, nat_tests) in rw test (last (d == c))
-  | inr other ↦ let test : (d == c) ≡ false = grind (arith, nat_tests) in rw test refl
-]
-  where
-    last : (b : Bool) → more_if (b && false) r ≡ r
-    last true = refl
-    last false = refl
+both : (a b : Bool) → (a && b) ≡ true → (a ≡ true) × (b ≡ true)
+both true b h = (refl, h)
+both false b h = cc
 
-one_more : (d l r : ℕ) → more_if (d == d && l == l) r ≡ r + 1
-one_more d l r = let one : (d == d) ≡ true = grind (arith, nat_tests) in let two : (l == l) ≡ true = grind (arith, nat_tests) in rw (one, two) refl
+-- whether this line is raised on this processor
+raise_if : (hit : Bool) (c d l m r : ℕ) (k : Parts) → (d == c && m == l) ≡ hit → (hit ≡ false → RaisedIs c l r (on_pipe d (raise m) k)) → RaisedIs c l r k → RaisedIs c l (more_if hit r) (on_pipe d (raise m) k)
+raise_if true c d l m r k e quiet s =
+    let b = both (d == c) (m == l) e in
+    let there : d ≡ c = let one = b.0 in grind (arith, nat_tests) in
+    let line : m ≡ l = let one = b.1 in grind (arith, nat_tests) in
+    rw (there, line) (raised-there c l r k s)
+raise_if false c d l m r k e quiet s = quiet refl
 
-raise_on : (c d l m r most : ℕ) (k : Parts) → Takes d m most k (on_pipe d (raise m) k) → RaisedIs c l r k → RaisedIs c l (more_if (d == c && m == l) r) (on_pipe d (raise m) k)
-raise_on c d l m r most k t s = elim (cases_eq c d) [
-  | inl same ↦ elim (cases_eq l m) [
-    | inl line ↦ rw (same, line, one_more d m r) (raised-there d m r k (rw (← same, ← line) s))
-    | inr other ↦ rw (no_more c d l m r (λ x y. other y)) (takes-raised c l r d m most k _ other t s)
-  ]
-  | inr other ↦ rw (no_more c d l m r (λ x y. other x)) (raised-elsewhere c d l m r k other s)
-]
+tick_if : (hit : Bool) (c l r : ℕ) (k : Parts) → (l == 0) ≡ hit → (hit ≡ false → RaisedIs c l r (tick k)) → RaisedIs c l r k → RaisedIs c l (more_if hit r) (tick k)
+tick_if true c l r k e quiet s = let zero_line : l ≡ 0 = grind (arith, nat_tests) in rw zero_line (raised-everywhere c r k (rw (← zero_line) s))
+tick_if false c l r k e quiet s = quiet refl
 
-ticks_on : (c l r : ℕ) (k : Parts) → RaisedIs c l r k → RaisedIs c l (more_if (l == 0) r) (tick k)
-ticks_on c l r k s = elim (cases_eq l 0) [
-  | inl same ↦ rw same (raised-everywhere c r k (rw (← same) s))
-  | inr other ↦ let test : (l == 0) ≡ false = grind (arith, nat_tests) in rw test (takes-raised c l r 0 0 1 k (tick k) other (tick_takes 0 k) s)
-]
+module _ (b : Board) (c l r : ℕ) (are : ArePipes b.parts) (other : l ≡ 1 → ⊥) (s : RaisedIs c l r b.parts) where
+  not_raised : (event : Event) → board_refusal event b ≡ None → may_raise event c l ≡ false → RaisedIs c l r (row event b).0.parts
+  not_raised event e o = walk-raised c l r (acting event b.parts) b.parts MOVES STAMPS_PER_EVENT (row event b).0.parts o are (row_walks event b e) s
 
-pub row-raised : (event : Event) (b : Board) (c l r : ℕ) → board_refusal event b ≡ None → ArePipes b.parts → (l ≡ 1 → ⊥) → RaisedIs c l r b.parts
-    → RaisedIs c l (more_if (is_raise c l event) r) (row event b).0.parts
-unfolding row
-row-raised (Step d) b c l r e a o s = takes-raised c l r d 1 _ b.parts _ o (row_takes (Step d) b e a) s
-row-raised Tick b c l r e a o s = ticks_on c l r b.parts s
-row-raised (Raise d m) b c l r e a o s = raise_on c d l m r _ b.parts (row_takes (Raise d m) b e a) s
-row-raised (Bell d m) b c l r e a o s = raise_on c d l m r _ b.parts (row_takes (Bell d m) b e a) s
-row-raised (Stop d) b c l r e a o s = takes-raised c l r d 1 _ b.parts _ o (row_takes (Stop d) b e a) s
-row-raised (Go d) b c l r e a o s = takes-raised c l r d 1 _ b.parts _ o (row_takes (Go d) b e a) s
-row-raised (StepI d) b c l r e a o s = takes-raised c l r d 1 _ b.parts _ o (row_takes (StepI d) b e a) s
-row-raised (SetReg d x value) b c l r e a o s = takes-raised c l r d 1 _ b.parts _ o (row_takes (SetReg d x value) b e a) s
-row-raised (SetPc d pc) b c l r e a o s = takes-raised c l r d 1 _ b.parts _ o (row_takes (SetPc d pc) b e a) s
-row-raised (Poke address bytes) b c l r e a o s = takes-raised c l r 0 1 _ b.parts _ o (row_takes (Poke address bytes) b e a) s
-row-raised (Break address) b c l r e a o s = takes-raised c l r 0 1 _ b.parts _ o (row_takes (Break address) b e a) s
-row-raised (Unbreak address) b c l r e a o s = takes-raised c l r 0 1 _ b.parts _ o (row_takes (Unbreak address) b e a) s
+  pub row-raised : (event : Event) → board_refusal event b ≡ None → RaisedIs c l (more_if (is_raise c l event) r) (row event b).0.parts
+  unfolding row
+  row-raised (Step d) e = let o : (l == 1) ≡ false = grind (arith, nat_tests) in not_raised (Step d) e o
+  row-raised Tick e = tick_if (l == 0) c l r b.parts refl (λ o. not_raised Tick e o) s
+  row-raised (Raise d m) e = raise_if (d == c && m == l) c d l m r b.parts refl (λ o. not_raised (Raise d m) e o) s
+  row-raised (Bell d m) e = raise_if (d == c && m == l) c d l m r b.parts refl (λ o. not_raised (Bell d m) e o) s
+  row-raised (Stop d) e = not_raised (Stop d) e refl
+  row-raised (Go d) e = not_raised (Go d) e refl
+  row-raised (StepI d) e = let o : (l == 1) ≡ false = grind (arith, nat_tests) in not_raised (StepI d) e o
+  row-raised (SetReg d x value) e = not_raised (SetReg d x value) e refl
+  row-raised (SetPc d pc) e = not_raised (SetPc d pc) e refl
+  row-raised (Poke address bytes) e = not_raised (Poke address bytes) e refl
+  row-raised (Break address) e = not_raised (Break address) e refl
+  row-raised (Unbreak address) e = not_raised (Unbreak address) e refl

@@ -4,7 +4,7 @@ use Rattle.std.specs.Prelude.{slice_get, count_by, replicate}
 use Rattle.std.proofs.lemmas.List.Sums.{sum_by-append}
 use Rattle.evm_lines.specs.Laws.{IsLineSet-empty}
 use Rattle.evm_lines.specs.declared.TheConstants.{LINES}
-use Rattle.evm_model.specs.Bounds.{PER_EVENT}
+use Rattle.evm_model.specs.Bounds.{STAMPS_PER_EVENT}
 use Rattle.evm_model.specs.Load.{start_loaded, load_board}
 use Rattle.evm_model.specs.Pipes.{Pipe, idle_pipe, no_counts, more_if}
 use Rattle.evm_model.specs.Replay.{start}
@@ -12,10 +12,9 @@ use Rattle.evm_model.specs.State.{State, Parts, booted, booted_parts}
 use Rattle.evm_model.specs.declared.event.Event.{Event}
 use Rattle.evm_model.proofs.Lists.{slice_get-replicate}
 use Rattle.evm_walk.proofs.Lift.{Lifts, lift}
-use Rattle.evm_walk.proofs.Moves.{Takes}
-use Rattle.evm_walk.proofs.Rows.{row_takes, actor, raised_line}
+use Rattle.evm_walk.proofs.Rows.{MOVES, acting, row_walks}
 use Rattle.evm_walk.proofs.Runs.{IsKept, replay_keeps}
-use Rattle.evm_walk.proofs.Sets.{ArePipes}
+use Rattle.evm_walk.proofs.Walk.{Actor, ArePipes, Walk}
 use Rattle.std.proofs.lemmas.List.{length-replicate}
 use Rattle.evm_runs.specs.Balance.{Balance, IsFresh, AlwaysBalances, AlwaysBalancesLoaded, AlwaysBalancesFresh, is_raise}
 use Rattle.evm_runs.proofs.Balance.{PipeBalances, move-balances}
@@ -24,11 +23,15 @@ use Rattle.evm_runs.proofs.Raised.{RaisedIs, row-raised}
 pub record PipesBalance (k : Parts) : Type 0 where
   pub each : (c : ℕ) (p : Pipe) → slice_get k.pipes c ≡ Some p → PipeBalances p
 
-takes-balance : (a line most : ℕ) (old new : Parts) → Takes a line most old new → PipesBalance old → PipesBalance new
-takes-balance a line most old new t s =
+walk-balance : (a : Actor) (old : Parts) (n s : ℕ) (k : Parts) → Walk a old n s k → PipesBalance old → PipesBalance k
+walk-balance a old n s k w h =
     let P : ℕ → Pipe → Type 0 = λ b p. PipeBalances p in
-    let lifts : Lifts line P = record { more = λ b n p h. h; moved = λ b n p q. move-balances line n p q } in
-    record { each = λ c p e. (lift P a line t.count 0 c old new lifts t.moves (record { holds = s.each c })).holds p e }
+    let are : ArePipes old = record { each = λ c p e. (h.each c p e).pipe } in
+    record {
+      each = λ c p e.
+          let lifts : Lifts (a.may c) P = record { more = λ b m q g x. x; moved = λ b m q y. move-balances (a.may c) m q y } in
+          (lift a old P c lifts are n s 0 k w (record { holds = h.each c })).holds p e;
+    }
 
 pub pipes_of : (k : Parts) → PipesBalance k → ArePipes k
 pipes_of k s = record { each = λ c p e. (s.each c p e).pipe }
@@ -48,8 +51,8 @@ count_last test events event = sum_by-append (λ (e : Event). cond (test e) 1 0)
 run_kept : IsKept RunBalances
 run_kept = record {
   accepted = λ s event room e h. record {
-    pipes = takes-balance (actor event) (raised_line event) PER_EVENT s.board.parts _ (row_takes event s.board e (pipes_of s.board.parts h.pipes)) h.pipes;
-    raised = λ c l o. rw (count_last (is_raise c l) s.journal event) (row-raised event s.board c l _ e (pipes_of s.board.parts h.pipes) o (h.raised c l o));
+    pipes = walk-balance (acting event s.board.parts) s.board.parts MOVES STAMPS_PER_EVENT _ (row_walks event s.board e) h.pipes;
+    raised = λ c l o. rw (count_last (is_raise c l) s.journal event) (row-raised s.board c l _ (pipes_of s.board.parts h.pipes) o (h.raised c l o) event e);
   };
 }
 

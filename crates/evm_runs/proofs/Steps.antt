@@ -1,102 +1,63 @@
 -- What a step changes, and how many there are of each afterwards.
-use Rattle.std.proofs.Common.{◌≡◌, ℕ, List, [], ◌∷◌, Bool, true, false, Option, Some, None, length, ◌⊎◌, inl, inr, refl, ap, sym, ◌∙◌, arith}
-use Rattle.std.specs.Prelude.{slice_get, option_map, ◌==◌, ◌&&◌, not, if◌then◌else◌}
+use Rattle.std.proofs.Common.{◌≡◌, ℕ, ◌+◌, ◌≤◌, List, [], ◌∷◌, Bool, true, false, not, Option, Some, None, length, ◌⊎◌, inl, inr, refl, ap, sym, ◌∙◌, subst, arith}
+use Rattle.std.specs.Prelude.{slice_get, option_map, is_none, ◌==◌, if◌then◌else◌}
 use Rattle.evm_lines.specs.Lines.{has_line, least_line}
 use Rattle.evm_exec.specs.declared.hart.Hart.{Hart}
 use Rattle.evm_ram.specs.Laws.{length-write_at}
-use Rattle.evm_model.specs.Commands.{is_set}
 use Rattle.evm_model.specs.Harts.{argument}
-use Rattle.evm_model.specs.Instructions.{stop, execute}
-use Rattle.evm_model.specs.Lists.{each}
-use Rattle.evm_model.specs.Pipes.{Pipe, raise, receive}
-use Rattle.evm_model.specs.Rows.{run, step_hart, step_current, step_wire, step_pipe, step_processor, step}
-use Rattle.evm_model.specs.Settle.{current, current_of, settle, nudge, nudge_pipe, settle_and_nudge, wants_nudge}
-use Rattle.evm_model.specs.State.{Board, Memory, Parts, on_processor, on_pipe, on_parts}
-use Rattle.evm_model.specs.declared.event.Answer.{Answer}
-use Rattle.evm_model.specs.declared.event.Answer.TheVariants.{Stopped}
-use Rattle.evm_model.specs.declared.limits.TheConstants.{SLICE}
-use Rattle.evm_model.specs.declared.processor.Processor.{Processor}
+use Rattle.evm_model.specs.Memory.{fetch}
+use Rattle.evm_model.specs.OobCalls.{is_scheduled_task}
+use Rattle.evm_model.specs.Pipes.{Pipe, raise}
+use Rattle.evm_model.specs.Rows.{step}
+use Rattle.evm_model.specs.Settle.{current, nudge, nudge_pipe, wants_nudge}
+use Rattle.evm_model.specs.State.{Board, Memory, Parts}
+use Rattle.evm_model.specs.declared.limits.TheConstants.{SLICE, TASK_LIMIT}
+use Rattle.evm_model.specs.declared.mutex.Mutex.{Mutex}
 use Rattle.evm_model.specs.declared.task.Task.{Task}
-use Rattle.evm_model.proofs.Lists.{length-change, slice_get-each, length-each_from}
-use Rattle.evm_runs.specs.Changes.{StoreWrites, StaysBy, Spends, Schedules, Hears, StepChanges, Added, Made, Typed}
-use Rattle.evm_runs.proofs.Added.{SameCounts, more_tasks, more_harts, few_more, each_more, added_rests, added_spent, passes_added, others_pipes, spends_pipes, added_pipes}
-use Rattle.evm_runs.proofs.Frames.{Frame, passes_first, passes_second, one_change, frame_none, frame_then, frame_wider}
-use Rattle.evm_runs.proofs.PartFrames.{frame_processor, frame_pipe}
-use Rattle.evm_runs.proofs.Own.{own_processor}
-use Rattle.evm_runs.proofs.Settled.{Settles, Same, settles, own_settles}
-use Rattle.evm_runs.proofs.Spending.{frame_spent}
-use Rattle.evm_runs.proofs.Instructions.{Asks, executes}
+use Rattle.evm_model.proofs.Lists.{slice_get-each}
+use Rattle.evm_walk.proofs.Rows.{word_calls, MaySteps, Stepped, steps, stepped_walk}
+use Rattle.evm_walk.proofs.Sizes.{walk_sizes, walk_least, walk_ticks}
+use Rattle.evm_walk.proofs.Walk.{Actor, Untouched, Walk, start}
+use Rattle.evm_runs.specs.Changes.{StoreWrites, Inherits, StaysBy, Spends, MutexChanges, MutexesStay, Schedules, Hears, StepChanges, Added}
+use Rattle.evm_runs.specs.Kept.{AllHaveRegisters}
+use Rattle.evm_runs.proofs.Added.{walk_registers, walk_added, walk_made, walk_mutexes, walk_typed, walk_processors, walk_other_pipes}
+use Rattle.evm_runs.proofs.Frames.{one_change, Fares, Asked, Frame, walk_frame}
+use Rattle.evm_runs.proofs.Instructions.{Calls, called, Writes, step_writes}
 
--- ---- a step
--- what a step has changed before it settles
-record Before (c : ℕ) (old new : Board) : Type 0 where
-  asked : List Task
-  scheduled : (asked ≡ old.parts.tasks) ⊎ Schedules c old asked
-  frame : Frame c (current c old.parts) (record old.parts { tasks = asked }) new.parts
-  added : Added old.parts new.parts
-  made : Made old.parts.mutexes new.parts.mutexes
-  typed : Typed old.parts new.parts
-  breakpoints : new.breakpoints ≡ old.breakpoints
-  memory : (new.memory ≡ old.memory) ⊎ StoreWrites c old new
-  runs : current c new.parts ≡ current c old.parts
-  hears : Hears c old.parts → (asked ≡ old.parts.tasks) × Same c old.parts new.parts
+-- as many of each, but for tasks, of which there may be more, a hart for each; and tasks keep their registers
+pub record SameCounts (old new : Board) : Type 0 where
+  pub processors : length new.parts.processors ≡ length old.parts.processors
+  pub pipes : length new.parts.pipes ≡ length old.parts.pipes
+  pub ram : length new.memory.ram ≡ length old.memory.ram
+  pub tasks : length old.parts.tasks ≤ length new.parts.tasks
+  pub harts : length old.parts.harts ≤ length new.parts.harts
+  pub few_tasks : length old.parts.tasks ≤ TASK_LIMIT → length new.parts.tasks ≤ TASK_LIMIT
+  pub a_hart_each : length old.parts.harts ≡ length old.parts.tasks → length new.parts.harts ≡ length new.parts.tasks
+  pub registers : AllHaveRegisters old.parts.harts → AllHaveRegisters new.parts.harts
 
--- .. and before it tells the others
-record After (c : ℕ) (old new : Board) : Type 0 where
-  asked : List Task
-  scheduled : (asked ≡ old.parts.tasks) ⊎ Schedules c old asked
-  frame : Frame c (current c old.parts) (record old.parts { tasks = asked }) new.parts
-  added : Added old.parts new.parts
-  made : Made old.parts.mutexes new.parts.mutexes
-  typed : Typed old.parts new.parts
-  breakpoints : new.breakpoints ≡ old.breakpoints
-  memory : (new.memory ≡ old.memory) ⊎ StoreWrites c old new
-  hears : Hears c old.parts → (asked ≡ old.parts.tasks) × ((t : ℕ) → current c old.parts ≡ Some t → StaysBy None c t old.parts new.parts ⊎ Spends c t old.parts new.parts) × (new.parts.mutexes ≡ old.parts.mutexes)
+pub same_then : (x y z : Board) → SameCounts x y → SameCounts y z → SameCounts x z
+same_then x y z p q = record {
+  processors = q.processors ∙ p.processors;
+  pipes = q.pipes ∙ p.pipes;
+  ram = q.ram ∙ p.ram;
+  tasks = omega (arith, p.tasks, q.tasks);
+  harts = omega (arith, p.harts, q.harts);
+  few_tasks = λ few. q.few_tasks (p.few_tasks few);
+  a_hart_each = λ each. q.a_hart_each (p.a_hart_each each);
+  registers = λ h. q.registers (p.registers h);
+}
 
-pub record StepDone (c : ℕ) (old new : Board) : Type 0 where
-  pub changes : StepChanges c old new
-  pub counts : SameCounts old new
+each_more : (x y : Parts) → Added x y → length x.harts ≡ length x.tasks → length y.harts ≡ length y.tasks
+each_more x y p each = elim p [
+  | inl same ↦ same.1 ∙ each ∙ sym same.0
+  | inr a ↦ a.harts ∙ ap (λ n. n + 1) each ∙ sym a.tasks
+]
 
 ram_count : (c : ℕ) (old new : Board) → (new.memory ≡ old.memory) ⊎ StoreWrites c old new → length new.memory.ram ≡ length old.memory.ram
 ram_count c old new (inl same) = ap (λ (m : Memory). length m.ram) same
 ram_count c old new (inr w) = length-write_at old.memory.ram w.address w.width w.value new.memory.ram w.ram
 
-rests_same : (c t : ℕ) (old new : Parts) → Same c old new → StaysBy None c t old new
-rests_same c t old new s = inl (record {
-  task = λ task e. ap (λ (all : List Task). slice_get all t) s.tasks ∙ e;
-  hart = λ hart e. ap (λ (all : List Hart). slice_get all t) s.harts ∙ e;
-})
-
-quiet_step : (c : ℕ) (old new : Board) → Before c old new → StepDone c old new
-quiet_step c old new h = record {
-  changes = record {
-    asked = h.asked;
-    scheduled = h.scheduled;
-    breakpoints = h.breakpoints;
-    memory = h.memory;
-    ticks = h.frame.ticks;
-    stamps = h.frame.stamps;
-    processors = h.frame.processors;
-    pipes = λ d other. inl (h.frame.pipes d other);
-    others = h.frame.others;
-    mutexes = h.frame.mutexes;
-    hears = λ line. let quiet = h.hears line in (quiet.0, (λ t runs. inl (rests_same c t old.parts new.parts quiet.1)), quiet.1.mutexes);
-    added = h.added;
-    made = h.made;
-    typed = h.typed;
-  };
-  counts = record {
-    processors = h.frame.processors_count;
-    pipes = h.frame.pipes_count;
-    ram = ram_count c old new h.memory;
-    tasks = more_tasks old.parts new.parts h.added;
-    harts = more_harts old.parts new.parts h.added;
-    few_tasks = few_more old.parts new.parts h.added;
-    a_hart_each = each_more old.parts new.parts h.added;
-    registers = h.frame.registers;
-  };
-}
-
+-- ---- the others are told
 told_if : (own wants : Bool) (p : Pipe) → (Some (if own then p else (if wants then raise 1 p else p)) ≡ Some p) ⊎ (Some (if own then p else (if wants then raise 1 p else p)) ≡ Some (raise 1 p))
 told_if true wants p = inl refl
 told_if false true p = inr refl
@@ -106,219 +67,202 @@ told : (c d : ℕ) (k : Parts) (o : Option Pipe) → (option_map (nudge_pipe c k
 told c d k None = inl refl
 told c d k (Some p) = told_if (d == c) (wants_nudge d p k) p
 
-same_writes : (c : ℕ) (f : Parts → Parts) (old new : Board) → (new.memory ≡ old.memory) ⊎ StoreWrites c old new → ((on_parts f new).memory ≡ old.memory) ⊎ StoreWrites c old (on_parts f new)
-same_writes c f old new (inl same) = inl same
-same_writes c f old new (inr w) = inr (record {
-  task = w.task;
-  hart = w.hart;
-  word = w.word;
-  inst = w.inst;
-  width = w.width;
-  address = w.address;
-  value = w.value;
-  runs = w.runs;
-  has = w.has;
-  fetched = w.fetched;
-  decodes = w.decodes;
-  stores = w.stores;
-  rest = w.rest;
-  ram = w.ram;
-})
-
-nudged_step : (c : ℕ) (old new : Board) → After c old new → StepDone c old (on_parts (nudge c) new)
+nudged : (c d : ℕ) (k : Parts) → (slice_get (nudge c k).pipes d ≡ slice_get k.pipes d) ⊎ (slice_get (nudge c k).pipes d ≡ option_map (raise 1) (slice_get k.pipes d))
 unfolding nudge
-nudged_step c old new h = let k : Parts = new.parts in record {
-  changes = record {
-    asked = h.asked;
-    scheduled = h.scheduled;
-    breakpoints = h.breakpoints;
-    memory = same_writes c (nudge c) old new h.memory;
-    ticks = h.frame.ticks;
-    stamps = h.frame.stamps;
-    processors = h.frame.processors;
-    pipes = λ d other.
-        let at : slice_get (each (nudge_pipe c k) k.pipes) d ≡ option_map (nudge_pipe c k d) (slice_get k.pipes d) = slice_get-each (nudge_pipe c k) k.pipes d in
-        let before : slice_get k.pipes d ≡ slice_get old.parts.pipes d = h.frame.pipes d other in
-        elim (told c d k (slice_get k.pipes d)) [
-          | inl same ↦ inl (at ∙ same ∙ before)
-          | inr raised ↦ inr (at ∙ raised ∙ ap (option_map (raise 1)) before)
-        ];
-    others = λ t other. others_pipes (current c old.parts) c t (record old.parts { tasks = h.asked }) k (each (nudge_pipe c k) k.pipes) (h.frame.others t other);
-    mutexes = h.frame.mutexes;
-    hears = λ line. let quiet = h.hears line in (quiet.0, (λ t runs. spends_pipes c t old.parts k (each (nudge_pipe c k) k.pipes) (quiet.1 t runs)), quiet.2);
-    added = added_pipes old.parts k (each (nudge_pipe c k) k.pipes) h.added;
-    made = h.made;
-    typed = h.typed;
-  };
-  counts = record {
-    processors = h.frame.processors_count;
-    pipes = length-each_from 0 (nudge_pipe c k) k.pipes ∙ h.frame.pipes_count;
-    ram = ram_count c old new h.memory;
-    tasks = more_tasks old.parts new.parts h.added;
-    harts = more_harts old.parts new.parts h.added;
-    few_tasks = few_more old.parts new.parts h.added;
-    a_hart_each = each_more old.parts new.parts h.added;
-    registers = h.frame.registers;
-  };
-}
+nudged c d k = elim (told c d k (slice_get k.pipes d)) [
+  | inl same ↦ inl (slice_get-each (nudge_pipe c k) k.pipes d ∙ same)
+  | inr raised ↦ inr (slice_get-each (nudge_pipe c k) k.pipes d ∙ raised)
+]
 
--- a step ends by settling, and telling the others
-settled_step : (c : ℕ) (old new : Board) → Before c old new → StepDone c old (on_parts (settle_and_nudge c) new)
-unfolding settle_and_nudge
-settled_step c old new h =
-    let k : Parts = new.parts in
-    let s : Settles c k (settle c k) = settles c k in
-    let o : Option ℕ = current c old.parts in
-    let asked : Parts = record old.parts { tasks = h.asked } in
-    nudged_step c old (on_parts (settle c) new) (record {
-      asked = h.asked;
-      scheduled = h.scheduled;
-      frame = frame_then c o asked k (settle c k) (passes_second o old.parts.mutexes k.mutexes (settle c k).mutexes (s.mutexes ∙ s.spent.mutexes)) h.frame
-          (frame_then c o k s.between (settle c k) (passes_second o k.mutexes s.between.mutexes (settle c k).mutexes s.mutexes) (frame_spent c o k s.between h.runs s.spent) (frame_wider c o s.between (settle c k) s.frame));
-      added = added_rests c old.parts s.between (settle c k) s.frame s.still (added_spent c old.parts k s.between s.spent h.added);
-      made = rw (s.mutexes ∙ s.spent.mutexes) h.made;
-      typed = elim h.typed [
-        | inl same ↦ inl (s.still.console ∙ s.spent.console ∙ same)
-        | inr more ↦ inr (more.0, s.still.console ∙ s.spent.console ∙ more.1)
-      ];
-      breakpoints = h.breakpoints;
-      memory = same_writes c (settle c) old new h.memory;
-      hears = λ line. let quiet = h.hears line in (quiet.0, (λ t runs. own_settles c t old.parts k (settle c k) quiet.1 s), s.mutexes ∙ s.spent.mutexes ∙ quiet.1.mutexes);
-    })
+-- ---- who acts in a step
+abbrev pub hart_calls : Option Hart → Memory → Bool
+hart_calls None m = false
+hart_calls (Some x) m = word_calls (fetch x.pc m) x
 
-same_all : (c : ℕ) (k : Parts) → Same c k k
-same_all c k = record { tasks = refl; harts = refl; mutexes = refl; stamps = omega arith; runs = refl }
+abbrev pub task_calls : Option ℕ → Board → Bool
+task_calls None b = false
+task_calls (Some t) b = hart_calls (slice_get b.parts.harts t) b.memory
 
--- no task changes, nor memory
-no_task : (c : ℕ) (k : Parts) (b : Board) → Frame c (current c b.parts) b.parts k → Added b.parts k → Typed b.parts k → Same c b.parts k → Before c b (record b { parts = k })
-no_task c k b f a y s = record {
-  asked = b.parts.tasks;
-  scheduled = inl refl;
-  frame = f;
-  added = a;
-  made = inl (ap length s.mutexes);
-  typed = y;
-  breakpoints = refl;
-  memory = inl refl;
-  runs = s.runs;
-  hears = λ line. (refl, s);
-}
+-- whether a line is on the wire
+abbrev pub hears : Option Pipe → Bool
+hears None = false
+hears (Some p) = not (is_none (least_line p.wire))
 
-none_yet : (c : ℕ) (b : Board) → Before c b b
-none_yet c b = no_task c b.parts b (frame_none c (current c b.parts) b.parts) (inl (refl, refl)) (inl refl) (same_all c b.parts)
-
-on_processor_only : (c : ℕ) (f : Processor → Processor) (b : Board) → ((p : Processor) → (f p).current ≡ p.current) → Before c b (on_parts (on_processor c f) b)
-on_processor_only c f b h =
-    no_task c (on_processor c f b.parts) b (frame_processor c (current c b.parts) f b.parts) (inl (refl, refl)) (inl refl)
-    (record { tasks = refl; harts = refl; mutexes = refl; stamps = omega arith; runs = (own_processor c 0 f b.parts h).runs })
-
-asked_count : (c t : ℕ) (hart : Hart) (b : Board) (asked : List Task) → (asked ≡ b.parts.tasks) ⊎ Asks hart t b asked → length asked ≡ length b.parts.tasks
-asked_count c t hart b asked (inl same) = ap length same
-asked_count c t hart b asked (inr a) = ap length a.call.tasks ∙ length-change _ b.parts.tasks (argument 0 a.call.hart)
-
-asks_schedules : (hart : Hart) (c t : ℕ) (b : Board) (k : Parts) (asked : List Task) → current c b.parts ≡ Some t → slice_get b.parts.harts t ≡ Some hart → k.tasks ≡ b.parts.tasks → k.harts ≡ b.parts.harts
-    → (asked ≡ k.tasks) ⊎ Asks hart t (record b { parts = k }) asked → (asked ≡ b.parts.tasks) ⊎ Schedules c b asked
-asks_schedules hart c t b k asked runs has same harts (inl none) = inl (none ∙ same)
-asks_schedules hart c t b k asked runs has same harts (inr a) =
-    let its : Hart = a.call.hart in
-    let two : Some hart ≡ Some its = sym has ∙ ap (λ (all : List Hart). slice_get all t) (sym harts) ∙ a.call.has in
-    let one : hart ≡ its = cc in
-    let change_to : Task → Task = λ task. record task { class = a.call.class; priority = argument 2 its; slice = SLICE } in
-    inr (record {
-      task = t;
-      hart = its;
-      word = a.word;
-      inst = a.inst;
-      class = a.call.class;
-      runs = runs;
-      has = has ∙ ap Some one;
-      on = rw same at a.call.on;
-      fetched = rw one at a.fetched;
-      decodes = a.decodes;
-      calls = rw one at a.calls;
-      number = a.call.number;
-      live = rw same at a.call.live;
-      policy = a.call.policy;
-      tasks = rw (a.call.tasks, same) (one_change (argument 0 its) change_to b.parts.tasks);
-    })
-
-run_done : (hart : Hart) (c t : ℕ) (b : Board) → (Hears c b.parts → ⊥) → current c b.parts ≡ Some t → slice_get b.parts.harts t ≡ Some hart → StepDone c b (run hart c t b).0
-run_done hart c t b deaf r e =
-    let skips : Processor → Processor = λ p. record p { skip = false } in
-    let passed : Board = on_parts (on_processor c skips) b in
-    let new : Board = execute hart c t passed in
-    let x = executes hart c t passed in
-    let before : Parts = record b.parts { tasks = x.asked } in
-    let between : Parts = record passed.parts { tasks = x.asked } in
-    settled_step c b new (record {
-      asked = x.asked;
-      scheduled = asks_schedules hart c t b passed.parts x.asked r e refl refl x.scheduled;
-      frame = rw r (frame_then c (Some t) before between new.parts (passes_first (Some t) b.parts.mutexes b.parts.mutexes new.parts.mutexes refl) (frame_processor c (Some t) skips before) x.acts.frame);
-      added = passes_added b.parts between new.parts (asked_count c t hart passed x.asked x.scheduled) refl x.acts.added;
-      made = x.acts.made;
-      typed = x.acts.typed;
-      breakpoints = x.breakpoints;
-      memory = elim x.memory [
-        | inl same ↦ inl same
-        | inr w ↦ inr (record {
-          task = t;
-          hart = hart;
-          word = w.word;
-          inst = w.inst;
-          width = w.wrote.width;
-          address = w.wrote.address;
-          value = w.wrote.value;
-          runs = r;
-          has = e;
-          fetched = w.fetched;
-          decodes = w.decodes;
-          stores = w.wrote.stores;
-          rest = refl;
-          ram = w.wrote.ram;
-        })
-      ];
-      runs = x.acts.runs ∙ (own_processor c t skips b.parts (λ p. refl)).runs;
-      hears = λ line. absurd (deaf line);
-    })
-
-either_done : (c : ℕ) (old : Board) (x y : Board × Answer) (b : Bool) → StepDone c old x.0 → StepDone c old y.0 → StepDone c old (if b then x else y).0
-either_done c old x y true p q = p
-either_done c old x y false p q = q
-
-hart_done : (o : Option Hart) (p : Processor) (c t : ℕ) (b : Board) → (Hears c b.parts → ⊥) → current c b.parts ≡ Some t → slice_get b.parts.harts t ≡ o → StepDone c b (step_hart o p c t b).0
-unfolding stop
-hart_done None p c t b deaf r e = quiet_step c b b (none_yet c b)
-hart_done (Some hart) p c t b deaf r e = either_done c b _ (run hart c t b) (is_set b.breakpoints hart.pc && not p.skip)
-    (quiet_step c b _ (on_processor_only c _ b (λ p. refl))) (run_done hart c t b deaf r e)
-
-current_done : (o : Option ℕ) (p : Processor) (c : ℕ) (b : Board) → (Hears c b.parts → ⊥) → current c b.parts ≡ o → StepDone c b (step_current o p c b).0
-current_done None p c b deaf r = settled_step c b b (none_yet c b)
-current_done (Some t) p c b deaf r = hart_done (slice_get b.parts.harts t) p c t b deaf r refl
-
-no_line : (set : List ℕ) (l : ℕ) → least_line set ≡ None → has_line set l ≡ true → ⊥
+no_line : (wire : List ℕ) (l : ℕ) → not (is_none (least_line wire)) ≡ false → has_line wire l ≡ true → ⊥
 no_line [] l e h = cc
 no_line (x ∷ xs) l e h = cc
 
-is_deaf : (c : ℕ) (pipe : Pipe) (k : Parts) → slice_get k.pipes c ≡ Some pipe → least_line pipe.wire ≡ None → Hears c k → ⊥
-is_deaf c pipe k e w h =
-    let two : Some h.pipe ≡ Some pipe = sym h.there ∙ e in
-    let same : h.pipe ≡ pipe = cc in
-    no_line pipe.wire h.line w (rw same at h.on)
+deaf : (c : ℕ) (k : Parts) → hears (slice_get k.pipes c) ≡ false → Hears c k → ⊥
+deaf c k e h = no_line h.pipe.wire h.line (sym (ap hears h.there) ∙ e) h.on
 
-wire_done : (o : Option ℕ) (pipe : Pipe) (p : Processor) (c : ℕ) (b : Board) → slice_get b.parts.pipes c ≡ Some pipe → least_line pipe.wire ≡ o → current c b.parts ≡ p.current → StepDone c b (step_wire o p c b).0
-wire_done None pipe p c b e w r = current_done p.current p c b (is_deaf c pipe b.parts e w) r
-wire_done (Some l) pipe p c b e w r = settled_step c b (on_parts (on_pipe c (receive l)) b)
-    (no_task c (on_pipe c (receive l) b.parts) b (frame_pipe c (current c b.parts) (receive l) b.parts) (inl (refl, refl)) (inl refl)
-    (record { tasks = refl; harts = refl; mutexes = refl; stamps = omega arith; runs = refl }))
+not_heard : (pipe : Pipe) (o : Option Pipe) → o ≡ Some pipe → hears o ≡ true → least_line pipe.wire ≡ None → ⊥
+not_heard pipe o e h w = let no : false ≡ true = sym (ap (λ (x : Option ℕ). not (is_none x)) w) ∙ sym (ap hears e) ∙ h in cc
 
-pipe_done : (o : Option Pipe) (p : Processor) (c : ℕ) (b : Board) → slice_get b.parts.pipes c ≡ o → current c b.parts ≡ p.current → StepDone c b (step_pipe o p c b).0
-pipe_done None p c b e r = quiet_step c b b (none_yet c b)
-pipe_done (Some pipe) p c b e r = wire_done (least_line pipe.wire) pipe p c b e refl r
+abbrev actor : ℕ → Option ℕ → Bool → Bool → Actor
+actor c o loud calls = record { cpu = c; task = o; may = λ d l. if loud then l == 1 else false; chooses = true; calls = calls }
 
-processor_done : (o : Option Processor) (c : ℕ) (b : Board) → slice_get b.parts.processors c ≡ o → StepDone c b (step_processor o c b).0
-processor_done None c b e = quiet_step c b b (none_yet c b)
-processor_done (Some p) c b e = either_done c b (b, Stopped) _ p.stopped (quiet_step c b b (none_yet c b)) (pipe_done (slice_get b.parts.pipes c) p c b refl (ap current_of e))
+pub record StepDone (c : ℕ) (old new : Board) : Type 0 where
+  pub changes : StepChanges c old new
+  pub counts : SameCounts old new
 
-pub step_done : (c : ℕ) (b : Board) → StepDone c b (step c b).0
-unfolding step
-step_done c b = processor_done (slice_get b.parts.processors c) c b refl
+untouched : (k : Parts) → Untouched k k
+untouched k = record { tasks = refl; harts = refl; mutexes = refl; console = refl }
+
+module _ (c : ℕ) (b : Board) where
+  abbrev new : Board
+  new = (step c b).0
+
+  -- ---- whoever acts
+  module _ (o : Option ℕ) (calls : Bool) (m : (loud : Bool) → MaySteps (actor c o loud calls) b) where
+    walk : Walk (actor c o true calls) b.parts 66 2113 new.parts
+    walk = stepped_walk (actor c o true calls) b.parts new.parts (λ d. refl) (steps (actor c o true calls) b.parts b (m true) (untouched b.parts) refl start)
+
+    other_pipes : (d : ℕ) → (d ≡ c → ⊥) → (slice_get new.parts.pipes d ≡ slice_get b.parts.pipes d) ⊎ (slice_get new.parts.pipes d ≡ option_map (raise 1) (slice_get b.parts.pipes d))
+    other_pipes d other =
+        let t : Stepped (actor c o false calls) b.parts new.parts = steps (actor c o false calls) b.parts b (m false) (untouched b.parts) refl start in
+        let before : slice_get t.between.pipes d ≡ slice_get b.parts.pipes d = walk_other_pipes (actor c o false calls) b.parts d other (λ e l. refl) 65 2113 t.between t.walk in
+        elim t.told [
+          | inl same ↦ inl (ap (λ (k : Parts). slice_get k.pipes d) same ∙ before)
+          | inr nudges ↦ elim (nudged c d t.between) [
+            | inl same ↦ inl (ap (λ (k : Parts). slice_get k.pipes d) nudges ∙ same ∙ before)
+            | inr raised ↦ inr (ap (λ (k : Parts). slice_get k.pipes d) nudges ∙ raised ∙ ap (option_map (raise 1)) before)
+          ]
+        ]
+
+    counted : SameCounts b new
+    counted =
+        let s = walk_sizes (actor c o true calls) b.parts 66 2113 new.parts walk in
+        record {
+          processors = s.processors;
+          pipes = s.pipes;
+          ram = ram_count c b new (step_writes c b).memory;
+          tasks = s.tasks;
+          harts = s.harts;
+          few_tasks = s.few;
+          a_hart_each = each_more b.parts new.parts (walk_added (actor c o true calls) b.parts 66 2113 new.parts walk);
+          registers = walk_registers (actor c o true calls) b.parts 66 2113 new.parts walk;
+        }
+
+    framed : ((g : ℕ) → o ≡ Some g → current c b.parts ≡ Some g) → Frame (actor c o true calls) b.parts new.parts
+    framed acts = walk_frame (actor c o true calls) b.parts acts 66 2113 new.parts walk
+
+    changes : (f : Frame (actor c o true calls) b.parts new.parts) → (f.asked ≡ b.parts.tasks) ⊎ Schedules c b f.asked
+        → ((t : ℕ) → (current c b.parts ≡ Some t → ⊥) → StaysBy (current c b.parts) c t (record b.parts { tasks = f.asked }) new.parts) → MutexesStay (current c b.parts) b.parts.mutexes new.parts.mutexes
+        → (Hears c b.parts → (f.asked ≡ b.parts.tasks) × ((t : ℕ) → current c b.parts ≡ Some t → StaysBy None c t b.parts new.parts ⊎ Spends c t b.parts new.parts) × (new.parts.mutexes ≡ b.parts.mutexes))
+        → StepDone c b new
+    changes f scheduled others mutexes hears = record {
+      changes = record {
+        asked = f.asked;
+        scheduled = scheduled;
+        breakpoints = (step_writes c b).breakpoints;
+        memory = (step_writes c b).memory;
+        ticks = walk_ticks (actor c o true calls) b.parts 66 2113 new.parts refl walk;
+        stamps = walk_least (actor c o true calls) b.parts 66 2113 new.parts walk;
+        processors = λ d other. walk_processors (actor c o true calls) b.parts d other 66 2113 new.parts walk;
+        pipes = other_pipes;
+        others = others;
+        mutexes = mutexes;
+        hears = hears;
+        added = walk_added (actor c o true calls) b.parts 66 2113 new.parts walk;
+        made = walk_made (actor c o true calls) b.parts 66 2113 new.parts walk;
+        typed = walk_typed (actor c o true calls) b.parts 66 2113 new.parts walk;
+      };
+      counts = counted;
+    }
+
+  -- ---- a line is on the wire: no task acts
+  others_wider : (o : Option ℕ) (t : ℕ) (x y : Parts) → StaysBy None c t x y → StaysBy o c t x y
+  others_wider o t x y (inl r) = inl r
+  others_wider o t x y (inr (inl w)) = inr (inl w)
+  others_wider o t x y (inr (inr i)) = let no = i.held in cc
+
+  whose_wider : (o found : Option ℕ) → (found ≡ None) ⊎ (found ≡ None) → (found ≡ None) ⊎ (found ≡ o)
+  whose_wider o found (inl none) = inl none
+  whose_wider o found (inr none) = inl none
+
+  mutexes_wider : (o : Option ℕ) (x y : List Mutex) → MutexesStay None x y → MutexesStay o x y
+  mutexes_wider o x y s m before e = elim (s m before e) [
+    | inl same ↦ inl same
+    | inr g ↦ inr (record { after = g.after; there = g.there; kind = g.kind; whose = whose_wider o before.owner g.whose })
+  ]
+
+  unasked : (f : Frame (actor c None true true) b.parts new.parts) → f.asked ≡ b.parts.tasks
+  unasked f = elim f.scheduled [
+    | inl same ↦ same
+    | inr q ↦ let no = q.asks.acts in cc
+  ]
+
+  stays : (t : ℕ) (x y : Parts) → (current c x ≡ Some t → ⊥) → StaysBy None c t x y ⊎ Spends c t x y → StaysBy (current c x) c t x y
+  stays t x y away (inl p) = others_wider (current c x) t x y p
+  stays t x y away (inr q) = absurd (away q.runs)
+
+  heard : hears (slice_get b.parts.pipes c) ≡ true → StepDone c b new
+  heard e =
+      let m : (loud : Bool) → MaySteps (actor c None loud true) b = λ loud. record {
+        chooses = refl;
+        acts = λ pipe there wire. absurd (not_heard pipe (slice_get b.parts.pipes c) there e wire);
+        calls = λ t x now has word. refl;
+      } in
+      let f : Frame (actor c None true true) b.parts new.parts = framed None true m (λ g h. cc) in
+      changes None true m f (inl (unasked f))
+      (λ t away. stays t (record b.parts { tasks = f.asked }) new.parts away (f.others t (λ h. cc)))
+      (mutexes_wider (current c b.parts) b.parts.mutexes new.parts.mutexes f.mutexes)
+      (λ line. (
+        unasked f,
+        (λ t now. subst (λ (all : List Task). Fares (actor c None true true) t (record b.parts { tasks = all }) new.parts) (unasked f) (f.others t (λ h. cc))),
+        walk_mutexes (actor c None true true) b.parts 66 2113 new.parts refl (walk None true m),
+      ))
+
+  -- ---- none is: the current task acts
+  asked_call : (x : Hart) (t : ℕ) → current c b.parts ≡ Some t → slice_get b.parts.harts t ≡ Some x → task_calls (current c b.parts) b ≡ true → Calls x b.memory
+  asked_call x t now has e = called x b.memory (sym (ap (λ (o : Option Hart). hart_calls o b.memory) has) ∙ sym (ap (λ (o : Option ℕ). task_calls o b) now) ∙ e)
+
+  scheduled : (asked : List Task) → Asked (actor c (current c b.parts) true (task_calls (current c b.parts) b)) b.parts asked → Schedules c b asked
+  scheduled asked q =
+      let k = q.asks in
+      let x = asked_call k.hart k.task k.acts k.has k.calls in
+      record {
+        task = k.task;
+        hart = k.hart;
+        word = x.word;
+        inst = x.inst;
+        class = q.class;
+        runs = k.acts;
+        has = k.has;
+        on = k.on;
+        fetched = x.fetched;
+        decodes = x.decodes;
+        calls = x.calls;
+        number = k.number;
+        live = rw (← k.names) k.live;
+        policy = rw (← k.asks) k.policy;
+        tasks = rw (q.tasks, ← k.names, ← k.asks) (one_change q.names (λ task. record task { class = q.class; priority = q.priority; slice = SLICE }) b.parts.tasks);
+      }
+
+  unheard : hears (slice_get b.parts.pipes c) ≡ false → StepDone c b new
+  unheard e =
+      let o : Option ℕ = current c b.parts in
+      let calls : Bool = task_calls o b in
+      let m : (loud : Bool) → MaySteps (actor c o loud calls) b = λ loud. record {
+        chooses = refl;
+        acts = λ pipe there wire. refl;
+        calls = λ t x now has word. ap (λ (o : Option ℕ). task_calls o b) now ∙ ap (λ (o : Option Hart). hart_calls o b.memory) has ∙ word;
+      } in
+      let f : Frame (actor c o true calls) b.parts new.parts = framed o calls m (λ g h. h) in
+      changes o calls m f
+      (elim f.scheduled [
+        | inl same ↦ inl same
+        | inr q ↦ inr (scheduled f.asked q)
+      ])
+      (λ t away. elim (f.others t away) [
+        | inl p ↦ p
+        | inr q ↦ absurd (away q.runs)
+      ])
+      f.mutexes (λ line. absurd (deaf c b.parts e line))
+
+  step_if : (line : Bool) → hears (slice_get b.parts.pipes c) ≡ line → StepDone c b new
+  step_if true e = heard e
+  step_if false e = unheard e
+
+  pub step_done : StepDone c b new
+  step_done = step_if (hears (slice_get b.parts.pipes c)) refl

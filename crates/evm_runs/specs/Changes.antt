@@ -23,7 +23,7 @@ use Rattle.evm_model.specs.Settle.{current, is_oob}
 use Rattle.evm_model.specs.State.{State, Board, Parts, new_task}
 use Rattle.evm_model.specs.declared.event.Answer.{Answer}
 use Rattle.evm_model.specs.declared.event.Answer.TheVariants.{Done}
-use Rattle.evm_model.specs.declared.event.Event.{Event}
+use Rattle.evm_model.specs.Event.{Event}
 use Rattle.evm_model.specs.declared.event.Event.TheVariants.{Step, Tick, Raise, Bell, Stop, Go, StepI, SetReg, SetPc, Poke, Break, Unbreak}
 use Rattle.evm_model.specs.declared.limits.TheConstants.{SLICE, MUTEX_LIMIT, TASK_LIMIT}
 use Rattle.evm_model.specs.declared.mutex.Mutex.{Mutex}
@@ -115,7 +115,7 @@ pub record Wakes (c t : ℕ) (old new : Parts) : Type 0 where
   pub on : task.state ≡ Waits (Line line)
   pub at_home : task.cpu ≡ c
   pub fresh : old.stamps ≤ stamp
-  pub wakes : slice_get new.tasks t ≡ Some (record task { stamp = stamp; state = InReady })
+  pub wakes : slice_get new.tasks t ≡ Some (record task { stamp = stamp; deadline = 0; state = InReady })
   pub hart : (hart : Hart) → slice_get old.harts t ≡ Some hart → slice_get new.harts t ≡ Some (set_register A0 0 hart)
 
 -- task t, of whatever processor, waited for a mutex that this task had, and has it now, locked once: it is ready out-of-band, its call is answered by 0, its stamp is a later one
@@ -133,7 +133,7 @@ pub record Inherits (holder : Option ℕ) (t : ℕ) (old new : Parts) : Type 0 w
   pub owns : after.owner ≡ Some t
   pub once : after.count ≡ 1
   pub fresh : old.stamps ≤ stamp
-  pub wakes : slice_get new.tasks t ≡ Some (record task { stamp = stamp; state = OobReady })
+  pub wakes : slice_get new.tasks t ≡ Some (record task { stamp = stamp; deadline = 0; state = OobReady })
   pub hart : (hart : Hart) → slice_get old.harts t ≡ Some hart → slice_get new.harts t ≡ Some (set_register A0 0 hart)
 
 -- .. one of the three

@@ -8,7 +8,7 @@ use Rattle.evm_model.specs.Pipes.{Pipe}
 use Rattle.evm_model.specs.Replay.{bad_boot, start, replay}
 use Rattle.evm_model.specs.State.{State, Board}
 use Rattle.evm_model.specs.declared.boot.Boot.{Boot}
-use Rattle.evm_model.specs.declared.event.Event.{Event}
+use Rattle.evm_model.specs.Event.{Event}
 
 -- the journal is within its capacity; each line of each processor has counts, which are within a fixed number for each event of the journal, so below 2^29; the ticks are the journal's
 pub record CountsFit (s : State) : Type 0 where

@@ -5,7 +5,7 @@ use Rattle.evm_model.specs.Load.{start_loaded}
 use Rattle.evm_model.specs.Replay.{start, replay}
 use Rattle.evm_model.specs.State.{State, Board}
 use Rattle.evm_model.specs.declared.boot.Boot.{Boot}
-use Rattle.evm_model.specs.declared.event.Event.{Event}
+use Rattle.evm_model.specs.Event.{Event}
 use Rattle.evm_model.specs.declared.limits.TheConstants.{TASK_LIMIT}
 
 -- there are 32 registers, and x0 is zero

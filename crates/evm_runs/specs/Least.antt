@@ -5,7 +5,7 @@ use Rattle.evm_ram.specs.declared.refusal.Refusal.{Refusal}
 use Rattle.evm_ram.specs.declared.refusal.Refusal.TheVariants.{Full}
 use Rattle.evm_model.specs.Refusals.{applies, is_full, refusal}
 use Rattle.evm_model.specs.State.{State}
-use Rattle.evm_model.specs.declared.event.Event.{Event}
+use Rattle.evm_model.specs.Event.{Event}
 
 -- whether an event is refused for this reason, whatever the others are
 abbrev pub is_reason : Event → State → Refusal → Bool

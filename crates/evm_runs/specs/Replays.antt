@@ -4,7 +4,7 @@ use Rattle.evm_model.specs.Load.{bytes_from}
 use Rattle.evm_model.specs.Replay.{IsReplayOf, start, replay}
 use Rattle.evm_model.specs.State.{State}
 use Rattle.evm_model.specs.declared.boot.Boot.{Boot}
-use Rattle.evm_model.specs.declared.event.Event.{Event}
+use Rattle.evm_model.specs.Event.{Event}
 
 -- a replay goes on where another ended
 abbrev pub ReplaysJoin : Type 0

@@ -10,7 +10,7 @@ use Rattle.evm_elf.specs.Faults.{file_fault_number}
 use Rattle.evm_elf.specs.declared.fault.ElfFault.{ElfFault}
 use Rattle.evm_journal.specs.Faults as journals
 use Rattle.evm_journal.specs.Sentences.{journal_sentence}
-use Rattle.evm_model.specs.declared.event.Event.{Event}
+use Rattle.evm_model.specs.Event.{Event}
 use Rattle.evm_model.specs.declared.event.Event.TheVariants as events
 use Rattle.evm_debug.specs.declared.line.View.{View}
 use Rattle.evm_debug.specs.declared.line.View.TheVariants as views

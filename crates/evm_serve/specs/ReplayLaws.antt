@@ -5,7 +5,7 @@ use Rattle.evm_image.specs.Images.{Contents}
 use Rattle.evm_ram.specs.declared.refusal.Refusal.{Refusal}
 use Rattle.evm_model.specs.State.{State}
 use Rattle.evm_model.specs.Replay.{start, apply, bad_boot, IsReplayOf}
-use Rattle.evm_model.specs.declared.event.Event.{Event}
+use Rattle.evm_model.specs.Event.{Event}
 use Rattle.evm_history.specs.Runs.{runs}
 use Rattle.evm_journal.specs.Journal.{journal_text, HasJournal}
 use Rattle.evm_debug.specs.Summary.{summary_text}

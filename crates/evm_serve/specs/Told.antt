@@ -5,7 +5,7 @@ use Rattle.evm_core.specs.Steps.{steps}
 use Rattle.evm_model.specs.State.{State}
 use Rattle.evm_model.specs.Replay.{apply}
 use Rattle.evm_model.specs.declared.event.Answer.{Answer}
-use Rattle.evm_model.specs.declared.event.Event.{Event}
+use Rattle.evm_model.specs.Event.{Event}
 use Rattle.evm_debug.specs.LineReading.{line_at}
 use Rattle.evm_debug.specs.Views.{shown}
 use Rattle.evm_debug.specs.declared.line.Line.{Line}
@@ -55,7 +55,7 @@ view_told n view s (Err refusal) = Ends (view_refused n view refusal)
 -- a line, where no machine is booted: only a boot goes on, with the image in the machine, if one is given
 abbrev pub told_unbooted : Given → ℕ → Line → Telling
 told_unbooted given n lines.Blank = Goes [] None
-told_unbooted given n (lines.Boot cpus ram capacity) = boot_told n (started given (record { cpus = cpus; ram = ram; capacity = capacity }))
+told_unbooted given n (lines.Boot boot) = boot_told n (started given boot)
 told_unbooted given n (lines.Steps c count) = Ends (BadLine n NotBooted)
 told_unbooted given n (lines.One event) = Ends (BadLine n NotBooted)
 told_unbooted given n (lines.Look view) = Ends (BadLine n NotBooted)
@@ -63,7 +63,7 @@ told_unbooted given n (lines.Look view) = Ends (BadLine n NotBooted)
 -- a line, where a machine is booted: boot comes once
 abbrev pub told_booted : ℕ → State → Line → Telling
 told_booted n s lines.Blank = Goes [] (Some s)
-told_booted n s (lines.Boot cpus ram capacity) = Ends (BadLine n BootedAgain)
+told_booted n s (lines.Boot boot) = Ends (BadLine n BootedAgain)
 told_booted n s (lines.Steps c count) = steps_told n c (steps c count s)
 told_booted n s (lines.One event) = event_told n event (apply s event)
 told_booted n s (lines.Look view) = view_told n view s (shown view s)

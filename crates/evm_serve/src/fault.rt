@@ -1,6 +1,7 @@
 //! Why a script, a journal or a source is not done to its end.
 
 ghost use Rattle.std.specs.Prelude.{◌≡◌};
+ghost use Rattle.evm_model.specs.Event.{event_lent};
 ghost use Rattle.evm_serve.specs.Faults.{event_cpu, view_cpu, line_at_fault, sentence_text, about_cpu, fault_sentence, line_sentence, refusal_sentence};
 
 use crate::sentence::Sentence;
@@ -8,6 +9,7 @@ use evm_asm::AsmFault;
 use evm_core::{Event, Refusal};
 use evm_debug::View;
 use evm_journal::JournalFault;
+use evm_model::Block;
 use std::fmt;
 use thiserror::Error;
 
@@ -36,8 +38,8 @@ pub enum Fault {
 }
 
 /// The processor of an event.
-pub(crate) fn event_cpu(event: &Event) -> Option<u8>
-    ensures { result ≡ event_cpu event.now }
+pub(crate) fn event_cpu(event: &Event<&Block>) -> Option<u8>
+    ensures { result ≡ event_cpu (event_lent event.now) }
 {
     match event {
         Event::Step(c)

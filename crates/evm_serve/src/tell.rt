@@ -1,6 +1,8 @@
 ghost use Rattle.std.specs.Prelude.{◌≡◌, Option, IfOk, OnErr, []};
 ghost use Rattle.std.specs.String.{string_bytes};
 ghost use Rattle.evm_debug.specs.LineReading.{line_at};
+ghost use Rattle.evm_history.specs.EventLine.{short_line};
+ghost use Rattle.evm_model.specs.Event.{event_lent};
 ghost use Rattle.evm_serve.specs.Given.{given_of};
 ghost use Rattle.evm_serve.specs.Memory.{MemoryRefused};
 ghost use Rattle.evm_serve.specs.Starting.{started};
@@ -8,7 +10,6 @@ ghost use Rattle.evm_model.specs.Replay.{apply};
 ghost use Rattle.evm_debug.specs.Views.{shown};
 ghost use Rattle.evm_core.specs.Steps.{steps};
 ghost use Rattle.evm_debug.specs.Line.{script_line};
-ghost use Rattle.evm_journal.specs.Short.{short_line};
 ghost use Rattle.evm_serve.specs.Told.{boot_told, event_told, steps_told, view_told, told_unbooted, told_booted, line_told};
 ghost use Rattle.evm_serve.specs.Serving.{Replies};
 
@@ -18,7 +19,8 @@ use crate::given::Given;
 use crate::starting::start;
 use evm_core::{Boot, Event, Machine, Refusal};
 use evm_debug::{Line, View, ViewRefusal, push_view, read_line, read_short};
-use evm_journal::ShortLine;
+use evm_journal::EventLine;
+use evm_model::{Block, NoBytes};
 use evm_ram::NoMemory;
 use std::alloc::Global;
 
@@ -58,29 +60,18 @@ fn tell_unbooted(
 {
     match line {
         Line::Blank => Ok(Reply::Goes),
-        Line::Boot {
-            cpus,
-            ram,
-            capacity,
-        } => {
-            let numbers = Boot {
-                cpus: *cpus,
-                ram: *ram,
-                capacity: *capacity,
-            };
-            tell_boot(alloc, given, number, &numbers, machine)
-        }
+        Line::Boot(numbers) => tell_boot(alloc, given, number, numbers, machine),
         _ => Ok(Reply::Ends(Fault::BadLine(number, LineFault::NotBooted))),
     }
 }
 
 // What came of an event.
-fn tell_event(number: u64, event: &Event, machine: &mut Machine) -> Reply
-    ensures { Replies result [] (Option.Some machine.new) (event_told number event.now (apply machine.old event.now)) }
+fn tell_event(number: u64, event: Event<&Block>, machine: &mut Machine) -> Reply
+    ensures { Replies result [] (Option.Some machine.new) (event_told number (event_lent event.entry) (apply machine.old (event_lent event.entry))) }
 {
-    match machine.apply_ref(event) {
+    match machine.apply(event) {
         Ok(_) => Reply::Goes,
-        Err(refusal) => Reply::Ends(Fault::Refused(number, event_cpu(event), refusal)),
+        Err(refusal) => Reply::Ends(Fault::Refused(number, event_cpu(&event), refusal)),
     }
 }
 
@@ -95,12 +86,12 @@ fn tell_steps(number: u64, c: u8, count: u32, machine: &mut Machine) -> Reply
 }
 
 // A line of events that holds no bytes, where a machine is booted.
-fn tell_short(number: u64, line: ShortLine, machine: &mut Machine) -> Reply
+fn tell_short(number: u64, line: EventLine<NoBytes>, machine: &mut Machine) -> Reply
     ensures { Replies result [] (Option.Some machine.new) (told_booted number machine.old (script_line (short_line line))) }
 {
     match line {
-        ShortLine::Steps(c, count) => tell_steps(number, c, count, machine),
-        ShortLine::One(event) => tell_event(number, &event.event(), machine),
+        EventLine::Steps(c, count) => tell_steps(number, c, count, machine),
+        EventLine::One(event) => tell_event(number, event.widen(), machine),
     }
 }
 
@@ -138,9 +129,9 @@ fn tell_booted(
 {
     match line {
         Line::Blank => Ok(Reply::Goes),
-        Line::Boot { .. } => Ok(Reply::Ends(Fault::BadLine(number, LineFault::BootedAgain))),
+        Line::Boot(_) => Ok(Reply::Ends(Fault::BadLine(number, LineFault::BootedAgain))),
         Line::Steps(c, count) => Ok(tell_steps(number, c, count, machine)),
-        Line::One(event) => Ok(tell_event(number, &event, machine)),
+        Line::One(event) => Ok(tell_event(number, event.lend(), machine)),
         Line::Look(what) => tell_view(number, &what, machine, said),
     }
 }

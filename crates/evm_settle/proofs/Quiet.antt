@@ -1,22 +1,25 @@
 -- Where no task is ready out-of-band: whatever was current, the in-band part follows, and nobody is told.
 use Rattle.std.proofs.Common.{◌≡◌, ℕ, zero, suc, List, [], ◌∷◌, Bool, true, false, Option, Some, None, length, refl, ap, sym, ◌∙◌, inl, inr, ◌+◌, arith}
-use Rattle.std.proofs.lemmas.Bool.{cases_eq, or_parts}
+use Rattle.std.proofs.lemmas.Bool.{and_parts, cases_eq, or_parts}
 use Rattle.std.specs.Prelude.{not, ◌&&◌, ◌==◌, slice_get, option_map, if◌then◌else◌}
 use Rattle.evm_lines.specs.Lines.{has_line}
 use Rattle.evm_model.proofs.Lists.{change-here, change-elsewhere, each_from-same}
 use Rattle.evm_model.specs.Lists.{change}
 use Rattle.evm_model.specs.Pipes.{Pipe, play, raise}
+use Rattle.evm_model.specs.Mutexes.{owns_any}
 use Rattle.evm_model.specs.Ranks.{best, is_oob_ready, next_in_band}
 use Rattle.evm_model.specs.Settle.{current, is_oob, is_oob_task, nudge, nudge_pipe, play_in_band, play_in_band_lines, play_in_band_pipe, run_in_band, run_task, settle_and_nudge, settle_in_band, take_up, turn_in_band, wants_nudge}
 use Rattle.evm_model.specs.State.{Parts, on_pipe, on_processor}
-use Rattle.evm_model.specs.Tasks.{awaits, restamp, set_state, wake_below, wake_in_band}
+use Rattle.evm_model.specs.Tasks.{restamp, is_weak}
+use Rattle.evm_model.specs.Waits.{awaits_line, is_wait_for, wake, wake_below, woken, woken_state}
 use Rattle.evm_model.specs.declared.mutex.Mutex.{Mutex}
 use Rattle.evm_model.specs.declared.processor.Processor.{Processor}
 use Rattle.evm_model.specs.declared.stage.Stage.TheVariants.{InBand}
 use Rattle.evm_model.specs.declared.task.Task.{Task}
-use Rattle.evm_model.specs.declared.task.TaskState.TheVariants.{InReady}
+use Rattle.evm_model.specs.declared.task.Wait.TheVariants.{Line}
 use Rattle.evm_ready.specs.Oob.{has_oob}
 use Rattle.evm_rules.proofs.Firsts.{best-is_oob}
+use Rattle.evm_rules.proofs.Waking.{wait-wakes}
 use Rattle.evm_walk.proofs.Twice.{change-twice}
 use Rattle.evm_settle.specs.Steps.{play_oob_pipe, chooses, choose}
 use Rattle.evm_settle.proofs.Steps.{settle_and_nudge-steps}
@@ -36,6 +39,13 @@ quiet-option : (f : Task → Task) (o : Option Task) → ((task : Task) → is_o
 quiet-option f None h q = refl
 quiet-option f (Some task) h q = h task q
 
+-- the task that is changed, if there is one, is not ready out-of-band afterwards
+quiet-there : (f : Task → Task) (t : ℕ) (tasks : List Task) → is_oob_task (option_map f (slice_get tasks t)) ≡ false → IsQuiet tasks → IsQuiet (change f tasks t)
+quiet-there f t tasks h q u = elim (cases_eq u t) [
+  | inl same ↦ rw same (ap is_oob_task (change-here f tasks t) ∙ h)
+  | inr other ↦ ap is_oob_task (change-elsewhere f tasks t u other) ∙ q u
+]
+
 quiet-change : (f : Task → Task) (t : ℕ) (tasks : List Task) → ((task : Task) → is_oob_ready task.state ≡ false → is_oob_ready (f task).state ≡ false)
     → IsQuiet tasks → IsQuiet (change f tasks t)
 quiet-change f t tasks h q u = elim (cases_eq u t) [
@@ -43,15 +53,26 @@ quiet-change f t tasks h q u = elim (cases_eq u t) [
   | inr other ↦ ap is_oob_task (change-elsewhere f tasks t u other) ∙ q u
 ]
 
-quiet-wake : (t : ℕ) (k : Parts) → IsQuiet k.tasks → IsQuiet (wake_in_band t 0 k).tasks
-unfolding wake_in_band restamp set_state
-quiet-wake t k q =
-    quiet-change (λ task. record task { stamp = k.stamps }) t (change (λ task. record task { state = InReady }) k.tasks t) (λ task h. h)
-    (quiet-change (λ task. record task { state = InReady }) t k.tasks (λ task h. refl) q)
+-- a task that waits for a line wakes in-band
+quiet-woken : (c l : ℕ) (owns : Bool) (o : Option Task) → awaits_line c l o ≡ true → is_oob_task (option_map (woken owns) o) ≡ false
+quiet-woken c l owns None h = refl
+quiet-woken c l owns (Some task) h = wait-wakes l (is_weak task.class && not owns) task.state (and_parts (is_wait_for (Line l) task.state) (task.cpu == c) h).0
+
+quiet-wake : (c l t : ℕ) (k : Parts) → awaits_line c l (slice_get k.tasks t) ≡ true → IsQuiet k.tasks → IsQuiet (wake t 0 k).tasks
+unfolding wake restamp
+quiet-wake c l t k h q =
+    let owns : Bool = owns_any t k.mutexes in
+    quiet-change (λ task. record task { stamp = k.stamps }) t (change (woken owns) k.tasks t) (λ task h. h)
+    (quiet-there (woken owns) t k.tasks (quiet-woken c l owns (slice_get k.tasks t) h) q)
 
 quiet-if : (b : Bool) (x y : Parts) → IsQuiet x.tasks → IsQuiet y.tasks → IsQuiet (if b then x else y).tasks
 quiet-if true x y p q = p
 quiet-if false x y p q = q
+
+-- where the test holds
+quiet-where : (b : Bool) (x y : Parts) → (b ≡ true → IsQuiet x.tasks) → IsQuiet y.tasks → IsQuiet (if b then x else y).tasks
+quiet-where true x y p q = p refl
+quiet-where false x y p q = q
 
 quiet-wakes : (c l n : ℕ) (k : Parts) → IsQuiet k.tasks → IsQuiet (wake_below c l n k).tasks
 unfolding wake_below
@@ -59,7 +80,7 @@ quiet-wakes c l zero k q = q
 quiet-wakes c l (suc t) k q =
     let before : Parts = wake_below c l t k in
     let still : IsQuiet before.tasks = quiet-wakes c l t k q in
-    quiet-if (awaits c l (slice_get before.tasks t)) (wake_in_band t 0 before) before (quiet-wake t before still) still
+    quiet-where (awaits_line c l (slice_get before.tasks t)) (wake t 0 before) before (λ h. quiet-wake c l t before h still) still
 
 quiet-play : (c l : ℕ) (k : Parts) → IsQuiet k.tasks → IsQuiet (play_in_band c l k).tasks
 unfolding play_in_band
@@ -103,8 +124,8 @@ nudge-nobody c k q =
     (each_from-same 0 (nudge_pipe c k) k.pipes (λ d pipe e. let from : 0 + d ≡ d = omega arith in rw from (untold (d == c) (wants_nudge d pipe k) pipe (unwanted d pipe k q))))
 
 -- ---- what was current doesn't matter: the in-band part leaves processors aside, and then chooses anew
-aside-wake : (t : ℕ) (k : Parts) (ps : List Processor) → wake_in_band t 0 (record k { processors = ps }) ≡ record (wake_in_band t 0 k) { processors = ps }
-unfolding wake_in_band restamp set_state
+aside-wake : (t : ℕ) (k : Parts) (ps : List Processor) → wake t 0 (record k { processors = ps }) ≡ record (wake t 0 k) { processors = ps }
+unfolding wake restamp
 aside-wake t k ps = refl
 
 aside-if : (b : Bool) (x y u v : Parts) (ps : List Processor) → x ≡ record u { processors = ps } → y ≡ record v { processors = ps }
@@ -118,7 +139,7 @@ aside-wakes c l zero k ps = refl
 aside-wakes c l (suc t) k ps =
     let x : Parts = wake_below c l t k in
     rw (aside-wakes c l t k ps)
-    (aside-if (awaits c l (slice_get x.tasks t)) (wake_in_band t 0 (record x { processors = ps })) (record x { processors = ps }) (wake_in_band t 0 x) x ps (aside-wake t x ps) refl)
+    (aside-if (awaits_line c l (slice_get x.tasks t)) (wake t 0 (record x { processors = ps })) (record x { processors = ps }) (wake t 0 x) x ps (aside-wake t x ps) refl)
 
 aside-play : (c l : ℕ) (k : Parts) (ps : List Processor) → play_in_band c l (record k { processors = ps }) ≡ record (play_in_band c l k) { processors = ps }
 unfolding play_in_band

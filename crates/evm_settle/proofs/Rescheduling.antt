@@ -1,13 +1,10 @@
 -- Little has happened where a task's policy changes.
-use Rattle.std.proofs.Common.{◌≡◌, ℕ, ◌-◌, ◌^◌, List, Bool, true, false, Option, Some, None, refl, ap, ◌∙◌, arith}
-use Rattle.std.specs.Prelude.{slice_get, replicate, if◌then◌else◌}
+use Rattle.std.proofs.Common.{◌≡◌, ℕ, ◌-◌, ◌^◌, Bool, refl, ap, ◌∙◌, arith}
+use Rattle.std.specs.Prelude.{replicate}
 use Rattle.evm_model.specs.Bounds.{PipesUpTo}
-use Rattle.evm_model.specs.OobCalls.{is_scheduled_task, schedule_as, set_sched}
 use Rattle.evm_model.specs.Pipes.{Pipe, idle_pipe, receive, set_stall}
-use Rattle.evm_model.specs.Policies.{policy_of}
 use Rattle.evm_model.specs.State.{Parts, on_pipe}
 use Rattle.evm_model.specs.Tasks.{set_policy}
-use Rattle.evm_model.specs.declared.call.Outcome.{Outcome}
 use Rattle.evm_model.specs.declared.stage.Stage.{Stage}
 use Rattle.evm_model.specs.declared.task.Class.{Class}
 use Rattle.evm_rules.proofs.Bounded.{AreWithin, within-idle, within-more, within-receive, within-stall}
@@ -16,22 +13,13 @@ use Rattle.evm_rules.proofs.Counting.{PipesUpTo-more}
 pub idle-two : (k : Parts) → k.pipes ≡ replicate 2 idle_pipe → AreWithin 0 k
 idle-two k e = within-idle 2 k e
 
-pipes-if : (b : Bool) (x y : Parts × Outcome) (pipes : List Pipe) → x.0.pipes ≡ pipes → y.0.pipes ≡ pipes → (if b then x else y).0.pipes ≡ pipes
-pipes-if true x y pipes p q = p
-pipes-if false x y pipes p q = q
-
-as-pipes : (o : Option Class) (u priority : ℕ) (k : Parts) → (schedule_as o u priority k).0.pipes ≡ k.pipes
+policy-pipes : (u : ℕ) (class : Class) (priority : ℕ) (k : Parts) → (set_policy u class priority k).pipes ≡ k.pipes
 unfolding set_policy
-as-pipes None u priority k = refl
-as-pipes (Some class) u priority k = refl
+policy-pipes u class priority k = refl
 
-sched-pipes : (u class priority : ℕ) (k : Parts) → (set_sched u class priority k).0.pipes ≡ k.pipes
-unfolding set_sched
-sched-pipes u class priority k = pipes-if (is_scheduled_task (slice_get k.tasks u)) _ _ k.pipes (as-pipes (policy_of class priority) u priority k) refl
-
-pub sched-within : (u class priority : ℕ) (k new : Parts) (outcome : Outcome) → (new, outcome) ≡ set_sched u class priority k → AreWithin 1 k → AreWithin 1 new
-sched-within u class priority k new outcome e w =
-    let same : new.pipes ≡ k.pipes = ap (λ (z : Parts × Outcome). z.0.pipes) e ∙ sched-pipes u class priority k in
+pub policy-within : (u : ℕ) (class : Class) (priority : ℕ) (k new : Parts) → new ≡ set_policy u class priority k → AreWithin 1 k → AreWithin 1 new
+policy-within u class priority k new e w =
+    let same : new.pipes ≡ k.pipes = ap (λ (z : Parts). z.pipes) e ∙ policy-pipes u class priority k in
     record { are = rw same w.are; up = rw same w.up }
 
 pub few-settle : (k : Parts) → AreWithin 1 k → AreWithin (2 ^ 62) k

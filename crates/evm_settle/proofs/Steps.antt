@@ -1,16 +1,19 @@
 -- Settling out-of-band in two steps, and the room that each takes up.
-use Rattle.std.proofs.Common.{◌≡◌, ℕ, List, ◌+◌, ◌^◌, ◌≤◌, Bool, true, false, Option, Some, None, refl, ap, sym, ◌∙◌, arith}
-use Rattle.std.specs.Prelude.{not, slice_get, if◌then◌else◌}
+use Rattle.std.proofs.Common.{◌≡◌, ℕ, List, [], ◌∷◌, ◌+◌, ◌^◌, ◌≤◌, Bool, true, false, Option, Some, None, length, refl, ap, sym, ◌∙◌, arith}
+use Rattle.std.specs.Prelude.{◌==◌, not, slice_get, if◌then◌else◌}
 use Rattle.evm_boost.specs.Scatter.{AreRanks}
 use Rattle.evm_model.specs.Bounds.{PipesUpTo}
-use Rattle.evm_model.specs.Pipes.{Pipe}
-use Rattle.evm_model.specs.Settle.{play_oob_lines, run_best, settle_oob, settle_oob_pipe, settle_in_band, settle, nudge, settle_and_nudge}
-use Rattle.evm_model.specs.State.{Parts}
+use Rattle.evm_lines.specs.declared.TheConstants.{LINES}
+use Rattle.evm_model.specs.Pipes.{Pipe, arrive, play}
+use Rattle.evm_model.specs.Settle.{play_oob, play_oob_lines, spend_current, run_best, settle_oob, settle_oob_pipe, settle_in_band, settle, nudge, settle_and_nudge}
+use Rattle.evm_model.specs.State.{Parts, on_pipe}
+use Rattle.evm_model.specs.declared.stage.Stage.TheVariants.{OutOfBand, InBand}
 use Rattle.evm_rules.proofs.Bounded.{AreWithin, within-settle_oob, within-settle_in_band}
 use Rattle.evm_rules.proofs.Counting.{PipesUpTo-more}
 use Rattle.evm_rules.proofs.Ranking.{AreRanked, ranked-same}
 use Rattle.evm_rules.proofs.Settling.{ranked-in_band}
-use Rattle.evm_rules.proofs.Stamps.{settle_oob-plays}
+use Rattle.evm_rules.proofs.Sets.{length-set}
+use Rattle.evm_rules.proofs.Spending.{current-spends}
 use Rattle.evm_settle.specs.Steps.{play_oob_pipe, chooses, choose}
 
 -- ---- the two steps
@@ -59,12 +62,32 @@ room-played c k w =
 pub room-up : (k : Parts) → AreWithin (2 ^ 62 + 64) k → PipesUpTo (2 ^ 62 + 64) k.pipes
 room-up k w = w.up
 
+-- each line that is played gives one stamp at most
+handle-stamps : (c : ℕ) (first : Bool) (k : Parts) → (if first then on_pipe c (arrive InBand 0) (spend_current c k) else k).stamps ≤ k.stamps + 1
+handle-stamps c true k = let s = current-spends c k in omega (arith, s.most)
+handle-stamps c false k = omega arith
+
+play-stamps : (c l : ℕ) (k : Parts) → (play_oob c l k).stamps ≤ k.stamps + 1
+unfolding play_oob
+play-stamps c l k = handle-stamps c (l == 0) (on_pipe c (play OutOfBand l) k)
+
+lines-stamps : (c : ℕ) (lines : List ℕ) (k : Parts) → (play_oob_lines c lines k).stamps ≤ k.stamps + length lines
+unfolding play_oob_lines
+lines-stamps c [] k = omega arith
+lines-stamps c (l ∷ ls) k = omega (arith, play-stamps c l k, lines-stamps c ls (play_oob c l k))
+
+stamps-if : (b : Bool) (k x : Parts) (most : ℕ) → k.stamps ≤ most → x.stamps ≤ most → (if b then k else x).stamps ≤ most
+stamps-if true k x most p q = p
+stamps-if false k x most p q = q
+
+stamps-pipe : (c : ℕ) (o : Option Pipe) (k : Parts) → slice_get k.pipes c ≡ o → AreWithin (2 ^ 62) k → k.stamps ≤ 2 ^ 61 → (play_oob_pipe o c k).stamps ≤ 2 ^ 61 + 32
+stamps-pipe c None k e w h = omega arith
+stamps-pipe c (Some pipe) k e w h =
+    let few : length pipe.oob.lines ≤ LINES = length-set pipe.oob.lines (w.are c pipe e).oob in
+    stamps-if pipe.oob.stalled k _ (2 ^ 61 + 32) (omega arith) (omega (arith, lines-stamps c pipe.oob.lines k))
+
 pub stamps-played : (c : ℕ) (k : Parts) → AreWithin (2 ^ 62) k → k.stamps ≤ 2 ^ 61 → (play_oob_pipe (slice_get k.pipes c) c k).stamps ≤ 2 ^ 61 + 32
-stamps-played c k w h =
-    let x : Parts = play_oob_pipe (slice_get k.pipes c) c k in
-    let all = settle_oob-plays c k (λ q e. w.are c q e) in
-    let same : x.stamps ≡ (settle_oob c k).stamps = sym (choose-stamps c (chooses (slice_get k.pipes c)) x) ∙ ap (λ (z : Parts). z.stamps) (sym (settle_oob-steps c k)) in
-    rw same (omega (arith, all.gives.most))
+stamps-played c k w h = stamps-pipe c (slice_get k.pipes c) k refl w h
 
 -- the best task is chosen
 choose-within : (b c : ℕ) (chosen : Bool) (k : Parts) → AreWithin b k → AreWithin b (choose chosen c k)

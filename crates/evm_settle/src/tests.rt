@@ -11,7 +11,7 @@ use crate::settle_and_nudge;
 use arrayvec::ArrayVec;
 use evm_boost::Mutexes;
 use evm_exec::Hart;
-use evm_model::{Class, Mode, Processor, Stage, Task, TaskState, Wait};
+use evm_model::{Class, Mode, Processor, Profile, Stage, Task, TaskState, Wait};
 use evm_parts::{Console, Parts};
 use evm_pipe::Pipe;
 use evm_task::{Harts, Tasks};
@@ -164,6 +164,7 @@ fn parts_with(console: Console, task: Task, row: &Row) -> Parts
     pipes.push(Pipe::new());
     pipes.push(Pipe::new());
     Parts {
+        profile: Profile { ram: 65_536 },
         ticks: 0,
         harts: Harts::of_first(Hart {
             regs: [0; 32],

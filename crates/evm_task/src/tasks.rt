@@ -9,13 +9,14 @@ ghost use Rattle.evm_model.specs.Settle.{is_oob};
 ghost use Rattle.evm_model.specs.Stages.{is_attached_task};
 ghost use Rattle.evm_model.specs.State.{no_mode};
 ghost use Rattle.evm_model.specs.Tasks.{is_live};
+ghost use Rattle.evm_model.specs.Waits.{woken};
 ghost use Rattle.evm_ready.specs.Oob.{has_oob};
 ghost use Rattle.evm_ready.specs.Told.{rank_told};
 
 use arrayvec::ArrayVec;
-use evm_model::{Class, Mode, TASK_LIMIT, Task, TaskState};
+use evm_model::{Class, Mode, TASK_LIMIT, Task, TaskState, Wait};
 use evm_ready::{best_of, has_oob, next_in_band_of, put, rerank, set_slice, set_stamp, take};
-use evm_wait::put as put_waiting;
+use evm_wait::{put as put_waiting, take as take_waiting};
 use std::marker::Model;
 
 /// The tasks, in the order of their numbers.
@@ -70,9 +71,23 @@ impl Tasks {
     {
         match state {
             TaskState::OobReady => put(self.tasks.as_mut_slice(), t),
-            TaskState::Waits(wait) => put_waiting(self.tasks.as_mut_slice(), t, wait),
             _ => take(self.tasks.as_mut_slice(), t, state),
         }
+    }
+
+    /// A task waits, until a deadline if that is not 0.
+    pub fn begin_wait(&mut self, t: u8, wait: Wait, deadline: u64)
+        ensures { self.new ≡ change (λ task. record task { state = TaskState.Waits wait; deadline = deadline }) self.old t }
+    {
+        put_waiting(self.tasks.as_mut_slice(), t, wait, deadline);
+    }
+
+    /// The wait of a task is over: it is ready on the stage on which it waited, but in-band if it is weak and owns no
+    /// mutex.
+    pub fn end_wait(&mut self, t: u8, owns: bool)
+        ensures { self.new ≡ change (woken owns) self.old t }
+    {
+        take_waiting(self.tasks.as_mut_slice(), t, owns);
     }
 
     /// A task has another stamp.

@@ -9,3 +9,4 @@ pub mod RoundTrips
 pub mod Parts
 pub mod Rows
 pub mod Cuts
+pub mod Appending

@@ -1,3 +1,4 @@
+pub mod Appending
 pub mod Written
 pub mod Reading
 pub mod Laws

@@ -1,6 +1,7 @@
 ghost use Rattle.std.specs.Prelude.{◌≡◌, ◌+◌, ◌^◌, ◌<◌, ◌≤◌, ◌∷◌, [], ◌++◌, length, OnOk, OnErr, IfErr};
 ghost use Rattle.std.specs.Char.{encode_utf8};
 ghost use Rattle.std.specs.String.{string_bytes, string_capacity, string_len};
+ghost use Rattle.evm_text.specs.Appending.{Appends};
 ghost use Rattle.evm_text.specs.Written.{character, numeral, decimal, hexadecimal, hexadecimal_padded, pairs};
 
 use arrayvec::ArrayString;
@@ -54,13 +55,8 @@ fn put_padded(text: &mut ArrayString<DIGITS>, count: u8, n: u64)
 #[tactic(auto, using(crate::proofs::Steps::numeral_one))]
 fn push_digit(out: &mut String, n: u8) -> Result<(), Refused>
     requires { n < 10 }
-    ensures ok { OnOk result (string_bytes out.new ≡ string_bytes out.old ++ decimal n) }
+    ensures appends { Appends (decimal n) out.old out.new result }
     ensures err { OnErr result (string_bytes out.new ≡ string_bytes out.old) }
-    // It gives up only where there is no room for the text, and a growth by no more than the text was refused.
-    ensures len { OnOk result (string_len out.new ≡ string_len out.old + length (decimal n)) }
-    ensures full { OnErr result (string_capacity out.old < string_len out.old + length (decimal n)) }
-    ensures refused { IfErr result (λ asked. asked ≤ length (decimal n)) }
-    ensures capacity { string_capacity out.old ≤ string_capacity out.new }
 {
     grow_text(out, 1)?;
     let Ok(()) = out.push(character(n)) else {
@@ -72,13 +68,8 @@ fn push_digit(out: &mut String, n: u8) -> Result<(), Refused>
 /// Appends a number of any length in decimal.
 #[inline(never)]
 fn push_digits(out: &mut String, n: u64) -> Result<(), Refused>
-    ensures ok { OnOk result (string_bytes out.new ≡ string_bytes out.old ++ decimal n) }
+    ensures appends { Appends (decimal n) out.old out.new result }
     ensures err { OnErr result (string_bytes out.new ≡ string_bytes out.old) }
-    // It gives up only where there is no room for the text, and a growth by no more than the text was refused.
-    ensures len { OnOk result (string_len out.new ≡ string_len out.old + length (decimal n)) }
-    ensures full { OnErr result (string_capacity out.old < string_len out.old + length (decimal n)) }
-    ensures refused { IfErr result (λ asked. asked ≤ length (decimal n)) }
-    ensures capacity { string_capacity out.old ≤ string_capacity out.new }
 {
     let mut text = ArrayString::new();
     put_numeral(&mut text, 10, 19, n);
@@ -88,13 +79,8 @@ fn push_digits(out: &mut String, n: u64) -> Result<(), Refused>
 /// Appends a number in decimal.
 #[inline(always)]
 pub fn push_decimal(out: &mut String, n: u64) -> Result<(), Refused>
-    ensures ok { OnOk result (string_bytes out.new ≡ string_bytes out.old ++ decimal n) }
+    ensures appends { Appends (decimal n) out.old out.new result }
     ensures err { OnErr result (string_bytes out.new ≡ string_bytes out.old) }
-    // It gives up only where there is no room for the text, and a growth by no more than the text was refused.
-    ensures len { OnOk result (string_len out.new ≡ string_len out.old + length (decimal n)) }
-    ensures full { OnErr result (string_capacity out.old < string_len out.old + length (decimal n)) }
-    ensures refused { IfErr result (λ asked. asked ≤ length (decimal n)) }
-    ensures capacity { string_capacity out.old ≤ string_capacity out.new }
 {
     if n < 10 {
         push_digit(out, n as u8)
@@ -105,13 +91,8 @@ pub fn push_decimal(out: &mut String, n: u64) -> Result<(), Refused>
 
 /// Appends a number in hexadecimal.
 pub fn push_hexadecimal(out: &mut String, n: u64) -> Result<(), Refused>
-    ensures ok { OnOk result (string_bytes out.new ≡ string_bytes out.old ++ hexadecimal n) }
+    ensures appends { Appends (hexadecimal n) out.old out.new result }
     ensures err { OnErr result (string_bytes out.new ≡ string_bytes out.old) }
-    // It gives up only where there is no room for the text, and a growth by no more than the text was refused.
-    ensures len { OnOk result (string_len out.new ≡ string_len out.old + length (hexadecimal n)) }
-    ensures full { OnErr result (string_capacity out.old < string_len out.old + length (hexadecimal n)) }
-    ensures refused { IfErr result (λ asked. asked ≤ length (hexadecimal n)) }
-    ensures capacity { string_capacity out.old ≤ string_capacity out.new }
 {
     let mut text = ArrayString::new();
     put_numeral(&mut text, 16, 15, n);
@@ -122,13 +103,8 @@ pub fn push_hexadecimal(out: &mut String, n: u64) -> Result<(), Refused>
 /// front where the number is shorter.
 pub fn push_hexadecimal_padded(out: &mut String, count: u8, n: u64) -> Result<(), Refused>
     requires { count ≤ 16 }
-    ensures ok { OnOk result (string_bytes out.new ≡ string_bytes out.old ++ hexadecimal_padded count n) }
+    ensures appends { Appends (hexadecimal_padded count n) out.old out.new result }
     ensures err { OnErr result (string_bytes out.new ≡ string_bytes out.old) }
-    // It gives up only where there is no room for the text, and a growth by no more than the text was refused.
-    ensures len { OnOk result (string_len out.new ≡ string_len out.old + length (hexadecimal_padded count n)) }
-    ensures full { OnErr result (string_capacity out.old < string_len out.old + length (hexadecimal_padded count n)) }
-    ensures refused { IfErr result (λ asked. asked ≤ length (hexadecimal_padded count n)) }
-    ensures capacity { string_capacity out.old ≤ string_capacity out.new }
 {
     let mut text = ArrayString::new();
     put_padded(&mut text, count, n);
@@ -138,13 +114,8 @@ pub fn push_hexadecimal_padded(out: &mut String, count: u8, n: u64) -> Result<()
 /// Appends two hexadecimal digits for each byte.
 #[tactic(auto, using(crate::proofs::Steps::length_pairs))]
 pub fn push_pairs(out: &mut String, bytes: &[u8]) -> Result<(), Refused>
-    ensures ok { OnOk result (string_bytes out.new ≡ string_bytes out.old ++ pairs bytes.now) }
+    ensures appends { Appends (pairs bytes.now) out.old out.new result }
     ensures err { OnErr result (string_bytes out.new ≡ string_bytes out.old) }
-    // It gives up only where there is no room for the text, and a growth by no more than the text was refused.
-    ensures len { OnOk result (string_len out.new ≡ string_len out.old + length (pairs bytes.now)) }
-    ensures full { OnErr result (string_capacity out.old < string_len out.old + length (pairs bytes.now)) }
-    ensures refused { IfErr result (λ asked. asked ≤ length (pairs bytes.now)) }
-    ensures capacity { string_capacity out.old ≤ string_capacity out.new }
 {
     // From here on no push can fail, so a refusal leaves the text as it was.
     grow_text(out, bytes.len() * 2)?;

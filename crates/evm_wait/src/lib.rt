@@ -1,9 +1,9 @@
-//! Which of the tasks that wait for a mutex goes first, and what changes that.
+//! Which of the tasks that wait for the same goes first, and what changes that.
 #![tactic(auto)]
 
 mod waits;
 
-pub use waits::{first, put, rerank, take};
+pub use waits::{awaits, first, put, rerank, take};
 
 #[cfg(test)]
 mod tests;

@@ -1,183 +1,270 @@
--- One lemma a call: the call is made of moves.
-use Rattle.std.proofs.Common.{ℕ, Bool, true, false, Option, Some, None, length, refl, arith}
-use Rattle.std.specs.Prelude.{slice_get, is_none, nat_lt, nat_le, not, ◌&&◌, ◌==◌}
+-- One lemma a call: the call is a walk.
+use Rattle.std.proofs.Common.{◌≡◌, ℕ, ◌+◌, ◌%◌, ◌<◌, ◌≤◌, List, [], ◌∷◌, Bool, true, false, Option, Some, None, length, inl, inr, refl, ap, sym, ◌∙◌, arith}
+use Rattle.std.specs.Prelude.{slice_get, is_none, nat_lt, nat_le, not, ◌&&◌, ◌==◌, if◌then◌else◌}
+use Rattle.std.proofs.lemmas.Bool.Decides.{nat_tests, eqb_tells}
 use Rattle.evm_exec.specs.Registers.{register_of}
 use Rattle.evm_exec.specs.declared.hart.Hart.{Hart}
-use Rattle.evm_lines.specs.declared.TheConstants.{LINES}
-use Rattle.evm_model.specs.Calls.{call_of, call_stage, perform, is_weak_oob, return_weak, answered, finish_call, ask_oob, call_on, call_known, call_of_hart, call}
-use Rattle.evm_model.specs.InBandCalls.{exit, putc, yield_now, is_bad_entry, spawn, wait_line, attach_as, attach, detach, set_line}
+use Rattle.evm_model.specs.Calls.{call_number, numbered, all_calls, call_of, call_stage, perform, is_weak_oob, return_weak, answered, finish_call, ask_oob, call_on, call_known, call_of_hart, call}
+use Rattle.evm_model.specs.Harts.{A0, A7, argument, advance, answer}
+use Rattle.evm_model.specs.InBandCalls.{exit, putc, yield_now, is_bad_entry, spawn, wait_line_unless, wait_line, attach_as, attach, detach, set_line}
 use Rattle.evm_model.specs.Mutexes.{owns_any}
 use Rattle.evm_model.specs.OobCalls.{stall, switch_oob, switch_in_band, is_scheduled_task, schedule_as, set_sched, set_mode, yield_oob, clock, state_bits}
 use Rattle.evm_model.specs.Policies.{policy_of}
-use Rattle.evm_model.specs.Stages.{refused, is_stalled, is_attached, may_promote}
-use Rattle.evm_model.specs.Harts.{A7, argument, answer}
+use Rattle.evm_model.specs.Profiles.{line_count}
+use Rattle.evm_model.specs.Ranks.{is_oob_ready}
 use Rattle.evm_model.specs.Settle.{is_oob}
-use Rattle.evm_model.specs.State.{Parts, on_hart}
-use Rattle.evm_model.specs.Tasks.{restamp, set_state, leave_in_band}
+use Rattle.evm_model.specs.Stages.{refused, is_stalled, is_attached, may_promote, wait_refusal}
+use Rattle.evm_model.specs.State.{Parts, on_hart, no_mode}
+use Rattle.evm_model.specs.Tasks.{restamp, demote, set_policy, clear_policy, set_mode_bits, is_weak}
 use Rattle.evm_model.specs.declared.call.Call.{Call}
-use Rattle.evm_model.specs.declared.call.Call.TheVariants.{Exit, Putc, Yield, Spawn, Stall, Unstall, WaitLine, Attach, Detach, NewMutex, SetLine, SwitchOob, SwitchInBand, SetSched, SetMode, Lock, TryLock, Unlock, YieldOob, StallOob, UnstallOob, Clock, StateBits}
+use Rattle.evm_model.specs.declared.call.Call.TheVariants.{Exit as Ends, Putc, Yield, Spawn, Stall, Unstall, WaitLine, Attach, Detach, NewMutex, SetLine, SwitchOob, SwitchInBand, SetSched, SetMode, Lock, TryLock, Unlock, YieldOob, StallOob, UnstallOob, Clock, StateBits}
 use Rattle.evm_model.specs.declared.call.Outcome.{Outcome}
 use Rattle.evm_model.specs.declared.call.Outcome.TheVariants.{Answers, Waits, Leaves}
+use Rattle.evm_model.specs.declared.errno.Errno.{Errno}
 use Rattle.evm_model.specs.declared.errno.Errno.TheVariants.{NotPermitted, NoSuchCall}
-use Rattle.evm_model.specs.declared.limits.TheConstants.{TASK_LIMIT, MODE_LIMIT}
+use Rattle.evm_model.specs.declared.limits.TheConstants.{SLICE, TASK_LIMIT, MODE_LIMIT}
 use Rattle.evm_model.specs.declared.stage.Stage.{Stage}
 use Rattle.evm_model.specs.declared.stage.Stage.TheVariants.{OutOfBand, InBand}
 use Rattle.evm_model.specs.declared.task.Class.{Class}
-use Rattle.evm_model.specs.declared.task.TaskState.TheVariants.{Waits as Waiting}
+use Rattle.evm_model.specs.declared.task.Class.TheVariants.{Unattached}
+use Rattle.evm_model.specs.declared.task.Task.{Task}
+use Rattle.evm_model.specs.declared.task.TaskState.TheVariants.{Exit}
 use Rattle.evm_model.specs.declared.task.Wait.TheVariants.{Line}
-use Rattle.evm_walk.proofs.Locks.{either, makes, locks, tries, unlocks}
-use Rattle.evm_walk.proofs.Moves.{Takes, takes_then, takes_less, takes_none, takes_if, takes_hart}
-use Rattle.evm_walk.proofs.Passing.{takes_end}
-use Rattle.evm_walk.proofs.Tasks.{takes_quiet, restamp_quiet, state_quiet, add_quiet, policy_quiet, no_policy_quiet, mode_quiet, takes_stall, takes_leave, takes_demote, takes_promote}
+use Rattle.evm_model.proofs.Lists.{slice_get-below}
+use Rattle.evm_walk.proofs.Locks.{either, up, same, was_there, makes_mutex, locks, tries, unlocks}
+use Rattle.evm_walk.proofs.Passing.{ends}
+use Rattle.evm_walk.proofs.Tasks.{stalls_stage, leaves, begins_wait, demotes, promotes}
+use Rattle.evm_walk.proofs.Walk.{Actor, ArePipes, AreFew, IsOldTask, KeepsPlace, Untouched, hart, task, stamps, schedules, adds, types, Walk, quietly, stamped, slack, walk_if}
 
-restamp_then_leave : (c t : ℕ) (k x : Parts) → Takes c 1 0 k x → Takes c 1 0 k (leave_in_band c (restamp t x))
-restamp_then_leave c t k x p =
-    takes_then c 1 0 0 0 k x _ (omega arith) p
-    (takes_then c 1 0 0 0 x (restamp t x) _ (omega arith) (takes_quiet c 1 x _ (restamp_quiet t x)) (takes_leave c 1 (restamp t x)))
+-- ---- a call that was found has its number
+if_numbered : (b : Bool) (n : ℕ) (call first : Call) (calls : List Call) → (n == call_number first) ≡ b → (if b then Some first else numbered n calls) ≡ Some call
+    → (numbered n calls ≡ Some call → n ≡ call_number call) → n ≡ call_number call
+if_numbered true n call first calls e h rest =
+    let same : first ≡ call = cc in
+    elim (eqb_tells n (call_number first)) [
+      | inl g ↦ g.1 ∙ ap call_number same
+      | inr g ↦ let no : true ≡ false = sym e ∙ g.0 in cc
+    ]
+if_numbered false n call first calls e h rest = rest h
 
-exits : (c t : ℕ) (k : Parts) → Takes c 1 0 k (exit c t k).0
-unfolding exit
-exits c t k = takes_end c t _ k
+has_number : (n : ℕ) (call : Call) (calls : List Call) → numbered n calls ≡ Some call → n ≡ call_number call
+has_number n call [] h = cc
+has_number n call (first ∷ calls) h = if_numbered (n == call_number first) n call first calls refl h (has_number n call calls)
 
-puts : (byte c : ℕ) (k : Parts) → Takes c 1 0 k (putc byte k).0
-unfolding putc
-puts byte c k = takes_quiet c 1 k _ (record { pipes = refl; processors = refl; ticks = refl; harts_count = omega arith; tasks_count = omega arith; holds = λ b h s. s })
+-- the caller has this hart; a call of the out-of-band kernel is made there
+record Caller (a : Actor) (call : Call) (x : Hart) (t : ℕ) (k : Parts) : Type 0 where
+  calls : a.calls ≡ true
+  has : slice_get k.harts t ≡ Some x
+  number : call_of (register_of x.regs A7) ≡ Some call
+  on : call_stage call ≡ Some OutOfBand → is_oob (Some t) k.tasks ≡ true
 
-yields : (c t : ℕ) (k : Parts) → Takes c 1 0 k (yield_now c t k).0
-unfolding yield_now
-yields c t k = either c 0 k (is_stalled InBand c k) _ _ (takes_none c 1 0 k) (restamp_then_leave c t k k (takes_none c 1 0 k))
+is_weak_there : (o : Option Task) → is_weak_oob o ≡ true → (x : Task) × (o ≡ Some x) × (is_oob_ready x.state ≡ true)
+is_weak_there None e = cc
+is_weak_there (Some x) e = (x, refl, both (is_oob_ready x.state) (is_weak x.class) e)
+  where
+    both : (p q : Bool) → (p && q) ≡ true → p ≡ true
+    both true q h = refl
+    both false q h = h
 
-spawns : (c ram entry value cpu : ℕ) (k : Parts) → Takes c 1 0 k (spawn ram entry value cpu k).0
-unfolding spawn
-spawns c ram entry value cpu k =
-    either c 0 k (is_bad_entry ram entry) _ _ (takes_none c 1 0 k)
-    (either c 0 k (is_none (slice_get k.processors cpu)) _ _ (takes_none c 1 0 k)
-    (either c 0 k (nat_le TASK_LIMIT (length k.tasks)) _ _ (takes_none c 1 0 k) (takes_quiet c 1 k _ (add_quiet entry value cpu k))))
+weak_oob : (t : ℕ) (k : Parts) → is_weak_oob (slice_get k.tasks t) ≡ true → is_oob (Some t) k.tasks ≡ true
+weak_oob t k e = let w = is_weak_there (slice_get k.tasks t) e in rw w.1 w.2
 
-waits_line : (c t l : ℕ) (k : Parts) → Takes c 1 0 k (wait_line c t l k).0
-unfolding wait_line
-waits_line c t l k =
-    let waiting : Parts = set_state t (Waiting (Line l)) k in
-    either c 0 k (nat_le LINES l) _ _ (takes_none c 1 0 k)
-    (either c 0 k (is_stalled InBand c k) _ _ (takes_none c 1 0 k) (restamp_then_leave c t k waiting (takes_quiet c 1 k waiting (state_quiet t _ k))))
+first_of : (b c : Bool) → (b && c) ≡ true → b ≡ true
+first_of true c h = refl
+first_of false c h = h
 
-sets_line : (c l action : ℕ) (k : Parts) → Takes c 1 0 k (set_line l action k).0
-unfolding set_line
-sets_line c l action k =
-    either c 0 k (nat_lt l 2) _ _ (takes_none c 1 0 k)
-    (either c 0 k (nat_le LINES l) _ _ (takes_none c 1 0 k) (either c 0 k (action == 0) _ _ (takes_none c 1 0 k) (takes_none c 1 0 k)))
+module _ (a : Actor) (old k : Parts) (t : ℕ) (own : a.task ≡ Some t) (fresh : Untouched old k) (w : Walk a old 0 0 k) where
+  none : Walk a old 1 32 k
+  none = same a old k t own fresh w
 
-attaches_as : (o : Option Class) (c t priority : ℕ) (k : Parts) → Takes c 1 0 k (attach_as o t priority k).0
-attaches_as None c t priority k = takes_none c 1 0 k
-attaches_as (Some class) c t priority k = either c 0 k (is_attached t k) _ _ (takes_none c 1 0 k) (takes_quiet c 1 k _ (policy_quiet t class priority k))
+  at_most : (n s : ℕ) (x : Parts) → n ≤ 1 → s ≤ 32 → Walk a old n s x → Walk a old 1 32 x
+  at_most n s x h g v = up a old k t own fresh w n s x h g v
 
-attaches : (c t class priority : ℕ) (k : Parts) → Takes c 1 0 k (attach t class priority k).0
-unfolding attach
-attaches c t class priority k = attaches_as (policy_of class priority) c t priority k
+  old_task : IsOldTask old k t
+  old_task = was_there a old k t own fresh w
 
-detaches : (c t : ℕ) (k : Parts) → Takes c 1 0 k (detach t k).0
-unfolding detach
-detaches c t k =
-    either c 0 k (not (is_attached t k)) _ _ (takes_none c 1 0 k)
-    (either c 0 k (owns_any t k.mutexes) _ _ (takes_none c 1 0 k) (takes_quiet c 1 k _ (no_policy_quiet t k)))
+  one_stamp : Walk a old 0 1 (restamp t k)
+  one_stamp = stamped a old 0 0 k _ (stamps t k own old_task) w
 
--- ---- of the out-of-band kernel, and of either
-stalls_stage : (stage : Stage) (stalled : Bool) (c : ℕ) (k : Parts) → Takes c 1 0 k (stall stage stalled c k).0
-unfolding stall
-stalls_stage stage stalled c k = takes_stall c stage stalled k
+  -- ---- of the in-band kernel
+  exits : Walk a old 1 32 (exit a.cpu t k).0
+  unfolding exit
+  exits = slack a old 0 1 (0 + length k.mutexes) 32 _ (λ p. omega arith) (λ few. omega (arith, few.mutexes, ap length fresh.mutexes)) (ends a old 0 t own 0 Exit k fresh.mutexes (ap length fresh.tasks) w)
 
-switches_oob : (c : ℕ) (k : Parts) → Takes c 1 0 k (switch_oob k).0
-unfolding switch_oob
-switches_oob c k = takes_none c 1 0 k
+  puts : (byte : ℕ) → Walk a old 1 32 (putc byte k).0
+  unfolding putc
+  puts byte = at_most 0 0 _ (omega arith) (omega arith) (quietly a old 0 0 k _ (types t (byte % 256) k own fresh) w)
 
-switches_in_band : (c t : ℕ) (k : Parts) → Takes c 1 0 k (switch_in_band c t k).0
-unfolding switch_in_band
-switches_in_band c t k = either c 0 k (is_stalled OutOfBand c k) _ _ (takes_none c 1 0 k) (takes_demote c t k)
+  yields : Walk a old 1 32 (yield_now a.cpu t k).0
+  unfolding yield_now
+  yields = either a old (is_stalled InBand a.cpu k) _ _ (λ e. none) (λ e. at_most 0 1 _ (omega arith) (omega arith) (leaves a old 0 1 (restamp t k) one_stamp))
 
-schedules_as : (o : Option Class) (c u priority : ℕ) (k : Parts) → Takes c 1 0 k (schedule_as o u priority k).0
-schedules_as None c u priority k = takes_none c 1 0 k
-schedules_as (Some class) c u priority k = takes_quiet c 1 k _ (policy_quiet u class priority k)
+  spawns : (entry value cpu : ℕ) → Walk a old 1 32 (spawn entry value cpu k).0
+  unfolding spawn
+  spawns entry value cpu =
+      either a old (is_bad_entry k.profile.ram entry) _ _ (λ e. none) (λ e.
+      either a old (is_none (slice_get k.processors cpu)) _ _ (λ e. none) (λ e.
+      either a old (nat_le TASK_LIMIT (length k.tasks)) _ _ (λ e. none) (λ e.
+      let room : length k.tasks < TASK_LIMIT = grind (arith, nat_tests) in at_most 0 1 _ (omega arith) (omega arith) (stamped a old 0 0 k _ (adds t entry value cpu k own fresh room) w))))
 
-schedules : (c u class priority : ℕ) (k : Parts) → Takes c 1 0 k (set_sched u class priority k).0
-unfolding set_sched
-schedules c u class priority k =
-    either c 0 k (is_scheduled_task (slice_get k.tasks u)) _ _ (schedules_as (policy_of class priority) c u priority k) (takes_none c 1 0 k)
+  waits_line_unless : (o : Option Errno) (l : ℕ) → Walk a old 1 32 (wait_line_unless o a.cpu t l k).0
+  waits_line_unless (Some e) l = none
+  waits_line_unless None l = at_most 0 1 _ (omega arith) (omega arith) (leaves a old 0 1 _ (begins_wait a old 0 0 t k own old_task w (Line l) 0))
 
-sets_mode : (c t bits : ℕ) (k : Parts) → Takes c 1 0 k (set_mode t bits k).0
-unfolding set_mode
-sets_mode c t bits k = either c 0 k (nat_lt MODE_LIMIT bits) _ _ (takes_none c 1 0 k) (takes_quiet c 1 k _ (mode_quiet t bits k))
+  waits_line : (l : ℕ) → Walk a old 1 32 (wait_line a.cpu t l k).0
+  unfolding wait_line
+  waits_line l = either a old (nat_le (line_count k.profile) l) _ _ (λ e. none) (λ e. waits_line_unless (wait_refusal (is_stalled InBand a.cpu k) None 0) l)
 
-yields_oob : (c t : ℕ) (k : Parts) → Takes c 1 0 k (yield_oob t k).0
-unfolding yield_oob
-yields_oob c t k = takes_quiet c 1 k _ (restamp_quiet t k)
+  sets_line : (l action : ℕ) → Walk a old 1 32 (set_line l action k).0
+  unfolding set_line
+  sets_line l action = either a old (nat_lt l 2) _ _ (λ e. none) (λ e. either a old (nat_le (line_count k.profile) l) _ _ (λ e. none) (λ e. either a old (action == 0) _ _ (λ e. none) (λ e. none)))
 
-tells_clock : (c : ℕ) (k : Parts) → Takes c 1 0 k (clock k).0
-unfolding clock
-tells_clock c k = takes_none c 1 0 k
+  attaches_as : (o : Option Class) (priority : ℕ) → Walk a old 1 32 (attach_as o t priority k).0
+  unfolding set_policy
+  attaches_as None priority = none
+  attaches_as (Some class) priority =
+      either a old (is_attached t k) _ _ (λ e. none)
+      (λ e. at_most 0 0 _ (omega arith) (omega arith) (quietly a old 0 0 k _ (task t (λ x. record x { class = class; priority = priority; slice = SLICE }) k own (λ x. (refl, refl)) old_task) w))
 
-tells_bits : (c t : ℕ) (k : Parts) → Takes c 1 0 k (state_bits c t k).0
-unfolding state_bits
-tells_bits c t k = takes_none c 1 0 k
+  attaches : (class priority : ℕ) → Walk a old 1 32 (attach t class priority k).0
+  unfolding attach
+  attaches class priority = attaches_as (policy_of class priority) priority
 
--- ---- the ECALL
-performs : (call : Call) (ram : ℕ) (hart : Hart) (c t : ℕ) (k : Parts) → Takes c 1 1 k (perform call ram hart c t k).0
-performs Exit ram hart c t k = takes_less c 1 k _ (exits c t k)
-performs Putc ram hart c t k = takes_less c 1 k _ (puts (argument 0 hart) c k)
-performs Yield ram hart c t k = takes_less c 1 k _ (yields c t k)
-performs Spawn ram hart c t k = takes_less c 1 k _ (spawns c ram (argument 0 hart) (argument 1 hart) (argument 2 hart) k)
-performs Stall ram hart c t k = takes_less c 1 k _ (stalls_stage InBand true c k)
-performs Unstall ram hart c t k = takes_less c 1 k _ (stalls_stage InBand false c k)
-performs WaitLine ram hart c t k = takes_less c 1 k _ (waits_line c t (argument 0 hart) k)
-performs Attach ram hart c t k = takes_less c 1 k _ (attaches c t (argument 0 hart) (argument 1 hart) k)
-performs Detach ram hart c t k = takes_less c 1 k _ (detaches c t k)
-performs NewMutex ram hart c t k = takes_less c 1 k _ (makes c (argument 0 hart) (argument 1 hart) k)
-performs SetLine ram hart c t k = takes_less c 1 k _ (sets_line c (argument 0 hart) (argument 1 hart) k)
-performs SwitchOob ram hart c t k = takes_less c 1 k _ (switches_oob c k)
-performs SwitchInBand ram hart c t k = takes_less c 1 k _ (switches_in_band c t k)
-performs SetSched ram hart c t k = takes_less c 1 k _ (schedules c (argument 0 hart) (argument 1 hart) (argument 2 hart) k)
-performs SetMode ram hart c t k = takes_less c 1 k _ (sets_mode c t (argument 0 hart) k)
-performs Lock ram hart c t k = locks c t (argument 0 hart) (argument 1 hart) k
-performs TryLock ram hart c t k = tries c t (argument 0 hart) k
-performs Unlock ram hart c t k = takes_less c 1 k _ (unlocks c t (argument 0 hart) k)
-performs YieldOob ram hart c t k = takes_less c 1 k _ (yields_oob c t k)
-performs StallOob ram hart c t k = takes_less c 1 k _ (stalls_stage OutOfBand true c k)
-performs UnstallOob ram hart c t k = takes_less c 1 k _ (stalls_stage OutOfBand false c k)
-performs Clock ram hart c t k = takes_less c 1 k _ (tells_clock c k)
-performs StateBits ram hart c t k = takes_less c 1 k _ (tells_bits c t k)
+  clears : Walk a old 1 32 (clear_policy t k)
+  unfolding clear_policy
+  clears = at_most 0 0 _ (omega arith) (omega arith) (quietly a old 0 0 k _ (task t (λ x. record x { class = Unattached; priority = 0; mode = no_mode }) k own (λ x. (refl, refl)) old_task) w)
 
-returns_weak : (c t : ℕ) (k : Parts) → Takes c 1 0 k (return_weak c t k)
-unfolding return_weak
-returns_weak c t k = takes_if c 1 0 k _ _ (is_weak_oob (slice_get k.tasks t) && not (owns_any t k.mutexes)) (takes_demote c t k) (takes_none c 1 0 k)
+  detaches : Walk a old 1 32 (detach t k).0
+  unfolding detach
+  detaches = either a old (not (is_attached t k)) _ _ (λ e. none) (λ e. either a old (owns_any t k.mutexes) _ _ (λ e. none) (λ e. clears))
 
-answers : (outcome : Outcome) (c t : ℕ) (k : Parts) → Takes c 1 0 k (answered outcome c t k)
-answers (Answers value) c t k =
-    let told : Parts = on_hart t (answer value) k in
-    takes_then c 1 0 0 0 k told _ (omega arith) (takes_hart c 1 t (answer value) k) (returns_weak c t told)
-answers Waits c t k = takes_hart c 1 t _ k
-answers Leaves c t k = takes_none c 1 0 k
+  -- ---- of the out-of-band kernel, and of either
+  stalls : (stage : Stage) (stalled : Bool) → Walk a old 1 32 (stall stage stalled a.cpu k).0
+  unfolding stall
+  stalls stage stalled = at_most 0 0 _ (omega arith) (omega arith) (stalls_stage a old 0 0 k w stage stalled)
 
-finishes_call : (c t : ℕ) (k : Parts) (done : Parts × Outcome) → Takes c 1 1 k done.0 → Takes c 1 1 k (finish_call c t done)
-finishes_call c t k done p = takes_then c 1 1 0 1 k done.0 _ (omega arith) p (answers done.1 c t done.0)
+  switches_oob : Walk a old 1 32 (switch_oob k).0
+  unfolding switch_oob
+  switches_oob = none
 
-asks_oob : (c t : ℕ) (k : Parts) → Takes c 1 1 k (ask_oob c t k)
-unfolding ask_oob
-asks_oob c t k = takes_if c 1 1 k _ _ (may_promote c t k) (takes_less c 1 k _ (takes_promote c t k)) (finishes_call c t k (refused NotPermitted k) (takes_none c 1 1 k))
+  switches_in_band : Walk a old 1 32 (switch_in_band a.cpu t k).0
+  unfolding switch_in_band
+  switches_in_band = either a old (is_stalled OutOfBand a.cpu k) _ _ (λ e. none) (λ e. at_most 0 1 _ (omega arith) (omega arith) (demotes a old 0 0 t k own old_task w))
 
-calls_on : (stage : Option Stage) (call : Call) (ram : ℕ) (hart : Hart) (c t : ℕ) (k : Parts) → Takes c 1 1 k (call_on stage call ram hart c t k)
-calls_on None call ram hart c t k = finishes_call c t k (perform call ram hart c t k) (performs call ram hart c t k)
-calls_on (Some InBand) call ram hart c t k =
-    takes_if c 1 1 k _ _ (is_oob (Some t) k.tasks) (takes_less c 1 k _ (takes_demote c t k)) (finishes_call c t k (perform call ram hart c t k) (performs call ram hart c t k))
-calls_on (Some OutOfBand) call ram hart c t k =
-    takes_if c 1 1 k _ _ (is_oob (Some t) k.tasks) (finishes_call c t k (perform call ram hart c t k) (performs call ram hart c t k)) (asks_oob c t k)
+  sets_mode : (bits : ℕ) → Walk a old 1 32 (set_mode t bits k).0
+  unfolding set_mode set_mode_bits
+  sets_mode bits =
+      either a old (nat_lt MODE_LIMIT bits) _ _ (λ e. none)
+      (λ e. at_most 0 0 _ (omega arith) (omega arith) (quietly a old 0 0 k _ (task t (λ x. record x { mode = record { bits = bits } }) k own (λ x. (refl, refl)) old_task) w))
 
-calls_known : (o : Option Call) (ram : ℕ) (hart : Hart) (c t : ℕ) (k : Parts) → Takes c 1 1 k (call_known o ram hart c t k)
-calls_known None ram hart c t k = finishes_call c t k (refused NoSuchCall k) (takes_none c 1 1 k)
-calls_known (Some call) ram hart c t k = calls_on (call_stage call) call ram hart c t k
+  yields_oob : Walk a old 1 32 (yield_oob t k).0
+  unfolding yield_oob
+  yields_oob = at_most 0 1 _ (omega arith) (omega arith) one_stamp
 
-calls_of_hart : (ram : ℕ) (o : Option Hart) (c t : ℕ) (k : Parts) → Takes c 1 1 k (call_of_hart ram o c t k)
-calls_of_hart ram None c t k = takes_none c 1 1 k
-calls_of_hart ram (Some hart) c t k = calls_known (call_of (register_of hart.regs A7)) ram hart c t k
+  tells_clock : Walk a old 1 32 (clock k).0
+  unfolding clock
+  tells_clock = none
 
-pub call_takes : (ram c t : ℕ) (k : Parts) → Takes c 1 1 k (call ram c t k)
-unfolding call
-call_takes ram c t k = calls_of_hart ram (slice_get k.harts t) c t k
+  tells_bits : Walk a old 1 32 (state_bits a.cpu t k).0
+  unfolding state_bits
+  tells_bits = none
+
+  -- another task has another class
+  schedules_as : (o : Option Class) (x : Hart) → Caller a SetSched x t k → is_scheduled_task (slice_get k.tasks (argument 0 x)) ≡ true → policy_of (argument 1 x) (argument 2 x) ≡ o
+      → Walk a old 1 32 (schedule_as o (argument 0 x) (argument 2 x) k).0
+  schedules_as None x g live policy = none
+  schedules_as (Some class) x g live policy =
+      at_most 0 0 _ (omega arith) (omega arith)
+      (quietly a old 0 0 k _ (schedules (argument 0 x) (argument 2 x) class k fresh (record {
+        task = t;
+        hart = x;
+        acts = own;
+        calls = g.calls;
+        has = ap (λ xs. slice_get xs t) (sym fresh.harts) ∙ g.has;
+        on = ap (is_oob (Some t)) (sym fresh.tasks) ∙ g.on refl;
+        number = has_number (register_of x.regs A7) SetSched all_calls g.number;
+        names = refl;
+        asks = refl;
+        live = ap (λ xs. is_scheduled_task (slice_get xs (argument 0 x))) (sym fresh.tasks) ∙ live;
+        policy = policy;
+      })) w)
+
+  sets_sched : (x : Hart) → Caller a SetSched x t k → Walk a old 1 32 (set_sched (argument 0 x) (argument 1 x) (argument 2 x) k).0
+  unfolding set_sched
+  sets_sched x g =
+      either a old (is_scheduled_task (slice_get k.tasks (argument 0 x))) _ _ (λ live. schedules_as (policy_of (argument 1 x) (argument 2 x)) x g live refl) (λ e. none)
+
+  -- ---- the ECALL
+  performs : (call : Call) (x : Hart) → Caller a call x t k → Walk a old 1 32 (perform call x a.cpu t k).0
+  performs Ends x g = exits
+  performs Putc x g = puts (argument 0 x)
+  performs Yield x g = yields
+  performs Spawn x g = spawns (argument 0 x) (argument 1 x) (argument 2 x)
+  performs Stall x g = stalls InBand true
+  performs Unstall x g = stalls InBand false
+  performs WaitLine x g = waits_line (argument 0 x)
+  performs Attach x g = attaches (argument 0 x) (argument 1 x)
+  performs Detach x g = detaches
+  performs NewMutex x g = makes_mutex a old k t own fresh w (argument 0 x) (argument 1 x)
+  performs SetLine x g = sets_line (argument 0 x) (argument 1 x)
+  performs SwitchOob x g = switches_oob
+  performs SwitchInBand x g = switches_in_band
+  performs SetSched x g = sets_sched x g
+  performs SetMode x g = sets_mode (argument 0 x)
+  performs Lock x g = locks a old k t own fresh w (argument 0 x) (argument 1 x)
+  performs TryLock x g = tries a old k t own fresh w (argument 0 x)
+  performs Unlock x g = unlocks a old k t own fresh w (argument 0 x)
+  performs YieldOob x g = yields_oob
+  performs StallOob x g = stalls OutOfBand true
+  performs UnstallOob x g = stalls OutOfBand false
+  performs Clock x g = tells_clock
+  performs StateBits x g = tells_bits
+
+  returns_weak : (x : Parts) → Walk a old 1 32 x → Walk a old 1 33 (return_weak a.cpu t x)
+  unfolding return_weak
+  returns_weak x v =
+      walk_if a old 1 33 (is_weak_oob (slice_get x.tasks t) && not (owns_any t x.mutexes)) _ x
+      (λ e. demotes a old 1 32 t x own (inr (weak_oob t x (first_of (is_weak_oob (slice_get x.tasks t)) (not (owns_any t x.mutexes)) e))) v)
+      (λ e. slack a old 1 1 32 33 x (λ p. omega arith) (λ p. omega arith) v)
+
+  module _ (below : t < length old.harts) where
+    answers : (outcome : Outcome) (x : Parts) → Walk a old 1 32 x → Walk a old 1 33 (answered outcome a.cpu t x)
+    answers (Answers value) x v = returns_weak (on_hart t (answer value) x) (quietly a old 1 32 x _ (hart t A0 value (answer value) x own (λ h. refl) (inl below)) v)
+    answers Waits x v = slack a old 1 1 32 33 _ (λ p. omega arith) (λ p. omega arith) (quietly a old 1 32 x _ (hart t 0 0 advance x own (λ h. refl) (inl below)) v)
+    answers Leaves x v = slack a old 1 1 32 33 x (λ p. omega arith) (λ p. omega arith) v
+
+    finishes_call : (done : Parts × Outcome) → Walk a old 1 32 done.0 → Walk a old 1 33 (finish_call a.cpu t done)
+    finishes_call done v = answers done.1 done.0 v
+
+    demoted : Walk a old 1 33 (demote a.cpu t k)
+    demoted = slack a old 0 1 1 33 _ (λ p. omega arith) (λ p. omega arith) (demotes a old 0 0 t k own old_task w)
+
+    asks_oob : Walk a old 1 33 (ask_oob a.cpu t k)
+    unfolding ask_oob
+    asks_oob =
+        walk_if a old 1 33 (may_promote a.cpu t k) _ _
+        (λ e. slack a old 0 1 1 33 _ (λ p. omega arith) (λ p. omega arith) (promotes a old 0 0 t k own old_task w))
+        (λ e. finishes_call (refused NotPermitted k) none)
+
+    calls_on : (o : Option Stage) (call : Call) (x : Hart) → call_stage call ≡ o → a.calls ≡ true → slice_get k.harts t ≡ Some x → call_of (register_of x.regs A7) ≡ Some call
+        → Walk a old 1 33 (call_on o call x a.cpu t k)
+    calls_on None call x stage may has number = finishes_call (perform call x a.cpu t k) (performs call x (record { calls = may; has = has; number = number; on = λ oob. cc }))
+    calls_on (Some InBand) call x stage may has number =
+        walk_if a old 1 33 (is_oob (Some t) k.tasks) _ _ (λ on. demoted)
+        (λ on. finishes_call (perform call x a.cpu t k) (performs call x (record { calls = may; has = has; number = number; on = λ oob. cc })))
+    calls_on (Some OutOfBand) call x stage may has number =
+        walk_if a old 1 33 (is_oob (Some t) k.tasks) _ _
+        (λ on. finishes_call (perform call x a.cpu t k) (performs call x (record { calls = may; has = has; number = number; on = λ oob. on })))
+        (λ on. asks_oob)
+
+    calls_known : (o : Option Call) (x : Hart) → a.calls ≡ true → slice_get k.harts t ≡ Some x → call_of (register_of x.regs A7) ≡ o → Walk a old 1 33 (call_known o x a.cpu t k)
+    calls_known None x may has number = finishes_call (refused NoSuchCall k) none
+    calls_known (Some call) x may has number = calls_on (call_stage call) call x refl may has number
+
+  calls_hart : (o : Option Hart) → a.calls ≡ true → slice_get k.harts t ≡ o → Walk a old 1 33 (call_of_hart o a.cpu t k)
+  calls_hart None may has = slack a old 0 1 0 33 k (λ p. omega arith) (λ p. omega arith) w
+  calls_hart (Some x) may has = calls_known (rw (ap length (sym fresh.harts)) (slice_get-below k.harts t x has)) (call_of (register_of x.regs A7)) x may has refl
+
+  pub walks_call : a.calls ≡ true → Walk a old 1 33 (call a.cpu t k)
+  unfolding call
+  walks_call may = calls_hart (slice_get k.harts t) may refl

@@ -11,9 +11,9 @@ use Rattle.evm_model.specs.declared.counts.Passage.{Passage}
 use Rattle.evm_model.specs.declared.stage.Stage.{Stage}
 use Rattle.evm_model.specs.declared.stage.Stage.TheVariants.{OutOfBand, InBand}
 use Rattle.evm_model.proofs.Lists.{change-cases}
-use Rattle.evm_walk.proofs.Moves.{PipeMove, raises, receives, plays_timer, plays_oob, plays_in_band, stalls, Moves, Takes}
+use Rattle.evm_walk.proofs.Lift.{lift}
 use Rattle.evm_walk.proofs.Twice.{change-twice}
-use Rattle.evm_walk.proofs.Lift.{Lifts, lift}
+use Rattle.evm_walk.proofs.Walk.{Actor, PipeMove, raises, receives, plays_timer, plays_oob, plays_in_band, stalls, ArePipes, Walk}
 
 -- ---- one line's counts
 Passage-more : (a b : ℕ) (n : Passage) → a ≤ b → PassageUpTo a n → PassageUpTo b n
@@ -151,22 +151,20 @@ timer-counted p = counted-then 0 (on_passage OutOfBand count_play) _ p (play Out
 PipeUpTo-more : (a b : ℕ) (p : Pipe) → a ≤ b → PipeUpTo a p → PipeUpTo b p
 PipeUpTo-more a b p h s = record { lines = λ l n e. UpTo-more a b n h (s.lines l n e) }
 
-pub move_counted : (line n b : ℕ) (p q : Pipe) → PipeMove line n p q → PipeUpTo b p → PipeUpTo (b + n) q
-move_counted _ _ b _ _ (raises line p h) s = counted-up b line _ p _ (raise-counted line p) (raise-up b (has_line p.wire line)) s
-move_counted _ _ b _ _ (receives line l p h) s = counted-up b l _ p _ (receive-counted l p) (receipt-up b (stage_of l) (has_line (log_of (stage_of l) p).lines l)) s
-move_counted _ _ b _ _ (plays_timer line p h) s = counted-up b 0 _ p _ (timer-counted p) (timer-up b (has_line p.inband.lines 0)) s
-move_counted _ _ b _ _ (plays_oob line l p other h) s = counted-up b l _ p _ (play-counted OutOfBand l p) (oob-up b) s
-move_counted _ _ b _ _ (plays_in_band line l p h) s = counted-up b l _ p _ (play-counted InBand l p) (in_band-up b) s
-move_counted _ _ b _ _ (stalls line stage bit p) s = record { lines = λ m n e. UpTo-more b (b + 0) n (omega arith) (s.lines m n (sym (ap (λ (ns : List Counts). slice_get ns m) (stall-counts stage bit p)) ∙ e)) }
+pub move_counted : (may : ℕ → Bool) (n b : ℕ) (p q : Pipe) → PipeMove may n p q → PipeUpTo b p → PipeUpTo (b + n) q
+move_counted may _ b _ _ (raises l p h on) s = counted-up b l _ p _ (raise-counted l p) (raise-up b (has_line p.wire l)) s
+move_counted may _ b _ _ (receives l p h) s = counted-up b l _ p _ (receive-counted l p) (receipt-up b (stage_of l) (has_line (log_of (stage_of l) p).lines l)) s
+move_counted may _ b _ _ (plays_timer p h) s = counted-up b 0 _ p _ (timer-counted p) (timer-up b (has_line p.inband.lines 0)) s
+move_counted may _ b _ _ (plays_oob l p other h) s = counted-up b l _ p _ (play-counted OutOfBand l p) (oob-up b) s
+move_counted may _ b _ _ (plays_in_band l p h) s = counted-up b l _ p _ (play-counted InBand l p) (in_band-up b) s
+move_counted may _ b _ _ (stalls stage bit p) s = record { lines = λ m n e. UpTo-more b (b + 0) n (omega arith) (s.lines m n (sym (ap (λ (ns : List Counts). slice_get ns m) (stall-counts stage bit p)) ∙ e)) }
 
 -- ---- all pipes
 pub PipesUpTo-more : (a b : ℕ) (pipes : List Pipe) → a ≤ b → PipesUpTo a pipes → PipesUpTo b pipes
 PipesUpTo-more a b pipes h s = record { each = λ c p e. PipeUpTo-more a b p h (s.each c p e) }
 
-pub moves_counted : (a line n b : ℕ) (old new : Parts) → Moves a line n old new → PipesUpTo b old.pipes → PipesUpTo (b + n) new.pipes
-moves_counted a line n b old new m s =
-    let l : Lifts line PipeUpTo = record { more = λ x y p h. PipeUpTo-more x (x + y) p (omega arith) h; moved = λ x y p q. move_counted line y x p q } in
-    record { each = λ c p e. (lift PipeUpTo a line n b c old new l m (record { holds = s.each c })).holds p e }
-
-pub takes_counted : (a line most b : ℕ) (old new : Parts) → Takes a line most old new → PipesUpTo b old.pipes → PipesUpTo (b + most) new.pipes
-takes_counted a line most b old new t s = PipesUpTo-more (b + t.count) (b + most) new.pipes (omega (arith, t.few)) (moves_counted a line t.count b old new t.moves s)
+pub walk_counted : (a : Actor) (old : Parts) (n s b : ℕ) (k : Parts) → Walk a old n s k → ArePipes old → PipesUpTo b old.pipes → PipesUpTo (b + n) k.pipes
+walk_counted a old n s b k w are h = record {
+  each = λ d p e.
+      (lift a old PipeUpTo d (record { more = λ x y p g. PipeUpTo-more x y p g; moved = λ x m p q. move_counted (a.may d) m x p q }) are n s b k w (record { holds = h.each d })).holds p e;
+}

@@ -1,26 +1,48 @@
--- How often mutexes are locked: a line a move, and the most that an event adds.
-use Rattle.std.proofs.Common.{◌≡◌, ℕ, ◌+◌, ◌≤◌, None, arith}
-use Rattle.evm_model.specs.Bounds.{PER_EVENT, HeldUpTo}
-use Rattle.evm_model.specs.Refusals.{board_refusal}
-use Rattle.evm_model.specs.Rows.{row}
-use Rattle.evm_model.specs.State.{Board, Parts}
-use Rattle.evm_model.specs.declared.event.Event.{Event}
-use Rattle.evm_walk.proofs.Moves.{Moves, once, chain, Takes, held_more}
-use Rattle.evm_walk.proofs.Rows.{MOVES, actor, raised_line, row_moves}
-use Rattle.evm_walk.proofs.Sets.{ArePipes}
+-- How often mutexes are locked.
+use Rattle.std.proofs.Common.{◌≡◌, ℕ, ◌+◌, ◌≤◌, List, Some, inl, inr, arith}
+use Rattle.std.specs.Prelude.{slice_get}
+use Rattle.evm_model.specs.Bounds.{HeldUpTo}
+use Rattle.evm_model.specs.Commands.{tick}
+use Rattle.evm_model.specs.InBandCalls.{add_task}
+use Rattle.evm_model.specs.Lists.{change}
+use Rattle.evm_model.specs.Locks.{add_mutex}
+use Rattle.evm_model.specs.Mutexes.{free_mutex, held_by}
+use Rattle.evm_model.specs.State.{Parts}
+use Rattle.evm_model.specs.Tasks.{restamp, set_policy, set_slice}
+use Rattle.evm_model.specs.Waits.{wake}
+use Rattle.evm_model.specs.declared.mutex.Mutex.{Mutex}
+use Rattle.evm_model.proofs.Lists.{change-cases, slice_get-push}
+use Rattle.evm_walk.proofs.Sizes.{of_spend}
+use Rattle.evm_walk.proofs.Walk.{Actor, ArePipes, Does, spends, inherits, holds, makes, Walk, start, next}
 
-pub held_lift : (a line n b : ℕ) (old new : Parts) → Moves a line n old new → 1 ≤ b → HeldUpTo b old.mutexes → HeldUpTo (b + n) new.mutexes
-held_lift _ _ _ b _ _ (once a line n old new o) h s = o.holds b h s
-held_lift _ _ _ b _ _ (chain a line m n x y z p q) h s =
-    let sum : b + (m + n) ≡ b + m + n = omega arith in
-    rw sum (held_lift a line n (b + m) y z q (omega arith) (held_lift a line m b x y p h s))
+pub held_more : (a b : ℕ) (mutexes : List Mutex) → a ≤ b → HeldUpTo a mutexes → HeldUpTo b mutexes
+held_more a b mutexes h s = record { count = λ m mutex e. omega (arith, s.count m mutex e) }
 
-pub takes_held : (a line most b : ℕ) (old new : Parts) → Takes a line most old new → 1 ≤ b → HeldUpTo b old.mutexes → HeldUpTo (b + most) new.mutexes
-takes_held a line most b old new t h s = held_more (b + t.count) (b + most) new.mutexes (omega (arith, t.few)) (held_lift a line t.count b old new t.moves h s)
+-- one of them changes
+held_changed : (m a b : ℕ) (f : Mutex → Mutex) (mutexes : List Mutex) → a ≤ b
+    → ((mutex : Mutex) → slice_get mutexes m ≡ Some mutex → mutex.count ≤ a → (f mutex).count ≤ b) → HeldUpTo a mutexes → HeldUpTo b (change f mutexes m)
+held_changed m a b f mutexes h c s = record {
+  count = λ i mutex e. elim (change-cases f mutexes m i mutex e) [
+    | inl g ↦ rw g.3 (c g.1 g.2 (s.count m g.1 g.2))
+    | inr g ↦ omega (arith, s.count i mutex g.1)
+  ];
+}
 
-pub row_holds : (event : Event) (b : Board) (n : ℕ) → board_refusal event b ≡ None → ArePipes b.parts → HeldUpTo n b.parts.mutexes
-    → HeldUpTo (n + PER_EVENT) (row event b).0.parts.mutexes
-row_holds event b n e s held =
-    let new : Parts = (row event b).0.parts in
-    held_more (n + 1 + MOVES) (n + PER_EVENT) new.mutexes (omega arith)
-    (takes_held (actor event) (raised_line event) MOVES (n + 1) b.parts new (row_moves event b e s) (omega arith) (held_more n (n + 1) b.parts.mutexes (omega arith) held))
+module _ (a : Actor) (old : Parts) where
+  does_hold : (i j : ℕ) (k x : Parts) (b : ℕ) → 1 ≤ b → Does a old i j k x → HeldUpTo b k.mutexes → HeldUpTo (b + i) x.mutexes
+  unfolding restamp set_policy set_slice wake tick add_task add_mutex
+  does_hold _ _ _ _ b h (spends t x k runs there on) q = of_spend (λ (y : Parts). HeldUpTo (b + 0) y.mutexes) t x.slice k (held_more b (b + 0) k.mutexes (omega arith) q) (held_more b (b + 0) k.mutexes (omega arith) q)
+  does_hold _ _ _ _ b h (inherits t u m k own same its first) q = held_changed m b (b + 0) (held_by u 1) k.mutexes (omega arith) (λ x e c. omega (arith, h)) q
+  does_hold _ _ _ _ b h (holds i t m f k own same x) q = held_changed m b (b + i) f k.mutexes (omega arith) (λ y e c. omega (arith, c, (x y e).count)) q
+  does_hold _ _ _ _ b h (makes t recursive protocol k own fresh room) q = record {
+    count = λ m other e. elim (slice_get-push k.mutexes (free_mutex recursive protocol) m other e) [
+      | inl there ↦ omega (arith, q.count m other there)
+      | inr last ↦ rw last.1 (omega arith)
+    ];
+  }
+  does_hold i _ k _ b h _ q = held_more b (b + i) k.mutexes (omega arith) q
+
+  pub walk_holds : (n s : ℕ) (k : Parts) (b : ℕ) → ArePipes old → 1 ≤ b → Walk a old n s k → HeldUpTo b old.mutexes → HeldUpTo (b + n) k.mutexes
+  walk_holds _ _ _ b p h start q = held_more b (b + 0) old.mutexes (omega arith) q
+  walk_holds _ _ _ b p h (next m n s u i j k x few g d w) q =
+      held_more (b + m + i) (b + n) x.mutexes (omega (arith, few p)) (does_hold i j k x (b + m) (omega (arith, h)) d (walk_holds m s k b p h w q))

@@ -3,7 +3,6 @@ pub mod Counted
 pub mod Held
 pub mod Lift
 pub mod Locks
-pub mod Moves
 pub mod Passing
 pub mod Playing
 pub mod Refused
@@ -13,3 +12,4 @@ pub mod Sets
 pub mod Sizes
 pub mod Tasks
 pub mod Twice
+pub mod Walk

@@ -1,141 +1,147 @@
--- One lemma a call on a mutex: the call is made of moves, and locks no mutex more than once more.
-use Rattle.std.proofs.Common.{◌≡◌, ℕ, ◌+◌, ◌-◌, Bool, true, false, Option, Some, None, length, inl, inr, refl, arith}
-use Rattle.std.specs.Prelude.{slice_get, nat_lt, nat_le, not, ◌==◌, if◌then◌else◌}
-use Rattle.evm_ranks.specs.Boosts.{is_number, meets}
-use Rattle.evm_model.specs.Locks.{with_ceiling, mutex_of, add_mutex, new_mutex_as, new_mutex, take_mutex, lock_again, wait_for, lock_other, lock_owned, lock_known, lock, try_owned, try_known, try_lock, unlock_once, unlock_known, unlock}
-use Rattle.evm_model.specs.Mutexes.{free_mutex, held_by, waits_on}
-use Rattle.evm_model.specs.Stages.{is_stalled}
-use Rattle.evm_model.specs.State.{Parts}
-use Rattle.evm_model.specs.Tasks.{set_state}
+-- One lemma a call on a mutex: the call is a walk.
+use Rattle.std.proofs.Common.{◌≡◌, ℕ, ◌+◌, ◌-◌, ◌<◌, ◌≤◌, Bool, true, false, Option, Some, None, length, ◌⊎◌, inl, inr, refl, ap, sym, ◌∙◌, arith}
+use Rattle.std.specs.Prelude.{slice_get, nat_lt, nat_le, ◌==◌, if◌then◌else◌}
+use Rattle.std.proofs.lemmas.Bool.Decides.{nat_tests, eqb_tells}
+use Rattle.evm_ranks.specs.Boosts.{is_number}
+use Rattle.evm_ranks.proofs.Greatest.{boosts-is}
+use Rattle.evm_model.specs.Locks.{with_ceiling, mutex_of, new_mutex_as, new_mutex, take_mutex, lock_again, cycle_refusal, lock_other, lock_owned, lock_known, lock, try_owned, try_known, try_lock, unlock_once, unlock_known, unlock}
+use Rattle.evm_model.specs.Mutexes.{free_mutex, owner_of, held_by}
+use Rattle.evm_model.specs.Passing.{pass_on}
+use Rattle.evm_model.specs.Stages.{is_stalled, wait_refusal, wait_unless}
+use Rattle.evm_model.specs.State.{Parts, on_mutex}
 use Rattle.evm_model.specs.declared.call.Outcome.{Outcome}
-use Rattle.evm_model.specs.declared.limits.TheConstants.{MUTEX_LIMIT, PRIORITY_LIMIT, TASK_LIMIT}
+use Rattle.evm_model.specs.declared.errno.Errno.{Errno}
+use Rattle.evm_model.specs.declared.limits.TheConstants.{MUTEX_LIMIT, PRIORITY_LIMIT}
 use Rattle.evm_model.specs.declared.mutex.Mutex.{Mutex}
+use Rattle.evm_model.specs.declared.mutex.Protocol.{Protocol}
 use Rattle.evm_model.specs.declared.mutex.Protocol.TheVariants.{Inheritance, Ceiling}
 use Rattle.evm_model.specs.declared.stage.Stage.TheVariants.{OutOfBand}
-use Rattle.evm_model.specs.declared.task.TaskState.TheVariants.{Waits as Waiting}
+use Rattle.evm_model.specs.declared.task.Wait.{Wait}
 use Rattle.evm_model.specs.declared.task.Wait.TheVariants.{Lock}
-use Rattle.evm_model.proofs.Lists.{slice_get-push}
-use Rattle.evm_walk.proofs.Moves.{Takes, takes_none, takes_less, takes_mutex}
-use Rattle.evm_walk.proofs.Passing.{mutex_quiet, pass_quiet}
-use Rattle.evm_walk.proofs.Tasks.{IsQuiet, takes_quiet, quiet_then, quiet_if, state_quiet, restamp_quiet}
+use Rattle.evm_walk.proofs.Passing.{passes}
+use Rattle.evm_walk.proofs.Tasks.{begins_wait}
+use Rattle.evm_walk.proofs.Walk.{Actor, IsOldTask, IsHeld, Untouched, holds, makes, Walk, quietly, counted, slack}
+
 
 -- of two outcomes
-pub either : (c n : ℕ) (k : Parts) (b : Bool) (x y : Parts × Outcome) → Takes c 1 n k x.0 → Takes c 1 n k y.0 → Takes c 1 n k (if b then x else y).0
-either c n k true x y p q = p
-either c n k false x y p q = q
+pub either : (a : Actor) (old : Parts) (b : Bool) (x y : Parts × Outcome) → (b ≡ true → Walk a old 1 32 x.0) → (b ≡ false → Walk a old 1 32 y.0) → Walk a old 1 32 (if b then x else y).0
+either a old true x y p q = p refl
+either a old false x y p q = q refl
 
--- ---- a new mutex
--- a mutex, if there is one, that nobody owns
-abbrev pub IsFree : Option Mutex → Type 0
-IsFree o = (mutex : Mutex) → o ≡ Some mutex → (mutex.owner ≡ None) × (mutex.count ≡ 0)
+-- ---- a mutex, if there is one, that nobody owns
+pub record IsFree (o : Option Mutex) : Type 0 where
+  pub free : (mutex : Mutex) → o ≡ Some mutex → (recursive : Bool) × ((protocol : Protocol) × (mutex ≡ free_mutex recursive protocol))
 
 free_if : (b : Bool) (x y : Option Mutex) → IsFree x → IsFree y → IsFree (if b then x else y)
 free_if true x y p q = p
 free_if false x y p q = q
 
 free_none : IsFree None
-free_none mutex e = cc
+free_none = record { free = λ mutex e. cc }
 
-free_some : (new : Mutex) → new.owner ≡ None → new.count ≡ 0 → IsFree (Some new)
-free_some new o c mutex e = let same : new ≡ mutex = cc in rw (← same) (o, c)
+free_some : (recursive : Bool) (protocol : Protocol) → IsFree (Some (free_mutex recursive protocol))
+free_some recursive protocol = record { free = λ mutex e. (recursive, (protocol, cc)) }
 
 ceiling_free : (recursive : Bool) (priority : ℕ) → IsFree (with_ceiling recursive priority)
-ceiling_free recursive priority =
-    free_if (nat_lt priority 1) _ _ free_none (free_if (nat_lt PRIORITY_LIMIT priority) _ _ free_none (free_some (free_mutex recursive (Ceiling priority)) refl refl))
+ceiling_free recursive priority = free_if (nat_lt priority 1) _ _ free_none (free_if (nat_lt PRIORITY_LIMIT priority) _ _ free_none (free_some recursive (Ceiling priority)))
 
 pub made_free : (kind priority : ℕ) → IsFree (mutex_of kind priority)
 made_free kind priority =
-    free_if (kind == 0) _ _ (free_some (free_mutex false Inheritance) refl refl)
-    (free_if (kind == 1) _ _ (free_some (free_mutex true Inheritance) refl refl)
+    free_if (kind == 0) _ _ (free_some false Inheritance)
+    (free_if (kind == 1) _ _ (free_some true Inheritance)
     (free_if (kind == 2) _ _ (ceiling_free false priority) (free_if (kind == 3) _ _ (ceiling_free true priority) free_none)))
 
-add_quiet : (mutex : Mutex) (k : Parts) → mutex.count ≡ 0 → IsQuiet k (add_mutex mutex k)
-unfolding add_mutex
-add_quiet mutex k free = record {
-  pipes = refl;
-  processors = refl;
-  ticks = refl;
-  harts_count = omega arith;
-  tasks_count = omega arith;
-  holds = λ b h s. record {
-    count = λ m other e. elim (slice_get-push k.mutexes mutex m other e) [
-      | inl there ↦ s.count m other there
-      | inr last ↦ rw last.1 (omega arith)
-    ];
-  };
-}
+own_number : (u t : ℕ) → (u == t) ≡ true → Some u ≡ Some t
+own_number u t e = elim (eqb_tells u t) [
+  | inl g ↦ ap Some g.1
+  | inr g ↦ let no : true ≡ false = sym e ∙ g.0 in cc
+]
 
-makes_as : (o : Option Mutex) (c : ℕ) (k : Parts) → IsFree o → Takes c 1 0 k (new_mutex_as o k).0
-makes_as None c k free = takes_none c 1 0 k
-makes_as (Some mutex) c k free =
-    either c 0 k (nat_le MUTEX_LIMIT (length k.mutexes)) _ _ (takes_none c 1 0 k) (takes_quiet c 1 k _ (add_quiet mutex k (free mutex refl).1))
+module _ (a : Actor) (old k : Parts) (t : ℕ) (own : a.task ≡ Some t) (fresh : Untouched old k) (w : Walk a old 0 0 k) where
+  -- as much at most as a call may
+  pub up : (n s : ℕ) (x : Parts) → n ≤ 1 → s ≤ 32 → Walk a old n s x → Walk a old 1 32 x
+  up n s x h g v = slack a old n 1 s 32 x (λ p. h) (λ p. g) v
 
-pub makes : (c kind priority : ℕ) (k : Parts) → Takes c 1 0 k (new_mutex kind priority k).0
-unfolding new_mutex
-makes c kind priority k = makes_as (mutex_of kind priority) c k (made_free kind priority)
+  pub same : Walk a old 1 32 k
+  same = up 0 0 k (omega arith) (omega arith) w
 
--- ---- a lock
-takes_free : (c t m : ℕ) (k : Parts) → Takes c 1 1 k (take_mutex t m k)
-unfolding take_mutex
-takes_free c t m k = takes_mutex c 1 1 m (held_by t 1) k (λ b h mutex e s. omega arith)
+  pub was_there : IsOldTask old k t
+  was_there = inl (ap length fresh.tasks)
 
-locks_again : (c t m : ℕ) (mutex : Mutex) (k : Parts) → slice_get k.mutexes m ≡ Some mutex → Takes c 1 1 k (lock_again t m mutex k).0
-unfolding lock_again
-locks_again c t m mutex k e =
-    either c 1 k mutex.recursive _ _
-    (takes_mutex c 1 1 m (held_by t (mutex.count + 1)) k (λ b h other there s. let same : mutex ≡ other = cc in rw same (omega arith)))
-    (takes_none c 1 1 k)
+  -- ---- a new mutex
+  makes_as : (o : Option Mutex) → IsFree o → Walk a old 1 32 (new_mutex_as o k).0
+  makes_as None free = same
+  makes_as (Some mutex) free =
+      let f = free.free mutex refl in
+      either a old (nat_le MUTEX_LIMIT (length k.mutexes)) _ _ (λ full. same)
+      (λ e. let room : length k.mutexes < MUTEX_LIMIT = grind (arith, nat_tests) in
+      up 0 0 _ (omega arith) (omega arith) (rw f.1.1 (quietly a old 0 0 k _ (makes t f.0 f.1.0 k own fresh room) w)))
 
-waits_for : (c t m : ℕ) (k : Parts) → Takes c 1 0 k (wait_for t m k)
-unfolding wait_for
-waits_for c t m k =
-    let waiting : Parts = set_state t (Waiting (Lock m)) k in
-    takes_quiet c 1 k _ (quiet_then k waiting _ (state_quiet t (Waiting (Lock m)) k) (restamp_quiet t waiting))
+  pub makes_mutex : (kind priority : ℕ) → Walk a old 1 32 (new_mutex kind priority k).0
+  unfolding new_mutex
+  makes_mutex kind priority = makes_as (mutex_of kind priority) (made_free kind priority)
 
-locks_other : (c t m u deadline : ℕ) (k : Parts) → Takes c 1 1 k (lock_other c t m u deadline k).0
-unfolding lock_other
-locks_other c t m u deadline k =
-    either c 1 k (is_stalled OutOfBand c k) _ _ (takes_none c 1 1 k)
-    (either c 1 k (meets (waits_on k.mutexes k.tasks) t TASK_LIMIT (Some u)) _ _ (takes_none c 1 1 k)
-    (either c 1 k (not (deadline == 0)) _ _ (takes_none c 1 1 k) (takes_less c 1 k _ (waits_for c t m k))))
+  -- ---- a lock
+  -- a mutex that was free or its own is its own now
+  takes : (i m count : ℕ) (mutex : Mutex) → i ≤ 1 → slice_get k.mutexes m ≡ Some mutex → (mutex.owner ≡ None) ⊎ (mutex.owner ≡ Some t) → count ≤ mutex.count + i → Walk a old 1 32 (on_mutex m (held_by t count) k)
+  takes i m count mutex few e whose more =
+      up (0 + i) 0 _ (omega (arith, few)) (omega arith)
+      (counted a old 0 0 k _ i (holds i t m (held_by t count) k own (ap (λ xs. slice_get xs m) fresh.mutexes) (λ x there. let one : mutex ≡ x = (let two : Some mutex ≡ Some x = sym e ∙ there in cc) in
+      record { kind = refl; whose = rw (← one) whose; count = rw (← one) more })) w)
 
-locks_owned : (o : Option ℕ) (c t m deadline : ℕ) (mutex : Mutex) (k : Parts) → slice_get k.mutexes m ≡ Some mutex
-    → Takes c 1 1 k (lock_owned o c t m deadline mutex k).0
-locks_owned None c t m deadline mutex k e = takes_free c t m k
-locks_owned (Some u) c t m deadline mutex k e = either c 1 k (u == t) _ _ (locks_again c t m mutex k e) (locks_other c t m u deadline k)
+  locks_again : (m : ℕ) (mutex : Mutex) → slice_get k.mutexes m ≡ Some mutex → mutex.owner ≡ Some t → Walk a old 1 32 (lock_again t m mutex k).0
+  unfolding lock_again
+  locks_again m mutex e its = either a old mutex.recursive _ _ (λ r. takes 1 m (mutex.count + 1) mutex (omega arith) e (inr its) (omega arith)) (λ r. same)
 
-locks_known : (o : Option Mutex) (c t m deadline : ℕ) (k : Parts) → slice_get k.mutexes m ≡ o → Takes c 1 1 k (lock_known o c t m deadline k).0
-locks_known None c t m deadline k e = takes_none c 1 1 k
-locks_known (Some mutex) c t m deadline k e = locks_owned mutex.owner c t m deadline mutex k e
+  pub waits_unless : (o : Option Errno) (wait : Wait) (deadline : ℕ) → Walk a old 1 32 (wait_unless o t wait deadline k).0
+  waits_unless (Some e) wait deadline = same
+  waits_unless None wait deadline = up 0 1 _ (omega arith) (omega arith) (begins_wait a old 0 0 t k own was_there w wait deadline)
 
-pub locks : (c t m deadline : ℕ) (k : Parts) → Takes c 1 1 k (lock c t m deadline k).0
-unfolding lock
-locks c t m deadline k = locks_known (slice_get k.mutexes m) c t m deadline k refl
+  locks_other : (m u deadline : ℕ) → Walk a old 1 32 (lock_other a.cpu t m u deadline k).0
+  unfolding lock_other
+  locks_other m u deadline = waits_unless (wait_refusal (is_stalled OutOfBand a.cpu k) (cycle_refusal t u k) deadline) (Lock m) deadline
 
-tries_owned : (o : Option ℕ) (c t m : ℕ) (mutex : Mutex) (k : Parts) → slice_get k.mutexes m ≡ Some mutex → Takes c 1 1 k (try_owned o t m mutex k).0
-tries_owned None c t m mutex k e = takes_free c t m k
-tries_owned (Some u) c t m mutex k e = either c 1 k (u == t) _ _ (locks_again c t m mutex k e) (takes_none c 1 1 k)
+  free_takes : (m : ℕ) (mutex : Mutex) → slice_get k.mutexes m ≡ Some mutex → mutex.owner ≡ None → Walk a old 1 32 (take_mutex t m k)
+  unfolding take_mutex
+  free_takes m mutex e none = takes 1 m 1 mutex (omega arith) e (inl none) (omega arith)
 
-tries_known : (o : Option Mutex) (c t m : ℕ) (k : Parts) → slice_get k.mutexes m ≡ o → Takes c 1 1 k (try_known o t m k).0
-tries_known None c t m k e = takes_none c 1 1 k
-tries_known (Some mutex) c t m k e = tries_owned mutex.owner c t m mutex k e
+  locks_owned : (o : Option ℕ) (m deadline : ℕ) (mutex : Mutex) → slice_get k.mutexes m ≡ Some mutex → mutex.owner ≡ o → Walk a old 1 32 (lock_owned o a.cpu t m deadline mutex k).0
+  locks_owned None m deadline mutex e its = free_takes m mutex e its
+  locks_owned (Some u) m deadline mutex e its = either a old (u == t) _ _ (λ one. locks_again m mutex e (its ∙ own_number u t one)) (λ other. locks_other m u deadline)
 
-pub tries : (c t m : ℕ) (k : Parts) → Takes c 1 1 k (try_lock t m k).0
-unfolding try_lock
-tries c t m k = tries_known (slice_get k.mutexes m) c t m k refl
+  locks_known : (o : Option Mutex) (m deadline : ℕ) → slice_get k.mutexes m ≡ o → Walk a old 1 32 (lock_known o a.cpu t m deadline k).0
+  locks_known None m deadline e = same
+  locks_known (Some mutex) m deadline e = locks_owned mutex.owner m deadline mutex e refl
 
--- ---- an unlock
-unlocks_once : (t m : ℕ) (mutex : Mutex) (k : Parts) → slice_get k.mutexes m ≡ Some mutex → IsQuiet k (unlock_once t m mutex k)
-unfolding unlock_once
-unlocks_once t m mutex k e =
-    quiet_if (nat_le mutex.count 1) k _ _ (pass_quiet m k)
-    (mutex_quiet m (held_by t (mutex.count - 1)) k (λ b h other there s. let same : mutex ≡ other = cc in rw same (omega arith)))
+  pub locks : (m deadline : ℕ) → Walk a old 1 32 (lock a.cpu t m deadline k).0
+  unfolding lock
+  locks m deadline = locks_known (slice_get k.mutexes m) m deadline refl
 
-unlocks_known : (o : Option Mutex) (c t m : ℕ) (k : Parts) → slice_get k.mutexes m ≡ o → Takes c 1 0 k (unlock_known o t m k).0
-unlocks_known None c t m k e = takes_none c 1 0 k
-unlocks_known (Some mutex) c t m k e =
-    either c 0 k (is_number mutex.owner t) _ _ (takes_quiet c 1 k _ (unlocks_once t m mutex k e)) (takes_none c 1 0 k)
+  tries_owned : (o : Option ℕ) (m : ℕ) (mutex : Mutex) → slice_get k.mutexes m ≡ Some mutex → mutex.owner ≡ o → Walk a old 1 32 (try_owned o t m mutex k).0
+  tries_owned None m mutex e its = free_takes m mutex e its
+  tries_owned (Some u) m mutex e its = either a old (u == t) _ _ (λ one. locks_again m mutex e (its ∙ own_number u t one)) (λ other. same)
 
-pub unlocks : (c t m : ℕ) (k : Parts) → Takes c 1 0 k (unlock t m k).0
-unfolding unlock
-unlocks c t m k = unlocks_known (slice_get k.mutexes m) c t m k refl
+  tries_known : (o : Option Mutex) (m : ℕ) → slice_get k.mutexes m ≡ o → Walk a old 1 32 (try_known o t m k).0
+  tries_known None m e = same
+  tries_known (Some mutex) m e = tries_owned mutex.owner m mutex e refl
+
+  pub tries : (m : ℕ) → Walk a old 1 32 (try_lock t m k).0
+  unfolding try_lock
+  tries m = tries_known (slice_get k.mutexes m) m refl
+
+  -- ---- an unlock
+  unlocks_if : (b : Bool) (m : ℕ) (mutex : Mutex) → slice_get k.mutexes m ≡ Some mutex → mutex.owner ≡ Some t → Walk a old 1 32 (if b then pass_on m k else on_mutex m (held_by t (mutex.count - 1)) k)
+  unlocks_if true m mutex e its = up 0 1 _ (omega arith) (omega arith) (passes a old 0 t own 0 m k (ap (λ xs. slice_get xs m) fresh.mutexes) (ap owner_of e ∙ its) w)
+  unlocks_if false m mutex e its = takes 0 m (mutex.count - 1) mutex (omega arith) e (inr its) (omega arith)
+
+  unlocks_once : (m : ℕ) (mutex : Mutex) → slice_get k.mutexes m ≡ Some mutex → mutex.owner ≡ Some t → Walk a old 1 32 (unlock_once t m mutex k)
+  unfolding unlock_once
+  unlocks_once m mutex e its = unlocks_if (nat_le mutex.count 1) m mutex e its
+
+  unlocks_known : (o : Option Mutex) (m : ℕ) → slice_get k.mutexes m ≡ o → Walk a old 1 32 (unlock_known o t m k).0
+  unlocks_known None m e = same
+  unlocks_known (Some mutex) m e = either a old (is_number mutex.owner t) _ _ (λ its. unlocks_once m mutex e (boosts-is mutex.owner t its)) (λ other. same)
+
+  pub unlocks : (m : ℕ) → Walk a old 1 32 (unlock t m k).0
+  unfolding unlock
+  unlocks m = unlocks_known (slice_get k.mutexes m) m refl

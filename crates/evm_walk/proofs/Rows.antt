@@ -1,46 +1,47 @@
--- One lemma a row: the row is made of moves.
-use Rattle.std.proofs.Common.{◌≡◌, ℕ, ◌+◌, ◌≤◌, List, [], ◌∷◌, Bool, true, false, filter, Option, Some, None, length, refl, ap, ◌⊎◌, inl, inr, arith}
-use Rattle.std.specs.Prelude.{slice_get, map, ◌==◌, ◌&&◌, not, if◌then◌else◌}
-use Rattle.std.proofs.lemmas.List.{length-map}
+-- One lemma a row: the row is a walk.
+use Rattle.std.proofs.Common.{◌≡◌, ℕ, ◌+◌, ◌*◌, ◌<◌, ◌≤◌, List, [], ◌∷◌, Bool, true, false, filter, Option, Some, None, length, refl, ap, sym, ◌∙◌, ◌⊎◌, inl, inr, arith}
+use Rattle.std.specs.Prelude.{slice_get, option_map, ◌==◌, ◌&&◌, not, if◌then◌else◌}
+use Rattle.std.proofs.lemmas.Bool.Decides.{nat_tests}
 use Rattle.std.proofs.lemmas.List.Sums.{length-filter, count_by-le-length}
 use Rattle.std.proofs.lemmas.List.FromFn.{length-range_with_len}
-use Rattle.std.proofs.lemmas.Option.{slice_get-map}
 use Rattle.evm_lines.specs.Lines.{has_line, least_line, all_lines, IsLineSet}
 use Rattle.evm_lines.specs.declared.TheConstants.{LINES}
 use Rattle.evm_isa.specs.Decoded.{decoded}
 use Rattle.evm_isa.specs.declared.inst.Inst.{Inst}
 use Rattle.evm_isa.specs.declared.inst.LoadOp.{LoadOp}
 use Rattle.evm_exec.specs.Does.{does}
-use Rattle.evm_exec.specs.Memory.{width_of_load}
+use Rattle.evm_exec.specs.Memory.{loaded_value, width_of_load}
 use Rattle.evm_exec.specs.declared.hart.Hart.{Hart}
 use Rattle.evm_exec.specs.declared.outcome.Effect.{Effect}
 use Rattle.evm_exec.specs.declared.outcome.Effect.TheVariants.{Next, Load, Store, Call, Break as Breaks, Misaligned}
-use Rattle.evm_model.specs.Bounds.{PER_EVENT}
+use Rattle.evm_model.specs.Bounds.{PER_EVENT, STAMPS_PER_EVENT}
 use Rattle.evm_model.specs.Commands.{tick, set_bits, on_number, is_set, set_breakpoint, unset_breakpoint}
-use Rattle.evm_model.specs.Harts.{advance}
+use Rattle.evm_model.specs.Harts.{set_register, set_pc, advance}
 use Rattle.evm_model.specs.Instructions.{fault, stop, finish, finish_load, finish_store, execute, execute_inst, execute_word}
-use Rattle.evm_model.specs.Lists.{each}
 use Rattle.evm_model.specs.Memory.{fetch, read, write}
 use Rattle.evm_model.specs.Pipes.{Pipe, raise, receive}
 use Rattle.evm_model.specs.Refusals.{board_refusal}
 use Rattle.evm_model.specs.Rows.{run, step_hart, step_current, step_wire, step_pipe, step_processor, step, single_step, row}
-use Rattle.evm_model.specs.Settle.{current, is_oob, settle_oob_pipe, settle_oob, play_in_band_pipe, turn_in_band, settle_in_band, settle, nudge_pipe, nudge, settle_and_nudge, wants_nudge, play_oob_lines}
+use Rattle.evm_model.specs.Settle.{current, current_of, is_oob, run_best, run_in_band, settle_oob_pipe, settle_oob, play_in_band_pipe, turn_in_band, settle_in_band, settle, nudge_pipe, nudge, settle_and_nudge, wants_nudge, play_oob_lines}
 use Rattle.evm_model.specs.State.{Board, Memory, Parts, on_hart, on_processor, on_pipe, on_parts}
+use Rattle.evm_model.specs.Tasks.{demote}
 use Rattle.evm_model.specs.declared.event.Answer.{Answer}
 use Rattle.evm_model.specs.declared.event.Answer.TheVariants.{Stopped}
-use Rattle.evm_model.specs.declared.event.Event.{Event}
+use Rattle.evm_model.specs.Event.{Event}
 use Rattle.evm_model.specs.declared.fault.Fault.{Fault}
 use Rattle.evm_model.specs.declared.event.Event.TheVariants.{Step, Tick, Raise, Bell, Stop, Go, StepI, SetReg, SetPc, Poke, Break, Unbreak}
 use Rattle.evm_model.specs.declared.processor.Processor.{Processor}
+use Rattle.evm_model.specs.declared.task.TaskState.TheVariants.{Faulted}
 use Rattle.evm_ram.specs.declared.refusal.Refusal.TheVariants.{NoSuchLine}
-use Rattle.evm_model.proofs.Lists.{slice_get-each, length-each_from}
-use Rattle.evm_walk.proofs.Moves.{receives, Takes, takes_then, takes_more, takes_less, takes_none, takes_if, takes_hart, takes_processor, takes_pipe, takes_raise, takes_raises}
-use Rattle.evm_walk.proofs.Passing.{takes_end}
-use Rattle.evm_walk.proofs.Playing.{first_on, oob_lines_take, in_band_lines_take}
+use Rattle.evm_model.proofs.Lists.{change-here, slice_get-below}
+use Rattle.evm_walk.proofs.Calls.{walks_call}
+use Rattle.evm_walk.proofs.Passing.{ends}
+use Rattle.evm_walk.proofs.Playing.{first_on, walks_oob_lines, walks_in_band_lines}
 use Rattle.evm_walk.proofs.Refused.{passes, is_line}
-use Rattle.evm_walk.proofs.Calls.{call_takes}
-use Rattle.evm_walk.proofs.Tasks.{takes_demote}
-use Rattle.evm_walk.proofs.Sets.{ArePipes, takes_pipes}
+use Rattle.evm_walk.proofs.Sets.{walk_pipes}
+use Rattle.evm_walk.proofs.Sizes.{walk_runs}
+use Rattle.evm_walk.proofs.Tasks.{demotes}
+use Rattle.evm_walk.proofs.Walk.{Actor, ArePipes, AreFew, Untouched, raises, receives, hart, marks, picks, moves, tells, clock, Walk, start, quietly, counted, slack, walk_if}
 
 -- a set has as many members at most as there are lines
 pub length-set_of_lines : (set : List ℕ) → IsLineSet set → length set ≤ LINES
@@ -50,154 +51,222 @@ length-set_of_lines set s =
     omega (arith, length-filter (has_line set) all_lines, count_by-le-length (has_line set) all_lines, length-range_with_len 0 LINES)
 
 -- ---- settling
-settles_oob : (c : ℕ) (k : Parts) (o : Option Pipe) → slice_get k.pipes c ≡ o → ArePipes k → Takes c 1 LINES k (settle_oob_pipe o c k)
-settles_oob c k None e s = takes_none c 1 LINES k
-settles_oob c k (Some pipe) e s = takes_if c 1 LINES k k _ pipe.oob.stalled (takes_none c 1 LINES k)
-    (takes_then c 1 (length pipe.oob.lines) 0 LINES k (play_oob_lines c pipe.oob.lines k) _ (omega (arith, length-set_of_lines pipe.oob.lines (s.each c pipe e).oob))
-    (oob_lines_take c 1 pipe.oob.lines k pipe e refl (s.each c pipe e))
-    (takes_processor c 1 _ (play_oob_lines c pipe.oob.lines k)))
+module _ (a : Actor) (old : Parts) (may : a.chooses ≡ true) where
+  settles_pipe : (o : Option Pipe) (n s : ℕ) (k : Parts) → slice_get k.pipes a.cpu ≡ o → current a.cpu old ≡ current a.cpu k → Walk a old n s k → Walk a old (n + 32) (s + 32) (settle_oob_pipe o a.cpu k)
+  settles_pipe None n s k e runs w = slack a old n (n + 32) s (s + 32) k (λ p. omega arith) (λ p. omega arith) w
+  settles_pipe (Some pipe) n s k e runs w =
+      let ls : List ℕ = pipe.oob.lines in
+      let played : Parts = play_oob_lines a.cpu ls k in
+      let few : ArePipes old → length ls ≤ LINES = λ are. length-set_of_lines ls ((walk_pipes a old n s k w are).each a.cpu pipe e).oob in
+      walk_if a old (n + 32) (s + 32) pipe.oob.stalled k (run_best a.cpu played)
+      (λ stalled. slack a old n (n + 32) s (s + 32) k (λ p. omega arith) (λ p. omega arith) w)
+      (λ free. slack a old (n + length ls) (n + 32) (s + length ls) (s + 32) _ (λ are. omega (arith, few are)) (λ p. omega (arith, few p.pipes))
+      (quietly a old (n + length ls) (s + length ls) played _ (picks _ played may)
+      (walks_oob_lines a old ls n s k pipe e (λ are. record { same = refl; pipe = (walk_pipes a old n s k w are).each a.cpu pipe e }) runs w)))
 
-plays_pipe : (c : ℕ) (k : Parts) (o : Option Pipe) → slice_get k.pipes c ≡ o → ArePipes k → Takes c 1 LINES k (play_in_band_pipe o c k)
-plays_pipe c k None e s = takes_none c 1 LINES k
-plays_pipe c k (Some pipe) e s = takes_if c 1 LINES k k _ pipe.inband.stalled (takes_none c 1 LINES k)
-    (takes_more c 1 (length pipe.inband.lines) LINES k _ (length-set_of_lines pipe.inband.lines (s.each c pipe e).inband)
-    (in_band_lines_take c 1 pipe.inband.lines k pipe e refl (s.each c pipe e)))
+  pub settles_oob : (n s : ℕ) (k : Parts) → current a.cpu old ≡ current a.cpu k → Walk a old n s k → Walk a old (n + 32) (s + 32) (settle_oob a.cpu k)
+  unfolding settle_oob
+  settles_oob n s k runs w = settles_pipe (slice_get k.pipes a.cpu) n s k refl runs w
 
-turns : (c : ℕ) (k : Parts) → ArePipes k → Takes c 1 LINES k (turn_in_band c k)
-unfolding turn_in_band
-turns c k s = let played : Parts = play_in_band_pipe (slice_get k.pipes c) c k in
-    takes_then c 1 LINES 0 LINES k played _ (omega arith) (plays_pipe c k (slice_get k.pipes c) refl s) (takes_processor c 1 _ played)
+  plays_pipe : (o : Option Pipe) (n s : ℕ) (k : Parts) → slice_get k.pipes a.cpu ≡ o → Walk a old n s k → Walk a old (n + 32) (s + 2048) (play_in_band_pipe o a.cpu k)
+  plays_pipe None n s k e w = slack a old n (n + 32) s (s + 2048) k (λ p. omega arith) (λ p. omega arith) w
+  plays_pipe (Some pipe) n s k e w =
+      let ls : List ℕ = pipe.inband.lines in
+      let few : ArePipes old → length ls ≤ LINES = λ are. length-set_of_lines ls ((walk_pipes a old n s k w are).each a.cpu pipe e).inband in
+      walk_if a old (n + 32) (s + 2048) pipe.inband.stalled k _
+      (λ stalled. slack a old n (n + 32) s (s + 2048) k (λ p. omega arith) (λ p. omega arith) w)
+      (λ free. slack a old (n + length ls) (n + 32) (s + 64 * length ls) (s + 2048) _ (λ are. omega (arith, few are)) (λ p. omega (arith, few p.pipes))
+      (walks_in_band_lines a old ls n s k pipe e (λ are. record { same = refl; pipe = (walk_pipes a old n s k w are).each a.cpu pipe e }) w))
 
-settles_in_band : (c : ℕ) (k : Parts) → ArePipes k → Takes c 1 LINES k (settle_in_band c k)
-unfolding settle_in_band
-settles_in_band c k s = takes_if c 1 LINES k k _ (is_oob (current c k) k.tasks) (takes_none c 1 LINES k) (turns c k s)
+  turns_in_band : (n s : ℕ) (k : Parts) → Walk a old n s k → Walk a old (n + 32) (s + 2048) (turn_in_band a.cpu k)
+  unfolding turn_in_band
+  turns_in_band n s k w =
+      let played : Parts = play_in_band_pipe (slice_get k.pipes a.cpu) a.cpu k in
+      quietly a old (n + 32) (s + 2048) played _ (picks _ played may) (plays_pipe (slice_get k.pipes a.cpu) n s k refl w)
 
-pub settles : (c : ℕ) (k : Parts) → ArePipes k → Takes c 1 64 k (settle c k)
-unfolding settle settle_oob
-settles c k s =
-    let first : Takes c 1 LINES k (settle_oob c k) = settles_oob c k (slice_get k.pipes c) refl s in
-    takes_then c 1 LINES LINES 64 k (settle_oob c k) _ (omega arith) first (settles_in_band c (settle_oob c k) (takes_pipes c 1 LINES k (settle_oob c k) first s))
+  pub settles_in_band : (n s : ℕ) (k : Parts) → Walk a old n s k → Walk a old (n + 32) (s + 2048) (settle_in_band a.cpu k)
+  unfolding settle_in_band
+  settles_in_band n s k w =
+      walk_if a old (n + 32) (s + 2048) (is_oob (current a.cpu k) k.tasks) k _ (λ oob. slack a old n (n + 32) s (s + 2048) k (λ p. omega arith) (λ p. omega arith) w)
+      (λ e. turns_in_band n s k w)
+
+  pub settles : (n s : ℕ) (k : Parts) → current a.cpu old ≡ current a.cpu k → Walk a old n s k → Walk a old (n + 64) (s + 2080) (settle a.cpu k)
+  unfolding settle
+  settles n s k runs w =
+      let counts : n + 64 ≡ n + 32 + 32 = omega arith in
+      let gives : s + 2080 ≡ s + 32 + 2048 = omega arith in
+      rw (counts, gives) (settles_in_band (n + 32) (s + 32) (settle_oob a.cpu k) (settles_oob n s k runs w))
 
 -- ---- the others are told
-nudged : (b : Bool) (p q : Pipe) → (q ≡ p) ⊎ (q ≡ raise 1 p) → ((if b then p else q) ≡ p) ⊎ ((if b then p else q) ≡ raise 1 p)
-nudged true p q h = inl refl
-nudged false p q h = h
+nudged : (own wants may : Bool) (p : Pipe) → may ≡ true → ((if own then p else (if wants then raise 1 p else p)) ≡ p) ⊎ (((if own then p else (if wants then raise 1 p else p)) ≡ raise 1 p) × (may ≡ true))
+nudged true wants may p e = inl refl
+nudged false true may p e = inr (refl, e)
+nudged false false may p e = inl refl
 
-wanted : (b : Bool) (p : Pipe) → ((if b then raise 1 p else p) ≡ p) ⊎ ((if b then raise 1 p else p) ≡ raise 1 p)
-wanted true p = inr refl
-wanted false p = inl refl
-
-pub nudges : (c : ℕ) (k : Parts) → Takes c 1 1 k (nudge c k)
+pub nudges : (a : Actor) (old : Parts) (n s : ℕ) (k : Parts) → ((d : ℕ) → a.may d 1 ≡ true) → Walk a old n s k → Walk a old (n + 1) s (nudge a.cpu k)
 unfolding nudge
-nudges c k = takes_raises c 1 k.ticks (nudge_pipe c k) k (each (nudge_pipe c k) k.pipes) (omega arith) (slice_get-each (nudge_pipe c k) k.pipes)
-    (length-each_from 0 (nudge_pipe c k) k.pipes)
-    (λ d p. nudged (d == c) p _ (wanted (wants_nudge d p k) p))
-    (λ h. refl)
-
-pub finishes : (c : ℕ) (k : Parts) → ArePipes k → Takes c 1 65 k (settle_and_nudge c k)
-unfolding settle_and_nudge
-finishes c k s = takes_then c 1 64 1 65 k (settle c k) _ (omega arith) (settles c k s) (nudges c (settle c k))
+nudges a old n s k may w = counted a old n s k _ 1 (tells 1 (nudge_pipe a.cpu k) k (omega arith) (λ d p. nudged (d == a.cpu) (wants_nudge d p k) (a.may d 1) p (may d))) w
 
 -- ---- an instruction
-stops : (c line : ℕ) (k : Parts) → Takes c line 0 k (stop c k)
-unfolding stop
-stops c line k = takes_processor c line _ k
+-- whether the instruction of a hart is an ECALL
+abbrev pub is_call : Effect → Bool
+is_call Call = true
+is_call _ = false
 
-pub faults : (c t : ℕ) (f : Fault) (k : Parts) → Takes c 1 0 k (fault c t f k)
-faults c t f k = takes_if c 1 0 k _ _ (is_oob (Some t) k.tasks) (takes_demote c t k) (takes_end c t _ k)
+abbrev pub inst_calls : Option Inst → Hart → Bool
+inst_calls None x = false
+inst_calls (Some inst) x = is_call (does inst x.regs x.pc)
 
-loads : (c t : ℕ) (o : Option ℕ) (op : LoadOp) (rd : ℕ) (b : Board) → Takes c 1 0 b.parts (finish_load o op rd c t b).parts
-loads c t None op rd b = faults c t _ b.parts
-loads c t (Some n) op rd b = takes_hart c 1 t _ b.parts
+abbrev pub word_calls : Option ℕ → Hart → Bool
+word_calls None x = false
+word_calls (Some word) x = inst_calls (decoded word) x
 
-stores : (c t : ℕ) (o : Option Memory) (b : Board) → Takes c 1 0 b.parts (finish_store o c t b).parts
-stores c t None b = faults c t _ b.parts
-stores c t (Some memory) b = takes_hart c 1 t advance b.parts
+module _ (a : Actor) (old k : Parts) (t : ℕ) (own : a.task ≡ Some t) (fresh : Untouched old k) (w : Walk a old 0 0 k) where
+  pub faults : (f : Fault) → Walk a old 0 32 (fault a.cpu t f k)
+  faults f =
+      walk_if a old 0 32 (is_oob (Some t) k.tasks) (demote a.cpu t k) _
+      (λ oob. slack a old 0 0 1 32 _ (λ p. omega arith) (λ p. omega arith) (demotes a old 0 0 t k own (inl (ap length fresh.tasks)) w))
+      (λ e. slack a old 0 0 (0 + length k.mutexes) 32 _ (λ p. omega arith) (λ few. omega (arith, few.mutexes, ap length fresh.mutexes))
+      (ends a old 0 t own 0 (Faulted f) k fresh.mutexes (ap length fresh.tasks) w))
 
-pub effect_takes : (effect : Effect) (c t : ℕ) (b : Board) → Takes c 1 1 b.parts (finish effect c t b).parts
-unfolding finish
-effect_takes (Next rd value pc) c t b = takes_less c 1 b.parts _ (takes_hart c 1 t _ b.parts)
-effect_takes (Load op rd address) c t b = takes_less c 1 b.parts _ (loads c t (read address (width_of_load op) b.memory) op rd b)
-effect_takes (Store width address value) c t b = takes_less c 1 b.parts _ (stores c t (write address width value b.memory) b)
-effect_takes Call c t b = call_takes (length b.memory.ram) c t b.parts
-effect_takes Breaks c t b = takes_then c 1 0 0 1 b.parts (on_hart t advance b.parts) _ (omega arith) (takes_hart c 1 t advance b.parts) (stops c 1 (on_hart t advance b.parts))
-effect_takes Misaligned c t b = takes_less c 1 b.parts _ (faults c t _ b.parts)
+  up : (s : ℕ) (x : Parts) → s ≤ 33 → Walk a old 0 s x → Walk a old 1 33 x
+  up s x h v = slack a old 0 1 s 33 x (λ p. omega arith) (λ p. h) v
 
-inst_takes : (o : Option Inst) (hart : Hart) (c t : ℕ) (b : Board) → Takes c 1 1 b.parts (execute_inst o hart c t b).parts
-inst_takes None hart c t b = takes_less c 1 b.parts _ (faults c t _ b.parts)
-inst_takes (Some inst) hart c t b = effect_takes (does inst hart.regs hart.pc) c t b
+  -- a register and the pc
+  goes_on : (r value : ℕ) (f : Hart → Hart) → ((x : Hart) → (f x).regs ≡ (set_register r value x).regs) → Walk a old 0 0 (on_hart t f k)
+  goes_on r value f same = quietly a old 0 0 k _ (hart t r value f k own same (inr (ap length fresh.harts))) w
 
-word_takes : (o : Option ℕ) (hart : Hart) (c t : ℕ) (b : Board) → Takes c 1 1 b.parts (execute_word o hart c t b).parts
-word_takes None hart c t b = takes_less c 1 b.parts _ (faults c t _ b.parts)
-word_takes (Some word) hart c t b = inst_takes (decoded word) hart c t b
+module _ (a : Actor) (old : Parts) (t : ℕ) (own : a.task ≡ Some t) (b : Board) (fresh : Untouched old b.parts) (w : Walk a old 0 0 b.parts) where
+  faulted : (f : Fault) → Walk a old 1 33 (fault a.cpu t f b.parts)
+  faulted f = up a old b.parts t own fresh w 32 _ (omega arith) (faults a old b.parts t own fresh w f)
 
-pub execute_takes : (hart : Hart) (c t : ℕ) (b : Board) → Takes c 1 1 b.parts (execute hart c t b).parts
-unfolding execute
-execute_takes hart c t b = word_takes (fetch hart.pc b.memory) hart c t b
+  went : (r value : ℕ) (f : Hart → Hart) → ((x : Hart) → (f x).regs ≡ (set_register r value x).regs) → Walk a old 1 33 (on_hart t f b.parts)
+  went r value f same = up a old b.parts t own fresh w 0 _ (omega arith) (goes_on a old b.parts t own fresh w r value f same)
+
+  loads : (o : Option ℕ) (op : LoadOp) (rd : ℕ) → Walk a old 1 33 (finish_load o op rd a.cpu t b).parts
+  loads None op rd = faulted _
+  loads (Some n) op rd = went rd (loaded_value op n) _ (λ x. refl)
+
+  stores : (o : Option Memory) → Walk a old 1 33 (finish_store o a.cpu t b).parts
+  stores None = faulted _
+  stores (Some memory) = went 0 0 advance (λ x. refl)
+
+  effects : (effect : Effect) → (is_call effect ≡ true → a.calls ≡ true) → Walk a old 1 33 (finish effect a.cpu t b).parts
+  unfolding finish stop
+  effects (Next rd value pc) may = went rd value _ (λ x. refl)
+  effects (Load op rd address) may = loads (read address (width_of_load op) b.memory) op rd
+  effects (Store width address value) may = stores (write address width value b.memory)
+  effects Call may = walks_call a old b.parts t own fresh w (may refl)
+  effects Breaks may = quietly a old 1 33 (on_hart t advance b.parts) _ (marks (λ p. record p { stopped = true }) (on_hart t advance b.parts) (λ p. refl)) (went 0 0 advance (λ x. refl))
+  effects Misaligned may = faulted _
+
+  insts : (o : Option Inst) (x : Hart) → (inst_calls o x ≡ true → a.calls ≡ true) → Walk a old 1 33 (execute_inst o x a.cpu t b).parts
+  insts None x may = faulted _
+  insts (Some inst) x may = effects (does inst x.regs x.pc) may
+
+  words : (o : Option ℕ) (x : Hart) → (word_calls o x ≡ true → a.calls ≡ true) → Walk a old 1 33 (execute_word o x a.cpu t b).parts
+  words None x may = faulted _
+  words (Some word) x may = insts (decoded word) x may
+
+  pub executes : (x : Hart) → (word_calls (fetch x.pc b.memory) x ≡ true → a.calls ≡ true) → Walk a old 1 33 (execute x a.cpu t b).parts
+  unfolding execute
+  executes x may = words (fetch x.pc b.memory) x may
 
 -- ---- a Step
--- no event counts more, which leaves one to spare
-abbrev pub MOVES : ℕ
-MOVES = 255
+-- a walk, after which the others may have been told
+pub record Stepped (a : Actor) (old new : Parts) : Type 0 where
+  pub between : Parts
+  pub walk : Walk a old 65 2113 between
+  pub told : (new ≡ between) ⊎ (new ≡ nudge a.cpu between)
 
-finishes_after : (c m : ℕ) (old k : Parts) → m ≤ 1 → Takes c 1 m old k → ArePipes old → Takes c 1 MOVES old (settle_and_nudge c k)
-finishes_after c m old k h t s = takes_then c 1 m 65 MOVES old k _ (omega arith) t (finishes c k (takes_pipes c 1 m old k t s))
+stepped : (a : Actor) (old : Parts) (n s : ℕ) (k : Parts) → n ≤ 65 → s ≤ 2113 → Walk a old n s k → Stepped a old k
+stepped a old n s k h g w = record { between = k; walk = slack a old n 65 s 2113 k (λ p. h) (λ p. g) w; told = inl refl }
 
-run_takes : (hart : Hart) (c t : ℕ) (b : Board) → ArePipes b.parts → Takes c 1 MOVES b.parts (run hart c t b).0.parts
-run_takes hart c t b s =
-    let passed : Parts = on_processor c (λ p. record p { skip = false }) b.parts in
-    finishes_after c 1 b.parts _ (omega arith)
-    (takes_then c 1 0 1 1 b.parts passed _ (omega arith) (takes_processor c 1 _ b.parts) (execute_takes hart c t (record b { parts = passed }))) s
+same_current : (o : Option Processor) → current_of (option_map (λ (p : Processor). record p { skip = false }) o) ≡ current_of o
+same_current None = refl
+same_current (Some p) = refl
 
-either_takes : (a line n : ℕ) (k : Parts) (x y : Board × Answer) (b : Bool) → Takes a line n k x.0.parts → Takes a line n k y.0.parts → Takes a line n k (if b then x else y).0.parts
-either_takes a line n k x y true p q = p
-either_takes a line n k x y false p q = q
+pub passed_current : (c : ℕ) (k : Parts) → current c (on_processor c (λ p. record p { skip = false }) k) ≡ current c k
+passed_current c k = ap current_of (change-here (λ (p : Processor). record p { skip = false }) k.processors c) ∙ same_current (slice_get k.processors c)
 
-hart_takes : (o : Option Hart) (p : Processor) (c t : ℕ) (b : Board) → ArePipes b.parts → Takes c 1 MOVES b.parts (step_hart o p c t b).0.parts
-hart_takes None p c t b s = takes_none c 1 MOVES b.parts
-hart_takes (Some hart) p c t b s = either_takes c 1 MOVES b.parts _ (run hart c t b) (is_set b.breakpoints hart.pc && not p.skip)
-    (takes_more c 1 0 MOVES b.parts _ (omega arith) (stops c 1 b.parts)) (run_takes hart c t b s)
+-- one that raises and chooses nothing
+abbrev pub quiet : Actor → Actor
+quiet a = record { cpu = a.cpu; task = a.task; may = λ d l. false; chooses = false; calls = true }
 
-current_takes : (o : Option ℕ) (p : Processor) (c : ℕ) (b : Board) → ArePipes b.parts → Takes c 1 MOVES b.parts (step_current o p c b).0.parts
-current_takes None p c b s = finishes_after c 0 b.parts b.parts (omega arith) (takes_none c 1 0 b.parts) s
-current_takes (Some t) p c b s = hart_takes (slice_get b.parts.harts t) p c t b s
+finishes : (a : Actor) (old : Parts) (n s : ℕ) (k : Parts) → a.chooses ≡ true → n ≤ 1 → s ≤ 33 → current a.cpu old ≡ current a.cpu k → Walk a old n s k → Stepped a old (settle_and_nudge a.cpu k)
+unfolding settle_and_nudge
+finishes a old n s k may h g runs w = record {
+  between = settle a.cpu k;
+  walk = slack a old (n + 64) 65 (s + 2080) 2113 _ (λ p. omega (arith, h)) (λ p. omega (arith, g)) (settles a old may n s k runs w);
+  told = inr refl;
+}
 
-least_on : (set : List ℕ) (l : ℕ) → least_line set ≡ Some l → has_line set l ≡ true
-least_on [] l e = cc
-least_on (x ∷ xs) l e = let same : x ≡ l = cc in rw same (first_on l xs)
+either_steps : (a : Actor) (old : Parts) (b : Bool) (x y : Board × Answer) → Stepped a old x.0.parts → Stepped a old y.0.parts → Stepped a old (if b then x else y).0.parts
+either_steps a old true x y p q = p
+either_steps a old false x y p q = q
 
-wire_takes : (o : Option ℕ) (p : Processor) (c : ℕ) (b : Board) (pipe : Pipe) → slice_get b.parts.pipes c ≡ Some pipe → least_line pipe.wire ≡ o → ArePipes b.parts
-    → Takes c 1 MOVES b.parts (step_wire o p c b).0.parts
-wire_takes None p c b pipe e w s = current_takes p.current p c b s
-wire_takes (Some l) p c b pipe e w s = finishes_after c 1 b.parts (on_pipe c (receive l) b.parts) (omega arith)
-    (takes_pipe c 1 1 (receive l) b.parts (λ q d. let same : pipe ≡ q = cc in receives 1 l q (least_on q.wire l (rw (← same) w)))) s
+pub stops : (a : Actor) (old : Parts) (n s : ℕ) (k : Parts) → Walk a old n s k → Walk a old n s (stop a.cpu k)
+unfolding stop
+stops a old n s k w = quietly a old n s k _ (marks (λ p. record p { stopped = true }) k (λ p. refl)) w
 
-pipe_takes : (o : Option Pipe) (p : Processor) (c : ℕ) (b : Board) → slice_get b.parts.pipes c ≡ o → ArePipes b.parts → Takes c 1 MOVES b.parts (step_pipe o p c b).0.parts
-pipe_takes None p c b e s = takes_none c 1 MOVES b.parts
-pipe_takes (Some pipe) p c b e s = wire_takes (least_line pipe.wire) p c b pipe e refl s
+-- what a step wants of who acts: the task that is current on the processor, unless a line is on its wire; and it calls where its instruction does
+pub record MaySteps (a : Actor) (b : Board) : Type 0 where
+  pub chooses : a.chooses ≡ true
+  pub acts : (pipe : Pipe) → slice_get b.parts.pipes a.cpu ≡ Some pipe → least_line pipe.wire ≡ None → a.task ≡ current a.cpu b.parts
+  pub calls : (t : ℕ) (x : Hart) → current a.cpu b.parts ≡ Some t → slice_get b.parts.harts t ≡ Some x → word_calls (fetch x.pc b.memory) x ≡ true → a.calls ≡ true
 
-processor_takes : (o : Option Processor) (c : ℕ) (b : Board) → ArePipes b.parts → Takes c 1 MOVES b.parts (step_processor o c b).0.parts
-processor_takes None c b s = takes_none c 1 MOVES b.parts
-processor_takes (Some p) c b s = either_takes c 1 MOVES b.parts (b, Stopped) _ p.stopped (takes_none c 1 MOVES b.parts) (pipe_takes (slice_get b.parts.pipes c) p c b refl s)
+module _ (a : Actor) (old : Parts) (b : Board) (may : MaySteps a b) (fresh : Untouched old b.parts) (same : current a.cpu old ≡ current a.cpu b.parts) (w : Walk a old 0 0 b.parts) where
+  runs : (x : Hart) (t : ℕ) → a.task ≡ Some t → (word_calls (fetch x.pc b.memory) x ≡ true → a.calls ≡ true) → Stepped a old (run x a.cpu t b).0.parts
+  runs x t own calls =
+      let skips : Processor → Processor = λ p. record p { skip = false } in
+      let passed : Board = on_parts (on_processor a.cpu skips) b in
+      let done : Parts = (execute x a.cpu t passed).parts in
+      let begun : Walk a old 0 0 passed.parts = quietly a old 0 0 b.parts _ (marks skips b.parts (λ p. refl)) w in
+      let begins : Untouched old passed.parts = record { tasks = fresh.tasks; harts = fresh.harts; mutexes = fresh.mutexes; console = fresh.console } in
+      let itself : Untouched passed.parts passed.parts = record { tasks = refl; harts = refl; mutexes = refl; console = refl } in
+      let stays : current a.cpu done ≡ current a.cpu passed.parts = walk_runs (quiet a) passed.parts 1 33 done refl (executes (quiet a) passed.parts t own passed itself start x (λ e. refl)) in
+      finishes a old 1 33 done may.chooses (omega arith) (omega arith) (same ∙ sym (passed_current a.cpu b.parts) ∙ sym stays) (executes a old t own passed begins begun x calls)
 
-pub step_takes : (c : ℕ) (b : Board) → ArePipes b.parts → Takes c 1 MOVES b.parts (step c b).0.parts
-unfolding step
-step_takes c b s = processor_takes (slice_get b.parts.processors c) c b s
+  hart_steps : (o : Option Hart) (p : Processor) (t : ℕ) → a.task ≡ Some t → current a.cpu b.parts ≡ Some t → slice_get b.parts.harts t ≡ o → Stepped a old (step_hart o p a.cpu t b).0.parts
+  hart_steps None p t own now has = stepped a old 0 0 b.parts (omega arith) (omega arith) w
+  hart_steps (Some x) p t own now has =
+      either_steps a old (is_set b.breakpoints x.pc && not p.skip) _ (run x a.cpu t b) (stepped a old 0 0 _ (omega arith) (omega arith) (stops a old 0 0 b.parts w)) (runs x t own (may.calls t x now has))
+
+  current_steps : (o : Option ℕ) (p : Processor) → a.task ≡ o → current a.cpu b.parts ≡ o → Stepped a old (step_current o p a.cpu b).0.parts
+  current_steps None p own now = finishes a old 0 0 b.parts may.chooses (omega arith) (omega arith) same w
+  current_steps (Some t) p own now = hart_steps (slice_get b.parts.harts t) p t own now refl
+
+  least_on : (set : List ℕ) (l : ℕ) → least_line set ≡ Some l → has_line set l ≡ true
+  least_on [] l e = cc
+  least_on (x ∷ xs) l e = let same : x ≡ l = cc in rw same (first_on l xs)
+
+  wire_steps : (o : Option ℕ) (p : Processor) (pipe : Pipe) → slice_get b.parts.pipes a.cpu ≡ Some pipe → slice_get b.parts.processors a.cpu ≡ Some p → least_line pipe.wire ≡ o → Stepped a old (step_wire o p a.cpu b).0.parts
+  wire_steps None p pipe e f wire = let now : current a.cpu b.parts ≡ p.current = ap current_of f in current_steps p.current p (may.acts pipe e wire ∙ now) now
+  wire_steps (Some l) p pipe e f wire =
+      let heard : Parts = on_pipe a.cpu (receive l) b.parts in
+      finishes a old 1 0 heard may.chooses (omega arith) (omega arith) same
+      (counted a old 0 0 b.parts _ 1 (moves 1 (receive l) b.parts (λ are q d. let one : pipe ≡ q = (let two : Some pipe ≡ Some q = sym e ∙ d in cc) in receives l q (least_on q.wire l (rw (← one) wire)))) w)
+
+  pipe_steps : (o : Option Pipe) (p : Processor) → slice_get b.parts.pipes a.cpu ≡ o → slice_get b.parts.processors a.cpu ≡ Some p → Stepped a old (step_pipe o p a.cpu b).0.parts
+  pipe_steps None p e f = stepped a old 0 0 b.parts (omega arith) (omega arith) w
+  pipe_steps (Some pipe) p e f = wire_steps (least_line pipe.wire) p pipe e f refl
+
+  processor_steps : (o : Option Processor) → slice_get b.parts.processors a.cpu ≡ o → Stepped a old (step_processor o a.cpu b).0.parts
+  processor_steps None f = stepped a old 0 0 b.parts (omega arith) (omega arith) w
+  processor_steps (Some p) f = either_steps a old p.stopped (b, Stopped) _ (stepped a old 0 0 b.parts (omega arith) (omega arith) w) (pipe_steps (slice_get b.parts.pipes a.cpu) p refl f)
+
+  pub steps : Stepped a old (step a.cpu b).0.parts
+  unfolding step
+  steps = processor_steps (slice_get b.parts.processors a.cpu) refl
+
+-- the whole of it, where line 1 may be raised
+pub stepped_walk : (a : Actor) (old new : Parts) → ((d : ℕ) → a.may d 1 ≡ true) → Stepped a old new → Walk a old 66 2113 new
+stepped_walk a old new may d = elim d.told [
+  | inl same ↦ rw same (slack a old 65 66 2113 2113 d.between (λ p. omega arith) (λ p. omega arith) d.walk)
+  | inr told ↦ rw told (nudges a old 65 2113 d.between may d.walk)
+]
 
 -- ---- commands
-bits_take : (stopped skip : Bool) (c line : ℕ) (k : Parts) → Takes c line 0 k (set_bits stopped skip c k)
-unfolding set_bits
-bits_take stopped skip c line k = takes_processor c line _ k
-
-number_takes : (o : Option ℕ) (a line : ℕ) (f : Hart → Hart) (k : Parts) → Takes a line 0 k (on_number o f k)
-number_takes None a line f k = takes_none a line 0 k
-number_takes (Some t) a line f k = takes_hart a line t f k
-
-pub tick_takes : (a : ℕ) (k : Parts) → Takes a 0 1 k (tick k)
-unfolding tick
-tick_takes a k = takes_raises a 0 (k.ticks + 1) (λ d. raise 0) k (map (raise 0) k.pipes) (omega arith) (slice_get-map (raise 0) k.pipes) (length-map k.pipes (raise 0))
-    (λ d p. inr refl) (λ h. absurd (h refl))
-
 -- the processor that an event is of
 abbrev pub actor : Event → ℕ
 actor (Step c) = c
@@ -210,36 +279,78 @@ actor (SetReg c r value) = c
 actor (SetPc c pc) = c
 actor _ = 0
 
--- the only line that an event raises
-abbrev pub raised_line : Event → ℕ
-raised_line Tick = 0
-raised_line (Raise c l) = l
-raised_line (Bell c l) = l
-raised_line _ = 1
+-- whether an event may raise line l on processor d
+abbrev pub may_raise : Event → ℕ → ℕ → Bool
+may_raise (Step c) d l = l == 1
+may_raise (StepI c) d l = l == 1
+may_raise Tick d l = l == 0
+may_raise (Raise c m) d l = c == d && m == l
+may_raise (Bell c m) d l = c == d && m == l
+may_raise _ d l = false
 
-single_takes : (c : ℕ) (b : Board) → ArePipes b.parts → Takes c 1 MOVES b.parts (single_step c b).parts
+abbrev pub acting : Event → Parts → Actor
+acting event k = record { cpu = actor event; task = current (actor event) k; may = may_raise event; chooses = true; calls = true }
+
+-- no event counts more, which leaves one to spare
+abbrev pub MOVES : ℕ
+MOVES = 255
+
+bits : (a : Actor) (old : Parts) (n s : ℕ) (k : Parts) (stopped skip : Bool) → Walk a old n s k → Walk a old n s (set_bits stopped skip a.cpu k)
+unfolding set_bits
+bits a old n s k stopped skip w = quietly a old n s k _ (marks (λ p. record p { stopped = stopped; skip = skip }) k (λ p. refl)) w
+
+bits_current : (c : ℕ) (stopped skip : Bool) (k : Parts) → current c (set_bits stopped skip c k) ≡ current c k
+unfolding set_bits
+bits_current c stopped skip k = ap current_of (change-here (λ (p : Processor). record p { stopped = stopped; skip = skip }) k.processors c) ∙ same_bits (slice_get k.processors c)
+  where
+    same_bits : (o : Option Processor) → current_of (option_map (λ (p : Processor). record p { stopped = stopped; skip = skip }) o) ≡ current_of o
+    same_bits None = refl
+    same_bits (Some p) = refl
+
+set_number : (a : Actor) (o : Option ℕ) (k : Parts) (r value : ℕ) (f : Hart → Hart) → a.task ≡ o → ((x : Hart) → (f x).regs ≡ (set_register r value x).regs) → Walk a k 0 0 (on_number o f k)
+set_number a None k r value f own same = start
+set_number a (Some t) k r value f own same = goes_on a k k t own (record { tasks = refl; harts = refl; mutexes = refl; console = refl }) start r value f same
+
+set_bits_untouched : (c : ℕ) (stopped skip : Bool) (k : Parts) → Untouched k (set_bits stopped skip c k)
+unfolding set_bits
+set_bits_untouched c stopped skip k = record { tasks = refl; harts = refl; mutexes = refl; console = refl }
+
+both_same : (c l : ℕ) → (c == c && l == l) ≡ true
+both_same c l = let one : (c == c) ≡ true = grind (arith, nat_tests) in let two : (l == l) ≡ true = grind (arith, nat_tests) in rw (one, two) refl
+
+raised : (event : Event) (c l : ℕ) (k : Parts) → actor event ≡ c → may_raise event c l ≡ true → l < LINES → Walk (acting event k) k 1 0 (on_pipe (actor event) (raise l) k)
+raised event c l k same may small = counted (acting event k) k 0 0 k _ 1 (moves 1 (raise l) k (λ are p e. raises l p small (rw same may))) start
+
+single : (c : ℕ) (b : Board) → Walk (acting (StepI c) b.parts) b.parts 66 2113 (single_step c b).parts
 unfolding single_step
-single_takes c b s =
+single c b =
+    let a : Actor = acting (StepI c) b.parts in
     let freed : Board = on_parts (set_bits false true c) b in
-    let first : Takes c 1 0 b.parts freed.parts = bits_take false true c 1 b.parts in
-    takes_then c 1 0 MOVES MOVES b.parts freed.parts _ (omega arith) first
-    (takes_then c 1 MOVES 0 MOVES freed.parts (step c freed).0.parts _ (omega arith)
-    (step_takes c freed (takes_pipes c 1 0 b.parts freed.parts first s)) (bits_take true false c 1 (step c freed).0.parts))
+    let begun : Walk a b.parts 0 0 freed.parts = bits a b.parts 0 0 b.parts false true start in
+    let same : current c b.parts ≡ current c freed.parts = sym (bits_current c false true b.parts) in
+    bits a b.parts 66 2113 (step c freed).0.parts true false
+    (stepped_walk a b.parts (step c freed).0.parts (λ d. refl)
+    (steps a b.parts freed (record { chooses = refl; acts = λ pipe e wire. same; calls = λ t x now has e. refl }) (set_bits_untouched c false true b.parts) same begun))
 
-pub row_moves : (event : Event) (b : Board) → board_refusal event b ≡ None → ArePipes b.parts → Takes (actor event) (raised_line event) MOVES b.parts (row event b).0.parts
+module _ (event : Event) (b : Board) where
+  -- as much at most as an event may
+  most : (n s : ℕ) (x : Parts) → n ≤ MOVES → s ≤ STAMPS_PER_EVENT → Walk (acting event b.parts) b.parts n s x → Walk (acting event b.parts) b.parts MOVES STAMPS_PER_EVENT x
+  most n s x h g w = slack (acting event b.parts) b.parts n MOVES s STAMPS_PER_EVENT x (λ p. h) (λ p. g) w
+
+pub row_walks : (event : Event) (b : Board) → board_refusal event b ≡ None → Walk (acting event b.parts) b.parts MOVES STAMPS_PER_EVENT (row event b).0.parts
 unfolding row set_breakpoint unset_breakpoint
-row_moves (Step c) b e s = step_takes c b s
-row_moves Tick b e s = takes_more 0 0 1 MOVES b.parts _ (omega arith) (tick_takes 0 b.parts)
-row_moves (Raise c l) b e s = takes_more c l 1 MOVES b.parts _ (omega arith) (takes_raise c c l b.parts (is_line l (passes (Raise c l) b NoSuchLine e)))
-row_moves (Bell c l) b e s = takes_more c l 1 MOVES b.parts _ (omega arith) (takes_raise c c l b.parts (is_line l (passes (Bell c l) b NoSuchLine e)))
-row_moves (Stop c) b e s = takes_more c 1 0 MOVES b.parts _ (omega arith) (stops c 1 b.parts)
-row_moves (Go c) b e s = takes_more c 1 0 MOVES b.parts _ (omega arith) (bits_take false true c 1 b.parts)
-row_moves (StepI c) b e s = single_takes c b s
-row_moves (SetReg c r value) b e s = takes_more c 1 0 MOVES b.parts _ (omega arith) (number_takes (current c b.parts) c 1 _ b.parts)
-row_moves (SetPc c pc) b e s = takes_more c 1 0 MOVES b.parts _ (omega arith) (number_takes (current c b.parts) c 1 _ b.parts)
-row_moves (Poke address bytes) b e s = takes_none 0 1 MOVES b.parts
-row_moves (Break address) b e s = takes_none 0 1 MOVES b.parts
-row_moves (Unbreak address) b e s = takes_none 0 1 MOVES b.parts
-
-pub row_takes : (event : Event) (b : Board) → board_refusal event b ≡ None → ArePipes b.parts → Takes (actor event) (raised_line event) PER_EVENT b.parts (row event b).0.parts
-row_takes event b e s = takes_more (actor event) (raised_line event) MOVES PER_EVENT b.parts _ (omega arith) (row_moves event b e s)
+row_walks (Step c) b e =
+    most (Step c) b 66 2113 _ (omega arith) (omega arith)
+    (stepped_walk (acting (Step c) b.parts) b.parts (step c b).0.parts (λ d. refl)
+    (steps (acting (Step c) b.parts) b.parts b (record { chooses = refl; acts = λ pipe f wire. refl; calls = λ t x now has g. refl }) (record { tasks = refl; harts = refl; mutexes = refl; console = refl }) refl start))
+row_walks Tick b e = most Tick b 1 0 _ (omega arith) (omega arith) (counted (acting Tick b.parts) b.parts 0 0 b.parts _ 1 (clock b.parts (λ d. refl)) start)
+row_walks (Raise c l) b e = most (Raise c l) b 1 0 _ (omega arith) (omega arith) (raised (Raise c l) c l b.parts refl (both_same c l) (is_line l (passes (Raise c l) b NoSuchLine e)))
+row_walks (Bell c l) b e = most (Bell c l) b 1 0 _ (omega arith) (omega arith) (raised (Bell c l) c l b.parts refl (both_same c l) (is_line l (passes (Bell c l) b NoSuchLine e)))
+row_walks (Stop c) b e = most (Stop c) b 0 0 _ (omega arith) (omega arith) (stops (acting (Stop c) b.parts) b.parts 0 0 b.parts start)
+row_walks (Go c) b e = most (Go c) b 0 0 _ (omega arith) (omega arith) (bits (acting (Go c) b.parts) b.parts 0 0 b.parts false true start)
+row_walks (StepI c) b e = most (StepI c) b 66 2113 _ (omega arith) (omega arith) (single c b)
+row_walks (SetReg c r value) b e = most (SetReg c r value) b 0 0 _ (omega arith) (omega arith) (set_number (acting (SetReg c r value) b.parts) (current c b.parts) b.parts r value _ refl (λ x. refl))
+row_walks (SetPc c pc) b e = most (SetPc c pc) b 0 0 _ (omega arith) (omega arith) (set_number (acting (SetPc c pc) b.parts) (current c b.parts) b.parts 0 0 _ refl (λ x. refl))
+row_walks (Poke address bytes) b e = most (Poke address bytes) b 0 0 _ (omega arith) (omega arith) start
+row_walks (Break address) b e = most (Break address) b 0 0 _ (omega arith) (omega arith) start
+row_walks (Unbreak address) b e = most (Unbreak address) b 0 0 _ (omega arith) (omega arith) start

@@ -7,7 +7,7 @@ use Rattle.evm_model.specs.Refusals.{board_refusal, is_full}
 use Rattle.evm_model.specs.Replay.{accept, apply, apply_unless, left_by, replay}
 use Rattle.evm_model.specs.Rows.{row}
 use Rattle.evm_model.specs.State.{State}
-use Rattle.evm_model.specs.declared.event.Event.{Event}
+use Rattle.evm_model.specs.Event.{Event}
 
 pub record IsKept (P : State → Type 0) : Type 0 where
   pub accepted : (s : State) (event : Event) → is_full s ≡ false → board_refusal event s.board ≡ None → P s → P (accept event (row event s.board) s).0

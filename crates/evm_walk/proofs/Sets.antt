@@ -8,8 +8,8 @@ use Rattle.evm_model.specs.State.{Parts}
 use Rattle.evm_model.specs.declared.stage.Stage.{Stage}
 use Rattle.evm_model.specs.declared.stage.Stage.TheVariants.{OutOfBand, InBand}
 use Rattle.evm_model.proofs.Lists.{length-change}
-use Rattle.evm_walk.proofs.Moves.{PipeMove, raises, receives, plays_timer, plays_oob, plays_in_band, stalls, Moves, Takes}
 use Rattle.evm_walk.proofs.Lift.{Lifts, lift}
+use Rattle.evm_walk.proofs.Walk.{Actor, PipeMove, raises, receives, plays_timer, plays_oob, plays_in_band, stalls, ArePipes, Walk}
 
 raise_kept : (l : ℕ) (p : Pipe) → IsPipe p → IsPipe (raise l p)
 unfolding raise
@@ -34,24 +34,17 @@ unfolding set_stall
 stall_kept OutOfBand b p s = record { wire = s.wire; oob = s.oob; inband = s.inband; counts = s.counts }
 stall_kept InBand b p s = record { wire = s.wire; oob = s.oob; inband = s.inband; counts = s.counts }
 
-pub move_kept : (line n : ℕ) (p q : Pipe) → PipeMove line n p q → IsPipe p → IsPipe q
+pub move_kept : (may : ℕ → Bool) (n : ℕ) (p q : Pipe) → PipeMove may n p q → IsPipe p → IsPipe q
 unfolding receive
-move_kept _ _ _ _ (raises line p h) s = raise_kept line p s
-move_kept _ _ _ _ (receives line l p h) s = arrive_kept (stage_of l) l (leave_wire l p) (leave_kept l p s)
-move_kept _ _ _ _ (plays_timer line p h) s = arrive_kept InBand 0 (play OutOfBand 0 p) (play_kept OutOfBand 0 p s)
-move_kept _ _ _ _ (plays_oob line l p other h) s = play_kept OutOfBand l p s
-move_kept _ _ _ _ (plays_in_band line l p h) s = play_kept InBand l p s
-move_kept _ _ _ _ (stalls line stage b p) s = stall_kept stage b p s
+move_kept may _ _ _ (raises l p h on) s = raise_kept l p s
+move_kept may _ _ _ (receives l p h) s = arrive_kept (stage_of l) l (leave_wire l p) (leave_kept l p s)
+move_kept may _ _ _ (plays_timer p h) s = arrive_kept InBand 0 (play OutOfBand 0 p) (play_kept OutOfBand 0 p s)
+move_kept may _ _ _ (plays_oob l p other h) s = play_kept OutOfBand l p s
+move_kept may _ _ _ (plays_in_band l p h) s = play_kept InBand l p s
+move_kept may _ _ _ (stalls stage b p) s = stall_kept stage b p s
 
 -- ---- all pipes
-pub record ArePipes (k : Parts) : Type 0 where
-  pub each : (c : ℕ) (p : Pipe) → slice_get k.pipes c ≡ Some p → IsPipe p
-
-pub moves_pipes : (a line n : ℕ) (old new : Parts) → Moves a line n old new → ArePipes old → ArePipes new
-moves_pipes a line n old new m s =
+pub walk_pipes : (a : Actor) (old : Parts) (n s : ℕ) (k : Parts) → Walk a old n s k → ArePipes old → ArePipes k
+walk_pipes a old n s k w are =
     let P : ℕ → Pipe → Type 0 = λ b p. IsPipe p in
-    let l : Lifts line P = record { more = λ b n p h. h; moved = λ b n p q. move_kept line n p q } in
-    record { each = λ c p e. (lift P a line n 0 c old new l m (record { holds = s.each c })).holds p e }
-
-pub takes_pipes : (a line n : ℕ) (old new : Parts) → Takes a line n old new → ArePipes old → ArePipes new
-takes_pipes a line n old new t s = moves_pipes a line t.count old new t.moves s
+    record { each = λ d p e. (lift a old P d (record { more = λ b m q h g. g; moved = λ b m p q. move_kept (a.may d) m p q }) are n s 0 k w (record { holds = are.each d })).holds p e }

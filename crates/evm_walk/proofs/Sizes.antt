@@ -1,31 +1,133 @@
--- How many there are of each: a line a move.
-use Rattle.std.proofs.Common.{◌≡◌, ℕ, ◌≤◌, length, ◌∙◌, arith}
-use Rattle.std.specs.Prelude.{slice_get}
-use Rattle.evm_model.specs.State.{Parts}
-use Rattle.evm_walk.proofs.Moves.{Moves, once, chain, Takes}
+-- How many there are of each, how many stamps are given, and when the clock and the current task stay.
+use Rattle.std.proofs.Common.{◌≡◌, ℕ, ◌+◌, ◌-◌, ◌≤◌, [], ◌∷◌, Bool, true, false, Option, Some, None, length, length-append, refl, ap, sym, ◌∙◌, arith}
+use Rattle.std.specs.Prelude.{slice_get, option_map, nat_le, if◌then◌else◌}
+use Rattle.std.proofs.lemmas.List.{length-map}
+use Rattle.evm_model.specs.Commands.{tick}
+use Rattle.evm_model.specs.Harts.{spawned_hart}
+use Rattle.evm_model.specs.InBandCalls.{add_task}
+use Rattle.evm_model.specs.Locks.{add_mutex}
+use Rattle.evm_model.specs.Pipes.{raise}
+use Rattle.evm_model.specs.Settle.{current, current_of}
+use Rattle.evm_model.specs.State.{Parts, new_task}
+use Rattle.evm_model.specs.Tasks.{restamp, set_policy, set_slice, spend_slice}
+use Rattle.evm_model.specs.Waits.{wake}
+use Rattle.evm_model.specs.declared.limits.TheConstants.{SLICE, TASK_LIMIT}
+use Rattle.evm_model.specs.declared.processor.Processor.{Processor}
+use Rattle.evm_model.proofs.Lists.{length-change, length-each_from, change-here}
+use Rattle.evm_walk.proofs.Walk.{Actor, AreFew, Does, rests, hart, task, stamps, turns, spends, wakes, inherits, holds, marks, picks, moves, tells, clock, schedules, adds, makes, types, Walk, start, next}
 
--- as many pipes and processors, and no fewer harts and tasks
+-- what holds after a tick of a slice and after its last one
+pub of_spend : (P : Parts → Type 0) (t slice : ℕ) (k : Parts) → P (restamp t (set_slice t SLICE k)) → P (set_slice t (slice - 1) k) → P (spend_slice t slice k)
+unfolding spend_slice
+of_spend P t slice k whole less = elim (nat_le slice 1) as (λ (b : Bool). P (if b then restamp t (set_slice t SLICE k) else set_slice t (slice - 1) k)) [ true ↦ whole | false ↦ less ]
+
+-- as many pipes and processors, no fewer harts and tasks, and no more tasks than there may be
 pub record Sizes (old new : Parts) : Type 0 where
   pub pipes : length new.pipes ≡ length old.pipes
   pub processors : length new.processors ≡ length old.processors
   pub harts : length old.harts ≤ length new.harts
   pub tasks : length old.tasks ≤ length new.tasks
+  pub few : length old.tasks ≤ TASK_LIMIT → length new.tasks ≤ TASK_LIMIT
 
-pub moves_sizes : (a line n : ℕ) (old new : Parts) → Moves a line n old new → Sizes old new
-moves_sizes _ _ _ _ _ (once a line n old new o) = record { pipes = o.pipes_count; processors = o.processors_count; harts = o.harts_count; tasks = o.tasks_count }
-moves_sizes _ _ _ _ _ (chain a line m n x y z p q) =
-    let g = moves_sizes a line m x y p in let h = moves_sizes a line n y z q in
-    record { pipes = h.pipes ∙ g.pipes; processors = h.processors ∙ g.processors; harts = omega arith; tasks = omega arith }
+sized : (x y : Parts) → length y.pipes ≡ length x.pipes → length y.processors ≡ length x.processors → length y.harts ≡ length x.harts → length y.tasks ≡ length x.tasks → Sizes x y
+sized x y p q h t = record { pipes = p; processors = q; harts = omega (arith, h); tasks = omega (arith, t); few = λ g. omega (arith, t, g) }
 
-pub takes_sizes : (a line n : ℕ) (old new : Parts) → Takes a line n old new → Sizes old new
-takes_sizes a line n old new t = moves_sizes a line t.count old new t.moves
+sizes_then : (x y z : Parts) → Sizes x y → Sizes y z → Sizes x z
+sizes_then x y z p q = record {
+  pipes = q.pipes ∙ p.pipes;
+  processors = q.processors ∙ p.processors;
+  harts = omega (arith, p.harts, q.harts);
+  tasks = omega (arith, p.tasks, q.tasks);
+  few = λ g. q.few (p.few g);
+}
 
--- another processor than the actor stays as it is
-pub moves_others : (a line n : ℕ) (old new : Parts) → Moves a line n old new → (d : ℕ) → (d ≡ a → ⊥) → slice_get new.processors d ≡ slice_get old.processors d
-moves_others _ _ _ _ _ (once a line n old new o) d other = o.processors d other
-moves_others _ _ _ _ _ (chain a line m n x y z p q) d other = moves_others a line n y z q d other ∙ moves_others a line m x y p d other
+module _ (a : Actor) (old : Parts) where
+  does_sizes : (i j : ℕ) (k x : Parts) → Does a old i j k x → Sizes k x
+  unfolding restamp set_policy set_slice wake tick add_task add_mutex
+  does_sizes _ _ _ _ (hart t r value f k own x there) = sized k _ refl refl (length-change f k.harts t) refl
+  does_sizes _ _ _ _ (task t f k own x there) = sized k _ refl refl refl (length-change f k.tasks t)
+  does_sizes _ _ _ _ (stamps t k own there) = sized k _ refl refl refl (length-change _ k.tasks t)
+  does_sizes _ _ _ _ (turns t f k own x there) = sized k _ refl refl refl (length-change _ _ t ∙ length-change f k.tasks t)
+  does_sizes _ _ _ _ (spends t x k runs there on) =
+      of_spend (Sizes k) t x.slice k (sized k _ refl refl refl (length-change _ _ t ∙ length-change _ k.tasks t)) (sized k _ refl refl refl (length-change _ k.tasks t))
+  does_sizes _ _ _ _ (wakes t l k on) = sized k _ refl refl (length-change _ k.harts t) (length-change _ _ t ∙ length-change _ k.tasks t)
+  does_sizes _ _ _ _ (inherits t u m k own same its first) = sized k _ refl refl (length-change _ k.harts u) (length-change _ _ u ∙ length-change _ k.tasks u)
+  does_sizes _ _ _ _ (marks f k x) = sized k _ refl (length-change f k.processors a.cpu) refl refl
+  does_sizes _ _ _ _ (picks f k x) = sized k _ refl (length-change f k.processors a.cpu) refl refl
+  does_sizes _ _ _ _ (moves i f k x) = sized k _ (length-change f k.pipes a.cpu) refl refl refl
+  does_sizes _ _ _ _ (tells l f k h x) = sized k _ (length-each_from 0 f k.pipes) refl refl refl
+  does_sizes _ _ _ _ (clock k x) = sized k _ (length-map k.pipes (raise 0)) refl refl refl
+  does_sizes _ _ _ _ (schedules u priority class k fresh x) = sized k _ refl refl refl (length-change _ k.tasks u)
+  does_sizes _ _ _ _ (adds t entry value cpu k own fresh room) = record {
+    pipes = refl;
+    processors = refl;
+    harts = omega (arith, length-append k.harts (spawned_hart entry value ∷ []));
+    tasks = omega (arith, length-append k.tasks (new_task cpu k.stamps ∷ []));
+    few = λ g. omega (arith, room, length-append k.tasks (new_task cpu k.stamps ∷ []));
+  }
+  does_sizes _ _ k _ _ = sized k _ refl refl refl refl
 
--- the clock stays, unless line 0 is raised
-pub moves_ticks : (a line n : ℕ) (old new : Parts) → Moves a line n old new → (line ≡ 0 → ⊥) → new.ticks ≡ old.ticks
-moves_ticks _ _ _ _ _ (once a line n old new o) h = o.ticks h
-moves_ticks _ _ _ _ _ (chain a line m n x y z p q) h = moves_ticks a line n y z q h ∙ moves_ticks a line m x y p h
+  pub walk_sizes : (n s : ℕ) (k : Parts) → Walk a old n s k → Sizes old k
+  walk_sizes _ _ _ start = sized old old refl refl refl refl
+  walk_sizes _ _ _ (next m n s u i j k x h g d w) = sizes_then old k x (walk_sizes m s k w) (does_sizes i j k x d)
+
+-- ---- stamps
+-- so many are given
+pub record Gives (s : ℕ) (old new : Parts) : Type 0 where
+  pub least : old.stamps ≤ new.stamps
+  pub most : new.stamps ≤ old.stamps + s
+
+gives : (s : ℕ) (x y : Parts) → x.stamps ≤ y.stamps → y.stamps ≤ x.stamps + s → Gives s x y
+gives s x y l m = record { least = l; most = m }
+
+module _ (a : Actor) (old : Parts) where
+  does_give : (i j : ℕ) (k x : Parts) → Does a old i j k x → Gives j k x
+  unfolding restamp set_policy set_slice wake tick add_task add_mutex
+  does_give _ _ _ _ (spends t x k runs there on) = of_spend (Gives 1 k) t x.slice k (gives 1 k _ (omega arith) (omega arith)) (gives 1 k _ (omega arith) (omega arith))
+  does_give _ j k _ _ = gives j k _ (omega arith) (omega arith)
+
+  pub walk_least : (n s : ℕ) (k : Parts) → Walk a old n s k → old.stamps ≤ k.stamps
+  walk_least _ _ _ start = omega arith
+  walk_least _ _ _ (next m n s u i j k x h g d w) = omega (arith, walk_least m s k w, (does_give i j k x d).least)
+
+  pub walk_most : (n s : ℕ) (k : Parts) → AreFew old → Walk a old n s k → k.stamps ≤ old.stamps + s
+  walk_most _ _ _ few start = omega arith
+  walk_most _ _ _ few (next m n s u i j k x h g d w) = omega (arith, walk_most m s k few w, (does_give i j k x d).most, g few)
+
+-- ---- the profile, the clock and the current task
+same_current : (f : Processor → Processor) (o : Option Processor) → ((p : Processor) → (f p).current ≡ p.current) → current_of (option_map f o) ≡ current_of o
+same_current f None h = refl
+same_current f (Some p) h = h p
+
+module _ (a : Actor) (old : Parts) where
+  does_profile : (i j : ℕ) (k x : Parts) → Does a old i j k x → x.profile ≡ k.profile
+  unfolding restamp set_policy set_slice wake tick add_task add_mutex
+  does_profile _ _ _ _ (spends t x k runs there on) = of_spend (λ y. y.profile ≡ k.profile) t x.slice k refl refl
+  does_profile _ _ _ _ _ = refl
+
+  pub walk_profile : (n s : ℕ) (k : Parts) → Walk a old n s k → k.profile ≡ old.profile
+  walk_profile _ _ _ start = refl
+  walk_profile _ _ _ (next m n s u i j k x h g d w) = does_profile i j k x d ∙ walk_profile m s k w
+
+  does_ticks : (i j : ℕ) (k x : Parts) → a.may 0 0 ≡ false → Does a old i j k x → x.ticks ≡ k.ticks
+  unfolding restamp set_policy set_slice wake tick add_task add_mutex
+  does_ticks _ _ _ _ q (spends t x k runs there on) = of_spend (λ y. y.ticks ≡ k.ticks) t x.slice k refl refl
+  does_ticks _ _ _ _ q (clock k x) = let no : true ≡ false = sym (x 0) ∙ q in cc
+  does_ticks _ _ _ _ q _ = refl
+
+  -- where it may not tick
+  pub walk_ticks : (n s : ℕ) (k : Parts) → a.may 0 0 ≡ false → Walk a old n s k → k.ticks ≡ old.ticks
+  walk_ticks _ _ _ q start = refl
+  walk_ticks _ _ _ q (next m n s u i j k x h g d w) = does_ticks i j k x q d ∙ walk_ticks m s k q w
+
+  does_runs : (i j : ℕ) (k x : Parts) → a.chooses ≡ false → Does a old i j k x → current a.cpu x ≡ current a.cpu k
+  unfolding restamp set_policy set_slice wake tick add_task add_mutex
+  does_runs _ _ _ _ q (spends t x k runs there on) = of_spend (λ y. current a.cpu y ≡ current a.cpu k) t x.slice k refl refl
+  does_runs _ _ _ _ q (marks f k x) = ap current_of (change-here f k.processors a.cpu) ∙ same_current f (slice_get k.processors a.cpu) x
+  does_runs _ _ _ _ q (picks f k x) = let no : true ≡ false = sym x ∙ q in cc
+  does_runs _ _ _ _ q _ = refl
+
+  -- where it may not choose
+  pub walk_runs : (n s : ℕ) (k : Parts) → a.chooses ≡ false → Walk a old n s k → current a.cpu k ≡ current a.cpu old
+  walk_runs _ _ _ q start = refl
+  walk_runs _ _ _ q (next m n s u i j k x h g d w) = does_runs i j k x q d ∙ walk_runs m s k q w

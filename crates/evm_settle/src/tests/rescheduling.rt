@@ -9,9 +9,8 @@ use super::console_of;
 use crate::settle_and_nudge;
 use arrayvec::ArrayVec;
 use evm_boost::Mutexes;
-use evm_calls::set_sched::set_sched;
 use evm_exec::Hart;
-use evm_model::{Class, Mode, Outcome, Processor, Stage, Task, TaskState};
+use evm_model::{Class, Mode, Processor, Profile, Stage, Task, TaskState};
 use evm_parts::{Console, Parts};
 use evm_pipe::Pipe;
 use evm_task::{Harts, Tasks};
@@ -56,6 +55,7 @@ fn two_processors(console: Console) -> Parts
         pc: 0x8000_0000,
     };
     Parts {
+        profile: Profile { ram: 65_536 },
         ticks: 0,
         harts: Harts::of_first(hart),
         tasks,
@@ -89,14 +89,13 @@ fn parts_of(console: Console, line: bool, stalled: bool) -> Parts
 }
 
 // Processor 0 makes task 1 the better one, and settles.
-fn betters(parts: &mut Parts) -> Outcome
+fn betters(parts: &mut Parts)
     requires room { AreWithin 1 parts.old }
     requires stamps { parts.old.stamps ≤ 3 }
     ensures { AreWithin 98 parts.new }
 {
-    let outcome = set_sched(parts, 1, 1, 30);
+    parts.set_policy(1, Class::Fifo, 30);
     settle_and_nudge(parts, 0);
-    outcome
 }
 
 // Processor 1 receives line 1, and settles.
@@ -128,7 +127,7 @@ fn line_1(parts: &Parts) -> Option<(bool, u64, u64)> {
 fn a_better_task_is_told_by_line_1(rt: HostRuntime) -> Result<(), Fail> {
     let mut parts = parts_of(console_of(rt.alloc())?, false, false);
     assert!(rt; parts.stamps <= 3);
-    assert_eq!(rt; betters(&mut parts), Outcome::Answers(0));
+    betters(&mut parts);
     assert_eq!(rt; line_1(&parts), Some((true, 1, 0)));
     assert_eq!(rt; parts.current(1), Some(2));
     assert!(rt; parts.stamps <= 64);
@@ -141,7 +140,7 @@ fn a_better_task_is_told_by_line_1(rt: HostRuntime) -> Result<(), Fail> {
 fn a_stalled_processor_is_not_told(rt: HostRuntime) -> Result<(), Fail> {
     let mut parts = parts_of(console_of(rt.alloc())?, false, true);
     assert!(rt; parts.stamps <= 3);
-    assert_eq!(rt; betters(&mut parts), Outcome::Answers(0));
+    betters(&mut parts);
     assert_eq!(rt; line_1(&parts), Some((false, 0, 0)));
     assert_eq!(rt; parts.current(1), Some(2));
     assert!(rt; parts.stamps <= 64);
@@ -155,7 +154,7 @@ fn a_stalled_processor_is_not_told(rt: HostRuntime) -> Result<(), Fail> {
 fn a_processor_is_told_once(rt: HostRuntime) -> Result<(), Fail> {
     let mut parts = parts_of(console_of(rt.alloc())?, true, false);
     assert!(rt; parts.stamps <= 3);
-    assert_eq!(rt; betters(&mut parts), Outcome::Answers(0));
+    betters(&mut parts);
     assert_eq!(rt; line_1(&parts), Some((true, 1, 0)));
     Ok(())
 }

@@ -7,7 +7,7 @@ use Rattle.evm_model.specs.Replay.{accept, apply, apply_unless}
 use Rattle.evm_model.specs.Rows.{row}
 use Rattle.evm_model.specs.State.{State}
 use Rattle.evm_model.specs.declared.event.Answer.{Answer}
-use Rattle.evm_model.specs.declared.event.Event.{Event}
+use Rattle.evm_model.specs.Event.{Event}
 use Rattle.evm_runs.specs.Least.{is_reason}
 use Rattle.evm_claims.proofs.parts.the_least_refusal_is_told.Goals as goal
 

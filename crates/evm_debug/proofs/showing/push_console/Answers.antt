@@ -1,10 +1,11 @@
-use Rattle.std.proofs.Common.{◌++◌, List, ap, ◌∙◌, ℕ}
-use Rattle.evm_text.specs.Written.{pairs}
-use Rattle.evm_debug.proofs.Pairs.{digits-joined}
+use Rattle.std.proofs.Common.{◌++◌, List, Ok, ap, codes, refl, ℕ}
+use Rattle.evm_text.specs.Appending.{Appends}
+use Rattle.evm_text.proofs.Appending.{appends_more}
+use Rattle.evm_debug.proofs.Pairs.{pairs-append}
 use Rattle.evm_debug.proofs.showing.push_console.Goals as goal
 
-pub returns-clause-ok : goal.returns-clause-ok
-returns-clause-ok c =
-    c.in_ok-push_text.ensures.ok
-    ∙ ap (λ (t : List ℕ). t ++ _) (c.in_ok-push_pairs-2.ensures.ok ∙ ap (λ (t : List ℕ). t ++ pairs c.args.newer.now) c.in_ok-push_pairs.ensures.ok)
-    ∙ digits-joined _ c.args.older.now c.args.newer.now _
+pub returns : goal.returns
+returns c =
+    let both = appends_more _ _ _ _ _ _ c.in_ok-push_pairs.ensures.appends c.in_ok-push_pairs-2.ensures.appends refl in
+    let last : Appends (codes "\n") _ _ (Ok tt) = record { ok = c.in_ok-push_text.ensures.ok; len = c.in_ok-push_text.ensures.len; full = tt; refused = tt; capacity = c.in_ok-push_text.ensures.capacity } in
+    appends_more _ _ _ _ _ _ both last (ap (λ (text : List ℕ). text ++ codes "\n") (pairs-append c.args.older.now c.args.newer.now))

@@ -1,13 +1,9 @@
-use Rattle.std.proofs.Common.{◌≡◌, ◌≤◌, ◌+◌, ◌++◌, ◌-◌, ◌*◌, length}
-use Rattle.std.specs.String.{string_bytes, string_capacity, string_len}
+use Rattle.std.proofs.Common.{◌≡◌, ◌++◌, ◌-◌, ◌*◌, ℕ, List, Ok}
+use Rattle.evm_text.specs.Appending.{Appends}
 use Rattle.evm_debug.specs.Views.{register_lines, registers_text}
 use Rattle.evm_debug.proofs.views.push_registers.Given as goal
 
--- the text so far and the lines that are left are the whole text
+-- a front of the text is appended, and the lines that are left are the rest
 abbrev pub invariant-loop-line : goal.invariant-loop-line
-invariant-loop-line l = record {
-  bytes : string_bytes l.out ++ register_lines (l.line * 4) (8 - l.line) l.hart.regs ≡ string_bytes l.fn.out ++ registers_text l.hart.regs;
-  len : string_len l.out + length (register_lines (l.line * 4) (8 - l.line) l.hart.regs) ≡ string_len l.fn.out + length (registers_text l.hart.regs);
-  rest : length (register_lines (l.line * 4) (8 - l.line) l.hart.regs) ≤ length (registers_text l.hart.regs);
-  capacity : string_capacity l.fn.out ≤ string_capacity l.out;
-}
+invariant-loop-line l =
+    (front : List ℕ) × Appends front l.fn.out l.out (Ok tt) × (front ++ register_lines (l.line * 4) (8 - l.line) l.hart.regs ≡ registers_text l.hart.regs)

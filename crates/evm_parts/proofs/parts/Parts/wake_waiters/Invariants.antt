@@ -1,5 +1,5 @@
 use Rattle.std.proofs.Common.{◌≡◌, ◌≤◌, ◌+◌}
-use Rattle.evm_model.specs.Tasks.{wake_below}
+use Rattle.evm_model.specs.Waits.{wake_below}
 use Rattle.evm_parts.proofs.parts.Parts.wake_waiters.Given as goal
 
 -- the tasks below t have woken

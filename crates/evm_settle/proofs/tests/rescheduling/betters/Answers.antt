@@ -1,9 +1,9 @@
 use Rattle.evm_rules.proofs.Bounded.{within-settle_and_nudge}
-use Rattle.evm_settle.proofs.Rescheduling.{few-settle, sched-within}
+use Rattle.evm_settle.proofs.Rescheduling.{few-settle, policy-within}
 use Rattle.evm_settle.proofs.tests.rescheduling.betters.Goals as goal
 
 pub settle_and_nudge-requires-clause-room : goal.settle_and_nudge-requires-clause-room
-settle_and_nudge-requires-clause-room c = few-settle _ (sched-within _ _ _ _ _ _ c.set_sched-outcome.ensures.row c.requires.room)
+settle_and_nudge-requires-clause-room c = few-settle _ (policy-within _ _ _ _ _ c.set_policy.ensures.row c.requires.room)
 
 pub returns : goal.returns
-returns c = rw c.settle_and_nudge.ensures (within-settle_and_nudge 1 0 _ (sched-within _ _ _ _ _ _ c.set_sched-outcome.ensures.row c.requires.room))
+returns c = rw c.settle_and_nudge.ensures (within-settle_and_nudge 1 0 _ (policy-within _ _ _ _ _ c.set_policy.ensures.row c.requires.room))
