@@ -40,7 +40,7 @@ IsGiven c t old task given =
 abbrev pub IsWoken : ℕ → ℕ → Parts → Parts → Task → Hart → Type 0
 IsWoken c t old new given hart =
     (line : ℕ) × ((stamp : ℕ) × ((given.state ≡ Waits (Line line)) × (given.cpu ≡ c) × (old.stamps ≤ stamp)
-    × (slice_get new.tasks t ≡ Some (record given { stamp = stamp; state = InReady }))
+    × (slice_get new.tasks t ≡ Some (record given { stamp = stamp; deadline = 0; state = InReady }))
     × (slice_get new.harts t ≡ Some (record hart { regs = with_register hart.regs 10 0 }))))
 
 -- it stays so, wakes, or inherits a mutex of the current task
@@ -52,7 +52,7 @@ IsLeft c t old new given hart =
     × (current c old ≡ Some giver) × (owner old.mutexes m ≡ Some giver)
     × (slice_get new.mutexes m ≡ Some mutex) × (mutex.owner ≡ Some t) × (mutex.count ≡ 1)
     × (old.stamps ≤ stamp)
-    × (slice_get new.tasks t ≡ Some (record given { stamp = stamp; state = OobReady }))
+    × (slice_get new.tasks t ≡ Some (record given { stamp = stamp; deadline = 0; state = OobReady }))
     × (slice_get new.harts t ≡ Some (record hart { regs = with_register hart.regs 10 0 })))))))
 
 pub woken : (c t : ℕ) (old new : Parts) (task : Task) (hart : Hart) → slice_get old.tasks t ≡ Some task → slice_get old.harts t ≡ Some hart → Wakes c t old new → IsWoken c t old new task hart

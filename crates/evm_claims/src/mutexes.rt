@@ -3,10 +3,11 @@
 ghost use Rattle.std.specs.Prelude.{◌≡◌, ◌≢◌, ◌+◌, ◌%◌, ◌<◌, ◌≤◌, ◌⊎◌, ℕ, suc, List, false, Option, slice_get, length};
 ghost use Rattle.evm_model.specs.Load.{start_loaded};
 ghost use Rattle.evm_model.specs.Mutexes.{owner, waits_on, boosts};
-ghost use Rattle.evm_model.specs.Passing.{first_waiter, pass_on};
+ghost use Rattle.evm_model.specs.Passing.{pass_on};
 ghost use Rattle.evm_model.specs.Ranks.{class_rank, own_rank, rank};
 ghost use Rattle.evm_model.specs.Replay.{bad_boot, start, replay};
 ghost use Rattle.evm_model.specs.State.{State, Parts};
+ghost use Rattle.evm_model.specs.Waits.{first_waiter};
 ghost use Rattle.evm_model.specs.declared.boot.Boot.{Boot};
 ghost use Rattle.evm_model.specs.Event.{Event};
 ghost use Rattle.evm_model.specs.declared.mutex.Mutex.{Mutex};
@@ -102,18 +103,18 @@ pub fn a_rank_is_never_below_its_own()
 /// A mutex passes on to the first that waits for it: no other that waits for it ranks higher, nor as high with a lesser
 /// stamp. That task owns it then, locked once, and is ready out-of-band; where none waits for it, it is free.
 pub fn a_mutex_passes_to_the_first_waiter()
-    ensures waits { (m t : ℕ) (k : Parts) → first_waiter m k ≡ Option.Some t →
+    ensures waits { (m t : ℕ) (k : Parts) → first_waiter (Wait.Lock m) k ≡ Option.Some t →
         (task : Task) × ((slice_get k.tasks t ≡ Option.Some task) × (task.state ≡ TaskState.Waits (Wait.Lock m))
         × ((u : ℕ) (other : Task) → slice_get k.tasks u ≡ Option.Some other → other.state ≡ TaskState.Waits (Wait.Lock m) →
         (rank k.mutexes k.tasks u ≤ rank k.mutexes k.tasks t)
         × (rank k.mutexes k.tasks u ≡ rank k.mutexes k.tasks t → task.stamp ≤ other.stamp))) }
-    ensures none_waits { (m u : ℕ) (k : Parts) (other : Task) → first_waiter m k ≡ Option.None →
+    ensures none_waits { (m u : ℕ) (k : Parts) (other : Task) → first_waiter (Wait.Lock m) k ≡ Option.None →
         slice_get k.tasks u ≡ Option.Some other → other.state ≢ TaskState.Waits (Wait.Lock m) }
-    ensures passes { (m t : ℕ) (k : Parts) (mutex : Mutex) (task : Task) → first_waiter m k ≡ Option.Some t →
+    ensures passes { (m t : ℕ) (k : Parts) (mutex : Mutex) (task : Task) → first_waiter (Wait.Lock m) k ≡ Option.Some t →
         slice_get k.mutexes m ≡ Option.Some mutex → slice_get k.tasks t ≡ Option.Some task →
         (slice_get (pass_on m k).mutexes m ≡ Option.Some (record mutex { owner = Option.Some t; count = 1 }))
-        × (slice_get (pass_on m k).tasks t ≡ Option.Some (record task { stamp = k.stamps; state = TaskState.OobReady })) }
-    ensures frees { (m : ℕ) (k : Parts) (mutex : Mutex) → first_waiter m k ≡ Option.None → slice_get k.mutexes m ≡ Option.Some mutex →
+        × (slice_get (pass_on m k).tasks t ≡ Option.Some (record task { stamp = k.stamps; deadline = 0; state = TaskState.OobReady })) }
+    ensures frees { (m : ℕ) (k : Parts) (mutex : Mutex) → first_waiter (Wait.Lock m) k ≡ Option.None → slice_get k.mutexes m ≡ Option.Some mutex →
         (slice_get (pass_on m k).mutexes m ≡ Option.Some (record mutex { owner = Option.None; count = 0 }))
         × ((pass_on m k).tasks ≡ k.tasks) }
 {

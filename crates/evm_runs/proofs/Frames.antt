@@ -99,7 +99,7 @@ owner_below : (mutexes : List Mutex) (m t : ℕ) (o : Option Mutex) → slice_ge
 owner_below mutexes m t None e h = cc
 owner_below mutexes m t (Some x) e h = slice_get-below mutexes m x e
 
-owns_it : (t m : ℕ) (mutexes : List Mutex) → owner mutexes m ≡ Some t → owns_any t mutexes ≡ true
+pub owns_it : (t m : ℕ) (mutexes : List Mutex) → owner mutexes m ≡ Some t → owns_any t mutexes ≡ true
 owns_it t m mutexes e = owns_up t m (length mutexes) mutexes (owner_below mutexes m t (slice_get mutexes m) refl e) e
 
 -- ---- what a task woke to
@@ -110,14 +110,14 @@ stays_oob : (weak : Bool) (m : ℕ) → woken_state (weak && not true) (Waits (L
 stays_oob true m = refl
 stays_oob false m = refl
 
-woke_lock : (m : ℕ) (owns : Bool) (x : Task) → x.state ≡ Waits (Lock m) → owns ≡ true → woken owns x ≡ record x { state = OobReady; deadline = 0 }
+pub woke_lock : (m : ℕ) (owns : Bool) (x : Task) → x.state ≡ Waits (Lock m) → owns ≡ true → woken owns x ≡ record x { state = OobReady; deadline = 0 }
 woke_lock m owns x e its =
     ap (λ (b : Bool). woken b x) its
     ∙ ap (λ (state : TaskState). record x { state = woken_state (is_weak x.class && not true) state; deadline = 0 }) e
     ∙ ap (λ (state : TaskState). record x { state = state; deadline = 0 }) (stays_oob (is_weak x.class) m)
 
 -- what is there of it, after a wake
-woken_there : (t : ℕ) (owns : Bool) (x y : Task) (stamp : ℕ) (tasks : List Task) → slice_get tasks t ≡ Some x → woken owns x ≡ y
+pub woken_there : (t : ℕ) (owns : Bool) (x y : Task) (stamp : ℕ) (tasks : List Task) → slice_get tasks t ≡ Some x → woken owns x ≡ y
     → slice_get (change (λ (z : Task). record z { stamp = stamp }) (change (woken owns) tasks t) t) t ≡ Some (record y { stamp = stamp })
 woken_there t owns x y stamp tasks e h =
     let stamped : Task → Task = λ z. record z { stamp = stamp } in

@@ -1,6 +1,6 @@
 use Rattle.std.proofs.Common.{◌≡◌, ℕ, List, [], ◌∷◌, Option, Some, None, slice_get, refl, ap}
 use Rattle.evm_lines.specs.Lines.{all_lines, with_line, without_line}
-use Rattle.evm_model.specs.Tasks.{wake_below}
+use Rattle.evm_model.specs.Waits.{wake_below}
 use Rattle.evm_model.specs.Pipes.{Pipe, raise, arrive, leave_wire, receive, play}
 use Rattle.evm_model.specs.Ranks.{best, first, next_in_band}
 use Rattle.evm_model.specs.Refusals.{board_refusal}
