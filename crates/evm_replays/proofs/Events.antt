@@ -1,16 +1,14 @@
 -- A machine that lines have driven: its journal is of events that have a line, within its capacity.
-use Rattle.std.proofs.Common.{◌≡◌, ℕ, zero, suc, ◌+◌, ◌<◌, ◌≤◌, ◌^◌, List, [], ◌∷◌, ◌++◌, Bool, true, false, Option, Some, None, length, length-append, refl, ap, sym, ◌∙◌, arith, leb-false}
-use Rattle.std.specs.Prelude.{Result, Ok, Err, nat_lt, nat_le, ◌==◌, if◌then◌else◌}
+use Rattle.std.proofs.Common.{◌≡◌, ℕ, zero, suc, ◌+◌, ◌<◌, ◌≤◌, List, [], ◌∷◌, ◌++◌, Bool, true, false, Option, Some, None, length, length-append, refl, ap, sym, ◌∙◌, arith, leb-false}
+use Rattle.std.specs.Prelude.{Result, Ok, Err, nat_lt, ◌==◌, if◌then◌else◌}
 use Rattle.std.specs.List.{AllByRecursion}
 use Rattle.std.proofs.lemmas.Bool.Decides.{nat_tests}
 use Rattle.evm_image.specs.Images.{Contents}
 use Rattle.evm_history.specs.Runs.{line_of}
-use Rattle.evm_history.specs.declared.event_line.EventLine.TheVariants.{Steps, One}
 use Rattle.evm_journal.specs.EventLine.{HasEventLine}
 use Rattle.evm_journal.specs.Journal.{HasBootLine, HasJournal}
 use Rattle.evm_model.specs.Refusals.{board_refusal, is_full}
-use Rattle.evm_model.specs.Replay.{apply, accept, bad_boot, bad_cpus, bad_ram, bad_capacity, start, IsReplayOf}
-use Rattle.evm_model.specs.Rows.{row}
+use Rattle.evm_model.specs.Replay.{apply, bad_boot, bad_cpus, bad_ram, bad_capacity, start, IsReplayOf}
 use Rattle.evm_model.specs.State.{State}
 use Rattle.evm_model.specs.declared.boot.Boot.{Boot}
 use Rattle.evm_model.specs.declared.event.Answer.{Answer}

@@ -1,5 +1,5 @@
 -- Each line of a script drives its machine, so that the journal of what it leaves is one that replays.
-use Rattle.std.proofs.Common.{◌≡◌, ℕ, ◌+◌, ◌<◌, ◌^◌, List, [], ◌∷◌, Bool, true, false, Option, Some, None, refl, ap, sym, ◌∙◌}
+use Rattle.std.proofs.Common.{◌≡◌, ℕ, ◌+◌, ◌<◌, List, [], ◌∷◌, Option, Some, None, refl}
 use Rattle.std.specs.Prelude.{Result, Ok, Err}
 use Rattle.evm_image.specs.Images.{Contents}
 use Rattle.evm_history.specs.Runs.{line_of}

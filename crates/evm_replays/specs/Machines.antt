@@ -6,7 +6,6 @@ use Rattle.evm_model.specs.Replay.{start, IsReplayOf}
 use Rattle.evm_model.specs.State.{State}
 use Rattle.evm_debug.specs.Summary.{summary_text}
 use Rattle.evm_serve.specs.Given.{an_image}
-use Rattle.evm_serve.specs.Told.{Told}
 use Rattle.evm_serve.specs.Replaying.{replay_told}
 use Rattle.evm_serve.specs.declared.ending.Verdict.TheVariants.{Done}
 

@@ -7,7 +7,7 @@ use Rattle.evm_debug.specs.LineReading.{line_at}
 use Rattle.evm_debug.specs.Summary.{summary_text}
 use Rattle.evm_text.specs.Lines.{text_lines}
 use Rattle.evm_serve.specs.Given.{Given, an_image}
-use Rattle.evm_serve.specs.Told.{Told, Telling, Goes, Ends, line_told, lines_told}
+use Rattle.evm_serve.specs.Told.{Telling, Goes, Ends, line_told, lines_told}
 use Rattle.evm_serve.specs.Replaying.{replay_told}
 use Rattle.evm_serve.specs.declared.ending.Verdict.TheVariants.{Done}
 

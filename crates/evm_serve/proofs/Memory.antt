@@ -1,6 +1,6 @@
 -- From what a call answered to that memory was refused.
 use Rattle.std.proofs.Common.{◌≡◌, ℕ, ◌≤◌, List, Bool, true, false, length, arith}
-use Rattle.std.specs.Prelude.{Result, Ok, Err, ◌==◌, if◌then◌else◌, Option, Some, None}
+use Rattle.std.specs.Prelude.{Result, Ok, Err, ◌==◌, if◌then◌else◌, Some, None}
 use Rattle.std.specs.List.{list_any}
 use Rattle.evm_room.specs.Growth.{RefusedWithin}
 use Rattle.evm_ram.specs.declared.refusal.Refusal.{Refusal}
