@@ -5,15 +5,15 @@ use Rattle.std.specs.Str.{bytes_eq}
 use Rattle.std.specs.List.{position_or_len}
 use Rattle.std.proofs.lemmas.Bool.{ltb-false}
 use Rattle.std.proofs.lemmas.List.Sums.{prefix_len-le-length}
-use Rattle.evm_asm_lexer.specs.Names.{named}
+use Rattle.evm_asm_parser.specs.evm_asm_lexer.Names.{named}
 use Rattle.std.proofs.lemmas.List.{length-take, length-drop}
-use Rattle.evm_asm_lexer.specs.Characters.{newline, hash, colon}
-use Rattle.evm_asm_lexer.specs.Text.{before, after, has, place_by, tail, first_word, skip_blanks, is_white, is_word_byte}
-use Rattle.evm_asm_lexer.specs.declared.fault.AsmFaultKind.{AsmFaultKind}
-use Rattle.evm_asm_lexer.specs.declared.mnemonic.Section.{Section}
-use Rattle.evm_asm_lexer.specs.declared.mnemonic.Width.{Width}
-use Rattle.evm_asm_lexer.specs.Faults.{◌>>=◌}
-use Rattle.evm_asm_lexer.specs.declared.fault.AsmFault.{AsmFault}
+use Rattle.evm_asm_parser.specs.evm_asm_lexer.Characters.{newline, hash, colon}
+use Rattle.evm_asm_parser.specs.evm_asm_lexer.Text.{before, after, has, place_by, tail, first_word, skip_blanks, is_white, is_word_byte}
+use Rattle.evm_asm_parser.specs.evm_asm_lexer.declared.fault.AsmFaultKind.{AsmFaultKind}
+use Rattle.evm_asm_parser.specs.evm_asm_lexer.declared.mnemonic.Section.{Section}
+use Rattle.evm_asm_parser.specs.evm_asm_lexer.declared.mnemonic.Width.{Width}
+use Rattle.evm_asm_parser.specs.evm_asm_lexer.Faults.{◌>>=◌}
+use Rattle.evm_asm_parser.specs.evm_asm_lexer.declared.fault.AsmFault.{AsmFault}
 use Rattle.evm_asm_parser.specs.declared.spot.Spot.{Spot}
 use Rattle.evm_asm_parser.specs.Operands.{Spots, first_operand, other_operands, name_in}
 use Rattle.evm_asm.specs.Programs.{repeated}

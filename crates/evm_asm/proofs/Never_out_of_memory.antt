@@ -2,17 +2,17 @@
 use Rattle.std.proofs.Common.{◌≡◌, ℕ, zero, suc, ◌+◌, Bool, true, false, cond, not, ◌==◌, nat_le, List, [], ◌∷◌, length, Option, Some, None, Result, Ok, Err, subst}
 use Rattle.evm_isa.specs.declared.inst.Inst.{Inst}
 use Rattle.evm_isa.specs.Encoded.{encoded}
-use Rattle.evm_asm_lexer.specs.declared.fault.AsmFault.{AsmFault}
-use Rattle.evm_asm_lexer.specs.declared.fault.AsmFaultKind.{AsmFaultKind}
-use Rattle.evm_asm_lexer.specs.declared.fault.AsmFaultKind.TheVariants.{BadToken, BadOperand, RangeOfImmediate, LabelTwice, TooLarge, NoMemory}
-use Rattle.evm_asm_lexer.specs.declared.mnemonic.Mnemonic.{Mnemonic}
-use Rattle.evm_asm_lexer.specs.declared.mnemonic.Section.{Section as Part}
-use Rattle.evm_asm_lexer.specs.declared.mnemonic.Width.{Width}
-use Rattle.evm_asm_lexer.specs.declared.mnemonic.Width.TheVariants.{Byte, Word, Dword}
-use Rattle.evm_asm_lexer.specs.Characters.{left_parenthesis, right_parenthesis}
-use Rattle.evm_asm_lexer.specs.Faults.{kind_number, least, both, ◌>>=◌}
-use Rattle.evm_asm_lexer.specs.Names.{register_named, mnemonic_named}
-use Rattle.evm_asm_lexer.specs.Text.{before, after, has, skip_blanks, first_word, behind_word, starts_with, is_name_start, is_empty, is_sound}
+use Rattle.evm_asm_parser.specs.evm_asm_lexer.declared.fault.AsmFault.{AsmFault}
+use Rattle.evm_asm_parser.specs.evm_asm_lexer.declared.fault.AsmFaultKind.{AsmFaultKind}
+use Rattle.evm_asm_parser.specs.evm_asm_lexer.declared.fault.AsmFaultKind.TheVariants.{BadToken, BadOperand, RangeOfImmediate, LabelTwice, TooLarge, NoMemory}
+use Rattle.evm_asm_parser.specs.evm_asm_lexer.declared.mnemonic.Mnemonic.{Mnemonic}
+use Rattle.evm_asm_parser.specs.evm_asm_lexer.declared.mnemonic.Section.{Section as Part}
+use Rattle.evm_asm_parser.specs.evm_asm_lexer.declared.mnemonic.Width.{Width}
+use Rattle.evm_asm_parser.specs.evm_asm_lexer.declared.mnemonic.Width.TheVariants.{Byte, Word, Dword}
+use Rattle.evm_asm_parser.specs.evm_asm_lexer.Characters.{left_parenthesis, right_parenthesis}
+use Rattle.evm_asm_parser.specs.evm_asm_lexer.Faults.{kind_number, least, both, ◌>>=◌}
+use Rattle.evm_asm_parser.specs.evm_asm_lexer.Names.{register_named, mnemonic_named}
+use Rattle.evm_asm_parser.specs.evm_asm_lexer.Text.{before, after, has, skip_blanks, first_word, behind_word, starts_with, is_name_start, is_empty, is_sound}
 use Rattle.evm_asm_parser.specs.declared.operand.Number.{Number}
 use Rattle.evm_asm_parser.specs.declared.spot.Spot.{Spot}
 use Rattle.evm_asm_parser.specs.declared.statement.Datum.{Datum}

@@ -9,10 +9,10 @@ use Rattle.std.proofs.lemmas.List.Quantifiers.{Any-push}
 use Rattle.std.proofs.Math.ListN.{get_or-append}
 use Rattle.evm_isa.specs.declared.inst.Inst.{Inst}
 use Rattle.evm_isa.specs.Encoded.{encoded}
-use Rattle.evm_asm_lexer.specs.declared.fault.AsmFaultKind.{AsmFaultKind}
-use Rattle.evm_asm_lexer.specs.declared.fault.AsmFaultKind.TheVariants.{TooLarge}
-use Rattle.evm_asm_lexer.specs.declared.mnemonic.Section.{Section as Part}
-use Rattle.evm_asm_lexer.specs.declared.mnemonic.Section.TheVariants.{Text, Data}
+use Rattle.evm_asm_parser.specs.evm_asm_lexer.declared.fault.AsmFaultKind.{AsmFaultKind}
+use Rattle.evm_asm_parser.specs.evm_asm_lexer.declared.fault.AsmFaultKind.TheVariants.{TooLarge}
+use Rattle.evm_asm_parser.specs.evm_asm_lexer.declared.mnemonic.Section.{Section as Part}
+use Rattle.evm_asm_parser.specs.evm_asm_lexer.declared.mnemonic.Section.TheVariants.{Text, Data}
 use Rattle.evm_asm_parser.specs.declared.statement.Statement.{Statement}
 use Rattle.evm_asm_parser.specs.declared.statement.Statement.TheVariants.{Section, Numbers, Space, Align}
 use Rattle.evm_asm_parser.specs.Operands.{Spots}

@@ -1,8 +1,8 @@
 -- What follows of a result that is Ok.
 use Rattle.std.proofs.Common.{Ok, Err, IfOk, ◌≡◌, ℕ, List, Option, Some, None, Result, refl}
-use Rattle.evm_asm_lexer.specs.declared.fault.AsmFault.{AsmFault}
-use Rattle.evm_asm_lexer.specs.declared.fault.AsmFaultKind.{AsmFaultKind}
-use Rattle.evm_asm_lexer.specs.Faults.{◌>>=◌}
+use Rattle.evm_asm_parser.specs.evm_asm_lexer.declared.fault.AsmFault.{AsmFault}
+use Rattle.evm_asm_parser.specs.evm_asm_lexer.declared.fault.AsmFaultKind.{AsmFaultKind}
+use Rattle.evm_asm_parser.specs.evm_asm_lexer.Faults.{◌>>=◌}
 use Rattle.evm_asm_parser.specs.Statements.{also}
 use Rattle.evm_asm.specs.Items.{and_then, stop_at, unless_stopped, meaning_or_fault}
 use Rattle.evm_asm.specs.declared.item.Expansion.{Expansion}

@@ -1,16 +1,16 @@
 -- How long a statement is, and what it is where it names no label, doesn't depend on where the labels are; those that are
 -- instructions stand in the text.
 use Rattle.std.proofs.Common.{ℕ, Bool, true, false, cond, ◌==◌, Result, Ok, Err, ◌≡◌, zero, suc, not, List, [], ◌∷◌, length, Option, Some, None, ap, refl, ◌&&◌, ◌%◌, IfOk, ◌∙◌, sym, subst}
-use Rattle.evm_asm_lexer.specs.declared.fault.AsmFaultKind.{AsmFaultKind}
-use Rattle.evm_asm_lexer.specs.declared.fault.AsmFaultKind.TheVariants.{BadOperand, BadToken, UnknownName}
-use Rattle.evm_asm_lexer.specs.Faults.{both, least, ◌>>=◌}
-use Rattle.evm_asm_lexer.specs.declared.mnemonic.Mnemonic.{Mnemonic}
-use Rattle.evm_asm_lexer.specs.declared.mnemonic.Width.{Width}
-use Rattle.evm_asm_lexer.specs.declared.mnemonic.Width.TheVariants.{Byte, Word, Dword}
-use Rattle.evm_asm_lexer.specs.Text.{skip_blanks, first_word, behind_word, starts_with, is_name_start, is_empty, is_sound}
-use Rattle.evm_asm_lexer.specs.Names.{mnemonic_named}
-use Rattle.evm_asm_lexer.specs.declared.mnemonic.Section.{Section as Part}
-use Rattle.evm_asm_lexer.specs.declared.mnemonic.Section.TheVariants.{Text, Data}
+use Rattle.evm_asm_parser.specs.evm_asm_lexer.declared.fault.AsmFaultKind.{AsmFaultKind}
+use Rattle.evm_asm_parser.specs.evm_asm_lexer.declared.fault.AsmFaultKind.TheVariants.{BadOperand, BadToken, UnknownName}
+use Rattle.evm_asm_parser.specs.evm_asm_lexer.Faults.{both, least, ◌>>=◌}
+use Rattle.evm_asm_parser.specs.evm_asm_lexer.declared.mnemonic.Mnemonic.{Mnemonic}
+use Rattle.evm_asm_parser.specs.evm_asm_lexer.declared.mnemonic.Width.{Width}
+use Rattle.evm_asm_parser.specs.evm_asm_lexer.declared.mnemonic.Width.TheVariants.{Byte, Word, Dword}
+use Rattle.evm_asm_parser.specs.evm_asm_lexer.Text.{skip_blanks, first_word, behind_word, starts_with, is_name_start, is_empty, is_sound}
+use Rattle.evm_asm_parser.specs.evm_asm_lexer.Names.{mnemonic_named}
+use Rattle.evm_asm_parser.specs.evm_asm_lexer.declared.mnemonic.Section.{Section as Part}
+use Rattle.evm_asm_parser.specs.evm_asm_lexer.declared.mnemonic.Section.TheVariants.{Text, Data}
 use Rattle.evm_asm_parser.specs.Operands.{counted, Spots, first_operand, other_operands, how_many, name_in, labelled, label_in, number_in, label_datum, datum_of, datum_in}
 use Rattle.evm_asm_parser.specs.Statements.{also, Reading, operand_in, operands_in, with_data, said, statement_of}
 use Rattle.evm_asm_parser.specs.declared.operand.Number.{Number}
@@ -26,7 +26,7 @@ use Rattle.evm_asm.specs.Kept.{IsKept}
 use Rattle.evm_asm.specs.Places.{section_size, here, size_at, place_behind, placed, of_mnemonic, statement_in, is_directive, is_text, may_stand}
 use Rattle.evm_asm.specs.Sources.{measured}
 use Rattle.evm_asm.proofs.Results.{also_ok}
-use Rattle.evm_asm_lexer.specs.declared.mnemonic.Mnemonic.TheVariants as names
+use Rattle.evm_asm_parser.specs.evm_asm_lexer.declared.mnemonic.Mnemonic.TheVariants as names
 use Rattle.evm_asm_parser.specs.declared.statement.Datum.TheVariants as datum
 
 -- ---- how long a statement is doesn't depend on where the labels are

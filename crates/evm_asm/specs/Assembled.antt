@@ -2,7 +2,7 @@
 use Rattle.std.specs.Prelude.{◌≡◌, ℕ, ◌+◌, ◌-◌, ◌<◌, ◌≤◌, ◌^◌, List, length, take, drop, map, Result, Ok}
 use Rattle.std.specs.Int.{w32, to_le_bytes}
 use Rattle.evm_isa.specs.Table.{Row}
-use Rattle.evm_asm_lexer.specs.declared.fault.AsmFault.{AsmFault}
+use Rattle.evm_asm_parser.specs.evm_asm_lexer.declared.fault.AsmFault.{AsmFault}
 use Rattle.evm_asm.specs.declared.output.ProgramLine.{ProgramLine}
 use Rattle.evm_asm_parser.specs.declared.spot.Spot.{Spot}
 use Rattle.evm_asm.specs.Items.{text_base, address, and_then, layout_of, meaning_of}

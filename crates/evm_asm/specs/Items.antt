@@ -2,9 +2,9 @@
 use Rattle.std.specs.Prelude.{◌≡◌, ◌≤◌, ℕ, zero, suc, ◌+◌, ◌-◌, ◌*◌, ◌/◌, ◌%◌, ◌&&◌, ◌==◌, nat_le, if◌then◌else◌, List, [], ◌∷◌, ◌++◌, Option, Some, None, Result, Ok, Err, ℤ, pos, neg_ℤ}
 use Rattle.evm_isa.specs.declared.inst.ImmediateOp.TheVariants.{Addi, Addiw}
 use Rattle.evm_isa.specs.declared.inst.Inst.TheVariants as inst
-use Rattle.evm_asm_lexer.specs.declared.fault.AsmFault.{AsmFault}
-use Rattle.evm_asm_lexer.specs.declared.fault.AsmFaultKind.{AsmFaultKind}
-use Rattle.evm_asm_lexer.specs.declared.fault.AsmFaultKind.TheVariants.{RangeOfImmediate, LabelMissing, NoMemory}
+use Rattle.evm_asm_parser.specs.evm_asm_lexer.declared.fault.AsmFault.{AsmFault}
+use Rattle.evm_asm_parser.specs.evm_asm_lexer.declared.fault.AsmFaultKind.{AsmFaultKind}
+use Rattle.evm_asm_parser.specs.evm_asm_lexer.declared.fault.AsmFaultKind.TheVariants.{RangeOfImmediate, LabelMissing, NoMemory}
 use Rattle.evm_asm.specs.declared.failure.Failure.{Failure}
 use Rattle.evm_asm.specs.declared.failure.Failure.TheVariants as failure
 use Rattle.evm_asm.specs.declared.meaning.Stop.{Stop}
@@ -14,17 +14,17 @@ use Rattle.evm_asm.specs.declared.item.Expansion.TheVariants as expansion
 use Rattle.evm_asm.specs.declared.item.Item.{Item}
 use Rattle.evm_asm.specs.declared.item.Item.TheVariants as item
 use Rattle.evm_asm.specs.declared.item.Placed.{Placed}
-use Rattle.evm_asm_lexer.specs.declared.mnemonic.Section.{Section as Part}
-use Rattle.evm_asm_lexer.specs.declared.mnemonic.Section.TheVariants as section
-use Rattle.evm_asm_lexer.specs.declared.mnemonic.Width.{Width}
+use Rattle.evm_asm_parser.specs.evm_asm_lexer.declared.mnemonic.Section.{Section as Part}
+use Rattle.evm_asm_parser.specs.evm_asm_lexer.declared.mnemonic.Section.TheVariants as section
+use Rattle.evm_asm_parser.specs.evm_asm_lexer.declared.mnemonic.Width.{Width}
 use Rattle.evm_asm_parser.specs.declared.spot.Spot.{Spot}
 use Rattle.evm_asm.specs.declared.place.Place.{Place}
 use Rattle.evm_asm_parser.specs.declared.statement.Datum.{Datum}
 use Rattle.evm_asm_parser.specs.declared.statement.Datum.TheVariants as datum
 use Rattle.evm_asm_parser.specs.declared.statement.Statement.{Statement}
 use Rattle.evm_asm_parser.specs.declared.statement.Statement.TheVariants.{One, Branch, Jump, LoadImmediate, LoadAddress, Numbers, Space, Align}
-use Rattle.evm_asm_lexer.specs.Faults.{least, ◌>>=◌}
-use Rattle.evm_asm_lexer.specs.Text.{skip_blanks, behind_word}
+use Rattle.evm_asm_parser.specs.evm_asm_lexer.Faults.{least, ◌>>=◌}
+use Rattle.evm_asm_parser.specs.evm_asm_lexer.Text.{skip_blanks, behind_word}
 use Rattle.evm_asm_parser.specs.Operands.{Spots, datum_in, first_operand, other_operands}
 use Rattle.evm_asm.specs.Places.{offset, place_behind, statement_in, is_small, low_word, low_part, high_part, needs_low_part, padding, is_text}
 use Rattle.evm_asm.specs.Sources.{Laid, nothing_laid, laid, source_start, source_lines, code_of, statement_text}

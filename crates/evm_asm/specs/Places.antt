@@ -1,19 +1,19 @@
 -- How many bytes a statement takes, and where it stands.
 use Rattle.std.specs.Prelude.{ℕ, min, ◌+◌, ◌-◌, ◌*◌, ◌/◌, ◌%◌, ◌^◌, Bool, true, false, not, ◌&&◌, ◌==◌, nat_lt, nat_le, if◌then◌else◌, List, Option, Some, None, Result, Ok, Err, ℤ, pos, neg_ℤ, negsuc, ◌+ℤ◌, nat_abs, int_le}
-use Rattle.evm_asm_lexer.specs.declared.fault.AsmFaultKind.{AsmFaultKind}
-use Rattle.evm_asm_lexer.specs.declared.fault.AsmFaultKind.TheVariants.{BadToken, UnknownName, BadOperand, TooLarge}
-use Rattle.evm_asm_lexer.specs.declared.mnemonic.Section.TheVariants as section
-use Rattle.evm_asm_lexer.specs.declared.mnemonic.Section.{Section as Part}
-use Rattle.evm_asm_lexer.specs.declared.mnemonic.Width.{Width}
-use Rattle.evm_asm_lexer.specs.declared.mnemonic.Width.TheVariants.{Byte, Word, Dword}
-use Rattle.evm_asm_lexer.specs.declared.mnemonic.Mnemonic.{Mnemonic}
-use Rattle.evm_asm_lexer.specs.declared.mnemonic.Mnemonic.TheVariants as names
+use Rattle.evm_asm_parser.specs.evm_asm_lexer.declared.fault.AsmFaultKind.{AsmFaultKind}
+use Rattle.evm_asm_parser.specs.evm_asm_lexer.declared.fault.AsmFaultKind.TheVariants.{BadToken, UnknownName, BadOperand, TooLarge}
+use Rattle.evm_asm_parser.specs.evm_asm_lexer.declared.mnemonic.Section.TheVariants as section
+use Rattle.evm_asm_parser.specs.evm_asm_lexer.declared.mnemonic.Section.{Section as Part}
+use Rattle.evm_asm_parser.specs.evm_asm_lexer.declared.mnemonic.Width.{Width}
+use Rattle.evm_asm_parser.specs.evm_asm_lexer.declared.mnemonic.Width.TheVariants.{Byte, Word, Dword}
+use Rattle.evm_asm_parser.specs.evm_asm_lexer.declared.mnemonic.Mnemonic.{Mnemonic}
+use Rattle.evm_asm_parser.specs.evm_asm_lexer.declared.mnemonic.Mnemonic.TheVariants as names
 use Rattle.evm_asm_parser.specs.declared.spot.Spot.{Spot}
 use Rattle.evm_asm.specs.declared.place.Place.{Place}
 use Rattle.evm_asm_parser.specs.declared.statement.Statement.{Statement}
 use Rattle.evm_asm_parser.specs.declared.statement.Statement.TheVariants.{Nothing, One, Branch, Jump, LoadImmediate, LoadAddress, Section, Numbers, Space, Align}
-use Rattle.evm_asm_lexer.specs.Text.{skip_blanks, first_word, behind_word, starts_with, is_name_start, is_empty, is_sound}
-use Rattle.evm_asm_lexer.specs.Names.{mnemonic_named}
+use Rattle.evm_asm_parser.specs.evm_asm_lexer.Text.{skip_blanks, first_word, behind_word, starts_with, is_name_start, is_empty, is_sound}
+use Rattle.evm_asm_parser.specs.evm_asm_lexer.Names.{mnemonic_named}
 use Rattle.evm_asm_parser.specs.Operands.{Spots, upper}
 use Rattle.evm_asm_parser.specs.Statements.{Reading, statement_of, also}
 

@@ -1,12 +1,12 @@
 -- What a person is shown of a line that has a fault: the word that is wrong, where the kind of the fault tells which.
 use Rattle.std.specs.Prelude.{ℕ, zero, suc, ◌-◌, ◌&&◌, ◌==◌, not, if◌then◌else◌, List, Option, Some, None, is_some}
-use Rattle.evm_asm_lexer.specs.Characters.{newline, left_parenthesis, right_parenthesis}
-use Rattle.evm_asm_lexer.specs.declared.fault.AsmFault.{AsmFault}
-use Rattle.evm_asm_lexer.specs.declared.fault.AsmFaultKind.{AsmFaultKind}
-use Rattle.evm_asm_lexer.specs.declared.fault.AsmFaultKind.TheVariants.{UnknownName, LabelTwice, LabelMissing}
-use Rattle.evm_asm_lexer.specs.declared.mnemonic.Mnemonic.{Mnemonic}
-use Rattle.evm_asm_lexer.specs.Text.{before, after, has, skip_blanks, first_word, behind_word}
-use Rattle.evm_asm_lexer.specs.Names.{mnemonic_named, register_named}
+use Rattle.evm_asm_parser.specs.evm_asm_lexer.Characters.{newline, left_parenthesis, right_parenthesis}
+use Rattle.evm_asm_parser.specs.evm_asm_lexer.declared.fault.AsmFault.{AsmFault}
+use Rattle.evm_asm_parser.specs.evm_asm_lexer.declared.fault.AsmFaultKind.{AsmFaultKind}
+use Rattle.evm_asm_parser.specs.evm_asm_lexer.declared.fault.AsmFaultKind.TheVariants.{UnknownName, LabelTwice, LabelMissing}
+use Rattle.evm_asm_parser.specs.evm_asm_lexer.declared.mnemonic.Mnemonic.{Mnemonic}
+use Rattle.evm_asm_parser.specs.evm_asm_lexer.Text.{before, after, has, skip_blanks, first_word, behind_word}
+use Rattle.evm_asm_parser.specs.evm_asm_lexer.Names.{mnemonic_named, register_named}
 use Rattle.evm_asm_parser.specs.Operands.{first_operand, other_operands, how_many, name_in}
 use Rattle.evm_asm.specs.Places.{is_directive}
 use Rattle.evm_asm.specs.Sources.{code_of, label_at, statement_text}

@@ -1,16 +1,16 @@
 -- The lines of a source, its labels, and where they are.
 use Rattle.std.specs.Prelude.{◌≡◌, ℕ, zero, suc, ◌+◌, Bool, true, false, ◌==◌, if◌then◌else◌, List, [], ◌∷◌, ◌++◌, length, Option, Some, None, is_some, Result, Ok, Err}
 use Rattle.std.specs.Option.{option_map}
-use Rattle.evm_asm_lexer.specs.Characters.{newline, hash, colon}
-use Rattle.evm_asm_lexer.specs.declared.fault.AsmFault.{AsmFault}
-use Rattle.evm_asm_lexer.specs.declared.fault.AsmFaultKind.{AsmFaultKind}
-use Rattle.evm_asm_lexer.specs.declared.fault.AsmFaultKind.TheVariants.{LabelTwice}
-use Rattle.evm_asm_lexer.specs.declared.mnemonic.Section.TheVariants as section
+use Rattle.evm_asm_parser.specs.evm_asm_lexer.Characters.{newline, hash, colon}
+use Rattle.evm_asm_parser.specs.evm_asm_lexer.declared.fault.AsmFault.{AsmFault}
+use Rattle.evm_asm_parser.specs.evm_asm_lexer.declared.fault.AsmFaultKind.{AsmFaultKind}
+use Rattle.evm_asm_parser.specs.evm_asm_lexer.declared.fault.AsmFaultKind.TheVariants.{LabelTwice}
+use Rattle.evm_asm_parser.specs.evm_asm_lexer.declared.mnemonic.Section.TheVariants as section
 use Rattle.evm_asm_parser.specs.declared.spot.Spot.{Spot}
 use Rattle.evm_asm.specs.declared.place.Place.{Place}
-use Rattle.evm_asm_lexer.specs.Faults.{least, ◌>>=◌}
-use Rattle.evm_asm_lexer.specs.Text.{before, after, has}
-use Rattle.evm_asm_lexer.specs.Names.{named}
+use Rattle.evm_asm_parser.specs.evm_asm_lexer.Faults.{least, ◌>>=◌}
+use Rattle.evm_asm_parser.specs.evm_asm_lexer.Text.{before, after, has}
+use Rattle.evm_asm_parser.specs.evm_asm_lexer.Names.{named}
 use Rattle.evm_asm_parser.specs.Operands.{Spots, name_in}
 use Rattle.evm_asm_parser.specs.Statements.{Reading}
 use Rattle.evm_asm.specs.Places.{here, place_behind, statement_in}

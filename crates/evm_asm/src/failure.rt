@@ -1,6 +1,6 @@
 //! Why a source has no program.
 
-use evm_asm_lexer::AsmFault;
+use evm_asm_parser::AsmFault;
 use evm_room::Refused;
 
 /// A growth was refused in a line.

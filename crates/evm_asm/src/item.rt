@@ -7,8 +7,9 @@ ghost use Rattle.evm_isa.specs.declared.inst.Inst.TheVariants as inst;
 use crate::place::{
     Place, high_part, is_small, low_part, low_word, needs_low_part, offset, padding,
 };
-use evm_asm_lexer::{AsmFaultKind, Section, Width};
-use evm_asm_parser::{Datum, Labels, Spot, Statement, datum_in, zero};
+use evm_asm_parser::{
+    AsmFaultKind, Datum, Labels, Section, Spot, Statement, Width, datum_in, zero,
+};
 use evm_isa::{ImmediateOp, Inst, Register, Shift};
 
 /// Where the text begins.

@@ -9,8 +9,9 @@ ghost use Rattle.evm_asm.specs.Places.{here, statement_in};
 
 use crate::failure::Shortage;
 use crate::place::{Place, here, place_behind, source_start, statement_in};
-use evm_asm_lexer::{AsmFault, AsmFaultKind, after, before, has, least};
-use evm_asm_parser::{KeptLines, Labels, Reading, Spot, name_in};
+use evm_asm_parser::{
+    AsmFault, AsmFaultKind, KeptLines, Labels, Reading, Spot, after, before, has, least, name_in,
+};
 use evm_room::Refused;
 use std::alloc::Global;
 

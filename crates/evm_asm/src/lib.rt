@@ -11,7 +11,7 @@ mod place;
 mod program;
 mod quoting;
 
-pub use evm_asm_lexer::{AsmFault, AsmFaultKind};
+pub use evm_asm_parser::{AsmFault, AsmFaultKind};
 pub use laws::{
     all_that_is_meant_stands, la_loads, li_loads, lines_are_worded, programs_fit, words_stand,
 };

@@ -10,11 +10,9 @@ use crate::failure::{Failure, Shortage};
 use crate::item::{Expansion, Item, Placed, TEXT_BASE, expanded, filling, value_in};
 use crate::layout::{Layout, code_of, statement_text};
 use crate::place::{Place, here, place_behind, source_start, statement_in};
-use evm_asm_lexer::{
-    AsmFault, AsmFaultKind, Section, Width, after, before, behind_word, least, skip_blanks,
-};
 use evm_asm_parser::{
-    Kept, KeptLines, Labels, Reading, Statement, first_operand, other_operands, push,
+    AsmFault, AsmFaultKind, Kept, KeptLines, Labels, Reading, Section, Statement, Width, after,
+    before, behind_word, first_operand, least, other_operands, push, skip_blanks,
 };
 use evm_room::Refused;
 use std::alloc::Global;

@@ -5,11 +5,10 @@ ghost use Rattle.evm_asm.specs.Places.{offset, here, farther, grown, is_small, l
 ghost use Rattle.evm_asm_parser.specs.Operands.{upper};
 ghost use Rattle.evm_asm.specs.Sources.{source_start};
 
-use evm_asm_lexer::{
-    AsmFaultKind, Mnemonic, Section, Width, behind_word, first_word, is_sound, mnemonic_named,
-    skip_blanks,
+use evm_asm_parser::{
+    AsmFaultKind, Labels, Mnemonic, Section, Spot, Statement, Width, also, behind_word, first_word,
+    is_sound, mnemonic_named, skip_blanks, starts_with_name, statement_of, upper,
 };
-use evm_asm_parser::{Labels, Spot, Statement, also, starts_with_name, statement_of, upper};
 use evm_isa::Shift;
 
 /// How far a program has come: the section in force, and the bytes of each so far.

@@ -3,7 +3,7 @@
 ghost use Rattle.std.specs.Prelude.{◌≡◌, ◌≤◌, ◌+◌, IfOk, IfErr, length, slice_get, All};
 ghost use Rattle.std.specs.Option.{option_map};
 ghost use Rattle.evm_asm.specs.Items.{Gives, Tells};
-ghost use Rattle.evm_asm_lexer.specs.Names.{named};
+ghost use Rattle.evm_asm_parser.specs.evm_asm_lexer.Names.{named};
 ghost use Rattle.evm_asm.specs.Assembled.{assembled, program_of, IsWorded, StandsIn};
 ghost use Rattle.evm_asm.specs.Views.{view};
 ghost use Rattle.evm_asm.specs.Programs.{program_bytes};
@@ -15,8 +15,7 @@ use crate::item::address;
 use crate::layout::{Layout, lay_out};
 use crate::meaning::meaning;
 use crate::output::{Output, ProgramLine, image, spell};
-use evm_asm_lexer::{AsmFault, AsmFaultKind};
-use evm_asm_parser::Labels;
+use evm_asm_parser::{AsmFault, AsmFaultKind, Labels};
 use evm_isa::encoded_by_table;
 use evm_room::Refused;
 use std::alloc::Global;

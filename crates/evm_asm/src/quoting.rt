@@ -6,11 +6,10 @@ ghost use Rattle.evm_asm.specs.Quoting.{register_text, unknown_in, unknown_regis
 
 use crate::layout::{code_of, label_at, statement_text};
 use crate::place::is_directive;
-use evm_asm_lexer::{
-    AsmFault, AsmFaultKind, Mnemonic, after, before, behind_word, first_word, has, mnemonic_named,
-    register_named, skip_blanks,
+use evm_asm_parser::{
+    AsmFault, AsmFaultKind, Mnemonic, after, before, behind_word, first_operand, first_word, has,
+    how_many, mnemonic_named, name_in, other_operands, register_named, skip_blanks,
 };
-use evm_asm_parser::{first_operand, how_many, name_in, other_operands};
 
 #[tactic(auto, unfolding(crate::specs::Quoting::register_text))]
 fn register_text(operand: &[u8]) -> &[u8]

@@ -7,13 +7,13 @@ use Rattle.std.specs.Prelude.{replicate}
 use Rattle.std.proofs.lemmas.Bool.{cases_lt}
 use Rattle.evm_isa.specs.declared.inst.Inst.{Inst}
 use Rattle.evm_isa.specs.Encoded.{encoded}
-use Rattle.evm_asm_lexer.specs.declared.mnemonic.Section.{Section as Part}
-use Rattle.evm_asm_lexer.specs.declared.mnemonic.Section.TheVariants.{Text, Data}
-use Rattle.evm_asm_lexer.specs.declared.fault.AsmFaultKind.{AsmFaultKind}
-use Rattle.evm_asm_lexer.specs.declared.mnemonic.Width.{Width}
-use Rattle.evm_asm_parser.specs.Operands.{Spots, first_operand, other_operands}
-use Rattle.evm_asm_parser.specs.declared.statement.Statement.{Statement}
-use Rattle.evm_asm_parser.specs.declared.statement.Statement.TheVariants.{Numbers, Space, Align}
+use Rattle.evm_asm.specs.evm_asm_lexer.declared.mnemonic.Section.{Section as Part}
+use Rattle.evm_asm.specs.evm_asm_lexer.declared.mnemonic.Section.TheVariants.{Text, Data}
+use Rattle.evm_asm.specs.evm_asm_lexer.declared.fault.AsmFaultKind.{AsmFaultKind}
+use Rattle.evm_asm.specs.evm_asm_lexer.declared.mnemonic.Width.{Width}
+use Rattle.evm_asm.specs.evm_asm_parser.Operands.{Spots, first_operand, other_operands}
+use Rattle.evm_asm.specs.evm_asm_parser.declared.statement.Statement.{Statement}
+use Rattle.evm_asm.specs.evm_asm_parser.declared.statement.Statement.TheVariants.{Numbers, Space, Align}
 use Rattle.evm_asm.specs.declared.item.Item.{Item}
 use Rattle.evm_asm.specs.declared.item.Item.TheVariants.{Instruction, Number, Zeros, Nops}
 use Rattle.evm_asm.specs.declared.item.Placed.{Placed}

@@ -8,14 +8,14 @@ use Rattle.std.proofs.lemmas.Option.{slice_get_past}
 use Rattle.std.proofs.Math.Seq.{take-append_seam}
 use Rattle.std.specs.Prelude.{IsOk}
 use Rattle.std.proofs.lemmas.List.{append-nil}
-use Rattle.evm_asm_lexer.specs.declared.fault.AsmFaultKind.{AsmFaultKind}
-use Rattle.evm_asm_lexer.specs.declared.mnemonic.Section.{Section as Part}
-use Rattle.evm_asm_lexer.specs.declared.mnemonic.Width.{Width}
-use Rattle.evm_asm_lexer.specs.Faults.{◌>>=◌, least}
-use Rattle.evm_asm_lexer.specs.declared.fault.AsmFault.{AsmFault}
-use Rattle.evm_asm_parser.specs.declared.statement.Statement.{Statement}
-use Rattle.evm_asm_parser.specs.declared.statement.Statement.TheVariants.{Numbers, Space, Align}
-use Rattle.evm_asm_parser.specs.Operands.{Spots, first_operand, other_operands}
+use Rattle.evm_asm.specs.evm_asm_lexer.declared.fault.AsmFaultKind.{AsmFaultKind}
+use Rattle.evm_asm.specs.evm_asm_lexer.declared.mnemonic.Section.{Section as Part}
+use Rattle.evm_asm.specs.evm_asm_lexer.declared.mnemonic.Width.{Width}
+use Rattle.evm_asm.specs.evm_asm_lexer.Faults.{◌>>=◌, least}
+use Rattle.evm_asm.specs.evm_asm_lexer.declared.fault.AsmFault.{AsmFault}
+use Rattle.evm_asm.specs.evm_asm_parser.declared.statement.Statement.{Statement}
+use Rattle.evm_asm.specs.evm_asm_parser.declared.statement.Statement.TheVariants.{Numbers, Space, Align}
+use Rattle.evm_asm.specs.evm_asm_parser.Operands.{Spots, first_operand, other_operands}
 use Rattle.evm_asm.specs.declared.item.Placed.{Placed}
 use Rattle.evm_asm.specs.declared.place.Place.{Place}
 use Rattle.evm_asm.specs.Places.{place_behind, statement_in}

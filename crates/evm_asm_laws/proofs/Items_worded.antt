@@ -10,26 +10,26 @@ use Rattle.evm_isa.specs.declared.inst.ShiftOp.{ShiftOp}
 use Rattle.evm_isa.specs.declared.inst.ShiftOp.TheVariants.{Slli, Srli, Srai, Slliw, Srliw, Sraiw}
 use Rattle.evm_isa.specs.declared.inst.WordOp.TheVariants.{Subw}
 use Rattle.evm_isa.specs.Encoded.{amounts}
-use Rattle.evm_asm_lexer.specs.declared.fault.AsmFaultKind.TheVariants.{BadToken, RangeOfImmediate}
-use Rattle.evm_asm_lexer.specs.declared.mnemonic.BareOp.{BareOp}
-use Rattle.evm_asm_lexer.specs.declared.mnemonic.BareOp.TheVariants.{Fence, Ecall, Ebreak, Nop, Ret}
-use Rattle.evm_asm_lexer.specs.declared.mnemonic.UnaryOp.{UnaryOp}
-use Rattle.evm_asm_lexer.specs.declared.mnemonic.UnaryOp.TheVariants.{Mv, Not, Neg, Negw, SextW, Seqz, Snez, Sltz, Sgtz}
-use Rattle.evm_asm_lexer.specs.declared.mnemonic.Mnemonic.{Mnemonic}
-use Rattle.evm_asm_lexer.specs.Text.{skip_blanks, first_word, behind_word, starts_with, is_name_start, is_empty, is_sound}
-use Rattle.evm_asm_lexer.specs.Names.{mnemonic_named}
-use Rattle.evm_asm_lexer.specs.declared.fault.AsmFault.{AsmFault}
-use Rattle.evm_asm_lexer.specs.declared.mnemonic.Section.{Section as Part}
-use Rattle.evm_asm_lexer.specs.declared.mnemonic.Width.{Width}
-use Rattle.evm_asm_lexer.specs.Faults.{◌>>=◌}
-use Rattle.evm_asm_parser.specs.declared.statement.Statement.{Statement}
-use Rattle.evm_asm_parser.specs.declared.statement.Statement.TheVariants.{Nothing, One, Branch, Jump, LoadImmediate, LoadAddress, Section, Numbers, Space, Align}
-use Rattle.evm_asm_parser.specs.Operands.{Spots, how_many, name_in, label_in, first_operand, other_operands}
-use Rattle.evm_asm_parser.specs.Forms.{Slot, Register, Integer, Natural, Upper, Label, Address, FullAddress, Name, Value, greatest_shift, bare_instruction, unary_instruction, form}
-use Rattle.evm_asm_parser.specs.Statements.{is_named, operand_in, statement_of}
-use Rattle.evm_asm_parser.proofs.Outcomes.{any_ok, either_ok, also_ok, tested_ok, read_ok}
-use Rattle.evm_asm_parser.proofs.Forms_hold.{Makes, either_makes, statement_holds}
-use Rattle.evm_asm_parser.specs.declared.spot.Spot.{Spot}
+use Rattle.evm_asm.specs.evm_asm_lexer.declared.fault.AsmFaultKind.TheVariants.{BadToken, RangeOfImmediate}
+use Rattle.evm_asm.specs.evm_asm_lexer.declared.mnemonic.BareOp.{BareOp}
+use Rattle.evm_asm.specs.evm_asm_lexer.declared.mnemonic.BareOp.TheVariants.{Fence, Ecall, Ebreak, Nop, Ret}
+use Rattle.evm_asm.specs.evm_asm_lexer.declared.mnemonic.UnaryOp.{UnaryOp}
+use Rattle.evm_asm.specs.evm_asm_lexer.declared.mnemonic.UnaryOp.TheVariants.{Mv, Not, Neg, Negw, SextW, Seqz, Snez, Sltz, Sgtz}
+use Rattle.evm_asm.specs.evm_asm_lexer.declared.mnemonic.Mnemonic.{Mnemonic}
+use Rattle.evm_asm.specs.evm_asm_lexer.Text.{skip_blanks, first_word, behind_word, starts_with, is_name_start, is_empty, is_sound}
+use Rattle.evm_asm.specs.evm_asm_lexer.Names.{mnemonic_named}
+use Rattle.evm_asm.specs.evm_asm_lexer.declared.fault.AsmFault.{AsmFault}
+use Rattle.evm_asm.specs.evm_asm_lexer.declared.mnemonic.Section.{Section as Part}
+use Rattle.evm_asm.specs.evm_asm_lexer.declared.mnemonic.Width.{Width}
+use Rattle.evm_asm.specs.evm_asm_lexer.Faults.{◌>>=◌}
+use Rattle.evm_asm.specs.evm_asm_parser.declared.statement.Statement.{Statement}
+use Rattle.evm_asm.specs.evm_asm_parser.declared.statement.Statement.TheVariants.{Nothing, One, Branch, Jump, LoadImmediate, LoadAddress, Section, Numbers, Space, Align}
+use Rattle.evm_asm.specs.evm_asm_parser.Operands.{Spots, how_many, name_in, label_in, first_operand, other_operands}
+use Rattle.evm_asm.specs.evm_asm_parser.Forms.{Slot, Register, Integer, Natural, Upper, Label, Address, FullAddress, Name, Value, greatest_shift, bare_instruction, unary_instruction, form}
+use Rattle.evm_asm.specs.evm_asm_parser.Statements.{is_named, operand_in, statement_of}
+use Rattle.evm_asm.proofs.evm_asm_parser.Outcomes.{any_ok, either_ok, also_ok, tested_ok, read_ok}
+use Rattle.evm_asm.proofs.evm_asm_parser.Forms_hold.{Makes, either_makes, statement_holds}
+use Rattle.evm_asm.specs.evm_asm_parser.declared.spot.Spot.{Spot}
 use Rattle.evm_asm.specs.declared.place.Place.{Place}
 use Rattle.evm_asm.specs.Places.{placed, of_mnemonic, statement_in, is_small, low_word, low_part, high_part, needs_low_part, offset, padding, place_behind, is_text}
 use Rattle.evm_asm_laws.specs.Wording.{HasWord, HasItsWord, EveryItemHasItsWord, SpellingNeverFails, RefusedAsMeant}
@@ -45,9 +45,9 @@ use Rattle.evm_asm.specs.Assembled.{Assembled, assembled, program_of}
 use Rattle.evm_asm.proofs.Operands_in_range.{IsRegister, zero_register, register_below, IsFrom, integer_within}
 use Rattle.evm_asm_laws.proofs.Words_in_range.{twelve_bits, address_within, full_address_within, natural_in_to, upper_in_within, IsWithin, IsMultiple, lui_word, auipc_word, jalr_word, load_word, store_word, immediate_word, shift_word, register_word, word_word, fence_word, ecall_word, ebreak_word, minus_within, upper_within, jal_word, branch_word}
 use Rattle.evm_asm.proofs.Results.{and_then_if_ok, told_ok}
-use Rattle.evm_asm_lexer.specs.declared.mnemonic.Mnemonic.TheVariants as names
+use Rattle.evm_asm.specs.evm_asm_lexer.declared.mnemonic.Mnemonic.TheVariants as names
 use Rattle.evm_isa.specs.declared.inst.Inst.TheVariants as inst
-use Rattle.evm_asm_lexer.specs.declared.mnemonic.Section.TheVariants as section
+use Rattle.evm_asm.specs.evm_asm_lexer.declared.mnemonic.Section.TheVariants as section
 
 -- ---- a statement that is read has registers below 32 and immediates in range
 

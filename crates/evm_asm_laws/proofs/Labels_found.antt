@@ -4,12 +4,12 @@ use Rattle.std.specs.List.{slice_get}
 use Rattle.std.specs.Option.{option_map}
 use Rattle.std.specs.Str.{bytes_eq}
 use Rattle.std.proofs.lemmas.Slice.Eq.{bytes_eq-Decides}
-use Rattle.evm_asm_lexer.specs.Characters.{colon}
-use Rattle.evm_asm_lexer.specs.declared.fault.AsmFaultKind.{AsmFaultKind}
-use Rattle.evm_asm_lexer.specs.Text.{before, after, has}
-use Rattle.evm_asm_lexer.specs.Names.{named}
-use Rattle.evm_asm_parser.specs.declared.spot.Spot.{Spot}
-use Rattle.evm_asm_parser.specs.Operands.{Spots, name_in}
+use Rattle.evm_asm.specs.evm_asm_lexer.Characters.{colon}
+use Rattle.evm_asm.specs.evm_asm_lexer.declared.fault.AsmFaultKind.{AsmFaultKind}
+use Rattle.evm_asm.specs.evm_asm_lexer.Text.{before, after, has}
+use Rattle.evm_asm.specs.evm_asm_lexer.Names.{named}
+use Rattle.evm_asm.specs.evm_asm_parser.declared.spot.Spot.{Spot}
+use Rattle.evm_asm.specs.evm_asm_parser.Operands.{Spots, name_in}
 use Rattle.evm_asm.specs.declared.place.Place.{Place}
 use Rattle.evm_asm.specs.Places.{here}
 use Rattle.evm_asm.specs.Sources.{source_lines, code_of, label_at, behind_labels, Defined, with_label, defined, outcome, measured, line_defined, line_laid, Laid, nothing_laid, with_line_laid, laid, statement_text}

@@ -1,13 +1,13 @@
 -- The fault that is told of a line is the least of what is wrong with it.
 use Rattle.std.proofs.Common.{◌≡◌, ◌∙◌, ◌≤◌, ◌⊎◌, ℕ, zero, suc, ◌+◌, Bool, true, false, cond, ◌==◌, List, [], take, slice_get, Option, Some, None, option_and_then, Result, Ok, Err, ap, refl, sym, subst, inl, inr, ⊎_elim, arith}
-use Rattle.evm_asm_lexer.specs.declared.fault.AsmFault.{AsmFault}
-use Rattle.evm_asm_lexer.specs.declared.fault.AsmFaultKind.{AsmFaultKind}
-use Rattle.evm_asm_lexer.specs.declared.fault.AsmFaultKind.TheVariants.{BadToken, UnknownName, BadOperand, RangeOfImmediate, LabelTwice, LabelMissing, TooLarge, NoMemory}
-use Rattle.evm_asm_lexer.specs.Faults.{kind_number, ◌>>=◌}
-use Rattle.evm_asm_parser.specs.declared.statement.Statement.{Statement}
-use Rattle.evm_asm_parser.specs.declared.statement.Statement.TheVariants.{Branch, Jump, LoadAddress, Numbers}
-use Rattle.evm_asm_parser.specs.Operands.{Spots}
-use Rattle.evm_asm_parser.specs.Statements.{Reading}
+use Rattle.evm_asm.specs.evm_asm_lexer.declared.fault.AsmFault.{AsmFault}
+use Rattle.evm_asm.specs.evm_asm_lexer.declared.fault.AsmFaultKind.{AsmFaultKind}
+use Rattle.evm_asm.specs.evm_asm_lexer.declared.fault.AsmFaultKind.TheVariants.{BadToken, UnknownName, BadOperand, RangeOfImmediate, LabelTwice, LabelMissing, TooLarge, NoMemory}
+use Rattle.evm_asm.specs.evm_asm_lexer.Faults.{kind_number, ◌>>=◌}
+use Rattle.evm_asm.specs.evm_asm_parser.declared.statement.Statement.{Statement}
+use Rattle.evm_asm.specs.evm_asm_parser.declared.statement.Statement.TheVariants.{Branch, Jump, LoadAddress, Numbers}
+use Rattle.evm_asm.specs.evm_asm_parser.Operands.{Spots}
+use Rattle.evm_asm.specs.evm_asm_parser.Statements.{Reading}
 use Rattle.evm_asm.specs.declared.place.Place.{Place}
 use Rattle.evm_asm.specs.declared.item.Expansion.{Expansion}
 use Rattle.evm_asm.specs.declared.item.Placed.{Placed}

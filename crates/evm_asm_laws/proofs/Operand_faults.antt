@@ -1,22 +1,22 @@
 -- The fault of a reading is the least of what is wrong with what it reads.
 use Rattle.std.proofs.Common.{◌≡◌, ◌≢◌, ◌∙◌, ◌<◌, ◌≤◌, ◌⊎◌, ℕ, zero, suc, Bool, true, false, cond, ◌&&◌, ◌==◌, nat_le, List, [], ◌∷◌, length, Option, Some, None, Result, Ok, Err, ap, refl, sym, subst, inl, inr, ⊎_elim, arith}
 use Rattle.std.proofs.lemmas.Bool.{leb-true, leb-false, eqb-true, eqb-false}
-use Rattle.evm_asm_lexer.specs.declared.fault.AsmFaultKind.{AsmFaultKind}
-use Rattle.evm_asm_lexer.specs.declared.fault.AsmFaultKind.TheVariants.{UnknownName, BadOperand, RangeOfImmediate}
-use Rattle.evm_asm_lexer.specs.declared.mnemonic.Width.{Width}
-use Rattle.evm_asm_lexer.specs.declared.mnemonic.Width.TheVariants.{Byte, Word, Dword}
-use Rattle.evm_asm_lexer.specs.declared.mnemonic.Mnemonic.{Mnemonic}
-use Rattle.evm_asm_lexer.specs.Characters.{left_parenthesis, right_parenthesis}
-use Rattle.evm_asm_lexer.specs.Faults.{kind_number, least, both, ◌>>=◌}
-use Rattle.evm_asm_lexer.specs.Text.{before, after, has}
-use Rattle.evm_asm_lexer.specs.Names.{register_named}
-use Rattle.evm_asm_parser.specs.declared.operand.Number.{Number}
-use Rattle.evm_asm_parser.specs.Operands.{Spots, first_operand, other_operands, how_many, counted, is_blank_text, name_in, known, named_register, register_in, labelled, label_in, number_in, integer, ranged, integer_in, immediate_in, offset_in, base_in, address_in, full_address_in, natural, limited, natural_in, upper, upper_in, wrapped, number_datum, label_datum, datum_of, datum_in}
-use Rattle.evm_asm_parser.specs.Forms.{Slot, Register, Integer, Natural, Upper, Label, Address, FullAddress, Name, Form, Each, Many, form}
-use Rattle.evm_asm_parser.specs.Statements.{Reading, is_named, operand_in, operands_in, also, with_data, said, statement_of}
+use Rattle.evm_asm.specs.evm_asm_lexer.declared.fault.AsmFaultKind.{AsmFaultKind}
+use Rattle.evm_asm.specs.evm_asm_lexer.declared.fault.AsmFaultKind.TheVariants.{UnknownName, BadOperand, RangeOfImmediate}
+use Rattle.evm_asm.specs.evm_asm_lexer.declared.mnemonic.Width.{Width}
+use Rattle.evm_asm.specs.evm_asm_lexer.declared.mnemonic.Width.TheVariants.{Byte, Word, Dword}
+use Rattle.evm_asm.specs.evm_asm_lexer.declared.mnemonic.Mnemonic.{Mnemonic}
+use Rattle.evm_asm.specs.evm_asm_lexer.Characters.{left_parenthesis, right_parenthesis}
+use Rattle.evm_asm.specs.evm_asm_lexer.Faults.{kind_number, least, both, ◌>>=◌}
+use Rattle.evm_asm.specs.evm_asm_lexer.Text.{before, after, has}
+use Rattle.evm_asm.specs.evm_asm_lexer.Names.{register_named}
+use Rattle.evm_asm.specs.evm_asm_parser.declared.operand.Number.{Number}
+use Rattle.evm_asm.specs.evm_asm_parser.Operands.{Spots, first_operand, other_operands, how_many, counted, is_blank_text, name_in, known, named_register, register_in, labelled, label_in, number_in, integer, ranged, integer_in, immediate_in, offset_in, base_in, address_in, full_address_in, natural, limited, natural_in, upper, upper_in, wrapped, number_datum, label_datum, datum_of, datum_in}
+use Rattle.evm_asm.specs.evm_asm_parser.Forms.{Slot, Register, Integer, Natural, Upper, Label, Address, FullAddress, Name, Form, Each, Many, form}
+use Rattle.evm_asm.specs.evm_asm_parser.Statements.{Reading, is_named, operand_in, operands_in, also, with_data, said, statement_of}
 use Rattle.evm_asm_laws.specs.Least.{fault_in, lesser}
 use Rattle.evm_asm_laws.specs.HasFault.{IsNoRegister, IsOutside, offset_text, Unknown, Misfit, OutOfRange, SomePlace, SomeOperand, IsNoDatum, IsDatumOutside, HasUnknownRegister, HasMisfit, HasNumberOutside}
-use Rattle.evm_asm_parser.specs.declared.statement.Datum.TheVariants as datum
+use Rattle.evm_asm.specs.evm_asm_parser.declared.statement.Datum.TheVariants as datum
 
 -- the least kind of which H is true, if it is of any
 abbrev pub IsLeast : (AsmFaultKind → Type 0) → Option AsmFaultKind → Type 0

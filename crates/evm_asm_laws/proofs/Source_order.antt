@@ -7,16 +7,16 @@ use Rattle.std.proofs.lemmas.Result.{IfOk-at_ok}
 use Rattle.std.proofs.lemmas.List.{append-nil}
 use Rattle.evm_isa.specs.declared.inst.Inst.{Inst}
 use Rattle.evm_isa.specs.Encoded.{encoded}
-use Rattle.evm_asm_lexer.specs.declared.mnemonic.Section.{Section as Part}
-use Rattle.evm_asm_lexer.specs.declared.mnemonic.Section.TheVariants.{Text, Data}
-use Rattle.evm_asm_lexer.specs.declared.mnemonic.Width.{Width}
-use Rattle.evm_asm_lexer.specs.Faults.{◌>>=◌}
-use Rattle.evm_asm_lexer.specs.Names.{named}
-use Rattle.evm_asm_parser.specs.declared.statement.Statement.{Statement}
-use Rattle.evm_asm_parser.specs.declared.statement.Statement.TheVariants.{Numbers, Space, Align}
-use Rattle.evm_asm_parser.specs.Operands.{Spots, first_operand, other_operands}
-use Rattle.evm_asm_parser.proofs.Outcomes.{any_ok, read_ok}
-use Rattle.evm_asm_parser.specs.declared.spot.Spot.{Spot}
+use Rattle.evm_asm.specs.evm_asm_lexer.declared.mnemonic.Section.{Section as Part}
+use Rattle.evm_asm.specs.evm_asm_lexer.declared.mnemonic.Section.TheVariants.{Text, Data}
+use Rattle.evm_asm.specs.evm_asm_lexer.declared.mnemonic.Width.{Width}
+use Rattle.evm_asm.specs.evm_asm_lexer.Faults.{◌>>=◌}
+use Rattle.evm_asm.specs.evm_asm_lexer.Names.{named}
+use Rattle.evm_asm.specs.evm_asm_parser.declared.statement.Statement.{Statement}
+use Rattle.evm_asm.specs.evm_asm_parser.declared.statement.Statement.TheVariants.{Numbers, Space, Align}
+use Rattle.evm_asm.specs.evm_asm_parser.Operands.{Spots, first_operand, other_operands}
+use Rattle.evm_asm.proofs.evm_asm_parser.Outcomes.{any_ok, read_ok}
+use Rattle.evm_asm.specs.evm_asm_parser.declared.spot.Spot.{Spot}
 use Rattle.evm_asm.specs.declared.item.Expansion.{Expansion}
 use Rattle.evm_asm.specs.declared.item.Expansion.TheVariants.{Empty, Single, Double}
 use Rattle.evm_asm.specs.declared.item.Item.{Item}

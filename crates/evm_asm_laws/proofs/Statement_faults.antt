@@ -1,29 +1,29 @@
 -- What is wrong with a statement: the fault of its reading, of its labels or of its size is the least of it.
 use Rattle.std.proofs.Common.{◌≡◌, ◌∙◌, ◌≤◌, ◌⊎◌, ℕ, Bool, true, false, not, List, Option, Some, None, Ok, Err, refl, sym, subst, inl, inr, ⊎_elim, arith, zero, suc, cond, ◌==◌, nat_le, Result, ℤ, pos, neg_ℤ, ◌≢◌, ◌-◌, ◌%◌, ◌<◌, ◌&&◌}
-use Rattle.evm_asm_lexer.specs.declared.fault.AsmFaultKind.{AsmFaultKind}
-use Rattle.evm_asm_lexer.specs.declared.fault.AsmFaultKind.TheVariants.{BadToken, UnknownName, BadOperand, RangeOfImmediate, LabelTwice, LabelMissing, TooLarge, NoMemory}
-use Rattle.evm_asm_lexer.specs.declared.mnemonic.Mnemonic.{Mnemonic}
-use Rattle.evm_asm_lexer.specs.Faults.{kind_number, ◌>>=◌}
-use Rattle.evm_asm_lexer.specs.Text.{skip_blanks, first_word, starts_with, is_name_start, is_empty, is_sound}
-use Rattle.evm_asm_lexer.specs.Names.{mnemonic_named}
-use Rattle.evm_asm_parser.specs.Operands.{Spots, how_many, first_operand, other_operands, datum_in}
-use Rattle.evm_asm_parser.specs.Forms.{form, Values, Form, Each, Many}
-use Rattle.evm_asm_parser.specs.Statements.{statement_of, Reading, all_operands_in, also, with_data, said}
+use Rattle.evm_asm.specs.evm_asm_lexer.declared.fault.AsmFaultKind.{AsmFaultKind}
+use Rattle.evm_asm.specs.evm_asm_lexer.declared.fault.AsmFaultKind.TheVariants.{BadToken, UnknownName, BadOperand, RangeOfImmediate, LabelTwice, LabelMissing, TooLarge, NoMemory}
+use Rattle.evm_asm.specs.evm_asm_lexer.declared.mnemonic.Mnemonic.{Mnemonic}
+use Rattle.evm_asm.specs.evm_asm_lexer.Faults.{kind_number, ◌>>=◌}
+use Rattle.evm_asm.specs.evm_asm_lexer.Text.{skip_blanks, first_word, starts_with, is_name_start, is_empty, is_sound}
+use Rattle.evm_asm.specs.evm_asm_lexer.Names.{mnemonic_named}
+use Rattle.evm_asm.specs.evm_asm_parser.Operands.{Spots, how_many, first_operand, other_operands, datum_in}
+use Rattle.evm_asm.specs.evm_asm_parser.Forms.{form, Values, Form, Each, Many}
+use Rattle.evm_asm.specs.evm_asm_parser.Statements.{statement_of, Reading, all_operands_in, also, with_data, said}
 use Rattle.evm_asm.specs.declared.place.Place.{Place}
 use Rattle.evm_asm.specs.Places.{may_stand, placed, of_mnemonic, statement_in, grown, place_behind}
 use Rattle.evm_asm.specs.Items.{operands, distance, with_item, value_of, value_in, number_pushed, with_numbers}
 use Rattle.evm_asm_laws.specs.Least.{fault_in}
 use Rattle.evm_asm_laws.specs.HasFault.{HasUnknownRegister, HasMisfit, HasNumberOutside, BeginsWithNoName, HasUnknownMnemonic, Of, OfForm, IsMisplaced, SomeOperand, IsBeyond}
 use Rattle.evm_asm_laws.proofs.Operand_faults.{IsLeast, same_least, also_fault, Three, three_joined, by_test, clash, statement_least}
-use Rattle.evm_asm_lexer.specs.declared.mnemonic.Width.{Width}
-use Rattle.evm_asm_lexer.specs.declared.mnemonic.Section.{Section as Part}
-use Rattle.evm_asm_parser.specs.declared.statement.Datum.{Datum}
-use Rattle.evm_asm_parser.specs.declared.statement.Statement.{Statement}
-use Rattle.evm_asm_parser.specs.declared.statement.Statement.TheVariants.{Nothing, Section, Numbers}
+use Rattle.evm_asm.specs.evm_asm_lexer.declared.mnemonic.Width.{Width}
+use Rattle.evm_asm.specs.evm_asm_lexer.declared.mnemonic.Section.{Section as Part}
+use Rattle.evm_asm.specs.evm_asm_parser.declared.statement.Datum.{Datum}
+use Rattle.evm_asm.specs.evm_asm_parser.declared.statement.Statement.{Statement}
+use Rattle.evm_asm.specs.evm_asm_parser.declared.statement.Statement.TheVariants.{Nothing, Section, Numbers}
 use Rattle.evm_asm.specs.declared.item.Placed.{Placed}
 use Rattle.evm_asm.proofs.Results.{also_ok}
-use Rattle.evm_asm_lexer.specs.declared.mnemonic.Mnemonic.TheVariants as names
-use Rattle.evm_asm_parser.specs.declared.statement.Datum.TheVariants as datum
+use Rattle.evm_asm.specs.evm_asm_lexer.declared.mnemonic.Mnemonic.TheVariants as names
+use Rattle.evm_asm.specs.evm_asm_parser.declared.statement.Datum.TheVariants as datum
 use Rattle.evm_asm.specs.declared.item.Item.TheVariants as item
 use Rattle.std.proofs.lemmas.Bool.Decides.{nat_tests}
 use Rattle.std.proofs.lemmas.Bool.{leb-true, leb-false}

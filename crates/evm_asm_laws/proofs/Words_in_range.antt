@@ -12,12 +12,12 @@ use Rattle.evm_isa.specs.declared.inst.StoreOp.{StoreOp}
 use Rattle.evm_isa.specs.declared.inst.WordOp.{WordOp}
 use Rattle.evm_isa.specs.declared.inst.Inst.TheVariants.{Lui, Auipc, Jal, Jalr, Branch, Load, Store, Immediate, Shift, Register, Word, Fence, Ecall, Ebreak}
 use Rattle.evm_isa.specs.Encoded.{twos_complement, multiple, i_placed, s_placed, b_placed, j_placed, i_bits, s_bits, b_bits, u_bits, j_bits, is_register, amounts, amount_placed, fence_placed, bits_joined, encoded}
-use Rattle.evm_asm_lexer.specs.declared.fault.AsmFaultKind.TheVariants.{BadOperand, RangeOfImmediate}
-use Rattle.evm_asm_lexer.specs.Characters.{left_parenthesis, right_parenthesis}
-use Rattle.evm_asm_lexer.specs.Text.{before, after, has}
-use Rattle.evm_asm_parser.specs.Operands.{register_in, number_in, integer_in, immediate_in, offset_in, base_in, address_in, full_address_in, natural, limited, natural_in, is_blank_text, upper, upper_in}
-use Rattle.evm_asm_parser.specs.declared.operand.Number.{Number}
-use Rattle.evm_asm_parser.proofs.Outcomes.{either_ok, tested_ok, both_ok, read_ok}
+use Rattle.evm_asm.specs.evm_asm_lexer.declared.fault.AsmFaultKind.TheVariants.{BadOperand, RangeOfImmediate}
+use Rattle.evm_asm.specs.evm_asm_lexer.Characters.{left_parenthesis, right_parenthesis}
+use Rattle.evm_asm.specs.evm_asm_lexer.Text.{before, after, has}
+use Rattle.evm_asm.specs.evm_asm_parser.Operands.{register_in, number_in, integer_in, immediate_in, offset_in, base_in, address_in, full_address_in, natural, limited, natural_in, is_blank_text, upper, upper_in}
+use Rattle.evm_asm.specs.evm_asm_parser.declared.operand.Number.{Number}
+use Rattle.evm_asm.proofs.evm_asm_parser.Outcomes.{either_ok, tested_ok, both_ok, read_ok}
 use Rattle.evm_asm_laws.specs.Wording.{HasWord}
 use Rattle.evm_asm.proofs.Operands_in_range.{IsRegister, register_below, IsFrom, minus_from, integer_within}
 

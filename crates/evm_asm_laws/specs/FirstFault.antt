@@ -1,6 +1,6 @@
 -- Which fault of a source a user is told.
 use Rattle.std.specs.Prelude.{◌≡◌, ◌↔◌, ℕ, List, IsOk, None, Err}
-use Rattle.evm_asm_lexer.specs.declared.fault.AsmFault.{AsmFault}
+use Rattle.evm_asm.specs.evm_asm_lexer.declared.fault.AsmFault.{AsmFault}
 use Rattle.evm_asm.specs.Assembled.{program_of}
 use Rattle.evm_asm_laws.specs.Least.{fault_at, IsFirstFault}
 

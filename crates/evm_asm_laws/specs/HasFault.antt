@@ -1,21 +1,21 @@
 -- What is wrong with a line of a source: a sentence for each kind of fault.
 use Rattle.std.specs.Prelude.{◌≡◌, ◌≢◌, ◌<◌, ◌≤◌, ◌%◌, ◌++◌, ◌⊎◌, ◌&&◌, ◌↔◌, IsOk, ℕ, zero, suc, ◌+◌, Bool, true, false, List, [], ◌∷◌, length, take, slice_get, Some, None, Ok, Err}
-use Rattle.evm_asm_lexer.specs.declared.fault.AsmFault.{AsmFault}
-use Rattle.evm_asm_lexer.specs.declared.fault.AsmFaultKind.{AsmFaultKind}
-use Rattle.evm_asm_lexer.specs.declared.fault.AsmFaultKind.TheVariants.{BadToken, UnknownName, BadOperand, RangeOfImmediate, LabelTwice, LabelMissing, TooLarge, NoMemory}
-use Rattle.evm_asm_lexer.specs.declared.mnemonic.Mnemonic.{Mnemonic}
-use Rattle.evm_asm_lexer.specs.declared.mnemonic.Width.{Width}
-use Rattle.evm_asm_lexer.specs.declared.mnemonic.Width.TheVariants.{Byte, Word, Dword}
-use Rattle.evm_asm_lexer.specs.Characters.{left_parenthesis, right_parenthesis}
-use Rattle.evm_asm_lexer.specs.Faults.{kind_number}
-use Rattle.evm_asm_lexer.specs.Text.{before, after, has, skip_blanks, first_word, starts_with, is_name_start, is_empty, is_sound}
-use Rattle.evm_asm_lexer.specs.Names.{register_named, mnemonic_named}
-use Rattle.evm_asm_parser.specs.declared.operand.Number.{Number}
-use Rattle.evm_asm_parser.specs.declared.statement.Datum.TheVariants as datum
-use Rattle.evm_asm_parser.specs.declared.statement.Statement.{Statement}
-use Rattle.evm_asm_parser.specs.declared.statement.Statement.TheVariants.{Branch, Jump, LoadAddress, Numbers}
-use Rattle.evm_asm_parser.specs.Operands.{Spots, first_operand, other_operands, how_many, is_blank_text, name_in, number_in, datum_in}
-use Rattle.evm_asm_parser.specs.Forms.{Slot, Register, Integer, Natural, Upper, Label, Address, FullAddress, Name, Form, Each, Many, form}
+use Rattle.evm_asm.specs.evm_asm_lexer.declared.fault.AsmFault.{AsmFault}
+use Rattle.evm_asm.specs.evm_asm_lexer.declared.fault.AsmFaultKind.{AsmFaultKind}
+use Rattle.evm_asm.specs.evm_asm_lexer.declared.fault.AsmFaultKind.TheVariants.{BadToken, UnknownName, BadOperand, RangeOfImmediate, LabelTwice, LabelMissing, TooLarge, NoMemory}
+use Rattle.evm_asm.specs.evm_asm_lexer.declared.mnemonic.Mnemonic.{Mnemonic}
+use Rattle.evm_asm.specs.evm_asm_lexer.declared.mnemonic.Width.{Width}
+use Rattle.evm_asm.specs.evm_asm_lexer.declared.mnemonic.Width.TheVariants.{Byte, Word, Dword}
+use Rattle.evm_asm.specs.evm_asm_lexer.Characters.{left_parenthesis, right_parenthesis}
+use Rattle.evm_asm.specs.evm_asm_lexer.Faults.{kind_number}
+use Rattle.evm_asm.specs.evm_asm_lexer.Text.{before, after, has, skip_blanks, first_word, starts_with, is_name_start, is_empty, is_sound}
+use Rattle.evm_asm.specs.evm_asm_lexer.Names.{register_named, mnemonic_named}
+use Rattle.evm_asm.specs.evm_asm_parser.declared.operand.Number.{Number}
+use Rattle.evm_asm.specs.evm_asm_parser.declared.statement.Datum.TheVariants as datum
+use Rattle.evm_asm.specs.evm_asm_parser.declared.statement.Statement.{Statement}
+use Rattle.evm_asm.specs.evm_asm_parser.declared.statement.Statement.TheVariants.{Branch, Jump, LoadAddress, Numbers}
+use Rattle.evm_asm.specs.evm_asm_parser.Operands.{Spots, first_operand, other_operands, how_many, is_blank_text, name_in, number_in, datum_in}
+use Rattle.evm_asm.specs.evm_asm_parser.Forms.{Slot, Register, Integer, Natural, Upper, Label, Address, FullAddress, Name, Form, Each, Many, form}
 use Rattle.evm_asm.specs.declared.place.Place.{Place}
 use Rattle.evm_asm.specs.Places.{may_stand, place_behind, statement_in}
 use Rattle.evm_asm.specs.Sources.{Laid, nothing_laid, laid, source_lines, code_of, statement_text}

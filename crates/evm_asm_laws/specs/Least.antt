@@ -1,10 +1,10 @@
 -- The fault that is told of a source: the least of the first line that has any.
 use Rattle.std.specs.Prelude.{◌≡◌, ◌<◌, ◌↔◌, ℕ, zero, suc, List, [], take, slice_get, IsOk, Option, Some, None, option_and_then, Result, Ok, Err}
-use Rattle.evm_asm_lexer.specs.declared.fault.AsmFault.{AsmFault}
-use Rattle.evm_asm_lexer.specs.declared.fault.AsmFaultKind.{AsmFaultKind}
+use Rattle.evm_asm.specs.evm_asm_lexer.declared.fault.AsmFault.{AsmFault}
+use Rattle.evm_asm.specs.evm_asm_lexer.declared.fault.AsmFaultKind.{AsmFaultKind}
 use Rattle.evm_asm.specs.declared.item.Placed.{Placed}
 use Rattle.evm_asm.specs.declared.place.Place.{Place}
-use Rattle.evm_asm_lexer.specs.Faults.{least}
+use Rattle.evm_asm.specs.evm_asm_lexer.Faults.{least}
 use Rattle.evm_asm.specs.Sources.{Laid, nothing_laid, laid, line_laid, source_lines, code_of, statement_text}
 use Rattle.evm_asm.specs.Items.{line_meant, layout_of, meaning_of}
 

@@ -2,11 +2,11 @@
 use Rattle.std.specs.Prelude.{◌≡◌, ℕ, zero, suc, ◌+◌, ◌-◌, ◌*◌, ◌/◌, ◌%◌, ◌<◌, ◌≤◌, ◌&&◌, ◌==◌, nat_le, if◌then◌else◌, List, [], ◌∷◌, ◌++◌, length, take, drop, replicate, map, slice_get, All, AllPairs, Some, None, Ok}
 use Rattle.evm_asm.specs.declared.item.Placed.{Placed}
 use Rattle.evm_asm.specs.declared.output.ProgramLine.{ProgramLine}
-use Rattle.evm_asm_lexer.specs.declared.mnemonic.Width.{Width}
+use Rattle.evm_asm.specs.evm_asm_lexer.declared.mnemonic.Width.{Width}
 use Rattle.evm_asm.specs.declared.place.Place.{Place}
-use Rattle.evm_asm_parser.specs.declared.statement.Statement.TheVariants.{Numbers, Space, Align}
-use Rattle.evm_asm_lexer.specs.Names.{named}
-use Rattle.evm_asm_parser.specs.Operands.{first_operand, other_operands}
+use Rattle.evm_asm.specs.evm_asm_parser.declared.statement.Statement.TheVariants.{Numbers, Space, Align}
+use Rattle.evm_asm.specs.evm_asm_lexer.Names.{named}
+use Rattle.evm_asm.specs.evm_asm_parser.Operands.{first_operand, other_operands}
 use Rattle.evm_asm.specs.Places.{offset, here, padding, is_text, bytes_in}
 use Rattle.evm_asm.specs.Sources.{source_lines, code_of, label_at, behind_labels, statement_text}
 use Rattle.evm_asm.specs.Items.{text_base, data_base, address, value_in, operands, layout_of, meaning_of}

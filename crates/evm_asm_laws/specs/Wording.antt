@@ -2,7 +2,7 @@
 use Rattle.std.specs.Prelude.{◌≡◌, ◌↔◌, ℕ, List, Some, Ok, Err, All, IsOk}
 use Rattle.evm_isa.specs.declared.inst.Inst.{Inst}
 use Rattle.evm_isa.specs.Encoded.{encoded}
-use Rattle.evm_asm_lexer.specs.declared.fault.AsmFault.{AsmFault}
+use Rattle.evm_asm.specs.evm_asm_lexer.declared.fault.AsmFault.{AsmFault}
 use Rattle.evm_asm.specs.declared.item.Item.{Item}
 use Rattle.evm_asm.specs.declared.item.Item.TheVariants as item
 use Rattle.evm_asm.specs.declared.item.Placed.{Placed}

@@ -3,8 +3,8 @@
 ghost use Rattle.std.specs.Prelude.{◌≡◌, Some};
 ghost use Rattle.std.specs.Int.{w32, from_le_bytes};
 ghost use Rattle.evm_isa.specs.Encoded.{encoded};
-ghost use Rattle.evm_asm_lexer.specs.declared.mnemonic.BareOp.TheVariants.{Nop};
-ghost use Rattle.evm_asm_parser.specs.Forms.{bare_instruction};
+ghost use Rattle.evm_asm.specs.evm_asm_lexer.declared.mnemonic.BareOp.TheVariants.{Nop};
+ghost use Rattle.evm_asm.specs.evm_asm_parser.Forms.{bare_instruction};
 ghost use Rattle.evm_asm.specs.Programs.{nop_bytes};
 ghost use Rattle.evm_asm_laws.specs.Wording.{EveryItemHasItsWord, SpellingNeverFails};
 

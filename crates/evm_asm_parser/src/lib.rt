@@ -13,6 +13,10 @@ mod statement;
 mod target;
 
 pub use directive::{also, datum_in};
+pub use evm_asm_lexer::{
+    AsmFault, AsmFaultKind, Mnemonic, Section, Width, after, before, behind_word, first_word, has,
+    is_sound, least, mnemonic_named, register_named, skip_blanks,
+};
 pub use instruction::upper;
 pub use kept::{Kept, KeptLines};
 pub use labels::Labels;

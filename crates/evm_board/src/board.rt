@@ -3,9 +3,8 @@ ghost use Rattle.evm_model.specs.Commands.{is_set, set_breakpoint, unset_breakpo
 ghost use Rattle.evm_model.specs.Refusals.{no_slot};
 
 use crate::memory::Memory;
-use evm_breaks::Breakpoints;
-use evm_parts::Parts;
-use evm_quiet::Slots;
+use evm_quiet::{Breakpoints, Slots};
+use evm_settle::Parts;
 use std::marker::Model;
 
 /// What events change.

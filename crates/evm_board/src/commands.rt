@@ -6,7 +6,7 @@ ghost use Rattle.evm_model.specs.Pipes.{raise};
 ghost use Rattle.evm_model.specs.Refusals.{bad_register};
 
 use evm_isa::Register;
-use evm_parts::Parts;
+use evm_settle::Parts;
 
 /// Sets a processor's stop and skip bits.
 #[tactic(auto, unfolding(evm_model::specs::Commands::set_bits))]

@@ -7,8 +7,8 @@ ghost use Rattle.evm_model.specs.Settle.{settle_and_nudge};
 ghost use Rattle.evm_model.specs.State.{on_parts};
 ghost use Rattle.evm_board.specs.Steps.{IsRunning};
 ghost use Rattle.evm_board.specs.Stops.{follow};
-ghost use Rattle.evm_rules.proofs.Bounded.{AreWithin};
-ghost use Rattle.evm_walk.proofs.Walk.{AreFew};
+ghost use Rattle.evm_settle.proofs.evm_rules.Bounded.{AreWithin};
+ghost use Rattle.evm_settle.proofs.evm_walk.Walk.{AreFew};
 
 use crate::board::Board;
 use crate::quiet::{advance_quietly, load_quietly, stop_quietly};
@@ -16,10 +16,9 @@ use evm_calls::call::call;
 use evm_exec::{load_width, loaded};
 use evm_isa::{LoadOp, Register};
 use evm_model::{Answer, Fault, TaskState};
-use evm_parts::Parts;
 use evm_quiet::Stop;
 use evm_ram::Width;
-use evm_settle::settle_and_nudge;
+use evm_settle::{Parts, settle_and_nudge};
 
 // A fault sends an out-of-band task in-band, and ends another.
 fn fault(parts: &mut Parts, c: u8, t: u8, reason: Fault)

@@ -14,5 +14,7 @@ mod step;
 mod stepping;
 
 pub use board::Board;
+pub use evm_quiet::{Breakpoints, Slots};
+pub use evm_settle::{Console, Harts, Mutexes, Parts, Pipe, Tasks};
 pub use memory::Memory;
 pub use stepping::Made;

@@ -6,7 +6,7 @@ ghost use Rattle.evm_model.specs.Mutexes.{raised, ceiling};
 ghost use Rattle.evm_model.specs.Ranks.{class_rank, first, rank, stamp};
 ghost use Rattle.evm_model.specs.Waits.{awaits};
 ghost use Rattle.evm_ranks.specs.Boosts.{greater};
-ghost use Rattle.evm_ready.specs.Told.{rank_told};
+ghost use Rattle.evm_wait.specs.evm_ready.Told.{rank_told};
 
 use crate::mutexes::Mutexes;
 use evm_model::{Class, Protocol, TASK_LIMIT, Task, Wait};

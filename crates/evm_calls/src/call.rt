@@ -4,7 +4,7 @@ ghost use Rattle.std.specs.Prelude.{◌≡◌, ◌<◌, ◌≤◌, ◌+◌, ◌^
 ghost use Rattle.evm_exec.specs.declared.hart.Hart.{Hart};
 ghost use Rattle.evm_model.specs.Bounds.{HeldUpTo};
 ghost use Rattle.evm_model.specs.Calls.{perform, return_weak, answered, finish_call, ask_oob, call_on, call_stage, call};
-ghost use Rattle.evm_task.specs.Asks.{AskedBy};
+ghost use Rattle.evm_inband.specs.evm_task.Asks.{AskedBy};
 
 use crate::clock::clock;
 use crate::lock::lock;
@@ -27,9 +27,8 @@ use evm_inband::set_line::set_line;
 use evm_inband::spawn::spawn;
 use evm_inband::wait_line::wait_line;
 use evm_inband::yield_now::yield_now;
+use evm_inband::{Asked, Parts};
 use evm_model::{Call, Errno, Outcome, Stage};
-use evm_parts::Parts;
-use evm_task::Asked;
 
 // What a call does.
 fn perform(parts: &mut Parts, call: Call, asked: Asked, c: u8, t: u8) -> Outcome

@@ -2,9 +2,9 @@ ghost use Rattle.std.specs.Prelude.{◌≡◌, ◌<◌, ◌≤◌, ◌+◌, ◌^
 ghost use Rattle.evm_model.specs.Bounds.{HeldUpTo};
 ghost use Rattle.evm_model.specs.Locks.{lock, lock_again, lock_other};
 
+use evm_inband::Parts;
 use evm_inband::refused::refused;
 use evm_model::{Errno, Mutex, Outcome, Stage, Wait};
-use evm_parts::Parts;
 
 // The task has a mutex of its own once more, where that is recursive.
 #[tactic(auto, unfolding(evm_model::specs::Locks::lock_again))]

@@ -1,9 +1,9 @@
 ghost use Rattle.std.specs.Prelude.{◌≡◌};
 ghost use Rattle.evm_model.specs.OobCalls.{set_mode};
 
+use evm_inband::Parts;
 use evm_inband::refused::refused;
 use evm_model::{Errno, MODE_LIMIT, Outcome};
-use evm_parts::Parts;
 
 /// Call 35: the task has these mode bits, 1 and 2 and their sum 3; answers the old ones. -22 for more.
 #[tactic(auto, unfolding(evm_model::specs::OobCalls::set_mode))]

@@ -1,10 +1,10 @@
 ghost use Rattle.std.specs.Prelude.{◌≡◌};
 ghost use Rattle.evm_model.specs.OobCalls.{set_sched};
 
+use evm_inband::Parts;
 use evm_inband::policy::policy_of;
 use evm_inband::refused::refused;
 use evm_model::{Errno, Outcome};
-use evm_parts::Parts;
 
 /// Call 34: a task, of whatever processor, has another class and priority, and a whole slice; answers 0. -3 where
 /// there is no such task, or it has ended or has no class, else -22 where there is no such class or it has no such

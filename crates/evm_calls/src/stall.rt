@@ -1,8 +1,8 @@
 ghost use Rattle.std.specs.Prelude.{◌≡◌};
 ghost use Rattle.evm_model.specs.OobCalls.{stall};
 
+use evm_inband::Parts;
 use evm_model::{Outcome, Stage};
-use evm_parts::Parts;
 
 /// Calls 4 and 5, 51 and 52: a stage of the processor, in-band or out-of-band, is stalled, or not; answers the old
 /// bit.

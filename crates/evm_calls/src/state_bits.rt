@@ -2,8 +2,8 @@ ghost use Rattle.std.specs.Prelude.{◌≡◌};
 ghost use Rattle.evm_model.specs.OobCalls.{state_bits};
 ghost use Rattle.evm_model.specs.Stages.{bit};
 
+use evm_inband::Parts;
 use evm_model::Outcome;
-use evm_parts::Parts;
 
 fn bit(b: bool) -> u64
     ensures { result ≡ bit b }

@@ -1,9 +1,9 @@
 ghost use Rattle.std.specs.Prelude.{◌≡◌, ◌<◌, ◌≤◌, ◌+◌, ◌^◌};
 ghost use Rattle.evm_model.specs.OobCalls.{switch_in_band};
 
+use evm_inband::Parts;
 use evm_inband::refused::refused;
 use evm_model::{Errno, Outcome, Stage};
-use evm_parts::Parts;
 
 /// Call 33: the task goes in-band; answers 0, or -1 while out-of-band is stalled.
 #[tactic(auto, unfolding(evm_model::specs::OobCalls::switch_in_band))]

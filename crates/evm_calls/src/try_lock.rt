@@ -3,9 +3,9 @@ ghost use Rattle.evm_model.specs.Bounds.{HeldUpTo};
 ghost use Rattle.evm_model.specs.Locks.{try_lock};
 
 use crate::lock::lock_again;
+use evm_inband::Parts;
 use evm_inband::refused::refused;
 use evm_model::{Errno, Outcome};
-use evm_parts::Parts;
 
 /// Call 37: the task has a mutex, if it need not wait for it; answers 0. -22 where there is no such mutex, -16 where
 /// another task owns it. Where the task owns it, it has it once more, or -35 if it isn't recursive.

@@ -1,9 +1,9 @@
 ghost use Rattle.std.specs.Prelude.{◌≡◌, ◌<◌, ◌≤◌, ◌+◌, ◌^◌};
 ghost use Rattle.evm_model.specs.Locks.{unlock, unlock_once};
 
+use evm_inband::Parts;
 use evm_inband::refused::refused;
 use evm_model::{Errno, Mutex, Outcome};
-use evm_parts::Parts;
 
 // The task has its mutex once less; the last time it passes on.
 #[tactic(auto, unfolding(evm_model::specs::Locks::unlock_once))]

@@ -1,8 +1,8 @@
 ghost use Rattle.std.specs.Prelude.{◌≡◌, ◌<◌, ◌≤◌, ◌+◌, ◌^◌};
 ghost use Rattle.evm_model.specs.OobCalls.{yield_oob};
 
+use evm_inband::Parts;
 use evm_model::Outcome;
-use evm_parts::Parts;
 
 /// Call 50: the task goes behind the others of its rank that are ready out-of-band; answers 0.
 #[tactic(auto, unfolding(evm_model::specs::OobCalls::yield_oob))]

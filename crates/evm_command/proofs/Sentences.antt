@@ -1,12 +1,12 @@
 -- Texts written one behind the other, and numbers digit by digit.
 use Rattle.std.proofs.Common.{◌≡◌, ℕ, ◌+◌, ◌-◌, ◌/◌, ◌%◌, ◌<◌, ◌≤◌, ◌^◌, List, [], ◌∷◌, ◌++◌, Result, Ok, Err, MatchResult, refl, sym, ◌∙◌, arith}
 use Rattle.std.proofs.lemmas.Bool.{lt-ltb}
-use Rattle.evm_text.specs.Written.{numeral}
-use Rattle.evm_text.proofs.Steps.{numeral_one, numeral_then, some_division}
-use Rattle.evm_streams.specs.declared.sink.Writing.{Writing}
-use Rattle.evm_streams.specs.declared.sink.WriteFault.{WriteFault}
-use Rattle.evm_streams.specs.Writes.{Took, TookPrefix}
-use Rattle.evm_streams.proofs.Calls.{took_append, prefix_behind, prefix_longer}
+use Rattle.evm_serve.specs.evm_text.Written.{numeral}
+use Rattle.evm_serve.proofs.evm_text.Steps.{numeral_one, numeral_then, some_division}
+use Rattle.evm_serve.specs.evm_streams.declared.sink.Writing.{Writing}
+use Rattle.evm_serve.specs.evm_streams.declared.sink.WriteFault.{WriteFault}
+use Rattle.evm_serve.specs.evm_streams.Writes.{Took, TookPrefix}
+use Rattle.evm_serve.proofs.evm_streams.Calls.{took_append, prefix_behind, prefix_longer}
 use Rattle.evm_command.specs.Telling.{Writes}
 
 module _ {E : Type 0} (takes : E → Writing → List ℕ → E → Type 0) where

@@ -1,12 +1,12 @@
 -- What each job asks of the system, one call after another, and the status that it ends with. What a call answered is known by that call
 -- alone, so these clauses fix which files are opened or created, in which order, and what is never asked for.
 use Rattle.std.specs.Prelude.{◌≡◌, ℕ, List, Option, Some, None, Result, Ok, Err, codes}
-use Rattle.evm_streams.specs.declared.source.Reading.{Reading}
-use Rattle.evm_streams.specs.declared.source.ReadStop.{ReadStop}
-use Rattle.evm_streams.specs.declared.sink.Writing.{Writing}
-use Rattle.evm_streams.specs.Reads.{Reads, ReadsText}
+use Rattle.evm_serve.specs.evm_streams.declared.source.Reading.{Reading}
+use Rattle.evm_serve.specs.evm_streams.declared.source.ReadStop.{ReadStop}
+use Rattle.evm_serve.specs.evm_streams.declared.sink.Writing.{Writing}
+use Rattle.evm_serve.specs.evm_streams.Reads.{Reads, ReadsText}
 use Rattle.evm_image.specs.Images.{Contents}
-use Rattle.evm_asm.specs.Assembled.{program_of}
+use Rattle.evm_serve.specs.evm_asm.Assembled.{program_of}
 use Rattle.evm_serve.specs.Given.{Given, an_image, nothing}
 use Rattle.evm_serve.specs.Told.{told}
 use Rattle.evm_serve.specs.Serving.{Finishes, Unread}

@@ -1,9 +1,9 @@
 -- What a run of the program does, from the words of the command line to its exit status.
 use Rattle.std.specs.Prelude.{◌≡◌, ℕ, List, [], ◌⊎◌, Option, Some, None, Result}
-use Rattle.evm_streams.specs.declared.source.Reading.{Reading}
-use Rattle.evm_streams.specs.declared.source.ReadStop.TheVariants.{NoMemory}
-use Rattle.evm_streams.specs.declared.sink.Writing.{Writing}
-use Rattle.evm_streams.specs.Writes.{Took, TookPrefix}
+use Rattle.evm_serve.specs.evm_streams.declared.source.Reading.{Reading}
+use Rattle.evm_serve.specs.evm_streams.declared.source.ReadStop.TheVariants.{NoMemory}
+use Rattle.evm_serve.specs.evm_streams.declared.sink.Writing.{Writing}
+use Rattle.evm_serve.specs.evm_streams.Writes.{Took, TookPrefix}
 use Rattle.clap.specs.Words.{Text, IsAmong, fault_of, subcommand_of}
 use Rattle.clap.specs.declared.error.ErrorKind.{ErrorKind}
 use Rattle.clap.specs.declared.error.ErrorKind.TheVariants.{DisplayHelp, DisplayVersion, OutOfMemory}

@@ -1,7 +1,7 @@
 -- What a person is shown of a line of a script or a journal.
 use Rattle.std.specs.Prelude.{ℕ, ◌-◌, Bool, not, ◌&&◌, nat_le, List, Option, take, slice_get, option_map}
 use Rattle.std.specs.List.{before_first}
-use Rattle.evm_text.specs.Lines.{text_lines}
+use Rattle.evm_serve.specs.evm_text.Lines.{text_lines}
 use Rattle.evm_command.specs.declared.showing.TheConstants.{SHOWN_LIMIT}
 
 -- ' ' to '~'

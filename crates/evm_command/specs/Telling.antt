@@ -1,14 +1,14 @@
 -- What standard error is told, and the status that a job ends with.
 use Rattle.std.specs.Prelude.{◌≡◌, ℕ, List, ◌++◌, ◌⊎◌, Option, Some, None, Result, Ok, Err, codes}
-use Rattle.evm_streams.specs.declared.sink.Writing.{Writing}
-use Rattle.evm_streams.specs.declared.sink.WriteFault.{WriteFault}
-use Rattle.evm_streams.specs.declared.source.ReadFault.{ReadFault}
-use Rattle.evm_streams.specs.declared.source.ReadFault.TheVariants.{Failed, TooLong, NotUtf8}
-use Rattle.evm_streams.specs.Writes.{Took, TookPrefix}
-use Rattle.evm_text.specs.Written.{decimal}
-use Rattle.evm_elf.specs.Sentences.{elf_sentence}
-use Rattle.evm_asm_lexer.specs.Sentences.{asm_sentence}
-use Rattle.evm_asm.specs.Quoting.{quoted}
+use Rattle.evm_serve.specs.evm_streams.declared.sink.Writing.{Writing}
+use Rattle.evm_serve.specs.evm_streams.declared.sink.WriteFault.{WriteFault}
+use Rattle.evm_serve.specs.evm_streams.declared.source.ReadFault.{ReadFault}
+use Rattle.evm_serve.specs.evm_streams.declared.source.ReadFault.TheVariants.{Failed, TooLong, NotUtf8}
+use Rattle.evm_serve.specs.evm_streams.Writes.{Took, TookPrefix}
+use Rattle.evm_serve.specs.evm_text.Written.{decimal}
+use Rattle.evm_serve.specs.evm_elf.Sentences.{elf_sentence}
+use Rattle.evm_serve.specs.evm_asm_lexer.Sentences.{asm_sentence}
+use Rattle.evm_serve.specs.evm_asm.Quoting.{quoted}
 use Rattle.evm_serve.specs.Faults.{line_at_fault, fault_sentence, sentence_text}
 use Rattle.evm_serve.specs.declared.fault.Fault.{Fault}
 use Rattle.evm_serve.specs.declared.fault.Fault.TheVariants.{BadLine, Refused, NoProgram, NoJournal}

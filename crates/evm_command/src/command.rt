@@ -14,8 +14,7 @@ use crate::system::{System, World};
 use crate::words::{Job, job_of, parse};
 use clap::Error;
 use clap::error::ErrorKind;
-use evm_serve::{Ending, Verdict};
-use evm_streams::write_all;
+use evm_serve::{Ending, Verdict, write_all};
 use std::alloc::Global;
 
 // Writes help or the version.

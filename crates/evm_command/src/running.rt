@@ -7,8 +7,7 @@ ghost use Rattle.evm_command.specs.Jobs.{ServesScript, ServesInput, RunsImage, R
 use crate::loading::image_at;
 use crate::saying::{Known, ended_with, not_read};
 use crate::system::{System, World};
-use evm_serve::{Given, serve_script};
-use evm_streams::read_all;
+use evm_serve::{Given, read_all, serve_script};
 use std::alloc::Global;
 
 /// The name under which a fault of the script is told.

@@ -1,8 +1,8 @@
 //! What standard error is told, and the status of a job.
 
 ghost use Rattle.std.specs.Prelude.{◌≡◌, codes, option_copied};
-ghost use Rattle.evm_asm_lexer.specs.Sentences.{asm_sentence};
-ghost use Rattle.evm_asm.specs.Quoting.{quoted};
+ghost use Rattle.evm_serve.specs.evm_asm_lexer.Sentences.{asm_sentence};
+ghost use Rattle.evm_serve.specs.evm_asm.Quoting.{quoted};
 ghost use Rattle.evm_serve.specs.Faults.{fault_sentence};
 ghost use Rattle.evm_serve.specs.Serving.{Unread};
 ghost use Rattle.evm_command.specs.Jobs.{NotRead, NotWords};
@@ -11,9 +11,9 @@ ghost use Rattle.evm_command.specs.Telling.{Tells, Explains, Ended, EndedWith, S
 use crate::showing::line_shown;
 use crate::system::{OpenFault, System, World};
 use crate::telling::{Words, tell_about, tell_about_line};
-use evm_asm::{AsmFault, quoted};
-use evm_serve::{Ending, Fault, ReadFault, ReadStop, Sentence, Verdict};
-use evm_streams::{Sink, write_all};
+use evm_serve::{
+    AsmFault, Ending, Fault, ReadFault, ReadStop, Sentence, Sink, Verdict, quoted, write_all,
+};
 
 /// The status where a file can't be opened, created, read or written.
 pub(crate) const FAILED: u8 = 4;

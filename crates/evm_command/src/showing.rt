@@ -4,7 +4,7 @@ ghost use Rattle.std.specs.Prelude.{◌≡◌, ◌<◌, length, not, option_copi
 ghost use Rattle.std.specs.List.{position};
 ghost use Rattle.evm_command.specs.Showing.{is_printable, printable_front, shown_line, line_numbered, line_shown};
 
-use evm_text::cut_line;
+use evm_serve::cut_line;
 
 /// How many bytes of a line are shown.
 pub(crate) const SHOWN_LIMIT: usize = 60;

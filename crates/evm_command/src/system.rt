@@ -1,6 +1,6 @@
 //! What the program asks of the system that it runs on.
 
-use evm_streams::{Sink, Source};
+use evm_serve::{Sink, Source};
 
 /// Why a file can't be opened or created.
 #[derive(Clone, Copy, Debug, PartialEq, Eq)]

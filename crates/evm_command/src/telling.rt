@@ -1,12 +1,11 @@
 //! Sentences about files and about their lines, on standard error.
 
 ghost use Rattle.std.specs.Prelude.{◌≡◌, ◌<◌, ◌+◌, ◌^◌, ◌++◌, Some, codes};
-ghost use Rattle.evm_text.specs.Written.{numeral, decimal};
+ghost use Rattle.evm_serve.specs.evm_text.Written.{numeral, decimal};
 ghost use Rattle.evm_serve.specs.Faults.{sentence_text};
 ghost use Rattle.evm_command.specs.Telling.{Writes, Tells, behind_place, about, about_line, quoting, words_text};
 
-use evm_serve::Sentence;
-use evm_streams::{Sink, WriteFault, write_all};
+use evm_serve::{Sentence, Sink, WriteFault, write_all};
 
 /// What is said: a sentence, or one that quotes a word or a line, with what stands between them.
 #[derive(Clone, Copy)]

@@ -1,3 +1,6 @@
 pub mod Lists
 pub mod Many
 pub mod Rules
+pub use Rattle.evm_history.proofs as evm_history
+pub use Rattle.evm_board.proofs.evm_rules as evm_rules
+pub use Rattle.evm_board.proofs.evm_walk as evm_walk

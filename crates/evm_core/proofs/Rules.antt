@@ -5,8 +5,8 @@ use Rattle.evm_model.specs.Good.{GoodState}
 use Rattle.evm_model.specs.Replay.{IsReplayOf, replay}
 use Rattle.evm_model.specs.State.{State}
 use Rattle.evm_model.specs.Event.{Event}
-use Rattle.evm_rules.proofs.Bounded.{AreWithin, within-more}
-use Rattle.evm_rules.proofs.States.{counts_room, holds_room, ticks_room, stamps_room}
+use Rattle.evm_board.proofs.evm_rules.Bounded.{AreWithin, within-more}
+use Rattle.evm_board.proofs.evm_rules.States.{counts_room, holds_room, ticks_room, stamps_room}
 
 pub counts-fit : (s : State) → GoodState s → AreWithin (2 ^ 61) s.board.parts
 counts-fit s g = within-more (2 ^ 28) (2 ^ 61) s.board.parts (omega arith) (counts_room s g)

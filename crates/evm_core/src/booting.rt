@@ -6,17 +6,14 @@ ghost use Rattle.evm_model.specs.Replay.{bad_boot, BootAnswers};
 
 use crate::machine::Machine;
 use arrayvec::ArrayVec;
-use evm_board::{Board, Memory};
-use evm_boost::Mutexes;
-use evm_breaks::Breakpoints;
+use evm_board::{Board, Breakpoints, Console, Harts, Memory, Mutexes, Parts, Pipe, Slots, Tasks};
 use evm_exec::Hart;
-use evm_model::{Boot, CAPACITY_LIMIT, Class, Mode, PROCESSOR_LIMIT, Processor, RAM_LEAST, RAM_UNIT, Task, TaskState, Profile};
-use evm_parts::{Console, Parts};
-use evm_pipe::Pipe;
-use evm_quiet::Slots;
+use evm_model::{
+    Boot, CAPACITY_LIMIT, Class, Mode, PROCESSOR_LIMIT, Processor, Profile, RAM_LEAST, RAM_UNIT,
+    Task, TaskState,
+};
 use evm_ram::{BASE, Ram, Refusal, SIZE_LIMIT};
 use evm_room::Refused;
-use evm_task::{Harts, Tasks};
 use std::alloc::Global;
 
 fn is_bad(boot: &Boot) -> bool

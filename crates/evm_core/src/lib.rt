@@ -6,6 +6,7 @@ mod machine;
 mod stages;
 mod stepping;
 
+pub use evm_history::{EventLine, Journal, MAX_STEPS};
 pub use evm_model::{Answer, Boot, Event};
 pub use evm_ram::Refusal;
 pub use machine::Machine;

@@ -2,7 +2,7 @@
 use Rattle.std.proofs.Common.{◌≡◌, ℕ, zero, suc, ◌+◌, ◌<◌, ◌≤◌, ◌-◌, List, [], ◌++◌, length, refl, ap, sym, ◌∙◌, append_assoc, add-one, arith}
 use Rattle.std.proofs.lemmas.List.{append-nil, length-append}
 use Rattle.std.specs.Prelude.{slice_get}
-use Rattle.evm_core.specs.Views.{stages_at}
+use Rattle.evm_journal.specs.evm_core.Views.{stages_at}
 use Rattle.evm_model.specs.State.{Parts}
 use Rattle.evm_model.specs.declared.mutex.Mutex.{Mutex}
 use Rattle.evm_debug.proofs.Pairs.{pairs-append}

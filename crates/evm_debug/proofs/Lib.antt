@@ -3,3 +3,7 @@ pub mod RegisterLines
 pub mod Below
 pub mod Pairs
 pub mod Shown
+pub use Rattle.evm_journal.proofs.evm_history as evm_history
+pub use Rattle.evm_journal.proofs as evm_journal
+pub use Rattle.evm_journal.proofs.evm_rules as evm_rules
+pub use Rattle.evm_journal.proofs.evm_text as evm_text

@@ -3,11 +3,11 @@ use Rattle.std.proofs.Common.{◌≡◌, ◌↔◌, ℕ, Bool, true, false, cond
 use Rattle.std.specs.Result.{result_ok}
 use Rattle.std.proofs.lemmas.Option.{same_Some}
 use Rattle.std.proofs.lemmas.Bool.{cases_Bool}
-use Rattle.evm_text.specs.Rows.{IsRowOf, rows_at, rows_as}
-use Rattle.evm_text.proofs.Rows.{reads_table, Each, row_is, row_of_either, row_of_first, row_of_second, row_as_takes, row_as_again, row_begins_so}
+use Rattle.evm_journal.specs.evm_text.Rows.{IsRowOf, rows_at, rows_as}
+use Rattle.evm_journal.proofs.evm_text.Rows.{reads_table, Each, row_is, row_of_either, row_of_first, row_of_second, row_as_takes, row_as_again, row_begins_so}
 use Rattle.evm_model.specs.declared.boot.Boot.{Boot as Numbers}
-use Rattle.evm_history.specs.EventLine.{EventLine}
-use Rattle.evm_history.specs.declared.event_line.EventLine.TheVariants as events
+use Rattle.evm_journal.specs.evm_history.EventLine.{EventLine}
+use Rattle.evm_journal.specs.evm_history.declared.event_line.EventLine.TheVariants as events
 use Rattle.evm_journal.specs.EventLine.{event_rows, short_rows}
 use Rattle.evm_journal.specs.Journal.{boot_row}
 use Rattle.evm_journal.proofs.Lines.{IsLine, row_is_line, line_is_row}

@@ -1,6 +1,6 @@
 -- The digits of bytes in two parts.
 use Rattle.std.proofs.Common.{◌≡◌, ℕ, ◌/◌, ◌%◌, List, [], ◌∷◌, ◌++◌, refl, ap}
-use Rattle.evm_text.specs.Written.{character, pairs}
+use Rattle.evm_journal.specs.evm_text.Written.{character, pairs}
 
 pub pairs-append : (xs ys : List ℕ) → pairs (xs ++ ys) ≡ pairs xs ++ pairs ys
 unfolding pairs

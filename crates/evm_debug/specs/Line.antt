@@ -1,11 +1,11 @@
 -- The table of the lines of a script, and their spelling.
 use Rattle.std.specs.Prelude.{◌≡◌, ℕ, Bool, true, List, [], ◌∷◌, ◌++◌, ◌==◌, Option, Some, codes}
-use Rattle.evm_text.specs.Rows.{Byte, Decimal, Hexadecimal, LineRow, line_row, Filled, with_values, row_text, Fit, values_at, rows_as}
-use Rattle.evm_text.specs.Reading.{◌>>=◌}
+use Rattle.evm_journal.specs.evm_text.Rows.{Byte, Decimal, Hexadecimal, LineRow, line_row, Filled, with_values, row_text, Fit, values_at, rows_as}
+use Rattle.evm_journal.specs.evm_text.Reading.{◌>>=◌}
 use Rattle.evm_journal.specs.EventLine.{event_rows, event_line_text, HasEventLine}
 use Rattle.evm_journal.specs.Journal.{boot_row, boot_text, HasBootLine}
-use Rattle.evm_history.specs.EventLine.{EventLine}
-use Rattle.evm_history.specs.declared.event_line.EventLine.TheVariants as events
+use Rattle.evm_journal.specs.evm_history.EventLine.{EventLine}
+use Rattle.evm_journal.specs.evm_history.declared.event_line.EventLine.TheVariants as events
 use Rattle.evm_debug.specs.declared.line.View.{View}
 use Rattle.evm_debug.specs.declared.line.View.TheVariants.{Regs, Mem, Stages, Tasks, Owners, Rank, Counts, Journal, Console}
 use Rattle.evm_debug.specs.declared.line.Line.{Line}

@@ -1,6 +1,6 @@
 -- A line of a script read from its front.
 use Rattle.std.specs.Prelude.{◌≡◌, ◌↔◌, ℕ, List, Option, Some, if◌then◌else◌}
-use Rattle.evm_text.specs.Rows.{rows_at}
+use Rattle.evm_journal.specs.evm_text.Rows.{rows_at}
 use Rattle.evm_debug.specs.declared.line.Line.{Line}
 use Rattle.evm_debug.specs.declared.line.Line.TheVariants.{Blank}
 use Rattle.evm_debug.specs.Line.{script_rows, is_blank_line, IsSpelled}

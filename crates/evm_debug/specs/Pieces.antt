@@ -1,6 +1,6 @@
 -- The pieces of a line, as the code strings them together.
 use Rattle.std.specs.Prelude.{ℕ, List, [], ◌∷◌, ◌++◌}
-use Rattle.evm_text.specs.Written.{decimal}
+use Rattle.evm_journal.specs.evm_text.Written.{decimal}
 use Rattle.evm_debug.specs.Views.{word_text, line_set_text, bit_text, number_text, two_digits, state_text, class_text, stage_text}
 use Rattle.evm_debug.specs.declared.piece.Piece.{Piece}
 use Rattle.evm_debug.specs.declared.piece.Piece.TheVariants.{Text, Decimal, Word, Lines, Bit, Number, TwoDigits, State, Class, Stage}

@@ -1,7 +1,7 @@
 -- What is shown of a machine at the end of a replay.
 use Rattle.std.specs.Prelude.{ℕ, zero, suc, List, [], ◌++◌, Option, Some, None, slice_get, length}
-use Rattle.evm_core.specs.Views.{stages_at}
-use Rattle.evm_core.specs.declared.stages.Stages.{Stages}
+use Rattle.evm_journal.specs.evm_core.Views.{stages_at}
+use Rattle.evm_journal.specs.evm_core.declared.stages.Stages.{Stages}
 use Rattle.evm_model.specs.State.{Parts, State}
 use Rattle.evm_model.specs.declared.processor.Processor.{Processor}
 use Rattle.evm_debug.specs.Views.{stages_text, tasks_text, owners_text}

@@ -1,7 +1,7 @@
 -- The views of a machine as text; each line ends with a newline.
 use Rattle.std.specs.Prelude.{ℕ, zero, suc, ◌+◌, ◌/◌, ◌%◌, List, [], ◌∷◌, ◌++◌, Option, Some, None, Bool, codes, slice_get, length, if◌then◌else◌, ◌==◌, nat_lt, Result, Ok, Err, IsOkAnd, ◌≡◌}
 use Rattle.evm_room.specs.Growth.{RefusedWithin}
-use Rattle.evm_text.specs.Written.{decimal, hexadecimal_padded, pairs}
+use Rattle.evm_journal.specs.evm_text.Written.{decimal, hexadecimal_padded, pairs}
 use Rattle.evm_ram.specs.Ram.{bytes_at}
 use Rattle.evm_ram.specs.declared.refusal.Refusal.{Refusal}
 use Rattle.evm_ram.specs.declared.refusal.Refusal.TheVariants.{NoSuchCpu, NoSuchLine, NoTask, BadAddress}
@@ -10,8 +10,8 @@ use Rattle.evm_debug.specs.declared.line.View.TheVariants.{Regs, Mem, Stages as 
 use Rattle.evm_journal.specs.Journal.{journal_text}
 use Rattle.evm_debug.specs.declared.look.ViewRefusal.{ViewRefusal}
 use Rattle.evm_debug.specs.declared.look.ViewRefusal.TheVariants.{Refused, NoMemory}
-use Rattle.evm_core.specs.Views.{counts_at, stages_at}
-use Rattle.evm_core.specs.declared.stages.Stages.{Stages}
+use Rattle.evm_journal.specs.evm_core.Views.{counts_at, stages_at}
+use Rattle.evm_journal.specs.evm_core.declared.stages.Stages.{Stages}
 use Rattle.evm_exec.specs.Registers.{register_of}
 use Rattle.evm_lines.specs.Lines.{word_of}
 use Rattle.evm_model.specs.Faults.{fault_number}

@@ -2,13 +2,13 @@
 
 ghost use Rattle.std.specs.Prelude.{◌≡◌, length, slice_get, OnErr, IfOk};
 ghost use Rattle.std.specs.String.{string_bytes};
-ghost use Rattle.evm_text.specs.Appending.{Appends};
-ghost use Rattle.evm_core.specs.Views.{stages_at};
+ghost use Rattle.evm_journal.specs.evm_text.Appending.{Appends};
+ghost use Rattle.evm_journal.specs.evm_core.Views.{stages_at};
 ghost use Rattle.evm_debug.specs.Summary.{stages_below, stages_or_none, summary_text};
 ghost use Rattle.evm_room.specs.Growth.{RefusedWithin};
 
 use crate::views::{push_owners, push_stages, push_tasks};
-use evm_core::Machine;
+use evm_journal::Machine;
 use evm_ram::NoMemory;
 use evm_room::Refused;
 use std::alloc::Global;

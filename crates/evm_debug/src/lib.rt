@@ -11,6 +11,10 @@ mod reading;
 mod showing;
 mod views;
 
+pub use evm_journal::{
+    Answer, Boot, Event, EventLine, Journal, JournalFault, JournalFaultKind, Machine, Refusal,
+    cut_line, push_decimal, read_history, write_journal,
+};
 pub use last_views::{push_summary, summary};
 pub use laws::reads_lines;
 pub use line::{Bad, Line, View};

@@ -1,13 +1,13 @@
 ghost use Rattle.std.specs.Prelude.{◌≡◌, ◌++◌};
-ghost use Rattle.evm_text.specs.Appending.{Appends};
-ghost use Rattle.evm_text.specs.Written.{decimal};
+ghost use Rattle.evm_journal.specs.evm_text.Appending.{Appends};
+ghost use Rattle.evm_journal.specs.evm_text.Written.{decimal};
 ghost use Rattle.evm_debug.specs.Views.{state_text, wait_text, class_text, number_text, two_digits};
 ghost use Rattle.evm_debug.specs.Pieces.{piece_text, pieces_text};
 
 use crate::piece::Piece;
+use evm_journal::{push_decimal, push_hexadecimal_padded};
 use evm_model::{Class, TaskState, Wait};
 use evm_room::{Refused, push_text};
-use evm_text::{push_decimal, push_hexadecimal_padded};
 
 fn class_name(class: Class) -> &'static str
     ensures { result.now ≡ class_text class }

@@ -1,7 +1,7 @@
 ghost use Rattle.std.specs.Prelude.{◌≡◌, ◌↔◌, ◌++◌, Ok, Some, [], IfSome, option_map};
 ghost use Rattle.std.specs.Result.{result_ok};
-ghost use Rattle.evm_history.specs.EventLine.{short_line};
-ghost use Rattle.evm_text.specs.Rows.{said_at, rows_at, row_as, rows_as};
+ghost use Rattle.evm_journal.specs.evm_history.EventLine.{short_line};
+ghost use Rattle.evm_journal.specs.evm_text.Rows.{said_at, rows_at, row_as, rows_as};
 ghost use Rattle.evm_journal.specs.EventLine.{event_rows, short_rows};
 ghost use Rattle.evm_journal.specs.Journal.{boot_row};
 ghost use Rattle.evm_debug.specs.Line.{mem_row, counts_row, bare_rows, bare_said, view_rows, script_line, is_blank_line, IsSpelled};
@@ -9,9 +9,11 @@ ghost use Rattle.evm_debug.specs.LineReading.{line_at};
 ghost use Rattle.evm_debug.specs.declared.line.Line.TheVariants.{Boot, Look};
 
 use crate::line::{Bad, Line, View};
-use evm_journal::{EventLine, read_boot_numbers, read_event_line, read_short_line};
+use evm_journal::{
+    EventLine, after_word, decimal_last, hexadecimal_then, read_boot_numbers, read_event_line,
+    read_short_line, u8_last, u8_then,
+};
 use evm_model::NoBytes;
-use evm_text::{after_word, decimal_last, hexadecimal_then, u8_last, u8_then};
 
 fn is_blank_line(bytes: &[u8]) -> bool
     ensures { result ≡ is_blank_line bytes.now }

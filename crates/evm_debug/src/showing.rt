@@ -1,18 +1,16 @@
 ghost use Rattle.std.specs.Prelude.{◌≡◌, ◌<◌, ◌≤◌, ◌+◌, ◌++◌, length, Result, MatchResult, OnOk, OnErr, IfOk, IfErr, IsOkAnd, codes};
 ghost use Rattle.std.specs.String.{string_bytes, string_capacity, string_len};
-ghost use Rattle.evm_text.specs.Appending.{Appends};
-ghost use Rattle.evm_text.specs.Written.{pairs};
+ghost use Rattle.evm_journal.specs.evm_text.Appending.{Appends};
+ghost use Rattle.evm_journal.specs.evm_text.Written.{pairs};
 ghost use Rattle.evm_debug.specs.Views.{shown, Shows, ViewFails};
 
 use crate::line::View;
 use crate::look::ViewRefusal;
 use crate::views::{push_counts, push_owners, push_rank, push_regs, push_stages, push_tasks};
-use evm_core::Machine;
-use evm_journal::push_journal;
+use evm_journal::{Machine, push_journal, push_pairs};
 use evm_model::POKE_LIMIT;
 use evm_ram::Refusal;
 use evm_room::{Refused, push_text};
-use evm_text::push_pairs;
 use std::alloc::Global;
 
 // Appends the text of a view, as far as memory goes, or answers why it is refused.

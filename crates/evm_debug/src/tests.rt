@@ -1,6 +1,5 @@
 use super::*;
-use evm_core::Machine;
-use evm_journal::EventLine;
+use evm_journal::{EventLine, Machine};
 use evm_model::{Boot, Event};
 use evm_ram::Refusal;
 use std::process::Abort;

@@ -1,13 +1,13 @@
 ghost use Rattle.std.specs.Prelude.{◌≡◌, ◌<◌, ◌+◌, Option, slice_get};
-ghost use Rattle.evm_text.specs.Appending.{Appends};
+ghost use Rattle.evm_journal.specs.evm_text.Appending.{Appends};
 ghost use Rattle.evm_debug.specs.Views.{four_registers, registers_text, current_text, regs_text, task_text, tasks_text, owner_text, owners_text, rank_text, stages_text, counts_text};
 ghost use Rattle.evm_exec.specs.Registers.{register_of};
 
 use crate::piece::Piece;
 use crate::pieces::push_pieces;
-use evm_core::{Machine, Stages};
 use evm_exec::Hart;
 use evm_isa::Register;
+use evm_journal::{Machine, Stages};
 use evm_model::{Counts, Mutex, Processor, Task};
 use evm_room::{Refused, push_text};
 

@@ -11,6 +11,10 @@ mod segments;
 mod sentences;
 mod writing;
 
+pub use evm_asm::{
+    AsmFault, AsmFaultKind, Program, all_that_is_meant_stands, assemble, la_loads, li_loads,
+    lines_are_worded, quoted, words_stand,
+};
 pub use fault::ElfFault;
 pub use laws::{
     accepted_is_sound, assembled_is_read, overlap_is_shared_address, words_are_loaded,

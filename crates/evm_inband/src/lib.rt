@@ -13,3 +13,5 @@ pub mod set_line;
 pub mod spawn;
 pub mod wait_line;
 pub mod yield_now;
+
+pub use evm_parts::{Asked, Parts};

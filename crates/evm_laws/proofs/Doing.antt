@@ -6,8 +6,8 @@ use Rattle.evm_isa.specs.Decoded.{decoded}
 use Rattle.evm_isa.specs.Table.{Row}
 use Rattle.evm_isa.specs.declared.inst.Inst.{Inst}
 use Rattle.evm_lines.specs.Lines.{least_line}
-use Rattle.evm_asm.specs.Assembled.{IsWorded}
-use Rattle.evm_asm.specs.declared.output.ProgramLine.{ProgramLine}
+use Rattle.evm_elf.specs.evm_asm.Assembled.{IsWorded}
+use Rattle.evm_elf.specs.evm_asm.declared.output.ProgramLine.{ProgramLine}
 use Rattle.evm_exec.specs.declared.hart.Hart.{Hart}
 use Rattle.evm_ram.specs.declared.refusal.Refusal.{Refusal}
 use Rattle.evm_model.specs.Commands.{is_set}

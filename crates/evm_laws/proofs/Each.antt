@@ -1,17 +1,17 @@
 -- Each li and each la of a source is one that the laws of both are about.
 use Rattle.std.proofs.Common.{◌≡◌, ◌∙◌, ℕ, ◌+◌, ◌-◌, ◌%◌, ◌≤◌, List, Some, Result, Ok, take, ap, subst, arith}
 use Rattle.std.proofs.lemmas.Result.{IfOk-at_ok}
-use Rattle.evm_asm_lexer.specs.declared.fault.AsmFaultKind.{AsmFaultKind}
-use Rattle.evm_asm_lexer.specs.declared.mnemonic.Section.{Section as Part}
-use Rattle.evm_asm_lexer.specs.declared.mnemonic.Section.TheVariants.{Text, Data}
-use Rattle.evm_asm_parser.specs.declared.statement.Statement.{Statement}
-use Rattle.evm_asm_parser.specs.declared.statement.Statement.TheVariants.{LoadImmediate, LoadAddress}
-use Rattle.evm_asm.specs.Items.{address, address_of_offset, expanded, load_address, load_address_by, load_immediate, layout_of}
-use Rattle.evm_asm.specs.Loading.{LoadsImmediate, LoadsAddress}
-use Rattle.evm_asm.specs.Places.{load_size}
-use Rattle.evm_asm.specs.Sizes.{Says, place_before, size_of_text}
-use Rattle.evm_asm.specs.Sources.{code_of, source_lines, statement_text}
-use Rattle.evm_asm.specs.declared.item.Expansion.{Expansion}
+use Rattle.evm_elf.specs.evm_asm_lexer.declared.fault.AsmFaultKind.{AsmFaultKind}
+use Rattle.evm_elf.specs.evm_asm_lexer.declared.mnemonic.Section.{Section as Part}
+use Rattle.evm_elf.specs.evm_asm_lexer.declared.mnemonic.Section.TheVariants.{Text, Data}
+use Rattle.evm_elf.specs.evm_asm_parser.declared.statement.Statement.{Statement}
+use Rattle.evm_elf.specs.evm_asm_parser.declared.statement.Statement.TheVariants.{LoadImmediate, LoadAddress}
+use Rattle.evm_elf.specs.evm_asm.Items.{address, address_of_offset, expanded, load_address, load_address_by, load_immediate, layout_of}
+use Rattle.evm_elf.specs.evm_asm.Loading.{LoadsImmediate, LoadsAddress}
+use Rattle.evm_elf.specs.evm_asm.Places.{load_size}
+use Rattle.evm_elf.specs.evm_asm.Sizes.{Says, place_before, size_of_text}
+use Rattle.evm_elf.specs.evm_asm.Sources.{code_of, source_lines, statement_text}
+use Rattle.evm_elf.specs.evm_asm.declared.item.Expansion.{Expansion}
 use Rattle.evm_exec.specs.Numbers.{extended}
 use Rattle.evm_laws.specs.Pseudo.{EachLiLoads, EachLaLoads, OperandsAreInRange, expansion_after, loaded}
 use Rattle.evm_laws.proofs.Loaded.{li_leaves_its_number, la_leaves_its_address}

@@ -7,18 +7,18 @@ use Rattle.evm_isa.specs.Decoded.{decoded}
 use Rattle.evm_isa.specs.Table.{Row}
 use Rattle.evm_isa.specs.declared.inst.Inst.{Inst}
 use Rattle.evm_isa.specs.declared.inst.Inst.TheVariants.{Lui, Auipc}
-use Rattle.evm_asm_parser.specs.declared.spot.Spot.{Spot}
-use Rattle.evm_asm_parser.specs.declared.statement.Statement.{Statement}
-use Rattle.evm_asm_parser.specs.declared.statement.Statement.TheVariants.{LoadImmediate, LoadAddress}
-use Rattle.evm_asm.specs.Assembled.{Assembled, IsWorded, program_of}
-use Rattle.evm_asm.specs.Items.{address, expanded, load_address, load_immediate}
-use Rattle.evm_asm.specs.Places.{is_small, needs_low_part, low_word, high_part, load_size}
-use Rattle.evm_asm.specs.Sources.{source_lines}
-use Rattle.evm_asm.specs.ProgramLaws.{LinesAreWorded}
-use Rattle.evm_asm.specs.Sizes.{AllThatIsMeantStands, IsAmong, address_of_line, size_of_text}
-use Rattle.evm_asm.specs.declared.item.Expansion.{Expansion}
-use Rattle.evm_asm.specs.declared.item.Expansion.TheVariants.{Empty, Single, Double}
-use Rattle.evm_asm.specs.declared.output.ProgramLine.{ProgramLine}
+use Rattle.evm_elf.specs.evm_asm_parser.declared.spot.Spot.{Spot}
+use Rattle.evm_elf.specs.evm_asm_parser.declared.statement.Statement.{Statement}
+use Rattle.evm_elf.specs.evm_asm_parser.declared.statement.Statement.TheVariants.{LoadImmediate, LoadAddress}
+use Rattle.evm_elf.specs.evm_asm.Assembled.{Assembled, IsWorded, program_of}
+use Rattle.evm_elf.specs.evm_asm.Items.{address, expanded, load_address, load_immediate}
+use Rattle.evm_elf.specs.evm_asm.Places.{is_small, needs_low_part, low_word, high_part, load_size}
+use Rattle.evm_elf.specs.evm_asm.Sources.{source_lines}
+use Rattle.evm_elf.specs.evm_asm.ProgramLaws.{LinesAreWorded}
+use Rattle.evm_elf.specs.evm_asm.Sizes.{AllThatIsMeantStands, IsAmong, address_of_line, size_of_text}
+use Rattle.evm_elf.specs.evm_asm.declared.item.Expansion.{Expansion}
+use Rattle.evm_elf.specs.evm_asm.declared.item.Expansion.TheVariants.{Empty, Single, Double}
+use Rattle.evm_elf.specs.evm_asm.declared.output.ProgramLine.{ProgramLine}
 use Rattle.evm_exec.specs.Does.{does, hart_after}
 use Rattle.evm_exec.specs.Numbers.{extended}
 use Rattle.evm_exec.specs.Values.{sum}

@@ -2,19 +2,19 @@
 use Rattle.std.proofs.Common.{◌≡◌, ℕ, zero, suc, ◌-◌, ◌≤◌, Bool, true, false, cond, nat_le, List, [], ◌∷◌, ◌++◌, length, Option, Some, None, Result, Ok, Err, IfOk, refl, arith}
 use Rattle.std.specs.Prelude.{is_some}
 use Rattle.std.proofs.lemmas.Bool.{leb-true}
-use Rattle.evm_asm_lexer.specs.declared.fault.AsmFaultKind.{AsmFaultKind}
-use Rattle.evm_asm_lexer.specs.declared.fault.AsmFaultKind.TheVariants.{TooLarge}
-use Rattle.evm_asm_lexer.specs.declared.mnemonic.Section.{Section as Part}
-use Rattle.evm_asm_lexer.specs.declared.mnemonic.Section.TheVariants.{Text, Data}
-use Rattle.evm_asm_lexer.specs.Faults.{◌>>=◌}
-use Rattle.evm_asm_lexer.specs.Names.{named}
-use Rattle.evm_asm_parser.specs.declared.spot.Spot.{Spot}
-use Rattle.evm_asm_parser.specs.declared.statement.Statement.{Statement}
-use Rattle.evm_asm_parser.specs.declared.statement.Statement.TheVariants.{Section}
-use Rattle.evm_asm_parser.specs.Operands.{Spots}
-use Rattle.evm_asm.specs.declared.place.Place.{Place}
-use Rattle.evm_asm.specs.Places.{offset, section_size, farther, grown, size_at, place_behind, here, statement_in}
-use Rattle.evm_asm.specs.Sources.{Defined, Laid, with_label, defined, label_at, outcome, measured, line_defined, line_laid, with_line_laid, laid, nothing_laid, code_of, statement_text}
+use Rattle.evm_elf.specs.evm_asm_lexer.declared.fault.AsmFaultKind.{AsmFaultKind}
+use Rattle.evm_elf.specs.evm_asm_lexer.declared.fault.AsmFaultKind.TheVariants.{TooLarge}
+use Rattle.evm_elf.specs.evm_asm_lexer.declared.mnemonic.Section.{Section as Part}
+use Rattle.evm_elf.specs.evm_asm_lexer.declared.mnemonic.Section.TheVariants.{Text, Data}
+use Rattle.evm_elf.specs.evm_asm_lexer.Faults.{◌>>=◌}
+use Rattle.evm_elf.specs.evm_asm_lexer.Names.{named}
+use Rattle.evm_elf.specs.evm_asm_parser.declared.spot.Spot.{Spot}
+use Rattle.evm_elf.specs.evm_asm_parser.declared.statement.Statement.{Statement}
+use Rattle.evm_elf.specs.evm_asm_parser.declared.statement.Statement.TheVariants.{Section}
+use Rattle.evm_elf.specs.evm_asm_parser.Operands.{Spots}
+use Rattle.evm_elf.specs.evm_asm.declared.place.Place.{Place}
+use Rattle.evm_elf.specs.evm_asm.Places.{offset, section_size, farther, grown, size_at, place_behind, here, statement_in}
+use Rattle.evm_elf.specs.evm_asm.Sources.{Defined, Laid, with_label, defined, label_at, outcome, measured, line_defined, line_laid, with_line_laid, laid, nothing_laid, code_of, statement_text}
 use Rattle.evm_laws.proofs.Operands_read.{IsNear, AreNear}
 
 pub record IsLimited (place : Place) : Type 0 where

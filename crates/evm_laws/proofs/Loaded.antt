@@ -5,10 +5,10 @@ use Rattle.std.proofs.lemmas.Int.{ints}
 use Rattle.std.proofs.lemmas.List.{set-set}
 use Rattle.evm_isa.specs.declared.inst.ImmediateOp.TheVariants.{Addi, Addiw}
 use Rattle.evm_isa.specs.declared.inst.Inst.TheVariants.{Lui, Auipc, Immediate}
-use Rattle.evm_asm.specs.Items.{load_immediate}
-use Rattle.evm_asm.specs.Loading.{in_register, low_extended, left_in_register, LoadsImmediate, LoadsAddress}
-use Rattle.evm_asm.specs.Places.{is_small, low_word, low_part, high_part, needs_low_part, load_size}
-use Rattle.evm_asm.specs.declared.item.Expansion.TheVariants.{Single, Double}
+use Rattle.evm_elf.specs.evm_asm.Items.{load_immediate}
+use Rattle.evm_elf.specs.evm_asm.Loading.{in_register, low_extended, left_in_register, LoadsImmediate, LoadsAddress}
+use Rattle.evm_elf.specs.evm_asm.Places.{is_small, low_word, low_part, high_part, needs_low_part, load_size}
+use Rattle.evm_elf.specs.evm_asm.declared.item.Expansion.TheVariants.{Single, Double}
 use Rattle.evm_exec.specs.Does.{does}
 use Rattle.evm_exec.specs.Numbers.{extended, word}
 use Rattle.evm_exec.specs.Registers.{register_of, with_register}

@@ -3,10 +3,10 @@ use Rattle.std.proofs.Common.{◌≡◌, ℕ, ◌≤◌, Bool, true, false, cond
 use Rattle.std.specs.List.{AllByRecursion}
 use Rattle.std.proofs.lemmas.Int.{ints}
 use Rattle.std.proofs.lemmas.Result.{IfOk-weaker}
-use Rattle.evm_asm_lexer.specs.Names.{named}
-use Rattle.evm_asm_parser.specs.declared.spot.Spot.{Spot}
-use Rattle.evm_asm_parser.specs.Operands.{name_in, label_in, labelled, integer_in, Spots}
-use Rattle.evm_asm.proofs.Operands_in_range.{IsFrom, integer_within as integer_from}
+use Rattle.evm_elf.specs.evm_asm_lexer.Names.{named}
+use Rattle.evm_elf.specs.evm_asm_parser.declared.spot.Spot.{Spot}
+use Rattle.evm_elf.specs.evm_asm_parser.Operands.{name_in, label_in, labelled, integer_in, Spots}
+use Rattle.evm_elf.proofs.evm_asm.Operands_in_range.{IsFrom, integer_within as integer_from}
 
 -- a number of 32 bits
 abbrev pub IsInRange : ℤ → Type 0

@@ -5,7 +5,7 @@ use Rattle.evm_isa.specs.Decoded.{decoded}
 use Rattle.evm_isa.specs.declared.inst.Inst.{Inst}
 use Rattle.evm_isa.specs.declared.inst.LoadOp.{LoadOp}
 use Rattle.evm_lines.specs.Lines.{least_line}
-use Rattle.evm_asm.specs.declared.output.ProgramLine.{ProgramLine}
+use Rattle.evm_elf.specs.evm_asm.declared.output.ProgramLine.{ProgramLine}
 use Rattle.evm_exec.specs.Does.{does}
 use Rattle.evm_exec.specs.Memory.{width_of_load}
 use Rattle.evm_exec.specs.declared.hart.Hart.{Hart}

@@ -5,8 +5,8 @@ use Rattle.std.specs.Int.{w32, to_le_bytes}
 use Rattle.std.proofs.lemmas.Bool.{le-leb}
 use Rattle.std.proofs.lemmas.Grind.{same_number_lists}
 use Rattle.std.proofs.lemmas.List.{length-take, length-drop, get_or-take, get_or-drop, take_all}
-use Rattle.evm_asm.specs.Assembled.{IsWorded, StandsIn}
-use Rattle.evm_asm.specs.declared.output.ProgramLine.{ProgramLine}
+use Rattle.evm_elf.specs.evm_asm.Assembled.{IsWorded, StandsIn}
+use Rattle.evm_elf.specs.evm_asm.declared.output.ProgramLine.{ProgramLine}
 use Rattle.evm_ram.specs.Bytes.{little_endian}
 use Rattle.evm_ram.specs.Laws.{bytes_at-inside}
 use Rattle.evm_ram.specs.Ram.{is_inside, bytes_at, read_at}

@@ -1,20 +1,20 @@
 -- Every li and la that is read has operands that can be loaded.
 use Rattle.std.proofs.Common.{◌≡◌, ℕ, false, ◌==◌, not, List, Option, Some, None, Ok, Err, IfOk, IfSome, refl}
-use Rattle.evm_asm_lexer.specs.declared.fault.AsmFaultKind.TheVariants.{BadToken}
-use Rattle.evm_asm_lexer.specs.declared.mnemonic.Mnemonic.{Mnemonic}
-use Rattle.evm_asm_lexer.specs.declared.mnemonic.Mnemonic.TheVariants as names
-use Rattle.evm_asm_lexer.specs.Text.{skip_blanks, first_word, behind_word, starts_with, is_name_start, is_empty, is_sound}
-use Rattle.evm_asm_lexer.specs.Names.{mnemonic_named}
-use Rattle.evm_asm_parser.specs.declared.statement.Statement.{Statement}
-use Rattle.evm_asm_parser.specs.declared.statement.Statement.TheVariants.{Nothing, LoadImmediate, LoadAddress}
-use Rattle.evm_asm_parser.specs.Operands.{Spots, how_many, name_in, natural_in, upper_in, address_in, full_address_in}
-use Rattle.evm_asm_parser.specs.Forms.{Slot, Register, Integer, Natural, Upper, Label, Address, FullAddress, Name, Value, form}
-use Rattle.evm_asm_parser.specs.Statements.{is_named, operand_in, statement_of}
-use Rattle.evm_asm.specs.declared.place.Place.{Place}
-use Rattle.evm_asm.specs.Places.{placed, of_mnemonic, statement_in}
-use Rattle.evm_asm_parser.proofs.Outcomes.{any_ok, either_ok, also_ok}
-use Rattle.evm_asm_parser.proofs.Forms_hold.{Makes, either_makes, statement_holds}
-use Rattle.evm_asm.proofs.Operands_in_range.{IsRegister, register_below}
+use Rattle.evm_elf.specs.evm_asm_lexer.declared.fault.AsmFaultKind.TheVariants.{BadToken}
+use Rattle.evm_elf.specs.evm_asm_lexer.declared.mnemonic.Mnemonic.{Mnemonic}
+use Rattle.evm_elf.specs.evm_asm_lexer.declared.mnemonic.Mnemonic.TheVariants as names
+use Rattle.evm_elf.specs.evm_asm_lexer.Text.{skip_blanks, first_word, behind_word, starts_with, is_name_start, is_empty, is_sound}
+use Rattle.evm_elf.specs.evm_asm_lexer.Names.{mnemonic_named}
+use Rattle.evm_elf.specs.evm_asm_parser.declared.statement.Statement.{Statement}
+use Rattle.evm_elf.specs.evm_asm_parser.declared.statement.Statement.TheVariants.{Nothing, LoadImmediate, LoadAddress}
+use Rattle.evm_elf.specs.evm_asm_parser.Operands.{Spots, how_many, name_in, natural_in, upper_in, address_in, full_address_in}
+use Rattle.evm_elf.specs.evm_asm_parser.Forms.{Slot, Register, Integer, Natural, Upper, Label, Address, FullAddress, Name, Value, form}
+use Rattle.evm_elf.specs.evm_asm_parser.Statements.{is_named, operand_in, statement_of}
+use Rattle.evm_elf.specs.evm_asm.declared.place.Place.{Place}
+use Rattle.evm_elf.specs.evm_asm.Places.{placed, of_mnemonic, statement_in}
+use Rattle.evm_elf.proofs.evm_asm_parser.Outcomes.{any_ok, either_ok, also_ok}
+use Rattle.evm_elf.proofs.evm_asm_parser.Forms_hold.{Makes, either_makes, statement_holds}
+use Rattle.evm_elf.proofs.evm_asm.Operands_in_range.{IsRegister, register_below}
 use Rattle.evm_laws.proofs.Operands_read.{IsInRange, IsNear, AreNear, integer_within, label_near}
 
 -- li has a register and a number of 32 bits, la a register and a label that is near, if it is known

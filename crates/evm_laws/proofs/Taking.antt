@@ -5,15 +5,15 @@ use Rattle.std.proofs.lemmas.Bool.{cases_lt, and_right, le-ltb, lt-ltb}
 use Rattle.std.proofs.lemmas.Bool.Decides.{nat_tests}
 use Rattle.std.proofs.lemmas.List.{length-replicate}
 use Rattle.std.proofs.lemmas.Option.{same_Some}
-use Rattle.evm_asm.specs.Assembled.{Assembled, IsWorded, StandsIn}
-use Rattle.evm_asm.specs.declared.output.ProgramLine.{ProgramLine}
+use Rattle.evm_elf.specs.evm_asm.Assembled.{Assembled, IsWorded, StandsIn}
+use Rattle.evm_elf.specs.evm_asm.declared.output.ProgramLine.{ProgramLine}
 use Rattle.evm_elf.specs.Files.{image_of_bytes}
 use Rattle.evm_image.specs.Images.{Loaded, byte_at, range_start}
 use Rattle.evm_ram.specs.Ram.{bytes_at}
 use Rattle.evm_ram.specs.declared.ram.TheConstants.{BASE}
 use Rattle.evm_ram.specs.declared.refusal.Refusal.{Refusal}
 use Rattle.evm_ram.specs.declared.refusal.Refusal.TheVariants.{BadAddress}
-use Rattle.evm_board.specs.Room.{passes_ram}
+use Rattle.evm_core.specs.evm_board.Room.{passes_ram}
 use Rattle.evm_core.specs.Load.{load}
 use Rattle.evm_model.specs.Harts.{first_hart}
 use Rattle.evm_model.specs.Load.{load_board, bytes_from}

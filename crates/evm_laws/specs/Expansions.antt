@@ -1,13 +1,13 @@
 -- What a task does at the li and la of a source, where the words of the program stand in RAM.
 use Rattle.std.specs.Prelude.{◌≡◌, ℕ, List, Some, Ok, slice_get, length, All, ℤ}
-use Rattle.evm_asm_parser.specs.declared.spot.Spot.{Spot}
-use Rattle.evm_asm_parser.specs.declared.statement.Statement.TheVariants.{LoadImmediate, LoadAddress}
-use Rattle.evm_asm.specs.Assembled.{Assembled, program_of}
-use Rattle.evm_asm.specs.Items.{address}
-use Rattle.evm_asm.specs.Places.{load_size}
-use Rattle.evm_asm.specs.Sizes.{address_of_line, size_of_text}
-use Rattle.evm_asm.specs.declared.item.Expansion.{Expansion}
-use Rattle.evm_asm.specs.declared.item.Expansion.TheVariants.{Empty, Single, Double}
+use Rattle.evm_elf.specs.evm_asm_parser.declared.spot.Spot.{Spot}
+use Rattle.evm_elf.specs.evm_asm_parser.declared.statement.Statement.TheVariants.{LoadImmediate, LoadAddress}
+use Rattle.evm_elf.specs.evm_asm.Assembled.{Assembled, program_of}
+use Rattle.evm_elf.specs.evm_asm.Items.{address}
+use Rattle.evm_elf.specs.evm_asm.Places.{load_size}
+use Rattle.evm_elf.specs.evm_asm.Sizes.{address_of_line, size_of_text}
+use Rattle.evm_elf.specs.evm_asm.declared.item.Expansion.{Expansion}
+use Rattle.evm_elf.specs.evm_asm.declared.item.Expansion.TheVariants.{Empty, Single, Double}
 use Rattle.evm_exec.specs.Numbers.{extended}
 use Rattle.evm_exec.specs.declared.hart.Hart.{Hart}
 use Rattle.evm_model.specs.State.{Board, on_hart, on_parts}

@@ -1,7 +1,7 @@
 -- What loading an assembled program makes of a machine that was booted.
 use Rattle.std.specs.Prelude.{◌≡◌, ℕ, ◌<◌, ◌≤◌, List, Some, Result, Ok, Err, false, slice_get, option_map, length, All}
-use Rattle.evm_asm.specs.Assembled.{Assembled, program_of}
-use Rattle.evm_asm.specs.declared.output.ProgramLine.{ProgramLine}
+use Rattle.evm_elf.specs.evm_asm.Assembled.{Assembled, program_of}
+use Rattle.evm_elf.specs.evm_asm.declared.output.ProgramLine.{ProgramLine}
 use Rattle.evm_elf.specs.Files.{image_of_bytes}
 use Rattle.evm_image.specs.Images.{range_start}
 use Rattle.evm_ram.specs.Ram.{bytes_at}

@@ -1,14 +1,14 @@
 -- What li and la leave in a hart, by the rows of the instructions that they become.
 use Rattle.std.specs.Prelude.{◌≡◌, ◌≢◌, ℕ, ◌+◌, ◌-◌, ◌%◌, ◌<◌, ◌≤◌, List, length, Option, Some, option_and_then, Ok, ℤ, pos, negsuc, ◌≤ℤ◌}
 use Rattle.evm_isa.specs.declared.inst.Inst.{Inst}
-use Rattle.evm_asm_parser.specs.declared.spot.Spot.{Spot}
-use Rattle.evm_asm_parser.specs.declared.statement.Statement.{Statement}
-use Rattle.evm_asm_parser.specs.declared.statement.Statement.TheVariants.{LoadImmediate, LoadAddress}
-use Rattle.evm_asm.specs.Items.{address, expanded, load_immediate, load_address_by}
-use Rattle.evm_asm.specs.Places.{load_size}
-use Rattle.evm_asm.specs.Sizes.{Says, address_of_line, size_of_text}
-use Rattle.evm_asm.specs.declared.item.Expansion.{Expansion}
-use Rattle.evm_asm.specs.declared.item.Expansion.TheVariants.{Empty, Single, Double}
+use Rattle.evm_elf.specs.evm_asm_parser.declared.spot.Spot.{Spot}
+use Rattle.evm_elf.specs.evm_asm_parser.declared.statement.Statement.{Statement}
+use Rattle.evm_elf.specs.evm_asm_parser.declared.statement.Statement.TheVariants.{LoadImmediate, LoadAddress}
+use Rattle.evm_elf.specs.evm_asm.Items.{address, expanded, load_immediate, load_address_by}
+use Rattle.evm_elf.specs.evm_asm.Places.{load_size}
+use Rattle.evm_elf.specs.evm_asm.Sizes.{Says, address_of_line, size_of_text}
+use Rattle.evm_elf.specs.evm_asm.declared.item.Expansion.{Expansion}
+use Rattle.evm_elf.specs.evm_asm.declared.item.Expansion.TheVariants.{Empty, Single, Double}
 use Rattle.evm_exec.specs.Does.{does, hart_after}
 use Rattle.evm_exec.specs.Numbers.{extended}
 use Rattle.evm_exec.specs.Registers.{register_of, with_register}

@@ -4,7 +4,7 @@
 ghost use Rattle.evm_laws.specs.Expansions.{EachLiIsExecuted, EachLaIsExecuted};
 
 use crate::pseudo::{each_la_loads, each_li_loads};
-use evm_asm::{all_that_is_meant_stands, lines_are_worded};
+use evm_elf::{all_that_is_meant_stands, lines_are_worded};
 use evm_isa::decoded_by_table;
 
 /// A task whose pc is at a line with `li rd,n`, where the program's words stand in RAM, gets n into rd and its pc

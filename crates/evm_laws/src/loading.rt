@@ -4,8 +4,7 @@
 ghost use Rattle.evm_laws.specs.Loading.{LoadsWhereItFits, RefusedWhereItDoesNot, AssembledAndRun};
 
 use crate::running::a_step_does_its_line;
-use evm_asm::{lines_are_worded, words_stand};
-use evm_elf::written_is_read;
+use evm_elf::{lines_are_worded, words_stand, written_is_read};
 
 /// The image of an assembled program is loaded where RAM has room for its bytes, and refused with BadAddress where
 /// it has not. Loaded, each line's word stands at its address, and task 0 begins at 0x80000000.

@@ -3,7 +3,7 @@
 
 ghost use Rattle.evm_laws.specs.Pseudo.{LiLeavesItsNumber, LaLeavesItsAddress, WhatIsLoadedIsRead, EachLiLoads, EachLaLoads, OperandsAreInRange};
 
-use evm_asm::{la_loads, li_loads};
+use evm_elf::{la_loads, li_loads};
 use evm_exec::registers_hold;
 
 /// The instructions of `li rd,n`, done one after the other, leave n in rd, as a signed number in 64 bits, and the

@@ -3,7 +3,7 @@
 
 ghost use Rattle.evm_laws.specs.Running.{OfEachLine, ExecutesLine, StepsLine, AcceptsStep};
 
-use evm_asm::lines_are_worded;
+use evm_elf::lines_are_worded;
 use evm_isa::decoded_by_table;
 
 /// Where the word of a line of an assembled program stands at the line's address, a task whose pc is there

@@ -4,8 +4,7 @@
 ghost use Rattle.evm_laws.specs.Staying.{ALineStays, RunsAsAssembled};
 
 use crate::running::a_step_does_its_line;
-use evm_asm::{lines_are_worded, words_stand};
-use evm_elf::written_is_read;
+use evm_elf::{lines_are_worded, words_stand, written_is_read};
 
 /// The word of a line stays where it stands through every list of events of which none writes into its four bytes:
 /// no poke, and no store of an instruction.

@@ -6,8 +6,8 @@ use Rattle.evm_model.proofs.Lists.{slice_get-below, slice_get-within}
 use Rattle.evm_model.specs.Ranks.{best, first, rank, runs_oob, stamp}
 use Rattle.evm_model.specs.declared.mutex.Mutex.{Mutex}
 use Rattle.evm_model.specs.declared.task.Task.{Task}
-use Rattle.evm_ready.proofs.Firsts.{first-same}
-use Rattle.evm_ready.specs.Told.{rank_told}
+use Rattle.evm_task.proofs.evm_ready.Firsts.{first-same}
+use Rattle.evm_task.specs.evm_ready.Told.{rank_told}
 
 pub best-told : (c : ℕ) (ranks : List ℕ) (mutexes : List Mutex) (tasks : List Task) → AreRanks ranks mutexes tasks
     → first (runs_oob c tasks) (rank_told ranks) (stamp tasks) (length tasks) ≡ best c mutexes tasks

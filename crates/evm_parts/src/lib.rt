@@ -9,4 +9,7 @@ mod stages;
 mod tasks;
 
 pub use console::Console;
+pub use evm_boost::Mutexes;
+pub use evm_pipe::Pipe;
+pub use evm_task::{Asked, Harts, Tasks};
 pub use parts::Parts;

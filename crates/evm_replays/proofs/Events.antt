@@ -4,9 +4,9 @@ use Rattle.std.specs.Prelude.{Result, Ok, Err, nat_lt, ◌==◌, if◌then◌els
 use Rattle.std.specs.List.{AllByRecursion}
 use Rattle.std.proofs.lemmas.Bool.Decides.{nat_tests}
 use Rattle.evm_image.specs.Images.{Contents}
-use Rattle.evm_history.specs.Runs.{line_of}
-use Rattle.evm_journal.specs.EventLine.{HasEventLine}
-use Rattle.evm_journal.specs.Journal.{HasBootLine, HasJournal}
+use Rattle.evm_serve.specs.evm_history.Runs.{line_of}
+use Rattle.evm_serve.specs.evm_journal.EventLine.{HasEventLine}
+use Rattle.evm_serve.specs.evm_journal.Journal.{HasBootLine, HasJournal}
 use Rattle.evm_model.specs.Refusals.{board_refusal, is_full}
 use Rattle.evm_model.specs.Replay.{apply, bad_boot, bad_cpus, bad_ram, bad_capacity, start, IsReplayOf}
 use Rattle.evm_model.specs.State.{State}
@@ -17,9 +17,9 @@ use Rattle.evm_model.specs.declared.event.Event.TheVariants.{Step}
 use Rattle.evm_model.specs.declared.limits.TheConstants.{CAPACITY_LIMIT}
 use Rattle.evm_ram.specs.declared.refusal.Refusal.{Refusal}
 use Rattle.evm_ram.specs.declared.refusal.Refusal.TheVariants.{Full, BadSize}
-use Rattle.evm_core.specs.Load.{load, load_unless, load_refusal}
-use Rattle.evm_core.specs.Steps.{behind_step, steps}
-use Rattle.evm_rules.proofs.Replays.{accepted, accepted-journal, IsReplayOf-step, empty_as_replay}
+use Rattle.evm_serve.specs.evm_core.Load.{load, load_unless, load_refusal}
+use Rattle.evm_serve.specs.evm_core.Steps.{behind_step, steps}
+use Rattle.evm_serve.proofs.evm_rules.Replays.{accepted, accepted-journal, IsReplayOf-step, empty_as_replay}
 use Rattle.evm_serve.specs.Given.{an_image}
 use Rattle.evm_serve.specs.Starting.{started, with_image}
 

@@ -3,13 +3,13 @@ use Rattle.std.proofs.Common.{◌≡◌, ℕ, ◌+◌, List, [], ◌∷◌, ◌+
 use Rattle.std.specs.Prelude.{codes}
 use Rattle.std.proofs.lemmas.List.{append-nil, append_assoc}
 use Rattle.evm_model.specs.State.{State}
-use Rattle.evm_journal.specs.Journal.{journal_text}
-use Rattle.evm_debug.specs.LineReading.{line_at}
-use Rattle.evm_debug.specs.Views.{shown}
-use Rattle.evm_debug.specs.declared.line.Line.TheVariants as lines
-use Rattle.evm_debug.specs.declared.line.View.TheVariants.{Journal}
-use Rattle.evm_debug.proofs.Lines.{reads_lines}
-use Rattle.evm_text.specs.Lines.{text_lines}
+use Rattle.evm_serve.specs.evm_journal.Journal.{journal_text}
+use Rattle.evm_serve.specs.evm_debug.LineReading.{line_at}
+use Rattle.evm_serve.specs.evm_debug.Views.{shown}
+use Rattle.evm_serve.specs.evm_debug.declared.line.Line.TheVariants as lines
+use Rattle.evm_serve.specs.evm_debug.declared.line.View.TheVariants.{Journal}
+use Rattle.evm_serve.proofs.evm_debug.Lines.{reads_lines}
+use Rattle.evm_serve.specs.evm_text.Lines.{text_lines}
 use Rattle.evm_serve.specs.Given.{Given}
 use Rattle.evm_serve.specs.Told.{Told, Telling, Goes, Ends, behind, run_on, line_told, lines_told}
 use Rattle.evm_serve.specs.declared.ending.Verdict.TheVariants.{Done}

@@ -2,10 +2,10 @@
 use Rattle.std.proofs.Common.{◌≡◌, ℕ, ◌+◌, ◌<◌, List, [], ◌∷◌, Option, Some, None, refl}
 use Rattle.std.specs.Prelude.{Result, Ok, Err}
 use Rattle.evm_image.specs.Images.{Contents}
-use Rattle.evm_history.specs.Runs.{line_of}
-use Rattle.evm_history.specs.declared.event_line.EventLine.TheVariants as events
-use Rattle.evm_journal.specs.EventLine.{HasEventLine}
-use Rattle.evm_journal.specs.Journal.{HasBootLine}
+use Rattle.evm_serve.specs.evm_history.Runs.{line_of}
+use Rattle.evm_serve.specs.evm_history.declared.event_line.EventLine.TheVariants as events
+use Rattle.evm_serve.specs.evm_journal.EventLine.{HasEventLine}
+use Rattle.evm_serve.specs.evm_journal.Journal.{HasBootLine}
 use Rattle.evm_model.specs.Replay.{apply}
 use Rattle.evm_model.specs.State.{State}
 use Rattle.evm_model.specs.declared.event.Answer.{Answer}
@@ -13,15 +13,15 @@ use Rattle.evm_model.specs.Event.{Event}
 use Rattle.evm_model.specs.declared.boot.Boot.{Boot}
 use Rattle.evm_model.specs.declared.event.Event.TheVariants.{Step, Tick, Raise, Bell, Stop, Go, StepI, SetReg, SetPc, Poke, Break, Unbreak}
 use Rattle.evm_ram.specs.declared.refusal.Refusal.{Refusal}
-use Rattle.evm_debug.specs.Line.{IsSpelled}
-use Rattle.evm_debug.specs.LineReading.{line_at}
-use Rattle.evm_debug.specs.Views.{shown}
-use Rattle.evm_debug.specs.declared.line.Line.{Line}
-use Rattle.evm_debug.specs.declared.line.Line.TheVariants as lines
-use Rattle.evm_debug.specs.declared.line.View.{View}
-use Rattle.evm_debug.proofs.Lines.{reads_lines}
-use Rattle.evm_text.specs.Lines.{text_lines}
-use Rattle.evm_core.specs.Steps.{steps}
+use Rattle.evm_serve.specs.evm_debug.Line.{IsSpelled}
+use Rattle.evm_serve.specs.evm_debug.LineReading.{line_at}
+use Rattle.evm_serve.specs.evm_debug.Views.{shown}
+use Rattle.evm_serve.specs.evm_debug.declared.line.Line.{Line}
+use Rattle.evm_serve.specs.evm_debug.declared.line.Line.TheVariants as lines
+use Rattle.evm_serve.specs.evm_debug.declared.line.View.{View}
+use Rattle.evm_serve.proofs.evm_debug.Lines.{reads_lines}
+use Rattle.evm_serve.specs.evm_text.Lines.{text_lines}
+use Rattle.evm_serve.specs.evm_core.Steps.{steps}
 use Rattle.evm_serve.specs.Given.{an_image}
 use Rattle.evm_serve.specs.Starting.{started}
 use Rattle.evm_serve.specs.Told.{Telling, Goes, Ends, event_told, after_steps, boot_told, view_told, told_at, line_told}

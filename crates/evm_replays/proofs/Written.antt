@@ -3,8 +3,8 @@ use Rattle.std.proofs.Common.{◌≡◌, ℕ, List, [], ap, ◌∙◌}
 use Rattle.evm_model.specs.Good.{GoodState}
 use Rattle.evm_model.specs.Replay.{start, IsReplayOf}
 use Rattle.evm_model.specs.State.{State}
-use Rattle.evm_journal.specs.Journal.{journal_text}
-use Rattle.evm_journal.specs.Typed.{BringsBack}
+use Rattle.evm_serve.specs.evm_journal.Journal.{journal_text}
+use Rattle.evm_serve.specs.evm_journal.Typed.{BringsBack}
 use Rattle.evm_serve.proofs.Replays.{replays_saved}
 use Rattle.evm_serve.specs.Given.{an_image}
 use Rattle.evm_serve.specs.Replaying.{replay_told}

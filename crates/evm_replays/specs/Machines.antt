@@ -1,10 +1,10 @@
 -- What a machine leaves behind, whoever drove it.
 use Rattle.std.specs.Prelude.{◌≡◌, ℕ, List, Ok}
-use Rattle.evm_core.specs.Load.{load}
+use Rattle.evm_serve.specs.evm_core.Load.{load}
 use Rattle.evm_image.specs.Images.{Contents}
 use Rattle.evm_model.specs.Replay.{start, IsReplayOf}
 use Rattle.evm_model.specs.State.{State}
-use Rattle.evm_debug.specs.Summary.{summary_text}
+use Rattle.evm_serve.specs.evm_debug.Summary.{summary_text}
 use Rattle.evm_serve.specs.Given.{an_image}
 use Rattle.evm_serve.specs.Replaying.{replay_told}
 use Rattle.evm_serve.specs.declared.ending.Verdict.TheVariants.{Done}

@@ -2,10 +2,10 @@
 use Rattle.std.specs.Prelude.{◌≡◌, ℕ, ◌+◌, List, [], ◌∷◌, ◌++◌, Option, Some, None, codes}
 use Rattle.evm_image.specs.Images.{Contents}
 use Rattle.evm_model.specs.State.{State}
-use Rattle.evm_journal.specs.Journal.{journal_text}
-use Rattle.evm_debug.specs.LineReading.{line_at}
-use Rattle.evm_debug.specs.Summary.{summary_text}
-use Rattle.evm_text.specs.Lines.{text_lines}
+use Rattle.evm_serve.specs.evm_journal.Journal.{journal_text}
+use Rattle.evm_serve.specs.evm_debug.LineReading.{line_at}
+use Rattle.evm_serve.specs.evm_debug.Summary.{summary_text}
+use Rattle.evm_serve.specs.evm_text.Lines.{text_lines}
 use Rattle.evm_serve.specs.Given.{Given, an_image}
 use Rattle.evm_serve.specs.Told.{Telling, Goes, Ends, line_told, lines_told}
 use Rattle.evm_serve.specs.Replaying.{replay_told}

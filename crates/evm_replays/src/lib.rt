@@ -4,13 +4,12 @@
 ghost use Rattle.std.specs.Prelude.{IfOk, OnErr, length};
 ghost use Rattle.std.specs.String.{string_bytes};
 ghost use Rattle.evm_room.specs.Growth.{RefusedWithin};
-ghost use Rattle.evm_journal.specs.Journal.{journal_text};
+ghost use Rattle.evm_serve.specs.evm_journal.Journal.{journal_text};
 ghost use Rattle.evm_replays.specs.Machines.{ShowsAgain};
 ghost use Rattle.evm_replays.specs.Scripts.{PrintsItsJournal, ShowsItsMachine};
 
-use evm_core::Machine;
-use evm_journal::write_journal;
 use evm_ram::NoMemory;
+use evm_serve::{Machine, write_journal};
 use std::alloc::Global;
 
 /// Of every script that comes to its end with an image in its machine: one more line `journal` prints the journal of

@@ -21,3 +21,4 @@ pub mod Acting
 pub mod Done
 pub mod Locking
 pub mod Calling
+pub use Rattle.evm_walk.proofs as evm_walk

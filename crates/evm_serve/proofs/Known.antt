@@ -11,7 +11,7 @@ use Rattle.evm_streams.specs.Known.{ReaderGives, WriterTakes}
 use Rattle.evm_streams.proofs.KnownBytes.{reads_known, writes_known}
 use Rattle.evm_elf.specs.Faults.{fault_of}
 use Rattle.evm_elf.specs.declared.fault.ElfFault.{ElfFault}
-use Rattle.evm_asm_lexer.specs.declared.fault.AsmFault.{AsmFault}
+use Rattle.evm_elf.specs.evm_asm_lexer.declared.fault.AsmFault.{AsmFault}
 use Rattle.evm_serve.specs.Told.{Told}
 use Rattle.evm_serve.specs.Serving.{WritesAll, WritesMemory, EndsInMemory, Finishes}
 use Rattle.evm_serve.specs.Imaging as imaging

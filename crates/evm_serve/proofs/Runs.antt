@@ -7,7 +7,7 @@ use Rattle.evm_streams.proofs.Calls.{took_none, took_append, prefix_behind, pref
 use Rattle.evm_serve.specs.Given.{Given}
 use Rattle.evm_model.specs.State.{State}
 use Rattle.evm_debug.specs.LineReading.{line_at}
-use Rattle.evm_text.specs.Lines.{text_of, text_lines, CutsLine}
+use Rattle.evm_debug.specs.evm_text.Lines.{text_of, text_lines, CutsLine}
 use Rattle.evm_serve.specs.Serving.{EndsIn}
 use Rattle.evm_serve.specs.Faults.{fault_text}
 use Rattle.evm_serve.specs.declared.ending.Verdict.{Verdict}

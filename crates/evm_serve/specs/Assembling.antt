@@ -1,8 +1,8 @@
 -- What assembling a source writes to a file and reports.
 use Rattle.std.specs.Prelude.{◌≡◌, ℕ, List, [], ◌⊎◌, Result, Ok, Err}
 use Rattle.evm_streams.specs.declared.sink.Writing.{Writing}
-use Rattle.evm_asm.specs.Assembled.{Assembled}
-use Rattle.evm_asm_lexer.specs.declared.fault.AsmFault.{AsmFault}
+use Rattle.evm_elf.specs.evm_asm.Assembled.{Assembled}
+use Rattle.evm_elf.specs.evm_asm_lexer.declared.fault.AsmFault.{AsmFault}
 use Rattle.evm_elf.specs.Files.{file_of}
 use Rattle.evm_serve.specs.Told.{Told}
 use Rattle.evm_serve.specs.Faults.{fault_text}

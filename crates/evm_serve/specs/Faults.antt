@@ -1,15 +1,15 @@
 -- Why a run stops before all is done: the line that its report ends with, and what a person is told.
 use Rattle.std.specs.Prelude.{ℕ, List, ◌++◌, Option, Some, None, codes}
-use Rattle.evm_text.specs.Written.{decimal}
+use Rattle.evm_debug.specs.evm_text.Written.{decimal}
 use Rattle.evm_ram.specs.Refusal.{number_of}
 use Rattle.evm_ram.specs.declared.refusal.Refusal.{Refusal}
 use Rattle.evm_ram.specs.declared.refusal.Refusal.TheVariants as refusals
-use Rattle.evm_asm_lexer.specs.Faults as words
-use Rattle.evm_asm_lexer.specs.Sentences.{asm_sentence}
+use Rattle.evm_elf.specs.evm_asm_lexer.Faults as words
+use Rattle.evm_elf.specs.evm_asm_lexer.Sentences.{asm_sentence}
 use Rattle.evm_elf.specs.Faults.{file_fault_number}
 use Rattle.evm_elf.specs.declared.fault.ElfFault.{ElfFault}
-use Rattle.evm_journal.specs.Faults as journals
-use Rattle.evm_journal.specs.Sentences.{journal_sentence}
+use Rattle.evm_debug.specs.evm_journal.Faults as journals
+use Rattle.evm_debug.specs.evm_journal.Sentences.{journal_sentence}
 use Rattle.evm_model.specs.Event.{Event}
 use Rattle.evm_model.specs.declared.event.Event.TheVariants as events
 use Rattle.evm_debug.specs.declared.line.View.{View}

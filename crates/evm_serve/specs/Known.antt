@@ -9,8 +9,8 @@ use Rattle.evm_streams.specs.Known.{ReaderGives, WriterTakes, AppendsPrefix}
 use Rattle.evm_image.specs.Images.{Contents}
 use Rattle.evm_elf.specs.Faults.{fault_of, image_of}
 use Rattle.evm_elf.specs.Files.{file_of}
-use Rattle.evm_asm.specs.Assembled.{Assembled}
-use Rattle.evm_asm_lexer.specs.declared.fault.AsmFault.{AsmFault}
+use Rattle.evm_elf.specs.evm_asm.Assembled.{Assembled}
+use Rattle.evm_elf.specs.evm_asm_lexer.declared.fault.AsmFault.{AsmFault}
 use Rattle.evm_serve.specs.Told.{Told, memory_text}
 use Rattle.evm_serve.specs.Serving.{IsPrefix, Serves}
 use Rattle.evm_serve.specs.Imaging as imaging

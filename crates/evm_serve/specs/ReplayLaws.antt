@@ -1,13 +1,13 @@
 -- What replays tell, in the words of journals.
 use Rattle.std.specs.Prelude.{◌≡◌, ◌+◌, false, List, [], ◌∷◌, ◌++◌, None, Ok, Err, length}
-use Rattle.evm_core.specs.Load.{load}
+use Rattle.evm_debug.specs.evm_core.Load.{load}
 use Rattle.evm_image.specs.Images.{Contents}
 use Rattle.evm_ram.specs.declared.refusal.Refusal.{Refusal}
 use Rattle.evm_model.specs.State.{State}
 use Rattle.evm_model.specs.Replay.{start, apply, bad_boot, IsReplayOf}
 use Rattle.evm_model.specs.Event.{Event}
-use Rattle.evm_history.specs.Runs.{runs}
-use Rattle.evm_journal.specs.Journal.{journal_text, HasJournal}
+use Rattle.evm_debug.specs.evm_history.Runs.{runs}
+use Rattle.evm_debug.specs.evm_journal.Journal.{journal_text, HasJournal}
 use Rattle.evm_debug.specs.Summary.{summary_text}
 use Rattle.evm_serve.specs.Given.{an_image}
 use Rattle.evm_serve.specs.Faults.{event_refused}

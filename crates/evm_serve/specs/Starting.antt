@@ -1,6 +1,6 @@
 -- The machine that a run begins with: booted, and with an image in it, if one is given.
 use Rattle.std.specs.Prelude.{◌≡◌, Option, Some, None, Result, Ok, Err, false, if◌then◌else◌}
-use Rattle.evm_core.specs.Load.{load}
+use Rattle.evm_debug.specs.evm_core.Load.{load}
 use Rattle.evm_image.specs.Images.{Contents}
 use Rattle.evm_serve.specs.Given.{Given}
 use Rattle.evm_serve.specs.Memory.{MemoryRefused}

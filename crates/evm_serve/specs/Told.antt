@@ -1,7 +1,7 @@
 -- What a run of a script tells: its text and what it came to.
 use Rattle.std.specs.Prelude.{ℕ, ◌+◌, List, [], ◌∷◌, ◌++◌, Option, Some, None, Result, Ok, Err, codes}
 use Rattle.evm_ram.specs.declared.refusal.Refusal.{Refusal}
-use Rattle.evm_core.specs.Steps.{steps}
+use Rattle.evm_debug.specs.evm_core.Steps.{steps}
 use Rattle.evm_model.specs.State.{State}
 use Rattle.evm_model.specs.Replay.{apply}
 use Rattle.evm_model.specs.declared.event.Answer.{Answer}
@@ -11,7 +11,7 @@ use Rattle.evm_debug.specs.Views.{shown}
 use Rattle.evm_debug.specs.declared.line.Line.{Line}
 use Rattle.evm_debug.specs.declared.line.Line.TheVariants as lines
 use Rattle.evm_debug.specs.declared.line.View.{View}
-use Rattle.evm_text.specs.Lines.{text_lines}
+use Rattle.evm_debug.specs.evm_text.Lines.{text_lines}
 use Rattle.evm_serve.specs.Given.{Given}
 use Rattle.evm_serve.specs.Faults.{fault_text, event_refused, view_refused}
 use Rattle.evm_serve.specs.Starting.{started}

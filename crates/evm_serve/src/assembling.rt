@@ -1,15 +1,14 @@
 //! A source assembled into a file.
 
 ghost use Rattle.evm_elf.specs.Files.{file_of};
-ghost use Rattle.evm_asm.specs.Assembled.{program_of};
+ghost use Rattle.evm_elf.specs.evm_asm.Assembled.{program_of};
 ghost use Rattle.evm_serve.specs.Playing.{Says};
 ghost use Rattle.evm_serve.specs.Assembling.{Assembles};
 
 use crate::ending::{Ending, Halt, Verdict};
 use crate::fault::Fault;
 use crate::halting::{ended, say, say_fault};
-use evm_asm::{AsmFaultKind, Program, assemble};
-use evm_elf::write_image;
+use evm_elf::{AsmFaultKind, Program, assemble, write_image};
 use evm_streams::Sink;
 use std::alloc::Global;
 

@@ -5,10 +5,8 @@ ghost use Rattle.evm_model.specs.Event.{event_lent};
 ghost use Rattle.evm_serve.specs.Faults.{event_cpu, view_cpu, line_at_fault, sentence_text, about_cpu, fault_sentence, line_sentence, refusal_sentence};
 
 use crate::sentence::Sentence;
-use evm_asm::AsmFault;
-use evm_core::{Event, Refusal};
-use evm_debug::View;
-use evm_journal::JournalFault;
+use evm_debug::{Event, JournalFault, Refusal, View};
+use evm_elf::AsmFault;
 use evm_model::Block;
 use std::fmt;
 use thiserror::Error;

@@ -17,7 +17,11 @@ mod texts;
 
 pub use assembling::assemble_to;
 pub use ending::{Ending, Verdict};
-pub use evm_streams::{ReadFault, ReadStop, WriteFault, read_utf8};
+pub use evm_debug::{Machine, cut_line, write_journal};
+pub use evm_elf::{AsmFault, quoted, write_bytes};
+pub use evm_streams::{
+    ReadFault, ReadStop, Sink, Source, WriteFault, read_all, read_utf8, write_all,
+};
 pub use fault::{Fault, LineFault};
 pub use given::Given;
 pub use importing::import;

@@ -10,8 +10,8 @@ use crate::ending::{Ending, Halt, Reply, Verdict};
 use crate::given::Given;
 use crate::halting::{ended, say_fault, unread};
 use crate::tell::tell;
+use evm_debug::cut_line;
 use evm_streams::{Sink, Source, read_all, write_all};
-use evm_text::cut_line;
 use std::alloc::Global;
 
 // Runs the lines of a script.

@@ -4,7 +4,7 @@ ghost use Rattle.evm_serve.specs.Given.{given_of};
 ghost use Rattle.evm_serve.specs.Starting.{Starts};
 
 use crate::given::Given;
-use evm_core::{Boot, Machine, Refusal};
+use evm_debug::{Boot, Machine, Refusal};
 use std::alloc::Global;
 
 /// A machine with these numbers, and with the image in it, if one is given. Bad numbers are reported before what the

@@ -1,14 +1,14 @@
 ghost use Rattle.std.specs.Prelude.{◌≡◌, Option, IfOk, OnErr, []};
 ghost use Rattle.std.specs.String.{string_bytes};
 ghost use Rattle.evm_debug.specs.LineReading.{line_at};
-ghost use Rattle.evm_history.specs.EventLine.{short_line};
+ghost use Rattle.evm_debug.specs.evm_history.EventLine.{short_line};
 ghost use Rattle.evm_model.specs.Event.{event_lent};
 ghost use Rattle.evm_serve.specs.Given.{given_of};
 ghost use Rattle.evm_serve.specs.Memory.{MemoryRefused};
 ghost use Rattle.evm_serve.specs.Starting.{started};
 ghost use Rattle.evm_model.specs.Replay.{apply};
 ghost use Rattle.evm_debug.specs.Views.{shown};
-ghost use Rattle.evm_core.specs.Steps.{steps};
+ghost use Rattle.evm_debug.specs.evm_core.Steps.{steps};
 ghost use Rattle.evm_debug.specs.Line.{script_line};
 ghost use Rattle.evm_serve.specs.Told.{boot_told, event_told, steps_told, view_told, told_unbooted, told_booted, line_told};
 ghost use Rattle.evm_serve.specs.Serving.{Replies};
@@ -17,9 +17,10 @@ use crate::ending::Reply;
 use crate::fault::{Fault, LineFault, event_cpu, view_cpu};
 use crate::given::Given;
 use crate::starting::start;
-use evm_core::{Boot, Event, Machine, Refusal};
-use evm_debug::{Line, View, ViewRefusal, push_view, read_line, read_short};
-use evm_journal::EventLine;
+use evm_debug::{
+    Boot, Event, EventLine, Line, Machine, Refusal, View, ViewRefusal, push_view, read_line,
+    read_short,
+};
 use evm_model::{Block, NoBytes};
 use evm_ram::NoMemory;
 use std::alloc::Global;

@@ -2,15 +2,13 @@
 
 ghost use Rattle.std.specs.Prelude.{◌≡◌, ◌≤◌, ◌++◌, length, IfOk, IfErr, codes};
 ghost use Rattle.std.specs.String.{string_bytes};
-ghost use Rattle.evm_text.specs.Written.{decimal};
+ghost use Rattle.evm_debug.specs.evm_text.Written.{decimal};
 ghost use Rattle.evm_serve.specs.Faults.{fault_text, no_image_text};
 
 use crate::fault::Fault;
-use evm_asm::AsmFault;
-use evm_elf::ElfFault;
-use evm_journal::JournalFault;
+use evm_debug::{JournalFault, push_decimal};
+use evm_elf::{AsmFault, ElfFault};
 use evm_room::{Refused, push_text};
-use evm_text::push_decimal;
 use std::alloc::Global;
 
 #[tactic(auto, using(crate::proofs::Lengths::lengths))]

@@ -17,10 +17,10 @@ use Rattle.evm_model.specs.declared.processor.Processor.{Processor}
 use Rattle.evm_model.specs.declared.stage.Stage.TheVariants.{InBand}
 use Rattle.evm_model.specs.declared.task.Task.{Task}
 use Rattle.evm_model.specs.declared.task.Wait.TheVariants.{Line}
-use Rattle.evm_ready.specs.Oob.{has_oob}
+use Rattle.evm_parts.specs.evm_ready.Oob.{has_oob}
 use Rattle.evm_rules.proofs.Firsts.{best-is_oob}
 use Rattle.evm_rules.proofs.Waking.{wait-wakes}
-use Rattle.evm_walk.proofs.Twice.{change-twice}
+use Rattle.evm_rules.proofs.evm_walk.Twice.{change-twice}
 use Rattle.evm_settle.specs.Steps.{play_oob_pipe, chooses, choose}
 use Rattle.evm_settle.proofs.Steps.{settle_and_nudge-steps}
 

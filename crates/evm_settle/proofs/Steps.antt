@@ -1,7 +1,7 @@
 -- Settling out-of-band in two steps, and the room that each takes up.
 use Rattle.std.proofs.Common.{◌≡◌, ℕ, List, [], ◌∷◌, ◌+◌, ◌^◌, ◌≤◌, Bool, true, false, Option, Some, None, length, refl, ap, sym, ◌∙◌, arith}
 use Rattle.std.specs.Prelude.{◌==◌, not, slice_get, if◌then◌else◌}
-use Rattle.evm_boost.specs.Scatter.{AreRanks}
+use Rattle.evm_parts.specs.evm_boost.Scatter.{AreRanks}
 use Rattle.evm_model.specs.Bounds.{PipesUpTo}
 use Rattle.evm_lines.specs.declared.TheConstants.{LINES}
 use Rattle.evm_model.specs.Pipes.{Pipe, arrive, play}

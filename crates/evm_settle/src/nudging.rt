@@ -1,12 +1,11 @@
-ghost use Rattle.evm_boost.specs.Scatter.{AreRanks};
+ghost use Rattle.evm_parts.specs.evm_boost.Scatter.{AreRanks};
 ghost use Rattle.std.specs.Prelude.{◌≡◌, ◌+◌, ◌^◌};
 ghost use Rattle.evm_model.specs.Bounds.{PipesUpTo};
 ghost use Rattle.evm_model.specs.Settle.{nudge, differs, wants_nudge};
 ghost use Rattle.evm_settle.specs.Nudges.{nudge_one};
 
 use evm_model::Stage;
-use evm_parts::Parts;
-use evm_pipe::Pipe;
+use evm_parts::{Parts, Pipe};
 
 // Whether a processor that should run the first runs another, or none.
 fn is_other(best: Option<u8>, current: Option<u8>) -> bool

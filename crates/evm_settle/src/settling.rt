@@ -1,4 +1,4 @@
-ghost use Rattle.evm_boost.specs.Scatter.{AreRanks};
+ghost use Rattle.evm_parts.specs.evm_boost.Scatter.{AreRanks};
 ghost use Rattle.std.specs.Prelude.{◌≡◌, ◌≤◌, ◌+◌, ◌^◌, slice_get, Option};
 ghost use Rattle.evm_model.specs.Bounds.{PipesUpTo};
 ghost use Rattle.evm_model.specs.Ranks.{next_in_band};

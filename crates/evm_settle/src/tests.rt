@@ -9,12 +9,9 @@ ghost use Rattle.evm_rules.proofs.Bounded.{AreWithin};
 use crate::nudging::{nudge, nudge_one, wants_nudge};
 use crate::settle_and_nudge;
 use arrayvec::ArrayVec;
-use evm_boost::Mutexes;
 use evm_exec::Hart;
 use evm_model::{Class, Mode, Processor, Profile, Stage, Task, TaskState, Wait};
-use evm_parts::{Console, Parts};
-use evm_pipe::Pipe;
-use evm_task::{Harts, Tasks};
+use evm_parts::{Console, Harts, Mutexes, Parts, Pipe, Tasks};
 use std::alloc::Global;
 use std::test::Fail;
 

@@ -1,0 +1,1 @@
+pub use Rattle.evm_ready.proofs as evm_ready

@@ -1,0 +1,1 @@
+pub use Rattle.evm_ready.specs as evm_ready

@@ -2,7 +2,7 @@
 
 use crate::command::answer;
 use crate::system::{OpenFault, System, World};
-use evm_elf::write_bytes;
+use evm_serve::write_bytes;
 use std::alloc::Global;
 use std::process::Abort;
 use std::test::Fail;

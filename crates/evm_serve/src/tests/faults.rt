@@ -8,10 +8,8 @@ use crate::given::Given;
 use crate::importing::import;
 use crate::replay::replay_to;
 use crate::serving::serve;
-use evm_asm::{AsmFault, AsmFaultKind};
-use evm_core::Refusal;
-use evm_elf::ElfFault;
-use evm_journal::{JournalFault, JournalFaultKind};
+use evm_debug::{JournalFault, JournalFaultKind, Refusal};
+use evm_elf::{AsmFault, AsmFaultKind, ElfFault};
 use std::process::Abort;
 use std::test::Fail;
 

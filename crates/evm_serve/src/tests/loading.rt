@@ -1,6 +1,6 @@
 //! Images in a machine with the least RAM.
 
-use evm_core::{Answer, Event, Machine, Refusal};
+use evm_debug::{Answer, Event, Machine, Refusal};
 use evm_elf::read_image;
 use evm_image::Image;
 use evm_ram::BASE;

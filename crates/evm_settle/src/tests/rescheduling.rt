@@ -8,12 +8,9 @@ ghost use Rattle.evm_rules.proofs.Bounded.{AreWithin};
 use super::console_of;
 use crate::settle_and_nudge;
 use arrayvec::ArrayVec;
-use evm_boost::Mutexes;
 use evm_exec::Hart;
 use evm_model::{Class, Mode, Processor, Profile, Stage, Task, TaskState};
-use evm_parts::{Console, Parts};
-use evm_pipe::Pipe;
-use evm_task::{Harts, Tasks};
+use evm_parts::{Console, Harts, Mutexes, Parts, Pipe, Tasks};
 use std::test::Fail;
 
 // A first-in-first-out task that is ready out-of-band.

@@ -1,7 +1,7 @@
 use Rattle.std.proofs.Common.{◌≡◌, ◌∙◌, ◌<◌, ◌≤◌, ◌+◌, ◌++◌, ◌∷◌, [], sym, ap, arith, subst, length, rules, List, ℕ, Option, None}
 use Rattle.std.proofs.lemmas.List.{append_assoc, append-nil}
-use Rattle.evm_asm_lexer.specs.Characters.{newline}
-use Rattle.evm_asm_lexer.specs.Text.{after, before}
+use Rattle.evm_asm_parser.specs.evm_asm_lexer.Characters.{newline}
+use Rattle.evm_asm_parser.specs.evm_asm_lexer.Text.{after, before}
 use Rattle.evm_asm_parser.specs.declared.kept.Kept.{Kept}
 use Rattle.evm_asm_parser.specs.Kept.{kept_of}
 use Rattle.evm_asm_parser.specs.Operands.{Spots}

@@ -1,8 +1,8 @@
 use Rattle.std.proofs.Common.{◌≡◌, ◌∙◌, ◌<◌, ◌+◌, sym, ap, arith, subst, length, rules, List, ℕ, Option}
 use Rattle.evm_asm_parser.specs.declared.kept.Kept.{Kept}
 use Rattle.evm_asm.specs.Kept.{IsKept, AreKept, first_kept, other_kept}
-use Rattle.evm_asm_lexer.specs.Characters.{newline}
-use Rattle.evm_asm_lexer.specs.Text.{before}
+use Rattle.evm_asm_parser.specs.evm_asm_lexer.Characters.{newline}
+use Rattle.evm_asm_parser.specs.evm_asm_lexer.Text.{before}
 use Rattle.evm_asm.specs.Sources.{source_lines, code_of, source_start, statement_text}
 use Rattle.evm_asm.specs.Items.{layout_of, lines_meant, meaning_of}
 use Rattle.evm_asm.specs.declared.item.Placed.{Placed}

@@ -1,6 +1,6 @@
 use Rattle.std.proofs.Common.{◌≡◌, ◌∙◌, ℕ, List, [], sym, ap, rules}
 use Rattle.std.specs.Prelude.{slice_get}
-use Rattle.evm_text.specs.Lines.{text_of, text_lines}
+use Rattle.evm_serve.specs.evm_text.Lines.{text_of, text_lines}
 use Rattle.evm_command.proofs.showing.line_numbered.Goals as goal
 
 pub returns : goal.returns

@@ -1,6 +1,6 @@
 use Rattle.std.proofs.Common.{◌≡◌, ◌-◌, length}
 use Rattle.std.specs.Prelude.{slice_get}
-use Rattle.evm_text.specs.Lines.{text_lines}
+use Rattle.evm_serve.specs.evm_text.Lines.{text_lines}
 use Rattle.evm_command.proofs.showing.line_numbered.Given as goal
 
 -- the line stands behind so many of what is left

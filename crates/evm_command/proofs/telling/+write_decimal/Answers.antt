@@ -1,6 +1,6 @@
 use Rattle.std.proofs.Common.{rules, [], ◌∷◌, ◌+◌, ◌-◌, ◌/◌, ◌%◌, ◌≤◌, arith}
-use Rattle.evm_streams.specs.Writes.{Took, TookPrefix}
-use Rattle.evm_text.specs.Written.{numeral}
+use Rattle.evm_serve.specs.evm_streams.Writes.{Took, TookPrefix}
+use Rattle.evm_serve.specs.evm_text.Written.{numeral}
 use Rattle.evm_command.proofs.Sentences.{writes_then, writes_failed, written, numeral_small, numeral_large}
 use Rattle.evm_command.proofs.telling.+write_decimal.Goals as goal
 

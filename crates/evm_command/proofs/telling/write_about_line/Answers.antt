@@ -1,6 +1,6 @@
 use Rattle.std.proofs.Common.{rules, ◌++◌, codes}
-use Rattle.evm_streams.specs.Writes.{Took, TookPrefix}
-use Rattle.evm_text.specs.Written.{decimal}
+use Rattle.evm_serve.specs.evm_streams.Writes.{Took, TookPrefix}
+use Rattle.evm_serve.specs.evm_text.Written.{decimal}
 use Rattle.evm_command.specs.Telling.{behind_place, words_text}
 use Rattle.evm_command.proofs.Sentences.{writes_then, writes_failed}
 use Rattle.evm_command.proofs.telling.write_about_line.Goals as goal

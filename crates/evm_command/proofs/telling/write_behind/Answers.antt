@@ -1,5 +1,5 @@
 use Rattle.std.proofs.Common.{rules, ◌++◌, codes}
-use Rattle.evm_streams.specs.Writes.{Took, TookPrefix}
+use Rattle.evm_serve.specs.evm_streams.Writes.{Took, TookPrefix}
 use Rattle.evm_command.specs.Telling.{words_text}
 use Rattle.evm_command.proofs.Sentences.{writes_then, writes_failed}
 use Rattle.evm_command.proofs.telling.write_behind.Goals as goal

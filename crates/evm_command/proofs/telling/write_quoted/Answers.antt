@@ -1,5 +1,5 @@
 use Rattle.std.proofs.Common.{rules, ◌++◌, codes}
-use Rattle.evm_streams.specs.Writes.{Took, TookPrefix}
+use Rattle.evm_serve.specs.evm_streams.Writes.{Took, TookPrefix}
 use Rattle.evm_command.proofs.Sentences.{writes_then, writes_failed}
 use Rattle.evm_command.proofs.telling.write_quoted.Goals as goal
 

@@ -1,5 +1,5 @@
 use Rattle.std.proofs.Common.{Ok}
-use Rattle.evm_text.specs.Appending.{Appends}
+use Rattle.evm_journal.specs.evm_text.Appending.{Appends}
 use Rattle.evm_debug.specs.Summary.{stages_below}
 use Rattle.evm_debug.proofs.last_views.push_all_stages.Given as goal
 

@@ -1,6 +1,6 @@
 use Rattle.std.proofs.Common.{◌++◌, List, Ok, ap, codes, refl, ℕ}
-use Rattle.evm_text.specs.Appending.{Appends}
-use Rattle.evm_text.proofs.Appending.{appends_more}
+use Rattle.evm_journal.specs.evm_text.Appending.{Appends}
+use Rattle.evm_journal.proofs.evm_text.Appending.{appends_more}
 use Rattle.evm_debug.proofs.Pairs.{pairs-append}
 use Rattle.evm_debug.proofs.showing.push_console.Goals as goal
 

@@ -1,5 +1,5 @@
 use Rattle.std.proofs.Common.{Ok}
-use Rattle.evm_text.specs.Appending.{Appends}
+use Rattle.evm_journal.specs.evm_text.Appending.{Appends}
 use Rattle.evm_debug.specs.Views.{owners_below}
 use Rattle.evm_debug.proofs.views.push_owners.Given as goal
 

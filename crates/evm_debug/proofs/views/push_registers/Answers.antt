@@ -1,7 +1,7 @@
 use Rattle.std.proofs.Common.{◌≡◌, ◌++◌, ◌+◌, ◌-◌, ◌*◌, ◌<◌, List, [], ℕ, Ok, length, refl, ap, sym, subst, ◌∙◌, append_assoc, arith}
 use Rattle.std.proofs.lemmas.List.{append-nil, length-append}
-use Rattle.evm_text.specs.Appending.{Appends}
-use Rattle.evm_text.proofs.Appending.{appends_none, appends_more, appends_front}
+use Rattle.evm_journal.specs.evm_text.Appending.{Appends}
+use Rattle.evm_journal.proofs.evm_text.Appending.{appends_none, appends_more, appends_front}
 use Rattle.evm_debug.specs.Views.{four_registers, register_lines}
 use Rattle.evm_debug.proofs.RegisterLines.{register_lines-none, register_lines-more}
 use Rattle.evm_debug.proofs.views.push_registers.Goals as goal

@@ -1,5 +1,5 @@
 use Rattle.std.proofs.Common.{◌≡◌, ◌++◌, ◌-◌, ◌*◌, ℕ, List, Ok}
-use Rattle.evm_text.specs.Appending.{Appends}
+use Rattle.evm_journal.specs.evm_text.Appending.{Appends}
 use Rattle.evm_debug.specs.Views.{register_lines, registers_text}
 use Rattle.evm_debug.proofs.views.push_registers.Given as goal
 

@@ -1,5 +1,5 @@
 use Rattle.std.proofs.Common.{◌<◌, length, arith}
-use Rattle.evm_text.proofs.Appending.{appends_none, appends_more, appends_front}
+use Rattle.evm_journal.proofs.evm_text.Appending.{appends_none, appends_more, appends_front}
 use Rattle.evm_debug.proofs.Below.{tasks_below-none, tasks_below-more, tasks_below-longer}
 use Rattle.evm_debug.proofs.views.push_tasks.Goals as goal
 

@@ -2,7 +2,7 @@ use Rattle.std.proofs.Common.{◌≡◌, arith, rules}
 use Rattle.std.specs.String.{string_bytes}
 use Rattle.evm_streams.specs.Writes.{Took, TookPrefix}
 use Rattle.evm_debug.specs.LineReading.{line_at}
-use Rattle.evm_text.specs.Lines.{CutsLine}
+use Rattle.evm_debug.specs.evm_text.Lines.{CutsLine}
 use Rattle.evm_serve.specs.Given.{given_of}
 use Rattle.evm_serve.specs.Told.{Goes, Ends, line_told}
 use Rattle.evm_serve.proofs.Endings.{plays_ended}

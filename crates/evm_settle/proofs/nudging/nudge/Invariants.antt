@@ -1,5 +1,5 @@
 use Rattle.std.proofs.Common.{◌≡◌, ◌+◌, ◌^◌}
-use Rattle.evm_boost.specs.Scatter.{AreRanks}
+use Rattle.evm_parts.specs.evm_boost.Scatter.{AreRanks}
 use Rattle.evm_model.specs.Bounds.{PipesUpTo}
 use Rattle.evm_model.specs.Settle.{nudge_pipe}
 use Rattle.evm_settle.proofs.Nudges.{changed_below}

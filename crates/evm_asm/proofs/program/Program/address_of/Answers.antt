@@ -2,7 +2,7 @@ use Rattle.std.proofs.Common.{◌∙◌, sym, ap, Option, Some}
 use Rattle.std.specs.Option.{option_map}
 use Rattle.evm_asm_parser.specs.declared.spot.Spot.{Spot}
 use Rattle.evm_asm.specs.Items.{address}
-use Rattle.evm_asm_lexer.specs.Names.{named}
+use Rattle.evm_asm_parser.specs.evm_asm_lexer.Names.{named}
 use Rattle.evm_asm.specs.Assembled.{Assembled, addressed}
 use Rattle.evm_asm.proofs.Line_by_line.{named-addressed}
 use Rattle.evm_asm.proofs.program.Program.address_of.Goals as goal

@@ -1,5 +1,5 @@
 use Rattle.std.proofs.Common.{◌∙◌}
-use Rattle.evm_ready.proofs.Firsts.{first-same}
+use Rattle.evm_wait.proofs.evm_ready.Firsts.{first-same}
 use Rattle.evm_boost.proofs.mutexes.Mutexes.first_waiter.Goals as goal
 
 pub returns : goal.returns

@@ -1,7 +1,7 @@
 use Rattle.std.proofs.Common.{◌∙◌, ap, length}
 use Rattle.evm_model.specs.Ranks.{first, runs_oob, stamp}
 use Rattle.evm_model.specs.State.{Parts}
-use Rattle.evm_ready.specs.Told.{rank_told}
+use Rattle.evm_task.specs.evm_ready.Told.{rank_told}
 use Rattle.evm_parts.proofs.Chosen.{best-told}
 use Rattle.evm_parts.proofs.parts.Parts.best.Goals as goal
 
