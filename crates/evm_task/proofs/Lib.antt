@@ -1,1 +1,1 @@
-pub use Rattle.evm_wait.proofs.evm_ready as evm_ready
+pub use Rattle.evm_ready.proofs as evm_ready

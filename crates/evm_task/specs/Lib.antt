@@ -1,3 +1,3 @@
 pub mod Asks
 pub mod Lending
-pub use Rattle.evm_wait.specs.evm_ready as evm_ready
+pub use Rattle.evm_ready.specs as evm_ready

@@ -10,15 +10,13 @@ ghost use Rattle.evm_model.specs.Stages.{is_attached_task};
 ghost use Rattle.evm_model.specs.State.{no_mode};
 ghost use Rattle.evm_model.specs.Tasks.{is_live};
 ghost use Rattle.evm_model.specs.Waits.{woken};
-ghost use Rattle.evm_wait.specs.evm_ready.Oob.{has_oob};
-ghost use Rattle.evm_wait.specs.evm_ready.Told.{rank_told};
+ghost use Rattle.evm_ready.specs.Oob.{has_oob};
+ghost use Rattle.evm_ready.specs.Told.{rank_told};
 
 use arrayvec::ArrayVec;
 use evm_model::{Class, Mode, TASK_LIMIT, Task, TaskState, Wait};
-use evm_wait::{
-    best_of, has_oob, next_in_band_of, put, put as put_waiting, rerank, set_slice, set_stamp, take,
-    take as take_waiting,
-};
+use evm_ready::{best_of, has_oob, next_in_band_of, put, rerank, set_slice, set_stamp, take};
+use evm_wait::{put as put_waiting, take as take_waiting};
 use std::marker::Model;
 
 /// The tasks, in the order of their numbers.

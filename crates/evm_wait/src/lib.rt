@@ -3,7 +3,6 @@
 
 mod waits;
 
-pub use evm_ready::{best_of, has_oob, next_in_band_of, put, rerank, set_slice, set_stamp, take};
 pub use waits::{awaits, first, put, rerank, take};
 
 #[cfg(test)]
