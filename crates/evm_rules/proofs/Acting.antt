@@ -261,10 +261,6 @@ pub restamp-free : (c t : ℕ) (k : Parts) → IsFree c k → IsFree c (restamp 
 unfolding restamp
 restamp-free c t k f = record { free = f.free }
 
-pub state-free : (c t : ℕ) (state : TaskState) (k : Parts) → IsFree c k → IsFree c (set_state t state k)
-unfolding set_state
-state-free c t state k f = record { free = f.free }
-
 pub restamp-own : (d t u : ℕ) (k : Parts) → IsOwn d u k.tasks → IsOwn d u (restamp t k).tasks
 unfolding restamp
 restamp-own d t u k o = alike-own d u k.tasks _ (alike-change d t (λ task. record task { stamp = k.stamps }) k.tasks (λ task. refl) (λ task. refl)) o

@@ -1,5 +1,5 @@
 -- What holds of tasks, harts and sizes, whatever processors and pipes do.
-use Rattle.std.proofs.Common.{◌≡◌, ℕ, ◌+◌, ◌<◌, ◌≤◌, ◌%◌, List, [], ◌∷◌, ◌++◌, Some, None, length, length-append, refl, ap, sym, ◌∙◌, ◌⊎◌, inl, inr, arith}
+use Rattle.std.proofs.Common.{◌≡◌, ℕ, ◌+◌, ◌<◌, ◌≤◌, ◌%◌, List, [], ◌∷◌, ◌++◌, Some, length, length-append, refl, ap, sym, ◌∙◌, ◌⊎◌, inl, inr, arith}
 use Rattle.std.specs.Prelude.{slice_get}
 use Rattle.evm_exec.specs.declared.hart.Hart.{Hart}
 use Rattle.evm_model.proofs.Lists.{change-cases, length-change, slice_get-push}
@@ -10,12 +10,11 @@ use Rattle.evm_model.specs.Lists.{change}
 use Rattle.evm_model.specs.Mutexes.{lock_of}
 use Rattle.evm_model.specs.Pipes.{Pipe}
 use Rattle.evm_model.specs.State.{Parts, new_task, on_hart, on_task, on_pipe, on_processor}
-use Rattle.evm_model.specs.Tasks.{restamp, set_state, leave_in_band}
+use Rattle.evm_model.specs.Tasks.{restamp, leave_in_band}
 use Rattle.evm_model.specs.declared.limits.TheConstants.{PROCESSOR_LIMIT, TASK_LIMIT}
 use Rattle.evm_model.specs.declared.mutex.Mutex.{Mutex}
 use Rattle.evm_model.specs.declared.processor.Processor.{Processor}
 use Rattle.evm_model.specs.declared.task.Task.{Task}
-use Rattle.evm_model.specs.declared.task.TaskState.{TaskState}
 use Rattle.evm_rules.proofs.Locks.{locks-fewer, fewer-change, fewer-push}
 
 pub record IsShaped (k : Parts) : Type 0 where
@@ -116,10 +115,6 @@ shaped-with t f k cpu stamp locks s =
 pub shaped-task : (t : ℕ) (f : Task → Task) (k : Parts) → ((x : Task) → (f x).cpu ≡ x.cpu) → ((x : Task) → (f x).stamp ≡ x.stamp) → ((x : Task) (m : ℕ) → lock_of (f x).state ≡ Some m → lock_of x.state ≡ Some m)
     → IsShaped k → IsShaped (on_task t f k)
 shaped-task t f k cpu stamp lock s = shaped-with t f k cpu stamp (locks-fewer k.mutexes k.tasks (change f k.tasks t) (omega (arith, length-change f k.tasks t)) (fewer-change f k.tasks t lock) s.locks) s
-
-pub shaped-state : (t : ℕ) (state : TaskState) (k : Parts) → lock_of state ≡ None → IsShaped k → IsShaped (set_state t state k)
-unfolding set_state
-shaped-state t state k none s = shaped-task t (λ task. record task { state = state }) k (λ x. refl) (λ x. refl) (λ x m e. let no : None ≡ Some m = sym none ∙ e in cc) s
 
 -- mutexes change
 pub shaped-mutexes : (k : Parts) (mutexes : List Mutex) → AreLocks mutexes k.tasks → IsShaped k → IsShaped (record k { mutexes = mutexes })

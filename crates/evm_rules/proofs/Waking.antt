@@ -138,10 +138,6 @@ pub own-state : (c t u : ℕ) (state : TaskState) (k : Parts) → is_ready state
 unfolding set_state
 own-state c t u state k ready o = one-cases is_ready c t u (λ task. record task { state = state }) k.tasks o (λ task. refl) (λ task h. ready)
 
-pub in_band-state : (c t u : ℕ) (k : Parts) → IsOneOf is_in_ready c u k.tasks → IsOneOf is_in_ready c u (set_state t InReady k).tasks
-unfolding set_state
-in_band-state c t u k o = one-cases is_in_ready c t u (λ task. record task { state = InReady }) k.tasks o (λ task. refl) (λ task h. refl)
-
 -- ---- waking
 -- tasks of c woke, lines of its log were played: its own tasks stay its own, as many are out-of-band ready, and nothing else changes but registers
 pub record Rouses (c : ℕ) (k x : Parts) : Type 0 where

@@ -159,9 +159,6 @@ module _ (a : Actor) (old : Parts) (acts : (g : ℕ) → a.task ≡ Some g → c
       ])
 
   -- ---- a wake
-  woken_is : (t : ℕ) (x y z : Task) (new : Parts) → slice_get new.tasks t ≡ Some x → slice_get new.tasks t ≡ Some y → (z ≡ x) → z ≡ y
-  woken_is t x y z new e f h = let two : Some x ≡ Some y = sym e ∙ f in h ∙ cc
-
   frame_wakes : (t l : ℕ) (k : Parts) → old.stamps ≤ k.stamps → LineWaiter a.cpu l t k → Frame a old k → Frame a old (wake t 0 k)
   unfolding wake restamp
   frame_wakes t l k later w f =

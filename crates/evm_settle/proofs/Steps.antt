@@ -12,7 +12,7 @@ use Rattle.evm_rules.proofs.Bounded.{AreWithin, within-settle_oob, within-settle
 use Rattle.evm_rules.proofs.Counting.{PipesUpTo-more}
 use Rattle.evm_rules.proofs.Ranking.{AreRanked, ranked-same}
 use Rattle.evm_rules.proofs.Settling.{ranked-in_band}
-use Rattle.evm_rules.proofs.Sets.{length-set}
+use Rattle.evm_walk.proofs.Sets.{length-set}
 use Rattle.evm_rules.proofs.Spending.{current-spends}
 use Rattle.evm_settle.specs.Steps.{play_oob_pipe, chooses, choose}
 
