@@ -15,7 +15,7 @@ use Rattle.evm_settle.proofs.evm_walk.Sets.{walk_pipes}
 use Rattle.evm_settle.proofs.evm_walk.Sizes.{walk_most}
 use Rattle.evm_settle.proofs.evm_walk.Walk.{Actor, ArePipes, AreFew, Untouched, Walk, start}
 use Rattle.evm_settle.proofs.evm_rules.Bounded.{AreWithin, within-more, within-receive}
-use Rattle.evm_settle.proofs.evm_rules.Counting.{PipesUpTo-more}
+use Rattle.evm_settle.proofs.evm_walk.Counted.{PipesUpTo-more}
 
 -- task t acts on processor c: it raises and chooses nothing
 abbrev acts : ℕ → ℕ → Actor

@@ -6,7 +6,7 @@ use Rattle.evm_model.specs.Pipes.{idle_pipe, raise, set_stall}
 use Rattle.evm_model.specs.State.{Parts, on_pipe}
 use Rattle.evm_model.specs.declared.stage.Stage.{Stage}
 use Rattle.evm_rules.proofs.Bounded.{AreWithin, within-idle, within-more, within-raise, within-stall}
-use Rattle.evm_rules.proofs.Counting.{PipesUpTo-more}
+use Rattle.evm_rules.proofs.evm_walk.Counted.{PipesUpTo-more}
 
 pub idle-three : (k : Parts) → k.pipes ≡ replicate 3 idle_pipe → AreWithin 0 k
 idle-three k e = within-idle 3 k e

@@ -8,7 +8,7 @@ use Rattle.evm_model.specs.Tasks.{set_policy}
 use Rattle.evm_model.specs.declared.stage.Stage.{Stage}
 use Rattle.evm_model.specs.declared.task.Class.{Class}
 use Rattle.evm_rules.proofs.Bounded.{AreWithin, within-idle, within-more, within-receive, within-stall}
-use Rattle.evm_rules.proofs.Counting.{PipesUpTo-more}
+use Rattle.evm_rules.proofs.evm_walk.Counted.{PipesUpTo-more}
 
 pub idle-two : (k : Parts) → k.pipes ≡ replicate 2 idle_pipe → AreWithin 0 k
 idle-two k e = within-idle 2 k e

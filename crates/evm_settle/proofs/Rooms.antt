@@ -5,7 +5,8 @@ use Rattle.evm_model.specs.Pipes.{play}
 use Rattle.evm_model.specs.Settle.{spend_current}
 use Rattle.evm_model.specs.State.{Parts, on_pipe}
 use Rattle.evm_model.specs.declared.stage.Stage.{Stage}
-use Rattle.evm_rules.proofs.Counting.{PipesUpTo-more, on_play-up}
+use Rattle.evm_rules.proofs.evm_walk.Counted.{PipesUpTo-more}
+use Rattle.evm_rules.proofs.Counting.{on_play-up}
 use Rattle.evm_rules.proofs.Spending.{current-spends}
 
 -- one play before one arrival

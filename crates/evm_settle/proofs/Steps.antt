@@ -9,10 +9,10 @@ use Rattle.evm_model.specs.Settle.{play_oob, play_oob_lines, spend_current, run_
 use Rattle.evm_model.specs.State.{Parts, on_pipe}
 use Rattle.evm_model.specs.declared.stage.Stage.TheVariants.{OutOfBand, InBand}
 use Rattle.evm_rules.proofs.Bounded.{AreWithin, within-settle_oob, within-settle_in_band}
-use Rattle.evm_rules.proofs.Counting.{PipesUpTo-more}
+use Rattle.evm_rules.proofs.evm_walk.Counted.{PipesUpTo-more}
 use Rattle.evm_rules.proofs.Ranking.{AreRanked, ranked-same}
 use Rattle.evm_rules.proofs.Settling.{ranked-in_band}
-use Rattle.evm_walk.proofs.Sets.{length-set}
+use Rattle.evm_rules.proofs.evm_walk.Sets.{length-set}
 use Rattle.evm_rules.proofs.Spending.{current-spends}
 use Rattle.evm_settle.specs.Steps.{play_oob_pipe, chooses, choose}
 

@@ -1,5 +1,5 @@
 use Rattle.std.proofs.Common.{◌+◌, ◌^◌, ◌∙◌, sym, ap, arith}
-use Rattle.evm_rules.proofs.Counting.{PipesUpTo-more}
+use Rattle.evm_rules.proofs.evm_walk.Counted.{PipesUpTo-more}
 use Rattle.evm_settle.specs.Nudges.{nudge_one}
 use Rattle.evm_settle.proofs.Nudges.{nudge_one-none, nudge_one-more, nudge_one-all, nudge_one-up, nudge_one-ranks}
 use Rattle.evm_settle.proofs.nudging.nudge.Goals as goal
