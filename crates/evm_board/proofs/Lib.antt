@@ -5,5 +5,5 @@ pub mod Rooms
 pub mod Stepped
 pub mod Steps
 pub mod Timers
-pub use Rattle.evm_settle.proofs.evm_rules as evm_rules
-pub use Rattle.evm_settle.proofs.evm_walk as evm_walk
+pub use Rattle.evm_rules.proofs as evm_rules
+pub use Rattle.evm_walk.proofs as evm_walk

@@ -8,14 +8,14 @@ use Rattle.evm_model.specs.Instructions.{fault}
 use Rattle.evm_model.specs.Pipes.{receive}
 use Rattle.evm_model.specs.State.{Parts, on_pipe, on_processor}
 use Rattle.evm_model.specs.declared.fault.Fault.{Fault}
-use Rattle.evm_settle.proofs.evm_walk.Calls.{walks_call}
-use Rattle.evm_settle.proofs.evm_walk.Counted.{walk_counted}
-use Rattle.evm_settle.proofs.evm_walk.Rows.{faults}
-use Rattle.evm_settle.proofs.evm_walk.Sets.{walk_pipes}
-use Rattle.evm_settle.proofs.evm_walk.Sizes.{walk_most}
-use Rattle.evm_settle.proofs.evm_walk.Walk.{Actor, ArePipes, AreFew, Untouched, Walk, start}
-use Rattle.evm_settle.proofs.evm_rules.Bounded.{AreWithin, within-more, within-receive}
-use Rattle.evm_settle.proofs.evm_walk.Counted.{PipesUpTo-more}
+use Rattle.evm_walk.proofs.Calls.{walks_call}
+use Rattle.evm_walk.proofs.Counted.{walk_counted}
+use Rattle.evm_walk.proofs.Rows.{faults}
+use Rattle.evm_walk.proofs.Sets.{walk_pipes}
+use Rattle.evm_walk.proofs.Sizes.{walk_most}
+use Rattle.evm_walk.proofs.Walk.{Actor, ArePipes, AreFew, Untouched, Walk, start}
+use Rattle.evm_rules.proofs.Bounded.{AreWithin, within-more, within-receive}
+use Rattle.evm_walk.proofs.Counted.{PipesUpTo-more}
 
 -- task t acts on processor c: it raises and chooses nothing
 abbrev acts : ℕ → ℕ → Actor

@@ -1,8 +1,8 @@
 use Rattle.std.proofs.Common.{◌+◌, ◌^◌, ◌∙◌, List, sym, ap, arith}
 use Rattle.evm_model.specs.Pipes.{Pipe, raise}
 use Rattle.evm_model.specs.State.{Parts, on_pipe}
-use Rattle.evm_settle.proofs.evm_walk.Counted.{PipesUpTo-more}
-use Rattle.evm_settle.proofs.evm_rules.Counting.{on_raise-up}
+use Rattle.evm_walk.proofs.Counted.{PipesUpTo-more}
+use Rattle.evm_rules.proofs.Counting.{on_raise-up}
 use Rattle.evm_board.proofs.Timers.{timers-none, timers-more, timers-all}
 use Rattle.evm_board.proofs.commands.raise_timers.Goals as goal
 

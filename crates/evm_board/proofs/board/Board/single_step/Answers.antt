@@ -2,7 +2,7 @@ use Rattle.std.proofs.Common.{◌≤◌, ◌^◌, true, false, subst, sym}
 use Rattle.evm_model.specs.Bounds.{HeldUpTo}
 use Rattle.evm_model.specs.Good.{Good}
 use Rattle.evm_model.specs.State.{Board}
-use Rattle.evm_settle.proofs.evm_rules.Bounded.{AreWithin}
+use Rattle.evm_rules.proofs.Bounded.{AreWithin}
 use Rattle.evm_board.proofs.Rooms.{room-bits, stamps-bits, held-bits}
 use Rattle.evm_board.proofs.Steps.{good-go}
 use Rattle.evm_board.proofs.board.Board.single_step.Goals as goal
