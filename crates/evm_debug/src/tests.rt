@@ -62,15 +62,23 @@ fn lines_are_read(rt: HostRuntime) {
     is(&rt, b"journal", Line::Look(View::Journal));
 }
 
+// A line that is read small, among those that may have bytes.
+fn short_line(text: &[u8]) -> Option<EventLine> {
+    match read_short(text) {
+        None => None,
+        Some(line) => Some(line.widen()),
+    }
+}
+
 #[test]
 fn lines_that_hold_no_bytes_are_read_small(rt: HostRuntime) {
     assert_eq!(rt;
-        read_short(b"step 7 1048576"),
+        short_line(b"step 7 1048576"),
         Some(EventLine::Steps(7, 1_048_576))
     );
-    assert_eq!(rt; read_short(b"tick"), Some(EventLine::One(Event::Tick)));
+    assert_eq!(rt; short_line(b"tick"), Some(EventLine::One(Event::Tick)));
     assert_eq!(rt;
-        read_short(b"unbreak 80000004"),
+        short_line(b"unbreak 80000004"),
         Some(EventLine::One(Event::Unbreak(0x8000_0004)))
     );
     for text in [
@@ -82,7 +90,7 @@ fn lines_that_hold_no_bytes_are_read_small(rt: HostRuntime) {
         b"regs 0".as_slice(),
         b"poke 80000000 00".as_slice(),
     ] {
-        assert_eq!(rt; read_short(text), None, "{text:?}");
+        assert_eq!(rt; short_line(text), None, "{text:?}");
     }
 }
 
