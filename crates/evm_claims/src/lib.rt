@@ -33,8 +33,4 @@ pub use rules::{
 pub use safe_and_total::{
     a_machine_is_as_it_was_booted, counts_never_wrap, sizes_never_change, the_clock_is_its_ticks,
 };
-pub use steps::{
-    a_single_step_keeps_to_its_processor, a_single_step_leaves_other_mutexes,
-    a_single_step_leaves_other_tasks, a_step_adds_one_task, a_step_keeps_to_its_processor,
-    a_step_leaves_other_mutexes, a_step_leaves_other_tasks,
-};
+pub use steps::{a_single_step_changes_only, a_step_changes_only};
