@@ -61,7 +61,6 @@ impl Parts {
     pub fn add_mutex(&mut self, mutex: Mutex)
         requires { length self.old.mutexes < MUTEX_LIMIT }
         ensures row { self.new ≡ add_mutex mutex self.old }
-        ensures stamps { self.new.stamps ≡ self.old.stamps }
     {
         self.mutexes.create(mutex);
     }
@@ -78,7 +77,6 @@ impl Parts {
     #[tactic(auto, unfolding(evm_model::specs::Locks::take_mutex))]
     pub fn take_mutex(&mut self, t: u8, m: u8)
         ensures row { self.new ≡ take_mutex t m self.old }
-        ensures stamps { self.new.stamps ≡ self.old.stamps }
     {
         self.hold_mutex(t, m, 1);
     }
@@ -123,7 +121,6 @@ impl Parts {
     pub fn pass_all(&mut self, t: u8)
         requires room { self.old.stamps ≤ 2 ^ 62 }
         ensures row { self.new ≡ pass_below t (length self.old.mutexes) self.old }
-        ensures stamps { self.new.stamps ≤ self.old.stamps + 32 }
     {
         'passing: for m in 0..self.mutexes.count() {
             self.pass_if(t, m);

@@ -14,7 +14,6 @@ impl Parts {
     pub fn demote(&mut self, c: u8, t: u8)
         requires room { self.old.stamps < 2 ^ 63 }
         ensures row { self.new ≡ demote c t self.old }
-        ensures stamps { self.new.stamps ≡ self.old.stamps + 1 }
     {
         self.set_stall(c, Stage::OutOfBand, false);
         self.set_state(t, TaskState::InReady);
@@ -26,7 +25,6 @@ impl Parts {
     pub fn promote(&mut self, c: u8, t: u8)
         requires room { self.old.stamps < 2 ^ 63 }
         ensures row { self.new ≡ promote c t self.old }
-        ensures stamps { self.new.stamps ≡ self.old.stamps + 1 }
     {
         self.set_state(t, TaskState::OobReady);
         self.restamp(t);
@@ -46,7 +44,6 @@ impl Parts {
     #[tactic(auto, unfolding(evm_model::specs::Tasks::clear_policy))]
     pub fn clear_policy(&mut self, t: u8)
         ensures row { self.new ≡ clear_policy t self.old }
-        ensures stamps { self.new.stamps ≡ self.old.stamps }
     {
         self.tasks.clear_policy(t);
     }
@@ -55,7 +52,6 @@ impl Parts {
     #[tactic(auto, unfolding(evm_model::specs::Tasks::set_mode_bits))]
     pub fn set_mode_bits(&mut self, t: u8, bits: u8)
         ensures row { self.new ≡ set_mode_bits t bits self.old }
-        ensures stamps { self.new.stamps ≡ self.old.stamps }
     {
         self.tasks.set_mode(t, bits);
     }

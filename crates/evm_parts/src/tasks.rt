@@ -52,7 +52,6 @@ impl Parts {
     #[tactic(auto, unfolding(evm_model::specs::Tasks::leave_in_band))]
     pub fn leave_in_band(&mut self, c: u8)
         ensures row { self.new ≡ leave_in_band c self.old }
-        ensures stamps { self.new.stamps ≡ self.old.stamps }
     {
         self.set_in_band_task(c, None);
     }
@@ -63,7 +62,6 @@ impl Parts {
     pub fn end_task(&mut self, c: u8, t: u8, state: TaskState)
         requires room { self.old.stamps ≤ 2 ^ 62 }
         ensures row { self.new ≡ end_task c t state self.old }
-        ensures stamps { self.new.stamps ≤ self.old.stamps + 32 }
     {
         self.pass_all(t);
         self.set_stall(c, Stage::InBand, false);
@@ -78,7 +76,6 @@ impl Parts {
         requires harts { length self.old.harts < TASK_LIMIT }
         requires tasks { length self.old.tasks < TASK_LIMIT }
         ensures row { self.new ≡ add_task entry value cpu self.old }
-        ensures stamps { self.new.stamps ≡ self.old.stamps + 1 }
     {
         let stamp = self.stamps;
         self.harts.push_spawned(entry, value);
@@ -91,7 +88,6 @@ impl Parts {
     pub fn begin_wait(&mut self, t: u8, wait: Wait, deadline: u64)
         requires room { self.old.stamps < 2 ^ 63 }
         ensures row { self.new ≡ begin_wait t wait deadline self.old }
-        ensures stamps { self.new.stamps ≡ self.old.stamps + 1 }
     {
         self.tasks.begin_wait(t, wait, deadline);
         self.restamp(t);
