@@ -27,7 +27,10 @@ pub fn each_waited_mutex_has_an_owner()
         slice_get s.board.parts.mutexes m ≡ Option.Some mutex → mutex.owner ≡ Option.Some t → t < length s.board.parts.tasks }
     ensures few { (boot : Boot) (s : State) → Reached boot s →
         length s.board.parts.mutexes ≤ 32 }
-{}
+{
+    evm_rules::rules_hold();
+    evm_rules::walks_end();
+}
 
 /// Likewise: no chain of tasks, each of which waits for a mutex of the next, returns to its start, and none is longer than
 /// 64 links. A task waits for the owner of its mutex.
@@ -39,7 +42,10 @@ pub fn no_chain_of_waiting_returns()
     ensures links { (mutexes : List Mutex) (tasks : List Task) (u t m : ℕ) (task : Task) (mutex : Mutex) →
         slice_get tasks u ≡ Option.Some task → task.state ≡ TaskState.Waits (Wait.Lock m) →
         slice_get mutexes m ≡ Option.Some mutex → mutex.owner ≡ Option.Some t → waits_on mutexes tasks u ≡ Option.Some t }
-{}
+{
+    evm_rules::rules_hold();
+    evm_rules::walks_end();
+}
 
 /// Likewise: the owner of a mutex of inheritance ranks no lower than each task that waits for it; and a task's rank is its
 /// own, or that of a task which it boosts so.
@@ -56,7 +62,10 @@ pub fn an_owner_ranks_no_lower_than_its_waiters()
     ensures boosters { (mutexes : List Mutex) (tasks : List Task) (u t : ℕ) → boosts mutexes tasks u ≡ Option.Some t →
         (m : ℕ) × ((task : Task) × ((mutex : Mutex) × ((slice_get tasks u ≡ Option.Some task) × (task.state ≡ TaskState.Waits (Wait.Lock m))
         × (slice_get mutexes m ≡ Option.Some mutex) × (mutex.protocol ≡ Protocol.Inheritance) × (mutex.owner ≡ Option.Some t)))) }
-{}
+{
+    evm_rules::rules_hold();
+    evm_rules::ranks_settle();
+}
 
 /// Likewise: another round of boosts changes no rank, and there are no other ranks that none changes.
 pub fn ranks_are_the_only_settled_ones()
@@ -70,7 +79,10 @@ pub fn ranks_are_the_only_settled_ones()
         other u ≡ greatest (boosts s.board.parts.mutexes s.board.parts.tasks) other u
         (own_rank s.board.parts.mutexes s.board.parts.tasks u) (length s.board.parts.tasks)) →
         t < length s.board.parts.tasks → other t ≡ rank s.board.parts.mutexes s.board.parts.tasks t }
-{}
+{
+    evm_rules::rules_hold();
+    evm_rules::ranks_settle();
+}
 
 /// A task never ranks below its class and priority, nor below the ceiling of a mutex that it owns: its own rank is one of
 /// these. A task that owns no mutex ranks as its class and priority say.
@@ -87,7 +99,9 @@ pub fn a_rank_is_never_below_its_own()
         × (mutex.protocol ≡ Protocol.Ceiling priority) × (mutex.owner ≡ Option.Some t) × (own_rank mutexes tasks t ≡ 100 + priority))))) }
     ensures alone { (mutexes : List Mutex) (tasks : List Task) (t : ℕ) (task : Task) → slice_get tasks t ≡ Option.Some task →
         ((m : ℕ) → owner mutexes m ≢ Option.Some t) → rank mutexes tasks t ≡ class_rank task.class task.priority }
-{}
+{
+    evm_rules::ranks_settle();
+}
 
 /// A mutex passes on to the first that waits for it: no other that waits for it ranks higher, nor as high with a lesser
 /// stamp. That task owns it then, locked once, and is ready out-of-band; where none waits for it, it is free.
