@@ -17,8 +17,8 @@ pub use mutexes::{
     no_chain_of_waiting_returns, ranks_are_the_only_settled_ones,
 };
 pub use no_interrupt_lost::{
-    no_line_is_lost_in_a_stage, no_line_is_lost_on_its_wire, raised_as_often_as_the_journal_says,
-    what_is_received_comes_to_a_stage,
+    line_one_is_raised_for_a_better_task, no_line_is_lost_in_a_stage, no_line_is_lost_on_its_wire,
+    raised_as_often_as_the_journal_says, what_is_received_comes_to_a_stage,
 };
 pub use parts::{
     a_command_changes_one_place, a_raise_puts_its_line_on_the_wire, a_register_keeps_its_number,

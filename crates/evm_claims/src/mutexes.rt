@@ -1,6 +1,8 @@
 //! Who owns a mutex, who waits for it, and how it ranks its owner: the rules that hold after every event, and how a mutex
 //! passes on.
 ghost use Rattle.std.specs.Prelude.{◌≡◌, ◌≢◌, ◌+◌, ◌<◌, ◌≤◌, ◌⊎◌, ℕ, suc, List, false, Option, slice_get, length};
+ghost use Rattle.evm_exec.specs.Registers.{with_register};
+ghost use Rattle.evm_exec.specs.declared.hart.Hart.{Hart};
 ghost use Rattle.evm_model.specs.Mutexes.{owner, waits_on, boosts};
 ghost use Rattle.evm_model.specs.Passing.{pass_on};
 ghost use Rattle.evm_model.specs.Ranks.{class_rank, own_rank, rank};
@@ -104,7 +106,8 @@ pub fn a_rank_is_never_below_its_own()
 }
 
 /// A mutex passes on to the first that waits for it: no other that waits for it ranks higher, nor as high with a lesser
-/// stamp. That task owns it then, locked once, and is ready out-of-band; where none waits for it, it is free.
+/// stamp. That task owns it then, locked once, is ready out-of-band, and its call answers 0; where none waits for it, it is
+/// free. No other task, no other register or pc, no other mutex, no processor, no pipe and no console changes.
 pub fn a_mutex_passes_to_the_first_waiter()
     ensures waits { (m t : ℕ) (k : Parts) → first_waiter (Wait.Lock m) k ≡ Option.Some t →
         (task : Task) × ((slice_get k.tasks t ≡ Option.Some task) × (task.state ≡ TaskState.Waits (Wait.Lock m))
@@ -117,6 +120,13 @@ pub fn a_mutex_passes_to_the_first_waiter()
         slice_get k.mutexes m ≡ Option.Some mutex → slice_get k.tasks t ≡ Option.Some task →
         (slice_get (pass_on m k).mutexes m ≡ Option.Some (record mutex { owner = Option.Some t; count = 1 }))
         × (slice_get (pass_on m k).tasks t ≡ Option.Some (record task { stamp = k.stamps; deadline = 0; state = TaskState.OobReady })) }
+    ensures answers { (m t : ℕ) (k : Parts) (hart : Hart) → first_waiter (Wait.Lock m) k ≡ Option.Some t → slice_get k.harts t ≡ Option.Some hart →
+        slice_get (pass_on m k).harts t ≡ Option.Some (record hart { regs = with_register hart.regs 10 0 }) }
+    ensures other_tasks { (m u : ℕ) (k : Parts) → first_waiter (Wait.Lock m) k ≢ Option.Some u →
+        (slice_get (pass_on m k).tasks u ≡ slice_get k.tasks u) × (slice_get (pass_on m k).harts u ≡ slice_get k.harts u) }
+    ensures other_mutexes { (m n : ℕ) (k : Parts) → n ≢ m → slice_get (pass_on m k).mutexes n ≡ slice_get k.mutexes n }
+    ensures rest { (m : ℕ) (k : Parts) →
+        pass_on m k ≡ record k { harts = (pass_on m k).harts; tasks = (pass_on m k).tasks; mutexes = (pass_on m k).mutexes; stamps = (pass_on m k).stamps } }
     ensures frees { (m : ℕ) (k : Parts) (mutex : Mutex) → first_waiter (Wait.Lock m) k ≡ Option.None → slice_get k.mutexes m ≡ Option.Some mutex →
         (slice_get (pass_on m k).mutexes m ≡ Option.Some (record mutex { owner = Option.None; count = 0 }))
         × ((pass_on m k).tasks ≡ k.tasks) }
