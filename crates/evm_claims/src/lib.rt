@@ -27,8 +27,8 @@ pub use parts::{
 };
 pub use rules::{
     a_current_task_is_ready_at_home, a_private_row_changes_one_hart, a_private_row_settles_nothing,
-    a_processor_runs_its_best_task, a_stage_is_stalled_by_its_task, each_pc_is_a_multiple_of_4,
-    no_two_tasks_have_one_stamp, nothing_waits_in_an_open_log,
+    a_processor_runs_its_best_task, a_stage_is_stalled_by_its_task, a_step_receives_the_least_line,
+    each_pc_is_a_multiple_of_4, no_two_tasks_have_one_stamp, nothing_waits_in_an_open_log,
 };
 pub use safe_and_total::{
     a_machine_is_as_it_was_booted, counts_never_wrap, sizes_never_change, the_clock_is_its_ticks,

@@ -1,5 +1,5 @@
 //! Which task a processor runs, and what waits in its logs: the rules that hold after every event.
-ghost use Rattle.std.specs.Prelude.{◌≡◌, ◌≢◌, ◌%◌, ◌<◌, ◌++◌, ◌⊎◌, ℕ, List, [], ◌∷◌, true, false, Option, Result, slice_get, length};
+ghost use Rattle.std.specs.Prelude.{◌≡◌, ◌≢◌, ◌%◌, ◌<◌, ◌≤◌, ◌++◌, ◌⊎◌, ℕ, List, [], ◌∷◌, true, false, Option, Result, slice_get, length};
 ghost use Rattle.evm_exec.specs.Registers.{with_register};
 ghost use Rattle.evm_exec.specs.declared.hart.Hart.{Hart};
 ghost use Rattle.evm_exec.specs.declared.outcome.Effect.{Effect};
@@ -145,4 +145,14 @@ pub fn a_private_row_changes_one_hart()
 {
     evm_rules::rules_hold();
     evm_rules::private_rows_change_one_hart();
+}
+
+/// Likewise: a Step that receives a line receives one of its processor's wire, and the least.
+pub fn a_step_receives_the_least_line()
+    ensures { (boot : Boot) (s new : State) (c l : ℕ) (pipe : Pipe) → Reached boot s → apply s (Event.Step c) ≡ Result.Ok (new, Answer.Received l) →
+        slice_get s.board.parts.pipes c ≡ Option.Some pipe →
+        (has_line pipe.wire l ≡ true) × ((m : ℕ) → has_line pipe.wire m ≡ true → l ≤ m) }
+{
+    evm_rules::rules_hold();
+    evm_runs::steps_receive_least();
 }

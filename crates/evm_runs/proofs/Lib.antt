@@ -10,6 +10,7 @@ pub mod Instructions
 pub mod Kept
 pub mod Least
 pub mod Nudged
+pub mod Order
 pub mod Raised
 pub mod Replays
 pub mod Runs

@@ -1,5 +1,5 @@
 -- How often line 1 is raised on a processor.
-use Rattle.std.proofs.Common.{◌≡◌, ℕ, ◌+◌, ◌<◌, ◌%◌, List, [], ◌∷◌, ◌++◌, Bool, true, false, cond, not, ◌&&◌, Option, Some, None, Result, Ok, Err, length, inl, inr, refl, ap, sym, ◌∙◌, subst, arith}
+use Rattle.std.proofs.Common.{◌≡◌, ℕ, ◌+◌, List, [], ◌∷◌, ◌++◌, Bool, true, false, cond, not, ◌&&◌, Option, Some, None, Result, Ok, Err, inl, inr, refl, ap, sym, ◌∙◌, subst, arith}
 use Rattle.std.specs.Prelude.{slice_get, option_map, count_by, replicate, ◌==◌, if◌then◌else◌}
 use Rattle.std.proofs.lemmas.Bool.{cases_eq}
 use Rattle.std.proofs.lemmas.Bool.Decides.{nat_tests}
@@ -10,12 +10,12 @@ use Rattle.evm_model.proofs.Lists.{change-here, change-elsewhere, slice_get-each
 use Rattle.evm_model.specs.Bounds.{STAMPS_PER_EVENT}
 use Rattle.evm_model.specs.Commands.{set_bits}
 use Rattle.evm_model.specs.Event.{Event}
-use Rattle.evm_model.specs.Good.{Good, GoodState, IsPipe}
+use Rattle.evm_model.specs.Good.{Good, GoodState}
 use Rattle.evm_model.specs.Load.{load_board, start_loaded}
 use Rattle.evm_model.specs.Pipes.{Pipe, idle_pipe, no_counts, raise, more_if}
 use Rattle.evm_model.specs.Ranks.{best}
 use Rattle.evm_model.specs.Refusals.{board_refusal, is_full, refusal}
-use Rattle.evm_model.specs.Replay.{accept, apply, bad_boot, left_by, replay, start}
+use Rattle.evm_model.specs.Replay.{accept, apply, left_by, replay, start}
 use Rattle.evm_model.specs.Rows.{step, single_step, row}
 use Rattle.evm_model.specs.Settle.{current, current_of, differs, nudge, nudge_pipe, wants_nudge}
 use Rattle.evm_model.specs.State.{State, Board, Parts, booted, booted_parts, on_parts, on_processor}
@@ -35,7 +35,7 @@ use Rattle.evm_rules.proofs.States.{GoodState-apply, GoodState-loaded, GoodState
 use Rattle.evm_runs.specs.Balance.{is_raise, one_if}
 use Rattle.evm_runs.specs.Nudged.{is_step_elsewhere, finds_better, found, found_count, TellsFrom, AlwaysTells, AlwaysTellsLoaded}
 use Rattle.evm_runs.proofs.Added.{walk_other_pipes}
-use Rattle.evm_runs.proofs.Raised.{LineRaised, RaisedIs, walk-raised, raise-raised, raise_if}
+use Rattle.evm_runs.proofs.Raised.{RaisedIs, walk-raised, raise-raised, raise_if}
 
 plus_none : (d r : ℕ) (k : Parts) → RaisedIs d 1 r k → RaisedIs d 1 (r + 0) k
 plus_none d r k s = record { times = λ p n e g. omega (arith, s.times p n e g) }

@@ -5,4 +5,5 @@ pub mod Fit
 pub mod Kept
 pub mod Least
 pub mod Nudged
+pub mod Order
 pub mod Replays

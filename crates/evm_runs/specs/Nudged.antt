@@ -1,8 +1,7 @@
 -- How often line 1 is raised: by events that name it, and by steps of other processors that find a better task.
-use Rattle.std.specs.Prelude.{◌≡◌, ℕ, ◌+◌, ◌==◌, ◌&&◌, ◌%◌, List, [], ◌∷◌, Option, Some, None, Bool, true, false, not, Result, Ok, Err, slice_get, count_by}
+use Rattle.std.specs.Prelude.{◌≡◌, ℕ, ◌+◌, ◌==◌, ◌&&◌, ◌%◌, List, [], ◌∷◌, Option, Some, None, Bool, false, not, Result, Ok, Err, slice_get, count_by}
 use Rattle.evm_lines.specs.Lines.{has_line}
 use Rattle.evm_model.specs.Event.{Event}
-use Rattle.evm_model.specs.Good.{GoodState}
 use Rattle.evm_model.specs.Load.{start_loaded}
 use Rattle.evm_model.specs.Pipes.{Pipe}
 use Rattle.evm_model.specs.Ranks.{best}

@@ -8,6 +8,7 @@ ghost use Rattle.evm_runs.specs.Fit.{CountsAlwaysFit, CountsAlwaysFitFresh, Coun
 ghost use Rattle.evm_runs.specs.Kept.{SizesStay, StaysAsBooted, StaysAsLoaded};
 ghost use Rattle.evm_runs.specs.Least.{AlwaysTellsLeast};
 ghost use Rattle.evm_runs.specs.Nudged.{AlwaysTells, AlwaysTellsLoaded};
+ghost use Rattle.evm_runs.specs.Order.{StepsReceiveLeast};
 ghost use Rattle.evm_runs.specs.Replays.{LoadsEachByte, LoadsSoManyBytes, ReplaysJoin, StartsAsReplay, StaysReplay};
 
 /// No interrupt is lost and none is played twice: after every boot and every list of events, also where an
@@ -18,6 +19,11 @@ pub fn balance_holds()
     ensures booted { AlwaysBalances }
     ensures loaded { AlwaysBalancesLoaded }
     ensures fresh { AlwaysBalancesFresh }
+{}
+
+/// Where the rules hold, a Step that receives a line receives the least of its processor's wire.
+pub fn steps_receive_least()
+    ensures { StepsReceiveLeast }
 {}
 
 /// After every boot whose numbers are inside their limits, with an image loaded or none, and every list of events line 1
