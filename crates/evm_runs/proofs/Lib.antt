@@ -9,6 +9,8 @@ pub mod Frames
 pub mod Instructions
 pub mod Kept
 pub mod Least
+pub mod Nudged
+pub mod Order
 pub mod Raised
 pub mod Replays
 pub mod Runs

@@ -4,4 +4,6 @@ pub mod First
 pub mod Fit
 pub mod Kept
 pub mod Least
+pub mod Nudged
+pub mod Order
 pub mod Replays
