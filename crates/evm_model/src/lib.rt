@@ -22,8 +22,9 @@ pub use errno::Errno;
 pub use event::{Answer, Block, Event, NoBytes, copied, kinds_add_up};
 pub use fault::Fault;
 pub use limits::{
-    BREAKPOINT_LIMIT, CAPACITY_LIMIT, CONSOLE_LIMIT, MODE_LIMIT, MUTEX_LIMIT, POKE_LIMIT,
-    PRIORITY_LIMIT, PROCESSOR_LIMIT, RAM_LEAST, RAM_UNIT, SLICE, TASK_LIMIT,
+    BREAKPOINT_LIMIT, CAPACITY_LIMIT, CONSOLE_LIMIT, COUNT_LIMIT, MODE_LIMIT, MUTEX_LIMIT,
+    POKE_LIMIT, PRIORITY_LIMIT, PROCESSOR_LIMIT, RAM_LEAST, RAM_UNIT, SEMAPHORE_LIMIT, SLICE,
+    TASK_LIMIT,
 };
 pub use mode::Mode;
 pub use mutex::{Mutex, Protocol};

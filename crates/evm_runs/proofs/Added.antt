@@ -13,6 +13,7 @@ use Rattle.evm_model.specs.Mutexes.{free_mutex, held_by}
 use Rattle.evm_model.specs.Pipes.{Pipe, raise}
 use Rattle.evm_model.specs.Ranks.{is_oob_ready}
 use Rattle.evm_model.specs.Settle.{is_oob}
+use Rattle.evm_model.specs.Semaphores.{add_semaphore}
 use Rattle.evm_model.specs.State.{Parts, new_task}
 use Rattle.evm_model.specs.Tasks.{restamp, set_policy, set_slice}
 use Rattle.evm_model.specs.Waits.{wake}
@@ -54,7 +55,7 @@ spawned-are entry value = record { count = length-set (replicate 32 0) 10 value 
 
 module _ (a : Actor) (old : Parts) where
   does_registers : (i j : ℕ) (k x : Parts) → Does a old i j k x → AllHaveRegisters k.harts → AllHaveRegisters x.harts
-  unfolding restamp set_policy set_slice wake tick add_task add_mutex
+  unfolding restamp set_policy set_slice wake tick add_task add_mutex add_semaphore
   does_registers _ _ _ _ (hart t r value f k own same there) h = change-registers t r value f k.harts same h
   does_registers _ _ _ _ (spends t x k runs there on) h = of_spend (λ y. AllHaveRegisters y.harts) t x.slice k h h
   does_registers _ _ _ _ (wakes t l k on) h = change-registers t A0 0 (set_register A0 0) k.harts (λ x. refl) h
@@ -123,7 +124,7 @@ both false b h = h
 
 module _ (a : Actor) (old : Parts) where
   does_add : (i j : ℕ) (k x : Parts) → Does a old i j k x → Added old k → Added old x
-  unfolding restamp set_policy set_slice wake tick add_task add_mutex
+  unfolding restamp set_policy set_slice wake tick add_task add_mutex add_semaphore
   does_add _ _ _ _ (hart t r value f k own same there) p =
       added_on old k _ refl (length-change f k.harts t) (λ more h. record {
         task = λ cpu stamp new. new;
@@ -182,7 +183,7 @@ made_one old k m f same p = elim p [
 
 module _ (a : Actor) (old : Parts) where
   does_make : (i j : ℕ) (k x : Parts) → Does a old i j k x → Made old.mutexes k.mutexes → Made old.mutexes x.mutexes
-  unfolding restamp set_policy set_slice wake tick add_task add_mutex
+  unfolding restamp set_policy set_slice wake tick add_task add_mutex add_semaphore
   does_make _ _ _ _ (spends t x k runs there on) p = of_spend (λ y. Made old.mutexes y.mutexes) t x.slice k p p
   does_make _ _ _ _ (inherits t u m k own same its first) p = made_one old.mutexes k.mutexes m (held_by u 1) same p
   does_make _ _ _ _ (holds i t m f k own same held) p = made_one old.mutexes k.mutexes m f same p
@@ -202,7 +203,7 @@ module _ (a : Actor) (old : Parts) where
   walk_made _ _ _ (next m n s u i j k x few g d w) = does_make i j k x d (walk_made m s k w)
 
   does_mutexes : (i j : ℕ) (k x : Parts) → a.task ≡ None → Does a old i j k x → x.mutexes ≡ k.mutexes
-  unfolding restamp set_policy set_slice wake tick add_task add_mutex
+  unfolding restamp set_policy set_slice wake tick add_task add_mutex add_semaphore
   does_mutexes _ _ _ _ none (spends t x k runs there on) = of_spend (λ y. y.mutexes ≡ k.mutexes) t x.slice k refl refl
   does_mutexes _ _ _ _ none (inherits t u m k own same its first) = let no : None ≡ Some t = sym none ∙ own in cc
   does_mutexes _ _ _ _ none (holds i t m f k own same held) = let no : None ≡ Some t = sym none ∙ own in cc
@@ -216,7 +217,7 @@ module _ (a : Actor) (old : Parts) where
 
   -- ---- the console
   does_type : (i j : ℕ) (k x : Parts) → Does a old i j k x → Typed old k → Typed old x
-  unfolding restamp set_policy set_slice wake tick add_task add_mutex
+  unfolding restamp set_policy set_slice wake tick add_task add_mutex add_semaphore
   does_type _ _ _ _ (spends t x k runs there on) p = of_spend (Typed old) t x.slice k p p
   does_type _ _ _ _ (types t byte k own fresh) p = inr (byte, ap (λ (console : List ℕ). last_bytes (console ++ byte ∷ [])) fresh.console)
   does_type _ _ _ _ _ p = p
@@ -236,7 +237,7 @@ quietly_told f p l may (inr told) q = let no : true ≡ false = sym told.1 ∙ q
 
 module _ (a : Actor) (old : Parts) (d : ℕ) (other : d ≡ a.cpu → ⊥) where
   does_processors : (i j : ℕ) (k x : Parts) → Does a old i j k x → slice_get x.processors d ≡ slice_get k.processors d
-  unfolding restamp set_policy set_slice wake tick add_task add_mutex
+  unfolding restamp set_policy set_slice wake tick add_task add_mutex add_semaphore
   does_processors _ _ _ _ (spends t x k runs there on) = of_spend (λ y. slice_get y.processors d ≡ slice_get k.processors d) t x.slice k refl refl
   does_processors _ _ _ _ (marks f k x) = change-elsewhere f k.processors a.cpu d other
   does_processors _ _ _ _ (picks f k x) = change-elsewhere f k.processors a.cpu d other
@@ -248,7 +249,7 @@ module _ (a : Actor) (old : Parts) (d : ℕ) (other : d ≡ a.cpu → ⊥) where
 
   module _ (quiet : (e l : ℕ) → a.may e l ≡ false) where
     does_pipes : (i j : ℕ) (k x : Parts) → Does a old i j k x → slice_get x.pipes d ≡ slice_get k.pipes d
-    unfolding restamp set_policy set_slice wake tick add_task add_mutex
+    unfolding restamp set_policy set_slice wake tick add_task add_mutex add_semaphore
     does_pipes _ _ _ _ (spends t x k runs there on) = of_spend (λ y. slice_get y.pipes d ≡ slice_get k.pipes d) t x.slice k refl refl
     does_pipes _ _ _ _ (moves i f k x) = change-elsewhere f k.pipes a.cpu d other
     does_pipes _ _ _ _ (tells l f k small how) = slice_get-each f k.pipes d ∙ told_none (f d) (slice_get k.pipes d) (λ p. quietly_told (f d p) p l (a.may d l) (how d p) (quiet d l))

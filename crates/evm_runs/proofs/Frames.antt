@@ -11,6 +11,7 @@ use Rattle.evm_model.specs.Locks.{add_mutex}
 use Rattle.evm_model.specs.Mutexes.{owner, owner_of, owns_any, held_by}
 use Rattle.evm_model.specs.Ranks.{is_in_ready, is_oob_ready}
 use Rattle.evm_model.specs.Settle.{current}
+use Rattle.evm_model.specs.Semaphores.{add_semaphore}
 use Rattle.evm_model.specs.State.{Parts, new_task, on_mutex}
 use Rattle.evm_model.specs.Tasks.{restamp, set_policy, is_round_robin}
 use Rattle.evm_model.specs.Waits.{woken, wake}
@@ -231,7 +232,7 @@ module _ (a : Actor) (old : Parts) (acts : (g : ℕ) → a.task ≡ Some g → c
 
   -- ---- each primitive
   does_frame : (i j : ℕ) (k x : Parts) → old.stamps ≤ k.stamps → Does a old i j k x → Frame a old k → Frame a old x
-  unfolding restamp set_policy tick add_task add_mutex
+  unfolding restamp set_policy tick add_task add_mutex add_semaphore
   does_frame _ _ _ _ later (hart t r value g k own x there) f = frame_own t k _ own (λ u o. refl) (λ u o. change-elsewhere g k.harts t u o) refl f
   does_frame _ _ _ _ later (task t g k own x there) f = frame_own t k _ own (λ u o. change-elsewhere g k.tasks t u o) (λ u o. refl) refl f
   does_frame _ _ _ _ later (stamps t k own there) f = frame_own t k _ own (λ u o. change-elsewhere _ k.tasks t u o) (λ u o. refl) refl f
