@@ -4,31 +4,18 @@ ghost use Rattle.std.specs.Prelude.{◌≡◌, ◌<◌, ◌≤◌, ◌+◌, ◌^
 ghost use Rattle.evm_exec.specs.declared.hart.Hart.{Hart};
 ghost use Rattle.evm_model.specs.Bounds.{HeldUpTo};
 ghost use Rattle.evm_model.specs.Calls.{perform, return_weak, answered, finish_call, ask_oob, call_on, call_stage, call};
-ghost use Rattle.evm_inband.specs.evm_task.Asks.{AskedBy};
+ghost use Rattle.evm_parts.specs.evm_task.Asks.{AskedBy};
 
 use crate::clock::clock;
-use crate::lock::lock;
-use crate::set_mode::set_mode;
-use crate::set_sched::set_sched;
-use crate::stall::stall;
-use crate::state_bits::state_bits;
-use crate::switch_in_band::switch_in_band;
-use crate::switch_oob::switch_oob;
-use crate::try_lock::try_lock;
-use crate::unlock::unlock;
-use crate::yield_oob::yield_oob;
-use evm_inband::attach::attach;
-use evm_inband::detach::detach;
-use evm_inband::exit::exit;
-use evm_inband::new_mutex::new_mutex;
-use evm_inband::putc::putc;
-use evm_inband::refused::refused;
-use evm_inband::set_line::set_line;
-use evm_inband::spawn::spawn;
-use evm_inband::wait_line::wait_line;
-use evm_inband::yield_now::yield_now;
-use evm_inband::{Asked, Parts};
+use crate::console::putc;
+use crate::lines::{set_line, wait_line};
+use crate::mutexes::{lock, new_mutex, try_lock, unlock};
+use crate::policies::{attach, detach, set_mode, set_sched};
+use crate::refused::refused;
+use crate::stages::{stall, state_bits, switch_in_band, switch_oob};
+use crate::tasks::{exit, spawn, yield_now, yield_oob};
 use evm_model::{Call, Errno, Outcome, Stage};
+use evm_parts::{Asked, Parts};
 
 // What a call does.
 fn perform(parts: &mut Parts, call: Call, asked: Asked, c: u8, t: u8) -> Outcome

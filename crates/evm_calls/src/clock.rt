@@ -1,8 +1,8 @@
 ghost use Rattle.std.specs.Prelude.{◌≡◌};
 ghost use Rattle.evm_model.specs.OobCalls.{clock};
 
-use evm_inband::Parts;
 use evm_model::Outcome;
+use evm_parts::Parts;
 
 /// Call 53, of either stage: answers how many ticks there were.
 #[tactic(auto, unfolding(evm_model::specs::OobCalls::clock))]

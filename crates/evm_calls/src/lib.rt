@@ -1,15 +1,13 @@
-//! The calls of the out-of-band kernel and those of either stage, a module each, and the ECALL.
+//! The calls of both kernels: what a task asks for by an ECALL. Each kind of object has a module; a call's number and its
+//! stage are those of `Call`. And what the calls share: how one is refused.
 #![tactic(auto)]
 
 pub mod call;
 pub mod clock;
-pub mod lock;
-pub mod set_mode;
-pub mod set_sched;
-pub mod stall;
-pub mod state_bits;
-pub mod switch_in_band;
-pub mod switch_oob;
-pub mod try_lock;
-pub mod unlock;
-pub mod yield_oob;
+pub mod console;
+pub mod lines;
+pub mod mutexes;
+pub mod policies;
+pub mod refused;
+pub mod stages;
+pub mod tasks;

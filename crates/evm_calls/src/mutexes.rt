@@ -1,0 +1,185 @@
+//! Mutexes.
+
+ghost use Rattle.std.specs.Prelude.{◌≡◌, ◌<◌, ◌≤◌, ◌+◌, ◌^◌};
+ghost use Rattle.evm_model.specs.Bounds.{HeldUpTo};
+ghost use Rattle.evm_model.specs.Locks.{new_mutex, mutex_of, with_ceiling, lock, lock_again, lock_other, try_lock, unlock, unlock_once};
+ghost use Rattle.evm_model.specs.Mutexes.{free_mutex};
+
+use crate::refused::refused;
+use evm_model::{Errno, MUTEX_LIMIT, Mutex, Outcome, PRIORITY_LIMIT, Protocol, Stage, Wait};
+use evm_parts::Parts;
+
+fn free_mutex(recursive: bool, protocol: Protocol) -> Mutex
+    ensures { result ≡ free_mutex recursive protocol }
+{
+    Mutex {
+        recursive,
+        protocol,
+        owner: None,
+        count: 0,
+    }
+}
+
+// A ceiling is a priority from 1 on.
+fn with_ceiling(recursive: bool, priority: u64) -> Option<Mutex>
+    ensures { result ≡ with_ceiling recursive priority }
+{
+    if priority < 1 || priority > u64::from(PRIORITY_LIMIT) {
+        return None;
+    }
+    Some(free_mutex(recursive, Protocol::Ceiling(priority as u8)))
+}
+
+// The mutex of a kind: 1 and 3 are recursive, 2 and 3 have a ceiling.
+fn mutex_of(kind: u64, priority: u64) -> Option<Mutex>
+    ensures { result ≡ mutex_of kind priority }
+{
+    match kind {
+        0 => Some(free_mutex(false, Protocol::Inheritance)),
+        1 => Some(free_mutex(true, Protocol::Inheritance)),
+        2 => with_ceiling(false, priority),
+        3 => with_ceiling(true, priority),
+        _ => None,
+    }
+}
+
+/// Call 9: a new mutex; answers its number. Of kind 0 and 1 it ranks its owner as each task that waits for it, of 2
+/// and 3 as its ceiling, a priority of 1 to 99; of 1 and 3 its owner may lock it again. -22 where there is no such kind
+/// or ceiling, else -12 where there are 32 mutexes.
+#[tactic(auto, unfolding(evm_model::specs::Locks::new_mutex))]
+pub fn new_mutex(parts: &mut Parts, kind: u64, priority: u64) -> Outcome
+    ensures row { (parts.new, result) ≡ new_mutex kind priority parts.old }
+    ensures stamps { parts.new.stamps ≡ parts.old.stamps }
+{
+    let Some(mutex) = mutex_of(kind, priority) else {
+        return refused(Errno::Invalid);
+    };
+    let number = parts.mutexes.count();
+    if number as usize >= MUTEX_LIMIT {
+        return refused(Errno::NoNumber);
+    }
+    parts.add_mutex(mutex);
+    Outcome::Answers(u64::from(number))
+}
+
+// The task has a mutex of its own once more, where that is recursive.
+#[tactic(auto, unfolding(evm_model::specs::Locks::lock_again))]
+fn lock_again(parts: &mut Parts, t: u8, m: u8, mutex: Mutex) -> Outcome
+    requires { mutex.count ≤ 2 ^ 62 }
+    ensures row { (parts.new, result) ≡ lock_again t m mutex parts.old }
+    ensures stamps { parts.new.stamps ≡ parts.old.stamps }
+{
+    if !mutex.recursive {
+        return refused(Errno::Deadlock);
+    }
+    parts.hold_mutex(t, m, mutex.count + 1);
+    Outcome::Answers(0)
+}
+
+// The task waits for a mutex of task u's.
+#[tactic(auto, unfolding(evm_model::specs::Locks::lock_other))]
+fn lock_other(parts: &mut Parts, c: u8, t: u8, m: u8, u: u8, deadline: u64) -> Outcome
+    requires stamps { parts.old.stamps < 2 ^ 62 }
+    ensures row { (parts.new, result) ≡ lock_other c t m u deadline parts.old }
+    ensures stamps { parts.new.stamps ≤ parts.old.stamps + 1 }
+{
+    if parts.is_stalled(c, Stage::OutOfBand) {
+        return refused(Errno::NotPermitted);
+    }
+    if parts.meets(t, u) {
+        return refused(Errno::Deadlock);
+    }
+    if deadline != 0 {
+        return refused(Errno::Invalid);
+    }
+    parts.begin_wait(t, Wait::Lock(m), deadline);
+    Outcome::Waits
+}
+
+/// Call 36: the task has a mutex, or waits until it has it; answers 0. -22 where there is no such mutex. Where the
+/// task owns it, it has it once more, or -35 if it isn't recursive. Where another one does, -1 while out-of-band is
+/// stalled, else -35 where that one waits for the task by some chain, else -22 for a deadline: there is none yet.
+#[tactic(auto, unfolding(evm_model::specs::Locks::lock))]
+pub fn lock(parts: &mut Parts, c: u8, t: u8, mutex: u64, deadline: u64) -> Outcome
+    requires stamps { parts.old.stamps < 2 ^ 62 }
+    requires held { HeldUpTo (2 ^ 62) parts.old.mutexes }
+    ensures row { (parts.new, result) ≡ lock c t mutex deadline parts.old }
+    ensures stamps { parts.new.stamps ≤ parts.old.stamps + 1 }
+{
+    if mutex >= u64::from(parts.mutexes.count()) {
+        return refused(Errno::Invalid);
+    }
+    let m = mutex as u8;
+    let Some(mutex) = parts.mutexes.get(m) else {
+        return refused(Errno::Invalid);
+    };
+    match mutex.owner {
+        None => {
+            parts.take_mutex(t, m);
+            Outcome::Answers(0)
+        }
+        Some(u) if u == t => lock_again(parts, t, m, mutex),
+        Some(u) => lock_other(parts, c, t, m, u, deadline),
+    }
+}
+
+/// Call 37: the task has a mutex, if it need not wait for it; answers 0. -22 where there is no such mutex, -16 where
+/// another task owns it. Where the task owns it, it has it once more, or -35 if it isn't recursive.
+#[tactic(auto, unfolding(evm_model::specs::Locks::try_lock))]
+pub fn try_lock(parts: &mut Parts, t: u8, mutex: u64) -> Outcome
+    requires { HeldUpTo (2 ^ 62) parts.old.mutexes }
+    ensures row { (parts.new, result) ≡ try_lock t mutex parts.old }
+    ensures stamps { parts.new.stamps ≡ parts.old.stamps }
+{
+    if mutex >= u64::from(parts.mutexes.count()) {
+        return refused(Errno::Invalid);
+    }
+    let m = mutex as u8;
+    let Some(mutex) = parts.mutexes.get(m) else {
+        return refused(Errno::Invalid);
+    };
+    match mutex.owner {
+        None => {
+            parts.take_mutex(t, m);
+            Outcome::Answers(0)
+        }
+        Some(u) if u == t => lock_again(parts, t, m, mutex),
+        Some(_) => refused(Errno::Busy),
+    }
+}
+
+// The task has its mutex once less; the last time it passes on.
+#[tactic(auto, unfolding(evm_model::specs::Locks::unlock_once))]
+fn unlock_once(parts: &mut Parts, t: u8, m: u8, mutex: Mutex)
+    requires stamps { parts.old.stamps < 2 ^ 62 }
+    ensures row { parts.new ≡ unlock_once t m mutex parts.old }
+    ensures stamps { parts.new.stamps ≤ parts.old.stamps + 1 }
+{
+    if mutex.count <= 1 {
+        parts.pass_on(m);
+    } else {
+        parts.hold_mutex(t, m, mutex.count - 1);
+    }
+}
+
+/// Call 38: the task gives a mutex back, once for each time that it locked it; answers 0. The last time the first of
+/// the tasks that wait for it has it. -22 where there is no such mutex, else -1 where the task doesn't own it.
+#[tactic(auto, unfolding(evm_model::specs::Locks::unlock))]
+pub fn unlock(parts: &mut Parts, t: u8, mutex: u64) -> Outcome
+    requires stamps { parts.old.stamps < 2 ^ 62 }
+    ensures row { (parts.new, result) ≡ unlock t mutex parts.old }
+    ensures stamps { parts.new.stamps ≤ parts.old.stamps + 1 }
+{
+    if u64::from(parts.mutexes.count()) <= mutex {
+        return refused(Errno::Invalid);
+    }
+    let m = mutex as u8;
+    let Some(mutex) = parts.mutexes.get(m) else {
+        return refused(Errno::Invalid);
+    };
+    if !parts.mutexes.is_owner(m, t) {
+        return refused(Errno::NotPermitted);
+    }
+    unlock_once(parts, t, m, mutex);
+    Outcome::Answers(0)
+}

@@ -1,0 +1,109 @@
+//! The class and the priority of a task, and its mode bits.
+
+ghost use Rattle.std.specs.Prelude.{◌≡◌, ◌≤◌, IfSome};
+ghost use Rattle.evm_model.specs.InBandCalls.{attach, detach};
+ghost use Rattle.evm_model.specs.OobCalls.{set_sched, set_mode};
+ghost use Rattle.evm_model.specs.Policies.{class_of, least_priority, policy_of};
+
+use crate::refused::refused;
+use evm_model::{Class, Errno, MODE_LIMIT, Outcome, PRIORITY_LIMIT};
+use evm_parts::Parts;
+
+fn class_of(number: u64) -> Option<Class>
+    ensures { result ≡ class_of number }
+{
+    match number {
+        1 => Some(Class::Fifo),
+        2 => Some(Class::RoundRobin),
+        3 => Some(Class::Weak),
+        _ => None,
+    }
+}
+
+fn least_priority(class: Class) -> u64
+    ensures { result ≡ least_priority class }
+{
+    match class {
+        Class::Weak => 0,
+        _ => 1,
+    }
+}
+
+/// The class of a number, where it has the priority: 1 first in first out, 2 round robin, of 1 to 99, and 3 weak, of 0
+/// to 99.
+pub fn policy_of(class: u64, priority: u64) -> Option<Class>
+    ensures row { result ≡ policy_of class priority }
+    ensures range { IfSome result (λ _. priority ≤ PRIORITY_LIMIT) }
+{
+    let class = class_of(class)?;
+    if priority < least_priority(class) || priority > u64::from(PRIORITY_LIMIT) {
+        return None;
+    }
+    Some(class)
+}
+
+/// Call 7: the task has a class and a priority; answers 0. -22 where there is no such class or it has no such
+/// priority, else -16 where the task has a class.
+#[tactic(auto, unfolding(evm_model::specs::InBandCalls::attach))]
+pub fn attach(parts: &mut Parts, t: u8, class: u64, priority: u64) -> Outcome
+    ensures row { (parts.new, result) ≡ attach t class priority parts.old }
+    ensures stamps { parts.new.stamps ≡ parts.old.stamps }
+{
+    let Some(wanted) = policy_of(class, priority) else {
+        return refused(Errno::Invalid);
+    };
+    if parts.is_attached(t) {
+        return refused(Errno::Busy);
+    }
+    parts.set_policy(t, wanted, priority as u8);
+    Outcome::Answers(0)
+}
+
+/// Call 8: the task has no class any more, no priority and no mode bits; answers 0. -1 where it has none, else -16
+/// while it owns a mutex.
+#[tactic(auto, unfolding(evm_model::specs::InBandCalls::detach))]
+pub fn detach(parts: &mut Parts, t: u8) -> Outcome
+    ensures row { (parts.new, result) ≡ detach t parts.old }
+    ensures stamps { parts.new.stamps ≡ parts.old.stamps }
+{
+    if !parts.is_attached(t) {
+        return refused(Errno::NotPermitted);
+    }
+    if parts.owns_any(t) {
+        return refused(Errno::Busy);
+    }
+    parts.clear_policy(t);
+    Outcome::Answers(0)
+}
+
+/// Call 34: a task, of whatever processor, has another class and priority, and a whole slice; answers 0. -3 where
+/// there is no such task, or it has ended or has no class, else -22 where there is no such class or it has no such
+/// priority.
+#[tactic(auto, unfolding(evm_model::specs::OobCalls::set_sched))]
+pub fn set_sched(parts: &mut Parts, task: u64, class: u64, priority: u64) -> Outcome
+    ensures row { (parts.new, result) ≡ set_sched task class priority parts.old }
+    ensures stamps { parts.new.stamps ≡ parts.old.stamps }
+{
+    if task >= u64::from(parts.tasks.count()) || !parts.tasks.is_scheduled(task as u8) {
+        return refused(Errno::NoSuchTask);
+    }
+    let Some(class) = policy_of(class, priority) else {
+        return refused(Errno::Invalid);
+    };
+    parts.set_policy(task as u8, class, priority as u8);
+    Outcome::Answers(0)
+}
+
+/// Call 35: the task has these mode bits, 1 and 2 and their sum 3; answers the old ones. -22 for more.
+#[tactic(auto, unfolding(evm_model::specs::OobCalls::set_mode))]
+pub fn set_mode(parts: &mut Parts, t: u8, bits: u64) -> Outcome
+    ensures row { (parts.new, result) ≡ set_mode t bits parts.old }
+    ensures stamps { parts.new.stamps ≡ parts.old.stamps }
+{
+    if bits > u64::from(MODE_LIMIT) {
+        return refused(Errno::Invalid);
+    }
+    let old = parts.tasks.mode_bits(t);
+    parts.set_mode_bits(t, bits as u8);
+    Outcome::Answers(u64::from(old))
+}

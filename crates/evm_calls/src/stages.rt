@@ -1,0 +1,62 @@
+//! The stages of a processor, and the stage of a task.
+
+ghost use Rattle.std.specs.Prelude.{◌≡◌, ◌<◌, ◌≤◌, ◌+◌, ◌^◌};
+ghost use Rattle.evm_model.specs.OobCalls.{stall, switch_oob, switch_in_band, state_bits};
+ghost use Rattle.evm_model.specs.Stages.{bit};
+
+use crate::refused::refused;
+use evm_model::{Errno, Outcome, Stage};
+use evm_parts::Parts;
+
+/// Calls 4 and 5, 51 and 52: a stage of the processor, in-band or out-of-band, is stalled, or not; answers the old
+/// bit.
+#[tactic(auto, unfolding(evm_model::specs::OobCalls::stall))]
+pub fn stall(parts: &mut Parts, stage: Stage, stalled: bool, c: u8) -> Outcome
+    ensures row { (parts.new, result) ≡ stall stage stalled c parts.old }
+    ensures stamps { parts.new.stamps ≡ parts.old.stamps }
+{
+    let old = parts.is_stalled(c, stage);
+    parts.set_stall(c, stage, stalled);
+    Outcome::Answers(u64::from(old))
+}
+
+/// Call 32: the task is out-of-band; answers 0. That it goes there is no work of the call: it is promoted for any
+/// out-of-band call.
+#[tactic(auto, unfolding(evm_model::specs::OobCalls::switch_oob))]
+pub fn switch_oob(parts: &Parts) -> Outcome
+    ensures { (parts.now, result) ≡ switch_oob parts.now }
+{
+    Outcome::Answers(0)
+}
+
+/// Call 33: the task goes in-band; answers 0, or -1 while out-of-band is stalled.
+#[tactic(auto, unfolding(evm_model::specs::OobCalls::switch_in_band))]
+pub fn switch_in_band(parts: &mut Parts, c: u8, t: u8) -> Outcome
+    requires stamps { parts.old.stamps < 2 ^ 62 }
+    ensures row { (parts.new, result) ≡ switch_in_band c t parts.old }
+    ensures stamps { parts.new.stamps ≤ parts.old.stamps + 1 }
+{
+    if parts.is_stalled(c, Stage::OutOfBand) {
+        return refused(Errno::NotPermitted);
+    }
+    parts.demote(c, t);
+    Outcome::Answers(0)
+}
+
+fn bit(b: bool) -> u64
+    ensures { result ≡ bit b }
+{
+    u64::from(b)
+}
+
+/// Call 54, of either stage: answers the sum of 1 where the task is out-of-band, 2 where it has a class, and 4 where
+/// the stage that it is on is stalled.
+#[tactic(auto, unfolding(evm_model::specs::OobCalls::state_bits))]
+pub fn state_bits(parts: &Parts, c: u8, t: u8) -> Outcome
+    ensures { (parts.now, result) ≡ state_bits c t parts.now }
+{
+    let oob = parts.tasks.is_oob(Some(t));
+    let attached = parts.is_attached(t);
+    let stalled = parts.is_stalled(c, parts.stage_at(t));
+    Outcome::Answers(bit(oob) + 2 * bit(attached) + 4 * bit(stalled))
+}

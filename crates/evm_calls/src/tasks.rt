@@ -1,0 +1,75 @@
+//! Tasks that begin, end, and go behind others.
+
+ghost use Rattle.std.specs.Prelude.{◌≡◌, ◌<◌, ◌≤◌, ◌+◌, ◌^◌, length};
+ghost use Rattle.evm_model.specs.InBandCalls.{exit, yield_now, is_bad_entry, spawn};
+ghost use Rattle.evm_model.specs.OobCalls.{yield_oob};
+
+use crate::refused::refused;
+use evm_model::{Errno, Outcome, Stage, TASK_LIMIT, TaskState};
+use evm_parts::Parts;
+use evm_ram::BASE;
+
+/// Call 0: the task ends. Its mutexes pass on, and the stall of its processor's in-band stage ends with it.
+#[tactic(auto, unfolding(evm_model::specs::InBandCalls::exit))]
+pub fn exit(parts: &mut Parts, c: u8, t: u8) -> Outcome
+    requires stamps { parts.old.stamps < 2 ^ 62 }
+    ensures row { (parts.new, result) ≡ exit c t parts.old }
+    ensures stamps { parts.new.stamps ≤ parts.old.stamps + 32 }
+{
+    parts.end_task(c, t, TaskState::Exit);
+    Outcome::Leaves
+}
+
+/// Call 2: the task goes behind the others that are ready in-band; answers 0, or -1 while in-band is stalled.
+#[tactic(auto, unfolding(evm_model::specs::InBandCalls::yield_now))]
+pub fn yield_now(parts: &mut Parts, c: u8, t: u8) -> Outcome
+    requires stamps { parts.old.stamps < 2 ^ 62 }
+    ensures row { (parts.new, result) ≡ yield_now c t parts.old }
+    ensures stamps { parts.new.stamps ≤ parts.old.stamps + 1 }
+{
+    if parts.is_stalled(c, Stage::InBand) {
+        return refused(Errno::NotPermitted);
+    }
+    parts.restamp(t);
+    parts.leave_in_band(c);
+    Outcome::Answers(0)
+}
+
+// An entry that is no multiple of 4 in RAM of so many bytes.
+fn is_bad_entry(ram: u64, entry: u64) -> bool
+    ensures { result ≡ is_bad_entry ram entry }
+{
+    entry % 4 != 0 || entry < BASE || entry - BASE >= ram
+}
+
+/// Call 3: a new task of a processor, ready in-band, whose pc is the entry and whose a0 is the value; answers its
+/// number. -22 where the entry is no multiple of 4 in RAM or there is no such processor, else -12 where there are
+/// 64 tasks.
+#[tactic(auto, unfolding(evm_model::specs::InBandCalls::spawn))]
+pub fn spawn(parts: &mut Parts, entry: u64, value: u64, cpu: u64) -> Outcome
+    requires stamps { parts.old.stamps < 2 ^ 62 }
+    requires harts { length parts.old.harts ≡ length parts.old.tasks }
+    ensures row { (parts.new, result) ≡ spawn entry value cpu parts.old }
+    ensures stamps { parts.new.stamps ≤ parts.old.stamps + 1 }
+{
+    if is_bad_entry(parts.profile.ram, entry) || cpu >= u64::from(parts.processor_count()) {
+        return refused(Errno::Invalid);
+    }
+    let number = parts.tasks.count();
+    if number as usize >= TASK_LIMIT {
+        return refused(Errno::NoNumber);
+    }
+    parts.add_task(entry, value, cpu as u8);
+    Outcome::Answers(u64::from(number))
+}
+
+/// Call 50: the task goes behind the others of its rank that are ready out-of-band; answers 0.
+#[tactic(auto, unfolding(evm_model::specs::OobCalls::yield_oob))]
+pub fn yield_oob(parts: &mut Parts, t: u8) -> Outcome
+    requires stamps { parts.old.stamps < 2 ^ 62 }
+    ensures row { (parts.new, result) ≡ yield_oob t parts.old }
+    ensures stamps { parts.new.stamps ≤ parts.old.stamps + 1 }
+{
+    parts.restamp(t);
+    Outcome::Answers(0)
+}
