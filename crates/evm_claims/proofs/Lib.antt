@@ -1,4 +1,5 @@
-pub mod Given
 pub mod Leads
 pub mod Ranking
+pub mod Reached
 pub mod Settled
+pub mod Stepped

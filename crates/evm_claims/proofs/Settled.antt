@@ -1,33 +1,24 @@
 -- The rules of a processor, after any events.
-use Rattle.std.proofs.Common.{◌≡◌, ℕ, ◌%◌, List, [], true, false, Option, Some, None, refl, sym, ◌∙◌, ◌⊎◌, inl, inr}
+use Rattle.std.proofs.Common.{◌≡◌, ℕ, List, [], true, false, Option, Some, None, refl, sym, ◌∙◌}
 use Rattle.std.specs.Prelude.{slice_get}
 use Rattle.evm_lines.specs.Lines.{has_line}
-use Rattle.evm_model.specs.Good.{GoodState, IsSettled}
-use Rattle.evm_model.specs.Load.{start_loaded}
+use Rattle.evm_model.specs.Good.{IsSettled}
 use Rattle.evm_model.specs.Pipes.{Pipe}
 use Rattle.evm_model.specs.Ranks.{best}
-use Rattle.evm_model.specs.Replay.{bad_boot, start, replay}
 use Rattle.evm_model.specs.Settle.{is_oob}
 use Rattle.evm_model.specs.State.{State, Parts}
 use Rattle.evm_model.specs.declared.boot.Boot.{Boot}
-use Rattle.evm_model.specs.Event.{Event}
 use Rattle.evm_model.specs.declared.mutex.Mutex.{Mutex}
 use Rattle.evm_model.specs.declared.processor.Processor.{Processor}
 use Rattle.evm_model.specs.declared.task.Task.{Task}
 use Rattle.evm_rules.proofs.Firsts.{best-is_oob}
 use Rattle.evm_rules.proofs.Private.{IsClear}
-use Rattle.evm_rules.proofs.States.{GoodState-replay, GoodState-start, GoodState-loaded}
+use Rattle.evm_claims.specs.Reached.{Reached}
+use Rattle.evm_claims.proofs.Reached.{good}
 
-abbrev pub Follows : Boot → (ℕ → ℕ) → ℕ → List Event → State → Type 0
-Follows boot byte entry events s = (s ≡ replay (start boot) events) ⊎ ((entry % 4 ≡ 0) × (s ≡ replay (start_loaded byte entry boot) events))
-
-pub follows-good : (boot : Boot) (byte : ℕ → ℕ) (entry : ℕ) (events : List Event) (s : State) → bad_boot boot ≡ false → Follows boot byte entry events s → GoodState s
-follows-good boot byte entry events s fits (inl e) = rw e (GoodState-replay (start boot) events (GoodState-start boot fits))
-follows-good boot byte entry events s fits (inr e) = rw e.1 (GoodState-replay (start_loaded byte entry boot) events (GoodState-loaded byte entry boot fits e.0))
-
-pub settled : (boot : Boot) (byte : ℕ → ℕ) (entry : ℕ) (events : List Event) (s : State) (c : ℕ) (pipe : Pipe) (p : Processor) → bad_boot boot ≡ false → Follows boot byte entry events s
+pub settled : (boot : Boot) (s : State) (c : ℕ) (pipe : Pipe) (p : Processor) → Reached boot s
     → slice_get s.board.parts.pipes c ≡ Some pipe → slice_get s.board.parts.processors c ≡ Some p → IsSettled c pipe p s.board.parts.mutexes s.board.parts.tasks
-settled boot byte entry events s c pipe p fits from e f = (follows-good boot byte entry events s fits from).good.settled c pipe p e f
+settled boot s c pipe p reached e f = (good boot s reached).good.settled c pipe p e f
 
 -- where the current task isn't out-of-band none is ready there
 none-if : (c : ℕ) (pipe : Pipe) (p : Processor) (mutexes : List Mutex) (tasks : List Task) (o : Option ℕ) → best c mutexes tasks ≡ o → IsSettled c pipe p mutexes tasks → pipe.oob.stalled ≡ false → has_line pipe.wire 1 ≡ false → is_oob p.current tasks ≡ false → o ≡ None

@@ -1,1 +1,3 @@
 pub mod Raising
+pub mod Reached
+pub mod Steps

@@ -26,14 +26,11 @@ pub use parts::{
     the_best_task_is_first, the_least_refusal_is_told, words_and_instructions_are_inverse,
 };
 pub use rules::{
-    a_private_row_settles_nothing, a_processor_runs_its_best_task, a_stage_is_stalled_by_its_task,
+    a_current_task_is_ready_at_home, a_private_row_settles_nothing, a_processor_runs_its_best_task,
+    a_stage_is_stalled_by_its_task, each_pc_is_a_multiple_of_4, no_two_tasks_have_one_stamp,
     nothing_waits_in_an_open_log,
 };
 pub use safe_and_total::{
     a_machine_is_as_it_was_booted, counts_never_wrap, sizes_never_change, the_clock_is_its_ticks,
 };
-pub use steps::{
-    a_single_step_keeps_to_its_processor, a_single_step_leaves_other_mutexes,
-    a_single_step_leaves_other_tasks, a_step_adds_one_task, a_step_keeps_to_its_processor,
-    a_step_leaves_other_mutexes, a_step_leaves_other_tasks,
-};
+pub use steps::{a_single_step_changes_only, a_step_changes_only};

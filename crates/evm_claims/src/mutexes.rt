@@ -1,47 +1,40 @@
 //! Who owns a mutex, who waits for it, and how it ranks its owner: the rules that hold after every event, and how a mutex
 //! passes on.
-ghost use Rattle.std.specs.Prelude.{◌≡◌, ◌≢◌, ◌+◌, ◌%◌, ◌<◌, ◌≤◌, ◌⊎◌, ℕ, suc, List, false, Option, slice_get, length};
-ghost use Rattle.evm_model.specs.Load.{start_loaded};
+ghost use Rattle.std.specs.Prelude.{◌≡◌, ◌≢◌, ◌+◌, ◌<◌, ◌≤◌, ◌⊎◌, ℕ, suc, List, false, Option, slice_get, length};
 ghost use Rattle.evm_model.specs.Mutexes.{owner, waits_on, boosts};
 ghost use Rattle.evm_model.specs.Passing.{pass_on};
 ghost use Rattle.evm_model.specs.Ranks.{class_rank, own_rank, rank};
-ghost use Rattle.evm_model.specs.Replay.{bad_boot, start, replay};
 ghost use Rattle.evm_model.specs.State.{State, Parts};
 ghost use Rattle.evm_model.specs.Waits.{first_waiter};
 ghost use Rattle.evm_model.specs.declared.boot.Boot.{Boot};
-ghost use Rattle.evm_model.specs.Event.{Event};
 ghost use Rattle.evm_model.specs.declared.mutex.Mutex.{Mutex};
 ghost use Rattle.evm_model.specs.declared.mutex.Protocol.{Protocol};
 ghost use Rattle.evm_model.specs.declared.task.Task.{Task};
 ghost use Rattle.evm_model.specs.declared.task.TaskState.{TaskState};
 ghost use Rattle.evm_model.specs.declared.task.Wait.{Wait};
 ghost use Rattle.evm_ranks.specs.Boosts.{greatest, walk};
+ghost use Rattle.evm_claims.specs.Reached.{Reached};
 
 /// After every boot whose numbers are inside their limits, with an image loaded or none, and every list of events: a mutex
 /// for which a task waits is there, and another task owns it; each owner is a task that is there; and there are 32 mutexes
 /// at the most.
 pub fn each_waited_mutex_has_an_owner()
-    ensures waited { (boot : Boot) (byte : ℕ → ℕ) (entry : ℕ) (events : List Event) (s : State) (u m : ℕ) (task : Task) → bad_boot boot ≡ false →
-        (s ≡ replay (start boot) events) ⊎ ((entry % 4 ≡ 0) × (s ≡ replay (start_loaded byte entry boot) events)) →
+    ensures waited { (boot : Boot) (s : State) (u m : ℕ) (task : Task) → Reached boot s →
         slice_get s.board.parts.tasks u ≡ Option.Some task → task.state ≡ TaskState.Waits (Wait.Lock m) →
         (t : ℕ) × ((mutex : Mutex) × ((slice_get s.board.parts.mutexes m ≡ Option.Some mutex) × (mutex.owner ≡ Option.Some t)
         × (t < length s.board.parts.tasks) × (t ≢ u))) }
-    ensures owners { (boot : Boot) (byte : ℕ → ℕ) (entry : ℕ) (events : List Event) (s : State) (m t : ℕ) (mutex : Mutex) → bad_boot boot ≡ false →
-        (s ≡ replay (start boot) events) ⊎ ((entry % 4 ≡ 0) × (s ≡ replay (start_loaded byte entry boot) events)) →
+    ensures owners { (boot : Boot) (s : State) (m t : ℕ) (mutex : Mutex) → Reached boot s →
         slice_get s.board.parts.mutexes m ≡ Option.Some mutex → mutex.owner ≡ Option.Some t → t < length s.board.parts.tasks }
-    ensures few { (boot : Boot) (byte : ℕ → ℕ) (entry : ℕ) (events : List Event) (s : State) → bad_boot boot ≡ false →
-        (s ≡ replay (start boot) events) ⊎ ((entry % 4 ≡ 0) × (s ≡ replay (start_loaded byte entry boot) events)) →
+    ensures few { (boot : Boot) (s : State) → Reached boot s →
         length s.board.parts.mutexes ≤ 32 }
 {}
 
 /// Likewise: no chain of tasks, each of which waits for a mutex of the next, returns to its start, and none is longer than
 /// 64 links. A task waits for the owner of its mutex.
 pub fn no_chain_of_waiting_returns()
-    ensures returns { (boot : Boot) (byte : ℕ → ℕ) (entry : ℕ) (events : List Event) (s : State) (links t : ℕ) → bad_boot boot ≡ false →
-        (s ≡ replay (start boot) events) ⊎ ((entry % 4 ≡ 0) × (s ≡ replay (start_loaded byte entry boot) events)) →
+    ensures returns { (boot : Boot) (s : State) (links t : ℕ) → Reached boot s →
         walk (waits_on s.board.parts.mutexes s.board.parts.tasks) (suc links) t ≢ Option.Some t }
-    ensures ends { (boot : Boot) (byte : ℕ → ℕ) (entry : ℕ) (events : List Event) (s : State) (t : ℕ) → bad_boot boot ≡ false →
-        (s ≡ replay (start boot) events) ⊎ ((entry % 4 ≡ 0) × (s ≡ replay (start_loaded byte entry boot) events)) →
+    ensures ends { (boot : Boot) (s : State) (t : ℕ) → Reached boot s →
         walk (waits_on s.board.parts.mutexes s.board.parts.tasks) 65 t ≡ Option.None }
     ensures links { (mutexes : List Mutex) (tasks : List Task) (u t m : ℕ) (task : Task) (mutex : Mutex) →
         slice_get tasks u ≡ Option.Some task → task.state ≡ TaskState.Waits (Wait.Lock m) →
@@ -51,13 +44,11 @@ pub fn no_chain_of_waiting_returns()
 /// Likewise: the owner of a mutex of inheritance ranks no lower than each task that waits for it; and a task's rank is its
 /// own, or that of a task which it boosts so.
 pub fn an_owner_ranks_no_lower_than_its_waiters()
-    ensures inherits { (boot : Boot) (byte : ℕ → ℕ) (entry : ℕ) (events : List Event) (s : State) (u t m : ℕ) (task : Task) (mutex : Mutex) → bad_boot boot ≡ false →
-        (s ≡ replay (start boot) events) ⊎ ((entry % 4 ≡ 0) × (s ≡ replay (start_loaded byte entry boot) events)) →
+    ensures inherits { (boot : Boot) (s : State) (u t m : ℕ) (task : Task) (mutex : Mutex) → Reached boot s →
         slice_get s.board.parts.tasks u ≡ Option.Some task → task.state ≡ TaskState.Waits (Wait.Lock m) →
         slice_get s.board.parts.mutexes m ≡ Option.Some mutex → mutex.protocol ≡ Protocol.Inheritance → mutex.owner ≡ Option.Some t →
         rank s.board.parts.mutexes s.board.parts.tasks u ≤ rank s.board.parts.mutexes s.board.parts.tasks t }
-    ensures one_of_them { (boot : Boot) (byte : ℕ → ℕ) (entry : ℕ) (events : List Event) (s : State) (t : ℕ) → bad_boot boot ≡ false →
-        (s ≡ replay (start boot) events) ⊎ ((entry % 4 ≡ 0) × (s ≡ replay (start_loaded byte entry boot) events)) →
+    ensures one_of_them { (boot : Boot) (s : State) (t : ℕ) → Reached boot s →
         t < length s.board.parts.tasks →
         (rank s.board.parts.mutexes s.board.parts.tasks t ≡ own_rank s.board.parts.mutexes s.board.parts.tasks t)
         ⊎ ((u : ℕ) × ((u < length s.board.parts.tasks) × (boosts s.board.parts.mutexes s.board.parts.tasks u ≡ Option.Some t)
@@ -69,14 +60,12 @@ pub fn an_owner_ranks_no_lower_than_its_waiters()
 
 /// Likewise: another round of boosts changes no rank, and there are no other ranks that none changes.
 pub fn ranks_are_the_only_settled_ones()
-    ensures settled { (boot : Boot) (byte : ℕ → ℕ) (entry : ℕ) (events : List Event) (s : State) (t : ℕ) → bad_boot boot ≡ false →
-        (s ≡ replay (start boot) events) ⊎ ((entry % 4 ≡ 0) × (s ≡ replay (start_loaded byte entry boot) events)) →
+    ensures settled { (boot : Boot) (s : State) (t : ℕ) → Reached boot s →
         t < length s.board.parts.tasks →
         rank s.board.parts.mutexes s.board.parts.tasks t
         ≡ greatest (boosts s.board.parts.mutexes s.board.parts.tasks) (rank s.board.parts.mutexes s.board.parts.tasks) t
         (own_rank s.board.parts.mutexes s.board.parts.tasks t) (length s.board.parts.tasks) }
-    ensures only { (boot : Boot) (byte : ℕ → ℕ) (entry : ℕ) (events : List Event) (s : State) (other : ℕ → ℕ) (t : ℕ) → bad_boot boot ≡ false →
-        (s ≡ replay (start boot) events) ⊎ ((entry % 4 ≡ 0) × (s ≡ replay (start_loaded byte entry boot) events)) →
+    ensures only { (boot : Boot) (s : State) (other : ℕ → ℕ) (t : ℕ) → Reached boot s →
         ((u : ℕ) → u < length s.board.parts.tasks →
         other u ≡ greatest (boosts s.board.parts.mutexes s.board.parts.tasks) other u
         (own_rank s.board.parts.mutexes s.board.parts.tasks u) (length s.board.parts.tasks)) →

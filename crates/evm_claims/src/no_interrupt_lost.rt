@@ -1,8 +1,7 @@
 //! No interrupt is lost and none is played twice: for every list of events and every line of every processor.
 ghost use Rattle.std.specs.Prelude.{◌≡◌, ◌≢◌, ◌+◌, ◌<◌, ◌≤◌, ℕ, List, [], ◌∷◌, Option, if◌then◌else◌, slice_get, count_by};
 ghost use Rattle.evm_lines.specs.Lines.{has_line};
-ghost use Rattle.evm_model.specs.Load.{start_loaded};
-ghost use Rattle.evm_model.specs.Pipes.{Pipe, idle_pipe};
+ghost use Rattle.evm_model.specs.Pipes.{Pipe};
 ghost use Rattle.evm_model.specs.Replay.{start, replay};
 ghost use Rattle.evm_model.specs.State.{State};
 ghost use Rattle.evm_model.specs.declared.boot.Boot.{Boot};
@@ -10,21 +9,17 @@ ghost use Rattle.evm_model.specs.declared.counts.Counts.{Counts};
 ghost use Rattle.evm_model.specs.Event.{Event};
 ghost use Rattle.evm_model.specs.declared.event.Event.TheVariants as Event;
 ghost use Rattle.evm_claims.specs.Raising.{raises};
+ghost use Rattle.evm_claims.specs.Reached.{IsIdle, Ran};
 
 /// After every boot, with an image loaded or none, and every list of events, each line of each processor was raised
 /// as often as it merged on the wire, is there still, or was received; likewise from any first state whose journal
 /// is empty and whose pipes are idle.
 pub fn no_line_is_lost_on_its_wire()
-    ensures booted { (boot : Boot) (events : List Event) (c l : ℕ) (pipe : Pipe) (n : Counts) →
-        slice_get (replay (start boot) events).board.parts.pipes c ≡ Option.Some pipe →
+    ensures ran { (boot : Boot) (s : State) (c l : ℕ) (pipe : Pipe) (n : Counts) → Ran boot s →
+        slice_get s.board.parts.pipes c ≡ Option.Some pipe →
         slice_get pipe.counts l ≡ Option.Some n →
         n.raised ≡ n.merged + (if has_line pipe.wire l then 1 else 0) + n.received }
-    ensures loaded { (byte : ℕ → ℕ) (entry : ℕ) (boot : Boot) (events : List Event) (c l : ℕ) (pipe : Pipe) (n : Counts) →
-        slice_get (replay (start_loaded byte entry boot) events).board.parts.pipes c ≡ Option.Some pipe →
-        slice_get pipe.counts l ≡ Option.Some n →
-        n.raised ≡ n.merged + (if has_line pipe.wire l then 1 else 0) + n.received }
-    ensures fresh { (s : State) (events : List Event) (c l : ℕ) (pipe : Pipe) (n : Counts) → s.journal ≡ [] →
-        ((d : ℕ) (idle : Pipe) → slice_get s.board.parts.pipes d ≡ Option.Some idle → idle ≡ idle_pipe) →
+    ensures fresh { (s : State) (events : List Event) (c l : ℕ) (pipe : Pipe) (n : Counts) → IsIdle s →
         slice_get (replay s events).board.parts.pipes c ≡ Option.Some pipe → slice_get pipe.counts l ≡ Option.Some n →
         n.raised ≡ n.merged + (if has_line pipe.wire l then 1 else 0) + n.received }
     // worked: line 5 is raised twice, merges once, and is on the wire; then a Step receives it
@@ -44,28 +39,18 @@ pub fn no_line_is_lost_on_its_wire()
 /// processor as often as it merged in the stage's log, is there still, or was played; likewise from any first state
 /// whose journal is empty and whose pipes are idle.
 pub fn no_line_is_lost_in_a_stage()
-    ensures out_of_band { (boot : Boot) (events : List Event) (c l : ℕ) (pipe : Pipe) (n : Counts) →
-        slice_get (replay (start boot) events).board.parts.pipes c ≡ Option.Some pipe →
+    ensures out_of_band { (boot : Boot) (s : State) (c l : ℕ) (pipe : Pipe) (n : Counts) → Ran boot s →
+        slice_get s.board.parts.pipes c ≡ Option.Some pipe →
         slice_get pipe.counts l ≡ Option.Some n →
         n.oob.arrivals ≡ n.oob.merged + (if has_line pipe.oob.lines l then 1 else 0) + n.oob.played }
-    ensures in_band { (boot : Boot) (events : List Event) (c l : ℕ) (pipe : Pipe) (n : Counts) →
-        slice_get (replay (start boot) events).board.parts.pipes c ≡ Option.Some pipe →
+    ensures in_band { (boot : Boot) (s : State) (c l : ℕ) (pipe : Pipe) (n : Counts) → Ran boot s →
+        slice_get s.board.parts.pipes c ≡ Option.Some pipe →
         slice_get pipe.counts l ≡ Option.Some n →
         n.inband.arrivals ≡ n.inband.merged + (if has_line pipe.inband.lines l then 1 else 0) + n.inband.played }
-    ensures out_of_band_loaded { (byte : ℕ → ℕ) (entry : ℕ) (boot : Boot) (events : List Event) (c l : ℕ) (pipe : Pipe) (n : Counts) →
-        slice_get (replay (start_loaded byte entry boot) events).board.parts.pipes c ≡ Option.Some pipe →
-        slice_get pipe.counts l ≡ Option.Some n →
-        n.oob.arrivals ≡ n.oob.merged + (if has_line pipe.oob.lines l then 1 else 0) + n.oob.played }
-    ensures in_band_loaded { (byte : ℕ → ℕ) (entry : ℕ) (boot : Boot) (events : List Event) (c l : ℕ) (pipe : Pipe) (n : Counts) →
-        slice_get (replay (start_loaded byte entry boot) events).board.parts.pipes c ≡ Option.Some pipe →
-        slice_get pipe.counts l ≡ Option.Some n →
-        n.inband.arrivals ≡ n.inband.merged + (if has_line pipe.inband.lines l then 1 else 0) + n.inband.played }
-    ensures out_of_band_fresh { (s : State) (events : List Event) (c l : ℕ) (pipe : Pipe) (n : Counts) → s.journal ≡ [] →
-        ((d : ℕ) (idle : Pipe) → slice_get s.board.parts.pipes d ≡ Option.Some idle → idle ≡ idle_pipe) →
+    ensures out_of_band_fresh { (s : State) (events : List Event) (c l : ℕ) (pipe : Pipe) (n : Counts) → IsIdle s →
         slice_get (replay s events).board.parts.pipes c ≡ Option.Some pipe → slice_get pipe.counts l ≡ Option.Some n →
         n.oob.arrivals ≡ n.oob.merged + (if has_line pipe.oob.lines l then 1 else 0) + n.oob.played }
-    ensures in_band_fresh { (s : State) (events : List Event) (c l : ℕ) (pipe : Pipe) (n : Counts) → s.journal ≡ [] →
-        ((d : ℕ) (idle : Pipe) → slice_get s.board.parts.pipes d ≡ Option.Some idle → idle ≡ idle_pipe) →
+    ensures in_band_fresh { (s : State) (events : List Event) (c l : ℕ) (pipe : Pipe) (n : Counts) → IsIdle s →
         slice_get (replay s events).board.parts.pipes c ≡ Option.Some pipe → slice_get pipe.counts l ≡ Option.Some n →
         n.inband.arrivals ≡ n.inband.merged + (if has_line pipe.inband.lines l then 1 else 0) + n.inband.played }
 {
@@ -77,36 +62,23 @@ pub fn no_line_is_lost_in_a_stage()
 /// request to reschedule never does, and each other line to one of the two; likewise from any first state whose journal
 /// is empty and whose pipes are idle.
 pub fn what_is_received_comes_to_a_stage()
-    ensures timer { (boot : Boot) (events : List Event) (c : ℕ) (pipe : Pipe) (n : Counts) →
-        slice_get (replay (start boot) events).board.parts.pipes c ≡ Option.Some pipe →
+    ensures timer { (boot : Boot) (s : State) (c : ℕ) (pipe : Pipe) (n : Counts) → Ran boot s →
+        slice_get s.board.parts.pipes c ≡ Option.Some pipe →
         slice_get pipe.counts 0 ≡ Option.Some n →
         (n.received ≡ n.oob.arrivals) × (n.inband.arrivals ≡ n.oob.played) }
-    ensures request { (boot : Boot) (events : List Event) (c : ℕ) (pipe : Pipe) (n : Counts) →
-        slice_get (replay (start boot) events).board.parts.pipes c ≡ Option.Some pipe →
+    ensures request { (boot : Boot) (s : State) (c : ℕ) (pipe : Pipe) (n : Counts) → Ran boot s →
+        slice_get s.board.parts.pipes c ≡ Option.Some pipe →
         slice_get pipe.counts 1 ≡ Option.Some n → (n.received ≡ n.oob.arrivals) × (n.inband.arrivals ≡ 0) }
-    ensures others { (boot : Boot) (events : List Event) (c l : ℕ) (pipe : Pipe) (n : Counts) → 2 ≤ l →
-        slice_get (replay (start boot) events).board.parts.pipes c ≡ Option.Some pipe →
+    ensures others { (boot : Boot) (s : State) (c l : ℕ) (pipe : Pipe) (n : Counts) → Ran boot s → 2 ≤ l →
+        slice_get s.board.parts.pipes c ≡ Option.Some pipe →
         slice_get pipe.counts l ≡ Option.Some n → n.received ≡ n.oob.arrivals + n.inband.arrivals }
-    ensures timer_loaded { (byte : ℕ → ℕ) (entry : ℕ) (boot : Boot) (events : List Event) (c : ℕ) (pipe : Pipe) (n : Counts) →
-        slice_get (replay (start_loaded byte entry boot) events).board.parts.pipes c ≡ Option.Some pipe →
-        slice_get pipe.counts 0 ≡ Option.Some n →
-        (n.received ≡ n.oob.arrivals) × (n.inband.arrivals ≡ n.oob.played) }
-    ensures request_loaded { (byte : ℕ → ℕ) (entry : ℕ) (boot : Boot) (events : List Event) (c : ℕ) (pipe : Pipe) (n : Counts) →
-        slice_get (replay (start_loaded byte entry boot) events).board.parts.pipes c ≡ Option.Some pipe →
-        slice_get pipe.counts 1 ≡ Option.Some n → (n.received ≡ n.oob.arrivals) × (n.inband.arrivals ≡ 0) }
-    ensures others_loaded { (byte : ℕ → ℕ) (entry : ℕ) (boot : Boot) (events : List Event) (c l : ℕ) (pipe : Pipe) (n : Counts) → 2 ≤ l →
-        slice_get (replay (start_loaded byte entry boot) events).board.parts.pipes c ≡ Option.Some pipe →
-        slice_get pipe.counts l ≡ Option.Some n → n.received ≡ n.oob.arrivals + n.inband.arrivals }
-    ensures timer_fresh { (s : State) (events : List Event) (c : ℕ) (pipe : Pipe) (n : Counts) → s.journal ≡ [] →
-        ((d : ℕ) (idle : Pipe) → slice_get s.board.parts.pipes d ≡ Option.Some idle → idle ≡ idle_pipe) →
+    ensures timer_fresh { (s : State) (events : List Event) (c : ℕ) (pipe : Pipe) (n : Counts) → IsIdle s →
         slice_get (replay s events).board.parts.pipes c ≡ Option.Some pipe → slice_get pipe.counts 0 ≡ Option.Some n →
         (n.received ≡ n.oob.arrivals) × (n.inband.arrivals ≡ n.oob.played) }
-    ensures request_fresh { (s : State) (events : List Event) (c : ℕ) (pipe : Pipe) (n : Counts) → s.journal ≡ [] →
-        ((d : ℕ) (idle : Pipe) → slice_get s.board.parts.pipes d ≡ Option.Some idle → idle ≡ idle_pipe) →
+    ensures request_fresh { (s : State) (events : List Event) (c : ℕ) (pipe : Pipe) (n : Counts) → IsIdle s →
         slice_get (replay s events).board.parts.pipes c ≡ Option.Some pipe → slice_get pipe.counts 1 ≡ Option.Some n →
         (n.received ≡ n.oob.arrivals) × (n.inband.arrivals ≡ 0) }
-    ensures others_fresh { (s : State) (events : List Event) (c l : ℕ) (pipe : Pipe) (n : Counts) → 2 ≤ l → s.journal ≡ [] →
-        ((d : ℕ) (idle : Pipe) → slice_get s.board.parts.pipes d ≡ Option.Some idle → idle ≡ idle_pipe) →
+    ensures others_fresh { (s : State) (events : List Event) (c l : ℕ) (pipe : Pipe) (n : Counts) → 2 ≤ l → IsIdle s →
         slice_get (replay s events).board.parts.pipes c ≡ Option.Some pipe → slice_get pipe.counts l ≡ Option.Some n →
         n.received ≡ n.oob.arrivals + n.inband.arrivals }
 {
@@ -117,16 +89,11 @@ pub fn what_is_received_comes_to_a_stage()
 /// which processors raise on one another, was raised by as many events as the journal has that raise it there;
 /// likewise from any first state whose journal is empty and whose pipes are idle.
 pub fn raised_as_often_as_the_journal_says()
-    ensures booted { (boot : Boot) (events : List Event) (c l : ℕ) (pipe : Pipe) (n : Counts) → l ≢ 1 →
-        slice_get (replay (start boot) events).board.parts.pipes c ≡ Option.Some pipe →
+    ensures ran { (boot : Boot) (s : State) (c l : ℕ) (pipe : Pipe) (n : Counts) → Ran boot s → l ≢ 1 →
+        slice_get s.board.parts.pipes c ≡ Option.Some pipe →
         slice_get pipe.counts l ≡ Option.Some n →
-        n.raised ≡ count_by (raises c l) (replay (start boot) events).journal }
-    ensures loaded { (byte : ℕ → ℕ) (entry : ℕ) (boot : Boot) (events : List Event) (c l : ℕ) (pipe : Pipe) (n : Counts) → l ≢ 1 →
-        slice_get (replay (start_loaded byte entry boot) events).board.parts.pipes c ≡ Option.Some pipe →
-        slice_get pipe.counts l ≡ Option.Some n →
-        n.raised ≡ count_by (raises c l) (replay (start_loaded byte entry boot) events).journal }
-    ensures fresh { (s : State) (events : List Event) (c l : ℕ) (pipe : Pipe) (n : Counts) → l ≢ 1 → s.journal ≡ [] →
-        ((d : ℕ) (idle : Pipe) → slice_get s.board.parts.pipes d ≡ Option.Some idle → idle ≡ idle_pipe) →
+        n.raised ≡ count_by (raises c l) s.journal }
+    ensures fresh { (s : State) (events : List Event) (c l : ℕ) (pipe : Pipe) (n : Counts) → l ≢ 1 → IsIdle s →
         slice_get (replay s events).board.parts.pipes c ≡ Option.Some pipe → slice_get pipe.counts l ≡ Option.Some n →
         n.raised ≡ count_by (raises c l) (replay s events).journal }
 {

@@ -1,35 +1,32 @@
 //! Which task a processor runs, and what waits in its logs: the rules that hold after every event.
-ghost use Rattle.std.specs.Prelude.{◌≡◌, ◌≢◌, ◌%◌, ◌⊎◌, ℕ, List, [], true, false, Option, slice_get};
+ghost use Rattle.std.specs.Prelude.{◌≡◌, ◌≢◌, ◌%◌, ◌<◌, ◌⊎◌, ℕ, List, [], true, false, Option, slice_get, length};
 ghost use Rattle.evm_exec.specs.declared.hart.Hart.{Hart};
 ghost use Rattle.evm_lines.specs.Lines.{has_line};
 ghost use Rattle.evm_model.specs.Instructions.{stop};
-ghost use Rattle.evm_model.specs.Load.{start_loaded};
 ghost use Rattle.evm_model.specs.Pipes.{Pipe};
 ghost use Rattle.evm_model.specs.Ranks.{best};
-ghost use Rattle.evm_model.specs.Replay.{bad_boot, start, replay};
 ghost use Rattle.evm_model.specs.Settle.{is_oob, settle_and_nudge};
 ghost use Rattle.evm_model.specs.State.{State, on_processor};
 ghost use Rattle.evm_model.specs.declared.boot.Boot.{Boot};
-ghost use Rattle.evm_model.specs.Event.{Event};
 ghost use Rattle.evm_model.specs.declared.processor.Processor.{Processor};
+ghost use Rattle.evm_model.specs.declared.task.Task.{Task};
+ghost use Rattle.evm_model.specs.declared.task.TaskState.{TaskState};
+ghost use Rattle.evm_claims.specs.Reached.{Reached};
 
 /// After every boot whose numbers are inside their limits, with an image loaded or none, and every list of events: a
 /// processor that isn't stalled out-of-band and has no line 1 on its wire runs its best task, where one is ready
 /// out-of-band there, and an in-band task only where none is. A current task that isn't out-of-band is the in-band
 /// current one.
 pub fn a_processor_runs_its_best_task()
-    ensures best { (boot : Boot) (byte : ℕ → ℕ) (entry : ℕ) (events : List Event) (s : State) (c t : ℕ) (pipe : Pipe) (p : Processor) → bad_boot boot ≡ false →
-        (s ≡ replay (start boot) events) ⊎ ((entry % 4 ≡ 0) × (s ≡ replay (start_loaded byte entry boot) events)) →
+    ensures best { (boot : Boot) (s : State) (c t : ℕ) (pipe : Pipe) (p : Processor) → Reached boot s →
         slice_get s.board.parts.pipes c ≡ Option.Some pipe → slice_get s.board.parts.processors c ≡ Option.Some p →
         pipe.oob.stalled ≡ false → has_line pipe.wire 1 ≡ false →
         best c s.board.parts.mutexes s.board.parts.tasks ≡ Option.Some t → p.current ≡ Option.Some t }
-    ensures none_ready { (boot : Boot) (byte : ℕ → ℕ) (entry : ℕ) (events : List Event) (s : State) (c : ℕ) (pipe : Pipe) (p : Processor) → bad_boot boot ≡ false →
-        (s ≡ replay (start boot) events) ⊎ ((entry % 4 ≡ 0) × (s ≡ replay (start_loaded byte entry boot) events)) →
+    ensures none_ready { (boot : Boot) (s : State) (c : ℕ) (pipe : Pipe) (p : Processor) → Reached boot s →
         slice_get s.board.parts.pipes c ≡ Option.Some pipe → slice_get s.board.parts.processors c ≡ Option.Some p →
         pipe.oob.stalled ≡ false → has_line pipe.wire 1 ≡ false →
         is_oob p.current s.board.parts.tasks ≡ false → best c s.board.parts.mutexes s.board.parts.tasks ≡ Option.None }
-    ensures in_band { (boot : Boot) (byte : ℕ → ℕ) (entry : ℕ) (events : List Event) (s : State) (c : ℕ) (pipe : Pipe) (p : Processor) → bad_boot boot ≡ false →
-        (s ≡ replay (start boot) events) ⊎ ((entry % 4 ≡ 0) × (s ≡ replay (start_loaded byte entry boot) events)) →
+    ensures in_band { (boot : Boot) (s : State) (c : ℕ) (pipe : Pipe) (p : Processor) → Reached boot s →
         slice_get s.board.parts.pipes c ≡ Option.Some pipe → slice_get s.board.parts.processors c ≡ Option.Some p →
         is_oob p.current s.board.parts.tasks ≡ false → p.current ≡ p.in_band_task }
 {}
@@ -37,12 +34,10 @@ pub fn a_processor_runs_its_best_task()
 /// Likewise: an out-of-band log isn't empty only while that stage is stalled, an in-band log only while that stage is
 /// stalled or an out-of-band task is current.
 pub fn nothing_waits_in_an_open_log()
-    ensures oob { (boot : Boot) (byte : ℕ → ℕ) (entry : ℕ) (events : List Event) (s : State) (c : ℕ) (pipe : Pipe) (p : Processor) → bad_boot boot ≡ false →
-        (s ≡ replay (start boot) events) ⊎ ((entry % 4 ≡ 0) × (s ≡ replay (start_loaded byte entry boot) events)) →
+    ensures oob { (boot : Boot) (s : State) (c : ℕ) (pipe : Pipe) (p : Processor) → Reached boot s →
         slice_get s.board.parts.pipes c ≡ Option.Some pipe → slice_get s.board.parts.processors c ≡ Option.Some p →
         pipe.oob.stalled ≡ false → pipe.oob.lines ≡ [] }
-    ensures in_band { (boot : Boot) (byte : ℕ → ℕ) (entry : ℕ) (events : List Event) (s : State) (c : ℕ) (pipe : Pipe) (p : Processor) → bad_boot boot ≡ false →
-        (s ≡ replay (start boot) events) ⊎ ((entry % 4 ≡ 0) × (s ≡ replay (start_loaded byte entry boot) events)) →
+    ensures in_band { (boot : Boot) (s : State) (c : ℕ) (pipe : Pipe) (p : Processor) → Reached boot s →
         slice_get s.board.parts.pipes c ≡ Option.Some pipe → slice_get s.board.parts.processors c ≡ Option.Some p →
         pipe.inband.stalled ≡ false → is_oob p.current s.board.parts.tasks ≡ false → pipe.inband.lines ≡ [] }
 {}
@@ -50,12 +45,10 @@ pub fn nothing_waits_in_an_open_log()
 /// Likewise: out-of-band is stalled only where an out-of-band task is current, in-band only where there is an in-band
 /// current task.
 pub fn a_stage_is_stalled_by_its_task()
-    ensures oob { (boot : Boot) (byte : ℕ → ℕ) (entry : ℕ) (events : List Event) (s : State) (c : ℕ) (pipe : Pipe) (p : Processor) → bad_boot boot ≡ false →
-        (s ≡ replay (start boot) events) ⊎ ((entry % 4 ≡ 0) × (s ≡ replay (start_loaded byte entry boot) events)) →
+    ensures oob { (boot : Boot) (s : State) (c : ℕ) (pipe : Pipe) (p : Processor) → Reached boot s →
         slice_get s.board.parts.pipes c ≡ Option.Some pipe → slice_get s.board.parts.processors c ≡ Option.Some p →
         pipe.oob.stalled ≡ true → is_oob p.current s.board.parts.tasks ≡ true }
-    ensures in_band { (boot : Boot) (byte : ℕ → ℕ) (entry : ℕ) (events : List Event) (s : State) (c : ℕ) (pipe : Pipe) (p : Processor) → bad_boot boot ≡ false →
-        (s ≡ replay (start boot) events) ⊎ ((entry % 4 ≡ 0) × (s ≡ replay (start_loaded byte entry boot) events)) →
+    ensures in_band { (boot : Boot) (s : State) (c : ℕ) (pipe : Pipe) (p : Processor) → Reached boot s →
         slice_get s.board.parts.pipes c ≡ Option.Some pipe → slice_get s.board.parts.processors c ≡ Option.Some p →
         pipe.inband.stalled ≡ true → p.in_band_task ≢ Option.None }
 {}
@@ -63,14 +56,43 @@ pub fn a_stage_is_stalled_by_its_task()
 /// Likewise: where a processor has a current task and nothing on its wire, registers and pcs may change and it settles
 /// nothing and tells nobody: nor where it hits a break and is stopped.
 pub fn a_private_row_settles_nothing()
-    ensures registers { (boot : Boot) (byte : ℕ → ℕ) (entry : ℕ) (events : List Event) (s : State) (c t : ℕ) (pipe : Pipe) (p : Processor) (harts : List Hart) → bad_boot boot ≡ false →
-        (s ≡ replay (start boot) events) ⊎ ((entry % 4 ≡ 0) × (s ≡ replay (start_loaded byte entry boot) events)) →
+    ensures registers { (boot : Boot) (s : State) (c t : ℕ) (pipe : Pipe) (p : Processor) (harts : List Hart) → Reached boot s →
         slice_get s.board.parts.pipes c ≡ Option.Some pipe → slice_get s.board.parts.processors c ≡ Option.Some p →
         pipe.wire ≡ [] → p.current ≡ Option.Some t →
         settle_and_nudge c (record s.board.parts { harts = harts }) ≡ record s.board.parts { harts = harts } }
-    ensures stops { (boot : Boot) (byte : ℕ → ℕ) (entry : ℕ) (events : List Event) (s : State) (c t : ℕ) (pipe : Pipe) (p : Processor) (harts : List Hart) → bad_boot boot ≡ false →
-        (s ≡ replay (start boot) events) ⊎ ((entry % 4 ≡ 0) × (s ≡ replay (start_loaded byte entry boot) events)) →
+    ensures stops { (boot : Boot) (s : State) (c t : ℕ) (pipe : Pipe) (p : Processor) (harts : List Hart) → Reached boot s →
         slice_get s.board.parts.pipes c ≡ Option.Some pipe → slice_get s.board.parts.processors c ≡ Option.Some p →
         pipe.wire ≡ [] → p.current ≡ Option.Some t →
         settle_and_nudge c (stop c (record (on_processor c (λ p. record p { skip = false }) s.board.parts) { harts = harts })) ≡ stop c (record (on_processor c (λ p. record p { skip = false }) s.board.parts) { harts = harts }) }
+{}
+
+/// Likewise: no two tasks have one stamp, and each stamp is less than the next that will be given; so of any set of tasks
+/// one goes first.
+pub fn no_two_tasks_have_one_stamp()
+    ensures differ { (boot : Boot) (s : State) (t u : ℕ) (task other : Task) → Reached boot s →
+        slice_get s.board.parts.tasks t ≡ Option.Some task → slice_get s.board.parts.tasks u ≡ Option.Some other →
+        task.stamp ≡ other.stamp → t ≡ u }
+    ensures below { (boot : Boot) (s : State) (t : ℕ) (task : Task) → Reached boot s →
+        slice_get s.board.parts.tasks t ≡ Option.Some task → task.stamp < s.board.parts.stamps }
+{}
+
+/// Likewise: the current task of a processor is there, is of that processor and is ready, on whatever stage; the in-band
+/// current one is there, of that processor and ready in-band; each task is of a processor that is there.
+pub fn a_current_task_is_ready_at_home()
+    ensures current { (boot : Boot) (s : State) (c t : ℕ) (p : Processor) → Reached boot s →
+        slice_get s.board.parts.processors c ≡ Option.Some p → p.current ≡ Option.Some t →
+        (task : Task) × ((slice_get s.board.parts.tasks t ≡ Option.Some task) × (task.cpu ≡ c)
+        × ((task.state ≡ TaskState.InReady) ⊎ (task.state ≡ TaskState.OobReady))) }
+    ensures in_band { (boot : Boot) (s : State) (c t : ℕ) (p : Processor) → Reached boot s →
+        slice_get s.board.parts.processors c ≡ Option.Some p → p.in_band_task ≡ Option.Some t →
+        (task : Task) × ((slice_get s.board.parts.tasks t ≡ Option.Some task) × (task.cpu ≡ c)
+        × (task.state ≡ TaskState.InReady)) }
+    ensures homes { (boot : Boot) (s : State) (t : ℕ) (task : Task) → Reached boot s →
+        slice_get s.board.parts.tasks t ≡ Option.Some task → task.cpu < length s.board.parts.processors }
+{}
+
+/// Likewise: each pc is a multiple of 4.
+pub fn each_pc_is_a_multiple_of_4()
+    ensures { (boot : Boot) (s : State) (t : ℕ) (hart : Hart) → Reached boot s →
+        slice_get s.board.parts.harts t ≡ Option.Some hart → hart.pc % 4 ≡ 0 }
 {}

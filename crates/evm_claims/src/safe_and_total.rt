@@ -2,7 +2,6 @@
 ghost use Rattle.std.specs.Prelude.{◌≡◌, ◌<◌, ◌≤◌, ◌^◌, ℕ, List, Option, false, slice_get, length, count_by};
 ghost use Rattle.evm_exec.specs.declared.hart.Hart.{Hart};
 ghost use Rattle.evm_model.specs.Good.{is_tick};
-ghost use Rattle.evm_model.specs.Load.{start_loaded};
 ghost use Rattle.evm_model.specs.Pipes.{Pipe};
 ghost use Rattle.evm_model.specs.Replay.{bad_boot, start, replay};
 ghost use Rattle.evm_model.specs.State.{State, Board};
@@ -10,6 +9,7 @@ ghost use Rattle.evm_model.specs.declared.boot.Boot.{Boot};
 ghost use Rattle.evm_model.specs.declared.counts.Counts.{Counts};
 ghost use Rattle.evm_model.specs.Event.{Event};
 ghost use Rattle.evm_model.specs.declared.mutex.Mutex.{Mutex};
+ghost use Rattle.evm_claims.specs.Reached.{AreSmall, Ran};
 
 /// Whatever happens to a machine, it has as many processors, pipes and bytes of RAM afterwards, no fewer tasks and
 /// harts, and the boot numbers that it had; where there were 64 tasks at the most there are, and where each had a
@@ -41,84 +41,41 @@ pub fn sizes_never_change()
 }
 
 /// After every boot, with an image loaded or none, and every list of events there are as many processors, pipes and
-/// bytes of RAM as the boot numbers say, and 1 to 64 tasks, whose 32 registers begin with an x0 of zero.
+/// bytes of RAM as the boot numbers say, and 1 to 64 tasks with a hart each, whose 32 registers begin with an x0 of zero.
 pub fn a_machine_is_as_it_was_booted()
-    ensures processors { (boot : Boot) (events : List Event) →
-        length (replay (start boot) events).board.parts.processors ≡ boot.cpus }
-    ensures pipes { (boot : Boot) (events : List Event) →
-        length (replay (start boot) events).board.parts.pipes ≡ boot.cpus }
-    ensures ram { (boot : Boot) (events : List Event) →
-        length (replay (start boot) events).board.memory.ram ≡ boot.ram }
-    ensures tasks { (boot : Boot) (events : List Event) →
-        (1 ≤ length (replay (start boot) events).board.parts.tasks)
-        × (length (replay (start boot) events).board.parts.tasks ≤ 64) }
-    ensures harts { (boot : Boot) (events : List Event) →
-        length (replay (start boot) events).board.parts.harts ≡ length (replay (start boot) events).board.parts.tasks }
-    ensures registers { (boot : Boot) (events : List Event) (t : ℕ) (hart : Hart) →
-        slice_get (replay (start boot) events).board.parts.harts t ≡ Option.Some hart → length hart.regs ≡ 32 }
-    ensures x0 { (boot : Boot) (events : List Event) (t : ℕ) (hart : Hart) →
-        slice_get (replay (start boot) events).board.parts.harts t ≡ Option.Some hart →
-        slice_get hart.regs 0 ≡ Option.Some 0 }
-    ensures processors_loaded { (byte : ℕ → ℕ) (entry : ℕ) (boot : Boot) (events : List Event) →
-        length (replay (start_loaded byte entry boot) events).board.parts.processors ≡ boot.cpus }
-    ensures pipes_loaded { (byte : ℕ → ℕ) (entry : ℕ) (boot : Boot) (events : List Event) →
-        length (replay (start_loaded byte entry boot) events).board.parts.pipes ≡ boot.cpus }
-    ensures tasks_loaded { (byte : ℕ → ℕ) (entry : ℕ) (boot : Boot) (events : List Event) →
-        (1 ≤ length (replay (start_loaded byte entry boot) events).board.parts.tasks)
-        × (length (replay (start_loaded byte entry boot) events).board.parts.tasks ≤ 64) }
-    ensures registers_loaded { (byte : ℕ → ℕ) (entry : ℕ) (boot : Boot) (events : List Event) (t : ℕ) (hart : Hart) →
-        slice_get (replay (start_loaded byte entry boot) events).board.parts.harts t ≡ Option.Some hart →
-        length hart.regs ≡ 32 }
-    ensures ram_loaded { (byte : ℕ → ℕ) (entry : ℕ) (boot : Boot) (events : List Event) →
-        length (replay (start_loaded byte entry boot) events).board.memory.ram ≡ boot.ram }
-    ensures x0_loaded { (byte : ℕ → ℕ) (entry : ℕ) (boot : Boot) (events : List Event) (t : ℕ) (hart : Hart) →
-        slice_get (replay (start_loaded byte entry boot) events).board.parts.harts t ≡ Option.Some hart →
-        slice_get hart.regs 0 ≡ Option.Some 0 }
+    ensures boot { (boot : Boot) (s : State) → Ran boot s → s.boot ≡ boot }
+    ensures processors { (boot : Boot) (s : State) → Ran boot s → length s.board.parts.processors ≡ boot.cpus }
+    ensures pipes { (boot : Boot) (s : State) → Ran boot s → length s.board.parts.pipes ≡ boot.cpus }
+    ensures ram { (boot : Boot) (s : State) → Ran boot s → length s.board.memory.ram ≡ boot.ram }
+    ensures tasks { (boot : Boot) (s : State) → Ran boot s →
+        (1 ≤ length s.board.parts.tasks) × (length s.board.parts.tasks ≤ 64) }
+    ensures harts { (boot : Boot) (s : State) → Ran boot s → length s.board.parts.harts ≡ length s.board.parts.tasks }
+    ensures registers { (boot : Boot) (s : State) (t : ℕ) (hart : Hart) → Ran boot s →
+        slice_get s.board.parts.harts t ≡ Option.Some hart → length hart.regs ≡ 32 }
+    ensures x0 { (boot : Boot) (s : State) (t : ℕ) (hart : Hart) → Ran boot s →
+        slice_get s.board.parts.harts t ≡ Option.Some hart → slice_get hart.regs 0 ≡ Option.Some 0 }
 {
     evm_runs::stays_as_booted();
 }
 
 /// After every boot whose numbers are inside their limits, with an image loaded or none, and every list of events
-/// the journal is within its capacity, and the ticks, every count of every line and how often each mutex is locked are
-/// below 2^29, so none has wrapped.
+/// the journal is within its capacity, and the ticks, every count of each of the 32 lines and how often each mutex is
+/// locked are below 2^29, so none has wrapped.
 pub fn counts_never_wrap()
-    ensures journal { (boot : Boot) (events : List Event) → bad_boot boot ≡ false →
-        length (replay (start boot) events).journal ≤ boot.capacity }
-    ensures ticks { (boot : Boot) (events : List Event) → bad_boot boot ≡ false →
-        (replay (start boot) events).board.parts.ticks < 2 ^ 29 }
-    ensures counts { (boot : Boot) (events : List Event) → bad_boot boot ≡ false →
-        (c l : ℕ) (pipe : Pipe) (n : Counts) →
-        slice_get (replay (start boot) events).board.parts.pipes c ≡ Option.Some pipe →
-        slice_get pipe.counts l ≡ Option.Some n →
-        (n.raised < 2 ^ 29) × (n.merged < 2 ^ 29) × (n.received < 2 ^ 29)
-        × (n.oob.arrivals < 2 ^ 29) × (n.oob.merged < 2 ^ 29) × (n.oob.played < 2 ^ 29)
-        × (n.inband.arrivals < 2 ^ 29) × (n.inband.merged < 2 ^ 29) × (n.inband.played < 2 ^ 29) }
-    ensures lines { (boot : Boot) (events : List Event) → bad_boot boot ≡ false → (c : ℕ) (pipe : Pipe) →
-        slice_get (replay (start boot) events).board.parts.pipes c ≡ Option.Some pipe → length pipe.counts ≡ 32 }
-    ensures journal_loaded { (byte : ℕ → ℕ) (entry : ℕ) (boot : Boot) (events : List Event) → bad_boot boot ≡ false →
-        length (replay (start_loaded byte entry boot) events).journal ≤ boot.capacity }
-    ensures counts_loaded { (byte : ℕ → ℕ) (entry : ℕ) (boot : Boot) (events : List Event) → bad_boot boot ≡ false →
-        (c l : ℕ) (pipe : Pipe) (n : Counts) →
-        slice_get (replay (start_loaded byte entry boot) events).board.parts.pipes c ≡ Option.Some pipe →
-        slice_get pipe.counts l ≡ Option.Some n →
-        (n.raised < 2 ^ 29) × (n.merged < 2 ^ 29) × (n.received < 2 ^ 29)
-        × (n.oob.arrivals < 2 ^ 29) × (n.oob.merged < 2 ^ 29) × (n.oob.played < 2 ^ 29)
-        × (n.inband.arrivals < 2 ^ 29) × (n.inband.merged < 2 ^ 29) × (n.inband.played < 2 ^ 29) }
+    ensures journal { (boot : Boot) (s : State) → bad_boot boot ≡ false → Ran boot s → length s.journal ≤ boot.capacity }
+    ensures ticks { (boot : Boot) (s : State) → bad_boot boot ≡ false → Ran boot s → s.board.parts.ticks < 2 ^ 29 }
+    ensures counts { (boot : Boot) (s : State) → bad_boot boot ≡ false → Ran boot s → (c l : ℕ) (pipe : Pipe) (n : Counts) →
+        slice_get s.board.parts.pipes c ≡ Option.Some pipe → slice_get pipe.counts l ≡ Option.Some n → AreSmall n }
+    ensures lines { (boot : Boot) (s : State) → bad_boot boot ≡ false → Ran boot s → (c : ℕ) (pipe : Pipe) →
+        slice_get s.board.parts.pipes c ≡ Option.Some pipe → length pipe.counts ≡ 32 }
     // whatever is in RAM and in the tasks at first, where nothing was counted yet
     ensures counts_fresh { (boot : Boot) (board : Board) (events : List Event) → bad_boot boot ≡ false →
         board.parts.pipes ≡ (start boot).board.parts.pipes → board.parts.ticks ≡ 0 →
         (c l : ℕ) (pipe : Pipe) (n : Counts) →
         slice_get (replay (record (start boot) { board = board }) events).board.parts.pipes c ≡ Option.Some pipe →
-        slice_get pipe.counts l ≡ Option.Some n →
-        (n.raised < 2 ^ 29) × (n.merged < 2 ^ 29) × (n.received < 2 ^ 29)
-        × (n.oob.arrivals < 2 ^ 29) × (n.oob.merged < 2 ^ 29) × (n.oob.played < 2 ^ 29)
-        × (n.inband.arrivals < 2 ^ 29) × (n.inband.merged < 2 ^ 29) × (n.inband.played < 2 ^ 29) }
-    ensures holds { (boot : Boot) (events : List Event) → bad_boot boot ≡ false → (m : ℕ) (mutex : Mutex) →
-        slice_get (replay (start boot) events).board.parts.mutexes m ≡ Option.Some mutex → mutex.count < 2 ^ 29 }
-    ensures holds_loaded { (byte : ℕ → ℕ) (entry : ℕ) (boot : Boot) (events : List Event) → bad_boot boot ≡ false →
-        (m : ℕ) (mutex : Mutex) →
-        slice_get (replay (start_loaded byte entry boot) events).board.parts.mutexes m ≡ Option.Some mutex →
-        mutex.count < 2 ^ 29 }
+        slice_get pipe.counts l ≡ Option.Some n → AreSmall n }
+    ensures holds { (boot : Boot) (s : State) → bad_boot boot ≡ false → Ran boot s → (m : ℕ) (mutex : Mutex) →
+        slice_get s.board.parts.mutexes m ≡ Option.Some mutex → mutex.count < 2 ^ 29 }
 {
     evm_runs::counts_fit();
     evm_runs::stays_as_booted();
@@ -128,17 +85,13 @@ pub fn counts_never_wrap()
 /// clock has ticked as often as the journal has a Tick, which is less than 2^29 times; likewise whatever is in RAM and in
 /// the tasks at first, where nothing was counted yet.
 pub fn the_clock_is_its_ticks()
-    ensures booted { (boot : Boot) (events : List Event) → bad_boot boot ≡ false →
-        (replay (start boot) events).board.parts.ticks ≡ count_by is_tick (replay (start boot) events).journal }
-    ensures loaded { (byte : ℕ → ℕ) (entry : ℕ) (boot : Boot) (events : List Event) → bad_boot boot ≡ false →
-        (replay (start_loaded byte entry boot) events).board.parts.ticks
-        ≡ count_by is_tick (replay (start_loaded byte entry boot) events).journal }
+    ensures ran { (boot : Boot) (s : State) → bad_boot boot ≡ false → Ran boot s →
+        s.board.parts.ticks ≡ count_by is_tick s.journal }
     ensures fresh { (boot : Boot) (board : Board) (events : List Event) → bad_boot boot ≡ false →
         board.parts.pipes ≡ (start boot).board.parts.pipes → board.parts.ticks ≡ 0 →
         (replay (record (start boot) { board = board }) events).board.parts.ticks
         ≡ count_by is_tick (replay (record (start boot) { board = board }) events).journal }
-    ensures few_loaded { (byte : ℕ → ℕ) (entry : ℕ) (boot : Boot) (events : List Event) → bad_boot boot ≡ false →
-        (replay (start_loaded byte entry boot) events).board.parts.ticks < 2 ^ 29 }
+    ensures few { (boot : Boot) (s : State) → bad_boot boot ≡ false → Ran boot s → s.board.parts.ticks < 2 ^ 29 }
 {
     evm_runs::counts_fit(); // the fields ticks and few_ticks
 }

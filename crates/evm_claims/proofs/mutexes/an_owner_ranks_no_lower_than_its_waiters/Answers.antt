@@ -8,7 +8,7 @@ use Rattle.evm_model.specs.declared.limits.TheConstants.{TASK_LIMIT}
 use Rattle.evm_model.specs.declared.mutex.Mutex.{Mutex}
 use Rattle.evm_model.specs.declared.task.Task.{Task}
 use Rattle.evm_claims.proofs.Ranking.{greatest-one, locks, locked, booster, boosts_by, boosts_fall, booster_below, boosted_below}
-use Rattle.evm_claims.proofs.Settled.{follows-good}
+use Rattle.evm_claims.proofs.Reached.{good}
 use Rattle.evm_claims.proofs.mutexes.an_owner_ranks_no_lower_than_its_waiters.Goals as goal
 
 boosted : (mutexes : List Mutex) (tasks : List Task) (u t : ℕ) → AreLocks mutexes tasks → boosts mutexes tasks u ≡ Some t → rank mutexes tasks u ≤ rank mutexes tasks t
@@ -28,13 +28,13 @@ one_of mutexes tasks t l below =
     ]
 
 pub returns-clause-inherits : goal.returns-clause-inherits
-returns-clause-inherits g boot byte entry events s u t m task mutex fits from e on there inherits its =
-    boosted s.board.parts.mutexes s.board.parts.tasks u t (follows-good boot byte entry events s fits from).good.locks
+returns-clause-inherits g boot s u t m task mutex reached e on there inherits its =
+    boosted s.board.parts.mutexes s.board.parts.tasks u t (good boot s reached).good.locks
     (boosts_by s.board.parts.mutexes s.board.parts.tasks u m t mutex (locks s.board.parts.tasks u m task e on) there inherits its)
 
 pub returns-clause-one_of_them : goal.returns-clause-one_of_them
-returns-clause-one_of_them g boot byte entry events s t fits from below =
-    one_of s.board.parts.mutexes s.board.parts.tasks t (follows-good boot byte entry events s fits from).good.locks below
+returns-clause-one_of_them g boot s t reached below =
+    one_of s.board.parts.mutexes s.board.parts.tasks t (good boot s reached).good.locks below
 
 pub returns-clause-boosters : goal.returns-clause-boosters
 returns-clause-boosters g mutexes tasks u t e =

@@ -7,7 +7,7 @@ use Rattle.evm_model.specs.declared.limits.TheConstants.{TASK_LIMIT}
 use Rattle.evm_model.specs.declared.mutex.Mutex.{Mutex}
 use Rattle.evm_model.specs.declared.task.Task.{Task}
 use Rattle.evm_claims.proofs.Ranking.{locks, waits}
-use Rattle.evm_claims.proofs.Settled.{follows-good}
+use Rattle.evm_claims.proofs.Reached.{good}
 use Rattle.evm_claims.proofs.mutexes.each_waited_mutex_has_an_owner.Goals as goal
 
 -- a task doesn't wait for itself
@@ -31,11 +31,11 @@ owned_as mutexes tasks u m (Some mutex) l e there = owned_by mutexes tasks u m m
 
 pub returns-clause-waited : goal.returns-clause-waited
 unfolding Owned
-returns-clause-waited g boot byte entry events s u m task fits from e on =
-    owned_as s.board.parts.mutexes s.board.parts.tasks u m (slice_get s.board.parts.mutexes m) (follows-good boot byte entry events s fits from).good.locks (locks s.board.parts.tasks u m task e on) refl
+returns-clause-waited g boot s u m task reached e on =
+    owned_as s.board.parts.mutexes s.board.parts.tasks u m (slice_get s.board.parts.mutexes m) (good boot s reached).good.locks (locks s.board.parts.tasks u m task e on) refl
 
 pub returns-clause-owners : goal.returns-clause-owners
-returns-clause-owners g boot byte entry events s m t mutex fits from e its = (follows-good boot byte entry events s fits from).good.locks.owners m t (ap owner_of e ∙ its)
+returns-clause-owners g boot s m t mutex reached e its = (good boot s reached).good.locks.owners m t (ap owner_of e ∙ its)
 
 pub returns-clause-few : goal.returns-clause-few
-returns-clause-few g boot byte entry events s fits from = (follows-good boot byte entry events s fits from).good.locks.few
+returns-clause-few g boot s reached = (good boot s reached).good.locks.few

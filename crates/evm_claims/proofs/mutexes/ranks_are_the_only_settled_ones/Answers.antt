@@ -8,7 +8,7 @@ use Rattle.evm_model.specs.declared.limits.TheConstants.{TASK_LIMIT}
 use Rattle.evm_model.specs.declared.mutex.Mutex.{Mutex}
 use Rattle.evm_model.specs.declared.task.Task.{Task}
 use Rattle.evm_claims.proofs.Ranking.{boosts_fall}
-use Rattle.evm_claims.proofs.Settled.{follows-good}
+use Rattle.evm_claims.proofs.Reached.{good}
 use Rattle.evm_claims.proofs.mutexes.ranks_are_the_only_settled_ones.Goals as goal
 
 settles : (mutexes : List Mutex) (tasks : List Task) → AreLocks mutexes tasks → IsSettledRank (boosts mutexes tasks) (own_rank mutexes tasks) (length tasks) (rank mutexes tasks)
@@ -21,9 +21,9 @@ only mutexes tasks other t l s below =
     settled_is_one (boosts mutexes tasks) (own_rank mutexes tasks) (length tasks) TASK_LIMIT other (boosts_fall mutexes tasks l) s t below
 
 pub returns-clause-settled : goal.returns-clause-settled
-returns-clause-settled g boot byte entry events s t fits from below =
-    settles s.board.parts.mutexes s.board.parts.tasks (follows-good boot byte entry events s fits from).good.locks t below
+returns-clause-settled g boot s t reached below =
+    settles s.board.parts.mutexes s.board.parts.tasks (good boot s reached).good.locks t below
 
 pub returns-clause-only : goal.returns-clause-only
-returns-clause-only g boot byte entry events s other t fits from same below =
-    only s.board.parts.mutexes s.board.parts.tasks other t (follows-good boot byte entry events s fits from).good.locks same below
+returns-clause-only g boot s other t reached same below =
+    only s.board.parts.mutexes s.board.parts.tasks other t (good boot s reached).good.locks same below

@@ -10,17 +10,17 @@ use Rattle.evm_model.specs.Settle as settle
 use Rattle.evm_model.specs.State.{booted, booted_parts}
 use Rattle.evm_model.specs.declared.counts.Counts.{Counts}
 use Rattle.evm_model.specs.declared.event.Event.TheVariants.{Raise, Step}
+use Rattle.evm_runs.specs.Balance.{Balance}
+use Rattle.evm_claims.proofs.Reached.{ran}
 use Rattle.evm_claims.proofs.no_interrupt_lost.no_line_is_lost_on_its_wire.Goals as goal
 
-pub returns-clause-booted : goal.returns-clause-booted
-returns-clause-booted c boot events p l pipe n here there = ((c.balance_holds.ensures.booted boot events).each p l pipe n here there).wire
-
-pub returns-clause-loaded : goal.returns-clause-loaded
-returns-clause-loaded c byte entry boot events p l pipe n here there = ((c.balance_holds.ensures.loaded byte entry boot events).each p l pipe n here there).wire
+pub returns-clause-ran : goal.returns-clause-ran
+returns-clause-ran c boot s p l pipe n r here there =
+    ((ran Balance boot s (c.balance_holds.ensures.booted boot) (λ byte entry. c.balance_holds.ensures.loaded byte entry boot) r).each p l pipe n here there).wire
 
 pub returns-clause-fresh : goal.returns-clause-fresh
-returns-clause-fresh c s events p l pipe n journal idle here there =
-    ((c.balance_holds.ensures.fresh s (record { journal = journal; pipes = idle }) events).each p l pipe n here there).wire
+returns-clause-fresh c s events p l pipe n idle here there =
+    ((c.balance_holds.ensures.fresh s (record { journal = idle.journal; pipes = idle.pipes }) events).each p l pipe n here there).wire
 
 -- the counts of line 5, and the wire, of a pipe that may be there
 abbrev counts_of : Option Pipe → Option Counts

@@ -1,11 +1,12 @@
 use Rattle.evm_rules.proofs.Private.{private_row, private_stop}
-use Rattle.evm_claims.proofs.Settled.{follows-good, clear}
+use Rattle.evm_claims.proofs.Reached.{good}
+use Rattle.evm_claims.proofs.Settled.{clear}
 use Rattle.evm_claims.proofs.rules.a_private_row_settles_nothing.Goals as goal
 
 pub returns-clause-registers : goal.returns-clause-registers
-returns-clause-registers g boot byte entry events s c t pipe p harts fits from e f w r =
-    private_row c t s.board.parts harts (follows-good boot byte entry events s fits from).good (clear c t s.board.parts pipe p e f w r)
+returns-clause-registers g boot s c t pipe p harts reached e f w r =
+    private_row c t s.board.parts harts (good boot s reached).good (clear c t s.board.parts pipe p e f w r)
 
 pub returns-clause-stops : goal.returns-clause-stops
-returns-clause-stops g boot byte entry events s c t pipe p harts fits from e f w r =
-    private_stop c t s.board.parts harts (follows-good boot byte entry events s fits from).good (clear c t s.board.parts pipe p e f w r)
+returns-clause-stops g boot s c t pipe p harts reached e f w r =
+    private_stop c t s.board.parts harts (good boot s reached).good (clear c t s.board.parts pipe p e f w r)

@@ -1,0 +1,269 @@
+-- What the law of steps says, in the words of the claims.
+use Rattle.std.proofs.Common.{◌≡◌, ◌≢◌, ℕ, List, Bool, true, false, ◌&&◌, Option, Some, None, slice_get, ◌⊎◌, inl, inr, refl, ap, sym, ◌∙◌, arith}
+use Rattle.std.specs.Prelude.{option_map}
+use Rattle.std.proofs.lemmas.Bool.{cases_eq}
+use Rattle.evm_exec.specs.declared.hart.Hart.{Hart}
+use Rattle.evm_exec.specs.declared.outcome.Effect.TheVariants.{Store}
+use Rattle.evm_lines.specs.Lines.{has_line}
+use Rattle.evm_model.specs.Harts.{argument}
+use Rattle.evm_model.specs.Mutexes.{owner, owner_of}
+use Rattle.evm_model.specs.OobCalls.{is_scheduled_task}
+use Rattle.evm_model.specs.Pipes.{Pipe}
+use Rattle.evm_model.specs.Settle.{current}
+use Rattle.evm_model.specs.Stages.{is_class}
+use Rattle.evm_model.specs.State.{Board, Memory, Parts}
+use Rattle.evm_model.specs.Tasks.{is_live}
+use Rattle.evm_model.specs.declared.mutex.Mutex.{Mutex}
+use Rattle.evm_model.specs.declared.processor.Processor.{Processor}
+use Rattle.evm_model.specs.declared.task.Class.{Class}
+use Rattle.evm_model.specs.declared.task.Class.TheVariants.{Unattached}
+use Rattle.evm_model.specs.declared.task.Task.{Task}
+use Rattle.evm_ram.specs.Ram.{write_at}
+use Rattle.evm_ram.specs.declared.width.Width.{Width}
+use Rattle.evm_runs.specs.Changes.{Inherits, Schedules, Spends, Stays, StaysBy, StepChanges, Wakes, Hears}
+use Rattle.evm_claims.specs.Steps.{IsAbout, IsScheduled, WakesInBand, InheritsMutex, SpendsSlice, Stands, IsAnothers, StepChangesOnly}
+
+-- ---- one task
+same_task : (tasks : List Task) (t : ℕ) (x y : Task) → slice_get tasks t ≡ Some x → slice_get tasks t ≡ Some y → x ≡ y
+same_task tasks t x y e f = let two : Some x ≡ Some y = sym e ∙ f in cc
+
+woken : (c t : ℕ) (old new : Parts) (task : Task) (hart : Hart) → slice_get old.tasks t ≡ Some task → slice_get old.harts t ≡ Some hart → Wakes c t old new → WakesInBand c t old.stamps new.tasks new.harts task hart
+woken c t old new task hart there at w =
+    let same : w.task ≡ task = same_task old.tasks t w.task task w.waited there in
+    record { line = w.line; stamp = w.stamp; on = rw (← same) w.on; at_home = rw (← same) w.at_home; later = w.fresh; task_is = rw (← same) w.wakes; hart_is = w.hart hart at }
+
+inherits : (runs : Option ℕ) (t : ℕ) (old new : Parts) (task : Task) (hart : Hart) → slice_get old.tasks t ≡ Some task → slice_get old.harts t ≡ Some hart → Inherits runs t old new
+    → InheritsMutex runs t old.stamps old.mutexes new.mutexes new.tasks new.harts task hart
+inherits runs t old new task hart there at i =
+    let same : i.task ≡ task = same_task old.tasks t i.task task i.waited there in
+    record {
+      m = i.mutex;
+      giver = i.giver;
+      stamp = i.stamp;
+      mutex = i.after;
+      on = rw (← same) i.on;
+      gives = i.held;
+      had = i.had;
+      mutex_is = i.there;
+      owns = i.owns;
+      once = i.once;
+      later = i.fresh;
+      task_is = rw (← same) i.wakes;
+      hart_is = i.hart hart at;
+    }
+
+spends : (c t : ℕ) (old new : Parts) (task : Task) (hart : Hart) → slice_get old.tasks t ≡ Some task → slice_get old.harts t ≡ Some hart → Spends c t old new
+    → SpendsSlice (current c old) t old.stamps new.tasks new.harts task hart
+spends c t old new task hart there at q =
+    let same : q.task ≡ task = same_task old.tasks t q.task task q.there there in
+    record {
+      slice = q.slice;
+      stamp = q.stamp;
+      is_current = q.runs;
+      on = rw (← same) q.on;
+      robin = rw (← same) q.robin;
+      left = rw (← same) q.left;
+      task_is = rw (← same) q.spends;
+      hart_is = q.hart hart at;
+    }
+
+-- ---- call 34
+both : (a b : Bool) → (a && b) ≡ true → (a ≡ true) × (b ≡ true)
+both true true h = (refl, refl)
+both true false h = cc
+both false b h = cc
+
+has_class : (class : Class) → is_class class ≡ true → class ≢ Unattached
+has_class class h same = let no : is_class Unattached ≡ true = ap is_class (sym same) ∙ h in cc
+
+record IsAsked (c t : ℕ) (old : Board) (asked : List Task) (task : Task) : Type 0 where
+  given : Task
+  is_given : (given ≡ task) ⊎ IsScheduled (current c old.parts) t old.parts.tasks old.parts.harts old.memory task given
+  there : slice_get asked t ≡ Some given
+
+as_asked : (c t : ℕ) (old : Board) (asked : List Task) (task : Task) → slice_get old.parts.tasks t ≡ Some task → (asked ≡ old.parts.tasks) ⊎ Schedules c old asked → IsAsked c t old asked task
+as_asked c t old asked task there (inl none) = record { given = task; is_given = inl refl; there = ap (λ (all : List Task). slice_get all t) none ∙ there }
+as_asked c t old asked task there (inr s) =
+    let change_to : Task → Task = λ task. record task { class = s.class; priority = argument 2 s.hart; slice = 4 } in
+    elim (cases_eq t (argument 0 s.hart)) [
+      | inl same ↦
+          let live : is_scheduled_task (Some task) ≡ true = ap is_scheduled_task (sym there ∙ ap (slice_get old.parts.tasks) same) ∙ s.live in
+          let b = both (is_live task.state) (is_class task.class) live in
+          record {
+            given = change_to task;
+            is_given = inr (record {
+              caller = s.task;
+              hart = s.hart;
+              class = s.class;
+              calls = record { word = s.word; inst = s.inst; current = s.runs; has = s.has; fetched = s.fetched; decodes = s.decodes; effect_is = s.calls };
+              oob = s.on;
+              number = s.number;
+              names = sym same;
+              live = b.0;
+              attached = has_class task.class b.1;
+              policy = s.policy;
+              given_is = refl;
+            });
+            there = ap (slice_get asked) same ∙ s.tasks.here ∙ ap (option_map change_to) (ap (slice_get old.parts.tasks) (sym same) ∙ there);
+          }
+      | inr other ↦ record { given = task; is_given = inl refl; there = s.tasks.others t other ∙ there }
+    ]
+
+-- ---- each task but the current one
+Left : ℕ → ℕ → Parts → Parts → Task → Hart → Type 0
+Left c t old new task hart =
+    Stands t new.tasks new.harts task hart
+    ⊎ WakesInBand c t old.stamps new.tasks new.harts task hart
+    ⊎ InheritsMutex (current c old) t old.stamps old.mutexes new.mutexes new.tasks new.harts task hart
+
+left : (c t : ℕ) (old new : Parts) (task : Task) (hart : Hart) → slice_get old.tasks t ≡ Some task → slice_get old.harts t ≡ Some hart → Stays c t old new → Left c t old new task hart
+unfolding Left
+left c t old new task hart there at (inl r) = inl (record { task_is = r.task task there; hart_is = r.hart hart at })
+left c t old new task hart there at (inr (inl w)) = inr (inl (woken c t old new task hart there at w))
+left c t old new task hart there at (inr (inr i)) = inr (inr (inherits (current c old) t old new task hart there at i))
+
+tasks_of : (c : ℕ) (old new : Board) → StepChanges c old new → (t : ℕ) (task : Task) (hart : Hart) → current c old.parts ≢ Some t → slice_get old.parts.tasks t ≡ Some task → slice_get old.parts.harts t ≡ Some hart
+    → (given : Task) × (((given ≡ task) ⊎ IsScheduled (current c old.parts) t old.parts.tasks old.parts.harts old.memory task given)
+    × (Stands t new.parts.tasks new.parts.harts given hart
+    ⊎ WakesInBand c t old.parts.stamps new.parts.tasks new.parts.harts given hart
+    ⊎ InheritsMutex (current c old.parts) t old.parts.stamps old.parts.mutexes new.parts.mutexes new.parts.tasks new.parts.harts given hart))
+unfolding Left
+tasks_of c old new b t task hart other there at =
+    let a : IsAsked c t old b.asked task = as_asked c t old b.asked task there b.scheduled in
+    (a.given, (a.is_given, left c t (record old.parts { tasks = b.asked }) new.parts a.given hart a.there at (b.others t other)))
+
+-- ---- each task where a line is on the wire
+Heard : ℕ → ℕ → Parts → Parts → Task → Hart → Type 0
+Heard c t old new task hart =
+    Stands t new.tasks new.harts task hart
+    ⊎ WakesInBand c t old.stamps new.tasks new.harts task hart
+    ⊎ SpendsSlice (current c old) t old.stamps new.tasks new.harts task hart
+
+own : (c t : ℕ) (old new : Parts) (task : Task) (hart : Hart) → slice_get old.tasks t ≡ Some task → slice_get old.harts t ≡ Some hart → StaysBy None c t old new ⊎ Spends c t old new → Heard c t old new task hart
+unfolding Heard
+own c t old new task hart there at (inl (inl r)) = inl (record { task_is = r.task task there; hart_is = r.hart hart at })
+own c t old new task hart there at (inl (inr (inl w))) = inr (inl (woken c t old new task hart there at w))
+own c t old new task hart there at (inl (inr (inr i))) = let no = i.held in cc
+own c t old new task hart there at (inr q) = inr (inr (spends c t old new task hart there at q))
+
+-- a mutex that doesn't change is inherited by no other task
+none_inherits : (o : Option ℕ) (t : ℕ) (old new : Parts) → new.mutexes ≡ old.mutexes → (o ≡ Some t → ⊥) → Inherits o t old new → ⊥
+none_inherits o t old new same other i =
+    let its : owner old.mutexes i.mutex ≡ Some t = ap (λ (all : List Mutex). owner all i.mutex) (sym same) ∙ ap owner_of i.there ∙ i.owns in
+    let two : Some i.giver ≡ Some t = sym i.had ∙ its in
+    other (i.held ∙ two)
+
+another : (c t : ℕ) (old new : Parts) (task : Task) (hart : Hart) → slice_get old.tasks t ≡ Some task → slice_get old.harts t ≡ Some hart → new.mutexes ≡ old.mutexes → (current c old ≡ Some t → ⊥) → Stays c t old new → Heard c t old new task hart
+unfolding Heard
+another c t old new task hart there at same other (inl r) = inl (record { task_is = r.task task there; hart_is = r.hart hart at })
+another c t old new task hart there at same other (inr (inl w)) = inr (inl (woken c t old new task hart there at w))
+another c t old new task hart there at same other (inr (inr i)) = absurd (none_inherits (current c old) t old new same other i)
+
+others : (c t : ℕ) (old new : Board) (task : Task) (hart : Hart) → StepChanges c old new → Hears c old.parts → (current c old.parts ≡ Some t → ⊥) → slice_get old.parts.tasks t ≡ Some task → slice_get old.parts.harts t ≡ Some hart
+    → Heard c t old.parts new.parts task hart
+unfolding Heard
+others c t old new task hart b line other there at =
+    let heard : Heard c t (record old.parts { tasks = b.asked }) new.parts task hart =
+    another c t (record old.parts { tasks = b.asked }) new.parts task hart (ap (λ (all : List Task). slice_get all t) (b.hears line).0 ∙ there) at (b.hears line).2 other (b.others t other) in heard
+
+heard : (o : Option ℕ) (c t : ℕ) (old new : Board) (task : Task) (hart : Hart) → current c old.parts ≡ o → StepChanges c old new → Hears c old.parts → slice_get old.parts.tasks t ≡ Some task → slice_get old.parts.harts t ≡ Some hart
+    → Heard c t old.parts new.parts task hart
+heard None c t old new task hart runs b line there at = others c t old new task hart b line (λ m. let no : None ≡ Some t = sym runs ∙ m in cc) there at
+heard (Some u) c t old new task hart runs b line there at = elim (cases_eq u t) [
+  | inl same ↦ own c t old.parts new.parts task hart there at ((b.hears line).1 t (runs ∙ ap Some same))
+  | inr differ ↦ others c t old new task hart b line (λ m. let one : Some u ≡ Some t = sym runs ∙ m in differ cc) there at
+]
+
+line_tasks_of : (c : ℕ) (old new : Board) → StepChanges c old new → (l t : ℕ) (pipe : Pipe) (task : Task) (hart : Hart) → slice_get old.parts.pipes c ≡ Some pipe → has_line pipe.wire l ≡ true
+    → slice_get old.parts.tasks t ≡ Some task → slice_get old.parts.harts t ≡ Some hart
+    → Stands t new.parts.tasks new.parts.harts task hart
+    ⊎ WakesInBand c t old.parts.stamps new.parts.tasks new.parts.harts task hart
+    ⊎ SpendsSlice (current c old.parts) t old.parts.stamps new.parts.tasks new.parts.harts task hart
+unfolding Heard
+line_tasks_of c old new b l t pipe task hart there on is has = heard (current c old.parts) c t old new task hart refl b (record { pipe = pipe; line = l; there = there; on = on }) is has
+
+-- ---- RAM
+ram_of : (c : ℕ) (old new : Board) → StepChanges c old new
+    → ((task address value : ℕ) (hart : Hart) (width : Width) → IsAbout (current c old.parts) task hart (Store width address value) old.parts.harts old.memory → ⊥) → new.memory.ram ≡ old.memory.ram
+ram_of c old new b never = elim b.memory [
+  | inl same ↦ ap (λ (m : Memory). m.ram) same
+  | inr w ↦ absurd (never w.task w.address w.value w.hart w.width (record { word = w.word; inst = w.inst; current = w.runs; has = w.has; fetched = w.fetched; decodes = w.decodes; effect_is = w.stores }))
+]
+
+written_of : (c : ℕ) (old new : Board) → StepChanges c old new → (task address value : ℕ) (hart : Hart) (width : Width) → IsAbout (current c old.parts) task hart (Store width address value) old.parts.harts old.memory
+    → (new.memory.ram ≡ old.memory.ram) ⊎ (write_at old.memory.ram address width value ≡ Some new.memory.ram)
+written_of c old new b task address value hart width i = elim b.memory [
+  | inl same ↦ inl (ap (λ (m : Memory). m.ram) same)
+  | inr w ↦
+      let runs = i.current in
+      let has = i.has in
+      let fetched = i.fetched in
+      let decodes = i.decodes in
+      let stores = i.effect_is in
+      let at : w.task ≡ task = cc in
+      let of : w.hart ≡ hart = cc in
+      let reads : w.word ≡ i.word = cc in
+      let stands : w.inst ≡ i.inst = cc in
+      let wide : w.width ≡ width = cc in
+      let place : w.address ≡ address = cc in
+      let number : w.value ≡ value = cc in
+      inr (cc)
+]
+
+-- ---- mutexes
+mutexes_of : (c : ℕ) (old new : Board) → StepChanges c old new → (m : ℕ) (before : Mutex) → slice_get old.parts.mutexes m ≡ Some before
+    → (slice_get new.parts.mutexes m ≡ Some before) ⊎ IsAnothers (current c old.parts) m new.parts.mutexes before
+mutexes_of c old new b m before there = elim (b.mutexes m before there) [
+  | inl same ↦ inl same
+  | inr g ↦ inr (record { after = g.after; there = g.there; kind = g.kind; whose = g.whose })
+]
+
+-- ---- the whole
+pub changes_only : (c : ℕ) (old new : Board) → StepChanges c old new → StepChangesOnly (current c old.parts) c old new
+changes_only c old new b = record {
+  ticks = b.ticks;
+  stamps = b.stamps;
+  breakpoints = b.breakpoints;
+  processors = b.processors;
+  pipes = b.pipes;
+  ram = ram_of c old new b;
+  written = written_of c old new b;
+  console = b.typed;
+  tasks = tasks_of c old new b;
+  line_tasks = line_tasks_of c old new b;
+  counts = elim b.added [
+    | inl same ↦ inl same
+    | inr a ↦ inr (a.tasks, a.harts, a.room)
+  ];
+  new_task = λ more. elim b.added [
+    | inl same ↦ absurd (omega (arith, more, same.0))
+    | inr a ↦ record { cpu = a.cpu; stamp = a.stamp; entry = a.entry; value = a.value; task_is = a.task; hart_is = a.hart }
+  ];
+  mutexes = mutexes_of c old new b;
+  new_mutex = elim b.made [
+    | inl same ↦ inl same
+    | inr g ↦ inr (record { recursive = g.recursive; protocol = g.protocol; one_more = g.count; few = g.room; free = g.mutex })
+  ];
+  line_mutexes = λ l pipe there on. (b.hears (record { pipe = pipe; line = l; there = there; on = on })).2;
+}
+
+-- ---- bits of processors are nothing that it speaks of
+pub moved : (runs : Option ℕ) (c : ℕ) (x y : Board) (before after : List Processor) → ((d : ℕ) → d ≢ c → slice_get after d ≡ slice_get before d) → StepChangesOnly runs c x y
+    → StepChangesOnly runs c (record x { parts = record x.parts { processors = before } }) (record y { parts = record y.parts { processors = after } })
+moved runs c x y before after others s = record {
+  ticks = s.ticks;
+  stamps = s.stamps;
+  breakpoints = s.breakpoints;
+  processors = others;
+  pipes = s.pipes;
+  ram = s.ram;
+  written = s.written;
+  console = s.console;
+  tasks = s.tasks;
+  line_tasks = s.line_tasks;
+  counts = s.counts;
+  new_task = s.new_task;
+  mutexes = s.mutexes;
+  new_mutex = s.new_mutex;
+  line_mutexes = s.line_mutexes;
+}

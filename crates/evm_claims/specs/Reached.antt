@@ -1,0 +1,37 @@
+-- The states that a run reaches: after a boot, with an image loaded or none, and a list of events.
+use Rattle.std.specs.Prelude.{◌≡◌, ◌⊎◌, ◌%◌, ◌<◌, ◌^◌, ℕ, List, [], Some, false, slice_get}
+use Rattle.evm_model.specs.Event.{Event}
+use Rattle.evm_model.specs.Load.{start_loaded}
+use Rattle.evm_model.specs.Pipes.{Pipe, idle_pipe}
+use Rattle.evm_model.specs.Replay.{bad_boot, start, replay}
+use Rattle.evm_model.specs.State.{State}
+use Rattle.evm_model.specs.declared.boot.Boot.{Boot}
+use Rattle.evm_model.specs.declared.counts.Counts.{Counts}
+
+-- a machine of these boot numbers, whatever they are, with any image or none, is in this state after some events, refused ones among them
+pub record Ran (boot : Boot) (s : State) : Type 0 where
+  pub events : List Event
+  pub from : (s ≡ replay (start boot) events) ⊎ ((byte : ℕ → ℕ) × ((entry : ℕ) × (s ≡ replay (start_loaded byte entry boot) events)))
+
+-- likewise, where the boot numbers are inside their limits and the image begins at a multiple of 4
+pub record Reached (boot : Boot) (s : State) : Type 0 where
+  pub fits : bad_boot boot ≡ false
+  pub events : List Event
+  pub from : (s ≡ replay (start boot) events) ⊎ ((byte : ℕ → ℕ) × ((entry : ℕ) × ((entry % 4 ≡ 0) × (s ≡ replay (start_loaded byte entry boot) events))))
+
+-- a machine that has had no event, whose pipes are idle: any RAM, tasks and processors
+pub record IsIdle (s : State) : Type 0 where
+  pub journal : s.journal ≡ []
+  pub pipes : (c : ℕ) (pipe : Pipe) → slice_get s.board.parts.pipes c ≡ Some pipe → pipe ≡ idle_pipe
+
+-- no count of a line has come near what 64 bits hold
+pub record AreSmall (n : Counts) : Type 0 where
+  pub raised : n.raised < 2 ^ 29
+  pub merged : n.merged < 2 ^ 29
+  pub received : n.received < 2 ^ 29
+  pub oob_arrivals : n.oob.arrivals < 2 ^ 29
+  pub oob_merged : n.oob.merged < 2 ^ 29
+  pub oob_played : n.oob.played < 2 ^ 29
+  pub inband_arrivals : n.inband.arrivals < 2 ^ 29
+  pub inband_merged : n.inband.merged < 2 ^ 29
+  pub inband_played : n.inband.played < 2 ^ 29

@@ -1,0 +1,155 @@
+-- What a Step and a single step may change: one record for both.
+use Rattle.std.specs.Prelude.{◌≡◌, ◌≢◌, ◌+◌, ◌-◌, ◌<◌, ◌≤◌, ◌++◌, ◌⊎◌, ℕ, List, [], ◌∷◌, Bool, true, Option, Some, None, slice_get, slice_set, length, option_map, replicate, drop}
+use Rattle.evm_exec.specs.Does.{does}
+use Rattle.evm_exec.specs.Registers.{register_of, with_register}
+use Rattle.evm_exec.specs.declared.hart.Hart.{Hart}
+use Rattle.evm_exec.specs.declared.outcome.Effect.{Effect}
+use Rattle.evm_exec.specs.declared.outcome.Effect.TheVariants.{Call, Store}
+use Rattle.evm_isa.specs.Decoded.{decoded}
+use Rattle.evm_isa.specs.declared.inst.Inst.{Inst}
+use Rattle.evm_lines.specs.Lines.{has_line}
+use Rattle.evm_model.specs.Memory.{fetch}
+use Rattle.evm_model.specs.Mutexes.{owner}
+use Rattle.evm_model.specs.Pipes.{Pipe, raise}
+use Rattle.evm_model.specs.Policies.{policy_of}
+use Rattle.evm_model.specs.Settle.{is_oob}
+use Rattle.evm_model.specs.State.{Board, Memory}
+use Rattle.evm_model.specs.Tasks.{is_live}
+use Rattle.evm_model.specs.declared.mutex.Mutex.{Mutex}
+use Rattle.evm_model.specs.declared.mutex.Protocol.{Protocol}
+use Rattle.evm_model.specs.declared.task.Class.{Class}
+use Rattle.evm_model.specs.declared.task.Class.TheVariants.{Unattached, RoundRobin}
+use Rattle.evm_model.specs.declared.task.Task.{Task}
+use Rattle.evm_model.specs.declared.task.TaskState.TheVariants.{InReady, OobReady, Waits}
+use Rattle.evm_model.specs.declared.task.Wait.TheVariants.{Line, Lock}
+use Rattle.evm_ram.specs.Ram.{write_at}
+use Rattle.evm_ram.specs.declared.width.Width.{Width}
+
+-- the current task has this hart, and the instruction at its pc does this
+pub record IsAbout (runs : Option ℕ) (task : ℕ) (hart : Hart) (effect : Effect) (harts : List Hart) (memory : Memory) : Type 0 where
+  pub word : ℕ
+  pub inst : Inst
+  pub current : runs ≡ Some task
+  pub has : slice_get harts task ≡ Some hart
+  pub fetched : fetch hart.pc memory ≡ Some word
+  pub decodes : decoded word ≡ Some inst
+  pub effect_is : does inst hart.regs hart.pc ≡ effect
+
+-- ---- a task
+-- the current task is out-of-band and makes call 34 for task t, which has not ended and has a class: it is given the class and the priority of a1 and a2 and a slice of 4, and nothing else
+pub record IsScheduled (runs : Option ℕ) (t : ℕ) (tasks : List Task) (harts : List Hart) (memory : Memory) (task given : Task) : Type 0 where
+  pub caller : ℕ
+  pub hart : Hart
+  pub class : Class
+  pub calls : IsAbout runs caller hart Call harts memory
+  pub oob : is_oob (Some caller) tasks ≡ true
+  pub number : register_of hart.regs 17 ≡ 34
+  pub names : register_of hart.regs 10 ≡ t
+  pub live : is_live task.state ≡ true
+  pub attached : task.class ≢ Unattached
+  pub policy : policy_of (register_of hart.regs 11) (register_of hart.regs 12) ≡ Some class
+  pub given_is : given ≡ record task { class = class; priority = register_of hart.regs 12; slice = 4 }
+
+-- it waited on processor c for a line: it is ready in-band, with a later stamp and an a0 of 0
+pub record WakesInBand (c t stamps : ℕ) (tasks : List Task) (harts : List Hart) (task : Task) (hart : Hart) : Type 0 where
+  pub line : ℕ
+  pub stamp : ℕ
+  pub on : task.state ≡ Waits (Line line)
+  pub at_home : task.cpu ≡ c
+  pub later : stamps ≤ stamp
+  pub task_is : slice_get tasks t ≡ Some (record task { stamp = stamp; deadline = 0; state = InReady })
+  pub hart_is : slice_get harts t ≡ Some (record hart { regs = with_register hart.regs 10 0 })
+
+-- it waited, on whatever processor, for a mutex of the current task: it owns it, locked once, and is ready out-of-band, with a later stamp and an a0 of 0
+pub record InheritsMutex (runs : Option ℕ) (t stamps : ℕ) (before mutexes : List Mutex) (tasks : List Task) (harts : List Hart) (task : Task) (hart : Hart) : Type 0 where
+  pub m : ℕ
+  pub giver : ℕ
+  pub stamp : ℕ
+  pub mutex : Mutex
+  pub on : task.state ≡ Waits (Lock m)
+  pub gives : runs ≡ Some giver
+  pub had : owner before m ≡ Some giver
+  pub mutex_is : slice_get mutexes m ≡ Some mutex
+  pub owns : mutex.owner ≡ Some t
+  pub once : mutex.count ≡ 1
+  pub later : stamps ≤ stamp
+  pub task_is : slice_get tasks t ≡ Some (record task { stamp = stamp; deadline = 0; state = OobReady })
+  pub hart_is : slice_get harts t ≡ Some (record hart { regs = with_register hart.regs 10 0 })
+
+-- it is current, ready out-of-band and of the round-robin class: it has less of its slice, or with a later stamp a slice of at most 4
+pub record SpendsSlice (runs : Option ℕ) (t stamps : ℕ) (tasks : List Task) (harts : List Hart) (task : Task) (hart : Hart) : Type 0 where
+  pub slice : ℕ
+  pub stamp : ℕ
+  pub is_current : runs ≡ Some t
+  pub on : task.state ≡ OobReady
+  pub robin : task.class ≡ RoundRobin
+  pub left : ((stamp ≡ task.stamp) × (slice < task.slice)) ⊎ ((stamps ≤ stamp) × (slice ≤ 4))
+  pub task_is : slice_get tasks t ≡ Some (record task { slice = slice; stamp = stamp })
+  pub hart_is : slice_get harts t ≡ Some hart
+
+-- it is as it was
+pub record Stands (t : ℕ) (tasks : List Task) (harts : List Hart) (task : Task) (hart : Hart) : Type 0 where
+  pub task_is : slice_get tasks t ≡ Some task
+  pub hart_is : slice_get harts t ≡ Some hart
+
+-- a task that is there afterwards and was not before: in-band, unattached, with no mode bits, its registers zero but for a0
+pub record IsNewTask (t : ℕ) (before : List Hart) (tasks : List Task) (harts : List Hart) : Type 0 where
+  pub cpu : ℕ
+  pub stamp : ℕ
+  pub entry : ℕ
+  pub value : ℕ
+  pub task_is : slice_get tasks t ≡ Some (record { cpu = cpu; class = Unattached; priority = 0; slice = 0; mode = record { bits = 0 }; stamp = stamp; deadline = 0; state = InReady })
+  pub hart_is : length before ≡ t → slice_get harts t ≡ Some (record { regs = slice_set (replicate 32 0) 10 value; pc = entry })
+
+-- ---- a mutex
+-- it was free or the current task's, and has another owner or is locked more or less often: nothing else of it changes
+pub record IsAnothers (runs : Option ℕ) (m : ℕ) (mutexes : List Mutex) (before : Mutex) : Type 0 where
+  pub after : Mutex
+  pub there : slice_get mutexes m ≡ Some after
+  pub kind : after ≡ record before { owner = after.owner; count = after.count }
+  pub whose : (before.owner ≡ None) ⊎ (before.owner ≡ runs)
+
+-- there is one more, where there were fewer than 32: the last, a free one
+pub record AddsFreeMutex (before mutexes : List Mutex) : Type 0 where
+  pub recursive : Bool
+  pub protocol : Protocol
+  pub one_more : length mutexes ≡ length before + 1
+  pub few : length before < 32
+  pub free : slice_get mutexes (length before) ≡ Some (record { recursive = recursive; protocol = protocol; owner = None; count = 0 })
+
+-- ---- a step of processor c, whose current task was this
+pub record StepChangesOnly (runs : Option ℕ) (c : ℕ) (old new : Board) : Type 0 where
+  pub ticks : new.parts.ticks ≡ old.parts.ticks
+  pub stamps : old.parts.stamps ≤ new.parts.stamps
+  pub breakpoints : new.breakpoints ≡ old.breakpoints
+  pub processors : (d : ℕ) → d ≢ c → slice_get new.parts.processors d ≡ slice_get old.parts.processors d
+  -- on other pipes at most line 1 is raised
+  pub pipes : (d : ℕ) → d ≢ c → (slice_get new.parts.pipes d ≡ slice_get old.parts.pipes d) ⊎ (slice_get new.parts.pipes d ≡ option_map (raise 1) (slice_get old.parts.pipes d))
+  -- RAM changes only where the instruction is a store, which then has written its value at its address
+  pub ram : ((task address value : ℕ) (hart : Hart) (width : Width) → IsAbout runs task hart (Store width address value) old.parts.harts old.memory → ⊥) → new.memory.ram ≡ old.memory.ram
+  pub written : (task address value : ℕ) (hart : Hart) (width : Width) → IsAbout runs task hart (Store width address value) old.parts.harts old.memory
+      → (new.memory.ram ≡ old.memory.ram) ⊎ (write_at old.memory.ram address width value ≡ Some new.memory.ram)
+  -- the console has one byte more at the most, the last 4096 of them
+  pub console : (new.parts.console ≡ old.parts.console)
+      ⊎ ((byte : ℕ) × (new.parts.console ≡ drop (length (old.parts.console ++ byte ∷ []) - 4096) (old.parts.console ++ byte ∷ [])))
+  -- each task but the current one, as call 34 may have given it another class, stands, wakes or inherits
+  pub tasks : (t : ℕ) (task : Task) (hart : Hart) → runs ≢ Some t → slice_get old.parts.tasks t ≡ Some task → slice_get old.parts.harts t ≡ Some hart
+      → (given : Task) × (((given ≡ task) ⊎ IsScheduled runs t old.parts.tasks old.parts.harts old.memory task given)
+      × (Stands t new.parts.tasks new.parts.harts given hart
+      ⊎ WakesInBand c t old.parts.stamps new.parts.tasks new.parts.harts given hart
+      ⊎ InheritsMutex runs t old.parts.stamps old.parts.mutexes new.parts.mutexes new.parts.tasks new.parts.harts given hart))
+  -- where a line is on the wire each task, the current one too, stands, wakes or spends its slice
+  pub line_tasks : (l t : ℕ) (pipe : Pipe) (task : Task) (hart : Hart) → slice_get old.parts.pipes c ≡ Some pipe → has_line pipe.wire l ≡ true
+      → slice_get old.parts.tasks t ≡ Some task → slice_get old.parts.harts t ≡ Some hart
+      → Stands t new.parts.tasks new.parts.harts task hart
+      ⊎ WakesInBand c t old.parts.stamps new.parts.tasks new.parts.harts task hart
+      ⊎ SpendsSlice runs t old.parts.stamps new.parts.tasks new.parts.harts task hart
+  -- as many tasks, with their harts, or one of each more where there were fewer than 64
+  pub counts : ((length new.parts.tasks ≡ length old.parts.tasks) × (length new.parts.harts ≡ length old.parts.harts))
+      ⊎ ((length new.parts.tasks ≡ length old.parts.tasks + 1) × (length new.parts.harts ≡ length old.parts.harts + 1) × (length old.parts.tasks < 64))
+  pub new_task : length new.parts.tasks ≡ length old.parts.tasks + 1 → IsNewTask (length old.parts.tasks) old.parts.harts new.parts.tasks new.parts.harts
+  -- each mutex stands, or is another's
+  pub mutexes : (m : ℕ) (before : Mutex) → slice_get old.parts.mutexes m ≡ Some before → (slice_get new.parts.mutexes m ≡ Some before) ⊎ IsAnothers runs m new.parts.mutexes before
+  pub new_mutex : (length new.parts.mutexes ≡ length old.parts.mutexes) ⊎ AddsFreeMutex old.parts.mutexes new.parts.mutexes
+  -- where a line is on the wire none changes
+  pub line_mutexes : (l : ℕ) (pipe : Pipe) → slice_get old.parts.pipes c ≡ Some pipe → has_line pipe.wire l ≡ true → new.parts.mutexes ≡ old.parts.mutexes
