@@ -1,4 +1,4 @@
-ghost use Rattle.std.specs.Prelude.{◌≡◌, ◌<◌, ◌≤◌, ◌+◌, ◌-◌, [], ◌∷◌, ◌++◌, Some, length, slice_get};
+ghost use Rattle.std.specs.Prelude.{◌≡◌, ℕ, ◌<◌, ◌≤◌, ◌+◌, ◌-◌, [], ◌∷◌, ◌++◌, Some, length, slice_get};
 ghost use Rattle.evm_model.specs.Lists.{change};
 
 use arrayvec::ArrayVec;
@@ -54,7 +54,7 @@ impl Semaphores {
 
     /// Semaphore s has one less.
     pub fn take(&mut self, s: u8)
-        requires { slice_get self.old s ≡ Some 0 → ⊥ }
+        requires { (n : ℕ) → slice_get self.old s ≡ Some n → 0 < n }
         ensures { self.new ≡ change (λ n. n - 1) self.old s }
     {
         if let Some(count) = self.counts.get_mut(s as usize) {
@@ -64,7 +64,7 @@ impl Semaphores {
 
     /// Semaphore s has one more.
     pub fn put(&mut self, s: u8)
-        requires { slice_get self.old s ≡ Some COUNT_LIMIT → ⊥ }
+        requires { (n : ℕ) → slice_get self.old s ≡ Some n → n < COUNT_LIMIT }
         ensures { self.new ≡ change (λ n. n + 1) self.old s }
     {
         if let Some(count) = self.counts.get_mut(s as usize) {
