@@ -21,13 +21,13 @@ use Rattle.evm_model.specs.declared.mutex.Mutex.{Mutex}
 use Rattle.evm_model.specs.declared.task.Task.{Task}
 use Rattle.evm_model.specs.declared.task.TaskState.{TaskState}
 use Rattle.evm_model.specs.declared.task.TaskState.TheVariants.{InReady, Waits}
-use Rattle.evm_model.specs.declared.task.Wait.TheVariants.{Line, Lock}
+use Rattle.evm_model.specs.declared.task.Wait.TheVariants.{Line, Lock, Semaphore}
 use Rattle.evm_model.proofs.Lists.{slice_get-set_other, change-elsewhere, change-cases, length-change, slice_get-push, slice_get-below, slice_get-each}
 use Rattle.evm_walk.proofs.Sizes.{of_spend}
-use Rattle.evm_walk.proofs.Walk.{Actor, IsOldTask, Does, hart, task, stamps, turns, spends, wakes, inherits, holds, marks, picks, moves, tells, clock, schedules, adds, makes, types, Walk, start, next}
+use Rattle.evm_walk.proofs.Walk.{Actor, IsOldTask, Does, hart, task, stamps, turns, spends, wakes, inherits, serves, holds, marks, picks, moves, tells, clock, schedules, adds, makes, types, Walk, start, next}
 use Rattle.evm_runs.specs.Changes.{Added, Made, Typed}
 use Rattle.evm_runs.specs.Kept.{AreRegisters, AllHaveRegisters}
-use Rattle.evm_runs.proofs.Fares.{LineWaiter, line_waiter, Waiter, first_waits}
+use Rattle.evm_runs.proofs.Fares.{LineWaiter, Sleeper, line_waiter, Waiter, first_sleeps, first_waits}
 
 last_there : {X : Type 0} (xs : List X) (y : X) → slice_get (xs ++ y ∷ []) (length xs) ≡ Some y
 last_there [] y = refl
@@ -60,6 +60,7 @@ module _ (a : Actor) (old : Parts) where
   does_registers _ _ _ _ (spends t x k runs there on) h = of_spend (λ y. AllHaveRegisters y.harts) t x.slice k h h
   does_registers _ _ _ _ (wakes t l k on) h = change-registers t A0 0 (set_register A0 0) k.harts (λ x. refl) h
   does_registers _ _ _ _ (inherits t u m k own same its first) h = change-registers u A0 0 (set_register A0 0) k.harts (λ x. refl) h
+  does_registers _ _ _ _ (serves t u s k own first) h = change-registers u A0 0 (set_register A0 0) k.harts (λ x. refl) h
   does_registers _ _ _ _ (adds t entry value cpu k own fresh room) h = λ u x e. elim (slice_get-push k.harts (spawned_hart entry value) u x e) [
     | inl there ↦ h u x there
     | inr last ↦ rw last.1 (spawned-are entry value)
@@ -147,6 +148,10 @@ module _ (a : Actor) (old : Parts) where
       let w : Waiter u m k = first_waits u m k first in
       added_one old k _ u (length-change _ _ u ∙ length-change _ k.tasks u) (length-change _ k.harts u) (λ v o. change-elsewhere _ _ u v o ∙ change-elsewhere _ k.tasks u v o) (λ v o. change-elsewhere _ k.harts u v o)
       (λ cpu stamp more new. not_new (length old.tasks) u cpu stamp k w.task new w.there (λ e. let no : Waits (Lock m) ≡ InReady = sym w.on ∙ e in cc)) p
+  does_add _ _ _ _ (serves t u s k own first) p =
+      let w : Sleeper u s k = first_sleeps u s k first in
+      added_one old k _ u (length-change _ _ u ∙ length-change _ k.tasks u) (length-change _ k.harts u) (λ v o. change-elsewhere _ _ u v o ∙ change-elsewhere _ k.tasks u v o) (λ v o. change-elsewhere _ k.harts u v o)
+      (λ cpu stamp more new. not_new (length old.tasks) u cpu stamp k w.task new w.there (λ e. let no : Waits (Semaphore s) ≡ InReady = sym w.on ∙ e in cc)) p
   does_add _ _ _ _ (schedules u priority class k fresh asks) p = added_on old k _ (length-change _ k.tasks u) refl (λ more h. absurd (omega (arith, more, ap length fresh.tasks))) p
   does_add _ _ _ _ (adds t entry value cpu k own fresh room) p =
       let tasks : length k.tasks ≡ length old.tasks = ap length fresh.tasks in
