@@ -1,5 +1,6 @@
 -- Room for counts, as a row takes it up.
-use Rattle.std.proofs.Common.{ℕ, ◌+◌, ◌-◌, ◌^◌, ◌≤◌, Bool, true, false, Some, refl, arith}
+use Rattle.std.proofs.Common.{◌≡◌, ℕ, length, ◌+◌, ◌-◌, ◌^◌, ◌≤◌, Bool, true, false, Some, refl, arith}
+use Rattle.evm_calls.specs.Room.{COUNT_LIMIT, PER_CALL, HasRoom}
 use Rattle.evm_model.specs.Bounds.{PipesUpTo, HeldUpTo}
 use Rattle.evm_model.specs.Calls.{call}
 use Rattle.evm_model.specs.Commands.{set_bits}
@@ -52,7 +53,16 @@ room-call c t k h = within-more (2 ^ 61 + 1) (2 ^ 62) _ (omega arith) (within-wa
 pub stamps-call : (c t : ℕ) (k : Parts) → AreFew k → k.stamps ≤ 2 ^ 60 → (call c t k).stamps ≤ 2 ^ 61
 stamps-call c t k few h = omega (arith, walk_most (acts c t) k 1 33 _ few (walks c t k))
 
-pub ruleset calls = (room-call, stamps-call)
+-- .. and before it
+pub room-asked : (k : Parts) → AreWithin (2 ^ 61) k → k.stamps ≤ 2 ^ 60 → HeldUpTo (2 ^ 62) k.mutexes → length k.harts ≡ length k.tasks → HasRoom PER_CALL k
+room-asked k w s h same = record {
+  stamps = omega arith;
+  counts = PipesUpTo-more (2 ^ 61) (COUNT_LIMIT - PER_CALL) k.pipes (omega arith) w.up;
+  holds = h;
+  harts = same;
+}
+
+pub ruleset calls = (room-call, stamps-call, room-asked)
 
 pub room-less_61 : (k : Parts) → AreWithin (2 ^ 61) k → AreWithin (2 ^ 62) k
 room-less_61 k h = within-more (2 ^ 61) (2 ^ 62) k (omega arith) h

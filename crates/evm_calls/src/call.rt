@@ -1,10 +1,12 @@
 //! The ECALL itself.
 
-ghost use Rattle.std.specs.Prelude.{◌≡◌, ◌<◌, ◌≤◌, ◌+◌, ◌^◌, length};
+ghost use Rattle.std.specs.Prelude.{◌≡◌};
 ghost use Rattle.evm_exec.specs.declared.hart.Hart.{Hart};
-ghost use Rattle.evm_model.specs.Bounds.{HeldUpTo};
+ghost use Rattle.evm_calls.specs.Room.{PER_CALL, HasRoom, HasStamps};
 ghost use Rattle.evm_model.specs.Calls.{perform, return_weak, answered, finish_call, ask_oob, call_on, call_stage, call};
+ghost use Rattle.evm_calls.specs.Asking.{IsAsked, IsMade};
 ghost use Rattle.evm_parts.specs.evm_task.Asks.{AskedBy};
+ghost use Rattle.evm_walk.proofs.Walk.{AreFew};
 
 use crate::clock::clock;
 use crate::console::putc;
@@ -20,11 +22,8 @@ use evm_parts::{Asked, Parts};
 
 // What a call does.
 fn perform(parts: &mut Parts, call: Call, asked: Asked, c: u8, t: u8) -> Outcome
-    requires stamps { parts.old.stamps < 2 ^ 62 }
-    requires harts { length parts.old.harts ≡ length parts.old.tasks }
-    requires held { HeldUpTo (2 ^ 62) parts.old.mutexes }
-    ensures row { (hart : Hart) → AskedBy asked hart → (parts.new, result) ≡ perform call hart c t parts.old }
-    ensures stamps { parts.new.stamps ≤ parts.old.stamps + 32 }
+    requires room { HasRoom PER_CALL parts.old }
+    ensures { (hart : Hart) → AskedBy asked hart → (parts.new, result) ≡ perform call hart c t parts.old }
 {
     match call {
         Call::Exit => exit(parts, c, t),
@@ -60,7 +59,7 @@ fn perform(parts: &mut Parts, call: Call, asked: Asked, c: u8, t: u8) -> Outcome
 // A weak task that owns no mutex stays out-of-band only until its call is answered.
 #[tactic(auto, unfolding(evm_model::specs::Calls::return_weak))]
 fn return_weak(parts: &mut Parts, c: u8, t: u8)
-    requires room { parts.old.stamps < 2 ^ 63 }
+    requires room { HasStamps 1 parts.old }
     ensures { parts.new ≡ return_weak c t parts.old }
 {
     if parts.tasks.is_weak_oob(t) && !parts.owns_any(t) {
@@ -70,7 +69,7 @@ fn return_weak(parts: &mut Parts, c: u8, t: u8)
 
 // A call is answered, or its task waits, or has left.
 fn answer(parts: &mut Parts, outcome: Outcome, c: u8, t: u8)
-    requires room { parts.old.stamps < 2 ^ 63 }
+    requires room { HasStamps 1 parts.old }
     ensures { parts.new ≡ answered outcome c t parts.old }
 {
     match outcome {
@@ -85,9 +84,9 @@ fn answer(parts: &mut Parts, outcome: Outcome, c: u8, t: u8)
 
 // What a call does, and what comes of it.
 fn finish(parts: &mut Parts, call: Call, asked: Asked, c: u8, t: u8)
-    requires stamps { parts.old.stamps < 2 ^ 62 }
-    requires harts { length parts.old.harts ≡ length parts.old.tasks }
-    requires held { HeldUpTo (2 ^ 62) parts.old.mutexes }
+    requires room { HasRoom PER_CALL parts.old }
+    requires few { AreFew parts.old }
+    requires made { IsMade call asked c t parts.old }
     ensures { (hart : Hart) → AskedBy asked hart → parts.new ≡ finish_call c t (perform call hart c t parts.old) }
 {
     let outcome = perform(parts, call, asked, c, t);
@@ -97,7 +96,7 @@ fn finish(parts: &mut Parts, call: Call, asked: Asked, c: u8, t: u8)
 // A task that may goes out-of-band, its pc unchanged, so that it makes its call again there.
 #[tactic(auto, unfolding(evm_model::specs::Calls::ask_oob))]
 fn ask_oob(parts: &mut Parts, c: u8, t: u8)
-    requires stamps { parts.old.stamps < 2 ^ 62 }
+    requires room { HasStamps 1 parts.old }
     ensures { parts.new ≡ ask_oob c t parts.old }
 {
     if parts.may_promote(c, t) {
@@ -108,10 +107,11 @@ fn ask_oob(parts: &mut Parts, c: u8, t: u8)
 }
 
 // A call of the other stage changes the task's stage first; one of either stage never does.
+#[tactic(auto, using(crate::proofs::Asked::made))]
 fn call_on(parts: &mut Parts, call: Call, asked: Asked, c: u8, t: u8)
-    requires stamps { parts.old.stamps < 2 ^ 62 }
-    requires harts { length parts.old.harts ≡ length parts.old.tasks }
-    requires held { HeldUpTo (2 ^ 62) parts.old.mutexes }
+    requires room { HasRoom PER_CALL parts.old }
+    requires few { AreFew parts.old }
+    requires asked { IsAsked call asked c t parts.old }
     ensures { (hart : Hart) → AskedBy asked hart → parts.new ≡ call_on (call_stage call) call hart c t parts.old }
 {
     let is_oob = parts.tasks.is_oob(Some(t));
@@ -126,11 +126,10 @@ fn call_on(parts: &mut Parts, call: Call, asked: Asked, c: u8, t: u8)
 /// out-of-band task goes in-band, its pc unchanged, and at one of the out-of-band kernel an in-band task goes
 /// out-of-band, or is answered -1 where it may not; so it makes the call again on the other stage. A number that is
 /// no call's answers -38.
-#[tactic(auto, unfolding(evm_model::specs::Calls::call))]
+#[tactic(auto, using(crate::proofs::Asked::asked), unfolding(evm_model::specs::Calls::call))]
 pub fn call(parts: &mut Parts, c: u8, t: u8)
-    requires stamps { parts.old.stamps < 2 ^ 62 }
-    requires harts { length parts.old.harts ≡ length parts.old.tasks }
-    requires held { HeldUpTo (2 ^ 62) parts.old.mutexes }
+    requires room { HasRoom PER_CALL parts.old }
+    requires few { AreFew parts.old }
     ensures { parts.new ≡ call c t parts.old }
 {
     let Some(asked) = parts.harts.asked(t) else {

@@ -7,8 +7,7 @@ use evm_parts::Parts;
 /// Call 1: the low byte goes to the console; answers 0.
 #[tactic(auto, unfolding(evm_model::specs::InBandCalls::putc))]
 pub fn putc(parts: &mut Parts, byte: u64) -> Outcome
-    ensures row { (parts.new, result) ≡ putc byte parts.old }
-    ensures stamps { parts.new.stamps ≡ parts.old.stamps }
+    ensures { (parts.new, result) ≡ putc byte parts.old }
 {
     parts.console.push((byte % 256) as u8);
     Outcome::Answers(0)

@@ -1,6 +1,7 @@
 //! Interrupt lines: their actions, and waiting for them.
 
-ghost use Rattle.std.specs.Prelude.{◌≡◌, ◌<◌, ◌≤◌, ◌+◌, ◌^◌};
+ghost use Rattle.std.specs.Prelude.{◌≡◌};
+ghost use Rattle.evm_calls.specs.Room.{PER_CALL, HasRoom};
 ghost use Rattle.evm_model.specs.InBandCalls.{wait_line, set_line};
 
 use crate::refused::refused;
@@ -11,9 +12,8 @@ use evm_parts::Parts;
 /// is no such line, else -1 while in-band is stalled.
 #[tactic(auto, unfolding(evm_model::specs::InBandCalls::wait_line))]
 pub fn wait_line(parts: &mut Parts, c: u8, t: u8, line: u64) -> Outcome
-    requires stamps { parts.old.stamps < 2 ^ 62 }
-    ensures row { (parts.new, result) ≡ wait_line c t line parts.old }
-    ensures stamps { parts.new.stamps ≤ parts.old.stamps + 1 }
+    requires room { HasRoom PER_CALL parts.old }
+    ensures { (parts.new, result) ≡ wait_line c t line parts.old }
 {
     if line >= u64::from(parts.line_count()) {
         return refused(Errno::Invalid);

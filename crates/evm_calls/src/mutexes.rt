@@ -1,7 +1,7 @@
 //! Mutexes.
 
-ghost use Rattle.std.specs.Prelude.{◌≡◌, ◌<◌, ◌≤◌, ◌+◌, ◌^◌};
-ghost use Rattle.evm_model.specs.Bounds.{HeldUpTo};
+ghost use Rattle.std.specs.Prelude.{◌≡◌, ◌≤◌};
+ghost use Rattle.evm_calls.specs.Room.{COUNT_LIMIT, PER_CALL, HasRoom};
 ghost use Rattle.evm_model.specs.Locks.{new_mutex, mutex_of, with_ceiling, lock, lock_again, lock_other, try_lock, unlock, unlock_once};
 ghost use Rattle.evm_model.specs.Mutexes.{free_mutex};
 
@@ -48,8 +48,7 @@ fn mutex_of(kind: u64, priority: u64) -> Option<Mutex>
 /// or ceiling, else -12 where there are 32 mutexes.
 #[tactic(auto, unfolding(evm_model::specs::Locks::new_mutex))]
 pub fn new_mutex(parts: &mut Parts, kind: u64, priority: u64) -> Outcome
-    ensures row { (parts.new, result) ≡ new_mutex kind priority parts.old }
-    ensures stamps { parts.new.stamps ≡ parts.old.stamps }
+    ensures { (parts.new, result) ≡ new_mutex kind priority parts.old }
 {
     let Some(mutex) = mutex_of(kind, priority) else {
         return refused(Errno::Invalid);
@@ -65,9 +64,8 @@ pub fn new_mutex(parts: &mut Parts, kind: u64, priority: u64) -> Outcome
 // The task has a mutex of its own once more, where that is recursive.
 #[tactic(auto, unfolding(evm_model::specs::Locks::lock_again))]
 fn lock_again(parts: &mut Parts, t: u8, m: u8, mutex: Mutex) -> Outcome
-    requires { mutex.count ≤ 2 ^ 62 }
-    ensures row { (parts.new, result) ≡ lock_again t m mutex parts.old }
-    ensures stamps { parts.new.stamps ≡ parts.old.stamps }
+    requires room { mutex.count ≤ COUNT_LIMIT }
+    ensures { (parts.new, result) ≡ lock_again t m mutex parts.old }
 {
     if !mutex.recursive {
         return refused(Errno::Deadlock);
@@ -79,9 +77,8 @@ fn lock_again(parts: &mut Parts, t: u8, m: u8, mutex: Mutex) -> Outcome
 // The task waits for a mutex of task u's.
 #[tactic(auto, unfolding(evm_model::specs::Locks::lock_other))]
 fn lock_other(parts: &mut Parts, c: u8, t: u8, m: u8, u: u8, deadline: u64) -> Outcome
-    requires stamps { parts.old.stamps < 2 ^ 62 }
-    ensures row { (parts.new, result) ≡ lock_other c t m u deadline parts.old }
-    ensures stamps { parts.new.stamps ≤ parts.old.stamps + 1 }
+    requires room { HasRoom PER_CALL parts.old }
+    ensures { (parts.new, result) ≡ lock_other c t m u deadline parts.old }
 {
     if parts.is_stalled(c, Stage::OutOfBand) {
         return refused(Errno::NotPermitted);
@@ -101,10 +98,8 @@ fn lock_other(parts: &mut Parts, c: u8, t: u8, m: u8, u: u8, deadline: u64) -> O
 /// stalled, else -35 where that one waits for the task by some chain, else -22 for a deadline: there is none yet.
 #[tactic(auto, unfolding(evm_model::specs::Locks::lock))]
 pub fn lock(parts: &mut Parts, c: u8, t: u8, mutex: u64, deadline: u64) -> Outcome
-    requires stamps { parts.old.stamps < 2 ^ 62 }
-    requires held { HeldUpTo (2 ^ 62) parts.old.mutexes }
-    ensures row { (parts.new, result) ≡ lock c t mutex deadline parts.old }
-    ensures stamps { parts.new.stamps ≤ parts.old.stamps + 1 }
+    requires room { HasRoom PER_CALL parts.old }
+    ensures { (parts.new, result) ≡ lock c t mutex deadline parts.old }
 {
     if mutex >= u64::from(parts.mutexes.count()) {
         return refused(Errno::Invalid);
@@ -127,9 +122,8 @@ pub fn lock(parts: &mut Parts, c: u8, t: u8, mutex: u64, deadline: u64) -> Outco
 /// another task owns it. Where the task owns it, it has it once more, or -35 if it isn't recursive.
 #[tactic(auto, unfolding(evm_model::specs::Locks::try_lock))]
 pub fn try_lock(parts: &mut Parts, t: u8, mutex: u64) -> Outcome
-    requires { HeldUpTo (2 ^ 62) parts.old.mutexes }
-    ensures row { (parts.new, result) ≡ try_lock t mutex parts.old }
-    ensures stamps { parts.new.stamps ≡ parts.old.stamps }
+    requires room { HasRoom PER_CALL parts.old }
+    ensures { (parts.new, result) ≡ try_lock t mutex parts.old }
 {
     if mutex >= u64::from(parts.mutexes.count()) {
         return refused(Errno::Invalid);
@@ -151,9 +145,8 @@ pub fn try_lock(parts: &mut Parts, t: u8, mutex: u64) -> Outcome
 // The task has its mutex once less; the last time it passes on.
 #[tactic(auto, unfolding(evm_model::specs::Locks::unlock_once))]
 fn unlock_once(parts: &mut Parts, t: u8, m: u8, mutex: Mutex)
-    requires stamps { parts.old.stamps < 2 ^ 62 }
-    ensures row { parts.new ≡ unlock_once t m mutex parts.old }
-    ensures stamps { parts.new.stamps ≤ parts.old.stamps + 1 }
+    requires room { HasRoom PER_CALL parts.old }
+    ensures { parts.new ≡ unlock_once t m mutex parts.old }
 {
     if mutex.count <= 1 {
         parts.pass_on(m);
@@ -166,9 +159,8 @@ fn unlock_once(parts: &mut Parts, t: u8, m: u8, mutex: Mutex)
 /// the tasks that wait for it has it. -22 where there is no such mutex, else -1 where the task doesn't own it.
 #[tactic(auto, unfolding(evm_model::specs::Locks::unlock))]
 pub fn unlock(parts: &mut Parts, t: u8, mutex: u64) -> Outcome
-    requires stamps { parts.old.stamps < 2 ^ 62 }
-    ensures row { (parts.new, result) ≡ unlock t mutex parts.old }
-    ensures stamps { parts.new.stamps ≤ parts.old.stamps + 1 }
+    requires room { HasRoom PER_CALL parts.old }
+    ensures { (parts.new, result) ≡ unlock t mutex parts.old }
 {
     if u64::from(parts.mutexes.count()) <= mutex {
         return refused(Errno::Invalid);

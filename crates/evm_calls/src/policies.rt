@@ -46,8 +46,7 @@ pub fn policy_of(class: u64, priority: u64) -> Option<Class>
 /// priority, else -16 where the task has a class.
 #[tactic(auto, unfolding(evm_model::specs::InBandCalls::attach))]
 pub fn attach(parts: &mut Parts, t: u8, class: u64, priority: u64) -> Outcome
-    ensures row { (parts.new, result) ≡ attach t class priority parts.old }
-    ensures stamps { parts.new.stamps ≡ parts.old.stamps }
+    ensures { (parts.new, result) ≡ attach t class priority parts.old }
 {
     let Some(wanted) = policy_of(class, priority) else {
         return refused(Errno::Invalid);
@@ -63,8 +62,7 @@ pub fn attach(parts: &mut Parts, t: u8, class: u64, priority: u64) -> Outcome
 /// while it owns a mutex.
 #[tactic(auto, unfolding(evm_model::specs::InBandCalls::detach))]
 pub fn detach(parts: &mut Parts, t: u8) -> Outcome
-    ensures row { (parts.new, result) ≡ detach t parts.old }
-    ensures stamps { parts.new.stamps ≡ parts.old.stamps }
+    ensures { (parts.new, result) ≡ detach t parts.old }
 {
     if !parts.is_attached(t) {
         return refused(Errno::NotPermitted);
@@ -81,8 +79,7 @@ pub fn detach(parts: &mut Parts, t: u8) -> Outcome
 /// priority.
 #[tactic(auto, unfolding(evm_model::specs::OobCalls::set_sched))]
 pub fn set_sched(parts: &mut Parts, task: u64, class: u64, priority: u64) -> Outcome
-    ensures row { (parts.new, result) ≡ set_sched task class priority parts.old }
-    ensures stamps { parts.new.stamps ≡ parts.old.stamps }
+    ensures { (parts.new, result) ≡ set_sched task class priority parts.old }
 {
     if task >= u64::from(parts.tasks.count()) || !parts.tasks.is_scheduled(task as u8) {
         return refused(Errno::NoSuchTask);
@@ -97,8 +94,7 @@ pub fn set_sched(parts: &mut Parts, task: u64, class: u64, priority: u64) -> Out
 /// Call 35: the task has these mode bits, 1 and 2 and their sum 3; answers the old ones. -22 for more.
 #[tactic(auto, unfolding(evm_model::specs::OobCalls::set_mode))]
 pub fn set_mode(parts: &mut Parts, t: u8, bits: u64) -> Outcome
-    ensures row { (parts.new, result) ≡ set_mode t bits parts.old }
-    ensures stamps { parts.new.stamps ≡ parts.old.stamps }
+    ensures { (parts.new, result) ≡ set_mode t bits parts.old }
 {
     if bits > u64::from(MODE_LIMIT) {
         return refused(Errno::Invalid);

@@ -1,20 +1,20 @@
 //! Semaphores.
 
-ghost use Rattle.std.specs.Prelude.{◌≡◌, ◌<◌, ◌≤◌, ◌+◌, ◌^◌};
+ghost use Rattle.std.specs.Prelude.{◌≡◌};
+ghost use Rattle.evm_calls.specs.Room.{PER_CALL, HasRoom};
 ghost use Rattle.evm_model.specs.Semaphores.{new_semaphore, sem_get, sem_try_get, sem_put};
 
 use crate::refused::refused;
-use evm_model::{COUNT_LIMIT, Errno, Outcome, SEMAPHORE_LIMIT, Stage, Wait};
+use evm_model::{Errno, Outcome, SEMAPHORE_COUNT_LIMIT, SEMAPHORE_LIMIT, Stage, Wait};
 use evm_parts::Parts;
 
 /// Call 10: a new semaphore of this count; answers its number. -22 for a count above 2,147,483,647, else -12 if there
 /// are 32 semaphores.
 #[tactic(auto, unfolding(evm_model::specs::Semaphores::new_semaphore))]
 pub fn new_semaphore(parts: &mut Parts, count: u64) -> Outcome
-    ensures row { (parts.new, result) ≡ new_semaphore count parts.old }
-    ensures stamps { parts.new.stamps ≡ parts.old.stamps }
+    ensures { (parts.new, result) ≡ new_semaphore count parts.old }
 {
-    if count > u64::from(COUNT_LIMIT) {
+    if count > u64::from(SEMAPHORE_COUNT_LIMIT) {
         return refused(Errno::Invalid);
     }
     let number = parts.semaphores.count();
@@ -29,9 +29,8 @@ pub fn new_semaphore(parts: &mut Parts, count: u64) -> Outcome
 /// would wait, -1 while out-of-band is stalled, else -22 for a deadline: there is none yet.
 #[tactic(auto, unfolding(evm_model::specs::Semaphores::sem_get))]
 pub fn sem_get(parts: &mut Parts, c: u8, t: u8, semaphore: u64, deadline: u64) -> Outcome
-    requires stamps { parts.old.stamps < 2 ^ 62 }
-    ensures row { (parts.new, result) ≡ sem_get c t semaphore deadline parts.old }
-    ensures stamps { parts.new.stamps ≤ parts.old.stamps + 1 }
+    requires room { HasRoom PER_CALL parts.old }
+    ensures { (parts.new, result) ≡ sem_get c t semaphore deadline parts.old }
 {
     if semaphore >= u64::from(parts.semaphores.count()) {
         return refused(Errno::Invalid);
@@ -59,8 +58,7 @@ pub fn sem_get(parts: &mut Parts, c: u8, t: u8, semaphore: u64, deadline: u64) -
 /// Call 40: the task takes one from a semaphore; answers 0. -22 if there is no such semaphore, -11 if it is empty.
 #[tactic(auto, unfolding(evm_model::specs::Semaphores::sem_try_get))]
 pub fn sem_try_get(parts: &mut Parts, semaphore: u64) -> Outcome
-    ensures row { (parts.new, result) ≡ sem_try_get semaphore parts.old }
-    ensures stamps { parts.new.stamps ≡ parts.old.stamps }
+    ensures { (parts.new, result) ≡ sem_try_get semaphore parts.old }
 {
     if semaphore >= u64::from(parts.semaphores.count()) {
         return refused(Errno::Invalid);
@@ -80,9 +78,8 @@ pub fn sem_try_get(parts: &mut Parts, semaphore: u64) -> Outcome
 /// -22 if there is no such semaphore, or if its count is 2,147,483,647.
 #[tactic(auto, unfolding(evm_model::specs::Semaphores::sem_put))]
 pub fn sem_put(parts: &mut Parts, semaphore: u64) -> Outcome
-    requires stamps { parts.old.stamps < 2 ^ 62 }
-    ensures row { (parts.new, result) ≡ sem_put semaphore parts.old }
-    ensures stamps { parts.new.stamps ≤ parts.old.stamps + 1 }
+    requires room { HasRoom PER_CALL parts.old }
+    ensures { (parts.new, result) ≡ sem_put semaphore parts.old }
 {
     if semaphore >= u64::from(parts.semaphores.count()) {
         return refused(Errno::Invalid);
@@ -96,7 +93,7 @@ pub fn sem_put(parts: &mut Parts, semaphore: u64) -> Outcome
             parts.wake(t, 0);
             Outcome::Answers(0)
         }
-        None if count >= COUNT_LIMIT => refused(Errno::Invalid),
+        None if count >= SEMAPHORE_COUNT_LIMIT => refused(Errno::Invalid),
         None => {
             parts.put_semaphore(s);
             Outcome::Answers(0)

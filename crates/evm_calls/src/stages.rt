@@ -1,6 +1,7 @@
 //! The stages of a processor, and the stage of a task.
 
-ghost use Rattle.std.specs.Prelude.{◌≡◌, ◌<◌, ◌≤◌, ◌+◌, ◌^◌};
+ghost use Rattle.std.specs.Prelude.{◌≡◌};
+ghost use Rattle.evm_calls.specs.Room.{PER_CALL, HasRoom};
 ghost use Rattle.evm_model.specs.OobCalls.{stall, switch_oob, switch_in_band, state_bits};
 ghost use Rattle.evm_model.specs.Stages.{bit};
 
@@ -12,8 +13,7 @@ use evm_parts::Parts;
 /// bit.
 #[tactic(auto, unfolding(evm_model::specs::OobCalls::stall))]
 pub fn stall(parts: &mut Parts, stage: Stage, stalled: bool, c: u8) -> Outcome
-    ensures row { (parts.new, result) ≡ stall stage stalled c parts.old }
-    ensures stamps { parts.new.stamps ≡ parts.old.stamps }
+    ensures { (parts.new, result) ≡ stall stage stalled c parts.old }
 {
     let old = parts.is_stalled(c, stage);
     parts.set_stall(c, stage, stalled);
@@ -32,9 +32,8 @@ pub fn switch_oob(parts: &Parts) -> Outcome
 /// Call 33: the task goes in-band; answers 0, or -1 while out-of-band is stalled.
 #[tactic(auto, unfolding(evm_model::specs::OobCalls::switch_in_band))]
 pub fn switch_in_band(parts: &mut Parts, c: u8, t: u8) -> Outcome
-    requires stamps { parts.old.stamps < 2 ^ 62 }
-    ensures row { (parts.new, result) ≡ switch_in_band c t parts.old }
-    ensures stamps { parts.new.stamps ≤ parts.old.stamps + 1 }
+    requires room { HasRoom PER_CALL parts.old }
+    ensures { (parts.new, result) ≡ switch_in_band c t parts.old }
 {
     if parts.is_stalled(c, Stage::OutOfBand) {
         return refused(Errno::NotPermitted);

@@ -1,6 +1,7 @@
 //! Tasks that begin, end, and go behind others.
 
-ghost use Rattle.std.specs.Prelude.{◌≡◌, ◌<◌, ◌≤◌, ◌+◌, ◌^◌, length};
+ghost use Rattle.std.specs.Prelude.{◌≡◌};
+ghost use Rattle.evm_calls.specs.Room.{PER_CALL, HasRoom};
 ghost use Rattle.evm_model.specs.InBandCalls.{exit, yield_now, is_bad_entry, spawn};
 ghost use Rattle.evm_model.specs.OobCalls.{yield_oob};
 
@@ -12,9 +13,8 @@ use evm_ram::BASE;
 /// Call 0: the task ends. Its mutexes pass on, and the stall of its processor's in-band stage ends with it.
 #[tactic(auto, unfolding(evm_model::specs::InBandCalls::exit))]
 pub fn exit(parts: &mut Parts, c: u8, t: u8) -> Outcome
-    requires stamps { parts.old.stamps < 2 ^ 62 }
-    ensures row { (parts.new, result) ≡ exit c t parts.old }
-    ensures stamps { parts.new.stamps ≤ parts.old.stamps + 32 }
+    requires room { HasRoom PER_CALL parts.old }
+    ensures { (parts.new, result) ≡ exit c t parts.old }
 {
     parts.end_task(c, t, TaskState::Exit);
     Outcome::Leaves
@@ -23,9 +23,8 @@ pub fn exit(parts: &mut Parts, c: u8, t: u8) -> Outcome
 /// Call 2: the task goes behind the others that are ready in-band; answers 0, or -1 while in-band is stalled.
 #[tactic(auto, unfolding(evm_model::specs::InBandCalls::yield_now))]
 pub fn yield_now(parts: &mut Parts, c: u8, t: u8) -> Outcome
-    requires stamps { parts.old.stamps < 2 ^ 62 }
-    ensures row { (parts.new, result) ≡ yield_now c t parts.old }
-    ensures stamps { parts.new.stamps ≤ parts.old.stamps + 1 }
+    requires room { HasRoom PER_CALL parts.old }
+    ensures { (parts.new, result) ≡ yield_now c t parts.old }
 {
     if parts.is_stalled(c, Stage::InBand) {
         return refused(Errno::NotPermitted);
@@ -47,10 +46,8 @@ fn is_bad_entry(ram: u64, entry: u64) -> bool
 /// 64 tasks.
 #[tactic(auto, unfolding(evm_model::specs::InBandCalls::spawn))]
 pub fn spawn(parts: &mut Parts, entry: u64, value: u64, cpu: u64) -> Outcome
-    requires stamps { parts.old.stamps < 2 ^ 62 }
-    requires harts { length parts.old.harts ≡ length parts.old.tasks }
-    ensures row { (parts.new, result) ≡ spawn entry value cpu parts.old }
-    ensures stamps { parts.new.stamps ≤ parts.old.stamps + 1 }
+    requires room { HasRoom PER_CALL parts.old }
+    ensures { (parts.new, result) ≡ spawn entry value cpu parts.old }
 {
     if is_bad_entry(parts.profile.ram, entry) || cpu >= u64::from(parts.processor_count()) {
         return refused(Errno::Invalid);
@@ -66,9 +63,8 @@ pub fn spawn(parts: &mut Parts, entry: u64, value: u64, cpu: u64) -> Outcome
 /// Call 50: the task goes behind the others of its rank that are ready out-of-band; answers 0.
 #[tactic(auto, unfolding(evm_model::specs::OobCalls::yield_oob))]
 pub fn yield_oob(parts: &mut Parts, t: u8) -> Outcome
-    requires stamps { parts.old.stamps < 2 ^ 62 }
-    ensures row { (parts.new, result) ≡ yield_oob t parts.old }
-    ensures stamps { parts.new.stamps ≤ parts.old.stamps + 1 }
+    requires room { HasRoom PER_CALL parts.old }
+    ensures { (parts.new, result) ≡ yield_oob t parts.old }
 {
     parts.restamp(t);
     Outcome::Answers(0)

@@ -6,7 +6,7 @@ use Rattle.evm_model.specs.Waits.{first_waiter, wake}
 use Rattle.evm_model.specs.declared.call.Outcome.{Outcome}
 use Rattle.evm_model.specs.declared.call.Outcome.TheVariants.{Answers}
 use Rattle.evm_model.specs.declared.errno.Errno.TheVariants.{NoNumber, TryAgain, Invalid}
-use Rattle.evm_model.specs.declared.limits.TheConstants.{SEMAPHORE_LIMIT, COUNT_LIMIT}
+use Rattle.evm_model.specs.declared.limits.TheConstants.{SEMAPHORE_LIMIT, SEMAPHORE_COUNT_LIMIT}
 use Rattle.evm_model.specs.declared.stage.Stage.TheVariants.{OutOfBand}
 use Rattle.evm_model.specs.declared.task.Wait.TheVariants.{Semaphore}
 
@@ -17,7 +17,7 @@ add_semaphore count k = record k { semaphores = k.semaphores ++ count ∷ [] }
 -- its number is answered
 unfoldable pub new_semaphore : ℕ → Parts → Parts × Outcome
 new_semaphore count k =
-    if nat_lt COUNT_LIMIT count then refused Invalid k
+    if nat_lt SEMAPHORE_COUNT_LIMIT count then refused Invalid k
     else (if nat_le SEMAPHORE_LIMIT (length k.semaphores) then refused NoNumber k
     else (add_semaphore count k, Answers (length k.semaphores)))
 
@@ -43,7 +43,7 @@ sem_try_get s k = sem_try_get_known (slice_get k.semaphores s) s k
 -- ---- 41: one is put
 -- the first that waits wakes; if there is none, the count is one more
 abbrev pub sem_put_to : Option ℕ → ℕ → ℕ → Parts → Parts × Outcome
-sem_put_to None s count k = if nat_le COUNT_LIMIT count then refused Invalid k else (on_semaphore s (λ n. n + 1) k, Answers 0)
+sem_put_to None s count k = if nat_le SEMAPHORE_COUNT_LIMIT count then refused Invalid k else (on_semaphore s (λ n. n + 1) k, Answers 0)
 sem_put_to (Some t) s count k = (wake t 0 k, Answers 0)
 
 abbrev pub sem_put_known : Option ℕ → ℕ → Parts → Parts × Outcome

@@ -11,7 +11,7 @@ pub const MUTEX_LIMIT: usize = 32;
 pub const SEMAPHORE_LIMIT: usize = 32;
 
 /// The greatest count of a semaphore.
-pub const COUNT_LIMIT: u32 = 2_147_483_647;
+pub const SEMAPHORE_COUNT_LIMIT: u32 = 2_147_483_647;
 
 /// The most addresses at which breakpoints may be set.
 pub const BREAKPOINT_LIMIT: usize = 64;

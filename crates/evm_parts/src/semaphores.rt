@@ -5,7 +5,7 @@ ghost use Rattle.evm_model.specs.Semaphores.{add_semaphore};
 ghost use Rattle.evm_model.specs.State.{on_semaphore};
 
 use crate::parts::Parts;
-use evm_model::{COUNT_LIMIT, SEMAPHORE_LIMIT};
+use evm_model::{SEMAPHORE_COUNT_LIMIT, SEMAPHORE_LIMIT};
 
 impl Parts {
     /// One semaphore more.
@@ -27,7 +27,7 @@ impl Parts {
 
     /// A semaphore has one more.
     pub fn put_semaphore(&mut self, s: u8)
-        requires { (n : ℕ) → slice_get self.old.semaphores s ≡ Some n → n < COUNT_LIMIT }
+        requires { (n : ℕ) → slice_get self.old.semaphores s ≡ Some n → n < SEMAPHORE_COUNT_LIMIT }
         ensures row { self.new ≡ on_semaphore s (λ n. n + 1) self.old }
     {
         self.semaphores.put(s);

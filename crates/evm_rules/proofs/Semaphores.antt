@@ -10,7 +10,7 @@ use Rattle.evm_model.specs.State.{Parts, on_semaphore}
 use Rattle.evm_model.specs.Waits.{is_wait_for, awaits_task, awaits, first_waiter, begin_wait, wake}
 use Rattle.evm_model.specs.declared.call.Outcome.{Outcome}
 use Rattle.evm_model.specs.declared.errno.Errno.{Errno}
-use Rattle.evm_model.specs.declared.limits.TheConstants.{SEMAPHORE_LIMIT, COUNT_LIMIT}
+use Rattle.evm_model.specs.declared.limits.TheConstants.{SEMAPHORE_LIMIT, SEMAPHORE_COUNT_LIMIT}
 use Rattle.evm_model.specs.declared.stage.Stage.TheVariants.{OutOfBand}
 use Rattle.evm_model.specs.declared.task.Task.{Task}
 use Rattle.evm_model.specs.declared.task.TaskState.{TaskState}
@@ -71,7 +71,7 @@ module _ (c t : ℕ) (k : Parts) (g : GoodBut c k) (o : IsOwn c t k.tasks) where
 
   pub new_semaphore-done : (count : ℕ) → IsDone c t (new_semaphore count k)
   unfolding new_semaphore add_semaphore
-  new_semaphore-done count = either c t (nat_lt COUNT_LIMIT count) _ _ (λ e. same _) (λ e. either c t (nat_le SEMAPHORE_LIMIT (length k.semaphores)) _ _ (λ e. same _) (λ e. changed _ _))
+  new_semaphore-done count = either c t (nat_lt SEMAPHORE_COUNT_LIMIT count) _ _ (λ e. same _) (λ e. either c t (nat_le SEMAPHORE_LIMIT (length k.semaphores)) _ _ (λ e. same _) (λ e. changed _ _))
 
   unless-done : (x : Option Errno) (s deadline : ℕ) → (x ≡ None → GoodBut c (begin_wait t (Semaphore s) deadline k)) → IsDone c t (wait_unless x t (Semaphore s) deadline k)
   unless-done (Some e) s deadline h = same _
@@ -98,7 +98,7 @@ module _ (c t : ℕ) (k : Parts) (g : GoodBut c k) (o : IsOwn c t k.tasks) where
   sem_try_get-done s = try_known-done (slice_get k.semaphores s) s
 
   put_to-done : (x : Option ℕ) (s count : ℕ) → first_waiter (Semaphore s) k ≡ x → IsDone c t (sem_put_to x s count k)
-  put_to-done None s count e = either c t (nat_le COUNT_LIMIT count) _ _ (λ e. same _) (λ e. changed _ _)
+  put_to-done None s count e = either c t (nat_le SEMAPHORE_COUNT_LIMIT count) _ _ (λ e. same _) (λ e. changed _ _)
   put_to-done (Some u) s count e =
       let w : Wakes c u k (wake u 0 k) = first-wakes c u 0 (Semaphore s) k e g in
       record { but = w.but; own = λ v n. alike-own c t k.tasks (wake u 0 k).tasks (w.alike c) o }

@@ -2,7 +2,7 @@ ghost use Rattle.std.specs.Prelude.{◌≡◌, ℕ, ◌<◌, ◌≤◌, ◌+◌,
 ghost use Rattle.evm_model.specs.Lists.{change};
 
 use arrayvec::ArrayVec;
-use evm_model::{COUNT_LIMIT, SEMAPHORE_LIMIT};
+use evm_model::{SEMAPHORE_COUNT_LIMIT, SEMAPHORE_LIMIT};
 use std::marker::Model;
 
 /// The counts of the semaphores, in the order of their numbers.
@@ -64,7 +64,7 @@ impl Semaphores {
 
     /// Semaphore s has one more.
     pub fn put(&mut self, s: u8)
-        requires { (n : ℕ) → slice_get self.old s ≡ Some n → n < COUNT_LIMIT }
+        requires { (n : ℕ) → slice_get self.old s ≡ Some n → n < SEMAPHORE_COUNT_LIMIT }
         ensures { self.new ≡ change (λ n. n + 1) self.old s }
     {
         if let Some(count) = self.counts.get_mut(s as usize) {

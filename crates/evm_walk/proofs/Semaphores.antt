@@ -6,7 +6,7 @@ use Rattle.evm_model.specs.Semaphores.{new_semaphore, sem_get_known, sem_get, se
 use Rattle.evm_model.specs.Stages.{is_stalled, wait_refusal}
 use Rattle.evm_model.specs.State.{Parts, on_semaphore}
 use Rattle.evm_model.specs.Waits.{first_waiter}
-use Rattle.evm_model.specs.declared.limits.TheConstants.{SEMAPHORE_LIMIT, COUNT_LIMIT}
+use Rattle.evm_model.specs.declared.limits.TheConstants.{SEMAPHORE_LIMIT, SEMAPHORE_COUNT_LIMIT}
 use Rattle.evm_model.specs.declared.stage.Stage.TheVariants.{OutOfBand}
 use Rattle.evm_model.specs.declared.task.Wait.TheVariants.{Semaphore}
 use Rattle.evm_walk.proofs.Locks.{either, up, same, waits_unless}
@@ -16,7 +16,7 @@ module _ (a : Actor) (old k : Parts) (t : ℕ) (own : a.task ≡ Some t) (fresh 
   none : Walk a old 1 32 k
   none = same a old k t own fresh w
 
-  counts_as : (s : ℕ) (f : ℕ → ℕ) → ((n : ℕ) → slice_get k.semaphores s ≡ Some n → n ≤ COUNT_LIMIT → f n ≤ COUNT_LIMIT) → Walk a old 1 32 (on_semaphore s f k)
+  counts_as : (s : ℕ) (f : ℕ → ℕ) → ((n : ℕ) → slice_get k.semaphores s ≡ Some n → n ≤ SEMAPHORE_COUNT_LIMIT → f n ≤ SEMAPHORE_COUNT_LIMIT) → Walk a old 1 32 (on_semaphore s f k)
   counts_as s f h = up a old k t own fresh w 0 0 _ (omega arith) (omega arith) (quietly a old 0 0 k _ (counts t s f k own fresh h) w)
 
   takes_one : (s : ℕ) → Walk a old 1 32 (on_semaphore s (λ n. n - 1) k)
@@ -25,10 +25,10 @@ module _ (a : Actor) (old k : Parts) (t : ℕ) (own : a.task ≡ Some t) (fresh 
   pub makes_semaphore : (count : ℕ) → Walk a old 1 32 (new_semaphore count k).0
   unfolding new_semaphore
   makes_semaphore count =
-      either a old (nat_lt COUNT_LIMIT count) _ _ (λ e. none) (λ small.
+      either a old (nat_lt SEMAPHORE_COUNT_LIMIT count) _ _ (λ e. none) (λ small.
       either a old (nat_le SEMAPHORE_LIMIT (length k.semaphores)) _ _ (λ e. none)
       (λ e. let room : length k.semaphores < SEMAPHORE_LIMIT = grind (arith, nat_tests) in
-      let fits : count ≤ COUNT_LIMIT = grind (arith, nat_tests) in
+      let fits : count ≤ SEMAPHORE_COUNT_LIMIT = grind (arith, nat_tests) in
       up a old k t own fresh w 0 0 _ (omega arith) (omega arith) (quietly a old 0 0 k _ (sets_up t count k own fresh room fits) w)))
 
   gets_known : (o : Option ℕ) (s deadline : ℕ) → Walk a old 1 32 (sem_get_known o a.cpu t s deadline k).0
@@ -53,8 +53,8 @@ module _ (a : Actor) (old k : Parts) (t : ℕ) (own : a.task ≡ Some t) (fresh 
 
   puts_to : (o : Option ℕ) (s count : ℕ) → slice_get k.semaphores s ≡ Some count → first_waiter (Semaphore s) k ≡ o → Walk a old 1 32 (sem_put_to o s count k).0
   puts_to None s count there e =
-      either a old (nat_le COUNT_LIMIT count) _ _ (λ full. none)
-      (λ less. let room : count < COUNT_LIMIT = grind (arith, nat_tests) in counts_as s (λ n. n + 1) (λ n h small. one_more COUNT_LIMIT n count (slice_get k.semaphores s) there h room))
+      either a old (nat_le SEMAPHORE_COUNT_LIMIT count) _ _ (λ full. none)
+      (λ less. let room : count < SEMAPHORE_COUNT_LIMIT = grind (arith, nat_tests) in counts_as s (λ n. n + 1) (λ n h small. one_more SEMAPHORE_COUNT_LIMIT n count (slice_get k.semaphores s) there h room))
   puts_to (Some u) s count there e = up a old k t own fresh w 0 1 _ (omega arith) (omega arith) (stamped a old 0 0 k _ (serves t u s k own e) w)
 
   puts_known : (o : Option ℕ) (s : ℕ) → slice_get k.semaphores s ≡ o → Walk a old 1 32 (sem_put_known o s k).0
