@@ -7,8 +7,8 @@ ghost use Rattle.evm_model.specs.Settle.{settle_and_nudge};
 ghost use Rattle.evm_model.specs.State.{on_parts};
 ghost use Rattle.evm_board.specs.Steps.{IsRunning};
 ghost use Rattle.evm_board.specs.Stops.{follow};
-ghost use Rattle.evm_rules.proofs.Bounded.{AreWithin};
-ghost use Rattle.evm_walk.proofs.Walk.{AreFew};
+ghost use Rattle.evm_rules.specs.Within.{AreWithin};
+ghost use Rattle.evm_walk.specs.Few.{AreFew};
 
 use crate::board::Board;
 use crate::quiet::{advance_quietly, load_quietly, stop_quietly};

@@ -4,7 +4,7 @@ ghost use Rattle.evm_model.specs.Good.{Good};
 ghost use Rattle.evm_model.specs.Event.{event_lent};
 ghost use Rattle.evm_model.specs.Refusals.{board_refusal};
 ghost use Rattle.evm_model.specs.Rows.{row};
-ghost use Rattle.evm_rules.proofs.Bounded.{AreWithin};
+ghost use Rattle.evm_rules.specs.Within.{AreWithin};
 
 use crate::board::Board;
 use crate::commands::{set_bits, set_pc, set_register, tick};

@@ -9,7 +9,7 @@ use Rattle.evm_model.specs.Replay.{bad_boot, start, replay}
 use Rattle.evm_model.specs.State.{State}
 use Rattle.evm_model.specs.declared.boot.Boot.{Boot}
 use Rattle.evm_model.specs.declared.counts.Counts.{Counts}
-use Rattle.evm_rules.proofs.States.{GoodState-replay, GoodState-start, GoodState-loaded}
+use Rattle.evm_rules.specs.Rules.{RulesHold, RulesHoldLoaded}
 use Rattle.evm_claims.specs.Reached.{AreSmall, Ran, Reached}
 
 ran_by : (P : State → Type 0) (boot : Boot) (s : State) (events : List Event) → P (replay (start boot) events) → ((byte : ℕ → ℕ) (entry : ℕ) → P (replay (start_loaded byte entry boot) events))
@@ -21,14 +21,14 @@ ran_by P boot s events plain loaded (inr (byte, (entry, e))) = subst P (sym e) (
 pub ran : (P : State → Type 0) (boot : Boot) (s : State) → ((events : List Event) → P (replay (start boot) events)) → ((byte : ℕ → ℕ) (entry : ℕ) (events : List Event) → P (replay (start_loaded byte entry boot) events)) → Ran boot s → P s
 ran P boot s plain loaded r = ran_by P boot s r.events (plain r.events) (λ byte entry. loaded byte entry r.events) r.from
 
-reached_by : (boot : Boot) (s : State) (events : List Event) → bad_boot boot ≡ false
+reached_by : RulesHold → RulesHoldLoaded → (boot : Boot) (s : State) (events : List Event) → bad_boot boot ≡ false
     → (s ≡ replay (start boot) events) ⊎ ((byte : ℕ → ℕ) × ((entry : ℕ) × ((entry % 4 ≡ 0) × (s ≡ replay (start_loaded byte entry boot) events)))) → GoodState s
-reached_by boot s events fits (inl e) = rw e (GoodState-replay (start boot) events (GoodState-start boot fits))
-reached_by boot s events fits (inr (byte, (entry, e))) = rw e.1 (GoodState-replay (start_loaded byte entry boot) events (GoodState-loaded byte entry boot fits e.0))
+reached_by plain loaded boot s events fits (inl e) = rw e (plain boot fits events)
+reached_by plain loaded boot s events fits (inr (byte, (entry, e))) = rw e.1 (loaded byte entry boot fits e.0 events)
 
 -- the rules hold of what was reached
-pub good : (boot : Boot) (s : State) → Reached boot s → GoodState s
-good boot s r = reached_by boot s r.events r.fits r.from
+pub good : RulesHold → RulesHoldLoaded → (boot : Boot) (s : State) → Reached boot s → GoodState s
+good plain loaded boot s r = reached_by plain loaded boot s r.events r.fits r.from
 
 -- a bound is far below what 64 bits hold
 pub small : (bound : ℕ) (n : Counts) → bound < 2 ^ 29 → UpTo bound n → AreSmall n

@@ -12,13 +12,14 @@ use Rattle.evm_model.specs.declared.mutex.Mutex.{Mutex}
 use Rattle.evm_model.specs.declared.processor.Processor.{Processor}
 use Rattle.evm_model.specs.declared.task.Task.{Task}
 use Rattle.evm_rules.proofs.Firsts.{best-is_oob}
-use Rattle.evm_rules.proofs.Private.{IsClear}
+use Rattle.evm_rules.specs.Rests.{IsClear}
+use Rattle.evm_rules.specs.Rules.{RulesHold, RulesHoldLoaded}
 use Rattle.evm_claims.specs.Reached.{Reached}
 use Rattle.evm_claims.proofs.Reached.{good}
 
-pub settled : (boot : Boot) (s : State) (c : ℕ) (pipe : Pipe) (p : Processor) → Reached boot s
+pub settled : RulesHold → RulesHoldLoaded → (boot : Boot) (s : State) (c : ℕ) (pipe : Pipe) (p : Processor) → Reached boot s
     → slice_get s.board.parts.pipes c ≡ Some pipe → slice_get s.board.parts.processors c ≡ Some p → IsSettled c pipe p s.board.parts.mutexes s.board.parts.tasks
-settled boot s c pipe p reached e f = (good boot s reached).good.settled c pipe p e f
+settled plain loaded boot s c pipe p reached e f = (good plain loaded boot s reached).good.settled c pipe p e f
 
 -- where the current task isn't out-of-band none is ready there
 none-if : (c : ℕ) (pipe : Pipe) (p : Processor) (mutexes : List Mutex) (tasks : List Task) (o : Option ℕ) → best c mutexes tasks ≡ o → IsSettled c pipe p mutexes tasks → pipe.oob.stalled ≡ false → has_line pipe.wire 1 ≡ false → is_oob p.current tasks ≡ false → o ≡ None

@@ -17,8 +17,8 @@ pub use mutexes::{
     no_chain_of_waiting_returns, ranks_are_the_only_settled_ones,
 };
 pub use no_interrupt_lost::{
-    no_line_is_lost_in_a_stage, no_line_is_lost_on_its_wire, raised_as_often_as_the_journal_says,
-    what_is_received_comes_to_a_stage,
+    line_one_is_raised_for_a_better_task, no_line_is_lost_in_a_stage, no_line_is_lost_on_its_wire,
+    raised_as_often_as_the_journal_says, what_is_received_comes_to_a_stage,
 };
 pub use parts::{
     a_command_changes_one_place, a_raise_puts_its_line_on_the_wire, a_register_keeps_its_number,
@@ -26,9 +26,9 @@ pub use parts::{
     the_best_task_is_first, the_least_refusal_is_told, words_and_instructions_are_inverse,
 };
 pub use rules::{
-    a_current_task_is_ready_at_home, a_private_row_settles_nothing, a_processor_runs_its_best_task,
-    a_stage_is_stalled_by_its_task, each_pc_is_a_multiple_of_4, no_two_tasks_have_one_stamp,
-    nothing_waits_in_an_open_log,
+    a_current_task_is_ready_at_home, a_private_row_changes_one_hart, a_private_row_settles_nothing,
+    a_processor_runs_its_best_task, a_stage_is_stalled_by_its_task, each_pc_is_a_multiple_of_4,
+    no_two_tasks_have_one_stamp, nothing_waits_in_an_open_log,
 };
 pub use safe_and_total::{
     a_machine_is_as_it_was_booted, counts_never_wrap, sizes_never_change, the_clock_is_its_ticks,

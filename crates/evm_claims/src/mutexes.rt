@@ -1,6 +1,8 @@
 //! Who owns a mutex, who waits for it, and how it ranks its owner: the rules that hold after every event, and how a mutex
 //! passes on.
 ghost use Rattle.std.specs.Prelude.{◌≡◌, ◌≢◌, ◌+◌, ◌<◌, ◌≤◌, ◌⊎◌, ℕ, suc, List, false, Option, slice_get, length};
+ghost use Rattle.evm_exec.specs.Registers.{with_register};
+ghost use Rattle.evm_exec.specs.declared.hart.Hart.{Hart};
 ghost use Rattle.evm_model.specs.Mutexes.{owner, waits_on, boosts};
 ghost use Rattle.evm_model.specs.Passing.{pass_on};
 ghost use Rattle.evm_model.specs.Ranks.{class_rank, own_rank, rank};
@@ -27,7 +29,10 @@ pub fn each_waited_mutex_has_an_owner()
         slice_get s.board.parts.mutexes m ≡ Option.Some mutex → mutex.owner ≡ Option.Some t → t < length s.board.parts.tasks }
     ensures few { (boot : Boot) (s : State) → Reached boot s →
         length s.board.parts.mutexes ≤ 32 }
-{}
+{
+    evm_rules::rules_hold();
+    evm_rules::walks_end();
+}
 
 /// Likewise: no chain of tasks, each of which waits for a mutex of the next, returns to its start, and none is longer than
 /// 64 links. A task waits for the owner of its mutex.
@@ -39,7 +44,10 @@ pub fn no_chain_of_waiting_returns()
     ensures links { (mutexes : List Mutex) (tasks : List Task) (u t m : ℕ) (task : Task) (mutex : Mutex) →
         slice_get tasks u ≡ Option.Some task → task.state ≡ TaskState.Waits (Wait.Lock m) →
         slice_get mutexes m ≡ Option.Some mutex → mutex.owner ≡ Option.Some t → waits_on mutexes tasks u ≡ Option.Some t }
-{}
+{
+    evm_rules::rules_hold();
+    evm_rules::walks_end();
+}
 
 /// Likewise: the owner of a mutex of inheritance ranks no lower than each task that waits for it; and a task's rank is its
 /// own, or that of a task which it boosts so.
@@ -56,7 +64,10 @@ pub fn an_owner_ranks_no_lower_than_its_waiters()
     ensures boosters { (mutexes : List Mutex) (tasks : List Task) (u t : ℕ) → boosts mutexes tasks u ≡ Option.Some t →
         (m : ℕ) × ((task : Task) × ((mutex : Mutex) × ((slice_get tasks u ≡ Option.Some task) × (task.state ≡ TaskState.Waits (Wait.Lock m))
         × (slice_get mutexes m ≡ Option.Some mutex) × (mutex.protocol ≡ Protocol.Inheritance) × (mutex.owner ≡ Option.Some t)))) }
-{}
+{
+    evm_rules::rules_hold();
+    evm_rules::ranks_settle();
+}
 
 /// Likewise: another round of boosts changes no rank, and there are no other ranks that none changes.
 pub fn ranks_are_the_only_settled_ones()
@@ -70,7 +81,10 @@ pub fn ranks_are_the_only_settled_ones()
         other u ≡ greatest (boosts s.board.parts.mutexes s.board.parts.tasks) other u
         (own_rank s.board.parts.mutexes s.board.parts.tasks u) (length s.board.parts.tasks)) →
         t < length s.board.parts.tasks → other t ≡ rank s.board.parts.mutexes s.board.parts.tasks t }
-{}
+{
+    evm_rules::rules_hold();
+    evm_rules::ranks_settle();
+}
 
 /// A task never ranks below its class and priority, nor below the ceiling of a mutex that it owns: its own rank is one of
 /// these. A task that owns no mutex ranks as its class and priority say.
@@ -87,10 +101,13 @@ pub fn a_rank_is_never_below_its_own()
         × (mutex.protocol ≡ Protocol.Ceiling priority) × (mutex.owner ≡ Option.Some t) × (own_rank mutexes tasks t ≡ 100 + priority))))) }
     ensures alone { (mutexes : List Mutex) (tasks : List Task) (t : ℕ) (task : Task) → slice_get tasks t ≡ Option.Some task →
         ((m : ℕ) → owner mutexes m ≢ Option.Some t) → rank mutexes tasks t ≡ class_rank task.class task.priority }
-{}
+{
+    evm_rules::ranks_settle();
+}
 
 /// A mutex passes on to the first that waits for it: no other that waits for it ranks higher, nor as high with a lesser
-/// stamp. That task owns it then, locked once, and is ready out-of-band; where none waits for it, it is free.
+/// stamp. That task owns it then, locked once, is ready out-of-band, and its call answers 0; where none waits for it, it is
+/// free. No other task, no other register or pc, no other mutex, no processor, no pipe and no console changes.
 pub fn a_mutex_passes_to_the_first_waiter()
     ensures waits { (m t : ℕ) (k : Parts) → first_waiter (Wait.Lock m) k ≡ Option.Some t →
         (task : Task) × ((slice_get k.tasks t ≡ Option.Some task) × (task.state ≡ TaskState.Waits (Wait.Lock m))
@@ -103,6 +120,13 @@ pub fn a_mutex_passes_to_the_first_waiter()
         slice_get k.mutexes m ≡ Option.Some mutex → slice_get k.tasks t ≡ Option.Some task →
         (slice_get (pass_on m k).mutexes m ≡ Option.Some (record mutex { owner = Option.Some t; count = 1 }))
         × (slice_get (pass_on m k).tasks t ≡ Option.Some (record task { stamp = k.stamps; deadline = 0; state = TaskState.OobReady })) }
+    ensures answers { (m t : ℕ) (k : Parts) (hart : Hart) → first_waiter (Wait.Lock m) k ≡ Option.Some t → slice_get k.harts t ≡ Option.Some hart →
+        slice_get (pass_on m k).harts t ≡ Option.Some (record hart { regs = with_register hart.regs 10 0 }) }
+    ensures other_tasks { (m u : ℕ) (k : Parts) → first_waiter (Wait.Lock m) k ≢ Option.Some u →
+        (slice_get (pass_on m k).tasks u ≡ slice_get k.tasks u) × (slice_get (pass_on m k).harts u ≡ slice_get k.harts u) }
+    ensures other_mutexes { (m n : ℕ) (k : Parts) → n ≢ m → slice_get (pass_on m k).mutexes n ≡ slice_get k.mutexes n }
+    ensures rest { (m : ℕ) (k : Parts) →
+        pass_on m k ≡ record k { harts = (pass_on m k).harts; tasks = (pass_on m k).tasks; mutexes = (pass_on m k).mutexes; stamps = (pass_on m k).stamps } }
     ensures frees { (m : ℕ) (k : Parts) (mutex : Mutex) → first_waiter (Wait.Lock m) k ≡ Option.None → slice_get k.mutexes m ≡ Option.Some mutex →
         (slice_get (pass_on m k).mutexes m ≡ Option.Some (record mutex { owner = Option.None; count = 0 }))
         × ((pass_on m k).tasks ≡ k.tasks) }

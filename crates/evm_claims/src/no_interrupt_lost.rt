@@ -1,13 +1,15 @@
 //! No interrupt is lost and none is played twice: for every list of events and every line of every processor.
-ghost use Rattle.std.specs.Prelude.{◌≡◌, ◌≢◌, ◌+◌, ◌<◌, ◌≤◌, ℕ, List, [], ◌∷◌, Option, if◌then◌else◌, slice_get, count_by};
+ghost use Rattle.std.specs.Prelude.{◌≡◌, ◌≢◌, ◌+◌, ◌%◌, ◌≤◌, ℕ, List, [], ◌∷◌, false, Option, if◌then◌else◌, slice_get, count_by};
 ghost use Rattle.evm_lines.specs.Lines.{has_line};
+ghost use Rattle.evm_model.specs.Load.{start_loaded};
 ghost use Rattle.evm_model.specs.Pipes.{Pipe};
-ghost use Rattle.evm_model.specs.Replay.{start, replay};
+ghost use Rattle.evm_model.specs.Replay.{bad_boot, start, replay};
 ghost use Rattle.evm_model.specs.State.{State};
 ghost use Rattle.evm_model.specs.declared.boot.Boot.{Boot};
 ghost use Rattle.evm_model.specs.declared.counts.Counts.{Counts};
 ghost use Rattle.evm_model.specs.Event.{Event};
 ghost use Rattle.evm_model.specs.declared.event.Event.TheVariants as Event;
+ghost use Rattle.evm_runs.specs.Nudged.{found_count};
 ghost use Rattle.evm_claims.specs.Raising.{raises};
 ghost use Rattle.evm_claims.specs.Reached.{IsIdle, Ran};
 
@@ -98,4 +100,19 @@ pub fn raised_as_often_as_the_journal_says()
         n.raised ≡ count_by (raises c l) (replay s events).journal }
 {
     evm_runs::balance_holds(); // the field raised
+}
+
+/// After every boot whose numbers are inside their limits, with an image loaded or none, and every list of events, line 1
+/// of a processor was raised by as many events as the journal has that name it, and by as many accepted steps of other
+/// processors as left this one with a better out-of-band task than its current one, while it was not stalled out-of-band
+/// and had no line 1 on its wire.
+pub fn line_one_is_raised_for_a_better_task()
+    ensures booted { (boot : Boot) (events : List Event) (d : ℕ) (pipe : Pipe) (n : Counts) → bad_boot boot ≡ false →
+        slice_get (replay (start boot) events).board.parts.pipes d ≡ Option.Some pipe → slice_get pipe.counts 1 ≡ Option.Some n →
+        n.raised ≡ count_by (raises d 1) (replay (start boot) events).journal + found_count d (start boot) events }
+    ensures loaded { (boot : Boot) (byte : ℕ → ℕ) (entry : ℕ) (events : List Event) (d : ℕ) (pipe : Pipe) (n : Counts) → bad_boot boot ≡ false → entry % 4 ≡ 0 →
+        slice_get (replay (start_loaded byte entry boot) events).board.parts.pipes d ≡ Option.Some pipe → slice_get pipe.counts 1 ≡ Option.Some n →
+        n.raised ≡ count_by (raises d 1) (replay (start_loaded byte entry boot) events).journal + found_count d (start_loaded byte entry boot) events }
+{
+    evm_runs::line_one_is_raised();
 }

@@ -1,17 +1,24 @@
 //! Which task a processor runs, and what waits in its logs: the rules that hold after every event.
-ghost use Rattle.std.specs.Prelude.{◌≡◌, ◌≢◌, ◌%◌, ◌<◌, ◌⊎◌, ℕ, List, [], true, false, Option, slice_get, length};
+ghost use Rattle.std.specs.Prelude.{◌≡◌, ◌≢◌, ◌%◌, ◌<◌, ◌++◌, ◌⊎◌, ℕ, List, [], ◌∷◌, true, false, Option, Result, slice_get, length};
+ghost use Rattle.evm_exec.specs.Registers.{with_register};
 ghost use Rattle.evm_exec.specs.declared.hart.Hart.{Hart};
+ghost use Rattle.evm_exec.specs.declared.outcome.Effect.{Effect};
 ghost use Rattle.evm_lines.specs.Lines.{has_line};
+ghost use Rattle.evm_model.specs.Commands.{is_set};
 ghost use Rattle.evm_model.specs.Instructions.{stop};
 ghost use Rattle.evm_model.specs.Pipes.{Pipe};
 ghost use Rattle.evm_model.specs.Ranks.{best};
+ghost use Rattle.evm_model.specs.Replay.{apply};
 ghost use Rattle.evm_model.specs.Settle.{is_oob, settle_and_nudge};
-ghost use Rattle.evm_model.specs.State.{State, on_processor};
+ghost use Rattle.evm_model.specs.State.{State, on_hart, on_processor};
 ghost use Rattle.evm_model.specs.declared.boot.Boot.{Boot};
+ghost use Rattle.evm_model.specs.declared.event.Answer.{Answer};
+ghost use Rattle.evm_model.specs.declared.event.Event.TheVariants as Event;
 ghost use Rattle.evm_model.specs.declared.processor.Processor.{Processor};
 ghost use Rattle.evm_model.specs.declared.task.Task.{Task};
 ghost use Rattle.evm_model.specs.declared.task.TaskState.{TaskState};
 ghost use Rattle.evm_claims.specs.Reached.{Reached};
+ghost use Rattle.evm_claims.specs.Steps.{IsAbout};
 
 /// After every boot whose numbers are inside their limits, with an image loaded or none, and every list of events: a
 /// processor that isn't stalled out-of-band and has no line 1 on its wire runs its best task, where one is ready
@@ -29,7 +36,9 @@ pub fn a_processor_runs_its_best_task()
     ensures in_band { (boot : Boot) (s : State) (c : ℕ) (pipe : Pipe) (p : Processor) → Reached boot s →
         slice_get s.board.parts.pipes c ≡ Option.Some pipe → slice_get s.board.parts.processors c ≡ Option.Some p →
         is_oob p.current s.board.parts.tasks ≡ false → p.current ≡ p.in_band_task }
-{}
+{
+    evm_rules::rules_hold();
+}
 
 /// Likewise: an out-of-band log isn't empty only while that stage is stalled, an in-band log only while that stage is
 /// stalled or an out-of-band task is current.
@@ -40,7 +49,9 @@ pub fn nothing_waits_in_an_open_log()
     ensures in_band { (boot : Boot) (s : State) (c : ℕ) (pipe : Pipe) (p : Processor) → Reached boot s →
         slice_get s.board.parts.pipes c ≡ Option.Some pipe → slice_get s.board.parts.processors c ≡ Option.Some p →
         pipe.inband.stalled ≡ false → is_oob p.current s.board.parts.tasks ≡ false → pipe.inband.lines ≡ [] }
-{}
+{
+    evm_rules::rules_hold();
+}
 
 /// Likewise: out-of-band is stalled only where an out-of-band task is current, in-band only where there is an in-band
 /// current task.
@@ -51,20 +62,30 @@ pub fn a_stage_is_stalled_by_its_task()
     ensures in_band { (boot : Boot) (s : State) (c : ℕ) (pipe : Pipe) (p : Processor) → Reached boot s →
         slice_get s.board.parts.pipes c ≡ Option.Some pipe → slice_get s.board.parts.processors c ≡ Option.Some p →
         pipe.inband.stalled ≡ true → p.in_band_task ≢ Option.None }
-{}
+{
+    evm_rules::rules_hold();
+}
 
 /// Likewise: where a processor has a current task and nothing on its wire, registers and pcs may change and it settles
-/// nothing and tells nobody: nor where it hits a break and is stopped.
+/// nothing and tells nobody: nor where its skip bit, which `go` had set, goes off by this; nor where it hits a break and is
+/// stopped.
 pub fn a_private_row_settles_nothing()
     ensures registers { (boot : Boot) (s : State) (c t : ℕ) (pipe : Pipe) (p : Processor) (harts : List Hart) → Reached boot s →
         slice_get s.board.parts.pipes c ≡ Option.Some pipe → slice_get s.board.parts.processors c ≡ Option.Some p →
         pipe.wire ≡ [] → p.current ≡ Option.Some t →
         settle_and_nudge c (record s.board.parts { harts = harts }) ≡ record s.board.parts { harts = harts } }
+    ensures passes { (boot : Boot) (s : State) (c t : ℕ) (pipe : Pipe) (p : Processor) (harts : List Hart) → Reached boot s →
+        slice_get s.board.parts.pipes c ≡ Option.Some pipe → slice_get s.board.parts.processors c ≡ Option.Some p →
+        pipe.wire ≡ [] → p.current ≡ Option.Some t →
+        settle_and_nudge c (record (on_processor c (λ p. record p { skip = false }) s.board.parts) { harts = harts }) ≡ record (on_processor c (λ p. record p { skip = false }) s.board.parts) { harts = harts } }
     ensures stops { (boot : Boot) (s : State) (c t : ℕ) (pipe : Pipe) (p : Processor) (harts : List Hart) → Reached boot s →
         slice_get s.board.parts.pipes c ≡ Option.Some pipe → slice_get s.board.parts.processors c ≡ Option.Some p →
         pipe.wire ≡ [] → p.current ≡ Option.Some t →
         settle_and_nudge c (stop c (record (on_processor c (λ p. record p { skip = false }) s.board.parts) { harts = harts })) ≡ stop c (record (on_processor c (λ p. record p { skip = false }) s.board.parts) { harts = harts }) }
-{}
+{
+    evm_rules::rules_hold();
+    evm_rules::rows_settle_nothing();
+}
 
 /// Likewise: no two tasks have one stamp, and each stamp is less than the next that will be given; so of any set of tasks
 /// one goes first.
@@ -74,7 +95,9 @@ pub fn no_two_tasks_have_one_stamp()
         task.stamp ≡ other.stamp → t ≡ u }
     ensures below { (boot : Boot) (s : State) (t : ℕ) (task : Task) → Reached boot s →
         slice_get s.board.parts.tasks t ≡ Option.Some task → task.stamp < s.board.parts.stamps }
-{}
+{
+    evm_rules::rules_hold();
+}
 
 /// Likewise: the current task of a processor is there, is of that processor and is ready, on whatever stage; the in-band
 /// current one is there, of that processor and ready in-band; each task is of a processor that is there.
@@ -89,10 +112,37 @@ pub fn a_current_task_is_ready_at_home()
         × (task.state ≡ TaskState.InReady)) }
     ensures homes { (boot : Boot) (s : State) (t : ℕ) (task : Task) → Reached boot s →
         slice_get s.board.parts.tasks t ≡ Option.Some task → task.cpu < length s.board.parts.processors }
-{}
+{
+    evm_rules::rules_hold();
+}
 
 /// Likewise: each pc is a multiple of 4.
 pub fn each_pc_is_a_multiple_of_4()
     ensures { (boot : Boot) (s : State) (t : ℕ) (hart : Hart) → Reached boot s →
         slice_get s.board.parts.harts t ≡ Option.Some hart → hart.pc % 4 ≡ 0 }
-{}
+{
+    evm_rules::rules_hold();
+}
+
+/// Likewise, where the journal has room: a Step of a processor that goes and has nothing on its wire, whose current task is
+/// about to give a register a value and go on at a pc, is accepted, answers Ran, gives the register the value and the task
+/// the pc, and turns the skip bit off; nothing else of the machine changes but the journal. No breakpoint stands at the
+/// task's pc, or the skip bit passes it.
+pub fn a_private_row_changes_one_hart()
+    ensures { (boot : Boot) (s : State) (c t rd value pc : ℕ) (hart : Hart) (pipe : Pipe) (p : Processor) → Reached boot s →
+        length s.journal < s.boot.capacity →
+        slice_get s.board.parts.processors c ≡ Option.Some p → p.stopped ≡ false →
+        slice_get s.board.parts.pipes c ≡ Option.Some pipe → pipe.wire ≡ [] →
+        (is_set s.board.breakpoints hart.pc ≡ false) ⊎ (p.skip ≡ true) →
+        IsAbout p.current t hart (Effect.Next rd value pc) s.board.parts.harts s.board.memory →
+        apply s (Event.Step c) ≡ Result.Ok (
+          record s {
+            journal = s.journal ++ Event.Step c ∷ [];
+            board = record s.board { parts = on_hart t (λ hart. record hart { regs = with_register hart.regs rd value; pc = pc }) (on_processor c (λ p. record p { skip = false }) s.board.parts) };
+          },
+          Answer.Ran t,
+        ) }
+{
+    evm_rules::rules_hold();
+    evm_rules::private_rows_change_one_hart();
+}

@@ -1,8 +1,8 @@
 -- Settling and nudging keep pipes, and add little to a count.
-use Rattle.std.proofs.Common.{◌≡◌, ℕ, ◌+◌, ◌≤◌, List, Bool, true, false, None, Some, refl, arith}
-use Rattle.std.specs.Prelude.{slice_get, replicate, ◌==◌}
+use Rattle.std.proofs.Common.{◌≡◌, ℕ, ◌+◌, ◌≤◌, Bool, true, false, None, refl, arith}
+use Rattle.std.specs.Prelude.{replicate, ◌==◌}
 use Rattle.evm_lines.specs.declared.TheConstants.{LINES}
-use Rattle.evm_model.specs.Bounds.{PipeUpTo, PipesUpTo}
+use Rattle.evm_model.specs.Bounds.{PipeUpTo}
 use Rattle.evm_model.specs.Good.{IsPipe}
 use Rattle.evm_model.specs.Pipes.{Pipe, raise, receive, set_stall, idle_pipe, no_counts}
 use Rattle.evm_model.specs.Settle.{settle_oob, settle_in_band, settle, nudge, settle_and_nudge}
@@ -14,19 +14,13 @@ use Rattle.evm_walk.proofs.Rows.{settles_oob, settles_in_band, settles, nudges}
 use Rattle.evm_walk.proofs.Sets.{IsPipe-raise, IsPipe-receive, IsPipe-idle, walk_pipes}
 use Rattle.evm_walk.proofs.Tasks.{stalls_stage}
 use Rattle.evm_walk.proofs.Walk.{Actor, ArePipes as AllPipes, Walk, start}
+pub use Rattle.evm_rules.specs.Within.{ArePipes, AreWithin}
 use Rattle.evm_rules.proofs.Counting.{each-change, on_raise-up, on_receive-up}
-
-abbrev pub ArePipes : List Pipe → Type 0
-ArePipes pipes = (c : ℕ) (p : Pipe) → slice_get pipes c ≡ Some p → IsPipe p
 
 pub are-change : (c : ℕ) (f : Pipe → Pipe) (k : Parts) → ((p : Pipe) → IsPipe p → IsPipe (f p)) → ArePipes k.pipes → ArePipes (on_pipe c f k).pipes
 are-change c f k here h = each-change IsPipe IsPipe f k.pipes c (λ p s. s) (λ p e. here p) h
 
 -- ---- pipes whose counts are within a bound
-pub record AreWithin (b : ℕ) (k : Parts) : Type 0 where
-  pub are : ArePipes k.pipes
-  pub up : PipesUpTo b k.pipes
-
 pub within-more : (a b : ℕ) (k : Parts) → a ≤ b → AreWithin a k → AreWithin b k
 within-more a b k h w = record { are = w.are; up = PipesUpTo-more a b k.pipes h w.up }
 

@@ -21,5 +21,7 @@ pub mod Spending
 pub mod Acting
 pub mod Done
 pub mod Locking
+pub mod Rows
+pub mod Laws
 pub mod Calling
 pub use Rattle.evm_walk.proofs as evm_walk

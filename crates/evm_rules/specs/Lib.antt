@@ -1,0 +1,4 @@
+pub mod Ranking
+pub mod Rests
+pub mod Rules
+pub mod Within

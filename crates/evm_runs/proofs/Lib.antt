@@ -9,6 +9,7 @@ pub mod Frames
 pub mod Instructions
 pub mod Kept
 pub mod Least
+pub mod Nudged
 pub mod Raised
 pub mod Replays
 pub mod Runs

@@ -25,8 +25,8 @@ use Rattle.evm_walk.proofs.Walk.{Actor, PipeMove, raises, receives, plays_timer,
 use Rattle.evm_runs.specs.Balance.{is_raise}
 
 -- line l of a pipe was raised r times
-record LineRaised (l r : ℕ) (p : Pipe) : Type 0 where
-  times : (n : Counts) → slice_get p.counts l ≡ Some n → n.raised ≡ r
+pub record LineRaised (l r : ℕ) (p : Pipe) : Type 0 where
+  pub times : (n : Counts) → slice_get p.counts l ≡ Some n → n.raised ≡ r
 
 -- .. of processor c's
 pub record RaisedIs (c l r : ℕ) (k : Parts) : Type 0 where
@@ -59,7 +59,7 @@ move-raised l r may _ _ _ o (plays_in_band m p h) s = counted-raised l m r _ p _
 move-raised l r may _ _ _ o (stalls stage b p) s = stall-raised l r stage b p s
 
 -- a walk that may not raise it there
-walk-raised : (c l r : ℕ) (a : Actor) (old : Parts) (n s : ℕ) (k : Parts) → a.may c l ≡ false → ArePipes old → Walk a old n s k → RaisedIs c l r old → RaisedIs c l r k
+pub walk-raised : (c l r : ℕ) (a : Actor) (old : Parts) (n s : ℕ) (k : Parts) → a.may c l ≡ false → ArePipes old → Walk a old n s k → RaisedIs c l r old → RaisedIs c l r k
 walk-raised c l r a old n s k o are w h =
     let P : ℕ → Pipe → Type 0 = λ b p. LineRaised l r p in
     let lifts : Lifts (a.may c) P = record { more = λ b m p g q. q; moved = λ b m p q. move-raised l r (a.may c) m p q o } in
@@ -67,7 +67,7 @@ walk-raised c l r a old n s k o are w h =
     record { times = λ p m e g. (after.holds p e).times m g }
 
 -- ---- this line is raised
-raise-raised : (l r : ℕ) (p : Pipe) → LineRaised l r p → LineRaised l (r + 1) (raise l p)
+pub raise-raised : (l r : ℕ) (p : Pipe) → LineRaised l r p → LineRaised l (r + 1) (raise l p)
 raise-raised l r p s = record {
   times = λ n e. let c = raise-counted l p in
       let there : slice_get (change (count_raise (has_line p.wire l)) p.counts l) l ≡ Some n = rw c.counts at e in
@@ -101,7 +101,7 @@ both true b h = (refl, h)
 both false b h = cc
 
 -- whether this line is raised on this processor
-raise_if : (hit : Bool) (c d l m r : ℕ) (k : Parts) → (d == c && m == l) ≡ hit → (hit ≡ false → RaisedIs c l r (on_pipe d (raise m) k)) → RaisedIs c l r k → RaisedIs c l (more_if hit r) (on_pipe d (raise m) k)
+pub raise_if : (hit : Bool) (c d l m r : ℕ) (k : Parts) → (d == c && m == l) ≡ hit → (hit ≡ false → RaisedIs c l r (on_pipe d (raise m) k)) → RaisedIs c l r k → RaisedIs c l (more_if hit r) (on_pipe d (raise m) k)
 raise_if true c d l m r k e quiet s =
     let b = both (d == c) (m == l) e in
     let there : d ≡ c = let one = b.0 in grind (arith, nat_tests) in

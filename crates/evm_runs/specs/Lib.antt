@@ -4,4 +4,5 @@ pub mod First
 pub mod Fit
 pub mod Kept
 pub mod Least
+pub mod Nudged
 pub mod Replays

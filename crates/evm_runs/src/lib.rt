@@ -7,6 +7,7 @@ ghost use Rattle.evm_runs.specs.First.{AlwaysFindsFirst};
 ghost use Rattle.evm_runs.specs.Fit.{CountsAlwaysFit, CountsAlwaysFitFresh, CountsAlwaysFitLoaded, HoldsAlwaysFit, HoldsAlwaysFitFresh, HoldsAlwaysFitLoaded};
 ghost use Rattle.evm_runs.specs.Kept.{SizesStay, StaysAsBooted, StaysAsLoaded};
 ghost use Rattle.evm_runs.specs.Least.{AlwaysTellsLeast};
+ghost use Rattle.evm_runs.specs.Nudged.{AlwaysTells, AlwaysTellsLoaded};
 ghost use Rattle.evm_runs.specs.Replays.{LoadsEachByte, LoadsSoManyBytes, ReplaysJoin, StartsAsReplay, StaysReplay};
 
 /// No interrupt is lost and none is played twice: after every boot and every list of events, also where an
@@ -17,6 +18,14 @@ pub fn balance_holds()
     ensures booted { AlwaysBalances }
     ensures loaded { AlwaysBalancesLoaded }
     ensures fresh { AlwaysBalancesFresh }
+{}
+
+/// After every boot whose numbers are inside their limits, with an image loaded or none, and every list of events line 1
+/// of each processor was raised by the events of the journal that name it, and by each step of another processor that
+/// left this one with a better task than its current one, not stalled out-of-band and with no line 1 on its wire.
+pub fn line_one_is_raised()
+    ensures booted { AlwaysTells }
+    ensures loaded { AlwaysTellsLoaded }
 {}
 
 /// After every list of events, also where an image was loaded before, the journal is within its capacity, the

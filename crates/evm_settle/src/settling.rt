@@ -3,7 +3,7 @@ ghost use Rattle.std.specs.Prelude.{◌≡◌, ◌≤◌, ◌+◌, ◌^◌, slic
 ghost use Rattle.evm_model.specs.Bounds.{PipesUpTo};
 ghost use Rattle.evm_model.specs.Ranks.{next_in_band};
 ghost use Rattle.evm_model.specs.Settle.{turn_in_band, settle_in_band, run_in_band, nudge, settle_and_nudge, play_in_band_pipe};
-ghost use Rattle.evm_rules.proofs.Bounded.{AreWithin};
+ghost use Rattle.evm_rules.specs.Within.{AreWithin};
 ghost use Rattle.evm_settle.specs.Steps.{play_oob_pipe, chooses, choose};
 
 use crate::nudging::nudge;

@@ -4,7 +4,7 @@
 
 ghost use Rattle.std.specs.Prelude.{◌≡◌, replicate};
 ghost use Rattle.evm_model.specs.Pipes.{idle_pipe};
-ghost use Rattle.evm_rules.proofs.Bounded.{AreWithin};
+ghost use Rattle.evm_rules.specs.Within.{AreWithin};
 
 use crate::nudging::{nudge, nudge_one, wants_nudge};
 use crate::settle_and_nudge;

@@ -6,7 +6,6 @@ use Rattle.evm_lines.specs.declared.TheConstants.{LINES}
 use Rattle.evm_exec.specs.Registers.{register_of, with_register}
 use Rattle.evm_exec.specs.declared.hart.Hart.{Hart}
 use Rattle.evm_model.specs.Commands.{tick}
-use Rattle.evm_model.specs.Good.{IsPipe}
 use Rattle.evm_model.specs.Harts.{A7, argument}
 use Rattle.evm_model.specs.InBandCalls.{add_task, last_bytes}
 use Rattle.evm_model.specs.Lists.{each}
@@ -30,6 +29,7 @@ use Rattle.evm_model.specs.declared.stage.Stage.TheVariants.{OutOfBand, InBand}
 use Rattle.evm_model.specs.declared.task.Class.{Class}
 use Rattle.evm_model.specs.declared.task.Task.{Task}
 use Rattle.evm_model.specs.declared.task.Wait.TheVariants.{Lock, Semaphore}
+pub use Rattle.evm_walk.specs.Few.{ArePipes, AreFew}
 
 -- who acts, and what it may do
 pub record Actor : Type 0 where
@@ -54,15 +54,6 @@ pub data PipeMove (may : ℕ → Bool) : ℕ → Pipe → Pipe → Type 0 where
   plays_oob : (l : ℕ) (p : Pipe) → (l ≡ 0 → ⊥) → has_line p.oob.lines l ≡ true → PipeMove may 1 p (play OutOfBand l p)
   plays_in_band : (l : ℕ) (p : Pipe) → has_line p.inband.lines l ≡ true → PipeMove may 1 p (play InBand l p)
   stalls : (stage : Stage) (b : Bool) (p : Pipe) → PipeMove may 0 p (set_stall stage b p)
-
-pub record ArePipes (k : Parts) : Type 0 where
-  pub each : (c : ℕ) (p : Pipe) → slice_get k.pipes c ≡ Some p → IsPipe p
-
--- no more tasks and mutexes than there may be
-pub record AreFew (k : Parts) : Type 0 where
-  pub pipes : ArePipes k
-  pub tasks : length k.tasks ≤ TASK_LIMIT
-  pub mutexes : length k.mutexes ≤ MUTEX_LIMIT
 
 -- only processors and pipes have changed so far
 pub record Untouched (old k : Parts) : Type 0 where

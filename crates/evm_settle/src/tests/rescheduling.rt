@@ -3,7 +3,7 @@
 
 ghost use Rattle.std.specs.Prelude.{◌≡◌, ◌≤◌, replicate};
 ghost use Rattle.evm_model.specs.Pipes.{idle_pipe};
-ghost use Rattle.evm_rules.proofs.Bounded.{AreWithin};
+ghost use Rattle.evm_rules.specs.Within.{AreWithin};
 
 use super::console_of;
 use crate::settle_and_nudge;

@@ -1,18 +1,20 @@
-use Rattle.std.proofs.Common.{◌≡◌, ℕ, List, Some, true, slice_get, length, refl, ap, sym, ◌∙◌, eq-eqb}
+use Rattle.std.proofs.Common.{◌≡◌, ◌≢◌, ℕ, List, Option, Some, None, true, slice_get, length, refl, ap, sym, ◌∙◌, eq-eqb}
 use Rattle.std.specs.Prelude.{option_map}
 use Rattle.std.proofs.lemmas.Option.{slice_get_within}
+use Rattle.evm_exec.specs.declared.hart.Hart.{Hart}
+use Rattle.evm_model.specs.Harts.{set_register}
 use Rattle.evm_model.specs.Lists.{change}
 use Rattle.evm_model.specs.Mutexes.{owner_of, owns_any, held_by, freed}
 use Rattle.evm_model.specs.Passing.{pass_to, pass_on}
 use Rattle.evm_model.specs.Ranks.{rank, stamp}
 use Rattle.evm_model.specs.State.{Parts}
 use Rattle.evm_model.specs.Tasks.{restamp}
-use Rattle.evm_model.specs.Waits.{is_wait_for, awaits_task, awaits, first_waiter, wake}
+use Rattle.evm_model.specs.Waits.{is_wait_for, awaits_task, awaits, first_waiter, wake, woken as woken_task}
 use Rattle.evm_model.specs.declared.mutex.Mutex.{Mutex}
 use Rattle.evm_model.specs.declared.task.Task.{Task}
 use Rattle.evm_model.specs.declared.task.TaskState.TheVariants.{OobReady, Waits}
 use Rattle.evm_model.specs.declared.task.Wait.TheVariants.{Lock}
-use Rattle.evm_model.proofs.Lists.{change-here}
+use Rattle.evm_model.proofs.Lists.{change-here, change-elsewhere}
 use Rattle.evm_runs.proofs.Fares.{Waiter, first_waits, owns_it, woke_lock, woken_there}
 use Rattle.evm_claims.proofs.Leads.{leads}
 use Rattle.evm_claims.proofs.mutexes.a_mutex_passes_to_the_first_waiter.Goals as goal
@@ -64,3 +66,44 @@ returns-clause-passes c m t k mutex task e there on =
 pub returns-clause-frees : goal.returns-clause-frees
 unfolding pass_on
 returns-clause-frees c m k mutex e there = rw e (change-here freed k.mutexes m ∙ ap (option_map freed) there, refl)
+
+-- ---- what it leaves
+answered : (m t : ℕ) (k : Parts) (hart : Hart) → slice_get k.harts t ≡ Some hart → slice_get (pass_to (Some t) m k).harts t ≡ Some (set_register 10 0 hart)
+unfolding wake restamp
+answered m t k hart e = change-here (set_register 10 0) k.harts t ∙ ap (option_map (set_register 10 0)) e
+
+pub returns-clause-answers : goal.returns-clause-answers
+unfolding pass_on
+returns-clause-answers c m t k hart e there = rw e (answered m t k hart there)
+
+left : (m u : ℕ) (k : Parts) (o : Option ℕ) → o ≢ Some u → (slice_get (pass_to o m k).tasks u ≡ slice_get k.tasks u) × (slice_get (pass_to o m k).harts u ≡ slice_get k.harts u)
+unfolding wake restamp
+left m u k None other = (refl, refl)
+left m u k (Some t) other =
+    let away : u ≢ t = λ same. other (ap Some (sym same)) in
+    let given : List Mutex = change (held_by t 1) k.mutexes m in (
+      change-elsewhere (λ (x : Task). record x { stamp = k.stamps }) (change (woken_task (owns_any t given)) k.tasks t) t u away ∙ change-elsewhere (woken_task (owns_any t given)) k.tasks t u away,
+      change-elsewhere (set_register 10 0) k.harts t u away,
+    )
+
+pub returns-clause-other_tasks : goal.returns-clause-other_tasks
+unfolding pass_on
+returns-clause-other_tasks c m u k other = left m u k (first_waiter (Lock m) k) other
+
+others : (m n : ℕ) (k : Parts) (o : Option ℕ) → n ≢ m → slice_get (pass_to o m k).mutexes n ≡ slice_get k.mutexes n
+unfolding wake restamp
+others m n k None other = change-elsewhere freed k.mutexes m n other
+others m n k (Some t) other = change-elsewhere (held_by t 1) k.mutexes m n other
+
+pub returns-clause-other_mutexes : goal.returns-clause-other_mutexes
+unfolding pass_on
+returns-clause-other_mutexes c m n k other = others m n k (first_waiter (Lock m) k) other
+
+rests : (m : ℕ) (k : Parts) (o : Option ℕ) → pass_to o m k ≡ record k { harts = (pass_to o m k).harts; tasks = (pass_to o m k).tasks; mutexes = (pass_to o m k).mutexes; stamps = (pass_to o m k).stamps }
+unfolding wake restamp
+rests m k None = refl
+rests m k (Some t) = refl
+
+pub returns-clause-rest : goal.returns-clause-rest
+unfolding pass_on
+returns-clause-rest c m k = rests m k (first_waiter (Lock m) k)

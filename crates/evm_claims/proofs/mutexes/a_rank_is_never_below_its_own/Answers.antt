@@ -1,6 +1,5 @@
 use Rattle.std.proofs.Common.{◌≡◌, ◌≢◌, ℕ, List, Some, slice_get, length, inl, inr, ap, ◌∙◌}
 use Rattle.evm_ranks.proofs.Greatest.{greatest-first, greatest-booster, greatest-none}
-use Rattle.evm_ranks.proofs.Rounds.{rank_after-own}
 use Rattle.evm_ranks.specs.Boosts.{rank_after}
 use Rattle.evm_model.specs.Mutexes.{owner, owner_of, boosts, raised, ceiling}
 use Rattle.evm_model.specs.Ranks.{class_rank_of, own_rank, rank}
@@ -13,7 +12,7 @@ use Rattle.evm_claims.proofs.mutexes.a_rank_is_never_below_its_own.Goals as goal
 
 pub returns-clause-own : goal.returns-clause-own
 unfolding rank
-returns-clause-own g mutexes tasks t = rank_after-own (boosts mutexes tasks) (own_rank mutexes tasks) (length tasks) TASK_LIMIT t
+returns-clause-own g mutexes tasks t = g.ranks_settle.ensures.own (boosts mutexes tasks) (own_rank mutexes tasks) (length tasks) TASK_LIMIT t
 
 pub returns-clause-class : goal.returns-clause-class
 unfolding own_rank

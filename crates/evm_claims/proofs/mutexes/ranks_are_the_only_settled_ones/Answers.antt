@@ -1,5 +1,5 @@
 use Rattle.std.proofs.Common.{◌≡◌, ℕ, ◌<◌, List, length}
-use Rattle.evm_ranks.proofs.Rounds.{rounds_settle, settled_is_one}
+use Rattle.evm_rules.specs.Ranking.{RoundsSettle, SettledIsOne}
 use Rattle.evm_ranks.specs.Boosts.{IsSettledRank}
 use Rattle.evm_model.specs.Good.{AreLocks}
 use Rattle.evm_model.specs.Mutexes.{boosts}
@@ -11,19 +11,19 @@ use Rattle.evm_claims.proofs.Ranking.{boosts_fall}
 use Rattle.evm_claims.proofs.Reached.{good}
 use Rattle.evm_claims.proofs.mutexes.ranks_are_the_only_settled_ones.Goals as goal
 
-settles : (mutexes : List Mutex) (tasks : List Task) → AreLocks mutexes tasks → IsSettledRank (boosts mutexes tasks) (own_rank mutexes tasks) (length tasks) (rank mutexes tasks)
+settles : RoundsSettle → (mutexes : List Mutex) (tasks : List Task) → AreLocks mutexes tasks → IsSettledRank (boosts mutexes tasks) (own_rank mutexes tasks) (length tasks) (rank mutexes tasks)
 unfolding rank
-settles mutexes tasks l = rounds_settle (boosts mutexes tasks) (own_rank mutexes tasks) (length tasks) TASK_LIMIT (boosts_fall mutexes tasks l)
+settles law mutexes tasks l = law (boosts mutexes tasks) (own_rank mutexes tasks) (length tasks) TASK_LIMIT (boosts_fall mutexes tasks l)
 
-only : (mutexes : List Mutex) (tasks : List Task) (other : ℕ → ℕ) (t : ℕ) → AreLocks mutexes tasks → IsSettledRank (boosts mutexes tasks) (own_rank mutexes tasks) (length tasks) other → t < length tasks → other t ≡ rank mutexes tasks t
+only : SettledIsOne → (mutexes : List Mutex) (tasks : List Task) (other : ℕ → ℕ) (t : ℕ) → AreLocks mutexes tasks → IsSettledRank (boosts mutexes tasks) (own_rank mutexes tasks) (length tasks) other → t < length tasks → other t ≡ rank mutexes tasks t
 unfolding rank
-only mutexes tasks other t l s below =
-    settled_is_one (boosts mutexes tasks) (own_rank mutexes tasks) (length tasks) TASK_LIMIT other (boosts_fall mutexes tasks l) s t below
+only law mutexes tasks other t l s below =
+    law (boosts mutexes tasks) (own_rank mutexes tasks) (length tasks) TASK_LIMIT other (boosts_fall mutexes tasks l) s t below
 
 pub returns-clause-settled : goal.returns-clause-settled
 returns-clause-settled g boot s t reached below =
-    settles s.board.parts.mutexes s.board.parts.tasks (good boot s reached).good.locks t below
+    settles g.ranks_settle.ensures.settle s.board.parts.mutexes s.board.parts.tasks (good g.rules_hold.ensures.booted g.rules_hold.ensures.loaded boot s reached).good.locks t below
 
 pub returns-clause-only : goal.returns-clause-only
 returns-clause-only g boot s other t reached same below =
-    only s.board.parts.mutexes s.board.parts.tasks other t (good boot s reached).good.locks same below
+    only g.ranks_settle.ensures.one s.board.parts.mutexes s.board.parts.tasks other t (good g.rules_hold.ensures.booted g.rules_hold.ensures.loaded boot s reached).good.locks same below

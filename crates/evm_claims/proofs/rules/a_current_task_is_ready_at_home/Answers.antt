@@ -24,15 +24,15 @@ its_pipe pipes processors c p same f = slice_get-within pipes c (omega (arith, s
 
 pub returns-clause-current : goal.returns-clause-current
 returns-clause-current g boot s c t p reached f now =
-    let rules = (good boot s reached).good in
+    let rules = (good g.rules_hold.ensures.booted g.rules_hold.ensures.loaded boot s reached).good in
     let pipe = its_pipe s.board.parts.pipes s.board.parts.processors c p rules.pipes_count f in
     let own = (rules.settled c pipe.0 p pipe.1 f).current_own t now in (own.task, (own.there, own.at_home, on_either own.task.state own.ready))
 
 pub returns-clause-in_band : goal.returns-clause-in_band
 returns-clause-in_band g boot s c t p reached f now =
-    let rules = (good boot s reached).good in
+    let rules = (good g.rules_hold.ensures.booted g.rules_hold.ensures.loaded boot s reached).good in
     let pipe = its_pipe s.board.parts.pipes s.board.parts.processors c p rules.pipes_count f in
     let own = (rules.settled c pipe.0 p pipe.1 f).in_band_own t now in (own.task, (own.there, own.at_home, in_band own.task.state own.ready))
 
 pub returns-clause-homes : goal.returns-clause-homes
-returns-clause-homes g boot s t task reached e = (good boot s reached).good.homes t task e
+returns-clause-homes g boot s t task reached e = (good g.rules_hold.ensures.booted g.rules_hold.ensures.loaded boot s reached).good.homes t task e

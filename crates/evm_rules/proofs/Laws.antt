@@ -1,0 +1,11 @@
+-- The rules hold after every event.
+use Rattle.evm_model.specs.Load.{start_loaded}
+use Rattle.evm_model.specs.Replay.{start}
+use Rattle.evm_rules.specs.Rules.{RulesHold, RulesHoldLoaded}
+use Rattle.evm_rules.proofs.States.{GoodState-replay, GoodState-start, GoodState-loaded}
+
+pub rules_hold : RulesHold
+rules_hold boot fits events = GoodState-replay (start boot) events (GoodState-start boot fits)
+
+pub rules_hold_loaded : RulesHoldLoaded
+rules_hold_loaded byte entry boot fits multiple events = GoodState-replay (start_loaded byte entry boot) events (GoodState-loaded byte entry boot fits multiple)
