@@ -12,6 +12,7 @@
 /* Errnos. A call that is refused returns one of them, negated. */
 #define EVL_EPERM 1    /* not permitted: no class, a stalled stage, or not the owner */
 #define EVL_ESRCH 3    /* no such task */
+#define EVL_EAGAIN 11  /* it would have to wait */
 #define EVL_ENOMEM 12  /* all numbers of this kind are used */
 #define EVL_EBUSY 16   /* busy: has a class already, owns a mutex, or is owned by another task */
 #define EVL_EINVAL 22  /* an argument out of range, or no such object */
@@ -165,6 +166,12 @@ static inline long evl_create_mutex(long kind, long ceiling)
 	return evl_call2(9, kind, ceiling);
 }
 
+/* A new semaphore; returns its number. libevl: fills a struct evl_sem, and takes a clock and a name. */
+static inline long evl_create_sem(long count)
+{
+	return evl_call1(10, count);
+}
+
 /* Reserved: action 0 is all that a line can have today. */
 static inline long evl_set_line(long line, long action, long object)
 {
@@ -224,6 +231,26 @@ static inline long evl_unlock_mutex(long mutex)
 	return evl_call1(38, mutex);
 }
 
+static inline long evl_get_sem(long sem)
+{
+	return evl_call2(39, sem, 0);
+}
+
+/*
+ * Reserved: a deadline that isn't 0 is refused where the task would have to wait.
+ * libevl: a struct timespec of the semaphore's clock.
+ */
+static inline long evl_timedget_sem(long sem, long deadline)
+{
+	return evl_call2(39, sem, deadline);
+}
+
+/* -EVL_EAGAIN where the count is 0; that is EAGAIN with libevl too. */
+static inline long evl_tryget_sem(long sem)
+{
+	return evl_call1(40, sem);
+}
+
 /* Behind the others of its rank that are ready out-of-band on the processor. */
 static inline long evl_yield(void)
 {
@@ -243,6 +270,12 @@ static inline long evl_unstall_oob(void)
 }
 
 /* ---- Calls of either stage. */
+
+/* Wakes the first waiter, or adds one to the count. */
+static inline long evl_put_sem(long sem)
+{
+	return evl_call1(41, sem);
+}
 
 /* Ticks since boot. libevl: fills a struct timespec of a clock. */
 static inline long evl_read_clock(void)

@@ -14,6 +14,7 @@ use crate::lines::{set_line, wait_line};
 use crate::mutexes::{lock, new_mutex, try_lock, unlock};
 use crate::policies::{attach, detach, set_mode, set_sched};
 use crate::refused::refused;
+use crate::semaphores::{new_semaphore, sem_get, sem_put, sem_try_get};
 use crate::stages::{stall, state_bits, switch_in_band, switch_oob};
 use crate::tasks::{exit, spawn, yield_now, yield_oob};
 use evm_model::{Call, Errno, Outcome, Stage};
@@ -35,6 +36,7 @@ fn perform(parts: &mut Parts, call: Call, asked: Asked, c: u8, t: u8) -> Outcome
         Call::Attach => attach(parts, t, asked.first, asked.second),
         Call::Detach => detach(parts, t),
         Call::NewMutex => new_mutex(parts, asked.first, asked.second),
+        Call::NewSemaphore => new_semaphore(parts, asked.first),
         Call::SetLine => set_line(parts, asked.first, asked.second),
         Call::SwitchOob => switch_oob(parts),
         Call::SwitchInBand => switch_in_band(parts, c, t),
@@ -43,6 +45,9 @@ fn perform(parts: &mut Parts, call: Call, asked: Asked, c: u8, t: u8) -> Outcome
         Call::Lock => lock(parts, c, t, asked.first, asked.second),
         Call::TryLock => try_lock(parts, t, asked.first),
         Call::Unlock => unlock(parts, t, asked.first),
+        Call::SemGet => sem_get(parts, c, t, asked.first, asked.second),
+        Call::SemTryGet => sem_try_get(parts, asked.first),
+        Call::SemPut => sem_put(parts, asked.first),
         Call::YieldOob => yield_oob(parts, t),
         Call::StallOob => stall(parts, Stage::OutOfBand, true, c),
         Call::UnstallOob => stall(parts, Stage::OutOfBand, false, c),

@@ -9,5 +9,6 @@ pub mod lines;
 pub mod mutexes;
 pub mod policies;
 pub mod refused;
+pub mod semaphores;
 pub mod stages;
 pub mod tasks;

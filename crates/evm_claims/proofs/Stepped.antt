@@ -6,22 +6,23 @@ use Rattle.evm_exec.specs.declared.hart.Hart.{Hart}
 use Rattle.evm_exec.specs.declared.outcome.Effect.TheVariants.{Store}
 use Rattle.evm_lines.specs.Lines.{has_line}
 use Rattle.evm_model.specs.Harts.{argument}
-use Rattle.evm_model.specs.Mutexes.{owner, owner_of}
 use Rattle.evm_model.specs.OobCalls.{is_scheduled_task}
 use Rattle.evm_model.specs.Pipes.{Pipe}
 use Rattle.evm_model.specs.Settle.{current}
 use Rattle.evm_model.specs.Stages.{is_class}
 use Rattle.evm_model.specs.State.{Board, Memory, Parts}
-use Rattle.evm_model.specs.Tasks.{is_live}
+use Rattle.evm_model.specs.Tasks.{is_live, is_weak}
 use Rattle.evm_model.specs.declared.mutex.Mutex.{Mutex}
 use Rattle.evm_model.specs.declared.processor.Processor.{Processor}
 use Rattle.evm_model.specs.declared.task.Class.{Class}
-use Rattle.evm_model.specs.declared.task.Class.TheVariants.{Unattached}
+use Rattle.evm_model.specs.declared.task.Class.TheVariants.{Unattached, Weak}
 use Rattle.evm_model.specs.declared.task.Task.{Task}
+use Rattle.evm_model.specs.declared.task.TaskState.{TaskState}
+use Rattle.evm_model.specs.declared.task.TaskState.TheVariants.{InReady, OobReady}
 use Rattle.evm_ram.specs.Ram.{write_at}
 use Rattle.evm_ram.specs.declared.width.Width.{Width}
-use Rattle.evm_runs.specs.Changes.{Inherits, Schedules, Spends, Stays, StaysBy, StepChanges, Wakes, Hears}
-use Rattle.evm_claims.specs.Steps.{IsAbout, IsScheduled, WakesInBand, InheritsMutex, SpendsSlice, Stands, IsAnothers, StepChangesOnly}
+use Rattle.evm_runs.specs.Changes.{Inherits, Schedules, Served, Spends, Stays, StaysBy, StepChanges, Wakes, Hears}
+use Rattle.evm_claims.specs.Steps.{IsAbout, IsScheduled, IsServed, WakesInBand, InheritsMutex, SpendsSlice, Stands, IsAnothers, StepChangesOnly}
 
 -- ---- one task
 same_task : (tasks : List Task) (t : ℕ) (x y : Task) → slice_get tasks t ≡ Some x → slice_get tasks t ≡ Some y → x ≡ y
@@ -51,6 +52,19 @@ inherits runs t old new task hart there at i =
       task_is = rw (← same) i.wakes;
       hart_is = i.hart hart at;
     }
+
+weak_is : (class : Class) → is_weak class ≡ true → class ≡ Weak
+weak_is Weak e = refl
+weak_is _ e = cc
+
+weakly : (state : TaskState) (class : Class) → (state ≡ OobReady) ⊎ ((state ≡ InReady) × (is_weak class ≡ true)) → (state ≡ OobReady) ⊎ ((state ≡ InReady) × (class ≡ Weak))
+weakly state class (inl oob) = inl oob
+weakly state class (inr in_band) = inr (in_band.0, weak_is class in_band.1)
+
+served : (runs : Option ℕ) (t : ℕ) (old new : Parts) (task : Task) (hart : Hart) → slice_get old.tasks t ≡ Some task → slice_get old.harts t ≡ Some hart → Served runs t old new → IsServed runs t old.stamps new.tasks new.harts task hart
+served runs t old new task hart there at i =
+    let same : i.task ≡ task = same_task old.tasks t i.task task i.waited there in
+    record { s = i.semaphore; giver = i.giver; stamp = i.stamp; state = i.state; on = rw (← same) i.on; gives = i.held; ready = rw (← same) (weakly i.state i.task.class i.ready); later = i.fresh; task_is = rw (← same) i.wakes; hart_is = i.hart hart at }
 
 spends : (c t : ℕ) (old new : Parts) (task : Task) (hart : Hart) → slice_get old.tasks t ≡ Some task → slice_get old.harts t ≡ Some hart → Spends c t old new
     → SpendsSlice (current c old) t old.stamps new.tasks new.harts task hart
@@ -115,18 +129,21 @@ Left c t old new task hart =
     Stands t new.tasks new.harts task hart
     ⊎ WakesInBand c t old.stamps new.tasks new.harts task hart
     ⊎ InheritsMutex (current c old) t old.stamps old.mutexes new.mutexes new.tasks new.harts task hart
+    ⊎ IsServed (current c old) t old.stamps new.tasks new.harts task hart
 
 left : (c t : ℕ) (old new : Parts) (task : Task) (hart : Hart) → slice_get old.tasks t ≡ Some task → slice_get old.harts t ≡ Some hart → Stays c t old new → Left c t old new task hart
 unfolding Left
 left c t old new task hart there at (inl r) = inl (record { task_is = r.task task there; hart_is = r.hart hart at })
 left c t old new task hart there at (inr (inl w)) = inr (inl (woken c t old new task hart there at w))
-left c t old new task hart there at (inr (inr i)) = inr (inr (inherits (current c old) t old new task hart there at i))
+left c t old new task hart there at (inr (inr (inl i))) = inr (inr (inl (inherits (current c old) t old new task hart there at i)))
+left c t old new task hart there at (inr (inr (inr i))) = inr (inr (inr (served (current c old) t old new task hart there at i)))
 
 tasks_of : (c : ℕ) (old new : Board) → StepChanges c old new → (t : ℕ) (task : Task) (hart : Hart) → current c old.parts ≢ Some t → slice_get old.parts.tasks t ≡ Some task → slice_get old.parts.harts t ≡ Some hart
     → (given : Task) × (((given ≡ task) ⊎ IsScheduled (current c old.parts) t old.parts.tasks old.parts.harts old.memory task given)
     × (Stands t new.parts.tasks new.parts.harts given hart
     ⊎ WakesInBand c t old.parts.stamps new.parts.tasks new.parts.harts given hart
-    ⊎ InheritsMutex (current c old.parts) t old.parts.stamps old.parts.mutexes new.parts.mutexes new.parts.tasks new.parts.harts given hart))
+    ⊎ InheritsMutex (current c old.parts) t old.parts.stamps old.parts.mutexes new.parts.mutexes new.parts.tasks new.parts.harts given hart
+    ⊎ IsServed (current c old.parts) t old.parts.stamps new.parts.tasks new.parts.harts given hart))
 unfolding Left
 tasks_of c old new b t task hart other there at =
     let a : IsAsked c t old b.asked task = as_asked c t old b.asked task there b.scheduled in
@@ -143,36 +160,9 @@ own : (c t : ℕ) (old new : Parts) (task : Task) (hart : Hart) → slice_get ol
 unfolding Heard
 own c t old new task hart there at (inl (inl r)) = inl (record { task_is = r.task task there; hart_is = r.hart hart at })
 own c t old new task hart there at (inl (inr (inl w))) = inr (inl (woken c t old new task hart there at w))
-own c t old new task hart there at (inl (inr (inr i))) = let no = i.held in cc
+own c t old new task hart there at (inl (inr (inr (inl i)))) = let no = i.held in cc
+own c t old new task hart there at (inl (inr (inr (inr i)))) = let no = i.held in cc
 own c t old new task hart there at (inr q) = inr (inr (spends c t old new task hart there at q))
-
--- a mutex that doesn't change is inherited by no other task
-none_inherits : (o : Option ℕ) (t : ℕ) (old new : Parts) → new.mutexes ≡ old.mutexes → (o ≡ Some t → ⊥) → Inherits o t old new → ⊥
-none_inherits o t old new same other i =
-    let its : owner old.mutexes i.mutex ≡ Some t = ap (λ (all : List Mutex). owner all i.mutex) (sym same) ∙ ap owner_of i.there ∙ i.owns in
-    let two : Some i.giver ≡ Some t = sym i.had ∙ its in
-    other (i.held ∙ two)
-
-another : (c t : ℕ) (old new : Parts) (task : Task) (hart : Hart) → slice_get old.tasks t ≡ Some task → slice_get old.harts t ≡ Some hart → new.mutexes ≡ old.mutexes → (current c old ≡ Some t → ⊥) → Stays c t old new → Heard c t old new task hart
-unfolding Heard
-another c t old new task hart there at same other (inl r) = inl (record { task_is = r.task task there; hart_is = r.hart hart at })
-another c t old new task hart there at same other (inr (inl w)) = inr (inl (woken c t old new task hart there at w))
-another c t old new task hart there at same other (inr (inr i)) = absurd (none_inherits (current c old) t old new same other i)
-
-others : (c t : ℕ) (old new : Board) (task : Task) (hart : Hart) → StepChanges c old new → Hears c old.parts → (current c old.parts ≡ Some t → ⊥) → slice_get old.parts.tasks t ≡ Some task → slice_get old.parts.harts t ≡ Some hart
-    → Heard c t old.parts new.parts task hart
-unfolding Heard
-others c t old new task hart b line other there at =
-    let heard : Heard c t (record old.parts { tasks = b.asked }) new.parts task hart =
-    another c t (record old.parts { tasks = b.asked }) new.parts task hart (ap (λ (all : List Task). slice_get all t) (b.hears line).0 ∙ there) at (b.hears line).2 other (b.others t other) in heard
-
-heard : (o : Option ℕ) (c t : ℕ) (old new : Board) (task : Task) (hart : Hart) → current c old.parts ≡ o → StepChanges c old new → Hears c old.parts → slice_get old.parts.tasks t ≡ Some task → slice_get old.parts.harts t ≡ Some hart
-    → Heard c t old.parts new.parts task hart
-heard None c t old new task hart runs b line there at = others c t old new task hart b line (λ m. let no : None ≡ Some t = sym runs ∙ m in cc) there at
-heard (Some u) c t old new task hart runs b line there at = elim (cases_eq u t) [
-  | inl same ↦ own c t old.parts new.parts task hart there at ((b.hears line).1 t (runs ∙ ap Some same))
-  | inr differ ↦ others c t old new task hart b line (λ m. let one : Some u ≡ Some t = sym runs ∙ m in differ cc) there at
-]
 
 line_tasks_of : (c : ℕ) (old new : Board) → StepChanges c old new → (l t : ℕ) (pipe : Pipe) (task : Task) (hart : Hart) → slice_get old.parts.pipes c ≡ Some pipe → has_line pipe.wire l ≡ true
     → slice_get old.parts.tasks t ≡ Some task → slice_get old.parts.harts t ≡ Some hart
@@ -180,7 +170,7 @@ line_tasks_of : (c : ℕ) (old new : Board) → StepChanges c old new → (l t :
     ⊎ WakesInBand c t old.parts.stamps new.parts.tasks new.parts.harts task hart
     ⊎ SpendsSlice (current c old.parts) t old.parts.stamps new.parts.tasks new.parts.harts task hart
 unfolding Heard
-line_tasks_of c old new b l t pipe task hart there on is has = heard (current c old.parts) c t old new task hart refl b (record { pipe = pipe; line = l; there = there; on = on }) is has
+line_tasks_of c old new b l t pipe task hart there on is has = own c t old.parts new.parts task hart is has ((b.hears (record { pipe = pipe; line = l; there = there; on = on })).1 t)
 
 -- ---- RAM
 ram_of : (c : ℕ) (old new : Board) → StepChanges c old new

@@ -18,10 +18,11 @@ use Rattle.evm_model.specs.Tasks.{is_live}
 use Rattle.evm_model.specs.declared.mutex.Mutex.{Mutex}
 use Rattle.evm_model.specs.declared.mutex.Protocol.{Protocol}
 use Rattle.evm_model.specs.declared.task.Class.{Class}
-use Rattle.evm_model.specs.declared.task.Class.TheVariants.{Unattached, RoundRobin}
+use Rattle.evm_model.specs.declared.task.Class.TheVariants.{Unattached, RoundRobin, Weak}
 use Rattle.evm_model.specs.declared.task.Task.{Task}
+use Rattle.evm_model.specs.declared.task.TaskState.{TaskState}
 use Rattle.evm_model.specs.declared.task.TaskState.TheVariants.{InReady, OobReady, Waits}
-use Rattle.evm_model.specs.declared.task.Wait.TheVariants.{Line, Lock}
+use Rattle.evm_model.specs.declared.task.Wait.TheVariants.{Line, Lock, Semaphore}
 use Rattle.evm_ram.specs.Ram.{write_at}
 use Rattle.evm_ram.specs.declared.width.Width.{Width}
 
@@ -74,6 +75,19 @@ pub record InheritsMutex (runs : Option ℕ) (t stamps : ℕ) (before mutexes : 
   pub once : mutex.count ≡ 1
   pub later : stamps ≤ stamp
   pub task_is : slice_get tasks t ≡ Some (record task { stamp = stamp; deadline = 0; state = OobReady })
+  pub hart_is : slice_get harts t ≡ Some (record hart { regs = with_register hart.regs 10 0 })
+
+-- it waited, on whatever processor, for a semaphore into which the current task put one: it is ready out-of-band, or in-band if it is weak, with a later stamp and an a0 of 0
+pub record IsServed (runs : Option ℕ) (t stamps : ℕ) (tasks : List Task) (harts : List Hart) (task : Task) (hart : Hart) : Type 0 where
+  pub s : ℕ
+  pub giver : ℕ
+  pub stamp : ℕ
+  pub state : TaskState
+  pub on : task.state ≡ Waits (Semaphore s)
+  pub gives : runs ≡ Some giver
+  pub ready : (state ≡ OobReady) ⊎ ((state ≡ InReady) × (task.class ≡ Weak))
+  pub later : stamps ≤ stamp
+  pub task_is : slice_get tasks t ≡ Some (record task { stamp = stamp; deadline = 0; state = state })
   pub hart_is : slice_get harts t ≡ Some (record hart { regs = with_register hart.regs 10 0 })
 
 -- it is current, ready out-of-band and of the round-robin class: it has less of its slice, or with a later stamp a slice of at most 4
@@ -132,12 +146,13 @@ pub record StepChangesOnly (runs : Option ℕ) (c : ℕ) (old new : Board) : Typ
   -- the console has one byte more at the most, the last 4096 of them
   pub console : (new.parts.console ≡ old.parts.console)
       ⊎ ((byte : ℕ) × (new.parts.console ≡ drop (length (old.parts.console ++ byte ∷ []) - 4096) (old.parts.console ++ byte ∷ [])))
-  -- each task but the current one, as call 34 may have given it another class, stands, wakes or inherits
+  -- each task but the current one, as call 34 may have given it another class, stands, wakes, inherits or is served
   pub tasks : (t : ℕ) (task : Task) (hart : Hart) → runs ≢ Some t → slice_get old.parts.tasks t ≡ Some task → slice_get old.parts.harts t ≡ Some hart
       → (given : Task) × (((given ≡ task) ⊎ IsScheduled runs t old.parts.tasks old.parts.harts old.memory task given)
       × (Stands t new.parts.tasks new.parts.harts given hart
       ⊎ WakesInBand c t old.parts.stamps new.parts.tasks new.parts.harts given hart
-      ⊎ InheritsMutex runs t old.parts.stamps old.parts.mutexes new.parts.mutexes new.parts.tasks new.parts.harts given hart))
+      ⊎ InheritsMutex runs t old.parts.stamps old.parts.mutexes new.parts.mutexes new.parts.tasks new.parts.harts given hart
+      ⊎ IsServed runs t old.parts.stamps new.parts.tasks new.parts.harts given hart))
   -- where a line is on the wire each task, the current one too, stands, wakes or spends its slice
   pub line_tasks : (l t : ℕ) (pipe : Pipe) (task : Task) (hart : Hart) → slice_get old.parts.pipes c ≡ Some pipe → has_line pipe.wire l ≡ true
       → slice_get old.parts.tasks t ≡ Some task → slice_get old.parts.harts t ≡ Some hart

@@ -110,6 +110,7 @@ fn parts_of(boot: &Boot, console: Console) -> Parts
         pipes: pipes_of(boot.cpus),
         stamps: 1,
         mutexes: Mutexes::new(),
+        semaphores: Semaphores::new(),
         console,
     }
 }

@@ -8,12 +8,13 @@ use Rattle.evm_model.specs.Locks.{new_mutex, lock, try_lock, unlock}
 use Rattle.evm_model.specs.Mutexes.{owns_any}
 use Rattle.evm_model.specs.OobCalls.{stall, switch_oob, switch_in_band, set_sched, set_mode, yield_oob, clock, state_bits}
 use Rattle.evm_model.specs.Ranks.{is_oob_ready}
+use Rattle.evm_model.specs.Semaphores.{new_semaphore, sem_get, sem_try_get, sem_put}
 use Rattle.evm_model.specs.Settle.{is_oob}
 use Rattle.evm_model.specs.Stages.{refused, may_promote}
 use Rattle.evm_model.specs.State.{Parts, on_hart}
 use Rattle.evm_model.specs.Tasks.{demote, promote, is_weak}
 use Rattle.evm_model.specs.declared.call.Call.{Call}
-use Rattle.evm_model.specs.declared.call.Call.TheVariants.{Exit as Ends, Putc, Yield, Spawn, Stall, Unstall, WaitLine, Attach, Detach, NewMutex, SetLine, SwitchOob, SwitchInBand, SetSched, SetMode, Lock, TryLock, Unlock, YieldOob, StallOob, UnstallOob, Clock, StateBits}
+use Rattle.evm_model.specs.declared.call.Call.TheVariants.{Exit as Ends, Putc, Yield, Spawn, Stall, Unstall, WaitLine, Attach, Detach, NewMutex, NewSemaphore, SetLine, SwitchOob, SwitchInBand, SetSched, SetMode, Lock, TryLock, Unlock, SemGet, SemTryGet, SemPut, YieldOob, StallOob, UnstallOob, Clock, StateBits}
 use Rattle.evm_model.specs.declared.call.Outcome.{Outcome}
 use Rattle.evm_model.specs.declared.call.Outcome.TheVariants.{Answers, Waits, Leaves}
 use Rattle.evm_model.specs.declared.errno.Errno.TheVariants.{NotPermitted, NoSuchCall}
@@ -33,6 +34,7 @@ call_row WaitLine = (6, Some InBand)
 call_row Attach = (7, Some InBand)
 call_row Detach = (8, Some InBand)
 call_row NewMutex = (9, Some InBand)
+call_row NewSemaphore = (10, Some InBand)
 call_row SetLine = (14, Some InBand)
 call_row SwitchOob = (32, Some OutOfBand)
 call_row SwitchInBand = (33, Some OutOfBand)
@@ -41,6 +43,9 @@ call_row SetMode = (35, Some OutOfBand)
 call_row Lock = (36, Some OutOfBand)
 call_row TryLock = (37, Some OutOfBand)
 call_row Unlock = (38, Some OutOfBand)
+call_row SemGet = (39, Some OutOfBand)
+call_row SemTryGet = (40, Some OutOfBand)
+call_row SemPut = (41, None)
 call_row YieldOob = (50, Some OutOfBand)
 call_row StallOob = (51, Some OutOfBand)
 call_row UnstallOob = (52, Some OutOfBand)
@@ -55,8 +60,8 @@ call_stage call = (call_row call).1
 
 abbrev pub all_calls : List Call
 all_calls =
-    Ends ∷ Putc ∷ Yield ∷ Spawn ∷ Stall ∷ Unstall ∷ WaitLine ∷ Attach ∷ Detach ∷ NewMutex ∷ SetLine ∷ SwitchOob ∷ SwitchInBand
-    ∷ SetSched ∷ SetMode ∷ Lock ∷ TryLock ∷ Unlock ∷ YieldOob ∷ StallOob ∷ UnstallOob ∷ Clock ∷ StateBits ∷ []
+    Ends ∷ Putc ∷ Yield ∷ Spawn ∷ Stall ∷ Unstall ∷ WaitLine ∷ Attach ∷ Detach ∷ NewMutex ∷ NewSemaphore ∷ SetLine ∷ SwitchOob
+    ∷ SwitchInBand ∷ SetSched ∷ SetMode ∷ Lock ∷ TryLock ∷ Unlock ∷ SemGet ∷ SemTryGet ∷ SemPut ∷ YieldOob ∷ StallOob ∷ UnstallOob ∷ Clock ∷ StateBits ∷ []
 
 -- the first of the calls that has the number
 abbrev pub numbered : ℕ → List Call → Option Call
@@ -79,6 +84,7 @@ perform WaitLine hart c t k = wait_line c t (argument 0 hart) k
 perform Attach hart c t k = attach t (argument 0 hart) (argument 1 hart) k
 perform Detach hart c t k = detach t k
 perform NewMutex hart c t k = new_mutex (argument 0 hart) (argument 1 hart) k
+perform NewSemaphore hart c t k = new_semaphore (argument 0 hart) k
 perform SetLine hart c t k = set_line (argument 0 hart) (argument 1 hart) k
 perform SwitchOob hart c t k = switch_oob k
 perform SwitchInBand hart c t k = switch_in_band c t k
@@ -87,6 +93,9 @@ perform SetMode hart c t k = set_mode t (argument 0 hart) k
 perform Lock hart c t k = lock c t (argument 0 hart) (argument 1 hart) k
 perform TryLock hart c t k = try_lock t (argument 0 hart) k
 perform Unlock hart c t k = unlock t (argument 0 hart) k
+perform SemGet hart c t k = sem_get c t (argument 0 hart) (argument 1 hart) k
+perform SemTryGet hart c t k = sem_try_get (argument 0 hart) k
+perform SemPut hart c t k = sem_put (argument 0 hart) k
 perform YieldOob hart c t k = yield_oob t k
 perform StallOob hart c t k = stall OutOfBand true c k
 perform UnstallOob hart c t k = stall OutOfBand false c k

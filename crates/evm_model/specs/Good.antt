@@ -13,7 +13,7 @@ use Rattle.evm_model.specs.Settle.{is_oob}
 use Rattle.evm_model.specs.State.{State, Parts, profile_of}
 use Rattle.evm_model.specs.Event.{Event}
 use Rattle.evm_model.specs.declared.event.Event.TheVariants.{Tick}
-use Rattle.evm_model.specs.declared.limits.TheConstants.{MUTEX_LIMIT, PROCESSOR_LIMIT, TASK_LIMIT}
+use Rattle.evm_model.specs.declared.limits.TheConstants.{SEMAPHORE_COUNT_LIMIT, MUTEX_LIMIT, PROCESSOR_LIMIT, SEMAPHORE_LIMIT, TASK_LIMIT}
 use Rattle.evm_model.specs.declared.mutex.Mutex.{Mutex}
 use Rattle.evm_model.specs.declared.processor.Processor.{Processor}
 use Rattle.evm_model.specs.declared.task.Task.{Task}
@@ -72,6 +72,11 @@ pub record AreLocks (mutexes : List Mutex) (tasks : List Task) : Type 0 where
   -- no more of them than there may be
   pub few : length mutexes ≤ MUTEX_LIMIT
 
+-- no more semaphores than there may be, and none above the greatest count
+pub record AreSemaphores (semaphores : List ℕ) : Type 0 where
+  pub few : length semaphores ≤ SEMAPHORE_LIMIT
+  pub bounded : (s n : ℕ) → slice_get semaphores s ≡ Some n → n ≤ SEMAPHORE_COUNT_LIMIT
+
 -- what holds of the parts
 pub record Good (k : Parts) : Type 0 where
   pub pipes : (c : ℕ) (pipe : Pipe) → slice_get k.pipes c ≡ Some pipe → IsPipe pipe
@@ -110,5 +115,7 @@ pub record GoodState (s : State) : Type 0 where
   pub stamps : s.board.parts.stamps ≤ 1 + STAMPS_PER_EVENT * length s.journal
   -- counts are far below 2^64
   pub counts : PipesUpTo (PER_EVENT * length s.journal) s.board.parts.pipes
+  -- semaphores are within their bounds
+  pub semaphores : AreSemaphores s.board.parts.semaphores
   -- and so is how often each mutex is locked
   pub holds : HeldUpTo (PER_EVENT * length s.journal) s.board.parts.mutexes

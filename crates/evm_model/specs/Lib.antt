@@ -23,6 +23,7 @@ pub mod Ranks
 pub mod Refusals
 pub mod Replay
 pub mod Rows
+pub mod Semaphores
 pub mod Settle
 pub mod Stages
 pub mod State

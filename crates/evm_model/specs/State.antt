@@ -32,6 +32,8 @@ pub record Parts : Type 0 where
   pub stamps : ℕ
   -- mutex m is the m-th
   pub mutexes : List Mutex
+  -- the count of semaphore s is the s-th
+  pub semaphores : List ℕ
   -- what was put to the console, the last bytes of it
   pub console : List ℕ
 
@@ -68,6 +70,9 @@ on_pipe c f k = record k { pipes = change f k.pipes c }
 abbrev pub on_mutex : ℕ → (Mutex → Mutex) → Parts → Parts
 on_mutex m f k = record k { mutexes = change f k.mutexes m }
 
+abbrev pub on_semaphore : ℕ → (ℕ → ℕ) → Parts → Parts
+on_semaphore s f k = record k { semaphores = change f k.semaphores s }
+
 abbrev pub on_parts : (Parts → Parts) → Board → Board
 on_parts f b = record b { parts = f b.parts }
 
@@ -103,6 +108,7 @@ booted_parts boot = record {
   pipes = replicate boot.cpus idle_pipe;
   stamps = 1;
   mutexes = [];
+  semaphores = [];
   console = [];
 }
 

@@ -25,6 +25,8 @@ pub enum Call {
     Detach,
     /// A new mutex.
     NewMutex,
+    /// A new semaphore.
+    NewSemaphore,
     /// What is done with a line.
     SetLine,
     /// The task goes out-of-band.
@@ -41,6 +43,12 @@ pub enum Call {
     TryLock,
     /// The task gives a mutex back.
     Unlock,
+    /// The task takes one from a semaphore, or waits for one.
+    SemGet,
+    /// The task takes one from a semaphore, if it need not wait for it.
+    SemTryGet,
+    /// One is put into a semaphore.
+    SemPut,
     /// The task goes behind the others of its rank that are ready out-of-band.
     YieldOob,
     /// The out-of-band stage plays nothing until it is unstalled, and its current task stays.
@@ -68,6 +76,7 @@ impl Call {
             7 => Some(Call::Attach),
             8 => Some(Call::Detach),
             9 => Some(Call::NewMutex),
+            10 => Some(Call::NewSemaphore),
             14 => Some(Call::SetLine),
             32 => Some(Call::SwitchOob),
             33 => Some(Call::SwitchInBand),
@@ -76,6 +85,9 @@ impl Call {
             36 => Some(Call::Lock),
             37 => Some(Call::TryLock),
             38 => Some(Call::Unlock),
+            39 => Some(Call::SemGet),
+            40 => Some(Call::SemTryGet),
+            41 => Some(Call::SemPut),
             50 => Some(Call::YieldOob),
             51 => Some(Call::StallOob),
             52 => Some(Call::UnstallOob),
@@ -100,6 +112,7 @@ impl Call {
             | Call::Attach
             | Call::Detach
             | Call::NewMutex
+            | Call::NewSemaphore
             | Call::SetLine => Some(Stage::InBand),
             Call::SwitchOob
             | Call::SwitchInBand
@@ -108,10 +121,12 @@ impl Call {
             | Call::Lock
             | Call::TryLock
             | Call::Unlock
+            | Call::SemGet
+            | Call::SemTryGet
             | Call::YieldOob
             | Call::StallOob
             | Call::UnstallOob => Some(Stage::OutOfBand),
-            Call::Clock | Call::StateBits => None,
+            Call::SemPut | Call::Clock | Call::StateBits => None,
         }
     }
 }

@@ -8,6 +8,8 @@ pub enum Errno {
     NotPermitted,
     /// There is no such task (ESRCH, 3).
     NoSuchTask,
+    /// It would have to wait (EAGAIN, 11).
+    TryAgain,
     /// There is no number left (ENOMEM, 12).
     NoNumber,
     /// It is so already (EBUSY, 16).
@@ -28,6 +30,7 @@ impl Errno {
         match self {
             Errno::NotPermitted => 0u64.wrapping_sub(1),
             Errno::NoSuchTask => 0u64.wrapping_sub(3),
+            Errno::TryAgain => 0u64.wrapping_sub(11),
             Errno::NoNumber => 0u64.wrapping_sub(12),
             Errno::Busy => 0u64.wrapping_sub(16),
             Errno::Invalid => 0u64.wrapping_sub(22),

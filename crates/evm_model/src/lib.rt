@@ -23,7 +23,8 @@ pub use event::{Answer, Block, Event, NoBytes, copied, kinds_add_up};
 pub use fault::Fault;
 pub use limits::{
     BREAKPOINT_LIMIT, CAPACITY_LIMIT, CONSOLE_LIMIT, MODE_LIMIT, MUTEX_LIMIT, POKE_LIMIT,
-    PRIORITY_LIMIT, PROCESSOR_LIMIT, RAM_LEAST, RAM_UNIT, SLICE, TASK_LIMIT,
+    PRIORITY_LIMIT, PROCESSOR_LIMIT, RAM_LEAST, RAM_UNIT, SEMAPHORE_COUNT_LIMIT, SEMAPHORE_LIMIT,
+    SLICE, TASK_LIMIT,
 };
 pub use mode::Mode;
 pub use mutex::{Mutex, Protocol};

@@ -7,6 +7,12 @@ pub const TASK_LIMIT: usize = 64;
 /// The most mutexes that there may be; a number is never used again.
 pub const MUTEX_LIMIT: usize = 32;
 
+/// The most semaphores that there may be; a number is never used again.
+pub const SEMAPHORE_LIMIT: usize = 32;
+
+/// The greatest count of a semaphore.
+pub const SEMAPHORE_COUNT_LIMIT: u32 = 2_147_483_647;
+
 /// The most addresses at which breakpoints may be set.
 pub const BREAKPOINT_LIMIT: usize = 64;
 

@@ -5,11 +5,13 @@
 mod console;
 mod locks;
 mod parts;
+mod semaphores;
 mod stages;
 mod tasks;
 
 pub use console::Console;
 pub use evm_boost::Mutexes;
 pub use evm_pipe::Pipe;
+pub use evm_sync::Semaphores;
 pub use evm_task::{Asked, Harts, Tasks};
 pub use parts::Parts;

@@ -11,6 +11,7 @@ use evm_boost::Mutexes;
 use evm_lines::LINES;
 use evm_model::{PROCESSOR_LIMIT, Processor, Profile, Stage};
 use evm_pipe::Pipe;
+use evm_sync::Semaphores;
 use evm_task::{Harts, Tasks};
 use std::marker::Model;
 
@@ -33,6 +34,8 @@ pub struct Parts {
     pub stamps: u64,
     /// The mutexes.
     pub mutexes: Mutexes,
+    /// The counts of the semaphores.
+    pub semaphores: Semaphores,
     /// What was put to the console.
     pub console: Console,
 }
@@ -51,6 +54,7 @@ impl Model for Parts {
       pipes = k.pipes.items;
       stamps = k.stamps;
       mutexes = k.mutexes;
+      semaphores = k.semaphores;
       console = k.console;
     } };
 }

@@ -20,6 +20,7 @@ use Rattle.evm_model.specs.declared.task.Task.{Task}
 use Rattle.evm_model.specs.declared.task.TaskState.{TaskState}
 use Rattle.evm_model.specs.declared.task.TaskState.TheVariants.{InReady, OobReady, Waits}
 use Rattle.evm_model.specs.Waits.{begin_wait}
+use Rattle.evm_model.specs.declared.task.Wait.{Wait}
 use Rattle.evm_model.specs.declared.task.Wait.TheVariants.{Line, Lock}
 use Rattle.evm_rules.proofs.Bounded.{are-change}
 use Rattle.evm_rules.proofs.Firsts.{IsOobOwn, own-live}
@@ -238,6 +239,16 @@ but-waits c t m u deadline k own away f o g =
     let waiting : Task → Task = λ task. record task { state = Waits (Lock m); deadline = deadline } in
     but-restamp c t (on_task t waiting k)
     (but-own c t waiting k (λ x. refl) (λ x. refl) (locks-wait k.mutexes k.tasks t m u waiting (λ x. refl) g.shape.few_tasks own away g.shape.locks)
+    (λ v p h x w. one-other is_in_ready c t v waiting k.tasks (oob-other c t v k.tasks o w) w) f (own-live c t k.tasks o) g)
+
+-- it waits for what no mutex is
+pub but-rests : (c t deadline : ℕ) (wait : Wait) (k : Parts) → lock_of (Waits wait) ≡ None → IsOpen c k → IsOobOwn c t k.tasks → GoodBut c k → GoodBut c (begin_wait t wait deadline k)
+unfolding begin_wait
+but-rests c t deadline wait k none f o g =
+    let waiting : Task → Task = λ task. record task { state = Waits wait; deadline = deadline } in
+    but-restamp c t (on_task t waiting k)
+    (but-own c t waiting k (λ x. refl) (λ x. refl)
+    (locks-fewer k.mutexes k.tasks (change waiting k.tasks t) (omega (arith, length-change waiting k.tasks t)) (fewer-change waiting k.tasks t (λ x m e. let no : None ≡ Some m = sym none ∙ e in cc)) g.shape.locks)
     (λ v p h x w. one-other is_in_ready c t v waiting k.tasks (oob-other c t v k.tasks o w) w) f (own-live c t k.tasks o) g)
 
 pub left : (c : ℕ) (k : Parts) (p : Processor) → slice_get (leave_in_band c k).processors c ≡ Some p → p.in_band_task ≡ None

@@ -21,7 +21,7 @@ use Rattle.evm_model.specs.State.{Parts, on_hart}
 use Rattle.evm_model.specs.Waits.{begin_wait}
 use Rattle.evm_model.specs.Tasks.{restamp, leave_in_band, set_policy, clear_policy, set_mode_bits}
 use Rattle.evm_model.specs.declared.call.Call.{Call}
-use Rattle.evm_model.specs.declared.call.Call.TheVariants.{Exit, Putc, Yield, Spawn, Stall, Unstall, WaitLine, Attach, Detach, NewMutex, SetLine, SwitchOob, SwitchInBand, SetSched, SetMode, Lock as Lock_call, TryLock, Unlock, YieldOob, StallOob, UnstallOob, Clock, StateBits}
+use Rattle.evm_model.specs.declared.call.Call.TheVariants.{Exit, Putc, Yield, Spawn, Stall, Unstall, WaitLine, Attach, Detach, NewMutex, NewSemaphore, SetLine, SwitchOob, SwitchInBand, SetSched, SetMode, Lock as Lock_call, TryLock, Unlock, SemGet, SemTryGet, SemPut, YieldOob, StallOob, UnstallOob, Clock, StateBits}
 use Rattle.evm_model.specs.declared.call.Outcome.{Outcome}
 use Rattle.evm_model.specs.declared.call.Outcome.TheVariants.{Answers, Waits, Leaves}
 use Rattle.evm_model.specs.declared.errno.Errno.{Errno}
@@ -39,6 +39,7 @@ use Rattle.evm_rules.proofs.Done.{IsDone, either, not-stalled}
 use Rattle.evm_rules.proofs.Firsts.{IsOobOwn, both, eqb-is}
 use Rattle.evm_rules.proofs.Locking.{may-wait, new_mutex-done, lock-done, try_lock-done, unlock-done}
 use Rattle.evm_rules.proofs.Passing.{end-but}
+use Rattle.evm_rules.proofs.Semaphores.{new_semaphore-done, sem_get-done, sem_try_get-done, sem_put-done}
 use Rattle.evm_rules.proofs.Settling.{GoodBut, good_but, is_open, oob_own}
 
 -- what a spawn that isn't refused was tested for
@@ -222,6 +223,7 @@ module _ (c t : ℕ) (k : Parts) (g : GoodBut c k) (o : IsOwn c t k.tasks) where
   perform-done Attach hart h = attach-done c t k g o (argument 0 hart) (argument 1 hart)
   perform-done Detach hart h = detach-done c t k g o
   perform-done NewMutex hart h = new_mutex-done c t k g o (argument 0 hart) (argument 1 hart)
+  perform-done NewSemaphore hart h = new_semaphore-done c t k g o (argument 0 hart)
   perform-done SetLine hart h = set_line-done c t k g o (argument 0 hart) (argument 1 hart)
   perform-done SwitchOob hart h = switch_oob-done c t k g o
   perform-done SwitchInBand hart h = switch_in_band-done c t k g o
@@ -230,6 +232,9 @@ module _ (c t : ℕ) (k : Parts) (g : GoodBut c k) (o : IsOwn c t k.tasks) where
   perform-done Lock_call hart h = lock-done c t k g o (argument 0 hart) (argument 1 hart) (h.oob refl).1
   perform-done TryLock hart h = try_lock-done c t k g o (argument 0 hart)
   perform-done Unlock hart h = unlock-done c t k g o (argument 0 hart)
+  perform-done SemGet hart h = sem_get-done c t k g o (argument 0 hart) (argument 1 hart) (h.oob refl).1
+  perform-done SemTryGet hart h = sem_try_get-done c t k g o (argument 0 hart)
+  perform-done SemPut hart h = sem_put-done c t k g o (argument 0 hart)
   perform-done YieldOob hart h = yield_oob-done c t k g o
   perform-done StallOob hart h = stall_oob-done c t k g o true (h.oob refl).0
   perform-done UnstallOob hart h = stall_oob-done c t k g o false (h.oob refl).0

@@ -8,6 +8,7 @@ pub mod Replays
 pub mod Counting
 pub mod Bounded
 pub mod Playing
+pub mod Semaphores
 pub mod Settling
 pub mod Nudging
 pub mod Shapes

@@ -34,7 +34,7 @@ use Rattle.evm_rules.proofs.Done.{IsDone, either}
 room-mutex : (k : Parts) → nat_le MUTEX_LIMIT (length k.mutexes) ≡ false → length k.mutexes < MUTEX_LIMIT
 room-mutex k e = grind (arith, nat_tests)
 
-not-closed : (c : ℕ) (k : Parts) → is_stalled OutOfBand c k ≡ false → IsOpen c k
+pub not-closed : (c : ℕ) (k : Parts) → is_stalled OutOfBand c k ≡ false → IsOpen c k
 not-closed c k e = record { open_there = λ pipe h. rw h at e }
 
 -- a call that may wait

@@ -68,23 +68,23 @@ stamped-lock tasks t u stamp = elim (cases_eq u t) [
 ]
 
 -- what waking leaves of the tasks
-record Wakes (c t : ℕ) (k x : Parts) : Type 0 where
-  but : GoodBut c x
-  pipes : x.pipes ≡ k.pipes
-  size : length x.tasks ≡ length k.tasks
-  idle : lock_at x.tasks t ≡ None
-  alike : (d : ℕ) → AreAlike d k.tasks x.tasks
+pub record Wakes (c t : ℕ) (k x : Parts) : Type 0 where
+  pub but : GoodBut c x
+  pub pipes : x.pipes ≡ k.pipes
+  pub size : length x.tasks ≡ length k.tasks
+  pub idle : lock_at x.tasks t ≡ None
+  pub alike : (d : ℕ) → AreAlike d k.tasks x.tasks
 
 -- a wake, whether the task owns a mutex or not
-abbrev woke : Bool → ℕ → ℕ → Parts → Parts
+abbrev pub woke : Bool → ℕ → ℕ → Parts → Parts
 woke owns t value k = restamp t (on_task t (woken owns) (on_hart t (set_register A0 value) k))
 
-wake-but : (c t m value : ℕ) (owns : Bool) (k : Parts) → lock_at k.tasks t ≡ Some m → GoodBut c k → Wakes c t k (woke owns t value k)
+pub wake-but : (c t value : ℕ) (owns : Bool) (k : Parts) → ((task : Task) → slice_get k.tasks t ≡ Some task → is_ready task.state ≡ false) → GoodBut c k → Wakes c t k (woke owns t value k)
 unfolding restamp
-wake-but c t m value owns k e g =
+wake-but c t value owns k idle g =
     let told : Parts = on_hart t (set_register A0 value) k in
     let ready : Parts = on_task t (woken owns) told in
-    let alike : (d : ℕ) → AreAlike d k.tasks (change (woken owns) k.tasks t) = λ d. alike-idle d t (woken owns) k.tasks (λ x. refl) (waiter-idle k.tasks t m e) in
+    let alike : (d : ℕ) → AreAlike d k.tasks (change (woken owns) k.tasks t) = λ d. alike-idle d t (woken owns) k.tasks (λ x. refl) idle in
     let fresh : (d : ℕ) → AreAlike d (change (woken owns) k.tasks t) _ = λ d. alike-change d t (λ task. record task { stamp = k.stamps }) (change (woken owns) k.tasks t) (λ x. refl) (λ x. refl) in
     let first : GoodBut c told = but-hart c t (set_register A0 value) k (λ hart h. h) g in
     let lockless : (x : Task) (n : ℕ) → lock_of (woken owns x).state ≡ Some n → lock_of x.state ≡ Some n = λ x n h. let no : None ≡ Some n = sym (woken-lockless (is_weak x.class && not owns) x.state) ∙ h in cc in
@@ -145,7 +145,7 @@ pass_to-passes c m None k e g = record { but = but-freed c m k (none-waits m k e
 pass_to-passes c m (Some t) k e g =
     let found = first-waits m t k e in
     let owns : Bool = owns_any t (change (held_by t 1) k.mutexes m) in
-    let w : Wakes c t k (woke owns t 0 k) = wake-but c t m 0 owns k found.1 g in
+    let w : Wakes c t k (woke owns t 0 k) = wake-but c t 0 owns k (waiter-idle k.tasks t m found.1) g in
     rw (give-late t m k) (record {
       but = but-owned c m t (held_by t 1) (woke owns t 0 k) (λ x. refl) (rw w.size found.0) w.idle w.but;
       pipes = w.pipes;

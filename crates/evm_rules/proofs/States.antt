@@ -10,7 +10,7 @@ use Rattle.evm_ram.specs.declared.refusal.Refusal.TheVariants.{Full}
 use Rattle.evm_exec.specs.declared.hart.Hart.{Hart}
 use Rattle.evm_model.specs.Bounds.{PER_EVENT, STAMPS_PER_EVENT, PipesUpTo, HeldUpTo}
 use Rattle.evm_model.specs.Commands.{tick, set_bits, on_number, set_breakpoint, unset_breakpoint}
-use Rattle.evm_model.specs.Good.{Good, GoodState, AreLocks, IsOneOf, IsSettled, is_tick}
+use Rattle.evm_model.specs.Good.{Good, GoodState, AreLocks, AreSemaphores, IsOneOf, IsSettled, is_tick}
 use Rattle.evm_model.specs.Harts.{set_register, set_pc, first_hart}
 use Rattle.evm_model.specs.Instructions.{stop}
 use Rattle.evm_model.specs.Load.{bytes_from, load_board, start_loaded}
@@ -30,6 +30,7 @@ use Rattle.evm_model.specs.declared.limits.TheConstants.{PROCESSOR_LIMIT, CAPACI
 use Rattle.evm_model.specs.declared.processor.Processor.{Processor}
 use Rattle.evm_model.proofs.Lists.{slice_get-replicate, slice_get-slice_set}
 use Rattle.evm_walk.proofs.Counted.{walk_counted}
+use Rattle.evm_walk.proofs.Amounts.{walk_amounts}
 use Rattle.evm_walk.proofs.Held.{held_more, walk_holds}
 use Rattle.evm_walk.proofs.Rows.{MOVES, acting, may_raise, row_walks}
 use Rattle.evm_walk.proofs.Sizes.{walk_sizes, walk_most, walk_profile, walk_ticks}
@@ -109,6 +110,7 @@ accepted-good s event f e g =
       ticks = row-ticks event s.board e ∙ ap (λ n. n + cond (is_tick event) 1 0) g.ticks ∙ sym (counted-tick s.journal event);
       stamps = omega (arith, walk_most a k MOVES STAMPS_PER_EVENT new few w, g.stamps, grown);
       counts = PipesUpTo-more (before + MOVES) after new.pipes (omega arith) (walk_counted a k MOVES STAMPS_PER_EVENT before new w few.pipes g.counts);
+      semaphores = walk_amounts a k MOVES STAMPS_PER_EVENT new w g.semaphores;
       holds = held_more (before + 1 + MOVES) after new.mutexes (omega arith)
           (walk_holds a k MOVES STAMPS_PER_EVENT new (before + 1) few.pipes (omega arith) w (held_more before (before + 1) k.mutexes (omega arith) g.holds));
     }
@@ -240,6 +242,10 @@ booted-holds : (boot : Boot) → HeldUpTo 0 (booted_parts boot).mutexes
 unfolding booted_parts
 booted-holds boot = record { count = λ m mutex e. cc }
 
+booted-semaphores : (boot : Boot) → AreSemaphores (booted_parts boot).semaphores
+unfolding booted_parts
+booted-semaphores boot = record { few = omega arith; bounded = λ s n e. cc }
+
 booted-processors : (boot : Boot) → length (booted_parts boot).processors ≡ boot.cpus
 unfolding booted_parts
 booted-processors boot = length-set (replicate boot.cpus (first_processor None)) 0 (first_processor (Some 0)) ∙ length-replicate boot.cpus (first_processor None)
@@ -269,6 +275,7 @@ GoodState-start boot e = record {
   ticks = booted-ticks boot;
   stamps = booted-stamps boot;
   counts = booted-counts boot;
+  semaphores = booted-semaphores boot;
   holds = booted-holds boot;
 }
 
@@ -290,6 +297,7 @@ GoodState-load byte entry s e g = record {
   ticks = g.ticks;
   stamps = g.stamps;
   counts = g.counts;
+  semaphores = g.semaphores;
   holds = g.holds;
 }
 

@@ -20,7 +20,7 @@ use Rattle.evm_model.specs.declared.task.Class.TheVariants.{RoundRobin}
 use Rattle.evm_model.specs.declared.task.Task.{Task}
 use Rattle.evm_model.specs.declared.task.TaskState.{TaskState}
 use Rattle.evm_model.specs.declared.task.TaskState.TheVariants.{InReady, OobReady, Waits}
-use Rattle.evm_model.specs.declared.task.Wait.TheVariants.{Line, Lock}
+use Rattle.evm_model.specs.declared.task.Wait.TheVariants.{Line, Lock, Semaphore}
 use Rattle.evm_model.proofs.Lists.{change-here, change-elsewhere, slice_get-below}
 use Rattle.evm_walk.proofs.Walk.{Actor, IsHeld}
 use Rattle.evm_runs.specs.Changes.{OneChanges, Rests, Spends, StaysBy, MutexChanges, MutexesStay}
@@ -42,6 +42,11 @@ pub record Waiter (t m : ℕ) (k : Parts) : Type 0 where
   pub there : slice_get k.tasks t ≡ Some task
   pub on : task.state ≡ Waits (Lock m)
 
+pub record Sleeper (t s : ℕ) (k : Parts) : Type 0 where
+  pub task : Task
+  pub there : slice_get k.tasks t ≡ Some task
+  pub on : task.state ≡ Waits (Semaphore s)
+
 number_is : (m n : ℕ) → (n == m) ≡ true → n ≡ m
 number_is m n e = elim (eqb_tells n m) [
   | inl g ↦ g.1
@@ -55,6 +60,10 @@ line_is l _ e = cc
 lock_is : (m : ℕ) (state : TaskState) → is_wait_for (Lock m) state ≡ true → state ≡ Waits (Lock m)
 lock_is m (Waits (Lock n)) e = ap (λ i. Waits (Lock i)) (number_is m n e)
 lock_is m _ e = cc
+
+semaphore_is : (s : ℕ) (state : TaskState) → is_wait_for (Semaphore s) state ≡ true → state ≡ Waits (Semaphore s)
+semaphore_is s (Waits (Semaphore r)) e = ap (λ i. Waits (Semaphore i)) (number_is s r e)
+semaphore_is s _ e = cc
 
 pub both : (a b : Bool) → (a && b) ≡ true → (a ≡ true) × (b ≡ true)
 both true b h = (refl, h)
@@ -71,6 +80,14 @@ lock_waiter t m k (Some x) e h = record { task = x; there = e; on = lock_is m x.
 pub first_waits : (t m : ℕ) (k : Parts) → first_waiter (Lock m) k ≡ Some t → Waiter t m k
 unfolding first_waiter
 first_waits t m k e = lock_waiter t m k (slice_get k.tasks t) refl (((always_finds_first (awaits (Lock m) k.tasks) (rank k.mutexes k.tasks) (stamp k.tasks) (length k.tasks)).found t e).is_member)
+
+sleeper : (t s : ℕ) (k : Parts) (o : Option Task) → slice_get k.tasks t ≡ o → awaits_task (Semaphore s) o ≡ true → Sleeper t s k
+sleeper t s k None e h = cc
+sleeper t s k (Some x) e h = record { task = x; there = e; on = semaphore_is s x.state h }
+
+pub first_sleeps : (t s : ℕ) (k : Parts) → first_waiter (Semaphore s) k ≡ Some t → Sleeper t s k
+unfolding first_waiter
+first_sleeps t s k e = sleeper t s k (slice_get k.tasks t) refl (((always_finds_first (awaits (Semaphore s) k.tasks) (rank k.mutexes k.tasks) (stamp k.tasks) (length k.tasks)).found t e).is_member)
 
 -- ---- a task that has a mutex
 owns_if : (b rest : Bool) → b ≡ true → (if b then true else rest) ≡ true
@@ -110,6 +127,21 @@ woke_lock m owns x e its =
     ∙ ap (λ (state : TaskState). record x { state = woken_state (is_weak x.class && not true) state; deadline = 0 }) e
     ∙ ap (λ (state : TaskState). record x { state = state; deadline = 0 }) (stays_oob (is_weak x.class) m)
 
+-- ready on either stage, in-band only if it is weak
+pub record IsRoused (x y : Task) : Type 0 where
+  pub state : TaskState
+  pub ready : (state ≡ OobReady) ⊎ ((state ≡ InReady) × (is_weak x.class ≡ true))
+  pub is : y ≡ record x { state = state; deadline = 0 }
+
+roused_if : (b : Bool) (s : ℕ) (x : Task) → (b ≡ true → is_weak x.class ≡ true) → IsRoused x (record x { state = woken_state b (Waits (Semaphore s)); deadline = 0 })
+roused_if true s x h = record { state = InReady; ready = inr (refl, h refl); is = refl }
+roused_if false s x h = record { state = OobReady; ready = inl refl; is = refl }
+
+pub woke_semaphore : (s : ℕ) (owns : Bool) (x : Task) → x.state ≡ Waits (Semaphore s) → IsRoused x (woken owns x)
+woke_semaphore s owns x e =
+    let r = roused_if (is_weak x.class && not owns) s x (λ h. (both (is_weak x.class) (not owns) h).0) in
+    record { state = r.state; ready = r.ready; is = ap (λ (state : TaskState). record x { state = woken_state (is_weak x.class && not owns) state; deadline = 0 }) e ∙ r.is }
+
 -- what is there of it, after a wake
 pub woken_there : (t : ℕ) (owns : Bool) (x y : Task) (stamp : ℕ) (tasks : List Task) → slice_get tasks t ≡ Some x → woken owns x ≡ y
     → slice_get (change (λ (z : Task). record z { stamp = stamp }) (change (woken owns) tasks t) t) t ≡ Some (record y { stamp = stamp })
@@ -148,7 +180,7 @@ fares_on a t old k x p (inl (inr (inl w))) = inl (inr (inl (record {
   wakes = p.task _ w.wakes;
   hart = λ y e. p.hart _ (w.hart y e);
 })))
-fares_on a t old k x p (inl (inr (inr i))) = inl (inr (inr (record {
+fares_on a t old k x p (inl (inr (inr (inl i)))) = inl (inr (inr (inl (record {
   task = i.task;
   mutex = i.mutex;
   giver = i.giver;
@@ -164,7 +196,21 @@ fares_on a t old k x p (inl (inr (inr i))) = inl (inr (inr (record {
   fresh = i.fresh;
   wakes = p.task _ i.wakes;
   hart = λ y e. p.hart _ (i.hart y e);
-})))
+}))))
+fares_on a t old k x p (inl (inr (inr (inr i)))) = inl (inr (inr (inr (record {
+  task = i.task;
+  semaphore = i.semaphore;
+  giver = i.giver;
+  state = i.state;
+  stamp = i.stamp;
+  waited = i.waited;
+  on = i.on;
+  held = i.held;
+  ready = i.ready;
+  fresh = i.fresh;
+  wakes = p.task _ i.wakes;
+  hart = λ y e. p.hart _ (i.hart y e);
+}))))
 fares_on a t old k x p (inr s) = inr (record {
   task = s.task;
   slice = s.slice;
@@ -185,10 +231,15 @@ waits_not t k x y e f r w =
     let same : x ≡ y = cc in
     let no : true ≡ false = sym r ∙ ap (λ (z : Task). is_ready z.state) same ∙ w in cc
 
+roused : {W : Type 0} (state : TaskState) → (state ≡ OobReady) ⊎ ((state ≡ InReady) × W) → is_ready state ≡ true
+roused state (inl oob) = ap is_ready oob
+roused state (inr in_band) = ap is_ready in_band.0
+
 pub rested : (a : Actor) (t : ℕ) (old k : Parts) (x : Task) → slice_get k.tasks t ≡ Some x → is_ready x.state ≡ false → Fares a t old k → Rests t old k
 rested a t old k x e w (inl (inl r)) = r
 rested a t old k x e w (inl (inr (inl q))) = absurd (waits_not t k _ x q.wakes e refl w)
-rested a t old k x e w (inl (inr (inr q))) = absurd (waits_not t k _ x q.wakes e refl w)
+rested a t old k x e w (inl (inr (inr (inl q)))) = absurd (waits_not t k _ x q.wakes e refl w)
+rested a t old k x e w (inl (inr (inr (inr q)))) = absurd (waits_not t k _ x q.wakes e (roused q.state q.ready) w)
 rested a t old k x e w (inr s) = absurd (waits_not t k _ x s.spends e (ap is_ready s.on) w)
 
 -- ---- a tick of a slice

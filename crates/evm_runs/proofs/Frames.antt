@@ -11,6 +11,7 @@ use Rattle.evm_model.specs.Locks.{add_mutex}
 use Rattle.evm_model.specs.Mutexes.{owner, owner_of, owns_any, held_by}
 use Rattle.evm_model.specs.Ranks.{is_in_ready, is_oob_ready}
 use Rattle.evm_model.specs.Settle.{current}
+use Rattle.evm_model.specs.Semaphores.{add_semaphore}
 use Rattle.evm_model.specs.State.{Parts, new_task, on_mutex}
 use Rattle.evm_model.specs.Tasks.{restamp, set_policy, is_round_robin}
 use Rattle.evm_model.specs.Waits.{woken, wake}
@@ -22,9 +23,9 @@ use Rattle.evm_model.specs.declared.task.Task.{Task}
 use Rattle.evm_model.specs.declared.task.TaskState.TheVariants.{InReady, OobReady}
 use Rattle.evm_model.proofs.Lists.{change-here, change-elsewhere, slice_get-push, slice_get-before}
 use Rattle.evm_walk.proofs.Sizes.{walk_least}
-use Rattle.evm_walk.proofs.Walk.{Actor, Asks, IsHeld, Does, hart, task, stamps, turns, spends, wakes, inherits, holds, schedules, adds, makes, Walk, start, next}
+use Rattle.evm_walk.proofs.Walk.{Actor, Asks, IsHeld, Does, hart, task, stamps, turns, spends, wakes, inherits, serves, holds, schedules, adds, makes, Walk, start, next}
 use Rattle.evm_runs.specs.Changes.{Rests, MutexesStay}
-use Rattle.evm_runs.proofs.Fares.{Fares, Keeps, LineWaiter, Ticked, Waiter, both, fares_on, first_waits, held_keeps, held_stays, is_oob, is_robin, keeps_all, line_waiter, mutexes_then, owns_it, rested, same_mutexes, ticked, woke_line, woke_lock, woken_there}
+use Rattle.evm_runs.proofs.Fares.{Fares, Keeps, LineWaiter, Sleeper, Ticked, Waiter, both, fares_on, first_sleeps, first_waits, held_keeps, held_stays, is_oob, is_robin, keeps_all, line_waiter, mutexes_then, owns_it, rested, same_mutexes, ticked, woke_line, woke_lock, woke_semaphore, woken_there}
 
 -- ---- the frame of a walk
 -- a task asked for another class of this one
@@ -127,7 +128,8 @@ module _ (a : Actor) (old : Parts) (acts : (g : ℕ) → a.task ≡ Some g → c
     hart = λ y e. ap (λ all. slice_get all t) q.harts ∙ r.hart y e;
   })
   spends_on t x k new f later runs there on robin q away (inl (inr (inl w))) = absurd (oob_not t k _ x w.wakes refl there on)
-  spends_on t x k new f later runs there on robin q away (inl (inr (inr i))) = absurd (away (i.held ∙ sym (acts i.giver i.held) ∙ runs))
+  spends_on t x k new f later runs there on robin q away (inl (inr (inr (inl i)))) = absurd (away (i.held ∙ sym (acts i.giver i.held) ∙ runs))
+  spends_on t x k new f later runs there on robin q away (inl (inr (inr (inr i)))) = absurd (away (i.held ∙ sym (acts i.giver i.held) ∙ runs))
   spends_on t x k new f later runs there on robin q away (inr s) =
       let two : Some x ≡ Some (record s.task { slice = s.slice; stamp = s.stamp }) = sym there ∙ s.spends in
       let same : x ≡ record s.task { slice = s.slice; stamp = s.stamp } = cc in
@@ -207,7 +209,7 @@ module _ (a : Actor) (old : Parts) (acts : (g : ℕ) → a.task ≡ Some g → c
       tasks (held_stays a.task 1 t m (held_by u 1) k.mutexes own held) f
       (λ away.
       let r : Rests u (record old { tasks = f.asked }) k = rested a u (record old { tasks = f.asked }) k w.task w.there (ap is_ready w.on) (f.others u away) in
-      inl (inr (inr (record {
+      inl (inr (inr (inl (record {
         task = w.task;
         mutex = m;
         giver = t;
@@ -223,7 +225,40 @@ module _ (a : Actor) (old : Parts) (acts : (g : ℕ) → a.task ≡ Some g → c
         fresh = later;
         wakes = there;
         hart = λ y e. change-here (set_register A0 0) k.harts u ∙ ap (option_map (set_register A0 0)) (r.hart y e);
-      }))))
+      })))))
+      (λ y away e. elim (f.back u w.task away w.there) [
+        | inl ready ↦ let no : true ≡ false = sym ready ∙ ap is_in_ready w.on in cc
+        | inr b ↦ inr b
+      ])
+
+  -- ---- a semaphore is put
+  frame_serves : (t u s : ℕ) (k : Parts) → old.stamps ≤ k.stamps → a.task ≡ Some t → Sleeper u s k → Frame a old k → Frame a old (wake u 0 k)
+  unfolding wake restamp
+  frame_serves t u s k later own w f =
+      let owns : Bool = owns_any u k.mutexes in
+      let new : Parts = wake u 0 k in
+      let woke = woke_semaphore s owns w.task w.on in
+      let there : slice_get new.tasks u ≡ Some (record w.task { stamp = k.stamps; deadline = 0; state = woke.state }) = woken_there u owns w.task (record w.task { state = woke.state; deadline = 0 }) k.stamps k.tasks w.there woke.is in
+      let tasks : (v : ℕ) → (v ≡ u → ⊥) → slice_get new.tasks v ≡ slice_get k.tasks v = λ v other. change-elsewhere (λ (z : Task). record z { stamp = k.stamps }) (change (woken owns) k.tasks u) u v other ∙ change-elsewhere (woken owns) k.tasks u v other in
+      frame_one u k new
+      (λ v other h. record { task = λ y e. tasks v other ∙ e; hart = λ y e. change-elsewhere (set_register A0 0) k.harts u v other ∙ e; mutex = λ n y o e. e })
+      tasks (same_mutexes a.task k.mutexes k.mutexes refl) f
+      (λ away.
+      let r : Rests u (record old { tasks = f.asked }) k = rested a u (record old { tasks = f.asked }) k w.task w.there (ap is_ready w.on) (f.others u away) in
+      inl (inr (inr (inr (record {
+        task = w.task;
+        semaphore = s;
+        giver = t;
+        state = woke.state;
+        stamp = k.stamps;
+        waited = was_there u (record old { tasks = f.asked }) k w.task w.there (ap is_in_ready w.on) (f.back u w.task away w.there) r;
+        on = w.on;
+        held = own;
+        ready = woke.ready;
+        fresh = later;
+        wakes = there;
+        hart = λ y e. change-here (set_register A0 0) k.harts u ∙ ap (option_map (set_register A0 0)) (r.hart y e);
+      })))))
       (λ y away e. elim (f.back u w.task away w.there) [
         | inl ready ↦ let no : true ≡ false = sym ready ∙ ap is_in_ready w.on in cc
         | inr b ↦ inr b
@@ -231,7 +266,7 @@ module _ (a : Actor) (old : Parts) (acts : (g : ℕ) → a.task ≡ Some g → c
 
   -- ---- each primitive
   does_frame : (i j : ℕ) (k x : Parts) → old.stamps ≤ k.stamps → Does a old i j k x → Frame a old k → Frame a old x
-  unfolding restamp set_policy tick add_task add_mutex
+  unfolding restamp set_policy tick add_task add_mutex add_semaphore
   does_frame _ _ _ _ later (hart t r value g k own x there) f = frame_own t k _ own (λ u o. refl) (λ u o. change-elsewhere g k.harts t u o) refl f
   does_frame _ _ _ _ later (task t g k own x there) f = frame_own t k _ own (λ u o. change-elsewhere g k.tasks t u o) (λ u o. refl) refl f
   does_frame _ _ _ _ later (stamps t k own there) f = frame_own t k _ own (λ u o. change-elsewhere _ k.tasks t u o) (λ u o. refl) refl f
@@ -240,6 +275,7 @@ module _ (a : Actor) (old : Parts) (acts : (g : ℕ) → a.task ≡ Some g → c
       let b = both (is_oob_ready x.state) (is_round_robin x.class) on in frame_spends t x k _ later runs there (is_oob x.state b.0) (is_robin x.class b.1) (ticked t x k there) f
   does_frame _ _ _ _ later (wakes t l k on) f = frame_wakes t l k later (line_waiter a.cpu l t k (slice_get k.tasks t) refl on) f
   does_frame _ _ _ _ later (inherits t u m k own same its first) f = frame_inherits t u m k later own same its (first_waits u m k first) f
+  does_frame _ _ _ _ later (serves t u s k own first) f = frame_serves t u s k later own (first_sleeps u s k first) f
   does_frame _ _ _ _ later (holds i t m g k own same held) f =
       frame_on k _ f (λ u h. record { task = λ y e. e; hart = λ y e. e; mutex = held_keeps i t u m g k.mutexes (λ one. h (own ∙ ap Some (sym one))) held }) (λ u y h e. inr e) (held_stays a.task i t m g k.mutexes own held)
   does_frame _ _ _ _ later (schedules u priority class k fresh asks) f = record {

@@ -147,7 +147,7 @@ module _ (c : ℕ) (b : Board) where
 
     changes : (f : Frame (actor c o true calls) b.parts new.parts) → (f.asked ≡ b.parts.tasks) ⊎ Schedules c b f.asked
         → ((t : ℕ) → (current c b.parts ≡ Some t → ⊥) → StaysBy (current c b.parts) c t (record b.parts { tasks = f.asked }) new.parts) → MutexesStay (current c b.parts) b.parts.mutexes new.parts.mutexes
-        → (Hears c b.parts → (f.asked ≡ b.parts.tasks) × ((t : ℕ) → current c b.parts ≡ Some t → StaysBy None c t b.parts new.parts ⊎ Spends c t b.parts new.parts) × (new.parts.mutexes ≡ b.parts.mutexes))
+        → (Hears c b.parts → (f.asked ≡ b.parts.tasks) × ((t : ℕ) → StaysBy None c t b.parts new.parts ⊎ Spends c t b.parts new.parts) × (new.parts.mutexes ≡ b.parts.mutexes))
         → StepDone c b new
     changes f scheduled others mutexes hears = record {
       changes = record {
@@ -173,7 +173,8 @@ module _ (c : ℕ) (b : Board) where
   others_wider : (o : Option ℕ) (t : ℕ) (x y : Parts) → StaysBy None c t x y → StaysBy o c t x y
   others_wider o t x y (inl r) = inl r
   others_wider o t x y (inr (inl w)) = inr (inl w)
-  others_wider o t x y (inr (inr i)) = let no = i.held in cc
+  others_wider o t x y (inr (inr (inl i))) = let no = i.held in cc
+  others_wider o t x y (inr (inr (inr i))) = let no = i.held in cc
 
   whose_wider : (o found : Option ℕ) → (found ≡ None) ⊎ (found ≡ None) → (found ≡ None) ⊎ (found ≡ o)
   whose_wider o found (inl none) = inl none
@@ -208,7 +209,7 @@ module _ (c : ℕ) (b : Board) where
       (mutexes_wider (current c b.parts) b.parts.mutexes new.parts.mutexes f.mutexes)
       (λ line. (
         unasked f,
-        (λ t now. subst (λ (all : List Task). Fares (actor c None true true) t (record b.parts { tasks = all }) new.parts) (unasked f) (f.others t (λ h. cc))),
+        (λ t. subst (λ (all : List Task). Fares (actor c None true true) t (record b.parts { tasks = all }) new.parts) (unasked f) (f.others t (λ h. cc))),
         walk_mutexes (actor c None true true) b.parts 66 2113 new.parts refl (walk None true m),
       ))
 

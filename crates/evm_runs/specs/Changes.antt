@@ -32,8 +32,10 @@ use Rattle.evm_model.specs.declared.processor.Processor.{Processor}
 use Rattle.evm_model.specs.declared.task.Class.{Class}
 use Rattle.evm_model.specs.declared.task.Class.TheVariants.{RoundRobin}
 use Rattle.evm_model.specs.declared.task.Task.{Task}
+use Rattle.evm_model.specs.Tasks.{is_weak}
+use Rattle.evm_model.specs.declared.task.TaskState.{TaskState}
 use Rattle.evm_model.specs.declared.task.TaskState.TheVariants.{InReady, OobReady, Waits}
-use Rattle.evm_model.specs.declared.task.Wait.TheVariants.{Line, Lock}
+use Rattle.evm_model.specs.declared.task.Wait.TheVariants.{Line, Lock, Semaphore}
 
 -- the i-th of a list is changed so, and no other
 pub record OneChanges {X : Type 0} (i : ℕ) (change : X → X) (old new : List X) : Type 0 where
@@ -136,9 +138,24 @@ pub record Inherits (holder : Option ℕ) (t : ℕ) (old new : Parts) : Type 0 w
   pub wakes : slice_get new.tasks t ≡ Some (record task { stamp = stamp; deadline = 0; state = OobReady })
   pub hart : (hart : Hart) → slice_get old.harts t ≡ Some hart → slice_get new.harts t ≡ Some (set_register A0 0 hart)
 
--- .. one of the three
+-- task t, of whatever processor, waited for a semaphore into which this task put one, and is ready now, in-band only if it is weak: its call is answered by 0, its stamp is a later one
+pub record Served (holder : Option ℕ) (t : ℕ) (old new : Parts) : Type 0 where
+  pub task : Task
+  pub semaphore : ℕ
+  pub giver : ℕ
+  pub state : TaskState
+  pub stamp : ℕ
+  pub waited : slice_get old.tasks t ≡ Some task
+  pub on : task.state ≡ Waits (Semaphore semaphore)
+  pub held : holder ≡ Some giver
+  pub ready : (state ≡ OobReady) ⊎ ((state ≡ InReady) × (is_weak task.class ≡ true))
+  pub fresh : old.stamps ≤ stamp
+  pub wakes : slice_get new.tasks t ≡ Some (record task { stamp = stamp; deadline = 0; state = state })
+  pub hart : (hart : Hart) → slice_get old.harts t ≡ Some hart → slice_get new.harts t ≡ Some (set_register A0 0 hart)
+
+-- .. one of the four
 abbrev pub StaysBy : Option ℕ → ℕ → ℕ → Parts → Parts → Type 0
-StaysBy holder c t old new = Rests t old new ⊎ Wakes c t old new ⊎ Inherits holder t old new
+StaysBy holder c t old new = Rests t old new ⊎ Wakes c t old new ⊎ Inherits holder t old new ⊎ Served holder t old new
 
 -- .. where it is the current task of c whose mutex passes on
 abbrev pub Stays : ℕ → ℕ → Parts → Parts → Type 0
@@ -239,7 +256,7 @@ pub record StepChanges (c : ℕ) (old new : Board) : Type 0 where
   pub others : (t : ℕ) → (current c old.parts ≡ Some t → ⊥) → Stays c t (record old.parts { tasks = asked }) new.parts
   pub mutexes : MutexesStay (current c old.parts) old.parts.mutexes new.parts.mutexes
   -- where a line is on the wire the current task too stays, or its slice is spent, and no mutex changes
-  pub hears : Hears c old.parts → (asked ≡ old.parts.tasks) × ((t : ℕ) → current c old.parts ≡ Some t → StaysBy None c t old.parts new.parts ⊎ Spends c t old.parts new.parts) × (new.parts.mutexes ≡ old.parts.mutexes)
+  pub hears : Hears c old.parts → (asked ≡ old.parts.tasks) × ((t : ℕ) → StaysBy None c t old.parts new.parts ⊎ Spends c t old.parts new.parts) × (new.parts.mutexes ≡ old.parts.mutexes)
   pub added : Added old.parts new.parts
   pub made : Made old.parts.mutexes new.parts.mutexes
   pub typed : Typed old.parts new.parts

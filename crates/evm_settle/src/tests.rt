@@ -172,6 +172,7 @@ fn parts_with(console: Console, task: Task, row: &Row) -> Parts
         pipes,
         stamps: 1,
         mutexes: Mutexes::new(),
+        semaphores: Semaphores::new(),
         console,
     }
 }

@@ -17,7 +17,7 @@ use Rattle.evm_model.specs.Stages.{refused, is_stalled, is_attached, may_promote
 use Rattle.evm_model.specs.State.{Parts, on_hart, no_mode}
 use Rattle.evm_model.specs.Tasks.{restamp, demote, set_policy, clear_policy, set_mode_bits, is_weak}
 use Rattle.evm_model.specs.declared.call.Call.{Call}
-use Rattle.evm_model.specs.declared.call.Call.TheVariants.{Exit as Ends, Putc, Yield, Spawn, Stall, Unstall, WaitLine, Attach, Detach, NewMutex, SetLine, SwitchOob, SwitchInBand, SetSched, SetMode, Lock, TryLock, Unlock, YieldOob, StallOob, UnstallOob, Clock, StateBits}
+use Rattle.evm_model.specs.declared.call.Call.TheVariants.{Exit as Ends, Putc, Yield, Spawn, Stall, Unstall, WaitLine, Attach, Detach, NewMutex, NewSemaphore, SetLine, SwitchOob, SwitchInBand, SetSched, SetMode, Lock, TryLock, Unlock, SemGet, SemTryGet, SemPut, YieldOob, StallOob, UnstallOob, Clock, StateBits}
 use Rattle.evm_model.specs.declared.call.Outcome.{Outcome}
 use Rattle.evm_model.specs.declared.call.Outcome.TheVariants.{Answers, Waits, Leaves}
 use Rattle.evm_model.specs.declared.errno.Errno.{Errno}
@@ -33,6 +33,7 @@ use Rattle.evm_model.specs.declared.task.Wait.TheVariants.{Line}
 use Rattle.evm_model.proofs.Lists.{slice_get-below}
 use Rattle.evm_walk.proofs.Locks.{either, up, same, was_there, makes_mutex, locks, tries, unlocks}
 use Rattle.evm_walk.proofs.Passing.{ends}
+use Rattle.evm_walk.proofs.Semaphores.{makes_semaphore, gets, tries_get, puts_one}
 use Rattle.evm_walk.proofs.Tasks.{stalls_stage, leaves, begins_wait, demotes, promotes}
 use Rattle.evm_walk.proofs.Walk.{Actor, IsOldTask, Untouched, hart, task, stamps, schedules, adds, types, Walk, quietly, stamped, slack, walk_if}
 
@@ -206,6 +207,7 @@ module _ (a : Actor) (old k : Parts) (t : ℕ) (own : a.task ≡ Some t) (fresh 
   performs Attach x g = attaches (argument 0 x) (argument 1 x)
   performs Detach x g = detaches
   performs NewMutex x g = makes_mutex a old k t own fresh w (argument 0 x) (argument 1 x)
+  performs NewSemaphore x g = makes_semaphore a old k t own fresh w (argument 0 x)
   performs SetLine x g = sets_line (argument 0 x) (argument 1 x)
   performs SwitchOob x g = switches_oob
   performs SwitchInBand x g = switches_in_band
@@ -214,6 +216,9 @@ module _ (a : Actor) (old k : Parts) (t : ℕ) (own : a.task ≡ Some t) (fresh 
   performs Lock x g = locks a old k t own fresh w (argument 0 x) (argument 1 x)
   performs TryLock x g = tries a old k t own fresh w (argument 0 x)
   performs Unlock x g = unlocks a old k t own fresh w (argument 0 x)
+  performs SemGet x g = gets a old k t own fresh w (argument 0 x) (argument 1 x)
+  performs SemTryGet x g = tries_get a old k t own fresh w (argument 0 x)
+  performs SemPut x g = puts_one a old k t own fresh w (argument 0 x)
   performs YieldOob x g = yields_oob
   performs StallOob x g = stalls OutOfBand true
   performs UnstallOob x g = stalls OutOfBand false

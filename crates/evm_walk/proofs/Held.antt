@@ -7,6 +7,7 @@ use Rattle.evm_model.specs.InBandCalls.{add_task}
 use Rattle.evm_model.specs.Lists.{change}
 use Rattle.evm_model.specs.Locks.{add_mutex}
 use Rattle.evm_model.specs.Mutexes.{free_mutex, held_by}
+use Rattle.evm_model.specs.Semaphores.{add_semaphore}
 use Rattle.evm_model.specs.State.{Parts}
 use Rattle.evm_model.specs.Tasks.{restamp, set_policy, set_slice}
 use Rattle.evm_model.specs.Waits.{wake}
@@ -30,7 +31,7 @@ held_changed m a b f mutexes h c s = record {
 
 module _ (a : Actor) (old : Parts) where
   does_hold : (i j : ℕ) (k x : Parts) (b : ℕ) → 1 ≤ b → Does a old i j k x → HeldUpTo b k.mutexes → HeldUpTo (b + i) x.mutexes
-  unfolding restamp set_policy set_slice wake tick add_task add_mutex
+  unfolding restamp set_policy set_slice wake tick add_task add_mutex add_semaphore
   does_hold _ _ _ _ b h (spends t x k runs there on) q = of_spend (λ (y : Parts). HeldUpTo (b + 0) y.mutexes) t x.slice k (held_more b (b + 0) k.mutexes (omega arith) q) (held_more b (b + 0) k.mutexes (omega arith) q)
   does_hold _ _ _ _ b h (inherits t u m k own same its first) q = held_changed m b (b + 0) (held_by u 1) k.mutexes (omega arith) (λ x e c. omega (arith, h)) q
   does_hold _ _ _ _ b h (holds i t m f k own same x) q = held_changed m b (b + i) f k.mutexes (omega arith) (λ y e c. omega (arith, c, (x y e).count)) q

@@ -1,3 +1,4 @@
+pub mod Amounts
 pub mod Calls
 pub mod Counted
 pub mod Held
@@ -8,6 +9,7 @@ pub mod Playing
 pub mod Refused
 pub mod Rows
 pub mod Runs
+pub mod Semaphores
 pub mod Sets
 pub mod Sizes
 pub mod Tasks

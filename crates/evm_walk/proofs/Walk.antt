@@ -16,10 +16,11 @@ use Rattle.evm_model.specs.Pipes.{Pipe, raise, arrive, receive, play, set_stall}
 use Rattle.evm_model.specs.Policies.{policy_of}
 use Rattle.evm_model.specs.Ranks.{is_oob_ready}
 use Rattle.evm_model.specs.Settle.{current, is_oob}
-use Rattle.evm_model.specs.State.{Parts, on_hart, on_task, on_processor, on_pipe, on_mutex}
+use Rattle.evm_model.specs.Semaphores.{add_semaphore}
+use Rattle.evm_model.specs.State.{Parts, on_hart, on_task, on_processor, on_pipe, on_mutex, on_semaphore}
 use Rattle.evm_model.specs.Tasks.{restamp, set_policy, is_round_robin, spend_slice}
 use Rattle.evm_model.specs.Waits.{awaits_line, first_waiter, wake}
-use Rattle.evm_model.specs.declared.limits.TheConstants.{MUTEX_LIMIT, TASK_LIMIT}
+use Rattle.evm_model.specs.declared.limits.TheConstants.{SEMAPHORE_COUNT_LIMIT, MUTEX_LIMIT, SEMAPHORE_LIMIT, TASK_LIMIT}
 use Rattle.evm_model.specs.declared.mutex.Mutex.{Mutex}
 use Rattle.evm_model.specs.declared.mutex.Protocol.{Protocol}
 use Rattle.evm_model.specs.declared.processor.Processor.{Processor}
@@ -27,7 +28,7 @@ use Rattle.evm_model.specs.declared.stage.Stage.{Stage}
 use Rattle.evm_model.specs.declared.stage.Stage.TheVariants.{OutOfBand, InBand}
 use Rattle.evm_model.specs.declared.task.Class.{Class}
 use Rattle.evm_model.specs.declared.task.Task.{Task}
-use Rattle.evm_model.specs.declared.task.Wait.TheVariants.{Lock}
+use Rattle.evm_model.specs.declared.task.Wait.TheVariants.{Lock, Semaphore}
 pub use Rattle.evm_walk.specs.Few.{ArePipes, AreFew}
 
 -- who acts, and what it may do
@@ -109,6 +110,10 @@ pub data Does (a : Actor) (old : Parts) : ℕ → ℕ → Parts → Parts → Ty
   -- the first that waits for a mutex of the acting task
   inherits : (t u m : ℕ) (k : Parts) → a.task ≡ Some t → slice_get k.mutexes m ≡ slice_get old.mutexes m → owner k.mutexes m ≡ Some t → first_waiter (Lock m) k ≡ Some u
       → Does a old 0 1 k (wake u 0 (on_mutex m (held_by u 1) k))
+  -- the first that waits for a semaphore
+  serves : (t u s : ℕ) (k : Parts) → a.task ≡ Some t → first_waiter (Semaphore s) k ≡ Some u → Does a old 0 1 k (wake u 0 k)
+  -- a semaphore's count, within its bound
+  counts : (t s : ℕ) (f : ℕ → ℕ) (k : Parts) → a.task ≡ Some t → Untouched old k → ((n : ℕ) → slice_get k.semaphores s ≡ Some n → n ≤ SEMAPHORE_COUNT_LIMIT → f n ≤ SEMAPHORE_COUNT_LIMIT) → Does a old 0 0 k (on_semaphore s f k)
   -- a mutex that is free or the acting task's
   holds : (i t m : ℕ) (f : Mutex → Mutex) (k : Parts) → a.task ≡ Some t → slice_get k.mutexes m ≡ slice_get old.mutexes m → ((x : Mutex) → slice_get k.mutexes m ≡ Some x → IsHeld t i x (f x)) → Does a old i 0 k (on_mutex m f k)
   -- the processor's bits and its in-band current task; its current task
@@ -122,6 +127,7 @@ pub data Does (a : Actor) (old : Parts) : ℕ → ℕ → Parts → Parts → Ty
   schedules : (u priority : ℕ) (class : Class) (k : Parts) → Untouched old k → Asks a old u priority class → Does a old 0 0 k (set_policy u class priority k)
   adds : (t entry value cpu : ℕ) (k : Parts) → a.task ≡ Some t → Untouched old k → length k.tasks < TASK_LIMIT → Does a old 0 1 k (add_task entry value cpu k)
   makes : (t : ℕ) (recursive : Bool) (protocol : Protocol) (k : Parts) → a.task ≡ Some t → Untouched old k → length k.mutexes < MUTEX_LIMIT → Does a old 0 0 k (add_mutex (free_mutex recursive protocol) k)
+  sets_up : (t count : ℕ) (k : Parts) → a.task ≡ Some t → Untouched old k → length k.semaphores < SEMAPHORE_LIMIT → count ≤ SEMAPHORE_COUNT_LIMIT → Does a old 0 0 k (add_semaphore count k)
   types : (t byte : ℕ) (k : Parts) → a.task ≡ Some t → Untouched old k → Does a old 0 0 k (record k { console = last_bytes (k.console ++ byte ∷ []) })
 
 -- one after another, with so much at most

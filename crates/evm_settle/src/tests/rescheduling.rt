@@ -60,6 +60,7 @@ fn two_processors(console: Console) -> Parts
         pipes,
         stamps: 3,
         mutexes: Mutexes::new(),
+        semaphores: Semaphores::new(),
         console,
     }
 }

@@ -1,0 +1,102 @@
+//! Semaphores.
+
+ghost use Rattle.std.specs.Prelude.{◌≡◌};
+ghost use Rattle.evm_calls.specs.Room.{PER_CALL, HasRoom};
+ghost use Rattle.evm_model.specs.Semaphores.{new_semaphore, sem_get, sem_try_get, sem_put};
+
+use crate::refused::refused;
+use evm_model::{Errno, Outcome, SEMAPHORE_COUNT_LIMIT, SEMAPHORE_LIMIT, Stage, Wait};
+use evm_parts::Parts;
+
+/// Call 10: a new semaphore of this count; answers its number. -22 for a count above 2,147,483,647, else -12 if there
+/// are 32 semaphores.
+#[tactic(auto, unfolding(evm_model::specs::Semaphores::new_semaphore))]
+pub fn new_semaphore(parts: &mut Parts, count: u64) -> Outcome
+    ensures { (parts.new, result) ≡ new_semaphore count parts.old }
+{
+    if count > u64::from(SEMAPHORE_COUNT_LIMIT) {
+        return refused(Errno::Invalid);
+    }
+    let number = parts.semaphores.count();
+    if number as usize >= SEMAPHORE_LIMIT {
+        return refused(Errno::NoNumber);
+    }
+    parts.add_semaphore(count as u32);
+    Outcome::Answers(u64::from(number))
+}
+
+/// Call 39: the task takes one from a semaphore, or waits for one; answers 0. -22 if there is no such semaphore. If it
+/// would wait, -1 while out-of-band is stalled, else -22 for a deadline: there is none yet.
+#[tactic(auto, unfolding(evm_model::specs::Semaphores::sem_get))]
+pub fn sem_get(parts: &mut Parts, c: u8, t: u8, semaphore: u64, deadline: u64) -> Outcome
+    requires room { HasRoom PER_CALL parts.old }
+    ensures { (parts.new, result) ≡ sem_get c t semaphore deadline parts.old }
+{
+    if semaphore >= u64::from(parts.semaphores.count()) {
+        return refused(Errno::Invalid);
+    }
+    let s = semaphore as u8;
+    match parts.semaphores.get(s) {
+        None => refused(Errno::Invalid),
+        Some(0) => {
+            if parts.is_stalled(c, Stage::OutOfBand) {
+                return refused(Errno::NotPermitted);
+            }
+            if deadline != 0 {
+                return refused(Errno::Invalid);
+            }
+            parts.begin_wait(t, Wait::Semaphore(s), deadline);
+            Outcome::Waits
+        }
+        Some(_) => {
+            parts.take_semaphore(s);
+            Outcome::Answers(0)
+        }
+    }
+}
+
+/// Call 40: the task takes one from a semaphore; answers 0. -22 if there is no such semaphore, -11 if it is empty.
+#[tactic(auto, unfolding(evm_model::specs::Semaphores::sem_try_get))]
+pub fn sem_try_get(parts: &mut Parts, semaphore: u64) -> Outcome
+    ensures { (parts.new, result) ≡ sem_try_get semaphore parts.old }
+{
+    if semaphore >= u64::from(parts.semaphores.count()) {
+        return refused(Errno::Invalid);
+    }
+    let s = semaphore as u8;
+    match parts.semaphores.get(s) {
+        None => refused(Errno::Invalid),
+        Some(0) => refused(Errno::TryAgain),
+        Some(_) => {
+            parts.take_semaphore(s);
+            Outcome::Answers(0)
+        }
+    }
+}
+
+/// Call 41: one is put into a semaphore: the first task that waits for it wakes, or the count is one more; answers 0.
+/// -22 if there is no such semaphore, or if its count is 2,147,483,647.
+#[tactic(auto, unfolding(evm_model::specs::Semaphores::sem_put))]
+pub fn sem_put(parts: &mut Parts, semaphore: u64) -> Outcome
+    requires room { HasRoom PER_CALL parts.old }
+    ensures { (parts.new, result) ≡ sem_put semaphore parts.old }
+{
+    if semaphore >= u64::from(parts.semaphores.count()) {
+        return refused(Errno::Invalid);
+    }
+    let s = semaphore as u8;
+    let Some(count) = parts.semaphores.get(s) else {
+        return refused(Errno::Invalid);
+    };
+    match parts.first_waiter(Wait::Semaphore(s)) {
+        Some(t) => {
+            parts.wake(t, 0);
+            Outcome::Answers(0)
+        }
+        None if count >= SEMAPHORE_COUNT_LIMIT => refused(Errno::Invalid),
+        None => {
+            parts.put_semaphore(s);
+            Outcome::Answers(0)
+        }
+    }
+}
