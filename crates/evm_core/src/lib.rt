@@ -1,11 +1,13 @@
 //! The machine: `apply` is one event of its definition, and its journal is the list of the accepted events.
 #![tactic(auto)]
 
+mod accepting;
 mod booting;
 mod machine;
 mod stages;
 mod stepping;
 
+pub use accepting::{apply_to, some_steps_to};
 pub use evm_history::{EventLine, Journal, MAX_STEPS};
 pub use evm_model::{Answer, Boot, Event};
 pub use evm_ram::Refusal;
