@@ -1,5 +1,4 @@
 pub mod Results
-pub mod Never_out_of_memory
 pub mod Line_by_line
 pub mod Li_and_la_load
 pub mod Lines_worded

@@ -9,11 +9,11 @@ use Rattle.evm_asm_parser.specs.evm_asm_lexer.Names.{named}
 use Rattle.std.proofs.lemmas.List.{length-take, length-drop}
 use Rattle.evm_asm_parser.specs.evm_asm_lexer.Characters.{newline, hash, colon}
 use Rattle.evm_asm_parser.specs.evm_asm_lexer.Text.{before, after, has, place_by, tail, first_word, skip_blanks, is_white, is_word_byte}
-use Rattle.evm_asm_parser.specs.evm_asm_lexer.declared.fault.AsmFaultKind.{AsmFaultKind}
+use Rattle.evm_asm_parser.specs.evm_asm_lexer.declared.source_fault.SourceFaultKind.{SourceFaultKind}
 use Rattle.evm_asm_parser.specs.evm_asm_lexer.declared.mnemonic.Section.{Section}
 use Rattle.evm_asm_parser.specs.evm_asm_lexer.declared.mnemonic.Width.{Width}
 use Rattle.evm_asm_parser.specs.evm_asm_lexer.Faults.{◌>>=◌}
-use Rattle.evm_asm_parser.specs.evm_asm_lexer.declared.fault.AsmFault.{AsmFault}
+use Rattle.evm_asm_parser.specs.evm_asm_lexer.declared.source_fault.SourceFault.{SourceFault}
 use Rattle.evm_asm_parser.specs.declared.spot.Spot.{Spot}
 use Rattle.evm_asm_parser.specs.Operands.{Spots, first_operand, other_operands, name_in}
 use Rattle.evm_asm.specs.Programs.{repeated}
@@ -108,7 +108,7 @@ unfolding code_of
 code-within rest = let a = before-within hash (before newline rest) in let b = before-within newline rest in omega arith
 
 -- a failure of a part is one of the whole
-pub fails-on : {Y Z : Type 0} (most : ℕ) (f : Failure) (part : Result Y AsmFault) (whole : Result Z AsmFault) → ((fault : AsmFault) → part ≡ Err fault → whole ≡ Err fault)
+pub fails-on : {Y Z : Type 0} (most : ℕ) (f : Failure) (part : Result Y SourceFault) (whole : Result Z SourceFault) → ((fault : SourceFault) → part ≡ Err fault → whole ≡ Err fault)
     → FailsBy most f part → FailsBy most f whole
 fails-on most (failure.Fault fault) part whole g h = g fault h
 fails-on most (failure.Memory shortage) part whole g h = h
@@ -224,11 +224,11 @@ unfolding laid
 one-line s [] h = absurd (omega arith)
 one-line s (b ∷ bs) h = ap (λ (ls : List (List ℕ)). laid s ls) (lines-cut b bs)
 
-pub line-is : (s : Laid) (line : List ℕ) (labels : Spots) (next : Place × Option AsmFaultKind) → (labels, next) ≡ line_laid s.labels s.place (code_of line)
+pub line-is : (s : Laid) (line : List ℕ) (labels : Spots) (next : Place × Option SourceFaultKind) → (labels, next) ≡ line_laid s.labels s.place (code_of line)
     → with_line_laid s line ≡ record { lines = s.lines + 1; place = next.0; labels = labels; first = first_fault s.first (s.lines + 1) next.1 }
 unfolding with_line_laid
 line-is s line labels next h =
-    ap (λ (o : Spots × (Place × Option AsmFaultKind)). let r : Laid = record { lines = s.lines + 1; place = o.1.0; labels = o.0; first = first_fault s.first (s.lines + 1) o.1.1 } in r) (sym h)
+    ap (λ (o : Spots × (Place × Option SourceFaultKind)). let r : Laid = record { lines = s.lines + 1; place = o.1.0; labels = o.0; first = first_fault s.first (s.lines + 1) o.1.1 } in r) (sym h)
 
 pub no-lines : (s : Laid) (rest : List ℕ) → length rest ≡ 0 → laid s (source_lines rest) ≡ s
 unfolding laid source_lines
@@ -283,7 +283,7 @@ module _ (labels : Spots) (size : ℕ) (part : Section) (width : Width) (count i
   pub numbers-ok : (items : List Placed) → i < count → number_pushed labels size part width (first_operand text) so_far ≡ Ok items
       → with_numbers labels size part width (count - i) text so_far ≡ with_numbers labels size part width (count - (i + 1)) (other_operands text) items
   numbers-ok items lt h =
-      one lt ∙ ap (λ (r : Result (List Placed) AsmFaultKind). r >>= λ items. with_numbers labels size part width (count - (i + 1)) (other_operands text) items) h
+      one lt ∙ ap (λ (r : Result (List Placed) SourceFaultKind). r >>= λ items. with_numbers labels size part width (count - (i + 1)) (other_operands text) items) h
 
   pub numbers-done : count ≤ i → with_numbers labels size part width (count - i) text so_far ≡ Ok so_far
   unfolding with_numbers
@@ -291,20 +291,20 @@ module _ (labels : Spots) (size : ℕ) (part : Section) (width : Width) (count i
       let e : count - i ≡ 0 = omega arith in
       ap (λ n. with_numbers labels size part width n text so_far) e
 
-pub numbers-stop : (s : Stop) (labels : Spots) (size : ℕ) (part : Section) (width : Width) (count i : ℕ) (text : List ℕ) (so_far : List Placed) (whole : Result (List Placed) AsmFaultKind)
+pub numbers-stop : (s : Stop) (labels : Spots) (size : ℕ) (part : Section) (width : Width) (count i : ℕ) (text : List ℕ) (so_far : List Placed) (whole : Result (List Placed) SourceFaultKind)
     → i < count → Fails s (number_pushed labels size part width (first_operand text) so_far)
     → with_numbers labels size part width (count - i) text so_far ≡ whole → Fails s whole
 numbers-stop (stop.Memory asked) labels size part width count i text so_far whole lt h w = h
 numbers-stop (stop.Fault kind) labels size part width count i text so_far whole lt h w =
     sym w ∙ one labels size part width count i text so_far lt
-    ∙ ap (λ (r : Result (List Placed) AsmFaultKind). r >>= λ items. with_numbers labels size part width (count - (i + 1)) (other_operands text) items) h
+    ∙ ap (λ (r : Result (List Placed) SourceFaultKind). r >>= λ items. with_numbers labels size part width (count - (i + 1)) (other_operands text) items) h
 
-pub same-line : (labels : Spots) (place : Place) (first : Option AsmFault) (l : Laid) → IsLaid labels place first l → (n : ℕ) (at : Place) (code : List ℕ) (so_far : List Placed)
+pub same-line : (labels : Spots) (place : Place) (first : Option SourceFault) (l : Laid) → IsLaid labels place first l → (n : ℕ) (at : Place) (code : List ℕ) (so_far : List Placed)
     → line_or_fault labels place.text_size first n at code so_far ≡ line_or_fault l.labels l.place.text_size l.first n at code so_far
 same-line labels place first l h n at code so_far =
     ap (λ (s : Spots). line_or_fault s place.text_size first n at code so_far) h.labels_are
     ∙ ap (λ (p : Place). line_or_fault l.labels p.text_size first n at code so_far) h.place_is
-    ∙ ap (λ (f : Option AsmFault). line_or_fault l.labels l.place.text_size f n at code so_far) h.first_is
+    ∙ ap (λ (f : Option SourceFault). line_or_fault l.labels l.place.text_size f n at code so_far) h.first_is
 
 module _ (l : Laid) (n : ℕ) (place : Place) where
   told_line : (rest : List ℕ) (so_far : List Placed) → 0 < length rest
@@ -318,13 +318,13 @@ module _ (l : Laid) (n : ℕ) (place : Place) where
       → line_or_fault l.labels l.place.text_size l.first (n + 1) place (code_of (before newline rest)) so_far ≡ Ok (next, items)
       → lines_meant l n place (source_lines rest) so_far ≡ lines_meant l (n + 1) next (source_lines (after newline rest)) items
   goes-on rest so_far next items h e =
-      told_line rest so_far h ∙ ap (λ (r : Result (Place × List Placed) AsmFault). and_then r (λ x. lines_meant l (n + 1) x.0 (source_lines (after newline rest)) x.1)) e
+      told_line rest so_far h ∙ ap (λ (r : Result (Place × List Placed) SourceFault). and_then r (λ x. lines_meant l (n + 1) x.0 (source_lines (after newline rest)) x.1)) e
 
-  pub stops : (rest : List ℕ) (so_far : List Placed) (fault : AsmFault) → 0 < length rest
+  pub stops : (rest : List ℕ) (so_far : List Placed) (fault : SourceFault) → 0 < length rest
       → line_or_fault l.labels l.place.text_size l.first (n + 1) place (code_of (before newline rest)) so_far ≡ Err fault
       → lines_meant l n place (source_lines rest) so_far ≡ Err fault
   stops rest so_far fault h e =
-      told_line rest so_far h ∙ ap (λ (r : Result (Place × List Placed) AsmFault). and_then r (λ x. lines_meant l (n + 1) x.0 (source_lines (after newline rest)) x.1)) e
+      told_line rest so_far h ∙ ap (λ (r : Result (Place × List Placed) SourceFault). and_then r (λ x. lines_meant l (n + 1) x.0 (source_lines (after newline rest)) x.1)) e
 
   pub ends : (rest : List ℕ) (so_far : List Placed) → length rest ≡ 0 → lines_meant l n place (source_lines rest) so_far ≡ Ok so_far
   unfolding lines_meant source_lines

@@ -7,13 +7,12 @@ use Rattle.std.proofs.Math.Seq.{drop-append_seam}
 use Rattle.evm_isa.specs.declared.inst.Inst.{Inst}
 use Rattle.evm_isa.specs.Encoded.{encoded}
 use Rattle.evm_isa.specs.Table.{Row}
-use Rattle.evm_asm_parser.specs.evm_asm_lexer.declared.fault.AsmFault.{AsmFault}
 use Rattle.evm_asm_parser.specs.evm_asm_lexer.declared.mnemonic.Section.{Section}
 use Rattle.evm_asm_parser.specs.evm_asm_lexer.declared.mnemonic.Section.TheVariants.{Text, Data}
 use Rattle.evm_asm.specs.declared.item.Item.{Item}
 use Rattle.evm_asm.specs.declared.item.Item.TheVariants.{Instruction, Number, Zeros, Nops}
 use Rattle.evm_asm.specs.declared.item.Placed.{Placed}
-use Rattle.evm_asm.specs.Items.{Tells, and_then, meaning_of, layout_of, text_base}
+use Rattle.evm_asm.specs.Items.{and_then, meaning_of, layout_of, text_base}
 use Rattle.evm_asm.specs.Programs.{Spelled, nothing_spelled, spelled, spelled_item, worded, repeated, program_bytes}
 use Rattle.evm_asm.specs.Assembled.{IsWorded, Assembled, assembled, program_of, StandsIn}
 use Rattle.evm_asm.specs.declared.output.ProgramLine.{ProgramLine}
@@ -53,10 +52,6 @@ module _ (law : (i : Inst) (w : ℕ) → encoded i ≡ Some w → (w < 2 ^ 32) �
       let meant = and_then_ok (meaning_of source) (λ items. and_then (spelled items nothing_spelled) (λ s. Ok (assembled (layout_of source).place.text_size (layout_of source).labels s))) p h in
       let spelt = and_then_ok (spelled meant.0 nothing_spelled) (λ s. Ok (assembled (layout_of source).place.text_size (layout_of source).labels s)) p meant.2 in
       subst (λ (q : Assembled). All IsWorded q.lines) (same_program _ p spelt.2) (spelled_worded meant.0 nothing_spelled spelt.0 spelt.1 none_worded)
-
-  pub result_worded : (source : List ℕ) (r : Result Assembled AsmFault) → Tells (λ p. p) r (program_of source) → IfOk r (λ p. All IsWorded p.lines)
-  result_worded source (Ok p) h = program_worded source p h
-  result_worded source (Err e) h = tt
 
 -- ---- the word of each line stands at its address
 
@@ -127,7 +122,3 @@ program_stands source p h =
     let spelt = and_then_ok (spelled meant.0 nothing_spelled) (λ s. Ok (assembled (layout_of source).place.text_size (layout_of source).labels s)) p meant.2 in
     subst (λ (q : Assembled). All (StandsIn q.bytes) q.lines) (same_program _ p spelt.2)
     (in_image spelt.0.text_bytes spelt.0.data_bytes spelt.0.lines (spelled_stands meant.0 nothing_spelled spelt.0 spelt.1 none_stand))
-
-pub result_stands : (source : List ℕ) (r : Result Assembled AsmFault) → Tells (λ p. p) r (program_of source) → IfOk r (λ p. All (StandsIn p.bytes) p.lines)
-result_stands source (Ok p) h = program_stands source p h
-result_stands source (Err e) h = tt

@@ -2,7 +2,7 @@
 use Rattle.std.proofs.Common.{◌≡◌, ℕ, ◌<◌, Bool, true, false, cond, ◌&&◌, nat_lt, List, [], ◌∷◌, Option, Some, None, IfOk, IfSome, refl, bytes_eq, lit<, ℤ, pos, negsuc, zero, suc, ◌≤◌, nat_le, neg_ℤ, arith}
 use Rattle.std.proofs.lemmas.Bool.{ltb-true, and_parts, leb-true}
 use Rattle.evm_asm_parser.specs.evm_asm_lexer.Names.{named, register_named, registers, fixed_registers, argument_registers, saved_registers, temporary_registers, registers_to_7, registers_to_15, registers_to_23, registers_to_31}
-use Rattle.evm_asm_parser.specs.evm_asm_lexer.declared.fault.AsmFaultKind.TheVariants.{RangeOfImmediate}
+use Rattle.evm_asm_parser.specs.evm_asm_lexer.declared.source_fault.SourceFaultKind.TheVariants.{RangeOfImmediate}
 use Rattle.evm_asm_parser.specs.Operands.{register_in, named_register, known, name_in, number_in, integer, ranged, integer_in}
 use Rattle.evm_asm_parser.specs.declared.operand.Number.{Number}
 use Rattle.evm_asm_parser.proofs.Outcomes.{either_ok, tested_ok}

@@ -7,8 +7,8 @@ use Rattle.std.proofs.lemmas.List.{append-nil}
 use Rattle.std.proofs.Math.Seq.{take-append_seam}
 use Rattle.evm_isa.specs.declared.inst.Inst.{Inst}
 use Rattle.evm_isa.specs.Encoded.{encoded}
-use Rattle.evm_asm_parser.specs.evm_asm_lexer.declared.fault.AsmFault.{AsmFault}
-use Rattle.evm_asm_parser.specs.evm_asm_lexer.declared.fault.AsmFaultKind.{AsmFaultKind}
+use Rattle.evm_asm_parser.specs.evm_asm_lexer.declared.source_fault.SourceFault.{SourceFault}
+use Rattle.evm_asm_parser.specs.evm_asm_lexer.declared.source_fault.SourceFaultKind.{SourceFaultKind}
 use Rattle.evm_asm_parser.specs.evm_asm_lexer.declared.mnemonic.Section.{Section as Part}
 use Rattle.evm_asm_parser.specs.evm_asm_lexer.declared.mnemonic.Section.TheVariants.{Text, Data}
 use Rattle.evm_asm_parser.specs.evm_asm_lexer.declared.mnemonic.Width.{Width}
@@ -35,13 +35,13 @@ use Rattle.evm_asm.proofs.Statements_without_labels.{measured_alike, in_the_text
 -- ---- a source that means something has no line with a fault
 
 -- the fault, if there is one, is of one of the first n lines
-IsWithin : Option AsmFault → ℕ → Type 0
-IsWithin first n = (f : AsmFault) → first ≡ Some f → (0 < f.line) × (f.line ≤ n)
+IsWithin : Option SourceFault → ℕ → Type 0
+IsWithin first n = (f : SourceFault) → first ≡ Some f → (0 < f.line) × (f.line ≤ n)
 
-one_line_more : (first : Option AsmFault) (n : ℕ) (kind : Option AsmFaultKind) → IsWithin first n → IsWithin (first_fault first (n + 1) kind) (n + 1)
+one_line_more : (first : Option SourceFault) (n : ℕ) (kind : Option SourceFaultKind) → IsWithin first n → IsWithin (first_fault first (n + 1) kind) (n + 1)
 unfolding IsWithin
 one_line_more (Some g) n kind h = λ f e. let k = h f e in (k.0, omega arith)
-one_line_more None n (Some kind) h = λ f e. let same : ◌≡◌ {A = AsmFault} (record { line = n + 1; kind = kind }) f = cc in let line : n + 1 ≡ f.line = ap (λ (g : AsmFault). g.line) same in (omega arith, omega arith)
+one_line_more None n (Some kind) h = λ f e. let same : ◌≡◌ {A = SourceFault} (record { line = n + 1; kind = kind }) f = cc in let line : n + 1 ≡ f.line = ap (λ (g : SourceFault). g.line) same in (omega arith, omega arith)
 one_line_more None n None h = λ f e. cc
 
 laid_within : (s : Laid) (lines : List (List ℕ)) → IsWithin s.first s.lines → IsWithin (laid s lines).first (laid s lines).lines
@@ -54,22 +54,22 @@ unfolding laid with_line_laid
 laid_lines s [] = omega arith
 laid_lines s (line ∷ lines) = let e = laid_lines (with_line_laid s line) lines in e ∙ omega arith
 
-stopped : (f : AsmFault) (n : ℕ) (a : Place × List Placed) (x : Place × List Placed) (t : Bool) → (f.line == n) ≡ t → unless_stopped (cond t (Some f) None) a ≡ Ok x → f.line ≡ n → ⊥
+stopped : (f : SourceFault) (n : ℕ) (a : Place × List Placed) (x : Place × List Placed) (t : Bool) → (f.line == n) ≡ t → unless_stopped (cond t (Some f) None) a ≡ Ok x → f.line ≡ n → ⊥
 stopped f n a x true e h same = cc
 stopped f n a x false e h same = absurd (grind (arith, nat_tests))
 
-told_later : (f : AsmFault) (n : ℕ) (r : Result (Place × List Placed) AsmFaultKind) (x : Place × List Placed) → meaning_or_fault (Some f) n r ≡ Ok x → f.line ≡ n → ⊥
+told_later : (f : SourceFault) (n : ℕ) (r : Result (Place × List Placed) SourceFaultKind) (x : Place × List Placed) → meaning_or_fault (Some f) n r ≡ Ok x → f.line ≡ n → ⊥
 told_later f n (Ok a) x h same = stopped f n a x (f.line == n) refl h same
 told_later f n (Err kind) x h same = cc
 
-never : (l : Laid) (f : AsmFault) → l.first ≡ Some f → (before : ℕ) (place : Place) (lines : List (List ℕ)) (so_far items : List Placed)
+never : (l : Laid) (f : SourceFault) → l.first ≡ Some f → (before : ℕ) (place : Place) (lines : List (List ℕ)) (so_far items : List Placed)
     → lines_meant l before place lines so_far ≡ Ok items → before < f.line → f.line ≤ before + length lines → ⊥
 unfolding lines_meant line_or_fault
 never l f e before place [] so_far items h a b = absurd (omega arith)
 never l f e before place (line ∷ lines) so_far items h a b =
     let step = and_then_ok (line_or_fault l.labels l.place.text_size l.first (before + 1) place (code_of line) so_far) (λ x. lines_meant l (before + 1) x.0 lines x.1) items h in
     let here : meaning_or_fault (Some f) (before + 1) (line_meant l.labels l.place.text_size (before + 1) place (statement_text (code_of line)) so_far) ≡ Ok step.0 =
-    ap (λ (o : Option AsmFault). meaning_or_fault o (before + 1) (line_meant l.labels l.place.text_size (before + 1) place (statement_text (code_of line)) so_far)) (sym e) ∙ step.1 in
+    ap (λ (o : Option SourceFault). meaning_or_fault o (before + 1) (line_meant l.labels l.place.text_size (before + 1) place (statement_text (code_of line)) so_far)) (sym e) ∙ step.1 in
     let other : f.line ≡ before + 1 → ⊥ = told_later f (before + 1) _ step.0 here in
     never l f e (before + 1) step.0.0 lines step.0.1 items step.2 (omega (arith, other)) (omega arith)
 
@@ -77,7 +77,7 @@ start_within : IsWithin nothing_laid.first 0
 unfolding IsWithin
 start_within = λ f e. cc
 
-none_of : (o : Option AsmFault) → ((f : AsmFault) → o ≡ Some f → ⊥) → o ≡ None
+none_of : (o : Option SourceFault) → ((f : SourceFault) → o ≡ Some f → ⊥) → o ≡ None
 none_of None h = refl
 none_of (Some f) h = absurd (h f refl)
 
@@ -188,7 +188,7 @@ module _ (P : ℕ → ℕ → Inst → Type 0) where
 pub same_some : (a b : List ℕ) → ◌≡◌ {A = Option (List ℕ)} (Some a) (Some b) → a ≡ b
 same_some a b h = cc
 
-pub same_statement : (a b : Statement) → ◌≡◌ {A = Result Statement AsmFaultKind} (Ok a) (Ok b) → a ≡ b
+pub same_statement : (a b : Statement) → ◌≡◌ {A = Result Statement SourceFaultKind} (Ok a) (Ok b) → a ≡ b
 same_statement a b h = cc
 
 pub laid-append : (s : Laid) (xs ys : List (List ℕ)) → laid s (xs ++ ys) ≡ laid (laid s xs) ys
@@ -200,7 +200,7 @@ pub laid_one_more : (xs : List (List ℕ)) (line : List ℕ) → laid nothing_la
 unfolding laid
 laid_one_more xs line = laid-append nothing_laid xs (line ∷ [])
 
-first_none : (first : Option AsmFault) (n : ℕ) (kind : Option AsmFaultKind) → first_fault first n kind ≡ None → (first ≡ None) × (kind ≡ None)
+first_none : (first : Option SourceFault) (n : ℕ) (kind : Option SourceFaultKind) → first_fault first n kind ≡ None → (first ≡ None) × (kind ≡ None)
 first_none (Some f) n kind h = cc
 first_none None n (Some k) h = cc
 first_none None n None h = (refl, refl)
@@ -214,7 +214,7 @@ unfolding laid
 lines_none s [] h = h
 lines_none s (line ∷ lines) h = (line_none s line (lines_none (with_line_laid s line) lines h)).0
 
-outcome_none : (place : Place) (twice : Bool) (r : Result Place AsmFaultKind) → (outcome place twice r).1 ≡ None → r ≡ Ok (outcome place twice r).0
+outcome_none : (place : Place) (twice : Bool) (r : Result Place SourceFaultKind) → (outcome place twice r).1 ≡ None → r ≡ Ok (outcome place twice r).0
 outcome_none place false (Ok next) h = refl
 outcome_none place false (Err kind) h = cc
 outcome_none place true (Ok next) h = cc
@@ -228,7 +228,7 @@ line_measured all s line h =
     measured_alike all d.labels s.place (statement_text (code_of line))
     ∙ outcome_none s.place d.twice (measured d.labels s.place (statement_text (code_of line))) (first_none s.first (s.lines + 1) _ h).1
 
-told_ok : {A : Type 0} (first : Option AsmFault) (n : ℕ) (r : Result A AsmFaultKind) (x : A) → first ≡ None → meaning_or_fault first n r ≡ Ok x → r ≡ Ok x
+told_ok : {A : Type 0} (first : Option SourceFault) (n : ℕ) (r : Result A SourceFaultKind) (x : A) → first ≡ None → meaning_or_fault first n r ≡ Ok x → r ≡ Ok x
 told_ok None n (Ok a) x e h = cc
 told_ok None n (Err kind) x e h = cc
 told_ok (Some f) n r x e h = cc
@@ -240,10 +240,10 @@ pub record Line (labels : Spots) (size n : ℕ) (place next : Place) (text : Lis
   pub adds : with_statement labels size n place text statement a ≡ Ok b
   pub goes_on : place_behind place statement ≡ Ok next
 
-same_pair : (a b : Place × List Placed) → ◌≡◌ {A = Result (Place × List Placed) AsmFaultKind} (Ok a) (Ok b) → (a.0 ≡ b.0) × (a.1 ≡ b.1)
+same_pair : (a b : Place × List Placed) → ◌≡◌ {A = Result (Place × List Placed) SourceFaultKind} (Ok a) (Ok b) → (a.0 ≡ b.0) × (a.1 ≡ b.1)
 same_pair a b h = let e : a ≡ b = cc in (ap (λ (x : Place × List Placed). x.0) e, ap (λ (x : Place × List Placed). x.1) e)
 
-pub line_of_told : (labels : Spots) (size n : ℕ) (first : Option AsmFault) (place : Place) (code : List ℕ) (a : List Placed) (x : Place × List Placed) → first ≡ None
+pub line_of_told : (labels : Spots) (size n : ℕ) (first : Option SourceFault) (place : Place) (code : List ℕ) (a : List Placed) (x : Place × List Placed) → first ≡ None
     → line_or_fault labels size first n place code a ≡ Ok x → Line labels size n place x.0 (statement_text code) a x.1
 unfolding line_or_fault line_meant statement_meant
 line_of_told labels size n first place code a x e h =
@@ -255,7 +255,7 @@ line_of_told labels size n first place code a x e h =
 
 line_next : (labels : Spots) (size n : ℕ) (place next : Place) (text : List ℕ) (a b : List Placed) → Line labels size n place next text a b → measured labels place text ≡ Ok next
 unfolding measured
-line_next labels size n place next text a b l = ap (λ (r : Result Statement AsmFaultKind). r >>= place_behind place) l.reads ∙ l.goes_on
+line_next labels size n place next text a b l = ap (λ (r : Result Statement SourceFaultKind). r >>= place_behind place) l.reads ∙ l.goes_on
 
 -- the walk over what is meant takes the places of the layout
 pub same_next : (size n : ℕ) (s : Laid) (line : List ℕ) (labels : Spots) (next : Place) (a b : List Placed) → (with_line_laid s line).first ≡ None

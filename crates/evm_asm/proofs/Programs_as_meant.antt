@@ -9,8 +9,8 @@ use Rattle.std.proofs.lemmas.List.Quantifiers.{Any-push}
 use Rattle.std.proofs.Math.ListN.{get_or-append}
 use Rattle.evm_isa.specs.declared.inst.Inst.{Inst}
 use Rattle.evm_isa.specs.Encoded.{encoded}
-use Rattle.evm_asm_parser.specs.evm_asm_lexer.declared.fault.AsmFaultKind.{AsmFaultKind}
-use Rattle.evm_asm_parser.specs.evm_asm_lexer.declared.fault.AsmFaultKind.TheVariants.{TooLarge}
+use Rattle.evm_asm_parser.specs.evm_asm_lexer.declared.source_fault.SourceFaultKind.{SourceFaultKind}
+use Rattle.evm_asm_parser.specs.evm_asm_lexer.declared.source_fault.SourceFaultKind.TheVariants.{TooLarge}
 use Rattle.evm_asm_parser.specs.evm_asm_lexer.declared.mnemonic.Section.{Section as Part}
 use Rattle.evm_asm_parser.specs.evm_asm_lexer.declared.mnemonic.Section.TheVariants.{Text, Data}
 use Rattle.evm_asm_parser.specs.declared.statement.Statement.{Statement}
@@ -72,7 +72,7 @@ measured_limited labels place next text h k =
     let s = bind_ok (statement_in labels place text) (place_behind place) next h in
     behind_limited place next s.0 s.2 k
 
-outcome_limited : (place : Place) (twice : Bool) (r : Result Place AsmFaultKind) → ((next : Place) → r ≡ Ok next → IsLimited next) → IsLimited place → IsLimited (outcome place twice r).0
+outcome_limited : (place : Place) (twice : Bool) (r : Result Place SourceFaultKind) → ((next : Place) → r ≡ Ok next → IsLimited next) → IsLimited place → IsLimited (outcome place twice r).0
 outcome_limited place false (Ok next) h k = h next refl
 outcome_limited place false (Err kind) h k = k
 outcome_limited place true (Ok next) h k = k

@@ -12,7 +12,7 @@ use Rattle.evm_asm_parser.specs.evm_asm_lexer.declared.mnemonic.Section.{Section
 use Rattle.evm_asm_parser.specs.evm_asm_lexer.declared.mnemonic.Section.TheVariants.{Text, Data}
 use Rattle.evm_asm_parser.specs.evm_asm_lexer.declared.mnemonic.Width.{Width}
 use Rattle.evm_asm_parser.specs.evm_asm_lexer.declared.mnemonic.Width.TheVariants.{Byte, Word, Dword}
-use Rattle.evm_asm_parser.specs.evm_asm_lexer.declared.fault.AsmFaultKind.TheVariants.{TooLarge}
+use Rattle.evm_asm_parser.specs.evm_asm_lexer.declared.source_fault.SourceFaultKind.TheVariants.{TooLarge}
 use Rattle.evm_asm_parser.specs.evm_asm_lexer.Faults.{◌>>=◌}
 use Rattle.evm_asm_parser.specs.declared.spot.Spot.{Spot}
 use Rattle.evm_asm_parser.specs.declared.statement.Statement.{Statement}

@@ -2,7 +2,7 @@
 use Rattle.std.specs.Prelude.{◌≡◌, ℕ, ◌+◌, ◌-◌, ◌<◌, ◌≤◌, ◌^◌, List, length, take, drop, map, Result, Ok}
 use Rattle.std.specs.Int.{w32, to_le_bytes}
 use Rattle.evm_isa.specs.Table.{Row}
-use Rattle.evm_asm_parser.specs.evm_asm_lexer.declared.fault.AsmFault.{AsmFault}
+use Rattle.evm_asm_parser.specs.evm_asm_lexer.declared.source_fault.SourceFault.{SourceFault}
 use Rattle.evm_asm.specs.declared.output.ProgramLine.{ProgramLine}
 use Rattle.evm_asm_parser.specs.declared.spot.Spot.{Spot}
 use Rattle.evm_asm.specs.Items.{text_base, address, and_then, layout_of, meaning_of}
@@ -21,7 +21,7 @@ abbrev pub assembled : ℕ → List (List ℕ × Spot) → Spelled → Assembled
 assembled text_size labels s = record { lines = s.lines; bytes = program_bytes s.text_bytes s.data_bytes; labels = addressed text_size labels }
 
 -- The program of a source, or its fault: the least line that has one, and the least of its faults.
-unfoldable pub program_of : List ℕ → Result Assembled AsmFault
+unfoldable pub program_of : List ℕ → Result Assembled SourceFault
 program_of source =
     and_then (meaning_of source) (λ items. and_then (spelled items nothing_spelled)
     (λ s. Ok (assembled (layout_of source).place.text_size (layout_of source).labels s)))

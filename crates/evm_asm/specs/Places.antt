@@ -1,7 +1,7 @@
 -- How many bytes a statement takes, and where it stands.
 use Rattle.std.specs.Prelude.{ℕ, min, ◌+◌, ◌-◌, ◌*◌, ◌/◌, ◌%◌, ◌^◌, Bool, true, false, not, ◌&&◌, ◌==◌, nat_lt, nat_le, if◌then◌else◌, List, Option, Some, None, Result, Ok, Err, ℤ, pos, neg_ℤ, negsuc, ◌+ℤ◌, nat_abs, int_le}
-use Rattle.evm_asm_parser.specs.evm_asm_lexer.declared.fault.AsmFaultKind.{AsmFaultKind}
-use Rattle.evm_asm_parser.specs.evm_asm_lexer.declared.fault.AsmFaultKind.TheVariants.{BadToken, UnknownName, BadOperand, TooLarge}
+use Rattle.evm_asm_parser.specs.evm_asm_lexer.declared.source_fault.SourceFaultKind.{SourceFaultKind}
+use Rattle.evm_asm_parser.specs.evm_asm_lexer.declared.source_fault.SourceFaultKind.TheVariants.{BadToken, UnknownName, BadOperand, TooLarge}
 use Rattle.evm_asm_parser.specs.evm_asm_lexer.declared.mnemonic.Section.TheVariants as section
 use Rattle.evm_asm_parser.specs.evm_asm_lexer.declared.mnemonic.Section.{Section as Part}
 use Rattle.evm_asm_parser.specs.evm_asm_lexer.declared.mnemonic.Width.{Width}
@@ -34,7 +34,7 @@ farther section.Text place size = record place { text_size = place.text_size + s
 farther section.Data place size = record place { data_size = place.data_size + size }
 
 -- no section is longer than 8,388,608 bytes
-unfoldable pub grown : Place → ℕ → Result Place AsmFaultKind
+unfoldable pub grown : Place → ℕ → Result Place SourceFaultKind
 grown place size =
     if nat_le size (8388608 - offset place) then Ok (farther place.section place size) else Err TooLarge
 
@@ -83,7 +83,7 @@ size_at offset (Space size) = size
 size_at offset (Align power) = padding offset power
 
 -- the place behind a statement
-unfoldable pub place_behind : Place → Statement → Result Place AsmFaultKind
+unfoldable pub place_behind : Place → Statement → Result Place SourceFaultKind
 place_behind place (Section part) = Ok (record place { section = part })
 place_behind place statement = grown place (size_at (offset place) statement)
 
@@ -103,7 +103,7 @@ is_text section.Data = false
 unfoldable pub may_stand : Mnemonic → Place → Bool
 may_stand mnemonic place = if is_directive mnemonic then true else is_text place.section && place.text_size % 4 == 0
 
-unfoldable pub placed : Mnemonic → Place → Result Place AsmFaultKind
+unfoldable pub placed : Mnemonic → Place → Result Place SourceFaultKind
 placed mnemonic place = if may_stand mnemonic place then Ok place else Err BadOperand
 
 abbrev pub of_mnemonic : Spots → Place → Option Mnemonic → List ℕ → Reading

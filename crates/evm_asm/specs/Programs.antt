@@ -3,8 +3,8 @@ use Rattle.std.specs.Prelude.{ℕ, zero, suc, ◌+◌, ◌-◌, ◌%◌, List, [
 use Rattle.std.specs.Int.{w32, w64, to_le_bytes}
 use Rattle.evm_isa.specs.declared.inst.Inst.{Inst}
 use Rattle.evm_isa.specs.Encoded.{encoded}
-use Rattle.evm_asm_parser.specs.evm_asm_lexer.declared.fault.AsmFault.{AsmFault}
-use Rattle.evm_asm_parser.specs.evm_asm_lexer.declared.fault.AsmFaultKind.TheVariants.{RangeOfImmediate}
+use Rattle.evm_asm_parser.specs.evm_asm_lexer.declared.source_fault.SourceFault.{SourceFault}
+use Rattle.evm_asm_parser.specs.evm_asm_lexer.declared.source_fault.SourceFaultKind.TheVariants.{RangeOfImmediate}
 use Rattle.evm_asm.specs.declared.failure.Failure.{Failure}
 use Rattle.evm_asm.specs.declared.failure.Failure.TheVariants as failure
 use Rattle.evm_asm.specs.declared.item.Item.{Item}
@@ -54,17 +54,17 @@ with_word line i word s = record {
   data_bytes = s.data_bytes;
 }
 
-abbrev pub worded : ℕ → Inst → Option ℕ → Spelled → Result Spelled AsmFault
+abbrev pub worded : ℕ → Inst → Option ℕ → Spelled → Result Spelled SourceFault
 worded line i (Some word) s = Ok (with_word line i word s)
 worded line i None s = Err (record { line = line; kind = RangeOfImmediate })
 
-unfoldable pub spelled_item : Part → Item → Spelled → Result Spelled AsmFault
+unfoldable pub spelled_item : Part → Item → Spelled → Result Spelled SourceFault
 spelled_item part (item.Instruction line i) s = worded line i (encoded i) s
 spelled_item part (item.Number width value) s = Ok (with_bytes part (number_bytes (bytes_in width) value) s)
 spelled_item part (item.Zeros n) s = Ok (with_repeated part n (0 ∷ []) s)
 spelled_item part (item.Nops n) s = Ok (with_repeated part n nop_bytes s)
 
-unfoldable pub spelled : List Placed → Spelled → Result Spelled AsmFault
+unfoldable pub spelled : List Placed → Spelled → Result Spelled SourceFault
 spelled [] s = Ok s
 spelled (p ∷ ps) s = and_then (spelled_item p.section p.item s) (spelled ps)
 

@@ -2,9 +2,9 @@
 use Rattle.std.specs.Prelude.{◌≡◌, ℕ, zero, suc, ◌+◌, Bool, true, false, ◌==◌, if◌then◌else◌, List, [], ◌∷◌, ◌++◌, length, Option, Some, None, is_some, Result, Ok, Err}
 use Rattle.std.specs.Option.{option_map}
 use Rattle.evm_asm_parser.specs.evm_asm_lexer.Characters.{newline, hash, colon}
-use Rattle.evm_asm_parser.specs.evm_asm_lexer.declared.fault.AsmFault.{AsmFault}
-use Rattle.evm_asm_parser.specs.evm_asm_lexer.declared.fault.AsmFaultKind.{AsmFaultKind}
-use Rattle.evm_asm_parser.specs.evm_asm_lexer.declared.fault.AsmFaultKind.TheVariants.{LabelTwice}
+use Rattle.evm_asm_parser.specs.evm_asm_lexer.declared.source_fault.SourceFault.{SourceFault}
+use Rattle.evm_asm_parser.specs.evm_asm_lexer.declared.source_fault.SourceFaultKind.{SourceFaultKind}
+use Rattle.evm_asm_parser.specs.evm_asm_lexer.declared.source_fault.SourceFaultKind.TheVariants.{LabelTwice}
 use Rattle.evm_asm_parser.specs.evm_asm_lexer.declared.mnemonic.Section.TheVariants as section
 use Rattle.evm_asm_parser.specs.declared.spot.Spot.{Spot}
 use Rattle.evm_asm.specs.declared.place.Place.{Place}
@@ -57,27 +57,27 @@ abbrev pub statement_text : List ℕ → List ℕ
 statement_text code = behind_labels (length code) code
 
 -- The place behind a line and the line's fault, those that a label causes apart: a line with a fault has no bytes.
-abbrev pub outcome : Place → Bool → Result Place AsmFaultKind → Place × Option AsmFaultKind
+abbrev pub outcome : Place → Bool → Result Place SourceFaultKind → Place × Option SourceFaultKind
 outcome place false (Ok next) = (next, None)
 outcome place false (Err kind) = (place, Some kind)
 outcome place true (Ok next) = (place, Some LabelTwice)
 outcome place true (Err kind) = (place, Some (least LabelTwice kind))
 
 -- the place behind what is read
-abbrev pub behind_reading : Place → Reading → Result Place AsmFaultKind
+abbrev pub behind_reading : Place → Reading → Result Place SourceFaultKind
 behind_reading place reading = reading >>= place_behind place
 
-unfoldable pub measured : Spots → Place → List ℕ → Result Place AsmFaultKind
+unfoldable pub measured : Spots → Place → List ℕ → Result Place SourceFaultKind
 measured labels place text = behind_reading place (statement_in labels place text)
 
 abbrev pub line_defined : Spots → Place → List ℕ → Defined
 line_defined labels place code = defined (length code) (here place) code (record { labels = labels; twice = false })
 
-unfoldable pub line_laid : Spots → Place → List ℕ → Spots × (Place × Option AsmFaultKind)
+unfoldable pub line_laid : Spots → Place → List ℕ → Spots × (Place × Option SourceFaultKind)
 line_laid labels place code =
     ((line_defined labels place code).labels, outcome place (line_defined labels place code).twice (measured (line_defined labels place code).labels place (statement_text code)))
 
-abbrev pub first_fault : Option AsmFault → ℕ → Option AsmFaultKind → Option AsmFault
+abbrev pub first_fault : Option SourceFault → ℕ → Option SourceFaultKind → Option SourceFault
 first_fault (Some fault) line kind = Some fault
 first_fault None line (Some kind) = Some (record { line = line; kind = kind })
 first_fault None line None = None
@@ -87,7 +87,7 @@ pub record Laid : Type 0 where
   pub lines : ℕ
   pub place : Place
   pub labels : Spots
-  pub first : Option AsmFault
+  pub first : Option SourceFault
 
 abbrev pub source_start : Place
 source_start = record { section = section.Text; text_size = 0; data_size = 0 }
@@ -105,7 +105,7 @@ laid s [] = s
 laid s (line ∷ lines) = laid (with_line_laid s line) lines
 
 -- these are the labels, the place and the first fault of what is laid out
-pub record IsLaid (labels : Spots) (place : Place) (first : Option AsmFault) (s : Laid) : Type 0 where
+pub record IsLaid (labels : Spots) (place : Place) (first : Option SourceFault) (s : Laid) : Type 0 where
   pub labels_are : labels ≡ s.labels
   pub place_is : place ≡ s.place
   pub first_is : first ≡ s.first

@@ -1,6 +1,6 @@
 //! Why a source has no program.
 
-use evm_asm_parser::AsmFault;
+use evm_asm_parser::SourceFault;
 use evm_room::Refused;
 
 /// A growth was refused in a line.
@@ -13,6 +13,6 @@ pub struct Shortage {
 /// Why a source has no program: it has a fault, or memory ran out.
 #[derive(Drop)]
 pub enum Failure {
-    Fault(AsmFault),
+    Fault(SourceFault),
     Memory(Shortage),
 }

@@ -8,7 +8,7 @@ use crate::place::{
     Place, high_part, is_small, low_part, low_word, needs_low_part, offset, padding,
 };
 use evm_asm_parser::{
-    AsmFaultKind, Datum, Labels, Section, Spot, Statement, Width, datum_in, zero,
+    Datum, Labels, Section, SourceFaultKind, Spot, Statement, Width, datum_in, zero,
 };
 use evm_isa::{ImmediateOp, Inst, Register, Shift};
 
@@ -62,7 +62,7 @@ pub fn address(text_size: u32, spot: Spot) -> u64
 }
 
 #[tactic(auto, unfolding(crate::specs::Items::distance))]
-fn distance(below: u64, above: u64, from: u64, target: u64) -> Result<i32, AsmFaultKind>
+fn distance(below: u64, above: u64, from: u64, target: u64) -> Result<i32, SourceFaultKind>
     requires low { below ≤ 2147483648 }
     requires high { above ≤ 2147483647 }
     ensures { result ≡ distance below above from target }
@@ -71,12 +71,12 @@ fn distance(below: u64, above: u64, from: u64, target: u64) -> Result<i32, AsmFa
         if (target - from) % 2 == 0 && target - from <= above {
             Ok((target - from) as i32)
         } else {
-            Err(AsmFaultKind::RangeOfImmediate)
+            Err(SourceFaultKind::RangeOfImmediate)
         }
     } else if (from - target) % 2 == 0 && from - target <= below {
         Ok(-((from - target) as i64) as i32)
     } else {
-        Err(AsmFaultKind::RangeOfImmediate)
+        Err(SourceFaultKind::RangeOfImmediate)
     }
 }
 
@@ -86,14 +86,14 @@ fn distance_to(
     text_size: u32,
     from: u64,
     target: Option<Spot>,
-) -> Result<i32, AsmFaultKind>
+) -> Result<i32, SourceFaultKind>
     requires low { below ≤ 2147483648 }
     requires high { above ≤ 2147483647 }
     ensures { result ≡ distance_to below above text_size from target }
 {
     match target {
         Some(spot) => distance(below, above, from, address(text_size, spot)),
-        None => Err(AsmFaultKind::LabelMissing),
+        None => Err(SourceFaultKind::LabelMissing),
     }
 }
 
@@ -142,7 +142,7 @@ fn load_address(
     from: u64,
     rd: Register,
     target: Option<Spot>,
-) -> Result<Expansion, AsmFaultKind>
+) -> Result<Expansion, SourceFaultKind>
     ensures { result ≡ load_address text_size from rd target }
 {
     match target {
@@ -150,13 +150,17 @@ fn load_address(
             let ahead = address(text_size, spot) + 4294967296;
             Ok(load_address_by(rd, ahead.saturating_sub(from) % 4294967296))
         }
-        None => Err(AsmFaultKind::LabelMissing),
+        None => Err(SourceFaultKind::LabelMissing),
     }
 }
 
 /// The instructions of a statement that stands at an address.
 #[tactic(auto, unfolding(crate::specs::Items::expanded))]
-pub fn expanded(text_size: u32, from: u64, statement: Statement) -> Result<Expansion, AsmFaultKind>
+pub fn expanded(
+    text_size: u32,
+    from: u64,
+    statement: Statement,
+) -> Result<Expansion, SourceFaultKind>
     ensures { result ≡ expanded text_size from statement }
 {
     match statement {
@@ -185,13 +189,13 @@ pub fn expanded(text_size: u32, from: u64, statement: Statement) -> Result<Expan
     }
 }
 
-fn value_of(text_size: u32, datum: Datum) -> Result<u64, AsmFaultKind>
+fn value_of(text_size: u32, datum: Datum) -> Result<u64, SourceFaultKind>
     ensures { result ≡ value_of text_size datum }
 {
     match datum {
         Datum::Value(number) => Ok(number),
         Datum::Label(Some(spot)) => Ok(address(text_size, spot)),
-        Datum::Label(None) => Err(AsmFaultKind::LabelMissing),
+        Datum::Label(None) => Err(SourceFaultKind::LabelMissing),
     }
 }
 
@@ -202,7 +206,7 @@ pub fn value_in(
     text_size: u32,
     width: Width,
     text: &[u8],
-) -> Result<u64, AsmFaultKind>
+) -> Result<u64, SourceFaultKind>
     ensures { result ≡ value_in labels.now text_size width text.now }
 {
     let datum = datum_in(labels, width, text)?;

@@ -10,7 +10,8 @@ ghost use Rattle.evm_asm.specs.Places.{here, statement_in};
 use crate::failure::Shortage;
 use crate::place::{Place, here, place_behind, source_start, statement_in};
 use evm_asm_parser::{
-    AsmFault, AsmFaultKind, KeptLines, Labels, Reading, Spot, after, before, has, least, name_in,
+    KeptLines, Labels, Reading, SourceFault, SourceFaultKind, Spot, after, before, has, least,
+    name_in,
 };
 use evm_room::Refused;
 use std::alloc::Global;
@@ -92,21 +93,21 @@ fn define(alloc: Global, labels: &mut Labels, spot: Spot, text: &[u8]) -> Result
 fn outcome(
     place: Place,
     twice: bool,
-    measured: Result<Place, AsmFaultKind>,
-) -> (Place, Option<AsmFaultKind>)
+    measured: Result<Place, SourceFaultKind>,
+) -> (Place, Option<SourceFaultKind>)
     ensures { result ≡ outcome place twice measured }
 {
     match measured {
         Ok(next) => {
             if twice {
-                (place, Some(AsmFaultKind::LabelTwice))
+                (place, Some(SourceFaultKind::LabelTwice))
             } else {
                 (next, None)
             }
         }
         Err(kind) => {
             if twice {
-                (place, Some(least(AsmFaultKind::LabelTwice, kind)))
+                (place, Some(least(SourceFaultKind::LabelTwice, kind)))
             } else {
                 (place, Some(kind))
             }
@@ -115,7 +116,7 @@ fn outcome(
 }
 
 /// The place behind what is read.
-fn behind_reading(place: Place, reading: &Reading) -> Result<Place, AsmFaultKind>
+fn behind_reading(place: Place, reading: &Reading) -> Result<Place, SourceFaultKind>
     ensures { result ≡ behind_reading place reading.now }
 {
     match reading {
@@ -131,7 +132,7 @@ fn lay_line(
     kept: &mut KeptLines,
     place: Place,
     code: &[u8],
-) -> Result<(Place, Option<AsmFaultKind>), Refused>
+) -> Result<(Place, Option<SourceFaultKind>), Refused>
     ensures laid { IfOk result (λ after. (labels.new, after) ≡ line_laid labels.old place code.now) }
     ensures refused { IfErr result (λ asked. asked ≤ length code.now + 1) }
     ensures kept { OnOk result (kept.new ≡ kept.old ++ kept_of (here place) (statement_in labels.new place (statement_text code.now)) ∷ []) }
@@ -143,12 +144,16 @@ fn lay_line(
     Ok(outcome(place, twice, end))
 }
 
-fn first_fault(first: Option<AsmFault>, line: u64, kind: Option<AsmFaultKind>) -> Option<AsmFault>
+fn first_fault(
+    first: Option<SourceFault>,
+    line: u64,
+    kind: Option<SourceFaultKind>,
+) -> Option<SourceFault>
     ensures { result ≡ first_fault first line kind }
 {
     match (first, kind) {
         (Some(fault), _) => Some(fault),
-        (None, Some(kind)) => Some(AsmFault { line, kind }),
+        (None, Some(kind)) => Some(SourceFault { line, kind }),
         (None, None) => None,
     }
 }
@@ -159,7 +164,7 @@ fn first_fault(first: Option<AsmFault>, line: u64, kind: Option<AsmFaultKind>) -
 pub struct Layout {
     pub labels: Labels,
     pub place: Place,
-    pub first: Option<AsmFault>,
+    pub first: Option<SourceFault>,
 }
 
 /// Lays out a source, and keeps of its lines what need not be read again.

@@ -1,6 +1,7 @@
 //! An assembler of RV64I.
 #![tactic(auto)]
 
+mod detail;
 mod failure;
 mod item;
 mod laws;
@@ -11,7 +12,8 @@ mod place;
 mod program;
 mod quoting;
 
-pub use evm_asm_parser::{AsmFault, AsmFaultKind};
+pub use detail::{SourceDetail, source_detail};
+pub use evm_asm_parser::{AsmFault, AsmFaultKind, Extension};
 pub use laws::{
     all_that_is_meant_stands, la_loads, li_loads, lines_are_worded, programs_fit, words_stand,
 };

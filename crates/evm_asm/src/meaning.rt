@@ -11,8 +11,8 @@ use crate::item::{Expansion, Item, Placed, TEXT_BASE, expanded, filling, value_i
 use crate::layout::{Layout, code_of, statement_text};
 use crate::place::{Place, here, place_behind, source_start, statement_in};
 use evm_asm_parser::{
-    AsmFault, AsmFaultKind, Kept, KeptLines, Labels, Reading, Section, Statement, Width, after,
-    before, behind_word, first_operand, least, other_operands, push, skip_blanks,
+    Kept, KeptLines, Labels, Reading, Section, SourceFault, SourceFaultKind, Statement, Width,
+    after, before, behind_word, first_operand, least, other_operands, push, skip_blanks,
 };
 use evm_room::Refused;
 use std::alloc::Global;
@@ -21,7 +21,7 @@ use std::alloc::Global;
 #[derive(Drop)]
 pub enum Stop {
     Memory(Refused),
-    Fault(AsmFaultKind),
+    Fault(SourceFaultKind),
 }
 
 fn push_item(items: &mut Vec<Placed>, section: Section, item: Item) -> Result<(), Stop>
@@ -187,26 +187,26 @@ fn push_line(
 }
 
 /// The fault of a line whose labels cause one, beside what was found before.
-fn least_so_far(first: Option<AsmFault>, line: u64, kind: AsmFaultKind) -> AsmFault
+fn least_so_far(first: Option<SourceFault>, line: u64, kind: SourceFaultKind) -> SourceFault
     ensures { result ≡ least_so_far first line kind }
 {
     match first {
-        None => AsmFault { line, kind },
+        None => SourceFault { line, kind },
         Some(fault) => {
             if fault.line == line {
-                AsmFault {
+                SourceFault {
                     line,
                     kind: least(fault.kind, kind),
                 }
             } else {
-                AsmFault { line, kind }
+                SourceFault { line, kind }
             }
         }
     }
 }
 
 /// The fault that was found in this line before.
-fn stop_at(first: Option<AsmFault>, line: u64) -> Option<AsmFault>
+fn stop_at(first: Option<SourceFault>, line: u64) -> Option<SourceFault>
     ensures { result ≡ stop_at first line }
 {
     match first {
@@ -221,7 +221,7 @@ fn stop_at(first: Option<AsmFault>, line: u64) -> Option<AsmFault>
     }
 }
 
-fn unless_stopped(stop: Option<AsmFault>, place: Place) -> Result<Place, AsmFault>
+fn unless_stopped(stop: Option<SourceFault>, place: Place) -> Result<Place, SourceFault>
     ensures { result ≡ unless_stopped stop place }
 {
     match stop {

@@ -10,7 +10,7 @@ ghost use Rattle.evm_asm.specs.Places.{bytes_in};
 use crate::failure::{Failure, Shortage};
 use crate::item::{Item, Placed, TEXT_BASE};
 use crate::place::bytes_in;
-use evm_asm_parser::{AsmFault, AsmFaultKind, Section, Width, extend, push};
+use evm_asm_parser::{Section, SourceFault, SourceFaultKind, Width, extend, push};
 use evm_isa::{Inst, encode};
 use evm_room::Refused;
 use std::alloc::Global;
@@ -96,9 +96,9 @@ fn push_instruction(out: &mut Output, line: u64, instruction: &Inst) -> Result<(
             Ok(()) => Ok(()),
             Err(refused) => Err(Failure::Memory(Shortage { line, refused })),
         },
-        None => Err(Failure::Fault(AsmFault {
+        None => Err(Failure::Fault(SourceFault {
             line,
-            kind: AsmFaultKind::RangeOfImmediate,
+            kind: SourceFaultKind::RangeOfImmediate,
         })),
     }
 }

@@ -6,8 +6,8 @@ ghost use Rattle.evm_asm_parser.specs.Operands.{upper};
 ghost use Rattle.evm_asm.specs.Sources.{source_start};
 
 use evm_asm_parser::{
-    AsmFaultKind, Labels, Mnemonic, Section, Spot, Statement, Width, also, behind_word, first_word,
-    is_sound, mnemonic_named, skip_blanks, starts_with_name, statement_of, upper,
+    Labels, Mnemonic, Section, SourceFaultKind, Spot, Statement, Width, also, behind_word,
+    first_word, is_sound, mnemonic_named, skip_blanks, starts_with_name, statement_of, upper,
 };
 use evm_isa::Shift;
 
@@ -57,11 +57,11 @@ pub fn here(place: Place) -> Spot
 }
 
 #[tactic(auto, unfolding(crate::specs::Places::grown))]
-fn grown(place: Place, size: u64) -> Result<Place, AsmFaultKind>
+fn grown(place: Place, size: u64) -> Result<Place, SourceFaultKind>
     ensures { result ≡ grown place size }
 {
     if size > LIMIT.saturating_sub(offset(place)) {
-        return Err(AsmFaultKind::TooLarge);
+        return Err(SourceFaultKind::TooLarge);
     }
     match place.section {
         Section::Text => Ok(Place {
@@ -165,7 +165,7 @@ fn size_at(offset: u64, statement: Statement) -> u64
 
 /// The place behind a statement.
 #[tactic(auto, unfolding(crate::specs::Places::place_behind))]
-pub fn place_behind(place: Place, statement: Statement) -> Result<Place, AsmFaultKind>
+pub fn place_behind(place: Place, statement: Statement) -> Result<Place, SourceFaultKind>
     ensures { result ≡ place_behind place statement }
 {
     match statement {
@@ -203,36 +203,40 @@ fn may_stand(mnemonic: Mnemonic, place: Place) -> bool
 
 /// The place, where this mnemonic may stand there.
 #[tactic(auto, unfolding(crate::specs::Places::placed))]
-fn placed(mnemonic: Mnemonic, place: Place) -> Result<Place, AsmFaultKind>
+fn placed(mnemonic: Mnemonic, place: Place) -> Result<Place, SourceFaultKind>
     ensures { result ≡ placed mnemonic place }
 {
     if may_stand(mnemonic, place) {
         Ok(place)
     } else {
-        Err(AsmFaultKind::BadOperand)
+        Err(SourceFaultKind::BadOperand)
     }
 }
 
 /// What the text behind the labels of a line says.
 #[tactic(auto, unfolding(crate::specs::Places::statement_in))]
-pub fn statement_in(labels: &Labels, place: Place, text: &[u8]) -> Result<Statement, AsmFaultKind>
+pub fn statement_in(
+    labels: &Labels,
+    place: Place,
+    text: &[u8],
+) -> Result<Statement, SourceFaultKind>
     ensures { result ≡ statement_in labels.now place text.now }
 {
     if !is_sound(text) {
-        return Err(AsmFaultKind::BadToken);
+        return Err(SourceFaultKind::BadToken);
     }
     let statement = skip_blanks(text);
     if statement.is_empty() {
         return Ok(Statement::Nothing);
     }
     if !starts_with_name(statement) {
-        return Err(AsmFaultKind::BadToken);
+        return Err(SourceFaultKind::BadToken);
     }
     match mnemonic_named(first_word(statement)) {
         Some(mnemonic) => {
             let reading = statement_of(labels, mnemonic, behind_word(statement));
             also(reading, placed(mnemonic, place))
         }
-        None => Err(AsmFaultKind::UnknownName),
+        None => Err(SourceFaultKind::UnknownName),
     }
 }

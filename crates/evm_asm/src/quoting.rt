@@ -123,7 +123,7 @@ fn quoted_in(kind: AsmFaultKind, code: &[u8]) -> Option<&[u8]>
 }
 
 /// The source behind so many of its lines.
-fn behind_lines(lines: u64, source: &[u8]) -> &[u8]
+pub(crate) fn behind_lines(lines: u64, source: &[u8]) -> &[u8]
     ensures { result.now ≡ behind_lines lines source.now }
 {
     let mut rest = source;

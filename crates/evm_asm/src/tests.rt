@@ -1,10 +1,12 @@
 use super::*;
 use std::test::Fail;
 
+mod details;
 mod faults;
 mod lines;
 mod vectors;
 
+use details::DETAILS;
 use faults::{FAULTS, QUOTED};
 use lines::{ADDRESSES, BYTES, LINES, NOPS, PAIRS};
 use vectors::{DATA, DATA_AT, SOURCE, TEXT_AT, TEXT_NUMBERS, WORDS};
@@ -150,6 +152,19 @@ fn wrong_words_are_quoted(rt: HostRuntime) -> Result<(), Fail> {
             word => Some(word),
         };
         assert_eq!(rt; quoted(*source, fault), wanted, "in {source}");
+    }
+    Ok(())
+}
+
+// What is behind a fault: what is wanted in the place of a name, where there is no token, how many operands, which
+// numbers and labels.
+#[test]
+fn faults_have_details(rt: HostRuntime) -> Result<(), Fail> {
+    for (source, detail) in DETAILS.iter() {
+        let Some(fault) = assemble(rt.alloc(), *source).err() else {
+            return Err(Fail::from(*source));
+        };
+        assert_eq!(rt; source_detail(*source, fault), *detail, "in {source}");
     }
     Ok(())
 }

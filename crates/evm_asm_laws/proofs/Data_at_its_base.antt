@@ -2,7 +2,7 @@
 use Rattle.std.proofs.Common.{◌≡◌, ◌∙◌, ℕ, zero, suc, ◌-◌, ◌%◌, ◌<◌, List, [], ◌∷◌, ◌++◌, length, Result, Ok, All, ap, refl, sym, subst, arith, append_assoc}
 use Rattle.std.specs.Prelude.{replicate}
 use Rattle.std.proofs.lemmas.List.{append-nil}
-use Rattle.evm_asm.specs.evm_asm_lexer.declared.fault.AsmFault.{AsmFault}
+use Rattle.evm_asm.specs.evm_asm_lexer.declared.source_fault.SourceFault.{SourceFault}
 use Rattle.evm_asm.specs.declared.item.Placed.{Placed}
 use Rattle.evm_asm.specs.declared.output.ProgramLine.{ProgramLine}
 use Rattle.evm_asm.specs.Items.{and_then, layout_of, meaning_of}
@@ -47,8 +47,8 @@ unfolding program_of
 program_is source items s p h k e =
     let make = λ (t : Spelled). assembled (size_of_text source) (layout_of source).labels t in
     let one : program_of source ≡ Ok (make s) =
-    ap (λ (r : Result (List Placed) AsmFault). and_then r (λ items. and_then (spelled items nothing_spelled) (λ t. Ok (make t)))) h
-    ∙ ap (λ (r : Result Spelled AsmFault). and_then r (λ t. Ok (make t))) k in
+    ap (λ (r : Result (List Placed) SourceFault). and_then r (λ items. and_then (spelled items nothing_spelled) (λ t. Ok (make t)))) h
+    ∙ ap (λ (r : Result Spelled SourceFault). and_then r (λ t. Ok (make t))) k in
     same_program (make s) p (sym one ∙ e)
 
 pub data_at_base : (source : List ℕ) (items : List Placed) (s : Spelled) (p : Assembled) → meaning_of source ≡ Ok items → spelled items nothing_spelled ≡ Ok s → program_of source ≡ Ok p

@@ -9,7 +9,7 @@ use Rattle.evm_isa.specs.declared.inst.Inst.{Inst}
 use Rattle.evm_isa.specs.Encoded.{encoded}
 use Rattle.evm_asm.specs.evm_asm_lexer.declared.mnemonic.Section.{Section as Part}
 use Rattle.evm_asm.specs.evm_asm_lexer.declared.mnemonic.Section.TheVariants.{Text, Data}
-use Rattle.evm_asm.specs.evm_asm_lexer.declared.fault.AsmFaultKind.{AsmFaultKind}
+use Rattle.evm_asm.specs.evm_asm_lexer.declared.source_fault.SourceFaultKind.{SourceFaultKind}
 use Rattle.evm_asm.specs.evm_asm_lexer.declared.mnemonic.Width.{Width}
 use Rattle.evm_asm.specs.evm_asm_parser.Operands.{Spots, first_operand, other_operands}
 use Rattle.evm_asm.specs.evm_asm_parser.declared.statement.Statement.{Statement}
@@ -216,7 +216,7 @@ module _ (part : Part) (width : Width) (value at : ℕ) where
   abbrev pub IsThisNumber : ℕ → ℕ → Placed → Type 0
   IsThisNumber t d p = IsThis part (Number width value) at t d p
 
-  same_value : (v : ℕ) (r : Result ℕ AsmFaultKind) → r ≡ Ok v → r ≡ Ok value → v ≡ value
+  same_value : (v : ℕ) (r : Result ℕ SourceFaultKind) → r ≡ Ok v → r ≡ Ok value → v ≡ value
   same_value v r h k = cc
 
   number_comes : (labels : Spots) (size : ℕ) (text : List ℕ) (a b : List Placed) → number_pushed labels size part width text a ≡ Ok b → value_in labels size width text ≡ Ok value

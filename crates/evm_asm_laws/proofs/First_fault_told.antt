@@ -8,11 +8,11 @@ use Rattle.std.proofs.lemmas.Option.{slice_get_past}
 use Rattle.std.proofs.Math.Seq.{take-append_seam}
 use Rattle.std.specs.Prelude.{IsOk}
 use Rattle.std.proofs.lemmas.List.{append-nil}
-use Rattle.evm_asm.specs.evm_asm_lexer.declared.fault.AsmFaultKind.{AsmFaultKind}
+use Rattle.evm_asm.specs.evm_asm_lexer.declared.source_fault.SourceFaultKind.{SourceFaultKind}
 use Rattle.evm_asm.specs.evm_asm_lexer.declared.mnemonic.Section.{Section as Part}
 use Rattle.evm_asm.specs.evm_asm_lexer.declared.mnemonic.Width.{Width}
 use Rattle.evm_asm.specs.evm_asm_lexer.Faults.{◌>>=◌, least}
-use Rattle.evm_asm.specs.evm_asm_lexer.declared.fault.AsmFault.{AsmFault}
+use Rattle.evm_asm.specs.evm_asm_lexer.declared.source_fault.SourceFault.{SourceFault}
 use Rattle.evm_asm.specs.evm_asm_parser.declared.statement.Statement.{Statement}
 use Rattle.evm_asm.specs.evm_asm_parser.declared.statement.Statement.TheVariants.{Numbers, Space, Align}
 use Rattle.evm_asm.specs.evm_asm_parser.Operands.{Spots, first_operand, other_operands}
@@ -30,11 +30,11 @@ use Rattle.evm_asm_laws.proofs.Items_worded.{refused_as_meant}
 -- ---- the fault of a line doesn't depend on what stands before it in the output
 
 -- one reading twice, with two continuations that have the same faults
-each_goes_on : {A B : Type 0} (r : Result A AsmFaultKind) (f g : A → Result B AsmFaultKind) → ((x : A) → Like Whatever (f x) (g x)) → Like Whatever (r >>= f) (r >>= g)
+each_goes_on : {A B : Type 0} (r : Result A SourceFaultKind) (f g : A → Result B SourceFaultKind) → ((x : A) → Like Whatever (f x) (g x)) → Like Whatever (r >>= f) (r >>= g)
 each_goes_on (Ok x) f g h = h x
 each_goes_on (Err e) f g h = faults e
 
-goes_on : {A B : Type 0} (r s : Result A AsmFaultKind) (f g : A → Result B AsmFaultKind) → Like Whatever r s → ((x y : A) → Like Whatever (f x) (g y)) → Like Whatever (r >>= f) (s >>= g)
+goes_on : {A B : Type 0} (r s : Result A SourceFaultKind) (f g : A → Result B SourceFaultKind) → Like Whatever r s → ((x y : A) → Like Whatever (f x) (g y)) → Like Whatever (r >>= f) (s >>= g)
 goes_on _ _ f g (values x y h) k = k x y
 goes_on _ _ f g (faults e) k = faults e
 
@@ -63,7 +63,7 @@ module _ (labels : Spots) (size : ℕ) where
       each_goes_on (statement_in labels place text) _ _
       (λ s. goes_on _ _ _ _ (statement_same m n place text s a b) (λ x y. each_goes_on (place_behind place s) _ _ (λ next. values _ _ tt)))
 
-alike_fault : {A : Type 0} (r s : Result A AsmFaultKind) → Like Whatever r s → fault_in r ≡ fault_in s
+alike_fault : {A : Type 0} (r s : Result A SourceFaultKind) → Like Whatever r s → fault_in r ≡ fault_in s
 alike_fault _ _ (values a b h) = refl
 alike_fault _ _ (faults e) = refl
 
@@ -81,13 +81,13 @@ other_number m n true e h = absurd (grind (arith, nat_tests))
 other_number m n false e h = refl
 
 -- the fault, if there is one, is of a line behind the first m
-IsAfter : ℕ → Option AsmFault → Type 0
-IsAfter m first = (f : AsmFault) → first ≡ Some f → m < f.line
+IsAfter : ℕ → Option SourceFault → Type 0
+IsAfter m first = (f : SourceFault) → first ≡ Some f → m < f.line
 
-after_one : (m : ℕ) (first : Option AsmFault) (n : ℕ) (kind : Option AsmFaultKind) → m ≤ n → IsAfter m first → IsAfter m (first_fault first (n + 1) kind)
+after_one : (m : ℕ) (first : Option SourceFault) (n : ℕ) (kind : Option SourceFaultKind) → m ≤ n → IsAfter m first → IsAfter m (first_fault first (n + 1) kind)
 unfolding IsAfter
 after_one m (Some g) n kind le h = h
-after_one m None n (Some k) le h = λ f e. let same : ◌≡◌ {A = AsmFault} (record { line = n + 1; kind = k }) f = cc in let line : n + 1 ≡ f.line = ap (λ (g : AsmFault). g.line) same in omega arith
+after_one m None n (Some k) le h = λ f e. let same : ◌≡◌ {A = SourceFault} (record { line = n + 1; kind = k }) f = cc in let line : n + 1 ≡ f.line = ap (λ (g : SourceFault). g.line) same in omega arith
 after_one m None n None le h = λ f e. cc
 
 laid_after : (m : ℕ) (s : Laid) (lines : List (List ℕ)) → m ≤ s.lines → IsAfter m s.first → IsAfter m (laid s lines).first
@@ -95,16 +95,16 @@ unfolding laid with_line_laid
 laid_after m s [] le h = h
 laid_after m s (line ∷ lines) le h = laid_after m (with_line_laid s line) lines (omega arith) (after_one m s.first s.lines (line_laid s.labels s.place (code_of line)).1.1 le h)
 
-laid_stays : (s : Laid) (lines : List (List ℕ)) (f : AsmFault) → s.first ≡ Some f → (laid s lines).first ≡ Some f
+laid_stays : (s : Laid) (lines : List (List ℕ)) (f : SourceFault) → s.first ≡ Some f → (laid s lines).first ≡ Some f
 unfolding laid with_line_laid
 laid_stays s [] f h = h
-laid_stays s (line ∷ lines) f h = laid_stays (with_line_laid s line) lines f (ap (λ (o : Option AsmFault). first_fault o (s.lines + 1) (line_laid s.labels s.place (code_of line)).1.1) h)
+laid_stays s (line ∷ lines) f h = laid_stays (with_line_laid s line) lines f (ap (λ (o : Option SourceFault). first_fault o (s.lines + 1) (line_laid s.labels s.place (code_of line)).1.1) h)
 
 -- a fault of line n
-abbrev fault_of_line : ℕ → Option AsmFaultKind → Option AsmFault
+abbrev fault_of_line : ℕ → Option SourceFaultKind → Option SourceFault
 fault_of_line n kind = option_map (λ k. record { line = n; kind = k }) kind
 
-none_here : (n : ℕ) (first : Option AsmFault) → IsAfter n first → stop_at first n ≡ None
+none_here : (n : ℕ) (first : Option SourceFault) → IsAfter n first → stop_at first n ≡ None
 unfolding IsAfter
 none_here n None h = refl
 none_here n (Some f) h =
@@ -113,57 +113,57 @@ none_here n (Some f) h =
     ap (λ (t : Bool). cond t (Some f) None) t
 
 -- the fault that laying out the whole found in this line is the one that laying out the line finds
-stops_here : (s : Laid) (line : List ℕ) (rest : List (List ℕ)) (kind : Option AsmFaultKind) → (line_laid s.labels s.place (code_of line)).1.1 ≡ kind → s.first ≡ None
+stops_here : (s : Laid) (line : List ℕ) (rest : List (List ℕ)) (kind : Option SourceFaultKind) → (line_laid s.labels s.place (code_of line)).1.1 ≡ kind → s.first ≡ None
     → stop_at (laid (with_line_laid s line) rest).first (s.lines + 1) ≡ fault_of_line (s.lines + 1) kind
 unfolding with_line_laid IsAfter
 stops_here s line rest None e none =
     none_here (s.lines + 1) _
     (laid_after (s.lines + 1) (with_line_laid s line) rest (omega arith)
-    (λ f h. let clean : (with_line_laid s line).first ≡ None = ap (λ (o : Option AsmFault). first_fault o (s.lines + 1) (line_laid s.labels s.place (code_of line)).1.1) none ∙ ap (λ (k : Option AsmFaultKind). first_fault None (s.lines + 1) k) e in cc))
+    (λ f h. let clean : (with_line_laid s line).first ≡ None = ap (λ (o : Option SourceFault). first_fault o (s.lines + 1) (line_laid s.labels s.place (code_of line)).1.1) none ∙ ap (λ (k : Option SourceFaultKind). first_fault None (s.lines + 1) k) e in cc))
 stops_here s line rest (Some kind) e none =
-    let f : AsmFault = record { line = s.lines + 1; kind = kind } in
-    let found : (with_line_laid s line).first ≡ Some f = ap (λ (o : Option AsmFault). first_fault o (s.lines + 1) (line_laid s.labels s.place (code_of line)).1.1) none ∙ ap (λ (k : Option AsmFaultKind). first_fault None (s.lines + 1) k) e in
-    ap (λ (o : Option AsmFault). stop_at o (s.lines + 1)) (laid_stays (with_line_laid s line) rest f found)
+    let f : SourceFault = record { line = s.lines + 1; kind = kind } in
+    let found : (with_line_laid s line).first ≡ Some f = ap (λ (o : Option SourceFault). first_fault o (s.lines + 1) (line_laid s.labels s.place (code_of line)).1.1) none ∙ ap (λ (k : Option SourceFaultKind). first_fault None (s.lines + 1) k) e in
+    ap (λ (o : Option SourceFault). stop_at o (s.lines + 1)) (laid_stays (with_line_laid s line) rest f found)
     ∙ ap (λ (t : Bool). cond t (Some f) None) (same_number (s.lines + 1) (s.lines + 1) _ refl refl)
 
 -- what is told of a line depends on the fault that was found in it alone
-told_by : {A : Type 0} (f : AsmFault) (n : ℕ) (t : Bool) (r : Result A AsmFaultKind) → (f.line == n) ≡ t → meaning_or_fault (Some f) n r ≡ meaning_or_fault (cond t (Some f) None) n r
+told_by : {A : Type 0} (f : SourceFault) (n : ℕ) (t : Bool) (r : Result A SourceFaultKind) → (f.line == n) ≡ t → meaning_or_fault (Some f) n r ≡ meaning_or_fault (cond t (Some f) None) n r
 told_by f n true r e = refl
 told_by f n false (Ok a) e = ap (λ (t : Bool). unless_stopped (cond t (Some f) None) a) e
-told_by {A} f n false (Err kind) e = ap (λ (t : Bool). let x : Result A AsmFault = Err (record { line = n; kind = cond t (least f.kind kind) kind }) in x) e
+told_by {A} f n false (Err kind) e = ap (λ (t : Bool). let x : Result A SourceFault = Err (record { line = n; kind = cond t (least f.kind kind) kind }) in x) e
 
-told_same : {A : Type 0} (first : Option AsmFault) (n : ℕ) (r : Result A AsmFaultKind) → meaning_or_fault first n r ≡ meaning_or_fault (stop_at first n) n r
+told_same : {A : Type 0} (first : Option SourceFault) (n : ℕ) (r : Result A SourceFaultKind) → meaning_or_fault first n r ≡ meaning_or_fault (stop_at first n) n r
 told_same None n r = refl
 told_same (Some f) n r = told_by f n (f.line == n) r refl
 
-told_stopped : {A : Type 0} (f : AsmFault) (c : AsmFaultKind) (n : ℕ) (t : Bool) (a : A) → t ≡ true → ◌≡◌ {A = Result A AsmFault} (unless_stopped (cond t (Some (record { line = n; kind = c })) None) a) (Err f)
-    → (f.line ≡ n) × (◌≡◌ {A = Option AsmFaultKind} (Some c) (Some f.kind))
-told_stopped f c n true a e h = let same : ◌≡◌ {A = AsmFault} (record { line = n; kind = c }) f = cc in (sym (ap (λ (g : AsmFault). g.line) same), ap (λ (g : AsmFault). Some g.kind) same)
+told_stopped : {A : Type 0} (f : SourceFault) (c : SourceFaultKind) (n : ℕ) (t : Bool) (a : A) → t ≡ true → ◌≡◌ {A = Result A SourceFault} (unless_stopped (cond t (Some (record { line = n; kind = c })) None) a) (Err f)
+    → (f.line ≡ n) × (◌≡◌ {A = Option SourceFaultKind} (Some c) (Some f.kind))
+told_stopped f c n true a e h = let same : ◌≡◌ {A = SourceFault} (record { line = n; kind = c }) f = cc in (sym (ap (λ (g : SourceFault). g.line) same), ap (λ (g : SourceFault). Some g.kind) same)
 told_stopped f c n false a e h = cc
 
-told_both : {A : Type 0} (f : AsmFault) (c k : AsmFaultKind) (n : ℕ) (t : Bool) → t ≡ true → ◌≡◌ {A = Result A AsmFault} (Err (record { line = n; kind = cond t (least c k) k })) (Err f)
-    → (f.line ≡ n) × (◌≡◌ {A = Option AsmFaultKind} (Some (least c k)) (Some f.kind))
-told_both f c k n true e h = let same : ◌≡◌ {A = AsmFault} (record { line = n; kind = least c k }) f = cc in (sym (ap (λ (g : AsmFault). g.line) same), ap (λ (g : AsmFault). Some g.kind) same)
+told_both : {A : Type 0} (f : SourceFault) (c k : SourceFaultKind) (n : ℕ) (t : Bool) → t ≡ true → ◌≡◌ {A = Result A SourceFault} (Err (record { line = n; kind = cond t (least c k) k })) (Err f)
+    → (f.line ≡ n) × (◌≡◌ {A = Option SourceFaultKind} (Some (least c k)) (Some f.kind))
+told_both f c k n true e h = let same : ◌≡◌ {A = SourceFault} (record { line = n; kind = least c k }) f = cc in (sym (ap (λ (g : SourceFault). g.line) same), ap (λ (g : SourceFault). Some g.kind) same)
 told_both f c k n false e h = cc
 
 -- the fault that is told of a line is the least of the two
-told_fault : {A : Type 0} (n : ℕ) (kind : Option AsmFaultKind) (r : Result A AsmFaultKind) (f : AsmFault) → meaning_or_fault (fault_of_line n kind) n r ≡ Err f → (f.line ≡ n) × (lesser kind (fault_in r) ≡ Some f.kind)
+told_fault : {A : Type 0} (n : ℕ) (kind : Option SourceFaultKind) (r : Result A SourceFaultKind) (f : SourceFault) → meaning_or_fault (fault_of_line n kind) n r ≡ Err f → (f.line ≡ n) × (lesser kind (fault_in r) ≡ Some f.kind)
 told_fault n None (Ok a) f h = cc
-told_fault n None (Err k) f h = let same : ◌≡◌ {A = AsmFault} (record { line = n; kind = k }) f = cc in (sym (ap (λ (g : AsmFault). g.line) same), ap (λ (g : AsmFault). Some g.kind) same)
+told_fault n None (Err k) f h = let same : ◌≡◌ {A = SourceFault} (record { line = n; kind = k }) f = cc in (sym (ap (λ (g : SourceFault). g.line) same), ap (λ (g : SourceFault). Some g.kind) same)
 told_fault n (Some c) (Ok a) f h = told_stopped f c n (n == n) a (same_number n n _ refl refl) h
 told_fault {A} n (Some c) (Err k) f h = told_both {A = A} f c k n (n == n) (same_number n n _ refl refl) h
 
-not_stopped : {A : Type 0} (c : AsmFault) (t : Bool) (a x : A) → t ≡ true → unless_stopped (cond t (Some c) None) a ≡ Ok x → ⊥
+not_stopped : {A : Type 0} (c : SourceFault) (t : Bool) (a x : A) → t ≡ true → unless_stopped (cond t (Some c) None) a ≡ Ok x → ⊥
 not_stopped c true a x e h = cc
 not_stopped c false a x e h = cc
 
-told_clean : {A : Type 0} (n : ℕ) (kind : Option AsmFaultKind) (r : Result A AsmFaultKind) (x : A) → meaning_or_fault (fault_of_line n kind) n r ≡ Ok x → (r ≡ Ok x) × (kind ≡ None)
+told_clean : {A : Type 0} (n : ℕ) (kind : Option SourceFaultKind) (r : Result A SourceFaultKind) (x : A) → meaning_or_fault (fault_of_line n kind) n r ≡ Ok x → (r ≡ Ok x) × (kind ≡ None)
 told_clean n None (Ok a) x h = let same : a ≡ x = cc in (ap (λ (y : _). Ok y) same, refl)
 told_clean n None (Err k) x h = cc
 told_clean n (Some c) (Ok a) x h = absurd (not_stopped (record { line = n; kind = c }) (n == n) a x (same_number n n _ refl refl) h)
 told_clean n (Some c) (Err k) x h = cc
 
-abbrev told_alone : {A : Type 0} → ℕ → Result A AsmFaultKind → Result A AsmFault
+abbrev told_alone : {A : Type 0} → ℕ → Result A SourceFaultKind → Result A SourceFault
 told_alone n r = meaning_or_fault None n r
 
 pub fault_past : (source : List ℕ) (n : ℕ) → length (source_lines source) < n → fault_at source n ≡ None
@@ -184,10 +184,10 @@ module _ (source : List ℕ) (xs : List (List ℕ)) (line : List ℕ) (rest : Li
   whole_is = ap (λ (ls : List (List ℕ)). laid nothing_laid ls) split ∙ laid-append nothing_laid xs (line ∷ rest)
 
   module _ (clean : (laid nothing_laid xs).first ≡ None) (n : ℕ) (place : Place) (number : n ≡ length xs + 1) (is : place ≡ (laid nothing_laid xs).place) (a : List Placed) where
-    abbrev found : Option AsmFaultKind
+    abbrev found : Option SourceFaultKind
     found = (line_laid (laid nothing_laid xs).labels (laid nothing_laid xs).place (code_of line)).1.1
 
-    abbrev meant : Result (Place × List Placed) AsmFaultKind
+    abbrev meant : Result (Place × List Placed) SourceFaultKind
     meant = line_meant (layout_of source).labels (layout_of source).place.text_size n place (statement_text (code_of line)) a
 
     stopped : stop_at (layout_of source).first n ≡ fault_of_line n found
@@ -198,16 +198,16 @@ module _ (source : List ℕ) (xs : List (List ℕ)) (line : List ℕ) (rest : Li
 
     told_line : line_or_fault (layout_of source).labels (layout_of source).place.text_size (layout_of source).first n place (code_of line) a ≡ meaning_or_fault (fault_of_line n found) n meant
     unfolding line_or_fault
-    told_line = told_same (layout_of source).first n meant ∙ ap (λ (o : Option AsmFault). meaning_or_fault o n meant) stopped
+    told_line = told_same (layout_of source).first n meant ∙ ap (λ (o : Option SourceFault). meaning_or_fault o n meant) stopped
 
     fault_found : fault_at source (suc (length xs)) ≡ lesser found (fault_in meant)
     fault_found =
         fault_is
-        ∙ ap (λ (k : Option AsmFaultKind). lesser found k)
+        ∙ ap (λ (k : Option SourceFaultKind). lesser found k)
         (line_fault_same (layout_of source).labels (layout_of source).place.text_size 0 n (laid nothing_laid xs).place (statement_text (code_of line)) [] a
         ∙ ap (λ (p : Place). fault_in (line_meant (layout_of source).labels (layout_of source).place.text_size n p (statement_text (code_of line)) a)) (sym is))
 
-    pub refused : (f : AsmFault) → line_or_fault (layout_of source).labels (layout_of source).place.text_size (layout_of source).first n place (code_of line) a ≡ Err f
+    pub refused : (f : SourceFault) → line_or_fault (layout_of source).labels (layout_of source).place.text_size (layout_of source).first n place (code_of line) a ≡ Err f
         → (f.line ≡ suc (length xs)) × (fault_at source (suc (length xs)) ≡ Some f.kind)
     refused f h =
         let meaning_or_fault = told_fault n found meant f (sym told_line ∙ h) in
@@ -221,19 +221,19 @@ module _ (source : List ℕ) (xs : List (List ℕ)) (line : List ℕ) (rest : Li
         let labels = (layout_of source).labels in
         let size : ℕ = (layout_of source).place.text_size in
         let s : Laid = laid nothing_laid xs in
-        let none : (with_line_laid s line).first ≡ None = ap (λ (o : Option AsmFault). first_fault o (s.lines + 1) found) clean ∙ ap (λ (k : Option AsmFaultKind). first_fault None (s.lines + 1) k) meaning_or_fault.1 in
-        let l = line_of_told labels size n None place (code_of line) a x refl (ap (λ (r : Result (Place × List Placed) AsmFaultKind). told_alone n r) meaning_or_fault.0) in
+        let none : (with_line_laid s line).first ≡ None = ap (λ (o : Option SourceFault). first_fault o (s.lines + 1) found) clean ∙ ap (λ (k : Option SourceFaultKind). first_fault None (s.lines + 1) k) meaning_or_fault.1 in
+        let l = line_of_told labels size n None place (code_of line) a x refl (ap (λ (r : Result (Place × List Placed) SourceFaultKind). told_alone n r) meaning_or_fault.0) in
         let there : Line labels size n s.place x.0 (statement_text (code_of line)) a x.1 = subst (λ (p : Place). Line labels size n p x.0 (statement_text (code_of line)) a x.1) is l in
-        (same_next size n s line labels x.0 a x.1 none there, none, fault_found ∙ ap (λ (k : Option AsmFaultKind). lesser k (fault_in meant)) meaning_or_fault.1 ∙ ap (λ (r : Result (Place × List Placed) AsmFaultKind). fault_in r) meaning_or_fault.0)
+        (same_next size n s line labels x.0 a x.1 none there, none, fault_found ∙ ap (λ (k : Option SourceFaultKind). lesser k (fault_in meant)) meaning_or_fault.1 ∙ ap (λ (r : Result (Place × List Placed) SourceFaultKind). fault_in r) meaning_or_fault.0)
 
 -- ---- a source is refused with the least fault of its first line that has any, and else means something
 
 -- no line has a fault, or this one is the first and least
-abbrev Tells : List ℕ → Result (List Placed) AsmFault → Type 0
+abbrev Tells : List ℕ → Result (List Placed) SourceFault → Type 0
 Tells source (Ok items) = (n : ℕ) → fault_at source n ≡ None
 Tells source (Err fault) = IsFirstFault source fault
 
-either_told : (source : List ℕ) (before : ℕ) (rest : List (List ℕ)) (t : Result (Place × List Placed) AsmFault) → ((f : AsmFault) → t ≡ Err f → IsFirstFault source f)
+either_told : (source : List ℕ) (before : ℕ) (rest : List (List ℕ)) (t : Result (Place × List Placed) SourceFault) → ((f : SourceFault) → t ≡ Err f → IsFirstFault source f)
     → ((x : Place × List Placed) → t ≡ Ok x → Tells source (lines_meant (layout_of source) before x.0 rest x.1)) → Tells source (and_then t (λ x. lines_meant (layout_of source) before x.0 rest x.1))
 either_told source before rest (Ok x) h k = k x refl
 either_told source before rest (Err f) h k = h f refl
@@ -271,31 +271,31 @@ meaning_told : (source : List ℕ) → Tells source (meaning_of source)
 unfolding meaning_of laid
 meaning_told source = told source [] (source_lines source) refl refl 0 source_start refl refl (none_before source) []
 
-same_fault : (f g : AsmFault) → f.line ≡ g.line → f.kind ≡ g.kind → f ≡ g
+same_fault : (f g : SourceFault) → f.line ≡ g.line → f.kind ≡ g.kind → f ≡ g
 same_fault f g h k =
-    ap (λ (n : ℕ). let r : AsmFault = record { line = n; kind = f.kind } in r) h ∙ ap (λ (kind : AsmFaultKind). let r : AsmFault = record { line = g.line; kind = kind } in r) k
+    ap (λ (n : ℕ). let r : SourceFault = record { line = n; kind = f.kind } in r) h ∙ ap (λ (kind : SourceFaultKind). let r : SourceFault = record { line = g.line; kind = kind } in r) k
 
-one_first : (source : List ℕ) (f g : AsmFault) → IsFirstFault source f → IsFirstFault source g → f ≡ g
+one_first : (source : List ℕ) (f g : SourceFault) → IsFirstFault source f → IsFirstFault source g → f ≡ g
 one_first source f g h k =
     let not_less : f.line < g.line → ⊥ = λ less. let none = k.1 f.line less in let some = h.0 in cc in
     let not_more : g.line < f.line → ⊥ = λ less. let none = h.1 g.line less in let some = k.0 in cc in
     let line : f.line ≡ g.line = omega (arith, not_less, not_more) in
-    let kinds : ◌≡◌ {A = Option AsmFaultKind} (Some f.kind) (Some g.kind) = sym h.0 ∙ ap (λ (n : ℕ). fault_at source n) line ∙ k.0 in
+    let kinds : ◌≡◌ {A = Option SourceFaultKind} (Some f.kind) (Some g.kind) = sym h.0 ∙ ap (λ (n : ℕ). fault_at source n) line ∙ k.0 in
     let kind : f.kind ≡ g.kind = cc in
     same_fault f g line kind
 
-told_first : (source : List ℕ) (fault : AsmFault) (r : Result (List Placed) AsmFault) → Tells source r → IsFirstFault source fault → r ≡ Err fault
+told_first : (source : List ℕ) (fault : SourceFault) (r : Result (List Placed) SourceFault) → Tells source r → IsFirstFault source fault → r ≡ Err fault
 told_first source fault (Ok items) h k = let none = h fault.line in let some = k.0 in cc
-told_first source fault (Err f) h k = ap (λ (g : AsmFault). Err g) (one_first source f fault h k)
+told_first source fault (Err f) h k = ap (λ (g : SourceFault). Err g) (one_first source f fault h k)
 
-pub refuses : (source : List ℕ) (fault : AsmFault) → meaning_of source ≡ Err fault ↔ IsFirstFault source fault
-refuses source fault = (λ h. subst (λ (r : Result (List Placed) AsmFault). Tells source r) h (meaning_told source), λ h. told_first source fault (meaning_of source) (meaning_told source) h)
+pub refuses : (source : List ℕ) (fault : SourceFault) → meaning_of source ≡ Err fault ↔ IsFirstFault source fault
+refuses source fault = (λ h. subst (λ (r : Result (List Placed) SourceFault). Tells source r) h (meaning_told source), λ h. told_first source fault (meaning_of source) (meaning_told source) h)
 
-none_told : (source : List ℕ) (r : Result (List Placed) AsmFault) → Tells source r → IsOk r → (n : ℕ) → fault_at source n ≡ None
+none_told : (source : List ℕ) (r : Result (List Placed) SourceFault) → Tells source r → IsOk r → (n : ℕ) → fault_at source n ≡ None
 none_told source (Ok items) h k = h
 none_told source (Err f) h k = cc
 
-all_clean : (source : List ℕ) (r : Result (List Placed) AsmFault) → Tells source r → ((n : ℕ) → fault_at source n ≡ None) → IsOk r
+all_clean : (source : List ℕ) (r : Result (List Placed) SourceFault) → Tells source r → ((n : ℕ) → fault_at source n ≡ None) → IsOk r
 all_clean source (Ok items) h k = refl
 all_clean source (Err f) h k = let none = k f.line in let some = h.0 in cc
 

@@ -10,7 +10,7 @@ use Rattle.evm_isa.specs.declared.inst.ShiftOp.{ShiftOp}
 use Rattle.evm_isa.specs.declared.inst.ShiftOp.TheVariants.{Slli, Srli, Srai, Slliw, Srliw, Sraiw}
 use Rattle.evm_isa.specs.declared.inst.WordOp.TheVariants.{Subw}
 use Rattle.evm_isa.specs.Encoded.{amounts}
-use Rattle.evm_asm.specs.evm_asm_lexer.declared.fault.AsmFaultKind.TheVariants.{BadToken, RangeOfImmediate}
+use Rattle.evm_asm.specs.evm_asm_lexer.declared.source_fault.SourceFaultKind.TheVariants.{BadToken, RangeOfImmediate}
 use Rattle.evm_asm.specs.evm_asm_lexer.declared.mnemonic.BareOp.{BareOp}
 use Rattle.evm_asm.specs.evm_asm_lexer.declared.mnemonic.BareOp.TheVariants.{Fence, Ecall, Ebreak, Nop, Ret}
 use Rattle.evm_asm.specs.evm_asm_lexer.declared.mnemonic.UnaryOp.{UnaryOp}
@@ -18,7 +18,7 @@ use Rattle.evm_asm.specs.evm_asm_lexer.declared.mnemonic.UnaryOp.TheVariants.{Mv
 use Rattle.evm_asm.specs.evm_asm_lexer.declared.mnemonic.Mnemonic.{Mnemonic}
 use Rattle.evm_asm.specs.evm_asm_lexer.Text.{skip_blanks, first_word, behind_word, starts_with, is_name_start, is_empty, is_sound}
 use Rattle.evm_asm.specs.evm_asm_lexer.Names.{mnemonic_named}
-use Rattle.evm_asm.specs.evm_asm_lexer.declared.fault.AsmFault.{AsmFault}
+use Rattle.evm_asm.specs.evm_asm_lexer.declared.source_fault.SourceFault.{SourceFault}
 use Rattle.evm_asm.specs.evm_asm_lexer.declared.mnemonic.Section.{Section as Part}
 use Rattle.evm_asm.specs.evm_asm_lexer.declared.mnemonic.Width.{Width}
 use Rattle.evm_asm.specs.evm_asm_lexer.Faults.{◌>>=◌}
@@ -336,7 +336,7 @@ all_spelled [] s all = (s, refl)
 all_spelled (p ∷ ps) s all =
     let one = item_spelled p.section p.item s (All-head IsSpellable p ps all) in
     let others = all_spelled ps one.0 (All-tail IsSpellable p ps all) in
-    (others.0, ap (λ (r : Result Spelled AsmFault). and_then r (spelled ps)) one.1 ∙ others.1)
+    (others.0, ap (λ (r : Result Spelled SourceFault). and_then r (spelled ps)) one.1 ∙ others.1)
 
 pub spelling_never_fails : SpellingNeverFails
 spelling_never_fails source items h = all_spelled items nothing_spelled (every_item_has_its_word source items h)
@@ -347,12 +347,12 @@ program_from : (source : List ℕ) (items : List Placed) (s : Spelled) → spell
     → (p : Assembled) × (and_then (spelled items nothing_spelled) (λ s. Ok (assembled (layout_of source).place.text_size (layout_of source).labels s)) ≡ Ok p)
 program_from source items s h =
     let l = layout_of source in
-    (assembled l.place.text_size l.labels s, ap (λ (r : Result Spelled AsmFault). and_then r (λ s. Ok (assembled l.place.text_size l.labels s))) h)
+    (assembled l.place.text_size l.labels s, ap (λ (r : Result Spelled SourceFault). and_then r (λ s. Ok (assembled l.place.text_size l.labels s))) h)
 
-AsMeant : Result Assembled AsmFault → Result (List Placed) AsmFault → Type 0
-AsMeant program meant = ((fault : AsmFault) → (program ≡ Err fault) ↔ (meant ≡ Err fault)) × (IsOk program ↔ IsOk meant)
+AsMeant : Result Assembled SourceFault → Result (List Placed) SourceFault → Type 0
+AsMeant program meant = ((fault : SourceFault) → (program ≡ Err fault) ↔ (meant ≡ Err fault)) × (IsOk program ↔ IsOk meant)
 
-as_meant : (f : List Placed → Result Assembled AsmFault) (m : Result (List Placed) AsmFault)
+as_meant : (f : List Placed → Result Assembled SourceFault) (m : Result (List Placed) SourceFault)
     → ((items : List Placed) → m ≡ Ok items → (p : Assembled) × (f items ≡ Ok p)) → AsMeant (and_then m f) m
 unfolding AsMeant
 as_meant f (Ok items) h = let k = h items refl in ((λ fault. (λ e. absurd (cc), λ e. absurd (cc))), (λ _. refl, λ _. ap is_ok k.1))

@@ -5,7 +5,7 @@ use Rattle.std.specs.Option.{option_map}
 use Rattle.std.specs.Str.{bytes_eq}
 use Rattle.std.proofs.lemmas.Slice.Eq.{bytes_eq-Decides}
 use Rattle.evm_asm.specs.evm_asm_lexer.Characters.{colon}
-use Rattle.evm_asm.specs.evm_asm_lexer.declared.fault.AsmFaultKind.{AsmFaultKind}
+use Rattle.evm_asm.specs.evm_asm_lexer.declared.source_fault.SourceFaultKind.{SourceFaultKind}
 use Rattle.evm_asm.specs.evm_asm_lexer.Text.{before, after, has}
 use Rattle.evm_asm.specs.evm_asm_lexer.Names.{named}
 use Rattle.evm_asm.specs.evm_asm_parser.declared.spot.Spot.{Spot}
@@ -138,7 +138,7 @@ few (suc j) text (Some first) label e h =
     let others = few j first.1 (label_at first.1) label refl (ap (λ (t : List ℕ). label_at t) (sym (one_label j text first.0 first.1 e)) ∙ h) in
     omega arith
 
-pub once_told : (place : Place) (twice : Bool) (r : Result Place AsmFaultKind) → (outcome place twice r).1 ≡ None → twice ≡ false
+pub once_told : (place : Place) (twice : Bool) (r : Result Place SourceFaultKind) → (outcome place twice r).1 ≡ None → twice ≡ false
 once_told place false r h = refl
 once_told place true (Ok next) h = cc
 once_told place true (Err kind) h = cc

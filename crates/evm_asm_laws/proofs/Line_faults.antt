@@ -1,9 +1,9 @@
 -- The fault that is told of a line is the least of what is wrong with it.
 use Rattle.std.proofs.Common.{◌≡◌, ◌∙◌, ◌≤◌, ◌⊎◌, ℕ, zero, suc, ◌+◌, Bool, true, false, cond, ◌==◌, List, [], take, slice_get, Option, Some, None, option_and_then, Result, Ok, Err, ap, refl, sym, subst, inl, inr, ⊎_elim, arith}
-use Rattle.evm_asm.specs.evm_asm_lexer.declared.fault.AsmFault.{AsmFault}
-use Rattle.evm_asm.specs.evm_asm_lexer.declared.fault.AsmFaultKind.{AsmFaultKind}
-use Rattle.evm_asm.specs.evm_asm_lexer.declared.fault.AsmFaultKind.TheVariants.{BadToken, UnknownName, BadOperand, RangeOfImmediate, LabelTwice, LabelMissing, TooLarge, NoMemory}
-use Rattle.evm_asm.specs.evm_asm_lexer.Faults.{kind_number, ◌>>=◌}
+use Rattle.evm_asm.specs.evm_asm_lexer.declared.source_fault.SourceFault.{SourceFault}
+use Rattle.evm_asm.specs.evm_asm_lexer.declared.source_fault.SourceFaultKind.{SourceFaultKind}
+use Rattle.evm_asm.specs.evm_asm_lexer.declared.source_fault.SourceFaultKind.TheVariants.{BadToken, UnknownName, BadOperand, RangeOfImmediate, LabelTwice, LabelMissing, TooLarge}
+use Rattle.evm_asm.specs.evm_asm_lexer.Faults.{source_number, ◌>>=◌}
 use Rattle.evm_asm.specs.evm_asm_parser.declared.statement.Statement.{Statement}
 use Rattle.evm_asm.specs.evm_asm_parser.declared.statement.Statement.TheVariants.{Branch, Jump, LoadAddress, Numbers}
 use Rattle.evm_asm.specs.evm_asm_parser.Operands.{Spots}
@@ -26,21 +26,21 @@ use Rattle.evm_asm_laws.proofs.Labels_found.{label_twice}
 
 module _ (labels : Spots) (size : ℕ) (place : Place) (text : List ℕ) where
   -- a label that is too far, or that no line defines
-  abbrev LabelFault : Statement → AsmFaultKind → Type 0
+  abbrev LabelFault : Statement → SourceFaultKind → Type 0
   LabelFault s kind = Only RangeOfImmediate (IsFar size (text_base + place.text_size) s) kind ⊎ Only LabelMissing (LacksLabel labels text s) kind
 
-  far_alone : (s : Statement) (o : Option AsmFaultKind) → (LacksLabel labels text s → ⊥) → IsLeast (Only RangeOfImmediate (IsFar size (text_base + place.text_size) s)) o → IsLeast (LabelFault s) o
+  far_alone : (s : Statement) (o : Option SourceFaultKind) → (LacksLabel labels text s → ⊥) → IsLeast (Only RangeOfImmediate (IsFar size (text_base + place.text_size) s)) o → IsLeast (LabelFault s) o
   far_alone s o none h =
       same_least _ (LabelFault s) o (λ kind w. inl w) (λ kind w. ⊎_elim (λ x. x) (λ x. absurd (none x.1)) w) h
 
-  missing_alone : (s : Statement) (o : Option AsmFaultKind) → (IsFar size (text_base + place.text_size) s → ⊥) → IsLeast (Only LabelMissing (LacksLabel labels text s)) o → IsLeast (LabelFault s) o
+  missing_alone : (s : Statement) (o : Option SourceFaultKind) → (IsFar size (text_base + place.text_size) s → ⊥) → IsLeast (Only LabelMissing (LacksLabel labels text s)) o → IsLeast (LabelFault s) o
   missing_alone s o none h =
       same_least _ (LabelFault s) o (λ kind w. inr w) (λ kind w. ⊎_elim (λ x. absurd (none x.1)) (λ x. x) w) h
 
   nothing_wrong : (s : Statement) → (IsFar size (text_base + place.text_size) s → ⊥) → (LacksLabel labels text s → ⊥) → IsLeast (LabelFault s) None
   nothing_wrong s a b = λ kind w. ⊎_elim (λ x. a x.1) (λ x. b x.1) w
 
-  spelled_fault : {A : Type 0} (r : Result A AsmFaultKind) (f : A → Expansion) (line : ℕ) (a : List Placed)
+  spelled_fault : {A : Type 0} (r : Result A SourceFaultKind) (f : A → Expansion) (line : ℕ) (a : List Placed)
       → fault_in r ≡ fault_in ((r >>= λ d. Ok (f d)) >>= λ e. Ok (with_instructions line e a))
   spelled_fault (Ok d) f line a = refl
   spelled_fault (Err e) f line a = refl
@@ -61,16 +61,16 @@ module _ (labels : Spots) (size : ℕ) (place : Place) (text : List ℕ) where
       missing_alone (Numbers width count) _ (λ x. x) (numbers_least labels size place.section width count (operands text) a (all_read labels place text width count e))
   with_least line s a e = nothing_wrong s (λ x. x) (λ x. x)
 
-  at_most_six : (s : Statement) (kind : AsmFaultKind) → LabelFault s kind → kind_number kind ≤ 6
+  at_most_six : (s : Statement) (kind : SourceFaultKind) → LabelFault s kind → source_number kind ≤ 6
   at_most_six s kind w =
-      ⊎_elim (λ x. subst (λ (k : AsmFaultKind). kind_number k ≤ 6) (sym x.0) (omega arith)) (λ x. subst (λ (k : AsmFaultKind). kind_number k ≤ 6) (sym x.0) (omega arith)) w
+      ⊎_elim (λ x. subst (λ (k : SourceFaultKind). source_number k ≤ 6) (sym x.0) (omega arith)) (λ x. subst (λ (k : SourceFaultKind). source_number k ≤ 6) (sym x.0) (omega arith)) w
 
-  placed_by : (s : Statement) (w : Result (List Placed) AsmFaultKind) (b : Result Place AsmFaultKind) → IsLeast (LabelFault s) (fault_in w) → IsLeast (Only TooLarge (place_behind place s ≡ Err TooLarge)) (fault_in b)
+  placed_by : (s : Statement) (w : Result (List Placed) SourceFaultKind) (b : Result Place SourceFaultKind) → IsLeast (LabelFault s) (fault_in w) → IsLeast (Only TooLarge (place_behind place s ≡ Err TooLarge)) (fault_in b)
       → IsLeast (λ kind. LabelFault s kind ⊎ Only TooLarge (place_behind place s ≡ Err TooLarge) kind) (fault_in {A = Place × List Placed} (w >>= λ items. b >>= λ next. Ok (next, items)))
   placed_by s (Err f) b h k = (
     inl h.0,
     λ kind w. ⊎_elim (λ x. h.1 kind x)
-        (λ x. let less = at_most_six s f h.0 in subst (λ (k : AsmFaultKind). kind_number f ≤ kind_number k) (sym x.0) (omega arith)) w,
+        (λ x. let less = at_most_six s f h.0 in subst (λ (k : SourceFaultKind). source_number f ≤ source_number k) (sym x.0) (omega arith)) w,
   )
   placed_by s (Ok items) (Ok next) h k = λ kind w. ⊎_elim (λ x. h kind x) (λ x. k kind x) w
   placed_by s (Ok items) (Err f) h k = (inr k.0, λ kind w. ⊎_elim (λ x. absurd (h kind x)) (λ x. k.1 kind x) w)
@@ -82,16 +82,16 @@ module _ (labels : Spots) (size : ℕ) (place : Place) (text : List ℕ) where
 
   -- ---- what is wrong with the line
 
-  abbrev Large : AsmFaultKind → Type 0
+  abbrev Large : SourceFaultKind → Type 0
   Large kind = Only TooLarge (Said labels place text (λ s. place_behind place s ≡ Err TooLarge)) kind
 
-  abbrev Labelling : AsmFaultKind → Type 0
+  abbrev Labelling : SourceFaultKind → Type 0
   Labelling kind = Only RangeOfImmediate (Said labels place text (IsFar size (text_base + place.text_size))) kind ⊎ Only LabelMissing (Said labels place text (LacksLabel labels text)) kind
 
   said_it : (s : Statement) (P : Statement → Type 0) → statement_in labels place text ≡ Ok s → Said labels place text P → P s
   said_it s P e x = let both : ◌≡◌ {A = Reading} (Ok x.0) (Ok s) = sym x.1 ∙ e in let same : x.0 ≡ s = cc in subst P same x.2
 
-  unsaid : (f : AsmFaultKind) (P : Statement → Type 0) → statement_in labels place text ≡ Err f → Said labels place text P → ⊥
+  unsaid : (f : SourceFaultKind) (P : Statement → Type 0) → statement_in labels place text ≡ Err f → Said labels place text P → ⊥
   unsaid f P e x = let wrong : ◌≡◌ {A = Reading} (Ok x.0) (Err f) = sym x.1 ∙ e in cc
 
   measured_by : (r : Reading) → statement_in labels place text ≡ r → IsLeast (ReadingFault place text) (fault_in r) → IsLeast (λ kind. ReadingFault place text kind ⊎ Large kind) (fault_in (r >>= place_behind place))
@@ -120,7 +120,7 @@ module _ (labels : Spots) (size : ℕ) (place : Place) (text : List ℕ) where
   unfolding line_meant
   meant_least line = meant_by line (statement_in labels place text) refl (reading_least labels place text)
 
-outcome_fault : (place : Place) (t : Bool) (r : Result Place AsmFaultKind) → lesser (cond t (Some LabelTwice) None) (fault_in r) ≡ (outcome place t r).1
+outcome_fault : (place : Place) (t : Bool) (r : Result Place SourceFaultKind) → lesser (cond t (Some LabelTwice) None) (fault_in r) ≡ (outcome place t r).1
 outcome_fault place false (Ok next) = refl
 outcome_fault place false (Err kind) = refl
 outcome_fault place true (Ok next) = refl
@@ -146,25 +146,25 @@ module _ (whole : Laid) (earlier : List (List ℕ)) (line : List ℕ) where
       subst (IsLeast (λ kind. Only LabelTwice Twice kind ⊎ (ReadingFault before.place (text_behind_labels line) kind ⊎ Large whole.labels whole.place.text_size before.place (text_behind_labels line) kind)))
       (outcome_fault before.place twice (measured known before.place (text_behind_labels line)))
       (either_least (Only LabelTwice Twice) _ _ _ (let told = label_twice earlier line in twice_least twice Twice told.0 told.1)
-      (subst (λ (r : Result Place AsmFaultKind). IsLeast (λ kind. ReadingFault before.place (text_behind_labels line) kind ⊎ Large whole.labels whole.place.text_size before.place (text_behind_labels line) kind) (fault_in r)) same
+      (subst (λ (r : Result Place SourceFaultKind). IsLeast (λ kind. ReadingFault before.place (text_behind_labels line) kind ⊎ Large whole.labels whole.place.text_size before.place (text_behind_labels line) kind) (fault_in r)) same
       (measured_least whole.labels whole.place.text_size before.place (text_behind_labels line))))
 
-  abbrev All : AsmFaultKind → Type 0
+  abbrev All : SourceFaultKind → Type 0
   All kind =
       (Only LabelTwice Twice kind ⊎ (ReadingFault before.place (text_behind_labels line) kind ⊎ Large whole.labels whole.place.text_size before.place (text_behind_labels line) kind))
       ⊎ (ReadingFault before.place (text_behind_labels line) kind ⊎ (Labelling whole.labels whole.place.text_size before.place (text_behind_labels line) kind ⊎ Large whole.labels whole.place.text_size before.place (text_behind_labels line) kind))
 
-  reading_wrong : (kind : AsmFaultKind) → ReadingFault before.place (text_behind_labels line) kind → IsWrong whole earlier line kind
+  reading_wrong : (kind : SourceFaultKind) → ReadingFault before.place (text_behind_labels line) kind → IsWrong whole earlier line kind
   reading_wrong BadToken w = w
   reading_wrong UnknownName w = w
   reading_wrong BadOperand w = w
   reading_wrong RangeOfImmediate w = inl w
   reading_wrong kind w = absurd w
 
-  only_wrong : (e kind : AsmFaultKind) (P : Type 0) → (P → IsWrong whole earlier line e) → Only e P kind → IsWrong whole earlier line kind
+  only_wrong : (e kind : SourceFaultKind) (P : Type 0) → (P → IsWrong whole earlier line e) → Only e P kind → IsWrong whole earlier line kind
   only_wrong e kind P f w = subst (IsWrong whole earlier line) (sym w.0) (f w.1)
 
-  all_wrong : (kind : AsmFaultKind) → All kind → IsWrong whole earlier line kind
+  all_wrong : (kind : SourceFaultKind) → All kind → IsWrong whole earlier line kind
   all_wrong kind w =
       ⊎_elim
       (λ a. ⊎_elim (λ x. only_wrong LabelTwice kind _ (λ p. p) x) (λ b. ⊎_elim (λ x. reading_wrong kind x) (λ x. only_wrong TooLarge kind _ (λ p. p) x) b) a)
@@ -172,7 +172,7 @@ module _ (whole : Laid) (earlier : List (List ℕ)) (line : List ℕ) where
       (λ b. ⊎_elim (λ x. ⊎_elim (λ y. only_wrong RangeOfImmediate kind _ (λ p. inr p) y) (λ y. only_wrong LabelMissing kind _ (λ p. p) y) x) (λ x. only_wrong TooLarge kind _ (λ p. p) x) b) a)
       w
 
-  wrong_all : (kind : AsmFaultKind) → IsWrong whole earlier line kind → All kind
+  wrong_all : (kind : SourceFaultKind) → IsWrong whole earlier line kind → All kind
   wrong_all BadToken w = inr (inl w)
   wrong_all UnknownName w = inr (inl w)
   wrong_all BadOperand w = inr (inl w)
@@ -180,7 +180,6 @@ module _ (whole : Laid) (earlier : List (List ℕ)) (line : List ℕ) where
   wrong_all LabelTwice w = inl (inl (refl, w))
   wrong_all LabelMissing w = inr (inr (inl (inr (refl, w))))
   wrong_all TooLarge w = inl (inr (inr (refl, w)))
-  wrong_all NoMemory w = absurd w
 
   line_least : IsLeast (IsWrong whole earlier line) (line_fault whole before line)
   line_least =
@@ -202,12 +201,12 @@ unfolding fault_at
 fault_least source zero = λ kind w. w
 fault_least source (suc n) = found_least (layout_of source) (take n (source_lines source)) (source_lines source) n (slice_get (source_lines source) n) refl
 
-kind_of : ℕ → AsmFaultKind
+kind_of : ℕ → SourceFaultKind
 kind_of n =
     cond (n == 1) BadToken (cond (n == 2) UnknownName (cond (n == 3) BadOperand (cond (n == 4) RangeOfImmediate
-    (cond (n == 5) LabelTwice (cond (n == 6) LabelMissing (cond (n == 7) TooLarge NoMemory))))))
+    (cond (n == 5) LabelTwice (cond (n == 6) LabelMissing TooLarge)))))
 
-kind_again : (kind : AsmFaultKind) → kind_of (kind_number kind) ≡ kind
+kind_again : (kind : SourceFaultKind) → kind_of (source_number kind) ≡ kind
 unfolding kind_of
 kind_again BadToken = refl
 kind_again UnknownName = refl
@@ -216,25 +215,24 @@ kind_again RangeOfImmediate = refl
 kind_again LabelTwice = refl
 kind_again LabelMissing = refl
 kind_again TooLarge = refl
-kind_again NoMemory = refl
 
-same_kind : (a b : AsmFaultKind) → kind_number a ≡ kind_number b → a ≡ b
+same_kind : (a b : SourceFaultKind) → source_number a ≡ source_number b → a ≡ b
 same_kind a b h = sym (kind_again a) ∙ ap kind_of h ∙ kind_again b
 
-least_is : (H : AsmFaultKind → Type 0) (o : Option AsmFaultKind) (kind : AsmFaultKind) → IsLeast H o → H kind → ((other : AsmFaultKind) → H other → kind_number kind ≤ kind_number other) → o ≡ Some kind
+least_is : (H : SourceFaultKind → Type 0) (o : Option SourceFaultKind) (kind : SourceFaultKind) → IsLeast H o → H kind → ((other : SourceFaultKind) → H other → source_number kind ≤ source_number other) → o ≡ Some kind
 least_is H None kind h w min = absurd (h kind w)
 least_is H (Some e) kind h w min = ap Some (same_kind e kind (let a = h.1 kind w in let b = min e h.0 in omega arith))
 
-none_least : (H : AsmFaultKind → Type 0) (o : Option AsmFaultKind) → IsLeast H o → ((kind : AsmFaultKind) → H kind → ⊥) → o ≡ None
+none_least : (H : SourceFaultKind → Type 0) (o : Option SourceFaultKind) → IsLeast H o → ((kind : SourceFaultKind) → H kind → ⊥) → o ≡ None
 none_least H None h none = refl
 none_least H (Some e) h none = absurd (none e h.0)
 
-first_to : (source : List ℕ) (fault : AsmFault) → IsFirstFault source fault → IsLeastOfFirst source fault
+first_to : (source : List ℕ) (fault : SourceFault) → IsFirstFault source fault → IsLeastOfFirst source fault
 first_to source fault h =
     let here = subst (IsLeast (HasFault source fault.line)) h.0 (fault_least source fault.line) in
     (here.0, here.1, λ n less. subst (IsLeast (HasFault source n)) (h.1 n less) (fault_least source n))
 
-first_from : (source : List ℕ) (fault : AsmFault) → IsLeastOfFirst source fault → IsFirstFault source fault
+first_from : (source : List ℕ) (fault : SourceFault) → IsLeastOfFirst source fault → IsFirstFault source fault
 first_from source fault h = (
   least_is (HasFault source fault.line) (fault_at source fault.line) fault.kind (fault_least source fault.line) h.0 h.1,
   λ n less. none_least (HasFault source n) (fault_at source n) (fault_least source n) (h.2 n less),

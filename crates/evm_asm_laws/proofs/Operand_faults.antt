@@ -1,13 +1,13 @@
 -- The fault of a reading is the least of what is wrong with what it reads.
 use Rattle.std.proofs.Common.{◌≡◌, ◌≢◌, ◌∙◌, ◌<◌, ◌≤◌, ◌⊎◌, ℕ, zero, suc, Bool, true, false, cond, ◌&&◌, ◌==◌, nat_le, List, [], ◌∷◌, length, Option, Some, None, Result, Ok, Err, ap, refl, sym, subst, inl, inr, ⊎_elim, arith}
 use Rattle.std.proofs.lemmas.Bool.{leb-true, leb-false, eqb-true, eqb-false}
-use Rattle.evm_asm.specs.evm_asm_lexer.declared.fault.AsmFaultKind.{AsmFaultKind}
-use Rattle.evm_asm.specs.evm_asm_lexer.declared.fault.AsmFaultKind.TheVariants.{UnknownName, BadOperand, RangeOfImmediate}
+use Rattle.evm_asm.specs.evm_asm_lexer.declared.source_fault.SourceFaultKind.{SourceFaultKind}
+use Rattle.evm_asm.specs.evm_asm_lexer.declared.source_fault.SourceFaultKind.TheVariants.{UnknownName, BadOperand, RangeOfImmediate}
 use Rattle.evm_asm.specs.evm_asm_lexer.declared.mnemonic.Width.{Width}
 use Rattle.evm_asm.specs.evm_asm_lexer.declared.mnemonic.Width.TheVariants.{Byte, Word, Dword}
 use Rattle.evm_asm.specs.evm_asm_lexer.declared.mnemonic.Mnemonic.{Mnemonic}
 use Rattle.evm_asm.specs.evm_asm_lexer.Characters.{left_parenthesis, right_parenthesis}
-use Rattle.evm_asm.specs.evm_asm_lexer.Faults.{kind_number, least, both, ◌>>=◌}
+use Rattle.evm_asm.specs.evm_asm_lexer.Faults.{source_number, least, both, ◌>>=◌}
 use Rattle.evm_asm.specs.evm_asm_lexer.Text.{before, after, has}
 use Rattle.evm_asm.specs.evm_asm_lexer.Names.{register_named}
 use Rattle.evm_asm.specs.evm_asm_parser.declared.operand.Number.{Number}
@@ -19,117 +19,117 @@ use Rattle.evm_asm_laws.specs.HasFault.{IsNoRegister, IsOutside, offset_text, Un
 use Rattle.evm_asm.specs.evm_asm_parser.declared.statement.Datum.TheVariants as datum
 
 -- the least kind of which H is true, if it is of any
-abbrev pub IsLeast : (AsmFaultKind → Type 0) → Option AsmFaultKind → Type 0
-IsLeast H None = (kind : AsmFaultKind) → H kind → ⊥
-IsLeast H (Some e) = H e × ((kind : AsmFaultKind) → H kind → kind_number e ≤ kind_number kind)
+abbrev pub IsLeast : (SourceFaultKind → Type 0) → Option SourceFaultKind → Type 0
+IsLeast H None = (kind : SourceFaultKind) → H kind → ⊥
+IsLeast H (Some e) = H e × ((kind : SourceFaultKind) → H kind → source_number e ≤ source_number kind)
 
-pub same_least : (H K : AsmFaultKind → Type 0) (o : Option AsmFaultKind) → ((kind : AsmFaultKind) → H kind → K kind) → ((kind : AsmFaultKind) → K kind → H kind) → IsLeast H o → IsLeast K o
+pub same_least : (H K : SourceFaultKind → Type 0) (o : Option SourceFaultKind) → ((kind : SourceFaultKind) → H kind → K kind) → ((kind : SourceFaultKind) → K kind → H kind) → IsLeast H o → IsLeast K o
 same_least H K None to from h = λ kind w. h kind (from kind w)
 same_least H K (Some e) to from h = (to e h.0, λ kind w. h.1 kind (from kind w))
 
-lesser_by : (H K : AsmFaultKind → Type 0) (e f : AsmFaultKind) → IsLeast H (Some e) → IsLeast K (Some f) → (t : Bool) → nat_le (kind_number e) (kind_number f) ≡ t
+lesser_by : (H K : SourceFaultKind → Type 0) (e f : SourceFaultKind) → IsLeast H (Some e) → IsLeast K (Some f) → (t : Bool) → nat_le (source_number e) (source_number f) ≡ t
     → IsLeast (λ kind. H kind ⊎ K kind) (Some (cond t e f))
 lesser_by H K e f h k true is =
-    let less = leb-true (kind_number e) (kind_number f) is in
+    let less = leb-true (source_number e) (source_number f) is in
     (inl h.0, λ kind w. ⊎_elim (λ x. h.1 kind x) (λ y. let more = k.1 kind y in omega arith) w)
 lesser_by H K e f h k false is =
-    let less = leb-false (kind_number e) (kind_number f) is in
+    let less = leb-false (source_number e) (source_number f) is in
     (inr k.0, λ kind w. ⊎_elim (λ x. let more = h.1 kind x in omega arith) (λ y. k.1 kind y) w)
 
-pub either_least : (H K : AsmFaultKind → Type 0) (o p : Option AsmFaultKind) → IsLeast H o → IsLeast K p → IsLeast (λ kind. H kind ⊎ K kind) (lesser o p)
+pub either_least : (H K : SourceFaultKind → Type 0) (o p : Option SourceFaultKind) → IsLeast H o → IsLeast K p → IsLeast (λ kind. H kind ⊎ K kind) (lesser o p)
 either_least H K None None h k = λ kind w. ⊎_elim (λ x. h kind x) (λ y. k kind y) w
 either_least H K None (Some f) h k = (inr k.0, λ kind w. ⊎_elim (λ x. absurd (h kind x)) (λ y. k.1 kind y) w)
 either_least H K (Some e) None h k = (inl h.0, λ kind w. ⊎_elim (λ x. h.1 kind x) (λ y. absurd (k kind y)) w)
-either_least H K (Some e) (Some f) h k = lesser_by H K e f h k (nat_le (kind_number e) (kind_number f)) refl
+either_least H K (Some e) (Some f) h k = lesser_by H K e f h k (nat_le (source_number e) (source_number f)) refl
 
 -- ---- the faults of readings
 
-both_fault : {A B : Type 0} (a : Result A AsmFaultKind) (b : Result B AsmFaultKind) → lesser (fault_in a) (fault_in b) ≡ fault_in (both a b)
+both_fault : {A B : Type 0} (a : Result A SourceFaultKind) (b : Result B SourceFaultKind) → lesser (fault_in a) (fault_in b) ≡ fault_in (both a b)
 unfolding both
 both_fault (Ok a) (Ok b) = refl
 both_fault (Ok a) (Err f) = refl
 both_fault (Err e) (Ok b) = refl
 both_fault (Err e) (Err f) = refl
 
-pub also_fault : {A B : Type 0} (a : Result A AsmFaultKind) (b : Result B AsmFaultKind) → lesser (fault_in a) (fault_in b) ≡ fault_in (also a b)
+pub also_fault : {A B : Type 0} (a : Result A SourceFaultKind) (b : Result B SourceFaultKind) → lesser (fault_in a) (fault_in b) ≡ fault_in (also a b)
 unfolding also
 also_fault (Ok a) (Ok b) = refl
 also_fault (Ok a) (Err f) = refl
 also_fault (Err e) (Ok b) = refl
 also_fault (Err e) (Err f) = refl
 
-counted_by : {A : Type 0} (t : Bool) (r : Result A AsmFaultKind) (a : A) → lesser None (cond t None (Some BadOperand)) ≡ fault_in (cond t (Ok a) (Err BadOperand))
+counted_by : {A : Type 0} (t : Bool) (r : Result A SourceFaultKind) (a : A) → lesser None (cond t None (Some BadOperand)) ≡ fault_in (cond t (Ok a) (Err BadOperand))
 counted_by true r a = refl
 counted_by false r a = refl
 
-refused_by : {A : Type 0} (t : Bool) (r : Result A AsmFaultKind) (e : AsmFaultKind) → lesser (Some e) (cond t None (Some BadOperand)) ≡ fault_in {A = A} (cond t (Err e) (Err (least e BadOperand)))
+refused_by : {A : Type 0} (t : Bool) (r : Result A SourceFaultKind) (e : SourceFaultKind) → lesser (Some e) (cond t None (Some BadOperand)) ≡ fault_in {A = A} (cond t (Err e) (Err (least e BadOperand)))
 refused_by true r e = refl
 refused_by false r e = refl
 
-counted_fault : {A : Type 0} (n count : ℕ) (r : Result A AsmFaultKind) → lesser (fault_in r) (cond (count == n) None (Some BadOperand)) ≡ fault_in (counted n count r)
+counted_fault : {A : Type 0} (n count : ℕ) (r : Result A SourceFaultKind) → lesser (fault_in r) (cond (count == n) None (Some BadOperand)) ≡ fault_in (counted n count r)
 unfolding counted
 counted_fault n count (Ok a) = counted_by (count == n) (Ok a) a
 counted_fault n count (Err e) = refused_by (count == n) (Err e) e
 
-pub bind_fault : {A B : Type 0} (r : Result A AsmFaultKind) (f : A → B) → fault_in r ≡ fault_in (r >>= λ v. Ok (f v))
+pub bind_fault : {A B : Type 0} (r : Result A SourceFaultKind) (f : A → B) → fault_in r ≡ fault_in (r >>= λ v. Ok (f v))
 bind_fault (Ok a) f = refl
 bind_fault (Err e) f = refl
 
 -- ---- unknown names, operands of another kind, and numbers out of range
 
-abbrev pub Three : Type 0 → Type 0 → Type 0 → AsmFaultKind → Type 0
+abbrev pub Three : Type 0 → Type 0 → Type 0 → SourceFaultKind → Type 0
 Three u m r UnknownName = u
 Three u m r BadOperand = m
 Three u m r RangeOfImmediate = r
 Three u m r other = ⊥
 
-no_three : (u m r : Type 0) → (u → ⊥) → (m → ⊥) → (r → ⊥) → (kind : AsmFaultKind) → Three u m r kind → ⊥
+no_three : (u m r : Type 0) → (u → ⊥) → (m → ⊥) → (r → ⊥) → (kind : SourceFaultKind) → Three u m r kind → ⊥
 no_three u m r a b c UnknownName w = a w
 no_three u m r a b c BadOperand w = b w
 no_three u m r a b c RangeOfImmediate w = c w
 no_three u m r a b c kind w = w
 
-least_unknown : (u m r : Type 0) → (kind : AsmFaultKind) → Three u m r kind → 2 ≤ kind_number kind
+least_unknown : (u m r : Type 0) → (kind : SourceFaultKind) → Three u m r kind → 2 ≤ source_number kind
 least_unknown u m r UnknownName w = omega arith
 least_unknown u m r BadOperand w = omega arith
 least_unknown u m r RangeOfImmediate w = omega arith
 least_unknown u m r kind w = absurd w
 
-least_misfit : (u m r : Type 0) → (u → ⊥) → (kind : AsmFaultKind) → Three u m r kind → 3 ≤ kind_number kind
+least_misfit : (u m r : Type 0) → (u → ⊥) → (kind : SourceFaultKind) → Three u m r kind → 3 ≤ source_number kind
 least_misfit u m r a UnknownName w = absurd (a w)
 least_misfit u m r a BadOperand w = omega arith
 least_misfit u m r a RangeOfImmediate w = omega arith
 least_misfit u m r a kind w = absurd w
 
-least_outside : (u m r : Type 0) → (u → ⊥) → (m → ⊥) → (kind : AsmFaultKind) → Three u m r kind → 4 ≤ kind_number kind
+least_outside : (u m r : Type 0) → (u → ⊥) → (m → ⊥) → (kind : SourceFaultKind) → Three u m r kind → 4 ≤ source_number kind
 least_outside u m r a b UnknownName w = absurd (a w)
 least_outside u m r a b BadOperand w = absurd (b w)
 least_outside u m r a b RangeOfImmediate w = omega arith
 least_outside u m r a b kind w = absurd w
 
-three_to : (u m r u' m' r' : Type 0) → (u → u') → (m → m') → (r → r') → (kind : AsmFaultKind) → Three u m r kind → Three u' m' r' kind
+three_to : (u m r u' m' r' : Type 0) → (u → u') → (m → m') → (r → r') → (kind : SourceFaultKind) → Three u m r kind → Three u' m' r' kind
 three_to u m r u' m' r' a b c UnknownName w = a w
 three_to u m r u' m' r' a b c BadOperand w = b w
 three_to u m r u' m' r' a b c RangeOfImmediate w = c w
 three_to u m r u' m' r' a b c kind w = absurd w
 
-pub three_same : (u m r u' m' r' : Type 0) (o : Option AsmFaultKind) → (u → u') → (m → m') → (r → r') → (u' → u) → (m' → m) → (r' → r)
+pub three_same : (u m r u' m' r' : Type 0) (o : Option SourceFaultKind) → (u → u') → (m → m') → (r → r') → (u' → u) → (m' → m) → (r' → r)
     → IsLeast (Three u m r) o → IsLeast (Three u' m' r') o
 three_same u m r u' m' r' o a b c x y z h = same_least (Three u m r) (Three u' m' r') o (three_to u m r u' m' r' a b c) (three_to u' m' r' u m r x y z) h
 
-either_three : (u m r u' m' r' : Type 0) (kind : AsmFaultKind) → Three u m r kind ⊎ Three u' m' r' kind → Three (u ⊎ u') (m ⊎ m') (r ⊎ r') kind
+either_three : (u m r u' m' r' : Type 0) (kind : SourceFaultKind) → Three u m r kind ⊎ Three u' m' r' kind → Three (u ⊎ u') (m ⊎ m') (r ⊎ r') kind
 either_three u m r u' m' r' UnknownName w = w
 either_three u m r u' m' r' BadOperand w = w
 either_three u m r u' m' r' RangeOfImmediate w = w
 either_three u m r u' m' r' kind w = ⊎_elim (λ x. absurd x) (λ x. absurd x) w
 
-three_either : (u m r u' m' r' : Type 0) (kind : AsmFaultKind) → Three (u ⊎ u') (m ⊎ m') (r ⊎ r') kind → Three u m r kind ⊎ Three u' m' r' kind
+three_either : (u m r u' m' r' : Type 0) (kind : SourceFaultKind) → Three (u ⊎ u') (m ⊎ m') (r ⊎ r') kind → Three u m r kind ⊎ Three u' m' r' kind
 three_either u m r u' m' r' UnknownName w = w
 three_either u m r u' m' r' BadOperand w = w
 three_either u m r u' m' r' RangeOfImmediate w = w
 three_either u m r u' m' r' kind w = absurd w
 
-pub three_joined : (u m r u' m' r' : Type 0) (o p : Option AsmFaultKind) → IsLeast (Three u m r) o → IsLeast (Three u' m' r') p → IsLeast (Three (u ⊎ u') (m ⊎ m') (r ⊎ r')) (lesser o p)
+pub three_joined : (u m r u' m' r' : Type 0) (o p : Option SourceFaultKind) → IsLeast (Three u m r) o → IsLeast (Three u' m' r') p → IsLeast (Three (u ⊎ u') (m ⊎ m') (r ⊎ r')) (lesser o p)
 three_joined u m r u' m' r' o p h k =
     same_least _ (Three (u ⊎ u') (m ⊎ m') (r ⊎ r')) (lesser o p) (either_three u m r u' m' r') (three_either u m r u' m' r') (either_least (Three u m r) (Three u' m' r') o p h k)
 
@@ -168,7 +168,7 @@ module _ (text : List ℕ) where
   is_named_least None e = (e, least_misfit ⊥ (name_in text ≡ None) ⊥ (λ x. x))
 
   module _ (below above : ℕ) where
-    abbrev NumberFault : AsmFaultKind → Type 0
+    abbrev NumberFault : SourceFaultKind → Type 0
     NumberFault kind = Three ⊥ (number_in text ≡ None) (IsOutside below above text) kind
 
     no_number : number_in text ≡ None → IsLeast (Three ⊥ (number_in text ≡ None) (IsOutside below above text)) (Some BadOperand)
@@ -196,7 +196,7 @@ module _ (text : List ℕ) where
           (λ o. ⊎_elim (λ p. let wrong : false ≡ true = sym e ∙ p.0 in cc) (λ p. let le = c refl in let lt = p.1 in omega arith) (outside o))
       within_least x y low false false e a b c d = ((n, is, inr (e, d refl)), least_outside ⊥ _ _ (λ z. z) some_number)
 
-number_least : {A : Type 0} (text : List ℕ) (below above : ℕ) (f : Number → Result A AsmFaultKind) (r : Option Number → Result A AsmFaultKind)
+number_least : {A : Type 0} (text : List ℕ) (below above : ℕ) (f : Number → Result A SourceFaultKind) (r : Option Number → Result A SourceFaultKind)
     → ((n : Number) → r (Some n) ≡ f n) → r None ≡ Err BadOperand
     → ((n : Number) → number_in text ≡ Some n → IsLeast (Three ⊥ (number_in text ≡ None) (IsOutside below above text)) (fault_in (f n)))
     → IsLeast (Three ⊥ (number_in text ≡ None) (IsOutside below above text)) (fault_in (r (number_in text)))
@@ -237,7 +237,7 @@ upper_least text =
 
 -- ---- addresses
 
-pub by_test : {A : Type 0} (H : AsmFaultKind → Type 0) (t : Bool) (r s : Result A AsmFaultKind) → (t ≡ true → IsLeast H (fault_in r)) → (t ≡ false → IsLeast H (fault_in s)) → IsLeast H (fault_in (cond t r s))
+pub by_test : {A : Type 0} (H : SourceFaultKind → Type 0) (t : Bool) (r s : Result A SourceFaultKind) → (t ≡ true → IsLeast H (fault_in r)) → (t ≡ false → IsLeast H (fault_in s)) → IsLeast H (fault_in (cond t r s))
 by_test H true r s a b = a refl
 by_test H false r s a b = b refl
 

@@ -1,9 +1,9 @@
 -- What is wrong with a statement: the fault of its reading, of its labels or of its size is the least of it.
 use Rattle.std.proofs.Common.{◌≡◌, ◌∙◌, ◌≤◌, ◌⊎◌, ℕ, Bool, true, false, not, List, Option, Some, None, Ok, Err, refl, sym, subst, inl, inr, ⊎_elim, arith, zero, suc, cond, ◌==◌, nat_le, Result, ℤ, pos, neg_ℤ, ◌≢◌, ◌-◌, ◌%◌, ◌<◌, ◌&&◌}
-use Rattle.evm_asm.specs.evm_asm_lexer.declared.fault.AsmFaultKind.{AsmFaultKind}
-use Rattle.evm_asm.specs.evm_asm_lexer.declared.fault.AsmFaultKind.TheVariants.{BadToken, UnknownName, BadOperand, RangeOfImmediate, LabelTwice, LabelMissing, TooLarge, NoMemory}
+use Rattle.evm_asm.specs.evm_asm_lexer.declared.source_fault.SourceFaultKind.{SourceFaultKind}
+use Rattle.evm_asm.specs.evm_asm_lexer.declared.source_fault.SourceFaultKind.TheVariants.{BadToken, UnknownName, BadOperand, RangeOfImmediate, LabelTwice, LabelMissing, TooLarge}
 use Rattle.evm_asm.specs.evm_asm_lexer.declared.mnemonic.Mnemonic.{Mnemonic}
-use Rattle.evm_asm.specs.evm_asm_lexer.Faults.{kind_number, ◌>>=◌}
+use Rattle.evm_asm.specs.evm_asm_lexer.Faults.{source_number, ◌>>=◌}
 use Rattle.evm_asm.specs.evm_asm_lexer.Text.{skip_blanks, first_word, starts_with, is_name_start, is_empty, is_sound}
 use Rattle.evm_asm.specs.evm_asm_lexer.Names.{mnemonic_named}
 use Rattle.evm_asm.specs.evm_asm_parser.Operands.{Spots, how_many, first_operand, other_operands, datum_in}
@@ -33,14 +33,14 @@ use Rattle.std.proofs.lemmas.Bool.{leb-true, leb-false}
 -- ---- the reading of a statement
 
 -- what is wrong with a statement by itself
-abbrev pub ReadingFault : Place → List ℕ → AsmFaultKind → Type 0
+abbrev pub ReadingFault : Place → List ℕ → SourceFaultKind → Type 0
 ReadingFault place text BadToken = (is_sound false text ≡ false) ⊎ BeginsWithNoName text
 ReadingFault place text UnknownName = HasUnknownMnemonic text ⊎ OfForm text HasUnknownRegister
 ReadingFault place text BadOperand = OfForm text HasMisfit ⊎ IsMisplaced place text
 ReadingFault place text RangeOfImmediate = OfForm text HasNumberOutside
 ReadingFault place text other = ⊥
 
-from_one : (kind : AsmFaultKind) → 1 ≤ kind_number kind
+from_one : (kind : SourceFaultKind) → 1 ≤ source_number kind
 from_one BadToken = omega arith
 from_one UnknownName = omega arith
 from_one BadOperand = omega arith
@@ -48,7 +48,6 @@ from_one RangeOfImmediate = omega arith
 from_one LabelTwice = omega arith
 from_one LabelMissing = omega arith
 from_one TooLarge = omega arith
-from_one NoMemory = omega arith
 
 not_true : (t : Bool) → not t ≡ true → t ≡ false
 not_true true h = cc
@@ -59,7 +58,7 @@ not_false true h = refl
 not_false false h = cc
 
 module _ (labels : Spots) (place : Place) (text : List ℕ) where
-  none_wrong : is_sound false text ≡ true → is_empty (skip_blanks text) ≡ true → (kind : AsmFaultKind) → ReadingFault place text kind → ⊥
+  none_wrong : is_sound false text ≡ true → is_empty (skip_blanks text) ≡ true → (kind : SourceFaultKind) → ReadingFault place text kind → ⊥
   none_wrong s b BadToken w = ⊎_elim (λ x. clash _ s x) (λ x. clash _ b x.0) w
   none_wrong s b UnknownName w = ⊎_elim (λ x. clash _ b x.0) (λ x. clash _ b x.1) w
   none_wrong s b BadOperand w = ⊎_elim (λ x. clash _ b x.1) (λ x. clash _ b x.1) w
@@ -70,7 +69,7 @@ module _ (labels : Spots) (place : Place) (text : List ℕ) where
     no_bad_token : ReadingFault place text BadToken → ⊥
     no_bad_token w = ⊎_elim (λ x. clash _ s x) (λ x. clash _ n x.1) w
 
-    from_two : (kind : AsmFaultKind) → ReadingFault place text kind → 2 ≤ kind_number kind
+    from_two : (kind : SourceFaultKind) → ReadingFault place text kind → 2 ≤ source_number kind
     from_two BadToken w = absurd (no_bad_token w)
     from_two UnknownName w = omega arith
     from_two BadOperand w = omega arith
@@ -81,7 +80,7 @@ module _ (labels : Spots) (place : Place) (text : List ℕ) where
       of_it : (P : Mnemonic → Type 0) → Of text P → P m
       of_it P x = let both : ◌≡◌ {A = Option Mnemonic} (Some x.0) (Some m) = sym x.2 ∙ e in let same : x.0 ≡ m = cc in subst P same x.3
 
-      to : (kind : AsmFaultKind)
+      to : (kind : SourceFaultKind)
           → Three (HasUnknownRegister (form (how_many (operands text)) m) (operands text) ⊎ ⊥) (HasMisfit (form (how_many (operands text)) m) (operands text) ⊎ (may_stand m place ≡ false)) (HasNumberOutside (form (how_many (operands text)) m) (operands text) ⊎ ⊥) kind
           → ReadingFault place text kind
       to UnknownName w = ⊎_elim (λ x. inr (m, b, e, x)) (λ x. absurd x) w
@@ -89,7 +88,7 @@ module _ (labels : Spots) (place : Place) (text : List ℕ) where
       to RangeOfImmediate w = ⊎_elim (λ x. (m, b, e, x)) (λ x. absurd x) w
       to kind w = absurd w
 
-      from : (kind : AsmFaultKind) → ReadingFault place text kind
+      from : (kind : SourceFaultKind) → ReadingFault place text kind
           → Three (HasUnknownRegister (form (how_many (operands text)) m) (operands text) ⊎ ⊥) (HasMisfit (form (how_many (operands text)) m) (operands text) ⊎ (may_stand m place ≡ false)) (HasNumberOutside (form (how_many (operands text)) m) (operands text) ⊎ ⊥) kind
       from BadToken w = absurd (no_bad_token w)
       from UnknownName w = ⊎_elim (λ x. let wrong : ◌≡◌ {A = Option Mnemonic} None (Some m) = sym x.1 ∙ e in cc) (λ x. inl (of_it (λ m. HasUnknownRegister (form (how_many (operands text)) m) (operands text)) x)) w
@@ -101,13 +100,13 @@ module _ (labels : Spots) (place : Place) (text : List ℕ) where
       unfolding placed
       placed_least = by_test (Three ⊥ (may_stand m place ≡ false) ⊥) (may_stand m place) (Ok place) (Err BadOperand) stands (λ e. (e, misplaced))
         where
-          stands : may_stand m place ≡ true → (kind : AsmFaultKind) → Three ⊥ (may_stand m place ≡ false) ⊥ kind → ⊥
+          stands : may_stand m place ≡ true → (kind : SourceFaultKind) → Three ⊥ (may_stand m place ≡ false) ⊥ kind → ⊥
           stands e UnknownName w = w
           stands e BadOperand w = clash _ e w
           stands e RangeOfImmediate w = w
           stands e kind w = w
 
-          misplaced : (kind : AsmFaultKind) → Three ⊥ (may_stand m place ≡ false) ⊥ kind → 3 ≤ kind_number kind
+          misplaced : (kind : SourceFaultKind) → Three ⊥ (may_stand m place ≡ false) ⊥ kind → 3 ≤ source_number kind
           misplaced UnknownName w = absurd w
           misplaced BadOperand w = omega arith
           misplaced RangeOfImmediate w = absurd w
@@ -135,27 +134,27 @@ module _ (labels : Spots) (place : Place) (text : List ℕ) where
 
 -- ---- the labels and the size of a statement that is read
 
-abbrev pub Only : AsmFaultKind → Type 0 → AsmFaultKind → Type 0
+abbrev pub Only : SourceFaultKind → Type 0 → SourceFaultKind → Type 0
 Only e P kind = (kind ≡ e) × P
 
-pub only_least : (e : AsmFaultKind) (P : Type 0) → P → IsLeast (Only e P) (Some e)
-only_least e P p = ((refl, p), λ kind w. subst (λ (k : AsmFaultKind). kind_number e ≤ kind_number k) (sym w.0) (omega arith))
+pub only_least : (e : SourceFaultKind) (P : Type 0) → P → IsLeast (Only e P) (Some e)
+only_least e P p = ((refl, p), λ kind w. subst (λ (k : SourceFaultKind). source_number e ≤ source_number k) (sym w.0) (omega arith))
 
-pub only_same : (e : AsmFaultKind) (P Q : Type 0) (o : Option AsmFaultKind) → (P → Q) → (Q → P) → IsLeast (Only e P) o → IsLeast (Only e Q) o
+pub only_same : (e : SourceFaultKind) (P Q : Type 0) (o : Option SourceFaultKind) → (P → Q) → (Q → P) → IsLeast (Only e P) o → IsLeast (Only e Q) o
 only_same e P Q o to from h = same_least (Only e P) (Only e Q) o (λ kind w. (w.0, to w.1)) (λ kind w. (w.0, from w.1)) h
 
 -- a result that fails with one fault alone
-only_fault : {A : Type 0} (e : AsmFaultKind) (r : Result A AsmFaultKind) → ((f : AsmFaultKind) → r ≡ Err f → f ≡ e) → IsLeast (Only e (r ≡ Err e)) (fault_in r)
+only_fault : {A : Type 0} (e : SourceFaultKind) (r : Result A SourceFaultKind) → ((f : SourceFaultKind) → r ≡ Err f → f ≡ e) → IsLeast (Only e (r ≡ Err e)) (fault_in r)
 only_fault e (Ok a) h = λ kind w. cc
 only_fault {A} e (Err f) h =
     let same : f ≡ e = h f refl in
-    subst (λ (g : AsmFaultKind). IsLeast (Only e (◌≡◌ {A = Result A AsmFaultKind} (Err g) (Err e))) (Some g)) (sym same) (only_least e (◌≡◌ {A = Result A AsmFaultKind} (Err e) (Err e)) refl)
+    subst (λ (g : SourceFaultKind). IsLeast (Only e (◌≡◌ {A = Result A SourceFaultKind} (Err g) (Err e))) (Some g)) (sym same) (only_least e (◌≡◌ {A = Result A SourceFaultKind} (Err e) (Err e)) refl)
 
-one_of : {A : Type 0} (t : Bool) (a : A) (e f : AsmFaultKind) → ◌≡◌ {A = Result A AsmFaultKind} (cond t (Ok a) (Err e)) (Err f) → f ≡ e
+one_of : {A : Type 0} (t : Bool) (a : A) (e f : SourceFaultKind) → ◌≡◌ {A = Result A SourceFaultKind} (cond t (Ok a) (Err e)) (Err f) → f ≡ e
 one_of true a e f h = cc
 one_of false a e f h = cc
 
-one_of_both : {A : Type 0} (t : Bool) (r s : Result A AsmFaultKind) (e f : AsmFaultKind) → (r ≡ Err f → f ≡ e) → (s ≡ Err f → f ≡ e) → cond t r s ≡ Err f → f ≡ e
+one_of_both : {A : Type 0} (t : Bool) (r s : Result A SourceFaultKind) (e f : SourceFaultKind) → (r ≡ Err f → f ≡ e) → (s ≡ Err f → f ≡ e) → cond t r s ≡ Err f → f ≡ e
 one_of_both true r s e f a b h = a h
 one_of_both false r s e f a b h = b h
 
@@ -203,7 +202,7 @@ pub distance_least : (back ahead from target : ℕ) → IsLeast (Only RangeOfImm
 unfolding distance
 distance_least back ahead from target = distance_by back ahead from target (nat_le from target) refl
 
-behind_fails : (place : Place) (s : Statement) (f : AsmFaultKind) → place_behind place s ≡ Err f → f ≡ TooLarge
+behind_fails : (place : Place) (s : Statement) (f : SourceFaultKind) → place_behind place s ≡ Err f → f ≡ TooLarge
 unfolding place_behind grown
 behind_fails place (Section part) f h = cc
 behind_fails place s f h = one_of _ _ TooLarge f h
@@ -216,7 +215,7 @@ abbrev pub AllRead : Spots → Width → ℕ → List ℕ → Type 0
 AllRead labels width zero text = Unit {0}
 AllRead labels width (suc n) text = ((d : Datum) × (datum_in labels width (first_operand text) ≡ Ok d)) × AllRead labels width n (other_operands text)
 
-also_read : {B : Type 0} (r : Reading) (b : Result B AsmFaultKind) (s : Statement) → also r b ≡ Ok s → (r ≡ Ok s) × (x : B) × (b ≡ Ok x)
+also_read : {B : Type 0} (r : Reading) (b : Result B SourceFaultKind) (s : Statement) → also r b ≡ Ok s → (r ≡ Ok s) × (x : B) × (b ≡ Ok x)
 also_read r b s h = let k = also_ok r b s h in (k.1, k.0, k.2)
 
 data_read : (labels : Spots) (width : Width) (n : ℕ) (r : Reading) (text : List ℕ) (s : Statement) → with_data labels width n r text ≡ Ok s → (r ≡ Ok s) × AllRead labels width n text
@@ -242,7 +241,7 @@ forms_list count names.Jalr = either_lists (count == 1) _ _ (λ v w c h. cc) (λ
 forms_list count (names.Numbers width) = λ n. refl
 forms_list count m = λ v w c h. cc
 
-made_by : {A : Type 0} (r : Result A AsmFaultKind) (makes : A → Statement) (s : Statement) → (r >>= λ v. Ok (makes v)) ≡ Ok s → (v : A) × (makes v ≡ s)
+made_by : {A : Type 0} (r : Result A SourceFaultKind) (makes : A → Statement) (s : Statement) → (r >>= λ v. Ok (makes v)) ≡ Ok s → (v : A) × (makes v ≡ s)
 made_by (Ok v) makes s h = (v, cc)
 made_by (Err e) makes s h = cc
 
@@ -289,10 +288,10 @@ module _ (labels : Spots) (size : ℕ) (part : Part) (width : Width) where
         → IsLeast (Only LabelMissing (Lacks (suc n) text)) (fault_in (with_numbers labels size part width n (other_operands text) b))
     goes_on d e other b =
         only_same LabelMissing _ _ _ (λ k. inr k)
-        (λ k. ⊎_elim (λ x. let both : ◌≡◌ {A = Result Datum AsmFaultKind} (Ok d) (Ok (datum.Label None)) = sym e ∙ x in let same : d ≡ datum.Label None = cc in absurd (other same)) (λ x. x) k)
+        (λ k. ⊎_elim (λ x. let both : ◌≡◌ {A = Result Datum SourceFaultKind} (Ok d) (Ok (datum.Label None)) = sym e ∙ x in let same : d ≡ datum.Label None = cc in absurd (other same)) (λ x. x) k)
         (least b)
 
-    by_datum : (a : List Placed) (d : Datum) (r : Result Datum AsmFaultKind) → datum_in labels width (first_operand text) ≡ r → r ≡ Ok d
+    by_datum : (a : List Placed) (d : Datum) (r : Result Datum SourceFaultKind) → datum_in labels width (first_operand text) ≡ r → r ≡ Ok d
         → IsLeast (Only LabelMissing (Lacks (suc n) text)) (fault_in (((r >>= value_of size) >>= λ v. Ok (with_item part (item.Number width v) a)) >>= λ items. with_numbers labels size part width n (other_operands text) items))
     by_datum a d (Ok (datum.Value v)) e is = goes_on (datum.Value v) e (λ x. cc) _
     by_datum a d (Ok (datum.Label (Some spot))) e is = goes_on (datum.Label (Some spot)) e (λ x. cc) _

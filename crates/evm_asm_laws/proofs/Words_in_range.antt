@@ -12,7 +12,7 @@ use Rattle.evm_isa.specs.declared.inst.StoreOp.{StoreOp}
 use Rattle.evm_isa.specs.declared.inst.WordOp.{WordOp}
 use Rattle.evm_isa.specs.declared.inst.Inst.TheVariants.{Lui, Auipc, Jal, Jalr, Branch, Load, Store, Immediate, Shift, Register, Word, Fence, Ecall, Ebreak}
 use Rattle.evm_isa.specs.Encoded.{twos_complement, multiple, i_placed, s_placed, b_placed, j_placed, i_bits, s_bits, b_bits, u_bits, j_bits, is_register, amounts, amount_placed, fence_placed, bits_joined, encoded}
-use Rattle.evm_asm.specs.evm_asm_lexer.declared.fault.AsmFaultKind.TheVariants.{BadOperand, RangeOfImmediate}
+use Rattle.evm_asm.specs.evm_asm_lexer.declared.source_fault.SourceFaultKind.TheVariants.{BadOperand, RangeOfImmediate}
 use Rattle.evm_asm.specs.evm_asm_lexer.Characters.{left_parenthesis, right_parenthesis}
 use Rattle.evm_asm.specs.evm_asm_lexer.Text.{before, after, has}
 use Rattle.evm_asm.specs.evm_asm_parser.Operands.{register_in, number_in, integer_in, immediate_in, offset_in, base_in, address_in, full_address_in, natural, limited, natural_in, is_blank_text, upper, upper_in}

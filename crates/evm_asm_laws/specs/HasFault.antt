@@ -1,13 +1,13 @@
 -- What is wrong with a line of a source: a sentence for each kind of fault.
 use Rattle.std.specs.Prelude.{◌≡◌, ◌≢◌, ◌<◌, ◌≤◌, ◌%◌, ◌++◌, ◌⊎◌, ◌&&◌, ◌↔◌, IsOk, ℕ, zero, suc, ◌+◌, Bool, true, false, List, [], ◌∷◌, length, take, slice_get, Some, None, Ok, Err}
-use Rattle.evm_asm.specs.evm_asm_lexer.declared.fault.AsmFault.{AsmFault}
-use Rattle.evm_asm.specs.evm_asm_lexer.declared.fault.AsmFaultKind.{AsmFaultKind}
-use Rattle.evm_asm.specs.evm_asm_lexer.declared.fault.AsmFaultKind.TheVariants.{BadToken, UnknownName, BadOperand, RangeOfImmediate, LabelTwice, LabelMissing, TooLarge, NoMemory}
+use Rattle.evm_asm.specs.evm_asm_lexer.declared.source_fault.SourceFault.{SourceFault}
+use Rattle.evm_asm.specs.evm_asm_lexer.declared.source_fault.SourceFaultKind.{SourceFaultKind}
+use Rattle.evm_asm.specs.evm_asm_lexer.declared.source_fault.SourceFaultKind.TheVariants.{BadToken, UnknownName, BadOperand, RangeOfImmediate, LabelTwice, LabelMissing, TooLarge}
 use Rattle.evm_asm.specs.evm_asm_lexer.declared.mnemonic.Mnemonic.{Mnemonic}
 use Rattle.evm_asm.specs.evm_asm_lexer.declared.mnemonic.Width.{Width}
 use Rattle.evm_asm.specs.evm_asm_lexer.declared.mnemonic.Width.TheVariants.{Byte, Word, Dword}
 use Rattle.evm_asm.specs.evm_asm_lexer.Characters.{left_parenthesis, right_parenthesis}
-use Rattle.evm_asm.specs.evm_asm_lexer.Faults.{kind_number}
+use Rattle.evm_asm.specs.evm_asm_lexer.Faults.{source_number}
 use Rattle.evm_asm.specs.evm_asm_lexer.Text.{before, after, has, skip_blanks, first_word, starts_with, is_name_start, is_empty, is_sound}
 use Rattle.evm_asm.specs.evm_asm_lexer.Names.{register_named, mnemonic_named}
 use Rattle.evm_asm.specs.evm_asm_parser.declared.operand.Number.{Number}
@@ -179,7 +179,7 @@ abbrev pub place_behind_lines : List (List ℕ) → Place
 place_behind_lines lines = (laid nothing_laid lines).place
 
 -- What is wrong with a line that stands behind earlier ones, in a source that is laid out as a whole.
-abbrev pub IsWrong : Laid → List (List ℕ) → List ℕ → AsmFaultKind → Type 0
+abbrev pub IsWrong : Laid → List (List ℕ) → List ℕ → SourceFaultKind → Type 0
 IsWrong whole earlier line BadToken = (is_sound false (text_behind_labels line) ≡ false) ⊎ BeginsWithNoName (text_behind_labels line)
 IsWrong whole earlier line UnknownName = HasUnknownMnemonic (text_behind_labels line) ⊎ OfForm (text_behind_labels line) HasUnknownRegister
 IsWrong whole earlier line BadOperand = OfForm (text_behind_labels line) HasMisfit ⊎ IsMisplaced (place_behind_lines earlier) (text_behind_labels line)
@@ -189,25 +189,24 @@ IsWrong whole earlier line RangeOfImmediate =
 IsWrong whole earlier line LabelTwice = HasLabelTwice earlier line
 IsWrong whole earlier line LabelMissing = Said whole.labels (place_behind_lines earlier) (text_behind_labels line) (LacksLabel whole.labels (text_behind_labels line))
 IsWrong whole earlier line TooLarge = Said whole.labels (place_behind_lines earlier) (text_behind_labels line) (λ s. place_behind (place_behind_lines earlier) s ≡ Err TooLarge)
-IsWrong whole earlier line NoMemory = ⊥
 
 -- Line n of a source, from 1, has this fault.
-abbrev pub HasFault : List ℕ → ℕ → AsmFaultKind → Type 0
+abbrev pub HasFault : List ℕ → ℕ → SourceFaultKind → Type 0
 HasFault source zero kind = ⊥
 HasFault source (suc n) kind =
     (line : List ℕ) × (slice_get (source_lines source) n ≡ Some line)
     × IsWrong (layout_of source) (take n (source_lines source)) line kind
 
 -- the least fault of the first line that has any
-abbrev pub IsLeastOfFirst : List ℕ → AsmFault → Type 0
+abbrev pub IsLeastOfFirst : List ℕ → SourceFault → Type 0
 IsLeastOfFirst source fault =
     HasFault source fault.line fault.kind
-    × ((kind : AsmFaultKind) → HasFault source fault.line kind → kind_number fault.kind ≤ kind_number kind)
-    × ((n : ℕ) → n < fault.line → (kind : AsmFaultKind) → HasFault source n kind → ⊥)
+    × ((kind : SourceFaultKind) → HasFault source fault.line kind → source_number fault.kind ≤ source_number kind)
+    × ((n : ℕ) → n < fault.line → (kind : SourceFaultKind) → HasFault source n kind → ⊥)
 
 -- A source is refused with a fault exactly where that is the least of the first line that has any, and it has a program
 -- exactly where no line has a fault.
 abbrev pub RefusedWithTheLeast : Type 0
 RefusedWithTheLeast = (source : List ℕ)
-    → ((fault : AsmFault) → program_of source ≡ Err fault ↔ IsLeastOfFirst source fault)
-    × (IsOk (program_of source) ↔ ((n : ℕ) (kind : AsmFaultKind) → HasFault source n kind → ⊥))
+    → ((fault : SourceFault) → program_of source ≡ Err fault ↔ IsLeastOfFirst source fault)
+    × (IsOk (program_of source) ↔ ((n : ℕ) (kind : SourceFaultKind) → HasFault source n kind → ⊥))

@@ -2,7 +2,7 @@
 use Rattle.std.specs.Prelude.{◌≡◌, ◌↔◌, ℕ, List, Some, Ok, Err, All, IsOk}
 use Rattle.evm_isa.specs.declared.inst.Inst.{Inst}
 use Rattle.evm_isa.specs.Encoded.{encoded}
-use Rattle.evm_asm.specs.evm_asm_lexer.declared.fault.AsmFault.{AsmFault}
+use Rattle.evm_asm.specs.evm_asm_lexer.declared.source_fault.SourceFault.{SourceFault}
 use Rattle.evm_asm.specs.declared.item.Item.{Item}
 use Rattle.evm_asm.specs.declared.item.Item.TheVariants as item
 use Rattle.evm_asm.specs.declared.item.Placed.{Placed}
@@ -30,5 +30,5 @@ SpellingNeverFails = (source : List ℕ) (items : List Placed) → meaning_of so
 -- A source has a program exactly where it means something, and a fault exactly where that is the fault of its meaning.
 abbrev pub RefusedAsMeant : Type 0
 RefusedAsMeant = (source : List ℕ)
-    → ((fault : AsmFault) → (program_of source ≡ Err fault) ↔ (meaning_of source ≡ Err fault))
+    → ((fault : SourceFault) → (program_of source ≡ Err fault) ↔ (meaning_of source ≡ Err fault))
     × (IsOk (program_of source) ↔ IsOk (meaning_of source))

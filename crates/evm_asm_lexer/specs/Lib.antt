@@ -2,4 +2,5 @@ pub mod Characters
 pub mod Faults
 pub mod Text
 pub mod Names
+pub mod Extensions
 pub mod Sentences

@@ -102,6 +102,11 @@ begins_well inside (b ∷ bs) =
     else (if b == minus then starts_with is_digit bs
     else is_white b || is_mark b)
 
+-- the text from its first token on that isn't sound, if there is one
+unfoldable pub bad_token : Bool → List ℕ → Option (List ℕ)
+bad_token inside [] = None
+bad_token inside (b ∷ bs) = if begins_well inside (b ∷ bs) then bad_token (is_word_byte b) bs else Some (b ∷ bs)
+
 -- Whether all tokens of a text are sound; `inside` where the text goes on with a word that began before it.
 unfoldable pub is_sound : Bool → List ℕ → Bool
 is_sound inside [] = true

@@ -1,7 +1,7 @@
 //! Why a source is refused.
 
 ghost use Rattle.std.specs.Prelude.{◌≡◌};
-ghost use Rattle.evm_asm_lexer.specs.Faults.{kind_number, least, both};
+ghost use Rattle.evm_asm_lexer.specs.Faults.{kind_number};
 
 use thiserror::Error;
 
@@ -44,34 +44,12 @@ impl AsmFaultKind {
     }
 }
 
-/// The fault of a source: the least line that has one, and the least of its faults.
+/// Why a source has no program: the least line that has a fault, and the least of its faults; or the line at which
+/// memory ran out.
 #[derive(Clone, Copy, Debug, PartialEq, Eq, Error)]
 #[error("line {line}: {kind}")]
 pub struct AsmFault {
     /// The line, from 1.
     pub line: u64,
     pub kind: AsmFaultKind,
-}
-
-/// The fault of the lesser number.
-pub fn least(a: AsmFaultKind, b: AsmFaultKind) -> AsmFaultKind
-    ensures { result ≡ least a b }
-{
-    if a.number() <= b.number() { a } else { b }
-}
-
-/// Both of two readings of one line, or the least of their faults.
-#[tactic(auto, unfolding(crate::specs::Faults::both))]
-pub fn both<A: Drop, B: Drop>(
-    a: Result<A, AsmFaultKind>,
-    b: Result<B, AsmFaultKind>,
-) -> Result<(A, B), AsmFaultKind>
-    ensures { result ≡ both a b }
-{
-    match (a, b) {
-        (Ok(a), Ok(b)) => Ok((a, b)),
-        (Ok(_), Err(f)) => Err(f),
-        (Err(e), Ok(_)) => Err(e),
-        (Err(e), Err(f)) => Err(least(e, f)),
-    }
 }

@@ -138,9 +138,9 @@ fn registers_have_their_names(rt: HostRuntime) {
     }
 }
 
-// Of two faults the one of the lesser number is told, whichever is found first.
+// The kinds have their numbers, and each kind of a source is reported as the one of its number.
 #[test]
-fn the_least_fault_is_told(rt: HostRuntime) {
+fn kinds_have_their_numbers(rt: HostRuntime) {
     let kinds = [
         BadToken,
         UnknownName,
@@ -153,35 +153,66 @@ fn the_least_fault_is_told(rt: HostRuntime) {
     ];
     for (number, kind) in (1u8..).zip(kinds) {
         assert_eq!(rt; kind.number(), number);
-        assert_eq!(rt; least(kind, BadToken), BadToken);
-        assert_eq!(rt; least(BadToken, kind), BadToken);
-        assert_eq!(rt; least(kind, NoMemory), kind);
-        assert_eq!(rt; least(NoMemory, kind), kind);
+    }
+    for (kind, own) in kinds.into_iter().zip(OWN) {
+        let fault = SourceFault { line: 8, kind: own };
+        assert_eq!(rt; own.reported(), kind);
+        assert_eq!(rt; own.number(), kind.number());
+        assert_eq!(rt; fault.reported(), AsmFault { line: 8, kind });
+    }
+}
+
+/// The kinds that a source has of its own.
+const OWN: [SourceFaultKind; 7] = [
+    SourceFaultKind::BadToken,
+    SourceFaultKind::UnknownName,
+    SourceFaultKind::BadOperand,
+    SourceFaultKind::RangeOfImmediate,
+    SourceFaultKind::LabelTwice,
+    SourceFaultKind::LabelMissing,
+    SourceFaultKind::TooLarge,
+];
+
+// Of two faults the one of the lesser number is told, whichever is found first.
+#[test]
+fn the_least_fault_is_told(rt: HostRuntime) {
+    let (unknown, bad) = (SourceFaultKind::UnknownName, SourceFaultKind::BadOperand);
+    for kind in OWN {
+        assert_eq!(rt;
+            least(kind, SourceFaultKind::BadToken),
+            SourceFaultKind::BadToken
+        );
+        assert_eq!(rt;
+            least(SourceFaultKind::BadToken, kind),
+            SourceFaultKind::BadToken
+        );
+        assert_eq!(rt; least(kind, SourceFaultKind::TooLarge), kind);
+        assert_eq!(rt; least(SourceFaultKind::TooLarge, kind), kind);
     }
     assert_eq!(rt;
-        both(Ok::<u8, AsmFaultKind>(1), Ok::<u8, AsmFaultKind>(2)),
+        both(Ok::<u8, SourceFaultKind>(1), Ok::<u8, SourceFaultKind>(2)),
         Ok((1, 2))
     );
     assert_eq!(rt;
         both(
-            Err::<u8, AsmFaultKind>(BadOperand),
-            Ok::<u8, AsmFaultKind>(2)
+            Err::<u8, SourceFaultKind>(bad),
+            Ok::<u8, SourceFaultKind>(2)
         ),
-        Err(BadOperand)
+        Err(bad)
     );
     assert_eq!(rt;
         both(
-            Ok::<u8, AsmFaultKind>(1),
-            Err::<u8, AsmFaultKind>(UnknownName)
+            Ok::<u8, SourceFaultKind>(1),
+            Err::<u8, SourceFaultKind>(unknown)
         ),
-        Err(UnknownName)
+        Err(unknown)
     );
     assert_eq!(rt;
         both(
-            Err::<u8, AsmFaultKind>(BadOperand),
-            Err::<u8, AsmFaultKind>(UnknownName)
+            Err::<u8, SourceFaultKind>(bad),
+            Err::<u8, SourceFaultKind>(unknown)
         ),
-        Err(UnknownName)
+        Err(unknown)
     );
 }
 

@@ -1,7 +1,7 @@
 //! The tokens of a line: names, numbers and marks.
 
-ghost use Rattle.std.specs.Prelude.{◌≡◌, ◌≤◌, false};
-ghost use Rattle.evm_asm_lexer.specs.Text.{starts_with, is_digit, digit, with_digit, with_digits, digits, size, is_name_or_number, begins_well, is_sound};
+ghost use Rattle.std.specs.Prelude.{◌≡◌, ◌≤◌, false, option_copied};
+ghost use Rattle.evm_asm_lexer.specs.Text.{starts_with, is_digit, digit, with_digit, with_digits, digits, size, is_name_or_number, begins_well, bad_token, is_sound};
 
 use crate::text::{first_word, is_digit, is_mark, is_white, is_word_byte};
 
@@ -113,4 +113,21 @@ pub fn is_sound(text: &[u8]) -> bool
         rest = tail;
     }
     true
+}
+
+/// The text from its first token on that isn't sound, if there is one.
+#[tactic(auto, unfolding(crate::specs::Text::bad_token))]
+pub fn bad_token(text: &[u8]) -> Option<&[u8]>
+    ensures { option_copied result ≡ bad_token false text.now }
+{
+    let mut inside = false;
+    let mut rest = text;
+    while let [b, tail @ ..] = rest {
+        if !begins_well(inside, rest) {
+            return Some(rest);
+        }
+        inside = is_word_byte(*b);
+        rest = tail;
+    }
+    None
 }

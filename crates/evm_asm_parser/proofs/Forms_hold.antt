@@ -1,6 +1,6 @@
 -- What holds of every statement that is read, from what holds of each operand and of each row of the table of forms.
 use Rattle.std.proofs.Common.{ℕ, zero, suc, Bool, true, false, cond, ◌==◌, List, [], ◌∷◌, length, Ok, Err, IfOk}
-use Rattle.evm_asm_lexer.specs.declared.fault.AsmFaultKind.TheVariants.{BadOperand}
+use Rattle.evm_asm_lexer.specs.declared.source_fault.SourceFaultKind.TheVariants.{BadOperand}
 use Rattle.evm_asm_lexer.specs.declared.mnemonic.Width.{Width}
 use Rattle.evm_asm_lexer.specs.declared.mnemonic.Mnemonic.{Mnemonic}
 use Rattle.evm_asm_parser.specs.declared.statement.Statement.{Statement}

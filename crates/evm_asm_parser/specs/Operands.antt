@@ -1,7 +1,7 @@
 -- What an operand says: the text between two commas, in the place of a register, a number, an address or a label.
 use Rattle.std.specs.Prelude.{ℕ, ◌+◌, ◌-◌, ◌*◌, ◌%◌, ◌^◌, Bool, true, false, ◌&&◌, ◌==◌, nat_lt, nat_le, if◌then◌else◌, List, count_by, Option, Some, None, option_map, Result, Ok, Err, ℤ, pos, neg_ℤ}
-use Rattle.evm_asm_lexer.specs.declared.fault.AsmFaultKind.{AsmFaultKind}
-use Rattle.evm_asm_lexer.specs.declared.fault.AsmFaultKind.TheVariants.{UnknownName, BadOperand, RangeOfImmediate}
+use Rattle.evm_asm_lexer.specs.declared.source_fault.SourceFaultKind.{SourceFaultKind}
+use Rattle.evm_asm_lexer.specs.declared.source_fault.SourceFaultKind.TheVariants.{UnknownName, BadOperand, RangeOfImmediate}
 use Rattle.evm_asm_lexer.specs.declared.mnemonic.Width.{Width}
 use Rattle.evm_asm_lexer.specs.declared.mnemonic.Width.TheVariants.{Byte, Word, Dword}
 use Rattle.evm_asm_parser.specs.declared.operand.Number.{Number}
@@ -31,7 +31,7 @@ unfoldable pub how_many : List ℕ → ℕ
 how_many text = if is_blank_text text then 0 else count_by (λ b. b == comma) text + 1
 
 -- what was read of n operands, where there are so many
-unfoldable pub counted : {A : Type 0} → ℕ → ℕ → Result A AsmFaultKind → Result A AsmFaultKind
+unfoldable pub counted : {A : Type 0} → ℕ → ℕ → Result A SourceFaultKind → Result A SourceFaultKind
 counted n count (Ok a) = if count == n then Ok a else Err BadOperand
 counted n count (Err e) = if count == n then Err e else Err (least e BadOperand)
 
@@ -41,23 +41,23 @@ name_in text =
     if starts_with is_name_start (skip_blanks text) && is_blank_text (behind_word (skip_blanks text))
     then Some (first_word (skip_blanks text)) else None
 
-abbrev pub known : Option ℕ → Result ℕ AsmFaultKind
+abbrev pub known : Option ℕ → Result ℕ SourceFaultKind
 known (Some r) = Ok r
 known None = Err UnknownName
 
-abbrev pub named_register : Option (List ℕ) → Result ℕ AsmFaultKind
+abbrev pub named_register : Option (List ℕ) → Result ℕ SourceFaultKind
 named_register (Some name) = known (register_named name)
 named_register None = Err BadOperand
 
-unfoldable pub register_in : List ℕ → Result ℕ AsmFaultKind
+unfoldable pub register_in : List ℕ → Result ℕ SourceFaultKind
 register_in text = named_register (name_in text)
 
-abbrev pub labelled : Spots → Option (List ℕ) → Result (Option Spot) AsmFaultKind
+abbrev pub labelled : Spots → Option (List ℕ) → Result (Option Spot) SourceFaultKind
 labelled labels (Some name) = Ok (named labels name)
 labelled labels None = Err BadOperand
 
 -- where the label that the text names is, if it is anywhere
-unfoldable pub label_in : Spots → List ℕ → Result (Option Spot) AsmFaultKind
+unfoldable pub label_in : Spots → List ℕ → Result (Option Spot) SourceFaultKind
 label_in labels text = labelled labels (name_in text)
 
 -- a text that is one number without a sign, with blanks behind it
@@ -72,52 +72,52 @@ number_in text =
     else option_map (λ n. record { negative = false; size = n }) (size_in (skip_blanks text))
 
 -- the number, where it is from -below to above
-unfoldable pub integer : ℕ → ℕ → Number → Result ℤ AsmFaultKind
+unfoldable pub integer : ℕ → ℕ → Number → Result ℤ SourceFaultKind
 integer below above n =
     if n.negative then (if nat_le n.size below then Ok (neg_ℤ (pos n.size)) else Err RangeOfImmediate)
     else (if nat_le n.size above then Ok (pos n.size) else Err RangeOfImmediate)
 
-abbrev pub ranged : ℕ → ℕ → Option Number → Result ℤ AsmFaultKind
+abbrev pub ranged : ℕ → ℕ → Option Number → Result ℤ SourceFaultKind
 ranged below above (Some n) = integer below above n
 ranged below above None = Err BadOperand
 
-unfoldable pub integer_in : ℕ → ℕ → List ℕ → Result ℤ AsmFaultKind
+unfoldable pub integer_in : ℕ → ℕ → List ℕ → Result ℤ SourceFaultKind
 integer_in below above text = ranged below above (number_in text)
 
 -- the immediate of most instructions
-unfoldable pub immediate_in : List ℕ → Result ℤ AsmFaultKind
+unfoldable pub immediate_in : List ℕ → Result ℤ SourceFaultKind
 immediate_in text = integer_in 2048 2047 text
 
 -- what stands before the '(' of an address: an immediate, or nothing, which is 0
-unfoldable pub offset_in : List ℕ → Result ℤ AsmFaultKind
+unfoldable pub offset_in : List ℕ → Result ℤ SourceFaultKind
 offset_in text = if is_blank_text text then Ok (pos 0) else immediate_in text
 
 -- what stands behind it: a register and ')'
-unfoldable pub base_in : List ℕ → Result ℕ AsmFaultKind
+unfoldable pub base_in : List ℕ → Result ℕ SourceFaultKind
 base_in text = if has right_parenthesis text && is_blank_text (after right_parenthesis text) then register_in (before right_parenthesis text) else Err BadOperand
 
-unfoldable pub address_in : List ℕ → Result (ℤ × ℕ) AsmFaultKind
+unfoldable pub address_in : List ℕ → Result (ℤ × ℕ) SourceFaultKind
 address_in text = if has left_parenthesis text then both (offset_in (before left_parenthesis text)) (base_in (after left_parenthesis text)) else Err BadOperand
 
 -- an address whose offset is written
-unfoldable pub full_address_in : List ℕ → Result (ℤ × ℕ) AsmFaultKind
+unfoldable pub full_address_in : List ℕ → Result (ℤ × ℕ) SourceFaultKind
 full_address_in text = if has left_parenthesis text then both (immediate_in (before left_parenthesis text)) (base_in (after left_parenthesis text)) else Err BadOperand
 
 -- the number, where it is from 0 to above
-unfoldable pub natural : ℕ → Number → Result ℕ AsmFaultKind
+unfoldable pub natural : ℕ → Number → Result ℕ SourceFaultKind
 natural above n =
     if n.negative then (if n.size == 0 then Ok 0 else Err RangeOfImmediate)
     else (if nat_le n.size above then Ok n.size else Err RangeOfImmediate)
 
-abbrev pub limited : ℕ → Option Number → Result ℕ AsmFaultKind
+abbrev pub limited : ℕ → Option Number → Result ℕ SourceFaultKind
 limited above (Some n) = natural above n
 limited above None = Err BadOperand
 
-unfoldable pub natural_in : ℕ → List ℕ → Result ℕ AsmFaultKind
+unfoldable pub natural_in : ℕ → List ℕ → Result ℕ SourceFaultKind
 natural_in above text = limited above (number_in text)
 
 -- the number modulo 2 ^ 64, where it is from -below to above
-unfoldable pub wrapped : ℕ → ℕ → Number → Result ℕ AsmFaultKind
+unfoldable pub wrapped : ℕ → ℕ → Number → Result ℕ SourceFaultKind
 wrapped below above n =
     if n.negative then (if nat_le n.size below then Ok ((2 ^ 64 - n.size) % 2 ^ 64) else Err RangeOfImmediate)
     else (if nat_le n.size above then Ok n.size else Err RangeOfImmediate)
@@ -126,23 +126,23 @@ wrapped below above n =
 abbrev pub upper : ℕ → ℤ
 upper n = if nat_lt n 524288 then pos (n * 4096) else neg_ℤ (pos ((1048576 - n) * 4096))
 
-unfoldable pub upper_in : List ℕ → Result ℤ AsmFaultKind
+unfoldable pub upper_in : List ℕ → Result ℤ SourceFaultKind
 upper_in text = natural_in 1048575 text >>= λ n. Ok (upper n)
 
 -- One number of a data directive, modulo 2 ^ 64, or a label.
-abbrev pub number_datum : Width → Number → Result ℕ AsmFaultKind
+abbrev pub number_datum : Width → Number → Result ℕ SourceFaultKind
 number_datum Byte n = wrapped 128 255 n
 number_datum Word n = wrapped 2147483648 4294967295 n
 number_datum Dword n = wrapped 9223372036854775808 18446744073709551615 n
 
-abbrev pub label_datum : Spots → Width → List ℕ → Result (Option Spot) AsmFaultKind
+abbrev pub label_datum : Spots → Width → List ℕ → Result (Option Spot) SourceFaultKind
 label_datum labels Byte text = Err BadOperand
 label_datum labels Word text = label_in labels text
 label_datum labels Dword text = label_in labels text
 
-abbrev pub datum_of : Spots → Width → List ℕ → Option Number → Result Datum AsmFaultKind
+abbrev pub datum_of : Spots → Width → List ℕ → Option Number → Result Datum SourceFaultKind
 datum_of labels width text (Some n) = number_datum width n >>= λ v. Ok (datum.Value v)
 datum_of labels width text None = label_datum labels width text >>= λ s. Ok (datum.Label s)
 
-unfoldable pub datum_in : Spots → Width → List ℕ → Result Datum AsmFaultKind
+unfoldable pub datum_in : Spots → Width → List ℕ → Result Datum SourceFaultKind
 datum_in labels width text = datum_of labels width text (number_in text)

@@ -1,7 +1,7 @@
 -- What a statement says: its operands read in the form of its mnemonic, with the labels that are known.
 use Rattle.std.specs.Prelude.{ℕ, zero, suc, ◌==◌, if◌then◌else◌, List, [], ◌∷◌, length, Option, Some, None, Result, Ok, Err}
-use Rattle.evm_asm_lexer.specs.declared.fault.AsmFaultKind.{AsmFaultKind}
-use Rattle.evm_asm_lexer.specs.declared.fault.AsmFaultKind.TheVariants.{BadOperand}
+use Rattle.evm_asm_lexer.specs.declared.source_fault.SourceFaultKind.{SourceFaultKind}
+use Rattle.evm_asm_lexer.specs.declared.source_fault.SourceFaultKind.TheVariants.{BadOperand}
 use Rattle.evm_asm_lexer.specs.declared.mnemonic.Width.{Width}
 use Rattle.evm_asm_lexer.specs.declared.mnemonic.Mnemonic.{Mnemonic}
 use Rattle.evm_asm_parser.specs.declared.statement.Statement.{Statement}
@@ -10,15 +10,15 @@ use Rattle.evm_asm_parser.specs.Operands.{Spots, first_operand, other_operands, 
 use Rattle.evm_asm_parser.specs.Forms.{Slot, Register, Integer, Natural, Upper, Label, Address, FullAddress, Name, Value, Values, Form, Each, Many, form}
 
 abbrev pub Reading : Type 0
-Reading = Result Statement AsmFaultKind
+Reading = Result Statement SourceFaultKind
 
 -- a name, to no effect
-abbrev pub is_named : Option (List ℕ) → Result (Unit {0}) AsmFaultKind
+abbrev pub is_named : Option (List ℕ) → Result (Unit {0}) SourceFaultKind
 is_named (Some name) = Ok tt
 is_named None = Err BadOperand
 
 -- what a text says in a place
-abbrev pub operand_in : Spots → (slot : Slot) → List ℕ → Result (Value slot) AsmFaultKind
+abbrev pub operand_in : Spots → (slot : Slot) → List ℕ → Result (Value slot) SourceFaultKind
 operand_in labels Register text = register_in text
 operand_in labels (Integer below above) text = integer_in below above text
 operand_in labels (Natural above) text = natural_in above text
@@ -29,17 +29,17 @@ operand_in labels FullAddress text = full_address_in text
 operand_in labels Name text = is_named (name_in text)
 
 -- what the first operands say, each in its place, or the least of their faults
-abbrev pub operands_in : Spots → (slots : List Slot) → List ℕ → Result (Values slots) AsmFaultKind
+abbrev pub operands_in : Spots → (slots : List Slot) → List ℕ → Result (Values slots) SourceFaultKind
 operands_in labels [] text = Ok tt
 operands_in labels (slot ∷ []) text = operand_in labels slot (first_operand text)
 operands_in labels (slot ∷ next ∷ slots) text = both (operand_in labels slot (first_operand text)) (operands_in labels (next ∷ slots) (other_operands text))
 
 -- what the operands say, which are as many as there are places
-abbrev pub all_operands_in : Spots → (slots : List Slot) → List ℕ → Result (Values slots) AsmFaultKind
+abbrev pub all_operands_in : Spots → (slots : List Slot) → List ℕ → Result (Values slots) SourceFaultKind
 all_operands_in labels slots text = counted (length slots) (how_many text) (operands_in labels slots text)
 
 -- the first of two readings, or the least of their faults
-unfoldable pub also : {A B : Type 0} → Result A AsmFaultKind → Result B AsmFaultKind → Result A AsmFaultKind
+unfoldable pub also : {A B : Type 0} → Result A SourceFaultKind → Result B SourceFaultKind → Result A SourceFaultKind
 also (Ok a) (Ok b) = Ok a
 also (Ok a) (Err f) = Err f
 also (Err e) (Ok b) = Err e

@@ -13,10 +13,10 @@ use crate::operand::{
 };
 use crate::spot::Spot;
 use crate::statement::{Datum, Reading, Statement};
-use evm_asm_lexer::{AsmFaultKind, Width, least};
+use evm_asm_lexer::{SourceFaultKind, Width, least};
 use evm_isa::Shift;
 
-fn number_datum(width: Width, number: Number) -> Result<u64, AsmFaultKind>
+fn number_datum(width: Width, number: Number) -> Result<u64, SourceFaultKind>
     ensures { result ≡ number_datum width number }
 {
     match width {
@@ -26,18 +26,18 @@ fn number_datum(width: Width, number: Number) -> Result<u64, AsmFaultKind>
     }
 }
 
-fn label_datum(labels: &Labels, width: Width, text: &[u8]) -> Result<Option<Spot>, AsmFaultKind>
+fn label_datum(labels: &Labels, width: Width, text: &[u8]) -> Result<Option<Spot>, SourceFaultKind>
     ensures { result ≡ label_datum labels.now width text.now }
 {
     match width {
-        Width::Byte => Err(AsmFaultKind::BadOperand),
+        Width::Byte => Err(SourceFaultKind::BadOperand),
         Width::Word | Width::Dword => label_in(labels, text),
     }
 }
 
 /// The number or label that a text is, for a place of this width.
 #[tactic(auto, unfolding(crate::specs::Operands::datum_in))]
-pub fn datum_in(labels: &Labels, width: Width, text: &[u8]) -> Result<Datum, AsmFaultKind>
+pub fn datum_in(labels: &Labels, width: Width, text: &[u8]) -> Result<Datum, SourceFaultKind>
     ensures { result ≡ datum_in labels.now width text.now }
 {
     match number_in(text) {
@@ -55,9 +55,9 @@ pub fn datum_in(labels: &Labels, width: Width, text: &[u8]) -> Result<Datum, Asm
 /// The first of two readings of one line, or the least of their faults.
 #[tactic(auto, unfolding(crate::specs::Statements::also))]
 pub fn also<A: Drop, B: Drop>(
-    a: Result<A, AsmFaultKind>,
-    b: Result<B, AsmFaultKind>,
-) -> Result<A, AsmFaultKind>
+    a: Result<A, SourceFaultKind>,
+    b: Result<B, SourceFaultKind>,
+) -> Result<A, SourceFaultKind>
     ensures { result ≡ also a b }
 {
     match (a, b) {
@@ -88,7 +88,7 @@ pub fn numbers_line(labels: &Labels, width: Width, text: &[u8]) -> Reading
 {
     let count = how_many(text);
     if count == 0 {
-        return Err(AsmFaultKind::BadOperand);
+        return Err(SourceFaultKind::BadOperand);
     }
     with_data(labels, width, count as u64, text)
 }
@@ -104,7 +104,7 @@ pub fn space_line(text: &[u8]) -> Reading
 }
 
 /// The power of 2 that a text is, 0 to 12.
-fn power_in(text: &[u8]) -> Result<Shift, AsmFaultKind>
+fn power_in(text: &[u8]) -> Result<Shift, SourceFaultKind>
     ensures { result ≡ natural_in 12 text.now }
 {
     let power = natural_in(12, text)?;
@@ -130,7 +130,7 @@ pub fn global_line(text: &[u8]) -> Reading
 {
     let read = match name_in(first_operand(text)) {
         Some(_) => Ok(()),
-        None => Err(AsmFaultKind::BadOperand),
+        None => Err(SourceFaultKind::BadOperand),
     };
     counted(1, how_many(text), read)?;
     Ok(Statement::Nothing)

@@ -14,10 +14,10 @@ use crate::operand::{
     register_in, second_operand, third_operand,
 };
 use crate::statement::{Reading, Statement, return_address};
-use evm_asm_lexer::{AsmFaultKind, both};
+use evm_asm_lexer::{SourceFaultKind, both};
 use evm_isa::{ImmediateOp, Inst, LoadOp, Register, RegisterOp, Shift, ShiftOp, StoreOp, WordOp};
 
-fn three_registers(text: &[u8]) -> Result<(Register, (Register, Register)), AsmFaultKind>
+fn three_registers(text: &[u8]) -> Result<(Register, (Register, Register)), SourceFaultKind>
     ensures { result ≡ all_operands_in [] (slot.Register ∷ slot.Register ∷ slot.Register ∷ []) text.now }
 {
     let sources = both(
@@ -50,7 +50,7 @@ pub fn word_line(op: WordOp, text: &[u8]) -> Reading
 }
 
 #[tactic(auto, unfolding(crate::specs::Operands::immediate_in))]
-fn two_registers_and_immediate(text: &[u8]) -> Result<(Register, (Register, i32)), AsmFaultKind>
+fn two_registers_and_immediate(text: &[u8]) -> Result<(Register, (Register, i32)), SourceFaultKind>
     ensures { result ≡ all_operands_in [] (slot.Register ∷ slot.Register ∷ immediate_slot ∷ []) text.now }
 {
     let sources = both(
@@ -88,7 +88,7 @@ fn greatest_shift(op: ShiftOp) -> u64
 }
 
 /// The shift amount that a text is, 0 to 31 or 63.
-fn amount_in(op: ShiftOp, text: &[u8]) -> Result<Shift, AsmFaultKind>
+fn amount_in(op: ShiftOp, text: &[u8]) -> Result<Shift, SourceFaultKind>
     ensures { result ≡ natural_in (greatest_shift op) text.now }
 {
     let amount = natural_in(greatest_shift(op), text)?;
@@ -101,7 +101,7 @@ fn amount_in(op: ShiftOp, text: &[u8]) -> Result<Shift, AsmFaultKind>
 fn two_registers_and_amount(
     op: ShiftOp,
     text: &[u8],
-) -> Result<(Register, (Register, Shift)), AsmFaultKind>
+) -> Result<(Register, (Register, Shift)), SourceFaultKind>
     ensures { result ≡ all_operands_in [] (slot.Register ∷ slot.Register ∷ slot.Natural (greatest_shift op) ∷ []) text.now }
 {
     let sources = both(
@@ -129,7 +129,7 @@ pub fn shift_line(op: ShiftOp, text: &[u8]) -> Reading
     }))
 }
 
-fn register_and_address(text: &[u8]) -> Result<(Register, (i32, Register)), AsmFaultKind>
+fn register_and_address(text: &[u8]) -> Result<(Register, (i32, Register)), SourceFaultKind>
     ensures { result ≡ all_operands_in [] (slot.Register ∷ slot.Address ∷ []) text.now }
 {
     let read = both(
@@ -180,14 +180,14 @@ pub fn upper(n: u64) -> i32
 }
 
 #[tactic(auto, unfolding(crate::specs::Operands::upper_in))]
-fn upper_in(text: &[u8]) -> Result<i32, AsmFaultKind>
+fn upper_in(text: &[u8]) -> Result<i32, SourceFaultKind>
     ensures { result ≡ upper_in text.now }
 {
     let n = natural_in(1048575, text)?;
     Ok(upper(n))
 }
 
-fn register_and_upper(text: &[u8]) -> Result<(Register, i32), AsmFaultKind>
+fn register_and_upper(text: &[u8]) -> Result<(Register, i32), SourceFaultKind>
     ensures { result ≡ all_operands_in [] (slot.Register ∷ slot.Upper ∷ []) text.now }
 {
     let read = both(
@@ -224,7 +224,7 @@ pub fn jump_register_line(rd: Register, text: &[u8]) -> Reading
     Ok(Statement::One(Inst::Jalr { rd, rs1, offset: 0 }))
 }
 
-fn register_and_full_address(text: &[u8]) -> Result<(Register, (i32, Register)), AsmFaultKind>
+fn register_and_full_address(text: &[u8]) -> Result<(Register, (i32, Register)), SourceFaultKind>
     ensures { result ≡ all_operands_in [] (slot.Register ∷ slot.FullAddress ∷ []) text.now }
 {
     let read = both(

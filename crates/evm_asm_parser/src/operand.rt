@@ -9,7 +9,7 @@ ghost use Rattle.evm_asm_parser.specs.Operands.{is_blank_text, first_operand, ot
 use crate::labels::Labels;
 use crate::spot::Spot;
 use evm_asm_lexer::{
-    AsmFaultKind, after, before, behind_word, both, first_word, has, is_name_start, least,
+    SourceFaultKind, after, before, behind_word, both, first_word, has, is_name_start, least,
     register_named, size, skip_blanks, starts_with_digit,
 };
 use evm_isa::Register;
@@ -73,8 +73,8 @@ pub fn how_many(text: &[u8]) -> usize
 pub fn counted<A: Drop>(
     n: usize,
     count: usize,
-    read: Result<A, AsmFaultKind>,
-) -> Result<A, AsmFaultKind>
+    read: Result<A, SourceFaultKind>,
+) -> Result<A, SourceFaultKind>
     ensures { result ≡ counted n count read }
 {
     match read {
@@ -82,14 +82,14 @@ pub fn counted<A: Drop>(
             if count == n {
                 Ok(a)
             } else {
-                Err(AsmFaultKind::BadOperand)
+                Err(SourceFaultKind::BadOperand)
             }
         }
         Err(e) => {
             if count == n {
                 Err(e)
             } else {
-                Err(least(e, AsmFaultKind::BadOperand))
+                Err(least(e, SourceFaultKind::BadOperand))
             }
         }
     }
@@ -129,23 +129,23 @@ pub fn name_in(text: &[u8]) -> Option<&[u8]>
 
 /// The register that a text names.
 #[tactic(auto, unfolding(crate::specs::Operands::register_in))]
-pub fn register_in(text: &[u8]) -> Result<Register, AsmFaultKind>
+pub fn register_in(text: &[u8]) -> Result<Register, SourceFaultKind>
     ensures { result ≡ register_in text.now }
 {
     match name_in(text) {
-        Some(name) => register_named(name).ok_or(AsmFaultKind::UnknownName),
-        None => Err(AsmFaultKind::BadOperand),
+        Some(name) => register_named(name).ok_or(SourceFaultKind::UnknownName),
+        None => Err(SourceFaultKind::BadOperand),
     }
 }
 
 /// Where the label is that a text names, if it is anywhere.
 #[tactic(auto, unfolding(crate::specs::Operands::label_in))]
-pub fn label_in(labels: &Labels, text: &[u8]) -> Result<Option<Spot>, AsmFaultKind>
+pub fn label_in(labels: &Labels, text: &[u8]) -> Result<Option<Spot>, SourceFaultKind>
     ensures { result ≡ label_in labels.now text.now }
 {
     match name_in(text) {
         Some(name) => Ok(labels.find(name)),
-        None => Err(AsmFaultKind::BadOperand),
+        None => Err(SourceFaultKind::BadOperand),
     }
 }
 
@@ -185,7 +185,7 @@ pub fn number_in(text: &[u8]) -> Option<Number>
 }
 
 #[tactic(auto, unfolding(crate::specs::Operands::integer))]
-fn integer(below: u64, above: u64, number: Number) -> Result<i32, AsmFaultKind>
+fn integer(below: u64, above: u64, number: Number) -> Result<i32, SourceFaultKind>
     requires low { below ≤ 2147483648 }
     requires high { above ≤ 2147483647 }
     ensures { result ≡ integer below above number }
@@ -194,38 +194,38 @@ fn integer(below: u64, above: u64, number: Number) -> Result<i32, AsmFaultKind>
         if number.size <= below {
             Ok(-(number.size as i64) as i32)
         } else {
-            Err(AsmFaultKind::RangeOfImmediate)
+            Err(SourceFaultKind::RangeOfImmediate)
         }
     } else if number.size <= above {
         Ok(number.size as i32)
     } else {
-        Err(AsmFaultKind::RangeOfImmediate)
+        Err(SourceFaultKind::RangeOfImmediate)
     }
 }
 
 /// The number that a text is, from `-below` to `above`.
 #[tactic(auto, unfolding(crate::specs::Operands::integer_in))]
-pub fn integer_in(below: u64, above: u64, text: &[u8]) -> Result<i32, AsmFaultKind>
+pub fn integer_in(below: u64, above: u64, text: &[u8]) -> Result<i32, SourceFaultKind>
     requires low { below ≤ 2147483648 }
     requires high { above ≤ 2147483647 }
     ensures { result ≡ integer_in below above text.now }
 {
     match number_in(text) {
         Some(number) => integer(below, above, number),
-        None => Err(AsmFaultKind::BadOperand),
+        None => Err(SourceFaultKind::BadOperand),
     }
 }
 
 /// The immediate that a text is, from -2048 to 2047.
 #[tactic(auto, unfolding(crate::specs::Operands::immediate_in))]
-pub fn immediate_in(text: &[u8]) -> Result<i32, AsmFaultKind>
+pub fn immediate_in(text: &[u8]) -> Result<i32, SourceFaultKind>
     ensures { result ≡ immediate_in text.now }
 {
     integer_in(2048, 2047, text)
 }
 
 #[tactic(auto, unfolding(crate::specs::Operands::offset_in))]
-fn offset_in(text: &[u8]) -> Result<i32, AsmFaultKind>
+fn offset_in(text: &[u8]) -> Result<i32, SourceFaultKind>
     ensures { result ≡ offset_in text.now }
 {
     if is_blank_text(text) {
@@ -236,42 +236,42 @@ fn offset_in(text: &[u8]) -> Result<i32, AsmFaultKind>
 }
 
 #[tactic(auto, unfolding(crate::specs::Operands::base_in))]
-fn base_in(text: &[u8]) -> Result<Register, AsmFaultKind>
+fn base_in(text: &[u8]) -> Result<Register, SourceFaultKind>
     ensures { result ≡ base_in text.now }
 {
     if has(b')', text) && is_blank_text(after(b')', text)) {
         register_in(before(b')', text))
     } else {
-        Err(AsmFaultKind::BadOperand)
+        Err(SourceFaultKind::BadOperand)
     }
 }
 
 /// An offset, or nothing, and a register in parentheses.
 #[tactic(auto, unfolding(crate::specs::Operands::address_in))]
-pub fn address_in(text: &[u8]) -> Result<(i32, Register), AsmFaultKind>
+pub fn address_in(text: &[u8]) -> Result<(i32, Register), SourceFaultKind>
     ensures { result ≡ address_in text.now }
 {
     if has(b'(', text) {
         both(offset_in(before(b'(', text)), base_in(after(b'(', text)))
     } else {
-        Err(AsmFaultKind::BadOperand)
+        Err(SourceFaultKind::BadOperand)
     }
 }
 
 /// An offset, and a register in parentheses.
 #[tactic(auto, unfolding(crate::specs::Operands::full_address_in))]
-pub fn full_address_in(text: &[u8]) -> Result<(i32, Register), AsmFaultKind>
+pub fn full_address_in(text: &[u8]) -> Result<(i32, Register), SourceFaultKind>
     ensures { result ≡ full_address_in text.now }
 {
     if has(b'(', text) {
         both(immediate_in(before(b'(', text)), base_in(after(b'(', text)))
     } else {
-        Err(AsmFaultKind::BadOperand)
+        Err(SourceFaultKind::BadOperand)
     }
 }
 
 #[tactic(auto, unfolding(crate::specs::Operands::natural))]
-fn natural(above: u64, number: Number) -> Result<u64, AsmFaultKind>
+fn natural(above: u64, number: Number) -> Result<u64, SourceFaultKind>
     ensures value { result ≡ natural above number }
     ensures in_range { IfOk result (λ n. n ≤ above) }
 {
@@ -279,41 +279,41 @@ fn natural(above: u64, number: Number) -> Result<u64, AsmFaultKind>
         if number.size == 0 {
             Ok(0)
         } else {
-            Err(AsmFaultKind::RangeOfImmediate)
+            Err(SourceFaultKind::RangeOfImmediate)
         }
     } else if number.size <= above {
         Ok(number.size)
     } else {
-        Err(AsmFaultKind::RangeOfImmediate)
+        Err(SourceFaultKind::RangeOfImmediate)
     }
 }
 
 /// The number that a text is, from 0 to `above`.
 #[tactic(auto, unfolding(crate::specs::Operands::natural_in))]
-pub fn natural_in(above: u64, text: &[u8]) -> Result<u64, AsmFaultKind>
+pub fn natural_in(above: u64, text: &[u8]) -> Result<u64, SourceFaultKind>
     ensures value { result ≡ natural_in above text.now }
     ensures in_range { IfOk result (λ n. n ≤ above) }
 {
     match number_in(text) {
         Some(number) => natural(above, number),
-        None => Err(AsmFaultKind::BadOperand),
+        None => Err(SourceFaultKind::BadOperand),
     }
 }
 
 /// A number from `-below` to `above`, modulo 2^64.
 #[tactic(auto, unfolding(crate::specs::Operands::wrapped))]
-pub fn wrapped(below: u64, above: u64, number: Number) -> Result<u64, AsmFaultKind>
+pub fn wrapped(below: u64, above: u64, number: Number) -> Result<u64, SourceFaultKind>
     ensures { result ≡ wrapped below above number }
 {
     if number.negative {
         if number.size <= below {
             Ok(number.size.wrapping_neg())
         } else {
-            Err(AsmFaultKind::RangeOfImmediate)
+            Err(SourceFaultKind::RangeOfImmediate)
         }
     } else if number.size <= above {
         Ok(number.size)
     } else {
-        Err(AsmFaultKind::RangeOfImmediate)
+        Err(SourceFaultKind::RangeOfImmediate)
     }
 }

@@ -9,7 +9,7 @@ ghost use Rattle.evm_asm_parser.specs.Statements.{all_operands_in, statement_of}
 
 use crate::operand::{counted, first_operand, how_many, integer_in, register_in, second_operand};
 use crate::statement::{Reading, Statement, return_address, zero};
-use evm_asm_lexer::{AsmFaultKind, BareOp, UnaryOp, both};
+use evm_asm_lexer::{BareOp, SourceFaultKind, UnaryOp, both};
 use evm_isa::{ImmediateOp, Inst, Register, RegisterOp, WordOp};
 
 fn bare_instruction(op: BareOp) -> Inst
@@ -85,7 +85,7 @@ fn unary_instruction(op: UnaryOp, rd: Register, rs: Register) -> Inst
     }
 }
 
-fn two_registers(text: &[u8]) -> Result<(Register, Register), AsmFaultKind>
+fn two_registers(text: &[u8]) -> Result<(Register, Register), SourceFaultKind>
     ensures { result ≡ all_operands_in [] (slot.Register ∷ slot.Register ∷ []) text.now }
 {
     let read = both(

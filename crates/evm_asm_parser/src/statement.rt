@@ -16,7 +16,7 @@ use crate::target::{
     branch_line, branch_zero_line, jal_line, jump_line, load_address_line, swapped_line,
     zero_branch_line,
 };
-use evm_asm_lexer::{AsmFaultKind, Mnemonic, Section, Width};
+use evm_asm_lexer::{Mnemonic, Section, SourceFaultKind, Width};
 use evm_isa::{BranchOp, Inst, Register, Shift};
 
 /// One number of a data directive.
@@ -65,7 +65,7 @@ pub enum Statement {
 }
 
 /// A statement, or why a line has none.
-pub type Reading = Result<Statement, AsmFaultKind>;
+pub type Reading = Result<Statement, SourceFaultKind>;
 
 /// x0.
 pub fn zero() -> Register

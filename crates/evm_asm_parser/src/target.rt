@@ -13,13 +13,13 @@ use crate::operand::{
 };
 use crate::spot::Spot;
 use crate::statement::{Reading, Statement, return_address, zero};
-use evm_asm_lexer::{AsmFaultKind, both};
+use evm_asm_lexer::{SourceFaultKind, both};
 use evm_isa::{BranchOp, Register};
 
 fn two_registers_and_label(
     labels: &Labels,
     text: &[u8],
-) -> Result<(Register, (Register, Option<Spot>)), AsmFaultKind>
+) -> Result<(Register, (Register, Option<Spot>)), SourceFaultKind>
     ensures { result ≡ all_operands_in labels.now (slot.Register ∷ slot.Register ∷ slot.Label ∷ []) text.now }
 {
     let others = both(
@@ -64,7 +64,7 @@ pub fn swapped_line(labels: &Labels, op: BranchOp, text: &[u8]) -> Reading
 fn register_and_label(
     labels: &Labels,
     text: &[u8],
-) -> Result<(Register, Option<Spot>), AsmFaultKind>
+) -> Result<(Register, Option<Spot>), SourceFaultKind>
     ensures { result ≡ all_operands_in labels.now (slot.Register ∷ slot.Label ∷ []) text.now }
 {
     let read = both(

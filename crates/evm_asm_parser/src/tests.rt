@@ -5,8 +5,8 @@ use crate::operand::{
     register_in, second_operand, third_operand, wrapped,
 };
 use crate::*;
-use evm_asm_lexer::AsmFaultKind::{BadOperand, RangeOfImmediate, UnknownName};
-use evm_asm_lexer::{AsmFaultKind, Section, behind_word, first_word, mnemonic_named};
+use evm_asm_lexer::SourceFaultKind::{BadOperand, RangeOfImmediate, UnknownName};
+use evm_asm_lexer::{Section, SourceFaultKind, behind_word, first_word, mnemonic_named};
 use evm_isa::Register;
 use std::test::Fail;
 
@@ -345,20 +345,20 @@ fn data(rt: HostRuntime) -> Result<(), Fail> {
 #[test]
 fn two_readings(rt: HostRuntime) {
     assert_eq!(rt;
-        also(Ok::<u8, AsmFaultKind>(1), Ok::<u8, AsmFaultKind>(2)),
+        also(Ok::<u8, SourceFaultKind>(1), Ok::<u8, SourceFaultKind>(2)),
         Ok(1)
     );
     assert_eq!(rt;
         also(
-            Ok::<u8, AsmFaultKind>(1),
-            Err::<u8, AsmFaultKind>(BadOperand)
+            Ok::<u8, SourceFaultKind>(1),
+            Err::<u8, SourceFaultKind>(BadOperand)
         ),
         Err(BadOperand)
     );
     assert_eq!(rt;
         also(
-            Err::<u8, AsmFaultKind>(BadOperand),
-            Err::<u8, AsmFaultKind>(UnknownName)
+            Err::<u8, SourceFaultKind>(BadOperand),
+            Err::<u8, SourceFaultKind>(UnknownName)
         ),
         Err(UnknownName)
     );

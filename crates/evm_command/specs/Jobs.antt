@@ -7,6 +7,7 @@ use Rattle.evm_serve.specs.evm_streams.declared.sink.Writing.{Writing}
 use Rattle.evm_serve.specs.evm_streams.Reads.{Reads, ReadsText}
 use Rattle.evm_image.specs.Images.{Contents}
 use Rattle.evm_serve.specs.evm_asm.Assembled.{program_of}
+use Rattle.evm_serve.specs.evm_asm_lexer.Faults.{reported}
 use Rattle.evm_serve.specs.Given.{Given, an_image, nothing}
 use Rattle.evm_serve.specs.Told.{told}
 use Rattle.evm_serve.specs.Serving.{Finishes, Unread}
@@ -46,7 +47,7 @@ module _ {S O C I W E : Type 0} (creates : S → List ℕ → Result C OpenFault
   abbrev pub AssemblesSource : List ℕ → List ℕ → List ℕ → Result C OpenFault → World S O C I W E → World S O C I W E → ℕ → Type 0
   AssemblesSource source out text (Err fault) w w' status = NotOpened tells (not_created_text out fault) w w' status
   AssemblesSource source out text (Ok file) w w' status = AsksNothing w w' × ((ending : Ending) × (file' : C)
-      × Assembles created writes (program_of text) file file' w.output w'.output ending × EndedWith tells (Source text) source ending w.errors w'.errors status)
+      × Assembles created writes (reported (program_of text)) file file' w.output w'.output ending × EndedWith tells (Source text) source ending w.errors w'.errors status)
 
   -- OUT is created for a source that was read
   abbrev pub Creates : List ℕ → List ℕ → List ℕ → World S O C I W E → World S O C I W E → ℕ → Type 0

@@ -1,4 +1,5 @@
 pub mod Headers
+pub mod First_outside
 pub mod Sharing
 pub mod Sound
 pub mod Written

@@ -1,5 +1,6 @@
 pub mod Fields
 pub mod Faults
+pub mod Details
 pub mod Rising
 pub mod Files
 pub mod Programs

@@ -14,7 +14,7 @@ use std::alloc::Global;
 /// The first four bytes of the file, `7f 45 4c 46`, and the number of the machine RISC-V.
 const MAGIC: u32 = 0x464c_457f;
 
-const RISC_V: u16 = 243;
+pub(crate) const RISC_V: u16 = 243;
 
 /// The bytes of the file header.
 pub(crate) const HEADER_SIZE: usize = 64;
@@ -36,7 +36,7 @@ fn has_other_kind(file: &[u8]) -> bool
 }
 
 /// Whether there are program headers, and not of 56 bytes.
-fn has_other_header_size(file: &[u8]) -> bool
+pub(crate) fn has_other_header_size(file: &[u8]) -> bool
     requires { 64 ≤ length file.now }
     ensures { result ≡ has_other_header_size file.now }
 {

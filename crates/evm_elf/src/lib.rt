@@ -1,6 +1,7 @@
 //! ELF64 images of RV64I programs: read, checked and written.
 #![tactic(auto)]
 
+mod detail;
 mod fault;
 mod faults;
 mod header;
@@ -11,9 +12,10 @@ mod segments;
 mod sentences;
 mod writing;
 
+pub use detail::{ImageDetail, image_detail};
 pub use evm_asm::{
-    AsmFault, AsmFaultKind, Program, all_that_is_meant_stands, assemble, la_loads, li_loads,
-    lines_are_worded, quoted, words_stand,
+    AsmFault, AsmFaultKind, Extension, Program, SourceDetail, all_that_is_meant_stands, assemble,
+    la_loads, li_loads, lines_are_worded, quoted, source_detail, words_stand,
 };
 pub use fault::ElfFault;
 pub use laws::{

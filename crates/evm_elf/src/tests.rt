@@ -245,3 +245,51 @@ fn faults_have_their_sentences(rt: HostRuntime) -> Result<(), Fail> {
     }
     Ok(())
 }
+
+// What is behind the first fault of a file.
+#[test]
+fn faults_have_details(rt: HostRuntime) -> Result<(), Fail> {
+    let alloc = rt.alloc();
+    let outside = ImageDetail::Outside {
+        index: 0,
+        start: 0x7fff_f000,
+        end: 0x7fff_f004,
+    };
+    let cut = ImageDetail::Cut { index: 0, end: 125 };
+    let rows: [(&[Patch], Option<ImageDetail>); 12] = [
+        (&[(0, 0)], None),
+        (&[(4, 1)], Some(ImageDetail::Bits32)),
+        (&[(5, 2)], Some(ImageDetail::BigEndian)),
+        (&[(16, 1)], Some(ImageDetail::Object)),
+        (&[(16, 3)], Some(ImageDetail::PositionIndependent)),
+        (&[(16, 3), (18, 62)], Some(ImageDetail::Machine(62))),
+        (&[(18, 62)], Some(ImageDetail::Machine(62))),
+        (&[(48, 1)], Some(ImageDetail::Compressed)),
+        (&[(54, 55)], Some(ImageDetail::HeaderSize(55))),
+        (&[(72, 121)], Some(cut)),
+        (&[(81, 0xf0), (82, 0xff), (83, 0x7f)], Some(outside)),
+        (&[(24, 2)], Some(ImageDetail::Entry(0x8000_0002))),
+    ];
+    for (patches, detail) in rows {
+        let file = patched(alloc, &NOP, 1, patches)?;
+        let Some(fault) = read_image(alloc, &file).err() else {
+            return Err(Fail::from("a faulty file was read"));
+        };
+        assert_eq!(rt; image_detail(&file, fault), detail, "{patches:?}");
+    }
+    assert_eq!(rt;
+        image_detail(&[], ElfFault::Short),
+        Some(ImageDetail::Empty)
+    );
+    assert_eq!(rt;
+        image_detail(b"nop", ElfFault::Short),
+        Some(ImageDetail::NoElf)
+    );
+    assert_eq!(rt; image_detail(&NOP[..32], ElfFault::Short), None);
+    assert_eq!(rt;
+        ImageDetail::Object.hint(),
+        Some("it is an object file: link it")
+    );
+    assert_eq!(rt; ImageDetail::Entry(0).hint(), None);
+    Ok(())
+}

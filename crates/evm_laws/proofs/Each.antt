@@ -1,7 +1,7 @@
 -- Each li and each la of a source is one that the laws of both are about.
 use Rattle.std.proofs.Common.{◌≡◌, ◌∙◌, ℕ, ◌+◌, ◌-◌, ◌%◌, ◌≤◌, List, Some, Result, Ok, take, ap, subst, arith}
 use Rattle.std.proofs.lemmas.Result.{IfOk-at_ok}
-use Rattle.evm_elf.specs.evm_asm_lexer.declared.fault.AsmFaultKind.{AsmFaultKind}
+use Rattle.evm_elf.specs.evm_asm_lexer.declared.source_fault.SourceFaultKind.{SourceFaultKind}
 use Rattle.evm_elf.specs.evm_asm_lexer.declared.mnemonic.Section.{Section as Part}
 use Rattle.evm_elf.specs.evm_asm_lexer.declared.mnemonic.Section.TheVariants.{Text, Data}
 use Rattle.evm_elf.specs.evm_asm_parser.declared.statement.Statement.{Statement}
@@ -23,7 +23,7 @@ can_load source n statement says =
     IfOk-at_ok CanLoad says.reads
     (statement_in_loads (layout_of source).labels (place_before source n) (statement_text (code_of says.line)) (all_bounded (source_lines source)).labels)
 
-pub same_expansion : (a b : Expansion) → ◌≡◌ {A = Result Expansion AsmFaultKind} (Ok a) (Ok b) → a ≡ b
+pub same_expansion : (a b : Expansion) → ◌≡◌ {A = Result Expansion SourceFaultKind} (Ok a) (Ok b) → a ≡ b
 same_expansion a b e = cc
 
 pub operands_are_in_range : OperandsAreInRange

@@ -2,8 +2,8 @@
 use Rattle.std.proofs.Common.{◌≡◌, ℕ, zero, suc, ◌-◌, ◌≤◌, Bool, true, false, cond, nat_le, List, [], ◌∷◌, ◌++◌, length, Option, Some, None, Result, Ok, Err, IfOk, refl, arith}
 use Rattle.std.specs.Prelude.{is_some}
 use Rattle.std.proofs.lemmas.Bool.{leb-true}
-use Rattle.evm_elf.specs.evm_asm_lexer.declared.fault.AsmFaultKind.{AsmFaultKind}
-use Rattle.evm_elf.specs.evm_asm_lexer.declared.fault.AsmFaultKind.TheVariants.{TooLarge}
+use Rattle.evm_elf.specs.evm_asm_lexer.declared.source_fault.SourceFaultKind.{SourceFaultKind}
+use Rattle.evm_elf.specs.evm_asm_lexer.declared.source_fault.SourceFaultKind.TheVariants.{TooLarge}
 use Rattle.evm_elf.specs.evm_asm_lexer.declared.mnemonic.Section.{Section as Part}
 use Rattle.evm_elf.specs.evm_asm_lexer.declared.mnemonic.Section.TheVariants.{Text, Data}
 use Rattle.evm_elf.specs.evm_asm_lexer.Faults.{◌>>=◌}
@@ -42,11 +42,11 @@ measured_limited : (labels : Spots) (place : Place) (text : List ℕ) → IsLimi
 unfolding measured
 measured_limited labels place text h = by_reading (statement_in labels place text)
   where
-    by_reading : (r : Result Statement AsmFaultKind) → IfOk (r >>= place_behind place) IsLimited
+    by_reading : (r : Result Statement SourceFaultKind) → IfOk (r >>= place_behind place) IsLimited
     by_reading (Ok statement) = behind_limited place statement h
     by_reading (Err e) = tt
 
-outcome_limited : (place : Place) (twice : Bool) (r : Result Place AsmFaultKind) → IsLimited place → IfOk r IsLimited → IsLimited (outcome place twice r).0
+outcome_limited : (place : Place) (twice : Bool) (r : Result Place SourceFaultKind) → IsLimited place → IfOk r IsLimited → IsLimited (outcome place twice r).0
 outcome_limited place false (Ok next) h k = k
 outcome_limited place false (Err kind) h k = h
 outcome_limited place true (Ok next) h k = h

@@ -1,6 +1,6 @@
 -- Every li and la that is read has operands that can be loaded.
 use Rattle.std.proofs.Common.{◌≡◌, ℕ, false, ◌==◌, not, List, Option, Some, None, Ok, Err, IfOk, IfSome, refl}
-use Rattle.evm_elf.specs.evm_asm_lexer.declared.fault.AsmFaultKind.TheVariants.{BadToken}
+use Rattle.evm_elf.specs.evm_asm_lexer.declared.source_fault.SourceFaultKind.TheVariants.{BadToken}
 use Rattle.evm_elf.specs.evm_asm_lexer.declared.mnemonic.Mnemonic.{Mnemonic}
 use Rattle.evm_elf.specs.evm_asm_lexer.declared.mnemonic.Mnemonic.TheVariants as names
 use Rattle.evm_elf.specs.evm_asm_lexer.Text.{skip_blanks, first_word, behind_word, starts_with, is_name_start, is_empty, is_sound}

@@ -2,6 +2,7 @@
 
 ghost use Rattle.evm_elf.specs.Files.{file_of};
 ghost use Rattle.evm_elf.specs.evm_asm.Assembled.{program_of};
+ghost use Rattle.evm_elf.specs.evm_asm_lexer.Faults.{reported};
 ghost use Rattle.evm_serve.specs.Playing.{Says};
 ghost use Rattle.evm_serve.specs.Assembling.{Assembles};
 
@@ -33,7 +34,7 @@ pub fn assemble_to<W: Sink, T: Sink>(
     out: &mut W,
     report: &mut T,
 ) -> Ending
-    ensures { Assembles W.takes T.takes (program_of source.now) out.old out.new report.old report.new result }
+    ensures { Assembles W.takes T.takes (reported (program_of source.now)) out.old out.new report.old report.new result }
 {
     let outcome = match assemble(alloc, source) {
         Ok(program) => write_file(alloc, &program, out),

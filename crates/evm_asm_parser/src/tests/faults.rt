@@ -1,9 +1,9 @@
 //! Lines whose operands are faulty, with the fault that is told: the operands are compared with the form place
 //! by place as far as both go, then the least number is told.
 
-use evm_asm_lexer::AsmFaultKind::{self, BadOperand, RangeOfImmediate, UnknownName};
+use evm_asm_lexer::SourceFaultKind::{self, BadOperand, RangeOfImmediate, UnknownName};
 
-pub(super) const FAULTS: &[(&str, AsmFaultKind)] = &[
+pub(super) const FAULTS: &[(&str, SourceFaultKind)] = &[
     // rd, rs1, rs2
     ("add", BadOperand),
     ("add a0,a1", BadOperand),
