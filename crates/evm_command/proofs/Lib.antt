@@ -1,2 +1,2 @@
+pub mod Escapes
 pub mod Sentences
-pub mod Shown

@@ -1,7 +1,7 @@
 -- Texts written one behind the other, and numbers digit by digit.
 use Rattle.std.proofs.Common.{◌≡◌, ℕ, ◌+◌, ◌-◌, ◌/◌, ◌%◌, ◌<◌, ◌≤◌, ◌^◌, List, [], ◌∷◌, ◌++◌, Result, Ok, Err, MatchResult, refl, sym, ◌∙◌, arith}
 use Rattle.std.proofs.lemmas.Bool.{lt-ltb}
-use Rattle.evm_serve.specs.evm_text.Written.{numeral}
+use Rattle.evm_serve.specs.evm_text.Written.{character, numeral}
 use Rattle.evm_serve.proofs.evm_text.Steps.{numeral_one, numeral_then, some_division}
 use Rattle.evm_serve.specs.evm_streams.declared.sink.Writing.{Writing}
 use Rattle.evm_serve.specs.evm_streams.declared.sink.WriteFault.{WriteFault}
@@ -34,3 +34,6 @@ numeral_large behind n below large =
     let last : n % 10 < 10 = omega arith in
     let e = lt-ltb (n % 10) 10 last in
     sym (numeral_then [] 10 behind n (some_division 10 behind n below large) large) ∙ rw e refl
+
+pub hexadecimal_large : (behind n : ℕ) → n < 16 ^ (behind + 1) → 16 ≤ n → numeral 16 behind n ≡ numeral 16 (behind - 1) (n / 16) ++ character (n % 16) ∷ []
+hexadecimal_large behind n below large = sym (numeral_then [] 16 behind n (some_division 16 behind n below large) large)

@@ -17,7 +17,7 @@ use Rattle.evm_serve.specs.Imaging.{Imports}
 use Rattle.evm_serve.specs.declared.ending.Ending.{Ending}
 use Rattle.evm_command.specs.declared.system.OpenFault.{OpenFault}
 use Rattle.evm_command.specs.declared.system.World.{World}
-use Rattle.evm_command.specs.Telling.{about, program_name, script_name, not_opened_text, not_created_text, Source, Lines, Tells, Ended, EndedWith}
+use Rattle.evm_command.specs.Telling.{about, program_name, script_name, input_name, not_opened_text, not_created_text, Source, Lines, Tells, Ended, EndedWith}
 
 module _ {S O C I W E : Type 0} where
   -- no file is asked for, and standard input is not read
@@ -74,7 +74,7 @@ module _ {S O C I W E : Type 0} (writes : W → Writing → List ℕ → W → T
   -- the text of a journal is replayed on an image
   abbrev pub ReplaysText : List ℕ → Contents → List ℕ → World S O C I W E → World S O C I W E → ℕ → Type 0
   ReplaysText path image text w w' status = AsksNothing w w' × ((ending : Ending)
-      × Finishes writes (replay_told (an_image image) text) w.output w'.output ending × EndedWith tells (Lines text) path ending w.errors w'.errors status)
+      × Finishes writes (replay_told (an_image image) text) w.output w'.output ending × EndedWith tells (Lines (Some image) text) path ending w.errors w'.errors status)
 
   abbrev pub ReplaysRead : List ℕ → Contents → Result (List ℕ) ReadStop → World S O C I W E → World S O C I W E → ℕ → Type 0
   ReplaysRead path image (Ok text) w w' status = ReplaysText path image text w w' status
@@ -83,11 +83,11 @@ module _ {S O C I W E : Type 0} (writes : W → Writing → List ℕ → W → T
   -- a script is served, with what is given to its run
   abbrev pub ServesScript : Given → List ℕ → World S O C I W E → World S O C I W E → ℕ → Type 0
   ServesScript given script w w' status = AsksNothing w w' × ((ending : Ending)
-      × Finishes writes (told given script) w.output w'.output ending × EndedWith tells (Lines script) script_name ending w.errors w'.errors status)
+      × Finishes writes (told given script) w.output w'.output ending × EndedWith tells (Lines given.image script) script_name ending w.errors w'.errors status)
 
   abbrev pub ServesRead : Given → Result (List ℕ) ReadStop → World S O C I W E → World S O C I W E → ℕ → Type 0
   ServesRead given (Ok script) w w' status = ServesScript given script w w' status
-  ServesRead given (Err stop) w w' status = NotRead writes tells script_name stop w w' status
+  ServesRead given (Err stop) w w' status = NotRead writes tells input_name stop w w' status
 
 module _ {S O C I W E : Type 0} (opens : S → List ℕ → Result O OpenFault → S → Type 0)
     (opened : O → Reading → List ℕ → O → Type 0) (writes : W → Writing → List ℕ → W → Type 0) (tells : E → Writing → List ℕ → E → Type 0) where

@@ -1,25 +1,21 @@
--- What a person is shown of a line of a script or a journal.
-use Rattle.std.specs.Prelude.{ℕ, ◌-◌, Bool, not, ◌&&◌, nat_le, List, Option, take, slice_get, option_map}
-use Rattle.std.specs.List.{before_first}
-use Rattle.evm_serve.specs.evm_text.Lines.{text_lines}
+-- How standard error quotes a word or a line: its first bytes, with bytes that are not printable escaped.
+use Rattle.std.specs.Prelude.{ℕ, ◌/◌, ◌%◌, ◌==◌, List, [], ◌∷◌, ◌++◌, take, codes, if◌then◌else◌}
+use Rattle.evm_serve.specs.Lookup.{is_printable}
+use Rattle.evm_serve.specs.evm_text.Written.{character}
 use Rattle.evm_command.specs.declared.showing.TheConstants.{SHOWN_LIMIT}
 
--- ' ' to '~'
-abbrev pub is_printable : ℕ → Bool
-is_printable c = nat_le 32 c && nat_le c 126
+-- \r, \t, or \x and two digits
+abbrev pub escape : ℕ → List ℕ
+escape c =
+    if is_printable c then c ∷ []
+    else (if c == 13 then codes "\\r"
+    else (if c == 9 then codes "\\t"
+    else 92 ∷ 120 ∷ character (c / 16) ∷ character (c % 16) ∷ []))
 
--- the printable bytes at a line's front
-unfoldable pub printable_front : List ℕ → List ℕ
-printable_front line = before_first (λ c. not (is_printable c)) line
+unfoldable pub escaped : List ℕ → List ℕ
+escaped [] = []
+escaped (c ∷ bytes) = escape c ++ escaped bytes
 
--- what is shown of a line: no byte that a terminal could take for more than a character, and not too many
-abbrev pub shown_line : List ℕ → List ℕ
-shown_line line = take SHOWN_LIMIT (printable_front line)
-
--- the line of a number of a text, whose first is line 1
-abbrev pub line_numbered : ℕ → List ℕ → Option (List ℕ)
-line_numbered number text = slice_get (text_lines text) (number - 1)
-
--- what is shown of it
-abbrev pub line_shown : ℕ → List ℕ → Option (List ℕ)
-line_shown number text = option_map shown_line (line_numbered number text)
+-- no more than this is quoted
+abbrev pub shown : List ℕ → List ℕ
+shown word = take SHOWN_LIMIT word

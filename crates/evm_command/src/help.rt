@@ -3,6 +3,7 @@
 /// Behind the help of the program.
 pub(crate) const PROGRAM_HELP: &str = "\
 Standard error says what went wrong, as NAME:LINE: and a sentence; a script's name is script.
+`evltool help COMMAND` describes a command, docs/FORMATS.md all of them.
 
 Statuses:
   0  all is done
@@ -18,7 +19,7 @@ Example:
 /// Behind the help of `asm`.
 pub(crate) const ASM_HELP: &str = "\
 A source has a statement on each line: labels, RV64I instructions, directives, # comments.
-Where it has a fault, OUT is left empty.
+If it has a fault, OUT is left empty. SRC and OUT must be two files.
 
 Statuses: 0 done, 1 a fault of the source, 2 wrong words, 4 a file can't be read or written
 
@@ -28,24 +29,31 @@ Example:
 
 /// Behind the help of `run`.
 pub(crate) const RUN_HELP: &str = "\
-C is a processor, L an interrupt line, R a register, T a task, N a count, all in decimal;
-A is an address and V a value, in hexadecimal; HEX is 1 to 64 bytes of two digits each.
+A script is read from standard input to its end, and then runs. It is ASCII text: one command a
+line, one blank between words. C is a processor, L an interrupt line, R a register, T a task, all
+in decimal below 256; N is a count in decimal; A is an address and V a value, in lower-case
+hexadecimal without 0x; HEX is 1 to 64 bytes of two digits each. No number has leading zeros.
 
 The first line:
-  boot P RAM CAP  boots P processors, RAM bytes, and a journal of CAP events; loads IMAGE
+  boot P RAM CAP  boots P processors (1 to 8), RAM bytes (65536 to 16777216, a multiple of 4096)
+                  and a journal of CAP events (1 to 1048576); loads IMAGE
+
+RAM begins at 80000000. Task 0 starts on processor 0, in-band and without a class: its pc is the
+image's entry (80000000 without an image), x2 is the end of RAM, the other registers are 0.
 
 Commands:
-  step C N        N steps of processor C
+  step C N        N steps of processor C, 1 to 1048576; each is one of the CAP events, also of an
+                  idle or a stopped processor
   tick            the clock ticks: line 0 is raised on every processor
-  raise C L       line L of processor C is raised
-  bell C L        the same, for a line that a worker took from a bell
-  stop C          processor C is stopped
-  go C            it goes on, past a breakpoint at its pc
+  raise C L       raises line L (0 to 31) on processor C
+  bell C L        like raise; for interrupts from a worker thread, which are to come
+  stop C          stops processor C: its steps do nothing until go
+  go C            lets it go on, past a breakpoint at its pc
   stepi C         one step of a stopped processor
-  set C R V       a register of its current task
-  setpc C V       the pc of its current task
-  poke A HEX      bytes into RAM
-  break A         a breakpoint
+  set C R V       sets a register (1 to 31) of the current task of a stopped processor
+  setpc C V       sets its pc, a multiple of 4
+  poke A HEX      writes bytes into RAM
+  break A         sets a breakpoint, which stops a processor before the instruction at A
   unbreak A       takes it away
   # TEXT          a comment; empty lines are skipped too
 
@@ -53,12 +61,17 @@ Views:
   regs C          the registers of the current task
   mem A N         N bytes of RAM, at most 64
   stages C        both stages: what runs, what is stalled, what waits in which log
-  tasks           each task, with its class and what it does
+  tasks           each task: T cpu C CLASS P STATE pc X
+                  CLASS none, fifo, rr or weak; P its own priority;
+                  STATE in-ready, in-wait L, oob-ready, lock M, exit, or fault with its number
   owners          each mutex, its owner and how often it is locked
   rank T          the rank of a task, with what its mutexes give it
   counts C L      how often a line was raised, merged, received and played
   journal         the journal, for replay
   console         the bytes that programs wrote
+
+EBREAK stops the processor behind the instruction. fault 0: the target of a jump is no multiple
+of 4; 1: fetch outside RAM; 2: not an RV64I instruction; 5, 7: load, store outside RAM.
 
 Statuses: 0 done, 1 a line is bad or refused, 2 wrong words, 3 no image, 4 a failed read or write
 
@@ -73,8 +86,9 @@ pub(crate) const REPLAY_HELP: &str = "\
 A journal is what the view journal of a script prints:
   evl-journal 1
   boot P RAM CAP
-and then a line for each event, in the words of scripts. Shown are the views stages C of each
-processor, tasks and owners.
+and then a line for each event, in the words of scripts; consecutive steps of one processor are one
+line. It has no comments, no views and no empty lines. Shown are the views stages C of each
+processor, tasks and owners. For the journal of a run without IMAGE, assemble an empty source.
 
 Statuses: 0 done, 1 a line is bad or refused, 2 wrong words, 3 no image, 4 a failed read or write
 

@@ -16,6 +16,32 @@ fn open_fault(kind: ErrorKind) -> OpenFault {
     }
 }
 
+// Opens a file to be read. A folder can be opened, but not read.
+fn open_file(rt: &HostRuntime, path: &str) -> Result<File, OpenFault> {
+    if path.is_empty() {
+        return Err(OpenFault::NoName);
+    }
+    let file = match File::open(rt, path) {
+        Ok(file) => file,
+        Err(error) => return Err(open_fault(error.kind())),
+    };
+    match file.metadata() {
+        Ok(metadata) if metadata.is_dir() => Err(OpenFault::Folder),
+        _ => Ok(file),
+    }
+}
+
+// Creates a file to be written, or empties it.
+fn create_file(rt: &HostRuntime, path: &str) -> Result<File, OpenFault> {
+    if path.is_empty() {
+        return Err(OpenFault::NoName);
+    }
+    match File::create(rt, path) {
+        Ok(file) => Ok(file),
+        Err(error) => Err(open_fault(error.kind())),
+    }
+}
+
 /// The files of the system.
 #[derive(Drop)]
 pub struct Host<'a> {
@@ -40,17 +66,11 @@ impl System for Host<'_> {
     ghost creates = { StdCreates };
 
     fn open(&mut self, path: &str) -> Result<File, OpenFault> {
-        match File::open(self.rt, path) {
-            Ok(file) => Ok(file),
-            Err(error) => Err(open_fault(error.kind())),
-        }
+        open_file(self.rt, path)
     }
 
     fn create(&mut self, path: &str) -> Result<File, OpenFault> {
-        match File::create(self.rt, path) {
-            Ok(file) => Ok(file),
-            Err(error) => Err(open_fault(error.kind())),
-        }
+        create_file(self.rt, path)
     }
 }
 

@@ -21,7 +21,7 @@ fn replay_read<S: System>(
 {
     let given = Given { image: Some(image) };
     let ending = replay_text(alloc, given, text, &mut world.output);
-    let known = Known::Lines(text.as_bytes());
+    let known = Known::Lines(Some(image), text.as_bytes());
     ended_with(known, journal, &ending, &mut world.errors)
 }
 

@@ -10,15 +10,23 @@ use crate::system::{System, World};
 use evm_serve::{Given, read_all, serve_script};
 use std::alloc::Global;
 
-/// The name under which a fault of the script is told.
+/// The name of the script in front of its lines.
 const SCRIPT: &str = "script";
+
+/// The name of the stream that it comes from.
+const INPUT: &str = "standard input";
 
 // Serves a script.
 fn serve_text<S: System>(alloc: Global, given: Given<'_>, script: &[u8], world: &mut World<S>) -> u8
     ensures { ServesScript S.Output.takes S.Errors.takes (given_of given.entry) script.now world.old world.new result }
 {
     let ending = serve_script(alloc, script, &mut world.output, given);
-    ended_with(Known::Lines(script), SCRIPT, &ending, &mut world.errors)
+    ended_with(
+        Known::Lines(given.image, script),
+        SCRIPT,
+        &ending,
+        &mut world.errors,
+    )
 }
 
 // Serves the script of standard input.
@@ -27,7 +35,7 @@ fn serve_input<S: System>(alloc: Global, given: Given<'_>, world: &mut World<S>)
 {
     match read_all(alloc, &mut world.input) {
         Ok(script) => serve_text(alloc, given, script.as_slice(), world),
-        Err(stop) => not_read(stop, SCRIPT, world),
+        Err(stop) => not_read(stop, INPUT, world),
     }
 }
 

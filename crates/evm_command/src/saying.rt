@@ -3,16 +3,18 @@
 ghost use Rattle.std.specs.Prelude.{◌≡◌, codes, option_copied};
 ghost use Rattle.evm_serve.specs.evm_asm_lexer.Sentences.{asm_sentence};
 ghost use Rattle.evm_serve.specs.evm_asm.Quoting.{quoted};
-ghost use Rattle.evm_serve.specs.Faults.{fault_sentence};
+ghost use Rattle.evm_serve.specs.Details.{fault_detail};
+ghost use Rattle.evm_serve.specs.Lookup.{has_boot};
 ghost use Rattle.evm_serve.specs.Serving.{Unread};
 ghost use Rattle.evm_command.specs.Jobs.{NotRead, NotWords};
-ghost use Rattle.evm_command.specs.Telling.{Tells, Explains, Ended, EndedWith, Source, known_of, quoting, quoted_line, words_text, fault_words, program_name, not_opened_sentence, not_opened_text, not_created_sentence, not_created_text, not_read_sentence};
+ghost use Rattle.evm_command.specs.Telling.{Tells, Explains, Ended, EndedWith, Source, known_of, quoting, quoted_line, words_text, fault_words, Boots, Finished, program_name, shown_path, not_opened_sentence, not_opened_text, not_created_sentence, not_created_text, not_read_sentence};
 
-use crate::showing::line_shown;
 use crate::system::{OpenFault, System, World};
 use crate::telling::{Words, tell_about, tell_about_line};
+use evm_image::Image;
 use evm_serve::{
-    AsmFault, Ending, Fault, ReadFault, ReadStop, Sentence, Sink, Verdict, quoted, write_all,
+    AsmFault, Ending, Fault, ReadFault, ReadStop, Sentence, Sink, Verdict, fault_detail, has_boot,
+    line_numbered, quoted, write_all,
 };
 
 /// The status where a file can't be opened, created, read or written.
@@ -30,8 +32,15 @@ pub(crate) enum Known<'a> {
     Nothing,
     /// The source that it assembles.
     Source(&'a str),
-    /// The script or the journal that it takes line by line.
-    Lines(&'a [u8]),
+    /// The image that its machine boots with, and the script or the journal that it takes line by line.
+    Lines(Option<&'a Image>, &'a [u8]),
+}
+
+// A path, or '' if it is empty.
+fn shown_path(path: &str) -> &str
+    ensures { result.now ≡ shown_path path.now }
+{
+    if path.len() == 0 { "''" } else { path }
 }
 
 fn not_opened_sentence(fault: OpenFault) -> &'static str
@@ -41,6 +50,7 @@ fn not_opened_sentence(fault: OpenFault) -> &'static str
         OpenFault::Missing => "can't be opened: no such file",
         OpenFault::Denied => "can't be opened: permission denied",
         OpenFault::Folder => "can't be opened: it is a folder",
+        OpenFault::NoName => "can't be opened: the name is empty",
         OpenFault::Other => "can't be opened",
     }
 }
@@ -50,7 +60,8 @@ pub(crate) fn not_opened<E: Sink>(path: &str, fault: OpenFault, errors: &mut E) 
     ensures told { Tells E.takes (not_opened_text path.now fault) errors.old errors.new }
     ensures status { result ≡ 4 }
 {
-    tell_about(path, Sentence::Plain(not_opened_sentence(fault)), errors);
+    let sentence = Sentence::Plain(not_opened_sentence(fault));
+    tell_about(shown_path(path), sentence, errors);
     FAILED
 }
 
@@ -61,6 +72,7 @@ fn not_created_sentence(fault: OpenFault) -> &'static str
         OpenFault::Missing => "can't be created: no such folder",
         OpenFault::Denied => "can't be created: permission denied",
         OpenFault::Folder => "can't be created: it is a folder",
+        OpenFault::NoName => "can't be created: the name is empty",
         OpenFault::Other => "can't be created",
     }
 }
@@ -70,7 +82,8 @@ pub(crate) fn not_created<E: Sink>(path: &str, fault: OpenFault, errors: &mut E)
     ensures told { Tells E.takes (not_created_text path.now fault) errors.old errors.new }
     ensures status { result ≡ 4 }
 {
-    tell_about(path, Sentence::Plain(not_created_sentence(fault)), errors);
+    let sentence = Sentence::Plain(not_created_sentence(fault));
+    tell_about(shown_path(path), sentence, errors);
     FAILED
 }
 
@@ -78,7 +91,7 @@ fn not_read_sentence(fault: ReadFault) -> &'static str
     ensures { result.now ≡ not_read_sentence fault }
 {
     match fault {
-        ReadFault::Failed => "a read failed",
+        ReadFault::Failed => "a read failed; it may be closed, or a folder",
         ReadFault::TooLong => "more than 16777216 bytes",
         ReadFault::NotUtf8 => "not UTF-8",
     }
@@ -95,22 +108,22 @@ fn program_words(source: &str, fault: AsmFault) -> Words<'_>
     }
 }
 
-// What is shown of the line of a script or a journal that is faulty. A line that the machine refuses is as it should be.
+// The line of a script or a journal that is faulty. A line that the machine refuses is not quoted.
 fn quoted_line(text: &[u8], fault: Fault) -> Option<&[u8]>
     ensures { option_copied result ≡ quoted_line text.now fault }
 {
     match fault {
-        Fault::BadLine(number, _) => line_shown(number, text),
-        Fault::NoJournal(fault) => line_shown(fault.line, text),
+        Fault::BadLine(number, _) => line_numbered(number, text),
+        Fault::NoJournal(fault) => line_numbered(fault.line, text),
         Fault::Refused(_, _, _) | Fault::NoProgram(_) => None,
     }
 }
 
 // What is said of a fault of a script or a journal.
-fn line_words(text: &[u8], fault: Fault) -> Words<'_>
-    ensures { words_text result ≡ quoting (fault_sentence fault) (codes ": \"") (quoted_line text.now fault) }
+fn line_words<'a>(image: Option<&Image>, text: &'a [u8], fault: Fault) -> Words<'a>
+    ensures { words_text result ≡ quoting (fault_detail (option_copied image.entry) text.now fault) (codes ": \"") (quoted_line text.now fault) }
 {
-    let sentence = fault.sentence();
+    let sentence = fault_detail(image, text, fault);
     match quoted_line(text, fault) {
         Some(line) => Words::Quoting(sentence, ": \"", line),
         None => Words::Said(sentence),
@@ -136,16 +149,39 @@ fn fault_words(known: Known<'_>, fault: Fault) -> Words<'_>
     match known {
         Known::Nothing => Words::Said(fault.sentence()),
         Known::Source(source) => source_words(source, fault),
-        Known::Lines(text) => line_words(text, fault),
+        Known::Lines(image, text) => line_words(image, text, fault),
     }
 }
 
-// Tells why a job on a file did not end well.
+// Reports a script that has no boot line.
+fn report_idle<E: Sink>(name: &str, text: &[u8], errors: &mut E)
+    ensures { Boots E.takes name.now (has_boot text.now) errors.old errors.new }
+{
+    if !has_boot(text) {
+        tell_about(
+            name,
+            Sentence::Plain("no boot line, so nothing is done"),
+            errors,
+        );
+    }
+}
+
+// Reports a job of which all is done.
+fn report_done<E: Sink>(known: Known<'_>, name: &str, errors: &mut E)
+    ensures { Finished E.takes (known_of known.entry) name.now errors.old errors.new }
+{
+    match known {
+        Known::Lines(_, text) => report_idle(name, text, errors),
+        Known::Nothing | Known::Source(_) => {}
+    }
+}
+
+// Reports why a job on a file did not end well.
 fn explain<E: Sink>(known: Known<'_>, name: &str, ending: Ending, errors: &mut E)
     ensures { Explains E.takes (known_of known.entry) name.now ending errors.old errors.new }
 {
     match ending {
-        Ending::Complete(Verdict::Done) => {}
+        Ending::Complete(Verdict::Done) => report_done(known, name, errors),
         Ending::Complete(Verdict::Refused(fault)) => {
             tell_about_line(name, fault.line(), fault_words(known, fault), errors)
         }
@@ -156,7 +192,11 @@ fn explain<E: Sink>(known: Known<'_>, name: &str, ending: Ending, errors: &mut E
         Ending::ReadFailed(fault) => {
             tell_about(name, Sentence::Plain(not_read_sentence(fault)), errors)
         }
-        Ending::WriteFailed(_) => { tell_about(PROGRAM, Sentence::Plain("a write failed"), errors) }
+        Ending::WriteFailed(_) => tell_about(
+            PROGRAM,
+            Sentence::Plain("a write failed; the output may be closed or full"),
+            errors,
+        ),
     }
 }
 

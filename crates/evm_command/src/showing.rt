@@ -1,72 +1,63 @@
-//! The line of a script or a journal that a person is shown beside the sentence of its fault.
+//! Words and lines as they are quoted: their first bytes, with bytes that are not printable escaped.
 
-ghost use Rattle.std.specs.Prelude.{◌≡◌, ◌<◌, length, not, option_copied, IfSome};
-ghost use Rattle.std.specs.List.{position};
-ghost use Rattle.evm_command.specs.Showing.{is_printable, printable_front, shown_line, line_numbered, line_shown};
+ghost use Rattle.std.specs.Prelude.{◌≡◌, ◌<◌};
+ghost use Rattle.evm_serve.specs.evm_text.Written.{character};
+ghost use Rattle.evm_command.specs.Showing.{escape, escaped, shown};
+ghost use Rattle.evm_command.specs.Telling.{Writes};
 
-use evm_serve::cut_line;
+use evm_serve::{Sink, WriteFault, is_printable, write_all};
 
-/// How many bytes of a line are shown.
+/// How many bytes of a word or a line are quoted.
 pub(crate) const SHOWN_LIMIT: usize = 60;
 
-fn is_printable(c: u8) -> bool
-    ensures { result ≡ is_printable c }
+/// The bytes that are quoted of a word or a line.
+pub(crate) fn shown(word: &[u8]) -> &[u8]
+    ensures { result.now ≡ shown word.now }
 {
-    b' ' <= c && c <= b'~'
-}
-
-// Where the first byte stands that can't be printed.
-fn unprintable_at(line: &[u8]) -> Option<usize>
-    ensures value { result ≡ position (λ c. not (is_printable c)) line.now }
-    ensures within { IfSome result (λ i. i < length line.now) }
-{
-    line.iter().position(|c| !is_printable(*c))
-}
-
-// The printable bytes at the front of a line.
-fn printable_front(line: &[u8]) -> &[u8]
-    ensures { result.now ≡ printable_front line.now }
-{
-    match unprintable_at(line) {
-        Some(end) => &line[..end],
-        None => line,
-    }
-}
-
-// What is shown of a line.
-fn shown_line(line: &[u8]) -> &[u8]
-    ensures { result.now ≡ shown_line line.now }
-{
-    let front = printable_front(line);
-    if SHOWN_LIMIT < front.len() {
-        &front[..SHOWN_LIMIT]
+    if SHOWN_LIMIT < word.len() {
+        &word[..SHOWN_LIMIT]
     } else {
-        front
+        word
     }
 }
 
-// The line of a number of a text, where it has one.
-fn line_numbered(number: u64, text: &[u8]) -> Option<&[u8]>
-    ensures { option_copied result ≡ line_numbered number text.now }
+/// A digit's character, lower case from ten on.
+pub(crate) fn digit_character(digit: u8) -> u8
+    requires { digit < 16 }
+    ensures { result ≡ character digit }
 {
-    let mut before = number.saturating_sub(1);
-    let mut rest = text;
-    'lines: while let Some((line, after)) = cut_line(rest) {
-        if before == 0 {
-            return Some(line);
-        }
-        before -= 1;
-        rest = after;
+    if digit < 10 {
+        b'0' + digit
+    } else {
+        b'a' - 10 + digit
     }
-    None
 }
 
-/// What is shown of the line of a number of a text, where it has one.
-pub(crate) fn line_shown(number: u64, text: &[u8]) -> Option<&[u8]>
-    ensures { option_copied result ≡ line_shown number text.now }
+// Writes a byte as it is, or escaped if it is not printable.
+fn write_byte<E: Sink>(byte: u8, errors: &mut E) -> Result<(), WriteFault>
+    ensures { Writes E.takes (escape byte) result errors.old errors.new }
 {
-    match line_numbered(number, text) {
-        Some(line) => Some(shown_line(line)),
-        None => None,
+    if is_printable(byte) {
+        write_all(errors, &[byte])
+    } else if byte == b'\r' {
+        write_all(errors, b"\\r")
+    } else if byte == b'\t' {
+        write_all(errors, b"\\t")
+    } else {
+        let digits = [digit_character(byte / 16), digit_character(byte % 16)];
+        write_all(errors, &[b'\\', b'x', digits[0], digits[1]])
+    }
+}
+
+/// Writes bytes, with those that are not printable escaped.
+pub(crate) fn write_escaped<E: Sink>(bytes: &[u8], errors: &mut E) -> Result<(), WriteFault>
+    ensures { Writes E.takes (escaped bytes.now) result errors.old errors.new }
+{
+    let [first, rest @ ..] = bytes else {
+        return Ok(());
+    };
+    match write_byte(*first, errors) {
+        Ok(()) => write_escaped(rest, errors),
+        Err(fault) => Err(fault),
     }
 }

@@ -11,6 +11,8 @@ pub enum OpenFault {
     Denied,
     /// It is a folder.
     Folder,
+    /// Its name is empty.
+    NoName,
     /// Any other reason.
     Other,
 }

@@ -2,10 +2,12 @@
 
 ghost use Rattle.std.specs.Prelude.{◌≡◌, ◌<◌, ◌+◌, ◌^◌, ◌++◌, Some, codes};
 ghost use Rattle.evm_serve.specs.evm_text.Written.{numeral, decimal};
-ghost use Rattle.evm_serve.specs.Faults.{sentence_text};
+ghost use Rattle.evm_serve.specs.Faults.{number_text, sentence_text};
+ghost use Rattle.evm_command.specs.Showing.{escaped, shown};
 ghost use Rattle.evm_command.specs.Telling.{Writes, Tells, behind_place, about, about_line, quoting, words_text};
 
-use evm_serve::{Sentence, Sink, WriteFault, write_all};
+use crate::showing::{digit_character, shown, write_escaped};
+use evm_serve::{Number, Sentence, Sink, WriteFault, write_all};
 
 /// What is said: a sentence, or one that quotes a word or a line, with what stands between them.
 #[derive(Clone, Copy)]
@@ -28,31 +30,93 @@ fn write_decimal<E: Sink>(number: u64, behind: u8, errors: &mut E) -> Result<(),
     }
 }
 
-// Writes the number of a processor, and the words behind it.
-fn write_cpu<E: Sink>(cpu: u8, back: &str, errors: &mut E) -> Result<(), WriteFault>
-    ensures { Writes E.takes (decimal cpu ++ back.now) result errors.old errors.new }
+// Writes a number in lower-case hexadecimal, of at most one digit more than `behind`.
+fn write_hexadecimal<E: Sink>(number: u64, behind: u8, errors: &mut E) -> Result<(), WriteFault>
+    requires { number < 16 ^ (behind + 1) }
+    ensures { Writes E.takes (numeral 16 behind number) result errors.old errors.new }
 {
-    match write_decimal(u64::from(cpu), 19, errors) {
+    if number < 16 {
+        return write_all(errors, &[digit_character(number as u8)]);
+    }
+    match write_hexadecimal(number / 16, behind - 1, errors) {
+        Ok(()) => write_all(errors, &[digit_character((number % 16) as u8)]),
+        Err(fault) => Err(fault),
+    }
+}
+
+// Writes a number.
+fn write_number<E: Sink>(number: Number, errors: &mut E) -> Result<(), WriteFault>
+    ensures { Writes E.takes (number_text number) result errors.old errors.new }
+{
+    match number {
+        Number::Decimal(number) => write_decimal(number, 19, errors),
+        Number::Hexadecimal(number) => write_hexadecimal(number, 15, errors),
+    }
+}
+
+// Writes a number, and the words after it.
+fn write_number_then<E: Sink>(number: Number, back: &str, errors: &mut E) -> Result<(), WriteFault>
+    ensures { Writes E.takes (number_text number ++ back.now) result errors.old errors.new }
+{
+    match write_number(number, errors) {
         Ok(()) => write_all(errors, back.as_bytes()),
         Err(fault) => Err(fault),
     }
 }
 
-// Writes words about a processor.
-fn write_of_cpu<E: Sink>(front: &str, cpu: u8, back: &str, errors: &mut E) -> Result<(), WriteFault>
-    ensures { Writes E.takes (front.now ++ (decimal cpu ++ back.now)) result errors.old errors.new }
+// Writes words with a number between them.
+fn write_of_one<E: Sink>(
+    front: &str,
+    number: Number,
+    back: &str,
+    errors: &mut E,
+) -> Result<(), WriteFault>
+    ensures { Writes E.takes (front.now ++ (number_text number ++ back.now)) result errors.old errors.new }
 {
     match write_all(errors, front.as_bytes()) {
-        Ok(()) => write_cpu(cpu, back, errors),
+        Ok(()) => write_number_then(number, back, errors),
+        Err(fault) => Err(fault),
+    }
+}
+
+// Writes a number, and words with a number between them.
+fn write_two_numbers<E: Sink>(
+    first: Number,
+    between: &str,
+    second: Number,
+    back: &str,
+    errors: &mut E,
+) -> Result<(), WriteFault>
+    ensures { Writes E.takes (number_text first ++ (between.now ++ (number_text second ++ back.now))) result errors.old errors.new }
+{
+    match write_number(first, errors) {
+        Ok(()) => write_of_one(between, second, back, errors),
+        Err(fault) => Err(fault),
+    }
+}
+
+// Writes words with two numbers between them.
+fn write_of_two<E: Sink>(
+    front: &str,
+    first: Number,
+    between: &str,
+    second: Number,
+    back: &str,
+    errors: &mut E,
+) -> Result<(), WriteFault>
+    ensures { Writes E.takes (front.now ++ (number_text first ++ (between.now ++ (number_text second ++ back.now)))) result errors.old errors.new }
+{
+    match write_all(errors, front.as_bytes()) {
+        Ok(()) => write_two_numbers(first, between, second, back, errors),
         Err(fault) => Err(fault),
     }
 }
 
 // Writes the end of a quoted word.
 fn write_closed<E: Sink>(word: &[u8], errors: &mut E) -> Result<(), WriteFault>
-    ensures { Writes E.takes (word.now ++ codes "\"") result errors.old errors.new }
+    ensures { Writes E.takes (escaped (shown word.now) ++ codes "\"") result errors.old errors.new }
 {
-    match write_all(errors, word) {
+    match write_escaped(shown(word), errors) {
         Ok(()) => write_all(errors, b"\""),
         Err(fault) => Err(fault),
     }
@@ -60,7 +124,7 @@ fn write_closed<E: Sink>(word: &[u8], errors: &mut E) -> Result<(), WriteFault>
 
 // Writes a quoted word behind what stands between it and a sentence.
 fn write_quoted<E: Sink>(between: &str, word: &[u8], errors: &mut E) -> Result<(), WriteFault>
-    ensures { Writes E.takes (between.now ++ (word.now ++ codes "\"")) result errors.old errors.new }
+    ensures { Writes E.takes (between.now ++ (escaped (shown word.now) ++ codes "\"")) result errors.old errors.new }
 {
     match write_all(errors, between.as_bytes()) {
         Ok(()) => write_closed(word, errors),
@@ -74,7 +138,10 @@ fn write_said<E: Sink>(sentence: Sentence, errors: &mut E) -> Result<(), WriteFa
 {
     match sentence {
         Sentence::Plain(words) => write_all(errors, words.as_bytes()),
-        Sentence::OfCpu(front, cpu, back) => write_of_cpu(front, cpu, back, errors),
+        Sentence::OfOne(front, number, back) => write_of_one(front, number, back, errors),
+        Sentence::OfTwo(front, first, between, second, back) => {
+            write_of_two(front, first, between, second, back, errors)
+        }
     }
 }
 

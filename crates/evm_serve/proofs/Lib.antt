@@ -1,3 +1,4 @@
+pub mod BootLines
 pub mod Endings
 pub mod Histories
 pub mod Known

@@ -1,6 +1,6 @@
--- Why a run stops before all is done: the line that its report ends with, and what a person is told.
+-- Why a run stops before all is done: the line that its report ends with, and a sentence.
 use Rattle.std.specs.Prelude.{ℕ, List, ◌++◌, Option, Some, None, codes}
-use Rattle.evm_debug.specs.evm_text.Written.{decimal}
+use Rattle.evm_debug.specs.evm_text.Written.{decimal, hexadecimal}
 use Rattle.evm_ram.specs.Refusal.{number_of}
 use Rattle.evm_ram.specs.declared.refusal.Refusal.{Refusal}
 use Rattle.evm_ram.specs.declared.refusal.Refusal.TheVariants as refusals
@@ -18,8 +18,10 @@ use Rattle.evm_serve.specs.declared.fault.Fault.{Fault}
 use Rattle.evm_serve.specs.declared.fault.Fault.TheVariants.{BadLine, Refused, NoProgram, NoJournal}
 use Rattle.evm_serve.specs.declared.fault.LineFault.{LineFault}
 use Rattle.evm_serve.specs.declared.fault.LineFault.TheVariants.{OutsideGrammar, NotBooted, BootedAgain}
+use Rattle.evm_serve.specs.declared.sentence.Number.{Number}
+use Rattle.evm_serve.specs.declared.sentence.Number.TheVariants.{Decimal, Hexadecimal}
 use Rattle.evm_serve.specs.declared.sentence.Sentence.{Sentence}
-use Rattle.evm_serve.specs.declared.sentence.Sentence.TheVariants.{Plain, OfCpu}
+use Rattle.evm_serve.specs.declared.sentence.Sentence.TheVariants.{Plain, OfOne, OfTwo}
 
 -- ---- lines of a report
 
@@ -82,12 +84,17 @@ event_refused n event refusal = Refused n (event_cpu event) refusal
 abbrev pub view_refused : ℕ → View → Refusal → Fault
 view_refused n view refusal = Refused n (view_cpu view) refusal
 
--- ---- what a person is told
+-- ---- sentences
 
--- the words of a sentence, about a processor with its number between them
+abbrev pub number_text : Number → List ℕ
+number_text (Decimal n) = decimal n
+number_text (Hexadecimal n) = hexadecimal n
+
+-- the words of a sentence, with its numbers between them
 abbrev pub sentence_text : Sentence → List ℕ
 sentence_text (Plain words) = words.now
-sentence_text (OfCpu front c back) = front.now ++ (decimal c ++ back.now)
+sentence_text (OfOne front n back) = front.now ++ (number_text n ++ back.now)
+sentence_text (OfTwo front m between n back) = front.now ++ (number_text m ++ (between.now ++ (number_text n ++ back.now)))
 
 -- words about a processor where the line names one, else other words
 abbrev pub about_cpu : Option ℕ → List ℕ → List ℕ → List ℕ → List ℕ
@@ -96,17 +103,17 @@ about_cpu (Some c) front back others = front ++ (decimal c ++ back)
 
 -- of a refusal the reason, its name and its number
 abbrev pub refusal_sentence : Option ℕ → Refusal → List ℕ
-refusal_sentence cpu refusals.Full = codes "refused: the journal is full (Full, 1)"
+refusal_sentence cpu refusals.Full = codes "refused: the journal is full; each step is one of the CAP events of boot (Full, 1)"
 refusal_sentence cpu refusals.NoSuchCpu =
     about_cpu cpu (codes "refused: there is no processor ") (codes " (NoSuchCpu, 2)") (codes "refused: no processor has this number (NoSuchCpu, 2)")
-refusal_sentence cpu refusals.NoSuchLine = codes "refused: no interrupt line has this number (NoSuchLine, 3)"
+refusal_sentence cpu refusals.NoSuchLine = codes "refused: the interrupt lines are 0 to 31 (NoSuchLine, 3)"
 refusal_sentence cpu refusals.NotStopped =
     about_cpu cpu (codes "refused: processor ") (codes " is not stopped (NotStopped, 4)") (codes "refused: the processor is not stopped (NotStopped, 4)")
 refusal_sentence cpu refusals.NoTask =
     about_cpu cpu (codes "refused: processor ") (codes " has no current task (NoTask, 5)") (codes "refused: no task has this number (NoTask, 5)")
-refusal_sentence cpu refusals.BadAddress = codes "refused: bytes or an address that can't be (BadAddress, 6)"
-refusal_sentence cpu refusals.BadRegister = codes "refused: register 0, or above 31 (BadRegister, 7)"
-refusal_sentence cpu refusals.NoSlot = codes "refused: no room for another breakpoint (NoSlot, 8)"
+refusal_sentence cpu refusals.BadAddress = codes "refused: address or byte count out of range (BadAddress, 6)"
+refusal_sentence cpu refusals.BadRegister = codes "refused: the register must be 1 to 31; x0 is always 0 (BadRegister, 7)"
+refusal_sentence cpu refusals.NoSlot = codes "refused: 64 breakpoints are set already (NoSlot, 8)"
 refusal_sentence cpu refusals.NoBreakpoint = codes "refused: no breakpoint is set there (NoBreakpoint, 9)"
 refusal_sentence cpu refusals.BadSize = codes "refused: a number outside its limits (BadSize, 10)"
 refusal_sentence cpu refusals.NoMemory = codes "refused: out of memory (NoMemory, 11)"
@@ -117,8 +124,8 @@ refusal_sentence cpu refusals.SeatsOut = codes "refused: a seat is still out (Se
 -- of a bad line what is wrong with it
 abbrev pub line_sentence : LineFault → List ℕ
 line_sentence OutsideGrammar = codes "bad line: outside the grammar of scripts"
-line_sentence NotBooted = codes "bad line: no machine is booted before it"
-line_sentence BootedAgain = codes "bad line: a machine is booted before it"
+line_sentence NotBooted = codes "bad line: the first command must be `boot`"
+line_sentence BootedAgain = codes "bad line: only one boot line is allowed"
 
 abbrev pub fault_sentence : Fault → List ℕ
 fault_sentence (BadLine n fault) = line_sentence fault

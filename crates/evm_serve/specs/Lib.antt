@@ -1,8 +1,11 @@
 pub mod Given
 pub mod Assembling
+pub mod Details
 pub mod Faults
 pub mod Imaging
 pub mod Known
+pub mod LineDetails
+pub mod Lookup
 pub mod Playing
 pub mod ReplayLaws
 pub mod Replaying

@@ -4,7 +4,7 @@ ghost use Rattle.std.specs.Prelude.{◌≡◌};
 ghost use Rattle.evm_model.specs.Event.{event_lent};
 ghost use Rattle.evm_serve.specs.Faults.{event_cpu, view_cpu, line_at_fault, sentence_text, about_cpu, fault_sentence, line_sentence, refusal_sentence};
 
-use crate::sentence::Sentence;
+use crate::sentence::{Number, Sentence};
 use evm_debug::{Event, JournalFault, Refusal, View};
 use evm_elf::AsmFault;
 use evm_model::Block;
@@ -78,12 +78,12 @@ fn about_cpu(
 {
     match cpu {
         None => Sentence::Plain(others),
-        Some(c) => Sentence::OfCpu(front, c, back),
+        Some(c) => Sentence::OfOne(front, Number::Decimal(u64::from(c)), back),
     }
 }
 
-// What a refusal says, with its name and its number.
-fn refusal_sentence(cpu: Option<u8>, refusal: Refusal) -> Sentence
+/// The sentence of a refusal, with its name and its number, if nothing is known of its line.
+pub(crate) fn refusal_sentence(cpu: Option<u8>, refusal: Refusal) -> Sentence
     ensures { sentence_text result ≡ refusal_sentence cpu refusal }
 {
     let words = match refusal {
@@ -111,11 +111,13 @@ fn refusal_sentence(cpu: Option<u8>, refusal: Refusal) -> Sentence
                 "refused: no task has this number (NoTask, 5)",
             );
         }
-        Refusal::Full => "refused: the journal is full (Full, 1)",
-        Refusal::NoSuchLine => "refused: no interrupt line has this number (NoSuchLine, 3)",
-        Refusal::BadAddress => "refused: bytes or an address that can't be (BadAddress, 6)",
-        Refusal::BadRegister => "refused: register 0, or above 31 (BadRegister, 7)",
-        Refusal::NoSlot => "refused: no room for another breakpoint (NoSlot, 8)",
+        Refusal::Full =>
+            "refused: the journal is full; each step is one of the CAP events of boot (Full, 1)",
+        Refusal::NoSuchLine => "refused: the interrupt lines are 0 to 31 (NoSuchLine, 3)",
+        Refusal::BadAddress => "refused: address or byte count out of range (BadAddress, 6)",
+        Refusal::BadRegister =>
+            "refused: the register must be 1 to 31; x0 is always 0 (BadRegister, 7)",
+        Refusal::NoSlot => "refused: 64 breakpoints are set already (NoSlot, 8)",
         Refusal::NoBreakpoint => "refused: no breakpoint is set there (NoBreakpoint, 9)",
         Refusal::BadSize => "refused: a number outside its limits (BadSize, 10)",
         Refusal::NoMemory => "refused: out of memory (NoMemory, 11)",
@@ -128,13 +130,13 @@ fn refusal_sentence(cpu: Option<u8>, refusal: Refusal) -> Sentence
 
 impl LineFault {
     /// What is wrong, in words.
-    fn sentence(self) -> &'static str
+    pub(crate) fn sentence(self) -> &'static str
         ensures { result.now ≡ line_sentence self }
     {
         match self {
             LineFault::OutsideGrammar => "bad line: outside the grammar of scripts",
-            LineFault::NotBooted => "bad line: no machine is booted before it",
-            LineFault::BootedAgain => "bad line: a machine is booted before it",
+            LineFault::NotBooted => "bad line: the first command must be `boot`",
+            LineFault::BootedAgain => "bad line: only one boot line is allowed",
         }
     }
 }

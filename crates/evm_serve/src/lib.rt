@@ -2,12 +2,16 @@
 #![tactic(auto)]
 
 mod assembling;
+mod detail;
 mod ending;
 mod fault;
 mod given;
 mod halting;
 mod importing;
 mod laws;
+mod line_detail;
+mod lookup;
+mod refusal_detail;
 mod replay;
 mod sentence;
 mod serving;
@@ -16,6 +20,7 @@ mod tell;
 mod texts;
 
 pub use assembling::assemble_to;
+pub use detail::fault_detail;
 pub use ending::{Ending, Verdict};
 pub use evm_debug::{Machine, cut_line, write_journal};
 pub use evm_elf::{AsmFault, quoted, write_bytes};
@@ -29,8 +34,9 @@ pub use laws::{
     known_contents_are_assembled_into, known_files_are_imported, known_inputs_are_served,
     known_texts_are_served, refused_on_its_line, replays_saved,
 };
+pub use lookup::{has_boot, is_printable, line_numbered};
 pub use replay::{replay_text, replay_to};
-pub use sentence::Sentence;
+pub use sentence::{Number, Sentence};
 pub use serving::{serve, serve_script};
 
 #[cfg(test)]

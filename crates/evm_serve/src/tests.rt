@@ -10,6 +10,7 @@ use std::process::Abort;
 use std::test::Fail;
 
 mod assembling;
+mod details;
 mod fakes;
 mod faults;
 mod images;

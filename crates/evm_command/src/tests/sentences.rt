@@ -1,4 +1,4 @@
-//! What standard error is told, for each way in which a job ends.
+//! What is written to standard error, for each way in which a job ends.
 
 use crate::command::answer;
 use crate::system::{OpenFault, System, World};
@@ -56,6 +56,7 @@ fn fault_of(path: &str) -> OpenFault {
         "secret" => OpenFault::Denied,
         "folder" => OpenFault::Folder,
         "tape" => OpenFault::Other,
+        "" => OpenFault::NoName,
         _ => OpenFault::Missing,
     }
 }
@@ -84,13 +85,13 @@ const FILES: [(&str, &[u8]); 15] = [
     ("bytes.s", b"\xff\n"),
 ];
 
-/// Runs a command line on a script, and compares what standard error is told.
-fn check_told(
+/// Runs a command line on a script, and compares what is written to standard error.
+fn check_errors(
     rt: &impl Abort,
     alloc: Global,
     line: &str,
     script: &'static [u8],
-    told: &str,
+    wanted: &str,
 ) -> Result<(), Fail> {
     let image = write_bytes(alloc, b"")?;
     let mut world = World {
@@ -107,13 +108,13 @@ fn check_told(
         words.push(String::from_str(alloc, word)?)?;
     }
     let _ = answer(alloc, words.as_slice(), &mut world);
-    assert_eq!(rt; world.errors.as_slice(), told.as_bytes(), "{line}");
+    assert_eq!(rt; world.errors.as_slice(), wanted.as_bytes(), "{line}");
     Ok(())
 }
 
 #[test]
-fn files_are_told_of(rt: HostRuntime) -> Result<(), Fail> {
-    for (line, told) in [
+fn files_are_named(rt: HostRuntime) -> Result<(), Fail> {
+    for (line, wanted) in [
         ("evltool asm p.s p.elf", ""),
         ("evltool asm q.s p.elf", "q.s:3: unknown name \"a9\"\n"),
         (
@@ -161,6 +162,7 @@ fn files_are_told_of(rt: HostRuntime) -> Result<(), Fail> {
             "evltool asm p.s folder",
             "folder: can't be created: it is a folder\n",
         ),
+        ("evltool run ", "'': can't be opened: the name is empty\n"),
         ("evltool run tape", "tape: can't be opened\n"),
         ("evltool asm p.s tape", "tape: can't be created\n"),
         (
@@ -173,14 +175,14 @@ fn files_are_told_of(rt: HostRuntime) -> Result<(), Fail> {
         ),
         ("evltool --version", ""),
     ] {
-        check_told(&rt, rt.alloc(), line, b"", told)?;
+        check_errors(&rt, rt.alloc(), line, b"", wanted)?;
     }
     Ok(())
 }
 
 #[test]
-fn lines_of_scripts_are_told_of(rt: HostRuntime) -> Result<(), Fail> {
-    let scripts: [(&'static [u8], &str); 13] = [
+fn lines_of_scripts_are_named(rt: HostRuntime) -> Result<(), Fail> {
+    let scripts: [(&'static [u8], &str); 17] = [
         (b"boot 1 65536 8\ntasks\n", ""),
         (
             b"boot 1 65536 8\nset 0 1 5\n",
@@ -200,69 +202,79 @@ fn lines_of_scripts_are_told_of(rt: HostRuntime) -> Result<(), Fail> {
         ),
         (
             b"\n\n\n\n\n\n\n\n\n\n\ntock\n",
-            "script:12: bad line: outside the grammar of scripts: \"tock\"\n",
+            "script:12: bad line: no such command; there are boot, step, tick, raise, bell, stop, go, stepi, set, setpc, poke, break, unbreak, regs, mem, stages, tasks, owners, rank, counts, journal and console: \"tock\"\n",
         ),
         (
             b"boot 1 65536 8\ntock 1\ntock 2\n",
-            "script:2: bad line: outside the grammar of scripts: \"tock 1\"\n",
+            "script:2: bad line: no such command; there are boot, step, tick, raise, bell, stop, go, stepi, set, setpc, poke, break, unbreak, regs, mem, stages, tasks, owners, rank, counts, journal and console: \"tock 1\"\n",
         ),
         (
             b"tock",
-            "script:1: bad line: outside the grammar of scripts: \"tock\"\n",
+            "script:1: bad line: no such command; there are boot, step, tick, raise, bell, stop, go, stepi, set, setpc, poke, break, unbreak, regs, mem, stages, tasks, owners, rank, counts, journal and console: \"tock\"\n",
         ),
         (
             b"boot 1 65536 8\npoke 80000000 111213141516171819202122232425262728293031323334353637383x\n",
-            "script:2: bad line: outside the grammar of scripts: \"poke 80000000 1112131415161718192021222324252627282930313233\"\n",
+            "script:2: bad line: poke wants A HEX: an address, lower-case hexadecimal without 0x, and 1 to 64 bytes of two digits each: \"poke 80000000 1112131415161718192021222324252627282930313233\"\n",
         ),
         (
             b"step 0 \x1b[2J1\n",
-            "script:1: bad line: outside the grammar of scripts: \"step 0 \"\n",
+            "script:1: bad line: byte 1b is not printable ASCII: \"step 0 \\x1b[2J1\"\n",
         ),
         (
             b"# no machine\ntick\n",
-            "script:2: bad line: no machine is booted before it: \"tick\"\n",
+            "script:2: bad line: the first command must be `boot`: \"tick\"\n",
         ),
         (
             b"boot 1 65536 8\nboot 2 65536 8\n",
-            "script:2: bad line: a machine is booted before it: \"boot 2 65536 8\"\n",
+            "script:2: bad line: only one boot line is allowed: \"boot 2 65536 8\"\n",
+        ),
+        (b"", "script: no boot line, so nothing is done\n"),
+        (b"# x\n\n", "script: no boot line, so nothing is done\n"),
+        (
+            b"boot 1 65536 64\r\n",
+            "script:1: bad line: a carriage return; save the file with Unix line ends: \"boot 1 65536 64\\r\"\n",
+        ),
+        (
+            b"\xef\xbb\xbfboot\t1\x00\n",
+            "script:1: bad line: byte ef, which begins a byte order mark; save the file without one: \"\\xef\\xbb\\xbfboot\\t1\\x00\"\n",
         ),
         (
             b"boot 9 65536 8\n",
-            "script:1: refused: a number outside its limits (BadSize, 10)\n",
+            "script:1: refused: P is 9: 1 to 8 processors (BadSize, 10)\n",
         ),
     ];
-    for (script, told) in scripts {
-        check_told(&rt, rt.alloc(), "evltool run", script, told)?;
+    for (script, wanted) in scripts {
+        check_errors(&rt, rt.alloc(), "evltool run", script, wanted)?;
     }
     Ok(())
 }
 
 #[test]
-fn lines_of_journals_are_told_of(rt: HostRuntime) -> Result<(), Fail> {
-    for (line, told) in [
+fn lines_of_journals_are_named(rt: HostRuntime) -> Result<(), Fail> {
+    for (line, wanted) in [
         (
             "evltool replay image.elf empty",
-            "empty:1: no journal: line 1 is evl-journal 1, line 2 tells the boot numbers\n",
+            "empty:1: line 1 must be `evl-journal 1`\n",
         ),
         (
             "evltool replay image.elf one",
-            "one:2: no journal: line 1 is evl-journal 1, line 2 tells the boot numbers\n",
+            "one:2: line 2 must be `boot P RAM CAP`\n",
         ),
         (
             "evltool replay image.elf old",
-            "old:1: no journal: line 1 is evl-journal 1, line 2 tells the boot numbers: \"evl-journal 2\"\n",
+            "old:1: line 1 must be `evl-journal 1`: \"evl-journal 2\"\n",
         ),
         (
             "evltool replay image.elf tock",
-            "tock:4: no line of events, no newline at its end, or more than 1048576 events: \"tock\"\n",
+            "tock:4: bad line: no such command; there are boot, step, tick, raise, bell, stop, go, stepi, set, setpc, poke, break, unbreak, regs, mem, stages, tasks, owners, rank, counts, journal and console: \"tock\"\n",
         ),
         (
             "evltool replay image.elf cut",
-            "cut:4: no line of events, no newline at its end, or more than 1048576 events: \"step 0\"\n",
+            "cut:4: bad line: step wants C N: a processor below 256 and a count of 1 to 1048576, decimal without leading zeros: \"step 0\"\n",
         ),
         (
             "evltool replay image.elf apart",
-            "apart:4: steps of the processor of the line before, which one line tells: \"step 0 2\"\n",
+            "apart:4: consecutive steps of one processor must be on one line: \"step 0 2\"\n",
         ),
         (
             "evltool replay image.elf set",
@@ -270,7 +282,7 @@ fn lines_of_journals_are_told_of(rt: HostRuntime) -> Result<(), Fail> {
         ),
         ("evltool replay image.elf bytes.s", "bytes.s: not UTF-8\n"),
     ] {
-        check_told(&rt, rt.alloc(), line, b"", told)?;
+        check_errors(&rt, rt.alloc(), line, b"", wanted)?;
     }
     Ok(())
 }

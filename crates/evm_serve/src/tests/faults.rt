@@ -1,4 +1,4 @@
-//! The fault with which each job ends, and what a person is told of it.
+//! The fault with which each job ends, and its sentence.
 
 use super::image_of;
 use crate::assembling::assemble_to;
@@ -117,7 +117,7 @@ fn sources_and_images_end_with_their_fault(rt: HostRuntime) {
 }
 
 #[test]
-fn faults_are_told_in_words(rt: HostRuntime) -> Result<(), Fail> {
+fn faults_have_sentences(rt: HostRuntime) -> Result<(), Fail> {
     for (fault, text) in [
         (
             Fault::BadLine(7, LineFault::OutsideGrammar),
@@ -125,11 +125,11 @@ fn faults_are_told_in_words(rt: HostRuntime) -> Result<(), Fail> {
         ),
         (
             Fault::BadLine(1, LineFault::NotBooted),
-            "line 1: bad line: no machine is booted before it",
+            "line 1: bad line: the first command must be `boot`",
         ),
         (
             Fault::BadLine(9, LineFault::BootedAgain),
-            "line 9: bad line: a machine is booted before it",
+            "line 9: bad line: only one boot line is allowed",
         ),
         (
             Fault::Refused(2, Some(7), Refusal::NotStopped),
@@ -172,9 +172,9 @@ fn faults_are_told_in_words(rt: HostRuntime) -> Result<(), Fail> {
     Ok(())
 }
 
-// The name and the number that each refusal tells are its own.
+// Each refusal names itself and its number.
 #[test]
-fn refusals_tell_their_numbers(rt: HostRuntime) -> Result<(), Fail> {
+fn refusals_name_their_numbers(rt: HostRuntime) -> Result<(), Fail> {
     for refusal in [
         Refusal::Full,
         Refusal::NoSuchCpu,

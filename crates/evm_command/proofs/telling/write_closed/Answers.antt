@@ -1,14 +1,15 @@
 use Rattle.std.proofs.Common.{rules, codes}
 use Rattle.evm_serve.specs.evm_streams.Writes.{Took, TookPrefix}
+use Rattle.evm_command.specs.Showing.{escaped, shown}
 use Rattle.evm_command.proofs.Sentences.{writes_then, writes_failed, written}
 use Rattle.evm_command.proofs.telling.write_closed.Goals as goal
 
 pub returns-in-Ok : goal.returns-in-Ok
 returns-in-Ok g c =
-    let took : Took g.E.Sink.takes c.args.errors.now c.args.word.now c.write_all.new.sink = search rules in
-    writes_then _ _ _ _ c.args.word.now (codes "\"") _ took (written _ _ _ _ _ c.write_all-in-Ok.ensures)
+    let took : Took g.E.Sink.takes c.args.errors.now (escaped (shown c.args.word.now)) c.write_escaped.new.errors = search rules in
+    writes_then _ _ _ _ (escaped (shown c.args.word.now)) (codes "\"") _ took (written _ _ _ _ _ c.write_all.ensures)
 
 pub returns-in-Err : goal.returns-in-Err
 returns-in-Err g c =
-    let failed : TookPrefix g.E.Sink.takes c.args.errors.now c.args.word.now c.write_all.new.sink = search rules in
-    writes_failed _ _ _ c.args.word.now (codes "\"") failed
+    let failed : TookPrefix g.E.Sink.takes c.args.errors.now (escaped (shown c.args.word.now)) c.write_escaped.new.errors = search rules in
+    writes_failed _ _ _ (escaped (shown c.args.word.now)) (codes "\"") failed

@@ -1,7 +1,7 @@
 use Rattle.std.proofs.Common.{◌≡◌, ◌∙◌, ℕ, List, [], sym, ap, rules}
 use Rattle.std.specs.Prelude.{slice_get}
-use Rattle.evm_serve.specs.evm_text.Lines.{text_of, text_lines}
-use Rattle.evm_command.proofs.showing.line_numbered.Goals as goal
+use Rattle.evm_debug.specs.evm_text.Lines.{text_of, text_lines}
+use Rattle.evm_serve.proofs.lookup.line_numbered.Goals as goal
 
 pub returns : goal.returns
 unfolding text_lines text_of

@@ -1,7 +1,7 @@
 use Rattle.std.proofs.Common.{◌≡◌, ◌-◌, length}
 use Rattle.std.specs.Prelude.{slice_get}
-use Rattle.evm_serve.specs.evm_text.Lines.{text_lines}
-use Rattle.evm_command.proofs.showing.line_numbered.Given as goal
+use Rattle.evm_debug.specs.evm_text.Lines.{text_lines}
+use Rattle.evm_serve.proofs.lookup.line_numbered.Given as goal
 
 -- the line stands behind so many of what is left
 abbrev pub invariant-lines : goal.invariant-lines

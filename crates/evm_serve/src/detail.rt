@@ -1,0 +1,91 @@
+//! Sentences about faults of a script or a journal, from the line that has the fault.
+
+ghost use Rattle.std.specs.Prelude.{◌≡◌, option_copied};
+ghost use Rattle.evm_serve.specs.Faults.{sentence_text};
+ghost use Rattle.evm_serve.specs.Details.{first_line_form, header_detail, other_line_detail, event_line_detail, journal_detail, fault_detail};
+
+use crate::fault::Fault;
+use crate::line_detail::{bad_line_detail, byte_detail, grammar_detail};
+use crate::lookup::{line_numbered, line_read, odd_byte};
+use crate::refusal_detail::refusal_detail;
+use crate::sentence::Sentence;
+use evm_debug::{JournalFault, JournalFaultKind, Line, read_line};
+use evm_image::Image;
+
+fn first_line_form(number: u64) -> Sentence
+    ensures { sentence_text result ≡ first_line_form number }
+{
+    Sentence::Plain(if number == 1 {
+        "line 1 must be `evl-journal 1`"
+    } else {
+        "line 2 must be `boot P RAM CAP`"
+    })
+}
+
+// The first two lines of a journal.
+fn header_detail(number: u64, line: Option<&[u8]>) -> Sentence
+    ensures { sentence_text result ≡ header_detail number (option_copied line.entry) }
+{
+    match line {
+        Some(line) => match odd_byte(line) {
+            Some(byte) => byte_detail(byte),
+            None => first_line_form(number),
+        },
+        None => first_line_form(number),
+    }
+}
+
+fn other_line_detail(line: &Line) -> &'static str
+    ensures { result.now ≡ other_line_detail line.now }
+{
+    match line {
+        Line::Blank => "bad line: a journal has no comments and no empty lines",
+        Line::Boot(_) => "bad line: only line 2 of a journal is a boot line",
+        Line::Look(_) => "bad line: a journal has no views",
+        Line::Steps(_, _) | Line::One(_) => {
+            "bad line: no newline at the end of the journal, or more than 1048576 events"
+        }
+    }
+}
+
+// A line behind the second that is no event.
+fn event_line_detail(line: Option<&[u8]>) -> Sentence
+    ensures { sentence_text result ≡ event_line_detail (option_copied line.entry) }
+{
+    match line {
+        Some(line) => match read_line(line) {
+            Ok(read) => Sentence::Plain(other_line_detail(&read)),
+            Err(_) => grammar_detail(line),
+        },
+        None => Sentence::Plain(JournalFaultKind::Line.sentence()),
+    }
+}
+
+fn journal_detail(fault: JournalFault, line: Option<&[u8]>) -> Sentence
+    ensures { sentence_text result ≡ journal_detail fault.line (option_copied line.entry) fault.kind }
+{
+    match fault.kind {
+        JournalFaultKind::Header => header_detail(fault.line, line),
+        JournalFaultKind::Line => event_line_detail(line),
+        JournalFaultKind::NotCanonical => {
+            Sentence::Plain("consecutive steps of one processor must be on one line")
+        }
+        JournalFaultKind::NoMemory => Sentence::Plain(JournalFaultKind::NoMemory.sentence()),
+    }
+}
+
+/// The sentence of a fault of a script or a journal, whose machine boots with the image, if there is one: the number
+/// that is out of range with its limits, or the form that the line should have.
+pub fn fault_detail(image: Option<&Image>, text: &[u8], fault: Fault) -> Sentence
+    ensures { sentence_text result ≡ fault_detail (option_copied image.entry) text.now fault }
+{
+    match fault {
+        Fault::BadLine(number, fault) => bad_line_detail(fault, line_numbered(number, text)),
+        Fault::Refused(number, cpu, refusal) => {
+            let line = line_read(number, text);
+            refusal_detail(image, text, line.as_ref(), cpu, refusal)
+        }
+        Fault::NoJournal(fault) => journal_detail(fault, line_numbered(fault.line, text)),
+        Fault::NoProgram(fault) => Sentence::Plain(fault.kind.sentence()),
+    }
+}

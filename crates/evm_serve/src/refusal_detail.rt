@@ -1,0 +1,239 @@
+//! Sentences about refused lines: the number that is out of range, with its limits.
+
+ghost use Rattle.std.specs.Prelude.{◌≡◌, length, option_copied};
+ghost use Rattle.evm_debug.specs.evm_text.Lines.{text_lines};
+ghost use Rattle.evm_model.specs.Replay.{bad_cpus, bad_ram};
+ghost use Rattle.evm_serve.specs.Faults.{sentence_text};
+ghost use Rattle.evm_serve.specs.Lookup.{boot_among, ram_of};
+ghost use Rattle.evm_serve.specs.Details.{boot_detail, size_detail, ram_end, segment_end, ends_past, segment_past, image_past, past_detail, misaligned_detail, outside_detail, breakpoint_detail, event_detail, mem_detail, view_detail, address_detail, refusal_detail};
+
+use crate::fault::refusal_sentence;
+use crate::lookup::ram_of;
+use crate::sentence::{Number, Sentence};
+use evm_debug::{Boot, Event, Line, Refusal, View};
+use evm_image::{Image, Segment};
+use evm_model::{PROCESSOR_LIMIT, RAM_LEAST, RAM_UNIT};
+use evm_ram::{BASE, SIZE_LIMIT};
+
+fn bad_cpus(cpus: u64) -> bool
+    ensures { result ≡ bad_cpus cpus }
+{
+    cpus == 0 || cpus > PROCESSOR_LIMIT as u64
+}
+
+fn bad_ram(ram: u64) -> bool
+    ensures { result ≡ bad_ram ram }
+{
+    ram < RAM_LEAST || ram > SIZE_LIMIT || ram % RAM_UNIT != 0
+}
+
+// The first number of a boot line that is outside its limits.
+fn boot_detail(boot: &Boot) -> Sentence
+    ensures { sentence_text result ≡ boot_detail boot.now }
+{
+    if bad_cpus(boot.cpus) {
+        Sentence::OfOne(
+            "refused: P is ",
+            Number::Decimal(boot.cpus),
+            ": 1 to 8 processors (BadSize, 10)",
+        )
+    } else if bad_ram(boot.ram) {
+        Sentence::OfOne(
+            "refused: RAM is ",
+            Number::Decimal(boot.ram),
+            ": 65536 to 16777216 bytes in multiples of 4096 (BadSize, 10)",
+        )
+    } else {
+        Sentence::OfOne(
+            "refused: CAP is ",
+            Number::Decimal(boot.capacity),
+            ": 1 to 1048576 events (BadSize, 10)",
+        )
+    }
+}
+
+fn size_detail(line: Option<&Line>) -> Sentence
+    ensures { sentence_text result ≡ size_detail (option_copied line.entry) }
+{
+    match line {
+        Some(Line::Boot(boot)) => boot_detail(boot),
+        Some(Line::Blank | Line::Steps(_, _) | Line::One(_) | Line::Look(_)) | None => {
+            refusal_sentence(None, Refusal::BadSize)
+        }
+    }
+}
+
+// The address behind the last byte of RAM.
+fn ram_end(ram: u64) -> u64
+    ensures { result ≡ ram_end ram }
+{
+    BASE.wrapping_add(ram)
+}
+
+// The address behind the last byte of a segment.
+fn segment_end(segment: &Segment) -> u64
+    ensures { result ≡ segment_end segment.now }
+{
+    segment.address().wrapping_add(segment.memsz())
+}
+
+fn ends_past(end: u64, segment: &Segment) -> bool
+    ensures { result ≡ ends_past end segment.now }
+{
+    segment.memsz() != 0 && end < segment_end(segment)
+}
+
+// The end of the first segment that has a byte past RAM.
+#[tactic(auto, unfolding(crate::specs::Details::segment_past))]
+fn segment_past(end: u64, segments: &[Segment]) -> Option<u64>
+    ensures { result ≡ segment_past end segments.now }
+{
+    let mut rest = segments;
+    'segments: while let [segment, after @ ..] = rest {
+        if ends_past(end, segment) {
+            return Some(segment_end(segment));
+        }
+        rest = after;
+    }
+    None
+}
+
+fn image_past(end: u64, image: Option<&Image>) -> Option<u64>
+    ensures { result ≡ image_past end (option_copied image.entry) }
+{
+    match image {
+        Some(image) => segment_past(end, image.segments()),
+        None => None,
+    }
+}
+
+fn past_detail(end: u64, last: Option<u64>) -> Sentence
+    ensures { sentence_text result ≡ past_detail end last }
+{
+    match last {
+        Some(last) => Sentence::OfTwo(
+            "refused: the image ends at ",
+            Number::Hexadecimal(last),
+            ", past the end of RAM, ",
+            Number::Hexadecimal(end),
+            "; boot with more RAM (BadAddress, 6)",
+        ),
+        None => refusal_sentence(None, Refusal::BadAddress),
+    }
+}
+
+fn misaligned(front: &'static str, address: u64) -> Sentence
+    ensures { sentence_text result ≡ misaligned_detail front.now address }
+{
+    Sentence::OfOne(
+        front,
+        Number::Hexadecimal(address),
+        " is not a multiple of 4 (BadAddress, 6)",
+    )
+}
+
+fn outside(front: &'static str, address: u64, end: u64) -> Sentence
+    ensures { sentence_text result ≡ outside_detail front.now address end }
+{
+    Sentence::OfTwo(
+        front,
+        Number::Hexadecimal(address),
+        " is outside RAM, 80000000..",
+        Number::Hexadecimal(end),
+        " (BadAddress, 6)",
+    )
+}
+
+fn breakpoint_detail(address: u64, end: u64) -> Sentence
+    ensures { sentence_text result ≡ breakpoint_detail address end }
+{
+    if address % 4 == 0 {
+        outside("refused: the breakpoint ", address, end)
+    } else {
+        misaligned("refused: the breakpoint ", address)
+    }
+}
+
+fn event_detail(end: u64, event: &Event) -> Sentence
+    ensures { sentence_text result ≡ event_detail end event.now }
+{
+    match event {
+        Event::SetPc(_, pc) => misaligned("refused: the pc ", *pc),
+        Event::Break(address) | Event::Unbreak(address) => breakpoint_detail(*address, end),
+        Event::Poke(address, _) => outside("refused: a byte of the poke at ", *address, end),
+        Event::Step(_)
+        | Event::Tick
+        | Event::Raise(_, _)
+        | Event::Bell(_, _)
+        | Event::Stop(_)
+        | Event::Go(_)
+        | Event::StepI(_)
+        | Event::SetReg(_, _, _) => refusal_sentence(None, Refusal::BadAddress),
+    }
+}
+
+fn mem_detail(address: u64, count: u64, end: u64) -> Sentence
+    ensures { sentence_text result ≡ mem_detail address count end }
+{
+    if count == 0 {
+        Sentence::Plain("refused: mem shows 1 to 64 bytes, and 0 are asked for (BadAddress, 6)")
+    } else if count > 64 {
+        Sentence::OfOne(
+            "refused: mem shows 1 to 64 bytes, and ",
+            Number::Decimal(count),
+            " are asked for (BadAddress, 6)",
+        )
+    } else {
+        outside("refused: a byte of the mem at ", address, end)
+    }
+}
+
+fn view_detail(end: u64, view: &View) -> Sentence
+    ensures { sentence_text result ≡ view_detail end view.now }
+{
+    match view {
+        View::Mem(address, count) => mem_detail(*address, *count, end),
+        View::Regs(_)
+        | View::Stages(_)
+        | View::Tasks
+        | View::Owners
+        | View::Rank(_)
+        | View::Counts(_, _)
+        | View::Journal
+        | View::Console => refusal_sentence(None, Refusal::BadAddress),
+    }
+}
+
+// What is out of range on a line, where RAM has this many bytes.
+fn address_detail(image: Option<&Image>, ram: u64, line: Option<&Line>) -> Sentence
+    ensures { sentence_text result ≡ address_detail (option_copied image.entry) ram (option_copied line.entry) }
+{
+    match line {
+        Some(Line::Boot(boot)) => {
+            let end = ram_end(boot.ram);
+            past_detail(end, image_past(end, image))
+        }
+        Some(Line::One(event)) => event_detail(ram_end(ram), event),
+        Some(Line::Look(view)) => view_detail(ram_end(ram), view),
+        Some(Line::Blank | Line::Steps(_, _)) | None => {
+            refusal_sentence(None, Refusal::BadAddress)
+        }
+    }
+}
+
+/// The sentence of a refused line of a text, whose machine boots with the image, if there is one.
+pub(crate) fn refusal_detail(
+    image: Option<&Image>,
+    text: &[u8],
+    line: Option<&Line>,
+    cpu: Option<u8>,
+    refusal: Refusal,
+) -> Sentence
+    ensures { sentence_text result ≡ refusal_detail (option_copied image.entry) text.now (option_copied line.entry) cpu refusal }
+{
+    match refusal {
+        Refusal::BadSize => size_detail(line),
+        Refusal::BadAddress => address_detail(image, ram_of(text), line),
+        _ => refusal_sentence(cpu, refusal),
+    }
+}
