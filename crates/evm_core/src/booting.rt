@@ -6,7 +6,9 @@ ghost use Rattle.evm_model.specs.Replay.{bad_boot, BootAnswers};
 
 use crate::machine::Machine;
 use arrayvec::ArrayVec;
-use evm_board::{Board, Breakpoints, Console, Harts, Memory, Mutexes, Parts, Pipe, Slots, Tasks};
+use evm_board::{
+    Board, Breakpoints, Console, Harts, Memory, Mutexes, Parts, Pipe, Semaphores, Slots, Tasks,
+};
 use evm_exec::Hart;
 use evm_model::{
     Boot, CAPACITY_LIMIT, Class, Mode, PROCESSOR_LIMIT, Processor, Profile, RAM_LEAST, RAM_UNIT,

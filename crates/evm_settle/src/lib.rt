@@ -5,7 +5,7 @@ mod nudging;
 mod playing;
 mod settling;
 
-pub use evm_parts::{Console, Harts, Mutexes, Parts, Pipe, Tasks};
+pub use evm_parts::{Console, Harts, Mutexes, Parts, Pipe, Semaphores, Tasks};
 pub use settling::settle_and_nudge;
 
 #[cfg(test)]

@@ -11,7 +11,7 @@ use crate::settle_and_nudge;
 use arrayvec::ArrayVec;
 use evm_exec::Hart;
 use evm_model::{Class, Mode, Processor, Profile, Stage, Task, TaskState, Wait};
-use evm_parts::{Console, Harts, Mutexes, Parts, Pipe, Tasks};
+use evm_parts::{Console, Harts, Mutexes, Parts, Pipe, Semaphores, Tasks};
 use std::alloc::Global;
 use std::test::Fail;
 

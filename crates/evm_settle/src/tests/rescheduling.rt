@@ -10,7 +10,7 @@ use crate::settle_and_nudge;
 use arrayvec::ArrayVec;
 use evm_exec::Hart;
 use evm_model::{Class, Mode, Processor, Profile, Stage, Task, TaskState};
-use evm_parts::{Console, Harts, Mutexes, Parts, Pipe, Tasks};
+use evm_parts::{Console, Harts, Mutexes, Parts, Pipe, Semaphores, Tasks};
 use std::test::Fail;
 
 // A first-in-first-out task that is ready out-of-band.
