@@ -19,7 +19,7 @@ Example:
 /// Behind the help of `asm`.
 pub(crate) const ASM_HELP: &str = "\
 A source has a statement on each line: labels, RV64I instructions, directives, # comments.
-If it has a fault, OUT is left empty. SRC and OUT must be two files.
+If it has a fault, OUT is left empty. If OUT is SRC, the source is lost.
 
 Statuses: 0 done, 1 a fault of the source, 2 wrong words, 4 a file can't be read or written
 
