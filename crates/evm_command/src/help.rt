@@ -63,7 +63,8 @@ Views:
   stages C        both stages: what runs, what is stalled, what waits in which log
   tasks           each task: T cpu C CLASS P STATE pc X
                   CLASS none, fifo, rr or weak; P its own priority;
-                  STATE in-ready, in-wait L, oob-ready, lock M, exit, or fault with its number
+                  STATE in-ready, in-wait L, oob-ready, lock M, semaphore S, exit,
+                  or fault with its number
   owners          each mutex, its owner and how often it is locked
   rank T          the rank of a task, with what its mutexes give it
   counts C L      how often a line was raised, merged, received and played
