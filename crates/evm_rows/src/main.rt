@@ -1,17 +1,22 @@
-//! Runs the worked rows in its folder: each line of the file STAGES names a folder, and each line of the file INDEX
-//! in it a row, which is run through the engine as `evltool` runs it. A line is printed for each row that does not
-//! give the text and the status that are wanted, and at the end one that counts the rows.
+//! Runs the worked rows and the examples in its folder, as `evltool` runs them. Each line of the file STAGES names a
+//! folder, and each line of the file INDEX in it is a row; each line of `examples/LIST` is an example. A line is printed for
+//! each that does not give the text and the status that are wanted, and at the end one that counts the rows and the examples.
 #![tactic(auto)]
 
 mod engine;
+mod example;
 mod folder;
+mod jobs;
 mod row;
 
-use engine::outcome_of;
+use example::{example_of, is_as_wanted};
 use folder::bytes_of;
+use jobs::outcome_of;
 use row::{Row, row_of};
 use std::rt::Files;
 use std::{fs, io};
+
+const EXAMPLES: &str = "examples";
 
 /// Says what is wrong with a row, if it doesn't give what is wanted.
 fn tell_row(
@@ -53,6 +58,28 @@ fn tell_folder(rt: &(impl Files + Print + AllocGlobal), folder: &str) -> io::Res
     Ok(index.lines().count())
 }
 
+/// Runs the example of a line of LIST, and says if it isn't as wanted.
+fn tell_example(rt: &(impl Files + Print + AllocGlobal), line: &str) -> io::Result<()> {
+    let words: Vec<&str> = line.split(' ').collect(rt.alloc())?;
+    let Some(example) = example_of(words.as_slice()) else {
+        return println!(rt; "{EXAMPLES}: no example: {line}");
+    };
+    match is_as_wanted(rt, EXAMPLES, &example) {
+        Ok(true) => Ok(()),
+        Ok(false) => println!(rt; "{EXAMPLES}: not as wanted: {line}"),
+        Err(error) => println!(rt; "{EXAMPLES}: {error}: {line}"),
+    }
+}
+
+/// Runs the examples, and answers how many there are.
+fn tell_examples(rt: &(impl Files + Print + AllocGlobal)) -> io::Result<usize> {
+    let list = fs::read_to_string(rt, format!(in rt.alloc(); "{EXAMPLES}/LIST")?)?;
+    for line in list.lines() {
+        tell_example(rt, line)?;
+    }
+    Ok(list.lines().count())
+}
+
 fn main(rt: HostRuntime) -> io::Result<()> {
     let stages = fs::read_to_string(&rt, "STAGES")?;
     let folders: Vec<&str> = stages.lines().collect(rt.alloc())?;
@@ -61,5 +88,6 @@ fn main(rt: HostRuntime) -> io::Result<()> {
         count = count.saturating_add(tell_folder(&rt, folder)?);
     }
     let names = folders.as_slice().join(rt.alloc(), ", ")?;
-    println!(rt; "{count} rows of {names}")
+    let examples = tell_examples(&rt)?;
+    println!(rt; "{count} rows of {names}; {examples} examples")
 }
