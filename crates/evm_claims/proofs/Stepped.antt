@@ -3,7 +3,8 @@ use Rattle.std.proofs.Common.{◌≡◌, ◌≢◌, ℕ, List, Bool, true, false
 use Rattle.std.specs.Prelude.{option_map}
 use Rattle.std.proofs.lemmas.Bool.{cases_eq}
 use Rattle.evm_exec.specs.declared.hart.Hart.{Hart}
-use Rattle.evm_exec.specs.declared.outcome.Effect.TheVariants.{Store}
+use Rattle.evm_exec.specs.Registers.{register_of}
+use Rattle.evm_exec.specs.declared.outcome.Effect.TheVariants.{Call, Store}
 use Rattle.evm_lines.specs.Lines.{has_line}
 use Rattle.evm_model.specs.Harts.{argument}
 use Rattle.evm_model.specs.OobCalls.{is_scheduled_task}
@@ -19,39 +20,15 @@ use Rattle.evm_model.specs.declared.task.Class.TheVariants.{Unattached, Weak}
 use Rattle.evm_model.specs.declared.task.Task.{Task}
 use Rattle.evm_model.specs.declared.task.TaskState.{TaskState}
 use Rattle.evm_model.specs.declared.task.TaskState.TheVariants.{InReady, OobReady}
+use Rattle.evm_model.specs.declared.task.Wait.{Wait}
 use Rattle.evm_ram.specs.Ram.{write_at}
 use Rattle.evm_ram.specs.declared.width.Width.{Width}
-use Rattle.evm_runs.specs.Changes.{Inherits, Schedules, Served, Spends, Stays, StaysBy, StepChanges, Wakes, Hears}
-use Rattle.evm_claims.specs.Steps.{IsAbout, IsScheduled, IsServed, WakesInBand, InheritsMutex, SpendsSlice, Stands, IsAnothers, StepChangesOnly}
+use Rattle.evm_runs.specs.Changes.{IsReadyAfter, MakesCall, MakesNone, Schedules, Spends, Stays, StepChanges, Wakes as WakesBefore, WokenBy as WokenBefore, by_line as line, by_owner as passed, by_put as put}
+use Rattle.evm_claims.specs.Steps.{IsAbout, IsScheduled, Wakes, WokenBy, by_line, by_owner, by_put, SpendsSlice, Stands, IsAnothers, StepChangesOnly}
 
 -- ---- one task
 same_task : (tasks : List Task) (t : ℕ) (x y : Task) → slice_get tasks t ≡ Some x → slice_get tasks t ≡ Some y → x ≡ y
 same_task tasks t x y e f = let two : Some x ≡ Some y = sym e ∙ f in cc
-
-woken : (c t : ℕ) (old new : Parts) (task : Task) (hart : Hart) → slice_get old.tasks t ≡ Some task → slice_get old.harts t ≡ Some hart → Wakes c t old new → WakesInBand c t old.stamps new.tasks new.harts task hart
-woken c t old new task hart there at w =
-    let same : w.task ≡ task = same_task old.tasks t w.task task w.waited there in
-    record { line = w.line; stamp = w.stamp; on = rw (← same) w.on; at_home = rw (← same) w.at_home; later = w.fresh; task_is = rw (← same) w.wakes; hart_is = w.hart hart at }
-
-inherits : (runs : Option ℕ) (t : ℕ) (old new : Parts) (task : Task) (hart : Hart) → slice_get old.tasks t ≡ Some task → slice_get old.harts t ≡ Some hart → Inherits runs t old new
-    → InheritsMutex runs t old.stamps old.mutexes new.mutexes new.tasks new.harts task hart
-inherits runs t old new task hart there at i =
-    let same : i.task ≡ task = same_task old.tasks t i.task task i.waited there in
-    record {
-      m = i.mutex;
-      giver = i.giver;
-      stamp = i.stamp;
-      mutex = i.after;
-      on = rw (← same) i.on;
-      gives = i.held;
-      had = i.had;
-      mutex_is = i.there;
-      owns = i.owns;
-      once = i.once;
-      later = i.fresh;
-      task_is = rw (← same) i.wakes;
-      hart_is = i.hart hart at;
-    }
 
 weak_is : (class : Class) → is_weak class ≡ true → class ≡ Weak
 weak_is Weak e = refl
@@ -61,10 +38,39 @@ weakly : (state : TaskState) (class : Class) → (state ≡ OobReady) ⊎ ((stat
 weakly state class (inl oob) = inl oob
 weakly state class (inr in_band) = inr (in_band.0, weak_is class in_band.1)
 
-served : (runs : Option ℕ) (t : ℕ) (old new : Parts) (task : Task) (hart : Hart) → slice_get old.tasks t ≡ Some task → slice_get old.harts t ≡ Some hart → Served runs t old new → IsServed runs t old.stamps new.tasks new.harts task hart
-served runs t old new task hart there at i =
-    let same : i.task ≡ task = same_task old.tasks t i.task task i.waited there in
-    record { s = i.semaphore; giver = i.giver; stamp = i.stamp; state = i.state; on = rw (← same) i.on; gives = i.held; ready = rw (← same) (weakly i.state i.task.class i.ready); later = i.fresh; task_is = rw (← same) i.wakes; hart_is = i.hart hart at }
+in_band_only : (state : TaskState) (class : Class) → (state ≡ InReady) ⊎ ((state ≡ InReady) × (is_weak class ≡ true)) → state ≡ InReady
+in_band_only state class (inl there) = there
+in_band_only state class (inr weak) = weak.0
+
+about : (c number : ℕ) (hart : Hart) (old : Board) (call : MakesCall c number hart old) → IsAbout (current c old.parts) call.task hart Call old.parts.harts old.memory
+about c number hart old call = record { word = call.word; inst = call.inst; current = call.runs; has = call.has; fetched = call.fetched; decodes = call.decodes; effect_is = call.calls }
+
+-- what the calls are that a task is about to make
+abbrev IsAboutCall : Option ℕ → Board → ℕ → Hart → Type 0
+IsAboutCall runs old number hart = (caller : ℕ) × (IsAbout runs caller hart Call old.parts.harts old.memory × (register_of hart.regs 17 ≡ number))
+
+module _ (runs : Option ℕ) (c t : ℕ) (old : Board) (makes : ℕ → Hart → Type 0) (tells : (n : ℕ) (h : Hart) → makes n h → IsAboutCall runs old n h) where
+  why : (before mutexes : List Mutex) (task : Task) (state : TaskState) (wait : Wait) (answer : ℕ) → WokenBefore runs makes c t task state before mutexes wait answer → IsReadyAfter wait task.class state
+      → WokenBy runs c t old.parts.harts old.memory before mutexes task state wait answer
+  why before mutexes task state _ _ (line l home) ready = by_line l home (in_band_only state task.class ready)
+  why before mutexes task state _ _ (passed m giver mutex own had there owns once oob) ready = by_owner m giver mutex own had there owns once oob
+  why before mutexes task state _ _ (put hart call) ready = let a = tells 41 hart call in by_put a.0 hart a.1.0 a.1.1 (weakly state task.class ready)
+
+  wakes : (from new : Parts) (task : Task) (hart : Hart) → slice_get from.tasks t ≡ Some task → slice_get from.harts t ≡ Some hart → WakesBefore runs makes c t from new
+      → Wakes runs c t from.stamps old.parts.harts old.memory from.mutexes new.mutexes new.tasks new.harts task hart
+  wakes from new task hart there at w =
+      let same : w.task ≡ task = same_task from.tasks t w.task task w.waited there in
+      record {
+        wait = w.wait;
+        state = w.state;
+        stamp = w.stamp;
+        answer = w.answer;
+        on = rw (← same) w.on;
+        by = rw (← same) (why from.mutexes new.mutexes w.task w.state w.wait w.answer w.by w.ready);
+        later = w.fresh;
+        task_is = rw (← same) w.wakes;
+        hart_is = w.hart hart at;
+      }
 
 spends : (c t : ℕ) (old new : Parts) (task : Task) (hart : Hart) → slice_get old.tasks t ≡ Some task → slice_get old.harts t ≡ Some hart → Spends c t old new
     → SpendsSlice (current c old) t old.stamps new.tasks new.harts task hart
@@ -106,12 +112,12 @@ as_asked c t old asked task there (inr s) =
           record {
             given = change_to task;
             is_given = inr (record {
-              caller = s.task;
+              caller = s.makes.task;
               hart = s.hart;
               class = s.class;
-              calls = record { word = s.word; inst = s.inst; current = s.runs; has = s.has; fetched = s.fetched; decodes = s.decodes; effect_is = s.calls };
+              calls = about c 34 s.hart old s.makes;
               oob = s.on;
-              number = s.number;
+              number = s.makes.asks;
               names = sym same;
               live = b.0;
               attached = has_class task.class b.1;
@@ -124,53 +130,38 @@ as_asked c t old asked task there (inr s) =
     ]
 
 -- ---- each task but the current one
-Left : ℕ → ℕ → Parts → Parts → Task → Hart → Type 0
-Left c t old new task hart =
-    Stands t new.tasks new.harts task hart
-    ⊎ WakesInBand c t old.stamps new.tasks new.harts task hart
-    ⊎ InheritsMutex (current c old) t old.stamps old.mutexes new.mutexes new.tasks new.harts task hart
-    ⊎ IsServed (current c old) t old.stamps new.tasks new.harts task hart
+calls_of : (c : ℕ) (old : Board) (number : ℕ) (hart : Hart) → MakesCall c number hart old → IsAboutCall (current c old.parts) old number hart
+calls_of c old number hart call = (call.task, (about c number hart old call, call.asks))
 
-left : (c t : ℕ) (old new : Parts) (task : Task) (hart : Hart) → slice_get old.tasks t ≡ Some task → slice_get old.harts t ≡ Some hart → Stays c t old new → Left c t old new task hart
-unfolding Left
-left c t old new task hart there at (inl r) = inl (record { task_is = r.task task there; hart_is = r.hart hart at })
-left c t old new task hart there at (inr (inl w)) = inr (inl (woken c t old new task hart there at w))
-left c t old new task hart there at (inr (inr (inl i))) = inr (inr (inl (inherits (current c old) t old new task hart there at i)))
-left c t old new task hart there at (inr (inr (inr i))) = inr (inr (inr (served (current c old) t old new task hart there at i)))
+left : (c t : ℕ) (old : Board) (from new : Parts) (task : Task) (hart : Hart) → slice_get from.tasks t ≡ Some task → slice_get from.harts t ≡ Some hart
+    → Stays (current c old.parts) (λ number hart. MakesCall c number hart old) c t from new
+    → Stands t new.tasks new.harts task hart ⊎ Wakes (current c old.parts) c t from.stamps old.parts.harts old.memory from.mutexes new.mutexes new.tasks new.harts task hart
+left c t old from new task hart there at (inl r) = inl (record { task_is = r.task task there; hart_is = r.hart hart at })
+left c t old from new task hart there at (inr w) = inr (wakes (current c old.parts) c t old (λ number hart. MakesCall c number hart old) (calls_of c old) from new task hart there at w)
 
 tasks_of : (c : ℕ) (old new : Board) → StepChanges c old new → (t : ℕ) (task : Task) (hart : Hart) → current c old.parts ≢ Some t → slice_get old.parts.tasks t ≡ Some task → slice_get old.parts.harts t ≡ Some hart
     → (given : Task) × (((given ≡ task) ⊎ IsScheduled (current c old.parts) t old.parts.tasks old.parts.harts old.memory task given)
     × (Stands t new.parts.tasks new.parts.harts given hart
-    ⊎ WakesInBand c t old.parts.stamps new.parts.tasks new.parts.harts given hart
-    ⊎ InheritsMutex (current c old.parts) t old.parts.stamps old.parts.mutexes new.parts.mutexes new.parts.tasks new.parts.harts given hart
-    ⊎ IsServed (current c old.parts) t old.parts.stamps new.parts.tasks new.parts.harts given hart))
-unfolding Left
+    ⊎ Wakes (current c old.parts) c t old.parts.stamps old.parts.harts old.memory old.parts.mutexes new.parts.mutexes new.parts.tasks new.parts.harts given hart))
 tasks_of c old new b t task hart other there at =
     let a : IsAsked c t old b.asked task = as_asked c t old b.asked task there b.scheduled in
-    (a.given, (a.is_given, left c t (record old.parts { tasks = b.asked }) new.parts a.given hart a.there at (b.others t other)))
+    (a.given, (a.is_given, left c t old (record old.parts { tasks = b.asked }) new.parts a.given hart a.there at (b.others t other)))
 
 -- ---- each task where a line is on the wire
-Heard : ℕ → ℕ → Parts → Parts → Task → Hart → Type 0
-Heard c t old new task hart =
-    Stands t new.tasks new.harts task hart
-    ⊎ WakesInBand c t old.stamps new.tasks new.harts task hart
-    ⊎ SpendsSlice (current c old) t old.stamps new.tasks new.harts task hart
-
-own : (c t : ℕ) (old new : Parts) (task : Task) (hart : Hart) → slice_get old.tasks t ≡ Some task → slice_get old.harts t ≡ Some hart → StaysBy None c t old new ⊎ Spends c t old new → Heard c t old new task hart
-unfolding Heard
+own : (c t : ℕ) (old : Board) (new : Parts) (task : Task) (hart : Hart) → slice_get old.parts.tasks t ≡ Some task → slice_get old.parts.harts t ≡ Some hart → Stays None MakesNone c t old.parts new ⊎ Spends c t old.parts new
+    → Stands t new.tasks new.harts task hart
+    ⊎ Wakes None c t old.parts.stamps old.parts.harts old.memory old.parts.mutexes new.mutexes new.tasks new.harts task hart
+    ⊎ SpendsSlice (current c old.parts) t old.parts.stamps new.tasks new.harts task hart
 own c t old new task hart there at (inl (inl r)) = inl (record { task_is = r.task task there; hart_is = r.hart hart at })
-own c t old new task hart there at (inl (inr (inl w))) = inr (inl (woken c t old new task hart there at w))
-own c t old new task hart there at (inl (inr (inr (inl i)))) = let no = i.held in cc
-own c t old new task hart there at (inl (inr (inr (inr i)))) = let no = i.held in cc
-own c t old new task hart there at (inr q) = inr (inr (spends c t old new task hart there at q))
+own c t old new task hart there at (inl (inr w)) = inr (inl (wakes None c t old MakesNone (λ n h none. absurd none) old.parts new task hart there at w))
+own c t old new task hart there at (inr q) = inr (inr (spends c t old.parts new task hart there at q))
 
 line_tasks_of : (c : ℕ) (old new : Board) → StepChanges c old new → (l t : ℕ) (pipe : Pipe) (task : Task) (hart : Hart) → slice_get old.parts.pipes c ≡ Some pipe → has_line pipe.wire l ≡ true
     → slice_get old.parts.tasks t ≡ Some task → slice_get old.parts.harts t ≡ Some hart
     → Stands t new.parts.tasks new.parts.harts task hart
-    ⊎ WakesInBand c t old.parts.stamps new.parts.tasks new.parts.harts task hart
+    ⊎ Wakes None c t old.parts.stamps old.parts.harts old.memory old.parts.mutexes new.parts.mutexes new.parts.tasks new.parts.harts task hart
     ⊎ SpendsSlice (current c old.parts) t old.parts.stamps new.parts.tasks new.parts.harts task hart
-unfolding Heard
-line_tasks_of c old new b l t pipe task hart there on is has = own c t old.parts new.parts task hart is has ((b.hears (record { pipe = pipe; line = l; there = there; on = on })).1 t)
+line_tasks_of c old new b l t pipe task hart there on is has = own c t old new.parts task hart is has ((b.hears (record { pipe = pipe; line = l; there = there; on = on })).1 t)
 
 -- ---- RAM
 ram_of : (c : ℕ) (old new : Board) → StepChanges c old new

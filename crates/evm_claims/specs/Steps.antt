@@ -22,6 +22,7 @@ use Rattle.evm_model.specs.declared.task.Class.TheVariants.{Unattached, RoundRob
 use Rattle.evm_model.specs.declared.task.Task.{Task}
 use Rattle.evm_model.specs.declared.task.TaskState.{TaskState}
 use Rattle.evm_model.specs.declared.task.TaskState.TheVariants.{InReady, OobReady, Waits}
+use Rattle.evm_model.specs.declared.task.Wait.{Wait}
 use Rattle.evm_model.specs.declared.task.Wait.TheVariants.{Line, Lock, Semaphore}
 use Rattle.evm_ram.specs.Ram.{write_at}
 use Rattle.evm_ram.specs.declared.width.Width.{Width}
@@ -51,44 +52,28 @@ pub record IsScheduled (runs : Option ℕ) (t : ℕ) (tasks : List Task) (harts 
   pub policy : policy_of (register_of hart.regs 11) (register_of hart.regs 12) ≡ Some class
   pub given_is : given ≡ record task { class = class; priority = register_of hart.regs 12; slice = 4 }
 
--- it waited on processor c for a line: it is ready in-band, with a later stamp and an a0 of 0
-pub record WakesInBand (c t stamps : ℕ) (tasks : List Task) (harts : List Hart) (task : Task) (hart : Hart) : Type 0 where
-  pub line : ℕ
-  pub stamp : ℕ
-  pub on : task.state ≡ Waits (Line line)
-  pub at_home : task.cpu ≡ c
-  pub later : stamps ≤ stamp
-  pub task_is : slice_get tasks t ≡ Some (record task { stamp = stamp; deadline = 0; state = InReady })
-  pub hart_is : slice_get harts t ≡ Some (record hart { regs = with_register hart.regs 10 0 })
+-- why task t, which waited, woke into this state, by what it waited for; the last is what its call answers
+pub data WokenBy (runs : Option ℕ) (c t : ℕ) (harts : List Hart) (memory : Memory) (before mutexes : List Mutex) (task : Task) (state : TaskState) : Wait → ℕ → Type 0 where
+  -- the line was played on processor c, which is its own: it is ready in-band
+  by_line : (l : ℕ) → task.cpu ≡ c → state ≡ InReady → WokenBy runs c t harts memory before mutexes task state (Line l) 0
+  -- the mutex was the current task's: it owns it, locked once, and is ready out-of-band
+  by_owner : (m giver : ℕ) (mutex : Mutex) → runs ≡ Some giver → owner before m ≡ Some giver → slice_get mutexes m ≡ Some mutex → mutex.owner ≡ Some t → mutex.count ≡ 1 → state ≡ OobReady
+      → WokenBy runs c t harts memory before mutexes task state (Lock m) 0
+  -- the current task makes call 41, whose a0 is the semaphore's number: it is ready out-of-band, or in-band if it is weak
+  by_put : (caller : ℕ) (hart : Hart) → IsAbout runs caller hart Call harts memory → register_of hart.regs 17 ≡ 41 → (state ≡ OobReady) ⊎ ((state ≡ InReady) × (task.class ≡ Weak))
+      → WokenBy runs c t harts memory before mutexes task state (Semaphore (register_of hart.regs 10)) 0
 
--- it waited, on whatever processor, for a mutex of the current task: it owns it, locked once, and is ready out-of-band, with a later stamp and an a0 of 0
-pub record InheritsMutex (runs : Option ℕ) (t stamps : ℕ) (before mutexes : List Mutex) (tasks : List Task) (harts : List Hart) (task : Task) (hart : Hart) : Type 0 where
-  pub m : ℕ
-  pub giver : ℕ
-  pub stamp : ℕ
-  pub mutex : Mutex
-  pub on : task.state ≡ Waits (Lock m)
-  pub gives : runs ≡ Some giver
-  pub had : owner before m ≡ Some giver
-  pub mutex_is : slice_get mutexes m ≡ Some mutex
-  pub owns : mutex.owner ≡ Some t
-  pub once : mutex.count ≡ 1
-  pub later : stamps ≤ stamp
-  pub task_is : slice_get tasks t ≡ Some (record task { stamp = stamp; deadline = 0; state = OobReady })
-  pub hart_is : slice_get harts t ≡ Some (record hart { regs = with_register hart.regs 10 0 })
-
--- it waited, on whatever processor, for a semaphore into which the current task put one: it is ready out-of-band, or in-band if it is weak, with a later stamp and an a0 of 0
-pub record IsServed (runs : Option ℕ) (t stamps : ℕ) (tasks : List Task) (harts : List Hart) (task : Task) (hart : Hart) : Type 0 where
-  pub s : ℕ
-  pub giver : ℕ
-  pub stamp : ℕ
+-- it waited, on whatever processor, and is ready: it has no deadline, a later stamp, and the answer in a0; harts, memory and mutexes before, and all after
+pub record Wakes (runs : Option ℕ) (c t stamps : ℕ) (was : List Hart) (memory : Memory) (before mutexes : List Mutex) (tasks : List Task) (harts : List Hart) (task : Task) (hart : Hart) : Type 0 where
+  pub wait : Wait
   pub state : TaskState
-  pub on : task.state ≡ Waits (Semaphore s)
-  pub gives : runs ≡ Some giver
-  pub ready : (state ≡ OobReady) ⊎ ((state ≡ InReady) × (task.class ≡ Weak))
+  pub stamp : ℕ
+  pub answer : ℕ
+  pub on : task.state ≡ Waits wait
+  pub by : WokenBy runs c t was memory before mutexes task state wait answer
   pub later : stamps ≤ stamp
   pub task_is : slice_get tasks t ≡ Some (record task { stamp = stamp; deadline = 0; state = state })
-  pub hart_is : slice_get harts t ≡ Some (record hart { regs = with_register hart.regs 10 0 })
+  pub hart_is : slice_get harts t ≡ Some (record hart { regs = with_register hart.regs 10 answer })
 
 -- it is current, ready out-of-band and of the round-robin class: it has less of its slice, or with a later stamp a slice of at most 4
 pub record SpendsSlice (runs : Option ℕ) (t stamps : ℕ) (tasks : List Task) (harts : List Hart) (task : Task) (hart : Hart) : Type 0 where
@@ -146,18 +131,16 @@ pub record StepChangesOnly (runs : Option ℕ) (c : ℕ) (old new : Board) : Typ
   -- the console has one byte more at the most, the last 4096 of them
   pub console : (new.parts.console ≡ old.parts.console)
       ⊎ ((byte : ℕ) × (new.parts.console ≡ drop (length (old.parts.console ++ byte ∷ []) - 4096) (old.parts.console ++ byte ∷ [])))
-  -- each task but the current one, as call 34 may have given it another class, stands, wakes, inherits or is served
+  -- each task but the current one, as call 34 may have given it another class, stands or wakes
   pub tasks : (t : ℕ) (task : Task) (hart : Hart) → runs ≢ Some t → slice_get old.parts.tasks t ≡ Some task → slice_get old.parts.harts t ≡ Some hart
       → (given : Task) × (((given ≡ task) ⊎ IsScheduled runs t old.parts.tasks old.parts.harts old.memory task given)
       × (Stands t new.parts.tasks new.parts.harts given hart
-      ⊎ WakesInBand c t old.parts.stamps new.parts.tasks new.parts.harts given hart
-      ⊎ InheritsMutex runs t old.parts.stamps old.parts.mutexes new.parts.mutexes new.parts.tasks new.parts.harts given hart
-      ⊎ IsServed runs t old.parts.stamps new.parts.tasks new.parts.harts given hart))
-  -- where a line is on the wire each task, the current one too, stands, wakes or spends its slice
+      ⊎ Wakes runs c t old.parts.stamps old.parts.harts old.memory old.parts.mutexes new.parts.mutexes new.parts.tasks new.parts.harts given hart))
+  -- where a line is on the wire no task acts: each, the current one too, stands, wakes by a line or spends its slice
   pub line_tasks : (l t : ℕ) (pipe : Pipe) (task : Task) (hart : Hart) → slice_get old.parts.pipes c ≡ Some pipe → has_line pipe.wire l ≡ true
       → slice_get old.parts.tasks t ≡ Some task → slice_get old.parts.harts t ≡ Some hart
       → Stands t new.parts.tasks new.parts.harts task hart
-      ⊎ WakesInBand c t old.parts.stamps new.parts.tasks new.parts.harts task hart
+      ⊎ Wakes None c t old.parts.stamps old.parts.harts old.memory old.parts.mutexes new.parts.mutexes new.parts.tasks new.parts.harts task hart
       ⊎ SpendsSlice runs t old.parts.stamps new.parts.tasks new.parts.harts task hart
   -- as many tasks, with their harts, or one of each more where there were fewer than 64
   pub counts : ((length new.parts.tasks ≡ length old.parts.tasks) × (length new.parts.harts ≡ length old.parts.harts))

@@ -124,6 +124,15 @@ pub fn each_pc_is_a_multiple_of_4()
     evm_rules::rules_hold();
 }
 
+/// Likewise: there are 32 semaphores at the most, and none counts above 2147483647.
+pub fn each_semaphore_is_within_its_bound()
+    ensures few { (boot : Boot) (s : State) → Reached boot s → length s.board.parts.semaphores ≤ 32 }
+    ensures bounded { (boot : Boot) (s : State) (semaphore count : ℕ) → Reached boot s →
+        slice_get s.board.parts.semaphores semaphore ≡ Option.Some count → count ≤ 2147483647 }
+{
+    evm_rules::rules_hold();
+}
+
 /// Likewise, where the journal has room: a Step of a processor that goes and has nothing on its wire, whose current task is
 /// about to give a register a value and go on at a pc, is accepted, answers Ran, gives the register the value and the task
 /// the pc, and turns the skip bit off; nothing else of the machine changes but the journal. No breakpoint stands at the

@@ -10,10 +10,11 @@ ghost use Rattle.evm_claims.specs.Steps.{StepChangesOnly};
 
 /// An accepted Step of a processor leaves the clock, the breakpoints and the other processors as they are; on other
 /// pipes at most line 1 is raised; RAM changes only where the instruction at the current task's pc is a store; the
-/// console has one byte more at the most. Each task but the current one stands, wakes, or inherits a mutex of the current
-/// one, which may have given it another class by call 34; one task is added at the most. Only mutexes change that were
-/// free or the current task's, and one is added at the most. Where a line is on the wire the current task too stands,
-/// wakes or spends its slice, and no mutex changes. Each field of `StepChangesOnly` is one of these.
+/// console has one byte more at the most. Each task but the current one, which may have given it another class by call 34,
+/// stands, or wakes: by a line that was played, by a mutex of the current task, or since the current task makes call 41 on
+/// its semaphore (`WokenBy`). One task is added at the most. Only mutexes change that were free or the current task's, and
+/// one is added at the most. Where a line is on the wire no task acts: the current one too stands, wakes by a line or spends
+/// its slice, and no mutex changes. Each field of `StepChangesOnly` is one of these.
 pub fn a_step_changes_only()
     ensures { (old new : State) (answer : Answer) (c : ℕ) → apply old (Event.Step c) ≡ Result.Ok (new, answer) →
         StepChangesOnly (current c old.board.parts) c old.board new.board }

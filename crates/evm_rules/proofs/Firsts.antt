@@ -1,16 +1,17 @@
 -- Which task the first of a stage is: it is ready there, and none is where there is no first.
-use Rattle.std.proofs.Common.{◌≡◌, ℕ, zero, suc, ◌<◌, List, Bool, true, false, ◌&&◌, Option, Some, None, length, refl, ap, sym, ◌∙◌, ◌⊎◌, inl, inr, arith, eq-eqb}
+use Rattle.std.proofs.Common.{◌≡◌, ℕ, zero, suc, ◌<◌, List, Bool, true, false, ◌&&◌, Option, Some, None, length, refl, ap, sym, ◌∙◌, inl, inr, arith, eq-eqb}
 use Rattle.std.proofs.lemmas.Bool.Decides.{eqb_tells}
 use Rattle.std.proofs.Math.Nat.{eq-or-lt_of_le}
 use Rattle.std.specs.Prelude.{slice_get, ◌==◌, if◌then◌else◌}
 use Rattle.evm_model.proofs.Lists.{slice_get-below}
 use Rattle.evm_model.specs.Good.{IsOneOf, IsOwn, is_ready}
-use Rattle.evm_model.specs.Ranks.{best, next_in_band, first, leader, goes_before, runs_oob, runs_oob_task, runs_in_band, runs_in_band_task, rank, stamp, is_oob_ready, is_in_ready}
+use Rattle.evm_model.specs.Ranks.{best, next_in_band, first, leader, runs_oob, runs_oob_task, runs_in_band, runs_in_band_task, rank, stamp, is_oob_ready, is_in_ready}
 use Rattle.evm_model.specs.Settle.{is_oob, is_oob_task}
 use Rattle.evm_model.specs.declared.mutex.Mutex.{Mutex}
 use Rattle.evm_model.specs.declared.task.Task.{Task}
 use Rattle.evm_model.specs.declared.task.TaskState.{TaskState}
 use Rattle.evm_model.specs.declared.task.TaskState.TheVariants.{InReady, OobReady}
+pub use Rattle.evm_walk.proofs.Waiters.{first-member}
 
 pub both : (a b : Bool) → (a && b) ≡ true → (a ≡ true) × (b ≡ true)
 both true b h = (refl, h)
@@ -18,25 +19,6 @@ both false b h = cc
 
 pub eqb-is : (a b : ℕ) → (a == b) ≡ true → a ≡ b
 eqb-is a b e = elim (eqb_tells a b) [ inl g ↦ g.1 | inr g ↦ cc ]
-
-leader-is : (r s : ℕ → ℕ) (o : Option ℕ) (t : ℕ) → (leader r s o t ≡ t) ⊎ (o ≡ Some (leader r s o t))
-leader-is r s None t = inl refl
-leader-is r s (Some b) t = elim (goes_before r s t b) as (λ v. ((if v then t else b) ≡ t) ⊎ (Some b ≡ Some (if v then t else b))) [ true ↦ inl refl | false ↦ inr refl ]
-
-member-step : (m : ℕ → Bool) (r s : ℕ → ℕ) (n : ℕ) (o : Option ℕ) (b : Bool) (t : ℕ) → m n ≡ b → ((u : ℕ) → o ≡ Some u → (u < n) × (m u ≡ true))
-    → (if b then Some (leader r s o n) else o) ≡ Some t → (t < suc n) × (m t ≡ true)
-member-step m r s n o true t at h e =
-    let is : leader r s o n ≡ t = cc in
-    elim (leader-is r s o n) [
-      | inl g ↦ let same : n ≡ t = sym g ∙ is in (omega arith, ap m (sym same) ∙ at)
-      | inr g ↦ let found = h (leader r s o n) g in (rw (← is) (omega arith), rw (← is) found.1)
-    ]
-member-step m r s n o false t at h e = let found = h t e in (omega arith, found.1)
-
-pub first-member : (m : ℕ → Bool) (r s : ℕ → ℕ) (n t : ℕ) → first m r s n ≡ Some t → (t < n) × (m t ≡ true)
-unfolding first
-first-member m r s zero t e = cc
-first-member m r s (suc n) t e = member-step m r s n (first m r s n) (m n) t refl (λ u d. first-member m r s n u d) e
 
 none-step : (m : ℕ → Bool) (r s : ℕ → ℕ) (n : ℕ) (o : Option ℕ) (b : Bool) → m n ≡ b → (if b then Some (leader r s o n) else o) ≡ None → (m n ≡ false) × (o ≡ None)
 none-step m r s n o true at e = cc

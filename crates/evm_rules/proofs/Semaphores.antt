@@ -1,13 +1,12 @@
 -- Each call on a semaphore leaves the state good but for what its processor settles.
-use Rattle.std.proofs.Common.{◌≡◌, ℕ, ◌+◌, ◌-◌, List, [], ◌∷◌, ◌++◌, Bool, true, false, Option, Some, None, refl, sym, ◌∙◌}
+use Rattle.std.proofs.Common.{◌≡◌, ℕ, List, true, false, Option, Some, None, refl}
 use Rattle.std.specs.Prelude.{slice_get, nat_lt, nat_le, ◌==◌, length}
 use Rattle.evm_model.specs.Good.{IsOwn, is_ready}
 use Rattle.evm_model.specs.Mutexes.{owns_any}
-use Rattle.evm_model.specs.Ranks.{rank, stamp}
 use Rattle.evm_model.specs.Semaphores.{add_semaphore, new_semaphore, sem_get_known, sem_get, sem_try_get_known, sem_try_get, sem_put_to, sem_put_known, sem_put}
 use Rattle.evm_model.specs.Stages.{is_stalled, wait_refusal, wait_unless}
-use Rattle.evm_model.specs.State.{Parts, on_semaphore}
-use Rattle.evm_model.specs.Waits.{is_wait_for, awaits_task, awaits, first_waiter, begin_wait, wake}
+use Rattle.evm_model.specs.State.{Parts}
+use Rattle.evm_model.specs.Waits.{is_wait_for, awaits_task, first_waiter, begin_wait, wake}
 use Rattle.evm_model.specs.declared.call.Outcome.{Outcome}
 use Rattle.evm_model.specs.declared.errno.Errno.{Errno}
 use Rattle.evm_model.specs.declared.limits.TheConstants.{SEMAPHORE_LIMIT, SEMAPHORE_COUNT_LIMIT}
@@ -17,11 +16,12 @@ use Rattle.evm_model.specs.declared.task.TaskState.{TaskState}
 use Rattle.evm_model.specs.declared.task.TaskState.TheVariants.{Waits}
 use Rattle.evm_model.specs.declared.task.Wait.{Wait}
 use Rattle.evm_model.specs.declared.task.Wait.TheVariants.{Semaphore}
-use Rattle.evm_rules.proofs.Acting.{IsOpen, but-rests}
+use Rattle.evm_walk.proofs.Waiters.{first-waits}
+use Rattle.evm_rules.proofs.Acting.{but-rests}
 use Rattle.evm_rules.proofs.Done.{IsDone, either}
-use Rattle.evm_rules.proofs.Firsts.{IsOobOwn, first-member}
+use Rattle.evm_rules.proofs.Firsts.{IsOobOwn}
 use Rattle.evm_rules.proofs.Locking.{may-wait, not-closed}
-use Rattle.evm_rules.proofs.Passing.{Wakes, woke, wake-but}
+use Rattle.evm_rules.proofs.Passing.{Wakes, wake-but}
 use Rattle.evm_rules.proofs.Settling.{GoodBut}
 use Rattle.evm_rules.proofs.Waking.{alike-own}
 
@@ -33,10 +33,6 @@ waits-idle wait _ e = let no : false ≡ true = e in cc
 waiter-idle : (wait : Wait) (o : Option Task) → awaits_task wait o ≡ true → (task : Task) → o ≡ Some task → is_ready task.state ≡ false
 waiter-idle wait None e task h = cc
 waiter-idle wait (Some x) e task h = let same : x ≡ task = cc in rw (← same) (waits-idle wait x.state e)
-
-first-waits : (wait : Wait) (t : ℕ) (k : Parts) → first_waiter wait k ≡ Some t → awaits wait k.tasks t ≡ true
-unfolding first_waiter
-first-waits wait t k e = (first-member (awaits wait k.tasks) (rank k.mutexes k.tasks) (stamp k.tasks) (length k.tasks) t e).1
 
 -- the first that waits for it wakes
 pub first-wakes : (c t value : ℕ) (wait : Wait) (k : Parts) → first_waiter wait k ≡ Some t → GoodBut c k → Wakes c t k (wake t value k)

@@ -6,14 +6,12 @@ use Rattle.evm_exec.specs.Registers.{with_register}
 use Rattle.evm_exec.specs.declared.hart.Hart.{Hart}
 use Rattle.evm_model.specs.Commands.{tick}
 use Rattle.evm_model.specs.Harts.{A0, set_register, spawned_hart}
-use Rattle.evm_model.specs.InBandCalls.{add_task, last_bytes}
+use Rattle.evm_model.specs.InBandCalls.{last_bytes}
 use Rattle.evm_model.specs.Lists.{change}
-use Rattle.evm_model.specs.Locks.{add_mutex}
 use Rattle.evm_model.specs.Mutexes.{free_mutex, held_by}
 use Rattle.evm_model.specs.Pipes.{Pipe, raise}
 use Rattle.evm_model.specs.Ranks.{is_oob_ready}
 use Rattle.evm_model.specs.Settle.{is_oob}
-use Rattle.evm_model.specs.Semaphores.{add_semaphore}
 use Rattle.evm_model.specs.State.{Parts, new_task}
 use Rattle.evm_model.specs.Tasks.{restamp, set_policy, set_slice}
 use Rattle.evm_model.specs.Waits.{wake}
@@ -21,13 +19,12 @@ use Rattle.evm_model.specs.declared.mutex.Mutex.{Mutex}
 use Rattle.evm_model.specs.declared.task.Task.{Task}
 use Rattle.evm_model.specs.declared.task.TaskState.{TaskState}
 use Rattle.evm_model.specs.declared.task.TaskState.TheVariants.{InReady, Waits}
-use Rattle.evm_model.specs.declared.task.Wait.TheVariants.{Line, Lock, Semaphore}
 use Rattle.evm_model.proofs.Lists.{slice_get-set_other, change-elsewhere, change-cases, length-change, slice_get-push, slice_get-below, slice_get-each}
 use Rattle.evm_walk.proofs.Sizes.{of_spend}
-use Rattle.evm_walk.proofs.Walk.{Actor, IsOldTask, Does, hart, task, stamps, turns, spends, wakes, inherits, serves, holds, marks, picks, moves, tells, clock, schedules, adds, makes, types, Walk, start, next}
+use Rattle.evm_walk.proofs.Walk.{Actor, IsOldTask, Does, hart, task, stamps, turns, spends, wakes, gives, holds, marks, picks, moves, tells, clock, schedules, adds, makes, types, Walk, start, next}
 use Rattle.evm_runs.specs.Changes.{Added, Made, Typed}
 use Rattle.evm_runs.specs.Kept.{AreRegisters, AllHaveRegisters}
-use Rattle.evm_runs.proofs.Fares.{LineWaiter, Sleeper, line_waiter, Waiter, first_sleeps, first_waits}
+use Rattle.evm_runs.proofs.Fares.{Waiter, waiter}
 
 last_there : {X : Type 0} (xs : List X) (y : X) → slice_get (xs ++ y ∷ []) (length xs) ≡ Some y
 last_there [] y = refl
@@ -55,12 +52,10 @@ spawned-are entry value = record { count = length-set (replicate 32 0) 10 value 
 
 module _ (a : Actor) (old : Parts) where
   does_registers : (i j : ℕ) (k x : Parts) → Does a old i j k x → AllHaveRegisters k.harts → AllHaveRegisters x.harts
-  unfolding restamp set_policy set_slice wake tick add_task add_mutex add_semaphore
+  unfolding restamp set_policy set_slice wake tick
   does_registers _ _ _ _ (hart t r value f k own same there) h = change-registers t r value f k.harts same h
   does_registers _ _ _ _ (spends t x k runs there on) h = of_spend (λ y. AllHaveRegisters y.harts) t x.slice k h h
-  does_registers _ _ _ _ (wakes t l k on) h = change-registers t A0 0 (set_register A0 0) k.harts (λ x. refl) h
-  does_registers _ _ _ _ (inherits t u m k own same its first) h = change-registers u A0 0 (set_register A0 0) k.harts (λ x. refl) h
-  does_registers _ _ _ _ (serves t u s k own first) h = change-registers u A0 0 (set_register A0 0) k.harts (λ x. refl) h
+  does_registers _ _ _ _ (wakes u wait k on why) h = change-registers u A0 0 (set_register A0 0) k.harts (λ x. refl) h
   does_registers _ _ _ _ (adds t entry value cpu k own fresh room) h = λ u x e. elim (slice_get-push k.harts (spawned_hart entry value) u x e) [
     | inl there ↦ h u x there
     | inr last ↦ rw last.1 (spawned-are entry value)
@@ -125,7 +120,7 @@ both false b h = h
 
 module _ (a : Actor) (old : Parts) where
   does_add : (i j : ℕ) (k x : Parts) → Does a old i j k x → Added old k → Added old x
-  unfolding restamp set_policy set_slice wake tick add_task add_mutex add_semaphore
+  unfolding restamp set_policy set_slice wake tick
   does_add _ _ _ _ (hart t r value f k own same there) p =
       added_on old k _ refl (length-change f k.harts t) (λ more h. record {
         task = λ cpu stamp new. new;
@@ -140,18 +135,10 @@ module _ (a : Actor) (old : Parts) where
       of_spend (Added old) t x.slice k
       (added_one old k _ t (length-change _ _ t ∙ length-change _ k.tasks t) refl (λ u o. change-elsewhere _ _ t u o ∙ change-elsewhere _ k.tasks t u o) (λ u o. refl) away p)
       (added_one old k _ t (length-change _ k.tasks t) refl (λ u o. change-elsewhere _ k.tasks t u o) (λ u o. refl) away p)
-  does_add _ _ _ _ (wakes t l k on) p =
-      let w : LineWaiter a.cpu l t k = line_waiter a.cpu l t k (slice_get k.tasks t) refl on in
-      added_one old k _ t (length-change _ _ t ∙ length-change _ k.tasks t) (length-change _ k.harts t) (λ u o. change-elsewhere _ _ t u o ∙ change-elsewhere _ k.tasks t u o) (λ u o. change-elsewhere _ k.harts t u o)
-      (λ cpu stamp more new. not_new (length old.tasks) t cpu stamp k w.task new w.there (λ e. let no : Waits (Line l) ≡ InReady = sym w.on ∙ e in cc)) p
-  does_add _ _ _ _ (inherits t u m k own same its first) p =
-      let w : Waiter u m k = first_waits u m k first in
+  does_add _ _ _ _ (wakes u wait k on why) p =
+      let w : Waiter u wait k = waiter u wait k (slice_get k.tasks u) refl on in
       added_one old k _ u (length-change _ _ u ∙ length-change _ k.tasks u) (length-change _ k.harts u) (λ v o. change-elsewhere _ _ u v o ∙ change-elsewhere _ k.tasks u v o) (λ v o. change-elsewhere _ k.harts u v o)
-      (λ cpu stamp more new. not_new (length old.tasks) u cpu stamp k w.task new w.there (λ e. let no : Waits (Lock m) ≡ InReady = sym w.on ∙ e in cc)) p
-  does_add _ _ _ _ (serves t u s k own first) p =
-      let w : Sleeper u s k = first_sleeps u s k first in
-      added_one old k _ u (length-change _ _ u ∙ length-change _ k.tasks u) (length-change _ k.harts u) (λ v o. change-elsewhere _ _ u v o ∙ change-elsewhere _ k.tasks u v o) (λ v o. change-elsewhere _ k.harts u v o)
-      (λ cpu stamp more new. not_new (length old.tasks) u cpu stamp k w.task new w.there (λ e. let no : Waits (Semaphore s) ≡ InReady = sym w.on ∙ e in cc)) p
+      (λ cpu stamp more new. not_new (length old.tasks) u cpu stamp k w.task new w.there (λ e. let no : Waits wait ≡ InReady = sym w.on ∙ e in cc)) p
   does_add _ _ _ _ (schedules u priority class k fresh asks) p = added_on old k _ (length-change _ k.tasks u) refl (λ more h. absurd (omega (arith, more, ap length fresh.tasks))) p
   does_add _ _ _ _ (adds t entry value cpu k own fresh room) p =
       let tasks : length k.tasks ≡ length old.tasks = ap length fresh.tasks in
@@ -188,9 +175,9 @@ made_one old k m f same p = elim p [
 
 module _ (a : Actor) (old : Parts) where
   does_make : (i j : ℕ) (k x : Parts) → Does a old i j k x → Made old.mutexes k.mutexes → Made old.mutexes x.mutexes
-  unfolding restamp set_policy set_slice wake tick add_task add_mutex add_semaphore
+  unfolding restamp set_policy set_slice wake tick
   does_make _ _ _ _ (spends t x k runs there on) p = of_spend (λ y. Made old.mutexes y.mutexes) t x.slice k p p
-  does_make _ _ _ _ (inherits t u m k own same its first) p = made_one old.mutexes k.mutexes m (held_by u 1) same p
+  does_make _ _ _ _ (gives t u m k own same its) p = made_one old.mutexes k.mutexes m (held_by u 1) same p
   does_make _ _ _ _ (holds i t m f k own same held) p = made_one old.mutexes k.mutexes m f same p
   does_make _ _ _ _ (makes t recursive protocol k own fresh room) p =
       let mutexes : length k.mutexes ≡ length old.mutexes = ap length fresh.mutexes in
@@ -208,9 +195,9 @@ module _ (a : Actor) (old : Parts) where
   walk_made _ _ _ (next m n s u i j k x few g d w) = does_make i j k x d (walk_made m s k w)
 
   does_mutexes : (i j : ℕ) (k x : Parts) → a.task ≡ None → Does a old i j k x → x.mutexes ≡ k.mutexes
-  unfolding restamp set_policy set_slice wake tick add_task add_mutex add_semaphore
+  unfolding restamp set_policy set_slice wake tick
   does_mutexes _ _ _ _ none (spends t x k runs there on) = of_spend (λ y. y.mutexes ≡ k.mutexes) t x.slice k refl refl
-  does_mutexes _ _ _ _ none (inherits t u m k own same its first) = let no : None ≡ Some t = sym none ∙ own in cc
+  does_mutexes _ _ _ _ none (gives t u m k own same its) = let no : None ≡ Some t = sym none ∙ own in cc
   does_mutexes _ _ _ _ none (holds i t m f k own same held) = let no : None ≡ Some t = sym none ∙ own in cc
   does_mutexes _ _ _ _ none (makes t recursive protocol k own fresh room) = let no : None ≡ Some t = sym none ∙ own in cc
   does_mutexes _ _ _ _ none _ = refl
@@ -222,7 +209,7 @@ module _ (a : Actor) (old : Parts) where
 
   -- ---- the console
   does_type : (i j : ℕ) (k x : Parts) → Does a old i j k x → Typed old k → Typed old x
-  unfolding restamp set_policy set_slice wake tick add_task add_mutex add_semaphore
+  unfolding restamp set_policy set_slice wake tick
   does_type _ _ _ _ (spends t x k runs there on) p = of_spend (Typed old) t x.slice k p p
   does_type _ _ _ _ (types t byte k own fresh) p = inr (byte, ap (λ (console : List ℕ). last_bytes (console ++ byte ∷ [])) fresh.console)
   does_type _ _ _ _ _ p = p
@@ -242,7 +229,7 @@ quietly_told f p l may (inr told) q = let no : true ≡ false = sym told.1 ∙ q
 
 module _ (a : Actor) (old : Parts) (d : ℕ) (other : d ≡ a.cpu → ⊥) where
   does_processors : (i j : ℕ) (k x : Parts) → Does a old i j k x → slice_get x.processors d ≡ slice_get k.processors d
-  unfolding restamp set_policy set_slice wake tick add_task add_mutex add_semaphore
+  unfolding restamp set_policy set_slice wake tick
   does_processors _ _ _ _ (spends t x k runs there on) = of_spend (λ y. slice_get y.processors d ≡ slice_get k.processors d) t x.slice k refl refl
   does_processors _ _ _ _ (marks f k x) = change-elsewhere f k.processors a.cpu d other
   does_processors _ _ _ _ (picks f k x) = change-elsewhere f k.processors a.cpu d other
@@ -254,7 +241,7 @@ module _ (a : Actor) (old : Parts) (d : ℕ) (other : d ≡ a.cpu → ⊥) where
 
   module _ (quiet : (e l : ℕ) → a.may e l ≡ false) where
     does_pipes : (i j : ℕ) (k x : Parts) → Does a old i j k x → slice_get x.pipes d ≡ slice_get k.pipes d
-    unfolding restamp set_policy set_slice wake tick add_task add_mutex add_semaphore
+    unfolding restamp set_policy set_slice wake tick
     does_pipes _ _ _ _ (spends t x k runs there on) = of_spend (λ y. slice_get y.pipes d ≡ slice_get k.pipes d) t x.slice k refl refl
     does_pipes _ _ _ _ (moves i f k x) = change-elsewhere f k.pipes a.cpu d other
     does_pipes _ _ _ _ (tells l f k small how) = slice_get-each f k.pipes d ∙ told_none (f d) (slice_get k.pipes d) (λ p. quietly_told (f d p) p l (a.may d l) (how d p) (quiet d l))

@@ -9,10 +9,10 @@ use Rattle.evm_ranks.proofs.Greatest.{boosts-so}
 use Rattle.evm_model.specs.Good.{is_ready}
 use Rattle.evm_model.specs.Lists.{change}
 use Rattle.evm_model.specs.Mutexes.{owner, owner_of, owns_below, owns_any}
-use Rattle.evm_model.specs.Ranks.{is_oob_ready, rank, stamp}
+use Rattle.evm_model.specs.Ranks.{is_oob_ready}
 use Rattle.evm_model.specs.State.{Parts}
 use Rattle.evm_model.specs.Tasks.{restamp, set_slice, spend_slice, is_round_robin, is_weak}
-use Rattle.evm_model.specs.Waits.{is_wait_for, awaits_task, awaits, awaits_line, first_waiter, woken, woken_state}
+use Rattle.evm_model.specs.Waits.{same_wait, is_wait_for, awaits_task, first_waiter, ready_on, stage_of_wait, woken, woken_state}
 use Rattle.evm_model.specs.declared.limits.TheConstants.{SLICE}
 use Rattle.evm_model.specs.declared.mutex.Mutex.{Mutex}
 use Rattle.evm_model.specs.declared.task.Class.{Class}
@@ -20,32 +20,23 @@ use Rattle.evm_model.specs.declared.task.Class.TheVariants.{RoundRobin}
 use Rattle.evm_model.specs.declared.task.Task.{Task}
 use Rattle.evm_model.specs.declared.task.TaskState.{TaskState}
 use Rattle.evm_model.specs.declared.task.TaskState.TheVariants.{InReady, OobReady, Waits}
-use Rattle.evm_model.specs.declared.task.Wait.TheVariants.{Line, Lock, Semaphore}
+use Rattle.evm_model.specs.declared.task.Wait.{Wait}
+use Rattle.evm_model.specs.declared.task.Wait.TheVariants.{Line, Lock, Semaphore, Event, Flags, Sleep, Timer}
+use Rattle.evm_model.specs.declared.stage.Stage.{Stage}
+use Rattle.evm_model.specs.declared.stage.Stage.TheVariants.{OutOfBand, InBand}
 use Rattle.evm_model.proofs.Lists.{change-here, change-elsewhere, slice_get-below}
+use Rattle.evm_walk.proofs.Waiters.{first-waits}
 use Rattle.evm_walk.proofs.Walk.{Actor, IsHeld}
-use Rattle.evm_runs.specs.Changes.{OneChanges, Rests, Spends, StaysBy, MutexChanges, MutexesStay}
-use Rattle.evm_runs.proofs.First.{always_finds_first}
+use Rattle.evm_runs.specs.Changes.{IsReadyAfter, OneChanges, Rests, Spends, Stays, WokenBy, by_line, by_owner, by_put, MutexChanges, MutexesStay}
 
 pub one_change : {X : Type 0} (i : ℕ) (f : X → X) (xs : List X) → OneChanges i f xs (change f xs i)
 one_change i f xs = record { here = change-here f xs i; others = λ j other. change-elsewhere f xs i j other }
 
 -- ---- who waits
--- a task that is there, and waits for a line of c or for a mutex
-pub record LineWaiter (c l t : ℕ) (k : Parts) : Type 0 where
+pub record Waiter (t : ℕ) (wait : Wait) (k : Parts) : Type 0 where
   pub task : Task
   pub there : slice_get k.tasks t ≡ Some task
-  pub on : task.state ≡ Waits (Line l)
-  pub at_home : task.cpu ≡ c
-
-pub record Waiter (t m : ℕ) (k : Parts) : Type 0 where
-  pub task : Task
-  pub there : slice_get k.tasks t ≡ Some task
-  pub on : task.state ≡ Waits (Lock m)
-
-pub record Sleeper (t s : ℕ) (k : Parts) : Type 0 where
-  pub task : Task
-  pub there : slice_get k.tasks t ≡ Some task
-  pub on : task.state ≡ Waits (Semaphore s)
+  pub on : task.state ≡ Waits wait
 
 number_is : (m n : ℕ) → (n == m) ≡ true → n ≡ m
 number_is m n e = elim (eqb_tells n m) [
@@ -53,41 +44,30 @@ number_is m n e = elim (eqb_tells n m) [
   | inr g ↦ let no : true ≡ false = sym e ∙ g.0 in cc
 ]
 
-line_is : (l : ℕ) (state : TaskState) → is_wait_for (Line l) state ≡ true → state ≡ Waits (Line l)
-line_is l (Waits (Line m)) e = ap (λ n. Waits (Line n)) (number_is l m e)
-line_is l _ e = cc
+same_is : (wait other : Wait) → same_wait other wait ≡ true → other ≡ wait
+same_is (Line l) (Line m) e = ap Line (number_is l m e)
+same_is (Lock m) (Lock n) e = ap Lock (number_is m n e)
+same_is (Semaphore s) (Semaphore r) e = ap Semaphore (number_is s r e)
+same_is (Event x) (Event y) e = ap Event (number_is x y e)
+same_is (Flags x) (Flags y) e = ap Flags (number_is x y e)
+same_is Sleep Sleep e = refl
+same_is (Timer x) (Timer y) e = ap Timer (number_is x y e)
+same_is _ _ e = cc
 
-lock_is : (m : ℕ) (state : TaskState) → is_wait_for (Lock m) state ≡ true → state ≡ Waits (Lock m)
-lock_is m (Waits (Lock n)) e = ap (λ i. Waits (Lock i)) (number_is m n e)
-lock_is m _ e = cc
-
-semaphore_is : (s : ℕ) (state : TaskState) → is_wait_for (Semaphore s) state ≡ true → state ≡ Waits (Semaphore s)
-semaphore_is s (Waits (Semaphore r)) e = ap (λ i. Waits (Semaphore i)) (number_is s r e)
-semaphore_is s _ e = cc
+wait_is : (wait : Wait) (state : TaskState) → is_wait_for wait state ≡ true → state ≡ Waits wait
+wait_is wait (Waits other) e = ap Waits (same_is wait other e)
+wait_is wait _ e = cc
 
 pub both : (a b : Bool) → (a && b) ≡ true → (a ≡ true) × (b ≡ true)
 both true b h = (refl, h)
 both false b h = cc
 
-pub line_waiter : (c l t : ℕ) (k : Parts) (o : Option Task) → slice_get k.tasks t ≡ o → awaits_line c l o ≡ true → LineWaiter c l t k
-line_waiter c l t k None e h = cc
-line_waiter c l t k (Some x) e h = let b = both (is_wait_for (Line l) x.state) (x.cpu == c) h in record { task = x; there = e; on = line_is l x.state b.0; at_home = number_is c x.cpu b.1 }
+pub waiter : (t : ℕ) (wait : Wait) (k : Parts) (o : Option Task) → slice_get k.tasks t ≡ o → awaits_task wait o ≡ true → Waiter t wait k
+waiter t wait k None e h = cc
+waiter t wait k (Some x) e h = record { task = x; there = e; on = wait_is wait x.state h }
 
-lock_waiter : (t m : ℕ) (k : Parts) (o : Option Task) → slice_get k.tasks t ≡ o → awaits_task (Lock m) o ≡ true → Waiter t m k
-lock_waiter t m k None e h = cc
-lock_waiter t m k (Some x) e h = record { task = x; there = e; on = lock_is m x.state h }
-
-pub first_waits : (t m : ℕ) (k : Parts) → first_waiter (Lock m) k ≡ Some t → Waiter t m k
-unfolding first_waiter
-first_waits t m k e = lock_waiter t m k (slice_get k.tasks t) refl (((always_finds_first (awaits (Lock m) k.tasks) (rank k.mutexes k.tasks) (stamp k.tasks) (length k.tasks)).found t e).is_member)
-
-sleeper : (t s : ℕ) (k : Parts) (o : Option Task) → slice_get k.tasks t ≡ o → awaits_task (Semaphore s) o ≡ true → Sleeper t s k
-sleeper t s k None e h = cc
-sleeper t s k (Some x) e h = record { task = x; there = e; on = semaphore_is s x.state h }
-
-pub first_sleeps : (t s : ℕ) (k : Parts) → first_waiter (Semaphore s) k ≡ Some t → Sleeper t s k
-unfolding first_waiter
-first_sleeps t s k e = sleeper t s k (slice_get k.tasks t) refl (((always_finds_first (awaits (Semaphore s) k.tasks) (rank k.mutexes k.tasks) (stamp k.tasks) (length k.tasks)).found t e).is_member)
+pub first_waits : (t : ℕ) (wait : Wait) (k : Parts) → first_waiter wait k ≡ Some t → Waiter t wait k
+first_waits t wait k e = waiter t wait k (slice_get k.tasks t) refl (first-waits wait t k e)
 
 -- ---- a task that has a mutex
 owns_if : (b rest : Bool) → b ≡ true → (if b then true else rest) ≡ true
@@ -114,33 +94,29 @@ pub owns_it : (t m : ℕ) (mutexes : List Mutex) → owner mutexes m ≡ Some t 
 owns_it t m mutexes e = owns_up t m (length mutexes) mutexes (owner_below mutexes m t (slice_get mutexes m) refl e) e
 
 -- ---- what a task woke to
-pub woke_line : (l : ℕ) (owns : Bool) (x : Task) → x.state ≡ Waits (Line l) → woken owns x ≡ record x { state = InReady; deadline = 0 }
-woke_line l owns x e = ap (λ (state : TaskState). record x { state = woken_state (is_weak x.class && not owns) state; deadline = 0 }) e
+-- whether it returns in-band
+abbrev pub returns : Bool → Task → Bool
+returns owns x = is_weak x.class && not owns
 
-stays_oob : (weak : Bool) (m : ℕ) → woken_state (weak && not true) (Waits (Lock m)) ≡ OobReady
-stays_oob true m = refl
-stays_oob false m = refl
+pub woke : (wait : Wait) (owns : Bool) (x : Task) → x.state ≡ Waits wait → woken owns x ≡ record x { state = ready_on (stage_of_wait wait) (returns owns x); deadline = 0 }
+woke wait owns x e = ap (λ (state : TaskState). record x { state = woken_state (is_weak x.class && not owns) state; deadline = 0 }) e
 
-pub woke_lock : (m : ℕ) (owns : Bool) (x : Task) → x.state ≡ Waits (Lock m) → owns ≡ true → woken owns x ≡ record x { state = OobReady; deadline = 0 }
-woke_lock m owns x e its =
-    ap (λ (b : Bool). woken b x) its
-    ∙ ap (λ (state : TaskState). record x { state = woken_state (is_weak x.class && not true) state; deadline = 0 }) e
-    ∙ ap (λ (state : TaskState). record x { state = state; deadline = 0 }) (stays_oob (is_weak x.class) m)
+ready_if : (stage : Stage) (b : Bool) (class : Class) → (b ≡ true → is_weak class ≡ true) → (ready_on stage b ≡ ready_on stage false) ⊎ ((ready_on stage b ≡ InReady) × (is_weak class ≡ true))
+ready_if InBand b class h = inl refl
+ready_if OutOfBand false class h = inl refl
+ready_if OutOfBand true class h = inr (refl, h refl)
 
--- ready on either stage, in-band only if it is weak
-pub record IsRoused (x y : Task) : Type 0 where
-  pub state : TaskState
-  pub ready : (state ≡ OobReady) ⊎ ((state ≡ InReady) × (is_weak x.class ≡ true))
-  pub is : y ≡ record x { state = state; deadline = 0 }
+pub ready_after : (wait : Wait) (owns : Bool) (x : Task) → IsReadyAfter wait x.class (ready_on (stage_of_wait wait) (returns owns x))
+ready_after wait owns x = ready_if (stage_of_wait wait) (returns owns x) x.class (λ h. (both (is_weak x.class) (not owns) h).0)
 
-roused_if : (b : Bool) (s : ℕ) (x : Task) → (b ≡ true → is_weak x.class ≡ true) → IsRoused x (record x { state = woken_state b (Waits (Semaphore s)); deadline = 0 })
-roused_if true s x h = record { state = InReady; ready = inr (refl, h refl); is = refl }
-roused_if false s x h = record { state = OobReady; ready = inl refl; is = refl }
+-- an owner stays out-of-band
+stays_oob : (weak owns : Bool) → owns ≡ true → ready_on OutOfBand (weak && not owns) ≡ OobReady
+stays_oob true true e = refl
+stays_oob false true e = refl
+stays_oob weak false e = cc
 
-pub woke_semaphore : (s : ℕ) (owns : Bool) (x : Task) → x.state ≡ Waits (Semaphore s) → IsRoused x (woken owns x)
-woke_semaphore s owns x e =
-    let r = roused_if (is_weak x.class && not owns) s x (λ h. (both (is_weak x.class) (not owns) h).0) in
-    record { state = r.state; ready = r.ready; is = ap (λ (state : TaskState). record x { state = woken_state (is_weak x.class && not owns) state; deadline = 0 }) e ∙ r.is }
+pub owner_oob : (m u : ℕ) (mutexes : List Mutex) (x : Task) → owner mutexes m ≡ Some u → ready_on OutOfBand (returns (owns_any u mutexes) x) ≡ OobReady
+owner_oob m u mutexes x its = stays_oob (is_weak x.class) (owns_any u mutexes) (owns_it u m mutexes its)
 
 -- what is there of it, after a wake
 pub woken_there : (t : ℕ) (owns : Bool) (x y : Task) (stamp : ℕ) (tasks : List Task) → slice_get tasks t ≡ Some x → woken owns x ≡ y
@@ -150,9 +126,9 @@ woken_there t owns x y stamp tasks e h =
     change-here stamped (change (woken owns) tasks t) t ∙ ap (option_map stamped) (change-here (woken owns) tasks t ∙ ap (option_map (woken owns)) e) ∙ ap (λ (z : Task). Some (record z { stamp = stamp })) h
 
 -- ---- a task that doesn't act
--- it stays, wakes, inherits or spends
-abbrev pub Fares : Actor → ℕ → Parts → Parts → Type 0
-Fares a t old new = StaysBy a.task a.cpu t old new ⊎ Spends a.cpu t old new
+-- it stays, or spends
+abbrev pub Fares : Actor → (ℕ → Hart → Type 0) → ℕ → Parts → Parts → Type 0
+Fares a makes t old new = Stays a.task makes a.cpu t old new ⊎ Spends a.cpu t old new
 
 -- what a primitive leaves of it
 pub record Keeps (t : ℕ) (k x : Parts) : Type 0 where
@@ -167,51 +143,31 @@ keeps_all t k x e f g = record {
   mutex = λ m y o h. ap (λ all. slice_get all m) g ∙ h;
 }
 
-pub fares_on : (a : Actor) (t : ℕ) (old k x : Parts) → Keeps t k x → Fares a t old k → Fares a t old x
-fares_on a t old k x p (inl (inl r)) = inl (inl (record { task = λ y e. p.task y (r.task y e); hart = λ y e. p.hart y (r.hart y e) }))
-fares_on a t old k x p (inl (inr (inl w))) = inl (inr (inl (record {
+-- what woke it stays so, where more may act and call, and its mutexes stay
+module _ (acts other : Option ℕ) (makes others : ℕ → Hart → Type 0) (c t : ℕ) (task : Task) (state : TaskState) (old k x : List Mutex) where
+  pub still_by : ((g : ℕ) → acts ≡ Some g → other ≡ Some g) → ((n : ℕ) (h : Hart) → makes n h → others n h) → ((m : ℕ) (y : Mutex) → y.owner ≡ Some t → slice_get k m ≡ Some y → slice_get x m ≡ Some y)
+      → (wait : Wait) (answer : ℕ) → WokenBy acts makes c t task state old k wait answer → WokenBy other others c t task state old x wait answer
+  still_by act make keeps _ _ (by_line l home) = by_line l home
+  still_by act make keeps _ _ (by_owner m giver mutex own had there owns once oob) = by_owner m giver mutex (act giver own) had (keeps m mutex owns there) owns once oob
+  still_by act make keeps _ _ (by_put hart call) = by_put hart (make 41 hart call)
+
+pub fares_on : (a : Actor) (makes : ℕ → Hart → Type 0) (t : ℕ) (old k x : Parts) → Keeps t k x → Fares a makes t old k → Fares a makes t old x
+fares_on a makes t old k x p (inl (inl r)) = inl (inl (record { task = λ y e. p.task y (r.task y e); hart = λ y e. p.hart y (r.hart y e) }))
+fares_on a makes t old k x p (inl (inr w)) = inl (inr (record {
   task = w.task;
-  line = w.line;
+  wait = w.wait;
+  state = w.state;
   stamp = w.stamp;
+  answer = w.answer;
   waited = w.waited;
   on = w.on;
-  at_home = w.at_home;
+  by = still_by a.task a.task makes makes a.cpu t w.task w.state old.mutexes k.mutexes x.mutexes (λ g e. e) (λ n h call. call) p.mutex w.wait w.answer w.by;
+  ready = w.ready;
   fresh = w.fresh;
   wakes = p.task _ w.wakes;
   hart = λ y e. p.hart _ (w.hart y e);
-})))
-fares_on a t old k x p (inl (inr (inr (inl i)))) = inl (inr (inr (inl (record {
-  task = i.task;
-  mutex = i.mutex;
-  giver = i.giver;
-  stamp = i.stamp;
-  after = i.after;
-  waited = i.waited;
-  on = i.on;
-  held = i.held;
-  had = i.had;
-  there = p.mutex i.mutex i.after i.owns i.there;
-  owns = i.owns;
-  once = i.once;
-  fresh = i.fresh;
-  wakes = p.task _ i.wakes;
-  hart = λ y e. p.hart _ (i.hart y e);
-}))))
-fares_on a t old k x p (inl (inr (inr (inr i)))) = inl (inr (inr (inr (record {
-  task = i.task;
-  semaphore = i.semaphore;
-  giver = i.giver;
-  state = i.state;
-  stamp = i.stamp;
-  waited = i.waited;
-  on = i.on;
-  held = i.held;
-  ready = i.ready;
-  fresh = i.fresh;
-  wakes = p.task _ i.wakes;
-  hart = λ y e. p.hart _ (i.hart y e);
-}))))
-fares_on a t old k x p (inr s) = inr (record {
+}))
+fares_on a makes t old k x p (inr s) = inr (record {
   task = s.task;
   slice = s.slice;
   stamp = s.stamp;
@@ -231,16 +187,18 @@ waits_not t k x y e f r w =
     let same : x ≡ y = cc in
     let no : true ≡ false = sym r ∙ ap (λ (z : Task). is_ready z.state) same ∙ w in cc
 
-roused : {W : Type 0} (state : TaskState) → (state ≡ OobReady) ⊎ ((state ≡ InReady) × W) → is_ready state ≡ true
-roused state (inl oob) = ap is_ready oob
-roused state (inr in_band) = ap is_ready in_band.0
+ready_on-ready : (stage : Stage) → is_ready (ready_on stage false) ≡ true
+ready_on-ready InBand = refl
+ready_on-ready OutOfBand = refl
 
-pub rested : (a : Actor) (t : ℕ) (old k : Parts) (x : Task) → slice_get k.tasks t ≡ Some x → is_ready x.state ≡ false → Fares a t old k → Rests t old k
-rested a t old k x e w (inl (inl r)) = r
-rested a t old k x e w (inl (inr (inl q))) = absurd (waits_not t k _ x q.wakes e refl w)
-rested a t old k x e w (inl (inr (inr (inl q)))) = absurd (waits_not t k _ x q.wakes e refl w)
-rested a t old k x e w (inl (inr (inr (inr q)))) = absurd (waits_not t k _ x q.wakes e (roused q.state q.ready) w)
-rested a t old k x e w (inr s) = absurd (waits_not t k _ x s.spends e (ap is_ready s.on) w)
+is_ready_after : (wait : Wait) (class : Class) (state : TaskState) → IsReadyAfter wait class state → is_ready state ≡ true
+is_ready_after wait class state (inl there) = ap is_ready there ∙ ready_on-ready (stage_of_wait wait)
+is_ready_after wait class state (inr in_band) = ap is_ready in_band.0
+
+pub rested : (a : Actor) (makes : ℕ → Hart → Type 0) (t : ℕ) (old k : Parts) (x : Task) → slice_get k.tasks t ≡ Some x → is_ready x.state ≡ false → Fares a makes t old k → Rests t old k
+rested a makes t old k x e w (inl (inl r)) = r
+rested a makes t old k x e w (inl (inr q)) = absurd (waits_not t k _ x q.wakes e (is_ready_after q.wait q.task.class q.state q.ready) w)
+rested a makes t old k x e w (inr s) = absurd (waits_not t k _ x s.spends e (ap is_ready s.on) w)
 
 -- ---- a tick of a slice
 pub record Ticked (t : ℕ) (x : Task) (k new : Parts) : Type 0 where

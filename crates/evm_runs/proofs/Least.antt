@@ -1,6 +1,6 @@
 -- The table's order is that of the numbers.
 use Rattle.std.proofs.Common.{◌≡◌, ℕ, ◌<◌, List, [], ◌∷◌, Bool, true, false, Some, None, ◌⊎◌, inl, inr, refl, ap, sym, ◌∙◌, arith}
-use Rattle.std.specs.Prelude.{if◌then◌else◌}
+use Rattle.std.specs.Prelude.{◌-◌, zero, suc, slice_get, if◌then◌else◌}
 use Rattle.evm_ram.specs.Refusal.{number_of}
 use Rattle.evm_ram.specs.declared.refusal.Refusal.{Refusal}
 use Rattle.evm_ram.specs.declared.refusal.Refusal.TheVariants.{Full, NoSuchCpu, NoSuchLine, NotStopped, NoTask, BadAddress, BadRegister, NoSlot, NoBreakpoint, BadSize, NoMemory, Started, PortsOut, SeatsOut}
@@ -79,17 +79,26 @@ reasons = Full ∷ board_refusals
 rising : Rises 0 reasons
 rising = (omega arith, (omega arith, (omega arith, (omega arith, (omega arith, (omega arith, (omega arith, (omega arith, (omega arith, tt)))))))))
 
+-- each stands in the table at the place of its number, the first at 0
+at_place : (i : ℕ) (q : Refusal) (rs : List Refusal) → slice_get rs i ≡ Some q → Among q rs
+at_place i q [] h = cc
+at_place zero q (r ∷ rs) h = inl cc
+at_place (suc i) q (r ∷ rs) h = inr (at_place i q rs h)
+
+stands : (q : Refusal) → slice_get reasons (number_of q - 1) ≡ Some q → Among q reasons
+stands q h = at_place (number_of q - 1) q reasons h
+
 -- what is a reason stands in the table
 among : (event : Event) (s : State) (q : Refusal) → is_reason event s q ≡ true → Among q reasons
-among event s Full h = inl refl
-among event s NoSuchCpu h = inr (inl refl)
-among event s NoSuchLine h = inr (inr (inl refl))
-among event s NotStopped h = inr (inr (inr (inl refl)))
-among event s NoTask h = inr (inr (inr (inr (inl refl))))
-among event s BadAddress h = inr (inr (inr (inr (inr (inl refl)))))
-among event s BadRegister h = inr (inr (inr (inr (inr (inr (inl refl))))))
-among event s NoSlot h = inr (inr (inr (inr (inr (inr (inr (inl refl)))))))
-among event s NoBreakpoint h = inr (inr (inr (inr (inr (inr (inr (inr (inl refl))))))))
+among event s Full h = stands Full refl
+among event s NoSuchCpu h = stands NoSuchCpu refl
+among event s NoSuchLine h = stands NoSuchLine refl
+among event s NotStopped h = stands NotStopped refl
+among event s NoTask h = stands NoTask refl
+among event s BadAddress h = stands BadAddress refl
+among event s BadRegister h = stands BadRegister refl
+among event s NoSlot h = stands NoSlot refl
+among event s NoBreakpoint h = stands NoBreakpoint refl
 among event s BadSize h = cc
 among event s NoMemory h = cc
 among event s Started h = cc

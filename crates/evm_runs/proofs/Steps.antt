@@ -15,11 +15,11 @@ use Rattle.evm_model.specs.declared.task.Task.{Task}
 use Rattle.evm_model.proofs.Lists.{slice_get-each}
 use Rattle.evm_walk.proofs.Rows.{word_calls, MaySteps, Stepped, steps, stepped_walk}
 use Rattle.evm_walk.proofs.Sizes.{walk_sizes, walk_least, walk_ticks}
-use Rattle.evm_walk.proofs.Walk.{Actor, Untouched, Walk, start}
-use Rattle.evm_runs.specs.Changes.{StoreWrites, StaysBy, Spends, MutexesStay, Schedules, Hears, StepChanges, Added}
+use Rattle.evm_walk.proofs.Walk.{Actor, Makes, Untouched, Walk, start}
+use Rattle.evm_runs.specs.Changes.{MakesCall, MakesNone, StoreWrites, Stays, Spends, MutexesStay, Schedules, Hears, StepChanges, Added}
 use Rattle.evm_runs.specs.Kept.{AllHaveRegisters}
 use Rattle.evm_runs.proofs.Added.{walk_registers, walk_added, walk_made, walk_mutexes, walk_typed, walk_processors, walk_other_pipes}
-use Rattle.evm_runs.proofs.Fares.{one_change, Fares}
+use Rattle.evm_runs.proofs.Fares.{one_change, Fares, still_by}
 use Rattle.evm_runs.proofs.Frames.{Asked, Frame, walk_frame}
 use Rattle.evm_runs.proofs.Instructions.{Calls, called, step_writes}
 
@@ -104,6 +104,25 @@ pub record StepDone (c : ℕ) (old new : Board) : Type 0 where
   pub changes : StepChanges c old new
   pub counts : SameCounts old new
 
+-- where more may act and call
+stays_wider : (acts other : Option ℕ) (makes others : ℕ → Hart → Type 0) (c t : ℕ) (x y : Parts) → ((g : ℕ) → acts ≡ Some g → other ≡ Some g) → ((n : ℕ) (h : Hart) → makes n h → others n h)
+    → Stays acts makes c t x y → Stays other others c t x y
+stays_wider acts other makes others c t x y act make (inl r) = inl r
+stays_wider acts other makes others c t x y act make (inr w) = inr (record {
+  task = w.task;
+  wait = w.wait;
+  state = w.state;
+  stamp = w.stamp;
+  answer = w.answer;
+  waited = w.waited;
+  on = w.on;
+  by = still_by acts other makes others c t w.task w.state x.mutexes y.mutexes y.mutexes act make (λ m z o e. e) w.wait w.answer w.by;
+  ready = w.ready;
+  fresh = w.fresh;
+  wakes = w.wakes;
+  hart = w.hart;
+})
+
 untouched : (k : Parts) → Untouched k k
 untouched k = record { tasks = refl; harts = refl; mutexes = refl; console = refl }
 
@@ -146,8 +165,8 @@ module _ (c : ℕ) (b : Board) where
     framed acts = walk_frame (actor c o true calls) b.parts acts 66 2113 new.parts walk
 
     changes : (f : Frame (actor c o true calls) b.parts new.parts) → (f.asked ≡ b.parts.tasks) ⊎ Schedules c b f.asked
-        → ((t : ℕ) → (current c b.parts ≡ Some t → ⊥) → StaysBy (current c b.parts) c t (record b.parts { tasks = f.asked }) new.parts) → MutexesStay (current c b.parts) b.parts.mutexes new.parts.mutexes
-        → (Hears c b.parts → (f.asked ≡ b.parts.tasks) × ((t : ℕ) → StaysBy None c t b.parts new.parts ⊎ Spends c t b.parts new.parts) × (new.parts.mutexes ≡ b.parts.mutexes))
+        → ((t : ℕ) → (current c b.parts ≡ Some t → ⊥) → Stays (current c b.parts) (λ number hart. MakesCall c number hart b) c t (record b.parts { tasks = f.asked }) new.parts) → MutexesStay (current c b.parts) b.parts.mutexes new.parts.mutexes
+        → (Hears c b.parts → (f.asked ≡ b.parts.tasks) × ((t : ℕ) → Stays None MakesNone c t b.parts new.parts ⊎ Spends c t b.parts new.parts) × (new.parts.mutexes ≡ b.parts.mutexes))
         → StepDone c b new
     changes f scheduled others mutexes hears = record {
       changes = record {
@@ -170,12 +189,6 @@ module _ (c : ℕ) (b : Board) where
     }
 
   -- ---- a line is on the wire: no task acts
-  others_wider : (o : Option ℕ) (t : ℕ) (x y : Parts) → StaysBy None c t x y → StaysBy o c t x y
-  others_wider o t x y (inl r) = inl r
-  others_wider o t x y (inr (inl w)) = inr (inl w)
-  others_wider o t x y (inr (inr (inl i))) = let no = i.held in cc
-  others_wider o t x y (inr (inr (inr i))) = let no = i.held in cc
-
   whose_wider : (o found : Option ℕ) → (found ≡ None) ⊎ (found ≡ None) → (found ≡ None) ⊎ (found ≡ o)
   whose_wider o found (inl none) = inl none
   whose_wider o found (inr none) = inl none
@@ -189,12 +202,21 @@ module _ (c : ℕ) (b : Board) where
   unasked : (f : Frame (actor c None true true) b.parts new.parts) → f.asked ≡ b.parts.tasks
   unasked f = elim f.scheduled [
     | inl same ↦ same
-    | inr q ↦ let no = q.asks.acts in cc
+    | inr q ↦ let no = q.asks.makes.acts in cc
   ]
 
-  stays : (t : ℕ) (x y : Parts) → (current c x ≡ Some t → ⊥) → StaysBy None c t x y ⊎ Spends c t x y → StaysBy (current c x) c t x y
-  stays t x y away (inl p) = others_wider (current c x) t x y p
-  stays t x y away (inr q) = absurd (away q.runs)
+  -- no task acts, so none makes a call
+  none_calls : (n : ℕ) (h : Hart) → Makes (actor c None true true) b.parts n h → MakesNone n h
+  none_calls n h call = let no = call.acts in cc
+
+  stays : (t : ℕ) (x y : Parts) → (current c b.parts ≡ Some t → ⊥) → current c x ≡ current c b.parts → Stays None (Makes (actor c None true true) b.parts) c t x y ⊎ Spends c t x y
+      → Stays (current c b.parts) (λ number hart. MakesCall c number hart b) c t x y
+  stays t x y away same (inl p) = stays_wider None (current c b.parts) (Makes (actor c None true true) b.parts) (λ number hart. MakesCall c number hart b) c t x y (λ g e. cc) (λ n h call. absurd (none_calls n h call)) p
+  stays t x y away same (inr q) = absurd (away (sym same ∙ q.runs))
+
+  silent : (t : ℕ) → Fares (actor c None true true) (Makes (actor c None true true) b.parts) t b.parts new.parts → Stays None MakesNone c t b.parts new.parts ⊎ Spends c t b.parts new.parts
+  silent t (inl p) = inl (stays_wider None None (Makes (actor c None true true) b.parts) MakesNone c t b.parts new.parts (λ g e. e) none_calls p)
+  silent t (inr q) = inr q
 
   heard : hears (slice_get b.parts.pipes c) ≡ true → StepDone c b new
   heard e =
@@ -205,11 +227,11 @@ module _ (c : ℕ) (b : Board) where
       } in
       let f : Frame (actor c None true true) b.parts new.parts = framed None true m (λ g h. cc) in
       changes None true m f (inl (unasked f))
-      (λ t away. stays t (record b.parts { tasks = f.asked }) new.parts away (f.others t (λ h. cc)))
+      (λ t away. stays t (record b.parts { tasks = f.asked }) new.parts away refl (f.others t (λ h. cc)))
       (mutexes_wider (current c b.parts) b.parts.mutexes new.parts.mutexes f.mutexes)
       (λ line. (
         unasked f,
-        (λ t. subst (λ (all : List Task). Fares (actor c None true true) t (record b.parts { tasks = all }) new.parts) (unasked f) (f.others t (λ h. cc))),
+        (λ t. silent t (subst (λ (all : List Task). Fares (actor c None true true) (Makes (actor c None true true) b.parts) t (record b.parts { tasks = all }) new.parts) (unasked f) (f.others t (λ h. cc)))),
         walk_mutexes (actor c None true true) b.parts 66 2113 new.parts refl (walk None true m),
       ))
 
@@ -217,23 +239,20 @@ module _ (c : ℕ) (b : Board) where
   asked_call : (x : Hart) (t : ℕ) → current c b.parts ≡ Some t → slice_get b.parts.harts t ≡ Some x → task_calls (current c b.parts) b ≡ true → Calls x b.memory
   asked_call x t now has e = called x b.memory (sym (ap (λ (o : Option Hart). hart_calls o b.memory) has) ∙ sym (ap (λ (o : Option ℕ). task_calls o b) now) ∙ e)
 
+  makes_call : (n : ℕ) (x : Hart) → Makes (actor c (current c b.parts) true (task_calls (current c b.parts) b)) b.parts n x → MakesCall c n x b
+  makes_call n x k =
+      let q = asked_call x k.task k.acts k.has k.calls in
+      record { task = k.task; word = q.word; inst = q.inst; runs = k.acts; has = k.has; fetched = q.fetched; decodes = q.decodes; calls = q.calls; asks = k.asks }
+
   scheduled : (asked : List Task) → Asked (actor c (current c b.parts) true (task_calls (current c b.parts) b)) b.parts asked → Schedules c b asked
+  unfolding makes_call
   scheduled asked q =
       let k = q.asks in
-      let x = asked_call k.hart k.task k.acts k.has k.calls in
       record {
-        task = k.task;
         hart = k.hart;
-        word = x.word;
-        inst = x.inst;
         class = q.class;
-        runs = k.acts;
-        has = k.has;
+        makes = makes_call 34 k.hart k.makes;
         on = k.on;
-        fetched = x.fetched;
-        decodes = x.decodes;
-        calls = x.calls;
-        number = k.number;
         live = rw (← k.names) k.live;
         policy = rw (← k.asks) k.policy;
         tasks = rw (q.tasks, ← k.names, ← k.asks) (one_change q.names (λ task. record task { class = q.class; priority = q.priority; slice = SLICE }) b.parts.tasks);
@@ -255,7 +274,7 @@ module _ (c : ℕ) (b : Board) where
         | inr q ↦ inr (scheduled f.asked q)
       ])
       (λ t away. elim (f.others t away) [
-        | inl p ↦ p
+        | inl p ↦ stays_wider o o (Makes (actor c o true calls) b.parts) (λ number hart. MakesCall c number hart b) c t (record b.parts { tasks = f.asked }) new.parts (λ g e. e) makes_call p
         | inr q ↦ absurd (away q.runs)
       ])
       f.mutexes (λ line. absurd (deaf c b.parts e line))

@@ -35,7 +35,9 @@ use Rattle.evm_model.specs.declared.task.Task.{Task}
 use Rattle.evm_model.specs.Tasks.{is_weak}
 use Rattle.evm_model.specs.declared.task.TaskState.{TaskState}
 use Rattle.evm_model.specs.declared.task.TaskState.TheVariants.{InReady, OobReady, Waits}
+use Rattle.evm_model.specs.declared.task.Wait.{Wait}
 use Rattle.evm_model.specs.declared.task.Wait.TheVariants.{Line, Lock, Semaphore}
+use Rattle.evm_model.specs.Waits.{ready_on, stage_of_wait}
 
 -- the i-th of a list is changed so, and no other
 pub record OneChanges {X : Type 0} (i : ℕ) (change : X → X) (old new : List X) : Type 0 where
@@ -108,58 +110,54 @@ pub record Rests (t : ℕ) (old new : Parts) : Type 0 where
   pub task : (task : Task) → slice_get old.tasks t ≡ Some task → slice_get new.tasks t ≡ Some task
   pub hart : (hart : Hart) → slice_get old.harts t ≡ Some hart → slice_get new.harts t ≡ Some hart
 
--- task t waited in-band on c for a line, and is ready now: its call is answered by 0, its stamp is a later one
-pub record Wakes (c t : ℕ) (old new : Parts) : Type 0 where
-  pub task : Task
-  pub line : ℕ
-  pub stamp : ℕ
-  pub waited : slice_get old.tasks t ≡ Some task
-  pub on : task.state ≡ Waits (Line line)
-  pub at_home : task.cpu ≡ c
-  pub fresh : old.stamps ≤ stamp
-  pub wakes : slice_get new.tasks t ≡ Some (record task { stamp = stamp; deadline = 0; state = InReady })
-  pub hart : (hart : Hart) → slice_get old.harts t ≡ Some hart → slice_get new.harts t ≡ Some (set_register A0 0 hart)
+-- the current task of c makes the call of this number, and has this hart
+pub record MakesCall (c number : ℕ) (hart : Hart) (b : Board) : Type 0 where
+  pub task : ℕ
+  pub word : ℕ
+  pub inst : Inst
+  pub runs : current c b.parts ≡ Some task
+  pub has : slice_get b.parts.harts task ≡ Some hart
+  pub fetched : fetch hart.pc b.memory ≡ Some word
+  pub decodes : decoded word ≡ Some inst
+  pub calls : does inst hart.regs hart.pc ≡ Call
+  pub asks : register_of hart.regs A7 ≡ number
 
--- task t, of whatever processor, waited for a mutex that this task had, and has it now, locked once: it is ready out-of-band, its call is answered by 0, its stamp is a later one
-pub record Inherits (holder : Option ℕ) (t : ℕ) (old new : Parts) : Type 0 where
-  pub task : Task
-  pub mutex : ℕ
-  pub giver : ℕ
-  pub stamp : ℕ
-  pub after : Mutex
-  pub waited : slice_get old.tasks t ≡ Some task
-  pub on : task.state ≡ Waits (Lock mutex)
-  pub held : holder ≡ Some giver
-  pub had : owner old.mutexes mutex ≡ Some giver
-  pub there : slice_get new.mutexes mutex ≡ Some after
-  pub owns : after.owner ≡ Some t
-  pub once : after.count ≡ 1
-  pub fresh : old.stamps ≤ stamp
-  pub wakes : slice_get new.tasks t ≡ Some (record task { stamp = stamp; deadline = 0; state = OobReady })
-  pub hart : (hart : Hart) → slice_get old.harts t ≡ Some hart → slice_get new.harts t ≡ Some (set_register A0 0 hart)
+-- what woke task t, by what it waited for, and its answer: of the task that acts, and of the calls that it makes
+pub data WokenBy (acts : Option ℕ) (makes : ℕ → Hart → Type 0) (c t : ℕ) (task : Task) (state : TaskState) (old new : List Mutex) : Wait → ℕ → Type 0 where
+  -- the line was played on its processor
+  by_line : (l : ℕ) → task.cpu ≡ c → WokenBy acts makes c t task state old new (Line l) 0
+  -- the mutex was the acting task's, and is its own now, locked once: it is ready out-of-band, weak or not
+  by_owner : (m giver : ℕ) (mutex : Mutex) → acts ≡ Some giver → owner old m ≡ Some giver → slice_get new m ≡ Some mutex → mutex.owner ≡ Some t → mutex.count ≡ 1 → state ≡ OobReady
+      → WokenBy acts makes c t task state old new (Lock m) 0
+  -- the acting task makes call 41, whose a0 names the semaphore
+  by_put : (hart : Hart) → makes 41 hart → WokenBy acts makes c t task state old new (Semaphore (argument 0 hart)) 0
 
--- task t, of whatever processor, waited for a semaphore into which this task put one, and is ready now, in-band only if it is weak: its call is answered by 0, its stamp is a later one
-pub record Served (holder : Option ℕ) (t : ℕ) (old new : Parts) : Type 0 where
+-- ready on the stage on which it waited, or in-band if it is weak
+abbrev pub IsReadyAfter : Wait → Class → TaskState → Type 0
+IsReadyAfter wait class state = (state ≡ ready_on (stage_of_wait wait) false) ⊎ ((state ≡ InReady) × (is_weak class ≡ true))
+
+-- task t, of whatever processor, waited, and is ready now: its call is answered, its stamp is a later one, it has no deadline
+pub record Wakes (acts : Option ℕ) (makes : ℕ → Hart → Type 0) (c t : ℕ) (old new : Parts) : Type 0 where
   pub task : Task
-  pub semaphore : ℕ
-  pub giver : ℕ
+  pub wait : Wait
   pub state : TaskState
   pub stamp : ℕ
+  pub answer : ℕ
   pub waited : slice_get old.tasks t ≡ Some task
-  pub on : task.state ≡ Waits (Semaphore semaphore)
-  pub held : holder ≡ Some giver
-  pub ready : (state ≡ OobReady) ⊎ ((state ≡ InReady) × (is_weak task.class ≡ true))
+  pub on : task.state ≡ Waits wait
+  pub by : WokenBy acts makes c t task state old.mutexes new.mutexes wait answer
+  pub ready : IsReadyAfter wait task.class state
   pub fresh : old.stamps ≤ stamp
   pub wakes : slice_get new.tasks t ≡ Some (record task { stamp = stamp; deadline = 0; state = state })
-  pub hart : (hart : Hart) → slice_get old.harts t ≡ Some hart → slice_get new.harts t ≡ Some (set_register A0 0 hart)
+  pub hart : (hart : Hart) → slice_get old.harts t ≡ Some hart → slice_get new.harts t ≡ Some (set_register A0 answer hart)
 
--- .. one of the four
-abbrev pub StaysBy : Option ℕ → ℕ → ℕ → Parts → Parts → Type 0
-StaysBy holder c t old new = Rests t old new ⊎ Wakes c t old new ⊎ Inherits holder t old new ⊎ Served holder t old new
+-- .. one of the two
+abbrev pub Stays : Option ℕ → (ℕ → Hart → Type 0) → ℕ → ℕ → Parts → Parts → Type 0
+Stays acts makes c t old new = Rests t old new ⊎ Wakes acts makes c t old new
 
--- .. where it is the current task of c whose mutex passes on
-abbrev pub Stays : ℕ → ℕ → Parts → Parts → Type 0
-Stays c t old new = StaysBy (current c old) c t old new
+-- no call
+abbrev pub MakesNone : ℕ → Hart → Type 0
+MakesNone number hart = ⊥
 
 -- mutex m, which was free or this task's, has another owner or count; it is of the same kind
 pub record MutexChanges (holder : Option ℕ) (m : ℕ) (before : Mutex) (new : List Mutex) : Type 0 where
@@ -199,18 +197,10 @@ pub record Spends (c t : ℕ) (old new : Parts) : Type 0 where
 
 -- the current task of c, which is out-of-band, makes call 34: the task that its a0 names, one that has not ended and has a class, has the class and the priority of its a1 and a2 and a whole slice, and these are the tasks then
 pub record Schedules (c : ℕ) (old : Board) (asked : List Task) : Type 0 where
-  pub task : ℕ
   pub hart : Hart
-  pub word : ℕ
-  pub inst : Inst
   pub class : Class
-  pub runs : current c old.parts ≡ Some task
-  pub has : slice_get old.parts.harts task ≡ Some hart
-  pub on : is_oob (Some task) old.parts.tasks ≡ true
-  pub fetched : fetch hart.pc old.memory ≡ Some word
-  pub decodes : decoded word ≡ Some inst
-  pub calls : does inst hart.regs hart.pc ≡ Call
-  pub number : register_of hart.regs A7 ≡ 34
+  pub makes : MakesCall c 34 hart old
+  pub on : is_oob (Some makes.task) old.parts.tasks ≡ true
   pub live : is_scheduled_task (slice_get old.parts.tasks (argument 0 hart)) ≡ true
   pub policy : policy_of (argument 1 hart) (argument 2 hart) ≡ Some class
   pub tasks : OneChanges (argument 0 hart) (λ task. record task { class = class; priority = argument 2 hart; slice = SLICE }) old.parts.tasks asked
@@ -242,7 +232,7 @@ Added old new = ((length new.tasks ≡ length old.tasks) × (length new.harts �
 abbrev pub Typed : Parts → Parts → Type 0
 Typed old new = (new.console ≡ old.console) ⊎ ((byte : ℕ) × (new.console ≡ last_bytes (old.console ++ byte ∷ [])))
 
--- a step of c changes RAM only by a store; of the tasks it changes the one that was current on c, the one that it calls to have another class, such as waited on c for a line, which wake, such as waited for a mutex of the current one, which have it now, and adds one at most; of the mutexes it changes only such as were free or the current task's, and adds one at most; of other processors it changes only that line 1 may be raised there
+-- a step of c changes RAM only by a store; of the tasks it changes the one that was current on c, the one that it calls to have another class, such as waited, which wake, and adds one at most; of the mutexes it changes only such as were free or the current task's, and adds one at most; of other processors it changes only that line 1 may be raised there
 pub record StepChanges (c : ℕ) (old new : Board) : Type 0 where
   -- the tasks, but that one may have another class
   pub asked : List Task
@@ -253,10 +243,10 @@ pub record StepChanges (c : ℕ) (old new : Board) : Type 0 where
   pub stamps : old.parts.stamps ≤ new.parts.stamps
   pub processors : (d : ℕ) → (d ≡ c → ⊥) → slice_get new.parts.processors d ≡ slice_get old.parts.processors d
   pub pipes : (d : ℕ) → (d ≡ c → ⊥) → (slice_get new.parts.pipes d ≡ slice_get old.parts.pipes d) ⊎ (slice_get new.parts.pipes d ≡ option_map (raise 1) (slice_get old.parts.pipes d))
-  pub others : (t : ℕ) → (current c old.parts ≡ Some t → ⊥) → Stays c t (record old.parts { tasks = asked }) new.parts
+  pub others : (t : ℕ) → (current c old.parts ≡ Some t → ⊥) → Stays (current c old.parts) (λ number hart. MakesCall c number hart old) c t (record old.parts { tasks = asked }) new.parts
   pub mutexes : MutexesStay (current c old.parts) old.parts.mutexes new.parts.mutexes
   -- where a line is on the wire the current task too stays, or its slice is spent, and no mutex changes
-  pub hears : Hears c old.parts → (asked ≡ old.parts.tasks) × ((t : ℕ) → StaysBy None c t old.parts new.parts ⊎ Spends c t old.parts new.parts) × (new.parts.mutexes ≡ old.parts.mutexes)
+  pub hears : Hears c old.parts → (asked ≡ old.parts.tasks) × ((t : ℕ) → Stays None MakesNone c t old.parts new.parts ⊎ Spends c t old.parts new.parts) × (new.parts.mutexes ≡ old.parts.mutexes)
   pub added : Added old.parts new.parts
   pub made : Made old.parts.mutexes new.parts.mutexes
   pub typed : Typed old.parts new.parts

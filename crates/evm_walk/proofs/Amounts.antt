@@ -1,11 +1,7 @@
 -- The counts of semaphores stay within their bound, and there are no more semaphores than there may be.
-use Rattle.std.proofs.Common.{◌≡◌, ℕ, ◌+◌, ◌<◌, ◌≤◌, [], ◌∷◌, ◌++◌, List, Some, length, length-append, inl, inr, ap, arith}
-use Rattle.std.specs.Prelude.{slice_get}
+use Rattle.std.proofs.Common.{ℕ, [], ◌∷◌, length-append, inl, inr, arith}
 use Rattle.evm_model.specs.Commands.{tick}
 use Rattle.evm_model.specs.Good.{AreSemaphores}
-use Rattle.evm_model.specs.InBandCalls.{add_task}
-use Rattle.evm_model.specs.Locks.{add_mutex}
-use Rattle.evm_model.specs.Semaphores.{add_semaphore}
 use Rattle.evm_model.specs.State.{Parts}
 use Rattle.evm_model.specs.Tasks.{restamp, set_policy, set_slice}
 use Rattle.evm_model.specs.Waits.{wake}
@@ -15,7 +11,7 @@ use Rattle.evm_walk.proofs.Walk.{Actor, Does, spends, counts, sets_up, Walk, sta
 
 module _ (a : Actor) (old : Parts) where
   does_amount : (i j : ℕ) (k x : Parts) → Does a old i j k x → AreSemaphores k.semaphores → AreSemaphores x.semaphores
-  unfolding restamp set_policy set_slice wake tick add_task add_mutex add_semaphore
+  unfolding restamp set_policy set_slice wake tick
   does_amount _ _ _ _ (spends t x k runs there on) q = of_spend (λ (y : Parts). AreSemaphores y.semaphores) t x.slice k q q
   does_amount _ _ _ _ (counts t s f k own fresh h) q = record {
     few = omega (arith, q.few, length-change f k.semaphores s);

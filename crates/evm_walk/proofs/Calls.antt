@@ -6,7 +6,7 @@ use Rattle.evm_exec.specs.Registers.{register_of}
 use Rattle.evm_exec.specs.declared.hart.Hart.{Hart}
 use Rattle.evm_model.specs.Calls.{call_number, numbered, all_calls, call_of, call_stage, perform, is_weak_oob, return_weak, answered, finish_call, ask_oob, call_on, call_known, call_of_hart, call}
 use Rattle.evm_model.specs.Harts.{A0, A7, argument, advance, answer}
-use Rattle.evm_model.specs.InBandCalls.{exit, putc, yield_now, is_bad_entry, spawn, wait_line_unless, wait_line, attach_as, attach, detach, set_line}
+use Rattle.evm_model.specs.InBandCalls.{exit, putc, yield_now, is_bad_entry, add_task, spawn, wait_line_unless, wait_line, attach_as, attach, detach, set_line}
 use Rattle.evm_model.specs.Mutexes.{owns_any}
 use Rattle.evm_model.specs.OobCalls.{stall, switch_oob, switch_in_band, is_scheduled_task, schedule_as, set_sched, set_mode, yield_oob, clock, state_bits}
 use Rattle.evm_model.specs.Policies.{policy_of}
@@ -35,7 +35,7 @@ use Rattle.evm_walk.proofs.Locks.{either, up, same, was_there, makes_mutex, lock
 use Rattle.evm_walk.proofs.Passing.{ends}
 use Rattle.evm_walk.proofs.Semaphores.{makes_semaphore, gets, tries_get, puts_one}
 use Rattle.evm_walk.proofs.Tasks.{stalls_stage, leaves, begins_wait, demotes, promotes}
-use Rattle.evm_walk.proofs.Walk.{Actor, IsOldTask, Untouched, hart, task, stamps, schedules, adds, types, Walk, quietly, stamped, slack, walk_if}
+use Rattle.evm_walk.proofs.Walk.{Actor, IsOldTask, Untouched, Makes, hart, task, stamps, schedules, adds, types, Walk, quietly, stamped, slack, walk_if}
 
 -- ---- a call that was found has its number
 if_numbered : (b : Bool) (n : ℕ) (call first : Call) (calls : List Call) → (n == call_number first) ≡ b → (if b then Some first else numbered n calls) ≡ Some call
@@ -101,7 +101,7 @@ module _ (a : Actor) (old k : Parts) (t : ℕ) (own : a.task ≡ Some t) (fresh 
   yields = either a old (is_stalled InBand a.cpu k) _ _ (λ e. none) (λ e. at_most 0 1 _ (omega arith) (omega arith) (leaves a old 0 1 (restamp t k) one_stamp))
 
   spawns : (entry value cpu : ℕ) → Walk a old 1 32 (spawn entry value cpu k).0
-  unfolding spawn
+  unfolding spawn add_task
   spawns entry value cpu =
       either a old (is_bad_entry k.profile.ram entry) _ _ (λ e. none) (λ e.
       either a old (is_none (slice_get k.processors cpu)) _ _ (λ e. none) (λ e.
@@ -170,20 +170,20 @@ module _ (a : Actor) (old k : Parts) (t : ℕ) (own : a.task ≡ Some t) (fresh 
   unfolding state_bits
   tells_bits = none
 
+  made : (call : Call) (x : Hart) → Caller a call x t k → Makes a old (call_number call) x
+  made call x g = record { task = t; acts = own; calls = g.calls; has = ap (λ xs. slice_get xs t) (sym fresh.harts) ∙ g.has; asks = has_number (register_of x.regs A7) call all_calls g.number }
+
   -- another task has another class
   schedules_as : (o : Option Class) (x : Hart) → Caller a SetSched x t k → is_scheduled_task (slice_get k.tasks (argument 0 x)) ≡ true → policy_of (argument 1 x) (argument 2 x) ≡ o
       → Walk a old 1 32 (schedule_as o (argument 0 x) (argument 2 x) k).0
+  unfolding made
   schedules_as None x g live policy = none
   schedules_as (Some class) x g live policy =
       at_most 0 0 _ (omega arith) (omega arith)
       (quietly a old 0 0 k _ (schedules (argument 0 x) (argument 2 x) class k fresh (record {
-        task = t;
         hart = x;
-        acts = own;
-        calls = g.calls;
-        has = ap (λ xs. slice_get xs t) (sym fresh.harts) ∙ g.has;
+        makes = made SetSched x g;
         on = ap (is_oob (Some t)) (sym fresh.tasks) ∙ g.on refl;
-        number = has_number (register_of x.regs A7) SetSched all_calls g.number;
         names = refl;
         asks = refl;
         live = ap (λ xs. is_scheduled_task (slice_get xs (argument 0 x))) (sym fresh.tasks) ∙ live;
@@ -218,7 +218,7 @@ module _ (a : Actor) (old k : Parts) (t : ℕ) (own : a.task ≡ Some t) (fresh 
   performs Unlock x g = unlocks a old k t own fresh w (argument 0 x)
   performs SemGet x g = gets a old k t own fresh w (argument 0 x) (argument 1 x)
   performs SemTryGet x g = tries_get a old k t own fresh w (argument 0 x)
-  performs SemPut x g = puts_one a old k t own fresh w (argument 0 x)
+  performs SemPut x g = puts_one a old k t own fresh w x (made SemPut x g)
   performs YieldOob x g = yields_oob
   performs StallOob x g = stalls OutOfBand true
   performs UnstallOob x g = stalls OutOfBand false

@@ -14,4 +14,5 @@ pub mod Sets
 pub mod Sizes
 pub mod Tasks
 pub mod Twice
+pub mod Waiters
 pub mod Walk

@@ -3,10 +3,7 @@ use Rattle.std.proofs.Common.{◌≡◌, ℕ, ◌+◌, ◌≤◌, Bool, Option, 
 use Rattle.std.specs.Prelude.{slice_get, option_map}
 use Rattle.std.proofs.lemmas.Option.{slice_get-map}
 use Rattle.evm_model.specs.Commands.{tick}
-use Rattle.evm_model.specs.InBandCalls.{add_task}
-use Rattle.evm_model.specs.Locks.{add_mutex}
 use Rattle.evm_model.specs.Pipes.{Pipe, raise}
-use Rattle.evm_model.specs.Semaphores.{add_semaphore}
 use Rattle.evm_model.specs.State.{Parts}
 use Rattle.evm_model.specs.Tasks.{restamp, set_policy, set_slice}
 use Rattle.evm_model.specs.Waits.{wake}
@@ -29,7 +26,7 @@ mapped f (Some x) z e = (x, refl, cc)
 
 module _ (a : Actor) (old : Parts) (P : ℕ → Pipe → Type 0) (d : ℕ) (l : Lifts (a.may d) P) (are : ArePipes old) where
   does_lift : (i j : ℕ) (k x : Parts) (b : ℕ) → Does a old i j k x → At P d b k → At P d (b + i) x
-  unfolding restamp set_policy set_slice wake tick add_task add_mutex add_semaphore
+  unfolding restamp set_policy set_slice wake tick
   does_lift _ _ _ _ b (spends t x k runs there on) h =
       of_spend (At P d (b + 0)) t x.slice k (record { holds = λ p e. l.more b (b + 0) p (omega arith) (h.holds p e) }) (record { holds = λ p e. l.more b (b + 0) p (omega arith) (h.holds p e) })
   does_lift _ _ _ _ b (moves i f k how) h = record {

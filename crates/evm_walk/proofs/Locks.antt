@@ -4,7 +4,7 @@ use Rattle.std.specs.Prelude.{slice_get, nat_lt, nat_le, ◌==◌, if◌then◌e
 use Rattle.std.proofs.lemmas.Bool.Decides.{nat_tests, eqb_tells}
 use Rattle.evm_ranks.specs.Boosts.{is_number}
 use Rattle.evm_ranks.proofs.Greatest.{boosts-is}
-use Rattle.evm_model.specs.Locks.{with_ceiling, mutex_of, new_mutex_as, new_mutex, take_mutex, lock_again, cycle_refusal, lock_other, lock_owned, lock_known, lock, try_owned, try_known, try_lock, unlock_once, unlock_known, unlock}
+use Rattle.evm_model.specs.Locks.{with_ceiling, mutex_of, add_mutex, new_mutex_as, new_mutex, take_mutex, lock_again, cycle_refusal, lock_other, lock_owned, lock_known, lock, try_owned, try_known, try_lock, unlock_once, unlock_known, unlock}
 use Rattle.evm_model.specs.Mutexes.{free_mutex, owner_of, held_by}
 use Rattle.evm_model.specs.Passing.{pass_on}
 use Rattle.evm_model.specs.Stages.{is_stalled, wait_refusal, wait_unless}
@@ -69,6 +69,7 @@ module _ (a : Actor) (old k : Parts) (t : ℕ) (own : a.task ≡ Some t) (fresh 
 
   -- ---- a new mutex
   makes_as : (o : Option Mutex) → IsFree o → Walk a old 1 32 (new_mutex_as o k).0
+  unfolding add_mutex
   makes_as None free = same
   makes_as (Some mutex) free =
       let f = free.free mutex refl in

@@ -1,20 +1,22 @@
 -- How a mutex passes on, and how a task ends, is a walk too.
-use Rattle.std.proofs.Common.{◌≡◌, ℕ, zero, suc, ◌+◌, ◌≤◌, Bool, true, false, Option, Some, None, length, inl, inr, refl, ap, sym, ◌∙◌, arith}
-use Rattle.std.specs.Prelude.{slice_get, if◌then◌else◌}
+use Rattle.std.proofs.Common.{◌≡◌, ℕ, zero, suc, ◌+◌, ◌≤◌, List, Bool, true, false, Option, Some, None, length, inl, inr, refl, ap, sym, ◌∙◌, arith}
+use Rattle.std.specs.Prelude.{slice_get, option_map, if◌then◌else◌}
 use Rattle.evm_ranks.specs.Boosts.{is_number}
 use Rattle.evm_ranks.proofs.Greatest.{boosts-is}
 use Rattle.evm_model.specs.Mutexes.{owner, owner_of, held_by, freed}
 use Rattle.evm_model.specs.Passing.{pass_to, pass_on, pass_below, end_task}
 use Rattle.evm_model.specs.Pipes.{set_stall}
-use Rattle.evm_model.specs.State.{Parts, on_pipe}
+use Rattle.evm_model.specs.State.{Parts, on_pipe, on_mutex}
 use Rattle.evm_model.specs.Tasks.{restamp, set_state, leave_in_band}
 use Rattle.evm_model.specs.Waits.{first_waiter, wake}
+use Rattle.evm_model.specs.declared.mutex.Mutex.{Mutex}
 use Rattle.evm_model.specs.declared.stage.Stage.TheVariants.{InBand}
 use Rattle.evm_model.specs.declared.task.TaskState.{TaskState}
 use Rattle.evm_model.specs.declared.task.Wait.TheVariants.{Lock}
-use Rattle.evm_model.proofs.Lists.{length-change, change-elsewhere}
+use Rattle.evm_model.proofs.Lists.{length-change, change-here, change-elsewhere}
 use Rattle.evm_walk.proofs.Tasks.{stalls_stage, leaves}
-use Rattle.evm_walk.proofs.Walk.{Actor, task, inherits, holds, Walk, quietly, stamped, slack, walk_if}
+use Rattle.evm_walk.proofs.Waiters.{first-waits}
+use Rattle.evm_walk.proofs.Walk.{Actor, passed, task, wakes, gives, holds, Walk, quietly, stamped, slack, walk_if}
 
 -- ---- another mutex, and how many tasks there are
 elsewhere_to : (o : Option ℕ) (m i : ℕ) (k : Parts) → (i ≡ m → ⊥) → slice_get (pass_to o m k).mutexes i ≡ slice_get k.mutexes i
@@ -55,13 +57,21 @@ unfolding leave_in_band
 left_tasks c k = refl
 
 -- ---- the acting task's mutexes
+mutex_there : (m t : ℕ) (mutexes : List Mutex) (o : Option Mutex) → slice_get mutexes m ≡ o → owner_of o ≡ Some t → (x : Mutex) × (slice_get mutexes m ≡ Some x)
+mutex_there m t mutexes None e h = cc
+mutex_there m t mutexes (Some x) e h = (x, e)
+
 module _ (a : Actor) (old : Parts) (n t : ℕ) (own : a.task ≡ Some t) where
   passes_to : (s m : ℕ) (o : Option ℕ) (k : Parts) → first_waiter (Lock m) k ≡ o → slice_get k.mutexes m ≡ slice_get old.mutexes m → owner k.mutexes m ≡ Some t
       → Walk a old n s k → Walk a old n (s + 1) (pass_to o m k)
   passes_to s m None k first same its w =
       slack a old n n s (s + 1) _ (λ g. omega arith) (λ g. omega arith)
       (quietly a old n s k _ (holds 0 t m freed k own same (λ x e. record { kind = refl; whose = inr (ap owner_of (sym e) ∙ its); count = omega arith })) w)
-  passes_to s m (Some u) k first same its w = stamped a old n s k _ (inherits t u m k own same its first) w
+  passes_to s m (Some u) k first same its w =
+      let given : Parts = on_mutex m (held_by u 1) k in
+      let mutex = mutex_there m t k.mutexes (slice_get k.mutexes m) refl its in
+      let its_own : slice_get given.mutexes m ≡ Some (held_by u 1 mutex.0) = change-here (held_by u 1) k.mutexes m ∙ ap (option_map (held_by u 1)) mutex.1 in
+      stamped a old n s given _ (wakes u (Lock m) given (first-waits (Lock m) u k first) (passed t m mutex.0 own (ap owner_of (sym same) ∙ its) its_own)) (quietly a old n s k given (gives t u m k own same its) w)
 
   pub passes : (s m : ℕ) (k : Parts) → slice_get k.mutexes m ≡ slice_get old.mutexes m → owner k.mutexes m ≡ Some t → Walk a old n s k → Walk a old n (s + 1) (pass_on m k)
   unfolding pass_on

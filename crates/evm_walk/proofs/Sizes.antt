@@ -4,10 +4,7 @@ use Rattle.std.specs.Prelude.{slice_get, option_map, nat_le, if◌then◌else◌
 use Rattle.std.proofs.lemmas.List.{length-map}
 use Rattle.evm_model.specs.Commands.{tick}
 use Rattle.evm_model.specs.Harts.{spawned_hart}
-use Rattle.evm_model.specs.InBandCalls.{add_task}
-use Rattle.evm_model.specs.Locks.{add_mutex}
 use Rattle.evm_model.specs.Pipes.{raise}
-use Rattle.evm_model.specs.Semaphores.{add_semaphore}
 use Rattle.evm_model.specs.Settle.{current, current_of}
 use Rattle.evm_model.specs.State.{Parts, new_task}
 use Rattle.evm_model.specs.Tasks.{restamp, set_policy, set_slice, spend_slice}
@@ -15,7 +12,7 @@ use Rattle.evm_model.specs.Waits.{wake}
 use Rattle.evm_model.specs.declared.limits.TheConstants.{SLICE, TASK_LIMIT}
 use Rattle.evm_model.specs.declared.processor.Processor.{Processor}
 use Rattle.evm_model.proofs.Lists.{length-change, length-each_from, change-here}
-use Rattle.evm_walk.proofs.Walk.{Actor, AreFew, Does, hart, task, stamps, turns, spends, wakes, inherits, serves, marks, picks, moves, tells, clock, schedules, adds, Walk, start, next}
+use Rattle.evm_walk.proofs.Walk.{Actor, AreFew, Does, hart, task, stamps, turns, spends, wakes, marks, picks, moves, tells, clock, schedules, adds, Walk, start, next}
 
 -- what holds after a tick of a slice and after its last one
 pub of_spend : (P : Parts → Type 0) (t slice : ℕ) (k : Parts) → P (restamp t (set_slice t SLICE k)) → P (set_slice t (slice - 1) k) → P (spend_slice t slice k)
@@ -44,16 +41,14 @@ sizes_then x y z p q = record {
 
 module _ (a : Actor) (old : Parts) where
   does_sizes : (i j : ℕ) (k x : Parts) → Does a old i j k x → Sizes k x
-  unfolding restamp set_policy set_slice wake tick add_task add_mutex add_semaphore
+  unfolding restamp set_policy set_slice wake tick
   does_sizes _ _ _ _ (hart t r value f k own x there) = sized k _ refl refl (length-change f k.harts t) refl
   does_sizes _ _ _ _ (task t f k own x there) = sized k _ refl refl refl (length-change f k.tasks t)
   does_sizes _ _ _ _ (stamps t k own there) = sized k _ refl refl refl (length-change _ k.tasks t)
   does_sizes _ _ _ _ (turns t f k own x there) = sized k _ refl refl refl (length-change _ _ t ∙ length-change f k.tasks t)
   does_sizes _ _ _ _ (spends t x k runs there on) =
       of_spend (Sizes k) t x.slice k (sized k _ refl refl refl (length-change _ _ t ∙ length-change _ k.tasks t)) (sized k _ refl refl refl (length-change _ k.tasks t))
-  does_sizes _ _ _ _ (wakes t l k on) = sized k _ refl refl (length-change _ k.harts t) (length-change _ _ t ∙ length-change _ k.tasks t)
-  does_sizes _ _ _ _ (inherits t u m k own same its first) = sized k _ refl refl (length-change _ k.harts u) (length-change _ _ u ∙ length-change _ k.tasks u)
-  does_sizes _ _ _ _ (serves t u s k own first) = sized k _ refl refl (length-change _ k.harts u) (length-change _ _ u ∙ length-change _ k.tasks u)
+  does_sizes _ _ _ _ (wakes u wait k on why) = sized k _ refl refl (length-change _ k.harts u) (length-change _ _ u ∙ length-change _ k.tasks u)
   does_sizes _ _ _ _ (marks f k x) = sized k _ refl (length-change f k.processors a.cpu) refl refl
   does_sizes _ _ _ _ (picks f k x) = sized k _ refl (length-change f k.processors a.cpu) refl refl
   does_sizes _ _ _ _ (moves i f k x) = sized k _ (length-change f k.pipes a.cpu) refl refl refl
@@ -84,7 +79,7 @@ gives s x y l m = record { least = l; most = m }
 
 module _ (a : Actor) (old : Parts) where
   does_give : (i j : ℕ) (k x : Parts) → Does a old i j k x → Gives j k x
-  unfolding restamp set_policy set_slice wake tick add_task add_mutex add_semaphore
+  unfolding restamp set_policy set_slice wake tick
   does_give _ _ _ _ (spends t x k runs there on) = of_spend (Gives 1 k) t x.slice k (gives 1 k _ (omega arith) (omega arith)) (gives 1 k _ (omega arith) (omega arith))
   does_give _ j k _ _ = gives j k _ (omega arith) (omega arith)
 
@@ -103,7 +98,7 @@ same_current f (Some p) h = h p
 
 module _ (a : Actor) (old : Parts) where
   does_profile : (i j : ℕ) (k x : Parts) → Does a old i j k x → x.profile ≡ k.profile
-  unfolding restamp set_policy set_slice wake tick add_task add_mutex add_semaphore
+  unfolding restamp set_policy set_slice wake tick
   does_profile _ _ _ _ (spends t x k runs there on) = of_spend (λ y. y.profile ≡ k.profile) t x.slice k refl refl
   does_profile _ _ _ _ _ = refl
 
@@ -112,7 +107,7 @@ module _ (a : Actor) (old : Parts) where
   walk_profile _ _ _ (next m n s u i j k x h g d w) = does_profile i j k x d ∙ walk_profile m s k w
 
   does_ticks : (i j : ℕ) (k x : Parts) → a.may 0 0 ≡ false → Does a old i j k x → x.ticks ≡ k.ticks
-  unfolding restamp set_policy set_slice wake tick add_task add_mutex add_semaphore
+  unfolding restamp set_policy set_slice wake tick
   does_ticks _ _ _ _ q (spends t x k runs there on) = of_spend (λ y. y.ticks ≡ k.ticks) t x.slice k refl refl
   does_ticks _ _ _ _ q (clock k x) = let no : true ≡ false = sym (x 0) ∙ q in cc
   does_ticks _ _ _ _ q _ = refl
@@ -123,7 +118,7 @@ module _ (a : Actor) (old : Parts) where
   walk_ticks _ _ _ q (next m n s u i j k x h g d w) = does_ticks i j k x q d ∙ walk_ticks m s k q w
 
   does_runs : (i j : ℕ) (k x : Parts) → a.chooses ≡ false → Does a old i j k x → current a.cpu x ≡ current a.cpu k
-  unfolding restamp set_policy set_slice wake tick add_task add_mutex add_semaphore
+  unfolding restamp set_policy set_slice wake tick
   does_runs _ _ _ _ q (spends t x k runs there on) = of_spend (λ y. current a.cpu y ≡ current a.cpu k) t x.slice k refl refl
   does_runs _ _ _ _ q (marks f k x) = ap current_of (change-here f k.processors a.cpu) ∙ same_current f (slice_get k.processors a.cpu) x
   does_runs _ _ _ _ q (picks f k x) = let no : true ≡ false = sym x ∙ q in cc

@@ -1,19 +1,21 @@
 -- What is done to one task is a walk.
-use Rattle.std.proofs.Common.{◌≡◌, ℕ, zero, suc, ◌+◌, Option, Some, None, Bool, false, refl, arith}
-use Rattle.std.specs.Prelude.{slice_get, ◌&&◌}
+use Rattle.std.proofs.Common.{◌≡◌, ℕ, zero, suc, ◌+◌, Option, Some, None, Bool, true, false, inl, inr, refl, ap, ◌∙◌, arith}
+use Rattle.std.specs.Prelude.{slice_get, ◌&&◌, ◌==◌}
+use Rattle.std.proofs.lemmas.Bool.Decides.{eqb_tells}
 use Rattle.evm_model.specs.Pipes.{set_stall}
 use Rattle.evm_model.specs.Ranks.{is_oob_ready}
 use Rattle.evm_model.specs.Settle.{current, spend_of, spend_current}
 use Rattle.evm_model.specs.State.{Parts, on_pipe}
 use Rattle.evm_model.specs.Tasks.{restamp, set_state, leave_in_band, demote, promote, is_round_robin, spend_slice, spend_task}
-use Rattle.evm_model.specs.Waits.{begin_wait, wake, wake_below, awaits_line}
+use Rattle.evm_model.specs.Waits.{begin_wait, wake, wake_below, is_wait_for, awaits_task, awaits_line}
 use Rattle.evm_model.specs.declared.stage.Stage.{Stage}
 use Rattle.evm_model.specs.declared.stage.Stage.TheVariants.{OutOfBand}
 use Rattle.evm_model.specs.declared.task.Task.{Task}
 use Rattle.evm_model.specs.declared.task.TaskState.{TaskState}
 use Rattle.evm_model.specs.declared.task.TaskState.TheVariants.{InReady, OobReady, Waits}
 use Rattle.evm_model.specs.declared.task.Wait.{Wait}
-use Rattle.evm_walk.proofs.Walk.{Actor, stalls, IsOldTask, turns, spends, wakes, marks, moves, Walk, quietly, stamped, slack, walk_if}
+use Rattle.evm_model.specs.declared.task.Wait.TheVariants.{Line}
+use Rattle.evm_walk.proofs.Walk.{Actor, stalls, IsOldTask, played, turns, spends, wakes, marks, moves, Walk, quietly, stamped, slack, walk_if}
 
 -- ---- the acting processor
 module _ (a : Actor) (old : Parts) (n s : ℕ) (k : Parts) (w : Walk a old n s k) where
@@ -61,6 +63,20 @@ module _ (a : Actor) (old : Parts) (n s : ℕ) (k : Parts) (w : Walk a old n s k
   spends_current runs = spends_of (current a.cpu k) runs
 
 -- ---- wakes
+number_is : (m n : ℕ) → (m == n) ≡ true → m ≡ n
+number_is m n e = elim (eqb_tells m n) [ inl g ↦ g.1 | inr g ↦ cc ]
+
+both : (p q : Bool) → (p && q) ≡ true → (p ≡ true) × (q ≡ true)
+both true q h = (refl, h)
+both false q h = cc
+
+-- the line is played where its waiter is
+line_wakes : (a : Actor) (old : Parts) (n s l t : ℕ) (k : Parts) (o : Option Task) → slice_get k.tasks t ≡ o → awaits_line a.cpu l o ≡ true → Walk a old n s k → Walk a old n (s + 1) (wake t 0 k)
+line_wakes a old n s l t k None there on w = cc
+line_wakes a old n s l t k (Some task) there on w =
+    let b = both (is_wait_for (Line l) task.state) (task.cpu == a.cpu) on in
+    stamped a old n s k _ (wakes t (Line l) k (ap (awaits_task (Line l)) there ∙ b.0) (played l task there (number_is task.cpu a.cpu b.1))) w
+
 pub wakes_below : (a : Actor) (old : Parts) (n s l m : ℕ) (k : Parts) → Walk a old n s k → Walk a old n (s + m) (wake_below a.cpu l m k)
 unfolding wake_below
 wakes_below a old n s l zero k w = slack a old n n s (s + 0) k (λ g. omega arith) (λ g. omega arith) w
@@ -69,5 +85,5 @@ wakes_below a old n s l (suc t) k w =
     let so_far : Walk a old n (s + t) before = wakes_below a old n s l t k w in
     let more : s + suc t ≡ s + t + 1 = omega arith in
     rw more (walk_if a old n (s + t + 1) (awaits_line a.cpu l (slice_get before.tasks t)) (wake t 0 before) before
-    (λ on. stamped a old n (s + t) before _ (wakes t l before on) so_far)
+    (λ on. line_wakes a old n (s + t) l t before (slice_get before.tasks t) refl on so_far)
     (λ off. slack a old n n (s + t) (s + t + 1) before (λ g. omega arith) (λ g. omega arith) so_far))

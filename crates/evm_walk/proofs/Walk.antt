@@ -6,20 +6,18 @@ use Rattle.evm_lines.specs.declared.TheConstants.{LINES}
 use Rattle.evm_exec.specs.Registers.{register_of, with_register}
 use Rattle.evm_exec.specs.declared.hart.Hart.{Hart}
 use Rattle.evm_model.specs.Commands.{tick}
-use Rattle.evm_model.specs.Harts.{A7, argument}
-use Rattle.evm_model.specs.InBandCalls.{add_task, last_bytes}
+use Rattle.evm_model.specs.Harts.{A7, argument, spawned_hart}
+use Rattle.evm_model.specs.InBandCalls.{last_bytes}
 use Rattle.evm_model.specs.Lists.{each}
-use Rattle.evm_model.specs.Locks.{add_mutex}
 use Rattle.evm_model.specs.Mutexes.{free_mutex, owner, held_by}
 use Rattle.evm_model.specs.OobCalls.{is_scheduled_task}
 use Rattle.evm_model.specs.Pipes.{Pipe, raise, arrive, receive, play, set_stall}
 use Rattle.evm_model.specs.Policies.{policy_of}
 use Rattle.evm_model.specs.Ranks.{is_oob_ready}
 use Rattle.evm_model.specs.Settle.{current, is_oob}
-use Rattle.evm_model.specs.Semaphores.{add_semaphore}
-use Rattle.evm_model.specs.State.{Parts, on_hart, on_task, on_processor, on_pipe, on_mutex, on_semaphore}
+use Rattle.evm_model.specs.State.{Parts, new_task, on_hart, on_task, on_processor, on_pipe, on_mutex, on_semaphore}
 use Rattle.evm_model.specs.Tasks.{restamp, set_policy, is_round_robin, spend_slice}
-use Rattle.evm_model.specs.Waits.{awaits_line, first_waiter, wake}
+use Rattle.evm_model.specs.Waits.{awaits, wake}
 use Rattle.evm_model.specs.declared.limits.TheConstants.{SEMAPHORE_COUNT_LIMIT, MUTEX_LIMIT, SEMAPHORE_LIMIT, TASK_LIMIT}
 use Rattle.evm_model.specs.declared.mutex.Mutex.{Mutex}
 use Rattle.evm_model.specs.declared.mutex.Protocol.{Protocol}
@@ -28,7 +26,8 @@ use Rattle.evm_model.specs.declared.stage.Stage.{Stage}
 use Rattle.evm_model.specs.declared.stage.Stage.TheVariants.{OutOfBand, InBand}
 use Rattle.evm_model.specs.declared.task.Class.{Class}
 use Rattle.evm_model.specs.declared.task.Task.{Task}
-use Rattle.evm_model.specs.declared.task.Wait.TheVariants.{Lock, Semaphore}
+use Rattle.evm_model.specs.declared.task.Wait.{Wait}
+use Rattle.evm_model.specs.declared.task.Wait.TheVariants.{Line, Lock, Semaphore}
 pub use Rattle.evm_walk.specs.Few.{ArePipes, AreFew}
 
 -- who acts, and what it may do
@@ -80,19 +79,32 @@ pub record IsHeld (t n : ℕ) (old new : Mutex) : Type 0 where
 abbrev pub KeepsPlace : (Task → Task) → Type 0
 KeepsPlace f = (x : Task) → ((f x).cpu ≡ x.cpu) × ((f x).stamp ≡ x.stamp)
 
--- the task that acts makes call 34
-pub record Asks (a : Actor) (old : Parts) (u priority : ℕ) (class : Class) : Type 0 where
+-- the task that acts makes the call of this number, and had this hart
+pub record Makes (a : Actor) (old : Parts) (number : ℕ) (hart : Hart) : Type 0 where
   pub task : ℕ
-  pub hart : Hart
   pub acts : a.task ≡ Some task
   pub calls : a.calls ≡ true
   pub has : slice_get old.harts task ≡ Some hart
-  pub on : is_oob (Some task) old.tasks ≡ true
-  pub number : register_of hart.regs A7 ≡ 34
+  pub asks : register_of hart.regs A7 ≡ number
+
+-- .. call 34
+pub record Asks (a : Actor) (old : Parts) (u priority : ℕ) (class : Class) : Type 0 where
+  pub hart : Hart
+  pub makes : Makes a old 34 hart
+  pub on : is_oob (Some makes.task) old.tasks ≡ true
   pub names : u ≡ argument 0 hart
   pub asks : priority ≡ argument 2 hart
   pub live : is_scheduled_task (slice_get old.tasks u) ≡ true
   pub policy : policy_of (argument 1 hart) priority ≡ Some class
+
+-- why task u wakes, by what it waits for
+pub data Cause (a : Actor) (old : Parts) (u : ℕ) (k : Parts) : Wait → Type 0 where
+  -- the line is played on its processor
+  played : (l : ℕ) (task : Task) → slice_get k.tasks u ≡ Some task → task.cpu ≡ a.cpu → Cause a old u k (Line l)
+  -- the mutex was the acting task's, and is its own now
+  passed : (t m : ℕ) (mutex : Mutex) → a.task ≡ Some t → owner old.mutexes m ≡ Some t → slice_get k.mutexes m ≡ Some (held_by u 1 mutex) → Cause a old u k (Lock m)
+  -- the acting task makes call 41, which puts one into the semaphore
+  put : (hart : Hart) → Makes a old 41 hart → Cause a old u k (Semaphore (argument 0 hart))
 
 -- what is done, and to whom: indexed by how much a count or a hold is raised at most, and by how many stamps are given
 pub data Does (a : Actor) (old : Parts) : ℕ → ℕ → Parts → Parts → Type 0 where
@@ -105,16 +117,12 @@ pub data Does (a : Actor) (old : Parts) : ℕ → ℕ → Parts → Parts → Ty
   -- a tick of the slice of the task that was current
   spends : (t : ℕ) (x : Task) (k : Parts) → current a.cpu old ≡ Some t → slice_get k.tasks t ≡ Some x → (is_oob_ready x.state && is_round_robin x.class) ≡ true
       → Does a old 0 1 k (spend_slice t x.slice k)
-  -- a task that waits there for line l
-  wakes : (t l : ℕ) (k : Parts) → awaits_line a.cpu l (slice_get k.tasks t) ≡ true → Does a old 0 1 k (wake t 0 k)
-  -- the first that waits for a mutex of the acting task
-  inherits : (t u m : ℕ) (k : Parts) → a.task ≡ Some t → slice_get k.mutexes m ≡ slice_get old.mutexes m → owner k.mutexes m ≡ Some t → first_waiter (Lock m) k ≡ Some u
-      → Does a old 0 1 k (wake u 0 (on_mutex m (held_by u 1) k))
-  -- the first that waits for a semaphore
-  serves : (t u s : ℕ) (k : Parts) → a.task ≡ Some t → first_waiter (Semaphore s) k ≡ Some u → Does a old 0 1 k (wake u 0 k)
+  -- a task that waits
+  wakes : (u : ℕ) (wait : Wait) (k : Parts) → awaits wait k.tasks u ≡ true → Cause a old u k wait → Does a old 0 1 k (wake u 0 k)
   -- a semaphore's count, within its bound
   counts : (t s : ℕ) (f : ℕ → ℕ) (k : Parts) → a.task ≡ Some t → Untouched old k → ((n : ℕ) → slice_get k.semaphores s ≡ Some n → n ≤ SEMAPHORE_COUNT_LIMIT → f n ≤ SEMAPHORE_COUNT_LIMIT) → Does a old 0 0 k (on_semaphore s f k)
-  -- a mutex that is free or the acting task's
+  -- a mutex that is free or the acting task's; another task has it, once
+  gives : (t u m : ℕ) (k : Parts) → a.task ≡ Some t → slice_get k.mutexes m ≡ slice_get old.mutexes m → owner k.mutexes m ≡ Some t → Does a old 0 0 k (on_mutex m (held_by u 1) k)
   holds : (i t m : ℕ) (f : Mutex → Mutex) (k : Parts) → a.task ≡ Some t → slice_get k.mutexes m ≡ slice_get old.mutexes m → ((x : Mutex) → slice_get k.mutexes m ≡ Some x → IsHeld t i x (f x)) → Does a old i 0 k (on_mutex m f k)
   -- the processor's bits and its in-band current task; its current task
   marks : (f : Processor → Processor) (k : Parts) → ((p : Processor) → (f p).current ≡ p.current) → Does a old 0 0 k (on_processor a.cpu f k)
@@ -125,9 +133,10 @@ pub data Does (a : Actor) (old : Parts) : ℕ → ℕ → Parts → Parts → Ty
   clock : (k : Parts) → ((d : ℕ) → a.may d 0 ≡ true) → Does a old 1 0 k (tick k)
   -- another task has another class; a task more, a mutex more, a byte more on the console
   schedules : (u priority : ℕ) (class : Class) (k : Parts) → Untouched old k → Asks a old u priority class → Does a old 0 0 k (set_policy u class priority k)
-  adds : (t entry value cpu : ℕ) (k : Parts) → a.task ≡ Some t → Untouched old k → length k.tasks < TASK_LIMIT → Does a old 0 1 k (add_task entry value cpu k)
-  makes : (t : ℕ) (recursive : Bool) (protocol : Protocol) (k : Parts) → a.task ≡ Some t → Untouched old k → length k.mutexes < MUTEX_LIMIT → Does a old 0 0 k (add_mutex (free_mutex recursive protocol) k)
-  sets_up : (t count : ℕ) (k : Parts) → a.task ≡ Some t → Untouched old k → length k.semaphores < SEMAPHORE_LIMIT → count ≤ SEMAPHORE_COUNT_LIMIT → Does a old 0 0 k (add_semaphore count k)
+  adds : (t entry value cpu : ℕ) (k : Parts) → a.task ≡ Some t → Untouched old k → length k.tasks < TASK_LIMIT → Does a old 0 1 k
+      (record k { harts = k.harts ++ spawned_hart entry value ∷ []; tasks = k.tasks ++ new_task cpu k.stamps ∷ []; stamps = k.stamps + 1 })
+  makes : (t : ℕ) (recursive : Bool) (protocol : Protocol) (k : Parts) → a.task ≡ Some t → Untouched old k → length k.mutexes < MUTEX_LIMIT → Does a old 0 0 k (record k { mutexes = k.mutexes ++ free_mutex recursive protocol ∷ [] })
+  sets_up : (t count : ℕ) (k : Parts) → a.task ≡ Some t → Untouched old k → length k.semaphores < SEMAPHORE_LIMIT → count ≤ SEMAPHORE_COUNT_LIMIT → Does a old 0 0 k (record k { semaphores = k.semaphores ++ count ∷ [] })
   types : (t byte : ℕ) (k : Parts) → a.task ≡ Some t → Untouched old k → Does a old 0 0 k (record k { console = last_bytes (k.console ++ byte ∷ []) })
 
 -- one after another, with so much at most

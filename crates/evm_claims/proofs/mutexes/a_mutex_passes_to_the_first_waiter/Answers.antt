@@ -12,10 +12,11 @@ use Rattle.evm_model.specs.Tasks.{restamp}
 use Rattle.evm_model.specs.Waits.{is_wait_for, awaits_task, awaits, first_waiter, wake, woken as woken_task}
 use Rattle.evm_model.specs.declared.mutex.Mutex.{Mutex}
 use Rattle.evm_model.specs.declared.task.Task.{Task}
+use Rattle.evm_model.specs.declared.task.TaskState.{TaskState}
 use Rattle.evm_model.specs.declared.task.TaskState.TheVariants.{OobReady, Waits}
 use Rattle.evm_model.specs.declared.task.Wait.TheVariants.{Lock}
 use Rattle.evm_model.proofs.Lists.{change-here, change-elsewhere}
-use Rattle.evm_runs.proofs.Fares.{Waiter, first_waits, owns_it, woke_lock, woken_there}
+use Rattle.evm_runs.proofs.Fares.{Waiter, first_waits, owner_oob, woke, woken_there}
 use Rattle.evm_claims.proofs.Leads.{leads}
 use Rattle.evm_claims.proofs.mutexes.a_mutex_passes_to_the_first_waiter.Goals as goal
 
@@ -25,7 +26,7 @@ member m u tasks other e on = ap (awaits_task (Lock m)) e ∙ ap (is_wait_for (L
 pub returns-clause-waits : goal.returns-clause-waits
 unfolding first_waiter
 returns-clause-waits c m t k e =
-    let w : Waiter t m k = first_waits t m k e in
+    let w : Waiter t (Lock m) k = first_waits t (Lock m) k e in
     let found = (c.finds_first.ensures (awaits (Lock m) k.tasks) (rank k.mutexes k.tasks) (stamp k.tasks) (length k.tasks)).found t e in (
       w.task,
       (
@@ -52,13 +53,13 @@ passes m t k mutex task e there on =
     let given : List Mutex = change (held_by t 1) k.mutexes m in
     let its : slice_get given m ≡ Some (held_by t 1 mutex) = change-here (held_by t 1) k.mutexes m ∙ ap (option_map (held_by t 1)) e in (
       its,
-      woken_there t (owns_any t given) task (record task { state = OobReady; deadline = 0 }) k.stamps k.tasks there (woke_lock m (owns_any t given) task on (owns_it t m given (ap owner_of its))),
+      woken_there t (owns_any t given) task (record task { state = OobReady; deadline = 0 }) k.stamps k.tasks there (woke (Lock m) (owns_any t given) task on ∙ ap (λ (state : TaskState). record task { state = state; deadline = 0 }) (owner_oob m t given task (ap owner_of its))),
     )
 
 pub returns-clause-passes : goal.returns-clause-passes
 unfolding pass_on
 returns-clause-passes c m t k mutex task e there on =
-    let w : Waiter t m k = first_waits t m k e in
+    let w : Waiter t (Lock m) k = first_waits t (Lock m) k e in
     let two : Some w.task ≡ Some task = sym w.there ∙ on in
     let same : w.task ≡ task = cc in
     rw e (passes m t k mutex task there on (rw (← same) w.on))
