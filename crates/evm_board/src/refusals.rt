@@ -5,8 +5,7 @@ ghost use Rattle.evm_model.specs.Refusals.{board_refusal, no_such_cpu, no_such_l
 
 use crate::board::Board;
 use evm_lines::LINES;
-use evm_model::{BREAKPOINT_LIMIT, Block, Event, POKE_LIMIT};
-use evm_ram::Refusal;
+use evm_model::{BREAKPOINT_LIMIT, Block, Event, POKE_LIMIT, Refusal};
 
 fn is_misaligned(address: u64) -> bool
     ensures { result ≡ misaligned address }

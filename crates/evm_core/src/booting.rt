@@ -14,7 +14,7 @@ use evm_model::{
     Boot, CAPACITY_LIMIT, Class, Mode, PROCESSOR_LIMIT, Processor, Profile, RAM_LEAST, RAM_UNIT,
     Task, TaskState,
 };
-use evm_ram::{BASE, Ram, Refusal, SIZE_LIMIT};
+use evm_ram::{BASE, Ram, SIZE_LIMIT};
 use evm_room::Refused;
 use std::alloc::Global;
 

@@ -3,8 +3,8 @@ use Rattle.std.specs.Prelude.{ℕ, zero, suc, ◌+◌, ◌/◌, ◌%◌, List, [
 use Rattle.evm_room.specs.Growth.{RefusedWithin}
 use Rattle.evm_journal.specs.evm_text.Written.{decimal, hexadecimal_padded, pairs}
 use Rattle.evm_ram.specs.Ram.{bytes_at}
-use Rattle.evm_ram.specs.declared.refusal.Refusal.{Refusal}
-use Rattle.evm_ram.specs.declared.refusal.Refusal.TheVariants.{NoSuchCpu, NoSuchLine, NoTask, BadAddress}
+use Rattle.evm_model.specs.declared.refusal.Refusal.{Refusal}
+use Rattle.evm_model.specs.declared.refusal.Refusal.TheVariants.{NoSuchCpu, NoSuchLine, NoTask, BadAddress}
 use Rattle.evm_debug.specs.declared.line.View.{View}
 use Rattle.evm_debug.specs.declared.line.View.TheVariants.{Regs, Mem, Stages as StagesView, Tasks, Owners, Rank, Counts as CountsView, Journal, Console}
 use Rattle.evm_journal.specs.Journal.{journal_text}
@@ -39,7 +39,7 @@ parts_text (part ∷ parts) = part ++ parts_text parts
 abbrev pub word_text : ℕ → List ℕ
 word_text n = hexadecimal_padded 16 n
 
--- a set of lines, as a number of 8 hexadecimal digits with bit l for line l
+-- a set of lines, as a number of as many hexadecimal digits as they need, with bit l for line l
 abbrev pub line_set_text : List ℕ → List ℕ
 line_set_text lines = hexadecimal_padded 8 (word_of lines)
 

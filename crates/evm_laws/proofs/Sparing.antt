@@ -14,7 +14,7 @@ use Rattle.evm_exec.specs.declared.outcome.Effect.TheVariants.{Next, Load, Store
 use Rattle.evm_ram.specs.Bytes.{little_endian}
 use Rattle.evm_ram.specs.Laws.{bytes_at-elsewhere, read_at-elsewhere}
 use Rattle.evm_ram.specs.Ram.{read_at, write_at, poke_at}
-use Rattle.evm_ram.specs.declared.refusal.Refusal.{Refusal}
+use Rattle.evm_model.specs.declared.refusal.Refusal.{Refusal}
 use Rattle.evm_ram.specs.declared.width.Width.{Width}
 use Rattle.evm_ram.specs.declared.width.Width.TheVariants.{Word}
 use Rattle.evm_model.specs.Commands.{set_bits, set_breakpoint, unset_breakpoint, is_set}

@@ -33,7 +33,7 @@ use Rattle.evm_model.specs.declared.processor.Processor.{Processor}
 use Rattle.evm_model.specs.declared.stage.Stage.{Stage}
 use Rattle.evm_model.specs.declared.stage.Stage.TheVariants.{OutOfBand, InBand}
 use Rattle.evm_model.specs.declared.task.Task.{Task}
-use Rattle.evm_ram.specs.declared.refusal.Refusal.TheVariants.{BadAddress}
+use Rattle.evm_model.specs.declared.refusal.Refusal.TheVariants.{BadAddress}
 use Rattle.evm_model.specs.Refusals.{board_refusal}
 use Rattle.evm_walk.proofs.Refused.{passes}
 use Rattle.evm_rules.proofs.Aligned.{IsAligned, next-aligned, does-aligned}

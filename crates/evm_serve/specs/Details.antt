@@ -19,8 +19,8 @@ use Rattle.evm_model.specs.Replay.{bad_cpus, bad_ram}
 use Rattle.evm_model.specs.declared.boot.Boot.{Boot}
 use Rattle.evm_model.specs.declared.event.Event.TheVariants as events
 use Rattle.evm_ram.specs.declared.ram.TheConstants.{BASE}
-use Rattle.evm_ram.specs.declared.refusal.Refusal.{Refusal}
-use Rattle.evm_ram.specs.declared.refusal.Refusal.TheVariants.{BadAddress, BadSize}
+use Rattle.evm_model.specs.declared.refusal.Refusal.{Refusal}
+use Rattle.evm_model.specs.declared.refusal.Refusal.TheVariants.{BadAddress, BadSize}
 use Rattle.evm_serve.specs.Faults.{refusal_sentence}
 use Rattle.evm_serve.specs.LineDetails.{byte_detail, bad_line_detail, first_forms, grammar_detail}
 use Rattle.evm_serve.specs.Lookup.{odd_byte, line_numbered, line_read, boot_among, ram_of}

@@ -30,7 +30,7 @@ use Rattle.evm_model.specs.declared.fault.Fault.{Fault}
 use Rattle.evm_model.specs.declared.event.Event.TheVariants.{Step, Tick, Raise, Bell, Stop, Go, StepI, SetReg, SetPc, Poke, Break, Unbreak}
 use Rattle.evm_model.specs.declared.processor.Processor.{Processor}
 use Rattle.evm_model.specs.declared.task.TaskState.TheVariants.{Faulted}
-use Rattle.evm_ram.specs.declared.refusal.Refusal.TheVariants.{NoSuchLine}
+use Rattle.evm_model.specs.declared.refusal.Refusal.TheVariants.{NoSuchLine}
 use Rattle.evm_model.proofs.Lists.{change-here}
 use Rattle.evm_walk.proofs.Calls.{walks_call}
 use Rattle.evm_walk.proofs.Passing.{ends}
