@@ -67,7 +67,7 @@ pub fn an_image_stands_in_ram()
     ensures size { (byte : ℕ → ℕ) (entry : ℕ) (boot : Boot) →
         length (start_loaded byte entry boot).board.memory.ram ≡ boot.ram }
     ensures each { (byte : ℕ → ℕ) (entry : ℕ) (boot : Boot) (i : ℕ) → i < boot.ram →
-        slice_index (start_loaded byte entry boot).board.memory.ram i ≡ byte (0x80000000 + i) }
+        slice_index (start_loaded byte entry boot).board.memory.ram i ≡ byte (BASE + i) }
 {
     evm_runs::loads_each_byte();
 }

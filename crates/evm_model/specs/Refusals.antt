@@ -1,5 +1,6 @@
 -- Which events are refused: a table of tests, of which the first that applies, in the order of their numbers, is answered.
 use Rattle.std.specs.Prelude.{ℕ, ◌%◌, ◌==◌, List, [], ◌∷◌, Option, Some, None, Bool, true, false, not, ◌&&◌, nat_lt, nat_le, is_none, if◌then◌else◌, slice_get, length}
+use Rattle.evm_exec.specs.declared.hart.TheConstants.{REGISTERS}
 use Rattle.evm_lines.specs.declared.TheConstants.{LINES}
 use Rattle.evm_ram.specs.Ram.{bytes_at}
 use Rattle.evm_model.specs.Commands.{is_set}
@@ -46,7 +47,7 @@ abbrev pub no_task : ℕ → Board → Bool
 no_task c b = is_none (current c b.parts)
 
 abbrev pub bad_register : ℕ → Bool
-bad_register r = if r == 0 then true else nat_le 32 r
+bad_register r = if r == 0 then true else nat_le REGISTERS r
 
 abbrev pub misaligned : ℕ → Bool
 misaligned address = not (address % 4 == 0)
