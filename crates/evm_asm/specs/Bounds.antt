@@ -1,10 +1,11 @@
 -- How long a program is, and where its words stand.
 use Rattle.std.specs.Prelude.{◌≡◌, ◌≤◌, ℕ, List, length, Ok, All}
+use Rattle.evm_ram.specs.declared.ram.TheConstants.{SIZE_LIMIT}
 use Rattle.evm_asm.specs.Assembled.{Assembled, StandsIn, program_of}
 
--- The most bytes that a program has: those of two sections of 8,388,608 bytes, a multiple of 4,096.
+-- The most bytes that a program has: two sections fill RAM of the greatest size.
 abbrev pub bytes_max : ℕ
-bytes_max = 16777216
+bytes_max = SIZE_LIMIT
 
 -- Every program fits.
 abbrev pub ProgramsFit : Type 0

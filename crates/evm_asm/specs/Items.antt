@@ -7,6 +7,7 @@ use Rattle.evm_asm_parser.specs.evm_asm_lexer.declared.fault.AsmFaultKind.TheVar
 use Rattle.evm_asm_parser.specs.evm_asm_lexer.declared.source_fault.SourceFault.{SourceFault}
 use Rattle.evm_asm_parser.specs.evm_asm_lexer.declared.source_fault.SourceFaultKind.{SourceFaultKind}
 use Rattle.evm_asm_parser.specs.evm_asm_lexer.declared.source_fault.SourceFaultKind.TheVariants.{RangeOfImmediate, LabelMissing}
+use Rattle.evm_ram.specs.declared.ram.TheConstants.{BASE}
 use Rattle.evm_asm.specs.declared.failure.Failure.{Failure}
 use Rattle.evm_asm.specs.declared.failure.Failure.TheVariants as failure
 use Rattle.evm_asm.specs.declared.meaning.Stop.{Stop}
@@ -31,9 +32,9 @@ use Rattle.evm_asm_parser.specs.Operands.{Spots, datum_in, first_operand, other_
 use Rattle.evm_asm.specs.Places.{offset, place_behind, statement_in, is_small, low_word, low_part, high_part, needs_low_part, padding, is_text}
 use Rattle.evm_asm.specs.Sources.{Laid, nothing_laid, laid, source_start, source_lines, code_of, statement_text}
 
--- The text begins at 0x80000000, the data at the first multiple of 4,096 at or after its end.
+-- The text begins where RAM does, the data at the first multiple of 4,096 at or after its end.
 abbrev pub text_base : ℕ
-text_base = 2147483648
+text_base = BASE
 
 abbrev pub data_base : ℕ → ℕ
 data_base text_size = text_base + (text_size + 4095) / 4096 * 4096

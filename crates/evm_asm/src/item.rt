@@ -11,9 +11,10 @@ use evm_asm_parser::{
     Datum, Labels, Section, SourceFaultKind, Spot, Statement, Width, datum_in, zero,
 };
 use evm_isa::{ImmediateOp, Inst, Register, Shift};
+use evm_ram::BASE;
 
 /// Where the text begins.
-pub const TEXT_BASE: u64 = 0x8000_0000;
+pub const TEXT_BASE: u64 = BASE;
 
 /// What a statement adds to a section.
 #[derive(Clone, Copy)]

@@ -4,9 +4,9 @@ ghost use Rattle.evm_model.specs.Event.{event_lent};
 ghost use Rattle.evm_model.specs.Refusals.{board_refusal, no_such_cpu, no_such_line, not_stopped, no_task, bad_register, misaligned, bad_bytes, bad_place, no_slot};
 
 use crate::board::Board;
+use evm_exec::REGISTERS;
 use evm_lines::LINES;
-use evm_model::{BREAKPOINT_LIMIT, Block, Event, POKE_LIMIT};
-use evm_ram::Refusal;
+use evm_model::{BREAKPOINT_LIMIT, Block, Event, POKE_LIMIT, Refusal};
 
 fn is_misaligned(address: u64) -> bool
     ensures { result ≡ misaligned address }
@@ -17,7 +17,7 @@ fn is_misaligned(address: u64) -> bool
 fn is_bad_register(r: u8) -> bool
     ensures { result ≡ bad_register r }
 {
-    r == 0 || r >= 32
+    r == 0 || r >= REGISTERS
 }
 
 impl Board {

@@ -3,11 +3,13 @@ use Rattle.std.specs.Prelude.{◌≡◌, ◌≢◌, ◌+◌, ◌-◌, ◌<◌, �
 use Rattle.evm_exec.specs.Does.{does}
 use Rattle.evm_exec.specs.Registers.{register_of, with_register}
 use Rattle.evm_exec.specs.declared.hart.Hart.{Hart}
+use Rattle.evm_exec.specs.declared.hart.TheConstants.{REGISTERS}
 use Rattle.evm_exec.specs.declared.outcome.Effect.{Effect}
 use Rattle.evm_exec.specs.declared.outcome.Effect.TheVariants.{Call, Store}
 use Rattle.evm_isa.specs.Decoded.{decoded}
 use Rattle.evm_isa.specs.declared.inst.Inst.{Inst}
 use Rattle.evm_lines.specs.Lines.{has_line}
+use Rattle.evm_model.specs.Harts.{A0}
 use Rattle.evm_model.specs.Memory.{fetch}
 use Rattle.evm_model.specs.Mutexes.{owner}
 use Rattle.evm_model.specs.Pipes.{Pipe, raise}
@@ -15,6 +17,7 @@ use Rattle.evm_model.specs.Policies.{policy_of}
 use Rattle.evm_model.specs.Settle.{is_oob}
 use Rattle.evm_model.specs.State.{Board, Memory}
 use Rattle.evm_model.specs.Tasks.{is_live}
+use Rattle.evm_model.specs.declared.limits.TheConstants.{CONSOLE_LIMIT, MUTEX_LIMIT, TASK_LIMIT}
 use Rattle.evm_model.specs.declared.mutex.Mutex.{Mutex}
 use Rattle.evm_model.specs.declared.mutex.Protocol.{Protocol}
 use Rattle.evm_model.specs.declared.task.Class.{Class}
@@ -98,7 +101,7 @@ pub record IsNewTask (t : ℕ) (before : List Hart) (tasks : List Task) (harts :
   pub entry : ℕ
   pub value : ℕ
   pub task_is : slice_get tasks t ≡ Some (record { cpu = cpu; class = Unattached; priority = 0; slice = 0; mode = record { bits = 0 }; stamp = stamp; deadline = 0; state = InReady })
-  pub hart_is : length before ≡ t → slice_get harts t ≡ Some (record { regs = slice_set (replicate 32 0) 10 value; pc = entry })
+  pub hart_is : length before ≡ t → slice_get harts t ≡ Some (record { regs = slice_set (replicate REGISTERS 0) A0 value; pc = entry })
 
 -- ---- a mutex
 -- it was free or the current task's, and has another owner or is locked more or less often: nothing else of it changes
@@ -113,7 +116,7 @@ pub record AddsFreeMutex (before mutexes : List Mutex) : Type 0 where
   pub recursive : Bool
   pub protocol : Protocol
   pub one_more : length mutexes ≡ length before + 1
-  pub few : length before < 32
+  pub few : length before < MUTEX_LIMIT
   pub free : slice_get mutexes (length before) ≡ Some (record { recursive = recursive; protocol = protocol; owner = None; count = 0 })
 
 -- ---- a step of processor c, whose current task was this
@@ -130,7 +133,7 @@ pub record StepChangesOnly (runs : Option ℕ) (c : ℕ) (old new : Board) : Typ
       → (new.memory.ram ≡ old.memory.ram) ⊎ (write_at old.memory.ram address width value ≡ Some new.memory.ram)
   -- the console has one byte more at the most, the last 4096 of them
   pub console : (new.parts.console ≡ old.parts.console)
-      ⊎ ((byte : ℕ) × (new.parts.console ≡ drop (length (old.parts.console ++ byte ∷ []) - 4096) (old.parts.console ++ byte ∷ [])))
+      ⊎ ((byte : ℕ) × (new.parts.console ≡ drop (length (old.parts.console ++ byte ∷ []) - CONSOLE_LIMIT) (old.parts.console ++ byte ∷ [])))
   -- each task but the current one, as call 34 may have given it another class, stands or wakes
   pub tasks : (t : ℕ) (task : Task) (hart : Hart) → runs ≢ Some t → slice_get old.parts.tasks t ≡ Some task → slice_get old.parts.harts t ≡ Some hart
       → (given : Task) × (((given ≡ task) ⊎ IsScheduled runs t old.parts.tasks old.parts.harts old.memory task given)
@@ -144,7 +147,7 @@ pub record StepChangesOnly (runs : Option ℕ) (c : ℕ) (old new : Board) : Typ
       ⊎ SpendsSlice runs t old.parts.stamps new.parts.tasks new.parts.harts task hart
   -- as many tasks, with their harts, or one of each more where there were fewer than 64
   pub counts : ((length new.parts.tasks ≡ length old.parts.tasks) × (length new.parts.harts ≡ length old.parts.harts))
-      ⊎ ((length new.parts.tasks ≡ length old.parts.tasks + 1) × (length new.parts.harts ≡ length old.parts.harts + 1) × (length old.parts.tasks < 64))
+      ⊎ ((length new.parts.tasks ≡ length old.parts.tasks + 1) × (length new.parts.harts ≡ length old.parts.harts + 1) × (length old.parts.tasks < TASK_LIMIT))
   pub new_task : length new.parts.tasks ≡ length old.parts.tasks + 1 → IsNewTask (length old.parts.tasks) old.parts.harts new.parts.tasks new.parts.harts
   -- each mutex stands, or is another's
   pub mutexes : (m : ℕ) (before : Mutex) → slice_get old.parts.mutexes m ≡ Some before → (slice_get new.parts.mutexes m ≡ Some before) ⊎ IsAnothers runs m new.parts.mutexes before

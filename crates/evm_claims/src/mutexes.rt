@@ -9,6 +9,7 @@ ghost use Rattle.evm_model.specs.Ranks.{class_rank, own_rank, rank};
 ghost use Rattle.evm_model.specs.State.{State, Parts};
 ghost use Rattle.evm_model.specs.Waits.{first_waiter};
 ghost use Rattle.evm_model.specs.declared.boot.Boot.{Boot};
+ghost use Rattle.evm_model.specs.declared.limits.TheConstants.{MUTEX_LIMIT};
 ghost use Rattle.evm_model.specs.declared.mutex.Mutex.{Mutex};
 ghost use Rattle.evm_model.specs.declared.mutex.Protocol.{Protocol};
 ghost use Rattle.evm_model.specs.declared.task.Task.{Task};
@@ -28,7 +29,7 @@ pub fn each_waited_mutex_has_an_owner()
     ensures owners { (boot : Boot) (s : State) (m t : ℕ) (mutex : Mutex) → Reached boot s →
         slice_get s.board.parts.mutexes m ≡ Option.Some mutex → mutex.owner ≡ Option.Some t → t < length s.board.parts.tasks }
     ensures few { (boot : Boot) (s : State) → Reached boot s →
-        length s.board.parts.mutexes ≤ 32 }
+        length s.board.parts.mutexes ≤ MUTEX_LIMIT }
 {
     evm_rules::rules_hold();
     evm_rules::walks_end();

@@ -25,8 +25,9 @@ ghost use Rattle.evm_model.specs.declared.processor.Processor.{Processor};
 ghost use Rattle.evm_model.specs.declared.task.Task.{Task};
 ghost use Rattle.evm_model.specs.declared.task.TaskState.{TaskState};
 ghost use Rattle.evm_ram.specs.Ram.{poke_at};
-ghost use Rattle.evm_ram.specs.Refusal.{number_of};
-ghost use Rattle.evm_ram.specs.declared.refusal.Refusal.{Refusal};
+ghost use Rattle.evm_ram.specs.declared.ram.TheConstants.{BASE};
+ghost use Rattle.evm_model.specs.Refusals.{number_of};
+ghost use Rattle.evm_model.specs.declared.refusal.Refusal.{Refusal};
 
 /// What an instruction was encoded to is decoded to it, and the other way round, by the table; a word of 32 bits stands
 /// for at most one instruction of the table, and an instruction has at most one such word.
@@ -66,7 +67,7 @@ pub fn an_image_stands_in_ram()
     ensures size { (byte : ℕ → ℕ) (entry : ℕ) (boot : Boot) →
         length (start_loaded byte entry boot).board.memory.ram ≡ boot.ram }
     ensures each { (byte : ℕ → ℕ) (entry : ℕ) (boot : Boot) (i : ℕ) → i < boot.ram →
-        slice_index (start_loaded byte entry boot).board.memory.ram i ≡ byte (0x80000000 + i) }
+        slice_index (start_loaded byte entry boot).board.memory.ram i ≡ byte (BASE + i) }
 {
     evm_runs::loads_each_byte();
 }

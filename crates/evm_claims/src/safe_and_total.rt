@@ -1,6 +1,8 @@
 //! Nothing overflows and nothing grows: sizes stay, and counts are far below what their types hold.
 ghost use Rattle.std.specs.Prelude.{◌≡◌, ◌<◌, ◌≤◌, ◌^◌, ℕ, List, Option, false, slice_get, length, count_by};
 ghost use Rattle.evm_exec.specs.declared.hart.Hart.{Hart};
+ghost use Rattle.evm_exec.specs.declared.hart.TheConstants.{REGISTERS};
+ghost use Rattle.evm_lines.specs.declared.TheConstants.{LINES};
 ghost use Rattle.evm_model.specs.Good.{is_tick};
 ghost use Rattle.evm_model.specs.Pipes.{Pipe};
 ghost use Rattle.evm_model.specs.Replay.{bad_boot, start, replay};
@@ -8,6 +10,7 @@ ghost use Rattle.evm_model.specs.State.{State, Board};
 ghost use Rattle.evm_model.specs.declared.boot.Boot.{Boot};
 ghost use Rattle.evm_model.specs.declared.counts.Counts.{Counts};
 ghost use Rattle.evm_model.specs.Event.{Event};
+ghost use Rattle.evm_model.specs.declared.limits.TheConstants.{TASK_LIMIT};
 ghost use Rattle.evm_model.specs.declared.mutex.Mutex.{Mutex};
 ghost use Rattle.evm_claims.specs.Reached.{AreSmall, Ran};
 
@@ -27,15 +30,15 @@ pub fn sizes_never_change()
     ensures harts { (s : State) (events : List Event) →
         length s.board.parts.harts ≤ length (replay s events).board.parts.harts }
     ensures few_tasks { (s : State) (events : List Event) →
-        length s.board.parts.tasks ≤ 64 → length (replay s events).board.parts.tasks ≤ 64 }
+        length s.board.parts.tasks ≤ TASK_LIMIT → length (replay s events).board.parts.tasks ≤ TASK_LIMIT }
     ensures a_hart_each { (s : State) (events : List Event) →
         length s.board.parts.harts ≡ length s.board.parts.tasks →
         length (replay s events).board.parts.harts ≡ length (replay s events).board.parts.tasks }
     ensures registers { (s : State) (events : List Event) →
         ((t : ℕ) (hart : Hart) → slice_get s.board.parts.harts t ≡ Option.Some hart →
-        (length hart.regs ≡ 32) × (slice_get hart.regs 0 ≡ Option.Some 0)) →
+        (length hart.regs ≡ REGISTERS) × (slice_get hart.regs 0 ≡ Option.Some 0)) →
         (t : ℕ) (hart : Hart) → slice_get (replay s events).board.parts.harts t ≡ Option.Some hart →
-        (length hart.regs ≡ 32) × (slice_get hart.regs 0 ≡ Option.Some 0) }
+        (length hart.regs ≡ REGISTERS) × (slice_get hart.regs 0 ≡ Option.Some 0) }
 {
     evm_runs::sizes_stay();
 }
@@ -48,10 +51,10 @@ pub fn a_machine_is_as_it_was_booted()
     ensures pipes { (boot : Boot) (s : State) → Ran boot s → length s.board.parts.pipes ≡ boot.cpus }
     ensures ram { (boot : Boot) (s : State) → Ran boot s → length s.board.memory.ram ≡ boot.ram }
     ensures tasks { (boot : Boot) (s : State) → Ran boot s →
-        (1 ≤ length s.board.parts.tasks) × (length s.board.parts.tasks ≤ 64) }
+        (1 ≤ length s.board.parts.tasks) × (length s.board.parts.tasks ≤ TASK_LIMIT) }
     ensures harts { (boot : Boot) (s : State) → Ran boot s → length s.board.parts.harts ≡ length s.board.parts.tasks }
     ensures registers { (boot : Boot) (s : State) (t : ℕ) (hart : Hart) → Ran boot s →
-        slice_get s.board.parts.harts t ≡ Option.Some hart → length hart.regs ≡ 32 }
+        slice_get s.board.parts.harts t ≡ Option.Some hart → length hart.regs ≡ REGISTERS }
     ensures x0 { (boot : Boot) (s : State) (t : ℕ) (hart : Hart) → Ran boot s →
         slice_get s.board.parts.harts t ≡ Option.Some hart → slice_get hart.regs 0 ≡ Option.Some 0 }
 {
@@ -67,7 +70,7 @@ pub fn counts_never_wrap()
     ensures counts { (boot : Boot) (s : State) → bad_boot boot ≡ false → Ran boot s → (c l : ℕ) (pipe : Pipe) (n : Counts) →
         slice_get s.board.parts.pipes c ≡ Option.Some pipe → slice_get pipe.counts l ≡ Option.Some n → AreSmall n }
     ensures lines { (boot : Boot) (s : State) → bad_boot boot ≡ false → Ran boot s → (c : ℕ) (pipe : Pipe) →
-        slice_get s.board.parts.pipes c ≡ Option.Some pipe → length pipe.counts ≡ 32 }
+        slice_get s.board.parts.pipes c ≡ Option.Some pipe → length pipe.counts ≡ LINES }
     // whatever is in RAM and in the tasks at first, where nothing was counted yet
     ensures counts_fresh { (boot : Boot) (board : Board) (events : List Event) → bad_boot boot ≡ false →
         board.parts.pipes ≡ (start boot).board.parts.pipes → board.parts.ticks ≡ 0 →

@@ -9,8 +9,7 @@ ghost use Rattle.evm_core.specs.Steps.{steps};
 
 use evm_board::Board;
 use evm_history::Journal;
-use evm_model::{Answer, Block, Boot, Event};
-use evm_ram::Refusal;
+use evm_model::{Answer, Block, Boot, Event, Refusal};
 
 /// One event: what it answers, or why it is refused, the first reason by its number. `Machine::apply` is this.
 #[inline(always)]

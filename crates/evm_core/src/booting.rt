@@ -9,12 +9,12 @@ use arrayvec::ArrayVec;
 use evm_board::{
     Board, Breakpoints, Console, Harts, Memory, Mutexes, Parts, Pipe, Semaphores, Slots, Tasks,
 };
-use evm_exec::Hart;
+use evm_exec::{Hart, REGISTER_COUNT};
 use evm_model::{
     Boot, CAPACITY_LIMIT, Class, Mode, PROCESSOR_LIMIT, Processor, Profile, RAM_LEAST, RAM_UNIT,
     Task, TaskState,
 };
-use evm_ram::{BASE, Ram, Refusal, SIZE_LIMIT};
+use evm_ram::{BASE, Ram, SIZE_LIMIT};
 use evm_room::Refused;
 use std::alloc::Global;
 
@@ -45,7 +45,7 @@ fn hart_zero(ram: u64) -> Hart
     requires { ram ≤ SIZE_LIMIT }
     ensures { result ≡ first_hart ram }
 {
-    let mut regs = [0; 32];
+    let mut regs = [0; REGISTER_COUNT];
     regs[2] = BASE + ram;
     Hart { regs, pc: BASE }
 }

@@ -9,8 +9,7 @@ mod stepping;
 
 pub use accepting::{apply_to, some_steps_to};
 pub use evm_history::{EventLine, Journal, MAX_STEPS};
-pub use evm_model::{Answer, Boot, Event};
-pub use evm_ram::Refusal;
+pub use evm_model::{Answer, Boot, Event, Refusal};
 pub use machine::Machine;
 pub use stages::Stages;
 

@@ -203,3 +203,25 @@ fn steps_of_changed_code(rt: HostRuntime) -> Result<(), Fail> {
     assert_eq!(rt; register(&machine, 7), 21);
     Ok(())
 }
+
+#[test]
+fn names_each_refusal(rt: HostRuntime) {
+    for (refusal, number, name) in [
+        (Refusal::Full, 1, "Full"),
+        (Refusal::NoSuchCpu, 2, "NoSuchCpu"),
+        (Refusal::NoSuchLine, 3, "NoSuchLine"),
+        (Refusal::NotStopped, 4, "NotStopped"),
+        (Refusal::NoTask, 5, "NoTask"),
+        (Refusal::BadAddress, 6, "BadAddress"),
+        (Refusal::BadRegister, 7, "BadRegister"),
+        (Refusal::NoSlot, 8, "NoSlot"),
+        (Refusal::NoBreakpoint, 9, "NoBreakpoint"),
+        (Refusal::BadSize, 10, "BadSize"),
+        (Refusal::NoMemory, 11, "NoMemory"),
+        (Refusal::Started, 12, "Started"),
+        (Refusal::PortsOut, 13, "PortsOut"),
+        (Refusal::SeatsOut, 14, "SeatsOut"),
+    ] {
+        assert_eq!(rt; refusal.number(), number, "of {name}");
+    }
+}

@@ -1,7 +1,7 @@
 -- What is shown, and what is asked for it.
 use Rattle.std.proofs.Common.{◌≡◌, ℕ, ◌≤◌, List, [], length, sym, ap}
 use Rattle.std.specs.Prelude.{Result, Ok, Err, IsOkAnd}
-use Rattle.evm_ram.specs.declared.refusal.Refusal.{Refusal}
+use Rattle.evm_model.specs.declared.refusal.Refusal.{Refusal}
 use Rattle.evm_room.specs.Growth.{RefusedWithin}
 use Rattle.evm_debug.specs.Views.{Shows, LacksMemory}
 

@@ -2,9 +2,11 @@
 use Rattle.std.specs.Prelude.{ℕ, zero, suc, ◌+◌, ◌/◌, ◌%◌, List, [], ◌∷◌, ◌++◌, Option, Some, None, Bool, codes, slice_get, length, if◌then◌else◌, ◌==◌, nat_lt, Result, Ok, Err, IsOkAnd, ◌≡◌}
 use Rattle.evm_room.specs.Growth.{RefusedWithin}
 use Rattle.evm_journal.specs.evm_text.Written.{decimal, hexadecimal_padded, pairs}
+use Rattle.evm_exec.specs.declared.hart.TheConstants.{REGISTERS}
+use Rattle.evm_lines.specs.declared.TheConstants.{LINES}
 use Rattle.evm_ram.specs.Ram.{bytes_at}
-use Rattle.evm_ram.specs.declared.refusal.Refusal.{Refusal}
-use Rattle.evm_ram.specs.declared.refusal.Refusal.TheVariants.{NoSuchCpu, NoSuchLine, NoTask, BadAddress}
+use Rattle.evm_model.specs.declared.refusal.Refusal.{Refusal}
+use Rattle.evm_model.specs.declared.refusal.Refusal.TheVariants.{NoSuchCpu, NoSuchLine, NoTask, BadAddress}
 use Rattle.evm_debug.specs.declared.line.View.{View}
 use Rattle.evm_debug.specs.declared.line.View.TheVariants.{Regs, Mem, Stages as StagesView, Tasks, Owners, Rank, Counts as CountsView, Journal, Console}
 use Rattle.evm_journal.specs.Journal.{journal_text}
@@ -39,9 +41,9 @@ parts_text (part ∷ parts) = part ++ parts_text parts
 abbrev pub word_text : ℕ → List ℕ
 word_text n = hexadecimal_padded 16 n
 
--- a set of lines, as a number of 8 hexadecimal digits with bit l for line l
+-- a set of lines, as a number of as many hexadecimal digits as they need, with bit l for line l
 abbrev pub line_set_text : List ℕ → List ℕ
-line_set_text lines = hexadecimal_padded 8 (word_of lines)
+line_set_text lines = hexadecimal_padded (LINES / 4) (word_of lines)
 
 abbrev pub bit_text : Bool → List ℕ
 bit_text b = if b then codes "1" else codes "0"
@@ -68,7 +70,7 @@ register_lines r zero regs = []
 register_lines r (suc count) regs = four_registers r regs ++ register_lines (r + 4) count regs
 
 abbrev pub registers_text : List ℕ → List ℕ
-registers_text regs = register_lines 0 8 regs
+registers_text regs = register_lines 0 (REGISTERS / 4) regs
 
 -- the stage that a current task is on
 abbrev pub stage_text : TaskState → List ℕ

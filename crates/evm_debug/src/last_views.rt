@@ -9,8 +9,7 @@ ghost use Rattle.evm_room.specs.Growth.{RefusedWithin};
 
 use crate::views::{push_owners, push_stages, push_tasks};
 use evm_journal::Machine;
-use evm_ram::NoMemory;
-use evm_room::Refused;
+use evm_room::{NoMemory, Refused};
 use std::alloc::Global;
 
 // The stages of the processor of a number, if there is one.

@@ -1,4 +1,4 @@
-use evm_ram::Refusal;
+use evm_model::Refusal;
 
 /// Why a view could not be made.
 #[derive(Debug, Drop)]

@@ -8,8 +8,7 @@ use crate::line::View;
 use crate::look::ViewRefusal;
 use crate::views::{push_counts, push_owners, push_rank, push_regs, push_stages, push_tasks};
 use evm_journal::{Machine, push_journal, push_pairs};
-use evm_model::POKE_LIMIT;
-use evm_ram::Refusal;
+use evm_model::{POKE_LIMIT, Refusal};
 use evm_room::{Refused, push_text};
 use std::alloc::Global;
 

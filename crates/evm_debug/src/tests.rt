@@ -1,7 +1,6 @@
 use super::*;
 use evm_journal::{EventLine, Machine};
-use evm_model::{Boot, Event};
-use evm_ram::Refusal;
+use evm_model::{Boot, Event, Refusal};
 use std::process::Abort;
 use std::test::Fail;
 

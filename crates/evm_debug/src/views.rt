@@ -5,7 +5,7 @@ ghost use Rattle.evm_exec.specs.Registers.{register_of};
 
 use crate::piece::Piece;
 use crate::pieces::push_pieces;
-use evm_exec::Hart;
+use evm_exec::{Hart, REGISTERS};
 use evm_isa::Register;
 use evm_journal::{Machine, Stages};
 use evm_model::{Counts, Mutex, Processor, Task};
@@ -13,7 +13,7 @@ use evm_room::{Refused, push_text};
 
 // A register by its number.
 fn value(hart: &Hart, r: u8) -> u64
-    requires { r < 32 }
+    requires { r < REGISTERS }
     ensures { result ≡ register_of hart.now.regs r }
 {
     match Register::new(r) {
@@ -23,7 +23,7 @@ fn value(hart: &Hart, r: u8) -> u64
 }
 
 fn push_register_line(out: &mut String, r: u8, hart: &Hart) -> Result<(), Refused>
-    requires { r + 3 < 32 }
+    requires { r + 3 < REGISTERS }
     ensures { Appends (four_registers r hart.now.regs) out.old out.new result }
 {
     let line = [
@@ -52,7 +52,7 @@ fn push_register_line(out: &mut String, r: u8, hart: &Hart) -> Result<(), Refuse
 fn push_registers(out: &mut String, hart: &Hart) -> Result<(), Refused>
     ensures { Appends (registers_text hart.now.regs) out.old out.new result }
 {
-    for line in 0..8u8 {
+    for line in 0..REGISTERS / 4 {
         match push_register_line(out, line * 4, hart) {
             Ok(()) => {}
             Err(refused) => return Err(refused),

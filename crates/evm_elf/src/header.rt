@@ -5,6 +5,7 @@ ghost use Rattle.evm_elf.specs.Fields.{number, header_at, program_header};
 ghost use Rattle.evm_elf.specs.Faults.{is_load, load_of, is_dynamic, passes_end, leaves_range, share, is_overfull, occupies};
 
 use byteorder::{ByteOrder, LittleEndian};
+use evm_ram::{BASE, SIZE_LIMIT};
 
 /// `p_type` of a segment to be loaded, of dynamic linking and of an interpreter's name.
 pub(crate) const PT_LOAD: u32 = 1;
@@ -14,9 +15,9 @@ const PT_DYNAMIC: u32 = 2;
 const PT_INTERP: u32 = 3;
 
 /// The range of memory of images, its end excluded.
-pub(crate) const RANGE_START: u64 = 0x8000_0000;
+pub(crate) const RANGE_START: u64 = BASE;
 
-pub(crate) const RANGE_END: u64 = 0x8100_0000;
+pub(crate) const RANGE_END: u64 = BASE + SIZE_LIMIT;
 
 /// The fields of a program header that matter here.
 #[derive(Clone, Copy, Debug)]

@@ -23,7 +23,7 @@ pub use laws::{
     written_is_read,
 };
 pub use reading::read_image;
-pub use writing::{NoMemory, PROGRAM_MAX, write_bytes, write_image};
+pub use writing::{PROGRAM_MAX, write_bytes, write_image};
 
 #[cfg(test)]
 mod tests;

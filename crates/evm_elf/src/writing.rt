@@ -7,23 +7,12 @@ ghost use Rattle.evm_room.specs.Growth.{RefusedWithin};
 
 use crate::header::{PT_LOAD, RANGE_START};
 use evm_asm::Program;
-use evm_room::{Refused, grow};
-use std::alloc::{AllocError, Global};
-use thiserror::Error;
+use evm_ram::SIZE_LIMIT;
+use evm_room::{NoMemory, Refused, grow};
+use std::alloc::Global;
 
 /// The most bytes that a program can have, those of the range of memory.
-pub const PROGRAM_MAX: usize = 0x0100_0000;
-
-/// Memory ran out.
-#[derive(Clone, Copy, Debug, Drop, PartialEq, Eq, Error)]
-#[error("out of memory")]
-pub struct NoMemory;
-
-impl From<AllocError> for NoMemory {
-    fn from(_e: AllocError) -> NoMemory {
-        NoMemory
-    }
-}
+pub const PROGRAM_MAX: usize = SIZE_LIMIT as usize;
 
 /// `p_flags` of a segment that may be read, written and executed.
 const READ_WRITE_EXECUTE: u32 = 7;

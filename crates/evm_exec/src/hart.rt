@@ -2,11 +2,17 @@ ghost use Rattle.std.specs.Prelude.{◌≡◌, slice_index};
 
 use evm_isa::Register;
 
+/// How many integer registers there are, x0 among them.
+pub const REGISTERS: u8 = 32;
+
+/// The same number, for arrays with an entry for each register.
+pub const REGISTER_COUNT: usize = REGISTERS as usize;
+
 /// A hardware thread: the integer registers and the address of the next instruction (RISC-V
 /// Unprivileged ISA 20191213, section 2.1). Register x0 reads 0 whatever stands in its place.
 #[derive(Clone, Copy, Debug, PartialEq, Eq)]
 pub struct Hart {
-    pub regs: [u64; 32],
+    pub regs: [u64; REGISTER_COUNT],
     pub pc: u64,
 }
 
@@ -43,7 +49,7 @@ impl Default for Hart {
     /// All registers and the pc are 0.
     fn default() -> Self {
         Hart {
-            regs: [0; 32],
+            regs: [0; REGISTER_COUNT],
             pc: 0,
         }
     }

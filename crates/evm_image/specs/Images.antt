@@ -1,6 +1,7 @@
 -- What an image holds, and what memory it fills.
 use Rattle.std.specs.Prelude.{◌≡◌, ◌⊎◌, ◌<◌, ◌≤◌, ℕ, ◌+◌, ◌-◌, ◌%◌, Bool, ◌&&◌, nat_lt, nat_le, if◌then◌else◌, List, [], ◌∷◌, length, slice_index, slice_get, Some}
 use Rattle.std.specs.List.{AllByRecursion}
+use Rattle.evm_ram.specs.declared.ram.TheConstants.{BASE, SIZE_LIMIT}
 
 -- a segment: where it lies in memory, its bytes, and how many bytes of memory it takes, zeros after its own
 pub record Loaded : Type 0 where
@@ -13,12 +14,12 @@ pub record Contents : Type 0 where
   pub entry : ℕ
   pub segments : List Loaded
 
--- the range that images lie in, its end excluded
+-- the range that images lie in, where RAM of the greatest size is; its end excluded
 abbrev pub range_start : ℕ
-range_start = 0x8000_0000
+range_start = BASE
 
 abbrev pub range_end : ℕ
-range_end = 0x8100_0000
+range_end = BASE + SIZE_LIMIT
 
 -- a segment takes an address
 abbrev pub Covers : Loaded → ℕ → Type 0

@@ -9,7 +9,7 @@ use Rattle.evm_lines.specs.Lines.{least_line}
 use Rattle.evm_elf.specs.evm_asm.Assembled.{IsWorded}
 use Rattle.evm_elf.specs.evm_asm.declared.output.ProgramLine.{ProgramLine}
 use Rattle.evm_exec.specs.declared.hart.Hart.{Hart}
-use Rattle.evm_ram.specs.declared.refusal.Refusal.{Refusal}
+use Rattle.evm_model.specs.declared.refusal.Refusal.{Refusal}
 use Rattle.evm_model.specs.Commands.{is_set}
 use Rattle.evm_model.specs.Instructions.{execute, stop}
 use Rattle.evm_model.specs.Memory.{fetch}

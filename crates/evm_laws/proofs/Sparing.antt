@@ -14,12 +14,12 @@ use Rattle.evm_exec.specs.declared.outcome.Effect.TheVariants.{Next, Load, Store
 use Rattle.evm_ram.specs.Bytes.{little_endian}
 use Rattle.evm_ram.specs.Laws.{bytes_at-elsewhere, read_at-elsewhere}
 use Rattle.evm_ram.specs.Ram.{read_at, write_at, poke_at}
-use Rattle.evm_ram.specs.declared.refusal.Refusal.{Refusal}
+use Rattle.evm_model.specs.declared.refusal.Refusal.{Refusal}
 use Rattle.evm_ram.specs.declared.width.Width.{Width}
 use Rattle.evm_ram.specs.declared.width.Width.TheVariants.{Word}
 use Rattle.evm_model.specs.Commands.{set_bits, set_breakpoint, unset_breakpoint, is_set}
 use Rattle.evm_model.specs.Instructions.{execute, execute_word, execute_inst, finish, finish_load, finish_store, stop}
-use Rattle.evm_model.specs.Memory.{fetch, read, write, with_ram, ram_or, poke}
+use Rattle.evm_model.specs.Memory.{fetch, with_number, write, with_ram, ram_or, poke}
 use Rattle.evm_model.specs.Pipes.{Pipe}
 use Rattle.evm_model.specs.Refusals.{refusal}
 use Rattle.evm_model.specs.Replay.{apply, apply_unless, left_by, replay}
@@ -36,7 +36,7 @@ use Rattle.evm_laws.specs.Running.{HasLine, skip_off}
 use Rattle.evm_laws.specs.Staying.{IsBeside, EffectSpares, StepSpares, Spares, ALineStays}
 
 -- ---- an instruction
-load-stays : (l : ProgramLine) (o : Option ℕ) (op : LoadOp) (rd c t : ℕ) (b : Board) → HasLine b.memory l → HasLine (finish_load o op rd c t b).memory l
+load-stays : (l : ProgramLine) (o : Option ℕ) (op : LoadOp) (rd c t : ℕ) (b : Board) → HasLine b.memory l → HasLine (finish_load (with_number o b.memory) op rd c t b).memory l
 load-stays l None op rd c t b h = h
 load-stays l (Some n) op rd c t b h = h
 
@@ -60,7 +60,7 @@ write-stays l width address value m n spares h e =
 finish-stays : (l : ProgramLine) (effect : Effect) (c t : ℕ) (b : Board) → EffectSpares l effect → HasLine b.memory l → HasLine (finish effect c t b).memory l
 unfolding finish
 finish-stays l (Next rd value pc) c t b spares h = h
-finish-stays l (Load op rd address) c t b spares h = load-stays l (read address (width_of_load op) b.memory) op rd c t b h
+finish-stays l (Load op rd address) c t b spares h = load-stays l (read_at b.memory.ram address (width_of_load op)) op rd c t b h
 finish-stays l (Store width address value) c t b spares h =
     store-stays l (write address width value b.memory) c t b (λ m e. write-stays l width address value b.memory m spares h e) h
 finish-stays l Call c t b spares h = h

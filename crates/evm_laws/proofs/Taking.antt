@@ -11,8 +11,8 @@ use Rattle.evm_elf.specs.Files.{image_of_bytes}
 use Rattle.evm_image.specs.Images.{Loaded, byte_at, range_start}
 use Rattle.evm_ram.specs.Ram.{bytes_at}
 use Rattle.evm_ram.specs.declared.ram.TheConstants.{BASE}
-use Rattle.evm_ram.specs.declared.refusal.Refusal.{Refusal}
-use Rattle.evm_ram.specs.declared.refusal.Refusal.TheVariants.{BadAddress}
+use Rattle.evm_model.specs.declared.refusal.Refusal.{Refusal}
+use Rattle.evm_model.specs.declared.refusal.Refusal.TheVariants.{BadAddress}
 use Rattle.evm_core.specs.evm_board.Room.{passes_ram}
 use Rattle.evm_core.specs.Load.{load}
 use Rattle.evm_model.specs.Harts.{first_hart}

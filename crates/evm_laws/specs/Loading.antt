@@ -5,8 +5,8 @@ use Rattle.evm_elf.specs.evm_asm.declared.output.ProgramLine.{ProgramLine}
 use Rattle.evm_elf.specs.Files.{image_of_bytes}
 use Rattle.evm_image.specs.Images.{range_start}
 use Rattle.evm_ram.specs.Ram.{bytes_at}
-use Rattle.evm_ram.specs.declared.refusal.Refusal.{Refusal}
-use Rattle.evm_ram.specs.declared.refusal.Refusal.TheVariants.{BadAddress}
+use Rattle.evm_model.specs.declared.refusal.Refusal.{Refusal}
+use Rattle.evm_model.specs.declared.refusal.Refusal.TheVariants.{BadAddress}
 use Rattle.evm_core.specs.Load.{load}
 use Rattle.evm_model.specs.Harts.{first_hart}
 use Rattle.evm_model.specs.Replay.{bad_boot, start, accept, apply}

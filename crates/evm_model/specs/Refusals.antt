@@ -1,16 +1,34 @@
 -- Which events are refused: a table of tests, of which the first that applies, in the order of their numbers, is answered.
 use Rattle.std.specs.Prelude.{ℕ, ◌%◌, ◌==◌, List, [], ◌∷◌, Option, Some, None, Bool, true, false, not, ◌&&◌, nat_lt, nat_le, is_none, if◌then◌else◌, slice_get, length}
+use Rattle.evm_exec.specs.declared.hart.TheConstants.{REGISTERS}
 use Rattle.evm_lines.specs.declared.TheConstants.{LINES}
 use Rattle.evm_ram.specs.Ram.{bytes_at}
-use Rattle.evm_ram.specs.declared.refusal.Refusal.{Refusal}
-use Rattle.evm_ram.specs.declared.refusal.Refusal.TheVariants.{Full, NoSuchCpu, NoSuchLine, NotStopped, NoTask, BadAddress, BadRegister, NoSlot, NoBreakpoint}
 use Rattle.evm_model.specs.Commands.{is_set}
 use Rattle.evm_model.specs.Settle.{current}
 use Rattle.evm_model.specs.State.{State, Board}
 use Rattle.evm_model.specs.declared.limits.TheConstants.{BREAKPOINT_LIMIT, POKE_LIMIT}
 use Rattle.evm_model.specs.declared.processor.Processor.{Processor}
+use Rattle.evm_model.specs.declared.refusal.Refusal.{Refusal}
+use Rattle.evm_model.specs.declared.refusal.Refusal.TheVariants.{Full, NoSuchCpu, NoSuchLine, NotStopped, NoTask, BadAddress, BadRegister, NoSlot, NoBreakpoint, BadSize, NoMemory, Started, PortsOut, SeatsOut}
 use Rattle.evm_model.specs.Event.{Event}
 use Rattle.evm_model.specs.declared.event.Event.TheVariants.{Step, Raise, Bell, Stop, Go, StepI, SetReg, SetPc, Poke, Break, Unbreak}
+
+-- the number under which a refusal is told
+abbrev pub number_of : Refusal → ℕ
+number_of Full = 1
+number_of NoSuchCpu = 2
+number_of NoSuchLine = 3
+number_of NotStopped = 4
+number_of NoTask = 5
+number_of BadAddress = 6
+number_of BadRegister = 7
+number_of NoSlot = 8
+number_of NoBreakpoint = 9
+number_of BadSize = 10
+number_of NoMemory = 11
+number_of Started = 12
+number_of PortsOut = 13
+number_of SeatsOut = 14
 
 abbrev pub no_such_cpu : ℕ → Board → Bool
 no_such_cpu c b = is_none (slice_get b.parts.processors c)
@@ -29,7 +47,7 @@ abbrev pub no_task : ℕ → Board → Bool
 no_task c b = is_none (current c b.parts)
 
 abbrev pub bad_register : ℕ → Bool
-bad_register r = if r == 0 then true else nat_le 32 r
+bad_register r = if r == 0 then true else nat_le REGISTERS r
 
 abbrev pub misaligned : ℕ → Bool
 misaligned address = not (address % 4 == 0)

@@ -12,6 +12,7 @@ mod mode;
 mod mutex;
 mod processor;
 mod profile;
+mod refusal;
 mod stage;
 mod task;
 
@@ -30,5 +31,6 @@ pub use mode::Mode;
 pub use mutex::{Mutex, Protocol};
 pub use processor::Processor;
 pub use profile::Profile;
+pub use refusal::Refusal;
 pub use stage::{Stage, StageLog};
 pub use task::{Class, Task, TaskState, Wait};

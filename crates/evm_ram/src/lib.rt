@@ -1,12 +1,10 @@
-//! RAM as a list of bytes, and the refusals of the machine.
+//! RAM as a list of bytes.
 #![tactic(auto)]
 
 mod ram;
-mod refusal;
 mod width;
 
-pub use ram::{BASE, NoMemory, Ram, SIZE_LIMIT};
-pub use refusal::Refusal;
+pub use ram::{BASE, Ram, SIZE_LIMIT};
 pub use width::Width;
 
 #[cfg(test)]

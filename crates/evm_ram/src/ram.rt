@@ -15,10 +15,6 @@ pub const BASE: u64 = 0x8000_0000;
 /// The most bytes that RAM may have.
 pub const SIZE_LIMIT: u64 = 16_777_216;
 
-/// Memory for the bytes was refused.
-#[derive(Clone, Copy, Debug, PartialEq, Eq)]
-pub struct NoMemory;
-
 /// Bytes, of which the first stands at the address [`BASE`].
 #[derive(Debug, Drop)]
 pub struct Ram {

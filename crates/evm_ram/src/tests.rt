@@ -1,6 +1,6 @@
 //! Numbers and the bytes that they are stored as, at the edges of RAM.
 
-use crate::{BASE, Ram, Refusal, Width};
+use crate::{BASE, Ram, Width};
 use evm_room::Refused;
 use std::alloc::Global;
 use std::test::Fail;
@@ -129,26 +129,4 @@ fn pokes_within_the_ends(rt: HostRuntime) -> Result<(), Fail> {
     assert!(rt; ram.bytes(BASE + 3, 2).is_none());
     assert!(rt; ram.bytes(u64::MAX, 0).is_some());
     Ok(())
-}
-
-#[test]
-fn names_each_refusal(rt: HostRuntime) {
-    for (refusal, number, name) in [
-        (Refusal::Full, 1, "Full"),
-        (Refusal::NoSuchCpu, 2, "NoSuchCpu"),
-        (Refusal::NoSuchLine, 3, "NoSuchLine"),
-        (Refusal::NotStopped, 4, "NotStopped"),
-        (Refusal::NoTask, 5, "NoTask"),
-        (Refusal::BadAddress, 6, "BadAddress"),
-        (Refusal::BadRegister, 7, "BadRegister"),
-        (Refusal::NoSlot, 8, "NoSlot"),
-        (Refusal::NoBreakpoint, 9, "NoBreakpoint"),
-        (Refusal::BadSize, 10, "BadSize"),
-        (Refusal::NoMemory, 11, "NoMemory"),
-        (Refusal::Started, 12, "Started"),
-        (Refusal::PortsOut, 13, "PortsOut"),
-        (Refusal::SeatsOut, 14, "SeatsOut"),
-    ] {
-        assert_eq!(rt; refusal.number(), number, "of {name}");
-    }
 }

@@ -15,8 +15,8 @@ use Rattle.evm_model.specs.declared.event.Answer.{Answer}
 use Rattle.evm_model.specs.Event.{Event}
 use Rattle.evm_model.specs.declared.event.Event.TheVariants.{Step}
 use Rattle.evm_model.specs.declared.limits.TheConstants.{CAPACITY_LIMIT}
-use Rattle.evm_ram.specs.declared.refusal.Refusal.{Refusal}
-use Rattle.evm_ram.specs.declared.refusal.Refusal.TheVariants.{Full, BadSize}
+use Rattle.evm_model.specs.declared.refusal.Refusal.{Refusal}
+use Rattle.evm_model.specs.declared.refusal.Refusal.TheVariants.{Full, BadSize}
 use Rattle.evm_serve.specs.evm_core.Load.{load, load_unless, load_refusal}
 use Rattle.evm_serve.specs.evm_core.Steps.{behind_step, steps}
 use Rattle.evm_serve.proofs.evm_rules.Replays.{accepted, accepted-journal, IsReplayOf-step, empty_as_replay}

@@ -12,7 +12,7 @@ use Rattle.evm_model.specs.declared.event.Answer.{Answer}
 use Rattle.evm_model.specs.Event.{Event}
 use Rattle.evm_model.specs.declared.boot.Boot.{Boot}
 use Rattle.evm_model.specs.declared.event.Event.TheVariants.{Step, Tick, Raise, Bell, Stop, Go, StepI, SetReg, SetPc, Poke, Break, Unbreak}
-use Rattle.evm_ram.specs.declared.refusal.Refusal.{Refusal}
+use Rattle.evm_model.specs.declared.refusal.Refusal.{Refusal}
 use Rattle.evm_serve.specs.evm_debug.Line.{IsSpelled}
 use Rattle.evm_serve.specs.evm_debug.LineReading.{line_at}
 use Rattle.evm_serve.specs.evm_debug.Views.{shown}

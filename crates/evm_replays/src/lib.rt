@@ -8,7 +8,7 @@ ghost use Rattle.evm_serve.specs.evm_journal.Journal.{journal_text};
 ghost use Rattle.evm_replays.specs.Machines.{ShowsAgain};
 ghost use Rattle.evm_replays.specs.Scripts.{PrintsItsJournal, ShowsItsMachine};
 
-use evm_ram::NoMemory;
+use evm_room::NoMemory;
 use evm_serve::{Machine, write_journal};
 use std::alloc::Global;
 

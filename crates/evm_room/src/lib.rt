@@ -3,7 +3,9 @@
 
 mod growth;
 
-pub use growth::{Refused, copies, grow, grow_map, grow_text, push_text, ring, with_room};
+pub use growth::{
+    NoMemory, Refused, copies, grow, grow_map, grow_text, push_text, ring, with_room,
+};
 
 #[cfg(test)]
 mod tests;

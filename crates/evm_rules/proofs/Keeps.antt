@@ -33,7 +33,7 @@ use Rattle.evm_model.specs.declared.processor.Processor.{Processor}
 use Rattle.evm_model.specs.declared.stage.Stage.{Stage}
 use Rattle.evm_model.specs.declared.stage.Stage.TheVariants.{OutOfBand, InBand}
 use Rattle.evm_model.specs.declared.task.Task.{Task}
-use Rattle.evm_ram.specs.declared.refusal.Refusal.TheVariants.{BadAddress}
+use Rattle.evm_model.specs.declared.refusal.Refusal.TheVariants.{BadAddress}
 use Rattle.evm_model.specs.Refusals.{board_refusal}
 use Rattle.evm_walk.proofs.Refused.{passes}
 use Rattle.evm_rules.proofs.Aligned.{IsAligned, next-aligned, does-aligned}
@@ -160,9 +160,9 @@ receive-but c l k g = pipe-but c (receive l) k (received-bits l) (IsPipe-receive
 
 -- ---- an instruction
 module _ (c t : ℕ) where
-  load-but : (o : Option ℕ) (op : LoadOp) (rd : ℕ) (b : Board) → Good b.parts → IsOwn c t b.parts.tasks → current c b.parts ≡ Some t → GoodBut c (finish_load o op rd c t b).parts
+  load-but : (o : Option (ℕ × Memory)) (op : LoadOp) (rd : ℕ) (b : Board) → Good b.parts → IsOwn c t b.parts.tasks → current c b.parts ≡ Some t → GoodBut c (finish_load o op rd c t b).parts
   load-but None op rd b g o r = fault-but c t _ b.parts g o r
-  load-but (Some n) op rd b g o r = good_but c _ (hart-good t _ b.parts (λ hart. next-aligned hart.pc) g)
+  load-but (Some loaded) op rd b g o r = good_but c _ (hart-good t _ b.parts (λ hart. next-aligned hart.pc) g)
 
   store-but : (o : Option Memory) (b : Board) → Good b.parts → IsOwn c t b.parts.tasks → current c b.parts ≡ Some t → GoodBut c (finish_store o c t b).parts
   store-but None b g o r = fault-but c t _ b.parts g o r

@@ -10,12 +10,12 @@ use Rattle.evm_exec.specs.Memory.{width_of_load}
 use Rattle.evm_exec.specs.declared.hart.Hart.{Hart}
 use Rattle.evm_exec.specs.declared.outcome.Effect.{Effect}
 use Rattle.evm_exec.specs.declared.outcome.Effect.TheVariants.{Next, Load, Store, Call, Break, Misaligned}
-use Rattle.evm_ram.specs.Ram.{write_at, poke_at}
+use Rattle.evm_ram.specs.Ram.{read_at, write_at, poke_at}
 use Rattle.evm_ram.specs.Laws.{length-write_at, length-poke_at}
 use Rattle.evm_ram.specs.declared.width.Width.{Width}
 use Rattle.evm_model.specs.Commands.{set_bits, is_set, set_breakpoint, unset_breakpoint}
 use Rattle.evm_model.specs.Instructions.{stop, finish_load, finish_store, finish, execute_inst, execute_word, execute}
-use Rattle.evm_model.specs.Memory.{fetch, read, write, with_ram, ram_or, poke}
+use Rattle.evm_model.specs.Memory.{fetch, with_number, write, with_ram, ram_or, poke}
 use Rattle.evm_model.specs.Pipes.{Pipe}
 use Rattle.evm_model.specs.Rows.{run, step_hart, step_current, step_wire, step_pipe, step_processor, step, single_step, row}
 use Rattle.evm_model.specs.State.{Memory, Board, on_parts, on_processor}
@@ -45,7 +45,7 @@ poke-ram address bytes m = poked (poke_at m.ram address bytes) m (λ ram f. leng
 
 -- ---- an instruction
 module _ (c t : ℕ) where
-  load-ram : (o : Option ℕ) (op : LoadOp) (rd : ℕ) (b : Board) → HasSameRam b.memory (finish_load o op rd c t b).memory
+  load-ram : (o : Option ℕ) (op : LoadOp) (rd : ℕ) (b : Board) → HasSameRam b.memory (finish_load (with_number o b.memory) op rd c t b).memory
   load-ram None op rd b = refl
   load-ram (Some n) op rd b = refl
 
@@ -56,7 +56,7 @@ module _ (c t : ℕ) where
   finish-ram : (effect : Effect) (b : Board) → HasSameRam b.memory (finish effect c t b).memory
   unfolding finish
   finish-ram (Next rd value pc) b = refl
-  finish-ram (Load op rd address) b = load-ram (read address (width_of_load op) b.memory) op rd b
+  finish-ram (Load op rd address) b = load-ram (read_at b.memory.ram address (width_of_load op)) op rd b
   finish-ram (Store width address value) b = store-ram (write address width value b.memory) b (λ m e. write-ram address width value b.memory m e)
   finish-ram Call b = refl
   finish-ram Break b = refl

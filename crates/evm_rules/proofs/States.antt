@@ -5,8 +5,8 @@ use Rattle.std.proofs.lemmas.List.Sums.{sum_by-append, count_by-le-length}
 use Rattle.std.proofs.lemmas.List.{length-set, length-replicate}
 use Rattle.std.proofs.lemmas.Bool.Decides.{nat_tests}
 use Rattle.evm_ram.specs.declared.ram.TheConstants.{BASE}
-use Rattle.evm_ram.specs.declared.refusal.Refusal.{Refusal}
-use Rattle.evm_ram.specs.declared.refusal.Refusal.TheVariants.{Full}
+use Rattle.evm_model.specs.declared.refusal.Refusal.{Refusal}
+use Rattle.evm_model.specs.declared.refusal.Refusal.TheVariants.{Full}
 use Rattle.evm_exec.specs.declared.hart.Hart.{Hart}
 use Rattle.evm_model.specs.Bounds.{PER_EVENT, STAMPS_PER_EVENT, PipesUpTo, HeldUpTo}
 use Rattle.evm_model.specs.Commands.{tick, set_bits, on_number, set_breakpoint, unset_breakpoint}

@@ -8,8 +8,8 @@ use Rattle.evm_exec.specs.declared.hart.Hart.{Hart}
 use Rattle.evm_lines.specs.Lines.{has_line}
 use Rattle.evm_ram.specs.Laws.{length-poke_at}
 use Rattle.evm_ram.specs.Ram.{bytes_at, poke_at, is_inside}
-use Rattle.evm_ram.specs.declared.refusal.Refusal.{Refusal}
-use Rattle.evm_ram.specs.declared.refusal.Refusal.TheVariants.{Full, NoTask, BadAddress}
+use Rattle.evm_model.specs.declared.refusal.Refusal.{Refusal}
+use Rattle.evm_model.specs.declared.refusal.Refusal.TheVariants.{Full, NoTask, BadAddress}
 use Rattle.evm_model.specs.Commands.{tick, set_bits, on_number, set_breakpoint, unset_breakpoint}
 use Rattle.evm_model.specs.Harts.{set_register, set_pc}
 use Rattle.evm_model.specs.Instructions.{stop}

@@ -10,11 +10,11 @@ use Rattle.evm_exec.specs.Memory.{width_of_load}
 use Rattle.evm_exec.specs.declared.hart.Hart.{Hart}
 use Rattle.evm_exec.specs.declared.outcome.Effect.{Effect}
 use Rattle.evm_exec.specs.declared.outcome.Effect.TheVariants.{Load, Store, Call}
-use Rattle.evm_ram.specs.Ram.{write_at}
+use Rattle.evm_ram.specs.Ram.{read_at, write_at}
 use Rattle.evm_ram.specs.declared.width.Width.{Width}
 use Rattle.evm_model.specs.Commands.{is_set}
 use Rattle.evm_model.specs.Instructions.{finish_load, finish_store, finish, execute_inst, execute_word, execute}
-use Rattle.evm_model.specs.Memory.{fetch, read, write, with_ram}
+use Rattle.evm_model.specs.Memory.{fetch, with_number, write, with_ram}
 use Rattle.evm_model.specs.Pipes.{Pipe}
 use Rattle.evm_model.specs.Rows.{run, step_hart, step_current, step_wire, step_pipe, step_processor, step}
 use Rattle.evm_model.specs.Settle.{current, current_of, settle_and_nudge}
@@ -59,7 +59,7 @@ with_ram-some : (o : Option (List ℕ)) (old new : Memory) → with_ram o old �
 with_ram-some None old new e = cc
 with_ram-some (Some ram) old new e = let same : record old { ram = ram } ≡ new = cc in ap Some (ap (λ (m : Memory). m.ram) same)
 
-loads : (effect : Effect) (o : Option ℕ) (op : LoadOp) (rd c t : ℕ) (b : Board) → Stores effect b (finish_load o op rd c t b)
+loads : (effect : Effect) (o : Option ℕ) (op : LoadOp) (rd c t : ℕ) (b : Board) → Stores effect b (finish_load (with_number o b.memory) op rd c t b)
 loads effect None op rd c t b = record { breakpoints = refl; memory = inl refl }
 loads effect (Some n) op rd c t b = record { breakpoints = refl; memory = inl refl }
 
@@ -72,7 +72,7 @@ stores width address value c t (Some memory) b e = record {
 
 effects : (effect : Effect) (c t : ℕ) (b : Board) → Stores effect b (finish effect c t b)
 unfolding finish
-effects (Load op rd address) c t b = loads (Load op rd address) (read address (width_of_load op) b.memory) op rd c t b
+effects (Load op rd address) c t b = loads (Load op rd address) (read_at b.memory.ram address (width_of_load op)) op rd c t b
 effects (Store width address value) c t b = stores width address value c t (write address width value b.memory) b refl
 effects _ c t b = record { breakpoints = refl; memory = inl refl }
 

@@ -1,9 +1,9 @@
 -- The table's order is that of the numbers.
 use Rattle.std.proofs.Common.{◌≡◌, ℕ, ◌<◌, List, [], ◌∷◌, Bool, true, false, Some, None, ◌⊎◌, inl, inr, refl, ap, sym, ◌∙◌, arith}
 use Rattle.std.specs.Prelude.{◌-◌, zero, suc, slice_get, if◌then◌else◌}
-use Rattle.evm_ram.specs.Refusal.{number_of}
-use Rattle.evm_ram.specs.declared.refusal.Refusal.{Refusal}
-use Rattle.evm_ram.specs.declared.refusal.Refusal.TheVariants.{Full, NoSuchCpu, NoSuchLine, NotStopped, NoTask, BadAddress, BadRegister, NoSlot, NoBreakpoint, BadSize, NoMemory, Started, PortsOut, SeatsOut}
+use Rattle.evm_model.specs.Refusals.{number_of}
+use Rattle.evm_model.specs.declared.refusal.Refusal.{Refusal}
+use Rattle.evm_model.specs.declared.refusal.Refusal.TheVariants.{Full, NoSuchCpu, NoSuchLine, NotStopped, NoTask, BadAddress, BadRegister, NoSlot, NoBreakpoint, BadSize, NoMemory, Started, PortsOut, SeatsOut}
 use Rattle.evm_model.specs.Refusals.{board_refusal, board_refusals, first_that, refusal}
 use Rattle.evm_model.specs.State.{State}
 use Rattle.evm_model.specs.Event.{Event}

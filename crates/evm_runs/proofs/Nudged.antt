@@ -24,8 +24,8 @@ use Rattle.evm_model.specs.declared.counts.Counts.{Counts}
 use Rattle.evm_model.specs.declared.event.Answer.{Answer}
 use Rattle.evm_model.specs.declared.event.Event.TheVariants.{Step, Tick, Raise, Bell, Stop, Go, StepI, SetReg, SetPc, Poke, Break, Unbreak}
 use Rattle.evm_model.specs.declared.processor.Processor.{Processor}
-use Rattle.evm_ram.specs.declared.refusal.Refusal.{Refusal}
-use Rattle.evm_ram.specs.declared.refusal.Refusal.TheVariants.{Full}
+use Rattle.evm_model.specs.declared.refusal.Refusal.{Refusal}
+use Rattle.evm_model.specs.declared.refusal.Refusal.TheVariants.{Full}
 use Rattle.evm_walk.proofs.Rows.{MOVES, acting, may_raise, row_walks, Stepped, steps}
 use Rattle.evm_walk.proofs.Walk.{Actor, ArePipes, start as begun}
 use Rattle.evm_rules.proofs.Keeps.{bits-good, step-good}

@@ -1,8 +1,8 @@
 -- Of several refusals that apply the one of least number is told.
 use Rattle.std.specs.Prelude.{◌≡◌, ◌<◌, Some, None, Bool, true, false}
-use Rattle.evm_ram.specs.Refusal.{number_of}
-use Rattle.evm_ram.specs.declared.refusal.Refusal.{Refusal}
-use Rattle.evm_ram.specs.declared.refusal.Refusal.TheVariants.{Full}
+use Rattle.evm_model.specs.Refusals.{number_of}
+use Rattle.evm_model.specs.declared.refusal.Refusal.{Refusal}
+use Rattle.evm_model.specs.declared.refusal.Refusal.TheVariants.{Full}
 use Rattle.evm_model.specs.Refusals.{applies, is_full, refusal}
 use Rattle.evm_model.specs.State.{State}
 use Rattle.evm_model.specs.Event.{Event}

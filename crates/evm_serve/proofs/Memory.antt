@@ -3,8 +3,8 @@ use Rattle.std.proofs.Common.{◌≡◌, ℕ, ◌≤◌, List, Bool, true, false
 use Rattle.std.specs.Prelude.{Result, Ok, Err, ◌==◌, if◌then◌else◌, Some, None}
 use Rattle.std.specs.List.{list_any}
 use Rattle.evm_room.specs.Growth.{RefusedWithin}
-use Rattle.evm_ram.specs.declared.refusal.Refusal.{Refusal}
-use Rattle.evm_ram.specs.declared.refusal.Refusal.TheVariants.{BadAddress, Started, NoMemory}
+use Rattle.evm_model.specs.declared.refusal.Refusal.{Refusal}
+use Rattle.evm_model.specs.declared.refusal.Refusal.TheVariants.{BadAddress, Started, NoMemory}
 use Rattle.evm_debug.specs.evm_board.Room.{passes_ram}
 use Rattle.evm_image.specs.Images.{Contents}
 use Rattle.evm_model.specs.State.{State}

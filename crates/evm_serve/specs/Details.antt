@@ -18,9 +18,10 @@ use Rattle.evm_model.specs.Event.{Event}
 use Rattle.evm_model.specs.Replay.{bad_cpus, bad_ram}
 use Rattle.evm_model.specs.declared.boot.Boot.{Boot}
 use Rattle.evm_model.specs.declared.event.Event.TheVariants as events
+use Rattle.evm_model.specs.declared.limits.TheConstants.{POKE_LIMIT}
 use Rattle.evm_ram.specs.declared.ram.TheConstants.{BASE}
-use Rattle.evm_ram.specs.declared.refusal.Refusal.{Refusal}
-use Rattle.evm_ram.specs.declared.refusal.Refusal.TheVariants.{BadAddress, BadSize}
+use Rattle.evm_model.specs.declared.refusal.Refusal.{Refusal}
+use Rattle.evm_model.specs.declared.refusal.Refusal.TheVariants.{BadAddress, BadSize}
 use Rattle.evm_serve.specs.Faults.{refusal_sentence}
 use Rattle.evm_serve.specs.LineDetails.{byte_detail, bad_line_detail, first_forms, grammar_detail}
 use Rattle.evm_serve.specs.Lookup.{odd_byte, line_numbered, line_read, boot_among, ram_of}
@@ -87,7 +88,7 @@ event_detail end _ = refusal_sentence None BadAddress
 abbrev pub mem_detail : ℕ → ℕ → ℕ → List ℕ
 mem_detail address count end =
     if count == 0 then codes "refused: mem shows 1 to 64 bytes, and 0 are asked for (BadAddress, 6)"
-    else (if nat_lt 64 count then codes "refused: mem shows 1 to 64 bytes, and " ++ (decimal count ++ codes " are asked for (BadAddress, 6)")
+    else (if nat_lt POKE_LIMIT count then codes "refused: mem shows 1 to 64 bytes, and " ++ (decimal count ++ codes " are asked for (BadAddress, 6)")
     else outside_detail (codes "refused: a byte of the mem at ") address end)
 
 abbrev pub view_detail : ℕ → View → List ℕ

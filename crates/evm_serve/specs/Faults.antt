@@ -1,9 +1,9 @@
 -- Why a run stops before all is done: the line that its report ends with, and a sentence.
 use Rattle.std.specs.Prelude.{ℕ, List, ◌++◌, Option, Some, None, codes}
 use Rattle.evm_debug.specs.evm_text.Written.{decimal, hexadecimal}
-use Rattle.evm_ram.specs.Refusal.{number_of}
-use Rattle.evm_ram.specs.declared.refusal.Refusal.{Refusal}
-use Rattle.evm_ram.specs.declared.refusal.Refusal.TheVariants as refusals
+use Rattle.evm_model.specs.Refusals.{number_of}
+use Rattle.evm_model.specs.declared.refusal.Refusal.{Refusal}
+use Rattle.evm_model.specs.declared.refusal.Refusal.TheVariants as refusals
 use Rattle.evm_elf.specs.evm_asm_lexer.Faults as words
 use Rattle.evm_elf.specs.evm_asm_lexer.Sentences.{asm_sentence}
 use Rattle.evm_elf.specs.Faults.{file_fault_number}

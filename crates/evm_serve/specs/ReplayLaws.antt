@@ -2,7 +2,7 @@
 use Rattle.std.specs.Prelude.{◌≡◌, ◌+◌, false, List, [], ◌∷◌, ◌++◌, None, Ok, Err, length}
 use Rattle.evm_debug.specs.evm_core.Load.{load}
 use Rattle.evm_image.specs.Images.{Contents}
-use Rattle.evm_ram.specs.declared.refusal.Refusal.{Refusal}
+use Rattle.evm_model.specs.declared.refusal.Refusal.{Refusal}
 use Rattle.evm_model.specs.State.{State}
 use Rattle.evm_model.specs.Replay.{start, apply, bad_boot, IsReplayOf}
 use Rattle.evm_model.specs.Event.{Event}

@@ -4,8 +4,8 @@ use Rattle.evm_debug.specs.evm_core.Load.{load}
 use Rattle.evm_image.specs.Images.{Contents}
 use Rattle.evm_serve.specs.Given.{Given}
 use Rattle.evm_serve.specs.Memory.{MemoryRefused}
-use Rattle.evm_ram.specs.declared.refusal.Refusal.{Refusal}
-use Rattle.evm_ram.specs.declared.refusal.Refusal.TheVariants.{BadSize, NoMemory}
+use Rattle.evm_model.specs.declared.refusal.Refusal.{Refusal}
+use Rattle.evm_model.specs.declared.refusal.Refusal.TheVariants.{BadSize, NoMemory}
 use Rattle.evm_model.specs.State.{State}
 use Rattle.evm_model.specs.Replay.{start, bad_boot}
 use Rattle.evm_model.specs.declared.boot.Boot.{Boot}

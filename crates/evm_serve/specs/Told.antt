@@ -1,6 +1,6 @@
 -- What a run of a script tells: its text and what it came to.
 use Rattle.std.specs.Prelude.{ℕ, ◌+◌, List, [], ◌∷◌, ◌++◌, Option, Some, None, Result, Ok, Err, codes}
-use Rattle.evm_ram.specs.declared.refusal.Refusal.{Refusal}
+use Rattle.evm_model.specs.declared.refusal.Refusal.{Refusal}
 use Rattle.evm_debug.specs.evm_core.Steps.{steps}
 use Rattle.evm_model.specs.State.{State}
 use Rattle.evm_model.specs.Replay.{apply}

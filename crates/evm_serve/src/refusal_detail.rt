@@ -12,7 +12,7 @@ use crate::lookup::ram_of;
 use crate::sentence::{Number, Sentence};
 use evm_debug::{Boot, Event, Line, Refusal, View};
 use evm_image::{Image, Segment};
-use evm_model::{PROCESSOR_LIMIT, RAM_LEAST, RAM_UNIT};
+use evm_model::{POKE_LIMIT, PROCESSOR_LIMIT, RAM_LEAST, RAM_UNIT};
 use evm_ram::{BASE, SIZE_LIMIT};
 
 fn bad_cpus(cpus: u64) -> bool
@@ -177,7 +177,7 @@ fn mem_detail(address: u64, count: u64, end: u64) -> Sentence
 {
     if count == 0 {
         Sentence::Plain("refused: mem shows 1 to 64 bytes, and 0 are asked for (BadAddress, 6)")
-    } else if count > 64 {
+    } else if count > POKE_LIMIT as u64 {
         Sentence::OfOne(
             "refused: mem shows 1 to 64 bytes, and ",
             Number::Decimal(count),

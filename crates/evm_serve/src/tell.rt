@@ -22,7 +22,7 @@ use evm_debug::{
     read_short,
 };
 use evm_model::{Block, NoBytes};
-use evm_ram::NoMemory;
+use evm_room::NoMemory;
 use std::alloc::Global;
 
 // A boot, which puts the image into the machine, if one is given.

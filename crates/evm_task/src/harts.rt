@@ -7,7 +7,7 @@ ghost use Rattle.std.specs.Option.{option_copied_mut};
 ghost use Rattle.evm_model.specs.Lists.{change};
 
 use arrayvec::ArrayVec;
-use evm_exec::Hart;
+use evm_exec::{Hart, REGISTER_COUNT};
 use evm_isa::Register;
 use evm_model::TASK_LIMIT;
 use std::marker::Model;
@@ -71,7 +71,7 @@ impl Harts {
         requires { length self.old < TASK_LIMIT }
         ensures { self.new ≡ self.old ++ spawned_hart entry value ∷ [] }
     {
-        let mut regs = [0; 32];
+        let mut regs = [0; REGISTER_COUNT];
         regs[10] = value;
         self.harts.push(Hart { regs, pc: entry });
     }

@@ -2,8 +2,8 @@
 use Rattle.std.proofs.Common.{◌≡◌, ℕ, ◌<◌, Bool, true, false, Option, Some, None, refl, leb-false}
 use Rattle.std.specs.Prelude.{if◌then◌else◌}
 use Rattle.evm_lines.specs.declared.TheConstants.{LINES}
-use Rattle.evm_ram.specs.declared.refusal.Refusal.{Refusal}
-use Rattle.evm_ram.specs.declared.refusal.Refusal.TheVariants.{NoSuchCpu, NoSuchLine, NotStopped, NoTask, BadAddress, BadRegister, NoSlot, NoBreakpoint}
+use Rattle.evm_model.specs.declared.refusal.Refusal.{Refusal}
+use Rattle.evm_model.specs.declared.refusal.Refusal.TheVariants.{NoSuchCpu, NoSuchLine, NotStopped, NoTask, BadAddress, BadRegister, NoSlot, NoBreakpoint}
 use Rattle.evm_model.specs.Refusals.{applies, board_refusal, no_such_line}
 use Rattle.evm_model.specs.State.{Board}
 use Rattle.evm_model.specs.Event.{Event}

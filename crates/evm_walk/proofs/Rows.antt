@@ -30,7 +30,7 @@ use Rattle.evm_model.specs.declared.fault.Fault.{Fault}
 use Rattle.evm_model.specs.declared.event.Event.TheVariants.{Step, Tick, Raise, Bell, Stop, Go, StepI, SetReg, SetPc, Poke, Break, Unbreak}
 use Rattle.evm_model.specs.declared.processor.Processor.{Processor}
 use Rattle.evm_model.specs.declared.task.TaskState.TheVariants.{Faulted}
-use Rattle.evm_ram.specs.declared.refusal.Refusal.TheVariants.{NoSuchLine}
+use Rattle.evm_model.specs.declared.refusal.Refusal.TheVariants.{NoSuchLine}
 use Rattle.evm_model.proofs.Lists.{change-here}
 use Rattle.evm_walk.proofs.Calls.{walks_call}
 use Rattle.evm_walk.proofs.Passing.{ends}
@@ -134,9 +134,9 @@ module _ (a : Actor) (old : Parts) (t : ℕ) (own : a.task ≡ Some t) (b : Boar
   went : (r value : ℕ) (f : Hart → Hart) → ((x : Hart) → (f x).regs ≡ (set_register r value x).regs) → Walk a old 1 33 (on_hart t f b.parts)
   went r value f same = up a old b.parts t own fresh w 0 _ (omega arith) (goes_on a old b.parts t own fresh w r value f same)
 
-  loads : (o : Option ℕ) (op : LoadOp) (rd : ℕ) → Walk a old 1 33 (finish_load o op rd a.cpu t b).parts
+  loads : (o : Option (ℕ × Memory)) (op : LoadOp) (rd : ℕ) → Walk a old 1 33 (finish_load o op rd a.cpu t b).parts
   loads None op rd = faulted _
-  loads (Some n) op rd = went rd (loaded_value op n) _ (λ x. refl)
+  loads (Some loaded) op rd = went rd (loaded_value op loaded.0) _ (λ x. refl)
 
   stores : (o : Option Memory) → Walk a old 1 33 (finish_store o a.cpu t b).parts
   stores None = faulted _

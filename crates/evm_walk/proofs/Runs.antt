@@ -1,8 +1,8 @@
 -- What each accepted event keeps holds after every list of events.
 use Rattle.std.proofs.Common.{◌≡◌, Bool, true, false, List, [], ◌∷◌, Option, Some, None, refl}
 use Rattle.std.specs.Prelude.{if◌then◌else◌}
-use Rattle.evm_ram.specs.declared.refusal.Refusal.{Refusal}
-use Rattle.evm_ram.specs.declared.refusal.Refusal.TheVariants.{Full}
+use Rattle.evm_model.specs.declared.refusal.Refusal.{Refusal}
+use Rattle.evm_model.specs.declared.refusal.Refusal.TheVariants.{Full}
 use Rattle.evm_model.specs.Refusals.{board_refusal, is_full}
 use Rattle.evm_model.specs.Replay.{accept, apply, apply_unless, left_by, replay}
 use Rattle.evm_model.specs.Rows.{row}

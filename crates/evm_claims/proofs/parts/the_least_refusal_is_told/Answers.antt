@@ -1,7 +1,7 @@
 use Rattle.std.proofs.Common.{◌≡◌, ◌≢◌, Some, None, Option, true, false, Ok, Err, refl, arith}
 use Rattle.std.proofs.lemmas.Bool.Decides.{nat_tests}
-use Rattle.evm_ram.specs.declared.refusal.Refusal.{Refusal}
-use Rattle.evm_ram.specs.declared.refusal.Refusal.TheVariants.{Full}
+use Rattle.evm_model.specs.declared.refusal.Refusal.{Refusal}
+use Rattle.evm_model.specs.declared.refusal.Refusal.TheVariants.{Full}
 use Rattle.evm_model.specs.Refusals.{applies, is_full, refusal}
 use Rattle.evm_model.specs.Replay.{accept, apply, apply_unless}
 use Rattle.evm_model.specs.Rows.{row}

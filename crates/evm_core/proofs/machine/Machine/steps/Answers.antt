@@ -1,7 +1,7 @@
 use Rattle.std.proofs.Common.{◌∙◌, Option, subst, ap, arith}
 use Rattle.evm_model.specs.Replay.{IsReplayOf}
 use Rattle.evm_model.specs.State.{State}
-use Rattle.evm_ram.specs.declared.refusal.Refusal.{Refusal}
+use Rattle.evm_model.specs.declared.refusal.Refusal.{Refusal}
 use Rattle.evm_core.proofs.Many.{steps-zero, steps-after, steps-replays}
 use Rattle.evm_core.proofs.machine.Machine.steps.Goals as goal
 

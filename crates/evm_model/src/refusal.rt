@@ -1,5 +1,5 @@
 ghost use Rattle.std.specs.Prelude.{◌≡◌};
-ghost use Rattle.evm_ram.specs.Refusal.{number_of};
+ghost use Rattle.evm_model.specs.Refusals.{number_of};
 
 /// Why the machine refuses; of several that apply, the one of least number is answered.
 #[derive(Clone, Copy, Debug, PartialEq, Eq)]
