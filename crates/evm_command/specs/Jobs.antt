@@ -13,11 +13,11 @@ use Rattle.evm_serve.specs.Told.{told}
 use Rattle.evm_serve.specs.Serving.{Finishes, Unread}
 use Rattle.evm_serve.specs.Replaying.{replay_told}
 use Rattle.evm_serve.specs.Assembling.{Assembles}
-use Rattle.evm_serve.specs.Imaging.{Imports}
+use Rattle.evm_serve.specs.Imaging.{Checks}
 use Rattle.evm_serve.specs.declared.ending.Ending.{Ending}
 use Rattle.evm_command.specs.declared.system.OpenFault.{OpenFault}
 use Rattle.evm_command.specs.declared.system.World.{World}
-use Rattle.evm_command.specs.Telling.{about, program_name, script_name, input_name, not_opened_text, not_created_text, Source, Lines, Tells, Ended, EndedWith}
+use Rattle.evm_command.specs.Telling.{about, program_name, script_name, input_name, not_opened_text, not_created_text, Source, Lines, File, Tells, Ended, EndedWith}
 
 module _ {S O C I W E : Type 0} where
   -- no file is asked for, and standard input is not read
@@ -80,6 +80,11 @@ module _ {S O C I W E : Type 0} (writes : W → Writing → List ℕ → W → T
   ReplaysRead path image (Ok text) w w' status = ReplaysText path image text w w' status
   ReplaysRead path image (Err stop) w w' status = NotRead writes tells path stop w w' status
 
+  -- the image of the bytes of a file, or the status of a job whose file has a fault
+  abbrev pub ImportsBytes : List ℕ → List ℕ → World S O C I W E → World S O C I W E → Result Contents ℕ → Type 0
+  ImportsBytes path file w w' (Ok image) = AsksNothing w w' × Checks writes file w.output w'.output (Ok image) × (w'.errors ≡ w.errors)
+  ImportsBytes path file w w' (Err status) = AsksNothing w w' × ((ending : Ending) × Checks writes file w.output w'.output (Err ending) × EndedWith tells (File file) path ending w.errors w'.errors status)
+
   -- a script is served, with what is given to its run
   abbrev pub ServesScript : Given → List ℕ → World S O C I W E → World S O C I W E → ℕ → Type 0
   ServesScript given script w w' status = AsksNothing w w' × ((ending : Ending)
@@ -91,15 +96,16 @@ module _ {S O C I W E : Type 0} (writes : W → Writing → List ℕ → W → T
 
 module _ {S O C I W E : Type 0} (opens : S → List ℕ → Result O OpenFault → S → Type 0)
     (opened : O → Reading → List ℕ → O → Type 0) (writes : W → Writing → List ℕ → W → Type 0) (tells : E → Writing → List ℕ → E → Type 0) where
-  -- the image of a file that was read, or the status of the ending
+  -- the image of a file that was read, or the status of a job that has none
   abbrev pub Imported : List ℕ → Result (List ℕ) ReadStop → World S O C I W E → World S O C I W E → Result Contents ℕ → Type 0
-  Imported path read w w' (Ok image) = Imports writes read w.output w'.output (Ok image) × (w'.errors ≡ w.errors)
-  Imported path read w w' (Err status) = (ending : Ending) × Imports writes read w.output w'.output (Err ending) × Ended tells path ending w.errors w'.errors status
+  Imported path (Ok file) w w' result = ImportsBytes writes tells path file w w' result
+  Imported path (Err stop) w w' (Ok image) = ⊥
+  Imported path (Err stop) w w' (Err status) = NotRead writes tells path stop w w' status
 
   abbrev pub ReadsImage : List ℕ → Result O OpenFault → World S O C I W E → World S O C I W E → Result Contents ℕ → Type 0
   ReadsImage path (Err fault) w w' (Ok image) = ⊥
   ReadsImage path (Err fault) w w' (Err status) = NotOpened tells (not_opened_text path fault) w w' status
-  ReadsImage path (Ok file) w w' result = AsksNothing w w' × ((read : Result (List ℕ) ReadStop) × (file' : O) × Reads opened file file' read × Imported path read w w' result)
+  ReadsImage path (Ok file) w w' result = (read : Result (List ℕ) ReadStop) × (file' : O) × Reads opened file file' read × Imported path read w w' result
 
   -- IMAGE is opened and imported.
   abbrev pub Loads : List ℕ → World S O C I W E → World S O C I W E → Result Contents ℕ → Type 0

@@ -1,5 +1,5 @@
 -- How standard error quotes a word or a line: its first bytes, with bytes that are not printable escaped.
-use Rattle.std.specs.Prelude.{ℕ, ◌/◌, ◌%◌, ◌==◌, List, [], ◌∷◌, ◌++◌, take, codes, if◌then◌else◌}
+use Rattle.std.specs.Prelude.{ℕ, ◌/◌, ◌%◌, ◌==◌, List, [], ◌∷◌, ◌++◌, Option, Some, None, take, codes, if◌then◌else◌}
 use Rattle.evm_serve.specs.Lookup.{is_printable}
 use Rattle.evm_serve.specs.evm_text.Written.{character}
 use Rattle.evm_command.specs.declared.showing.TheConstants.{SHOWN_LIMIT}
@@ -19,3 +19,8 @@ escaped (c ∷ bytes) = escape c ++ escaped bytes
 -- no more than this is quoted
 abbrev pub shown : List ℕ → List ℕ
 shown word = take SHOWN_LIMIT word
+
+-- a sentence, and behind it what it quotes, if anything: its first bytes, escaped
+abbrev pub quoting : List ℕ → List ℕ → Option (List ℕ) → List ℕ
+quoting sentence between None = sentence
+quoting sentence between (Some word) = sentence ++ (between ++ (escaped (shown word) ++ codes "\""))

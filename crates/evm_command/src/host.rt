@@ -12,6 +12,12 @@ fn open_fault(kind: ErrorKind) -> OpenFault {
         ErrorKind::NotFound => OpenFault::Missing,
         ErrorKind::PermissionDenied => OpenFault::Denied,
         ErrorKind::IsADirectory => OpenFault::Folder,
+        ErrorKind::NotADirectory => OpenFault::NotFolder,
+        ErrorKind::ReadOnlyFilesystem => OpenFault::ReadOnly,
+        ErrorKind::StorageFull | ErrorKind::QuotaExceeded => OpenFault::Full,
+        ErrorKind::ExecutableFileBusy | ErrorKind::ResourceBusy => OpenFault::Busy,
+        ErrorKind::InvalidFilename => OpenFault::NameTooLong,
+        ErrorKind::FilesystemLoop => OpenFault::Loop,
         _ => OpenFault::Other,
     }
 }

@@ -1,20 +1,22 @@
 //! What standard error is told, and the status of a job.
 
 ghost use Rattle.std.specs.Prelude.{◌≡◌, codes, option_copied};
-ghost use Rattle.evm_serve.specs.evm_asm_lexer.Sentences.{asm_sentence};
-ghost use Rattle.evm_serve.specs.evm_asm.Quoting.{quoted};
 ghost use Rattle.evm_serve.specs.Details.{fault_detail};
+ghost use Rattle.evm_serve.specs.Faults.{sentence_text};
 ghost use Rattle.evm_serve.specs.Lookup.{has_boot};
 ghost use Rattle.evm_serve.specs.Serving.{Unread};
 ghost use Rattle.evm_command.specs.Jobs.{NotRead, NotWords};
-ghost use Rattle.evm_command.specs.Telling.{Tells, Explains, Ended, EndedWith, Source, known_of, quoting, quoted_line, words_text, fault_words, Boots, Finished, program_name, shown_path, not_opened_sentence, not_opened_text, not_created_sentence, not_created_text, not_read_sentence};
+ghost use Rattle.evm_command.specs.Showing.{quoting};
+ghost use Rattle.evm_command.specs.Telling.{Tells, Explains, Ended, EndedWith, Source, known_of, quoted_line, words_text, fault_words, image_words, Boots, Finished, program_name, shown_path, not_opened_sentence, not_opened_text, not_created_sentence, not_created_text, failed_read_sentence, failed_write_sentence, not_read_sentence, output_name};
 
+use crate::image_sentence::image_sentence;
+use crate::source_sentence::source_words;
 use crate::system::{OpenFault, System, World};
 use crate::telling::{Words, tell_about, tell_about_line};
 use evm_image::Image;
 use evm_serve::{
-    AsmFault, Ending, Fault, ReadFault, ReadStop, Sentence, Sink, Verdict, fault_detail, has_boot,
-    line_numbered, quoted, write_all,
+    Cause, ElfFault, Ending, Fault, ReadFault, ReadStop, Sentence, Sink, Verdict, fault_detail, has_boot,
+    line_numbered, write_all,
 };
 
 /// The status where a file can't be opened, created, read or written.
@@ -26,6 +28,9 @@ pub(crate) const USAGE: u8 = 2;
 /// The name under which the program tells what is about no file.
 pub(crate) const PROGRAM: &str = "evltool";
 
+/// The name of the stream that reports are written to.
+const OUTPUT: &str = "standard output";
+
 /// What is known of the input of a job.
 #[derive(Clone, Copy)]
 pub(crate) enum Known<'a> {
@@ -34,6 +39,8 @@ pub(crate) enum Known<'a> {
     Source(&'a str),
     /// The image that its machine boots with, and the script or the journal that it takes line by line.
     Lines(Option<&'a Image>, &'a [u8]),
+    /// The file of an image.
+    File(&'a [u8]),
 }
 
 // A path, or '' if it is empty.
@@ -51,6 +58,12 @@ fn not_opened_sentence(fault: OpenFault) -> &'static str
         OpenFault::Denied => "can't be opened: permission denied",
         OpenFault::Folder => "can't be opened: it is a folder",
         OpenFault::NoName => "can't be opened: the name is empty",
+        OpenFault::NotFolder => "can't be opened: a part of the path is not a folder",
+        OpenFault::ReadOnly => "can't be opened: the file system is read-only",
+        OpenFault::Full => "can't be opened: no space left on the device",
+        OpenFault::Busy => "can't be opened: the file is in use",
+        OpenFault::NameTooLong => "can't be opened: the name is too long",
+        OpenFault::Loop => "can't be opened: too many symbolic links",
         OpenFault::Other => "can't be opened",
     }
 }
@@ -73,6 +86,12 @@ fn not_created_sentence(fault: OpenFault) -> &'static str
         OpenFault::Denied => "can't be created: permission denied",
         OpenFault::Folder => "can't be created: it is a folder",
         OpenFault::NoName => "can't be created: the name is empty",
+        OpenFault::NotFolder => "can't be created: a part of the path is not a folder",
+        OpenFault::ReadOnly => "can't be created: the file system is read-only",
+        OpenFault::Full => "can't be created: no space left on the device",
+        OpenFault::Busy => "can't be created: the file is in use",
+        OpenFault::NameTooLong => "can't be created: the name is too long",
+        OpenFault::Loop => "can't be created: too many symbolic links",
         OpenFault::Other => "can't be created",
     }
 }
@@ -87,24 +106,45 @@ pub(crate) fn not_created<E: Sink>(path: &str, fault: OpenFault, errors: &mut E)
     FAILED
 }
 
+fn failed_read_sentence(cause: Cause) -> &'static str
+    ensures { result.now ≡ failed_read_sentence cause }
+{
+    match cause {
+        Cause::Folder => "a read failed: it is a folder",
+        Cause::Closed => "a read failed: it is closed, or not open for this",
+        Cause::BrokenPipe => "a read failed: the reader of the pipe has gone",
+        Cause::Full => "a read failed: no space left on the device",
+        Cause::TooLarge => "a read failed: the file may not be larger",
+        Cause::Interrupted => "a read failed: a signal interrupted it",
+        Cause::Device => "a read failed: the device failed",
+        Cause::TookNone => "a read failed: it took no byte",
+        Cause::Other => "a read failed",
+    }
+}
+
+fn failed_write_sentence(cause: Cause) -> &'static str
+    ensures { result.now ≡ failed_write_sentence cause }
+{
+    match cause {
+        Cause::Folder => "a write failed: it is a folder",
+        Cause::Closed => "a write failed: it is closed, or not open for this",
+        Cause::BrokenPipe => "a write failed: the reader of the pipe has gone",
+        Cause::Full => "a write failed: no space left on the device",
+        Cause::TooLarge => "a write failed: the file may not be larger",
+        Cause::Interrupted => "a write failed: a signal interrupted it",
+        Cause::Device => "a write failed: the device failed",
+        Cause::TookNone => "a write failed: it took no byte",
+        Cause::Other => "a write failed",
+    }
+}
+
 fn not_read_sentence(fault: ReadFault) -> &'static str
     ensures { result.now ≡ not_read_sentence fault }
 {
     match fault {
-        ReadFault::Failed => "a read failed; it may be closed, or a folder",
+        ReadFault::Failed(cause) => failed_read_sentence(cause),
         ReadFault::TooLong => "more than 16777216 bytes",
         ReadFault::NotUtf8 => "not UTF-8",
-    }
-}
-
-// What is said of a source that has a fault.
-fn program_words(source: &str, fault: AsmFault) -> Words<'_>
-    ensures { words_text result ≡ quoting (asm_sentence fault.kind) (codes " \"") (quoted source.now fault) }
-{
-    let sentence = Sentence::Plain(fault.kind.sentence());
-    match quoted(source, fault) {
-        Some(word) => Words::Quoting(sentence, " \"", word),
-        None => Words::Said(sentence),
     }
 }
 
@@ -131,11 +171,11 @@ fn line_words<'a>(image: Option<&Image>, text: &'a [u8], fault: Fault) -> Words<
 }
 
 // What is said of the fault of a job on a source.
-fn source_words(source: &str, fault: Fault) -> Words<'_>
+fn job_words(source: &str, fault: Fault) -> Words<'_>
     ensures { words_text result ≡ fault_words (Source source.now) fault }
 {
     match fault {
-        Fault::NoProgram(fault) => program_words(source, fault),
+        Fault::NoProgram(fault) => source_words(source, fault),
         Fault::BadLine(_, _) | Fault::Refused(_, _, _) | Fault::NoJournal(_) => {
             Words::Said(fault.sentence())
         }
@@ -147,9 +187,21 @@ fn fault_words(known: Known<'_>, fault: Fault) -> Words<'_>
     ensures { words_text result ≡ fault_words (known_of known.entry) fault }
 {
     match known {
-        Known::Nothing => Words::Said(fault.sentence()),
-        Known::Source(source) => source_words(source, fault),
+        Known::Nothing | Known::File(_) => Words::Said(fault.sentence()),
+        Known::Source(source) => job_words(source, fault),
         Known::Lines(image, text) => line_words(image, text, fault),
+    }
+}
+
+// What is said of a file that is no image.
+fn image_words(known: Known<'_>, fault: ElfFault) -> Sentence
+    ensures { sentence_text result ≡ image_words (known_of known.entry) fault }
+{
+    match known {
+        Known::File(bytes) => image_sentence(bytes, fault),
+        Known::Nothing | Known::Source(_) | Known::Lines(_, _) => {
+            Sentence::Plain(fault.sentence())
+        }
     }
 }
 
@@ -172,7 +224,17 @@ fn report_done<E: Sink>(known: Known<'_>, name: &str, errors: &mut E)
 {
     match known {
         Known::Lines(_, text) => report_idle(name, text, errors),
-        Known::Nothing | Known::Source(_) => {}
+        Known::Nothing | Known::Source(_) | Known::File(_) => {}
+    }
+}
+
+// The name of what a job writes to. `asm` writes to two files.
+fn output_name(known: Known<'_>) -> &'static str
+    ensures { result.now ≡ output_name (known_of known.entry) }
+{
+    match known {
+        Known::Source(_) => PROGRAM,
+        Known::Nothing | Known::Lines(_, _) | Known::File(_) => OUTPUT,
     }
 }
 
@@ -186,15 +248,15 @@ fn explain<E: Sink>(known: Known<'_>, name: &str, ending: Ending, errors: &mut E
             tell_about_line(name, fault.line(), fault_words(known, fault), errors)
         }
         Ending::Complete(Verdict::ImageRefused(fault)) => {
-            tell_about(name, Sentence::Plain(fault.sentence()), errors)
+            tell_about(name, image_words(known, fault), errors)
         }
         Ending::NoMemory => tell_about(name, Sentence::Plain("out of memory"), errors),
         Ending::ReadFailed(fault) => {
             tell_about(name, Sentence::Plain(not_read_sentence(fault)), errors)
         }
-        Ending::WriteFailed(_) => tell_about(
-            PROGRAM,
-            Sentence::Plain("a write failed; the output may be closed or full"),
+        Ending::WriteFailed(fault) => tell_about(
+            output_name(known),
+            Sentence::Plain(failed_write_sentence(fault.cause)),
             errors,
         ),
     }

@@ -13,6 +13,18 @@ pub enum OpenFault {
     Folder,
     /// Its name is empty.
     NoName,
+    /// A part of its path is no folder.
+    NotFolder,
+    /// The file system is read-only.
+    ReadOnly,
+    /// The device or the quota is full.
+    Full,
+    /// It is in use, as a program that runs.
+    Busy,
+    /// Its name is too long.
+    NameTooLong,
+    /// Too many symbolic links lead to it.
+    Loop,
     /// Any other reason.
     Other,
 }

@@ -3,8 +3,8 @@
 ghost use Rattle.std.specs.Prelude.{◌≡◌, ◌<◌, ◌+◌, ◌^◌, ◌++◌, Some, codes};
 ghost use Rattle.evm_serve.specs.evm_text.Written.{numeral, decimal};
 ghost use Rattle.evm_serve.specs.Faults.{number_text, sentence_text};
-ghost use Rattle.evm_command.specs.Showing.{escaped, shown};
-ghost use Rattle.evm_command.specs.Telling.{Writes, Tells, behind_place, about, about_line, quoting, words_text};
+ghost use Rattle.evm_command.specs.Showing.{escaped, shown, quoting};
+ghost use Rattle.evm_command.specs.Telling.{Writes, Tells, behind_place, about, about_line, words_text};
 
 use crate::showing::{digit_character, shown, write_escaped};
 use evm_serve::{Number, Sentence, Sink, WriteFault, write_all};

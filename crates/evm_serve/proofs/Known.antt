@@ -108,7 +108,7 @@ module _ {W : Type 0} (contents : W → Option (List ℕ)) where
 module _ {R : Type 0} (remaining : R → Option (List ℕ)) where
   -- a fault says what it is of known bytes
   fault_within : (s t : R) (fault : ReadFault) → Stops (ReaderGives remaining) s t (stops.Fault fault) → IfSome (remaining s) (λ input. IsWithin input (ReadFailed fault))
-  fault_within s t Failed h = known_always (remaining s) _ (λ input. tt)
+  fault_within s t (Failed cause) h = known_always (remaining s) _ (λ input. tt)
   fault_within s t TooLong h = (reads_known remaining).too_many s t h
   fault_within s t NotUtf8 h = absurd h
 
@@ -137,7 +137,7 @@ module _ {R W : Type 0} (remaining : R → Option (List ℕ)) (contents : W → 
       (finishes_known contents (report bytes) w w' ending h, finished_text contents (report bytes) w w' bytes ending reads.1 reads.2 h)
   serves_known_text report s t w w' (Err stops.NoMemory) ending reads h =
       known_always (remaining s) _ (λ input. (memory_report contents (report input) w w' ending h, memory_text contents [] w w' input ending h))
-  serves_known_text report s t w w' (Err (stops.Fault Failed)) ending reads h = text_fault report s t w w' Failed ending h.0 h.1 (fault_within remaining s t Failed reads)
+  serves_known_text report s t w w' (Err (stops.Fault (Failed cause))) ending reads h = text_fault report s t w w' (Failed cause) ending h.0 h.1 (fault_within remaining s t (Failed cause) reads)
   serves_known_text report s t w w' (Err (stops.Fault TooLong)) ending reads h = text_fault report s t w w' TooLong ending h.0 h.1 (fault_within remaining s t TooLong reads)
   serves_known_text report s t w w' (Err (stops.Fault NotUtf8)) ending reads h =
       text_fault report s t w w' NotUtf8 ending h.0 h.1

@@ -42,7 +42,7 @@ AppendsReport all old new ending = AppendsAll all old new ending ⊎ ((prefix : 
 abbrev pub IsWithin : List ℕ → Ending → Type 0
 IsWithin input (Complete verdict) = length input ≤ FILE_LIMIT
 IsWithin input NoMemory = ⊤
-IsWithin input (ReadFailed Failed) = ⊤
+IsWithin input (ReadFailed (Failed cause)) = ⊤
 IsWithin input (ReadFailed TooLong) = FILE_LIMIT < length input
 IsWithin input (ReadFailed NotUtf8) = ⊥
 IsWithin input (WriteFailed fault) = ⊤

@@ -28,8 +28,13 @@ fn say_no_image<W: Sink>(alloc: Global, fault: ElfFault, writer: &mut W) -> Resu
     }
 }
 
-// The image of bytes that were read.
-fn check<W: Sink>(alloc: Global, file: &[u8], writer: &mut W) -> Result<Image, Ending>
+/// The image of a file that was read. If the file has a fault, the line `image CODE` is written; if an allocation
+/// fails, the line `memory`.
+///
+/// # Errors
+///
+/// How the run ends, if there is no image.
+pub fn import_bytes<W: Sink>(alloc: Global, file: &[u8], writer: &mut W) -> Result<Image, Ending>
     ensures { Checks W.takes file.now writer.old writer.new result }
 {
     match read_image(alloc, file) {
@@ -42,13 +47,12 @@ fn check<W: Sink>(alloc: Global, file: &[u8], writer: &mut W) -> Result<Image, E
     }
 }
 
-/// Reads a file to its end as the image of a program. Where it has a fault, the line `image CODE` is written, and
-/// where an allocation fails the line `memory`. Where the file can't be read, or has more than 16,777,216 bytes,
-/// nothing is written.
+/// Like `import_bytes`, of a file that it reads to its end. If the file can't be read, or has more than 16,777,216
+/// bytes, nothing is written.
 ///
 /// # Errors
 ///
-/// How the run ends, where there is no image.
+/// How the run ends, if there is no image.
 pub fn import<R: Source, W: Sink>(
     alloc: Global,
     reader: &mut R,
@@ -57,7 +61,7 @@ pub fn import<R: Source, W: Sink>(
     ensures { (read : Result (List ℕ) ReadStop) × Reads R.gives reader.old reader.new read × Imports W.takes read writer.old writer.new result }
 {
     match read_all(alloc, reader) {
-        Ok(file) => check(alloc, file.as_slice(), writer),
+        Ok(file) => import_bytes(alloc, file.as_slice(), writer),
         Err(stop) => Err(unread(stop, writer)),
     }
 }

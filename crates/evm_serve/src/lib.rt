@@ -23,13 +23,16 @@ pub use assembling::assemble_to;
 pub use detail::fault_detail;
 pub use ending::{Ending, Verdict};
 pub use evm_debug::{Machine, cut_line, write_journal};
-pub use evm_elf::{AsmFault, quoted, write_bytes};
+pub use evm_elf::{
+    AsmFault, AsmFaultKind, ElfFault, Extension, ImageDetail, SourceDetail, image_detail, quoted,
+    source_detail, write_bytes,
+};
 pub use evm_streams::{
-    ReadFault, ReadStop, Sink, Source, WriteFault, read_all, read_utf8, write_all,
+    Cause, ReadFault, ReadStop, Sink, Source, WriteFault, read_all, read_utf8, write_all,
 };
 pub use fault::{Fault, LineFault};
 pub use given::Given;
-pub use importing::import;
+pub use importing::{import, import_bytes};
 pub use laws::{
     known_contents_are_assembled_into, known_files_are_imported, known_inputs_are_served,
     known_texts_are_served, refused_on_its_line, replays_saved,

@@ -2,6 +2,7 @@
 use Rattle.std.proofs.Common.{◌≡◌, ◌<◌, ℕ, List, [], ◌++◌, ◌⊎◌, inl, inr, length, take, Option, Some, None, IfSome, refl, ap, ◌∙◌, sym, append_assoc, length-append, arith}
 use Rattle.std.specs.Io.KnownBytes.{Appends, Consumes, IsAtEnd, Keeps}
 use Rattle.std.proofs.lemmas.List.{append-nil}
+use Rattle.evm_streams.specs.declared.cause.Cause.{Cause}
 use Rattle.evm_streams.specs.declared.source.Reading.TheVariants as readings
 use Rattle.evm_streams.specs.declared.sink.Writing.TheVariants as writings
 use Rattle.evm_streams.specs.declared.reads.TheConstants.{FILE_LIMIT}
@@ -79,8 +80,8 @@ module _ {W : Type 0} (contents : W → Option (List ℕ)) where
   took_known s t text (writes.more {t = before} {bytes = earlier} {part} {n} took some call) =
       appends_more _ _ _ earlier (take n part) (took_known s before earlier took) (known_write contents before (writings.Bytes n) part t call)
 
-  kept : (s t : W) (rest : List ℕ) → WriterTakes contents s writings.Failed rest t ⊎ WriterTakes contents s (writings.Bytes 0) rest t → Keeps (contents s) (contents t)
-  kept s t rest (inl call) = known_write contents s writings.Failed rest t call
+  kept : (s t : W) (rest : List ℕ) → ((cause : Cause) × WriterTakes contents s (writings.Failed cause) rest t) ⊎ WriterTakes contents s (writings.Bytes 0) rest t → Keeps (contents s) (contents t)
+  kept s t rest (inl call) = known_write contents s (writings.Failed call.0) rest t call.1
   kept s t rest (inr call) = appended_none _ _ (known_write contents s (writings.Bytes 0) rest t call)
 
   pub writes_known : KnownWritten contents

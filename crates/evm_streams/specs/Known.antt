@@ -12,12 +12,12 @@ use Rattle.evm_streams.specs.Writes.{Took, TookPrefix}
 -- What std says of a call of `read`: known bytes lose those that it gave, and are at their end where it gave none of them.
 abbrev pub ReadSays : {R : Type 0} → (R → Option (List ℕ)) → R → Reading → List ℕ → R → Type 0
 ReadSays remaining s (readings.Bytes n) part t = Consumes (remaining s) (remaining t) (take n part) × (n ≡ 0 → 0 < length part → IsAtEnd (remaining t))
-ReadSays remaining s readings.Failed part t = Keeps (remaining s) (remaining t)
+ReadSays remaining s (readings.Failed cause) part t = Keeps (remaining s) (remaining t)
 
 -- What std says of a call of `write`: known contents grow by the bytes that it took.
 abbrev pub WriteSays : {W : Type 0} → (W → Option (List ℕ)) → W → Writing → List ℕ → W → Type 0
 WriteSays contents s (writings.Bytes n) text t = Appends (contents s) (contents t) (take n text)
-WriteSays contents s writings.Failed text t = Keeps (contents s) (contents t)
+WriteSays contents s (writings.Failed cause) text t = Keeps (contents s) (contents t)
 
 -- A call of a reader of std, and of a writer: opaque, so that a proof has it of a call alone.
 pub ReaderGives : {R : Type 0} → (R → Option (List ℕ)) → R → Reading → List ℕ → R → Type 0

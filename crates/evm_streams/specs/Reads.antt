@@ -2,6 +2,7 @@
 use Rattle.std.specs.Prelude.{◌<◌, ◌≤◌, ℕ, List, [], ◌++◌, length, take, Result, Ok, Err, IsUtf8}
 use Rattle.evm_room.specs.Growth.{RefusedWithin}
 use Rattle.evm_streams.specs.declared.reads.TheConstants.{FILE_LIMIT}
+use Rattle.evm_streams.specs.declared.cause.Cause.{Cause}
 use Rattle.evm_streams.specs.declared.source.Reading.{Reading}
 use Rattle.evm_streams.specs.declared.source.Reading.TheVariants.{Bytes, Failed}
 use Rattle.evm_streams.specs.declared.source.ReadFault.TheVariants as faults
@@ -22,13 +23,13 @@ module _ {R : Type 0} (gives : R → Reading → List ℕ → R → Type 0) wher
     pub room : 0 < length part
     pub end : gives before (Bytes 0) part t
 
-  -- Some bytes were given, and the next call failed.
-  pub record FailedAfter (s t : R) : Type 0 where
+  -- Some bytes were given, and the next call failed for this cause.
+  pub record FailedAfter (cause : Cause) (s t : R) : Type 0 where
     pub bytes : List ℕ
     pub before : R
     pub part : List ℕ
     pub gave : Gave gives s bytes before
-    pub failed : gives before Failed part t
+    pub failed : gives before (Failed cause) part t
 
   -- More bytes were given than are read.
   pub record TooMany (s t : R) : Type 0 where
@@ -51,7 +52,7 @@ module _ {R : Type 0} (gives : R → Reading → List ℕ → R → Type 0) wher
   -- Why bytes were not read. Memory is no reason but where room was refused for no more bytes than the limit.
   abbrev pub Stops : R → R → ReadStop → Type 0
   Stops s t NoMemory = GaveSome s t × RefusedWithin FILE_LIMIT
-  Stops s t (Fault faults.Failed) = FailedAfter s t
+  Stops s t (Fault (faults.Failed cause)) = FailedAfter cause s t
   Stops s t (Fault faults.TooLong) = TooMany s t
   Stops s t (Fault faults.NotUtf8) = ⊥
 

@@ -1,5 +1,6 @@
 -- What the calls of a sink did, one after another. Of what a call takes nothing is known but what the call itself shows.
 use Rattle.std.specs.Prelude.{◌≡◌, ◌<◌, ℕ, List, [], ◌++◌, ◌⊎◌, length, take}
+use Rattle.evm_streams.specs.declared.cause.Cause.{Cause}
 use Rattle.evm_streams.specs.declared.sink.Writing.{Writing}
 use Rattle.evm_streams.specs.declared.sink.Writing.TheVariants.{Bytes, Failed}
 
@@ -18,4 +19,4 @@ module _ {W : Type 0} (takes : W → Writing → List ℕ → W → Type 0) wher
     pub whole : text ≡ (prefix ++ part) ++ later
     pub took : Took takes s prefix before
     pub left : 0 < length part
-    pub failed : takes before Failed part t ⊎ takes before (Bytes 0) part t
+    pub failed : ((cause : Cause) × takes before (Failed cause) part t) ⊎ takes before (Bytes 0) part t

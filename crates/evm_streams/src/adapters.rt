@@ -1,6 +1,7 @@
 //! Readers and writers of std as sources and sinks. That a call of `read` or `write` did what it answered is trusted
 //! here, and nowhere else.
 
+use crate::cause::cause_of;
 use crate::sink::{Sink, Writing};
 use crate::source::{Reading, Source};
 use std::io::{Read, Write};
@@ -13,7 +14,7 @@ impl<R: Read> Source for R {
     fn read(&mut self, part: &mut [u8]) -> Reading {
         match Read::read(self, part) {
             Ok(count) => Reading::Bytes(count),
-            Err(_) => Reading::Failed,
+            Err(error) => Reading::Failed(cause_of(&error)),
         }
     }
 }
@@ -26,7 +27,7 @@ impl<W: Write> Sink for W {
     fn write(&mut self, text: &[u8]) -> Writing {
         match Write::write(self, text) {
             Ok(count) => Writing::Bytes(count),
-            Err(_) => Writing::Failed,
+            Err(error) => Writing::Failed(cause_of(&error)),
         }
     }
 }

@@ -23,7 +23,7 @@ pub fn read_all<R: Source>(alloc: Global, source: &mut R) -> Result<Vec<u8>, Rea
     let mut part = [0u8; 16_384];
     'parts: loop {
         match source.read(&mut part) {
-            Reading::Failed => return Err(ReadStop::Fault(ReadFault::Failed)),
+            Reading::Failed(cause) => return Err(ReadStop::Fault(ReadFault::Failed(cause))),
             Reading::Bytes(0) => return Ok(bytes),
             Reading::Bytes(n) => {
                 if bytes.len() + n > FILE_LIMIT {

@@ -2,13 +2,15 @@
 
 ghost use Rattle.std.specs.Prelude.{◌≡◌, ◌≤◌, ℕ, length};
 
+use crate::cause::Cause;
+
 /// What one call of a sink answers.
 #[derive(Clone, Copy, Debug)]
 pub enum Writing {
     /// So many bytes were taken, from the start of what was offered.
     Bytes(usize),
-    /// The call failed, for whatever reason.
-    Failed,
+    /// The call failed.
+    Failed(Cause),
 }
 
 /// Where bytes go, a part at a time.
@@ -28,4 +30,7 @@ pub trait Sink {
 
 /// A call of the sink failed, or took none of some bytes.
 #[derive(Clone, Copy, Debug, PartialEq, Eq)]
-pub struct WriteFault;
+pub struct WriteFault {
+    /// Why it failed.
+    pub cause: Cause,
+}

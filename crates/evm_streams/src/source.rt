@@ -2,13 +2,15 @@
 
 ghost use Rattle.std.specs.Prelude.{◌≡◌, ◌≤◌, ℕ, length};
 
+use crate::cause::Cause;
+
 /// What one call of a source answers.
 #[derive(Clone, Copy, Debug)]
 pub enum Reading {
     /// So many bytes were given, at the start of the part. None, where the part has room, says that no more come.
     Bytes(usize),
-    /// The call failed, for whatever reason.
-    Failed,
+    /// The call failed.
+    Failed(Cause),
 }
 
 /// Where bytes come from, a part at a time.
@@ -30,7 +32,7 @@ pub trait Source {
 #[derive(Clone, Copy, Debug, PartialEq, Eq)]
 pub enum ReadFault {
     /// A call of the source failed.
-    Failed,
+    Failed(Cause),
     /// The source gave more than 16,777,216 bytes.
     TooLong,
     /// They are no UTF-8, and were to be a text.

@@ -1,6 +1,6 @@
 //! Bytes read and written whole, and streams that fail.
 
-use super::{ReadFault, ReadStop, WriteFault, read_all, read_utf8, write_all};
+use super::{Cause, ReadFault, ReadStop, WriteFault, read_all, read_utf8, write_all};
 use std::io::{self, Error, ErrorKind, Read, Write};
 use std::test::Fail;
 
@@ -63,7 +63,7 @@ fn any_fault_ends_reading(rt: HostRuntime) {
         };
         match read_utf8(rt.alloc(), &mut reader) {
             Ok(text) => assert_eq!(rt; (text.as_str(), calls), (TEXT, 5)),
-            Err(ReadStop::Fault(ReadFault::Failed)) => assert!(rt; calls < 5, "{calls} calls"),
+            Err(ReadStop::Fault(ReadFault::Failed(Cause::Interrupted))) => assert!(rt; calls < 5, "{calls} calls"),
             Err(_) => panic!(rt; "{calls} calls"),
         }
     }
@@ -104,6 +104,7 @@ fn any_fault_ends_writing(rt: HostRuntime) -> Result<(), Fail> {
         assert_eq!(rt; writer.taken.len(), (calls * 3).min(11), "{calls} calls");
     }
     let mut none: &mut [u8] = &mut [];
-    assert_eq!(rt; write_all(&mut none, b"1"), Err(WriteFault));
+    let cause = Cause::TookNone;
+    assert_eq!(rt; write_all(&mut none, b"1"), Err(WriteFault { cause }));
     Ok(())
 }

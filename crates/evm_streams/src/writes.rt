@@ -3,6 +3,7 @@
 ghost use Rattle.std.specs.Prelude.{MatchResult};
 ghost use Rattle.evm_streams.specs.Writes.{Took, TookPrefix};
 
+use crate::cause::Cause;
 use crate::sink::{Sink, WriteFault, Writing};
 
 /// Writes all of some bytes.
@@ -16,8 +17,12 @@ pub fn write_all<W: Sink>(sink: &mut W, text: &[u8]) -> Result<(), WriteFault>
     let mut rest = text;
     'calls: while !rest.is_empty() {
         match sink.write(rest) {
-            Writing::Failed => return Err(WriteFault),
-            Writing::Bytes(0) => return Err(WriteFault),
+            Writing::Failed(cause) => return Err(WriteFault { cause }),
+            Writing::Bytes(0) => {
+                return Err(WriteFault {
+                    cause: Cause::TookNone,
+                });
+            }
             Writing::Bytes(n) => rest = &rest[n..],
         }
     }

@@ -116,14 +116,14 @@ fn check_errors(
 fn files_are_named(rt: HostRuntime) -> Result<(), Fail> {
     for (line, wanted) in [
         ("evltool asm p.s p.elf", ""),
-        ("evltool asm q.s p.elf", "q.s:3: unknown name \"a9\"\n"),
+        ("evltool asm q.s p.elf", "q.s:3: unknown register \"a9\"\n"),
         (
             "evltool asm base.s p.elf",
-            "base.s:1: unknown name \"sp8\"\n",
+            "base.s:1: unknown register \"sp8\"\n",
         ),
         (
             "evltool asm word.s p.elf",
-            "word.s:2: unknown name \"move\"\n",
+            "word.s:2: unknown mnemonic \"move\"\n",
         ),
         (
             "evltool asm twice.s p.elf",
@@ -135,7 +135,7 @@ fn files_are_named(rt: HostRuntime) -> Result<(), Fail> {
         ),
         (
             "evltool asm range.s p.elf",
-            "range.s:1: a number outside its range, or a label that is odd or too far\n",
+            "range.s:1: the number must be -2048 to 2047\n",
         ),
         ("evltool asm bytes.s p.elf", "bytes.s: not UTF-8\n"),
         (
@@ -167,7 +167,7 @@ fn files_are_named(rt: HostRuntime) -> Result<(), Fail> {
         ("evltool asm p.s tape", "tape: can't be created\n"),
         (
             "evltool run p.s",
-            "p.s: shorter than a file header, 64 bytes\n",
+            "p.s: it is no ELF file\n",
         ),
         (
             "evltool replay p.elf journal",

@@ -36,7 +36,7 @@ returns-in-Failed g c =
       whole = whole c.args.text.now c.calls.invariant.0 c.calls.rest.now c.calls.invariant.1;
       took = c.calls.invariant.2;
       left = left;
-      failed = inl c.in-Failed.ensures.call;
+      failed = inl (c.in-Failed.cause, c.in-Failed.ensures.call);
     }
 
 pub returns-in-Bytes-eq0 : goal.returns-in-Bytes-eq0

@@ -6,7 +6,7 @@ use Rattle.evm_serve.specs.Imaging.{no_image_report}
 use Rattle.evm_serve.specs.Serving.{WritesAll, EndsInMemory}
 use Rattle.evm_serve.proofs.Endings.{says}
 use Rattle.evm_serve.proofs.Memory.{by_most}
-use Rattle.evm_serve.proofs.importing.check.Goals as goal
+use Rattle.evm_serve.proofs.importing.import_bytes.Goals as goal
 
 pub returns-in-Err-NoMemory : goal.returns-in-Err-NoMemory
 returns-in-Err-NoMemory g c =

@@ -1,0 +1,70 @@
+-- The sentence of the fault of a source, from the line that has it, and what is quoted of the line.
+use Rattle.std.specs.Prelude.{ℕ, ◌-◌, ◌==◌, ◌++◌, nat_le, List, length, drop, Option, Some, None, codes, if◌then◌else◌}
+use Rattle.evm_serve.specs.Lookup.{line_numbered}
+use Rattle.evm_serve.specs.evm_text.Written.{decimal}
+use Rattle.evm_serve.specs.evm_asm_lexer.Sentences.{asm_sentence}
+use Rattle.evm_serve.specs.evm_asm_lexer.declared.extensions.Extension.{Extension as Extended}
+use Rattle.evm_serve.specs.evm_asm_lexer.declared.extensions.Extension.TheVariants.{Multiply, Atomic, Float, Compressed, Status, FenceI}
+use Rattle.evm_serve.specs.evm_asm_lexer.declared.fault.AsmFault.{AsmFault}
+use Rattle.evm_serve.specs.evm_asm_lexer.declared.fault.AsmFaultKind.{AsmFaultKind}
+use Rattle.evm_serve.specs.evm_asm_lexer.declared.fault.AsmFaultKind.TheVariants.{BadOperand}
+use Rattle.evm_serve.specs.evm_asm.Details.{source_detail}
+use Rattle.evm_serve.specs.evm_asm.Quoting.{quoted}
+use Rattle.evm_serve.specs.evm_asm.declared.detail.SourceDetail.{SourceDetail}
+use Rattle.evm_serve.specs.evm_asm.declared.detail.SourceDetail.TheVariants.{Mnemonic, Directive, Register, Extension, Token, Operands, Range, Distance}
+use Rattle.evm_command.specs.Showing.{quoting}
+
+abbrev pub extension_sentence : Extended → List ℕ
+extension_sentence Multiply = codes "an instruction of the M extension; the machine is RV64I"
+extension_sentence Atomic = codes "an instruction of the A extension; the machine is RV64I"
+extension_sentence Float = codes "an instruction of the F or D extension; the machine is RV64I"
+extension_sentence Compressed = codes "an instruction of the C extension; the machine is RV64I"
+extension_sentence Status = codes "an instruction of the Zicsr extension; the machine is RV64I"
+extension_sentence FenceI = codes "an instruction of the Zifencei extension; the machine is RV64I"
+
+-- a number outside -below to above
+abbrev pub range_sentence : ℕ → ℕ → List ℕ
+range_sentence below above =
+    if below == 0 then codes "the number must be 0 to " ++ (decimal above ++ codes "")
+    else codes "the number must be -" ++ (decimal below ++ (codes " to " ++ (decimal above ++ codes "")))
+
+-- what is known of a fault beside its kind
+abbrev pub detail_sentence : SourceDetail → List ℕ
+detail_sentence Mnemonic = codes "unknown mnemonic"
+detail_sentence Directive = codes "unknown directive"
+detail_sentence Register = codes "unknown register"
+detail_sentence (Extension extension) = extension_sentence extension
+detail_sentence (Token column byte) = codes "no token or statement begins at column " ++ (decimal column ++ codes "")
+detail_sentence (Operands found wanted) =
+    codes "the number of operands, separated by commas, must be " ++ (decimal wanted ++ (codes ", and is " ++ (decimal found ++ codes "")))
+detail_sentence (Range below above) = range_sentence below above
+detail_sentence (Distance back ahead) = codes "the label must be even, and at most " ++ (decimal back ++ (codes " bytes back or " ++ (decimal ahead ++ codes " ahead")))
+
+abbrev pub kind_sentence : AsmFaultKind → List ℕ
+kind_sentence BadOperand = codes "an operand is missing or of another kind, or the instruction is in .data or not at a multiple of 4"
+kind_sentence kind = asm_sentence kind
+
+abbrev pub detail_or_kind : AsmFaultKind → Option SourceDetail → List ℕ
+detail_or_kind kind (Some detail) = detail_sentence detail
+detail_or_kind kind None = kind_sentence kind
+
+-- a line from a column on, which counts bytes from 1
+abbrev pub from_column : ℕ → Option (List ℕ) → Option (List ℕ)
+from_column column (Some line) = if nat_le (column - 1) (length line) then Some (drop (column - 1) line) else None
+from_column column None = None
+
+-- The line from what is no token on; or the word that is wrong, if the fault tells which.
+abbrev pub quoted_part : List ℕ → AsmFault → Option SourceDetail → Option (List ℕ)
+quoted_part source fault (Some (Token column byte)) = from_column column (line_numbered fault.line source)
+quoted_part source fault detail = quoted source fault
+
+abbrev pub before_quote : Option SourceDetail → List ℕ
+before_quote (Some (Token column byte)) = codes ": \""
+before_quote (Some (Extension extension)) = codes ": \""
+before_quote detail = codes " \""
+
+abbrev pub words_with : List ℕ → AsmFault → Option SourceDetail → List ℕ
+words_with source fault detail = quoting (detail_or_kind fault.kind detail) (before_quote detail) (quoted_part source fault detail)
+
+abbrev pub source_words : List ℕ → AsmFault → List ℕ
+source_words source fault = words_with source fault (source_detail source fault)
