@@ -1,12 +1,13 @@
 -- Settling out-of-band in two steps, and the room that each takes up.
-use Rattle.std.proofs.Common.{◌≡◌, ℕ, List, [], ◌∷◌, ◌+◌, ◌^◌, ◌≤◌, Bool, true, false, Option, Some, None, length, refl, ap, sym, ◌∙◌, arith}
+use Rattle.std.proofs.Common.{◌≡◌, ℕ, List, [], ◌∷◌, ◌+◌, ◌-◌, ◌≤◌, Bool, true, false, Option, Some, None, length, refl, ap, sym, ◌∙◌, arith}
 use Rattle.std.specs.Prelude.{◌==◌, not, slice_get, if◌then◌else◌}
 use Rattle.evm_parts.specs.evm_boost.Scatter.{AreRanks}
-use Rattle.evm_model.specs.Bounds.{PipesUpTo}
+use Rattle.evm_model.specs.Bounds.{COUNT_LIMIT, PER_IN_BAND_LOG, PER_OOB_LOG, PER_SETTLING, HasStamps, PipesUpTo}
 use Rattle.evm_lines.specs.declared.TheConstants.{LINES}
 use Rattle.evm_model.specs.Pipes.{Pipe, arrive, play}
 use Rattle.evm_model.specs.Settle.{play_oob, play_oob_lines, spend_current, run_best, settle_oob, settle_oob_pipe, settle_in_band, settle, nudge, settle_and_nudge}
 use Rattle.evm_model.specs.State.{Parts, on_pipe}
+use Rattle.evm_model.specs.declared.limits.TheConstants.{PROCESSOR_LIMIT}
 use Rattle.evm_model.specs.declared.stage.Stage.TheVariants.{OutOfBand, InBand}
 use Rattle.evm_rules.proofs.Bounded.{AreWithin, within-settle_oob, within-settle_in_band}
 use Rattle.evm_rules.proofs.evm_walk.Counted.{PipesUpTo-more}
@@ -48,18 +49,18 @@ choose-ranks c true k ranks h = h
 choose-ranks c false k ranks h = h
 
 -- ---- room
-pub room-first : (k : Parts) → AreWithin (2 ^ 62) k → PipesUpTo (2 ^ 62) k.pipes
-room-first k w = w.up
+pub room-first : (k : Parts) → AreWithin (COUNT_LIMIT - PER_SETTLING) k → PipesUpTo (COUNT_LIMIT - PER_OOB_LOG) k.pipes
+room-first k w = PipesUpTo-more (COUNT_LIMIT - PER_SETTLING) (COUNT_LIMIT - PER_OOB_LOG) k.pipes (omega arith) w.up
 
 -- the log is played
-pub room-played : (c : ℕ) (k : Parts) → AreWithin (2 ^ 62) k → AreWithin (2 ^ 62 + 64) (play_oob_pipe (slice_get k.pipes c) c k)
+pub room-played : (c : ℕ) (k : Parts) → AreWithin (COUNT_LIMIT - PER_SETTLING) k → AreWithin (COUNT_LIMIT - PER_IN_BAND_LOG) (play_oob_pipe (slice_get k.pipes c) c k)
 room-played c k w =
     let x : Parts = play_oob_pipe (slice_get k.pipes c) c k in
-    let all : AreWithin (2 ^ 62 + 64) (settle_oob c k) = within-settle_oob (2 ^ 62) c k w in
+    let all : AreWithin (COUNT_LIMIT - PER_IN_BAND_LOG) (settle_oob c k) = within-settle_oob (COUNT_LIMIT - PER_SETTLING) c k w in
     let same : x.pipes ≡ (settle_oob c k).pipes = sym (choose-pipes c (chooses (slice_get k.pipes c)) x) ∙ ap (λ (z : Parts). z.pipes) (sym (settle_oob-steps c k)) in
     record { are = rw same all.are; up = rw same all.up }
 
-pub room-up : (k : Parts) → AreWithin (2 ^ 62 + 64) k → PipesUpTo (2 ^ 62 + 64) k.pipes
+pub room-up : (k : Parts) → AreWithin (COUNT_LIMIT - PER_IN_BAND_LOG) k → PipesUpTo (COUNT_LIMIT - PER_IN_BAND_LOG) k.pipes
 room-up k w = w.up
 
 -- each line that is played gives one stamp at most
@@ -76,17 +77,17 @@ unfolding play_oob_lines
 lines-stamps c [] k = omega arith
 lines-stamps c (l ∷ ls) k = omega (arith, play-stamps c l k, lines-stamps c ls (play_oob c l k))
 
-stamps-if : (b : Bool) (k x : Parts) (most : ℕ) → k.stamps ≤ most → x.stamps ≤ most → (if b then k else x).stamps ≤ most
-stamps-if true k x most p q = p
-stamps-if false k x most p q = q
+stamps-if : (b : Bool) (n : ℕ) (k x : Parts) → HasStamps n k → HasStamps n x → HasStamps n (if b then k else x)
+stamps-if true n k x p q = p
+stamps-if false n k x p q = q
 
-stamps-pipe : (c : ℕ) (o : Option Pipe) (k : Parts) → slice_get k.pipes c ≡ o → AreWithin (2 ^ 62) k → k.stamps ≤ 2 ^ 61 → (play_oob_pipe o c k).stamps ≤ 2 ^ 61 + 32
+stamps-pipe : (c : ℕ) (o : Option Pipe) (k : Parts) → slice_get k.pipes c ≡ o → AreWithin (COUNT_LIMIT - PER_SETTLING) k → HasStamps PER_SETTLING k → HasStamps PER_IN_BAND_LOG (play_oob_pipe o c k)
 stamps-pipe c None k e w h = omega arith
 stamps-pipe c (Some pipe) k e w h =
     let few : length pipe.oob.lines ≤ LINES = length-set pipe.oob.lines (w.are c pipe e).oob in
-    stamps-if pipe.oob.stalled k _ (2 ^ 61 + 32) (omega arith) (omega (arith, lines-stamps c pipe.oob.lines k))
+    stamps-if pipe.oob.stalled PER_IN_BAND_LOG k _ (omega arith) (omega (arith, lines-stamps c pipe.oob.lines k))
 
-pub stamps-played : (c : ℕ) (k : Parts) → AreWithin (2 ^ 62) k → k.stamps ≤ 2 ^ 61 → (play_oob_pipe (slice_get k.pipes c) c k).stamps ≤ 2 ^ 61 + 32
+pub stamps-played : (c : ℕ) (k : Parts) → AreWithin (COUNT_LIMIT - PER_SETTLING) k → HasStamps PER_SETTLING k → HasStamps PER_IN_BAND_LOG (play_oob_pipe (slice_get k.pipes c) c k)
 stamps-played c k w h = stamps-pipe c (slice_get k.pipes c) k refl w h
 
 -- the best task is chosen
@@ -94,17 +95,17 @@ choose-within : (b c : ℕ) (chosen : Bool) (k : Parts) → AreWithin b k → Ar
 choose-within b c true k w = record { are = w.are; up = w.up }
 choose-within b c false k w = w
 
-pub room-chosen : (c : ℕ) (b : Bool) (k : Parts) → AreWithin (2 ^ 62 + 64) k → PipesUpTo (2 ^ 62 + 64) (choose b c k).pipes
+pub room-chosen : (c : ℕ) (b : Bool) (k : Parts) → AreWithin (COUNT_LIMIT - PER_IN_BAND_LOG) k → PipesUpTo (COUNT_LIMIT - PER_IN_BAND_LOG) (choose b c k).pipes
 room-chosen c b k w = rw (choose-pipes c b k) w.up
 
-pub stamps-chosen : (c : ℕ) (b : Bool) (k : Parts) → k.stamps ≤ 2 ^ 61 + 32 → (choose b c k).stamps ≤ 2 ^ 61 + 32
+pub stamps-chosen : (c : ℕ) (b : Bool) (k : Parts) → HasStamps PER_IN_BAND_LOG k → HasStamps PER_IN_BAND_LOG (choose b c k)
 stamps-chosen c b k h = rw (choose-stamps c b k) h
 
 -- the in-band part follows, and leaves the ranks
-pub room-settled : (c : ℕ) (b : Bool) (k : Parts) → AreWithin (2 ^ 62 + 64) k → PipesUpTo (2 ^ 62 + 128) (settle_in_band c (choose b c k)).pipes
+pub room-settled : (c : ℕ) (b : Bool) (k : Parts) → AreWithin (COUNT_LIMIT - PER_IN_BAND_LOG) k → PipesUpTo (COUNT_LIMIT - PROCESSOR_LIMIT) (settle_in_band c (choose b c k)).pipes
 room-settled c b k w =
-    let all : AreWithin (2 ^ 62 + 64 + 32) (settle_in_band c (choose b c k)) = within-settle_in_band (2 ^ 62 + 64) c (choose b c k) (choose-within (2 ^ 62 + 64) c b k w) in
-    PipesUpTo-more (2 ^ 62 + 64 + 32) (2 ^ 62 + 128) _ (omega arith) all.up
+    let all : AreWithin (COUNT_LIMIT - PER_IN_BAND_LOG + 32) (settle_in_band c (choose b c k)) = within-settle_in_band (COUNT_LIMIT - PER_IN_BAND_LOG) c (choose b c k) (choose-within (COUNT_LIMIT - PER_IN_BAND_LOG) c b k w) in
+    PipesUpTo-more (COUNT_LIMIT - PER_IN_BAND_LOG + 32) (COUNT_LIMIT - PROCESSOR_LIMIT) _ (omega arith) all.up
 
 ranks-stay : (c : ℕ) (k : Parts) (ranks : List ℕ) → AreRanks ranks k.mutexes k.tasks → AreRanks ranks (settle_in_band c k).mutexes (settle_in_band c k).tasks
 ranks-stay c k ranks h t less =

@@ -1,17 +1,17 @@
-ghost use Rattle.std.specs.Prelude.{◌≡◌, ◌≤◌, ◌<◌, ◌+◌, ◌-◌, ◌^◌, length};
-ghost use Rattle.evm_model.specs.Bounds.{PipesUpTo};
+ghost use Rattle.std.specs.Prelude.{◌≡◌, ◌≤◌, ◌<◌, ◌+◌, ◌-◌, length};
+ghost use Rattle.evm_model.specs.Bounds.{COUNT_LIMIT, PER_IN_BAND_LOG, PER_OOB_LOG, HasStamps, PipesUpTo};
 ghost use Rattle.evm_model.specs.Settle.{play_oob, play_in_band, play_oob_lines, play_in_band_lines};
 
 use evm_lines::{LINES, LineSet};
-use evm_model::Stage;
+use evm_model::{Stage, TASK_LIMIT};
 use evm_parts::Parts;
 
 // Plays a line out-of-band: the timer's line takes a tick of a slice, and goes on into the in-band log.
 #[tactic(auto, using(crate::proofs::Rooms::rooms), unfolding(evm_model::specs::Settle::play_oob))]
 fn play_oob(parts: &mut Parts, c: u8, line: u8)
     requires line { line < LINES }
-    requires room { PipesUpTo (2 ^ 63 - 1) parts.old.pipes }
-    requires stamps { parts.old.stamps ≤ 2 ^ 62 }
+    requires room { PipesUpTo (COUNT_LIMIT - 1) parts.old.pipes }
+    requires stamps { HasStamps 1 parts.old }
     ensures row { parts.new ≡ play_oob c line parts.old }
     ensures stamps { parts.new.stamps ≤ parts.old.stamps + 1 }
 {
@@ -27,8 +27,8 @@ fn play_oob(parts: &mut Parts, c: u8, line: u8)
 #[tactic(auto, unfolding(evm_model::specs::Settle::play_oob_lines))]
 pub(crate) fn play_oob_lines(parts: &mut Parts, c: u8, lines: LineSet)
     requires few { length lines ≤ LINES }
-    requires room { PipesUpTo (2 ^ 62) parts.old.pipes }
-    requires stamps { parts.old.stamps ≤ 2 ^ 61 }
+    requires room { PipesUpTo (COUNT_LIMIT - PER_OOB_LOG) parts.old.pipes }
+    requires stamps { HasStamps PER_OOB_LOG parts.old }
     ensures { parts.new ≡ play_oob_lines c lines parts.old }
 {
     let mut left = lines;
@@ -41,8 +41,8 @@ pub(crate) fn play_oob_lines(parts: &mut Parts, c: u8, lines: LineSet)
 #[tactic(auto, unfolding(evm_model::specs::Settle::play_in_band))]
 fn play_in_band(parts: &mut Parts, c: u8, line: u8)
     requires line { line < LINES }
-    requires room { PipesUpTo (2 ^ 63) parts.old.pipes }
-    requires stamps { parts.old.stamps ≤ 2 ^ 62 }
+    requires room { PipesUpTo COUNT_LIMIT parts.old.pipes }
+    requires stamps { HasStamps TASK_LIMIT parts.old }
     ensures row { parts.new ≡ play_in_band c line parts.old }
     ensures stamps { parts.new.stamps ≤ parts.old.stamps + 64 }
 {
@@ -55,8 +55,8 @@ fn play_in_band(parts: &mut Parts, c: u8, line: u8)
 #[tactic(auto, unfolding(evm_model::specs::Settle::play_in_band_lines))]
 pub(crate) fn play_in_band_lines(parts: &mut Parts, c: u8, lines: LineSet)
     requires few { length lines ≤ LINES }
-    requires room { PipesUpTo (2 ^ 62 + 64) parts.old.pipes }
-    requires stamps { parts.old.stamps ≤ 2 ^ 61 + 32 }
+    requires room { PipesUpTo (COUNT_LIMIT - PER_IN_BAND_LOG) parts.old.pipes }
+    requires stamps { HasStamps PER_IN_BAND_LOG parts.old }
     ensures { parts.new ≡ play_in_band_lines c lines parts.old }
 {
     let mut left = lines;
