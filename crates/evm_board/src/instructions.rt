@@ -1,4 +1,4 @@
-ghost use Rattle.std.specs.Prelude.{◌≡◌, false};
+ghost use Rattle.std.specs.Prelude.{◌≡◌, Some, false};
 ghost use Rattle.evm_exec.specs.declared.outcome.Effect.TheVariants as effects;
 ghost use Rattle.evm_model.specs.Bounds.{PER_CALL, STAMPS_PER_EVENT, HasRoom, HasStamps};
 ghost use Rattle.evm_model.specs.Calls.{call};
@@ -36,10 +36,10 @@ fn fault(parts: &mut Parts, c: u8, t: u8, reason: Fault)
 fn fault_and_settle(parts: &mut Parts, c: u8, t: u8, reason: Fault)
     requires room { HasRoom STAMPS_PER_EVENT parts.old }
     requires few { AreFew parts.old }
-    ensures { parts.new ≡ settle_and_nudge c (fault c t reason parts.old) }
+    ensures { parts.new ≡ settle_and_nudge (Some t) c (fault c t reason parts.old) }
 {
     fault(parts, c, t, reason);
-    settle_and_nudge(parts, c);
+    settle_and_nudge(parts, Some(t), c);
 }
 
 // A task calls a kernel, and its processor settles.
@@ -47,10 +47,10 @@ fn fault_and_settle(parts: &mut Parts, c: u8, t: u8, reason: Fault)
 fn call_and_settle(parts: &mut Parts, c: u8, t: u8)
     requires room { HasRoom STAMPS_PER_EVENT parts.old }
     requires few { AreFew parts.old }
-    ensures { parts.new ≡ settle_and_nudge c (call c t parts.old) }
+    ensures { parts.new ≡ settle_and_nudge (Some t) c (call c t parts.old) }
 {
     call(parts, c, t);
-    settle_and_nudge(parts, c);
+    settle_and_nudge(parts, Some(t), c);
 }
 
 /// Stops a processor.
@@ -66,7 +66,7 @@ impl Board {
     #[tactic(auto, unfolding(evm_model::specs::Instructions::finish))]
     fn finish_load(&mut self, c: u8, t: u8, op: LoadOp, rd: Register, address: u64)
         requires { IsRunning false c t self.old }
-        ensures { self.new ≡ on_parts (settle_and_nudge c) (finish (effects.Load op rd address) c t self.old) }
+        ensures { self.new ≡ on_parts (settle_and_nudge (Some t) c) (finish (effects.Load op rd address) c t self.old) }
     {
         match self.memory.read(address, load_width(op)) {
             None => fault_and_settle(&mut self.parts, c, t, Fault::Load),
@@ -78,7 +78,7 @@ impl Board {
     #[tactic(auto, unfolding(evm_model::specs::Instructions::finish))]
     fn finish_store(&mut self, c: u8, t: u8, width: Width, address: u64, value: u64)
         requires { IsRunning false c t self.old }
-        ensures { self.new ≡ on_parts (settle_and_nudge c) (finish (effects.Store width address value) c t self.old) }
+        ensures { self.new ≡ on_parts (settle_and_nudge (Some t) c) (finish (effects.Store width address value) c t self.old) }
     {
         match self.memory.write(address, width, value) {
             None => fault_and_settle(&mut self.parts, c, t, Fault::Store),

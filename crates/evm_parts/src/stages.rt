@@ -2,7 +2,7 @@
 
 ghost use Rattle.std.specs.Prelude.{◌≡◌, ◌≤◌, ◌+◌};
 ghost use Rattle.evm_model.specs.Bounds.{HasStamps};
-ghost use Rattle.evm_model.specs.Settle.{spend_current};
+ghost use Rattle.evm_model.specs.Settle.{spend};
 ghost use Rattle.evm_model.specs.Stages.{is_stalled, is_attached, may_promote, stage_at};
 ghost use Rattle.evm_model.specs.Tasks.{demote, promote, set_policy, clear_policy, set_mode_bits, set_slice, spend_slice};
 
@@ -81,14 +81,14 @@ impl Parts {
         }
     }
 
-    /// A tick of the slice of a processor's current task, if that is out-of-band and of the round-robin class.
-    #[tactic(auto, unfolding(evm_model::specs::Settle::spend_current))]
-    pub fn spend_current(&mut self, c: u8)
+    /// A tick of the slice of a task, if there is one that is ready out-of-band and of the round-robin class.
+    #[tactic(auto, unfolding(evm_model::specs::Settle::spend))]
+    pub fn spend(&mut self, task: Option<u8>)
         requires room { HasStamps 1 self.old }
-        ensures row { self.new ≡ spend_current c self.old }
+        ensures row { self.new ≡ spend task self.old }
         ensures stamps { self.new.stamps ≤ self.old.stamps + 1 }
     {
-        let Some(t) = self.current(c) else {
+        let Some(t) = task else {
             return;
         };
         let Some(task) = self.tasks.get(t) else {

@@ -6,18 +6,19 @@ use evm_lines::{LINES, LineSet};
 use evm_model::{Stage, TASK_LIMIT};
 use evm_parts::Parts;
 
-// Plays a line out-of-band: the timer's line takes a tick of a slice, and goes on into the in-band log.
+// Plays a line out-of-band: the timer's line takes a tick of the slice of the task that was current, and goes on into
+// the in-band log.
 #[tactic(auto, using(crate::proofs::Rooms::rooms), unfolding(evm_model::specs::Settle::play_oob))]
-fn play_oob(parts: &mut Parts, c: u8, line: u8)
+fn play_oob(parts: &mut Parts, was: Option<u8>, c: u8, line: u8)
     requires line { line < LINES }
     requires room { PipesUpTo (COUNT_LIMIT - 1) parts.old.pipes }
     requires stamps { HasStamps 1 parts.old }
-    ensures row { parts.new ≡ play_oob c line parts.old }
+    ensures row { parts.new ≡ play_oob was c line parts.old }
     ensures stamps { parts.new.stamps ≤ parts.old.stamps + 1 }
 {
     parts.play(c, Stage::OutOfBand, line);
     if line == 0 {
-        parts.spend_current(c);
+        parts.spend(was);
         parts.arrive(c, Stage::InBand, 0);
     }
 }
@@ -25,15 +26,15 @@ fn play_oob(parts: &mut Parts, c: u8, line: u8)
 // Plays lines out-of-band, the least first. Apart, as after most events there are none.
 #[inline(never)]
 #[tactic(auto, unfolding(evm_model::specs::Settle::play_oob_lines))]
-pub(crate) fn play_oob_lines(parts: &mut Parts, c: u8, lines: LineSet)
+pub(crate) fn play_oob_lines(parts: &mut Parts, was: Option<u8>, c: u8, lines: LineSet)
     requires few { length lines ≤ LINES }
     requires room { PipesUpTo (COUNT_LIMIT - PER_OOB_LOG) parts.old.pipes }
     requires stamps { HasStamps PER_OOB_LOG parts.old }
-    ensures { parts.new ≡ play_oob_lines c lines parts.old }
+    ensures { parts.new ≡ play_oob_lines was c lines parts.old }
 {
     let mut left = lines;
     'playing: while let Some(line) = left.pop() {
-        play_oob(parts, c, line);
+        play_oob(parts, was, c, line);
     }
 }
 

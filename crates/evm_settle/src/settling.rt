@@ -13,10 +13,10 @@ use evm_parts::Parts;
 
 // Unless it is stalled the out-of-band log is played. Answers whether the best task is to be current then.
 #[tactic(auto, unfolding(evm_model::specs::Settle::play_oob_lines))]
-fn play_oob_log(parts: &mut Parts, c: u8) -> bool
+fn play_oob_log(parts: &mut Parts, was: Option<u8>, c: u8) -> bool
     requires room { PipesUpTo (COUNT_LIMIT - PER_OOB_LOG) parts.old.pipes }
     requires stamps { HasStamps PER_OOB_LOG parts.old }
-    ensures row { parts.new ≡ play_oob_pipe (slice_get parts.old.pipes c) c parts.old }
+    ensures row { parts.new ≡ play_oob_pipe (slice_get parts.old.pipes c) was c parts.old }
     ensures chooses { result ≡ chooses (slice_get parts.old.pipes c) }
 {
     let Some(pipe) = parts.pipe(c) else {
@@ -27,7 +27,7 @@ fn play_oob_log(parts: &mut Parts, c: u8) -> bool
         return false;
     }
     if !log.lines.is_empty() {
-        play_oob_lines(parts, c, log.lines);
+        play_oob_lines(parts, was, c, log.lines);
     }
     true
 }
@@ -122,14 +122,15 @@ fn settle_by_ranks(parts: &mut Parts, c: u8, chooses: bool)
     nudge(parts, c, &ranks);
 }
 
-/// A processor settles, and tells the others that should run another task.
+/// A processor settles after an event, and tells the others that should run another task. `was` is the task that was
+/// current there before the event.
 #[tactic(auto, using(crate::proofs::Steps::steps, crate::proofs::Quiet::quiet))]
-pub fn settle_and_nudge(parts: &mut Parts, c: u8)
+pub fn settle_and_nudge(parts: &mut Parts, was: Option<u8>, c: u8)
     requires room { AreWithin (COUNT_LIMIT - PER_SETTLING) parts.old }
     requires stamps { HasStamps PER_SETTLING parts.old }
-    ensures { parts.new ≡ settle_and_nudge c parts.old }
+    ensures { parts.new ≡ settle_and_nudge was c parts.old }
 {
-    let chooses = play_oob_log(parts, c);
+    let chooses = play_oob_log(parts, was, c);
     // Where no task is ready out-of-band no processor has a best one, so the in-band part is all that follows.
     if parts.tasks.has_oob() {
         settle_by_ranks(parts, c, chooses);

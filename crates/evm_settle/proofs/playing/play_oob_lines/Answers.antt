@@ -22,6 +22,6 @@ playing-preserved c =
     record {
       rest = rw c.play_oob.ensures.row (rw cut at c.playing.invariant.rest);
       few = omega (arith, c.playing.invariant.few);
-      room = rw c.play_oob.ensures.row (PipesUpTo-more (COUNT_LIMIT - 2 * length c.playing.left + 2) _ _ (omega (arith, shorter, c.playing.invariant.few)) (play_oob-up _ c.args.c c.in-Some.line c.playing.parts c.playing.invariant.room));
+      room = rw c.play_oob.ensures.row (PipesUpTo-more (COUNT_LIMIT - 2 * length c.playing.left + 2) _ _ (omega (arith, shorter, c.playing.invariant.few)) (play_oob-up _ c.args.was c.args.c c.in-Some.line c.playing.parts c.playing.invariant.room));
       stamps = omega (arith, c.playing.invariant.few, c.playing.invariant.stamps, c.play_oob.ensures.stamps);
     }

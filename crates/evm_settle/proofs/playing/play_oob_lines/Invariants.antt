@@ -7,7 +7,7 @@ use Rattle.evm_settle.proofs.playing.play_oob_lines.Given as goal
 -- what is left to play does what all the lines do at the start
 abbrev pub invariant-playing : goal.invariant-playing
 invariant-playing l = record {
-  rest : play_oob_lines l.c l.left l.parts ≡ play_oob_lines l.c l.fn.lines l.fn.parts;
+  rest : play_oob_lines l.was l.c l.left l.parts ≡ play_oob_lines l.was l.c l.fn.lines l.fn.parts;
   few : length l.left ≤ LINES;
   room : PipesUpTo (COUNT_LIMIT - 2 * length l.left) l.parts.pipes;
   stamps : HasStamps (length l.left) l.parts;
