@@ -1,11 +1,12 @@
-ghost use Rattle.std.specs.Prelude.{◌≡◌, ◌<◌, ◌≤◌, ◌^◌, map, false};
-ghost use Rattle.evm_model.specs.Bounds.{PipesUpTo};
+ghost use Rattle.std.specs.Prelude.{◌≡◌, ◌<◌, ◌≤◌, ◌-◌, map, false};
+ghost use Rattle.evm_model.specs.Bounds.{COUNT_LIMIT, PipesUpTo};
 ghost use Rattle.evm_model.specs.Commands.{tick, set_bits, on_current};
 ghost use Rattle.evm_model.specs.Harts.{set_register, set_pc};
 ghost use Rattle.evm_model.specs.Pipes.{raise};
 ghost use Rattle.evm_model.specs.Refusals.{bad_register};
 
 use evm_isa::Register;
+use evm_model::PROCESSOR_LIMIT;
 use evm_settle::Parts;
 
 /// Sets a processor's stop and skip bits.
@@ -18,7 +19,7 @@ pub(crate) fn set_bits(parts: &mut Parts, stopped: bool, skip: bool, c: u8)
 
 // Raises line 0 on every processor.
 fn raise_timers(parts: &mut Parts)
-    requires { PipesUpTo (2 ^ 61) parts.old.pipes }
+    requires { PipesUpTo (COUNT_LIMIT - PROCESSOR_LIMIT) parts.old.pipes }
     ensures { parts.new ≡ record parts.old { pipes = map (raise 0) parts.old.pipes } }
 {
     for c in 0..parts.pipe_count() {
@@ -29,8 +30,8 @@ fn raise_timers(parts: &mut Parts)
 /// The clock ticks: line 0 is raised on every processor.
 #[tactic(auto, unfolding(evm_model::specs::Commands::tick))]
 pub(crate) fn tick(parts: &mut Parts)
-    requires clock { parts.old.ticks < 2 ^ 63 }
-    requires room { PipesUpTo (2 ^ 61) parts.old.pipes }
+    requires clock { parts.old.ticks < COUNT_LIMIT }
+    requires room { PipesUpTo (COUNT_LIMIT - PROCESSOR_LIMIT) parts.old.pipes }
     ensures { parts.new ≡ tick parts.old }
 {
     parts.ticks += 1;

@@ -1,13 +1,12 @@
-ghost use Rattle.std.specs.Prelude.{◌≡◌, ◌≤◌, ◌^◌, false, length};
+ghost use Rattle.std.specs.Prelude.{◌≡◌, Some, false};
 ghost use Rattle.evm_exec.specs.declared.outcome.Effect.TheVariants as effects;
-ghost use Rattle.evm_model.specs.Bounds.{HeldUpTo};
+ghost use Rattle.evm_model.specs.Bounds.{PER_CALL, STAMPS_PER_EVENT, HasRoom, HasStamps};
 ghost use Rattle.evm_model.specs.Calls.{call};
 ghost use Rattle.evm_model.specs.Instructions.{fault, stop, finish};
 ghost use Rattle.evm_model.specs.Settle.{settle_and_nudge};
 ghost use Rattle.evm_model.specs.State.{on_parts};
 ghost use Rattle.evm_board.specs.Steps.{IsRunning};
 ghost use Rattle.evm_board.specs.Stops.{follow};
-ghost use Rattle.evm_rules.specs.Within.{AreWithin};
 ghost use Rattle.evm_walk.specs.Few.{AreFew};
 
 use crate::board::Board;
@@ -22,7 +21,7 @@ use evm_settle::{Parts, settle_and_nudge};
 
 // A fault sends an out-of-band task in-band, and ends another.
 fn fault(parts: &mut Parts, c: u8, t: u8, reason: Fault)
-    requires { parts.old.stamps ≤ 2 ^ 60 }
+    requires { HasStamps PER_CALL parts.old }
     ensures { parts.new ≡ fault c t reason parts.old }
 {
     if parts.tasks.is_oob(Some(t)) {
@@ -35,27 +34,23 @@ fn fault(parts: &mut Parts, c: u8, t: u8, reason: Fault)
 // A task's instruction faults, and its processor settles.
 #[tactic(auto, using(crate::proofs::Rooms::fault_stamps))]
 fn fault_and_settle(parts: &mut Parts, c: u8, t: u8, reason: Fault)
-    requires room { AreWithin (2 ^ 61) parts.old }
-    requires stamps { parts.old.stamps ≤ 2 ^ 60 }
+    requires room { HasRoom STAMPS_PER_EVENT parts.old }
     requires few { AreFew parts.old }
-    ensures { parts.new ≡ settle_and_nudge c (fault c t reason parts.old) }
+    ensures { parts.new ≡ settle_and_nudge (Some t) c (fault c t reason parts.old) }
 {
     fault(parts, c, t, reason);
-    settle_and_nudge(parts, c);
+    settle_and_nudge(parts, Some(t), c);
 }
 
 // A task calls a kernel, and its processor settles.
 #[tactic(auto, using(crate::proofs::Rooms::calls))]
 fn call_and_settle(parts: &mut Parts, c: u8, t: u8)
-    requires room { AreWithin (2 ^ 61) parts.old }
-    requires stamps { parts.old.stamps ≤ 2 ^ 60 }
-    requires held { HeldUpTo (2 ^ 62) parts.old.mutexes }
+    requires room { HasRoom STAMPS_PER_EVENT parts.old }
     requires few { AreFew parts.old }
-    requires harts { length parts.old.harts ≡ length parts.old.tasks }
-    ensures { parts.new ≡ settle_and_nudge c (call c t parts.old) }
+    ensures { parts.new ≡ settle_and_nudge (Some t) c (call c t parts.old) }
 {
     call(parts, c, t);
-    settle_and_nudge(parts, c);
+    settle_and_nudge(parts, Some(t), c);
 }
 
 /// Stops a processor.
@@ -71,7 +66,7 @@ impl Board {
     #[tactic(auto, unfolding(evm_model::specs::Instructions::finish))]
     fn finish_load(&mut self, c: u8, t: u8, op: LoadOp, rd: Register, address: u64)
         requires { IsRunning false c t self.old }
-        ensures { self.new ≡ on_parts (settle_and_nudge c) (finish (effects.Load op rd address) c t self.old) }
+        ensures { self.new ≡ on_parts (settle_and_nudge (Some t) c) (finish (effects.Load op rd address) c t self.old) }
     {
         match self.memory.read(address, load_width(op)) {
             None => fault_and_settle(&mut self.parts, c, t, Fault::Load),
@@ -83,7 +78,7 @@ impl Board {
     #[tactic(auto, unfolding(evm_model::specs::Instructions::finish))]
     fn finish_store(&mut self, c: u8, t: u8, width: Width, address: u64, value: u64)
         requires { IsRunning false c t self.old }
-        ensures { self.new ≡ on_parts (settle_and_nudge c) (finish (effects.Store width address value) c t self.old) }
+        ensures { self.new ≡ on_parts (settle_and_nudge (Some t) c) (finish (effects.Store width address value) c t self.old) }
     {
         match self.memory.write(address, width, value) {
             None => fault_and_settle(&mut self.parts, c, t, Fault::Store),

@@ -1,10 +1,9 @@
-ghost use Rattle.std.specs.Prelude.{◌≡◌, ◌<◌, ◌≤◌, ◌^◌, Option};
-ghost use Rattle.evm_model.specs.Bounds.{HeldUpTo};
+ghost use Rattle.std.specs.Prelude.{◌≡◌, ◌<◌, Option};
+ghost use Rattle.evm_model.specs.Bounds.{COUNT_LIMIT, STAMPS_PER_EVENT, HasRoom};
 ghost use Rattle.evm_model.specs.Good.{Good};
 ghost use Rattle.evm_model.specs.Event.{event_lent};
 ghost use Rattle.evm_model.specs.Refusals.{board_refusal};
 ghost use Rattle.evm_model.specs.Rows.{row};
-ghost use Rattle.evm_rules.specs.Within.{AreWithin};
 
 use crate::board::Board;
 use crate::commands::{set_bits, set_pc, set_register, tick};
@@ -17,10 +16,8 @@ impl Board {
     pub fn row(&mut self, event: &Event<&Block>) -> Answer
         requires accepted { board_refusal (event_lent event.now) self.old ≡ Option.None }
         requires good { Good self.old.parts }
-        requires clock { self.old.parts.ticks < 2 ^ 63 }
-        requires room { AreWithin (2 ^ 61) self.old.parts }
-        requires stamps { self.old.parts.stamps ≤ 2 ^ 60 }
-        requires held { HeldUpTo (2 ^ 62) self.old.parts.mutexes }
+        requires clock { self.old.parts.ticks < COUNT_LIMIT }
+        requires room { HasRoom STAMPS_PER_EVENT self.old.parts }
         ensures { (self.new, result) ≡ row (event_lent event.now) self.old }
     {
         match event {

@@ -2,7 +2,7 @@
 use Rattle.std.proofs.Common.{◌≡◌, ℕ, ◌+◌, ◌≤◌, Bool, Some, true, false, refl, sym, ap, arith}
 use Rattle.std.specs.Prelude.{not, slice_get, ◌&&◌, if◌then◌else◌}
 use Rattle.evm_calls.specs.Asking.{IsMade}
-use Rattle.evm_calls.specs.Room.{PER_CALL, HasRoom, HasStamps}
+use Rattle.evm_model.specs.Bounds.{PER_CALL, HasRoom, HasStamps}
 use Rattle.evm_exec.specs.declared.hart.Hart.{Hart}
 use Rattle.evm_model.specs.Calls.{answered, call, finish_call, is_weak_oob, perform, return_weak}
 use Rattle.evm_model.specs.Harts.{answer}

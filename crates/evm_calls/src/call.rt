@@ -2,7 +2,7 @@
 
 ghost use Rattle.std.specs.Prelude.{◌≡◌};
 ghost use Rattle.evm_exec.specs.declared.hart.Hart.{Hart};
-ghost use Rattle.evm_calls.specs.Room.{PER_CALL, HasRoom, HasStamps};
+ghost use Rattle.evm_model.specs.Bounds.{PER_CALL, HasRoom, HasStamps};
 ghost use Rattle.evm_model.specs.Calls.{perform, return_weak, answered, finish_call, ask_oob, call_on, call_stage, call};
 ghost use Rattle.evm_calls.specs.Asking.{IsAsked, IsMade};
 ghost use Rattle.evm_parts.specs.evm_task.Asks.{AskedBy};

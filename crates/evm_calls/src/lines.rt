@@ -1,7 +1,7 @@
 //! Interrupt lines: their actions, and waiting for them.
 
 ghost use Rattle.std.specs.Prelude.{◌≡◌};
-ghost use Rattle.evm_calls.specs.Room.{PER_CALL, HasRoom};
+ghost use Rattle.evm_model.specs.Bounds.{PER_CALL, HasRoom};
 ghost use Rattle.evm_model.specs.InBandCalls.{wait_line, set_line};
 
 use crate::refused::refused;

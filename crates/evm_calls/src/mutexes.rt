@@ -1,7 +1,7 @@
 //! Mutexes.
 
 ghost use Rattle.std.specs.Prelude.{◌≡◌, ◌≤◌};
-ghost use Rattle.evm_calls.specs.Room.{COUNT_LIMIT, PER_CALL, HasRoom};
+ghost use Rattle.evm_model.specs.Bounds.{COUNT_LIMIT, PER_CALL, HasRoom};
 ghost use Rattle.evm_model.specs.Locks.{new_mutex, mutex_of, with_ceiling, lock, lock_again, lock_other, try_lock, unlock, unlock_once};
 ghost use Rattle.evm_model.specs.Mutexes.{free_mutex};
 

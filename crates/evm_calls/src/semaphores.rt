@@ -1,7 +1,7 @@
 //! Semaphores.
 
 ghost use Rattle.std.specs.Prelude.{◌≡◌};
-ghost use Rattle.evm_calls.specs.Room.{PER_CALL, HasRoom};
+ghost use Rattle.evm_model.specs.Bounds.{PER_CALL, HasRoom};
 ghost use Rattle.evm_model.specs.Semaphores.{new_semaphore, sem_get, sem_try_get, sem_put};
 
 use crate::refused::refused;

@@ -1,7 +1,7 @@
 //! The stages of a processor, and the stage of a task.
 
 ghost use Rattle.std.specs.Prelude.{◌≡◌};
-ghost use Rattle.evm_calls.specs.Room.{PER_CALL, HasRoom};
+ghost use Rattle.evm_model.specs.Bounds.{PER_CALL, HasRoom};
 ghost use Rattle.evm_model.specs.OobCalls.{stall, switch_oob, switch_in_band, state_bits};
 ghost use Rattle.evm_model.specs.Stages.{bit};
 

@@ -1,7 +1,7 @@
 //! Tasks that begin, end, and go behind others.
 
 ghost use Rattle.std.specs.Prelude.{◌≡◌};
-ghost use Rattle.evm_calls.specs.Room.{PER_CALL, HasRoom};
+ghost use Rattle.evm_model.specs.Bounds.{PER_CALL, HasRoom};
 ghost use Rattle.evm_model.specs.InBandCalls.{exit, yield_now, is_bad_entry, spawn};
 ghost use Rattle.evm_model.specs.OobCalls.{yield_oob};
 

@@ -73,15 +73,15 @@ pub fn a_private_row_settles_nothing()
     ensures registers { (boot : Boot) (s : State) (c t : ℕ) (pipe : Pipe) (p : Processor) (harts : List Hart) → Reached boot s →
         slice_get s.board.parts.pipes c ≡ Option.Some pipe → slice_get s.board.parts.processors c ≡ Option.Some p →
         pipe.wire ≡ [] → p.current ≡ Option.Some t →
-        settle_and_nudge c (record s.board.parts { harts = harts }) ≡ record s.board.parts { harts = harts } }
+        settle_and_nudge (Option.Some t) c (record s.board.parts { harts = harts }) ≡ record s.board.parts { harts = harts } }
     ensures passes { (boot : Boot) (s : State) (c t : ℕ) (pipe : Pipe) (p : Processor) (harts : List Hart) → Reached boot s →
         slice_get s.board.parts.pipes c ≡ Option.Some pipe → slice_get s.board.parts.processors c ≡ Option.Some p →
         pipe.wire ≡ [] → p.current ≡ Option.Some t →
-        settle_and_nudge c (record (on_processor c (λ p. record p { skip = false }) s.board.parts) { harts = harts }) ≡ record (on_processor c (λ p. record p { skip = false }) s.board.parts) { harts = harts } }
+        settle_and_nudge (Option.Some t) c (record (on_processor c (λ p. record p { skip = false }) s.board.parts) { harts = harts }) ≡ record (on_processor c (λ p. record p { skip = false }) s.board.parts) { harts = harts } }
     ensures stops { (boot : Boot) (s : State) (c t : ℕ) (pipe : Pipe) (p : Processor) (harts : List Hart) → Reached boot s →
         slice_get s.board.parts.pipes c ≡ Option.Some pipe → slice_get s.board.parts.processors c ≡ Option.Some p →
         pipe.wire ≡ [] → p.current ≡ Option.Some t →
-        settle_and_nudge c (stop c (record (on_processor c (λ p. record p { skip = false }) s.board.parts) { harts = harts })) ≡ stop c (record (on_processor c (λ p. record p { skip = false }) s.board.parts) { harts = harts }) }
+        settle_and_nudge (Option.Some t) c (stop c (record (on_processor c (λ p. record p { skip = false }) s.board.parts) { harts = harts })) ≡ stop c (record (on_processor c (λ p. record p { skip = false }) s.board.parts) { harts = harts }) }
 {
     evm_rules::rules_hold();
     evm_rules::rows_settle_nothing();

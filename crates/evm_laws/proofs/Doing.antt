@@ -53,8 +53,8 @@ module _ (law : (w : ℕ) (i : Inst) → w < 2 ^ 32 → (decoded w ≡ Some i) �
       ∙ ap (λ (o : Option Hart). step_hart o p c t b) at.there
       ∙ ap (λ (pc : ℕ). cond (is_set b.breakpoints pc && not p.skip) (on_parts (stop c) b, Hit) (run hart c t b)) at.pc
       ∙ ap (λ (x : Bool). cond x (on_parts (stop c) b, Hit) (run hart c t b)) goes
-      ∙ ap (λ (o : Option Hart). (on_parts (settle_and_nudge c) (execute_some o c t before), Ran t)) (sym at.there)
-      ∙ ap (λ (after : Board). (on_parts (settle_and_nudge c) after, Ran t)) (executes l w c t hart before at_line)
+      ∙ ap (λ (o : Option Hart). (on_parts (settle_and_nudge (Some t) c) (execute_some o c t before), Ran t)) (sym at.there)
+      ∙ ap (λ (after : Board). (on_parts (settle_and_nudge (Some t) c) after, Ran t)) (executes l w c t hart before at_line)
 
   -- nothing is wrong with a Step of a processor that is there
   allowed : (s : State) (c : ℕ) (p : Processor) → length s.journal < s.boot.capacity → slice_get s.board.parts.processors c ≡ Some p

@@ -143,7 +143,7 @@ first_line : (boot : Boot) (bytes : List ℕ) (l : ProgramLine) → AcceptsStep 
     → BeginsWithLine boot (after boot bytes) l
 first_line boot bytes l accepts good has first =
     first_stepped boot bytes l accepts good has first
-    ∙ ap (λ (b : Board). Ok (accept (Step 0) (on_parts (settle_and_nudge 0) (line_done l (first_hart boot.ram) 0 0 b), Ran 0) (after boot bytes)))
+    ∙ ap (λ (b : Board). Ok (accept (Step 0) (on_parts (settle_and_nudge (Some 0) 0) (line_done l (first_hart boot.ram) 0 0 b), Ran 0) (after boot bytes)))
     (not_skipped boot bytes good)
 
 module _ (fill : (bytes : List ℕ) (i : ℕ) → byte_at (image_of_bytes bytes) (range_start + i) ≡ slice_index bytes i) where

@@ -43,7 +43,7 @@ RefusedWhereItDoesNot =
 abbrev pub BeginsWithLine : Boot → State → ProgramLine → Type 0
 BeginsWithLine boot s l =
     l.address ≡ range_start
-    → apply s (Step 0) ≡ Ok (accept (Step 0) (on_parts (settle_and_nudge 0) (line_done l (first_hart boot.ram) 0 0 s.board), Ran 0) s)
+    → apply s (Step 0) ≡ Ok (accept (Step 0) (on_parts (settle_and_nudge (Some 0) 0) (line_done l (first_hart boot.ram) 0 0 s.board), Ran 0) s)
 
 abbrev pub AssembledAndRun : Type 0
 AssembledAndRun =

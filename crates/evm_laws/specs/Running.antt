@@ -57,7 +57,7 @@ skip_off c b = on_parts (on_processor c (λ p. record p { skip = false })) b
 
 -- the line's instruction is done, a breakpoint isn't passed another time, and the processor settles
 abbrev pub line_stepped : ProgramLine → Hart → ℕ → ℕ → Board → Board
-line_stepped l hart c t b = on_parts (settle_and_nudge c) (line_done l hart c t (skip_off c b))
+line_stepped l hart c t b = on_parts (settle_and_nudge (Some t) c) (line_done l hart c t (skip_off c b))
 
 -- a Step of such a processor, whose task is at the line, does so and answers that the task ran
 abbrev pub StepsLine : ProgramLine → Type 0

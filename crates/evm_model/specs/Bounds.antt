@@ -1,6 +1,7 @@
--- Counts within a bound.
-use Rattle.std.specs.Prelude.{◌≡◌, ℕ, ◌≤◌, List, Some, slice_get}
+-- Counts within a bound, and room for more of them.
+use Rattle.std.specs.Prelude.{◌≡◌, ℕ, ◌+◌, ◌-◌, ◌^◌, ◌≤◌, List, Some, length, slice_get}
 use Rattle.evm_model.specs.Pipes.{Pipe}
+use Rattle.evm_model.specs.State.{Parts}
 use Rattle.evm_model.specs.declared.counts.Counts.{Counts}
 use Rattle.evm_model.specs.declared.counts.Passage.{Passage}
 use Rattle.evm_model.specs.declared.mutex.Mutex.{Mutex}
@@ -37,3 +38,35 @@ pub record PipesUpTo (bound : ℕ) (pipes : List Pipe) : Type 0 where
 -- no mutex is locked more often
 pub record HeldUpTo (bound : ℕ) (mutexes : List Mutex) : Type 0 where
   pub count : (m : ℕ) (mutex : Mutex) → slice_get mutexes m ≡ Some mutex → mutex.count ≤ bound
+
+-- ---- room in the counters of 64 bits
+-- stamps and counts are kept up to here, below 2 ^ 64, where they would wrap
+abbrev pub COUNT_LIMIT : ℕ
+COUNT_LIMIT = 2 ^ 63
+
+-- a call, or a fault, gives fewer stamps than this, and adds less to a count
+abbrev pub PER_CALL : ℕ
+PER_CALL = 64
+
+-- so does an out-of-band log that is played
+abbrev pub PER_OOB_LOG : ℕ
+PER_OOB_LOG = 64
+
+-- .. and an in-band one no more: each of 32 lines wakes up to 64 tasks
+abbrev pub PER_IN_BAND_LOG : ℕ
+PER_IN_BAND_LOG = 2048
+
+-- .. and all of settling, with the other processors that are told
+abbrev pub PER_SETTLING : ℕ
+PER_SETTLING = 2112
+
+-- so many stamps can be given
+abbrev pub HasStamps : ℕ → Parts → Type 0
+HasStamps n k = k.stamps + n ≤ COUNT_LIMIT
+
+-- .. each count of a line can grow by as much, and each mutex can be locked once more; and there is a hart for each task
+pub record HasRoom (n : ℕ) (k : Parts) : Type 0 where
+  pub stamps : HasStamps n k
+  pub counts : PipesUpTo (COUNT_LIMIT - n) k.pipes
+  pub holds : HeldUpTo COUNT_LIMIT k.mutexes
+  pub harts : length k.harts ≡ length k.tasks

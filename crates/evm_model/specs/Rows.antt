@@ -18,7 +18,7 @@ use Rattle.evm_model.specs.declared.processor.Processor.{Processor}
 -- the task does its instruction; the skip bit goes off
 abbrev pub run : Hart → ℕ → ℕ → Board → Board × Answer
 run hart c t b =
-    (on_parts (settle_and_nudge c) (execute hart c t (on_parts (on_processor c (λ p. record p { skip = false })) b)), Ran t)
+    (on_parts (settle_and_nudge (Some t) c) (execute hart c t (on_parts (on_processor c (λ p. record p { skip = false })) b)), Ran t)
 
 -- unless a breakpoint at its pc stops it, which the skip bit passes once
 abbrev pub step_hart : Option Hart → Processor → ℕ → ℕ → Board → Board × Answer
@@ -28,13 +28,13 @@ step_hart (Some hart) p c t b =
 
 -- no current task: the processor idles
 abbrev pub step_current : Option ℕ → Processor → ℕ → Board → Board × Answer
-step_current None p c b = (on_parts (settle_and_nudge c) b, Idle)
+step_current None p c b = (on_parts (settle_and_nudge None c) b, Idle)
 step_current (Some t) p c b = step_hart (slice_get b.parts.harts t) p c t b
 
 -- a line on the wire is received before an instruction, the least first
 abbrev pub step_wire : Option ℕ → Processor → ℕ → Board → Board × Answer
 step_wire None p c b = step_current p.current p c b
-step_wire (Some l) p c b = (on_parts (λ k. settle_and_nudge c (on_pipe c (receive l) k)) b, Received l)
+step_wire (Some l) p c b = (on_parts (λ k. settle_and_nudge p.current c (on_pipe c (receive l) k)) b, Received l)
 
 abbrev pub step_pipe : Option Pipe → Processor → ℕ → Board → Board × Answer
 step_pipe None p c b = (b, Stopped)

@@ -28,31 +28,29 @@ abbrev pub is_oob : Option ℕ → List Task → Bool
 is_oob None tasks = false
 is_oob (Some t) tasks = is_oob_task (slice_get tasks t)
 
--- a tick of the slice of c's current task
-abbrev pub spend_of : Option ℕ → Parts → Parts
-spend_of None k = k
-spend_of (Some t) k = spend_task (slice_get k.tasks t) t k
+-- a tick of the slice of this task, if there is one
+unfoldable pub spend : Option ℕ → Parts → Parts
+spend None k = k
+spend (Some t) k = spend_task (slice_get k.tasks t) t k
 
-unfoldable pub spend_current : ℕ → Parts → Parts
-spend_current c k = spend_of (current c k) k
-
--- what an out-of-band play does: the timer's line takes a tick of the current task's slice, and goes on into the
--- in-band log, for the in-band tick
-abbrev pub handle_oob : ℕ → ℕ → Parts → Parts
-handle_oob c l k = if l == 0 then on_pipe c (arrive InBand 0) (spend_current c k) else k
+-- ---- `was`, from here on, is the task that was current on c before the event
+-- what an out-of-band play does: the timer's line takes a tick of that task's slice, and goes on into the in-band log,
+-- for the in-band tick
+abbrev pub handle_oob : Option ℕ → ℕ → ℕ → Parts → Parts
+handle_oob was c l k = if l == 0 then on_pipe c (arrive InBand 0) (spend was k) else k
 
 -- line l is played out-of-band on c
-unfoldable pub play_oob : ℕ → ℕ → Parts → Parts
-play_oob c l k = handle_oob c l (on_pipe c (play OutOfBand l) k)
+unfoldable pub play_oob : Option ℕ → ℕ → ℕ → Parts → Parts
+play_oob was c l k = handle_oob was c l (on_pipe c (play OutOfBand l) k)
 
 -- line l is played in-band on c: the tasks that wait there for it wake
 unfoldable pub play_in_band : ℕ → ℕ → Parts → Parts
 play_in_band c l k = wake_below c l (length k.tasks) (on_pipe c (play InBand l) k)
 
 -- lines are played one after another, in the order of the list
-unfoldable pub play_oob_lines : ℕ → List ℕ → Parts → Parts
-play_oob_lines c [] k = k
-play_oob_lines c (l ∷ ls) k = play_oob_lines c ls (play_oob c l k)
+unfoldable pub play_oob_lines : Option ℕ → ℕ → List ℕ → Parts → Parts
+play_oob_lines was c [] k = k
+play_oob_lines was c (l ∷ ls) k = play_oob_lines was c ls (play_oob was c l k)
 
 unfoldable pub play_in_band_lines : ℕ → List ℕ → Parts → Parts
 play_in_band_lines c [] k = k
@@ -63,12 +61,12 @@ abbrev pub run_best : ℕ → Parts → Parts
 run_best c k = on_processor c (λ p. record p { current = best c k.mutexes k.tasks }) k
 
 -- the out-of-band part: unless it is stalled the log is played, and the best task is current
-abbrev pub settle_oob_pipe : Option Pipe → ℕ → Parts → Parts
-settle_oob_pipe None c k = k
-settle_oob_pipe (Some pipe) c k = if pipe.oob.stalled then k else run_best c (play_oob_lines c pipe.oob.lines k)
+abbrev pub settle_oob_pipe : Option Pipe → Option ℕ → ℕ → Parts → Parts
+settle_oob_pipe None was c k = k
+settle_oob_pipe (Some pipe) was c k = if pipe.oob.stalled then k else run_best c (play_oob_lines was c pipe.oob.lines k)
 
-unfoldable pub settle_oob : ℕ → Parts → Parts
-settle_oob c k = settle_oob_pipe (slice_get k.pipes c) c k
+unfoldable pub settle_oob : Option ℕ → ℕ → Parts → Parts
+settle_oob was c k = settle_oob_pipe (slice_get k.pipes c) was c k
 
 -- the in-band current task stays, or the ready one of least stamp is taken up; it is current
 abbrev pub take_up : Option ℕ → Option ℕ → Option ℕ
@@ -93,8 +91,8 @@ turn_in_band c k = run_in_band c (play_in_band_pipe (slice_get k.pipes c) c k)
 unfoldable pub settle_in_band : ℕ → Parts → Parts
 settle_in_band c k = if is_oob (current c k) k.tasks then k else turn_in_band c k
 
-unfoldable pub settle : ℕ → Parts → Parts
-settle c k = settle_in_band c (settle_oob c k)
+unfoldable pub settle : Option ℕ → ℕ → Parts → Parts
+settle was c k = settle_in_band c (settle_oob was c k)
 
 -- whether a processor that should run the first runs another, or none
 abbrev pub differs : Option ℕ → Option ℕ → Bool
@@ -114,5 +112,5 @@ unfoldable pub nudge : ℕ → Parts → Parts
 nudge c k = record k { pipes = each (nudge_pipe c k) k.pipes }
 
 -- c settles, and tells the others
-unfoldable pub settle_and_nudge : ℕ → Parts → Parts
-settle_and_nudge c k = nudge c (settle c k)
+unfoldable pub settle_and_nudge : Option ℕ → ℕ → Parts → Parts
+settle_and_nudge was c k = nudge c (settle was c k)

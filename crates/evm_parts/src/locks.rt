@@ -1,7 +1,8 @@
 //! What rows do to a mutex, and to the tasks that wait for it.
 
-ghost use Rattle.std.specs.Prelude.{◌≡◌, ◌<◌, ◌≤◌, ◌+◌, ◌^◌, Some, None, length, slice_get};
+ghost use Rattle.std.specs.Prelude.{◌≡◌, ◌<◌, ◌≤◌, ◌+◌, Some, None, length, slice_get};
 ghost use Rattle.evm_boost.specs.Scatter.{AreRanks};
+ghost use Rattle.evm_model.specs.Bounds.{HasStamps};
 ghost use Rattle.evm_model.specs.Locks.{add_mutex, take_mutex};
 ghost use Rattle.evm_model.specs.Mutexes.{owns_any, held_by, waits_on};
 ghost use Rattle.evm_model.specs.Passing.{pass_on, pass_if, pass_below};
@@ -92,7 +93,7 @@ impl Parts {
     /// A task that waited for a mutex owns it and wakes; if there is none, the mutex is free.
     #[tactic(auto, unfolding(evm_model::specs::Passing::pass_on))]
     pub fn pass_on(&mut self, m: u8)
-        requires room { self.old.stamps < 2 ^ 63 }
+        requires room { HasStamps 1 self.old }
         ensures row { self.new ≡ pass_on m self.old }
         ensures stamps { self.new.stamps ≤ self.old.stamps + 1 }
     {
@@ -107,7 +108,7 @@ impl Parts {
 
     // A mutex passes on if the task owns it.
     fn pass_if(&mut self, t: u8, m: u8)
-        requires room { self.old.stamps < 2 ^ 63 }
+        requires room { HasStamps 1 self.old }
         ensures row { self.new ≡ pass_if t m self.old }
         ensures stamps { self.new.stamps ≤ self.old.stamps + 1 }
     {
@@ -119,7 +120,7 @@ impl Parts {
     /// The mutexes of a task pass on, by number.
     #[tactic(auto, using(crate::proofs::Passes::passes))]
     pub fn pass_all(&mut self, t: u8)
-        requires room { self.old.stamps ≤ 2 ^ 62 }
+        requires room { HasStamps MUTEX_LIMIT self.old }
         ensures row { self.new ≡ pass_below t (length self.old.mutexes) self.old }
     {
         'passing: for m in 0..self.mutexes.count() {

@@ -1,5 +1,5 @@
-ghost use Rattle.std.specs.Prelude.{◌≡◌, ◌<◌, ◌≤◌, ◌-◌, ◌^◌, true, false, length, slice_get, option_copied, Option};
-ghost use Rattle.evm_model.specs.Bounds.{PipesUpTo};
+ghost use Rattle.std.specs.Prelude.{◌≡◌, ◌<◌, ◌≤◌, ◌-◌, true, false, length, slice_get, option_copied, Option};
+ghost use Rattle.evm_model.specs.Bounds.{COUNT_LIMIT, PipesUpTo};
 ghost use Rattle.evm_model.specs.Profiles.{line_count};
 ghost use Rattle.evm_model.specs.Pipes.{raise, arrive, receive, play, set_stall};
 ghost use Rattle.evm_model.specs.Settle.{current};
@@ -166,7 +166,7 @@ impl Parts {
     /// Raises a line of a processor.
     pub fn raise(&mut self, c: u8, line: u8)
         requires line { line < LINES }
-        requires room { PipesUpTo (2 ^ 63) self.old.pipes }
+        requires room { PipesUpTo COUNT_LIMIT self.old.pipes }
         ensures { self.new ≡ on_pipe c (raise line) self.old }
     {
         if let Some(pipe) = self.pipes.get_mut(c as usize) {
@@ -177,7 +177,7 @@ impl Parts {
     /// Takes a line from a processor's wire into the log of its stage.
     pub fn receive(&mut self, c: u8, line: u8)
         requires line { line < LINES }
-        requires room { PipesUpTo (2 ^ 63 - 1) self.old.pipes }
+        requires room { PipesUpTo (COUNT_LIMIT - 1) self.old.pipes }
         ensures { self.new ≡ on_pipe c (receive line) self.old }
     {
         if let Some(pipe) = self.pipes.get_mut(c as usize) {
@@ -188,7 +188,7 @@ impl Parts {
     /// Puts a line into the log of a stage of a processor.
     pub fn arrive(&mut self, c: u8, stage: Stage, line: u8)
         requires line { line < LINES }
-        requires room { PipesUpTo (2 ^ 63) self.old.pipes }
+        requires room { PipesUpTo COUNT_LIMIT self.old.pipes }
         ensures { self.new ≡ on_pipe c (arrive stage line) self.old }
     {
         if let Some(pipe) = self.pipes.get_mut(c as usize) {
@@ -199,7 +199,7 @@ impl Parts {
     /// Takes a line from the log of a stage of a processor, to be played.
     pub fn play(&mut self, c: u8, stage: Stage, line: u8)
         requires line { line < LINES }
-        requires room { PipesUpTo (2 ^ 63) self.old.pipes }
+        requires room { PipesUpTo COUNT_LIMIT self.old.pipes }
         ensures { self.new ≡ on_pipe c (play stage line) self.old }
     {
         if let Some(pipe) = self.pipes.get_mut(c as usize) {

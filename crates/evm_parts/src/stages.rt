@@ -1,7 +1,8 @@
 //! What rows do to the stage of a task, and to its policy.
 
-ghost use Rattle.std.specs.Prelude.{◌≡◌, ◌<◌, ◌≤◌, ◌+◌, ◌^◌};
-ghost use Rattle.evm_model.specs.Settle.{spend_current};
+ghost use Rattle.std.specs.Prelude.{◌≡◌, ◌≤◌, ◌+◌};
+ghost use Rattle.evm_model.specs.Bounds.{HasStamps};
+ghost use Rattle.evm_model.specs.Settle.{spend};
 ghost use Rattle.evm_model.specs.Stages.{is_stalled, is_attached, may_promote, stage_at};
 ghost use Rattle.evm_model.specs.Tasks.{demote, promote, set_policy, clear_policy, set_mode_bits, set_slice, spend_slice};
 
@@ -12,7 +13,7 @@ impl Parts {
     /// A task goes in-band: it is ready there, and out-of-band isn't stalled on its processor.
     #[tactic(auto, unfolding(evm_model::specs::Tasks::demote))]
     pub fn demote(&mut self, c: u8, t: u8)
-        requires room { self.old.stamps < 2 ^ 63 }
+        requires room { HasStamps 1 self.old }
         ensures row { self.new ≡ demote c t self.old }
     {
         self.set_stall(c, Stage::OutOfBand, false);
@@ -23,7 +24,7 @@ impl Parts {
     /// A task goes out-of-band: it is ready there, and in-band current no more.
     #[tactic(auto, unfolding(evm_model::specs::Tasks::promote))]
     pub fn promote(&mut self, c: u8, t: u8)
-        requires room { self.old.stamps < 2 ^ 63 }
+        requires room { HasStamps 1 self.old }
         ensures row { self.new ≡ promote c t self.old }
     {
         self.set_state(t, TaskState::OobReady);
@@ -68,7 +69,7 @@ impl Parts {
     // A tick less of a task's slice; the last one gives a whole slice, and a fresh stamp.
     #[tactic(auto, unfolding(evm_model::specs::Tasks::spend_slice))]
     fn spend_slice(&mut self, t: u8, slice: u8)
-        requires room { self.old.stamps < 2 ^ 63 }
+        requires room { HasStamps 1 self.old }
         ensures row { self.new ≡ spend_slice t slice self.old }
         ensures stamps { self.new.stamps ≤ self.old.stamps + 1 }
     {
@@ -80,14 +81,14 @@ impl Parts {
         }
     }
 
-    /// A tick of the slice of a processor's current task, if that is out-of-band and of the round-robin class.
-    #[tactic(auto, unfolding(evm_model::specs::Settle::spend_current))]
-    pub fn spend_current(&mut self, c: u8)
-        requires room { self.old.stamps < 2 ^ 63 }
-        ensures row { self.new ≡ spend_current c self.old }
+    /// A tick of the slice of a task, if there is one that is ready out-of-band and of the round-robin class.
+    #[tactic(auto, unfolding(evm_model::specs::Settle::spend))]
+    pub fn spend(&mut self, task: Option<u8>)
+        requires room { HasStamps 1 self.old }
+        ensures row { self.new ≡ spend task self.old }
         ensures stamps { self.new.stamps ≤ self.old.stamps + 1 }
     {
-        let Some(t) = self.current(c) else {
+        let Some(t) = task else {
             return;
         };
         let Some(task) = self.tasks.get(t) else {

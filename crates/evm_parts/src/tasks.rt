@@ -1,6 +1,7 @@
 //! What rows do to one task.
 
-ghost use Rattle.std.specs.Prelude.{◌≡◌, ◌<◌, ◌≤◌, ◌+◌, ◌^◌, false, slice_get, Option, length};
+ghost use Rattle.std.specs.Prelude.{◌≡◌, ◌<◌, ◌≤◌, ◌+◌, false, slice_get, Option, length};
+ghost use Rattle.evm_model.specs.Bounds.{HasStamps};
 ghost use Rattle.evm_model.specs.InBandCalls.{add_task};
 ghost use Rattle.evm_model.specs.Passing.{end_task};
 ghost use Rattle.evm_model.specs.State.{new_task};
@@ -8,7 +9,7 @@ ghost use Rattle.evm_model.specs.Tasks.{restamp, set_state, leave_in_band};
 ghost use Rattle.evm_model.specs.Waits.{awaits_line, begin_wait, wake, wake_below, wake_waiter};
 
 use crate::parts::Parts;
-use evm_model::{Class, Mode, Stage, TASK_LIMIT, Task, TaskState, Wait};
+use evm_model::{Class, MUTEX_LIMIT, Mode, Stage, TASK_LIMIT, Task, TaskState, Wait};
 
 // An unattached in-band task.
 fn new_task(cpu: u8, stamp: u64) -> Task
@@ -30,7 +31,7 @@ impl Parts {
     /// Gives a task a fresh stamp.
     #[tactic(auto, unfolding(evm_model::specs::Tasks::restamp))]
     pub fn restamp(&mut self, t: u8)
-        requires room { self.old.stamps < 2 ^ 63 }
+        requires room { HasStamps 1 self.old }
         ensures row { self.new ≡ restamp t self.old }
         ensures stamps { self.new.stamps ≡ self.old.stamps + 1 }
     {
@@ -60,7 +61,7 @@ impl Parts {
     /// no more.
     #[tactic(auto, unfolding(evm_model::specs::Passing::end_task))]
     pub fn end_task(&mut self, c: u8, t: u8, state: TaskState)
-        requires room { self.old.stamps ≤ 2 ^ 62 }
+        requires room { HasStamps MUTEX_LIMIT self.old }
         ensures row { self.new ≡ end_task c t state self.old }
     {
         self.pass_all(t);
@@ -72,7 +73,7 @@ impl Parts {
     /// One task more: unattached, ready in-band, its registers 0 but for a0.
     #[tactic(auto, unfolding(evm_model::specs::InBandCalls::add_task))]
     pub fn add_task(&mut self, entry: u64, value: u64, cpu: u8)
-        requires room { self.old.stamps < 2 ^ 63 }
+        requires room { HasStamps 1 self.old }
         requires harts { length self.old.harts < TASK_LIMIT }
         requires tasks { length self.old.tasks < TASK_LIMIT }
         ensures row { self.new ≡ add_task entry value cpu self.old }
@@ -86,7 +87,7 @@ impl Parts {
     /// A task waits, until a deadline if that is not 0.
     #[tactic(auto, unfolding(evm_model::specs::Waits::begin_wait))]
     pub fn begin_wait(&mut self, t: u8, wait: Wait, deadline: u64)
-        requires room { self.old.stamps < 2 ^ 63 }
+        requires room { HasStamps 1 self.old }
         ensures row { self.new ≡ begin_wait t wait deadline self.old }
     {
         self.tasks.begin_wait(t, wait, deadline);
@@ -97,7 +98,7 @@ impl Parts {
     /// and owns no mutex.
     #[tactic(auto, unfolding(evm_model::specs::Waits::wake))]
     pub fn wake(&mut self, t: u8, value: u64)
-        requires room { self.old.stamps < 2 ^ 63 }
+        requires room { HasStamps 1 self.old }
         ensures row { self.new ≡ wake t value self.old }
         ensures stamps { self.new.stamps ≡ self.old.stamps + 1 }
     {
@@ -122,7 +123,7 @@ impl Parts {
 
     // Wakes a task that waits on a processor for a line.
     fn wake_waiter(&mut self, c: u8, line: u8, t: u8)
-        requires room { self.old.stamps < 2 ^ 63 }
+        requires room { HasStamps 1 self.old }
         ensures row { self.new ≡ wake_waiter c line t self.old }
         ensures stamps { self.new.stamps ≤ self.old.stamps + 1 }
     {
@@ -134,7 +135,7 @@ impl Parts {
     /// Wakes the tasks that wait on a processor for a line, by number.
     #[tactic(auto, using(crate::proofs::Wakes::wakes))]
     pub fn wake_waiters(&mut self, c: u8, line: u8)
-        requires room { self.old.stamps ≤ 2 ^ 62 }
+        requires room { HasStamps TASK_LIMIT self.old }
         ensures row { self.new ≡ wake_below c line (length self.old.tasks) self.old }
         ensures stamps { self.new.stamps ≤ self.old.stamps + 64 }
     {

@@ -1,7 +1,7 @@
 -- How far one more change of a line lets its counts grow.
-use Rattle.std.proofs.Common.{◌≡◌, ℕ, ◌+◌, ◌-◌, ◌^◌, ◌≤◌, Some, inl, inr, arith}
+use Rattle.std.proofs.Common.{◌≡◌, ℕ, ◌+◌, ◌-◌, ◌≤◌, Some, inl, inr, arith}
 use Rattle.std.specs.Prelude.{slice_get}
-use Rattle.evm_model.specs.Bounds.{PassageUpTo, UpTo, PipeUpTo}
+use Rattle.evm_model.specs.Bounds.{COUNT_LIMIT, PassageUpTo, UpTo, PipeUpTo}
 use Rattle.evm_model.specs.Pipes.{Pipe, leave_wire, count_receipt}
 use Rattle.evm_model.specs.declared.counts.Counts.{Counts}
 use Rattle.evm_model.specs.declared.counts.Passage.{Passage}
@@ -38,7 +38,7 @@ PipeUpTo-leave_wire a l p h = record {
 }
 
 -- with one to spare
-pub PipeUpTo-left : (l : ℕ) (p : Pipe) → PipeUpTo (2 ^ 63 - 1) p → PipeUpTo (2 ^ 63) (leave_wire l p)
-PipeUpTo-left l p h = PipeUpTo-leave_wire (2 ^ 63 - 1) l p h
+pub PipeUpTo-left : (l : ℕ) (p : Pipe) → PipeUpTo (COUNT_LIMIT - 1) p → PipeUpTo COUNT_LIMIT (leave_wire l p)
+PipeUpTo-left l p h = PipeUpTo-leave_wire (COUNT_LIMIT - 1) l p h
 
 pub ruleset leave_wire_grows = (PipeUpTo-left)

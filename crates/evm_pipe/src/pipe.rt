@@ -1,6 +1,6 @@
-ghost use Rattle.std.specs.Prelude.{◌≡◌, ◌<◌, ◌-◌, ◌^◌, slice_get, IfSome};
+ghost use Rattle.std.specs.Prelude.{◌≡◌, ◌<◌, ◌-◌, slice_get, IfSome};
 ghost use Rattle.evm_lines.specs.Lines.{has_line, has_none, least_line};
-ghost use Rattle.evm_model.specs.Bounds.{PipeUpTo};
+ghost use Rattle.evm_model.specs.Bounds.{COUNT_LIMIT, PipeUpTo};
 ghost use Rattle.evm_model.specs.Pipes.{idle_pipe, idle_log, no_counts, stage_of, log_of, raise, arrive, leave_wire, receive, play, set_stall};
 
 use crate::counting::{arrive_in, play_in, raise_in, receive_in};
@@ -103,7 +103,7 @@ impl Pipe {
     #[tactic(auto, unfolding(evm_model::specs::Pipes::raise))]
     pub fn raise(&mut self, line: u8)
         requires line { line < LINES }
-        requires room { PipeUpTo (2 ^ 63) self.old }
+        requires room { PipeUpTo COUNT_LIMIT self.old }
         ensures { self.new ≡ raise line self.old }
     {
         let merged = self.wire.contains(line);
@@ -115,7 +115,7 @@ impl Pipe {
     #[tactic(auto, unfolding(evm_model::specs::Pipes::arrive))]
     pub fn arrive(&mut self, stage: Stage, line: u8)
         requires line { line < LINES }
-        requires room { PipeUpTo (2 ^ 63) self.old }
+        requires room { PipeUpTo COUNT_LIMIT self.old }
         ensures { self.new ≡ arrive stage line self.old }
     {
         match stage {
@@ -136,7 +136,7 @@ impl Pipe {
     #[tactic(auto, unfolding(evm_model::specs::Pipes::leave_wire))]
     fn leave_wire(&mut self, line: u8)
         requires line { line < LINES }
-        requires room { PipeUpTo (2 ^ 63) self.old }
+        requires room { PipeUpTo COUNT_LIMIT self.old }
         ensures { self.new ≡ leave_wire line self.old }
     {
         self.wire.remove(line);
@@ -147,7 +147,7 @@ impl Pipe {
     #[tactic(auto, using(crate::proofs::Growing::leave_wire_grows), unfolding(evm_model::specs::Pipes::receive))]
     pub fn receive(&mut self, line: u8)
         requires line { line < LINES }
-        requires room { PipeUpTo (2 ^ 63 - 1) self.old }
+        requires room { PipeUpTo (COUNT_LIMIT - 1) self.old }
         ensures { self.new ≡ receive line self.old }
     {
         self.leave_wire(line);
@@ -158,7 +158,7 @@ impl Pipe {
     #[tactic(auto, unfolding(evm_model::specs::Pipes::play))]
     pub fn play(&mut self, stage: Stage, line: u8)
         requires line { line < LINES }
-        requires room { PipeUpTo (2 ^ 63) self.old }
+        requires room { PipeUpTo COUNT_LIMIT self.old }
         ensures { self.new ≡ play stage line self.old }
     {
         play_in(&mut self.counts, stage, line);

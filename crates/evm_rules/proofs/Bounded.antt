@@ -1,20 +1,21 @@
 -- Settling and nudging keep pipes, and add little to a count.
-use Rattle.std.proofs.Common.{◌≡◌, ℕ, ◌+◌, ◌≤◌, Bool, true, false, None, refl, arith}
-use Rattle.std.specs.Prelude.{replicate, ◌==◌}
+use Rattle.std.proofs.Common.{◌≡◌, ℕ, ◌+◌, ◌≤◌, List, Bool, true, false, Option, Some, None, refl, sym, ◌∙◌, arith}
+use Rattle.std.specs.Prelude.{replicate, slice_get, ◌==◌, if◌then◌else◌}
 use Rattle.evm_lines.specs.declared.TheConstants.{LINES}
 use Rattle.evm_model.specs.Bounds.{PipeUpTo}
 use Rattle.evm_model.specs.Good.{IsPipe}
 use Rattle.evm_model.specs.Pipes.{Pipe, raise, receive, set_stall, idle_pipe, no_counts}
-use Rattle.evm_model.specs.Settle.{settle_oob, settle_in_band, settle, nudge, settle_and_nudge}
+use Rattle.evm_model.specs.Settle.{current, play_oob_lines, run_best, settle_oob_pipe, settle_oob, settle_in_band, settle, nudge, settle_and_nudge}
 use Rattle.evm_model.specs.State.{Parts, on_pipe}
 use Rattle.evm_model.specs.declared.stage.Stage.{Stage}
 use Rattle.evm_model.proofs.Lists.{slice_get-replicate}
 use Rattle.evm_walk.proofs.Counted.{PipesUpTo-more, walk_counted}
-use Rattle.evm_walk.proofs.Rows.{settles_oob, settles_in_band, settles, nudges}
+use Rattle.evm_walk.proofs.Rows.{settles_oob, settles_in_band, nudges}
 use Rattle.evm_walk.proofs.Sets.{IsPipe-raise, IsPipe-receive, IsPipe-idle, walk_pipes}
 use Rattle.evm_walk.proofs.Tasks.{stalls_stage}
 use Rattle.evm_walk.proofs.Walk.{Actor, ArePipes as AllPipes, Walk, start}
 pub use Rattle.evm_rules.specs.Within.{ArePipes, AreWithin}
+use Rattle.evm_rules.proofs.Playing.{play_oob_lines-pipes}
 use Rattle.evm_rules.proofs.Counting.{each-change, on_raise-up, on_receive-up}
 
 pub are-change : (c : ℕ) (f : Pipe → Pipe) (k : Parts) → ((p : Pipe) → IsPipe p → IsPipe (f p)) → ArePipes k.pipes → ArePipes (on_pipe c f k).pipes
@@ -35,8 +36,23 @@ within-walk a n s b k new w h = let are : AllPipes k = record { each = h.are } i
 abbrev settler : ℕ → Actor
 settler c = record { cpu = c; task = None; may = λ d l. l == 1; chooses = true; calls = false }
 
-oob-walk : (c : ℕ) (k : Parts) → Walk (settler c) k 32 32 (settle_oob c k)
-oob-walk c k = settles_oob (settler c) k refl 0 0 k refl start
+-- of the task that is current
+oob-walk : (c : ℕ) (k : Parts) → Walk (settler c) k 32 32 (settle_oob (current c k) c k)
+oob-walk c k = settles_oob (settler c) k refl (current c k) 0 0 k refl start
+
+-- whose slice is taken changes no pipe
+oob-pipes_if : (was : Option ℕ) (c : ℕ) (stalled : Bool) (lines : List ℕ) (k : Parts)
+    → (if stalled then k else run_best c (play_oob_lines was c lines k)).pipes ≡ (if stalled then k else run_best c (play_oob_lines (current c k) c lines k)).pipes
+oob-pipes_if was c true lines k = refl
+oob-pipes_if was c false lines k = play_oob_lines-pipes was c lines k ∙ sym (play_oob_lines-pipes (current c k) c lines k)
+
+oob-pipes_of : (was : Option ℕ) (c : ℕ) (o : Option Pipe) (k : Parts) → (settle_oob_pipe o was c k).pipes ≡ (settle_oob_pipe o (current c k) c k).pipes
+oob-pipes_of was c None k = refl
+oob-pipes_of was c (Some pipe) k = oob-pipes_if was c pipe.oob.stalled pipe.oob.lines k
+
+oob-pipes : (was : Option ℕ) (c : ℕ) (k : Parts) → (settle_oob was c k).pipes ≡ (settle_oob (current c k) c k).pipes
+unfolding settle_oob
+oob-pipes was c k = oob-pipes_of was c (slice_get k.pipes c) k
 
 in_band-walk : (c : ℕ) (k : Parts) → Walk (settler c) k 32 2048 (settle_in_band c k)
 in_band-walk c k = settles_in_band (settler c) k refl 0 0 k start
@@ -44,12 +60,8 @@ in_band-walk c k = settles_in_band (settler c) k refl 0 0 k start
 nudge-walk : (c : ℕ) (k : Parts) → Walk (settler c) k 1 0 (nudge c k)
 nudge-walk c k = nudges (settler c) k 0 0 k (λ d. refl) start
 
-whole-walk : (c : ℕ) (k : Parts) → Walk (settler c) k 65 2080 (settle_and_nudge c k)
-unfolding settle_and_nudge
-whole-walk c k = nudges (settler c) k 64 2080 (settle c k) (λ d. refl) (settles (settler c) k refl 0 0 k refl start)
-
-pub are-settle_oob : (c : ℕ) (k : Parts) → ArePipes k.pipes → ArePipes (settle_oob c k).pipes
-are-settle_oob c k h = are-walk (settler c) 32 32 k _ (oob-walk c k) h
+pub are-settle_oob : (was : Option ℕ) (c : ℕ) (k : Parts) → ArePipes k.pipes → ArePipes (settle_oob was c k).pipes
+are-settle_oob was c k h = rw (oob-pipes was c k) (are-walk (settler c) 32 32 k _ (oob-walk c k) h)
 
 pub are-settle_in_band : (c : ℕ) (k : Parts) → ArePipes k.pipes → ArePipes (settle_in_band c k).pipes
 are-settle_in_band c k h = are-walk (settler c) 32 2048 k _ (in_band-walk c k) h
@@ -57,14 +69,19 @@ are-settle_in_band c k h = are-walk (settler c) 32 2048 k _ (in_band-walk c k) h
 pub are-nudge : (c : ℕ) (k : Parts) → ArePipes k.pipes → ArePipes (nudge c k).pipes
 are-nudge c k h = are-walk (settler c) 1 0 k _ (nudge-walk c k) h
 
-pub within-settle_oob : (b c : ℕ) (k : Parts) → AreWithin b k → AreWithin (b + 64) (settle_oob c k)
-within-settle_oob b c k w = within-more (b + 32) (b + 64) _ (omega arith) (within-walk (settler c) 32 32 b k _ (oob-walk c k) w)
+pub within-settle_oob : (b : ℕ) (was : Option ℕ) (c : ℕ) (k : Parts) → AreWithin b k → AreWithin (b + 64) (settle_oob was c k)
+within-settle_oob b was c k w =
+    let x : AreWithin (b + 32) (settle_oob (current c k) c k) = within-walk (settler c) 32 32 b k _ (oob-walk c k) w in
+    within-more (b + 32) (b + 64) _ (omega arith) (record { are = rw (oob-pipes was c k) x.are; up = rw (oob-pipes was c k) x.up })
 
 pub within-settle_in_band : (b c : ℕ) (k : Parts) → AreWithin b k → AreWithin (b + 32) (settle_in_band c k)
 within-settle_in_band b c k w = within-walk (settler c) 32 2048 b k _ (in_band-walk c k) w
 
-pub within-settle_and_nudge : (b c : ℕ) (k : Parts) → AreWithin b k → AreWithin (b + 97) (settle_and_nudge c k)
-within-settle_and_nudge b c k w = within-more (b + 65) (b + 97) _ (omega arith) (within-walk (settler c) 65 2080 b k _ (whole-walk c k) w)
+pub within-settle_and_nudge : (b : ℕ) (was : Option ℕ) (c : ℕ) (k : Parts) → AreWithin b k → AreWithin (b + 97) (settle_and_nudge was c k)
+unfolding settle_and_nudge settle
+within-settle_and_nudge b was c k w =
+    let x : AreWithin (b + 64 + 32) (settle_in_band c (settle_oob was c k)) = within-settle_in_band (b + 64) c (settle_oob was c k) (within-settle_oob b was c k w) in
+    within-more (b + 64 + 32 + 1) (b + 97) _ (omega arith) (within-walk (settler c) 1 0 (b + 64 + 32) (settle_in_band c (settle_oob was c k)) _ (nudge-walk c _) x)
 
 -- ---- one change
 pub within-raise : (b c l : ℕ) (k : Parts) → AreWithin b k → AreWithin (b + 1) (on_pipe c (raise l) k)

@@ -56,10 +56,10 @@ oob_played-up : (timer : Bool) (b l : ℕ) (p : Pipe) → (l == 0) ≡ timer →
 oob_played-up true b l p e u = let same : l ≡ 0 = grind (arith, nat_tests) in rw same (counted-up b 0 _ p _ (timer-counted p) (timer-up b (has_line p.inband.lines 0)) u)
 oob_played-up false b l p e u = play-up b OutOfBand l p u
 
-pub play_oob-up : (b c l : ℕ) (k : Parts) → PipesUpTo b k.pipes → PipesUpTo (b + 2) (play_oob c l k).pipes
-play_oob-up b c l k u =
-    let spent : Parts = spent_if (l == 0) c k in
-    rw (play_oob-on c l k) (change-up b (b + 2) c (oob_played_if (l == 0) l) spent.pipes (omega arith) (λ p h. PipeUpTo-more (b + 1) (b + 2) _ (omega arith) (oob_played-up (l == 0) b l p refl h)) (rw (spent_apart (l == 0) c k).pipes u))
+pub play_oob-up : (b : ℕ) (was : Option ℕ) (c l : ℕ) (k : Parts) → PipesUpTo b k.pipes → PipesUpTo (b + 2) (play_oob was c l k).pipes
+play_oob-up b was c l k u =
+    let spent : Parts = spent_if (l == 0) was k in
+    rw (play_oob-on was c l k) (change-up b (b + 2) c (oob_played_if (l == 0) l) spent.pipes (omega arith) (λ p h. PipeUpTo-more (b + 1) (b + 2) _ (omega arith) (oob_played-up (l == 0) b l p refl h)) (rw (spent_apart (l == 0) was k).pipes u))
 
 pub play_in_band-up : (b c l : ℕ) (k : Parts) → PipesUpTo b k.pipes → PipesUpTo (b + 1) (play_in_band c l k).pipes
 unfolding play_in_band

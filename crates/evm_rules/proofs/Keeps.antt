@@ -199,7 +199,7 @@ passed-current c k = ap current_of (change-here (λ (p : Processor). record p { 
 
 run-good : (hart : Hart) (c t : ℕ) (b : Board) → hart.pc % 4 ≡ 0 → Good b.parts → IsOwn c t b.parts.tasks → current c b.parts ≡ Some t → Good (run hart c t b).0.parts
 run-good hart c t b h g o r =
-    settle_and_nudge-good c _ (execute-but hart c t (on_parts (on_processor c (λ p. record p { skip = false })) b) h (good-skip c b.parts g) o (passed-current c b.parts ∙ r))
+    settle_and_nudge-good (Some t) c _ (execute-but hart c t (on_parts (on_processor c (λ p. record p { skip = false })) b) h (good-skip c b.parts g) o (passed-current c b.parts ∙ r))
 
 hart-if : (hit : Bool) (hart : Hart) (c t : ℕ) (b : Board) → hart.pc % 4 ≡ 0 → Good b.parts → IsOwn c t b.parts.tasks → current c b.parts ≡ Some t → Good (if hit then (on_parts (stop c) b, Hit) else run hart c t b).0.parts
 hart-if true hart c t b h g o r = stop-good c b.parts g
@@ -210,12 +210,12 @@ hart-step None p c t b e g o r = g
 hart-step (Some hart) p c t b e g o r = hart-if (is_set b.breakpoints hart.pc && not p.skip) hart c t b (g.aligned t hart e) g o r
 
 current-step : (o : Option ℕ) (p : Processor) (c : ℕ) (b : Board) → Good b.parts → ((t : ℕ) → o ≡ Some t → IsOwn c t b.parts.tasks × (current c b.parts ≡ Some t)) → Good (step_current o p c b).0.parts
-current-step None p c b g h = settle_and_nudge-good c b.parts (good_but c b.parts g)
+current-step None p c b g h = settle_and_nudge-good None c b.parts (good_but c b.parts g)
 current-step (Some t) p c b g h = let own = h t refl in hart-step (slice_get b.parts.harts t) p c t b refl g own.0 own.1
 
 wire-step : (o : Option ℕ) (p : Processor) (c : ℕ) (b : Board) → Good b.parts → ((t : ℕ) → p.current ≡ Some t → IsOwn c t b.parts.tasks × (current c b.parts ≡ Some t)) → Good (step_wire o p c b).0.parts
 wire-step None p c b g h = current-step p.current p c b g h
-wire-step (Some l) p c b g h = settle_and_nudge-good c _ (receive-but c l b.parts g)
+wire-step (Some l) p c b g h = settle_and_nudge-good p.current c _ (receive-but c l b.parts g)
 
 pipe-step : (o : Option Pipe) (p : Processor) (c : ℕ) (b : Board) → slice_get b.parts.pipes c ≡ o → slice_get b.parts.processors c ≡ Some p → Good b.parts → Good (step_pipe o p c b).0.parts
 pipe-step None p c b e f g = g

@@ -118,6 +118,6 @@ pub nudge-good : (c : ℕ) (k : Parts) → IsUntold c k → Good (nudge c k)
 nudge-good c k u = good_of (nudge c k) (are-nudge c k u.pipes) (told c k u) (nudge-shaped c k u.shape)
 
 -- the state is good after settling and nudging
-pub settle_and_nudge-good : (c : ℕ) (k : Parts) → GoodBut c k → Good (settle_and_nudge c k)
+pub settle_and_nudge-good : (was : Option ℕ) (c : ℕ) (k : Parts) → GoodBut c k → Good (settle_and_nudge was c k)
 unfolding settle_and_nudge
-settle_and_nudge-good c k g = nudge-good c (settle c k) (settle-untold c k g)
+settle_and_nudge-good was c k g = nudge-good c (settle was c k) (settle-untold was c k g)

@@ -1,5 +1,5 @@
 -- What playing a whole log makes of one pipe.
-use Rattle.std.proofs.Common.{◌≡◌, ℕ, List, [], ◌∷◌, Bool, true, false, length, refl, ap, sym, ◌∙◌}
+use Rattle.std.proofs.Common.{◌≡◌, ℕ, List, [], ◌∷◌, Bool, true, false, Option, length, refl, ap, sym, ◌∙◌}
 use Rattle.std.specs.Prelude.{◌==◌, if◌then◌else◌}
 use Rattle.evm_lines.specs.Lines.{without_line}
 use Rattle.evm_lines.specs.Laws.{without_line-least}
@@ -7,12 +7,12 @@ use Rattle.evm_model.proofs.Lists.{change-same}
 use Rattle.evm_model.specs.Good.{IsPipe}
 use Rattle.evm_model.specs.Lists.{change}
 use Rattle.evm_model.specs.Pipes.{Pipe, arrive, play}
-use Rattle.evm_model.specs.Settle.{spend_current, play_oob, play_in_band, play_oob_lines, play_in_band_lines}
+use Rattle.evm_model.specs.Settle.{spend, play_oob, play_in_band, play_oob_lines, play_in_band_lines}
 use Rattle.evm_model.specs.State.{Parts, on_pipe}
 use Rattle.evm_model.specs.declared.stage.Stage.TheVariants.{OutOfBand, InBand}
 use Rattle.evm_walk.proofs.Playing.{wakes-pipes}
 use Rattle.evm_rules.proofs.Places.{change_twice}
-use Rattle.evm_rules.proofs.Spending.{current-spends}
+use Rattle.evm_rules.proofs.Spending.{of-spends}
 use Rattle.evm_walk.proofs.Sets.{IsPipe-arrive, IsPipe-play}
 
 -- ---- on one pipe
@@ -27,20 +27,20 @@ unfoldable pub plays_in_band : List ℕ → Pipe → Pipe
 plays_in_band [] p = p
 plays_in_band (l ∷ ls) p = plays_in_band ls (play InBand l p)
 
-handle-pipes : (c : ℕ) (first : Bool) (k : Parts) → (if first then on_pipe c (arrive InBand 0) (spend_current c k) else k).pipes ≡ change (λ p. if first then arrive InBand 0 p else p) k.pipes c
-handle-pipes c true k = ap (λ (pipes : List Pipe). change (arrive InBand 0) pipes c) (current-spends c k).pipes
-handle-pipes c false k = sym (change-same (λ p. p) k.pipes c (λ p e. refl))
+handle-pipes : (was : Option ℕ) (c : ℕ) (first : Bool) (k : Parts) → (if first then on_pipe c (arrive InBand 0) (spend was k) else k).pipes ≡ change (λ p. if first then arrive InBand 0 p else p) k.pipes c
+handle-pipes was c true k = ap (λ (pipes : List Pipe). change (arrive InBand 0) pipes c) (of-spends was k).pipes
+handle-pipes was c false k = sym (change-same (λ p. p) k.pipes c (λ p e. refl))
 
-play_oob-pipes : (c l : ℕ) (k : Parts) → (play_oob c l k).pipes ≡ change (λ p. hand_on l (play OutOfBand l p)) k.pipes c
+play_oob-pipes : (was : Option ℕ) (c l : ℕ) (k : Parts) → (play_oob was c l k).pipes ≡ change (λ p. hand_on l (play OutOfBand l p)) k.pipes c
 unfolding play_oob
-play_oob-pipes c l k = handle-pipes c (l == 0) (on_pipe c (play OutOfBand l) k) ∙ change_twice (play OutOfBand l) (hand_on l) k.pipes c
+play_oob-pipes was c l k = handle-pipes was c (l == 0) (on_pipe c (play OutOfBand l) k) ∙ change_twice (play OutOfBand l) (hand_on l) k.pipes c
 
-pub play_oob_lines-pipes : (c : ℕ) (lines : List ℕ) (k : Parts) → (play_oob_lines c lines k).pipes ≡ change (plays_oob lines) k.pipes c
+pub play_oob_lines-pipes : (was : Option ℕ) (c : ℕ) (lines : List ℕ) (k : Parts) → (play_oob_lines was c lines k).pipes ≡ change (plays_oob lines) k.pipes c
 unfolding play_oob_lines plays_oob
-play_oob_lines-pipes c [] k = sym (change-same (λ p. p) k.pipes c (λ p e. refl))
-play_oob_lines-pipes c (l ∷ ls) k =
-    play_oob_lines-pipes c ls (play_oob c l k)
-    ∙ ap (λ (pipes : List Pipe). change (plays_oob ls) pipes c) (play_oob-pipes c l k)
+play_oob_lines-pipes was c [] k = sym (change-same (λ p. p) k.pipes c (λ p e. refl))
+play_oob_lines-pipes was c (l ∷ ls) k =
+    play_oob_lines-pipes was c ls (play_oob was c l k)
+    ∙ ap (λ (pipes : List Pipe). change (plays_oob ls) pipes c) (play_oob-pipes was c l k)
     ∙ change_twice (λ p. hand_on l (play OutOfBand l p)) (plays_oob ls) k.pipes c
 
 pub play_in_band-pipes : (c l : ℕ) (k : Parts) → (play_in_band c l k).pipes ≡ change (play InBand l) k.pipes c

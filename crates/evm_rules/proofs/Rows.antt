@@ -43,7 +43,7 @@ module _ (c t rd value pc : ℕ) where
   runs_it hart word inst b good clear e f g =
       let passed : Board = on_parts (on_processor c (λ p. record p { skip = false })) b in
       let harts : List Hart = change (λ hart. set_pc pc (set_register rd value hart)) b.parts.harts t in
-      ap (λ (x : Board). (on_parts (settle_and_nudge c) x, Ran t)) (does_it hart word inst passed e f g)
+      ap (λ (x : Board). (on_parts (settle_and_nudge (Some t) c) x, Ran t)) (does_it hart word inst passed e f g)
       ∙ ap (λ (k : Parts). (record b { parts = k }, Ran t)) (private_skip c t b.parts harts good clear)
 
   steps_it : (hart : Hart) (p : Processor) (pipe : Pipe) (b : Board) (after : Board × Answer) → slice_get b.parts.processors c ≡ Some p → p.stopped ≡ false → slice_get b.parts.pipes c ≡ Some pipe → least_line pipe.wire ≡ None → p.current ≡ Some t

@@ -47,16 +47,16 @@ apart-processor : (c : ℕ) (f : Processor → Processor) (k : Parts) → IsApar
 apart-processor c f k = record { others = λ d n. (alike-none d k.tasks, refl, change-elsewhere f k.processors c d n); shape = shaped-processor c f k }
 
 -- ---- settling out-of-band changes only its processor
-apart-oob_pipe : (c : ℕ) (o : Option Pipe) (k : Parts) → IsApart c k (settle_oob_pipe o c k)
-apart-oob_pipe c None k = apart-none c k
-apart-oob_pipe c (Some pipe) k =
-    let played : Parts = play_oob_lines c pipe.oob.lines k in
+apart-oob_pipe : (was : Option ℕ) (c : ℕ) (o : Option Pipe) (k : Parts) → IsApart c k (settle_oob_pipe o was c k)
+apart-oob_pipe was c None k = apart-none c k
+apart-oob_pipe was c (Some pipe) k =
+    let played : Parts = play_oob_lines was c pipe.oob.lines k in
     apart-if c pipe.oob.stalled k k (run_best c played) (apart-none c k)
-    (apart-then c k played (run_best c played) (apart-rouses c k played (rouses-oob_lines c pipe.oob.lines k)) (apart-processor c _ played))
+    (apart-then c k played (run_best c played) (apart-rouses c k played (rouses-oob_lines was c pipe.oob.lines k)) (apart-processor c _ played))
 
-apart-settle_oob : (c : ℕ) (k : Parts) → IsApart c k (settle_oob c k)
+apart-settle_oob : (was : Option ℕ) (c : ℕ) (k : Parts) → IsApart c k (settle_oob was c k)
 unfolding settle_oob
-apart-settle_oob c k = apart-oob_pipe c (slice_get k.pipes c) k
+apart-settle_oob was c k = apart-oob_pipe was c (slice_get k.pipes c) k
 
 -- ---- a good state but for the acting processor
 -- another processor: all but that it runs its best task, which nudging sees to
@@ -160,23 +160,23 @@ stalled-settled c pipe p mutexes tasks s whole a =
       whole = whole;
     }
 
-oob_settled-if : (c : ℕ) (k : Parts) (pipe : Pipe) (b : Bool) → pipe.oob.stalled ≡ b → slice_get k.pipes c ≡ Some pipe → GoodBut c k
-    → (q : Pipe) (p : Processor) → slice_get (if b then k else run_best c (play_oob_lines c pipe.oob.lines k)).pipes c ≡ Some q
-    → slice_get (if b then k else run_best c (play_oob_lines c pipe.oob.lines k)).processors c ≡ Some p
-    → IsOobSettled c q p (if b then k else run_best c (play_oob_lines c pipe.oob.lines k)).mutexes (if b then k else run_best c (play_oob_lines c pipe.oob.lines k)).tasks
-oob_settled-if c k pipe true s e g q p f h =
+oob_settled-if : (was : Option ℕ) (c : ℕ) (k : Parts) (pipe : Pipe) (b : Bool) → pipe.oob.stalled ≡ b → slice_get k.pipes c ≡ Some pipe → GoodBut c k
+    → (q : Pipe) (p : Processor) → slice_get (if b then k else run_best c (play_oob_lines was c pipe.oob.lines k)).pipes c ≡ Some q
+    → slice_get (if b then k else run_best c (play_oob_lines was c pipe.oob.lines k)).processors c ≡ Some p
+    → IsOobSettled c q p (if b then k else run_best c (play_oob_lines was c pipe.oob.lines k)).mutexes (if b then k else run_best c (play_oob_lines was c pipe.oob.lines k)).tasks
+oob_settled-if was c k pipe true s e g q p f h =
     let it : pipe ≡ q = cc in
     rw (← it) (stalled-settled c pipe p k.mutexes k.tasks s (g.pipes c pipe e) (g.own pipe p e h))
-oob_settled-if c k pipe false s e g q p f h =
+oob_settled-if was c k pipe false s e g q p f h =
     let ls : List ℕ = pipe.oob.lines in
-    let x : Parts = play_oob_lines c ls k in
-    let r : Rouses c k x = rouses-oob_lines c ls k in
+    let x : Parts = play_oob_lines was c ls k in
+    let r : Rouses c k x = rouses-oob_lines was c ls k in
     let whole : IsPipe pipe = g.pipes c pipe e in
-    let there : slice_get (change (plays_oob ls) k.pipes c) c ≡ Some q = ap (λ (pipes : List Pipe). slice_get pipes c) (sym (play_oob_lines-pipes c ls k)) ∙ f in
+    let there : slice_get (change (plays_oob ls) k.pipes c) c ≡ Some q = ap (λ (pipes : List Pipe). slice_get pipes c) (sym (play_oob_lines-pipes was c ls k)) ∙ f in
     let it : plays_oob ls pipe ≡ q = changed-is (plays_oob ls) k.pipes c pipe q e there in
     let from = changed-from (λ (p : Processor). record p { current = best c x.mutexes x.tasks }) x.processors c p h in
-    let was : slice_get k.processors c ≡ Some from.0 = ap (λ (xs : List Processor). slice_get xs c) (sym r.processors) ∙ from.1 in
-    let a = g.own pipe from.0 e was in
+    let found : slice_get k.processors c ≡ Some from.0 = ap (λ (xs : List Processor). slice_get xs c) (sym r.processors) ∙ from.1 in
+    let a = g.own pipe from.0 e found in
     let same = plays_oob-stalls ls pipe in
     rw (from.2, ← it) (record {
       current_own = λ t m. own-live c t x.tasks (best-own c t x.mutexes x.tasks m);
@@ -188,14 +188,14 @@ oob_settled-if c k pipe false s e g q p f h =
       whole = plays_oob-pipe ls pipe whole;
     })
 
-oob_settled-pipe : (c : ℕ) (k : Parts) (o : Option Pipe) → slice_get k.pipes c ≡ o → GoodBut c k
-    → (q : Pipe) (p : Processor) → slice_get (settle_oob_pipe o c k).pipes c ≡ Some q → slice_get (settle_oob_pipe o c k).processors c ≡ Some p → IsOobSettled c q p (settle_oob_pipe o c k).mutexes (settle_oob_pipe o c k).tasks
-oob_settled-pipe c k None e g q p f h = cc
-oob_settled-pipe c k (Some pipe) e g q p f h = oob_settled-if c k pipe pipe.oob.stalled refl e g q p f h
+oob_settled-pipe : (was : Option ℕ) (c : ℕ) (k : Parts) (o : Option Pipe) → slice_get k.pipes c ≡ o → GoodBut c k
+    → (q : Pipe) (p : Processor) → slice_get (settle_oob_pipe o was c k).pipes c ≡ Some q → slice_get (settle_oob_pipe o was c k).processors c ≡ Some p → IsOobSettled c q p (settle_oob_pipe o was c k).mutexes (settle_oob_pipe o was c k).tasks
+oob_settled-pipe was c k None e g q p f h = cc
+oob_settled-pipe was c k (Some pipe) e g q p f h = oob_settled-if was c k pipe pipe.oob.stalled refl e g q p f h
 
-oob_settled : (c : ℕ) (k : Parts) → GoodBut c k → (q : Pipe) (p : Processor) → slice_get (settle_oob c k).pipes c ≡ Some q → slice_get (settle_oob c k).processors c ≡ Some p → IsOobSettled c q p (settle_oob c k).mutexes (settle_oob c k).tasks
+oob_settled : (was : Option ℕ) (c : ℕ) (k : Parts) → GoodBut c k → (q : Pipe) (p : Processor) → slice_get (settle_oob was c k).pipes c ≡ Some q → slice_get (settle_oob was c k).processors c ≡ Some p → IsOobSettled c q p (settle_oob was c k).mutexes (settle_oob was c k).tasks
 unfolding settle_oob
-oob_settled c k g q p f h = oob_settled-pipe c k (slice_get k.pipes c) refl g q p f h
+oob_settled was c k g q p f h = oob_settled-pipe was c k (slice_get k.pipes c) refl g q p f h
 
 -- an out-of-band task is current: where that stage isn't stalled it is the best
 settled-oob : (c : ℕ) (q : Pipe) (p : Processor) (mutexes : List Mutex) (tasks : List Task) → IsOobSettled c q p mutexes tasks → is_oob p.current tasks ≡ true → IsSettled c q p mutexes tasks
@@ -333,15 +333,15 @@ pub record IsUntold (c : ℕ) (k : Parts) : Type 0 where
   pub own : (pipe : Pipe) (p : Processor) → slice_get k.pipes c ≡ Some pipe → slice_get k.processors c ≡ Some p → IsSettled c pipe p k.mutexes k.tasks
   pub shape : IsShaped k
 
-pub settle-untold : (c : ℕ) (k : Parts) → GoodBut c k → IsUntold c (settle c k)
+pub settle-untold : (was : Option ℕ) (c : ℕ) (k : Parts) → GoodBut c k → IsUntold c (settle was c k)
 unfolding settle
-settle-untold c k g =
-    let mid : Parts = settle_oob c k in
+settle-untold was c k g =
+    let mid : Parts = settle_oob was c k in
     let new : Parts = settle_in_band c mid in
-    let t : Turned c mid new = settles-in_band c mid (oob_settled c k g) (λ x e. are-settle_oob c k g.pipes c x e) in
-    let a : IsApart c k new = apart-then c k mid new (apart-settle_oob c k) t.apart in
+    let t : Turned c mid new = settles-in_band c mid (oob_settled was c k g) (λ x e. are-settle_oob was c k g.pipes c x e) in
+    let a : IsApart c k new = apart-then c k mid new (apart-settle_oob was c k) t.apart in
     record {
-      pipes = are-settle_in_band c mid (are-settle_oob c k g.pipes);
+      pipes = are-settle_in_band c mid (are-settle_oob was c k g.pipes);
       others = λ d pipe p n e f. let r = a.others d n in calm-alike d pipe p k.tasks new.tasks r.0 (g.others d pipe p n (sym r.1 ∙ e) (sym r.2 ∙ f));
       own = t.own;
       shape = a.shape g.shape;

@@ -3,7 +3,7 @@ use Rattle.std.proofs.Common.{◌≡◌, ℕ, ◌+◌, ◌≤◌, Bool, true, fa
 use Rattle.std.specs.Prelude.{slice_get, nat_le, ◌&&◌, if◌then◌else◌}
 use Rattle.evm_model.proofs.Lists.{length-change}
 use Rattle.evm_model.specs.Ranks.{is_oob_ready}
-use Rattle.evm_model.specs.Settle.{current, spend_of, spend_current}
+use Rattle.evm_model.specs.Settle.{spend}
 use Rattle.evm_model.specs.State.{Parts}
 use Rattle.evm_model.specs.Tasks.{restamp, set_slice, spend_slice, spend_task, is_round_robin}
 use Rattle.evm_model.specs.declared.limits.TheConstants.{SLICE}
@@ -40,10 +40,7 @@ task-spends : (o : Option Task) (t : ℕ) (k : Parts) → Spends k (spend_task o
 task-spends None t k = spends-none k
 task-spends (Some task) t k = spends-if (is_oob_ready task.state && is_round_robin task.class) k _ k (slice_left-spends t task.slice k) (spends-none k)
 
-of-spends : (o : Option ℕ) (k : Parts) → Spends k (spend_of o k)
+pub of-spends : (was : Option ℕ) (k : Parts) → Spends k (spend was k)
+unfolding spend
 of-spends None k = spends-none k
 of-spends (Some t) k = task-spends (slice_get k.tasks t) t k
-
-pub current-spends : (c : ℕ) (k : Parts) → Spends k (spend_current c k)
-unfolding spend_current
-current-spends c k = of-spends (current c k) k

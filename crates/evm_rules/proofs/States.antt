@@ -8,7 +8,7 @@ use Rattle.evm_ram.specs.declared.ram.TheConstants.{BASE}
 use Rattle.evm_model.specs.declared.refusal.Refusal.{Refusal}
 use Rattle.evm_model.specs.declared.refusal.Refusal.TheVariants.{Full}
 use Rattle.evm_exec.specs.declared.hart.Hart.{Hart}
-use Rattle.evm_model.specs.Bounds.{PER_EVENT, STAMPS_PER_EVENT, PipesUpTo, HeldUpTo}
+use Rattle.evm_model.specs.Bounds.{COUNT_LIMIT, PER_EVENT, STAMPS_PER_EVENT, PipesUpTo, HeldUpTo}
 use Rattle.evm_model.specs.Commands.{tick, set_bits, on_number, set_breakpoint, unset_breakpoint}
 use Rattle.evm_model.specs.Good.{Good, GoodState, AreLocks, AreSemaphores, IsOneOf, IsSettled, is_tick}
 use Rattle.evm_model.specs.Harts.{set_register, set_pc, first_hart}
@@ -320,8 +320,8 @@ pub counts_room : (s : State) → GoodState s → AreWithin (2 ^ 28) s.board.par
 counts_room s g = let few : length s.journal ≤ CAPACITY_LIMIT = few_events s g in
     record { are = g.good.pipes; up = PipesUpTo-more (PER_EVENT * length s.journal) (2 ^ 28) s.board.parts.pipes (omega arith) g.counts }
 
--- a mutex is locked at most 2 ^ 62 times
-pub holds_room : (s : State) → GoodState s → HeldUpTo (2 ^ 62) s.board.parts.mutexes
+-- a mutex can be locked once more
+pub holds_room : (s : State) → GoodState s → HeldUpTo COUNT_LIMIT s.board.parts.mutexes
 holds_room s g = let few : length s.journal ≤ CAPACITY_LIMIT = few_events s g in
     record { count = λ m mutex e. let some = g.holds.count m mutex e in omega (arith, some, few) }
 

@@ -9,7 +9,7 @@ use Rattle.evm_model.specs.Lists.{change}
 use Rattle.evm_model.specs.Mutexes.{lock_of, owns_any}
 use Rattle.evm_model.specs.Pipes.{Pipe, arrive, play}
 use Rattle.evm_model.specs.Ranks.{best, rank, stamp, runs_oob, runs_oob_task, is_oob_ready, is_in_ready}
-use Rattle.evm_model.specs.Settle.{current, is_oob, spend_of, spend_current, play_oob, play_oob_lines, play_in_band, play_in_band_lines}
+use Rattle.evm_model.specs.Settle.{is_oob, spend, play_oob, play_oob_lines, play_in_band, play_in_band_lines}
 use Rattle.evm_model.specs.State.{Parts, on_hart, on_task, on_pipe}
 use Rattle.evm_model.specs.Tasks.{restamp, set_state, set_slice, spend_slice, spend_task, is_round_robin, is_weak}
 use Rattle.evm_model.specs.Waits.{is_wait_for, stage_of_wait, ready_on, woken_state, woken, wake, awaits_line, wake_below}
@@ -339,27 +339,24 @@ rouses-task : (c : ℕ) (o : Option Task) (t : ℕ) (k : Parts) → Rouses c k (
 rouses-task c None t k = rouses-none c k
 rouses-task c (Some task) t k = rouses-if c (is_oob_ready task.state && is_round_robin task.class) k _ k (λ e. rouses-spend c t task.slice k) (λ e. rouses-none c k)
 
-rouses-of : (c : ℕ) (o : Option ℕ) (k : Parts) → Rouses c k (spend_of o k)
+rouses-of : (c : ℕ) (was : Option ℕ) (k : Parts) → Rouses c k (spend was k)
+unfolding spend
 rouses-of c None k = rouses-none c k
 rouses-of c (Some t) k = rouses-task c (slice_get k.tasks t) t k
 
-rouses-current : (c : ℕ) (k : Parts) → Rouses c k (spend_current c k)
-unfolding spend_current
-rouses-current c k = rouses-of c (current c k) k
-
-rouses-play_oob : (c l : ℕ) (k : Parts) → Rouses c k (play_oob c l k)
+rouses-play_oob : (was : Option ℕ) (c l : ℕ) (k : Parts) → Rouses c k (play_oob was c l k)
 unfolding play_oob
-rouses-play_oob c l k =
+rouses-play_oob was c l k =
     let played : Parts = on_pipe c (play OutOfBand l) k in
     rouses-then c k played _ (rouses-pipe c (play OutOfBand l) k)
     (rouses-if c (l == 0) played _ played
-    (λ e. rouses-then c played (spend_current c played) _ (rouses-current c played) (rouses-pipe c (arrive InBand 0) (spend_current c played)))
+    (λ e. rouses-then c played (spend was played) _ (rouses-of c was played) (rouses-pipe c (arrive InBand 0) (spend was played)))
     (λ e. rouses-none c played))
 
-pub rouses-oob_lines : (c : ℕ) (lines : List ℕ) (k : Parts) → Rouses c k (play_oob_lines c lines k)
+pub rouses-oob_lines : (was : Option ℕ) (c : ℕ) (lines : List ℕ) (k : Parts) → Rouses c k (play_oob_lines was c lines k)
 unfolding play_oob_lines
-rouses-oob_lines c [] k = rouses-none c k
-rouses-oob_lines c (l ∷ ls) k = rouses-then c k (play_oob c l k) _ (rouses-play_oob c l k) (rouses-oob_lines c ls (play_oob c l k))
+rouses-oob_lines was c [] k = rouses-none c k
+rouses-oob_lines was c (l ∷ ls) k = rouses-then c k (play_oob was c l k) _ (rouses-play_oob was c l k) (rouses-oob_lines was c ls (play_oob was c l k))
 
 -- ---- where no task is out-of-band ready, none is best
 runs-there : (c u : ℕ) (tasks : List Task) (o : Option Task) → slice_get tasks u ≡ o → runs_oob_task c o ≡ true → u < length tasks

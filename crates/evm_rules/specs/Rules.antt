@@ -32,17 +32,17 @@ RulesHoldLoaded = (byte : ℕ → ℕ) (entry : ℕ) (boot : Boot) → bad_boot 
 -- ---- nothing to settle
 -- a processor that runs a task and has nothing on its wire settles nothing where registers change
 abbrev pub RowsSettleNothing : Type 0
-RowsSettleNothing = (c t : ℕ) (k : Parts) (harts : List Hart) → Good k → IsClear c t k → settle_and_nudge c (record k { harts = harts }) ≡ record k { harts = harts }
+RowsSettleNothing = (c t : ℕ) (k : Parts) (harts : List Hart) → Good k → IsClear c t k → settle_and_nudge (Some t) c (record k { harts = harts }) ≡ record k { harts = harts }
 
 -- nor where its skip bit goes off too
 abbrev pub PassedRowsSettleNothing : Type 0
 PassedRowsSettleNothing = (c t : ℕ) (k : Parts) (harts : List Hart) → Good k → IsClear c t k
-    → settle_and_nudge c (record (on_processor c (λ p. record p { skip = false }) k) { harts = harts }) ≡ record (on_processor c (λ p. record p { skip = false }) k) { harts = harts }
+    → settle_and_nudge (Some t) c (record (on_processor c (λ p. record p { skip = false }) k) { harts = harts }) ≡ record (on_processor c (λ p. record p { skip = false }) k) { harts = harts }
 
 -- nor where it is stopped too
 abbrev pub StopsSettleNothing : Type 0
 StopsSettleNothing = (c t : ℕ) (k : Parts) (harts : List Hart) → Good k → IsClear c t k
-    → settle_and_nudge c (stop c (record (on_processor c (λ p. record p { skip = false }) k) { harts = harts })) ≡ stop c (record (on_processor c (λ p. record p { skip = false }) k) { harts = harts })
+    → settle_and_nudge (Some t) c (stop c (record (on_processor c (λ p. record p { skip = false }) k) { harts = harts })) ≡ stop c (record (on_processor c (λ p. record p { skip = false }) k) { harts = harts })
 
 -- ---- a private row
 -- processor c goes, has nothing on its wire, and its current task is about to do an instruction that gives one register a value and goes on at a pc; no breakpoint stops it, or the skip bit passes it

@@ -91,7 +91,7 @@ module _ (c : ℕ) (b : Board) where
   passed = on_parts (on_processor c (λ p. record p { skip = false })) b
 
   module _ (t : ℕ) (x : Hart) (now : current c b.parts ≡ Some t) (has : slice_get b.parts.harts t ≡ Some x) where
-    wrote : (word : ℕ) (inst : Inst) (y : Board) → fetch x.pc b.memory ≡ Some word → decoded word ≡ Some inst → Stores (does inst x.regs x.pc) passed y → Writes c b (on_parts (settle_and_nudge c) y)
+    wrote : (word : ℕ) (inst : Inst) (y : Board) → fetch x.pc b.memory ≡ Some word → decoded word ≡ Some inst → Stores (does inst x.regs x.pc) passed y → Writes c b (on_parts (settle_and_nudge (Some t) c) y)
     wrote word inst y f d s = record {
       breakpoints = s.breakpoints;
       memory = elim s.memory [
@@ -115,11 +115,11 @@ module _ (c : ℕ) (b : Board) where
       ];
     }
 
-    insts : (word : ℕ) (o : Option Inst) → fetch x.pc b.memory ≡ Some word → decoded word ≡ o → Writes c b (on_parts (settle_and_nudge c) (execute_inst o x c t passed))
+    insts : (word : ℕ) (o : Option Inst) → fetch x.pc b.memory ≡ Some word → decoded word ≡ o → Writes c b (on_parts (settle_and_nudge (Some t) c) (execute_inst o x c t passed))
     insts word None f d = quietly _ refl refl
     insts word (Some inst) f d = wrote word inst (finish (does inst x.regs x.pc) c t passed) f d (effects (does inst x.regs x.pc) c t passed)
 
-    words : (o : Option ℕ) → fetch x.pc b.memory ≡ o → Writes c b (on_parts (settle_and_nudge c) (execute_word o x c t passed))
+    words : (o : Option ℕ) → fetch x.pc b.memory ≡ o → Writes c b (on_parts (settle_and_nudge (Some t) c) (execute_word o x c t passed))
     words None f = quietly _ refl refl
     words (Some word) f = insts word (decoded word) f refl
 

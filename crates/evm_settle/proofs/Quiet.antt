@@ -186,15 +186,15 @@ turns : (c : ℕ) (k : Parts) → IsQuiet k.tasks → settle_in_band c k ≡ tur
 unfolding settle_in_band
 turns c k q = rw (current-quiet (current c k) k.tasks q) refl
 
-pub quiet-settles : (c : ℕ) (k : Parts) → has_oob (play_oob_pipe (slice_get k.pipes c) c k).tasks ≡ false
-    → turn_in_band c (play_oob_pipe (slice_get k.pipes c) c k) ≡ settle_and_nudge c k
-quiet-settles c k h =
+pub quiet-settles : (was : Option ℕ) (c : ℕ) (k : Parts) → has_oob (play_oob_pipe (slice_get k.pipes c) was c k).tasks ≡ false
+    → turn_in_band c (play_oob_pipe (slice_get k.pipes c) was c k) ≡ settle_and_nudge was c k
+quiet-settles was c k h =
     let b : Bool = chooses (slice_get k.pipes c) in
-    let x : Parts = play_oob_pipe (slice_get k.pipes c) c k in
+    let x : Parts = play_oob_pipe (slice_get k.pipes c) was c k in
     let q : IsQuiet x.tasks = quiet-at x.tasks h in
     let chosen : IsQuiet (choose b c x).tasks = rw (choose-tasks c b x) q in
     let turned : turn_in_band c x ≡ settle_in_band c (choose b c x) = sym (turn-chosen c b x) ∙ sym (turns c (choose b c x) chosen) in
     let told : nudge c (turn_in_band c x) ≡ turn_in_band c x = nudge-nobody c (turn_in_band c x) (quiet-turn c x q) in
-    sym told ∙ ap (nudge c) turned ∙ settle_and_nudge-steps c k
+    sym told ∙ ap (nudge c) turned ∙ settle_and_nudge-steps was c k
 
 pub ruleset quiet = (quiet-settles)

@@ -1,7 +1,7 @@
 -- Little has happened where a task's policy changes.
-use Rattle.std.proofs.Common.{◌≡◌, ℕ, ◌-◌, ◌^◌, Bool, refl, ap, ◌∙◌, arith}
+use Rattle.std.proofs.Common.{◌≡◌, ℕ, ◌-◌, Bool, refl, ap, ◌∙◌, arith}
 use Rattle.std.specs.Prelude.{replicate}
-use Rattle.evm_model.specs.Bounds.{PipesUpTo}
+use Rattle.evm_model.specs.Bounds.{COUNT_LIMIT, PER_SETTLING, PipesUpTo}
 use Rattle.evm_model.specs.Pipes.{Pipe, idle_pipe, receive, set_stall}
 use Rattle.evm_model.specs.State.{Parts, on_pipe}
 use Rattle.evm_model.specs.Tasks.{set_policy}
@@ -22,14 +22,14 @@ policy-within u class priority k new e w =
     let same : new.pipes ≡ k.pipes = ap (λ (z : Parts). z.pipes) e ∙ policy-pipes u class priority k in
     record { are = rw same w.are; up = rw same w.up }
 
-pub few-settle : (k : Parts) → AreWithin 1 k → AreWithin (2 ^ 62) k
-few-settle k w = within-more 1 (2 ^ 62) k (omega arith) w
+pub few-settle : (k : Parts) → AreWithin 1 k → AreWithin (COUNT_LIMIT - PER_SETTLING) k
+few-settle k w = within-more 1 (COUNT_LIMIT - PER_SETTLING) k (omega arith) w
 
-pub few-receive : (k : Parts) → AreWithin 98 k → PipesUpTo (2 ^ 63 - 1) k.pipes
-few-receive k w = PipesUpTo-more 98 (2 ^ 63 - 1) k.pipes (omega arith) w.up
+pub few-receive : (k : Parts) → AreWithin 98 k → PipesUpTo (COUNT_LIMIT - 1) k.pipes
+few-receive k w = PipesUpTo-more 98 (COUNT_LIMIT - 1) k.pipes (omega arith) w.up
 
-pub received-settle : (c l : ℕ) (k new : Parts) → new ≡ on_pipe c (receive l) k → AreWithin 98 k → AreWithin (2 ^ 62) new
-received-settle c l k new e w = rw e (within-more 100 (2 ^ 62) _ (omega arith) (within-receive 98 c l k w))
+pub received-settle : (c l : ℕ) (k new : Parts) → new ≡ on_pipe c (receive l) k → AreWithin 98 k → AreWithin (COUNT_LIMIT - PER_SETTLING) new
+received-settle c l k new e w = rw e (within-more 100 (COUNT_LIMIT - PER_SETTLING) _ (omega arith) (within-receive 98 c l k w))
 
-pub stalled-settle : (c : ℕ) (stage : Stage) (b : Bool) (k new : Parts) → new ≡ on_pipe c (set_stall stage b) k → AreWithin 98 k → AreWithin (2 ^ 62) new
-stalled-settle c stage b k new e w = rw e (within-more 98 (2 ^ 62) _ (omega arith) (within-stall 98 c stage b k w))
+pub stalled-settle : (c : ℕ) (stage : Stage) (b : Bool) (k new : Parts) → new ≡ on_pipe c (set_stall stage b) k → AreWithin 98 k → AreWithin (COUNT_LIMIT - PER_SETTLING) new
+stalled-settle c stage b k new e w = rw e (within-more 98 (COUNT_LIMIT - PER_SETTLING) _ (omega arith) (within-stall 98 c stage b k w))

@@ -1,19 +1,20 @@
 -- Settling out-of-band in two steps, and the room that each takes up.
-use Rattle.std.proofs.Common.{◌≡◌, ℕ, List, [], ◌∷◌, ◌+◌, ◌^◌, ◌≤◌, Bool, true, false, Option, Some, None, length, refl, ap, sym, ◌∙◌, arith}
+use Rattle.std.proofs.Common.{◌≡◌, ℕ, List, [], ◌∷◌, ◌+◌, ◌-◌, ◌≤◌, Bool, true, false, Option, Some, None, length, refl, ap, sym, ◌∙◌, arith}
 use Rattle.std.specs.Prelude.{◌==◌, not, slice_get, if◌then◌else◌}
 use Rattle.evm_parts.specs.evm_boost.Scatter.{AreRanks}
-use Rattle.evm_model.specs.Bounds.{PipesUpTo}
+use Rattle.evm_model.specs.Bounds.{COUNT_LIMIT, PER_IN_BAND_LOG, PER_OOB_LOG, PER_SETTLING, HasStamps, PipesUpTo}
 use Rattle.evm_lines.specs.declared.TheConstants.{LINES}
 use Rattle.evm_model.specs.Pipes.{Pipe, arrive, play}
-use Rattle.evm_model.specs.Settle.{play_oob, play_oob_lines, spend_current, run_best, settle_oob, settle_oob_pipe, settle_in_band, settle, nudge, settle_and_nudge}
+use Rattle.evm_model.specs.Settle.{play_oob, play_oob_lines, spend, run_best, settle_oob, settle_oob_pipe, settle_in_band, settle, nudge, settle_and_nudge}
 use Rattle.evm_model.specs.State.{Parts, on_pipe}
+use Rattle.evm_model.specs.declared.limits.TheConstants.{PROCESSOR_LIMIT}
 use Rattle.evm_model.specs.declared.stage.Stage.TheVariants.{OutOfBand, InBand}
 use Rattle.evm_rules.proofs.Bounded.{AreWithin, within-settle_oob, within-settle_in_band}
 use Rattle.evm_rules.proofs.evm_walk.Counted.{PipesUpTo-more}
 use Rattle.evm_rules.proofs.Ranking.{AreRanked, ranked-same}
 use Rattle.evm_rules.proofs.Settling.{ranked-in_band}
 use Rattle.evm_rules.proofs.evm_walk.Sets.{length-set}
-use Rattle.evm_rules.proofs.Spending.{current-spends}
+use Rattle.evm_rules.proofs.Spending.{of-spends}
 use Rattle.evm_settle.specs.Steps.{play_oob_pipe, chooses, choose}
 
 -- ---- the two steps
@@ -21,18 +22,18 @@ if-steps : (c : ℕ) (b : Bool) (k x : Parts) → (if b then k else run_best c x
 if-steps c true k x = refl
 if-steps c false k x = refl
 
-pipe-steps : (c : ℕ) (o : Option Pipe) (k : Parts) → settle_oob_pipe o c k ≡ choose (chooses o) c (play_oob_pipe o c k)
-pipe-steps c None k = refl
-pipe-steps c (Some pipe) k = if-steps c pipe.oob.stalled k (play_oob_lines c pipe.oob.lines k)
+pipe-steps : (was : Option ℕ) (c : ℕ) (o : Option Pipe) (k : Parts) → settle_oob_pipe o was c k ≡ choose (chooses o) c (play_oob_pipe o was c k)
+pipe-steps was c None k = refl
+pipe-steps was c (Some pipe) k = if-steps c pipe.oob.stalled k (play_oob_lines was c pipe.oob.lines k)
 
-pub settle_oob-steps : (c : ℕ) (k : Parts) → settle_oob c k ≡ choose (chooses (slice_get k.pipes c)) c (play_oob_pipe (slice_get k.pipes c) c k)
+pub settle_oob-steps : (was : Option ℕ) (c : ℕ) (k : Parts) → settle_oob was c k ≡ choose (chooses (slice_get k.pipes c)) c (play_oob_pipe (slice_get k.pipes c) was c k)
 unfolding settle_oob
-settle_oob-steps c k = pipe-steps c (slice_get k.pipes c) k
+settle_oob-steps was c k = pipe-steps was c (slice_get k.pipes c) k
 
-pub settle_and_nudge-steps : (c : ℕ) (k : Parts)
-    → nudge c (settle_in_band c (choose (chooses (slice_get k.pipes c)) c (play_oob_pipe (slice_get k.pipes c) c k))) ≡ settle_and_nudge c k
+pub settle_and_nudge-steps : (was : Option ℕ) (c : ℕ) (k : Parts)
+    → nudge c (settle_in_band c (choose (chooses (slice_get k.pipes c)) c (play_oob_pipe (slice_get k.pipes c) was c k))) ≡ settle_and_nudge was c k
 unfolding settle_and_nudge settle
-settle_and_nudge-steps c k = ap (λ (x : Parts). nudge c (settle_in_band c x)) (sym (settle_oob-steps c k))
+settle_and_nudge-steps was c k = ap (λ (x : Parts). nudge c (settle_in_band c x)) (sym (settle_oob-steps was c k))
 
 -- ---- choosing changes only what is current
 pub choose-pipes : (c : ℕ) (b : Bool) (k : Parts) → (choose b c k).pipes ≡ k.pipes
@@ -48,63 +49,63 @@ choose-ranks c true k ranks h = h
 choose-ranks c false k ranks h = h
 
 -- ---- room
-pub room-first : (k : Parts) → AreWithin (2 ^ 62) k → PipesUpTo (2 ^ 62) k.pipes
-room-first k w = w.up
+pub room-first : (k : Parts) → AreWithin (COUNT_LIMIT - PER_SETTLING) k → PipesUpTo (COUNT_LIMIT - PER_OOB_LOG) k.pipes
+room-first k w = PipesUpTo-more (COUNT_LIMIT - PER_SETTLING) (COUNT_LIMIT - PER_OOB_LOG) k.pipes (omega arith) w.up
 
 -- the log is played
-pub room-played : (c : ℕ) (k : Parts) → AreWithin (2 ^ 62) k → AreWithin (2 ^ 62 + 64) (play_oob_pipe (slice_get k.pipes c) c k)
-room-played c k w =
-    let x : Parts = play_oob_pipe (slice_get k.pipes c) c k in
-    let all : AreWithin (2 ^ 62 + 64) (settle_oob c k) = within-settle_oob (2 ^ 62) c k w in
-    let same : x.pipes ≡ (settle_oob c k).pipes = sym (choose-pipes c (chooses (slice_get k.pipes c)) x) ∙ ap (λ (z : Parts). z.pipes) (sym (settle_oob-steps c k)) in
+pub room-played : (was : Option ℕ) (c : ℕ) (k : Parts) → AreWithin (COUNT_LIMIT - PER_SETTLING) k → AreWithin (COUNT_LIMIT - PER_IN_BAND_LOG) (play_oob_pipe (slice_get k.pipes c) was c k)
+room-played was c k w =
+    let x : Parts = play_oob_pipe (slice_get k.pipes c) was c k in
+    let all : AreWithin (COUNT_LIMIT - PER_IN_BAND_LOG) (settle_oob was c k) = within-settle_oob (COUNT_LIMIT - PER_SETTLING) was c k w in
+    let same : x.pipes ≡ (settle_oob was c k).pipes = sym (choose-pipes c (chooses (slice_get k.pipes c)) x) ∙ ap (λ (z : Parts). z.pipes) (sym (settle_oob-steps was c k)) in
     record { are = rw same all.are; up = rw same all.up }
 
-pub room-up : (k : Parts) → AreWithin (2 ^ 62 + 64) k → PipesUpTo (2 ^ 62 + 64) k.pipes
+pub room-up : (k : Parts) → AreWithin (COUNT_LIMIT - PER_IN_BAND_LOG) k → PipesUpTo (COUNT_LIMIT - PER_IN_BAND_LOG) k.pipes
 room-up k w = w.up
 
 -- each line that is played gives one stamp at most
-handle-stamps : (c : ℕ) (first : Bool) (k : Parts) → (if first then on_pipe c (arrive InBand 0) (spend_current c k) else k).stamps ≤ k.stamps + 1
-handle-stamps c true k = let s = current-spends c k in omega (arith, s.most)
-handle-stamps c false k = omega arith
+handle-stamps : (was : Option ℕ) (c : ℕ) (first : Bool) (k : Parts) → (if first then on_pipe c (arrive InBand 0) (spend was k) else k).stamps ≤ k.stamps + 1
+handle-stamps was c true k = let s = of-spends was k in omega (arith, s.most)
+handle-stamps was c false k = omega arith
 
-play-stamps : (c l : ℕ) (k : Parts) → (play_oob c l k).stamps ≤ k.stamps + 1
+play-stamps : (was : Option ℕ) (c l : ℕ) (k : Parts) → (play_oob was c l k).stamps ≤ k.stamps + 1
 unfolding play_oob
-play-stamps c l k = handle-stamps c (l == 0) (on_pipe c (play OutOfBand l) k)
+play-stamps was c l k = handle-stamps was c (l == 0) (on_pipe c (play OutOfBand l) k)
 
-lines-stamps : (c : ℕ) (lines : List ℕ) (k : Parts) → (play_oob_lines c lines k).stamps ≤ k.stamps + length lines
+lines-stamps : (was : Option ℕ) (c : ℕ) (lines : List ℕ) (k : Parts) → (play_oob_lines was c lines k).stamps ≤ k.stamps + length lines
 unfolding play_oob_lines
-lines-stamps c [] k = omega arith
-lines-stamps c (l ∷ ls) k = omega (arith, play-stamps c l k, lines-stamps c ls (play_oob c l k))
+lines-stamps was c [] k = omega arith
+lines-stamps was c (l ∷ ls) k = omega (arith, play-stamps was c l k, lines-stamps was c ls (play_oob was c l k))
 
-stamps-if : (b : Bool) (k x : Parts) (most : ℕ) → k.stamps ≤ most → x.stamps ≤ most → (if b then k else x).stamps ≤ most
-stamps-if true k x most p q = p
-stamps-if false k x most p q = q
+stamps-if : (b : Bool) (n : ℕ) (k x : Parts) → HasStamps n k → HasStamps n x → HasStamps n (if b then k else x)
+stamps-if true n k x p q = p
+stamps-if false n k x p q = q
 
-stamps-pipe : (c : ℕ) (o : Option Pipe) (k : Parts) → slice_get k.pipes c ≡ o → AreWithin (2 ^ 62) k → k.stamps ≤ 2 ^ 61 → (play_oob_pipe o c k).stamps ≤ 2 ^ 61 + 32
-stamps-pipe c None k e w h = omega arith
-stamps-pipe c (Some pipe) k e w h =
+stamps-pipe : (was : Option ℕ) (c : ℕ) (o : Option Pipe) (k : Parts) → slice_get k.pipes c ≡ o → AreWithin (COUNT_LIMIT - PER_SETTLING) k → HasStamps PER_SETTLING k → HasStamps PER_IN_BAND_LOG (play_oob_pipe o was c k)
+stamps-pipe was c None k e w h = omega arith
+stamps-pipe was c (Some pipe) k e w h =
     let few : length pipe.oob.lines ≤ LINES = length-set pipe.oob.lines (w.are c pipe e).oob in
-    stamps-if pipe.oob.stalled k _ (2 ^ 61 + 32) (omega arith) (omega (arith, lines-stamps c pipe.oob.lines k))
+    stamps-if pipe.oob.stalled PER_IN_BAND_LOG k _ (omega arith) (omega (arith, lines-stamps was c pipe.oob.lines k))
 
-pub stamps-played : (c : ℕ) (k : Parts) → AreWithin (2 ^ 62) k → k.stamps ≤ 2 ^ 61 → (play_oob_pipe (slice_get k.pipes c) c k).stamps ≤ 2 ^ 61 + 32
-stamps-played c k w h = stamps-pipe c (slice_get k.pipes c) k refl w h
+pub stamps-played : (was : Option ℕ) (c : ℕ) (k : Parts) → AreWithin (COUNT_LIMIT - PER_SETTLING) k → HasStamps PER_SETTLING k → HasStamps PER_IN_BAND_LOG (play_oob_pipe (slice_get k.pipes c) was c k)
+stamps-played was c k w h = stamps-pipe was c (slice_get k.pipes c) k refl w h
 
 -- the best task is chosen
 choose-within : (b c : ℕ) (chosen : Bool) (k : Parts) → AreWithin b k → AreWithin b (choose chosen c k)
 choose-within b c true k w = record { are = w.are; up = w.up }
 choose-within b c false k w = w
 
-pub room-chosen : (c : ℕ) (b : Bool) (k : Parts) → AreWithin (2 ^ 62 + 64) k → PipesUpTo (2 ^ 62 + 64) (choose b c k).pipes
+pub room-chosen : (c : ℕ) (b : Bool) (k : Parts) → AreWithin (COUNT_LIMIT - PER_IN_BAND_LOG) k → PipesUpTo (COUNT_LIMIT - PER_IN_BAND_LOG) (choose b c k).pipes
 room-chosen c b k w = rw (choose-pipes c b k) w.up
 
-pub stamps-chosen : (c : ℕ) (b : Bool) (k : Parts) → k.stamps ≤ 2 ^ 61 + 32 → (choose b c k).stamps ≤ 2 ^ 61 + 32
+pub stamps-chosen : (c : ℕ) (b : Bool) (k : Parts) → HasStamps PER_IN_BAND_LOG k → HasStamps PER_IN_BAND_LOG (choose b c k)
 stamps-chosen c b k h = rw (choose-stamps c b k) h
 
 -- the in-band part follows, and leaves the ranks
-pub room-settled : (c : ℕ) (b : Bool) (k : Parts) → AreWithin (2 ^ 62 + 64) k → PipesUpTo (2 ^ 62 + 128) (settle_in_band c (choose b c k)).pipes
+pub room-settled : (c : ℕ) (b : Bool) (k : Parts) → AreWithin (COUNT_LIMIT - PER_IN_BAND_LOG) k → PipesUpTo (COUNT_LIMIT - PROCESSOR_LIMIT) (settle_in_band c (choose b c k)).pipes
 room-settled c b k w =
-    let all : AreWithin (2 ^ 62 + 64 + 32) (settle_in_band c (choose b c k)) = within-settle_in_band (2 ^ 62 + 64) c (choose b c k) (choose-within (2 ^ 62 + 64) c b k w) in
-    PipesUpTo-more (2 ^ 62 + 64 + 32) (2 ^ 62 + 128) _ (omega arith) all.up
+    let all : AreWithin (COUNT_LIMIT - PER_IN_BAND_LOG + 32) (settle_in_band c (choose b c k)) = within-settle_in_band (COUNT_LIMIT - PER_IN_BAND_LOG) c (choose b c k) (choose-within (COUNT_LIMIT - PER_IN_BAND_LOG) c b k w) in
+    PipesUpTo-more (COUNT_LIMIT - PER_IN_BAND_LOG + 32) (COUNT_LIMIT - PROCESSOR_LIMIT) _ (omega arith) all.up
 
 ranks-stay : (c : ℕ) (k : Parts) (ranks : List ℕ) → AreRanks ranks k.mutexes k.tasks → AreRanks ranks (settle_in_band c k).mutexes (settle_in_band c k).tasks
 ranks-stay c k ranks h t less =

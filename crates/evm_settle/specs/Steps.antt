@@ -5,9 +5,9 @@ use Rattle.evm_model.specs.Settle.{play_oob_lines, run_best}
 use Rattle.evm_model.specs.State.{Parts}
 
 -- unless it is stalled the out-of-band log is played
-abbrev pub play_oob_pipe : Option Pipe → ℕ → Parts → Parts
-play_oob_pipe None c k = k
-play_oob_pipe (Some pipe) c k = if pipe.oob.stalled then k else play_oob_lines c pipe.oob.lines k
+abbrev pub play_oob_pipe : Option Pipe → Option ℕ → ℕ → Parts → Parts
+play_oob_pipe None was c k = k
+play_oob_pipe (Some pipe) was c k = if pipe.oob.stalled then k else play_oob_lines was c pipe.oob.lines k
 
 -- and then the best task is to be current
 abbrev pub chooses : Option Pipe → Bool

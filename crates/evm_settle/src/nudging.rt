@@ -1,10 +1,10 @@
 ghost use Rattle.evm_parts.specs.evm_boost.Scatter.{AreRanks};
-ghost use Rattle.std.specs.Prelude.{◌≡◌, ◌+◌, ◌^◌};
-ghost use Rattle.evm_model.specs.Bounds.{PipesUpTo};
+ghost use Rattle.std.specs.Prelude.{◌≡◌, ◌-◌};
+ghost use Rattle.evm_model.specs.Bounds.{COUNT_LIMIT, PipesUpTo};
 ghost use Rattle.evm_model.specs.Settle.{nudge, differs, wants_nudge};
 ghost use Rattle.evm_settle.specs.Nudges.{nudge_one};
 
-use evm_model::Stage;
+use evm_model::{PROCESSOR_LIMIT, Stage};
 use evm_parts::{Parts, Pipe};
 
 // Whether a processor that should run the first runs another, or none.
@@ -30,7 +30,7 @@ pub(crate) fn wants_nudge(parts: &Parts, d: u8, pipe: &Pipe, ranks: &[u16]) -> b
 
 // Raises line 1 of another processor that wants it.
 pub(crate) fn nudge_one(parts: &mut Parts, c: u8, d: u8, ranks: &[u16])
-    requires room { PipesUpTo (2 ^ 63) parts.old.pipes }
+    requires room { PipesUpTo COUNT_LIMIT parts.old.pipes }
     requires ranks { AreRanks ranks.now parts.old.mutexes parts.old.tasks }
     ensures { parts.new ≡ nudge_one c d parts.old }
 {
@@ -47,7 +47,7 @@ pub(crate) fn nudge_one(parts: &mut Parts, c: u8, d: u8, ranks: &[u16])
 
 // Raises line 1 of each other processor that wants it.
 pub(crate) fn nudge(parts: &mut Parts, c: u8, ranks: &[u16])
-    requires room { PipesUpTo (2 ^ 62 + 128) parts.old.pipes }
+    requires room { PipesUpTo (COUNT_LIMIT - PROCESSOR_LIMIT) parts.old.pipes }
     requires ranks { AreRanks ranks.now parts.old.mutexes parts.old.tasks }
     ensures { parts.new ≡ nudge c parts.old }
 {

@@ -1,23 +1,24 @@
-ghost use Rattle.std.specs.Prelude.{◌≡◌, ◌≤◌, ◌<◌, ◌+◌, ◌-◌, ◌^◌, length};
-ghost use Rattle.evm_model.specs.Bounds.{PipesUpTo};
+ghost use Rattle.std.specs.Prelude.{◌≡◌, ◌≤◌, ◌<◌, ◌+◌, ◌-◌, length};
+ghost use Rattle.evm_model.specs.Bounds.{COUNT_LIMIT, PER_IN_BAND_LOG, PER_OOB_LOG, HasStamps, PipesUpTo};
 ghost use Rattle.evm_model.specs.Settle.{play_oob, play_in_band, play_oob_lines, play_in_band_lines};
 
 use evm_lines::{LINES, LineSet};
-use evm_model::Stage;
+use evm_model::{Stage, TASK_LIMIT};
 use evm_parts::Parts;
 
-// Plays a line out-of-band: the timer's line takes a tick of a slice, and goes on into the in-band log.
+// Plays a line out-of-band: the timer's line takes a tick of the slice of the task that was current, and goes on into
+// the in-band log.
 #[tactic(auto, using(crate::proofs::Rooms::rooms), unfolding(evm_model::specs::Settle::play_oob))]
-fn play_oob(parts: &mut Parts, c: u8, line: u8)
+fn play_oob(parts: &mut Parts, was: Option<u8>, c: u8, line: u8)
     requires line { line < LINES }
-    requires room { PipesUpTo (2 ^ 63 - 1) parts.old.pipes }
-    requires stamps { parts.old.stamps ≤ 2 ^ 62 }
-    ensures row { parts.new ≡ play_oob c line parts.old }
+    requires room { PipesUpTo (COUNT_LIMIT - 1) parts.old.pipes }
+    requires stamps { HasStamps 1 parts.old }
+    ensures row { parts.new ≡ play_oob was c line parts.old }
     ensures stamps { parts.new.stamps ≤ parts.old.stamps + 1 }
 {
     parts.play(c, Stage::OutOfBand, line);
     if line == 0 {
-        parts.spend_current(c);
+        parts.spend(was);
         parts.arrive(c, Stage::InBand, 0);
     }
 }
@@ -25,15 +26,15 @@ fn play_oob(parts: &mut Parts, c: u8, line: u8)
 // Plays lines out-of-band, the least first. Apart, as after most events there are none.
 #[inline(never)]
 #[tactic(auto, unfolding(evm_model::specs::Settle::play_oob_lines))]
-pub(crate) fn play_oob_lines(parts: &mut Parts, c: u8, lines: LineSet)
+pub(crate) fn play_oob_lines(parts: &mut Parts, was: Option<u8>, c: u8, lines: LineSet)
     requires few { length lines ≤ LINES }
-    requires room { PipesUpTo (2 ^ 62) parts.old.pipes }
-    requires stamps { parts.old.stamps ≤ 2 ^ 61 }
-    ensures { parts.new ≡ play_oob_lines c lines parts.old }
+    requires room { PipesUpTo (COUNT_LIMIT - PER_OOB_LOG) parts.old.pipes }
+    requires stamps { HasStamps PER_OOB_LOG parts.old }
+    ensures { parts.new ≡ play_oob_lines was c lines parts.old }
 {
     let mut left = lines;
     'playing: while let Some(line) = left.pop() {
-        play_oob(parts, c, line);
+        play_oob(parts, was, c, line);
     }
 }
 
@@ -41,8 +42,8 @@ pub(crate) fn play_oob_lines(parts: &mut Parts, c: u8, lines: LineSet)
 #[tactic(auto, unfolding(evm_model::specs::Settle::play_in_band))]
 fn play_in_band(parts: &mut Parts, c: u8, line: u8)
     requires line { line < LINES }
-    requires room { PipesUpTo (2 ^ 63) parts.old.pipes }
-    requires stamps { parts.old.stamps ≤ 2 ^ 62 }
+    requires room { PipesUpTo COUNT_LIMIT parts.old.pipes }
+    requires stamps { HasStamps TASK_LIMIT parts.old }
     ensures row { parts.new ≡ play_in_band c line parts.old }
     ensures stamps { parts.new.stamps ≤ parts.old.stamps + 64 }
 {
@@ -55,8 +56,8 @@ fn play_in_band(parts: &mut Parts, c: u8, line: u8)
 #[tactic(auto, unfolding(evm_model::specs::Settle::play_in_band_lines))]
 pub(crate) fn play_in_band_lines(parts: &mut Parts, c: u8, lines: LineSet)
     requires few { length lines ≤ LINES }
-    requires room { PipesUpTo (2 ^ 62 + 64) parts.old.pipes }
-    requires stamps { parts.old.stamps ≤ 2 ^ 61 + 32 }
+    requires room { PipesUpTo (COUNT_LIMIT - PER_IN_BAND_LOG) parts.old.pipes }
+    requires stamps { HasStamps PER_IN_BAND_LOG parts.old }
     ensures { parts.new ≡ play_in_band_lines c lines parts.old }
 {
     let mut left = lines;

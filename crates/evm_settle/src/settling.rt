@@ -1,6 +1,6 @@
 ghost use Rattle.evm_parts.specs.evm_boost.Scatter.{AreRanks};
-ghost use Rattle.std.specs.Prelude.{◌≡◌, ◌≤◌, ◌+◌, ◌^◌, slice_get, Option};
-ghost use Rattle.evm_model.specs.Bounds.{PipesUpTo};
+ghost use Rattle.std.specs.Prelude.{◌≡◌, ◌-◌, slice_get, Option};
+ghost use Rattle.evm_model.specs.Bounds.{COUNT_LIMIT, PER_IN_BAND_LOG, PER_OOB_LOG, PER_SETTLING, HasStamps, PipesUpTo};
 ghost use Rattle.evm_model.specs.Ranks.{next_in_band};
 ghost use Rattle.evm_model.specs.Settle.{turn_in_band, settle_in_band, run_in_band, nudge, settle_and_nudge, play_in_band_pipe};
 ghost use Rattle.evm_rules.specs.Within.{AreWithin};
@@ -13,10 +13,10 @@ use evm_parts::Parts;
 
 // Unless it is stalled the out-of-band log is played. Answers whether the best task is to be current then.
 #[tactic(auto, unfolding(evm_model::specs::Settle::play_oob_lines))]
-fn play_oob_log(parts: &mut Parts, c: u8) -> bool
-    requires room { PipesUpTo (2 ^ 62) parts.old.pipes }
-    requires stamps { parts.old.stamps ≤ 2 ^ 61 }
-    ensures row { parts.new ≡ play_oob_pipe (slice_get parts.old.pipes c) c parts.old }
+fn play_oob_log(parts: &mut Parts, was: Option<u8>, c: u8) -> bool
+    requires room { PipesUpTo (COUNT_LIMIT - PER_OOB_LOG) parts.old.pipes }
+    requires stamps { HasStamps PER_OOB_LOG parts.old }
+    ensures row { parts.new ≡ play_oob_pipe (slice_get parts.old.pipes c) was c parts.old }
     ensures chooses { result ≡ chooses (slice_get parts.old.pipes c) }
 {
     let Some(pipe) = parts.pipe(c) else {
@@ -27,7 +27,7 @@ fn play_oob_log(parts: &mut Parts, c: u8) -> bool
         return false;
     }
     if !log.lines.is_empty() {
-        play_oob_lines(parts, c, log.lines);
+        play_oob_lines(parts, was, c, log.lines);
     }
     true
 }
@@ -68,8 +68,8 @@ fn run_in_band(parts: &mut Parts, c: u8)
 // Unless it is stalled the in-band log is played.
 #[tactic(auto, unfolding(evm_model::specs::Settle::play_in_band_lines))]
 fn play_in_band_log(parts: &mut Parts, c: u8)
-    requires room { PipesUpTo (2 ^ 62 + 64) parts.old.pipes }
-    requires stamps { parts.old.stamps ≤ 2 ^ 61 + 32 }
+    requires room { PipesUpTo (COUNT_LIMIT - PER_IN_BAND_LOG) parts.old.pipes }
+    requires stamps { HasStamps PER_IN_BAND_LOG parts.old }
     ensures { parts.new ≡ play_in_band_pipe (slice_get parts.old.pipes c) c parts.old }
 {
     let Some(pipe) = parts.pipe(c) else {
@@ -87,8 +87,8 @@ fn play_in_band_log(parts: &mut Parts, c: u8)
 // The in-band log is played, and an in-band task is current.
 #[tactic(auto, unfolding(evm_model::specs::Settle::turn_in_band))]
 fn turn_in_band(parts: &mut Parts, c: u8)
-    requires room { PipesUpTo (2 ^ 62 + 64) parts.old.pipes }
-    requires stamps { parts.old.stamps ≤ 2 ^ 61 + 32 }
+    requires room { PipesUpTo (COUNT_LIMIT - PER_IN_BAND_LOG) parts.old.pipes }
+    requires stamps { HasStamps PER_IN_BAND_LOG parts.old }
     ensures { parts.new ≡ turn_in_band c parts.old }
 {
     play_in_band_log(parts, c);
@@ -98,8 +98,8 @@ fn turn_in_band(parts: &mut Parts, c: u8)
 // The in-band part, where no out-of-band task is current.
 #[tactic(auto, unfolding(evm_model::specs::Settle::settle_in_band))]
 fn settle_in_band(parts: &mut Parts, c: u8)
-    requires room { PipesUpTo (2 ^ 62 + 64) parts.old.pipes }
-    requires stamps { parts.old.stamps ≤ 2 ^ 61 + 32 }
+    requires room { PipesUpTo (COUNT_LIMIT - PER_IN_BAND_LOG) parts.old.pipes }
+    requires stamps { HasStamps PER_IN_BAND_LOG parts.old }
     ensures { parts.new ≡ settle_in_band c parts.old }
 {
     if !parts.tasks.is_oob(parts.current(c)) {
@@ -112,8 +112,8 @@ fn settle_in_band(parts: &mut Parts, c: u8)
 #[inline(never)]
 #[tactic(auto, using(crate::proofs::Steps::steps))]
 fn settle_by_ranks(parts: &mut Parts, c: u8, chooses: bool)
-    requires room { AreWithin (2 ^ 62 + 64) parts.old }
-    requires stamps { parts.old.stamps ≤ 2 ^ 61 + 32 }
+    requires room { AreWithin (COUNT_LIMIT - PER_IN_BAND_LOG) parts.old }
+    requires stamps { HasStamps PER_IN_BAND_LOG parts.old }
     ensures { parts.new ≡ nudge c (settle_in_band c (choose chooses c parts.old)) }
 {
     let ranks = parts.mutexes.ranks(parts.tasks.as_slice());
@@ -122,14 +122,15 @@ fn settle_by_ranks(parts: &mut Parts, c: u8, chooses: bool)
     nudge(parts, c, &ranks);
 }
 
-/// A processor settles, and tells the others that should run another task.
+/// A processor settles after an event, and tells the others that should run another task. `was` is the task that was
+/// current there before the event.
 #[tactic(auto, using(crate::proofs::Steps::steps, crate::proofs::Quiet::quiet))]
-pub fn settle_and_nudge(parts: &mut Parts, c: u8)
-    requires room { AreWithin (2 ^ 62) parts.old }
-    requires stamps { parts.old.stamps ≤ 2 ^ 61 }
-    ensures { parts.new ≡ settle_and_nudge c parts.old }
+pub fn settle_and_nudge(parts: &mut Parts, was: Option<u8>, c: u8)
+    requires room { AreWithin (COUNT_LIMIT - PER_SETTLING) parts.old }
+    requires stamps { HasStamps PER_SETTLING parts.old }
+    ensures { parts.new ≡ settle_and_nudge was c parts.old }
 {
-    let chooses = play_oob_log(parts, c);
+    let chooses = play_oob_log(parts, was, c);
     // Where no task is ready out-of-band no processor has a best one, so the in-band part is all that follows.
     if parts.tasks.has_oob() {
         settle_by_ranks(parts, c, chooses);

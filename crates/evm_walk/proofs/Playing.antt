@@ -8,56 +8,51 @@ use Rattle.evm_model.specs.Good.{IsPipe}
 use Rattle.evm_model.specs.Lists.{change}
 use Rattle.evm_model.specs.Pipes.{Pipe, arrive, play}
 use Rattle.evm_model.specs.Ranks.{is_oob_ready}
-use Rattle.evm_model.specs.Settle.{current, current_of, spend_of, spend_current, play_oob, play_in_band, play_oob_lines, play_in_band_lines}
+use Rattle.evm_model.specs.Settle.{current, spend, play_oob, play_in_band, play_oob_lines, play_in_band_lines}
 use Rattle.evm_model.specs.State.{Parts, on_pipe}
 use Rattle.evm_model.specs.Tasks.{restamp, set_slice, is_round_robin, spend_slice, spend_task}
 use Rattle.evm_model.specs.Waits.{wake, wake_below, awaits_line}
-use Rattle.evm_model.specs.declared.processor.Processor.{Processor}
 use Rattle.evm_model.specs.declared.stage.Stage.TheVariants.{OutOfBand, InBand}
 use Rattle.evm_model.specs.declared.task.Task.{Task}
 use Rattle.evm_model.proofs.Lists.{change-here}
 use Rattle.evm_walk.proofs.Sets.{move_kept}
 use Rattle.evm_walk.proofs.Sizes.{of_spend, walk_sizes}
-use Rattle.evm_walk.proofs.Tasks.{spends_current, wakes_below}
+use Rattle.evm_walk.proofs.Tasks.{spends_of, wakes_below}
 use Rattle.evm_walk.proofs.Twice.{change-twice}
 use Rattle.evm_walk.proofs.Walk.{Actor, PipeMove, plays_timer, plays_oob, plays_in_band, ArePipes, moves, Walk, counted, slack}
 
 pub first_on : (l : ℕ) (rest : List ℕ) → has_line (l ∷ rest) l ≡ true
 first_on l rest = let same : nat_eq l l ≡ true = grind (arith, nat_tests) in rw same refl
 
--- ---- a tick of a slice touches no pipe and no processor
+-- ---- a tick of a slice touches no pipe
 pub record Apart (k new : Parts) : Type 0 where
   pub pipes : new.pipes ≡ k.pipes
-  pub processors : new.processors ≡ k.processors
 
 apart_if : (b : Bool) (k x : Parts) → Apart k x → Apart k (if b then x else k)
 apart_if true k x p = p
-apart_if false k x p = record { pipes = refl; processors = refl }
+apart_if false k x p = record { pipes = refl }
 
 slice_apart : (t slice : ℕ) (k : Parts) → Apart k (spend_slice t slice k)
 unfolding restamp set_slice
-slice_apart t slice k = of_spend (Apart k) t slice k (record { pipes = refl; processors = refl }) (record { pipes = refl; processors = refl })
+slice_apart t slice k = of_spend (Apart k) t slice k (record { pipes = refl }) (record { pipes = refl })
 
 task_apart : (o : Option Task) (t : ℕ) (k : Parts) → Apart k (spend_task o t k)
-task_apart None t k = record { pipes = refl; processors = refl }
+task_apart None t k = record { pipes = refl }
 task_apart (Some x) t k = apart_if (is_oob_ready x.state && is_round_robin x.class) k _ (slice_apart t x.slice k)
 
-of_apart : (o : Option ℕ) (k : Parts) → Apart k (spend_of o k)
-of_apart None k = record { pipes = refl; processors = refl }
-of_apart (Some t) k = task_apart (slice_get k.tasks t) t k
-
-pub spend_apart : (c : ℕ) (k : Parts) → Apart k (spend_current c k)
-unfolding spend_current
-spend_apart c k = of_apart (current c k) k
+pub spend_apart : (was : Option ℕ) (k : Parts) → Apart k (spend was k)
+unfolding spend
+spend_apart None k = record { pipes = refl }
+spend_apart (Some t) k = task_apart (slice_get k.tasks t) t k
 
 -- ---- out of band
 -- what an out-of-band play does to its pipe
 abbrev pub oob_played_if : Bool → ℕ → Pipe → Pipe
 oob_played_if timer l p = if timer then arrive InBand 0 (play OutOfBand l p) else play OutOfBand l p
 
--- and, by the timer's line, to its current task
-abbrev pub spent_if : Bool → ℕ → Parts → Parts
-spent_if timer c k = if timer then spend_current c k else k
+-- and, by the timer's line, to the task that was current
+abbrev pub spent_if : Bool → Option ℕ → Parts → Parts
+spent_if timer was k = if timer then spend was k else k
 
 meanwhile_if : (b : Bool) (x k : Parts) (pipes : List Pipe) (y : Parts) → x ≡ record y { pipes = pipes }
     → (if b then x else record k { pipes = pipes }) ≡ record (if b then y else k) { pipes = pipes }
@@ -74,34 +69,31 @@ task_meanwhile : (o : Option Task) (t : ℕ) (k : Parts) (pipes : List Pipe) →
 task_meanwhile None t k pipes = refl
 task_meanwhile (Some task) t k pipes = meanwhile_if (is_oob_ready task.state && is_round_robin task.class) _ k pipes _ (slice_meanwhile t task.slice k pipes (nat_le task.slice 1) refl)
 
-spent_meanwhile : (o : Option ℕ) (k : Parts) (pipes : List Pipe) → spend_of o (record k { pipes = pipes }) ≡ record (spend_of o k) { pipes = pipes }
-spent_meanwhile None k pipes = refl
-spent_meanwhile (Some t) k pipes = task_meanwhile (slice_get k.tasks t) t k pipes
-
 -- a task's slice is spent whatever the pipes
-spends_meanwhile : (c : ℕ) (k : Parts) (pipes : List Pipe) → spend_current c (record k { pipes = pipes }) ≡ record (spend_current c k) { pipes = pipes }
-unfolding spend_current
-spends_meanwhile c k pipes = spent_meanwhile (current c k) k pipes
+spends_meanwhile : (was : Option ℕ) (k : Parts) (pipes : List Pipe) → spend was (record k { pipes = pipes }) ≡ record (spend was k) { pipes = pipes }
+unfolding spend
+spends_meanwhile None k pipes = refl
+spends_meanwhile (Some t) k pipes = task_meanwhile (slice_get k.tasks t) t k pipes
 
-handled : (timer : Bool) (c l : ℕ) (k : Parts)
-    → (if timer then on_pipe c (arrive InBand 0) (spend_current c (on_pipe c (play OutOfBand l) k)) else on_pipe c (play OutOfBand l) k)
-    ≡ on_pipe c (oob_played_if timer l) (spent_if timer c k)
-handled true c l k =
+handled : (timer : Bool) (was : Option ℕ) (c l : ℕ) (k : Parts)
+    → (if timer then on_pipe c (arrive InBand 0) (spend was (on_pipe c (play OutOfBand l) k)) else on_pipe c (play OutOfBand l) k)
+    ≡ on_pipe c (oob_played_if timer l) (spent_if timer was k)
+handled true was c l k =
     let played : List Pipe = change (play OutOfBand l) k.pipes c in
-    ap (on_pipe c (arrive InBand 0)) (spends_meanwhile c k played)
-    ∙ ap (λ (pipes : List Pipe). record (spend_current c k) { pipes = pipes }) (change-twice (arrive InBand 0) (play OutOfBand l) k.pipes c ∙ ap (λ (pipes : List Pipe). change (λ p. arrive InBand 0 (play OutOfBand l p)) pipes c) (sym (spend_apart c k).pipes))
-handled false c l k = refl
+    ap (on_pipe c (arrive InBand 0)) (spends_meanwhile was k played)
+    ∙ ap (λ (pipes : List Pipe). record (spend was k) { pipes = pipes }) (change-twice (arrive InBand 0) (play OutOfBand l) k.pipes c ∙ ap (λ (pipes : List Pipe). change (λ p. arrive InBand 0 (play OutOfBand l p)) pipes c) (sym (spend_apart was k).pipes))
+handled false was c l k = refl
 
-pub play_oob-on : (c l : ℕ) (k : Parts) → play_oob c l k ≡ on_pipe c (oob_played_if (l == 0) l) (spent_if (l == 0) c k)
+pub play_oob-on : (was : Option ℕ) (c l : ℕ) (k : Parts) → play_oob was c l k ≡ on_pipe c (oob_played_if (l == 0) l) (spent_if (l == 0) was k)
 unfolding play_oob
-play_oob-on c l k = handled (l == 0) c l k
+play_oob-on was c l k = handled (l == 0) was c l k
 
-pub spent_apart : (timer : Bool) (c : ℕ) (k : Parts) → Apart k (spent_if timer c k)
-spent_apart timer c k = apart_if timer k _ (spend_apart c k)
+pub spent_apart : (timer : Bool) (was : Option ℕ) (k : Parts) → Apart k (spent_if timer was k)
+spent_apart timer was k = apart_if timer k _ (spend_apart was k)
 
-spent_walks : (timer : Bool) (a : Actor) (old : Parts) (n s : ℕ) (k : Parts) → current a.cpu old ≡ current a.cpu k → Walk a old n s k → Walk a old n (s + 1) (spent_if timer a.cpu k)
-spent_walks true a old n s k runs w = spends_current a old n s k w runs
-spent_walks false a old n s k runs w = slack a old n n s (s + 1) k (λ g. omega arith) (λ g. omega arith) w
+spent_walks : (timer : Bool) (a : Actor) (old : Parts) (was : Option ℕ) (n s : ℕ) (k : Parts) → current a.cpu old ≡ was → Walk a old n s k → Walk a old n (s + 1) (spent_if timer was k)
+spent_walks true a old was n s k runs w = spends_of a old n s k w was runs
+spent_walks false a old was n s k runs w = slack a old n n s (s + 1) k (λ g. omega arith) (λ g. omega arith) w
 
 oob_move : (may : ℕ → Bool) (timer : Bool) (l : ℕ) (p : Pipe) → (l == 0) ≡ timer → has_line p.oob.lines l ≡ true → PipeMove may 1 p (oob_played_if timer l p)
 oob_move may true l p e h = let same : l ≡ 0 = grind (arith, nat_tests) in rw same (plays_timer p (rw same at h))
@@ -120,15 +112,15 @@ pub record IsLeft (ls : List ℕ) (lines : List ℕ) (p : Pipe) : Type 0 where
   pub same : lines ≡ ls
   pub pipe : IsPipe p
 
-module _ (a : Actor) (old : Parts) where
-  pub walks_oob_lines : (ls : List ℕ) (n s : ℕ) (k : Parts) (p : Pipe) → slice_get k.pipes a.cpu ≡ Some p → (ArePipes old → IsLeft ls p.oob.lines p) → current a.cpu old ≡ current a.cpu k
-      → Walk a old n s k → Walk a old (n + length ls) (s + length ls) (play_oob_lines a.cpu ls k)
+module _ (a : Actor) (old : Parts) (was : Option ℕ) (runs : current a.cpu old ≡ was) where
+  pub walks_oob_lines : (ls : List ℕ) (n s : ℕ) (k : Parts) (p : Pipe) → slice_get k.pipes a.cpu ≡ Some p → (ArePipes old → IsLeft ls p.oob.lines p) → Walk a old n s k
+      → Walk a old (n + length ls) (s + length ls) (play_oob_lines was a.cpu ls k)
   unfolding play_oob_lines
-  walks_oob_lines [] n s k p e g runs w = slack a old n (n + 0) s (s + 0) k (λ h. omega arith) (λ h. omega arith) w
-  walks_oob_lines (l ∷ ls) n s k p e g runs w =
+  walks_oob_lines [] n s k p e g w = slack a old n (n + 0) s (s + 0) k (λ h. omega arith) (λ h. omega arith) w
+  walks_oob_lines (l ∷ ls) n s k p e g w =
       let f : Pipe → Pipe = oob_played_if (l == 0) l in
-      let spent : Parts = spent_if (l == 0) a.cpu k in
-      let apart : Apart k spent = spent_apart (l == 0) a.cpu k in
+      let spent : Parts = spent_if (l == 0) was k in
+      let apart : Apart k spent = spent_apart (l == 0) was k in
       let there : slice_get spent.pipes a.cpu ≡ Some p = ap (λ (pipes : List Pipe). slice_get pipes a.cpu) apart.pipes ∙ e in
       let move : ArePipes old → PipeMove (a.may a.cpu) 1 p (f p) = λ are. oob_move (a.may a.cpu) (l == 0) l p refl (rw (g are).same (first_on l ls)) in
       let left : ArePipes old → IsLeft ls (f p).oob.lines (f p) = λ are. let set : IsLineSet (l ∷ ls) = subst IsLineSet (g are).same (g are).pipe.oob in record {
@@ -137,11 +129,10 @@ module _ (a : Actor) (old : Parts) where
       } in
       let counts : n + suc (length ls) ≡ n + 1 + length ls = omega arith in
       let gives : s + suc (length ls) ≡ s + 1 + length ls = omega arith in
-      rw (play_oob-on a.cpu l k, counts, gives)
+      rw (play_oob-on was a.cpu l k, counts, gives)
       (walks_oob_lines ls (n + 1) (s + 1) (on_pipe a.cpu f spent) (f p) (there_after f a.cpu spent p there) left
-      (runs ∙ ap (λ (all : List Processor). current_of (slice_get all a.cpu)) (sym apart.processors))
       (counted a old n (s + 1) spent _ 1 (moves 1 f spent (λ are q d. let same : p ≡ q = (let two : Some p ≡ Some q = sym there ∙ d in cc) in rw (← same) (move are)))
-      (spent_walks (l == 0) a old n s k runs w)))
+      (spent_walks (l == 0) a old was n s k runs w)))
 
 -- ---- in-band
 in_band_left : (l : ℕ) (p : Pipe) → (play InBand l p).inband.lines ≡ without_line p.inband.lines l

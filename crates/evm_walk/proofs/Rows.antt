@@ -37,27 +37,26 @@ use Rattle.evm_walk.proofs.Passing.{ends}
 use Rattle.evm_walk.proofs.Playing.{first_on, walks_oob_lines, walks_in_band_lines}
 use Rattle.evm_walk.proofs.Refused.{passes, is_line}
 use Rattle.evm_walk.proofs.Sets.{length-set, walk_pipes}
-use Rattle.evm_walk.proofs.Sizes.{walk_runs}
 use Rattle.evm_walk.proofs.Tasks.{demotes}
 use Rattle.evm_walk.proofs.Walk.{Actor, ArePipes, Untouched, raises, receives, hart, marks, picks, moves, tells, clock, Walk, start, quietly, counted, slack, walk_if}
 
 -- ---- settling
 module _ (a : Actor) (old : Parts) (may : a.chooses ≡ true) where
-  settles_pipe : (o : Option Pipe) (n s : ℕ) (k : Parts) → slice_get k.pipes a.cpu ≡ o → current a.cpu old ≡ current a.cpu k → Walk a old n s k → Walk a old (n + 32) (s + 32) (settle_oob_pipe o a.cpu k)
-  settles_pipe None n s k e runs w = slack a old n (n + 32) s (s + 32) k (λ p. omega arith) (λ p. omega arith) w
-  settles_pipe (Some pipe) n s k e runs w =
+  settles_pipe : (was : Option ℕ) (o : Option Pipe) (n s : ℕ) (k : Parts) → slice_get k.pipes a.cpu ≡ o → current a.cpu old ≡ was → Walk a old n s k → Walk a old (n + 32) (s + 32) (settle_oob_pipe o was a.cpu k)
+  settles_pipe was None n s k e runs w = slack a old n (n + 32) s (s + 32) k (λ p. omega arith) (λ p. omega arith) w
+  settles_pipe was (Some pipe) n s k e runs w =
       let ls : List ℕ = pipe.oob.lines in
-      let played : Parts = play_oob_lines a.cpu ls k in
+      let played : Parts = play_oob_lines was a.cpu ls k in
       let few : ArePipes old → length ls ≤ LINES = λ are. length-set ls ((walk_pipes a old n s k w are).each a.cpu pipe e).oob in
       walk_if a old (n + 32) (s + 32) pipe.oob.stalled k (run_best a.cpu played)
       (λ stalled. slack a old n (n + 32) s (s + 32) k (λ p. omega arith) (λ p. omega arith) w)
       (λ free. slack a old (n + length ls) (n + 32) (s + length ls) (s + 32) _ (λ are. omega (arith, few are)) (λ p. omega (arith, few p.pipes))
       (quietly a old (n + length ls) (s + length ls) played _ (picks _ played may)
-      (walks_oob_lines a old ls n s k pipe e (λ are. record { same = refl; pipe = (walk_pipes a old n s k w are).each a.cpu pipe e }) runs w)))
+      (walks_oob_lines a old was runs ls n s k pipe e (λ are. record { same = refl; pipe = (walk_pipes a old n s k w are).each a.cpu pipe e }) w)))
 
-  pub settles_oob : (n s : ℕ) (k : Parts) → current a.cpu old ≡ current a.cpu k → Walk a old n s k → Walk a old (n + 32) (s + 32) (settle_oob a.cpu k)
+  pub settles_oob : (was : Option ℕ) (n s : ℕ) (k : Parts) → current a.cpu old ≡ was → Walk a old n s k → Walk a old (n + 32) (s + 32) (settle_oob was a.cpu k)
   unfolding settle_oob
-  settles_oob n s k runs w = settles_pipe (slice_get k.pipes a.cpu) n s k refl runs w
+  settles_oob was n s k runs w = settles_pipe was (slice_get k.pipes a.cpu) n s k refl runs w
 
   plays_pipe : (o : Option Pipe) (n s : ℕ) (k : Parts) → slice_get k.pipes a.cpu ≡ o → Walk a old n s k → Walk a old (n + 32) (s + 2048) (play_in_band_pipe o a.cpu k)
   plays_pipe None n s k e w = slack a old n (n + 32) s (s + 2048) k (λ p. omega arith) (λ p. omega arith) w
@@ -81,12 +80,12 @@ module _ (a : Actor) (old : Parts) (may : a.chooses ≡ true) where
       walk_if a old (n + 32) (s + 2048) (is_oob (current a.cpu k) k.tasks) k _ (λ oob. slack a old n (n + 32) s (s + 2048) k (λ p. omega arith) (λ p. omega arith) w)
       (λ e. turns_in_band n s k w)
 
-  pub settles : (n s : ℕ) (k : Parts) → current a.cpu old ≡ current a.cpu k → Walk a old n s k → Walk a old (n + 64) (s + 2080) (settle a.cpu k)
+  pub settles : (was : Option ℕ) (n s : ℕ) (k : Parts) → current a.cpu old ≡ was → Walk a old n s k → Walk a old (n + 64) (s + 2080) (settle was a.cpu k)
   unfolding settle
-  settles n s k runs w =
+  settles was n s k runs w =
       let counts : n + 64 ≡ n + 32 + 32 = omega arith in
       let gives : s + 2080 ≡ s + 32 + 2048 = omega arith in
-      rw (counts, gives) (settles_in_band (n + 32) (s + 32) (settle_oob a.cpu k) (settles_oob n s k runs w))
+      rw (counts, gives) (settles_in_band (n + 32) (s + 32) (settle_oob was a.cpu k) (settles_oob was n s k runs w))
 
 -- ---- the others are told
 nudged : (own wants may : Bool) (p : Pipe) → may ≡ true → ((if own then p else (if wants then raise 1 p else p)) ≡ p) ⊎ (((if own then p else (if wants then raise 1 p else p)) ≡ raise 1 p) × (may ≡ true))
@@ -173,22 +172,11 @@ pub record Stepped (a : Actor) (old new : Parts) : Type 0 where
 stepped : (a : Actor) (old : Parts) (n s : ℕ) (k : Parts) → n ≤ 65 → s ≤ 2113 → Walk a old n s k → Stepped a old k
 stepped a old n s k h g w = record { between = k; walk = slack a old n 65 s 2113 k (λ p. h) (λ p. g) w; told = inl refl }
 
-same_current : (o : Option Processor) → current_of (option_map (λ (p : Processor). record p { skip = false }) o) ≡ current_of o
-same_current None = refl
-same_current (Some p) = refl
-
-pub passed_current : (c : ℕ) (k : Parts) → current c (on_processor c (λ p. record p { skip = false }) k) ≡ current c k
-passed_current c k = ap current_of (change-here (λ (p : Processor). record p { skip = false }) k.processors c) ∙ same_current (slice_get k.processors c)
-
--- one that raises and chooses nothing
-abbrev pub quiet : Actor → Actor
-quiet a = record { cpu = a.cpu; task = a.task; may = λ d l. false; chooses = false; calls = true }
-
-finishes : (a : Actor) (old : Parts) (n s : ℕ) (k : Parts) → a.chooses ≡ true → n ≤ 1 → s ≤ 33 → current a.cpu old ≡ current a.cpu k → Walk a old n s k → Stepped a old (settle_and_nudge a.cpu k)
+finishes : (a : Actor) (old : Parts) (was : Option ℕ) (n s : ℕ) (k : Parts) → a.chooses ≡ true → n ≤ 1 → s ≤ 33 → current a.cpu old ≡ was → Walk a old n s k → Stepped a old (settle_and_nudge was a.cpu k)
 unfolding settle_and_nudge
-finishes a old n s k may h g runs w = record {
-  between = settle a.cpu k;
-  walk = slack a old (n + 64) 65 (s + 2080) 2113 _ (λ p. omega (arith, h)) (λ p. omega (arith, g)) (settles a old may n s k runs w);
+finishes a old was n s k may h g runs w = record {
+  between = settle was a.cpu k;
+  walk = slack a old (n + 64) 65 (s + 2080) 2113 _ (λ p. omega (arith, h)) (λ p. omega (arith, g)) (settles a old may was n s k runs w);
   told = inr refl;
 }
 
@@ -207,24 +195,22 @@ pub record MaySteps (a : Actor) (b : Board) : Type 0 where
   pub calls : (t : ℕ) (x : Hart) → current a.cpu b.parts ≡ Some t → slice_get b.parts.harts t ≡ Some x → word_calls (fetch x.pc b.memory) x ≡ true → a.calls ≡ true
 
 module _ (a : Actor) (old : Parts) (b : Board) (may : MaySteps a b) (fresh : Untouched old b.parts) (same : current a.cpu old ≡ current a.cpu b.parts) (w : Walk a old 0 0 b.parts) where
-  runs : (x : Hart) (t : ℕ) → a.task ≡ Some t → (word_calls (fetch x.pc b.memory) x ≡ true → a.calls ≡ true) → Stepped a old (run x a.cpu t b).0.parts
-  runs x t own calls =
+  runs : (x : Hart) (t : ℕ) → a.task ≡ Some t → current a.cpu b.parts ≡ Some t → (word_calls (fetch x.pc b.memory) x ≡ true → a.calls ≡ true) → Stepped a old (run x a.cpu t b).0.parts
+  runs x t own now calls =
       let skips : Processor → Processor = λ p. record p { skip = false } in
       let passed : Board = on_parts (on_processor a.cpu skips) b in
       let done : Parts = (execute x a.cpu t passed).parts in
       let begun : Walk a old 0 0 passed.parts = quietly a old 0 0 b.parts _ (marks skips b.parts (λ p. refl)) w in
       let begins : Untouched old passed.parts = record { tasks = fresh.tasks; harts = fresh.harts; mutexes = fresh.mutexes; console = fresh.console } in
-      let itself : Untouched passed.parts passed.parts = record { tasks = refl; harts = refl; mutexes = refl; console = refl } in
-      let stays : current a.cpu done ≡ current a.cpu passed.parts = walk_runs (quiet a) passed.parts 1 33 done refl (executes (quiet a) passed.parts t own passed itself start x (λ e. refl)) in
-      finishes a old 1 33 done may.chooses (omega arith) (omega arith) (same ∙ sym (passed_current a.cpu b.parts) ∙ sym stays) (executes a old t own passed begins begun x calls)
+      finishes a old (Some t) 1 33 done may.chooses (omega arith) (omega arith) (same ∙ now) (executes a old t own passed begins begun x calls)
 
   hart_steps : (o : Option Hart) (p : Processor) (t : ℕ) → a.task ≡ Some t → current a.cpu b.parts ≡ Some t → slice_get b.parts.harts t ≡ o → Stepped a old (step_hart o p a.cpu t b).0.parts
   hart_steps None p t own now has = stepped a old 0 0 b.parts (omega arith) (omega arith) w
   hart_steps (Some x) p t own now has =
-      either_steps a old (is_set b.breakpoints x.pc && not p.skip) _ (run x a.cpu t b) (stepped a old 0 0 _ (omega arith) (omega arith) (stops a old 0 0 b.parts w)) (runs x t own (may.calls t x now has))
+      either_steps a old (is_set b.breakpoints x.pc && not p.skip) _ (run x a.cpu t b) (stepped a old 0 0 _ (omega arith) (omega arith) (stops a old 0 0 b.parts w)) (runs x t own now (may.calls t x now has))
 
   current_steps : (o : Option ℕ) (p : Processor) → a.task ≡ o → current a.cpu b.parts ≡ o → Stepped a old (step_current o p a.cpu b).0.parts
-  current_steps None p own now = finishes a old 0 0 b.parts may.chooses (omega arith) (omega arith) same w
+  current_steps None p own now = finishes a old None 0 0 b.parts may.chooses (omega arith) (omega arith) (same ∙ now) w
   current_steps (Some t) p own now = hart_steps (slice_get b.parts.harts t) p t own now refl
 
   least_on : (set : List ℕ) (l : ℕ) → least_line set ≡ Some l → has_line set l ≡ true
@@ -235,7 +221,7 @@ module _ (a : Actor) (old : Parts) (b : Board) (may : MaySteps a b) (fresh : Unt
   wire_steps None p pipe e f wire = let now : current a.cpu b.parts ≡ p.current = ap current_of f in current_steps p.current p (may.acts pipe e wire ∙ now) now
   wire_steps (Some l) p pipe e f wire =
       let heard : Parts = on_pipe a.cpu (receive l) b.parts in
-      finishes a old 1 0 heard may.chooses (omega arith) (omega arith) same
+      finishes a old p.current 1 0 heard may.chooses (omega arith) (omega arith) (same ∙ ap current_of f)
       (counted a old 0 0 b.parts _ 1 (moves 1 (receive l) b.parts (λ are q d. let one : pipe ≡ q = (let two : Some pipe ≡ Some q = sym e ∙ d in cc) in receives l q (least_on q.wire l (rw (← one) wire)))) w)
 
   pipe_steps : (o : Option Pipe) (p : Processor) → slice_get b.parts.pipes a.cpu ≡ o → slice_get b.parts.processors a.cpu ≡ Some p → Stepped a old (step_pipe o p a.cpu b).0.parts

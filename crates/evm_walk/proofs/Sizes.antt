@@ -1,17 +1,15 @@
--- How many there are of each, how many stamps are given, and when the clock and the current task stay.
-use Rattle.std.proofs.Common.{◌≡◌, ℕ, ◌+◌, ◌-◌, ◌≤◌, [], ◌∷◌, Bool, true, false, Option, Some, None, length, length-append, refl, ap, sym, ◌∙◌, arith}
-use Rattle.std.specs.Prelude.{slice_get, option_map, nat_le, if◌then◌else◌}
+-- How many there are of each, how many stamps are given, and when the clock stays.
+use Rattle.std.proofs.Common.{◌≡◌, ℕ, ◌+◌, ◌-◌, ◌≤◌, [], ◌∷◌, Bool, true, false, length, length-append, refl, sym, ◌∙◌, arith}
+use Rattle.std.specs.Prelude.{nat_le, if◌then◌else◌}
 use Rattle.std.proofs.lemmas.List.{length-map}
 use Rattle.evm_model.specs.Commands.{tick}
 use Rattle.evm_model.specs.Harts.{spawned_hart}
 use Rattle.evm_model.specs.Pipes.{raise}
-use Rattle.evm_model.specs.Settle.{current, current_of}
 use Rattle.evm_model.specs.State.{Parts, new_task}
 use Rattle.evm_model.specs.Tasks.{restamp, set_policy, set_slice, spend_slice}
 use Rattle.evm_model.specs.Waits.{wake}
 use Rattle.evm_model.specs.declared.limits.TheConstants.{SLICE, TASK_LIMIT}
-use Rattle.evm_model.specs.declared.processor.Processor.{Processor}
-use Rattle.evm_model.proofs.Lists.{length-change, length-each_from, change-here}
+use Rattle.evm_model.proofs.Lists.{length-change, length-each_from}
 use Rattle.evm_walk.proofs.Walk.{Actor, AreFew, Does, hart, task, stamps, turns, spends, wakes, marks, picks, moves, tells, clock, schedules, adds, Walk, start, next}
 
 -- what holds after a tick of a slice and after its last one
@@ -91,11 +89,7 @@ module _ (a : Actor) (old : Parts) where
   walk_most _ _ _ few start = omega arith
   walk_most _ _ _ few (next m n s u i j k x h g d w) = omega (arith, walk_most m s k few w, (does_give i j k x d).most, g few)
 
--- ---- the profile, the clock and the current task
-same_current : (f : Processor → Processor) (o : Option Processor) → ((p : Processor) → (f p).current ≡ p.current) → current_of (option_map f o) ≡ current_of o
-same_current f None h = refl
-same_current f (Some p) h = h p
-
+-- ---- the profile and the clock
 module _ (a : Actor) (old : Parts) where
   does_profile : (i j : ℕ) (k x : Parts) → Does a old i j k x → x.profile ≡ k.profile
   unfolding restamp set_policy set_slice wake tick
@@ -116,15 +110,3 @@ module _ (a : Actor) (old : Parts) where
   pub walk_ticks : (n s : ℕ) (k : Parts) → a.may 0 0 ≡ false → Walk a old n s k → k.ticks ≡ old.ticks
   walk_ticks _ _ _ q start = refl
   walk_ticks _ _ _ q (next m n s u i j k x h g d w) = does_ticks i j k x q d ∙ walk_ticks m s k q w
-
-  does_runs : (i j : ℕ) (k x : Parts) → a.chooses ≡ false → Does a old i j k x → current a.cpu x ≡ current a.cpu k
-  unfolding restamp set_policy set_slice wake tick
-  does_runs _ _ _ _ q (spends t x k runs there on) = of_spend (λ y. current a.cpu y ≡ current a.cpu k) t x.slice k refl refl
-  does_runs _ _ _ _ q (marks f k x) = ap current_of (change-here f k.processors a.cpu) ∙ same_current f (slice_get k.processors a.cpu) x
-  does_runs _ _ _ _ q (picks f k x) = let no : true ≡ false = sym x ∙ q in cc
-  does_runs _ _ _ _ q _ = refl
-
-  -- where it may not choose
-  pub walk_runs : (n s : ℕ) (k : Parts) → a.chooses ≡ false → Walk a old n s k → current a.cpu k ≡ current a.cpu old
-  walk_runs _ _ _ q start = refl
-  walk_runs _ _ _ q (next m n s u i j k x h g d w) = does_runs i j k x q d ∙ walk_runs m s k q w

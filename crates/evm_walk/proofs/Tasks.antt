@@ -4,7 +4,7 @@ use Rattle.std.specs.Prelude.{slice_get, ◌&&◌, ◌==◌}
 use Rattle.std.proofs.lemmas.Bool.Decides.{eqb_tells}
 use Rattle.evm_model.specs.Pipes.{set_stall}
 use Rattle.evm_model.specs.Ranks.{is_oob_ready}
-use Rattle.evm_model.specs.Settle.{current, spend_of, spend_current}
+use Rattle.evm_model.specs.Settle.{current, spend}
 use Rattle.evm_model.specs.State.{Parts, on_pipe}
 use Rattle.evm_model.specs.Tasks.{restamp, set_state, leave_in_band, demote, promote, is_round_robin, spend_slice, spend_task}
 use Rattle.evm_model.specs.Waits.{begin_wait, wake, wake_below, is_wait_for, awaits_task, awaits_line}
@@ -54,13 +54,10 @@ module _ (a : Actor) (old : Parts) (n s : ℕ) (k : Parts) (w : Walk a old n s k
   spends_task (Some x) t runs e =
       walk_if a old n (s + 1) (is_oob_ready x.state && is_round_robin x.class) (spend_slice t x.slice k) k (λ on. stamped a old n s k _ (spends t x k runs e on) w) (λ off. one_more)
 
-  spends_of : (o : Option ℕ) → current a.cpu old ≡ o → Walk a old n (s + 1) (spend_of o k)
+  pub spends_of : (was : Option ℕ) → current a.cpu old ≡ was → Walk a old n (s + 1) (spend was k)
+  unfolding spend
   spends_of None runs = one_more
   spends_of (Some t) runs = spends_task (slice_get k.tasks t) t runs refl
-
-  pub spends_current : current a.cpu old ≡ current a.cpu k → Walk a old n (s + 1) (spend_current a.cpu k)
-  unfolding spend_current
-  spends_current runs = spends_of (current a.cpu k) runs
 
 -- ---- wakes
 number_is : (m n : ℕ) → (m == n) ≡ true → m ≡ n

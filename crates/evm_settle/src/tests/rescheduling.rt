@@ -93,7 +93,7 @@ fn betters(parts: &mut Parts)
     ensures { AreWithin 98 parts.new }
 {
     parts.set_policy(1, Class::Fifo, 30);
-    settle_and_nudge(parts, 0);
+    settle_and_nudge(parts, Some(0), 0);
 }
 
 // Processor 1 receives line 1, and settles.
@@ -102,7 +102,7 @@ fn receives(parts: &mut Parts)
     requires stamps { parts.old.stamps ≤ 64 }
 {
     parts.receive(1, 1);
-    settle_and_nudge(parts, 1);
+    settle_and_nudge(parts, Some(2), 1);
 }
 
 // Processor 1 is stalled out-of-band no more, and settles.
@@ -111,7 +111,7 @@ fn unstalls(parts: &mut Parts)
     requires stamps { parts.old.stamps ≤ 64 }
 {
     parts.set_stall(1, Stage::OutOfBand, false);
-    settle_and_nudge(parts, 1);
+    settle_and_nudge(parts, Some(2), 1);
 }
 
 // Whether line 1 is on processor 1's wire, and how often it was raised and merged there.

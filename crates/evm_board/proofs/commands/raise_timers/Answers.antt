@@ -1,6 +1,8 @@
-use Rattle.std.proofs.Common.{◌+◌, ◌^◌, ◌∙◌, List, sym, ap, arith}
+use Rattle.std.proofs.Common.{◌+◌, ◌-◌, ◌∙◌, List, sym, ap, arith}
+use Rattle.evm_model.specs.Bounds.{COUNT_LIMIT}
 use Rattle.evm_model.specs.Pipes.{Pipe, raise}
 use Rattle.evm_model.specs.State.{Parts, on_pipe}
+use Rattle.evm_model.specs.declared.limits.TheConstants.{PROCESSOR_LIMIT}
 use Rattle.evm_walk.proofs.Counted.{PipesUpTo-more}
 use Rattle.evm_rules.proofs.Counting.{on_raise-up}
 use Rattle.evm_board.proofs.Timers.{timers-none, timers-more, timers-all}
@@ -16,7 +18,7 @@ pub loop-c-preserved : goal.loop-c-preserved
 loop-c-preserved c = record {
   raised = c.raise.ensures ∙ ap (on_pipe c.loop-c.c (raise 0)) c.loop-c.invariant.raised ∙ timers-more c.loop-c.c c.args.parts.now;
   room =
-      rw c.raise.ensures (PipesUpTo-more (2 ^ 61 + c.loop-c.c + 1) _ _ (omega arith) (on_raise-up _ c.loop-c.c 0 c.loop-c.parts c.loop-c.invariant.room));
+      rw c.raise.ensures (PipesUpTo-more (COUNT_LIMIT - PROCESSOR_LIMIT + c.loop-c.c + 1) _ _ (omega arith) (on_raise-up _ c.loop-c.c 0 c.loop-c.parts c.loop-c.invariant.room));
 }
 
 pub returns : goal.returns

@@ -6,20 +6,14 @@ use Rattle.evm_model.specs.Refusals.{is_full}
 use Rattle.evm_model.specs.State.{State}
 use Rattle.evm_board.proofs.evm_rules.States.{good_accepted}
 use Rattle.evm_core.specs.Parts.{state_of}
-use Rattle.evm_core.proofs.Rules.{counts-fit, holds-fit, ticks-fit, stamps-fit}
+use Rattle.evm_core.proofs.Rules.{room-fits, ticks-fit}
 use Rattle.evm_core.proofs.accepting.apply_to.Goals as goal
 
 pub row-answer-requires-clause-clock : goal.row-answer-requires-clause-clock
 row-answer-requires-clause-clock c = ticks-fit _ c.requires.1
 
 pub row-answer-requires-clause-room : goal.row-answer-requires-clause-room
-row-answer-requires-clause-room c = counts-fit _ c.requires.1
-
-pub row-answer-requires-clause-stamps : goal.row-answer-requires-clause-stamps
-row-answer-requires-clause-stamps c = stamps-fit _ c.requires.1
-
-pub row-answer-requires-clause-held : goal.row-answer-requires-clause-held
-row-answer-requires-clause-held c = holds-fit _ c.requires.1
+row-answer-requires-clause-room c = room-fits _ c.requires.1
 
 pub returns-clause-stays : goal.returns-clause-stays
 returns-clause-stays c =

@@ -7,17 +7,11 @@ use Rattle.evm_model.specs.State.{State}
 use Rattle.evm_model.specs.declared.event.Event.TheVariants.{Step}
 use Rattle.evm_core.specs.Parts.{state_of}
 use Rattle.evm_core.proofs.Many.{steps_made, made-board, steps-full, steps-absent, absent}
-use Rattle.evm_core.proofs.Rules.{counts-fit, holds-fit, stamps-fit}
+use Rattle.evm_core.proofs.Rules.{room-fits}
 use Rattle.evm_core.proofs.accepting.some_steps_to.Goals as goal
 
 pub steps-made-requires-clause-room : goal.steps-made-requires-clause-room
-steps-made-requires-clause-room c = counts-fit _ c.requires.parts.1
-
-pub steps-made-requires-clause-stamps : goal.steps-made-requires-clause-stamps
-steps-made-requires-clause-stamps c = stamps-fit _ c.requires.parts.1
-
-pub steps-made-requires-clause-held : goal.steps-made-requires-clause-held
-steps-made-requires-clause-held c = holds-fit _ c.requires.parts.1
+steps-made-requires-clause-room c = room-fits _ c.requires.parts.1
 
 pub returns-clause-stays : goal.returns-clause-stays
 returns-clause-stays c =

@@ -1,4 +1,6 @@
-use Rattle.std.proofs.Common.{◌+◌, ◌^◌, ◌∙◌, sym, ap, arith}
+use Rattle.std.proofs.Common.{◌+◌, ◌-◌, ◌∙◌, sym, ap, arith}
+use Rattle.evm_model.specs.Bounds.{COUNT_LIMIT}
+use Rattle.evm_model.specs.declared.limits.TheConstants.{PROCESSOR_LIMIT}
 use Rattle.evm_rules.proofs.evm_walk.Counted.{PipesUpTo-more}
 use Rattle.evm_settle.specs.Nudges.{nudge_one}
 use Rattle.evm_settle.proofs.Nudges.{nudge_one-none, nudge_one-more, nudge_one-all, nudge_one-up, nudge_one-ranks}
@@ -17,7 +19,7 @@ pub loop-d-preserved : goal.loop-d-preserved
 loop-d-preserved c = record {
   told = c.nudge_one.ensures ∙ ap (nudge_one c.args.c c.loop-d.d) c.loop-d.invariant.told ∙ nudge_one-more c.args.c c.loop-d.d c.args.parts.now;
   room =
-      rw c.nudge_one.ensures (PipesUpTo-more (2 ^ 62 + 128 + c.loop-d.d + 1) _ _ (omega arith) (nudge_one-up _ c.args.c c.loop-d.d c.loop-d.parts c.loop-d.invariant.room));
+      rw c.nudge_one.ensures (PipesUpTo-more (COUNT_LIMIT - PROCESSOR_LIMIT + c.loop-d.d + 1) _ _ (omega arith) (nudge_one-up _ c.args.c c.loop-d.d c.loop-d.parts c.loop-d.invariant.room));
   ranks = rw c.nudge_one.ensures (nudge_one-ranks c.args.c c.loop-d.d c.loop-d.parts c.args.ranks.now c.loop-d.invariant.ranks);
 }
 

@@ -1,4 +1,5 @@
-use Rattle.std.proofs.Common.{◌≡◌, ◌+◌, ◌-◌, ◌^◌, ◌∷◌, length, refl, ap, arith}
+use Rattle.std.proofs.Common.{◌≡◌, ◌+◌, ◌-◌, ◌∷◌, length, refl, ap, arith}
+use Rattle.evm_model.specs.Bounds.{COUNT_LIMIT}
 use Rattle.evm_model.specs.Settle.{play_in_band_lines}
 use Rattle.evm_rules.proofs.evm_walk.Counted.{PipesUpTo-more}
 use Rattle.evm_rules.proofs.Counting.{play_in_band-up}
@@ -11,7 +12,7 @@ pub play_in_band-requires-clause-room : goal.play_in_band-requires-clause-room
 play_in_band-requires-clause-room c = PipesUpTo-more _ _ _ (omega arith) c.playing.invariant.room
 
 pub play_in_band-requires-clause-stamps : goal.play_in_band-requires-clause-stamps
-play_in_band-requires-clause-stamps c = omega (arith, c.playing.invariant.stamps)
+play_in_band-requires-clause-stamps c = let shorter = ap length c.in-Some.ensures.least in omega (arith, c.playing.invariant.stamps)
 
 pub playing-preserved : goal.playing-preserved
 unfolding play_in_band_lines
@@ -21,6 +22,6 @@ playing-preserved c =
     record {
       rest = rw c.play_in_band.ensures.row (rw cut at c.playing.invariant.rest);
       few = omega (arith, c.playing.invariant.few);
-      room = rw c.play_in_band.ensures.row (PipesUpTo-more (2 ^ 62 + 64 + (32 - length c.playing.left) + 1) _ _ (omega (arith, c.playing.invariant.few)) (play_in_band-up _ c.args.c c.in-Some.line c.playing.parts c.playing.invariant.room));
+      room = rw c.play_in_band.ensures.row (PipesUpTo-more (COUNT_LIMIT - length c.playing.left + 1) _ _ (omega (arith, shorter, c.playing.invariant.few)) (play_in_band-up _ c.args.c c.in-Some.line c.playing.parts c.playing.invariant.room));
       stamps = omega (arith, c.playing.invariant.few, c.playing.invariant.stamps, c.play_in_band.ensures.stamps);
     }

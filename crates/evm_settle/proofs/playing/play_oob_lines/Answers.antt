@@ -1,4 +1,5 @@
-use Rattle.std.proofs.Common.{◌≡◌, ◌+◌, ◌-◌, ◌*◌, ◌^◌, ◌∷◌, length, refl, ap, arith}
+use Rattle.std.proofs.Common.{◌≡◌, ◌+◌, ◌-◌, ◌*◌, ◌∷◌, length, refl, ap, arith}
+use Rattle.evm_model.specs.Bounds.{COUNT_LIMIT}
 use Rattle.evm_model.specs.Settle.{play_oob_lines}
 use Rattle.evm_rules.proofs.evm_walk.Counted.{PipesUpTo-more}
 use Rattle.evm_rules.proofs.Counting.{play_oob-up}
@@ -8,10 +9,10 @@ pub playing-init : goal.playing-init
 playing-init c = record { rest = refl; few = c.requires.few; room = PipesUpTo-more _ _ _ (omega arith) c.requires.room; stamps = omega (arith, c.requires.stamps, c.requires.few) }
 
 pub play_oob-requires-clause-room : goal.play_oob-requires-clause-room
-play_oob-requires-clause-room c = PipesUpTo-more _ _ _ (omega arith) c.playing.invariant.room
+play_oob-requires-clause-room c = let shorter = ap length c.in-Some.ensures.least in PipesUpTo-more _ _ _ (omega arith) c.playing.invariant.room
 
 pub play_oob-requires-clause-stamps : goal.play_oob-requires-clause-stamps
-play_oob-requires-clause-stamps c = omega (arith, c.playing.invariant.stamps)
+play_oob-requires-clause-stamps c = let shorter = ap length c.in-Some.ensures.least in omega (arith, c.playing.invariant.stamps)
 
 pub playing-preserved : goal.playing-preserved
 unfolding play_oob_lines
@@ -21,6 +22,6 @@ playing-preserved c =
     record {
       rest = rw c.play_oob.ensures.row (rw cut at c.playing.invariant.rest);
       few = omega (arith, c.playing.invariant.few);
-      room = rw c.play_oob.ensures.row (PipesUpTo-more (2 ^ 62 + 2 * (32 - length c.playing.left) + 2) _ _ (omega (arith, c.playing.invariant.few)) (play_oob-up _ c.args.c c.in-Some.line c.playing.parts c.playing.invariant.room));
+      room = rw c.play_oob.ensures.row (PipesUpTo-more (COUNT_LIMIT - 2 * length c.playing.left + 2) _ _ (omega (arith, shorter, c.playing.invariant.few)) (play_oob-up _ c.args.was c.args.c c.in-Some.line c.playing.parts c.playing.invariant.room));
       stamps = omega (arith, c.playing.invariant.few, c.playing.invariant.stamps, c.play_oob.ensures.stamps);
     }

@@ -6,4 +6,4 @@ pub settle_and_nudge-requires-clause-room : goal.settle_and_nudge-requires-claus
 settle_and_nudge-requires-clause-room c = few-settle _ (policy-within _ _ _ _ _ c.set_policy.ensures.row c.requires.room)
 
 pub returns : goal.returns
-returns c = rw c.settle_and_nudge.ensures (within-settle_and_nudge 1 0 _ (policy-within _ _ _ _ _ c.set_policy.ensures.row c.requires.room))
+returns c = rw c.settle_and_nudge.ensures (within-settle_and_nudge 1 _ 0 _ (policy-within _ _ _ _ _ c.set_policy.ensures.row c.requires.room))
