@@ -8,7 +8,7 @@ use Rattle.evm_serve.specs.evm_streams.Writes.{Took, TookPrefix}
 use Rattle.evm_serve.specs.evm_text.Written.{decimal}
 use Rattle.evm_serve.specs.evm_elf.Sentences.{elf_sentence}
 use Rattle.evm_serve.specs.evm_asm_lexer.Sentences.{asm_sentence}
-use Rattle.evm_serve.specs.evm_asm.Quoting.{quoted}
+use Rattle.evm_serve.specs.evm_asm_details.Quoting.{quoted}
 use Rattle.evm_image.specs.Images.{Contents}
 use Rattle.evm_serve.specs.Details.{fault_detail}
 use Rattle.evm_serve.specs.Faults.{line_at_fault, fault_sentence, sentence_text}

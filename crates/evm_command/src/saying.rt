@@ -2,7 +2,7 @@
 
 ghost use Rattle.std.specs.Prelude.{◌≡◌, codes, option_copied};
 ghost use Rattle.evm_serve.specs.evm_asm_lexer.Sentences.{asm_sentence};
-ghost use Rattle.evm_serve.specs.evm_asm.Quoting.{quoted};
+ghost use Rattle.evm_serve.specs.evm_asm_details.Quoting.{quoted};
 ghost use Rattle.evm_serve.specs.Details.{fault_detail};
 ghost use Rattle.evm_serve.specs.Lookup.{has_boot};
 ghost use Rattle.evm_serve.specs.Serving.{Unread};

@@ -22,8 +22,9 @@ mod texts;
 pub use assembling::assemble_to;
 pub use detail::fault_detail;
 pub use ending::{Ending, Verdict};
+pub use evm_asm_details::quoted;
 pub use evm_debug::{Machine, cut_line, write_journal};
-pub use evm_elf::{AsmFault, quoted, write_bytes};
+pub use evm_elf::{AsmFault, write_bytes};
 pub use evm_streams::{
     ReadFault, ReadStop, Sink, Source, WriteFault, read_all, read_utf8, write_all,
 };
