@@ -18,7 +18,6 @@ use Rattle.evm_asm_parser.specs.declared.spot.Spot.{Spot}
 use Rattle.evm_asm_parser.specs.Operands.{Spots, first_operand, other_operands, name_in}
 use Rattle.evm_asm.specs.Programs.{repeated}
 use Rattle.evm_asm.specs.Sources.{label_at, behind_labels, Defined, with_label, defined, source_lines, in_front, code_of, Laid, laid, with_line_laid, line_laid, first_fault, IsLaid, statement_text}
-use Rattle.evm_asm.specs.Quoting.{behind_lines}
 use Rattle.evm_asm.specs.Kept.{IsKept, AreKept, first_kept, other_kept}
 use Rattle.evm_asm_parser.specs.declared.kept.Kept.{Kept}
 use Rattle.evm_asm.specs.declared.place.Place.{Place}
@@ -238,19 +237,6 @@ no-lines s (b ∷ bs) h = absurd (omega arith)
 pub after-less : (c : ℕ) (rest : List ℕ) → 0 < length rest → length (after c rest) + 1 ≤ length rest
 after-less c [] h = absurd (omega arith)
 after-less c (b ∷ bs) h = let k = after-shorter c b bs in omega arith
-
--- the lines before one, one by one
-pub behind_lines-more : (count i : ℕ) (text : List ℕ) → i < count → behind_lines (count - i) text ≡ behind_lines (count - (i + 1)) (after newline text)
-unfolding behind_lines
-behind_lines-more count i text h =
-    let e : count - i ≡ suc (count - (i + 1)) = omega arith in
-    ap (λ n. behind_lines n text) e
-
-pub behind_lines-done : (count i : ℕ) (text : List ℕ) → count ≤ i → behind_lines (count - i) text ≡ text
-unfolding behind_lines
-behind_lines-done count i text h =
-    let e : count - i ≡ 0 = omega arith in
-    ap (λ n. behind_lines n text) e
 
 -- what is kept of a line, and of those behind it
 pub kept-first : (k : Option Kept) (more : List (Option Kept)) (rest : List ℕ) → 0 < length rest → IsKept k (statement_text (code_of (before newline rest)))

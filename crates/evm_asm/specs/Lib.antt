@@ -9,7 +9,5 @@ pub mod Bounds
 pub mod Loading
 pub mod ProgramLaws
 pub mod Sizes
-pub mod Quoting
-pub mod Details
 pub use Rattle.evm_asm_parser.specs.evm_asm_lexer as evm_asm_lexer
 pub use Rattle.evm_asm_parser.specs as evm_asm_parser

@@ -8,10 +8,10 @@ use Rattle.evm_serve.specs.evm_asm_lexer.declared.extensions.Extension.TheVarian
 use Rattle.evm_serve.specs.evm_asm_lexer.declared.fault.AsmFault.{AsmFault}
 use Rattle.evm_serve.specs.evm_asm_lexer.declared.fault.AsmFaultKind.{AsmFaultKind}
 use Rattle.evm_serve.specs.evm_asm_lexer.declared.fault.AsmFaultKind.TheVariants.{BadOperand}
-use Rattle.evm_serve.specs.evm_asm.Details.{source_detail}
-use Rattle.evm_serve.specs.evm_asm.Quoting.{quoted}
-use Rattle.evm_serve.specs.evm_asm.declared.detail.SourceDetail.{SourceDetail}
-use Rattle.evm_serve.specs.evm_asm.declared.detail.SourceDetail.TheVariants.{Mnemonic, Directive, Register, Extension, Token, Operands, Range, Distance}
+use Rattle.evm_serve.specs.evm_asm_details.Details.{source_detail}
+use Rattle.evm_serve.specs.evm_asm_details.Quoting.{quoted}
+use Rattle.evm_serve.specs.evm_asm_details.declared.detail.SourceDetail.{SourceDetail}
+use Rattle.evm_serve.specs.evm_asm_details.declared.detail.SourceDetail.TheVariants.{Mnemonic, Directive, Register, Extension, Token, Operands, Range, Distance}
 use Rattle.evm_command.specs.Showing.{quoting}
 
 abbrev pub extension_sentence : Extended → List ℕ

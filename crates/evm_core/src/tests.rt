@@ -4,6 +4,7 @@
 use crate::{Answer, Event, Machine, Refusal};
 use arrayvec::ArrayVec;
 use evm_model::POKE_LIMIT;
+use evm_ram::BASE;
 use std::process::Abort;
 use std::test::Fail;
 
@@ -26,8 +27,6 @@ const CODE: [u32; 16] = [
     0x0000_0073, // ecall
     0x0010_0073, // ebreak
 ];
-
-const BASE: u64 = 0x8000_0000;
 
 fn push_word(bytes: &mut ArrayVec<u8, POKE_LIMIT>, word: u32) {
     let [a, b, c, d] = word.to_le_bytes();

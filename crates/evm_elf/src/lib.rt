@@ -14,8 +14,8 @@ mod writing;
 
 pub use detail::{ImageDetail, image_detail};
 pub use evm_asm::{
-    AsmFault, AsmFaultKind, Extension, Program, SourceDetail, all_that_is_meant_stands, assemble,
-    la_loads, li_loads, lines_are_worded, quoted, source_detail, words_stand,
+    AsmFault, AsmFaultKind, Program, all_that_is_meant_stands, assemble, la_loads, li_loads,
+    lines_are_worded, words_stand,
 };
 pub use fault::ElfFault;
 pub use laws::{

@@ -14,6 +14,7 @@ pub mod Starting
 pub mod Told
 pub mod Memory
 pub use Rattle.evm_elf.specs.evm_asm as evm_asm
+pub use Rattle.evm_asm_details.specs as evm_asm_details
 pub use Rattle.evm_elf.specs.evm_asm_lexer as evm_asm_lexer
 pub use Rattle.evm_debug.specs.evm_core as evm_core
 pub use Rattle.evm_debug.specs as evm_debug

@@ -1,10 +1,10 @@
 //! Sources of one faulty line, with what is behind the fault.
 
-use super::super::Extension::{Atomic, Compressed, FenceI, Float, Multiply, Status};
-use super::super::SourceDetail;
-use super::super::SourceDetail::{
+use crate::SourceDetail;
+use crate::SourceDetail::{
     Directive, Distance, Extension, Mnemonic, Operands, Range, Register, Token,
 };
+use evm_asm_parser::Extension::{Atomic, Compressed, FenceI, Float, Multiply, Status};
 
 pub const DETAILS: [(&str, Option<SourceDetail>); 24] = [
     ("mul a0,a0,a1", Some(Extension(Multiply))),

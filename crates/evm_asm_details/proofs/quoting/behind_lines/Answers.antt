@@ -1,7 +1,7 @@
 use Rattle.std.proofs.Common.{◌∙◌, ◌-◌, ◌+◌, sym, ap}
-use Rattle.evm_asm.specs.Quoting.{behind_lines}
-use Rattle.evm_asm.proofs.Line_by_line.{behind_lines-more, behind_lines-done}
-use Rattle.evm_asm.proofs.quoting.behind_lines.Goals as goal
+use Rattle.evm_asm_details.specs.Quoting.{behind_lines}
+use Rattle.evm_asm_details.proofs.Behind.{behind_lines-more, behind_lines-done}
+use Rattle.evm_asm_details.proofs.quoting.behind_lines.Goals as goal
 
 pub loop-preserved : goal.loop-preserved
 loop-preserved c =

@@ -15,9 +15,9 @@ use Rattle.evm_asm_parser.specs.evm_asm_lexer.Text.{before, skip_blanks, first_w
 use Rattle.evm_asm_parser.specs.Forms as slot
 use Rattle.evm_asm_parser.specs.Forms.{Slot, Form, Each, Many, form}
 use Rattle.evm_asm_parser.specs.Operands.{how_many}
-use Rattle.evm_asm.specs.declared.detail.SourceDetail.{SourceDetail}
-use Rattle.evm_asm.specs.declared.detail.SourceDetail.TheVariants.{Mnemonic, Directive, Register, Extension, Token, Operands, Range, Distance}
-use Rattle.evm_asm.specs.Quoting.{behind_lines}
+use Rattle.evm_asm_details.specs.declared.detail.SourceDetail.{SourceDetail}
+use Rattle.evm_asm_details.specs.declared.detail.SourceDetail.TheVariants.{Mnemonic, Directive, Register, Extension, Token, Operands, Range, Distance}
+use Rattle.evm_asm_details.specs.Quoting.{behind_lines}
 use Rattle.evm_asm.specs.Sources.{code_of, statement_text}
 
 -- ---- an unknown name

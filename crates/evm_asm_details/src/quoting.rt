@@ -2,10 +2,9 @@
 
 ghost use Rattle.std.specs.Prelude.{◌≡◌, option_copied};
 ghost use Rattle.evm_asm.specs.Sources.{label_at};
-ghost use Rattle.evm_asm.specs.Quoting.{register_text, unknown_in, unknown_register, unknown_name, last_name, missing_label, only_label, quoted_in, behind_lines, quoted};
+ghost use Rattle.evm_asm_details.specs.Quoting.{register_text, unknown_in, unknown_register, unknown_name, last_name, missing_label, only_label, quoted_in, behind_lines, quoted};
 
-use crate::layout::{code_of, label_at, statement_text};
-use crate::place::is_directive;
+use evm_asm::{code_of, is_directive, label_at, statement_text};
 use evm_asm_parser::{
     AsmFault, AsmFaultKind, Mnemonic, after, before, behind_word, first_operand, first_word, has,
     how_many, mnemonic_named, name_in, other_operands, register_named, skip_blanks,

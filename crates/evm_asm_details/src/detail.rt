@@ -1,11 +1,11 @@
 //! What a person is told of a line beside the sentence of its fault.
 
 ghost use Rattle.std.specs.Prelude.{◌≡◌};
-ghost use Rattle.evm_asm.specs.Details.{name_detail, unknown_detail, token_at, token_text, places_of, operands_detail, natural, width_range, range_of, distance_of, limits_of, line_detail, source_detail};
+ghost use Rattle.evm_asm_details.specs.Details.{name_detail, unknown_detail, token_at, token_text, places_of, operands_detail, natural, width_range, range_of, distance_of, limits_of, line_detail, source_detail};
 ghost use Rattle.evm_asm_parser.specs.Forms.{form};
 
-use crate::layout::{code_of, statement_text};
 use crate::quoting::behind_lines;
+use evm_asm::{code_of, statement_text};
 use evm_asm_parser::{
     AsmFault, AsmFaultKind, Extension, Mnemonic, Width, bad_token, before, behind_word,
     extension_of, first_word, how_many, mnemonic_named, skip_blanks,

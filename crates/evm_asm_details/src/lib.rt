@@ -1,0 +1,12 @@
+//! What a person is told of the fault of a source beside its sentence: the word that is wrong, and what is behind the fault.
+#![tactic(auto)]
+
+mod detail;
+mod quoting;
+
+pub use detail::{SourceDetail, source_detail};
+pub use evm_asm_parser::Extension;
+pub use quoting::quoted;
+
+#[cfg(test)]
+mod tests;
