@@ -15,3 +15,4 @@ pub mod Raised
 pub mod Replays
 pub mod Runs
 pub mod Steps
+pub mod Turns
