@@ -11,6 +11,7 @@ pub mod Kept
 pub mod Least
 pub mod Nudged
 pub mod Order
+pub mod Own
 pub mod Raised
 pub mod Replays
 pub mod Runs

@@ -9,6 +9,7 @@ ghost use Rattle.evm_runs.specs.Kept.{SizesStay, StaysAsBooted, StaysAsLoaded};
 ghost use Rattle.evm_runs.specs.Least.{AlwaysTellsLeast};
 ghost use Rattle.evm_runs.specs.Nudged.{AlwaysTells, AlwaysTellsLoaded};
 ghost use Rattle.evm_runs.specs.Order.{LinesRise, LogsPlayInOrder, MutexesPassByNumber, StepsReceiveLeast, WaitersWakeByNumber};
+ghost use Rattle.evm_runs.specs.Own.{CallsLeave};
 ghost use Rattle.evm_runs.specs.Replays.{LoadsEachByte, LoadsSoManyBytes, ReplaysJoin, StartsAsReplay, StaysReplay};
 
 /// No interrupt is lost and none is played twice: after every boot and every list of events, also where an
@@ -69,6 +70,12 @@ pub fn events_change_only()
 /// A raise puts its line on the wire and counts it, and changes nothing else of a pipe.
 pub fn raises_one_line()
     ensures { RaisesOneLine }
+{}
+
+/// An ECALL of a task that is ready changes of that task only what the table of calls says, its stage and with it its stamp,
+/// and a0.
+pub fn calls_leave()
+    ensures { CallsLeave }
 {}
 
 /// No event changes the boot numbers, nor how many processors, pipes, bytes of RAM or registers there are;
