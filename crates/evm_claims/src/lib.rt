@@ -5,6 +5,7 @@
 mod headline;
 mod mutexes;
 mod no_interrupt_lost;
+mod order;
 mod parts;
 mod rules;
 mod safe_and_total;
@@ -20,6 +21,10 @@ pub use no_interrupt_lost::{
     line_one_is_raised_for_a_better_task, no_line_is_lost_in_a_stage, no_line_is_lost_on_its_wire,
     raised_as_often_as_the_journal_says, what_is_received_comes_to_a_stage,
 };
+pub use order::{
+    a_task_that_ends_passes_its_mutexes_by_number, lines_are_played_in_rising_order,
+    waiters_of_a_line_wake_by_number,
+};
 pub use parts::{
     a_command_changes_one_place, a_raise_puts_its_line_on_the_wire, a_register_keeps_its_number,
     a_tick_moves_the_clock, an_accepted_event_is_journaled, an_image_stands_in_ram,
@@ -28,7 +33,8 @@ pub use parts::{
 pub use rules::{
     a_current_task_is_ready_at_home, a_private_row_changes_one_hart, a_private_row_settles_nothing,
     a_processor_runs_its_best_task, a_stage_is_stalled_by_its_task, a_step_receives_the_least_line,
-    each_pc_is_a_multiple_of_4, no_two_tasks_have_one_stamp, nothing_waits_in_an_open_log,
+    each_pc_is_a_multiple_of_4, each_semaphore_is_within_its_bound, no_two_tasks_have_one_stamp,
+    nothing_waits_in_an_open_log,
 };
 pub use safe_and_total::{
     a_machine_is_as_it_was_booted, counts_never_wrap, sizes_never_change, the_clock_is_its_ticks,

@@ -38,7 +38,7 @@ pub record Waiter (t : ℕ) (wait : Wait) (k : Parts) : Type 0 where
   pub there : slice_get k.tasks t ≡ Some task
   pub on : task.state ≡ Waits wait
 
-number_is : (m n : ℕ) → (n == m) ≡ true → n ≡ m
+pub number_is : (m n : ℕ) → (n == m) ≡ true → n ≡ m
 number_is m n e = elim (eqb_tells n m) [
   | inl g ↦ g.1
   | inr g ↦ let no : true ≡ false = sym e ∙ g.0 in cc
@@ -54,7 +54,7 @@ same_is Sleep Sleep e = refl
 same_is (Timer x) (Timer y) e = ap Timer (number_is x y e)
 same_is _ _ e = cc
 
-wait_is : (wait : Wait) (state : TaskState) → is_wait_for wait state ≡ true → state ≡ Waits wait
+pub wait_is : (wait : Wait) (state : TaskState) → is_wait_for wait state ≡ true → state ≡ Waits wait
 wait_is wait (Waits other) e = ap Waits (same_is wait other e)
 wait_is wait _ e = cc
 

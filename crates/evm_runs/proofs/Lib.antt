@@ -11,7 +11,9 @@ pub mod Kept
 pub mod Least
 pub mod Nudged
 pub mod Order
+pub mod Own
 pub mod Raised
 pub mod Replays
 pub mod Runs
 pub mod Steps
+pub mod Turns

@@ -6,4 +6,5 @@ pub mod Kept
 pub mod Least
 pub mod Nudged
 pub mod Order
+pub mod Own
 pub mod Replays

@@ -8,7 +8,8 @@ ghost use Rattle.evm_runs.specs.Fit.{CountsAlwaysFit, CountsAlwaysFitFresh, Coun
 ghost use Rattle.evm_runs.specs.Kept.{SizesStay, StaysAsBooted, StaysAsLoaded};
 ghost use Rattle.evm_runs.specs.Least.{AlwaysTellsLeast};
 ghost use Rattle.evm_runs.specs.Nudged.{AlwaysTells, AlwaysTellsLoaded};
-ghost use Rattle.evm_runs.specs.Order.{StepsReceiveLeast};
+ghost use Rattle.evm_runs.specs.Order.{LinesRise, LogsPlayInOrder, MutexesPassByNumber, StepsReceiveLeast, WaitersWakeByNumber};
+ghost use Rattle.evm_runs.specs.Own.{CallsLeave};
 ghost use Rattle.evm_runs.specs.Replays.{LoadsEachByte, LoadsSoManyBytes, ReplaysJoin, StartsAsReplay, StaysReplay};
 
 /// No interrupt is lost and none is played twice: after every boot and every list of events, also where an
@@ -24,6 +25,16 @@ pub fn balance_holds()
 /// Where the rules hold, a Step that receives a line receives the least of its processor's wire.
 pub fn steps_receive_least()
     ensures { StepsReceiveLeast }
+{}
+
+/// The lines of a wire and of a log rise, also where a line is received, and a stage that isn't stalled plays those of its
+/// log one after another; a line that is played in-band wakes its waiters by number; a task that ends passes its mutexes
+/// on by number.
+pub fn goes_in_order()
+    ensures rise { LinesRise }
+    ensures plays { LogsPlayInOrder }
+    ensures wakes { WaitersWakeByNumber }
+    ensures passes { MutexesPassByNumber }
 {}
 
 /// After every boot whose numbers are inside their limits, with an image loaded or none, and every list of events line 1
@@ -59,6 +70,12 @@ pub fn events_change_only()
 /// A raise puts its line on the wire and counts it, and changes nothing else of a pipe.
 pub fn raises_one_line()
     ensures { RaisesOneLine }
+{}
+
+/// An ECALL of a task that is ready changes of that task only what the table of calls says, its stage and with it its stamp,
+/// and a0.
+pub fn calls_leave()
+    ensures { CallsLeave }
 {}
 
 /// No event changes the boot numbers, nor how many processors, pipes, bytes of RAM or registers there are;
