@@ -116,7 +116,7 @@ fn settle_by_ranks(parts: &mut Parts, c: u8, chooses: bool)
     requires stamps { parts.old.stamps ≤ 2 ^ 61 + 32 }
     ensures { parts.new ≡ nudge c (settle_in_band c (choose chooses c parts.old)) }
 {
-    let ranks = parts.mutexes.ranks(parts.tasks.as_slice());
+    let ranks = parts.mutexes.ranks(&parts.tasks);
     choose(parts, c, chooses, &ranks);
     settle_in_band(parts, c);
     nudge(parts, c, &ranks);
