@@ -6,7 +6,7 @@ use Rattle.evm_model.specs.Mutexes.{raised, ceiling, boosts}
 use Rattle.evm_model.specs.Ranks.{class_rank_of, rank}
 use Rattle.evm_model.specs.declared.mutex.Mutex.{Mutex}
 use Rattle.evm_model.specs.declared.task.Task.{Task}
-use Rattle.evm_wait.specs.evm_ready.Told.{rank_told}
+use Rattle.evm_task.specs.evm_ready.Told.{rank_told}
 
 -- the ranks of those below a count are these
 unfoldable pub filled : (ℕ → ℕ) → List ℕ → ℕ → List ℕ

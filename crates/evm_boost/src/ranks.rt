@@ -1,16 +1,16 @@
 //! The ranks of the tasks.
 
-ghost use Rattle.std.specs.Prelude.{◌≡◌, ◌<◌, ◌≤◌, true, length};
+ghost use Rattle.std.specs.Prelude.{◌≡◌, ◌<◌, ◌≤◌, true, length, slice_set};
 ghost use Rattle.evm_boost.specs.Scatter.{filled, raise_to, class_rank_at, own_ranks, next_ranks, AreRanks};
 ghost use Rattle.evm_model.specs.Mutexes.{raised, ceiling};
 ghost use Rattle.evm_model.specs.Ranks.{class_rank, first, rank, stamp};
 ghost use Rattle.evm_model.specs.Waits.{awaits};
 ghost use Rattle.evm_ranks.specs.Boosts.{greater};
-ghost use Rattle.evm_wait.specs.evm_ready.Told.{rank_told};
+ghost use Rattle.evm_task.specs.evm_ready.Told.{rank_told};
 
 use crate::mutexes::Mutexes;
-use evm_model::{Class, Protocol, TASK_LIMIT, Task, Wait};
-use evm_wait::{first, rerank};
+use evm_model::{Class, Protocol, TASK_LIMIT, Wait};
+use evm_task::{Tasks, rank_told};
 
 fn class_rank(class: Class, priority: u8) -> u16
     ensures { result ≡ class_rank class priority }
@@ -23,10 +23,10 @@ fn class_rank(class: Class, priority: u8) -> u16
 }
 
 // The rank of a task's class.
-fn class_rank_at(tasks: &[Task], t: u8) -> u16
+fn class_rank_at(tasks: &Tasks, t: u8) -> u16
     ensures { result ≡ class_rank_at tasks.now t }
 {
-    match tasks.get(t as usize) {
+    match tasks.as_slice().get(t as usize) {
         None => 0,
         Some(task) => class_rank(task.class, task.priority),
     }
@@ -36,6 +36,16 @@ fn greater(a: u16, b: u16) -> u16
     ensures { result ≡ greater a b }
 {
     if a <= b { b } else { a }
+}
+
+// Task t has another rank.
+fn rerank(ranks: &mut [u16], t: u8, rank: u16)
+    ensures { ranks.new ≡ slice_set ranks.old t rank }
+{
+    let t = t as usize;
+    if t < ranks.len() {
+        ranks[t] = rank;
+    }
 }
 
 // The rank of a task, if there is one, is at least this.
@@ -50,15 +60,6 @@ fn raise(ranks: &mut [u16], task: Option<u8>, least: u16)
     }
 }
 
-fn rank_told(ranks: &[u16], t: u8) -> u16
-    ensures { result ≡ rank_told ranks.now t }
-{
-    match ranks.get(t as usize) {
-        None => 0,
-        Some(rank) => *rank,
-    }
-}
-
 fn is_same(now: &[u16], next: &[u16]) -> bool
     ensures { (result ≡ true) → now.now ≡ next.now }
 {
@@ -67,11 +68,11 @@ fn is_same(now: &[u16], next: &[u16]) -> bool
 
 // The ranks of the tasks' classes.
 #[tactic(auto, using(crate::proofs::Fills::fills))]
-fn class_ranks(tasks: &[Task], ranks: &mut [u16])
-    requires { length tasks.now ≤ TASK_LIMIT }
-    ensures { ranks.new ≡ filled (class_rank_at tasks.now) ranks.old (length tasks.now) }
+fn class_ranks(tasks: &Tasks, ranks: &mut [u16])
+    ensures ranks { ranks.new ≡ filled (class_rank_at tasks.now) ranks.old (length tasks.now) }
+    ensures limit { length tasks.now ≤ TASK_LIMIT }
 {
-    for t in 0..tasks.len() as u8 {
+    for t in 0..tasks.count() {
         rerank(ranks, t, class_rank_at(tasks, t));
     }
 }
@@ -105,9 +106,9 @@ impl Mutexes {
 
     // The own ranks of the tasks: those of their classes, and of the ceiling mutexes that they own.
     #[tactic(auto, using(crate::proofs::Fills::scatters), unfolding(crate::specs::Scatter::own_ranks))]
-    fn own_ranks(&self, tasks: &[Task], ranks: &mut [u16])
-        requires { length tasks.now ≤ TASK_LIMIT }
-        ensures { ranks.new ≡ own_ranks self.now tasks.now ranks.old }
+    fn own_ranks(&self, tasks: &Tasks, ranks: &mut [u16])
+        ensures ranks { ranks.new ≡ own_ranks self.now tasks.now ranks.old }
+        ensures limit { length tasks.now ≤ TASK_LIMIT }
     {
         class_ranks(tasks, ranks);
         for m in 0..self.count() {
@@ -117,19 +118,17 @@ impl Mutexes {
 
     // One more round: each task raises the one that it boosts.
     #[tactic(auto, using(crate::proofs::Fills::scatters), unfolding(crate::specs::Scatter::next_ranks))]
-    fn next_ranks(&self, tasks: &[Task], now: &[u16], ranks: &mut [u16])
-        requires { length tasks.now ≤ TASK_LIMIT }
+    fn next_ranks(&self, tasks: &Tasks, now: &[u16], ranks: &mut [u16])
         ensures { ranks.new ≡ next_ranks self.now tasks.now ranks.old now.now }
     {
-        for u in 0..tasks.len() as u8 {
+        for u in 0..tasks.count() {
             raise(ranks, self.boosts(tasks, u), rank_told(now, u));
         }
     }
 
     /// The ranks of all tasks, by their numbers: the own ones, raised by those that each task keeps waiting. The
     /// rounds end early where one changes nothing, and there is none where there is no mutex.
-    pub fn ranks(&self, tasks: &[Task]) -> [u16; TASK_LIMIT]
-        requires { length tasks.now ≤ TASK_LIMIT }
+    pub fn ranks(&self, tasks: &Tasks) -> [u16; TASK_LIMIT]
         ensures { AreRanks result self.now tasks.now }
     {
         let mut own = [0; TASK_LIMIT];
@@ -148,8 +147,7 @@ impl Mutexes {
     }
 
     /// The rank of a task.
-    pub fn rank(&self, tasks: &[Task], t: u8) -> u16
-        requires limit { length tasks.now ≤ TASK_LIMIT }
+    pub fn rank(&self, tasks: &Tasks, t: u8) -> u16
         requires there { t < length tasks.now }
         ensures { result ≡ rank self.now tasks.now t }
     {
@@ -157,10 +155,9 @@ impl Mutexes {
     }
 
     /// The number of the first task that waits for this: the one of greatest rank, then of least stamp.
-    pub fn first_waiter(&self, wait: Wait, tasks: &[Task]) -> Option<u8>
-        requires { length tasks.now ≤ TASK_LIMIT }
+    pub fn first_waiter(&self, wait: Wait, tasks: &Tasks) -> Option<u8>
         ensures { result ≡ first (awaits wait tasks.now) (rank self.now tasks.now) (stamp tasks.now) (length tasks.now) }
     {
-        first(wait, tasks, &self.ranks(tasks))
+        tasks.first_waiter(wait, &self.ranks(tasks))
     }
 }

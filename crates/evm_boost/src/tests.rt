@@ -4,6 +4,7 @@ ghost use Rattle.std.specs.Prelude.{◌≡◌, length};
 
 use crate::Mutexes;
 use evm_model::{Class, MUTEX_LIMIT, Mode, Mutex, Protocol, TASK_LIMIT, Task, TaskState, Wait};
+use evm_task::Tasks;
 
 const FREE: Mutex = Mutex {
     recursive: false,
@@ -60,13 +61,11 @@ fn two(first: Mutex, second: Mutex) -> Mutexes
 
 #[test]
 fn without_mutexes_the_class_ranks(rt: HostRuntime) {
-    let tasks = [
-        task(Class::Unattached, 0),
-        task(Class::Weak, 99),
-        task(Class::Fifo, 1),
-        task(Class::RoundRobin, 99),
-        task(Class::Weak, 0),
-    ];
+    let mut tasks = Tasks::of_first(task(Class::Unattached, 0));
+    tasks.push(task(Class::Weak, 99));
+    tasks.push(task(Class::Fifo, 1));
+    tasks.push(task(Class::RoundRobin, 99));
+    tasks.push(task(Class::Weak, 0));
     let ranks = Mutexes::new().ranks(&tasks);
     assert_eq!(rt; ranks[0], 0);
     assert_eq!(rt; ranks[1], 99);
@@ -78,11 +77,9 @@ fn without_mutexes_the_class_ranks(rt: HostRuntime) {
 // 2 waits for 1, which waits for 0: both have the rank of 2.
 #[test]
 fn a_chain_boosts_through(rt: HostRuntime) {
-    let tasks = [
-        task(Class::Weak, 5),
-        waiting(Class::Fifo, 10, 0),
-        waiting(Class::Fifo, 80, 1),
-    ];
+    let mut tasks = Tasks::of_first(task(Class::Weak, 5));
+    tasks.push(waiting(Class::Fifo, 10, 0));
+    tasks.push(waiting(Class::Fifo, 80, 1));
     let ranks = two(owned_by(0), owned_by(1)).ranks(&tasks);
     assert_eq!(rt; ranks[0], 180);
     assert_eq!(rt; ranks[1], 180);
@@ -92,12 +89,10 @@ fn a_chain_boosts_through(rt: HostRuntime) {
 // A waiter of a lesser rank takes nothing from its owner.
 #[test]
 fn the_greatest_waiter_boosts(rt: HostRuntime) {
-    let tasks = [
-        task(Class::Fifo, 50),
-        waiting(Class::Fifo, 10, 0),
-        waiting(Class::Fifo, 60, 1),
-        waiting(Class::Fifo, 55, 0),
-    ];
+    let mut tasks = Tasks::of_first(task(Class::Fifo, 50));
+    tasks.push(waiting(Class::Fifo, 10, 0));
+    tasks.push(waiting(Class::Fifo, 60, 1));
+    tasks.push(waiting(Class::Fifo, 55, 0));
     let ranks = two(owned_by(0), owned_by(0)).ranks(&tasks);
     assert_eq!(rt; ranks[0], 160);
     assert_eq!(rt; ranks[1], 110);
@@ -106,7 +101,8 @@ fn the_greatest_waiter_boosts(rt: HostRuntime) {
 // How often its owner has locked it is nothing to its waiters.
 #[test]
 fn a_recursive_mutex_boosts_its_owner(rt: HostRuntime) {
-    let tasks = [task(Class::Weak, 5), waiting(Class::Fifo, 80, 0)];
+    let mut tasks = Tasks::of_first(task(Class::Weak, 5));
+    tasks.push(waiting(Class::Fifo, 80, 0));
     let mut twice = owned_by(0);
     twice.recursive = true;
     twice.count = 2;
@@ -121,12 +117,10 @@ fn a_recursive_mutex_boosts_its_owner(rt: HostRuntime) {
 // A ceiling raises its owner at once, and nobody boosts through it; what it raises goes on through other mutexes.
 #[test]
 fn a_ceiling_raises_its_owner_alone(rt: HostRuntime) {
-    let tasks = [
-        task(Class::Fifo, 10),
-        waiting(Class::Fifo, 90, 0),
-        waiting(Class::Fifo, 20, 2),
-        task(Class::Weak, 1),
-    ];
+    let mut tasks = Tasks::of_first(task(Class::Fifo, 10));
+    tasks.push(waiting(Class::Fifo, 90, 0));
+    tasks.push(waiting(Class::Fifo, 20, 2));
+    tasks.push(task(Class::Weak, 1));
     let mut mutexes = Mutexes::new();
     mutexes.create(ceiling_of(40, Some(0)));
     mutexes.create(ceiling_of(70, None));
@@ -140,13 +134,12 @@ fn a_ceiling_raises_its_owner_alone(rt: HostRuntime) {
 }
 
 // Task t waits for mutex t - 1, and those past 31 for the same ones again; the last is the greatest.
-fn chain() -> [Task; TASK_LIMIT] {
-    let mut tasks = [task(Class::Weak, 3); TASK_LIMIT];
-    'chaining: for t in 0..TASK_LIMIT {
-        tasks[t] = waiting(Class::Weak, 3, ((t + 31) % 32) as u8);
+fn chain() -> Tasks {
+    let mut tasks = Tasks::of_first(task(Class::Weak, 3));
+    'chaining: for t in 1..63 {
+        tasks.push(waiting(Class::Weak, 3, (t + 31) % 32));
     }
-    tasks[0] = task(Class::Weak, 3);
-    tasks[63] = waiting(Class::Fifo, 99, 30);
+    tasks.push(waiting(Class::Fifo, 99, 30));
     tasks
 }
 
@@ -202,12 +195,10 @@ fn owners_are_known(rt: HostRuntime) {
 // three. 0 waits for none of them, and 3 stands apart.
 #[test]
 fn a_chain_is_walked(rt: HostRuntime) {
-    let tasks = [
-        task(Class::Fifo, 1),
-        waiting(Class::Fifo, 1, 0),
-        waiting(Class::Fifo, 1, 1),
-        task(Class::Fifo, 1),
-    ];
+    let mut tasks = Tasks::of_first(task(Class::Fifo, 1));
+    tasks.push(waiting(Class::Fifo, 1, 0));
+    tasks.push(waiting(Class::Fifo, 1, 1));
+    tasks.push(task(Class::Fifo, 1));
     let mut mutexes = two(owned_by(0), owned_by(1));
     mutexes.create(owned_by(2));
     assert!(rt; mutexes.meets(&tasks, 0, 2));

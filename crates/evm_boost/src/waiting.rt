@@ -6,13 +6,14 @@ ghost use Rattle.evm_model.specs.declared.limits.TheConstants.{TASK_LIMIT};
 ghost use Rattle.evm_ranks.specs.Boosts.{is_number, meets, walk_on};
 
 use crate::mutexes::Mutexes;
-use evm_model::{Mutex, Protocol, TASK_LIMIT, Task, TaskState, Wait};
+use evm_model::{Mutex, Protocol, TASK_LIMIT, TaskState, Wait};
+use evm_task::Tasks;
 
 // The mutex that a task waits for.
-fn lock_at(tasks: &[Task], u: u8) -> Option<u8>
+fn lock_at(tasks: &Tasks, u: u8) -> Option<u8>
     ensures { result ≡ lock_at tasks.now u }
 {
-    let Some(task) = tasks.get(u as usize) else {
+    let Some(task) = tasks.as_slice().get(u as usize) else {
         return None;
     };
     match task.state {
@@ -45,7 +46,7 @@ fn is_number(task: Option<u8>, t: u8) -> bool
 
 impl Mutexes {
     /// The task that task u waits for: the owner of its mutex.
-    pub fn waits_on(&self, tasks: &[Task], u: u8) -> Option<u8>
+    pub fn waits_on(&self, tasks: &Tasks, u: u8) -> Option<u8>
         ensures { result ≡ waits_on self.now tasks.now u }
     {
         match lock_at(tasks, u) {
@@ -55,7 +56,7 @@ impl Mutexes {
     }
 
     /// The task that task u boosts: the owner of its mutex, where that is one of inheritance.
-    pub fn boosts(&self, tasks: &[Task], u: u8) -> Option<u8>
+    pub fn boosts(&self, tasks: &Tasks, u: u8) -> Option<u8>
         ensures { result ≡ boosts self.now tasks.now u }
     {
         match lock_at(tasks, u) {
@@ -65,7 +66,7 @@ impl Mutexes {
     }
 
     // The way to task t goes one link on, unless it is there.
-    fn walk_to(&self, tasks: &[Task], t: u8, at: Option<u8>) -> Option<u8>
+    fn walk_to(&self, tasks: &Tasks, t: u8, at: Option<u8>) -> Option<u8>
         ensures { result ≡ (if is_number at t then at else walk_on (waits_on self.now tasks.now) at) }
     {
         let Some(u) = at else {
@@ -76,7 +77,7 @@ impl Mutexes {
 
     /// Whether task u waits for task t by some chain, or is it.
     #[tactic(auto, using(crate::proofs::Meets::ways))]
-    pub fn meets(&self, tasks: &[Task], t: u8, u: u8) -> bool
+    pub fn meets(&self, tasks: &Tasks, t: u8, u: u8) -> bool
         ensures { result ≡ meets (waits_on self.now tasks.now) t TASK_LIMIT (Some u) }
     {
         let mut at = Some(u);

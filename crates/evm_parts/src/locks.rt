@@ -20,7 +20,7 @@ impl Parts {
     pub fn ranks(&self) -> [u16; TASK_LIMIT]
         ensures { AreRanks result self.now.mutexes self.now.tasks }
     {
-        self.mutexes.ranks(self.tasks.as_slice())
+        self.mutexes.ranks(&self.tasks)
     }
 
     /// The rank of a task; 0 where there is none.
@@ -32,7 +32,7 @@ impl Parts {
         if t >= self.tasks.count() {
             return 0;
         }
-        self.mutexes.rank(self.tasks.as_slice(), t)
+        self.mutexes.rank(&self.tasks, t)
     }
 
     /// The number of the out-of-band task that a processor should run, by the ranks of all.
@@ -54,7 +54,7 @@ impl Parts {
     pub fn meets(&self, t: u8, u: u8) -> bool
         ensures { result ≡ meets (waits_on self.now.mutexes self.now.tasks) t TASK_LIMIT (Some u) }
     {
-        self.mutexes.meets(self.tasks.as_slice(), t, u)
+        self.mutexes.meets(&self.tasks, t, u)
     }
 
     /// One mutex more.
@@ -87,7 +87,7 @@ impl Parts {
     pub fn first_waiter(&self, wait: Wait) -> Option<u8>
         ensures { result ≡ first_waiter wait self.now }
     {
-        self.mutexes.first_waiter(wait, self.tasks.as_slice())
+        self.mutexes.first_waiter(wait, &self.tasks)
     }
 
     /// A task that waited for a mutex owns it and wakes; if there is none, the mutex is free.

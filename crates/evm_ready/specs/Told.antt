@@ -1,5 +1,5 @@
--- Ranks that are told: a list of them, by the numbers of the tasks.
-use Rattle.std.specs.Prelude.{ℕ, List, Option, Some, None, slice_get}
+-- Ranks that are told: a list of them, by the numbers of the tasks. Of two tasks the one that goes first.
+use Rattle.std.specs.Prelude.{ℕ, List, Option, Some, None, Bool, true, false, nat_lt, if◌then◌else◌, slice_get}
 
 abbrev pub told_of : Option ℕ → ℕ
 told_of None = 0
@@ -8,3 +8,8 @@ told_of (Some rank) = rank
 -- the rank of task t, as it is told
 abbrev pub rank_told : List ℕ → ℕ → ℕ
 rank_told ranks t = told_of (slice_get ranks t)
+
+-- a task of the first rank and stamp goes before one of the others
+abbrev pub is_before : ℕ → ℕ → ℕ → ℕ → Bool
+is_before rank stamp other_rank other_stamp =
+    if nat_lt other_rank rank then true else (if nat_lt rank other_rank then false else nat_lt stamp other_stamp)

@@ -1,11 +1,13 @@
-//! Which task a processor should run, and what changes that.
+//! The tasks that are ready, on either stage, and which of them a processor should run.
 #![tactic(auto)]
 
-mod changes;
+mod order;
+mod place;
 mod ready;
 
-pub use changes::{put, rerank, set_slice, set_stamp, take};
-pub use ready::{best_of, has_oob, leader_of, next_in_band_of};
+pub use order::{is_before, rank_told};
+pub use place::{Place, place_of};
+pub use ready::Ready;
 
 #[cfg(test)]
 mod tests;

@@ -1,129 +1,155 @@
-ghost use Rattle.std.specs.Prelude.{◌≡◌, ◌≤◌, length};
-ghost use Rattle.evm_model.specs.Ranks.{first, next_in_band, stamp, leader, goes_before, is_oob_ready, runs_oob, runs_in_band};
-ghost use Rattle.evm_ready.specs.Oob.{has_oob};
+ghost use Rattle.std.specs.Prelude.{◌≡◌, ◌<◌, ◌≤◌, ◌++◌, ◌∷◌, [], length};
+ghost use Rattle.arrayvec.specs.ArrayVec.{array_vec_len};
+ghost use Rattle.evm_model.specs.Lists.{change};
+ghost use Rattle.evm_model.specs.Ranks.{first, leader};
+ghost use Rattle.evm_ready.specs.Places.{any_oob, entry, runs_oob, runs_in_band, stamp_of};
 ghost use Rattle.evm_ready.specs.Told.{rank_told};
 
-use evm_model::{TASK_LIMIT, Task, TaskState};
+use crate::order::{is_before, rank_told};
+use crate::place::{Place, oob_bit, runs_in_band, runs_oob};
+use arrayvec::ArrayVec;
+use evm_model::TASK_LIMIT;
+use std::marker::Model;
 
-// The rank that is told of a task.
-fn rank_told(ranks: &[u16], t: u8) -> u16
-    ensures { result ≡ rank_told ranks.now t }
-{
-    match ranks.get(t as usize) {
-        None => 0,
-        Some(rank) => *rank,
-    }
+/// Where each task is ready, by its number, with room for all from the start.
+#[derive(Debug, Drop)]
+pub struct Ready {
+    places: ArrayVec<Option<Place>, TASK_LIMIT>,
+    // how many are ready out-of-band
+    oob: u8,
 }
 
-fn stamp_at(tasks: &[Task], t: u8) -> u64
-    ensures { result ≡ stamp tasks.now t }
-{
-    match tasks.get(t as usize) {
-        None => 0,
-        Some(task) => task.stamp,
-    }
+impl Model for Ready {
+    ghost use Rattle.std.specs.Prelude.{List, Option};
+    ghost use Rattle.evm_ready.specs.declared.place.Place.{Place};
+
+    ghost Value = { List (Option Place) };
+
+    ghost use Rattle.evm_ready.specs.Places.{AreCounted};
+
+    ghost invariant = { λ r. AreCounted r.oob r.places.items };
+
+    ghost view = { λ r. r.places.items };
 }
 
-// Whether task t goes before task u: the greater rank, and of one rank the lesser stamp.
-fn is_before(tasks: &[Task], ranks: &[u16], t: u8, u: u8) -> bool
-    ensures { result ≡ goes_before (rank_told ranks.now) (stamp tasks.now) t u }
-{
-    let first = rank_told(ranks, t);
-    let second = rank_told(ranks, u);
-    if second < first {
-        true
-    } else if first < second {
-        false
-    } else {
-        stamp_at(tasks, t) < stamp_at(tasks, u)
+impl Ready {
+    /// No task.
+    pub fn new() -> Ready
+        ensures { result ≡ [] }
+    {
+        Ready {
+            places: ArrayVec::new(),
+            oob: 0,
+        }
     }
-}
 
-/// Of the one that leads so far and another, the one that goes first by the ranks told.
-pub fn leader_of(tasks: &[Task], ranks: &[u16], leading: Option<u8>, t: u8) -> u8
-    ensures { result ≡ leader (rank_told ranks.now) (stamp tasks.now) leading t }
-{
-    match leading {
-        None => t,
-        Some(u) => { if is_before(tasks, ranks, t, u) { t } else { u } }
+    /// How many tasks there are, ready or not; 64 at the most.
+    pub fn len(&self) -> u8
+        ensures count { result ≡ length self.now }
+        ensures limit { result ≤ TASK_LIMIT }
+    {
+        self.places.len() as u8
     }
-}
 
-// Of the one that leads so far and another, the one of lesser stamp.
-fn least_stamped_of(tasks: &[Task], leading: Option<u8>, t: u8) -> u8
-    ensures { result ≡ leader (λ _. 0) (stamp tasks.now) leading t }
-{
-    match leading {
-        None => t,
-        Some(u) => {
-            if stamp_at(tasks, t) < stamp_at(tasks, u) {
-                t
-            } else {
-                u
+    /// One task more, the last: it is ready there, or isn't ready.
+    #[tactic(auto, using(crate::proofs::Counts::counts))]
+    pub fn push(&mut self, place: Option<Place>)
+        requires { length self.old < TASK_LIMIT }
+        ensures { self.new ≡ self.old ++ place ∷ [] }
+    {
+        self.oob += oob_bit(place);
+        self.places.push(place);
+    }
+
+    fn get(&self, t: u8) -> Option<Place>
+        ensures { result ≡ entry self.now t }
+    {
+        match self.places.as_slice().get(t as usize) {
+            None => None,
+            Some(place) => *place,
+        }
+    }
+
+    /// Task t is ready there, or isn't ready.
+    pub fn set(&mut self, t: u8, place: Option<Place>)
+        ensures { self.new ≡ change (λ _. place) self.old t }
+    {
+        if let Some(entry) = self.places.get_mut(t as usize) {
+            self.oob = self.oob - oob_bit(*entry) + oob_bit(place);
+            *entry = place;
+        }
+    }
+
+    /// Whether any task is ready out-of-band, on whichever processor.
+    #[tactic(auto, using(crate::proofs::Counts::counts))]
+    pub fn has_oob(&self) -> bool
+        ensures { result ≡ any_oob self.now }
+    {
+        self.oob > 0
+    }
+
+    fn stamp(&self, t: u8) -> u64
+        ensures { result ≡ stamp_of (entry self.now t) }
+    {
+        match self.get(t) {
+            None => 0,
+            Some(place) => place.stamp,
+        }
+    }
+
+    // Of the one that leads so far and another, the one that goes first by the ranks told.
+    fn leader_of(&self, ranks: &[u16], leading: Option<u8>, t: u8) -> u8
+        ensures { result ≡ leader (rank_told ranks.now) (λ u. stamp_of (entry self.now u)) leading t }
+    {
+        let Some(u) = leading else {
+            return t;
+        };
+        let before = is_before(
+            rank_told(ranks, t),
+            self.stamp(t),
+            rank_told(ranks, u),
+            self.stamp(u),
+        );
+        if before { t } else { u }
+    }
+
+    // Of the one that leads so far and another, the one of lesser stamp.
+    fn least_stamped_of(&self, leading: Option<u8>, t: u8) -> u8
+        ensures { result ≡ leader (λ _. 0) (λ u. stamp_of (entry self.now u)) leading t }
+    {
+        match leading {
+            Some(u) if self.stamp(u) <= self.stamp(t) => u,
+            _ => t,
+        }
+    }
+
+    /// The number of the out-of-band task that processor c should run by the ranks told: of those that are ready there,
+    /// the one of greatest rank, then of least stamp.
+    #[tactic(auto, using(crate::proofs::Scans::scans))]
+    pub fn best(&self, c: u8, ranks: &[u16]) -> Option<u8>
+        ensures { result ≡ first (λ t. runs_oob c (entry self.now t)) (rank_told ranks.now) (λ t. stamp_of (entry self.now t)) (length self.now) }
+    {
+        let mut leading = None;
+        for t in 0..self.len() {
+            if runs_oob(self.get(t), c) {
+                leading = Some(self.leader_of(ranks, leading, t));
             }
         }
+        leading
     }
-}
 
-fn may_run_oob(tasks: &[Task], c: u8, t: u8) -> bool
-    ensures { result ≡ runs_oob c tasks.now t }
-{
-    match tasks.get(t as usize) {
-        None => false,
-        Some(task) => task.state == TaskState::OobReady && task.cpu == c,
-    }
-}
-
-fn may_run_in_band(tasks: &[Task], c: u8, t: u8) -> bool
-    ensures { result ≡ runs_in_band c tasks.now t }
-{
-    match tasks.get(t as usize) {
-        None => false,
-        Some(task) => task.state == TaskState::InReady && task.cpu == c,
-    }
-}
-
-fn is_oob(task: &Task) -> bool
-    ensures { result ≡ is_oob_ready task.now.state }
-{
-    task.state == TaskState::OobReady
-}
-
-/// Whether any task is ready out-of-band, on whichever processor.
-pub fn has_oob(tasks: &[Task]) -> bool
-    ensures { result ≡ has_oob tasks.now }
-{
-    tasks.iter().any(is_oob)
-}
-
-/// The number of the out-of-band task that processor c should run by the ranks told: of those that are ready there,
-/// the one of greatest rank, then of least stamp.
-#[tactic(auto, using(crate::proofs::Scans::scans))]
-pub fn best_of(c: u8, tasks: &[Task], ranks: &[u16]) -> Option<u8>
-    requires { length tasks.now ≤ TASK_LIMIT }
-    ensures { result ≡ first (runs_oob c tasks.now) (rank_told ranks.now) (stamp tasks.now) (length tasks.now) }
-{
-    let mut leading = None;
-    for t in 0..tasks.len() as u8 {
-        if may_run_oob(tasks, c, t) {
-            leading = Some(leader_of(tasks, ranks, leading, t));
+    /// The number of the in-band task that processor c should take up: of those that are ready there, the one of
+    /// least stamp.
+    #[tactic(auto, using(crate::proofs::Scans::scans))]
+    pub fn next_in_band(&self, c: u8) -> Option<u8>
+        ensures { result ≡ first (λ t. runs_in_band c (entry self.now t)) (λ _. 0) (λ t. stamp_of (entry self.now t)) (length self.now) }
+    {
+        let mut leading = None;
+        for t in 0..self.len() {
+            if runs_in_band(self.get(t), c) {
+                leading = Some(self.least_stamped_of(leading, t));
+            }
         }
+        leading
     }
-    leading
-}
-
-/// The number of the in-band task that processor c should take up: of those that are ready there, the one of
-/// least stamp.
-#[tactic(auto, using(crate::proofs::Scans::scans), unfolding(evm_model::specs::Ranks::next_in_band))]
-pub fn next_in_band_of(c: u8, tasks: &[Task]) -> Option<u8>
-    requires { length tasks.now ≤ TASK_LIMIT }
-    ensures { result ≡ next_in_band c tasks.now }
-{
-    let mut leading = None;
-    for t in 0..tasks.len() as u8 {
-        if may_run_in_band(tasks, c, t) {
-            leading = Some(least_stamped_of(tasks, leading, t));
-        }
-    }
-    leading
 }

@@ -1,124 +1,105 @@
 //! Which task goes first, against rows worked by hand.
 
-use crate::{
-    best_of, has_oob, leader_of, next_in_band_of, put, rerank, set_slice, set_stamp, take,
-};
-use evm_model::{Class, Mode, SLICE, Task, TaskState};
+use crate::{Place, Ready, is_before, place_of, rank_told};
+use evm_model::{Stage, Task, TaskState, Wait};
 
-fn ready(cpu: u8, class: Class, priority: u8, stamp: u64) -> Task {
-    Task {
+fn oob(cpu: u8, stamp: u64) -> Option<Place> {
+    Some(Place {
+        stage: Stage::OutOfBand,
         cpu,
-        class,
-        priority,
-        slice: 4,
-        mode: Mode { bits: 0 },
         stamp,
-        deadline: 0,
-        state: TaskState::OobReady,
-    }
+    })
+}
+
+fn in_band(cpu: u8, stamp: u64) -> Option<Place> {
+    Some(Place {
+        stage: Stage::InBand,
+        cpu,
+        stamp,
+    })
+}
+
+fn in_state(state: TaskState) -> Task {
+    let mut task = Task::default();
+    task.cpu = 3;
+    task.stamp = 7;
+    task.state = state;
+    task
 }
 
 #[test]
 fn the_greatest_rank_goes_first(rt: HostRuntime) {
-    let tasks = [
-        ready(0, Class::Weak, 99, 1),
-        ready(0, Class::Fifo, 10, 5),
-        ready(1, Class::Fifo, 90, 2),
-        ready(0, Class::RoundRobin, 10, 4),
-    ];
+    let mut ready = Ready::new();
+    ready.push(oob(0, 1));
+    ready.push(oob(0, 5));
+    ready.push(oob(1, 2));
+    ready.push(oob(0, 4));
     let ranks = [99, 110, 190, 110];
-    assert_eq!(rt; best_of(0, &tasks, &ranks), Some(3));
-    assert_eq!(rt; best_of(1, &tasks, &ranks), Some(2));
-    assert_eq!(rt; best_of(2, &tasks, &ranks), None);
-    assert_eq!(rt; next_in_band_of(0, &tasks), None);
-    assert_eq!(rt; leader_of(&tasks, &ranks, None, 0), 0);
-    assert_eq!(rt; leader_of(&tasks, &ranks, Some(1), 3), 3);
-    assert_eq!(rt; leader_of(&tasks, &ranks, Some(2), 3), 2);
+    assert_eq!(rt; ready.best(0, &ranks), Some(3));
+    assert_eq!(rt; ready.best(1, &ranks), Some(2));
+    assert_eq!(rt; ready.best(2, &ranks), None);
+    assert_eq!(rt; ready.next_in_band(0), None);
+    assert_eq!(rt; rank_told(&ranks, 2), 190);
+    assert_eq!(rt; rank_told(&ranks, 4), 0);
+    assert!(rt; is_before(110, 4, 110, 5));
+    assert!(rt; !is_before(110, 5, 110, 5));
+    assert!(rt; is_before(190, 9, 110, 4));
+    assert!(rt; !is_before(110, 4, 190, 9));
 }
 
 // A boosted task goes before one of a greater class.
 #[test]
 fn the_rank_that_is_told_decides(rt: HostRuntime) {
-    let tasks = [
-        ready(0, Class::Weak, 5, 1),
-        ready(0, Class::Fifo, 10, 2),
-        ready(0, Class::Fifo, 80, 3),
-    ];
-    assert_eq!(rt; best_of(0, &tasks, &[5, 110, 180]), Some(2));
-    assert_eq!(rt; best_of(0, &tasks, &[190, 110, 180]), Some(0));
-    assert_eq!(rt; best_of(0, &tasks, &[180, 190, 180]), Some(1));
-    assert_eq!(rt; best_of(0, &tasks, &[180, 110, 180]), Some(0));
-    assert_eq!(rt; best_of(0, &tasks, &[5]), Some(0));
+    let mut ready = Ready::new();
+    ready.push(oob(0, 1));
+    ready.push(oob(0, 2));
+    ready.push(oob(0, 3));
+    assert_eq!(rt; ready.best(0, &[5, 110, 180]), Some(2));
+    assert_eq!(rt; ready.best(0, &[190, 110, 180]), Some(0));
+    assert_eq!(rt; ready.best(0, &[180, 190, 180]), Some(1));
+    assert_eq!(rt; ready.best(0, &[180, 110, 180]), Some(0));
+    assert_eq!(rt; ready.best(0, &[5]), Some(0));
 }
 
 #[test]
 fn in_band_the_least_stamp_goes_first(rt: HostRuntime) {
-    let mut first = ready(0, Class::Unattached, 0, 9);
-    first.state = TaskState::InReady;
-    let mut second = ready(0, Class::Fifo, 50, 10);
-    second.state = TaskState::InReady;
-    let tasks = [second, first, ready(0, Class::Fifo, 1, 0)];
-    assert_eq!(rt; next_in_band_of(0, &tasks), Some(1));
-    assert_eq!(rt; best_of(0, &tasks, &[150, 0, 101]), Some(2));
-    assert!(rt; has_oob(&tasks));
-    assert!(rt; !has_oob(&tasks[..2]));
+    let mut ready = Ready::new();
+    ready.push(in_band(0, 10));
+    ready.push(in_band(0, 9));
+    assert!(rt; !ready.has_oob());
+    ready.push(oob(0, 0));
+    assert_eq!(rt; ready.next_in_band(0), Some(1));
+    assert_eq!(rt; ready.next_in_band(1), None);
+    assert_eq!(rt; ready.best(0, &[150, 0, 101]), Some(2));
+    assert!(rt; ready.has_oob());
 }
 
-// A tick of the slice of task t, as the parts take it: the last one gives a whole slice, and a fresh stamp.
-fn tick(tasks: &mut [Task], t: u8, stamp: u64) {
-    match tasks.get(t as usize) {
-        Some(task) if task.slice > 1 => {
-            let left = task.slice - 1;
-            set_slice(tasks, t, left);
-        }
-        _ => {
-            set_slice(tasks, t, SLICE);
-            set_stamp(tasks, t, stamp);
-        }
-    }
+// The count of those that are ready out-of-band follows each change, also of an entry that is set again.
+#[test]
+fn the_best_changes_with_its_entries(rt: HostRuntime) {
+    let mut ready = Ready::new();
+    ready.push(oob(0, 1));
+    ready.push(None);
+    let ranks = [110, 120];
+    assert_eq!(rt; ready.best(0, &ranks), Some(0));
+    ready.set(1, oob(0, 2));
+    ready.set(1, oob(0, 3));
+    assert_eq!(rt; ready.best(0, &ranks), Some(1));
+    ready.set(0, None);
+    assert!(rt; ready.has_oob());
+    ready.set(1, in_band(0, 4));
+    assert!(rt; !ready.has_oob());
+    assert_eq!(rt; ready.best(0, &ranks), None);
+    assert_eq!(rt; ready.next_in_band(0), Some(1));
+    ready.set(2, oob(0, 5));
+    assert!(rt; !ready.has_oob());
+    assert_eq!(rt; ready.len(), 2);
 }
 
 #[test]
-fn two_round_robin_tasks_take_turns(rt: HostRuntime) {
-    let mut tasks = [
-        ready(0, Class::RoundRobin, 10, 5),
-        ready(0, Class::RoundRobin, 10, 6),
-    ];
-    for _ in 0..3 {
-        tick(&mut tasks, 0, 7);
-        assert_eq!(rt; best_of(0, &tasks, &[110, 110]), Some(0));
-    }
-    assert_eq!(rt; tasks[0].slice, 1);
-    tick(&mut tasks, 0, 7);
-    assert_eq!(rt; tasks[0].slice, 4);
-    assert_eq!(rt; tasks[0].stamp, 7);
-    assert_eq!(rt; best_of(0, &tasks, &[110, 110]), Some(1));
-    for _ in 0..4 {
-        tick(&mut tasks, 1, 8);
-    }
-    assert_eq!(rt; best_of(0, &tasks, &[110, 110]), Some(0));
-}
-
-#[test]
-fn the_best_changes_with_its_tasks(rt: HostRuntime) {
-    let mut tasks = [
-        ready(0, Class::Fifo, 10, 1),
-        ready(0, Class::Fifo, 20, 2),
-        ready(0, Class::Weak, 50, 3),
-    ];
-    let ranks = [110, 120, 50];
-    assert_eq!(rt; best_of(0, &tasks, &ranks), Some(1));
-    take(&mut tasks, 1, TaskState::InReady);
-    assert_eq!(rt; best_of(0, &tasks, &ranks), Some(0));
-    assert_eq!(rt; next_in_band_of(0, &tasks), Some(1));
-    put(&mut tasks, 1);
-    assert_eq!(rt; best_of(0, &tasks, &ranks), Some(1));
-    assert_eq!(rt; next_in_band_of(0, &tasks), None);
-    rerank(&mut tasks, 1, Class::RoundRobin, 10);
-    assert!(rt; tasks[1].class == Class::RoundRobin);
-    assert_eq!(rt; tasks[1].priority, 10);
-    assert_eq!(rt; tasks[1].slice, SLICE);
-    assert_eq!(rt; best_of(0, &tasks, &[110, 110, 50]), Some(0));
-    put(&mut tasks, 3);
-    assert_eq!(rt; best_of(0, &tasks, &[99, 110, 50]), Some(1));
+fn a_state_has_its_place(rt: HostRuntime) {
+    assert!(rt; place_of(&in_state(TaskState::OobReady)) == oob(3, 7));
+    assert!(rt; place_of(&in_state(TaskState::InReady)) == in_band(3, 7));
+    assert!(rt; place_of(&in_state(TaskState::Waits(Wait::Sleep))) == None);
+    assert!(rt; place_of(&in_state(TaskState::Exit)) == None);
 }

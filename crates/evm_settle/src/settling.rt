@@ -116,7 +116,7 @@ fn settle_by_ranks(parts: &mut Parts, c: u8, chooses: bool)
     requires stamps { HasStamps PER_IN_BAND_LOG parts.old }
     ensures { parts.new ≡ nudge c (settle_in_band c (choose chooses c parts.old)) }
 {
-    let ranks = parts.mutexes.ranks(parts.tasks.as_slice());
+    let ranks = parts.mutexes.ranks(&parts.tasks);
     choose(parts, c, chooses, &ranks);
     settle_in_band(parts, c);
     nudge(parts, c, &ranks);

@@ -1,1 +1,2 @@
+pub mod Entered
 pub use Rattle.evm_ready.proofs as evm_ready

@@ -1,3 +1,4 @@
 pub mod Asks
+pub mod Entered
 pub mod Lending
 pub use Rattle.evm_ready.specs as evm_ready

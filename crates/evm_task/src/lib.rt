@@ -4,6 +4,11 @@
 
 mod harts;
 mod tasks;
+mod woken;
 
+pub use evm_ready::rank_told;
 pub use harts::{Asked, Harts};
 pub use tasks::Tasks;
+
+#[cfg(test)]
+mod tests;

@@ -9,20 +9,26 @@ ghost use Rattle.evm_model.specs.Settle.{is_oob};
 ghost use Rattle.evm_model.specs.Stages.{is_attached_task};
 ghost use Rattle.evm_model.specs.State.{no_mode};
 ghost use Rattle.evm_model.specs.Tasks.{is_live};
-ghost use Rattle.evm_model.specs.Waits.{woken};
+ghost use Rattle.evm_model.specs.Waits.{awaits, woken};
 ghost use Rattle.evm_ready.specs.Oob.{has_oob};
+ghost use Rattle.evm_ready.specs.Places.{placed};
 ghost use Rattle.evm_ready.specs.Told.{rank_told};
+ghost use Rattle.evm_wait.specs.Waiters.{awaited};
 
+use crate::woken::wake;
 use arrayvec::ArrayVec;
-use evm_model::{Class, Mode, TASK_LIMIT, Task, TaskState, Wait};
-use evm_ready::{best_of, has_oob, next_in_band_of, put, rerank, set_slice, set_stamp, take};
-use evm_wait::{put as put_waiting, take as take_waiting};
+use evm_model::{Class, Mode, SLICE, TASK_LIMIT, Task, TaskState, Wait};
+use evm_ready::{Ready, place_of};
+use evm_wait::{Waiting, waiter_of};
 use std::marker::Model;
 
-/// The tasks, in the order of their numbers.
+/// The tasks, in the order of their numbers. Where they are ready and what they wait for is kept beside them, so that
+/// the one that goes first is found without them.
 #[derive(Debug, Drop)]
 pub struct Tasks {
     tasks: ArrayVec<Task, TASK_LIMIT>,
+    ready: Ready,
+    waiting: Waiting,
 }
 
 impl Model for Tasks {
@@ -31,7 +37,20 @@ impl Model for Tasks {
 
     ghost Value = { List Task };
 
+    ghost use Rattle.evm_task.specs.Entered.{AreEntered};
+
+    ghost invariant = { λ t. AreEntered t.tasks.items t.ready t.waiting };
+
     ghost view = { λ t. t.tasks.items };
+}
+
+// Task t is ready where it is now, and waits for what it waits for now.
+fn enter(ready: &mut Ready, waiting: &mut Waiting, t: u8, task: &Task)
+    ensures ready { ready.new ≡ change (λ _. placed task.now) ready.old t }
+    ensures waiting { waiting.new ≡ change (λ _. awaited task.now) waiting.old t }
+{
+    ready.set(t, place_of(task));
+    waiting.set(t, waiter_of(task));
 }
 
 fn is_live(state: TaskState) -> bool
@@ -45,12 +64,17 @@ impl Tasks {
     pub fn of_first(task: Task) -> Tasks
         ensures { result ≡ task ∷ [] }
     {
-        let mut tasks = ArrayVec::new();
+        let mut tasks = Tasks {
+            tasks: ArrayVec::new(),
+            ready: Ready::new(),
+            waiting: Waiting::new(),
+        };
         tasks.push(task);
-        Tasks { tasks }
+        tasks
     }
 
     /// How many there are, 64 at the most.
+    #[inline]
     pub fn count(&self) -> u8
         ensures count { result ≡ length self.now }
         ensures limit { result ≤ TASK_LIMIT }
@@ -69,9 +93,9 @@ impl Tasks {
     pub fn set_state(&mut self, t: u8, state: TaskState)
         ensures { self.new ≡ change (λ task. record task { state = state }) self.old t }
     {
-        match state {
-            TaskState::OobReady => put(self.tasks.as_mut_slice(), t),
-            _ => take(self.tasks.as_mut_slice(), t, state),
+        if let Some(task) = self.tasks.get_mut(t as usize) {
+            task.state = state;
+            enter(&mut self.ready, &mut self.waiting, t, task);
         }
     }
 
@@ -79,7 +103,11 @@ impl Tasks {
     pub fn begin_wait(&mut self, t: u8, wait: Wait, deadline: u64)
         ensures { self.new ≡ change (λ task. record task { state = TaskState.Waits wait; deadline = deadline }) self.old t }
     {
-        put_waiting(self.tasks.as_mut_slice(), t, wait, deadline);
+        if let Some(task) = self.tasks.get_mut(t as usize) {
+            task.state = TaskState::Waits(wait);
+            task.deadline = deadline;
+            enter(&mut self.ready, &mut self.waiting, t, task);
+        }
     }
 
     /// The wait of a task is over: it is ready on the stage on which it waited, but in-band if it is weak and owns no
@@ -87,48 +115,64 @@ impl Tasks {
     pub fn end_wait(&mut self, t: u8, owns: bool)
         ensures { self.new ≡ change (woken owns) self.old t }
     {
-        take_waiting(self.tasks.as_mut_slice(), t, owns);
+        if let Some(task) = self.tasks.get_mut(t as usize) {
+            wake(task, owns);
+            enter(&mut self.ready, &mut self.waiting, t, task);
+        }
     }
 
     /// A task has another stamp.
     pub fn set_stamp(&mut self, t: u8, stamp: u64)
         ensures { self.new ≡ change (λ task. record task { stamp = stamp }) self.old t }
     {
-        set_stamp(self.tasks.as_mut_slice(), t, stamp);
+        if let Some(task) = self.tasks.get_mut(t as usize) {
+            task.stamp = stamp;
+            enter(&mut self.ready, &mut self.waiting, t, task);
+        }
     }
 
     /// A task has so many ticks left.
     pub fn set_slice(&mut self, t: u8, slice: u8)
         ensures { self.new ≡ change (λ task. record task { slice = slice }) self.old t }
     {
-        set_slice(self.tasks.as_mut_slice(), t, slice);
+        let Some(task) = self.tasks.get_mut(t as usize) else {
+            return;
+        };
+        task.slice = slice;
     }
 
     /// A task has a class and a priority, and a whole slice.
     pub fn set_policy(&mut self, t: u8, class: Class, priority: u8)
         ensures { self.new ≡ change (λ task. record task { class = class; priority = priority; slice = SLICE }) self.old t }
     {
-        rerank(self.tasks.as_mut_slice(), t, class, priority);
+        let Some(task) = self.tasks.get_mut(t as usize) else {
+            return;
+        };
+        task.class = class;
+        task.priority = priority;
+        task.slice = SLICE;
     }
 
     /// A task has no class, no priority and no mode bits.
     pub fn clear_policy(&mut self, t: u8)
         ensures { self.new ≡ change (λ task. record task { class = Class.Unattached; priority = 0; mode = no_mode }) self.old t }
     {
-        if let Some(task) = self.tasks.get_mut(t as usize) {
-            task.class = Class::Unattached;
-            task.priority = 0;
-            task.mode = Mode { bits: 0 };
-        }
+        let Some(task) = self.tasks.get_mut(t as usize) else {
+            return;
+        };
+        task.class = Class::Unattached;
+        task.priority = 0;
+        task.mode = Mode { bits: 0 };
     }
 
     /// A task has these mode bits.
     pub fn set_mode(&mut self, t: u8, bits: u8)
         ensures { self.new ≡ change (λ task. record task { mode = record { bits = bits } }) self.old t }
     {
-        if let Some(task) = self.tasks.get_mut(t as usize) {
-            task.mode = Mode { bits };
-        }
+        let Some(task) = self.tasks.get_mut(t as usize) else {
+            return;
+        };
+        task.mode = Mode { bits };
     }
 
     /// One task more, the last.
@@ -136,6 +180,8 @@ impl Tasks {
         requires { length self.old < TASK_LIMIT }
         ensures { self.new ≡ self.old ++ task ∷ [] }
     {
+        self.ready.push(place_of(&task));
+        self.waiting.push(waiter_of(&task));
         self.tasks.push(task);
     }
 
@@ -156,7 +202,7 @@ impl Tasks {
     pub fn has_oob(&self) -> bool
         ensures { result ≡ has_oob self.now }
     {
-        has_oob(self.tasks.as_slice())
+        self.ready.has_oob()
     }
 
     /// Whether there is such a task and it has a class.
@@ -200,6 +246,7 @@ impl Tasks {
     }
 
     /// All of them.
+    #[inline]
     pub fn as_slice(&self) -> &[Task]
         ensures value { result.now ≡ self.now }
         ensures limit { length result.now ≤ TASK_LIMIT }
@@ -211,13 +258,20 @@ impl Tasks {
     pub fn best(&self, c: u8, ranks: &[u16]) -> Option<u8>
         ensures { result ≡ first (runs_oob c self.now) (rank_told ranks.now) (stamp self.now) (length self.now) }
     {
-        best_of(c, self.tasks.as_slice(), ranks)
+        self.ready.best(c, ranks)
     }
 
     /// The number of the in-band task that a processor should take up.
     pub fn next_in_band(&self, c: u8) -> Option<u8>
         ensures { result ≡ next_in_band c self.now }
     {
-        next_in_band_of(c, self.tasks.as_slice())
+        self.ready.next_in_band(c)
+    }
+
+    /// The number of the first task that waits for this, by the ranks told.
+    pub fn first_waiter(&self, wait: Wait, ranks: &[u16]) -> Option<u8>
+        ensures { result ≡ first (awaits wait self.now) (rank_told ranks.now) (stamp self.now) (length self.now) }
+    {
+        self.waiting.first(wait, ranks)
     }
 }

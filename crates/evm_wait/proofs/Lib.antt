@@ -1,1 +1,2 @@
 pub use Rattle.evm_ready.proofs as evm_ready
+pub mod Awaited

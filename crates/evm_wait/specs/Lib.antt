@@ -1,1 +1,2 @@
 pub use Rattle.evm_ready.specs as evm_ready
+pub mod Waiters

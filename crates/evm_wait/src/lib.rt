@@ -1,9 +1,11 @@
-//! Which of the tasks that wait for the same goes first, and what changes that.
+//! The tasks that wait, and which of those that wait for the same goes first.
 #![tactic(auto)]
 
-mod waits;
+mod waiter;
+mod waiting;
 
-pub use waits::{awaits, first, put, rerank, take};
+pub use waiter::{Waiter, waiter_of};
+pub use waiting::Waiting;
 
 #[cfg(test)]
 mod tests;

@@ -1,6 +1,5 @@
 use Rattle.std.proofs.Common.{◌≡◌, length}
-use Rattle.evm_model.specs.declared.limits.TheConstants.{TASK_LIMIT}
 use Rattle.evm_boost.proofs.tests.chain.Given as goal
 
 abbrev pub invariant-chaining : goal.invariant-chaining
-invariant-chaining l = length l.tasks ≡ TASK_LIMIT
+invariant-chaining l = length l.tasks ≡ l.t

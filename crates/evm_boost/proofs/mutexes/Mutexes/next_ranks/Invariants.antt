@@ -1,6 +1,6 @@
 use Rattle.std.proofs.Common.{◌≡◌}
 use Rattle.evm_model.specs.Mutexes.{boosts}
-use Rattle.evm_wait.specs.evm_ready.Told.{rank_told}
+use Rattle.evm_task.specs.evm_ready.Told.{rank_told}
 use Rattle.evm_boost.specs.Scatter.{scatter}
 use Rattle.evm_boost.proofs.mutexes.Mutexes.next_ranks.Given as goal
 
