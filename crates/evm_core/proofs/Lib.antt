@@ -1,3 +1,4 @@
+pub mod Journaled
 pub mod Lists
 pub mod Many
 pub mod Rules

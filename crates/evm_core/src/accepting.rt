@@ -7,6 +7,7 @@ ghost use Rattle.evm_model.specs.Replay.{apply};
 ghost use Rattle.evm_core.specs.Parts.{AreParts, state_of};
 ghost use Rattle.evm_core.specs.Steps.{steps};
 
+use crate::typed::event_fits;
 use evm_board::Board;
 use evm_history::Journal;
 use evm_model::{Answer, Block, Boot, Event, Refusal};
@@ -35,6 +36,7 @@ pub fn apply_to(
     if let Some(refusal) = board.refusal(event) {
         return Err(refusal);
     }
+    event_fits(event);
     let answer = board.row(event);
     journal.push(event);
     Ok(answer)

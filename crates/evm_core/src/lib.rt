@@ -6,6 +6,7 @@ mod booting;
 mod machine;
 mod stages;
 mod stepping;
+mod typed;
 
 pub use accepting::{apply_to, some_steps_to};
 pub use evm_history::{EventLine, Journal, MAX_STEPS};

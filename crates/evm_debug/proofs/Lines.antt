@@ -3,20 +3,21 @@ use Rattle.std.proofs.Common.{◌≡◌, ◌↔◌, ℕ, Bool, true, false, cond
 use Rattle.std.specs.Result.{result_ok}
 use Rattle.std.proofs.lemmas.Option.{same_Some}
 use Rattle.std.proofs.lemmas.Bool.{cases_Bool}
-use Rattle.evm_journal.specs.evm_text.Rows.{IsRowOf, rows_at, rows_as}
+use Rattle.evm_journal.specs.evm_text.Rows.{row_says, IsRowOf, rows_at, rows_as}
 use Rattle.evm_journal.proofs.evm_text.Rows.{reads_table, Each, row_is, row_of_either, row_of_first, row_of_second, row_as_takes, row_as_again, row_begins_so}
 use Rattle.evm_model.specs.declared.boot.Boot.{Boot as Numbers}
 use Rattle.evm_journal.specs.evm_history.EventLine.{EventLine}
 use Rattle.evm_journal.specs.evm_history.declared.event_line.EventLine.TheVariants as events
-use Rattle.evm_journal.specs.EventLine.{event_rows, short_rows}
+use Rattle.evm_journal.specs.EventLine.{event_rows, poke_row, short_rows}
 use Rattle.evm_journal.specs.Journal.{boot_row}
+use Rattle.evm_journal.proofs.Tables.{row_named, named_row}
 use Rattle.evm_journal.proofs.Lines.{IsLine, row_is_line, line_is_row}
 use Rattle.evm_journal.proofs.Boots.{row_is_boot, boot_is_row}
 use Rattle.evm_debug.specs.declared.line.View.{View}
-use Rattle.evm_debug.specs.declared.line.View.TheVariants.{Regs, Mem, Stages, Tasks, Owners, Rank, Counts, Journal, Console}
+use Rattle.evm_debug.specs.declared.line.View.TheVariants.{Regs}
 use Rattle.evm_debug.specs.declared.line.Line.{Line}
 use Rattle.evm_debug.specs.declared.line.Line.TheVariants.{Blank, Boot, Steps, One, Look}
-use Rattle.evm_debug.specs.Line.{bare_rows, view_rows, view_text, HasViewLine, script_line, script_rows, is_blank_line, IsSpelled}
+use Rattle.evm_debug.specs.Line.{bare_rows, view_rows, view_row, view_text, HasViewLine, script_line, script_rows, is_blank_line, IsSpelled}
 use Rattle.evm_debug.specs.LineReading.{line_at, ReadsLines}
 
 -- ---- a view
@@ -31,16 +32,17 @@ each_bare = (λ values fit. (refl, fit), (λ values fit. (refl, fit), (λ values
 each_view : Each IsView view_rows
 each_view = (λ values fit. (refl, fit), (λ values fit. (refl, fit), (λ values fit. (refl, fit), (λ values fit. (refl, fit), (λ values fit. (refl, fit), each_bare)))))
 
+-- the keyword of a view finds its row, which says the view
+named : (view : View) → row_named (view_row view).row.keyword view_rows ≡ Some (view_row view).row
+named (Regs cpu) = refl
+named _ = refl
+
+says : (view : View) → row_says (view_row view) ≡ view
+says (Regs cpu) = refl
+says _ = refl
+
 view_is_row : (view : View) (bytes : List ℕ) → IsView view bytes → IsRowOf view_rows view bytes
-view_is_row (Regs cpu) bytes is = inl (cpu, is.0, is.1, refl)
-view_is_row (Mem address count) bytes is = inr (inl ((address, count), is.0, is.1, refl))
-view_is_row (Stages cpu) bytes is = inr (inr (inl (cpu, is.0, is.1, refl)))
-view_is_row (Rank task) bytes is = inr (inr (inr (inl (task, is.0, is.1, refl))))
-view_is_row (Counts cpu line) bytes is = inr (inr (inr (inr (inl ((cpu, line), is.0, is.1, refl)))))
-view_is_row Tasks bytes is = inr (inr (inr (inr (inr (inl (tt, is.0, is.1, refl))))))
-view_is_row Owners bytes is = inr (inr (inr (inr (inr (inr (inl (tt, is.0, is.1, refl)))))))
-view_is_row Journal bytes is = inr (inr (inr (inr (inr (inr (inr (inl (tt, is.0, is.1, refl))))))))
-view_is_row Console bytes is = inr (inr (inr (inr (inr (inr (inr (inr (inl (tt, is.0, is.1, refl)))))))))
+view_is_row view bytes is = named_row view_rows (view_row view) view bytes (named view) is.0 is.1 (says view)
 
 -- ---- a row of a script
 
@@ -110,13 +112,19 @@ line_takes bytes line read =
       | inr text ↦ let rest : rows_at script_rows bytes ≡ Some line = rw text at read in row_is_spelled line bytes ((reads_table script_rows line bytes refl).0 rest)
     ]
 
--- what the rows of the events that hold no bytes read is what the whole table reads
-pub short_read : (line : EventLine) (bytes : List ℕ) → rows_at short_rows bytes ≡ Some line → line_at bytes ≡ Some (script_line line)
-short_read line bytes read =
-    let short : IsRowOf short_rows line bytes = (reads_table short_rows line bytes refl).0 read in
-    let event : IsRowOf event_rows line bytes = inr short in
+event_read : (line : EventLine) (bytes : List ℕ) → IsRowOf event_rows line bytes → line_at bytes ≡ Some (script_line line)
+event_read line bytes event =
     row_read (script_line line) bytes
     (later_is_row (script_line line) bytes (row_of_second (rows_as Look view_rows) (rows_as script_line event_rows) (script_line line) bytes (row_as_again script_line event_rows line bytes event)))
+
+-- what the rows of the events that hold no bytes read is what the whole table reads
+pub short_read : (line : EventLine) (bytes : List ℕ) → rows_at short_rows bytes ≡ Some line → line_at bytes ≡ Some (script_line line)
+short_read line bytes read = event_read line bytes (inr ((reads_table short_rows line bytes refl).0 read))
+
+-- .. and so is what the row of Pokes reads
+pub poke_read : (line : EventLine) (bytes : List ℕ) → rows_at (poke_row ∷ []) bytes ≡ Some line → line_at bytes ≡ Some (script_line line)
+poke_read line bytes read =
+    event_read line bytes (elim ((reads_table (poke_row ∷ []) line bytes refl).0 read) [ inl poke ↦ inl poke | inr none ↦ absurd none ])
 
 blank_read : (bytes : List ℕ) → is_blank_line bytes ≡ true → line_at bytes ≡ Some Blank
 unfolding line_at

@@ -1,7 +1,7 @@
 -- The pieces of a line, as the code strings them together.
 use Rattle.std.specs.Prelude.{ℕ, List, [], ◌∷◌, ◌++◌}
 use Rattle.evm_journal.specs.evm_text.Written.{decimal}
-use Rattle.evm_debug.specs.Views.{word_text, line_set_text, bit_text, number_text, two_digits, state_text, class_text, stage_text}
+use Rattle.evm_debug.specs.Views.{word_text, line_set_text, bit_text, number_or_none, two_digits, state_text, class_text, stage_text}
 use Rattle.evm_debug.specs.declared.piece.Piece.{Piece}
 use Rattle.evm_debug.specs.declared.piece.Piece.TheVariants.{Text, Decimal, Word, Lines, Bit, Number, TwoDigits, State, Class, Stage}
 
@@ -11,7 +11,7 @@ piece_text (Decimal n) = decimal n
 piece_text (Word n) = word_text n
 piece_text (Lines lines) = line_set_text lines
 piece_text (Bit b) = bit_text b
-piece_text (Number t) = number_text t
+piece_text (Number t) = number_or_none t
 piece_text (TwoDigits n) = two_digits n
 piece_text (State s) = state_text s
 piece_text (Class c) = class_text c

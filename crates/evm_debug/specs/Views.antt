@@ -49,9 +49,9 @@ abbrev pub bit_text : Bool → List ℕ
 bit_text b = if b then codes "1" else codes "0"
 
 -- a task's number, or none
-abbrev pub number_text : Option ℕ → List ℕ
-number_text None = codes "none"
-number_text (Some t) = decimal t
+abbrev pub number_or_none : Option ℕ → List ℕ
+number_or_none None = codes "none"
+number_or_none (Some t) = decimal t
 
 abbrev pub two_digits : ℕ → List ℕ
 two_digits n = decimal (n / 10) ++ decimal (n % 10)
@@ -131,7 +131,7 @@ tasks_text k = tasks_below (length k.tasks) k
 abbrev pub owner_text : ℕ → Option Mutex → List ℕ
 owner_text m None = []
 owner_text m (Some mutex) =
-    parts_text (decimal m ∷ codes " owner " ∷ number_text mutex.owner ∷ codes " count " ∷ decimal mutex.count ∷ codes "\n" ∷ [])
+    parts_text (decimal m ∷ codes " owner " ∷ number_or_none mutex.owner ∷ codes " count " ∷ decimal mutex.count ∷ codes "\n" ∷ [])
 
 -- the mutexes below a number, by their numbers
 unfoldable pub owners_below : ℕ → List Mutex → List ℕ
@@ -148,10 +148,10 @@ rank_text n = parts_text (codes "rank " ∷ decimal n ∷ codes "\n" ∷ [])
 -- processor c: its task, its two logs with their stall bits, its in-band task, its wire, and its stop and skip bits
 abbrev pub stages_text : ℕ → Processor → Stages → List ℕ
 stages_text c p stages = parts_text (
-    codes "cpu " ∷ decimal c ∷ codes " current " ∷ number_text p.current
+    codes "cpu " ∷ decimal c ∷ codes " current " ∷ number_or_none p.current
     ∷ codes " oob " ∷ bit_text stages.oob.stalled ∷ codes " " ∷ line_set_text stages.oob.lines
     ∷ codes " in " ∷ bit_text stages.inband.stalled ∷ codes " " ∷ line_set_text stages.inband.lines
-    ∷ codes " task " ∷ number_text p.in_band_task ∷ codes " wire " ∷ line_set_text stages.wire
+    ∷ codes " task " ∷ number_or_none p.in_band_task ∷ codes " wire " ∷ line_set_text stages.wire
     ∷ codes " stop " ∷ bit_text p.stopped ∷ codes " skip " ∷ bit_text p.skip ∷ codes "\n" ∷ [])
 
 -- the counts of a line; of each stage its arrivals, merged and played

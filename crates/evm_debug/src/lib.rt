@@ -19,7 +19,7 @@ pub use last_views::{push_summary, summary};
 pub use laws::reads_lines;
 pub use line::{Bad, Line, View};
 pub use look::ViewRefusal;
-pub use reading::{read_line, read_short};
+pub use reading::{read_line, read_poke, read_short};
 pub use showing::{push_view, view};
 
 #[cfg(test)]

@@ -1,7 +1,7 @@
 ghost use Rattle.std.specs.Prelude.{◌≡◌, ◌++◌};
 ghost use Rattle.evm_journal.specs.evm_text.Appending.{Appends};
 ghost use Rattle.evm_journal.specs.evm_text.Written.{decimal};
-ghost use Rattle.evm_debug.specs.Views.{state_text, wait_text, class_text, number_text, two_digits};
+ghost use Rattle.evm_debug.specs.Views.{state_text, wait_text, class_text, number_or_none, two_digits};
 ghost use Rattle.evm_debug.specs.Pieces.{piece_text, pieces_text};
 
 use crate::piece::Piece;
@@ -57,7 +57,7 @@ fn push_state(out: &mut String, state: TaskState) -> Result<(), Refused>
 }
 
 fn push_number(out: &mut String, task: Option<u8>) -> Result<(), Refused>
-    ensures { Appends (number_text task) out.old out.new result }
+    ensures { Appends (number_or_none task) out.old out.new result }
 {
     match task {
         None => push_text(out, "none"),

@@ -1,8 +1,8 @@
-ghost use Rattle.std.specs.Prelude.{◌≡◌, ◌↔◌, ◌++◌, Ok, Some, [], IfSome, option_map};
+ghost use Rattle.std.specs.Prelude.{◌≡◌, ◌↔◌, ◌++◌, ◌∷◌, Ok, Some, [], IfSome, option_map};
 ghost use Rattle.std.specs.Result.{result_ok};
 ghost use Rattle.evm_journal.specs.evm_history.EventLine.{short_line};
 ghost use Rattle.evm_journal.specs.evm_text.Rows.{said_at, rows_at, row_as, rows_as};
-ghost use Rattle.evm_journal.specs.EventLine.{event_rows, short_rows};
+ghost use Rattle.evm_journal.specs.EventLine.{event_rows, poke_row, poke_said, short_rows};
 ghost use Rattle.evm_journal.specs.Journal.{boot_row};
 ghost use Rattle.evm_debug.specs.Line.{mem_row, counts_row, bare_rows, bare_said, view_rows, script_line, is_blank_line, IsSpelled};
 ghost use Rattle.evm_debug.specs.LineReading.{line_at};
@@ -11,9 +11,9 @@ ghost use Rattle.evm_debug.specs.declared.line.Line.TheVariants.{Boot, Look};
 use crate::line::{Bad, Line, View};
 use evm_journal::{
     EventLine, after_word, decimal_last, hexadecimal_then, read_boot_numbers, read_event_line,
-    read_short_line, u8_last, u8_then,
+    read_poke_line, read_short_line, u8_last, u8_then,
 };
-use evm_model::NoBytes;
+use evm_model::{Block, NoBytes};
 
 fn is_blank_line(bytes: &[u8]) -> bool
     ensures { result ≡ is_blank_line bytes.now }
@@ -126,6 +126,18 @@ pub fn read_short(bytes: &[u8]) -> Option<EventLine<NoBytes>>
     ensures exact { option_map short_line result ≡ rows_at short_rows bytes.now }
 {
     read_short_line(bytes)
+}
+
+/// The address and the bytes that a line of a script pokes, where it is a Poke's. It comes without its newline.
+#[inline]
+#[tactic(auto, using(crate::proofs::Lines::poke_read))]
+pub fn read_poke(bytes: &[u8]) -> Option<(u64, Block)>
+    // It is what the whole grammar reads.
+    ensures read { IfSome result (λ poke. line_at bytes.now ≡ Some (script_line (poke_said poke))) }
+    // Each that is such a line is read.
+    ensures exact { option_map poke_said result ≡ rows_at (poke_row ∷ []) bytes.now }
+{
+    read_poke_line(bytes)
 }
 
 /// What a line of a script says. It comes without its newline.

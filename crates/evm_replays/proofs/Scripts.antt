@@ -103,4 +103,4 @@ after-driven image n (line ∷ ls) machine s e d =
 pub shows_its_machine : ShowsItsMachine
 shows_its_machine image script s e =
     let d : IsDriven image s = after-driven image 1 (text_lines script) None s e tt in
-    replays_saved image d.first s d.fits d.loads d.replays (driven-journal image s d)
+    replays_saved s d.fits (driven-journal image s d) image d.first d.loads d.replays

@@ -9,7 +9,7 @@ ghost use Rattle.evm_replays.specs.Machines.{ShowsAgain};
 ghost use Rattle.evm_replays.specs.Scripts.{PrintsItsJournal, ShowsItsMachine};
 
 use evm_room::NoMemory;
-use evm_serve::{Machine, write_journal};
+use evm_serve::{Machine, replays_saved, write_journal};
 use std::alloc::Global;
 
 /// Of every script that comes to its end with an image in its machine: one more line `journal` prints the journal of
@@ -30,7 +30,7 @@ pub fn a_written_journal_shows_its_machine(
     // It gives up only where a growth was refused that is no greater than the text.
     ensures refused { OnErr result (RefusedWithin (length (journal_text machine.now.boot machine.now.journal))) }
 {
-    machine.rules();
+    replays_saved(machine);
     match write_journal(alloc, machine) {
         Ok(text) => Ok(text),
         Err(_) => Err(NoMemory),

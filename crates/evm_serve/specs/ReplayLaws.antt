@@ -1,13 +1,13 @@
 -- What replays tell, in the words of journals.
-use Rattle.std.specs.Prelude.{◌≡◌, ◌+◌, false, List, [], ◌∷◌, ◌++◌, None, Ok, Err, length}
+use Rattle.std.specs.Prelude.{◌≡◌, ◌+◌, List, [], ◌∷◌, ◌++◌, None, Ok, Err, length}
 use Rattle.evm_debug.specs.evm_core.Load.{load}
 use Rattle.evm_image.specs.Images.{Contents}
 use Rattle.evm_model.specs.declared.refusal.Refusal.{Refusal}
 use Rattle.evm_model.specs.State.{State}
-use Rattle.evm_model.specs.Replay.{start, apply, bad_boot, IsReplayOf}
+use Rattle.evm_model.specs.Replay.{start, apply, IsReplayOf}
 use Rattle.evm_model.specs.Event.{Event}
 use Rattle.evm_debug.specs.evm_history.Runs.{runs}
-use Rattle.evm_debug.specs.evm_journal.Journal.{journal_text, HasJournal}
+use Rattle.evm_debug.specs.evm_journal.Journal.{journal_text}
 use Rattle.evm_debug.specs.Summary.{summary_text}
 use Rattle.evm_serve.specs.Given.{an_image}
 use Rattle.evm_serve.specs.Faults.{event_refused}
@@ -22,7 +22,6 @@ RefusedOnItsLine = (first s : State) (front rest : List Event) (event : Event) (
     → events_on 2 None (front ++ event ∷ rest) first ≡ Err (event_refused (2 + length (runs (front ++ event ∷ []))) event refusal)
 
 -- the journal of a machine that booted with an image, replayed with the image, shows that machine
-abbrev pub ReplaysSaved : Type 0
-ReplaysSaved = (image : Contents) (first s : State) → bad_boot s.boot ≡ false → load image (start s.boot) ≡ Ok first
-    → IsReplayOf first s → HasJournal s.boot s.journal
+abbrev pub ReplaysSaved : State → Type 0
+ReplaysSaved s = (image : Contents) (first : State) → load image (start s.boot) ≡ Ok first → IsReplayOf first s
     → replay_told (an_image image) (journal_text s.boot s.journal) ≡ record { text = summary_text s; verdict = Done }

@@ -3,6 +3,7 @@
 ghost use Rattle.evm_serve.specs.ReplayLaws.{RefusedOnItsLine, ReplaysSaved};
 ghost use Rattle.evm_serve.specs.Known.{ServesKnown, ServesKnownText, ImportsKnownFile, AssemblesIntoKnown};
 
+use evm_debug::Machine;
 use std::io::{Read, Write};
 
 /// A refused event is reported with the number of the line on which it stands in the journal.
@@ -11,9 +12,11 @@ pub fn refused_on_its_line()
 {}
 
 /// The journal that a machine saved, replayed with the image that it booted with, shows that machine.
-pub fn replays_saved()
-    ensures { ReplaysSaved }
-{}
+pub fn replays_saved(machine: &Machine)
+    ensures { ReplaysSaved machine.now }
+{
+    machine.rules();
+}
 
 /// A run over a reader and a writer of std whose bytes are known, as a slice's and a `Vec`'s are, is the run of these
 /// bytes: what it writes stands behind what the writer held.

@@ -19,7 +19,7 @@ use crate::given::Given;
 use crate::starting::start;
 use evm_debug::{
     Boot, Event, EventLine, Line, Machine, Refusal, View, ViewRefusal, push_view, read_line,
-    read_short,
+    read_poke, read_short,
 };
 use evm_model::{Block, NoBytes};
 use evm_room::NoMemory;
@@ -177,6 +177,9 @@ pub(crate) fn tell(
     if let Some(booted) = machine {
         if let Some(short) = read_short(line) {
             return Ok(tell_short(number, short, booted));
+        }
+        if let Some((address, block)) = read_poke(line) {
+            return Ok(tell_event(number, Event::Poke(address, &block), booted));
         }
     }
     tell_any(alloc, given, number, line, machine, said)

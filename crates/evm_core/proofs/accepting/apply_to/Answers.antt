@@ -6,6 +6,7 @@ use Rattle.evm_model.specs.Refusals.{is_full}
 use Rattle.evm_model.specs.State.{State}
 use Rattle.evm_board.proofs.evm_rules.States.{good_accepted}
 use Rattle.evm_core.specs.Parts.{state_of}
+use Rattle.evm_core.proofs.Journaled.{event_more}
 use Rattle.evm_core.proofs.Rules.{room-fits, ticks-fit}
 use Rattle.evm_core.proofs.accepting.apply_to.Goals as goal
 
@@ -19,8 +20,10 @@ pub returns-clause-stays : goal.returns-clause-stays
 returns-clause-stays c =
     let s : State = state_of c.args.boot.now c.args.journal.now c.args.board.now in
     let longer = ap length c.push.ensures.events ∙ length-append c.args.journal.now.events (event_lent c.args.event.now ∷ []) in
+    let free = sym c.refusal.ensures ∙ c.in_default.is in
     let open_yet : is_full s ≡ false = grind (arith, nat_tests) in (
       omega (arith, longer, c.push.ensures.room, c.requires.0),
       rw c.push.ensures.events
-          (good_accepted s (event_lent c.args.event.now) (c.row-answer.new.self, c.row-answer.result) c.row-answer.ensures open_yet (sym c.refusal.ensures ∙ c.in_default.is) c.requires.1),
+          (good_accepted s (event_lent c.args.event.now) (c.row-answer.new.self, c.row-answer.result) c.row-answer.ensures open_yet free c.requires.1),
+      rw c.push.ensures.events (event_more c.args.journal.now.events (event_lent c.args.event.now) c.args.board.now c.requires.2 c.event_fits.ensures free),
     )

@@ -6,6 +6,7 @@ use Rattle.evm_model.specs.Refusals.{is_full}
 use Rattle.evm_model.specs.State.{State}
 use Rattle.evm_model.specs.declared.event.Event.TheVariants.{Step}
 use Rattle.evm_core.specs.Parts.{state_of}
+use Rattle.evm_core.proofs.Journaled.{steps_more}
 use Rattle.evm_core.proofs.Many.{steps_made, made-board, steps-full, steps-absent, absent}
 use Rattle.evm_core.proofs.Rules.{room-fits}
 use Rattle.evm_core.proofs.accepting.some_steps_to.Goals as goal
@@ -23,7 +24,7 @@ returns-clause-stays c =
     let all = steps_made n c.args.c s c.requires.parts.1 within fits in
     let board : c.steps-made.new.self ≡ stepped n c.args.c s.board = made-board n c.at_most.result c.args.c c.steps-made.result.answer s.board c.steps-made.new.self c.steps-made.ensures in
     let long = ap length c.push_steps.ensures.events ∙ length-append s.journal _ ∙ ap (λ n. length s.journal + n) (length-replicate n (Step c.args.c)) in
-    (omega (arith, long, c.push_steps.ensures.room, c.requires.parts.0), rw (c.push_steps.ensures.events, board) all.1)
+    (omega (arith, long, c.push_steps.ensures.room, c.requires.parts.0), rw (c.push_steps.ensures.events, board) all.1, rw c.push_steps.ensures.events (steps_more s.journal n c.args.c c.requires.parts.2 (omega arith)))
 
 pub returns-clause-made : goal.returns-clause-made
 returns-clause-made c =
