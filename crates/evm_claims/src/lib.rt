@@ -2,6 +2,7 @@
 //! A call of a law does nothing and tells what it ensures. The page docs/CLAIMS.md follows these files line by line.
 #![tactic(auto)]
 
+mod callers;
 mod headline;
 mod mutexes;
 mod no_interrupt_lost;
@@ -11,6 +12,7 @@ mod rules;
 mod safe_and_total;
 mod steps;
 
+pub use callers::a_call_changes_of_its_task_what_the_table_says;
 pub use headline::{a_machine_is_its_journals_replay, replays_join};
 pub use mutexes::{
     a_mutex_passes_to_the_first_waiter, a_rank_is_never_below_its_own,

@@ -24,8 +24,8 @@ pub fn lines_are_played_in_rising_order()
         IsStrictlyIncreasing pipe.wire × IsStrictlyIncreasing pipe.oob.lines × IsStrictlyIncreasing pipe.inband.lines }
     ensures received { (boot : Boot) (s : State) (c l : ℕ) (pipe : Pipe) → Reached boot s → slice_get s.board.parts.pipes c ≡ Option.Some pipe →
         IsStrictlyIncreasing (receive l pipe).oob.lines × IsStrictlyIncreasing (receive l pipe).inband.lines }
-    ensures oob { (c : ℕ) (k : Parts) (pipe : Pipe) → slice_get k.pipes c ≡ Option.Some pipe → pipe.oob.stalled ≡ false →
-        settle_oob c k ≡ run_best c (fold (λ x l. play_oob c l x) k pipe.oob.lines) }
+    ensures oob { (was : Option ℕ) (c : ℕ) (k : Parts) (pipe : Pipe) → slice_get k.pipes c ≡ Option.Some pipe → pipe.oob.stalled ≡ false →
+        settle_oob was c k ≡ run_best c (fold (λ x l. play_oob was c l x) k pipe.oob.lines) }
     ensures in_band { (c : ℕ) (k : Parts) (pipe : Pipe) → slice_get k.pipes c ≡ Option.Some pipe → pipe.inband.stalled ≡ false →
         turn_in_band c k ≡ run_in_band c (fold (λ x l. play_in_band c l x) k pipe.inband.lines) }
 {

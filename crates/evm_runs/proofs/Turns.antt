@@ -110,27 +110,27 @@ rise p h = record { wire = rises p.wire h.wire; oob = rises p.oob.lines h.oob; i
 pub lines_rise : LinesRise
 lines_rise l p h = (rise p h, rise (receive l p) (IsPipe-receive l p h))
 
-oob_in_order : (c : ℕ) (lines : List ℕ) (k : Parts) → play_oob_lines c lines k ≡ fold (λ x l. play_oob c l x) k lines
+oob_in_order : (was : Option ℕ) (c : ℕ) (lines : List ℕ) (k : Parts) → play_oob_lines was c lines k ≡ fold (λ x l. play_oob was c l x) k lines
 unfolding play_oob_lines
-oob_in_order c [] k = refl
-oob_in_order c (l ∷ ls) k = oob_in_order c ls (play_oob c l k)
+oob_in_order was c [] k = refl
+oob_in_order was c (l ∷ ls) k = oob_in_order was c ls (play_oob was c l k)
 
 in_band_in_order : (c : ℕ) (lines : List ℕ) (k : Parts) → play_in_band_lines c lines k ≡ fold (λ x l. play_in_band c l x) k lines
 unfolding play_in_band_lines
 in_band_in_order c [] k = refl
 in_band_in_order c (l ∷ ls) k = in_band_in_order c ls (play_in_band c l k)
 
-open_oob : (c : ℕ) (k : Parts) (pipe : Pipe) → slice_get k.pipes c ≡ Some pipe → pipe.oob.stalled ≡ false → settle_oob c k ≡ run_best c (play_oob_lines c pipe.oob.lines k)
+open_oob : (was : Option ℕ) (c : ℕ) (k : Parts) (pipe : Pipe) → slice_get k.pipes c ≡ Some pipe → pipe.oob.stalled ≡ false → settle_oob was c k ≡ run_best c (play_oob_lines was c pipe.oob.lines k)
 unfolding settle_oob
-open_oob c k pipe there open_stage = ap (λ o. settle_oob_pipe o c k) there ∙ ap (λ (b : Bool). if b then k else run_best c (play_oob_lines c pipe.oob.lines k)) open_stage
+open_oob was c k pipe there open_stage = ap (λ o. settle_oob_pipe o was c k) there ∙ ap (λ (b : Bool). if b then k else run_best c (play_oob_lines was c pipe.oob.lines k)) open_stage
 
 open_in_band : (c : ℕ) (k : Parts) (pipe : Pipe) → slice_get k.pipes c ≡ Some pipe → pipe.inband.stalled ≡ false → turn_in_band c k ≡ run_in_band c (play_in_band_lines c pipe.inband.lines k)
 unfolding turn_in_band
 open_in_band c k pipe there open_stage = ap (λ o. run_in_band c (play_in_band_pipe o c k)) there ∙ ap (λ (b : Bool). run_in_band c (if b then k else play_in_band_lines c pipe.inband.lines k)) open_stage
 
 pub logs_play_in_order : LogsPlayInOrder
-logs_play_in_order c k pipe there = record {
-  oob = λ open_stage. open_oob c k pipe there open_stage ∙ ap (run_best c) (oob_in_order c pipe.oob.lines k);
+logs_play_in_order was c k pipe there = record {
+  oob = λ open_stage. open_oob was c k pipe there open_stage ∙ ap (run_best c) (oob_in_order was c pipe.oob.lines k);
   inband = λ open_stage. open_in_band c k pipe there open_stage ∙ ap (run_in_band c) (in_band_in_order c pipe.inband.lines k);
 }
 

@@ -41,12 +41,12 @@ abbrev pub LinesRise : Type 0
 LinesRise = (l : ℕ) (p : Pipe) → IsPipe p → Rise p × Rise (receive l p)
 
 -- a stage that isn't stalled plays the lines of its log one after another
-pub record PlaysInOrder (c : ℕ) (pipe : Pipe) (k : Parts) : Type 0 where
-  pub oob : pipe.oob.stalled ≡ false → settle_oob c k ≡ run_best c (fold (λ x l. play_oob c l x) k pipe.oob.lines)
+pub record PlaysInOrder (was : Option ℕ) (c : ℕ) (pipe : Pipe) (k : Parts) : Type 0 where
+  pub oob : pipe.oob.stalled ≡ false → settle_oob was c k ≡ run_best c (fold (λ x l. play_oob was c l x) k pipe.oob.lines)
   pub inband : pipe.inband.stalled ≡ false → turn_in_band c k ≡ run_in_band c (fold (λ x l. play_in_band c l x) k pipe.inband.lines)
 
 abbrev pub LogsPlayInOrder : Type 0
-LogsPlayInOrder = (c : ℕ) (k : Parts) (pipe : Pipe) → slice_get k.pipes c ≡ Some pipe → PlaysInOrder c pipe k
+LogsPlayInOrder = (was : Option ℕ) (c : ℕ) (k : Parts) (pipe : Pipe) → slice_get k.pipes c ≡ Some pipe → PlaysInOrder was c pipe k
 
 -- ---- by number
 -- these are the numbers that are such, each once, and they rise

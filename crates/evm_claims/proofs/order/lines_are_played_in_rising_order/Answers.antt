@@ -13,7 +13,7 @@ returns-clause-received g boot s c l pipe reached there =
     let after = (g.goes_in_order.ensures.rise l pipe is).1 in (after.oob, after.inband)
 
 pub returns-clause-oob : goal.returns-clause-oob
-returns-clause-oob g c k pipe there = (g.goes_in_order.ensures.plays c k pipe there).oob
+returns-clause-oob g was c k pipe there = (g.goes_in_order.ensures.plays was c k pipe there).oob
 
 pub returns-clause-in_band : goal.returns-clause-in_band
-returns-clause-in_band g c k pipe there = (g.goes_in_order.ensures.plays c k pipe there).inband
+returns-clause-in_band g c k pipe there = (g.goes_in_order.ensures.plays Option.None c k pipe there).inband
