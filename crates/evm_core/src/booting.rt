@@ -12,7 +12,7 @@ use evm_board::{
 use evm_exec::{Hart, REGISTER_COUNT};
 use evm_model::{
     Boot, CAPACITY_LIMIT, Class, Mode, PROCESSOR_LIMIT, Processor, Profile, RAM_LEAST, RAM_UNIT,
-    Task, TaskState,
+    Refusal, Task, TaskState,
 };
 use evm_ram::{BASE, Ram, SIZE_LIMIT};
 use evm_room::Refused;
