@@ -1,5 +1,5 @@
 -- In which order lines are received and played, tasks wake and mutexes pass on.
-use Rattle.std.specs.Prelude.{◌≡◌, ℕ, ◌≤◌, ◌↔◌, List, Some, true, false, Ok, slice_get}
+use Rattle.std.specs.Prelude.{◌≡◌, ℕ, ◌≤◌, ◌↔◌, List, Option, Some, true, false, Ok, slice_get}
 use Rattle.std.specs.List.{Contains, fold}
 use Rattle.std.specs.List.Sorted.{IsStrictlyIncreasing}
 use Rattle.evm_lines.specs.Lines.{has_line}
