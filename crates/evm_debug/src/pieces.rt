@@ -6,7 +6,7 @@ ghost use Rattle.evm_debug.specs.Pieces.{piece_text, pieces_text};
 
 use crate::piece::Piece;
 use evm_journal::{push_decimal, push_hexadecimal_padded};
-use evm_lines::LINE_COUNT;
+use evm_lines::LINES;
 use evm_model::{Class, TaskState, Wait};
 use evm_room::{Refused, push_text};
 
@@ -80,7 +80,7 @@ fn push_piece(out: &mut String, piece: &Piece<'_>) -> Result<(), Refused>
         Piece::Text(text) => push_text(out, text),
         Piece::Decimal(n) => push_decimal(out, *n),
         Piece::Word(n) => push_hexadecimal_padded(out, 16, *n),
-        Piece::Lines(lines) => push_hexadecimal_padded(out, LINE_COUNT / 4, lines.word()),
+        Piece::Lines(lines) => push_hexadecimal_padded(out, LINES / 4, lines.word()),
         Piece::Bit(bit) => push_text(out, if *bit { "1" } else { "0" }),
         Piece::Number(task) => push_number(out, *task),
         Piece::TwoDigits(n) => push_two_digits(out, *n),

@@ -1,3 +1,4 @@
+use Rattle.std.specs.Prelude.{None}
 use Rattle.evm_model.specs.Good.{IsPipe}
 use Rattle.evm_claims.proofs.Reached.{good}
 use Rattle.evm_claims.proofs.order.lines_are_played_in_rising_order.Goals as goal
@@ -16,4 +17,4 @@ pub returns-clause-oob : goal.returns-clause-oob
 returns-clause-oob g was c k pipe there = (g.goes_in_order.ensures.plays was c k pipe there).oob
 
 pub returns-clause-in_band : goal.returns-clause-in_band
-returns-clause-in_band g c k pipe there = (g.goes_in_order.ensures.plays Option.None c k pipe there).inband
+returns-clause-in_band g c k pipe there = (g.goes_in_order.ensures.plays None c k pipe there).inband
