@@ -1,5 +1,6 @@
 //! Sentences about files that are no image.
 
+ghost use Rattle.std.specs.Prelude.{◌≡◌};
 ghost use Rattle.evm_serve.specs.Faults.{sentence_text};
 ghost use Rattle.evm_command.specs.ImageSentences.{machine_sentence, below_2_64, detail_sentence, image_sentence};
 
@@ -54,7 +55,11 @@ fn detail_sentence(fault: ElfFault, detail: ImageDetail) -> Sentence
             Number::Decimal(below_2_64(end)),
             ", past the end of the file",
         ),
-        ImageDetail::Outside { index: _, start, end } => Sentence::OfTwo(
+        ImageDetail::Outside {
+            index: _,
+            start,
+            end,
+        } => Sentence::OfTwo(
             "the segment at ",
             Number::Hexadecimal(start),
             "..",

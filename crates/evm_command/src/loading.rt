@@ -19,12 +19,7 @@ fn image_in<S: System>(
 {
     match import_bytes(alloc, file, &mut world.output) {
         Ok(image) => Ok(image),
-        Err(ending) => Err(ended_with(
-            Known::File(file),
-            path,
-            &ending,
-            &mut world.errors,
-        )),
+        Err(ending) => Err(ended_with(Known::File(file), path, &ending, &mut world.errors)),
     }
 }
 

@@ -15,8 +15,8 @@ use crate::system::{OpenFault, System, World};
 use crate::telling::{Words, tell_about, tell_about_line};
 use evm_image::Image;
 use evm_serve::{
-    Cause, ElfFault, Ending, Fault, ReadFault, ReadStop, Sentence, Sink, Verdict, fault_detail, has_boot,
-    line_numbered, write_all,
+    Cause, ElfFault, Ending, Fault, ReadFault, ReadStop, Sentence, Sink, Verdict, fault_detail,
+    has_boot, line_numbered, write_all,
 };
 
 /// The status where a file can't be opened, created, read or written.

@@ -63,7 +63,10 @@ fn any_fault_ends_reading(rt: HostRuntime) {
         };
         match read_utf8(rt.alloc(), &mut reader) {
             Ok(text) => assert_eq!(rt; (text.as_str(), calls), (TEXT, 5)),
-            Err(ReadStop::Fault(ReadFault::Failed(Cause::Interrupted))) => assert!(rt; calls < 5, "{calls} calls"),
+            Err(ReadStop::Fault(ReadFault::Failed(Cause::Interrupted))) => assert!(rt;
+                calls < 5,
+                "{calls} calls"
+            ),
             Err(_) => panic!(rt; "{calls} calls"),
         }
     }

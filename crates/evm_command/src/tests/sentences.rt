@@ -165,10 +165,7 @@ fn files_are_named(rt: HostRuntime) -> Result<(), Fail> {
         ("evltool run ", "'': can't be opened: the name is empty\n"),
         ("evltool run tape", "tape: can't be opened\n"),
         ("evltool asm p.s tape", "tape: can't be created\n"),
-        (
-            "evltool run p.s",
-            "p.s: it is no ELF file\n",
-        ),
+        ("evltool run p.s", "p.s: it is no ELF file\n"),
         (
             "evltool replay p.elf journal",
             "p.elf: can't be opened: no such file\n",

@@ -130,7 +130,10 @@ fn texts_are_read_whole(rt: HostRuntime) {
             };
             match read_utf8(rt.alloc(), &mut reader) {
                 Ok(read) => assert_eq!(rt; (read.as_str(), calls), (text, 6)),
-                Err(ReadStop::Fault(ReadFault::Failed(_))) => assert!(rt; calls < 6, "{calls} reads"),
+                Err(ReadStop::Fault(ReadFault::Failed(_))) => assert!(rt;
+                    calls < 6,
+                    "{calls} reads"
+                ),
                 Err(_) => panic!(rt; "{calls} reads"),
             }
         }
