@@ -4,6 +4,7 @@
 mod sum;
 
 use super::*;
+use evm_room::NoMemory;
 use std::alloc::Global;
 use std::test::Fail;
 use sum::{DATA, SUM, TEXT};
