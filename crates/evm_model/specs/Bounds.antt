@@ -44,13 +44,14 @@ pub record HeldUpTo (bound : ℕ) (mutexes : List Mutex) : Type 0 where
 abbrev pub COUNT_LIMIT : ℕ
 COUNT_LIMIT = 2 ^ 63
 
--- a call, or a fault, gives fewer stamps than this, and adds less to a count
+-- a call, or a fault, gives no more stamps than this, and adds less to a count
 abbrev pub PER_CALL : ℕ
-PER_CALL = 64
+PER_CALL = 128
 
--- so does an out-of-band log that is played
+-- so does an out-of-band log that is played: line 0 ends up to 64 waits, expires up to 32 timers and spends a slice, and each
+-- of the others wakes a task
 abbrev pub PER_OOB_LOG : ℕ
-PER_OOB_LOG = 64
+PER_OOB_LOG = 128
 
 -- .. and an in-band one no more: each of 32 lines wakes up to 64 tasks
 abbrev pub PER_IN_BAND_LOG : ℕ
@@ -58,7 +59,7 @@ PER_IN_BAND_LOG = 2048
 
 -- .. and all of settling, with the other processors that are told
 abbrev pub PER_SETTLING : ℕ
-PER_SETTLING = 2112
+PER_SETTLING = 2240
 
 -- so many stamps can be given
 abbrev pub HasStamps : ℕ → Parts → Type 0

@@ -2,19 +2,24 @@
 use Rattle.std.specs.Prelude.{ℕ, List, [], ◌∷◌, Option, Some, None, Bool, true, false, not, ◌&&◌, ◌==◌, if◌then◌else◌, slice_get}
 use Rattle.evm_exec.specs.Registers.{register_of}
 use Rattle.evm_exec.specs.declared.hart.Hart.{Hart}
+use Rattle.evm_model.specs.Actions.{set_line}
+use Rattle.evm_model.specs.Current.{is_oob}
+use Rattle.evm_model.specs.Deadlines.{sleep_until}
+use Rattle.evm_model.specs.Events.{new_event, event_wait, signal, broadcast}
+use Rattle.evm_model.specs.Flags.{new_flags, flags_wait, flags_post}
 use Rattle.evm_model.specs.Harts.{A7, advance, answer, argument}
-use Rattle.evm_model.specs.InBandCalls.{exit, putc, yield_now, spawn, wait_line, attach, detach, set_line}
+use Rattle.evm_model.specs.InBandCalls.{exit, putc, yield_now, spawn, wait_line, attach, detach}
 use Rattle.evm_model.specs.Locks.{new_mutex, lock, try_lock, unlock}
 use Rattle.evm_model.specs.Mutexes.{owns_any}
 use Rattle.evm_model.specs.OobCalls.{stall, switch_oob, switch_in_band, set_sched, set_mode, yield_oob, clock, state_bits}
 use Rattle.evm_model.specs.Ranks.{is_oob_ready}
 use Rattle.evm_model.specs.Semaphores.{new_semaphore, sem_get, sem_try_get, sem_put}
-use Rattle.evm_model.specs.Settle.{is_oob}
 use Rattle.evm_model.specs.Stages.{refused, may_promote}
 use Rattle.evm_model.specs.State.{Parts, on_hart}
 use Rattle.evm_model.specs.Tasks.{demote, promote, is_weak}
+use Rattle.evm_model.specs.Timers.{new_timer, timer_set, timer_wait}
 use Rattle.evm_model.specs.declared.call.Call.{Call}
-use Rattle.evm_model.specs.declared.call.Call.TheVariants.{Exit as Ends, Putc, Yield, Spawn, Stall, Unstall, WaitLine, Attach, Detach, NewMutex, NewSemaphore, SetLine, SwitchOob, SwitchInBand, SetSched, SetMode, Lock, TryLock, Unlock, SemGet, SemTryGet, SemPut, YieldOob, StallOob, UnstallOob, Clock, StateBits}
+use Rattle.evm_model.specs.declared.call.Call.TheVariants.{Exit as Ends, Putc, Yield, Spawn, Stall, Unstall, WaitLine, Attach, Detach, NewMutex, NewSemaphore, NewEvent, NewFlags, NewTimer, SetLine, SwitchOob, SwitchInBand, SetSched, SetMode, Lock, TryLock, Unlock, SemGet, SemTryGet, SemPut, EventWait, Signal, Broadcast, FlagsWait, FlagsPost, SleepUntil, TimerSet, TimerWait, YieldOob, StallOob, UnstallOob, Clock, StateBits}
 use Rattle.evm_model.specs.declared.call.Outcome.{Outcome}
 use Rattle.evm_model.specs.declared.call.Outcome.TheVariants.{Answers, Waits, Leaves}
 use Rattle.evm_model.specs.declared.errno.Errno.TheVariants.{NotPermitted, NoSuchCall}
@@ -35,6 +40,9 @@ call_row Attach = (7, Some InBand)
 call_row Detach = (8, Some InBand)
 call_row NewMutex = (9, Some InBand)
 call_row NewSemaphore = (10, Some InBand)
+call_row NewEvent = (11, Some InBand)
+call_row NewFlags = (12, Some InBand)
+call_row NewTimer = (13, Some InBand)
 call_row SetLine = (14, Some InBand)
 call_row SwitchOob = (32, Some OutOfBand)
 call_row SwitchInBand = (33, Some OutOfBand)
@@ -46,6 +54,14 @@ call_row Unlock = (38, Some OutOfBand)
 call_row SemGet = (39, Some OutOfBand)
 call_row SemTryGet = (40, Some OutOfBand)
 call_row SemPut = (41, None)
+call_row EventWait = (42, Some OutOfBand)
+call_row Signal = (43, Some OutOfBand)
+call_row Broadcast = (44, Some OutOfBand)
+call_row FlagsWait = (45, Some OutOfBand)
+call_row FlagsPost = (46, None)
+call_row SleepUntil = (47, Some OutOfBand)
+call_row TimerSet = (48, Some OutOfBand)
+call_row TimerWait = (49, Some OutOfBand)
 call_row YieldOob = (50, Some OutOfBand)
 call_row StallOob = (51, Some OutOfBand)
 call_row UnstallOob = (52, Some OutOfBand)
@@ -60,8 +76,9 @@ call_stage call = (call_row call).1
 
 abbrev pub all_calls : List Call
 all_calls =
-    Ends ∷ Putc ∷ Yield ∷ Spawn ∷ Stall ∷ Unstall ∷ WaitLine ∷ Attach ∷ Detach ∷ NewMutex ∷ NewSemaphore ∷ SetLine ∷ SwitchOob
-    ∷ SwitchInBand ∷ SetSched ∷ SetMode ∷ Lock ∷ TryLock ∷ Unlock ∷ SemGet ∷ SemTryGet ∷ SemPut ∷ YieldOob ∷ StallOob ∷ UnstallOob ∷ Clock ∷ StateBits ∷ []
+    Ends ∷ Putc ∷ Yield ∷ Spawn ∷ Stall ∷ Unstall ∷ WaitLine ∷ Attach ∷ Detach ∷ NewMutex ∷ NewSemaphore ∷ NewEvent ∷ NewFlags ∷ NewTimer ∷ SetLine ∷ SwitchOob
+    ∷ SwitchInBand ∷ SetSched ∷ SetMode ∷ Lock ∷ TryLock ∷ Unlock ∷ SemGet ∷ SemTryGet ∷ SemPut ∷ EventWait ∷ Signal ∷ Broadcast
+    ∷ FlagsWait ∷ FlagsPost ∷ SleepUntil ∷ TimerSet ∷ TimerWait ∷ YieldOob ∷ StallOob ∷ UnstallOob ∷ Clock ∷ StateBits ∷ []
 
 -- the first of the calls that has the number
 abbrev pub numbered : ℕ → List Call → Option Call
@@ -85,7 +102,10 @@ perform Attach hart c t k = attach t (argument 0 hart) (argument 1 hart) k
 perform Detach hart c t k = detach t k
 perform NewMutex hart c t k = new_mutex (argument 0 hart) (argument 1 hart) k
 perform NewSemaphore hart c t k = new_semaphore (argument 0 hart) k
-perform SetLine hart c t k = set_line (argument 0 hart) (argument 1 hart) k
+perform NewEvent hart c t k = new_event k
+perform NewFlags hart c t k = new_flags k
+perform NewTimer hart c t k = new_timer k
+perform SetLine hart c t k = set_line (argument 0 hart) (argument 1 hart) (argument 2 hart) k
 perform SwitchOob hart c t k = switch_oob k
 perform SwitchInBand hart c t k = switch_in_band c t k
 perform SetSched hart c t k = set_sched (argument 0 hart) (argument 1 hart) (argument 2 hart) k
@@ -96,6 +116,14 @@ perform Unlock hart c t k = unlock t (argument 0 hart) k
 perform SemGet hart c t k = sem_get c t (argument 0 hart) (argument 1 hart) k
 perform SemTryGet hart c t k = sem_try_get (argument 0 hart) k
 perform SemPut hart c t k = sem_put (argument 0 hart) k
+perform EventWait hart c t k = event_wait c t (argument 0 hart) (argument 1 hart) (argument 2 hart) k
+perform Signal hart c t k = signal (argument 0 hart) k
+perform Broadcast hart c t k = broadcast (argument 0 hart) k
+perform FlagsWait hart c t k = flags_wait c t (argument 0 hart) (argument 1 hart) k
+perform FlagsPost hart c t k = flags_post (argument 0 hart) (argument 1 hart) k
+perform SleepUntil hart c t k = sleep_until c t (argument 0 hart) k
+perform TimerSet hart c t k = timer_set c (argument 0 hart) (argument 1 hart) (argument 2 hart) k
+perform TimerWait hart c t k = timer_wait c t (argument 0 hart) k
 perform YieldOob hart c t k = yield_oob t k
 perform StallOob hart c t k = stall OutOfBand true c k
 perform UnstallOob hart c t k = stall OutOfBand false c k

@@ -1,7 +1,7 @@
 -- Why a call is refused, and what a0 is then.
 use Rattle.std.specs.Prelude.{ℕ, ◌-◌, ◌^◌}
 use Rattle.evm_model.specs.declared.errno.Errno.{Errno}
-use Rattle.evm_model.specs.declared.errno.Errno.TheVariants.{NotPermitted, NoSuchTask, TryAgain, NoNumber, Busy, Invalid, Deadlock, NoSuchCall}
+use Rattle.evm_model.specs.declared.errno.Errno.TheVariants.{NotPermitted, NoSuchTask, TryAgain, NoNumber, Busy, Invalid, Deadlock, NoSuchCall, TimedOut}
 
 -- Linux's number of an error
 abbrev pub errno_number : Errno → ℕ
@@ -13,6 +13,7 @@ errno_number Busy = 16
 errno_number Invalid = 22
 errno_number Deadlock = 35
 errno_number NoSuchCall = 38
+errno_number TimedOut = 110
 
 -- negated, in 64 bits
 abbrev pub refusal_answer : Errno → ℕ

@@ -1,24 +1,30 @@
 -- The rules that hold after every event.
-use Rattle.std.specs.Prelude.{◌≡◌, ◌<◌, ◌≤◌, ℕ, ◌+◌, ◌*◌, ◌%◌, List, [], Some, None, Bool, true, false, slice_get, length, count_by}
+use Rattle.std.specs.Prelude.{◌≡◌, ◌<◌, ◌≤◌, ℕ, ◌+◌, ◌*◌, ◌%◌, List, [], Option, Some, None, Bool, true, false, nat_lt, slice_get, length, count_by}
 use Rattle.evm_lines.specs.Lines.{has_line, IsLineSet}
 use Rattle.evm_lines.specs.declared.TheConstants.{LINES}
 use Rattle.evm_exec.specs.declared.hart.Hart.{Hart}
 use Rattle.evm_ranks.specs.Boosts.{HasHeight}
+use Rattle.evm_model.specs.Actions.{action_in}
 use Rattle.evm_model.specs.Bounds.{PER_EVENT, STAMPS_PER_EVENT, PipesUpTo, HeldUpTo}
+use Rattle.evm_model.specs.Events.{bound_of}
 use Rattle.evm_model.specs.Mutexes.{owner, lock_at, waits_on}
 use Rattle.evm_model.specs.Pipes.{Pipe}
 use Rattle.evm_model.specs.Ranks.{best, is_in_ready}
 use Rattle.evm_model.specs.Replay.{bad_boot}
-use Rattle.evm_model.specs.Settle.{is_oob}
+use Rattle.evm_model.specs.Current.{is_oob}
 use Rattle.evm_model.specs.State.{State, Parts, profile_of}
 use Rattle.evm_model.specs.Event.{Event}
 use Rattle.evm_model.specs.declared.event.Event.TheVariants.{Tick}
-use Rattle.evm_model.specs.declared.limits.TheConstants.{SEMAPHORE_COUNT_LIMIT, MUTEX_LIMIT, PROCESSOR_LIMIT, SEMAPHORE_LIMIT, TASK_LIMIT}
+use Rattle.evm_model.specs.declared.limits.TheConstants.{EVENT_LIMIT, FLAGS_LIMIT, FLAGS_WORD_LIMIT, SEMAPHORE_COUNT_LIMIT, MUTEX_LIMIT, PROCESSOR_LIMIT, SEMAPHORE_LIMIT, TASK_LIMIT, TIMER_LIMIT, TIMER_SPAN_LIMIT}
+use Rattle.evm_model.specs.declared.action.Action.{Action}
+use Rattle.evm_model.specs.declared.action.Action.TheVariants.{Nothing, Puts, Posts}
 use Rattle.evm_model.specs.declared.mutex.Mutex.{Mutex}
 use Rattle.evm_model.specs.declared.processor.Processor.{Processor}
 use Rattle.evm_model.specs.declared.task.Task.{Task}
 use Rattle.evm_model.specs.declared.task.TaskState.{TaskState}
-use Rattle.evm_model.specs.declared.task.TaskState.TheVariants.{InReady, OobReady}
+use Rattle.evm_model.specs.declared.task.TaskState.TheVariants.{InReady, OobReady, Waits}
+use Rattle.evm_model.specs.declared.task.Wait.TheVariants.{Event as For}
+use Rattle.evm_model.specs.declared.timer.Timer.{Timer}
 
 -- a task that is ready, on whatever stage
 abbrev pub is_ready : TaskState → Bool
@@ -77,6 +83,60 @@ pub record AreSemaphores (semaphores : List ℕ) : Type 0 where
   pub few : length semaphores ≤ SEMAPHORE_LIMIT
   pub bounded : (s n : ℕ) → slice_get semaphores s ≡ Some n → n ≤ SEMAPHORE_COUNT_LIMIT
 
+-- ---- events
+abbrev pub event_of : TaskState → Option ℕ
+event_of (Waits (For e)) = Some e
+event_of _ = None
+
+abbrev pub event_of_task : Option Task → Option ℕ
+event_of_task None = None
+event_of_task (Some task) = event_of task.state
+
+-- the event for which task t waits
+abbrev pub event_at : List Task → ℕ → Option ℕ
+event_at tasks t = event_of_task (slice_get tasks t)
+
+-- whether a mutex is named and there
+abbrev pub is_mutex : Option ℕ → List Mutex → Bool
+is_mutex None mutexes = false
+is_mutex (Some m) mutexes = nat_lt m (length mutexes)
+
+-- the events, and the tasks that wait for them
+pub record AreEvents (events : List (Option ℕ)) (mutexes : List Mutex) (tasks : List Task) : Type 0 where
+  -- an event for which a task waits has a mutex that is there
+  pub bound : (t e : ℕ) → event_at tasks t ≡ Some e → is_mutex (bound_of (slice_get events e)) mutexes ≡ true
+  -- a task that waits for an event owns no mutex
+  pub idle : (t e m : ℕ) → event_at tasks t ≡ Some e → owner mutexes m ≡ Some t → ⊥
+
+-- a task that waits
+abbrev pub is_waiting : TaskState → Bool
+is_waiting (Waits wait) = true
+is_waiting _ = false
+
+-- ---- flag groups, timers and actions
+-- no more flag groups than there may be, and no word above the greatest
+pub record AreFlags (flags : List ℕ) : Type 0 where
+  pub few : length flags ≤ FLAGS_LIMIT
+  pub bounded : (f word : ℕ) → slice_get flags f ≡ Some word → word ≤ FLAGS_WORD_LIMIT
+
+-- a timer at a tick: it is due within the greatest span, and has expired less often than the tick at which it is due
+pub record IsTimer (ticks : ℕ) (timer : Timer) : Type 0 where
+  pub period : timer.period ≤ TIMER_SPAN_LIMIT
+  pub due : timer.due ≤ TIMER_SPAN_LIMIT + ticks
+  pub set : (timer.due ≡ 0 → ⊥) → timer.expiries < timer.due
+  pub off : timer.due ≡ 0 → timer.expiries ≤ ticks
+
+pub record AreTimers (ticks : ℕ) (timers : List Timer) : Type 0 where
+  pub few : length timers ≤ TIMER_LIMIT
+  pub each : (n : ℕ) (timer : Timer) → slice_get timers n ≡ Some timer → IsTimer ticks timer
+
+-- there is an action for each line; lines 0 and 1 have none, and the others name what is there
+pub record AreActions (actions : List Action) (semaphores flags : List ℕ) : Type 0 where
+  pub count : length actions ≡ LINES
+  pub fixed : (l : ℕ) → l < 2 → action_in actions l ≡ Nothing
+  pub puts : (l s : ℕ) → action_in actions l ≡ Puts s → s < length semaphores
+  pub posts : (l f : ℕ) → action_in actions l ≡ Posts f → f < length flags
+
 -- what holds of the parts
 pub record Good (k : Parts) : Type 0 where
   pub pipes : (c : ℕ) (pipe : Pipe) → slice_get k.pipes c ≡ Some pipe → IsPipe pipe
@@ -86,6 +146,9 @@ pub record Good (k : Parts) : Type 0 where
   -- each task is of a processor that is there
   pub homes : (t : ℕ) (task : Task) → slice_get k.tasks t ≡ Some task → task.cpu < length k.processors
   pub locks : AreLocks k.mutexes k.tasks
+  pub events : AreEvents k.events k.mutexes k.tasks
+  -- a task that doesn't wait has no deadline
+  pub deadlines : (t : ℕ) (task : Task) → slice_get k.tasks t ≡ Some task → is_waiting task.state ≡ false → task.deadline ≡ 0
   -- stamps are distinct, and below the next
   pub stamps_below : (t : ℕ) (task : Task) → slice_get k.tasks t ≡ Some task → task.stamp < k.stamps
   pub stamps_differ : (t u : ℕ) (a b : Task) → slice_get k.tasks t ≡ Some a → slice_get k.tasks u ≡ Some b → a.stamp ≡ b.stamp → t ≡ u
@@ -117,5 +180,9 @@ pub record GoodState (s : State) : Type 0 where
   pub counts : PipesUpTo (PER_EVENT * length s.journal) s.board.parts.pipes
   -- semaphores are within their bounds
   pub semaphores : AreSemaphores s.board.parts.semaphores
+  pub flags : AreFlags s.board.parts.flags
+  pub timers : AreTimers s.board.parts.ticks s.board.parts.timers
+  pub few_events : length s.board.parts.events ≤ EVENT_LIMIT
+  pub actions : AreActions s.board.parts.actions s.board.parts.semaphores s.board.parts.flags
   -- and so is how often each mutex is locked
   pub holds : HeldUpTo (PER_EVENT * length s.journal) s.board.parts.mutexes

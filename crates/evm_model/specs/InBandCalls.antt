@@ -65,7 +65,7 @@ wait_line_unless None c t l k = (leave_in_band c (begin_wait t (Line l) 0 k), Wa
 unfoldable pub wait_line : ℕ → ℕ → ℕ → Parts → Parts × Outcome
 wait_line c t l k =
     if nat_le (line_count k.profile) l then refused Invalid k
-    else wait_line_unless (wait_refusal (is_stalled InBand c k) None 0) c t l k
+    else wait_line_unless (wait_refusal (is_stalled InBand c k) None k.ticks 0) c t l k
 
 -- 7: the task has a class and a priority; not where it has one
 abbrev pub attach_as : Option Class → ℕ → ℕ → Parts → Parts × Outcome
@@ -81,10 +81,3 @@ unfoldable pub detach : ℕ → Parts → Parts × Outcome
 detach t k =
     if not (is_attached t k) then refused NotPermitted k
     else (if owns_any t k.mutexes then refused Busy k else (clear_policy t k, Answers 0))
-
--- 14: lines 2 to 31 have an action, 0 for none; the others name an object, and there is none yet
-unfoldable pub set_line : ℕ → ℕ → Parts → Parts × Outcome
-set_line l action k =
-    if nat_lt l 2 then refused Invalid k
-    else (if nat_le (line_count k.profile) l then refused Invalid k
-    else (if action == 0 then (k, Answers 0) else refused Invalid k))

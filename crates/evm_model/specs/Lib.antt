@@ -1,9 +1,14 @@
+pub mod Actions
 pub mod Bounds
 pub mod Calls
 pub mod Commands
+pub mod Current
+pub mod Deadlines
 pub mod Errnos
 pub mod Event
+pub mod Events
 pub mod Faults
+pub mod Flags
 pub mod Good
 pub mod Harts
 pub mod InBandCalls
@@ -28,4 +33,5 @@ pub mod Settle
 pub mod Stages
 pub mod State
 pub mod Tasks
+pub mod Timers
 pub mod Waits

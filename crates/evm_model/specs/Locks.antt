@@ -60,7 +60,7 @@ cycle_refusal t u k = if meets (waits_on k.mutexes k.tasks) t TASK_LIMIT (Some u
 -- of task u's: it waits
 unfoldable pub lock_other : ℕ → ℕ → ℕ → ℕ → ℕ → Parts → Parts × Outcome
 lock_other c t m u deadline k =
-    wait_unless (wait_refusal (is_stalled OutOfBand c k) (cycle_refusal t u k) deadline) t (Lock m) deadline k
+    wait_unless (wait_refusal (is_stalled OutOfBand c k) (cycle_refusal t u k) k.ticks deadline) t (Lock m) deadline k
 
 abbrev pub lock_owned : Option ℕ → ℕ → ℕ → ℕ → ℕ → Mutex → Parts → Parts × Outcome
 lock_owned None c t m deadline mutex k = (take_mutex t m k, Answers 0)

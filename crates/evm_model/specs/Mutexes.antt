@@ -7,7 +7,7 @@ use Rattle.evm_model.specs.declared.mutex.Protocol.TheVariants.{Inheritance, Cei
 use Rattle.evm_model.specs.declared.task.Task.{Task}
 use Rattle.evm_model.specs.declared.task.TaskState.{TaskState}
 use Rattle.evm_model.specs.declared.task.TaskState.TheVariants.{Waits}
-use Rattle.evm_model.specs.declared.task.Wait.TheVariants.{Lock}
+use Rattle.evm_model.specs.declared.task.Wait.TheVariants.{Lock, Reacquire}
 
 -- ---- owners
 abbrev pub owner_of : Option Mutex → Option ℕ
@@ -42,6 +42,7 @@ freed mutex = record mutex { owner = None; count = 0 }
 -- ---- waiting
 abbrev pub lock_of : TaskState → Option ℕ
 lock_of (Waits (Lock m)) = Some m
+lock_of (Waits (Reacquire m answer)) = Some m
 lock_of _ = None
 
 abbrev pub lock_of_task : Option Task → Option ℕ

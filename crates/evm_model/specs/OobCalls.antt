@@ -2,7 +2,7 @@
 use Rattle.std.specs.Prelude.{ℕ, ◌+◌, ◌*◌, Option, Some, None, Bool, false, ◌&&◌, nat_lt, if◌then◌else◌, slice_get}
 use Rattle.evm_model.specs.Pipes.{set_stall}
 use Rattle.evm_model.specs.Policies.{policy_of}
-use Rattle.evm_model.specs.Settle.{is_oob}
+use Rattle.evm_model.specs.Current.{is_oob}
 use Rattle.evm_model.specs.Stages.{refused, bit, is_stalled, is_class, is_attached, stage_at}
 use Rattle.evm_model.specs.State.{Parts, on_pipe}
 use Rattle.evm_model.specs.Tasks.{restamp, is_live, demote, set_policy, set_mode_bits}

@@ -1,19 +1,19 @@
 -- How a mutex passes on, and how a task ends.
-use Rattle.std.specs.Prelude.{ℕ, zero, suc, Option, Some, None, false, if◌then◌else◌, length}
+use Rattle.std.specs.Prelude.{ℕ, zero, suc, Option, Some, None, false, if◌then◌else◌, slice_get, length}
 use Rattle.evm_ranks.specs.Boosts.{is_number}
 use Rattle.evm_model.specs.Mutexes.{owner, held_by, freed}
 use Rattle.evm_model.specs.Pipes.{set_stall}
 use Rattle.evm_model.specs.State.{Parts, on_pipe, on_mutex}
 use Rattle.evm_model.specs.Tasks.{set_state, leave_in_band}
-use Rattle.evm_model.specs.Waits.{first_waiter, wake}
+use Rattle.evm_model.specs.Waits.{first_waiter, wake, kept_of}
 use Rattle.evm_model.specs.declared.stage.Stage.TheVariants.{InBand}
 use Rattle.evm_model.specs.declared.task.TaskState.{TaskState}
 use Rattle.evm_model.specs.declared.task.Wait.TheVariants.{Lock}
 
--- a task that waited for mutex m owns it and wakes; if there is none, the mutex is free
+-- a task that waited for mutex m owns it and wakes, with the answer that it kept; if there is none, the mutex is free
 abbrev pub pass_to : Option ℕ → ℕ → Parts → Parts
 pass_to None m k = on_mutex m freed k
-pass_to (Some t) m k = wake t 0 (on_mutex m (held_by t 1) k)
+pass_to (Some t) m k = wake t (kept_of (slice_get k.tasks t)) (on_mutex m (held_by t 1) k)
 
 unfoldable pub pass_on : ℕ → Parts → Parts
 pass_on m k = pass_to (first_waiter (Lock m) k) m k

@@ -3,6 +3,8 @@ use Rattle.std.specs.Prelude.{ℕ, ◌+◌, List, [], Bool, false, nat_lt, if◌
 use Rattle.evm_lines.specs.Lines.{has_line, with_line, without_line}
 use Rattle.evm_lines.specs.declared.TheConstants.{LINES}
 use Rattle.evm_model.specs.Lists.{change}
+use Rattle.evm_model.specs.declared.action.Action.{Action}
+use Rattle.evm_model.specs.declared.action.Action.TheVariants.{Nothing}
 use Rattle.evm_model.specs.declared.counts.Counts.{Counts}
 use Rattle.evm_model.specs.declared.counts.Passage.{Passage}
 use Rattle.evm_model.specs.declared.stage.Stage.{Stage}
@@ -36,9 +38,13 @@ idle_pipe = record { oob = idle_log; inband = idle_log; wire = []; counts = repl
 abbrev pub is_oob_line : ℕ → Bool
 is_oob_line l = nat_lt l 2
 
--- the stage that receives a line
-abbrev pub stage_of : ℕ → Stage
-stage_of l = if is_oob_line l then OutOfBand else InBand
+abbrev pub stage_by : Action → Stage
+stage_by Nothing = InBand
+stage_by _ = OutOfBand
+
+-- the stage that receives a line with this action: out-of-band for these two, and where it has one
+abbrev pub stage_of : Action → ℕ → Stage
+stage_of action l = if is_oob_line l then OutOfBand else stage_by action
 
 abbrev pub log_of : Stage → Pipe → StageLog
 log_of OutOfBand p = p.oob
@@ -86,9 +92,9 @@ arrive stage l p =
 unfoldable pub leave_wire : ℕ → Pipe → Pipe
 leave_wire l p = on_counts l count_receipt (record p { wire = without_line p.wire l })
 
--- line l is received: it leaves the wire, and arrives in the log of its stage
-unfoldable pub receive : ℕ → Pipe → Pipe
-receive l p = arrive (stage_of l) l (leave_wire l p)
+-- line l is received: it leaves the wire, and arrives in the log of a stage
+unfoldable pub receive : Stage → ℕ → Pipe → Pipe
+receive stage l p = arrive stage l (leave_wire l p)
 
 -- line l leaves the log of a stage, to be played
 unfoldable pub play : Stage → ℕ → Pipe → Pipe

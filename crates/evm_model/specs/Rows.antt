@@ -2,11 +2,12 @@
 use Rattle.std.specs.Prelude.{ℕ, Option, Some, None, true, false, not, ◌&&◌, if◌then◌else◌, slice_get}
 use Rattle.evm_lines.specs.Lines.{least_line}
 use Rattle.evm_exec.specs.declared.hart.Hart.{Hart}
+use Rattle.evm_model.specs.Actions.{receive_line}
 use Rattle.evm_model.specs.Commands.{tick, set_bits, on_current, is_set, set_breakpoint, unset_breakpoint}
 use Rattle.evm_model.specs.Harts.{set_register, set_pc}
 use Rattle.evm_model.specs.Instructions.{execute, stop}
 use Rattle.evm_model.specs.Memory.{poke}
-use Rattle.evm_model.specs.Pipes.{Pipe, raise, receive}
+use Rattle.evm_model.specs.Pipes.{Pipe, raise}
 use Rattle.evm_model.specs.Settle.{settle_and_nudge}
 use Rattle.evm_model.specs.State.{Board, on_processor, on_pipe, on_parts, on_memory}
 use Rattle.evm_model.specs.declared.event.Answer.{Answer}
@@ -34,7 +35,7 @@ step_current (Some t) p c b = step_hart (slice_get b.parts.harts t) p c t b
 -- a line on the wire is received before an instruction, the least first
 abbrev pub step_wire : Option ℕ → Processor → ℕ → Board → Board × Answer
 step_wire None p c b = step_current p.current p c b
-step_wire (Some l) p c b = (on_parts (λ k. settle_and_nudge p.current c (on_pipe c (receive l) k)) b, Received l)
+step_wire (Some l) p c b = (on_parts (λ k. settle_and_nudge p.current c (receive_line c l k)) b, Received l)
 
 abbrev pub step_pipe : Option Pipe → Processor → ℕ → Board → Board × Answer
 step_pipe None p c b = (b, Stopped)

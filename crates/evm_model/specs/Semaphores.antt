@@ -25,7 +25,7 @@ new_semaphore count k =
 abbrev pub sem_get_known : Option ℕ → ℕ → ℕ → ℕ → ℕ → Parts → Parts × Outcome
 sem_get_known None c t s deadline k = refused Invalid k
 sem_get_known (Some count) c t s deadline k =
-    if count == 0 then wait_unless (wait_refusal (is_stalled OutOfBand c k) None deadline) t (Semaphore s) deadline k
+    if count == 0 then wait_unless (wait_refusal (is_stalled OutOfBand c k) None k.ticks deadline) t (Semaphore s) deadline k
     else (on_semaphore s (λ n. n - 1) k, Answers 0)
 
 -- 39: the task takes one, or waits for one

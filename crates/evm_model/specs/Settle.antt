@@ -1,32 +1,18 @@
 -- What follows an event on a processor: it plays what waits, chooses its current task, and asks the others to reschedule.
 use Rattle.std.specs.Prelude.{ℕ, List, [], ◌∷◌, Option, Some, None, Bool, true, false, not, ◌==◌, ◌&&◌, if◌then◌else◌, slice_get, length}
 use Rattle.evm_lines.specs.Lines.{has_line}
+use Rattle.evm_model.specs.Actions.{act, action_at}
+pub use Rattle.evm_model.specs.Current.{current_of, current, is_oob_task, is_oob}
+use Rattle.evm_model.specs.Deadlines.{end_waits}
 use Rattle.evm_model.specs.Lists.{each}
 use Rattle.evm_model.specs.Pipes.{Pipe, raise, arrive, play}
-use Rattle.evm_model.specs.Ranks.{best, next_in_band, is_oob_ready}
+use Rattle.evm_model.specs.Ranks.{best, next_in_band}
 use Rattle.evm_model.specs.State.{Parts, on_pipe, on_processor}
 use Rattle.evm_model.specs.Tasks.{spend_task}
+use Rattle.evm_model.specs.Timers.{expire_timers}
 use Rattle.evm_model.specs.Waits.{wake_below}
 use Rattle.evm_model.specs.declared.processor.Processor.{Processor}
 use Rattle.evm_model.specs.declared.stage.Stage.TheVariants.{OutOfBand, InBand}
-use Rattle.evm_model.specs.declared.task.Task.{Task}
-
-abbrev pub current_of : Option Processor → Option ℕ
-current_of None = None
-current_of (Some p) = p.current
-
--- the number of the task that processor c runs
-abbrev pub current : ℕ → Parts → Option ℕ
-current c k = current_of (slice_get k.processors c)
-
-abbrev pub is_oob_task : Option Task → Bool
-is_oob_task None = false
-is_oob_task (Some t) = is_oob_ready t.state
-
--- whether there is such a task and it is ready out-of-band
-abbrev pub is_oob : Option ℕ → List Task → Bool
-is_oob None tasks = false
-is_oob (Some t) tasks = is_oob_task (slice_get tasks t)
 
 -- a tick of the slice of this task, if there is one
 unfoldable pub spend : Option ℕ → Parts → Parts
@@ -34,10 +20,14 @@ spend None k = k
 spend (Some t) k = spend_task (slice_get k.tasks t) t k
 
 -- ---- `was`, from here on, is the task that was current on c before the event
--- what an out-of-band play does: the timer's line takes a tick of that task's slice, and goes on into the in-band log,
--- for the in-band tick
+-- the timer's line is played on c: it goes on into the in-band log, for the in-band tick; then deadlines end waits, timers
+-- expire, and that task's slice takes a tick
+unfoldable pub play_tick : Option ℕ → ℕ → Parts → Parts
+play_tick was c k = spend was (expire_timers c (end_waits c (on_pipe c (arrive InBand 0) k)))
+
+-- what an out-of-band play does, by its line: line 1 has no action
 abbrev pub handle_oob : Option ℕ → ℕ → ℕ → Parts → Parts
-handle_oob was c l k = if l == 0 then on_pipe c (arrive InBand 0) (spend was k) else k
+handle_oob was c l k = if l == 0 then play_tick was c k else act (action_at l k) l k
 
 -- line l is played out-of-band on c
 unfoldable pub play_oob : Option ℕ → ℕ → ℕ → Parts → Parts

@@ -1,14 +1,14 @@
 -- What calls ask of a task's stage, and how they are refused.
-use Rattle.std.specs.Prelude.{ℕ, Option, Some, None, Bool, true, false, not, ◌==◌, ◌&&◌, if◌then◌else◌, slice_get}
+use Rattle.std.specs.Prelude.{ℕ, Option, Some, None, Bool, true, false, not, ◌==◌, ◌&&◌, nat_le, if◌then◌else◌, slice_get}
 use Rattle.evm_model.specs.Errnos.{refusal_answer}
 use Rattle.evm_model.specs.Pipes.{Pipe, log_of}
-use Rattle.evm_model.specs.Settle.{is_oob}
+use Rattle.evm_model.specs.Current.{is_oob}
 use Rattle.evm_model.specs.State.{Parts}
 use Rattle.evm_model.specs.Waits.{begin_wait}
 use Rattle.evm_model.specs.declared.call.Outcome.{Outcome}
 use Rattle.evm_model.specs.declared.call.Outcome.TheVariants.{Answers, Waits as Blocks}
 use Rattle.evm_model.specs.declared.errno.Errno.{Errno}
-use Rattle.evm_model.specs.declared.errno.Errno.TheVariants.{NotPermitted, Invalid}
+use Rattle.evm_model.specs.declared.errno.Errno.TheVariants.{NotPermitted, TimedOut}
 use Rattle.evm_model.specs.declared.stage.Stage.{Stage}
 use Rattle.evm_model.specs.declared.stage.Stage.TheVariants.{OutOfBand, InBand}
 use Rattle.evm_model.specs.declared.task.Class.{Class}
@@ -52,17 +52,17 @@ abbrev pub may_promote : ℕ → ℕ → Parts → Bool
 may_promote c t k = is_attached t k && not (is_stalled InBand c k)
 
 -- ---- why a call may not wait
--- a wait has no end yet
-abbrev pub late : ℕ → Option Errno
-late deadline = if deadline == 0 then None else Some Invalid
+-- a deadline that has come; 0 is none
+abbrev pub late : ℕ → ℕ → Option Errno
+late now deadline = if deadline == 0 then None else (if nat_le deadline now then Some TimedOut else None)
 
 abbrev pub or_else : Option Errno → Option Errno → Option Errno
 or_else None second = second
 or_else (Some e) second = Some e
 
 -- why a call may not wait, in this order: its stage is stalled, the call's own reason, its deadline
-abbrev pub wait_refusal : Bool → Option Errno → ℕ → Option Errno
-wait_refusal stalled own deadline = or_else (if stalled then Some NotPermitted else None) (or_else own (late deadline))
+abbrev pub wait_refusal : Bool → Option Errno → ℕ → ℕ → Option Errno
+wait_refusal stalled own now deadline = or_else (if stalled then Some NotPermitted else None) (or_else own (late now deadline))
 
 -- task t waits, unless the call is refused
 abbrev pub wait_unless : Option Errno → ℕ → Wait → ℕ → Parts → Parts × Outcome

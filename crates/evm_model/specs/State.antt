@@ -4,6 +4,9 @@ use Rattle.evm_exec.specs.declared.hart.Hart.{Hart}
 use Rattle.evm_model.specs.Harts.{first_hart}
 use Rattle.evm_model.specs.Lists.{change}
 use Rattle.evm_model.specs.Pipes.{Pipe, idle_pipe}
+use Rattle.evm_lines.specs.declared.TheConstants.{LINES}
+use Rattle.evm_model.specs.declared.action.Action.{Action}
+use Rattle.evm_model.specs.declared.action.Action.TheVariants.{Nothing}
 use Rattle.evm_model.specs.declared.boot.Boot.{Boot}
 use Rattle.evm_model.specs.Event.{Event}
 use Rattle.evm_model.specs.declared.mutex.Mutex.{Mutex}
@@ -13,6 +16,7 @@ use Rattle.evm_model.specs.declared.task.Task.{Task}
 use Rattle.evm_model.specs.declared.mode.Mode.{Mode}
 use Rattle.evm_model.specs.declared.task.Class.TheVariants.{Unattached}
 use Rattle.evm_model.specs.declared.task.TaskState.TheVariants.{InReady}
+use Rattle.evm_model.specs.declared.timer.Timer.{Timer}
 
 -- what calls may change
 pub record Parts : Type 0 where
@@ -34,6 +38,14 @@ pub record Parts : Type 0 where
   pub mutexes : List Mutex
   -- the count of semaphore s is the s-th
   pub semaphores : List ℕ
+  -- event e has the mutex of the tasks that wait for it: the one that was named last
+  pub events : List (Option ℕ)
+  -- the word of flag group f is the f-th
+  pub flags : List ℕ
+  -- timer n is the n-th
+  pub timers : List Timer
+  -- the action of line l is the l-th
+  pub actions : List Action
   -- what was put to the console, the last bytes of it
   pub console : List ℕ
 
@@ -73,6 +85,18 @@ on_mutex m f k = record k { mutexes = change f k.mutexes m }
 abbrev pub on_semaphore : ℕ → (ℕ → ℕ) → Parts → Parts
 on_semaphore s f k = record k { semaphores = change f k.semaphores s }
 
+abbrev pub on_event : ℕ → (Option ℕ → Option ℕ) → Parts → Parts
+on_event e f k = record k { events = change f k.events e }
+
+abbrev pub on_flags : ℕ → (ℕ → ℕ) → Parts → Parts
+on_flags g f k = record k { flags = change f k.flags g }
+
+abbrev pub on_timer : ℕ → (Timer → Timer) → Parts → Parts
+on_timer n f k = record k { timers = change f k.timers n }
+
+abbrev pub on_action : ℕ → (Action → Action) → Parts → Parts
+on_action l f k = record k { actions = change f k.actions l }
+
 abbrev pub on_parts : (Parts → Parts) → Board → Board
 on_parts f b = record b { parts = f b.parts }
 
@@ -109,6 +133,10 @@ booted_parts boot = record {
   stamps = 1;
   mutexes = [];
   semaphores = [];
+  events = [];
+  flags = [];
+  timers = [];
+  actions = replicate LINES Nothing;
   console = [];
 }
 

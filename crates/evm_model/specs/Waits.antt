@@ -11,13 +11,14 @@ use Rattle.evm_model.specs.declared.task.Task.{Task}
 use Rattle.evm_model.specs.declared.task.TaskState.{TaskState}
 use Rattle.evm_model.specs.declared.task.TaskState.TheVariants.{InReady, OobReady, Waits}
 use Rattle.evm_model.specs.declared.task.Wait.{Wait}
-use Rattle.evm_model.specs.declared.task.Wait.TheVariants.{Line, Lock, Semaphore, Event, Flags, Sleep, Timer}
+use Rattle.evm_model.specs.declared.task.Wait.TheVariants.{Line, Lock, Reacquire, Semaphore, Event, Flags, Sleep, Timer}
 
 -- ---- waiters
--- whether two waits are for the same
+-- whether the first wait, of a task, is for the second; one that reacquires a mutex waits as for its lock
 abbrev pub same_wait : Wait → Wait → Bool
 same_wait (Line l) (Line m) = l == m
 same_wait (Lock m) (Lock n) = m == n
+same_wait (Reacquire m answer) (Lock n) = m == n
 same_wait (Semaphore s) (Semaphore r) = s == r
 same_wait (Event e) (Event d) = e == d
 same_wait (Flags f) (Flags g) = f == g
@@ -47,6 +48,15 @@ unfoldable pub begin_wait : ℕ → Wait → ℕ → Parts → Parts
 begin_wait t wait deadline k = restamp t (on_task t (λ task. record task { state = Waits wait; deadline = deadline }) k)
 
 -- ---- waking
+-- the answer that a task keeps while it reacquires a mutex; 0 else
+abbrev pub kept : TaskState → ℕ
+kept (Waits (Reacquire m answer)) = answer
+kept _ = 0
+
+abbrev pub kept_of : Option Task → ℕ
+kept_of None = 0
+kept_of (Some task) = kept task.state
+
 -- the stage on which a task waits: in-band for a line, else out-of-band
 abbrev pub stage_of_wait : Wait → Stage
 stage_of_wait (Line l) = InBand

@@ -27,6 +27,12 @@ pub enum Call {
     NewMutex,
     /// A new semaphore.
     NewSemaphore,
+    /// A new event.
+    NewEvent,
+    /// A new flag group.
+    NewFlags,
+    /// A new timer.
+    NewTimer,
     /// What is done with a line.
     SetLine,
     /// The task goes out-of-band.
@@ -49,6 +55,22 @@ pub enum Call {
     SemTryGet,
     /// One is put into a semaphore.
     SemPut,
+    /// The task gives its mutex back and waits for an event, and has the mutex again when it wakes.
+    EventWait,
+    /// The first task that waits for an event waits no more.
+    Signal,
+    /// All tasks that wait for an event wait no more.
+    Broadcast,
+    /// The task takes a flag group's word, or waits for one.
+    FlagsWait,
+    /// Bits are set in a flag group's word.
+    FlagsPost,
+    /// The task waits until a tick.
+    SleepUntil,
+    /// When a timer expires.
+    TimerSet,
+    /// The task takes a timer's expiries, or waits for one.
+    TimerWait,
     /// The task goes behind the others of its rank that are ready out-of-band.
     YieldOob,
     /// The out-of-band stage plays nothing until it is unstalled, and its current task stays.
@@ -77,6 +99,9 @@ impl Call {
             8 => Some(Call::Detach),
             9 => Some(Call::NewMutex),
             10 => Some(Call::NewSemaphore),
+            11 => Some(Call::NewEvent),
+            12 => Some(Call::NewFlags),
+            13 => Some(Call::NewTimer),
             14 => Some(Call::SetLine),
             32 => Some(Call::SwitchOob),
             33 => Some(Call::SwitchInBand),
@@ -88,6 +113,14 @@ impl Call {
             39 => Some(Call::SemGet),
             40 => Some(Call::SemTryGet),
             41 => Some(Call::SemPut),
+            42 => Some(Call::EventWait),
+            43 => Some(Call::Signal),
+            44 => Some(Call::Broadcast),
+            45 => Some(Call::FlagsWait),
+            46 => Some(Call::FlagsPost),
+            47 => Some(Call::SleepUntil),
+            48 => Some(Call::TimerSet),
+            49 => Some(Call::TimerWait),
             50 => Some(Call::YieldOob),
             51 => Some(Call::StallOob),
             52 => Some(Call::UnstallOob),
@@ -113,6 +146,9 @@ impl Call {
             | Call::Detach
             | Call::NewMutex
             | Call::NewSemaphore
+            | Call::NewEvent
+            | Call::NewFlags
+            | Call::NewTimer
             | Call::SetLine => Some(Stage::InBand),
             Call::SwitchOob
             | Call::SwitchInBand
@@ -123,10 +159,17 @@ impl Call {
             | Call::Unlock
             | Call::SemGet
             | Call::SemTryGet
+            | Call::EventWait
+            | Call::Signal
+            | Call::Broadcast
+            | Call::FlagsWait
+            | Call::SleepUntil
+            | Call::TimerSet
+            | Call::TimerWait
             | Call::YieldOob
             | Call::StallOob
             | Call::UnstallOob => Some(Stage::OutOfBand),
-            Call::SemPut | Call::Clock | Call::StateBits => None,
+            Call::SemPut | Call::FlagsPost | Call::Clock | Call::StateBits => None,
         }
     }
 }

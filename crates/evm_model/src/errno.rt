@@ -20,6 +20,8 @@ pub enum Errno {
     Deadlock,
     /// No call has this number (ENOSYS, 38).
     NoSuchCall,
+    /// The deadline has passed (ETIMEDOUT, 110).
+    TimedOut,
 }
 
 impl Errno {
@@ -36,6 +38,7 @@ impl Errno {
             Errno::Invalid => 0u64.wrapping_sub(22),
             Errno::Deadlock => 0u64.wrapping_sub(35),
             Errno::NoSuchCall => 0u64.wrapping_sub(38),
+            Errno::TimedOut => 0u64.wrapping_sub(110),
         }
     }
 }

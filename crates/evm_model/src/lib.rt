@@ -1,6 +1,7 @@
 //! The machine as its users believe it: its state, its events, and what each event does.
 #![tactic(auto)]
 
+mod action;
 mod boot;
 mod call;
 mod counts;
@@ -15,7 +16,9 @@ mod profile;
 mod refusal;
 mod stage;
 mod task;
+mod timer;
 
+pub use action::Action;
 pub use boot::Boot;
 pub use call::{Call, Outcome};
 pub use counts::{Counts, Passage};
@@ -23,9 +26,9 @@ pub use errno::Errno;
 pub use event::{Answer, Block, Event, NoBytes, copied, kinds_add_up};
 pub use fault::Fault;
 pub use limits::{
-    BREAKPOINT_LIMIT, CAPACITY_LIMIT, CONSOLE_LIMIT, MODE_LIMIT, MUTEX_LIMIT, POKE_LIMIT,
-    PRIORITY_LIMIT, PROCESSOR_LIMIT, RAM_LEAST, RAM_UNIT, SEMAPHORE_COUNT_LIMIT, SEMAPHORE_LIMIT,
-    SLICE, TASK_LIMIT,
+    BREAKPOINT_LIMIT, CAPACITY_LIMIT, CONSOLE_LIMIT, EVENT_LIMIT, FLAGS_LIMIT, FLAGS_WORD_LIMIT,
+    MODE_LIMIT, MUTEX_LIMIT, POKE_LIMIT, PRIORITY_LIMIT, PROCESSOR_LIMIT, RAM_LEAST, RAM_UNIT,
+    SEMAPHORE_COUNT_LIMIT, SEMAPHORE_LIMIT, SLICE, TASK_LIMIT, TIMER_LIMIT, TIMER_SPAN_LIMIT,
 };
 pub use mode::Mode;
 pub use mutex::{Mutex, Protocol};
@@ -34,3 +37,4 @@ pub use profile::Profile;
 pub use refusal::Refusal;
 pub use stage::{Stage, StageLog};
 pub use task::{Class, Task, TaskState, Wait};
+pub use timer::Timer;

@@ -13,6 +13,21 @@ pub const SEMAPHORE_LIMIT: usize = 32;
 /// The greatest count of a semaphore.
 pub const SEMAPHORE_COUNT_LIMIT: u32 = 2_147_483_647;
 
+/// The most events that there may be; a number is never used again.
+pub const EVENT_LIMIT: usize = 32;
+
+/// The most flag groups that there may be; a number is never used again.
+pub const FLAGS_LIMIT: usize = 32;
+
+/// The greatest word of a flag group.
+pub const FLAGS_WORD_LIMIT: u32 = 4_294_967_295;
+
+/// The most timers that there may be; a number is never used again.
+pub const TIMER_LIMIT: usize = 32;
+
+/// The greatest tick, and the greatest period, that a timer is set to.
+pub const TIMER_SPAN_LIMIT: u64 = 9_223_372_036_854_775_807;
+
 /// The most addresses at which breakpoints may be set.
 pub const BREAKPOINT_LIMIT: usize = 64;
 

@@ -16,6 +16,8 @@ pub enum Wait {
     /// In-band, for an interrupt line.
     Line(u8),
     Lock(u8),
+    /// For a mutex, after an event; when it has the mutex, its call is answered with this.
+    Reacquire { mutex: u8, answer: u64 },
     Semaphore(u8),
     Event(u8),
     Flags(u8),

@@ -1,0 +1,56 @@
+-- What each call on a flag group does to the parts, and what comes of it. A flag group is its word.
+use Rattle.std.specs.Prelude.{ℕ, [], ◌∷◌, ◌++◌, Option, Some, None, ◌==◌, nat_lt, nat_le, bit_or, if◌then◌else◌, slice_get, length}
+use Rattle.evm_model.specs.Stages.{refused, is_stalled, wait_refusal, wait_unless}
+use Rattle.evm_model.specs.State.{Parts, on_flags}
+use Rattle.evm_model.specs.Waits.{first_waiter, wake}
+use Rattle.evm_model.specs.declared.call.Outcome.{Outcome}
+use Rattle.evm_model.specs.declared.call.Outcome.TheVariants.{Answers}
+use Rattle.evm_model.specs.declared.errno.Errno.TheVariants.{NoNumber, Invalid}
+use Rattle.evm_model.specs.declared.limits.TheConstants.{FLAGS_LIMIT, FLAGS_WORD_LIMIT}
+use Rattle.evm_model.specs.declared.stage.Stage.TheVariants.{OutOfBand}
+use Rattle.evm_model.specs.declared.task.Wait.TheVariants.{Flags}
+
+-- ---- 12: a new flag group
+unfoldable pub add_flags : Parts → Parts
+add_flags k = record k { flags = k.flags ++ 0 ∷ [] }
+
+-- its number is answered
+unfoldable pub new_flags : Parts → Parts × Outcome
+new_flags k = if nat_le FLAGS_LIMIT (length k.flags) then refused NoNumber k else (add_flags k, Answers (length k.flags))
+
+-- ---- 45: the word is taken
+abbrev pub flags_wait_known : Option ℕ → ℕ → ℕ → ℕ → ℕ → Parts → Parts × Outcome
+flags_wait_known None c t f deadline k = refused Invalid k
+flags_wait_known (Some word) c t f deadline k =
+    if word == 0 then wait_unless (wait_refusal (is_stalled OutOfBand c k) None k.ticks deadline) t (Flags f) deadline k
+    else (on_flags f (λ _. 0) k, Answers word)
+
+-- 45: the task takes the word, which is 0 then, or waits for one
+unfoldable pub flags_wait : ℕ → ℕ → ℕ → ℕ → Parts → Parts × Outcome
+flags_wait c t f deadline k = flags_wait_known (slice_get k.flags f) c t f deadline k
+
+-- ---- bits are posted
+-- the first that waits wakes with the word, which is 0 then; if there is none, it is kept
+abbrev pub post_to : Option ℕ → ℕ → ℕ → Parts → Parts
+post_to None f word k = on_flags f (λ _. word) k
+post_to (Some t) f word k = wake t word (on_flags f (λ _. 0) k)
+
+abbrev pub post_known : Option ℕ → ℕ → ℕ → Parts → Parts
+post_known None f bits k = k
+post_known (Some word) f bits k = post_to (first_waiter (Flags f) k) f (bit_or word bits) k
+
+unfoldable pub post : ℕ → ℕ → Parts → Parts
+post f bits k = post_known (slice_get k.flags f) f bits k
+
+-- a post of no bit, or of bits that no word has
+abbrev pub flags_post_of : ℕ → ℕ → Parts → Parts × Outcome
+flags_post_of f bits k =
+    if bits == 0 then refused Invalid k else (if nat_lt FLAGS_WORD_LIMIT bits then refused Invalid k else (post f bits k, Answers 0))
+
+abbrev pub flags_post_known : Option ℕ → ℕ → ℕ → Parts → Parts × Outcome
+flags_post_known None f bits k = refused Invalid k
+flags_post_known (Some word) f bits k = flags_post_of f bits k
+
+-- 46: the bits are set in the word
+unfoldable pub flags_post : ℕ → ℕ → Parts → Parts × Outcome
+flags_post f bits k = flags_post_known (slice_get k.flags f) f bits k

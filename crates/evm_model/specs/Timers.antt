@@ -1,0 +1,92 @@
+-- What each call on a timer does to the parts, and what comes of it; and how timers expire.
+use Rattle.std.specs.Prelude.{ℕ, zero, suc, ◌+◌, ◌-◌, ◌*◌, ◌/◌, [], ◌∷◌, ◌++◌, Option, Some, None, Bool, false, not, ◌==◌, ◌&&◌, nat_lt, nat_le, if◌then◌else◌, slice_get, length}
+use Rattle.evm_model.specs.Stages.{refused, is_stalled, wait_refusal, wait_unless}
+use Rattle.evm_model.specs.State.{Parts, on_timer}
+use Rattle.evm_model.specs.Waits.{first_waiter, wake}
+use Rattle.evm_model.specs.declared.call.Outcome.{Outcome}
+use Rattle.evm_model.specs.declared.call.Outcome.TheVariants.{Answers}
+use Rattle.evm_model.specs.declared.errno.Errno.TheVariants.{NoNumber, TryAgain, Invalid}
+use Rattle.evm_model.specs.declared.limits.TheConstants.{TIMER_LIMIT, TIMER_SPAN_LIMIT}
+use Rattle.evm_model.specs.declared.stage.Stage.TheVariants.{OutOfBand}
+use Rattle.evm_model.specs.declared.task.Wait.TheVariants.{Timer as For}
+use Rattle.evm_model.specs.declared.timer.Timer.{Timer}
+
+-- ---- 13: a new timer
+-- one that is off
+abbrev pub idle_timer : Timer
+idle_timer = record { cpu = 0; due = 0; period = 0; expiries = 0 }
+
+unfoldable pub add_timer : Parts → Parts
+add_timer k = record k { timers = k.timers ++ idle_timer ∷ [] }
+
+-- its number is answered
+unfoldable pub new_timer : Parts → Parts × Outcome
+new_timer k = if nat_le TIMER_LIMIT (length k.timers) then refused NoNumber k else (add_timer k, Answers (length k.timers))
+
+-- ---- 48: a timer is set
+-- one of processor c that expires first at this tick, or never if that is 0
+abbrev pub set_timer : ℕ → ℕ → ℕ → Timer
+set_timer c first period = record { cpu = c; due = first; period = period; expiries = 0 }
+
+abbrev pub timer_set_known : Option Timer → ℕ → ℕ → ℕ → ℕ → Parts → Parts × Outcome
+timer_set_known None c n first period k = refused Invalid k
+timer_set_known (Some timer) c n first period k =
+    if nat_lt TIMER_SPAN_LIMIT first then refused Invalid k
+    else (if nat_lt TIMER_SPAN_LIMIT period then refused Invalid k else (on_timer n (λ _. set_timer c first period) k, Answers 0))
+
+-- 48: timer n expires first at this tick, then every period
+unfoldable pub timer_set : ℕ → ℕ → ℕ → ℕ → Parts → Parts × Outcome
+timer_set c n first period k = timer_set_known (slice_get k.timers n) c n first period k
+
+-- ---- 49: expiries are taken
+abbrev pub taken : Timer → Timer
+taken timer = record timer { expiries = 0 }
+
+abbrev pub timer_wait_known : Option Timer → ℕ → ℕ → ℕ → Parts → Parts × Outcome
+timer_wait_known None c t n k = refused Invalid k
+timer_wait_known (Some timer) c t n k =
+    if nat_lt 0 timer.expiries then (on_timer n taken k, Answers timer.expiries)
+    else (if timer.due == 0 then refused TryAgain k
+    else wait_unless (wait_refusal (is_stalled OutOfBand c k) None k.ticks 0) t (For n) 0 k)
+
+-- 49: the task takes the expiries of timer n, or waits for one; not for a timer that is off
+unfoldable pub timer_wait : ℕ → ℕ → ℕ → Parts → Parts × Outcome
+timer_wait c t n k = timer_wait_known (slice_get k.timers n) c t n k
+
+-- ---- timers expire
+abbrev pub is_due_timer : ℕ → ℕ → Timer → Bool
+is_due_timer c now timer = not (timer.due == 0) && (nat_le timer.due now && timer.cpu == c)
+
+-- how often a timer has expired up to now since it was due
+abbrev pub missed : ℕ → Timer → ℕ
+missed now timer = if timer.period == 0 then 1 else 1 + (now - timer.due) / timer.period
+
+-- it is due again a period after the last of these, or off
+abbrev pub due_after : ℕ → Timer → ℕ
+due_after now timer = if timer.period == 0 then 0 else timer.due + missed now timer * timer.period
+
+unfoldable pub expired : ℕ → Timer → Timer
+expired now timer = record timer { due = due_after now timer; expiries = timer.expiries + missed now timer }
+
+-- the first task that waits for the timer wakes with all its expiries; if there is none, they are kept
+abbrev pub expire_to : Option ℕ → ℕ → Timer → Parts → Parts
+expire_to None n timer k = on_timer n (λ _. timer) k
+expire_to (Some t) n timer k = wake t timer.expiries (on_timer n (λ _. taken timer) k)
+
+abbrev pub expire_known : Option Timer → ℕ → ℕ → Parts → Parts
+expire_known None c n k = k
+expire_known (Some timer) c n k =
+    if is_due_timer c k.ticks timer then expire_to (first_waiter (For n) k) n (expired k.ticks timer) k else k
+
+-- timer n expires if it is c's and due
+unfoldable pub expire : ℕ → ℕ → Parts → Parts
+expire c n k = expire_known (slice_get k.timers n) c n k
+
+-- of the timers below a number those of c that are due have expired, by number
+unfoldable pub expire_below : ℕ → ℕ → Parts → Parts
+expire_below c zero k = k
+expire_below c (suc n) k = expire c n (expire_below c n k)
+
+-- the timers of c that are due expire
+unfoldable pub expire_timers : ℕ → Parts → Parts
+expire_timers c k = expire_below c (length k.timers) k
