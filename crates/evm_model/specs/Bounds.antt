@@ -68,9 +68,11 @@ PER_SETTLING = 6208
 abbrev pub HasStamps : ℕ → Parts → Type 0
 HasStamps n k = k.stamps + n ≤ COUNT_LIMIT
 
--- .. each count of a line can grow by as much, and each mutex can be locked once more; and there is a hart for each task
+-- .. each count of a line can grow by as much, each mutex can be locked once more, and a timer can expire; and there is a hart
+-- for each task
 pub record HasRoom (n : ℕ) (k : Parts) : Type 0 where
   pub stamps : HasStamps n k
   pub counts : PipesUpTo (COUNT_LIMIT - n) k.pipes
   pub holds : HeldUpTo COUNT_LIMIT k.mutexes
+  pub clock : k.ticks ≤ COUNT_LIMIT
   pub harts : length k.harts ≡ length k.tasks
