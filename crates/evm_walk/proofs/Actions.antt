@@ -1,5 +1,5 @@
 -- The call that sets the action of a line is a walk; and so is what an action does.
-use Rattle.std.proofs.Common.{◌≡◌, ℕ, ◌+◌, ◌<◌, ◌≤◌, Bool, true, false, Option, Some, None, length, refl, ap, sym, ◌∙◌, arith}
+use Rattle.std.proofs.Common.{◌≡◌, ℕ, ◌+◌, ◌<◌, ◌≤◌, Bool, true, false, Option, Some, None, refl, arith}
 use Rattle.std.specs.Prelude.{slice_get, is_none, nat_lt, nat_le, ◌==◌, ◌^◌, if◌then◌else◌}
 use Rattle.std.proofs.Math.Pow.{pow_mono}
 use Rattle.std.proofs.lemmas.Bool.Decides.{nat_tests}
@@ -16,7 +16,7 @@ use Rattle.evm_model.proofs.Lists.{slice_get-below}
 use Rattle.evm_walk.proofs.Flags.{posts_bits}
 use Rattle.evm_walk.proofs.Locks.{either, up, same}
 use Rattle.evm_walk.proofs.Semaphores.{puts_into}
-use Rattle.evm_walk.proofs.Walk.{Actor, ArePipes, Untouched, Makes, put_by, posted_by, CountedBy, by_line, WrittenBy, by_line as posts_line, IsAction, sets_action, Walk, quietly, slack}
+use Rattle.evm_walk.proofs.Walk.{Actor, ArePipes, Untouched, Makes, put_by, posted_by, by_line, by_line as posts_line, IsAction, sets_action, Walk, quietly, slack}
 
 -- ---- what an action does
 -- the bit of a line is one of the word's

@@ -4,6 +4,7 @@ use Rattle.std.specs.Prelude.{slice_get, is_none, nat_lt, nat_le, not, ◌&&◌,
 use Rattle.std.proofs.lemmas.Bool.Decides.{nat_tests, eqb_tells}
 use Rattle.evm_exec.specs.Registers.{register_of}
 use Rattle.evm_exec.specs.declared.hart.Hart.{Hart}
+use Rattle.evm_model.specs.Bounds.{PER_CALL}
 use Rattle.evm_model.specs.Calls.{call_number, numbered, all_calls, call_of, call_stage, perform, is_weak_oob, return_weak, answered, finish_call, ask_oob, call_on, call_known, call_of_hart, call}
 use Rattle.evm_model.specs.Harts.{A0, A7, argument, advance, answer}
 use Rattle.evm_model.specs.InBandCalls.{exit, putc, yield_now, is_bad_entry, add_task, spawn, wait_line_unless, wait_line, attach_as, attach, detach}
@@ -282,6 +283,10 @@ module _ (a : Actor) (old k : Parts) (t : ℕ) (own : a.task ≡ Some t) (fresh 
   calls_hart None may has = slack a old 0 1 0 65 k (λ p. omega arith) (λ p. omega arith) w
   calls_hart (Some x) may has = calls_known (rw (ap length (sym fresh.harts)) (slice_get-below k.harts t x has)) (call_of (register_of x.regs A7)) x may has refl
 
-  pub walks_call : a.calls ≡ true → Walk a old 1 65 (call a.cpu t k)
+  pub walks_closely : a.calls ≡ true → Walk a old 1 65 (call a.cpu t k)
   unfolding call
-  walks_call may = calls_hart (slice_get k.harts t) may refl
+  walks_closely may = calls_hart (slice_get k.harts t) may refl
+
+  -- .. with room to spare
+  pub walks_call : a.calls ≡ true → Walk a old 1 PER_CALL (call a.cpu t k)
+  walks_call may = slack a old 1 1 65 PER_CALL _ (λ p. omega arith) (λ p. omega arith) (walks_closely may)

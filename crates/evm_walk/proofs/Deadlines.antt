@@ -1,9 +1,8 @@
 -- The waits whose deadlines have come end: a walk; and so is the sleep.
-use Rattle.std.proofs.Common.{◌≡◌, ℕ, zero, suc, ◌+◌, ◌≤◌, Bool, true, false, Option, Some, None, length, refl, sym, ◌∙◌, arith}
+use Rattle.std.proofs.Common.{◌≡◌, ℕ, zero, suc, ◌+◌, true, false, Option, Some, None, length, refl, arith}
 use Rattle.std.specs.Prelude.{slice_get, nat_le, not, ◌==◌, ◌&&◌}
 use Rattle.std.proofs.lemmas.Bool.Decides.{nat_tests}
 use Rattle.evm_model.specs.Deadlines.{sleep_until, deadline, is_due_task, is_due, next_due, end_wait_for, end_wait_in, end_wait_of, end_wait, end_next, end_rounds, end_waits}
-use Rattle.evm_model.specs.Ranks.{first}
 use Rattle.evm_model.specs.Stages.{is_stalled, wait_refusal}
 use Rattle.evm_model.specs.State.{Parts}
 use Rattle.evm_model.specs.declared.stage.Stage.TheVariants.{OutOfBand}

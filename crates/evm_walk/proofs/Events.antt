@@ -13,7 +13,7 @@ use Rattle.evm_model.specs.Passing.{pass_to, pass_on}
 use Rattle.evm_model.specs.Stages.{is_stalled, late, or_else, wait_refusal}
 use Rattle.evm_model.specs.State.{Parts, on_event, on_mutex}
 use Rattle.evm_model.specs.Tasks.{restamp}
-use Rattle.evm_model.specs.Waits.{first_waiter, begin_wait, wake}
+use Rattle.evm_model.specs.Waits.{first_waiter, wake}
 use Rattle.evm_model.specs.declared.errno.Errno.{Errno}
 use Rattle.evm_model.specs.declared.errno.Errno.TheVariants.{NotPermitted}
 use Rattle.evm_model.specs.declared.limits.TheConstants.{EVENT_LIMIT}

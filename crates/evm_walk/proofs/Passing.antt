@@ -22,7 +22,7 @@ use Rattle.evm_model.proofs.Lists.{length-change, change-cases, change-here, cha
 use Rattle.evm_walk.proofs.Tasks.{stalls_stage, leaves}
 use Rattle.evm_walk.proofs.Twice.{change-twice}
 use Rattle.evm_walk.proofs.Waiters.{AtLock, locks, reacquires, IsWaiter, first_is, lock_is}
-use Rattle.evm_walk.proofs.Walk.{Actor, Cause, IsPassed, passed, passed_back, task, wakes, gives, holds, Walk, quietly, stamped, slack, walk_if}
+use Rattle.evm_walk.proofs.Walk.{Actor, IsPassed, passed, passed_back, task, wakes, gives, holds, Walk, quietly, stamped, slack, walk_if}
 
 -- ---- another mutex, and how many tasks there are
 elsewhere_to : (o : Option ℕ) (m i : ℕ) (k : Parts) → (i ≡ m → ⊥) → slice_get (pass_to o m k).mutexes i ≡ slice_get k.mutexes i

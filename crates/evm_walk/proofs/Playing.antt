@@ -12,7 +12,6 @@ use Rattle.evm_model.specs.Errnos.{refusal_answer}
 use Rattle.evm_model.specs.Events.{bound, reacquire_from, reacquire_of, reacquire}
 use Rattle.evm_model.specs.Flags.{post_to, post_known, post}
 use Rattle.evm_model.specs.Good.{IsPipe}
-use Rattle.evm_model.specs.Lists.{change}
 use Rattle.evm_model.specs.Pipes.{Pipe, arrive, play}
 use Rattle.evm_model.specs.Ranks.{is_oob_ready}
 use Rattle.evm_model.specs.Mutexes.{owner, held_by}

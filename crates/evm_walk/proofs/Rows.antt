@@ -36,7 +36,7 @@ use Rattle.evm_model.specs.declared.processor.Processor.{Processor}
 use Rattle.evm_model.specs.declared.task.TaskState.TheVariants.{Faulted}
 use Rattle.evm_model.specs.declared.refusal.Refusal.TheVariants.{NoSuchLine}
 use Rattle.evm_model.proofs.Lists.{change-here}
-use Rattle.evm_walk.proofs.Calls.{walks_call}
+use Rattle.evm_walk.proofs.Calls.{walks_closely}
 use Rattle.evm_walk.proofs.Passing.{ends}
 use Rattle.evm_walk.proofs.Playing.{first_on, stamps_all, stamps_few, walks_oob_lines, walks_in_band_lines}
 use Rattle.evm_walk.proofs.Refused.{passes, is_line}
@@ -151,7 +151,7 @@ module _ (a : Actor) (old : Parts) (t : ℕ) (own : a.task ≡ Some t) (b : Boar
   effects (Next rd value pc) may = went rd value _ (λ x. refl)
   effects (Load op rd address) may = loads (read address (width_of_load op) b.memory) op rd
   effects (Store width address value) may = stores (write address width value b.memory)
-  effects Call may = walks_call a old b.parts t own fresh w (may refl)
+  effects Call may = walks_closely a old b.parts t own fresh w (may refl)
   effects Breaks may = quietly a old 1 65 (on_hart t advance b.parts) _ (marks (λ p. record p { stopped = true }) (on_hart t advance b.parts) (λ p. refl)) (went 0 0 advance (λ x. refl))
   effects Misaligned may = faulted _
 

@@ -117,13 +117,17 @@ module _ (a : Actor) (old : Parts) where
   walk_profile _ _ _ start = refl
   walk_profile _ _ _ (next m n s u i j k x h g d w) = does_profile i j k x d ∙ walk_profile m s k w
 
-  does_ticks : (i j : ℕ) (k x : Parts) → a.may 0 0 ≡ false → Does a old i j k x → x.ticks ≡ k.ticks
-  unfolding restamp set_policy set_slice wake begin_wait tick
-  does_ticks _ _ _ _ q (spends t x k runs there on) = of_spend (λ y. y.ticks ≡ k.ticks) t x.slice k refl refl
-  does_ticks _ _ _ _ q (clock k x) = let no : true ≡ false = sym (x 0) ∙ q in cc
-  does_ticks _ _ _ _ q _ = refl
+  module _ (d : ℕ) where
+    does_ticks : (i j : ℕ) (k x : Parts) → a.may d 0 ≡ false → Does a old i j k x → x.ticks ≡ k.ticks
+    unfolding restamp set_policy set_slice wake begin_wait tick
+    does_ticks _ _ _ _ q (spends t x k runs there on) = of_spend (λ y. y.ticks ≡ k.ticks) t x.slice k refl refl
+    does_ticks _ _ _ _ q (clock k x) = let no : true ≡ false = sym (x d) ∙ q in cc
+    does_ticks _ _ _ _ q _ = refl
 
-  -- where it may not tick
+    -- where it may not raise line 0 somewhere the clock stays
+    pub walk_ticks_at : (n s : ℕ) (k : Parts) → a.may d 0 ≡ false → Walk a old n s k → k.ticks ≡ old.ticks
+    walk_ticks_at _ _ _ q start = refl
+    walk_ticks_at _ _ _ q (next m n s u i j k x h g e w) = does_ticks i j k x q e ∙ walk_ticks_at m s k q w
+
   pub walk_ticks : (n s : ℕ) (k : Parts) → a.may 0 0 ≡ false → Walk a old n s k → k.ticks ≡ old.ticks
-  walk_ticks _ _ _ q start = refl
-  walk_ticks _ _ _ q (next m n s u i j k x h g d w) = does_ticks i j k x q d ∙ walk_ticks m s k q w
+  walk_ticks n s k q w = walk_ticks_at 0 n s k q w

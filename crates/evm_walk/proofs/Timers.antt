@@ -1,5 +1,5 @@
 -- One lemma a call on a timer: the call is a walk; and so is how timers expire.
-use Rattle.std.proofs.Common.{◌≡◌, ℕ, zero, suc, ◌+◌, ◌<◌, ◌≤◌, Bool, true, false, Option, Some, None, length, refl, ap, sym, ◌∙◌, arith}
+use Rattle.std.proofs.Common.{◌≡◌, ℕ, zero, suc, ◌+◌, ◌<◌, ◌≤◌, true, false, Option, Some, None, length, refl, ap, ◌∙◌, arith}
 use Rattle.std.specs.Prelude.{slice_get, option_map, nat_lt, nat_le, ◌==◌}
 use Rattle.std.proofs.lemmas.Bool.Decides.{nat_tests}
 use Rattle.evm_exec.specs.declared.hart.Hart.{Hart}

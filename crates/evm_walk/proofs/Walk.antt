@@ -24,7 +24,7 @@ use Rattle.evm_model.specs.Tasks.{restamp, set_policy, is_round_robin, spend_sli
 use Rattle.evm_model.specs.Timers.{idle_timer, set_timer, taken, is_due_timer, expired}
 use Rattle.evm_model.specs.Waits.{wake, begin_wait}
 use Rattle.evm_model.specs.declared.action.Action.{Action}
-use Rattle.evm_model.specs.declared.action.Action.TheVariants.{Nothing, Puts, Posts}
+use Rattle.evm_model.specs.declared.action.Action.TheVariants.{Puts, Posts}
 use Rattle.evm_model.specs.declared.errno.Errno.TheVariants.{TimedOut}
 use Rattle.evm_model.specs.declared.limits.TheConstants.{EVENT_LIMIT, FLAGS_LIMIT, FLAGS_WORD_LIMIT, MUTEX_LIMIT, SEMAPHORE_COUNT_LIMIT, SEMAPHORE_LIMIT, TASK_LIMIT, TIMER_LIMIT, TIMER_SPAN_LIMIT}
 use Rattle.evm_model.specs.declared.mutex.Mutex.{Mutex}
