@@ -128,7 +128,7 @@ locks-retake mutexes tasks t m u f h few own free l =
     locks-wait mutexes tasks t m u f h few own (free-meets (waits_on mutexes tasks) t TASK_LIMIT (Some u) leads (λ same. free m (own ∙ same))) l
 
 -- ---- mutex m has another owner
-option-owner : (g : Mutex → Mutex) (o : Option Mutex) (w t : ℕ) → ((x : Mutex) → (g x).owner ≡ Some w) → owner_of (option_map g o) ≡ Some t → t ≡ w
+pub option-owner : (g : Mutex → Mutex) (o : Option Mutex) (w t : ℕ) → ((x : Mutex) → (g x).owner ≡ Some w) → owner_of (option_map g o) ≡ Some t → t ≡ w
 option-owner g None w t h e = cc
 option-owner g (Some x) w t h e = let it : Some t ≡ Some w = sym e ∙ h x in cc
 
