@@ -29,19 +29,10 @@ use Rattle.evm_rules.proofs.Locks.{locks-push}
 use Rattle.evm_rules.proofs.Passing.{but-mutexes, but-owned, pass_on-stirs}
 use Rattle.evm_rules.proofs.Settling.{GoodBut}
 use Rattle.evm_rules.proofs.Waited.{events-push}
-use Rattle.evm_rules.proofs.Done.{IsDone, either, stirs-done, unless-done}
+use Rattle.evm_rules.proofs.Done.{IsDone, either, may-wait, not-closed, stirs-done, unless-done}
 
 room-mutex : (k : Parts) → nat_le MUTEX_LIMIT (length k.mutexes) ≡ false → length k.mutexes < MUTEX_LIMIT
 room-mutex k e = grind (arith, nat_tests)
-
-pub not-closed : (c : ℕ) (k : Parts) → is_stalled OutOfBand c k ≡ false → IsOpen c k
-not-closed c k e = record { open_there = λ pipe h. rw h at e }
-
--- a call that may wait
-pub may-wait : (stalled : Bool) (own : Option Errno) (now deadline : ℕ) → wait_refusal stalled own now deadline ≡ None → (stalled ≡ false) × (own ≡ None)
-may-wait true own now deadline e = cc
-may-wait false None now deadline e = (refl, refl)
-may-wait false (Some x) now deadline e = cc
 
 no-cycle : (b : Bool) → (if b then Some Deadlock else None) ≡ None → b ≡ false
 no-cycle true e = cc

@@ -23,7 +23,7 @@ use Rattle.evm_model.specs.declared.timer.Timer.{Timer}
 use Rattle.evm_walk.proofs.Waiters.{first-waits}
 use Rattle.evm_rules.proofs.Firsts.{eqb-is}
 use Rattle.evm_rules.proofs.Locks.{locks-owned, locks-freed, locks-retake}
-use Rattle.evm_rules.proofs.Shapes.{IsShaped, shaped-hart, shaped-with, shaped-task, shaped-restamp, shaped-mutexes, shaped-others}
+use Rattle.evm_rules.proofs.Shapes.{IsShaped, shaped-hart, shaped-with, shaped-task, shaped-restamp, shaped-mutexes, shaped-events, shaped-others}
 use Rattle.evm_rules.proofs.Waited.{events-fewer, fewer_events-change, events-owned, events-freed, deadlines-change}
 use Rattle.evm_rules.proofs.Waking.{AreAlike, alike-none, alike-then, alike-idle, alike-change, woken-lockless, woken-eventless, shaped-woken}
 
@@ -75,6 +75,9 @@ stirs-restamp t k s = record {
 
 pub stirs-mutexes : (k : Parts) (mutexes : List Mutex) → AreLocks mutexes k.tasks → AreEvents k.events mutexes k.tasks → IsShaped k → Stirs k (record k { mutexes = mutexes })
 stirs-mutexes k mutexes locks events s = record { pipes = refl; processors = refl; size = refl; alike = λ d. alike-none d k.tasks; shape = shaped-mutexes k mutexes locks events s }
+
+pub stirs-events : (k : Parts) (events : List (Option ℕ)) → AreEvents events k.mutexes k.tasks → IsShaped k → Stirs k (record k { events = events })
+stirs-events k events named s = record { pipes = refl; processors = refl; size = refl; alike = λ d. alike-none d k.tasks; shape = shaped-events k events named s }
 
 -- what no rule looks at
 pub stirs-others : (k : Parts) (semaphores flags : List ℕ) (timers : List Timer) (actions : List Action) (console : List ℕ)
