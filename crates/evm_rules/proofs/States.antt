@@ -30,11 +30,11 @@ use Rattle.evm_model.specs.declared.boot.Boot.{Boot}
 use Rattle.evm_model.specs.declared.event.Answer.{Answer}
 use Rattle.evm_model.specs.Event.{Event}
 use Rattle.evm_model.specs.declared.event.Event.TheVariants.{Step, Tick, Raise, Bell, Stop, Go, StepI, SetReg, SetPc, Poke, Break, Unbreak}
-use Rattle.evm_model.specs.declared.limits.TheConstants.{PROCESSOR_LIMIT, CAPACITY_LIMIT, EVENT_LIMIT}
+use Rattle.evm_model.specs.declared.limits.TheConstants.{PROCESSOR_LIMIT, CAPACITY_LIMIT, EVENT_LIMIT, TIMER_LIMIT}
 use Rattle.evm_model.specs.declared.processor.Processor.{Processor}
 use Rattle.evm_model.proofs.Lists.{slice_get-replicate, slice_get-slice_set}
 use Rattle.evm_walk.proofs.Counted.{walk_counted}
-use Rattle.evm_walk.proofs.Amounts.{walk_amounts, walk_flags, walk_timers, walk_events, walk_actions}
+use Rattle.evm_walk.proofs.Amounts.{walk_amounts, walk_flags, walk_timers, walk_few_events, walk_actions}
 use Rattle.evm_walk.proofs.Held.{held_more, walk_holds}
 use Rattle.evm_walk.proofs.Rows.{MOVES, acting, may_raise, row_walks}
 use Rattle.evm_walk.proofs.Sizes.{walk_sizes, walk_most, walk_profile, walk_ticks}
@@ -89,15 +89,15 @@ allowed : (s : State) (event : Event) (full : Bool) → (if full then Some Full 
 allowed s event true e = cc
 allowed s event false e = (refl, e)
 
-pub few-of : (k : Parts) → Good k → AreFew k
-few-of k g = record { pipes = record { each = g.pipes }; tasks = g.few_tasks; mutexes = g.locks.few }
+pub few-of : (k : Parts) → Good k → length k.timers ≤ TIMER_LIMIT → AreFew k
+few-of k g timers = record { pipes = record { each = g.pipes }; tasks = g.few_tasks; mutexes = g.locks.few; timers = timers }
 
 pub accepted-good : (s : State) (event : Event) → is_full s ≡ false → board_refusal event s.board ≡ None → GoodState s → GoodState (accept event (row event s.board) s).0
 accepted-good s event f e g =
     let k : Parts = s.board.parts in
     let new : Parts = (row event s.board).0.parts in
     let a : Actor = acting event k in
-    let few : AreFew k = few-of k g.good in
+    let few : AreFew k = few-of k g.good g.timers.few in
     let w : Walk a k MOVES STAMPS_PER_EVENT new = row_walks event s.board e in
     let size = walk_sizes a k MOVES STAMPS_PER_EVENT new w in
     let room : length s.journal < s.boot.capacity = leb-false s.boot.capacity (length s.journal) f in
@@ -115,9 +115,9 @@ accepted-good s event f e g =
       stamps = omega (arith, walk_most a k MOVES STAMPS_PER_EVENT new few w, g.stamps, grown);
       counts = PipesUpTo-more (before + MOVES) after new.pipes (omega arith) (walk_counted a k MOVES STAMPS_PER_EVENT before new w few.pipes g.counts);
       semaphores = walk_amounts a k MOVES STAMPS_PER_EVENT new w g.semaphores;
-      flags = walk_flags a k MOVES STAMPS_PER_EVENT new w g.flags;
+      flags = walk_flags a k few.pipes MOVES STAMPS_PER_EVENT new w g.flags;
       timers = walk_timers a k MOVES STAMPS_PER_EVENT new w g.timers;
-      few_events = walk_events a k MOVES STAMPS_PER_EVENT new w g.few_events;
+      few_events = walk_few_events a k MOVES STAMPS_PER_EVENT new w g.few_events;
       actions = walk_actions a k MOVES STAMPS_PER_EVENT new w g.actions;
       holds = held_more (before + 1 + MOVES) after new.mutexes (omega arith)
           (walk_holds a k MOVES STAMPS_PER_EVENT new (before + 1) few.pipes (omega arith) w (held_more before (before + 1) k.mutexes (omega arith) g.holds));
