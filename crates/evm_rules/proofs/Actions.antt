@@ -1,5 +1,5 @@
 -- The call that gives a line its action leaves the state good but for what its processor settles.
-use Rattle.std.proofs.Common.{◌≡◌, ℕ, Option, Some, None}
+use Rattle.std.proofs.Common.{ℕ, Option, Some, None}
 use Rattle.std.specs.Prelude.{nat_lt, nat_le}
 use Rattle.evm_model.specs.Actions.{action_of, set_line_to, set_line}
 use Rattle.evm_model.specs.Good.{IsOwn}

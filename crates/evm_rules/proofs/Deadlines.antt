@@ -1,5 +1,5 @@
 -- A sleep leaves the state good but for what its processor settles.
-use Rattle.std.proofs.Common.{◌≡◌, ℕ, refl}
+use Rattle.std.proofs.Common.{ℕ, refl}
 use Rattle.std.specs.Prelude.{nat_le}
 use Rattle.evm_model.specs.Deadlines.{sleep_until}
 use Rattle.evm_model.specs.Good.{IsOwn}

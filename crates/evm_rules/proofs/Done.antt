@@ -1,6 +1,6 @@
 -- What a call leaves.
 use Rattle.std.proofs.Common.{◌≡◌, ℕ, List, Bool, true, false, Option, Some, None, refl}
-use Rattle.std.specs.Prelude.{slice_get, if◌then◌else◌}
+use Rattle.std.specs.Prelude.{if◌then◌else◌}
 use Rattle.evm_model.specs.Good.{IsOwn, event_of}
 use Rattle.evm_model.specs.Mutexes.{lock_of}
 use Rattle.evm_model.specs.Stages.{is_stalled, wait_refusal, wait_unless}

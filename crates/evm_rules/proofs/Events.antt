@@ -1,11 +1,11 @@
 -- Each call on an event leaves the state good but for what its processor settles.
-use Rattle.std.proofs.Common.{◌≡◌, ℕ, zero, suc, ◌<◌, List, Bool, true, false, not, ◌&&◌, Option, Some, None, length, refl, ap, sym, ◌∙◌, arith}
-use Rattle.std.specs.Prelude.{slice_get, option_map, nat_le, ◌==◌, if◌then◌else◌}
+use Rattle.std.proofs.Common.{◌≡◌, ℕ, zero, suc, ◌<◌, List, Bool, true, false, not, Option, Some, None, length, refl, ap, sym, ◌∙◌, arith}
+use Rattle.std.specs.Prelude.{slice_get, nat_le, ◌==◌, if◌then◌else◌}
 use Rattle.std.proofs.lemmas.Bool.Decides.{nat_tests}
 use Rattle.evm_ranks.specs.Boosts.{is_number}
 use Rattle.evm_model.proofs.Lists.{change-here, slice_get-below}
 use Rattle.evm_model.specs.Events.{add_event, new_event, bound, bound_of, has_other, holds_alone, holding_refusal, begin_event_wait, event_wait_unless, event_wait_with, event_wait_known, event_wait, signal_to, signal_first, signal_rounds, signal_known, signal, broadcast}
-use Rattle.evm_model.specs.Good.{IsOwn, is_mutex, is_ready}
+use Rattle.evm_model.specs.Good.{IsOwn, is_mutex}
 use Rattle.evm_model.specs.Lists.{change}
 use Rattle.evm_model.specs.Mutexes.{owner, freed, lock_of, lock_of_task, lock_at, owns_any}
 use Rattle.evm_model.specs.Passing.{pass_on}
@@ -28,7 +28,7 @@ use Rattle.evm_rules.proofs.Done.{IsDone, either, may-wait, not-closed, stirs-do
 use Rattle.evm_rules.proofs.Firsts.{IsOobOwn, both}
 use Rattle.evm_rules.proofs.Passing.{pass_on-stirs, pass_on-events, pass_on-mutexes, pass_on-owner, owns-none}
 use Rattle.evm_rules.proofs.Settling.{GoodBut}
-use Rattle.evm_rules.proofs.Shapes.{IsShaped, shaped-events}
+use Rattle.evm_rules.proofs.Shapes.{IsShaped}
 use Rattle.evm_rules.proofs.Stirring.{Stirs, stirs-none, stirs-then, stirs-events, reacquire-stirs, first-awaits}
 use Rattle.evm_rules.proofs.Waited.{events-add, events-set}
 use Rattle.evm_rules.proofs.Waking.{alike-oob_own}

@@ -1,5 +1,5 @@
 -- Each call on a flag group leaves the state good but for what its processor settles.
-use Rattle.std.proofs.Common.{◌≡◌, ℕ, List, Option, Some, None, length, refl}
+use Rattle.std.proofs.Common.{ℕ, List, Option, Some, None, length, refl}
 use Rattle.std.specs.Prelude.{slice_get, nat_lt, nat_le, ◌==◌}
 use Rattle.evm_model.specs.Flags.{add_flags, new_flags, flags_wait_known, flags_wait, flags_post_of, flags_post_known, flags_post, post}
 use Rattle.evm_model.specs.Good.{IsOwn}

@@ -6,16 +6,16 @@ use Rattle.evm_model.specs.Actions.{act, action_at}
 use Rattle.evm_model.specs.Deadlines.{next_due, end_wait_for, end_wait_in, end_wait_of, end_wait, end_next, end_rounds, end_waits}
 use Rattle.evm_model.specs.Errnos.{refusal_answer}
 use Rattle.evm_model.specs.Flags.{post_to, post_known, post}
-use Rattle.evm_model.specs.Good.{event_of_task, event_at, is_ready}
+use Rattle.evm_model.specs.Good.{event_of_task, event_at}
 use Rattle.evm_model.specs.Lists.{change}
 use Rattle.evm_model.specs.Pipes.{Pipe, arrive, play}
 use Rattle.evm_model.specs.Ranks.{is_oob_ready}
 use Rattle.evm_model.specs.Semaphores.{sem_put_to, sem_put_known, sem_put}
 use Rattle.evm_model.specs.Settle.{spend, play_tick, handle_oob, play_oob, play_oob_lines}
 use Rattle.evm_model.specs.State.{Parts, on_flags, on_pipe}
-use Rattle.evm_model.specs.Tasks.{restamp, set_slice, spend_slice, spend_task, is_round_robin}
+use Rattle.evm_model.specs.Tasks.{set_slice, spend_slice, spend_task, is_round_robin}
 use Rattle.evm_model.specs.Timers.{is_due_timer, expired, taken, expire_to, expire_known, expire, expire_below, expire_timers}
-use Rattle.evm_model.specs.Waits.{first_waiter, wake}
+use Rattle.evm_model.specs.Waits.{first_waiter}
 use Rattle.evm_model.specs.declared.action.Action.{Action}
 use Rattle.evm_model.specs.declared.action.Action.TheVariants.{Nothing, Puts, Posts}
 use Rattle.evm_model.specs.declared.call.Outcome.{Outcome}

@@ -8,10 +8,8 @@ use Rattle.evm_model.specs.Good.{IsOwn, event_of, event_of_task, event_at, is_re
 use Rattle.evm_model.specs.Locks.{with_ceiling, mutex_of, add_mutex, new_mutex_as, new_mutex, take_mutex, lock_again, cycle_refusal, lock_other, lock_owned, lock_known, lock, try_owned, try_known, try_lock, unlock_once, unlock_known, unlock}
 use Rattle.evm_model.specs.Mutexes.{owner, owner_of, free_mutex, held_by, lock_of, lock_of_task, lock_at, waits_on}
 use Rattle.evm_model.specs.Passing.{pass_on}
-use Rattle.evm_model.specs.Stages.{is_stalled, wait_refusal, wait_unless}
+use Rattle.evm_model.specs.Stages.{is_stalled, wait_refusal}
 use Rattle.evm_model.specs.State.{Parts, on_mutex}
-use Rattle.evm_model.specs.Waits.{begin_wait}
-use Rattle.evm_model.specs.declared.errno.Errno.{Errno}
 use Rattle.evm_model.specs.declared.errno.Errno.TheVariants.{Deadlock}
 use Rattle.evm_model.specs.declared.call.Outcome.{Outcome}
 use Rattle.evm_model.specs.declared.limits.TheConstants.{TASK_LIMIT, MUTEX_LIMIT, PRIORITY_LIMIT}
@@ -21,9 +19,8 @@ use Rattle.evm_model.specs.declared.mutex.Protocol.TheVariants.{Inheritance, Cei
 use Rattle.evm_model.specs.declared.stage.Stage.TheVariants.{OutOfBand}
 use Rattle.evm_model.specs.declared.task.TaskState.{TaskState}
 use Rattle.evm_model.specs.declared.task.TaskState.TheVariants.{InReady, OobReady}
-use Rattle.evm_model.specs.declared.task.Wait.{Wait}
 use Rattle.evm_model.specs.declared.task.Wait.TheVariants.{Lock}
-use Rattle.evm_rules.proofs.Acting.{IsOpen, but-waits}
+use Rattle.evm_rules.proofs.Acting.{but-waits}
 use Rattle.evm_rules.proofs.Firsts.{IsOobOwn}
 use Rattle.evm_rules.proofs.Locks.{locks-push}
 use Rattle.evm_rules.proofs.Passing.{but-mutexes, but-owned, pass_on-stirs}

@@ -5,7 +5,6 @@ use Rattle.std.proofs.Math.Nat.{eq-or-lt_of_le}
 use Rattle.std.proofs.lemmas.Bool.{cases_eq}
 use Rattle.evm_ranks.specs.Boosts.{is_number}
 use Rattle.evm_model.proofs.Lists.{change-here, change-elsewhere, length-change, slice_get-below}
-use Rattle.evm_model.specs.Events.{bound}
 use Rattle.evm_model.specs.Good.{IsOwn, AreLocks, AreEvents, event_of, event_at, is_ready}
 use Rattle.evm_model.specs.Lists.{change}
 use Rattle.evm_model.specs.Mutexes.{owner, owner_of, held_by, freed, lock_of, lock_of_task, lock_at, owns_below, owns_any}

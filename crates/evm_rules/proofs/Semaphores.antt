@@ -1,5 +1,5 @@
 -- Each call on a semaphore leaves the state good but for what its processor settles.
-use Rattle.std.proofs.Common.{◌≡◌, ℕ, List, Option, Some, None, length, refl}
+use Rattle.std.proofs.Common.{ℕ, List, Option, Some, None, length, refl}
 use Rattle.std.specs.Prelude.{slice_get, nat_lt, nat_le, ◌==◌}
 use Rattle.evm_model.specs.Good.{IsOwn}
 use Rattle.evm_model.specs.Semaphores.{add_semaphore, new_semaphore, sem_get_known, sem_get, sem_try_get_known, sem_try_get, sem_put}

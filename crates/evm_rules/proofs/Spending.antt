@@ -1,5 +1,5 @@
 -- What out-of-band plays leave, beside their own pipe, and how many stamps they give.
-use Rattle.std.proofs.Common.{◌≡◌, ℕ, zero, suc, ◌+◌, ◌≤◌, List, Bool, true, false, Option, Some, None, length, refl, ◌∙◌, arith}
+use Rattle.std.proofs.Common.{◌≡◌, ℕ, zero, suc, ◌+◌, ◌≤◌, Bool, true, false, Option, Some, None, length, refl, ◌∙◌, arith}
 use Rattle.std.specs.Prelude.{slice_get, bit_or, nat_le, ◌&&◌, ◌^◌, if◌then◌else◌}
 use Rattle.evm_model.proofs.Lists.{length-change}
 use Rattle.evm_model.specs.Actions.{act}

@@ -379,8 +379,8 @@ pub holds_room : (s : State) → GoodState s → HeldUpTo COUNT_LIMIT s.board.pa
 holds_room s g = let few : length s.journal ≤ CAPACITY_LIMIT = few_events s g in
     record { count = λ m mutex e. let some = g.holds.count m mutex e in omega (arith, some, few) }
 
--- stamps are at most 2 ^ 33
-pub stamps_room : (s : State) → GoodState s → s.board.parts.stamps ≤ 2 ^ 33
+-- stamps are at most 2 ^ 34
+pub stamps_room : (s : State) → GoodState s → s.board.parts.stamps ≤ 2 ^ 34
 stamps_room s g = let few : length s.journal ≤ CAPACITY_LIMIT = few_events s g in omega (arith, g.stamps)
 
 -- ticks are at most 2 ^ 20

@@ -1,14 +1,12 @@
 -- Tasks that waited wake, or wait for something else.
-use Rattle.std.proofs.Common.{◌≡◌, ℕ, ◌<◌, ◌%◌, List, Bool, true, false, not, Option, Some, None, length, refl, ap, sym, ◌∙◌, inl, inr, eq-eqb}
+use Rattle.std.proofs.Common.{◌≡◌, ℕ, ◌<◌, List, Bool, true, false, not, Option, Some, None, length, refl, ap, sym, ◌∙◌}
 use Rattle.std.specs.Prelude.{slice_get, option_map, ◌&&◌, if◌then◌else◌}
-use Rattle.std.proofs.lemmas.Bool.{cases_eq}
-use Rattle.evm_model.proofs.Lists.{change-here, change-elsewhere, length-change, slice_get-below}
+use Rattle.evm_model.proofs.Lists.{change-here, length-change, slice_get-below}
 use Rattle.evm_model.specs.Events.{bound, reacquire_from, reacquire_of, reacquire}
 use Rattle.evm_model.specs.Good.{AreEvents, AreLocks, event_of, event_of_task, event_at, is_ready}
 use Rattle.evm_model.specs.Harts.{A0, set_register}
 use Rattle.evm_model.specs.Lists.{change}
-use Rattle.evm_model.specs.Mutexes.{owner, held_by, freed, lock_of, lock_of_task, lock_at, owns_any}
-use Rattle.evm_model.specs.Pipes.{Pipe}
+use Rattle.evm_model.specs.Mutexes.{owner, held_by, freed, lock_of_task, lock_at, owns_any}
 use Rattle.evm_model.specs.State.{Parts, on_hart, on_task, on_mutex}
 use Rattle.evm_model.specs.Tasks.{restamp, is_weak}
 use Rattle.evm_model.specs.Waits.{is_wait_for, awaits_task, first_waiter, begin_wait, woken, wake}

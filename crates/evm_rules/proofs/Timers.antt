@@ -1,5 +1,5 @@
 -- Each call on a timer leaves the state good but for what its processor settles.
-use Rattle.std.proofs.Common.{◌≡◌, ℕ, List, Option, Some, None, length, refl}
+use Rattle.std.proofs.Common.{ℕ, List, Option, Some, None, length, refl}
 use Rattle.std.specs.Prelude.{slice_get, nat_lt, nat_le, ◌==◌}
 use Rattle.evm_model.specs.Good.{IsOwn}
 use Rattle.evm_model.specs.State.{Parts}
