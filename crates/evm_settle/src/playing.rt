@@ -8,7 +8,7 @@ use evm_parts::Parts;
 
 // Plays the timer's line: it goes on into the in-band log, waits end by their deadlines, timers expire, and the slice of
 // the task that was current takes a tick.
-#[tactic(auto, unfolding(evm_model::specs::Settle::play_tick))]
+#[tactic(auto, using(crate::proofs::Rooms::clocks), unfolding(evm_model::specs::Settle::play_tick))]
 fn play_tick(parts: &mut Parts, was: Option<u8>, c: u8)
     requires room { PipesUpTo COUNT_LIMIT parts.old.pipes }
     requires stamps { HasStamps PER_OOB_LINE parts.old }
@@ -23,7 +23,7 @@ fn play_tick(parts: &mut Parts, was: Option<u8>, c: u8)
 }
 
 // Plays a line out-of-band: the timer's line, or one that does what its action says.
-#[tactic(auto, using(crate::proofs::Rooms::rooms), unfolding(evm_model::specs::Settle::play_oob))]
+#[tactic(auto, using(crate::proofs::Rooms::rooms, crate::proofs::Rooms::clocks), unfolding(evm_model::specs::Settle::play_oob))]
 fn play_oob(parts: &mut Parts, was: Option<u8>, c: u8, line: u8)
     requires line { line < LINES }
     requires room { PipesUpTo (COUNT_LIMIT - 1) parts.old.pipes }
@@ -49,7 +49,8 @@ pub(crate) fn play_oob_lines(parts: &mut Parts, was: Option<u8>, c: u8, lines: L
     requires room { PipesUpTo (COUNT_LIMIT - PER_OOB_LOG) parts.old.pipes }
     requires stamps { HasStamps PER_OOB_LOG parts.old }
     requires clock { parts.old.ticks ≤ COUNT_LIMIT }
-    ensures { parts.new ≡ play_oob_lines was c lines parts.old }
+    ensures row { parts.new ≡ play_oob_lines was c lines parts.old }
+    ensures stamps { parts.new.stamps ≤ parts.old.stamps + PER_OOB_LOG }
 {
     let mut left = lines;
     'playing: while let Some(line) = left.pop() {

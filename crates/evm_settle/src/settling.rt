@@ -18,6 +18,7 @@ fn play_oob_log(parts: &mut Parts, was: Option<u8>, c: u8) -> bool
     requires stamps { HasStamps PER_OOB_LOG parts.old }
     requires clock { parts.old.ticks ≤ COUNT_LIMIT }
     ensures row { parts.new ≡ play_oob_pipe (slice_get parts.old.pipes c) was c parts.old }
+    ensures stamps { parts.new.stamps ≤ parts.old.stamps + PER_OOB_LOG }
     ensures chooses { result ≡ chooses (slice_get parts.old.pipes c) }
 {
     let Some(pipe) = parts.pipe(c) else {

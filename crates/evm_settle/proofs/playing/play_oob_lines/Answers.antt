@@ -12,7 +12,7 @@ pub play_oob-requires-clause-room : goal.play_oob-requires-clause-room
 play_oob-requires-clause-room c = let shorter = ap length c.in-Some.ensures.least in PipesUpTo-more _ _ _ (omega arith) c.playing.invariant.room
 
 pub play_oob-requires-clause-stamps : goal.play_oob-requires-clause-stamps
-play_oob-requires-clause-stamps c = let shorter = ap length c.in-Some.ensures.least in omega (arith, c.playing.invariant.stamps)
+play_oob-requires-clause-stamps c = let shorter = ap length c.in-Some.ensures.least in omega (arith, shorter, c.requires.stamps, c.playing.invariant.stamps)
 
 pub playing-preserved : goal.playing-preserved
 unfolding play_oob_lines
