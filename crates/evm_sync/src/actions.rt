@@ -47,8 +47,9 @@ impl Actions {
     pub fn set(&mut self, line: u8, action: Action)
         ensures { self.new ≡ change (λ _. action) self.old line }
     {
-        if let Some(entry) = self.actions.get_mut(line as usize) {
-            *entry = action;
+        let index = line as usize;
+        if self.actions.get(index).is_some() {
+            self.actions[index] = action;
         }
     }
 }
