@@ -1,3 +1,5 @@
 pub mod Chosen
+pub mod Expiries
 pub mod Passes
+pub mod Rounds
 pub mod Wakes

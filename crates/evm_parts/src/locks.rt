@@ -90,7 +90,8 @@ impl Parts {
         self.mutexes.first_waiter(wait, &self.tasks)
     }
 
-    /// A task that waited for a mutex owns it and wakes; if there is none, the mutex is free.
+    /// A task that waited for a mutex owns it and wakes, with the answer that it kept if it waited for it again; if there
+    /// is none, the mutex is free.
     #[tactic(auto, unfolding(evm_model::specs::Passing::pass_on))]
     pub fn pass_on(&mut self, m: u8)
         requires room { HasStamps 1 self.old }
@@ -100,8 +101,9 @@ impl Parts {
         match self.first_waiter(Wait::Lock(m)) {
             None => self.mutexes.leave(m),
             Some(t) => {
+                let kept = self.tasks.kept(t);
                 self.hold_mutex(t, m, 1);
-                self.wake(t, 0);
+                self.wake(t, kept);
             }
         }
     }
