@@ -1,15 +1,15 @@
 -- Room for counts, as an out-of-band play takes it up.
-use Rattle.std.proofs.Common.{◌≡◌, ℕ, Bool, true, false, Option, ◌-◌, ◌∙◌, arith}
-use Rattle.std.specs.Prelude.{◌==◌, if◌then◌else◌}
-use Rattle.evm_model.specs.Actions.{act, action_at}
+use Rattle.std.proofs.Common.{◌≡◌, ℕ, Option, ◌-◌, ◌∙◌, arith}
+use Rattle.evm_model.specs.Actions.{act}
 use Rattle.evm_model.specs.Bounds.{COUNT_LIMIT, PipesUpTo}
 use Rattle.evm_model.specs.Deadlines.{end_waits}
 use Rattle.evm_model.specs.Pipes.{arrive, play}
-use Rattle.evm_model.specs.Settle.{play_oob, play_tick}
+use Rattle.evm_model.specs.Settle.{play_tick}
 use Rattle.evm_model.specs.State.{Parts, on_pipe}
 use Rattle.evm_model.specs.Timers.{expire_timers}
+use Rattle.evm_model.specs.declared.action.Action.{Action}
 use Rattle.evm_model.specs.declared.stage.Stage.{Stage}
-use Rattle.evm_model.specs.declared.stage.Stage.TheVariants.{OutOfBand, InBand}
+use Rattle.evm_model.specs.declared.stage.Stage.TheVariants.{InBand}
 use Rattle.evm_rules.proofs.evm_walk.Counted.{PipesUpTo-more}
 use Rattle.evm_rules.proofs.Counting.{on_play-up}
 use Rattle.evm_rules.proofs.Spending.{end_waits-gives, expire_timers-gives, act-gives, of-spends}
@@ -25,23 +25,16 @@ room-less k h = PipesUpTo-more (COUNT_LIMIT - 1) COUNT_LIMIT k.pipes (omega arit
 pub waits-clock : (c : ℕ) (k : Parts) → (end_waits c k).ticks ≡ k.ticks
 waits-clock c k = (end_waits-gives c k).ticks
 
-tick-clock : (was : Option ℕ) (c : ℕ) (k : Parts) → (play_tick was c k).ticks ≡ k.ticks
+pub tick-clock : (was : Option ℕ) (c : ℕ) (k : Parts) → (play_tick was c k).ticks ≡ k.ticks
 unfolding play_tick
 tick-clock was c k =
     let arrived : Parts = on_pipe c (arrive InBand 0) k in
     let waited : Parts = end_waits c arrived in
     (of-spends was (expire_timers c waited)).ticks ∙ (expire_timers-gives c waited).ticks ∙ waits-clock c arrived
 
-if-clock : (timer : Bool) (x y k : Parts) → x.ticks ≡ k.ticks → y.ticks ≡ k.ticks → (if timer then x else y).ticks ≡ k.ticks
-if-clock true x y k e f = e
-if-clock false x y k e f = f
-
-pub play-clock : (was : Option ℕ) (c l : ℕ) (k : Parts) → (play_oob was c l k).ticks ≡ k.ticks
-unfolding play_oob
-play-clock was c l k =
-    let played : Parts = on_pipe c (play OutOfBand l) k in
-    if-clock (l == 0) (play_tick was c played) (act (action_at l played) l played) k (tick-clock was c played) (act-gives (action_at l played) l played).ticks
+pub act-clock : (action : Action) (l : ℕ) (k : Parts) → (act action l k).ticks ≡ k.ticks
+act-clock action l k = (act-gives action l k).ticks
 
 pub ruleset rooms = (room-play, room-less)
 
-pub ruleset clocks = (waits-clock, play-clock)
+pub ruleset clocks = (waits-clock)

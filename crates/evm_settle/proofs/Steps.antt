@@ -9,7 +9,7 @@ use Rattle.evm_model.specs.Settle.{play_oob, play_oob_lines, spend, run_best, se
 use Rattle.evm_model.specs.State.{Parts, on_pipe}
 use Rattle.evm_model.specs.declared.limits.TheConstants.{PROCESSOR_LIMIT}
 use Rattle.evm_model.specs.declared.stage.Stage.TheVariants.{OutOfBand, InBand}
-use Rattle.evm_rules.proofs.Bounded.{AreWithin, within-settle_oob, within-settle_in_band}
+use Rattle.evm_rules.proofs.Bounded.{AreWithin, within-more, within-settle_oob, within-settle_in_band}
 use Rattle.evm_rules.proofs.evm_walk.Counted.{PipesUpTo-more}
 use Rattle.evm_rules.proofs.Ranking.{AreRanked, ranked-same}
 use Rattle.evm_rules.proofs.Settling.{ranked-in_band}
@@ -56,7 +56,7 @@ room-first k w = PipesUpTo-more (COUNT_LIMIT - PER_SETTLING) (COUNT_LIMIT - PER_
 pub room-played : (was : Option ℕ) (c : ℕ) (k : Parts) → AreWithin (COUNT_LIMIT - PER_SETTLING) k → AreWithin (COUNT_LIMIT - PER_IN_BAND_LOG) (play_oob_pipe (slice_get k.pipes c) was c k)
 room-played was c k w =
     let x : Parts = play_oob_pipe (slice_get k.pipes c) was c k in
-    let all : AreWithin (COUNT_LIMIT - PER_IN_BAND_LOG) (settle_oob was c k) = within-settle_oob (COUNT_LIMIT - PER_SETTLING) was c k w in
+    let all : AreWithin (COUNT_LIMIT - PER_IN_BAND_LOG) (settle_oob was c k) = within-more (COUNT_LIMIT - PER_SETTLING + 64) (COUNT_LIMIT - PER_IN_BAND_LOG) (settle_oob was c k) (omega arith) (within-settle_oob (COUNT_LIMIT - PER_SETTLING) was c k w) in
     let same : x.pipes ≡ (settle_oob was c k).pipes = sym (choose-pipes c (chooses (slice_get k.pipes c)) x) ∙ ap (λ (z : Parts). z.pipes) (sym (settle_oob-steps was c k)) in
     record { are = rw same all.are; up = rw same all.up }
 

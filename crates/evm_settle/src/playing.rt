@@ -23,7 +23,7 @@ fn play_tick(parts: &mut Parts, was: Option<u8>, c: u8)
 }
 
 // Plays a line out-of-band: the timer's line, or one that does what its action says.
-#[tactic(auto, using(crate::proofs::Rooms::rooms, crate::proofs::Rooms::clocks), unfolding(evm_model::specs::Settle::play_oob))]
+#[tactic(auto, using(crate::proofs::Rooms::rooms), unfolding(evm_model::specs::Settle::play_oob))]
 fn play_oob(parts: &mut Parts, was: Option<u8>, c: u8, line: u8)
     requires line { line < LINES }
     requires room { PipesUpTo (COUNT_LIMIT - 1) parts.old.pipes }

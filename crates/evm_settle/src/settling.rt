@@ -1,5 +1,5 @@
 ghost use Rattle.evm_parts.specs.evm_boost.Scatter.{AreRanks};
-ghost use Rattle.std.specs.Prelude.{◌≡◌, ◌-◌, slice_get, Option};
+ghost use Rattle.std.specs.Prelude.{◌≡◌, ◌≤◌, ◌+◌, ◌-◌, slice_get, Option};
 ghost use Rattle.evm_model.specs.Bounds.{COUNT_LIMIT, PER_IN_BAND_LOG, PER_OOB_LOG, PER_SETTLING, HasStamps, PipesUpTo};
 ghost use Rattle.evm_model.specs.Ranks.{next_in_band};
 ghost use Rattle.evm_model.specs.Settle.{turn_in_band, settle_in_band, run_in_band, nudge, settle_and_nudge, play_in_band_pipe};

@@ -107,7 +107,7 @@ fn receives(parts: &mut Parts)
     requires room { AreWithin 98 parts.old }
     requires stamps { parts.old.stamps ≤ 64 }
 {
-    parts.receive(1, 1);
+    parts.receive_line(1, 1);
     settle_and_nudge(parts, Some(2), 1);
 }
 
