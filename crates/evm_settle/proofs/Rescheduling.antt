@@ -1,7 +1,7 @@
 -- Little has happened where a task's policy changes.
-use Rattle.std.proofs.Common.{◌≡◌, ℕ, ◌-◌, Bool, refl, ap, ◌∙◌, arith}
+use Rattle.std.proofs.Common.{◌≡◌, ℕ, ◌-◌, ◌≤◌, Bool, refl, ap, ◌∙◌, arith}
 use Rattle.std.specs.Prelude.{replicate}
-use Rattle.evm_model.specs.Bounds.{COUNT_LIMIT, PER_SETTLING, PipesUpTo}
+use Rattle.evm_model.specs.Bounds.{COUNT_LIMIT, PER_SETTLING, HasStamps, PipesUpTo}
 use Rattle.evm_model.specs.Actions.{receive_line}
 use Rattle.evm_model.specs.Pipes.{Pipe, idle_pipe, set_stall}
 use Rattle.evm_model.specs.State.{Parts, on_pipe}
@@ -22,6 +22,18 @@ pub policy-within : (u : ℕ) (class : Class) (priority : ℕ) (k new : Parts) �
 policy-within u class priority k new e w =
     let same : new.pipes ≡ k.pipes = ap (λ (z : Parts). z.pipes) e ∙ policy-pipes u class priority k in
     record { are = rw same w.are; up = rw same w.up }
+
+pub policy-clock : (u : ℕ) (class : Class) (priority : ℕ) (k new : Parts) → new ≡ set_policy u class priority k → k.ticks ≡ 0 → new.ticks ≤ COUNT_LIMIT
+unfolding set_policy
+policy-clock u class priority k new e none = rw (e, none) (omega arith)
+
+pub received-clock : (c l : ℕ) (k new : Parts) → new ≡ receive_line c l k → k.ticks ≡ 0 → new.ticks ≤ COUNT_LIMIT
+unfolding receive_line
+received-clock c l k new e none = rw (e, none) (omega arith)
+
+pub received-stamps : (c l : ℕ) (k new : Parts) → new ≡ receive_line c l k → k.stamps ≤ 64 → HasStamps PER_SETTLING new
+unfolding receive_line
+received-stamps c l k new e few = rw e (omega arith)
 
 pub few-settle : (k : Parts) → AreWithin 1 k → AreWithin (COUNT_LIMIT - PER_SETTLING) k
 few-settle k w = within-more 1 (COUNT_LIMIT - PER_SETTLING) k (omega arith) w

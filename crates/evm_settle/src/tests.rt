@@ -312,12 +312,14 @@ fn settling_tells(rt: HostRuntime) -> Result<(), Fail> {
     let console = console_of(rt.alloc())?;
     let mut parts = parts_of(console, task_of(1, TaskState::OobReady), &IDLE);
     assert_eq!(rt; parts.stamps, 1);
+    assert_eq!(rt; parts.ticks, 0);
     settle_and_nudge(&mut parts, None, 0);
     assert_eq!(rt; raises(&parts, 1), Some((1, 0)));
     assert_eq!(rt; parts.current(1), None);
     let console = console_of(rt.alloc())?;
     let mut parts = parts_of(console, task_of(1, TaskState::OobReady), &IDLE);
     assert_eq!(rt; parts.stamps, 1);
+    assert_eq!(rt; parts.ticks, 0);
     settle_and_nudge(&mut parts, None, 1);
     assert_eq!(rt; raises(&parts, 1), Some((0, 0)));
     assert_eq!(rt; parts.current(1), Some(0));
@@ -337,6 +339,7 @@ fn settling_in_band(rt: HostRuntime) -> Result<(), Fail> {
         let console = console_of(rt.alloc())?;
         let mut parts = parts_of(console, task_of(1, state), &BUSY);
         assert_eq!(rt; parts.stamps, 1);
+        assert_eq!(rt; parts.ticks, 0);
         settle_and_nudge(&mut parts, BUSY.running, 1);
         assert_eq!(rt; parts.current(1), current, "of {state:?}");
         let told = [raises(&parts, 0), raises(&parts, 1), raises(&parts, 2)];
