@@ -4,6 +4,7 @@ use Rattle.evm_model.specs.Pipes.{Pipe}
 use Rattle.evm_model.specs.State.{Parts}
 use Rattle.evm_model.specs.declared.counts.Counts.{Counts}
 use Rattle.evm_model.specs.declared.counts.Passage.{Passage}
+use Rattle.evm_model.specs.declared.limits.TheConstants.{TIMER_LIMIT}
 use Rattle.evm_model.specs.declared.mutex.Mutex.{Mutex}
 
 -- no event adds more than this to any count
@@ -68,11 +69,12 @@ PER_SETTLING = 6208
 abbrev pub HasStamps : ℕ → Parts → Type 0
 HasStamps n k = k.stamps + n ≤ COUNT_LIMIT
 
--- .. each count of a line can grow by as much, each mutex can be locked once more, and a timer can expire; and there is a hart
--- for each task
+-- .. each count of a line can grow by as much, each mutex can be locked once more, and each timer can expire; and there is a
+-- hart for each task
 pub record HasRoom (n : ℕ) (k : Parts) : Type 0 where
   pub stamps : HasStamps n k
   pub counts : PipesUpTo (COUNT_LIMIT - n) k.pipes
   pub holds : HeldUpTo COUNT_LIMIT k.mutexes
   pub clock : k.ticks ≤ COUNT_LIMIT
+  pub timers : length k.timers ≤ TIMER_LIMIT
   pub harts : length k.harts ≡ length k.tasks

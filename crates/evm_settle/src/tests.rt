@@ -11,7 +11,9 @@ use crate::settle_and_nudge;
 use arrayvec::ArrayVec;
 use evm_exec::Hart;
 use evm_model::{Class, Mode, Processor, Profile, Stage, Task, TaskState, Wait};
-use evm_parts::{Console, Harts, Mutexes, Parts, Pipe, Semaphores, Tasks};
+use evm_parts::{
+    Actions, Console, Events, Flags, Harts, Mutexes, Parts, Pipe, Semaphores, Tasks, Timers,
+};
 use std::alloc::Global;
 use std::test::Fail;
 
@@ -173,6 +175,10 @@ fn parts_with(console: Console, task: Task, row: &Row) -> Parts
         stamps: 1,
         mutexes: Mutexes::new(),
         semaphores: Semaphores::new(),
+        events: Events::new(),
+        flags: Flags::new(),
+        timers: Timers::new(),
+        actions: Actions::new(),
         console,
     }
 }

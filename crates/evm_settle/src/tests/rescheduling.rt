@@ -10,7 +10,9 @@ use crate::settle_and_nudge;
 use arrayvec::ArrayVec;
 use evm_exec::Hart;
 use evm_model::{Class, Mode, Processor, Profile, Stage, Task, TaskState};
-use evm_parts::{Console, Harts, Mutexes, Parts, Pipe, Semaphores, Tasks};
+use evm_parts::{
+    Actions, Console, Events, Flags, Harts, Mutexes, Parts, Pipe, Semaphores, Tasks, Timers,
+};
 use std::test::Fail;
 
 // A first-in-first-out task that is ready out-of-band.
@@ -61,6 +63,10 @@ fn two_processors(console: Console) -> Parts
         stamps: 3,
         mutexes: Mutexes::new(),
         semaphores: Semaphores::new(),
+        events: Events::new(),
+        flags: Flags::new(),
+        timers: Timers::new(),
+        actions: Actions::new(),
         console,
     }
 }
