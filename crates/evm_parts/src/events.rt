@@ -1,12 +1,14 @@
 //! What rows do to an event, and to the tasks that wait for it.
 
-ghost use Rattle.std.specs.Prelude.{◌≡◌, ◌<◌, ◌≤◌, ◌+◌, Some, length};
+ghost use Rattle.std.specs.Prelude.{◌≡◌, ◌<◌, ◌≤◌, ◌+◌, false, Some, None, length};
 ghost use Rattle.evm_model.specs.Bounds.{HasStamps};
-ghost use Rattle.evm_model.specs.Events.{add_event, bound, reacquire, signal_first};
+ghost use Rattle.evm_model.specs.Events.{add_event, bound, reacquire, signal_first, signal_rounds};
 ghost use Rattle.evm_model.specs.State.{on_event};
+ghost use Rattle.evm_model.specs.Waits.{first_waiter};
+ghost use Rattle.evm_model.specs.declared.task.Wait.TheVariants.{Event as For};
 
 use crate::parts::Parts;
-use evm_model::{EVENT_LIMIT, Wait};
+use evm_model::{EVENT_LIMIT, TASK_LIMIT, Wait};
 
 impl Parts {
     /// One event more.
@@ -53,15 +55,31 @@ impl Parts {
         }
     }
 
-    /// The first task that waits for an event waits for it no more, if one does.
+    /// The first task that waits for an event waits for it no more, if one does; answers whether one did.
     #[tactic(auto, unfolding(evm_model::specs::Events::signal_first))]
-    pub fn signal_first(&mut self, e: u8)
+    pub fn signal_first(&mut self, e: u8) -> bool
         requires room { HasStamps 1 self.old }
         ensures row { self.new ≡ signal_first e self.old }
         ensures stamps { self.new.stamps ≤ self.old.stamps + 1 }
+        ensures none { result ≡ false → first_waiter (For e) self.old ≡ None }
     {
-        if let Some(t) = self.first_waiter(Wait::Event(e)) {
-            self.reacquire(e, t, 0);
+        let Some(t) = self.first_waiter(Wait::Event(e)) else {
+            return false;
+        };
+        self.reacquire(e, t, 0);
+        true
+    }
+
+    /// All tasks that wait for an event wait for it no more, one after another.
+    #[tactic(auto, using(crate::proofs::Signals::signals))]
+    pub fn signal_all(&mut self, e: u8)
+        requires room { HasStamps TASK_LIMIT self.old }
+        ensures row { self.new ≡ signal_rounds e (length self.old.tasks) self.old }
+    {
+        'signalling: for round in 0..self.tasks.count() {
+            if !self.signal_first(e) {
+                return;
+            }
         }
     }
 }

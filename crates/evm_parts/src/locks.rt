@@ -3,8 +3,9 @@
 ghost use Rattle.std.specs.Prelude.{◌≡◌, ◌<◌, ◌≤◌, ◌+◌, Some, None, length, slice_get};
 ghost use Rattle.evm_boost.specs.Scatter.{AreRanks};
 ghost use Rattle.evm_model.specs.Bounds.{HasStamps};
+ghost use Rattle.evm_model.specs.Lists.{change};
 ghost use Rattle.evm_model.specs.Locks.{add_mutex, take_mutex};
-ghost use Rattle.evm_model.specs.Mutexes.{owns_any, held_by, waits_on};
+ghost use Rattle.evm_model.specs.Mutexes.{freed, owns_any, held_by, waits_on};
 ghost use Rattle.evm_model.specs.Passing.{pass_on, pass_if, pass_below};
 ghost use Rattle.evm_model.specs.Ranks.{best, rank};
 ghost use Rattle.evm_model.specs.State.{on_mutex};
@@ -48,6 +49,13 @@ impl Parts {
         ensures { result ≡ owns_any t self.now.mutexes }
     {
         self.mutexes.owns_any(t)
+    }
+
+    /// Whether a task owns another mutex than this.
+    pub fn owns_other(&self, t: u8, m: u8) -> bool
+        ensures { result ≡ owns_any t (change freed self.now.mutexes m) }
+    {
+        self.mutexes.owns_other(t, m)
     }
 
     /// Whether task u waits for task t by some chain, or is it.
