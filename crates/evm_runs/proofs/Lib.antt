@@ -2,6 +2,8 @@ pub mod Added
 pub mod Balance
 pub mod Breakpoints
 pub mod Commands
+pub mod Due
+pub mod Expiring
 pub mod Fares
 pub mod First
 pub mod Fit
@@ -15,5 +17,6 @@ pub mod Own
 pub mod Raised
 pub mod Replays
 pub mod Runs
+pub mod Sooner
 pub mod Steps
 pub mod Turns
