@@ -14,6 +14,8 @@ pub mod Least
 pub mod Nudged
 pub mod Order
 pub mod Own
+pub mod Own_objects
+pub mod Owning
 pub mod Raised
 pub mod Replays
 pub mod Runs
