@@ -13,7 +13,7 @@ use Rattle.std.proofs.lemmas.Option.{slice_get_within}
 use Rattle.evm_model.proofs.Lists.{change-here, change-elsewhere, length-change}
 use Rattle.evm_model.specs.Deadlines.{deadline_of, deadline, is_due_task, is_due, next_due, end_wait_for, end_wait_in, end_wait_of, end_wait, end_next, end_rounds, end_waits}
 use Rattle.evm_model.specs.Events.{bound, bound_of, reacquire_from, reacquire_of, reacquire}
-use Rattle.evm_model.specs.Good.{AreEvents, event_of_task, event_at, is_mutex, is_waiting}
+use Rattle.evm_model.specs.Good.{event_of_task, event_at, is_mutex, is_waiting}
 use Rattle.evm_model.specs.Lists.{change}
 use Rattle.evm_model.specs.Mutexes.{owner, held_by}
 use Rattle.evm_model.specs.Ranks.{first}
@@ -189,7 +189,7 @@ sooner_as : (tasks new : List Task) (t u : ℕ) → slice_get new t ≡ slice_ge
 sooner_as tasks new t u e f other (inl less) = inl (rw (← ap deadline_of e, ← ap deadline_of f) less)
 sooner_as tasks new t u e f other (inr tied) = inr (sym (ap deadline_of e) ∙ tied.0 ∙ ap deadline_of f, omega (arith, tied.1, other))
 
-module _ (c n : ℕ) (k x : Parts) (a : AreEvents k.events k.mutexes k.tasks) (d : (t : ℕ) (task : Task) → slice_get k.tasks t ≡ Some task → is_waiting task.state ≡ false → task.deadline ≡ 0) (w : Ended c n k x) where
+module _ (c n : ℕ) (k x : Parts) (a : (t e : ℕ) → event_at k.tasks t ≡ Some e → is_mutex (bound e k) k.mutexes ≡ true) (d : (t : ℕ) (task : Task) → slice_get k.tasks t ≡ Some task → is_waiting task.state ≡ false → task.deadline ≡ 0) (w : Ended c n k x) where
   abbrev member : ℕ → Bool
   member u = is_due c k.ticks x.tasks u
 
@@ -211,7 +211,7 @@ module _ (c n : ℕ) (k x : Parts) (a : AreEvents k.events k.mutexes k.tasks) (d
 
   obeys : (t : ℕ) → slice_get x.tasks t ≡ slice_get k.tasks t → Obeys t k.mutexes x
   obeys t same = record {
-    named = λ e h. rw (ap (λ (events : List (Option ℕ)). bound_of (slice_get events e)) w.events) (a.bound t e (ap event_of_task (sym same) ∙ h));
+    named = λ e h. rw (ap (λ (events : List (Option ℕ)). bound_of (slice_get events e)) w.events) (a t e (ap event_of_task (sym same) ∙ h));
     timed = λ task there. d t task (sym same ∙ there);
   }
 
@@ -278,7 +278,7 @@ module _ (c n : ℕ) (k x : Parts) (a : AreEvents k.events k.mutexes k.tasks) (d
       (more_by (first member (λ _. 0) (deadline x.tasks) (length k.tasks)) (leads member (deadline x.tasks) (length k.tasks))
       (λ t e. (first-member member (λ _. 0) (deadline x.tasks) (length k.tasks) t e).1))
 
-module _ (c : ℕ) (k : Parts) (a : AreEvents k.events k.mutexes k.tasks) (d : (t : ℕ) (task : Task) → slice_get k.tasks t ≡ Some task → is_waiting task.state ≡ false → task.deadline ≡ 0) where
+module _ (c : ℕ) (k : Parts) (a : (t e : ℕ) → event_at k.tasks t ≡ Some e → is_mutex (bound e k) k.mutexes ≡ true) (d : (t : ℕ) (task : Task) → slice_get k.tasks t ≡ Some task → is_waiting task.state ≡ false → task.deadline ≡ 0) where
   rounds : (n : ℕ) → Ended c n k (end_rounds c n k)
   unfolding end_rounds
   rounds zero = record {

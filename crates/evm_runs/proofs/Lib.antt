@@ -15,6 +15,8 @@ pub mod Named
 pub mod Nudged
 pub mod Order
 pub mod Own
+pub mod Own_objects
+pub mod Owning
 pub mod Raised
 pub mod Replays
 pub mod Runs

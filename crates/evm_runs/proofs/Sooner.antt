@@ -13,28 +13,35 @@ Leads member s n None = (u : ℕ) → u < n → member u ≡ true → ⊥
 Leads member s n (Some t) = (t < n) × ((u : ℕ) → u < n → member u ≡ true → (s t < s u) ⊎ ((s t ≡ s u) × (t ≤ u)))
 
 leads_alone : (member : ℕ → Bool) (s : ℕ → ℕ) (n : ℕ) → Leads member s n None → Leads member s (suc n) (Some n)
-leads_alone member s n none = (omega arith, λ u low is. elim (eq-or-lt_of_le {n = u} {m = n} (omega arith)) [
-  | inl same ↦ inr (ap s (sym same), omega arith)
-  | inr less ↦ absurd (none u less is)
-])
+leads_alone member s n none = (
+  omega arith,
+  λ u low is. elim (eq-or-lt_of_le {n = u} {m = n} (omega arith)) [
+    | inl same ↦ inr (ap s (sym same), omega arith)
+    | inr less ↦ absurd (none u less is)
+  ],
+)
 
 leads_over : (member : ℕ → Bool) (s : ℕ → ℕ) (n t : ℕ) (b : Bool) → nat_lt (s n) (s t) ≡ b → Leads member s n (Some t) → Leads member s (suc n) (Some (if b then n else t))
 leads_over member s n t true e h =
-    let under : s n < s t = grind (arith, nat_tests) in
-    (omega arith, λ u low is. elim (eq-or-lt_of_le {n = u} {m = n} (omega arith)) [
-      | inl same ↦ inr (ap s (sym same), omega arith)
-      | inr less ↦ elim (h.1 u less is) [ inl k ↦ inl (omega arith) | inr k ↦ inl (omega (arith, k.0)) ]
-    ])
+    let under : s n < s t = grind (arith, nat_tests) in (
+      omega arith,
+      λ u low is. elim (eq-or-lt_of_le {n = u} {m = n} (omega arith)) [
+        | inl same ↦ inr (ap s (sym same), omega arith)
+        | inr less ↦ elim (h.1 u less is) [ inl k ↦ inl (omega arith) | inr k ↦ inl (omega (arith, k.0)) ]
+      ],
+    )
 leads_over member s n t false e h =
     let over : s t ≤ s n = grind (arith, nat_tests) in
-    let low : t < n = h.0 in
-    (omega arith, λ u below is. elim (eq-or-lt_of_le {n = u} {m = n} (omega arith)) [
-      | inl same ↦ elim (cases_lt (s t) (s u)) [
-        | inl less ↦ inl less
-        | inr not_less ↦ let tied : s u ≡ s n = ap s same in inr (omega arith, omega arith)
-      ]
-      | inr less ↦ h.1 u less is
-    ])
+    let low : t < n = h.0 in (
+      omega arith,
+      λ u below is. elim (eq-or-lt_of_le {n = u} {m = n} (omega arith)) [
+        | inl same ↦ elim (cases_lt (s t) (s u)) [
+          | inl less ↦ inl less
+          | inr not_less ↦ let tied : s u ≡ s n = ap s same in inr (omega arith, omega arith)
+        ]
+        | inr less ↦ h.1 u less is
+      ],
+    )
 
 leads_more : (member : ℕ → Bool) (s : ℕ → ℕ) (n : ℕ) (o : Option ℕ) → Leads member s n o → Leads member s (suc n) (Some (leader (λ _. 0) s o n))
 leads_more member s n None h = leads_alone member s n h
@@ -45,10 +52,13 @@ leads_still member s n None e h = λ u low is. elim (eq-or-lt_of_le {n = u} {m =
   | inl same ↦ let no : false ≡ true = sym e ∙ ap member (sym same) ∙ is in cc
   | inr less ↦ h u less is
 ]
-leads_still member s n (Some t) e h = (omega (arith, h.0), λ u low is. elim (eq-or-lt_of_le {n = u} {m = n} (omega arith)) [
-  | inl same ↦ let no : false ≡ true = sym e ∙ ap member (sym same) ∙ is in cc
-  | inr less ↦ h.1 u less is
-])
+leads_still member s n (Some t) e h = (
+  omega (arith, h.0),
+  λ u low is. elim (eq-or-lt_of_le {n = u} {m = n} (omega arith)) [
+    | inl same ↦ let no : false ≡ true = sym e ∙ ap member (sym same) ∙ is in cc
+    | inr less ↦ h.1 u less is
+  ],
+)
 
 leads_if : (member : ℕ → Bool) (s : ℕ → ℕ) (n : ℕ) (o : Option ℕ) (b : Bool) → member n ≡ b → Leads member s n o → Leads member s (suc n) (if b then Some (leader (λ _. 0) s o n) else o)
 leads_if member s n o true e h = leads_more member s n o h

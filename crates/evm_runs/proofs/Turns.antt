@@ -28,7 +28,9 @@ use Rattle.evm_model.proofs.Lists.{change-elsewhere}
 use Rattle.evm_walk.proofs.Passing.{untouched}
 use Rattle.evm_walk.proofs.Sets.{IsPipe-receive}
 use Rattle.evm_runs.specs.Order.{LinesRise, LogsPlayInOrder, Rise, MutexesPassByNumber, WaitersWakeByNumber, WaitsForLine}
-use Rattle.evm_runs.proofs.Fares.{both, number_is, wait_is}
+use Rattle.evm_walk.proofs.Waiters.{wait_is}
+use Rattle.evm_rules.proofs.Firsts.{eqb-is}
+use Rattle.evm_runs.proofs.Fares.{both}
 
 -- ---- the numbers below a bound that pass a test
 abbrev pub numbers : (ℕ → Bool) → ℕ → List ℕ
@@ -108,7 +110,7 @@ rise : (p : Pipe) → IsPipe p → Rise p
 rise p h = record { wire = rises p.wire h.wire; oob = rises p.oob.lines h.oob; inband = rises p.inband.lines h.inband }
 
 pub lines_rise : LinesRise
-lines_rise l p h = (rise p h, rise (receive l p) (IsPipe-receive l p h))
+lines_rise stage l p h = (rise p h, rise (receive stage l p) (IsPipe-receive stage l p h))
 
 oob_in_order : (was : Option ℕ) (c : ℕ) (lines : List ℕ) (k : Parts) → play_oob_lines was c lines k ≡ fold (λ x l. play_oob was c l x) k lines
 unfolding play_oob_lines
@@ -149,7 +151,7 @@ wakes_above c l (suc t) i k h =
 
 waits_there : (c l t : ℕ) (tasks : List Task) (o : Option Task) → slice_get tasks t ≡ o → awaits_line c l o ≡ true → WaitsForLine c l t tasks
 waits_there c l t tasks None e h = cc
-waits_there c l t tasks (Some task) e h = let b = both (is_wait_for (Line l) task.state) (task.cpu == c) h in record { task = task; there = e; on = wait_is (Line l) task.state b.0; home = number_is c task.cpu b.1 }
+waits_there c l t tasks (Some task) e h = let b = both (is_wait_for (Line l) task.state) (task.cpu == c) h in record { task = task; there = e; on = wait_is (Line l) task.state refl b.0; home = eqb-is task.cpu c b.1 }
 
 itself : (n : ℕ) → (n == n) ≡ true
 itself n = eq-eqb n n refl

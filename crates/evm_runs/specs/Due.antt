@@ -1,8 +1,9 @@
 -- In which order waits end by their deadlines, and timers expire.
-use Rattle.std.specs.Prelude.{◌≡◌, ◌⊎◌, ℕ, ◌<◌, ◌≤◌, ◌↔◌, List, Some, false, length, slice_get, slice_index}
+use Rattle.std.specs.Prelude.{◌≡◌, ◌⊎◌, ℕ, ◌<◌, ◌≤◌, ◌↔◌, List, Some, true, false, length, slice_get, slice_index}
 use Rattle.std.specs.List.{Contains, fold}
 use Rattle.evm_model.specs.Deadlines.{deadline, end_wait, end_waits}
-use Rattle.evm_model.specs.Good.{AreEvents, is_waiting}
+use Rattle.evm_model.specs.Events.{bound}
+use Rattle.evm_model.specs.Good.{event_at, is_mutex, is_waiting}
 use Rattle.evm_model.specs.State.{Parts}
 use Rattle.evm_model.specs.Timers.{expire, expire_timers}
 use Rattle.evm_model.specs.declared.task.Task.{Task}
@@ -31,7 +32,7 @@ pub record EndsByDeadline (c : ℕ) (k : Parts) : Type 0 where
 
 -- where an event for which a task waits has a mutex, and a task that doesn't wait has no deadline
 abbrev pub WaitsEndByDeadline : Type 0
-WaitsEndByDeadline = (c : ℕ) (k : Parts) → AreEvents k.events k.mutexes k.tasks → ((t : ℕ) (task : Task) → slice_get k.tasks t ≡ Some task → is_waiting task.state ≡ false → task.deadline ≡ 0) → EndsByDeadline c k
+WaitsEndByDeadline = (c : ℕ) (k : Parts) → ((t e : ℕ) → event_at k.tasks t ≡ Some e → is_mutex (bound e k) k.mutexes ≡ true) → ((t : ℕ) (task : Task) → slice_get k.tasks t ≡ Some task → is_waiting task.state ≡ false → task.deadline ≡ 0) → EndsByDeadline c k
 
 -- ---- timers
 -- timer n of c is on, and due
