@@ -9,7 +9,7 @@ use Rattle.evm_ranks.specs.Boosts.{is_number}
 use Rattle.evm_ranks.proofs.Greatest.{boosts-so}
 use Rattle.evm_model.specs.Good.{is_ready}
 use Rattle.evm_model.specs.Lists.{change}
-use Rattle.evm_model.specs.Mutexes.{owner, owner_of, owns_below, owns_any}
+use Rattle.evm_model.specs.Mutexes.{owner, owner_of, owns_below, owns_any, held_by}
 use Rattle.evm_model.specs.Ranks.{is_oob_ready}
 use Rattle.evm_model.specs.State.{Parts}
 use Rattle.evm_model.specs.Tasks.{restamp, set_slice, spend_slice, is_round_robin, is_weak}
@@ -26,6 +26,7 @@ use Rattle.evm_model.specs.declared.task.Wait.TheVariants.{Line, Lock, Reacquire
 use Rattle.evm_model.specs.declared.stage.Stage.{Stage}
 use Rattle.evm_model.specs.declared.stage.Stage.TheVariants.{OutOfBand, InBand}
 use Rattle.evm_model.proofs.Lists.{change-here, change-elsewhere, slice_get-below}
+use Rattle.evm_walk.proofs.Sizes.{of_spend}
 use Rattle.evm_walk.proofs.Waiters.{IsWaiter, first_is}
 use Rattle.evm_walk.proofs.Walk.{Actor, IsHeld}
 use Rattle.evm_model.specs.Actions.{action_in}
@@ -246,7 +247,7 @@ ready_on-ready : (stage : Stage) → is_ready (ready_on stage false) ≡ true
 ready_on-ready InBand = refl
 ready_on-ready OutOfBand = refl
 
-is_ready_after : (wait : Wait) (class : Class) (state : TaskState) → IsReadyAfter wait class state → is_ready state ≡ true
+pub is_ready_after : (wait : Wait) (class : Class) (state : TaskState) → IsReadyAfter wait class state → is_ready state ≡ true
 is_ready_after wait class state (inl there) = ap is_ready there ∙ ready_on-ready (stage_of_wait wait)
 is_ready_after wait class state (inr in_band) = ap is_ready in_band.0
 
@@ -364,3 +365,23 @@ held_keeps i t u m f mutexes away h n y its e = elim (cases_eq n m) [
   | inl same ↦ absurd (not_its t u y.owner (h y (rw (← same) e)).whose its away)
   | inr other ↦ change-elsewhere f mutexes m n other ∙ e
 ]
+
+-- a free mutex is taken: those that another task owns stay
+pub free_keeps : (t u m : ℕ) (mutexes : List Mutex) → owner mutexes m ≡ None → (n : ℕ) (y : Mutex) → y.owner ≡ Some t → slice_get mutexes n ≡ Some y → slice_get (change (held_by u 1) mutexes m) n ≡ Some y
+free_keeps t u m mutexes free n y its e = elim (cases_eq n m) [
+  | inl same ↦ let no : Some t ≡ None = sym its ∙ ap owner_of (sym e) ∙ ap (owner mutexes) same ∙ free in cc
+  | inr other ↦ change-elsewhere (held_by u 1) mutexes m n other ∙ e
+]
+
+pub free_stays : (o : Option ℕ) (u m : ℕ) (mutexes : List Mutex) → owner mutexes m ≡ None → MutexesStay o mutexes (change (held_by u 1) mutexes m)
+free_stays o u m mutexes free n before e = elim (cases_eq n m) [
+  | inl same ↦
+      let at : slice_get mutexes m ≡ Some before = rw (← same) e in
+      inr (record { after = held_by u 1 before; there = rw same (change-here (held_by u 1) mutexes m ∙ ap (option_map (held_by u 1)) at); kind = refl; whose = inl (ap owner_of (sym at) ∙ free) })
+  | inr other ↦ inl (change-elsewhere (held_by u 1) mutexes m n other ∙ e)
+]
+
+-- a slice is spent: no object changes
+pub spent_still : (c now t slice : ℕ) (k : Parts) → Still c now k (spend_slice t slice k)
+unfolding restamp set_slice
+spent_still c now t slice k = of_spend (λ y. Still c now k y) t slice k (still c now k _ refl refl refl) (still c now k _ refl refl refl)

@@ -11,6 +11,7 @@ pub mod Frames
 pub mod Instructions
 pub mod Kept
 pub mod Least
+pub mod Named
 pub mod Nudged
 pub mod Order
 pub mod Own
