@@ -28,7 +28,7 @@ use Rattle.evm_model.specs.declared.task.Wait.TheVariants.{Line, Lock, Reacquire
 use Rattle.evm_model.proofs.Lists.{change-here, change-elsewhere, change-cases, slice_get-push, slice_get-before, slice_get-within}
 use Rattle.evm_walk.proofs.Sizes.{walk_least, walk_ticks}
 use Rattle.evm_walk.proofs.Walk.{Actor, Asks, Cause, played, passed, passed_back, regained, timed_out, put, put_by, posted, posted_by, expired_for, Ends, signalled, late, IsLate, is_event, late_answer, IsHeld, Makes, Does, hart, task, stamps, turns, awaits_event, spends, wakes, requeues, regains, gives, holds, names, sets_action, sets_timer, takes_expiries, expires, schedules, adds, makes, adds_event, adds_timer, Walk, start, next}
-use Rattle.evm_runs.specs.Changes.{IsReadyAfter, Rests, MutexesStay, WasLate, late_answer as late_after, is_event_wait, EventEnds, by_signal, by_time, HasMutex, WokenBy, by_line, by_owner, by_owner_back, by_event, by_deadline, by_put, by_line_put, by_post, by_line_post, by_timer}
+use Rattle.evm_runs.specs.Changes.{Rests, MutexesStay, WasLate, late_answer as late_after, is_event_wait, EventEnds, by_signal, by_time, HasMutex, WokenBy, by_line, by_owner, by_owner_back, by_event, by_deadline, by_put, by_line_put, by_post, by_line_post, by_timer}
 use Rattle.evm_runs.proofs.Added.{walk_made}
 use Rattle.evm_runs.proofs.Fares.{Fares, Keeps, Still, Ticked, both, fares_on, free_keeps, free_stays, held_keeps, held_stays, is_again, is_oob, is_ready_after, is_robin, keeps_all, mutexes_then, owner_oob, ready_after, rested, returns, same_mutexes, spent_still, still, still_by, ticked, woke, woken_there}
 use Rattle.evm_runs.proofs.Named.{AreNamed, walk_named}
@@ -274,6 +274,7 @@ module _ (a : Actor) (old : Parts) (from : MayFrame a old) where
           let two : Some (record s.task { slice = s.slice; stamp = s.stamp }) ≡ Some x = sym s.spends ∙ there in
           let one : record s.task { slice = s.slice; stamp = s.stamp } ≡ x = cc in
           let no : true ≡ false = ap is_ready (sym s.on) ∙ ap (λ (y : Task). is_ready y.state) one ∙ ap is_ready on in cc
+
       late_rests : IsLate a x k → Fares a (Makes a old) u (record old { tasks = f.asked }) k → Rests u (record old { tasks = f.asked }) k
       late_rests h (inl (inl r)) = r
       late_rests h (inl (inr (inl w))) =
@@ -288,10 +289,12 @@ module _ (a : Actor) (old : Parts) (from : MayFrame a old) where
           let two : Some (record s.task { slice = s.slice; stamp = s.stamp }) ≡ Some x = sym s.spends ∙ there in
           let one : record s.task { slice = s.slice; stamp = s.stamp } ≡ x = cc in
           let no : true ≡ false = ap is_ready (sym s.on) ∙ ap (λ (y : Task). is_ready y.state) one ∙ ap is_ready on in cc
+
       by_cause : (w : Wait) (v : ℕ) → w ≡ wait → Cause a old u x k w v → is_again (Waits w) ≡ true → Rests u (record old { tasks = f.asked }) k
       by_cause _ _ same (passed_back m answer p) e = still_waits p.rests (f.others u away)
       by_cause _ _ same (timed_out (Reacquire m answer) plain h) e = late_rests h (f.others u away)
       by_cause _ _ same _ e = cc
+
       waits_on : (b : Bool) → is_again x.state ≡ b → Rests u (record old { tasks = f.asked }) k
       waits_on true e = by_cause wait value refl why (ap is_again (sym on) ∙ e)
       waits_on false e = rested a (Makes a old) u (record old { tasks = f.asked }) k x there (ap is_ready on) e (f.others u away)
@@ -317,7 +320,7 @@ module _ (a : Actor) (old : Parts) (from : MayFrame a old) where
         answer = value;
         waited = was_there u (record old { tasks = f.asked }) k x at (ap is_in_ready on) (f.back u x away at) r;
         on = on;
-        by = still_by a.task a.task (Makes a old) (Makes a old) a.cpu u x state (record old { tasks = f.asked }) k new (λ g e. e) (λ n h call. call) (λ m y o e. e) (still a.cpu old.ticks k new refl refl refl) wait value (asked_by u wait value x state k f (woken_by u value wait k x far at on why));
+        by = still_by a.task a.task (Makes a old) (Makes a old) a.cpu u x state (record old { tasks = f.asked }) k new (λ g e. e) (λ n h call. call) (λ m y o e. e) (still a.cpu old.ticks k new refl refl refl) wait value (asked_by u wait value x state k f (woken_by u k x value wait far at on why));
         ready = ready_after wait owns x;
         fresh = far.later;
         wakes = there;

@@ -1,11 +1,11 @@
 -- The mutex of each event for which a task waits was there before, after any walk.
 use Rattle.std.proofs.Common.{◌≡◌, ℕ, ◌<◌, List, [], ◌∷◌, ◌++◌, Bool, true, false, not, Option, Some, None, length, ◌⊎◌, inl, inr, refl, ap, sym, ◌∙◌}
-use Rattle.std.specs.Prelude.{slice_get, option_map, ◌&&◌, nat_lt}
+use Rattle.std.specs.Prelude.{slice_get, option_map, ◌&&◌}
 use Rattle.std.proofs.lemmas.Bool.{cases_eq}
 use Rattle.std.proofs.lemmas.Bool.Decides.{nat_tests}
 use Rattle.std.proofs.Common.{arith}
 use Rattle.evm_model.specs.Commands.{tick}
-use Rattle.evm_model.specs.Events.{bound, bound_of}
+use Rattle.evm_model.specs.Events.{bound_of}
 use Rattle.evm_model.specs.Good.{AreEvents, is_mutex, event_of, event_of_task, event_at}
 use Rattle.evm_model.specs.Lists.{change}
 use Rattle.evm_model.specs.Mutexes.{owns_any}
@@ -17,8 +17,7 @@ use Rattle.evm_model.specs.declared.stage.Stage.TheVariants.{OutOfBand, InBand}
 use Rattle.evm_model.specs.declared.task.Task.{Task}
 use Rattle.evm_model.specs.declared.task.TaskState.{TaskState}
 use Rattle.evm_model.specs.declared.task.TaskState.TheVariants.{Waits}
-use Rattle.evm_model.specs.declared.task.Wait.{Wait}
-use Rattle.evm_model.specs.declared.task.Wait.TheVariants.{Event, Reacquire}
+use Rattle.evm_model.specs.declared.task.Wait.TheVariants.{Event}
 use Rattle.evm_model.proofs.Lists.{change-here, change-elsewhere, change-cases, slice_get-push}
 use Rattle.evm_walk.proofs.Sizes.{of_spend}
 use Rattle.evm_walk.proofs.Twice.{change-twice}
@@ -87,6 +86,7 @@ named_event count e m events tasks small q = record { below = λ t d n h is. fro
     changed : (o : Option (Option ℕ)) (n : ℕ) → bound_of (option_map (λ (_ : Option ℕ). Some m) o) ≡ Some n → m ≡ n
     changed None n h = cc
     changed (Some x) n h = cc
+
     from : (t d n : ℕ) → event_at tasks t ≡ Some d → bound_of (slice_get (change (λ (_ : Option ℕ). Some m) events e) d) ≡ Some n → (d ≡ e) ⊎ (d ≡ e → ⊥) → n < count
     from t d n h is (inl same) = rw (← changed (slice_get events e) n (ap bound_of (sym (change-here (λ (_ : Option ℕ). Some m) events e)) ∙ ap (λ i. bound_of (slice_get (change (λ (_ : Option ℕ). Some m) events e) i)) (sym same) ∙ is)) small
     from t d n h is (inr other) = q.below t d n h (ap bound_of (sym (change-elsewhere (λ (_ : Option ℕ). Some m) events e d other)) ∙ is)

@@ -1,18 +1,22 @@
 -- What a step changes, and how many there are of each afterwards.
-use Rattle.std.proofs.Common.{◌≡◌, ℕ, ◌+◌, ◌≤◌, List, [], ◌∷◌, Bool, true, false, not, Option, Some, None, length, ◌⊎◌, inl, inr, refl, ap, sym, ◌∙◌, subst, arith}
+use Rattle.std.proofs.Common.{◌≡◌, ℕ, ◌+◌, ◌<◌, ◌≤◌, List, [], ◌∷◌, Bool, true, false, not, Option, Some, None, length, ◌⊎◌, inl, inr, refl, ap, sym, ◌∙◌, subst, arith}
 use Rattle.std.specs.Prelude.{slice_get, option_map, is_none, ◌==◌, if◌then◌else◌}
 use Rattle.evm_lines.specs.Lines.{has_line, least_line}
 use Rattle.evm_exec.specs.declared.hart.Hart.{Hart}
 use Rattle.evm_ram.specs.Laws.{length-write_at}
+use Rattle.evm_model.specs.Good.{Good, is_ready, is_waiting}
 use Rattle.evm_model.specs.Memory.{fetch}
 use Rattle.evm_model.specs.Pipes.{Pipe, raise}
 use Rattle.evm_model.specs.Rows.{step}
-use Rattle.evm_model.specs.Settle.{current, nudge, nudge_pipe, wants_nudge}
+use Rattle.evm_model.specs.Settle.{current, current_of, nudge, nudge_pipe, wants_nudge}
 use Rattle.evm_model.specs.State.{Board, Memory, Parts}
 use Rattle.evm_model.specs.declared.limits.TheConstants.{SLICE, TASK_LIMIT}
 use Rattle.evm_model.specs.declared.mutex.Mutex.{Mutex}
+use Rattle.evm_model.specs.declared.processor.Processor.{Processor}
 use Rattle.evm_model.specs.declared.task.Task.{Task}
-use Rattle.evm_model.proofs.Lists.{slice_get-each}
+use Rattle.evm_model.specs.declared.task.TaskState.{TaskState}
+use Rattle.evm_model.specs.declared.task.TaskState.TheVariants.{InReady, OobReady}
+use Rattle.evm_model.proofs.Lists.{slice_get-below, slice_get-each, slice_get-within}
 use Rattle.evm_walk.proofs.Rows.{word_calls, MaySteps, Stepped, steps, stepped_walk}
 use Rattle.evm_walk.proofs.Sizes.{walk_sizes, walk_least, walk_ticks}
 use Rattle.evm_walk.proofs.Walk.{Actor, Makes, unchanged, Walk, start}
@@ -209,20 +213,20 @@ module _ (c : ℕ) (b : Board) where
         → (Hears c b.parts → (f.asked ≡ b.parts.tasks) × ((t : ℕ) → Stays None MakesNone c t b.parts new.parts ⊎ Spends c t b.parts new.parts) × (MutexesTaken b.parts.mutexes new.parts.mutexes × (length new.parts.mutexes ≡ length b.parts.mutexes)))
         → StepChanges c b new
     changes fit f scheduled others mutexes hears = record {
-        asked = f.asked;
-        scheduled = scheduled;
-        breakpoints = (step_writes c b).breakpoints;
-        memory = (step_writes c b).memory;
-        ticks = same_ticks;
-        stamps = walk_least (actor c o true calls) b.parts 66 2241 new.parts walk;
-        processors = λ d other. walk_processors (actor c o true calls) b.parts d other 66 2241 new.parts walk;
-        pipes = other_pipes;
-        others = others;
-        mutexes = mutexes;
-        hears = hears;
-        added = walk_added (actor c o true calls) b.parts 66 2241 new.parts walk;
-        made = walk_made (actor c o true calls) b.parts 66 2241 new.parts fit.named walk;
-        typed = walk_typed (actor c o true calls) b.parts 66 2241 new.parts walk;
+      asked = f.asked;
+      scheduled = scheduled;
+      breakpoints = (step_writes c b).breakpoints;
+      memory = (step_writes c b).memory;
+      ticks = same_ticks;
+      stamps = walk_least (actor c o true calls) b.parts 66 2241 new.parts walk;
+      processors = λ d other. walk_processors (actor c o true calls) b.parts d other 66 2241 new.parts walk;
+      pipes = other_pipes;
+      others = others;
+      mutexes = mutexes;
+      hears = hears;
+      added = walk_added (actor c o true calls) b.parts 66 2241 new.parts walk;
+      made = walk_made (actor c o true calls) b.parts 66 2241 new.parts fit.named walk;
+      typed = walk_typed (actor c o true calls) b.parts 66 2241 new.parts walk;
     }
 
   -- ---- a line is on the wire: no task acts

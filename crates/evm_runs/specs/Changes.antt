@@ -42,8 +42,7 @@ use Rattle.evm_model.specs.declared.task.TaskState.TheVariants.{InReady, OobRead
 use Rattle.evm_model.specs.declared.task.Wait.{Wait}
 use Rattle.evm_model.specs.declared.task.Wait.TheVariants.{Line, Lock, Reacquire, Semaphore, Event as OfEvent, Flags, Sleep, Timer as OfTimer}
 use Rattle.evm_model.specs.declared.timer.Timer.{Timer}
-use Rattle.evm_model.specs.declared.action.Action.{Action}
-use Rattle.evm_model.specs.declared.action.Action.TheVariants.{Nothing, Puts, Posts}
+use Rattle.evm_model.specs.declared.action.Action.TheVariants.{Puts, Posts}
 use Rattle.evm_model.specs.declared.errno.Errno.TheVariants.{TimedOut}
 use Rattle.evm_model.specs.Mutexes.{held_by}
 use Rattle.evm_model.specs.Timers.{taken, is_due_timer, expired}
