@@ -4,6 +4,7 @@ use Rattle.evm_model.specs.Pipes.{Pipe}
 use Rattle.evm_model.specs.State.{Parts}
 use Rattle.evm_model.specs.declared.counts.Counts.{Counts}
 use Rattle.evm_model.specs.declared.counts.Passage.{Passage}
+use Rattle.evm_model.specs.declared.limits.TheConstants.{TIMER_LIMIT}
 use Rattle.evm_model.specs.declared.mutex.Mutex.{Mutex}
 
 -- no event adds more than this to any count
@@ -12,7 +13,7 @@ PER_EVENT = 256
 
 -- no event gives more stamps than this
 abbrev pub STAMPS_PER_EVENT : ℕ
-STAMPS_PER_EVENT = 4096
+STAMPS_PER_EVENT = 8192
 
 -- no number of these is above the bound
 pub record PassageUpTo (bound : ℕ) (n : Passage) : Type 0 where
@@ -48,10 +49,13 @@ COUNT_LIMIT = 2 ^ 63
 abbrev pub PER_CALL : ℕ
 PER_CALL = 128
 
--- so does an out-of-band log that is played: line 0 ends up to 64 waits, expires up to 32 timers and spends a slice, and each
--- of the others wakes a task
+-- so does a line that is played out-of-band: line 0 ends up to 64 waits, expires up to 32 timers and spends a slice
+abbrev pub PER_OOB_LINE : ℕ
+PER_OOB_LINE = 128
+
+-- .. and an out-of-band log, of 32 lines
 abbrev pub PER_OOB_LOG : ℕ
-PER_OOB_LOG = 128
+PER_OOB_LOG = 4096
 
 -- .. and an in-band one no more: each of 32 lines wakes up to 64 tasks
 abbrev pub PER_IN_BAND_LOG : ℕ
@@ -59,15 +63,18 @@ PER_IN_BAND_LOG = 2048
 
 -- .. and all of settling, with the other processors that are told
 abbrev pub PER_SETTLING : ℕ
-PER_SETTLING = 2240
+PER_SETTLING = 6208
 
 -- so many stamps can be given
 abbrev pub HasStamps : ℕ → Parts → Type 0
 HasStamps n k = k.stamps + n ≤ COUNT_LIMIT
 
--- .. each count of a line can grow by as much, and each mutex can be locked once more; and there is a hart for each task
+-- .. each count of a line can grow by as much, each mutex can be locked once more, and each timer can expire; and there is a
+-- hart for each task
 pub record HasRoom (n : ℕ) (k : Parts) : Type 0 where
   pub stamps : HasStamps n k
   pub counts : PipesUpTo (COUNT_LIMIT - n) k.pipes
   pub holds : HeldUpTo COUNT_LIMIT k.mutexes
+  pub clock : k.ticks ≤ COUNT_LIMIT
+  pub timers : length k.timers ≤ TIMER_LIMIT
   pub harts : length k.harts ≡ length k.tasks

@@ -4,7 +4,7 @@ use Rattle.std.specs.Prelude.{slice_get}
 use Rattle.evm_lines.specs.Lines.{has_line}
 use Rattle.evm_model.specs.Bounds.{PassageUpTo, UpTo, PipeUpTo, PipesUpTo}
 use Rattle.evm_model.specs.Lists.{change}
-use Rattle.evm_model.specs.Pipes.{Pipe, raise, arrive, leave_wire, receive, play, set_stall, stage_of, log_of, more_if, on_passage, count_raise, count_receipt, count_arrival, count_play}
+use Rattle.evm_model.specs.Pipes.{Pipe, raise, arrive, leave_wire, receive, play, set_stall, log_of, more_if, on_passage, count_raise, count_receipt, count_arrival, count_play}
 use Rattle.evm_model.specs.State.{Parts}
 use Rattle.evm_model.specs.declared.counts.Counts.{Counts}
 use Rattle.evm_model.specs.declared.counts.Passage.{Passage}
@@ -136,12 +136,9 @@ unfolding leave_wire
 left-log OutOfBand l p = refl
 left-log InBand l p = refl
 
-pub receive-counted : (l : ℕ) (p : Pipe)
-    → Counted l (λ n. on_passage (stage_of l) (count_arrival (has_line (log_of (stage_of l) p).lines l)) (count_receipt n)) p (receive l p)
+pub receive-counted : (stage : Stage) (l : ℕ) (p : Pipe) → Counted l (λ n. on_passage stage (count_arrival (has_line (log_of stage p).lines l)) (count_receipt n)) p (receive stage l p)
 unfolding receive
-receive-counted l p =
-    rw (← left-log (stage_of l) l p)
-    (counted-then l count_receipt _ p (leave_wire l p) _ (leave-counted l p) (arrive-counted (stage_of l) l (leave_wire l p)))
+receive-counted stage l p = rw (← left-log stage l p) (counted-then l count_receipt _ p (leave_wire l p) _ (leave-counted l p) (arrive-counted stage l (leave_wire l p)))
 
 pub timer-counted : (p : Pipe)
     → Counted 0 (λ n. on_passage InBand (count_arrival (has_line p.inband.lines 0)) (on_passage OutOfBand count_play n)) p (arrive InBand 0 (play OutOfBand 0 p))
@@ -153,7 +150,7 @@ PipeUpTo-more a b p h s = record { lines = λ l n e. UpTo-more a b n h (s.lines 
 
 pub move_counted : (may : ℕ → Bool) (n b : ℕ) (p q : Pipe) → PipeMove may n p q → PipeUpTo b p → PipeUpTo (b + n) q
 move_counted may _ b _ _ (raises l p h on) s = counted-up b l _ p _ (raise-counted l p) (raise-up b (has_line p.wire l)) s
-move_counted may _ b _ _ (receives l p h) s = counted-up b l _ p _ (receive-counted l p) (receipt-up b (stage_of l) (has_line (log_of (stage_of l) p).lines l)) s
+move_counted may _ b _ _ (receives stage l p fixed h) s = counted-up b l _ p _ (receive-counted stage l p) (receipt-up b stage (has_line (log_of stage p).lines l)) s
 move_counted may _ b _ _ (plays_timer p h) s = counted-up b 0 _ p _ (timer-counted p) (timer-up b (has_line p.inband.lines 0)) s
 move_counted may _ b _ _ (plays_oob l p other h) s = counted-up b l _ p _ (play-counted OutOfBand l p) (oob-up b) s
 move_counted may _ b _ _ (plays_in_band l p h) s = counted-up b l _ p _ (play-counted InBand l p) (in_band-up b) s

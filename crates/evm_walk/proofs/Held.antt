@@ -7,11 +7,11 @@ use Rattle.evm_model.specs.Lists.{change}
 use Rattle.evm_model.specs.Mutexes.{free_mutex, held_by}
 use Rattle.evm_model.specs.State.{Parts}
 use Rattle.evm_model.specs.Tasks.{restamp, set_policy, set_slice}
-use Rattle.evm_model.specs.Waits.{wake}
+use Rattle.evm_model.specs.Waits.{wake, begin_wait}
 use Rattle.evm_model.specs.declared.mutex.Mutex.{Mutex}
 use Rattle.evm_model.proofs.Lists.{change-cases, slice_get-push}
 use Rattle.evm_walk.proofs.Sizes.{of_spend}
-use Rattle.evm_walk.proofs.Walk.{Actor, ArePipes, Does, spends, gives, holds, makes, Walk, start, next}
+use Rattle.evm_walk.proofs.Walk.{Actor, ArePipes, Does, spends, regains, gives, holds, makes, Walk, start, next}
 
 pub held_more : (a b : ℕ) (mutexes : List Mutex) → a ≤ b → HeldUpTo a mutexes → HeldUpTo b mutexes
 held_more a b mutexes h s = record { count = λ m mutex e. omega (arith, s.count m mutex e) }
@@ -28,10 +28,11 @@ held_changed m a b f mutexes h c s = record {
 
 module _ (a : Actor) (old : Parts) where
   does_hold : (i j : ℕ) (k x : Parts) (b : ℕ) → 1 ≤ b → Does a old i j k x → HeldUpTo b k.mutexes → HeldUpTo (b + i) x.mutexes
-  unfolding restamp set_policy set_slice wake tick
+  unfolding restamp set_policy set_slice wake begin_wait tick
   does_hold _ _ _ _ b h (spends t x k runs there on) q = of_spend (λ (y : Parts). HeldUpTo (b + 0) y.mutexes) t x.slice k (held_more b (b + 0) k.mutexes (omega arith) q) (held_more b (b + 0) k.mutexes (omega arith) q)
   does_hold _ _ _ _ b h (gives t u m k own same its) q = held_changed m b (b + 0) (held_by u 1) k.mutexes (omega arith) (λ x e c. omega (arith, h)) q
   does_hold _ _ _ _ b h (holds i t m f k own same x) q = held_changed m b (b + i) f k.mutexes (omega arith) (λ y e c. omega (arith, c, (x y e).count)) q
+  does_hold _ _ _ _ b h (regains u e m z k there on its free) q = held_changed m b (b + 0) (held_by u 1) k.mutexes (omega arith) (λ x e c. omega (arith, h)) q
   does_hold _ _ _ _ b h (makes t recursive protocol k own fresh room) q = record {
     count = λ m other e. elim (slice_get-push k.mutexes (free_mutex recursive protocol) m other e) [
       | inl there ↦ omega (arith, q.count m other there)

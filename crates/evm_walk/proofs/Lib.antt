@@ -1,6 +1,10 @@
+pub mod Actions
 pub mod Amounts
 pub mod Calls
 pub mod Counted
+pub mod Deadlines
+pub mod Events
+pub mod Flags
 pub mod Held
 pub mod Lift
 pub mod Locks
@@ -13,6 +17,7 @@ pub mod Semaphores
 pub mod Sets
 pub mod Sizes
 pub mod Tasks
+pub mod Timers
 pub mod Twice
 pub mod Waiters
 pub mod Walk

@@ -6,7 +6,7 @@ use Rattle.evm_model.specs.Commands.{tick}
 use Rattle.evm_model.specs.Pipes.{Pipe, raise}
 use Rattle.evm_model.specs.State.{Parts}
 use Rattle.evm_model.specs.Tasks.{restamp, set_policy, set_slice}
-use Rattle.evm_model.specs.Waits.{wake}
+use Rattle.evm_model.specs.Waits.{wake, begin_wait}
 use Rattle.evm_model.proofs.Lists.{change-cases, slice_get-each}
 use Rattle.evm_walk.proofs.Sizes.{of_spend}
 use Rattle.evm_walk.proofs.Walk.{Actor, PipeMove, raises, ArePipes, Does, spends, moves, tells, clock, Walk, start, next}
@@ -26,7 +26,7 @@ mapped f (Some x) z e = (x, refl, cc)
 
 module _ (a : Actor) (old : Parts) (P : ℕ → Pipe → Type 0) (d : ℕ) (l : Lifts (a.may d) P) (are : ArePipes old) where
   does_lift : (i j : ℕ) (k x : Parts) (b : ℕ) → Does a old i j k x → At P d b k → At P d (b + i) x
-  unfolding restamp set_policy set_slice wake tick
+  unfolding restamp set_policy set_slice wake begin_wait tick
   does_lift _ _ _ _ b (spends t x k runs there on) h =
       of_spend (At P d (b + 0)) t x.slice k (record { holds = λ p e. l.more b (b + 0) p (omega arith) (h.holds p e) }) (record { holds = λ p e. l.more b (b + 0) p (omega arith) (h.holds p e) })
   does_lift _ _ _ _ b (moves i f k how) h = record {

@@ -4,6 +4,7 @@ use Rattle.std.specs.Prelude.{slice_get, nat_lt, nat_le, ◌==◌, if◌then◌e
 use Rattle.std.proofs.lemmas.Bool.Decides.{nat_tests, eqb_tells}
 use Rattle.evm_ranks.specs.Boosts.{is_number}
 use Rattle.evm_ranks.proofs.Greatest.{boosts-is}
+use Rattle.evm_model.specs.Good.{event_of}
 use Rattle.evm_model.specs.Locks.{with_ceiling, mutex_of, add_mutex, new_mutex_as, new_mutex, take_mutex, lock_again, cycle_refusal, lock_other, lock_owned, lock_known, lock, try_owned, try_known, try_lock, unlock_once, unlock_known, unlock}
 use Rattle.evm_model.specs.Mutexes.{free_mutex, owner_of, held_by}
 use Rattle.evm_model.specs.Passing.{pass_on}
@@ -16,16 +17,21 @@ use Rattle.evm_model.specs.declared.mutex.Mutex.{Mutex}
 use Rattle.evm_model.specs.declared.mutex.Protocol.{Protocol}
 use Rattle.evm_model.specs.declared.mutex.Protocol.TheVariants.{Inheritance, Ceiling}
 use Rattle.evm_model.specs.declared.stage.Stage.TheVariants.{OutOfBand}
+use Rattle.evm_model.specs.declared.task.TaskState.TheVariants.{Waits}
 use Rattle.evm_model.specs.declared.task.Wait.{Wait}
 use Rattle.evm_model.specs.declared.task.Wait.TheVariants.{Lock}
-use Rattle.evm_walk.proofs.Passing.{passes}
+use Rattle.evm_walk.proofs.Passing.{passes, stayed_same}
 use Rattle.evm_walk.proofs.Tasks.{begins_wait}
 use Rattle.evm_walk.proofs.Walk.{Actor, IsOldTask, Untouched, holds, makes, Walk, quietly, counted, slack}
 
 -- of two outcomes
-pub either : (a : Actor) (old : Parts) (b : Bool) (x y : Parts × Outcome) → (b ≡ true → Walk a old 1 32 x.0) → (b ≡ false → Walk a old 1 32 y.0) → Walk a old 1 32 (if b then x else y).0
-either a old true x y p q = p refl
-either a old false x y p q = q refl
+pub either_at : (a : Actor) (old : Parts) (n s : ℕ) (b : Bool) (x y : Parts × Outcome) → (b ≡ true → Walk a old n s x.0) → (b ≡ false → Walk a old n s y.0) → Walk a old n s (if b then x else y).0
+either_at a old n s true x y p q = p refl
+either_at a old n s false x y p q = q refl
+
+-- .. with as much as a call may
+pub either : (a : Actor) (old : Parts) (b : Bool) (x y : Parts × Outcome) → (b ≡ true → Walk a old 1 64 x.0) → (b ≡ false → Walk a old 1 64 y.0) → Walk a old 1 64 (if b then x else y).0
+either a old b x y p q = either_at a old 1 64 b x y p q
 
 -- ---- a mutex, if there is one, that nobody owns
 pub record IsFree (o : Option Mutex) : Type 0 where
@@ -58,17 +64,17 @@ own_number u t e = elim (eqb_tells u t) [
 
 module _ (a : Actor) (old k : Parts) (t : ℕ) (own : a.task ≡ Some t) (fresh : Untouched old k) (w : Walk a old 0 0 k) where
   -- as much at most as a call may
-  pub up : (n s : ℕ) (x : Parts) → n ≤ 1 → s ≤ 32 → Walk a old n s x → Walk a old 1 32 x
-  up n s x h g v = slack a old n 1 s 32 x (λ p. h) (λ p. g) v
+  pub up : (n s : ℕ) (x : Parts) → n ≤ 1 → s ≤ 64 → Walk a old n s x → Walk a old 1 64 x
+  up n s x h g v = slack a old n 1 s 64 x (λ p. h) (λ p. g) v
 
-  pub same : Walk a old 1 32 k
+  pub same : Walk a old 1 64 k
   same = up 0 0 k (omega arith) (omega arith) w
 
   pub was_there : IsOldTask old k t
   was_there = inl (ap length fresh.tasks)
 
   -- ---- a new mutex
-  makes_as : (o : Option Mutex) → IsFree o → Walk a old 1 32 (new_mutex_as o k).0
+  makes_as : (o : Option Mutex) → IsFree o → Walk a old 1 64 (new_mutex_as o k).0
   unfolding add_mutex
   makes_as None free = same
   makes_as (Some mutex) free =
@@ -77,71 +83,71 @@ module _ (a : Actor) (old k : Parts) (t : ℕ) (own : a.task ≡ Some t) (fresh 
       (λ e. let room : length k.mutexes < MUTEX_LIMIT = grind (arith, nat_tests) in
       up 0 0 _ (omega arith) (omega arith) (rw f.1.1 (quietly a old 0 0 k _ (makes t f.0 f.1.0 k own fresh room) w)))
 
-  pub makes_mutex : (kind priority : ℕ) → Walk a old 1 32 (new_mutex kind priority k).0
+  pub makes_mutex : (kind priority : ℕ) → Walk a old 1 64 (new_mutex kind priority k).0
   unfolding new_mutex
   makes_mutex kind priority = makes_as (mutex_of kind priority) (made_free kind priority)
 
   -- ---- a lock
   -- a mutex that was free or its own is its own now
-  takes : (i m count : ℕ) (mutex : Mutex) → i ≤ 1 → slice_get k.mutexes m ≡ Some mutex → (mutex.owner ≡ None) ⊎ (mutex.owner ≡ Some t) → count ≤ mutex.count + i → Walk a old 1 32 (on_mutex m (held_by t count) k)
+  takes : (i m count : ℕ) (mutex : Mutex) → i ≤ 1 → slice_get k.mutexes m ≡ Some mutex → (mutex.owner ≡ None) ⊎ (mutex.owner ≡ Some t) → count ≤ mutex.count + i → Walk a old 1 64 (on_mutex m (held_by t count) k)
   takes i m count mutex few e whose more =
       up (0 + i) 0 _ (omega (arith, few)) (omega arith)
       (counted a old 0 0 k _ i (holds i t m (held_by t count) k own (ap (λ xs. slice_get xs m) fresh.mutexes) (λ x there. let one : mutex ≡ x = (let two : Some mutex ≡ Some x = sym e ∙ there in cc) in
       record { kind = refl; whose = rw (← one) whose; count = rw (← one) more })) w)
 
-  locks_again : (m : ℕ) (mutex : Mutex) → slice_get k.mutexes m ≡ Some mutex → mutex.owner ≡ Some t → Walk a old 1 32 (lock_again t m mutex k).0
+  locks_again : (m : ℕ) (mutex : Mutex) → slice_get k.mutexes m ≡ Some mutex → mutex.owner ≡ Some t → Walk a old 1 64 (lock_again t m mutex k).0
   unfolding lock_again
   locks_again m mutex e its = either a old mutex.recursive _ _ (λ r. takes 1 m (mutex.count + 1) mutex (omega arith) e (inr its) (omega arith)) (λ r. same)
 
-  pub waits_unless : (o : Option Errno) (wait : Wait) (deadline : ℕ) → Walk a old 1 32 (wait_unless o t wait deadline k).0
-  waits_unless (Some e) wait deadline = same
-  waits_unless None wait deadline = up 0 1 _ (omega arith) (omega arith) (begins_wait a old 0 0 t k own was_there w wait deadline)
+  pub waits_unless : (o : Option Errno) (wait : Wait) (deadline : ℕ) → event_of (Waits wait) ≡ None → Walk a old 1 64 (wait_unless o t wait deadline k).0
+  waits_unless (Some e) wait deadline none = same
+  waits_unless None wait deadline none = up 0 1 _ (omega arith) (omega arith) (begins_wait a old 0 0 t k own was_there w wait deadline none)
 
-  locks_other : (m u deadline : ℕ) → Walk a old 1 32 (lock_other a.cpu t m u deadline k).0
+  locks_other : (m u deadline : ℕ) → Walk a old 1 64 (lock_other a.cpu t m u deadline k).0
   unfolding lock_other
-  locks_other m u deadline = waits_unless (wait_refusal (is_stalled OutOfBand a.cpu k) (cycle_refusal t u k) deadline) (Lock m) deadline
+  locks_other m u deadline = waits_unless (wait_refusal (is_stalled OutOfBand a.cpu k) (cycle_refusal t u k) k.ticks deadline) (Lock m) deadline refl
 
-  free_takes : (m : ℕ) (mutex : Mutex) → slice_get k.mutexes m ≡ Some mutex → mutex.owner ≡ None → Walk a old 1 32 (take_mutex t m k)
+  free_takes : (m : ℕ) (mutex : Mutex) → slice_get k.mutexes m ≡ Some mutex → mutex.owner ≡ None → Walk a old 1 64 (take_mutex t m k)
   unfolding take_mutex
   free_takes m mutex e none = takes 1 m 1 mutex (omega arith) e (inl none) (omega arith)
 
-  locks_owned : (o : Option ℕ) (m deadline : ℕ) (mutex : Mutex) → slice_get k.mutexes m ≡ Some mutex → mutex.owner ≡ o → Walk a old 1 32 (lock_owned o a.cpu t m deadline mutex k).0
+  locks_owned : (o : Option ℕ) (m deadline : ℕ) (mutex : Mutex) → slice_get k.mutexes m ≡ Some mutex → mutex.owner ≡ o → Walk a old 1 64 (lock_owned o a.cpu t m deadline mutex k).0
   locks_owned None m deadline mutex e its = free_takes m mutex e its
   locks_owned (Some u) m deadline mutex e its = either a old (u == t) _ _ (λ one. locks_again m mutex e (its ∙ own_number u t one)) (λ other. locks_other m u deadline)
 
-  locks_known : (o : Option Mutex) (m deadline : ℕ) → slice_get k.mutexes m ≡ o → Walk a old 1 32 (lock_known o a.cpu t m deadline k).0
+  locks_known : (o : Option Mutex) (m deadline : ℕ) → slice_get k.mutexes m ≡ o → Walk a old 1 64 (lock_known o a.cpu t m deadline k).0
   locks_known None m deadline e = same
   locks_known (Some mutex) m deadline e = locks_owned mutex.owner m deadline mutex e refl
 
-  pub locks : (m deadline : ℕ) → Walk a old 1 32 (lock a.cpu t m deadline k).0
+  pub locks : (m deadline : ℕ) → Walk a old 1 64 (lock a.cpu t m deadline k).0
   unfolding lock
   locks m deadline = locks_known (slice_get k.mutexes m) m deadline refl
 
-  tries_owned : (o : Option ℕ) (m : ℕ) (mutex : Mutex) → slice_get k.mutexes m ≡ Some mutex → mutex.owner ≡ o → Walk a old 1 32 (try_owned o t m mutex k).0
+  tries_owned : (o : Option ℕ) (m : ℕ) (mutex : Mutex) → slice_get k.mutexes m ≡ Some mutex → mutex.owner ≡ o → Walk a old 1 64 (try_owned o t m mutex k).0
   tries_owned None m mutex e its = free_takes m mutex e its
   tries_owned (Some u) m mutex e its = either a old (u == t) _ _ (λ one. locks_again m mutex e (its ∙ own_number u t one)) (λ other. same)
 
-  tries_known : (o : Option Mutex) (m : ℕ) → slice_get k.mutexes m ≡ o → Walk a old 1 32 (try_known o t m k).0
+  tries_known : (o : Option Mutex) (m : ℕ) → slice_get k.mutexes m ≡ o → Walk a old 1 64 (try_known o t m k).0
   tries_known None m e = same
   tries_known (Some mutex) m e = tries_owned mutex.owner m mutex e refl
 
-  pub tries : (m : ℕ) → Walk a old 1 32 (try_lock t m k).0
+  pub tries : (m : ℕ) → Walk a old 1 64 (try_lock t m k).0
   unfolding try_lock
   tries m = tries_known (slice_get k.mutexes m) m refl
 
   -- ---- an unlock
-  unlocks_if : (b : Bool) (m : ℕ) (mutex : Mutex) → slice_get k.mutexes m ≡ Some mutex → mutex.owner ≡ Some t → Walk a old 1 32 (if b then pass_on m k else on_mutex m (held_by t (mutex.count - 1)) k)
-  unlocks_if true m mutex e its = up 0 1 _ (omega arith) (omega arith) (passes a old 0 t own 0 m k (ap (λ xs. slice_get xs m) fresh.mutexes) (ap owner_of e ∙ its) w)
+  unlocks_if : (b : Bool) (m : ℕ) (mutex : Mutex) → slice_get k.mutexes m ≡ Some mutex → mutex.owner ≡ Some t → Walk a old 1 64 (if b then pass_on m k else on_mutex m (held_by t (mutex.count - 1)) k)
+  unlocks_if true m mutex e its = up 0 1 _ (omega arith) (omega arith) (passes a old 0 t own 0 m k (ap (λ xs. slice_get xs m) fresh.mutexes) (ap owner_of e ∙ its) (stayed_same old k fresh.tasks) w)
   unlocks_if false m mutex e its = takes 0 m (mutex.count - 1) mutex (omega arith) e (inr its) (omega arith)
 
-  unlocks_once : (m : ℕ) (mutex : Mutex) → slice_get k.mutexes m ≡ Some mutex → mutex.owner ≡ Some t → Walk a old 1 32 (unlock_once t m mutex k)
+  unlocks_once : (m : ℕ) (mutex : Mutex) → slice_get k.mutexes m ≡ Some mutex → mutex.owner ≡ Some t → Walk a old 1 64 (unlock_once t m mutex k)
   unfolding unlock_once
   unlocks_once m mutex e its = unlocks_if (nat_le mutex.count 1) m mutex e its
 
-  unlocks_known : (o : Option Mutex) (m : ℕ) → slice_get k.mutexes m ≡ o → Walk a old 1 32 (unlock_known o t m k).0
+  unlocks_known : (o : Option Mutex) (m : ℕ) → slice_get k.mutexes m ≡ o → Walk a old 1 64 (unlock_known o t m k).0
   unlocks_known None m e = same
   unlocks_known (Some mutex) m e = either a old (is_number mutex.owner t) _ _ (λ its. unlocks_once m mutex e (boosts-is mutex.owner t its)) (λ other. same)
 
-  pub unlocks : (m : ℕ) → Walk a old 1 32 (unlock t m k).0
+  pub unlocks : (m : ℕ) → Walk a old 1 64 (unlock t m k).0
   unfolding unlock
   unlocks m = unlocks_known (slice_get k.mutexes m) m refl

@@ -17,7 +17,11 @@ use Rattle.evm_model.specs.Commands.{set_bits, on_number, is_set, set_breakpoint
 use Rattle.evm_model.specs.Harts.{set_register, advance}
 use Rattle.evm_model.specs.Instructions.{fault, stop, finish, finish_load, finish_store, execute, execute_inst, execute_word}
 use Rattle.evm_model.specs.Memory.{fetch, read, write}
-use Rattle.evm_model.specs.Pipes.{Pipe, raise, receive}
+use Rattle.evm_model.specs.Actions.{action_at, receive_line}
+use Rattle.evm_model.specs.Pipes.{Pipe, raise, is_oob_line, stage_by, stage_of, receive}
+use Rattle.evm_model.specs.declared.action.Action.{Action}
+use Rattle.evm_model.specs.declared.stage.Stage.{Stage}
+use Rattle.evm_model.specs.declared.stage.Stage.TheVariants.{OutOfBand}
 use Rattle.evm_model.specs.Refusals.{board_refusal}
 use Rattle.evm_model.specs.Rows.{run, step_hart, step_current, step_wire, step_pipe, step_processor, step, single_step, row}
 use Rattle.evm_model.specs.Settle.{current, current_of, is_oob, run_best, settle_oob_pipe, settle_oob, play_in_band_pipe, turn_in_band, settle_in_band, settle, nudge_pipe, nudge, settle_and_nudge, wants_nudge, play_oob_lines}
@@ -32,29 +36,30 @@ use Rattle.evm_model.specs.declared.processor.Processor.{Processor}
 use Rattle.evm_model.specs.declared.task.TaskState.TheVariants.{Faulted}
 use Rattle.evm_model.specs.declared.refusal.Refusal.TheVariants.{NoSuchLine}
 use Rattle.evm_model.proofs.Lists.{change-here}
-use Rattle.evm_walk.proofs.Calls.{walks_call}
+use Rattle.evm_walk.proofs.Calls.{walks_closely}
 use Rattle.evm_walk.proofs.Passing.{ends}
-use Rattle.evm_walk.proofs.Playing.{first_on, walks_oob_lines, walks_in_band_lines}
+use Rattle.evm_walk.proofs.Playing.{first_on, stamps_all, stamps_few, walks_oob_lines, walks_in_band_lines}
 use Rattle.evm_walk.proofs.Refused.{passes, is_line}
 use Rattle.evm_walk.proofs.Sets.{length-set, walk_pipes}
 use Rattle.evm_walk.proofs.Tasks.{demotes}
-use Rattle.evm_walk.proofs.Walk.{Actor, ArePipes, Untouched, raises, receives, hart, marks, picks, moves, tells, clock, Walk, start, quietly, counted, slack, walk_if}
+use Rattle.evm_walk.proofs.Walk.{Actor, ArePipes, Untouched, unchanged, raises, receives, hart, marks, picks, moves, tells, clock, Walk, start, quietly, counted, slack, walk_if}
 
 -- ---- settling
 module _ (a : Actor) (old : Parts) (may : a.chooses ≡ true) where
-  settles_pipe : (was : Option ℕ) (o : Option Pipe) (n s : ℕ) (k : Parts) → slice_get k.pipes a.cpu ≡ o → current a.cpu old ≡ was → Walk a old n s k → Walk a old (n + 32) (s + 32) (settle_oob_pipe o was a.cpu k)
-  settles_pipe was None n s k e runs w = slack a old n (n + 32) s (s + 32) k (λ p. omega arith) (λ p. omega arith) w
+  settles_pipe : (was : Option ℕ) (o : Option Pipe) (n s : ℕ) (k : Parts) → slice_get k.pipes a.cpu ≡ o → current a.cpu old ≡ was → Walk a old n s k → Walk a old (n + 32) (s + 128) (settle_oob_pipe o was a.cpu k)
+  settles_pipe was None n s k e runs w = slack a old n (n + 32) s (s + 128) k (λ p. omega arith) (λ p. omega arith) w
   settles_pipe was (Some pipe) n s k e runs w =
       let ls : List ℕ = pipe.oob.lines in
       let played : Parts = play_oob_lines was a.cpu ls k in
       let few : ArePipes old → length ls ≤ LINES = λ are. length-set ls ((walk_pipes a old n s k w are).each a.cpu pipe e).oob in
-      walk_if a old (n + 32) (s + 32) pipe.oob.stalled k (run_best a.cpu played)
-      (λ stalled. slack a old n (n + 32) s (s + 32) k (λ p. omega arith) (λ p. omega arith) w)
-      (λ free. slack a old (n + length ls) (n + 32) (s + length ls) (s + 32) _ (λ are. omega (arith, few are)) (λ p. omega (arith, few p.pipes))
-      (quietly a old (n + length ls) (s + length ls) played _ (picks _ played may)
+      let cheap : ArePipes old → stamps_all ls ≤ 128 = λ are. stamps_few ls ((walk_pipes a old n s k w are).each a.cpu pipe e).oob in
+      walk_if a old (n + 32) (s + 128) pipe.oob.stalled k (run_best a.cpu played)
+      (λ stalled. slack a old n (n + 32) s (s + 128) k (λ p. omega arith) (λ p. omega arith) w)
+      (λ free. slack a old (n + length ls) (n + 32) (s + stamps_all ls) (s + 128) _ (λ are. omega (arith, few are)) (λ p. omega (arith, cheap p.pipes))
+      (quietly a old (n + length ls) (s + stamps_all ls) played _ (picks _ played may)
       (walks_oob_lines a old was runs ls n s k pipe e (λ are. record { same = refl; pipe = (walk_pipes a old n s k w are).each a.cpu pipe e }) w)))
 
-  pub settles_oob : (was : Option ℕ) (n s : ℕ) (k : Parts) → current a.cpu old ≡ was → Walk a old n s k → Walk a old (n + 32) (s + 32) (settle_oob was a.cpu k)
+  pub settles_oob : (was : Option ℕ) (n s : ℕ) (k : Parts) → current a.cpu old ≡ was → Walk a old n s k → Walk a old (n + 32) (s + 128) (settle_oob was a.cpu k)
   unfolding settle_oob
   settles_oob was n s k runs w = settles_pipe was (slice_get k.pipes a.cpu) n s k refl runs w
 
@@ -80,12 +85,12 @@ module _ (a : Actor) (old : Parts) (may : a.chooses ≡ true) where
       walk_if a old (n + 32) (s + 2048) (is_oob (current a.cpu k) k.tasks) k _ (λ oob. slack a old n (n + 32) s (s + 2048) k (λ p. omega arith) (λ p. omega arith) w)
       (λ e. turns_in_band n s k w)
 
-  pub settles : (was : Option ℕ) (n s : ℕ) (k : Parts) → current a.cpu old ≡ was → Walk a old n s k → Walk a old (n + 64) (s + 2080) (settle was a.cpu k)
+  pub settles : (was : Option ℕ) (n s : ℕ) (k : Parts) → current a.cpu old ≡ was → Walk a old n s k → Walk a old (n + 64) (s + 2176) (settle was a.cpu k)
   unfolding settle
   settles was n s k runs w =
       let counts : n + 64 ≡ n + 32 + 32 = omega arith in
-      let gives : s + 2080 ≡ s + 32 + 2048 = omega arith in
-      rw (counts, gives) (settles_in_band (n + 32) (s + 32) (settle_oob was a.cpu k) (settles_oob was n s k runs w))
+      let gives : s + 2176 ≡ s + 128 + 2048 = omega arith in
+      rw (counts, gives) (settles_in_band (n + 32) (s + 128) (settle_oob was a.cpu k) (settles_oob was n s k runs w))
 
 -- ---- the others are told
 nudged : (own wants may : Bool) (p : Pipe) → may ≡ true → ((if own then p else (if wants then raise 1 p else p)) ≡ p) ⊎ (((if own then p else (if wants then raise 1 p else p)) ≡ raise 1 p) × (may ≡ true))
@@ -117,48 +122,48 @@ module _ (a : Actor) (old k : Parts) (t : ℕ) (own : a.task ≡ Some t) (fresh 
       walk_if a old 0 32 (is_oob (Some t) k.tasks) (demote a.cpu t k) _
       (λ oob. slack a old 0 0 1 32 _ (λ p. omega arith) (λ p. omega arith) (demotes a old 0 0 t k own (inl (ap length fresh.tasks)) w))
       (λ e. slack a old 0 0 (0 + length k.mutexes) 32 _ (λ p. omega arith) (λ few. omega (arith, few.mutexes, ap length fresh.mutexes))
-      (ends a old 0 t own 0 (Faulted f) k fresh.mutexes (ap length fresh.tasks) w))
+      (ends a old 0 t own 0 (Faulted f) k refl fresh.mutexes fresh.tasks w))
 
-  up : (s : ℕ) (x : Parts) → s ≤ 33 → Walk a old 0 s x → Walk a old 1 33 x
-  up s x h v = slack a old 0 1 s 33 x (λ p. omega arith) (λ p. h) v
+  up : (s : ℕ) (x : Parts) → s ≤ 65 → Walk a old 0 s x → Walk a old 1 65 x
+  up s x h v = slack a old 0 1 s 65 x (λ p. omega arith) (λ p. h) v
 
   -- a register and the pc
   goes_on : (r value : ℕ) (f : Hart → Hart) → ((x : Hart) → (f x).regs ≡ (set_register r value x).regs) → Walk a old 0 0 (on_hart t f k)
   goes_on r value f same = quietly a old 0 0 k _ (hart t r value f k own same (inr (ap length fresh.harts))) w
 
 module _ (a : Actor) (old : Parts) (t : ℕ) (own : a.task ≡ Some t) (b : Board) (fresh : Untouched old b.parts) (w : Walk a old 0 0 b.parts) where
-  faulted : (f : Fault) → Walk a old 1 33 (fault a.cpu t f b.parts)
+  faulted : (f : Fault) → Walk a old 1 65 (fault a.cpu t f b.parts)
   faulted f = up a old b.parts t own fresh w 32 _ (omega arith) (faults a old b.parts t own fresh w f)
 
-  went : (r value : ℕ) (f : Hart → Hart) → ((x : Hart) → (f x).regs ≡ (set_register r value x).regs) → Walk a old 1 33 (on_hart t f b.parts)
+  went : (r value : ℕ) (f : Hart → Hart) → ((x : Hart) → (f x).regs ≡ (set_register r value x).regs) → Walk a old 1 65 (on_hart t f b.parts)
   went r value f same = up a old b.parts t own fresh w 0 _ (omega arith) (goes_on a old b.parts t own fresh w r value f same)
 
-  loads : (o : Option (ℕ × Memory)) (op : LoadOp) (rd : ℕ) → Walk a old 1 33 (finish_load o op rd a.cpu t b).parts
+  loads : (o : Option (ℕ × Memory)) (op : LoadOp) (rd : ℕ) → Walk a old 1 65 (finish_load o op rd a.cpu t b).parts
   loads None op rd = faulted _
   loads (Some loaded) op rd = went rd (loaded_value op loaded.0) _ (λ x. refl)
 
-  stores : (o : Option Memory) → Walk a old 1 33 (finish_store o a.cpu t b).parts
+  stores : (o : Option Memory) → Walk a old 1 65 (finish_store o a.cpu t b).parts
   stores None = faulted _
   stores (Some memory) = went 0 0 advance (λ x. refl)
 
-  effects : (effect : Effect) → (is_call effect ≡ true → a.calls ≡ true) → Walk a old 1 33 (finish effect a.cpu t b).parts
+  effects : (effect : Effect) → (is_call effect ≡ true → a.calls ≡ true) → Walk a old 1 65 (finish effect a.cpu t b).parts
   unfolding finish stop
   effects (Next rd value pc) may = went rd value _ (λ x. refl)
   effects (Load op rd address) may = loads (read address (width_of_load op) b.memory) op rd
   effects (Store width address value) may = stores (write address width value b.memory)
-  effects Call may = walks_call a old b.parts t own fresh w (may refl)
-  effects Breaks may = quietly a old 1 33 (on_hart t advance b.parts) _ (marks (λ p. record p { stopped = true }) (on_hart t advance b.parts) (λ p. refl)) (went 0 0 advance (λ x. refl))
+  effects Call may = walks_closely a old b.parts t own fresh w (may refl)
+  effects Breaks may = quietly a old 1 65 (on_hart t advance b.parts) _ (marks (λ p. record p { stopped = true }) (on_hart t advance b.parts) (λ p. refl)) (went 0 0 advance (λ x. refl))
   effects Misaligned may = faulted _
 
-  insts : (o : Option Inst) (x : Hart) → (inst_calls o x ≡ true → a.calls ≡ true) → Walk a old 1 33 (execute_inst o x a.cpu t b).parts
+  insts : (o : Option Inst) (x : Hart) → (inst_calls o x ≡ true → a.calls ≡ true) → Walk a old 1 65 (execute_inst o x a.cpu t b).parts
   insts None x may = faulted _
   insts (Some inst) x may = effects (does inst x.regs x.pc) may
 
-  words : (o : Option ℕ) (x : Hart) → (word_calls o x ≡ true → a.calls ≡ true) → Walk a old 1 33 (execute_word o x a.cpu t b).parts
+  words : (o : Option ℕ) (x : Hart) → (word_calls o x ≡ true → a.calls ≡ true) → Walk a old 1 65 (execute_word o x a.cpu t b).parts
   words None x may = faulted _
   words (Some word) x may = insts (decoded word) x may
 
-  pub executes : (x : Hart) → (word_calls (fetch x.pc b.memory) x ≡ true → a.calls ≡ true) → Walk a old 1 33 (execute x a.cpu t b).parts
+  pub executes : (x : Hart) → (word_calls (fetch x.pc b.memory) x ≡ true → a.calls ≡ true) → Walk a old 1 65 (execute x a.cpu t b).parts
   unfolding execute
   executes x may = words (fetch x.pc b.memory) x may
 
@@ -166,17 +171,17 @@ module _ (a : Actor) (old : Parts) (t : ℕ) (own : a.task ≡ Some t) (b : Boar
 -- a walk, after which the others may have been told
 pub record Stepped (a : Actor) (old new : Parts) : Type 0 where
   pub between : Parts
-  pub walk : Walk a old 65 2113 between
+  pub walk : Walk a old 65 2241 between
   pub told : (new ≡ between) ⊎ (new ≡ nudge a.cpu between)
 
-stepped : (a : Actor) (old : Parts) (n s : ℕ) (k : Parts) → n ≤ 65 → s ≤ 2113 → Walk a old n s k → Stepped a old k
-stepped a old n s k h g w = record { between = k; walk = slack a old n 65 s 2113 k (λ p. h) (λ p. g) w; told = inl refl }
+stepped : (a : Actor) (old : Parts) (n s : ℕ) (k : Parts) → n ≤ 65 → s ≤ 2241 → Walk a old n s k → Stepped a old k
+stepped a old n s k h g w = record { between = k; walk = slack a old n 65 s 2241 k (λ p. h) (λ p. g) w; told = inl refl }
 
-finishes : (a : Actor) (old : Parts) (was : Option ℕ) (n s : ℕ) (k : Parts) → a.chooses ≡ true → n ≤ 1 → s ≤ 33 → current a.cpu old ≡ was → Walk a old n s k → Stepped a old (settle_and_nudge was a.cpu k)
+finishes : (a : Actor) (old : Parts) (was : Option ℕ) (n s : ℕ) (k : Parts) → a.chooses ≡ true → n ≤ 1 → s ≤ 65 → current a.cpu old ≡ was → Walk a old n s k → Stepped a old (settle_and_nudge was a.cpu k)
 unfolding settle_and_nudge
 finishes a old was n s k may h g runs w = record {
   between = settle was a.cpu k;
-  walk = slack a old (n + 64) 65 (s + 2080) 2113 _ (λ p. omega (arith, h)) (λ p. omega (arith, g)) (settles a old may was n s k runs w);
+  walk = slack a old (n + 64) 65 (s + 2176) 2241 _ (λ p. omega (arith, h)) (λ p. omega (arith, g)) (settles a old may was n s k runs w);
   told = inr refl;
 }
 
@@ -201,8 +206,19 @@ module _ (a : Actor) (old : Parts) (b : Board) (may : MaySteps a b) (fresh : Unt
       let passed : Board = on_parts (on_processor a.cpu skips) b in
       let done : Parts = (execute x a.cpu t passed).parts in
       let begun : Walk a old 0 0 passed.parts = quietly a old 0 0 b.parts _ (marks skips b.parts (λ p. refl)) w in
-      let begins : Untouched old passed.parts = record { tasks = fresh.tasks; harts = fresh.harts; mutexes = fresh.mutexes; console = fresh.console } in
-      finishes a old (Some t) 1 33 done may.chooses (omega arith) (omega arith) (same ∙ now) (executes a old t own passed begins begun x calls)
+      let begins : Untouched old passed.parts = record {
+        tasks = fresh.tasks;
+        harts = fresh.harts;
+        mutexes = fresh.mutexes;
+        console = fresh.console;
+        ticks = fresh.ticks;
+        semaphores = fresh.semaphores;
+        events = fresh.events;
+        flags = fresh.flags;
+        timers = fresh.timers;
+        actions = fresh.actions;
+      } in
+      finishes a old (Some t) 1 65 done may.chooses (omega arith) (omega arith) (same ∙ now) (executes a old t own passed begins begun x calls)
 
   hart_steps : (o : Option Hart) (p : Processor) (t : ℕ) → a.task ≡ Some t → current a.cpu b.parts ≡ Some t → slice_get b.parts.harts t ≡ o → Stepped a old (step_hart o p a.cpu t b).0.parts
   hart_steps None p t own now has = stepped a old 0 0 b.parts (omega arith) (omega arith) w
@@ -217,12 +233,21 @@ module _ (a : Actor) (old : Parts) (b : Board) (may : MaySteps a b) (fresh : Unt
   least_on [] l e = cc
   least_on (x ∷ xs) l e = let same : x ≡ l = cc in rw same (first_on l xs)
 
+  stage_if : (b : Bool) (action : Action) → b ≡ true → (if b then OutOfBand else stage_by action) ≡ OutOfBand
+  stage_if true action e = refl
+  stage_if false action e = cc
+
+  fixed_stage : (action : Action) (l : ℕ) → l < 2 → stage_of action l ≡ OutOfBand
+  fixed_stage action l small = stage_if (is_oob_line l) action (grind (arith, nat_tests))
+
   wire_steps : (o : Option ℕ) (p : Processor) (pipe : Pipe) → slice_get b.parts.pipes a.cpu ≡ Some pipe → slice_get b.parts.processors a.cpu ≡ Some p → least_line pipe.wire ≡ o → Stepped a old (step_wire o p a.cpu b).0.parts
+  unfolding receive_line
   wire_steps None p pipe e f wire = let now : current a.cpu b.parts ≡ p.current = ap current_of f in current_steps p.current p (may.acts pipe e wire ∙ now) now
   wire_steps (Some l) p pipe e f wire =
-      let heard : Parts = on_pipe a.cpu (receive l) b.parts in
-      finishes a old p.current 1 0 heard may.chooses (omega arith) (omega arith) (same ∙ ap current_of f)
-      (counted a old 0 0 b.parts _ 1 (moves 1 (receive l) b.parts (λ are q d. let one : pipe ≡ q = (let two : Some pipe ≡ Some q = sym e ∙ d in cc) in receives l q (least_on q.wire l (rw (← one) wire)))) w)
+      let stage : Stage = stage_of (action_at l b.parts) l in
+      finishes a old p.current 1 0 (receive_line a.cpu l b.parts) may.chooses (omega arith) (omega arith) (same ∙ ap current_of f)
+      (counted a old 0 0 b.parts _ 1
+      (moves 1 (receive stage l) b.parts (λ are q d. let one : pipe ≡ q = (let two : Some pipe ≡ Some q = sym e ∙ d in cc) in receives stage l q (fixed_stage (action_at l b.parts) l) (least_on q.wire l (rw (← one) wire)))) w)
 
   pipe_steps : (o : Option Pipe) (p : Processor) → slice_get b.parts.pipes a.cpu ≡ o → slice_get b.parts.processors a.cpu ≡ Some p → Stepped a old (step_pipe o p a.cpu b).0.parts
   pipe_steps None p e f = stepped a old 0 0 b.parts (omega arith) (omega arith) w
@@ -237,10 +262,10 @@ module _ (a : Actor) (old : Parts) (b : Board) (may : MaySteps a b) (fresh : Unt
   steps = processor_steps (slice_get b.parts.processors a.cpu) refl
 
 -- the whole of it, where line 1 may be raised
-pub stepped_walk : (a : Actor) (old new : Parts) → ((d : ℕ) → a.may d 1 ≡ true) → Stepped a old new → Walk a old 66 2113 new
+pub stepped_walk : (a : Actor) (old new : Parts) → ((d : ℕ) → a.may d 1 ≡ true) → Stepped a old new → Walk a old 66 2241 new
 stepped_walk a old new may d = elim d.told [
-  | inl same ↦ rw same (slack a old 65 66 2113 2113 d.between (λ p. omega arith) (λ p. omega arith) d.walk)
-  | inr told ↦ rw told (nudges a old 65 2113 d.between may d.walk)
+  | inl same ↦ rw same (slack a old 65 66 2241 2241 d.between (λ p. omega arith) (λ p. omega arith) d.walk)
+  | inr told ↦ rw told (nudges a old 65 2241 d.between may d.walk)
 ]
 
 -- ---- commands
@@ -286,11 +311,22 @@ bits_current c stopped skip k = ap current_of (change-here (λ (p : Processor). 
 
 set_number : (a : Actor) (o : Option ℕ) (k : Parts) (r value : ℕ) (f : Hart → Hart) → a.task ≡ o → ((x : Hart) → (f x).regs ≡ (set_register r value x).regs) → Walk a k 0 0 (on_number o f k)
 set_number a None k r value f own same = start
-set_number a (Some t) k r value f own same = goes_on a k k t own (record { tasks = refl; harts = refl; mutexes = refl; console = refl }) start r value f same
+set_number a (Some t) k r value f own same = goes_on a k k t own (unchanged k) start r value f same
 
 set_bits_untouched : (c : ℕ) (stopped skip : Bool) (k : Parts) → Untouched k (set_bits stopped skip c k)
 unfolding set_bits
-set_bits_untouched c stopped skip k = record { tasks = refl; harts = refl; mutexes = refl; console = refl }
+set_bits_untouched c stopped skip k = record {
+  tasks = refl;
+  harts = refl;
+  mutexes = refl;
+  console = refl;
+  ticks = refl;
+  semaphores = refl;
+  events = refl;
+  flags = refl;
+  timers = refl;
+  actions = refl;
+}
 
 both_same : (c l : ℕ) → (c == c && l == l) ≡ true
 both_same c l = let one : (c == c) ≡ true = grind (arith, nat_tests) in let two : (l == l) ≡ true = grind (arith, nat_tests) in rw (one, two) refl
@@ -298,14 +334,14 @@ both_same c l = let one : (c == c) ≡ true = grind (arith, nat_tests) in let tw
 raised : (event : Event) (c l : ℕ) (k : Parts) → actor event ≡ c → may_raise event c l ≡ true → l < LINES → Walk (acting event k) k 1 0 (on_pipe (actor event) (raise l) k)
 raised event c l k same may small = counted (acting event k) k 0 0 k _ 1 (moves 1 (raise l) k (λ are p e. raises l p small (rw same may))) start
 
-single : (c : ℕ) (b : Board) → Walk (acting (StepI c) b.parts) b.parts 66 2113 (single_step c b).parts
+single : (c : ℕ) (b : Board) → Walk (acting (StepI c) b.parts) b.parts 66 2241 (single_step c b).parts
 unfolding single_step
 single c b =
     let a : Actor = acting (StepI c) b.parts in
     let freed : Board = on_parts (set_bits false true c) b in
     let begun : Walk a b.parts 0 0 freed.parts = bits a b.parts 0 0 b.parts false true start in
     let same : current c b.parts ≡ current c freed.parts = sym (bits_current c false true b.parts) in
-    bits a b.parts 66 2113 (step c freed).0.parts true false
+    bits a b.parts 66 2241 (step c freed).0.parts true false
     (stepped_walk a b.parts (step c freed).0.parts (λ d. refl)
     (steps a b.parts freed (record { chooses = refl; acts = λ pipe e wire. same; calls = λ t x now has e. refl }) (set_bits_untouched c false true b.parts) same begun))
 
@@ -317,15 +353,15 @@ module _ (event : Event) (b : Board) where
 pub row_walks : (event : Event) (b : Board) → board_refusal event b ≡ None → Walk (acting event b.parts) b.parts MOVES STAMPS_PER_EVENT (row event b).0.parts
 unfolding row set_breakpoint unset_breakpoint
 row_walks (Step c) b e =
-    most (Step c) b 66 2113 _ (omega arith) (omega arith)
+    most (Step c) b 66 2241 _ (omega arith) (omega arith)
     (stepped_walk (acting (Step c) b.parts) b.parts (step c b).0.parts (λ d. refl)
-    (steps (acting (Step c) b.parts) b.parts b (record { chooses = refl; acts = λ pipe f wire. refl; calls = λ t x now has g. refl }) (record { tasks = refl; harts = refl; mutexes = refl; console = refl }) refl start))
+    (steps (acting (Step c) b.parts) b.parts b (record { chooses = refl; acts = λ pipe f wire. refl; calls = λ t x now has g. refl }) (unchanged b.parts) refl start))
 row_walks Tick b e = most Tick b 1 0 _ (omega arith) (omega arith) (counted (acting Tick b.parts) b.parts 0 0 b.parts _ 1 (clock b.parts (λ d. refl)) start)
 row_walks (Raise c l) b e = most (Raise c l) b 1 0 _ (omega arith) (omega arith) (raised (Raise c l) c l b.parts refl (both_same c l) (is_line l (passes (Raise c l) b NoSuchLine e)))
 row_walks (Bell c l) b e = most (Bell c l) b 1 0 _ (omega arith) (omega arith) (raised (Bell c l) c l b.parts refl (both_same c l) (is_line l (passes (Bell c l) b NoSuchLine e)))
 row_walks (Stop c) b e = most (Stop c) b 0 0 _ (omega arith) (omega arith) (stops (acting (Stop c) b.parts) b.parts 0 0 b.parts start)
 row_walks (Go c) b e = most (Go c) b 0 0 _ (omega arith) (omega arith) (bits (acting (Go c) b.parts) b.parts 0 0 b.parts false true start)
-row_walks (StepI c) b e = most (StepI c) b 66 2113 _ (omega arith) (omega arith) (single c b)
+row_walks (StepI c) b e = most (StepI c) b 66 2241 _ (omega arith) (omega arith) (single c b)
 row_walks (SetReg c r value) b e = most (SetReg c r value) b 0 0 _ (omega arith) (omega arith) (set_number (acting (SetReg c r value) b.parts) (current c b.parts) b.parts r value _ refl (λ x. refl))
 row_walks (SetPc c pc) b e = most (SetPc c pc) b 0 0 _ (omega arith) (omega arith) (set_number (acting (SetPc c pc) b.parts) (current c b.parts) b.parts 0 0 _ refl (λ x. refl))
 row_walks (Poke address bytes) b e = most (Poke address bytes) b 0 0 _ (omega arith) (omega arith) start

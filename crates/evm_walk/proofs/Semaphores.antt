@@ -11,21 +11,42 @@ use Rattle.evm_model.specs.Waits.{first_waiter}
 use Rattle.evm_model.specs.declared.limits.TheConstants.{SEMAPHORE_LIMIT, SEMAPHORE_COUNT_LIMIT}
 use Rattle.evm_model.specs.declared.stage.Stage.TheVariants.{OutOfBand}
 use Rattle.evm_model.specs.declared.task.Wait.TheVariants.{Semaphore}
-use Rattle.evm_walk.proofs.Locks.{either, up, same, waits_unless}
-use Rattle.evm_walk.proofs.Waiters.{first-waits}
-use Rattle.evm_walk.proofs.Walk.{Actor, Untouched, Makes, put, wakes, counts, sets_up, Walk, quietly, stamped}
+use Rattle.evm_model.specs.declared.task.Task.{Task}
+use Rattle.evm_walk.proofs.Locks.{either_at, either, up, same, waits_unless}
+use Rattle.evm_walk.proofs.Waiters.{IsWaiter, first_is, wait_is}
+use Rattle.evm_walk.proofs.Walk.{Actor, Untouched, Makes, Cause, put, CountedBy, by_call, wakes, counts, sets_up, Walk, quietly, stamped, slack}
 
+one_more : (b n count : ℕ) (o : Option ℕ) → o ≡ Some count → o ≡ Some n → count < b → n + 1 ≤ b
+one_more b n count o e h room = let two : Some count ≡ Some n = sym e ∙ h in let same : count ≡ n = cc in omega (arith, same, room)
+
+-- ---- one is put, by whoever may
+module _ (a : Actor) (old : Parts) (n g s : ℕ) (k : Parts) (by : CountedBy a old k s) (why : (u : ℕ) (x : Task) → Cause a old u x k (Semaphore s) 0) (w : Walk a old n g k) where
+  stays : Walk a old n (g + 1) k
+  stays = slack a old n n g (g + 1) k (λ p. omega arith) (λ p. omega arith) w
+
+  puts_to : (o : Option ℕ) (count : ℕ) → slice_get k.semaphores s ≡ Some count → first_waiter (Semaphore s) k ≡ o → Walk a old n (g + 1) (sem_put_to o s count k).0
+  puts_to None count there e =
+      either_at a old n (g + 1) (nat_le SEMAPHORE_COUNT_LIMIT count) _ _ (λ full. stays)
+      (λ less. let room : count < SEMAPHORE_COUNT_LIMIT = grind (arith, nat_tests) in
+      quietly a old n (g + 1) k _ (counts s (λ m. m + 1) k by (λ m h small. one_more SEMAPHORE_COUNT_LIMIT m count (slice_get k.semaphores s) there h room)) stays)
+  puts_to (Some u) count there e =
+      let waiter : IsWaiter (Semaphore s) u k = first_is (Semaphore s) u k e in
+      stamped a old n g k _ (wakes u 0 waiter.task (Semaphore s) k waiter.there (wait_is (Semaphore s) waiter.task.state refl waiter.on) (why u waiter.task)) w
+
+  puts_known : (o : Option ℕ) → slice_get k.semaphores s ≡ o → Walk a old n (g + 1) (sem_put_known o s k).0
+  puts_known None there = stays
+  puts_known (Some count) there = puts_to (first_waiter (Semaphore s) k) count there refl
+
+  pub puts_into : Walk a old n (g + 1) (sem_put s k).0
+  unfolding sem_put
+  puts_into = puts_known (slice_get k.semaphores s) refl
+
+-- ---- the calls
 module _ (a : Actor) (old k : Parts) (t : ℕ) (own : a.task ≡ Some t) (fresh : Untouched old k) (w : Walk a old 0 0 k) where
-  none : Walk a old 1 32 k
+  none : Walk a old 1 64 k
   none = same a old k t own fresh w
 
-  counts_as : (s : ℕ) (f : ℕ → ℕ) → ((n : ℕ) → slice_get k.semaphores s ≡ Some n → n ≤ SEMAPHORE_COUNT_LIMIT → f n ≤ SEMAPHORE_COUNT_LIMIT) → Walk a old 1 32 (on_semaphore s f k)
-  counts_as s f h = up a old k t own fresh w 0 0 _ (omega arith) (omega arith) (quietly a old 0 0 k _ (counts t s f k own fresh h) w)
-
-  takes_one : (s : ℕ) → Walk a old 1 32 (on_semaphore s (λ n. n - 1) k)
-  takes_one s = counts_as s (λ n. n - 1) (λ n e h. omega (arith, h))
-
-  pub makes_semaphore : (count : ℕ) → Walk a old 1 32 (new_semaphore count k).0
+  pub makes_semaphore : (count : ℕ) → Walk a old 1 64 (new_semaphore count k).0
   unfolding new_semaphore add_semaphore
   makes_semaphore count =
       either a old (nat_lt SEMAPHORE_COUNT_LIMIT count) _ _ (λ e. none) (λ small.
@@ -34,40 +55,26 @@ module _ (a : Actor) (old k : Parts) (t : ℕ) (own : a.task ≡ Some t) (fresh 
       let fits : count ≤ SEMAPHORE_COUNT_LIMIT = grind (arith, nat_tests) in
       up a old k t own fresh w 0 0 _ (omega arith) (omega arith) (quietly a old 0 0 k _ (sets_up t count k own fresh room fits) w)))
 
-  gets_known : (o : Option ℕ) (s deadline : ℕ) → Walk a old 1 32 (sem_get_known o a.cpu t s deadline k).0
-  gets_known None s deadline = none
-  gets_known (Some count) s deadline =
-      either a old (count == 0) _ _ (λ e. waits_unless a old k t own fresh w (wait_refusal (is_stalled OutOfBand a.cpu k) None deadline) (Semaphore s) deadline) (λ e. takes_one s)
+  takes_one : (s : ℕ) → CountedBy a old k s → Walk a old 1 64 (on_semaphore s (λ n. n - 1) k)
+  takes_one s by = up a old k t own fresh w 0 0 _ (omega arith) (omega arith) (quietly a old 0 0 k _ (counts s (λ n. n - 1) k by (λ n e h. omega (arith, h))) w)
 
-  pub gets : (s deadline : ℕ) → Walk a old 1 32 (sem_get a.cpu t s deadline k).0
-  unfolding sem_get
-  gets s deadline = gets_known (slice_get k.semaphores s) s deadline
+  gets_known : (o : Option ℕ) (s deadline : ℕ) → CountedBy a old k s → Walk a old 1 64 (sem_get_known o a.cpu t s deadline k).0
+  gets_known None s deadline by = none
+  gets_known (Some count) s deadline by =
+      either a old (count == 0) _ _ (λ e. waits_unless a old k t own fresh w (wait_refusal (is_stalled OutOfBand a.cpu k) None k.ticks deadline) (Semaphore s) deadline refl) (λ e. takes_one s by)
 
-  tries_get_known : (o : Option ℕ) (s : ℕ) → Walk a old 1 32 (sem_try_get_known o s k).0
-  tries_get_known None s = none
-  tries_get_known (Some count) s = either a old (count == 0) _ _ (λ e. none) (λ e. takes_one s)
+  tries_get_known : (o : Option ℕ) (s : ℕ) → CountedBy a old k s → Walk a old 1 64 (sem_try_get_known o s k).0
+  tries_get_known None s by = none
+  tries_get_known (Some count) s by = either a old (count == 0) _ _ (λ e. none) (λ e. takes_one s by)
 
-  pub tries_get : (s : ℕ) → Walk a old 1 32 (sem_try_get s k).0
-  unfolding sem_try_get
-  tries_get s = tries_get_known (slice_get k.semaphores s) s
+  module _ (x : Hart) where
+    pub gets : Makes a old 39 x → Walk a old 1 64 (sem_get a.cpu t (argument 0 x) (argument 1 x) k).0
+    unfolding sem_get
+    gets call = gets_known (slice_get k.semaphores (argument 0 x)) (argument 0 x) (argument 1 x) (by_call 39 x (omega arith) (omega arith) call refl)
 
-  one_more : (b n count : ℕ) (o : Option ℕ) → o ≡ Some count → o ≡ Some n → count < b → n + 1 ≤ b
-  one_more b n count o e h room = let two : Some count ≡ Some n = sym e ∙ h in let same : count ≡ n = cc in omega (arith, same, room)
+    pub tries_get : Makes a old 40 x → Walk a old 1 64 (sem_try_get (argument 0 x) k).0
+    unfolding sem_try_get
+    tries_get call = tries_get_known (slice_get k.semaphores (argument 0 x)) (argument 0 x) (by_call 40 x (omega arith) (omega arith) call refl)
 
-  module _ (x : Hart) (call : Makes a old 41 x) where
-    abbrev s : ℕ
-    s = argument 0 x
-
-    puts_to : (o : Option ℕ) (count : ℕ) → slice_get k.semaphores s ≡ Some count → first_waiter (Semaphore s) k ≡ o → Walk a old 1 32 (sem_put_to o s count k).0
-    puts_to None count there e =
-        either a old (nat_le SEMAPHORE_COUNT_LIMIT count) _ _ (λ full. none)
-        (λ less. let room : count < SEMAPHORE_COUNT_LIMIT = grind (arith, nat_tests) in counts_as s (λ n. n + 1) (λ n h small. one_more SEMAPHORE_COUNT_LIMIT n count (slice_get k.semaphores s) there h room))
-    puts_to (Some u) count there e = up a old k t own fresh w 0 1 _ (omega arith) (omega arith) (stamped a old 0 0 k _ (wakes u (Semaphore s) k (first-waits (Semaphore s) u k e) (put x call)) w)
-
-    puts_known : (o : Option ℕ) → slice_get k.semaphores s ≡ o → Walk a old 1 32 (sem_put_known o s k).0
-    puts_known None there = none
-    puts_known (Some count) there = puts_to (first_waiter (Semaphore s) k) count there refl
-
-    pub puts_one : Walk a old 1 32 (sem_put s k).0
-    unfolding sem_put
-    puts_one = puts_known (slice_get k.semaphores s) refl
+    pub puts_one : Makes a old 41 x → Walk a old 1 64 (sem_put (argument 0 x) k).0
+    puts_one call = up a old k t own fresh w 0 1 _ (omega arith) (omega arith) (puts_into a old 0 0 (argument 0 x) k (by_call 41 x (omega arith) (omega arith) call refl) (λ u y. put x call) w)

@@ -6,7 +6,7 @@ use Rattle.evm_lines.specs.Lines.{all_lines, has_line, IsLineSet}
 use Rattle.evm_lines.specs.Laws.{IsLineSet-with, IsLineSet-without, IsLineSet-empty}
 use Rattle.evm_lines.specs.declared.TheConstants.{LINES}
 use Rattle.evm_model.specs.Good.{IsPipe}
-use Rattle.evm_model.specs.Pipes.{Pipe, raise, arrive, leave_wire, receive, play, set_stall, stage_of, idle_pipe}
+use Rattle.evm_model.specs.Pipes.{Pipe, raise, arrive, leave_wire, receive, play, set_stall, idle_pipe}
 use Rattle.evm_model.specs.State.{Parts}
 use Rattle.evm_model.specs.declared.stage.Stage.{Stage}
 use Rattle.evm_model.specs.declared.stage.Stage.TheVariants.{OutOfBand, InBand}
@@ -44,16 +44,16 @@ unfolding set_stall
 IsPipe-stall OutOfBand b p s = record { wire = s.wire; oob = s.oob; inband = s.inband; counts = s.counts }
 IsPipe-stall InBand b p s = record { wire = s.wire; oob = s.oob; inband = s.inband; counts = s.counts }
 
-pub IsPipe-receive : (l : ℕ) (p : Pipe) → IsPipe p → IsPipe (receive l p)
+pub IsPipe-receive : (stage : Stage) (l : ℕ) (p : Pipe) → IsPipe p → IsPipe (receive stage l p)
 unfolding receive
-IsPipe-receive l p h = IsPipe-arrive (stage_of l) l (leave_wire l p) (IsPipe-leave l p h)
+IsPipe-receive stage l p h = IsPipe-arrive stage l (leave_wire l p) (IsPipe-leave l p h)
 
 pub IsPipe-idle : IsPipe idle_pipe
 IsPipe-idle = record { wire = IsLineSet-empty; oob = IsLineSet-empty; inband = IsLineSet-empty; counts = refl }
 
 pub move_kept : (may : ℕ → Bool) (n : ℕ) (p q : Pipe) → PipeMove may n p q → IsPipe p → IsPipe q
 move_kept may _ _ _ (raises l p h on) s = IsPipe-raise l p s
-move_kept may _ _ _ (receives l p h) s = IsPipe-receive l p s
+move_kept may _ _ _ (receives stage l p fixed h) s = IsPipe-receive stage l p s
 move_kept may _ _ _ (plays_timer p h) s = IsPipe-arrive InBand 0 (play OutOfBand 0 p) (IsPipe-play OutOfBand 0 p s)
 move_kept may _ _ _ (plays_oob l p other h) s = IsPipe-play OutOfBand l p s
 move_kept may _ _ _ (plays_in_band l p h) s = IsPipe-play InBand l p s

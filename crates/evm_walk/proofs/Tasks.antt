@@ -1,13 +1,14 @@
 -- What is done to one task is a walk.
-use Rattle.std.proofs.Common.{◌≡◌, ℕ, zero, suc, ◌+◌, Option, Some, None, Bool, true, false, inl, inr, refl, ap, ◌∙◌, arith}
+use Rattle.std.proofs.Common.{◌≡◌, ℕ, zero, suc, ◌+◌, Option, Some, None, Bool, true, false, inl, inr, refl, arith}
 use Rattle.std.specs.Prelude.{slice_get, ◌&&◌, ◌==◌}
 use Rattle.std.proofs.lemmas.Bool.Decides.{eqb_tells}
+use Rattle.evm_model.specs.Good.{event_of}
 use Rattle.evm_model.specs.Pipes.{set_stall}
 use Rattle.evm_model.specs.Ranks.{is_oob_ready}
 use Rattle.evm_model.specs.Settle.{current, spend}
 use Rattle.evm_model.specs.State.{Parts, on_pipe}
 use Rattle.evm_model.specs.Tasks.{restamp, set_state, leave_in_band, demote, promote, is_round_robin, spend_slice, spend_task}
-use Rattle.evm_model.specs.Waits.{begin_wait, wake, wake_below, is_wait_for, awaits_task, awaits_line}
+use Rattle.evm_model.specs.Waits.{begin_wait, wake, wake_below, is_wait_for, awaits_line}
 use Rattle.evm_model.specs.declared.stage.Stage.{Stage}
 use Rattle.evm_model.specs.declared.stage.Stage.TheVariants.{OutOfBand}
 use Rattle.evm_model.specs.declared.task.Task.{Task}
@@ -15,6 +16,7 @@ use Rattle.evm_model.specs.declared.task.TaskState.{TaskState}
 use Rattle.evm_model.specs.declared.task.TaskState.TheVariants.{InReady, OobReady, Waits}
 use Rattle.evm_model.specs.declared.task.Wait.{Wait}
 use Rattle.evm_model.specs.declared.task.Wait.TheVariants.{Line}
+use Rattle.evm_walk.proofs.Waiters.{wait_is}
 use Rattle.evm_walk.proofs.Walk.{Actor, stalls, IsOldTask, played, turns, spends, wakes, marks, moves, Walk, quietly, stamped, slack, walk_if}
 
 -- ---- the acting processor
@@ -28,21 +30,21 @@ module _ (a : Actor) (old : Parts) (n s : ℕ) (k : Parts) (w : Walk a old n s k
 
 -- ---- the acting task
 module _ (a : Actor) (old : Parts) (n s t : ℕ) (k : Parts) (own : a.task ≡ Some t) (there : IsOldTask old k t) (w : Walk a old n s k) where
-  pub goes_to : (state : TaskState) → Walk a old n (s + 1) (restamp t (set_state t state k))
+  pub goes_to : (state : TaskState) → event_of state ≡ None → Walk a old n (s + 1) (restamp t (set_state t state k))
   unfolding set_state
-  goes_to state = stamped a old n s k _ (turns t (λ task. record task { state = state }) k own (λ x. (refl, refl)) there) w
+  goes_to state none = stamped a old n s k _ (turns t (λ task. record task { state = state }) k own (λ x. (refl, refl)) (λ x. inl none) there) w
 
-  pub begins_wait : (wait : Wait) (deadline : ℕ) → Walk a old n (s + 1) (begin_wait t wait deadline k)
+  pub begins_wait : (wait : Wait) (deadline : ℕ) → event_of (Waits wait) ≡ None → Walk a old n (s + 1) (begin_wait t wait deadline k)
   unfolding begin_wait
-  begins_wait wait deadline = stamped a old n s k _ (turns t (λ task. record task { state = Waits wait; deadline = deadline }) k own (λ x. (refl, refl)) there) w
+  begins_wait wait deadline none = stamped a old n s k _ (turns t (λ task. record task { state = Waits wait; deadline = deadline }) k own (λ x. (refl, refl)) (λ x. inl none) there) w
 
   pub promotes : Walk a old n (s + 1) (promote a.cpu t k)
   unfolding promote
-  promotes = leaves a old n (s + 1) _ (goes_to OobReady)
+  promotes = leaves a old n (s + 1) _ (goes_to OobReady refl)
 
 pub demotes : (a : Actor) (old : Parts) (n s t : ℕ) (k : Parts) → a.task ≡ Some t → IsOldTask old k t → Walk a old n s k → Walk a old n (s + 1) (demote a.cpu t k)
 unfolding demote
-demotes a old n s t k own there w = goes_to a old n s t (on_pipe a.cpu (set_stall OutOfBand false) k) own there (stalls_stage a old n s k w OutOfBand false) InReady
+demotes a old n s t k own there w = goes_to a old n s t (on_pipe a.cpu (set_stall OutOfBand false) k) own there (stalls_stage a old n s k w OutOfBand false) InReady refl
 
 -- ---- a tick of a slice
 module _ (a : Actor) (old : Parts) (n s : ℕ) (k : Parts) (w : Walk a old n s k) where
@@ -72,7 +74,7 @@ line_wakes : (a : Actor) (old : Parts) (n s l t : ℕ) (k : Parts) (o : Option T
 line_wakes a old n s l t k None there on w = cc
 line_wakes a old n s l t k (Some task) there on w =
     let b = both (is_wait_for (Line l) task.state) (task.cpu == a.cpu) on in
-    stamped a old n s k _ (wakes t (Line l) k (ap (awaits_task (Line l)) there ∙ b.0) (played l task there (number_is task.cpu a.cpu b.1))) w
+    stamped a old n s k _ (wakes t 0 task (Line l) k there (wait_is (Line l) task.state refl b.0) (played l (number_is task.cpu a.cpu b.1))) w
 
 pub wakes_below : (a : Actor) (old : Parts) (n s l m : ℕ) (k : Parts) → Walk a old n s k → Walk a old n (s + m) (wake_below a.cpu l m k)
 unfolding wake_below
