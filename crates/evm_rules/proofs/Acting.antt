@@ -5,7 +5,8 @@ use Rattle.evm_exec.specs.declared.hart.Hart.{Hart}
 use Rattle.evm_ranks.specs.Boosts.{meets}
 use Rattle.evm_model.proofs.Lists.{change-elsewhere, length-change}
 use Rattle.evm_model.specs.InBandCalls.{add_task}
-use Rattle.evm_model.specs.Good.{IsOneOf, IsOwn, AreLocks}
+use Rattle.evm_model.specs.Events.{bound}
+use Rattle.evm_model.specs.Good.{IsOneOf, IsOwn, AreLocks, AreEvents, event_of, is_mutex, is_ready, is_waiting}
 use Rattle.evm_model.specs.Lists.{change}
 use Rattle.evm_model.specs.Mutexes.{owner, lock_of, waits_on}
 use Rattle.evm_model.specs.Pipes.{Pipe, set_stall}
@@ -21,7 +22,7 @@ use Rattle.evm_model.specs.declared.task.TaskState.{TaskState}
 use Rattle.evm_model.specs.declared.task.TaskState.TheVariants.{InReady, OobReady, Waits}
 use Rattle.evm_model.specs.Waits.{begin_wait}
 use Rattle.evm_model.specs.declared.task.Wait.{Wait}
-use Rattle.evm_model.specs.declared.task.Wait.TheVariants.{Line, Lock}
+use Rattle.evm_model.specs.declared.task.Wait.TheVariants.{Line, Lock, Event}
 use Rattle.evm_rules.proofs.Bounded.{are-change}
 use Rattle.evm_rules.proofs.Firsts.{IsOobOwn, own-live}
 use Rattle.evm_rules.proofs.Locks.{locks-fewer, fewer-change, locks-wait}
@@ -29,6 +30,8 @@ use Rattle.evm_rules.proofs.Places.{changed-from}
 use Rattle.evm_walk.proofs.Sets.{IsPipe-stall}
 use Rattle.evm_rules.proofs.Settling.{IsActing, IsHeld, GoodBut, calm-alike}
 use Rattle.evm_rules.proofs.Shapes.{IsShaped, shaped-pipe, shaped-leave, shaped-hart, shaped-with, shaped-task, shaped-restamp, shaped-add}
+use Rattle.evm_rules.proofs.Stirring.{Stirs}
+use Rattle.evm_rules.proofs.Waited.{AreDeadlines, events-fewer, fewer_events-change, events-wait, deadlines-change}
 use Rattle.evm_rules.proofs.Waking.{AreAlike, alike-own, alike-oob_own, alike-in_band, alike-change, alike-other, alike-push, one-cases, one-other, own-state}
 
 -- ---- registers
@@ -164,10 +167,14 @@ unfolding restamp
 but-restamp c t k g =
     but-alike c k (restamp t k) refl refl (λ d. alike-change d t (λ task. record task { stamp = k.stamps }) k.tasks (λ task. refl) (λ task. refl)) (shaped-restamp t k) g
 
+-- tasks that waited woke, or wait for something else
+pub but-stirs : (c : ℕ) (k x : Parts) → Stirs k x → GoodBut c k → GoodBut c x
+but-stirs c k x p g = but-alike c k x p.pipes p.processors p.alike (λ s. p.shape) g
+
 -- a task's class, priority, slice or mode
-pub but-task : (c t : ℕ) (f : Task → Task) (k : Parts) → ((task : Task) → (f task).cpu ≡ task.cpu) → ((task : Task) → (f task).state ≡ task.state) → ((task : Task) → (f task).stamp ≡ task.stamp)
+pub but-task : (c t : ℕ) (f : Task → Task) (k : Parts) → ((task : Task) → (f task).cpu ≡ task.cpu) → ((task : Task) → (f task).state ≡ task.state) → ((task : Task) → (f task).stamp ≡ task.stamp) → ((task : Task) → (f task).deadline ≡ task.deadline)
     → GoodBut c k → GoodBut c (on_task t f k)
-but-task c t f k cpu state stamp g = but-alike c k (on_task t f k) refl refl (λ d. alike-change d t f k.tasks cpu state) (shaped-task t f k cpu stamp (λ x m e. ap lock_of (sym (state x)) ∙ e)) g
+but-task c t f k cpu state stamp deadline g = but-alike c k (on_task t f k) refl refl (λ d. alike-change d t f k.tasks cpu state) (shaped-task t f k cpu stamp state deadline) g
 
 -- a task more
 pub but-add : (c entry value cpu : ℕ) (k : Parts) → entry % 4 ≡ 0 → cpu < length k.processors → length k.tasks < TASK_LIMIT → GoodBut c k → GoodBut c (add_task entry value cpu k)
@@ -194,34 +201,51 @@ acts-open c pipe p tasks new f h a = record {
 
 -- .. by a change that leaves the in-band current task ready in-band
 but-own : (c t : ℕ) (f : Task → Task) (k : Parts) → ((task : Task) → (f task).cpu ≡ task.cpu) → ((task : Task) → (f task).stamp ≡ task.stamp) → AreLocks k.mutexes (change f k.tasks t)
+    → AreEvents k.events k.mutexes (change f k.tasks t) → AreDeadlines (change f k.tasks t)
     → ((u : ℕ) (p : Processor) → slice_get k.processors c ≡ Some p → p.in_band_task ≡ Some u → IsOneOf is_in_ready c u k.tasks → IsOneOf is_in_ready c u (change f k.tasks t))
     → IsOpen c k → IsOwn c t k.tasks → GoodBut c k → GoodBut c (on_task t f k)
-but-own c t f k cpu stamp locks stays opened o g = record {
+but-own c t f k cpu stamp locks events deadlines stays opened o g = record {
   pipes = g.pipes;
   others = λ d pipe p n e h. calm-alike d pipe p k.tasks _ (alike-other c d t f k.tasks n (own-home c t k.tasks o)) (g.others d pipe p n e h);
   own = λ pipe p e h. acts-open c pipe p k.tasks _ (opened.open_there pipe e) (λ u x w. stays u p h x w) (g.own pipe p e h);
-  shape = shaped-with t f k cpu stamp locks g.shape;
+  shape = shaped-with t f k cpu stamp locks events deadlines g.shape;
 }
 
--- no other lock than before is waited for
-state-locks : (t : ℕ) (state : TaskState) (k : Parts) → lock_of state ≡ None → AreLocks k.mutexes k.tasks → AreLocks k.mutexes (change (λ task. record task { state = state }) k.tasks t)
-state-locks t state k none l =
-    let f : Task → Task = λ task. record task { state = state } in
-    locks-fewer k.mutexes k.tasks (change f k.tasks t) (omega (arith, length-change f k.tasks t)) (fewer-change f k.tasks t (λ x m e. let no : None ≡ Some m = sym none ∙ e in cc)) l
+-- no other lock than before is waited for, and no other event
+state-locks : (t : ℕ) (f : Task → Task) (k : Parts) → ((x : Task) → lock_of (f x).state ≡ None) → AreLocks k.mutexes k.tasks → AreLocks k.mutexes (change f k.tasks t)
+state-locks t f k none l =
+    locks-fewer k.mutexes k.tasks (change f k.tasks t) (omega (arith, length-change f k.tasks t)) (fewer-change f k.tasks t (λ x m e. let no : None ≡ Some m = sym (none x) ∙ e in cc)) l
+
+state-events : (t : ℕ) (f : Task → Task) (k : Parts) → ((x : Task) → event_of (f x).state ≡ None) → AreEvents k.events k.mutexes k.tasks → AreEvents k.events k.mutexes (change f k.tasks t)
+state-events t f k none a =
+    events-fewer k.events k.mutexes k.tasks (change f k.tasks t) (fewer_events-change f k.tasks t (λ x d e. let no : None ≡ Some d = sym (none x) ∙ e in cc)) a
+
+-- a task of the processor has no deadline, as it is ready
+ready-waits : (s : TaskState) → is_ready s ≡ true → is_waiting s ≡ false
+ready-waits InReady e = refl
+ready-waits OobReady e = refl
+ready-waits _ e = cc
+
+pub own-deadlines : (c t : ℕ) (f : Task → Task) (tasks : List Task) → IsOwn c t tasks → ((x : Task) → (f x).deadline ≡ x.deadline) → AreDeadlines tasks → AreDeadlines (change f tasks t)
+own-deadlines c t f tasks o stay d =
+    deadlines-change f tasks t (λ x e w.
+    let same : o.task ≡ x = (let two : Some o.task ≡ Some x = sym o.there ∙ e in cc) in
+    stay x ∙ d t x e (rw (← same) (ready-waits o.task.state o.ready))) d
 
 -- it is ready in-band
 pub but-ready : (c t : ℕ) (k : Parts) → IsOpen c k → IsOwn c t k.tasks → GoodBut c k → GoodBut c (set_state t InReady k)
 unfolding set_state
 but-ready c t k f o g =
-    but-own c t (λ task. record task { state = InReady }) k (λ x. refl) (λ x. refl) (state-locks t InReady k refl g.shape.locks)
-    (λ u p h x w. one-cases is_in_ready c t u (λ task. record task { state = InReady }) k.tasks w (λ x. refl) (λ x e. refl)) f o g
+    let ready : Task → Task = λ task. record task { state = InReady } in
+    but-own c t ready k (λ x. refl) (λ x. refl) (state-locks t ready k (λ x. refl) g.shape.locks) (state-events t ready k (λ x. refl) g.shape.events)
+    (own-deadlines c t ready k.tasks o (λ x. refl) g.shape.deadlines)
+    (λ u p h x w. one-cases is_in_ready c t u ready k.tasks w (λ x. refl) (λ x e. refl)) f o g
 
 -- where it is gone from in-band it may have any state
-pub but-gone : (c t : ℕ) (f : Task → Task) (k : Parts) → ((x : Task) → (f x).cpu ≡ x.cpu) → ((x : Task) → (f x).stamp ≡ x.stamp) → ((x : Task) → lock_of (f x).state ≡ None)
-    → ((p : Processor) → slice_get k.processors c ≡ Some p → p.in_band_task ≡ None) → IsOpen c k → IsOwn c t k.tasks → GoodBut c k → GoodBut c (on_task t f k)
-but-gone c t f k cpu stamp none gone opened o g =
-    but-own c t f k cpu stamp
-    (locks-fewer k.mutexes k.tasks (change f k.tasks t) (omega (arith, length-change f k.tasks t)) (fewer-change f k.tasks t (λ x m e. let no : None ≡ Some m = sym (none x) ∙ e in cc)) g.shape.locks)
+pub but-gone : (c t : ℕ) (f : Task → Task) (k : Parts) → ((x : Task) → (f x).cpu ≡ x.cpu) → ((x : Task) → (f x).stamp ≡ x.stamp) → ((x : Task) → lock_of (f x).state ≡ None) → ((x : Task) → event_of (f x).state ≡ None)
+    → AreDeadlines (change f k.tasks t) → ((p : Processor) → slice_get k.processors c ≡ Some p → p.in_band_task ≡ None) → IsOpen c k → IsOwn c t k.tasks → GoodBut c k → GoodBut c (on_task t f k)
+but-gone c t f k cpu stamp lock event deadlines gone opened o g =
+    but-own c t f k cpu stamp (state-locks t f k lock g.shape.locks) (state-events t f k event g.shape.events) deadlines
     (λ u p h x w. let no : None ≡ Some u = sym (gone p h) ∙ x in cc) opened o g
 
 -- an out-of-band task is not the in-band current one
@@ -231,25 +255,36 @@ oob-other c t u tasks o w same =
     let it : w.task ≡ o.task = cc in
     both-ready o.task.state o.ready (ap (λ (x : Task). is_in_ready x.state) (sym it) ∙ w.ready)
 
--- it waits for a lock
-pub but-waits : (c t m u deadline : ℕ) (k : Parts) → owner k.mutexes m ≡ Some u → meets (waits_on k.mutexes k.tasks) t TASK_LIMIT (Some u) ≡ false → IsOpen c k → IsOobOwn c t k.tasks → GoodBut c k
-    → GoodBut c (begin_wait t (Lock m) deadline k)
+-- it waits out-of-band
+but-parks : (c t deadline : ℕ) (wait : Wait) (k : Parts) → (let waiting : Task → Task = λ task. record task { state = Waits wait; deadline = deadline } in AreLocks k.mutexes (change waiting k.tasks t))
+    → (let waiting : Task → Task = λ task. record task { state = Waits wait; deadline = deadline } in AreEvents k.events k.mutexes (change waiting k.tasks t)) → IsOpen c k → IsOobOwn c t k.tasks → GoodBut c k
+    → GoodBut c (begin_wait t wait deadline k)
 unfolding begin_wait
-but-waits c t m u deadline k own away f o g =
-    let waiting : Task → Task = λ task. record task { state = Waits (Lock m); deadline = deadline } in
-    but-restamp c t (on_task t waiting k)
-    (but-own c t waiting k (λ x. refl) (λ x. refl) (locks-wait k.mutexes k.tasks t m u waiting (λ x. refl) g.shape.few_tasks own away g.shape.locks)
-    (λ v p h x w. one-other is_in_ready c t v waiting k.tasks (oob-other c t v k.tasks o w) w) f (own-live c t k.tasks o) g)
-
--- it waits for what no mutex is
-pub but-rests : (c t deadline : ℕ) (wait : Wait) (k : Parts) → lock_of (Waits wait) ≡ None → IsOpen c k → IsOobOwn c t k.tasks → GoodBut c k → GoodBut c (begin_wait t wait deadline k)
-unfolding begin_wait
-but-rests c t deadline wait k none f o g =
+but-parks c t deadline wait k locks events f o g =
     let waiting : Task → Task = λ task. record task { state = Waits wait; deadline = deadline } in
     but-restamp c t (on_task t waiting k)
-    (but-own c t waiting k (λ x. refl) (λ x. refl)
-    (locks-fewer k.mutexes k.tasks (change waiting k.tasks t) (omega (arith, length-change waiting k.tasks t)) (fewer-change waiting k.tasks t (λ x m e. let no : None ≡ Some m = sym none ∙ e in cc)) g.shape.locks)
+    (but-own c t waiting k (λ x. refl) (λ x. refl) locks events (deadlines-change waiting k.tasks t (λ x e w. let no : true ≡ false = w in cc) g.shape.deadlines)
     (λ v p h x w. one-other is_in_ready c t v waiting k.tasks (oob-other c t v k.tasks o w) w) f (own-live c t k.tasks o) g)
+
+-- .. for a lock
+pub but-waits : (c t m u deadline : ℕ) (k : Parts) → owner k.mutexes m ≡ Some u → meets (waits_on k.mutexes k.tasks) t TASK_LIMIT (Some u) ≡ false → IsOpen c k → IsOobOwn c t k.tasks → GoodBut c k
+    → GoodBut c (begin_wait t (Lock m) deadline k)
+but-waits c t m u deadline k own away f o g =
+    let waiting : Task → Task = λ task. record task { state = Waits (Lock m); deadline = deadline } in
+    but-parks c t deadline (Lock m) k (locks-wait k.mutexes k.tasks t m u waiting (λ x. refl) g.shape.few_tasks own away g.shape.locks) (state-events t waiting k (λ x. refl) g.shape.events) f o g
+
+-- .. for an event, whose mutex is there; it owns none
+pub but-awaits : (c t e deadline : ℕ) (k : Parts) → is_mutex (bound e k) k.mutexes ≡ true → ((m : ℕ) → owner k.mutexes m ≡ Some t → ⊥) → IsOpen c k → IsOobOwn c t k.tasks → GoodBut c k
+    → GoodBut c (begin_wait t (Event e) deadline k)
+but-awaits c t e deadline k named free f o g =
+    let waiting : Task → Task = λ task. record task { state = Waits (Event e); deadline = deadline } in
+    but-parks c t deadline (Event e) k (state-locks t waiting k (λ x. refl) g.shape.locks) (events-wait k.events k.mutexes k.tasks t e waiting (λ x. refl) named free g.shape.events) f o g
+
+-- .. for what no mutex is, and no event
+pub but-rests : (c t deadline : ℕ) (wait : Wait) (k : Parts) → lock_of (Waits wait) ≡ None → event_of (Waits wait) ≡ None → IsOpen c k → IsOobOwn c t k.tasks → GoodBut c k → GoodBut c (begin_wait t wait deadline k)
+but-rests c t deadline wait k lock event f o g =
+    let waiting : Task → Task = λ task. record task { state = Waits wait; deadline = deadline } in
+    but-parks c t deadline wait k (state-locks t waiting k (λ x. lock) g.shape.locks) (state-events t waiting k (λ x. event) g.shape.events) f o g
 
 pub left : (c : ℕ) (k : Parts) (p : Processor) → slice_get (leave_in_band c k).processors c ≡ Some p → p.in_band_task ≡ None
 unfolding leave_in_band
@@ -298,18 +333,23 @@ unfolding leave_in_band restamp
 leave-turn c t f k = refl
 
 -- it leaves in-band with another state
-leave-but : (c t : ℕ) (f : Task → Task) (k : Parts) → ((x : Task) → (f x).cpu ≡ x.cpu) → ((x : Task) → (f x).stamp ≡ x.stamp) → ((x : Task) → lock_of (f x).state ≡ None)
-    → IsOpen c k → IsFree c k → GoodBut c k → IsOwn c t k.tasks → GoodBut c (leave_in_band c (restamp t (on_task t f k)))
-leave-but c t f k cpu stamp none opened free g o =
+leave-but : (c t : ℕ) (f : Task → Task) (k : Parts) → ((x : Task) → (f x).cpu ≡ x.cpu) → ((x : Task) → (f x).stamp ≡ x.stamp) → ((x : Task) → lock_of (f x).state ≡ None) → ((x : Task) → event_of (f x).state ≡ None)
+    → AreDeadlines (change f k.tasks t) → IsOpen c k → IsFree c k → GoodBut c k → IsOwn c t k.tasks → GoodBut c (leave_in_band c (restamp t (on_task t f k)))
+unfolding leave_in_band
+leave-but c t f k cpu stamp lock event deadlines opened free g o =
     let gone : Parts = leave_in_band c k in
     rw (leave-turn c t f k)
-    (but-restamp c t (on_task t f gone) (but-gone c t f gone cpu stamp none (left c k) (leave-open c k opened) (leave-own c c t k o) (but-leave c k free g)))
+    (but-restamp c t (on_task t f gone) (but-gone c t f gone cpu stamp lock event deadlines (left c k) (leave-open c k opened) (leave-own c c t k o) (but-leave c k free g)))
 
 pub promote-but : (c t : ℕ) (k : Parts) → IsOpen c k → IsFree c k → GoodBut c k → IsOwn c t k.tasks → GoodBut c (promote c t k)
 unfolding promote set_state
-promote-but c t k f free g o = leave-but c t (λ task. record task { state = OobReady }) k (λ x. refl) (λ x. refl) (λ x. refl) f free g o
+promote-but c t k f free g o =
+    let ready : Task → Task = λ task. record task { state = OobReady } in
+    leave-but c t ready k (λ x. refl) (λ x. refl) (λ x. refl) (λ x. refl) (own-deadlines c t ready k.tasks o (λ x. refl) g.shape.deadlines) f free g o
 
 -- it waits in-band
 pub wait_line-but : (c t l deadline : ℕ) (k : Parts) → IsOpen c k → IsFree c k → GoodBut c k → IsOwn c t k.tasks → GoodBut c (leave_in_band c (begin_wait t (Line l) deadline k))
 unfolding begin_wait
-wait_line-but c t l deadline k f free g o = leave-but c t (λ task. record task { state = Waits (Line l); deadline = deadline }) k (λ x. refl) (λ x. refl) (λ x. refl) f free g o
+wait_line-but c t l deadline k f free g o =
+    let waiting : Task → Task = λ task. record task { state = Waits (Line l); deadline = deadline } in
+    leave-but c t waiting k (λ x. refl) (λ x. refl) (λ x. refl) (λ x. refl) (deadlines-change waiting k.tasks t (λ x e w. let no : true ≡ false = w in cc) g.shape.deadlines) f free g o

@@ -2,9 +2,10 @@
 use Rattle.std.proofs.Common.{◌≡◌, ℕ, ◌+◌, ◌≤◌, List, Bool, true, false, Option, Some, None, refl, sym, ◌∙◌, arith}
 use Rattle.std.specs.Prelude.{replicate, slice_get, ◌==◌, if◌then◌else◌}
 use Rattle.evm_lines.specs.declared.TheConstants.{LINES}
+use Rattle.evm_model.specs.Actions.{action_at, receive_line}
 use Rattle.evm_model.specs.Bounds.{PipeUpTo}
 use Rattle.evm_model.specs.Good.{IsPipe}
-use Rattle.evm_model.specs.Pipes.{Pipe, raise, receive, set_stall, idle_pipe, no_counts}
+use Rattle.evm_model.specs.Pipes.{Pipe, raise, receive, stage_of, set_stall, idle_pipe, no_counts}
 use Rattle.evm_model.specs.Settle.{current, play_oob_lines, run_best, settle_oob_pipe, settle_oob, settle_in_band, settle, nudge, settle_and_nudge}
 use Rattle.evm_model.specs.State.{Parts, on_pipe}
 use Rattle.evm_model.specs.declared.stage.Stage.{Stage}
@@ -37,7 +38,7 @@ abbrev settler : ℕ → Actor
 settler c = record { cpu = c; task = None; may = λ d l. l == 1; chooses = true; calls = false }
 
 -- of the task that is current
-oob-walk : (c : ℕ) (k : Parts) → Walk (settler c) k 32 32 (settle_oob (current c k) c k)
+oob-walk : (c : ℕ) (k : Parts) → Walk (settler c) k 32 128 (settle_oob (current c k) c k)
 oob-walk c k = settles_oob (settler c) k refl (current c k) 0 0 k refl start
 
 -- whose slice is taken changes no pipe
@@ -61,7 +62,7 @@ nudge-walk : (c : ℕ) (k : Parts) → Walk (settler c) k 1 0 (nudge c k)
 nudge-walk c k = nudges (settler c) k 0 0 k (λ d. refl) start
 
 pub are-settle_oob : (was : Option ℕ) (c : ℕ) (k : Parts) → ArePipes k.pipes → ArePipes (settle_oob was c k).pipes
-are-settle_oob was c k h = rw (oob-pipes was c k) (are-walk (settler c) 32 32 k _ (oob-walk c k) h)
+are-settle_oob was c k h = rw (oob-pipes was c k) (are-walk (settler c) 32 128 k _ (oob-walk c k) h)
 
 pub are-settle_in_band : (c : ℕ) (k : Parts) → ArePipes k.pipes → ArePipes (settle_in_band c k).pipes
 are-settle_in_band c k h = are-walk (settler c) 32 2048 k _ (in_band-walk c k) h
@@ -71,7 +72,7 @@ are-nudge c k h = are-walk (settler c) 1 0 k _ (nudge-walk c k) h
 
 pub within-settle_oob : (b : ℕ) (was : Option ℕ) (c : ℕ) (k : Parts) → AreWithin b k → AreWithin (b + 64) (settle_oob was c k)
 within-settle_oob b was c k w =
-    let x : AreWithin (b + 32) (settle_oob (current c k) c k) = within-walk (settler c) 32 32 b k _ (oob-walk c k) w in
+    let x : AreWithin (b + 32) (settle_oob (current c k) c k) = within-walk (settler c) 32 128 b k _ (oob-walk c k) w in
     within-more (b + 32) (b + 64) _ (omega arith) (record { are = rw (oob-pipes was c k) x.are; up = rw (oob-pipes was c k) x.up })
 
 pub within-settle_in_band : (b c : ℕ) (k : Parts) → AreWithin b k → AreWithin (b + 32) (settle_in_band c k)
@@ -87,8 +88,16 @@ within-settle_and_nudge b was c k w =
 pub within-raise : (b c l : ℕ) (k : Parts) → AreWithin b k → AreWithin (b + 1) (on_pipe c (raise l) k)
 within-raise b c l k w = record { are = are-change c (raise l) k (IsPipe-raise l) w.are; up = on_raise-up b c l k w.up }
 
-pub within-receive : (b c l : ℕ) (k : Parts) → AreWithin b k → AreWithin (b + 2) (on_pipe c (receive l) k)
-within-receive b c l k w = record { are = are-change c (receive l) k (IsPipe-receive l) w.are; up = PipesUpTo-more (b + 1) (b + 2) _ (omega arith) (on_receive-up b c l k w.up) }
+pub within-receive : (b c : ℕ) (stage : Stage) (l : ℕ) (k : Parts) → AreWithin b k → AreWithin (b + 2) (on_pipe c (receive stage l) k)
+within-receive b c stage l k w = record {
+  are = are-change c (receive stage l) k (IsPipe-receive stage l) w.are;
+  up = PipesUpTo-more (b + 1) (b + 2) _ (omega arith) (on_receive-up b c stage l k w.up);
+}
+
+-- .. by the stage that its action says
+pub within-receive_line : (b c l : ℕ) (k : Parts) → AreWithin b k → AreWithin (b + 2) (receive_line c l k)
+unfolding receive_line
+within-receive_line b c l k w = within-receive b c (stage_of (action_at l k) l) l k w
 
 pub within-stall : (b c : ℕ) (stage : Stage) (on : Bool) (k : Parts) → AreWithin b k → AreWithin b (on_pipe c (set_stall stage on) k)
 within-stall b c stage on k w = within-more (b + 0) b _ (omega arith) (within-walk (settler c) 0 0 b k _ (stalls_stage (settler c) k 0 0 k start stage on) w)

@@ -8,7 +8,7 @@ use Rattle.evm_model.proofs.Lists.{slice_get-below, slice_get-within}
 use Rattle.evm_model.specs.Calls.{call_of, call_stage, perform, is_weak_oob, return_weak, answered, finish_call, ask_oob, call_on, call_known, call_of_hart, call}
 use Rattle.evm_model.specs.Good.{Good, IsOwn, IsSettled}
 use Rattle.evm_model.specs.Harts.{A7, argument, answer, advance}
-use Rattle.evm_model.specs.InBandCalls.{exit, putc, yield_now, is_bad_entry, spawn, wait_line_unless, wait_line, attach_as, attach, detach, set_line}
+use Rattle.evm_model.specs.InBandCalls.{exit, putc, yield_now, is_bad_entry, spawn, wait_line_unless, wait_line, attach_as, attach, detach}
 use Rattle.evm_model.specs.Instructions.{fault}
 use Rattle.evm_model.specs.Mutexes.{owns_any}
 use Rattle.evm_model.specs.OobCalls.{stall, switch_oob, switch_in_band, is_scheduled_task, schedule_as, set_sched, set_mode, yield_oob, clock, state_bits}
@@ -21,7 +21,7 @@ use Rattle.evm_model.specs.State.{Parts, on_hart}
 use Rattle.evm_model.specs.Waits.{begin_wait}
 use Rattle.evm_model.specs.Tasks.{restamp, leave_in_band, set_policy, clear_policy, set_mode_bits}
 use Rattle.evm_model.specs.declared.call.Call.{Call}
-use Rattle.evm_model.specs.declared.call.Call.TheVariants.{Exit, Putc, Yield, Spawn, Stall, Unstall, WaitLine, Attach, Detach, NewMutex, NewSemaphore, SetLine, SwitchOob, SwitchInBand, SetSched, SetMode, Lock as Lock_call, TryLock, Unlock, SemGet, SemTryGet, SemPut, YieldOob, StallOob, UnstallOob, Clock, StateBits}
+use Rattle.evm_model.specs.declared.call.Call.TheVariants.{Exit, Putc, Yield, Spawn, Stall, Unstall, WaitLine, Attach, Detach, NewMutex, NewSemaphore, NewEvent, NewFlags, NewTimer, SetLine, SwitchOob, SwitchInBand, SetSched, SetMode, Lock as Lock_call, TryLock, Unlock, SemGet, SemTryGet, SemPut, EventWait, Signal, Broadcast, FlagsWait, FlagsPost, SleepUntil, TimerSet, TimerWait, YieldOob, StallOob, UnstallOob, Clock, StateBits}
 use Rattle.evm_model.specs.declared.call.Outcome.{Outcome}
 use Rattle.evm_model.specs.declared.call.Outcome.TheVariants.{Answers, Waits, Leaves}
 use Rattle.evm_model.specs.declared.errno.Errno.{Errno}
@@ -34,13 +34,18 @@ use Rattle.evm_model.specs.declared.stage.Stage.TheVariants.{OutOfBand, InBand}
 use Rattle.evm_model.specs.declared.task.Class.{Class}
 use Rattle.evm_model.specs.declared.task.Wait.TheVariants.{Line}
 use Rattle.evm_rules.proofs.Acting.{IsOpen, HasInBand, HasHeld, but-hart, but-unstall, but-stalled, but-unstall_oob, but-stalled_oob, but-leave, but-restamp, but-task, but-add, leave-own, add-own, restamp-free, restamp-own, task-own, demote-but, demote-own, wait_line-but, promote-but}
+use Rattle.evm_rules.proofs.Actions.{set_line-done}
 use Rattle.evm_rules.proofs.Aligned.{next-aligned}
-use Rattle.evm_rules.proofs.Done.{IsDone, either, not-stalled}
+use Rattle.evm_rules.proofs.Deadlines.{sleep_until-done}
+use Rattle.evm_rules.proofs.Done.{IsDone, either, may-wait, not-stalled, others-done}
+use Rattle.evm_rules.proofs.Events.{new_event-done, event_wait-done, signal-done, broadcast-done}
 use Rattle.evm_rules.proofs.Firsts.{IsOobOwn, both, eqb-is}
-use Rattle.evm_rules.proofs.Locking.{may-wait, new_mutex-done, lock-done, try_lock-done, unlock-done}
+use Rattle.evm_rules.proofs.Flags.{new_flags-done, flags_wait-done, flags_post-done}
+use Rattle.evm_rules.proofs.Locking.{new_mutex-done, lock-done, try_lock-done, unlock-done}
 use Rattle.evm_rules.proofs.Passing.{end-but}
 use Rattle.evm_rules.proofs.Semaphores.{new_semaphore-done, sem_get-done, sem_try_get-done, sem_put-done}
 use Rattle.evm_rules.proofs.Settling.{GoodBut, good_but, is_open, oob_own}
+use Rattle.evm_rules.proofs.Timers.{new_timer-done, timer_set-done, timer_wait-done}
 
 -- what a spawn that isn't refused was tested for
 if_false : (a b : Bool) → (if a then true else b) ≡ false → (a ≡ false) × (b ≡ false)
@@ -75,29 +80,11 @@ module _ (c t : ℕ) (k : Parts) (g : GoodBut c k) (o : IsOwn c t k.tasks) where
 
   exit-done : IsOpen c k → IsDone c t (exit c t k)
   unfolding exit
-  exit-done f = record { but = end-but c t _ k refl f g o; own = λ v n. cc }
+  exit-done f = record { but = end-but c t _ k refl refl f g o; own = λ v n. cc }
 
   putc-done : (byte : ℕ) → IsDone c t (putc byte k)
   unfolding putc
-  putc-done byte = record {
-    but = record {
-      pipes = g.pipes;
-      others = g.others;
-      own = g.own;
-      shape = record {
-        aligned = g.shape.aligned;
-        homes = g.shape.homes;
-        stamps_below = g.shape.stamps_below;
-        stamps_differ = g.shape.stamps_differ;
-        harts_count = g.shape.harts_count;
-        pipes_count = g.shape.pipes_count;
-        few_tasks = g.shape.few_tasks;
-        few_processors = g.shape.few_processors;
-        locks = g.shape.locks;
-      };
-    };
-    own = λ v n. o;
-  }
+  putc-done byte = others-done c t k k.semaphores k.flags k.timers k.actions _ _ g o
 
   yield-done : IsDone c t (yield_now c t k)
   unfolding yield_now
@@ -124,17 +111,12 @@ module _ (c t : ℕ) (k : Parts) (g : GoodBut c k) (o : IsOwn c t k.tasks) where
   unfolding wait_line
   wait_line-done l f =
       either c t (nat_le (line_count k.profile) l) _ _ (λ e. same _)
-      (λ line. line_unless-done (wait_refusal (is_stalled InBand c k) None 0) l (λ e. wait_line-but c t l 0 k f (not-stalled c k (may-wait (is_stalled InBand c k) None 0 e).0) g o))
-
-  set_line-done : (l action : ℕ) → IsDone c t (set_line l action k)
-  unfolding set_line
-  set_line-done l action =
-      either c t (nat_lt l 2) _ _ (λ e. same _) (λ low. either c t (nat_le (line_count k.profile) l) _ _ (λ e. same _) (λ high. either c t (action == 0) _ _ (λ e. same _) (λ e. same _)))
+      (λ line. line_unless-done (wait_refusal (is_stalled InBand c k) None k.ticks 0) l (λ e. wait_line-but c t l 0 k f (not-stalled c k (may-wait (is_stalled InBand c k) None k.ticks 0 e).0) g o))
 
   policy-done : (u : ℕ) (class : Class) (priority : ℕ) (outcome : Outcome) → IsDone c t (set_policy u class priority k, outcome)
   unfolding set_policy
   policy-done u class priority outcome = record {
-    but = but-task c u _ k (λ task. refl) (λ task. refl) (λ task. refl) g;
+    but = but-task c u _ k (λ task. refl) (λ task. refl) (λ task. refl) (λ task. refl) g;
     own = λ v n. task-own c u t _ k (λ task. refl) (λ task. refl) o;
   }
 
@@ -149,7 +131,7 @@ module _ (c t : ℕ) (k : Parts) (g : GoodBut c k) (o : IsOwn c t k.tasks) where
   clear-done : (outcome : Outcome) → IsDone c t (clear_policy t k, outcome)
   unfolding clear_policy
   clear-done outcome = record {
-    but = but-task c t _ k (λ task. refl) (λ task. refl) (λ task. refl) g;
+    but = but-task c t _ k (λ task. refl) (λ task. refl) (λ task. refl) (λ task. refl) g;
     own = λ v n. task-own c t t _ k (λ task. refl) (λ task. refl) o;
   }
 
@@ -186,7 +168,7 @@ module _ (c t : ℕ) (k : Parts) (g : GoodBut c k) (o : IsOwn c t k.tasks) where
   mode-done : (bits : ℕ) (outcome : Outcome) → IsDone c t (set_mode_bits t bits k, outcome)
   unfolding set_mode_bits
   mode-done bits outcome = record {
-    but = but-task c t _ k (λ task. refl) (λ task. refl) (λ task. refl) g;
+    but = but-task c t _ k (λ task. refl) (λ task. refl) (λ task. refl) (λ task. refl) g;
     own = λ v n. task-own c t t _ k (λ task. refl) (λ task. refl) o;
   }
 
@@ -224,7 +206,10 @@ module _ (c t : ℕ) (k : Parts) (g : GoodBut c k) (o : IsOwn c t k.tasks) where
   perform-done Detach hart h = detach-done c t k g o
   perform-done NewMutex hart h = new_mutex-done c t k g o (argument 0 hart) (argument 1 hart)
   perform-done NewSemaphore hart h = new_semaphore-done c t k g o (argument 0 hart)
-  perform-done SetLine hart h = set_line-done c t k g o (argument 0 hart) (argument 1 hart)
+  perform-done NewEvent hart h = new_event-done c t k g o
+  perform-done NewFlags hart h = new_flags-done c t k g o
+  perform-done NewTimer hart h = new_timer-done c t k g o
+  perform-done SetLine hart h = set_line-done c t k g o (argument 0 hart) (argument 1 hart) (argument 2 hart)
   perform-done SwitchOob hart h = switch_oob-done c t k g o
   perform-done SwitchInBand hart h = switch_in_band-done c t k g o
   perform-done SetSched hart h = set_sched-done c t k g o (argument 0 hart) (argument 1 hart) (argument 2 hart)
@@ -235,6 +220,14 @@ module _ (c t : ℕ) (k : Parts) (g : GoodBut c k) (o : IsOwn c t k.tasks) where
   perform-done SemGet hart h = sem_get-done c t k g o (argument 0 hart) (argument 1 hart) (h.oob refl).1
   perform-done SemTryGet hart h = sem_try_get-done c t k g o (argument 0 hart)
   perform-done SemPut hart h = sem_put-done c t k g o (argument 0 hart)
+  perform-done EventWait hart h = event_wait-done c t k g o (argument 0 hart) (argument 1 hart) (argument 2 hart) (h.oob refl).1
+  perform-done Signal hart h = signal-done c t k g o (argument 0 hart)
+  perform-done Broadcast hart h = broadcast-done c t k g o (argument 0 hart)
+  perform-done FlagsWait hart h = flags_wait-done c t k g o (argument 0 hart) (argument 1 hart) (h.oob refl).1
+  perform-done FlagsPost hart h = flags_post-done c t k g o (argument 0 hart) (argument 1 hart)
+  perform-done SleepUntil hart h = sleep_until-done c t k g o (argument 0 hart) (h.oob refl).1
+  perform-done TimerSet hart h = timer_set-done c t k g o (argument 0 hart) (argument 1 hart) (argument 2 hart)
+  perform-done TimerWait hart h = timer_wait-done c t k g o (argument 0 hart) (h.oob refl).1
   perform-done YieldOob hart h = yield_oob-done c t k g o
   perform-done StallOob hart h = stall_oob-done c t k g o true (h.oob refl).0
   perform-done UnstallOob hart h = stall_oob-done c t k g o false (h.oob refl).0
@@ -344,4 +337,4 @@ call-but c t k g o r = hart-but (slice_get k.harts t) c t k (record { good = g; 
 pub fault-but : (c t : ℕ) (f : Fault) (k : Parts) → Good k → IsOwn c t k.tasks → current c k ≡ Some t → GoodBut c (fault c t f k)
 fault-but c t f k g o r =
     let runs : Runs c t k = record { good = g; own = o; current = r } in
-    but-if c (is_oob (Some t) k.tasks) _ _ (λ e. demote-but c t k (good_but c k g) o) (λ e. end-but c t _ k refl (has-open c t k runs e) (good_but c k g) o)
+    but-if c (is_oob (Some t) k.tasks) _ _ (λ e. demote-but c t k (good_but c k g) o) (λ e. end-but c t _ k refl refl (has-open c t k runs e) (good_but c k g) o)

@@ -6,7 +6,7 @@ use Rattle.std.proofs.lemmas.Option.{slice_get-map}
 use Rattle.evm_lines.specs.Lines.{has_line}
 use Rattle.evm_model.specs.Bounds.{PipeUpTo, PipesUpTo}
 use Rattle.evm_model.specs.Lists.{change}
-use Rattle.evm_model.specs.Pipes.{Pipe, raise, receive, play, stage_of, log_of}
+use Rattle.evm_model.specs.Pipes.{Pipe, raise, receive, play, log_of}
 use Rattle.evm_model.specs.Settle.{play_oob, play_in_band}
 use Rattle.evm_model.specs.State.{Parts, on_pipe}
 use Rattle.evm_model.specs.declared.stage.Stage.{Stage}
@@ -14,7 +14,8 @@ use Rattle.evm_model.specs.declared.stage.Stage.TheVariants.{OutOfBand, InBand}
 use Rattle.evm_model.proofs.Lists.{change-cases}
 use Rattle.evm_walk.proofs.Counted.{PipeUpTo-more, raise-up, receipt-up, oob-up, in_band-up, timer-up, counted-up, raise-counted, receive-counted, timer-counted, play-counted}
 pub use Rattle.evm_walk.proofs.Counted.{PipesUpTo-more}
-use Rattle.evm_walk.proofs.Playing.{oob_played_if, spent_if, spent_apart, play_oob-on, wakes-pipes}
+use Rattle.evm_walk.proofs.Playing.{oob_played_if, wakes-pipes}
+use Rattle.evm_rules.proofs.Playing.{hand_on, play_oob-pipes}
 
 -- ---- what holds of each element, after changes
 abbrev pub EachIs : {X : Type 0} → (X → Type 0) → List X → Type 0
@@ -40,9 +41,9 @@ change-up a b c f pipes h here u = record { each = each-change (PipeUpTo a) (Pip
 pub on_raise-up : (b c l : ℕ) (k : Parts) → PipesUpTo b k.pipes → PipesUpTo (b + 1) (on_pipe c (raise l) k).pipes
 on_raise-up b c l k u = change-up b (b + 1) c (raise l) k.pipes (omega arith) (λ p. counted-up b l _ p _ (raise-counted l p) (raise-up b (has_line p.wire l))) u
 
-pub on_receive-up : (b c l : ℕ) (k : Parts) → PipesUpTo b k.pipes → PipesUpTo (b + 1) (on_pipe c (receive l) k).pipes
-on_receive-up b c l k u =
-    change-up b (b + 1) c (receive l) k.pipes (omega arith) (λ p. counted-up b l _ p _ (receive-counted l p) (receipt-up b (stage_of l) (has_line (log_of (stage_of l) p).lines l))) u
+pub on_receive-up : (b c : ℕ) (stage : Stage) (l : ℕ) (k : Parts) → PipesUpTo b k.pipes → PipesUpTo (b + 1) (on_pipe c (receive stage l) k).pipes
+on_receive-up b c stage l k u =
+    change-up b (b + 1) c (receive stage l) k.pipes (omega arith) (λ p. counted-up b l _ p _ (receive-counted stage l p) (receipt-up b stage (has_line (log_of stage p).lines l))) u
 
 play-up : (b : ℕ) (stage : Stage) (l : ℕ) (p : Pipe) → PipeUpTo b p → PipeUpTo (b + 1) (play stage l p)
 play-up b OutOfBand l p u = counted-up b l _ p _ (play-counted OutOfBand l p) (oob-up b) u
@@ -58,8 +59,8 @@ oob_played-up false b l p e u = play-up b OutOfBand l p u
 
 pub play_oob-up : (b : ℕ) (was : Option ℕ) (c l : ℕ) (k : Parts) → PipesUpTo b k.pipes → PipesUpTo (b + 2) (play_oob was c l k).pipes
 play_oob-up b was c l k u =
-    let spent : Parts = spent_if (l == 0) was k in
-    rw (play_oob-on was c l k) (change-up b (b + 2) c (oob_played_if (l == 0) l) spent.pipes (omega arith) (λ p h. PipeUpTo-more (b + 1) (b + 2) _ (omega arith) (oob_played-up (l == 0) b l p refl h)) (rw (spent_apart (l == 0) was k).pipes u))
+    rw (play_oob-pipes was c l k)
+    (change-up b (b + 2) c (λ p. hand_on l (play OutOfBand l p)) k.pipes (omega arith) (λ p h. PipeUpTo-more (b + 1) (b + 2) _ (omega arith) (oob_played-up (l == 0) b l p refl h)) u)
 
 pub play_in_band-up : (b c l : ℕ) (k : Parts) → PipesUpTo b k.pipes → PipesUpTo (b + 1) (play_in_band c l k).pipes
 unfolding play_in_band

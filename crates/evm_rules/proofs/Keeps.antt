@@ -15,6 +15,7 @@ use Rattle.evm_exec.specs.declared.hart.Hart.{Hart}
 use Rattle.evm_exec.specs.declared.outcome.Effect.{Effect}
 use Rattle.evm_exec.specs.declared.outcome.Effect.TheVariants.{Next, Load, Store, Call, Break, Misaligned}
 use Rattle.evm_model.proofs.Lists.{change-here, change-elsewhere, change-cases, length-change}
+use Rattle.evm_model.specs.Actions.{action_at, receive_line}
 use Rattle.evm_model.specs.Commands.{tick, set_bits, on_number, is_set, set_breakpoint, unset_breakpoint}
 use Rattle.evm_model.specs.Good.{Good, IsSettled, IsOwn, IsPipe}
 use Rattle.evm_model.specs.Harts.{set_register, set_pc, advance}
@@ -84,6 +85,8 @@ good-pipes k pipes e a h g = record {
   few_tasks = g.few_tasks;
   few_processors = g.few_processors;
   locks = g.locks;
+  events = g.events;
+  deadlines = g.deadlines;
 }
 
 pub raise-good : (c l : ℕ) (k : Parts) → Good k → Good (on_pipe c (raise l) k)
@@ -107,6 +110,8 @@ good-ticks k ticks g = record {
   few_tasks = g.few_tasks;
   few_processors = g.few_processors;
   locks = g.locks;
+  events = g.events;
+  deadlines = g.deadlines;
 }
 
 pub tick-good : (k : Parts) → Good k → Good (tick k)
@@ -138,9 +143,9 @@ unfolding arrive leave_wire
 receive-bits l OutOfBand p = (refl, refl)
 receive-bits l InBand p = (refl, refl)
 
-received-bits : (l : ℕ) (p : Pipe) → ((receive l p).oob.stalled ≡ p.oob.stalled) × ((receive l p).inband.stalled ≡ p.inband.stalled)
+received-bits : (stage : Stage) (l : ℕ) (p : Pipe) → ((receive stage l p).oob.stalled ≡ p.oob.stalled) × ((receive stage l p).inband.stalled ≡ p.inband.stalled)
 unfolding receive
-received-bits l p = receive-bits l (stage_of l) p
+received-bits stage l p = receive-bits l stage p
 
 -- the acting processor's pipe changed, but not its stall bits
 pub pipe-but : (c : ℕ) (f : Pipe → Pipe) (k : Parts) → ((p : Pipe) → ((f p).oob.stalled ≡ p.oob.stalled) × ((f p).inband.stalled ≡ p.inband.stalled)) → ((p : Pipe) → IsPipe p → IsPipe (f p)) → GoodBut c k → GoodBut c (on_pipe c f k)
@@ -155,8 +160,9 @@ pipe-but c f k b w g = record {
   shape = shaped-pipe c f k g.shape;
 }
 
-pub receive-but : (c l : ℕ) (k : Parts) → Good k → GoodBut c (on_pipe c (receive l) k)
-receive-but c l k g = pipe-but c (receive l) k (received-bits l) (IsPipe-receive l) (good_but c k g)
+pub receive-but : (c l : ℕ) (k : Parts) → Good k → GoodBut c (receive_line c l k)
+unfolding receive_line
+receive-but c l k g = let stage : Stage = stage_of (action_at l k) l in pipe-but c (receive stage l) k (received-bits stage l) (IsPipe-receive stage l) (good_but c k g)
 
 -- ---- an instruction
 module _ (c t : ℕ) where

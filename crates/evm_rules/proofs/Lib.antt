@@ -24,4 +24,12 @@ pub mod Locking
 pub mod Rows
 pub mod Laws
 pub mod Calling
+pub mod Actions
+pub mod Deadlines
+pub mod Events
+pub mod Flags
+pub mod Handling
+pub mod Stirring
+pub mod Timers
+pub mod Waited
 pub use Rattle.evm_walk.proofs as evm_walk

@@ -4,14 +4,12 @@ use Rattle.std.specs.Prelude.{slice_get, nat_lt, nat_le, ◌==◌, if◌then◌e
 use Rattle.std.proofs.lemmas.Bool.Decides.{nat_tests}
 use Rattle.evm_ranks.specs.Boosts.{is_number, meets}
 use Rattle.evm_model.proofs.Lists.{slice_get-below}
-use Rattle.evm_model.specs.Good.{IsOwn, is_ready}
+use Rattle.evm_model.specs.Good.{IsOwn, event_of, event_of_task, event_at, is_ready}
 use Rattle.evm_model.specs.Locks.{with_ceiling, mutex_of, add_mutex, new_mutex_as, new_mutex, take_mutex, lock_again, cycle_refusal, lock_other, lock_owned, lock_known, lock, try_owned, try_known, try_lock, unlock_once, unlock_known, unlock}
 use Rattle.evm_model.specs.Mutexes.{owner, owner_of, free_mutex, held_by, lock_of, lock_of_task, lock_at, waits_on}
 use Rattle.evm_model.specs.Passing.{pass_on}
-use Rattle.evm_model.specs.Stages.{is_stalled, wait_refusal, wait_unless}
+use Rattle.evm_model.specs.Stages.{is_stalled, wait_refusal}
 use Rattle.evm_model.specs.State.{Parts, on_mutex}
-use Rattle.evm_model.specs.Waits.{begin_wait}
-use Rattle.evm_model.specs.declared.errno.Errno.{Errno}
 use Rattle.evm_model.specs.declared.errno.Errno.TheVariants.{Deadlock}
 use Rattle.evm_model.specs.declared.call.Outcome.{Outcome}
 use Rattle.evm_model.specs.declared.limits.TheConstants.{TASK_LIMIT, MUTEX_LIMIT, PRIORITY_LIMIT}
@@ -21,27 +19,17 @@ use Rattle.evm_model.specs.declared.mutex.Protocol.TheVariants.{Inheritance, Cei
 use Rattle.evm_model.specs.declared.stage.Stage.TheVariants.{OutOfBand}
 use Rattle.evm_model.specs.declared.task.TaskState.{TaskState}
 use Rattle.evm_model.specs.declared.task.TaskState.TheVariants.{InReady, OobReady}
-use Rattle.evm_model.specs.declared.task.Wait.{Wait}
 use Rattle.evm_model.specs.declared.task.Wait.TheVariants.{Lock}
-use Rattle.evm_rules.proofs.Acting.{IsOpen, but-waits}
+use Rattle.evm_rules.proofs.Acting.{but-waits}
 use Rattle.evm_rules.proofs.Firsts.{IsOobOwn}
 use Rattle.evm_rules.proofs.Locks.{locks-push}
-use Rattle.evm_rules.proofs.Passing.{but-mutexes, but-owned, pass_on-passes}
+use Rattle.evm_rules.proofs.Passing.{but-mutexes, but-owned, pass_on-stirs}
 use Rattle.evm_rules.proofs.Settling.{GoodBut}
-use Rattle.evm_rules.proofs.Waking.{alike-own}
-use Rattle.evm_rules.proofs.Done.{IsDone, either}
+use Rattle.evm_rules.proofs.Waited.{events-push}
+use Rattle.evm_rules.proofs.Done.{IsDone, either, may-wait, not-closed, stirs-done, unless-done}
 
 room-mutex : (k : Parts) → nat_le MUTEX_LIMIT (length k.mutexes) ≡ false → length k.mutexes < MUTEX_LIMIT
 room-mutex k e = grind (arith, nat_tests)
-
-pub not-closed : (c : ℕ) (k : Parts) → is_stalled OutOfBand c k ≡ false → IsOpen c k
-not-closed c k e = record { open_there = λ pipe h. rw h at e }
-
--- a call that may wait
-pub may-wait : (stalled : Bool) (own : Option Errno) (deadline : ℕ) → wait_refusal stalled own deadline ≡ None → (stalled ≡ false) × (own ≡ None)
-may-wait true own deadline e = cc
-may-wait false None deadline e = (refl, refl)
-may-wait false (Some x) deadline e = cc
 
 no-cycle : (b : Bool) → (if b then Some Deadlock else None) ≡ None → b ≡ false
 no-cycle true e = cc
@@ -52,6 +40,12 @@ ready-idle : (s : TaskState) → is_ready s ≡ true → lock_of s ≡ None
 ready-idle InReady e = refl
 ready-idle OobReady e = refl
 ready-idle _ e = cc
+
+-- nor for an event
+ready-apart : (s : TaskState) → is_ready s ≡ true → event_of s ≡ None
+ready-apart InReady e = refl
+ready-apart OobReady e = refl
+ready-apart _ e = cc
 
 -- a new mutex is nobody's
 option-if : (b : Bool) (x y : Option Mutex) (mutex : Mutex) → ((mutex : Mutex) → x ≡ Some mutex → mutex.owner ≡ None) → ((mutex : Mutex) → y ≡ Some mutex → mutex.owner ≡ None) → (if b then x else y) ≡ Some mutex → mutex.owner ≡ None
@@ -89,9 +83,15 @@ module _ (c t : ℕ) (k : Parts) (g : GoodBut c k) (o : IsOwn c t k.tasks) where
   own-idle : lock_at k.tasks t ≡ None
   own-idle = ap lock_of_task o.there ∙ ready-idle o.task.state o.ready
 
+  own-apart : event_at k.tasks t ≡ None
+  own-apart = ap event_of_task o.there ∙ ready-apart o.task.state o.ready
+
   add_mutex-done : (mutex : Mutex) → mutex.owner ≡ None → length k.mutexes < MUTEX_LIMIT → (outcome : Outcome) → IsDone c t (add_mutex mutex k, outcome)
   unfolding add_mutex
-  add_mutex-done mutex free room outcome = record { but = but-mutexes c k (k.mutexes ++ mutex ∷ []) (locks-push k.mutexes k.tasks mutex free room g.shape.locks) g; own = λ v n. o }
+  add_mutex-done mutex free room outcome = record {
+    but = but-mutexes c k (k.mutexes ++ mutex ∷ []) (locks-push k.mutexes k.tasks mutex free room g.shape.locks) (events-push k.events k.mutexes k.tasks mutex free g.shape.events) g;
+    own = λ v n. o;
+  }
 
   new_mutex_as-done : (x : Option Mutex) → ((mutex : Mutex) → x ≡ Some mutex → mutex.owner ≡ None) → IsDone c t (new_mutex_as x k)
   new_mutex_as-done None h = same _
@@ -102,7 +102,7 @@ module _ (c t : ℕ) (k : Parts) (g : GoodBut c k) (o : IsOwn c t k.tasks) where
   new_mutex-done kind priority = new_mutex_as-done (mutex_of kind priority) (mutex_of-free kind priority)
 
   holds-done : (m : ℕ) (f : Mutex → Mutex) (outcome : Outcome) → ((x : Mutex) → (f x).owner ≡ Some t) → IsDone c t (on_mutex m f k, outcome)
-  holds-done m f outcome h = record { but = but-owned c m t f k h own-there own-idle g; own = λ v n. o }
+  holds-done m f outcome h = record { but = but-owned c m t f k h own-there own-idle own-apart g; own = λ v n. o }
 
   take-done : (m : ℕ) (outcome : Outcome) → IsDone c t (take_mutex t m k, outcome)
   unfolding take_mutex
@@ -112,15 +112,11 @@ module _ (c t : ℕ) (k : Parts) (g : GoodBut c k) (o : IsOwn c t k.tasks) where
   unfolding lock_again
   again-done m mutex = either c t mutex.recursive _ _ (λ e. holds-done m (held_by t (mutex.count + 1)) _ (λ x. refl)) (λ e. same _)
 
-  unless-done : (x : Option Errno) (wait : Wait) (deadline : ℕ) → (x ≡ None → GoodBut c (begin_wait t wait deadline k)) → IsDone c t (wait_unless x t wait deadline k)
-  unless-done (Some e) wait deadline h = same _
-  unless-done None wait deadline h = record { but = h refl; own = λ v n. cc }
-
   other-done : (m u deadline : ℕ) → owner k.mutexes m ≡ Some u → IsOobOwn c t k.tasks → IsDone c t (lock_other c t m u deadline k)
   unfolding lock_other
   other-done m u deadline own w =
-      unless-done (wait_refusal (is_stalled OutOfBand c k) (cycle_refusal t u k) deadline) (Lock m) deadline (λ e.
-      let free = may-wait (is_stalled OutOfBand c k) (cycle_refusal t u k) deadline e in
+      unless-done c t k g o (wait_refusal (is_stalled OutOfBand c k) (cycle_refusal t u k) k.ticks deadline) (Lock m) deadline (λ e.
+      let free = may-wait (is_stalled OutOfBand c k) (cycle_refusal t u k) k.ticks deadline e in
       but-waits c t m u deadline k own (no-cycle (meets (waits_on k.mutexes k.tasks) t TASK_LIMIT (Some u)) free.1) (not-closed c k free.0) w g)
 
   owned-done : (x : Option ℕ) (m deadline : ℕ) (mutex : Mutex) → owner k.mutexes m ≡ x → IsOobOwn c t k.tasks → IsDone c t (lock_owned x c t m deadline mutex k)
@@ -148,7 +144,7 @@ module _ (c t : ℕ) (k : Parts) (g : GoodBut c k) (o : IsOwn c t k.tasks) where
   try_lock-done m = try_known-done (slice_get k.mutexes m) m
 
   passes-done : (m : ℕ) (outcome : Outcome) → IsDone c t (pass_on m k, outcome)
-  passes-done m outcome = let p = pass_on-passes c m k g in record { but = p.but; own = λ v n. alike-own c t k.tasks (pass_on m k).tasks (p.alike c) o }
+  passes-done m outcome = stirs-done c t k (pass_on m k) outcome (pass_on-stirs m k g.shape) g o
 
   unlock_once-done : (m : ℕ) (mutex : Mutex) (outcome : Outcome) → IsDone c t (unlock_once t m mutex k, outcome)
   unfolding unlock_once

@@ -1,5 +1,5 @@
 -- What keeps the rules of who owns the mutexes and who waits for them.
-use Rattle.std.proofs.Common.{◌≡◌, ℕ, ◌+◌, ◌<◌, ◌≤◌, List, [], ◌∷◌, ◌++◌, Bool, true, false, Option, Some, None, length, length-append, refl, ap, sym, ◌∙◌, ◌⊎◌, inl, inr, arith, eq-eqb}
+use Rattle.std.proofs.Common.{◌≡◌, ℕ, zero, suc, ◌+◌, ◌<◌, ◌≤◌, List, [], ◌∷◌, ◌++◌, Bool, true, false, Option, Some, None, length, length-append, refl, ap, sym, ◌∙◌, ◌⊎◌, inl, inr, arith, eq-eqb}
 use Rattle.std.specs.Prelude.{slice_get, option_map, ◌==◌, if◌then◌else◌}
 use Rattle.std.proofs.lemmas.Bool.{cases_eq}
 use Rattle.std.proofs.lemmas.Bool.Decides.{eqb_tells}
@@ -13,8 +13,6 @@ use Rattle.evm_model.specs.Mutexes.{owner, owner_of, owner_for, lock_of, lock_of
 use Rattle.evm_model.specs.declared.limits.TheConstants.{MUTEX_LIMIT, TASK_LIMIT}
 use Rattle.evm_model.specs.declared.mutex.Mutex.{Mutex}
 use Rattle.evm_model.specs.declared.task.Task.{Task}
-use Rattle.evm_model.specs.declared.task.TaskState.TheVariants.{Waits}
-use Rattle.evm_model.specs.declared.task.Wait.TheVariants.{Lock}
 
 -- ---- the owner for a lock
 for-lock : (mutexes : List Mutex) (o : Option ℕ) (t : ℕ) → owner_for mutexes o ≡ Some t → (m : ℕ) × (o ≡ Some m) × (owner mutexes m ≡ Some t)
@@ -70,17 +68,17 @@ low-again mutexes tasks few there f =
     (falls-low (waits_on mutexes tasks) (length tasks) (λ u t e. let on = on-lock mutexes tasks u t e in there on.0 t on.2) f)
 
 -- ---- task t waits for mutex m, which is u's
-here-is : (m n : ℕ) (f : Task → Task) (o : Option Task) → ((x : Task) → (f x).state ≡ Waits (Lock m)) → lock_of_task (option_map f o) ≡ Some n → n ≡ m
+here-is : (m n : ℕ) (f : Task → Task) (o : Option Task) → ((x : Task) → lock_of (f x).state ≡ Some m) → lock_of_task (option_map f o) ≡ Some n → n ≡ m
 here-is m n f None h e = cc
-here-is m n f (Some x) h e = let it : lock_of (f x).state ≡ Some m = ap lock_of (h x) in let same : Some n ≡ Some m = sym e ∙ it in cc
+here-is m n f (Some x) h e = let same : Some n ≡ Some m = sym e ∙ h x in cc
 
-waits-here : (m t n : ℕ) (f : Task → Task) (tasks : List Task) → ((x : Task) → (f x).state ≡ Waits (Lock m)) → lock_at (change f tasks t) t ≡ Some n → n ≡ m
+waits-here : (m t n : ℕ) (f : Task → Task) (tasks : List Task) → ((x : Task) → lock_of (f x).state ≡ Some m) → lock_at (change f tasks t) t ≡ Some n → n ≡ m
 waits-here m t n f tasks h e = here-is m n f (slice_get tasks t) h (ap lock_of_task (sym (change-here f tasks t)) ∙ e)
 
 waits-other : (t x : ℕ) (f : Task → Task) (tasks : List Task) → (x ≡ t → ⊥) → lock_at (change f tasks t) x ≡ lock_at tasks x
 waits-other t x f tasks other = ap lock_of_task (change-elsewhere f tasks t x other)
 
-wait-link : (mutexes : List Mutex) (tasks : List Task) (t m u x y : ℕ) (f : Task → Task) → ((x : Task) → (f x).state ≡ Waits (Lock m)) → owner mutexes m ≡ Some u
+wait-link : (mutexes : List Mutex) (tasks : List Task) (t m u x y : ℕ) (f : Task → Task) → ((x : Task) → lock_of (f x).state ≡ Some m) → owner mutexes m ≡ Some u
     → waits_on mutexes (change f tasks t) x ≡ Some y → with_link (waits_on mutexes tasks) t u x ≡ Some y
 wait-link mutexes tasks t m u x y f h own e =
     let on = on-lock mutexes (change f tasks t) x y e in
@@ -92,7 +90,7 @@ wait-link mutexes tasks t m u x y f h own e =
       | inr g ↦ rw g.0 (lock-on mutexes tasks x on.0 (Some y) (sym (waits-other t x f tasks g.1) ∙ on.1) on.2)
     ]
 
-pub locks-wait : (mutexes : List Mutex) (tasks : List Task) (t m u : ℕ) (f : Task → Task) → ((x : Task) → (f x).state ≡ Waits (Lock m)) → length tasks ≤ TASK_LIMIT → owner mutexes m ≡ Some u
+pub locks-wait : (mutexes : List Mutex) (tasks : List Task) (t m u : ℕ) (f : Task → Task) → ((x : Task) → lock_of (f x).state ≡ Some m) → length tasks ≤ TASK_LIMIT → owner mutexes m ≡ Some u
     → meets (waits_on mutexes tasks) t TASK_LIMIT (Some u) ≡ false → AreLocks mutexes tasks → AreLocks mutexes (change f tasks t)
 locks-wait mutexes tasks t m u f h few own away l =
     let size : length (change f tasks t) ≡ length tasks = length-change f tasks t in
@@ -111,8 +109,26 @@ locks-wait mutexes tasks t m u f h few own away l =
       few = l.few;
     }
 
+-- a task that owns no mutex is on no way
+free-meets : (boosts : ℕ → Option ℕ) (t links : ℕ) (o : Option ℕ) → ((u : ℕ) → boosts u ≡ Some t → ⊥) → (o ≡ Some t → ⊥) → meets boosts t links o ≡ false
+unfolding meets
+free-meets boosts t zero None none other = refl
+free-meets boosts t (suc links) None none other = refl
+free-meets boosts t zero (Some u) none other = elim (eqb_tells u t) [ inl g ↦ absurd (other (ap (λ (x : ℕ). Some x) g.1)) | inr g ↦ g.0 ]
+free-meets boosts t (suc links) (Some u) none other = elim (eqb_tells u t) [
+  | inl g ↦ absurd (other (ap (λ (x : ℕ). Some x) g.1))
+  | inr g ↦ rw g.0 (free-meets boosts t links (boosts u) none (none u))
+]
+
+-- so it may wait for any that another task owns
+pub locks-retake : (mutexes : List Mutex) (tasks : List Task) (t m u : ℕ) (f : Task → Task) → ((x : Task) → lock_of (f x).state ≡ Some m) → length tasks ≤ TASK_LIMIT → owner mutexes m ≡ Some u
+    → ((n : ℕ) → owner mutexes n ≡ Some t → ⊥) → AreLocks mutexes tasks → AreLocks mutexes (change f tasks t)
+locks-retake mutexes tasks t m u f h few own free l =
+    let leads : (x : ℕ) → waits_on mutexes tasks x ≡ Some t → ⊥ = λ x e. let on = on-lock mutexes tasks x t e in free on.0 on.2 in
+    locks-wait mutexes tasks t m u f h few own (free-meets (waits_on mutexes tasks) t TASK_LIMIT (Some u) leads (λ same. free m (own ∙ same))) l
+
 -- ---- mutex m has another owner
-option-owner : (g : Mutex → Mutex) (o : Option Mutex) (w t : ℕ) → ((x : Mutex) → (g x).owner ≡ Some w) → owner_of (option_map g o) ≡ Some t → t ≡ w
+pub option-owner : (g : Mutex → Mutex) (o : Option Mutex) (w t : ℕ) → ((x : Mutex) → (g x).owner ≡ Some w) → owner_of (option_map g o) ≡ Some t → t ≡ w
 option-owner g None w t h e = cc
 option-owner g (Some x) w t h e = let it : Some t ≡ Some w = sym e ∙ h x in cc
 
@@ -123,7 +139,7 @@ owner-other : (g : Mutex → Mutex) (mutexes : List Mutex) (m n : ℕ) → (n �
 owner-other g mutexes m n other = ap owner_of (change-elsewhere g mutexes m n other)
 
 -- an owner is the new one, or was one
-owner-cases : (g : Mutex → Mutex) (mutexes : List Mutex) (m n w t : ℕ) → ((x : Mutex) → (g x).owner ≡ Some w) → owner (change g mutexes m) n ≡ Some t → (t ≡ w) ⊎ (owner mutexes n ≡ Some t)
+pub owner-cases : (g : Mutex → Mutex) (mutexes : List Mutex) (m n w t : ℕ) → ((x : Mutex) → (g x).owner ≡ Some w) → owner (change g mutexes m) n ≡ Some t → (t ≡ w) ⊎ (owner mutexes n ≡ Some t)
 owner-cases g mutexes m n w t h e = elim (cases_eq n m) [
   | inl same ↦ inl (option-owner g (slice_get mutexes m) w t h (sym (owner-here g mutexes m) ∙ ap (owner (change g mutexes m)) (sym same) ∙ e))
   | inr other ↦ inr (sym (owner-other g mutexes m n other) ∙ e)
@@ -183,7 +199,7 @@ freed-none : (o : Option Mutex) → owner_of (option_map (λ mutex. freed mutex)
 freed-none None = refl
 freed-none (Some x) = refl
 
-freed-owner : (mutexes : List Mutex) (m n t : ℕ) → owner (change (λ mutex. freed mutex) mutexes m) n ≡ Some t → owner mutexes n ≡ Some t
+pub freed-owner : (mutexes : List Mutex) (m n t : ℕ) → owner (change (λ mutex. freed mutex) mutexes m) n ≡ Some t → owner mutexes n ≡ Some t
 freed-owner mutexes m n t e = elim (cases_eq n m) [
   | inl same ↦ let no : None ≡ Some t = sym (freed-none (slice_get mutexes m)) ∙ sym (owner-here (λ mutex. freed mutex) mutexes m) ∙ ap (owner (change (λ mutex. freed mutex) mutexes m)) (sym same) ∙ e in cc
   | inr other ↦ sym (owner-other (λ mutex. freed mutex) mutexes m n other) ∙ e
@@ -203,7 +219,7 @@ locks-freed mutexes tasks m none l = record {
 }
 
 -- ---- a mutex more
-pushed-owner : (mutexes : List Mutex) (new : Mutex) (n t : ℕ) (o : Option Mutex) → new.owner ≡ None → slice_get (mutexes ++ new ∷ []) n ≡ o → owner_of o ≡ Some t → owner mutexes n ≡ Some t
+pub pushed-owner : (mutexes : List Mutex) (new : Mutex) (n t : ℕ) (o : Option Mutex) → new.owner ≡ None → slice_get (mutexes ++ new ∷ []) n ≡ o → owner_of o ≡ Some t → owner mutexes n ≡ Some t
 pushed-owner mutexes new n t None free e h = cc
 pushed-owner mutexes new n t (Some z) free e h = elim (slice_get-push mutexes new n z e) [
   | inl old ↦ ap owner_of old ∙ h

@@ -87,6 +87,8 @@ shaped-pipes k pipes e s = record {
   few_tasks = s.few_tasks;
   few_processors = s.few_processors;
   locks = s.locks;
+  events = s.events;
+  deadlines = s.deadlines;
 }
 
 pub good_of : (k : Parts) → ArePipes k.pipes → ((c : ℕ) (pipe : Pipe) (p : Processor) → slice_get k.pipes c ≡ Some pipe → slice_get k.processors c ≡ Some p → IsSettled c pipe p k.mutexes k.tasks) → IsShaped k → Good k
@@ -102,6 +104,8 @@ good_of k a s h = record {
   few_tasks = h.few_tasks;
   few_processors = h.few_processors;
   locks = h.locks;
+  events = h.events;
+  deadlines = h.deadlines;
 }
 
 told : (c : ℕ) (k : Parts) → IsUntold c k → (d : ℕ) (q : Pipe) (p : Processor) → slice_get (nudge c k).pipes d ≡ Some q → slice_get (nudge c k).processors d ≡ Some p → IsSettled d q p (nudge c k).mutexes (nudge c k).tasks

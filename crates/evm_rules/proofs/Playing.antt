@@ -4,15 +4,18 @@ use Rattle.std.specs.Prelude.{◌==◌, if◌then◌else◌}
 use Rattle.evm_lines.specs.Lines.{without_line}
 use Rattle.evm_lines.specs.Laws.{without_line-least}
 use Rattle.evm_model.proofs.Lists.{change-same}
+use Rattle.evm_model.specs.Actions.{act, action_at}
+use Rattle.evm_model.specs.Deadlines.{end_waits}
 use Rattle.evm_model.specs.Good.{IsPipe}
 use Rattle.evm_model.specs.Lists.{change}
 use Rattle.evm_model.specs.Pipes.{Pipe, arrive, play}
-use Rattle.evm_model.specs.Settle.{spend, play_oob, play_in_band, play_oob_lines, play_in_band_lines}
+use Rattle.evm_model.specs.Settle.{play_tick, play_oob, play_in_band, play_oob_lines, play_in_band_lines}
 use Rattle.evm_model.specs.State.{Parts, on_pipe}
+use Rattle.evm_model.specs.Timers.{expire_timers}
 use Rattle.evm_model.specs.declared.stage.Stage.TheVariants.{OutOfBand, InBand}
 use Rattle.evm_walk.proofs.Playing.{wakes-pipes}
 use Rattle.evm_rules.proofs.Places.{change_twice}
-use Rattle.evm_rules.proofs.Spending.{of-spends}
+use Rattle.evm_rules.proofs.Spending.{of-spends, end_waits-gives, expire_timers-gives, act-gives}
 use Rattle.evm_walk.proofs.Sets.{IsPipe-arrive, IsPipe-play}
 
 -- ---- on one pipe
@@ -27,13 +30,20 @@ unfoldable pub plays_in_band : List ℕ → Pipe → Pipe
 plays_in_band [] p = p
 plays_in_band (l ∷ ls) p = plays_in_band ls (play InBand l p)
 
-handle-pipes : (was : Option ℕ) (c : ℕ) (first : Bool) (k : Parts) → (if first then on_pipe c (arrive InBand 0) (spend was k) else k).pipes ≡ change (λ p. if first then arrive InBand 0 p else p) k.pipes c
-handle-pipes was c true k = ap (λ (pipes : List Pipe). change (arrive InBand 0) pipes c) (of-spends was k).pipes
-handle-pipes was c false k = sym (change-same (λ p. p) k.pipes c (λ p e. refl))
+-- what an out-of-band play does beside touches no pipe
+tick-pipes : (was : Option ℕ) (c : ℕ) (k : Parts) → (play_tick was c k).pipes ≡ change (arrive InBand 0) k.pipes c
+unfolding play_tick
+tick-pipes was c k =
+    let told : Parts = on_pipe c (arrive InBand 0) k in
+    (of-spends was (expire_timers c (end_waits c told))).pipes ∙ (expire_timers-gives c (end_waits c told)).pipes ∙ (end_waits-gives c told).pipes
 
-play_oob-pipes : (was : Option ℕ) (c l : ℕ) (k : Parts) → (play_oob was c l k).pipes ≡ change (λ p. hand_on l (play OutOfBand l p)) k.pipes c
+handle-pipes : (was : Option ℕ) (c l : ℕ) (first : Bool) (k : Parts) → (if first then play_tick was c k else act (action_at l k) l k).pipes ≡ change (λ p. if first then arrive InBand 0 p else p) k.pipes c
+handle-pipes was c l true k = tick-pipes was c k
+handle-pipes was c l false k = (act-gives (action_at l k) l k).pipes ∙ sym (change-same (λ p. p) k.pipes c (λ p e. refl))
+
+pub play_oob-pipes : (was : Option ℕ) (c l : ℕ) (k : Parts) → (play_oob was c l k).pipes ≡ change (λ p. hand_on l (play OutOfBand l p)) k.pipes c
 unfolding play_oob
-play_oob-pipes was c l k = handle-pipes was c (l == 0) (on_pipe c (play OutOfBand l) k) ∙ change_twice (play OutOfBand l) (hand_on l) k.pipes c
+play_oob-pipes was c l k = handle-pipes was c l (l == 0) (on_pipe c (play OutOfBand l) k) ∙ change_twice (play OutOfBand l) (hand_on l) k.pipes c
 
 pub play_oob_lines-pipes : (was : Option ℕ) (c : ℕ) (lines : List ℕ) (k : Parts) → (play_oob_lines was c lines k).pipes ≡ change (plays_oob lines) k.pipes c
 unfolding play_oob_lines plays_oob

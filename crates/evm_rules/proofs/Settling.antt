@@ -13,11 +13,12 @@ use Rattle.evm_model.specs.declared.processor.Processor.{Processor}
 use Rattle.evm_model.specs.declared.task.Task.{Task}
 use Rattle.evm_rules.proofs.Bounded.{ArePipes, are-settle_oob, are-settle_in_band}
 use Rattle.evm_rules.proofs.Firsts.{IsOobOwn, own-is_oob, best-is_oob, best-own, own-live, own-in_band, next-own}
+use Rattle.evm_rules.proofs.Handling.{Plays, lines-plays}
 use Rattle.evm_rules.proofs.Playing.{plays_oob, plays_in_band, play_oob_lines-pipes, play_in_band_lines-pipes, HasSameStalls, plays_oob-stalls, plays_in_band-stalls, plays_oob-empty, plays_in_band-empty, plays_in_band-oob, plays_oob-pipe}
 use Rattle.evm_rules.proofs.Places.{changed-is, changed-from}
 use Rattle.evm_rules.proofs.Ranking.{AreRanked, ranked-none, ranked-then}
 use Rattle.evm_rules.proofs.Shapes.{IsShaped, shaped, shaped-processor}
-use Rattle.evm_rules.proofs.Waking.{AreAlike, alike-none, alike-then, alike-own, alike-oob, alike-in_band, Rouses, rouses-none, rouses-if, rouses-lines, rouses-oob_lines, none-best}
+use Rattle.evm_rules.proofs.Waking.{AreAlike, alike-none, alike-then, alike-own, alike-oob, alike-in_band, Rouses, rouses-none, rouses-if, rouses-lines, none-best}
 
 -- of the other processors only how a task is ranked may change, and of their tasks neither where nor how they are
 pub record IsApart (c : ℕ) (k new : Parts) : Type 0 where
@@ -43,20 +44,23 @@ apart-if c false k x y p q = q
 apart-rouses : (c : ℕ) (k x : Parts) → Rouses c k x → IsApart c k x
 apart-rouses c k x r = record { others = λ d n. (r.others d n, r.pipes d n, ap (λ (xs : List Processor). slice_get xs d) r.processors); shape = r.shape }
 
+apart-plays : (c : ℕ) (k x : Parts) → Plays c k x → IsApart c k x
+apart-plays c k x r = record { others = λ d n. (r.alike d, r.pipes d n, ap (λ (xs : List Processor). slice_get xs d) r.processors); shape = λ s. r.shape }
+
 apart-processor : (c : ℕ) (f : Processor → Processor) (k : Parts) → IsApart c k (on_processor c f k)
 apart-processor c f k = record { others = λ d n. (alike-none d k.tasks, refl, change-elsewhere f k.processors c d n); shape = shaped-processor c f k }
 
--- ---- settling out-of-band changes only its processor
-apart-oob_pipe : (was : Option ℕ) (c : ℕ) (o : Option Pipe) (k : Parts) → IsApart c k (settle_oob_pipe o was c k)
-apart-oob_pipe was c None k = apart-none c k
-apart-oob_pipe was c (Some pipe) k =
+-- ---- settling out-of-band changes only its processor, and wakes tasks
+apart-oob_pipe : (was : Option ℕ) (c : ℕ) (o : Option Pipe) (k : Parts) → IsShaped k → IsApart c k (settle_oob_pipe o was c k)
+apart-oob_pipe was c None k s = apart-none c k
+apart-oob_pipe was c (Some pipe) k s =
     let played : Parts = play_oob_lines was c pipe.oob.lines k in
     apart-if c pipe.oob.stalled k k (run_best c played) (apart-none c k)
-    (apart-then c k played (run_best c played) (apart-rouses c k played (rouses-oob_lines was c pipe.oob.lines k)) (apart-processor c _ played))
+    (apart-then c k played (run_best c played) (apart-plays c k played (lines-plays was c pipe.oob.lines k s)) (apart-processor c _ played))
 
-apart-settle_oob : (was : Option ℕ) (c : ℕ) (k : Parts) → IsApart c k (settle_oob was c k)
+apart-settle_oob : (was : Option ℕ) (c : ℕ) (k : Parts) → IsShaped k → IsApart c k (settle_oob was c k)
 unfolding settle_oob
-apart-settle_oob was c k = apart-oob_pipe was c (slice_get k.pipes c) k
+apart-settle_oob was c k s = apart-oob_pipe was c (slice_get k.pipes c) k s
 
 -- ---- a good state but for the acting processor
 -- another processor: all but that it runs its best task, which nudging sees to
@@ -170,7 +174,7 @@ oob_settled-if was c k pipe true s e g q p f h =
 oob_settled-if was c k pipe false s e g q p f h =
     let ls : List ℕ = pipe.oob.lines in
     let x : Parts = play_oob_lines was c ls k in
-    let r : Rouses c k x = rouses-oob_lines was c ls k in
+    let r : Plays c k x = lines-plays was c ls k g.shape in
     let whole : IsPipe pipe = g.pipes c pipe e in
     let there : slice_get (change (plays_oob ls) k.pipes c) c ≡ Some q = ap (λ (pipes : List Pipe). slice_get pipes c) (sym (play_oob_lines-pipes was c ls k)) ∙ f in
     let it : plays_oob ls pipe ≡ q = changed-is (plays_oob ls) k.pipes c pipe q e there in
@@ -180,7 +184,7 @@ oob_settled-if was c k pipe false s e g q p f h =
     let same = plays_oob-stalls ls pipe in
     rw (from.2, ← it) (record {
       current_own = λ t m. own-live c t x.tasks (best-own c t x.mutexes x.tasks m);
-      in_band_own = λ t m. r.in_band t (a.in_band_own t m);
+      in_band_own = λ t m. alike-in_band c t k.tasks x.tasks (r.alike c) (a.in_band_own t m);
       oob_lines = λ u. plays_oob-empty ls pipe whole refl;
       oob_staller = λ u. let no : true ≡ false = sym u ∙ same.oob ∙ s in cc;
       in_band_staller = λ u. a.in_band_staller (sym same.inband ∙ u);
@@ -339,7 +343,7 @@ settle-untold was c k g =
     let mid : Parts = settle_oob was c k in
     let new : Parts = settle_in_band c mid in
     let t : Turned c mid new = settles-in_band c mid (oob_settled was c k g) (λ x e. are-settle_oob was c k g.pipes c x e) in
-    let a : IsApart c k new = apart-then c k mid new (apart-settle_oob was c k) t.apart in
+    let a : IsApart c k new = apart-then c k mid new (apart-settle_oob was c k g.shape) t.apart in
     record {
       pipes = are-settle_in_band c mid (are-settle_oob was c k g.pipes);
       others = λ d pipe p n e f. let r = a.others d n in calm-alike d pipe p k.tasks new.tasks r.0 (g.others d pipe p n (sym r.1 ∙ e) (sym r.2 ∙ f));

@@ -1,9 +1,9 @@
 -- What holds of tasks, harts and sizes, whatever processors and pipes do.
-use Rattle.std.proofs.Common.{◌≡◌, ℕ, ◌+◌, ◌<◌, ◌≤◌, ◌%◌, List, [], ◌∷◌, ◌++◌, Some, length, length-append, refl, ap, sym, ◌∙◌, ◌⊎◌, inl, inr, arith}
+use Rattle.std.proofs.Common.{◌≡◌, ℕ, ◌+◌, ◌<◌, ◌≤◌, ◌%◌, List, [], ◌∷◌, ◌++◌, false, Option, Some, length, length-append, refl, ap, sym, ◌∙◌, ◌⊎◌, inl, inr, arith}
 use Rattle.std.specs.Prelude.{slice_get}
 use Rattle.evm_exec.specs.declared.hart.Hart.{Hart}
 use Rattle.evm_model.proofs.Lists.{change-cases, length-change, slice_get-push}
-use Rattle.evm_model.specs.Good.{Good, AreLocks}
+use Rattle.evm_model.specs.Good.{Good, AreLocks, AreEvents, event_of, is_waiting}
 use Rattle.evm_model.specs.InBandCalls.{add_task}
 use Rattle.evm_model.specs.Harts.{spawned_hart}
 use Rattle.evm_model.specs.Lists.{change}
@@ -11,11 +11,14 @@ use Rattle.evm_model.specs.Mutexes.{lock_of}
 use Rattle.evm_model.specs.Pipes.{Pipe}
 use Rattle.evm_model.specs.State.{Parts, new_task, on_hart, on_task, on_pipe, on_processor}
 use Rattle.evm_model.specs.Tasks.{restamp, leave_in_band}
+use Rattle.evm_model.specs.declared.action.Action.{Action}
 use Rattle.evm_model.specs.declared.limits.TheConstants.{PROCESSOR_LIMIT, TASK_LIMIT}
 use Rattle.evm_model.specs.declared.mutex.Mutex.{Mutex}
 use Rattle.evm_model.specs.declared.processor.Processor.{Processor}
 use Rattle.evm_model.specs.declared.task.Task.{Task}
+use Rattle.evm_model.specs.declared.timer.Timer.{Timer}
 use Rattle.evm_rules.proofs.Locks.{locks-fewer, fewer-change, fewer-push}
+use Rattle.evm_rules.proofs.Waited.{AreDeadlines, events-fewer, fewer_events-change, fewer_events-push, deadlines-stay, deadlines-push}
 
 pub record IsShaped (k : Parts) : Type 0 where
   pub aligned : (t : ℕ) (hart : Hart) → slice_get k.harts t ≡ Some hart → hart.pc % 4 ≡ 0
@@ -27,6 +30,8 @@ pub record IsShaped (k : Parts) : Type 0 where
   pub few_tasks : length k.tasks ≤ TASK_LIMIT
   pub few_processors : length k.processors ≤ PROCESSOR_LIMIT
   pub locks : AreLocks k.mutexes k.tasks
+  pub events : AreEvents k.events k.mutexes k.tasks
+  pub deadlines : (t : ℕ) (task : Task) → slice_get k.tasks t ≡ Some task → is_waiting task.state ≡ false → task.deadline ≡ 0
 
 pub shaped : (k : Parts) → Good k → IsShaped k
 shaped k g = record {
@@ -39,6 +44,8 @@ shaped k g = record {
   few_tasks = g.few_tasks;
   few_processors = g.few_processors;
   locks = g.locks;
+  events = g.events;
+  deadlines = g.deadlines;
 }
 
 pub shaped-pipe : (c : ℕ) (f : Pipe → Pipe) (k : Parts) → IsShaped k → IsShaped (on_pipe c f k)
@@ -52,6 +59,8 @@ shaped-pipe c f k s = record {
   few_tasks = s.few_tasks;
   few_processors = s.few_processors;
   locks = s.locks;
+  events = s.events;
+  deadlines = s.deadlines;
 }
 
 pub shaped-processor : (c : ℕ) (f : Processor → Processor) (k : Parts) → IsShaped k → IsShaped (on_processor c f k)
@@ -65,6 +74,8 @@ shaped-processor c f k s = let same : length (change f k.processors c) ≡ lengt
   few_tasks = s.few_tasks;
   few_processors = rw same s.few_processors;
   locks = s.locks;
+  events = s.events;
+  deadlines = s.deadlines;
 }
 
 pub shaped-leave : (c : ℕ) (k : Parts) → IsShaped k → IsShaped (leave_in_band c k)
@@ -85,6 +96,8 @@ shaped-hart t f k h s = record {
   few_tasks = s.few_tasks;
   few_processors = s.few_processors;
   locks = s.locks;
+  events = s.events;
+  deadlines = s.deadlines;
 }
 
 -- ---- a task
@@ -96,8 +109,9 @@ was f xs t u z a b h = elim (change-cases f xs t u z h) [
 ]
 
 -- a task's processor and stamp stay
-pub shaped-with : (t : ℕ) (f : Task → Task) (k : Parts) → ((x : Task) → (f x).cpu ≡ x.cpu) → ((x : Task) → (f x).stamp ≡ x.stamp) → AreLocks k.mutexes (change f k.tasks t) → IsShaped k → IsShaped (on_task t f k)
-shaped-with t f k cpu stamp locks s =
+pub shaped-with : (t : ℕ) (f : Task → Task) (k : Parts) → ((x : Task) → (f x).cpu ≡ x.cpu) → ((x : Task) → (f x).stamp ≡ x.stamp) → AreLocks k.mutexes (change f k.tasks t) → AreEvents k.events k.mutexes (change f k.tasks t)
+    → AreDeadlines (change f k.tasks t) → IsShaped k → IsShaped (on_task t f k)
+shaped-with t f k cpu stamp locks events deadlines s =
     let before = λ (u : ℕ) (x : Task) (e : slice_get (change f k.tasks t) u ≡ Some x). was f k.tasks t u x cpu stamp e in
     record {
       aligned = s.aligned;
@@ -109,16 +123,32 @@ shaped-with t f k cpu stamp locks s =
       few_tasks = rw (length-change f k.tasks t) s.few_tasks;
       few_processors = s.few_processors;
       locks = locks;
+      events = events;
+      deadlines = deadlines;
     }
 
--- .. and it waits for no other lock
-pub shaped-task : (t : ℕ) (f : Task → Task) (k : Parts) → ((x : Task) → (f x).cpu ≡ x.cpu) → ((x : Task) → (f x).stamp ≡ x.stamp) → ((x : Task) (m : ℕ) → lock_of (f x).state ≡ Some m → lock_of x.state ≡ Some m)
+-- a change of a task that leaves its processor and its stamp; it waits for no other lock and no other event
+pub record IsPlain (f : Task → Task) : Type 0 where
+  pub cpu : (x : Task) → (f x).cpu ≡ x.cpu
+  pub stamp : (x : Task) → (f x).stamp ≡ x.stamp
+  pub lock : (x : Task) (m : ℕ) → lock_of (f x).state ≡ Some m → lock_of x.state ≡ Some m
+  pub event : (x : Task) (e : ℕ) → event_of (f x).state ≡ Some e → event_of x.state ≡ Some e
+
+pub shaped-plain : (t : ℕ) (f : Task → Task) (k : Parts) → IsPlain f → AreDeadlines (change f k.tasks t) → IsShaped k → IsShaped (on_task t f k)
+shaped-plain t f k p deadlines s =
+    shaped-with t f k p.cpu p.stamp (locks-fewer k.mutexes k.tasks (change f k.tasks t) (omega (arith, length-change f k.tasks t)) (fewer-change f k.tasks t p.lock) s.locks)
+    (events-fewer k.events k.mutexes k.tasks (change f k.tasks t) (fewer_events-change f k.tasks t p.event) s.events) deadlines s
+
+-- .. nor does it change how it is, and its deadline
+pub shaped-task : (t : ℕ) (f : Task → Task) (k : Parts) → ((x : Task) → (f x).cpu ≡ x.cpu) → ((x : Task) → (f x).stamp ≡ x.stamp) → ((x : Task) → (f x).state ≡ x.state) → ((x : Task) → (f x).deadline ≡ x.deadline)
     → IsShaped k → IsShaped (on_task t f k)
-shaped-task t f k cpu stamp lock s = shaped-with t f k cpu stamp (locks-fewer k.mutexes k.tasks (change f k.tasks t) (omega (arith, length-change f k.tasks t)) (fewer-change f k.tasks t lock) s.locks) s
+shaped-task t f k cpu stamp state deadline s =
+    shaped-plain t f k (record { cpu = cpu; stamp = stamp; lock = λ x m e. ap lock_of (sym (state x)) ∙ e; event = λ x m e. ap event_of (sym (state x)) ∙ e })
+    (deadlines-stay f k.tasks t state deadline s.deadlines) s
 
 -- mutexes change
-pub shaped-mutexes : (k : Parts) (mutexes : List Mutex) → AreLocks mutexes k.tasks → IsShaped k → IsShaped (record k { mutexes = mutexes })
-shaped-mutexes k mutexes locks s = record {
+pub shaped-mutexes : (k : Parts) (mutexes : List Mutex) → AreLocks mutexes k.tasks → AreEvents k.events mutexes k.tasks → IsShaped k → IsShaped (record k { mutexes = mutexes })
+shaped-mutexes k mutexes locks events s = record {
   aligned = s.aligned;
   homes = s.homes;
   stamps_below = s.stamps_below;
@@ -128,6 +158,41 @@ shaped-mutexes k mutexes locks s = record {
   few_tasks = s.few_tasks;
   few_processors = s.few_processors;
   locks = locks;
+  events = events;
+  deadlines = s.deadlines;
+}
+
+-- events change
+pub shaped-events : (k : Parts) (events : List (Option ℕ)) → AreEvents events k.mutexes k.tasks → IsShaped k → IsShaped (record k { events = events })
+shaped-events k events named s = record {
+  aligned = s.aligned;
+  homes = s.homes;
+  stamps_below = s.stamps_below;
+  stamps_differ = s.stamps_differ;
+  harts_count = s.harts_count;
+  pipes_count = s.pipes_count;
+  few_tasks = s.few_tasks;
+  few_processors = s.few_processors;
+  locks = s.locks;
+  events = named;
+  deadlines = s.deadlines;
+}
+
+-- what no rule looks at
+pub shaped-others : (k : Parts) (semaphores flags : List ℕ) (timers : List Timer) (actions : List Action) (console : List ℕ)
+    → IsShaped k → IsShaped (record k { semaphores = semaphores; flags = flags; timers = timers; actions = actions; console = console })
+shaped-others k semaphores flags timers actions console s = record {
+  aligned = s.aligned;
+  homes = s.homes;
+  stamps_below = s.stamps_below;
+  stamps_differ = s.stamps_differ;
+  harts_count = s.harts_count;
+  pipes_count = s.pipes_count;
+  few_tasks = s.few_tasks;
+  few_processors = s.few_processors;
+  locks = s.locks;
+  events = s.events;
+  deadlines = s.deadlines;
 }
 
 -- ---- a fresh stamp
@@ -176,6 +241,8 @@ shaped-restamp t k s =
       few_tasks = rw (length-change f k.tasks t) s.few_tasks;
       few_processors = s.few_processors;
       locks = locks-fewer k.mutexes k.tasks (change f k.tasks t) (omega (arith, length-change f k.tasks t)) (fewer-change f k.tasks t (λ x m e. e)) s.locks;
+      events = events-fewer k.events k.mutexes k.tasks (change f k.tasks t) (fewer_events-change f k.tasks t (λ x e w. w)) s.events;
+      deadlines = deadlines-stay f k.tasks t (λ x. refl) (λ x. refl) s.deadlines;
     }
 
 -- ---- a task more
@@ -212,4 +279,6 @@ shaped-add entry value cpu k a home room s =
       few_tasks = omega (arith, length-append k.tasks (task ∷ []));
       few_processors = s.few_processors;
       locks = locks-fewer k.mutexes k.tasks (k.tasks ++ task ∷ []) (omega (arith, length-append k.tasks (task ∷ []))) (fewer-push k.tasks task refl) s.locks;
+      events = events-fewer k.events k.mutexes k.tasks (k.tasks ++ task ∷ []) (fewer_events-push k.tasks task refl) s.events;
+      deadlines = deadlines-push k.tasks task refl s.deadlines;
     }

@@ -8,9 +8,11 @@ use Rattle.evm_ram.specs.declared.ram.TheConstants.{BASE}
 use Rattle.evm_model.specs.declared.refusal.Refusal.{Refusal}
 use Rattle.evm_model.specs.declared.refusal.Refusal.TheVariants.{Full}
 use Rattle.evm_exec.specs.declared.hart.Hart.{Hart}
+use Rattle.evm_lines.specs.declared.TheConstants.{LINES}
+use Rattle.evm_model.specs.Actions.{action_or_nothing}
 use Rattle.evm_model.specs.Bounds.{COUNT_LIMIT, PER_EVENT, STAMPS_PER_EVENT, PipesUpTo, HeldUpTo}
 use Rattle.evm_model.specs.Commands.{tick, set_bits, on_number, set_breakpoint, unset_breakpoint}
-use Rattle.evm_model.specs.Good.{Good, GoodState, AreLocks, AreSemaphores, IsOneOf, IsSettled, is_tick}
+use Rattle.evm_model.specs.Good.{Good, GoodState, AreActions, AreEvents, AreFlags, AreLocks, AreSemaphores, AreTimers, IsOneOf, IsSettled, event_at, is_tick}
 use Rattle.evm_model.specs.Harts.{set_register, set_pc, first_hart}
 use Rattle.evm_model.specs.Instructions.{stop}
 use Rattle.evm_model.specs.Load.{bytes_from, load_board, start_loaded}
@@ -22,15 +24,17 @@ use Rattle.evm_model.specs.Replay.{accept, apply, bad_boot, bad_cpus, bad_ram, b
 use Rattle.evm_model.specs.Rows.{row}
 use Rattle.evm_model.specs.Settle.{current, is_oob}
 use Rattle.evm_model.specs.State.{State, Parts, Board, booted, booted_parts, first_processor, first_task, profile_of}
+use Rattle.evm_model.specs.declared.action.Action.{Action}
+use Rattle.evm_model.specs.declared.action.Action.TheVariants.{Nothing, Puts, Posts}
 use Rattle.evm_model.specs.declared.boot.Boot.{Boot}
 use Rattle.evm_model.specs.declared.event.Answer.{Answer}
 use Rattle.evm_model.specs.Event.{Event}
 use Rattle.evm_model.specs.declared.event.Event.TheVariants.{Step, Tick, Raise, Bell, Stop, Go, StepI, SetReg, SetPc, Poke, Break, Unbreak}
-use Rattle.evm_model.specs.declared.limits.TheConstants.{PROCESSOR_LIMIT, CAPACITY_LIMIT}
+use Rattle.evm_model.specs.declared.limits.TheConstants.{PROCESSOR_LIMIT, CAPACITY_LIMIT, EVENT_LIMIT, TIMER_LIMIT}
 use Rattle.evm_model.specs.declared.processor.Processor.{Processor}
 use Rattle.evm_model.proofs.Lists.{slice_get-replicate, slice_get-slice_set}
 use Rattle.evm_walk.proofs.Counted.{walk_counted}
-use Rattle.evm_walk.proofs.Amounts.{walk_amounts}
+use Rattle.evm_walk.proofs.Amounts.{walk_amounts, walk_flags, walk_timers, walk_few_events, walk_actions}
 use Rattle.evm_walk.proofs.Held.{held_more, walk_holds}
 use Rattle.evm_walk.proofs.Rows.{MOVES, acting, may_raise, row_walks}
 use Rattle.evm_walk.proofs.Sizes.{walk_sizes, walk_most, walk_profile, walk_ticks}
@@ -85,15 +89,15 @@ allowed : (s : State) (event : Event) (full : Bool) → (if full then Some Full 
 allowed s event true e = cc
 allowed s event false e = (refl, e)
 
-pub few-of : (k : Parts) → Good k → AreFew k
-few-of k g = record { pipes = record { each = g.pipes }; tasks = g.few_tasks; mutexes = g.locks.few }
+pub few-of : (k : Parts) → Good k → length k.timers ≤ TIMER_LIMIT → AreFew k
+few-of k g timers = record { pipes = record { each = g.pipes }; tasks = g.few_tasks; mutexes = g.locks.few; timers = timers }
 
 pub accepted-good : (s : State) (event : Event) → is_full s ≡ false → board_refusal event s.board ≡ None → GoodState s → GoodState (accept event (row event s.board) s).0
 accepted-good s event f e g =
     let k : Parts = s.board.parts in
     let new : Parts = (row event s.board).0.parts in
     let a : Actor = acting event k in
-    let few : AreFew k = few-of k g.good in
+    let few : AreFew k = few-of k g.good g.timers.few in
     let w : Walk a k MOVES STAMPS_PER_EVENT new = row_walks event s.board e in
     let size = walk_sizes a k MOVES STAMPS_PER_EVENT new w in
     let room : length s.journal < s.boot.capacity = leb-false s.boot.capacity (length s.journal) f in
@@ -111,6 +115,10 @@ accepted-good s event f e g =
       stamps = omega (arith, walk_most a k MOVES STAMPS_PER_EVENT new few w, g.stamps, grown);
       counts = PipesUpTo-more (before + MOVES) after new.pipes (omega arith) (walk_counted a k MOVES STAMPS_PER_EVENT before new w few.pipes g.counts);
       semaphores = walk_amounts a k MOVES STAMPS_PER_EVENT new w g.semaphores;
+      flags = walk_flags a k few.pipes MOVES STAMPS_PER_EVENT new w g.flags;
+      timers = walk_timers a k MOVES STAMPS_PER_EVENT new w g.timers;
+      few_events = walk_few_events a k MOVES STAMPS_PER_EVENT new w g.few_events;
+      actions = walk_actions a k MOVES STAMPS_PER_EVENT new w g.actions;
       holds = held_more (before + 1 + MOVES) after new.mutexes (omega arith)
           (walk_holds a k MOVES STAMPS_PER_EVENT new (before + 1) few.pipes (omega arith) w (held_more before (before + 1) k.mutexes (omega arith) g.holds));
     }
@@ -201,6 +209,17 @@ one-there : {X : Type 0} (x z : X) (t : ℕ) → slice_get (x ∷ []) t ≡ Some
 one-there x z zero e = (refl, cc)
 one-there x z (suc t) e = cc
 
+no-event : (t : ℕ) → event_at (first_task ∷ []) t ≡ None
+no-event zero = refl
+no-event (suc t) = refl
+
+-- there is no event
+first-events : AreEvents [] [] (first_task ∷ [])
+first-events = record {
+  bound = λ t e w. let no : None ≡ Some e = sym (no-event t) ∙ w in cc;
+  idle = λ t e m w o. let no : None ≡ Some e = sym (no-event t) ∙ w in cc;
+}
+
 no-lock : (u : ℕ) → lock_at (first_task ∷ []) u ≡ None
 no-lock zero = refl
 no-lock (suc u) = refl
@@ -232,6 +251,8 @@ booted-good boot e =
       few_tasks = omega arith;
       few_processors = rw processors cpus.1;
       locks = first-locks;
+      events = first-events;
+      deadlines = λ t task f w. rw (one-there first_task task t f).1 refl;
     }
 
 booted-counts : (boot : Boot) → PipesUpTo 0 (booted_parts boot).pipes
@@ -245,6 +266,31 @@ booted-holds boot = record { count = λ m mutex e. cc }
 booted-semaphores : (boot : Boot) → AreSemaphores (booted_parts boot).semaphores
 unfolding booted_parts
 booted-semaphores boot = record { few = omega arith; bounded = λ s n e. cc }
+
+booted-flags : (boot : Boot) → AreFlags (booted_parts boot).flags
+unfolding booted_parts
+booted-flags boot = record { few = omega arith; bounded = λ s n e. cc }
+
+booted-timers : (boot : Boot) → AreTimers (booted_parts boot).ticks (booted_parts boot).timers
+unfolding booted_parts
+booted-timers boot = record { few = omega arith; each = λ n timer e. cc }
+
+booted-events : (boot : Boot) → length (booted_parts boot).events ≤ EVENT_LIMIT
+unfolding booted_parts
+booted-events boot = omega arith
+
+no_action : (l : ℕ) (o : Option Action) → slice_get (replicate LINES Nothing) l ≡ o → action_or_nothing o ≡ Nothing
+no_action l None e = refl
+no_action l (Some action) e = slice_get-replicate LINES Nothing l action e
+
+booted-actions : (boot : Boot) → AreActions (booted_parts boot).actions (booted_parts boot).semaphores (booted_parts boot).flags
+unfolding booted_parts
+booted-actions boot = record {
+  count = length-replicate LINES Nothing;
+  fixed = λ l less. no_action l (slice_get (replicate LINES Nothing) l) refl;
+  puts = λ l s e. let no : Nothing ≡ Puts s = sym (no_action l (slice_get (replicate LINES Nothing) l) refl) ∙ e in cc;
+  posts = λ l f e. let no : Nothing ≡ Posts f = sym (no_action l (slice_get (replicate LINES Nothing) l) refl) ∙ e in cc;
+}
 
 booted-processors : (boot : Boot) → length (booted_parts boot).processors ≡ boot.cpus
 unfolding booted_parts
@@ -276,6 +322,10 @@ GoodState-start boot e = record {
   stamps = booted-stamps boot;
   counts = booted-counts boot;
   semaphores = booted-semaphores boot;
+  flags = booted-flags boot;
+  timers = booted-timers boot;
+  few_events = booted-events boot;
+  actions = booted-actions boot;
   holds = booted-holds boot;
 }
 
@@ -298,6 +348,10 @@ GoodState-load byte entry s e g = record {
   stamps = g.stamps;
   counts = g.counts;
   semaphores = g.semaphores;
+  flags = g.flags;
+  timers = g.timers;
+  few_events = g.few_events;
+  actions = g.actions;
   holds = g.holds;
 }
 
@@ -325,8 +379,8 @@ pub holds_room : (s : State) → GoodState s → HeldUpTo COUNT_LIMIT s.board.pa
 holds_room s g = let few : length s.journal ≤ CAPACITY_LIMIT = few_events s g in
     record { count = λ m mutex e. let some = g.holds.count m mutex e in omega (arith, some, few) }
 
--- stamps are at most 2 ^ 33
-pub stamps_room : (s : State) → GoodState s → s.board.parts.stamps ≤ 2 ^ 33
+-- stamps are at most 2 ^ 34
+pub stamps_room : (s : State) → GoodState s → s.board.parts.stamps ≤ 2 ^ 34
 stamps_room s g = let few : length s.journal ≤ CAPACITY_LIMIT = few_events s g in omega (arith, g.stamps)
 
 -- ticks are at most 2 ^ 20

@@ -1,19 +1,18 @@
 -- What a change of one task leaves of the others, and what waking tasks leaves of their processor.
 use Rattle.std.proofs.Common.{◌≡◌, ℕ, zero, suc, ◌<◌, List, [], ◌∷◌, ◌++◌, Bool, true, false, not, Option, Some, None, length, refl, ap, sym, ◌∙◌, inl, inr}
-use Rattle.std.specs.Prelude.{slice_get, option_map, nat_le, ◌==◌, ◌&&◌, if◌then◌else◌}
+use Rattle.std.specs.Prelude.{slice_get, option_map, ◌==◌, ◌&&◌, if◌then◌else◌}
 use Rattle.std.proofs.lemmas.Bool.{cases_eq}
 use Rattle.evm_model.proofs.Lists.{change-here, change-elsewhere, slice_get-below, slice_get-before}
-use Rattle.evm_model.specs.Good.{IsOneOf, IsOwn, is_ready}
+use Rattle.evm_model.specs.Good.{IsOneOf, IsOwn, event_of, is_ready}
 use Rattle.evm_model.specs.Harts.{A0, set_register}
 use Rattle.evm_model.specs.Lists.{change}
 use Rattle.evm_model.specs.Mutexes.{lock_of, owns_any}
-use Rattle.evm_model.specs.Pipes.{Pipe, arrive, play}
+use Rattle.evm_model.specs.Pipes.{Pipe, play}
 use Rattle.evm_model.specs.Ranks.{best, rank, stamp, runs_oob, runs_oob_task, is_oob_ready, is_in_ready}
-use Rattle.evm_model.specs.Settle.{is_oob, spend, play_oob, play_oob_lines, play_in_band, play_in_band_lines}
+use Rattle.evm_model.specs.Settle.{is_oob, play_in_band, play_in_band_lines}
 use Rattle.evm_model.specs.State.{Parts, on_hart, on_task, on_pipe}
-use Rattle.evm_model.specs.Tasks.{restamp, set_state, set_slice, spend_slice, spend_task, is_round_robin, is_weak}
+use Rattle.evm_model.specs.Tasks.{restamp, set_state, is_weak}
 use Rattle.evm_model.specs.Waits.{is_wait_for, stage_of_wait, ready_on, woken_state, woken, wake, awaits_line, wake_below}
-use Rattle.evm_model.specs.declared.limits.TheConstants.{SLICE}
 use Rattle.evm_model.specs.declared.stage.Stage.{Stage}
 use Rattle.evm_model.specs.declared.stage.Stage.TheVariants.{OutOfBand, InBand}
 use Rattle.evm_model.specs.declared.mutex.Mutex.{Mutex}
@@ -23,7 +22,8 @@ use Rattle.evm_model.specs.declared.task.TaskState.TheVariants.{InReady, Waits}
 use Rattle.evm_model.specs.declared.task.Wait.TheVariants.{Line}
 use Rattle.evm_rules.proofs.Firsts.{IsOobOwn, both, eqb-is, oob-ready, in_band-ready, first-member, first-none}
 use Rattle.evm_rules.proofs.Ranking.{AreRanked, ranked-none, ranked-then, ranked-task}
-use Rattle.evm_rules.proofs.Shapes.{IsShaped, shaped-task, shaped-pipe, shaped-hart, shaped-restamp}
+use Rattle.evm_rules.proofs.Shapes.{IsShaped, shaped-plain, shaped-pipe, shaped-hart, shaped-restamp}
+use Rattle.evm_rules.proofs.Waited.{deadlines-change}
 
 -- ---- the tasks of a processor
 -- where and how a task is: its processor, and its state if it was ready
@@ -139,7 +139,7 @@ unfolding set_state
 own-state c t u state k ready o = one-cases is_ready c t u (λ task. record task { state = state }) k.tasks o (λ task. refl) (λ task h. ready)
 
 -- ---- waking
--- tasks of c woke, lines of its log were played: its own tasks stay its own, as many are out-of-band ready, and nothing else changes but registers
+-- tasks of c woke, lines of its in-band log were played: its own tasks stay its own, as many are out-of-band ready, and nothing else changes but registers
 pub record Rouses (c : ℕ) (k x : Parts) : Type 0 where
   pub processors : x.processors ≡ k.processors
   pub pipes : (d : ℕ) → (d ≡ c → ⊥) → slice_get x.pipes d ≡ slice_get k.pipes d
@@ -217,6 +217,26 @@ pub woken-lockless : (returns : Bool) (state : TaskState) → lock_of (woken_sta
 woken-lockless returns (Waits wait) = ready-lockless (stage_of_wait wait) returns
 woken-lockless returns _ = refl
 
+ready-eventless : (stage : Stage) (returns : Bool) → event_of (ready_on stage returns) ≡ None
+ready-eventless InBand returns = refl
+ready-eventless OutOfBand true = refl
+ready-eventless OutOfBand false = refl
+
+-- nor for an event
+pub woken-eventless : (returns : Bool) (state : TaskState) → event_of (woken_state returns state) ≡ None
+woken-eventless returns (Waits wait) = ready-eventless (stage_of_wait wait) returns
+woken-eventless returns _ = refl
+
+-- and it has no deadline
+pub shaped-woken : (t : ℕ) (owns : Bool) (k : Parts) → IsShaped k → IsShaped (on_task t (woken owns) k)
+shaped-woken t owns k s =
+    shaped-plain t (woken owns) k (record {
+      cpu = λ x. refl;
+      stamp = λ x. refl;
+      lock = λ x m e. let no : None ≡ Some m = sym (woken-lockless (is_weak x.class && not owns) x.state) ∙ e in cc;
+      event = λ x d e. let no : None ≡ Some d = sym (woken-eventless (is_weak x.class && not owns) x.state) ∙ e in cc;
+    }) (deadlines-change (woken owns) k.tasks t (λ x e w. refl) s.deadlines) s
+
 woken-in_band : (returns : Bool) (state : TaskState) → is_in_ready state ≡ true → is_in_ready (woken_state returns state) ≡ true
 woken-in_band returns InReady e = refl
 woken-in_band returns _ e = cc
@@ -257,7 +277,7 @@ rouses-woken : (c t : ℕ) (owns : Bool) (k : Parts) → Waiter c t k.tasks → 
 rouses-woken c t owns k w = record {
   processors = refl;
   pipes = λ d n. refl;
-  shape = shaped-task t (woken owns) k (λ x. refl) (λ x. refl) (λ x m e. let no : None ≡ Some m = sym (woken-lockless (is_weak x.class && not owns) x.state) ∙ e in cc);
+  shape = shaped-woken t owns k;
   others = λ d n. alike-other c d t (woken owns) k.tasks n (waiter-home c t k.tasks w);
   in_band = λ u o. one-cases is_in_ready c t u (woken owns) k.tasks o (λ x. refl) (λ x h. woken-in_band (is_weak x.class && not owns) x.state h);
   oob = λ u. oob-change c t u (woken owns) k.tasks w (w.wakes (is_weak w.task.class && not owns));
@@ -313,50 +333,6 @@ pub rouses-lines : (c : ℕ) (lines : List ℕ) (k : Parts) → Rouses c k (play
 unfolding play_in_band_lines
 rouses-lines c [] k = rouses-none c k
 rouses-lines c (l ∷ ls) k = rouses-then c k (play_in_band c l k) _ (rouses-play c l k) (rouses-lines c ls (play_in_band c l k))
-
--- ---- a tick of a slice
-rouses-slice : (c t slice : ℕ) (k : Parts) → Rouses c k (set_slice t slice k)
-unfolding set_slice
-rouses-slice c t slice k =
-    let f : Task → Task = λ task. record task { slice = slice } in
-    record {
-      processors = refl;
-      pipes = λ d n. refl;
-      shape = shaped-task t f k (λ task. refl) (λ task. refl) (λ task m e. e);
-      others = λ d n. alike-change d t f k.tasks (λ task. refl) (λ task. refl);
-      in_band = λ u o. one-cases is_in_ready c t u f k.tasks o (λ task. refl) (λ task h. h);
-      oob = λ u. runs-change c t u f k.tasks (λ task. refl) (λ task. refl);
-      ranked = ranked-task t f k _ refl refl (λ task e. refl) (λ task e. refl);
-    }
-
-rouses-spend : (c t slice : ℕ) (k : Parts) → Rouses c k (spend_slice t slice k)
-unfolding spend_slice
-rouses-spend c t slice k =
-    rouses-if c (nat_le slice 1) k _ _ (λ e. rouses-then c k (set_slice t SLICE k) _ (rouses-slice c t SLICE k) (rouses-restamp c t (set_slice t SLICE k)))
-    (λ e. rouses-slice c t _ k)
-
-rouses-task : (c : ℕ) (o : Option Task) (t : ℕ) (k : Parts) → Rouses c k (spend_task o t k)
-rouses-task c None t k = rouses-none c k
-rouses-task c (Some task) t k = rouses-if c (is_oob_ready task.state && is_round_robin task.class) k _ k (λ e. rouses-spend c t task.slice k) (λ e. rouses-none c k)
-
-rouses-of : (c : ℕ) (was : Option ℕ) (k : Parts) → Rouses c k (spend was k)
-unfolding spend
-rouses-of c None k = rouses-none c k
-rouses-of c (Some t) k = rouses-task c (slice_get k.tasks t) t k
-
-rouses-play_oob : (was : Option ℕ) (c l : ℕ) (k : Parts) → Rouses c k (play_oob was c l k)
-unfolding play_oob
-rouses-play_oob was c l k =
-    let played : Parts = on_pipe c (play OutOfBand l) k in
-    rouses-then c k played _ (rouses-pipe c (play OutOfBand l) k)
-    (rouses-if c (l == 0) played _ played
-    (λ e. rouses-then c played (spend was played) _ (rouses-of c was played) (rouses-pipe c (arrive InBand 0) (spend was played)))
-    (λ e. rouses-none c played))
-
-pub rouses-oob_lines : (was : Option ℕ) (c : ℕ) (lines : List ℕ) (k : Parts) → Rouses c k (play_oob_lines was c lines k)
-unfolding play_oob_lines
-rouses-oob_lines was c [] k = rouses-none c k
-rouses-oob_lines was c (l ∷ ls) k = rouses-then c k (play_oob was c l k) _ (rouses-play_oob was c l k) (rouses-oob_lines was c ls (play_oob was c l k))
 
 -- ---- where no task is out-of-band ready, none is best
 runs-there : (c u : ℕ) (tasks : List Task) (o : Option Task) → slice_get tasks u ≡ o → runs_oob_task c o ≡ true → u < length tasks
