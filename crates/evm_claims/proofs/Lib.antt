@@ -3,3 +3,4 @@ pub mod Ranking
 pub mod Reached
 pub mod Settled
 pub mod Stepped
+pub mod Waiting

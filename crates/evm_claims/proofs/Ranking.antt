@@ -13,8 +13,9 @@ use Rattle.evm_model.specs.declared.mutex.Protocol.TheVariants.{Inheritance, Cei
 use Rattle.evm_model.specs.declared.task.Task.{Task}
 use Rattle.evm_model.specs.declared.task.TaskState.{TaskState}
 use Rattle.evm_model.specs.declared.task.TaskState.TheVariants.{Waits}
-use Rattle.evm_model.specs.declared.task.Wait.TheVariants.{Lock}
+use Rattle.evm_model.specs.declared.task.Wait.TheVariants.{Lock, Reacquire}
 use Rattle.evm_model.proofs.Lists.{slice_get-below}
+use Rattle.evm_claims.specs.Waiting.{WaitsForMutex}
 
 -- ---- the greatest
 -- it is the first number, or of one that boosts
@@ -40,17 +41,22 @@ greatest-one boosts rank t first zero = inl refl
 greatest-one boosts rank t first (suc n) = one_if (is_number (boosts n) t) boosts rank t first n (greatest boosts rank t first n) refl (greatest-one boosts rank t first n)
 
 -- ---- who waits for whom
-pub locks : (tasks : List Task) (u m : ℕ) (task : Task) → slice_get tasks u ≡ Some task → task.state ≡ Waits (Lock m) → lock_at tasks u ≡ Some m
-locks tasks u m task e on = ap lock_of_task e ∙ ap lock_of on
+state_for : (state : TaskState) (m : ℕ) → WaitsForMutex state m → lock_of state ≡ Some m
+state_for state m (inl on) = ap lock_of on
+state_for state m (inr on) = ap lock_of on.1
+
+pub locks : (tasks : List Task) (u m : ℕ) (task : Task) → slice_get tasks u ≡ Some task → WaitsForMutex task.state m → lock_at tasks u ≡ Some m
+locks tasks u m task e on = ap lock_of_task e ∙ state_for task.state m on
 
 -- a task that waits for a mutex
 pub record IsLocked (tasks : List Task) (u m : ℕ) : Type 0 where
   pub task : Task
   pub there : slice_get tasks u ≡ Some task
-  pub on : task.state ≡ Waits (Lock m)
+  pub on : WaitsForMutex task.state m
 
-state_locks : (state : TaskState) (m : ℕ) → lock_of state ≡ Some m → state ≡ Waits (Lock m)
-state_locks (Waits (Lock n)) m e = let same : n ≡ m = cc in ap (λ i. Waits (Lock i)) same
+state_locks : (state : TaskState) (m : ℕ) → lock_of state ≡ Some m → WaitsForMutex state m
+state_locks (Waits (Lock n)) m e = let same : n ≡ m = cc in inl (ap (λ i. Waits (Lock i)) same)
+state_locks (Waits (Reacquire n answer)) m e = let same : n ≡ m = cc in inr (answer, ap (λ i. Waits (Reacquire i answer)) same)
 state_locks _ m e = cc
 
 locked_as : (tasks : List Task) (u m : ℕ) (o : Option Task) → slice_get tasks u ≡ o → lock_of_task o ≡ Some m → IsLocked tasks u m

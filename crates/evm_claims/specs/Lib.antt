@@ -1,3 +1,4 @@
 pub mod Raising
 pub mod Reached
 pub mod Steps
+pub mod Waiting

@@ -1,5 +1,5 @@
 -- What a Step and a single step may change: one record for both.
-use Rattle.std.specs.Prelude.{◌≡◌, ◌≢◌, ◌+◌, ◌-◌, ◌<◌, ◌≤◌, ◌++◌, ◌⊎◌, ℕ, List, [], ◌∷◌, Bool, true, Option, Some, None, slice_get, slice_set, length, option_map, replicate, drop}
+use Rattle.std.specs.Prelude.{◌≡◌, ◌≢◌, ◌+◌, ◌-◌, ◌<◌, ◌≤◌, ◌++◌, ◌⊎◌, ℕ, List, [], ◌∷◌, Bool, true, Option, Some, None, slice_get, slice_set, length, option_map, replicate, drop, bit_or, ◌^◌}
 use Rattle.evm_exec.specs.Does.{does}
 use Rattle.evm_exec.specs.Registers.{register_of, with_register}
 use Rattle.evm_exec.specs.declared.hart.Hart.{Hart}
@@ -15,8 +15,10 @@ use Rattle.evm_model.specs.Mutexes.{owner}
 use Rattle.evm_model.specs.Pipes.{Pipe, raise}
 use Rattle.evm_model.specs.Policies.{policy_of}
 use Rattle.evm_model.specs.Settle.{is_oob}
-use Rattle.evm_model.specs.State.{Board, Memory}
+use Rattle.evm_model.specs.State.{Board, Memory, Parts}
 use Rattle.evm_model.specs.Tasks.{is_live}
+use Rattle.evm_model.specs.Timers.{expired}
+use Rattle.evm_model.specs.declared.action.Action.TheVariants.{Puts, Posts}
 use Rattle.evm_model.specs.declared.limits.TheConstants.{CONSOLE_LIMIT, MUTEX_LIMIT, TASK_LIMIT}
 use Rattle.evm_model.specs.declared.mutex.Mutex.{Mutex}
 use Rattle.evm_model.specs.declared.mutex.Protocol.{Protocol}
@@ -26,7 +28,8 @@ use Rattle.evm_model.specs.declared.task.Task.{Task}
 use Rattle.evm_model.specs.declared.task.TaskState.{TaskState}
 use Rattle.evm_model.specs.declared.task.TaskState.TheVariants.{InReady, OobReady, Waits}
 use Rattle.evm_model.specs.declared.task.Wait.{Wait}
-use Rattle.evm_model.specs.declared.task.Wait.TheVariants.{Line, Lock, Semaphore}
+use Rattle.evm_model.specs.declared.task.Wait.TheVariants.{Line, Lock, Reacquire, Semaphore, Event as OfEvent, Flags, Sleep, Timer as OfTimer}
+use Rattle.evm_model.specs.declared.timer.Timer.{Timer}
 use Rattle.evm_ram.specs.Ram.{write_at}
 use Rattle.evm_ram.specs.declared.width.Width.{Width}
 
@@ -55,28 +58,80 @@ pub record IsScheduled (runs : Option ℕ) (t : ℕ) (tasks : List Task) (harts 
   pub policy : policy_of (register_of hart.regs 11) (register_of hart.regs 12) ≡ Some class
   pub given_is : given ≡ record task { class = class; priority = register_of hart.regs 12; slice = 4 }
 
--- why task t, which waited, woke into this state, by what it waited for; the last is what its call answers
-pub data WokenBy (runs : Option ℕ) (c t : ℕ) (harts : List Hart) (memory : Memory) (before mutexes : List Mutex) (task : Task) (state : TaskState) : Wait → ℕ → Type 0 where
-  -- the line was played on processor c, which is its own: it is ready in-band
-  by_line : (l : ℕ) → task.cpu ≡ c → state ≡ InReady → WokenBy runs c t harts memory before mutexes task state (Line l) 0
-  -- the mutex was the current task's: it owns it, locked once, and is ready out-of-band
-  by_owner : (m giver : ℕ) (mutex : Mutex) → runs ≡ Some giver → owner before m ≡ Some giver → slice_get mutexes m ≡ Some mutex → mutex.owner ≡ Some t → mutex.count ≡ 1 → state ≡ OobReady
-      → WokenBy runs c t harts memory before mutexes task state (Lock m) 0
-  -- the current task makes call 41, whose a0 is the semaphore's number: it is ready out-of-band, or in-band if it is weak
-  by_put : (caller : ℕ) (hart : Hart) → IsAbout runs caller hart Call harts memory → register_of hart.regs 17 ≡ 41 → (state ≡ OobReady) ⊎ ((state ≡ InReady) × (task.class ≡ Weak))
-      → WokenBy runs c t harts memory before mutexes task state (Semaphore (register_of hart.regs 10)) 0
+-- task t owns mutex m, locked once, and is ready out-of-band
+pub record OwnsNow (t m : ℕ) (state : TaskState) (mutexes : List Mutex) : Type 0 where
+  pub mutex : Mutex
+  pub there : slice_get mutexes m ≡ Some mutex
+  pub owns : mutex.owner ≡ Some t
+  pub once : mutex.count ≡ 1
+  pub oob : state ≡ OobReady
 
--- it waited, on whatever processor, and is ready: it has no deadline, a later stamp, and the answer in a0; harts, memory and mutexes before, and all after
-pub record Wakes (runs : Option ℕ) (c t stamps : ℕ) (was : List Hart) (memory : Memory) (before mutexes : List Mutex) (tasks : List Task) (harts : List Hart) (task : Task) (hart : Hart) : Type 0 where
+-- it is a task of processor c, and its deadline had come
+pub record HadCome (c now : ℕ) (task : Task) : Type 0 where
+  pub set : task.deadline ≢ 0
+  pub come : task.deadline ≤ now
+  pub home : task.cpu ≡ c
+
+-- ready out-of-band, or in-band if it is weak
+abbrev pub IsAwake : Class → TaskState → Type 0
+IsAwake class state = (state ≡ OobReady) ⊎ ((state ≡ InReady) × (class ≡ Weak))
+
+-- why the wait of a task for event e ended; the last is what its call answers
+pub data EventEnds (runs : Option ℕ) (c e : ℕ) (memory : Memory) (old : Parts) (task : Task) : ℕ → Type 0 where
+  -- the current task makes call 43 or 44, whose a0 is the event's number
+  by_signal : (caller : ℕ) (hart : Hart) → IsAbout runs caller hart Call old.harts memory → (register_of hart.regs 17 ≡ 43) ⊎ (register_of hart.regs 17 ≡ 44) → e ≡ register_of hart.regs 10 → EventEnds runs c e memory old task 0
+  -- its deadline had come: -110
+  by_time : HadCome c old.ticks task → EventEnds runs c e memory old task (2 ^ 64 - 110)
+
+-- why task t, which waited, woke into this state, by what it waited for; the last is what its call answers
+pub data WokenBy (runs : Option ℕ) (c t : ℕ) (memory : Memory) (old new : Parts) (task : Task) (state : TaskState) : Wait → ℕ → Type 0 where
+  -- the line was played on processor c, which is its own: it is ready in-band
+  by_line : (l : ℕ) → task.cpu ≡ c → state ≡ InReady → WokenBy runs c t memory old new task state (Line l) 0
+  -- the mutex was the current task's: it owns it, locked once, and is ready out-of-band
+  by_owner : (m giver : ℕ) → runs ≡ Some giver → owner old.mutexes m ≡ Some giver → OwnsNow t m state new.mutexes → WokenBy runs c t memory old new task state (Lock m) 0
+  -- .. after a wait for an event: it has the answer that it kept
+  by_owner_back : (m answer giver : ℕ) → runs ≡ Some giver → owner old.mutexes m ≡ Some giver → OwnsNow t m state new.mutexes → WokenBy runs c t memory old new task state (Reacquire m answer) answer
+  -- its wait for the event ended, and it owns the event's mutex
+  by_event : (e m answer : ℕ) → slice_get new.events e ≡ Some (Some m) → OwnsNow t m state new.mutexes → EventEnds runs c e memory old task answer → WokenBy runs c t memory old new task state (OfEvent e) answer
+  -- it slept until its deadline
+  by_sleep : HadCome c old.ticks task → IsAwake task.class state → WokenBy runs c t memory old new task state Sleep 0
+  -- its deadline had come while it waited for neither an event nor its sleep's end: -110
+  by_deadline : (wait : Wait) → wait ≢ Sleep → ((e : ℕ) → wait ≢ OfEvent e) → HadCome c old.ticks task → IsAwake task.class state ⊎ ((l : ℕ) × ((wait ≡ Line l) × (state ≡ InReady))) → WokenBy runs c t memory old new task state wait (2 ^ 64 - 110)
+  -- the current task makes call 41, whose a0 is the semaphore's number; or the action of a line puts into it
+  by_put : (caller : ℕ) (hart : Hart) → IsAbout runs caller hart Call old.harts memory → register_of hart.regs 17 ≡ 41 → IsAwake task.class state → WokenBy runs c t memory old new task state (Semaphore (register_of hart.regs 10)) 0
+  by_line_put : (l s : ℕ) → slice_get new.actions l ≡ Some (Puts s) → IsAwake task.class state → WokenBy runs c t memory old new task state (Semaphore s) 0
+  -- the current task makes call 46, whose a0 is the flag group's number and whose a1 is the bits: it has them and the word; or the action of a line posts its bit
+  by_post : (caller : ℕ) (hart : Hart) (word : ℕ) → IsAbout runs caller hart Call old.harts memory → register_of hart.regs 17 ≡ 46 → slice_get old.flags (register_of hart.regs 10) ≡ Some word → IsAwake task.class state
+      → WokenBy runs c t memory old new task state (Flags (register_of hart.regs 10)) (bit_or word (register_of hart.regs 11))
+  by_line_post : (l f word : ℕ) → slice_get new.actions l ≡ Some (Posts f) → IsAwake task.class state → WokenBy runs c t memory old new task state (Flags f) (bit_or word (2 ^ l))
+  -- the timer was due on processor c, and has expired: it has all its expiries, and the timer none
+  by_timer : (n : ℕ) (timer : Timer) → timer.due ≢ 0 → timer.due ≤ old.ticks → timer.cpu ≡ c → slice_get new.timers n ≡ Some (record (expired old.ticks timer) { expiries = 0 }) → IsAwake task.class state
+      → WokenBy runs c t memory old new task state (OfTimer n) (expired old.ticks timer).expiries
+
+-- it waited, on whatever processor, and is ready: it has no deadline, a later stamp, and the answer in a0
+pub record Wakes (runs : Option ℕ) (c t : ℕ) (memory : Memory) (old new : Parts) (task : Task) (hart : Hart) : Type 0 where
   pub wait : Wait
   pub state : TaskState
   pub stamp : ℕ
   pub answer : ℕ
   pub on : task.state ≡ Waits wait
-  pub by : WokenBy runs c t was memory before mutexes task state wait answer
-  pub later : stamps ≤ stamp
-  pub task_is : slice_get tasks t ≡ Some (record task { stamp = stamp; deadline = 0; state = state })
-  pub hart_is : slice_get harts t ≡ Some (record hart { regs = with_register hart.regs 10 answer })
+  pub by : WokenBy runs c t memory old new task state wait answer
+  pub later : old.stamps ≤ stamp
+  pub task_is : slice_get new.tasks t ≡ Some (record task { stamp = stamp; deadline = 0; state = state })
+  pub hart_is : slice_get new.harts t ≡ Some (record hart { regs = with_register hart.regs 10 answer })
+
+-- it waited for an event, on whatever processor, and waits for the event's mutex: it has no deadline, a later stamp, and keeps the answer
+pub record WaitsAgain (runs : Option ℕ) (c t : ℕ) (memory : Memory) (old new : Parts) (task : Task) (hart : Hart) : Type 0 where
+  pub event : ℕ
+  pub mutex : ℕ
+  pub stamp : ℕ
+  pub answer : ℕ
+  pub on : task.state ≡ Waits (OfEvent event)
+  pub named : slice_get new.events event ≡ Some (Some mutex)
+  pub ends : EventEnds runs c event memory old task answer
+  pub later : old.stamps ≤ stamp
+  pub task_is : slice_get new.tasks t ≡ Some (record task { stamp = stamp; deadline = 0; state = Waits (Reacquire mutex answer) })
+  pub hart_is : slice_get new.harts t ≡ Some hart
 
 -- it is current, ready out-of-band and of the round-robin class: it has less of its slice, or with a later stamp a slice of at most 4
 pub record SpendsSlice (runs : Option ℕ) (t stamps : ℕ) (tasks : List Task) (harts : List Hart) (task : Task) (hart : Hart) : Type 0 where
@@ -134,16 +189,18 @@ pub record StepChangesOnly (runs : Option ℕ) (c : ℕ) (old new : Board) : Typ
   -- the console has one byte more at the most, the last 4096 of them
   pub console : (new.parts.console ≡ old.parts.console)
       ⊎ ((byte : ℕ) × (new.parts.console ≡ drop (length (old.parts.console ++ byte ∷ []) - CONSOLE_LIMIT) (old.parts.console ++ byte ∷ [])))
-  -- each task but the current one, as call 34 may have given it another class, stands or wakes
+  -- each task but the current one, as call 34 may have given it another class, stands, wakes or waits again
   pub tasks : (t : ℕ) (task : Task) (hart : Hart) → runs ≢ Some t → slice_get old.parts.tasks t ≡ Some task → slice_get old.parts.harts t ≡ Some hart
       → (given : Task) × (((given ≡ task) ⊎ IsScheduled runs t old.parts.tasks old.parts.harts old.memory task given)
       × (Stands t new.parts.tasks new.parts.harts given hart
-      ⊎ Wakes runs c t old.parts.stamps old.parts.harts old.memory old.parts.mutexes new.parts.mutexes new.parts.tasks new.parts.harts given hart))
-  -- where a line is on the wire no task acts: each, the current one too, stands, wakes by a line or spends its slice
+      ⊎ Wakes runs c t old.memory old.parts new.parts given hart
+      ⊎ WaitsAgain runs c t old.memory old.parts new.parts given hart))
+  -- where a line is on the wire no task acts: each, the current one too, stands, wakes or waits again by a line or spends its slice
   pub line_tasks : (l t : ℕ) (pipe : Pipe) (task : Task) (hart : Hart) → slice_get old.parts.pipes c ≡ Some pipe → has_line pipe.wire l ≡ true
       → slice_get old.parts.tasks t ≡ Some task → slice_get old.parts.harts t ≡ Some hart
       → Stands t new.parts.tasks new.parts.harts task hart
-      ⊎ Wakes None c t old.parts.stamps old.parts.harts old.memory old.parts.mutexes new.parts.mutexes new.parts.tasks new.parts.harts task hart
+      ⊎ Wakes None c t old.memory old.parts new.parts task hart
+      ⊎ WaitsAgain None c t old.memory old.parts new.parts task hart
       ⊎ SpendsSlice runs t old.parts.stamps new.parts.tasks new.parts.harts task hart
   -- as many tasks, with their harts, or one of each more where there were fewer than 64
   pub counts : ((length new.parts.tasks ≡ length old.parts.tasks) × (length new.parts.harts ≡ length old.parts.harts))
@@ -152,5 +209,8 @@ pub record StepChangesOnly (runs : Option ℕ) (c : ℕ) (old new : Board) : Typ
   -- each mutex stands, or is another's
   pub mutexes : (m : ℕ) (before : Mutex) → slice_get old.parts.mutexes m ≡ Some before → (slice_get new.parts.mutexes m ≡ Some before) ⊎ IsAnothers runs m new.parts.mutexes before
   pub new_mutex : (length new.parts.mutexes ≡ length old.parts.mutexes) ⊎ AddsFreeMutex old.parts.mutexes new.parts.mutexes
-  -- where a line is on the wire none changes
-  pub line_mutexes : (l : ℕ) (pipe : Pipe) → slice_get old.parts.pipes c ≡ Some pipe → has_line pipe.wire l ≡ true → new.parts.mutexes ≡ old.parts.mutexes
+  -- where a line is on the wire each stands, or was free, and a task that reacquires it has locked it once; and none is added
+  pub line_mutexes : (l m : ℕ) (pipe : Pipe) (before : Mutex) → slice_get old.parts.pipes c ≡ Some pipe → has_line pipe.wire l ≡ true → slice_get old.parts.mutexes m ≡ Some before
+      → (slice_get new.parts.mutexes m ≡ Some before)
+      ⊎ ((before.owner ≡ None) × ((task : ℕ) × (slice_get new.parts.mutexes m ≡ Some (record before { owner = Some task; count = 1 }))))
+  pub line_count : (l : ℕ) (pipe : Pipe) → slice_get old.parts.pipes c ≡ Some pipe → has_line pipe.wire l ≡ true → length new.parts.mutexes ≡ length old.parts.mutexes

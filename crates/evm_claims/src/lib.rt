@@ -6,6 +6,7 @@ mod callers;
 mod headline;
 mod mutexes;
 mod no_interrupt_lost;
+mod objects;
 mod order;
 mod parts;
 mod rules;
@@ -22,6 +23,11 @@ pub use mutexes::{
 pub use no_interrupt_lost::{
     line_one_is_raised_for_a_better_task, no_line_is_lost_in_a_stage, no_line_is_lost_on_its_wire,
     raised_as_often_as_the_journal_says, what_is_received_comes_to_a_stage,
+};
+pub use objects::{
+    a_task_that_does_not_wait_has_no_deadline, a_task_that_waits_for_an_event_owns_no_mutex,
+    each_action_names_what_is_there, each_flag_group_is_within_its_bound,
+    each_timer_is_within_its_bound, timers_expire_by_number, waits_end_by_deadline_then_by_number,
 };
 pub use order::{
     a_task_that_ends_passes_its_mutexes_by_number, lines_are_played_in_rising_order,

@@ -17,13 +17,14 @@ ghost use Rattle.evm_model.specs.declared.task.TaskState.{TaskState};
 ghost use Rattle.evm_model.specs.declared.task.Wait.{Wait};
 ghost use Rattle.evm_ranks.specs.Boosts.{greatest, walk};
 ghost use Rattle.evm_claims.specs.Reached.{Reached};
+ghost use Rattle.evm_claims.specs.Waiting.{WaitsForMutex};
 
 /// After every boot whose numbers are inside their limits, with an image loaded or none, and every list of events: a mutex
-/// for which a task waits is there, and another task owns it; each owner is a task that is there; and there are 32 mutexes
+/// for which a task waits, by a call that locks it or after it waited for an event, is there, and another task owns it; each owner is a task that is there; and there are 32 mutexes
 /// at the most.
 pub fn each_waited_mutex_has_an_owner()
     ensures waited { (boot : Boot) (s : State) (u m : ℕ) (task : Task) → Reached boot s →
-        slice_get s.board.parts.tasks u ≡ Option.Some task → task.state ≡ TaskState.Waits (Wait.Lock m) →
+        slice_get s.board.parts.tasks u ≡ Option.Some task → WaitsForMutex task.state m →
         (t : ℕ) × ((mutex : Mutex) × ((slice_get s.board.parts.mutexes m ≡ Option.Some mutex) × (mutex.owner ≡ Option.Some t)
         × (t < length s.board.parts.tasks) × (t ≢ u))) }
     ensures owners { (boot : Boot) (s : State) (m t : ℕ) (mutex : Mutex) → Reached boot s →
@@ -43,7 +44,7 @@ pub fn no_chain_of_waiting_returns()
     ensures ends { (boot : Boot) (s : State) (t : ℕ) → Reached boot s →
         walk (waits_on s.board.parts.mutexes s.board.parts.tasks) 65 t ≡ Option.None }
     ensures links { (mutexes : List Mutex) (tasks : List Task) (u t m : ℕ) (task : Task) (mutex : Mutex) →
-        slice_get tasks u ≡ Option.Some task → task.state ≡ TaskState.Waits (Wait.Lock m) →
+        slice_get tasks u ≡ Option.Some task → WaitsForMutex task.state m →
         slice_get mutexes m ≡ Option.Some mutex → mutex.owner ≡ Option.Some t → waits_on mutexes tasks u ≡ Option.Some t }
 {
     evm_rules::rules_hold();
@@ -54,7 +55,7 @@ pub fn no_chain_of_waiting_returns()
 /// own, or that of a task which it boosts so.
 pub fn an_owner_ranks_no_lower_than_its_waiters()
     ensures inherits { (boot : Boot) (s : State) (u t m : ℕ) (task : Task) (mutex : Mutex) → Reached boot s →
-        slice_get s.board.parts.tasks u ≡ Option.Some task → task.state ≡ TaskState.Waits (Wait.Lock m) →
+        slice_get s.board.parts.tasks u ≡ Option.Some task → WaitsForMutex task.state m →
         slice_get s.board.parts.mutexes m ≡ Option.Some mutex → mutex.protocol ≡ Protocol.Inheritance → mutex.owner ≡ Option.Some t →
         rank s.board.parts.mutexes s.board.parts.tasks u ≤ rank s.board.parts.mutexes s.board.parts.tasks t }
     ensures one_of_them { (boot : Boot) (s : State) (t : ℕ) → Reached boot s →
@@ -63,7 +64,7 @@ pub fn an_owner_ranks_no_lower_than_its_waiters()
         ⊎ ((u : ℕ) × ((u < length s.board.parts.tasks) × (boosts s.board.parts.mutexes s.board.parts.tasks u ≡ Option.Some t)
         × (rank s.board.parts.mutexes s.board.parts.tasks t ≡ rank s.board.parts.mutexes s.board.parts.tasks u))) }
     ensures boosters { (mutexes : List Mutex) (tasks : List Task) (u t : ℕ) → boosts mutexes tasks u ≡ Option.Some t →
-        (m : ℕ) × ((task : Task) × ((mutex : Mutex) × ((slice_get tasks u ≡ Option.Some task) × (task.state ≡ TaskState.Waits (Wait.Lock m))
+        (m : ℕ) × ((task : Task) × ((mutex : Mutex) × ((slice_get tasks u ≡ Option.Some task) × (WaitsForMutex task.state m)
         × (slice_get mutexes m ≡ Option.Some mutex) × (mutex.protocol ≡ Protocol.Inheritance) × (mutex.owner ≡ Option.Some t)))) }
 {
     evm_rules::rules_hold();
@@ -107,22 +108,27 @@ pub fn a_rank_is_never_below_its_own()
 }
 
 /// A mutex passes on to the first that waits for it: no other that waits for it ranks higher, nor as high with a lesser
-/// stamp. That task owns it then, locked once, is ready out-of-band, and its call answers 0; where none waits for it, it is
-/// free. No other task, no other register or pc, no other mutex, no processor, no pipe and no console changes.
+/// stamp. That task owns it then, locked once, is ready out-of-band, and its call answers 0, or, where it waited for an event
+/// before, the answer that it keeps; where none waits for it, it is free. No other task, no other register or pc, no other
+/// mutex, no processor, no pipe and no console changes.
 pub fn a_mutex_passes_to_the_first_waiter()
     ensures waits { (m t : ℕ) (k : Parts) → first_waiter (Wait.Lock m) k ≡ Option.Some t →
-        (task : Task) × ((slice_get k.tasks t ≡ Option.Some task) × (task.state ≡ TaskState.Waits (Wait.Lock m))
-        × ((u : ℕ) (other : Task) → slice_get k.tasks u ≡ Option.Some other → other.state ≡ TaskState.Waits (Wait.Lock m) →
+        (task : Task) × ((slice_get k.tasks t ≡ Option.Some task) × (WaitsForMutex task.state m)
+        × ((u : ℕ) (other : Task) → slice_get k.tasks u ≡ Option.Some other → WaitsForMutex other.state m →
         (rank k.mutexes k.tasks u ≤ rank k.mutexes k.tasks t)
         × (rank k.mutexes k.tasks u ≡ rank k.mutexes k.tasks t → task.stamp ≤ other.stamp))) }
     ensures none_waits { (m u : ℕ) (k : Parts) (other : Task) → first_waiter (Wait.Lock m) k ≡ Option.None →
-        slice_get k.tasks u ≡ Option.Some other → other.state ≢ TaskState.Waits (Wait.Lock m) }
+        slice_get k.tasks u ≡ Option.Some other → WaitsForMutex other.state m → ⊥ }
     ensures passes { (m t : ℕ) (k : Parts) (mutex : Mutex) (task : Task) → first_waiter (Wait.Lock m) k ≡ Option.Some t →
         slice_get k.mutexes m ≡ Option.Some mutex → slice_get k.tasks t ≡ Option.Some task →
         (slice_get (pass_on m k).mutexes m ≡ Option.Some (record mutex { owner = Option.Some t; count = 1 }))
         × (slice_get (pass_on m k).tasks t ≡ Option.Some (record task { stamp = k.stamps; deadline = 0; state = TaskState.OobReady })) }
-    ensures answers { (m t : ℕ) (k : Parts) (hart : Hart) → first_waiter (Wait.Lock m) k ≡ Option.Some t → slice_get k.harts t ≡ Option.Some hart →
+    ensures answers { (m t : ℕ) (k : Parts) (hart : Hart) (task : Task) → first_waiter (Wait.Lock m) k ≡ Option.Some t → slice_get k.harts t ≡ Option.Some hart →
+        slice_get k.tasks t ≡ Option.Some task → task.state ≡ TaskState.Waits (Wait.Lock m) →
         slice_get (pass_on m k).harts t ≡ Option.Some (record hart { regs = with_register hart.regs 10 0 }) }
+    ensures keeps { (m t answer : ℕ) (k : Parts) (hart : Hart) (task : Task) → first_waiter (Wait.Lock m) k ≡ Option.Some t → slice_get k.harts t ≡ Option.Some hart →
+        slice_get k.tasks t ≡ Option.Some task → task.state ≡ TaskState.Waits (Wait.Reacquire m answer) →
+        slice_get (pass_on m k).harts t ≡ Option.Some (record hart { regs = with_register hart.regs 10 answer }) }
     ensures other_tasks { (m u : ℕ) (k : Parts) → first_waiter (Wait.Lock m) k ≢ Option.Some u →
         (slice_get (pass_on m k).tasks u ≡ slice_get k.tasks u) × (slice_get (pass_on m k).harts u ≡ slice_get k.harts u) }
     ensures other_mutexes { (m n : ℕ) (k : Parts) → n ≢ m → slice_get (pass_on m k).mutexes n ≡ slice_get k.mutexes n }

@@ -17,13 +17,13 @@ ghost use Rattle.evm_model.specs.declared.task.Wait.{Wait};
 ghost use Rattle.evm_claims.specs.Reached.{Reached};
 
 /// After every boot whose numbers are inside their limits, with an image loaded or none, and every list of events the lines
-/// of each wire and of each log rise, and those of the logs still do where a Step has received a line. A stage that isn't
-/// stalled plays the lines of its log one after another.
+/// of each wire and of each log rise, and those of the logs still do where a Step has received a line by either stage. A
+/// stage that isn't stalled plays the lines of its log one after another.
 pub fn lines_are_played_in_rising_order()
     ensures rise { (boot : Boot) (s : State) (c : ℕ) (pipe : Pipe) → Reached boot s → slice_get s.board.parts.pipes c ≡ Option.Some pipe →
         IsStrictlyIncreasing pipe.wire × IsStrictlyIncreasing pipe.oob.lines × IsStrictlyIncreasing pipe.inband.lines }
-    ensures received { (boot : Boot) (s : State) (c l : ℕ) (pipe : Pipe) → Reached boot s → slice_get s.board.parts.pipes c ≡ Option.Some pipe →
-        IsStrictlyIncreasing (receive l pipe).oob.lines × IsStrictlyIncreasing (receive l pipe).inband.lines }
+    ensures received { (boot : Boot) (s : State) (stage : Stage) (c l : ℕ) (pipe : Pipe) → Reached boot s → slice_get s.board.parts.pipes c ≡ Option.Some pipe →
+        IsStrictlyIncreasing (receive stage l pipe).oob.lines × IsStrictlyIncreasing (receive stage l pipe).inband.lines }
     ensures oob { (was : Option ℕ) (c : ℕ) (k : Parts) (pipe : Pipe) → slice_get k.pipes c ≡ Option.Some pipe → pipe.oob.stalled ≡ false →
         settle_oob was c k ≡ run_best c (fold (λ x l. play_oob was c l x) k pipe.oob.lines) }
     ensures in_band { (c : ℕ) (k : Parts) (pipe : Pipe) → slice_get k.pipes c ≡ Option.Some pipe → pipe.inband.stalled ≡ false →

@@ -1,7 +1,8 @@
 -- What a walk adds: a task, a mutex, a byte on the console at most; and the places of other processors.
-use Rattle.std.proofs.Common.{◌≡◌, ℕ, ◌+◌, [], ◌∷◌, ◌++◌, List, Bool, true, false, Option, Some, None, length, length-append, ◌⊎◌, inl, inr, refl, ap, sym, ◌∙◌, arith}
+use Rattle.std.proofs.Common.{◌≡◌, ℕ, ◌+◌, ◌<◌, [], ◌∷◌, ◌++◌, List, Bool, true, false, Option, Some, None, length, length-append, ◌⊎◌, inl, inr, refl, ap, sym, ◌∙◌, arith}
 use Rattle.std.specs.Prelude.{slice_get, slice_set, replicate, option_map, ◌==◌, ◌&&◌, if◌then◌else◌}
 use Rattle.std.proofs.lemmas.List.{length-set, length-replicate}
+use Rattle.std.proofs.lemmas.Bool.{cases_eq}
 use Rattle.evm_exec.specs.Registers.{with_register}
 use Rattle.evm_exec.specs.declared.hart.Hart.{Hart}
 use Rattle.evm_model.specs.Commands.{tick}
@@ -14,17 +15,20 @@ use Rattle.evm_model.specs.Ranks.{is_oob_ready}
 use Rattle.evm_model.specs.Settle.{is_oob}
 use Rattle.evm_model.specs.State.{Parts, new_task}
 use Rattle.evm_model.specs.Tasks.{restamp, set_policy, set_slice}
-use Rattle.evm_model.specs.Waits.{wake}
+use Rattle.evm_model.specs.Waits.{wake, begin_wait}
 use Rattle.evm_model.specs.declared.mutex.Mutex.{Mutex}
 use Rattle.evm_model.specs.declared.task.Task.{Task}
 use Rattle.evm_model.specs.declared.task.TaskState.{TaskState}
 use Rattle.evm_model.specs.declared.task.TaskState.TheVariants.{InReady, Waits}
-use Rattle.evm_model.proofs.Lists.{slice_get-set_other, change-elsewhere, change-cases, length-change, slice_get-push, slice_get-below, slice_get-each}
+use Rattle.evm_model.specs.declared.task.Wait.TheVariants.{Event as OfEvent}
+use Rattle.evm_model.proofs.Lists.{slice_get-set_other, change-here, change-elsewhere, change-cases, length-change, slice_get-push, slice_get-below, slice_get-each}
 use Rattle.evm_walk.proofs.Sizes.{of_spend}
-use Rattle.evm_walk.proofs.Walk.{Actor, IsOldTask, Does, hart, task, stamps, turns, spends, wakes, gives, holds, marks, picks, moves, tells, clock, schedules, adds, makes, types, Walk, start, next}
-use Rattle.evm_runs.specs.Changes.{Added, Made, Typed}
+use Rattle.evm_walk.proofs.Walk.{Actor, IsOldTask, Does, hart, task, stamps, turns, awaits_event, spends, wakes, regains, requeues, gives, holds, marks, picks, moves, tells, clock, schedules, adds, makes, types, Walk, start, next}
+use Rattle.evm_runs.specs.Changes.{Added, Made, MutexesTaken, Typed}
 use Rattle.evm_runs.specs.Kept.{AreRegisters, AllHaveRegisters}
-use Rattle.evm_runs.proofs.Fares.{Waiter, waiter}
+use Rattle.evm_model.specs.Mutexes.{owner, owner_of}
+use Rattle.evm_model.specs.Good.{event_of, event_of_task}
+use Rattle.evm_runs.proofs.Named.{AreNamed, walk_named}
 
 last_there : {X : Type 0} (xs : List X) (y : X) → slice_get (xs ++ y ∷ []) (length xs) ≡ Some y
 last_there [] y = refl
@@ -52,10 +56,10 @@ spawned-are entry value = record { count = length-set (replicate 32 0) 10 value 
 
 module _ (a : Actor) (old : Parts) where
   does_registers : (i j : ℕ) (k x : Parts) → Does a old i j k x → AllHaveRegisters k.harts → AllHaveRegisters x.harts
-  unfolding restamp set_policy set_slice wake tick
+  unfolding restamp set_policy set_slice wake begin_wait tick
   does_registers _ _ _ _ (hart t r value f k own same there) h = change-registers t r value f k.harts same h
   does_registers _ _ _ _ (spends t x k runs there on) h = of_spend (λ y. AllHaveRegisters y.harts) t x.slice k h h
-  does_registers _ _ _ _ (wakes u wait k on why) h = change-registers u A0 0 (set_register A0 0) k.harts (λ x. refl) h
+  does_registers _ _ _ _ (wakes u value x wait k there on why) h = change-registers u A0 value (set_register A0 value) k.harts (λ x. refl) h
   does_registers _ _ _ _ (adds t entry value cpu k own fresh room) h = λ u x e. elim (slice_get-push k.harts (spawned_hart entry value) u x e) [
     | inl there ↦ h u x there
     | inr last ↦ rw last.1 (spawned-are entry value)
@@ -120,25 +124,29 @@ both false b h = h
 
 module _ (a : Actor) (old : Parts) where
   does_add : (i j : ℕ) (k x : Parts) → Does a old i j k x → Added old k → Added old x
-  unfolding restamp set_policy set_slice wake tick
+  unfolding restamp set_policy set_slice wake begin_wait tick
   does_add _ _ _ _ (hart t r value f k own same there) p =
       added_on old k _ refl (length-change f k.harts t) (λ more h. record {
         task = λ cpu stamp new. new;
         hart = λ cpu stamp new each. change-elsewhere f k.harts t (length old.tasks) (λ one. elim there [ inl below ↦ omega (arith, below, each, one) | inr still ↦ omega (arith, still, h) ]);
       }) p
-  does_add _ _ _ _ (task t f k own x there) p = added_one old k _ t (length-change f k.tasks t) refl (λ u o. change-elsewhere f k.tasks t u o) (λ u o. refl) (λ cpu stamp. old_away old k t cpu stamp there) p
+  does_add _ _ _ _ (task t f k own x none there) p = added_one old k _ t (length-change f k.tasks t) refl (λ u o. change-elsewhere f k.tasks t u o) (λ u o. refl) (λ cpu stamp. old_away old k t cpu stamp there) p
   does_add _ _ _ _ (stamps t k own there) p = added_one old k _ t (length-change _ k.tasks t) refl (λ u o. change-elsewhere _ k.tasks t u o) (λ u o. refl) (λ cpu stamp. old_away old k t cpu stamp there) p
-  does_add _ _ _ _ (turns t f k own x there) p =
+  does_add _ _ _ _ (turns t f k own x none there) p =
       added_one old k _ t (length-change _ _ t ∙ length-change f k.tasks t) refl (λ u o. change-elsewhere _ _ t u o ∙ change-elsewhere f k.tasks t u o) (λ u o. refl) (λ cpu stamp. old_away old k t cpu stamp there) p
   does_add _ _ _ _ (spends t x k runs there on) p =
       let away = λ (cpu stamp : ℕ) (more : length k.tasks ≡ length old.tasks + 1) (new : slice_get k.tasks (length old.tasks) ≡ Some (new_task cpu stamp)). not_new (length old.tasks) t cpu stamp k x new there (oob_not x.state (both (is_oob_ready x.state) _ on)) in
       of_spend (Added old) t x.slice k
       (added_one old k _ t (length-change _ _ t ∙ length-change _ k.tasks t) refl (λ u o. change-elsewhere _ _ t u o ∙ change-elsewhere _ k.tasks t u o) (λ u o. refl) away p)
       (added_one old k _ t (length-change _ k.tasks t) refl (λ u o. change-elsewhere _ k.tasks t u o) (λ u o. refl) away p)
-  does_add _ _ _ _ (wakes u wait k on why) p =
-      let w : Waiter u wait k = waiter u wait k (slice_get k.tasks u) refl on in
+  does_add _ _ _ _ (awaits_event t e m deadline k own there its small) p =
+      added_one old k _ t (length-change _ _ t ∙ length-change _ k.tasks t) refl (λ u o. change-elsewhere _ _ t u o ∙ change-elsewhere _ k.tasks t u o) (λ u o. refl) (λ cpu stamp. old_away old k t cpu stamp there) p
+  does_add _ _ _ _ (requeues u v e m answer y k there on its owned why) p =
+      added_one old k _ u (length-change _ _ u ∙ length-change _ k.tasks u) refl (λ z o. change-elsewhere _ _ u z o ∙ change-elsewhere _ k.tasks u z o) (λ z o. refl)
+      (λ cpu stamp more new. not_new (length old.tasks) u cpu stamp k y new there (λ bad. let no : Waits (OfEvent e) ≡ InReady = sym on ∙ bad in cc)) p
+  does_add _ _ _ _ (wakes u value y wait k there on why) p =
       added_one old k _ u (length-change _ _ u ∙ length-change _ k.tasks u) (length-change _ k.harts u) (λ v o. change-elsewhere _ _ u v o ∙ change-elsewhere _ k.tasks u v o) (λ v o. change-elsewhere _ k.harts u v o)
-      (λ cpu stamp more new. not_new (length old.tasks) u cpu stamp k w.task new w.there (λ e. let no : Waits wait ≡ InReady = sym w.on ∙ e in cc)) p
+      (λ cpu stamp more new. not_new (length old.tasks) u cpu stamp k y new there (λ e. let no : Waits wait ≡ InReady = sym on ∙ e in cc)) p
   does_add _ _ _ _ (schedules u priority class k fresh asks) p = added_on old k _ (length-change _ k.tasks u) refl (λ more h. absurd (omega (arith, more, ap length fresh.tasks))) p
   does_add _ _ _ _ (adds t entry value cpu k own fresh room) p =
       let tasks : length k.tasks ≡ length old.tasks = ap length fresh.tasks in
@@ -161,25 +169,42 @@ module _ (a : Actor) (old : Parts) where
   walk_added _ _ _ (next m n s u i j k x few g d w) = does_add i j k x d (walk_added m s k w)
 
 -- ---- a mutex more
-made_one : (old k : List Mutex) (m : ℕ) (f : Mutex → Mutex) → slice_get k m ≡ slice_get old m → Made old k → Made old (change f k m)
-made_one old k m f same p = elim p [
+made_one : (old k : List Mutex) (m : ℕ) (f : Mutex → Mutex) → ((x : Mutex) → slice_get k m ≡ Some x → m < length old) → Made old k → Made old (change f k m)
+made_one old k m f small p = elim p [
   | inl e ↦ inl (length-change f k m ∙ e)
   | inr new ↦ inr (record {
     recursive = new.recursive;
     protocol = new.protocol;
     count = length-change f k m ∙ new.count;
     room = new.room;
-    mutex = change-elsewhere f k m (length old) (λ one. let there : slice_get old m ≡ Some (free_mutex new.recursive new.protocol) = sym same ∙ ap (slice_get k) (sym one) ∙ new.mutex in omega (arith, slice_get-below old m _ there, one)) ∙ new.mutex;
+    mutex = change-elsewhere f k m (length old) (λ one. omega (arith, small _ (ap (slice_get k) (sym one) ∙ new.mutex), one)) ∙ new.mutex;
   })
 ]
 
+-- a free mutex is taken
+taken_one : (u m : ℕ) (old k : List Mutex) → owner k m ≡ None → MutexesTaken old k → MutexesTaken old (change (held_by u 1) k m)
+taken_one u m old k free q n before e = elim (cases_eq n m) [
+  | inl same ↦ elim (q n before e) [
+    | inl stays ↦
+        let at : slice_get k m ≡ Some before = ap (slice_get k) (sym same) ∙ stays in
+        inr (record { task = u; free = ap owner_of (sym at) ∙ free; there = ap (slice_get (change (held_by u 1) k m)) same ∙ change-here (held_by u 1) k m ∙ ap (option_map (held_by u 1)) at })
+    | inr t ↦
+        let owned : Some t.task ≡ None = ap owner_of (sym t.there) ∙ ap (owner k) same ∙ free in cc
+  ]
+  | inr other ↦ elim (q n before e) [
+    | inl stays ↦ inl (change-elsewhere (held_by u 1) k m n other ∙ stays)
+    | inr t ↦ inr (record { task = t.task; free = t.free; there = change-elsewhere (held_by u 1) k m n other ∙ t.there })
+  ]
+]
+
 module _ (a : Actor) (old : Parts) where
-  does_make : (i j : ℕ) (k x : Parts) → Does a old i j k x → Made old.mutexes k.mutexes → Made old.mutexes x.mutexes
-  unfolding restamp set_policy set_slice wake tick
-  does_make _ _ _ _ (spends t x k runs there on) p = of_spend (λ y. Made old.mutexes y.mutexes) t x.slice k p p
-  does_make _ _ _ _ (gives t u m k own same its) p = made_one old.mutexes k.mutexes m (held_by u 1) same p
-  does_make _ _ _ _ (holds i t m f k own same held) p = made_one old.mutexes k.mutexes m f same p
-  does_make _ _ _ _ (makes t recursive protocol k own fresh room) p =
+  does_make : (i j : ℕ) (k x : Parts) → Does a old i j k x → AreNamed (length old.mutexes) k.events k.tasks → Made old.mutexes k.mutexes → Made old.mutexes x.mutexes
+  unfolding restamp set_policy set_slice wake begin_wait tick
+  does_make _ _ _ _ (spends t x k runs there on) q p = of_spend (λ y. Made old.mutexes y.mutexes) t x.slice k p p
+  does_make _ _ _ _ (gives t u m k own same its) q p = made_one old.mutexes k.mutexes m (held_by u 1) (λ x e. slice_get-below old.mutexes m x (sym same ∙ e)) p
+  does_make _ _ _ _ (regains u e m y k there on its free) q p = made_one old.mutexes k.mutexes m (held_by u 1) (λ x h. q.below u e m (ap event_of_task there ∙ ap event_of on) its) p
+  does_make _ _ _ _ (holds i t m f k own same held) q p = made_one old.mutexes k.mutexes m f (λ x e. slice_get-below old.mutexes m x (sym same ∙ e)) p
+  does_make _ _ _ _ (makes t recursive protocol k own fresh room) q p =
       let mutexes : length k.mutexes ≡ length old.mutexes = ap length fresh.mutexes in
       inr (record {
         recursive = recursive;
@@ -188,28 +213,38 @@ module _ (a : Actor) (old : Parts) where
         room = omega (arith, room, mutexes);
         mutex = ap (slice_get (k.mutexes ++ free_mutex recursive protocol ∷ [])) (sym mutexes) ∙ last_there k.mutexes (free_mutex recursive protocol);
       })
-  does_make _ _ _ _ _ p = p
+  does_make _ _ _ _ _ q p = p
 
-  pub walk_made : (n s : ℕ) (k : Parts) → Walk a old n s k → Made old.mutexes k.mutexes
-  walk_made _ _ _ start = inl refl
-  walk_made _ _ _ (next m n s u i j k x few g d w) = does_make i j k x d (walk_made m s k w)
+  pub walk_made : (n s : ℕ) (k : Parts) → AreNamed (length old.mutexes) old.events old.tasks → Walk a old n s k → Made old.mutexes k.mutexes
+  walk_made _ _ _ q start = inl refl
+  walk_made _ _ _ q (next m n s u i j k x few g d w) = does_make i j k x d (walk_named a old m s k w q) (walk_made m s k q w)
 
-  does_mutexes : (i j : ℕ) (k x : Parts) → a.task ≡ None → Does a old i j k x → x.mutexes ≡ k.mutexes
-  unfolding restamp set_policy set_slice wake tick
-  does_mutexes _ _ _ _ none (spends t x k runs there on) = of_spend (λ y. y.mutexes ≡ k.mutexes) t x.slice k refl refl
-  does_mutexes _ _ _ _ none (gives t u m k own same its) = let no : None ≡ Some t = sym none ∙ own in cc
-  does_mutexes _ _ _ _ none (holds i t m f k own same held) = let no : None ≡ Some t = sym none ∙ own in cc
-  does_mutexes _ _ _ _ none (makes t recursive protocol k own fresh room) = let no : None ≡ Some t = sym none ∙ own in cc
-  does_mutexes _ _ _ _ none _ = refl
+  does_take : (i j : ℕ) (k x : Parts) → a.task ≡ None → Does a old i j k x → MutexesTaken old.mutexes k.mutexes → MutexesTaken old.mutexes x.mutexes
+  unfolding restamp set_policy set_slice wake begin_wait tick
+  does_take _ _ _ _ none (spends t x k runs there on) q = of_spend (λ y. MutexesTaken old.mutexes y.mutexes) t x.slice k q q
+  does_take _ _ _ _ none (regains u e m y k there on its free) q = taken_one u m old.mutexes k.mutexes free q
+  does_take _ _ _ _ none (gives t u m k own same its) q = let no : None ≡ Some t = sym none ∙ own in cc
+  does_take _ _ _ _ none (holds i t m f k own same held) q = let no : None ≡ Some t = sym none ∙ own in cc
+  does_take _ _ _ _ none (makes t recursive protocol k own fresh room) q = let no : None ≡ Some t = sym none ∙ own in cc
+  does_take _ _ _ _ none _ q = q
+
+  does_count : (i j : ℕ) (k x : Parts) → a.task ≡ None → Does a old i j k x → length x.mutexes ≡ length k.mutexes
+  unfolding restamp set_policy set_slice wake begin_wait tick
+  does_count _ _ _ _ none (spends t x k runs there on) = of_spend (λ y. length y.mutexes ≡ length k.mutexes) t x.slice k refl refl
+  does_count _ _ _ _ none (regains u e m y k there on its free) = length-change (held_by u 1) k.mutexes m
+  does_count _ _ _ _ none (gives t u m k own same its) = length-change (held_by u 1) k.mutexes m
+  does_count _ _ _ _ none (holds i t m f k own same held) = length-change f k.mutexes m
+  does_count _ _ _ _ none (makes t recursive protocol k own fresh room) = let no : None ≡ Some t = sym none ∙ own in cc
+  does_count _ _ _ _ none _ = refl
 
   -- where no task acts
-  pub walk_mutexes : (n s : ℕ) (k : Parts) → a.task ≡ None → Walk a old n s k → k.mutexes ≡ old.mutexes
-  walk_mutexes _ _ _ none start = refl
-  walk_mutexes _ _ _ none (next m n s u i j k x few g d w) = does_mutexes i j k x none d ∙ walk_mutexes m s k none w
+  pub walk_taken : (n s : ℕ) (k : Parts) → a.task ≡ None → Walk a old n s k → MutexesTaken old.mutexes k.mutexes × (length k.mutexes ≡ length old.mutexes)
+  walk_taken _ _ _ none start = (λ m before e. inl e, refl)
+  walk_taken _ _ _ none (next m n s u i j k x few g d w) = let q = walk_taken m s k none w in (does_take i j k x none d q.0, does_count i j k x none d ∙ q.1)
 
   -- ---- the console
   does_type : (i j : ℕ) (k x : Parts) → Does a old i j k x → Typed old k → Typed old x
-  unfolding restamp set_policy set_slice wake tick
+  unfolding restamp set_policy set_slice wake begin_wait tick
   does_type _ _ _ _ (spends t x k runs there on) p = of_spend (Typed old) t x.slice k p p
   does_type _ _ _ _ (types t byte k own fresh) p = inr (byte, ap (λ (console : List ℕ). last_bytes (console ++ byte ∷ [])) fresh.console)
   does_type _ _ _ _ _ p = p
@@ -229,7 +264,7 @@ quietly_told f p l may (inr told) q = let no : true ≡ false = sym told.1 ∙ q
 
 module _ (a : Actor) (old : Parts) (d : ℕ) (other : d ≡ a.cpu → ⊥) where
   does_processors : (i j : ℕ) (k x : Parts) → Does a old i j k x → slice_get x.processors d ≡ slice_get k.processors d
-  unfolding restamp set_policy set_slice wake tick
+  unfolding restamp set_policy set_slice wake begin_wait tick
   does_processors _ _ _ _ (spends t x k runs there on) = of_spend (λ y. slice_get y.processors d ≡ slice_get k.processors d) t x.slice k refl refl
   does_processors _ _ _ _ (marks f k x) = change-elsewhere f k.processors a.cpu d other
   does_processors _ _ _ _ (picks f k x) = change-elsewhere f k.processors a.cpu d other
@@ -241,7 +276,7 @@ module _ (a : Actor) (old : Parts) (d : ℕ) (other : d ≡ a.cpu → ⊥) where
 
   module _ (quiet : (e l : ℕ) → a.may e l ≡ false) where
     does_pipes : (i j : ℕ) (k x : Parts) → Does a old i j k x → slice_get x.pipes d ≡ slice_get k.pipes d
-    unfolding restamp set_policy set_slice wake tick
+    unfolding restamp set_policy set_slice wake begin_wait tick
     does_pipes _ _ _ _ (spends t x k runs there on) = of_spend (λ y. slice_get y.pipes d ≡ slice_get k.pipes d) t x.slice k refl refl
     does_pipes _ _ _ _ (moves i f k x) = change-elsewhere f k.pipes a.cpu d other
     does_pipes _ _ _ _ (tells l f k small how) = slice_get-each f k.pipes d ∙ told_none (f d) (slice_get k.pipes d) (λ p. quietly_told (f d p) p l (a.may d l) (how d p) (quiet d l))

@@ -7,7 +7,7 @@ use Rattle.evm_lines.specs.Laws.{has_line-with_same, has_line-with_other, has_li
 use Rattle.evm_lines.specs.declared.TheConstants.{LINES}
 use Rattle.evm_model.specs.Good.{IsPipe}
 use Rattle.evm_model.specs.Lists.{change}
-use Rattle.evm_model.specs.Pipes.{Pipe, raise, arrive, leave_wire, receive, play, set_stall, stage_of, log_of, more_if, on_passage, count_raise, count_receipt, count_arrival, count_play}
+use Rattle.evm_model.specs.Pipes.{Pipe, raise, arrive, leave_wire, receive, play, set_stall, log_of, more_if, on_passage, count_raise, count_receipt, count_arrival, count_play}
 use Rattle.evm_model.specs.declared.counts.Counts.{Counts}
 use Rattle.evm_model.specs.declared.stage.Stage.{Stage}
 use Rattle.evm_model.specs.declared.stage.Stage.TheVariants.{OutOfBand, InBand}
@@ -76,10 +76,10 @@ raise-here l p n h s = record {
   routes = record { oob_lines = s.routes.oob_lines; timer = s.routes.timer; request = s.routes.request; others = s.routes.others };
 }
 
-received-here : (stage : Stage) (l : ℕ) (p : Pipe) (n : Counts) → stage_of l ≡ stage → has_line p.wire l ≡ true → l < LINES → Balances l p n
+received-here : (stage : Stage) (l : ℕ) (p : Pipe) (n : Counts) → (l < 2 → stage ≡ OutOfBand) → has_line p.wire l ≡ true → l < LINES → Balances l p n
     → Balances l (arrive stage l (leave_wire l p)) (on_passage stage (count_arrival (has_line (log_of stage p).lines l)) (count_receipt n))
 unfolding arrive leave_wire
-received-here OutOfBand l p n at on h s = let low : l < 2 = lesser (nat_lt l 2) l refl at in record {
+received-here OutOfBand l p n fixed on h s = record {
   wire = rw (has_line-without_same p.wire l h) (taken_out n.raised n.merged n.received (rw on at s.wire));
   oob = rw (has_line-with_same p.oob.lines l h) (put_in n.oob.arrivals n.oob.merged n.oob.played (has_line p.oob.lines l) s.oob);
   inband = s.inband;
@@ -87,17 +87,17 @@ received-here OutOfBand l p n at on h s = let low : l < 2 = lesser (nat_lt l 2) 
     oob_lines = λ g. ap (λ x. x + 1) (s.routes.oob_lines g);
     timer = s.routes.timer;
     request = s.routes.request;
-    others = λ g. absurd (omega arith);
+    others = λ g. let old = s.routes.others g in omega arith;
   };
 }
-received-here InBand l p n at on h s = let high : 2 ≤ l = greater (nat_lt l 2) l refl at in record {
+received-here InBand l p n fixed on h s = let high : l < 2 → ⊥ = λ low. let no : InBand ≡ OutOfBand = fixed low in cc in record {
   wire = rw (has_line-without_same p.wire l h) (taken_out n.raised n.merged n.received (rw on at s.wire));
   oob = s.oob;
   inband = rw (has_line-with_same p.inband.lines l h) (put_in n.inband.arrivals n.inband.merged n.inband.played (has_line p.inband.lines l) s.inband);
   routes = record {
-    oob_lines = λ g. absurd (omega arith);
-    timer = λ g. absurd (omega arith);
-    request = λ g. absurd (omega arith);
+    oob_lines = λ g. absurd (high g);
+    timer = λ g. absurd (high (omega arith));
+    request = λ g. absurd (high (omega arith));
     others = λ g. let old = s.routes.others g in omega arith;
   };
 }
@@ -160,9 +160,9 @@ stall-balances InBand b p s m n e = let old = s.lines m n e in record { wire = o
 lines-balance : (may : ℕ → Bool) (n : ℕ) (p q : Pipe) → PipeMove may n p q → PipeBalances p → (m : ℕ) (n : Counts) → slice_get q.counts m ≡ Some n → Balances m q n
 unfolding receive
 lines-balance may _ _ _ (raises l p h on) s = moved-balances l _ p _ (raise-counted l p) (raise-apart l p) (λ n. raise-here l p n h) s
-lines-balance may _ _ _ (receives l p on) s = let h : l < LINES = line_below p.wire l s.pipe.wire on in
-    moved-balances l _ p _ (receive-counted l p) (apart-then l p (leave_wire l p) _ (leave-apart l p) (arrive-apart (stage_of l) l (leave_wire l p)))
-    (λ n. received-here (stage_of l) l p n refl on h) s
+lines-balance may _ _ _ (receives stage l p fixed on) s = let h : l < LINES = line_below p.wire l s.pipe.wire on in
+    moved-balances l _ p _ (receive-counted stage l p) (apart-then l p (leave_wire l p) _ (leave-apart l p) (arrive-apart stage l (leave_wire l p)))
+    (λ n. received-here stage l p n fixed on h) s
 lines-balance may _ _ _ (plays_timer p on) s =
     moved-balances 0 _ p _ (timer-counted p) (apart-then 0 p (play OutOfBand 0 p) _ (play-apart OutOfBand 0 p) (arrive-apart InBand 0 (play OutOfBand 0 p)))
     (λ n. timer-here p n on) s

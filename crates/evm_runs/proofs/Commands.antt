@@ -1,6 +1,6 @@
 -- A command changes only the place that it names, and an accepted event is in the journal afterwards.
-use Rattle.std.proofs.Common.{◌≡◌, ℕ, List, Bool, true, false, cond, Option, Some, None, Ok, length, refl, ap, ◌∙◌, arith}
-use Rattle.std.specs.Prelude.{◌==◌, is_none, nat_lt, if◌then◌else◌}
+use Rattle.std.proofs.Common.{◌≡◌, ℕ, List, Bool, true, false, cond, Option, Some, None, Ok, length, refl, ap, sym, ◌∙◌, arith}
+use Rattle.std.specs.Prelude.{◌==◌, slice_get, option_map, is_none, nat_lt, if◌then◌else◌}
 use Rattle.std.proofs.lemmas.Option.{slice_get-map}
 use Rattle.std.proofs.lemmas.List.{length-map}
 use Rattle.evm_exec.specs.Registers.{with_register}
@@ -11,6 +11,7 @@ use Rattle.evm_ram.specs.Ram.{bytes_at, poke_at, is_inside}
 use Rattle.evm_model.specs.declared.refusal.Refusal.{Refusal}
 use Rattle.evm_model.specs.declared.refusal.Refusal.TheVariants.{Full, NoTask, BadAddress}
 use Rattle.evm_model.specs.Commands.{tick, set_bits, on_number, set_breakpoint, unset_breakpoint}
+use Rattle.evm_model.specs.Good.{Good}
 use Rattle.evm_model.specs.Harts.{set_register, set_pc}
 use Rattle.evm_model.specs.Instructions.{stop}
 use Rattle.evm_model.specs.Memory.{poke, ram_or}
@@ -18,20 +19,20 @@ use Rattle.evm_model.specs.Pipes.{Pipe, raise, count_raise}
 use Rattle.evm_model.specs.Refusals.{board_refusal, is_full, bad_bytes}
 use Rattle.evm_model.specs.Replay.{accept, apply, apply_unless}
 use Rattle.evm_model.specs.Rows.{row, step, single_step}
-use Rattle.evm_model.specs.Settle.{current}
-use Rattle.evm_model.specs.State.{State, Board, on_processor, on_pipe, on_parts, on_memory}
+use Rattle.evm_model.specs.Settle.{current, current_of}
+use Rattle.evm_model.specs.State.{State, Board, Parts, on_processor, on_pipe, on_parts, on_memory}
 use Rattle.evm_model.specs.declared.event.Answer.{Answer}
 use Rattle.evm_model.specs.Event.{Event}
 use Rattle.evm_model.specs.declared.event.Event.TheVariants.{Step, Tick, Raise, Bell, Stop, Go, StepI, SetReg, SetPc, Poke, Break, Unbreak}
 use Rattle.evm_model.specs.declared.limits.TheConstants.{POKE_LIMIT}
 use Rattle.evm_model.specs.declared.processor.Processor.{Processor}
-use Rattle.evm_model.proofs.Lists.{length-change}
+use Rattle.evm_model.proofs.Lists.{change-here, length-change}
 use Rattle.evm_walk.proofs.Refused.{passes}
 use Rattle.evm_runs.specs.Changes.{RaisesOneLine, ProcessorChanges, CurrentChanges, RamChanges, ClockTicks, StepsOnce, ChangesOnly, IsDone, EventChanges, EventsChangeOnly}
 use Rattle.evm_runs.proofs.Breakpoints.{set-changes, unset-changes}
 use Rattle.evm_runs.proofs.Fares.{one_change}
 use Rattle.evm_runs.proofs.Added.{change-registers}
-use Rattle.evm_runs.proofs.Steps.{SameCounts, same_then, step_done}
+use Rattle.evm_runs.proofs.Steps.{SameCounts, same_then, MayStep, may_step, step_counts, step_done}
 
 pub raises_one_line : RaisesOneLine
 unfolding raise
@@ -73,26 +74,41 @@ ticks : (b : Board) → ClockTicks b (on_parts tick b)
 unfolding tick
 ticks b = record { rest = refl; pipes = λ c. slice_get-map (raise 0) b.parts.pipes c }
 
-steps_once : (c : ℕ) (b : Board) → StepsOnce c b (single_step c b)
+-- the bits of a processor are nothing that a step asks for
+freed_fits : (c : ℕ) (k : Parts) → MayStep c k → MayStep c (set_bits false true c k)
+unfolding set_bits
+freed_fits c k fit = record {
+  runs = λ t x now there. fit.runs t x (sym (same_bits (slice_get k.processors c)) ∙ sym (ap current_of (change-here bits k.processors c)) ∙ now) there;
+  named = fit.named;
+}
+  where
+    bits : Processor → Processor
+    bits p = record p { stopped = false; skip = true }
+
+    same_bits : (o : Option Processor) → current_of (option_map bits o) ≡ current_of o
+    same_bits None = refl
+    same_bits (Some p) = refl
+
+steps_once : (c : ℕ) (b : Board) → Good b.parts → StepsOnce c b (single_step c b)
 unfolding single_step set_bits
-steps_once c b =
+steps_once c b good =
     let freed : Board = on_parts (set_bits false true c) b in
     record {
       freed = freed;
       goes = processor-changes c _ b;
-      steps = (step_done c freed).changes;
+      steps = step_done c freed (freed_fits c b.parts (may_step c b.parts good));
       stops = processor-changes c _ (step c freed).0;
     }
 
 row-changes : (event : Event) (b : Board) → board_refusal event b ≡ None → ChangesOnly event b (row event b).0
 unfolding row stop set_bits
-row-changes (Step c) b e = (step_done c b).changes
+row-changes (Step c) b e = λ good. step_done c b (may_step c b.parts good)
 row-changes Tick b e = ticks b
 row-changes (Raise c l) b e = record { rest = refl; pipes = one_change c (raise l) b.parts.pipes }
 row-changes (Bell c l) b e = record { rest = refl; pipes = one_change c (raise l) b.parts.pipes }
 row-changes (Stop c) b e = processor-changes c _ b
 row-changes (Go c) b e = processor-changes c _ b
-row-changes (StepI c) b e = steps_once c b
+row-changes (StepI c) b e = λ good. steps_once c b good
 row-changes (SetReg c r value) b e = number-changes c (set_register r value) b (current c b.parts) refl (passes (SetReg c r value) b NoTask e)
 row-changes (SetPc c pc) b e = number-changes c (set_pc pc) b (current c b.parts) refl (passes (SetPc c pc) b NoTask e)
 row-changes (Poke address bytes) b e = pokes address bytes.items b (passes (Poke address bytes) b BadAddress e)
@@ -146,7 +162,7 @@ poke-counts address bytes b (Some ram) e = record { processors = refl; pipes = r
 
 pub row-counts : (event : Event) (b : Board) → SameCounts b (row event b).0
 unfolding row stop set_bits tick single_step poke set_breakpoint unset_breakpoint
-row-counts (Step c) b = (step_done c b).counts
+row-counts (Step c) b = step_counts c b
 row-counts Tick b = record { processors = refl; pipes = length-map b.parts.pipes (raise 0); ram = refl; tasks = omega arith; harts = omega arith; few_tasks = λ few. few; a_hart_each = λ each. each; registers = λ h. h }
 row-counts (Raise c l) b = pipe-counts c (raise l) b
 row-counts (Bell c l) b = pipe-counts c (raise l) b
@@ -154,7 +170,7 @@ row-counts (Stop c) b = processor-counts c _ b
 row-counts (Go c) b = processor-counts c _ b
 row-counts (StepI c) b =
     let freed : Board = on_parts (set_bits false true c) b in
-    same_then b freed _ (processor-counts c _ b) (same_then freed (step c freed).0 _ (step_done c freed).counts (processor-counts c _ (step c freed).0))
+    same_then b freed _ (processor-counts c _ b) (same_then freed (step c freed).0 _ (step_counts c freed) (processor-counts c _ (step c freed).0))
 row-counts (SetReg c r value) b = number-counts (current c b.parts) r value (set_register r value) b (λ x. refl)
 row-counts (SetPc c pc) b = number-counts (current c b.parts) 0 0 (set_pc pc) b (λ x. refl)
 row-counts (Poke address bytes) b = poke-counts address bytes.items b (poke_at b.memory.ram address bytes.items) refl

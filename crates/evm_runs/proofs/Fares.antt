@@ -1,18 +1,19 @@
 -- How a task that does not act fares by one primitive, and what is left of the mutexes.
-use Rattle.std.proofs.Common.{◌≡◌, ℕ, zero, suc, ◌-◌, ◌<◌, ◌≤◌, List, Bool, true, false, not, Option, Some, None, length, ◌⊎◌, inl, inr, refl, ap, sym, ◌∙◌, arith}
+use Rattle.std.proofs.Common.{◌≡◌, ℕ, zero, suc, ◌+◌, ◌-◌, ◌*◌, ◌/◌, ◌<◌, ◌≤◌, List, Bool, true, false, not, Option, Some, None, length, ◌⊎◌, inl, inr, refl, ap, sym, ◌∙◌, arith}
 use Rattle.std.specs.Prelude.{slice_get, option_map, nat_le, ◌==◌, ◌&&◌, if◌then◌else◌}
+use Rattle.std.proofs.Math.Nat.{add-mul, lt-div-mul-add, one-mul}
 use Rattle.std.proofs.lemmas.Bool.{cases_eq}
-use Rattle.std.proofs.lemmas.Bool.Decides.{nat_tests, eqb_tells}
+use Rattle.std.proofs.lemmas.Bool.Decides.{nat_tests}
 use Rattle.evm_exec.specs.declared.hart.Hart.{Hart}
 use Rattle.evm_ranks.specs.Boosts.{is_number}
 use Rattle.evm_ranks.proofs.Greatest.{boosts-so}
 use Rattle.evm_model.specs.Good.{is_ready}
 use Rattle.evm_model.specs.Lists.{change}
-use Rattle.evm_model.specs.Mutexes.{owner, owner_of, owns_below, owns_any}
+use Rattle.evm_model.specs.Mutexes.{owner, owner_of, owns_below, owns_any, held_by}
 use Rattle.evm_model.specs.Ranks.{is_oob_ready}
 use Rattle.evm_model.specs.State.{Parts}
 use Rattle.evm_model.specs.Tasks.{restamp, set_slice, spend_slice, is_round_robin, is_weak}
-use Rattle.evm_model.specs.Waits.{same_wait, is_wait_for, awaits_task, first_waiter, ready_on, stage_of_wait, woken, woken_state}
+use Rattle.evm_model.specs.Waits.{is_wait_for, first_waiter, ready_on, stage_of_wait, woken, woken_state}
 use Rattle.evm_model.specs.declared.limits.TheConstants.{SLICE}
 use Rattle.evm_model.specs.declared.mutex.Mutex.{Mutex}
 use Rattle.evm_model.specs.declared.task.Class.{Class}
@@ -21,13 +22,18 @@ use Rattle.evm_model.specs.declared.task.Task.{Task}
 use Rattle.evm_model.specs.declared.task.TaskState.{TaskState}
 use Rattle.evm_model.specs.declared.task.TaskState.TheVariants.{InReady, OobReady, Waits}
 use Rattle.evm_model.specs.declared.task.Wait.{Wait}
-use Rattle.evm_model.specs.declared.task.Wait.TheVariants.{Line, Lock, Semaphore, Event, Flags, Sleep, Timer}
+use Rattle.evm_model.specs.declared.task.Wait.TheVariants.{Reacquire}
 use Rattle.evm_model.specs.declared.stage.Stage.{Stage}
 use Rattle.evm_model.specs.declared.stage.Stage.TheVariants.{OutOfBand, InBand}
 use Rattle.evm_model.proofs.Lists.{change-here, change-elsewhere, slice_get-below}
-use Rattle.evm_walk.proofs.Waiters.{first-waits}
+use Rattle.evm_walk.proofs.Sizes.{of_spend}
+use Rattle.evm_walk.proofs.Waiters.{IsWaiter, first_is}
 use Rattle.evm_walk.proofs.Walk.{Actor, IsHeld}
-use Rattle.evm_runs.specs.Changes.{IsReadyAfter, OneChanges, Rests, Spends, Stays, WokenBy, by_line, by_owner, by_put, MutexChanges, MutexesStay}
+use Rattle.evm_model.specs.Actions.{action_in}
+use Rattle.evm_model.specs.Events.{bound, bound_of}
+use Rattle.evm_model.specs.Timers.{taken, is_due_timer, expired}
+use Rattle.evm_model.specs.declared.timer.Timer.{Timer}
+use Rattle.evm_runs.specs.Changes.{IsReadyAfter, OneChanges, Rests, Spends, Stays, EventEnds, by_signal, by_time, HasMutex, WokenBy, by_line, by_owner, by_owner_back, by_event, by_deadline, by_put, by_line_put, by_post, by_line_post, by_timer, MutexChanges, MutexesStay}
 
 pub one_change : {X : Type 0} (i : ℕ) (f : X → X) (xs : List X) → OneChanges i f xs (change f xs i)
 one_change i f xs = record { here = change-here f xs i; others = λ j other. change-elsewhere f xs i j other }
@@ -38,36 +44,22 @@ pub record Waiter (t : ℕ) (wait : Wait) (k : Parts) : Type 0 where
   pub there : slice_get k.tasks t ≡ Some task
   pub on : task.state ≡ Waits wait
 
-pub number_is : (m n : ℕ) → (n == m) ≡ true → n ≡ m
-number_is m n e = elim (eqb_tells n m) [
-  | inl g ↦ g.1
-  | inr g ↦ let no : true ≡ false = sym e ∙ g.0 in cc
-]
+-- a task that waits for something, by the state in which it does; for a lock also one that reacquires it
+pub record WaitsFor (t : ℕ) (wait : Wait) (k : Parts) : Type 0 where
+  pub task : Task
+  pub there : slice_get k.tasks t ≡ Some task
+  pub on : is_wait_for wait task.state ≡ true
 
-same_is : (wait other : Wait) → same_wait other wait ≡ true → other ≡ wait
-same_is (Line l) (Line m) e = ap Line (number_is l m e)
-same_is (Lock m) (Lock n) e = ap Lock (number_is m n e)
-same_is (Semaphore s) (Semaphore r) e = ap Semaphore (number_is s r e)
-same_is (Event x) (Event y) e = ap Event (number_is x y e)
-same_is (Flags x) (Flags y) e = ap Flags (number_is x y e)
-same_is Sleep Sleep e = refl
-same_is (Timer x) (Timer y) e = ap Timer (number_is x y e)
-same_is _ _ e = cc
-
-pub wait_is : (wait : Wait) (state : TaskState) → is_wait_for wait state ≡ true → state ≡ Waits wait
-wait_is wait (Waits other) e = ap Waits (same_is wait other e)
-wait_is wait _ e = cc
+pub waits_not_ready : (wait : Wait) (state : TaskState) → is_wait_for wait state ≡ true → is_ready state ≡ false
+waits_not_ready wait (Waits other) e = refl
+waits_not_ready wait _ e = cc
 
 pub both : (a b : Bool) → (a && b) ≡ true → (a ≡ true) × (b ≡ true)
 both true b h = (refl, h)
 both false b h = cc
 
-pub waiter : (t : ℕ) (wait : Wait) (k : Parts) (o : Option Task) → slice_get k.tasks t ≡ o → awaits_task wait o ≡ true → Waiter t wait k
-waiter t wait k None e h = cc
-waiter t wait k (Some x) e h = record { task = x; there = e; on = wait_is wait x.state h }
-
-pub first_waits : (t : ℕ) (wait : Wait) (k : Parts) → first_waiter wait k ≡ Some t → Waiter t wait k
-first_waits t wait k e = waiter t wait k (slice_get k.tasks t) refl (first-waits wait t k e)
+pub first_waits : (t : ℕ) (wait : Wait) (k : Parts) → first_waiter wait k ≡ Some t → WaitsFor t wait k
+first_waits t wait k e = let w : IsWaiter wait t k = first_is wait t k e in record { task = w.task; there = w.there; on = w.on }
 
 -- ---- a task that has a mutex
 owns_if : (b rest : Bool) → b ≡ true → (if b then true else rest) ≡ true
@@ -130,30 +122,80 @@ woken_there t owns x y stamp tasks e h =
 abbrev pub Fares : Actor → (ℕ → Hart → Type 0) → ℕ → Parts → Parts → Type 0
 Fares a makes t old new = Stays a.task makes a.cpu t old new ⊎ Spends a.cpu t old new
 
--- what a primitive leaves of it
-pub record Keeps (t : ℕ) (k x : Parts) : Type 0 where
+-- a timer that has expired is not due at the same tick
+missed_late : (now due period : ℕ) → 1 ≤ period → due ≤ now → now < due + (1 + (now - due) / period) * period
+missed_late now due period above come =
+    let left : now - due < (now - due) / period * period + period = lt-div-mul-add above in
+    let split : (1 + (now - due) / period) * period ≡ period + (now - due) / period * period = add-mul 1 ((now - due) / period) period ∙ ap (λ m. m + (now - due) / period * period) (one-mul period) in
+    omega (arith, left, split)
+
+expired_not : (one : Bool) (c now : ℕ) (timer : Timer) → (timer.period == 0) ≡ one → (timer.due ≡ 0 → ⊥) → timer.due ≤ now
+    → (let due : ℕ = if one then 0 else timer.due + (if one then 1 else 1 + (now - timer.due) / timer.period) * timer.period in not (due == 0) && (nat_le due now && timer.cpu == c)) ≡ false
+expired_not true c now timer e set come = refl
+expired_not false c now timer e set come =
+    let above : 1 ≤ timer.period = grind (arith, nat_tests) in
+    let late : now < timer.due + (1 + (now - timer.due) / timer.period) * timer.period = missed_late now timer.due timer.period above come in
+    grind (arith, nat_tests)
+
+not_due : (c now : ℕ) (timer : Timer) → is_due_timer c now timer ≡ true → is_due_timer c now (taken (expired now timer)) ≡ false
+unfolding expired
+not_due c now timer due =
+    let set : timer.due ≡ 0 → ⊥ = λ none. grind (arith, nat_tests) in
+    let come : timer.due ≤ now = grind (arith, nat_tests) in
+    expired_not (timer.period == 0) c now timer refl set come
+
+-- what a primitive leaves of an object for which tasks wait: an event's mutex, actions, and such timers as are not due at this tick
+pub record Still (c now : ℕ) (k x : Parts) : Type 0 where
+  pub names : (e m : ℕ) → bound e k ≡ Some m → bound e x ≡ Some m
+  pub acts : x.actions ≡ k.actions
+  pub timers : (n : ℕ) (timer : Timer) → is_due_timer c now timer ≡ false → slice_get k.timers n ≡ Some timer → slice_get x.timers n ≡ Some timer
+
+pub still : (c now : ℕ) (k x : Parts) → x.events ≡ k.events → x.actions ≡ k.actions → x.timers ≡ k.timers → Still c now k x
+still c now k x e a t = record { names = λ event m h. ap (λ all. bound_of (slice_get all event)) e ∙ h; acts = a; timers = λ n timer off h. ap (λ all. slice_get all n) t ∙ h }
+
+-- .. and of a task
+pub record Keeps (c now t : ℕ) (k x : Parts) : Type 0 where
   pub task : (y : Task) → slice_get k.tasks t ≡ Some y → slice_get x.tasks t ≡ Some y
   pub hart : (y : Hart) → slice_get k.harts t ≡ Some y → slice_get x.harts t ≡ Some y
   pub mutex : (m : ℕ) (y : Mutex) → y.owner ≡ Some t → slice_get k.mutexes m ≡ Some y → slice_get x.mutexes m ≡ Some y
+  pub objects : Still c now k x
 
-pub keeps_all : (t : ℕ) (k x : Parts) → x.tasks ≡ k.tasks → x.harts ≡ k.harts → x.mutexes ≡ k.mutexes → Keeps t k x
-keeps_all t k x e f g = record {
+pub keeps_all : (c now t : ℕ) (k x : Parts) → x.tasks ≡ k.tasks → x.harts ≡ k.harts → x.mutexes ≡ k.mutexes → Still c now k x → Keeps c now t k x
+keeps_all c now t k x e f g objects = record {
   task = λ y h. ap (λ all. slice_get all t) e ∙ h;
   hart = λ y h. ap (λ all. slice_get all t) f ∙ h;
   mutex = λ m y o h. ap (λ all. slice_get all m) g ∙ h;
+  objects = objects;
 }
 
--- what woke it stays so, where more may act and call, and its mutexes stay
-module _ (acts other : Option ℕ) (makes others : ℕ → Hart → Type 0) (c t : ℕ) (task : Task) (state : TaskState) (old k x : List Mutex) where
-  pub still_by : ((g : ℕ) → acts ≡ Some g → other ≡ Some g) → ((n : ℕ) (h : Hart) → makes n h → others n h) → ((m : ℕ) (y : Mutex) → y.owner ≡ Some t → slice_get k m ≡ Some y → slice_get x m ≡ Some y)
-      → (wait : Wait) (answer : ℕ) → WokenBy acts makes c t task state old k wait answer → WokenBy other others c t task state old x wait answer
-  still_by act make keeps _ _ (by_line l home) = by_line l home
-  still_by act make keeps _ _ (by_owner m giver mutex own had there owns once oob) = by_owner m giver mutex (act giver own) had (keeps m mutex owns there) owns once oob
-  still_by act make keeps _ _ (by_put hart call) = by_put hart (make 41 hart call)
+-- what ends a wait for an event does so, where more may call
+pub ends_wider : (makes others : ℕ → Hart → Type 0) (c now e answer : ℕ) (task : Task) → ((n : ℕ) (h : Hart) → makes n h → others n h) → EventEnds makes c now e task answer → EventEnds others c now e task answer
+ends_wider makes others c now e _ task make (by_signal hart (inl one) is) = by_signal hart (inl (make 43 hart one)) is
+ends_wider makes others c now e _ task make (by_signal hart (inr all) is) = by_signal hart (inr (make 44 hart all)) is
+ends_wider makes others c now e _ task make (by_time late) = by_time late
 
-pub fares_on : (a : Actor) (makes : ℕ → Hart → Type 0) (t : ℕ) (old k x : Parts) → Keeps t k x → Fares a makes t old k → Fares a makes t old x
+-- what woke it stays so, where more may act and call, and its mutexes and what it waited for stay
+module _ (acts other : Option ℕ) (makes others : ℕ → Hart → Type 0) (c t : ℕ) (task : Task) (state : TaskState) (old k x : Parts)
+    (act : (g : ℕ) → acts ≡ Some g → other ≡ Some g) (make : (n : ℕ) (h : Hart) → makes n h → others n h)
+    (keeps : (m : ℕ) (y : Mutex) → y.owner ≡ Some t → slice_get k.mutexes m ≡ Some y → slice_get x.mutexes m ≡ Some y) (objects : Still c old.ticks k x) where
+  has_on : (m : ℕ) → HasMutex t m state k.mutexes → HasMutex t m state x.mutexes
+  has_on m h = record { mutex = h.mutex; there = keeps m h.mutex h.owns h.there; owns = h.owns; once = h.once; oob = h.oob }
+
+  pub still_by : (wait : Wait) (answer : ℕ) → WokenBy acts makes c t task state old k wait answer → WokenBy other others c t task state old x wait answer
+  still_by _ _ (by_line l home) = by_line l home
+  still_by _ _ (by_owner m giver own had has) = by_owner m giver (act giver own) had (has_on m has)
+  still_by _ _ (by_owner_back m answer giver own had has) = by_owner_back m answer giver (act giver own) had (has_on m has)
+  still_by _ _ (by_event e m answer named has ends) = by_event e m answer (objects.names e m named) (has_on m has) (ends_wider makes others c old.ticks e answer task make ends)
+  still_by _ _ (by_deadline wait plain late) = by_deadline wait plain late
+  still_by _ _ (by_put hart call) = by_put hart (make 41 hart call)
+  still_by _ _ (by_line_put l s is) = by_line_put l s (ap (λ all. action_in all l) objects.acts ∙ is)
+  still_by _ _ (by_post hart word call is) = by_post hart word (make 46 hart call) is
+  still_by _ _ (by_line_post l f word is) = by_line_post l f word (ap (λ all. action_in all l) objects.acts ∙ is)
+  still_by _ _ (by_timer n timer due there) = by_timer n timer due (objects.timers n _ (not_due c old.ticks timer due) there)
+
+pub fares_on : (a : Actor) (makes : ℕ → Hart → Type 0) (t : ℕ) (old k x : Parts) → Keeps a.cpu old.ticks t k x → Fares a makes t old k → Fares a makes t old x
 fares_on a makes t old k x p (inl (inl r)) = inl (inl (record { task = λ y e. p.task y (r.task y e); hart = λ y e. p.hart y (r.hart y e) }))
-fares_on a makes t old k x p (inl (inr w)) = inl (inr (record {
+fares_on a makes t old k x p (inl (inr (inl w))) = inl (inr (inl (record {
   task = w.task;
   wait = w.wait;
   state = w.state;
@@ -161,12 +203,26 @@ fares_on a makes t old k x p (inl (inr w)) = inl (inr (record {
   answer = w.answer;
   waited = w.waited;
   on = w.on;
-  by = still_by a.task a.task makes makes a.cpu t w.task w.state old.mutexes k.mutexes x.mutexes (λ g e. e) (λ n h call. call) p.mutex w.wait w.answer w.by;
+  by = still_by a.task a.task makes makes a.cpu t w.task w.state old k x (λ g e. e) (λ n h call. call) p.mutex p.objects w.wait w.answer w.by;
   ready = w.ready;
   fresh = w.fresh;
   wakes = p.task _ w.wakes;
   hart = λ y e. p.hart _ (w.hart y e);
-}))
+})))
+fares_on a makes t old k x p (inl (inr (inr q))) = inl (inr (inr (record {
+  task = q.task;
+  event = q.event;
+  mutex = q.mutex;
+  stamp = q.stamp;
+  answer = q.answer;
+  waited = q.waited;
+  on = q.on;
+  named = p.objects.names q.event q.mutex q.named;
+  ends = q.ends;
+  fresh = q.fresh;
+  waits = p.task _ q.waits;
+  hart = λ y e. p.hart _ (q.hart y e);
+})))
 fares_on a makes t old k x p (inr s) = inr (record {
   task = s.task;
   slice = s.slice;
@@ -191,14 +247,26 @@ ready_on-ready : (stage : Stage) → is_ready (ready_on stage false) ≡ true
 ready_on-ready InBand = refl
 ready_on-ready OutOfBand = refl
 
-is_ready_after : (wait : Wait) (class : Class) (state : TaskState) → IsReadyAfter wait class state → is_ready state ≡ true
+pub is_ready_after : (wait : Wait) (class : Class) (state : TaskState) → IsReadyAfter wait class state → is_ready state ≡ true
 is_ready_after wait class state (inl there) = ap is_ready there ∙ ready_on-ready (stage_of_wait wait)
 is_ready_after wait class state (inr in_band) = ap is_ready in_band.0
 
-pub rested : (a : Actor) (makes : ℕ → Hart → Type 0) (t : ℕ) (old k : Parts) (x : Task) → slice_get k.tasks t ≡ Some x → is_ready x.state ≡ false → Fares a makes t old k → Rests t old k
-rested a makes t old k x e w (inl (inl r)) = r
-rested a makes t old k x e w (inl (inr q)) = absurd (waits_not t k _ x q.wakes e (is_ready_after q.wait q.task.class q.state q.ready) w)
-rested a makes t old k x e w (inr s) = absurd (waits_not t k _ x s.spends e (ap is_ready s.on) w)
+-- .. unless it waits for a mutex again
+abbrev pub is_again : TaskState → Bool
+is_again (Waits (Reacquire m answer)) = true
+is_again _ = false
+
+again_not : (t : ℕ) (k : Parts) (x y : Task) → slice_get k.tasks t ≡ Some x → slice_get k.tasks t ≡ Some y → is_again x.state ≡ true → is_again y.state ≡ false → ⊥
+again_not t k x y e f r w =
+    let two : Some x ≡ Some y = sym e ∙ f in
+    let same : x ≡ y = cc in
+    let no : true ≡ false = sym r ∙ ap (λ (z : Task). is_again z.state) same ∙ w in cc
+
+pub rested : (a : Actor) (makes : ℕ → Hart → Type 0) (t : ℕ) (old k : Parts) (x : Task) → slice_get k.tasks t ≡ Some x → is_ready x.state ≡ false → is_again x.state ≡ false → Fares a makes t old k → Rests t old k
+rested a makes t old k x e w again (inl (inl r)) = r
+rested a makes t old k x e w again (inl (inr (inl q))) = absurd (waits_not t k _ x q.wakes e (is_ready_after q.wait q.task.class q.state q.ready) w)
+rested a makes t old k x e w again (inl (inr (inr q))) = absurd (again_not t k _ x q.waits e refl again)
+rested a makes t old k x e w again (inr s) = absurd (waits_not t k _ x s.spends e (ap is_ready s.on) w)
 
 -- ---- a tick of a slice
 pub record Ticked (t : ℕ) (x : Task) (k new : Parts) : Type 0 where
@@ -297,3 +365,23 @@ held_keeps i t u m f mutexes away h n y its e = elim (cases_eq n m) [
   | inl same ↦ absurd (not_its t u y.owner (h y (rw (← same) e)).whose its away)
   | inr other ↦ change-elsewhere f mutexes m n other ∙ e
 ]
+
+-- a free mutex is taken: those that another task owns stay
+pub free_keeps : (t u m : ℕ) (mutexes : List Mutex) → owner mutexes m ≡ None → (n : ℕ) (y : Mutex) → y.owner ≡ Some t → slice_get mutexes n ≡ Some y → slice_get (change (held_by u 1) mutexes m) n ≡ Some y
+free_keeps t u m mutexes free n y its e = elim (cases_eq n m) [
+  | inl same ↦ let no : Some t ≡ None = sym its ∙ ap owner_of (sym e) ∙ ap (owner mutexes) same ∙ free in cc
+  | inr other ↦ change-elsewhere (held_by u 1) mutexes m n other ∙ e
+]
+
+pub free_stays : (o : Option ℕ) (u m : ℕ) (mutexes : List Mutex) → owner mutexes m ≡ None → MutexesStay o mutexes (change (held_by u 1) mutexes m)
+free_stays o u m mutexes free n before e = elim (cases_eq n m) [
+  | inl same ↦
+      let at : slice_get mutexes m ≡ Some before = rw (← same) e in
+      inr (record { after = held_by u 1 before; there = rw same (change-here (held_by u 1) mutexes m ∙ ap (option_map (held_by u 1)) at); kind = refl; whose = inl (ap owner_of (sym at) ∙ free) })
+  | inr other ↦ inl (change-elsewhere (held_by u 1) mutexes m n other ∙ e)
+]
+
+-- a slice is spent: no object changes
+pub spent_still : (c now t slice : ℕ) (k : Parts) → Still c now k (spend_slice t slice k)
+unfolding restamp set_slice
+spent_still c now t slice k = of_spend (λ y. Still c now k y) t slice k (still c now k _ refl refl refl) (still c now k _ refl refl refl)

@@ -31,7 +31,7 @@ use Rattle.evm_walk.proofs.Walk.{Actor, ArePipes}
 use Rattle.evm_runs.specs.Fit.{CountsFit, IsUncounted, CountsAlwaysFit, CountsAlwaysFitLoaded, CountsAlwaysFitFresh, HoldsFit, HoldsAlwaysFit, HoldsAlwaysFitLoaded, HoldsAlwaysFitFresh}
 use Rattle.evm_runs.proofs.Commands.{row-counts}
 use Rattle.evm_runs.proofs.Runs.{idle_balances, count_last}
-use Rattle.evm_runs.proofs.Steps.{step_done}
+use Rattle.evm_runs.proofs.Steps.{step_ticks}
 
 -- ---- the clock
 number-ticks : (o : Option ℕ) (f : Hart → Hart) (k : Parts) → (on_number o f k).ticks ≡ k.ticks
@@ -40,13 +40,13 @@ number-ticks (Some t) f k = refl
 
 row-ticks : (event : Event) (b : Board) → (row event b).0.parts.ticks ≡ more_if (is_tick event) b.parts.ticks
 unfolding row tick stop set_bits single_step set_breakpoint unset_breakpoint
-row-ticks (Step c) b = (step_done c b).changes.ticks
+row-ticks (Step c) b = step_ticks c b
 row-ticks Tick b = refl
 row-ticks (Raise c l) b = refl
 row-ticks (Bell c l) b = refl
 row-ticks (Stop c) b = refl
 row-ticks (Go c) b = refl
-row-ticks (StepI c) b = (step_done c (on_parts (set_bits false true c) b)).changes.ticks
+row-ticks (StepI c) b = step_ticks c (on_parts (set_bits false true c) b)
 row-ticks (SetReg c r value) b = number-ticks (current c b.parts) (set_register r value) b.parts
 row-ticks (SetPc c pc) b = number-ticks (current c b.parts) (set_pc pc) b.parts
 row-ticks (Poke address bytes) b = refl

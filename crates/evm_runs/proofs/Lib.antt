@@ -2,6 +2,8 @@ pub mod Added
 pub mod Balance
 pub mod Breakpoints
 pub mod Commands
+pub mod Due
+pub mod Expiring
 pub mod Fares
 pub mod First
 pub mod Fit
@@ -9,11 +11,15 @@ pub mod Frames
 pub mod Instructions
 pub mod Kept
 pub mod Least
+pub mod Named
 pub mod Nudged
 pub mod Order
 pub mod Own
+pub mod Own_objects
+pub mod Owning
 pub mod Raised
 pub mod Replays
 pub mod Runs
+pub mod Sooner
 pub mod Steps
 pub mod Turns

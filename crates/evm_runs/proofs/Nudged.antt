@@ -27,7 +27,7 @@ use Rattle.evm_model.specs.declared.processor.Processor.{Processor}
 use Rattle.evm_model.specs.declared.refusal.Refusal.{Refusal}
 use Rattle.evm_model.specs.declared.refusal.Refusal.TheVariants.{Full}
 use Rattle.evm_walk.proofs.Rows.{MOVES, acting, may_raise, row_walks, Stepped, steps}
-use Rattle.evm_walk.proofs.Walk.{Actor, ArePipes, start as begun}
+use Rattle.evm_walk.proofs.Walk.{Actor, ArePipes, unchanged, start as begun}
 use Rattle.evm_rules.proofs.Keeps.{bits-good, step-good}
 use Rattle.evm_rules.proofs.Private.{wants-not}
 use Rattle.evm_rules.proofs.Replays.{accepted}
@@ -79,10 +79,10 @@ module _ (c d r : ℕ) (b : Board) (are : ArePipes b.parts) (s : RaisedIs d 1 r 
 
   stepped : Stepped a b.parts (step c b).0.parts
   stepped =
-      steps a b.parts b (record { chooses = refl; acts = λ pipe f wire. refl; calls = λ t x now has g. refl }) (record { tasks = refl; harts = refl; mutexes = refl; console = refl }) refl begun
+      steps a b.parts b (record { chooses = refl; acts = λ pipe f wire. refl; calls = λ t x now has g. refl }) (unchanged b.parts) refl begun
 
   before : RaisedIs d 1 r stepped.between
-  before = walk-raised d 1 r a b.parts 65 2113 stepped.between refl are stepped.walk s
+  before = walk-raised d 1 r a b.parts 65 2241 stepped.between refl are stepped.walk s
 
   own_step : (better : Bool) → d ≡ c → RaisedIs d 1 (r + one_if (not (d == c) && better)) (step c b).0.parts
   own_step better same =
@@ -95,7 +95,7 @@ module _ (c d r : ℕ) (b : Board) (are : ArePipes b.parts) (s : RaisedIs d 1 r 
   other_step : (d ≡ c → ⊥) → Good (step c b).0.parts → RaisedIs d 1 (r + one_if (not (d == c) && finds_better d (slice_get b.parts.pipes d) (step c b).0.parts)) (step c b).0.parts
   other_step other good =
       let new : Parts = (step c b).0.parts in
-      let pipe : slice_get stepped.between.pipes d ≡ slice_get b.parts.pipes d = walk_other_pipes a b.parts d other (λ e l. refl) 65 2113 stepped.between stepped.walk in
+      let pipe : slice_get stepped.between.pipes d ≡ slice_get b.parts.pipes d = walk_other_pipes a b.parts d other (λ e l. refl) 65 2241 stepped.between stepped.walk in
       elim stepped.told [
         | inl still ↦
             let none : finds_better d (slice_get b.parts.pipes d) new ≡ false = not_found d (slice_get b.parts.pipes d) new good (ap (λ (k : Parts). slice_get k.pipes d) still ∙ pipe) in

@@ -1,36 +1,35 @@
 -- What each call leaves alone of its own task, and what an ECALL does.
-use Rattle.std.proofs.Common.{◌≡◌, ℕ, zero, suc, ◌+◌, ◌-◌, ◌%◌, List, [], ◌∷◌, ◌++◌, Bool, true, false, not, Option, Some, None, length, ◌⊎◌, inl, inr, refl, ap, sym, ◌∙◌}
+use Rattle.std.proofs.Common.{◌≡◌, ℕ, ◌-◌, List, Bool, true, false, not, Option, Some, None, length, ◌⊎◌, inl, inr, refl, ap, sym, ◌∙◌}
 use Rattle.std.specs.Prelude.{slice_get, option_map, is_none, nat_lt, nat_le, ◌==◌, ◌&&◌, if◌then◌else◌}
 use Rattle.std.proofs.lemmas.Bool.{cases_eq}
 use Rattle.evm_exec.specs.Registers.{register_of}
 use Rattle.evm_exec.specs.declared.hart.Hart.{Hart}
 use Rattle.evm_ranks.specs.Boosts.{is_number}
-use Rattle.evm_model.specs.Calls.{call_of, call_stage, perform, is_weak_oob, return_weak, answered, finish_call, ask_oob, call_on, call_known, call_of_hart, call}
+use Rattle.evm_model.specs.Calls.{call_of, call_stage, perform, is_weak_oob, return_weak, answered, finish_call, ask_oob, call_on, call_known, call}
 use Rattle.evm_model.specs.Errnos.{refusal_answer}
 use Rattle.evm_model.specs.Good.{is_ready}
-use Rattle.evm_model.specs.Harts.{A0, A7, advance, answer, argument, set_register, spawned_hart}
-use Rattle.evm_model.specs.InBandCalls.{exit, putc, yield_now, is_bad_entry, add_task, spawn, wait_line_unless, wait_line, attach_as, attach, detach, set_line}
+use Rattle.evm_model.specs.Harts.{A7, advance, answer, argument, spawned_hart}
+use Rattle.evm_model.specs.InBandCalls.{exit, putc, yield_now, is_bad_entry, add_task, spawn, wait_line_unless, wait_line, attach_as, attach, detach}
 use Rattle.evm_model.specs.Lists.{change}
 use Rattle.evm_model.specs.Locks.{mutex_of, add_mutex, new_mutex_as, new_mutex, take_mutex, lock_again, cycle_refusal, lock_other, lock_owned, lock_known, lock, try_owned, try_known, try_lock, unlock_once, unlock_known, unlock}
-use Rattle.evm_model.specs.Mutexes.{owner, owns_any, held_by}
+use Rattle.evm_model.specs.Mutexes.{owns_any, held_by}
 use Rattle.evm_model.specs.OobCalls.{stall, switch_oob, switch_in_band, is_scheduled_task, schedule_as, set_sched, set_mode, yield_oob, clock, state_bits}
-use Rattle.evm_model.specs.Passing.{pass_to, pass_on, pass_below, end_task}
+use Rattle.evm_model.specs.Passing.{pass_on, pass_below, end_task}
 use Rattle.evm_model.specs.Policies.{policy_of}
 use Rattle.evm_model.specs.Profiles.{line_count}
 use Rattle.evm_model.specs.Ranks.{is_oob_ready}
-use Rattle.evm_model.specs.Semaphores.{add_semaphore, new_semaphore, sem_get_known, sem_get, sem_try_get_known, sem_try_get, sem_put_to, sem_put_known, sem_put}
 use Rattle.evm_model.specs.Settle.{is_oob, is_oob_task}
-use Rattle.evm_model.specs.Stages.{refused, is_stalled, is_attached, may_promote, wait_refusal, wait_unless}
+use Rattle.evm_model.specs.Stages.{refused, is_stalled, is_attached, may_promote, wait_refusal}
 use Rattle.evm_model.specs.State.{Parts, new_task, no_mode, on_hart, on_mutex}
 use Rattle.evm_model.specs.Tasks.{restamp, set_state, leave_in_band, demote, promote, set_policy, clear_policy, set_mode_bits, is_weak}
-use Rattle.evm_model.specs.Waits.{first_waiter, begin_wait, wake}
+use Rattle.evm_model.specs.Waits.{begin_wait}
 use Rattle.evm_model.specs.declared.call.Call.{Call}
-use Rattle.evm_model.specs.declared.call.Call.TheVariants.{Exit as Ends, Putc, Yield, Spawn, Stall, Unstall, WaitLine, Attach, Detach, NewMutex, NewSemaphore, SetLine, SwitchOob, SwitchInBand, SetSched, SetMode, Lock, TryLock, Unlock, SemGet, SemTryGet, SemPut, YieldOob, StallOob, UnstallOob, Clock, StateBits}
+use Rattle.evm_model.specs.declared.call.Call.TheVariants.{Exit as Ends, Putc, Yield, Spawn, Stall, Unstall, WaitLine, Attach, Detach, NewMutex, NewSemaphore, NewEvent, NewFlags, NewTimer, SetLine, SwitchOob, SwitchInBand, SetSched, SetMode, Lock, TryLock, Unlock, SemGet, SemTryGet, SemPut, EventWait, Signal, Broadcast, FlagsWait, FlagsPost, SleepUntil, TimerSet, TimerWait, YieldOob, StallOob, UnstallOob, Clock, StateBits}
 use Rattle.evm_model.specs.declared.call.Outcome.{Outcome}
 use Rattle.evm_model.specs.declared.call.Outcome.TheVariants.{Answers, Waits as Blocks, Leaves as Left}
 use Rattle.evm_model.specs.declared.errno.Errno.{Errno}
 use Rattle.evm_model.specs.declared.errno.Errno.TheVariants.{NotPermitted, NoSuchCall}
-use Rattle.evm_model.specs.declared.limits.TheConstants.{SLICE, TASK_LIMIT, MODE_LIMIT, MUTEX_LIMIT, SEMAPHORE_LIMIT, SEMAPHORE_COUNT_LIMIT}
+use Rattle.evm_model.specs.declared.limits.TheConstants.{SLICE, TASK_LIMIT, MODE_LIMIT, MUTEX_LIMIT}
 use Rattle.evm_model.specs.declared.mutex.Mutex.{Mutex}
 use Rattle.evm_model.specs.declared.stage.Stage.{Stage}
 use Rattle.evm_model.specs.declared.stage.Stage.TheVariants.{OutOfBand, InBand}
@@ -38,87 +37,20 @@ use Rattle.evm_model.specs.declared.task.Class.{Class}
 use Rattle.evm_model.specs.declared.task.Class.TheVariants.{Unattached}
 use Rattle.evm_model.specs.declared.task.Task.{Task}
 use Rattle.evm_model.specs.declared.task.TaskState.{TaskState}
-use Rattle.evm_model.specs.declared.task.TaskState.TheVariants.{InReady, OobReady, Exit, Waits}
-use Rattle.evm_model.specs.declared.task.Wait.{Wait}
-use Rattle.evm_model.specs.declared.task.Wait.TheVariants.{Line, Lock as Locked, Semaphore}
+use Rattle.evm_model.specs.declared.task.TaskState.TheVariants.{InReady, OobReady, Exit}
+use Rattle.evm_model.specs.declared.task.Wait.TheVariants.{Line, Lock as Locked}
 use Rattle.evm_model.proofs.Lists.{change-here, change-elsewhere, slice_get-before}
-use Rattle.evm_runs.specs.Own.{Fields, nothing, waiting, changes, may_change, Leaves, OnlyAnswers, CallerAfter, CallsLeave}
-use Rattle.evm_runs.proofs.Fares.{Waiter, both, first_waits}
-
--- what a call does of its own task: the stamp and the state stay too where it may not change them, and no register changes
-record Own (may : Fields) (t : ℕ) (task : Task) (k x : Parts) : Type 0 where
-  after : Task
-  there : slice_get x.tasks t ≡ Some after
-  leaves : Leaves may task after
-  stamp : may.stamp ≡ false → after.stamp ≡ task.stamp
-  state : may.state ≡ false → after.state ≡ task.state
-  hart : (y : Hart) → slice_get k.harts t ≡ Some y → slice_get x.harts t ≡ Some y
-
--- it is left alone
-record Apart (t : ℕ) (k x : Parts) : Type 0 where
-  task : slice_get x.tasks t ≡ slice_get k.tasks t
-  hart : slice_get x.harts t ≡ slice_get k.harts t
-
-leaves_all : (may : Fields) (x : Task) → is_ready x.state ≡ true → Leaves may x x
-leaves_all may x ready = record { cpu = refl; class = λ no. refl; priority = λ no. refl; slice = λ no. refl; mode = λ no. refl; deadline = λ no. refl; stamp = λ no same. refl; state = λ no. ready }
+use Rattle.evm_runs.specs.Own.{Fields, nothing, waiting, changes, may_change, Leaves, OnlyAnswers, CallsLeave}
+use Rattle.evm_runs.proofs.Fares.{both}
+use Rattle.evm_runs.proofs.Owning.{Own, Apart, leaves_all, turned, alone, same, either, passes_on, passes_below, waits, waits_unless}
+use Rattle.evm_runs.proofs.Own_objects.{sets_up, gets, tries_get, puts, adds_flags_group, takes_word, posts, adds_a_timer, sets_a_timer, awaits_a_timer, sleeps, sets_line, adds_an_event, waits_event, signals, broadcasts}
 
 module _ (t : ℕ) (task : Task) (k : Parts) (there : slice_get k.tasks t ≡ Some task) (ready : is_ready task.state ≡ true) where
-  -- it changes so
-  turned : (may : Fields) (f : Task → Task) (x : Parts) → slice_get x.tasks t ≡ Some (f task) → Leaves may task (f task) → (may.stamp ≡ false → (f task).stamp ≡ task.stamp) → (may.state ≡ false → (f task).state ≡ task.state)
-      → x.harts ≡ k.harts → Own may t task k x
-  turned may f x e leaves stamp state harts = record { after = f task; there = e; leaves = leaves; stamp = stamp; state = state; hart = λ y h. ap (λ all. slice_get all t) harts ∙ h }
-
-  alone : (may : Fields) (x : Parts) → Apart t k x → Own may t task k x
-  alone may x a = record {
-    after = task;
-    there = a.task ∙ there;
-    leaves = leaves_all may task ready;
-    stamp = λ no. refl;
-    state = λ no. refl;
-    hart = λ y h. a.hart ∙ h;
-  }
-
-  same : (may : Fields) → Own may t task k k
-  same may = alone may k (record { task = refl; hart = refl })
-
-  either : (may : Fields) (b : Bool) (x y : Parts × Outcome) → Own may t task k x.0 → Own may t task k y.0 → Own may t task k (if b then x else y).0
-  either may true x y p q = p
-  either may false x y p q = q
-
-  -- the first that waits for something is another
-  another : (u : ℕ) (wait : Wait) (x : Parts) → slice_get x.tasks t ≡ slice_get k.tasks t → first_waiter wait x ≡ Some u → t ≡ u → ⊥
-  another u wait x same first one =
-      let w : Waiter u wait x = first_waits u wait x first in
-      let two : Some w.task ≡ Some task = sym w.there ∙ ap (slice_get x.tasks) (sym one) ∙ same ∙ there in
-      let its : w.task ≡ task = cc in
-      let no : false ≡ true = sym (ap is_ready w.on) ∙ ap (λ (y : Task). is_ready y.state) its ∙ ready in cc
-
-  wakes_another : (u : ℕ) (x : Parts) → (t ≡ u → ⊥) → Apart t k x → Apart t k (wake u 0 x)
-  unfolding wake restamp
-  wakes_another u x other a = record { task = change-elsewhere _ _ u t other ∙ change-elsewhere _ x.tasks u t other ∙ a.task; hart = change-elsewhere (set_register A0 0) x.harts u t other ∙ a.hart }
-
-  passes_to : (o : Option ℕ) (m : ℕ) (x : Parts) → Apart t k x → first_waiter (Locked m) x ≡ o → Apart t k (pass_to o m x)
-  passes_to None m x a first = record { task = a.task; hart = a.hart }
-  passes_to (Some u) m x a first = wakes_another u (on_mutex m (held_by u 1) x) (another u (Locked m) x a.task first) (record { task = a.task; hart = a.hart })
-
-  passes_on : (m : ℕ) (x : Parts) → Apart t k x → Apart t k (pass_on m x)
-  unfolding pass_on
-  passes_on m x a = passes_to (first_waiter (Locked m) x) m x a refl
-
-  passes_if : (b : Bool) (m : ℕ) (x : Parts) → Apart t k x → Apart t k (if b then pass_on m x else x)
-  passes_if true m x a = passes_on m x a
-  passes_if false m x a = a
-
-  passes_below : (n : ℕ) → Apart t k (pass_below t n k)
-  unfolding pass_below
-  passes_below zero = record { task = refl; hart = refl }
-  passes_below (suc m) = let before : Parts = pass_below t m k in passes_if (is_number (owner before.mutexes m) t) m before (passes_below m)
-
   -- ---- of the in-band kernel
   exits : (c : ℕ) → Own (changes Ends) t task k (exit c t k).0
   unfolding exit end_task set_state leave_in_band
   exits c =
-      let a : Apart t k (pass_below t (length k.mutexes) k) = passes_below (length k.mutexes) in
+      let a : Apart t k (pass_below t (length k.mutexes) k) = passes_below t task k there ready (length k.mutexes) in
       record {
         after = record task { state = Exit };
         there = change-here (λ (y : Task). record y { state = Exit }) (pass_below t (length k.mutexes) k).tasks t ∙ ap (option_map (λ (y : Task). record y { state = Exit })) (a.task ∙ there);
@@ -131,13 +63,13 @@ module _ (t : ℕ) (task : Task) (k : Parts) (there : slice_get k.tasks t ≡ So
   one_stamp : (may : Fields) (x : Parts) → may.stamp ≡ true → x.tasks ≡ (restamp t k).tasks → x.harts ≡ k.harts → Own may t task k x
   unfolding restamp
   one_stamp may x may_stamp tasks harts =
-      turned may (λ y. record y { stamp = k.stamps }) x (ap (λ all. slice_get all t) tasks ∙ change-here _ k.tasks t ∙ ap (option_map (λ (y : Task). record y { stamp = k.stamps })) there)
+      turned t task k there ready may (λ y. record y { stamp = k.stamps }) x (ap (λ all. slice_get all t) tasks ∙ change-here _ k.tasks t ∙ ap (option_map (λ (y : Task). record y { stamp = k.stamps })) there)
       (record { cpu = refl; class = λ no. refl; priority = λ no. refl; slice = λ no. refl; mode = λ no. refl; deadline = λ no. refl; stamp = λ no. let bad : true ≡ false = sym may_stamp ∙ no in cc; state = λ no. ready })
       (λ no. let bad : true ≡ false = sym may_stamp ∙ no in cc) (λ no. refl) harts
 
   yields : (c : ℕ) → Own (changes Yield) t task k (yield_now c t k).0
   unfolding yield_now leave_in_band restamp
-  yields c = either (changes Yield) (is_stalled InBand c k) _ _ (same (changes Yield)) (one_stamp (changes Yield) (leave_in_band c (restamp t k)) refl refl refl)
+  yields c = either t task k there ready (changes Yield) (is_stalled InBand c k) _ _ (same t task k there ready (changes Yield)) (one_stamp (changes Yield) (leave_in_band c (restamp t k)) refl refl refl)
 
   adds : (entry value cpu : ℕ) → Own nothing t task k (add_task entry value cpu k)
   unfolding add_task
@@ -153,37 +85,23 @@ module _ (t : ℕ) (task : Task) (k : Parts) (there : slice_get k.tasks t ≡ So
   spawns : (entry value cpu : ℕ) → Own nothing t task k (spawn entry value cpu k).0
   unfolding spawn
   spawns entry value cpu =
-      either nothing (is_bad_entry k.profile.ram entry) _ _ (same nothing)
-      (either nothing (is_none (slice_get k.processors cpu)) _ _ (same nothing) (either nothing (nat_le TASK_LIMIT (length k.tasks)) _ _ (same nothing) (adds entry value cpu)))
-
-  waits : (x : Parts) (wait : Wait) (deadline : ℕ) → x.tasks ≡ (begin_wait t wait deadline k).tasks → x.harts ≡ k.harts → Own waiting t task k x
-  unfolding begin_wait restamp
-  waits x wait deadline tasks harts =
-      let begun : Task → Task = λ y. record y { state = Waits wait; deadline = deadline } in
-      let stamped : Task → Task = λ y. record y { stamp = k.stamps } in
-      turned waiting (λ y. stamped (begun y)) x
-      (ap (λ all. slice_get all t) tasks ∙ change-here stamped (change begun k.tasks t) t ∙ ap (option_map stamped) (change-here begun k.tasks t ∙ ap (option_map begun) there))
-      (record { cpu = refl; class = λ no. refl; priority = λ no. refl; slice = λ no. refl; mode = λ no. refl; deadline = λ no. cc; stamp = λ no. cc; state = λ no. cc }) (λ no. cc) (λ no. cc) harts
-
-  waits_unless : (o : Option Errno) (wait : Wait) (deadline : ℕ) → Own waiting t task k (wait_unless o t wait deadline k).0
-  unfolding begin_wait restamp
-  waits_unless (Some e) wait deadline = same waiting
-  waits_unless None wait deadline = waits (begin_wait t wait deadline k) wait deadline refl refl
+      either t task k there ready nothing (is_bad_entry k.profile.ram entry) _ _ (same t task k there ready nothing)
+      (either t task k there ready nothing (is_none (slice_get k.processors cpu)) _ _ (same t task k there ready nothing) (either t task k there ready nothing (nat_le TASK_LIMIT (length k.tasks)) _ _ (same t task k there ready nothing) (adds entry value cpu)))
 
   waits_line_unless : (o : Option Errno) (c l : ℕ) → Own waiting t task k (wait_line_unless o c t l k).0
   unfolding leave_in_band begin_wait restamp
-  waits_line_unless (Some e) c l = same waiting
-  waits_line_unless None c l = waits (leave_in_band c (begin_wait t (Line l) 0 k)) (Line l) 0 refl refl
+  waits_line_unless (Some e) c l = same t task k there ready waiting
+  waits_line_unless None c l = waits t task k there ready (leave_in_band c (begin_wait t (Line l) 0 k)) (Line l) 0 refl refl
 
   waits_line : (c l : ℕ) → Own waiting t task k (wait_line c t l k).0
   unfolding wait_line
-  waits_line c l = either waiting (nat_le (line_count k.profile) l) _ _ (same waiting) (waits_line_unless (wait_refusal (is_stalled InBand c k) None 0) c l)
+  waits_line c l = either t task k there ready waiting (nat_le (line_count k.profile) l) _ _ (same t task k there ready waiting) (waits_line_unless (wait_refusal (is_stalled InBand c k) None k.ticks 0) c l)
 
   policy : (may : Fields) (class : Class) (priority : ℕ) → may.policy ≡ true → may.slice ≡ true → Own may t task k (set_policy t class priority k)
   unfolding set_policy
   policy may class priority p s =
       let given : Task → Task = λ y. record y { class = class; priority = priority; slice = SLICE } in
-      turned may given _ (change-here given k.tasks t ∙ ap (option_map given) there)
+      turned t task k there ready may given _ (change-here given k.tasks t ∙ ap (option_map given) there)
       (record {
         cpu = refl;
         class = λ no. let bad : true ≡ false = sym p ∙ no in cc;
@@ -196,8 +114,8 @@ module _ (t : ℕ) (task : Task) (k : Parts) (there : slice_get k.tasks t ≡ So
       }) (λ no. refl) (λ no. refl) refl
 
   attaches_as : (o : Option Class) (priority : ℕ) → Own (changes Attach) t task k (attach_as o t priority k).0
-  attaches_as None priority = same (changes Attach)
-  attaches_as (Some class) priority = either (changes Attach) (is_attached t k) _ _ (same (changes Attach)) (policy (changes Attach) class priority refl refl)
+  attaches_as None priority = same t task k there ready (changes Attach)
+  attaches_as (Some class) priority = either t task k there ready (changes Attach) (is_attached t k) _ _ (same t task k there ready (changes Attach)) (policy (changes Attach) class priority refl refl)
 
   attaches : (class priority : ℕ) → Own (changes Attach) t task k (attach t class priority k).0
   unfolding attach
@@ -207,51 +125,41 @@ module _ (t : ℕ) (task : Task) (k : Parts) (there : slice_get k.tasks t ≡ So
   unfolding clear_policy
   clears =
       let cleared : Task → Task = λ y. record y { class = Unattached; priority = 0; mode = no_mode } in
-      turned (changes Detach) cleared _ (change-here cleared k.tasks t ∙ ap (option_map cleared) there)
+      turned t task k there ready (changes Detach) cleared _ (change-here cleared k.tasks t ∙ ap (option_map cleared) there)
       (record { cpu = refl; class = λ no. cc; priority = λ no. cc; slice = λ no. refl; mode = λ no. cc; deadline = λ no. refl; stamp = λ no same. refl; state = λ no. ready }) (λ no. refl) (λ no. refl) refl
 
   detaches : Own (changes Detach) t task k (detach t k).0
   unfolding detach
-  detaches = either (changes Detach) (not (is_attached t k)) _ _ (same (changes Detach)) (either (changes Detach) (owns_any t k.mutexes) _ _ (same (changes Detach)) clears)
+  detaches = either t task k there ready (changes Detach) (not (is_attached t k)) _ _ (same t task k there ready (changes Detach)) (either t task k there ready (changes Detach) (owns_any t k.mutexes) _ _ (same t task k there ready (changes Detach)) clears)
 
-  sets_line : (l action : ℕ) → Own nothing t task k (set_line l action k).0
-  unfolding set_line
-  sets_line l action =
-      either nothing (nat_lt l 2) _ _ (same nothing) (either nothing (nat_le (line_count k.profile) l) _ _ (same nothing) (either nothing (action == 0) _ _ (same nothing) (same nothing)))
-
-  -- ---- mutexes and semaphores
+  -- ---- mutexes
   makes_as : (o : Option Mutex) → Own nothing t task k (new_mutex_as o k).0
   unfolding add_mutex
-  makes_as None = same nothing
-  makes_as (Some mutex) = either nothing (nat_le MUTEX_LIMIT (length k.mutexes)) _ _ (same nothing) (alone nothing _ (record { task = refl; hart = refl }))
+  makes_as None = same t task k there ready nothing
+  makes_as (Some mutex) = either t task k there ready nothing (nat_le MUTEX_LIMIT (length k.mutexes)) _ _ (same t task k there ready nothing) (alone t task k there ready nothing _ (record { task = refl; hart = refl }))
 
   makes : (kind priority : ℕ) → Own nothing t task k (new_mutex kind priority k).0
   unfolding new_mutex
   makes kind priority = makes_as (mutex_of kind priority)
 
-  sets_up : (count : ℕ) → Own nothing t task k (new_semaphore count k).0
-  unfolding new_semaphore add_semaphore
-  sets_up count =
-      either nothing (nat_lt SEMAPHORE_COUNT_LIMIT count) _ _ (same nothing) (either nothing (nat_le SEMAPHORE_LIMIT (length k.semaphores)) _ _ (same nothing) (alone nothing _ (record { task = refl; hart = refl })))
-
   takes : (may : Fields) (m : ℕ) → Own may t task k (take_mutex t m k)
   unfolding take_mutex
-  takes may m = alone may _ (record { task = refl; hart = refl })
+  takes may m = alone t task k there ready may _ (record { task = refl; hart = refl })
 
   again : (may : Fields) (m : ℕ) (mutex : Mutex) → Own may t task k (lock_again t m mutex k).0
   unfolding lock_again
-  again may m mutex = either may mutex.recursive _ _ (alone may _ (record { task = refl; hart = refl })) (same may)
+  again may m mutex = either t task k there ready may mutex.recursive _ _ (alone t task k there ready may _ (record { task = refl; hart = refl })) (same t task k there ready may)
 
   locks_other : (c m u deadline : ℕ) → Own waiting t task k (lock_other c t m u deadline k).0
   unfolding lock_other
-  locks_other c m u deadline = waits_unless (wait_refusal (is_stalled OutOfBand c k) (cycle_refusal t u k) deadline) (Locked m) deadline
+  locks_other c m u deadline = waits_unless t task k there ready (wait_refusal (is_stalled OutOfBand c k) (cycle_refusal t u k) k.ticks deadline) (Locked m) deadline
 
   locks_owned : (o : Option ℕ) (c m deadline : ℕ) (mutex : Mutex) → Own waiting t task k (lock_owned o c t m deadline mutex k).0
   locks_owned None c m deadline mutex = takes waiting m
-  locks_owned (Some u) c m deadline mutex = either waiting (u == t) _ _ (again waiting m mutex) (locks_other c m u deadline)
+  locks_owned (Some u) c m deadline mutex = either t task k there ready waiting (u == t) _ _ (again waiting m mutex) (locks_other c m u deadline)
 
   locks_known : (o : Option Mutex) (c m deadline : ℕ) → Own waiting t task k (lock_known o c t m deadline k).0
-  locks_known None c m deadline = same waiting
+  locks_known None c m deadline = same t task k there ready waiting
   locks_known (Some mutex) c m deadline = locks_owned mutex.owner c m deadline mutex
 
   locks : (c m deadline : ℕ) → Own waiting t task k (lock c t m deadline k).0
@@ -260,10 +168,10 @@ module _ (t : ℕ) (task : Task) (k : Parts) (there : slice_get k.tasks t ≡ So
 
   tries_owned : (o : Option ℕ) (m : ℕ) (mutex : Mutex) → Own nothing t task k (try_owned o t m mutex k).0
   tries_owned None m mutex = takes nothing m
-  tries_owned (Some u) m mutex = either nothing (u == t) _ _ (again nothing m mutex) (same nothing)
+  tries_owned (Some u) m mutex = either t task k there ready nothing (u == t) _ _ (again nothing m mutex) (same t task k there ready nothing)
 
   tries_known : (o : Option Mutex) (m : ℕ) → Own nothing t task k (try_known o t m k).0
-  tries_known None m = same nothing
+  tries_known None m = same t task k there ready nothing
   tries_known (Some mutex) m = tries_owned mutex.owner m mutex
 
   tries : (m : ℕ) → Own nothing t task k (try_lock t m k).0
@@ -271,100 +179,71 @@ module _ (t : ℕ) (task : Task) (k : Parts) (there : slice_get k.tasks t ≡ So
   tries m = tries_known (slice_get k.mutexes m) m
 
   unlocks_if : (b : Bool) (m count : ℕ) → Own nothing t task k (if b then pass_on m k else on_mutex m (held_by t count) k)
-  unlocks_if true m count = alone nothing _ (passes_on m k (record { task = refl; hart = refl }))
-  unlocks_if false m count = alone nothing _ (record { task = refl; hart = refl })
+  unlocks_if true m count = alone t task k there ready nothing _ (passes_on t task k there ready m k (record { task = refl; hart = refl }))
+  unlocks_if false m count = alone t task k there ready nothing _ (record { task = refl; hart = refl })
 
   unlocks_once : (m : ℕ) (mutex : Mutex) → Own nothing t task k (unlock_once t m mutex k)
   unfolding unlock_once
   unlocks_once m mutex = unlocks_if (nat_le mutex.count 1) m (mutex.count - 1)
 
   unlocks_known : (o : Option Mutex) (m : ℕ) → Own nothing t task k (unlock_known o t m k).0
-  unlocks_known None m = same nothing
-  unlocks_known (Some mutex) m = either nothing (is_number mutex.owner t) _ _ (unlocks_once m mutex) (same nothing)
+  unlocks_known None m = same t task k there ready nothing
+  unlocks_known (Some mutex) m = either t task k there ready nothing (is_number mutex.owner t) _ _ (unlocks_once m mutex) (same t task k there ready nothing)
 
   unlocks : (m : ℕ) → Own nothing t task k (unlock t m k).0
   unfolding unlock
   unlocks m = unlocks_known (slice_get k.mutexes m) m
 
-  gets_known : (o : Option ℕ) (c s deadline : ℕ) → Own waiting t task k (sem_get_known o c t s deadline k).0
-  gets_known None c s deadline = same waiting
-  gets_known (Some count) c s deadline =
-      either waiting (count == 0) _ _ (waits_unless (wait_refusal (is_stalled OutOfBand c k) None deadline) (Semaphore s) deadline) (alone waiting _ (record { task = refl; hart = refl }))
-
-  gets : (c s deadline : ℕ) → Own waiting t task k (sem_get c t s deadline k).0
-  unfolding sem_get
-  gets c s deadline = gets_known (slice_get k.semaphores s) c s deadline
-
-  tries_get_known : (o : Option ℕ) (s : ℕ) → Own nothing t task k (sem_try_get_known o s k).0
-  tries_get_known None s = same nothing
-  tries_get_known (Some count) s = either nothing (count == 0) _ _ (same nothing) (alone nothing _ (record { task = refl; hart = refl }))
-
-  tries_get : (s : ℕ) → Own nothing t task k (sem_try_get s k).0
-  unfolding sem_try_get
-  tries_get s = tries_get_known (slice_get k.semaphores s) s
-
-  puts_to : (o : Option ℕ) (s count : ℕ) → first_waiter (Semaphore s) k ≡ o → Own nothing t task k (sem_put_to o s count k).0
-  puts_to None s count first = either nothing (nat_le SEMAPHORE_COUNT_LIMIT count) _ _ (same nothing) (alone nothing _ (record { task = refl; hart = refl }))
-  puts_to (Some u) s count first = alone nothing _ (wakes_another u k (another u (Semaphore s) k refl first) (record { task = refl; hart = refl }))
-
-  puts_known : (o : Option ℕ) (s : ℕ) → Own nothing t task k (sem_put_known o s k).0
-  puts_known None s = same nothing
-  puts_known (Some count) s = puts_to (first_waiter (Semaphore s) k) s count refl
-
-  puts : (s : ℕ) → Own nothing t task k (sem_put s k).0
-  unfolding sem_put
-  puts s = puts_known (slice_get k.semaphores s) s
-
-  -- ---- of the out-of-band kernel, and of either
+  -- ---- of the out-of-band kernel, and of either t task k there ready
   stalls : (stage : Stage) (stalled : Bool) (c : ℕ) → Own nothing t task k (stall stage stalled c k).0
   unfolding stall
-  stalls stage stalled c = alone nothing _ (record { task = refl; hart = refl })
+  stalls stage stalled c = alone t task k there ready nothing _ (record { task = refl; hart = refl })
 
   types : (byte : ℕ) → Own nothing t task k (putc byte k).0
   unfolding putc
-  types byte = alone nothing _ (record { task = refl; hart = refl })
+  types byte = alone t task k there ready nothing _ (record { task = refl; hart = refl })
 
   switches_oob : Own nothing t task k (switch_oob k).0
   unfolding switch_oob
-  switches_oob = same nothing
+  switches_oob = same t task k there ready nothing
 
   demotes : (c : ℕ) → Own (changes SwitchInBand) t task k (demote c t k)
   unfolding demote restamp set_state
   demotes c =
       let there_now : Task → Task = λ y. record y { state = InReady } in
       let stamped : Task → Task = λ y. record y { stamp = k.stamps } in
-      turned (changes SwitchInBand) (λ y. stamped (there_now y)) _ (change-here stamped (change there_now k.tasks t) t ∙ ap (option_map stamped) (change-here there_now k.tasks t ∙ ap (option_map there_now) there))
+      turned t task k there ready (changes SwitchInBand) (λ y. stamped (there_now y)) _ (change-here stamped (change there_now k.tasks t) t ∙ ap (option_map stamped) (change-here there_now k.tasks t ∙ ap (option_map there_now) there))
       (record { cpu = refl; class = λ no. refl; priority = λ no. refl; slice = λ no. refl; mode = λ no. refl; deadline = λ no. refl; stamp = λ no. cc; state = λ no. refl }) (λ no. cc) (λ no. cc) refl
 
   switches_in_band : (c : ℕ) → Own (changes SwitchInBand) t task k (switch_in_band c t k).0
   unfolding switch_in_band
-  switches_in_band c = either (changes SwitchInBand) (is_stalled OutOfBand c k) _ _ (same (changes SwitchInBand)) (demotes c)
+  switches_in_band c = either t task k there ready (changes SwitchInBand) (is_stalled OutOfBand c k) _ _ (same t task k there ready (changes SwitchInBand)) (demotes c)
 
   policy_of_one : (u : ℕ) (class : Class) (priority : ℕ) → Own (changes SetSched) t task k (set_policy u class priority k)
   unfolding set_policy
   policy_of_one u class priority = elim (cases_eq u t) [
     | inl one ↦ rw one (policy (changes SetSched) class priority refl refl)
-    | inr other ↦ alone (changes SetSched) _ (record { task = change-elsewhere _ k.tasks u t (λ e. other (sym e)); hart = refl })
+    | inr other ↦ alone t task k there ready (changes SetSched) _ (record { task = change-elsewhere _ k.tasks u t (λ e. other (sym e)); hart = refl })
   ]
 
   schedules_as : (o : Option Class) (u priority : ℕ) → Own (changes SetSched) t task k (schedule_as o u priority k).0
-  schedules_as None u priority = same (changes SetSched)
+  schedules_as None u priority = same t task k there ready (changes SetSched)
   schedules_as (Some class) u priority = policy_of_one u class priority
 
   sets_sched : (u class priority : ℕ) → Own (changes SetSched) t task k (set_sched u class priority k).0
   unfolding set_sched
-  sets_sched u class priority = either (changes SetSched) (is_scheduled_task (slice_get k.tasks u)) _ _ (schedules_as (policy_of class priority) u priority) (same (changes SetSched))
+  sets_sched u class priority = either t task k there ready (changes SetSched) (is_scheduled_task (slice_get k.tasks u)) _ _ (schedules_as (policy_of class priority) u priority) (same t task k there ready (changes SetSched))
 
   bits : (mode : ℕ) → Own (changes SetMode) t task k (set_mode_bits t mode k)
   unfolding set_mode_bits
   bits mode =
       let given : Task → Task = λ y. record y { mode = record { bits = mode } } in
-      turned (changes SetMode) given _ (change-here given k.tasks t ∙ ap (option_map given) there)
+      turned t task k there ready (changes SetMode) given _ (change-here given k.tasks t ∙ ap (option_map given) there)
       (record { cpu = refl; class = λ no. refl; priority = λ no. refl; slice = λ no. refl; mode = λ no. cc; deadline = λ no. refl; stamp = λ no same. refl; state = λ no. ready }) (λ no. refl) (λ no. refl) refl
 
   sets_mode : (mode : ℕ) → Own (changes SetMode) t task k (set_mode t mode k).0
   unfolding set_mode
-  sets_mode mode = either (changes SetMode) (nat_lt MODE_LIMIT mode) _ _ (same (changes SetMode)) (bits mode)
+  sets_mode mode = either t task k there ready (changes SetMode) (nat_lt MODE_LIMIT mode) _ _ (same t task k there ready (changes SetMode)) (bits mode)
 
   yields_oob : Own (changes YieldOob) t task k (yield_oob t k).0
   unfolding yield_oob restamp
@@ -372,11 +251,11 @@ module _ (t : ℕ) (task : Task) (k : Parts) (there : slice_get k.tasks t ≡ So
 
   tells_clock : Own nothing t task k (clock k).0
   unfolding clock
-  tells_clock = same nothing
+  tells_clock = same t task k there ready nothing
 
   tells_bits : (c : ℕ) → Own nothing t task k (state_bits c t k).0
   unfolding state_bits
-  tells_bits c = same nothing
+  tells_bits c = same t task k there ready nothing
 
   -- ---- each call
   performs : (made : Call) (hart : Hart) (c : ℕ) → Own (changes made) t task k (perform made hart c t k).0
@@ -390,8 +269,11 @@ module _ (t : ℕ) (task : Task) (k : Parts) (there : slice_get k.tasks t ≡ So
   performs Attach h c = attaches (argument 0 h) (argument 1 h)
   performs Detach h c = detaches
   performs NewMutex h c = makes (argument 0 h) (argument 1 h)
-  performs NewSemaphore h c = sets_up (argument 0 h)
-  performs SetLine h c = sets_line (argument 0 h) (argument 1 h)
+  performs NewSemaphore h c = sets_up t task k there ready (argument 0 h)
+  performs NewEvent h c = adds_an_event t task k there ready
+  performs NewFlags h c = adds_flags_group t task k there ready
+  performs NewTimer h c = adds_a_timer t task k there ready
+  performs SetLine h c = sets_line t task k there ready (argument 0 h) (argument 1 h) (argument 2 h)
   performs SwitchOob h c = switches_oob
   performs SwitchInBand h c = switches_in_band c
   performs SetSched h c = sets_sched (argument 0 h) (argument 1 h) (argument 2 h)
@@ -399,9 +281,17 @@ module _ (t : ℕ) (task : Task) (k : Parts) (there : slice_get k.tasks t ≡ So
   performs Lock h c = locks c (argument 0 h) (argument 1 h)
   performs TryLock h c = tries (argument 0 h)
   performs Unlock h c = unlocks (argument 0 h)
-  performs SemGet h c = gets c (argument 0 h) (argument 1 h)
-  performs SemTryGet h c = tries_get (argument 0 h)
-  performs SemPut h c = puts (argument 0 h)
+  performs SemGet h c = gets t task k there ready c (argument 0 h) (argument 1 h)
+  performs SemTryGet h c = tries_get t task k there ready (argument 0 h)
+  performs SemPut h c = puts t task k there ready (argument 0 h)
+  performs EventWait h c = waits_event t task k there ready c (argument 0 h) (argument 1 h) (argument 2 h)
+  performs Signal h c = signals t task k there ready (argument 0 h)
+  performs Broadcast h c = broadcasts t task k there ready (argument 0 h)
+  performs FlagsWait h c = takes_word t task k there ready c (argument 0 h) (argument 1 h)
+  performs FlagsPost h c = posts t task k there ready (argument 0 h) (argument 1 h)
+  performs SleepUntil h c = sleeps t task k there ready c (argument 0 h)
+  performs TimerSet h c = sets_a_timer t task k there ready c (argument 0 h) (argument 1 h) (argument 2 h)
+  performs TimerWait h c = awaits_a_timer t task k there ready c (argument 0 h)
   performs YieldOob h c = yields_oob
   performs StallOob h c = stalls OutOfBand true c
   performs UnstallOob h c = stalls OutOfBand false c
@@ -512,6 +402,10 @@ module _ (c t : ℕ) (task : Task) (hart : Hart) where
     quiet SwitchInBand = inr (λ no. cc)
     quiet Lock = inr (λ no. cc)
     quiet SemGet = inr (λ no. cc)
+    quiet EventWait = inr (λ no. cc)
+    quiet FlagsWait = inr (λ no. cc)
+    quiet SleepUntil = inr (λ no. cc)
+    quiet TimerWait = inr (λ no. cc)
     quiet _ = inr (λ no. refl)
 
     done : (made : Call) → After (changes made) t task hart (finish_call c t (perform made hart c t k))

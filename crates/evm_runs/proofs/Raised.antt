@@ -7,7 +7,7 @@ use Rattle.evm_lines.specs.Lines.{has_line}
 use Rattle.evm_model.specs.Bounds.{STAMPS_PER_EVENT}
 use Rattle.evm_model.specs.Commands.{tick}
 use Rattle.evm_model.specs.Lists.{change}
-use Rattle.evm_model.specs.Pipes.{Pipe, raise, more_if, count_raise, set_stall, stage_of, on_passage, count_receipt}
+use Rattle.evm_model.specs.Pipes.{Pipe, raise, more_if, count_raise, set_stall, on_passage, count_receipt}
 use Rattle.evm_model.specs.Refusals.{board_refusal}
 use Rattle.evm_model.specs.Rows.{row}
 use Rattle.evm_model.specs.State.{Board, Parts, on_pipe}
@@ -52,7 +52,7 @@ stall-raised l r InBand b p s = record { times = s.times }
 
 move-raised : (l r : ℕ) (may : ℕ → Bool) (n : ℕ) (p q : Pipe) → may l ≡ false → PipeMove may n p q → LineRaised l r p → LineRaised l r q
 move-raised l r may _ _ _ o (raises m p h on) s = counted-raised l m r _ p _ (raise-counted m p) (λ n same. let no : true ≡ false = sym on ∙ ap may (sym same) ∙ o in cc) s
-move-raised l r may _ _ _ o (receives m p h) s = counted-raised l m r _ p _ (receive-counted m p) (λ n same. passage-raised (stage_of m) _ (count_receipt n)) s
+move-raised l r may _ _ _ o (receives stage m p fixed h) s = counted-raised l m r _ p _ (receive-counted stage m p) (λ n same. passage-raised stage _ (count_receipt n)) s
 move-raised l r may _ _ _ o (plays_timer p h) s = counted-raised l 0 r _ p _ (timer-counted p) (λ n same. refl) s
 move-raised l r may _ _ _ o (plays_oob m p other h) s = counted-raised l m r _ p _ (play-counted OutOfBand m p) (λ n same. refl) s
 move-raised l r may _ _ _ o (plays_in_band m p h) s = counted-raised l m r _ p _ (play-counted InBand m p) (λ n same. refl) s

@@ -1,26 +1,31 @@
 -- What a step changes, and how many there are of each afterwards.
-use Rattle.std.proofs.Common.{◌≡◌, ℕ, ◌+◌, ◌≤◌, List, [], ◌∷◌, Bool, true, false, not, Option, Some, None, length, ◌⊎◌, inl, inr, refl, ap, sym, ◌∙◌, subst, arith}
+use Rattle.std.proofs.Common.{◌≡◌, ℕ, ◌+◌, ◌<◌, ◌≤◌, List, [], ◌∷◌, Bool, true, false, not, Option, Some, None, length, ◌⊎◌, inl, inr, refl, ap, sym, ◌∙◌, subst, arith}
 use Rattle.std.specs.Prelude.{slice_get, option_map, is_none, ◌==◌, if◌then◌else◌}
 use Rattle.evm_lines.specs.Lines.{has_line, least_line}
 use Rattle.evm_exec.specs.declared.hart.Hart.{Hart}
 use Rattle.evm_ram.specs.Laws.{length-write_at}
+use Rattle.evm_model.specs.Good.{Good, is_ready, is_waiting}
 use Rattle.evm_model.specs.Memory.{fetch}
 use Rattle.evm_model.specs.Pipes.{Pipe, raise}
 use Rattle.evm_model.specs.Rows.{step}
-use Rattle.evm_model.specs.Settle.{current, nudge, nudge_pipe, wants_nudge}
+use Rattle.evm_model.specs.Settle.{current, current_of, nudge, nudge_pipe, wants_nudge}
 use Rattle.evm_model.specs.State.{Board, Memory, Parts}
 use Rattle.evm_model.specs.declared.limits.TheConstants.{SLICE, TASK_LIMIT}
 use Rattle.evm_model.specs.declared.mutex.Mutex.{Mutex}
+use Rattle.evm_model.specs.declared.processor.Processor.{Processor}
 use Rattle.evm_model.specs.declared.task.Task.{Task}
-use Rattle.evm_model.proofs.Lists.{slice_get-each}
+use Rattle.evm_model.specs.declared.task.TaskState.{TaskState}
+use Rattle.evm_model.specs.declared.task.TaskState.TheVariants.{InReady, OobReady}
+use Rattle.evm_model.proofs.Lists.{slice_get-below, slice_get-each, slice_get-within}
 use Rattle.evm_walk.proofs.Rows.{word_calls, MaySteps, Stepped, steps, stepped_walk}
 use Rattle.evm_walk.proofs.Sizes.{walk_sizes, walk_least, walk_ticks}
-use Rattle.evm_walk.proofs.Walk.{Actor, Makes, Untouched, Walk, start}
-use Rattle.evm_runs.specs.Changes.{MakesCall, MakesNone, StoreWrites, Stays, Spends, MutexesStay, Schedules, Hears, StepChanges, Added}
+use Rattle.evm_walk.proofs.Walk.{Actor, Makes, unchanged, Walk, start}
+use Rattle.evm_runs.specs.Changes.{MakesCall, MakesNone, StoreWrites, Stays, Spends, MutexesStay, MutexesTaken, Schedules, Hears, StepChanges, Added}
 use Rattle.evm_runs.specs.Kept.{AllHaveRegisters}
-use Rattle.evm_runs.proofs.Added.{walk_registers, walk_added, walk_made, walk_mutexes, walk_typed, walk_processors, walk_other_pipes}
-use Rattle.evm_runs.proofs.Fares.{one_change, Fares, still_by}
+use Rattle.evm_runs.proofs.Added.{walk_registers, walk_added, walk_made, walk_taken, walk_typed, walk_processors, walk_other_pipes}
+use Rattle.evm_runs.proofs.Fares.{one_change, ends_wider, Fares, still, still_by}
 use Rattle.evm_runs.proofs.Frames.{Asked, Frame, walk_frame}
+use Rattle.evm_runs.proofs.Named.{AreNamed, named_good}
 use Rattle.evm_runs.proofs.Instructions.{Calls, called, step_writes}
 
 -- as many of each, but for tasks, of which there may be more, a hart for each; and tasks keep their registers
@@ -100,15 +105,40 @@ not_heard pipe o e h w = let no : false ≡ true = sym (ap (λ (x : Option ℕ).
 abbrev actor : ℕ → Option ℕ → Bool → Bool → Actor
 actor c o loud calls = record { cpu = c; task = o; may = λ d l. if loud then l == 1 else false; chooses = true; calls = calls }
 
-pub record StepDone (c : ℕ) (old new : Board) : Type 0 where
-  pub changes : StepChanges c old new
-  pub counts : SameCounts old new
+-- where the current task doesn't wait, and the mutexes of events for which tasks wait are there
+pub record MayStep (c : ℕ) (k : Parts) : Type 0 where
+  pub runs : (t : ℕ) (x : Task) → current c k ≡ Some t → slice_get k.tasks t ≡ Some x → is_waiting x.state ≡ false
+  pub named : AreNamed (length k.mutexes) k.events k.tasks
+
+ready_waits : (state : TaskState) → is_ready state ≡ true → is_waiting state ≡ false
+ready_waits InReady e = refl
+ready_waits OobReady e = refl
+ready_waits _ e = cc
+
+-- .. as the rules say
+runs_of : (c : ℕ) (k : Parts) → Good k → (o : Option Processor) (q : Option Pipe) → slice_get k.processors c ≡ o → slice_get k.pipes c ≡ q → (t : ℕ) (x : Task) → current_of o ≡ Some t → slice_get k.tasks t ≡ Some x → is_waiting x.state ≡ false
+runs_of c k g None q e f t x now there = cc
+runs_of c k g (Some p) None e f t x now there =
+    let below : c < length k.pipes = omega (arith, slice_get-below k.processors c p e, g.pipes_count) in
+    let w = slice_get-within k.pipes c below in
+    let no : None ≡ Some w.0 = sym f ∙ w.1 in cc
+runs_of c k g (Some p) (Some pipe) e f t x now there =
+    let own = (g.settled c pipe p f e).current_own t now in
+    let two : Some own.task ≡ Some x = sym own.there ∙ there in
+    let same : own.task ≡ x = cc in
+    rw (← same) (ready_waits own.task.state own.ready)
+
+pub may_step : (c : ℕ) (k : Parts) → Good k → MayStep c k
+may_step c k g = record {
+  runs = λ t x now there. runs_of c k g (slice_get k.processors c) (slice_get k.pipes c) refl refl t x now there;
+  named = named_good k.events k g.events;
+}
 
 -- where more may act and call
 stays_wider : (acts other : Option ℕ) (makes others : ℕ → Hart → Type 0) (c t : ℕ) (x y : Parts) → ((g : ℕ) → acts ≡ Some g → other ≡ Some g) → ((n : ℕ) (h : Hart) → makes n h → others n h)
     → Stays acts makes c t x y → Stays other others c t x y
 stays_wider acts other makes others c t x y act make (inl r) = inl r
-stays_wider acts other makes others c t x y act make (inr w) = inr (record {
+stays_wider acts other makes others c t x y act make (inr (inl w)) = inr (inl (record {
   task = w.task;
   wait = w.wait;
   state = w.state;
@@ -116,15 +146,26 @@ stays_wider acts other makes others c t x y act make (inr w) = inr (record {
   answer = w.answer;
   waited = w.waited;
   on = w.on;
-  by = still_by acts other makes others c t w.task w.state x.mutexes y.mutexes y.mutexes act make (λ m z o e. e) w.wait w.answer w.by;
+  by = still_by acts other makes others c t w.task w.state x y y act make (λ m z o e. e) (still c x.ticks y y refl refl refl) w.wait w.answer w.by;
   ready = w.ready;
   fresh = w.fresh;
   wakes = w.wakes;
   hart = w.hart;
-})
-
-untouched : (k : Parts) → Untouched k k
-untouched k = record { tasks = refl; harts = refl; mutexes = refl; console = refl }
+}))
+stays_wider acts other makes others c t x y act make (inr (inr q)) = inr (inr (record {
+  task = q.task;
+  event = q.event;
+  mutex = q.mutex;
+  stamp = q.stamp;
+  answer = q.answer;
+  waited = q.waited;
+  on = q.on;
+  named = q.named;
+  ends = ends_wider makes others c x.ticks q.event q.answer q.task make q.ends;
+  fresh = q.fresh;
+  waits = q.waits;
+  hart = q.hart;
+}))
 
 module _ (c : ℕ) (b : Board) where
   abbrev new : Board
@@ -132,13 +173,13 @@ module _ (c : ℕ) (b : Board) where
 
   -- ---- whoever acts
   module _ (o : Option ℕ) (calls : Bool) (m : (loud : Bool) → MaySteps (actor c o loud calls) b) where
-    walk : Walk (actor c o true calls) b.parts 66 2113 new.parts
-    walk = stepped_walk (actor c o true calls) b.parts new.parts (λ d. refl) (steps (actor c o true calls) b.parts b (m true) (untouched b.parts) refl start)
+    walk : Walk (actor c o true calls) b.parts 66 2241 new.parts
+    walk = stepped_walk (actor c o true calls) b.parts new.parts (λ d. refl) (steps (actor c o true calls) b.parts b (m true) (unchanged b.parts) refl start)
 
     other_pipes : (d : ℕ) → (d ≡ c → ⊥) → (slice_get new.parts.pipes d ≡ slice_get b.parts.pipes d) ⊎ (slice_get new.parts.pipes d ≡ option_map (raise 1) (slice_get b.parts.pipes d))
     other_pipes d other =
-        let t : Stepped (actor c o false calls) b.parts new.parts = steps (actor c o false calls) b.parts b (m false) (untouched b.parts) refl start in
-        let before : slice_get t.between.pipes d ≡ slice_get b.parts.pipes d = walk_other_pipes (actor c o false calls) b.parts d other (λ e l. refl) 65 2113 t.between t.walk in
+        let t : Stepped (actor c o false calls) b.parts new.parts = steps (actor c o false calls) b.parts b (m false) (unchanged b.parts) refl start in
+        let before : slice_get t.between.pipes d ≡ slice_get b.parts.pipes d = walk_other_pipes (actor c o false calls) b.parts d other (λ e l. refl) 65 2241 t.between t.walk in
         elim t.told [
           | inl same ↦ inl (ap (λ (k : Parts). slice_get k.pipes d) same ∙ before)
           | inr nudges ↦ elim (nudged c d t.between) [
@@ -147,9 +188,9 @@ module _ (c : ℕ) (b : Board) where
           ]
         ]
 
-    counted : SameCounts b new
+    pub counted : SameCounts b new
     counted =
-        let s = walk_sizes (actor c o true calls) b.parts 66 2113 new.parts walk in
+        let s = walk_sizes (actor c o true calls) b.parts 66 2241 new.parts walk in
         record {
           processors = s.processors;
           pipes = s.pipes;
@@ -157,35 +198,35 @@ module _ (c : ℕ) (b : Board) where
           tasks = s.tasks;
           harts = s.harts;
           few_tasks = s.few;
-          a_hart_each = each_more b.parts new.parts (walk_added (actor c o true calls) b.parts 66 2113 new.parts walk);
-          registers = walk_registers (actor c o true calls) b.parts 66 2113 new.parts walk;
+          a_hart_each = each_more b.parts new.parts (walk_added (actor c o true calls) b.parts 66 2241 new.parts walk);
+          registers = walk_registers (actor c o true calls) b.parts 66 2241 new.parts walk;
         }
 
-    framed : ((g : ℕ) → o ≡ Some g → current c b.parts ≡ Some g) → Frame (actor c o true calls) b.parts new.parts
-    framed acts = walk_frame (actor c o true calls) b.parts acts 66 2113 new.parts walk
+    pub same_ticks : new.parts.ticks ≡ b.parts.ticks
+    same_ticks = walk_ticks (actor c o true calls) b.parts 66 2241 new.parts refl walk
 
-    changes : (f : Frame (actor c o true calls) b.parts new.parts) → (f.asked ≡ b.parts.tasks) ⊎ Schedules c b f.asked
+    framed : MayStep c b.parts → Frame (actor c o true calls) b.parts new.parts
+    framed fit = walk_frame (actor c o true calls) b.parts (record { runs = fit.runs; named = fit.named; clock = refl }) 66 2241 new.parts walk
+
+    changes : MayStep c b.parts → (f : Frame (actor c o true calls) b.parts new.parts) → (f.asked ≡ b.parts.tasks) ⊎ Schedules c b f.asked
         → ((t : ℕ) → (current c b.parts ≡ Some t → ⊥) → Stays (current c b.parts) (λ number hart. MakesCall c number hart b) c t (record b.parts { tasks = f.asked }) new.parts) → MutexesStay (current c b.parts) b.parts.mutexes new.parts.mutexes
-        → (Hears c b.parts → (f.asked ≡ b.parts.tasks) × ((t : ℕ) → Stays None MakesNone c t b.parts new.parts ⊎ Spends c t b.parts new.parts) × (new.parts.mutexes ≡ b.parts.mutexes))
-        → StepDone c b new
-    changes f scheduled others mutexes hears = record {
-      changes = record {
-        asked = f.asked;
-        scheduled = scheduled;
-        breakpoints = (step_writes c b).breakpoints;
-        memory = (step_writes c b).memory;
-        ticks = walk_ticks (actor c o true calls) b.parts 66 2113 new.parts refl walk;
-        stamps = walk_least (actor c o true calls) b.parts 66 2113 new.parts walk;
-        processors = λ d other. walk_processors (actor c o true calls) b.parts d other 66 2113 new.parts walk;
-        pipes = other_pipes;
-        others = others;
-        mutexes = mutexes;
-        hears = hears;
-        added = walk_added (actor c o true calls) b.parts 66 2113 new.parts walk;
-        made = walk_made (actor c o true calls) b.parts 66 2113 new.parts walk;
-        typed = walk_typed (actor c o true calls) b.parts 66 2113 new.parts walk;
-      };
-      counts = counted;
+        → (Hears c b.parts → (f.asked ≡ b.parts.tasks) × ((t : ℕ) → Stays None MakesNone c t b.parts new.parts ⊎ Spends c t b.parts new.parts) × (MutexesTaken b.parts.mutexes new.parts.mutexes × (length new.parts.mutexes ≡ length b.parts.mutexes)))
+        → StepChanges c b new
+    changes fit f scheduled others mutexes hears = record {
+      asked = f.asked;
+      scheduled = scheduled;
+      breakpoints = (step_writes c b).breakpoints;
+      memory = (step_writes c b).memory;
+      ticks = same_ticks;
+      stamps = walk_least (actor c o true calls) b.parts 66 2241 new.parts walk;
+      processors = λ d other. walk_processors (actor c o true calls) b.parts d other 66 2241 new.parts walk;
+      pipes = other_pipes;
+      others = others;
+      mutexes = mutexes;
+      hears = hears;
+      added = walk_added (actor c o true calls) b.parts 66 2241 new.parts walk;
+      made = walk_made (actor c o true calls) b.parts 66 2241 new.parts fit.named walk;
+      typed = walk_typed (actor c o true calls) b.parts 66 2241 new.parts walk;
     }
 
   -- ---- a line is on the wire: no task acts
@@ -218,21 +259,24 @@ module _ (c : ℕ) (b : Board) where
   silent t (inl p) = inl (stays_wider None None (Makes (actor c None true true) b.parts) MakesNone c t b.parts new.parts (λ g e. e) none_calls p)
   silent t (inr q) = inr q
 
-  heard : hears (slice_get b.parts.pipes c) ≡ true → StepDone c b new
-  heard e =
-      let m : (loud : Bool) → MaySteps (actor c None loud true) b = λ loud. record {
-        chooses = refl;
-        acts = λ pipe there wire. absurd (not_heard pipe (slice_get b.parts.pipes c) there e wire);
-        calls = λ t x now has word. refl;
-      } in
-      let f : Frame (actor c None true true) b.parts new.parts = framed None true m (λ g h. cc) in
-      changes None true m f (inl (unasked f))
+  acts_none : hears (slice_get b.parts.pipes c) ≡ true → (loud : Bool) → MaySteps (actor c None loud true) b
+  acts_none e loud = record {
+    chooses = refl;
+    acts = λ pipe there wire. absurd (not_heard pipe (slice_get b.parts.pipes c) there e wire);
+    calls = λ t x now has word. refl;
+  }
+
+  heard : MayStep c b.parts → hears (slice_get b.parts.pipes c) ≡ true → StepChanges c b new
+  heard fit e =
+      let m : (loud : Bool) → MaySteps (actor c None loud true) b = acts_none e in
+      let f : Frame (actor c None true true) b.parts new.parts = framed None true m fit in
+      changes None true m fit f (inl (unasked f))
       (λ t away. stays t (record b.parts { tasks = f.asked }) new.parts away refl (f.others t (λ h. cc)))
       (mutexes_wider (current c b.parts) b.parts.mutexes new.parts.mutexes f.mutexes)
       (λ line. (
         unasked f,
         (λ t. silent t (subst (λ (all : List Task). Fares (actor c None true true) (Makes (actor c None true true) b.parts) t (record b.parts { tasks = all }) new.parts) (unasked f) (f.others t (λ h. cc)))),
-        walk_mutexes (actor c None true true) b.parts 66 2113 new.parts refl (walk None true m),
+        walk_taken (actor c None true true) b.parts 66 2241 new.parts refl (walk None true m),
       ))
 
   -- ---- none is: the current task acts
@@ -258,17 +302,20 @@ module _ (c : ℕ) (b : Board) where
         tasks = rw (q.tasks, ← k.names, ← k.asks) (one_change q.names (λ task. record task { class = q.class; priority = q.priority; slice = SLICE }) b.parts.tasks);
       }
 
-  unheard : hears (slice_get b.parts.pipes c) ≡ false → StepDone c b new
-  unheard e =
+  acts_current : (loud : Bool) → MaySteps (actor c (current c b.parts) loud (task_calls (current c b.parts) b)) b
+  acts_current loud = record {
+    chooses = refl;
+    acts = λ pipe there wire. refl;
+    calls = λ t x now has word. ap (λ (o : Option ℕ). task_calls o b) now ∙ ap (λ (o : Option Hart). hart_calls o b.memory) has ∙ word;
+  }
+
+  unheard : MayStep c b.parts → hears (slice_get b.parts.pipes c) ≡ false → StepChanges c b new
+  unheard fit e =
       let o : Option ℕ = current c b.parts in
       let calls : Bool = task_calls o b in
-      let m : (loud : Bool) → MaySteps (actor c o loud calls) b = λ loud. record {
-        chooses = refl;
-        acts = λ pipe there wire. refl;
-        calls = λ t x now has word. ap (λ (o : Option ℕ). task_calls o b) now ∙ ap (λ (o : Option Hart). hart_calls o b.memory) has ∙ word;
-      } in
-      let f : Frame (actor c o true calls) b.parts new.parts = framed o calls m (λ g h. h) in
-      changes o calls m f
+      let m : (loud : Bool) → MaySteps (actor c o loud calls) b = acts_current in
+      let f : Frame (actor c o true calls) b.parts new.parts = framed o calls m fit in
+      changes o calls m fit f
       (elim f.scheduled [
         | inl same ↦ inl same
         | inr q ↦ inr (scheduled f.asked q)
@@ -279,9 +326,16 @@ module _ (c : ℕ) (b : Board) where
       ])
       f.mutexes (λ line. absurd (deaf c b.parts e line))
 
-  step_if : (line : Bool) → hears (slice_get b.parts.pipes c) ≡ line → StepDone c b new
-  step_if true e = heard e
-  step_if false e = unheard e
+  step_if : (line : Bool) → hears (slice_get b.parts.pipes c) ≡ line → MayStep c b.parts → StepChanges c b new
+  step_if true e fit = heard fit e
+  step_if false e fit = unheard fit e
 
-  pub step_done : StepDone c b new
-  step_done = step_if (hears (slice_get b.parts.pipes c)) refl
+  pub step_done : MayStep c b.parts → StepChanges c b new
+  step_done fit = step_if (hears (slice_get b.parts.pipes c)) refl fit
+
+  -- whatever the tasks
+  pub step_counts : SameCounts b new
+  step_counts = counted (current c b.parts) (task_calls (current c b.parts) b) acts_current
+
+  pub step_ticks : new.parts.ticks ≡ b.parts.ticks
+  step_ticks = same_ticks (current c b.parts) (task_calls (current c b.parts) b) acts_current

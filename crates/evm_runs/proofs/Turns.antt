@@ -28,10 +28,12 @@ use Rattle.evm_model.proofs.Lists.{change-elsewhere}
 use Rattle.evm_walk.proofs.Passing.{untouched}
 use Rattle.evm_walk.proofs.Sets.{IsPipe-receive}
 use Rattle.evm_runs.specs.Order.{LinesRise, LogsPlayInOrder, Rise, MutexesPassByNumber, WaitersWakeByNumber, WaitsForLine}
-use Rattle.evm_runs.proofs.Fares.{both, number_is, wait_is}
+use Rattle.evm_walk.proofs.Waiters.{wait_is}
+use Rattle.evm_rules.proofs.Firsts.{eqb-is}
+use Rattle.evm_runs.proofs.Fares.{both}
 
 -- ---- the numbers below a bound that pass a test
-abbrev numbers : (ℕ → Bool) → ℕ → List ℕ
+abbrev pub numbers : (ℕ → Bool) → ℕ → List ℕ
 numbers test n = filter test (range_with_len 0 n)
 
 range_more : (a n : ℕ) → range_with_len a (suc n) ≡ range_with_len a n ++ (a + n) ∷ []
@@ -66,11 +68,11 @@ range_rises a n k h =
     let next = get_or-range_with_len a n (k + 1) 0 (omega arith) in
     omega (arith, here, next)
 
-numbers_rise : (test : ℕ → Bool) (n : ℕ) → IsStrictlyIncreasing (numbers test n)
+pub numbers_rise : (test : ℕ → Bool) (n : ℕ) → IsStrictlyIncreasing (numbers test n)
 numbers_rise test n = IsStrictlyIncreasing-filter test (range_with_len 0 n) (range_rises 0 n)
 
 -- a member is below the bound and passes
-are_such : (test : ℕ → Bool) (n m : ℕ) → Contains (numbers test n) m → test m ≡ true
+pub are_such : (test : ℕ → Bool) (n m : ℕ) → Contains (numbers test n) m → test m ≡ true
 are_such test zero m h = absurd (omega (arith, h.1))
 are_such test (suc n) m h = either (test n) refl (are_such test n m)
   where
@@ -81,7 +83,7 @@ are_such test (suc n) m h = either (test n) refl (are_such test n m)
     ]
     either false e before = before (rw (without_it test n e) at h)
 
-are_all : (test : ℕ → Bool) (n m : ℕ) → m < n → test m ≡ true → Contains (numbers test n) m
+pub are_all : (test : ℕ → Bool) (n m : ℕ) → m < n → test m ≡ true → Contains (numbers test n) m
 are_all test zero m low h = absurd (omega arith)
 are_all test (suc n) m low h = elim (eq-or-lt_of_le {n = m} {m = n} (omega arith)) [
   | inl same ↦ let here : test n ≡ true = ap test (sym same) ∙ h in rw (with_it test n here, same) (Contains-push (numbers test n) n)
@@ -93,7 +95,7 @@ are_all test (suc n) m low h = elim (eq-or-lt_of_le {n = m} {m = n} (omega arith
     either false e before = rw (without_it test n e) before
 
 -- what is done to each such number, from below, is done to these one after another
-by_number : (f : Parts → ℕ → Parts) (test : ℕ → Bool) (g : ℕ → Parts) → ((n : ℕ) → g (suc n) ≡ (if test n then f (g n) n else g n)) → (n : ℕ) → g n ≡ fold f (g 0) (numbers test n)
+pub by_number : (f : Parts → ℕ → Parts) (test : ℕ → Bool) (g : ℕ → Parts) → ((n : ℕ) → g (suc n) ≡ (if test n then f (g n) n else g n)) → (n : ℕ) → g n ≡ fold f (g 0) (numbers test n)
 by_number f test g step zero = refl
 by_number f test g step (suc n) = either (test n) refl (by_number f test g step n)
   where
@@ -108,7 +110,7 @@ rise : (p : Pipe) → IsPipe p → Rise p
 rise p h = record { wire = rises p.wire h.wire; oob = rises p.oob.lines h.oob; inband = rises p.inband.lines h.inband }
 
 pub lines_rise : LinesRise
-lines_rise l p h = (rise p h, rise (receive l p) (IsPipe-receive l p h))
+lines_rise stage l p h = (rise p h, rise (receive stage l p) (IsPipe-receive stage l p h))
 
 oob_in_order : (was : Option ℕ) (c : ℕ) (lines : List ℕ) (k : Parts) → play_oob_lines was c lines k ≡ fold (λ x l. play_oob was c l x) k lines
 unfolding play_oob_lines
@@ -149,7 +151,7 @@ wakes_above c l (suc t) i k h =
 
 waits_there : (c l t : ℕ) (tasks : List Task) (o : Option Task) → slice_get tasks t ≡ o → awaits_line c l o ≡ true → WaitsForLine c l t tasks
 waits_there c l t tasks None e h = cc
-waits_there c l t tasks (Some task) e h = let b = both (is_wait_for (Line l) task.state) (task.cpu == c) h in record { task = task; there = e; on = wait_is (Line l) task.state b.0; home = number_is c task.cpu b.1 }
+waits_there c l t tasks (Some task) e h = let b = both (is_wait_for (Line l) task.state) (task.cpu == c) h in record { task = task; there = e; on = wait_is (Line l) task.state refl b.0; home = eqb-is task.cpu c b.1 }
 
 itself : (n : ℕ) → (n == n) ≡ true
 itself n = eq-eqb n n refl

@@ -1,5 +1,5 @@
 -- What each event changes: the places that it names, and nothing else.
-use Rattle.std.specs.Prelude.{◌≡◌, ℕ, ◌+◌, ◌++◌, ◌<◌, ◌≤◌, List, [], ◌∷◌, Option, Some, None, Bool, true, false, ◌⊎◌, if◌then◌else◌, slice_get, option_map, length, Ok}
+use Rattle.std.specs.Prelude.{◌≡◌, ℕ, ◌+◌, ◌++◌, ◌<◌, ◌≤◌, List, [], ◌∷◌, Option, Some, None, Bool, true, false, ◌⊎◌, if◌then◌else◌, slice_get, option_map, length, bit_or, ◌^◌, Ok}
 use Rattle.evm_lines.specs.Lines.{has_line, with_line}
 use Rattle.evm_isa.specs.Decoded.{decoded}
 use Rattle.evm_isa.specs.declared.inst.Inst.{Inst}
@@ -9,6 +9,10 @@ use Rattle.evm_exec.specs.declared.hart.Hart.{Hart}
 use Rattle.evm_exec.specs.declared.outcome.Effect.TheVariants.{Store, Call}
 use Rattle.evm_ram.specs.Ram.{poke_at, write_at}
 use Rattle.evm_ram.specs.declared.width.Width.{Width}
+use Rattle.evm_model.specs.Actions.{action_at}
+use Rattle.evm_model.specs.Errnos.{refusal_answer}
+use Rattle.evm_model.specs.Events.{bound}
+use Rattle.evm_model.specs.Good.{Good}
 use Rattle.evm_model.specs.InBandCalls.{last_bytes}
 use Rattle.evm_model.specs.Commands.{is_set}
 use Rattle.evm_model.specs.Harts.{A0, A7, argument, set_register, spawned_hart}
@@ -36,7 +40,12 @@ use Rattle.evm_model.specs.Tasks.{is_weak}
 use Rattle.evm_model.specs.declared.task.TaskState.{TaskState}
 use Rattle.evm_model.specs.declared.task.TaskState.TheVariants.{InReady, OobReady, Waits}
 use Rattle.evm_model.specs.declared.task.Wait.{Wait}
-use Rattle.evm_model.specs.declared.task.Wait.TheVariants.{Line, Lock, Semaphore}
+use Rattle.evm_model.specs.declared.task.Wait.TheVariants.{Line, Lock, Reacquire, Semaphore, Event as OfEvent, Flags, Sleep, Timer as OfTimer}
+use Rattle.evm_model.specs.declared.timer.Timer.{Timer}
+use Rattle.evm_model.specs.declared.action.Action.TheVariants.{Puts, Posts}
+use Rattle.evm_model.specs.declared.errno.Errno.TheVariants.{TimedOut}
+use Rattle.evm_model.specs.Mutexes.{held_by}
+use Rattle.evm_model.specs.Timers.{taken, is_due_timer, expired}
 use Rattle.evm_model.specs.Waits.{ready_on, stage_of_wait}
 
 -- the i-th of a list is changed so, and no other
@@ -122,15 +131,54 @@ pub record MakesCall (c number : ℕ) (hart : Hart) (b : Board) : Type 0 where
   pub calls : does inst hart.regs hart.pc ≡ Call
   pub asks : register_of hart.regs A7 ≡ number
 
+-- the deadline of a task of processor c had come at this tick
+pub record WasLate (c now : ℕ) (task : Task) : Type 0 where
+  pub set : task.deadline ≡ 0 → ⊥
+  pub come : task.deadline ≤ now
+  pub home : task.cpu ≡ c
+
+-- the answer of a wait that ends by its deadline: 0 of a sleep, -110 else
+abbrev pub late_answer : Wait → ℕ
+late_answer Sleep = 0
+late_answer _ = refusal_answer TimedOut
+
+abbrev pub is_event_wait : Wait → Bool
+is_event_wait (OfEvent e) = true
+is_event_wait _ = false
+
+-- why the wait of a task for event e ended, and the answer of its call
+pub data EventEnds (makes : ℕ → Hart → Type 0) (c now e : ℕ) (task : Task) : ℕ → Type 0 where
+  -- the acting task makes call 43 or 44, whose a0 names the event
+  by_signal : (hart : Hart) → makes 43 hart ⊎ makes 44 hart → e ≡ argument 0 hart → EventEnds makes c now e task 0
+  by_time : WasLate c now task → EventEnds makes c now e task (refusal_answer TimedOut)
+
+-- task t, which is ready out-of-band, owns mutex m, locked once
+pub record HasMutex (t m : ℕ) (state : TaskState) (mutexes : List Mutex) : Type 0 where
+  pub mutex : Mutex
+  pub there : slice_get mutexes m ≡ Some mutex
+  pub owns : mutex.owner ≡ Some t
+  pub once : mutex.count ≡ 1
+  pub oob : state ≡ OobReady
+
 -- what woke task t, by what it waited for, and its answer: of the task that acts, and of the calls that it makes
-pub data WokenBy (acts : Option ℕ) (makes : ℕ → Hart → Type 0) (c t : ℕ) (task : Task) (state : TaskState) (old new : List Mutex) : Wait → ℕ → Type 0 where
+pub data WokenBy (acts : Option ℕ) (makes : ℕ → Hart → Type 0) (c t : ℕ) (task : Task) (state : TaskState) (old new : Parts) : Wait → ℕ → Type 0 where
   -- the line was played on its processor
   by_line : (l : ℕ) → task.cpu ≡ c → WokenBy acts makes c t task state old new (Line l) 0
-  -- the mutex was the acting task's, and is its own now, locked once: it is ready out-of-band, weak or not
-  by_owner : (m giver : ℕ) (mutex : Mutex) → acts ≡ Some giver → owner old m ≡ Some giver → slice_get new m ≡ Some mutex → mutex.owner ≡ Some t → mutex.count ≡ 1 → state ≡ OobReady
-      → WokenBy acts makes c t task state old new (Lock m) 0
-  -- the acting task makes call 41, whose a0 names the semaphore
+  -- the mutex was the acting task's, and is its own now
+  by_owner : (m giver : ℕ) → acts ≡ Some giver → owner old.mutexes m ≡ Some giver → HasMutex t m state new.mutexes → WokenBy acts makes c t task state old new (Lock m) 0
+  -- .. after a wait for an event, whose answer it kept
+  by_owner_back : (m answer giver : ℕ) → acts ≡ Some giver → owner old.mutexes m ≡ Some giver → HasMutex t m state new.mutexes → WokenBy acts makes c t task state old new (Reacquire m answer) answer
+  -- the event's mutex is its own now
+  by_event : (e m answer : ℕ) → bound e new ≡ Some m → HasMutex t m state new.mutexes → EventEnds makes c old.ticks e task answer → WokenBy acts makes c t task state old new (OfEvent e) answer
+  by_deadline : (wait : Wait) → is_event_wait wait ≡ false → WasLate c old.ticks task → WokenBy acts makes c t task state old new wait (late_answer wait)
+  -- the acting task makes call 41, whose a0 names the semaphore; or a line's action puts one into it
   by_put : (hart : Hart) → makes 41 hart → WokenBy acts makes c t task state old new (Semaphore (argument 0 hart)) 0
+  by_line_put : (l s : ℕ) → action_at l new ≡ Puts s → WokenBy acts makes c t task state old new (Semaphore s) 0
+  -- the acting task makes call 46, whose a0 names the flag group and whose a1 is the bits; or a line's action posts its bit: it has the word
+  by_post : (hart : Hart) (word : ℕ) → makes 46 hart → slice_get old.flags (argument 0 hart) ≡ Some word → WokenBy acts makes c t task state old new (Flags (argument 0 hart)) (bit_or word (argument 1 hart))
+  by_line_post : (l f word : ℕ) → action_at l new ≡ Posts f → WokenBy acts makes c t task state old new (Flags f) (bit_or word (2 ^ l))
+  -- the timer was due on the processor, and has expired: it has all the expiries, and the timer none
+  by_timer : (n : ℕ) (timer : Timer) → is_due_timer c old.ticks timer ≡ true → slice_get new.timers n ≡ Some (taken (expired old.ticks timer)) → WokenBy acts makes c t task state old new (OfTimer n) (expired old.ticks timer).expiries
 
 -- ready on the stage on which it waited, or in-band if it is weak
 abbrev pub IsReadyAfter : Wait → Class → TaskState → Type 0
@@ -145,15 +193,30 @@ pub record Wakes (acts : Option ℕ) (makes : ℕ → Hart → Type 0) (c t : �
   pub answer : ℕ
   pub waited : slice_get old.tasks t ≡ Some task
   pub on : task.state ≡ Waits wait
-  pub by : WokenBy acts makes c t task state old.mutexes new.mutexes wait answer
+  pub by : WokenBy acts makes c t task state old new wait answer
   pub ready : IsReadyAfter wait task.class state
   pub fresh : old.stamps ≤ stamp
   pub wakes : slice_get new.tasks t ≡ Some (record task { stamp = stamp; deadline = 0; state = state })
   pub hart : (hart : Hart) → slice_get old.harts t ≡ Some hart → slice_get new.harts t ≡ Some (set_register A0 answer hart)
 
--- .. one of the two
+-- task t, of whatever processor, waited for an event, and waits for the event's mutex now, which had an owner: it keeps the answer of its call, its stamp is a later one, it has no deadline
+pub record Requeues (makes : ℕ → Hart → Type 0) (c t : ℕ) (old new : Parts) : Type 0 where
+  pub task : Task
+  pub event : ℕ
+  pub mutex : ℕ
+  pub stamp : ℕ
+  pub answer : ℕ
+  pub waited : slice_get old.tasks t ≡ Some task
+  pub on : task.state ≡ Waits (OfEvent event)
+  pub named : bound event new ≡ Some mutex
+  pub ends : EventEnds makes c old.ticks event task answer
+  pub fresh : old.stamps ≤ stamp
+  pub waits : slice_get new.tasks t ≡ Some (record task { stamp = stamp; deadline = 0; state = Waits (Reacquire mutex answer) })
+  pub hart : (hart : Hart) → slice_get old.harts t ≡ Some hart → slice_get new.harts t ≡ Some hart
+
+-- .. one of the three
 abbrev pub Stays : Option ℕ → (ℕ → Hart → Type 0) → ℕ → ℕ → Parts → Parts → Type 0
-Stays acts makes c t old new = Rests t old new ⊎ Wakes acts makes c t old new
+Stays acts makes c t old new = Rests t old new ⊎ (Wakes acts makes c t old new ⊎ Requeues makes c t old new)
 
 -- no call
 abbrev pub MakesNone : ℕ → Hart → Type 0
@@ -169,6 +232,16 @@ pub record MutexChanges (holder : Option ℕ) (m : ℕ) (before : Mutex) (new : 
 -- each mutex is as it was, or was free or this task's
 abbrev pub MutexesStay : Option ℕ → List Mutex → List Mutex → Type 0
 MutexesStay holder old new = (m : ℕ) (before : Mutex) → slice_get old m ≡ Some before → (slice_get new m ≡ Some before) ⊎ MutexChanges holder m before new
+
+-- a mutex that was free has an owner now, which locked it once
+pub record IsTaken (m : ℕ) (before : Mutex) (new : List Mutex) : Type 0 where
+  pub task : ℕ
+  pub free : before.owner ≡ None
+  pub there : slice_get new m ≡ Some (held_by task 1 before)
+
+-- each mutex is as it was, or is taken
+abbrev pub MutexesTaken : List Mutex → List Mutex → Type 0
+MutexesTaken old new = (m : ℕ) (before : Mutex) → slice_get old m ≡ Some before → (slice_get new m ≡ Some before) ⊎ IsTaken m before new
 
 -- there is one mutex more, the last, and it is free
 pub record AddsMutex (old new : List Mutex) : Type 0 where
@@ -232,7 +305,7 @@ Added old new = ((length new.tasks ≡ length old.tasks) × (length new.harts �
 abbrev pub Typed : Parts → Parts → Type 0
 Typed old new = (new.console ≡ old.console) ⊎ ((byte : ℕ) × (new.console ≡ last_bytes (old.console ++ byte ∷ [])))
 
--- a step of c changes RAM only by a store; of the tasks it changes the one that was current on c, the one that it calls to have another class, such as waited, which wake, and adds one at most; of the mutexes it changes only such as were free or the current task's, and adds one at most; of other processors it changes only that line 1 may be raised there
+-- a step of c changes RAM only by a store; of the tasks it changes the one that was current on c, the one that it calls to have another class, such as waited, which wake or wait for a mutex again, and adds one at most; of the mutexes it changes only such as were free or the current task's, and adds one at most; of other processors it changes only that line 1 may be raised there
 pub record StepChanges (c : ℕ) (old new : Board) : Type 0 where
   -- the tasks, but that one may have another class
   pub asked : List Task
@@ -245,8 +318,8 @@ pub record StepChanges (c : ℕ) (old new : Board) : Type 0 where
   pub pipes : (d : ℕ) → (d ≡ c → ⊥) → (slice_get new.parts.pipes d ≡ slice_get old.parts.pipes d) ⊎ (slice_get new.parts.pipes d ≡ option_map (raise 1) (slice_get old.parts.pipes d))
   pub others : (t : ℕ) → (current c old.parts ≡ Some t → ⊥) → Stays (current c old.parts) (λ number hart. MakesCall c number hart old) c t (record old.parts { tasks = asked }) new.parts
   pub mutexes : MutexesStay (current c old.parts) old.parts.mutexes new.parts.mutexes
-  -- where a line is on the wire the current task too stays, or its slice is spent, and no mutex changes
-  pub hears : Hears c old.parts → (asked ≡ old.parts.tasks) × ((t : ℕ) → Stays None MakesNone c t old.parts new.parts ⊎ Spends c t old.parts new.parts) × (new.parts.mutexes ≡ old.parts.mutexes)
+  -- where a line is on the wire the current task too stays, or its slice is spent, and no mutex changes but such as are taken
+  pub hears : Hears c old.parts → (asked ≡ old.parts.tasks) × ((t : ℕ) → Stays None MakesNone c t old.parts new.parts ⊎ Spends c t old.parts new.parts) × (MutexesTaken old.parts.mutexes new.parts.mutexes × (length new.parts.mutexes ≡ length old.parts.mutexes))
   pub added : Added old.parts new.parts
   pub made : Made old.parts.mutexes new.parts.mutexes
   pub typed : Typed old.parts new.parts
@@ -258,15 +331,15 @@ pub record StepsOnce (c : ℕ) (old new : Board) : Type 0 where
   pub steps : StepChanges c freed (step c freed).0
   pub stops : ProcessorChanges c (λ p. record p { stopped = true; skip = false }) (step c freed).0 new
 
--- ---- every event
+-- ---- every event; of a step where the rules hold
 abbrev pub ChangesOnly : Event → Board → Board → Type 0
-ChangesOnly (Step c) old new = StepChanges c old new
+ChangesOnly (Step c) old new = Good old.parts → StepChanges c old new
 ChangesOnly Tick old new = ClockTicks old new
 ChangesOnly (Raise c l) old new = LineRaised c l old new
 ChangesOnly (Bell c l) old new = LineRaised c l old new
 ChangesOnly (Stop c) old new = ProcessorChanges c (λ p. record p { stopped = true }) old new
 ChangesOnly (Go c) old new = ProcessorChanges c (λ p. record p { stopped = false; skip = true }) old new
-ChangesOnly (StepI c) old new = StepsOnce c old new
+ChangesOnly (StepI c) old new = Good old.parts → StepsOnce c old new
 ChangesOnly (SetReg c r value) old new = CurrentChanges c (λ hart. record hart { regs = with_register hart.regs r value }) old new
 ChangesOnly (SetPc c pc) old new = CurrentChanges c (λ hart. record hart { pc = pc }) old new
 ChangesOnly (Poke address bytes) old new = RamChanges address bytes.items old new

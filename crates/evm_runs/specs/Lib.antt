@@ -1,5 +1,6 @@
 pub mod Balance
 pub mod Changes
+pub mod Due
 pub mod First
 pub mod Fit
 pub mod Kept

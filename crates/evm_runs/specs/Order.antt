@@ -14,6 +14,7 @@ use Rattle.evm_model.specs.Tasks.{set_state, leave_in_band}
 use Rattle.evm_model.specs.Waits.{wake}
 use Rattle.evm_model.specs.declared.event.Answer.TheVariants.{Received}
 use Rattle.evm_model.specs.declared.event.Event.TheVariants.{Step}
+use Rattle.evm_model.specs.declared.stage.Stage.{Stage}
 use Rattle.evm_model.specs.declared.stage.Stage.TheVariants.{InBand}
 use Rattle.evm_model.specs.declared.task.Task.{Task}
 use Rattle.evm_model.specs.declared.task.TaskState.{TaskState}
@@ -36,9 +37,9 @@ pub record Rise (p : Pipe) : Type 0 where
   pub oob : IsStrictlyIncreasing p.oob.lines
   pub inband : IsStrictlyIncreasing p.inband.lines
 
--- .. of each pipe, and still where a line is received
+-- .. of each pipe, and still where a line is received by either stage
 abbrev pub LinesRise : Type 0
-LinesRise = (l : ℕ) (p : Pipe) → IsPipe p → Rise p × Rise (receive l p)
+LinesRise = (stage : Stage) (l : ℕ) (p : Pipe) → IsPipe p → Rise p × Rise (receive stage l p)
 
 -- a stage that isn't stalled plays the lines of its log one after another
 pub record PlaysInOrder (was : Option ℕ) (c : ℕ) (pipe : Pipe) (k : Parts) : Type 0 where

@@ -7,7 +7,7 @@ use Rattle.evm_model.specs.Good.{is_ready}
 use Rattle.evm_model.specs.Harts.{A0, A7}
 use Rattle.evm_model.specs.State.{Parts}
 use Rattle.evm_model.specs.declared.call.Call.{Call}
-use Rattle.evm_model.specs.declared.call.Call.TheVariants.{Exit as Ends, Yield, WaitLine, Attach, Detach, SwitchInBand, SetSched, SetMode, Lock, SemGet, YieldOob}
+use Rattle.evm_model.specs.declared.call.Call.TheVariants.{Exit as Ends, Yield, WaitLine, Attach, Detach, SwitchInBand, SetSched, SetMode, Lock, SemGet, EventWait, FlagsWait, SleepUntil, TimerWait, YieldOob}
 use Rattle.evm_model.specs.declared.task.Task.{Task}
 
 -- what may change of a task
@@ -38,6 +38,10 @@ changes SetSched = record nothing { policy = true; slice = true }
 changes SetMode = record nothing { mode = true }
 changes Lock = waiting
 changes SemGet = waiting
+changes EventWait = waiting
+changes FlagsWait = waiting
+changes SleepUntil = waiting
+changes TimerWait = waiting
 changes YieldOob = record nothing { stamp = true }
 changes _ = nothing
 

@@ -3,6 +3,7 @@
 
 ghost use Rattle.evm_runs.specs.Balance.{AlwaysBalances, AlwaysBalancesFresh, AlwaysBalancesLoaded};
 ghost use Rattle.evm_runs.specs.Changes.{EventsChangeOnly, RaisesOneLine};
+ghost use Rattle.evm_runs.specs.Due.{TimersExpireByNumber, WaitsEndByDeadline};
 ghost use Rattle.evm_runs.specs.First.{AlwaysFindsFirst};
 ghost use Rattle.evm_runs.specs.Fit.{CountsAlwaysFit, CountsAlwaysFitFresh, CountsAlwaysFitLoaded, HoldsAlwaysFit, HoldsAlwaysFitFresh, HoldsAlwaysFitLoaded};
 ghost use Rattle.evm_runs.specs.Kept.{SizesStay, StaysAsBooted, StaysAsLoaded};
@@ -122,4 +123,12 @@ pub fn stays_replay()
 pub fn loads_each_byte()
     ensures count { LoadsSoManyBytes }
     ensures each { LoadsEachByte }
+{}
+
+/// Where each event for which a task waits has a mutex, and a task that doesn't wait has no deadline: the waits on a
+/// processor whose deadlines have come end one after another, by deadline, then by number. Its timers that are due expire
+/// one after another, by number.
+pub fn goes_when_due()
+    ensures ends { WaitsEndByDeadline }
+    ensures expires { TimersExpireByNumber }
 {}

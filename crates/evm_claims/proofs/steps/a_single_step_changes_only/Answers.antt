@@ -7,6 +7,7 @@ use Rattle.evm_model.specs.declared.event.Event.TheVariants.{StepI}
 use Rattle.evm_model.specs.declared.processor.Processor.{Processor}
 use Rattle.evm_runs.specs.Changes.{StepsOnce}
 use Rattle.evm_claims.specs.Steps.{StepChangesOnly}
+use Rattle.evm_claims.proofs.Reached.{good}
 use Rattle.evm_claims.proofs.Stepped.{changes_only, moved}
 use Rattle.evm_claims.proofs.steps.a_single_step_changes_only.Goals as goal
 
@@ -26,7 +27,8 @@ as_step c old new b =
     rw (back, b.stops.rest) (moved (current c old.parts) c b.freed after old.parts.processors new.parts.processors others steps)
 
 pub returns-clause-changes : goal.returns-clause-changes
-returns-clause-changes c old new answer p e = as_step p old.board new.board (c.events_change_only.ensures old new (StepI p) answer e).board
+returns-clause-changes g boot old new answer c reached e =
+    as_step c old.board new.board ((g.events_change_only.ensures old new (StepI c) answer e).board (good g.rules_hold.ensures.booted g.rules_hold.ensures.loaded boot old reached).good)
 
 -- a processor whose bits were set so has them
 stands_still : (o : Option Processor) (p : Processor) → option_map (λ (q : Processor). record q { stopped = true; skip = false }) o ≡ Some p → (p.stopped ≡ true) × (p.skip ≡ false)
@@ -36,6 +38,6 @@ stands_still (Some q) p e =
     (sym (ap (λ (r : Processor). r.stopped) same), sym (ap (λ (r : Processor). r.skip) same))
 
 pub returns-clause-stops : goal.returns-clause-stops
-returns-clause-stops c old new answer p q e there =
-    let b = (c.events_change_only.ensures old new (StepI p) answer e).board in
+returns-clause-stops g boot old new answer c q reached e there =
+    let b = (g.events_change_only.ensures old new (StepI c) answer e).board (good g.rules_hold.ensures.booted g.rules_hold.ensures.loaded boot old reached).good in
     stands_still _ q (sym b.stops.processors.here ∙ there)

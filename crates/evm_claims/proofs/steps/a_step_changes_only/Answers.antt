@@ -1,6 +1,8 @@
 use Rattle.evm_model.specs.declared.event.Event.TheVariants.{Step}
+use Rattle.evm_claims.proofs.Reached.{good}
 use Rattle.evm_claims.proofs.Stepped.{changes_only}
 use Rattle.evm_claims.proofs.steps.a_step_changes_only.Goals as goal
 
 pub returns : goal.returns
-returns c old new answer p e = changes_only p old.board new.board (c.events_change_only.ensures old new (Step p) answer e).board
+returns g boot old new answer c reached e =
+    changes_only c old.board new.board ((g.events_change_only.ensures old new (Step c) answer e).board (good g.rules_hold.ensures.booted g.rules_hold.ensures.loaded boot old reached).good)
