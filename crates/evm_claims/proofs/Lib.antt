@@ -1,4 +1,5 @@
 pub mod Leads
+pub mod Moved
 pub mod Ranking
 pub mod Reached
 pub mod Settled

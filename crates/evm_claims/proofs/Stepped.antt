@@ -1,6 +1,6 @@
 -- What the law of steps says, in the words of the claims.
 use Rattle.std.proofs.Common.{◌≡◌, ◌≢◌, ℕ, List, Bool, true, false, ◌&&◌, Option, Some, None, slice_get, ◌⊎◌, inl, inr, refl, ap, sym, ◌∙◌, arith}
-use Rattle.std.specs.Prelude.{option_map, not, nat_le, ◌==◌, ◌^◌, ◌-◌, ◌≤◌, length}
+use Rattle.std.specs.Prelude.{option_map, not, nat_le, ◌==◌, ◌≤◌}
 use Rattle.std.proofs.lemmas.Bool.{cases_eq}
 use Rattle.std.proofs.lemmas.Bool.Decides.{nat_tests}
 use Rattle.evm_exec.specs.declared.hart.Hart.{Hart}
@@ -20,7 +20,6 @@ use Rattle.evm_model.specs.Timers.{is_due_timer}
 use Rattle.evm_model.specs.declared.action.Action.{Action}
 use Rattle.evm_model.specs.declared.action.Action.TheVariants.{Puts, Posts}
 use Rattle.evm_model.specs.declared.mutex.Mutex.{Mutex}
-use Rattle.evm_model.specs.declared.processor.Processor.{Processor}
 use Rattle.evm_model.specs.declared.task.Class.{Class}
 use Rattle.evm_model.specs.declared.task.Class.TheVariants.{Unattached, Weak}
 use Rattle.evm_model.specs.declared.task.Task.{Task}
@@ -324,93 +323,4 @@ changes_only c old new b = record {
   ];
   line_mutexes = λ l m pipe before there on is. line_mutexes_of old.parts.mutexes new.parts.mutexes (b.hears (record { pipe = pipe; line = l; there = there; on = on })).2.0 m before is;
   line_count = λ l pipe there on. (b.hears (record { pipe = pipe; line = l; there = there; on = on })).2.1;
-}
-
--- ---- bits of processors are nothing that it speaks of
-module _ (runs : Option ℕ) (c t : ℕ) (memory : Memory) (old new : Parts) (before after : List Processor) where
-  abbrev old' : Parts
-  old' = record old { processors = before }
-
-  abbrev new' : Parts
-  new' = record new { processors = after }
-
-  moved_ends : (e answer : ℕ) (task : Task) → EventEnds runs c e memory old task answer → EventEnds runs c e memory old' task answer
-  moved_ends e _ task (by_signal caller hart call number is) = by_signal caller hart call number is
-  moved_ends e _ task (by_time come) = by_time come
-
-  moved_why : (task : Task) (state : TaskState) (wait : Wait) (answer : ℕ) → WokenBy runs c t memory old new task state wait answer → WokenBy runs c t memory old' new' task state wait answer
-  moved_why task state _ _ (by_line l home there) = by_line l home there
-  moved_why task state _ _ (by_owner m giver own had has) = by_owner m giver own had has
-  moved_why task state _ _ (by_owner_back m answer giver own had has) = by_owner_back m answer giver own had has
-  moved_why task state _ _ (by_event e m answer named has ends) = by_event e m answer named has (moved_ends e answer task ends)
-  moved_why task state _ _ (by_sleep come awake) = by_sleep come awake
-  moved_why task state _ _ (by_deadline wait sleep event come awake) = by_deadline wait sleep event come awake
-  moved_why task state _ _ (by_put caller hart call number awake) = by_put caller hart call number awake
-  moved_why task state _ _ (by_line_put l s acts awake) = by_line_put l s acts awake
-  moved_why task state _ _ (by_post caller hart word call number had awake) = by_post caller hart word call number had awake
-  moved_why task state _ _ (by_line_post l f word acts awake) = by_line_post l f word acts awake
-  moved_why task state _ _ (by_timer n timer set come home there awake) = by_timer n timer set come home there awake
-
-  moved_wakes : (task : Task) (hart : Hart) → Wakes runs c t memory old new task hart → Wakes runs c t memory old' new' task hart
-  moved_wakes task hart w = record {
-    wait = w.wait;
-    state = w.state;
-    stamp = w.stamp;
-    answer = w.answer;
-    on = w.on;
-    by = moved_why task w.state w.wait w.answer w.by;
-    later = w.later;
-    task_is = w.task_is;
-    hart_is = w.hart_is;
-  }
-
-  moved_waits : (task : Task) (hart : Hart) → WaitsAgain runs c t memory old new task hart → WaitsAgain runs c t memory old' new' task hart
-  moved_waits task hart w = record {
-    event = w.event;
-    mutex = w.mutex;
-    stamp = w.stamp;
-    answer = w.answer;
-    on = w.on;
-    named = w.named;
-    ends = moved_ends w.event w.answer task w.ends;
-    later = w.later;
-    task_is = w.task_is;
-    hart_is = w.hart_is;
-  }
-
-pub moved : (runs : Option ℕ) (c : ℕ) (x y : Board) (before after : List Processor) → ((d : ℕ) → d ≢ c → slice_get after d ≡ slice_get before d) → StepChangesOnly runs c x y
-    → StepChangesOnly runs c (record x { parts = record x.parts { processors = before } }) (record y { parts = record y.parts { processors = after } })
-moved runs c x y before after others s = record {
-  ticks = s.ticks;
-  stamps = s.stamps;
-  breakpoints = s.breakpoints;
-  processors = others;
-  pipes = s.pipes;
-  ram = s.ram;
-  written = s.written;
-  console = s.console;
-  tasks = λ t task hart other there at.
-      let g = s.tasks t task hart other there at in (
-        g.0,
-        (
-          g.1.0,
-          elim g.1.1 [
-            | inl stands ↦ inl stands
-            | inr (inl w) ↦ inr (inl (moved_wakes runs c t x.memory x.parts y.parts before after g.0 hart w))
-            | inr (inr w) ↦ inr (inr (moved_waits runs c t x.memory x.parts y.parts before after g.0 hart w))
-          ],
-        ),
-      );
-  line_tasks = λ l t pipe task hart there on is at. elim (s.line_tasks l t pipe task hart there on is at) [
-    | inl stands ↦ inl stands
-    | inr (inl w) ↦ inr (inl (moved_wakes None c t x.memory x.parts y.parts before after task hart w))
-    | inr (inr (inl w)) ↦ inr (inr (inl (moved_waits None c t x.memory x.parts y.parts before after task hart w)))
-    | inr (inr (inr q)) ↦ inr (inr (inr q))
-  ];
-  counts = s.counts;
-  new_task = s.new_task;
-  mutexes = s.mutexes;
-  new_mutex = s.new_mutex;
-  line_mutexes = s.line_mutexes;
-  line_count = s.line_count;
 }

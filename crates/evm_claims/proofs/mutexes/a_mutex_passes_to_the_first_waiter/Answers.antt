@@ -13,7 +13,7 @@ use Rattle.evm_model.specs.Waits.{is_wait_for, awaits_task, awaits, first_waiter
 use Rattle.evm_model.specs.declared.mutex.Mutex.{Mutex}
 use Rattle.evm_model.specs.declared.task.Task.{Task}
 use Rattle.evm_model.specs.declared.task.TaskState.{TaskState}
-use Rattle.evm_model.specs.declared.task.TaskState.TheVariants.{OobReady, Waits}
+use Rattle.evm_model.specs.declared.task.TaskState.TheVariants.{OobReady}
 use Rattle.evm_model.specs.declared.task.Wait.TheVariants.{Lock, Reacquire}
 use Rattle.evm_model.proofs.Lists.{change-here, change-elsewhere}
 use Rattle.evm_rules.proofs.Passing.{first-locked}

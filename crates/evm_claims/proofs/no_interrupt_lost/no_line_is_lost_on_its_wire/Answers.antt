@@ -1,5 +1,6 @@
 use Rattle.std.proofs.Common.{◌≡◌, ℕ, List, [], ◌∷◌, Option, Some, None, slice_get, refl, ap}
 use Rattle.evm_lines.specs.Lines.{all_lines, with_line, without_line}
+use Rattle.evm_model.specs.Actions.{receive_line}
 use Rattle.evm_model.specs.Waits.{wake_below}
 use Rattle.evm_model.specs.Pipes.{Pipe, raise, arrive, leave_wire, receive, play}
 use Rattle.evm_model.specs.Ranks.{best, first, next_in_band}
@@ -63,11 +64,11 @@ pub returns-clause-on_the_wire : goal.returns-clause-on_the_wire
 returns-clause-on_the_wire c ram pipe n here there = read_off (counted 2 1 0 0 0) (5 ∷ []) _ pipe n (twice ram) (waits ram) here there
 
 then_received : (ram : ℕ) → counts_of (slice_get (replay (start (record { cpus = 1; ram = ram; capacity = 8 })) (Raise 0 5 ∷ Raise 0 5 ∷ Step 0 ∷ [])).board.parts.pipes 0) ≡ Some (counted 2 1 1 1 1)
-unfolding replay apply row step board_refusal booted booted_parts raise arrive leave_wire receive play with_line without_line all_lines best first next_in_band settle.play_oob settle.play_in_band settle.play_oob_lines settle.play_in_band_lines settle.settle_oob settle.turn_in_band settle.settle_in_band settle.settle settle.nudge settle.settle_and_nudge wake_below
+unfolding replay apply row step receive_line board_refusal booted booted_parts raise arrive leave_wire receive play with_line without_line all_lines best first next_in_band settle.play_oob settle.play_in_band settle.play_oob_lines settle.play_in_band_lines settle.settle_oob settle.turn_in_band settle.settle_in_band settle.settle settle.nudge settle.settle_and_nudge wake_below
 then_received ram = refl
 
 then_off : (ram : ℕ) → wire_of (slice_get (replay (start (record { cpus = 1; ram = ram; capacity = 8 })) (Raise 0 5 ∷ Raise 0 5 ∷ Step 0 ∷ [])).board.parts.pipes 0) ≡ []
-unfolding replay apply row step board_refusal booted booted_parts raise arrive leave_wire receive play with_line without_line all_lines best first next_in_band settle.play_oob settle.play_in_band settle.play_oob_lines settle.play_in_band_lines settle.settle_oob settle.turn_in_band settle.settle_in_band settle.settle settle.nudge settle.settle_and_nudge wake_below
+unfolding replay apply row step receive_line board_refusal booted booted_parts raise arrive leave_wire receive play with_line without_line all_lines best first next_in_band settle.play_oob settle.play_in_band settle.play_oob_lines settle.play_in_band_lines settle.settle_oob settle.turn_in_band settle.settle_in_band settle.settle settle.nudge settle.settle_and_nudge wake_below
 then_off ram = refl
 
 pub returns-clause-received : goal.returns-clause-received

@@ -1,0 +1,98 @@
+-- What a Step changes, while bits of processors change beside.
+use Rattle.std.proofs.Common.{◌≡◌, ◌≢◌, ℕ, List, Option, None, slice_get, inl, inr}
+use Rattle.evm_exec.specs.declared.hart.Hart.{Hart}
+use Rattle.evm_model.specs.State.{Board, Memory, Parts}
+use Rattle.evm_model.specs.declared.processor.Processor.{Processor}
+use Rattle.evm_model.specs.declared.task.Task.{Task}
+use Rattle.evm_model.specs.declared.task.TaskState.{TaskState}
+use Rattle.evm_model.specs.declared.task.Wait.{Wait}
+use Rattle.evm_claims.specs.Steps.{EventEnds, by_signal, by_time, WaitsAgain, Wakes, WokenBy, by_line, by_owner, by_owner_back, by_event, by_sleep, by_deadline, by_put, by_line_put, by_post, by_line_post, by_timer, StepChangesOnly}
+
+-- ---- bits of processors are nothing that it speaks of
+module _ (runs : Option ℕ) (c t : ℕ) (memory : Memory) (old new : Parts) (before after : List Processor) where
+  abbrev old' : Parts
+  old' = record old { processors = before }
+
+  abbrev new' : Parts
+  new' = record new { processors = after }
+
+  moved_ends : (e answer : ℕ) (task : Task) → EventEnds runs c e memory old task answer → EventEnds runs c e memory old' task answer
+  moved_ends e _ task (by_signal caller hart call number is) = by_signal caller hart call number is
+  moved_ends e _ task (by_time come) = by_time come
+
+  moved_why : (task : Task) (state : TaskState) (wait : Wait) (answer : ℕ) → WokenBy runs c t memory old new task state wait answer → WokenBy runs c t memory old' new' task state wait answer
+  moved_why task state _ _ (by_line l home there) = by_line l home there
+  moved_why task state _ _ (by_owner m giver own had has) = by_owner m giver own had has
+  moved_why task state _ _ (by_owner_back m answer giver own had has) = by_owner_back m answer giver own had has
+  moved_why task state _ _ (by_event e m answer named has ends) = by_event e m answer named has (moved_ends e answer task ends)
+  moved_why task state _ _ (by_sleep come awake) = by_sleep come awake
+  moved_why task state _ _ (by_deadline wait sleep event come awake) = by_deadline wait sleep event come awake
+  moved_why task state _ _ (by_put caller hart call number awake) = by_put caller hart call number awake
+  moved_why task state _ _ (by_line_put l s acts awake) = by_line_put l s acts awake
+  moved_why task state _ _ (by_post caller hart word call number had awake) = by_post caller hart word call number had awake
+  moved_why task state _ _ (by_line_post l f word acts awake) = by_line_post l f word acts awake
+  moved_why task state _ _ (by_timer n timer set come home there awake) = by_timer n timer set come home there awake
+
+  moved_wakes : (task : Task) (hart : Hart) → Wakes runs c t memory old new task hart → Wakes runs c t memory old' new' task hart
+  moved_wakes task hart w = record {
+    wait = w.wait;
+    state = w.state;
+    stamp = w.stamp;
+    answer = w.answer;
+    on = w.on;
+    by = moved_why task w.state w.wait w.answer w.by;
+    later = w.later;
+    task_is = w.task_is;
+    hart_is = w.hart_is;
+  }
+
+  moved_waits : (task : Task) (hart : Hart) → WaitsAgain runs c t memory old new task hart → WaitsAgain runs c t memory old' new' task hart
+  moved_waits task hart w = record {
+    event = w.event;
+    mutex = w.mutex;
+    stamp = w.stamp;
+    answer = w.answer;
+    on = w.on;
+    named = w.named;
+    ends = moved_ends w.event w.answer task w.ends;
+    later = w.later;
+    task_is = w.task_is;
+    hart_is = w.hart_is;
+  }
+
+pub moved : (runs : Option ℕ) (c : ℕ) (x y : Board) (before after : List Processor) → ((d : ℕ) → d ≢ c → slice_get after d ≡ slice_get before d) → StepChangesOnly runs c x y
+    → StepChangesOnly runs c (record x { parts = record x.parts { processors = before } }) (record y { parts = record y.parts { processors = after } })
+moved runs c x y before after others s = record {
+  ticks = s.ticks;
+  stamps = s.stamps;
+  breakpoints = s.breakpoints;
+  processors = others;
+  pipes = s.pipes;
+  ram = s.ram;
+  written = s.written;
+  console = s.console;
+  tasks = λ t task hart other there at.
+      let g = s.tasks t task hart other there at in (
+        g.0,
+        (
+          g.1.0,
+          elim g.1.1 [
+            | inl stands ↦ inl stands
+            | inr (inl w) ↦ inr (inl (moved_wakes runs c t x.memory x.parts y.parts before after g.0 hart w))
+            | inr (inr w) ↦ inr (inr (moved_waits runs c t x.memory x.parts y.parts before after g.0 hart w))
+          ],
+        ),
+      );
+  line_tasks = λ l t pipe task hart there on is at. elim (s.line_tasks l t pipe task hart there on is at) [
+    | inl stands ↦ inl stands
+    | inr (inl w) ↦ inr (inl (moved_wakes None c t x.memory x.parts y.parts before after task hart w))
+    | inr (inr (inl w)) ↦ inr (inr (inl (moved_waits None c t x.memory x.parts y.parts before after task hart w)))
+    | inr (inr (inr q)) ↦ inr (inr (inr q))
+  ];
+  counts = s.counts;
+  new_task = s.new_task;
+  mutexes = s.mutexes;
+  new_mutex = s.new_mutex;
+  line_mutexes = s.line_mutexes;
+  line_count = s.line_count;
+}
