@@ -13,6 +13,7 @@ pub mod Kept
 pub mod Least
 pub mod Named
 pub mod Nudged
+pub mod Objects
 pub mod Order
 pub mod Own
 pub mod Own_objects
