@@ -24,3 +24,4 @@ pub mod Runs
 pub mod Sooner
 pub mod Steps
 pub mod Turns
+pub mod Woken
