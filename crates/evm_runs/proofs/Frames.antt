@@ -55,7 +55,7 @@ pub record Frame (a : Actor) (old k : Parts) : Type 0 where
   pub mutexes : MutexesStay a.task old.mutexes k.mutexes
 
 -- a task that isn't ready in-band was there as it is, if it rested
-was_there : (t : ℕ) (old k : Parts) (x : Task) → slice_get k.tasks t ≡ Some x → is_in_ready x.state ≡ false → (is_in_ready x.state ≡ true) ⊎ IsThere t old.tasks → Rests t old k → slice_get old.tasks t ≡ Some x
+pub was_there : (t : ℕ) (old k : Parts) (x : Task) → slice_get k.tasks t ≡ Some x → is_in_ready x.state ≡ false → (is_in_ready x.state ≡ true) ⊎ IsThere t old.tasks → Rests t old k → slice_get old.tasks t ≡ Some x
 was_there t old k x e w (inl ready) r = let no : true ≡ false = sym ready ∙ w in cc
 was_there t old k x e w (inr b) r = let two : Some b.task ≡ Some x = sym (r.task b.task b.there) ∙ e in b.there ∙ two
 
