@@ -1,11 +1,12 @@
 -- The sentence of a file that is no image: what is wrong there, if more is known than the kind of its fault.
-use Rattle.std.specs.Prelude.{ℕ, ◌^◌, ◌-◌, ◌==◌, ◌++◌, nat_lt, List, Option, Some, None, codes, if◌then◌else◌}
+use Rattle.std.specs.Prelude.{ℕ, ◌^◌, ◌-◌, ◌==◌, ◌++◌, nat_eq, nat_lt, List, Option, Some, None, codes, if◌then◌else◌}
+use Rattle.std.specs.List.{starts_with}
 use Rattle.evm_serve.specs.evm_text.Written.{decimal, hexadecimal}
 use Rattle.evm_serve.specs.evm_elf.Details.{image_detail, hint_of}
 use Rattle.evm_serve.specs.evm_elf.Sentences.{elf_sentence}
 use Rattle.evm_serve.specs.evm_elf.declared.fault.ElfFault.{ElfFault}
 use Rattle.evm_serve.specs.evm_elf.declared.detail.ImageDetail.{ImageDetail}
-use Rattle.evm_serve.specs.evm_elf.declared.detail.ImageDetail.TheVariants.{Machine, HeaderSize, HeaderCut, Cut, Outside, Entry}
+use Rattle.evm_serve.specs.evm_elf.declared.detail.ImageDetail.TheVariants.{Machine, Compressed, HeaderSize, HeaderCut, Cut, Outside, Entry}
 
 -- a file for another machine; 62 is x86-64
 abbrev pub machine_sentence : ℕ → List ℕ
@@ -21,19 +22,32 @@ abbrev pub hint_or_kind : ElfFault → Option (List ℕ) → List ℕ
 hint_or_kind fault (Some hint) = hint
 hint_or_kind fault None = elf_sentence fault
 
+-- where a segment is outside that begins at this address
+abbrev pub outside_words : ℕ → List ℕ
+outside_words start =
+    if nat_lt start (2 ^ 31) then codes " is outside 80000000..81000000; link with kit/link.ld"
+    else codes " is outside 80000000..81000000; RAM has at most 16777216 bytes"
+
 abbrev pub detail_sentence : ElfFault → ImageDetail → List ℕ
 detail_sentence fault (Machine n) = machine_sentence n
 detail_sentence fault (HeaderSize n) = codes "its program headers have " ++ (decimal n ++ codes " bytes each; they must have 56")
 detail_sentence fault (HeaderCut i) = codes "the file is cut: it ends before program header " ++ (decimal i ++ codes " does")
 detail_sentence fault (Cut i end) = codes "the file is cut: segment " ++ (decimal i ++ (codes " ends at byte " ++ (decimal (below_2_64 end) ++ codes ", past the end of the file")))
 detail_sentence fault (Outside i start end) =
-    codes "the segment at " ++ (hexadecimal start ++ (codes ".." ++ (hexadecimal (below_2_64 end) ++ codes " is outside 80000000..81000000; link with kit/link.ld")))
+    codes "the segment at " ++ (hexadecimal start ++ (codes ".." ++ (hexadecimal (below_2_64 end) ++ outside_words start)))
 detail_sentence fault (Entry address) = codes "the entry " ++ (hexadecimal address ++ codes " is outside 80000000..81000000, or is not a multiple of 4")
+detail_sentence fault Compressed = codes "it has compressed instructions; compile with -march=rv64i -mabi=lp64"
 detail_sentence fault detail = hint_or_kind fault (hint_of detail)
 
 abbrev pub detail_or_kind : ElfFault → Option ImageDetail → List ℕ
 detail_or_kind fault (Some detail) = detail_sentence fault detail
 detail_or_kind fault None = elf_sentence fault
 
+-- a file that is no journal
+abbrev pub file_sentence : List ℕ → ElfFault → List ℕ
+file_sentence file fault = detail_or_kind fault (image_detail file fault)
+
 abbrev pub image_sentence : List ℕ → ElfFault → List ℕ
-image_sentence file fault = detail_or_kind fault (image_detail file fault)
+image_sentence file fault =
+    if starts_with nat_eq file (codes "evl-journal ") then codes "it is a journal, not an image; the order is `replay IMAGE JOURNAL`"
+    else file_sentence file fault

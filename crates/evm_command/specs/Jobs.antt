@@ -9,6 +9,8 @@ use Rattle.evm_image.specs.Images.{Contents}
 use Rattle.evm_serve.specs.evm_asm.Assembled.{program_of}
 use Rattle.evm_serve.specs.evm_asm_lexer.Faults.{reported}
 use Rattle.evm_serve.specs.Given.{Given, an_image, nothing}
+use Rattle.evm_serve.specs.Message.{about, Reports, ReportsAll}
+use Rattle.evm_serve.specs.Notes.{notes, EndsNotes}
 use Rattle.evm_serve.specs.Told.{told}
 use Rattle.evm_serve.specs.Serving.{Finishes, Unread}
 use Rattle.evm_serve.specs.Replaying.{replay_told}
@@ -17,7 +19,7 @@ use Rattle.evm_serve.specs.Imaging.{Checks}
 use Rattle.evm_serve.specs.declared.ending.Ending.{Ending}
 use Rattle.evm_command.specs.declared.system.OpenFault.{OpenFault}
 use Rattle.evm_command.specs.declared.system.World.{World}
-use Rattle.evm_command.specs.Telling.{about, program_name, script_name, input_name, not_opened_text, not_created_text, Source, Lines, File, Tells, Ended, EndedWith}
+use Rattle.evm_command.specs.Exit.{program_name, script_name, input_name, not_opened_text, not_created_text, Source, Lines, File, Ended, EndedWith, out_texts}
 
 module _ {S O C I W E : Type 0} where
   -- no file is asked for, and standard input is not read
@@ -31,7 +33,7 @@ module _ {S O C I W E : Type 0} where
 
   -- Words that are no text end a run with status 2.
   abbrev pub NotWords : (E → Writing → List ℕ → E → Type 0) → World S O C I W E → World S O C I W E → ℕ → Type 0
-  NotWords tells w w' status = AsksNothing w w' × ((w'.output ≡ w.output) × Tells tells (about program_name (codes "a word of the command line is not UTF-8")) w.errors w'.errors × (status ≡ 2))
+  NotWords tells w w' status = AsksNothing w w' × ((w'.output ≡ w.output) × Reports tells (about program_name (codes "a word of the command line is not UTF-8")) w.errors w'.errors × (status ≡ 2))
 
   -- An input that can't be read ends a job, and nothing else is asked for; where memory was refused, the line `memory` is written.
   abbrev pub NotRead : (W → Writing → List ℕ → W → Type 0) → (E → Writing → List ℕ → E → Type 0) → List ℕ → ReadStop → World S O C I W E → World S O C I W E → ℕ → Type 0
@@ -39,7 +41,7 @@ module _ {S O C I W E : Type 0} where
 
   -- A file that can't be opened or created ends a job with status 4: standard error is told its name and why, and nothing else is asked for.
   abbrev pub NotOpened : (E → Writing → List ℕ → E → Type 0) → List ℕ → World S O C I W E → World S O C I W E → ℕ → Type 0
-  NotOpened tells text w w' status = AsksNothing w w' × ((w'.output ≡ w.output) × Tells tells text w.errors w'.errors × (status ≡ 4))
+  NotOpened tells text w w' status = AsksNothing w w' × ((w'.output ≡ w.output) × Reports tells text w.errors w'.errors × (status ≡ 4))
 
 module _ {S O C I W E : Type 0} (creates : S → List ℕ → Result C OpenFault → S → Type 0) (created : C → Writing → List ℕ → C → Type 0)
     (writes : W → Writing → List ℕ → W → Type 0) (tells : E → Writing → List ℕ → E → Type 0) where
@@ -47,7 +49,8 @@ module _ {S O C I W E : Type 0} (creates : S → List ℕ → Result C OpenFault
   abbrev pub AssemblesSource : List ℕ → List ℕ → List ℕ → Result C OpenFault → World S O C I W E → World S O C I W E → ℕ → Type 0
   AssemblesSource source out text (Err fault) w w' status = NotOpened tells (not_created_text out fault) w w' status
   AssemblesSource source out text (Ok file) w w' status = AsksNothing w w' × ((ending : Ending) × (file' : C)
-      × Assembles created writes (reported (program_of text)) file file' w.output w'.output ending × EndedWith tells (Source text) source ending w.errors w'.errors status)
+      × (between : E) × Assembles created writes (reported (program_of text)) file file' w.output w'.output ending × EndedWith tells (Source text) source ending w.errors between status
+      × ReportsAll tells (out_texts source out ending) between w'.errors)
 
   -- OUT is created for a source that was read
   abbrev pub Creates : List ℕ → List ℕ → List ℕ → World S O C I W E → World S O C I W E → ℕ → Type 0
@@ -85,10 +88,11 @@ module _ {S O C I W E : Type 0} (writes : W → Writing → List ℕ → W → T
   ImportsBytes path file w w' (Ok image) = AsksNothing w w' × Checks writes file w.output w'.output (Ok image) × (w'.errors ≡ w.errors)
   ImportsBytes path file w w' (Err status) = AsksNothing w w' × ((ending : Ending) × Checks writes file w.output w'.output (Err ending) × EndedWith tells (File file) path ending w.errors w'.errors status)
 
-  -- a script is served, with what is given to its run
+  -- a script is served, with what is given to its run; its notes come before its ending
   abbrev pub ServesScript : Given → List ℕ → World S O C I W E → World S O C I W E → ℕ → Type 0
   ServesScript given script w w' status = AsksNothing w w' × ((ending : Ending)
-      × Finishes writes (told given script) w.output w'.output ending × EndedWith tells (Lines given.image script) script_name ending w.errors w'.errors status)
+      × (between : E) × Finishes writes (told given script) w.output w'.output ending × EndsNotes tells (notes given script_name script) ending w.errors between
+      × EndedWith tells (Lines given.image script) script_name ending between w'.errors status)
 
   abbrev pub ServesRead : Given → Result (List ℕ) ReadStop → World S O C I W E → World S O C I W E → ℕ → Type 0
   ServesRead given (Ok script) w w' status = ServesScript given script w w' status

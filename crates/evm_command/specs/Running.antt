@@ -15,7 +15,7 @@ use Rattle.evm_command.specs.declared.command.WordsFault.TheVariants.{NotText}
 use Rattle.evm_command.specs.declared.command.WordsFault.TheVariants as faults
 use Rattle.evm_command.specs.declared.system.OpenFault.{OpenFault}
 use Rattle.evm_command.specs.declared.system.World.{World}
-use Rattle.evm_command.specs.Telling.{program_name, Ended}
+use Rattle.evm_command.specs.Exit.{program_name, Ended}
 use Rattle.evm_command.specs.Jobs.{AsksNothing, NotWords, NotRead, AssemblesFile, Runs, Replays}
 use Rattle.evm_command.specs.Words.{Wanted, Assemble, Run, Replay, evltool, job_of}
 

@@ -1,5 +1,5 @@
 -- The sentence of the fault of a source, from the line that has it, and what is quoted of the line.
-use Rattle.std.specs.Prelude.{ℕ, ◌-◌, ◌==◌, ◌++◌, nat_le, List, length, drop, Option, Some, None, codes, if◌then◌else◌}
+use Rattle.std.specs.Prelude.{ℕ, ◌-◌, ◌==◌, ◌&&◌, ◌++◌, nat_le, List, length, drop, Option, Some, None, codes, if◌then◌else◌}
 use Rattle.evm_serve.specs.Lookup.{line_numbered}
 use Rattle.evm_serve.specs.evm_text.Written.{decimal}
 use Rattle.evm_serve.specs.evm_asm_lexer.Sentences.{asm_sentence}
@@ -12,7 +12,7 @@ use Rattle.evm_serve.specs.evm_asm_details.Details.{source_detail}
 use Rattle.evm_serve.specs.evm_asm_details.Quoting.{quoted}
 use Rattle.evm_serve.specs.evm_asm_details.declared.detail.SourceDetail.{SourceDetail}
 use Rattle.evm_serve.specs.evm_asm_details.declared.detail.SourceDetail.TheVariants.{Mnemonic, Directive, Register, Extension, Token, Operands, Range, Distance}
-use Rattle.evm_command.specs.Showing.{quoting}
+use Rattle.evm_serve.specs.Excerpt.{quoting}
 
 abbrev pub extension_sentence : Extended → List ℕ
 extension_sentence Multiply = codes "an instruction of the M extension; the machine is RV64I"
@@ -28,13 +28,25 @@ range_sentence below above =
     if below == 0 then codes "the number must be 0 to " ++ (decimal above ++ codes "")
     else codes "the number must be -" ++ (decimal below ++ (codes " to " ++ (decimal above ++ codes "")))
 
+-- a column at which no token or statement begins, by the byte there
+abbrev pub token_front : ℕ → List ℕ
+token_front byte =
+    if byte == 239 then codes "byte ef, which begins a byte order mark, is no token; save the file without one; column "
+    else (if byte == 34 then codes "there are no strings; write the bytes by .byte; column "
+    else (if byte == 39 then codes "there are no character constants; write the number; column "
+    else (if byte == 47 then codes "a comment begins with #; column "
+    else (if byte == 59 then codes "a statement is a line of its own, and a comment begins with #; column "
+    else (if byte == 37 then codes "there is no %hi and no %lo; use la; column "
+    else (if nat_le 48 byte && nat_le byte 57 then codes "a number is decimal or 0x and hexadecimal, and no label is a number; column "
+    else codes "no token or statement begins at column "))))))
+
 -- what is known of a fault beside its kind
 abbrev pub detail_sentence : SourceDetail → List ℕ
 detail_sentence Mnemonic = codes "unknown mnemonic"
 detail_sentence Directive = codes "unknown directive"
 detail_sentence Register = codes "unknown register"
 detail_sentence (Extension extension) = extension_sentence extension
-detail_sentence (Token column byte) = codes "no token or statement begins at column " ++ (decimal column ++ codes "")
+detail_sentence (Token column byte) = token_front byte ++ (decimal column ++ codes "")
 detail_sentence (Operands found wanted) =
     codes "the number of operands, separated by commas, must be " ++ (decimal wanted ++ (codes ", and is " ++ (decimal found ++ codes "")))
 detail_sentence (Range below above) = range_sentence below above

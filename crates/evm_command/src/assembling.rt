@@ -2,7 +2,7 @@
 
 ghost use Rattle.evm_command.specs.Jobs.{Creates, AssemblesFile};
 
-use crate::saying::{Known, ended_with, not_created, not_opened, not_read};
+use crate::exit::{Known, ended_with, not_created, not_opened, not_read, report_out};
 use crate::system::{System, World};
 use evm_serve::{assemble_to, read_utf8};
 use std::alloc::Global;
@@ -21,7 +21,9 @@ fn assemble_text<S: System>(
         Err(fault) => not_created(out, fault, &mut world.errors),
         Ok(mut file) => {
             let ending = assemble_to(alloc, text, &mut file, &mut world.output);
-            ended_with(Known::Source(text), source, &ending, &mut world.errors)
+            let status = ended_with(Known::Source(text), source, &ending, &mut world.errors);
+            report_out(source, out, &ending, &mut world.errors);
+            status
         }
     }
 }

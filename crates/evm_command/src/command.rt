@@ -7,9 +7,9 @@ ghost use Rattle.evm_command.specs.Running.{Shows, Blames, Says, Refuses, Does, 
 ghost use Rattle.evm_command.specs.Words.{wanted};
 
 use crate::assembling::assemble_file;
+use crate::exit::{FAILED, PROGRAM, USAGE, ended, memory_refused, words_not_read};
 use crate::replaying::replay;
 use crate::running::run;
-use crate::saying::{FAILED, PROGRAM, USAGE, ended, memory_refused, words_not_read};
 use crate::system::{System, World};
 use crate::words::{Job, job_of, parse};
 use clap::Error;
@@ -49,11 +49,35 @@ fn say<S: System>(kind: ErrorKind, text: &str, world: &mut World<S>) -> u8
     }
 }
 
+// What helps behind an error of a subcommand's words.
+fn subcommand_tip(subcommand: &str) -> &'static str {
+    if subcommand == "run" {
+        "\nA script is read from standard input, and there are no options: evltool run IMAGE < SCRIPT\n"
+    } else if subcommand == "replay" {
+        "\nFor the journal of a run without IMAGE, assemble an empty source and name its image.\n"
+    } else {
+        ""
+    }
+}
+
+// What helps behind an error of the words.
+fn tip(kind: ErrorKind, words: &[String]) -> &'static str {
+    match kind {
+        ErrorKind::InvalidSubcommand => "\nThe commands are asm, run, replay and help.\n",
+        ErrorKind::UnknownArgument | ErrorKind::MissingRequiredArgument => match words {
+            [_, subcommand, ..] => subcommand_tip(subcommand.as_str()),
+            _ => "",
+        },
+        _ => "",
+    }
+}
+
 // Ends a run whose words are no command, or ask for help or the version.
-fn refuse<S: System>(alloc: Global, error: &Error, world: &mut World<S>) -> u8
+fn refuse<S: System>(alloc: Global, error: &Error, words: &[String], world: &mut World<S>) -> u8
     ensures { Refuses S.Output.takes S.Errors.takes (kind_of error.now) world.old world.new result }
 {
-    match format!(in alloc; "{error}") {
+    let tip = tip(error.kind(), words);
+    match format!(in alloc; "{error}{tip}") {
         Ok(text) => say(error.kind(), text.as_str(), world),
         Err(_) => memory_refused(world),
     }
@@ -86,7 +110,7 @@ pub fn answer<S: System>(alloc: Global, words: &[String], world: &mut World<S>) 
 {
     match parse(alloc, words) {
         Ok(matches) => do_named(alloc, job_of(&matches), world),
-        Err(error) => refuse(alloc, &error, world),
+        Err(error) => refuse(alloc, &error, words, world),
     }
 }
 

@@ -19,7 +19,7 @@ Example:
 /// Behind the help of `asm`.
 pub(crate) const ASM_HELP: &str = "\
 A source has a statement on each line: labels, RV64I instructions, directives, # comments.
-If it has a fault, OUT is left empty. If OUT is SRC, the source is lost.
+If it has a fault, OUT is left empty. If OUT is SRC, the source is lost. Standard error says so.
 
 Statuses: 0 done, 1 a fault of the source, 2 wrong words, 4 a file can't be read or written
 
@@ -47,7 +47,7 @@ Commands:
   tick            the clock ticks: line 0 is raised on every processor
   raise C L       raises line L (0 to 31) on processor C
   bell C L        like raise; for interrupts from a worker thread, which are to come
-  stop C          stops processor C: its steps do nothing until go
+  stop C          stops processor C: its steps do nothing until go, which standard error says
   go C            lets it go on, past a breakpoint at its pc
   stepi C         one step of a stopped processor
   set C R V       sets a register (1 to 31) of the current task of a stopped processor
@@ -72,7 +72,9 @@ Views:
   console         the bytes that programs wrote
 
 EBREAK stops the processor behind the instruction. fault 0: the target of a jump is no multiple
-of 4; 1: fetch outside RAM; 2: not an RV64I instruction; 5, 7: load, store outside RAM.
+of 4; 1: fetch outside RAM; 2: not an RV64I instruction; 5, 7: load, store outside RAM. Standard
+error names each line step C N whose processor is stopped, and at the end each task that ended by
+a fault.
 
 Statuses: 0 done, 1 a line is bad or refused, 2 wrong words, 3 no image, 4 a failed read or write
 

@@ -2,7 +2,7 @@
 
 ghost use Rattle.std.specs.Prelude.{◌≡◌};
 ghost use Rattle.evm_serve.specs.Faults.{sentence_text};
-ghost use Rattle.evm_command.specs.ImageSentences.{machine_sentence, below_2_64, detail_sentence, image_sentence};
+ghost use Rattle.evm_command.specs.ImageSentences.{machine_sentence, below_2_64, outside_words, detail_sentence, file_sentence, image_sentence};
 
 use evm_serve::{ElfFault, ImageDetail, Number, Sentence, image_detail};
 
@@ -29,6 +29,17 @@ fn below_2_64(number: u128) -> u64
         number as u64
     } else {
         u64::MAX
+    }
+}
+
+// Where a segment is outside that begins at this address.
+fn outside_words(start: u64) -> &'static str
+    ensures { result.now ≡ outside_words start }
+{
+    if start < 0x8000_0000 {
+        " is outside 80000000..81000000; link with kit/link.ld"
+    } else {
+        " is outside 80000000..81000000; RAM has at most 16777216 bytes"
     }
 }
 
@@ -64,12 +75,15 @@ fn detail_sentence(fault: ElfFault, detail: ImageDetail) -> Sentence
             Number::Hexadecimal(start),
             "..",
             Number::Hexadecimal(below_2_64(end)),
-            " is outside 80000000..81000000; link with kit/link.ld",
+            outside_words(start),
         ),
         ImageDetail::Entry(address) => Sentence::OfOne(
             "the entry ",
             Number::Hexadecimal(address),
             " is outside 80000000..81000000, or is not a multiple of 4",
+        ),
+        ImageDetail::Compressed => Sentence::Plain(
+            "it has compressed instructions; compile with -march=rv64i -mabi=lp64",
         ),
         _ => Sentence::Plain(match detail.hint() {
             Some(hint) => hint,
@@ -78,12 +92,23 @@ fn detail_sentence(fault: ElfFault, detail: ImageDetail) -> Sentence
     }
 }
 
-/// The sentence of the fault of a file: what is wrong there, if more is known than its kind.
-pub(crate) fn image_sentence(file: &[u8], fault: ElfFault) -> Sentence
-    ensures { sentence_text result ≡ image_sentence file.now fault }
+// The sentence of the fault of a file that is no journal.
+fn file_sentence(file: &[u8], fault: ElfFault) -> Sentence
+    ensures { sentence_text result ≡ file_sentence file.now fault }
 {
     match image_detail(file, fault) {
         Some(detail) => detail_sentence(fault, detail),
         None => Sentence::Plain(fault.sentence()),
+    }
+}
+
+/// The sentence of the fault of a file: what is wrong there, if more is known than its kind.
+pub(crate) fn image_sentence(file: &[u8], fault: ElfFault) -> Sentence
+    ensures { sentence_text result ≡ image_sentence file.now fault }
+{
+    if file.starts_with(b"evl-journal ") {
+        Sentence::Plain("it is a journal, not an image; the order is `replay IMAGE JOURNAL`")
+    } else {
+        file_sentence(file, fault)
     }
 }

@@ -3,17 +3,15 @@
 
 mod assembling;
 mod command;
+mod exit;
 mod help;
 mod host;
 mod image_sentence;
 mod loading;
 mod replaying;
 mod running;
-mod saying;
-mod showing;
 mod source_sentence;
 mod system;
-mod telling;
 mod words;
 
 pub use command::{WordsFault, answer, answer_read};

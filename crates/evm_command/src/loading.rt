@@ -2,7 +2,7 @@
 
 ghost use Rattle.evm_command.specs.Jobs.{ImportsBytes, Loads};
 
-use crate::saying::{Known, ended_with, not_opened, not_read};
+use crate::exit::{Known, ended_with, not_opened, not_read};
 use crate::system::{System, World};
 use evm_image::Image;
 use evm_serve::{import_bytes, read_all};

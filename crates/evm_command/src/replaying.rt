@@ -2,8 +2,8 @@
 
 ghost use Rattle.evm_command.specs.Jobs.{ReplaysText, ReplaysJournal, Replays};
 
+use crate::exit::{Known, ended_with, not_opened, not_read};
 use crate::loading::image_at;
-use crate::saying::{Known, ended_with, not_opened, not_read};
 use crate::system::{System, World};
 use evm_image::Image;
 use evm_serve::{Given, read_utf8, replay_text};

@@ -4,10 +4,10 @@ ghost use Rattle.std.specs.Prelude.{option_copied};
 ghost use Rattle.evm_serve.specs.Given.{given_of};
 ghost use Rattle.evm_command.specs.Jobs.{ServesScript, ServesInput, RunsImage, Runs};
 
+use crate::exit::{Known, ended_with, not_read};
 use crate::loading::image_at;
-use crate::saying::{Known, ended_with, not_read};
 use crate::system::{System, World};
-use evm_serve::{Given, read_all, serve_script};
+use evm_serve::{Given, read_all, run_script};
 use std::alloc::Global;
 
 /// The name of the script in front of its lines.
@@ -20,7 +20,14 @@ const INPUT: &str = "standard input";
 fn serve_text<S: System>(alloc: Global, given: Given<'_>, script: &[u8], world: &mut World<S>) -> u8
     ensures { ServesScript S.Output.takes S.Errors.takes (given_of given.entry) script.now world.old world.new result }
 {
-    let ending = serve_script(alloc, script, &mut world.output, given);
+    let ending = run_script(
+        alloc,
+        given,
+        SCRIPT,
+        script,
+        &mut world.output,
+        &mut world.errors,
+    );
     ended_with(
         Known::Lines(given.image, script),
         SCRIPT,

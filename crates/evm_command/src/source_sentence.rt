@@ -2,13 +2,12 @@
 
 ghost use Rattle.std.specs.Prelude.{◌≡◌, option_copied};
 ghost use Rattle.evm_serve.specs.Faults.{sentence_text};
-ghost use Rattle.evm_command.specs.Telling.{words_text};
-ghost use Rattle.evm_command.specs.SourceSentences.{extension_sentence, range_sentence, detail_sentence, kind_sentence, from_column, quoted_part, before_quote, source_words};
+ghost use Rattle.evm_serve.specs.Message.{message_text};
+ghost use Rattle.evm_command.specs.SourceSentences.{extension_sentence, range_sentence, token_front, detail_sentence, kind_sentence, from_column, quoted_part, before_quote, source_words};
 
-use crate::telling::Words;
 use evm_serve::{
-    AsmFault, AsmFaultKind, Extension, Number, Sentence, SourceDetail, line_numbered, quoted,
-    source_detail,
+    AsmFault, AsmFaultKind, Extension, Message, Number, Sentence, SourceDetail, line_numbered,
+    quoted, source_detail,
 };
 
 fn extension_sentence(extension: Extension) -> &'static str
@@ -41,6 +40,29 @@ fn range_sentence(below: u64, above: u64) -> Sentence
     }
 }
 
+// A column at which no token or statement begins, by the byte there.
+fn token_front(byte: u8) -> &'static str
+    ensures { result.now ≡ token_front byte }
+{
+    if byte == 0xef {
+        "byte ef, which begins a byte order mark, is no token; save the file without one; column "
+    } else if byte == b'"' {
+        "there are no strings; write the bytes by .byte; column "
+    } else if byte == b'\'' {
+        "there are no character constants; write the number; column "
+    } else if byte == b'/' {
+        "a comment begins with #; column "
+    } else if byte == b';' {
+        "a statement is a line of its own, and a comment begins with #; column "
+    } else if byte == b'%' {
+        "there is no %hi and no %lo; use la; column "
+    } else if b'0' <= byte && byte <= b'9' {
+        "a number is decimal or 0x and hexadecimal, and no label is a number; column "
+    } else {
+        "no token or statement begins at column "
+    }
+}
+
 // The sentence of what is known of a fault beside its kind.
 fn detail_sentence(detail: SourceDetail) -> Sentence
     ensures { sentence_text result ≡ detail_sentence detail }
@@ -50,11 +72,9 @@ fn detail_sentence(detail: SourceDetail) -> Sentence
         SourceDetail::Directive => Sentence::Plain("unknown directive"),
         SourceDetail::Register => Sentence::Plain("unknown register"),
         SourceDetail::Extension(extension) => Sentence::Plain(extension_sentence(extension)),
-        SourceDetail::Token { column, byte: _ } => Sentence::OfOne(
-            "no token or statement begins at column ",
-            Number::Decimal(column),
-            "",
-        ),
+        SourceDetail::Token { column, byte } => {
+            Sentence::OfOne(token_front(byte), Number::Decimal(column), "")
+        }
         SourceDetail::Operands { found, wanted } => Sentence::OfTwo(
             "the number of operands, separated by commas, must be ",
             Number::Decimal(wanted),
@@ -121,8 +141,8 @@ fn before_quote(detail: Option<SourceDetail>) -> &'static str
 }
 
 /// The sentence of the fault of a source, and what is quoted of its line.
-pub(crate) fn source_words(source: &str, fault: AsmFault) -> Words<'_>
-    ensures { words_text result ≡ source_words source.now fault }
+pub(crate) fn source_words(source: &str, fault: AsmFault) -> Message<'_>
+    ensures { message_text result ≡ source_words source.now fault }
 {
     let detail = source_detail(source, fault);
     let sentence = match detail {
@@ -130,7 +150,7 @@ pub(crate) fn source_words(source: &str, fault: AsmFault) -> Words<'_>
         None => Sentence::Plain(kind_sentence(fault.kind)),
     };
     match quoted_part(source, fault, detail) {
-        Some(word) => Words::Quoting(sentence, before_quote(detail), word),
-        None => Words::Said(sentence),
+        Some(word) => Message::Quoting(sentence, before_quote(detail), word),
+        None => Message::Alone(sentence),
     }
 }

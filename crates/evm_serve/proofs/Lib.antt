@@ -1,8 +1,11 @@
 pub mod BootLines
 pub mod Endings
+pub mod Escapes
 pub mod Histories
 pub mod Known
 pub mod Memory
+pub mod Messages
+pub mod Noted
 pub mod Replays
 pub mod Runs
 pub mod StepLemmas

@@ -25,6 +25,7 @@ use Rattle.evm_model.specs.declared.refusal.Refusal.TheVariants.{BadAddress, Bad
 use Rattle.evm_serve.specs.Faults.{refusal_sentence}
 use Rattle.evm_serve.specs.LineDetails.{byte_detail, bad_line_detail, first_forms, grammar_detail}
 use Rattle.evm_serve.specs.Lookup.{odd_byte, line_numbered, line_read, boot_among, ram_of}
+use Rattle.evm_serve.specs.Near.{ends_in_line}
 use Rattle.evm_serve.specs.declared.fault.Fault.{Fault}
 use Rattle.evm_serve.specs.declared.fault.Fault.TheVariants.{BadLine, Refused, NoProgram, NoJournal}
 
@@ -119,30 +120,31 @@ abbrev pub header_detail : ℕ → Option (List ℕ) → List ℕ
 header_detail n (Some line) = header_of_byte n (odd_byte line)
 header_detail n None = first_line_form n
 
-abbrev pub other_line_detail : Line → List ℕ
-other_line_detail lines.Blank = codes "bad line: a journal has no comments and no empty lines"
-other_line_detail (lines.Boot boot) = codes "bad line: only line 2 of a journal is a boot line"
-other_line_detail (lines.Look view) = codes "bad line: a journal has no views"
-other_line_detail _ = codes "bad line: no newline at the end of the journal, or more than 1048576 events"
+-- a line that is no line of a journal, or that is an event and lacks its newline, or one event too many
+abbrev pub other_line_detail : Line → Bool → List ℕ
+other_line_detail lines.Blank is_cut = codes "bad line: a journal has no comments and no empty lines"
+other_line_detail (lines.Boot boot) is_cut = codes "bad line: only line 2 of a journal is a boot line"
+other_line_detail (lines.Look view) is_cut = codes "bad line: a journal has no views"
+other_line_detail _ is_cut = if is_cut then codes "bad line: no newline at the end of the journal" else codes "bad line: a journal has at most 1048576 events"
 
-abbrev pub read_detail : List ℕ → Option Line → List ℕ
-read_detail line (Some read) = other_line_detail read
-read_detail line None = grammar_detail line
+abbrev pub read_detail : List ℕ → List ℕ → Option Line → List ℕ
+read_detail text line (Some read) = other_line_detail read (ends_in_line text line)
+read_detail text line None = grammar_detail line
 
-abbrev pub event_line_detail : Option (List ℕ) → List ℕ
-event_line_detail (Some line) = read_detail line (line_at line)
-event_line_detail None = journal_sentence kinds.Line
+abbrev pub event_line_detail : List ℕ → Option (List ℕ) → List ℕ
+event_line_detail text (Some line) = read_detail text line (line_at line)
+event_line_detail text None = journal_sentence kinds.Line
 
-abbrev pub journal_detail : ℕ → Option (List ℕ) → JournalFaultKind → List ℕ
-journal_detail n line kinds.Header = header_detail n line
-journal_detail n line kinds.Line = event_line_detail line
-journal_detail n line kinds.NotCanonical = codes "consecutive steps of one processor must be on one line"
-journal_detail n line kinds.NoMemory = journal_sentence kinds.NoMemory
+abbrev pub journal_detail : List ℕ → ℕ → Option (List ℕ) → JournalFaultKind → List ℕ
+journal_detail text n line kinds.Header = header_detail n line
+journal_detail text n line kinds.Line = event_line_detail text line
+journal_detail text n line kinds.NotCanonical = codes "consecutive steps of one processor must be on one line"
+journal_detail text n line kinds.NoMemory = journal_sentence kinds.NoMemory
 
 -- ---- a fault of a script or a journal, with the image that its machine boots with
 
 abbrev pub fault_detail : Option Contents → List ℕ → Fault → List ℕ
 fault_detail image text (BadLine n fault) = bad_line_detail fault (line_numbered n text)
 fault_detail image text (Refused n cpu refusal) = refusal_detail image text (line_read (line_numbered n text)) cpu refusal
-fault_detail image text (NoJournal fault) = journal_detail fault.line (line_numbered fault.line text) fault.kind
+fault_detail image text (NoJournal fault) = journal_detail text fault.line (line_numbered fault.line text) fault.kind
 fault_detail image text (NoProgram fault) = asm_sentence fault.kind

@@ -1,11 +1,15 @@
 pub mod Given
 pub mod Assembling
 pub mod Details
+pub mod Excerpt
 pub mod Faults
 pub mod Imaging
 pub mod Known
 pub mod LineDetails
 pub mod Lookup
+pub mod Message
+pub mod Near
+pub mod Notes
 pub mod Playing
 pub mod ReplayLaws
 pub mod Replaying

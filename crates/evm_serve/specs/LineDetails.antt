@@ -4,6 +4,7 @@ use Rattle.std.specs.List.{starts_with}
 use Rattle.evm_debug.specs.evm_text.Written.{hexadecimal}
 use Rattle.evm_serve.specs.Faults.{line_sentence}
 use Rattle.evm_serve.specs.Lookup.{odd_byte}
+use Rattle.evm_serve.specs.Near.{first_word, near_command, spacing}
 use Rattle.evm_serve.specs.declared.fault.LineFault.{LineFault}
 use Rattle.evm_serve.specs.declared.fault.LineFault.TheVariants.{OutsideGrammar, NotBooted, BootedAgain}
 
@@ -20,10 +21,14 @@ begins line word = starts_with nat_eq line word
 
 -- the form that the first word of a line wants
 
+abbrev pub words_or : Option (List ℕ) → List ℕ → List ℕ
+words_or (Some words) others = words
+words_or None others = others
+
 abbrev pub other_form : List ℕ → List ℕ
 other_form line =
-    if begins line (codes " ") then codes "bad line: a blank before the command"
-    else codes "bad line: no such command; there are boot, step, tick, raise, bell, stop, go, stepi, set, setpc, poke, break, unbreak, regs, mem, stages, tasks, owners, rank, counts, journal and console"
+    words_or (near_command (first_word line))
+    (codes "bad line: no such command; there are boot, step, tick, raise, bell, stop, go, stepi, set, setpc, poke, break, unbreak, regs, mem, stages, tasks, owners, rank, counts, journal and console")
 
 abbrev pub view_forms : List ℕ → List ℕ
 view_forms line =
@@ -63,9 +68,13 @@ first_forms line =
     else (if begins line (codes "step ") then codes "bad line: step wants C N: a processor below 256 and a count of 1 to 1048576, decimal without leading zeros"
     else event_forms line)
 
+-- a line of printable bytes
+abbrev pub printable_detail : List ℕ → List ℕ
+printable_detail line = words_or (spacing line) (first_forms line)
+
 abbrev pub byte_or_form : Option ℕ → List ℕ → List ℕ
 byte_or_form (Some byte) line = byte_detail byte
-byte_or_form None line = first_forms line
+byte_or_form None line = printable_detail line
 
 -- a line outside the grammar
 abbrev pub grammar_detail : List ℕ → List ℕ

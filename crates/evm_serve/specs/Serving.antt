@@ -17,7 +17,7 @@ use Rattle.evm_serve.specs.declared.ending.Reply.TheVariants as replies
 
 -- what the code replies to a line is what the line tells, and leaves its machine
 abbrev pub Replies : Reply → List ℕ → Option State → Telling → Type 0
-Replies replies.Goes text machine telling = telling ≡ Goes text machine
+Replies (replies.Goes noted) text machine telling = telling ≡ Goes text machine
 Replies (replies.Ends fault) text machine telling = telling ≡ Ends fault
 
 -- the status of a run whose report was written to its end

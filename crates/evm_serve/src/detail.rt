@@ -7,6 +7,7 @@ ghost use Rattle.evm_serve.specs.Details.{first_line_form, header_detail, other_
 use crate::fault::Fault;
 use crate::line_detail::{bad_line_detail, byte_detail, grammar_detail};
 use crate::lookup::{line_numbered, line_read, odd_byte};
+use crate::near::ends_in_line;
 use crate::refusal_detail::refusal_detail;
 use crate::sentence::Sentence;
 use evm_debug::{JournalFault, JournalFaultKind, Line, read_line};
@@ -35,38 +36,43 @@ fn header_detail(number: u64, line: Option<&[u8]>) -> Sentence
     }
 }
 
-fn other_line_detail(line: &Line) -> &'static str
-    ensures { result.now ≡ other_line_detail line.now }
+// A line that is an event, or no line of a journal at all; whether the text ends with it.
+fn other_line_detail(line: &Line, is_cut: bool) -> &'static str
+    ensures { result.now ≡ other_line_detail line.now is_cut }
 {
     match line {
         Line::Blank => "bad line: a journal has no comments and no empty lines",
         Line::Boot(_) => "bad line: only line 2 of a journal is a boot line",
         Line::Look(_) => "bad line: a journal has no views",
         Line::Steps(_, _) | Line::One(_) => {
-            "bad line: no newline at the end of the journal, or more than 1048576 events"
+            if is_cut {
+                "bad line: no newline at the end of the journal"
+            } else {
+                "bad line: a journal has at most 1048576 events"
+            }
         }
     }
 }
 
-// A line behind the second that is no event.
-fn event_line_detail(line: Option<&[u8]>) -> Sentence
-    ensures { sentence_text result ≡ event_line_detail (option_copied line.entry) }
+// A line behind the second of a text.
+fn event_line_detail(text: &[u8], line: Option<&[u8]>) -> Sentence
+    ensures { sentence_text result ≡ event_line_detail text.now (option_copied line.entry) }
 {
     match line {
         Some(line) => match read_line(line) {
-            Ok(read) => Sentence::Plain(other_line_detail(&read)),
+            Ok(read) => Sentence::Plain(other_line_detail(&read, ends_in_line(text, line))),
             Err(_) => grammar_detail(line),
         },
         None => Sentence::Plain(JournalFaultKind::Line.sentence()),
     }
 }
 
-fn journal_detail(fault: JournalFault, line: Option<&[u8]>) -> Sentence
-    ensures { sentence_text result ≡ journal_detail fault.line (option_copied line.entry) fault.kind }
+fn journal_detail(text: &[u8], fault: JournalFault, line: Option<&[u8]>) -> Sentence
+    ensures { sentence_text result ≡ journal_detail text.now fault.line (option_copied line.entry) fault.kind }
 {
     match fault.kind {
         JournalFaultKind::Header => header_detail(fault.line, line),
-        JournalFaultKind::Line => event_line_detail(line),
+        JournalFaultKind::Line => event_line_detail(text, line),
         JournalFaultKind::NotCanonical => {
             Sentence::Plain("consecutive steps of one processor must be on one line")
         }
@@ -85,7 +91,7 @@ pub fn fault_detail(image: Option<&Image>, text: &[u8], fault: Fault) -> Sentenc
             let line = line_read(number, text);
             refusal_detail(image, text, line.as_ref(), cpu, refusal)
         }
-        Fault::NoJournal(fault) => journal_detail(fault, line_numbered(fault.line, text)),
+        Fault::NoJournal(fault) => journal_detail(text, fault, line_numbered(fault.line, text)),
         Fault::NoProgram(fault) => Sentence::Plain(fault.kind.sentence()),
     }
 }

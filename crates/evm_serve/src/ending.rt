@@ -4,14 +4,15 @@ ghost use Rattle.std.specs.Prelude.{◌≡◌};
 ghost use Rattle.evm_serve.specs.Serving.{status_of, status_at};
 
 use crate::fault::Fault;
+use crate::note::StepNote;
 use evm_elf::ElfFault;
 use evm_streams::{ReadFault, WriteFault};
 
 /// How a line of a script was taken.
 #[derive(Clone, Copy, Debug)]
 pub enum Reply {
-    /// The run goes on.
-    Goes,
+    /// The run goes on, with a note if a processor is stopped that was to step.
+    Goes(Option<StepNote>),
     /// The run ends at this fault.
     Ends(Fault),
 }

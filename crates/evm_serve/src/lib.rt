@@ -4,6 +4,7 @@
 mod assembling;
 mod detail;
 mod ending;
+mod excerpt;
 mod fault;
 mod given;
 mod halting;
@@ -11,6 +12,10 @@ mod importing;
 mod laws;
 mod line_detail;
 mod lookup;
+mod message;
+mod near;
+mod note;
+mod nowhere;
 mod refusal_detail;
 mod replay;
 mod sentence;
@@ -36,9 +41,11 @@ pub use laws::{
     known_texts_are_served, refused_on_its_line, replays_saved,
 };
 pub use lookup::{has_boot, is_printable, line_numbered};
+pub use message::{Message, report, report_line};
+pub use note::{StepNote, StopPlace};
 pub use replay::{replay_text, replay_to};
 pub use sentence::{Number, Sentence};
-pub use serving::{serve, serve_script};
+pub use serving::{run_script, serve, serve_script};
 
 #[cfg(test)]
 mod tests;

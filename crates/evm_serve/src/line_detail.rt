@@ -2,10 +2,11 @@
 
 ghost use Rattle.std.specs.Prelude.{◌≡◌, option_copied};
 ghost use Rattle.evm_serve.specs.Faults.{sentence_text};
-ghost use Rattle.evm_serve.specs.LineDetails.{byte_detail, first_forms, event_forms, debug_forms, view_forms, other_form, grammar_detail, bad_line_detail};
+ghost use Rattle.evm_serve.specs.LineDetails.{byte_detail, first_forms, event_forms, debug_forms, view_forms, other_form, printable_detail, grammar_detail, bad_line_detail};
 
 use crate::fault::LineFault;
 use crate::lookup::odd_byte;
+use crate::near::{first_word, near_command, spacing};
 use crate::sentence::{Number, Sentence};
 
 // The byte that makes a line bad.
@@ -33,10 +34,10 @@ pub(crate) fn byte_detail(byte: u8) -> Sentence
 fn other_form(line: &[u8]) -> &'static str
     ensures { result.now ≡ other_form line.now }
 {
-    if line.starts_with(b" ") {
-        "bad line: a blank before the command"
-    } else {
-        "bad line: no such command; there are boot, step, tick, raise, bell, stop, go, stepi, set, setpc, poke, break, unbreak, regs, mem, stages, tasks, owners, rank, counts, journal and console"
+    match near_command(first_word(line)) {
+        Some(words) => words,
+        None =>
+            "bad line: no such command; there are boot, step, tick, raise, bell, stop, go, stepi, set, setpc, poke, break, unbreak, regs, mem, stages, tasks, owners, rank, counts, journal and console",
     }
 }
 
@@ -117,13 +118,23 @@ fn form(line: &[u8]) -> &'static str
     }
 }
 
+// A line of printable bytes.
+fn printable_detail(line: &[u8]) -> &'static str
+    ensures { result.now ≡ printable_detail line.now }
+{
+    match spacing(line) {
+        Some(words) => words,
+        None => form(line),
+    }
+}
+
 /// The sentence of a line outside the grammar.
 pub(crate) fn grammar_detail(line: &[u8]) -> Sentence
     ensures { sentence_text result ≡ grammar_detail line.now }
 {
     match odd_byte(line) {
         Some(byte) => byte_detail(byte),
-        None => Sentence::Plain(form(line)),
+        None => Sentence::Plain(printable_detail(line)),
     }
 }
 

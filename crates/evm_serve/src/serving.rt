@@ -4,24 +4,30 @@ ghost use Rattle.evm_streams.specs.Reads.{Reads};
 ghost use Rattle.evm_serve.specs.Given.{given_of};
 ghost use Rattle.evm_serve.specs.Told.{told};
 ghost use Rattle.evm_serve.specs.Playing.{Plays};
+ghost use Rattle.evm_serve.specs.Notes.{notes, PlaysNotes, EndsNotes};
 ghost use Rattle.evm_serve.specs.Serving.{Finishes, Serves};
 
 use crate::ending::{Ending, Halt, Reply, Verdict};
 use crate::given::Given;
 use crate::halting::{ended, say_fault, unread};
+use crate::note::{report_ended, report_note};
+use crate::nowhere::Nowhere;
 use crate::tell::tell;
 use evm_debug::cut_line;
 use evm_streams::{Sink, Source, read_all, write_all};
 use std::alloc::Global;
 
 // Runs the lines of a script.
-fn play<W: Sink>(
+fn play<W: Sink, E: Sink>(
     alloc: Global,
     given: Given<'_>,
+    name: &str,
     script: &[u8],
     writer: &mut W,
+    errors: &mut E,
 ) -> Result<Verdict, Halt>
-    ensures { Plays W.takes (told (given_of given.entry) script.now) writer.old writer.new result }
+    ensures told { Plays W.takes (told (given_of given.entry) script.now) writer.old writer.new result }
+    ensures noted { PlaysNotes E.takes (notes (given_of given.entry) name.now script.now) result errors.old errors.new }
 {
     let mut machine = None;
     let mut said = String::new(alloc);
@@ -30,7 +36,8 @@ fn play<W: Sink>(
     'lines: while let Some((line, after)) = cut_line(rest) {
         match tell(alloc, given, number, line, &mut machine, &mut said) {
             Err(_) => return Err(Halt::NoMemory),
-            Ok(Reply::Goes) => {
+            Ok(Reply::Goes(note)) => {
+                report_note(name, number, note, errors);
                 if let Err(fault) = write_all(writer, said.as_bytes()) {
                     return Err(Halt::WriteFailed(fault));
                 }
@@ -40,11 +47,29 @@ fn play<W: Sink>(
         rest = after;
         number += 1;
     }
+    report_ended(name, &machine, errors);
     Ok(Verdict::Done)
 }
 
-/// Runs the lines of a script, and writes what they tell and nothing else. The image, if one is given, is put into
-/// the machine as it boots.
+/// Runs the lines of a script of this name, and writes what they tell and nothing else. The image, if one is given, is
+/// put into the machine as it boots. `errors` gets the notes on lines whose processor is stopped, and on tasks that
+/// ended by a fault.
+pub fn run_script<W: Sink, E: Sink>(
+    alloc: Global,
+    given: Given<'_>,
+    name: &str,
+    script: &[u8],
+    writer: &mut W,
+    errors: &mut E,
+) -> Ending
+    ensures told { Finishes W.takes (told (given_of given.entry) script.now) writer.old writer.new result }
+    ensures noted { EndsNotes E.takes (notes (given_of given.entry) name.now script.now) result errors.old errors.new }
+{
+    let outcome = play(alloc, given, name, script, writer, errors);
+    ended(outcome, writer)
+}
+
+/// Like `run_script`, without notes.
 pub fn serve_script<W: Sink>(
     alloc: Global,
     script: &[u8],
@@ -53,8 +78,7 @@ pub fn serve_script<W: Sink>(
 ) -> Ending
     ensures { Finishes W.takes (told (given_of given.entry) script.now) writer.old writer.new result }
 {
-    let outcome = play(alloc, given, script, writer);
-    ended(outcome, writer)
+    run_script(alloc, given, "", script, writer, &mut Nowhere)
 }
 
 /// The same of a script that it reads to its end. Where that can't be read, or has more than 16,777,216 bytes,

@@ -16,6 +16,7 @@ mod faults;
 mod images;
 mod journals;
 mod loading;
+mod notes;
 mod scripts;
 mod streams;
 

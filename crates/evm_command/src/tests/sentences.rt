@@ -42,7 +42,7 @@ impl<'a> System for Kept<'a> {
     }
 
     fn create(&mut self, path: &str) -> Result<Vec<u8>, OpenFault> {
-        if path == "p.elf" {
+        if path == "p.elf" || path == "both.s" {
             Ok(Vec::new(self.alloc))
         } else {
             Err(fault_of(path))
@@ -61,7 +61,7 @@ fn fault_of(path: &str) -> OpenFault {
     }
 }
 
-const FILES: [(&str, &[u8]); 15] = [
+const FILES: [(&str, &[u8]); 18] = [
     ("p.s", b"nop\n"),
     ("empty", b""),
     ("one", b"evl-journal 1\n"),
@@ -83,6 +83,9 @@ const FILES: [(&str, &[u8]); 15] = [
     ("missing.s", b"nop\nbeqz a0,there\n"),
     ("range.s", b"addi a0,a0,2048\n"),
     ("bytes.s", b"\xff\n"),
+    ("both.s", b"nop\n"),
+    ("two.s", b"nop; nop\n"),
+    ("mark.s", b"\xef\xbb\xbfnop\n"),
 ];
 
 /// Runs a command line on a script, and compares what is written to standard error.
@@ -116,28 +119,43 @@ fn check_errors(
 fn files_are_named(rt: HostRuntime) -> Result<(), Fail> {
     for (line, wanted) in [
         ("evltool asm p.s p.elf", ""),
-        ("evltool asm q.s p.elf", "q.s:3: unknown register \"a9\"\n"),
+        (
+            "evltool asm q.s p.elf",
+            "q.s:3: unknown register \"a9\"\np.elf: it is empty now, since the source has a fault\n",
+        ),
         (
             "evltool asm base.s p.elf",
-            "base.s:1: unknown register \"sp8\"\n",
+            "base.s:1: unknown register \"sp8\"\np.elf: it is empty now, since the source has a fault\n",
         ),
         (
             "evltool asm word.s p.elf",
-            "word.s:2: unknown mnemonic \"move\"\n",
+            "word.s:2: unknown mnemonic \"move\"\np.elf: it is empty now, since the source has a fault\n",
         ),
         (
             "evltool asm twice.s p.elf",
-            "twice.s:3: a label that is defined already \"here\"\n",
+            "twice.s:3: a label that is defined already \"here\"\np.elf: it is empty now, since the source has a fault\n",
         ),
         (
             "evltool asm missing.s p.elf",
-            "missing.s:2: no line defines this label \"there\"\n",
+            "missing.s:2: no line defines this label \"there\"\np.elf: it is empty now, since the source has a fault\n",
         ),
         (
             "evltool asm range.s p.elf",
-            "range.s:1: the number must be -2048 to 2047\n",
+            "range.s:1: the number must be -2048 to 2047\np.elf: it is empty now, since the source has a fault\n",
         ),
         ("evltool asm bytes.s p.elf", "bytes.s: not UTF-8\n"),
+        (
+            "evltool asm both.s both.s",
+            "both.s: SRC and OUT are one file, so the source is lost\n",
+        ),
+        (
+            "evltool asm two.s p.elf",
+            "two.s:1: a statement is a line of its own, and a comment begins with #; column 4: \"; nop\"\np.elf: it is empty now, since the source has a fault\n",
+        ),
+        (
+            "evltool asm mark.s p.elf",
+            "mark.s:1: byte ef, which begins a byte order mark, is no token; save the file without one; column 1: \"\\xef\\xbb\\xbfnop\"\np.elf: it is empty now, since the source has a fault\n",
+        ),
         (
             "evltool asm none.s p.elf",
             "none.s: can't be opened: no such file\n",
@@ -167,6 +185,10 @@ fn files_are_named(rt: HostRuntime) -> Result<(), Fail> {
         ("evltool asm p.s tape", "tape: can't be created\n"),
         ("evltool run p.s", "p.s: it is no ELF file\n"),
         (
+            "evltool replay one image.elf",
+            "one: it is a journal, not an image; the order is `replay IMAGE JOURNAL`\n",
+        ),
+        (
             "evltool replay p.elf journal",
             "p.elf: can't be opened: no such file\n",
         ),
@@ -179,7 +201,7 @@ fn files_are_named(rt: HostRuntime) -> Result<(), Fail> {
 
 #[test]
 fn lines_of_scripts_are_named(rt: HostRuntime) -> Result<(), Fail> {
-    let scripts: [(&'static [u8], &str); 17] = [
+    let scripts: [(&'static [u8], &str); 18] = [
         (b"boot 1 65536 8\ntasks\n", ""),
         (
             b"boot 1 65536 8\nset 0 1 5\n",
@@ -199,15 +221,15 @@ fn lines_of_scripts_are_named(rt: HostRuntime) -> Result<(), Fail> {
         ),
         (
             b"\n\n\n\n\n\n\n\n\n\n\ntock\n",
-            "script:12: bad line: no such command; there are boot, step, tick, raise, bell, stop, go, stepi, set, setpc, poke, break, unbreak, regs, mem, stages, tasks, owners, rank, counts, journal and console: \"tock\"\n",
+            "script:12: bad line: no such command; did you mean `tick`?: \"tock\"\n",
         ),
         (
             b"boot 1 65536 8\ntock 1\ntock 2\n",
-            "script:2: bad line: no such command; there are boot, step, tick, raise, bell, stop, go, stepi, set, setpc, poke, break, unbreak, regs, mem, stages, tasks, owners, rank, counts, journal and console: \"tock 1\"\n",
+            "script:2: bad line: no such command; did you mean `tick`?: \"tock 1\"\n",
         ),
         (
             b"tock",
-            "script:1: bad line: no such command; there are boot, step, tick, raise, bell, stop, go, stepi, set, setpc, poke, break, unbreak, regs, mem, stages, tasks, owners, rank, counts, journal and console: \"tock\"\n",
+            "script:1: bad line: no such command; did you mean `tick`?: \"tock\"\n",
         ),
         (
             b"boot 1 65536 8\npoke 80000000 111213141516171819202122232425262728293031323334353637383x\n",
@@ -224,6 +246,10 @@ fn lines_of_scripts_are_named(rt: HostRuntime) -> Result<(), Fail> {
         (
             b"boot 1 65536 8\nboot 2 65536 8\n",
             "script:2: bad line: only one boot line is allowed: \"boot 2 65536 8\"\n",
+        ),
+        (
+            b"boot 1 65536 9\nstop 0\nstep 0 2\ngo 0\nstep 0 1\n",
+            "script:3: processor 0 is stopped at pc 80000000; these steps did nothing, and `go` lets it go on\nscript: task 0 ended at pc 80000000: fault 2, RAM holds 0 there, which is not an instruction\n",
         ),
         (b"", "script: no boot line, so nothing is done\n"),
         (b"# x\n\n", "script: no boot line, so nothing is done\n"),
@@ -263,7 +289,7 @@ fn lines_of_journals_are_named(rt: HostRuntime) -> Result<(), Fail> {
         ),
         (
             "evltool replay image.elf tock",
-            "tock:4: bad line: no such command; there are boot, step, tick, raise, bell, stop, go, stepi, set, setpc, poke, break, unbreak, regs, mem, stages, tasks, owners, rank, counts, journal and console: \"tock\"\n",
+            "tock:4: bad line: no such command; did you mean `tick`?: \"tock\"\n",
         ),
         (
             "evltool replay image.elf cut",

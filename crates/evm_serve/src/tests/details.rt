@@ -157,6 +157,35 @@ fn bad_lines_name_their_form(rt: HostRuntime) -> Result<(), Fail> {
             "bad line: byte ef, which begins a byte order mark; save the file without one",
         ),
         ("step\u{1b}", "bad line: byte 1b is not printable ASCII"),
+        (
+            "stpe 0 1",
+            "bad line: no such command; did you mean `step`?",
+        ),
+        (
+            "STEP 0 1",
+            "bad line: no such command; did you mean `step`?",
+        ),
+        (
+            "breaks",
+            "bad line: break wants A: an address, lower-case hexadecimal without 0x",
+        ),
+        (
+            "jurnal",
+            "bad line: no such command; did you mean `journal`?",
+        ),
+        (
+            "quit",
+            "bad line: no such command; there are boot, step, tick, raise, bell, stop, go, stepi, set, setpc, poke, break, unbreak, regs, mem, stages, tasks, owners, rank, counts, journal and console",
+        ),
+        (
+            "step 0 1 # one",
+            "bad line: a comment must be on a line of its own",
+        ),
+        (
+            "step 0  1",
+            "bad line: two blanks; one blank separates words",
+        ),
+        ("step 0 1 ", "bad line: a blank at the end of the line"),
         ("tick", "bad line: the first command must be `boot`"),
         (
             "boot 1 65536 64\nboot 1 65536 64",
@@ -190,7 +219,7 @@ fn journals_name_what_is_wrong(rt: HostRuntime) -> Result<(), Fail> {
         ),
         (
             "evl-journal 1\nboot 1 65536 9\nstep 0 1",
-            "bad line: no newline at the end of the journal, or more than 1048576 events",
+            "bad line: no newline at the end of the journal",
         ),
         (
             "evl-journal 1\nboot 1 65536 9\nstop\n",

@@ -1,0 +1,358 @@
+//! What standard error gets at the end of a job, and the status of the job.
+
+ghost use Rattle.std.specs.Prelude.{◌≡◌, codes, option_copied};
+ghost use Rattle.evm_serve.specs.Details.{fault_detail};
+ghost use Rattle.evm_serve.specs.Faults.{sentence_text};
+ghost use Rattle.evm_serve.specs.Lookup.{has_boot};
+ghost use Rattle.evm_serve.specs.Message.{Reports, ReportsAll, message_text};
+ghost use Rattle.evm_serve.specs.Serving.{Unread};
+ghost use Rattle.evm_command.specs.Jobs.{NotRead, NotWords};
+ghost use Rattle.evm_serve.specs.Excerpt.{quoting};
+ghost use Rattle.evm_command.specs.Exit.{Explains, Ended, EndedWith, Source, known_of, quoted_line, fault_words, image_words, Boots, Finished, program_name, shown_path, not_opened_sentence, not_opened_text, not_created_sentence, not_created_text, failed_read_sentence, failed_write_sentence, not_read_sentence, output_name, emptied_texts, out_texts};
+
+use crate::image_sentence::image_sentence;
+use crate::source_sentence::source_words;
+use crate::system::{OpenFault, System, World};
+use evm_image::Image;
+use evm_serve::{
+    Cause, ElfFault, Ending, Fault, Message, ReadFault, ReadStop, Sentence, Sink, Verdict,
+    fault_detail, has_boot, line_numbered, report, report_line, write_all,
+};
+
+/// The status where a file can't be opened, created, read or written.
+pub(crate) const FAILED: u8 = 4;
+
+/// The status where the words are no command.
+pub(crate) const USAGE: u8 = 2;
+
+/// The name under which the program tells what is about no file.
+pub(crate) const PROGRAM: &str = "evltool";
+
+/// The name of the stream that reports are written to.
+const OUTPUT: &str = "standard output";
+
+/// The name of what `asm` writes to.
+const OUTPUTS: &str = "OUT or standard output";
+
+/// What is known of the input of a job.
+#[derive(Clone, Copy)]
+pub(crate) enum Known<'a> {
+    Nothing,
+    /// The source that it assembles.
+    Source(&'a str),
+    /// The image that its machine boots with, and the script or the journal that it takes line by line.
+    Lines(Option<&'a Image>, &'a [u8]),
+    /// The file of an image.
+    File(&'a [u8]),
+}
+
+// A path, or '' if it is empty.
+fn shown_path(path: &str) -> &str
+    ensures { result.now ≡ shown_path path.now }
+{
+    if path.len() == 0 { "''" } else { path }
+}
+
+fn not_opened_sentence(fault: OpenFault) -> &'static str
+    ensures { result.now ≡ not_opened_sentence fault }
+{
+    match fault {
+        OpenFault::Missing => "can't be opened: no such file",
+        OpenFault::Denied => "can't be opened: permission denied",
+        OpenFault::Folder => "can't be opened: it is a folder",
+        OpenFault::NoName => "can't be opened: the name is empty",
+        OpenFault::NotFolder => "can't be opened: a part of the path is not a folder",
+        OpenFault::ReadOnly => "can't be opened: the file system is read-only",
+        OpenFault::Full => "can't be opened: no space left on the device",
+        OpenFault::Busy => "can't be opened: the file is in use",
+        OpenFault::NameTooLong => "can't be opened: the name is too long",
+        OpenFault::Loop => "can't be opened: too many symbolic links",
+        OpenFault::Other => "can't be opened",
+    }
+}
+
+/// Reports that a file can't be opened, and why, and answers the status.
+pub(crate) fn not_opened<E: Sink>(path: &str, fault: OpenFault, errors: &mut E) -> u8
+    ensures told { Reports E.takes (not_opened_text path.now fault) errors.old errors.new }
+    ensures status { result ≡ 4 }
+{
+    let sentence = Sentence::Plain(not_opened_sentence(fault));
+    report(shown_path(path), sentence, errors);
+    FAILED
+}
+
+fn not_created_sentence(fault: OpenFault) -> &'static str
+    ensures { result.now ≡ not_created_sentence fault }
+{
+    match fault {
+        OpenFault::Missing => "can't be created: no such folder",
+        OpenFault::Denied => "can't be created: permission denied",
+        OpenFault::Folder => "can't be created: it is a folder",
+        OpenFault::NoName => "can't be created: the name is empty",
+        OpenFault::NotFolder => "can't be created: a part of the path is not a folder",
+        OpenFault::ReadOnly => "can't be created: the file system is read-only",
+        OpenFault::Full => "can't be created: no space left on the device",
+        OpenFault::Busy => "can't be created: the file is in use",
+        OpenFault::NameTooLong => "can't be created: the name is too long",
+        OpenFault::Loop => "can't be created: too many symbolic links",
+        OpenFault::Other => "can't be created",
+    }
+}
+
+/// Reports that a file can't be created, and why, and answers the status.
+pub(crate) fn not_created<E: Sink>(path: &str, fault: OpenFault, errors: &mut E) -> u8
+    ensures told { Reports E.takes (not_created_text path.now fault) errors.old errors.new }
+    ensures status { result ≡ 4 }
+{
+    let sentence = Sentence::Plain(not_created_sentence(fault));
+    report(shown_path(path), sentence, errors);
+    FAILED
+}
+
+fn failed_read_sentence(cause: Cause) -> &'static str
+    ensures { result.now ≡ failed_read_sentence cause }
+{
+    match cause {
+        Cause::Folder => "a read failed: it is a folder",
+        Cause::Closed => "a read failed: it is closed, or not open for this",
+        Cause::BrokenPipe => "a read failed: the reader of the pipe has gone",
+        Cause::Full => "a read failed: no space left on the device",
+        Cause::TooLarge => "a read failed: the file may not be larger",
+        Cause::Interrupted => "a read failed: a signal interrupted it",
+        Cause::Device => "a read failed: the device failed",
+        Cause::TookNone => "a read failed: it took no byte",
+        Cause::Other => "a read failed",
+    }
+}
+
+fn failed_write_sentence(cause: Cause) -> &'static str
+    ensures { result.now ≡ failed_write_sentence cause }
+{
+    match cause {
+        Cause::Folder => "a write failed: it is a folder",
+        Cause::Closed => "a write failed: it is closed, or not open for this",
+        Cause::BrokenPipe => "a write failed: the reader of the pipe has gone",
+        Cause::Full => "a write failed: no space left on the device",
+        Cause::TooLarge => "a write failed: the file may not be larger",
+        Cause::Interrupted => "a write failed: a signal interrupted it",
+        Cause::Device => "a write failed: the device failed",
+        Cause::TookNone => "a write failed: it took no byte",
+        Cause::Other => "a write failed",
+    }
+}
+
+fn not_read_sentence(fault: ReadFault) -> &'static str
+    ensures { result.now ≡ not_read_sentence fault }
+{
+    match fault {
+        ReadFault::Failed(cause) => failed_read_sentence(cause),
+        ReadFault::TooLong => "more than 16777216 bytes",
+        ReadFault::NotUtf8 => "not UTF-8",
+    }
+}
+
+// The line of a script or a journal that is faulty. A line that the machine refuses is not quoted.
+fn quoted_line(text: &[u8], fault: Fault) -> Option<&[u8]>
+    ensures { option_copied result ≡ quoted_line text.now fault }
+{
+    match fault {
+        Fault::BadLine(number, _) => line_numbered(number, text),
+        Fault::NoJournal(fault) => line_numbered(fault.line, text),
+        Fault::Refused(_, _, _) | Fault::NoProgram(_) => None,
+    }
+}
+
+// What is said of a fault of a script or a journal.
+fn line_words<'a>(image: Option<&Image>, text: &'a [u8], fault: Fault) -> Message<'a>
+    ensures { message_text result ≡ quoting (fault_detail (option_copied image.entry) text.now fault) (codes ": \"") (quoted_line text.now fault) }
+{
+    let sentence = fault_detail(image, text, fault);
+    match quoted_line(text, fault) {
+        Some(line) => Message::Quoting(sentence, ": \"", line),
+        None => Message::Alone(sentence),
+    }
+}
+
+// What is said of the fault of a job on a source.
+fn job_words(source: &str, fault: Fault) -> Message<'_>
+    ensures { message_text result ≡ fault_words (Source source.now) fault }
+{
+    match fault {
+        Fault::NoProgram(fault) => source_words(source, fault),
+        Fault::BadLine(_, _) | Fault::Refused(_, _, _) | Fault::NoJournal(_) => {
+            Message::Alone(fault.sentence())
+        }
+    }
+}
+
+// What is said of the fault of a job.
+fn fault_words(known: Known<'_>, fault: Fault) -> Message<'_>
+    ensures { message_text result ≡ fault_words (known_of known.entry) fault }
+{
+    match known {
+        Known::Nothing | Known::File(_) => Message::Alone(fault.sentence()),
+        Known::Source(source) => job_words(source, fault),
+        Known::Lines(image, text) => line_words(image, text, fault),
+    }
+}
+
+// What is said of a file that is no image.
+fn image_words(known: Known<'_>, fault: ElfFault) -> Sentence
+    ensures { sentence_text result ≡ image_words (known_of known.entry) fault }
+{
+    match known {
+        Known::File(bytes) => image_sentence(bytes, fault),
+        Known::Nothing | Known::Source(_) | Known::Lines(_, _) => {
+            Sentence::Plain(fault.sentence())
+        }
+    }
+}
+
+// Reports a script that has no boot line.
+fn report_idle<E: Sink>(name: &str, text: &[u8], errors: &mut E)
+    ensures { Boots E.takes name.now (has_boot text.now) errors.old errors.new }
+{
+    if !has_boot(text) {
+        report(
+            name,
+            Sentence::Plain("no boot line, so nothing is done"),
+            errors,
+        );
+    }
+}
+
+// Reports a job of which all is done.
+fn report_done<E: Sink>(known: Known<'_>, name: &str, errors: &mut E)
+    ensures { Finished E.takes (known_of known.entry) name.now errors.old errors.new }
+{
+    match known {
+        Known::Lines(_, text) => report_idle(name, text, errors),
+        Known::Nothing | Known::Source(_) | Known::File(_) => {}
+    }
+}
+
+// The name of what a job writes to. `asm` writes to two files.
+fn output_name(known: Known<'_>) -> &'static str
+    ensures { result.now ≡ output_name (known_of known.entry) }
+{
+    match known {
+        Known::Source(_) => OUTPUTS,
+        Known::Nothing | Known::Lines(_, _) | Known::File(_) => OUTPUT,
+    }
+}
+
+// Reports why a job on a file did not end well.
+fn explain<E: Sink>(known: Known<'_>, name: &str, ending: Ending, errors: &mut E)
+    ensures { Explains E.takes (known_of known.entry) name.now ending errors.old errors.new }
+{
+    match ending {
+        Ending::Complete(Verdict::Done) => report_done(known, name, errors),
+        Ending::Complete(Verdict::Refused(fault)) => {
+            report_line(name, fault.line(), fault_words(known, fault), errors)
+        }
+        Ending::Complete(Verdict::ImageRefused(fault)) => {
+            report(name, image_words(known, fault), errors)
+        }
+        Ending::NoMemory => report(name, Sentence::Plain("out of memory"), errors),
+        Ending::ReadFailed(fault) => {
+            report(name, Sentence::Plain(not_read_sentence(fault)), errors)
+        }
+        Ending::WriteFailed(fault) => report(
+            output_name(known),
+            Sentence::Plain(failed_write_sentence(fault.cause)),
+            errors,
+        ),
+    }
+}
+
+// Reports that OUT is empty, if the source has a fault.
+fn report_emptied<E: Sink>(out: &str, ending: Ending, errors: &mut E)
+    ensures { ReportsAll E.takes (emptied_texts out.now ending) errors.old errors.new }
+{
+    match ending {
+        Ending::Complete(Verdict::Refused(_)) => report(
+            shown_path(out),
+            Sentence::Plain("it is empty now, since the source has a fault"),
+            errors,
+        ),
+        Ending::Complete(Verdict::Done | Verdict::ImageRefused(_))
+        | Ending::NoMemory
+        | Ending::ReadFailed(_)
+        | Ending::WriteFailed(_) => {}
+    }
+}
+
+/// Reports what became of OUT and SRC, if the source is lost or OUT is empty.
+pub(crate) fn report_out<E: Sink>(source: &str, out: &str, ending: &Ending, errors: &mut E)
+    ensures { ReportsAll E.takes (out_texts source.now out.now ending.now) errors.old errors.new }
+{
+    if source == out {
+        report(
+            shown_path(out),
+            Sentence::Plain("SRC and OUT are one file, so the source is lost"),
+            errors,
+        );
+    } else {
+        report_emptied(out, *ending, errors);
+    }
+}
+
+/// The status of a job on a file, once standard error is told why it did not end well.
+pub(crate) fn ended_with<E: Sink>(
+    known: Known<'_>,
+    name: &str,
+    ending: &Ending,
+    errors: &mut E,
+) -> u8
+    ensures { EndedWith E.takes (known_of known.entry) name.now ending.now errors.old errors.new result }
+{
+    explain(known, name, *ending, errors);
+    ending.status()
+}
+
+/// The same of a job that knows nothing of its input.
+pub(crate) fn ended<E: Sink>(name: &str, ending: &Ending, errors: &mut E) -> u8
+    ensures { Ended E.takes name.now ending.now errors.old errors.new result }
+{
+    ended_with(Known::Nothing, name, ending, errors)
+}
+
+// How a job ends that has not read its input. Where an allocation failed, the line `memory` is written.
+fn unread<W: Sink>(stop: ReadStop, output: &mut W) -> Ending
+    ensures { Unread W.takes stop output.old output.new result }
+{
+    match stop {
+        ReadStop::Fault(fault) => Ending::ReadFailed(fault),
+        ReadStop::NoMemory => match write_all(output, b"memory\n") {
+            Ok(()) => Ending::NoMemory,
+            Err(fault) => Ending::WriteFailed(fault),
+        },
+    }
+}
+
+/// The status of a job that has not read the file of this name.
+pub(crate) fn not_read<S: System>(stop: ReadStop, name: &str, world: &mut World<S>) -> u8
+    ensures { NotRead S.Output.takes S.Errors.takes name.now stop world.old world.new result }
+{
+    let ending = unread(stop, &mut world.output);
+    ended(name, &ending, &mut world.errors)
+}
+
+/// The status of a run to which memory is refused before it has a job.
+pub(crate) fn memory_refused<S: System>(world: &mut World<S>) -> u8
+    ensures { NotRead S.Output.takes S.Errors.takes program_name ReadStop.NoMemory world.old world.new result }
+{
+    not_read(ReadStop::NoMemory, PROGRAM, world)
+}
+
+/// The status of a run that has a word which is no text.
+pub(crate) fn words_not_read<S: System>(world: &mut World<S>) -> u8
+    ensures { NotWords S.Errors.takes world.old world.new result }
+{
+    report(
+        PROGRAM,
+        Sentence::Plain("a word of the command line is not UTF-8"),
+        &mut world.errors,
+    );
+    USAGE
+}

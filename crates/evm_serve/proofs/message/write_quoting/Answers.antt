@@ -1,0 +1,16 @@
+use Rattle.std.proofs.Common.{rules, ◌++◌, codes}
+use Rattle.evm_streams.specs.Writes.{Took, TookPrefix}
+use Rattle.evm_serve.specs.Faults.{sentence_text}
+use Rattle.evm_serve.specs.Excerpt.{escaped, shown}
+use Rattle.evm_serve.proofs.Messages.{writes_then, writes_failed}
+use Rattle.evm_serve.proofs.message.write_quoting.Goals as goal
+
+pub returns-in-Ok : goal.returns-in-Ok
+returns-in-Ok g c =
+    let took : Took g.E.Sink.takes c.args.errors.now (sentence_text c.args.sentence) c.write_alone.new.errors = search rules in
+    writes_then _ _ _ _ (sentence_text c.args.sentence) (c.args.between.now ++ (escaped (shown c.args.word.now) ++ codes "\"")) _ took c.write_quoted.ensures
+
+pub returns-in-Err : goal.returns-in-Err
+returns-in-Err g c =
+    let failed : TookPrefix g.E.Sink.takes c.args.errors.now (sentence_text c.args.sentence) c.write_alone.new.errors = search rules in
+    writes_failed _ _ _ (sentence_text c.args.sentence) (c.args.between.now ++ (escaped (shown c.args.word.now) ++ codes "\"")) failed
