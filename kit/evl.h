@@ -10,18 +10,23 @@
 #define EVL_H
 
 /* Errnos. A call that is refused returns one of them, negated. */
-#define EVL_EPERM 1    /* not permitted: no class, a stalled stage, or not the owner */
-#define EVL_ESRCH 3    /* no such task */
-#define EVL_EAGAIN 11  /* it would have to wait */
-#define EVL_ENOMEM 12  /* all numbers of this kind are used */
-#define EVL_EBUSY 16   /* busy: has a class already, owns a mutex, or is owned by another task */
-#define EVL_EINVAL 22  /* an argument out of range, or no such object */
-#define EVL_EDEADLK 35 /* the wait would never end */
-#define EVL_ENOSYS 38  /* no such call */
+#define EVL_EPERM 1       /* not permitted: no class, a stalled stage, or not the owner */
+#define EVL_ESRCH 3       /* no such task */
+#define EVL_EAGAIN 11     /* it would have to wait */
+#define EVL_ENOMEM 12     /* all numbers of this kind are used */
+#define EVL_EBUSY 16      /* busy: has a class already, owns a mutex, or is owned by another task */
+#define EVL_EINVAL 22     /* an argument out of range, or no such object */
+#define EVL_EDEADLK 35    /* the wait would never end */
+#define EVL_ENOSYS 38     /* no such call */
+#define EVL_ETIMEDOUT 110 /* the deadline has come */
 
 /* Limits. */
 #define EVL_TASKS 64   /* tasks, task 0 among them */
 #define EVL_MUTEXES 32 /* mutexes */
+#define EVL_SEMS 32    /* semaphores */
+#define EVL_EVENTS 32  /* events */
+#define EVL_FLAGS 32   /* flag groups */
+#define EVL_TIMERS 32  /* timers */
 #define EVL_LINES 32   /* interrupt lines of a processor */
 
 /* Interrupt lines with a meaning of their own. */
@@ -42,6 +47,11 @@
 #define EVL_MUTEX_CEILING 2
 #define EVL_MUTEX_NORMAL 0
 #define EVL_MUTEX_RECURSIVE 1
+
+/* Actions of evl_set_line(). */
+#define EVL_LINE_NONE 0 /* the line goes to the in-band stage */
+#define EVL_LINE_PUT 1  /* its play puts a semaphore */
+#define EVL_LINE_POST 2 /* its play posts the bit of its own number to a flag group */
 
 /* Bits of evl_state(). */
 #define EVL_STATE_OOB 1      /* the task is out-of-band */
@@ -172,7 +182,29 @@ static inline long evl_create_sem(long count)
 	return evl_call1(10, count);
 }
 
-/* Reserved: action 0 is all that a line can have today. */
+/* A new event; returns its number. libevl: fills a struct evl_event, and takes a clock and a name. */
+static inline long evl_create_event(void)
+{
+	return evl_call0(11);
+}
+
+/* A new flag group, with no bit set; returns its number. libevl: fills a struct evl_flags, and takes the first word. */
+static inline long evl_create_flags(void)
+{
+	return evl_call0(12);
+}
+
+/* A new timer, which is off; returns its number. libevl: takes a clock, and returns a file descriptor. */
+static inline long evl_new_timer(void)
+{
+	return evl_call0(13);
+}
+
+/*
+ * What the line does from now on, on each processor: an action EVL_LINE_ with its semaphore or flag group. A line with
+ * an action goes to the out-of-band stage, so it wakes an out-of-band task by itself.
+ * libevl has no such call: there a driver's handler posts.
+ */
 static inline long evl_set_line(long line, long action, long object)
 {
 	return evl_call3(14, line, action, object);
@@ -212,8 +244,8 @@ static inline long evl_lock_mutex(long mutex)
 }
 
 /*
- * Reserved: a deadline that isn't 0 is refused where the task would have to wait.
- * libevl: a struct timespec of the mutex's clock.
+ * -EVL_ETIMEDOUT if the task would have to wait and the deadline, a tick of evl_read_clock(), has come, or comes while
+ * it waits. 0 is no deadline; so in all calls with one. libevl: a struct timespec of the mutex's clock.
  */
 static inline long evl_timedlock_mutex(long mutex, long deadline)
 {
@@ -236,10 +268,7 @@ static inline long evl_get_sem(long sem)
 	return evl_call2(39, sem, 0);
 }
 
-/*
- * Reserved: a deadline that isn't 0 is refused where the task would have to wait.
- * libevl: a struct timespec of the semaphore's clock.
- */
+/* -EVL_ETIMEDOUT as evl_timedlock_mutex(). libevl: a struct timespec of the semaphore's clock. */
 static inline long evl_timedget_sem(long sem, long deadline)
 {
 	return evl_call2(39, sem, deadline);
@@ -249,6 +278,68 @@ static inline long evl_timedget_sem(long sem, long deadline)
 static inline long evl_tryget_sem(long sem)
 {
 	return evl_call1(40, sem);
+}
+
+/*
+ * Gives the mutex back and waits for the event; returns with the mutex, also at -EVL_ETIMEDOUT. The task must own the
+ * mutex, locked once, and no other. -EVL_EINVAL if others wait for the event with another mutex.
+ * libevl: the same; a mutex may be locked more often there.
+ */
+static inline long evl_wait_event(long event, long mutex)
+{
+	return evl_call3(42, event, mutex, 0);
+}
+
+static inline long evl_timedwait_event(long event, long mutex, long deadline)
+{
+	return evl_call3(42, event, mutex, deadline);
+}
+
+/* Wakes the first waiter. It isn't kept for later ones. */
+static inline long evl_signal_event(long event)
+{
+	return evl_call1(43, event);
+}
+
+/* Wakes all waiters, one by one. */
+static inline long evl_broadcast_event(long event)
+{
+	return evl_call1(44, event);
+}
+
+/* Returns the word of the group, which is 0 then, once it has a bit. libevl: writes the bits to a variable. */
+static inline long evl_wait_flags(long flags)
+{
+	return evl_call2(45, flags, 0);
+}
+
+static inline long evl_timedwait_flags(long flags, long deadline)
+{
+	return evl_call2(45, flags, deadline);
+}
+
+/* Waits until the clock has come to a tick. libevl: takes a clock and a struct timespec. */
+static inline long evl_sleep_until(long tick)
+{
+	return evl_call1(47, tick);
+}
+
+/*
+ * The timer expires at the tick `first`, then every `period`, or once if that is 0; a first of 0 turns it off. Its
+ * expiries are 0 then, and the ticks of this processor count. libevl: a struct itimerspec.
+ */
+static inline long evl_set_timer(long timer, long first, long period)
+{
+	return evl_call3(48, timer, first, period);
+}
+
+/*
+ * Returns the number of expiries since the last call, once there is one. -EVL_EAGAIN if there is none and the timer is
+ * off. libevl: oob_read() of the timer's file descriptor.
+ */
+static inline long evl_wait_timer(long timer)
+{
+	return evl_call1(49, timer);
 }
 
 /* Behind the others of its rank that are ready out-of-band on the processor. */
@@ -275,6 +366,15 @@ static inline long evl_unstall_oob(void)
 static inline long evl_put_sem(long sem)
 {
 	return evl_call1(41, sem);
+}
+
+/*
+ * Sets bits of the group's word, 1 to 2^32 - 1; the first waiter wakes with the word. libevl: evl_broadcast_flags()
+ * wakes all.
+ */
+static inline long evl_post_flags(long flags, long bits)
+{
+	return evl_call2(46, flags, bits);
 }
 
 /* Ticks since boot. libevl: fills a struct timespec of a clock. */

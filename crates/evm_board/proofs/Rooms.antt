@@ -1,29 +1,27 @@
 -- Room for counts, as a row takes it up.
-use Rattle.std.proofs.Common.{ℕ, ◌+◌, ◌-◌, Bool, true, false, Some, refl, arith}
+use Rattle.std.proofs.Common.{ℕ, ◌+◌, ◌-◌, ◌≤◌, Bool, true, false, Some, refl, arith}
 use Rattle.evm_model.specs.Bounds.{COUNT_LIMIT, PER_CALL, PER_SETTLING, STAMPS_PER_EVENT, HasRoom, HasStamps, PipesUpTo}
 use Rattle.evm_model.specs.Calls.{call}
 use Rattle.evm_model.specs.Commands.{set_bits}
 use Rattle.evm_model.specs.Good.{Good}
 use Rattle.evm_model.specs.Instructions.{fault}
-use Rattle.evm_model.specs.Pipes.{receive}
-use Rattle.evm_model.specs.State.{Parts, on_pipe}
+use Rattle.evm_model.specs.Actions.{action_at, receive_line}
+use Rattle.evm_model.specs.Pipes.{stage_of}
+use Rattle.evm_model.specs.State.{Parts}
 use Rattle.evm_model.specs.declared.fault.Fault.{Fault}
 use Rattle.evm_model.specs.declared.limits.TheConstants.{PROCESSOR_LIMIT}
 use Rattle.evm_walk.proofs.Calls.{walks_call}
 use Rattle.evm_walk.proofs.Counted.{walk_counted}
 use Rattle.evm_walk.proofs.Rows.{faults}
 use Rattle.evm_walk.proofs.Sets.{walk_pipes}
-use Rattle.evm_walk.proofs.Sizes.{walk_most}
-use Rattle.evm_walk.proofs.Walk.{Actor, ArePipes as AllPipes, AreFew, Untouched, Walk, start}
+use Rattle.evm_walk.proofs.Sizes.{walk_most, walk_ticks}
+use Rattle.evm_walk.proofs.Walk.{Actor, ArePipes as AllPipes, AreFew, Walk, start, unchanged}
 use Rattle.evm_rules.proofs.Bounded.{ArePipes, AreWithin, within-more, within-receive}
 use Rattle.evm_walk.proofs.Counted.{PipesUpTo-more}
 
 -- task t acts on processor c: it raises and chooses nothing
 abbrev acts : ℕ → ℕ → Actor
 acts c t = record { cpu = c; task = Some t; may = λ d l. false; chooses = false; calls = true }
-
-itself : (k : Parts) → Untouched k k
-itself k = record { tasks = refl; harts = refl; mutexes = refl; console = refl }
 
 -- a walk that counts so much
 within-walk : (a : Actor) (n s b : ℕ) (k new : Parts) → Walk a k n s new → AreWithin b k → AreWithin (b + n) new
@@ -33,7 +31,7 @@ within-walk a n s b k new v w =
 
 -- a fault before its processor settles
 walks-fault : (c t : ℕ) (f : Fault) (k : Parts) → Walk (acts c t) k 0 32 (fault c t f k)
-walks-fault c t f k = faults (acts c t) k k t refl (itself k) start f
+walks-fault c t f k = faults (acts c t) k k t refl (unchanged k) start f
 
 pub room-fault : (c t : ℕ) (f : Fault) (k : Parts) → AreFew k → HasRoom STAMPS_PER_EVENT k → AreWithin (COUNT_LIMIT - PER_SETTLING) (fault c t f k)
 room-fault c t f k few h =
@@ -46,19 +44,17 @@ stamps-fault c t f k few h = omega (arith, h.stamps, walk_most (acts c t) k 0 32
 pub stamps-faulting : (k : Parts) → HasRoom STAMPS_PER_EVENT k → HasStamps PER_CALL k
 stamps-faulting k h = omega (arith, h.stamps)
 
-pub ruleset fault_stamps = (room-fault, stamps-fault, stamps-faulting)
-
 -- a call before its processor settles
-walks : (c t : ℕ) (k : Parts) → Walk (acts c t) k 1 33 (call c t k)
-walks c t k = walks_call (acts c t) k k t refl (itself k) start refl
+walks : (c t : ℕ) (k : Parts) → Walk (acts c t) k 1 PER_CALL (call c t k)
+walks c t k = walks_call (acts c t) k k t refl (unchanged k) start refl
 
 pub room-call : (c t : ℕ) (k : Parts) → AreFew k → HasRoom STAMPS_PER_EVENT k → AreWithin (COUNT_LIMIT - PER_SETTLING) (call c t k)
 room-call c t k few h =
     let w : AreWithin (COUNT_LIMIT - STAMPS_PER_EVENT) k = record { are = few.pipes.each; up = h.counts } in
-    within-more (COUNT_LIMIT - STAMPS_PER_EVENT + 1) (COUNT_LIMIT - PER_SETTLING) _ (omega arith) (within-walk (acts c t) 1 33 (COUNT_LIMIT - STAMPS_PER_EVENT) k _ (walks c t k) w)
+    within-more (COUNT_LIMIT - STAMPS_PER_EVENT + 1) (COUNT_LIMIT - PER_SETTLING) _ (omega arith) (within-walk (acts c t) 1 PER_CALL (COUNT_LIMIT - STAMPS_PER_EVENT) k _ (walks c t k) w)
 
 pub stamps-call : (c t : ℕ) (k : Parts) → AreFew k → HasRoom STAMPS_PER_EVENT k → HasStamps PER_SETTLING (call c t k)
-stamps-call c t k few h = omega (arith, h.stamps, walk_most (acts c t) k 1 33 _ few (walks c t k))
+stamps-call c t k few h = omega (arith, h.stamps, walk_most (acts c t) k 1 PER_CALL _ few (walks c t k))
 
 -- .. and before it
 pub room-asked : (k : Parts) → HasRoom STAMPS_PER_EVENT k → HasRoom PER_CALL k
@@ -66,10 +62,24 @@ room-asked k h = record {
   stamps = omega (arith, h.stamps);
   counts = PipesUpTo-more (COUNT_LIMIT - STAMPS_PER_EVENT) (COUNT_LIMIT - PER_CALL) k.pipes (omega arith) h.counts;
   holds = h.holds;
+  clock = h.clock;
+  timers = h.timers;
   harts = h.harts;
 }
 
-pub ruleset calls = (room-call, stamps-call, room-asked)
+-- the clock stands still
+clock-walk : (c t n s : ℕ) (k new : Parts) → Walk (acts c t) k n s new → k.ticks ≤ COUNT_LIMIT → new.ticks ≤ COUNT_LIMIT
+clock-walk c t n s k new w h = rw (walk_ticks (acts c t) k n s new refl w) h
+
+pub clock-fault : (c t : ℕ) (f : Fault) (k : Parts) → HasRoom STAMPS_PER_EVENT k → (fault c t f k).ticks ≤ COUNT_LIMIT
+clock-fault c t f k h = clock-walk c t 0 32 k _ (walks-fault c t f k) h.clock
+
+pub clock-call : (c t : ℕ) (k : Parts) → HasRoom STAMPS_PER_EVENT k → (call c t k).ticks ≤ COUNT_LIMIT
+clock-call c t k h = clock-walk c t 1 PER_CALL k _ (walks c t k) h.clock
+
+pub ruleset fault_stamps = (room-fault, stamps-fault, stamps-faulting, clock-fault)
+
+pub ruleset calls = (room-call, stamps-call, room-asked, clock-call)
 
 -- settling alone
 pub room-settle : (k : Parts) → ArePipes k.pipes → HasRoom STAMPS_PER_EVENT k → AreWithin (COUNT_LIMIT - PER_SETTLING) k
@@ -79,10 +89,19 @@ pub stamps-settle : (k : Parts) → HasRoom STAMPS_PER_EVENT k → HasStamps PER
 stamps-settle k h = omega (arith, h.stamps)
 
 -- .. after a line is received
-pub room-receive : (c l : ℕ) (k : Parts) → ArePipes k.pipes → HasRoom STAMPS_PER_EVENT k → AreWithin (COUNT_LIMIT - PER_SETTLING) (on_pipe c (receive l) k)
+pub room-receive : (c l : ℕ) (k : Parts) → ArePipes k.pipes → HasRoom STAMPS_PER_EVENT k → AreWithin (COUNT_LIMIT - PER_SETTLING) (receive_line c l k)
+unfolding receive_line
 room-receive c l k are h =
     let w : AreWithin (COUNT_LIMIT - STAMPS_PER_EVENT) k = record { are = are; up = h.counts } in
-    within-more (COUNT_LIMIT - STAMPS_PER_EVENT + 2) (COUNT_LIMIT - PER_SETTLING) _ (omega arith) (within-receive (COUNT_LIMIT - STAMPS_PER_EVENT) c l k w)
+    within-more (COUNT_LIMIT - STAMPS_PER_EVENT + 2) (COUNT_LIMIT - PER_SETTLING) _ (omega arith) (within-receive (COUNT_LIMIT - STAMPS_PER_EVENT) c (stage_of (action_at l k) l) l k w)
+
+pub stamps-receive : (c l : ℕ) (k : Parts) → HasRoom STAMPS_PER_EVENT k → HasStamps PER_SETTLING (receive_line c l k)
+unfolding receive_line
+stamps-receive c l k h = omega (arith, h.stamps)
+
+pub clock-receive : (c l : ℕ) (k : Parts) → HasRoom STAMPS_PER_EVENT k → (receive_line c l k).ticks ≤ COUNT_LIMIT
+unfolding receive_line
+clock-receive c l k h = h.clock
 
 pub room-receipt : (k : Parts) → HasRoom STAMPS_PER_EVENT k → PipesUpTo (COUNT_LIMIT - 1) k.pipes
 room-receipt k h = PipesUpTo-more (COUNT_LIMIT - STAMPS_PER_EVENT) (COUNT_LIMIT - 1) k.pipes (omega arith) h.counts
@@ -96,11 +115,11 @@ room-tick k h = PipesUpTo-more (COUNT_LIMIT - STAMPS_PER_EVENT) (COUNT_LIMIT - P
 -- the debugger's bits are no count, and no lock
 pub room-bits : (c : ℕ) (stopped skip : Bool) (k : Parts) → HasRoom STAMPS_PER_EVENT k → HasRoom STAMPS_PER_EVENT (set_bits stopped skip c k)
 unfolding set_bits
-room-bits c stopped skip k h = record { stamps = h.stamps; counts = h.counts; holds = h.holds; harts = h.harts }
+room-bits c stopped skip k h = record { stamps = h.stamps; counts = h.counts; holds = h.holds; clock = h.clock; timers = h.timers; harts = h.harts }
 
--- the rules that hold between events say how many tasks and mutexes there may be
-pub few-parts : (k : Parts) → Good k → AreFew k
-few-parts k g = record { pipes = record { each = g.pipes }; tasks = g.few_tasks; mutexes = g.locks.few }
+-- the rules that hold between events say how many tasks and mutexes there may be, and the room how many timers
+pub few-parts : (k : Parts) → Good k → HasRoom STAMPS_PER_EVENT k → AreFew k
+few-parts k g h = record { pipes = record { each = g.pipes }; tasks = g.few_tasks; mutexes = g.locks.few; timers = h.timers }
 
 pub ruleset few = (few-parts)
 

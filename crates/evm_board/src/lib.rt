@@ -15,6 +15,8 @@ mod stepping;
 
 pub use board::Board;
 pub use evm_quiet::{Breakpoints, Slots};
-pub use evm_settle::{Console, Harts, Mutexes, Parts, Pipe, Semaphores, Tasks};
+pub use evm_settle::{
+    Actions, Console, Events, Flags, Harts, Mutexes, Parts, Pipe, Semaphores, Tasks, Timers,
+};
 pub use memory::Memory;
 pub use stepping::Made;

@@ -1,8 +1,11 @@
 -- One more mutex of a look for an owner.
-use Rattle.std.proofs.Common.{◌≡◌, ℕ, ◌+◌, List, true, false, refl, add-one}
-use Rattle.std.specs.Prelude.{if◌then◌else◌}
+use Rattle.std.proofs.Common.{◌≡◌, ℕ, ◌+◌, List, Option, Some, None, Bool, true, false, length, refl, ap, ◌∙◌, inl, inr, add-one, eq-eqb}
+use Rattle.std.specs.Prelude.{◌==◌, ◌&&◌, not, option_map, slice_get, if◌then◌else◌}
+use Rattle.std.proofs.lemmas.Bool.{cases_eq, ne_eqb}
+use Rattle.evm_model.proofs.Lists.{change-here, change-elsewhere, length-change}
+use Rattle.evm_model.specs.Lists.{change}
 use Rattle.evm_ranks.specs.Boosts.{is_number}
-use Rattle.evm_model.specs.Mutexes.{owner, owns_below}
+use Rattle.evm_model.specs.Mutexes.{freed, owner, owner_of, owns_below}
 use Rattle.evm_model.specs.declared.mutex.Mutex.{Mutex}
 
 pub owns-none : (t : ℕ) (mutexes : List Mutex) → owns_below t mutexes 0 ≡ false
@@ -14,3 +17,27 @@ unfolding owns_below
 owns-more t mutexes m = rw add-one refl
 
 pub ruleset owners = (owns-none, owns-more)
+
+-- ---- the mutexes with one free
+freed-of : (o : Option Mutex) → owner_of (option_map freed o) ≡ None
+freed-of None = refl
+freed-of (Some mutex) = refl
+
+-- it has no owner then, and the others keep theirs
+freed-here : (mutexes : List Mutex) (m : ℕ) → owner (change freed mutexes m) m ≡ None
+freed-here mutexes m = ap owner_of (change-here freed mutexes m) ∙ freed-of (slice_get mutexes m)
+
+pub freed-owner : (mutexes : List Mutex) (m n t : ℕ) → is_number (owner (change freed mutexes m) n) t ≡ (not (n == m) && is_number (owner mutexes n) t)
+freed-owner mutexes m n t = elim (cases_eq n m) [
+  | inl e ↦ let same : (m == m) ≡ true = eq-eqb m m refl in rw (e, freed-here mutexes m, same) refl
+  | inr h ↦ let other : (n == m) ≡ false = ne_eqb n m h in rw (change-elsewhere freed mutexes m n h, other) refl
+]
+
+pub freed-more : (t m : ℕ) (mutexes : List Mutex) (n : ℕ)
+    → owns_below t (change freed mutexes m) (n + 1) ≡ (if not (n == m) && is_number (owner mutexes n) t then true else owns_below t (change freed mutexes m) n)
+freed-more t m mutexes n = owns-more t (change freed mutexes m) n ∙ ap (λ (b : Bool). if b then true else owns_below t (change freed mutexes m) n) (freed-owner mutexes m n t)
+
+pub freed-count : (mutexes : List Mutex) (m : ℕ) → length (change freed mutexes m) ≡ length mutexes
+freed-count mutexes m = length-change freed mutexes m
+
+pub ruleset others = (owns-none, freed-more, freed-count)

@@ -94,6 +94,20 @@ impl Mutexes {
         owns
     }
 
+    /// Whether task t owns another mutex than m.
+    #[tactic(auto, using(crate::proofs::Owners::others))]
+    pub fn owns_other(&self, t: u8, m: u8) -> bool
+        ensures { result ≡ owns_any t (change freed self.now m) }
+    {
+        let mut owns = false;
+        for n in 0..self.count() {
+            if n != m && self.is_owner(n, t) {
+                owns = true;
+            }
+        }
+        owns
+    }
+
     /// Task t has mutex m, locked so often.
     pub fn hold(&mut self, m: u8, t: u8, count: u64)
         ensures { self.new ≡ change (held_by t count) self.old m }

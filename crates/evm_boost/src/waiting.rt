@@ -18,6 +18,7 @@ fn lock_at(tasks: &Tasks, u: u8) -> Option<u8>
     };
     match task.state {
         TaskState::Waits(Wait::Lock(m)) => Some(m),
+        TaskState::Waits(Wait::Reacquire { mutex, .. }) => Some(mutex),
         _ => None,
     }
 }

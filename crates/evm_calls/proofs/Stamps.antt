@@ -14,19 +14,16 @@ use Rattle.evm_model.specs.declared.call.Outcome.{Outcome}
 use Rattle.evm_model.specs.declared.call.Outcome.TheVariants.{Answers, Waits, Leaves}
 use Rattle.evm_parts.specs.evm_task.Asks.{AskedBy}
 use Rattle.evm_parts.specs.evm_task.declared.harts.Asked.{Asked}
-use Rattle.evm_walk.proofs.Calls.{walks_call}
+use Rattle.evm_walk.proofs.Calls.{walks_closely}
 use Rattle.evm_walk.proofs.Sizes.{walk_most}
-use Rattle.evm_walk.proofs.Walk.{Actor, AreFew, Untouched, start}
+use Rattle.evm_walk.proofs.Walk.{Actor, AreFew, start, unchanged}
 
 -- task t calls on processor c
 abbrev calls : ℕ → ℕ → Actor
 calls c t = record { cpu = c; task = Some t; may = λ d l. false; chooses = false; calls = true }
 
-itself : (k : Parts) → Untouched k k
-itself k = record { tasks = refl; harts = refl; mutexes = refl; console = refl }
-
-most : (c t : ℕ) (k : Parts) → AreFew k → (call c t k).stamps ≤ k.stamps + 33
-most c t k few = walk_most (calls c t) k 1 33 (call c t k) few (walks_call (calls c t) k k t refl (itself k) start refl)
+most : (c t : ℕ) (k : Parts) → AreFew k → (call c t k).stamps ≤ k.stamps + 65
+most c t k few = walk_most (calls c t) k 1 65 (call c t k) few (walks_closely (calls c t) k k t refl (unchanged k) start refl)
 
 -- an answer takes none back
 least-if : (b : Bool) (x y : Parts) → x.stamps ≤ y.stamps → x.stamps ≤ (if b then y else x).stamps

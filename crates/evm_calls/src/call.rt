@@ -8,15 +8,20 @@ ghost use Rattle.evm_calls.specs.Asking.{IsAsked, IsMade};
 ghost use Rattle.evm_parts.specs.evm_task.Asks.{AskedBy};
 ghost use Rattle.evm_walk.proofs.Walk.{AreFew};
 
+use crate::actions::set_line;
 use crate::clock::clock;
 use crate::console::putc;
-use crate::lines::{set_line, wait_line};
+use crate::deadlines::sleep_until;
+use crate::events::{broadcast, event_wait, new_event, signal};
+use crate::flags::{flags_post, flags_wait, new_flags};
+use crate::lines::wait_line;
 use crate::mutexes::{lock, new_mutex, try_lock, unlock};
 use crate::policies::{attach, detach, set_mode, set_sched};
 use crate::refused::refused;
 use crate::semaphores::{new_semaphore, sem_get, sem_put, sem_try_get};
 use crate::stages::{stall, state_bits, switch_in_band, switch_oob};
 use crate::tasks::{exit, spawn, yield_now, yield_oob};
+use crate::timers::{new_timer, timer_set, timer_wait};
 use evm_model::{Call, Errno, Outcome, Stage};
 use evm_parts::{Asked, Parts};
 
@@ -37,7 +42,10 @@ fn perform(parts: &mut Parts, call: Call, asked: Asked, c: u8, t: u8) -> Outcome
         Call::Detach => detach(parts, t),
         Call::NewMutex => new_mutex(parts, asked.first, asked.second),
         Call::NewSemaphore => new_semaphore(parts, asked.first),
-        Call::SetLine => set_line(parts, asked.first, asked.second),
+        Call::NewEvent => new_event(parts),
+        Call::NewFlags => new_flags(parts),
+        Call::NewTimer => new_timer(parts),
+        Call::SetLine => set_line(parts, asked.first, asked.second, asked.third),
         Call::SwitchOob => switch_oob(parts),
         Call::SwitchInBand => switch_in_band(parts, c, t),
         Call::SetSched => set_sched(parts, asked.first, asked.second, asked.third),
@@ -48,6 +56,14 @@ fn perform(parts: &mut Parts, call: Call, asked: Asked, c: u8, t: u8) -> Outcome
         Call::SemGet => sem_get(parts, c, t, asked.first, asked.second),
         Call::SemTryGet => sem_try_get(parts, asked.first),
         Call::SemPut => sem_put(parts, asked.first),
+        Call::EventWait => event_wait(parts, c, t, asked.first, asked.second, asked.third),
+        Call::Signal => signal(parts, asked.first),
+        Call::Broadcast => broadcast(parts, asked.first),
+        Call::FlagsWait => flags_wait(parts, c, t, asked.first, asked.second),
+        Call::FlagsPost => flags_post(parts, asked.first, asked.second),
+        Call::SleepUntil => sleep_until(parts, c, t, asked.first),
+        Call::TimerSet => timer_set(parts, c, asked.first, asked.second, asked.third),
+        Call::TimerWait => timer_wait(parts, c, t, asked.first),
         Call::YieldOob => yield_oob(parts, t),
         Call::StallOob => stall(parts, Stage::OutOfBand, true, c),
         Call::UnstallOob => stall(parts, Stage::OutOfBand, false, c),

@@ -2,11 +2,12 @@
 
 ghost use Rattle.std.specs.Prelude.{◌≡◌, ◌≤◌};
 ghost use Rattle.evm_model.specs.Bounds.{COUNT_LIMIT, PER_CALL, HasRoom};
-ghost use Rattle.evm_model.specs.Locks.{new_mutex, mutex_of, with_ceiling, lock, lock_again, lock_other, try_lock, unlock, unlock_once};
+ghost use Rattle.evm_model.specs.Locks.{cycle_refusal, new_mutex, mutex_of, with_ceiling, lock, lock_again, lock_other, try_lock, unlock, unlock_once};
 ghost use Rattle.evm_model.specs.Mutexes.{free_mutex};
 
 use crate::refused::refused;
-use evm_model::{Errno, MUTEX_LIMIT, Mutex, Outcome, PRIORITY_LIMIT, Protocol, Stage, Wait};
+use crate::waits::wait_unless;
+use evm_model::{Errno, MUTEX_LIMIT, Mutex, Outcome, PRIORITY_LIMIT, Protocol, Wait};
 use evm_parts::Parts;
 
 fn free_mutex(recursive: bool, protocol: Protocol) -> Mutex
@@ -74,23 +75,25 @@ fn lock_again(parts: &mut Parts, t: u8, m: u8, mutex: Mutex) -> Outcome
     Outcome::Answers(0)
 }
 
+// The owner u waits for the task by some chain: the wait would never end.
+fn cycle_refusal(parts: &Parts, t: u8, u: u8) -> Option<Errno>
+    ensures { result ≡ cycle_refusal t u parts.now }
+{
+    if parts.meets(t, u) {
+        Some(Errno::Deadlock)
+    } else {
+        None
+    }
+}
+
 // The task waits for a mutex of task u's.
 #[tactic(auto, unfolding(evm_model::specs::Locks::lock_other))]
 fn lock_other(parts: &mut Parts, c: u8, t: u8, m: u8, u: u8, deadline: u64) -> Outcome
     requires room { HasRoom PER_CALL parts.old }
     ensures { (parts.new, result) ≡ lock_other c t m u deadline parts.old }
 {
-    if parts.is_stalled(c, Stage::OutOfBand) {
-        return refused(Errno::NotPermitted);
-    }
-    if parts.meets(t, u) {
-        return refused(Errno::Deadlock);
-    }
-    if deadline != 0 {
-        return refused(Errno::Invalid);
-    }
-    parts.begin_wait(t, Wait::Lock(m), deadline);
-    Outcome::Waits
+    let own = cycle_refusal(parts, t, u);
+    wait_unless(parts, c, t, Wait::Lock(m), own, deadline)
 }
 
 /// Call 36: the task has a mutex, or waits until it has it; answers 0. -22 where there is no such mutex. Where the

@@ -5,7 +5,8 @@ ghost use Rattle.evm_model.specs.Bounds.{PER_CALL, HasRoom};
 ghost use Rattle.evm_model.specs.Semaphores.{new_semaphore, sem_get, sem_try_get, sem_put};
 
 use crate::refused::refused;
-use evm_model::{Errno, Outcome, SEMAPHORE_COUNT_LIMIT, SEMAPHORE_LIMIT, Stage, Wait};
+use crate::waits::wait_unless;
+use evm_model::{Errno, Outcome, SEMAPHORE_COUNT_LIMIT, SEMAPHORE_LIMIT, Wait};
 use evm_parts::Parts;
 
 /// Call 10: a new semaphore of this count; answers its number. -22 for a count above 2,147,483,647, else -12 if there
@@ -25,8 +26,8 @@ pub fn new_semaphore(parts: &mut Parts, count: u64) -> Outcome
     Outcome::Answers(u64::from(number))
 }
 
-/// Call 39: the task takes one from a semaphore, or waits for one; answers 0. -22 if there is no such semaphore. If it
-/// would wait, -1 while out-of-band is stalled, else -22 for a deadline: there is none yet.
+/// Call 39: the task takes one from a semaphore, or waits for one, until a deadline if that is not 0; answers 0. -22 if
+/// there is no such semaphore. If it would wait, -1 while out-of-band is stalled, else -110 if the deadline has come.
 #[tactic(auto, unfolding(evm_model::specs::Semaphores::sem_get))]
 pub fn sem_get(parts: &mut Parts, c: u8, t: u8, semaphore: u64, deadline: u64) -> Outcome
     requires room { HasRoom PER_CALL parts.old }
@@ -38,16 +39,7 @@ pub fn sem_get(parts: &mut Parts, c: u8, t: u8, semaphore: u64, deadline: u64) -
     let s = semaphore as u8;
     match parts.semaphores.get(s) {
         None => refused(Errno::Invalid),
-        Some(0) => {
-            if parts.is_stalled(c, Stage::OutOfBand) {
-                return refused(Errno::NotPermitted);
-            }
-            if deadline != 0 {
-                return refused(Errno::Invalid);
-            }
-            parts.begin_wait(t, Wait::Semaphore(s), deadline);
-            Outcome::Waits
-        }
+        Some(0) => wait_unless(parts, c, t, Wait::Semaphore(s), None, deadline),
         Some(_) => {
             parts.take_semaphore(s);
             Outcome::Answers(0)
@@ -84,19 +76,5 @@ pub fn sem_put(parts: &mut Parts, semaphore: u64) -> Outcome
     if semaphore >= u64::from(parts.semaphores.count()) {
         return refused(Errno::Invalid);
     }
-    let s = semaphore as u8;
-    let Some(count) = parts.semaphores.get(s) else {
-        return refused(Errno::Invalid);
-    };
-    match parts.first_waiter(Wait::Semaphore(s)) {
-        Some(t) => {
-            parts.wake(t, 0);
-            Outcome::Answers(0)
-        }
-        None if count >= SEMAPHORE_COUNT_LIMIT => refused(Errno::Invalid),
-        None => {
-            parts.put_semaphore(s);
-            Outcome::Answers(0)
-        }
-    }
+    parts.sem_put(semaphore as u8)
 }

@@ -16,6 +16,8 @@ room-fits s g = record {
   stamps = omega (arith, stamps_room s g);
   counts = (within-more (2 ^ 28) (COUNT_LIMIT - STAMPS_PER_EVENT) s.board.parts (omega arith) (counts_room s g)).up;
   holds = holds_room s g;
+  clock = let h = ticks_room s g in omega arith;
+  timers = g.timers.few;
   harts = g.good.harts_count;
 }
 

@@ -7,7 +7,8 @@ ghost use Rattle.evm_model.specs.Replay.{bad_boot, BootAnswers};
 use crate::machine::Machine;
 use arrayvec::ArrayVec;
 use evm_board::{
-    Board, Breakpoints, Console, Harts, Memory, Mutexes, Parts, Pipe, Semaphores, Slots, Tasks,
+    Actions, Board, Breakpoints, Console, Events, Flags, Harts, Memory, Mutexes, Parts, Pipe,
+    Semaphores, Slots, Tasks, Timers,
 };
 use evm_exec::{Hart, REGISTER_COUNT};
 use evm_model::{
@@ -113,6 +114,10 @@ fn parts_of(boot: &Boot, console: Console) -> Parts
         stamps: 1,
         mutexes: Mutexes::new(),
         semaphores: Semaphores::new(),
+        events: Events::new(),
+        flags: Flags::new(),
+        timers: Timers::new(),
+        actions: Actions::new(),
         console,
     }
 }

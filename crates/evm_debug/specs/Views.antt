@@ -97,6 +97,7 @@ class_text Weak = codes "weak"
 abbrev pub wait_text : Wait → List ℕ
 wait_text (wait.Line l) = codes "in-wait " ++ decimal l
 wait_text (wait.Lock n) = codes "lock " ++ decimal n
+wait_text (wait.Reacquire m answer) = codes "lock " ++ decimal m
 wait_text (wait.Semaphore n) = codes "semaphore " ++ decimal n
 wait_text (wait.Event n) = codes "event " ++ decimal n
 wait_text (wait.Flags n) = codes "flags " ++ decimal n

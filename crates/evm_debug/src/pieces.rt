@@ -36,6 +36,7 @@ fn push_wait(out: &mut String, wait: Wait) -> Result<(), Refused>
     match wait {
         Wait::Line(line) => push_numbered(out, "in-wait ", line),
         Wait::Lock(number) => push_numbered(out, "lock ", number),
+        Wait::Reacquire { mutex, .. } => push_numbered(out, "lock ", mutex),
         Wait::Semaphore(number) => push_numbered(out, "semaphore ", number),
         Wait::Event(number) => push_numbered(out, "event ", number),
         Wait::Flags(number) => push_numbered(out, "flags ", number),

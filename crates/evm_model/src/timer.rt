@@ -10,3 +10,15 @@ pub struct Timer {
     /// How often it has expired since a task last asked.
     pub expiries: u64,
 }
+
+impl Default for Timer {
+    /// One that is off.
+    fn default() -> Self {
+        Timer {
+            cpu: 0,
+            due: 0,
+            period: 0,
+            expiries: 0,
+        }
+    }
+}

@@ -1,3 +1,6 @@
 pub mod Chosen
+pub mod Expiries
 pub mod Passes
+pub mod Rounds
+pub mod Signals
 pub mod Wakes

@@ -2,16 +2,22 @@
 //! functions; what many rows do to one processor's part, or to one task, has a function here.
 #![tactic(auto)]
 
+mod actions;
 mod console;
+mod deadlines;
+mod events;
+mod flags;
 mod locks;
 mod parts;
 mod semaphores;
 mod stages;
 mod tasks;
+mod timers;
 
 pub use console::Console;
 pub use evm_boost::Mutexes;
 pub use evm_pipe::Pipe;
-pub use evm_sync::Semaphores;
+pub use evm_sync::{Actions, Events, Flags, Semaphores};
 pub use evm_task::{Asked, Harts, Tasks};
+pub use evm_tick::Timers;
 pub use parts::Parts;

@@ -3,8 +3,9 @@
 ghost use Rattle.std.specs.Prelude.{◌≡◌, ◌<◌, ◌≤◌, ◌+◌, Some, None, length, slice_get};
 ghost use Rattle.evm_boost.specs.Scatter.{AreRanks};
 ghost use Rattle.evm_model.specs.Bounds.{HasStamps};
+ghost use Rattle.evm_model.specs.Lists.{change};
 ghost use Rattle.evm_model.specs.Locks.{add_mutex, take_mutex};
-ghost use Rattle.evm_model.specs.Mutexes.{owns_any, held_by, waits_on};
+ghost use Rattle.evm_model.specs.Mutexes.{freed, owns_any, held_by, waits_on};
 ghost use Rattle.evm_model.specs.Passing.{pass_on, pass_if, pass_below};
 ghost use Rattle.evm_model.specs.Ranks.{best, rank};
 ghost use Rattle.evm_model.specs.State.{on_mutex};
@@ -50,6 +51,13 @@ impl Parts {
         self.mutexes.owns_any(t)
     }
 
+    /// Whether a task owns another mutex than this.
+    pub fn owns_other(&self, t: u8, m: u8) -> bool
+        ensures { result ≡ owns_any t (change freed self.now.mutexes m) }
+    {
+        self.mutexes.owns_other(t, m)
+    }
+
     /// Whether task u waits for task t by some chain, or is it.
     pub fn meets(&self, t: u8, u: u8) -> bool
         ensures { result ≡ meets (waits_on self.now.mutexes self.now.tasks) t TASK_LIMIT (Some u) }
@@ -90,7 +98,8 @@ impl Parts {
         self.mutexes.first_waiter(wait, &self.tasks)
     }
 
-    /// A task that waited for a mutex owns it and wakes; if there is none, the mutex is free.
+    /// A task that waited for a mutex owns it and wakes, with the answer that it kept if it waited for it again; if there
+    /// is none, the mutex is free.
     #[tactic(auto, unfolding(evm_model::specs::Passing::pass_on))]
     pub fn pass_on(&mut self, m: u8)
         requires room { HasStamps 1 self.old }
@@ -100,8 +109,9 @@ impl Parts {
         match self.first_waiter(Wait::Lock(m)) {
             None => self.mutexes.leave(m),
             Some(t) => {
+                let kept = self.tasks.kept(t);
                 self.hold_mutex(t, m, 1);
-                self.wake(t, 0);
+                self.wake(t, kept);
             }
         }
     }

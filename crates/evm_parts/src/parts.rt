@@ -1,7 +1,7 @@
-ghost use Rattle.std.specs.Prelude.{◌≡◌, ◌<◌, ◌≤◌, ◌-◌, true, false, length, slice_get, option_copied, Option};
+ghost use Rattle.std.specs.Prelude.{◌≡◌, ◌<◌, ◌≤◌, true, false, length, slice_get, option_copied, Option};
 ghost use Rattle.evm_model.specs.Bounds.{COUNT_LIMIT, PipesUpTo};
 ghost use Rattle.evm_model.specs.Profiles.{line_count};
-ghost use Rattle.evm_model.specs.Pipes.{raise, arrive, receive, play, set_stall};
+ghost use Rattle.evm_model.specs.Pipes.{raise, arrive, play, set_stall};
 ghost use Rattle.evm_model.specs.Settle.{current};
 ghost use Rattle.evm_model.specs.State.{on_pipe, on_processor};
 
@@ -11,8 +11,9 @@ use evm_boost::Mutexes;
 use evm_lines::LINES;
 use evm_model::{PROCESSOR_LIMIT, Processor, Profile, Stage};
 use evm_pipe::Pipe;
-use evm_sync::Semaphores;
+use evm_sync::{Actions, Events, Flags, Semaphores};
 use evm_task::{Harts, Tasks};
+use evm_tick::Timers;
 use std::marker::Model;
 
 /// What calls may change. No field can grow past the room that it has from the start.
@@ -36,6 +37,14 @@ pub struct Parts {
     pub mutexes: Mutexes,
     /// The counts of the semaphores.
     pub semaphores: Semaphores,
+    /// The mutexes of the tasks that wait for the events.
+    pub events: Events,
+    /// The words of the flag groups.
+    pub flags: Flags,
+    /// The timers.
+    pub timers: Timers,
+    /// The actions of the lines.
+    pub actions: Actions,
     /// What was put to the console.
     pub console: Console,
 }
@@ -55,6 +64,10 @@ impl Model for Parts {
       stamps = k.stamps;
       mutexes = k.mutexes;
       semaphores = k.semaphores;
+      events = k.events;
+      flags = k.flags;
+      timers = k.timers;
+      actions = k.actions;
       console = k.console;
     } };
 }
@@ -171,17 +184,6 @@ impl Parts {
     {
         if let Some(pipe) = self.pipes.get_mut(c as usize) {
             pipe.raise(line);
-        }
-    }
-
-    /// Takes a line from a processor's wire into the log of its stage.
-    pub fn receive(&mut self, c: u8, line: u8)
-        requires line { line < LINES }
-        requires room { PipesUpTo (COUNT_LIMIT - 1) self.old.pipes }
-        ensures { self.new ≡ on_pipe c (receive line) self.old }
-    {
-        if let Some(pipe) = self.pipes.get_mut(c as usize) {
-            pipe.receive(line);
         }
     }
 

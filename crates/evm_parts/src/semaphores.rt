@@ -1,11 +1,12 @@
 //! What rows do to a semaphore.
 
-ghost use Rattle.std.specs.Prelude.{◌≡◌, ℕ, ◌<◌, ◌+◌, ◌-◌, Some, length, slice_get};
-ghost use Rattle.evm_model.specs.Semaphores.{add_semaphore};
+ghost use Rattle.std.specs.Prelude.{◌≡◌, ℕ, ◌<◌, ◌≤◌, ◌+◌, ◌-◌, Some, length, slice_get};
+ghost use Rattle.evm_model.specs.Bounds.{HasStamps};
+ghost use Rattle.evm_model.specs.Semaphores.{add_semaphore, sem_put};
 ghost use Rattle.evm_model.specs.State.{on_semaphore};
 
 use crate::parts::Parts;
-use evm_model::{SEMAPHORE_COUNT_LIMIT, SEMAPHORE_LIMIT};
+use evm_model::{Errno, Outcome, SEMAPHORE_COUNT_LIMIT, SEMAPHORE_LIMIT, Wait};
 
 impl Parts {
     /// One semaphore more.
@@ -31,5 +32,29 @@ impl Parts {
         ensures row { self.new ≡ on_semaphore s (λ n. n + 1) self.old }
     {
         self.semaphores.put(s);
+    }
+
+    /// One is put into a semaphore, by a call or by a line: the first task that waits for it wakes, or the count is one
+    /// more, unless it is the greatest.
+    #[tactic(auto, unfolding(evm_model::specs::Semaphores::sem_put))]
+    pub fn sem_put(&mut self, s: u8) -> Outcome
+        requires room { HasStamps 1 self.old }
+        ensures row { (self.new, result) ≡ sem_put s self.old }
+        ensures stamps { self.new.stamps ≤ self.old.stamps + 1 }
+    {
+        let Some(count) = self.semaphores.get(s) else {
+            return Outcome::Answers(Errno::Invalid.answer());
+        };
+        match self.first_waiter(Wait::Semaphore(s)) {
+            Some(t) => {
+                self.wake(t, 0);
+                Outcome::Answers(0)
+            }
+            None if count >= SEMAPHORE_COUNT_LIMIT => Outcome::Answers(Errno::Invalid.answer()),
+            None => {
+                self.put_semaphore(s);
+                Outcome::Answers(0)
+            }
+        }
     }
 }

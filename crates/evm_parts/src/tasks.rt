@@ -89,6 +89,7 @@ impl Parts {
     pub fn begin_wait(&mut self, t: u8, wait: Wait, deadline: u64)
         requires room { HasStamps 1 self.old }
         ensures row { self.new ≡ begin_wait t wait deadline self.old }
+        ensures stamps { self.new.stamps ≡ self.old.stamps + 1 }
     {
         self.tasks.begin_wait(t, wait, deadline);
         self.restamp(t);

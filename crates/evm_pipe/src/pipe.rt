@@ -1,7 +1,7 @@
 ghost use Rattle.std.specs.Prelude.{◌≡◌, ◌<◌, ◌-◌, slice_get, IfSome};
 ghost use Rattle.evm_lines.specs.Lines.{has_line, has_none, least_line};
 ghost use Rattle.evm_model.specs.Bounds.{COUNT_LIMIT, PipeUpTo};
-ghost use Rattle.evm_model.specs.Pipes.{idle_pipe, idle_log, no_counts, stage_of, log_of, raise, arrive, leave_wire, receive, play, set_stall};
+ghost use Rattle.evm_model.specs.Pipes.{idle_pipe, idle_log, no_counts, log_of, raise, arrive, leave_wire, receive, play, set_stall};
 
 use crate::counting::{arrive_in, play_in, raise_in, receive_in};
 use evm_lines::{LINE_COUNT, LINES, LineSet};
@@ -23,17 +23,6 @@ impl Model for Pipe {
     ghost Value = { model.Pipe };
 
     ghost view = { λ p. record { oob = p.oob; inband = p.inband; wire = p.wire; counts = p.counts } };
-}
-
-// The stage that receives a line: lines 0 and 1 are the out-of-band stage's.
-fn stage_of(line: u8) -> Stage
-    ensures { result ≡ stage_of line }
-{
-    if line < 2 {
-        Stage::OutOfBand
-    } else {
-        Stage::InBand
-    }
 }
 
 fn idle_log() -> StageLog
@@ -143,15 +132,15 @@ impl Pipe {
         receive_in(&mut self.counts, line);
     }
 
-    /// Takes a line from the wire into the log of its stage.
+    /// Takes a line from the wire into the log of a stage.
     #[tactic(auto, using(crate::proofs::Growing::leave_wire_grows), unfolding(evm_model::specs::Pipes::receive))]
-    pub fn receive(&mut self, line: u8)
+    pub fn receive(&mut self, stage: Stage, line: u8)
         requires line { line < LINES }
         requires room { PipeUpTo (COUNT_LIMIT - 1) self.old }
-        ensures { self.new ≡ receive line self.old }
+        ensures { self.new ≡ receive stage line self.old }
     {
         self.leave_wire(line);
-        self.arrive(stage_of(line), line);
+        self.arrive(stage, line);
     }
 
     /// Takes a line from the log of a stage, to be played.

@@ -25,11 +25,12 @@ use Rattle.evm_model.specs.declared.task.Wait.{Wait}
 use Rattle.evm_model.specs.declared.task.Wait.TheVariants.{Sleep, Event, Semaphore, Flags, Timer as For}
 use Rattle.evm_model.specs.declared.timer.Timer.{Timer}
 
--- pipes, processors, the number of tasks; no more stamps are given than this
+-- pipes, processors, the number of tasks, the clock; no more stamps are given than this
 pub record Gives (n : ℕ) (k x : Parts) : Type 0 where
   pub pipes : x.pipes ≡ k.pipes
   pub processors : x.processors ≡ k.processors
   pub tasks : length x.tasks ≡ length k.tasks
+  pub ticks : x.ticks ≡ k.ticks
   pub least : k.stamps ≤ x.stamps
   pub most : x.stamps ≤ k.stamps + n
 
@@ -38,13 +39,14 @@ abbrev pub Spends : Parts → Parts → Type 0
 Spends k x = Gives 1 k x
 
 pub gives-none : (n : ℕ) (k : Parts) → Gives n k k
-gives-none n k = record { pipes = refl; processors = refl; tasks = refl; least = omega arith; most = omega arith }
+gives-none n k = record { pipes = refl; processors = refl; tasks = refl; ticks = refl; least = omega arith; most = omega arith }
 
 pub gives-then : (n m : ℕ) (x y z : Parts) → Gives n x y → Gives m y z → Gives (n + m) x z
 gives-then n m x y z p q = record {
   pipes = q.pipes ∙ p.pipes;
   processors = q.processors ∙ p.processors;
   tasks = q.tasks ∙ p.tasks;
+  ticks = q.ticks ∙ p.ticks;
   least = omega (arith, p.least, q.least);
   most = omega (arith, p.most, q.most);
 }
@@ -56,24 +58,24 @@ gives-if n false k x y p q = q
 -- ---- a task wakes, or waits
 wake-gives : (t value : ℕ) (k : Parts) → Gives 1 k (wake t value k)
 unfolding wake restamp
-wake-gives t value k = record { pipes = refl; processors = refl; tasks = length-change _ _ t ∙ length-change _ k.tasks t; least = omega arith; most = omega arith }
+wake-gives t value k = record { pipes = refl; processors = refl; tasks = length-change _ _ t ∙ length-change _ k.tasks t; ticks = refl; least = omega arith; most = omega arith }
 
 wait-gives : (t : ℕ) (wait : Wait) (deadline : ℕ) (k : Parts) → Gives 1 k (begin_wait t wait deadline k)
 unfolding begin_wait restamp
-wait-gives t wait deadline k = record { pipes = refl; processors = refl; tasks = length-change _ _ t ∙ length-change _ k.tasks t; least = omega arith; most = omega arith }
+wait-gives t wait deadline k = record { pipes = refl; processors = refl; tasks = length-change _ _ t ∙ length-change _ k.tasks t; ticks = refl; least = omega arith; most = omega arith }
 
 -- its mutex, its flag group or its timer changes too
 mutex_wake-gives : (t m value : ℕ) (k : Parts) → Gives 1 k (wake t value (on_mutex m (held_by t 1) k))
 unfolding wake restamp
-mutex_wake-gives t m value k = record { pipes = refl; processors = refl; tasks = length-change _ _ t ∙ length-change _ k.tasks t; least = omega arith; most = omega arith }
+mutex_wake-gives t m value k = record { pipes = refl; processors = refl; tasks = length-change _ _ t ∙ length-change _ k.tasks t; ticks = refl; least = omega arith; most = omega arith }
 
 flags_wake-gives : (t f value : ℕ) (k : Parts) → Gives 1 k (wake t value (on_flags f (λ old. 0) k))
 unfolding wake restamp
-flags_wake-gives t f value k = record { pipes = refl; processors = refl; tasks = length-change _ _ t ∙ length-change _ k.tasks t; least = omega arith; most = omega arith }
+flags_wake-gives t f value k = record { pipes = refl; processors = refl; tasks = length-change _ _ t ∙ length-change _ k.tasks t; ticks = refl; least = omega arith; most = omega arith }
 
 timer_wake-gives : (t n value : ℕ) (timer : Timer) (k : Parts) → Gives 1 k (wake t value (on_timer n (λ old. timer) k))
 unfolding wake restamp
-timer_wake-gives t n value timer k = record { pipes = refl; processors = refl; tasks = length-change _ _ t ∙ length-change _ k.tasks t; least = omega arith; most = omega arith }
+timer_wake-gives t n value timer k = record { pipes = refl; processors = refl; tasks = length-change _ _ t ∙ length-change _ k.tasks t; ticks = refl; least = omega arith; most = omega arith }
 
 -- ---- deadlines
 from-gives : (o : Option ℕ) (t m answer : ℕ) (k : Parts) → Gives 1 k (reacquire_from o t m answer k)
@@ -122,7 +124,7 @@ end_waits-gives c k = rounds-gives c (length k.tasks) k
 
 -- ---- timers
 expire_to-gives : (o : Option ℕ) (n : ℕ) (timer : Timer) (k : Parts) → Gives 1 k (expire_to o n timer k)
-expire_to-gives None n timer k = record { pipes = refl; processors = refl; tasks = refl; least = omega arith; most = omega arith }
+expire_to-gives None n timer k = record { pipes = refl; processors = refl; tasks = refl; ticks = refl; least = omega arith; most = omega arith }
 expire_to-gives (Some t) n timer k = timer_wake-gives t n timer.expiries (taken timer) k
 
 known-gives : (o : Option Timer) (c n : ℕ) (k : Parts) → Gives 1 k (expire_known o c n k)
@@ -150,7 +152,7 @@ more-gives true k x y p q = p
 more-gives false k x y p q = q
 
 put_to-gives : (o : Option ℕ) (s count : ℕ) (k : Parts) → Gives 1 k (sem_put_to o s count k).0
-put_to-gives None s count k = more-gives (nat_le SEMAPHORE_COUNT_LIMIT count) k _ _ (gives-none 1 k) (record { pipes = refl; processors = refl; tasks = refl; least = omega arith; most = omega arith })
+put_to-gives None s count k = more-gives (nat_le SEMAPHORE_COUNT_LIMIT count) k _ _ (gives-none 1 k) (record { pipes = refl; processors = refl; tasks = refl; ticks = refl; least = omega arith; most = omega arith })
 put_to-gives (Some t) s count k = wake-gives t 0 k
 
 put_known-gives : (o : Option ℕ) (s : ℕ) (k : Parts) → Gives 1 k (sem_put_known o s k).0
@@ -162,7 +164,7 @@ unfolding sem_put
 sem_put-gives s k = put_known-gives (slice_get k.semaphores s) s k
 
 post_to-gives : (o : Option ℕ) (f word : ℕ) (k : Parts) → Gives 1 k (post_to o f word k)
-post_to-gives None f word k = record { pipes = refl; processors = refl; tasks = refl; least = omega arith; most = omega arith }
+post_to-gives None f word k = record { pipes = refl; processors = refl; tasks = refl; ticks = refl; least = omega arith; most = omega arith }
 post_to-gives (Some t) f word k = flags_wake-gives t f word k
 
 post_known-gives : (o : Option ℕ) (f bits : ℕ) (k : Parts) → Gives 1 k (post_known o f bits k)
@@ -182,11 +184,11 @@ act-gives (Posts f) l k = post-gives f (2 ^ l) k
 -- ---- a tick of a slice
 slice-spends : (t slice : ℕ) (k : Parts) → Spends k (set_slice t slice k)
 unfolding set_slice
-slice-spends t slice k = record { pipes = refl; processors = refl; tasks = length-change _ k.tasks t; least = omega arith; most = omega arith }
+slice-spends t slice k = record { pipes = refl; processors = refl; tasks = length-change _ k.tasks t; ticks = refl; least = omega arith; most = omega arith }
 
 fresh-spends : (t : ℕ) (k : Parts) → Spends k (restamp t (set_slice t SLICE k))
 unfolding restamp set_slice
-fresh-spends t k = record { pipes = refl; processors = refl; tasks = length-change _ _ t ∙ length-change _ k.tasks t; least = omega arith; most = omega arith }
+fresh-spends t k = record { pipes = refl; processors = refl; tasks = length-change _ _ t ∙ length-change _ k.tasks t; ticks = refl; least = omega arith; most = omega arith }
 
 slice_left-spends : (t slice : ℕ) (k : Parts) → Spends k (spend_slice t slice k)
 unfolding spend_slice

@@ -23,4 +23,6 @@ pub mod Replays
 pub mod Runs
 pub mod Sooner
 pub mod Steps
+pub mod Taken
 pub mod Turns
+pub mod Woken

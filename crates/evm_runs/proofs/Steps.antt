@@ -22,10 +22,11 @@ use Rattle.evm_walk.proofs.Sizes.{walk_sizes, walk_least, walk_ticks}
 use Rattle.evm_walk.proofs.Walk.{Actor, Makes, unchanged, Walk, start}
 use Rattle.evm_runs.specs.Changes.{MakesCall, MakesNone, StoreWrites, Stays, Spends, MutexesStay, MutexesTaken, ObjectsChange, Schedules, Hears, StepChanges, Added}
 use Rattle.evm_runs.specs.Kept.{AllHaveRegisters}
-use Rattle.evm_runs.proofs.Added.{walk_registers, walk_added, walk_made, walk_taken, walk_typed, walk_processors, walk_other_pipes}
+use Rattle.evm_runs.proofs.Added.{walk_registers, walk_added, walk_made, walk_typed, walk_processors, walk_other_pipes}
 use Rattle.evm_runs.proofs.Fares.{one_change, ends_wider, Fares, still, still_by}
 use Rattle.evm_runs.proofs.Frames.{Asked, Frame, walk_frame}
 use Rattle.evm_runs.proofs.Named.{AreNamed, named_good}
+use Rattle.evm_runs.proofs.Taken.{walk_taken}
 use Rattle.evm_runs.proofs.Objects.{objects_wider, walk_objects}
 use Rattle.evm_runs.proofs.Instructions.{Calls, called, step_writes}
 
@@ -214,7 +215,7 @@ module _ (c : ℕ) (b : Board) where
 
     changes : MayStep c b.parts → (f : Frame (actor c o true calls) b.parts new.parts) → (f.asked ≡ b.parts.tasks) ⊎ Schedules c b f.asked
         → ((t : ℕ) → (current c b.parts ≡ Some t → ⊥) → Stays (current c b.parts) (λ number hart. MakesCall c number hart b) c t (record b.parts { tasks = f.asked }) new.parts) → MutexesStay (current c b.parts) b.parts.mutexes new.parts.mutexes
-        → (Hears c b.parts → (f.asked ≡ b.parts.tasks) × ((t : ℕ) → Stays None MakesNone c t b.parts new.parts ⊎ Spends c t b.parts new.parts) × (MutexesTaken b.parts.mutexes new.parts.mutexes × (length new.parts.mutexes ≡ length b.parts.mutexes)))
+        → (Hears c b.parts → (f.asked ≡ b.parts.tasks) × ((t : ℕ) → Stays None MakesNone c t b.parts new.parts ⊎ Spends c t b.parts new.parts) × (MutexesTaken b.parts new.parts.mutexes × (length new.parts.mutexes ≡ length b.parts.mutexes)))
         → ObjectsChange (λ number hart. MakesCall c number hart b) c b.parts new.parts → (Hears c b.parts → ObjectsChange MakesNone c b.parts new.parts) → StepChanges c b new
     changes fit f scheduled others mutexes hears objects hears_objects = record {
       asked = f.asked;
@@ -282,7 +283,7 @@ module _ (c : ℕ) (b : Board) where
       (λ line. (
         unasked f,
         (λ t. silent t (subst (λ (all : List Task). Fares (actor c None true true) (Makes (actor c None true true) b.parts) t (record b.parts { tasks = all }) new.parts) (unasked f) (f.others t (λ h. cc)))),
-        walk_taken (actor c None true true) b.parts 66 2241 new.parts refl (walk None true m),
+        walk_taken (actor c None true true) b.parts (record { runs = fit.runs; named = fit.named; clock = refl }) 66 2241 new.parts refl (walk None true m),
       ))
       (objects_wider (Makes (actor c None true true) b.parts) (λ number hart. MakesCall c number hart b) c b.parts new.parts (λ n h call. absurd (none_calls n h call)) (objects_of None true m))
       (λ line. objects_wider (Makes (actor c None true true) b.parts) MakesNone c b.parts new.parts none_calls (objects_of None true m))

@@ -233,15 +233,19 @@ pub record MutexChanges (holder : Option ℕ) (m : ℕ) (before : Mutex) (new : 
 abbrev pub MutexesStay : Option ℕ → List Mutex → List Mutex → Type 0
 MutexesStay holder old new = (m : ℕ) (before : Mutex) → slice_get old m ≡ Some before → (slice_get new m ≡ Some before) ⊎ MutexChanges holder m before new
 
--- a mutex that was free has an owner now, which locked it once
-pub record IsTaken (m : ℕ) (before : Mutex) (new : List Mutex) : Type 0 where
+-- a mutex that was free has an owner now, which waited for an event and has locked it once
+pub record IsTaken (m : ℕ) (before : Mutex) (old : List Task) (new : List Mutex) : Type 0 where
   pub task : ℕ
+  pub waiter : Task
+  pub event : ℕ
   pub free : before.owner ≡ None
+  pub waited : slice_get old task ≡ Some waiter
+  pub on : waiter.state ≡ Waits (OfEvent event)
   pub there : slice_get new m ≡ Some (held_by task 1 before)
 
 -- each mutex is as it was, or is taken
-abbrev pub MutexesTaken : List Mutex → List Mutex → Type 0
-MutexesTaken old new = (m : ℕ) (before : Mutex) → slice_get old m ≡ Some before → (slice_get new m ≡ Some before) ⊎ IsTaken m before new
+abbrev pub MutexesTaken : Parts → List Mutex → Type 0
+MutexesTaken old new = (m : ℕ) (before : Mutex) → slice_get old.mutexes m ≡ Some before → (slice_get new m ≡ Some before) ⊎ IsTaken m before old.tasks new
 
 -- there is one mutex more, the last, and it is free
 pub record AddsMutex (old new : List Mutex) : Type 0 where
@@ -342,7 +346,7 @@ pub record StepChanges (c : ℕ) (old new : Board) : Type 0 where
   pub others : (t : ℕ) → (current c old.parts ≡ Some t → ⊥) → Stays (current c old.parts) (λ number hart. MakesCall c number hart old) c t (record old.parts { tasks = asked }) new.parts
   pub mutexes : MutexesStay (current c old.parts) old.parts.mutexes new.parts.mutexes
   -- where a line is on the wire the current task too stays, or its slice is spent, and no mutex changes but such as are taken
-  pub hears : Hears c old.parts → (asked ≡ old.parts.tasks) × ((t : ℕ) → Stays None MakesNone c t old.parts new.parts ⊎ Spends c t old.parts new.parts) × (MutexesTaken old.parts.mutexes new.parts.mutexes × (length new.parts.mutexes ≡ length old.parts.mutexes))
+  pub hears : Hears c old.parts → (asked ≡ old.parts.tasks) × ((t : ℕ) → Stays None MakesNone c t old.parts new.parts ⊎ Spends c t old.parts new.parts) × (MutexesTaken old.parts new.parts.mutexes × (length new.parts.mutexes ≡ length old.parts.mutexes))
   pub objects : ObjectsChange (λ number hart. MakesCall c number hart old) c old.parts new.parts
   -- .. where a line is on the wire none by a call
   pub hears_objects : Hears c old.parts → ObjectsChange MakesNone c old.parts new.parts

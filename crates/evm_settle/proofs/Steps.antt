@@ -1,6 +1,6 @@
 -- Settling out-of-band in two steps, and the room that each takes up.
 use Rattle.std.proofs.Common.{◌≡◌, ℕ, List, [], ◌∷◌, ◌+◌, ◌-◌, ◌≤◌, Bool, true, false, Option, Some, None, length, refl, ap, sym, ◌∙◌, arith}
-use Rattle.std.specs.Prelude.{◌==◌, not, slice_get, if◌then◌else◌}
+use Rattle.std.specs.Prelude.{not, slice_get, if◌then◌else◌}
 use Rattle.evm_parts.specs.evm_boost.Scatter.{AreRanks}
 use Rattle.evm_model.specs.Bounds.{COUNT_LIMIT, PER_IN_BAND_LOG, PER_OOB_LOG, PER_SETTLING, HasStamps, PipesUpTo}
 use Rattle.evm_lines.specs.declared.TheConstants.{LINES}
@@ -9,7 +9,7 @@ use Rattle.evm_model.specs.Settle.{play_oob, play_oob_lines, spend, run_best, se
 use Rattle.evm_model.specs.State.{Parts, on_pipe}
 use Rattle.evm_model.specs.declared.limits.TheConstants.{PROCESSOR_LIMIT}
 use Rattle.evm_model.specs.declared.stage.Stage.TheVariants.{OutOfBand, InBand}
-use Rattle.evm_rules.proofs.Bounded.{AreWithin, within-settle_oob, within-settle_in_band}
+use Rattle.evm_rules.proofs.Bounded.{AreWithin, within-more, within-settle_oob, within-settle_in_band}
 use Rattle.evm_rules.proofs.evm_walk.Counted.{PipesUpTo-more}
 use Rattle.evm_rules.proofs.Ranking.{AreRanked, ranked-same}
 use Rattle.evm_rules.proofs.Settling.{ranked-in_band}
@@ -56,39 +56,12 @@ room-first k w = PipesUpTo-more (COUNT_LIMIT - PER_SETTLING) (COUNT_LIMIT - PER_
 pub room-played : (was : Option ℕ) (c : ℕ) (k : Parts) → AreWithin (COUNT_LIMIT - PER_SETTLING) k → AreWithin (COUNT_LIMIT - PER_IN_BAND_LOG) (play_oob_pipe (slice_get k.pipes c) was c k)
 room-played was c k w =
     let x : Parts = play_oob_pipe (slice_get k.pipes c) was c k in
-    let all : AreWithin (COUNT_LIMIT - PER_IN_BAND_LOG) (settle_oob was c k) = within-settle_oob (COUNT_LIMIT - PER_SETTLING) was c k w in
+    let all : AreWithin (COUNT_LIMIT - PER_IN_BAND_LOG) (settle_oob was c k) = within-more (COUNT_LIMIT - PER_SETTLING + 64) (COUNT_LIMIT - PER_IN_BAND_LOG) (settle_oob was c k) (omega arith) (within-settle_oob (COUNT_LIMIT - PER_SETTLING) was c k w) in
     let same : x.pipes ≡ (settle_oob was c k).pipes = sym (choose-pipes c (chooses (slice_get k.pipes c)) x) ∙ ap (λ (z : Parts). z.pipes) (sym (settle_oob-steps was c k)) in
     record { are = rw same all.are; up = rw same all.up }
 
 pub room-up : (k : Parts) → AreWithin (COUNT_LIMIT - PER_IN_BAND_LOG) k → PipesUpTo (COUNT_LIMIT - PER_IN_BAND_LOG) k.pipes
 room-up k w = w.up
-
--- each line that is played gives one stamp at most
-handle-stamps : (was : Option ℕ) (c : ℕ) (first : Bool) (k : Parts) → (if first then on_pipe c (arrive InBand 0) (spend was k) else k).stamps ≤ k.stamps + 1
-handle-stamps was c true k = let s = of-spends was k in omega (arith, s.most)
-handle-stamps was c false k = omega arith
-
-play-stamps : (was : Option ℕ) (c l : ℕ) (k : Parts) → (play_oob was c l k).stamps ≤ k.stamps + 1
-unfolding play_oob
-play-stamps was c l k = handle-stamps was c (l == 0) (on_pipe c (play OutOfBand l) k)
-
-lines-stamps : (was : Option ℕ) (c : ℕ) (lines : List ℕ) (k : Parts) → (play_oob_lines was c lines k).stamps ≤ k.stamps + length lines
-unfolding play_oob_lines
-lines-stamps was c [] k = omega arith
-lines-stamps was c (l ∷ ls) k = omega (arith, play-stamps was c l k, lines-stamps was c ls (play_oob was c l k))
-
-stamps-if : (b : Bool) (n : ℕ) (k x : Parts) → HasStamps n k → HasStamps n x → HasStamps n (if b then k else x)
-stamps-if true n k x p q = p
-stamps-if false n k x p q = q
-
-stamps-pipe : (was : Option ℕ) (c : ℕ) (o : Option Pipe) (k : Parts) → slice_get k.pipes c ≡ o → AreWithin (COUNT_LIMIT - PER_SETTLING) k → HasStamps PER_SETTLING k → HasStamps PER_IN_BAND_LOG (play_oob_pipe o was c k)
-stamps-pipe was c None k e w h = omega arith
-stamps-pipe was c (Some pipe) k e w h =
-    let few : length pipe.oob.lines ≤ LINES = length-set pipe.oob.lines (w.are c pipe e).oob in
-    stamps-if pipe.oob.stalled PER_IN_BAND_LOG k _ (omega arith) (omega (arith, lines-stamps was c pipe.oob.lines k))
-
-pub stamps-played : (was : Option ℕ) (c : ℕ) (k : Parts) → AreWithin (COUNT_LIMIT - PER_SETTLING) k → HasStamps PER_SETTLING k → HasStamps PER_IN_BAND_LOG (play_oob_pipe (slice_get k.pipes c) was c k)
-stamps-played was c k w h = stamps-pipe was c (slice_get k.pipes c) k refl w h
 
 -- the best task is chosen
 choose-within : (b c : ℕ) (chosen : Bool) (k : Parts) → AreWithin b k → AreWithin b (choose chosen c k)
@@ -116,4 +89,4 @@ pub ranks-settled : (c : ℕ) (b : Bool) (k : Parts) (ranks : List ℕ) → AreR
     → AreRanks ranks (settle_in_band c (choose b c k)).mutexes (settle_in_band c (choose b c k)).tasks
 ranks-settled c b k ranks h = ranks-stay c (choose b c k) ranks (choose-ranks c b k ranks h)
 
-pub ruleset steps = (room-first, room-up, room-played, stamps-played, room-chosen, stamps-chosen, room-settled, ranks-settled, settle_and_nudge-steps)
+pub ruleset steps = (room-first, room-up, room-played, room-chosen, stamps-chosen, room-settled, ranks-settled, settle_and_nudge-steps)

@@ -5,7 +5,9 @@ mod nudging;
 mod playing;
 mod settling;
 
-pub use evm_parts::{Console, Harts, Mutexes, Parts, Pipe, Semaphores, Tasks};
+pub use evm_parts::{
+    Actions, Console, Events, Flags, Harts, Mutexes, Parts, Pipe, Semaphores, Tasks, Timers,
+};
 pub use settling::settle_and_nudge;
 
 #[cfg(test)]

@@ -1,25 +1,43 @@
 ghost use Rattle.std.specs.Prelude.{◌≡◌, ◌≤◌, ◌<◌, ◌+◌, ◌-◌, length};
-ghost use Rattle.evm_model.specs.Bounds.{COUNT_LIMIT, PER_IN_BAND_LOG, PER_OOB_LOG, HasStamps, PipesUpTo};
-ghost use Rattle.evm_model.specs.Settle.{play_oob, play_in_band, play_oob_lines, play_in_band_lines};
+ghost use Rattle.evm_model.specs.Bounds.{COUNT_LIMIT, PER_IN_BAND_LOG, PER_OOB_LINE, PER_OOB_LOG, HasStamps, PipesUpTo};
+ghost use Rattle.evm_model.specs.Settle.{play_tick, play_oob, play_in_band, play_oob_lines, play_in_band_lines};
 
 use evm_lines::{LINES, LineSet};
 use evm_model::{Stage, TASK_LIMIT};
 use evm_parts::Parts;
 
-// Plays a line out-of-band: the timer's line takes a tick of the slice of the task that was current, and goes on into
-// the in-band log.
+// Plays the timer's line: it goes on into the in-band log, waits end by their deadlines, timers expire, and the slice of
+// the task that was current takes a tick.
+#[tactic(auto, using(crate::proofs::Rooms::clocks), unfolding(evm_model::specs::Settle::play_tick))]
+fn play_tick(parts: &mut Parts, was: Option<u8>, c: u8)
+    requires room { PipesUpTo COUNT_LIMIT parts.old.pipes }
+    requires stamps { HasStamps PER_OOB_LINE parts.old }
+    requires clock { parts.old.ticks ≤ COUNT_LIMIT }
+    ensures row { parts.new ≡ play_tick was c parts.old }
+    ensures stamps { parts.new.stamps ≤ parts.old.stamps + PER_OOB_LINE }
+{
+    parts.arrive(c, Stage::InBand, 0);
+    parts.end_waits(c);
+    parts.expire_timers(c);
+    parts.spend(was);
+}
+
+// Plays a line out-of-band: the timer's line, or one that does what its action says.
 #[tactic(auto, using(crate::proofs::Rooms::rooms), unfolding(evm_model::specs::Settle::play_oob))]
 fn play_oob(parts: &mut Parts, was: Option<u8>, c: u8, line: u8)
     requires line { line < LINES }
     requires room { PipesUpTo (COUNT_LIMIT - 1) parts.old.pipes }
-    requires stamps { HasStamps 1 parts.old }
+    requires stamps { HasStamps PER_OOB_LINE parts.old }
+    requires clock { parts.old.ticks ≤ COUNT_LIMIT }
     ensures row { parts.new ≡ play_oob was c line parts.old }
-    ensures stamps { parts.new.stamps ≤ parts.old.stamps + 1 }
+    ensures stamps { parts.new.stamps ≤ parts.old.stamps + PER_OOB_LINE }
+    ensures clock { parts.new.ticks ≡ parts.old.ticks }
 {
     parts.play(c, Stage::OutOfBand, line);
     if line == 0 {
-        parts.spend(was);
-        parts.arrive(c, Stage::InBand, 0);
+        play_tick(parts, was, c);
+    } else {
+        parts.act(parts.action_at(line), line);
     }
 }
 
@@ -30,7 +48,9 @@ pub(crate) fn play_oob_lines(parts: &mut Parts, was: Option<u8>, c: u8, lines: L
     requires few { length lines ≤ LINES }
     requires room { PipesUpTo (COUNT_LIMIT - PER_OOB_LOG) parts.old.pipes }
     requires stamps { HasStamps PER_OOB_LOG parts.old }
-    ensures { parts.new ≡ play_oob_lines was c lines parts.old }
+    requires clock { parts.old.ticks ≤ COUNT_LIMIT }
+    ensures row { parts.new ≡ play_oob_lines was c lines parts.old }
+    ensures stamps { parts.new.stamps ≤ parts.old.stamps + PER_OOB_LOG }
 {
     let mut left = lines;
     'playing: while let Some(line) = left.pop() {

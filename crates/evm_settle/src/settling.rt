@@ -1,5 +1,5 @@
 ghost use Rattle.evm_parts.specs.evm_boost.Scatter.{AreRanks};
-ghost use Rattle.std.specs.Prelude.{◌≡◌, ◌-◌, slice_get, Option};
+ghost use Rattle.std.specs.Prelude.{◌≡◌, ◌≤◌, ◌+◌, ◌-◌, slice_get, Option};
 ghost use Rattle.evm_model.specs.Bounds.{COUNT_LIMIT, PER_IN_BAND_LOG, PER_OOB_LOG, PER_SETTLING, HasStamps, PipesUpTo};
 ghost use Rattle.evm_model.specs.Ranks.{next_in_band};
 ghost use Rattle.evm_model.specs.Settle.{turn_in_band, settle_in_band, run_in_band, nudge, settle_and_nudge, play_in_band_pipe};
@@ -16,7 +16,9 @@ use evm_parts::Parts;
 fn play_oob_log(parts: &mut Parts, was: Option<u8>, c: u8) -> bool
     requires room { PipesUpTo (COUNT_LIMIT - PER_OOB_LOG) parts.old.pipes }
     requires stamps { HasStamps PER_OOB_LOG parts.old }
+    requires clock { parts.old.ticks ≤ COUNT_LIMIT }
     ensures row { parts.new ≡ play_oob_pipe (slice_get parts.old.pipes c) was c parts.old }
+    ensures stamps { parts.new.stamps ≤ parts.old.stamps + PER_OOB_LOG }
     ensures chooses { result ≡ chooses (slice_get parts.old.pipes c) }
 {
     let Some(pipe) = parts.pipe(c) else {
@@ -128,6 +130,7 @@ fn settle_by_ranks(parts: &mut Parts, c: u8, chooses: bool)
 pub fn settle_and_nudge(parts: &mut Parts, was: Option<u8>, c: u8)
     requires room { AreWithin (COUNT_LIMIT - PER_SETTLING) parts.old }
     requires stamps { HasStamps PER_SETTLING parts.old }
+    requires clock { parts.old.ticks ≤ COUNT_LIMIT }
     ensures { parts.new ≡ settle_and_nudge was c parts.old }
 {
     let chooses = play_oob_log(parts, was, c);

@@ -11,7 +11,9 @@ use crate::settle_and_nudge;
 use arrayvec::ArrayVec;
 use evm_exec::Hart;
 use evm_model::{Class, Mode, Processor, Profile, Stage, Task, TaskState, Wait};
-use evm_parts::{Console, Harts, Mutexes, Parts, Pipe, Semaphores, Tasks};
+use evm_parts::{
+    Actions, Console, Events, Flags, Harts, Mutexes, Parts, Pipe, Semaphores, Tasks, Timers,
+};
 use std::alloc::Global;
 use std::test::Fail;
 
@@ -173,6 +175,10 @@ fn parts_with(console: Console, task: Task, row: &Row) -> Parts
         stamps: 1,
         mutexes: Mutexes::new(),
         semaphores: Semaphores::new(),
+        events: Events::new(),
+        flags: Flags::new(),
+        timers: Timers::new(),
+        actions: Actions::new(),
         console,
     }
 }
@@ -306,12 +312,14 @@ fn settling_tells(rt: HostRuntime) -> Result<(), Fail> {
     let console = console_of(rt.alloc())?;
     let mut parts = parts_of(console, task_of(1, TaskState::OobReady), &IDLE);
     assert_eq!(rt; parts.stamps, 1);
+    assert_eq!(rt; parts.ticks, 0);
     settle_and_nudge(&mut parts, None, 0);
     assert_eq!(rt; raises(&parts, 1), Some((1, 0)));
     assert_eq!(rt; parts.current(1), None);
     let console = console_of(rt.alloc())?;
     let mut parts = parts_of(console, task_of(1, TaskState::OobReady), &IDLE);
     assert_eq!(rt; parts.stamps, 1);
+    assert_eq!(rt; parts.ticks, 0);
     settle_and_nudge(&mut parts, None, 1);
     assert_eq!(rt; raises(&parts, 1), Some((0, 0)));
     assert_eq!(rt; parts.current(1), Some(0));
@@ -331,6 +339,7 @@ fn settling_in_band(rt: HostRuntime) -> Result<(), Fail> {
         let console = console_of(rt.alloc())?;
         let mut parts = parts_of(console, task_of(1, state), &BUSY);
         assert_eq!(rt; parts.stamps, 1);
+        assert_eq!(rt; parts.ticks, 0);
         settle_and_nudge(&mut parts, BUSY.running, 1);
         assert_eq!(rt; parts.current(1), current, "of {state:?}");
         let told = [raises(&parts, 0), raises(&parts, 1), raises(&parts, 2)];

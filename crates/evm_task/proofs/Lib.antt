@@ -1,2 +1,3 @@
+pub mod Early
 pub mod Entered
 pub use Rattle.evm_ready.proofs as evm_ready

@@ -1,18 +1,20 @@
 ghost use Rattle.std.specs.Prelude.{◌≡◌, ◌<◌, ◌≤◌, [], ◌∷◌, ◌++◌, length, slice_get};
 ghost use Rattle.arrayvec.specs.ArrayVec.{array_vec_len};
 ghost use Rattle.evm_model.specs.Calls.{is_weak_oob};
+ghost use Rattle.evm_model.specs.Deadlines.{deadline, is_due};
 ghost use Rattle.evm_model.specs.Lists.{change};
 ghost use Rattle.evm_model.specs.declared.limits.TheConstants.{SLICE};
 ghost use Rattle.evm_model.specs.OobCalls.{is_scheduled_task, mode_of};
-ghost use Rattle.evm_model.specs.Ranks.{first, next_in_band, runs_oob, stamp};
+ghost use Rattle.evm_model.specs.Ranks.{first, leader, next_in_band, runs_oob, stamp};
 ghost use Rattle.evm_model.specs.Settle.{is_oob};
 ghost use Rattle.evm_model.specs.Stages.{is_attached_task};
 ghost use Rattle.evm_model.specs.State.{no_mode};
 ghost use Rattle.evm_model.specs.Tasks.{is_live};
-ghost use Rattle.evm_model.specs.Waits.{awaits, woken};
+ghost use Rattle.evm_model.specs.Waits.{awaits, kept_of, woken};
 ghost use Rattle.evm_ready.specs.Oob.{has_oob};
 ghost use Rattle.evm_ready.specs.Places.{placed};
 ghost use Rattle.evm_ready.specs.Told.{rank_told};
+ghost use Rattle.evm_task.specs.Early.{IsEarly, lowered};
 ghost use Rattle.evm_wait.specs.Waiters.{awaited};
 
 use crate::woken::wake;
@@ -29,6 +31,8 @@ pub struct Tasks {
     tasks: ArrayVec<Task, TASK_LIMIT>,
     ready: Ready,
     waiting: Waiting,
+    // no task has an earlier deadline
+    earliest: u64,
 }
 
 impl Model for Tasks {
@@ -39,7 +43,7 @@ impl Model for Tasks {
 
     ghost use Rattle.evm_task.specs.Entered.{AreEntered};
 
-    ghost invariant = { λ t. AreEntered t.tasks.items t.ready t.waiting };
+    ghost invariant = { λ t. AreEntered t.tasks.items t.ready t.waiting t.earliest };
 
     ghost view = { λ t. t.tasks.items };
 }
@@ -53,6 +57,17 @@ fn enter(ready: &mut Ready, waiting: &mut Waiting, t: u8, task: &Task)
     waiting.set(t, waiter_of(task));
 }
 
+// The bound of the deadlines with one more; 0 is none.
+fn lowered(bound: u64, deadline: u64) -> u64
+    ensures { result ≡ lowered bound deadline }
+{
+    if deadline != 0 && deadline < bound {
+        deadline
+    } else {
+        bound
+    }
+}
+
 fn is_live(state: TaskState) -> bool
     ensures { result ≡ is_live state }
 {
@@ -61,6 +76,7 @@ fn is_live(state: TaskState) -> bool
 
 impl Tasks {
     /// The first task, with room for all others.
+    #[tactic(auto, using(crate::proofs::Early::none))]
     pub fn of_first(task: Task) -> Tasks
         ensures { result ≡ task ∷ [] }
     {
@@ -68,6 +84,7 @@ impl Tasks {
             tasks: ArrayVec::new(),
             ready: Ready::new(),
             waiting: Waiting::new(),
+            earliest: u64::MAX,
         };
         tasks.push(task);
         tasks
@@ -107,6 +124,7 @@ impl Tasks {
             task.state = TaskState::Waits(wait);
             task.deadline = deadline;
             enter(&mut self.ready, &mut self.waiting, t, task);
+            self.earliest = lowered(self.earliest, deadline);
         }
     }
 
@@ -182,6 +200,7 @@ impl Tasks {
     {
         self.ready.push(place_of(&task));
         self.waiting.push(waiter_of(&task));
+        self.earliest = lowered(self.earliest, task.deadline);
         self.tasks.push(task);
     }
 
@@ -245,6 +264,19 @@ impl Tasks {
         }
     }
 
+    /// The answer that a task keeps while it waits for its mutex again; 0 for others.
+    pub fn kept(&self, t: u8) -> u64
+        ensures { result ≡ kept_of (slice_get self.now t) }
+    {
+        let Some(task) = self.get(t) else {
+            return 0;
+        };
+        match task.state {
+            TaskState::Waits(Wait::Reacquire { answer, .. }) => answer,
+            _ => 0,
+        }
+    }
+
     /// All of them.
     #[inline]
     pub fn as_slice(&self) -> &[Task]
@@ -273,5 +305,77 @@ impl Tasks {
         ensures { result ≡ first (awaits wait self.now) (rank_told ranks.now) (stamp self.now) (length self.now) }
     {
         self.waiting.first(wait, ranks)
+    }
+
+    // The deadline of task t, 0 where it has none.
+    fn deadline(&self, t: u8) -> u64
+        ensures { result ≡ deadline self.now t }
+    {
+        match self.tasks.as_slice().get(t as usize) {
+            None => 0,
+            Some(task) => task.deadline,
+        }
+    }
+
+    // Whether task t of processor c has a deadline that has come.
+    fn is_due(&self, c: u8, now: u64, t: u8) -> bool
+        ensures { result ≡ is_due c now self.now t }
+    {
+        match self.tasks.as_slice().get(t as usize) {
+            None => false,
+            Some(task) => task.deadline != 0 && task.deadline <= now && task.cpu == c,
+        }
+    }
+
+    // Of the one that leads so far and another, the one of lesser deadline.
+    fn earlier_of(&self, leading: Option<u8>, t: u8) -> u8
+        ensures { result ≡ leader (λ _. 0) (deadline self.now) leading t }
+    {
+        match leading {
+            Some(u) if self.deadline(u) <= self.deadline(t) => u,
+            _ => t,
+        }
+    }
+
+    // Of the tasks of a processor whose deadlines have come the one of least deadline, then of least number.
+    #[tactic(auto, using(evm_ready::proofs::Scans::scans))]
+    fn first_due(&self, c: u8, now: u64) -> Option<u8>
+        ensures { result ≡ first (is_due c now self.now) (λ _. 0) (deadline self.now) (length self.now) }
+    {
+        let mut leading = None;
+        for t in 0..self.count() {
+            if self.is_due(c, now, t) {
+                leading = Some(self.earlier_of(leading, t));
+            }
+        }
+        leading
+    }
+
+    // The least of the deadlines.
+    #[tactic(auto, using(crate::proofs::Early::scans))]
+    fn least_deadline(&self) -> u64
+        ensures { IsEarly result self.now }
+    {
+        let mut least = u64::MAX;
+        for t in 0..self.count() {
+            least = lowered(least, self.deadline(t));
+        }
+        least
+    }
+
+    /// Of the tasks of a processor whose deadlines have come the number of the one of least deadline, then of least
+    /// number. No task is looked at while no deadline at all has come.
+    pub fn next_due(&mut self, c: u8, now: u64) -> Option<u8>
+        ensures same { self.new ≡ self.old }
+        ensures due { result ≡ first (is_due c now self.old) (λ _. 0) (deadline self.old) (length self.old) }
+    {
+        if now < self.earliest {
+            return None;
+        }
+        let due = self.first_due(c, now);
+        if due.is_none() {
+            self.earliest = self.least_deadline();
+        }
+        due
     }
 }

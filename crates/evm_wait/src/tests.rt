@@ -34,6 +34,21 @@ fn a_wait_for_a_line_is_none_for_a_mutex(rt: HostRuntime) {
     assert!(rt; !waiting.awaits(Wait::Lock(3), 0));
 }
 
+// A task that waits for a mutex again goes before one of lesser rank that waits for the first time.
+#[test]
+fn a_mutex_is_waited_for_again_as_for_its_lock(rt: HostRuntime) {
+    let again = Wait::Reacquire {
+        mutex: 3,
+        answer: 7,
+    };
+    let mut waiting = Waiting::new();
+    waiting.push(waiter(Wait::Lock(3), 1));
+    waiting.push(waiter(again, 2));
+    assert_eq!(rt; waiting.first(Wait::Lock(3), &[110, 120]), Some(1));
+    assert_eq!(rt; waiting.first(Wait::Lock(4), &[110, 120]), None);
+    assert!(rt; !waiting.awaits(Wait::Event(3), 1));
+}
+
 #[test]
 fn the_first_changes_with_its_entries(rt: HostRuntime) {
     let mut waiting = Waiting::new();

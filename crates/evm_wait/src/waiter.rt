@@ -25,13 +25,14 @@ pub fn waiter_of(task: &Task) -> Option<Waiter>
     }
 }
 
-// Whether two waits are for the same.
+// Whether the first wait, of a task, is for the second; one that reacquires a mutex waits as for its lock.
 fn is_same(a: Wait, b: Wait) -> bool
     ensures { result ≡ same_wait a b }
 {
     match (a, b) {
         (Wait::Line(l), Wait::Line(m)) => l == m,
         (Wait::Lock(l), Wait::Lock(m)) => l == m,
+        (Wait::Reacquire { mutex, .. }, Wait::Lock(m)) => mutex == m,
         (Wait::Semaphore(l), Wait::Semaphore(m)) => l == m,
         (Wait::Event(l), Wait::Event(m)) => l == m,
         (Wait::Flags(l), Wait::Flags(m)) => l == m,

@@ -10,7 +10,9 @@ use crate::settle_and_nudge;
 use arrayvec::ArrayVec;
 use evm_exec::Hart;
 use evm_model::{Class, Mode, Processor, Profile, Stage, Task, TaskState};
-use evm_parts::{Console, Harts, Mutexes, Parts, Pipe, Semaphores, Tasks};
+use evm_parts::{
+    Actions, Console, Events, Flags, Harts, Mutexes, Parts, Pipe, Semaphores, Tasks, Timers,
+};
 use std::test::Fail;
 
 // A first-in-first-out task that is ready out-of-band.
@@ -61,6 +63,10 @@ fn two_processors(console: Console) -> Parts
         stamps: 3,
         mutexes: Mutexes::new(),
         semaphores: Semaphores::new(),
+        events: Events::new(),
+        flags: Flags::new(),
+        timers: Timers::new(),
+        actions: Actions::new(),
         console,
     }
 }
@@ -90,6 +96,7 @@ fn parts_of(console: Console, line: bool, stalled: bool) -> Parts
 fn betters(parts: &mut Parts)
     requires room { AreWithin 1 parts.old }
     requires stamps { parts.old.stamps ≤ 3 }
+    requires clock { parts.old.ticks ≡ 0 }
     ensures { AreWithin 98 parts.new }
 {
     parts.set_policy(1, Class::Fifo, 30);
@@ -100,8 +107,9 @@ fn betters(parts: &mut Parts)
 fn receives(parts: &mut Parts)
     requires room { AreWithin 98 parts.old }
     requires stamps { parts.old.stamps ≤ 64 }
+    requires clock { parts.old.ticks ≡ 0 }
 {
-    parts.receive(1, 1);
+    parts.receive_line(1, 1);
     settle_and_nudge(parts, Some(2), 1);
 }
 
@@ -109,6 +117,7 @@ fn receives(parts: &mut Parts)
 fn unstalls(parts: &mut Parts)
     requires room { AreWithin 98 parts.old }
     requires stamps { parts.old.stamps ≤ 64 }
+    requires clock { parts.old.ticks ≡ 0 }
 {
     parts.set_stall(1, Stage::OutOfBand, false);
     settle_and_nudge(parts, Some(2), 1);
@@ -125,10 +134,12 @@ fn line_1(parts: &Parts) -> Option<(bool, u64, u64)> {
 fn a_better_task_is_told_by_line_1(rt: HostRuntime) -> Result<(), Fail> {
     let mut parts = parts_of(console_of(rt.alloc())?, false, false);
     assert!(rt; parts.stamps <= 3);
+    assert_eq!(rt; parts.ticks, 0);
     betters(&mut parts);
     assert_eq!(rt; line_1(&parts), Some((true, 1, 0)));
     assert_eq!(rt; parts.current(1), Some(2));
     assert!(rt; parts.stamps <= 64);
+    assert_eq!(rt; parts.ticks, 0);
     receives(&mut parts);
     assert_eq!(rt; parts.current(1), Some(1));
     Ok(())
@@ -138,10 +149,12 @@ fn a_better_task_is_told_by_line_1(rt: HostRuntime) -> Result<(), Fail> {
 fn a_stalled_processor_is_not_told(rt: HostRuntime) -> Result<(), Fail> {
     let mut parts = parts_of(console_of(rt.alloc())?, false, true);
     assert!(rt; parts.stamps <= 3);
+    assert_eq!(rt; parts.ticks, 0);
     betters(&mut parts);
     assert_eq!(rt; line_1(&parts), Some((false, 0, 0)));
     assert_eq!(rt; parts.current(1), Some(2));
     assert!(rt; parts.stamps <= 64);
+    assert_eq!(rt; parts.ticks, 0);
     unstalls(&mut parts);
     assert_eq!(rt; line_1(&parts), Some((false, 0, 0)));
     assert_eq!(rt; parts.current(1), Some(1));
@@ -152,6 +165,7 @@ fn a_stalled_processor_is_not_told(rt: HostRuntime) -> Result<(), Fail> {
 fn a_processor_is_told_once(rt: HostRuntime) -> Result<(), Fail> {
     let mut parts = parts_of(console_of(rt.alloc())?, true, false);
     assert!(rt; parts.stamps <= 3);
+    assert_eq!(rt; parts.ticks, 0);
     betters(&mut parts);
     assert_eq!(rt; line_1(&parts), Some((true, 1, 0)));
     Ok(())

@@ -6,13 +6,13 @@ use Rattle.evm_rules.proofs.Counting.{play_oob-up}
 use Rattle.evm_settle.proofs.playing.play_oob_lines.Goals as goal
 
 pub playing-init : goal.playing-init
-playing-init c = record { rest = refl; few = c.requires.few; room = PipesUpTo-more _ _ _ (omega arith) c.requires.room; stamps = omega (arith, c.requires.stamps, c.requires.few) }
+playing-init c = record { rest = refl; few = c.requires.few; room = PipesUpTo-more _ _ _ (omega arith) c.requires.room; stamps = omega (arith, c.requires.stamps, c.requires.few); clock = c.requires.clock }
 
 pub play_oob-requires-clause-room : goal.play_oob-requires-clause-room
 play_oob-requires-clause-room c = let shorter = ap length c.in-Some.ensures.least in PipesUpTo-more _ _ _ (omega arith) c.playing.invariant.room
 
 pub play_oob-requires-clause-stamps : goal.play_oob-requires-clause-stamps
-play_oob-requires-clause-stamps c = let shorter = ap length c.in-Some.ensures.least in omega (arith, c.playing.invariant.stamps)
+play_oob-requires-clause-stamps c = let shorter = ap length c.in-Some.ensures.least in omega (arith, shorter, c.requires.stamps, c.playing.invariant.stamps)
 
 pub playing-preserved : goal.playing-preserved
 unfolding play_oob_lines
@@ -23,5 +23,6 @@ playing-preserved c =
       rest = rw c.play_oob.ensures.row (rw cut at c.playing.invariant.rest);
       few = omega (arith, c.playing.invariant.few);
       room = rw c.play_oob.ensures.row (PipesUpTo-more (COUNT_LIMIT - 2 * length c.playing.left + 2) _ _ (omega (arith, shorter, c.playing.invariant.few)) (play_oob-up _ c.args.was c.args.c c.in-Some.line c.playing.parts c.playing.invariant.room));
-      stamps = omega (arith, c.playing.invariant.few, c.playing.invariant.stamps, c.play_oob.ensures.stamps);
+      stamps = omega (arith, shorter, c.playing.invariant.few, c.playing.invariant.stamps, c.play_oob.ensures.stamps);
+      clock = omega (arith, c.playing.invariant.clock, c.play_oob.ensures.clock);
     }

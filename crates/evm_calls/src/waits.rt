@@ -1,0 +1,48 @@
+//! How a task waits, or why it may not.
+
+ghost use Rattle.std.specs.Prelude.{◌≡◌};
+ghost use Rattle.evm_model.specs.Bounds.{PER_CALL, HasRoom};
+ghost use Rattle.evm_model.specs.Stages.{is_stalled, late, wait_refusal, wait_unless};
+ghost use Rattle.evm_model.specs.declared.stage.Stage.TheVariants.{OutOfBand};
+
+use crate::refused::refused;
+use evm_model::{Errno, Outcome, Stage, Wait};
+use evm_parts::Parts;
+
+// A deadline that has come; 0 is none.
+fn late(now: u64, deadline: u64) -> Option<Errno>
+    ensures { result ≡ late now deadline }
+{
+    if deadline != 0 && deadline <= now {
+        Some(Errno::TimedOut)
+    } else {
+        None
+    }
+}
+
+/// Why a call may not wait on a stage, in this order: -1 where the stage is stalled, the call's own reason, and -110 where
+/// its deadline has come.
+pub fn wait_refusal(parts: &Parts, c: u8, stage: Stage, own: Option<Errno>, deadline: u64) -> Option<Errno>
+    ensures { result ≡ wait_refusal (is_stalled stage c parts.now) own parts.now.ticks deadline }
+{
+    if parts.is_stalled(c, stage) {
+        return Some(Errno::NotPermitted);
+    }
+    match own {
+        Some(error) => Some(error),
+        None => late(parts.ticks, deadline),
+    }
+}
+
+/// The task waits out-of-band, until a deadline if that is not 0. Else the call is refused: -1 while that stage is stalled,
+/// else for the call's own reason, else -110 where the deadline has come.
+pub fn wait_unless(parts: &mut Parts, c: u8, t: u8, wait: Wait, own: Option<Errno>, deadline: u64) -> Outcome
+    requires room { HasRoom PER_CALL parts.old }
+    ensures { (parts.new, result) ≡ wait_unless (wait_refusal (is_stalled OutOfBand c parts.old) own parts.old.ticks deadline) t wait deadline parts.old }
+{
+    if let Some(error) = wait_refusal(parts, c, Stage::OutOfBand, own, deadline) {
+        return refused(error);
+    }
+    parts.begin_wait(t, wait, deadline);
+    Outcome::Waits
+}
