@@ -1,7 +1,9 @@
 pub mod Leads
 pub mod Moved
+pub mod Named
 pub mod Ranking
 pub mod Reached
 pub mod Settled
 pub mod Stepped
 pub mod Waiting
+pub mod Whole

@@ -6,7 +6,7 @@ use Rattle.evm_model.specs.declared.processor.Processor.{Processor}
 use Rattle.evm_model.specs.declared.task.Task.{Task}
 use Rattle.evm_model.specs.declared.task.TaskState.{TaskState}
 use Rattle.evm_model.specs.declared.task.Wait.{Wait}
-use Rattle.evm_claims.specs.Steps.{EventEnds, by_signal, by_time, WaitsAgain, Wakes, WokenBy, by_line, by_owner, by_owner_back, by_event, by_sleep, by_deadline, by_put, by_line_put, by_post, by_line_post, by_timer, StepChangesOnly}
+use Rattle.evm_claims.specs.Steps.{EventEnds, by_signal, by_time, WaitsAgain, Wakes, WokenBy, by_line, by_owner, by_owner_back, by_event, by_sleep, by_deadline, by_put, by_line_put, by_post, by_line_post, by_timer, StepChangesOnly, ObjectsChangeOnly}
 
 -- ---- bits of processors are nothing that it speaks of
 module _ (runs : Option ℕ) (c t : ℕ) (memory : Memory) (old new : Parts) (before after : List Processor) where
@@ -60,6 +60,21 @@ module _ (runs : Option ℕ) (c t : ℕ) (memory : Memory) (old new : Parts) (be
     hart_is = w.hart_is;
   }
 
+moved_objects : (runs : Option ℕ) (c : ℕ) (memory : Memory) (old new : Parts) (before after : List Processor) → ObjectsChangeOnly runs c memory old new
+    → ObjectsChangeOnly runs c memory (record old { processors = before }) (record new { processors = after })
+moved_objects runs c memory old new before after o = record {
+  semaphores = o.semaphores;
+  flags = o.flags;
+  events = o.events;
+  timers = o.timers;
+  actions = o.actions;
+  new_semaphore = o.new_semaphore;
+  new_flags = o.new_flags;
+  new_event = o.new_event;
+  new_timer = o.new_timer;
+  new_action = o.new_action;
+}
+
 pub moved : (runs : Option ℕ) (c : ℕ) (x y : Board) (before after : List Processor) → ((d : ℕ) → d ≢ c → slice_get after d ≡ slice_get before d) → StepChangesOnly runs c x y
     → StepChangesOnly runs c (record x { parts = record x.parts { processors = before } }) (record y { parts = record y.parts { processors = after } })
 moved runs c x y before after others s = record {
@@ -95,4 +110,6 @@ moved runs c x y before after others s = record {
   new_mutex = s.new_mutex;
   line_mutexes = s.line_mutexes;
   line_count = s.line_count;
+  objects = moved_objects runs c x.memory x.parts y.parts before after s.objects;
+  line_objects = λ l pipe there on. moved_objects None c x.memory x.parts y.parts before after (s.line_objects l pipe there on);
 }

@@ -31,7 +31,7 @@ use Rattle.evm_model.specs.declared.timer.Timer.{Timer}
 use Rattle.evm_ram.specs.Ram.{write_at}
 use Rattle.evm_ram.specs.declared.width.Width.{Width}
 use Rattle.evm_runs.specs.Changes.{EventEnds as EndsBefore, by_signal as signalled, by_time as timed, HasMutex, IsReadyAfter, MakesCall, MakesNone, MutexesTaken, Requeues, Schedules, Spends, Stays, StepChanges, Wakes as WakesBefore, WasLate, is_event_wait, late_answer, WokenBy as WokenBefore, by_line as line, by_owner as passed, by_owner_back as passed_back, by_event as regained, by_deadline as overdue, by_put as put, by_line_put as line_put, by_post as posted, by_line_post as line_posted, by_timer as timer_due}
-use Rattle.evm_claims.specs.Steps.{EventEnds, by_signal, by_time, HadCome, IsAbout, IsScheduled, OwnsNow, WaitsAgain, Wakes, WokenBy, by_line, by_owner, by_owner_back, by_event, by_sleep, by_deadline, by_put, by_line_put, by_post, by_line_post, by_timer, SpendsSlice, Stands, IsAnothers, StepChangesOnly}
+use Rattle.evm_claims.specs.Steps.{EventEnds, by_signal, by_time, HadCome, IsAbout, IsScheduled, OwnsNow, WaitsAgain, Wakes, WokenBy, by_line, by_owner, by_owner_back, by_event, by_sleep, by_deadline, by_put, by_line_put, by_post, by_line_post, by_timer, SpendsSlice, Stands, IsAnothers}
 
 -- ---- one task
 same_task : (tasks : List Task) (t : ℕ) (x y : Task) → slice_get tasks t ≡ Some x → slice_get tasks t ≡ Some y → x ≡ y
@@ -64,15 +64,15 @@ named_as : (o : Option (Option ℕ)) (m : ℕ) → bound_of o ≡ Some m → o �
 named_as None m e = cc
 named_as (Some b) m e = ap (λ (x : Option ℕ). Some x) e
 
-puts_as : (o : Option Action) (s : ℕ) → action_or_nothing o ≡ Puts s → o ≡ Some (Puts s)
+pub puts_as : (o : Option Action) (s : ℕ) → action_or_nothing o ≡ Puts s → o ≡ Some (Puts s)
 puts_as None s e = cc
 puts_as (Some action) s e = ap (λ (x : Action). Some x) e
 
-posts_as : (o : Option Action) (f : ℕ) → action_or_nothing o ≡ Posts f → o ≡ Some (Posts f)
+pub posts_as : (o : Option Action) (f : ℕ) → action_or_nothing o ≡ Posts f → o ≡ Some (Posts f)
 posts_as None f e = cc
 posts_as (Some action) f e = ap (λ (x : Action). Some x) e
 
-is_due : (c now : ℕ) (timer : Timer) → is_due_timer c now timer ≡ true → (timer.due ≢ 0) × ((timer.due ≤ now) × (timer.cpu ≡ c))
+pub is_due : (c now : ℕ) (timer : Timer) → is_due_timer c now timer ≡ true → (timer.due ≢ 0) × ((timer.due ≤ now) × (timer.cpu ≡ c))
 is_due c now timer h =
     let one = both (not (timer.due == 0)) (nat_le timer.due now && timer.cpu == c) h in
     let two = both (nat_le timer.due now) (timer.cpu == c) one.1 in
@@ -85,7 +85,7 @@ about : (c number : ℕ) (hart : Hart) (old : Board) (call : MakesCall c number 
 about c number hart old call = record { word = call.word; inst = call.inst; current = call.runs; has = call.has; fetched = call.fetched; decodes = call.decodes; effect_is = call.calls }
 
 -- what the calls are that a task is about to make
-abbrev IsAboutCall : Option ℕ → Board → ℕ → Hart → Type 0
+abbrev pub IsAboutCall : Option ℕ → Board → ℕ → Hart → Type 0
 IsAboutCall runs old number hart = (caller : ℕ) × (IsAbout runs caller hart Call old.parts.harts old.memory × (register_of hart.regs 17 ≡ number))
 
 module _ (runs : Option ℕ) (c t : ℕ) (old : Board) (makes : ℕ → Hart → Type 0) (tells : (n : ℕ) (h : Hart) → makes n h → IsAboutCall runs old n h) where
@@ -213,7 +213,7 @@ as_asked c t old asked task there (inr s) =
     ]
 
 -- ---- each task but the current one
-calls_of : (c : ℕ) (old : Board) (number : ℕ) (hart : Hart) → MakesCall c number hart old → IsAboutCall (current c old.parts) old number hart
+pub calls_of : (c : ℕ) (old : Board) (number : ℕ) (hart : Hart) → MakesCall c number hart old → IsAboutCall (current c old.parts) old number hart
 calls_of c old number hart call = (call.task, (about c number hart old call, call.asks))
 
 left : (c t : ℕ) (old : Board) (tasks : List Task) (new : Parts) (task : Task) (hart : Hart) → slice_get tasks t ≡ Some task → slice_get old.parts.harts t ≡ Some hart
@@ -223,7 +223,7 @@ left c t old tasks new task hart there at (inl r) = inl (record { task_is = r.ta
 left c t old tasks new task hart there at (inr (inl w)) = inr (inl (wakes (current c old.parts) c t old (λ number hart. MakesCall c number hart old) (calls_of c old) tasks new task hart there at w))
 left c t old tasks new task hart there at (inr (inr w)) = inr (inr (waits_again (current c old.parts) c t old (λ number hart. MakesCall c number hart old) (calls_of c old) tasks new task hart there at w))
 
-tasks_of : (c : ℕ) (old new : Board) → StepChanges c old new → (t : ℕ) (task : Task) (hart : Hart) → current c old.parts ≢ Some t → slice_get old.parts.tasks t ≡ Some task → slice_get old.parts.harts t ≡ Some hart
+pub tasks_of : (c : ℕ) (old new : Board) → StepChanges c old new → (t : ℕ) (task : Task) (hart : Hart) → current c old.parts ≢ Some t → slice_get old.parts.tasks t ≡ Some task → slice_get old.parts.harts t ≡ Some hart
     → (given : Task) × (((given ≡ task) ⊎ IsScheduled (current c old.parts) t old.parts.tasks old.parts.harts old.memory task given)
     × (Stands t new.parts.tasks new.parts.harts given hart
     ⊎ Wakes (current c old.parts) c t old.memory old.parts new.parts given hart
@@ -243,7 +243,7 @@ own c t old new task hart there at (inl (inr (inl w))) = inr (inl (wakes None c 
 own c t old new task hart there at (inl (inr (inr w))) = inr (inr (inl (waits_again None c t old MakesNone (λ n h none. absurd none) old.parts.tasks new task hart there at w)))
 own c t old new task hart there at (inr q) = inr (inr (inr (spends c t old.parts new task hart there at q)))
 
-line_tasks_of : (c : ℕ) (old new : Board) → StepChanges c old new → (l t : ℕ) (pipe : Pipe) (task : Task) (hart : Hart) → slice_get old.parts.pipes c ≡ Some pipe → has_line pipe.wire l ≡ true
+pub line_tasks_of : (c : ℕ) (old new : Board) → StepChanges c old new → (l t : ℕ) (pipe : Pipe) (task : Task) (hart : Hart) → slice_get old.parts.pipes c ≡ Some pipe → has_line pipe.wire l ≡ true
     → slice_get old.parts.tasks t ≡ Some task → slice_get old.parts.harts t ≡ Some hart
     → Stands t new.parts.tasks new.parts.harts task hart
     ⊎ Wakes None c t old.memory old.parts new.parts task hart
@@ -252,14 +252,14 @@ line_tasks_of : (c : ℕ) (old new : Board) → StepChanges c old new → (l t :
 line_tasks_of c old new b l t pipe task hart there on is has = own c t old new.parts task hart is has ((b.hears (record { pipe = pipe; line = l; there = there; on = on })).1 t)
 
 -- ---- RAM
-ram_of : (c : ℕ) (old new : Board) → StepChanges c old new
+pub ram_of : (c : ℕ) (old new : Board) → StepChanges c old new
     → ((task address value : ℕ) (hart : Hart) (width : Width) → IsAbout (current c old.parts) task hart (Store width address value) old.parts.harts old.memory → ⊥) → new.memory.ram ≡ old.memory.ram
 ram_of c old new b never = elim b.memory [
   | inl same ↦ ap (λ (m : Memory). m.ram) same
   | inr w ↦ absurd (never w.task w.address w.value w.hart w.width (record { word = w.word; inst = w.inst; current = w.runs; has = w.has; fetched = w.fetched; decodes = w.decodes; effect_is = w.stores }))
 ]
 
-written_of : (c : ℕ) (old new : Board) → StepChanges c old new → (task address value : ℕ) (hart : Hart) (width : Width) → IsAbout (current c old.parts) task hart (Store width address value) old.parts.harts old.memory
+pub written_of : (c : ℕ) (old new : Board) → StepChanges c old new → (task address value : ℕ) (hart : Hart) (width : Width) → IsAbout (current c old.parts) task hart (Store width address value) old.parts.harts old.memory
     → (new.memory.ram ≡ old.memory.ram) ⊎ (write_at old.memory.ram address width value ≡ Some new.memory.ram)
 written_of c old new b task address value hart width i = elim b.memory [
   | inl same ↦ inl (ap (λ (m : Memory). m.ram) same)
@@ -280,7 +280,7 @@ written_of c old new b task address value hart width i = elim b.memory [
 ]
 
 -- ---- mutexes
-mutexes_of : (c : ℕ) (old new : Board) → StepChanges c old new → (m : ℕ) (before : Mutex) → slice_get old.parts.mutexes m ≡ Some before
+pub mutexes_of : (c : ℕ) (old new : Board) → StepChanges c old new → (m : ℕ) (before : Mutex) → slice_get old.parts.mutexes m ≡ Some before
     → (slice_get new.parts.mutexes m ≡ Some before) ⊎ IsAnothers (current c old.parts) m new.parts.mutexes before
 mutexes_of c old new b m before there = elim (b.mutexes m before there) [
   | inl same ↦ inl same
@@ -288,39 +288,9 @@ mutexes_of c old new b m before there = elim (b.mutexes m before there) [
 ]
 
 -- .. where a line is on the wire
-line_mutexes_of : (old new : List Mutex) → MutexesTaken old new → (m : ℕ) (before : Mutex) → slice_get old m ≡ Some before
+pub line_mutexes_of : (old new : List Mutex) → MutexesTaken old new → (m : ℕ) (before : Mutex) → slice_get old m ≡ Some before
     → (slice_get new m ≡ Some before) ⊎ ((before.owner ≡ None) × ((task : ℕ) × (slice_get new m ≡ Some (record before { owner = Some task; count = 1 }))))
 line_mutexes_of old new taken m before there = elim (taken m before there) [
   | inl same ↦ inl same
   | inr g ↦ inr (g.free, (g.task, g.there))
 ]
-
--- ---- the whole
-pub changes_only : (c : ℕ) (old new : Board) → StepChanges c old new → StepChangesOnly (current c old.parts) c old new
-changes_only c old new b = record {
-  ticks = b.ticks;
-  stamps = b.stamps;
-  breakpoints = b.breakpoints;
-  processors = b.processors;
-  pipes = b.pipes;
-  ram = ram_of c old new b;
-  written = written_of c old new b;
-  console = b.typed;
-  tasks = tasks_of c old new b;
-  line_tasks = line_tasks_of c old new b;
-  counts = elim b.added [
-    | inl same ↦ inl same
-    | inr a ↦ inr (a.tasks, a.harts, a.room)
-  ];
-  new_task = λ more. elim b.added [
-    | inl same ↦ absurd (omega (arith, more, same.0))
-    | inr a ↦ record { cpu = a.cpu; stamp = a.stamp; entry = a.entry; value = a.value; task_is = a.task; hart_is = a.hart }
-  ];
-  mutexes = mutexes_of c old new b;
-  new_mutex = elim b.made [
-    | inl same ↦ inl same
-    | inr g ↦ inr (record { recursive = g.recursive; protocol = g.protocol; one_more = g.count; few = g.room; free = g.mutex })
-  ];
-  line_mutexes = λ l m pipe before there on is. line_mutexes_of old.parts.mutexes new.parts.mutexes (b.hears (record { pipe = pipe; line = l; there = there; on = on })).2.0 m before is;
-  line_count = λ l pipe there on. (b.hears (record { pipe = pipe; line = l; there = there; on = on })).2.1;
-}

@@ -18,6 +18,7 @@ use Rattle.evm_model.specs.Settle.{is_oob}
 use Rattle.evm_model.specs.State.{Board, Memory, Parts}
 use Rattle.evm_model.specs.Tasks.{is_live}
 use Rattle.evm_model.specs.Timers.{expired}
+use Rattle.evm_model.specs.declared.action.Action.{Action}
 use Rattle.evm_model.specs.declared.action.Action.TheVariants.{Puts, Posts}
 use Rattle.evm_model.specs.declared.limits.TheConstants.{CONSOLE_LIMIT, MUTEX_LIMIT, TASK_LIMIT}
 use Rattle.evm_model.specs.declared.mutex.Mutex.{Mutex}
@@ -174,6 +175,38 @@ pub record AddsFreeMutex (before mutexes : List Mutex) : Type 0 where
   pub few : length before < MUTEX_LIMIT
   pub free : slice_get mutexes (length before) ≡ Some (record { recursive = recursive; protocol = protocol; owner = None; count = 0 })
 
+-- ---- semaphores, flag groups, events, timers and actions
+-- the current task makes a call of one of these numbers, whose a0 is the object's
+pub record IsNamed (runs : Option ℕ) (least most n : ℕ) (memory : Memory) (harts : List Hart) : Type 0 where
+  pub caller : ℕ
+  pub hart : Hart
+  pub number : ℕ
+  pub calls : IsAbout runs caller hart Call harts memory
+  pub asks : register_of hart.regs 17 ≡ number
+  pub from : least ≤ number
+  pub to : number ≤ most
+  pub names : n ≡ register_of hart.regs 10
+
+-- as many as before, or one more
+abbrev pub OneMore : {X : Type 0} → List X → List X → Type 0
+OneMore old new = (length new ≡ length old) ⊎ (length new ≡ length old + 1)
+
+-- each stands, or has a reason to change: a call of the current task that names it, the action of a line, or that it was due on processor c
+pub record ObjectsChangeOnly (runs : Option ℕ) (c : ℕ) (memory : Memory) (old new : Parts) : Type 0 where
+  pub semaphores : (s count : ℕ) → slice_get old.semaphores s ≡ Some count
+      → (slice_get new.semaphores s ≡ Some count) ⊎ IsNamed runs 39 41 s memory old.harts ⊎ ((l : ℕ) × (slice_get new.actions l ≡ Some (Puts s)))
+  pub flags : (g word : ℕ) → slice_get old.flags g ≡ Some word → (slice_get new.flags g ≡ Some word) ⊎ IsNamed runs 45 46 g memory old.harts ⊎ ((l : ℕ) × (slice_get new.actions l ≡ Some (Posts g)))
+  pub events : (e : ℕ) (mutex : Option ℕ) → slice_get old.events e ≡ Some mutex → (slice_get new.events e ≡ Some mutex) ⊎ IsNamed runs 42 42 e memory old.harts
+  pub timers : (n : ℕ) (timer : Timer) → slice_get old.timers n ≡ Some timer
+      → (slice_get new.timers n ≡ Some timer) ⊎ IsNamed runs 48 49 n memory old.harts ⊎ ((timer.due ≢ 0) × (timer.due ≤ old.ticks) × (timer.cpu ≡ c))
+  pub actions : (l : ℕ) (action : Action) → slice_get old.actions l ≡ Some action → (slice_get new.actions l ≡ Some action) ⊎ ((2 ≤ l) × IsNamed runs 14 14 l memory old.harts)
+  -- and there is one more of each at the most
+  pub new_semaphore : OneMore old.semaphores new.semaphores
+  pub new_flags : OneMore old.flags new.flags
+  pub new_event : OneMore old.events new.events
+  pub new_timer : OneMore old.timers new.timers
+  pub new_action : OneMore old.actions new.actions
+
 -- ---- a step of processor c, whose current task was this
 pub record StepChangesOnly (runs : Option ℕ) (c : ℕ) (old new : Board) : Type 0 where
   pub ticks : new.parts.ticks ≡ old.parts.ticks
@@ -214,3 +247,6 @@ pub record StepChangesOnly (runs : Option ℕ) (c : ℕ) (old new : Board) : Typ
       → (slice_get new.parts.mutexes m ≡ Some before)
       ⊎ ((before.owner ≡ None) × ((task : ℕ) × (slice_get new.parts.mutexes m ≡ Some (record before { owner = Some task; count = 1 }))))
   pub line_count : (l : ℕ) (pipe : Pipe) → slice_get old.parts.pipes c ≡ Some pipe → has_line pipe.wire l ≡ true → length new.parts.mutexes ≡ length old.parts.mutexes
+  -- each semaphore, flag group, event, timer and action stands, or has a reason to change; where a line is on the wire no call is one
+  pub objects : ObjectsChangeOnly runs c old.memory old.parts new.parts
+  pub line_objects : (l : ℕ) (pipe : Pipe) → slice_get old.parts.pipes c ≡ Some pipe → has_line pipe.wire l ≡ true → ObjectsChangeOnly None c old.memory old.parts new.parts

@@ -18,7 +18,9 @@ ghost use Rattle.evm_claims.specs.Steps.{StepChangesOnly};
 /// it (`WokenBy`); or it waited for an event, and waits for the event's mutex. One task is added at the most. Only mutexes
 /// change that were free or the current task's, and one is added at the most. Where a line is on the wire no task acts: the
 /// current one too stands, wakes or waits again by a line, or spends its slice; and no mutex changes but such as were free and
-/// are locked once by a task that waited for an event. Each field of `StepChangesOnly` is one of these.
+/// are locked once by a task that waited for an event. Each semaphore, flag group, event, timer and action of a line stands
+/// but where a call of the current task names it, a line's action does, or the timer was due; one of each is added at the
+/// most. Each field of `StepChangesOnly` is one of these.
 pub fn a_step_changes_only()
     ensures { (boot : Boot) (old new : State) (answer : Answer) (c : ℕ) → Reached boot old → apply old (Event.Step c) ≡ Result.Ok (new, answer) →
         StepChangesOnly (current c old.board.parts) c old.board new.board }

@@ -9,7 +9,7 @@ use Rattle.evm_runs.specs.Changes.{StepsOnce}
 use Rattle.evm_claims.specs.Steps.{StepChangesOnly}
 use Rattle.evm_claims.proofs.Reached.{good}
 use Rattle.evm_claims.proofs.Moved.{moved}
-use Rattle.evm_claims.proofs.Stepped.{changes_only}
+use Rattle.evm_claims.proofs.Whole.{changes_only}
 use Rattle.evm_claims.proofs.steps.a_single_step_changes_only.Goals as goal
 
 -- a processor that goes runs what it ran

@@ -1,6 +1,6 @@
 use Rattle.evm_model.specs.declared.event.Event.TheVariants.{Step}
 use Rattle.evm_claims.proofs.Reached.{good}
-use Rattle.evm_claims.proofs.Stepped.{changes_only}
+use Rattle.evm_claims.proofs.Whole.{changes_only}
 use Rattle.evm_claims.proofs.steps.a_step_changes_only.Goals as goal
 
 pub returns : goal.returns

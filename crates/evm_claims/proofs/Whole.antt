@@ -1,0 +1,39 @@
+-- All that a Step changes, in the words of the claims.
+use Rattle.std.proofs.Common.{ℕ, None, inl, inr, arith}
+use Rattle.evm_model.specs.Settle.{current}
+use Rattle.evm_model.specs.State.{Board}
+use Rattle.evm_runs.specs.Changes.{MakesCall, MakesNone, StepChanges}
+use Rattle.evm_claims.specs.Steps.{StepChangesOnly}
+use Rattle.evm_claims.proofs.Named.{objects_of}
+use Rattle.evm_claims.proofs.Stepped.{calls_of, ram_of, written_of, tasks_of, line_tasks_of, mutexes_of, line_mutexes_of}
+
+pub changes_only : (c : ℕ) (old new : Board) → StepChanges c old new → StepChangesOnly (current c old.parts) c old new
+changes_only c old new b = record {
+  ticks = b.ticks;
+  stamps = b.stamps;
+  breakpoints = b.breakpoints;
+  processors = b.processors;
+  pipes = b.pipes;
+  ram = ram_of c old new b;
+  written = written_of c old new b;
+  console = b.typed;
+  tasks = tasks_of c old new b;
+  line_tasks = line_tasks_of c old new b;
+  counts = elim b.added [
+    | inl same ↦ inl same
+    | inr a ↦ inr (a.tasks, a.harts, a.room)
+  ];
+  new_task = λ more. elim b.added [
+    | inl same ↦ absurd (omega (arith, more, same.0))
+    | inr a ↦ record { cpu = a.cpu; stamp = a.stamp; entry = a.entry; value = a.value; task_is = a.task; hart_is = a.hart }
+  ];
+  mutexes = mutexes_of c old new b;
+  new_mutex = elim b.made [
+    | inl same ↦ inl same
+    | inr g ↦ inr (record { recursive = g.recursive; protocol = g.protocol; one_more = g.count; few = g.room; free = g.mutex })
+  ];
+  line_mutexes = λ l m pipe before there on is. line_mutexes_of old.parts.mutexes new.parts.mutexes (b.hears (record { pipe = pipe; line = l; there = there; on = on })).2.0 m before is;
+  line_count = λ l pipe there on. (b.hears (record { pipe = pipe; line = l; there = there; on = on })).2.1;
+  objects = objects_of (current c old.parts) c old new.parts (λ number hart. MakesCall c number hart old) (calls_of c old) b.objects;
+  line_objects = λ l pipe there on. objects_of None c old new.parts MakesNone (λ n h none. absurd none) (b.hears_objects (record { pipe = pipe; line = l; there = there; on = on }));
+}
