@@ -31,7 +31,7 @@ use Rattle.evm_model.specs.declared.timer.Timer.{Timer}
 use Rattle.evm_ram.specs.Ram.{write_at}
 use Rattle.evm_ram.specs.declared.width.Width.{Width}
 use Rattle.evm_runs.specs.Changes.{EventEnds as EndsBefore, by_signal as signalled, by_time as timed, HasMutex, IsReadyAfter, MakesCall, MakesNone, MutexesTaken, Requeues, Schedules, Spends, Stays, StepChanges, Wakes as WakesBefore, WasLate, is_event_wait, late_answer, WokenBy as WokenBefore, by_line as line, by_owner as passed, by_owner_back as passed_back, by_event as regained, by_deadline as overdue, by_put as put, by_line_put as line_put, by_post as posted, by_line_post as line_posted, by_timer as timer_due}
-use Rattle.evm_claims.specs.Steps.{EventEnds, by_signal, by_time, HadCome, IsAbout, IsScheduled, OwnsNow, WaitsAgain, Wakes, WokenBy, by_line, by_owner, by_owner_back, by_event, by_sleep, by_deadline, by_put, by_line_put, by_post, by_line_post, by_timer, SpendsSlice, Stands, IsAnothers}
+use Rattle.evm_claims.specs.Steps.{IsReacquired, EventEnds, by_signal, by_time, HadCome, IsAbout, IsScheduled, OwnsNow, WaitsAgain, Wakes, WokenBy, by_line, by_owner, by_owner_back, by_event, by_sleep, by_deadline, by_put, by_line_put, by_post, by_line_post, by_timer, SpendsSlice, Stands, IsAnothers}
 
 -- ---- one task
 same_task : (tasks : List Task) (t : ℕ) (x y : Task) → slice_get tasks t ≡ Some x → slice_get tasks t ≡ Some y → x ≡ y
@@ -288,9 +288,9 @@ mutexes_of c old new b m before there = elim (b.mutexes m before there) [
 ]
 
 -- .. where a line is on the wire
-pub line_mutexes_of : (old new : List Mutex) → MutexesTaken old new → (m : ℕ) (before : Mutex) → slice_get old m ≡ Some before
-    → (slice_get new m ≡ Some before) ⊎ ((before.owner ≡ None) × ((task : ℕ) × (slice_get new m ≡ Some (record before { owner = Some task; count = 1 }))))
+pub line_mutexes_of : (old : Parts) (new : List Mutex) → MutexesTaken old new → (m : ℕ) (before : Mutex) → slice_get old.mutexes m ≡ Some before
+    → (slice_get new m ≡ Some before) ⊎ IsReacquired m old.tasks new before
 line_mutexes_of old new taken m before there = elim (taken m before there) [
   | inl same ↦ inl same
-  | inr g ↦ inr (g.free, (g.task, g.there))
+  | inr g ↦ inr (record { task = g.task; waiter = g.waiter; event = g.event; free = g.free; there = g.waited; waited = g.on; owned = g.there })
 ]

@@ -32,7 +32,7 @@ changes_only c old new b = record {
     | inl same ↦ inl same
     | inr g ↦ inr (record { recursive = g.recursive; protocol = g.protocol; one_more = g.count; few = g.room; free = g.mutex })
   ];
-  line_mutexes = λ l m pipe before there on is. line_mutexes_of old.parts.mutexes new.parts.mutexes (b.hears (record { pipe = pipe; line = l; there = there; on = on })).2.0 m before is;
+  line_mutexes = λ l m pipe before there on is. line_mutexes_of old.parts new.parts.mutexes (b.hears (record { pipe = pipe; line = l; there = there; on = on })).2.0 m before is;
   line_count = λ l pipe there on. (b.hears (record { pipe = pipe; line = l; there = there; on = on })).2.1;
   objects = objects_of (current c old.parts) c old new.parts (λ number hart. MakesCall c number hart old) (calls_of c old) b.objects;
   line_objects = λ l pipe there on. objects_of None c old new.parts MakesNone (λ n h none. absurd none) (b.hears_objects (record { pipe = pipe; line = l; there = there; on = on }));

@@ -167,6 +167,16 @@ pub record IsAnothers (runs : Option ℕ) (m : ℕ) (mutexes : List Mutex) (befo
   pub kind : after ≡ record before { owner = after.owner; count = after.count }
   pub whose : (before.owner ≡ None) ⊎ (before.owner ≡ runs)
 
+-- it was free, and a task that waited for an event owns it, locked once
+pub record IsReacquired (m : ℕ) (tasks : List Task) (mutexes : List Mutex) (before : Mutex) : Type 0 where
+  pub task : ℕ
+  pub waiter : Task
+  pub event : ℕ
+  pub free : before.owner ≡ None
+  pub there : slice_get tasks task ≡ Some waiter
+  pub waited : waiter.state ≡ Waits (OfEvent event)
+  pub owned : slice_get mutexes m ≡ Some (record before { owner = Some task; count = 1 })
+
 -- there is one more, where there were fewer than 32: the last, a free one
 pub record AddsFreeMutex (before mutexes : List Mutex) : Type 0 where
   pub recursive : Bool
@@ -242,10 +252,10 @@ pub record StepChangesOnly (runs : Option ℕ) (c : ℕ) (old new : Board) : Typ
   -- each mutex stands, or is another's
   pub mutexes : (m : ℕ) (before : Mutex) → slice_get old.parts.mutexes m ≡ Some before → (slice_get new.parts.mutexes m ≡ Some before) ⊎ IsAnothers runs m new.parts.mutexes before
   pub new_mutex : (length new.parts.mutexes ≡ length old.parts.mutexes) ⊎ AddsFreeMutex old.parts.mutexes new.parts.mutexes
-  -- where a line is on the wire each stands, or was free, and a task that reacquires it has locked it once; and none is added
+  -- where a line is on the wire each stands, or was free and is reacquired; and none is added
   pub line_mutexes : (l m : ℕ) (pipe : Pipe) (before : Mutex) → slice_get old.parts.pipes c ≡ Some pipe → has_line pipe.wire l ≡ true → slice_get old.parts.mutexes m ≡ Some before
       → (slice_get new.parts.mutexes m ≡ Some before)
-      ⊎ ((before.owner ≡ None) × ((task : ℕ) × (slice_get new.parts.mutexes m ≡ Some (record before { owner = Some task; count = 1 }))))
+      ⊎ IsReacquired m old.parts.tasks new.parts.mutexes before
   pub line_count : (l : ℕ) (pipe : Pipe) → slice_get old.parts.pipes c ≡ Some pipe → has_line pipe.wire l ≡ true → length new.parts.mutexes ≡ length old.parts.mutexes
   -- each semaphore, flag group, event, timer and action stands, or has a reason to change; where a line is on the wire no call is one
   pub objects : ObjectsChangeOnly runs c old.memory old.parts new.parts
