@@ -22,7 +22,13 @@ fn late(now: u64, deadline: u64) -> Option<Errno>
 
 /// Why a call may not wait on a stage, in this order: -1 where the stage is stalled, the call's own reason, and -110 where
 /// its deadline has come.
-pub fn wait_refusal(parts: &Parts, c: u8, stage: Stage, own: Option<Errno>, deadline: u64) -> Option<Errno>
+pub fn wait_refusal(
+    parts: &Parts,
+    c: u8,
+    stage: Stage,
+    own: Option<Errno>,
+    deadline: u64,
+) -> Option<Errno>
     ensures { result ≡ wait_refusal (is_stalled stage c parts.now) own parts.now.ticks deadline }
 {
     if parts.is_stalled(c, stage) {
@@ -36,7 +42,14 @@ pub fn wait_refusal(parts: &Parts, c: u8, stage: Stage, own: Option<Errno>, dead
 
 /// The task waits out-of-band, until a deadline if that is not 0. Else the call is refused: -1 while that stage is stalled,
 /// else for the call's own reason, else -110 where the deadline has come.
-pub fn wait_unless(parts: &mut Parts, c: u8, t: u8, wait: Wait, own: Option<Errno>, deadline: u64) -> Outcome
+pub fn wait_unless(
+    parts: &mut Parts,
+    c: u8,
+    t: u8,
+    wait: Wait,
+    own: Option<Errno>,
+    deadline: u64,
+) -> Outcome
     requires room { HasRoom PER_CALL parts.old }
     ensures { (parts.new, result) ≡ wait_unless (wait_refusal (is_stalled OutOfBand c parts.old) own parts.old.ticks deadline) t wait deadline parts.old }
 {

@@ -63,9 +63,9 @@ below-more bound n tasks early = record {
 pub below-all : (bound : ℕ) (tasks : List Task) → IsEarlyBelow bound (length tasks) tasks → IsEarly bound tasks
 below-all bound tasks early = record {
   each = λ t task e some.
-    let at : deadline tasks t ≡ task.deadline = ap deadline_of e in
-    let low = early.each t (slice_get-below tasks t task e) (λ z. some (rw (← at) z)) in
-    rw (← at) low;
+      let at : deadline tasks t ≡ task.deadline = ap deadline_of e in
+      let low = early.each t (slice_get-below tasks t task e) (λ z. some (rw (← at) z)) in
+      rw (← at) low;
 }
 
 pub ruleset none = (early-none)

@@ -73,9 +73,9 @@ below-more bound n timers from = record {
 pub below-all : (bound : ℕ) (timers : List Timer) → AreFromBelow bound (length timers) timers → AreFrom bound timers
 below-all bound timers from = record {
   each = λ m timer e some.
-    let at : due_at timers m ≡ timer.due = ap due_of e in
-    let low = from.each m (slice_get-below timers m timer e) (λ z. some (rw (← at) z)) in
-    rw (← at) low;
+      let at : due_at timers m ≡ timer.due = ap due_of e in
+      let low = from.each m (slice_get-below timers m timer e) (λ z. some (rw (← at) z)) in
+      rw (← at) low;
 }
 
 -- ---- none is due before the bound
