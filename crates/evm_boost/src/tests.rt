@@ -213,3 +213,29 @@ fn a_chain_is_walked(rt: HostRuntime) {
     assert_eq!(rt; mutexes.rank(&tasks, 0), 101);
     assert_eq!(rt; mutexes.waits_on(&tasks, 3), None);
 }
+
+// After an event task 1 waits for its mutex again, and boosts the owner as one that waits for the first time.
+#[test]
+fn one_that_waits_again_boosts_too(rt: HostRuntime) {
+    let again = Wait::Reacquire {
+        mutex: 0,
+        answer: 9,
+    };
+    let mut tasks = Tasks::of_first(task(Class::Fifo, 1));
+    tasks.push(task(Class::Fifo, 40));
+    tasks.set_state(1, TaskState::Waits(again));
+    let mutexes = two(owned_by(0), FREE);
+    assert_eq!(rt; mutexes.waits_on(&tasks, 1), Some(0));
+    assert_eq!(rt; mutexes.rank(&tasks, 0), 140);
+    assert_eq!(rt; mutexes.first_waiter(Wait::Lock(0), &tasks), Some(1));
+    assert_eq!(rt; tasks.kept(1), 9);
+}
+
+#[test]
+fn another_mutex_is_not_the_same(rt: HostRuntime) {
+    let mutexes = two(owned_by(3), owned_by(4));
+    assert!(rt; !mutexes.owns_other(3, 0));
+    assert!(rt; mutexes.owns_other(3, 1));
+    assert!(rt; mutexes.owns_other(4, 0));
+    assert!(rt; !mutexes.owns_other(5, 0));
+}

@@ -146,3 +146,30 @@ fn the_first_waiter_changes_with_its_tasks(rt: HostRuntime) {
     tasks.end_wait(2, true);
     assert_eq!(rt; tasks.first_waiter(lock, &[120, 150, 120]), None);
 }
+
+// Deadlines 4 and 2 end their waits in the order 2, 4, and of two equal ones the lesser number goes first.
+#[test]
+fn the_least_deadline_is_due_first(rt: HostRuntime) {
+    let mut tasks = three(
+        ready(Class::Fifo, 10, 1),
+        ready(Class::Fifo, 10, 2),
+        ready(Class::Fifo, 10, 3),
+    );
+    assert_eq!(rt; tasks.next_due(0, u64::MAX), None);
+    tasks.begin_wait(0, Wait::Sleep, 4);
+    tasks.begin_wait(1, Wait::Semaphore(5), 2);
+    tasks.begin_wait(2, Wait::Flags(5), 4);
+    assert_eq!(rt; tasks.next_due(0, 1), None);
+    assert_eq!(rt; tasks.next_due(0, 2), Some(1));
+    assert_eq!(rt; tasks.next_due(0, 9), Some(1));
+    assert_eq!(rt; tasks.next_due(1, 9), None);
+    tasks.end_wait(1, false);
+    assert_eq!(rt; tasks.next_due(0, 3), None);
+    assert_eq!(rt; tasks.next_due(0, 4), Some(0));
+    tasks.end_wait(0, false);
+    assert_eq!(rt; tasks.next_due(0, 4), Some(2));
+    tasks.end_wait(2, false);
+    assert_eq!(rt; tasks.next_due(0, u64::MAX), None);
+    tasks.begin_wait(1, Wait::Sleep, 1);
+    assert_eq!(rt; tasks.next_due(0, 1), Some(1));
+}
