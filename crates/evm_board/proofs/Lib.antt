@@ -4,6 +4,6 @@ pub mod Quietly
 pub mod Rooms
 pub mod Stepped
 pub mod Steps
-pub mod Timers
+pub mod Ticks
 pub use Rattle.evm_rules.proofs as evm_rules
 pub use Rattle.evm_walk.proofs as evm_walk

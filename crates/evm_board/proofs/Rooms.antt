@@ -95,6 +95,14 @@ room-receive c l k are h =
     let w : AreWithin (COUNT_LIMIT - STAMPS_PER_EVENT) k = record { are = are; up = h.counts } in
     within-more (COUNT_LIMIT - STAMPS_PER_EVENT + 2) (COUNT_LIMIT - PER_SETTLING) _ (omega arith) (within-receive (COUNT_LIMIT - STAMPS_PER_EVENT) c (stage_of (action_at l k) l) l k w)
 
+pub stamps-receive : (c l : ℕ) (k : Parts) → HasRoom STAMPS_PER_EVENT k → HasStamps PER_SETTLING (receive_line c l k)
+unfolding receive_line
+stamps-receive c l k h = omega (arith, h.stamps)
+
+pub clock-receive : (c l : ℕ) (k : Parts) → HasRoom STAMPS_PER_EVENT k → (receive_line c l k).ticks ≤ COUNT_LIMIT
+unfolding receive_line
+clock-receive c l k h = h.clock
+
 pub room-receipt : (k : Parts) → HasRoom STAMPS_PER_EVENT k → PipesUpTo (COUNT_LIMIT - 1) k.pipes
 room-receipt k h = PipesUpTo-more (COUNT_LIMIT - STAMPS_PER_EVENT) (COUNT_LIMIT - 1) k.pipes (omega arith) h.counts
 

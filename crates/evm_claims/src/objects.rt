@@ -25,9 +25,9 @@ pub fn each_flag_group_is_within_its_bound()
     evm_rules::rules_hold();
 }
 
-/// Likewise: there are 32 timers at the most; a period is at most 9223372036854775807, and a timer is due at most so many
-/// ticks after the clock's. A timer that is on has expired less often than the number of the tick at which it is due; one
-/// that is off no more often than there were ticks.
+/// Likewise: there are 32 timers at the most; a period is at most 9223372036854775807, and a timer is due at most that many
+/// ticks after now. A timer that is on has expired less often than the number of the tick at which it is due; one that is off
+/// no more often than there were ticks.
 pub fn each_timer_is_within_its_bound()
     ensures few { (boot : Boot) (s : State) → Reached boot s → length s.board.parts.timers ≤ 32 }
     ensures period { (boot : Boot) (s : State) (n : ℕ) (timer : Timer) → Reached boot s →

@@ -2,7 +2,6 @@
 use Rattle.std.proofs.Common.{◌≡◌, ℕ, ◌+◌, ◌<◌, [], ◌∷◌, ◌++◌, List, Bool, true, false, Option, Some, None, length, length-append, ◌⊎◌, inl, inr, refl, ap, sym, ◌∙◌, arith}
 use Rattle.std.specs.Prelude.{slice_get, slice_set, replicate, option_map, ◌==◌, ◌&&◌, if◌then◌else◌}
 use Rattle.std.proofs.lemmas.List.{length-set, length-replicate}
-use Rattle.std.proofs.lemmas.Bool.{cases_eq}
 use Rattle.evm_exec.specs.Registers.{with_register}
 use Rattle.evm_exec.specs.declared.hart.Hart.{Hart}
 use Rattle.evm_model.specs.Commands.{tick}
@@ -21,12 +20,11 @@ use Rattle.evm_model.specs.declared.task.Task.{Task}
 use Rattle.evm_model.specs.declared.task.TaskState.{TaskState}
 use Rattle.evm_model.specs.declared.task.TaskState.TheVariants.{InReady, Waits}
 use Rattle.evm_model.specs.declared.task.Wait.TheVariants.{Event as OfEvent}
-use Rattle.evm_model.proofs.Lists.{slice_get-set_other, change-here, change-elsewhere, change-cases, length-change, slice_get-push, slice_get-below, slice_get-each}
+use Rattle.evm_model.proofs.Lists.{slice_get-set_other, change-elsewhere, change-cases, length-change, slice_get-push, slice_get-below, slice_get-each}
 use Rattle.evm_walk.proofs.Sizes.{of_spend}
 use Rattle.evm_walk.proofs.Walk.{Actor, IsOldTask, Does, hart, task, stamps, turns, awaits_event, spends, wakes, regains, requeues, gives, holds, marks, picks, moves, tells, clock, schedules, adds, makes, types, Walk, start, next}
-use Rattle.evm_runs.specs.Changes.{Added, Made, MutexesTaken, Typed}
+use Rattle.evm_runs.specs.Changes.{Added, Made, Typed}
 use Rattle.evm_runs.specs.Kept.{AreRegisters, AllHaveRegisters}
-use Rattle.evm_model.specs.Mutexes.{owner, owner_of}
 use Rattle.evm_model.specs.Good.{event_of, event_of_task}
 use Rattle.evm_runs.proofs.Named.{AreNamed, walk_named}
 
@@ -181,22 +179,6 @@ made_one old k m f small p = elim p [
   })
 ]
 
--- a free mutex is taken
-taken_one : (u m : ℕ) (old k : List Mutex) → owner k m ≡ None → MutexesTaken old k → MutexesTaken old (change (held_by u 1) k m)
-taken_one u m old k free q n before e = elim (cases_eq n m) [
-  | inl same ↦ elim (q n before e) [
-    | inl stays ↦
-        let at : slice_get k m ≡ Some before = ap (slice_get k) (sym same) ∙ stays in
-        inr (record { task = u; free = ap owner_of (sym at) ∙ free; there = ap (slice_get (change (held_by u 1) k m)) same ∙ change-here (held_by u 1) k m ∙ ap (option_map (held_by u 1)) at })
-    | inr t ↦
-        let owned : Some t.task ≡ None = ap owner_of (sym t.there) ∙ ap (owner k) same ∙ free in cc
-  ]
-  | inr other ↦ elim (q n before e) [
-    | inl stays ↦ inl (change-elsewhere (held_by u 1) k m n other ∙ stays)
-    | inr t ↦ inr (record { task = t.task; free = t.free; there = change-elsewhere (held_by u 1) k m n other ∙ t.there })
-  ]
-]
-
 module _ (a : Actor) (old : Parts) where
   does_make : (i j : ℕ) (k x : Parts) → Does a old i j k x → AreNamed (length old.mutexes) k.events k.tasks → Made old.mutexes k.mutexes → Made old.mutexes x.mutexes
   unfolding restamp set_policy set_slice wake begin_wait tick
@@ -218,29 +200,6 @@ module _ (a : Actor) (old : Parts) where
   pub walk_made : (n s : ℕ) (k : Parts) → AreNamed (length old.mutexes) old.events old.tasks → Walk a old n s k → Made old.mutexes k.mutexes
   walk_made _ _ _ q start = inl refl
   walk_made _ _ _ q (next m n s u i j k x few g d w) = does_make i j k x d (walk_named a old m s k w q) (walk_made m s k q w)
-
-  does_take : (i j : ℕ) (k x : Parts) → a.task ≡ None → Does a old i j k x → MutexesTaken old.mutexes k.mutexes → MutexesTaken old.mutexes x.mutexes
-  unfolding restamp set_policy set_slice wake begin_wait tick
-  does_take _ _ _ _ none (spends t x k runs there on) q = of_spend (λ y. MutexesTaken old.mutexes y.mutexes) t x.slice k q q
-  does_take _ _ _ _ none (regains u e m y k there on its free) q = taken_one u m old.mutexes k.mutexes free q
-  does_take _ _ _ _ none (gives t u m k own same its) q = let no : None ≡ Some t = sym none ∙ own in cc
-  does_take _ _ _ _ none (holds i t m f k own same held) q = let no : None ≡ Some t = sym none ∙ own in cc
-  does_take _ _ _ _ none (makes t recursive protocol k own fresh room) q = let no : None ≡ Some t = sym none ∙ own in cc
-  does_take _ _ _ _ none _ q = q
-
-  does_count : (i j : ℕ) (k x : Parts) → a.task ≡ None → Does a old i j k x → length x.mutexes ≡ length k.mutexes
-  unfolding restamp set_policy set_slice wake begin_wait tick
-  does_count _ _ _ _ none (spends t x k runs there on) = of_spend (λ y. length y.mutexes ≡ length k.mutexes) t x.slice k refl refl
-  does_count _ _ _ _ none (regains u e m y k there on its free) = length-change (held_by u 1) k.mutexes m
-  does_count _ _ _ _ none (gives t u m k own same its) = length-change (held_by u 1) k.mutexes m
-  does_count _ _ _ _ none (holds i t m f k own same held) = length-change f k.mutexes m
-  does_count _ _ _ _ none (makes t recursive protocol k own fresh room) = let no : None ≡ Some t = sym none ∙ own in cc
-  does_count _ _ _ _ none _ = refl
-
-  -- where no task acts
-  pub walk_taken : (n s : ℕ) (k : Parts) → a.task ≡ None → Walk a old n s k → MutexesTaken old.mutexes k.mutexes × (length k.mutexes ≡ length old.mutexes)
-  walk_taken _ _ _ none start = (λ m before e. inl e, refl)
-  walk_taken _ _ _ none (next m n s u i j k x few g d w) = let q = walk_taken m s k none w in (does_take i j k x none d q.0, does_count i j k x none d ∙ q.1)
 
   -- ---- the console
   does_type : (i j : ℕ) (k x : Parts) → Does a old i j k x → Typed old k → Typed old x

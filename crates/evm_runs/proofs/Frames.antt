@@ -4,7 +4,7 @@ use Rattle.std.specs.Prelude.{slice_get, option_map}
 use Rattle.std.proofs.lemmas.Bool.{cases_eq}
 use Rattle.evm_model.specs.Commands.{tick}
 use Rattle.evm_model.specs.Events.{bound}
-use Rattle.evm_model.specs.Good.{event_of, event_of_task, is_ready, is_waiting}
+use Rattle.evm_model.specs.Good.{is_ready, is_waiting}
 use Rattle.evm_model.specs.Harts.{A0, set_register}
 use Rattle.evm_model.specs.Lists.{change}
 use Rattle.evm_model.specs.Mutexes.{owner, owner_of, owns_any, held_by}
@@ -14,7 +14,6 @@ use Rattle.evm_model.specs.State.{Parts, new_task, on_mutex, on_timer}
 use Rattle.evm_model.specs.Tasks.{restamp, set_policy, is_round_robin}
 use Rattle.evm_model.specs.Waits.{ready_on, stage_of_wait, woken, wake, begin_wait}
 use Rattle.evm_model.specs.Timers.{is_due_timer}
-use Rattle.evm_model.specs.declared.stage.Stage.TheVariants.{OutOfBand}
 use Rattle.evm_model.specs.declared.timer.Timer.{Timer}
 use Rattle.evm_model.specs.declared.limits.TheConstants.{SLICE}
 use Rattle.evm_model.specs.declared.mutex.Mutex.{Mutex}
@@ -24,14 +23,15 @@ use Rattle.evm_model.specs.declared.task.Task.{Task}
 use Rattle.evm_model.specs.declared.task.TaskState.{TaskState}
 use Rattle.evm_model.specs.declared.task.TaskState.TheVariants.{InReady, OobReady, Waits}
 use Rattle.evm_model.specs.declared.task.Wait.{Wait}
-use Rattle.evm_model.specs.declared.task.Wait.TheVariants.{Line, Lock, Reacquire, Semaphore, Event as OfEvent, Flags, Sleep, Timer as OfTimer}
-use Rattle.evm_model.proofs.Lists.{change-here, change-elsewhere, change-cases, slice_get-push, slice_get-before, slice_get-within}
+use Rattle.evm_model.specs.declared.task.Wait.TheVariants.{Reacquire, Event as OfEvent}
+use Rattle.evm_model.proofs.Lists.{change-here, change-elsewhere, change-cases, slice_get-push, slice_get-before}
 use Rattle.evm_walk.proofs.Sizes.{walk_least, walk_ticks}
-use Rattle.evm_walk.proofs.Walk.{Actor, Asks, Cause, played, passed, passed_back, regained, timed_out, put, put_by, posted, posted_by, expired_for, Ends, signalled, late, IsLate, is_event, late_answer, IsHeld, Makes, Does, hart, task, stamps, turns, awaits_event, spends, wakes, requeues, regains, gives, holds, names, sets_action, sets_timer, takes_expiries, expires, schedules, adds, makes, adds_event, adds_timer, Walk, start, next}
-use Rattle.evm_runs.specs.Changes.{Rests, MutexesStay, WasLate, late_answer as late_after, is_event_wait, EventEnds, by_signal, by_time, HasMutex, WokenBy, by_line, by_owner, by_owner_back, by_event, by_deadline, by_put, by_line_put, by_post, by_line_post, by_timer}
+use Rattle.evm_walk.proofs.Walk.{Actor, Asks, Cause, passed_back, timed_out, Ends, IsLate, IsHeld, Makes, Does, hart, task, stamps, turns, awaits_event, spends, wakes, requeues, regains, gives, holds, names, sets_action, sets_timer, takes_expiries, expires, schedules, adds, makes, adds_event, adds_timer, Walk, start, next}
+use Rattle.evm_runs.specs.Changes.{Rests, MutexesStay}
 use Rattle.evm_runs.proofs.Added.{walk_made}
-use Rattle.evm_runs.proofs.Fares.{Fares, Keeps, Still, Ticked, both, fares_on, free_keeps, free_stays, held_keeps, held_stays, is_again, is_oob, is_ready_after, is_robin, keeps_all, mutexes_then, owner_oob, ready_after, rested, returns, same_mutexes, spent_still, still, still_by, ticked, woke, woken_there}
+use Rattle.evm_runs.proofs.Fares.{Fares, Keeps, Still, Ticked, both, fares_on, free_keeps, free_stays, held_keeps, held_stays, is_again, is_oob, is_ready_after, is_robin, keeps_all, mutexes_then, ready_after, rested, returns, same_mutexes, spent_still, still, still_by, ticked, woke, woken_there}
 use Rattle.evm_runs.proofs.Named.{AreNamed, walk_named}
+use Rattle.evm_runs.proofs.Woken.{SoFar, asked_by, ends_by, woken_by}
 
 -- ---- the frame of a walk
 -- a task asked for another class of this one
@@ -55,7 +55,7 @@ pub record Frame (a : Actor) (old k : Parts) : Type 0 where
   pub mutexes : MutexesStay a.task old.mutexes k.mutexes
 
 -- a task that isn't ready in-band was there as it is, if it rested
-was_there : (t : ℕ) (old k : Parts) (x : Task) → slice_get k.tasks t ≡ Some x → is_in_ready x.state ≡ false → (is_in_ready x.state ≡ true) ⊎ IsThere t old.tasks → Rests t old k → slice_get old.tasks t ≡ Some x
+pub was_there : (t : ℕ) (old k : Parts) (x : Task) → slice_get k.tasks t ≡ Some x → is_in_ready x.state ≡ false → (is_in_ready x.state ≡ true) ⊎ IsThere t old.tasks → Rests t old k → slice_get old.tasks t ≡ Some x
 was_there t old k x e w (inl ready) r = let no : true ≡ false = sym ready ∙ w in cc
 was_there t old k x e w (inr b) r = let two : Some b.task ≡ Some x = sym (r.task b.task b.there) ∙ e in b.there ∙ two
 
@@ -64,13 +64,6 @@ pub record MayFrame (a : Actor) (old : Parts) : Type 0 where
   pub runs : (t : ℕ) (x : Task) → current a.cpu old ≡ Some t → slice_get old.tasks t ≡ Some x → is_waiting x.state ≡ false
   pub named : AreNamed (length old.mutexes) old.events old.tasks
   pub clock : a.may 0 0 ≡ false
-
--- what a walk has kept so far
-record SoFar (old k : Parts) : Type 0 where
-  later : old.stamps ≤ k.stamps
-  ticks : k.ticks ≡ old.ticks
-  named : AreNamed (length old.mutexes) k.events k.tasks
-  mutexes : length old.mutexes ≤ length k.mutexes
 
 module _ (a : Actor) (old : Parts) (from : MayFrame a old) where
   frame_on : (k x : Parts) → Frame a old k → ((t : ℕ) → (a.task ≡ Some t → ⊥) → Keeps a.cpu old.ticks t k x)
@@ -193,67 +186,6 @@ module _ (a : Actor) (old : Parts) (from : MayFrame a old) where
       ])
 
   -- ---- a wake
-  late_by : (x : Task) (k : Parts) → k.ticks ≡ old.ticks → IsLate a x k → WasLate a.cpu old.ticks x
-  late_by x k clock h = record { set = h.set; come = rw (← clock) h.come; home = h.home }
-
-  ends_by : (e answer : ℕ) (x : Task) (k : Parts) → k.ticks ≡ old.ticks → Ends a old e x k answer → EventEnds (Makes a old) a.cpu old.ticks e x answer
-  ends_by e _ x k clock (signalled y call is) = by_signal y call is
-  ends_by e _ x k clock (late h) = by_time (late_by x k clock h)
-
-  answers_alike : (wait : Wait) → late_answer wait ≡ late_after wait
-  answers_alike Sleep = refl
-  answers_alike (Line l) = refl
-  answers_alike (Lock m) = refl
-  answers_alike (Reacquire m answer) = refl
-  answers_alike (Semaphore s) = refl
-  answers_alike (OfEvent e) = refl
-  answers_alike (Flags g) = refl
-  answers_alike (OfTimer n) = refl
-
-  plain_alike : (wait : Wait) → is_event wait ≡ false → is_event_wait wait ≡ false
-  plain_alike (OfEvent e) h = cc
-  plain_alike Sleep h = refl
-  plain_alike (Line l) h = refl
-  plain_alike (Lock m) h = refl
-  plain_alike (Reacquire m answer) h = refl
-  plain_alike (Semaphore s) h = refl
-  plain_alike (Flags g) h = refl
-  plain_alike (OfTimer n) h = refl
-
-  has_given : (u m : ℕ) (mutex : Mutex) (k : Parts) (x : Task) → slice_get k.mutexes m ≡ Some mutex → mutex.owner ≡ Some u → mutex.count ≡ 1 → HasMutex u m (ready_on OutOfBand (returns (owns_any u k.mutexes) x)) k.mutexes
-  has_given u m mutex k x there its once = record { mutex = mutex; there = there; owns = its; once = once; oob = owner_oob m u k.mutexes x (ap owner_of there ∙ its) }
-
-  woken_by : (u : ℕ) (k : Parts) (x : Task) (value : ℕ) (wait : Wait) → SoFar old k → slice_get k.tasks u ≡ Some x → x.state ≡ Waits wait → Cause a old u x k wait value
-      → WokenBy a.task (Makes a old) a.cpu u x (ready_on (stage_of_wait wait) (returns (owns_any u k.mutexes) x)) old k wait value
-  woken_by u k x _ _ far there on (played l home) = by_line l home
-  woken_by u k x _ _ far there on (passed m p) = by_owner m p.giver p.acts p.had (has_given u m (held_by u 1 p.mutex) k x p.its refl refl)
-  woken_by u k x _ _ far there on (passed_back m answer p) = by_owner_back m answer p.giver p.acts p.had (has_given u m (held_by u 1 p.mutex) k x p.its refl refl)
-  woken_by u k x _ _ far there on (regained e m answer its owned why) =
-      let small : m < length k.mutexes = omega (arith, far.mutexes, far.named.below u e m (ap event_of_task there ∙ ap event_of on) its) in
-      let mutex = slice_get-within k.mutexes m small in
-      let has = owned mutex.0 mutex.1 in
-      by_event e m answer its (has_given u m mutex.0 k x mutex.1 has.0 has.1) (ends_by e answer x k far.ticks why)
-  woken_by u k x _ _ far there on (timed_out wait plain h) = rw (answers_alike wait) (by_deadline wait (plain_alike wait plain) (late_by x k far.ticks h))
-  woken_by u k x _ _ far there on (put caller call) = by_put caller call
-  woken_by u k x _ _ far there on (put_by l s is) = by_line_put l s is
-  woken_by u k x _ _ far there on (posted caller word call is) = by_post caller word call is
-  woken_by u k x _ _ far there on (posted_by l g word is) = by_line_post l g word is
-  woken_by u k x _ _ far there on (expired_for n timer due now) = rw far.ticks (by_timer n timer (rw far.ticks at due) (rw far.ticks at now))
-
-  -- of what was there only mutexes, flag groups and the clock are spoken of
-  asked_by : (u : ℕ) (wait : Wait) (value : ℕ) (x : Task) (state : TaskState) (k : Parts) (f : Frame a old k) → WokenBy a.task (Makes a old) a.cpu u x state old k wait value
-      → WokenBy a.task (Makes a old) a.cpu u x state (record old { tasks = f.asked }) k wait value
-  asked_by u _ _ x state k f (by_line l home) = by_line l home
-  asked_by u _ _ x state k f (by_owner m giver own had has) = by_owner m giver own had has
-  asked_by u _ _ x state k f (by_owner_back m answer giver own had has) = by_owner_back m answer giver own had has
-  asked_by u _ _ x state k f (by_event e m answer named has ends) = by_event e m answer named has ends
-  asked_by u _ _ x state k f (by_deadline wait plain h) = by_deadline wait plain h
-  asked_by u _ _ x state k f (by_put y call) = by_put y call
-  asked_by u _ _ x state k f (by_line_put l s is) = by_line_put l s is
-  asked_by u _ _ x state k f (by_post y word call is) = by_post y word call is
-  asked_by u _ _ x state k f (by_line_post l g word is) = by_line_post l g word is
-  asked_by u _ _ x state k f (by_timer n timer due now) = by_timer n timer due now
-
   -- a task that waits in k, and for no mutex again, rested so far; a mutex that is passed to one that does is so by a task that has not made it wait again
   again_if : (u value : ℕ) (wait : Wait) (k : Parts) (x : Task) (f : Frame a old k) → x.state ≡ Waits wait → slice_get k.tasks u ≡ Some x → Cause a old u x k wait value → (a.task ≡ Some u → ⊥) → Rests u (record old { tasks = f.asked }) k
   again_if u value wait k x f on there why away = waits_on (is_again x.state) refl
@@ -320,7 +252,7 @@ module _ (a : Actor) (old : Parts) (from : MayFrame a old) where
         answer = value;
         waited = was_there u (record old { tasks = f.asked }) k x at (ap is_in_ready on) (f.back u x away at) r;
         on = on;
-        by = still_by a.task a.task (Makes a old) (Makes a old) a.cpu u x state (record old { tasks = f.asked }) k new (λ g e. e) (λ n h call. call) (λ m y o e. e) (still a.cpu old.ticks k new refl refl refl) wait value (asked_by u wait value x state k f (woken_by u k x value wait far at on why));
+        by = still_by a.task a.task (Makes a old) (Makes a old) a.cpu u x state (record old { tasks = f.asked }) k new (λ g e. e) (λ n h call. call) (λ m y o e. e) (still a.cpu old.ticks k new refl refl refl) wait value (asked_by a old u wait value x state k f.asked (woken_by a old u k x value wait far at on why));
         ready = ready_after wait owns x;
         fresh = far.later;
         wakes = there;
@@ -356,7 +288,7 @@ module _ (a : Actor) (old : Parts) (from : MayFrame a old) where
         waited = was_there u (record old { tasks = f.asked }) k x at (ap is_in_ready on) (f.back u x away at) r;
         on = on;
         named = its;
-        ends = ends_by e answer x k far.ticks why;
+        ends = ends_by a old e answer x k far.ticks why;
         fresh = far.later;
         waits = queued_there u m answer k.stamps x k.tasks at;
         hart = λ y h. r.hart y h;

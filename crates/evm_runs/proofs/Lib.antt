@@ -13,6 +13,7 @@ pub mod Kept
 pub mod Least
 pub mod Named
 pub mod Nudged
+pub mod Objects
 pub mod Order
 pub mod Own
 pub mod Own_objects
@@ -22,4 +23,6 @@ pub mod Replays
 pub mod Runs
 pub mod Sooner
 pub mod Steps
+pub mod Taken
 pub mod Turns
+pub mod Woken

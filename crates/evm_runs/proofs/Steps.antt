@@ -20,12 +20,14 @@ use Rattle.evm_model.proofs.Lists.{slice_get-below, slice_get-each, slice_get-wi
 use Rattle.evm_walk.proofs.Rows.{word_calls, MaySteps, Stepped, steps, stepped_walk}
 use Rattle.evm_walk.proofs.Sizes.{walk_sizes, walk_least, walk_ticks}
 use Rattle.evm_walk.proofs.Walk.{Actor, Makes, unchanged, Walk, start}
-use Rattle.evm_runs.specs.Changes.{MakesCall, MakesNone, StoreWrites, Stays, Spends, MutexesStay, MutexesTaken, Schedules, Hears, StepChanges, Added}
+use Rattle.evm_runs.specs.Changes.{MakesCall, MakesNone, StoreWrites, Stays, Spends, MutexesStay, MutexesTaken, ObjectsChange, Schedules, Hears, StepChanges, Added}
 use Rattle.evm_runs.specs.Kept.{AllHaveRegisters}
-use Rattle.evm_runs.proofs.Added.{walk_registers, walk_added, walk_made, walk_taken, walk_typed, walk_processors, walk_other_pipes}
+use Rattle.evm_runs.proofs.Added.{walk_registers, walk_added, walk_made, walk_typed, walk_processors, walk_other_pipes}
 use Rattle.evm_runs.proofs.Fares.{one_change, ends_wider, Fares, still, still_by}
 use Rattle.evm_runs.proofs.Frames.{Asked, Frame, walk_frame}
 use Rattle.evm_runs.proofs.Named.{AreNamed, named_good}
+use Rattle.evm_runs.proofs.Taken.{walk_taken}
+use Rattle.evm_runs.proofs.Objects.{objects_wider, walk_objects}
 use Rattle.evm_runs.proofs.Instructions.{Calls, called, step_writes}
 
 -- as many of each, but for tasks, of which there may be more, a hart for each; and tasks keep their registers
@@ -205,14 +207,17 @@ module _ (c : ℕ) (b : Board) where
     pub same_ticks : new.parts.ticks ≡ b.parts.ticks
     same_ticks = walk_ticks (actor c o true calls) b.parts 66 2241 new.parts refl walk
 
+    objects_of : ObjectsChange (Makes (actor c o true calls) b.parts) c b.parts new.parts
+    objects_of = walk_objects (actor c o true calls) b.parts 66 2241 new.parts refl walk
+
     framed : MayStep c b.parts → Frame (actor c o true calls) b.parts new.parts
     framed fit = walk_frame (actor c o true calls) b.parts (record { runs = fit.runs; named = fit.named; clock = refl }) 66 2241 new.parts walk
 
     changes : MayStep c b.parts → (f : Frame (actor c o true calls) b.parts new.parts) → (f.asked ≡ b.parts.tasks) ⊎ Schedules c b f.asked
         → ((t : ℕ) → (current c b.parts ≡ Some t → ⊥) → Stays (current c b.parts) (λ number hart. MakesCall c number hart b) c t (record b.parts { tasks = f.asked }) new.parts) → MutexesStay (current c b.parts) b.parts.mutexes new.parts.mutexes
-        → (Hears c b.parts → (f.asked ≡ b.parts.tasks) × ((t : ℕ) → Stays None MakesNone c t b.parts new.parts ⊎ Spends c t b.parts new.parts) × (MutexesTaken b.parts.mutexes new.parts.mutexes × (length new.parts.mutexes ≡ length b.parts.mutexes)))
-        → StepChanges c b new
-    changes fit f scheduled others mutexes hears = record {
+        → (Hears c b.parts → (f.asked ≡ b.parts.tasks) × ((t : ℕ) → Stays None MakesNone c t b.parts new.parts ⊎ Spends c t b.parts new.parts) × (MutexesTaken b.parts new.parts.mutexes × (length new.parts.mutexes ≡ length b.parts.mutexes)))
+        → ObjectsChange (λ number hart. MakesCall c number hart b) c b.parts new.parts → (Hears c b.parts → ObjectsChange MakesNone c b.parts new.parts) → StepChanges c b new
+    changes fit f scheduled others mutexes hears objects hears_objects = record {
       asked = f.asked;
       scheduled = scheduled;
       breakpoints = (step_writes c b).breakpoints;
@@ -224,6 +229,8 @@ module _ (c : ℕ) (b : Board) where
       others = others;
       mutexes = mutexes;
       hears = hears;
+      objects = objects;
+      hears_objects = hears_objects;
       added = walk_added (actor c o true calls) b.parts 66 2241 new.parts walk;
       made = walk_made (actor c o true calls) b.parts 66 2241 new.parts fit.named walk;
       typed = walk_typed (actor c o true calls) b.parts 66 2241 new.parts walk;
@@ -276,8 +283,10 @@ module _ (c : ℕ) (b : Board) where
       (λ line. (
         unasked f,
         (λ t. silent t (subst (λ (all : List Task). Fares (actor c None true true) (Makes (actor c None true true) b.parts) t (record b.parts { tasks = all }) new.parts) (unasked f) (f.others t (λ h. cc)))),
-        walk_taken (actor c None true true) b.parts 66 2241 new.parts refl (walk None true m),
+        walk_taken (actor c None true true) b.parts (record { runs = fit.runs; named = fit.named; clock = refl }) 66 2241 new.parts refl (walk None true m),
       ))
+      (objects_wider (Makes (actor c None true true) b.parts) (λ number hart. MakesCall c number hart b) c b.parts new.parts (λ n h call. absurd (none_calls n h call)) (objects_of None true m))
+      (λ line. objects_wider (Makes (actor c None true true) b.parts) MakesNone c b.parts new.parts none_calls (objects_of None true m))
 
   -- ---- none is: the current task acts
   asked_call : (x : Hart) (t : ℕ) → current c b.parts ≡ Some t → slice_get b.parts.harts t ≡ Some x → task_calls (current c b.parts) b ≡ true → Calls x b.memory
@@ -325,6 +334,7 @@ module _ (c : ℕ) (b : Board) where
         | inr q ↦ absurd (away q.runs)
       ])
       f.mutexes (λ line. absurd (deaf c b.parts e line))
+      (objects_wider (Makes (actor c o true calls) b.parts) (λ number hart. MakesCall c number hart b) c b.parts new.parts makes_call (objects_of o calls m)) (λ line. absurd (deaf c b.parts e line))
 
   step_if : (line : Bool) → hears (slice_get b.parts.pipes c) ≡ line → MayStep c b.parts → StepChanges c b new
   step_if true e fit = heard fit e

@@ -233,15 +233,19 @@ pub record MutexChanges (holder : Option ℕ) (m : ℕ) (before : Mutex) (new : 
 abbrev pub MutexesStay : Option ℕ → List Mutex → List Mutex → Type 0
 MutexesStay holder old new = (m : ℕ) (before : Mutex) → slice_get old m ≡ Some before → (slice_get new m ≡ Some before) ⊎ MutexChanges holder m before new
 
--- a mutex that was free has an owner now, which locked it once
-pub record IsTaken (m : ℕ) (before : Mutex) (new : List Mutex) : Type 0 where
+-- a mutex that was free has an owner now, which waited for an event and has locked it once
+pub record IsTaken (m : ℕ) (before : Mutex) (old : List Task) (new : List Mutex) : Type 0 where
   pub task : ℕ
+  pub waiter : Task
+  pub event : ℕ
   pub free : before.owner ≡ None
+  pub waited : slice_get old task ≡ Some waiter
+  pub on : waiter.state ≡ Waits (OfEvent event)
   pub there : slice_get new m ≡ Some (held_by task 1 before)
 
 -- each mutex is as it was, or is taken
-abbrev pub MutexesTaken : List Mutex → List Mutex → Type 0
-MutexesTaken old new = (m : ℕ) (before : Mutex) → slice_get old m ≡ Some before → (slice_get new m ≡ Some before) ⊎ IsTaken m before new
+abbrev pub MutexesTaken : Parts → List Mutex → Type 0
+MutexesTaken old new = (m : ℕ) (before : Mutex) → slice_get old.mutexes m ≡ Some before → (slice_get new m ≡ Some before) ⊎ IsTaken m before old.tasks new
 
 -- there is one mutex more, the last, and it is free
 pub record AddsMutex (old new : List Mutex) : Type 0 where
@@ -305,6 +309,29 @@ Added old new = ((length new.tasks ≡ length old.tasks) × (length new.harts �
 abbrev pub Typed : Parts → Parts → Type 0
 Typed old new = (new.console ≡ old.console) ⊎ ((byte : ℕ) × (new.console ≡ last_bytes (old.console ++ byte ∷ [])))
 
+-- ---- semaphores, flag groups, events, timers and actions
+-- the acting task makes a call of one of these numbers, whose a0 names object n
+pub record NamedBy (makes : ℕ → Hart → Type 0) (least most n : ℕ) : Type 0 where
+  pub number : ℕ
+  pub hart : Hart
+  pub from : least ≤ number
+  pub to : number ≤ most
+  pub makes_it : makes number hart
+  pub names : n ≡ argument 0 hart
+
+-- each of a list is as it was, or is another for a reason; and there is one more at the most
+pub record ListChanges {X : Type 0} (why : ℕ → X → Type 0) (old new : List X) : Type 0 where
+  pub each : (n : ℕ) (x : X) → slice_get old n ≡ Some x → (slice_get new n ≡ Some x) ⊎ why n x
+  pub count : (length new ≡ length old) ⊎ (length new ≡ length old + 1)
+
+-- a semaphore changes by calls 39 to 41 and by a line with its action, a flag group by calls 45 and 46 and by a line with its action, an event by call 42, a timer by calls 48 and 49 and where it was due on the processor, the action of a line from 2 on by call 14
+pub record ObjectsChange (makes : ℕ → Hart → Type 0) (c : ℕ) (old new : Parts) : Type 0 where
+  pub semaphores : ListChanges (λ s n. NamedBy makes 39 41 s ⊎ ((l : ℕ) × (action_at l new ≡ Puts s))) old.semaphores new.semaphores
+  pub flags : ListChanges (λ g word. NamedBy makes 45 46 g ⊎ ((l : ℕ) × (action_at l new ≡ Posts g))) old.flags new.flags
+  pub events : ListChanges (λ e mutex. NamedBy makes 42 42 e) old.events new.events
+  pub timers : ListChanges (λ n timer. NamedBy makes 48 49 n ⊎ (is_due_timer c old.ticks timer ≡ true)) old.timers new.timers
+  pub actions : ListChanges (λ l action. (2 ≤ l) × NamedBy makes 14 14 l) old.actions new.actions
+
 -- a step of c changes RAM only by a store; of the tasks it changes the one that was current on c, the one that it calls to have another class, such as waited, which wake or wait for a mutex again, and adds one at most; of the mutexes it changes only such as were free or the current task's, and adds one at most; of other processors it changes only that line 1 may be raised there
 pub record StepChanges (c : ℕ) (old new : Board) : Type 0 where
   -- the tasks, but that one may have another class
@@ -319,7 +346,10 @@ pub record StepChanges (c : ℕ) (old new : Board) : Type 0 where
   pub others : (t : ℕ) → (current c old.parts ≡ Some t → ⊥) → Stays (current c old.parts) (λ number hart. MakesCall c number hart old) c t (record old.parts { tasks = asked }) new.parts
   pub mutexes : MutexesStay (current c old.parts) old.parts.mutexes new.parts.mutexes
   -- where a line is on the wire the current task too stays, or its slice is spent, and no mutex changes but such as are taken
-  pub hears : Hears c old.parts → (asked ≡ old.parts.tasks) × ((t : ℕ) → Stays None MakesNone c t old.parts new.parts ⊎ Spends c t old.parts new.parts) × (MutexesTaken old.parts.mutexes new.parts.mutexes × (length new.parts.mutexes ≡ length old.parts.mutexes))
+  pub hears : Hears c old.parts → (asked ≡ old.parts.tasks) × ((t : ℕ) → Stays None MakesNone c t old.parts new.parts ⊎ Spends c t old.parts new.parts) × (MutexesTaken old.parts new.parts.mutexes × (length new.parts.mutexes ≡ length old.parts.mutexes))
+  pub objects : ObjectsChange (λ number hart. MakesCall c number hart old) c old.parts new.parts
+  -- .. where a line is on the wire none by a call
+  pub hears_objects : Hears c old.parts → ObjectsChange MakesNone c old.parts new.parts
   pub added : Added old.parts new.parts
   pub made : Made old.parts.mutexes new.parts.mutexes
   pub typed : Typed old.parts new.parts

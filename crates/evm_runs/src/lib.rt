@@ -59,11 +59,13 @@ pub fn counts_fit()
 {}
 
 /// An accepted event is in the journal afterwards. A command answers Done, and changes only the place that it
-/// names. A step changes RAM only by a store; of the tasks it changes the one that was current, gives another class
-/// to the one for which that task asks it by call 34, wakes such as waited there for a line, gives mutexes of that task
-/// to such as waited for them, and adds one at most; of the mutexes it changes such as were free or that task's, and
-/// adds one at most; of the other processors only line 1 may be raised. Where a line is on the wire, of the task that
-/// was current at most the slice is spent, and no mutex changes.
+/// names. A step, where the rules hold, changes RAM only by a store; of the tasks it changes the one that was current, gives
+/// another class to the one for which that task asks it by call 34, wakes such as waited (by a line, its action, a deadline,
+/// a timer, a mutex of that task or its call), makes such as waited for an event wait for the event's mutex, and adds one at
+/// most; of the mutexes it changes such as were free or that task's, and adds one at most; of semaphores, flag groups,
+/// events, timers and actions it changes such as that task names by their calls, and such as a line's action or the clock
+/// changes; of the other processors only line 1 may be raised. Where a line is on the wire no task acts: of the one that was
+/// current at most the slice is spent, and such mutexes are taken as were free, by tasks that waited for an event.
 pub fn events_change_only()
     ensures { EventsChangeOnly }
 {}

@@ -5,7 +5,7 @@ use Rattle.evm_model.specs.State.{Parts, on_pipe}
 use Rattle.evm_model.specs.declared.limits.TheConstants.{PROCESSOR_LIMIT}
 use Rattle.evm_walk.proofs.Counted.{PipesUpTo-more}
 use Rattle.evm_rules.proofs.Counting.{on_raise-up}
-use Rattle.evm_board.proofs.Timers.{timers-none, timers-more, timers-all}
+use Rattle.evm_board.proofs.Ticks.{timers-none, timers-more, timers-all}
 use Rattle.evm_board.proofs.commands.raise_timers.Goals as goal
 
 pub loop-c-init : goal.loop-c-init

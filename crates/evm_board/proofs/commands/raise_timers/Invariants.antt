@@ -2,7 +2,7 @@ use Rattle.std.proofs.Common.{◌≡◌, ◌+◌, ◌-◌}
 use Rattle.evm_model.specs.Bounds.{COUNT_LIMIT, PipesUpTo}
 use Rattle.evm_model.specs.declared.limits.TheConstants.{PROCESSOR_LIMIT}
 use Rattle.evm_settle.proofs.Nudges.{changed_below}
-use Rattle.evm_board.proofs.Timers.{raise_timer}
+use Rattle.evm_board.proofs.Ticks.{raise_timer}
 use Rattle.evm_board.proofs.commands.raise_timers.Given as goal
 
 -- line 0 of the processors below c is raised
