@@ -11,7 +11,7 @@ abbrev pub is_rising : ℕ → ℕ → ℕ → ℕ → Bool
 is_rising mask before after pin = is_high mask pin && not (is_high before pin) && is_high after pin
 
 -- whether one of the first pins passes a test
-pub any_pin : (ℕ → Bool) → ℕ → Bool
+unfoldable pub any_pin : (ℕ → Bool) → ℕ → Bool
 any_pin test zero = false
 any_pin test (suc pins) = test pins || any_pin test pins
 
@@ -26,7 +26,7 @@ pins_fetches words = map (answers words) words
 -- registers 0, 1 and 2: that word is the value; the first raises if a watched pin rises
 abbrev pub pins_puts : ℕ → List ℕ → List Touched
 pins_puts value (level ∷ mask ∷ count ∷ []) =
-      raises_if (rises mask level value) (answers (value ∷ mask ∷ count ∷ []) 0)
+    raises_if (rises mask level value) (answers (value ∷ mask ∷ count ∷ []) 0)
     ∷ answers (level ∷ value ∷ count ∷ []) 0
     ∷ answers (level ∷ mask ∷ value ∷ []) 0
     ∷ []
