@@ -26,9 +26,13 @@ answers words answer = record { words = words; touch = answer_alone answer }
 abbrev pub raises_if : Bool → Touched → Touched
 raises_if test touched = record touched { touch = record { answer = touched.touch.answer; raise = test } }
 
--- the row of a register; past the last row there is no register, so nothing changes
+-- no answer, and nothing changes
+abbrev pub untouched : List ℕ → Touched
+untouched words = record { words = words; touch = no_answer }
+
+-- the row of a register; past the last row there is no register
 abbrev pub at_register : List Touched → ℕ → List ℕ → Touched
-at_register [] register words = record { words = words; touch = no_answer }
+at_register [] register words = untouched words
 at_register (row ∷ rows) zero words = row
 at_register (row ∷ rows) (suc register) words = at_register rows register words
 
