@@ -1,0 +1,5 @@
+pub mod Console
+pub mod Mailbox
+pub mod Pins
+pub mod Rows
+pub mod Touched
