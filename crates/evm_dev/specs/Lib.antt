@@ -1,3 +1,4 @@
+pub mod Attached
 pub mod Console
 pub mod Mailbox
 pub mod Pins

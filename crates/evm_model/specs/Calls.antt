@@ -11,6 +11,7 @@ use Rattle.evm_model.specs.Harts.{A7, advance, answer, argument}
 use Rattle.evm_model.specs.InBandCalls.{exit, putc, yield_now, spawn, wait_line, attach, detach}
 use Rattle.evm_model.specs.Locks.{new_mutex, lock, try_lock, unlock}
 use Rattle.evm_model.specs.Mutexes.{owns_any}
+use Rattle.evm_model.specs.Notices.{notify}
 use Rattle.evm_model.specs.OobCalls.{stall, switch_oob, switch_in_band, set_sched, set_mode, yield_oob, clock, state_bits}
 use Rattle.evm_model.specs.Ranks.{is_oob_ready}
 use Rattle.evm_model.specs.Semaphores.{new_semaphore, sem_get, sem_try_get, sem_put}
@@ -23,6 +24,7 @@ use Rattle.evm_model.specs.declared.call.Call.TheVariants.{Exit as Ends, Putc, Y
 use Rattle.evm_model.specs.declared.call.Outcome.{Outcome}
 use Rattle.evm_model.specs.declared.call.Outcome.TheVariants.{Answers, Waits, Leaves}
 use Rattle.evm_model.specs.declared.errno.Errno.TheVariants.{NotPermitted, NoSuchCall}
+use Rattle.evm_model.specs.declared.notice.NoticeKind.TheVariants.{DemotedByCall}
 use Rattle.evm_model.specs.declared.stage.Stage.{Stage}
 use Rattle.evm_model.specs.declared.stage.Stage.TheVariants.{OutOfBand, InBand}
 use Rattle.evm_model.specs.declared.task.Task.{Task}
@@ -151,11 +153,11 @@ finish_call c t done = answered done.1 c t done.0
 unfoldable pub ask_oob : ℕ → ℕ → Parts → Parts
 ask_oob c t k = if may_promote c t k then promote c t k else finish_call c t (refused NotPermitted k)
 
--- a call of the other stage changes the task's stage first; one of either stage never does
+-- a call of the other stage changes the task's stage first, in-band with a notice; one of either stage never does
 abbrev pub call_on : Option Stage → Call → Hart → ℕ → ℕ → Parts → Parts
 call_on None call hart c t k = finish_call c t (perform call hart c t k)
 call_on (Some InBand) call hart c t k =
-    if is_oob (Some t) k.tasks then demote c t k else finish_call c t (perform call hart c t k)
+    if is_oob (Some t) k.tasks then notify DemotedByCall t (demote c t k) else finish_call c t (perform call hart c t k)
 call_on (Some OutOfBand) call hart c t k =
     if is_oob (Some t) k.tasks then finish_call c t (perform call hart c t k) else ask_oob c t k
 

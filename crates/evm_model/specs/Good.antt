@@ -6,16 +6,17 @@ use Rattle.evm_exec.specs.declared.hart.Hart.{Hart}
 use Rattle.evm_ranks.specs.Boosts.{HasHeight}
 use Rattle.evm_model.specs.Actions.{action_in}
 use Rattle.evm_model.specs.Bounds.{PER_EVENT, STAMPS_PER_EVENT, PipesUpTo, HeldUpTo}
+use Rattle.evm_model.specs.Devices.{Attached, IsDevice}
 use Rattle.evm_model.specs.Events.{bound_of}
 use Rattle.evm_model.specs.Mutexes.{owner, lock_at, waits_on}
 use Rattle.evm_model.specs.Pipes.{Pipe}
 use Rattle.evm_model.specs.Ranks.{best, is_in_ready}
 use Rattle.evm_model.specs.Replay.{bad_boot}
 use Rattle.evm_model.specs.Current.{is_oob}
-use Rattle.evm_model.specs.State.{State, Parts, profile_of}
+use Rattle.evm_model.specs.State.{State, Notices, Parts, profile_of}
 use Rattle.evm_model.specs.Event.{Event}
 use Rattle.evm_model.specs.declared.event.Event.TheVariants.{Tick}
-use Rattle.evm_model.specs.declared.limits.TheConstants.{EVENT_LIMIT, FLAGS_LIMIT, FLAGS_WORD_LIMIT, SEMAPHORE_COUNT_LIMIT, MUTEX_LIMIT, PROCESSOR_LIMIT, SEMAPHORE_LIMIT, TASK_LIMIT, TIMER_LIMIT, TIMER_SPAN_LIMIT}
+use Rattle.evm_model.specs.declared.limits.TheConstants.{DEVICE_LIMIT, EVENT_LIMIT, FLAGS_LIMIT, FLAGS_WORD_LIMIT, SEMAPHORE_COUNT_LIMIT, MUTEX_LIMIT, NOTICE_LIMIT, PROCESSOR_LIMIT, SEMAPHORE_LIMIT, TASK_LIMIT, TIMER_LIMIT, TIMER_SPAN_LIMIT}
 use Rattle.evm_model.specs.declared.action.Action.{Action}
 use Rattle.evm_model.specs.declared.action.Action.TheVariants.{Nothing, Puts, Posts}
 use Rattle.evm_model.specs.declared.mutex.Mutex.{Mutex}
@@ -137,6 +138,16 @@ pub record AreActions (actions : List Action) (semaphores flags : List ℕ) : Ty
   pub puts : (l s : ℕ) → action_in actions l ≡ Puts s → s < length semaphores
   pub posts : (l f : ℕ) → action_in actions l ≡ Posts f → f < length flags
 
+-- the notices
+pub record AreNotices (events : ℕ) (notices : Notices) : Type 0 where
+  pub kept : length notices.kept ≤ NOTICE_LIMIT
+  pub total : notices.total ≤ events
+
+-- no more devices than there may be, each with words that its kind may have
+pub record AreDevices (devices : List Attached) : Type 0 where
+  pub few : length devices ≤ DEVICE_LIMIT
+  pub each : (i : ℕ) (device : Attached) → slice_get devices i ≡ Some device → IsDevice device
+
 -- what holds of the parts
 pub record Good (k : Parts) : Type 0 where
   pub pipes : (c : ℕ) (pipe : Pipe) → slice_get k.pipes c ≡ Some pipe → IsPipe pipe
@@ -186,3 +197,6 @@ pub record GoodState (s : State) : Type 0 where
   pub actions : AreActions s.board.parts.actions s.board.parts.semaphores s.board.parts.flags
   -- and so is how often each mutex is locked
   pub holds : HeldUpTo (PER_EVENT * length s.journal) s.board.parts.mutexes
+  -- no more notices are kept than there may be, and no more were made than there were events
+  pub notices : AreNotices (length s.journal) s.board.parts.notices
+  pub devices : AreDevices s.board.memory.devices

@@ -4,6 +4,7 @@ pub mod Calls
 pub mod Commands
 pub mod Current
 pub mod Deadlines
+pub mod Devices
 pub mod Errnos
 pub mod Event
 pub mod Events
@@ -20,6 +21,7 @@ pub mod Locks
 pub mod Memory
 pub mod Mutexes
 pub mod OobCalls
+pub mod Notices
 pub mod Passing
 pub mod Pipes
 pub mod Policies

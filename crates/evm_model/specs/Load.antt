@@ -1,6 +1,7 @@
 -- What loading makes of a machine: RAM's bytes, and where task 0 begins.
 use Rattle.std.specs.Prelude.{ℕ, zero, suc, ◌+◌, List, [], ◌∷◌, length}
 use Rattle.evm_ram.specs.declared.ram.TheConstants.{BASE}
+use Rattle.evm_model.specs.Devices.{Attached}
 use Rattle.evm_model.specs.Harts.{set_pc}
 use Rattle.evm_model.specs.Replay.{start}
 use Rattle.evm_model.specs.State.{State, Board, on_hart, on_parts, on_memory}
@@ -19,6 +20,6 @@ fill byte b = on_memory (λ m. record m { ram = bytes_from byte BASE (length m.r
 unfoldable pub load_board : (ℕ → ℕ) → ℕ → Board → Board
 load_board byte entry b = on_parts (on_hart 0 (set_pc entry)) (fill byte b)
 
--- a machine that has had no event, with these bytes and this entry
-abbrev pub start_loaded : (ℕ → ℕ) → ℕ → Boot → State
-start_loaded byte entry boot = record (start boot) { board = load_board byte entry (start boot).board }
+-- a machine that has had no event, with these devices, these bytes and this entry
+abbrev pub start_loaded : List Attached → (ℕ → ℕ) → ℕ → Boot → State
+start_loaded devices byte entry boot = record (start devices boot) { board = load_board byte entry (start devices boot).board }

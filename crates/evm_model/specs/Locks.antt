@@ -2,6 +2,7 @@
 use Rattle.std.specs.Prelude.{ℕ, ◌+◌, ◌-◌, [], ◌∷◌, ◌++◌, Option, Some, None, Bool, true, false, ◌==◌, nat_lt, nat_le, if◌then◌else◌, slice_get, length}
 use Rattle.evm_ranks.specs.Boosts.{is_number, meets}
 use Rattle.evm_model.specs.Mutexes.{free_mutex, held_by, waits_on}
+use Rattle.evm_model.specs.Notices.{notify_refused}
 use Rattle.evm_model.specs.Passing.{pass_on}
 use Rattle.evm_model.specs.Stages.{refused, is_stalled, wait_refusal, wait_unless}
 use Rattle.evm_model.specs.State.{Parts, on_mutex}
@@ -12,6 +13,7 @@ use Rattle.evm_model.specs.declared.errno.Errno.TheVariants.{NotPermitted, NoNum
 use Rattle.evm_model.specs.declared.limits.TheConstants.{MUTEX_LIMIT, PRIORITY_LIMIT, TASK_LIMIT}
 use Rattle.evm_model.specs.declared.mutex.Mutex.{Mutex}
 use Rattle.evm_model.specs.declared.mutex.Protocol.TheVariants.{Inheritance, Ceiling}
+use Rattle.evm_model.specs.declared.notice.NoticeKind.TheVariants.{Deadlock as Unending, NotOwner}
 use Rattle.evm_model.specs.declared.stage.Stage.TheVariants.{OutOfBand}
 use Rattle.evm_model.specs.declared.task.Wait.TheVariants.{Lock}
 
@@ -71,9 +73,9 @@ abbrev pub lock_known : Option Mutex → ℕ → ℕ → ℕ → ℕ → Parts �
 lock_known None c t m deadline k = refused Invalid k
 lock_known (Some mutex) c t m deadline k = lock_owned mutex.owner c t m deadline mutex k
 
--- 36: the task has the mutex, or waits for it
+-- 36: the task has the mutex, or waits for it; a deadlock makes a notice
 unfoldable pub lock : ℕ → ℕ → ℕ → ℕ → Parts → Parts × Outcome
-lock c t m deadline k = lock_known (slice_get k.mutexes m) c t m deadline k
+lock c t m deadline k = notify_refused Deadlock Unending t (lock_known (slice_get k.mutexes m) c t m deadline k)
 
 abbrev pub try_owned : Option ℕ → ℕ → ℕ → Mutex → Parts → Parts × Outcome
 try_owned None t m mutex k = (take_mutex t m k, Answers 0)
@@ -83,9 +85,9 @@ abbrev pub try_known : Option Mutex → ℕ → ℕ → Parts → Parts × Outco
 try_known None t m k = refused Invalid k
 try_known (Some mutex) t m k = try_owned mutex.owner t m mutex k
 
--- 37: the task has the mutex, if it need not wait for it
+-- 37: the task has the mutex, if it need not wait for it; a deadlock makes a notice
 unfoldable pub try_lock : ℕ → ℕ → Parts → Parts × Outcome
-try_lock t m k = try_known (slice_get k.mutexes m) t m k
+try_lock t m k = notify_refused Deadlock Unending t (try_known (slice_get k.mutexes m) t m k)
 
 -- ---- 38: an unlock
 -- the last one passes the mutex on
@@ -97,5 +99,6 @@ unlock_known None t m k = refused Invalid k
 unlock_known (Some mutex) t m k =
     if is_number mutex.owner t then (unlock_once t m mutex k, Answers 0) else refused NotPermitted k
 
+-- 38: an unlock by another task than the owner makes a notice
 unfoldable pub unlock : ℕ → ℕ → Parts → Parts × Outcome
-unlock t m k = unlock_known (slice_get k.mutexes m) t m k
+unlock t m k = notify_refused NotPermitted NotOwner t (unlock_known (slice_get k.mutexes m) t m k)

@@ -4,6 +4,7 @@ use Rattle.evm_lines.specs.Lines.{least_line}
 use Rattle.evm_exec.specs.declared.hart.Hart.{Hart}
 use Rattle.evm_model.specs.Actions.{receive_line}
 use Rattle.evm_model.specs.Commands.{tick, set_bits, on_current, is_set, set_breakpoint, unset_breakpoint}
+use Rattle.evm_model.specs.Devices.{tick_devices}
 use Rattle.evm_model.specs.Harts.{set_register, set_pc}
 use Rattle.evm_model.specs.Instructions.{execute, stop}
 use Rattle.evm_model.specs.Memory.{poke}
@@ -56,7 +57,7 @@ single_step c b = on_parts (set_bits true false c) (step c (on_parts (set_bits f
 -- what an event does, and answers
 unfoldable pub row : Event → Board → Board × Answer
 row (Step c) b = step c b
-row Tick b = (on_parts tick b, Done)
+row Tick b = (on_parts tick (tick_devices b), Done)
 row (Raise c l) b = (on_parts (on_pipe c (raise l)) b, Done)
 row (Bell c l) b = (on_parts (on_pipe c (raise l)) b, Done)
 row (Stop c) b = (on_parts (stop c) b, Done)

@@ -1,5 +1,6 @@
 -- What a machine is: one field for each owner, and how a change of one owner is lifted.
 use Rattle.std.specs.Prelude.{ℕ, List, [], ◌∷◌, Option, Some, None, slice_set, replicate, false}
+use Rattle.evm_dev.specs.Attached.{Attached}
 use Rattle.evm_exec.specs.declared.hart.Hart.{Hart}
 use Rattle.evm_model.specs.Harts.{first_hart}
 use Rattle.evm_model.specs.Lists.{change}
@@ -10,6 +11,7 @@ use Rattle.evm_model.specs.declared.action.Action.TheVariants.{Nothing}
 use Rattle.evm_model.specs.declared.boot.Boot.{Boot}
 use Rattle.evm_model.specs.Event.{Event}
 use Rattle.evm_model.specs.declared.mutex.Mutex.{Mutex}
+use Rattle.evm_model.specs.declared.notice.Notice.{Notice}
 use Rattle.evm_model.specs.declared.processor.Processor.{Processor}
 use Rattle.evm_model.specs.declared.profile.Profile.{Profile}
 use Rattle.evm_model.specs.declared.task.Task.{Task}
@@ -17,6 +19,11 @@ use Rattle.evm_model.specs.declared.mode.Mode.{Mode}
 use Rattle.evm_model.specs.declared.task.Class.TheVariants.{Unattached}
 use Rattle.evm_model.specs.declared.task.TaskState.TheVariants.{InReady}
 use Rattle.evm_model.specs.declared.timer.Timer.{Timer}
+
+-- the notices: the last ones, the oldest first, and how many there were
+pub record Notices : Type 0 where
+  pub kept : List Notice
+  pub total : ℕ
 
 -- what calls may change
 pub record Parts : Type 0 where
@@ -48,11 +55,14 @@ pub record Parts : Type 0 where
   pub actions : List Action
   -- what was put to the console, the last bytes of it
   pub console : List ℕ
+  pub notices : Notices
 
 -- where loads and stores go
 pub record Memory : Type 0 where
   -- the bytes of RAM; the first stands at 0x80000000
   pub ram : List ℕ
+  -- device i is the i-th
+  pub devices : List Attached
 
 -- what events change
 pub record Board : Type 0 where
@@ -118,6 +128,9 @@ new_task cpu stamp = record { cpu = cpu; class = Unattached; priority = 0; slice
 abbrev pub first_task : Task
 first_task = new_task 0 0
 
+abbrev pub no_notices : Notices
+no_notices = record { kept = []; total = 0 }
+
 abbrev pub profile_of : Boot → Profile
 profile_of boot = record { ram = boot.ram }
 
@@ -138,8 +151,9 @@ booted_parts boot = record {
   timers = [];
   actions = replicate LINES Nothing;
   console = [];
+  notices = no_notices;
 }
 
--- RAM is zero
-unfoldable pub booted : Boot → Board
-booted boot = record { memory = record { ram = replicate boot.ram 0 }; breakpoints = []; parts = booted_parts boot }
+-- RAM is zero, and the devices are these
+unfoldable pub booted : List Attached → Boot → Board
+booted devices boot = record { memory = record { ram = replicate boot.ram 0; devices = devices }; breakpoints = []; parts = booted_parts boot }

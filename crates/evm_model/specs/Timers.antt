@@ -1,5 +1,5 @@
 -- What each call on a timer does to the parts, and what comes of it; and how timers expire.
-use Rattle.std.specs.Prelude.{ℕ, zero, suc, ◌+◌, ◌-◌, ◌*◌, ◌/◌, [], ◌∷◌, ◌++◌, Option, Some, None, Bool, false, not, ◌==◌, ◌&&◌, nat_lt, nat_le, if◌then◌else◌, slice_get, length}
+use Rattle.std.specs.Prelude.{ℕ, zero, suc, ◌+◌, ◌-◌, ◌*◌, ◌/◌, [], ◌∷◌, ◌++◌, Option, Some, None, Bool, not, ◌==◌, ◌&&◌, nat_lt, nat_le, if◌then◌else◌, slice_get, length}
 use Rattle.evm_model.specs.Stages.{refused, is_stalled, wait_refusal, wait_unless}
 use Rattle.evm_model.specs.State.{Parts, on_timer}
 use Rattle.evm_model.specs.Waits.{first_waiter, wake}

@@ -11,6 +11,7 @@ mod fault;
 mod limits;
 mod mode;
 mod mutex;
+mod notice;
 mod processor;
 mod profile;
 mod refusal;
@@ -26,12 +27,14 @@ pub use errno::Errno;
 pub use event::{Answer, Block, Event, NoBytes, copied, kinds_add_up};
 pub use fault::Fault;
 pub use limits::{
-    BREAKPOINT_LIMIT, CAPACITY_LIMIT, CONSOLE_LIMIT, EVENT_LIMIT, FLAGS_LIMIT, FLAGS_WORD_LIMIT,
-    MODE_LIMIT, MUTEX_LIMIT, POKE_LIMIT, PRIORITY_LIMIT, PROCESSOR_LIMIT, RAM_LEAST, RAM_UNIT,
+    BREAKPOINT_LIMIT, CAPACITY_LIMIT, CONSOLE_LIMIT, DEVICE_BASE, DEVICE_LIMIT, DEVICE_LINE,
+    DEVICE_SPAN, EVENT_LIMIT, FLAGS_LIMIT, FLAGS_WORD_LIMIT, MODE_LIMIT, MUTEX_LIMIT, NOTICE_LIMIT,
+    POKE_LIMIT, PRIORITY_LIMIT, PROCESSOR_LIMIT, RAM_LEAST, RAM_UNIT, REGISTERS_PER_DEVICE,
     SEMAPHORE_COUNT_LIMIT, SEMAPHORE_LIMIT, SLICE, TASK_LIMIT, TIMER_LIMIT, TIMER_SPAN_LIMIT,
 };
 pub use mode::Mode;
 pub use mutex::{Mutex, Protocol};
+pub use notice::{Notice, NoticeKind};
 pub use processor::Processor;
 pub use profile::Profile;
 pub use refusal::Refusal;

@@ -54,3 +54,21 @@ pub const PRIORITY_LIMIT: u8 = 99;
 
 /// The greatest sum of a task's mode bits.
 pub const MODE_LIMIT: u8 = 3;
+
+/// The most devices that a machine may have.
+pub const DEVICE_LIMIT: usize = 8;
+
+/// The address of device 0's first register.
+pub const DEVICE_BASE: u64 = 0x1000_0000;
+
+/// How far the registers of a device are from those of the next.
+pub const DEVICE_SPAN: u64 = 0x1000;
+
+/// How many registers of 8 bytes a device has.
+pub const REGISTERS_PER_DEVICE: u8 = 16;
+
+/// The line that device 0 raises; each other device raises the next.
+pub const DEVICE_LINE: u8 = 2;
+
+/// How many notices are kept, the last ones.
+pub const NOTICE_LIMIT: usize = 64;

@@ -1,0 +1,107 @@
+ghost use Rattle.std.specs.Prelude.{◌≡◌, ◌<◌, ◌≤◌, [], ◌∷◌, ◌++◌, length, map, nat_le, IfErr, IfNone, IfOk};
+ghost use Rattle.evm_bus.specs.Bus.{tick, touch, word};
+ghost use Rattle.evm_model.specs.Good.{AreDevices};
+
+use evm_dev::{Device, Op, Touch};
+use evm_model::DEVICE_LIMIT;
+use evm_room::{Refused, with_room};
+use std::alloc::Global;
+use std::marker::Model;
+
+/// The devices of a machine, in the order in which they were attached.
+#[derive(Debug, Drop)]
+pub struct Devices<D: Device> {
+    items: Vec<D>,
+}
+
+impl<D: Device> Model for Devices<D> {
+    ghost use Rattle.std.specs.Prelude.{◌≤◌, List, length, map, vec_capacity};
+    ghost use Rattle.evm_dev.specs.Attached.{Attached};
+    ghost use Rattle.evm_model.specs.declared.limits.TheConstants.{DEVICE_LIMIT};
+
+    ghost Value = { List Attached };
+
+    // there is room for as many as there may be
+    ghost invariant = { λ devices. (length devices.items.items ≤ DEVICE_LIMIT) × (DEVICE_LIMIT ≤ vec_capacity devices.items) };
+
+    ghost view = { λ devices. map (λ device. record { kind = D.kind_of device; words = D.words_of device }) devices.items.items };
+}
+
+impl<D: Device> Devices<D> {
+    /// No device, with room for as many as there may be.
+    pub fn new(alloc: Global) -> Result<Devices<D>, Refused>
+        ensures none { IfOk result (λ devices. devices ≡ []) }
+        ensures refused { IfErr result (λ asked. asked ≡ DEVICE_LIMIT) }
+    {
+        Ok(Devices {
+            items: with_room(alloc, DEVICE_LIMIT)?,
+        })
+    }
+
+    /// How many devices there are.
+    pub fn len(&self) -> usize
+        ensures count { result ≡ length self.now }
+        ensures limit { result ≤ DEVICE_LIMIT }
+    {
+        self.items.len()
+    }
+
+    /// Whether there is no room for a device more.
+    pub fn is_full(&self) -> bool
+        ensures { result ≡ nat_le DEVICE_LIMIT (length self.now) }
+    {
+        self.items.len() >= DEVICE_LIMIT
+    }
+
+    /// A device more, which has the next number.
+    pub fn push(&mut self, device: D)
+        requires { length self.old < DEVICE_LIMIT }
+        ensures { self.new ≡ self.old ++ record { kind = D.kind_of device; words = D.words_of device } ∷ [] }
+    {
+        self.items.push_reserved(device);
+    }
+
+    /// A touch of a device's register; no answer if there is no such device.
+    pub fn touch(&mut self, i: usize, op: Op, register: u8, value: u64) -> Touch
+        ensures done { (self.new, result) ≡ touch i op register value self.old }
+        ensures unanswered { IfNone result.answer (self.new ≡ self.old) }
+    {
+        let Some(device) = self.items.get_mut(i) else {
+            return Touch::NONE;
+        };
+        device.touch(op, register, value)
+    }
+
+    /// A tick of a device: whether it raises its line.
+    pub fn tick(&mut self, i: usize) -> bool
+        ensures { (self.new, result) ≡ tick i self.old }
+    {
+        let Some(device) = self.items.get_mut(i) else {
+            return false;
+        };
+        device.tick()
+    }
+
+    /// A word of a device.
+    pub fn word(&self, i: usize, k: usize) -> Option<u64>
+        ensures { result ≡ word i k self.now }
+    {
+        self.items.get(i)?.words(k)
+    }
+
+    /// There are no more devices than there may be, and each has words that its kind may have.
+    pub fn rules(&self)
+        ensures { AreDevices self.now }
+    {
+        for device in &self.items {
+            let _kind = device.kind();
+        }
+    }
+
+    /// The devices, in the order in which they were attached.
+    pub fn into_vec(self) -> Vec<D>
+        ensures { map (λ device. record { kind = D.kind_of device; words = D.words_of device }) result.items ≡ self }
+    {
+        self.items
+    }
+}

@@ -1,0 +1,6 @@
+//! The devices of a machine.
+#![tactic(auto)]
+
+mod devices;
+
+pub use devices::Devices;

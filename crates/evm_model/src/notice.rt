@@ -1,0 +1,22 @@
+/// What a task asked to be told of by its mode bits (EVL, "Health monitoring").
+#[derive(Clone, Copy, Debug, PartialEq, Eq)]
+pub enum NoticeKind {
+    /// A call of the other stage demoted the task.
+    DemotedByCall,
+    /// A fault demoted the task.
+    DemotedByFault,
+    /// A lock was refused as it would never end.
+    Deadlock,
+    /// An unlock was refused, as the task does not own the mutex.
+    NotOwner,
+}
+
+/// A notice of the health monitor.
+#[derive(Clone, Copy, Debug, PartialEq, Eq)]
+pub struct Notice {
+    /// The ticks that there were.
+    pub tick: u64,
+    /// The task.
+    pub task: u8,
+    pub kind: NoticeKind,
+}
