@@ -6,10 +6,12 @@ use Rattle.evm_exec.specs.Registers.{register_of}
 use Rattle.evm_exec.specs.declared.hart.Hart.{Hart}
 use Rattle.evm_model.specs.Calls.{ask_oob, call, call_known, call_of, call_of_hart, call_on, call_stage, finish_call, perform}
 use Rattle.evm_model.specs.Harts.{A7}
+use Rattle.evm_model.specs.Notices.{notify}
 use Rattle.evm_model.specs.Settle.{is_oob}
 use Rattle.evm_model.specs.State.{Parts}
 use Rattle.evm_model.specs.Tasks.{demote}
 use Rattle.evm_model.specs.declared.call.Call.{Call}
+use Rattle.evm_model.specs.declared.notice.NoticeKind.TheVariants.{DemotedByCall}
 use Rattle.evm_model.specs.declared.stage.Stage.{Stage}
 use Rattle.evm_model.specs.declared.stage.Stage.TheVariants.{OutOfBand, InBand}
 use Rattle.evm_parts.specs.evm_task.Asks.{Asks, AskedBy}
@@ -38,7 +40,7 @@ made-either named asked c t k a e =
 pub made-in_band : (named : Call) (asked : Asked) (c t : ℕ) (k : Parts) → IsAsked named asked c t k → call_stage named ≡ Some InBand → is_oob (Some t) k.tasks ≡ false → IsMade named asked c t k
 made-in_band named asked c t k a e h =
     let done : Parts = finish_call c t (perform named a.hart c t k) in
-    let there : done ≡ call_on (Some InBand) named a.hart c t k = ap (λ (b : Bool). if b then demote c t k else done) (sym h) in
+    let there : done ≡ call_on (Some InBand) named a.hart c t k = ap (λ (b : Bool). if b then notify DemotedByCall t (demote c t k) else done) (sym h) in
     record { hart = a.hart; by = a.by; done = there ∙ ap (λ (o : Option Stage). call_on o named a.hart c t k) (sym e) ∙ a.known }
 
 pub made-oob : (named : Call) (asked : Asked) (c t : ℕ) (k : Parts) → IsAsked named asked c t k → call_stage named ≡ Some OutOfBand → is_oob (Some t) k.tasks ≡ true → IsMade named asked c t k

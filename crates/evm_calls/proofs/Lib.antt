@@ -1,3 +1,4 @@
 pub mod Asked
+pub mod Notices
 pub mod Objects
 pub mod Stamps

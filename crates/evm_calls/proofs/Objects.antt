@@ -1,5 +1,5 @@
 -- Whether an object is there, by its number; and one signal.
-use Rattle.std.proofs.Common.{◌≡◌, ℕ, zero, suc, ◌<◌, ◌≤◌, List, [], ◌∷◌, Some, None, true, false, length, refl, ap, ◌∙◌, arith}
+use Rattle.std.proofs.Common.{◌≡◌, ℕ, zero, suc, ◌<◌, ◌≤◌, List, [], ◌∷◌, true, false, length, refl, arith}
 use Rattle.std.specs.Prelude.{is_none, slice_get}
 use Rattle.evm_model.proofs.Lists.{slice_get-within}
 use Rattle.evm_model.specs.Events.{signal_first, signal_rounds}

@@ -1,5 +1,5 @@
 -- How many stamps a call gives at most: a law of its row.
-use Rattle.std.proofs.Common.{◌≡◌, ℕ, ◌+◌, ◌≤◌, Bool, Some, true, false, refl, sym, ap, arith}
+use Rattle.std.proofs.Common.{◌≡◌, ℕ, ◌+◌, ◌≤◌, Bool, Some, true, false, refl, ap, arith}
 use Rattle.std.specs.Prelude.{not, slice_get, ◌&&◌, if◌then◌else◌}
 use Rattle.evm_calls.specs.Asking.{IsMade}
 use Rattle.evm_model.specs.Bounds.{PER_CALL, HasRoom, HasStamps}
@@ -20,7 +20,7 @@ use Rattle.evm_walk.proofs.Walk.{Actor, AreFew, start, unchanged}
 
 -- task t calls on processor c
 abbrev calls : ℕ → ℕ → Actor
-calls c t = record { cpu = c; task = Some t; may = λ d l. false; chooses = false; calls = true }
+calls c t = record { cpu = c; task = Some t; may = λ d l. false; chooses = false; calls = true; faults = false }
 
 most : (c t : ℕ) (k : Parts) → AreFew k → (call c t k).stamps ≤ k.stamps + 65
 most c t k few = walk_most (calls c t) k 1 65 (call c t k) few (walks_closely (calls c t) k k t refl (unchanged k) start refl)

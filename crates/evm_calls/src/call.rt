@@ -4,6 +4,9 @@ ghost use Rattle.std.specs.Prelude.{◌≡◌};
 ghost use Rattle.evm_exec.specs.declared.hart.Hart.{Hart};
 ghost use Rattle.evm_model.specs.Bounds.{PER_CALL, HasRoom, HasStamps};
 ghost use Rattle.evm_model.specs.Calls.{perform, return_weak, answered, finish_call, ask_oob, call_on, call_stage, call};
+ghost use Rattle.evm_model.specs.Notices.{notify};
+ghost use Rattle.evm_model.specs.Tasks.{demote};
+ghost use Rattle.evm_model.specs.declared.notice.NoticeKind.TheVariants.{DemotedByCall};
 ghost use Rattle.evm_calls.specs.Asking.{IsAsked, IsMade};
 ghost use Rattle.evm_parts.specs.evm_task.Asks.{AskedBy};
 ghost use Rattle.evm_walk.proofs.Walk.{AreFew};
@@ -22,7 +25,7 @@ use crate::semaphores::{new_semaphore, sem_get, sem_put, sem_try_get};
 use crate::stages::{stall, state_bits, switch_in_band, switch_oob};
 use crate::tasks::{exit, spawn, yield_now, yield_oob};
 use crate::timers::{new_timer, timer_set, timer_wait};
-use evm_model::{Call, Errno, Outcome, Stage};
+use evm_model::{Call, Errno, NoticeKind, Outcome, Stage};
 use evm_parts::{Asked, Parts};
 
 // What a call does.
@@ -122,7 +125,17 @@ fn ask_oob(parts: &mut Parts, c: u8, t: u8)
     }
 }
 
-// A call of the other stage changes the task's stage first; one of either stage never does.
+// The task goes in-band, its pc unchanged, so that it makes its call again there; with a notice.
+#[tactic(auto, using(crate::proofs::Notices::demoted))]
+fn demote(parts: &mut Parts, c: u8, t: u8)
+    requires room { HasRoom PER_CALL parts.old }
+    ensures { parts.new ≡ notify DemotedByCall t (demote c t parts.old) }
+{
+    parts.demote(c, t);
+    parts.notify(NoticeKind::DemotedByCall, t);
+}
+
+// A call of the other stage changes the task's stage first, in-band with a notice; one of either stage never does.
 #[tactic(auto, using(crate::proofs::Asked::made))]
 fn call_on(parts: &mut Parts, call: Call, asked: Asked, c: u8, t: u8)
     requires room { HasRoom PER_CALL parts.old }
@@ -132,16 +145,15 @@ fn call_on(parts: &mut Parts, call: Call, asked: Asked, c: u8, t: u8)
 {
     let is_oob = parts.tasks.is_oob(Some(t));
     match call.stage() {
-        Some(Stage::InBand) if is_oob => parts.demote(c, t),
+        Some(Stage::InBand) if is_oob => demote(parts, c, t),
         Some(Stage::OutOfBand) if !is_oob => ask_oob(parts, c, t),
         _ => finish(parts, call, asked, c, t),
     }
 }
 
-/// What the ECALL of a task does. At a call of the in-band kernel an
-/// out-of-band task goes in-band, its pc unchanged, and at one of the out-of-band kernel an in-band task goes
-/// out-of-band, or is answered -1 where it may not; so it makes the call again on the other stage. A number that is
-/// no call's answers -38.
+/// What the ECALL of a task does. At a call of the in-band kernel an out-of-band task goes in-band with a notice, its pc
+/// unchanged, and at one of the out-of-band kernel an in-band task goes out-of-band, or is answered -1 where it may not;
+/// so it makes the call again on the other stage. A number that is no call's answers -38.
 #[tactic(auto, using(crate::proofs::Asked::asked), unfolding(evm_model::specs::Calls::call))]
 pub fn call(parts: &mut Parts, c: u8, t: u8)
     requires room { HasRoom PER_CALL parts.old }

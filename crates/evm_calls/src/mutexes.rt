@@ -1,13 +1,14 @@
 //! Mutexes.
 
-ghost use Rattle.std.specs.Prelude.{◌≡◌, ◌≤◌};
+ghost use Rattle.std.specs.Prelude.{◌≡◌, ◌≤◌, true, slice_get};
 ghost use Rattle.evm_model.specs.Bounds.{COUNT_LIMIT, PER_CALL, HasRoom};
-ghost use Rattle.evm_model.specs.Locks.{cycle_refusal, new_mutex, mutex_of, with_ceiling, lock, lock_again, lock_other, try_lock, unlock, unlock_once};
+ghost use Rattle.evm_model.specs.Locks.{cycle_refusal, new_mutex, mutex_of, with_ceiling, lock, lock_again, lock_known, lock_other, try_known, try_lock, unlock, unlock_known, unlock_once};
 ghost use Rattle.evm_model.specs.Mutexes.{free_mutex};
+ghost use Rattle.evm_model.specs.Notices.{is_refused, notify_refused};
 
 use crate::refused::refused;
 use crate::waits::wait_unless;
-use evm_model::{Errno, MUTEX_LIMIT, Mutex, Outcome, PRIORITY_LIMIT, Protocol, Wait};
+use evm_model::{Errno, MUTEX_LIMIT, Mutex, NoticeKind, Outcome, PRIORITY_LIMIT, Protocol, Wait};
 use evm_parts::Parts;
 
 fn free_mutex(recursive: bool, protocol: Protocol) -> Mutex
@@ -62,6 +63,24 @@ pub fn new_mutex(parts: &mut Parts, kind: u64, priority: u64) -> Outcome
     Outcome::Answers(u64::from(number))
 }
 
+// The task gets a notice if its call is refused with this error.
+fn notify_refused(
+    parts: &mut Parts,
+    t: u8,
+    error: Errno,
+    kind: NoticeKind,
+    outcome: Outcome,
+) -> Outcome
+    requires room { is_refused error outcome ≡ true → parts.old.notices.total ≤ COUNT_LIMIT }
+    ensures { (parts.new, result) ≡ notify_refused error kind t (parts.old, outcome) }
+{
+    match outcome {
+        Outcome::Answers(value) if value == error.answer() => parts.notify(kind, t),
+        _ => {}
+    }
+    outcome
+}
+
 // The task has a mutex of its own once more, where that is recursive.
 #[tactic(auto, unfolding(evm_model::specs::Locks::lock_again))]
 fn lock_again(parts: &mut Parts, t: u8, m: u8, mutex: Mutex) -> Outcome
@@ -96,13 +115,10 @@ fn lock_other(parts: &mut Parts, c: u8, t: u8, m: u8, u: u8, deadline: u64) -> O
     wait_unless(parts, c, t, Wait::Lock(m), own, deadline)
 }
 
-/// Call 36: the task has a mutex, or waits until it has it; answers 0. -22 where there is no such mutex. Where the
-/// task owns it, it has it once more, or -35 if it isn't recursive. Where another one does, -1 while out-of-band is
-/// stalled, else -35 where that one waits for the task by some chain, else -22 for a deadline: there is none yet.
-#[tactic(auto, unfolding(evm_model::specs::Locks::lock))]
-pub fn lock(parts: &mut Parts, c: u8, t: u8, mutex: u64, deadline: u64) -> Outcome
+// The task has a mutex, or waits until it has it, unless it is refused.
+fn take_or_wait(parts: &mut Parts, c: u8, t: u8, mutex: u64, deadline: u64) -> Outcome
     requires room { HasRoom PER_CALL parts.old }
-    ensures { (parts.new, result) ≡ lock c t mutex deadline parts.old }
+    ensures { (parts.new, result) ≡ lock_known (slice_get parts.old.mutexes mutex) c t mutex deadline parts.old }
 {
     if mutex >= u64::from(parts.mutexes.count()) {
         return refused(Errno::Invalid);
@@ -121,12 +137,23 @@ pub fn lock(parts: &mut Parts, c: u8, t: u8, mutex: u64, deadline: u64) -> Outco
     }
 }
 
-/// Call 37: the task has a mutex, if it need not wait for it; answers 0. -22 where there is no such mutex, -16 where
-/// another task owns it. Where the task owns it, it has it once more, or -35 if it isn't recursive.
-#[tactic(auto, unfolding(evm_model::specs::Locks::try_lock))]
-pub fn try_lock(parts: &mut Parts, t: u8, mutex: u64) -> Outcome
+/// Call 36: the task has a mutex, or waits until it has it; answers 0. -22 where there is no such mutex. Where the
+/// task owns it, it has it once more, or -35 if it isn't recursive. Where another one does, -1 while out-of-band is
+/// stalled, else -35 where that one waits for the task by some chain, else -110 where the deadline has come. -35 makes a
+/// notice.
+#[tactic(auto, unfolding(evm_model::specs::Locks::lock))]
+pub fn lock(parts: &mut Parts, c: u8, t: u8, mutex: u64, deadline: u64) -> Outcome
     requires room { HasRoom PER_CALL parts.old }
-    ensures { (parts.new, result) ≡ try_lock t mutex parts.old }
+    ensures { (parts.new, result) ≡ lock c t mutex deadline parts.old }
+{
+    let outcome = take_or_wait(parts, c, t, mutex, deadline);
+    notify_refused(parts, t, Errno::Deadlock, NoticeKind::Deadlock, outcome)
+}
+
+// The task has a mutex, if it need not wait for it.
+fn take_at_once(parts: &mut Parts, t: u8, mutex: u64) -> Outcome
+    requires room { HasRoom PER_CALL parts.old }
+    ensures { (parts.new, result) ≡ try_known (slice_get parts.old.mutexes mutex) t mutex parts.old }
 {
     if mutex >= u64::from(parts.mutexes.count()) {
         return refused(Errno::Invalid);
@@ -145,6 +172,17 @@ pub fn try_lock(parts: &mut Parts, t: u8, mutex: u64) -> Outcome
     }
 }
 
+/// Call 37: the task has a mutex, if it need not wait for it; answers 0. -22 where there is no such mutex, -16 where
+/// another task owns it. Where the task owns it, it has it once more, or -35 if it isn't recursive, with a notice.
+#[tactic(auto, unfolding(evm_model::specs::Locks::try_lock))]
+pub fn try_lock(parts: &mut Parts, t: u8, mutex: u64) -> Outcome
+    requires room { HasRoom PER_CALL parts.old }
+    ensures { (parts.new, result) ≡ try_lock t mutex parts.old }
+{
+    let outcome = take_at_once(parts, t, mutex);
+    notify_refused(parts, t, Errno::Deadlock, NoticeKind::Deadlock, outcome)
+}
+
 // The task has its mutex once less; the last time it passes on.
 #[tactic(auto, unfolding(evm_model::specs::Locks::unlock_once))]
 fn unlock_once(parts: &mut Parts, t: u8, m: u8, mutex: Mutex)
@@ -158,12 +196,10 @@ fn unlock_once(parts: &mut Parts, t: u8, m: u8, mutex: Mutex)
     }
 }
 
-/// Call 38: the task gives a mutex back, once for each time that it locked it; answers 0. The last time the first of
-/// the tasks that wait for it has it. -22 where there is no such mutex, else -1 where the task doesn't own it.
-#[tactic(auto, unfolding(evm_model::specs::Locks::unlock))]
-pub fn unlock(parts: &mut Parts, t: u8, mutex: u64) -> Outcome
+// The task gives its mutex back, once.
+fn give_back(parts: &mut Parts, t: u8, mutex: u64) -> Outcome
     requires room { HasRoom PER_CALL parts.old }
-    ensures { (parts.new, result) ≡ unlock t mutex parts.old }
+    ensures { (parts.new, result) ≡ unlock_known (slice_get parts.old.mutexes mutex) t mutex parts.old }
 {
     if u64::from(parts.mutexes.count()) <= mutex {
         return refused(Errno::Invalid);
@@ -177,4 +213,16 @@ pub fn unlock(parts: &mut Parts, t: u8, mutex: u64) -> Outcome
     }
     unlock_once(parts, t, m, mutex);
     Outcome::Answers(0)
+}
+
+/// Call 38: the task gives a mutex back, once for each time that it locked it; answers 0. The last time the first of
+/// the tasks that wait for it has it. -22 where there is no such mutex, else -1 where the task doesn't own it, with a
+/// notice.
+#[tactic(auto, using(crate::proofs::Notices::unlocked), unfolding(evm_model::specs::Locks::unlock))]
+pub fn unlock(parts: &mut Parts, t: u8, mutex: u64) -> Outcome
+    requires room { HasRoom PER_CALL parts.old }
+    ensures { (parts.new, result) ≡ unlock t mutex parts.old }
+{
+    let outcome = give_back(parts, t, mutex);
+    notify_refused(parts, t, Errno::NotPermitted, NoticeKind::NotOwner, outcome)
 }

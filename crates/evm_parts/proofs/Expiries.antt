@@ -1,10 +1,10 @@
 -- One more timer that expires, and that nothing follows where none is due.
-use Rattle.std.proofs.Common.{◌≡◌, ℕ, zero, suc, ◌+◌, ◌<◌, Option, Some, None, Bool, false, length, refl, ap, ◌∙◌, add-one, arith}
+use Rattle.std.proofs.Common.{◌≡◌, ℕ, zero, suc, ◌+◌, ◌<◌, Option, Some, None, false, refl, add-one, arith}
 use Rattle.std.specs.Prelude.{◌==◌, ◌&&◌, not, nat_le, slice_get}
 use Rattle.std.proofs.lemmas.Bool.Decides.{nat_tests}
 use Rattle.evm_model.specs.State.{Parts}
 use Rattle.evm_model.specs.Tasks.{restamp}
-use Rattle.evm_model.specs.Timers.{expire, expire_below, expire_known, is_due_timer}
+use Rattle.evm_model.specs.Timers.{expire, expire_below, expire_known}
 use Rattle.evm_model.specs.Waits.{wake}
 use Rattle.evm_model.specs.declared.timer.Timer.{Timer}
 use Rattle.evm_tick.specs.Spans.{IsQuiet}

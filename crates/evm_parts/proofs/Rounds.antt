@@ -1,6 +1,5 @@
 -- One more round of waits that end, and that no round follows the last.
-use Rattle.std.proofs.Common.{◌≡◌, ℕ, zero, suc, ◌+◌, ◌-◌, ◌≤◌, None, Option, length, refl, ap, ◌∙◌, inl, inr, add-one, arith}
-use Rattle.std.proofs.lemmas.Bool.{cases_lt}
+use Rattle.std.proofs.Common.{◌≡◌, ℕ, zero, suc, ◌+◌, ◌-◌, ◌≤◌, None, refl, add-one, arith}
 use Rattle.evm_model.specs.Deadlines.{end_next, end_rounds, next_due}
 use Rattle.evm_model.specs.State.{Parts}
 

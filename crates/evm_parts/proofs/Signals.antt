@@ -1,6 +1,6 @@
 -- One more signal of an event, and that none follows the last.
-use Rattle.std.proofs.Common.{◌≡◌, ℕ, zero, suc, ◌+◌, ◌-◌, ◌≤◌, None, Option, refl, add-one, arith}
-use Rattle.evm_model.specs.Events.{signal_first, signal_rounds, signal_to}
+use Rattle.std.proofs.Common.{◌≡◌, ℕ, zero, suc, ◌+◌, ◌-◌, ◌≤◌, None, refl, add-one, arith}
+use Rattle.evm_model.specs.Events.{signal_first, signal_rounds}
 use Rattle.evm_model.specs.State.{Parts}
 use Rattle.evm_model.specs.Waits.{first_waiter}
 use Rattle.evm_model.specs.declared.task.Wait.TheVariants.{Event}

@@ -8,6 +8,7 @@ mod deadlines;
 mod events;
 mod flags;
 mod locks;
+mod notices;
 mod parts;
 mod semaphores;
 mod stages;
@@ -16,6 +17,7 @@ mod timers;
 
 pub use console::Console;
 pub use evm_boost::Mutexes;
+pub use evm_health::Notices;
 pub use evm_pipe::Pipe;
 pub use evm_sync::{Actions, Events, Flags, Semaphores};
 pub use evm_task::{Asked, Harts, Tasks};

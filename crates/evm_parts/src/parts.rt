@@ -8,6 +8,7 @@ ghost use Rattle.evm_model.specs.State.{on_pipe, on_processor};
 use crate::console::Console;
 use arrayvec::ArrayVec;
 use evm_boost::Mutexes;
+use evm_health::Notices;
 use evm_lines::LINES;
 use evm_model::{PROCESSOR_LIMIT, Processor, Profile, Stage};
 use evm_pipe::Pipe;
@@ -47,6 +48,8 @@ pub struct Parts {
     pub actions: Actions,
     /// What was put to the console.
     pub console: Console,
+    /// The notices of the health monitor.
+    pub notices: Notices,
 }
 
 impl Model for Parts {
@@ -69,6 +72,7 @@ impl Model for Parts {
       timers = k.timers;
       actions = k.actions;
       console = k.console;
+      notices = k.notices;
     } };
 }
 

@@ -35,7 +35,7 @@ within-walk a n s b k new w h = let are : AllPipes k = record { each = h.are } i
 
 -- a processor that settles, and tells the others
 abbrev settler : ℕ → Actor
-settler c = record { cpu = c; task = None; may = λ d l. l == 1; chooses = true; calls = false }
+settler c = record { cpu = c; task = None; may = λ d l. l == 1; chooses = true; calls = false; faults = false }
 
 -- of the task that is current
 oob-walk : (c : ℕ) (k : Parts) → Walk (settler c) k 32 128 (settle_oob (current c k) c k)

@@ -29,10 +29,12 @@ use Rattle.evm_model.specs.declared.errno.Errno.TheVariants.{NotPermitted, NoSuc
 use Rattle.evm_model.specs.declared.fault.Fault.{Fault}
 use Rattle.evm_model.specs.declared.limits.TheConstants.{TASK_LIMIT, MODE_LIMIT}
 use Rattle.evm_model.specs.declared.processor.Processor.{Processor}
+use Rattle.evm_model.specs.declared.notice.NoticeKind.TheVariants.{DemotedByCall, DemotedByFault}
 use Rattle.evm_model.specs.declared.stage.Stage.{Stage}
 use Rattle.evm_model.specs.declared.stage.Stage.TheVariants.{OutOfBand, InBand}
 use Rattle.evm_model.specs.declared.task.Class.{Class}
 use Rattle.evm_model.specs.declared.task.Wait.TheVariants.{Line}
+use Rattle.evm_rules.proofs.Notices.{notify-but}
 use Rattle.evm_rules.proofs.Acting.{IsOpen, HasInBand, HasHeld, but-hart, but-unstall, but-stalled, but-unstall_oob, but-stalled_oob, but-leave, but-restamp, but-task, but-add, leave-own, add-own, restamp-free, restamp-own, task-own, demote-but, demote-own, wait_line-but, promote-but}
 use Rattle.evm_rules.proofs.Actions.{set_line-done}
 use Rattle.evm_rules.proofs.Aligned.{next-aligned}
@@ -315,7 +317,7 @@ on_either stage c t k s = record { in_band = λ h. let no : None ≡ Some InBand
 on-but : (stage : Option Stage) (call : Call) (hart : Hart) (c t : ℕ) (k : Parts) → call_stage call ≡ stage → Runs c t k → GoodBut c (call_on stage call hart c t k)
 on-but None call hart c t k s r = done-but call hart c t k r (on_either (call_stage call) c t k s)
 on-but (Some InBand) call hart c t k s r =
-    but-if c (is_oob (Some t) k.tasks) _ _ (λ e. demote-but c t k (good_but c k r.good) r.own)
+    but-if c (is_oob (Some t) k.tasks) _ _ (λ e. notify-but c t DemotedByCall _ (demote-but c t k (good_but c k r.good) r.own))
     (λ e. done-but call hart c t k r (on_in_band (call_stage call) c t k s r e))
 on-but (Some OutOfBand) call hart c t k s r =
     but-if c (is_oob (Some t) k.tasks) _ _ (λ e. done-but call hart c t k r (on_oob (call_stage call) c t k s r e))
@@ -337,4 +339,4 @@ call-but c t k g o r = hart-but (slice_get k.harts t) c t k (record { good = g; 
 pub fault-but : (c t : ℕ) (f : Fault) (k : Parts) → Good k → IsOwn c t k.tasks → current c k ≡ Some t → GoodBut c (fault c t f k)
 fault-but c t f k g o r =
     let runs : Runs c t k = record { good = g; own = o; current = r } in
-    but-if c (is_oob (Some t) k.tasks) _ _ (λ e. demote-but c t k (good_but c k g) o) (λ e. end-but c t _ k refl refl (has-open c t k runs e) (good_but c k g) o)
+    but-if c (is_oob (Some t) k.tasks) _ _ (λ e. notify-but c t DemotedByFault _ (demote-but c t k (good_but c k g) o)) (λ e. end-but c t _ k refl refl (has-open c t k runs e) (good_but c k g) o)

@@ -1,9 +1,10 @@
 -- Every event keeps a state good.
-use Rattle.std.proofs.Common.{◌≡◌, ℕ, ◌+◌, ◌%◌, List, Bool, true, false, not, ◌&&◌, Option, Some, None, length, refl, ap, sym, ◌∙◌, ◌⊎◌, inl, inr, arith, map}
+use Rattle.std.proofs.Common.{◌≡◌, ℕ, suc, ◌+◌, ◌%◌, List, [], ◌∷◌, Bool, true, false, not, ◌&&◌, Option, Some, None, length, refl, ap, sym, ◌∙◌, ◌⊎◌, inl, inr, arith, map}
 use Rattle.std.specs.Prelude.{slice_get, option_map, ◌==◌, if◌then◌else◌}
 use Rattle.std.proofs.lemmas.Bool.Decides.{eqb_tells}
 use Rattle.std.proofs.lemmas.List.{length-map}
 use Rattle.std.proofs.lemmas.Option.{slice_get-map}
+use Rattle.evm_dev.specs.Rows.{ticked}
 use Rattle.evm_lines.specs.Lines.{has_line, with_line, least_line}
 use Rattle.evm_lines.specs.Laws.{has_line-with_same, has_line-with_other}
 use Rattle.evm_isa.specs.Decoded.{decoded}
@@ -17,6 +18,7 @@ use Rattle.evm_exec.specs.declared.outcome.Effect.TheVariants.{Next, Load, Store
 use Rattle.evm_model.proofs.Lists.{change-here, change-elsewhere, change-cases, length-change}
 use Rattle.evm_model.specs.Actions.{action_at, receive_line}
 use Rattle.evm_model.specs.Commands.{tick, set_bits, on_number, is_set, set_breakpoint, unset_breakpoint}
+use Rattle.evm_model.specs.Devices.{Attached, Accessed, line_if, raise_line, raise_by_ticks, tick_devices}
 use Rattle.evm_model.specs.Good.{Good, IsSettled, IsOwn, IsPipe}
 use Rattle.evm_model.specs.Harts.{set_register, set_pc, advance}
 use Rattle.evm_model.specs.Instructions.{stop, finish_load, finish_store, finish, execute_inst, execute_word, execute}
@@ -25,7 +27,7 @@ use Rattle.evm_model.specs.Memory.{fetch, read, write}
 use Rattle.evm_model.specs.Pipes.{Pipe, raise, receive, arrive, leave_wire, stage_of}
 use Rattle.evm_model.specs.Rows.{run, step_hart, step_current, step_wire, step_pipe, step_processor, step, single_step, row}
 use Rattle.evm_model.specs.Settle.{current, current_of}
-use Rattle.evm_model.specs.State.{Parts, Memory, Board, on_hart, on_processor, on_pipe, on_parts}
+use Rattle.evm_model.specs.State.{Parts, Board, on_hart, on_processor, on_pipe, on_parts}
 use Rattle.evm_model.specs.declared.event.Answer.TheVariants.{Stopped, Hit}
 use Rattle.evm_model.specs.Event.{Event}
 use Rattle.evm_model.specs.declared.event.Event.TheVariants.{Step, Tick, Raise, Bell, Stop, Go, StepI, SetReg, SetPc, Poke, Break as Set_break, Unbreak}
@@ -97,6 +99,16 @@ raise-good c l k g =
       | inr w ↦ (q, w.1, inl refl)
     ]) g
 
+-- a line of a device
+pub line-good : (o : Option ℕ) (k : Parts) → Good k → Good (raise_line o k)
+line-good None k g = g
+line-good (Some l) k g = raise-good 0 l k g
+
+pub ticks-good : (i : ℕ) (devices : List Attached) (k : Parts) → Good k → Good (raise_by_ticks i devices k)
+unfolding raise_by_ticks
+ticks-good i [] k g = g
+ticks-good i (device ∷ devices) k g = ticks-good (suc i) devices _ (line-good (line_if (ticked device.kind device.words).raise i) k g)
+
 good-ticks : (k : Parts) (ticks : ℕ) → Good k → Good (record k { ticks = ticks })
 good-ticks k ticks g = record {
   pipes = g.pipes;
@@ -166,13 +178,13 @@ receive-but c l k g = let stage : Stage = stage_of (action_at l k) l in pipe-but
 
 -- ---- an instruction
 module _ (c t : ℕ) where
-  load-but : (o : Option (ℕ × Memory)) (op : LoadOp) (rd : ℕ) (b : Board) → Good b.parts → IsOwn c t b.parts.tasks → current c b.parts ≡ Some t → GoodBut c (finish_load o op rd c t b).parts
+  load-but : (o : Option Accessed) (op : LoadOp) (rd : ℕ) (b : Board) → Good b.parts → IsOwn c t b.parts.tasks → current c b.parts ≡ Some t → GoodBut c (finish_load o op rd c t b).parts
   load-but None op rd b g o r = fault-but c t _ b.parts g o r
-  load-but (Some loaded) op rd b g o r = good_but c _ (hart-good t _ b.parts (λ hart. next-aligned hart.pc) g)
+  load-but (Some access) op rd b g o r = good_but c _ (line-good access.line _ (hart-good t _ b.parts (λ hart. next-aligned hart.pc) g))
 
-  store-but : (o : Option Memory) (b : Board) → Good b.parts → IsOwn c t b.parts.tasks → current c b.parts ≡ Some t → GoodBut c (finish_store o c t b).parts
+  store-but : (o : Option Accessed) (b : Board) → Good b.parts → IsOwn c t b.parts.tasks → current c b.parts ≡ Some t → GoodBut c (finish_store o c t b).parts
   store-but None b g o r = fault-but c t _ b.parts g o r
-  store-but (Some memory) b g o r = good_but c _ (hart-good t advance b.parts (λ hart. next-aligned hart.pc) g)
+  store-but (Some access) b g o r = good_but c _ (line-good access.line _ (hart-good t advance b.parts (λ hart. next-aligned hart.pc) g))
 
   finish-but : (effect : Effect) (b : Board) → IsAligned effect → Good b.parts → IsOwn c t b.parts.tasks → current c b.parts ≡ Some t → GoodBut c (finish effect c t b).parts
   unfolding finish
@@ -252,9 +264,9 @@ pc_aligned : (pc : ℕ) → not (pc % 4 == 0) ≡ false → pc % 4 ≡ 0
 pc_aligned pc e = eqb-is (pc % 4) 0 (is_true (pc % 4 == 0) e)
 
 pub row-good : (event : Event) (b : Board) → board_refusal event b ≡ None → Good b.parts → Good (row event b).0.parts
-unfolding row set_breakpoint unset_breakpoint
+unfolding row tick_devices set_breakpoint unset_breakpoint
 row-good (Step c) b e g = step-good c b g
-row-good Tick b e g = tick-good b.parts g
+row-good Tick b e g = tick-good (raise_by_ticks 0 b.memory.devices b.parts) (ticks-good 0 b.memory.devices b.parts g)
 row-good (Raise c l) b e g = raise-good c l b.parts g
 row-good (Bell c l) b e g = raise-good c l b.parts g
 row-good (Stop c) b e g = stop-good c b.parts g

@@ -5,7 +5,7 @@ use Rattle.evm_rules.specs.Rules.{RulesHold, RulesHoldLoaded}
 use Rattle.evm_rules.proofs.States.{GoodState-replay, GoodState-start, GoodState-loaded}
 
 pub rules_hold : RulesHold
-rules_hold boot fits events = GoodState-replay (start boot) events (GoodState-start boot fits)
+rules_hold devices boot are fits events = GoodState-replay (start devices boot) events (GoodState-start devices boot are fits)
 
 pub rules_hold_loaded : RulesHoldLoaded
-rules_hold_loaded byte entry boot fits multiple events = GoodState-replay (start_loaded byte entry boot) events (GoodState-loaded byte entry boot fits multiple)
+rules_hold_loaded devices byte entry boot are fits multiple events = GoodState-replay (start_loaded devices byte entry boot) events (GoodState-loaded devices byte entry boot are fits multiple)

@@ -4,6 +4,7 @@ pub mod Passing
 pub mod Places
 pub mod Private
 pub mod Ranking
+pub mod Registers
 pub mod Replays
 pub mod Counting
 pub mod Bounded
@@ -21,11 +22,13 @@ pub mod Spending
 pub mod Acting
 pub mod Done
 pub mod Locking
+pub mod Notices
 pub mod Rows
 pub mod Laws
 pub mod Calling
 pub mod Actions
 pub mod Deadlines
+pub mod Devices
 pub mod Events
 pub mod Flags
 pub mod Handling

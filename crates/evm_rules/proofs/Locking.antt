@@ -10,12 +10,13 @@ use Rattle.evm_model.specs.Mutexes.{owner, owner_of, free_mutex, held_by, lock_o
 use Rattle.evm_model.specs.Passing.{pass_on}
 use Rattle.evm_model.specs.Stages.{is_stalled, wait_refusal}
 use Rattle.evm_model.specs.State.{Parts, on_mutex}
-use Rattle.evm_model.specs.declared.errno.Errno.TheVariants.{Deadlock}
+use Rattle.evm_model.specs.declared.errno.Errno.TheVariants.{Deadlock, NotPermitted}
 use Rattle.evm_model.specs.declared.call.Outcome.{Outcome}
 use Rattle.evm_model.specs.declared.limits.TheConstants.{TASK_LIMIT, MUTEX_LIMIT, PRIORITY_LIMIT}
 use Rattle.evm_model.specs.declared.mutex.Mutex.{Mutex}
 use Rattle.evm_model.specs.declared.mutex.Protocol.{Protocol}
 use Rattle.evm_model.specs.declared.mutex.Protocol.TheVariants.{Inheritance, Ceiling}
+use Rattle.evm_model.specs.declared.notice.NoticeKind.TheVariants.{Deadlock as Unending, NotOwner}
 use Rattle.evm_model.specs.declared.stage.Stage.TheVariants.{OutOfBand}
 use Rattle.evm_model.specs.declared.task.TaskState.{TaskState}
 use Rattle.evm_model.specs.declared.task.TaskState.TheVariants.{InReady, OobReady}
@@ -23,6 +24,7 @@ use Rattle.evm_model.specs.declared.task.Wait.TheVariants.{Lock}
 use Rattle.evm_rules.proofs.Acting.{but-waits}
 use Rattle.evm_rules.proofs.Firsts.{IsOobOwn}
 use Rattle.evm_rules.proofs.Locks.{locks-push}
+use Rattle.evm_rules.proofs.Notices.{noted-done}
 use Rattle.evm_rules.proofs.Passing.{but-mutexes, but-owned, pass_on-stirs}
 use Rattle.evm_rules.proofs.Settling.{GoodBut}
 use Rattle.evm_rules.proofs.Waited.{events-push}
@@ -129,7 +131,7 @@ module _ (c t : ℕ) (k : Parts) (g : GoodBut c k) (o : IsOwn c t k.tasks) where
 
   pub lock-done : (m deadline : ℕ) → IsOobOwn c t k.tasks → IsDone c t (lock c t m deadline k)
   unfolding lock
-  lock-done m deadline w = known-done (slice_get k.mutexes m) m deadline refl w
+  lock-done m deadline w = noted-done c t Deadlock Unending (lock_known (slice_get k.mutexes m) c t m deadline k) (known-done (slice_get k.mutexes m) m deadline refl w)
 
   try_owned-done : (x : Option ℕ) (m : ℕ) (mutex : Mutex) → IsDone c t (try_owned x t m mutex k)
   try_owned-done None m mutex = take-done m _
@@ -141,7 +143,7 @@ module _ (c t : ℕ) (k : Parts) (g : GoodBut c k) (o : IsOwn c t k.tasks) where
 
   pub try_lock-done : (m : ℕ) → IsDone c t (try_lock t m k)
   unfolding try_lock
-  try_lock-done m = try_known-done (slice_get k.mutexes m) m
+  try_lock-done m = noted-done c t Deadlock Unending (try_known (slice_get k.mutexes m) t m k) (try_known-done (slice_get k.mutexes m) m)
 
   passes-done : (m : ℕ) (outcome : Outcome) → IsDone c t (pass_on m k, outcome)
   passes-done m outcome = stirs-done c t k (pass_on m k) outcome (pass_on-stirs m k g.shape) g o
@@ -156,4 +158,4 @@ module _ (c t : ℕ) (k : Parts) (g : GoodBut c k) (o : IsOwn c t k.tasks) where
 
   pub unlock-done : (m : ℕ) → IsDone c t (unlock t m k)
   unfolding unlock
-  unlock-done m = unlock_known-done (slice_get k.mutexes m) m
+  unlock-done m = noted-done c t NotPermitted NotOwner (unlock_known (slice_get k.mutexes m) t m k) (unlock_known-done (slice_get k.mutexes m) m)

@@ -4,6 +4,7 @@ use Rattle.std.specs.Prelude.{slice_get, slice_set, replicate, count_by, nat_lt,
 use Rattle.std.proofs.lemmas.List.Sums.{sum_by-append, count_by-le-length}
 use Rattle.std.proofs.lemmas.List.{length-set, length-replicate}
 use Rattle.std.proofs.lemmas.Bool.Decides.{nat_tests}
+use Rattle.evm_dev.specs.Rows.{ticked}
 use Rattle.evm_ram.specs.declared.ram.TheConstants.{BASE}
 use Rattle.evm_model.specs.declared.refusal.Refusal.{Refusal}
 use Rattle.evm_model.specs.declared.refusal.Refusal.TheVariants.{Full}
@@ -12,7 +13,8 @@ use Rattle.evm_lines.specs.declared.TheConstants.{LINES}
 use Rattle.evm_model.specs.Actions.{action_or_nothing}
 use Rattle.evm_model.specs.Bounds.{COUNT_LIMIT, PER_EVENT, STAMPS_PER_EVENT, PipesUpTo, HeldUpTo}
 use Rattle.evm_model.specs.Commands.{tick, set_bits, on_number, set_breakpoint, unset_breakpoint}
-use Rattle.evm_model.specs.Good.{Good, GoodState, AreActions, AreEvents, AreFlags, AreLocks, AreSemaphores, AreTimers, IsOneOf, IsSettled, event_at, is_tick}
+use Rattle.evm_model.specs.Devices.{Attached, line_if, raise_line, raise_by_ticks, tick_devices}
+use Rattle.evm_model.specs.Good.{Good, GoodState, AreActions, AreDevices, AreNotices, AreEvents, AreFlags, AreLocks, AreSemaphores, AreTimers, IsOneOf, IsSettled, event_at, is_tick}
 use Rattle.evm_model.specs.Harts.{set_register, set_pc, first_hart}
 use Rattle.evm_model.specs.Instructions.{stop}
 use Rattle.evm_model.specs.Load.{bytes_from, load_board, start_loaded}
@@ -30,19 +32,22 @@ use Rattle.evm_model.specs.declared.boot.Boot.{Boot}
 use Rattle.evm_model.specs.declared.event.Answer.{Answer}
 use Rattle.evm_model.specs.Event.{Event}
 use Rattle.evm_model.specs.declared.event.Event.TheVariants.{Step, Tick, Raise, Bell, Stop, Go, StepI, SetReg, SetPc, Poke, Break, Unbreak}
-use Rattle.evm_model.specs.declared.limits.TheConstants.{PROCESSOR_LIMIT, CAPACITY_LIMIT, EVENT_LIMIT, TIMER_LIMIT}
+use Rattle.evm_model.specs.declared.limits.TheConstants.{DEVICE_LIMIT, PROCESSOR_LIMIT, CAPACITY_LIMIT, EVENT_LIMIT, TIMER_LIMIT}
 use Rattle.evm_model.specs.declared.processor.Processor.{Processor}
 use Rattle.evm_model.proofs.Lists.{slice_get-replicate, slice_get-slice_set}
 use Rattle.evm_walk.proofs.Counted.{walk_counted}
 use Rattle.evm_walk.proofs.Amounts.{walk_amounts, walk_flags, walk_timers, walk_few_events, walk_actions}
 use Rattle.evm_walk.proofs.Held.{held_more, walk_holds}
-use Rattle.evm_walk.proofs.Rows.{MOVES, acting, may_raise, row_walks}
+use Rattle.evm_walk.proofs.Notices.{walk_notes}
+use Rattle.evm_walk.proofs.Rows.{MOVES, acting, row_walks}
+use Rattle.evm_walk.specs.Raising.{may_raise}
 use Rattle.evm_walk.proofs.Sizes.{walk_sizes, walk_most, walk_profile, walk_ticks}
 use Rattle.evm_walk.proofs.Walk.{Actor, AreFew, Walk}
 use Rattle.evm_rules.proofs.Bounded.{AreWithin, within-idle}
 use Rattle.evm_rules.proofs.Counting.{PipesUpTo-more}
 use Rattle.evm_rules.proofs.Firsts.{best-is_oob, own-in_band}
 use Rattle.evm_rules.proofs.Keeps.{row-good, hart-good}
+use Rattle.evm_rules.proofs.Notices.{notices-more}
 use Rattle.evm_rules.proofs.Ram.{row-ram}
 use Rattle.evm_rules.proofs.Replays.{accepted}
 use Rattle.evm_walk.proofs.Sets.{IsPipe-idle}
@@ -55,24 +60,33 @@ number-ticks : (o : Option ℕ) (f : Hart → Hart) (k : Parts) → (on_number o
 number-ticks None f k = omega arith
 number-ticks (Some t) f k = omega arith
 
-walked-ticks : (event : Event) (b : Board) → board_refusal event b ≡ None → may_raise event 0 0 ≡ false → (row event b).0.parts.ticks ≡ b.parts.ticks + 0
-walked-ticks event b e may =
-    let same : (row event b).0.parts.ticks ≡ b.parts.ticks = walk_ticks (acting event b.parts) b.parts MOVES STAMPS_PER_EVENT (row event b).0.parts may (row_walks event b e) in omega arith
+walked-ticks : (event : Event) (b : Board) → length b.memory.devices ≤ DEVICE_LIMIT → board_refusal event b ≡ None → may_raise event b 0 0 ≡ false → (row event b).0.parts.ticks ≡ b.parts.ticks + 0
+walked-ticks event b few e may =
+    let same : (row event b).0.parts.ticks ≡ b.parts.ticks = walk_ticks (acting event b) b.parts MOVES STAMPS_PER_EVENT (row event b).0.parts may (row_walks event b few e) in omega arith
 
-row-ticks : (event : Event) (b : Board) → board_refusal event b ≡ None → (row event b).0.parts.ticks ≡ b.parts.ticks + cond (is_tick event) 1 0
-unfolding row tick set_bits stop set_breakpoint unset_breakpoint
-row-ticks (Step c) b e = walked-ticks (Step c) b e refl
-row-ticks Tick b e = refl
-row-ticks (Raise c l) b e = omega arith
-row-ticks (Bell c l) b e = omega arith
-row-ticks (Stop c) b e = omega arith
-row-ticks (Go c) b e = omega arith
-row-ticks (StepI c) b e = walked-ticks (StepI c) b e refl
-row-ticks (SetReg c r value) b e = number-ticks (current c b.parts) (set_register r value) b.parts
-row-ticks (SetPc c pc) b e = number-ticks (current c b.parts) (set_pc pc) b.parts
-row-ticks (Poke address bytes) b e = omega arith
-row-ticks (Break address) b e = omega arith
-row-ticks (Unbreak address) b e = omega arith
+line-clock : (o : Option ℕ) (k : Parts) → (raise_line o k).ticks ≡ k.ticks
+line-clock None k = refl
+line-clock (Some l) k = refl
+
+ticked-clock : (i : ℕ) (devices : List Attached) (k : Parts) → (raise_by_ticks i devices k).ticks ≡ k.ticks
+unfolding raise_by_ticks
+ticked-clock i [] k = refl
+ticked-clock i (device ∷ devices) k = ticked-clock (suc i) devices _ ∙ line-clock (line_if (ticked device.kind device.words).raise i) k
+
+row-ticks : (event : Event) (b : Board) → length b.memory.devices ≤ DEVICE_LIMIT → board_refusal event b ≡ None → (row event b).0.parts.ticks ≡ b.parts.ticks + cond (is_tick event) 1 0
+unfolding row tick tick_devices set_bits stop set_breakpoint unset_breakpoint
+row-ticks (Step c) b few e = walked-ticks (Step c) b few e refl
+row-ticks Tick b few e = ap (λ n. n + 1) (ticked-clock 0 b.memory.devices b.parts)
+row-ticks (Raise c l) b few e = omega arith
+row-ticks (Bell c l) b few e = omega arith
+row-ticks (Stop c) b few e = omega arith
+row-ticks (Go c) b few e = omega arith
+row-ticks (StepI c) b few e = walked-ticks (StepI c) b few e refl
+row-ticks (SetReg c r value) b few e = number-ticks (current c b.parts) (set_register r value) b.parts
+row-ticks (SetPc c pc) b few e = number-ticks (current c b.parts) (set_pc pc) b.parts
+row-ticks (Poke address bytes) b few e = omega arith
+row-ticks (Break address) b few e = omega arith
+row-ticks (Unbreak address) b few e = omega arith
 
 one-more : (b : Bool) → 0 + cond b 1 0 ≡ cond b 1 0
 one-more true = refl
@@ -96,9 +110,10 @@ pub accepted-good : (s : State) (event : Event) → is_full s ≡ false → boar
 accepted-good s event f e g =
     let k : Parts = s.board.parts in
     let new : Parts = (row event s.board).0.parts in
-    let a : Actor = acting event k in
+    let a : Actor = acting event s.board in
+    let kept = row-ram event s.board in
     let few : AreFew k = few-of k g.good g.timers.few in
-    let w : Walk a k MOVES STAMPS_PER_EVENT new = row_walks event s.board e in
+    let w : Walk a k MOVES STAMPS_PER_EVENT new = row_walks event s.board g.devices.few e in
     let size = walk_sizes a k MOVES STAMPS_PER_EVENT new w in
     let room : length s.journal < s.boot.capacity = leb-false s.boot.capacity (length s.journal) f in
     let grown : length (s.journal ++ event ∷ []) ≡ length s.journal + 1 = length-append s.journal (event ∷ []) in
@@ -108,10 +123,10 @@ accepted-good s event f e g =
       good = row-good event s.board e g.good;
       boot = g.boot;
       processors = size.processors ∙ g.processors;
-      ram = row-ram event s.board ∙ g.ram;
+      ram = kept.ram ∙ g.ram;
       profile = walk_profile a k MOVES STAMPS_PER_EVENT new w ∙ g.profile;
       journal = omega arith;
-      ticks = row-ticks event s.board e ∙ ap (λ n. n + cond (is_tick event) 1 0) g.ticks ∙ sym (counted-tick s.journal event);
+      ticks = row-ticks event s.board g.devices.few e ∙ ap (λ n. n + cond (is_tick event) 1 0) g.ticks ∙ sym (counted-tick s.journal event);
       stamps = omega (arith, walk_most a k MOVES STAMPS_PER_EVENT new few w, g.stamps, grown);
       counts = PipesUpTo-more (before + MOVES) after new.pipes (omega arith) (walk_counted a k MOVES STAMPS_PER_EVENT before new w few.pipes g.counts);
       semaphores = walk_amounts a k MOVES STAMPS_PER_EVENT new w g.semaphores;
@@ -121,6 +136,8 @@ accepted-good s event f e g =
       actions = walk_actions a k MOVES STAMPS_PER_EVENT new w g.actions;
       holds = held_more (before + 1 + MOVES) after new.mutexes (omega arith)
           (walk_holds a k MOVES STAMPS_PER_EVENT new (before + 1) few.pipes (omega arith) w (held_more before (before + 1) k.mutexes (omega arith) g.holds));
+      notices = rw grown (notices-more a k (length s.journal) new.notices (walk_notes a k MOVES STAMPS_PER_EVENT new w) g.notices);
+      devices = kept.devices g.devices;
     }
 
 -- an event that is not refused keeps the machine good
@@ -308,10 +325,14 @@ booted-stamps : (boot : Boot) → (booted_parts boot).stamps ≤ 1
 unfolding booted_parts
 booted-stamps boot = omega arith
 
--- a machine that has had no event is good
-pub GoodState-start : (boot : Boot) → bad_boot boot ≡ false → GoodState (start boot)
+booted-notices : (boot : Boot) → AreNotices 0 (booted_parts boot).notices
+unfolding booted_parts
+booted-notices boot = record { kept = omega arith; total = omega arith }
+
+-- a machine that has had no event is good, whichever its devices
+pub GoodState-start : (devices : List Attached) (boot : Boot) → AreDevices devices → bad_boot boot ≡ false → GoodState (start devices boot)
 unfolding booted
-GoodState-start boot e = record {
+GoodState-start devices boot are e = record {
   good = booted-good boot e;
   boot = e;
   processors = booted-processors boot;
@@ -327,6 +348,8 @@ GoodState-start boot e = record {
   few_events = booted-events boot;
   actions = booted-actions boot;
   holds = booted-holds boot;
+  notices = booted-notices boot;
+  devices = are;
 }
 
 length-bytes_from : (byte : ℕ → ℕ) (address n : ℕ) → length (bytes_from byte address n) ≡ n
@@ -353,10 +376,12 @@ GoodState-load byte entry s e g = record {
   few_events = g.few_events;
   actions = g.actions;
   holds = g.holds;
+  notices = g.notices;
+  devices = g.devices;
 }
 
-pub GoodState-loaded : (byte : ℕ → ℕ) (entry : ℕ) (boot : Boot) → bad_boot boot ≡ false → entry % 4 ≡ 0 → GoodState (start_loaded byte entry boot)
-GoodState-loaded byte entry boot b e = GoodState-load byte entry (start boot) e (GoodState-start boot b)
+pub GoodState-loaded : (devices : List Attached) (byte : ℕ → ℕ) (entry : ℕ) (boot : Boot) → AreDevices devices → bad_boot boot ≡ false → entry % 4 ≡ 0 → GoodState (start_loaded devices byte entry boot)
+GoodState-loaded devices byte entry boot are b e = GoodState-load byte entry (start devices boot) e (GoodState-start devices boot are b)
 
 -- ---- the room that is left
 some_capacity : (n : ℕ) → bad_capacity n ≡ false → n ≤ CAPACITY_LIMIT
@@ -378,6 +403,10 @@ counts_room s g = let few : length s.journal ≤ CAPACITY_LIMIT = few_events s g
 pub holds_room : (s : State) → GoodState s → HeldUpTo COUNT_LIMIT s.board.parts.mutexes
 holds_room s g = let few : length s.journal ≤ CAPACITY_LIMIT = few_events s g in
     record { count = λ m mutex e. let some = g.holds.count m mutex e in omega (arith, some, few) }
+
+-- there can be one more notice
+pub notices_room : (s : State) → GoodState s → s.board.parts.notices.total ≤ COUNT_LIMIT
+notices_room s g = let few : length s.journal ≤ CAPACITY_LIMIT = few_events s g in omega (arith, g.notices.total, few)
 
 -- stamps are at most 2 ^ 34
 pub stamps_room : (s : State) → GoodState s → s.board.parts.stamps ≤ 2 ^ 34

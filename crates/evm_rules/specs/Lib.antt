@@ -1,3 +1,4 @@
+pub mod Devices
 pub mod Ranking
 pub mod Rests
 pub mod Rules

@@ -6,8 +6,9 @@ use Rattle.evm_exec.specs.declared.outcome.Effect.TheVariants.{Next}
 use Rattle.evm_isa.specs.Decoded.{decoded}
 use Rattle.evm_isa.specs.declared.inst.Inst.{Inst}
 use Rattle.evm_model.specs.Commands.{is_set}
+use Rattle.evm_model.specs.Devices.{Attached}
 use Rattle.evm_model.specs.Event.{Event}
-use Rattle.evm_model.specs.Good.{Good, GoodState}
+use Rattle.evm_model.specs.Good.{AreDevices, Good, GoodState}
 use Rattle.evm_model.specs.Harts.{set_pc, set_register}
 use Rattle.evm_model.specs.Instructions.{stop}
 use Rattle.evm_model.specs.Load.{start_loaded}
@@ -23,11 +24,12 @@ use Rattle.evm_rules.specs.Rests.{IsClear}
 
 -- ---- the rules hold
 abbrev pub RulesHold : Type 0
-RulesHold = (boot : Boot) → bad_boot boot ≡ false → (events : List Event) → GoodState (replay (start boot) events)
+RulesHold = (devices : List Attached) (boot : Boot) → AreDevices devices → bad_boot boot ≡ false → (events : List Event) → GoodState (replay (start devices boot) events)
 
 -- also where an image was loaded before
 abbrev pub RulesHoldLoaded : Type 0
-RulesHoldLoaded = (byte : ℕ → ℕ) (entry : ℕ) (boot : Boot) → bad_boot boot ≡ false → entry % 4 ≡ 0 → (events : List Event) → GoodState (replay (start_loaded byte entry boot) events)
+RulesHoldLoaded = (devices : List Attached) (byte : ℕ → ℕ) (entry : ℕ) (boot : Boot) → AreDevices devices → bad_boot boot ≡ false → entry % 4 ≡ 0 → (events : List Event)
+    → GoodState (replay (start_loaded devices byte entry boot) events)
 
 -- ---- nothing to settle
 -- a processor that runs a task and has nothing on its wire settles nothing where registers change

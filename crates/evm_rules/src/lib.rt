@@ -1,11 +1,12 @@
 //! The rules that hold after every event: what each event keeps, where settling changes nothing, how much a count grows.
 #![tactic(auto)]
 
+ghost use Rattle.evm_rules.specs.Devices.{RegistersAreFound};
 ghost use Rattle.evm_rules.specs.Ranking.{RoundsBoost, RoundsKeepOwn, RoundsSettle, SettledIsOne, WalksEnd, WalksNeverReturn};
 ghost use Rattle.evm_rules.specs.Rules.{PassedRowsSettleNothing, PrivateRowsChangeOneHart, RowsSettleNothing, RulesHold, RulesHoldLoaded, StopsSettleNothing};
 
-/// After every boot whose numbers are inside their limits, with an image loaded or none, and every list of events the
-/// rules of the machine hold.
+/// After every boot whose numbers are inside their limits, with whichever devices there may be, with an image loaded or
+/// none, and every list of events the rules of the machine hold.
 pub fn rules_hold()
     ensures booted { RulesHold }
     ensures loaded { RulesHoldLoaded }
@@ -38,4 +39,9 @@ pub fn ranks_settle()
 pub fn walks_end()
     ensures ends { WalksEnd }
     ensures returns { WalksNeverReturn }
+{}
+
+/// A register of a device is found at an address if and only if it is there.
+pub fn registers_are_found()
+    ensures { RegistersAreFound }
 {}

@@ -11,7 +11,7 @@ use Rattle.evm_model.specs.Ranks.{best, is_oob_ready, next_in_band}
 use Rattle.evm_model.specs.Settle.{current, is_oob, is_oob_task, nudge, nudge_pipe, play_in_band, play_in_band_lines, play_in_band_pipe, run_in_band, run_task, settle_and_nudge, settle_in_band, take_up, turn_in_band, wants_nudge}
 use Rattle.evm_model.specs.State.{Parts, on_pipe, on_processor}
 use Rattle.evm_model.specs.Tasks.{restamp, is_weak}
-use Rattle.evm_model.specs.Waits.{awaits_line, is_wait_for, wake, wake_below, woken, woken_state}
+use Rattle.evm_model.specs.Waits.{awaits_line, is_wait_for, wake, wake_below, woken}
 use Rattle.evm_model.specs.declared.mutex.Mutex.{Mutex}
 use Rattle.evm_model.specs.declared.processor.Processor.{Processor}
 use Rattle.evm_model.specs.declared.stage.Stage.TheVariants.{InBand}

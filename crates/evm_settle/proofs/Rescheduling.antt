@@ -3,7 +3,7 @@ use Rattle.std.proofs.Common.{◌≡◌, ℕ, ◌-◌, ◌≤◌, Bool, refl, ap
 use Rattle.std.specs.Prelude.{replicate}
 use Rattle.evm_model.specs.Bounds.{COUNT_LIMIT, PER_SETTLING, HasStamps, PipesUpTo}
 use Rattle.evm_model.specs.Actions.{receive_line}
-use Rattle.evm_model.specs.Pipes.{Pipe, idle_pipe, set_stall}
+use Rattle.evm_model.specs.Pipes.{idle_pipe, set_stall}
 use Rattle.evm_model.specs.State.{Parts, on_pipe}
 use Rattle.evm_model.specs.Tasks.{set_policy}
 use Rattle.evm_model.specs.declared.stage.Stage.{Stage}

@@ -1,20 +1,16 @@
 -- Settling out-of-band in two steps, and the room that each takes up.
-use Rattle.std.proofs.Common.{◌≡◌, ℕ, List, [], ◌∷◌, ◌+◌, ◌-◌, ◌≤◌, Bool, true, false, Option, Some, None, length, refl, ap, sym, ◌∙◌, arith}
+use Rattle.std.proofs.Common.{◌≡◌, ℕ, List, ◌+◌, ◌-◌, Bool, true, false, Option, Some, None, refl, ap, sym, ◌∙◌, arith}
 use Rattle.std.specs.Prelude.{not, slice_get, if◌then◌else◌}
 use Rattle.evm_parts.specs.evm_boost.Scatter.{AreRanks}
 use Rattle.evm_model.specs.Bounds.{COUNT_LIMIT, PER_IN_BAND_LOG, PER_OOB_LOG, PER_SETTLING, HasStamps, PipesUpTo}
-use Rattle.evm_lines.specs.declared.TheConstants.{LINES}
-use Rattle.evm_model.specs.Pipes.{Pipe, arrive, play}
-use Rattle.evm_model.specs.Settle.{play_oob, play_oob_lines, spend, run_best, settle_oob, settle_oob_pipe, settle_in_band, settle, nudge, settle_and_nudge}
-use Rattle.evm_model.specs.State.{Parts, on_pipe}
+use Rattle.evm_model.specs.Pipes.{Pipe}
+use Rattle.evm_model.specs.Settle.{play_oob_lines, run_best, settle_oob, settle_oob_pipe, settle_in_band, settle, nudge, settle_and_nudge}
+use Rattle.evm_model.specs.State.{Parts}
 use Rattle.evm_model.specs.declared.limits.TheConstants.{PROCESSOR_LIMIT}
-use Rattle.evm_model.specs.declared.stage.Stage.TheVariants.{OutOfBand, InBand}
 use Rattle.evm_rules.proofs.Bounded.{AreWithin, within-more, within-settle_oob, within-settle_in_band}
 use Rattle.evm_rules.proofs.evm_walk.Counted.{PipesUpTo-more}
 use Rattle.evm_rules.proofs.Ranking.{AreRanked, ranked-same}
 use Rattle.evm_rules.proofs.Settling.{ranked-in_band}
-use Rattle.evm_rules.proofs.evm_walk.Sets.{length-set}
-use Rattle.evm_rules.proofs.Spending.{of-spends}
 use Rattle.evm_settle.specs.Steps.{play_oob_pipe, chooses, choose}
 
 -- ---- the two steps

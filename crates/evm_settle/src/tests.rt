@@ -12,7 +12,8 @@ use arrayvec::ArrayVec;
 use evm_exec::Hart;
 use evm_model::{Class, Mode, Processor, Profile, Stage, Task, TaskState, Wait};
 use evm_parts::{
-    Actions, Console, Events, Flags, Harts, Mutexes, Parts, Pipe, Semaphores, Tasks, Timers,
+    Actions, Console, Events, Flags, Harts, Mutexes, Notices, Parts, Pipe, Semaphores, Tasks,
+    Timers,
 };
 use std::alloc::Global;
 use std::test::Fail;
@@ -145,8 +146,22 @@ fn task_of(cpu: u8, state: TaskState) -> Task {
     }
 }
 
+// The rings of the parts.
+#[derive(Drop)]
+struct Rings {
+    console: Console,
+    notices: Notices,
+}
+
+// Empty rings.
+fn rings_of(alloc: Global) -> Result<Rings, Fail> {
+    let console = Console::new(alloc)?;
+    let notices = Notices::new(alloc)?;
+    Ok(Rings { console, notices })
+}
+
 // Three processors of which processor 1 runs what the row says, and this task, the only one.
-fn parts_with(console: Console, task: Task, row: &Row) -> Parts
+fn parts_with(rings: Rings, task: Task, row: &Row) -> Parts
     ensures { result.pipes ≡ replicate 3 idle_pipe }
 {
     let mut processors = ArrayVec::new();
@@ -179,15 +194,8 @@ fn parts_with(console: Console, task: Task, row: &Row) -> Parts
         flags: Flags::new(),
         timers: Timers::new(),
         actions: Actions::new(),
-        console,
-    }
-}
-
-// An empty console.
-fn console_of(alloc: Global) -> Result<Console, Fail> {
-    match Console::new(alloc) {
-        Ok(console) => Ok(console),
-        Err(_) => Err("no memory".into()),
+        console: rings.console,
+        notices: rings.notices,
     }
 }
 
@@ -206,10 +214,10 @@ fn wire(parts: &mut Parts, line: Line)
 }
 
 // The parts of a row.
-fn parts_of(console: Console, task: Task, row: &Row) -> Parts
+fn parts_of(rings: Rings, task: Task, row: &Row) -> Parts
     ensures { AreWithin 1 result }
 {
-    let mut parts = parts_with(console, task, row);
+    let mut parts = parts_with(rings, task, row);
     wire(&mut parts, row.wire);
     parts.set_stall(1, Stage::OutOfBand, row.oob_stalled);
     parts.set_stall(1, Stage::InBand, row.in_band_stalled);
@@ -228,8 +236,8 @@ fn raises(parts: &Parts, c: u8) -> Option<(u64, u64)> {
 #[tactic(auto, using(crate::proofs::Idle::idle))]
 fn others_are_told(rt: HostRuntime) -> Result<(), Fail> {
     for row in ROWS.iter() {
-        let console = console_of(rt.alloc())?;
-        let mut parts = parts_of(console, task_of(1, TaskState::OobReady), row);
+        let rings = rings_of(rt.alloc())?;
+        let mut parts = parts_of(rings, task_of(1, TaskState::OobReady), row);
         let name = row.name;
         let pipe = parts.pipe(1).ok_or("a pipe")?;
         let ranks = parts.ranks();
@@ -250,14 +258,14 @@ fn others_are_told(rt: HostRuntime) -> Result<(), Fail> {
 fn the_acting_processor_is_not_told(rt: HostRuntime) -> Result<(), Fail> {
     for row in ROWS.iter() {
         let name = row.name;
-        let console = console_of(rt.alloc())?;
-        let mut parts = parts_of(console, task_of(1, TaskState::OobReady), row);
+        let rings = rings_of(rt.alloc())?;
+        let mut parts = parts_of(rings, task_of(1, TaskState::OobReady), row);
         let before = raises(&parts, 1);
         let ranks = parts.ranks();
         nudge(&mut parts, 1, &ranks);
         assert_eq!(rt; raises(&parts, 1), before, "{name}");
-        let console = console_of(rt.alloc())?;
-        let mut parts = parts_of(console, task_of(1, TaskState::OobReady), row);
+        let rings = rings_of(rt.alloc())?;
+        let mut parts = parts_of(rings, task_of(1, TaskState::OobReady), row);
         let ranks = parts.ranks();
         nudge_one(&mut parts, 1, 1, &ranks);
         assert_eq!(rt; raises(&parts, 1), before, "{name}");
@@ -276,8 +284,8 @@ fn nobody_is_told_of_other_tasks(rt: HostRuntime) -> Result<(), Fail> {
         (0, TaskState::OobReady),
         (3, TaskState::OobReady),
     ] {
-        let console = console_of(rt.alloc())?;
-        let mut parts = parts_of(console, task_of(cpu, state), &IDLE);
+        let rings = rings_of(rt.alloc())?;
+        let mut parts = parts_of(rings, task_of(cpu, state), &IDLE);
         let ranks = parts.ranks();
         nudge(&mut parts, 0, &ranks);
         let told = [raises(&parts, 0), raises(&parts, 1), raises(&parts, 2)];
@@ -290,14 +298,14 @@ fn nobody_is_told_of_other_tasks(rt: HostRuntime) -> Result<(), Fail> {
 #[test]
 #[tactic(auto, using(crate::proofs::Idle::idle))]
 fn one_processor_is_told(rt: HostRuntime) -> Result<(), Fail> {
-    let console = console_of(rt.alloc())?;
-    let mut parts = parts_of(console, task_of(1, TaskState::OobReady), &IDLE);
+    let rings = rings_of(rt.alloc())?;
+    let mut parts = parts_of(rings, task_of(1, TaskState::OobReady), &IDLE);
     let ranks = parts.ranks();
     nudge_one(&mut parts, 0, 3, &ranks);
     assert_eq!(rt; raises(&parts, 1), Some((0, 0)));
     assert_eq!(rt; raises(&parts, 3), None);
-    let console = console_of(rt.alloc())?;
-    let mut parts = parts_of(console, task_of(1, TaskState::OobReady), &IDLE);
+    let rings = rings_of(rt.alloc())?;
+    let mut parts = parts_of(rings, task_of(1, TaskState::OobReady), &IDLE);
     let ranks = parts.ranks();
     nudge_one(&mut parts, 0, 2, &ranks);
     assert_eq!(rt; raises(&parts, 1), Some((0, 0)));
@@ -309,15 +317,15 @@ fn one_processor_is_told(rt: HostRuntime) -> Result<(), Fail> {
 #[test]
 #[tactic(auto, using(crate::proofs::Idle::idle))]
 fn settling_tells(rt: HostRuntime) -> Result<(), Fail> {
-    let console = console_of(rt.alloc())?;
-    let mut parts = parts_of(console, task_of(1, TaskState::OobReady), &IDLE);
+    let rings = rings_of(rt.alloc())?;
+    let mut parts = parts_of(rings, task_of(1, TaskState::OobReady), &IDLE);
     assert_eq!(rt; parts.stamps, 1);
     assert_eq!(rt; parts.ticks, 0);
     settle_and_nudge(&mut parts, None, 0);
     assert_eq!(rt; raises(&parts, 1), Some((1, 0)));
     assert_eq!(rt; parts.current(1), None);
-    let console = console_of(rt.alloc())?;
-    let mut parts = parts_of(console, task_of(1, TaskState::OobReady), &IDLE);
+    let rings = rings_of(rt.alloc())?;
+    let mut parts = parts_of(rings, task_of(1, TaskState::OobReady), &IDLE);
     assert_eq!(rt; parts.stamps, 1);
     assert_eq!(rt; parts.ticks, 0);
     settle_and_nudge(&mut parts, None, 1);
@@ -336,8 +344,8 @@ fn settling_in_band(rt: HostRuntime) -> Result<(), Fail> {
         (TaskState::Exit, None),
         (TaskState::Waits(Wait::Line(3)), None),
     ] {
-        let console = console_of(rt.alloc())?;
-        let mut parts = parts_of(console, task_of(1, state), &BUSY);
+        let rings = rings_of(rt.alloc())?;
+        let mut parts = parts_of(rings, task_of(1, state), &BUSY);
         assert_eq!(rt; parts.stamps, 1);
         assert_eq!(rt; parts.ticks, 0);
         settle_and_nudge(&mut parts, BUSY.running, 1);

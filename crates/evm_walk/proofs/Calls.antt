@@ -9,6 +9,7 @@ use Rattle.evm_model.specs.Calls.{call_number, numbered, all_calls, call_of, cal
 use Rattle.evm_model.specs.Harts.{A0, A7, argument, advance, answer}
 use Rattle.evm_model.specs.InBandCalls.{exit, putc, yield_now, is_bad_entry, add_task, spawn, wait_line_unless, wait_line, attach_as, attach, detach}
 use Rattle.evm_model.specs.Mutexes.{owns_any}
+use Rattle.evm_model.specs.Notices.{notify}
 use Rattle.evm_model.specs.OobCalls.{stall, switch_oob, switch_in_band, is_scheduled_task, schedule_as, set_sched, set_mode, yield_oob, clock, state_bits}
 use Rattle.evm_model.specs.Policies.{policy_of}
 use Rattle.evm_model.specs.Profiles.{line_count}
@@ -24,6 +25,7 @@ use Rattle.evm_model.specs.declared.call.Outcome.TheVariants.{Answers, Waits, Le
 use Rattle.evm_model.specs.declared.errno.Errno.{Errno}
 use Rattle.evm_model.specs.declared.errno.Errno.TheVariants.{NotPermitted, NoSuchCall}
 use Rattle.evm_model.specs.declared.limits.TheConstants.{SLICE, TASK_LIMIT, MODE_LIMIT}
+use Rattle.evm_model.specs.declared.notice.NoticeKind.TheVariants.{DemotedByCall}
 use Rattle.evm_model.specs.declared.stage.Stage.{Stage}
 use Rattle.evm_model.specs.declared.stage.Stage.TheVariants.{OutOfBand, InBand}
 use Rattle.evm_model.specs.declared.task.Class.{Class}
@@ -37,11 +39,12 @@ use Rattle.evm_walk.proofs.Deadlines.{sleeps}
 use Rattle.evm_walk.proofs.Events.{makes_event, waits_event, signals, broadcasts}
 use Rattle.evm_walk.proofs.Flags.{makes_flags, waits_flags, posts_flags}
 use Rattle.evm_walk.proofs.Locks.{either, up, same, was_there, makes_mutex, locks, tries, unlocks}
+use Rattle.evm_walk.proofs.Notices.{notifies_demoted}
 use Rattle.evm_walk.proofs.Passing.{ends}
 use Rattle.evm_walk.proofs.Semaphores.{makes_semaphore, gets, tries_get, puts_one}
 use Rattle.evm_walk.proofs.Tasks.{stalls_stage, leaves, begins_wait, demotes, promotes}
 use Rattle.evm_walk.proofs.Timers.{makes_timer, sets, waits_timer}
-use Rattle.evm_walk.proofs.Walk.{Actor, IsOldTask, Untouched, Makes, hart, task, stamps, schedules, adds, types, Walk, quietly, stamped, slack, walk_if}
+use Rattle.evm_walk.proofs.Walk.{Actor, IsOldTask, Untouched, Makes, Noted, by_in_band, hart, task, stamps, schedules, adds, types, Walk, quietly, stamped, slack, walk_if}
 
 -- ---- a call that was found has its number
 if_numbered : (b : Bool) (n : ℕ) (call first : Call) (calls : List Call) → (n == call_number first) ≡ b → (if b then Some first else numbered n calls) ≡ Some call
@@ -218,9 +221,9 @@ module _ (a : Actor) (old k : Parts) (t : ℕ) (own : a.task ≡ Some t) (fresh 
   performs SwitchInBand x g = switches_in_band
   performs SetSched x g = sets_sched x g
   performs SetMode x g = sets_mode (argument 0 x)
-  performs Lock x g = locks a old k t own fresh w (argument 0 x) (argument 1 x)
-  performs TryLock x g = tries a old k t own fresh w (argument 0 x)
-  performs Unlock x g = unlocks a old k t own fresh w (argument 0 x)
+  performs Lock x g = locks a old k t own fresh w x (made Lock x g) (argument 0 x) (argument 1 x)
+  performs TryLock x g = tries a old k t own fresh w x (made TryLock x g) (argument 0 x)
+  performs Unlock x g = unlocks a old k t own fresh w x (made Unlock x g) (argument 0 x)
   performs SemGet x g = gets a old k t own fresh w x (made SemGet x g)
   performs SemTryGet x g = tries_get a old k t own fresh w x (made SemTryGet x g)
   performs SemPut x g = puts_one a old k t own fresh w x (made SemPut x g)
@@ -254,8 +257,10 @@ module _ (a : Actor) (old k : Parts) (t : ℕ) (own : a.task ≡ Some t) (fresh 
     finishes_call : (done : Parts × Outcome) → Walk a old 1 64 done.0 → Walk a old 1 65 (finish_call a.cpu t done)
     finishes_call done v = answers done.1 done.0 v
 
-    demoted : Walk a old 1 65 (demote a.cpu t k)
-    demoted = slack a old 0 1 1 65 _ (λ p. omega arith) (λ p. omega arith) (demotes a old 0 0 t k own old_task w)
+    demoted : (call : Call) (x : Hart) → Caller a call x t k → call_stage call ≡ Some InBand → is_oob (Some t) k.tasks ≡ true → Walk a old 1 65 (notify DemotedByCall t (demote a.cpu t k))
+    demoted call x g stage on =
+        let why : Noted a old t DemotedByCall = by_in_band call x (made call x g) stage (ap (is_oob (Some t)) (sym fresh.tasks) ∙ on) in
+        notifies_demoted a old 1 65 t DemotedByCall k own why fresh (slack a old 0 1 1 65 _ (λ p. omega arith) (λ p. omega arith) (demotes a old 0 0 t k own old_task w))
 
     asks_oob : Walk a old 1 65 (ask_oob a.cpu t k)
     unfolding ask_oob
@@ -268,7 +273,7 @@ module _ (a : Actor) (old k : Parts) (t : ℕ) (own : a.task ≡ Some t) (fresh 
         → Walk a old 1 65 (call_on o call x a.cpu t k)
     calls_on None call x stage may has number = finishes_call (perform call x a.cpu t k) (performs call x (record { calls = may; has = has; number = number; on = λ oob. cc }))
     calls_on (Some InBand) call x stage may has number =
-        walk_if a old 1 65 (is_oob (Some t) k.tasks) _ _ (λ on. demoted)
+        walk_if a old 1 65 (is_oob (Some t) k.tasks) _ _ (λ on. demoted call x (record { calls = may; has = has; number = number; on = λ oob. cc }) stage on)
         (λ on. finishes_call (perform call x a.cpu t k) (performs call x (record { calls = may; has = has; number = number; on = λ oob. cc })))
     calls_on (Some OutOfBand) call x stage may has number =
         walk_if a old 1 65 (is_oob (Some t) k.tasks) _ _

@@ -3,11 +3,13 @@ pub mod Amounts
 pub mod Calls
 pub mod Counted
 pub mod Deadlines
+pub mod Devices
 pub mod Events
 pub mod Flags
 pub mod Held
 pub mod Lift
 pub mod Locks
+pub mod Notices
 pub mod Passing
 pub mod Playing
 pub mod Refused
@@ -19,5 +21,6 @@ pub mod Sizes
 pub mod Tasks
 pub mod Timers
 pub mod Twice
+pub mod Unchanged
 pub mod Waiters
 pub mod Walk

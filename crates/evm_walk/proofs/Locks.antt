@@ -4,6 +4,7 @@ use Rattle.std.specs.Prelude.{slice_get, nat_lt, nat_le, ◌==◌, if◌then◌e
 use Rattle.std.proofs.lemmas.Bool.Decides.{nat_tests, eqb_tells}
 use Rattle.evm_ranks.specs.Boosts.{is_number}
 use Rattle.evm_ranks.proofs.Greatest.{boosts-is}
+use Rattle.evm_exec.specs.declared.hart.Hart.{Hart}
 use Rattle.evm_model.specs.Good.{event_of}
 use Rattle.evm_model.specs.Locks.{with_ceiling, mutex_of, add_mutex, new_mutex_as, new_mutex, take_mutex, lock_again, cycle_refusal, lock_other, lock_owned, lock_known, lock, try_owned, try_known, try_lock, unlock_once, unlock_known, unlock}
 use Rattle.evm_model.specs.Mutexes.{free_mutex, owner_of, held_by}
@@ -12,17 +13,22 @@ use Rattle.evm_model.specs.Stages.{is_stalled, wait_refusal, wait_unless}
 use Rattle.evm_model.specs.State.{Parts, on_mutex}
 use Rattle.evm_model.specs.declared.call.Outcome.{Outcome}
 use Rattle.evm_model.specs.declared.errno.Errno.{Errno}
+use Rattle.evm_model.specs.declared.errno.Errno.TheVariants as Errnos
+use Rattle.evm_model.specs.declared.errno.Errno.TheVariants.{NotPermitted}
 use Rattle.evm_model.specs.declared.limits.TheConstants.{MUTEX_LIMIT, PRIORITY_LIMIT}
 use Rattle.evm_model.specs.declared.mutex.Mutex.{Mutex}
 use Rattle.evm_model.specs.declared.mutex.Protocol.{Protocol}
 use Rattle.evm_model.specs.declared.mutex.Protocol.TheVariants.{Inheritance, Ceiling}
+use Rattle.evm_model.specs.declared.notice.NoticeKind.TheVariants.{Deadlock, NotOwner}
 use Rattle.evm_model.specs.declared.stage.Stage.TheVariants.{OutOfBand}
 use Rattle.evm_model.specs.declared.task.TaskState.TheVariants.{Waits}
 use Rattle.evm_model.specs.declared.task.Wait.{Wait}
 use Rattle.evm_model.specs.declared.task.Wait.TheVariants.{Lock}
+use Rattle.evm_walk.proofs.Notices.{notifies_refused}
 use Rattle.evm_walk.proofs.Passing.{passes, stayed_same}
 use Rattle.evm_walk.proofs.Tasks.{begins_wait}
-use Rattle.evm_walk.proofs.Walk.{Actor, IsOldTask, Untouched, holds, makes, Walk, quietly, counted, slack}
+use Rattle.evm_walk.proofs.Unchanged.{lock_rests, try_rests, unlock_rests}
+use Rattle.evm_walk.proofs.Walk.{Actor, IsOldTask, Untouched, Makes, by_deadlock, by_unlock, holds, makes, Walk, quietly, counted, slack}
 
 -- of two outcomes
 pub either_at : (a : Actor) (old : Parts) (n s : ℕ) (b : Bool) (x y : Parts × Outcome) → (b ≡ true → Walk a old n s x.0) → (b ≡ false → Walk a old n s y.0) → Walk a old n s (if b then x else y).0
@@ -119,9 +125,10 @@ module _ (a : Actor) (old k : Parts) (t : ℕ) (own : a.task ≡ Some t) (fresh 
   locks_known None m deadline e = same
   locks_known (Some mutex) m deadline e = locks_owned mutex.owner m deadline mutex e refl
 
-  pub locks : (m deadline : ℕ) → Walk a old 1 64 (lock a.cpu t m deadline k).0
+  pub locks : (x : Hart) → Makes a old 36 x → (m deadline : ℕ) → Walk a old 1 64 (lock a.cpu t m deadline k).0
   unfolding lock
-  locks m deadline = locks_known (slice_get k.mutexes m) m deadline refl
+  locks x call m deadline =
+      notifies_refused a old 1 64 t Errnos.Deadlock Deadlock k (lock_known (slice_get k.mutexes m) a.cpu t m deadline k) own (by_deadlock x (inl call)) fresh (lock_rests t m k (slice_get k.mutexes m) a.cpu deadline) (locks_known (slice_get k.mutexes m) m deadline refl)
 
   tries_owned : (o : Option ℕ) (m : ℕ) (mutex : Mutex) → slice_get k.mutexes m ≡ Some mutex → mutex.owner ≡ o → Walk a old 1 64 (try_owned o t m mutex k).0
   tries_owned None m mutex e its = free_takes m mutex e its
@@ -131,9 +138,9 @@ module _ (a : Actor) (old k : Parts) (t : ℕ) (own : a.task ≡ Some t) (fresh 
   tries_known None m e = same
   tries_known (Some mutex) m e = tries_owned mutex.owner m mutex e refl
 
-  pub tries : (m : ℕ) → Walk a old 1 64 (try_lock t m k).0
+  pub tries : (x : Hart) → Makes a old 37 x → (m : ℕ) → Walk a old 1 64 (try_lock t m k).0
   unfolding try_lock
-  tries m = tries_known (slice_get k.mutexes m) m refl
+  tries x call m = notifies_refused a old 1 64 t Errnos.Deadlock Deadlock k (try_known (slice_get k.mutexes m) t m k) own (by_deadlock x (inr call)) fresh (try_rests t m k (slice_get k.mutexes m)) (tries_known (slice_get k.mutexes m) m refl)
 
   -- ---- an unlock
   unlocks_if : (b : Bool) (m : ℕ) (mutex : Mutex) → slice_get k.mutexes m ≡ Some mutex → mutex.owner ≡ Some t → Walk a old 1 64 (if b then pass_on m k else on_mutex m (held_by t (mutex.count - 1)) k)
@@ -148,6 +155,6 @@ module _ (a : Actor) (old k : Parts) (t : ℕ) (own : a.task ≡ Some t) (fresh 
   unlocks_known None m e = same
   unlocks_known (Some mutex) m e = either a old (is_number mutex.owner t) _ _ (λ its. unlocks_once m mutex e (boosts-is mutex.owner t its)) (λ other. same)
 
-  pub unlocks : (m : ℕ) → Walk a old 1 64 (unlock t m k).0
+  pub unlocks : (x : Hart) → Makes a old 38 x → (m : ℕ) → Walk a old 1 64 (unlock t m k).0
   unfolding unlock
-  unlocks m = unlocks_known (slice_get k.mutexes m) m refl
+  unlocks x call m = notifies_refused a old 1 64 t NotPermitted NotOwner k (unlock_known (slice_get k.mutexes m) t m k) own (by_unlock x call) fresh (unlock_rests t m k (slice_get k.mutexes m)) (unlocks_known (slice_get k.mutexes m) m refl)

@@ -1,6 +1,6 @@
 -- One lemma a row: the row is a walk.
 use Rattle.std.proofs.Common.{◌≡◌, ℕ, ◌+◌, ◌*◌, ◌<◌, ◌≤◌, List, [], ◌∷◌, Bool, true, false, Option, Some, None, length, refl, ap, sym, ◌∙◌, ◌⊎◌, inl, inr, arith}
-use Rattle.std.specs.Prelude.{slice_get, option_map, ◌==◌, ◌&&◌, not, if◌then◌else◌}
+use Rattle.std.specs.Prelude.{◌-◌, slice_get, option_map, ◌==◌, ◌&&◌, ◌||◌, nat_le, not, if◌then◌else◌}
 use Rattle.std.proofs.lemmas.Bool.Decides.{nat_tests}
 use Rattle.evm_lines.specs.Lines.{has_line, least_line}
 use Rattle.evm_lines.specs.declared.TheConstants.{LINES}
@@ -14,10 +14,12 @@ use Rattle.evm_exec.specs.declared.outcome.Effect.{Effect}
 use Rattle.evm_exec.specs.declared.outcome.Effect.TheVariants.{Next, Load, Store, Call, Break as Breaks, Misaligned}
 use Rattle.evm_model.specs.Bounds.{STAMPS_PER_EVENT}
 use Rattle.evm_model.specs.Commands.{set_bits, on_number, is_set, set_breakpoint, unset_breakpoint}
+use Rattle.evm_model.specs.Devices.{Accessed, raise_line, raise_by_ticks, tick_devices}
 use Rattle.evm_model.specs.Harts.{set_register, advance}
 use Rattle.evm_model.specs.Instructions.{fault, stop, finish, finish_load, finish_store, execute, execute_inst, execute_word}
 use Rattle.evm_model.specs.Memory.{fetch, read, write}
 use Rattle.evm_model.specs.Actions.{action_at, receive_line}
+use Rattle.evm_model.specs.Notices.{notify}
 use Rattle.evm_model.specs.Pipes.{Pipe, raise, is_oob_line, stage_by, stage_of, receive}
 use Rattle.evm_model.specs.declared.action.Action.{Action}
 use Rattle.evm_model.specs.declared.stage.Stage.{Stage}
@@ -25,24 +27,30 @@ use Rattle.evm_model.specs.declared.stage.Stage.TheVariants.{OutOfBand}
 use Rattle.evm_model.specs.Refusals.{board_refusal}
 use Rattle.evm_model.specs.Rows.{run, step_hart, step_current, step_wire, step_pipe, step_processor, step, single_step, row}
 use Rattle.evm_model.specs.Settle.{current, current_of, is_oob, run_best, settle_oob_pipe, settle_oob, play_in_band_pipe, turn_in_band, settle_in_band, settle, nudge_pipe, nudge, settle_and_nudge, wants_nudge, play_oob_lines}
-use Rattle.evm_model.specs.State.{Board, Memory, Parts, on_hart, on_processor, on_pipe, on_parts}
+use Rattle.evm_model.specs.State.{Board, Parts, on_hart, on_processor, on_pipe, on_parts}
 use Rattle.evm_model.specs.Tasks.{demote}
 use Rattle.evm_model.specs.declared.event.Answer.{Answer}
 use Rattle.evm_model.specs.declared.event.Answer.TheVariants.{Stopped}
 use Rattle.evm_model.specs.Event.{Event}
 use Rattle.evm_model.specs.declared.fault.Fault.{Fault}
 use Rattle.evm_model.specs.declared.event.Event.TheVariants.{Step, Tick, Raise, Bell, Stop, Go, StepI, SetReg, SetPc, Poke, Break, Unbreak}
+use Rattle.evm_model.specs.declared.limits.TheConstants.{DEVICE_LIMIT, DEVICE_LINE}
+use Rattle.evm_model.specs.declared.notice.NoticeKind.TheVariants.{DemotedByFault}
 use Rattle.evm_model.specs.declared.processor.Processor.{Processor}
 use Rattle.evm_model.specs.declared.task.TaskState.TheVariants.{Faulted}
 use Rattle.evm_model.specs.declared.refusal.Refusal.TheVariants.{NoSuchLine}
 use Rattle.evm_model.proofs.Lists.{change-here}
 use Rattle.evm_walk.proofs.Calls.{walks_closely}
+use Rattle.evm_walk.proofs.Devices.{AreRaised, raises_line, MayTick, ticks_devices, effect_line}
+use Rattle.evm_walk.proofs.Notices.{notifies_demoted}
 use Rattle.evm_walk.proofs.Passing.{ends}
 use Rattle.evm_walk.proofs.Playing.{first_on, stamps_all, stamps_few, walks_oob_lines, walks_in_band_lines}
 use Rattle.evm_walk.proofs.Refused.{passes, is_line}
 use Rattle.evm_walk.proofs.Sets.{length-set, walk_pipes}
 use Rattle.evm_walk.proofs.Tasks.{demotes}
-use Rattle.evm_walk.proofs.Walk.{Actor, ArePipes, Untouched, unchanged, raises, receives, hart, marks, picks, moves, tells, clock, Walk, start, quietly, counted, slack, walk_if}
+use Rattle.evm_walk.proofs.Walk.{Actor, ArePipes, Untouched, unchanged, by_fault, raises, receives, hart, marks, picks, moves, tells, clock, Walk, start, quietly, counted, slack, walk_if}
+use Rattle.evm_ranks.specs.Boosts.{is_number}
+pub use Rattle.evm_walk.specs.Raising.{access_of, inst_access, word_access, hart_access, task_access, step_access, line_of, by_device, may_raise}
 
 -- ---- settling
 module _ (a : Actor) (old : Parts) (may : a.chooses ≡ true) where
@@ -116,11 +124,16 @@ abbrev pub word_calls : Option ℕ → Hart → Bool
 word_calls None x = false
 word_calls (Some word) x = inst_calls (decoded word) x
 
+-- the line of a device, if there is one, may be raised
+abbrev pub Touches : Actor → Option ℕ → Type 0
+Touches a o = (l : ℕ) → DEVICE_LINE ≤ l → o ≡ Some l → a.may 0 l ≡ true
+
 module _ (a : Actor) (old k : Parts) (t : ℕ) (own : a.task ≡ Some t) (fresh : Untouched old k) (w : Walk a old 0 0 k) where
-  pub faults : (f : Fault) → Walk a old 0 32 (fault a.cpu t f k)
-  faults f =
-      walk_if a old 0 32 (is_oob (Some t) k.tasks) (demote a.cpu t k) _
-      (λ oob. slack a old 0 0 1 32 _ (λ p. omega arith) (λ p. omega arith) (demotes a old 0 0 t k own (inl (ap length fresh.tasks)) w))
+  pub faults : a.faults ≡ true → (f : Fault) → Walk a old 0 32 (fault a.cpu t f k)
+  faults may f =
+      walk_if a old 0 32 (is_oob (Some t) k.tasks) (notify DemotedByFault t (demote a.cpu t k)) _
+      (λ oob. notifies_demoted a old 0 32 t DemotedByFault k own (by_fault may (ap (is_oob (Some t)) (sym fresh.tasks) ∙ oob)) fresh
+      (slack a old 0 0 1 32 _ (λ p. omega arith) (λ p. omega arith) (demotes a old 0 0 t k own (inl (ap length fresh.tasks)) w)))
       (λ e. slack a old 0 0 (0 + length k.mutexes) 32 _ (λ p. omega arith) (λ few. omega (arith, few.mutexes, ap length fresh.mutexes))
       (ends a old 0 t own 0 (Faulted f) k refl fresh.mutexes fresh.tasks w))
 
@@ -131,41 +144,50 @@ module _ (a : Actor) (old k : Parts) (t : ℕ) (own : a.task ≡ Some t) (fresh 
   goes_on : (r value : ℕ) (f : Hart → Hart) → ((x : Hart) → (f x).regs ≡ (set_register r value x).regs) → Walk a old 0 0 (on_hart t f k)
   goes_on r value f same = quietly a old 0 0 k _ (hart t r value f k own same (inr (ap length fresh.harts))) w
 
-module _ (a : Actor) (old : Parts) (t : ℕ) (own : a.task ≡ Some t) (b : Board) (fresh : Untouched old b.parts) (w : Walk a old 0 0 b.parts) where
+module _ (a : Actor) (old : Parts) (t : ℕ) (own : a.task ≡ Some t) (may_fault : a.faults ≡ true) (b : Board) (fresh : Untouched old b.parts) (w : Walk a old 0 0 b.parts) where
   faulted : (f : Fault) → Walk a old 1 65 (fault a.cpu t f b.parts)
-  faulted f = up a old b.parts t own fresh w 32 _ (omega arith) (faults a old b.parts t own fresh w f)
+  faulted f = up a old b.parts t own fresh w 32 _ (omega arith) (faults a old b.parts t own fresh w may_fault f)
 
   went : (r value : ℕ) (f : Hart → Hart) → ((x : Hart) → (f x).regs ≡ (set_register r value x).regs) → Walk a old 1 65 (on_hart t f b.parts)
   went r value f same = up a old b.parts t own fresh w 0 _ (omega arith) (goes_on a old b.parts t own fresh w r value f same)
 
-  loads : (o : Option (ℕ × Memory)) (op : LoadOp) (rd : ℕ) → Walk a old 1 65 (finish_load o op rd a.cpu t b).parts
-  loads None op rd = faulted _
-  loads (Some loaded) op rd = went rd (loaded_value op loaded.0) _ (λ x. refl)
+  -- .. and the line of a device
+  accesses : (o : Option ℕ) (r value : ℕ) (f : Hart → Hart) → AreRaised a o → ((x : Hart) → (f x).regs ≡ (set_register r value x).regs) → Walk a old 1 65 (raise_line o (on_hart t f b.parts))
+  accesses o r value f are same = slack a old 1 1 0 65 _ (λ p. omega arith) (λ p. omega arith) (raises_line a old 0 0 _ (goes_on a old b.parts t own fresh w r value f same) o are)
 
-  stores : (o : Option Memory) → Walk a old 1 65 (finish_store o a.cpu t b).parts
-  stores None = faulted _
-  stores (Some memory) = went 0 0 advance (λ x. refl)
+  loads : (o : Option Accessed) (op : LoadOp) (rd : ℕ) → AreRaised a (line_of o) → Walk a old 1 65 (finish_load o op rd a.cpu t b).parts
+  loads None op rd are = faulted _
+  loads (Some access) op rd are = accesses access.line rd (loaded_value op access.number) _ are (λ x. refl)
 
-  effects : (effect : Effect) → (is_call effect ≡ true → a.calls ≡ true) → Walk a old 1 65 (finish effect a.cpu t b).parts
+  stores : (o : Option Accessed) → AreRaised a (line_of o) → Walk a old 1 65 (finish_store o a.cpu t b).parts
+  stores None are = faulted _
+  stores (Some access) are = accesses access.line 0 0 advance are (λ x. refl)
+
+  effects : (effect : Effect) → (is_call effect ≡ true → a.calls ≡ true) → AreRaised a (line_of (access_of effect b.memory)) → Walk a old 1 65 (finish effect a.cpu t b).parts
   unfolding finish stop
-  effects (Next rd value pc) may = went rd value _ (λ x. refl)
-  effects (Load op rd address) may = loads (read address (width_of_load op) b.memory) op rd
-  effects (Store width address value) may = stores (write address width value b.memory)
-  effects Call may = walks_closely a old b.parts t own fresh w (may refl)
-  effects Breaks may = quietly a old 1 65 (on_hart t advance b.parts) _ (marks (λ p. record p { stopped = true }) (on_hart t advance b.parts) (λ p. refl)) (went 0 0 advance (λ x. refl))
-  effects Misaligned may = faulted _
+  effects (Next rd value pc) may are = went rd value _ (λ x. refl)
+  effects (Load op rd address) may are = loads (read address (width_of_load op) b.memory) op rd are
+  effects (Store width address value) may are = stores (write address width value b.memory) are
+  effects Call may are = walks_closely a old b.parts t own fresh w (may refl)
+  effects Breaks may are = quietly a old 1 65 (on_hart t advance b.parts) _ (marks (λ p. record p { stopped = true }) (on_hart t advance b.parts) (λ p. refl)) (went 0 0 advance (λ x. refl))
+  effects Misaligned may are = faulted _
 
-  insts : (o : Option Inst) (x : Hart) → (inst_calls o x ≡ true → a.calls ≡ true) → Walk a old 1 65 (execute_inst o x a.cpu t b).parts
-  insts None x may = faulted _
-  insts (Some inst) x may = effects (does inst x.regs x.pc) may
+  -- an access raises the line of a device
+  raised_by : (effect : Effect) → length b.memory.devices ≤ DEVICE_LIMIT → Touches a (line_of (access_of effect b.memory)) → AreRaised a (line_of (access_of effect b.memory))
+  raised_by effect few touches = let its = effect_line b.memory few effect in record { small = its.small; may = λ l e. touches l (its.least l e) e }
 
-  words : (o : Option ℕ) (x : Hart) → (word_calls o x ≡ true → a.calls ≡ true) → Walk a old 1 65 (execute_word o x a.cpu t b).parts
-  words None x may = faulted _
-  words (Some word) x may = insts (decoded word) x may
+  insts : (o : Option Inst) (x : Hart) → length b.memory.devices ≤ DEVICE_LIMIT → (inst_calls o x ≡ true → a.calls ≡ true) → Touches a (line_of (inst_access o x b.memory)) → Walk a old 1 65 (execute_inst o x a.cpu t b).parts
+  insts None x few may touches = faulted _
+  insts (Some inst) x few may touches = effects (does inst x.regs x.pc) may (raised_by (does inst x.regs x.pc) few touches)
 
-  pub executes : (x : Hart) → (word_calls (fetch x.pc b.memory) x ≡ true → a.calls ≡ true) → Walk a old 1 65 (execute x a.cpu t b).parts
+  words : (o : Option ℕ) (x : Hart) → length b.memory.devices ≤ DEVICE_LIMIT → (word_calls o x ≡ true → a.calls ≡ true) → Touches a (line_of (word_access o x b.memory)) → Walk a old 1 65 (execute_word o x a.cpu t b).parts
+  words None x few may touches = faulted _
+  words (Some word) x few may touches = insts (decoded word) x few may touches
+
+  pub executes : (x : Hart) → length b.memory.devices ≤ DEVICE_LIMIT → (word_calls (fetch x.pc b.memory) x ≡ true → a.calls ≡ true) → Touches a (line_of (word_access (fetch x.pc b.memory) x b.memory))
+      → Walk a old 1 65 (execute x a.cpu t b).parts
   unfolding execute
-  executes x may = words (fetch x.pc b.memory) x may
+  executes x few may touches = words (fetch x.pc b.memory) x few may touches
 
 -- ---- a Step
 -- a walk, after which the others may have been told
@@ -196,12 +218,16 @@ stops a old n s k w = quietly a old n s k _ (marks (λ p. record p { stopped = t
 -- what a step wants of who acts: the task that is current on the processor, unless a line is on its wire; and it calls where its instruction does
 pub record MaySteps (a : Actor) (b : Board) : Type 0 where
   pub chooses : a.chooses ≡ true
+  pub faults : a.faults ≡ true
   pub acts : (pipe : Pipe) → slice_get b.parts.pipes a.cpu ≡ Some pipe → least_line pipe.wire ≡ None → a.task ≡ current a.cpu b.parts
   pub calls : (t : ℕ) (x : Hart) → current a.cpu b.parts ≡ Some t → slice_get b.parts.harts t ≡ Some x → word_calls (fetch x.pc b.memory) x ≡ true → a.calls ≡ true
+  -- .. and it may raise the line of the device that its instruction touches
+  pub devices : length b.memory.devices ≤ DEVICE_LIMIT
+  pub touches : (t : ℕ) (x : Hart) → current a.cpu b.parts ≡ Some t → slice_get b.parts.harts t ≡ Some x → Touches a (line_of (word_access (fetch x.pc b.memory) x b.memory))
 
 module _ (a : Actor) (old : Parts) (b : Board) (may : MaySteps a b) (fresh : Untouched old b.parts) (same : current a.cpu old ≡ current a.cpu b.parts) (w : Walk a old 0 0 b.parts) where
-  runs : (x : Hart) (t : ℕ) → a.task ≡ Some t → current a.cpu b.parts ≡ Some t → (word_calls (fetch x.pc b.memory) x ≡ true → a.calls ≡ true) → Stepped a old (run x a.cpu t b).0.parts
-  runs x t own now calls =
+  runs : (x : Hart) (t : ℕ) → a.task ≡ Some t → current a.cpu b.parts ≡ Some t → slice_get b.parts.harts t ≡ Some x → Stepped a old (run x a.cpu t b).0.parts
+  runs x t own now has =
       let skips : Processor → Processor = λ p. record p { skip = false } in
       let passed : Board = on_parts (on_processor a.cpu skips) b in
       let done : Parts = (execute x a.cpu t passed).parts in
@@ -211,6 +237,7 @@ module _ (a : Actor) (old : Parts) (b : Board) (may : MaySteps a b) (fresh : Unt
         harts = fresh.harts;
         mutexes = fresh.mutexes;
         console = fresh.console;
+        notices = fresh.notices;
         ticks = fresh.ticks;
         semaphores = fresh.semaphores;
         events = fresh.events;
@@ -218,12 +245,12 @@ module _ (a : Actor) (old : Parts) (b : Board) (may : MaySteps a b) (fresh : Unt
         timers = fresh.timers;
         actions = fresh.actions;
       } in
-      finishes a old (Some t) 1 65 done may.chooses (omega arith) (omega arith) (same ∙ now) (executes a old t own passed begins begun x calls)
+      finishes a old (Some t) 1 65 done may.chooses (omega arith) (omega arith) (same ∙ now) (executes a old t own may.faults passed begins begun x may.devices (may.calls t x now has) (may.touches t x now has))
 
   hart_steps : (o : Option Hart) (p : Processor) (t : ℕ) → a.task ≡ Some t → current a.cpu b.parts ≡ Some t → slice_get b.parts.harts t ≡ o → Stepped a old (step_hart o p a.cpu t b).0.parts
   hart_steps None p t own now has = stepped a old 0 0 b.parts (omega arith) (omega arith) w
   hart_steps (Some x) p t own now has =
-      either_steps a old (is_set b.breakpoints x.pc && not p.skip) _ (run x a.cpu t b) (stepped a old 0 0 _ (omega arith) (omega arith) (stops a old 0 0 b.parts w)) (runs x t own now (may.calls t x now has))
+      either_steps a old (is_set b.breakpoints x.pc && not p.skip) _ (run x a.cpu t b) (stepped a old 0 0 _ (omega arith) (omega arith) (stops a old 0 0 b.parts w)) (runs x t own now has)
 
   current_steps : (o : Option ℕ) (p : Processor) → a.task ≡ o → current a.cpu b.parts ≡ o → Stepped a old (step_current o p a.cpu b).0.parts
   current_steps None p own now = finishes a old None 0 0 b.parts may.chooses (omega arith) (omega arith) (same ∙ now) w
@@ -281,17 +308,8 @@ actor (SetReg c r value) = c
 actor (SetPc c pc) = c
 actor _ = 0
 
--- whether an event may raise line l on processor d
-abbrev pub may_raise : Event → ℕ → ℕ → Bool
-may_raise (Step c) d l = l == 1
-may_raise (StepI c) d l = l == 1
-may_raise Tick d l = l == 0
-may_raise (Raise c m) d l = c == d && m == l
-may_raise (Bell c m) d l = c == d && m == l
-may_raise _ d l = false
-
-abbrev pub acting : Event → Parts → Actor
-acting event k = record { cpu = actor event; task = current (actor event) k; may = may_raise event; chooses = true; calls = true }
+abbrev pub acting : Event → Board → Actor
+acting event b = record { cpu = actor event; task = current (actor event) b.parts; may = may_raise event b; chooses = true; calls = true; faults = true }
 
 -- no event counts more, which leaves one to spare
 abbrev pub MOVES : ℕ
@@ -309,6 +327,17 @@ bits_current c stopped skip k = ap current_of (change-here (λ (p : Processor). 
     same_bits None = refl
     same_bits (Some p) = refl
 
+-- the line of the instruction of the current task
+own_line : (c t l : ℕ) (x : Hart) (b : Board) → current c b.parts ≡ Some t → slice_get b.parts.harts t ≡ Some x → DEVICE_LINE ≤ l → line_of (word_access (fetch x.pc b.memory) x b.memory) ≡ Some l
+    → (l == 1 || by_device 0 l (is_number (line_of (step_access c b)) l)) ≡ true
+own_line c t l x b now has least e =
+    let here : step_access c b ≡ word_access (fetch x.pc b.memory) x b.memory = ap (λ o. task_access o b) now ∙ ap (λ o. hart_access o b.memory) has in
+    let line : line_of (step_access c b) ≡ Some l = ap line_of here ∙ e in
+    let other : (l == 1) ≡ false = grind (arith, nat_tests) in
+    let from : nat_le DEVICE_LINE l ≡ true = grind (arith, nat_tests) in
+    let itself : (l == l) ≡ true = grind (arith, nat_tests) in
+    rw (line, other, from, itself) refl
+
 set_number : (a : Actor) (o : Option ℕ) (k : Parts) (r value : ℕ) (f : Hart → Hart) → a.task ≡ o → ((x : Hart) → (f x).regs ≡ (set_register r value x).regs) → Walk a k 0 0 (on_number o f k)
 set_number a None k r value f own same = start
 set_number a (Some t) k r value f own same = goes_on a k k t own (unchanged k) start r value f same
@@ -320,6 +349,7 @@ set_bits_untouched c stopped skip k = record {
   harts = refl;
   mutexes = refl;
   console = refl;
+  notices = refl;
   ticks = refl;
   semaphores = refl;
   events = refl;
@@ -331,39 +361,58 @@ set_bits_untouched c stopped skip k = record {
 both_same : (c l : ℕ) → (c == c && l == l) ≡ true
 both_same c l = let one : (c == c) ≡ true = grind (arith, nat_tests) in let two : (l == l) ≡ true = grind (arith, nat_tests) in rw (one, two) refl
 
-raised : (event : Event) (c l : ℕ) (k : Parts) → actor event ≡ c → may_raise event c l ≡ true → l < LINES → Walk (acting event k) k 1 0 (on_pipe (actor event) (raise l) k)
-raised event c l k same may small = counted (acting event k) k 0 0 k _ 1 (moves 1 (raise l) k (λ are p e. raises l p small (rw same may))) start
+raised : (event : Event) (c l : ℕ) (b : Board) → actor event ≡ c → may_raise event b c l ≡ true → l < LINES → Walk (acting event b) b.parts 1 0 (on_pipe (actor event) (raise l) b.parts)
+raised event c l b same may small = counted (acting event b) b.parts 0 0 b.parts _ 1 (moves 1 (raise l) b.parts (λ are p e. raises l p small (rw same may))) start
 
-single : (c : ℕ) (b : Board) → Walk (acting (StepI c) b.parts) b.parts 66 2241 (single_step c b).parts
-unfolding single_step
-single c b =
-    let a : Actor = acting (StepI c) b.parts in
+single : (c : ℕ) (b : Board) → length b.memory.devices ≤ DEVICE_LIMIT → Walk (acting (StepI c) b) b.parts 66 2241 (single_step c b).parts
+unfolding single_step set_bits
+single c b few =
+    let a : Actor = acting (StepI c) b in
     let freed : Board = on_parts (set_bits false true c) b in
     let begun : Walk a b.parts 0 0 freed.parts = bits a b.parts 0 0 b.parts false true start in
     let same : current c b.parts ≡ current c freed.parts = sym (bits_current c false true b.parts) in
     bits a b.parts 66 2241 (step c freed).0.parts true false
     (stepped_walk a b.parts (step c freed).0.parts (λ d. refl)
-    (steps a b.parts freed (record { chooses = refl; acts = λ pipe e wire. same; calls = λ t x now has e. refl }) (set_bits_untouched c false true b.parts) same begun))
+    (steps a b.parts freed
+    (record { chooses = refl; faults = refl; acts = λ pipe e wire. same; calls = λ t x now has e. refl; devices = few; touches = λ t x now has l least e. own_line c t l x b (same ∙ now) has least e })
+    (set_bits_untouched c false true b.parts) same begun))
+
+-- a tick of the devices
+ticks : (b : Board) → length b.memory.devices ≤ DEVICE_LIMIT → MayTick (acting Tick b) 0 b.memory.devices
+ticks b few = record {
+  few = omega (arith, few);
+  may = λ j device e raised.
+      let l : ℕ = DEVICE_LINE + (0 + j) in
+      let its : slice_get b.memory.devices (l - DEVICE_LINE) ≡ Some device = (let same : l - DEVICE_LINE ≡ j = omega arith in rw same e) in
+      let other : (l == 0) ≡ false = grind (arith, nat_tests) in
+      let from : nat_le DEVICE_LINE l ≡ true = grind (arith, nat_tests) in
+      rw (its, other, from) raised;
+}
 
 module _ (event : Event) (b : Board) where
   -- as much at most as an event may
-  most : (n s : ℕ) (x : Parts) → n ≤ MOVES → s ≤ STAMPS_PER_EVENT → Walk (acting event b.parts) b.parts n s x → Walk (acting event b.parts) b.parts MOVES STAMPS_PER_EVENT x
-  most n s x h g w = slack (acting event b.parts) b.parts n MOVES s STAMPS_PER_EVENT x (λ p. h) (λ p. g) w
+  most : (n s : ℕ) (x : Parts) → n ≤ MOVES → s ≤ STAMPS_PER_EVENT → Walk (acting event b) b.parts n s x → Walk (acting event b) b.parts MOVES STAMPS_PER_EVENT x
+  most n s x h g w = slack (acting event b) b.parts n MOVES s STAMPS_PER_EVENT x (λ p. h) (λ p. g) w
 
-pub row_walks : (event : Event) (b : Board) → board_refusal event b ≡ None → Walk (acting event b.parts) b.parts MOVES STAMPS_PER_EVENT (row event b).0.parts
-unfolding row set_breakpoint unset_breakpoint
-row_walks (Step c) b e =
+pub row_walks : (event : Event) (b : Board) → length b.memory.devices ≤ DEVICE_LIMIT → board_refusal event b ≡ None → Walk (acting event b) b.parts MOVES STAMPS_PER_EVENT (row event b).0.parts
+unfolding row tick_devices set_breakpoint unset_breakpoint
+row_walks (Step c) b few e =
     most (Step c) b 66 2241 _ (omega arith) (omega arith)
-    (stepped_walk (acting (Step c) b.parts) b.parts (step c b).0.parts (λ d. refl)
-    (steps (acting (Step c) b.parts) b.parts b (record { chooses = refl; acts = λ pipe f wire. refl; calls = λ t x now has g. refl }) (unchanged b.parts) refl start))
-row_walks Tick b e = most Tick b 1 0 _ (omega arith) (omega arith) (counted (acting Tick b.parts) b.parts 0 0 b.parts _ 1 (clock b.parts (λ d. refl)) start)
-row_walks (Raise c l) b e = most (Raise c l) b 1 0 _ (omega arith) (omega arith) (raised (Raise c l) c l b.parts refl (both_same c l) (is_line l (passes (Raise c l) b NoSuchLine e)))
-row_walks (Bell c l) b e = most (Bell c l) b 1 0 _ (omega arith) (omega arith) (raised (Bell c l) c l b.parts refl (both_same c l) (is_line l (passes (Bell c l) b NoSuchLine e)))
-row_walks (Stop c) b e = most (Stop c) b 0 0 _ (omega arith) (omega arith) (stops (acting (Stop c) b.parts) b.parts 0 0 b.parts start)
-row_walks (Go c) b e = most (Go c) b 0 0 _ (omega arith) (omega arith) (bits (acting (Go c) b.parts) b.parts 0 0 b.parts false true start)
-row_walks (StepI c) b e = most (StepI c) b 66 2241 _ (omega arith) (omega arith) (single c b)
-row_walks (SetReg c r value) b e = most (SetReg c r value) b 0 0 _ (omega arith) (omega arith) (set_number (acting (SetReg c r value) b.parts) (current c b.parts) b.parts r value _ refl (λ x. refl))
-row_walks (SetPc c pc) b e = most (SetPc c pc) b 0 0 _ (omega arith) (omega arith) (set_number (acting (SetPc c pc) b.parts) (current c b.parts) b.parts 0 0 _ refl (λ x. refl))
-row_walks (Poke address bytes) b e = most (Poke address bytes) b 0 0 _ (omega arith) (omega arith) start
-row_walks (Break address) b e = most (Break address) b 0 0 _ (omega arith) (omega arith) start
-row_walks (Unbreak address) b e = most (Unbreak address) b 0 0 _ (omega arith) (omega arith) start
+    (stepped_walk (acting (Step c) b) b.parts (step c b).0.parts (λ d. refl)
+    (steps (acting (Step c) b) b.parts b
+    (record { chooses = refl; faults = refl; acts = λ pipe f wire. refl; calls = λ t x now has g. refl; devices = few; touches = λ t x now has l least g. own_line c t l x b now has least g })
+    (unchanged b.parts) refl start))
+row_walks Tick b few e =
+    let a : Actor = acting Tick b in
+    most Tick b (0 + length b.memory.devices + 1) 0 _ (omega (arith, few)) (omega arith)
+    (counted a b.parts (0 + length b.memory.devices) 0 _ _ 1 (clock (raise_by_ticks 0 b.memory.devices b.parts) (λ d. refl)) (ticks_devices a b.parts 0 0 0 b.memory.devices b.parts (ticks b few) start))
+row_walks (Raise c l) b few e = most (Raise c l) b 1 0 _ (omega arith) (omega arith) (raised (Raise c l) c l b refl (both_same c l) (is_line l (passes (Raise c l) b NoSuchLine e)))
+row_walks (Bell c l) b few e = most (Bell c l) b 1 0 _ (omega arith) (omega arith) (raised (Bell c l) c l b refl (both_same c l) (is_line l (passes (Bell c l) b NoSuchLine e)))
+row_walks (Stop c) b few e = most (Stop c) b 0 0 _ (omega arith) (omega arith) (stops (acting (Stop c) b) b.parts 0 0 b.parts start)
+row_walks (Go c) b few e = most (Go c) b 0 0 _ (omega arith) (omega arith) (bits (acting (Go c) b) b.parts 0 0 b.parts false true start)
+row_walks (StepI c) b few e = most (StepI c) b 66 2241 _ (omega arith) (omega arith) (single c b few)
+row_walks (SetReg c r value) b few e = most (SetReg c r value) b 0 0 _ (omega arith) (omega arith) (set_number (acting (SetReg c r value) b) (current c b.parts) b.parts r value _ refl (λ x. refl))
+row_walks (SetPc c pc) b few e = most (SetPc c pc) b 0 0 _ (omega arith) (omega arith) (set_number (acting (SetPc c pc) b) (current c b.parts) b.parts 0 0 _ refl (λ x. refl))
+row_walks (Poke address bytes) b few e = most (Poke address bytes) b 0 0 _ (omega arith) (omega arith) start
+row_walks (Break address) b few e = most (Break address) b 0 0 _ (omega arith) (omega arith) start
+row_walks (Unbreak address) b few e = most (Unbreak address) b 0 0 _ (omega arith) (omega arith) start

@@ -6,6 +6,7 @@ use Rattle.evm_lines.specs.declared.TheConstants.{LINES}
 use Rattle.evm_exec.specs.Registers.{register_of, with_register}
 use Rattle.evm_exec.specs.declared.hart.Hart.{Hart}
 use Rattle.evm_model.specs.Actions.{action_at}
+use Rattle.evm_model.specs.Calls.{call_number, call_stage}
 use Rattle.evm_model.specs.Commands.{tick}
 use Rattle.evm_model.specs.Errnos.{refusal_answer}
 use Rattle.evm_model.specs.Events.{bound}
@@ -14,6 +15,7 @@ use Rattle.evm_model.specs.Harts.{A7, argument, spawned_hart}
 use Rattle.evm_model.specs.InBandCalls.{last_bytes}
 use Rattle.evm_model.specs.Lists.{each}
 use Rattle.evm_model.specs.Mutexes.{free_mutex, owner, held_by}
+use Rattle.evm_model.specs.Notices.{asks_for, keep}
 use Rattle.evm_model.specs.OobCalls.{is_scheduled_task}
 use Rattle.evm_model.specs.Pipes.{Pipe, raise, arrive, receive, play, set_stall}
 use Rattle.evm_model.specs.Policies.{policy_of}
@@ -25,10 +27,13 @@ use Rattle.evm_model.specs.Timers.{idle_timer, set_timer, taken, is_due_timer, e
 use Rattle.evm_model.specs.Waits.{wake, begin_wait}
 use Rattle.evm_model.specs.declared.action.Action.{Action}
 use Rattle.evm_model.specs.declared.action.Action.TheVariants.{Puts, Posts}
+use Rattle.evm_model.specs.declared.call.Call.{Call}
 use Rattle.evm_model.specs.declared.errno.Errno.TheVariants.{TimedOut}
 use Rattle.evm_model.specs.declared.limits.TheConstants.{EVENT_LIMIT, FLAGS_LIMIT, FLAGS_WORD_LIMIT, MUTEX_LIMIT, SEMAPHORE_COUNT_LIMIT, SEMAPHORE_LIMIT, TASK_LIMIT, TIMER_LIMIT, TIMER_SPAN_LIMIT}
 use Rattle.evm_model.specs.declared.mutex.Mutex.{Mutex}
 use Rattle.evm_model.specs.declared.mutex.Protocol.{Protocol}
+use Rattle.evm_model.specs.declared.notice.NoticeKind.{NoticeKind}
+use Rattle.evm_model.specs.declared.notice.NoticeKind.TheVariants.{DemotedByCall, DemotedByFault, Deadlock, NotOwner}
 use Rattle.evm_model.specs.declared.processor.Processor.{Processor}
 use Rattle.evm_model.specs.declared.stage.Stage.{Stage}
 use Rattle.evm_model.specs.declared.stage.Stage.TheVariants.{OutOfBand, InBand}
@@ -50,8 +55,9 @@ pub record Actor : Type 0 where
   pub may : ℕ → ℕ → Bool
   -- whether the processor may choose another task
   pub chooses : Bool
-  -- whether the task calls a kernel
+  -- whether the task calls a kernel, and whether its instruction may fault
   pub calls : Bool
+  pub faults : Bool
 
 -- a change of one pipe, and by how much it raises a count at most
 pub data PipeMove (may : ℕ → Bool) : ℕ → Pipe → Pipe → Type 0 where
@@ -70,6 +76,7 @@ pub record Untouched (old k : Parts) : Type 0 where
   pub harts : k.harts ≡ old.harts
   pub mutexes : k.mutexes ≡ old.mutexes
   pub console : k.console ≡ old.console
+  pub notices : k.notices ≡ old.notices
   pub ticks : k.ticks ≡ old.ticks
   pub semaphores : k.semaphores ≡ old.semaphores
   pub events : k.events ≡ old.events
@@ -83,6 +90,7 @@ unchanged k = record {
   harts = refl;
   mutexes = refl;
   console = refl;
+  notices = refl;
   ticks = refl;
   semaphores = refl;
   events = refl;
@@ -191,6 +199,15 @@ pub data WrittenBy (a : Actor) (old k : Parts) (f : ℕ) : Type 0 where
   by_call : (number : ℕ) (hart : Hart) → 45 ≤ number → number ≤ 46 → Makes a old number hart → f ≡ argument 0 hart → WrittenBy a old k f
   by_line : (l : ℕ) → action_at l k ≡ Posts f → WrittenBy a old k f
 
+-- ---- why the acting task t gets a notice
+pub data Noted (a : Actor) (old : Parts) (t : ℕ) : NoticeKind → Type 0 where
+  -- it was out-of-band, and makes a call of the in-band kernel, or its instruction faults
+  by_in_band : (call : Call) (hart : Hart) → Makes a old (call_number call) hart → call_stage call ≡ Some InBand → is_oob (Some t) old.tasks ≡ true → Noted a old t DemotedByCall
+  by_fault : a.faults ≡ true → is_oob (Some t) old.tasks ≡ true → Noted a old t DemotedByFault
+  -- it makes call 36 or 37, or call 38
+  by_deadlock : (hart : Hart) → Makes a old 36 hart ⊎ Makes a old 37 hart → Noted a old t Deadlock
+  by_unlock : (hart : Hart) → Makes a old 38 hart → Noted a old t NotOwner
+
 -- an action names a semaphore or a flag group that is there
 pub record IsAction (action : Action) (k : Parts) : Type 0 where
   pub puts : (s : ℕ) → action ≡ Puts s → s < length k.semaphores
@@ -228,6 +245,9 @@ pub data Does (a : Actor) (old : Parts) : ℕ → ℕ → Parts → Parts → Ty
   -- a mutex that is free or the acting task's; another task has it, once
   gives : (t u m : ℕ) (k : Parts) → a.task ≡ Some t → slice_get k.mutexes m ≡ slice_get old.mutexes m → owner k.mutexes m ≡ Some t → Does a old 0 0 k (on_mutex m (held_by u 1) k)
   holds : (i t m : ℕ) (f : Mutex → Mutex) (k : Parts) → a.task ≡ Some t → slice_get k.mutexes m ≡ slice_get old.mutexes m → ((x : Mutex) → slice_get k.mutexes m ≡ Some x → IsHeld t i x (f x)) → Does a old i 0 k (on_mutex m f k)
+  -- a notice that the acting task asked for, the first of the event
+  notes : (t : ℕ) (kind : NoticeKind) (k : Parts) → a.task ≡ Some t → Noted a old t kind → asks_for kind (slice_get old.tasks t) ≡ true → k.notices ≡ old.notices
+      → Does a old 0 0 k (record k { notices = keep (record { tick = k.ticks; task = t; kind = kind }) k.notices })
   -- the processor's bits and its in-band current task; its current task
   marks : (f : Processor → Processor) (k : Parts) → ((p : Processor) → (f p).current ≡ p.current) → Does a old 0 0 k (on_processor a.cpu f k)
   picks : (f : Processor → Processor) (k : Parts) → a.chooses ≡ true → Does a old 0 0 k (on_processor a.cpu f k)

@@ -5,14 +5,12 @@ ghost use Rattle.std.specs.Prelude.{◌≡◌, ◌≤◌, replicate};
 ghost use Rattle.evm_model.specs.Pipes.{idle_pipe};
 ghost use Rattle.evm_rules.specs.Within.{AreWithin};
 
-use super::console_of;
+use super::{Rings, rings_of};
 use crate::settle_and_nudge;
 use arrayvec::ArrayVec;
 use evm_exec::Hart;
 use evm_model::{Class, Mode, Processor, Profile, Stage, Task, TaskState};
-use evm_parts::{
-    Actions, Console, Events, Flags, Harts, Mutexes, Parts, Pipe, Semaphores, Tasks, Timers,
-};
+use evm_parts::{Actions, Events, Flags, Harts, Mutexes, Parts, Pipe, Semaphores, Tasks, Timers};
 use std::test::Fail;
 
 // A first-in-first-out task that is ready out-of-band.
@@ -37,7 +35,7 @@ fn running(task: u8) -> Processor {
 }
 
 // Processor 0 runs task 0; processor 1 runs task 2 of priority 20, and task 1 of priority 10 is ready behind it.
-fn two_processors(console: Console) -> Parts
+fn two_processors(rings: Rings) -> Parts
     ensures { result.pipes ≡ replicate 2 idle_pipe }
 {
     let mut tasks = Tasks::of_first(ready(0, 50, 0));
@@ -67,7 +65,8 @@ fn two_processors(console: Console) -> Parts
         flags: Flags::new(),
         timers: Timers::new(),
         actions: Actions::new(),
-        console,
+        console: rings.console,
+        notices: rings.notices,
     }
 }
 
@@ -83,10 +82,10 @@ fn wire(parts: &mut Parts, line: bool)
 }
 
 // The same, of which processor 1 may have line 1 on its wire, or be stalled out-of-band.
-fn parts_of(console: Console, line: bool, stalled: bool) -> Parts
+fn parts_of(rings: Rings, line: bool, stalled: bool) -> Parts
     ensures { AreWithin 1 result }
 {
-    let mut parts = two_processors(console);
+    let mut parts = two_processors(rings);
     wire(&mut parts, line);
     parts.set_stall(1, Stage::OutOfBand, stalled);
     parts
@@ -132,7 +131,7 @@ fn line_1(parts: &Parts) -> Option<(bool, u64, u64)> {
 
 #[test]
 fn a_better_task_is_told_by_line_1(rt: HostRuntime) -> Result<(), Fail> {
-    let mut parts = parts_of(console_of(rt.alloc())?, false, false);
+    let mut parts = parts_of(rings_of(rt.alloc())?, false, false);
     assert!(rt; parts.stamps <= 3);
     assert_eq!(rt; parts.ticks, 0);
     betters(&mut parts);
@@ -147,7 +146,7 @@ fn a_better_task_is_told_by_line_1(rt: HostRuntime) -> Result<(), Fail> {
 
 #[test]
 fn a_stalled_processor_is_not_told(rt: HostRuntime) -> Result<(), Fail> {
-    let mut parts = parts_of(console_of(rt.alloc())?, false, true);
+    let mut parts = parts_of(rings_of(rt.alloc())?, false, true);
     assert!(rt; parts.stamps <= 3);
     assert_eq!(rt; parts.ticks, 0);
     betters(&mut parts);
@@ -163,7 +162,7 @@ fn a_stalled_processor_is_not_told(rt: HostRuntime) -> Result<(), Fail> {
 
 #[test]
 fn a_processor_is_told_once(rt: HostRuntime) -> Result<(), Fail> {
-    let mut parts = parts_of(console_of(rt.alloc())?, true, false);
+    let mut parts = parts_of(rings_of(rt.alloc())?, true, false);
     assert!(rt; parts.stamps <= 3);
     assert_eq!(rt; parts.ticks, 0);
     betters(&mut parts);
