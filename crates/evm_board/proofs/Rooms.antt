@@ -8,6 +8,7 @@ use Rattle.evm_model.specs.Instructions.{fault}
 use Rattle.evm_model.specs.Actions.{action_at, receive_line}
 use Rattle.evm_model.specs.Pipes.{stage_of}
 use Rattle.evm_model.specs.State.{Parts}
+use Rattle.evm_model.specs.Tasks.{demote, restamp, set_state}
 use Rattle.evm_model.specs.declared.fault.Fault.{Fault}
 use Rattle.evm_model.specs.declared.limits.TheConstants.{PROCESSOR_LIMIT}
 use Rattle.evm_walk.proofs.Calls.{walks_call}
@@ -21,7 +22,7 @@ use Rattle.evm_walk.proofs.Counted.{PipesUpTo-more}
 
 -- task t acts on processor c: it raises and chooses nothing
 abbrev acts : ℕ → ℕ → Actor
-acts c t = record { cpu = c; task = Some t; may = λ d l. false; chooses = false; calls = true }
+acts c t = record { cpu = c; task = Some t; may = λ d l. false; chooses = false; calls = true; faults = true }
 
 -- a walk that counts so much
 within-walk : (a : Actor) (n s b : ℕ) (k new : Parts) → Walk a k n s new → AreWithin b k → AreWithin (b + n) new
@@ -31,7 +32,7 @@ within-walk a n s b k new v w =
 
 -- a fault before its processor settles
 walks-fault : (c t : ℕ) (f : Fault) (k : Parts) → Walk (acts c t) k 0 32 (fault c t f k)
-walks-fault c t f k = faults (acts c t) k k t refl (unchanged k) start f
+walks-fault c t f k = faults (acts c t) k k t refl (unchanged k) start refl f
 
 pub room-fault : (c t : ℕ) (f : Fault) (k : Parts) → AreFew k → HasRoom STAMPS_PER_EVENT k → AreWithin (COUNT_LIMIT - PER_SETTLING) (fault c t f k)
 room-fault c t f k few h =
@@ -64,6 +65,7 @@ room-asked k h = record {
   holds = h.holds;
   clock = h.clock;
   timers = h.timers;
+  notices = h.notices;
   harts = h.harts;
 }
 
@@ -76,6 +78,11 @@ clock-fault c t f k h = clock-walk c t 0 32 k _ (walks-fault c t f k) h.clock
 
 pub clock-call : (c t : ℕ) (k : Parts) → HasRoom STAMPS_PER_EVENT k → (call c t k).ticks ≤ COUNT_LIMIT
 clock-call c t k h = clock-walk c t 1 PER_CALL k _ (walks c t k) h.clock
+
+-- a demotion makes no notice by itself
+pub notices-demote : (c t : ℕ) (k : Parts) → k.notices.total ≤ COUNT_LIMIT → (demote c t k).notices.total ≤ COUNT_LIMIT
+unfolding demote restamp set_state
+notices-demote c t k h = h
 
 pub ruleset fault_stamps = (room-fault, stamps-fault, stamps-faulting, clock-fault)
 
@@ -115,7 +122,7 @@ room-tick k h = PipesUpTo-more (COUNT_LIMIT - STAMPS_PER_EVENT) (COUNT_LIMIT - P
 -- the debugger's bits are no count, and no lock
 pub room-bits : (c : ℕ) (stopped skip : Bool) (k : Parts) → HasRoom STAMPS_PER_EVENT k → HasRoom STAMPS_PER_EVENT (set_bits stopped skip c k)
 unfolding set_bits
-room-bits c stopped skip k h = record { stamps = h.stamps; counts = h.counts; holds = h.holds; clock = h.clock; timers = h.timers; harts = h.harts }
+room-bits c stopped skip k h = record { stamps = h.stamps; counts = h.counts; holds = h.holds; clock = h.clock; timers = h.timers; notices = h.notices; harts = h.harts }
 
 -- the rules that hold between events say how many tasks and mutexes there may be, and the room how many timers
 pub few-parts : (k : Parts) → Good k → HasRoom STAMPS_PER_EVENT k → AreFew k

@@ -1,3 +1,5 @@
+pub mod Access
 pub mod Room
 pub mod Steps
 pub mod Stops
+pub mod Ticks

@@ -3,21 +3,22 @@ ghost use Rattle.evm_model.specs.Commands.{is_set, set_breakpoint, unset_breakpo
 ghost use Rattle.evm_model.specs.Refusals.{no_slot};
 
 use crate::memory::Memory;
+use evm_dev::Device;
 use evm_quiet::{Breakpoints, Slots};
 use evm_settle::Parts;
 use std::marker::Model;
 
 /// What events change.
 #[derive(Debug, Drop)]
-pub struct Board {
-    pub memory: Memory,
+pub struct Board<D: Device> {
+    pub memory: Memory<D>,
     pub breakpoints: Breakpoints,
     pub parts: Parts,
     // which words were decoded: it changes no answer
     pub slots: Slots,
 }
 
-impl Model for Board {
+impl<D: Device> Model for Board<D> {
     ghost use Rattle.evm_model.specs.State as model;
 
     ghost Value = { model.Board };
@@ -25,7 +26,7 @@ impl Model for Board {
     ghost view = { λ b. record { memory = b.memory; breakpoints = b.breakpoints; parts = b.parts } };
 }
 
-impl Board {
+impl<D: Device> Board<D> {
     /// Whether a breakpoint is set at an address.
     pub fn is_breakpoint(&self, address: u64) -> bool
         ensures { result ≡ is_set self.now.breakpoints address }

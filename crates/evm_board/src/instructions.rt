@@ -1,6 +1,5 @@
-ghost use Rattle.std.specs.Prelude.{◌≡◌, Some, false};
-ghost use Rattle.evm_exec.specs.declared.outcome.Effect.TheVariants as effects;
-ghost use Rattle.evm_model.specs.Bounds.{PER_CALL, STAMPS_PER_EVENT, HasRoom, HasStamps};
+ghost use Rattle.std.specs.Prelude.{◌≡◌, ◌≤◌, Some, false};
+ghost use Rattle.evm_model.specs.Bounds.{COUNT_LIMIT, PER_CALL, STAMPS_PER_EVENT, HasRoom, HasStamps};
 ghost use Rattle.evm_model.specs.Calls.{call};
 ghost use Rattle.evm_model.specs.Instructions.{fault, stop, finish};
 ghost use Rattle.evm_model.specs.Settle.{settle_and_nudge};
@@ -10,30 +9,30 @@ ghost use Rattle.evm_board.specs.Stops.{follow};
 ghost use Rattle.evm_walk.specs.Few.{AreFew};
 
 use crate::board::Board;
-use crate::quiet::{advance_quietly, load_quietly, stop_quietly};
+use crate::quiet::stop_quietly;
 use evm_calls::call::call;
-use evm_exec::{load_width, loaded};
-use evm_isa::{LoadOp, Register};
-use evm_model::{Answer, Fault, TaskState};
+use evm_dev::Device;
+use evm_model::{Answer, Fault, NoticeKind, TaskState};
 use evm_quiet::Stop;
-use evm_ram::Width;
 use evm_settle::{Parts, settle_and_nudge};
 
-// A fault sends an out-of-band task in-band, and ends another.
+// A fault sends an out-of-band task in-band, with a notice, and ends another.
 fn fault(parts: &mut Parts, c: u8, t: u8, reason: Fault)
-    requires { HasStamps PER_CALL parts.old }
+    requires stamps { HasStamps PER_CALL parts.old }
+    requires notices { parts.old.notices.total ≤ COUNT_LIMIT }
     ensures { parts.new ≡ fault c t reason parts.old }
 {
     if parts.tasks.is_oob(Some(t)) {
         parts.demote(c, t);
+        parts.notify(NoticeKind::DemotedByFault, t);
     } else {
         parts.end_task(c, t, TaskState::Faulted(reason));
     }
 }
 
-// A task's instruction faults, and its processor settles.
+/// A task's instruction faults, and its processor settles.
 #[tactic(auto, using(crate::proofs::Rooms::fault_stamps))]
-fn fault_and_settle(parts: &mut Parts, c: u8, t: u8, reason: Fault)
+pub(crate) fn fault_and_settle(parts: &mut Parts, c: u8, t: u8, reason: Fault)
     requires room { HasRoom STAMPS_PER_EVENT parts.old }
     requires few { AreFew parts.old }
     ensures { parts.new ≡ settle_and_nudge (Some t) c (fault c t reason parts.old) }
@@ -61,31 +60,7 @@ pub(crate) fn stop(parts: &mut Parts, c: u8)
     parts.stop(c);
 }
 
-impl Board {
-    // A load that isn't of RAM alone.
-    #[tactic(auto, unfolding(evm_model::specs::Instructions::finish))]
-    fn finish_load(&mut self, c: u8, t: u8, op: LoadOp, rd: Register, address: u64)
-        requires { IsRunning false c t self.old }
-        ensures { self.new ≡ on_parts (settle_and_nudge (Some t) c) (finish (effects.Load op rd address) c t self.old) }
-    {
-        match self.memory.read(address, load_width(op)) {
-            None => fault_and_settle(&mut self.parts, c, t, Fault::Load),
-            Some(number) => load_quietly(&mut self.parts, c, t, rd, loaded(op, number)),
-        }
-    }
-
-    // A store that isn't to RAM alone.
-    #[tactic(auto, unfolding(evm_model::specs::Instructions::finish))]
-    fn finish_store(&mut self, c: u8, t: u8, width: Width, address: u64, value: u64)
-        requires { IsRunning false c t self.old }
-        ensures { self.new ≡ on_parts (settle_and_nudge (Some t) c) (finish (effects.Store width address value) c t self.old) }
-    {
-        match self.memory.write(address, width, value) {
-            None => fault_and_settle(&mut self.parts, c, t, Fault::Store),
-            Some(()) => advance_quietly(&mut self.parts, c, t),
-        }
-    }
-
+impl<D: Device> Board<D> {
     /// Goes on where a processor's run stopped, and answers as that Step does. Here alone is told what follows each reason.
     #[tactic(auto, unfolding(evm_model::specs::Instructions::finish))]
     pub(crate) fn follow(&mut self, c: u8, t: u8, why: Stop) -> Answer

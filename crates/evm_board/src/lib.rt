@@ -2,6 +2,9 @@
 //! `Board::refusal` why one is refused.
 #![tactic(auto)]
 
+mod access;
+mod accessing;
+mod attaching;
 mod board;
 mod commands;
 mod instructions;
@@ -12,11 +15,15 @@ mod refusals;
 mod row;
 mod step;
 mod stepping;
+mod ticking;
 
+pub use access::Access;
 pub use board::Board;
+pub use evm_bus::Devices;
 pub use evm_quiet::{Breakpoints, Slots};
 pub use evm_settle::{
-    Actions, Console, Events, Flags, Harts, Mutexes, Parts, Pipe, Semaphores, Tasks, Timers,
+    Actions, Console, Events, Flags, Harts, Mutexes, Notices, Parts, Pipe, Semaphores, Tasks,
+    Timers,
 };
 pub use memory::Memory;
 pub use stepping::Made;

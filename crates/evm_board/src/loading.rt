@@ -6,6 +6,7 @@ ghost use Rattle.evm_board.specs.Room.{passes_ram};
 
 use crate::board::Board;
 use crate::memory::Memory;
+use evm_dev::Device;
 use evm_image::{Image, Segment};
 use evm_ram::BASE;
 
@@ -17,7 +18,7 @@ fn passes_ram(size: u64, segment: &Segment) -> bool
     segment.memsz() != 0 && u128::from(BASE) + u128::from(size) < end
 }
 
-impl Memory {
+impl<D: Device> Memory<D> {
     /// RAM has an image's bytes, and zeros elsewhere.
     fn load(&mut self, image: &Image)
         requires { list_any (passes_ram (length self.old.ram)) image.now.segments ≡ false }
@@ -30,7 +31,7 @@ impl Memory {
     }
 }
 
-impl Board {
+impl<D: Device> Board<D> {
     /// Whether a byte of an image's segments lies past RAM.
     pub fn lacks_room(&self, image: &Image) -> bool
         ensures { result ≡ list_any (passes_ram (length self.now.memory.ram)) image.now.segments }

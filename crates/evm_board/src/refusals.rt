@@ -4,6 +4,7 @@ ghost use Rattle.evm_model.specs.Event.{event_lent};
 ghost use Rattle.evm_model.specs.Refusals.{board_refusal, no_such_cpu, no_such_line, not_stopped, no_task, bad_register, misaligned, bad_bytes, bad_place, no_slot};
 
 use crate::board::Board;
+use evm_dev::Device;
 use evm_exec::REGISTERS;
 use evm_lines::LINES;
 use evm_model::{BREAKPOINT_LIMIT, Block, Event, POKE_LIMIT, Refusal};
@@ -20,7 +21,7 @@ fn is_bad_register(r: u8) -> bool
     r == 0 || r >= REGISTERS
 }
 
-impl Board {
+impl<D: Device> Board<D> {
     fn lacks_cpu(&self, c: u8) -> bool
         ensures { result ≡ no_such_cpu c self.now }
     {

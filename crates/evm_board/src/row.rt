@@ -6,11 +6,12 @@ ghost use Rattle.evm_model.specs.Refusals.{board_refusal};
 ghost use Rattle.evm_model.specs.Rows.{row};
 
 use crate::board::Board;
-use crate::commands::{set_bits, set_pc, set_register, tick};
+use crate::commands::{set_bits, set_pc, set_register};
 use crate::instructions::stop;
+use evm_dev::Device;
 use evm_model::{Answer, Block, Event};
 
-impl Board {
+impl<D: Device> Board<D> {
     /// Does what an event that isn't refused does.
     #[tactic(auto, using(crate::proofs::Rooms::wider), unfolding(evm_model::specs::Rows::row, evm_model::specs::Refusals::board_refusal))]
     pub fn row(&mut self, event: &Event<&Block>) -> Answer
@@ -22,7 +23,7 @@ impl Board {
     {
         match event {
             Event::Step(c) => return self.step(*c),
-            Event::Tick => tick(&mut self.parts),
+            Event::Tick => self.tick(),
             Event::Raise(c, line) | Event::Bell(c, line) => self.parts.raise(*c, *line),
             Event::Stop(c) => stop(&mut self.parts, *c),
             Event::Go(c) => set_bits(&mut self.parts, false, true, *c),

@@ -1,6 +1,8 @@
+pub mod Booted
 pub mod Journaled
 pub mod Lists
 pub mod Many
+pub mod Risen
 pub mod Rules
 pub use Rattle.evm_history.proofs as evm_history
 pub use Rattle.evm_board.proofs.evm_rules as evm_rules

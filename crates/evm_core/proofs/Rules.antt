@@ -1,12 +1,13 @@
 -- The room that the machine's rules leave.
 use Rattle.std.proofs.Common.{◌≡◌, ◌-◌, ◌^◌, ◌<◌, List, [], ◌∷◌, length, refl, arith}
 use Rattle.evm_model.specs.Bounds.{COUNT_LIMIT, STAMPS_PER_EVENT, HasRoom}
-use Rattle.evm_model.specs.Good.{GoodState}
+use Rattle.evm_model.specs.Devices.{Attached}
+use Rattle.evm_model.specs.Good.{GoodState, AreDevices}
 use Rattle.evm_model.specs.Replay.{IsReplayOf, replay}
-use Rattle.evm_model.specs.State.{State}
+use Rattle.evm_model.specs.State.{State, on_memory}
 use Rattle.evm_model.specs.Event.{Event}
 use Rattle.evm_board.proofs.evm_rules.Bounded.{within-more}
-use Rattle.evm_board.proofs.evm_rules.States.{counts_room, holds_room, ticks_room, stamps_room}
+use Rattle.evm_board.proofs.evm_rules.States.{counts_room, holds_room, notices_room, ticks_room, stamps_room}
 
 pub ticks-fit : (s : State) → GoodState s → s.board.parts.ticks < COUNT_LIMIT
 ticks-fit s g = let h = ticks_room s g in omega arith
@@ -18,6 +19,7 @@ room-fits s g = record {
   holds = holds_room s g;
   clock = let h = ticks_room s g in omega arith;
   timers = g.timers.few;
+  notices = notices_room s g;
   harts = g.good.harts_count;
 }
 
@@ -29,3 +31,25 @@ replays_none s (event ∷ events) none = absurd (omega arith)
 
 pub no_event-replay : (s : State) → length s.journal ≡ 0 → IsReplayOf s s
 no_event-replay s none = record { replayed = replays_none s s.journal none }
+
+-- ---- other devices
+pub with_devices : (devices : List Attached) (s : State) → AreDevices devices → GoodState s → GoodState (record s { board = on_memory (λ m. record m { devices = devices }) s.board })
+with_devices devices s are g = record {
+  good = g.good;
+  boot = g.boot;
+  processors = g.processors;
+  ram = g.ram;
+  profile = g.profile;
+  journal = g.journal;
+  ticks = g.ticks;
+  stamps = g.stamps;
+  counts = g.counts;
+  semaphores = g.semaphores;
+  flags = g.flags;
+  timers = g.timers;
+  few_events = g.few_events;
+  actions = g.actions;
+  holds = g.holds;
+  notices = g.notices;
+  devices = are;
+}

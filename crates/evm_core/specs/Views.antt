@@ -1,5 +1,6 @@
 -- What is asked of a machine.
 use Rattle.std.specs.Prelude.{ℕ, List, Option, Some, None, slice_get}
+use Rattle.evm_model.specs.Devices.{Attached}
 use Rattle.evm_model.specs.Pipes.{Pipe, log_of}
 use Rattle.evm_model.specs.State.{Parts}
 use Rattle.evm_model.specs.declared.counts.Counts.{Counts}
@@ -34,3 +35,11 @@ stages_in (Some pipe) = Some (record { oob = pipe.oob; inband = pipe.inband; wir
 -- those of processor c
 abbrev pub stages_at : ℕ → Parts → Option Stages
 stages_at c k = stages_in (slice_get k.pipes c)
+
+abbrev pub word_of : Option Attached → ℕ → Option ℕ
+word_of None k = None
+word_of (Some device) k = slice_get device.words k
+
+-- word k of device i
+abbrev pub device_word : ℕ → ℕ → List Attached → Option ℕ
+device_word i k devices = word_of (slice_get devices i) k

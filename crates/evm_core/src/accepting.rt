@@ -9,16 +9,17 @@ ghost use Rattle.evm_core.specs.Steps.{steps};
 
 use crate::typed::event_fits;
 use evm_board::Board;
+use evm_dev::Device;
 use evm_history::Journal;
 use evm_model::{Answer, Block, Boot, Event, Refusal};
 
 /// One event: what it answers, or why it is refused, the first reason by its number. `Machine::apply` is this.
 #[inline(always)]
 #[tactic(auto, unfolding(evm_model::specs::Replay::apply))]
-pub fn apply_to(
+pub fn apply_to<D: Device>(
     boot: &Boot,
     journal: &mut Journal,
-    board: &mut Board,
+    board: &mut Board<D>,
     event: &Event<&Block>,
 ) -> Result<Answer, Refusal>
     requires { AreParts boot.now journal.old board.old }
@@ -59,10 +60,10 @@ fn at_most(count: u32, room: u64) -> u32
 /// one after the other.
 #[inline(always)]
 #[tactic(auto, using(crate::proofs::Many::step_rules))]
-pub fn some_steps_to(
+pub fn some_steps_to<D: Device>(
     boot: &Boot,
     journal: &mut Journal,
-    board: &mut Board,
+    board: &mut Board<D>,
     c: u8,
     most: u32,
 ) -> Result<u32, Refusal>

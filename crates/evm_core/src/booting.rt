@@ -1,15 +1,16 @@
 ghost use Rattle.std.specs.Prelude.{◌≡◌, ◌≤◌, [], ◌∷◌, replicate, IfErr, IfOk, Option, false};
 ghost use Rattle.evm_model.specs.Harts.{first_hart};
 ghost use Rattle.evm_model.specs.Pipes.{idle_pipe};
-ghost use Rattle.evm_model.specs.State.{booted, booted_parts, first_processor, first_task};
+ghost use Rattle.evm_model.specs.State.{booted, booted_parts, first_processor, first_task, no_notices};
 ghost use Rattle.evm_model.specs.Replay.{bad_boot, BootAnswers};
 
 use crate::machine::Machine;
 use arrayvec::ArrayVec;
 use evm_board::{
-    Actions, Board, Breakpoints, Console, Events, Flags, Harts, Memory, Mutexes, Parts, Pipe,
-    Semaphores, Slots, Tasks, Timers,
+    Actions, Board, Breakpoints, Console, Devices, Events, Flags, Harts, Memory, Mutexes, Notices,
+    Parts, Pipe, Semaphores, Slots, Tasks, Timers,
 };
+use evm_dev::Device;
 use evm_exec::{Hart, REGISTER_COUNT};
 use evm_model::{
     Boot, CAPACITY_LIMIT, Class, Mode, PROCESSOR_LIMIT, Processor, Profile, RAM_LEAST, RAM_UNIT,
@@ -94,9 +95,10 @@ fn pipes_of(count: u64) -> ArrayVec<Pipe, PROCESSOR_LIMIT>
 
 // The parts at boot: task 0 is current on processor 0.
 #[tactic(auto, unfolding(evm_model::specs::State::booted_parts))]
-fn parts_of(boot: &Boot, console: Console) -> Parts
+fn parts_of(boot: &Boot, console: Console, notices: Notices) -> Parts
     requires fits { bad_boot boot.now ≡ false }
     requires empty { console ≡ [] }
+    requires none { notices ≡ no_notices }
     ensures { result ≡ booted_parts boot.now }
 {
     let mut processors = processors_of(boot.cpus);
@@ -119,52 +121,61 @@ fn parts_of(boot: &Boot, console: Console) -> Parts
         timers: Timers::new(),
         actions: Actions::new(),
         console,
+        notices,
     }
 }
 
 // All that events change, at boot.
 #[tactic(auto, unfolding(evm_model::specs::State::booted))]
-fn board_of(alloc: Global, boot: &Boot) -> Result<Board, Refused>
+fn board_of<D: Device>(alloc: Global, boot: &Boot, devices: Devices<D>) -> Result<Board<D>, Refused>
     requires { bad_boot boot.now ≡ false }
-    ensures booted { IfOk result (λ board. board ≡ booted boot.now) }
+    ensures booted { IfOk result (λ board. board ≡ booted devices boot.now) }
     ensures refused { IfErr result (λ asked. asked ≤ boot.now.ram) }
 {
     let ram = Ram::new(alloc, boot.ram)?;
     let console = Console::new(alloc)?;
+    let notices = Notices::new(alloc)?;
     Ok(Board {
-        memory: Memory::of_ram(ram),
+        memory: Memory::new(ram, devices),
         breakpoints: Breakpoints::new(),
-        parts: parts_of(boot, console),
+        parts: parts_of(boot, console, notices),
         slots: Slots::new(alloc)?,
     })
 }
 
-impl Machine {
+impl<D: Device> Machine<D> {
     /// A machine that has had no event: RAM is zero, and task 0 is current on processor 0, at RAM's first
     /// byte. It has room for its whole journal and all else that events will take. `BadSize` exactly where
     /// a number is outside its limits: processors 1 to 8, RAM 65,536 to 16,777,216 bytes in multiples of
-    /// 4,096, capacity 1 to 1,048,576 events.
-    pub fn boot(alloc: Global, cpus: u8, ram: u64, capacity: u32) -> Result<Machine, Refusal>
-        ensures { BootAnswers (record { cpus = cpus; ram = ram; capacity = capacity }) result }
+    /// 4,096, capacity 1 to 1,048,576 events. It has no device.
+    pub fn boot(alloc: Global, cpus: u8, ram: u64, capacity: u32) -> Result<Machine<D>, Refusal>
+        ensures { BootAnswers [] (record { cpus = cpus; ram = ram; capacity = capacity }) result }
     {
-        Machine::from_boot(
-            alloc,
-            Boot {
-                cpus: u64::from(cpus),
-                ram,
-                capacity: u64::from(capacity),
-            },
-        )
+        let boot = Boot {
+            cpus: u64::from(cpus),
+            ram,
+            capacity: u64::from(capacity),
+        };
+        if is_bad(&boot) {
+            return Err(Refusal::BadSize);
+        }
+        match Devices::new(alloc) {
+            Err(refused) => {
+                refused.within();
+                Err(Refusal::NoMemory)
+            }
+            Ok(devices) => Machine::from_boot(alloc, boot, devices),
+        }
     }
 
-    /// The same of the numbers of a boot line, which may be any.
-    pub fn from_boot(alloc: Global, boot: Boot) -> Result<Machine, Refusal>
-        ensures { BootAnswers boot result }
+    /// The same of the numbers of a boot line, which may be any, and with devices.
+    pub fn from_boot(alloc: Global, boot: Boot, devices: Devices<D>) -> Result<Machine<D>, Refusal>
+        ensures { BootAnswers devices boot result }
     {
         if is_bad(&boot) {
             return Err(Refusal::BadSize);
         }
-        match board_of(alloc, &boot) {
+        match board_of(alloc, &boot, devices) {
             Err(refused) => {
                 refused.within();
                 Err(Refusal::NoMemory)

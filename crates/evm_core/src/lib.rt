@@ -9,6 +9,7 @@ mod stepping;
 mod typed;
 
 pub use accepting::{apply_to, some_steps_to};
+pub use evm_board::Devices;
 pub use evm_history::{EventLine, Journal, MAX_STEPS};
 pub use evm_model::{Answer, Boot, Event, Refusal};
 pub use machine::Machine;

@@ -1,10 +1,15 @@
 //! Each kind of event once, accepted and refused, against answers worked by hand. After boot no event takes memory:
 //! with a growth behind the boot's refused (`rt try --test --fail-alloc N`) each answer stays.
 
+mod attaching;
+mod gauge;
+
 use crate::{Answer, Event, Machine, Refusal};
 use arrayvec::ArrayVec;
+use evm_dev::Device;
 use evm_model::POKE_LIMIT;
 use evm_ram::BASE;
+use gauge::Gauge;
 use std::process::Abort;
 use std::test::Fail;
 
@@ -44,16 +49,16 @@ fn poke_of(words: &[u32]) -> Event {
     Event::Poke(BASE, bytes)
 }
 
-fn answers(rt: &impl Abort, machine: &mut Machine, event: Event, wanted: Answer) {
+fn answers<D: Device>(rt: &impl Abort, machine: &mut Machine<D>, event: Event, wanted: Answer) {
     assert_eq!(rt; machine.apply(event.lend()), Ok(wanted));
 }
 
-fn refuses(rt: &impl Abort, machine: &mut Machine, event: Event, wanted: Refusal) {
+fn refuses(rt: &impl Abort, machine: &mut Machine<Gauge>, event: Event, wanted: Refusal) {
     assert_eq!(rt; machine.apply(event.lend()), Err(wanted));
 }
 
 // The debugger's commands, up to the task's second instruction.
-fn commands(rt: &impl Abort, machine: &mut Machine) {
+fn commands(rt: &impl Abort, machine: &mut Machine<Gauge>) {
     answers(rt, machine, poke_of(&CODE), Answer::Done);
     answers(rt, machine, Event::Break(BASE), Answer::Done);
     answers(rt, machine, Event::Step(0), Answer::Hit);
@@ -67,7 +72,7 @@ fn commands(rt: &impl Abort, machine: &mut Machine) {
 }
 
 // The instructions up to the one that stops its processor; then a word that is none, which ends the task.
-fn instructions(rt: &impl Abort, machine: &mut Machine) {
+fn instructions(rt: &impl Abort, machine: &mut Machine<Gauge>) {
     for _ in 1..CODE.len() {
         answers(rt, machine, Event::Step(0), Answer::Ran(0));
     }
@@ -78,7 +83,7 @@ fn instructions(rt: &impl Abort, machine: &mut Machine) {
 }
 
 // A tick, a raise and a bell that merge, and their receipts.
-fn interrupts(rt: &impl Abort, machine: &mut Machine) {
+fn interrupts(rt: &impl Abort, machine: &mut Machine<Gauge>) {
     answers(rt, machine, Event::Tick, Answer::Done);
     answers(rt, machine, Event::Raise(1, 5), Answer::Done);
     answers(rt, machine, Event::Bell(1, 5), Answer::Done);
@@ -90,7 +95,7 @@ fn interrupts(rt: &impl Abort, machine: &mut Machine) {
 }
 
 // One event for each reason that an event of today can have, on a machine whose processor 1 is stopped without a task.
-fn refusals(rt: &impl Abort, machine: &mut Machine) {
+fn refusals(rt: &impl Abort, machine: &mut Machine<Gauge>) {
     refuses(rt, machine, Event::Step(2), Refusal::NoSuchCpu);
     refuses(rt, machine, Event::Raise(0, 32), Refusal::NoSuchLine);
     refuses(rt, machine, Event::Go(0), Refusal::NotStopped);
@@ -102,7 +107,7 @@ fn refusals(rt: &impl Abort, machine: &mut Machine) {
 
 #[test]
 fn each_kind_of_event(rt: HostRuntime) -> Result<(), Fail> {
-    let Ok(mut machine) = Machine::boot(rt.alloc(), 2, 65536, 37) else {
+    let Ok(mut machine) = Machine::<Gauge>::boot(rt.alloc(), 2, 65536, 37) else {
         return Err(Fail::from("the boot was refused"));
     };
     commands(&rt, &mut machine);
@@ -115,11 +120,11 @@ fn each_kind_of_event(rt: HostRuntime) -> Result<(), Fail> {
     Ok(())
 }
 
-fn steps(rt: &impl Abort, machine: &mut Machine, count: u32, wanted: Result<(), Refusal>) {
+fn steps(rt: &impl Abort, machine: &mut Machine<Gauge>, count: u32, wanted: Result<(), Refusal>) {
     assert_eq!(rt; machine.steps(0, count), wanted);
 }
 
-fn register(machine: &Machine, r: usize) -> u64 {
+fn register<D: Device>(machine: &Machine<D>, r: usize) -> u64 {
     match machine.hart(0) {
         Some(hart) if r < 32 => hart.regs[r],
         _ => 0,
@@ -129,7 +134,7 @@ fn register(machine: &Machine, r: usize) -> u64 {
 // A loop of two instructions, a breakpoint in it, and a journal that ends.
 #[test]
 fn many_steps(rt: HostRuntime) -> Result<(), Fail> {
-    let Ok(mut machine) = Machine::boot(rt.alloc(), 2, 65536, 64) else {
+    let Ok(mut machine) = Machine::<Gauge>::boot(rt.alloc(), 2, 65536, 64) else {
         return Err(Fail::from("the boot was refused"));
     };
     // addi x5, x5, 1; jal x0, -4
@@ -159,7 +164,7 @@ fn many_steps(rt: HostRuntime) -> Result<(), Fail> {
 // A raised line comes before the next instruction, and a processor that isn't there takes no Step.
 #[test]
 fn steps_behind_a_raise(rt: HostRuntime) -> Result<(), Fail> {
-    let Ok(mut machine) = Machine::boot(rt.alloc(), 1, 65536, 64) else {
+    let Ok(mut machine) = Machine::<Gauge>::boot(rt.alloc(), 1, 65536, 64) else {
         return Err(Fail::from("the boot was refused"));
     };
     // addi x5, x5, 1; jal x0, -4
@@ -182,7 +187,7 @@ fn steps_behind_a_raise(rt: HostRuntime) -> Result<(), Fail> {
 // A store changes an instruction that was done before: the next time the new one is done.
 #[test]
 fn steps_of_changed_code(rt: HostRuntime) -> Result<(), Fail> {
-    let Ok(mut machine) = Machine::boot(rt.alloc(), 1, 65536, 64) else {
+    let Ok(mut machine) = Machine::<Gauge>::boot(rt.alloc(), 1, 65536, 64) else {
         return Err(Fail::from("the boot was refused"));
     };
     // nop; sw x6, 0(x5); jal x0, -8

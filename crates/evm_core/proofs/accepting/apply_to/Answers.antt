@@ -11,13 +11,13 @@ use Rattle.evm_core.proofs.Rules.{room-fits, ticks-fit}
 use Rattle.evm_core.proofs.accepting.apply_to.Goals as goal
 
 pub row-answer-requires-clause-clock : goal.row-answer-requires-clause-clock
-row-answer-requires-clause-clock c = ticks-fit _ c.requires.1
+row-answer-requires-clause-clock g c κs within = ticks-fit _ c.requires.1
 
 pub row-answer-requires-clause-room : goal.row-answer-requires-clause-room
-row-answer-requires-clause-room c = room-fits _ c.requires.1
+row-answer-requires-clause-room g c κs within = room-fits _ c.requires.1
 
 pub returns-clause-stays : goal.returns-clause-stays
-returns-clause-stays c =
+returns-clause-stays g c =
     let s : State = state_of c.args.boot.now c.args.journal.now c.args.board.now in
     let longer = ap length c.push.ensures.events ∙ length-append c.args.journal.now.events (event_lent c.args.event.now ∷ []) in
     let free = sym c.refusal.ensures ∙ c.in_default.is in

@@ -12,10 +12,10 @@ use Rattle.evm_core.proofs.Rules.{room-fits}
 use Rattle.evm_core.proofs.accepting.some_steps_to.Goals as goal
 
 pub steps-made-requires-clause-room : goal.steps-made-requires-clause-room
-steps-made-requires-clause-room c = room-fits _ c.requires.parts.1
+steps-made-requires-clause-room g c κs within = room-fits _ c.requires.parts.1
 
 pub returns-clause-stays : goal.returns-clause-stays
-returns-clause-stays c =
+returns-clause-stays g c =
     let s : State = state_of c.args.boot.now c.args.journal.now c.args.board.now in
     let n : ℕ = c.steps-made.result.count in
     let within : c.args.c < length s.board.parts.processors = grind (arith, nat_tests) in
@@ -27,7 +27,7 @@ returns-clause-stays c =
     (omega (arith, long, c.push_steps.ensures.room, c.requires.parts.0), rw (c.push_steps.ensures.events, board) all.1, rw c.push_steps.ensures.events (steps_more s.journal n c.args.c c.requires.parts.2 (omega arith)))
 
 pub returns-clause-made : goal.returns-clause-made
-returns-clause-made c =
+returns-clause-made g c =
     let s : State = state_of c.args.boot.now c.args.journal.now c.args.board.now in
     let n : ℕ = c.steps-made.result.count in
     let within : c.args.c < length s.board.parts.processors = grind (arith, nat_tests) in
@@ -38,13 +38,13 @@ returns-clause-made c =
     (c.steps-made.ensures.some, omega (arith, some, c.at_most.ensures.count), rw (c.push_steps.ensures.events, board) all.0)
 
 pub returns-then-room-eq0-clause-made : goal.returns-then-room-eq0-clause-made
-returns-then-room-eq0-clause-made c =
+returns-then-room-eq0-clause-made g c =
     let s : State = state_of c.args.boot.now c.args.journal.now c.args.board.now in
     let full : is_full s ≡ true = grind (arith, nat_tests, c.len.ensures.count) in
     steps-full c.args.c c.args.most s c.requires.asked full
 
 pub returns-then-c-processor_count-clause-made : goal.returns-then-c-processor_count-clause-made
-returns-then-c-processor_count-clause-made c =
+returns-then-c-processor_count-clause-made g c =
     let s : State = state_of c.args.boot.now c.args.journal.now c.args.board.now in
     let open_yet : is_full s ≡ false = grind (arith, nat_tests, c.len.ensures.count) in
     let past : length s.board.parts.processors ≤ c.args.c = grind (arith, nat_tests, c.processor_count.ensures.count) in

@@ -7,7 +7,7 @@ use Rattle.evm_board.proofs.Loads.{all_poked, all_poked-image}
 use Rattle.evm_board.proofs.memory.Memory.load.Goals as goal
 
 pub returns : goal.returns
-returns c =
+returns g c =
     let image = c.args.image.now in
     let k : Memory = c.args.self.now in
     let items = c.segments-segment-items.result.now in

@@ -5,5 +5,5 @@ use Rattle.evm_board.proofs.memory.Memory.load.Given as goal
 
 -- what the segments that are left do is what all of them do to a RAM of zeros
 abbrev pub invariant-loop-segment : goal.invariant-loop-segment
-invariant-loop-segment l =
-    all_poked (drop l.segment-index l.segment-items) l.self ≡ all_poked l.segment-items (record { ram = replicate (length l.fn.self.ram) 0 })
+invariant-loop-segment g l =
+    all_poked (drop l.segment-index l.segment-items) l.self ≡ all_poked l.segment-items (record l.fn.self { ram = replicate (length l.fn.self.ram) 0 })
