@@ -1,9 +1,13 @@
 pub mod Leads
+pub mod Lines
 pub mod Moved
 pub mod Named
+pub mod Noticed
+pub mod Others
 pub mod Ranking
 pub mod Reached
 pub mod Settled
 pub mod Stepped
+pub mod Touched
 pub mod Waiting
 pub mod Whole

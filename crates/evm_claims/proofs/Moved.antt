@@ -1,12 +1,16 @@
 -- What a Step changes, while bits of processors change beside.
-use Rattle.std.proofs.Common.{◌≡◌, ◌≢◌, ℕ, List, Option, None, slice_get, inl, inr}
+use Rattle.std.proofs.Common.{◌≡◌, ◌≢◌, ℕ, List, Option, Some, None, slice_get, inl, inr, refl, ap, ◌∙◌}
+use Rattle.std.specs.Prelude.{option_map}
 use Rattle.evm_exec.specs.declared.hart.Hart.{Hart}
+use Rattle.evm_model.specs.Devices.{raise_line}
+use Rattle.evm_model.specs.Pipes.{raise}
 use Rattle.evm_model.specs.State.{Board, Memory, Parts}
 use Rattle.evm_model.specs.declared.processor.Processor.{Processor}
 use Rattle.evm_model.specs.declared.task.Task.{Task}
 use Rattle.evm_model.specs.declared.task.TaskState.{TaskState}
 use Rattle.evm_model.specs.declared.task.Wait.{Wait}
 use Rattle.evm_claims.specs.Steps.{EventEnds, by_signal, by_time, WaitsAgain, Wakes, WokenBy, by_line, by_owner, by_owner_back, by_event, by_sleep, by_deadline, by_put, by_line_put, by_post, by_line_post, by_timer, StepChangesOnly, ObjectsChangeOnly}
+use Rattle.evm_claims.proofs.Noticed.{noticed_moved}
 
 -- ---- bits of processors are nothing that it speaks of
 module _ (runs : Option ℕ) (c t : ℕ) (memory : Memory) (old new : Parts) (before after : List Processor) where
@@ -82,7 +86,16 @@ moved runs c x y before after others s = record {
   stamps = s.stamps;
   breakpoints = s.breakpoints;
   processors = others;
-  pipes = s.pipes;
+  line = s.line;
+  devices = s.devices;
+  notices = elim s.notices [
+    | inl same ↦ inl same
+    | inr n ↦ inr (noticed_moved x.parts before runs c x.memory y.parts.notices n)
+  ];
+  pipes = λ d other. elim (s.pipes d other) [
+    | inl same ↦ inl (same ∙ line_pipes s.line d)
+    | inr raised ↦ inr (raised ∙ ap (option_map (raise 1)) (line_pipes s.line d))
+  ];
   ram = s.ram;
   written = s.written;
   console = s.console;
@@ -98,6 +111,7 @@ moved runs c x y before after others s = record {
           ],
         ),
       );
+  line_memory = s.line_memory;
   line_tasks = λ l t pipe task hart there on is at. elim (s.line_tasks l t pipe task hart there on is at) [
     | inl stands ↦ inl stands
     | inr (inl w) ↦ inr (inl (moved_wakes None c t x.memory x.parts y.parts before after task hart w))
@@ -113,3 +127,7 @@ moved runs c x y before after others s = record {
   objects = moved_objects runs c x.memory x.parts y.parts before after s.objects;
   line_objects = λ l pipe there on. moved_objects None c x.memory x.parts y.parts before after (s.line_objects l pipe there on);
 }
+  where
+    line_pipes : (o : Option ℕ) (d : ℕ) → slice_get (raise_line o x.parts).pipes d ≡ slice_get (raise_line o (record x.parts { processors = before })).pipes d
+    line_pipes None d = refl
+    line_pipes (Some l) d = refl

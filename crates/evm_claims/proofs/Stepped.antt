@@ -5,7 +5,7 @@ use Rattle.std.proofs.lemmas.Bool.{cases_eq}
 use Rattle.std.proofs.lemmas.Bool.Decides.{nat_tests}
 use Rattle.evm_exec.specs.declared.hart.Hart.{Hart}
 use Rattle.evm_exec.specs.Registers.{register_of}
-use Rattle.evm_exec.specs.declared.outcome.Effect.TheVariants.{Call, Store}
+use Rattle.evm_exec.specs.declared.outcome.Effect.TheVariants.{Call}
 use Rattle.evm_lines.specs.Lines.{has_line}
 use Rattle.evm_model.specs.Actions.{action_or_nothing}
 use Rattle.evm_model.specs.Events.{bound_of}
@@ -14,7 +14,7 @@ use Rattle.evm_model.specs.OobCalls.{is_scheduled_task}
 use Rattle.evm_model.specs.Pipes.{Pipe}
 use Rattle.evm_model.specs.Settle.{current}
 use Rattle.evm_model.specs.Stages.{is_class}
-use Rattle.evm_model.specs.State.{Board, Memory, Parts}
+use Rattle.evm_model.specs.State.{Board, Parts}
 use Rattle.evm_model.specs.Tasks.{is_live, is_weak}
 use Rattle.evm_model.specs.Timers.{is_due_timer}
 use Rattle.evm_model.specs.declared.action.Action.{Action}
@@ -28,10 +28,9 @@ use Rattle.evm_model.specs.declared.task.TaskState.TheVariants.{InReady, OobRead
 use Rattle.evm_model.specs.declared.task.Wait.{Wait}
 use Rattle.evm_model.specs.declared.task.Wait.TheVariants.{Line, Event as OfEvent, Sleep}
 use Rattle.evm_model.specs.declared.timer.Timer.{Timer}
-use Rattle.evm_ram.specs.Ram.{write_at}
-use Rattle.evm_ram.specs.declared.width.Width.{Width}
 use Rattle.evm_runs.specs.Changes.{EventEnds as EndsBefore, by_signal as signalled, by_time as timed, HasMutex, IsReadyAfter, MakesCall, MakesNone, MutexesTaken, Requeues, Schedules, Spends, Stays, StepChanges, Wakes as WakesBefore, WasLate, is_event_wait, late_answer, WokenBy as WokenBefore, by_line as line, by_owner as passed, by_owner_back as passed_back, by_event as regained, by_deadline as overdue, by_put as put, by_line_put as line_put, by_post as posted, by_line_post as line_posted, by_timer as timer_due}
-use Rattle.evm_claims.specs.Steps.{IsReacquired, EventEnds, by_signal, by_time, HadCome, IsAbout, IsScheduled, OwnsNow, WaitsAgain, Wakes, WokenBy, by_line, by_owner, by_owner_back, by_event, by_sleep, by_deadline, by_put, by_line_put, by_post, by_line_post, by_timer, SpendsSlice, Stands, IsAnothers}
+use Rattle.evm_claims.specs.About.{IsAbout}
+use Rattle.evm_claims.specs.Steps.{IsReacquired, EventEnds, by_signal, by_time, HadCome, IsScheduled, OwnsNow, WaitsAgain, Wakes, WokenBy, by_line, by_owner, by_owner_back, by_event, by_sleep, by_deadline, by_put, by_line_put, by_post, by_line_post, by_timer, SpendsSlice, Stands, IsAnothers}
 
 -- ---- one task
 same_task : (tasks : List Task) (t : ℕ) (x y : Task) → slice_get tasks t ≡ Some x → slice_get tasks t ≡ Some y → x ≡ y
@@ -250,34 +249,6 @@ pub line_tasks_of : (c : ℕ) (old new : Board) → StepChanges c old new → (l
     ⊎ WaitsAgain None c t old.memory old.parts new.parts task hart
     ⊎ SpendsSlice (current c old.parts) t old.parts.stamps new.parts.tasks new.parts.harts task hart
 line_tasks_of c old new b l t pipe task hart there on is has = own c t old new.parts task hart is has ((b.hears (record { pipe = pipe; line = l; there = there; on = on })).1 t)
-
--- ---- RAM
-pub ram_of : (c : ℕ) (old new : Board) → StepChanges c old new
-    → ((task address value : ℕ) (hart : Hart) (width : Width) → IsAbout (current c old.parts) task hart (Store width address value) old.parts.harts old.memory → ⊥) → new.memory.ram ≡ old.memory.ram
-ram_of c old new b never = elim b.memory [
-  | inl same ↦ ap (λ (m : Memory). m.ram) same
-  | inr w ↦ absurd (never w.task w.address w.value w.hart w.width (record { word = w.word; inst = w.inst; current = w.runs; has = w.has; fetched = w.fetched; decodes = w.decodes; effect_is = w.stores }))
-]
-
-pub written_of : (c : ℕ) (old new : Board) → StepChanges c old new → (task address value : ℕ) (hart : Hart) (width : Width) → IsAbout (current c old.parts) task hart (Store width address value) old.parts.harts old.memory
-    → (new.memory.ram ≡ old.memory.ram) ⊎ (write_at old.memory.ram address width value ≡ Some new.memory.ram)
-written_of c old new b task address value hart width i = elim b.memory [
-  | inl same ↦ inl (ap (λ (m : Memory). m.ram) same)
-  | inr w ↦
-      let runs = i.current in
-      let has = i.has in
-      let fetched = i.fetched in
-      let decodes = i.decodes in
-      let stores = i.effect_is in
-      let at : w.task ≡ task = cc in
-      let of : w.hart ≡ hart = cc in
-      let reads : w.word ≡ i.word = cc in
-      let stands : w.inst ≡ i.inst = cc in
-      let wide : w.width ≡ width = cc in
-      let place : w.address ≡ address = cc in
-      let number : w.value ≡ value = cc in
-      inr (cc)
-]
 
 -- ---- mutexes
 pub mutexes_of : (c : ℕ) (old new : Board) → StepChanges c old new → (m : ℕ) (before : Mutex) → slice_get old.parts.mutexes m ≡ Some before

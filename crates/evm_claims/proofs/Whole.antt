@@ -1,11 +1,14 @@
 -- All that a Step changes, in the words of the claims.
 use Rattle.std.proofs.Common.{ℕ, None, inl, inr, arith}
+use Rattle.evm_model.specs.Rows.{step}
 use Rattle.evm_model.specs.Settle.{current}
 use Rattle.evm_model.specs.State.{Board}
 use Rattle.evm_runs.specs.Changes.{MakesCall, MakesNone, StepChanges}
 use Rattle.evm_claims.specs.Steps.{StepChangesOnly}
 use Rattle.evm_claims.proofs.Named.{objects_of}
-use Rattle.evm_claims.proofs.Stepped.{calls_of, ram_of, written_of, tasks_of, line_tasks_of, mutexes_of, line_mutexes_of}
+use Rattle.evm_claims.proofs.Noticed.{noticed_of}
+use Rattle.evm_claims.proofs.Stepped.{calls_of, tasks_of, line_tasks_of, mutexes_of, line_mutexes_of}
+use Rattle.evm_claims.proofs.Touched.{devices_of, ram_of, written_of}
 
 pub changes_only : (c : ℕ) (old new : Board) → StepChanges c old new → StepChangesOnly (current c old.parts) c old new
 changes_only c old new b = record {
@@ -13,11 +16,18 @@ changes_only c old new b = record {
   stamps = b.stamps;
   breakpoints = b.breakpoints;
   processors = b.processors;
+  line = b.line;
+  devices = devices_of c (step c old).1 old new b.line b.memory;
+  notices = elim b.notices [
+    | inl same ↦ inl same
+    | inr g ↦ inr (noticed_of c old (step c old).1 new.parts.notices g)
+  ];
   pipes = b.pipes;
-  ram = ram_of c old new b;
-  written = written_of c old new b;
+  ram = ram_of c (step c old).1 old new b.line b.memory;
+  written = written_of c (step c old).1 old new b.line b.memory;
   console = b.typed;
   tasks = tasks_of c old new b;
+  line_memory = λ l pipe there on. b.hears_nothing (record { pipe = pipe; line = l; there = there; on = on });
   line_tasks = line_tasks_of c old new b;
   counts = elim b.added [
     | inl same ↦ inl same

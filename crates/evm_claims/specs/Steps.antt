@@ -1,16 +1,12 @@
 -- What a Step and a single step may change: one record for both.
 use Rattle.std.specs.Prelude.{◌≡◌, ◌≢◌, ◌+◌, ◌-◌, ◌<◌, ◌≤◌, ◌++◌, ◌⊎◌, ℕ, List, [], ◌∷◌, Bool, true, Option, Some, None, slice_get, slice_set, length, option_map, replicate, drop, bit_or, ◌^◌}
-use Rattle.evm_exec.specs.Does.{does}
 use Rattle.evm_exec.specs.Registers.{register_of, with_register}
 use Rattle.evm_exec.specs.declared.hart.Hart.{Hart}
 use Rattle.evm_exec.specs.declared.hart.TheConstants.{REGISTERS}
-use Rattle.evm_exec.specs.declared.outcome.Effect.{Effect}
 use Rattle.evm_exec.specs.declared.outcome.Effect.TheVariants.{Call, Store}
-use Rattle.evm_isa.specs.Decoded.{decoded}
-use Rattle.evm_isa.specs.declared.inst.Inst.{Inst}
 use Rattle.evm_lines.specs.Lines.{has_line}
+use Rattle.evm_model.specs.Devices.{raise_line}
 use Rattle.evm_model.specs.Harts.{A0}
-use Rattle.evm_model.specs.Memory.{fetch}
 use Rattle.evm_model.specs.Mutexes.{owner}
 use Rattle.evm_model.specs.Pipes.{Pipe, raise}
 use Rattle.evm_model.specs.Policies.{policy_of}
@@ -33,16 +29,9 @@ use Rattle.evm_model.specs.declared.task.Wait.TheVariants.{Line, Lock, Reacquire
 use Rattle.evm_model.specs.declared.timer.Timer.{Timer}
 use Rattle.evm_ram.specs.Ram.{write_at}
 use Rattle.evm_ram.specs.declared.width.Width.{Width}
-
--- the current task has this hart, and the instruction at its pc does this
-pub record IsAbout (runs : Option ℕ) (task : ℕ) (hart : Hart) (effect : Effect) (harts : List Hart) (memory : Memory) : Type 0 where
-  pub word : ℕ
-  pub inst : Inst
-  pub current : runs ≡ Some task
-  pub has : slice_get harts task ≡ Some hart
-  pub fetched : fetch hart.pc memory ≡ Some word
-  pub decodes : decoded word ≡ Some inst
-  pub effect_is : does inst hart.regs hart.pc ≡ effect
+use Rattle.evm_claims.specs.About.{IsAbout}
+use Rattle.evm_claims.specs.Devices.{DevicesAfter}
+use Rattle.evm_claims.specs.Noticed.{IsNoticed}
 
 -- ---- a task
 -- the current task is out-of-band and makes call 34 for task t, which has not ended and has a class: it is given the class and the priority of a1 and a2 and a slice of 4, and nothing else
@@ -223,8 +212,14 @@ pub record StepChangesOnly (runs : Option ℕ) (c : ℕ) (old new : Board) : Typ
   pub stamps : old.parts.stamps ≤ new.parts.stamps
   pub breakpoints : new.breakpoints ≡ old.breakpoints
   pub processors : (d : ℕ) → d ≢ c → slice_get new.parts.processors d ≡ slice_get old.parts.processors d
-  -- on other pipes at most line 1 is raised
-  pub pipes : (d : ℕ) → d ≢ c → (slice_get new.parts.pipes d ≡ slice_get old.parts.pipes d) ⊎ (slice_get new.parts.pipes d ≡ option_map (raise 1) (slice_get old.parts.pipes d))
+  -- the devices stand but for one that the instruction touches; its line, if it raises it, is raised on processor 0
+  pub line : Option ℕ
+  pub devices : DevicesAfter runs old.parts.harts old.memory new.memory.devices line
+  -- the notices stand, or the current task gets one
+  pub notices : (new.parts.notices ≡ old.parts.notices) ⊎ IsNoticed runs c old.memory old.parts new.parts.notices
+  -- on other pipes at most line 1 is raised, and the device's line on processor 0
+  pub pipes : (d : ℕ) → d ≢ c
+      → (slice_get new.parts.pipes d ≡ slice_get (raise_line line old.parts).pipes d) ⊎ (slice_get new.parts.pipes d ≡ option_map (raise 1) (slice_get (raise_line line old.parts).pipes d))
   -- RAM changes only where the instruction is a store, which then has written its value at its address
   pub ram : ((task address value : ℕ) (hart : Hart) (width : Width) → IsAbout runs task hart (Store width address value) old.parts.harts old.memory → ⊥) → new.memory.ram ≡ old.memory.ram
   pub written : (task address value : ℕ) (hart : Hart) (width : Width) → IsAbout runs task hart (Store width address value) old.parts.harts old.memory
@@ -238,6 +233,8 @@ pub record StepChangesOnly (runs : Option ℕ) (c : ℕ) (old new : Board) : Typ
       × (Stands t new.parts.tasks new.parts.harts given hart
       ⊎ Wakes runs c t old.memory old.parts new.parts given hart
       ⊎ WaitsAgain runs c t old.memory old.parts new.parts given hart))
+  -- where a line is on the wire memory and the notices stand
+  pub line_memory : (l : ℕ) (pipe : Pipe) → slice_get old.parts.pipes c ≡ Some pipe → has_line pipe.wire l ≡ true → (new.memory ≡ old.memory) × (new.parts.notices ≡ old.parts.notices)
   -- where a line is on the wire no task acts: each, the current one too, stands, wakes or waits again by a line or spends its slice
   pub line_tasks : (l t : ℕ) (pipe : Pipe) (task : Task) (hart : Hart) → slice_get old.parts.pipes c ≡ Some pipe → has_line pipe.wire l ≡ true
       → slice_get old.parts.tasks t ≡ Some task → slice_get old.parts.harts t ≡ Some hart

@@ -1,5 +1,6 @@
 //! A machine is what its journal says.
 ghost use Rattle.std.specs.Prelude.{◌≡◌, ◌++◌, ℕ, List, [], ◌∷◌};
+ghost use Rattle.evm_model.specs.Devices.{Attached};
 ghost use Rattle.evm_model.specs.Replay.{start, replay};
 ghost use Rattle.evm_model.specs.State.{State};
 ghost use Rattle.evm_model.specs.declared.boot.Boot.{Boot};
@@ -13,20 +14,20 @@ pub fn replays_join()
     evm_runs::replays_join();
 }
 
-/// After every boot and every list of events, refused ones among them, the events of the machine's journal, played
-/// from that boot, make the same machine; likewise from any first state whose journal is empty.
+/// After every boot, with whichever devices, and every list of events, refused ones among them, the events of the machine's journal, played
+/// from that boot with these devices, make the same machine; likewise from any first state whose journal is empty.
 pub fn a_machine_is_its_journals_replay()
-    ensures booted { (boot : Boot) (events : List Event) →
-        replay (start boot) (replay (start boot) events).journal ≡ replay (start boot) events }
+    ensures booted { (devices : List Attached) (boot : Boot) (events : List Event) →
+        replay (start devices boot) (replay (start devices boot) events).journal ≡ replay (start devices boot) events }
     ensures from_any { (first : State) (events : List Event) → first.journal ≡ [] →
         replay first (replay first events).journal ≡ replay first events }
-    ensures at_first { (boot : Boot) → replay (start boot) (start boot).journal ≡ start boot }
+    ensures at_first { (devices : List Attached) (boot : Boot) → replay (start devices boot) (start devices boot).journal ≡ start devices boot }
     // worked: two ticks are two ticks of the clock
     ensures two_ticks { (ram : ℕ) →
-        (replay (start (record { cpus = 1; ram = ram; capacity = 8 })) (Event.Tick ∷ Event.Tick ∷ [])).board.parts.ticks ≡ 2 }
+        (replay (start [] (record { cpus = 1; ram = ram; capacity = 8 })) (Event.Tick ∷ Event.Tick ∷ [])).board.parts.ticks ≡ 2 }
     // worked: the second of two events finds the journal full, and leaves no trace
     ensures one_fits { (ram : ℕ) →
-        (replay (start (record { cpus = 1; ram = ram; capacity = 1 })) (Event.Tick ∷ Event.Tick ∷ [])).journal ≡ Event.Tick ∷ [] }
+        (replay (start [] (record { cpus = 1; ram = ram; capacity = 1 })) (Event.Tick ∷ Event.Tick ∷ [])).journal ≡ Event.Tick ∷ [] }
 {
     evm_runs::stays_replay();
     evm_runs::starts_as_replay();

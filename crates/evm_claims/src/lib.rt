@@ -3,9 +3,11 @@
 #![tactic(auto)]
 
 mod callers;
+mod devices;
 mod headline;
 mod mutexes;
 mod no_interrupt_lost;
+mod notices;
 mod objects;
 mod order;
 mod parts;
@@ -14,6 +16,10 @@ mod safe_and_total;
 mod steps;
 
 pub use callers::a_call_changes_of_its_task_what_the_table_says;
+pub use devices::{
+    a_load_touches_whatever_its_register, a_register_has_one_address,
+    a_tick_changes_devices_by_their_kinds, an_unanswered_access_faults, device_kinds_never_change,
+};
 pub use headline::{a_machine_is_its_journals_replay, replays_join};
 pub use mutexes::{
     a_mutex_passes_to_the_first_waiter, a_rank_is_never_below_its_own,
@@ -21,8 +27,12 @@ pub use mutexes::{
     no_chain_of_waiting_returns, ranks_are_the_only_settled_ones,
 };
 pub use no_interrupt_lost::{
-    line_one_is_raised_for_a_better_task, no_line_is_lost_in_a_stage, no_line_is_lost_on_its_wire,
-    raised_as_often_as_the_journal_says, what_is_received_comes_to_a_stage,
+    a_device_raises_its_line, line_one_is_raised_for_a_better_task, no_line_is_lost_in_a_stage,
+    no_line_is_lost_on_its_wire, raised_as_often_as_the_journal_says,
+    what_is_received_comes_to_a_stage,
+};
+pub use notices::{
+    a_step_makes_one_notice_at_most, no_other_event_makes_a_notice, notices_are_few,
 };
 pub use objects::{
     a_task_that_does_not_wait_has_no_deadline, a_task_that_waits_for_an_event_owns_no_mutex,

@@ -1,6 +1,8 @@
 //! No interrupt is lost and none is played twice: for every list of events and every line of every processor.
 ghost use Rattle.std.specs.Prelude.{◌≡◌, ◌≢◌, ◌+◌, ◌%◌, ◌≤◌, ℕ, List, [], ◌∷◌, false, Option, if◌then◌else◌, slice_get, count_by};
 ghost use Rattle.evm_lines.specs.Lines.{has_line};
+ghost use Rattle.evm_model.specs.Devices.{Attached};
+ghost use Rattle.evm_model.specs.Good.{AreDevices};
 ghost use Rattle.evm_model.specs.Load.{start_loaded};
 ghost use Rattle.evm_model.specs.Pipes.{Pipe};
 ghost use Rattle.evm_model.specs.Replay.{bad_boot, start, replay};
@@ -9,8 +11,9 @@ ghost use Rattle.evm_model.specs.declared.boot.Boot.{Boot};
 ghost use Rattle.evm_model.specs.declared.counts.Counts.{Counts};
 ghost use Rattle.evm_model.specs.Event.{Event};
 ghost use Rattle.evm_model.specs.declared.event.Event.TheVariants as Event;
+ghost use Rattle.evm_runs.specs.Balance.{device_count};
 ghost use Rattle.evm_runs.specs.Nudged.{found_count};
-ghost use Rattle.evm_claims.specs.Raising.{raises};
+ghost use Rattle.evm_claims.specs.Raising.{NoDevicesLine, raises};
 ghost use Rattle.evm_claims.specs.Reached.{IsIdle, Ran};
 
 /// After every boot, with an image loaded or none, and every list of events, each line of each processor was raised
@@ -26,11 +29,11 @@ pub fn no_line_is_lost_on_its_wire()
         n.raised ≡ n.merged + (if has_line pipe.wire l then 1 else 0) + n.received }
     // worked: line 5 is raised twice, merges once, and is on the wire; then a Step receives it
     ensures on_the_wire { (ram : ℕ) (pipe : Pipe) (n : Counts) →
-        slice_get (replay (start (record { cpus = 1; ram = ram; capacity = 8 })) (Event.Raise 0 5 ∷ Event.Raise 0 5 ∷ [])).board.parts.pipes 0 ≡ Option.Some pipe →
+        slice_get (replay (start [] (record { cpus = 1; ram = ram; capacity = 8 })) (Event.Raise 0 5 ∷ Event.Raise 0 5 ∷ [])).board.parts.pipes 0 ≡ Option.Some pipe →
         slice_get pipe.counts 5 ≡ Option.Some n →
         (n.raised ≡ 2) × (n.merged ≡ 1) × (n.received ≡ 0) × (pipe.wire ≡ 5 ∷ []) }
     ensures received { (ram : ℕ) (pipe : Pipe) (n : Counts) →
-        slice_get (replay (start (record { cpus = 1; ram = ram; capacity = 8 })) (Event.Raise 0 5 ∷ Event.Raise 0 5 ∷ Event.Step 0 ∷ [])).board.parts.pipes 0 ≡ Option.Some pipe →
+        slice_get (replay (start [] (record { cpus = 1; ram = ram; capacity = 8 })) (Event.Raise 0 5 ∷ Event.Raise 0 5 ∷ Event.Step 0 ∷ [])).board.parts.pipes 0 ≡ Option.Some pipe →
         slice_get pipe.counts 5 ≡ Option.Some n →
         (n.raised ≡ 2) × (n.merged ≡ 1) × (n.received ≡ 1) × (pipe.wire ≡ []) }
 {
@@ -87,19 +90,40 @@ pub fn what_is_received_comes_to_a_stage()
     evm_runs::balance_holds(); // the field routes
 }
 
-/// After every boot, with an image loaded or none, and every list of events, each line of a processor but line 1,
-/// which processors raise on one another, was raised by as many events as the journal has that raise it there;
-/// likewise from any first state whose journal is empty and whose pipes are idle.
+/// After every boot, with whichever devices and an image loaded or none, and every list of events, each line of a processor
+/// but line 1, which processors raise on one another, and on processor 0 those of the devices that are there, was raised by
+/// as many events as the journal has that raise it there; likewise from any first state whose journal is empty and whose
+/// pipes are idle.
 pub fn raised_as_often_as_the_journal_says()
     ensures ran { (boot : Boot) (s : State) (c l : ℕ) (pipe : Pipe) (n : Counts) → Ran boot s → l ≢ 1 →
+        NoDevicesLine c l s.board.memory.devices →
         slice_get s.board.parts.pipes c ≡ Option.Some pipe →
         slice_get pipe.counts l ≡ Option.Some n →
         n.raised ≡ count_by (raises c l) s.journal }
     ensures fresh { (s : State) (events : List Event) (c l : ℕ) (pipe : Pipe) (n : Counts) → l ≢ 1 → IsIdle s →
+        NoDevicesLine c l (replay s events).board.memory.devices →
         slice_get (replay s events).board.parts.pipes c ≡ Option.Some pipe → slice_get pipe.counts l ≡ Option.Some n →
         n.raised ≡ count_by (raises c l) (replay s events).journal }
 {
     evm_runs::balance_holds(); // the field raised
+}
+
+/// After every boot, with whichever devices and an image loaded or none, and every list of events, each line of a processor
+/// but line 1 was raised by as many events as the journal has that raise it there, and by as many accepted events as a
+/// device raised it in: a Tick by which it does, or a step, or single step, of an instruction that touches the device so;
+/// likewise from any first state whose journal is empty and whose pipes are idle.
+pub fn a_device_raises_its_line()
+    ensures booted { (devices : List Attached) (boot : Boot) (events : List Event) (c l : ℕ) (pipe : Pipe) (n : Counts) → l ≢ 1 →
+        slice_get (replay (start devices boot) events).board.parts.pipes c ≡ Option.Some pipe → slice_get pipe.counts l ≡ Option.Some n →
+        n.raised ≡ count_by (raises c l) (replay (start devices boot) events).journal + device_count c l (start devices boot) events }
+    ensures loaded { (devices : List Attached) (byte : ℕ → ℕ) (entry : ℕ) (boot : Boot) (events : List Event) (c l : ℕ) (pipe : Pipe) (n : Counts) → l ≢ 1 →
+        slice_get (replay (start_loaded devices byte entry boot) events).board.parts.pipes c ≡ Option.Some pipe → slice_get pipe.counts l ≡ Option.Some n →
+        n.raised ≡ count_by (raises c l) (replay (start_loaded devices byte entry boot) events).journal + device_count c l (start_loaded devices byte entry boot) events }
+    ensures fresh { (s : State) (events : List Event) (c l : ℕ) (pipe : Pipe) (n : Counts) → l ≢ 1 → IsIdle s →
+        slice_get (replay s events).board.parts.pipes c ≡ Option.Some pipe → slice_get pipe.counts l ≡ Option.Some n →
+        n.raised ≡ count_by (raises c l) (replay s events).journal + device_count c l s events }
+{
+    evm_runs::balance_holds(); // the clauses raised
 }
 
 /// After every boot whose numbers are inside their limits, with an image loaded or none, and every list of events, line 1
@@ -107,12 +131,12 @@ pub fn raised_as_often_as_the_journal_says()
 /// processors as left this one with a better out-of-band task than its current one, while it was not stalled out-of-band
 /// and had no line 1 on its wire.
 pub fn line_one_is_raised_for_a_better_task()
-    ensures booted { (boot : Boot) (events : List Event) (d : ℕ) (pipe : Pipe) (n : Counts) → bad_boot boot ≡ false →
-        slice_get (replay (start boot) events).board.parts.pipes d ≡ Option.Some pipe → slice_get pipe.counts 1 ≡ Option.Some n →
-        n.raised ≡ count_by (raises d 1) (replay (start boot) events).journal + found_count d (start boot) events }
-    ensures loaded { (boot : Boot) (byte : ℕ → ℕ) (entry : ℕ) (events : List Event) (d : ℕ) (pipe : Pipe) (n : Counts) → bad_boot boot ≡ false → entry % 4 ≡ 0 →
-        slice_get (replay (start_loaded byte entry boot) events).board.parts.pipes d ≡ Option.Some pipe → slice_get pipe.counts 1 ≡ Option.Some n →
-        n.raised ≡ count_by (raises d 1) (replay (start_loaded byte entry boot) events).journal + found_count d (start_loaded byte entry boot) events }
+    ensures booted { (devices : List Attached) (boot : Boot) (events : List Event) (d : ℕ) (pipe : Pipe) (n : Counts) → AreDevices devices → bad_boot boot ≡ false →
+        slice_get (replay (start devices boot) events).board.parts.pipes d ≡ Option.Some pipe → slice_get pipe.counts 1 ≡ Option.Some n →
+        n.raised ≡ count_by (raises d 1) (replay (start devices boot) events).journal + found_count d (start devices boot) events }
+    ensures loaded { (devices : List Attached) (boot : Boot) (byte : ℕ → ℕ) (entry : ℕ) (events : List Event) (d : ℕ) (pipe : Pipe) (n : Counts) → AreDevices devices → bad_boot boot ≡ false → entry % 4 ≡ 0 →
+        slice_get (replay (start_loaded devices byte entry boot) events).board.parts.pipes d ≡ Option.Some pipe → slice_get pipe.counts 1 ≡ Option.Some n →
+        n.raised ≡ count_by (raises d 1) (replay (start_loaded devices byte entry boot) events).journal + found_count d (start_loaded devices byte entry boot) events }
 {
     evm_runs::line_one_is_raised();
 }

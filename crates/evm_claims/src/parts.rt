@@ -8,6 +8,7 @@ ghost use Rattle.evm_isa.specs.Table.{Row};
 ghost use Rattle.evm_isa.specs.declared.inst.Inst.{Inst};
 ghost use Rattle.evm_lines.specs.Lines.{has_line, with_line};
 ghost use Rattle.evm_model.specs.Commands.{is_set};
+ghost use Rattle.evm_model.specs.Devices.{Attached};
 ghost use Rattle.evm_model.specs.Load.{start_loaded};
 ghost use Rattle.evm_model.specs.Pipes.{Pipe, raise};
 ghost use Rattle.evm_model.specs.Ranks.{best, first, goes_before, rank};
@@ -25,6 +26,7 @@ ghost use Rattle.evm_model.specs.declared.processor.Processor.{Processor};
 ghost use Rattle.evm_model.specs.declared.task.Task.{Task};
 ghost use Rattle.evm_model.specs.declared.task.TaskState.{TaskState};
 ghost use Rattle.evm_ram.specs.Ram.{poke_at};
+ghost use Rattle.evm_runs.specs.Touching.{tick_pipe};
 ghost use Rattle.evm_ram.specs.declared.ram.TheConstants.{BASE};
 ghost use Rattle.evm_model.specs.Refusals.{number_of};
 ghost use Rattle.evm_model.specs.declared.refusal.Refusal.{Refusal};
@@ -64,10 +66,10 @@ pub fn a_register_keeps_its_number()
 /// Where an image is loaded into a machine at its start, RAM keeps its size, and each byte of it is the image's at that
 /// address.
 pub fn an_image_stands_in_ram()
-    ensures size { (byte : ℕ → ℕ) (entry : ℕ) (boot : Boot) →
-        length (start_loaded byte entry boot).board.memory.ram ≡ boot.ram }
-    ensures each { (byte : ℕ → ℕ) (entry : ℕ) (boot : Boot) (i : ℕ) → i < boot.ram →
-        slice_index (start_loaded byte entry boot).board.memory.ram i ≡ byte (BASE + i) }
+    ensures size { (devices : List Attached) (byte : ℕ → ℕ) (entry : ℕ) (boot : Boot) →
+        length (start_loaded devices byte entry boot).board.memory.ram ≡ boot.ram }
+    ensures each { (devices : List Attached) (byte : ℕ → ℕ) (entry : ℕ) (boot : Boot) (i : ℕ) → i < boot.ram →
+        slice_index (start_loaded devices byte entry boot).board.memory.ram i ≡ byte (BASE + i) }
 {
     evm_runs::loads_each_byte();
 }
@@ -85,12 +87,18 @@ pub fn an_accepted_event_is_journaled()
     evm_runs::events_change_only();
 }
 
-/// An accepted Tick moves the clock by one and raises line 0 on every processor, and changes nothing else but the journal.
+/// An accepted Tick moves the clock by one, has each device tick, and raises line 0 on every processor, on processor 0 after
+/// the lines of the devices that raise them by their ticks; it changes nothing else but the journal.
 pub fn a_tick_moves_the_clock()
     ensures rest { (old new : State) (answer : Answer) → apply old Event.Tick ≡ Result.Ok (new, answer) →
-        new.board ≡ record old.board { parts = record old.board.parts { ticks = old.board.parts.ticks + 1; pipes = new.board.parts.pipes } } }
-    ensures pipes { (old new : State) (answer : Answer) → apply old Event.Tick ≡ Result.Ok (new, answer) → (c : ℕ) →
+        new.board ≡ record old.board {
+          memory = record old.board.memory { devices = new.board.memory.devices };
+          parts = record old.board.parts { ticks = old.board.parts.ticks + 1; pipes = new.board.parts.pipes };
+        } }
+    ensures pipes { (old new : State) (answer : Answer) → apply old Event.Tick ≡ Result.Ok (new, answer) → (c : ℕ) → c ≢ 0 →
         slice_get new.board.parts.pipes c ≡ option_map (raise 0) (slice_get old.board.parts.pipes c) }
+    ensures first { (old new : State) (answer : Answer) → apply old Event.Tick ≡ Result.Ok (new, answer) →
+        slice_get new.board.parts.pipes 0 ≡ option_map (λ pipe. raise 0 (tick_pipe 0 old.board.memory.devices pipe)) (slice_get old.board.parts.pipes 0) }
 {
     evm_runs::events_change_only();
 }

@@ -18,7 +18,7 @@ ghost use Rattle.evm_model.specs.declared.processor.Processor.{Processor};
 ghost use Rattle.evm_model.specs.declared.task.Task.{Task};
 ghost use Rattle.evm_model.specs.declared.task.TaskState.{TaskState};
 ghost use Rattle.evm_claims.specs.Reached.{Reached};
-ghost use Rattle.evm_claims.specs.Steps.{IsAbout};
+ghost use Rattle.evm_claims.specs.About.{IsAbout};
 
 /// After every boot whose numbers are inside their limits, with an image loaded or none, and every list of events: a
 /// processor that isn't stalled out-of-band and has no line 1 on its wire runs its best task, where one is ready

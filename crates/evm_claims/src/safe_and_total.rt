@@ -1,5 +1,5 @@
 //! Nothing overflows and nothing grows: sizes stay, and counts are far below what their types hold.
-ghost use Rattle.std.specs.Prelude.{◌≡◌, ◌<◌, ◌≤◌, ◌^◌, ℕ, List, Option, false, slice_get, length, count_by};
+ghost use Rattle.std.specs.Prelude.{◌≡◌, ◌<◌, ◌≤◌, ◌^◌, ℕ, List, [], Option, false, slice_get, length, count_by};
 ghost use Rattle.evm_exec.specs.declared.hart.Hart.{Hart};
 ghost use Rattle.evm_exec.specs.declared.hart.TheConstants.{REGISTERS};
 ghost use Rattle.evm_lines.specs.declared.TheConstants.{LINES};
@@ -10,7 +10,7 @@ ghost use Rattle.evm_model.specs.State.{State, Board};
 ghost use Rattle.evm_model.specs.declared.boot.Boot.{Boot};
 ghost use Rattle.evm_model.specs.declared.counts.Counts.{Counts};
 ghost use Rattle.evm_model.specs.Event.{Event};
-ghost use Rattle.evm_model.specs.declared.limits.TheConstants.{TASK_LIMIT};
+ghost use Rattle.evm_model.specs.declared.limits.TheConstants.{DEVICE_LIMIT, TASK_LIMIT};
 ghost use Rattle.evm_model.specs.declared.mutex.Mutex.{Mutex};
 ghost use Rattle.evm_claims.specs.Reached.{AreSmall, Ran};
 
@@ -71,11 +71,11 @@ pub fn counts_never_wrap()
         slice_get s.board.parts.pipes c ≡ Option.Some pipe → slice_get pipe.counts l ≡ Option.Some n → AreSmall n }
     ensures lines { (boot : Boot) (s : State) → bad_boot boot ≡ false → Ran boot s → (c : ℕ) (pipe : Pipe) →
         slice_get s.board.parts.pipes c ≡ Option.Some pipe → length pipe.counts ≡ LINES }
-    // whatever is in RAM and in the tasks at first, where nothing was counted yet
+    // whatever is in RAM, in the tasks and in at most 8 devices at first, where nothing was counted yet
     ensures counts_fresh { (boot : Boot) (board : Board) (events : List Event) → bad_boot boot ≡ false →
-        board.parts.pipes ≡ (start boot).board.parts.pipes → board.parts.ticks ≡ 0 →
+        board.parts.pipes ≡ (start [] boot).board.parts.pipes → board.parts.ticks ≡ 0 → length board.memory.devices ≤ DEVICE_LIMIT →
         (c l : ℕ) (pipe : Pipe) (n : Counts) →
-        slice_get (replay (record (start boot) { board = board }) events).board.parts.pipes c ≡ Option.Some pipe →
+        slice_get (replay (record (start [] boot) { board = board }) events).board.parts.pipes c ≡ Option.Some pipe →
         slice_get pipe.counts l ≡ Option.Some n → AreSmall n }
     ensures holds { (boot : Boot) (s : State) → bad_boot boot ≡ false → Ran boot s → (m : ℕ) (mutex : Mutex) →
         slice_get s.board.parts.mutexes m ≡ Option.Some mutex → mutex.count < 2 ^ 29 }
@@ -85,15 +85,15 @@ pub fn counts_never_wrap()
 }
 
 /// After every boot whose numbers are inside their limits, with an image loaded or none, and every list of events the
-/// clock has ticked as often as the journal has a Tick, which is less than 2^29 times; likewise whatever is in RAM and in
-/// the tasks at first, where nothing was counted yet.
+/// clock has ticked as often as the journal has a Tick, which is less than 2^29 times; likewise whatever is in RAM, in
+/// the tasks and in at most 8 devices at first, where nothing was counted yet.
 pub fn the_clock_is_its_ticks()
     ensures ran { (boot : Boot) (s : State) → bad_boot boot ≡ false → Ran boot s →
         s.board.parts.ticks ≡ count_by is_tick s.journal }
     ensures fresh { (boot : Boot) (board : Board) (events : List Event) → bad_boot boot ≡ false →
-        board.parts.pipes ≡ (start boot).board.parts.pipes → board.parts.ticks ≡ 0 →
-        (replay (record (start boot) { board = board }) events).board.parts.ticks
-        ≡ count_by is_tick (replay (record (start boot) { board = board }) events).journal }
+        board.parts.pipes ≡ (start [] boot).board.parts.pipes → board.parts.ticks ≡ 0 → length board.memory.devices ≤ DEVICE_LIMIT →
+        (replay (record (start [] boot) { board = board }) events).board.parts.ticks
+        ≡ count_by is_tick (replay (record (start [] boot) { board = board }) events).journal }
     ensures few { (boot : Boot) (s : State) → bad_boot boot ≡ false → Ran boot s → s.board.parts.ticks < 2 ^ 29 }
 {
     evm_runs::counts_fit(); // the fields ticks and few_ticks

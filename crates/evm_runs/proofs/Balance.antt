@@ -13,7 +13,7 @@ use Rattle.evm_model.specs.declared.stage.Stage.{Stage}
 use Rattle.evm_model.specs.declared.stage.Stage.TheVariants.{OutOfBand, InBand}
 use Rattle.evm_model.proofs.Lists.{change-cases, slice_get-below}
 use Rattle.evm_walk.proofs.Counted.{Counted, raise-counted, receive-counted, timer-counted, play-counted}
-use Rattle.evm_walk.proofs.Sets.{move_kept}
+use Rattle.evm_walk.proofs.Sets.{IsPipe-raise, move_kept}
 use Rattle.evm_walk.proofs.Walk.{PipeMove, raises, receives, plays_timer, plays_oob, plays_in_band, stalls}
 use Rattle.evm_runs.specs.Balance.{one_if, Balances}
 
@@ -174,3 +174,17 @@ lines-balance may _ _ _ (stalls stage b p) s = stall-balances stage b p s
 
 pub move-balances : (may : ℕ → Bool) (n : ℕ) (p q : Pipe) → PipeMove may n p q → PipeBalances p → PipeBalances q
 move-balances may n p q m s = record { pipe = move_kept may n p q m s.pipe; lines = lines-balance may n p q m s }
+
+-- a line that is raised, whichever it is
+pub raise_balances : (l : ℕ) (p : Pipe) → PipeBalances p → PipeBalances (raise l p)
+raise_balances l p s = record {
+  pipe = IsPipe-raise l p s.pipe;
+  lines = λ m n e.
+      let c = raise-counted l p in
+      let f : Counts → Counts = count_raise (has_line p.wire l) in
+      let there : slice_get (change f p.counts l) m ≡ Some n = rw c.counts at e in
+      elim (change-cases f p.counts l m n there) [
+        | inl g ↦ rw (g.0, g.3) (raise-here l p g.1 (rw (← s.pipe.counts) (slice_get-below p.counts l g.1 g.2)) (s.lines l g.1 g.2))
+        | inr g ↦ stays l m p (raise l p) n (raise-apart l p) g.0 (rw (← s.pipe.counts) (slice_get-below p.counts m n g.1)) (s.lines m n g.1)
+      ];
+}

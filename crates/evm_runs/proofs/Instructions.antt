@@ -1,5 +1,5 @@
 -- What an instruction does to memory, and how it calls.
-use Rattle.std.proofs.Common.{◌≡◌, ℕ, List, Bool, true, false, Option, Some, None, ◌⊎◌, inl, inr, refl, ap}
+use Rattle.std.proofs.Common.{◌≡◌, ℕ, ◌+◌, ◌<◌, Bool, true, false, Option, Some, None, length, refl, ap, sym, ◌∙◌}
 use Rattle.std.specs.Prelude.{slice_get, ◌&&◌, not, if◌then◌else◌}
 use Rattle.evm_lines.specs.Lines.{least_line}
 use Rattle.evm_isa.specs.Decoded.{decoded}
@@ -10,20 +10,27 @@ use Rattle.evm_exec.specs.Memory.{width_of_load}
 use Rattle.evm_exec.specs.declared.hart.Hart.{Hart}
 use Rattle.evm_exec.specs.declared.outcome.Effect.{Effect}
 use Rattle.evm_exec.specs.declared.outcome.Effect.TheVariants.{Load, Store, Call}
-use Rattle.evm_ram.specs.Ram.{read_at, write_at}
-use Rattle.evm_ram.specs.declared.width.Width.{Width}
+use Rattle.evm_ram.specs.Laws.{length-write_at}
 use Rattle.evm_model.specs.Commands.{is_set}
+use Rattle.evm_model.specs.Devices.{Attached, Accessed, line_if}
 use Rattle.evm_model.specs.Instructions.{finish_load, finish_store, finish, execute_inst, execute_word, execute}
-use Rattle.evm_model.specs.Memory.{fetch, with_number, write, with_ram}
+use Rattle.evm_model.specs.Memory.{fetch, read, write}
 use Rattle.evm_model.specs.Pipes.{Pipe}
 use Rattle.evm_model.specs.Rows.{run, step_hart, step_current, step_wire, step_pipe, step_processor, step}
 use Rattle.evm_model.specs.Settle.{current, current_of, settle_and_nudge}
-use Rattle.evm_model.specs.State.{Board, Memory, on_parts, on_processor}
+use Rattle.evm_model.specs.State.{Board, Memory, Parts, on_parts, on_processor}
 use Rattle.evm_model.specs.declared.event.Answer.{Answer}
-use Rattle.evm_model.specs.declared.event.Answer.TheVariants.{Stopped}
+use Rattle.evm_model.specs.declared.event.Answer.TheVariants.{Stopped, Received, Idle, Hit, Ran}
+use Rattle.evm_model.specs.declared.limits.TheConstants.{DEVICE_LINE}
 use Rattle.evm_model.specs.declared.processor.Processor.{Processor}
+use Rattle.evm_model.proofs.Lists.{slice_get-below}
 use Rattle.evm_walk.proofs.Rows.{is_call, inst_calls, word_calls}
-use Rattle.evm_runs.specs.Changes.{StoreWrites}
+use Rattle.evm_walk.specs.Raising.{access_of, inst_access, word_access, hart_access, line_of}
+use Rattle.evm_runs.specs.Balance.{line_of_step}
+use Rattle.evm_runs.specs.Kept.{kinds}
+use Rattle.evm_runs.specs.Touching.{MemoryChanges, stands, written, touches as touches_device}
+use Rattle.evm_runs.proofs.Fares.{one_change}
+use Rattle.evm_runs.proofs.Touching.{Reaches, rests, writes, touches, memory_after, reaches, kinds_stay}
 
 -- ---- an ECALL
 -- the instruction at a hart's pc is an ECALL
@@ -50,107 +57,158 @@ pub called : (x : Hart) (m : Memory) → word_calls (fetch x.pc m) x ≡ true �
 called x m e = word_called (fetch x.pc m) x m refl e
 
 -- ---- memory
--- breakpoints stay, and memory does but for a store
-record Stores (effect : Effect) (old new : Board) : Type 0 where
-  breakpoints : new.breakpoints ≡ old.breakpoints
-  memory : (new.memory ≡ old.memory) ⊎ ((width : Width) × ((address : ℕ) × ((value : ℕ) × ((effect ≡ Store width address value) × (write_at old.memory.ram address width value ≡ Some new.memory.ram)))))
+finished_load : (o : Option Accessed) (op : LoadOp) (rd c t : ℕ) (b : Board) → ((finish_load o op rd c t b).breakpoints ≡ b.breakpoints) × ((finish_load o op rd c t b).memory ≡ memory_after o b.memory)
+finished_load None op rd c t b = (refl, refl)
+finished_load (Some access) op rd c t b = (refl, refl)
 
-with_ram-some : (o : Option (List ℕ)) (old new : Memory) → with_ram o old ≡ Some new → o ≡ Some new.ram
-with_ram-some None old new e = cc
-with_ram-some (Some ram) old new e = let same : record old { ram = ram } ≡ new = cc in ap Some (ap (λ (m : Memory). m.ram) same)
+finished_store : (o : Option Accessed) (c t : ℕ) (b : Board) → ((finish_store o c t b).breakpoints ≡ b.breakpoints) × ((finish_store o c t b).memory ≡ memory_after o b.memory)
+finished_store None c t b = (refl, refl)
+finished_store (Some access) c t b = (refl, refl)
 
-loads : (effect : Effect) (o : Option ℕ) (op : LoadOp) (rd c t : ℕ) (b : Board) → Stores effect b (finish_load (with_number o b.memory) op rd c t b)
-loads effect None op rd c t b = record { breakpoints = refl; memory = inl refl }
-loads effect (Some n) op rd c t b = record { breakpoints = refl; memory = inl refl }
-
-stores : (width : Width) (address value c t : ℕ) (o : Option Memory) (b : Board) → write address width value b.memory ≡ o → Stores (Store width address value) b (finish_store o c t b)
-stores width address value c t None b e = record { breakpoints = refl; memory = inl refl }
-stores width address value c t (Some memory) b e = record {
-  breakpoints = refl;
-  memory = inr (width, (address, (value, (refl, with_ram-some (write_at b.memory.ram address width value) b.memory memory e))));
-}
-
-effects : (effect : Effect) (c t : ℕ) (b : Board) → Stores effect b (finish effect c t b)
+finished : (effect : Effect) (c t : ℕ) (b : Board) → ((finish effect c t b).breakpoints ≡ b.breakpoints) × ((finish effect c t b).memory ≡ memory_after (access_of effect b.memory) b.memory)
 unfolding finish
-effects (Load op rd address) c t b = loads (Load op rd address) (read_at b.memory.ram address (width_of_load op)) op rd c t b
-effects (Store width address value) c t b = stores width address value c t (write address width value b.memory) b refl
-effects _ c t b = record { breakpoints = refl; memory = inl refl }
+finished (Load op rd address) c t b = finished_load (read address (width_of_load op) b.memory) op rd c t b
+finished (Store width address value) c t b = finished_store (write address width value b.memory) c t b
+finished _ c t b = (refl, refl)
 
 -- ---- a step
--- what a step leaves of breakpoints and memory
-pub record Writes (c : ℕ) (old new : Board) : Type 0 where
-  pub breakpoints : new.breakpoints ≡ old.breakpoints
-  pub memory : (new.memory ≡ old.memory) ⊎ StoreWrites c old new
+-- what a step that answers so leaves of breakpoints and memory
+pub record Writes (c : ℕ) (old : Board) (after : Board × Answer) : Type 0 where
+  pub breakpoints : after.0.breakpoints ≡ old.breakpoints
+  pub kinds : kinds after.0.memory.devices ≡ kinds old.memory.devices
+  pub ram : length after.0.memory.ram ≡ length old.memory.ram
+  pub memory : MemoryChanges c after.1 old after.0 (line_of_step after.1 old)
+  -- a line that is raised is that of a device
+  pub line : (l : ℕ) → line_of_step after.1 old ≡ Some l → (i : ℕ) × ((i < length old.memory.devices) × (l ≡ DEVICE_LINE + i))
+
+line_is : (b : Bool) (i l : ℕ) → line_if b i ≡ Some l → l ≡ DEVICE_LINE + i
+line_is true i l e = cc
+line_is false i l e = cc
 
 module _ (c : ℕ) (b : Board) where
-  quietly : (new : Board) → new.breakpoints ≡ b.breakpoints → new.memory ≡ b.memory → Writes c b new
-  quietly new e f = record { breakpoints = e; memory = inl f }
+  quietly : (new : Board) (answer : Answer) → line_of_step answer b ≡ None → new.breakpoints ≡ b.breakpoints → new.memory ≡ b.memory → Writes c b (new, answer)
+  quietly new answer none e f = record {
+    breakpoints = e;
+    kinds = ap (λ (m : Memory). kinds m.devices) f;
+    ram = ap (λ (m : Memory). length m.ram) f;
+    memory = rw none (stands f);
+    line = λ l g. let no : None ≡ Some l = sym none ∙ g in cc;
+  }
 
   -- the board with the skip bit off
   abbrev passed : Board
   passed = on_parts (on_processor c (λ p. record p { skip = false })) b
 
   module _ (t : ℕ) (x : Hart) (now : current c b.parts ≡ Some t) (has : slice_get b.parts.harts t ≡ Some x) where
-    wrote : (word : ℕ) (inst : Inst) (y : Board) → fetch x.pc b.memory ≡ Some word → decoded word ≡ Some inst → Stores (does inst x.regs x.pc) passed y → Writes c b (on_parts (settle_and_nudge (Some t) c) y)
-    wrote word inst y f d s = record {
-      breakpoints = s.breakpoints;
-      memory = elim s.memory [
-        | inl same ↦ inl same
-        | inr w ↦ inr (record {
-          task = t;
-          hart = x;
-          word = word;
-          inst = inst;
-          width = w.0;
-          address = w.1.0;
-          value = w.1.1.0;
-          runs = now;
-          has = has;
-          fetched = f;
-          decodes = d;
-          stores = w.1.1.1.0;
-          rest = refl;
-          ram = w.1.1.1.1;
-        })
-      ];
+    wrote : (word : ℕ) (inst : Inst) (line : Option ℕ) (memory : Memory) (parts : Parts) → fetch x.pc b.memory ≡ Some word → decoded word ≡ Some inst → line_of_step (Ran t) b ≡ line → Reaches (does inst x.regs x.pc) b.memory line memory
+        → Writes c b (record b { memory = memory; parts = parts }, Ran t)
+    wrote word inst _ _ parts f d same rests = quietly (record b { parts = parts }) (Ran t) same refl refl
+    wrote word inst _ _ parts f d same (writes width address value ram is there) = record {
+      breakpoints = refl;
+      kinds = refl;
+      ram = length-write_at b.memory.ram address width value ram there;
+      memory = rw same (written (record {
+        task = t;
+        hart = x;
+        word = word;
+        inst = inst;
+        width = width;
+        address = address;
+        value = value;
+        runs = now;
+        has = has;
+        fetched = f;
+        decodes = d;
+        stores = is;
+        rest = refl;
+        ram = there;
+      }));
+      line = λ l g. let no : None ≡ Some l = sym same ∙ g in cc;
+    }
+    wrote word inst _ _ parts f d same (touches op address value access accesses touch) = record {
+      breakpoints = refl;
+      kinds = ap (λ (m : Memory). kinds m.devices) touch.memory ∙ kinds_stay touch.after.words b.memory.devices touch.device;
+      ram = ap (λ (m : Memory). length m.ram) touch.memory;
+      memory = rw same (touches_device access.line (record {
+        task = t;
+        hart = x;
+        word = word;
+        inst = inst;
+        op = op;
+        address = address;
+        value = value;
+        device = touch.device;
+        register = touch.register;
+        attached = touch.attached;
+        after = touch.after;
+        number = touch.number;
+        runs = now;
+        ran = refl;
+        has = has;
+        fetched = f;
+        decodes = d;
+        accesses = accesses;
+        place = touch.place;
+        there = touch.there;
+        row = touch.row;
+        answers = touch.answers;
+        rest = rw touch.memory refl;
+        devices = rw touch.memory (one_change touch.device (λ (one : Attached). record one { words = touch.after.words }) b.memory.devices);
+        raises = touch.raises;
+      }));
+      line = λ l g. (touch.device, (slice_get-below b.memory.devices touch.device touch.attached touch.there, line_is touch.after.touch.raise touch.device l (sym touch.raises ∙ sym same ∙ g)));
     }
 
-    insts : (word : ℕ) (o : Option Inst) → fetch x.pc b.memory ≡ Some word → decoded word ≡ o → Writes c b (on_parts (settle_and_nudge (Some t) c) (execute_inst o x c t passed))
-    insts word None f d = quietly _ refl refl
-    insts word (Some inst) f d = wrote word inst (finish (does inst x.regs x.pc) c t passed) f d (effects (does inst x.regs x.pc) c t passed)
+    -- the line of the instruction
+    own_line : (word : ℕ) (o : Option Inst) → fetch x.pc b.memory ≡ Some word → decoded word ≡ o → line_of_step (Ran t) b ≡ line_of (inst_access o x b.memory)
+    own_line word o f d = ap (λ h. line_of (hart_access h b.memory)) has ∙ ap (λ w. line_of (word_access w x b.memory)) f ∙ ap (λ i. line_of (inst_access i x b.memory)) d
 
-    words : (o : Option ℕ) → fetch x.pc b.memory ≡ o → Writes c b (on_parts (settle_and_nudge (Some t) c) (execute_word o x c t passed))
-    words None f = quietly _ refl refl
+    as_finished : (effect : Effect) → Writes c b (record b { memory = memory_after (access_of effect b.memory) b.memory; parts = settle_and_nudge (Some t) c (finish effect c t passed).parts }, Ran t)
+        → Writes c b (on_parts (settle_and_nudge (Some t) c) (finish effect c t passed), Ran t)
+    as_finished effect w =
+        let f = finished effect c t passed in
+        let same : on_parts (settle_and_nudge (Some t) c) (finish effect c t passed)
+        ≡ record b { memory = memory_after (access_of effect b.memory) b.memory; parts = settle_and_nudge (Some t) c (finish effect c t passed).parts } =
+        ap (λ (m : Memory). record (on_parts (settle_and_nudge (Some t) c) (finish effect c t passed)) { memory = m }) f.1
+        ∙ ap (λ bs. record (on_parts (settle_and_nudge (Some t) c) (finish effect c t passed)) { memory = memory_after (access_of effect b.memory) b.memory; breakpoints = bs }) f.0 in
+        rw same w
+
+    insts : (word : ℕ) (o : Option Inst) → fetch x.pc b.memory ≡ Some word → decoded word ≡ o → Writes c b (on_parts (settle_and_nudge (Some t) c) (execute_inst o x c t passed), Ran t)
+    insts word None f d = quietly _ (Ran t) (own_line word None f d) refl refl
+    insts word (Some inst) f d = as_finished (does inst x.regs x.pc) (wrote word inst _ _ _ f d (own_line word (Some inst) f d) (reaches b.memory (does inst x.regs x.pc)))
+
+    words : (o : Option ℕ) → fetch x.pc b.memory ≡ o → Writes c b (on_parts (settle_and_nudge (Some t) c) (execute_word o x c t passed), Ran t)
+    words None f = quietly _ (Ran t) (ap (λ h. line_of (hart_access h b.memory)) has ∙ ap (λ w. line_of (word_access w x b.memory)) f) refl refl
     words (Some word) f = insts word (decoded word) f refl
 
-    runs : Writes c b (run x c t b).0
+    runs : Writes c b (run x c t b)
     unfolding execute
     runs = words (fetch x.pc b.memory) refl
 
-  either : (p : Bool) (x y : Board × Answer) → Writes c b x.0 → Writes c b y.0 → Writes c b (if p then x else y).0
+  either : (p : Bool) (x y : Board × Answer) → Writes c b x → Writes c b y → Writes c b (if p then x else y)
   either true x y g h = g
   either false x y g h = h
 
-  hart_writes : (o : Option Hart) (p : Processor) (t : ℕ) → current c b.parts ≡ Some t → slice_get b.parts.harts t ≡ o → Writes c b (step_hart o p c t b).0
-  hart_writes None p t now has = quietly b refl refl
-  hart_writes (Some x) p t now has = either (is_set b.breakpoints x.pc && not p.skip) _ (run x c t b) (quietly _ refl refl) (runs t x now has)
+  hart_writes : (o : Option Hart) (p : Processor) (t : ℕ) → current c b.parts ≡ Some t → slice_get b.parts.harts t ≡ o → Writes c b (step_hart o p c t b)
+  hart_writes None p t now has = quietly b Idle refl refl refl
+  hart_writes (Some x) p t now has = either (is_set b.breakpoints x.pc && not p.skip) _ (run x c t b) (quietly _ Hit refl refl refl) (runs t x now has)
 
-  current_writes : (o : Option ℕ) (p : Processor) → current c b.parts ≡ o → Writes c b (step_current o p c b).0
-  current_writes None p now = quietly _ refl refl
+  current_writes : (o : Option ℕ) (p : Processor) → current c b.parts ≡ o → Writes c b (step_current o p c b)
+  current_writes None p now = quietly _ Idle refl refl refl
   current_writes (Some t) p now = hart_writes (slice_get b.parts.harts t) p t now refl
 
-  wire_writes : (o : Option ℕ) (p : Processor) → current c b.parts ≡ p.current → Writes c b (step_wire o p c b).0
+  wire_writes : (o : Option ℕ) (p : Processor) → current c b.parts ≡ p.current → Writes c b (step_wire o p c b)
   wire_writes None p now = current_writes p.current p now
-  wire_writes (Some l) p now = quietly _ refl refl
+  wire_writes (Some l) p now = quietly _ (Received l) refl refl refl
 
-  pipe_writes : (o : Option Pipe) (p : Processor) → current c b.parts ≡ p.current → Writes c b (step_pipe o p c b).0
-  pipe_writes None p now = quietly b refl refl
+  pipe_writes : (o : Option Pipe) (p : Processor) → current c b.parts ≡ p.current → Writes c b (step_pipe o p c b)
+  pipe_writes None p now = quietly b Stopped refl refl refl
   pipe_writes (Some pipe) p now = wire_writes (least_line pipe.wire) p now
 
-  processor_writes : (o : Option Processor) → slice_get b.parts.processors c ≡ o → Writes c b (step_processor o c b).0
-  processor_writes None e = quietly b refl refl
-  processor_writes (Some p) e = either p.stopped (b, Stopped) _ (quietly b refl refl) (pipe_writes (slice_get b.parts.pipes c) p (ap current_of e))
+  processor_writes : (o : Option Processor) → slice_get b.parts.processors c ≡ o → Writes c b (step_processor o c b)
+  processor_writes None e = quietly b Stopped refl refl refl
+  processor_writes (Some p) e = either p.stopped (b, Stopped) _ (quietly b Stopped refl refl refl) (pipe_writes (slice_get b.parts.pipes c) p (ap current_of e))
 
-  pub step_writes : Writes c b (step c b).0
+  pub step_writes : Writes c b (step c b)
   unfolding step
   step_writes = processor_writes (slice_get b.parts.processors c) refl

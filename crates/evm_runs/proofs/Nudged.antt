@@ -1,15 +1,18 @@
 -- How often line 1 is raised on a processor.
-use Rattle.std.proofs.Common.{◌≡◌, ℕ, ◌+◌, List, [], ◌∷◌, ◌++◌, Bool, true, false, cond, not, ◌&&◌, Option, Some, None, Result, Ok, Err, inl, inr, refl, ap, sym, ◌∙◌, subst, arith}
+use Rattle.std.proofs.Common.{◌≡◌, ℕ, ◌+◌, ◌<◌, List, [], ◌∷◌, ◌++◌, Bool, true, false, cond, not, ◌&&◌, Option, Some, None, Result, Ok, Err, length, inl, inr, refl, ap, sym, ◌∙◌, subst, arith}
 use Rattle.std.specs.Prelude.{slice_get, option_map, count_by, replicate, ◌==◌, if◌then◌else◌}
 use Rattle.std.proofs.lemmas.Bool.{cases_eq}
 use Rattle.std.proofs.lemmas.Bool.Decides.{nat_tests}
 use Rattle.std.proofs.lemmas.List.Sums.{sum_by-append}
+use Rattle.evm_lines.specs.Laws.{has_line-with_other}
 use Rattle.evm_lines.specs.Lines.{has_line}
 use Rattle.evm_lines.specs.declared.TheConstants.{LINES}
 use Rattle.evm_model.proofs.Lists.{change-here, change-elsewhere, slice_get-each, slice_get-below, slice_get-within, slice_get-replicate}
-use Rattle.evm_model.specs.Bounds.{STAMPS_PER_EVENT}
 use Rattle.evm_model.specs.Commands.{set_bits}
+use Rattle.evm_ranks.specs.Boosts.{is_number}
+use Rattle.evm_model.specs.Devices.{Attached, raise_line}
 use Rattle.evm_model.specs.Event.{Event}
+use Rattle.evm_model.specs.declared.limits.TheConstants.{DEVICE_LINE}
 use Rattle.evm_model.specs.Good.{Good, GoodState}
 use Rattle.evm_model.specs.Load.{load_board, start_loaded}
 use Rattle.evm_model.specs.Pipes.{Pipe, idle_pipe, no_counts, raise, more_if}
@@ -22,20 +25,22 @@ use Rattle.evm_model.specs.State.{State, Board, Parts, booted, booted_parts, on_
 use Rattle.evm_model.specs.declared.boot.Boot.{Boot}
 use Rattle.evm_model.specs.declared.counts.Counts.{Counts}
 use Rattle.evm_model.specs.declared.event.Answer.{Answer}
-use Rattle.evm_model.specs.declared.event.Event.TheVariants.{Step, Tick, Raise, Bell, Stop, Go, StepI, SetReg, SetPc, Poke, Break, Unbreak}
+use Rattle.evm_model.specs.declared.event.Event.TheVariants.{Step, StepI}
 use Rattle.evm_model.specs.declared.processor.Processor.{Processor}
 use Rattle.evm_model.specs.declared.refusal.Refusal.{Refusal}
 use Rattle.evm_model.specs.declared.refusal.Refusal.TheVariants.{Full}
-use Rattle.evm_walk.proofs.Rows.{MOVES, acting, may_raise, row_walks, Stepped, steps}
-use Rattle.evm_walk.proofs.Walk.{Actor, ArePipes, unchanged, start as begun}
+use Rattle.evm_walk.proofs.Walk.{ArePipes}
 use Rattle.evm_rules.proofs.Keeps.{bits-good, step-good}
 use Rattle.evm_rules.proofs.Private.{wants-not}
 use Rattle.evm_rules.proofs.Replays.{accepted}
 use Rattle.evm_rules.proofs.States.{GoodState-apply, GoodState-loaded, GoodState-start}
-use Rattle.evm_runs.specs.Balance.{is_raise, one_if}
+use Rattle.evm_runs.specs.Balance.{is_raise, one_if, line_of_step, device_raises}
 use Rattle.evm_runs.specs.Nudged.{is_step_elsewhere, finds_better, found, found_count, TellsFrom, AlwaysTells, AlwaysTellsLoaded}
-use Rattle.evm_runs.proofs.Added.{walk_other_pipes}
-use Rattle.evm_runs.proofs.Raised.{RaisedIs, walk-raised, raise-raised, raise_if}
+use Rattle.evm_runs.proofs.Counts.{settled_others}
+use Rattle.evm_runs.proofs.Executing.{StepParts, step_parts}
+use Rattle.evm_runs.proofs.Instructions.{step_writes}
+use Rattle.evm_runs.proofs.Raised.{RaisedIs, raise-raised, is_step, other-raised, before_told, and_none}
+use Rattle.evm_runs.proofs.Runs.{more_is}
 
 plus_none : (d r : ℕ) (k : Parts) → RaisedIs d 1 r k → RaisedIs d 1 (r + 0) k
 plus_none d r k s = record { times = λ p n e g. omega (arith, s.times p n e g) }
@@ -73,39 +78,68 @@ not_found d (Some pipe) k good e =
 is_same : (d c : ℕ) → d ≡ c → (d == c) ≡ true
 is_same d c e = grind (arith, nat_tests)
 
+-- a device's line is another than line 1
+not_one : (o : Option ℕ) (count : ℕ) → ((m : ℕ) → o ≡ Some m → (i : ℕ) × ((i < count) × (m ≡ DEVICE_LINE + i))) → is_number o 1 ≡ false
+not_one None count is = refl
+not_one (Some m) count is = let w = is m refl in let other : m ≡ 1 → ⊥ = λ same. omega (arith, w.1.1, same) in grind (arith, nat_tests)
+
+still_better : (d m : ℕ) (o : Option Pipe) (k : Parts) → (1 ≡ m → ⊥) → finds_better d (option_map (raise m) o) k ≡ finds_better d o k
+unfolding raise
+still_better d m None k other = refl
+still_better d m (Some p) k other = ap (λ (on : Bool). not p.oob.stalled && (not on && differs (best d k.mutexes k.tasks) (current d k))) (has_line-with_other p.wire m 1 other (omega arith))
+
+-- it is nothing that asks a processor to reschedule
+line_better : (o : Option ℕ) (d : ℕ) (old k : Parts) → is_number o 1 ≡ false → finds_better d (slice_get (raise_line o old).pipes d) k ≡ finds_better d (slice_get old.pipes d) k
+line_better None d old k none = refl
+line_better (Some m) d old k none = elim (cases_eq d 0) [
+  | inl same ↦
+      let other : 1 ≡ m → ⊥ = λ one. (let yes : (m == 1) ≡ true = grind (arith, nat_tests) in cc) in
+      rw same (ap (λ (o : Option Pipe). finds_better 0 o k) (change-here (raise m) old.pipes 0) ∙ still_better 0 m (slice_get old.pipes 0) k other)
+  | inr other ↦ ap (λ (o : Option Pipe). finds_better d o k) (change-elsewhere (raise m) old.pipes 0 d other)
+]
+
 module _ (c d r : ℕ) (b : Board) (are : ArePipes b.parts) (s : RaisedIs d 1 r b.parts) where
-  abbrev a : Actor
-  a = record { cpu = c; task = current c b.parts; may = λ e l. false; chooses = true; calls = true }
+  abbrev stepped : StepParts c b (step c b)
+  stepped = step_parts c b
 
-  stepped : Stepped a b.parts (step c b).0.parts
-  stepped =
-      steps a b.parts b (record { chooses = refl; acts = λ pipe f wire. refl; calls = λ t x now has g. refl }) (unchanged b.parts) refl begun
+  abbrev line : Option ℕ
+  line = line_of_step (step c b).1 b
 
-  before : RaisedIs d 1 r stepped.between
-  before = walk-raised d 1 r a b.parts 65 2241 stepped.between refl are stepped.walk s
+  none : is_number line 1 ≡ false
+  none = not_one line (length b.memory.devices) (λ m e. (step_writes c b).line m e)
+
+  before : RaisedIs d 1 r stepped.settled
+  before =
+      let hit : (0 == d && is_number line 1) ≡ false = ap (λ (x : Bool). 0 == d && x) none ∙ and_none (0 == d) in
+      let same : r + one_if (0 == d && is_number line 1) ≡ r = ap (λ (x : Bool). r + one_if x) hit ∙ plus_zero r in
+      subst (λ (n : ℕ). RaisedIs d 1 n stepped.settled) same (before_told d 1 r c b stepped are s)
+    where
+      plus_zero : (n : ℕ) → n + 0 ≡ n
+      plus_zero n = omega arith
 
   own_step : (better : Bool) → d ≡ c → RaisedIs d 1 (r + one_if (not (d == c) && better)) (step c b).0.parts
   own_step better same =
       let it : (d == c) ≡ true = is_same d c same in
       elim stepped.told [
-        | inl still ↦ rw (it, still) (plus_none d r stepped.between before)
-        | inr nudges ↦ let after = told c d r stepped.between before in rw (it, nudges) (rw it at after)
+        | inl still ↦ rw (it, still) (plus_none d r stepped.settled before)
+        | inr nudges ↦ let after = told c d r stepped.settled before in rw (it, nudges) (rw it at after)
       ]
 
   other_step : (d ≡ c → ⊥) → Good (step c b).0.parts → RaisedIs d 1 (r + one_if (not (d == c) && finds_better d (slice_get b.parts.pipes d) (step c b).0.parts)) (step c b).0.parts
   other_step other good =
       let new : Parts = (step c b).0.parts in
-      let pipe : slice_get stepped.between.pipes d ≡ slice_get b.parts.pipes d = walk_other_pipes a b.parts d other (λ e l. refl) 65 2241 stepped.between stepped.walk in
+      let pipe : slice_get stepped.settled.pipes d ≡ slice_get (raise_line line b.parts).pipes d = settled_others c b d other in
+      let first : (k : Parts) → finds_better d (slice_get stepped.settled.pipes d) k ≡ finds_better d (slice_get b.parts.pipes d) k = λ k. ap (λ (o : Option Pipe). finds_better d o k) pipe ∙ line_better line d b.parts k none in
       elim stepped.told [
         | inl still ↦
-            let none : finds_better d (slice_get b.parts.pipes d) new ≡ false = not_found d (slice_get b.parts.pipes d) new good (ap (λ (k : Parts). slice_get k.pipes d) still ∙ pipe) in
-            let now : RaisedIs d 1 (r + 0) new = rw still (plus_none d r stepped.between before) in
-            subst (λ (x : Bool). RaisedIs d 1 (r + one_if x) new) (sym (none_of (not (d == c)) (finds_better d (slice_get b.parts.pipes d) new) none)) now
+            let off : finds_better d (slice_get b.parts.pipes d) new ≡ false = sym (first new) ∙ not_found d (slice_get stepped.settled.pipes d) new good (ap (λ (k : Parts). slice_get k.pipes d) still) in
+            let now : RaisedIs d 1 (r + 0) new = rw still (plus_none d r stepped.settled before) in
+            subst (λ (x : Bool). RaisedIs d 1 (r + one_if x) new) (sym (none_of (not (d == c)) (finds_better d (slice_get b.parts.pipes d) new) off)) now
         | inr nudges ↦
-            let after : RaisedIs d 1 (r + one_if (not (d == c) && finds_better d (slice_get stepped.between.pipes d) stepped.between)) (nudge c stepped.between) = told c d r stepped.between before in
-            let better : finds_better d (slice_get b.parts.pipes d) new ≡ finds_better d (slice_get stepped.between.pipes d) stepped.between =
-            ap (finds_better d (slice_get b.parts.pipes d)) nudges ∙ same_after c d (slice_get b.parts.pipes d) stepped.between ∙ ap (λ (o : Option Pipe). finds_better d o stepped.between) (sym pipe) in
-            let there : RaisedIs d 1 (r + one_if (not (d == c) && finds_better d (slice_get stepped.between.pipes d) stepped.between)) new = rw nudges after in
+            let after : RaisedIs d 1 (r + one_if (not (d == c) && finds_better d (slice_get stepped.settled.pipes d) stepped.settled)) (nudge c stepped.settled) = told c d r stepped.settled before in
+            let better : finds_better d (slice_get b.parts.pipes d) new ≡ finds_better d (slice_get stepped.settled.pipes d) stepped.settled =
+            ap (finds_better d (slice_get b.parts.pipes d)) nudges ∙ same_after c d (slice_get b.parts.pipes d) stepped.settled ∙ sym (first stepped.settled) in
+            let there : RaisedIs d 1 (r + one_if (not (d == c) && finds_better d (slice_get stepped.settled.pipes d) stepped.settled)) new = rw nudges after in
             subst (λ (x : Bool). RaisedIs d 1 (r + one_if (not (d == c) && x)) new) (sym better) there
       ]
     where
@@ -160,8 +194,15 @@ module _ (s : State) (d r : ℕ) (good : GoodState s) (h : RaisedIs d 1 r s.boar
   are : ArePipes s.board.parts
   are = record { each = good.good.pipes }
 
-  quiet : (event : Event) → board_refusal event s.board ≡ None → may_raise event d 1 ≡ false → RaisedIs d 1 r (row event s.board).0.parts
-  quiet event e o = walk-raised d 1 r (acting event s.board.parts) s.board.parts MOVES STAMPS_PER_EVENT (row event s.board).0.parts o are (row_walks event s.board e) h
+  -- an event that is no step
+  other_row : (event : Event) → is_step event ≡ false → is_step_elsewhere d event ≡ false → device_raises 1 event s.board ≡ false
+      → RaisedIs d 1 (more_if (is_raise d 1 event) r + one_if (is_step_elsewhere d event && finds_better d (slice_get s.board.parts.pipes d) (row event s.board).0.parts)) (row event s.board).0.parts
+  other_row event none still quiet =
+      let hit : (0 == d && device_raises 1 event s.board) ≡ false = ap (λ (x : Bool). 0 == d && x) quiet ∙ and_none (0 == d) in
+      let elsewhere : (is_step_elsewhere d event && finds_better d (slice_get s.board.parts.pipes d) (row event s.board).0.parts) ≡ false = ap (λ (x : Bool). x && finds_better d (slice_get s.board.parts.pipes d) (row event s.board).0.parts) still in
+      let one = ap one_if hit in
+      let two = ap one_if elsewhere in
+      subst (λ (n : ℕ). RaisedIs d 1 n (row event s.board).0.parts) (omega (arith, more_is (is_raise d 1 event) r, one, two)) (other-raised s.board d 1 r h event none)
 
   abbrev after : Event → Parts
   after event = (row event s.board).0.parts
@@ -179,17 +220,8 @@ module _ (s : State) (d r : ℕ) (good : GoodState s) (h : RaisedIs d 1 r s.boar
       → RaisedIs d 1 (more_if (is_raise d 1 event) r + one_if (is_step_elsewhere d event && finds_better d (slice_get s.board.parts.pipes d) (row event s.board).0.parts)) (row event s.board).0.parts
   unfolding row
   row_tells (Step c) e its = step_tells c d r s.board are h its
-  row_tells Tick e its = plus_none d r _ (quiet Tick e refl)
-  row_tells (Raise c m) e its = plus_none d _ _ (raise_if (c == d && m == 1) d c 1 m r s.board.parts refl (λ o. quiet (Raise c m) e o) h)
-  row_tells (Bell c m) e its = plus_none d _ _ (raise_if (c == d && m == 1) d c 1 m r s.board.parts refl (λ o. quiet (Bell c m) e o) h)
-  row_tells (Stop c) e its = plus_none d r _ (quiet (Stop c) e refl)
-  row_tells (Go c) e its = plus_none d r _ (quiet (Go c) e refl)
   row_tells (StepI c) e its = single c (step-good c (on_parts (set_bits false true c) s.board) (bits-good false true c s.board.parts good.good))
-  row_tells (SetReg c x value) e its = plus_none d r _ (quiet (SetReg c x value) e refl)
-  row_tells (SetPc c pc) e its = plus_none d r _ (quiet (SetPc c pc) e refl)
-  row_tells (Poke address bytes) e its = plus_none d r _ (quiet (Poke address bytes) e refl)
-  row_tells (Break address) e its = plus_none d r _ (quiet (Break address) e refl)
-  row_tells (Unbreak address) e its = plus_none d r _ (quiet (Unbreak address) e refl)
+  row_tells event e its = other_row event refl refl refl
 
 -- ---- the journal
 one_more : (b : Bool) → 0 + cond b 1 0 ≡ one_if b
@@ -200,10 +232,6 @@ counted : (d : ℕ) (events : List Event) (event : Event) → count_by (is_raise
 counted d events event =
     let split : count_by (is_raise d 1) (events ++ event ∷ []) ≡ count_by (is_raise d 1) events + (0 + cond (is_raise d 1 event) 1 0) = sum_by-append (λ (e : Event). cond (is_raise d 1 e) 1 0) events (event ∷ []) in
     split ∙ ap (λ n. count_by (is_raise d 1) events + n) (one_more (is_raise d 1 event))
-
-more_is : (b : Bool) (r : ℕ) → more_if b r ≡ r + one_if b
-more_is true r = refl
-more_is false r = omega arith
 
 allowed : (s : State) (event : Event) (full : Bool) → (if full then Some Full else board_refusal event s.board) ≡ None → board_refusal event s.board ≡ None
 allowed s event true e = cc
@@ -261,16 +289,16 @@ idle_counts pipes cpus d p n all f g =
     let none : slice_get idle_pipe.counts 1 ≡ Some n = rw idle at g in
     let zeros : n ≡ no_counts = slice_get-replicate LINES no_counts 1 n none in ap (λ (m : Counts). m.raised) zeros
 
-booted_idle : (boot : Boot) (d : ℕ) → RaisedIs d 1 0 (start boot).board.parts
+booted_idle : (devices : List Attached) (boot : Boot) (d : ℕ) → RaisedIs d 1 0 (start devices boot).board.parts
 unfolding booted booted_parts
-booted_idle boot d = record { times = λ p n f g. idle_counts _ boot.cpus d p n refl f g }
+booted_idle devices boot d = record { times = λ p n f g. idle_counts _ boot.cpus d p n refl f g }
 
-loaded_idle : (byte : ℕ → ℕ) (entry : ℕ) (boot : Boot) (d : ℕ) → RaisedIs d 1 0 (start_loaded byte entry boot).board.parts
+loaded_idle : (devices : List Attached) (byte : ℕ → ℕ) (entry : ℕ) (boot : Boot) (d : ℕ) → RaisedIs d 1 0 (start_loaded devices byte entry boot).board.parts
 unfolding load_board booted booted_parts
-loaded_idle byte entry boot d = record { times = λ p n f g. idle_counts _ boot.cpus d p n refl f g }
+loaded_idle devices byte entry boot d = record { times = λ p n f g. idle_counts _ boot.cpus d p n refl f g }
 
 pub always_tells : AlwaysTells
-always_tells boot fits = from_none (start boot) (GoodState-start boot fits) refl (booted_idle boot)
+always_tells devices boot are fits = from_none (start devices boot) (GoodState-start devices boot are fits) refl (booted_idle devices boot)
 
 pub always_tells_loaded : AlwaysTellsLoaded
-always_tells_loaded byte entry boot fits multiple = from_none (start_loaded byte entry boot) (GoodState-loaded byte entry boot fits multiple) refl (loaded_idle byte entry boot)
+always_tells_loaded devices byte entry boot are fits multiple = from_none (start_loaded devices byte entry boot) (GoodState-loaded devices byte entry boot are fits multiple) refl (loaded_idle devices byte entry boot)

@@ -1,26 +1,25 @@
 -- What each call leaves alone of its own task, and what an ECALL does.
-use Rattle.std.proofs.Common.{◌≡◌, ℕ, ◌-◌, List, Bool, true, false, not, Option, Some, None, length, ◌⊎◌, inl, inr, refl, ap, sym, ◌∙◌}
-use Rattle.std.specs.Prelude.{slice_get, option_map, is_none, nat_lt, nat_le, ◌==◌, ◌&&◌, if◌then◌else◌}
+use Rattle.std.proofs.Common.{◌≡◌, ℕ, List, Bool, true, false, not, Option, Some, None, length, ◌⊎◌, inl, inr, refl, ap, sym, ◌∙◌}
+use Rattle.std.specs.Prelude.{slice_get, option_map, is_none, nat_lt, nat_le, ◌&&◌, if◌then◌else◌}
 use Rattle.std.proofs.lemmas.Bool.{cases_eq}
 use Rattle.evm_exec.specs.Registers.{register_of}
 use Rattle.evm_exec.specs.declared.hart.Hart.{Hart}
-use Rattle.evm_ranks.specs.Boosts.{is_number}
 use Rattle.evm_model.specs.Calls.{call_of, call_stage, perform, is_weak_oob, return_weak, answered, finish_call, ask_oob, call_on, call_known, call}
 use Rattle.evm_model.specs.Errnos.{refusal_answer}
 use Rattle.evm_model.specs.Good.{is_ready}
 use Rattle.evm_model.specs.Harts.{A7, advance, answer, argument, spawned_hart}
 use Rattle.evm_model.specs.InBandCalls.{exit, putc, yield_now, is_bad_entry, add_task, spawn, wait_line_unless, wait_line, attach_as, attach, detach}
 use Rattle.evm_model.specs.Lists.{change}
-use Rattle.evm_model.specs.Locks.{mutex_of, add_mutex, new_mutex_as, new_mutex, take_mutex, lock_again, cycle_refusal, lock_other, lock_owned, lock_known, lock, try_owned, try_known, try_lock, unlock_once, unlock_known, unlock}
-use Rattle.evm_model.specs.Mutexes.{owns_any, held_by}
+use Rattle.evm_model.specs.Notices.{asks_for, notify}
+use Rattle.evm_model.specs.Mutexes.{owns_any}
 use Rattle.evm_model.specs.OobCalls.{stall, switch_oob, switch_in_band, is_scheduled_task, schedule_as, set_sched, set_mode, yield_oob, clock, state_bits}
-use Rattle.evm_model.specs.Passing.{pass_on, pass_below, end_task}
+use Rattle.evm_model.specs.Passing.{pass_below, end_task}
 use Rattle.evm_model.specs.Policies.{policy_of}
 use Rattle.evm_model.specs.Profiles.{line_count}
 use Rattle.evm_model.specs.Ranks.{is_oob_ready}
 use Rattle.evm_model.specs.Settle.{is_oob, is_oob_task}
 use Rattle.evm_model.specs.Stages.{refused, is_stalled, is_attached, may_promote, wait_refusal}
-use Rattle.evm_model.specs.State.{Parts, new_task, no_mode, on_hart, on_mutex}
+use Rattle.evm_model.specs.State.{Parts, new_task, no_mode, on_hart}
 use Rattle.evm_model.specs.Tasks.{restamp, set_state, leave_in_band, demote, promote, set_policy, clear_policy, set_mode_bits, is_weak}
 use Rattle.evm_model.specs.Waits.{begin_wait}
 use Rattle.evm_model.specs.declared.call.Call.{Call}
@@ -29,8 +28,9 @@ use Rattle.evm_model.specs.declared.call.Outcome.{Outcome}
 use Rattle.evm_model.specs.declared.call.Outcome.TheVariants.{Answers, Waits as Blocks, Leaves as Left}
 use Rattle.evm_model.specs.declared.errno.Errno.{Errno}
 use Rattle.evm_model.specs.declared.errno.Errno.TheVariants.{NotPermitted, NoSuchCall}
-use Rattle.evm_model.specs.declared.limits.TheConstants.{SLICE, TASK_LIMIT, MODE_LIMIT, MUTEX_LIMIT}
-use Rattle.evm_model.specs.declared.mutex.Mutex.{Mutex}
+use Rattle.evm_model.specs.declared.limits.TheConstants.{SLICE, TASK_LIMIT, MODE_LIMIT}
+use Rattle.evm_model.specs.declared.notice.NoticeKind.{NoticeKind}
+use Rattle.evm_model.specs.declared.notice.NoticeKind.TheVariants.{DemotedByCall}
 use Rattle.evm_model.specs.declared.stage.Stage.{Stage}
 use Rattle.evm_model.specs.declared.stage.Stage.TheVariants.{OutOfBand, InBand}
 use Rattle.evm_model.specs.declared.task.Class.{Class}
@@ -38,11 +38,12 @@ use Rattle.evm_model.specs.declared.task.Class.TheVariants.{Unattached}
 use Rattle.evm_model.specs.declared.task.Task.{Task}
 use Rattle.evm_model.specs.declared.task.TaskState.{TaskState}
 use Rattle.evm_model.specs.declared.task.TaskState.TheVariants.{InReady, OobReady, Exit}
-use Rattle.evm_model.specs.declared.task.Wait.TheVariants.{Line, Lock as Locked}
+use Rattle.evm_model.specs.declared.task.Wait.TheVariants.{Line}
 use Rattle.evm_model.proofs.Lists.{change-here, change-elsewhere, slice_get-before}
 use Rattle.evm_runs.specs.Own.{Fields, nothing, waiting, changes, may_change, Leaves, OnlyAnswers, CallsLeave}
 use Rattle.evm_runs.proofs.Fares.{both}
-use Rattle.evm_runs.proofs.Owning.{Own, Apart, leaves_all, turned, alone, same, either, passes_on, passes_below, waits, waits_unless}
+use Rattle.evm_runs.proofs.Owning.{Own, Apart, leaves_all, turned, alone, same, either, passes_below, waits}
+use Rattle.evm_runs.proofs.Own_mutexes.{makes, locks, tries, unlocks}
 use Rattle.evm_runs.proofs.Own_objects.{sets_up, gets, tries_get, puts, adds_flags_group, takes_word, posts, adds_a_timer, sets_a_timer, awaits_a_timer, sleeps, sets_line, adds_an_event, waits_event, signals, broadcasts}
 
 module _ (t : ℕ) (task : Task) (k : Parts) (there : slice_get k.tasks t ≡ Some task) (ready : is_ready task.state ≡ true) where
@@ -132,68 +133,6 @@ module _ (t : ℕ) (task : Task) (k : Parts) (there : slice_get k.tasks t ≡ So
   unfolding detach
   detaches = either t task k there ready (changes Detach) (not (is_attached t k)) _ _ (same t task k there ready (changes Detach)) (either t task k there ready (changes Detach) (owns_any t k.mutexes) _ _ (same t task k there ready (changes Detach)) clears)
 
-  -- ---- mutexes
-  makes_as : (o : Option Mutex) → Own nothing t task k (new_mutex_as o k).0
-  unfolding add_mutex
-  makes_as None = same t task k there ready nothing
-  makes_as (Some mutex) = either t task k there ready nothing (nat_le MUTEX_LIMIT (length k.mutexes)) _ _ (same t task k there ready nothing) (alone t task k there ready nothing _ (record { task = refl; hart = refl }))
-
-  makes : (kind priority : ℕ) → Own nothing t task k (new_mutex kind priority k).0
-  unfolding new_mutex
-  makes kind priority = makes_as (mutex_of kind priority)
-
-  takes : (may : Fields) (m : ℕ) → Own may t task k (take_mutex t m k)
-  unfolding take_mutex
-  takes may m = alone t task k there ready may _ (record { task = refl; hart = refl })
-
-  again : (may : Fields) (m : ℕ) (mutex : Mutex) → Own may t task k (lock_again t m mutex k).0
-  unfolding lock_again
-  again may m mutex = either t task k there ready may mutex.recursive _ _ (alone t task k there ready may _ (record { task = refl; hart = refl })) (same t task k there ready may)
-
-  locks_other : (c m u deadline : ℕ) → Own waiting t task k (lock_other c t m u deadline k).0
-  unfolding lock_other
-  locks_other c m u deadline = waits_unless t task k there ready (wait_refusal (is_stalled OutOfBand c k) (cycle_refusal t u k) k.ticks deadline) (Locked m) deadline
-
-  locks_owned : (o : Option ℕ) (c m deadline : ℕ) (mutex : Mutex) → Own waiting t task k (lock_owned o c t m deadline mutex k).0
-  locks_owned None c m deadline mutex = takes waiting m
-  locks_owned (Some u) c m deadline mutex = either t task k there ready waiting (u == t) _ _ (again waiting m mutex) (locks_other c m u deadline)
-
-  locks_known : (o : Option Mutex) (c m deadline : ℕ) → Own waiting t task k (lock_known o c t m deadline k).0
-  locks_known None c m deadline = same t task k there ready waiting
-  locks_known (Some mutex) c m deadline = locks_owned mutex.owner c m deadline mutex
-
-  locks : (c m deadline : ℕ) → Own waiting t task k (lock c t m deadline k).0
-  unfolding lock
-  locks c m deadline = locks_known (slice_get k.mutexes m) c m deadline
-
-  tries_owned : (o : Option ℕ) (m : ℕ) (mutex : Mutex) → Own nothing t task k (try_owned o t m mutex k).0
-  tries_owned None m mutex = takes nothing m
-  tries_owned (Some u) m mutex = either t task k there ready nothing (u == t) _ _ (again nothing m mutex) (same t task k there ready nothing)
-
-  tries_known : (o : Option Mutex) (m : ℕ) → Own nothing t task k (try_known o t m k).0
-  tries_known None m = same t task k there ready nothing
-  tries_known (Some mutex) m = tries_owned mutex.owner m mutex
-
-  tries : (m : ℕ) → Own nothing t task k (try_lock t m k).0
-  unfolding try_lock
-  tries m = tries_known (slice_get k.mutexes m) m
-
-  unlocks_if : (b : Bool) (m count : ℕ) → Own nothing t task k (if b then pass_on m k else on_mutex m (held_by t count) k)
-  unlocks_if true m count = alone t task k there ready nothing _ (passes_on t task k there ready m k (record { task = refl; hart = refl }))
-  unlocks_if false m count = alone t task k there ready nothing _ (record { task = refl; hart = refl })
-
-  unlocks_once : (m : ℕ) (mutex : Mutex) → Own nothing t task k (unlock_once t m mutex k)
-  unfolding unlock_once
-  unlocks_once m mutex = unlocks_if (nat_le mutex.count 1) m (mutex.count - 1)
-
-  unlocks_known : (o : Option Mutex) (m : ℕ) → Own nothing t task k (unlock_known o t m k).0
-  unlocks_known None m = same t task k there ready nothing
-  unlocks_known (Some mutex) m = either t task k there ready nothing (is_number mutex.owner t) _ _ (unlocks_once m mutex) (same t task k there ready nothing)
-
-  unlocks : (m : ℕ) → Own nothing t task k (unlock t m k).0
-  unfolding unlock
-  unlocks m = unlocks_known (slice_get k.mutexes m) m
-
   -- ---- of the out-of-band kernel, and of either t task k there ready
   stalls : (stage : Stage) (stalled : Bool) (c : ℕ) → Own nothing t task k (stall stage stalled c k).0
   unfolding stall
@@ -268,7 +207,7 @@ module _ (t : ℕ) (task : Task) (k : Parts) (there : slice_get k.tasks t ≡ So
   performs WaitLine h c = waits_line c (argument 0 h)
   performs Attach h c = attaches (argument 0 h) (argument 1 h)
   performs Detach h c = detaches
-  performs NewMutex h c = makes (argument 0 h) (argument 1 h)
+  performs NewMutex h c = makes t task k there ready (argument 0 h) (argument 1 h)
   performs NewSemaphore h c = sets_up t task k there ready (argument 0 h)
   performs NewEvent h c = adds_an_event t task k there ready
   performs NewFlags h c = adds_flags_group t task k there ready
@@ -278,9 +217,9 @@ module _ (t : ℕ) (task : Task) (k : Parts) (there : slice_get k.tasks t ≡ So
   performs SwitchInBand h c = switches_in_band c
   performs SetSched h c = sets_sched (argument 0 h) (argument 1 h) (argument 2 h)
   performs SetMode h c = sets_mode (argument 0 h)
-  performs Lock h c = locks c (argument 0 h) (argument 1 h)
-  performs TryLock h c = tries (argument 0 h)
-  performs Unlock h c = unlocks (argument 0 h)
+  performs Lock h c = locks t task k there ready c (argument 0 h) (argument 1 h)
+  performs TryLock h c = tries t task k there ready (argument 0 h)
+  performs Unlock h c = unlocks t task k there ready (argument 0 h)
   performs SemGet h c = gets t task k there ready c (argument 0 h) (argument 1 h)
   performs SemTryGet h c = tries_get t task k there ready (argument 0 h)
   performs SemPut h c = puts t task k there ready (argument 0 h)
@@ -424,9 +363,15 @@ module _ (c t : ℕ) (task : Task) (hart : Hart) where
     unfolding ask_oob
     asks made e = either_after (changes made) (may_promote c t k) _ _ (λ may. goes_oob (changes made) k (λ no. not_oob e) (itself (changes made))) (λ no. refuses (changes made) NotPermitted)
 
+    noted_after : (may : Fields) (kind : NoticeKind) (x : Parts) → After may t task hart x → After may t task hart (notify kind t x)
+    unfolding notify
+    noted_after may kind x a =
+        either_after may (asks_for kind (slice_get x.tasks t)) _ x (λ e. record { after = a.after; left = a.left; there = a.there; has = a.has; leaves = a.leaves; answers = a.answers }) (λ e. a)
+
     calls_on : (o : Option Stage) (made : Call) → After (changes made) t task hart (call_on o made hart c t k)
     calls_on None made = done made
-    calls_on (Some InBand) made = either_after (changes made) (is_oob (Some t) k.tasks) _ _ (λ e. goes_in_band (changes made) k (λ no. not_in_band e) (itself (changes made))) (λ e. done made)
+    calls_on (Some InBand) made =
+        either_after (changes made) (is_oob (Some t) k.tasks) _ _ (λ e. noted_after (changes made) DemotedByCall (demote c t k) (goes_in_band (changes made) k (λ no. not_in_band e) (itself (changes made)))) (λ e. done made)
     calls_on (Some OutOfBand) made = either_after (changes made) (is_oob (Some t) k.tasks) _ _ (λ e. done made) (λ e. asks made e)
 
     known : (o : Option Call) → After (may_change o) t task hart (call_known o hart c t k)

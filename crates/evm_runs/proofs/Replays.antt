@@ -16,7 +16,7 @@ replays_join s (event ∷ events) rest = replays_join (left_by (apply s event) s
 
 pub starts_as_replay : StartsAsReplay
 unfolding replay
-starts_as_replay boot = record { replayed = refl }
+starts_as_replay devices boot = record { replayed = refl }
 
 -- an accepted event, replayed alone
 one_accepted : (s : State) (event : Event) → is_full s ≡ false → board_refusal event s.board ≡ None → replay s (event ∷ []) ≡ (accept event (row event s.board) s).0

@@ -1,67 +1,38 @@
--- What a step changes, and how many there are of each afterwards.
-use Rattle.std.proofs.Common.{◌≡◌, ℕ, ◌+◌, ◌<◌, ◌≤◌, List, [], ◌∷◌, Bool, true, false, not, Option, Some, None, length, ◌⊎◌, inl, inr, refl, ap, sym, ◌∙◌, subst, arith}
+-- What a step changes.
+use Rattle.std.proofs.Common.{◌≡◌, ℕ, ◌<◌, ◌≤◌, List, [], ◌∷◌, Bool, true, false, not, Option, Some, None, length, ◌⊎◌, inl, inr, refl, ap, sym, ◌∙◌, subst, arith}
 use Rattle.std.specs.Prelude.{slice_get, option_map, is_none, ◌==◌, if◌then◌else◌}
+use Rattle.std.proofs.lemmas.Bool.Decides.{nat_tests}
 use Rattle.evm_lines.specs.Lines.{has_line, least_line}
 use Rattle.evm_exec.specs.declared.hart.Hart.{Hart}
-use Rattle.evm_ram.specs.Laws.{length-write_at}
+use Rattle.evm_model.specs.Devices.{raise_line}
 use Rattle.evm_model.specs.Good.{Good, is_ready, is_waiting}
 use Rattle.evm_model.specs.Memory.{fetch}
 use Rattle.evm_model.specs.Pipes.{Pipe, raise}
 use Rattle.evm_model.specs.Rows.{step}
 use Rattle.evm_model.specs.Settle.{current, current_of, nudge, nudge_pipe, wants_nudge}
 use Rattle.evm_model.specs.State.{Board, Memory, Parts}
-use Rattle.evm_model.specs.declared.limits.TheConstants.{SLICE, TASK_LIMIT}
+use Rattle.evm_model.specs.declared.limits.TheConstants.{DEVICE_LIMIT, DEVICE_LINE, SLICE}
 use Rattle.evm_model.specs.declared.mutex.Mutex.{Mutex}
 use Rattle.evm_model.specs.declared.processor.Processor.{Processor}
 use Rattle.evm_model.specs.declared.task.Task.{Task}
 use Rattle.evm_model.specs.declared.task.TaskState.{TaskState}
 use Rattle.evm_model.specs.declared.task.TaskState.TheVariants.{InReady, OobReady}
 use Rattle.evm_model.proofs.Lists.{slice_get-below, slice_get-each, slice_get-within}
-use Rattle.evm_walk.proofs.Rows.{word_calls, MaySteps, Stepped, steps, stepped_walk}
-use Rattle.evm_walk.proofs.Sizes.{walk_sizes, walk_least, walk_ticks}
+use Rattle.evm_walk.proofs.Rows.{word_calls, MaySteps, steps, stepped_walk}
+use Rattle.evm_walk.proofs.Sizes.{walk_least}
 use Rattle.evm_walk.proofs.Walk.{Actor, Makes, unchanged, Walk, start}
-use Rattle.evm_runs.specs.Changes.{MakesCall, MakesNone, StoreWrites, Stays, Spends, MutexesStay, MutexesTaken, ObjectsChange, Schedules, Hears, StepChanges, Added}
-use Rattle.evm_runs.specs.Kept.{AllHaveRegisters}
-use Rattle.evm_runs.proofs.Added.{walk_registers, walk_added, walk_made, walk_typed, walk_processors, walk_other_pipes}
+use Rattle.evm_runs.specs.Balance.{line_of_step}
+use Rattle.evm_runs.specs.Changes.{MakesCall, MakesNone, Stays, Spends, MutexesStay, MutexesTaken, ObjectsChange, Schedules, Hears, StepChanges}
+use Rattle.evm_runs.proofs.Added.{walk_added, walk_made, walk_typed, walk_processors}
+use Rattle.evm_runs.proofs.Counts.{settled_others, step_ticks}
+use Rattle.evm_runs.proofs.Executing.{StepParts, step_parts, step_notices}
+use Rattle.evm_runs.proofs.Received.{hears, received_rests}
 use Rattle.evm_runs.proofs.Fares.{one_change, ends_wider, Fares, still, still_by}
 use Rattle.evm_runs.proofs.Frames.{Asked, Frame, walk_frame}
 use Rattle.evm_runs.proofs.Named.{AreNamed, named_good}
 use Rattle.evm_runs.proofs.Taken.{walk_taken}
 use Rattle.evm_runs.proofs.Objects.{objects_wider, walk_objects}
 use Rattle.evm_runs.proofs.Instructions.{Calls, called, step_writes}
-
--- as many of each, but for tasks, of which there may be more, a hart for each; and tasks keep their registers
-pub record SameCounts (old new : Board) : Type 0 where
-  pub processors : length new.parts.processors ≡ length old.parts.processors
-  pub pipes : length new.parts.pipes ≡ length old.parts.pipes
-  pub ram : length new.memory.ram ≡ length old.memory.ram
-  pub tasks : length old.parts.tasks ≤ length new.parts.tasks
-  pub harts : length old.parts.harts ≤ length new.parts.harts
-  pub few_tasks : length old.parts.tasks ≤ TASK_LIMIT → length new.parts.tasks ≤ TASK_LIMIT
-  pub a_hart_each : length old.parts.harts ≡ length old.parts.tasks → length new.parts.harts ≡ length new.parts.tasks
-  pub registers : AllHaveRegisters old.parts.harts → AllHaveRegisters new.parts.harts
-
-pub same_then : (x y z : Board) → SameCounts x y → SameCounts y z → SameCounts x z
-same_then x y z p q = record {
-  processors = q.processors ∙ p.processors;
-  pipes = q.pipes ∙ p.pipes;
-  ram = q.ram ∙ p.ram;
-  tasks = omega (arith, p.tasks, q.tasks);
-  harts = omega (arith, p.harts, q.harts);
-  few_tasks = λ few. q.few_tasks (p.few_tasks few);
-  a_hart_each = λ each. q.a_hart_each (p.a_hart_each each);
-  registers = λ h. q.registers (p.registers h);
-}
-
-each_more : (x y : Parts) → Added x y → length x.harts ≡ length x.tasks → length y.harts ≡ length y.tasks
-each_more x y p each = elim p [
-  | inl same ↦ same.1 ∙ each ∙ sym same.0
-  | inr a ↦ a.harts ∙ ap (λ n. n + 1) each ∙ sym a.tasks
-]
-
-ram_count : (c : ℕ) (old new : Board) → (new.memory ≡ old.memory) ⊎ StoreWrites c old new → length new.memory.ram ≡ length old.memory.ram
-ram_count c old new (inl same) = ap (λ (m : Memory). length m.ram) same
-ram_count c old new (inr w) = length-write_at old.memory.ram w.address w.width w.value new.memory.ram w.ram
 
 -- ---- the others are told
 told_if : (own wants : Bool) (p : Pipe) → (Some (if own then p else (if wants then raise 1 p else p)) ≡ Some p) ⊎ (Some (if own then p else (if wants then raise 1 p else p)) ≡ Some (raise 1 p))
@@ -89,11 +60,6 @@ abbrev pub task_calls : Option ℕ → Board → Bool
 task_calls None b = false
 task_calls (Some t) b = hart_calls (slice_get b.parts.harts t) b.memory
 
--- whether a line is on the wire
-abbrev pub hears : Option Pipe → Bool
-hears None = false
-hears (Some p) = not (is_none (least_line p.wire))
-
 no_line : (wire : List ℕ) (l : ℕ) → not (is_none (least_line wire)) ≡ false → has_line wire l ≡ true → ⊥
 no_line [] l e h = cc
 no_line (x ∷ xs) l e h = cc
@@ -101,11 +67,23 @@ no_line (x ∷ xs) l e h = cc
 deaf : (c : ℕ) (k : Parts) → hears (slice_get k.pipes c) ≡ false → Hears c k → ⊥
 deaf c k e h = no_line h.pipe.wire h.line (sym (ap hears h.there) ∙ e) h.on
 
+-- .. if one is
+heard_if : (wire : List ℕ) (l : ℕ) → has_line wire l ≡ true → not (is_none (least_line wire)) ≡ true
+heard_if [] l h = cc
+heard_if (x ∷ xs) l h = refl
+
+loud : (c : ℕ) (k : Parts) → Hears c k → hears (slice_get k.pipes c) ≡ true
+loud c k h = ap hears h.there ∙ heard_if h.pipe.wire h.line h.on
+
 not_heard : (pipe : Pipe) (o : Option Pipe) → o ≡ Some pipe → hears o ≡ true → least_line pipe.wire ≡ None → ⊥
 not_heard pipe o e h w = let no : false ≡ true = sym (ap (λ (x : Option ℕ). not (is_none x)) w) ∙ sym (ap hears e) ∙ h in cc
 
-abbrev actor : ℕ → Option ℕ → Bool → Bool → Actor
-actor c o loud calls = record { cpu = c; task = o; may = λ d l. if loud then l == 1 else false; chooses = true; calls = calls }
+abbrev actor : ℕ → Option ℕ → Bool → Actor
+actor c o calls = record { cpu = c; task = o; may = λ d l. not (l == 0); chooses = true; calls = calls; faults = true }
+
+-- a device's line is another than the timer's
+touches : (l : ℕ) → DEVICE_LINE ≤ l → not (l == 0) ≡ true
+touches l least = let other : (l == 0) ≡ false = grind (arith, nat_tests) in rw other refl
 
 -- where the current task doesn't wait, and the mutexes of events for which tasks wait are there
 pub record MayStep (c : ℕ) (k : Parts) : Type 0 where
@@ -173,67 +151,59 @@ module _ (c : ℕ) (b : Board) where
   abbrev new : Board
   new = (step c b).0
 
-  -- ---- whoever acts
-  module _ (o : Option ℕ) (calls : Bool) (m : (loud : Bool) → MaySteps (actor c o loud calls) b) where
-    walk : Walk (actor c o true calls) b.parts 66 2241 new.parts
-    walk = stepped_walk (actor c o true calls) b.parts new.parts (λ d. refl) (steps (actor c o true calls) b.parts b (m true) (unchanged b.parts) refl start)
+  abbrev p : StepParts c b (step c b)
+  p = step_parts c b
 
-    other_pipes : (d : ℕ) → (d ≡ c → ⊥) → (slice_get new.parts.pipes d ≡ slice_get b.parts.pipes d) ⊎ (slice_get new.parts.pipes d ≡ option_map (raise 1) (slice_get b.parts.pipes d))
-    other_pipes d other =
-        let t : Stepped (actor c o false calls) b.parts new.parts = steps (actor c o false calls) b.parts b (m false) (unchanged b.parts) refl start in
-        let before : slice_get t.between.pipes d ≡ slice_get b.parts.pipes d = walk_other_pipes (actor c o false calls) b.parts d other (λ e l. refl) 65 2241 t.between t.walk in
-        elim t.told [
-          | inl same ↦ inl (ap (λ (k : Parts). slice_get k.pipes d) same ∙ before)
-          | inr nudges ↦ elim (nudged c d t.between) [
-            | inl same ↦ inl (ap (λ (k : Parts). slice_get k.pipes d) nudges ∙ same ∙ before)
-            | inr raised ↦ inr (ap (λ (k : Parts). slice_get k.pipes d) nudges ∙ raised ∙ ap (option_map (raise 1)) before)
-          ]
+  abbrev line : Option ℕ
+  line = line_of_step (step c b).1 b
+
+  other_pipes : (d : ℕ) → (d ≡ c → ⊥)
+      → (slice_get new.parts.pipes d ≡ slice_get (raise_line line b.parts).pipes d) ⊎ (slice_get new.parts.pipes d ≡ option_map (raise 1) (slice_get (raise_line line b.parts).pipes d))
+  other_pipes d other =
+      let settled : slice_get p.settled.pipes d ≡ slice_get (raise_line line b.parts).pipes d = settled_others c b d other in
+      elim p.told [
+        | inl same ↦ inl (ap (λ (k : Parts). slice_get k.pipes d) same ∙ settled)
+        | inr nudges ↦ elim (nudged c d p.settled) [
+          | inl same ↦ inl (ap (λ (k : Parts). slice_get k.pipes d) nudges ∙ same ∙ settled)
+          | inr raised ↦ inr (ap (λ (k : Parts). slice_get k.pipes d) nudges ∙ raised ∙ ap (option_map (raise 1)) settled)
         ]
+      ]
 
-    pub counted : SameCounts b new
-    counted =
-        let s = walk_sizes (actor c o true calls) b.parts 66 2241 new.parts walk in
-        record {
-          processors = s.processors;
-          pipes = s.pipes;
-          ram = ram_count c b new (step_writes c b).memory;
-          tasks = s.tasks;
-          harts = s.harts;
-          few_tasks = s.few;
-          a_hart_each = each_more b.parts new.parts (walk_added (actor c o true calls) b.parts 66 2241 new.parts walk);
-          registers = walk_registers (actor c o true calls) b.parts 66 2241 new.parts walk;
-        }
+  -- ---- who acts
+  module _ (o : Option ℕ) (calls : Bool) (m : MaySteps (actor c o calls) b) where
+    walk : Walk (actor c o calls) b.parts 66 2241 new.parts
+    walk = stepped_walk (actor c o calls) b.parts new.parts (λ d. refl) (steps (actor c o calls) b.parts b m (unchanged b.parts) refl start)
 
-    pub same_ticks : new.parts.ticks ≡ b.parts.ticks
-    same_ticks = walk_ticks (actor c o true calls) b.parts 66 2241 new.parts refl walk
+    objects_of : ObjectsChange (Makes (actor c o calls) b.parts) c b.parts new.parts
+    objects_of = walk_objects (actor c o calls) b.parts 66 2241 new.parts refl walk
 
-    objects_of : ObjectsChange (Makes (actor c o true calls) b.parts) c b.parts new.parts
-    objects_of = walk_objects (actor c o true calls) b.parts 66 2241 new.parts refl walk
+    framed : MayStep c b.parts → Frame (actor c o calls) b.parts new.parts
+    framed fit = walk_frame (actor c o calls) b.parts (record { runs = fit.runs; named = fit.named; clock = refl }) 66 2241 new.parts walk
 
-    framed : MayStep c b.parts → Frame (actor c o true calls) b.parts new.parts
-    framed fit = walk_frame (actor c o true calls) b.parts (record { runs = fit.runs; named = fit.named; clock = refl }) 66 2241 new.parts walk
-
-    changes : MayStep c b.parts → (f : Frame (actor c o true calls) b.parts new.parts) → (f.asked ≡ b.parts.tasks) ⊎ Schedules c b f.asked
+    changes : MayStep c b.parts → (f : Frame (actor c o calls) b.parts new.parts) → (f.asked ≡ b.parts.tasks) ⊎ Schedules c b f.asked
         → ((t : ℕ) → (current c b.parts ≡ Some t → ⊥) → Stays (current c b.parts) (λ number hart. MakesCall c number hart b) c t (record b.parts { tasks = f.asked }) new.parts) → MutexesStay (current c b.parts) b.parts.mutexes new.parts.mutexes
         → (Hears c b.parts → (f.asked ≡ b.parts.tasks) × ((t : ℕ) → Stays None MakesNone c t b.parts new.parts ⊎ Spends c t b.parts new.parts) × (MutexesTaken b.parts new.parts.mutexes × (length new.parts.mutexes ≡ length b.parts.mutexes)))
         → ObjectsChange (λ number hart. MakesCall c number hart b) c b.parts new.parts → (Hears c b.parts → ObjectsChange MakesNone c b.parts new.parts) → StepChanges c b new
     changes fit f scheduled others mutexes hears objects hears_objects = record {
+      line = line;
+      notices = step_notices c b;
       asked = f.asked;
       scheduled = scheduled;
       breakpoints = (step_writes c b).breakpoints;
       memory = (step_writes c b).memory;
-      ticks = same_ticks;
-      stamps = walk_least (actor c o true calls) b.parts 66 2241 new.parts walk;
-      processors = λ d other. walk_processors (actor c o true calls) b.parts d other 66 2241 new.parts walk;
+      ticks = step_ticks c b;
+      stamps = walk_least (actor c o calls) b.parts 66 2241 new.parts walk;
+      processors = λ d other. walk_processors (actor c o calls) b.parts d other 66 2241 new.parts walk;
       pipes = other_pipes;
       others = others;
       mutexes = mutexes;
+      hears_nothing = λ line. received_rests c b (loud c b.parts line);
       hears = hears;
       objects = objects;
       hears_objects = hears_objects;
-      added = walk_added (actor c o true calls) b.parts 66 2241 new.parts walk;
-      made = walk_made (actor c o true calls) b.parts 66 2241 new.parts fit.named walk;
-      typed = walk_typed (actor c o true calls) b.parts 66 2241 new.parts walk;
+      added = walk_added (actor c o calls) b.parts 66 2241 new.parts walk;
+      made = walk_made (actor c o calls) b.parts 66 2241 new.parts fit.named walk;
+      typed = walk_typed (actor c o calls) b.parts 66 2241 new.parts walk;
     }
 
   -- ---- a line is on the wire: no task acts
@@ -247,57 +217,60 @@ module _ (c : ℕ) (b : Board) where
     | inr g ↦ inr (record { after = g.after; there = g.there; kind = g.kind; whose = whose_wider o before.owner g.whose })
   ]
 
-  unasked : (f : Frame (actor c None true true) b.parts new.parts) → f.asked ≡ b.parts.tasks
+  unasked : (f : Frame (actor c None true) b.parts new.parts) → f.asked ≡ b.parts.tasks
   unasked f = elim f.scheduled [
     | inl same ↦ same
     | inr q ↦ let no = q.asks.makes.acts in cc
   ]
 
   -- no task acts, so none makes a call
-  none_calls : (n : ℕ) (h : Hart) → Makes (actor c None true true) b.parts n h → MakesNone n h
+  none_calls : (n : ℕ) (h : Hart) → Makes (actor c None true) b.parts n h → MakesNone n h
   none_calls n h call = let no = call.acts in cc
 
-  stays : (t : ℕ) (x y : Parts) → (current c b.parts ≡ Some t → ⊥) → current c x ≡ current c b.parts → Stays None (Makes (actor c None true true) b.parts) c t x y ⊎ Spends c t x y
+  stays : (t : ℕ) (x y : Parts) → (current c b.parts ≡ Some t → ⊥) → current c x ≡ current c b.parts → Stays None (Makes (actor c None true) b.parts) c t x y ⊎ Spends c t x y
       → Stays (current c b.parts) (λ number hart. MakesCall c number hart b) c t x y
-  stays t x y away same (inl p) = stays_wider None (current c b.parts) (Makes (actor c None true true) b.parts) (λ number hart. MakesCall c number hart b) c t x y (λ g e. cc) (λ n h call. absurd (none_calls n h call)) p
+  stays t x y away same (inl p) = stays_wider None (current c b.parts) (Makes (actor c None true) b.parts) (λ number hart. MakesCall c number hart b) c t x y (λ g e. cc) (λ n h call. absurd (none_calls n h call)) p
   stays t x y away same (inr q) = absurd (away (sym same ∙ q.runs))
 
-  silent : (t : ℕ) → Fares (actor c None true true) (Makes (actor c None true true) b.parts) t b.parts new.parts → Stays None MakesNone c t b.parts new.parts ⊎ Spends c t b.parts new.parts
-  silent t (inl p) = inl (stays_wider None None (Makes (actor c None true true) b.parts) MakesNone c t b.parts new.parts (λ g e. e) none_calls p)
+  silent : (t : ℕ) → Fares (actor c None true) (Makes (actor c None true) b.parts) t b.parts new.parts → Stays None MakesNone c t b.parts new.parts ⊎ Spends c t b.parts new.parts
+  silent t (inl p) = inl (stays_wider None None (Makes (actor c None true) b.parts) MakesNone c t b.parts new.parts (λ g e. e) none_calls p)
   silent t (inr q) = inr q
 
-  acts_none : hears (slice_get b.parts.pipes c) ≡ true → (loud : Bool) → MaySteps (actor c None loud true) b
-  acts_none e loud = record {
+  acts_none : length b.memory.devices ≤ DEVICE_LIMIT → hears (slice_get b.parts.pipes c) ≡ true → MaySteps (actor c None true) b
+  acts_none few e = record {
     chooses = refl;
+    faults = refl;
     acts = λ pipe there wire. absurd (not_heard pipe (slice_get b.parts.pipes c) there e wire);
     calls = λ t x now has word. refl;
+    devices = few;
+    touches = λ t x now has l least e. touches l least;
   }
 
-  heard : MayStep c b.parts → hears (slice_get b.parts.pipes c) ≡ true → StepChanges c b new
-  heard fit e =
-      let m : (loud : Bool) → MaySteps (actor c None loud true) b = acts_none e in
-      let f : Frame (actor c None true true) b.parts new.parts = framed None true m fit in
+  heard : length b.memory.devices ≤ DEVICE_LIMIT → MayStep c b.parts → hears (slice_get b.parts.pipes c) ≡ true → StepChanges c b new
+  heard few fit e =
+      let m : MaySteps (actor c None true) b = acts_none few e in
+      let f : Frame (actor c None true) b.parts new.parts = framed None true m fit in
       changes None true m fit f (inl (unasked f))
       (λ t away. stays t (record b.parts { tasks = f.asked }) new.parts away refl (f.others t (λ h. cc)))
       (mutexes_wider (current c b.parts) b.parts.mutexes new.parts.mutexes f.mutexes)
       (λ line. (
         unasked f,
-        (λ t. silent t (subst (λ (all : List Task). Fares (actor c None true true) (Makes (actor c None true true) b.parts) t (record b.parts { tasks = all }) new.parts) (unasked f) (f.others t (λ h. cc)))),
-        walk_taken (actor c None true true) b.parts (record { runs = fit.runs; named = fit.named; clock = refl }) 66 2241 new.parts refl (walk None true m),
+        (λ t. silent t (subst (λ (all : List Task). Fares (actor c None true) (Makes (actor c None true) b.parts) t (record b.parts { tasks = all }) new.parts) (unasked f) (f.others t (λ h. cc)))),
+        walk_taken (actor c None true) b.parts (record { runs = fit.runs; named = fit.named; clock = refl }) 66 2241 new.parts refl (walk None true m),
       ))
-      (objects_wider (Makes (actor c None true true) b.parts) (λ number hart. MakesCall c number hart b) c b.parts new.parts (λ n h call. absurd (none_calls n h call)) (objects_of None true m))
-      (λ line. objects_wider (Makes (actor c None true true) b.parts) MakesNone c b.parts new.parts none_calls (objects_of None true m))
+      (objects_wider (Makes (actor c None true) b.parts) (λ number hart. MakesCall c number hart b) c b.parts new.parts (λ n h call. absurd (none_calls n h call)) (objects_of None true m))
+      (λ line. objects_wider (Makes (actor c None true) b.parts) MakesNone c b.parts new.parts none_calls (objects_of None true m))
 
   -- ---- none is: the current task acts
   asked_call : (x : Hart) (t : ℕ) → current c b.parts ≡ Some t → slice_get b.parts.harts t ≡ Some x → task_calls (current c b.parts) b ≡ true → Calls x b.memory
   asked_call x t now has e = called x b.memory (sym (ap (λ (o : Option Hart). hart_calls o b.memory) has) ∙ sym (ap (λ (o : Option ℕ). task_calls o b) now) ∙ e)
 
-  makes_call : (n : ℕ) (x : Hart) → Makes (actor c (current c b.parts) true (task_calls (current c b.parts) b)) b.parts n x → MakesCall c n x b
+  makes_call : (n : ℕ) (x : Hart) → Makes (actor c (current c b.parts) (task_calls (current c b.parts) b)) b.parts n x → MakesCall c n x b
   makes_call n x k =
       let q = asked_call x k.task k.acts k.has k.calls in
       record { task = k.task; word = q.word; inst = q.inst; runs = k.acts; has = k.has; fetched = q.fetched; decodes = q.decodes; calls = q.calls; asks = k.asks }
 
-  scheduled : (asked : List Task) → Asked (actor c (current c b.parts) true (task_calls (current c b.parts) b)) b.parts asked → Schedules c b asked
+  scheduled : (asked : List Task) → Asked (actor c (current c b.parts) (task_calls (current c b.parts) b)) b.parts asked → Schedules c b asked
   unfolding makes_call
   scheduled asked q =
       let k = q.asks in
@@ -311,41 +284,37 @@ module _ (c : ℕ) (b : Board) where
         tasks = rw (q.tasks, ← k.names, ← k.asks) (one_change q.names (λ task. record task { class = q.class; priority = q.priority; slice = SLICE }) b.parts.tasks);
       }
 
-  acts_current : (loud : Bool) → MaySteps (actor c (current c b.parts) loud (task_calls (current c b.parts) b)) b
-  acts_current loud = record {
+  acts_current : length b.memory.devices ≤ DEVICE_LIMIT → MaySteps (actor c (current c b.parts) (task_calls (current c b.parts) b)) b
+  acts_current few = record {
     chooses = refl;
+    faults = refl;
     acts = λ pipe there wire. refl;
     calls = λ t x now has word. ap (λ (o : Option ℕ). task_calls o b) now ∙ ap (λ (o : Option Hart). hart_calls o b.memory) has ∙ word;
+    devices = few;
+    touches = λ t x now has l least e. touches l least;
   }
 
-  unheard : MayStep c b.parts → hears (slice_get b.parts.pipes c) ≡ false → StepChanges c b new
-  unheard fit e =
+  unheard : length b.memory.devices ≤ DEVICE_LIMIT → MayStep c b.parts → hears (slice_get b.parts.pipes c) ≡ false → StepChanges c b new
+  unheard few fit e =
       let o : Option ℕ = current c b.parts in
       let calls : Bool = task_calls o b in
-      let m : (loud : Bool) → MaySteps (actor c o loud calls) b = acts_current in
-      let f : Frame (actor c o true calls) b.parts new.parts = framed o calls m fit in
+      let m : MaySteps (actor c o calls) b = acts_current few in
+      let f : Frame (actor c o calls) b.parts new.parts = framed o calls m fit in
       changes o calls m fit f
       (elim f.scheduled [
         | inl same ↦ inl same
         | inr q ↦ inr (scheduled f.asked q)
       ])
       (λ t away. elim (f.others t away) [
-        | inl p ↦ stays_wider o o (Makes (actor c o true calls) b.parts) (λ number hart. MakesCall c number hart b) c t (record b.parts { tasks = f.asked }) new.parts (λ g e. e) makes_call p
+        | inl p ↦ stays_wider o o (Makes (actor c o calls) b.parts) (λ number hart. MakesCall c number hart b) c t (record b.parts { tasks = f.asked }) new.parts (λ g e. e) makes_call p
         | inr q ↦ absurd (away q.runs)
       ])
       f.mutexes (λ line. absurd (deaf c b.parts e line))
-      (objects_wider (Makes (actor c o true calls) b.parts) (λ number hart. MakesCall c number hart b) c b.parts new.parts makes_call (objects_of o calls m)) (λ line. absurd (deaf c b.parts e line))
+      (objects_wider (Makes (actor c o calls) b.parts) (λ number hart. MakesCall c number hart b) c b.parts new.parts makes_call (objects_of o calls m)) (λ line. absurd (deaf c b.parts e line))
 
-  step_if : (line : Bool) → hears (slice_get b.parts.pipes c) ≡ line → MayStep c b.parts → StepChanges c b new
-  step_if true e fit = heard fit e
-  step_if false e fit = unheard fit e
+  step_if : (line : Bool) → length b.memory.devices ≤ DEVICE_LIMIT → hears (slice_get b.parts.pipes c) ≡ line → MayStep c b.parts → StepChanges c b new
+  step_if true few e fit = heard few fit e
+  step_if false few e fit = unheard few fit e
 
-  pub step_done : MayStep c b.parts → StepChanges c b new
-  step_done fit = step_if (hears (slice_get b.parts.pipes c)) refl fit
-
-  -- whatever the tasks
-  pub step_counts : SameCounts b new
-  step_counts = counted (current c b.parts) (task_calls (current c b.parts) b) acts_current
-
-  pub step_ticks : new.parts.ticks ≡ b.parts.ticks
-  step_ticks = same_ticks (current c b.parts) (task_calls (current c b.parts) b) acts_current
+  pub step_done : length b.memory.devices ≤ DEVICE_LIMIT → MayStep c b.parts → StepChanges c b new
+  step_done few fit = step_if (hears (slice_get b.parts.pipes c)) few refl fit

@@ -1,22 +1,17 @@
 -- What each event changes: the places that it names, and nothing else.
 use Rattle.std.specs.Prelude.{◌≡◌, ℕ, ◌+◌, ◌++◌, ◌<◌, ◌≤◌, List, [], ◌∷◌, Option, Some, None, Bool, true, false, ◌⊎◌, if◌then◌else◌, slice_get, option_map, length, bit_or, ◌^◌, Ok}
 use Rattle.evm_lines.specs.Lines.{has_line, with_line}
-use Rattle.evm_isa.specs.Decoded.{decoded}
-use Rattle.evm_isa.specs.declared.inst.Inst.{Inst}
-use Rattle.evm_exec.specs.Does.{does}
-use Rattle.evm_exec.specs.Registers.{register_of, with_register}
+use Rattle.evm_exec.specs.Registers.{with_register}
 use Rattle.evm_exec.specs.declared.hart.Hart.{Hart}
-use Rattle.evm_exec.specs.declared.outcome.Effect.TheVariants.{Store, Call}
-use Rattle.evm_ram.specs.Ram.{poke_at, write_at}
-use Rattle.evm_ram.specs.declared.width.Width.{Width}
+use Rattle.evm_ram.specs.Ram.{poke_at}
 use Rattle.evm_model.specs.Actions.{action_at}
+use Rattle.evm_model.specs.Devices.{raise_line}
 use Rattle.evm_model.specs.Errnos.{refusal_answer}
 use Rattle.evm_model.specs.Events.{bound}
 use Rattle.evm_model.specs.Good.{Good}
 use Rattle.evm_model.specs.InBandCalls.{last_bytes}
 use Rattle.evm_model.specs.Commands.{is_set}
-use Rattle.evm_model.specs.Harts.{A0, A7, argument, set_register, spawned_hart}
-use Rattle.evm_model.specs.Memory.{fetch}
+use Rattle.evm_model.specs.Harts.{A0, argument, set_register, spawned_hart}
 use Rattle.evm_model.specs.Mutexes.{owner, free_mutex}
 use Rattle.evm_model.specs.OobCalls.{is_scheduled_task}
 use Rattle.evm_model.specs.Pipes.{Pipe, raise}
@@ -29,7 +24,7 @@ use Rattle.evm_model.specs.declared.event.Answer.{Answer}
 use Rattle.evm_model.specs.declared.event.Answer.TheVariants.{Done}
 use Rattle.evm_model.specs.Event.{Event}
 use Rattle.evm_model.specs.declared.event.Event.TheVariants.{Step, Tick, Raise, Bell, Stop, Go, StepI, SetReg, SetPc, Poke, Break, Unbreak}
-use Rattle.evm_model.specs.declared.limits.TheConstants.{SLICE, MUTEX_LIMIT, TASK_LIMIT}
+use Rattle.evm_model.specs.declared.limits.TheConstants.{DEVICE_LIMIT, SLICE, MUTEX_LIMIT, TASK_LIMIT}
 use Rattle.evm_model.specs.declared.mutex.Mutex.{Mutex}
 use Rattle.evm_model.specs.declared.mutex.Protocol.{Protocol}
 use Rattle.evm_model.specs.declared.processor.Processor.{Processor}
@@ -47,11 +42,9 @@ use Rattle.evm_model.specs.declared.errno.Errno.TheVariants.{TimedOut}
 use Rattle.evm_model.specs.Mutexes.{held_by}
 use Rattle.evm_model.specs.Timers.{taken, is_due_timer, expired}
 use Rattle.evm_model.specs.Waits.{ready_on, stage_of_wait}
-
--- the i-th of a list is changed so, and no other
-pub record OneChanges {X : Type 0} (i : ℕ) (change : X → X) (old new : List X) : Type 0 where
-  pub here : slice_get new i ≡ option_map change (slice_get old i)
-  pub others : (j : ℕ) → (j ≡ i → ⊥) → slice_get new j ≡ slice_get old j
+pub use Rattle.evm_runs.specs.Places.{OneChanges, MakesCall}
+pub use Rattle.evm_runs.specs.Touching.{ClockTicks, StoreWrites, DeviceTouched, MemoryChanges}
+pub use Rattle.evm_runs.specs.Noticing.{NoticeCause, GetsNotice}
 
 -- a pipe on which line l was raised: it is on the wire, and is counted as raised, merged if it was on the wire; nothing else changes
 pub record IsRaised (l : ℕ) (old new : Pipe) : Type 0 where
@@ -91,45 +84,11 @@ pub record LineRaised (c l : ℕ) (old new : Board) : Type 0 where
   pub rest : new ≡ record old { parts = record old.parts { pipes = new.parts.pipes } }
   pub pipes : OneChanges c (raise l) old.parts.pipes new.parts.pipes
 
--- the clock goes on by one, line 0 is raised on every processor, and nothing else changes
-pub record ClockTicks (old new : Board) : Type 0 where
-  pub rest : new ≡ record old { parts = record old.parts { ticks = old.parts.ticks + 1; pipes = new.parts.pipes } }
-  pub pipes : (c : ℕ) → slice_get new.parts.pipes c ≡ option_map (raise 0) (slice_get old.parts.pipes c)
-
 -- ---- a step
--- a store of the current task of c has written
-pub record StoreWrites (c : ℕ) (old new : Board) : Type 0 where
-  pub task : ℕ
-  pub hart : Hart
-  pub word : ℕ
-  pub inst : Inst
-  pub width : Width
-  pub address : ℕ
-  pub value : ℕ
-  pub runs : current c old.parts ≡ Some task
-  pub has : slice_get old.parts.harts task ≡ Some hart
-  pub fetched : fetch hart.pc old.memory ≡ Some word
-  pub decodes : decoded word ≡ Some inst
-  pub stores : does inst hart.regs hart.pc ≡ Store width address value
-  pub rest : new.memory ≡ record old.memory { ram = new.memory.ram }
-  pub ram : write_at old.memory.ram address width value ≡ Some new.memory.ram
-
 -- what was there of task t, is there
 pub record Rests (t : ℕ) (old new : Parts) : Type 0 where
   pub task : (task : Task) → slice_get old.tasks t ≡ Some task → slice_get new.tasks t ≡ Some task
   pub hart : (hart : Hart) → slice_get old.harts t ≡ Some hart → slice_get new.harts t ≡ Some hart
-
--- the current task of c makes the call of this number, and has this hart
-pub record MakesCall (c number : ℕ) (hart : Hart) (b : Board) : Type 0 where
-  pub task : ℕ
-  pub word : ℕ
-  pub inst : Inst
-  pub runs : current c b.parts ≡ Some task
-  pub has : slice_get b.parts.harts task ≡ Some hart
-  pub fetched : fetch hart.pc b.memory ≡ Some word
-  pub decodes : decoded word ≡ Some inst
-  pub calls : does inst hart.regs hart.pc ≡ Call
-  pub asks : register_of hart.regs A7 ≡ number
 
 -- the deadline of a task of processor c had come at this tick
 pub record WasLate (c now : ℕ) (task : Task) : Type 0 where
@@ -332,20 +291,24 @@ pub record ObjectsChange (makes : ℕ → Hart → Type 0) (c : ℕ) (old new : 
   pub timers : ListChanges (λ n timer. NamedBy makes 48 49 n ⊎ (is_due_timer c old.ticks timer ≡ true)) old.timers new.timers
   pub actions : ListChanges (λ l action. (2 ≤ l) × NamedBy makes 14 14 l) old.actions new.actions
 
--- a step of c changes RAM only by a store; of the tasks it changes the one that was current on c, the one that it calls to have another class, such as waited, which wake or wait for a mutex again, and adds one at most; of the mutexes it changes only such as were free or the current task's, and adds one at most; of other processors it changes only that line 1 may be raised there
+-- a step of c changes RAM only by a store, and the words of a device only where one is touched; it makes at most one notice; of the tasks it changes the one that was current on c, the one that it calls to have another class, such as waited, which wake or wait for a mutex again, and adds one at most; of the mutexes it changes only such as were free or the current task's, and adds one at most; of other processors it changes only that line 1 may be raised there, and the line of the device on processor 0
 pub record StepChanges (c : ℕ) (old new : Board) : Type 0 where
   -- the tasks, but that one may have another class
   pub asked : List Task
   pub scheduled : (asked ≡ old.parts.tasks) ⊎ Schedules c old asked
   pub breakpoints : new.breakpoints ≡ old.breakpoints
-  pub memory : (new.memory ≡ old.memory) ⊎ StoreWrites c old new
+  -- the line that a device raises
+  pub line : Option ℕ
+  pub memory : MemoryChanges c (step c old).1 old new line
+  pub notices : (new.parts.notices ≡ old.parts.notices) ⊎ GetsNotice c old (step c old).1 new.parts.notices
   pub ticks : new.parts.ticks ≡ old.parts.ticks
   pub stamps : old.parts.stamps ≤ new.parts.stamps
   pub processors : (d : ℕ) → (d ≡ c → ⊥) → slice_get new.parts.processors d ≡ slice_get old.parts.processors d
-  pub pipes : (d : ℕ) → (d ≡ c → ⊥) → (slice_get new.parts.pipes d ≡ slice_get old.parts.pipes d) ⊎ (slice_get new.parts.pipes d ≡ option_map (raise 1) (slice_get old.parts.pipes d))
+  pub pipes : (d : ℕ) → (d ≡ c → ⊥) → (slice_get new.parts.pipes d ≡ slice_get (raise_line line old.parts).pipes d) ⊎ (slice_get new.parts.pipes d ≡ option_map (raise 1) (slice_get (raise_line line old.parts).pipes d))
   pub others : (t : ℕ) → (current c old.parts ≡ Some t → ⊥) → Stays (current c old.parts) (λ number hart. MakesCall c number hart old) c t (record old.parts { tasks = asked }) new.parts
   pub mutexes : MutexesStay (current c old.parts) old.parts.mutexes new.parts.mutexes
-  -- where a line is on the wire the current task too stays, or its slice is spent, and no mutex changes but such as are taken
+  -- where a line is on the wire memory and notices stand, the current task too stays, or its slice is spent, and no mutex changes but such as are taken
+  pub hears_nothing : Hears c old.parts → (new.memory ≡ old.memory) × (new.parts.notices ≡ old.parts.notices)
   pub hears : Hears c old.parts → (asked ≡ old.parts.tasks) × ((t : ℕ) → Stays None MakesNone c t old.parts new.parts ⊎ Spends c t old.parts new.parts) × (MutexesTaken old.parts new.parts.mutexes × (length new.parts.mutexes ≡ length old.parts.mutexes))
   pub objects : ObjectsChange (λ number hart. MakesCall c number hart old) c old.parts new.parts
   -- .. where a line is on the wire none by a call
@@ -363,13 +326,13 @@ pub record StepsOnce (c : ℕ) (old new : Board) : Type 0 where
 
 -- ---- every event; of a step where the rules hold
 abbrev pub ChangesOnly : Event → Board → Board → Type 0
-ChangesOnly (Step c) old new = Good old.parts → StepChanges c old new
+ChangesOnly (Step c) old new = Good old.parts → length old.memory.devices ≤ DEVICE_LIMIT → StepChanges c old new
 ChangesOnly Tick old new = ClockTicks old new
 ChangesOnly (Raise c l) old new = LineRaised c l old new
 ChangesOnly (Bell c l) old new = LineRaised c l old new
 ChangesOnly (Stop c) old new = ProcessorChanges c (λ p. record p { stopped = true }) old new
 ChangesOnly (Go c) old new = ProcessorChanges c (λ p. record p { stopped = false; skip = true }) old new
-ChangesOnly (StepI c) old new = Good old.parts → StepsOnce c old new
+ChangesOnly (StepI c) old new = Good old.parts → length old.memory.devices ≤ DEVICE_LIMIT → StepsOnce c old new
 ChangesOnly (SetReg c r value) old new = CurrentChanges c (λ hart. record hart { regs = with_register hart.regs r value }) old new
 ChangesOnly (SetPc c pc) old new = CurrentChanges c (λ hart. record hart { pc = pc }) old new
 ChangesOnly (Poke address bytes) old new = RamChanges address bytes.items old new

@@ -1,6 +1,8 @@
 -- What no event changes.
-use Rattle.std.specs.Prelude.{◌≡◌, ℕ, ◌≤◌, List, Some, slice_get, length}
+use Rattle.std.specs.Prelude.{◌≡◌, ℕ, ◌≤◌, List, Some, slice_get, length, map}
+use Rattle.evm_dev.specs.declared.kind.Kind.{Kind}
 use Rattle.evm_exec.specs.declared.hart.Hart.{Hart}
+use Rattle.evm_model.specs.Devices.{Attached}
 use Rattle.evm_model.specs.Load.{start_loaded}
 use Rattle.evm_model.specs.Replay.{start, replay}
 use Rattle.evm_model.specs.State.{State, Board}
@@ -16,11 +18,16 @@ pub record AreRegisters (regs : List ℕ) : Type 0 where
 abbrev pub AllHaveRegisters : List Hart → Type 0
 AllHaveRegisters harts = (t : ℕ) (hart : Hart) → slice_get harts t ≡ Some hart → AreRegisters hart.regs
 
--- as many processors, pipes and bytes of RAM as before, no fewer tasks, a hart for each, and no more of them than there may be; tasks keep their registers
+-- of which kind each device is
+abbrev pub kinds : List Attached → List Kind
+kinds devices = map (λ (device : Attached). device.kind) devices
+
+-- as many processors, pipes and bytes of RAM as before, devices of the same kinds, no fewer tasks, a hart for each, and no more of them than there may be; tasks keep their registers
 pub record SameSizes (old new : Board) : Type 0 where
   pub processors : length new.parts.processors ≡ length old.parts.processors
   pub pipes : length new.parts.pipes ≡ length old.parts.pipes
   pub ram : length new.memory.ram ≡ length old.memory.ram
+  pub devices : kinds new.memory.devices ≡ kinds old.memory.devices
   pub tasks : length old.parts.tasks ≤ length new.parts.tasks
   pub harts : length old.parts.harts ≤ length new.parts.harts
   pub few_tasks : length old.parts.tasks ≤ TASK_LIMIT → length new.parts.tasks ≤ TASK_LIMIT
@@ -35,12 +42,13 @@ pub record KeepsSizes (old new : State) : Type 0 where
 abbrev pub SizesStay : Type 0
 SizesStay = (s : State) (events : List Event) → KeepsSizes s (replay s events)
 
--- as many processors, pipes and bytes as the boot numbers say, 1 to 64 tasks, a hart for each, and x0 is zero
-pub record IsAsBooted (boot : Boot) (s : State) : Type 0 where
+-- as many processors, pipes and bytes as the boot numbers say, devices of these kinds, 1 to 64 tasks, a hart for each, and x0 is zero
+pub record IsAsBooted (devices : List Attached) (boot : Boot) (s : State) : Type 0 where
   pub boot_kept : s.boot ≡ boot
   pub processors : length s.board.parts.processors ≡ boot.cpus
   pub pipes : length s.board.parts.pipes ≡ boot.cpus
   pub ram : length s.board.memory.ram ≡ boot.ram
+  pub devices_kept : kinds s.board.memory.devices ≡ kinds devices
   pub some_tasks : 1 ≤ length s.board.parts.tasks
   pub few_tasks : length s.board.parts.tasks ≤ TASK_LIMIT
   pub harts : length s.board.parts.harts ≡ length s.board.parts.tasks
@@ -48,7 +56,7 @@ pub record IsAsBooted (boot : Boot) (s : State) : Type 0 where
 
 -- from boot on, also where an image was loaded before
 abbrev pub StaysAsBooted : Type 0
-StaysAsBooted = (boot : Boot) (events : List Event) → IsAsBooted boot (replay (start boot) events)
+StaysAsBooted = (devices : List Attached) (boot : Boot) (events : List Event) → IsAsBooted devices boot (replay (start devices boot) events)
 
 abbrev pub StaysAsLoaded : Type 0
-StaysAsLoaded = (byte : ℕ → ℕ) (entry : ℕ) (boot : Boot) (events : List Event) → IsAsBooted boot (replay (start_loaded byte entry boot) events)
+StaysAsLoaded = (devices : List Attached) (byte : ℕ → ℕ) (entry : ℕ) (boot : Boot) (events : List Event) → IsAsBooted devices boot (replay (start_loaded devices byte entry boot) events)

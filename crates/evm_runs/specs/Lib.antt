@@ -5,7 +5,11 @@ pub mod First
 pub mod Fit
 pub mod Kept
 pub mod Least
+pub mod Noticing
 pub mod Nudged
 pub mod Order
 pub mod Own
+pub mod Places
 pub mod Replays
+pub mod Touching
+pub mod Unanswered

@@ -1,7 +1,9 @@
 -- How often line 1 is raised: by events that name it, and by steps of other processors that find a better task.
 use Rattle.std.specs.Prelude.{◌≡◌, ℕ, ◌+◌, ◌==◌, ◌&&◌, ◌%◌, List, [], ◌∷◌, Option, Some, None, Bool, false, not, Result, Ok, Err, slice_get, count_by}
 use Rattle.evm_lines.specs.Lines.{has_line}
+use Rattle.evm_model.specs.Devices.{Attached}
 use Rattle.evm_model.specs.Event.{Event}
+use Rattle.evm_model.specs.Good.{AreDevices}
 use Rattle.evm_model.specs.Load.{start_loaded}
 use Rattle.evm_model.specs.Pipes.{Pipe}
 use Rattle.evm_model.specs.Ranks.{best}
@@ -42,8 +44,8 @@ TellsFrom s = (events : List Event) (d : ℕ) (p : Pipe) (n : Counts) → slice_
     → n.raised ≡ count_by (is_raise d 1) (replay s events).journal + found_count d s events
 
 abbrev pub AlwaysTells : Type 0
-AlwaysTells = (boot : Boot) → bad_boot boot ≡ false → TellsFrom (start boot)
+AlwaysTells = (devices : List Attached) (boot : Boot) → AreDevices devices → bad_boot boot ≡ false → TellsFrom (start devices boot)
 
 -- also where an image was loaded before
 abbrev pub AlwaysTellsLoaded : Type 0
-AlwaysTellsLoaded = (byte : ℕ → ℕ) (entry : ℕ) (boot : Boot) → bad_boot boot ≡ false → entry % 4 ≡ 0 → TellsFrom (start_loaded byte entry boot)
+AlwaysTellsLoaded = (devices : List Attached) (byte : ℕ → ℕ) (entry : ℕ) (boot : Boot) → AreDevices devices → bad_boot boot ≡ false → entry % 4 ≡ 0 → TellsFrom (start_loaded devices byte entry boot)

@@ -1,5 +1,6 @@
 -- How replays join, and what a load puts into RAM.
 use Rattle.std.specs.Prelude.{◌≡◌, ℕ, ◌+◌, ◌<◌, List, [], ◌++◌, length, slice_index}
+use Rattle.evm_model.specs.Devices.{Attached}
 use Rattle.evm_model.specs.Load.{bytes_from}
 use Rattle.evm_model.specs.Replay.{IsReplayOf, start, replay}
 use Rattle.evm_model.specs.State.{State}
@@ -12,7 +13,7 @@ ReplaysJoin = (s : State) (first rest : List Event) → replay s (first ++ rest)
 
 -- a machine that has had no event is the replay of its empty journal
 abbrev pub StartsAsReplay : Type 0
-StartsAsReplay = (boot : Boot) → IsReplayOf (start boot) (start boot)
+StartsAsReplay = (devices : List Attached) (boot : Boot) → IsReplayOf (start devices boot) (start devices boot)
 
 -- after every list of events the state is what the accepted ones alone make of the first state
 abbrev pub StaysReplay : Type 0

@@ -1,7 +1,7 @@
 //! Laws over whole runs of the machine: each is a contract that nothing has to be done for.
 #![tactic(auto)]
 
-ghost use Rattle.evm_runs.specs.Balance.{AlwaysBalances, AlwaysBalancesFresh, AlwaysBalancesLoaded};
+ghost use Rattle.evm_runs.specs.Balance.{AlwaysBalances, AlwaysBalancesFresh, AlwaysBalancesLoaded, AlwaysRaises, AlwaysRaisesFresh, AlwaysRaisesLoaded};
 ghost use Rattle.evm_runs.specs.Changes.{EventsChangeOnly, RaisesOneLine};
 ghost use Rattle.evm_runs.specs.Due.{TimersExpireByNumber, WaitsEndByDeadline};
 ghost use Rattle.evm_runs.specs.First.{AlwaysFindsFirst};
@@ -12,15 +12,21 @@ ghost use Rattle.evm_runs.specs.Nudged.{AlwaysTells, AlwaysTellsLoaded};
 ghost use Rattle.evm_runs.specs.Order.{LinesRise, LogsPlayInOrder, MutexesPassByNumber, StepsReceiveLeast, WaitersWakeByNumber};
 ghost use Rattle.evm_runs.specs.Own.{CallsLeave};
 ghost use Rattle.evm_runs.specs.Replays.{LoadsEachByte, LoadsSoManyBytes, ReplaysJoin, StartsAsReplay, StaysReplay};
+ghost use Rattle.evm_runs.specs.Unanswered.{LoadsTouch, UnansweredFaults, WhoAnswersNone};
 
-/// No interrupt is lost and none is played twice: after every boot and every list of events, also where an
-/// image was loaded before, each line of each processor was raised as often as it merged on the wire, is there
-/// still, or was received; what was received came to a stage; and what came to a stage merged in its log, is
-/// there still, or was played. Each line but line 1 was raised by as many events as the journal has of them.
+/// No interrupt is lost and none is played twice: after every boot, with whichever devices, and every list of events,
+/// also where an image was loaded before, each line of each processor was raised as often as it merged on the wire, is
+/// there still, or was received; what was received came to a stage; and what came to a stage merged in its log, is
+/// there still, or was played. Each line but line 1 and those of the devices was raised by as many events as the journal
+/// has of them. Those of the devices, which are on processor 0, were raised by these events, and by as many accepted ones
+/// as a device raised its line in: by its tick, or since an instruction touched it.
 pub fn balance_holds()
     ensures booted { AlwaysBalances }
     ensures loaded { AlwaysBalancesLoaded }
     ensures fresh { AlwaysBalancesFresh }
+    ensures raised { AlwaysRaises }
+    ensures raised_loaded { AlwaysRaisesLoaded }
+    ensures raised_fresh { AlwaysRaisesFresh }
 {}
 
 /// Where the rules hold, a Step that receives a line receives the least of its processor's wire.
@@ -59,7 +65,11 @@ pub fn counts_fit()
 {}
 
 /// An accepted event is in the journal afterwards. A command answers Done, and changes only the place that it
-/// names. A step, where the rules hold, changes RAM only by a store; of the tasks it changes the one that was current, gives
+/// names. A tick changes the clock, the words of the devices by their ticks, and raises the lines that they raise by that
+/// on processor 0, and line 0 on each processor. A step, where the rules hold, changes RAM only by a store, and the words
+/// of one device by the row of the register that a load or a store touches; the device may raise its line on processor 0.
+/// It makes at most one notice, for the task that was current and asks for it: where a call or a fault takes that task
+/// in-band, where its lock would never end, or where it unlocks what it doesn't own. Of the tasks it changes the one that was current, gives
 /// another class to the one for which that task asks it by call 34, wakes such as waited (by a line, its action, a deadline,
 /// a timer, a mutex of that task or its call), makes such as waited for an event wait for the event's mutex, and adds one at
 /// most; of the mutexes it changes such as were free or that task's, and adds one at most; of semaphores, flag groups,
@@ -81,14 +91,15 @@ pub fn calls_leave()
     ensures { CallsLeave }
 {}
 
-/// No event changes the boot numbers, nor how many processors, pipes, bytes of RAM or registers there are;
+/// No event changes the boot numbers, nor how many processors, pipes, bytes of RAM or registers there are, nor which
+/// devices, by their kinds;
 /// tasks only get more, up to 64, with a hart for each.
 pub fn sizes_stay()
     ensures { SizesStay }
 {}
 
-/// After every list of events there are as many processors, pipes and bytes of RAM as the boot numbers say,
-/// 1 to 64 tasks, a hart for each, and x0 of each task is zero; also where an image was loaded before.
+/// After every list of events there are as many processors, pipes and bytes of RAM as the boot numbers say, devices of
+/// the kinds that were there at boot, 1 to 64 tasks, a hart for each, and x0 of each task is zero; also where an image was loaded before.
 pub fn stays_as_booted()
     ensures booted { StaysAsBooted }
     ensures loaded { StaysAsLoaded }
@@ -133,4 +144,13 @@ pub fn loads_each_byte()
 pub fn goes_when_due()
     ensures ends { WaitsEndByDeadline }
     ensures expires { TimersExpireByNumber }
+{}
+
+/// A load or a store that neither RAM nor a device answers is a fault, by which memory stands. A device is accessed by 8
+/// bytes alone, at one of its registers, and answers if the register's row does. A load that is answered leaves memory as
+/// the access did, whatever register it loads: also where that is x0.
+pub fn accesses_are_answered()
+    ensures faults { UnansweredFaults }
+    ensures none { WhoAnswersNone }
+    ensures loads { LoadsTouch }
 {}

@@ -4,7 +4,7 @@ use Rattle.evm_claims.proofs.no_interrupt_lost.no_line_is_lost_in_a_stage.Goals 
 
 pub returns-clause-out_of_band : goal.returns-clause-out_of_band
 returns-clause-out_of_band c boot s p l pipe n r here there =
-    ((ran Balance boot s (c.balance_holds.ensures.booted boot) (λ byte entry. c.balance_holds.ensures.loaded byte entry boot) r).each p l pipe n here there).oob
+    ((ran Balance boot s r (c.balance_holds.ensures.booted r.devices boot) (λ byte entry. c.balance_holds.ensures.loaded r.devices byte entry boot)).each p l pipe n here there).oob
 
 pub returns-clause-out_of_band_fresh : goal.returns-clause-out_of_band_fresh
 returns-clause-out_of_band_fresh c s events p l pipe n idle here there =
@@ -12,7 +12,7 @@ returns-clause-out_of_band_fresh c s events p l pipe n idle here there =
 
 pub returns-clause-in_band : goal.returns-clause-in_band
 returns-clause-in_band c boot s p l pipe n r here there =
-    ((ran Balance boot s (c.balance_holds.ensures.booted boot) (λ byte entry. c.balance_holds.ensures.loaded byte entry boot) r).each p l pipe n here there).inband
+    ((ran Balance boot s r (c.balance_holds.ensures.booted r.devices boot) (λ byte entry. c.balance_holds.ensures.loaded r.devices byte entry boot)).each p l pipe n here there).inband
 
 pub returns-clause-in_band_fresh : goal.returns-clause-in_band_fresh
 returns-clause-in_band_fresh c s events p l pipe n idle here there =

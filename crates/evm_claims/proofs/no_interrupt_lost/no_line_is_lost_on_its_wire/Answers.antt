@@ -17,7 +17,7 @@ use Rattle.evm_claims.proofs.no_interrupt_lost.no_line_is_lost_on_its_wire.Goals
 
 pub returns-clause-ran : goal.returns-clause-ran
 returns-clause-ran c boot s p l pipe n r here there =
-    ((ran Balance boot s (c.balance_holds.ensures.booted boot) (λ byte entry. c.balance_holds.ensures.loaded byte entry boot) r).each p l pipe n here there).wire
+    ((ran Balance boot s r (c.balance_holds.ensures.booted r.devices boot) (λ byte entry. c.balance_holds.ensures.loaded r.devices byte entry boot)).each p l pipe n here there).wire
 
 pub returns-clause-fresh : goal.returns-clause-fresh
 returns-clause-fresh c s events p l pipe n idle here there =
@@ -52,22 +52,22 @@ read_off all wire o pipe n counts lines here there =
       rw here at lines,
     )
 
-twice : (ram : ℕ) → counts_of (slice_get (replay (start (record { cpus = 1; ram = ram; capacity = 8 })) (Raise 0 5 ∷ Raise 0 5 ∷ [])).board.parts.pipes 0) ≡ Some (counted 2 1 0 0 0)
+twice : (ram : ℕ) → counts_of (slice_get (replay (start [] (record { cpus = 1; ram = ram; capacity = 8 })) (Raise 0 5 ∷ Raise 0 5 ∷ [])).board.parts.pipes 0) ≡ Some (counted 2 1 0 0 0)
 unfolding replay apply row board_refusal booted booted_parts raise with_line all_lines
 twice ram = refl
 
-waits : (ram : ℕ) → wire_of (slice_get (replay (start (record { cpus = 1; ram = ram; capacity = 8 })) (Raise 0 5 ∷ Raise 0 5 ∷ [])).board.parts.pipes 0) ≡ 5 ∷ []
+waits : (ram : ℕ) → wire_of (slice_get (replay (start [] (record { cpus = 1; ram = ram; capacity = 8 })) (Raise 0 5 ∷ Raise 0 5 ∷ [])).board.parts.pipes 0) ≡ 5 ∷ []
 unfolding replay apply row board_refusal booted booted_parts raise with_line all_lines
 waits ram = refl
 
 pub returns-clause-on_the_wire : goal.returns-clause-on_the_wire
 returns-clause-on_the_wire c ram pipe n here there = read_off (counted 2 1 0 0 0) (5 ∷ []) _ pipe n (twice ram) (waits ram) here there
 
-then_received : (ram : ℕ) → counts_of (slice_get (replay (start (record { cpus = 1; ram = ram; capacity = 8 })) (Raise 0 5 ∷ Raise 0 5 ∷ Step 0 ∷ [])).board.parts.pipes 0) ≡ Some (counted 2 1 1 1 1)
+then_received : (ram : ℕ) → counts_of (slice_get (replay (start [] (record { cpus = 1; ram = ram; capacity = 8 })) (Raise 0 5 ∷ Raise 0 5 ∷ Step 0 ∷ [])).board.parts.pipes 0) ≡ Some (counted 2 1 1 1 1)
 unfolding replay apply row step receive_line board_refusal booted booted_parts raise arrive leave_wire receive play with_line without_line all_lines best first next_in_band settle.play_oob settle.play_in_band settle.play_oob_lines settle.play_in_band_lines settle.settle_oob settle.turn_in_band settle.settle_in_band settle.settle settle.nudge settle.settle_and_nudge wake_below
 then_received ram = refl
 
-then_off : (ram : ℕ) → wire_of (slice_get (replay (start (record { cpus = 1; ram = ram; capacity = 8 })) (Raise 0 5 ∷ Raise 0 5 ∷ Step 0 ∷ [])).board.parts.pipes 0) ≡ []
+then_off : (ram : ℕ) → wire_of (slice_get (replay (start [] (record { cpus = 1; ram = ram; capacity = 8 })) (Raise 0 5 ∷ Raise 0 5 ∷ Step 0 ∷ [])).board.parts.pipes 0) ≡ []
 unfolding replay apply row step receive_line board_refusal booted booted_parts raise arrive leave_wire receive play with_line without_line all_lines best first next_in_band settle.play_oob settle.play_in_band settle.play_oob_lines settle.play_in_band_lines settle.settle_oob settle.turn_in_band settle.settle_in_band settle.settle settle.nudge settle.settle_and_nudge wake_below
 then_off ram = refl
 

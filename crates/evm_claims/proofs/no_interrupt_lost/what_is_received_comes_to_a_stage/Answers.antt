@@ -5,7 +5,7 @@ use Rattle.evm_claims.proofs.no_interrupt_lost.what_is_received_comes_to_a_stage
 
 pub returns-clause-timer : goal.returns-clause-timer
 returns-clause-timer c boot s p pipe n r here there =
-    let routes = ((ran Balance boot s (c.balance_holds.ensures.booted boot) (λ byte entry. c.balance_holds.ensures.loaded byte entry boot) r).each p 0 pipe n here there).routes in
+    let routes = ((ran Balance boot s r (c.balance_holds.ensures.booted r.devices boot) (λ byte entry. c.balance_holds.ensures.loaded r.devices byte entry boot)).each p 0 pipe n here there).routes in
     (routes.oob_lines (omega arith), routes.timer refl)
 
 pub returns-clause-timer_fresh : goal.returns-clause-timer_fresh
@@ -15,7 +15,7 @@ returns-clause-timer_fresh c s events p pipe n idle here there =
 
 pub returns-clause-request : goal.returns-clause-request
 returns-clause-request c boot s p pipe n r here there =
-    let routes = ((ran Balance boot s (c.balance_holds.ensures.booted boot) (λ byte entry. c.balance_holds.ensures.loaded byte entry boot) r).each p 1 pipe n here there).routes in
+    let routes = ((ran Balance boot s r (c.balance_holds.ensures.booted r.devices boot) (λ byte entry. c.balance_holds.ensures.loaded r.devices byte entry boot)).each p 1 pipe n here there).routes in
     (routes.oob_lines (omega arith), routes.request refl)
 
 pub returns-clause-request_fresh : goal.returns-clause-request_fresh
@@ -25,7 +25,7 @@ returns-clause-request_fresh c s events p pipe n idle here there =
 
 pub returns-clause-others : goal.returns-clause-others
 returns-clause-others c boot s p l pipe n r most here there =
-    let routes = ((ran Balance boot s (c.balance_holds.ensures.booted boot) (λ byte entry. c.balance_holds.ensures.loaded byte entry boot) r).each p l pipe n here there).routes in
+    let routes = ((ran Balance boot s r (c.balance_holds.ensures.booted r.devices boot) (λ byte entry. c.balance_holds.ensures.loaded r.devices byte entry boot)).each p l pipe n here there).routes in
     routes.others most
 
 pub returns-clause-others_fresh : goal.returns-clause-others_fresh

@@ -29,7 +29,7 @@ as_step c old new b =
 
 pub returns-clause-changes : goal.returns-clause-changes
 returns-clause-changes g boot old new answer c reached e =
-    as_step c old.board new.board ((g.events_change_only.ensures old new (StepI c) answer e).board (good g.rules_hold.ensures.booted g.rules_hold.ensures.loaded boot old reached).good)
+    let rules = good g.rules_hold.ensures.booted g.rules_hold.ensures.loaded boot old reached in as_step c old.board new.board ((g.events_change_only.ensures old new (StepI c) answer e).board rules.good rules.devices.few)
 
 -- a processor whose bits were set so has them
 stands_still : (o : Option Processor) (p : Processor) → option_map (λ (q : Processor). record q { stopped = true; skip = false }) o ≡ Some p → (p.stopped ≡ true) × (p.skip ≡ false)
@@ -40,5 +40,6 @@ stands_still (Some q) p e =
 
 pub returns-clause-stops : goal.returns-clause-stops
 returns-clause-stops g boot old new answer c q reached e there =
-    let b = (g.events_change_only.ensures old new (StepI c) answer e).board (good g.rules_hold.ensures.booted g.rules_hold.ensures.loaded boot old reached).good in
+    let rules = good g.rules_hold.ensures.booted g.rules_hold.ensures.loaded boot old reached in
+    let b = (g.events_change_only.ensures old new (StepI c) answer e).board rules.good rules.devices.few in
     stands_still _ q (sym b.stops.processors.here ∙ there)

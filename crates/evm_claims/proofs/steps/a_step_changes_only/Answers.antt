@@ -5,4 +5,4 @@ use Rattle.evm_claims.proofs.steps.a_step_changes_only.Goals as goal
 
 pub returns : goal.returns
 returns g boot old new answer c reached e =
-    changes_only c old.board new.board ((g.events_change_only.ensures old new (Step c) answer e).board (good g.rules_hold.ensures.booted g.rules_hold.ensures.loaded boot old reached).good)
+    let rules = good g.rules_hold.ensures.booted g.rules_hold.ensures.loaded boot old reached in changes_only c old.board new.board ((g.events_change_only.ensures old new (Step c) answer e).board rules.good rules.devices.few)
