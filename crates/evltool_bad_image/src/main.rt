@@ -4,5 +4,6 @@
 use std::process::ExitCode;
 
 fn main(rt: HostRuntime) -> ExitCode {
-    ExitCode::from(evm_command::run(&rt))
+    let devices = evm_command::devices(rt.alloc());
+    ExitCode::from(evm_command::run(&rt, devices))
 }

@@ -1,7 +1,7 @@
 //! Runs command lines of `evltool` one after another, over the files of its folder, and writes the status of each.
 #![tactic(auto)]
 
-use evm_command::{answer, host_world};
+use evm_command::{answer, devices, host_world};
 use std::alloc::{AllocError, Global};
 use std::io;
 
@@ -44,7 +44,10 @@ fn main(rt: HostRuntime) -> io::Result<()> {
         println!(rt; "$ evltool {line}")?;
         let words = words_of(rt.alloc(), line)?;
         let mut world = host_world(&rt);
-        let status = answer(rt.alloc(), words.as_slice(), &mut world);
+        let Ok(devices) = devices(rt.alloc()) else {
+            return Err(io::ErrorKind::OutOfMemory.into());
+        };
+        let status = answer(rt.alloc(), words.as_slice(), devices, &mut world);
         println!(rt; "status {status}")?;
     }
     Ok(())

@@ -8,7 +8,7 @@ use Rattle.evm_serve.specs.evm_streams.Reads.{Reads, ReadsText}
 use Rattle.evm_image.specs.Images.{Contents}
 use Rattle.evm_serve.specs.evm_asm.Assembled.{program_of}
 use Rattle.evm_serve.specs.evm_asm_lexer.Faults.{reported}
-use Rattle.evm_serve.specs.Given.{Given, an_image, nothing}
+use Rattle.evm_serve.specs.Given.{Attached, Given, an_image, no_image}
 use Rattle.evm_serve.specs.Message.{about, Reports, ReportsAll}
 use Rattle.evm_serve.specs.Notes.{notes, EndsNotes}
 use Rattle.evm_serve.specs.Told.{told}
@@ -74,14 +74,14 @@ module _ {S O C I W E : Type 0} (opens : S → List ℕ → Result O OpenFault �
   AssemblesFile source out w w' status = (answer : Result O OpenFault) × (files : S) × opens w.files source answer files × OpensSource source out answer (record w { files = files }) w' status
 
 module _ {S O C I W E : Type 0} (writes : W → Writing → List ℕ → W → Type 0) (tells : E → Writing → List ℕ → E → Type 0) where
-  -- the text of a journal is replayed on an image
-  abbrev pub ReplaysText : List ℕ → Contents → List ℕ → World S O C I W E → World S O C I W E → ℕ → Type 0
-  ReplaysText path image text w w' status = AsksNothing w w' × ((ending : Ending)
-      × Finishes writes (replay_told (an_image image) text) w.output w'.output ending × EndedWith tells (Lines (Some image) text) path ending w.errors w'.errors status)
+  -- the text of a journal is replayed with devices and an image
+  abbrev pub ReplaysText : List Attached → List ℕ → Contents → List ℕ → World S O C I W E → World S O C I W E → ℕ → Type 0
+  ReplaysText devices path image text w w' status = AsksNothing w w' × ((ending : Ending)
+      × Finishes writes (replay_told (an_image devices image) text) w.output w'.output ending × EndedWith tells (Lines (Some image) text) path ending w.errors w'.errors status)
 
-  abbrev pub ReplaysRead : List ℕ → Contents → Result (List ℕ) ReadStop → World S O C I W E → World S O C I W E → ℕ → Type 0
-  ReplaysRead path image (Ok text) w w' status = ReplaysText path image text w w' status
-  ReplaysRead path image (Err stop) w w' status = NotRead writes tells path stop w w' status
+  abbrev pub ReplaysRead : List Attached → List ℕ → Contents → Result (List ℕ) ReadStop → World S O C I W E → World S O C I W E → ℕ → Type 0
+  ReplaysRead devices path image (Ok text) w w' status = ReplaysText devices path image text w w' status
+  ReplaysRead devices path image (Err stop) w w' status = NotRead writes tells path stop w w' status
 
   -- the image of the bytes of a file, or the status of a job whose file has a fault
   abbrev pub ImportsBytes : List ℕ → List ℕ → World S O C I W E → World S O C I W E → Result Contents ℕ → Type 0
@@ -116,16 +116,16 @@ module _ {S O C I W E : Type 0} (opens : S → List ℕ → Result O OpenFault �
   Loads path w w' result = (answer : Result O OpenFault) × (files : S) × opens w.files path answer files × ReadsImage path answer (record w { files = files }) w' result
 
   -- a journal is read to its end from the file that was opened
-  abbrev pub ReplaysFile : List ℕ → Contents → Result O OpenFault → World S O C I W E → World S O C I W E → ℕ → Type 0
-  ReplaysFile path image (Err fault) w w' status = NotOpened tells (not_opened_text path fault) w w' status
-  ReplaysFile path image (Ok file) w w' status = (read : Result (List ℕ) ReadStop) × (file' : O) × ReadsText opened file file' read × ReplaysRead writes tells path image read w w' status
+  abbrev pub ReplaysFile : List Attached → List ℕ → Contents → Result O OpenFault → World S O C I W E → World S O C I W E → ℕ → Type 0
+  ReplaysFile devices path image (Err fault) w w' status = NotOpened tells (not_opened_text path fault) w w' status
+  ReplaysFile devices path image (Ok file) w w' status = (read : Result (List ℕ) ReadStop) × (file' : O) × ReadsText opened file file' read × ReplaysRead writes tells devices path image read w w' status
 
-  abbrev pub ReplaysJournal : List ℕ → Contents → World S O C I W E → World S O C I W E → ℕ → Type 0
-  ReplaysJournal path image w w' status = (answer : Result O OpenFault) × (files : S) × opens w.files path answer files × ReplaysFile path image answer (record w { files = files }) w' status
+  abbrev pub ReplaysJournal : List Attached → List ℕ → Contents → World S O C I W E → World S O C I W E → ℕ → Type 0
+  ReplaysJournal devices path image w w' status = (answer : Result O OpenFault) × (files : S) × opens w.files path answer files × ReplaysFile devices path image answer (record w { files = files }) w' status
 
   -- `replay IMAGE JOURNAL`: once IMAGE is imported, JOURNAL is opened.
-  abbrev pub Replays : List ℕ → List ℕ → World S O C I W E → World S O C I W E → ℕ → Type 0
-  Replays path journal w w' status = (loaded : Result Contents ℕ) × (between : World S O C I W E) × Loads path w between loaded × Behind loaded (ReplaysJournal journal) between w' status
+  abbrev pub Replays : List Attached → List ℕ → List ℕ → World S O C I W E → World S O C I W E → ℕ → Type 0
+  Replays devices path journal w w' status = (loaded : Result Contents ℕ) × (between : World S O C I W E) × Loads path w between loaded × Behind loaded (ReplaysJournal devices journal) between w' status
 
 module _ {S O C I W E : Type 0} (gives : I → Reading → List ℕ → I → Type 0) (writes : W → Writing → List ℕ → W → Type 0) (tells : E → Writing → List ℕ → E → Type 0) where
   -- the script of standard input is read to its end, and then served
@@ -135,11 +135,11 @@ module _ {S O C I W E : Type 0} (gives : I → Reading → List ℕ → I → Ty
 module _ {S O C I W E : Type 0} (opens : S → List ℕ → Result O OpenFault → S → Type 0) (opened : O → Reading → List ℕ → O → Type 0)
     (gives : I → Reading → List ℕ → I → Type 0) (writes : W → Writing → List ℕ → W → Type 0) (tells : E → Writing → List ℕ → E → Type 0) where
   -- `run IMAGE`: once IMAGE is imported, standard input is served with it.
-  abbrev pub RunsImage : List ℕ → World S O C I W E → World S O C I W E → ℕ → Type 0
-  RunsImage path w w' status = (loaded : Result Contents ℕ) × (between : World S O C I W E)
-      × Loads opens opened writes tells path w between loaded × Behind loaded (λ image. ServesInput gives writes tells (an_image image)) between w' status
+  abbrev pub RunsImage : List Attached → List ℕ → World S O C I W E → World S O C I W E → ℕ → Type 0
+  RunsImage devices path w w' status = (loaded : Result Contents ℕ) × (between : World S O C I W E)
+      × Loads opens opened writes tells path w between loaded × Behind loaded (λ image. ServesInput gives writes tells (an_image devices image)) between w' status
 
   -- `run` alone opens nothing.
-  abbrev pub Runs : Option (List ℕ) → World S O C I W E → World S O C I W E → ℕ → Type 0
-  Runs None w w' status = ServesInput gives writes tells nothing w w' status
-  Runs (Some path) w w' status = RunsImage path w w' status
+  abbrev pub Runs : List Attached → Option (List ℕ) → World S O C I W E → World S O C I W E → ℕ → Type 0
+  Runs devices None w w' status = ServesInput gives writes tells (no_image devices) w w' status
+  Runs devices (Some path) w w' status = RunsImage devices path w w' status

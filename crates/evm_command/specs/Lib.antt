@@ -1,3 +1,4 @@
+pub mod ProgramDevices
 pub mod Exit
 pub mod ImageSentences
 pub mod Jobs

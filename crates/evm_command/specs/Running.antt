@@ -7,6 +7,7 @@ use Rattle.evm_serve.specs.evm_streams.Writes.{Took, TookPrefix}
 use Rattle.clap.specs.Words.{Text, IsAmong, fault_of, subcommand_of}
 use Rattle.clap.specs.declared.error.ErrorKind.{ErrorKind}
 use Rattle.clap.specs.declared.error.ErrorKind.TheVariants.{DisplayHelp, DisplayVersion, OutOfMemory}
+use Rattle.evm_serve.specs.Given.{Attached}
 use Rattle.evm_serve.specs.Serving.{WritesAll}
 use Rattle.evm_serve.specs.declared.ending.Ending.{Ending}
 use Rattle.evm_serve.specs.declared.ending.Verdict.TheVariants.{Done}
@@ -42,21 +43,21 @@ module _ {S O C I W E : Type 0} (writes : W → Writing → List ℕ → W → T
 module _ {S O C I W E : Type 0} (opens : S → List ℕ → Result O OpenFault → S → Type 0) (creates : S → List ℕ → Result C OpenFault → S → Type 0)
     (opened : O → Reading → List ℕ → O → Type 0) (created : C → Writing → List ℕ → C → Type 0) (gives : I → Reading → List ℕ → I → Type 0)
     (writes : W → Writing → List ℕ → W → Type 0) (tells : E → Writing → List ℕ → E → Type 0) where
-  -- a job, with the names of its files
-  abbrev pub Does : Wanted → World S O C I W E → World S O C I W E → ℕ → Type 0
-  Does (Assemble source out) w w' status = AssemblesFile opens creates opened created writes tells source out w w' status
-  Does (Run image) w w' status = Runs opens opened gives writes tells image w w' status
-  Does (Replay image journal) w w' status = Replays opens opened writes tells image journal w w' status
+  -- a job, with the names of its files, and the devices of its machine
+  abbrev pub Does : List Attached → Wanted → World S O C I W E → World S O C I W E → ℕ → Type 0
+  Does devices (Assemble source out) w w' status = AssemblesFile opens creates opened created writes tells source out w w' status
+  Does devices (Run image) w w' status = Runs opens opened gives writes tells devices image w w' status
+  Does devices (Replay image journal) w w' status = Replays opens opened writes tells devices image journal w w' status
 
   -- where no job is named, nothing is asked for
-  abbrev pub DoesNamed : Option Wanted → World S O C I W E → World S O C I W E → ℕ → Type 0
-  DoesNamed (Some job) w w' status = Does job w w' status
-  DoesNamed None w w' status = (w' ≡ w) × (status ≡ 2)
+  abbrev pub DoesNamed : List Attached → Option Wanted → World S O C I W E → World S O C I W E → ℕ → Type 0
+  DoesNamed devices (Some job) w w' status = Does devices job w w' status
+  DoesNamed devices None w w' status = (w' ≡ w) × (status ≡ 2)
 
   -- Words without a fault name a job, which is done. Words with faults are told one of them; and memory may be refused to any.
-  abbrev pub Answers : List Text → World S O C I W E → World S O C I W E → ℕ → Type 0
-  Answers words w w' status =
-      ((fault_of evltool words ≡ []) × DoesNamed (job_of (subcommand_of evltool words)) w w' status)
+  abbrev pub Answers : List Attached → List Text → World S O C I W E → World S O C I W E → ℕ → Type 0
+  Answers devices words w w' status =
+      ((fault_of evltool words ≡ []) × DoesNamed devices (job_of (subcommand_of evltool words)) w w' status)
       ⊎ ((kind : ErrorKind) × ((kind ≡ OutOfMemory) ⊎ IsAmong kind (fault_of evltool words)) × Refuses writes tells kind w w' status)
 
 module _ {S O C I W E : Type 0} (writes : W → Writing → List ℕ → W → Type 0) (tells : E → Writing → List ℕ → E → Type 0) where

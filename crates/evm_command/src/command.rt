@@ -14,7 +14,8 @@ use crate::system::{System, World};
 use crate::words::{Job, job_of, parse};
 use clap::Error;
 use clap::error::ErrorKind;
-use evm_serve::{Ending, Verdict, write_all};
+use evm_dev::Device;
+use evm_serve::{Devices, Ending, Verdict, write_all};
 use std::alloc::Global;
 
 // Writes help or the version.
@@ -83,33 +84,48 @@ fn refuse<S: System>(alloc: Global, error: &Error, words: &[String], world: &mut
     }
 }
 
-// Does a job.
-fn do_job<S: System>(alloc: Global, job: Job<'_>, world: &mut World<S>) -> u8
-    ensures { Does S.opens S.creates S.Opened.gives S.Created.takes S.Input.gives S.Output.takes S.Errors.takes (wanted job.entry) world.old world.new result }
+// Does a job, with devices in its machine.
+fn do_job<S: System, D: Device>(
+    alloc: Global,
+    devices: Devices<D>,
+    job: Job<'_>,
+    world: &mut World<S>,
+) -> u8
+    ensures { Does S.opens S.creates S.Opened.gives S.Created.takes S.Input.gives S.Output.takes S.Errors.takes devices (wanted job.entry) world.old world.new result }
 {
     match job {
         Job::Assemble { source, out } => assemble_file(alloc, source, out, world),
-        Job::Run { image } => run(alloc, image, world),
-        Job::Replay { image, journal } => replay(alloc, image, journal, world),
+        Job::Run { image } => run(alloc, devices, image, world),
+        Job::Replay { image, journal } => replay(alloc, devices, image, journal, world),
     }
 }
 
 // Does the job that the words name. They have been checked: they name one.
-fn do_named<S: System>(alloc: Global, job: Option<Job<'_>>, world: &mut World<S>) -> u8
-    ensures { DoesNamed S.opens S.creates S.Opened.gives S.Created.takes S.Input.gives S.Output.takes S.Errors.takes (option_map wanted job.entry) world.old world.new result }
+fn do_named<S: System, D: Device>(
+    alloc: Global,
+    devices: Devices<D>,
+    job: Option<Job<'_>>,
+    world: &mut World<S>,
+) -> u8
+    ensures { DoesNamed S.opens S.creates S.Opened.gives S.Created.takes S.Input.gives S.Output.takes S.Errors.takes devices (option_map wanted job.entry) world.old world.new result }
 {
     match job {
-        Some(job) => do_job(alloc, job, world),
+        Some(job) => do_job(alloc, devices, job, world),
         None => USAGE,
     }
 }
 
-/// Does what the words ask for, and answers the exit status.
-pub fn answer<S: System>(alloc: Global, words: &[String], world: &mut World<S>) -> u8
-    ensures { Answers S.opens S.creates S.Opened.gives S.Created.takes S.Input.gives S.Output.takes S.Errors.takes (map string_bytes words.now) world.old world.new result }
+/// Does what the words ask for, with devices in the machine, and answers the exit status.
+pub fn answer<S: System, D: Device>(
+    alloc: Global,
+    words: &[String],
+    devices: Devices<D>,
+    world: &mut World<S>,
+) -> u8
+    ensures { Answers S.opens S.creates S.Opened.gives S.Created.takes S.Input.gives S.Output.takes S.Errors.takes devices (map string_bytes words.now) world.old world.new result }
 {
     match parse(alloc, words) {
-        Ok(matches) => do_named(alloc, job_of(&matches), world),
+        Ok(matches) => do_named(alloc, devices, job_of(&matches), world),
         Err(error) => refuse(alloc, &error, words, world),
     }
 }
@@ -124,15 +140,16 @@ pub enum WordsFault {
 }
 
 /// Does what the words ask for that were read, or says why there are none, and answers the exit status.
-pub fn answer_read<S: System>(
+pub fn answer_read<S: System, D: Device>(
     alloc: Global,
     words: Result<Vec<String>, WordsFault>,
+    devices: Devices<D>,
     world: &mut World<S>,
 ) -> u8
-    ensures { MatchResult words (λ read. Answers S.opens S.creates S.Opened.gives S.Created.takes S.Input.gives S.Output.takes S.Errors.takes (map string_bytes read.items) world.old world.new result) (λ fault. HasNoWords S.Output.takes S.Errors.takes fault world.old world.new result) }
+    ensures { MatchResult words (λ read. Answers S.opens S.creates S.Opened.gives S.Created.takes S.Input.gives S.Output.takes S.Errors.takes devices (map string_bytes read.items) world.old world.new result) (λ fault. HasNoWords S.Output.takes S.Errors.takes fault world.old world.new result) }
 {
     match words {
-        Ok(words) => answer(alloc, words.as_slice(), world),
+        Ok(words) => answer(alloc, words.as_slice(), devices, world),
         Err(WordsFault::NotText) => words_not_read(world),
         Err(WordsFault::NoMemory) => memory_refused(world),
     }

@@ -30,9 +30,10 @@ Example:
 /// Behind the help of `run`.
 pub(crate) const RUN_HELP: &str = "\
 A script is read from standard input to its end, and then runs. It is ASCII text: one command a
-line, one blank between words. C is a processor, L an interrupt line, R a register, T a task, all
-in decimal below 256; N is a count in decimal; A is an address and V a value, in lower-case
-hexadecimal without 0x; HEX is 1 to 64 bytes of two digits each. No number has leading zeros.
+line, one blank between words. C is a processor, L an interrupt line, R a register, T a task, I a
+device, all in decimal below 256; N is a count in decimal; A is an address and V a value, in
+lower-case hexadecimal without 0x; HEX is 1 to 64 bytes of two digits each. No number has leading
+zeros.
 
 The first line:
   boot P RAM CAP  boots P processors (1 to 8), RAM bytes (65536 to 16777216, a multiple of 4096)
@@ -67,9 +68,11 @@ Views:
                   or fault with its number
   owners          each mutex, its owner and how often it is locked
   rank T          the rank of a task, with what its mutexes give it
+  notices         the notices of the health monitor: the tick, the task, the number
   counts C L      how often a line was raised, merged, received and played
   journal         the journal, for replay
   console         the bytes that programs wrote
+  words I         the words of device I: 0 is a console, 1 a mailbox, 2 pins
 
 EBREAK stops the processor behind the instruction. fault 0: the target of a jump is no multiple
 of 4; 1: fetch outside RAM; 2: not an RV64I instruction; 5, 7: load, store outside RAM. Standard

@@ -2,7 +2,11 @@
 //! here, and nowhere else.
 
 use crate::command::{WordsFault, answer_read};
+use crate::exit::memory_refused;
 use crate::system::{OpenFault, System, World};
+use evm_dev::Device;
+use evm_room::NoMemory;
+use evm_serve::Devices;
 use std::fs::File;
 use std::io::{ErrorKind, Stderr, Stdin, Stdout};
 
@@ -103,12 +107,14 @@ fn words_of(rt: &HostRuntime) -> Result<Vec<String>, WordsFault> {
     }
 }
 
-/// Runs the program on the words of its command line, and answers the exit status.
+/// Runs the program on the words of its command line, with devices in its machine, and answers the exit status.
 ///
 /// It has no contract: which words std gives, and what its streams did before, no clause can name. What is done with
 /// the words, or why there are none, is the contract of `answer_read`, of any system.
-pub fn run(rt: &HostRuntime) -> u8 {
+pub fn run<D: Device>(rt: &HostRuntime, devices: Result<Devices<D>, NoMemory>) -> u8 {
     let mut world = host_world(rt);
-    let words = words_of(rt);
-    answer_read(rt.alloc(), words, &mut world)
+    match devices {
+        Ok(devices) => answer_read(rt.alloc(), words_of(rt), devices, &mut world),
+        Err(NoMemory) => memory_refused(&mut world),
+    }
 }

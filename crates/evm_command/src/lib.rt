@@ -2,6 +2,7 @@
 #![tactic(auto)]
 
 mod assembling;
+mod attaching;
 mod command;
 mod exit;
 mod help;
@@ -14,6 +15,7 @@ mod source_sentence;
 mod system;
 mod words;
 
+pub use attaching::devices;
 pub use command::{WordsFault, answer, answer_read};
 pub use host::{Host, host_world, run};
 pub use system::{OpenFault, System, World};

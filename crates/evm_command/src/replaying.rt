@@ -5,51 +5,63 @@ ghost use Rattle.evm_command.specs.Jobs.{ReplaysText, ReplaysJournal, Replays};
 use crate::exit::{Known, ended_with, not_opened, not_read};
 use crate::loading::image_at;
 use crate::system::{System, World};
+use evm_dev::Device;
 use evm_image::Image;
-use evm_serve::{Given, read_utf8, replay_text};
+use evm_serve::{Devices, Given, read_utf8, replay_text};
 use std::alloc::Global;
 
-// Replays the text of a journal on an image.
-fn replay_read<S: System>(
+// Replays the text of a journal with devices and an image.
+fn replay_read<S: System, D: Device>(
     alloc: Global,
+    devices: Devices<D>,
     image: &Image,
     journal: &str,
     text: &str,
     world: &mut World<S>,
 ) -> u8
-    ensures { ReplaysText S.Output.takes S.Errors.takes journal.now image.now text.now world.old world.new result }
+    ensures { ReplaysText S.Output.takes S.Errors.takes devices journal.now image.now text.now world.old world.new result }
 {
-    let given = Given { image: Some(image) };
+    let given = Given {
+        image: Some(image),
+        devices,
+    };
     let ending = replay_text(alloc, given, text, &mut world.output);
     let known = Known::Lines(Some(image), text.as_bytes());
     ended_with(known, journal, &ending, &mut world.errors)
 }
 
-// Replays the journal of a file on an image.
-fn replay_on<S: System>(alloc: Global, image: &Image, journal: &str, world: &mut World<S>) -> u8
-    ensures { ReplaysJournal S.opens S.Opened.gives S.Output.takes S.Errors.takes journal.now image.now world.old world.new result }
+// Replays the journal of a file with devices and an image.
+fn replay_on<S: System, D: Device>(
+    alloc: Global,
+    devices: Devices<D>,
+    image: &Image,
+    journal: &str,
+    world: &mut World<S>,
+) -> u8
+    ensures { ReplaysJournal S.opens S.Opened.gives S.Output.takes S.Errors.takes devices journal.now image.now world.old world.new result }
 {
     let mut file = match world.files.open(journal) {
         Ok(file) => file,
         Err(fault) => return not_opened(journal, fault, &mut world.errors),
     };
     match read_utf8(alloc, &mut file) {
-        Ok(text) => replay_read(alloc, image, journal, text.as_str(), world),
+        Ok(text) => replay_read(alloc, devices, image, journal, text.as_str(), world),
         Err(stop) => not_read(stop, journal, world),
     }
 }
 
-/// Replays the journal of a file on the image of another, which is opened and imported first.
-pub(crate) fn replay<S: System>(
+/// Replays the journal of a file with devices and the image of another, which is opened and imported first.
+pub(crate) fn replay<S: System, D: Device>(
     alloc: Global,
+    devices: Devices<D>,
     image: &str,
     journal: &str,
     world: &mut World<S>,
 ) -> u8
-    ensures { Replays S.opens S.Opened.gives S.Output.takes S.Errors.takes image.now journal.now world.old world.new result }
+    ensures { Replays S.opens S.Opened.gives S.Output.takes S.Errors.takes devices image.now journal.now world.old world.new result }
 {
     match image_at(alloc, image, world) {
-        Ok(image) => replay_on(alloc, &image, journal, world),
+        Ok(image) => replay_on(alloc, devices, &image, journal, world),
         Err(status) => status,
     }
 }

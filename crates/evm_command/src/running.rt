@@ -1,13 +1,13 @@
 //! `run`: the script of standard input served.
 
 ghost use Rattle.std.specs.Prelude.{option_copied};
-ghost use Rattle.evm_serve.specs.Given.{given_of};
 ghost use Rattle.evm_command.specs.Jobs.{ServesScript, ServesInput, RunsImage, Runs};
 
 use crate::exit::{Known, ended_with, not_read};
 use crate::loading::image_at;
 use crate::system::{System, World};
-use evm_serve::{Given, read_all, run_script};
+use evm_dev::Device;
+use evm_serve::{Devices, Given, read_all, run_script};
 use std::alloc::Global;
 
 /// The name of the script in front of its lines.
@@ -17,9 +17,15 @@ const SCRIPT: &str = "script";
 const INPUT: &str = "standard input";
 
 // Serves a script.
-fn serve_text<S: System>(alloc: Global, given: Given<'_>, script: &[u8], world: &mut World<S>) -> u8
-    ensures { ServesScript S.Output.takes S.Errors.takes (given_of given.entry) script.now world.old world.new result }
+fn serve_text<S: System, D: Device>(
+    alloc: Global,
+    given: Given<'_, D>,
+    script: &[u8],
+    world: &mut World<S>,
+) -> u8
+    ensures { ServesScript S.Output.takes S.Errors.takes given.entry script.now world.old world.new result }
 {
+    let image = given.image;
     let ending = run_script(
         alloc,
         given,
@@ -29,7 +35,7 @@ fn serve_text<S: System>(alloc: Global, given: Given<'_>, script: &[u8], world: 
         &mut world.errors,
     );
     ended_with(
-        Known::Lines(given.image, script),
+        Known::Lines(image, script),
         SCRIPT,
         &ending,
         &mut world.errors,
@@ -37,8 +43,8 @@ fn serve_text<S: System>(alloc: Global, given: Given<'_>, script: &[u8], world: 
 }
 
 // Serves the script of standard input.
-fn serve_input<S: System>(alloc: Global, given: Given<'_>, world: &mut World<S>) -> u8
-    ensures { ServesInput S.Input.gives S.Output.takes S.Errors.takes (given_of given.entry) world.old world.new result }
+fn serve_input<S: System, D: Device>(alloc: Global, given: Given<'_, D>, world: &mut World<S>) -> u8
+    ensures { ServesInput S.Input.gives S.Output.takes S.Errors.takes given.entry world.old world.new result }
 {
     match read_all(alloc, &mut world.input) {
         Ok(script) => serve_text(alloc, given, script.as_slice(), world),
@@ -46,14 +52,20 @@ fn serve_input<S: System>(alloc: Global, given: Given<'_>, world: &mut World<S>)
     }
 }
 
-// Serves it with the image of a file.
-fn run_image<S: System>(alloc: Global, path: &str, world: &mut World<S>) -> u8
-    ensures { RunsImage S.opens S.Opened.gives S.Input.gives S.Output.takes S.Errors.takes path.now world.old world.new result }
+// Serves it with devices and the image of a file.
+fn run_image<S: System, D: Device>(
+    alloc: Global,
+    devices: Devices<D>,
+    path: &str,
+    world: &mut World<S>,
+) -> u8
+    ensures { RunsImage S.opens S.Opened.gives S.Input.gives S.Output.takes S.Errors.takes devices path.now world.old world.new result }
 {
     match image_at(alloc, path, world) {
         Ok(image) => {
             let given = Given {
                 image: Some(&image),
+                devices,
             };
             serve_input(alloc, given, world)
         }
@@ -61,12 +73,23 @@ fn run_image<S: System>(alloc: Global, path: &str, world: &mut World<S>) -> u8
     }
 }
 
-/// Serves the script of standard input, with the image of a file in the machine, if one is named.
-pub(crate) fn run<S: System>(alloc: Global, image: Option<&str>, world: &mut World<S>) -> u8
-    ensures { Runs S.opens S.Opened.gives S.Input.gives S.Output.takes S.Errors.takes (option_copied image.entry) world.old world.new result }
+/// Serves the script of standard input, with devices in the machine, and with the image of a file, if one is named.
+pub(crate) fn run<S: System, D: Device>(
+    alloc: Global,
+    devices: Devices<D>,
+    image: Option<&str>,
+    world: &mut World<S>,
+) -> u8
+    ensures { Runs S.opens S.Opened.gives S.Input.gives S.Output.takes S.Errors.takes devices (option_copied image.entry) world.old world.new result }
 {
     match image {
-        None => serve_input(alloc, Given { image: None }, world),
-        Some(path) => run_image(alloc, path, world),
+        None => {
+            let given = Given {
+                image: None,
+                devices,
+            };
+            serve_input(alloc, given, world)
+        }
+        Some(path) => run_image(alloc, devices, path, world),
     }
 }

@@ -1,5 +1,6 @@
 //! Command lines over a system that is not there: files that can't be opened or created, and streams that fail.
 
+use crate::attaching::devices;
 use crate::command::answer;
 use crate::system::{OpenFault, System, World};
 use std::alloc::Global;
@@ -157,7 +158,10 @@ fn status_of<'a>(alloc: Global, line: &str, given: &'a Given<'a>) -> Result<u8, 
     for word in line.split(' ') {
         words.push(String::from_str(alloc, word)?)?;
     }
-    Ok(answer(alloc, words.as_slice(), &mut world))
+    let Ok(devices) = devices(alloc) else {
+        return Err("no memory for devices".into());
+    };
+    Ok(answer(alloc, words.as_slice(), devices, &mut world))
 }
 
 /// A source, a faulty one, one that is no text, and a journal that is none.

@@ -1,6 +1,7 @@
 pub mod Lines
 pub mod RegisterLines
 pub mod Below
+pub mod DeviceWords
 pub mod Pairs
 pub mod Shown
 pub use Rattle.evm_journal.proofs.evm_history as evm_history

@@ -27,10 +27,10 @@ abbrev IsView : View → List ℕ → Type 0
 IsView view bytes = (bytes ≡ view_text view) × HasViewLine view
 
 each_bare : Each IsView bare_rows
-each_bare = (λ values fit. (refl, fit), (λ values fit. (refl, fit), (λ values fit. (refl, fit), (λ values fit. (refl, fit), tt))))
+each_bare = (λ values fit. (refl, fit), (λ values fit. (refl, fit), (λ values fit. (refl, fit), (λ values fit. (refl, fit), (λ values fit. (refl, fit), tt)))))
 
 each_view : Each IsView view_rows
-each_view = (λ values fit. (refl, fit), (λ values fit. (refl, fit), (λ values fit. (refl, fit), (λ values fit. (refl, fit), (λ values fit. (refl, fit), each_bare)))))
+each_view = (λ values fit. (refl, fit), (λ values fit. (refl, fit), (λ values fit. (refl, fit), (λ values fit. (refl, fit), (λ values fit. (refl, fit), (λ values fit. (refl, fit), each_bare))))))
 
 -- the keyword of a view finds its row, which says the view
 named : (view : View) → row_named (view_row view).row.keyword view_rows ≡ Some (view_row view).row

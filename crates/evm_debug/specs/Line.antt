@@ -7,7 +7,7 @@ use Rattle.evm_journal.specs.Journal.{boot_row, boot_text, HasBootLine}
 use Rattle.evm_journal.specs.evm_history.EventLine.{EventLine}
 use Rattle.evm_journal.specs.evm_history.declared.event_line.EventLine.TheVariants as events
 use Rattle.evm_debug.specs.declared.line.View.{View}
-use Rattle.evm_debug.specs.declared.line.View.TheVariants.{Regs, Mem, Stages, Tasks, Owners, Rank, Counts, Journal, Console}
+use Rattle.evm_debug.specs.declared.line.View.TheVariants.{Regs, Mem, Stages, Tasks, Owners, Rank, Notices, Counts, Journal, Console, Words}
 use Rattle.evm_debug.specs.declared.line.Line.{Line}
 use Rattle.evm_debug.specs.declared.line.Line.TheVariants.{Blank, Boot, Steps, One, Look}
 
@@ -28,11 +28,17 @@ rank_row = line_row (codes "rank") (Byte ∷ []) Rank
 abbrev pub counts_row : LineRow View
 counts_row = line_row (codes "counts") (Byte ∷ Byte ∷ []) Counts
 
+abbrev pub words_row : LineRow View
+words_row = line_row (codes "words") (Byte ∷ []) Words
+
 abbrev pub tasks_row : LineRow View
 tasks_row = line_row (codes "tasks") [] Tasks
 
 abbrev pub owners_row : LineRow View
 owners_row = line_row (codes "owners") [] Owners
+
+abbrev pub notices_row : LineRow View
+notices_row = line_row (codes "notices") [] Notices
 
 abbrev pub journal_row : LineRow View
 journal_row = line_row (codes "journal") [] Journal
@@ -42,10 +48,10 @@ console_row = line_row (codes "console") [] Console
 
 -- the views whose keyword is all of their line
 abbrev pub bare_rows : List (LineRow View)
-bare_rows = tasks_row ∷ owners_row ∷ journal_row ∷ console_row ∷ []
+bare_rows = tasks_row ∷ owners_row ∷ notices_row ∷ journal_row ∷ console_row ∷ []
 
 abbrev pub view_rows : List (LineRow View)
-view_rows = regs_row ∷ mem_row ∷ stages_row ∷ rank_row ∷ counts_row ∷ bare_rows
+view_rows = regs_row ∷ mem_row ∷ stages_row ∷ rank_row ∷ counts_row ∷ words_row ∷ bare_rows
 
 -- the row of a view, with what stands in its fields
 abbrev pub view_row : View → Filled View
@@ -55,9 +61,11 @@ view_row (Stages cpu) = with_values stages_row cpu
 view_row Tasks = with_values tasks_row tt
 view_row Owners = with_values owners_row tt
 view_row (Rank task) = with_values rank_row task
+view_row Notices = with_values notices_row tt
 view_row (Counts cpu line) = with_values counts_row (cpu, line)
 view_row Journal = with_values journal_row tt
 view_row Console = with_values console_row tt
+view_row (Words device) = with_values words_row device
 
 abbrev pub view_text : View → List ℕ
 view_text view = row_text (view_row view)

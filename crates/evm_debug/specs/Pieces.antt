@@ -1,6 +1,7 @@
--- The pieces of a line, as the code strings them together.
-use Rattle.std.specs.Prelude.{ℕ, List, [], ◌∷◌, ◌++◌}
+-- The pieces of a line, as the code strings them together; the words of which a line is made.
+use Rattle.std.specs.Prelude.{ℕ, List, [], ◌∷◌, ◌++◌, Option, Some, None}
 use Rattle.evm_journal.specs.evm_text.Written.{decimal}
+use Rattle.evm_model.specs.Devices.{Attached}
 use Rattle.evm_debug.specs.Views.{word_text, line_set_text, bit_text, number_or_none, two_digits, state_text, class_text, stage_text}
 use Rattle.evm_debug.specs.declared.piece.Piece.{Piece}
 use Rattle.evm_debug.specs.declared.piece.Piece.TheVariants.{Text, Decimal, Word, Lines, Bit, Number, TwoDigits, State, Class, Stage}
@@ -20,3 +21,8 @@ piece_text (Stage s) = stage_text s
 abbrev pub pieces_text : List Piece → List ℕ
 pieces_text [] = []
 pieces_text (piece ∷ pieces) = piece_text piece ++ pieces_text pieces
+
+-- the words of a device, if there is one
+abbrev pub words_in : Option Attached → List ℕ
+words_in None = []
+words_in (Some device) = device.words

@@ -6,9 +6,9 @@ use Rattle.evm_exec.specs.declared.hart.TheConstants.{REGISTERS}
 use Rattle.evm_lines.specs.declared.TheConstants.{LINES}
 use Rattle.evm_ram.specs.Ram.{bytes_at}
 use Rattle.evm_model.specs.declared.refusal.Refusal.{Refusal}
-use Rattle.evm_model.specs.declared.refusal.Refusal.TheVariants.{NoSuchCpu, NoSuchLine, NoTask, BadAddress}
+use Rattle.evm_model.specs.declared.refusal.Refusal.TheVariants.{NoSuchCpu, NoSuchLine, NoTask, BadAddress, NoSlot}
 use Rattle.evm_debug.specs.declared.line.View.{View}
-use Rattle.evm_debug.specs.declared.line.View.TheVariants.{Regs, Mem, Stages as StagesView, Tasks, Owners, Rank, Counts as CountsView, Journal, Console}
+use Rattle.evm_debug.specs.declared.line.View.TheVariants.{Regs, Mem, Stages as StagesView, Tasks, Owners, Rank, Notices as NoticesView, Counts as CountsView, Journal, Console, Words}
 use Rattle.evm_journal.specs.Journal.{journal_text}
 use Rattle.evm_debug.specs.declared.look.ViewRefusal.{ViewRefusal}
 use Rattle.evm_debug.specs.declared.look.ViewRefusal.TheVariants.{Refused, NoMemory}
@@ -17,11 +17,14 @@ use Rattle.evm_journal.specs.evm_core.declared.stages.Stages.{Stages}
 use Rattle.evm_exec.specs.Registers.{register_of}
 use Rattle.evm_lines.specs.Lines.{word_of}
 use Rattle.evm_model.specs.Faults.{fault_number}
-use Rattle.evm_model.specs.State.{Memory, Parts, State}
+use Rattle.evm_model.specs.Devices.{Attached}
+use Rattle.evm_model.specs.Notices.{notice_number}
+use Rattle.evm_model.specs.State.{Memory, Notices, Parts, State}
 use Rattle.evm_model.specs.Ranks.{is_oob_ready, rank}
 use Rattle.evm_exec.specs.declared.hart.Hart.{Hart}
 use Rattle.evm_model.specs.declared.limits.TheConstants.{POKE_LIMIT}
 use Rattle.evm_model.specs.declared.mutex.Mutex.{Mutex}
+use Rattle.evm_model.specs.declared.notice.Notice.{Notice}
 use Rattle.evm_model.specs.declared.processor.Processor.{Processor}
 use Rattle.evm_model.specs.declared.counts.Counts.{Counts}
 use Rattle.evm_model.specs.declared.task.Task.{Task}
@@ -146,6 +149,38 @@ owners_text k = owners_below (length k.mutexes) k.mutexes
 abbrev pub rank_text : ℕ → List ℕ
 rank_text n = parts_text (codes "rank " ∷ decimal n ∷ codes "\n" ∷ [])
 
+-- a notice, if there is one: at which tick, of which task, and the number of its kind
+abbrev pub notice_text : Option Notice → List ℕ
+notice_text None = []
+notice_text (Some notice) =
+    parts_text (decimal notice.tick ∷ codes " " ∷ decimal notice.task ∷ codes " " ∷ decimal (notice_number notice.kind) ∷ codes "\n" ∷ [])
+
+-- the notices below a number, by their numbers
+unfoldable pub notices_below : ℕ → List Notice → List ℕ
+notices_below zero notices = []
+notices_below (suc i) notices = notices_below i notices ++ notice_text (slice_get notices i)
+
+abbrev pub total_text : ℕ → List ℕ
+total_text total = parts_text (codes "total " ∷ decimal total ∷ codes "\n" ∷ [])
+
+-- how many notices there were, and those that are kept, the oldest first
+abbrev pub notices_text : Notices → List ℕ
+notices_text notices = total_text notices.total ++ notices_below (length notices.kept) notices.kept
+
+-- a word, if there is one, behind a blank
+abbrev pub blank_word : Option ℕ → List ℕ
+blank_word None = []
+blank_word (Some word) = parts_text (codes " " ∷ word_text word ∷ [])
+
+-- the words below a number, by their numbers
+unfoldable pub words_below : ℕ → List ℕ → List ℕ
+words_below zero words = []
+words_below (suc k) words = words_below k words ++ blank_word (slice_get words k)
+
+-- all words of a device, on one line
+abbrev pub words_text : List ℕ → List ℕ
+words_text words = codes "words" ++ (words_below (length words) words ++ codes "\n")
+
 -- processor c: its task, its two logs with their stall bits, its in-band task, its wire, and its stop and skip bits
 abbrev pub stages_text : ℕ → Processor → Stages → List ℕ
 stages_text c p stages = parts_text (
@@ -187,6 +222,11 @@ abbrev pub counts_shown : Option Stages → Option Counts → Result (List ℕ) 
 counts_shown None counts = Err NoSuchCpu
 counts_shown (Some stages) counts = counts_of_line counts
 
+-- of a device that is there
+abbrev pub words_of : Option Attached → Result (List ℕ) Refusal
+words_of None = Err NoSlot
+words_of (Some device) = Ok (words_text device.words)
+
 abbrev pub bytes_text : Option (List ℕ) → Result (List ℕ) Refusal
 bytes_text None = Err BadAddress
 bytes_text (Some bytes) = Ok (pairs bytes ++ codes "\n")
@@ -204,9 +244,11 @@ shown (StagesView c) s = stages_of c (slice_get s.board.parts.processors c) (sta
 shown Tasks s = Ok (tasks_text s.board.parts)
 shown Owners s = Ok (owners_text s.board.parts)
 shown (Rank t) s = rank_of (slice_get s.board.parts.tasks t) (rank s.board.parts.mutexes s.board.parts.tasks t)
+shown NoticesView s = Ok (notices_text s.board.parts.notices)
 shown (CountsView c l) s = counts_shown (stages_at c s.board.parts) (counts_at c l s.board.parts)
 shown Journal s = Ok (journal_text s.boot s.journal)
 shown Console s = Ok (pairs s.board.parts.console ++ codes "\n")
+shown (Words i) s = words_of (slice_get s.board.memory.devices i)
 
 -- what is shown stands behind what stood there
 abbrev pub Shows : Result (List ℕ) Refusal → List ℕ → List ℕ → Type 0

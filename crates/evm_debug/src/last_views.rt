@@ -8,12 +8,13 @@ ghost use Rattle.evm_debug.specs.Summary.{stages_below, stages_or_none, summary_
 ghost use Rattle.evm_room.specs.Growth.{RefusedWithin};
 
 use crate::views::{push_owners, push_stages, push_tasks};
+use evm_dev::Device;
 use evm_journal::Machine;
 use evm_room::{NoMemory, Refused};
 use std::alloc::Global;
 
 // The stages of the processor of a number, if there is one.
-fn push_stages_of(out: &mut String, c: u8, machine: &Machine) -> Result<(), Refused>
+fn push_stages_of<D: Device>(out: &mut String, c: u8, machine: &Machine<D>) -> Result<(), Refused>
     ensures { Appends (stages_or_none c (slice_get machine.now.board.parts.processors c) (stages_at c machine.now.board.parts)) out.old out.new result }
 {
     let Some(processor) = machine.cpu(c) else {
@@ -26,7 +27,7 @@ fn push_stages_of(out: &mut String, c: u8, machine: &Machine) -> Result<(), Refu
 }
 
 #[tactic(auto, using(crate::proofs::Below::stages))]
-fn push_all_stages(out: &mut String, machine: &Machine) -> Result<(), Refused>
+fn push_all_stages<D: Device>(out: &mut String, machine: &Machine<D>) -> Result<(), Refused>
     ensures { Appends (stages_below (length machine.now.board.parts.processors) machine.now.board.parts) out.old out.new result }
 {
     for c in 0..machine.cpu_count() {
@@ -41,7 +42,7 @@ fn push_all_stages(out: &mut String, machine: &Machine) -> Result<(), Refused>
 /// Appends the views of a machine that a replay ends with: the stages of each processor, the tasks, and the owners of
 /// its mutexes. On an `Err` a part of them may have been appended.
 #[tactic(auto, using(crate::proofs::Below::lengths))]
-pub fn push_summary(out: &mut String, machine: &Machine) -> Result<(), Refused>
+pub fn push_summary<D: Device>(out: &mut String, machine: &Machine<D>) -> Result<(), Refused>
     ensures { Appends (summary_text machine.now) out.old out.new result }
 {
     push_all_stages(out, machine)?;
@@ -50,7 +51,7 @@ pub fn push_summary(out: &mut String, machine: &Machine) -> Result<(), Refused>
 }
 
 /// The views of a machine that a replay ends with, as `push_summary` appends them.
-pub fn summary(alloc: Global, machine: &Machine) -> Result<String, NoMemory>
+pub fn summary<D: Device>(alloc: Global, machine: &Machine<D>) -> Result<String, NoMemory>
     ensures ok { IfOk result (λ text. string_bytes text ≡ summary_text machine.now) }
     // It gives up only where a growth was refused that is no greater than the text.
     ensures refused { OnErr result (RefusedWithin (length (summary_text machine.now))) }

@@ -1,6 +1,8 @@
 //! What a debugger's script says, and what its views show.
 #![tactic(auto)]
 
+mod device;
+mod health;
 mod last_views;
 mod laws;
 mod line;
@@ -12,8 +14,8 @@ mod showing;
 mod views;
 
 pub use evm_journal::{
-    Answer, Boot, Event, EventLine, Journal, JournalFault, JournalFaultKind, Machine, Refusal,
-    cut_line, push_decimal, read_history, write_journal,
+    Answer, Boot, Devices, Event, EventLine, Journal, JournalFault, JournalFaultKind, Machine,
+    Refusal, cut_line, push_decimal, read_history, write_journal,
 };
 pub use last_views::{push_summary, summary};
 pub use laws::reads_lines;

@@ -15,12 +15,16 @@ pub enum View {
     Owners,
     /// `rank T`: a task's rank, with what others that it keeps waiting give it.
     Rank(u8),
+    /// `notices`: the notices of the health monitor, the last 64 of them, and how many there were.
+    Notices,
     /// `counts C L`: the counts of a processor's line.
     Counts(u8, u8),
     /// `journal`: the journal's text.
     Journal,
     /// `console`: the bytes that were put to the console, the last 4,096 of them.
     Console,
+    /// `words I`: the words of a device.
+    Words(u8),
 }
 
 /// A line of a script.

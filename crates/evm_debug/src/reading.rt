@@ -73,6 +73,9 @@ fn bare_at(bytes: &[u8]) -> Option<Line>
     if let Some(rest) = after_word(b"owners", bytes) {
         return bare(View::Owners, rest);
     }
+    if let Some(rest) = after_word(b"notices", bytes) {
+        return bare(View::Notices, rest);
+    }
     if let Some(rest) = after_word(b"journal", bytes) {
         return bare(View::Journal, rest);
     }
@@ -99,6 +102,9 @@ fn view_at(bytes: &[u8]) -> Option<Line>
     }
     if let Some(rest) = after_word(b"counts ", bytes) {
         return counts_at(rest);
+    }
+    if let Some(rest) = after_word(b"words ", bytes) {
+        return Some(Line::Look(View::Words(u8_last(rest)?)));
     }
     bare_at(bytes)
 }

@@ -4,9 +4,12 @@ ghost use Rattle.evm_journal.specs.evm_text.Appending.{Appends};
 ghost use Rattle.evm_journal.specs.evm_text.Written.{pairs};
 ghost use Rattle.evm_debug.specs.Views.{shown, Shows, ViewFails};
 
+use crate::device::push_device;
+use crate::health::push_notices;
 use crate::line::View;
 use crate::look::ViewRefusal;
 use crate::views::{push_counts, push_owners, push_rank, push_regs, push_stages, push_tasks};
+use evm_dev::Device;
 use evm_journal::{Machine, push_journal, push_pairs};
 use evm_model::{POKE_LIMIT, Refusal};
 use evm_room::{Refused, push_text};
@@ -14,9 +17,9 @@ use std::alloc::Global;
 
 // Appends the text of a view, as far as memory goes, or answers why it is refused.
 #[tactic(auto, unfolding(crate::specs::Views::shown))]
-fn push_shown(
+fn push_shown<D: Device>(
     out: &mut String,
-    machine: &Machine,
+    machine: &Machine<D>,
     what: &View,
 ) -> Result<Result<(), Refused>, Refusal>
     ensures ok { IfOk result (λ pushed. IsOkAnd (shown what.now machine.now) (λ text. OnOk pushed (string_bytes out.new ≡ string_bytes out.old ++ text))) }
@@ -54,6 +57,8 @@ fn push_shown(
             None => Err(Refusal::NoTask),
             Some(_) => Ok(push_rank(out, machine.rank(*t))),
         },
+        View::Notices => Ok(push_notices(out, machine)),
+        View::Words(i) => push_device(out, *i, machine),
         View::Console => {
             let (older, newer) = machine.console();
             Ok(push_console(out, older, newer))
@@ -72,7 +77,11 @@ fn push_shown(
 
 /// Appends the text of a view, or answers why it is refused. Where memory is refused a part of it may have been appended.
 #[tactic(auto, using(crate::proofs::Shown::lacks))]
-pub fn push_view(out: &mut String, machine: &Machine, what: &View) -> Result<(), ViewRefusal>
+pub fn push_view<D: Device>(
+    out: &mut String,
+    machine: &Machine<D>,
+    what: &View,
+) -> Result<(), ViewRefusal>
     ensures ok { OnOk result (Shows (shown what.now machine.now) (string_bytes out.old) (string_bytes out.new)) }
     ensures err { IfErr result (λ e. ViewFails e (shown what.now machine.now)) }
     // Memory is refused only where there is no room for the text.
@@ -90,7 +99,11 @@ pub fn push_view(out: &mut String, machine: &Machine, what: &View) -> Result<(),
 
 /// The text of a view, or why it is refused.
 #[tactic(auto, using(crate::proofs::Shown::shows_all))]
-pub fn view(alloc: Global, machine: &Machine, what: &View) -> Result<String, ViewRefusal>
+pub fn view<D: Device>(
+    alloc: Global,
+    machine: &Machine<D>,
+    what: &View,
+) -> Result<String, ViewRefusal>
     ensures { MatchResult result (λ text. shown what.now machine.now ≡ Result.Ok (string_bytes text)) (λ e. ViewFails e (shown what.now machine.now)) }
 {
     let mut text = String::new(alloc);

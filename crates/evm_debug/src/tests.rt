@@ -1,4 +1,5 @@
 use super::*;
+use evm_devs::Pins;
 use evm_journal::{EventLine, Machine};
 use evm_model::{Boot, Event, Refusal};
 use std::process::Abort;
@@ -28,6 +29,10 @@ fn other_lines_are_bad(rt: HostRuntime) {
     is_bad(&rt, b"owners 0");
     is_bad(&rt, b"rank");
     is_bad(&rt, b"rank 256");
+    is_bad(&rt, b"notices 0");
+    is_bad(&rt, b"words");
+    is_bad(&rt, b"words 01");
+    is_bad(&rt, b"words 256");
     is_bad(&rt, b"journal\r");
     is_bad(&rt, b"step 0 0");
     is_bad(&rt, &[255, 254]);
@@ -58,6 +63,8 @@ fn lines_are_read(rt: HostRuntime) {
     is(&rt, b"owners", Line::Look(View::Owners));
     is(&rt, b"rank 63", Line::Look(View::Rank(63)));
     is(&rt, b"counts 1 9", Line::Look(View::Counts(1, 9)));
+    is(&rt, b"notices", Line::Look(View::Notices));
+    is(&rt, b"words 255", Line::Look(View::Words(255)));
     is(&rt, b"journal", Line::Look(View::Journal));
 }
 
@@ -96,16 +103,19 @@ fn lines_that_hold_no_bytes_are_read_small(rt: HostRuntime) {
 #[test]
 fn views_are_appended(rt: HostRuntime) -> Result<(), Fail> {
     let alloc = rt.alloc();
-    let Ok(machine) = Machine::boot(alloc, 1, 65536, 16) else {
+    let Ok(machine) = Machine::<Pins>::boot(alloc, 1, 65536, 16) else {
         return Err("no machine".into());
     };
     let mut out = String::new(alloc);
     push_view(&mut out, &machine, &View::Mem(0x8000_0000, 4))?;
     push_view(&mut out, &machine, &View::Console)?;
-    assert_eq!(rt; out.as_str(), "00000000\n\n");
+    push_view(&mut out, &machine, &View::Notices)?;
+    assert_eq!(rt; out.as_str(), "00000000\n\ntotal 0\n");
     let refused = push_view(&mut out, &machine, &View::Regs(1));
     assert!(rt; matches!(refused, Err(ViewRefusal::Refused(Refusal::NoSuchCpu))));
-    assert_eq!(rt; out.as_str(), "00000000\n\n");
+    let refused = push_view(&mut out, &machine, &View::Words(0));
+    assert!(rt; matches!(refused, Err(ViewRefusal::Refused(Refusal::NoSlot))));
+    assert_eq!(rt; out.as_str(), "00000000\n\ntotal 0\n");
     let Ok(views) = summary(alloc, &machine) else {
         return Err("no views".into());
     };

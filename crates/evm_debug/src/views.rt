@@ -5,6 +5,7 @@ ghost use Rattle.evm_exec.specs.Registers.{register_of};
 
 use crate::piece::Piece;
 use crate::pieces::push_pieces;
+use evm_dev::Device;
 use evm_exec::{Hart, REGISTERS};
 use evm_isa::Register;
 use evm_journal::{Machine, Stages};
@@ -78,10 +79,10 @@ fn push_current(out: &mut String, t: u8, task: &Task, hart: &Hart) -> Result<(),
     push_registers(out, hart)
 }
 
-pub(crate) fn push_regs(
+pub(crate) fn push_regs<D: Device>(
     out: &mut String,
     current: Option<u8>,
-    machine: &Machine,
+    machine: &Machine<D>,
 ) -> Result<(), Refused>
     ensures { Appends (regs_text current machine.now.board.parts) out.old out.new result }
 {
@@ -98,7 +99,7 @@ pub(crate) fn push_regs(
 }
 
 #[tactic(auto, using(crate::proofs::Below::tasks))]
-pub(crate) fn push_tasks(out: &mut String, machine: &Machine) -> Result<(), Refused>
+pub(crate) fn push_tasks<D: Device>(out: &mut String, machine: &Machine<D>) -> Result<(), Refused>
     ensures { Appends (tasks_text machine.now.board.parts) out.old out.new result }
 {
     for t in 0..machine.task_count() {
@@ -111,7 +112,11 @@ pub(crate) fn push_tasks(out: &mut String, machine: &Machine) -> Result<(), Refu
 }
 
 // The task of a number, if there is one.
-fn push_numbered_task(out: &mut String, t: u8, machine: &Machine) -> Result<(), Refused>
+fn push_numbered_task<D: Device>(
+    out: &mut String,
+    t: u8,
+    machine: &Machine<D>,
+) -> Result<(), Refused>
     ensures { Appends (task_text t (slice_get machine.now.board.parts.tasks t) (slice_get machine.now.board.parts.harts t)) out.old out.new result }
 {
     let Some(task) = machine.task(t) else {
@@ -144,7 +149,7 @@ fn push_task(out: &mut String, t: u8, task: &Task, hart: &Hart) -> Result<(), Re
 }
 
 #[tactic(auto, using(crate::proofs::Below::owners))]
-pub(crate) fn push_owners(out: &mut String, machine: &Machine) -> Result<(), Refused>
+pub(crate) fn push_owners<D: Device>(out: &mut String, machine: &Machine<D>) -> Result<(), Refused>
     ensures { Appends (owners_text machine.now.board.parts) out.old out.new result }
 {
     for m in 0..machine.mutex_count() {
@@ -157,7 +162,11 @@ pub(crate) fn push_owners(out: &mut String, machine: &Machine) -> Result<(), Ref
 }
 
 // The mutex of a number, if there is one.
-fn push_numbered_mutex(out: &mut String, m: u8, machine: &Machine) -> Result<(), Refused>
+fn push_numbered_mutex<D: Device>(
+    out: &mut String,
+    m: u8,
+    machine: &Machine<D>,
+) -> Result<(), Refused>
     ensures { Appends (owner_text m (slice_get machine.now.board.parts.mutexes m)) out.old out.new result }
 {
     match machine.mutex(m) {

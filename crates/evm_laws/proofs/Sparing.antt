@@ -1,11 +1,16 @@
 -- Events that write none of a line's bytes leave its word.
 use Rattle.std.proofs.Common.{◌≡◌, ℕ, List, [], ◌∷◌, Bool, true, false, cond, not, ◌&&◌, Option, Some, None, length, option_map, refl, sym, ap, ◌∙◌, subst}
 use Rattle.std.specs.Prelude.{slice_get}
+use Rattle.std.proofs.lemmas.Option.{same_Some}
 use Rattle.evm_isa.specs.Decoded.{decoded}
 use Rattle.evm_isa.specs.declared.inst.Inst.{Inst}
 use Rattle.evm_isa.specs.declared.inst.LoadOp.{LoadOp}
 use Rattle.evm_lines.specs.Lines.{least_line}
 use Rattle.evm_elf.specs.evm_asm.declared.output.ProgramLine.{ProgramLine}
+use Rattle.evm_dev.specs.Rows.{touched}
+use Rattle.evm_dev.specs.Touched.{Touched}
+use Rattle.evm_dev.specs.declared.touch.Op.{Op}
+use Rattle.evm_dev.specs.declared.touch.Op.TheVariants.{Fetch, Put}
 use Rattle.evm_exec.specs.Does.{does}
 use Rattle.evm_exec.specs.Memory.{width_of_load}
 use Rattle.evm_exec.specs.declared.hart.Hart.{Hart}
@@ -16,10 +21,11 @@ use Rattle.evm_ram.specs.Laws.{bytes_at-elsewhere, read_at-elsewhere}
 use Rattle.evm_ram.specs.Ram.{read_at, write_at, poke_at}
 use Rattle.evm_model.specs.declared.refusal.Refusal.{Refusal}
 use Rattle.evm_ram.specs.declared.width.Width.{Width}
-use Rattle.evm_ram.specs.declared.width.Width.TheVariants.{Word}
+use Rattle.evm_ram.specs.declared.width.Width.TheVariants.{Word, Double}
 use Rattle.evm_model.specs.Commands.{set_bits, set_breakpoint, unset_breakpoint, is_set}
+use Rattle.evm_model.specs.Devices.{Accessed, Attached, answered_by, register_at, tick_devices, touch, touch_device, touch_register}
 use Rattle.evm_model.specs.Instructions.{execute, execute_word, execute_inst, finish, finish_load, finish_store, stop}
-use Rattle.evm_model.specs.Memory.{fetch, with_number, write, with_ram, ram_or, poke}
+use Rattle.evm_model.specs.Memory.{fetch, access_device, read, read_ram, write, write_ram, ram_or, poke}
 use Rattle.evm_model.specs.Pipes.{Pipe}
 use Rattle.evm_model.specs.Refusals.{refusal}
 use Rattle.evm_model.specs.Replay.{apply, apply_unless, left_by, replay}
@@ -35,34 +41,69 @@ use Rattle.evm_model.proofs.Lists.{change-here}
 use Rattle.evm_laws.specs.Running.{HasLine, skip_off}
 use Rattle.evm_laws.specs.Staying.{IsBeside, EffectSpares, StepSpares, Spares, ALineStays}
 
+-- ---- an access
+
+-- a touch leaves RAM
+answered-stays : (l : ProgramLine) (o : Option ℕ) (i : ℕ) (after : Touched) (m : Memory) (a : Accessed) → answered_by o i after m ≡ Some a → HasLine m l → HasLine a.memory l
+answered-stays l None i after m a e h = cc
+answered-stays l (Some answer) i after m a e h = subst (λ (x : Accessed). HasLine x.memory l) (same_Some _ a e) h
+
+device-stays : (l : ProgramLine) (o : Option Attached) (i : ℕ) (op : Op) (r value : ℕ) (m : Memory) (a : Accessed) → touch_device o i op r value m ≡ Some a → HasLine m l → HasLine a.memory l
+device-stays l None i op r value m a e h = cc
+device-stays l (Some device) i op r value m a e h =
+    answered-stays l (touched device.kind op r value device.words).touch.answer i (touched device.kind op r value device.words) m a e h
+
+register-stays : (l : ProgramLine) (o : Option (ℕ × ℕ)) (op : Op) (value : ℕ) (m : Memory) (a : Accessed) → touch_register o op value m ≡ Some a → HasLine m l → HasLine a.memory l
+register-stays l None op value m a e h = cc
+register-stays l (Some place) op value m a e h = device-stays l (slice_get m.devices place.0) place.0 op place.1 value m a e h
+
+touch-stays : (l : ProgramLine) (op : Op) (address value : ℕ) (m : Memory) (a : Accessed) → touch op address value m ≡ Some a → HasLine m l → HasLine a.memory l
+unfolding touch
+touch-stays l op address value m a e h = register-stays l (register_at address) op value m a e h
+
+access-stays : (l : ProgramLine) (op : Op) (width : Width) (address value : ℕ) (m : Memory) (a : Accessed) → access_device op width address value m ≡ Some a → HasLine m l → HasLine a.memory l
+access-stays l op Double address value m a e h = touch-stays l op address value m a e h
+access-stays l op _ address value m a e h = cc
+
+read_ram-stays : (l : ProgramLine) (o : Option ℕ) (device : Option Accessed) (m : Memory) (a : Accessed) → (device ≡ Some a → HasLine a.memory l) → HasLine m l
+    → read_ram o device m ≡ Some a → HasLine a.memory l
+read_ram-stays l None device m a touched h e = touched e
+read_ram-stays l (Some number) device m a touched h e = subst (λ (x : Accessed). HasLine x.memory l) (same_Some _ a e) h
+
+read-stays : (l : ProgramLine) (address : ℕ) (width : Width) (m : Memory) (a : Accessed) → HasLine m l → read address width m ≡ Some a → HasLine a.memory l
+read-stays l address width m a h e =
+    read_ram-stays l (read_at m.ram address width) (access_device Fetch width address 0 m) m a (λ f. access-stays l Fetch width address 0 m a f h) h e
+
+write_ram-stays : (l : ProgramLine) (o : Option (List ℕ)) (device : Option Accessed) (m : Memory) (a : Accessed) → ((ram : List ℕ) → o ≡ Some ram → HasLine (record m { ram = ram }) l)
+    → (device ≡ Some a → HasLine a.memory l) → write_ram o device m ≡ Some a → HasLine a.memory l
+write_ram-stays l None device m a stored touched e = touched e
+write_ram-stays l (Some ram) device m a stored touched e = subst (λ (x : Accessed). HasLine x.memory l) (same_Some _ a e) (stored ram refl)
+
+write-stays : (l : ProgramLine) (width : Width) (address value : ℕ) (m : Memory) (a : Accessed) → EffectSpares l (Store width address value) → HasLine m l
+    → write address width value m ≡ Some a → HasLine a.memory l
+write-stays l width address value m a spares h e =
+    write_ram-stays l (write_at m.ram address width value) (access_device Put width address value m) m a
+    (λ ram f. read_at-elsewhere m.ram address width value ram l.address Word f spares ∙ h)
+    (λ f. access-stays l Put width address value m a f h) e
+
 -- ---- an instruction
-load-stays : (l : ProgramLine) (o : Option ℕ) (op : LoadOp) (rd c t : ℕ) (b : Board) → HasLine b.memory l → HasLine (finish_load (with_number o b.memory) op rd c t b).memory l
-load-stays l None op rd c t b h = h
-load-stays l (Some n) op rd c t b h = h
+load-stays : (l : ProgramLine) (o : Option Accessed) (op : LoadOp) (rd c t : ℕ) (b : Board) → ((a : Accessed) → o ≡ Some a → HasLine a.memory l) → HasLine b.memory l
+    → HasLine (finish_load o op rd c t b).memory l
+load-stays l None op rd c t b accessed h = h
+load-stays l (Some a) op rd c t b accessed h = accessed a refl
 
-store-stays : (l : ProgramLine) (o : Option Memory) (c t : ℕ) (b : Board) → ((m : Memory) → o ≡ Some m → HasLine m l) → HasLine b.memory l
+store-stays : (l : ProgramLine) (o : Option Accessed) (c t : ℕ) (b : Board) → ((a : Accessed) → o ≡ Some a → HasLine a.memory l) → HasLine b.memory l
     → HasLine (finish_store o c t b).memory l
-store-stays l None c t b stored h = h
-store-stays l (Some m) c t b stored h = stored m refl
-
-with_ram-stays : (l : ProgramLine) (o : Option (List ℕ)) (m n : Memory) → ((ram : List ℕ) → o ≡ Some ram → HasLine (record m { ram = ram }) l)
-    → with_ram o m ≡ Some n → HasLine n l
-with_ram-stays l None m n stored e = cc
-with_ram-stays l (Some ram) m n stored e =
-    let is : record m { ram = ram } ≡ n = cc in subst (λ (x : Memory). HasLine x l) is (stored ram refl)
-
-write-stays : (l : ProgramLine) (width : Width) (address value : ℕ) (m n : Memory) → EffectSpares l (Store width address value) → HasLine m l
-    → write address width value m ≡ Some n → HasLine n l
-write-stays l width address value m n spares h e =
-    with_ram-stays l (write_at m.ram address width value) m n
-    (λ ram f. read_at-elsewhere m.ram address width value ram l.address Word f spares ∙ h) e
+store-stays l None c t b accessed h = h
+store-stays l (Some a) c t b accessed h = accessed a refl
 
 finish-stays : (l : ProgramLine) (effect : Effect) (c t : ℕ) (b : Board) → EffectSpares l effect → HasLine b.memory l → HasLine (finish effect c t b).memory l
 unfolding finish
 finish-stays l (Next rd value pc) c t b spares h = h
-finish-stays l (Load op rd address) c t b spares h = load-stays l (read_at b.memory.ram address (width_of_load op)) op rd c t b h
+finish-stays l (Load op rd address) c t b spares h =
+    load-stays l (read address (width_of_load op) b.memory) op rd c t b (λ a e. read-stays l address (width_of_load op) b.memory a h e) h
 finish-stays l (Store width address value) c t b spares h =
-    store-stays l (write address width value b.memory) c t b (λ m e. write-stays l width address value b.memory m spares h e) h
+    store-stays l (write address width value b.memory) c t b (λ a e. write-stays l width address value b.memory a spares h e) h
 finish-stays l Call c t b spares h = h
 finish-stays l Break c t b spares h = h
 finish-stays l Misaligned c t b spares h = h
@@ -154,7 +195,7 @@ ram_or-stays l (Some ram) address bytes m there beside h =
     ap (option_map little_endian) (bytes_at-elsewhere m.ram address bytes ram l.address 4 there beside) ∙ h
 
 row-stays : (l : ProgramLine) (event : Event) (b : Board) → Spares l event b → HasLine b.memory l → HasLine (row event b).0.memory l
-unfolding row poke set_breakpoint unset_breakpoint
+unfolding row poke set_breakpoint unset_breakpoint tick_devices
 row-stays l (Step c) b spares h = step-stays l c b spares h
 row-stays l Tick b spares h = h
 row-stays l (Raise c line) b spares h = h

@@ -11,6 +11,7 @@ use Rattle.evm_ram.specs.Bytes.{little_endian}
 use Rattle.evm_ram.specs.Laws.{bytes_at-inside}
 use Rattle.evm_ram.specs.Ram.{is_inside, bytes_at, read_at}
 use Rattle.evm_ram.specs.declared.ram.TheConstants.{BASE}
+use Rattle.evm_model.specs.Devices.{Attached}
 use Rattle.evm_model.specs.Load.{bytes_from}
 use Rattle.evm_laws.specs.Running.{HasLine}
 
@@ -59,9 +60,9 @@ module _ (byte : ℕ → ℕ) (bytes : List ℕ) (n : ℕ) (same : (i : ℕ) →
   all_bytes = piece BASE (length bytes) (omega arith) (omega arith) ∙ ap Some (take_all (length bytes) bytes (omega arith))
 
   -- each line's word
-  pub line_stands : (l : ProgramLine) → IsWorded l → StandsIn bytes l → HasLine (record { ram = bytes_from byte BASE n }) l
+  pub line_stands : (devices : List Attached) (l : ProgramLine) → IsWorded l → StandsIn bytes l → HasLine (record { ram = bytes_from byte BASE n; devices = devices }) l
   unfolding read_at
-  line_stands l w h =
+  line_stands devices l w h =
       ap (option_map little_endian) (piece l.address 4 h.above h.within ∙ ap Some h.bytes_are)
       ∙ ap Some (whole l.word w.fits)
     where

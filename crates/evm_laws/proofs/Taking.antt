@@ -15,6 +15,7 @@ use Rattle.evm_model.specs.declared.refusal.Refusal.{Refusal}
 use Rattle.evm_model.specs.declared.refusal.Refusal.TheVariants.{BadAddress}
 use Rattle.evm_core.specs.evm_board.Room.{passes_ram}
 use Rattle.evm_core.specs.Load.{load}
+use Rattle.evm_model.specs.Devices.{Attached}
 use Rattle.evm_model.specs.Harts.{first_hart}
 use Rattle.evm_model.specs.Load.{load_board, bytes_from}
 use Rattle.evm_model.specs.Pipes.{idle_pipe}
@@ -36,8 +37,8 @@ segment : List ℕ → Loaded
 segment bytes = record { address = range_start; bytes = bytes; memsz = length bytes }
 
 -- the machine after the program's bytes were loaded
-unfoldable pub after : Boot → List ℕ → State
-after boot bytes = record (start boot) { board = load_board (byte_at (image_of_bytes bytes)) range_start (booted boot) }
+unfoldable pub after : List Attached → Boot → List ℕ → State
+after devices boot bytes = record (start devices boot) { board = load_board (byte_at (image_of_bytes bytes)) range_start (booted devices boot) }
 
 zeros : (n : ℕ) → length {A = ℕ} (replicate n 0) ≡ n
 zeros n = length-replicate {A = ℕ} n 0
@@ -53,32 +54,32 @@ passes size bytes h =
     let past : nat_lt (BASE + size) (range_start + length bytes) ≡ true = lt-ltb (BASE + size) (range_start + length bytes) (omega arith) in
     rw (some, past) refl
 
-pub takes : (boot : Boot) (bytes : List ℕ) → length bytes ≤ boot.ram → load (image_of_bytes bytes) (start boot) ≡ Ok (after boot bytes)
+pub takes : (devices : List Attached) (boot : Boot) (bytes : List ℕ) → length bytes ≤ boot.ram → load (image_of_bytes bytes) (start devices boot) ≡ Ok (after devices boot bytes)
 unfolding load booted after segment
-takes boot bytes h =
+takes devices boot bytes h =
     let same = zeros boot.ram in
     let no : passes_ram (length {A = ℕ} (replicate boot.ram 0)) (segment bytes) ≡ false = fits (length {A = ℕ} (replicate boot.ram 0)) bytes (omega arith) in
     rw no refl
 
-pub refuses : (boot : Boot) (bytes : List ℕ) → boot.ram < length bytes → load (image_of_bytes bytes) (start boot) ≡ Err BadAddress
+pub refuses : (devices : List Attached) (boot : Boot) (bytes : List ℕ) → boot.ram < length bytes → load (image_of_bytes bytes) (start devices boot) ≡ Err BadAddress
 unfolding load booted segment
-refuses boot bytes h =
+refuses devices boot bytes h =
     let same = zeros boot.ram in
     let yes : passes_ram (length {A = ℕ} (replicate boot.ram 0)) (segment bytes) ≡ true = passes (length {A = ℕ} (replicate boot.ram 0)) bytes (omega arith) in
     rw yes refl
 
-memory_after : (boot : Boot) (bytes : List ℕ) → (after boot bytes).board.memory ≡ record { ram = bytes_from (byte_at (image_of_bytes bytes)) BASE boot.ram }
+memory_after : (devices : List Attached) (boot : Boot) (bytes : List ℕ) → (after devices boot bytes).board.memory ≡ record { ram = bytes_from (byte_at (image_of_bytes bytes)) BASE boot.ram; devices = devices }
 unfolding after load_board booted
-memory_after boot bytes = ap (λ (n : ℕ). record { ram = bytes_from (byte_at (image_of_bytes bytes)) BASE n }) (zeros boot.ram)
+memory_after devices boot bytes = ap (λ (n : ℕ). record { ram = bytes_from (byte_at (image_of_bytes bytes)) BASE n; devices = devices }) (zeros boot.ram)
 
 same_state : (s t : State) → ◌≡◌ {A = Result State Refusal} (Ok s) (Ok t) → s ≡ t
 same_state s t e = cc
 
 -- where it was loaded, RAM had room
-taken : (boot : Boot) (bytes : List ℕ) (s : State) → load (image_of_bytes bytes) (start boot) ≡ Ok s → (length bytes ≤ boot.ram) × (after boot bytes ≡ s)
-taken boot bytes s e = elim (cases_lt boot.ram (length bytes)) [
-  | inl short ↦ let no = refuses boot bytes short in cc
-  | inr room ↦ (room, same_state _ s (sym (takes boot bytes room) ∙ e))
+taken : (devices : List Attached) (boot : Boot) (bytes : List ℕ) (s : State) → load (image_of_bytes bytes) (start devices boot) ≡ Ok s → (length bytes ≤ boot.ram) × (after devices boot bytes ≡ s)
+taken devices boot bytes s e = elim (cases_lt boot.ram (length bytes)) [
+  | inl short ↦ let no = refuses devices boot bytes short in cc
+  | inr room ↦ (room, same_state _ s (sym (takes devices boot bytes room) ∙ e))
 ]
 
 -- ---- the numbers of a boot that isn't bad
@@ -106,15 +107,15 @@ first_of_many zero x h = absurd (omega arith)
 first_of_many (suc n) x h = refl
 
 -- ---- after boot and loading
-is_at : (boot : Boot) (bytes : List ℕ) (l : ProgramLine) → l.address ≡ range_start → HasLine (after boot bytes).board.memory l
-    → IsAt l 0 (first_hart boot.ram) (after boot bytes).board
+is_at : (devices : List Attached) (boot : Boot) (bytes : List ℕ) (l : ProgramLine) → l.address ≡ range_start → HasLine (after devices boot bytes).board.memory l
+    → IsAt l 0 (first_hart boot.ram) (after devices boot bytes).board
 unfolding after load_board booted booted_parts
-is_at boot bytes l first has = record { there = refl; pc = sym first; word = has }
+is_at devices boot bytes l first has = record { there = refl; pc = sym first; word = has }
 
-proceeds : (boot : Boot) (bytes : List ℕ) (address : ℕ) → bad_boot boot ≡ false
-    → Proceeds address 0 0 (first_processor (Some 0)) idle_pipe (after boot bytes).board
+proceeds : (devices : List Attached) (boot : Boot) (bytes : List ℕ) (address : ℕ) → bad_boot boot ≡ false
+    → Proceeds address 0 0 (first_processor (Some 0)) idle_pipe (after devices boot bytes).board
 unfolding after load_board booted booted_parts
-proceeds boot bytes address good = record {
+proceeds devices boot bytes address good = record {
   there = first_set boot.cpus (first_processor None) (first_processor (Some 0)) (has_cpu boot good);
   its_pipe = first_of_many boot.cpus idle_pipe (has_cpu boot good);
   goes = refl;
@@ -124,60 +125,60 @@ proceeds boot bytes address good = record {
 }
 
 -- no breakpoint was to be passed
-not_skipped : (boot : Boot) (bytes : List ℕ) → bad_boot boot ≡ false → skip_off 0 (after boot bytes).board ≡ (after boot bytes).board
-not_skipped boot bytes good =
-    let b = (after boot bytes).board in
-    let first = (proceeds boot bytes 0 good).there in
+not_skipped : (devices : List Attached) (boot : Boot) (bytes : List ℕ) → bad_boot boot ≡ false → skip_off 0 (after devices boot bytes).board ≡ (after devices boot bytes).board
+not_skipped devices boot bytes good =
+    let b = (after devices boot bytes).board in
+    let first = (proceeds devices boot bytes 0 good).there in
     ap (λ (processors : List Processor). on_parts (λ (k : Parts). record k { processors = processors }) b)
     (change-same (λ (p : Processor). record p { skip = false }) b.parts.processors 0
     (λ p e. let is : p ≡ first_processor (Some 0) = same_Some p (first_processor (Some 0)) (sym e ∙ first) in rw is refl))
 
-first_stepped : (boot : Boot) (bytes : List ℕ) (l : ProgramLine) → AcceptsStep l → bad_boot boot ≡ false → HasLine (after boot bytes).board.memory l → l.address ≡ range_start
-    → apply (after boot bytes) (Step 0) ≡ Ok (accept (Step 0) (line_stepped l (first_hart boot.ram) 0 0 (after boot bytes).board, Ran 0) (after boot bytes))
+first_stepped : (devices : List Attached) (boot : Boot) (bytes : List ℕ) (l : ProgramLine) → AcceptsStep l → bad_boot boot ≡ false → HasLine (after devices boot bytes).board.memory l → l.address ≡ range_start
+    → apply (after devices boot bytes) (Step 0) ≡ Ok (accept (Step 0) (line_stepped l (first_hart boot.ram) 0 0 (after devices boot bytes).board, Ran 0) (after devices boot bytes))
 unfolding after
-first_stepped boot bytes l accepts good has first =
-    accepts 0 0 (first_processor (Some 0)) idle_pipe (first_hart boot.ram) (after boot bytes)
-    (has_room boot good) (proceeds boot bytes l.address good) (is_at boot bytes l first has)
+first_stepped devices boot bytes l accepts good has first =
+    accepts 0 0 (first_processor (Some 0)) idle_pipe (first_hart boot.ram) (after devices boot bytes)
+    (has_room boot good) (proceeds devices boot bytes l.address good) (is_at devices boot bytes l first has)
 
-first_line : (boot : Boot) (bytes : List ℕ) (l : ProgramLine) → AcceptsStep l → bad_boot boot ≡ false → HasLine (after boot bytes).board.memory l
-    → BeginsWithLine boot (after boot bytes) l
-first_line boot bytes l accepts good has first =
-    first_stepped boot bytes l accepts good has first
-    ∙ ap (λ (b : Board). Ok (accept (Step 0) (on_parts (settle_and_nudge (Some 0) 0) (line_done l (first_hart boot.ram) 0 0 b), Ran 0) (after boot bytes)))
-    (not_skipped boot bytes good)
+first_line : (devices : List Attached) (boot : Boot) (bytes : List ℕ) (l : ProgramLine) → AcceptsStep l → bad_boot boot ≡ false → HasLine (after devices boot bytes).board.memory l
+    → BeginsWithLine boot (after devices boot bytes) l
+first_line devices boot bytes l accepts good has first =
+    first_stepped devices boot bytes l accepts good has first
+    ∙ ap (λ (b : Board). Ok (accept (Step 0) (on_parts (settle_and_nudge (Some 0) 0) (line_done l (first_hart boot.ram) 0 0 b), Ran 0) (after devices boot bytes)))
+    (not_skipped devices boot bytes good)
 
 module _ (fill : (bytes : List ℕ) (i : ℕ) → byte_at (image_of_bytes bytes) (range_start + i) ≡ slice_index bytes i) where
-  line_after : (boot : Boot) (bytes : List ℕ) (l : ProgramLine) → length bytes ≤ boot.ram → IsWorded l → StandsIn bytes l
-      → HasLine (after boot bytes).board.memory l
-  line_after boot bytes l room w h =
-      subst (λ (m : Memory). HasLine m l) (sym (memory_after boot bytes))
-      (line_stands (byte_at (image_of_bytes bytes)) bytes boot.ram (fill bytes) room l w h)
+  line_after : (devices : List Attached) (boot : Boot) (bytes : List ℕ) (l : ProgramLine) → length bytes ≤ boot.ram → IsWorded l → StandsIn bytes l
+      → HasLine (after devices boot bytes).board.memory l
+  line_after devices boot bytes l room w h =
+      subst (λ (m : Memory). HasLine m l) (sym (memory_after devices boot bytes))
+      (line_stands (byte_at (image_of_bytes bytes)) bytes boot.ram (fill bytes) room devices l w h)
 
-  bytes_after : (boot : Boot) (bytes : List ℕ) → length bytes ≤ boot.ram → bytes_at (after boot bytes).board.memory.ram range_start (length bytes) ≡ Some bytes
-  bytes_after boot bytes room =
-      subst (λ (m : Memory). bytes_at m.ram range_start (length bytes) ≡ Some bytes) (sym (memory_after boot bytes))
+  bytes_after : (devices : List Attached) (boot : Boot) (bytes : List ℕ) → length bytes ≤ boot.ram → bytes_at (after devices boot bytes).board.memory.ram range_start (length bytes) ≡ Some bytes
+  bytes_after devices boot bytes room =
+      subst (λ (m : Memory). bytes_at m.ram range_start (length bytes) ≡ Some bytes) (sym (memory_after devices boot bytes))
       (all_bytes (byte_at (image_of_bytes bytes)) bytes boot.ram (fill bytes) room)
 
-  pub holds : (boot : Boot) (p : Assembled) → length p.bytes ≤ boot.ram → All IsWorded p.lines → All (StandsIn p.bytes) p.lines
-      → HoldsProgram p (after boot p.bytes).board
+  pub holds : (devices : List Attached) (boot : Boot) (p : Assembled) → length p.bytes ≤ boot.ram → All IsWorded p.lines → All (StandsIn p.bytes) p.lines
+      → HoldsProgram p (after devices boot p.bytes).board
   unfolding after load_board booted booted_parts
-  holds boot p room words stand = record {
-    bytes = bytes_after boot p.bytes room;
-    lines = λ k d less. line_after boot p.bytes _ room (words k d less) (stand k d less);
+  holds devices boot p room words stand = record {
+    bytes = bytes_after devices boot p.bytes room;
+    lines = λ k d less. line_after devices boot p.bytes _ room (words k d less) (stand k d less);
     begins = refl;
   }
 
-  pub all_begin : (boot : Boot) (p : Assembled) (s : State) → bad_boot boot ≡ false → booted_with boot p ≡ Ok s
+  pub all_begin : (devices : List Attached) (boot : Boot) (p : Assembled) (s : State) → bad_boot boot ≡ false → booted_with devices boot p ≡ Ok s
       → All IsWorded p.lines → All (StandsIn p.bytes) p.lines → All AcceptsStep p.lines → All (BeginsWithLine boot s) p.lines
-  all_begin boot p s good e words stand accept =
-      let is = taken boot p.bytes s e in
-      let all = holds boot p is.0 words stand in
+  all_begin devices boot p s good e words stand accept =
+      let is = taken devices boot p.bytes s e in
+      let all = holds devices boot p is.0 words stand in
       subst (λ (t : State). All (BeginsWithLine boot t) p.lines) is.1
-      (λ k d less. first_line boot p.bytes _ (accept k d less) good (all.lines k d less))
+      (λ k d less. first_line devices boot p.bytes _ (accept k d less) good (all.lines k d less))
 
   -- so each line's word stands where the program was loaded
-  pub all_hold : (boot : Boot) (p : Assembled) (s : State) → booted_with boot p ≡ Ok s → All IsWorded p.lines → All (StandsIn p.bytes) p.lines
+  pub all_hold : (devices : List Attached) (boot : Boot) (p : Assembled) (s : State) → booted_with devices boot p ≡ Ok s → All IsWorded p.lines → All (StandsIn p.bytes) p.lines
       → All (HasLine s.board.memory) p.lines
-  all_hold boot p s e words stand =
-      let is = taken boot p.bytes s e in
-      subst (λ (t : State). All (HasLine t.board.memory) p.lines) is.1 (holds boot p is.0 words stand).lines
+  all_hold devices boot p s e words stand =
+      let is = taken devices boot p.bytes s e in
+      subst (λ (t : State). All (HasLine t.board.memory) p.lines) is.1 (holds devices boot p is.0 words stand).lines

@@ -8,6 +8,7 @@ use Rattle.evm_ram.specs.Ram.{bytes_at}
 use Rattle.evm_model.specs.declared.refusal.Refusal.{Refusal}
 use Rattle.evm_model.specs.declared.refusal.Refusal.TheVariants.{BadAddress}
 use Rattle.evm_core.specs.Load.{load}
+use Rattle.evm_model.specs.Devices.{Attached}
 use Rattle.evm_model.specs.Harts.{first_hart}
 use Rattle.evm_model.specs.Replay.{bad_boot, start, accept, apply}
 use Rattle.evm_model.specs.Settle.{settle_and_nudge}
@@ -23,21 +24,21 @@ pub record HoldsProgram (p : Assembled) (b : Board) : Type 0 where
   pub lines : All (HasLine b.memory) p.lines
   pub begins : option_map (λ hart. hart.pc) (slice_get b.parts.harts 0) ≡ Some range_start
 
--- a machine is booted, and the program's image loaded into it
-abbrev pub booted_with : Boot → Assembled → Result State Refusal
-booted_with boot p = load (image_of_bytes p.bytes) (start boot)
+-- a machine is booted with devices, and the program's image loaded into it
+abbrev pub booted_with : List Attached → Boot → Assembled → Result State Refusal
+booted_with devices boot p = load (image_of_bytes p.bytes) (start devices boot)
 
 -- RAM that is long enough takes the program
 abbrev pub LoadsWhereItFits : Type 0
 LoadsWhereItFits =
-    (source : List ℕ) (p : Assembled) (boot : Boot) → program_of source ≡ Ok p → length p.bytes ≤ boot.ram
-    → (s : State) × (booted_with boot p ≡ Ok s) × HoldsProgram p s.board
+    (source : List ℕ) (p : Assembled) (devices : List Attached) (boot : Boot) → program_of source ≡ Ok p → length p.bytes ≤ boot.ram
+    → (s : State) × (booted_with devices boot p ≡ Ok s) × HoldsProgram p s.board
 
 -- RAM that is shorter doesn't
 abbrev pub RefusedWhereItDoesNot : Type 0
 RefusedWhereItDoesNot =
-    (source : List ℕ) (p : Assembled) (boot : Boot) → program_of source ≡ Ok p → boot.ram < length p.bytes
-    → booted_with boot p ≡ Err BadAddress
+    (source : List ℕ) (p : Assembled) (devices : List Attached) (boot : Boot) → program_of source ≡ Ok p → boot.ram < length p.bytes
+    → booted_with devices boot p ≡ Err BadAddress
 
 -- the first Step of processor 0 does the line that stands at the start of RAM, with the registers of boot
 abbrev pub BeginsWithLine : Boot → State → ProgramLine → Type 0
@@ -47,5 +48,5 @@ BeginsWithLine boot s l =
 
 abbrev pub AssembledAndRun : Type 0
 AssembledAndRun =
-    (source : List ℕ) (p : Assembled) (boot : Boot) (s : State) → program_of source ≡ Ok p → bad_boot boot ≡ false
-    → booted_with boot p ≡ Ok s → All (BeginsWithLine boot s) p.lines
+    (source : List ℕ) (p : Assembled) (devices : List Attached) (boot : Boot) (s : State) → program_of source ≡ Ok p → bad_boot boot ≡ false
+    → booted_with devices boot p ≡ Ok s → All (BeginsWithLine boot s) p.lines

@@ -9,6 +9,7 @@ use Rattle.evm_exec.specs.declared.hart.Hart.{Hart}
 use Rattle.evm_exec.specs.declared.outcome.Effect.{Effect}
 use Rattle.evm_exec.specs.declared.outcome.Effect.TheVariants.{Store}
 use Rattle.evm_ram.specs.Width.{bytes_of}
+use Rattle.evm_model.specs.Devices.{Attached}
 use Rattle.evm_model.specs.Memory.{fetch}
 use Rattle.evm_model.specs.Pipes.{Pipe}
 use Rattle.evm_model.specs.Replay.{accept, apply, left_by, replay}
@@ -63,5 +64,6 @@ DoesLine s l =
 -- a program that was assembled, loaded and run does each of its lines whenever a task comes to it, as long as nothing was written over the line
 abbrev pub RunsAsAssembled : Type 0
 RunsAsAssembled =
-    (source : List ℕ) (p : Assembled) (boot : Boot) (s : State) (events : List Event) → program_of source ≡ Ok p → booted_with boot p ≡ Ok s
+    (source : List ℕ) (p : Assembled) (devices : List Attached) (boot : Boot) (s : State) (events : List Event) → program_of source ≡ Ok p
+    → booted_with devices boot p ≡ Ok s
     → All (λ l. AllSpare l s events → DoesLine (replay s events) l) p.lines

@@ -20,15 +20,15 @@ use Rattle.evm_model.specs.declared.refusal.Refusal.TheVariants.{Full, BadSize}
 use Rattle.evm_serve.specs.evm_core.Load.{load, load_unless, load_refusal}
 use Rattle.evm_serve.specs.evm_core.Steps.{behind_step, steps}
 use Rattle.evm_serve.proofs.evm_rules.Replays.{accepted, accepted-journal, IsReplayOf-step, empty_as_replay}
-use Rattle.evm_serve.specs.Given.{an_image}
+use Rattle.evm_serve.specs.Given.{Attached, an_image}
 use Rattle.evm_serve.specs.Starting.{started, with_image}
 
 -- its numbers are good, it began with the image, and what it had since is in its journal
-pub record IsDriven (image : Contents) (s : State) : Type 0 where
+pub record IsDriven (devices : List Attached) (image : Contents) (s : State) : Type 0 where
   pub first : State
   pub fits : bad_boot s.boot ≡ false
   pub numbers : HasBootLine s.boot
-  pub loads : load image (start s.boot) ≡ Ok first
+  pub loads : load image (start devices s.boot) ≡ Ok first
   pub replays : IsReplayOf first s
   pub each : AllByRecursion (λ event. HasEventLine (line_of event)) s.journal
   pub few : length s.journal ≤ s.boot.capacity
@@ -42,8 +42,8 @@ not-full : (s : State) (event : Event) (full : Bool) → is_full s ≡ full → 
 not-full s event true f e = cc
 not-full s event false f e = leb-false s.boot.capacity (length s.journal) f
 
-pub driven-event : (image : Contents) (s new : State) (event : Event) (answer : Answer) → apply s event ≡ Ok (new, answer) → HasEventLine (line_of event) → IsDriven image s → IsDriven image new
-driven-event image s new event answer e line d =
+pub driven-event : (devices : List Attached) (image : Contents) (s new : State) (event : Event) (answer : Answer) → apply s event ≡ Ok (new, answer) → HasEventLine (line_of event) → IsDriven devices image s → IsDriven devices image new
+driven-event devices image s new event answer e line d =
     let it = accepted s new event answer e in
     let grown : new.journal ≡ s.journal ++ event ∷ [] = accepted-journal s new event answer e in
     let same : new.boot ≡ s.boot = ap (λ (x : State × Answer). x.0.boot) it.1 in
@@ -53,22 +53,22 @@ driven-event image s new event answer e line d =
       first = d.first;
       fits = ap bad_boot same ∙ d.fits;
       numbers = rw same d.numbers;
-      loads = ap (λ (boot : Boot). load image (start boot)) same ∙ d.loads;
+      loads = ap (λ (boot : Boot). load image (start devices boot)) same ∙ d.loads;
       replays = IsReplayOf-step d.first s new event answer e grown d.replays;
       each = rw grown (all-push (λ event. HasEventLine (line_of event)) s.journal event d.each line);
       few = rw same (omega (arith, size, room));
     }
 
 -- so many Steps more
-steps-more : (image : Contents) (c count : ℕ) (s new : State) (r : Result (State × Answer) Refusal) → apply s (Step c) ≡ r → c < 256 → IsDriven image s
-    → ((s : State) → steps c count s ≡ (new, None) → IsDriven image s → IsDriven image new) → behind_step r s (steps c count) ≡ (new, None) → IsDriven image new
-steps-more image c count s new (Ok after) e cpu d more h = more after.0 h (driven-event image s after.0 (Step c) after.1 e (cpu, (omega arith, omega arith, omega arith)) d)
-steps-more image c count s new (Err refusal) e cpu d more h = let none : ◌≡◌ {A = Option Refusal} (Some refusal) None = ap (λ (x : State × Option Refusal). x.1) h in cc
+steps-more : (devices : List Attached) (image : Contents) (c count : ℕ) (s new : State) (r : Result (State × Answer) Refusal) → apply s (Step c) ≡ r → c < 256 → IsDriven devices image s
+    → ((s : State) → steps c count s ≡ (new, None) → IsDriven devices image s → IsDriven devices image new) → behind_step r s (steps c count) ≡ (new, None) → IsDriven devices image new
+steps-more devices image c count s new (Ok after) e cpu d more h = more after.0 h (driven-event devices image s after.0 (Step c) after.1 e (cpu, (omega arith, omega arith, omega arith)) d)
+steps-more devices image c count s new (Err refusal) e cpu d more h = let none : ◌≡◌ {A = Option Refusal} (Some refusal) None = ap (λ (x : State × Option Refusal). x.1) h in cc
 
-pub driven-steps : (image : Contents) (c count : ℕ) (s new : State) → steps c count s ≡ (new, None) → c < 256 → IsDriven image s → IsDriven image new
+pub driven-steps : (devices : List Attached) (image : Contents) (c count : ℕ) (s new : State) → steps c count s ≡ (new, None) → c < 256 → IsDriven devices image s → IsDriven devices image new
 unfolding steps
-driven-steps image c zero s new e cpu d = let it : s ≡ new = ap (λ (x : State × Option Refusal). x.0) e in rw (← it) d
-driven-steps image c (suc count) s new e cpu d = steps-more image c count s new (apply s (Step c)) refl cpu d (λ x h g. driven-steps image c count x new h cpu g) e
+driven-steps devices image c zero s new e cpu d = let it : s ≡ new = ap (λ (x : State × Option Refusal). x.0) e in rw (← it) d
+driven-steps devices image c (suc count) s new e cpu d = steps-more devices image c count s new (apply s (Step c)) refl cpu d (λ x h g. driven-steps devices image c count x new h cpu g) e
 
 -- ---- a boot
 unless-journal : (o : Option Refusal) (image : Contents) (s first : State) → load_unless o image s ≡ Ok first → (first.journal ≡ s.journal) × (first.boot ≡ s.boot)
@@ -79,24 +79,24 @@ pub loaded : (image : Contents) (s first : State) → load image s ≡ Ok first 
 unfolding load
 loaded image s first e = unless-journal (load_refusal image s) image s first e
 
-boot-if : (image : Contents) (boot : Boot) (s : State) (bad : Bool) → bad_boot boot ≡ bad → HasBootLine boot → (if bad then Err BadSize else with_image (Some image) (start boot)) ≡ Ok s → IsDriven image s
-boot-if image boot s true b line e = cc
-boot-if image boot s false b line e =
-    let it = loaded image (start boot) s e in
+boot-if : (devices : List Attached) (image : Contents) (boot : Boot) (s : State) (bad : Bool) → bad_boot boot ≡ bad → HasBootLine boot → (if bad then Err BadSize else with_image (Some image) (start devices boot)) ≡ Ok s → IsDriven devices image s
+boot-if devices image boot s true b line e = cc
+boot-if devices image boot s false b line e =
+    let it = loaded image (start devices boot) s e in
     let empty : s.journal ≡ [] = it.0 in
     let same : s.boot ≡ boot = it.1 in
     record {
       first = s;
       fits = ap bad_boot same ∙ b;
       numbers = rw same line;
-      loads = ap (λ (x : Boot). load image (start x)) same ∙ e;
+      loads = ap (λ (x : Boot). load image (start devices x)) same ∙ e;
       replays = empty_as_replay s empty;
       each = rw empty tt;
       few = rw empty (omega arith);
     }
 
-pub driven-boot : (image : Contents) (boot : Boot) (s : State) → HasBootLine boot → started (an_image image) boot ≡ Ok s → IsDriven image s
-driven-boot image boot s line e = boot-if image boot s (bad_boot boot) refl line e
+pub driven-boot : (devices : List Attached) (image : Contents) (boot : Boot) (s : State) → HasBootLine boot → started (an_image devices image) boot ≡ Ok s → IsDriven devices image s
+driven-boot devices image boot s line e = boot-if devices image boot s (bad_boot boot) refl line e
 
 -- ---- what its journal may hold
 if_false : (a b : Bool) → (if a then true else b) ≡ false → (a ≡ false) × (b ≡ false)
@@ -112,5 +112,5 @@ capacity-within boot e =
     let last = if_false (bad_ram boot.ram) (bad_capacity boot.capacity) rest.1 in
     within boot.capacity CAPACITY_LIMIT (if_false (boot.capacity == 0) (nat_lt CAPACITY_LIMIT boot.capacity) last.1).1
 
-pub driven-journal : (image : Contents) (s : State) → IsDriven image s → HasJournal s.boot s.journal
-driven-journal image s d = let limit = capacity-within s.boot d.fits in let room = d.few in record { numbers = d.numbers; each = d.each; most = omega (arith, limit, room) }
+pub driven-journal : (devices : List Attached) (image : Contents) (s : State) → IsDriven devices image s → HasJournal s.boot s.journal
+driven-journal devices image s d = let limit = capacity-within s.boot d.fits in let room = d.few in record { numbers = d.numbers; each = d.each; most = omega (arith, limit, room) }

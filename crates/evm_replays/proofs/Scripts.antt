@@ -22,7 +22,7 @@ use Rattle.evm_serve.specs.evm_debug.declared.line.View.{View}
 use Rattle.evm_serve.proofs.evm_debug.Lines.{reads_lines}
 use Rattle.evm_serve.specs.evm_text.Lines.{text_lines}
 use Rattle.evm_serve.specs.evm_core.Steps.{steps}
-use Rattle.evm_serve.specs.Given.{an_image}
+use Rattle.evm_serve.specs.Given.{Attached, an_image}
 use Rattle.evm_serve.specs.Starting.{started}
 use Rattle.evm_serve.specs.Told.{Telling, Goes, Ends, event_told, after_steps, boot_told, view_told, told_at, line_told}
 use Rattle.evm_serve.proofs.Replays.{replays_saved}
@@ -30,31 +30,31 @@ use Rattle.evm_replays.specs.Scripts.{goes_on, machine_after, ShowsItsMachine}
 use Rattle.evm_replays.proofs.Events.{IsDriven, driven-event, driven-steps, driven-boot, driven-journal}
 
 -- the machine, if there is one, is driven
-abbrev AreDriven : Contents → Option State → Type 0
-AreDriven image None = Unit {0}
-AreDriven image (Some s) = IsDriven image s
+abbrev AreDriven : List Attached → Contents → Option State → Type 0
+AreDriven devices image None = Unit {0}
+AreDriven devices image (Some s) = IsDriven devices image s
 
 -- .. and so is the one that a line goes on with
-abbrev LeadsOn : Contents → Telling → Type 0
-LeadsOn image (Goes text machine) = AreDriven image machine
-LeadsOn image (Ends fault) = Unit {0}
+abbrev LeadsOn : List Attached → Contents → Telling → Type 0
+LeadsOn devices image (Goes text machine) = AreDriven devices image machine
+LeadsOn devices image (Ends fault) = Unit {0}
 
-event-leads : (image : Contents) (n : ℕ) (s : State) (event : Event) (r : Result (State × Answer) Refusal) → apply s event ≡ r → HasEventLine (line_of event) → IsDriven image s → LeadsOn image (event_told n event r)
-event-leads image n s event (Ok after) e line d = driven-event image s after.0 event after.1 e line d
-event-leads image n s event (Err refusal) e line d = tt
+event-leads : (devices : List Attached) (image : Contents) (n : ℕ) (s : State) (event : Event) (r : Result (State × Answer) Refusal) → apply s event ≡ r → HasEventLine (line_of event) → IsDriven devices image s → LeadsOn devices image (event_told n event r)
+event-leads devices image n s event (Ok after) e line d = driven-event devices image s after.0 event after.1 e line d
+event-leads devices image n s event (Err refusal) e line d = tt
 
-steps-lead : (image : Contents) (n c count : ℕ) (s new : State) (o : Option Refusal) → steps c count s ≡ (new, o) → c < 256 → IsDriven image s → LeadsOn image (after_steps n c new o)
-steps-lead image n c count s new None e cpu d = driven-steps image c count s new e cpu d
-steps-lead image n c count s new (Some refusal) e cpu d = tt
+steps-lead : (devices : List Attached) (image : Contents) (n c count : ℕ) (s new : State) (o : Option Refusal) → steps c count s ≡ (new, o) → c < 256 → IsDriven devices image s → LeadsOn devices image (after_steps n c new o)
+steps-lead devices image n c count s new None e cpu d = driven-steps devices image c count s new e cpu d
+steps-lead devices image n c count s new (Some refusal) e cpu d = tt
 
-boot-leads : (image : Contents) (n : ℕ) (boot : Boot) (r : Result State Refusal) → started (an_image image) boot ≡ r
-    → HasBootLine boot → LeadsOn image (boot_told n r)
-boot-leads image n boot (Ok s) e line = driven-boot image boot s line e
-boot-leads image n boot (Err refusal) e line = tt
+boot-leads : (devices : List Attached) (image : Contents) (n : ℕ) (boot : Boot) (r : Result State Refusal) → started (an_image devices image) boot ≡ r
+    → HasBootLine boot → LeadsOn devices image (boot_told n r)
+boot-leads devices image n boot (Ok s) e line = driven-boot devices image boot s line e
+boot-leads devices image n boot (Err refusal) e line = tt
 
-view-leads : (image : Contents) (n : ℕ) (view : View) (s : State) (r : Result (List ℕ) Refusal) → IsDriven image s → LeadsOn image (view_told n view s r)
-view-leads image n view s (Ok text) d = d
-view-leads image n view s (Err refusal) d = tt
+view-leads : (devices : List Attached) (image : Contents) (n : ℕ) (view : View) (s : State) (r : Result (List ℕ) Refusal) → IsDriven devices image s → LeadsOn devices image (view_told n view s r)
+view-leads devices image n view s (Ok text) d = d
+view-leads devices image n view s (Err refusal) d = tt
 
 -- an event line that isn't a run's has a line of its own
 one-line : (event : Event) → HasEventLine (events.One event) → HasEventLine (line_of event)
@@ -71,36 +71,36 @@ one-line (Poke a b) h = h
 one-line (Break a) h = h
 one-line (Unbreak a) h = h
 
-spelled-leads : (image : Contents) (n : ℕ) (machine : Option State) (line : Line) (bytes : List ℕ) → IsSpelled line bytes → AreDriven image machine → LeadsOn image (told_at (an_image image) n machine line)
-spelled-leads image n None lines.Blank bytes h d = tt
-spelled-leads image n None (lines.Boot boot) bytes h d = boot-leads image n boot (started (an_image image) boot) refl h.1
-spelled-leads image n None (lines.Steps c count) bytes h d = tt
-spelled-leads image n None (lines.One event) bytes h d = tt
-spelled-leads image n None (lines.Look view) bytes h d = tt
-spelled-leads image n (Some s) lines.Blank bytes h d = d
-spelled-leads image n (Some s) (lines.Boot boot) bytes h d = tt
-spelled-leads image n (Some s) (lines.Steps c count) bytes h d = steps-lead image n c count s (steps c count s).0 (steps c count s).1 refl h.1.0 d
-spelled-leads image n (Some s) (lines.One event) bytes h d = event-leads image n s event (apply s event) refl (one-line event h.1) d
-spelled-leads image n (Some s) (lines.Look view) bytes h d = view-leads image n view s (shown view s) d
+spelled-leads : (devices : List Attached) (image : Contents) (n : ℕ) (machine : Option State) (line : Line) (bytes : List ℕ) → IsSpelled line bytes → AreDriven devices image machine → LeadsOn devices image (told_at (an_image devices image) n machine line)
+spelled-leads devices image n None lines.Blank bytes h d = tt
+spelled-leads devices image n None (lines.Boot boot) bytes h d = boot-leads devices image n boot (started (an_image devices image) boot) refl h.1
+spelled-leads devices image n None (lines.Steps c count) bytes h d = tt
+spelled-leads devices image n None (lines.One event) bytes h d = tt
+spelled-leads devices image n None (lines.Look view) bytes h d = tt
+spelled-leads devices image n (Some s) lines.Blank bytes h d = d
+spelled-leads devices image n (Some s) (lines.Boot boot) bytes h d = tt
+spelled-leads devices image n (Some s) (lines.Steps c count) bytes h d = steps-lead devices image n c count s (steps c count s).0 (steps c count s).1 refl h.1.0 d
+spelled-leads devices image n (Some s) (lines.One event) bytes h d = event-leads devices image n s event (apply s event) refl (one-line event h.1) d
+spelled-leads devices image n (Some s) (lines.Look view) bytes h d = view-leads devices image n view s (shown view s) d
 
-line-leads : (image : Contents) (n : ℕ) (machine : Option State) (bytes : List ℕ) (o : Option Line) → line_at bytes ≡ o → AreDriven image machine → LeadsOn image (line_told (an_image image) n machine o)
-line-leads image n machine bytes None e d = tt
-line-leads image n machine bytes (Some line) e d = spelled-leads image n machine line bytes ((reads_lines line bytes).0 e) d
+line-leads : (devices : List Attached) (image : Contents) (n : ℕ) (machine : Option State) (bytes : List ℕ) (o : Option Line) → line_at bytes ≡ o → AreDriven devices image machine → LeadsOn devices image (line_told (an_image devices image) n machine o)
+line-leads devices image n machine bytes None e d = tt
+line-leads devices image n machine bytes (Some line) e d = spelled-leads devices image n machine line bytes ((reads_lines line bytes).0 e) d
 
-telling-leads : (image : Contents) (t : Telling) (others : Option State → Option State) (s : State) → LeadsOn image t
-    → ((machine : Option State) → others machine ≡ Some s → AreDriven image machine → IsDriven image s) → goes_on t others ≡ Some s → IsDriven image s
-telling-leads image (Goes text machine) others s d more e = more machine e d
-telling-leads image (Ends fault) others s d more e = cc
+telling-leads : (devices : List Attached) (image : Contents) (t : Telling) (others : Option State → Option State) (s : State) → LeadsOn devices image t
+    → ((machine : Option State) → others machine ≡ Some s → AreDriven devices image machine → IsDriven devices image s) → goes_on t others ≡ Some s → IsDriven devices image s
+telling-leads devices image (Goes text machine) others s d more e = more machine e d
+telling-leads devices image (Ends fault) others s d more e = cc
 
 -- the machine with which a run comes to its end is driven
-after-driven : (image : Contents) (n : ℕ) (ls : List (List ℕ)) (machine : Option State) (s : State) → machine_after (an_image image) n ls machine ≡ Some s → AreDriven image machine → IsDriven image s
+after-driven : (devices : List Attached) (image : Contents) (n : ℕ) (ls : List (List ℕ)) (machine : Option State) (s : State) → machine_after (an_image devices image) n ls machine ≡ Some s → AreDriven devices image machine → IsDriven devices image s
 unfolding machine_after
-after-driven image n [] machine s e d = rw e at d
-after-driven image n (line ∷ ls) machine s e d =
-    telling-leads image (line_told (an_image image) n machine (line_at line)) (machine_after (an_image image) (n + 1) ls) s (line-leads image n machine line (line_at line) refl d)
-    (λ m h g. after-driven image (n + 1) ls m s h g) e
+after-driven devices image n [] machine s e d = rw e at d
+after-driven devices image n (line ∷ ls) machine s e d =
+    telling-leads devices image (line_told (an_image devices image) n machine (line_at line)) (machine_after (an_image devices image) (n + 1) ls) s (line-leads devices image n machine line (line_at line) refl d)
+    (λ m h g. after-driven devices image (n + 1) ls m s h g) e
 
 pub shows_its_machine : ShowsItsMachine
-shows_its_machine image script s e =
-    let d : IsDriven image s = after-driven image 1 (text_lines script) None s e tt in
-    replays_saved s d.fits (driven-journal image s d) image d.first d.loads d.replays
+shows_its_machine devices image script s e =
+    let d : IsDriven devices image s = after-driven devices image 1 (text_lines script) None s e tt in
+    replays_saved s d.fits (driven-journal devices image s d) devices image d.first d.loads d.replays

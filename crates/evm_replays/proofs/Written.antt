@@ -8,4 +8,4 @@ use Rattle.evm_serve.specs.Replaying.{replay_told}
 use Rattle.evm_replays.specs.Machines.{ShowsAgain}
 
 pub shows_again : (text : List ℕ) (s : State) → text ≡ journal_text s.boot s.journal → ReplaysSaved s → ShowsAgain text s
-shows_again text s written saved = λ image first loads replays. ap (replay_told (an_image image)) written ∙ saved image first loads replays
+shows_again text s written saved = λ devices image first loads replays. ap (replay_told (an_image devices image)) written ∙ saved devices image first loads replays

@@ -6,7 +6,7 @@ use Rattle.evm_serve.specs.evm_journal.Journal.{journal_text}
 use Rattle.evm_serve.specs.evm_debug.LineReading.{line_at}
 use Rattle.evm_serve.specs.evm_debug.Summary.{summary_text}
 use Rattle.evm_serve.specs.evm_text.Lines.{text_lines}
-use Rattle.evm_serve.specs.Given.{Given, an_image}
+use Rattle.evm_serve.specs.Given.{Attached, Given, an_image}
 use Rattle.evm_serve.specs.Told.{Telling, Goes, Ends, line_told, lines_told}
 use Rattle.evm_serve.specs.Replaying.{replay_told}
 use Rattle.evm_serve.specs.declared.ending.Verdict.TheVariants.{Done}
@@ -32,7 +32,7 @@ PrintsItsJournal = (given : Given) (script : List ℕ) (s : State) → machine_l
     → lines_told given 1 (text_lines script ++ codes "journal" ∷ []) None
     ≡ record { text = (lines_told given 1 (text_lines script) None).text ++ journal_text s.boot s.journal; verdict = Done }
 
--- its journal, replayed with the same image, shows it
+-- its journal, replayed with the same devices and image, shows it
 abbrev pub ShowsItsMachine : Type 0
-ShowsItsMachine = (image : Contents) (script : List ℕ) (s : State) → machine_left (an_image image) script ≡ Some s
-    → replay_told (an_image image) (journal_text s.boot s.journal) ≡ record { text = summary_text s; verdict = Done }
+ShowsItsMachine = (devices : List Attached) (image : Contents) (script : List ℕ) (s : State) → machine_left (an_image devices image) script ≡ Some s
+    → replay_told (an_image devices image) (journal_text s.boot s.journal) ≡ record { text = summary_text s; verdict = Done }

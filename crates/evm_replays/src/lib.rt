@@ -8,23 +8,25 @@ ghost use Rattle.evm_serve.specs.evm_journal.Journal.{journal_text};
 ghost use Rattle.evm_replays.specs.Machines.{ShowsAgain};
 ghost use Rattle.evm_replays.specs.Scripts.{PrintsItsJournal, ShowsItsMachine};
 
+use evm_dev::Device;
 use evm_room::NoMemory;
 use evm_serve::{Machine, replays_saved, write_journal};
 use std::alloc::Global;
 
 /// Of every script that comes to its end with an image in its machine: one more line `journal` prints the journal of
-/// the machine that it leaves, and that text, given to a replay with the same image, shows that machine, with status
-/// 0. Nothing else is asked of the script, of its numbers or of the image.
+/// the machine that it leaves, and that text, given to a replay with the same devices and the same image, shows that
+/// machine, with status 0. Nothing else is asked of the script, of its numbers, of the devices or of the image.
 pub fn a_printed_journal_shows_its_machine()
     ensures prints { PrintsItsJournal }
     ensures shows { ShowsItsMachine }
 {}
 
-/// The journal of a machine: of one that was booted, loaded with an image and driven, however it was, the text, given
-/// to a replay with the same image, shows that machine, with status 0. Nothing else is asked of the machine.
-pub fn a_written_journal_shows_its_machine(
+/// The journal of a machine: of one that was booted with devices, loaded with an image and driven, however it was, the
+/// text, given to a replay with the same devices and the same image, shows that machine, with status 0. Nothing else is
+/// asked of the machine.
+pub fn a_written_journal_shows_its_machine<D: Device>(
     alloc: Global,
-    machine: &Machine,
+    machine: &Machine<D>,
 ) -> Result<String, NoMemory>
     ensures again { IfOk result (λ text. ShowsAgain (string_bytes text) machine.now) }
     // It gives up only where a growth was refused that is no greater than the text.

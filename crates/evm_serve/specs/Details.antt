@@ -21,7 +21,7 @@ use Rattle.evm_model.specs.declared.event.Event.TheVariants as events
 use Rattle.evm_model.specs.declared.limits.TheConstants.{POKE_LIMIT}
 use Rattle.evm_ram.specs.declared.ram.TheConstants.{BASE}
 use Rattle.evm_model.specs.declared.refusal.Refusal.{Refusal}
-use Rattle.evm_model.specs.declared.refusal.Refusal.TheVariants.{BadAddress, BadSize}
+use Rattle.evm_model.specs.declared.refusal.Refusal.TheVariants.{BadAddress, BadSize, NoSlot}
 use Rattle.evm_serve.specs.Faults.{refusal_sentence}
 use Rattle.evm_serve.specs.LineDetails.{byte_detail, bad_line_detail, first_forms, grammar_detail}
 use Rattle.evm_serve.specs.Lookup.{odd_byte, line_numbered, line_read, boot_among, ram_of}
@@ -102,9 +102,16 @@ address_detail image ram (Some (lines.One event)) = event_detail (ram_end ram) e
 address_detail image ram (Some (lines.Look view)) = view_detail (ram_end ram) view
 address_detail image ram _ = refusal_sentence None BadAddress
 
+-- ---- devices
+
+abbrev pub slot_detail : Option Line → List ℕ
+slot_detail (Some (lines.Look (views.Words i))) = codes "refused: there is no device " ++ (decimal i ++ codes " (NoSlot, 8)")
+slot_detail _ = refusal_sentence None NoSlot
+
 abbrev pub refusal_detail : Option Contents → List ℕ → Option Line → Option ℕ → Refusal → List ℕ
 refusal_detail image text line cpu BadSize = size_detail line
 refusal_detail image text line cpu BadAddress = address_detail image (ram_of (boot_among (text_lines text))) line
+refusal_detail image text line cpu NoSlot = slot_detail line
 refusal_detail image text line cpu refusal = refusal_sentence cpu refusal
 
 -- ---- lines of a journal

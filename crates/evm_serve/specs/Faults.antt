@@ -76,6 +76,8 @@ view_cpu (views.Rank t) = None
 view_cpu (views.Counts c l) = Some c
 view_cpu views.Journal = None
 view_cpu views.Console = None
+view_cpu views.Notices = None
+view_cpu (views.Words i) = None
 
 -- an event on line n is refused, or a view
 abbrev pub event_refused : ℕ → Event → Refusal → Fault

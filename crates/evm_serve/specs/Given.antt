@@ -1,19 +1,23 @@
 -- What is handed to a run.
-use Rattle.std.specs.Prelude.{Option, Some, None, option_copied}
+use Rattle.std.specs.Prelude.{◌≡◌, List, Option, Some, None, ⊤}
 use Rattle.evm_image.specs.Images.{Contents}
-use Rattle.evm_serve.specs.declared.given.Given as handed
+pub use Rattle.evm_model.specs.Devices.{Attached}
+use Rattle.evm_model.specs.State.{State}
 
--- the image that its machine boots with, if there is one
+-- the image and the devices that its machine boots with; there may be no image
 pub record Given : Type 0 where
   pub image : Option Contents
+  pub devices : List Attached
 
--- an image, and nothing else
-abbrev pub an_image : Contents → Given
-an_image image = record { image = Some image }
+-- devices and an image
+abbrev pub an_image : List Attached → Contents → Given
+an_image devices image = record { image = Some image; devices = devices }
 
-abbrev pub nothing : Given
-nothing = record { image = None }
+-- devices, and no image
+abbrev pub no_image : List Attached → Given
+no_image devices = record { image = None; devices = devices }
 
--- what the code has of it
-abbrev pub given_of : handed.Given → Given
-given_of given = record { image = option_copied given.image }
+-- until a machine is booted, its devices are there
+abbrev pub Holds : Option State → Option (List Attached) → List Attached → Type 0
+Holds None held devices = held ≡ Some devices
+Holds (Some s) held devices = ⊤

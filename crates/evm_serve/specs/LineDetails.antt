@@ -28,7 +28,7 @@ words_or None others = others
 abbrev pub other_form : List ℕ → List ℕ
 other_form line =
     words_or (near_command (first_word line))
-    (codes "bad line: no such command; there are boot, step, tick, raise, bell, stop, go, stepi, set, setpc, poke, break, unbreak, regs, mem, stages, tasks, owners, rank, counts, journal and console")
+    (codes "bad line: no such command; there are boot, step, tick, raise, bell, stop, go, stepi, set, setpc, poke, break, unbreak, regs, mem, stages, tasks, owners, rank, notices, counts, journal, console and words")
 
 abbrev pub view_forms : List ℕ → List ℕ
 view_forms line =
@@ -41,7 +41,9 @@ view_forms line =
     else (if begins line (codes "counts") then codes "bad line: counts wants C L: a processor and an interrupt line, decimal, below 256"
     else (if begins line (codes "journal") then codes "bad line: journal stands alone on its line"
     else (if begins line (codes "console") then codes "bad line: console stands alone on its line"
-    else other_form line))))))))
+    else (if begins line (codes "notices") then codes "bad line: notices stands alone on its line"
+    else (if begins line (codes "words") then codes "bad line: words wants I: a device, decimal, below 256"
+    else other_form line))))))))))
 
 abbrev pub debug_forms : List ℕ → List ℕ
 debug_forms line =

@@ -3,6 +3,7 @@ use Rattle.std.specs.Prelude.{◌≡◌, ◌+◌, List, [], ◌∷◌, ◌++◌,
 use Rattle.evm_debug.specs.evm_core.Load.{load}
 use Rattle.evm_image.specs.Images.{Contents}
 use Rattle.evm_model.specs.declared.refusal.Refusal.{Refusal}
+use Rattle.evm_model.specs.Devices.{Attached}
 use Rattle.evm_model.specs.State.{State}
 use Rattle.evm_model.specs.Replay.{start, apply, IsReplayOf}
 use Rattle.evm_model.specs.Event.{Event}
@@ -21,7 +22,7 @@ RefusedOnItsLine = (first s : State) (front rest : List Event) (event : Event) (
     → events_on 2 None front first ≡ Ok s → apply s event ≡ Err refusal
     → events_on 2 None (front ++ event ∷ rest) first ≡ Err (event_refused (2 + length (runs (front ++ event ∷ []))) event refusal)
 
--- the journal of a machine that booted with an image, replayed with the image, shows that machine
+-- the journal of a machine that booted with devices and an image, replayed with the same, shows that machine
 abbrev pub ReplaysSaved : State → Type 0
-ReplaysSaved s = (image : Contents) (first : State) → load image (start s.boot) ≡ Ok first → IsReplayOf first s
-    → replay_told (an_image image) (journal_text s.boot s.journal) ≡ record { text = summary_text s; verdict = Done }
+ReplaysSaved s = (devices : List Attached) (image : Contents) (first : State) → load image (start devices s.boot) ≡ Ok first → IsReplayOf first s
+    → replay_told (an_image devices image) (journal_text s.boot s.journal) ≡ record { text = summary_text s; verdict = Done }

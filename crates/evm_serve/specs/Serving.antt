@@ -4,7 +4,9 @@ use Rattle.evm_streams.specs.declared.sink.Writing.{Writing}
 use Rattle.evm_streams.specs.declared.source.ReadStop.{ReadStop}
 use Rattle.evm_streams.specs.declared.source.ReadStop.TheVariants as stops
 use Rattle.evm_streams.specs.Writes.{Took, TookPrefix}
+use Rattle.evm_model.specs.Devices.{Attached}
 use Rattle.evm_model.specs.State.{State}
+use Rattle.evm_serve.specs.Given.{Holds}
 use Rattle.evm_serve.specs.Memory.{MemoryRefused}
 use Rattle.evm_serve.specs.Told.{Told, memory_text, Telling, Goes, Ends}
 use Rattle.evm_serve.specs.Faults.{fault_text, no_image_text}
@@ -19,6 +21,11 @@ use Rattle.evm_serve.specs.declared.ending.Reply.TheVariants as replies
 abbrev pub Replies : Reply → List ℕ → Option State → Telling → Type 0
 Replies (replies.Goes noted) text machine telling = telling ≡ Goes text machine
 Replies (replies.Ends fault) text machine telling = telling ≡ Ends fault
+
+-- where the run goes on, the devices are there until a machine is booted
+abbrev pub StillHolds : Reply → Option State → Option (List Attached) → List Attached → Type 0
+StillHolds (replies.Goes noted) machine held devices = Holds machine held devices
+StillHolds (replies.Ends fault) machine held devices = ⊤
 
 -- the status of a run whose report was written to its end
 abbrev pub status_of : Verdict → ℕ

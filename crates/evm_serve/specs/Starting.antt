@@ -1,4 +1,4 @@
--- The machine that a run begins with: booted, and with an image in it, if one is given.
+-- The machine that a run begins with: booted with its devices, and with an image in it, if one is given.
 use Rattle.std.specs.Prelude.{◌≡◌, Option, Some, None, Result, Ok, Err, false, if◌then◌else◌}
 use Rattle.evm_debug.specs.evm_core.Load.{load}
 use Rattle.evm_image.specs.Images.{Contents}
@@ -17,7 +17,7 @@ with_image (Some image) s = load image s
 
 -- the machine of a boot, or why there is none: bad numbers go before what the image is refused for
 abbrev pub started : Given → Boot → Result State Refusal
-started given boot = if bad_boot boot then Err BadSize else with_image given.image (start boot)
+started given boot = if bad_boot boot then Err BadSize else with_image given.image (start given.devices boot)
 
 -- what the code answers is that, unless memory is refused to a good boot
 abbrev pub Starts : Given → Boot → Result State Refusal → Type 0

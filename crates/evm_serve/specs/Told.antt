@@ -52,7 +52,7 @@ abbrev pub view_told : ℕ → View → State → Result (List ℕ) Refusal → 
 view_told n view s (Ok text) = Goes text (Some s)
 view_told n view s (Err refusal) = Ends (view_refused n view refusal)
 
--- a line, where no machine is booted: only a boot goes on, with the image in the machine, if one is given
+-- a line, where no machine is booted: only a boot goes on, with what is given to the run
 abbrev pub told_unbooted : Given → ℕ → Line → Telling
 told_unbooted given n lines.Blank = Goes [] None
 told_unbooted given n (lines.Boot boot) = boot_told n (started given boot)

@@ -63,7 +63,9 @@ pub(crate) fn view_cpu(view: &View) -> Option<u8>
         | View::Owners
         | View::Rank(_)
         | View::Journal
-        | View::Console => None,
+        | View::Console
+        | View::Notices
+        | View::Words(_) => None,
     }
 }
 

@@ -4,6 +4,7 @@ ghost use Rattle.evm_serve.specs.ReplayLaws.{RefusedOnItsLine, ReplaysSaved};
 ghost use Rattle.evm_serve.specs.Known.{ServesKnown, ServesKnownText, ImportsKnownFile, AssemblesIntoKnown};
 
 use evm_debug::Machine;
+use evm_dev::Device;
 use std::io::{Read, Write};
 
 /// A refused event is reported with the number of the line on which it stands in the journal.
@@ -11,8 +12,8 @@ pub fn refused_on_its_line()
     ensures { RefusedOnItsLine }
 {}
 
-/// The journal that a machine saved, replayed with the image that it booted with, shows that machine.
-pub fn replays_saved(machine: &Machine)
+/// The journal that a machine saved, replayed with the devices and the image that it booted with, shows that machine.
+pub fn replays_saved<D: Device>(machine: &Machine<D>)
     ensures { ReplaysSaved machine.now }
 {
     machine.rules();

@@ -28,7 +28,7 @@ pub use assembling::assemble_to;
 pub use detail::fault_detail;
 pub use ending::{Ending, Verdict};
 pub use evm_asm_details::{Extension, SourceDetail, quoted, source_detail};
-pub use evm_debug::{Machine, cut_line, write_journal};
+pub use evm_debug::{Devices, Machine, cut_line, write_journal};
 pub use evm_elf::{AsmFault, AsmFaultKind, ElfFault, ImageDetail, image_detail, write_bytes};
 pub use evm_streams::{
     Cause, ReadFault, ReadStop, Sink, Source, WriteFault, read_all, read_utf8, write_all,

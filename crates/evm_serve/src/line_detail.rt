@@ -37,7 +37,7 @@ fn other_form(line: &[u8]) -> &'static str
     match near_command(first_word(line)) {
         Some(words) => words,
         None =>
-            "bad line: no such command; there are boot, step, tick, raise, bell, stop, go, stepi, set, setpc, poke, break, unbreak, regs, mem, stages, tasks, owners, rank, counts, journal and console",
+            "bad line: no such command; there are boot, step, tick, raise, bell, stop, go, stepi, set, setpc, poke, break, unbreak, regs, mem, stages, tasks, owners, rank, notices, counts, journal, console and words",
     }
 }
 
@@ -62,6 +62,10 @@ fn view_form(line: &[u8]) -> &'static str
         "bad line: journal stands alone on its line"
     } else if line.starts_with(b"console") {
         "bad line: console stands alone on its line"
+    } else if line.starts_with(b"notices") {
+        "bad line: notices stands alone on its line"
+    } else if line.starts_with(b"words") {
+        "bad line: words wants I: a device, decimal, below 256"
     } else {
         other_form(line)
     }

@@ -8,6 +8,7 @@ ghost use Rattle.evm_serve.specs.Notes.{is_ebreak, place_at, place_of, is_stoppe
 use crate::message::{Message, report, report_line};
 use crate::sentence::{Number, Sentence};
 use evm_debug::Machine;
+use evm_dev::Device;
 use evm_model::{Fault, Task, TaskState};
 use evm_streams::Sink;
 
@@ -44,7 +45,7 @@ fn is_ebreak(word: Option<&[u8]>) -> bool
     }
 }
 
-fn place_at(pc: u64, machine: &Machine) -> StopPlace
+fn place_at<D: Device>(pc: u64, machine: &Machine<D>) -> StopPlace
     ensures { result ≡ place_at pc machine.now.board }
 {
     let before = pc.saturating_sub(4);
@@ -58,7 +59,7 @@ fn place_at(pc: u64, machine: &Machine) -> StopPlace
 }
 
 // The place of a current task.
-fn place_of(current: Option<u8>, machine: &Machine) -> StopPlace
+fn place_of<D: Device>(current: Option<u8>, machine: &Machine<D>) -> StopPlace
     ensures { result ≡ place_of current machine.now.board }
 {
     let Some(t) = current else {
@@ -71,7 +72,7 @@ fn place_of(current: Option<u8>, machine: &Machine) -> StopPlace
 }
 
 /// Whether a processor is stopped.
-pub(crate) fn is_stopped(c: u8, machine: &Machine) -> bool
+pub(crate) fn is_stopped<D: Device>(c: u8, machine: &Machine<D>) -> bool
     ensures { result ≡ is_stopped c machine.now }
 {
     match machine.cpu(c) {
@@ -81,7 +82,7 @@ pub(crate) fn is_stopped(c: u8, machine: &Machine) -> bool
 }
 
 /// The note on a processor after a line `step C N`, if it is stopped.
-pub(crate) fn note_of(c: u8, earlier: bool, machine: &Machine) -> Option<StepNote>
+pub(crate) fn note_of<D: Device>(c: u8, earlier: bool, machine: &Machine<D>) -> Option<StepNote>
     ensures { result ≡ note_of c earlier (slice_get machine.now.board.parts.processors c) machine.now.board }
 {
     match machine.cpu(c) {
@@ -246,7 +247,13 @@ fn fault_of(state: TaskState) -> Option<Fault>
 }
 
 // Reports a task, if it ended by a fault.
-fn report_task<E: Sink>(name: &str, t: u8, task: &Task, machine: &Machine, errors: &mut E)
+fn report_task<E: Sink, D: Device>(
+    name: &str,
+    t: u8,
+    task: &Task,
+    machine: &Machine<D>,
+    errors: &mut E,
+)
     ensures { ReportsAll E.takes (faulted_texts name.now t (fault_of task.now.state) (slice_get machine.now.board.parts.harts t) machine.now.board) errors.old errors.new }
 {
     let Some(fault) = fault_of(task.state) else {
@@ -265,7 +272,7 @@ fn report_task<E: Sink>(name: &str, t: u8, task: &Task, machine: &Machine, error
     report(name, sentence, errors);
 }
 
-fn report_numbered<E: Sink>(name: &str, t: u8, machine: &Machine, errors: &mut E)
+fn report_numbered<E: Sink, D: Device>(name: &str, t: u8, machine: &Machine<D>, errors: &mut E)
     ensures { ReportsAll E.takes (task_texts name.now t (slice_get machine.now.board.parts.tasks t) (slice_get machine.now.board.parts.harts t) machine.now.board) errors.old errors.new }
 {
     if let Some(task) = machine.task(t) {
@@ -273,7 +280,7 @@ fn report_numbered<E: Sink>(name: &str, t: u8, machine: &Machine, errors: &mut E
     }
 }
 
-fn report_tasks<E: Sink>(name: &str, machine: &Machine, errors: &mut E)
+fn report_tasks<E: Sink, D: Device>(name: &str, machine: &Machine<D>, errors: &mut E)
     ensures { ReportsAll E.takes (ended_texts name.now (Option.Some machine.now)) errors.old errors.new }
 {
     for t in 0..machine.task_count() {
@@ -282,7 +289,11 @@ fn report_tasks<E: Sink>(name: &str, machine: &Machine, errors: &mut E)
 }
 
 /// Reports the tasks of a machine that ended by a fault.
-pub(crate) fn report_ended<E: Sink>(name: &str, machine: &Option<Machine>, errors: &mut E)
+pub(crate) fn report_ended<E: Sink, D: Device>(
+    name: &str,
+    machine: &Option<Machine<D>>,
+    errors: &mut E,
+)
     ensures { ReportsAll E.takes (ended_texts name.now machine.now) errors.old errors.new }
 {
     if let Some(machine) = machine {

@@ -5,7 +5,7 @@ ghost use Rattle.evm_debug.specs.evm_text.Lines.{text_lines};
 ghost use Rattle.evm_model.specs.Replay.{bad_cpus, bad_ram};
 ghost use Rattle.evm_serve.specs.Faults.{sentence_text};
 ghost use Rattle.evm_serve.specs.Lookup.{boot_among, ram_of};
-ghost use Rattle.evm_serve.specs.Details.{boot_detail, size_detail, ram_end, segment_end, ends_past, segment_past, image_past, past_detail, misaligned_detail, outside_detail, breakpoint_detail, event_detail, mem_detail, view_detail, address_detail, refusal_detail};
+ghost use Rattle.evm_serve.specs.Details.{boot_detail, size_detail, ram_end, segment_end, ends_past, segment_past, image_past, past_detail, misaligned_detail, outside_detail, breakpoint_detail, event_detail, mem_detail, view_detail, address_detail, slot_detail, refusal_detail};
 
 use crate::fault::refusal_sentence;
 use crate::lookup::ram_of;
@@ -200,7 +200,9 @@ fn view_detail(end: u64, view: &View) -> Sentence
         | View::Rank(_)
         | View::Counts(_, _)
         | View::Journal
-        | View::Console => refusal_sentence(None, Refusal::BadAddress),
+        | View::Console
+        | View::Notices
+        | View::Words(_) => refusal_sentence(None, Refusal::BadAddress),
     }
 }
 
@@ -221,6 +223,20 @@ fn address_detail(image: Option<&Image>, ram: u64, line: Option<&Line>) -> Sente
     }
 }
 
+// Where there is no slot: a breakpoint too many, or a device that is not there.
+fn slot_detail(line: Option<&Line>) -> Sentence
+    ensures { sentence_text result ≡ slot_detail (option_copied line.entry) }
+{
+    match line {
+        Some(Line::Look(View::Words(i))) => Sentence::OfOne(
+            "refused: there is no device ",
+            Number::Decimal(u64::from(*i)),
+            " (NoSlot, 8)",
+        ),
+        _ => refusal_sentence(None, Refusal::NoSlot),
+    }
+}
+
 /// The sentence of a refused line of a text, whose machine boots with the image, if there is one.
 pub(crate) fn refusal_detail(
     image: Option<&Image>,
@@ -234,6 +250,7 @@ pub(crate) fn refusal_detail(
     match refusal {
         Refusal::BadSize => size_detail(line),
         Refusal::BadAddress => address_detail(image, ram_of(text), line),
+        Refusal::NoSlot => slot_detail(line),
         _ => refusal_sentence(cpu, refusal),
     }
 }

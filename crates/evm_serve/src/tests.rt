@@ -3,6 +3,8 @@
 use crate::given::Given;
 use crate::replay::replay_to;
 use crate::serving::serve;
+use evm_debug::Devices;
+use evm_devs::Pins;
 use evm_elf::{PROGRAM_MAX, read_image, write_bytes};
 use evm_image::Image;
 use std::alloc::Global;
@@ -20,6 +22,14 @@ mod notes;
 mod scripts;
 mod streams;
 
+/// An image or none, and no devices.
+fn handed<'a>(rt: &impl Abort, alloc: Global, image: Option<&'a Image>) -> Given<'a, Pins> {
+    let Ok(devices) = Devices::new(alloc) else {
+        panic!(rt; "no memory for devices")
+    };
+    Given { image, devices }
+}
+
 /// Serves a script with an image or none, and compares its text and its status.
 fn check_with(
     rt: &impl Abort,
@@ -31,7 +41,7 @@ fn check_with(
 ) {
     let mut reader = script;
     let mut written = Vec::new(alloc);
-    let ending = serve(alloc, &mut reader, &mut written, Given { image });
+    let ending = serve(alloc, &mut reader, &mut written, handed(rt, alloc, image));
     assert_eq!(rt;
         written.as_slice(),
         text.as_bytes(),
@@ -58,7 +68,7 @@ fn check_replay(
     let mut written = Vec::new(alloc);
     let ending = replay_to(
         alloc,
-        Given { image: Some(image) },
+        handed(rt, alloc, Some(image)),
         &mut reader,
         &mut written,
     );

@@ -3,7 +3,7 @@
 ghost use Rattle.evm_replays.specs.Scripts.{PrintsItsJournal, ShowsItsMachine};
 
 /// One more line `journal` after a script with an image prints the journal of the machine that the script leaves; that
-/// text, replayed with the same image, shows that machine, with status 0.
+/// text, replayed with the same devices and image, shows that machine, with status 0.
 pub fn a_script_is_its_journal()
     ensures prints { PrintsItsJournal }
     ensures shows { ShowsItsMachine }

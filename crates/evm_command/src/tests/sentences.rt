@@ -1,5 +1,6 @@
 //! What is written to standard error, for each way in which a job ends.
 
+use crate::attaching::devices;
 use crate::command::answer;
 use crate::system::{OpenFault, System, World};
 use evm_serve::write_bytes;
@@ -110,7 +111,10 @@ fn check_errors(
     for word in line.split(' ') {
         words.push(String::from_str(alloc, word)?)?;
     }
-    let _ = answer(alloc, words.as_slice(), &mut world);
+    let Ok(devices) = devices(alloc) else {
+        return Err("no memory for devices".into());
+    };
+    let _ = answer(alloc, words.as_slice(), devices, &mut world);
     assert_eq!(rt; world.errors.as_slice(), wanted.as_bytes(), "{line}");
     Ok(())
 }

@@ -1,9 +1,8 @@
 //! The sentence of each fault of a script or a journal, from the line that has it.
 
-use super::image_of;
+use super::{handed, image_of};
 use crate::detail::fault_detail;
 use crate::ending::{Ending, Verdict};
-use crate::given::Given;
 use crate::replay::replay_to;
 use crate::serving::serve;
 use evm_image::Image;
@@ -38,7 +37,7 @@ fn check_script(
 ) -> Result<(), Fail> {
     let mut reader = script.as_bytes();
     let mut written = Vec::new(alloc);
-    let ending = serve(alloc, &mut reader, &mut written, Given { image });
+    let ending = serve(alloc, &mut reader, &mut written, handed(rt, alloc, image));
     check_sentence(rt, alloc, ending, image, script, wanted)
 }
 
@@ -175,7 +174,7 @@ fn bad_lines_name_their_form(rt: HostRuntime) -> Result<(), Fail> {
         ),
         (
             "quit",
-            "bad line: no such command; there are boot, step, tick, raise, bell, stop, go, stepi, set, setpc, poke, break, unbreak, regs, mem, stages, tasks, owners, rank, counts, journal and console",
+            "bad line: no such command; there are boot, step, tick, raise, bell, stop, go, stepi, set, setpc, poke, break, unbreak, regs, mem, stages, tasks, owners, rank, notices, counts, journal, console and words",
         ),
         (
             "step 0 1 # one",
@@ -236,9 +235,7 @@ fn journals_name_what_is_wrong(rt: HostRuntime) -> Result<(), Fail> {
     ] {
         let mut reader = journal.as_bytes();
         let mut written = Vec::new(alloc);
-        let given = Given {
-            image: Some(&image),
-        };
+        let given = handed(&rt, alloc, Some(&image));
         let ending = replay_to(alloc, given, &mut reader, &mut written);
         check_sentence(&rt, alloc, ending, Some(&image), journal, wanted)?;
     }

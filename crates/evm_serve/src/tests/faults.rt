@@ -1,10 +1,9 @@
 //! The fault with which each job ends, and its sentence.
 
-use super::image_of;
+use super::{handed, image_of};
 use crate::assembling::assemble_to;
 use crate::ending::{Ending, Verdict};
 use crate::fault::{Fault, LineFault};
-use crate::given::Given;
 use crate::importing::import;
 use crate::replay::replay_to;
 use crate::serving::serve;
@@ -55,7 +54,12 @@ fn scripts_end_with_their_fault(rt: HostRuntime) {
     ] {
         let mut reader = script.as_bytes();
         let mut written = Vec::new(rt.alloc());
-        let ending = serve(rt.alloc(), &mut reader, &mut written, Given { image: None });
+        let ending = serve(
+            rt.alloc(),
+            &mut reader,
+            &mut written,
+            handed(&rt, rt.alloc(), None),
+        );
         check_fault(&rt, ending, fault);
     }
 }
@@ -88,9 +92,7 @@ fn journals_end_with_their_fault(rt: HostRuntime) -> Result<(), Fail> {
         let mut written = Vec::new(alloc);
         let ending = replay_to(
             alloc,
-            Given {
-                image: Some(&image),
-            },
+            handed(&rt, alloc, Some(&image)),
             &mut reader,
             &mut written,
         );

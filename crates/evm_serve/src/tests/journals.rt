@@ -2,8 +2,7 @@
 
 use super::fakes::{FAULTS, Sink, Source};
 use super::images::PROGRAM;
-use super::{check_replay, image_of};
-use crate::given::Given;
+use super::{check_replay, handed, image_of};
 use crate::replay::replay_to;
 use crate::serving::serve;
 use evm_image::Image;
@@ -98,14 +97,14 @@ fn replays_show_the_machine(rt: HostRuntime) -> Result<(), Fail> {
 }
 
 /// What a script writes with an image in its machine.
-fn served(alloc: Global, image: &Image, script: &str) -> Vec<u8> {
+fn served(rt: &impl Abort, alloc: Global, image: &Image, script: &str) -> Vec<u8> {
     let mut reader = script.as_bytes();
     let mut written = Vec::new(alloc);
     let _ = serve(
         alloc,
         &mut reader,
         &mut written,
-        Given { image: Some(image) },
+        handed(rt, alloc, Some(image)),
     );
     written
 }
@@ -114,13 +113,13 @@ fn served(alloc: Global, image: &Image, script: &str) -> Vec<u8> {
 fn check_saved(rt: &impl Abort, alloc: Global, image: &Image, script: &str) -> Result<(), Fail> {
     let saved = format!(in alloc; "{script}journal\n")?;
     let shown = format!(in alloc; "{script}stages 0\nstages 1\ntasks\n")?;
-    let journal = served(alloc, image, saved.as_str());
-    let views = served(alloc, image, shown.as_str());
+    let journal = served(rt, alloc, image, saved.as_str());
+    let views = served(rt, alloc, image, shown.as_str());
     let mut reader = journal.as_slice();
     let mut written = Vec::new(alloc);
     let ending = replay_to(
         alloc,
-        Given { image: Some(image) },
+        handed(rt, alloc, Some(image)),
         &mut reader,
         &mut written,
     );
@@ -166,9 +165,7 @@ fn unread_journals_are_not_replayed(rt: HostRuntime) -> Result<(), Fail> {
             let mut written = Vec::new(alloc);
             let ending = replay_to(
                 alloc,
-                Given {
-                    image: Some(&image),
-                },
+                handed(&rt, alloc, Some(&image)),
                 &mut source,
                 &mut written,
             );
@@ -195,9 +192,7 @@ fn unread_journals_are_not_replayed(rt: HostRuntime) -> Result<(), Fail> {
     let mut written = Vec::new(alloc);
     let ending = replay_to(
         alloc,
-        Given {
-            image: Some(&image),
-        },
+        handed(&rt, alloc, Some(&image)),
         &mut long,
         &mut written,
     );
@@ -230,9 +225,7 @@ fn unwritten_views_leave_a_prefix(rt: HostRuntime) -> Result<(), Fail> {
                 let mut reader = journal;
                 let ending = replay_to(
                     alloc,
-                    Given {
-                        image: Some(&image),
-                    },
+                    handed(&rt, alloc, Some(&image)),
                     &mut reader,
                     &mut sink,
                 );

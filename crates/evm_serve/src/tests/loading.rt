@@ -1,6 +1,7 @@
 //! Images in a machine with the least RAM.
 
 use evm_debug::{Answer, Event, Machine, Refusal};
+use evm_devs::Pins;
 use evm_elf::read_image;
 use evm_image::Image;
 use evm_ram::BASE;
@@ -62,18 +63,18 @@ fn image_with(alloc: Global, patches: &[(usize, u64)]) -> Result<Image, Fail> {
     Ok(read_image(alloc, &file)?)
 }
 
-fn pc(machine: &Machine) -> Result<u64, Fail> {
+fn pc(machine: &Machine<Pins>) -> Result<u64, Fail> {
     Ok(machine.hart(0).ok_or("task 0")?.pc)
 }
 
-fn bytes(machine: &Machine, address: u64, count: u64) -> Result<&[u8], Fail> {
+fn bytes(machine: &Machine<Pins>, address: u64, count: u64) -> Result<&[u8], Fail> {
     Ok(machine.bytes(address, count).ok_or("inside")?)
 }
 
 #[test]
 fn loads_two_segments(rt: HostRuntime) -> Result<(), Fail> {
     let alloc = rt.alloc();
-    let mut machine = Machine::boot(alloc, 1, SIZE, 4)?;
+    let mut machine = Machine::<Pins>::boot(alloc, 1, SIZE, 4)?;
     assert_eq!(rt; machine.load(&image_with(alloc, &[])?), Ok(()));
     assert_eq!(rt; bytes(&machine, BASE, 5)?, [7, 8, 9, 0, 0].as_slice());
     assert_eq!(rt;
@@ -90,7 +91,7 @@ fn loads_two_segments(rt: HostRuntime) -> Result<(), Fail> {
 #[test]
 fn loads_again_before_the_first_event(rt: HostRuntime) -> Result<(), Fail> {
     let alloc = rt.alloc();
-    let mut machine = Machine::boot(alloc, 1, SIZE, 4)?;
+    let mut machine = Machine::<Pins>::boot(alloc, 1, SIZE, 4)?;
     machine.load(&image_with(alloc, &[])?)?;
     let moved = image_with(alloc, &[(VADDR, 0x8000_fffc), (ENTRY, 0x80ff_fffc)])?;
     assert_eq!(rt; machine.load(&moved), Ok(()));
@@ -119,7 +120,7 @@ fn refuses_what_passes_ram(rt: HostRuntime) -> Result<(), Fail> {
         (&[(VADDR, 0), (FILESZ, 0), (MEMSZ, 0)], Ok(())),
     ];
     for (patches, want) in rows {
-        let mut machine = Machine::boot(alloc, 1, SIZE, 4)?;
+        let mut machine = Machine::<Pins>::boot(alloc, 1, SIZE, 4)?;
         let image = image_with(alloc, patches)?;
         assert_eq!(rt; machine.load(&image), want, "{patches:?}");
     }
@@ -129,7 +130,7 @@ fn refuses_what_passes_ram(rt: HostRuntime) -> Result<(), Fail> {
 #[test]
 fn changes_nothing_where_it_refuses(rt: HostRuntime) -> Result<(), Fail> {
     let alloc = rt.alloc();
-    let mut machine = Machine::boot(alloc, 1, SIZE, 4)?;
+    let mut machine = Machine::<Pins>::boot(alloc, 1, SIZE, 4)?;
     machine.load(&image_with(alloc, &[])?)?;
     let large = image_with(alloc, &[(VADDR, 0x8001_0000), (ENTRY, 0x8000_0000)])?;
     assert_eq!(rt; machine.load(&large), Err(Refusal::BadAddress));

@@ -1,6 +1,6 @@
 //! What standard error gets while a script runs.
 
-use crate::given::Given;
+use super::handed;
 use crate::serving::run_script;
 use std::process::Abort;
 use std::test::Fail;
@@ -45,7 +45,7 @@ fn stopped_steps_and_faults_are_reported(rt: HostRuntime) -> Result<(), Fail> {
         let script = format!(in alloc; "boot 2 65536 64\n{PROGRAM}{commands}")?;
         let mut output = Vec::new(alloc);
         let mut errors = Vec::new(alloc);
-        let given = Given { image: None };
+        let given = handed(&rt, alloc, None);
         let _ = run_script(
             alloc,
             given,

@@ -1,7 +1,7 @@
 //! Readers and writers that fail, and scripts that are too long.
 
 use super::fakes::{FAULTS, Sink, Source};
-use crate::given::Given;
+use super::handed;
 use crate::serving::serve;
 use std::io::{self, ErrorKind, Read};
 
@@ -25,7 +25,12 @@ fn failed_reads_end_the_run(rt: HostRuntime) {
                 fault: Some(kind),
             };
             let mut written = Vec::new(rt.alloc());
-            let ending = serve(rt.alloc(), &mut source, &mut written, Given { image: None });
+            let ending = serve(
+                rt.alloc(),
+                &mut source,
+                &mut written,
+                handed(&rt, rt.alloc(), None),
+            );
             let (text, status) = if calls < 10 { ("", 4) } else { (TEXT, 1) };
             assert_eq!(rt; ending.status(), status, "after {calls} reads");
             assert_eq!(rt; written.as_slice(), text.as_bytes(), "after {calls} reads");
@@ -47,7 +52,12 @@ fn failed_writes_leave_a_prefix(rt: HostRuntime) {
                     calls,
                     fault,
                 };
-                let ending = serve(rt.alloc(), &mut reader, &mut sink, Given { image: None });
+                let ending = serve(
+                    rt.alloc(),
+                    &mut reader,
+                    &mut sink,
+                    handed(&rt, rt.alloc(), None),
+                );
                 let taken = sink.taken.as_slice();
                 let whole = taken == TEXT.as_bytes();
                 let status = if whole { 1 } else { 4 };
@@ -67,7 +77,12 @@ fn long_scripts_are_not_read(rt: HostRuntime) {
     for (bytes, status) in [(16_777_216, 0), (16_777_217, 4), (u64::MAX, 4)] {
         let mut reader = io::repeat(b'#').take(bytes);
         let mut written = Vec::new(rt.alloc());
-        let ending = serve(rt.alloc(), &mut reader, &mut written, Given { image: None });
+        let ending = serve(
+            rt.alloc(),
+            &mut reader,
+            &mut written,
+            handed(&rt, rt.alloc(), None),
+        );
         assert_eq!(rt; ending.status(), status, "a comment of {bytes} bytes");
         assert_eq!(rt; written.len(), 0, "a comment of {bytes} bytes");
     }

@@ -5,4 +5,4 @@ use Rattle.evm_debug.proofs.last_views.push_all_stages.Given as goal
 
 -- the processors below c are told
 abbrev pub invariant-loop-c : goal.invariant-loop-c
-invariant-loop-c l = Appends (stages_below l.c l.machine.board.parts) l.fn.out l.out (Ok tt)
+invariant-loop-c g l = Appends (stages_below l.c l.machine.board.parts) l.fn.out l.out (Ok tt)

@@ -4,12 +4,12 @@ use Rattle.evm_debug.proofs.Below.{owners_below-none, owners_below-more, owners_
 use Rattle.evm_debug.proofs.views.push_owners.Goals as goal
 
 pub loop-m-init : goal.loop-m-init
-loop-m-init c = appends_none _ _ (owners_below-none _)
+loop-m-init g c = appends_none _ _ (owners_below-none _)
 
 pub loop-m-preserved : goal.loop-m-preserved
-loop-m-preserved c = appends_more _ _ _ _ _ _ c.loop-m.invariant c.in-Ok.ensures (owners_below-more c.loop-m.m _)
+loop-m-preserved g c = appends_more _ _ _ _ _ _ c.loop-m.invariant c.in-Ok.ensures (owners_below-more c.loop-m.m _)
 
 pub returns-in-Err : goal.returns-in-Err
-returns-in-Err c =
+returns-in-Err g c =
     let below : c.loop-m.m < length c.args.machine.now.board.parts.mutexes = omega (arith, c.loop-m-test.true) in
     appends_front _ _ _ _ _ _ _ c.loop-m.invariant c.in-Err.ensures (owners_below-longer c.loop-m.m (length c.args.machine.now.board.parts.mutexes) c.args.machine.now.board.parts.mutexes below)

@@ -5,4 +5,4 @@ use Rattle.evm_debug.proofs.views.push_owners.Given as goal
 
 -- the mutexes below m are told
 abbrev pub invariant-loop-m : goal.invariant-loop-m
-invariant-loop-m l = Appends (owners_below l.m l.machine.board.parts.mutexes) l.fn.out l.out (Ok tt)
+invariant-loop-m g l = Appends (owners_below l.m l.machine.board.parts.mutexes) l.fn.out l.out (Ok tt)

@@ -5,4 +5,4 @@ use Rattle.evm_debug.proofs.views.push_tasks.Given as goal
 
 -- the tasks below t are told
 abbrev pub invariant-loop-t : goal.invariant-loop-t
-invariant-loop-t l = Appends (tasks_below l.t l.machine.board.parts) l.fn.out l.out (Ok tt)
+invariant-loop-t g l = Appends (tasks_below l.t l.machine.board.parts) l.fn.out l.out (Ok tt)

@@ -1,5 +1,5 @@
 use Rattle.std.proofs.Common.{◌+◌, ◌≤◌, length}
-use Rattle.evm_serve.specs.Given.{given_of}
+use Rattle.evm_serve.specs.Given.{Holds}
 use Rattle.evm_serve.specs.Notes.{notes}
 use Rattle.evm_serve.specs.Told.{told}
 use Rattle.evm_serve.proofs.Noted.{NotedSoFar}
@@ -9,8 +9,9 @@ use Rattle.evm_serve.proofs.serving.play.Given as goal
 -- what was told so far was written, and what is left is behind it; so it is with the notes
 abbrev pub invariant-lines : goal.invariant-lines
 invariant-lines g l = record {
-  tells : Tells g.W.Sink.takes (given_of l.given) (told (given_of l.given) l.script) l.fn.writer l.writer l.number l.rest l.machine;
-  noted : NotedSoFar g.E.Sink.takes (given_of l.given) l.name (notes (given_of l.given) l.name l.script) l.fn.errors l.errors l.number l.rest l.machine;
+  tells : Tells g.W.Sink.takes l.fn.given (told l.fn.given l.script) l.fn.writer l.writer l.number l.rest l.machine;
+  noted : NotedSoFar g.E.Sink.takes l.fn.given l.name (notes l.fn.given l.name l.script) l.fn.errors l.errors l.number l.rest l.machine;
+  held : Holds l.machine l.held l.fn.given.devices;
   numbered : l.number + length l.rest ≤ length l.script + 1;
 }
 
