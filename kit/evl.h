@@ -38,15 +38,31 @@
 #define EVL_RR 2   /* round robin, priority 1 to 99, slices of 4 ticks */
 #define EVL_WEAK 3 /* weak, priority 0 to 99, below the other two */
 
-/* Mode bits of evl_set_thread_mode(). */
-#define EVL_T_WOSS 1
-#define EVL_T_WOLI 2
+/* Mode bits of evl_set_thread_mode(): of what the task leaves a notice. The view `notices` shows the last 64. */
+#define EVL_T_WOSS 1 /* it goes in-band by an in-band call (notice 1) or by a fault (notice 2) */
+#define EVL_T_WOLI 2 /* a lock or trylock is refused with -EVL_EDEADLK (3), an unlock since it isn't the owner (4) */
 
 /* Kinds of evl_create_mutex(): a protocol, and EVL_MUTEX_RECURSIVE. */
 #define EVL_MUTEX_INHERITANCE 0
 #define EVL_MUTEX_CEILING 2
 #define EVL_MUTEX_NORMAL 0
 #define EVL_MUTEX_RECURSIVE 1
+
+/* Devices: at most 8, each with 16 registers of 8 bytes. An access of another width is a fault, as of a missing register. */
+#define EVL_DEVICES 8
+#define EVL_DEVICE(device) (0x10000000UL + 0x1000UL * (device))
+#define EVL_DEVICE_LINE(device) (2 + (device)) /* the line that the device raises, on processor 0 */
+
+/* The devices that evltool attaches, and their registers. */
+#define EVL_CONSOLE 0
+#define EVL_CONSOLE_BYTE 0 /* stored: the low byte comes last, unless there are 256; loaded: how many there are */
+#define EVL_MAILBOX 1
+#define EVL_MAILBOX_WORD 0  /* stored: the word comes last, of 16 the oldest leaves; raises. Loaded: the oldest leaves, or 0 */
+#define EVL_MAILBOX_COUNT 1 /* loaded: how many words there are; stored: none from now on */
+#define EVL_PINS 2
+#define EVL_PINS_LEVEL 0 /* a bit for each pin; a store raises if a bit of the mask goes from 0 to 1 */
+#define EVL_PINS_MASK 1
+#define EVL_PINS_COUNT 2 /* falls by 1 with each tick; raises when it becomes 0 */
 
 /* Actions of evl_set_line(). */
 #define EVL_LINE_NONE 0 /* the line goes to the in-band stage */
@@ -230,7 +246,7 @@ static inline long evl_set_schedattr(long task, long sched_class, long priority)
 }
 
 /*
- * The mode bits of the calling task become `bits`; returns the old ones. They are kept, and nothing acts on them yet.
+ * The mode bits of the calling task become `bits`; returns the old ones.
  * libevl: sets bits of any thread, and evl_clear_thread_mode() clears them.
  */
 static inline long evl_set_thread_mode(long bits)
@@ -392,6 +408,18 @@ static inline long evl_state(void)
 static inline int evl_is_inband(void)
 {
 	return !(evl_state() & EVL_STATE_OOB);
+}
+
+/* ---- Devices. An access of 8 bytes, on either stage; it isn't a call. */
+
+static inline unsigned long evl_load_device(long device, long number)
+{
+	return ((volatile unsigned long *)EVL_DEVICE(device))[number];
+}
+
+static inline void evl_store_device(long device, long number, unsigned long value)
+{
+	((volatile unsigned long *)EVL_DEVICE(device))[number] = value;
 }
 
 /* ---- Tasks of C functions. */

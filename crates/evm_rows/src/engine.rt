@@ -1,7 +1,10 @@
 //! What a command line writes and answers, through the calls that `evltool` makes.
 
+use evm_devs::{AnyDevice, Console, MailRing, Pins};
 use evm_image::Image;
-use evm_serve::{Ending, Given, ReadStop, assemble_to, import, read_utf8, replay_to, serve};
+use evm_serve::{
+    Devices, Ending, Given, ReadStop, assemble_to, import, read_utf8, replay_to, serve,
+};
 use std::alloc::Global;
 
 /// What is written, and the status.
@@ -50,11 +53,25 @@ pub(crate) fn image_of(alloc: Global, source: &[u8]) -> Result<Image, Outcome> {
     imported(alloc, file.as_slice())
 }
 
+// The devices of `evltool`: a console, a mailbox and pins. None where there is no memory for them.
+fn devices_of(alloc: Global) -> Option<Devices<AnyDevice>> {
+    let Ok(mut devices) = Devices::new(alloc) else {
+        return None;
+    };
+    devices.push(AnyDevice::Console(Console::new(alloc).ok()?));
+    devices.push(AnyDevice::MailRing(MailRing::new(alloc).ok()?));
+    devices.push(AnyDevice::Pins(Pins::new()));
+    Some(devices)
+}
+
 /// What a script writes.
 pub(crate) fn served(alloc: Global, image: Option<&Image>, script: &[u8]) -> Outcome {
     let mut text = Vec::new(alloc);
+    let Some(devices) = devices_of(alloc) else {
+        return Outcome::new(text, &Ending::NoMemory);
+    };
     let mut reader = script;
-    let ending = serve(alloc, &mut reader, &mut text, Given { image });
+    let ending = serve(alloc, &mut reader, &mut text, Given { image, devices });
     Outcome::new(text, &ending)
 }
 
@@ -73,14 +90,14 @@ pub(crate) fn replayed(alloc: Global, image: Result<Image, Outcome>, journal: &[
         Err(outcome) => return outcome,
     };
     let mut text = Vec::new(alloc);
+    let Some(devices) = devices_of(alloc) else {
+        return Outcome::new(text, &Ending::NoMemory);
+    };
+    let given = Given {
+        image: Some(&image),
+        devices,
+    };
     let mut reader = journal;
-    let ending = replay_to(
-        alloc,
-        Given {
-            image: Some(&image),
-        },
-        &mut reader,
-        &mut text,
-    );
+    let ending = replay_to(alloc, given, &mut reader, &mut text);
     Outcome::new(text, &ending)
 }

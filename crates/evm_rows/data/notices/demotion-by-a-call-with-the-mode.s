@@ -1,0 +1,18 @@
+ # attach 1, 10
+ li a0,1
+ li a1,10
+ li a7,7
+ ecall
+ # set mode 1
+ li a0,1
+ li a7,35
+ ecall
+ # stall
+ li a7,51
+ ecall
+ nop
+ # putc 65
+ li a0,65
+ li a7,1
+ ecall
+ ebreak

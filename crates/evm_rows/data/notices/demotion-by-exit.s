@@ -1,0 +1,12 @@
+ # attach 1, 10
+ li a0,1
+ li a1,10
+ li a7,7
+ ecall
+ # set mode 3
+ li a0,3
+ li a7,35
+ ecall
+ # exit
+ li a7,0
+ ecall

@@ -1,0 +1,12 @@
+ # attach 1, 10
+ li a0,1
+ li a1,10
+ li a7,7
+ ecall
+ # set mode 1
+ li a0,1
+ li a7,35
+ ecall
+ li a7,1
+ ecall
+ nop
