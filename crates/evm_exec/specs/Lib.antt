@@ -1,3 +1,4 @@
+pub mod Burst
 pub mod Does
 pub mod Memory
 pub mod Numbers

@@ -2,6 +2,7 @@
 #![tactic(auto)]
 
 mod arithmetic;
+mod burst;
 mod execute;
 mod hart;
 mod laws;
@@ -11,6 +12,7 @@ mod outcome;
 mod tests;
 
 pub use arithmetic::{extend, is_taken, on_immediate, on_registers, on_shift, on_words};
+pub use burst::{BURST_LIMIT, Burst};
 pub use execute::{access, branch_to, effect, go_to, move_on, no_register, private};
 pub use hart::{Hart, REGISTER_COUNT, REGISTERS};
 pub use laws::registers_hold;

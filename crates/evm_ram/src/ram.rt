@@ -7,6 +7,7 @@ ghost use Rattle.evm_ram.specs.Ram.{is_inside, bytes_at, read_at, poke_at, write
 use crate::width::Width;
 use evm_room::{Refused, copies};
 use std::alloc::Global;
+use std::boxed::BoxedSlice;
 use std::marker::Model;
 
 /// The address of RAM's first byte.
@@ -15,21 +16,22 @@ pub const BASE: u64 = 0x8000_0000;
 /// The most bytes that RAM may have.
 pub const SIZE_LIMIT: u64 = 16_777_216;
 
-/// Bytes, of which the first stands at the address [`BASE`].
+/// Bytes, of which the first stands at the address [`BASE`]. They never grow.
 #[derive(Debug, Drop)]
 pub struct Ram {
-    bytes: Vec<u8>,
+    bytes: BoxedSlice<u8>,
 }
 
 impl Model for Ram {
     ghost use Rattle.std.specs.Prelude.{◌≤◌, ℕ, List, length};
+    ghost use Rattle.std.specs.Box.{boxed_slice_items};
     ghost use Rattle.evm_ram.specs.declared.ram.TheConstants.{SIZE_LIMIT};
 
     ghost Value = { List ℕ };
 
-    ghost view = { λ ram. ram.bytes.items };
+    ghost view = { λ ram. boxed_slice_items ram.bytes };
 
-    ghost invariant = { λ ram. length ram.bytes.items ≤ SIZE_LIMIT };
+    ghost invariant = { λ ram. length (boxed_slice_items ram.bytes) ≤ SIZE_LIMIT };
 }
 
 impl Ram {

@@ -16,9 +16,9 @@ pub returns-clause-poked : goal.returns-clause-poked
 returns-clause-poked c =
     let some : 0 < length c.args.bytes.now = grind (arith, common_steps) in
     let inside = cond_some _ _ _ (sym c.place.ensures ∙ c.in_ok-start.was) in
-    let items : c.self.inside.bytes.items ≡ c.args.self.now = c.self.view_is in
+    let items : c.self.inside.bytes.items.items ≡ c.args.self.now = c.self.view_is in
     let held = c.deref_mut.ensures.value ∙ items in
-    let long : c.self.inside.bytes.len ≡ length c.args.self.now = sym c.deref_mut.ensures.len ∙ ap length held in
+    let long : c.self.inside.bytes.items.len ≡ length c.args.self.now = sym c.deref_mut.ensures.len ∙ ap length held in
     let fits = within c.args.self.now c.args.address (length c.args.bytes.now) inside.0 some in
     let part : length c.args.bytes.now ≡ c.in_ok-start.start + length c.args.bytes.now - c.in_ok-start.start = omega arith in
     rw (c.copy_from_slice.ensures.after, held, items)
