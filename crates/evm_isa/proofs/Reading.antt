@@ -1,13 +1,14 @@
 -- What is decoded is what the table says.
-use Rattle.std.proofs.Common.{◌≡◌, ◌↔◌, ℕ, ◌+◌, ◌*◌, ◌/◌, ◌%◌, ◌^◌, ◌<◌, Bool, true, false, cond, arith, refl, subst, IfSome, Option, Some, None}
+use Rattle.std.specs.List.{AllByRecursion}
+use Rattle.std.proofs.Common.{◌≡◌, ◌↔◌, ◌∙◌, sym, ap, List, [], ◌∷◌, ℕ, ◌+◌, ◌*◌, ◌/◌, ◌%◌, ◌^◌, ◌<◌, Bool, true, false, cond, arith, refl, subst, IfSome, Option, Some, None}
 use Rattle.std.specs.Prelude.{◌==◌, if◌then◌else◌}
 use Rattle.std.specs.Option.{option_map}
 use Rattle.std.specs.Int.Bits.{bit_and}
-use Rattle.std.proofs.lemmas.Bool.Decides.{Decides-eqb, nat_tests}
-use Rattle.evm_isa.specs.Fields.{opcode_of, funct3_of, funct6_of, funct7_of}
+use Rattle.std.proofs.lemmas.Bool.Decides.{Decides-eqb}
+use Rattle.evm_isa.specs.Fields.{opcode_of, funct3_of}
 use Rattle.evm_isa.specs.Table.{branch_bits, load_bits, store_bits, immediate_bits, shift_bits, shift_mask, register_bits, word_bits, Row}
-use Rattle.evm_isa.specs.Decoded.{branch_by, load_by, store_by, immediate_by, shift_by, word_shift_by, register_by, word_by, jalr_at, branch_at, load_at, store_at, immediate_or_shift, immediate_form, shift_form, immediate_at, word_immediate_at, register_at, word_at, fence_at, system_at, decoded}
-use Rattle.evm_isa.proofs.Masks.{under_opcode, under_funct3, under_funct6, under_funct7, opcode_under, funct3_under, funct6_under, funct7_under}
+use Rattle.evm_isa.specs.Decoded.{first_with, branches, loads, stores, immediates, shifts, word_shifts, registers, words, jalr_at, branch_at, load_at, store_at, immediate_or_shift, immediate_form, shift_form, immediate_at, word_immediate_at, register_at, word_at, fence_at, system_at, decoded}
+use Rattle.evm_isa.proofs.Masks.{under_opcode, under_funct3, opcode_under, funct3_under, funct6_under, funct7_under}
 use Rattle.evm_isa.specs.declared.inst.Inst.{Inst}
 use Rattle.evm_isa.specs.declared.inst.Inst.TheVariants.{Lui, Auipc, Jal, Jalr, Branch, Load, Store, Immediate, Shift, Register, Word, Fence, Ecall, Ebreak}
 use Rattle.evm_isa.specs.declared.inst.BranchOp.{BranchOp}
@@ -38,31 +39,11 @@ mapped : {A B : Type 0} (Q : A → Type 0) (P : B → Type 0) (g : A → B) (r :
 mapped Q P g None q f = tt
 mapped Q P g (Some o) q f = f o q
 
--- ---- a mnemonic that is found by its fields has them in its bits
+-- ---- a mnemonic that is found by its bits has them
 
-branch_sound : (f : ℕ) → IfSome (branch_by f) (λ o. branch_bits o ≡ 0x63 + 2 ^ 12 * f)
-branch_sound f = grind (arith, nat_tests)
-
-load_sound : (f : ℕ) → IfSome (load_by f) (λ o. load_bits o ≡ 0x03 + 2 ^ 12 * f)
-load_sound f = grind (arith, nat_tests)
-
-store_sound : (f : ℕ) → IfSome (store_by f) (λ o. store_bits o ≡ 0x23 + 2 ^ 12 * f)
-store_sound f = grind (arith, nat_tests)
-
-immediate_sound : (f : ℕ) → IfSome (immediate_by f) (λ o. immediate_bits o ≡ 0x13 + 2 ^ 12 * f)
-immediate_sound f = grind (arith, nat_tests)
-
-shift_sound : (f t : ℕ) → IfSome (shift_by f t) (λ o. (shift_mask o ≡ 0xfc00707f) × (shift_bits o ≡ 0x13 + 2 ^ 12 * f + 2 ^ 26 * t))
-shift_sound f t = grind (arith, nat_tests)
-
-word_shift_sound : (f t : ℕ) → IfSome (word_shift_by f t) (λ o. (shift_mask o ≡ 0xfe00707f) × (shift_bits o ≡ 0x1b + 2 ^ 12 * f + 2 ^ 25 * t))
-word_shift_sound f t = grind (arith, nat_tests)
-
-register_sound : (f t : ℕ) → IfSome (register_by f t) (λ o. register_bits o ≡ 0x33 + 2 ^ 12 * f + 2 ^ 25 * t)
-register_sound f t = grind (arith, nat_tests)
-
-word_sound : (f t : ℕ) → IfSome (word_by f t) (λ o. word_bits o ≡ 0x3b + 2 ^ 12 * f + 2 ^ 25 * t)
-word_sound f t = grind (arith, nat_tests)
+has_bits : {O : Type 0} (bits : O → ℕ) (b : ℕ) (ops : List O) → IfSome (first_with bits b ops) (λ op. bits op ≡ b)
+has_bits bits b [] = tt
+has_bits bits b (op ∷ ops) = if_same (λ r. IfSome r (λ op. bits op ≡ b)) (bits op) b _ _ (λ e. e) (has_bits bits b ops)
 
 -- ---- what is found in an opcode fits its row
 
@@ -74,17 +55,17 @@ jalr_stands : (w : ℕ) → opcode_of w ≡ 0x67 → Stands w (jalr_at w)
 unfolding jalr_at Row
 jalr_stands w e = if_same (Stands w) (funct3_of w) 0 _ _ (λ f. (omega (arith, under_funct3 w), refl, refl, refl)) tt
 
-branch_stands : (w : ℕ) → opcode_of w ≡ 0x63 → Stands w (branch_at w)
+branch_stands : (w : ℕ) → Stands w (branch_at w)
 unfolding branch_at Row
-branch_stands w e = mapped _ (λ i. Row i w) _ (branch_by (funct3_of w)) (branch_sound (funct3_of w)) (λ o q. (omega (arith, q, under_funct3 w), refl, refl, refl))
+branch_stands w = mapped (λ o. branch_bits o ≡ bit_and w 0x0000707f) (λ i. Row i w) _ (first_with branch_bits (bit_and w 0x0000707f) branches) (has_bits branch_bits (bit_and w 0x0000707f) branches) (λ o q. (sym q, refl, refl, refl))
 
-load_stands : (w : ℕ) → opcode_of w ≡ 0x03 → Stands w (load_at w)
+load_stands : (w : ℕ) → Stands w (load_at w)
 unfolding load_at Row
-load_stands w e = mapped _ (λ i. Row i w) _ (load_by (funct3_of w)) (load_sound (funct3_of w)) (λ o q. (omega (arith, q, under_funct3 w), refl, refl, refl))
+load_stands w = mapped (λ o. load_bits o ≡ bit_and w 0x0000707f) (λ i. Row i w) _ (first_with load_bits (bit_and w 0x0000707f) loads) (has_bits load_bits (bit_and w 0x0000707f) loads) (λ o q. (sym q, refl, refl, refl))
 
-store_stands : (w : ℕ) → opcode_of w ≡ 0x23 → Stands w (store_at w)
+store_stands : (w : ℕ) → Stands w (store_at w)
 unfolding store_at Row
-store_stands w e = mapped _ (λ i. Row i w) _ (store_by (funct3_of w)) (store_sound (funct3_of w)) (λ o q. (omega (arith, q, under_funct3 w), refl, refl, refl))
+store_stands w = mapped (λ o. store_bits o ≡ bit_and w 0x0000707f) (λ i. Row i w) _ (first_with store_bits (bit_and w 0x0000707f) stores) (has_bits store_bits (bit_and w 0x0000707f) stores) (λ o q. (sym q, refl, refl, refl))
 
 either : (w : ℕ) (r : Option ImmediateOp) (s : Option ShiftOp) → IfSome r (λ o. Row (immediate_form w o) w) → IfSome s (λ o. Row (shift_form w o) w) → Stands w (immediate_or_shift w r s)
 either w (Some o) s p q = p
@@ -95,26 +76,34 @@ weaker : {A : Type 0} (P Q : A → Type 0) (r : Option A) → IfSome r P → ((o
 weaker P Q None p f = tt
 weaker P Q (Some o) p f = f o p
 
-immediate_stands : (w : ℕ) → w < 2 ^ 32 → opcode_of w ≡ 0x13 → Stands w (immediate_at w)
-unfolding immediate_at Row
-immediate_stands w h e =
-    either w (immediate_by (funct3_of w)) (shift_by (funct3_of w) (funct6_of w))
-    (weaker _ (λ o. Row (immediate_form w o) w) (immediate_by (funct3_of w)) (immediate_sound (funct3_of w)) (λ o q. (omega (arith, q, under_funct3 w), refl, refl, refl)))
-    (weaker _ (λ o. Row (shift_form w o) w) (shift_by (funct3_of w) (funct6_of w)) (shift_sound (funct3_of w) (funct6_of w)) (λ o q. (rw q.0 (omega (arith, q, under_funct6 w h)), refl, refl, refl)))
+-- a shift of a list whose mask is this
+shifts_fit : (mask b : ℕ) (ops : List ShiftOp) → AllByRecursion (λ op. shift_mask op ≡ mask) ops → IfSome (first_with shift_bits b ops) (λ op. (shift_mask op ≡ mask) × (b ≡ shift_bits op))
+shifts_fit mask b [] h = tt
+shifts_fit mask b (op ∷ ops) h = if_same (λ r. IfSome r (λ op. (shift_mask op ≡ mask) × (b ≡ shift_bits op))) (shift_bits op) b _ _ (λ e. (h.0, sym e)) (shifts_fit mask b ops h.1)
 
-word_immediate_stands : (w : ℕ) → w < 2 ^ 32 → opcode_of w ≡ 0x1b → Stands w (word_immediate_at w)
-unfolding word_immediate_at Row
-word_immediate_stands w h e =
-    if_same (Stands w) (funct3_of w) 0 _ _ (λ f. (omega (arith, under_funct3 w), refl, refl, refl))
-    (mapped _ (λ i. Row i w) _ (word_shift_by (funct3_of w) (funct7_of w)) (word_shift_sound (funct3_of w) (funct7_of w)) (λ o q. (rw q.0 (omega (arith, q, under_funct7 w h)), refl, refl, refl)))
+immediate_fits : (w : ℕ) → IfSome (first_with immediate_bits (bit_and w 0x0000707f) immediates) (λ o. Row (immediate_form w o) w)
+unfolding Row
+immediate_fits w = weaker (λ o. immediate_bits o ≡ bit_and w 0x0000707f) (λ o. Row (immediate_form w o) w) (first_with immediate_bits (bit_and w 0x0000707f) immediates) (has_bits immediate_bits (bit_and w 0x0000707f) immediates) (λ o q. (sym q, refl, refl, refl))
 
-register_stands : (w : ℕ) → w < 2 ^ 32 → opcode_of w ≡ 0x33 → Stands w (register_at w)
+shift_fits : (w mask : ℕ) (ops : List ShiftOp) → AllByRecursion (λ op. shift_mask op ≡ mask) ops → IfSome (first_with shift_bits (bit_and w mask) ops) (λ o. Row (shift_form w o) w)
+unfolding Row
+shift_fits w mask ops h = weaker (λ o. (shift_mask o ≡ mask) × (bit_and w mask ≡ shift_bits o)) (λ o. Row (shift_form w o) w) (first_with shift_bits (bit_and w mask) ops) (shifts_fit mask (bit_and w mask) ops h) (λ o q. (rw q.0 q.1, refl, refl, refl))
+
+immediate_stands : (w : ℕ) → Stands w (immediate_at w)
+unfolding immediate_at
+immediate_stands w = either w _ _ (immediate_fits w) (shift_fits w 0xfc00707f shifts (refl, (refl, (refl, tt))))
+
+word_immediate_stands : (w : ℕ) → Stands w (word_immediate_at w)
+unfolding word_immediate_at
+word_immediate_stands w = either w _ _ (immediate_fits w) (shift_fits w 0xfe00707f word_shifts (refl, (refl, (refl, tt))))
+
+register_stands : (w : ℕ) → Stands w (register_at w)
 unfolding register_at Row
-register_stands w h e = mapped _ (λ i. Row i w) _ (register_by (funct3_of w) (funct7_of w)) (register_sound (funct3_of w) (funct7_of w)) (λ o q. (omega (arith, q, under_funct7 w h), refl, refl, refl))
+register_stands w = mapped (λ o. register_bits o ≡ bit_and w 0xfe00707f) (λ i. Row i w) _ (first_with register_bits (bit_and w 0xfe00707f) registers) (has_bits register_bits (bit_and w 0xfe00707f) registers) (λ o q. (sym q, refl, refl, refl))
 
-word_stands : (w : ℕ) → w < 2 ^ 32 → opcode_of w ≡ 0x3b → Stands w (word_at w)
+word_stands : (w : ℕ) → Stands w (word_at w)
 unfolding word_at Row
-word_stands w h e = mapped _ (λ i. Row i w) _ (word_by (funct3_of w) (funct7_of w)) (word_sound (funct3_of w) (funct7_of w)) (λ o q. (omega (arith, q, under_funct7 w h), refl, refl, refl))
+word_stands w = mapped (λ o. word_bits o ≡ bit_and w 0xfe00707f) (λ i. Row i w) _ (first_with word_bits (bit_and w 0xfe00707f) words) (has_bits word_bits (bit_and w 0xfe00707f) words) (λ o q. (sym q, refl, refl, refl))
 
 fence_stands : (w : ℕ) → opcode_of w ≡ 0x0f → Stands w (fence_at w)
 unfolding fence_at Row
@@ -124,26 +113,26 @@ system_stands : (w : ℕ) → Stands w (system_at w)
 unfolding system_at Row
 system_stands w = if_same (Stands w) w 0x73 _ _ (λ e. e) (if_same (Stands w) w 0x100073 _ _ (λ e. e) tt)
 
-pub decoded_sound : (w : ℕ) → w < 2 ^ 32 → Stands w (decoded w)
+pub decoded_sound : (w : ℕ) → Stands w (decoded w)
 unfolding decoded Row
-decoded_sound w h =
+decoded_sound w =
     if_same (Stands w) (opcode_of w) 0x37 _ _ (λ e. (omega (arith, under_opcode w), refl, refl))
     (if_same (Stands w) (opcode_of w) 0x17 _ _ (λ e. (omega (arith, under_opcode w), refl, refl))
     (if_same (Stands w) (opcode_of w) 0x6f _ _ (λ e. (omega (arith, under_opcode w), refl, refl))
     (if_same (Stands w) (opcode_of w) 0x67 _ _ (jalr_stands w)
-    (if_same (Stands w) (opcode_of w) 0x63 _ _ (branch_stands w)
-    (if_same (Stands w) (opcode_of w) 0x03 _ _ (load_stands w)
-    (if_same (Stands w) (opcode_of w) 0x23 _ _ (store_stands w)
-    (if_same (Stands w) (opcode_of w) 0x13 _ _ (immediate_stands w h)
-    (if_same (Stands w) (opcode_of w) 0x33 _ _ (register_stands w h)
-    (if_same (Stands w) (opcode_of w) 0x1b _ _ (word_immediate_stands w h)
-    (if_same (Stands w) (opcode_of w) 0x3b _ _ (word_stands w h)
+    (if_same (Stands w) (opcode_of w) 0x63 _ _ (λ e. branch_stands w)
+    (if_same (Stands w) (opcode_of w) 0x03 _ _ (λ e. load_stands w)
+    (if_same (Stands w) (opcode_of w) 0x23 _ _ (λ e. store_stands w)
+    (if_same (Stands w) (opcode_of w) 0x13 _ _ (λ e. immediate_stands w)
+    (if_same (Stands w) (opcode_of w) 0x33 _ _ (λ e. register_stands w)
+    (if_same (Stands w) (opcode_of w) 0x1b _ _ (λ e. word_immediate_stands w)
+    (if_same (Stands w) (opcode_of w) 0x3b _ _ (λ e. word_stands w)
     (if_same (Stands w) (opcode_of w) 0x0f _ _ (fence_stands w)
     (if_same (Stands w) (opcode_of w) 0x73 _ _ (λ e. system_stands w) tt))))))))))))
 
 -- ---- each mnemonic is found by its bits
 
-branch_found : (o : BranchOp) → (branch_bits o % 2 ^ 7 ≡ 0x63) × (branch_by (branch_bits o / 2 ^ 12) ≡ Some o)
+branch_found : (o : BranchOp) → (branch_bits o % 2 ^ 7 ≡ 0x63) × (first_with branch_bits (branch_bits o) branches ≡ Some o)
 branch_found Beq = (refl, refl)
 branch_found Bne = (refl, refl)
 branch_found Blt = (refl, refl)
@@ -151,7 +140,7 @@ branch_found Bge = (refl, refl)
 branch_found Bltu = (refl, refl)
 branch_found Bgeu = (refl, refl)
 
-load_found : (o : LoadOp) → (load_bits o % 2 ^ 7 ≡ 0x03) × (load_by (load_bits o / 2 ^ 12) ≡ Some o)
+load_found : (o : LoadOp) → (load_bits o % 2 ^ 7 ≡ 0x03) × (first_with load_bits (load_bits o) loads ≡ Some o)
 load_found Lb = (refl, refl)
 load_found Lh = (refl, refl)
 load_found Lw = (refl, refl)
@@ -160,13 +149,13 @@ load_found Lbu = (refl, refl)
 load_found Lhu = (refl, refl)
 load_found Lwu = (refl, refl)
 
-store_found : (o : StoreOp) → (store_bits o % 2 ^ 7 ≡ 0x23) × (store_by (store_bits o / 2 ^ 12) ≡ Some o)
+store_found : (o : StoreOp) → (store_bits o % 2 ^ 7 ≡ 0x23) × (first_with store_bits (store_bits o) stores ≡ Some o)
 store_found Sb = (refl, refl)
 store_found Sh = (refl, refl)
 store_found Sw = (refl, refl)
 store_found Sd = (refl, refl)
 
-register_found : (o : RegisterOp) → (register_bits o % 2 ^ 7 ≡ 0x33) × (register_by (register_bits o / 2 ^ 12 % 2 ^ 3) (register_bits o / 2 ^ 25) ≡ Some o)
+register_found : (o : RegisterOp) → (register_bits o % 2 ^ 7 ≡ 0x33) × (first_with register_bits (register_bits o) registers ≡ Some o)
 register_found Add = (refl, refl)
 register_found Sub = (refl, refl)
 register_found Sll = (refl, refl)
@@ -178,7 +167,7 @@ register_found Sra = (refl, refl)
 register_found Or = (refl, refl)
 register_found And = (refl, refl)
 
-word_found : (o : WordOp) → (word_bits o % 2 ^ 7 ≡ 0x3b) × (word_by (word_bits o / 2 ^ 12 % 2 ^ 3) (word_bits o / 2 ^ 25) ≡ Some o)
+word_found : (o : WordOp) → (word_bits o % 2 ^ 7 ≡ 0x3b) × (first_with word_bits (word_bits o) words ≡ Some o)
 word_found Addw = (refl, refl)
 word_found Subw = (refl, refl)
 word_found Sllw = (refl, refl)
@@ -187,24 +176,28 @@ word_found Sraw = (refl, refl)
 
 -- ---- what fits a row is found
 
-immediate_of_table : (o : ImmediateOp) (w : ℕ) → (opcode_of w ≡ immediate_bits o % 2 ^ 7) × (funct3_of w ≡ immediate_bits o / 2 ^ 12) → decoded w ≡ Some (immediate_form w o)
+-- opcode and funct3 of a word, under their mask
+low : (w o f : ℕ) → w % 2 ^ 7 ≡ o → w / 2 ^ 12 % 2 ^ 3 ≡ f → bit_and w 0x0000707f ≡ o + 2 ^ 12 * f
+low w o f a b = under_funct3 w ∙ ap (λ x. x + 2 ^ 12 * (w / 2 ^ 12 % 2 ^ 3)) a ∙ ap (λ x. o + 2 ^ 12 * x) b
+
+immediate_of_table : (o : ImmediateOp) (w : ℕ) → opcode_of w ≡ immediate_bits o % 2 ^ 7 → bit_and w 0x0000707f ≡ immediate_bits o → decoded w ≡ Some (immediate_form w o)
 unfolding decoded immediate_at word_immediate_at
-immediate_of_table Addi w f = rw (f.0, f.1) refl
-immediate_of_table Slti w f = rw (f.0, f.1) refl
-immediate_of_table Sltiu w f = rw (f.0, f.1) refl
-immediate_of_table Xori w f = rw (f.0, f.1) refl
-immediate_of_table Ori w f = rw (f.0, f.1) refl
-immediate_of_table Andi w f = rw (f.0, f.1) refl
-immediate_of_table Addiw w f = rw (f.0, f.1) refl
+immediate_of_table Addi w f e = rw (f, e) refl
+immediate_of_table Slti w f e = rw (f, e) refl
+immediate_of_table Sltiu w f e = rw (f, e) refl
+immediate_of_table Xori w f e = rw (f, e) refl
+immediate_of_table Ori w f e = rw (f, e) refl
+immediate_of_table Andi w f e = rw (f, e) refl
+immediate_of_table Addiw w f e = rw (f, e) refl
 
 shift_of_table : (o : ShiftOp) (w : ℕ) → w < 2 ^ 32 → bit_and w (shift_mask o) ≡ shift_bits o → decoded w ≡ Some (shift_form w o)
 unfolding decoded immediate_at word_immediate_at
-shift_of_table Slli w h e = let f = funct6_under w (shift_bits Slli) h e in rw (f.0, f.1, f.2) refl
-shift_of_table Srli w h e = let f = funct6_under w (shift_bits Srli) h e in rw (f.0, f.1, f.2) refl
-shift_of_table Srai w h e = let f = funct6_under w (shift_bits Srai) h e in rw (f.0, f.1, f.2) refl
-shift_of_table Slliw w h e = let f = funct7_under w (shift_bits Slliw) h e in rw (f.0, f.1, f.2) refl
-shift_of_table Srliw w h e = let f = funct7_under w (shift_bits Srliw) h e in rw (f.0, f.1, f.2) refl
-shift_of_table Sraiw w h e = let f = funct7_under w (shift_bits Sraiw) h e in rw (f.0, f.1, f.2) refl
+shift_of_table Slli w h e = let f = funct6_under w (shift_bits Slli) h e in rw (f.0, low w _ _ f.0 f.1, e) refl
+shift_of_table Srli w h e = let f = funct6_under w (shift_bits Srli) h e in rw (f.0, low w _ _ f.0 f.1, e) refl
+shift_of_table Srai w h e = let f = funct6_under w (shift_bits Srai) h e in rw (f.0, low w _ _ f.0 f.1, e) refl
+shift_of_table Slliw w h e = let f = funct7_under w (shift_bits Slliw) h e in rw (f.0, low w _ _ f.0 f.1, e) refl
+shift_of_table Srliw w h e = let f = funct7_under w (shift_bits Srliw) h e in rw (f.0, low w _ _ f.0 f.1, e) refl
+shift_of_table Sraiw w h e = let f = funct7_under w (shift_bits Sraiw) h e in rw (f.0, low w _ _ f.0 f.1, e) refl
 
 pub decoded_complete : (i : Inst) (w : ℕ) → w < 2 ^ 32 → Row i w → decoded w ≡ Some i
 unfolding decoded Row jalr_at branch_at load_at store_at register_at word_at fence_at system_at
@@ -212,17 +205,17 @@ decoded_complete (Lui d i) w h r = let e = opcode_under w 0x37 r.0 in rw (e, r.1
 decoded_complete (Auipc d i) w h r = let e = opcode_under w 0x17 r.0 in rw (e, r.1, r.2) refl
 decoded_complete (Jal d i) w h r = let e = opcode_under w 0x6f r.0 in rw (e, r.1, r.2) refl
 decoded_complete (Jalr d a i) w h r = let f = funct3_under w 0x67 r.0 in rw (f.0, f.1, r.1, r.2, r.3) refl
-decoded_complete (Branch o a b i) w h r = let f = funct3_under w (branch_bits o) r.0 in rw (f.0, (branch_found o).0, f.1, (branch_found o).1, r.1, r.2, r.3) refl
-decoded_complete (Load o d a i) w h r = let f = funct3_under w (load_bits o) r.0 in rw (f.0, (load_found o).0, f.1, (load_found o).1, r.1, r.2, r.3) refl
-decoded_complete (Store o a b i) w h r = let f = funct3_under w (store_bits o) r.0 in rw (f.0, (store_found o).0, f.1, (store_found o).1, r.1, r.2, r.3) refl
-decoded_complete (Immediate o d a i) w h r = rw (immediate_of_table o w (funct3_under w (immediate_bits o) r.0), r.1, r.2, r.3) refl
+decoded_complete (Branch o a b i) w h r = let f = funct3_under w (branch_bits o) r.0 in rw (f.0, (branch_found o).0, r.0, (branch_found o).1, r.1, r.2, r.3) refl
+decoded_complete (Load o d a i) w h r = let f = funct3_under w (load_bits o) r.0 in rw (f.0, (load_found o).0, r.0, (load_found o).1, r.1, r.2, r.3) refl
+decoded_complete (Store o a b i) w h r = let f = funct3_under w (store_bits o) r.0 in rw (f.0, (store_found o).0, r.0, (store_found o).1, r.1, r.2, r.3) refl
+decoded_complete (Immediate o d a i) w h r = rw (immediate_of_table o w (funct3_under w (immediate_bits o) r.0).0 r.0, r.1, r.2, r.3) refl
 decoded_complete (Shift o d a n) w h r = rw (shift_of_table o w h r.0, r.1, r.2, r.3) refl
-decoded_complete (Register o d a b) w h r = let f = funct7_under w (register_bits o) h r.0 in rw (f.0, (register_found o).0, f.1, f.2, (register_found o).1, r.1, r.2, r.3) refl
-decoded_complete (Word o d a b) w h r = let f = funct7_under w (word_bits o) h r.0 in rw (f.0, (word_found o).0, f.1, f.2, (word_found o).1, r.1, r.2, r.3) refl
+decoded_complete (Register o d a b) w h r = let f = funct7_under w (register_bits o) h r.0 in rw (f.0, (register_found o).0, r.0, (register_found o).1, r.1, r.2, r.3) refl
+decoded_complete (Word o d a b) w h r = let f = funct7_under w (word_bits o) h r.0 in rw (f.0, (word_found o).0, r.0, (word_found o).1, r.1, r.2, r.3) refl
 decoded_complete (Fence d a n) w h r = let f = funct3_under w 0x0f r.0 in rw (f.0, f.1, r.1, r.2, r.3) refl
 decoded_complete Ecall w h r = rw r refl
 decoded_complete Ebreak w h r = rw r refl
 
 -- The table, for every word and every instruction.
 pub decoded_row : (w : ℕ) (i : Inst) → w < 2 ^ 32 → (decoded w ≡ Some i) ↔ Row i w
-decoded_row w i h = (λ e. subst (Stands w) e (decoded_sound w h), decoded_complete i w h)
+decoded_row w i h = (λ e. subst (Stands w) e (decoded_sound w), decoded_complete i w h)

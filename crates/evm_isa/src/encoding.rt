@@ -13,82 +13,11 @@ ghost use Rattle.evm_isa.specs.Encoded.{
   encoded,
 };
 ghost use Rattle.evm_isa.specs.Decoded.{decoded};
-ghost use Rattle.evm_isa.specs.Table.{Row, branch_bits, load_bits, store_bits, immediate_bits, shift_bits, register_bits, word_bits};
+ghost use Rattle.evm_isa.specs.Table.{Row};
 ghost use Rattle.std.specs.Prelude.{ℕ, ◌≡◌, ◌↔◌, ◌<◌, ◌≤◌, ◌+◌, ◌*◌, ◌^◌, IfSome};
 
-use crate::inst::{
-    BranchOp, ImmediateOp, Inst, LoadOp, Register, RegisterOp, Shift, ShiftOp, StoreOp, WordOp,
-};
-
-fn branch_bits(op: BranchOp) -> u32
-    ensures value { result ≡ branch_bits op }
-    ensures small { result < 2 ^ 15 }
-{
-    match op {
-        BranchOp::Beq => 0x0000_0063,
-        BranchOp::Bne => 0x0000_1063,
-        BranchOp::Blt => 0x0000_4063,
-        BranchOp::Bge => 0x0000_5063,
-        BranchOp::Bltu => 0x0000_6063,
-        BranchOp::Bgeu => 0x0000_7063,
-    }
-}
-
-fn load_bits(op: LoadOp) -> u32
-    ensures value { result ≡ load_bits op }
-    ensures small { result < 2 ^ 15 }
-{
-    match op {
-        LoadOp::Lb => 0x0000_0003,
-        LoadOp::Lh => 0x0000_1003,
-        LoadOp::Lw => 0x0000_2003,
-        LoadOp::Ld => 0x0000_3003,
-        LoadOp::Lbu => 0x0000_4003,
-        LoadOp::Lhu => 0x0000_5003,
-        LoadOp::Lwu => 0x0000_6003,
-    }
-}
-
-fn store_bits(op: StoreOp) -> u32
-    ensures value { result ≡ store_bits op }
-    ensures small { result < 2 ^ 15 }
-{
-    match op {
-        StoreOp::Sb => 0x0000_0023,
-        StoreOp::Sh => 0x0000_1023,
-        StoreOp::Sw => 0x0000_2023,
-        StoreOp::Sd => 0x0000_3023,
-    }
-}
-
-fn immediate_bits(op: ImmediateOp) -> u32
-    ensures value { result ≡ immediate_bits op }
-    ensures small { result < 2 ^ 15 }
-{
-    match op {
-        ImmediateOp::Addi => 0x0000_0013,
-        ImmediateOp::Slti => 0x0000_2013,
-        ImmediateOp::Sltiu => 0x0000_3013,
-        ImmediateOp::Xori => 0x0000_4013,
-        ImmediateOp::Ori => 0x0000_6013,
-        ImmediateOp::Andi => 0x0000_7013,
-        ImmediateOp::Addiw => 0x0000_001b,
-    }
-}
-
-fn shift_bits(op: ShiftOp) -> u32
-    ensures value { result ≡ shift_bits op }
-    ensures small { result < 2 ^ 31 }
-{
-    match op {
-        ShiftOp::Slli => 0x0000_1013,
-        ShiftOp::Srli => 0x0000_5013,
-        ShiftOp::Srai => 0x4000_5013,
-        ShiftOp::Slliw => 0x0000_101b,
-        ShiftOp::Srliw => 0x0000_501b,
-        ShiftOp::Sraiw => 0x4000_501b,
-    }
-}
+use crate::inst::{Inst, Register, Shift, ShiftOp};
+use crate::mnemonics::Mnemonic;
 
 // How many amounts a shift has.
 fn shift_amounts(op: ShiftOp) -> u8
@@ -97,37 +26,6 @@ fn shift_amounts(op: ShiftOp) -> u8
     match op {
         ShiftOp::Slli | ShiftOp::Srli | ShiftOp::Srai => 64,
         ShiftOp::Slliw | ShiftOp::Srliw | ShiftOp::Sraiw => 32,
-    }
-}
-
-fn register_bits(op: RegisterOp) -> u32
-    ensures value { result ≡ register_bits op }
-    ensures small { result < 2 ^ 31 }
-{
-    match op {
-        RegisterOp::Add => 0x0000_0033,
-        RegisterOp::Sub => 0x4000_0033,
-        RegisterOp::Sll => 0x0000_1033,
-        RegisterOp::Slt => 0x0000_2033,
-        RegisterOp::Sltu => 0x0000_3033,
-        RegisterOp::Xor => 0x0000_4033,
-        RegisterOp::Srl => 0x0000_5033,
-        RegisterOp::Sra => 0x4000_5033,
-        RegisterOp::Or => 0x0000_6033,
-        RegisterOp::And => 0x0000_7033,
-    }
-}
-
-fn word_bits(op: WordOp) -> u32
-    ensures value { result ≡ word_bits op }
-    ensures small { result < 2 ^ 31 }
-{
-    match op {
-        WordOp::Addw => 0x0000_003b,
-        WordOp::Subw => 0x4000_003b,
-        WordOp::Sllw => 0x0000_103b,
-        WordOp::Srlw => 0x0000_503b,
-        WordOp::Sraw => 0x4000_503b,
     }
 }
 
@@ -264,36 +162,36 @@ fn packed(inst: Inst) -> Option<u32>
             rs1,
             rs2,
             offset,
-        } => Some(branch_bits(op) + rs1_bits(rs1) + rs2_bits(rs2) + bits_of_b(offset)?),
+        } => Some(op.bits() + rs1_bits(rs1) + rs2_bits(rs2) + bits_of_b(offset)?),
         Inst::Load {
             op,
             rd,
             rs1,
             offset,
-        } => Some(load_bits(op) + rd_bits(rd) + rs1_bits(rs1) + bits_of_i(offset)?),
+        } => Some(op.bits() + rd_bits(rd) + rs1_bits(rs1) + bits_of_i(offset)?),
         Inst::Store {
             op,
             rs1,
             rs2,
             offset,
-        } => Some(store_bits(op) + rs1_bits(rs1) + rs2_bits(rs2) + bits_of_s(offset)?),
+        } => Some(op.bits() + rs1_bits(rs1) + rs2_bits(rs2) + bits_of_s(offset)?),
         Inst::Immediate {
             op,
             rd,
             rs1,
             immediate,
-        } => Some(immediate_bits(op) + rd_bits(rd) + rs1_bits(rs1) + bits_of_i(immediate)?),
+        } => Some(op.bits() + rd_bits(rd) + rs1_bits(rs1) + bits_of_i(immediate)?),
         Inst::Shift {
             op,
             rd,
             rs1,
             amount,
-        } => Some(shift_bits(op) + rd_bits(rd) + rs1_bits(rs1) + amount_bits(op, amount)?),
+        } => Some(op.bits() + rd_bits(rd) + rs1_bits(rs1) + amount_bits(op, amount)?),
         Inst::Register { op, rd, rs1, rs2 } => {
-            Some(register_bits(op) + rd_bits(rd) + rs1_bits(rs1) + rs2_bits(rs2))
+            Some(op.bits() + rd_bits(rd) + rs1_bits(rs1) + rs2_bits(rs2))
         }
         Inst::Word { op, rd, rs1, rs2 } => {
-            Some(word_bits(op) + rd_bits(rd) + rs1_bits(rs1) + rs2_bits(rs2))
+            Some(op.bits() + rd_bits(rd) + rs1_bits(rs1) + rs2_bits(rs2))
         }
         Inst::Fence { rd, rs1, fields } => {
             Some(0x0f + rd_bits(rd) + rs1_bits(rs1) + fence_bits(fields)?)

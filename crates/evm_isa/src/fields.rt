@@ -6,8 +6,6 @@ ghost use Rattle.evm_isa.specs.Fields.{
   funct3_of,
   rs1_of,
   rs2_of,
-  funct7_of,
-  funct6_of,
   shamt_of,
   fence_of,
   sign_extended,
@@ -31,18 +29,6 @@ pub(crate) fn funct3(word: u32) -> u32
     ensures { result ≡ funct3_of word }
 {
     (word >> 12) & 0x7
-}
-
-pub(crate) fn funct6(word: u32) -> u32
-    ensures { result ≡ funct6_of word }
-{
-    (word >> 26) & 0x3f
-}
-
-pub(crate) fn funct7(word: u32) -> u32
-    ensures { result ≡ funct7_of word }
-{
-    (word >> 25) & 0x7f
 }
 
 pub(crate) fn rd(word: u32) -> Register

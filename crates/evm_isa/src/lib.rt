@@ -6,6 +6,7 @@ mod encoding;
 mod fields;
 mod inst;
 mod laws;
+mod mnemonics;
 
 pub use decoding::decode;
 pub use encoding::encode;
