@@ -1,9 +1,9 @@
 pub mod Booted
 pub mod Commits
 pub mod Journaled
-pub mod Laws
 pub mod Lists
 pub mod Many
+pub mod Outcomes
 pub mod Risen
 pub mod Rules
 pub mod Words

@@ -1,5 +1,5 @@
-use Rattle.evm_core.proofs.Laws as laws
+use Rattle.evm_core.proofs.Outcomes as outcomes
 use Rattle.evm_core.proofs.laws.booted_processors.Goals as goal
 
 pub returns : goal.returns
-returns c = laws.booted_processors
+returns c = outcomes.booted_processors
