@@ -1,20 +1,19 @@
 -- What holds of all states and events.
-use Rattle.std.proofs.Common.{◌≡◌, ℕ, zero, suc, ◌<◌, ◌≤◌, ◌⊎◌, inl, inr, List, [], ◌∷◌, ◌++◌, length, Bool, true, false, Option, Some, None, Result, Ok, Err, refl, sym, ap, ◌∙◌, arith}
+use Rattle.std.proofs.Common.{◌≡◌, ℕ, zero, suc, ◌<◌, ◌≤◌, ◌⊎◌, inl, inr, List, [], ◌∷◌, length, Bool, true, false, Option, Some, None, Err, refl, sym, ap, ◌∙◌, arith}
 use Rattle.std.specs.Prelude.{slice_get, is_none, if◌then◌else◌}
 use Rattle.std.proofs.lemmas.Bool.Decides.{nat_tests}
 use Rattle.evm_lines.specs.declared.TheConstants.{LINES}
 use Rattle.evm_model.specs.Event.{Event}
-use Rattle.evm_model.specs.Good.{GoodState}
 use Rattle.evm_model.specs.Refusals.{is_full, no_such_cpu, no_such_line, board_refusal, refusal}
 use Rattle.evm_model.specs.Replay.{apply, apply_unless, left_by, replay}
-use Rattle.evm_model.specs.State.{State, Board}
+use Rattle.evm_model.specs.State.{State}
 use Rattle.evm_model.specs.declared.boot.Boot.{Boot}
 use Rattle.evm_model.specs.declared.event.Event.TheVariants.{Step, Bell, Tick}
 use Rattle.evm_model.specs.declared.processor.Processor.{Processor}
 use Rattle.evm_model.specs.declared.refusal.Refusal.{Refusal}
 use Rattle.evm_model.specs.declared.refusal.Refusal.TheVariants.{Full, NoSuchCpu, NoSuchLine}
 use Rattle.evm_board.proofs.evm_rules.States.{GoodState-replay}
-use Rattle.evm_core.specs.Laws.{IsFull, IsAbsent, StepRefusals, BellRefusals, TickRefusals, KeepsBoot, KeepsProcessors, BootedProcessors, ReplaysJoin}
+use Rattle.evm_core.specs.Laws.{IsFull, IsAbsent, StepRefusals, BellRefusals, TickRefusals, KeepsBoot, KeepsProcessors, BootedProcessors}
 
 -- ---- refusals
 full : (s : State) → is_full s ≡ true → s.boot.capacity ≤ length s.journal
@@ -79,8 +78,3 @@ booted_processors s g = g.processors
 
 pub same_processors : KeepsProcessors
 same_processors s events g = (GoodState-replay s events g).processors ∙ ap (λ (boot : Boot). boot.cpus) (same_boot s events) ∙ sym g.processors
-
-pub replays_join : ReplaysJoin
-unfolding replay
-replays_join s [] rest = refl
-replays_join s (event ∷ events) rest = replays_join (left_by (apply s event) s) events rest

@@ -1,5 +1,5 @@
 -- What holds of all states and events.
-use Rattle.std.specs.Prelude.{◌≡◌, ℕ, ◌<◌, ◌≤◌, ◌⊎◌, List, ◌++◌, length, Result, Err}
+use Rattle.std.specs.Prelude.{◌≡◌, ℕ, ◌<◌, ◌≤◌, ◌⊎◌, List, length, Err}
 use Rattle.evm_lines.specs.declared.TheConstants.{LINES}
 use Rattle.evm_model.specs.Event.{Event}
 use Rattle.evm_model.specs.Good.{GoodState}
@@ -40,7 +40,3 @@ KeepsProcessors = (s : State) (events : List Event) → GoodState s → length (
 -- a machine on which the rules hold has as many processors as it was booted with
 abbrev pub BootedProcessors : Type 0
 BootedProcessors = (s : State) → GoodState s → length s.board.parts.processors ≡ s.boot.cpus
-
--- a replay of two lists, one behind the other, is a replay of the second from where the first led
-abbrev pub ReplaysJoin : Type 0
-ReplaysJoin = (s : State) (first rest : List Event) → replay s (first ++ rest) ≡ replay (replay s first) rest

@@ -1,7 +1,7 @@
 //! What a caller may rest on, whatever the machine and the events. The functions do nothing: their contracts are the
 //! laws.
 
-ghost use Rattle.evm_core.specs.Laws.{BellRefusals, BootedProcessors, KeepsBoot, KeepsProcessors, ReplaysJoin, StepRefusals, TickRefusals};
+ghost use Rattle.evm_core.specs.Laws.{BellRefusals, BootedProcessors, KeepsBoot, KeepsProcessors, StepRefusals, TickRefusals};
 
 /// A Step is refused as Full on a full journal, and as NoSuchCpu where there is no such processor, and for no other
 /// reason.
@@ -32,9 +32,4 @@ pub fn same_processors()
 /// There are as many processors as the machine was booted with.
 pub fn booted_processors()
     ensures { BootedProcessors }
-{}
-
-/// A replay of two lists, one behind the other, is a replay of the second from where the first led.
-pub fn replays_join()
-    ensures { ReplaysJoin }
 {}

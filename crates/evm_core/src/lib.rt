@@ -17,8 +17,7 @@ pub use evm_exec::Burst;
 pub use evm_history::{EventLine, Journal, MAX_STEPS};
 pub use evm_model::{Answer, Boot, Event, Refusal};
 pub use laws::{
-    bell_refusals, booted_processors, replays_join, same_boot, same_processors, step_refusals,
-    tick_refusals,
+    bell_refusals, booted_processors, same_boot, same_processors, step_refusals, tick_refusals,
 };
 pub use machine::Machine;
 pub use stages::Stages;
