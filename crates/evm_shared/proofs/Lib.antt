@@ -1,2 +1,3 @@
-pub mod Counting
 pub mod Bells
+pub mod Counting
+pub mod Tested

@@ -7,6 +7,7 @@ use crate::receipt::Receipt;
 use evm_core::Machine;
 use evm_dev::Device;
 use evm_lines::LINES;
+use evm_model::Event;
 use std::sync::ledger::Ledger;
 
 /// The first place of some ports that is not true.
@@ -16,6 +17,13 @@ pub struct Mismatch {
     pub port: usize,
     /// Which of its receipts, or their number if it is a mark.
     pub index: usize,
+}
+
+// Whether two events are the same, or are both missing.
+fn is_same(a: &Option<Event>, b: &Option<Event>) -> bool
+    ensures { (result ≡ true) ↔ (a.now ≡ b.now) }
+{
+    *a == *b
 }
 
 // Whether the journal has the events of a receipt at its positions.
@@ -33,7 +41,8 @@ fn has_events<D: Device>(machine: &Machine<D>, receipt: &Receipt) -> bool
         return false;
     }
     for k in 0..count {
-        if machine.event_at((receipt.position + k) as usize) != receipt.made.event(k) {
+        let found = machine.event_at((receipt.position + k) as usize);
+        if !is_same(&found, &receipt.made.event(k)) {
             return false;
         }
     }

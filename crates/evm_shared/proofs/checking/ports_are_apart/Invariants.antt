@@ -5,4 +5,4 @@ use Rattle.evm_shared.specs.Receipts.{AreApart}
 use Rattle.evm_shared.proofs.checking.ports_are_apart.Given as goal
 
 abbrev pub invariant-loop-port : goal.invariant-loop-port
-invariant-loop-port l = All (λ p. All (λ o. AreApart o l.receipt) p.receipts) (take l.port-index (lent l.ports))
+invariant-loop-port g l = All (λ p. All (λ o. AreApart o l.receipt) p.receipts) (take l.port-index (lent l.ports))
