@@ -1,9 +1,12 @@
 pub mod Booted
+pub mod Commits
 pub mod Journaled
 pub mod Lists
 pub mod Many
+pub mod Outcomes
 pub mod Risen
 pub mod Rules
+pub mod Words
 pub use Rattle.evm_history.proofs as evm_history
 pub use Rattle.evm_board.proofs.evm_rules as evm_rules
 pub use Rattle.evm_board.proofs.evm_walk as evm_walk

@@ -2,6 +2,7 @@
 //! with a growth behind the boot's refused (`rt try --test --fail-alloc N`) each answer stays.
 
 mod attaching;
+mod committing;
 mod gauge;
 
 use crate::{Answer, Event, Machine, Refusal};

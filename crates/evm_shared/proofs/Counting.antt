@@ -1,0 +1,57 @@
+-- Counts of events.
+use Rattle.std.proofs.Common.{◌≡◌, ℕ, zero, suc, ◌+◌, ◌^◌, ◌<◌, ◌≤◌, ◌⊎◌, inl, inr, List, [], ◌∷◌, ◌++◌, length, refl, sym, ap, ◌∙◌, arith, ⊎_elim, Err}
+use Rattle.std.proofs.lemmas.List.Sums.{count_by-le-length}
+use Rattle.std.specs.Prelude.{replicate}
+use Rattle.evm_model.proofs.Counting.{kinds_add_up}
+use Rattle.evm_model.specs.Event.{Event}
+use Rattle.evm_model.specs.Kinds.{Kind, AStep, ABell, Another, kind_of, is_same_kind, kind_count}
+use Rattle.evm_model.specs.declared.event.Event.TheVariants as event
+use Rattle.evm_shared.specs.EventCounts.{counts, none, plus, counts_of, AreWithin, Fit}
+use Rattle.evm_shared.specs.declared.event_counts.EventCounts.{EventCounts}
+
+-- equal in each kind
+pub same_counts : (a b : EventCounts) → a.steps ≡ b.steps → a.bells ≡ b.bells → a.others ≡ b.others → a ≡ b
+same_counts a b s l o = λ i. counts (s i) (l i) (o i)
+
+pub counts_append : (xs ys : List Event) → counts_of (xs ++ ys) ≡ plus (counts_of xs) (counts_of ys)
+counts_append xs ys = same_counts _ _ (kinds_add_up AStep xs ys) (kinds_add_up ABell xs ys) (kinds_add_up Another xs ys)
+
+one_step : (c : ℕ) → counts_of (event.Step c ∷ []) ≡ counts 1 0 0
+one_step c = refl
+
+pub counts_steps : (n c : ℕ) → counts_of (replicate n (event.Step c)) ≡ counts n 0 0
+counts_steps zero c = refl
+counts_steps (suc n) c =
+    let all = counts_append (event.Step c ∷ []) (replicate n (event.Step c)) in
+    let rest = counts_steps n c in
+    let one = one_step c in
+    same_counts _ _
+    (omega (arith, ap (λ (x : EventCounts). x.steps) all, ap (λ (x : EventCounts). x.steps) rest, ap (λ (x : EventCounts). x.steps) one))
+    (omega (arith, ap (λ (x : EventCounts). x.bells) all, ap (λ (x : EventCounts). x.bells) rest, ap (λ (x : EventCounts). x.bells) one))
+    (omega (arith, ap (λ (x : EventCounts). x.others) all, ap (λ (x : EventCounts). x.others) rest, ap (λ (x : EventCounts). x.others) one))
+
+-- no kind has more events than there are
+pub counts_below : (events : List Event) → ((counts_of events).steps ≤ length events) × ((counts_of events).bells ≤ length events) × ((counts_of events).others ≤ length events)
+counts_below events = (
+      count_by-le-length (λ e. is_same_kind (kind_of e) AStep) events,
+      count_by-le-length (λ e. is_same_kind (kind_of e) ABell) events,
+      count_by-le-length (λ e. is_same_kind (kind_of e) Another) events,
+    )
+
+-- the counts after some events more
+pub counted_more : (base book more : EventCounts) (old new added : List Event) → counts_of old ≡ plus base book → new ≡ old ++ added → counts_of added ≡ more → counts_of new ≡ plus base (plus book more)
+counted_more base book more old new added counted journal kinds =
+    let all = ap counts_of journal ∙ counts_append old added in
+    same_counts _ _
+    (omega (arith, ap (λ (n : EventCounts). n.steps) all, ap (λ (n : EventCounts). n.steps) counted, ap (λ (n : EventCounts). n.steps) kinds))
+    (omega (arith, ap (λ (n : EventCounts). n.bells) all, ap (λ (n : EventCounts). n.bells) counted, ap (λ (n : EventCounts). n.bells) kinds))
+    (omega (arith, ap (λ (n : EventCounts). n.others) all, ap (λ (n : EventCounts). n.others) counted, ap (λ (n : EventCounts). n.others) kinds))
+
+-- a book of a journal whose length is below 2 ^ 64
+pub book_fits : (base book : EventCounts) (journal : List Event) → counts_of journal ≡ plus base book → length journal < 2 ^ 64 → Fit book
+book_fits base book journal counted short =
+    let low = counts_below journal in (
+      omega (arith, low.0, ap (λ (n : EventCounts). n.steps) counted),
+      omega (arith, low.1, ap (λ (n : EventCounts). n.bells) counted),
+      omega (arith, low.2, ap (λ (n : EventCounts). n.others) counted),
+    )

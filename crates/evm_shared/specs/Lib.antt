@@ -1,0 +1,4 @@
+pub mod Checks
+pub mod EventCounts
+pub mod Ports
+pub mod Receipts

@@ -1,0 +1,86 @@
+-- What contracts see of shares, of ports and of what lies under the lock.
+use Rattle.std.specs.Prelude.{◌≡◌, ℕ, ◌+◌, ◌-◌, ◌≤◌, ◌⊎◌, ◌==◌, if◌then◌else◌, Bool, true, false, MatchBool, List, [], ◌∷◌, ◌++◌, length}
+use Rattle.evm_model.specs.Replay.{start, IsReplayOf}
+use Rattle.evm_model.specs.State.{State}
+use Rattle.evm_model.specs.declared.refusal.Refusal.{Refusal}
+use Rattle.evm_model.specs.declared.refusal.Refusal.TheVariants.{Full, NoSuchCpu}
+use Rattle.evm_shared.specs.EventCounts.{counts, none, plus, counts_of}
+use Rattle.evm_shared.specs.Receipts.{receipt, events_of}
+use Rattle.evm_shared.specs.declared.event_counts.EventCounts.{EventCounts}
+use Rattle.evm_shared.specs.declared.receipt.Made.{Made}
+use Rattle.evm_shared.specs.declared.receipt.Made.TheVariants.{Bells}
+use Rattle.evm_shared.specs.declared.receipt.Receipt.{Receipt}
+
+-- some parts of the ledgers, and what they have counted
+pub record SharesValue : Type 0 where
+  pub parts : ℕ
+  pub amount : EventCounts
+
+abbrev pub shares_of : ℕ → EventCounts → SharesValue
+shares_of parts amount = record { parts = parts; amount = amount }
+
+-- a machine, and the book of the events since it came under the lock
+pub record LockedValue : Type 0 where
+  pub machine : State
+  pub book : EventCounts
+
+-- the machine is its journal's replay from start, and its journal has as many events of each kind as base and book
+pub record IsAccounted (start : State) (base : EventCounts) (machine : State) (book : EventCounts) : Type 0 where
+  pub replays : IsReplayOf start machine
+  pub counted : counts_of machine.journal ≡ plus base book
+
+-- the events made through it, its receipts and the room for more, the journal's length when it was made, and its marks
+pub record PortValue : Type 0 where
+  pub share : EventCounts
+  pub receipts : List Receipt
+  pub room : ℕ
+  pub since : ℕ
+  pub full : Bool
+  pub short : Bool
+
+-- a port that was just made
+abbrev pub fresh_port : ℕ → ℕ → PortValue
+fresh_port receipts since = record { share = none; receipts = []; room = receipts; since = since; full = false; short = false }
+
+-- what all of them have made
+abbrev pub made_by : List PortValue → EventCounts
+made_by [] = none
+made_by (p ∷ ports) = plus p.share (made_by ports)
+
+-- no machine: it has no processor
+abbrev pub no_machine : State
+no_machine = start [] (record { cpus = 0; ram = 0; capacity = 0 })
+
+-- ---- what a call leaves of its port
+
+-- with a receipt, where there was room
+abbrev pub recorded : ℕ → Made → PortValue → PortValue
+recorded position made p = if p.room == 0 then p else (record p { receipts = p.receipts ++ receipt position made ∷ []; room = p.room - 1 })
+
+-- a call that was accepted at some position of the journal: the share has grown by these counts, and there is a receipt
+abbrev pub HasMade : PortValue → Made → EventCounts → PortValue → Type 0
+HasMade old made more new = (position : ℕ) × (new ≡ recorded position made (record old { share = plus old.share more }))
+
+-- a deliver that took these lines of processor c: where there are any, they are its Bells
+abbrev pub Delivered : PortValue → ℕ → ℕ → PortValue → Type 0
+Delivered old c word new = MatchBool (word == 0) (new ≡ old) (HasMade old (Bells c word) (counts 0 (length (events_of (Bells c word))) 0) new)
+
+-- a call that was refused: a Full sets the mark full, and nothing else is changed
+abbrev pub marked : Refusal → PortValue → PortValue
+marked Full p = record p { full = true }
+marked _ p = p
+
+-- a deliver that was refused: a Full sets the mark short, and nothing else is changed
+abbrev pub marked_short : Refusal → PortValue → PortValue
+marked_short Full p = record p { short = true }
+marked_short _ p = p
+
+-- ---- why calls are refused
+
+-- a call on processor c: the journal is full, or start lacks the processor
+abbrev pub RefusesCpu : State → ℕ → Refusal → Type 0
+RefusesCpu start c why = (why ≡ Full) ⊎ ((why ≡ NoSuchCpu) × (start.boot.cpus ≤ c))
+
+-- a deliver: there is no room for each line, or start or the bells lack the processor
+abbrev pub RefusesBells : State → ℕ → ℕ → Refusal → Type 0
+RefusesBells start cpus c why = (why ≡ Full) ⊎ ((why ≡ NoSuchCpu) × ((start.boot.cpus ≤ c) ⊎ (cpus ≤ c)))

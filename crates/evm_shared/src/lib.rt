@@ -1,0 +1,14 @@
+//! A machine under a lock: threads make events through ports, whose shares add up to what the journal has of each kind.
+#![tactic(auto)]
+
+mod checking;
+mod event_counts;
+mod ledgers;
+mod port;
+mod receipt;
+
+pub use checking::{Mismatch, check_receipts};
+pub use event_counts::EventCounts;
+pub use ledgers::Blanks;
+pub use port::Port;
+pub use receipt::{Made, Receipt};
