@@ -1,5 +1,5 @@
 -- What contracts see of shares, of ports and of what lies under the lock.
-use Rattle.std.specs.Prelude.{◌≡◌, ℕ, ◌+◌, ◌-◌, ◌<◌, ◌≤◌, ◌⊎◌, ◌==◌, if◌then◌else◌, Bool, true, false, MatchBool, List, [], ◌∷◌, ◌++◌, length, Option, Some, None, Result, Ok}
+use Rattle.std.specs.Prelude.{◌≡◌, ℕ, ◌+◌, ◌-◌, ◌<◌, ◌≤◌, ◌⊎◌, ◌==◌, if◌then◌else◌, Bool, true, false, MatchBool, List, [], ◌∷◌, ◌++◌, length, Option, Some, None, Result, Ok, Err, MatchResult}
 use Rattle.evm_core.specs.Commit.{LastAnswers, code_at, current_hart}
 use Rattle.evm_core.specs.Steps.{steps}
 use Rattle.evm_core.specs.declared.committing.Committed.{Committed}
@@ -8,13 +8,14 @@ use Rattle.evm_model.specs.Event.{Event}
 use Rattle.evm_model.specs.Replay.{apply, start, IsReplayOf}
 use Rattle.evm_model.specs.State.{State}
 use Rattle.evm_model.specs.declared.event.Answer.{Answer}
+use Rattle.evm_model.specs.declared.event.Event.TheVariants.{Step}
 use Rattle.evm_model.specs.declared.refusal.Refusal.{Refusal}
 use Rattle.evm_model.specs.declared.refusal.Refusal.TheVariants.{Full, NoSuchCpu}
 use Rattle.evm_shared.specs.EventCounts.{counts, none, plus, counts_of}
 use Rattle.evm_shared.specs.Receipts.{receipt, events_of}
 use Rattle.evm_shared.specs.declared.event_counts.EventCounts.{EventCounts}
 use Rattle.evm_shared.specs.declared.receipt.Made.{Made}
-use Rattle.evm_shared.specs.declared.receipt.Made.TheVariants.{Bells}
+use Rattle.evm_shared.specs.declared.receipt.Made.TheVariants.{Steps, Bells, One}
 use Rattle.evm_shared.specs.declared.receipt.Receipt.{Receipt}
 
 -- some parts of the ledgers, and what they have counted
@@ -107,9 +108,32 @@ abbrev pub RefusesBells : State → ℕ → ℕ → Refusal → Type 0
 RefusesBells s cpus c why =
     ((why ≡ Full) × (s.boot.capacity < length s.journal + LINES)) ⊎ ((why ≡ NoSuchCpu) × ((length s.board.parts.processors ≤ c) ⊎ (cpus ≤ c)))
 
--- ---- why a call on processor c is refused, by the machine that was shared: Full, or there is no such processor
+-- ---- calls through a port, by what they return and what they leave of the port
+
+abbrev pub MakesSteps : State → ℕ → Result Committed Refusal → PortValue → PortValue → Type 0
+MakesSteps start c result old new =
+    Found start (λ before. MatchResult result
+    (λ done. IsCommit before c done × Records before (Steps c done.steps) (counts done.steps 0 0) old new)
+    (λ why. (apply before (Step c) ≡ Err why) × (new ≡ marked why old)))
+
+abbrev pub MakesBells : State → ℕ → ℕ → Result ℕ Refusal → PortValue → PortValue → Type 0
+MakesBells start cpus c result old new =
+    Found start (λ before. MatchResult result
+    (λ word. HasRoom before × Delivers before c word old new)
+    (λ why. RefusesBells before cpus c why × (new ≡ marked_short why old)))
+
+abbrev pub MakesOne : State → Event → Result Answer Refusal → PortValue → PortValue → Type 0
+MakesOne start event result old new =
+    Found start (λ before. MatchResult result
+    (λ answer. Accepts before event answer × Records before (One event) (counts_of (event ∷ [])) old new)
+    (λ why. (apply before event ≡ Err why) × (new ≡ marked why old)))
+
+-- ---- why a call on processor c is refused: Full, or no such processor
+
+-- the machine lacks it
 abbrev pub RefusesCpu : State → ℕ → Refusal → Type 0
 RefusesCpu start c why = (why ≡ Full) ⊎ ((why ≡ NoSuchCpu) × (start.boot.cpus ≤ c))
 
+-- the machine or the bells lack it
 abbrev pub RefusesEither : State → ℕ → ℕ → Refusal → Type 0
 RefusesEither start cpus c why = (why ≡ Full) ⊎ ((why ≡ NoSuchCpu) × ((start.boot.cpus ≤ c) ⊎ (cpus ≤ c)))

@@ -7,6 +7,7 @@ mod ledgers;
 mod locked;
 mod port;
 mod receipt;
+mod shared;
 
 pub use checking::{Mismatch, check_receipts};
 pub use event_counts::EventCounts;
@@ -14,3 +15,4 @@ pub use ledgers::Blanks;
 pub use locked::Origin;
 pub use port::Port;
 pub use receipt::{Made, Receipt};
+pub use shared::{Finished, Refused, Shared, Unfinished};
