@@ -1,5 +1,5 @@
 -- What contracts see of shares, of ports and of what lies under the lock.
-use Rattle.std.specs.Prelude.{◌≡◌, ℕ, ◌+◌, ◌-◌, ◌<◌, ◌≤◌, ◌⊎◌, ◌==◌, if◌then◌else◌, Bool, true, false, MatchBool, List, [], ◌∷◌, ◌++◌, length, Option, Some, None, Result, Ok, Err, MatchResult}
+use Rattle.std.specs.Prelude.{◌≡◌, ℕ, ◌+◌, ◌-◌, ◌<◌, ◌≤◌, ◌⊎◌, ◌==◌, if◌then◌else◌, Bool, true, false, MatchBool, nat_lt, List, [], ◌∷◌, ◌++◌, length, Option, Some, None, Result, Ok, Err, MatchResult}
 use Rattle.evm_core.specs.Commit.{LastAnswers, code_at, current_hart}
 use Rattle.evm_core.specs.Steps.{steps}
 use Rattle.evm_core.specs.declared.committing.Committed.{Committed}
@@ -10,9 +10,11 @@ use Rattle.evm_model.specs.State.{State}
 use Rattle.evm_model.specs.declared.event.Answer.{Answer}
 use Rattle.evm_model.specs.declared.event.Event.TheVariants.{Step}
 use Rattle.evm_model.specs.declared.refusal.Refusal.{Refusal}
-use Rattle.evm_model.specs.declared.refusal.Refusal.TheVariants.{Full, NoSuchCpu}
+use Rattle.evm_model.specs.declared.refusal.Refusal.TheVariants.{Full, NoSuchCpu, BadSize, NoMemory}
 use Rattle.evm_shared.specs.EventCounts.{counts, none, plus, counts_of}
 use Rattle.evm_shared.specs.Receipts.{receipt, events_of}
+use Rattle.evm_room.specs.Growth.{RefusedWithin}
+use Rattle.evm_shared.specs.declared.shared.TheConstants.{PORT_LIMIT}
 use Rattle.evm_shared.specs.declared.event_counts.EventCounts.{EventCounts}
 use Rattle.evm_shared.specs.declared.receipt.Made.{Made}
 use Rattle.evm_shared.specs.declared.receipt.Made.TheVariants.{Steps, Bells, One}
@@ -57,6 +59,16 @@ made_by (p ∷ ports) = plus p.share (made_by ports)
 -- no machine: it has no processor
 abbrev pub no_machine : State
 no_machine = start [] (record { cpus = 0; ram = 0; capacity = 0 })
+
+-- a number of ports that is outside its limits
+abbrev pub bad_ports : ℕ → Bool
+bad_ports n = if n == 0 then true else nat_lt PORT_LIMIT n
+
+-- why a machine is not shared by so many ports, with room for so many receipts each
+abbrev pub RefusesPorts : ℕ → ℕ → Refusal → Type 0
+RefusesPorts ports receipts BadSize = bad_ports ports ≡ true
+RefusesPorts ports receipts NoMemory = (bad_ports ports ≡ false) × RefusedWithin (ports + receipts)
+RefusesPorts ports receipts _ = ⊥
 
 -- ---- what a call leaves of its port
 

@@ -16,5 +16,5 @@ pub use ledgers::Blanks;
 pub use locked::Origin;
 pub use port::Port;
 pub use receipt::{Made, Receipt};
-pub use shared::{Finished, Refused, Shared, Unfinished};
+pub use shared::{Finished, PORT_LIMIT, Refused, Shared, Unfinished};
 pub use worker::{Gate, Worker};

@@ -1,7 +1,7 @@
-ghost use Rattle.std.specs.Prelude.{◌≡◌, ◌≢◌, ◌+◌, ◌<◌, ◌≤◌, [], ◌∷◌, ◌++◌, ◌⊎◌, length, replicate, IfErr, IfOk, MatchResult};
+ghost use Rattle.std.specs.Prelude.{◌≡◌, ◌≢◌, ◌+◌, ◌<◌, ◌≤◌, [], ◌∷◌, ◌++◌, false, length, replicate, IfErr, IfOk, MatchResult};
 ghost use Rattle.evm_model.specs.Replay.{IsReplayOf};
 ghost use Rattle.evm_shared.specs.EventCounts.{Fit, counts_of, none, plus};
-ghost use Rattle.evm_shared.specs.Ports.{MakesBells, MakesOne, MakesSteps, RefusesCpu, RefusesEither, fresh_port, made_by, shares_of};
+ghost use Rattle.evm_shared.specs.Ports.{MakesBells, MakesOne, MakesSteps, RefusesCpu, RefusesEither, RefusesPorts, bad_ports, fresh_port, made_by, shares_of};
 
 use crate::event_counts::EventCounts;
 use crate::ledgers::{Blanks, Books, Shares};
@@ -12,10 +12,14 @@ use evm_core::{Committed, Machine};
 use evm_dev::Device;
 use evm_exec::Burst;
 use evm_model::{Answer, Event, Refusal};
-use std::alloc::{AllocError, Global};
+use evm_room::with_room;
+use std::alloc::Global;
 use std::marker::{Model, PhantomData};
 use std::sync::ledger::Ledger;
 use std::sync::{Mutex, Wait};
+
+/// How many ports a machine has at most.
+pub const PORT_LIMIT: u8 = 16;
 
 /// A machine under a lock. `O` names where it began to be shared, and `S`, `B` and `T` name the ledgers of Steps, of
 /// Bells and of other events.
@@ -65,16 +69,17 @@ fn new_ports<S: Ledger, B: Ledger, T: Ledger>(
     ports: u8,
     receipts: u32,
     since: u64,
-) -> Result<Vec<Port<S, B, T>>, AllocError>
+) -> Result<Vec<Port<S, B, T>>, evm_room::Refused>
     requires { all ≡ shares_of ports none }
-    ensures { IfOk result (λ made. made.items ≡ replicate ports (fresh_port receipts since)) }
+    ensures made { IfOk result (λ made. made.items ≡ replicate ports (fresh_port receipts since)) }
+    ensures refused { IfErr result (λ asked. asked ≤ ports + receipts) }
 {
-    let mut made = Vec::with_capacity(alloc, ports as usize)?;
+    let mut made = with_room(alloc, ports as usize)?;
     for _ in 0..ports {
         made.push_reserved(Port {
             shares: all.one(),
             share: EventCounts::none(),
-            receipts: Vec::with_capacity(alloc, receipts as usize)?,
+            receipts: with_room(alloc, receipts as usize)?,
             room: receipts as usize,
             since,
             full: false,
@@ -100,10 +105,10 @@ impl<D: Device, O: Origin, S: Ledger, B: Ledger, T: Ledger> Shared<D, O, S, B, T
         requires others { (blanks.others.name ≡ T.name) × (blanks.others.parts ≡ T.parts) × (T.parts ≡ ports) }
         ensures ok { IfOk result (λ made. (made.0 ≡ ports) × (made.1.items ≡ replicate ports (fresh_port receipts (length machine.journal)))) }
         ensures back { IfErr result (λ refused. refused.machine ≡ machine) }
-        ensures size { IfErr result (λ refused. (refused.refusal ≡ Refusal.BadSize) ⊎ (refused.refusal ≡ Refusal.NoMemory)) }
-        ensures ports { IfOk result (λ made. (0 < ports) × (ports ≤ 16)) }
+        ensures refused { IfErr result (λ refused. RefusesPorts ports receipts refused.refusal) }
+        ensures ports { IfOk result (λ made. bad_ports ports ≡ false) }
     {
-        if ports == 0 || ports > 16 {
+        if ports == 0 || ports > PORT_LIMIT {
             return Err(Refused {
                 refusal: Refusal::BadSize,
                 machine,
@@ -111,11 +116,15 @@ impl<D: Device, O: Origin, S: Ledger, B: Ledger, T: Ledger> Shared<D, O, S, B, T
         }
         let since = machine.event_count();
         let (books, all) = blanks.open::<S, B, T>();
-        let Ok(made) = new_ports(alloc, all, ports, receipts, since) else {
-            return Err(Refused {
-                refusal: Refusal::NoMemory,
-                machine,
-            });
+        let made = match new_ports(alloc, all, ports, receipts, since) {
+            Ok(made) => made,
+            Err(refused) => {
+                refused.within();
+                return Err(Refused {
+                    refusal: Refusal::NoMemory,
+                    machine,
+                });
+            }
         };
         let locked = Mutex::new(Locked {
             machine,

@@ -1,5 +1,5 @@
-ghost use Rattle.std.specs.Prelude.{◌≡◌, ℕ, ◌+◌, ◌<◌, ◌≤◌, All, IfOk, MatchResult, length, slice_index_or, Option};
-ghost use Rattle.evm_shared.specs.Workers.{HasTurned, WorkerValue, least_refusal, lesser};
+ghost use Rattle.std.specs.Prelude.{◌≡◌, ℕ, ◌+◌, ◌<◌, ◌≤◌, All, IfErr, IfOk, IsOk, MatchResult, length, slice_index_or, Option};
+ghost use Rattle.evm_shared.specs.Workers.{HasTurned, RefusesTurn, WorkerValue, least_refusal, lesser};
 
 use crate::locked::Origin;
 use crate::port::Port;
@@ -88,7 +88,8 @@ impl<S: Ledger, B: Ledger, T: Ledger> Worker<S, B, T> {
         port: Port<S, B, T>,
         taker: Taker,
     ) -> Result<Worker<S, B, T>, (Port<S, B, T>, Taker)>
-        ensures { MatchResult result (λ w. (w.cpu ≡ cpu) × (w.port ≡ port) × (w.taker ≡ taker)) (λ back. (back.0 ≡ port) × (back.1 ≡ taker)) }
+        ensures never { IsOk result }
+        ensures parts { MatchResult result (λ w. (w.cpu ≡ cpu) × (w.port ≡ port) × (w.taker ≡ taker)) (λ back. (back.0 ≡ port) × (back.1 ≡ taker)) }
     {
         let _ = alloc;
         Ok(Worker {
@@ -118,6 +119,7 @@ impl<S: Ledger, B: Ledger, T: Ledger> Worker<S, B, T> {
     ) -> Result<(), Refusal>
         requires { self.old.taker.bells ≡ bells.now.id }
         ensures same { (self.new.cpu ≡ self.old.cpu) × (self.new.taker.bells ≡ self.old.taker.bells) × (self.new.refused ≡ self.old.refused) }
+        ensures refused { IfErr result (λ why. RefusesTurn O.start bells.now.cpus self.old.cpu why) }
         ensures steps { IfOk result (λ _. self.old.port.share.steps + 1 ≤ self.new.port.share.steps) }
     {
         gate.before(self.cpu, turn);
@@ -137,7 +139,7 @@ impl<S: Ledger, B: Ledger, T: Ledger> Worker<S, B, T> {
         gate: &G,
     )
         requires { self.old.taker.bells ≡ bells.now.id }
-        ensures { HasTurned turns self.old self.new }
+        ensures { HasTurned O.start bells.now.cpus turns self.old self.new }
     {
         self.refused = None;
         for turn in 0..turns {
@@ -173,7 +175,7 @@ impl<
     ) -> Result<(), Refusal>
         requires bells { All (λ (w : WorkerValue). w.taker.bells ≡ bells.now.id) workers.old }
         ensures count { length workers.new ≡ length workers.old }
-        ensures turns { (i : ℕ) (d : WorkerValue) → i < length workers.old → HasTurned turns (slice_index_or workers.old i d) (slice_index_or workers.new i d) }
+        ensures turns { (i : ℕ) (d : WorkerValue) → i < length workers.old → HasTurned O.start bells.now.cpus turns (slice_index_or workers.old i d) (slice_index_or workers.new i d) }
         ensures bells { All (λ (w : WorkerValue). w.taker.bells ≡ bells.now.id) workers.new }
         ensures least { MatchResult result (λ _. least_refusal workers.new ≡ Option.None) (λ why. least_refusal workers.new ≡ Option.Some why) }
     {
@@ -187,7 +189,7 @@ impl<
             threads,
             &|_, w: &mut Worker<S, B, T>|
                 requires { w.old.taker.bells ≡ bells.now.id }
-                ensures { HasTurned turns w.old w.new × (w.new.taker.bells ≡ bells.entry.now.id) }
+                ensures { HasTurned O.start bells.entry.now.cpus turns w.old w.new × (w.new.taker.bells ≡ bells.entry.now.id) }
             { w.turns(rt, self, bells, turns, gate) },
         );
         match least_refusal(workers) {
