@@ -1,3 +1,4 @@
 pub mod Bells
 pub mod Counting
+pub mod Locks
 pub mod Tested

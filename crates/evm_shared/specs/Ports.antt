@@ -1,14 +1,21 @@
 -- What contracts see of shares, of ports and of what lies under the lock.
-use Rattle.std.specs.Prelude.{◌≡◌, ℕ, ◌+◌, ◌-◌, ◌≤◌, ◌⊎◌, ◌==◌, if◌then◌else◌, Bool, true, false, MatchBool, List, [], ◌∷◌, ◌++◌, length}
-use Rattle.evm_model.specs.Replay.{start, IsReplayOf}
+use Rattle.std.specs.Prelude.{◌≡◌, ℕ, ◌+◌, ◌-◌, ◌<◌, ◌≤◌, ◌⊎◌, ◌==◌, if◌then◌else◌, Bool, true, false, MatchBool, List, [], ◌∷◌, ◌++◌, length, Option, Some, None, Result, Ok, Err, MatchResult}
+use Rattle.evm_core.specs.Commit.{LastAnswers, code_at, current_hart}
+use Rattle.evm_core.specs.Steps.{steps}
+use Rattle.evm_core.specs.declared.committing.Committed.{Committed}
+use Rattle.evm_lines.specs.declared.TheConstants.{LINES}
+use Rattle.evm_model.specs.Event.{Event}
+use Rattle.evm_model.specs.Replay.{apply, start, IsReplayOf}
 use Rattle.evm_model.specs.State.{State}
+use Rattle.evm_model.specs.declared.event.Answer.{Answer}
+use Rattle.evm_model.specs.declared.event.Event.TheVariants.{Step}
 use Rattle.evm_model.specs.declared.refusal.Refusal.{Refusal}
 use Rattle.evm_model.specs.declared.refusal.Refusal.TheVariants.{Full, NoSuchCpu}
 use Rattle.evm_shared.specs.EventCounts.{counts, none, plus, counts_of}
 use Rattle.evm_shared.specs.Receipts.{receipt, events_of}
 use Rattle.evm_shared.specs.declared.event_counts.EventCounts.{EventCounts}
 use Rattle.evm_shared.specs.declared.receipt.Made.{Made}
-use Rattle.evm_shared.specs.declared.receipt.Made.TheVariants.{Bells}
+use Rattle.evm_shared.specs.declared.receipt.Made.TheVariants.{Steps, Bells, One}
 use Rattle.evm_shared.specs.declared.receipt.Receipt.{Receipt}
 
 -- some parts of the ledgers, and what they have counted
@@ -57,13 +64,14 @@ no_machine = start [] (record { cpus = 0; ram = 0; capacity = 0 })
 abbrev pub recorded : ℕ → Made → PortValue → PortValue
 recorded position made p = if p.room == 0 then p else (record p { receipts = p.receipts ++ receipt position made ∷ []; room = p.room - 1 })
 
--- a call that was accepted at some position of the journal: the share has grown by these counts, and there is a receipt
-abbrev pub HasMade : PortValue → Made → EventCounts → PortValue → Type 0
-HasMade old made more new = (position : ℕ) × (new ≡ recorded position made (record old { share = plus old.share more }))
+-- a call that was accepted on this machine: the share has grown by these counts, and there is a receipt at the journal's end
+abbrev pub Records : State → Made → EventCounts → PortValue → PortValue → Type 0
+Records before made more old new = new ≡ recorded (length before.journal) made (record old { share = plus old.share more })
 
 -- a deliver that took these lines of processor c: where there are any, they are its Bells
-abbrev pub Delivered : PortValue → ℕ → ℕ → PortValue → Type 0
-Delivered old c word new = MatchBool (word == 0) (new ≡ old) (HasMade old (Bells c word) (counts 0 (length (events_of (Bells c word))) 0) new)
+abbrev pub Delivers : State → ℕ → ℕ → PortValue → PortValue → Type 0
+Delivers before c word old new =
+    MatchBool (word == 0) (new ≡ old) (Records before (Bells c word) (counts 0 (length (events_of (Bells c word))) 0) old new)
 
 -- a call that was refused: a Full sets the mark full, and nothing else is changed
 abbrev pub marked : Refusal → PortValue → PortValue
@@ -75,12 +83,57 @@ abbrev pub marked_short : Refusal → PortValue → PortValue
 marked_short Full p = record p { short = true }
 marked_short _ p = p
 
--- ---- why calls are refused
+-- ---- what a call found under the lock
 
--- a call on processor c: the journal is full, or start lacks the processor
+-- a machine that is its journal's replay from start, and of which this holds
+abbrev pub Found : State → (State → Type 0) → Type 0
+Found start such = (before : State) × IsReplayOf start before × such before
+
+-- a commit of Steps of processor c on this machine, and all that it answers
+abbrev pub IsCommit : State → ℕ → Committed → Type 0
+IsCommit before c done =
+    (after : State) × (0 < done.steps) × (steps c done.steps before ≡ (after, None)) × LastAnswers c done.steps done.answer before after
+    × (done.next ≡ current_hart c after.board.parts) × (done.code.items ≡ code_at done.next after.board.memory)
+
+-- an event that this machine accepts, and its answer
+abbrev pub Accepts : State → Event → Answer → Type 0
+Accepts before event answer = (after : State) × (apply before event ≡ Ok (after, answer))
+
+-- the machine has room for a Bell of each line
+abbrev pub HasRoom : State → Type 0
+HasRoom s = length s.journal + LINES ≤ s.boot.capacity
+
+-- a deliver is refused: there is no such room, or the machine or the bells lack the processor
+abbrev pub RefusesBells : State → ℕ → ℕ → Refusal → Type 0
+RefusesBells s cpus c why =
+    ((why ≡ Full) × (s.boot.capacity < length s.journal + LINES)) ⊎ ((why ≡ NoSuchCpu) × ((length s.board.parts.processors ≤ c) ⊎ (cpus ≤ c)))
+
+-- ---- calls through a port, by what they return and what they leave of the port
+
+abbrev pub MakesSteps : State → ℕ → Result Committed Refusal → PortValue → PortValue → Type 0
+MakesSteps start c result old new =
+    Found start (λ before. MatchResult result
+    (λ done. IsCommit before c done × Records before (Steps c done.steps) (counts done.steps 0 0) old new)
+    (λ why. (apply before (Step c) ≡ Err why) × (new ≡ marked why old)))
+
+abbrev pub MakesBells : State → ℕ → ℕ → Result ℕ Refusal → PortValue → PortValue → Type 0
+MakesBells start cpus c result old new =
+    Found start (λ before. MatchResult result
+    (λ word. HasRoom before × Delivers before c word old new)
+    (λ why. RefusesBells before cpus c why × (new ≡ marked_short why old)))
+
+abbrev pub MakesOne : State → Event → Result Answer Refusal → PortValue → PortValue → Type 0
+MakesOne start event result old new =
+    Found start (λ before. MatchResult result
+    (λ answer. Accepts before event answer × Records before (One event) (counts_of (event ∷ [])) old new)
+    (λ why. (apply before event ≡ Err why) × (new ≡ marked why old)))
+
+-- ---- why a call on processor c is refused: Full, or no such processor
+
+-- the machine lacks it
 abbrev pub RefusesCpu : State → ℕ → Refusal → Type 0
 RefusesCpu start c why = (why ≡ Full) ⊎ ((why ≡ NoSuchCpu) × (start.boot.cpus ≤ c))
 
--- a deliver: there is no room for each line, or start or the bells lack the processor
-abbrev pub RefusesBells : State → ℕ → ℕ → Refusal → Type 0
-RefusesBells start cpus c why = (why ≡ Full) ⊎ ((why ≡ NoSuchCpu) × ((start.boot.cpus ≤ c) ⊎ (cpus ≤ c)))
+-- the machine or the bells lack it
+abbrev pub RefusesEither : State → ℕ → ℕ → Refusal → Type 0
+RefusesEither start cpus c why = (why ≡ Full) ⊎ ((why ≡ NoSuchCpu) × ((start.boot.cpus ≤ c) ⊎ (cpus ≤ c)))

@@ -1,7 +1,8 @@
 ghost use Rattle.std.specs.Prelude.{◌≡◌, [], ◌∷◌};
+ghost use Rattle.evm_model.specs.Event.{event_lent};
 ghost use Rattle.evm_shared.specs.EventCounts.{Fit, counts, counts_of, none, plus};
 
-use evm_model::Event;
+use evm_model::{Block, Event};
 
 /// How many Steps, Bells and other events.
 #[derive(Clone, Copy, Debug, PartialEq, Eq)]
@@ -44,8 +45,8 @@ impl EventCounts {
     }
 
     /// One event.
-    pub fn one(event: &Event) -> EventCounts
-        ensures { result ≡ counts_of (event.now ∷ []) }
+    pub fn one(event: &Event<&Block>) -> EventCounts
+        ensures { result ≡ counts_of (event_lent event.now ∷ []) }
     {
         match event {
             Event::Step(_) => EventCounts::steps(1),

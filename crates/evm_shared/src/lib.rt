@@ -4,11 +4,15 @@
 mod checking;
 mod event_counts;
 mod ledgers;
+mod locked;
 mod port;
 mod receipt;
+mod shared;
 
 pub use checking::{Mismatch, check_receipts};
 pub use event_counts::EventCounts;
 pub use ledgers::Blanks;
+pub use locked::Origin;
 pub use port::Port;
 pub use receipt::{Made, Receipt};
+pub use shared::{Finished, Refused, Shared, Unfinished};

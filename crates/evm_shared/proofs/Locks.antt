@@ -1,0 +1,81 @@
+-- What holds of the machine under the lock.
+use Rattle.std.proofs.Common.{◌≡◌, ℕ, ◌+◌, ◌/◌, ◌^◌, ◌<◌, ◌≤◌, ◌≢◌, ◌⊎◌, inl, inr, List, [], ◌∷◌, ◌++◌, length, refl, sym, ap, ◌∙◌, arith, ⊎_elim, Err, append_assoc, bit_and, length-append}
+use Rattle.std.proofs.lemmas.List.{append-nil}
+use Rattle.evm_core.proofs.Outcomes.{booted_processors, same_boot, step_refusals, tick_refusals}
+use Rattle.evm_model.specs.Good.{GoodState}
+use Rattle.evm_model.specs.Replay.{apply, replay, IsReplayOf}
+use Rattle.evm_model.specs.State.{State}
+use Rattle.evm_model.specs.declared.boot.Boot.{Boot}
+use Rattle.evm_model.specs.declared.event.Event.TheVariants as event
+use Rattle.evm_model.specs.declared.refusal.Refusal.{Refusal}
+use Rattle.evm_shared.proofs.Bells.{bells_off, bells_on}
+use Rattle.evm_model.specs.Event.{Event}
+use Rattle.evm_model.specs.declared.event.Answer.{Answer}
+use Rattle.evm_model.specs.declared.refusal.Refusal.TheVariants.{Full}
+use Rattle.evm_shared.specs.EventCounts.{counts_of, plus}
+use Rattle.evm_shared.specs.Ports.{MakesOne, PortValue, Records, RefusesCpu, recorded}
+use Rattle.evm_shared.specs.declared.event_counts.EventCounts.{EventCounts}
+use Rattle.evm_shared.specs.declared.receipt.Made.TheVariants.{One}
+use Rattle.std.specs.Prelude.{Result, Ok, IfErr}
+use Rattle.evm_shared.specs.Receipts.{bells_below}
+
+-- the machine has the boot of the one that was shared
+pub booted_as : (start s : State) → IsReplayOf start s → s.boot ≡ start.boot
+booted_as start s replays = sym (ap (λ (t : State). t.boot) replays.replayed) ∙ same_boot start s.journal
+
+pub cpus_of : (start s : State) → GoodState s → IsReplayOf start s → length s.board.parts.processors ≡ start.boot.cpus
+cpus_of start s good replays = booted_processors s good ∙ ap (λ (b : Boot). b.cpus) (booted_as start s replays)
+
+-- why a Step is refused on a replay of start
+pub refuses : (start s : State) (c : ℕ) (why : Refusal) → GoodState s → IsReplayOf start s → apply s (event.Step c) ≡ Err why → RefusesCpu start c why
+refuses start s c why good replays e = ⊎_elim (λ x. inl x.0) (λ x. inr (x.0, omega (arith, x.1, cpus_of start s good replays))) (step_refusals s c why e)
+
+-- ---- the Bells of a word, one after the other
+
+-- how far they have come
+pub record AreRung (c word n count : ℕ) (old now : State) : Type 0 where
+  pub counted : count ≡ length (bells_below c word n)
+  pub journaled : now.journal ≡ old.journal ++ bells_below c word n
+  pub replays : (first : State) → IsReplayOf first old → IsReplayOf first now
+  pub processors : length now.board.parts.processors ≡ length old.board.parts.processors
+  pub capacity : now.boot ≡ old.boot
+
+pub rung_none : (c word : ℕ) (s : State) → AreRung c word 0 0 s s
+unfolding bells_below
+rung_none c word s = record { counted = refl; journaled = sym (append-nil s.journal); replays = λ first h. h; processors = refl; capacity = refl }
+
+pub rung_more : (c word n count : ℕ) (old now new : State) → bit_and (word / 2 ^ n) 1 ≡ 1 → AreRung c word n count old now
+    → new.journal ≡ now.journal ++ event.Bell c n ∷ [] → new.boot ≡ now.boot → length new.board.parts.processors ≡ length now.board.parts.processors
+    → ((first : State) → IsReplayOf first now → IsReplayOf first new) → AreRung c word (n + 1) (count + 1) old new
+rung_more c word n count old now new on h journal boot processors replays =
+    let more = bells_on c word n on in record {
+      counted = omega (arith, h.counted, ap length more, length-append (bells_below c word n) (event.Bell c n ∷ []));
+      journaled = journal ∙ ap (λ es. es ++ event.Bell c n ∷ []) h.journaled ∙ append_assoc old.journal (bells_below c word n) (event.Bell c n ∷ []) ∙ ap (λ es. old.journal ++ es) (sym more);
+      replays = λ first r. replays first (h.replays first r);
+      processors = processors ∙ h.processors;
+      capacity = boot ∙ h.capacity;
+    }
+
+pub rung_same : (c word n count : ℕ) (old now : State) → bit_and (word / 2 ^ n) 1 ≢ 1 → AreRung c word n count old now → AreRung c word (n + 1) count old now
+rung_same c word n count old now off h =
+    let same = bells_off c word n off in record {
+      counted = h.counted ∙ ap length (sym same);
+      journaled = h.journaled ∙ ap (λ es. old.journal ++ es) (sym same);
+      replays = h.replays;
+      processors = h.processors;
+      capacity = h.capacity;
+    }
+
+-- ---- calls
+
+-- a tick is refused as Full alone
+pub tick_full : (start : State) (result : Result Answer Refusal) (old new : PortValue) → MakesOne start event.Tick result old new → IfErr result (λ why. why ≡ Full)
+tick_full start (Ok answer) old new h = tt
+tick_full start (Err why) old new h = (tick_refusals h.0 why h.2.0).0
+
+-- the receipt of an event
+pub records_one : (before : State) (e own : Event) (position : ℕ) (more : EventCounts) (old counted new : PortValue) → position ≡ length before.journal → own ≡ e → more ≡ counts_of (e ∷ [])
+    → counted ≡ (record old { share = plus old.share more }) → new ≡ recorded position (One own) counted → Records before (One e) (counts_of (e ∷ [])) old new
+records_one before e own position more old counted new at same counts share recorded_is =
+    let whole : counted ≡ (record old { share = plus old.share (counts_of (e ∷ [])) }) = share ∙ ap (λ m. (record old { share = plus old.share m })) counts in
+    recorded_is ∙ (λ i. recorded (at i) (One (same i)) (whole i))

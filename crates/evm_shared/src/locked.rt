@@ -1,0 +1,165 @@
+ghost use Rattle.std.specs.Prelude.{◌≡◌, ◌+◌, ◌<◌, ◌≤◌, [], ◌∷◌, ◌++◌, length, MatchResult, IfErr, Result};
+ghost use Rattle.evm_lines.specs.declared.TheConstants.{LINES};
+ghost use Rattle.evm_model.specs.Event.{event_lent};
+ghost use Rattle.evm_model.specs.Replay.{IsReplayOf};
+ghost use Rattle.evm_model.specs.State.{State};
+ghost use Rattle.evm_shared.specs.Ports.{HasRoom, MakesBells, MakesOne, MakesSteps, RefusesCpu, RefusesEither};
+ghost use Rattle.evm_shared.specs.Receipts.{events_of};
+
+use crate::event_counts::EventCounts;
+use crate::ledgers::Books;
+use crate::port::Port;
+use crate::receipt::Made;
+use evm_bells::{Bells, Taker};
+use evm_core::{Committed, Machine};
+use evm_dev::Device;
+use evm_exec::Burst;
+use evm_lines::LINES;
+use evm_model::{Answer, Block, Event, Refusal};
+use std::marker::{Brand, Model, PhantomData};
+use std::sync::ledger::Ledger;
+
+/// Where a machine began to be shared: the state that its journal is replayed from, and how many events it had.
+pub trait Origin {
+    ghost use Rattle.evm_model.specs.State as model;
+    ghost use Rattle.evm_shared.specs.declared.event_counts.EventCounts as declared;
+
+    ghost start: { model.State };
+
+    ghost base: { declared.EventCounts };
+}
+
+impl Origin for Brand {
+    ghost use Rattle.evm_shared.specs.EventCounts.{none};
+    ghost use Rattle.evm_shared.specs.Ports.{no_machine};
+
+    ghost start = { no_machine };
+
+    ghost base = { none };
+}
+
+/// What lies under the lock.
+#[derive(Drop)]
+pub(crate) struct Locked<D: Device, O: Origin, S: Ledger, B: Ledger, T: Ledger> {
+    pub(crate) machine: Machine<D>,
+    pub(crate) books: Books<S, B, T>,
+    pub(crate) of: PhantomData<O>,
+}
+
+impl<D: Device, O: Origin, S: Ledger, B: Ledger, T: Ledger> Model for Locked<D, O, S, B, T> {
+    ghost use Rattle.evm_shared.specs.Ports.{IsAccounted, LockedValue};
+
+    ghost Value = { LockedValue };
+
+    ghost invariant = { λ l. IsAccounted O.start O.base l.machine l.books };
+
+    ghost view = { λ l. record { machine = l.machine; book = l.books } };
+}
+
+// A Bell of a processor for each line of a word, in rising order. Returns how many.
+fn ring_all<D: Device>(machine: &mut Machine<D>, cpu: u8, word: u32) -> u32
+    requires cpu { cpu < length machine.old.board.parts.processors }
+    requires room { HasRoom machine.old }
+    ensures count { result ≡ length (events_of (Made.Bells cpu word)) }
+    ensures journaled { machine.new.journal ≡ machine.old.journal ++ events_of (Made.Bells cpu word) }
+    ensures replays { (first : State) → IsReplayOf first machine.old → IsReplayOf first machine.new }
+{
+    let mut count = 0;
+    for line in 0..LINES {
+        if (word >> line) & 1 == 1 {
+            let Ok(_) = machine.apply(Event::Bell(cpu, line)) else {
+                unreachable!()
+            };
+            count += 1;
+        }
+    }
+    count
+}
+
+impl<D: Device, O: Origin, S: Ledger, B: Ledger, T: Ledger> Locked<D, O, S, B, T> {
+    // Takes the lines of a processor, and makes a Bell of each.
+    pub(crate) fn deliver(
+        &mut self,
+        port: &mut Port<S, B, T>,
+        bells: &Bells,
+        taker: &mut Taker,
+        cpu: u8,
+    ) -> Result<u32, Refusal>
+        requires { taker.old.bells ≡ bells.now.id }
+        ensures taken { MatchResult result (λ word. taker.new.taken ≡ taker.old.taken ++ (cpu, word) ∷ []) (λ why. taker.new ≡ taker.old) }
+        ensures seat { taker.new.bells ≡ taker.old.bells }
+        ensures call { MakesBells O.start bells.now.cpus cpu result port.old port.new }
+        ensures refused { IfErr result (λ why. RefusesEither O.start bells.now.cpus cpu why) }
+    {
+        self.machine.rules();
+        if self.machine.room() < u64::from(LINES) {
+            port.mark_short();
+            return Err(Refusal::Full);
+        }
+        if cpu >= self.machine.cpu_count() || cpu >= bells.cpus() {
+            return Err(Refusal::NoSuchCpu);
+        }
+        let word = bells.take(taker, cpu);
+        if word != 0 {
+            let position = self.machine.event_count();
+            let count = ring_all(&mut self.machine, cpu, word);
+            let _count = self.machine.event_count();
+            port.count(&mut self.books, EventCounts::bells(count));
+            port.record(position, Made::Bells(cpu, word));
+        }
+        Ok(word)
+    }
+
+    // The Steps of a burst, and one more.
+    pub(crate) fn commit(
+        &mut self,
+        port: &mut Port<S, B, T>,
+        cpu: u8,
+        burst: &Burst,
+    ) -> Result<Committed, Refusal>
+        ensures call { MakesSteps O.start cpu result port.old port.new }
+        ensures refused { IfErr result (λ why. RefusesCpu O.start cpu why) }
+    {
+        self.machine.rules();
+        let position = self.machine.event_count();
+        match self.machine.commit(cpu, burst) {
+            Err(why) => {
+                port.mark(why);
+                Err(why)
+            }
+            Ok(done) => {
+                let _count = self.machine.event_count();
+                port.count(&mut self.books, EventCounts::steps(done.steps));
+                port.record(position, Made::Steps(cpu, done.steps));
+                Ok(done)
+            }
+        }
+    }
+
+    // A tick.
+    pub(crate) fn tick(&mut self, port: &mut Port<S, B, T>) -> Result<Answer, Refusal>
+        ensures call { MakesOne O.start Event.Tick result port.old port.new }
+        ensures full { IfErr result (λ why. why ≡ Refusal.Full) }
+    {
+        self.one(port, &Event::Tick)
+    }
+
+    // One event.
+    pub(crate) fn one(&mut self, port: &mut Port<S, B, T>, event: &Event<&Block>) -> Result<Answer, Refusal>
+        ensures { MakesOne O.start (event_lent event.now) result port.old port.new }
+    {
+        let position = self.machine.event_count();
+        match self.machine.apply(*event) {
+            Err(why) => {
+                port.mark(why);
+                Err(why)
+            }
+            Ok(answer) => {
+                let _count = self.machine.event_count();
+                port.count(&mut self.books, EventCounts::one(event));
+                port.record(position, Made::One(event.copied()));
+                Ok(answer)
+            }
+        }
+    }
+}

@@ -1,0 +1,276 @@
+ghost use Rattle.std.specs.Prelude.{◌≡◌, ◌≢◌, ◌+◌, ◌<◌, ◌≤◌, [], ◌∷◌, ◌++◌, ◌⊎◌, length, replicate, IfErr, IfOk, MatchResult};
+ghost use Rattle.evm_model.specs.Replay.{IsReplayOf};
+ghost use Rattle.evm_shared.specs.EventCounts.{Fit, counts_of, none, plus};
+ghost use Rattle.evm_shared.specs.Ports.{MakesBells, MakesOne, MakesSteps, RefusesCpu, RefusesEither, fresh_port, made_by, shares_of};
+
+use crate::event_counts::EventCounts;
+use crate::ledgers::{Blanks, Books, Shares};
+use crate::locked::{Locked, Origin};
+use crate::port::Port;
+use evm_bells::{Bells, Taker};
+use evm_core::{Committed, Machine};
+use evm_dev::Device;
+use evm_exec::Burst;
+use evm_model::{Answer, Event, Refusal};
+use std::alloc::{AllocError, Global};
+use std::marker::{Model, PhantomData};
+use std::sync::ledger::Ledger;
+use std::sync::{Mutex, Wait};
+
+/// A machine under a lock. `O` names where it began to be shared, and `S`, `B` and `T` name the ledgers of Steps, of
+/// Bells and of other events.
+#[derive(Drop)]
+pub struct Shared<D: Device, O: Origin, S: Ledger, B: Ledger, T: Ledger> {
+    locked: Mutex<Locked<D, O, S, B, T>>,
+    ports: u8,
+}
+
+impl<D: Device, O: Origin, S: Ledger, B: Ledger, T: Ledger> Model for Shared<D, O, S, B, T> {
+    ghost use Rattle.std.specs.Prelude.{ℕ, ◌≡◌, ◌<◌};
+
+    ghost Value = { ℕ };
+
+    // there is a port for each part of the ledgers, and there are some
+    ghost invariant = { λ s. (0 < s.ports) × (S.parts ≡ s.ports) × (B.parts ≡ s.ports) × (T.parts ≡ s.ports) };
+
+    ghost view = { λ s. s.ports };
+}
+
+/// Why a machine is not shared, and that machine.
+#[derive(Drop)]
+pub struct Refused<D: Device> {
+    pub refusal: Refusal,
+    pub machine: Machine<D>,
+}
+
+/// The machine, all ports, and how many events were made through them.
+#[derive(Drop)]
+pub struct Finished<D: Device, S: Ledger, B: Ledger, T: Ledger> {
+    pub machine: Machine<D>,
+    pub ports: Vec<Port<S, B, T>>,
+    pub totals: EventCounts,
+}
+
+/// Not all ports were handed in (`PortsOut`): what was handed in.
+#[derive(Drop)]
+pub struct Unfinished<D: Device, O: Origin, S: Ledger, B: Ledger, T: Ledger> {
+    pub shared: Shared<D, O, S, B, T>,
+    pub ports: Vec<Port<S, B, T>>,
+}
+
+// New ports, each with one part of the ledgers and room for so many receipts.
+fn new_ports<S: Ledger, B: Ledger, T: Ledger>(
+    alloc: Global,
+    mut all: Shares<S, B, T>,
+    ports: u8,
+    receipts: u32,
+    since: u64,
+) -> Result<Vec<Port<S, B, T>>, AllocError>
+    requires { all ≡ shares_of ports none }
+    ensures { IfOk result (λ made. made.items ≡ replicate ports (fresh_port receipts since)) }
+{
+    let mut made = Vec::with_capacity(alloc, ports as usize)?;
+    for _ in 0..ports {
+        made.push_reserved(Port {
+            shares: all.one(),
+            share: EventCounts::none(),
+            receipts: Vec::with_capacity(alloc, receipts as usize)?,
+            room: receipts as usize,
+            since,
+            full: false,
+            short: false,
+        });
+    }
+    Ok(made)
+}
+
+impl<D: Device, O: Origin, S: Ledger, B: Ledger, T: Ledger> Shared<D, O, S, B, T> {
+    /// A machine under a lock, and 1 to 16 ports. Made refuses it hands the machine back.
+    pub fn new(
+        alloc: Global,
+        machine: Machine<D>,
+        ports: u8,
+        receipts: u32,
+        blanks: Blanks,
+    ) -> Result<(Shared<D, O, S, B, T>, Vec<Port<S, B, T>>), Refused<D>>
+        requires replays { IsReplayOf O.start machine }
+        requires base { counts_of machine.journal ≡ O.base }
+        requires steps { (blanks.steps.name ≡ S.name) × (blanks.steps.parts ≡ S.parts) × (S.parts ≡ ports) }
+        requires bells { (blanks.bells.name ≡ B.name) × (blanks.bells.parts ≡ B.parts) × (B.parts ≡ ports) }
+        requires others { (blanks.others.name ≡ T.name) × (blanks.others.parts ≡ T.parts) × (T.parts ≡ ports) }
+        ensures ok { IfOk result (λ made. (made.0 ≡ ports) × (made.1.items ≡ replicate ports (fresh_port receipts (length machine.journal)))) }
+        ensures back { IfErr result (λ refused. refused.machine ≡ machine) }
+        ensures size { IfErr result (λ refused. (refused.refusal ≡ Refusal.BadSize) ⊎ (refused.refusal ≡ Refusal.NoMemory)) }
+        ensures ports { IfOk result (λ made. (0 < ports) × (ports ≤ 16)) }
+    {
+        if ports == 0 || ports > 16 {
+            return Err(Refused {
+                refusal: Refusal::BadSize,
+                machine,
+            });
+        }
+        let since = machine.event_count();
+        let (books, all) = blanks.open::<S, B, T>();
+        let Ok(made) = new_ports(alloc, all, ports, receipts, since) else {
+            return Err(Refused {
+                refusal: Refusal::NoMemory,
+                machine,
+            });
+        };
+        let locked = Mutex::new(Locked {
+            machine,
+            books,
+            of: PhantomData,
+        });
+        Ok((Shared { locked, ports }, made))
+    }
+
+    /// Makes the Steps of a burst and one more, at least one, in one hold of the lock. Takes no memory.
+    ///
+    /// # Errors
+    ///
+    /// As [`Machine::commit`]: `Full`, or `NoSuchCpu` if there is no such processor.
+    pub fn commit<R: Wait>(
+        &self,
+        rt: &R,
+        port: &mut Port<S, B, T>,
+        cpu: u8,
+        burst: &Burst,
+    ) -> Result<Committed, Refusal>
+        ensures call { MakesSteps O.start cpu result port.old port.new }
+        ensures refused { IfErr result (λ why. RefusesCpu O.start cpu why) }
+    {
+        self.locked.lock(rt).commit(port, cpu, burst)
+    }
+
+    /// Takes all lines that were rung of a processor, and makes a Bell of each in rising order, in one hold of the lock.
+    /// Returns the lines, each as a bit of a word. Takes no memory.
+    ///
+    /// # Errors
+    ///
+    /// `Full` if the journal has room for fewer events than there are lines, `NoSuchCpu` if the machine or the bells
+    /// have no such processor. Nothing is taken then.
+    pub fn deliver<R: Wait>(
+        &self,
+        rt: &R,
+        port: &mut Port<S, B, T>,
+        bells: &Bells,
+        taker: &mut Taker,
+        cpu: u8,
+    ) -> Result<u32, Refusal>
+        requires { taker.old.bells ≡ bells.now.id }
+        ensures taken { MatchResult result (λ word. taker.new.taken ≡ taker.old.taken ++ (cpu, word) ∷ []) (λ why. taker.new ≡ taker.old) }
+        ensures seat { taker.new.bells ≡ taker.old.bells }
+        ensures call { MakesBells O.start bells.now.cpus cpu result port.old port.new }
+        ensures refused { IfErr result (λ why. RefusesEither O.start bells.now.cpus cpu why) }
+    {
+        self.locked.lock(rt).deliver(port, bells, taker, cpu)
+    }
+
+    /// Makes one Tick. Takes no memory.
+    ///
+    /// # Errors
+    ///
+    /// `Full`.
+    pub fn tick<R: Wait>(&self, rt: &R, port: &mut Port<S, B, T>) -> Result<Answer, Refusal>
+        ensures call { MakesOne O.start Event.Tick result port.old port.new }
+        ensures refused { IfErr result (λ why. why ≡ Refusal.Full) }
+    {
+        self.locked.lock(rt).tick(port)
+    }
+
+    /// Makes one event of any kind. Takes no memory.
+    ///
+    /// # Errors
+    ///
+    /// As [`Machine::apply`].
+    pub fn command<R: Wait>(
+        &self,
+        rt: &R,
+        port: &mut Port<S, B, T>,
+        event: &Event,
+    ) -> Result<Answer, Refusal>
+        ensures { MakesOne O.start event.now result port.old port.new }
+    {
+        self.locked.lock(rt).one(port, &event.lend())
+    }
+
+    /// Ends the sharing, if and only if these are all ports.
+    ///
+    /// # Errors
+    ///
+    /// What was handed in, if a port is missing.
+    pub fn finish(
+        self,
+        mut ports: Vec<Port<S, B, T>>,
+    ) -> Result<Finished<D, S, B, T>, Unfinished<D, O, S, B, T>>
+        ensures machine { IfOk result (λ done. IsReplayOf O.start done.machine × (counts_of done.machine.journal ≡ plus O.base done.totals)) }
+        ensures totals { IfOk result (λ done. done.totals ≡ made_by ports.items) }
+        ensures ports { MatchResult result (λ done. done.ports.items ≡ ports.items) (λ back. (back.shared ≡ self) × (back.ports.items ≡ ports.items)) }
+        ensures all { MatchResult result (λ done. length ports.items ≡ self) (λ back. length ports.items ≢ self) }
+    {
+        if ports.len() != self.ports as usize {
+            return Err(Unfinished {
+                shared: self,
+                ports,
+            });
+        }
+        let Shared { locked, ports: _ } = self;
+        let Locked {
+            machine, mut books, ..
+        } = locked.into_inner();
+        let _count = machine.event_count();
+        let totals = sum_all(&mut books, ports.as_mut_slice());
+        Ok(Finished {
+            machine,
+            ports,
+            totals,
+        })
+    }
+}
+
+// Made all ports made, which is what the books say.
+fn sum_all<S: Ledger, B: Ledger, T: Ledger>(
+    books: &mut Books<S, B, T>,
+    ports: &mut [Port<S, B, T>],
+) -> EventCounts
+    requires some { 0 < length ports.old }
+    requires fits { Fit books.old }
+    requires all { (S.parts ≡ length ports.old) × (B.parts ≡ length ports.old) × (T.parts ≡ length ports.old) }
+    ensures sum { result ≡ made_by ports.old }
+    ensures book { result ≡ books.old }
+    ensures same { ports.new ≡ ports.old }
+{
+    let (first, rest) = ports.split_at_mut(1);
+    let port = &mut first[0];
+    let sum = port.share;
+    sum_rest(books, rest, &mut port.shares, sum)
+}
+
+// Each port lends its share to the first, which then has all parts.
+fn sum_rest<S: Ledger, B: Ledger, T: Ledger>(
+    books: &mut Books<S, B, T>,
+    ports: &mut [Port<S, B, T>],
+    seen: &mut Shares<S, B, T>,
+    sum: EventCounts,
+) -> EventCounts
+    requires seen { (0 < seen.old.parts) × (seen.old.amount ≡ sum) }
+    requires fits { Fit books.old }
+    requires all { (S.parts ≡ seen.old.parts + length ports.old) × (B.parts ≡ seen.old.parts + length ports.old) × (T.parts ≡ seen.old.parts + length ports.old) }
+    ensures sum { result ≡ plus sum (made_by ports.old) }
+    ensures book { result ≡ books.old }
+    ensures same { (ports.new ≡ ports.old) × (seen.new ≡ seen.old) × (books.new ≡ books.old) }
+{
+    if ports.is_empty() {
+        books.audit(seen);
+        return sum;
+    }
+    let (first, rest) = ports.split_at_mut(1);
+    let port = &mut first[0];
+    let more = port.share;
+    port.shares.lend(seen, more);
+    books.audit(seen);
+    let total = sum_rest(books, rest, seen, sum.plus(more));
+    seen.give_back(&mut port.shares, more);
+    total
+}
