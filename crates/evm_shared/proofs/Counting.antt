@@ -33,10 +33,10 @@ counts_steps (suc n) c =
 -- no kind has more events than there are
 pub counts_below : (events : List Event) → ((counts_of events).steps ≤ length events) × ((counts_of events).bells ≤ length events) × ((counts_of events).others ≤ length events)
 counts_below events = (
-      count_by-le-length (λ e. is_same_kind (kind_of e) AStep) events,
-      count_by-le-length (λ e. is_same_kind (kind_of e) ABell) events,
-      count_by-le-length (λ e. is_same_kind (kind_of e) Another) events,
-    )
+  count_by-le-length (λ e. is_same_kind (kind_of e) AStep) events,
+  count_by-le-length (λ e. is_same_kind (kind_of e) ABell) events,
+  count_by-le-length (λ e. is_same_kind (kind_of e) Another) events,
+)
 
 -- the counts after some events more
 pub counted_more : (base book more : EventCounts) (old new added : List Event) → counts_of old ≡ plus base book → new ≡ old ++ added → counts_of added ≡ more → counts_of new ≡ plus base (plus book more)

@@ -2,3 +2,4 @@ pub mod Checks
 pub mod EventCounts
 pub mod Ports
 pub mod Receipts
+pub mod Workers

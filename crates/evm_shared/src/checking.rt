@@ -147,7 +147,13 @@ fn first_break<D: Device, S: Ledger, B: Ledger, T: Ledger>(
 {
     let receipts = port.receipts();
     for index in 0..receipts.len() {
-        if !holds(machine, others, &receipts[..index], port.since(), &receipts[index]) {
+        if !holds(
+            machine,
+            others,
+            &receipts[..index],
+            port.since(),
+            &receipts[index],
+        ) {
             return Some(index);
         }
     }

@@ -8,6 +8,7 @@ mod locked;
 mod port;
 mod receipt;
 mod shared;
+mod worker;
 
 pub use checking::{Mismatch, check_receipts};
 pub use event_counts::EventCounts;
@@ -16,3 +17,4 @@ pub use locked::Origin;
 pub use port::Port;
 pub use receipt::{Made, Receipt};
 pub use shared::{Finished, Refused, Shared, Unfinished};
+pub use worker::{Gate, Worker};

@@ -145,7 +145,11 @@ impl<D: Device, O: Origin, S: Ledger, B: Ledger, T: Ledger> Locked<D, O, S, B, T
     }
 
     // One event.
-    pub(crate) fn one(&mut self, port: &mut Port<S, B, T>, event: &Event<&Block>) -> Result<Answer, Refusal>
+    pub(crate) fn one(
+        &mut self,
+        port: &mut Port<S, B, T>,
+        event: &Event<&Block>,
+    ) -> Result<Answer, Refusal>
         ensures { MakesOne O.start (event_lent event.now) result port.old port.new }
     {
         let position = self.machine.event_count();

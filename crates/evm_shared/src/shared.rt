@@ -217,7 +217,9 @@ impl<D: Device, O: Origin, S: Ledger, B: Ledger, T: Ledger> Shared<D, O, S, B, T
         }
         let Shared { locked, ports: _ } = self;
         let Locked {
-            machine, mut books, ..
+            machine,
+            mut books,
+            ..
         } = locked.into_inner();
         let _count = machine.event_count();
         let totals = sum_all(&mut books, ports.as_mut_slice());

@@ -23,7 +23,7 @@ unreachable-requires g c =
 pub loop-line-preserved : goal.loop-line-preserved
 loop-line-preserved g c = elim c.if-word-line-eq1.branch [
   | then-word-line-eq1+in-Ok w ↦
-    rw (w.machine-is, w.count-is) (rung_more c.args.cpu c.args.word c.loop-line.line c.loop-line.count c.args.machine.now c.loop-line.machine w.apply.new.self w.if-word-line-eq1.true c.loop-line.invariant w.in-Ok.ensures.journaled w.in-Ok.ensures.booted w.in-Ok.ensures.processors w.in-Ok.ensures.replays)
+      rw (w.machine-is, w.count-is) (rung_more c.args.cpu c.args.word c.loop-line.line c.loop-line.count c.args.machine.now c.loop-line.machine w.apply.new.self w.if-word-line-eq1.true c.loop-line.invariant w.in-Ok.ensures.journaled w.in-Ok.ensures.booted w.in-Ok.ensures.processors w.in-Ok.ensures.replays)
   | else-word-line-eq1 w ↦
-    rw (w.machine-is, w.count-is) (rung_same c.args.cpu c.args.word c.loop-line.line c.loop-line.count c.args.machine.now c.loop-line.machine w.if-word-line-eq1.false c.loop-line.invariant)
+      rw (w.machine-is, w.count-is) (rung_same c.args.cpu c.args.word c.loop-line.line c.loop-line.count c.args.machine.now c.loop-line.machine w.if-word-line-eq1.false c.loop-line.invariant)
 ]

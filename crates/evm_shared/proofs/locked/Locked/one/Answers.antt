@@ -22,10 +22,10 @@ invariant_of-self-in-Ok g c =
 
 pub returns-in-Ok : goal.returns-in-Ok
 returns-in-Ok g c = (
-      c.self.inside.machine,
-      c.self.invariant.replays,
-      (
-        (c.apply.new.self, c.in-Ok.ensures.ok),
-        records_one c.self.inside.machine (event_lent c.args.event.now) c.copied.result c.event_count-position.result c.one.result c.args.port.now c.count.new.self c.record.new.self c.event_count-position.ensures c.copied.ensures c.one.ensures c.count.ensures.share c.record.ensures,
-      ),
-    )
+  c.self.inside.machine,
+  c.self.invariant.replays,
+  (
+    (c.apply.new.self, c.in-Ok.ensures.ok),
+    records_one c.self.inside.machine (event_lent c.args.event.now) c.copied.result c.event_count-position.result c.one.result c.args.port.now c.count.new.self c.record.new.self c.event_count-position.ensures c.copied.ensures c.one.ensures c.count.ensures.share c.record.ensures,
+  ),
+)

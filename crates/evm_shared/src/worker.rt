@@ -1,0 +1,198 @@
+ghost use Rattle.std.specs.Prelude.{◌≡◌, ℕ, ◌+◌, ◌<◌, ◌≤◌, All, IfOk, MatchResult, length, slice_index_or, Option};
+ghost use Rattle.evm_shared.specs.Workers.{HasTurned, WorkerValue, least_refusal, lesser};
+
+use crate::locked::Origin;
+use crate::port::Port;
+use crate::shared::Shared;
+use evm_bells::{Bells, Taker};
+use evm_dev::Device;
+use evm_exec::{Burst, Hart, REGISTER_COUNT};
+use evm_model::Refusal;
+use std::alloc::Global;
+use std::marker::Model;
+use std::sync::Wait;
+use std::sync::ledger::Ledger;
+use std::thread;
+use std::thread::Threads;
+
+/// What is called around each turn of a worker.
+pub trait Gate: Sync {
+    /// Before a turn. The first turn is 0.
+    fn before(&self, cpu: u8, turn: u32);
+
+    /// After a turn's commit, with the number of its Steps.
+    fn after(&self, cpu: u8, steps: u32);
+}
+
+/// A processor that a thread drives, with a port and a taker.
+#[derive(Drop)]
+pub struct Worker<S: Ledger, B: Ledger, T: Ledger> {
+    cpu: u8,
+    port: Port<S, B, T>,
+    taker: Taker,
+    refused: Option<Refusal>,
+}
+
+impl<S: Ledger, B: Ledger, T: Ledger> Model for Worker<S, B, T> {
+    ghost use Rattle.evm_shared.specs.Workers.{WorkerValue};
+
+    ghost Value = { WorkerValue };
+
+    ghost view = { λ w. record { cpu = w.cpu; port = w.port; taker = w.taker; refused = w.refused } };
+}
+
+// A burst of no instruction.
+fn empty_burst() -> Burst {
+    Burst::empty(Hart {
+        regs: [0; REGISTER_COUNT],
+        pc: 0,
+    })
+}
+
+// The refusal of the lesser number.
+fn lesser(first: Option<Refusal>, second: Option<Refusal>) -> Option<Refusal>
+    ensures { result ≡ lesser first second }
+{
+    let Some(why) = first else {
+        return second;
+    };
+    let Some(other) = second else {
+        return Some(why);
+    };
+    if why.number() <= other.number() {
+        Some(why)
+    } else {
+        Some(other)
+    }
+}
+
+// The refusal of the least number.
+fn least_refusal<S: Ledger, B: Ledger, T: Ledger>(workers: &[Worker<S, B, T>]) -> Option<Refusal>
+    ensures { result ≡ least_refusal workers.now }
+{
+    match workers.split_first() {
+        None => None,
+        Some((worker, others)) => lesser(worker.refused, least_refusal(others)),
+    }
+}
+
+impl<S: Ledger, B: Ledger, T: Ledger> Worker<S, B, T> {
+    /// A worker of a processor, which has made no turn. It takes no memory today, so it is never refused.
+    ///
+    /// # Errors
+    ///
+    /// The port and the taker, if memory was refused.
+    pub fn new(
+        alloc: Global,
+        cpu: u8,
+        port: Port<S, B, T>,
+        taker: Taker,
+    ) -> Result<Worker<S, B, T>, (Port<S, B, T>, Taker)>
+        ensures { MatchResult result (λ w. (w.cpu ≡ cpu) × (w.port ≡ port) × (w.taker ≡ taker)) (λ back. (back.0 ≡ port) × (back.1 ≡ taker)) }
+    {
+        let _ = alloc;
+        Ok(Worker {
+            cpu,
+            port,
+            taker,
+            refused: None,
+        })
+    }
+
+    /// Its port and its taker.
+    pub fn into_parts(self) -> (Port<S, B, T>, Taker)
+        ensures { (result.0 ≡ self.port) × (result.1 ≡ self.taker) }
+    {
+        let Worker { port, taker, .. } = self;
+        (port, taker)
+    }
+
+    // One turn: before, deliver, commit, after.
+    fn turn<D: Device, O: Origin, R: Wait, G: Gate>(
+        &mut self,
+        rt: &R,
+        shared: &Shared<D, O, S, B, T>,
+        bells: &Bells,
+        turn: u32,
+        gate: &G,
+    ) -> Result<(), Refusal>
+        requires { self.old.taker.bells ≡ bells.now.id }
+        ensures same { (self.new.cpu ≡ self.old.cpu) × (self.new.taker.bells ≡ self.old.taker.bells) × (self.new.refused ≡ self.old.refused) }
+        ensures steps { IfOk result (λ _. self.old.port.share.steps + 1 ≤ self.new.port.share.steps) }
+    {
+        gate.before(self.cpu, turn);
+        shared.deliver(rt, &mut self.port, bells, &mut self.taker, self.cpu)?;
+        let done = shared.commit(rt, &mut self.port, self.cpu, &empty_burst())?;
+        gate.after(self.cpu, done.steps);
+        Ok(())
+    }
+
+    // So many turns, or those up to the first that was refused.
+    fn turns<D: Device, O: Origin, R: Wait, G: Gate>(
+        &mut self,
+        rt: &R,
+        shared: &Shared<D, O, S, B, T>,
+        bells: &Bells,
+        turns: u32,
+        gate: &G,
+    )
+        requires { self.old.taker.bells ≡ bells.now.id }
+        ensures { HasTurned turns self.old self.new }
+    {
+        self.refused = None;
+        for turn in 0..turns {
+            if let Err(why) = self.turn(rt, shared, bells, turn, gate) {
+                self.refused = Some(why);
+                return;
+            }
+        }
+    }
+}
+
+impl<
+    D: Device,
+    O: Origin + Send + Sync,
+    S: Ledger + Send + Sync,
+    B: Ledger + Send + Sync,
+    T: Ledger + Send + Sync,
+> Shared<D, O, S, B, T> {
+    /// Has each worker make so many turns, in a thread of its own: it delivers, then commits, and calls the gate before
+    /// and after. A worker that is refused makes no further turn. A worker for which no thread can be made makes its
+    /// turns on the caller's.
+    ///
+    /// # Errors
+    ///
+    /// Of the workers' refusals the one of the least number, once all workers have ended.
+    pub fn run<R: Threads + Wait + Sync, G: Gate>(
+        &self,
+        rt: &R,
+        bells: &Bells,
+        workers: &mut [Worker<S, B, T>],
+        turns: u32,
+        gate: &G,
+    ) -> Result<(), Refusal>
+        requires bells { All (λ (w : WorkerValue). w.taker.bells ≡ bells.now.id) workers.old }
+        ensures count { length workers.new ≡ length workers.old }
+        ensures turns { (i : ℕ) (d : WorkerValue) → i < length workers.old → HasTurned turns (slice_index_or workers.old i d) (slice_index_or workers.new i d) }
+        ensures bells { All (λ (w : WorkerValue). w.taker.bells ≡ bells.now.id) workers.new }
+        ensures least { MatchResult result (λ _. least_refusal workers.new ≡ Option.None) (λ why. least_refusal workers.new ≡ Option.Some why) }
+    {
+        if workers.is_empty() {
+            return Ok(());
+        }
+        let threads = workers.len();
+        thread::for_each_mut(
+            rt,
+            workers,
+            threads,
+            &|_, w: &mut Worker<S, B, T>|
+                requires { w.old.taker.bells ≡ bells.now.id }
+                ensures { HasTurned turns w.old w.new × (w.new.taker.bells ≡ bells.entry.now.id) }
+            { w.turns(rt, self, bells, turns, gate) },
+        );
+        match least_refusal(workers) {
+            Some(why) => Err(why),
+            None => Ok(()),
+        }
+    }
+}
