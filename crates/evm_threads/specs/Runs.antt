@@ -1,0 +1,66 @@
+-- What a run by threads writes.
+use Rattle.std.specs.Prelude.{◌≡◌, ℕ, List, Result, Ok, Err, codes}
+use Rattle.std.specs.String.{string_bytes}
+use Rattle.evm_core.specs.Load.{load}
+use Rattle.evm_image.specs.Images.{Contents}
+use Rattle.evm_journal.specs.Journal.{journal_text}
+use Rattle.evm_model.specs.Devices.{Attached}
+use Rattle.evm_model.specs.Replay.{start, IsReplayOf}
+use Rattle.evm_model.specs.State.{State}
+use Rattle.evm_model.specs.declared.boot.Boot.{Boot}
+use Rattle.evm_model.specs.declared.refusal.Refusal.{Refusal}
+use Rattle.evm_model.specs.declared.refusal.Refusal.TheVariants.{BadAddress}
+use Rattle.evm_streams.specs.Writes.{Took, TookPrefix}
+use Rattle.evm_streams.specs.declared.sink.Writing.{Writing}
+use Rattle.evm_threads.specs.declared.outcome.Outcome.{Outcome}
+use Rattle.evm_threads.specs.declared.outcome.Outcome.TheVariants as outcomes
+use Rattle.evm_threads.specs.declared.outcome.RunEnding.{RunEnding}
+use Rattle.evm_threads.specs.declared.outcome.RunEnding.TheVariants.{Written, ImageRefused, NoMemory, WriteFailed}
+
+-- the numbers with which the machine boots
+abbrev pub run_boot : Boot
+run_boot = record { cpus = 2; ram = 1048576; capacity = 1048576 }
+
+-- the machine that the run begins with, or why the image is not loaded
+abbrev pub loaded : List Attached → Contents → Result State Refusal
+loaded devices image = load image (start devices run_boot)
+
+-- a text is the journal of a machine that is its journal's replay from the first state
+pub record IsJournalFrom (first : State) (text : List ℕ) : Type 0 where
+  pub machine : State
+  pub replays : IsReplayOf first machine
+  pub written : text ≡ journal_text machine.boot machine.journal
+
+-- what a run that ends so has to write
+abbrev pub IsText : Result State Refusal → RunEnding → List ℕ → Type 0
+IsText (Ok first) Written text = IsJournalFrom first text
+IsText (Err refusal) ImageRefused text = (refusal ≡ BadAddress) × (text ≡ codes "refused 2 6\n")
+IsText loaded NoMemory text = text ≡ codes "memory\n"
+IsText loaded ending text = ⊥
+
+abbrev pub ending_of : Outcome → RunEnding
+ending_of (outcomes.Journal text) = Written
+ending_of outcomes.ImageRefused = ImageRefused
+ending_of outcomes.NoMemory = NoMemory
+
+abbrev pub text_of : Outcome → List ℕ
+text_of (outcomes.Journal text) = string_bytes text
+text_of outcomes.ImageRefused = codes "refused 2 6\n"
+text_of outcomes.NoMemory = codes "memory\n"
+
+-- what the code has to write is that
+abbrev pub IsOutcome : Result State Refusal → Outcome → Type 0
+IsOutcome loaded outcome = IsText loaded (ending_of outcome) (text_of outcome)
+
+module _ {W : Type 0} (takes : W → Writing → List ℕ → W → Type 0) where
+  -- all of its text was written, or a prefix before a write failed
+  abbrev pub Ends : Result State Refusal → W → W → RunEnding → Type 0
+  Ends loaded w w' (WriteFailed fault) = (ending : RunEnding) × (text : List ℕ) × IsText loaded ending text × TookPrefix takes w text w'
+  Ends loaded w w' ending = (text : List ℕ) × IsText loaded ending text × Took takes w text w'
+
+-- the exit status of a run that ends so
+abbrev pub status_of : RunEnding → ℕ
+status_of Written = 0
+status_of ImageRefused = 1
+status_of NoMemory = 1
+status_of (WriteFailed fault) = 4

@@ -1,0 +1,63 @@
+//! What a run by threads came to.
+
+ghost use Rattle.std.specs.Prelude.{◌≡◌};
+ghost use Rattle.evm_threads.specs.Runs.{ending_of, status_of, text_of};
+
+use evm_streams::WriteFault;
+
+/// How a run by threads ended.
+#[derive(Clone, Copy, Debug, PartialEq, Eq)]
+pub enum RunEnding {
+    /// The text of the journal was written.
+    Written,
+    /// Memory of a segment of the image lies past RAM: the line `refused 2 6` was written.
+    ImageRefused,
+    /// Memory was refused: the line `memory` was written.
+    NoMemory,
+    /// A write failed, after a prefix of what was to be written.
+    WriteFailed(WriteFault),
+}
+
+impl RunEnding {
+    /// The exit status: 0 where the journal was written, 1 where the image or memory was refused, 4 after a failed write.
+    pub fn status(&self) -> u8
+        ensures { result ≡ status_of self.now }
+    {
+        match self {
+            RunEnding::Written => 0,
+            RunEnding::ImageRefused | RunEnding::NoMemory => 1,
+            RunEnding::WriteFailed(_) => 4,
+        }
+    }
+}
+
+/// What is to be written.
+#[derive(Debug, Drop)]
+pub(crate) enum Outcome {
+    Journal(String),
+    ImageRefused,
+    NoMemory,
+}
+
+impl Outcome {
+    pub(crate) fn ending(&self) -> RunEnding
+        ensures { result ≡ ending_of self.now }
+    {
+        match self {
+            Outcome::Journal(_) => RunEnding::Written,
+            Outcome::ImageRefused => RunEnding::ImageRefused,
+            Outcome::NoMemory => RunEnding::NoMemory,
+        }
+    }
+
+    pub(crate) fn text(&self) -> &str
+        ensures { result.now ≡ text_of self.now }
+    {
+        match self {
+            Outcome::Journal(text) => text.as_str(),
+            // line 2 is the boot line of the journal that would be written
+            Outcome::ImageRefused => "refused 2 6\n",
+            Outcome::NoMemory => "memory\n",
+        }
+    }
+}

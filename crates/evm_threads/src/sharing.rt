@@ -1,0 +1,131 @@
+//! Two workers on a machine that they share, and its journal when they are done.
+
+ghost use Rattle.std.specs.Prelude.{◌≡◌, Ok, All, IfSome, length};
+ghost use Rattle.evm_bells.specs.Seats.{TakerValue};
+ghost use Rattle.evm_model.specs.Replay.{IsReplayOf};
+ghost use Rattle.evm_shared.specs.EventCounts.{counts_of};
+ghost use Rattle.evm_shared.specs.Workers.{WorkerValue};
+ghost use Rattle.evm_threads.specs.Runs.{IsOutcome};
+
+use crate::outcome::Outcome;
+use evm_bells::{Bells, Taker};
+use evm_core::Machine;
+use evm_dev::Device;
+use evm_journal::write_journal;
+use evm_room::with_room;
+use evm_shared::{Blanks, Gate, Origin, Port, Shared, Worker};
+use std::alloc::Global;
+use std::sync::Wait;
+use std::sync::ledger::Ledger;
+use std::thread::Threads;
+
+/// How many processors there are, and so how many workers and ports.
+const WORKERS: u8 = 2;
+
+/// The line that is rung at each processor before the first turn.
+const LINE: u8 = 8;
+
+// A gate that is always open.
+struct OpenGate;
+
+impl Gate for OpenGate {
+    fn before(&self, _cpu: u8, _turn: u32) {}
+
+    fn after(&self, _cpu: u8, _steps: u32) {}
+}
+
+// A worker for each of the two processors.
+fn workers_of<S: Ledger, B: Ledger, T: Ledger>(
+    alloc: Global,
+    bells: &Bells,
+    mut ports: Vec<Port<S, B, T>>,
+    mut takers: Vec<Taker>,
+) -> Option<Vec<Worker<S, B, T>>>
+    requires { All (λ (t : TakerValue). t.bells ≡ bells.now.id) takers.items }
+    ensures count { IfSome result (λ workers. length workers.items ≡ 2) }
+    ensures bells { IfSome result (λ workers. All (λ (w : WorkerValue). w.taker.bells ≡ bells.now.id) workers.items) }
+{
+    let mut workers = with_room(alloc, WORKERS as usize).ok()?;
+    for cpu in 0..WORKERS {
+        let (Some(port), Some(taker)) = (ports.pop(), takers.pop()) else {
+            return None;
+        };
+        let Ok(worker) = Worker::new(alloc, cpu, port, taker) else {
+            return None;
+        };
+        workers.push_reserved(worker);
+    }
+    Some(workers)
+}
+
+// The ports of workers that are done.
+fn ports_of<S: Ledger, B: Ledger, T: Ledger>(
+    alloc: Global,
+    mut workers: Vec<Worker<S, B, T>>,
+) -> Option<Vec<Port<S, B, T>>>
+    ensures { IfSome result (λ ports. length ports.items ≡ length workers.items) }
+{
+    let mut ports = with_room(alloc, workers.len()).ok()?;
+    while let Some(worker) = workers.pop() {
+        let (port, _taker) = worker.into_parts();
+        ports.push_reserved(port);
+    }
+    Some(ports)
+}
+
+// Rings the line at both processors, and runs a worker for each: their ports.
+fn work<
+    D: Device,
+    O: Origin + Send + Sync,
+    S: Ledger + Send + Sync,
+    B: Ledger + Send + Sync,
+    T: Ledger + Send + Sync,
+    R: Threads + Wait + Sync,
+>(
+    rt: &R,
+    alloc: Global,
+    shared: &Shared<D, O, S, B, T>,
+    ports: Vec<Port<S, B, T>>,
+    turns: u32,
+) -> Option<Vec<Port<S, B, T>>>
+    ensures { IfSome result (λ ports. length ports.items ≡ 2) }
+{
+    let (bells, mut ringer, takers) = Bells::new(alloc, WORKERS).ok()?;
+    bells.ring(&mut ringer, 0, LINE);
+    bells.ring(&mut ringer, 1, LINE);
+    let mut workers = workers_of(alloc, &bells, ports, takers)?;
+    let _ = shared.run(rt, &bells, workers.as_mut_slice(), turns, &OpenGate);
+    ports_of(alloc, workers)
+}
+
+/// Runs two workers for so many turns on a machine: its journal's text.
+pub(crate) fn share<
+    D: Device,
+    O: Origin + Send + Sync,
+    S: Ledger + Send + Sync,
+    B: Ledger + Send + Sync,
+    T: Ledger + Send + Sync,
+    R: Threads + Wait + Sync,
+>(rt: &R, alloc: Global, machine: Machine<D>, turns: u32, blanks: Blanks) -> Outcome
+    requires replays { IsReplayOf O.start machine }
+    requires base { counts_of machine.journal ≡ O.base }
+    requires steps { (blanks.steps.name ≡ S.name) × (blanks.steps.parts ≡ S.parts) × (S.parts ≡ 2) }
+    requires bells { (blanks.bells.name ≡ B.name) × (blanks.bells.parts ≡ B.parts) × (B.parts ≡ 2) }
+    requires others { (blanks.others.name ≡ T.name) × (blanks.others.parts ≡ T.parts) × (T.parts ≡ 2) }
+    ensures { IsOutcome (Ok O.start) result }
+{
+    let Ok((shared, ports)) = Shared::<D, O, S, B, T>::new(alloc, machine, WORKERS, 0, blanks)
+    else {
+        return Outcome::NoMemory;
+    };
+    let Some(ports) = work(rt, alloc, &shared, ports, turns) else {
+        return Outcome::NoMemory;
+    };
+    let Ok(finished) = shared.finish(ports) else {
+        unreachable!()
+    };
+    match write_journal(alloc, &finished.machine) {
+        Ok(text) => Outcome::Journal(text),
+        Err(_) => Outcome::NoMemory,
+    }
+}
