@@ -13,7 +13,7 @@ ghost use Rattle.evm_model.specs.Load.{start_loaded};
 ghost use Rattle.evm_model.specs.Pipes.{Pipe, raise};
 ghost use Rattle.evm_model.specs.Ranks.{best, first, goes_before, rank};
 ghost use Rattle.evm_model.specs.Refusals.{applies};
-ghost use Rattle.evm_model.specs.Replay.{apply};
+ghost use Rattle.evm_model.specs.Replay.{apply, start};
 ghost use Rattle.evm_model.specs.Settle.{current};
 ghost use Rattle.evm_model.specs.State.{State};
 ghost use Rattle.evm_model.specs.declared.boot.Boot.{Boot};
@@ -72,6 +72,25 @@ pub fn an_image_stands_in_ram()
         slice_index (start_loaded devices byte entry boot).board.memory.ram i ≡ byte (BASE + i) }
 {
     evm_runs::loads_each_byte();
+}
+
+/// Where an image is loaded into a machine at its start, task 0, the only one, begins at the entry: its x2 is the address
+/// behind RAM, and its other registers are zero. All but RAM and this pc is as it was booted.
+pub fn an_image_begins_at_its_entry()
+    ensures hart { (devices : List Attached) (byte : ℕ → ℕ) (entry : ℕ) (boot : Boot) →
+        (hart : Hart) × ((start_loaded devices byte entry boot).board.parts.harts ≡ hart ∷ [])
+        × (hart.pc ≡ entry) × (length hart.regs ≡ 32) × (register_of hart.regs 2 ≡ BASE + boot.ram)
+        × ((r : ℕ) → r < 32 → r ≢ 2 → register_of hart.regs r ≡ 0) }
+    ensures rest { (devices : List Attached) (byte : ℕ → ℕ) (entry : ℕ) (boot : Boot) (booted loaded : State) →
+        booted ≡ start devices boot → loaded ≡ start_loaded devices byte entry boot →
+        loaded ≡ record booted {
+          board = record booted.board {
+            memory = record booted.board.memory { ram = loaded.board.memory.ram };
+            parts = record booted.board.parts { harts = loaded.board.parts.harts };
+          };
+        } }
+{
+    evm_runs::loads_the_entry();
 }
 
 /// An event that is accepted is the last of the journal afterwards, and changes no boot number; unless it is a

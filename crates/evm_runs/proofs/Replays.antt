@@ -1,13 +1,13 @@
--- How replays join, and what a load puts into RAM.
+-- How replays join, and what a load changes.
 use Rattle.std.proofs.Common.{◌≡◌, zero, suc, ◌+◌, [], ◌∷◌, false, None, refl, ap, ◌∙◌, arith}
-use Rattle.evm_model.specs.Load.{bytes_from}
+use Rattle.evm_model.specs.Load.{bytes_from, load_board}
 use Rattle.evm_model.specs.Refusals.{board_refusal, is_full}
 use Rattle.evm_model.specs.Replay.{IsReplayOf, accept, apply, left_by, replay}
 use Rattle.evm_model.specs.Rows.{row}
-use Rattle.evm_model.specs.State.{State}
+use Rattle.evm_model.specs.State.{State, booted, booted_parts}
 use Rattle.evm_model.specs.Event.{Event}
 use Rattle.evm_walk.proofs.Runs.{IsKept, replay_keeps}
-use Rattle.evm_runs.specs.Replays.{ReplaysJoin, StartsAsReplay, StaysReplay, LoadsSoManyBytes, LoadsEachByte}
+use Rattle.evm_runs.specs.Replays.{ReplaysJoin, StartsAsReplay, StaysReplay, LoadsSoManyBytes, LoadsEachByte, HartsLoaded, LoadsNoMore}
 
 pub replays_join : ReplaysJoin
 unfolding replay
@@ -49,3 +49,11 @@ loads_each_byte byte address (suc n) zero h = let same : address ≡ address + 0
 loads_each_byte byte address (suc n) (suc i) h =
     let same : address + 1 + i ≡ address + suc i = omega arith in
     loads_each_byte byte (address + 1) n i (omega arith) ∙ ap byte same
+
+pub harts_loaded : HartsLoaded
+unfolding load_board booted booted_parts
+harts_loaded devices byte entry boot = refl
+
+pub loads_no_more : LoadsNoMore
+unfolding load_board booted booted_parts
+loads_no_more devices byte entry boot = refl

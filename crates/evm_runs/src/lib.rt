@@ -11,7 +11,7 @@ ghost use Rattle.evm_runs.specs.Least.{AlwaysTellsLeast};
 ghost use Rattle.evm_runs.specs.Nudged.{AlwaysTells, AlwaysTellsLoaded};
 ghost use Rattle.evm_runs.specs.Order.{LinesRise, LogsPlayInOrder, MutexesPassByNumber, StepsReceiveLeast, WaitersWakeByNumber};
 ghost use Rattle.evm_runs.specs.Own.{CallsLeave};
-ghost use Rattle.evm_runs.specs.Replays.{LoadsEachByte, LoadsSoManyBytes, ReplaysJoin, StartsAsReplay, StaysReplay};
+ghost use Rattle.evm_runs.specs.Replays.{HartsLoaded, LoadsEachByte, LoadsNoMore, LoadsSoManyBytes, ReplaysJoin, StartsAsReplay, StaysReplay};
 ghost use Rattle.evm_runs.specs.Unanswered.{LoadsTouch, UnansweredFaults, WhoAnswersNone};
 
 /// No interrupt is lost and none is played twice: after every boot, with whichever devices, and every list of events,
@@ -136,6 +136,12 @@ pub fn stays_replay()
 pub fn loads_each_byte()
     ensures count { LoadsSoManyBytes }
     ensures each { LoadsEachByte }
+{}
+
+/// A load sets the pc of the first task, which is the only one, to the entry. It changes RAM and this pc, and nothing else.
+pub fn loads_the_entry()
+    ensures harts { HartsLoaded }
+    ensures rest { LoadsNoMore }
 {}
 
 /// Where each event for which a task waits has a mutex, and a task that doesn't wait has no deadline: the waits on a
