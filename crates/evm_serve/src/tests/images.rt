@@ -97,7 +97,7 @@ fn file_of(alloc: Global, bytes: &[u8]) -> Result<Vec<u8>, Fail> {
 }
 
 #[test]
-fn faults_of_files_are_told(rt: HostRuntime) -> Result<(), Fail> {
+fn faults_of_files_are_reported(rt: HostRuntime) -> Result<(), Fail> {
     let alloc = rt.alloc();
     let empty = file_of(alloc, b"")?;
     assert_eq!(rt; empty.len(), EMPTY);

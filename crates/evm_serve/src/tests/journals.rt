@@ -12,7 +12,7 @@ use std::process::Abort;
 use std::test::Fail;
 
 #[test]
-fn wrong_journals_are_told(rt: HostRuntime) -> Result<(), Fail> {
+fn wrong_journals_are_reported(rt: HostRuntime) -> Result<(), Fail> {
     let alloc = rt.alloc();
     let image = image_of(alloc, b"")?;
     for (journal, text) in [
