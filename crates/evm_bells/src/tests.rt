@@ -199,8 +199,10 @@ fn threads_lose_no_line(rt: HostRuntime) -> Result<(), Fail> {
         panic!(rt; "a seat is out")
     };
     assert!(rt; is_balanced(&closed));
-    assert!(rt; 0 < first.fresh);
-    assert_eq!(rt; sum(&closed.fresh), first.fresh.wrapping_add(second.fresh));
+    let fresh = first.fresh.wrapping_add(second.fresh);
+    // the first ring of each line is fresh, whichever ringer it is of
+    assert!(rt; 64 <= fresh);
+    assert_eq!(rt; sum(&closed.fresh), fresh);
     assert_eq!(rt; sum(&closed.taken), first.taken.wrapping_add(second.taken));
     Ok(())
 }
