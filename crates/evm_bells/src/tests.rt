@@ -1,4 +1,4 @@
-ghost use Rattle.std.specs.Prelude.{◌≡◌, ◌≤◌};
+ghost use Rattle.std.specs.Prelude.{◌≡◌, ◌<◌, ◌≤◌};
 ghost use Rattle.std.specs.Thread.{IsSync};
 
 use crate::{Bells, BellsRefusal, Closed, LineCounts, Ringer, SeatsOut, Taker};
@@ -135,6 +135,38 @@ fn what_nobody_took_is_left(rt: HostRuntime) {
     assert_eq!(rt; closed.left, [1, 0, 0, 0, 0, 0, 0, 0x8000_0001]);
     assert_eq!(rt; closed.fresh.get(7, 31), 1);
     assert_eq!(rt; closed.taken.get(7, 31), 0);
+}
+
+// Takes the lines of processor 0, and once more; answers both words.
+fn take_twice(bells: &Bells, mut taker: Taker) -> (Taker, [u32; 2])
+    requires { (taker.bells ≡ bells.now.id) × (0 < bells.now.cpus) }
+    ensures { result.0.bells ≡ bells.now.id }
+{
+    let first = bells.take(&mut taker, 0);
+    let second = bells.take(&mut taker, 0);
+    (taker, [first, second])
+}
+
+#[test]
+fn a_line_rung_twice_is_taken_once(rt: HostRuntime) -> Result<(), Fail> {
+    let Ok((bells, mut ringer, mut takers)) = Bells::new(rt.alloc(), 1) else {
+        panic!(rt; "no bells")
+    };
+    let Some(taker) = takers.pop() else {
+        panic!(rt; "no taker")
+    };
+    assert!(rt; bells.ring(&mut ringer, 0, 3));
+    assert!(rt; !bells.ring(&mut ringer, 0, 3));
+    let (taker, words) = take_twice(&bells, taker);
+    assert_eq!(rt; words, [8, 0]);
+    let takers = Vec::from_array(rt.alloc(), [taker])?;
+    let Ok(closed) = bells.close(ringer, takers) else {
+        panic!(rt; "a seat is out")
+    };
+    assert_eq!(rt; closed.fresh.get(0, 3), 1);
+    assert_eq!(rt; closed.taken.get(0, 3), 1);
+    assert_eq!(rt; closed.left, [0; 8]);
+    Ok(())
 }
 
 #[test]
