@@ -1,4 +1,4 @@
-ghost use Rattle.std.specs.Prelude.{◌≡◌, ◌≤◌};
+ghost use Rattle.std.specs.Prelude.{◌≡◌, ◌<◌, ◌≤◌};
 ghost use Rattle.std.specs.Thread.{IsSync};
 
 use crate::{Bells, BellsRefusal, Closed, LineCounts, Ringer, SeatsOut, Taker};
@@ -137,6 +137,38 @@ fn what_nobody_took_is_left(rt: HostRuntime) {
     assert_eq!(rt; closed.taken.get(7, 31), 0);
 }
 
+// Takes the lines of processor 0, and once more; answers both words.
+fn take_twice(bells: &Bells, mut taker: Taker) -> (Taker, [u32; 2])
+    requires { (taker.bells ≡ bells.now.id) × (0 < bells.now.cpus) }
+    ensures { result.0.bells ≡ bells.now.id }
+{
+    let first = bells.take(&mut taker, 0);
+    let second = bells.take(&mut taker, 0);
+    (taker, [first, second])
+}
+
+#[test]
+fn a_line_rung_twice_is_taken_once(rt: HostRuntime) -> Result<(), Fail> {
+    let Ok((bells, mut ringer, mut takers)) = Bells::new(rt.alloc(), 1) else {
+        panic!(rt; "no bells")
+    };
+    let Some(taker) = takers.pop() else {
+        panic!(rt; "no taker")
+    };
+    assert!(rt; bells.ring(&mut ringer, 0, 3));
+    assert!(rt; !bells.ring(&mut ringer, 0, 3));
+    let (taker, words) = take_twice(&bells, taker);
+    assert_eq!(rt; words, [8, 0]);
+    let takers = Vec::from_array(rt.alloc(), [taker])?;
+    let Ok(closed) = bells.close(ringer, takers) else {
+        panic!(rt; "a seat is out")
+    };
+    assert_eq!(rt; closed.fresh.get(0, 3), 1);
+    assert_eq!(rt; closed.taken.get(0, 3), 1);
+    assert_eq!(rt; closed.left, [0; 8]);
+    Ok(())
+}
+
 #[test]
 fn bells_close_once_all_seats_are_back(rt: HostRuntime) {
     let Ok((bells, mut ringer, takers)) = Bells::new(rt.alloc(), 2) else {
@@ -199,8 +231,10 @@ fn threads_lose_no_line(rt: HostRuntime) -> Result<(), Fail> {
         panic!(rt; "a seat is out")
     };
     assert!(rt; is_balanced(&closed));
-    assert!(rt; 0 < first.fresh);
-    assert_eq!(rt; sum(&closed.fresh), first.fresh.wrapping_add(second.fresh));
+    let fresh = first.fresh.wrapping_add(second.fresh);
+    // the first ring of each line is fresh, whichever ringer it is of
+    assert!(rt; 64 <= fresh);
+    assert_eq!(rt; sum(&closed.fresh), fresh);
     assert_eq!(rt; sum(&closed.taken), first.taken.wrapping_add(second.taken));
     Ok(())
 }
