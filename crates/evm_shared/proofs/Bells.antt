@@ -1,15 +1,14 @@
 -- Bells of a word.
-use Rattle.std.proofs.Common.{◌≡◌, ℕ, zero, suc, ◌+◌, ◌^◌, ◌<◌, ◌≤◌, ◌/◌, ◌≢◌, ◌⊎◌, inl, inr, List, [], ◌∷◌, ◌++◌, length, refl, sym, ap, ◌∙◌, arith, ◌-◌, length-append, append_assoc, bit_and}
+use Rattle.std.proofs.Common.{◌≡◌, ℕ, zero, suc, ◌+◌, ◌^◌, ◌<◌, ◌≤◌, ◌/◌, ◌≢◌, List, [], ◌∷◌, ◌++◌, length, refl, sym, ap, ◌∙◌, arith, ◌-◌, length-append, bit_and}
 use Rattle.std.proofs.lemmas.List.{append-nil}
 use Rattle.std.proofs.lemmas.Bool.Decides.{nat_tests}
 use Rattle.std.proofs.lemmas.Nat.Bits.{shr_and_one}
-use Rattle.std.specs.Prelude.{Bool, true, false, ◌==◌, if◌then◌else◌, slice_get, Option, Some, None}
+use Rattle.std.specs.Prelude.{Bool, true, false, ◌==◌, if◌then◌else◌, slice_get, Some, None}
 use Rattle.std.specs.Int.{bit_at}
 use Rattle.evm_model.specs.Event.{Event}
-use Rattle.evm_model.specs.Kinds.{AStep, ABell, Another, kind_count}
 use Rattle.evm_model.specs.declared.event.Event.TheVariants as event
 use Rattle.evm_shared.proofs.Counting.{same_counts, counts_append}
-use Rattle.evm_shared.specs.EventCounts.{counts, none, plus, counts_of}
+use Rattle.evm_shared.specs.EventCounts.{counts, counts_of}
 use Rattle.evm_shared.specs.Receipts.{bells_below}
 use Rattle.evm_shared.specs.declared.event_counts.EventCounts.{EventCounts}
 

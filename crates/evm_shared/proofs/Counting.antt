@@ -1,12 +1,12 @@
 -- Counts of events.
-use Rattle.std.proofs.Common.{◌≡◌, ℕ, zero, suc, ◌+◌, ◌^◌, ◌<◌, ◌≤◌, ◌⊎◌, inl, inr, List, [], ◌∷◌, ◌++◌, length, refl, sym, ap, ◌∙◌, arith, ⊎_elim, Err}
+use Rattle.std.proofs.Common.{◌≡◌, ℕ, zero, suc, ◌^◌, ◌<◌, ◌≤◌, List, [], ◌∷◌, ◌++◌, length, refl, ap, ◌∙◌, arith}
 use Rattle.std.proofs.lemmas.List.Sums.{count_by-le-length}
 use Rattle.std.specs.Prelude.{replicate}
 use Rattle.evm_model.proofs.Counting.{kinds_add_up}
 use Rattle.evm_model.specs.Event.{Event}
-use Rattle.evm_model.specs.Kinds.{Kind, AStep, ABell, Another, kind_of, is_same_kind, kind_count}
+use Rattle.evm_model.specs.Kinds.{AStep, ABell, Another, kind_of, is_same_kind}
 use Rattle.evm_model.specs.declared.event.Event.TheVariants as event
-use Rattle.evm_shared.specs.EventCounts.{counts, none, plus, counts_of, AreWithin, Fit}
+use Rattle.evm_shared.specs.EventCounts.{counts, plus, counts_of, Fit}
 use Rattle.evm_shared.specs.declared.event_counts.EventCounts.{EventCounts}
 
 -- equal in each kind

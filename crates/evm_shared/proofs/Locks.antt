@@ -1,9 +1,9 @@
 -- What holds of the machine under the lock.
-use Rattle.std.proofs.Common.{◌≡◌, ℕ, ◌+◌, ◌/◌, ◌^◌, ◌<◌, ◌≤◌, ◌≢◌, ◌⊎◌, inl, inr, List, [], ◌∷◌, ◌++◌, length, refl, sym, ap, ◌∙◌, arith, ⊎_elim, Err, append_assoc, bit_and, length-append}
+use Rattle.std.proofs.Common.{◌≡◌, ℕ, ◌+◌, ◌/◌, ◌^◌, ◌≢◌, inl, inr, [], ◌∷◌, ◌++◌, length, refl, sym, ap, ◌∙◌, arith, ⊎_elim, Err, append_assoc, bit_and, length-append}
 use Rattle.std.proofs.lemmas.List.{append-nil}
 use Rattle.evm_core.proofs.Outcomes.{booted_processors, same_boot, step_refusals, tick_refusals}
 use Rattle.evm_model.specs.Good.{GoodState}
-use Rattle.evm_model.specs.Replay.{apply, replay, IsReplayOf}
+use Rattle.evm_model.specs.Replay.{apply, IsReplayOf}
 use Rattle.evm_model.specs.State.{State}
 use Rattle.evm_model.specs.declared.boot.Boot.{Boot}
 use Rattle.evm_model.specs.declared.event.Event.TheVariants as event

@@ -1,5 +1,5 @@
 -- Lists of which each item is tested, up to the first that fails.
-use Rattle.std.proofs.Common.{◌≡◌, ◌↔◌, ℕ, zero, suc, ◌+◌, ◌<◌, ◌≤◌, ◌⊎◌, inl, inr, ⊎_elim, Bool, true, false, List, length, take, map, refl, sym, ap, ◌∙◌, subst, arith, get_or, Bor}
+use Rattle.std.proofs.Common.{◌≡◌, ◌↔◌, ℕ, zero, suc, ◌+◌, ◌<◌, ◌⊎◌, inl, inr, ⊎_elim, Bool, true, false, List, length, take, refl, sym, ap, ◌∙◌, subst, arith, get_or, Bor}
 use Rattle.std.proofs.Math.Seq.{take-length}
 use Rattle.std.proofs.lemmas.List.{get_or-map, get_or_read_under, take-map}
 use Rattle.std.proofs.lemmas.List.Elements.{All-more}

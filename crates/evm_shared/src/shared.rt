@@ -204,6 +204,30 @@ impl<D: Device, O: Origin, S: Ledger, B: Ledger, T: Ledger> Shared<D, O, S, B, T
         self.locked.lock(rt).one(port, &event.lend())
     }
 
+    // The machine and its ports, which are all of them, with the totals. It is never inlined into `finish`: LLVM splits a machine
+    // of 49 KB into its bytes, and doesn't end, where one body both opens the lock and hands it back.
+    #[inline(never)]
+    fn open(self, mut ports: Vec<Port<S, B, T>>) -> Finished<D, S, B, T>
+        requires all { length ports.items ≡ self }
+        ensures machine { IsReplayOf O.start result.machine × (counts_of result.machine.journal ≡ plus O.base result.totals) }
+        ensures totals { result.totals ≡ made_by ports.items }
+        ensures ports { result.ports.items ≡ ports.items }
+    {
+        let Shared { locked, ports: _ } = self;
+        let Locked {
+            machine,
+            mut books,
+            ..
+        } = locked.into_inner();
+        let _count = machine.event_count();
+        let totals = sum_all(&mut books, ports.as_mut_slice());
+        Finished {
+            machine,
+            ports,
+            totals,
+        }
+    }
+
     /// Ends the sharing, if and only if these are all ports.
     ///
     /// # Errors
@@ -211,7 +235,7 @@ impl<D: Device, O: Origin, S: Ledger, B: Ledger, T: Ledger> Shared<D, O, S, B, T
     /// What was handed in, if a port is missing.
     pub fn finish(
         self,
-        mut ports: Vec<Port<S, B, T>>,
+        ports: Vec<Port<S, B, T>>,
     ) -> Result<Finished<D, S, B, T>, Unfinished<D, O, S, B, T>>
         ensures machine { IfOk result (λ done. IsReplayOf O.start done.machine × (counts_of done.machine.journal ≡ plus O.base done.totals)) }
         ensures totals { IfOk result (λ done. done.totals ≡ made_by ports.items) }
@@ -224,19 +248,7 @@ impl<D: Device, O: Origin, S: Ledger, B: Ledger, T: Ledger> Shared<D, O, S, B, T
                 ports,
             });
         }
-        let Shared { locked, ports: _ } = self;
-        let Locked {
-            machine,
-            mut books,
-            ..
-        } = locked.into_inner();
-        let _count = machine.event_count();
-        let totals = sum_all(&mut books, ports.as_mut_slice());
-        Ok(Finished {
-            machine,
-            ports,
-            totals,
-        })
+        Ok(self.open(ports))
     }
 }
 

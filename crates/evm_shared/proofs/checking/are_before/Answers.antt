@@ -1,4 +1,4 @@
-use Rattle.std.proofs.Common.{arith, ◌≡◌, length, refl}
+use Rattle.std.proofs.Common.{arith, refl}
 use Rattle.evm_shared.specs.Receipts.{IsBefore}
 use Rattle.evm_shared.proofs.Tested.{all_done, all_fails, all_more, no_then, says_no}
 use Rattle.evm_shared.proofs.checking.are_before.Goals as goal

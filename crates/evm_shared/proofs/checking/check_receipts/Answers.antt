@@ -1,4 +1,4 @@
-use Rattle.std.proofs.Common.{◌≡◌, ◌<◌, length, refl, subst, take}
+use Rattle.std.proofs.Common.{◌<◌, length, refl, subst, take}
 use Rattle.std.proofs.lemmas.List.{get_or_read_under, length-map}
 use Rattle.evm_shared.specs.Checks.{IsFirstBreak, PortHolds, lent}
 use Rattle.evm_shared.proofs.Tested.{lent_read, lent_take, upto_more}

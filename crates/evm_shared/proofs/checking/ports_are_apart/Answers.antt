@@ -1,4 +1,4 @@
-use Rattle.std.proofs.Common.{arith, ◌≡◌, ◌<◌, ◌∙◌, length, refl, subst, sym, take, get_or}
+use Rattle.std.proofs.Common.{arith, ◌≡◌, ◌<◌, length, refl, subst}
 use Rattle.std.proofs.lemmas.List.{length-map}
 use Rattle.std.specs.Prelude.{All}
 use Rattle.evm_shared.specs.Checks.{lent}

@@ -1,6 +1,5 @@
-use Rattle.std.proofs.Common.{◌≡◌, ap, arith, length, length-append}
+use Rattle.std.proofs.Common.{ap, arith, length, length-append}
 use Rattle.evm_core.proofs.Outcomes.{bell_refusals}
-use Rattle.evm_lines.specs.declared.TheConstants.{LINES}
 use Rattle.evm_model.specs.declared.boot.Boot.{Boot}
 use Rattle.evm_shared.specs.Receipts.{bells_below}
 use Rattle.evm_shared.proofs.Bells.{few_bells}

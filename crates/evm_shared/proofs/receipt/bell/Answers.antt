@@ -1,4 +1,4 @@
-use Rattle.std.proofs.Common.{arith, ◌≡◌, ◌≤◌, ◌+◌, length, refl, sym, ap, ◌∙◌}
+use Rattle.std.proofs.Common.{arith, ◌≡◌, length, refl, sym, ap, ◌∙◌}
 use Rattle.evm_lines.specs.declared.TheConstants.{LINES}
 use Rattle.evm_shared.proofs.Bells.{bell_found, bell_missing, no_bell, one_bell}
 use Rattle.evm_shared.specs.Receipts.{bells_below}

@@ -1,4 +1,4 @@
-use Rattle.std.proofs.Common.{arith, ◌≡◌, ◌≤◌, ◌+◌, length, refl, sym, ap, ◌∙◌}
+use Rattle.std.proofs.Common.{arith, refl, ◌∙◌}
 use Rattle.evm_shared.specs.Receipts.{bells_below}
 use Rattle.evm_shared.proofs.Bells.{few_bells, no_bell, one_bell}
 use Rattle.evm_shared.proofs.receipt.bell_count.Goals.{then-word-line-eq1, else-word-line-eq1}

@@ -1,4 +1,4 @@
-use Rattle.std.proofs.Common.{◌≡◌, ◌≤◌, length}
+use Rattle.std.proofs.Common.{◌≡◌, length}
 use Rattle.evm_shared.specs.Receipts.{bells_below}
 use Rattle.evm_shared.proofs.receipt.bell_count.Given as goal
 

@@ -1,4 +1,4 @@
-use Rattle.std.proofs.Common.{◌≡◌, ℕ, ◌+◌, ◌-◌, ◌≤◌, replicate}
+use Rattle.std.proofs.Common.{◌≡◌, ◌-◌, ◌≤◌, replicate}
 use Rattle.std.specs.Prelude.{vec_capacity}
 use Rattle.evm_shared.specs.EventCounts.{none}
 use Rattle.evm_shared.specs.Ports.{fresh_port, shares_of}

@@ -1,4 +1,4 @@
-use Rattle.std.proofs.Common.{◌≡◌, sym, ap, ◌∙◌, arith, length}
+use Rattle.std.proofs.Common.{sym, ◌∙◌, arith}
 use Rattle.evm_shared.proofs.Counting.{counts_steps, counted_more, book_fits}
 use Rattle.evm_shared.proofs.Locks.{refuses}
 use Rattle.evm_shared.proofs.locked.Locked.commit.Goals as goal

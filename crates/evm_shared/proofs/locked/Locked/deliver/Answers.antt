@@ -1,4 +1,4 @@
-use Rattle.std.proofs.Common.{◌≡◌, ◌≤◌, sym, ap, ◌∙◌, arith, length, inl, inr, refl}
+use Rattle.std.proofs.Common.{arith, inl, inr, refl}
 use Rattle.evm_lines.specs.declared.TheConstants.{LINES}
 use Rattle.evm_shared.proofs.Bells.{bells_counted}
 use Rattle.evm_shared.proofs.Counting.{counted_more, book_fits}

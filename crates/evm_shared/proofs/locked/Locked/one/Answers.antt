@@ -1,4 +1,4 @@
-use Rattle.std.proofs.Common.{◌≡◌, sym, ap, ◌∙◌, arith, length}
+use Rattle.std.proofs.Common.{sym, arith}
 use Rattle.evm_model.specs.Event.{event_lent}
 use Rattle.evm_shared.proofs.Counting.{counted_more, book_fits}
 use Rattle.evm_shared.proofs.Locks.{records_one}

@@ -1,4 +1,4 @@
-use Rattle.std.proofs.Common.{◌≡◌, subst}
+use Rattle.std.proofs.Common.{subst}
 use Rattle.evm_shared.specs.Ports.{MakesOne}
 use Rattle.evm_shared.proofs.shared.Shared.command.Goals as goal
 

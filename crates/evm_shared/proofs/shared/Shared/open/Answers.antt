@@ -1,6 +1,6 @@
 use Rattle.std.proofs.Common.{arith}
 use Rattle.evm_shared.proofs.Counting.{book_fits}
-use Rattle.evm_shared.proofs.shared.Shared.finish.Goals as goal
+use Rattle.evm_shared.proofs.shared.Shared.open.Goals as goal
 
 pub sum_all-totals-requires-clause-fits : goal.sum_all-totals-requires-clause-fits
 sum_all-totals-requires-clause-fits g c =

@@ -1,0 +1,139 @@
+//! Calls through a port. Positions and answers are worked by hand.
+
+ghost use Rattle.std.specs.Prelude.{◌≡◌, IfSome};
+ghost use Rattle.evm_model.specs.Replay.{IsReplayOf};
+ghost use Rattle.evm_shared.specs.EventCounts.{counts_of};
+
+use crate::{Blanks, Finished, Made, Mismatch, Origin, Port, Receipt, Shared, check_receipts};
+use evm_bells::Bells;
+use evm_core::Machine;
+use evm_devs::Pins;
+use evm_exec::{Burst, Hart, REGISTER_COUNT};
+use evm_model::{Answer, Event, Refusal};
+use evm_ram::BASE;
+use std::alloc::Global;
+use std::marker::Brand;
+use std::sync::Wait;
+use std::sync::ledger::{Blank, Ledger};
+use std::test::Fail;
+
+// A machine with one device, and with no event.
+fn machine(alloc: Global, cpus: u8, capacity: u32) -> Option<Machine<Pins>>
+    ensures { IfSome result (λ m. IsReplayOf m m) }
+{
+    let Ok(mut machine) = Machine::boot(alloc, cpus, 65536, capacity) else {
+        return None;
+    };
+    match machine.attach(Pins::new()) {
+        Ok(_) => Some(machine),
+        Err(_) => None,
+    }
+}
+
+// Ledgers of so many parts.
+fn blanks(parts: u64) -> Blanks
+    ensures { (result.steps.parts ≡ parts) × (result.bells.parts ≡ parts) × (result.others.parts ≡ parts) }
+{
+    Blanks {
+        steps: Blank::new(parts),
+        bells: Blank::new(parts),
+        others: Blank::new(parts),
+    }
+}
+
+fn empty_burst() -> Burst {
+    Burst::empty(Hart {
+        regs: [0; REGISTER_COUNT],
+        pc: 0,
+    })
+}
+
+// Whether a port has just these receipts.
+fn has_receipts<S: Ledger, B: Ledger, T: Ledger>(port: &Port<S, B, T>, wanted: &[Receipt]) -> bool {
+    if port.receipts().len() != wanted.len() {
+        return false;
+    }
+    for i in 0..wanted.len() {
+        if port.receipts().get(i) != wanted.get(i) {
+            return false;
+        }
+    }
+    true
+}
+
+fn check_one<S: Ledger, B: Ledger, T: Ledger>(
+    machine: &Machine<Pins>,
+    port: &Port<S, B, T>,
+) -> Result<(), Mismatch> {
+    check_receipts(machine, &[port])
+}
+
+fn check_two<S: Ledger, B: Ledger, T: Ledger>(
+    machine: &Machine<Pins>,
+    first: &Port<S, B, T>,
+    second: &Port<S, B, T>,
+) -> Result<(), Mismatch> {
+    check_receipts(machine, &[first, second])
+}
+
+// A breakpoint at the first instruction: a commit hits it. A deliver names a processor that is not there.
+fn hits_a_breakpoint<O: Origin, S: Ledger, B: Ledger, T: Ledger, R: Wait>(
+    rt: &R,
+    alloc: Global,
+    machine: Machine<Pins>,
+    blanks: Blanks,
+) -> Option<bool>
+    requires replays { IsReplayOf O.start machine }
+    requires base { counts_of machine.journal ≡ O.base }
+    requires steps { (blanks.steps.name ≡ S.name) × (blanks.steps.parts ≡ S.parts) × (S.parts ≡ 1) }
+    requires bells { (blanks.bells.name ≡ B.name) × (blanks.bells.parts ≡ B.parts) × (B.parts ≡ 1) }
+    requires others { (blanks.others.name ≡ T.name) × (blanks.others.parts ≡ T.parts) × (T.parts ≡ 1) }
+{
+    let (shared, mut ports) = Shared::<Pins, O, S, B, T>::new(alloc, machine, 1, 8, blanks).ok()?;
+    let Ok((bells, _ringer, mut takers)) = Bells::new(alloc, 8) else {
+        return None;
+    };
+    let Some(mut taker) = takers.pop() else {
+        return None;
+    };
+    let mut port = ports.pop()?;
+    let broken = shared.command(rt, &mut port, &Event::Break(BASE));
+    let done = shared.commit(rt, &mut port, 0, &empty_burst()).ok()?;
+    let absent = shared.deliver(rt, &mut port, &bells, &mut taker, 8);
+    let wanted = [
+        Receipt {
+            position: 0,
+            made: Made::One(Event::Break(BASE)),
+        },
+        Receipt {
+            position: 1,
+            made: Made::Steps(0, 1),
+        },
+    ];
+    let right = has_receipts(&port, &wanted)
+        && broken == Ok(Answer::Done)
+        && done.steps == 1
+        && done.answer == Answer::Hit
+        && absent == Err(Refusal::NoSuchCpu);
+    ports.push(port).ok()?;
+    let Finished { machine, ports, .. } = shared.finish(ports).ok()?;
+    let first = ports.get(0)?;
+    let checked = check_one(&machine, first) == Ok(());
+    let twice = check_two(&machine, first, first) == Err(Mismatch { port: 1, index: 0 });
+    Some(right && checked && twice)
+}
+
+#[test]
+fn a_commit_hits_a_breakpoint(rt: HostRuntime) -> Result<(), Fail> {
+    let Some(machine) = machine(rt.alloc(), 1, 4096) else {
+        return Err(Fail::from("no machine"));
+    };
+    let right = hits_a_breakpoint::<Brand, Brand, Brand, Brand, HostRuntime>(
+        &rt,
+        rt.alloc(),
+        machine,
+        blanks(1),
+    );
+    assert_eq!(rt; right, Some(true));
+    Ok(())
+}
