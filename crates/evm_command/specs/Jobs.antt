@@ -8,12 +8,12 @@ use Rattle.evm_serve.specs.evm_streams.Reads.{Reads, ReadsText}
 use Rattle.evm_image.specs.Images.{Contents}
 use Rattle.evm_serve.specs.evm_asm.Assembled.{program_of}
 use Rattle.evm_serve.specs.evm_asm_lexer.Faults.{reported}
-use Rattle.evm_serve.specs.Given.{Attached, Given, an_image, no_image}
-use Rattle.evm_serve.specs.Message.{about, Reports, ReportsAll}
-use Rattle.evm_serve.specs.Notes.{notes, EndsNotes}
-use Rattle.evm_serve.specs.Told.{told}
+use Rattle.evm_serve.specs.RunOptions.{Attached, RunOptions, image_options, bare_options}
+use Rattle.evm_messages.specs.Diagnostic.{about, Reports, ReportsAll}
+use Rattle.evm_serve.specs.RunNotes.{notes, EndsNotes}
+use Rattle.evm_serve.specs.Script.{script_report}
 use Rattle.evm_serve.specs.Serving.{Finishes, Unread}
-use Rattle.evm_serve.specs.Replaying.{replay_told}
+use Rattle.evm_serve.specs.Replaying.{replay_report}
 use Rattle.evm_serve.specs.Assembling.{Assembles}
 use Rattle.evm_serve.specs.Imaging.{Checks}
 use Rattle.evm_serve.specs.declared.ending.Ending.{Ending}
@@ -33,24 +33,24 @@ module _ {S O C I W E : Type 0} where
 
   -- Words that are no text end a run with status 2.
   abbrev pub NotWords : (E → Writing → List ℕ → E → Type 0) → World S O C I W E → World S O C I W E → ℕ → Type 0
-  NotWords tells w w' status = AsksNothing w w' × ((w'.output ≡ w.output) × Reports tells (about program_name (codes "a word of the command line is not UTF-8")) w.errors w'.errors × (status ≡ 2))
+  NotWords reports w w' status = AsksNothing w w' × ((w'.output ≡ w.output) × Reports reports (about program_name (codes "a word of the command line is not UTF-8")) w.errors w'.errors × (status ≡ 2))
 
   -- An input that can't be read ends a job, and nothing else is asked for; where memory was refused, the line `memory` is written.
   abbrev pub NotRead : (W → Writing → List ℕ → W → Type 0) → (E → Writing → List ℕ → E → Type 0) → List ℕ → ReadStop → World S O C I W E → World S O C I W E → ℕ → Type 0
-  NotRead writes tells name stop w w' status = AsksNothing w w' × ((ending : Ending) × Unread writes stop w.output w'.output ending × Ended tells name ending w.errors w'.errors status)
+  NotRead writes reports name stop w w' status = AsksNothing w w' × ((ending : Ending) × Unread writes stop w.output w'.output ending × Ended reports name ending w.errors w'.errors status)
 
-  -- A file that can't be opened or created ends a job with status 4: standard error is told its name and why, and nothing else is asked for.
+  -- A file that can't be opened or created ends a job with status 4: its name and the reason are reported, and nothing else is asked for.
   abbrev pub NotOpened : (E → Writing → List ℕ → E → Type 0) → List ℕ → World S O C I W E → World S O C I W E → ℕ → Type 0
-  NotOpened tells text w w' status = AsksNothing w w' × ((w'.output ≡ w.output) × Reports tells text w.errors w'.errors × (status ≡ 4))
+  NotOpened reports text w w' status = AsksNothing w w' × ((w'.output ≡ w.output) × Reports reports text w.errors w'.errors × (status ≡ 4))
 
 module _ {S O C I W E : Type 0} (creates : S → List ℕ → Result C OpenFault → S → Type 0) (created : C → Writing → List ℕ → C → Type 0)
-    (writes : W → Writing → List ℕ → W → Type 0) (tells : E → Writing → List ℕ → E → Type 0) where
+    (writes : W → Writing → List ℕ → W → Type 0) (reports : E → Writing → List ℕ → E → Type 0) where
   -- the text of a source is assembled into the file that was created
   abbrev pub AssemblesSource : List ℕ → List ℕ → List ℕ → Result C OpenFault → World S O C I W E → World S O C I W E → ℕ → Type 0
-  AssemblesSource source out text (Err fault) w w' status = NotOpened tells (not_created_text out fault) w w' status
+  AssemblesSource source out text (Err fault) w w' status = NotOpened reports (not_created_text out fault) w w' status
   AssemblesSource source out text (Ok file) w w' status = AsksNothing w w' × ((ending : Ending) × (file' : C)
-      × (between : E) × Assembles created writes (reported (program_of text)) file file' w.output w'.output ending × EndedWith tells (Source text) source ending w.errors between status
-      × ReportsAll tells (out_texts source out ending) between w'.errors)
+      × (between : E) × Assembles created writes (reported (program_of text)) file file' w.output w'.output ending × EndedWith reports (Source text) source ending w.errors between status
+      × ReportsAll reports (out_texts source out ending) between w'.errors)
 
   -- OUT is created for a source that was read
   abbrev pub Creates : List ℕ → List ℕ → List ℕ → World S O C I W E → World S O C I W E → ℕ → Type 0
@@ -58,57 +58,57 @@ module _ {S O C I W E : Type 0} (creates : S → List ℕ → Result C OpenFault
 
 module _ {S O C I W E : Type 0} (opens : S → List ℕ → Result O OpenFault → S → Type 0) (creates : S → List ℕ → Result C OpenFault → S → Type 0)
     (opened : O → Reading → List ℕ → O → Type 0) (created : C → Writing → List ℕ → C → Type 0)
-    (writes : W → Writing → List ℕ → W → Type 0) (tells : E → Writing → List ℕ → E → Type 0) where
+    (writes : W → Writing → List ℕ → W → Type 0) (reports : E → Writing → List ℕ → E → Type 0) where
   -- Where the source was not read, OUT is never asked for.
   abbrev pub ReadsSource : List ℕ → List ℕ → Result (List ℕ) ReadStop → World S O C I W E → World S O C I W E → ℕ → Type 0
-  ReadsSource source out (Ok text) w w' status = Creates creates created writes tells source out text w w' status
-  ReadsSource source out (Err stop) w w' status = NotRead writes tells source stop w w' status
+  ReadsSource source out (Ok text) w w' status = Creates creates created writes reports source out text w w' status
+  ReadsSource source out (Err stop) w w' status = NotRead writes reports source stop w w' status
 
   -- the source is read to its end from the file that was opened
   abbrev pub OpensSource : List ℕ → List ℕ → Result O OpenFault → World S O C I W E → World S O C I W E → ℕ → Type 0
-  OpensSource source out (Err fault) w w' status = NotOpened tells (not_opened_text source fault) w w' status
+  OpensSource source out (Err fault) w w' status = NotOpened reports (not_opened_text source fault) w w' status
   OpensSource source out (Ok file) w w' status = (read : Result (List ℕ) ReadStop) × (file' : O) × ReadsText opened file file' read × ReadsSource source out read w w' status
 
   -- `asm SRC OUT`: SRC is opened and read, and then OUT is created.
   abbrev pub AssemblesFile : List ℕ → List ℕ → World S O C I W E → World S O C I W E → ℕ → Type 0
   AssemblesFile source out w w' status = (answer : Result O OpenFault) × (files : S) × opens w.files source answer files × OpensSource source out answer (record w { files = files }) w' status
 
-module _ {S O C I W E : Type 0} (writes : W → Writing → List ℕ → W → Type 0) (tells : E → Writing → List ℕ → E → Type 0) where
+module _ {S O C I W E : Type 0} (writes : W → Writing → List ℕ → W → Type 0) (reports : E → Writing → List ℕ → E → Type 0) where
   -- the text of a journal is replayed with devices and an image
   abbrev pub ReplaysText : List Attached → List ℕ → Contents → List ℕ → World S O C I W E → World S O C I W E → ℕ → Type 0
   ReplaysText devices path image text w w' status = AsksNothing w w' × ((ending : Ending)
-      × Finishes writes (replay_told (an_image devices image) text) w.output w'.output ending × EndedWith tells (Lines (Some image) text) path ending w.errors w'.errors status)
+      × Finishes writes (replay_report (image_options devices image) text) w.output w'.output ending × EndedWith reports (Lines (Some image) text) path ending w.errors w'.errors status)
 
   abbrev pub ReplaysRead : List Attached → List ℕ → Contents → Result (List ℕ) ReadStop → World S O C I W E → World S O C I W E → ℕ → Type 0
   ReplaysRead devices path image (Ok text) w w' status = ReplaysText devices path image text w w' status
-  ReplaysRead devices path image (Err stop) w w' status = NotRead writes tells path stop w w' status
+  ReplaysRead devices path image (Err stop) w w' status = NotRead writes reports path stop w w' status
 
   -- the image of the bytes of a file, or the status of a job whose file has a fault
   abbrev pub ImportsBytes : List ℕ → List ℕ → World S O C I W E → World S O C I W E → Result Contents ℕ → Type 0
   ImportsBytes path file w w' (Ok image) = AsksNothing w w' × Checks writes file w.output w'.output (Ok image) × (w'.errors ≡ w.errors)
-  ImportsBytes path file w w' (Err status) = AsksNothing w w' × ((ending : Ending) × Checks writes file w.output w'.output (Err ending) × EndedWith tells (File file) path ending w.errors w'.errors status)
+  ImportsBytes path file w w' (Err status) = AsksNothing w w' × ((ending : Ending) × Checks writes file w.output w'.output (Err ending) × EndedWith reports (File file) path ending w.errors w'.errors status)
 
-  -- a script is served, with what is given to its run; its notes come before its ending
-  abbrev pub ServesScript : Given → List ℕ → World S O C I W E → World S O C I W E → ℕ → Type 0
-  ServesScript given script w w' status = AsksNothing w w' × ((ending : Ending)
-      × (between : E) × Finishes writes (told given script) w.output w'.output ending × EndsNotes tells (notes given script_name script) ending w.errors between
-      × EndedWith tells (Lines given.image script) script_name ending between w'.errors status)
+  -- a script is served, with the options of its run; its notes come before its ending
+  abbrev pub ServesScript : RunOptions → List ℕ → World S O C I W E → World S O C I W E → ℕ → Type 0
+  ServesScript options script w w' status = AsksNothing w w' × ((ending : Ending)
+      × (between : E) × Finishes writes (script_report options script) w.output w'.output ending × EndsNotes reports (notes options script_name script) ending w.errors between
+      × EndedWith reports (Lines options.image script) script_name ending between w'.errors status)
 
-  abbrev pub ServesRead : Given → Result (List ℕ) ReadStop → World S O C I W E → World S O C I W E → ℕ → Type 0
-  ServesRead given (Ok script) w w' status = ServesScript given script w w' status
-  ServesRead given (Err stop) w w' status = NotRead writes tells input_name stop w w' status
+  abbrev pub ServesRead : RunOptions → Result (List ℕ) ReadStop → World S O C I W E → World S O C I W E → ℕ → Type 0
+  ServesRead options (Ok script) w w' status = ServesScript options script w w' status
+  ServesRead options (Err stop) w w' status = NotRead writes reports input_name stop w w' status
 
 module _ {S O C I W E : Type 0} (opens : S → List ℕ → Result O OpenFault → S → Type 0)
-    (opened : O → Reading → List ℕ → O → Type 0) (writes : W → Writing → List ℕ → W → Type 0) (tells : E → Writing → List ℕ → E → Type 0) where
+    (opened : O → Reading → List ℕ → O → Type 0) (writes : W → Writing → List ℕ → W → Type 0) (reports : E → Writing → List ℕ → E → Type 0) where
   -- the image of a file that was read, or the status of a job that has none
   abbrev pub Imported : List ℕ → Result (List ℕ) ReadStop → World S O C I W E → World S O C I W E → Result Contents ℕ → Type 0
-  Imported path (Ok file) w w' result = ImportsBytes writes tells path file w w' result
+  Imported path (Ok file) w w' result = ImportsBytes writes reports path file w w' result
   Imported path (Err stop) w w' (Ok image) = ⊥
-  Imported path (Err stop) w w' (Err status) = NotRead writes tells path stop w w' status
+  Imported path (Err stop) w w' (Err status) = NotRead writes reports path stop w w' status
 
   abbrev pub ReadsImage : List ℕ → Result O OpenFault → World S O C I W E → World S O C I W E → Result Contents ℕ → Type 0
   ReadsImage path (Err fault) w w' (Ok image) = ⊥
-  ReadsImage path (Err fault) w w' (Err status) = NotOpened tells (not_opened_text path fault) w w' status
+  ReadsImage path (Err fault) w w' (Err status) = NotOpened reports (not_opened_text path fault) w w' status
   ReadsImage path (Ok file) w w' result = (read : Result (List ℕ) ReadStop) × (file' : O) × Reads opened file file' read × Imported path read w w' result
 
   -- IMAGE is opened and imported.
@@ -117,8 +117,8 @@ module _ {S O C I W E : Type 0} (opens : S → List ℕ → Result O OpenFault �
 
   -- a journal is read to its end from the file that was opened
   abbrev pub ReplaysFile : List Attached → List ℕ → Contents → Result O OpenFault → World S O C I W E → World S O C I W E → ℕ → Type 0
-  ReplaysFile devices path image (Err fault) w w' status = NotOpened tells (not_opened_text path fault) w w' status
-  ReplaysFile devices path image (Ok file) w w' status = (read : Result (List ℕ) ReadStop) × (file' : O) × ReadsText opened file file' read × ReplaysRead writes tells devices path image read w w' status
+  ReplaysFile devices path image (Err fault) w w' status = NotOpened reports (not_opened_text path fault) w w' status
+  ReplaysFile devices path image (Ok file) w w' status = (read : Result (List ℕ) ReadStop) × (file' : O) × ReadsText opened file file' read × ReplaysRead writes reports devices path image read w w' status
 
   abbrev pub ReplaysJournal : List Attached → List ℕ → Contents → World S O C I W E → World S O C I W E → ℕ → Type 0
   ReplaysJournal devices path image w w' status = (answer : Result O OpenFault) × (files : S) × opens w.files path answer files × ReplaysFile devices path image answer (record w { files = files }) w' status
@@ -127,19 +127,19 @@ module _ {S O C I W E : Type 0} (opens : S → List ℕ → Result O OpenFault �
   abbrev pub Replays : List Attached → List ℕ → List ℕ → World S O C I W E → World S O C I W E → ℕ → Type 0
   Replays devices path journal w w' status = (loaded : Result Contents ℕ) × (between : World S O C I W E) × Loads path w between loaded × Behind loaded (ReplaysJournal devices journal) between w' status
 
-module _ {S O C I W E : Type 0} (gives : I → Reading → List ℕ → I → Type 0) (writes : W → Writing → List ℕ → W → Type 0) (tells : E → Writing → List ℕ → E → Type 0) where
+module _ {S O C I W E : Type 0} (gives : I → Reading → List ℕ → I → Type 0) (writes : W → Writing → List ℕ → W → Type 0) (reports : E → Writing → List ℕ → E → Type 0) where
   -- the script of standard input is read to its end, and then served
-  abbrev pub ServesInput : Given → World S O C I W E → World S O C I W E → ℕ → Type 0
-  ServesInput given w w' status = (read : Result (List ℕ) ReadStop) × (input : I) × Reads gives w.input input read × ServesRead writes tells given read (record w { input = input }) w' status
+  abbrev pub ServesInput : RunOptions → World S O C I W E → World S O C I W E → ℕ → Type 0
+  ServesInput options w w' status = (read : Result (List ℕ) ReadStop) × (input : I) × Reads gives w.input input read × ServesRead writes reports options read (record w { input = input }) w' status
 
 module _ {S O C I W E : Type 0} (opens : S → List ℕ → Result O OpenFault → S → Type 0) (opened : O → Reading → List ℕ → O → Type 0)
-    (gives : I → Reading → List ℕ → I → Type 0) (writes : W → Writing → List ℕ → W → Type 0) (tells : E → Writing → List ℕ → E → Type 0) where
+    (gives : I → Reading → List ℕ → I → Type 0) (writes : W → Writing → List ℕ → W → Type 0) (reports : E → Writing → List ℕ → E → Type 0) where
   -- `run IMAGE`: once IMAGE is imported, standard input is served with it.
   abbrev pub RunsImage : List Attached → List ℕ → World S O C I W E → World S O C I W E → ℕ → Type 0
   RunsImage devices path w w' status = (loaded : Result Contents ℕ) × (between : World S O C I W E)
-      × Loads opens opened writes tells path w between loaded × Behind loaded (λ image. ServesInput gives writes tells (an_image devices image)) between w' status
+      × Loads opens opened writes reports path w between loaded × Behind loaded (λ image. ServesInput gives writes reports (image_options devices image)) between w' status
 
   -- `run` alone opens nothing.
   abbrev pub Runs : List Attached → Option (List ℕ) → World S O C I W E → World S O C I W E → ℕ → Type 0
-  Runs devices None w w' status = ServesInput gives writes tells (no_image devices) w w' status
+  Runs devices None w w' status = ServesInput gives writes reports (bare_options devices) w w' status
   Runs devices (Some path) w w' status = RunsImage devices path w w' status

@@ -1,8 +1,8 @@
 pub mod ProgramDevices
 pub mod Exit
-pub mod ImageSentences
+pub mod ImageMessages
 pub mod Jobs
-pub mod SourceSentences
+pub mod SourceMessages
 pub mod Words
 pub mod Running
 pub mod Trusted

@@ -7,7 +7,7 @@ use Rattle.evm_serve.specs.evm_streams.Writes.{Took, TookPrefix}
 use Rattle.clap.specs.Words.{Text, IsAmong, fault_of, subcommand_of}
 use Rattle.clap.specs.declared.error.ErrorKind.{ErrorKind}
 use Rattle.clap.specs.declared.error.ErrorKind.TheVariants.{DisplayHelp, DisplayVersion, OutOfMemory}
-use Rattle.evm_serve.specs.Given.{Attached}
+use Rattle.evm_serve.specs.RunOptions.{Attached}
 use Rattle.evm_serve.specs.Serving.{WritesAll}
 use Rattle.evm_serve.specs.declared.ending.Ending.{Ending}
 use Rattle.evm_serve.specs.declared.ending.Verdict.TheVariants.{Done}
@@ -20,48 +20,48 @@ use Rattle.evm_command.specs.Exit.{program_name, Ended}
 use Rattle.evm_command.specs.Jobs.{AsksNothing, NotWords, NotRead, AssemblesFile, Runs, Replays}
 use Rattle.evm_command.specs.Words.{Wanted, Assemble, Run, Replay, evltool, job_of}
 
-module _ {S O C I W E : Type 0} (writes : W → Writing → List ℕ → W → Type 0) (tells : E → Writing → List ℕ → E → Type 0) where
+module _ {S O C I W E : Type 0} (writes : W → Writing → List ℕ → W → Type 0) (reports : E → Writing → List ℕ → E → Type 0) where
   -- Help or the version is written to standard output.
   abbrev pub Shows : List ℕ → World S O C I W E → World S O C I W E → ℕ → Type 0
-  Shows text w w' status = AsksNothing w w' × ((ending : Ending) × WritesAll writes (record { text = text; verdict = Done }) w.output w'.output ending × Ended tells program_name ending w.errors w'.errors status)
+  Shows text w w' status = AsksNothing w w' × ((ending : Ending) × WritesAll writes (record { text = text; verdict = Done }) w.output w'.output ending × Ended reports program_name ending w.errors w'.errors status)
 
   -- What is wrong with the words is written to standard error: the status is 2, or 4 where a write failed.
   abbrev pub Blames : List ℕ → World S O C I W E → World S O C I W E → ℕ → Type 0
   Blames text w w' status = AsksNothing w w' × ((w'.output ≡ w.output)
-      × ((Took tells w.errors text w'.errors × (status ≡ 2)) ⊎ (TookPrefix tells w.errors text w'.errors × (status ≡ 4))))
+      × ((Took reports w.errors text w'.errors × (status ≡ 2)) ⊎ (TookPrefix reports w.errors text w'.errors × (status ≡ 4))))
 
   -- The text for the words, by its kind, unless memory is refused to it.
-  abbrev pub Says : ErrorKind → List ℕ → World S O C I W E → World S O C I W E → ℕ → Type 0
-  Says DisplayHelp text w w' status = Shows text w w' status
-  Says DisplayVersion text w w' status = Shows text w w' status
-  Says OutOfMemory text w w' status = NotRead writes tells program_name NoMemory w w' status
-  Says kind text w w' status = Blames text w w' status
+  abbrev pub Responds : ErrorKind → List ℕ → World S O C I W E → World S O C I W E → ℕ → Type 0
+  Responds DisplayHelp text w w' status = Shows text w w' status
+  Responds DisplayVersion text w w' status = Shows text w w' status
+  Responds OutOfMemory text w w' status = NotRead writes reports program_name NoMemory w w' status
+  Responds kind text w w' status = Blames text w w' status
 
   abbrev pub Refuses : ErrorKind → World S O C I W E → World S O C I W E → ℕ → Type 0
-  Refuses kind w w' status = NotRead writes tells program_name NoMemory w w' status ⊎ ((text : List ℕ) × Says kind text w w' status)
+  Refuses kind w w' status = NotRead writes reports program_name NoMemory w w' status ⊎ ((text : List ℕ) × Responds kind text w w' status)
 
 module _ {S O C I W E : Type 0} (opens : S → List ℕ → Result O OpenFault → S → Type 0) (creates : S → List ℕ → Result C OpenFault → S → Type 0)
     (opened : O → Reading → List ℕ → O → Type 0) (created : C → Writing → List ℕ → C → Type 0) (gives : I → Reading → List ℕ → I → Type 0)
-    (writes : W → Writing → List ℕ → W → Type 0) (tells : E → Writing → List ℕ → E → Type 0) where
+    (writes : W → Writing → List ℕ → W → Type 0) (reports : E → Writing → List ℕ → E → Type 0) where
   -- a job, with the names of its files, and the devices of its machine
   abbrev pub Does : List Attached → Wanted → World S O C I W E → World S O C I W E → ℕ → Type 0
-  Does devices (Assemble source out) w w' status = AssemblesFile opens creates opened created writes tells source out w w' status
-  Does devices (Run image) w w' status = Runs opens opened gives writes tells devices image w w' status
-  Does devices (Replay image journal) w w' status = Replays opens opened writes tells devices image journal w w' status
+  Does devices (Assemble source out) w w' status = AssemblesFile opens creates opened created writes reports source out w w' status
+  Does devices (Run image) w w' status = Runs opens opened gives writes reports devices image w w' status
+  Does devices (Replay image journal) w w' status = Replays opens opened writes reports devices image journal w w' status
 
   -- where no job is named, nothing is asked for
   abbrev pub DoesNamed : List Attached → Option Wanted → World S O C I W E → World S O C I W E → ℕ → Type 0
   DoesNamed devices (Some job) w w' status = Does devices job w w' status
   DoesNamed devices None w w' status = (w' ≡ w) × (status ≡ 2)
 
-  -- Words without a fault name a job, which is done. Words with faults are told one of them; and memory may be refused to any.
+  -- Words without a fault name a job, which is done. Of words with faults one fault is reported; and memory may be refused to any.
   abbrev pub Answers : List Attached → List Text → World S O C I W E → World S O C I W E → ℕ → Type 0
   Answers devices words w w' status =
       ((fault_of evltool words ≡ []) × DoesNamed devices (job_of (subcommand_of evltool words)) w w' status)
-      ⊎ ((kind : ErrorKind) × ((kind ≡ OutOfMemory) ⊎ IsAmong kind (fault_of evltool words)) × Refuses writes tells kind w w' status)
+      ⊎ ((kind : ErrorKind) × ((kind ≡ OutOfMemory) ⊎ IsAmong kind (fault_of evltool words)) × Refuses writes reports kind w w' status)
 
-module _ {S O C I W E : Type 0} (writes : W → Writing → List ℕ → W → Type 0) (tells : E → Writing → List ℕ → E → Type 0) where
-  -- Where there are no words, nothing is asked for but that this is told.
+module _ {S O C I W E : Type 0} (writes : W → Writing → List ℕ → W → Type 0) (reports : E → Writing → List ℕ → E → Type 0) where
+  -- If there are no words, this is reported and nothing else is asked for.
   abbrev pub HasNoWords : WordsFault → World S O C I W E → World S O C I W E → ℕ → Type 0
-  HasNoWords NotText w w' status = NotWords tells w w' status
-  HasNoWords faults.NoMemory w w' status = NotRead writes tells program_name NoMemory w w' status
+  HasNoWords NotText w w' status = NotWords reports w w' status
+  HasNoWords faults.NoMemory w w' status = NotRead writes reports program_name NoMemory w w' status

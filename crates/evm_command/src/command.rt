@@ -3,7 +3,7 @@
 ghost use Rattle.std.specs.Prelude.{MatchResult, map, option_map};
 ghost use Rattle.std.specs.String.{string_bytes};
 ghost use Rattle.clap.specs.Words.{kind_of};
-ghost use Rattle.evm_command.specs.Running.{Shows, Blames, Says, Refuses, Does, DoesNamed, Answers, HasNoWords};
+ghost use Rattle.evm_command.specs.Running.{Shows, Blames, Responds, Refuses, Does, DoesNamed, Answers, HasNoWords};
 ghost use Rattle.evm_command.specs.Words.{wanted};
 
 use crate::assembling::assemble_file;
@@ -39,9 +39,9 @@ fn blame<S: System>(text: &str, world: &mut World<S>) -> u8
     }
 }
 
-// Says what is to be said of the words.
-fn say<S: System>(kind: ErrorKind, text: &str, world: &mut World<S>) -> u8
-    ensures { Says S.Output.takes S.Errors.takes kind text.now world.old world.new result }
+// Writes the text for the words: help, the version, or what is wrong with them.
+fn respond<S: System>(kind: ErrorKind, text: &str, world: &mut World<S>) -> u8
+    ensures { Responds S.Output.takes S.Errors.takes kind text.now world.old world.new result }
 {
     match kind {
         ErrorKind::DisplayHelp | ErrorKind::DisplayVersion => show(text, world),
@@ -79,7 +79,7 @@ fn refuse<S: System>(alloc: Global, error: &Error, words: &[String], world: &mut
 {
     let tip = tip(error.kind(), words);
     match format!(in alloc; "{error}{tip}") {
-        Ok(text) => say(error.kind(), text.as_str(), world),
+        Ok(text) => respond(error.kind(), text.as_str(), world),
         Err(_) => memory_refused(world),
     }
 }
@@ -115,7 +115,7 @@ fn do_named<S: System, D: Device>(
     }
 }
 
-/// Does what the words ask for, with devices in the machine, and answers the exit status.
+/// Does what the words ask for, with devices in the machine, and returns the exit status.
 pub fn answer<S: System, D: Device>(
     alloc: Global,
     words: &[String],
@@ -139,7 +139,7 @@ pub enum WordsFault {
     NoMemory,
 }
 
-/// Does what the words ask for that were read, or says why there are none, and answers the exit status.
+/// Does what the words ask for, or reports why they could not be read, and returns the exit status.
 pub fn answer_read<S: System, D: Device>(
     alloc: Global,
     words: Result<Vec<String>, WordsFault>,

@@ -1,22 +1,23 @@
 //! What standard error gets at the end of a job, and the status of the job.
 
 ghost use Rattle.std.specs.Prelude.{◌≡◌, codes, option_copied};
-ghost use Rattle.evm_serve.specs.Details.{fault_detail};
-ghost use Rattle.evm_serve.specs.Faults.{sentence_text};
-ghost use Rattle.evm_serve.specs.Lookup.{has_boot};
-ghost use Rattle.evm_serve.specs.Message.{Reports, ReportsAll, message_text};
+ghost use Rattle.evm_serve.specs.evm_diagnostics.Details.{fault_detail};
+ghost use Rattle.evm_messages.specs.Message.{message_text};
+ghost use Rattle.evm_serve.specs.evm_diagnostics.Lookup.{has_boot};
+ghost use Rattle.evm_messages.specs.Diagnostic.{Reports, ReportsAll, diagnostic_text};
 ghost use Rattle.evm_serve.specs.Serving.{Unread};
 ghost use Rattle.evm_command.specs.Jobs.{NotRead, NotWords};
-ghost use Rattle.evm_serve.specs.Excerpt.{quoting};
-ghost use Rattle.evm_command.specs.Exit.{Explains, Ended, EndedWith, Source, known_of, quoted_line, fault_words, image_words, Boots, Finished, program_name, shown_path, not_opened_sentence, not_opened_text, not_created_sentence, not_created_text, failed_read_sentence, failed_write_sentence, not_read_sentence, output_name, emptied_texts, out_texts};
+ghost use Rattle.evm_messages.specs.Excerpt.{quoting};
+ghost use Rattle.evm_command.specs.Exit.{Explains, Ended, EndedWith, Source, known_of, quoted_line, fault_diagnostic, image_fault_message, Boots, Finished, program_name, shown_path, not_opened_message, not_opened_text, not_created_message, not_created_text, failed_read_message, failed_write_message, not_read_message, output_name, emptied_texts, out_texts};
 
-use crate::image_sentence::image_sentence;
-use crate::source_sentence::source_words;
+use crate::image_message::image_message;
+use crate::source_message::source_diagnostic;
 use crate::system::{OpenFault, System, World};
 use evm_image::Image;
+use evm_messages::{Diagnostic, Message, report, report_line};
 use evm_serve::{
-    Cause, ElfFault, Ending, Fault, Message, ReadFault, ReadStop, Sentence, Sink, Verdict,
-    fault_detail, has_boot, line_numbered, report, report_line, write_all,
+    Cause, ElfFault, Ending, InputFault, ReadFault, ReadStop, Sink, Verdict, fault_detail,
+    has_boot, line_numbered, write_all,
 };
 
 /// The status where a file can't be opened, created, read or written.
@@ -25,7 +26,7 @@ pub(crate) const FAILED: u8 = 4;
 /// The status where the words are no command.
 pub(crate) const USAGE: u8 = 2;
 
-/// The name under which the program tells what is about no file.
+/// The name in front of messages that are about no file.
 pub(crate) const PROGRAM: &str = "evltool";
 
 /// The name of the stream that reports are written to.
@@ -53,8 +54,8 @@ fn shown_path(path: &str) -> &str
     if path.len() == 0 { "''" } else { path }
 }
 
-fn not_opened_sentence(fault: OpenFault) -> &'static str
-    ensures { result.now ≡ not_opened_sentence fault }
+fn not_opened_message(fault: OpenFault) -> &'static str
+    ensures { result.now ≡ not_opened_message fault }
 {
     match fault {
         OpenFault::Missing => "can't be opened: no such file",
@@ -71,18 +72,18 @@ fn not_opened_sentence(fault: OpenFault) -> &'static str
     }
 }
 
-/// Reports that a file can't be opened, and why, and answers the status.
+/// Reports that a file can't be opened, and why, and returns the status.
 pub(crate) fn not_opened<E: Sink>(path: &str, fault: OpenFault, errors: &mut E) -> u8
-    ensures told { Reports E.takes (not_opened_text path.now fault) errors.old errors.new }
+    ensures report { Reports E.takes (not_opened_text path.now fault) errors.old errors.new }
     ensures status { result ≡ 4 }
 {
-    let sentence = Sentence::Plain(not_opened_sentence(fault));
-    report(shown_path(path), sentence, errors);
+    let message = Message::Plain(not_opened_message(fault));
+    report(shown_path(path), message, errors);
     FAILED
 }
 
-fn not_created_sentence(fault: OpenFault) -> &'static str
-    ensures { result.now ≡ not_created_sentence fault }
+fn not_created_message(fault: OpenFault) -> &'static str
+    ensures { result.now ≡ not_created_message fault }
 {
     match fault {
         OpenFault::Missing => "can't be created: no such folder",
@@ -99,18 +100,18 @@ fn not_created_sentence(fault: OpenFault) -> &'static str
     }
 }
 
-/// Reports that a file can't be created, and why, and answers the status.
+/// Reports that a file can't be created, and why, and returns the status.
 pub(crate) fn not_created<E: Sink>(path: &str, fault: OpenFault, errors: &mut E) -> u8
-    ensures told { Reports E.takes (not_created_text path.now fault) errors.old errors.new }
+    ensures report { Reports E.takes (not_created_text path.now fault) errors.old errors.new }
     ensures status { result ≡ 4 }
 {
-    let sentence = Sentence::Plain(not_created_sentence(fault));
-    report(shown_path(path), sentence, errors);
+    let message = Message::Plain(not_created_message(fault));
+    report(shown_path(path), message, errors);
     FAILED
 }
 
-fn failed_read_sentence(cause: Cause) -> &'static str
-    ensures { result.now ≡ failed_read_sentence cause }
+fn failed_read_message(cause: Cause) -> &'static str
+    ensures { result.now ≡ failed_read_message cause }
 {
     match cause {
         Cause::Folder => "a read failed: it is a folder",
@@ -125,8 +126,8 @@ fn failed_read_sentence(cause: Cause) -> &'static str
     }
 }
 
-fn failed_write_sentence(cause: Cause) -> &'static str
-    ensures { result.now ≡ failed_write_sentence cause }
+fn failed_write_message(cause: Cause) -> &'static str
+    ensures { result.now ≡ failed_write_message cause }
 {
     match cause {
         Cause::Folder => "a write failed: it is a folder",
@@ -141,69 +142,69 @@ fn failed_write_sentence(cause: Cause) -> &'static str
     }
 }
 
-fn not_read_sentence(fault: ReadFault) -> &'static str
-    ensures { result.now ≡ not_read_sentence fault }
+fn not_read_message(fault: ReadFault) -> &'static str
+    ensures { result.now ≡ not_read_message fault }
 {
     match fault {
-        ReadFault::Failed(cause) => failed_read_sentence(cause),
+        ReadFault::Failed(cause) => failed_read_message(cause),
         ReadFault::TooLong => "more than 16777216 bytes",
         ReadFault::NotUtf8 => "not UTF-8",
     }
 }
 
 // The line of a script or a journal that is faulty. A line that the machine refuses is not quoted.
-fn quoted_line(text: &[u8], fault: Fault) -> Option<&[u8]>
+fn quoted_line(text: &[u8], fault: InputFault) -> Option<&[u8]>
     ensures { option_copied result ≡ quoted_line text.now fault }
 {
     match fault {
-        Fault::BadLine(number, _) => line_numbered(number, text),
-        Fault::NoJournal(fault) => line_numbered(fault.line, text),
-        Fault::Refused(_, _, _) | Fault::NoProgram(_) => None,
+        InputFault::BadLine(number, _) => line_numbered(number, text),
+        InputFault::NoJournal(fault) => line_numbered(fault.line, text),
+        InputFault::Refused(_, _, _) | InputFault::NoProgram(_) => None,
     }
 }
 
-// What is said of a fault of a script or a journal.
-fn line_words<'a>(image: Option<&Image>, text: &'a [u8], fault: Fault) -> Message<'a>
-    ensures { message_text result ≡ quoting (fault_detail (option_copied image.entry) text.now fault) (codes ": \"") (quoted_line text.now fault) }
+// The diagnostic of a fault of a script or a journal.
+fn line_diagnostic<'a>(image: Option<&Image>, text: &'a [u8], fault: InputFault) -> Diagnostic<'a>
+    ensures { diagnostic_text result ≡ quoting (fault_detail (option_copied image.entry) text.now fault) (codes ": \"") (quoted_line text.now fault) }
 {
-    let sentence = fault_detail(image, text, fault);
+    let message = fault_detail(image, text, fault);
     match quoted_line(text, fault) {
-        Some(line) => Message::Quoting(sentence, ": \"", line),
-        None => Message::Alone(sentence),
+        Some(line) => Diagnostic::Quoting(message, ": \"", line),
+        None => Diagnostic::Alone(message),
     }
 }
 
-// What is said of the fault of a job on a source.
-fn job_words(source: &str, fault: Fault) -> Message<'_>
-    ensures { message_text result ≡ fault_words (Source source.now) fault }
+// The diagnostic of the fault of a job on a source.
+fn job_diagnostic(source: &str, fault: InputFault) -> Diagnostic<'_>
+    ensures { diagnostic_text result ≡ fault_diagnostic (Source source.now) fault }
 {
     match fault {
-        Fault::NoProgram(fault) => source_words(source, fault),
-        Fault::BadLine(_, _) | Fault::Refused(_, _, _) | Fault::NoJournal(_) => {
-            Message::Alone(fault.sentence())
+        InputFault::NoProgram(fault) => source_diagnostic(source, fault),
+        InputFault::BadLine(_, _) | InputFault::Refused(_, _, _) | InputFault::NoJournal(_) => {
+            Diagnostic::Alone(fault.message())
         }
     }
 }
 
-// What is said of the fault of a job.
-fn fault_words(known: Known<'_>, fault: Fault) -> Message<'_>
-    ensures { message_text result ≡ fault_words (known_of known.entry) fault }
+// The diagnostic of the fault of a job.
+fn fault_diagnostic(known: Known<'_>, fault: InputFault) -> Diagnostic<'_>
+    ensures { diagnostic_text result ≡ fault_diagnostic (known_of known.entry) fault }
 {
     match known {
-        Known::Nothing | Known::File(_) => Message::Alone(fault.sentence()),
-        Known::Source(source) => job_words(source, fault),
-        Known::Lines(image, text) => line_words(image, text, fault),
+        Known::Nothing | Known::File(_) => Diagnostic::Alone(fault.message()),
+        Known::Source(source) => job_diagnostic(source, fault),
+        Known::Lines(image, text) => line_diagnostic(image, text, fault),
     }
 }
 
-// What is said of a file that is no image.
-fn image_words(known: Known<'_>, fault: ElfFault) -> Sentence
-    ensures { sentence_text result ≡ image_words (known_of known.entry) fault }
+// The message of a file that is not an image.
+fn image_fault_message(known: Known<'_>, fault: ElfFault) -> Message
+    ensures { message_text result ≡ image_fault_message (known_of known.entry) fault }
 {
     match known {
-        Known::File(bytes) => image_sentence(bytes, fault),
+        Known::File(bytes) => image_message(bytes, fault),
         Known::Nothing | Known::Source(_) | Known::Lines(_, _) => {
-            Sentence::Plain(fault.sentence())
+            Message::Plain(fault.sentence())
         }
     }
 }
@@ -215,7 +216,7 @@ fn report_idle<E: Sink>(name: &str, text: &[u8], errors: &mut E)
     if !has_boot(text) {
         report(
             name,
-            Sentence::Plain("no boot line, so nothing is done"),
+            Message::Plain("no boot line, so nothing is done"),
             errors,
         );
     }
@@ -248,18 +249,18 @@ fn explain<E: Sink>(known: Known<'_>, name: &str, ending: Ending, errors: &mut E
     match ending {
         Ending::Complete(Verdict::Done) => report_done(known, name, errors),
         Ending::Complete(Verdict::Refused(fault)) => {
-            report_line(name, fault.line(), fault_words(known, fault), errors)
+            report_line(name, fault.line(), fault_diagnostic(known, fault), errors)
         }
         Ending::Complete(Verdict::ImageRefused(fault)) => {
-            report(name, image_words(known, fault), errors)
+            report(name, image_fault_message(known, fault), errors)
         }
-        Ending::NoMemory => report(name, Sentence::Plain("out of memory"), errors),
+        Ending::NoMemory => report(name, Message::Plain("out of memory"), errors),
         Ending::ReadFailed(fault) => {
-            report(name, Sentence::Plain(not_read_sentence(fault)), errors)
+            report(name, Message::Plain(not_read_message(fault)), errors)
         }
         Ending::WriteFailed(fault) => report(
             output_name(known),
-            Sentence::Plain(failed_write_sentence(fault.cause)),
+            Message::Plain(failed_write_message(fault.cause)),
             errors,
         ),
     }
@@ -272,7 +273,7 @@ fn report_emptied<E: Sink>(out: &str, ending: Ending, errors: &mut E)
     match ending {
         Ending::Complete(Verdict::Refused(_)) => report(
             shown_path(out),
-            Sentence::Plain("it is empty now, since the source has a fault"),
+            Message::Plain("it is empty now, since the source has a fault"),
             errors,
         ),
         Ending::Complete(Verdict::Done | Verdict::ImageRefused(_))
@@ -289,7 +290,7 @@ pub(crate) fn report_out<E: Sink>(source: &str, out: &str, ending: &Ending, erro
     if source == out {
         report(
             shown_path(out),
-            Sentence::Plain("SRC and OUT are one file, so the source is lost"),
+            Message::Plain("SRC and OUT are one file, so the source is lost"),
             errors,
         );
     } else {
@@ -297,7 +298,7 @@ pub(crate) fn report_out<E: Sink>(source: &str, out: &str, ending: &Ending, erro
     }
 }
 
-/// The status of a job on a file, once standard error is told why it did not end well.
+/// Reports why a job on a file did not end well, and returns its status.
 pub(crate) fn ended_with<E: Sink>(
     known: Known<'_>,
     name: &str,
@@ -310,7 +311,7 @@ pub(crate) fn ended_with<E: Sink>(
     ending.status()
 }
 
-/// The same of a job that knows nothing of its input.
+/// Like `ended_with`, of a job that knows nothing of its input.
 pub(crate) fn ended<E: Sink>(name: &str, ending: &Ending, errors: &mut E) -> u8
     ensures { Ended E.takes name.now ending.now errors.old errors.new result }
 {
@@ -351,7 +352,7 @@ pub(crate) fn words_not_read<S: System>(world: &mut World<S>) -> u8
 {
     report(
         PROGRAM,
-        Sentence::Plain("a word of the command line is not UTF-8"),
+        Message::Plain("a word of the command line is not UTF-8"),
         &mut world.errors,
     );
     USAGE

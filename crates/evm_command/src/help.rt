@@ -2,7 +2,7 @@
 
 /// Behind the help of the program.
 pub(crate) const PROGRAM_HELP: &str = "\
-Standard error says what went wrong, as NAME:LINE: and a sentence; a script's name is script.
+Standard error says what went wrong, as NAME:LINE: and a message; a script's name is script.
 `evltool help COMMAND` describes a command, docs/FORMATS.md all of them.
 
 Statuses:

@@ -1,4 +1,4 @@
-//! The system that the program runs on. That a call of `File::open` or `File::create` did what it answered is trusted
+//! The system that the program runs on. That a call of `File::open` or `File::create` did what it returned is trusted
 //! here, and nowhere else.
 
 use crate::command::{WordsFault, answer_read};

@@ -7,11 +7,11 @@ mod command;
 mod exit;
 mod help;
 mod host;
-mod image_sentence;
+mod image_message;
 mod loading;
 mod replaying;
 mod running;
-mod source_sentence;
+mod source_message;
 mod system;
 mod words;
 

@@ -7,7 +7,7 @@ use crate::loading::image_at;
 use crate::system::{System, World};
 use evm_dev::Device;
 use evm_image::Image;
-use evm_serve::{Devices, Given, read_utf8, replay_text};
+use evm_serve::{Devices, RunOptions, read_utf8, replay_text};
 use std::alloc::Global;
 
 // Replays the text of a journal with devices and an image.
@@ -21,11 +21,11 @@ fn replay_read<S: System, D: Device>(
 ) -> u8
     ensures { ReplaysText S.Output.takes S.Errors.takes devices journal.now image.now text.now world.old world.new result }
 {
-    let given = Given {
+    let options = RunOptions {
         image: Some(image),
         devices,
     };
-    let ending = replay_text(alloc, given, text, &mut world.output);
+    let ending = replay_text(alloc, options, text, &mut world.output);
     let known = Known::Lines(Some(image), text.as_bytes());
     ended_with(known, journal, &ending, &mut world.errors)
 }

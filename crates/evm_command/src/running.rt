@@ -7,7 +7,7 @@ use crate::exit::{Known, ended_with, not_read};
 use crate::loading::image_at;
 use crate::system::{System, World};
 use evm_dev::Device;
-use evm_serve::{Devices, Given, read_all, run_script};
+use evm_serve::{Devices, RunOptions, read_all, run_script};
 use std::alloc::Global;
 
 /// The name of the script in front of its lines.
@@ -19,16 +19,16 @@ const INPUT: &str = "standard input";
 // Serves a script.
 fn serve_text<S: System, D: Device>(
     alloc: Global,
-    given: Given<'_, D>,
+    options: RunOptions<'_, D>,
     script: &[u8],
     world: &mut World<S>,
 ) -> u8
-    ensures { ServesScript S.Output.takes S.Errors.takes given.entry script.now world.old world.new result }
+    ensures { ServesScript S.Output.takes S.Errors.takes options.entry script.now world.old world.new result }
 {
-    let image = given.image;
+    let image = options.image;
     let ending = run_script(
         alloc,
-        given,
+        options,
         SCRIPT,
         script,
         &mut world.output,
@@ -43,11 +43,15 @@ fn serve_text<S: System, D: Device>(
 }
 
 // Serves the script of standard input.
-fn serve_input<S: System, D: Device>(alloc: Global, given: Given<'_, D>, world: &mut World<S>) -> u8
-    ensures { ServesInput S.Input.gives S.Output.takes S.Errors.takes given.entry world.old world.new result }
+fn serve_input<S: System, D: Device>(
+    alloc: Global,
+    options: RunOptions<'_, D>,
+    world: &mut World<S>,
+) -> u8
+    ensures { ServesInput S.Input.gives S.Output.takes S.Errors.takes options.entry world.old world.new result }
 {
     match read_all(alloc, &mut world.input) {
-        Ok(script) => serve_text(alloc, given, script.as_slice(), world),
+        Ok(script) => serve_text(alloc, options, script.as_slice(), world),
         Err(stop) => not_read(stop, INPUT, world),
     }
 }
@@ -63,11 +67,11 @@ fn run_image<S: System, D: Device>(
 {
     match image_at(alloc, path, world) {
         Ok(image) => {
-            let given = Given {
+            let options = RunOptions {
                 image: Some(&image),
                 devices,
             };
-            serve_input(alloc, given, world)
+            serve_input(alloc, options, world)
         }
         Err(status) => status,
     }
@@ -84,11 +88,11 @@ pub(crate) fn run<S: System, D: Device>(
 {
     match image {
         None => {
-            let given = Given {
+            let options = RunOptions {
                 image: None,
                 devices,
             };
-            serve_input(alloc, given, world)
+            serve_input(alloc, options, world)
         }
         Some(path) => run_image(alloc, devices, path, world),
     }

@@ -13,7 +13,7 @@ pub enum OpenFault {
     Folder,
     /// Its name is empty.
     NoName,
-    /// A part of its path is no folder.
+    /// A part of its path is not a folder.
     NotFolder,
     /// The file system is read-only.
     ReadOnly,
@@ -55,11 +55,11 @@ pub trait System {
 
     ghost creates: { Self → List ℕ → Result Self.Created OpenFault → Self → Type 0 };
 
-    /// Opens a file to be read, or tells why it can't be opened.
+    /// Opens a file to be read, or returns why it can't be opened.
     fn open(&mut self, path: &str) -> Result<Self::Opened, OpenFault>
         ensures { opens self.old path.now result self.new };
 
-    /// Creates a file to be written, or empties the one of this name, or tells why it can't be created.
+    /// Creates a file to be written, or empties the one of this name, or returns why it can't be created.
     fn create(&mut self, path: &str) -> Result<Self::Created, OpenFault>
         ensures { creates self.old path.now result self.new };
 }

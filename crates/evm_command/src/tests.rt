@@ -9,9 +9,9 @@ use std::io::{self, Error, ErrorKind, Read, Write};
 use std::process::Abort;
 use std::test::Fail;
 
-mod sentences;
+mod messages;
 
-/// Gives bytes at most seven at a call, and fails after so many calls.
+/// Gives at most seven bytes at a call, and fails after `calls` calls.
 #[derive(Drop)]
 struct Reader<'a> {
     rest: &'a [u8],
@@ -54,9 +54,9 @@ impl Write for Writer<'_> {
     }
 }
 
-/// What a system has, and what was asked of it: the digits 1 for an opening and 2 for a creation, in their order.
+/// The files and the input of a system, and the calls to it: the digits 1 for an opening and 2 for a creation, in their order.
 #[derive(Drop)]
-struct Given<'a> {
+struct Setup<'a> {
     files: &'a [(&'a str, &'a [u8])],
     script: &'a [u8],
     reads: usize,
@@ -67,10 +67,10 @@ struct Given<'a> {
     errors: Cell<usize>,
 }
 
-impl Given<'static> {
-    /// The files and the script below, with so many reads of each and room for so many bytes.
+impl Setup<'static> {
+    /// The files and the script below. Each is read at most `reads` times, and each output takes `room` bytes.
     fn new(reads: usize, room: usize) -> Self {
-        Given {
+        Setup {
             files: FILES.as_slice(),
             script: SCRIPT,
             reads,
@@ -85,13 +85,13 @@ impl Given<'static> {
 
 #[derive(Drop)]
 struct Fake<'a> {
-    given: &'a Given<'a>,
+    setup: &'a Setup<'a>,
 }
 
 impl Fake<'_> {
     fn note(&self, digit: usize) {
-        let asked = self.given.asked.get();
-        self.given
+        let asked = self.setup.asked.get();
+        self.setup
             .asked
             .set(asked.saturating_mul(10).saturating_add(digit));
     }
@@ -114,11 +114,11 @@ impl<'a> System for Fake<'a> {
 
     fn open(&mut self, path: &str) -> Result<Reader<'a>, OpenFault> {
         self.note(1);
-        for (name, bytes) in self.given.files.iter() {
+        for (name, bytes) in self.setup.files.iter() {
             if *name == path {
                 return Ok(Reader {
                     rest: *bytes,
-                    calls: self.given.reads,
+                    calls: self.setup.reads,
                 });
             }
         }
@@ -131,26 +131,26 @@ impl<'a> System for Fake<'a> {
             return Err(OpenFault::Denied);
         }
         Ok(Writer {
-            taken: &self.given.out,
-            room: self.given.room,
+            taken: &self.setup.out,
+            room: self.setup.room,
         })
     }
 }
 
 /// Runs a command line, and answers its status.
-fn status_of<'a>(alloc: Global, line: &str, given: &'a Given<'a>) -> Result<u8, Fail> {
+fn status_of<'a>(alloc: Global, line: &str, setup: &'a Setup<'a>) -> Result<u8, Fail> {
     let mut world = World {
-        files: Fake { given },
+        files: Fake { setup },
         input: Reader {
-            rest: given.script,
-            calls: given.reads,
+            rest: setup.script,
+            calls: setup.reads,
         },
         output: Writer {
-            taken: &given.output,
-            room: given.room,
+            taken: &setup.output,
+            room: setup.room,
         },
         errors: Writer {
-            taken: &given.errors,
+            taken: &setup.errors,
             room: 10_000,
         },
     };
@@ -175,7 +175,7 @@ const FILES: [(&str, &[u8]); 4] = [
 /// One view, of 44 bytes.
 const SCRIPT: &[u8] = b"boot 1 65536 8\ntasks\n";
 
-/// A line, its status, what is asked for, and how many bytes go to OUT and to standard output.
+/// A line, its status, the calls to the system, and how many bytes go to OUT and to standard output.
 const LINES: [(&str, u8, usize, usize, usize); 12] = [
     ("evltool asm src out", 0, 12, 124, 0),
     ("evltool asm faulty out", 1, 12, 0, 8),
@@ -194,12 +194,12 @@ const LINES: [(&str, u8, usize, usize, usize); 12] = [
 #[test]
 fn lines_have_their_statuses(rt: HostRuntime) -> Result<(), Fail> {
     for (line, status, asked, out, output) in LINES {
-        let given = Given::new(1000, 10_000);
-        let answered = status_of(rt.alloc(), line, &given)?;
+        let setup = Setup::new(1000, 10_000);
+        let answered = status_of(rt.alloc(), line, &setup)?;
         assert_eq!(rt; answered, status, "the status of {line}");
-        assert_eq!(rt; given.asked.get(), asked, "what {line} asks for");
-        assert_eq!(rt; given.out.get(), out, "the file of {line}");
-        assert_eq!(rt; given.output.get(), output, "what {line} writes");
+        assert_eq!(rt; setup.asked.get(), asked, "what {line} asks for");
+        assert_eq!(rt; setup.out.get(), out, "the file of {line}");
+        assert_eq!(rt; setup.output.get(), output, "what {line} writes");
     }
     Ok(())
 }
@@ -209,13 +209,13 @@ fn lines_have_their_statuses(rt: HostRuntime) -> Result<(), Fail> {
 fn failed_reads_end_with_status_4(rt: HostRuntime) -> Result<(), Fail> {
     for (line, enough) in [("evltool asm src out", 2), ("evltool run", 4)] {
         for reads in 0..=enough {
-            let given = Given::new(reads, 10_000);
-            let answered = status_of(rt.alloc(), line, &given)?;
+            let setup = Setup::new(reads, 10_000);
+            let answered = status_of(rt.alloc(), line, &setup)?;
             let whole = reads == enough;
             let wanted = if whole { 0 } else { 4 };
             assert_eq!(rt; answered, wanted, "{reads} reads of {line}");
-            assert!(rt; whole || given.output.get() == 0, "{reads} reads of {line}");
-            assert!(rt; whole || given.asked.get() < 2, "{reads} reads of {line}");
+            assert!(rt; whole || setup.output.get() == 0, "{reads} reads of {line}");
+            assert!(rt; whole || setup.asked.get() < 2, "{reads} reads of {line}");
         }
     }
     Ok(())
@@ -229,12 +229,12 @@ fn failed_writes_end_with_status_4(rt: HostRuntime) -> Result<(), Fail> {
         ("evltool --version", 13, 14),
     ] {
         for room in [0, 3, less, bytes] {
-            let given = Given::new(1000, room);
-            let answered = status_of(rt.alloc(), line, &given)?;
+            let setup = Setup::new(1000, room);
+            let answered = status_of(rt.alloc(), line, &setup)?;
             let wanted = if room == bytes { 0 } else { 4 };
             assert_eq!(rt; answered, wanted, "{room} bytes of {line}");
             assert_eq!(rt;
-                given.errors.get() == 0,
+                setup.errors.get() == 0,
                 room == bytes,
                 "{room} bytes of {line}"
             );

@@ -106,7 +106,7 @@ fn command<'a>(alloc: Global) -> Result<Command<'a>, AllocError>
         .subcommand(replay_command(alloc)?)
 }
 
-/// What the words say.
+/// The matches of the words.
 ///
 /// # Errors
 ///

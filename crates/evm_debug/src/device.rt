@@ -6,8 +6,7 @@ ghost use Rattle.evm_journal.specs.evm_text.Appending.{Appends};
 ghost use Rattle.evm_debug.specs.Pieces.{words_in};
 ghost use Rattle.evm_debug.specs.Views.{blank_word, words_below, words_text, words_of};
 
-use crate::piece::Piece;
-use crate::pieces::push_pieces;
+use crate::piece::{Piece, push_pieces};
 use evm_dev::Device;
 use evm_journal::{Machine, Refusal};
 use evm_room::{Refused, push_text};

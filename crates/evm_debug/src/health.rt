@@ -4,8 +4,7 @@ ghost use Rattle.std.specs.Prelude.{Option, length, slice_get};
 ghost use Rattle.evm_journal.specs.evm_text.Appending.{Appends};
 ghost use Rattle.evm_debug.specs.Views.{notice_text, notices_below, total_text, notices_text};
 
-use crate::piece::Piece;
-use crate::pieces::push_pieces;
+use crate::piece::{Piece, push_pieces};
 use evm_dev::Device;
 use evm_health::number;
 use evm_journal::Machine;

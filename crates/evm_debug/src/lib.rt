@@ -1,4 +1,4 @@
-//! What a debugger's script says, and what its views show.
+//! The lines of a script, and the views as text.
 #![tactic(auto)]
 
 mod device;
@@ -8,9 +8,8 @@ mod laws;
 mod line;
 mod look;
 mod piece;
-mod pieces;
 mod reading;
-mod showing;
+mod render;
 mod views;
 
 pub use evm_journal::{
@@ -22,7 +21,7 @@ pub use laws::reads_lines;
 pub use line::{Bad, Line, View};
 pub use look::ViewRefusal;
 pub use reading::{read_line, read_poke, read_short};
-pub use showing::{push_view, view};
+pub use render::{push_view, view};
 
 #[cfg(test)]
 mod tests;

@@ -1,13 +1,13 @@
 use evm_model::{Boot, Event};
 
-/// What a line asks to see.
+/// A view.
 #[derive(Clone, Copy, Debug, PartialEq, Eq)]
 pub enum View {
     /// `regs C`: the registers of a processor's current task.
     Regs(u8),
-    /// `mem A N`: so many bytes from an address on. Any number below 2^64 is grammatical.
+    /// `mem A N`: N bytes from an address on. Any number below 2^64 is grammatical.
     Mem(u64, u64),
-    /// `stages C`: what waits on a processor's stages.
+    /// `stages C`: the stages of a processor, and what waits on them.
     Stages(u8),
     /// `tasks`: the tasks.
     Tasks,
@@ -35,7 +35,7 @@ pub enum Line {
     /// `boot P RAM CAP`: as many processors, bytes of RAM and events of the journal. Any numbers
     /// below 2^64 are grammatical.
     Boot(Boot),
-    /// `step C N`: a processor takes so many steps, 1 to 1048576.
+    /// `step C N`: a processor takes 1 to 1048576 steps.
     Steps(u8, u32),
     /// Any other event.
     One(Event),

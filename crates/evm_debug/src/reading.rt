@@ -122,8 +122,8 @@ fn line_at(bytes: &[u8]) -> Option<Line>
     view_at(bytes)
 }
 
-/// What a line of a script says that is one of events and holds no bytes, as most lines of a long script are. It comes
-/// without its newline. None where it is none such.
+/// The line of events without bytes that a line of a script is; most lines of a long script are such. It comes
+/// without its newline. `None` for any other line.
 #[tactic(auto, using(crate::proofs::Lines::short_read))]
 pub fn read_short(bytes: &[u8]) -> Option<EventLine<NoBytes>>
     // It is what the whole grammar reads.
@@ -134,7 +134,7 @@ pub fn read_short(bytes: &[u8]) -> Option<EventLine<NoBytes>>
     read_short_line(bytes)
 }
 
-/// The address and the bytes that a line of a script pokes, where it is a Poke's. It comes without its newline.
+/// The address and the bytes of a line `poke A HEX`, without its newline. `None` for any other line.
 #[inline]
 #[tactic(auto, using(crate::proofs::Lines::poke_read))]
 pub fn read_poke(bytes: &[u8]) -> Option<(u64, Block)>
@@ -146,7 +146,7 @@ pub fn read_poke(bytes: &[u8]) -> Option<(u64, Block)>
     read_poke_line(bytes)
 }
 
-/// What a line of a script says. It comes without its newline.
+/// The line that some bytes spell, without the newline.
 pub fn read_line(bytes: &[u8]) -> Result<Line, Bad>
     // What is read is spelled so, and each line that is spelled so is read.
     ensures spelled { (line : Line) → (result ≡ Ok line) ↔ IsSpelled line bytes.now }

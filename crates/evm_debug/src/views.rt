@@ -3,8 +3,7 @@ ghost use Rattle.evm_journal.specs.evm_text.Appending.{Appends};
 ghost use Rattle.evm_debug.specs.Views.{four_registers, registers_text, current_text, regs_text, task_text, tasks_text, owner_text, owners_text, rank_text, stages_text, counts_text};
 ghost use Rattle.evm_exec.specs.Registers.{register_of};
 
-use crate::piece::Piece;
-use crate::pieces::push_pieces;
+use crate::piece::{Piece, push_pieces};
 use evm_dev::Device;
 use evm_exec::{Hart, REGISTERS};
 use evm_isa::Register;

@@ -20,7 +20,7 @@ use Rattle.evm_model.specs.declared.refusal.Refusal.TheVariants.{Full, BadSize}
 use Rattle.evm_serve.specs.evm_core.Load.{load, load_unless, load_refusal}
 use Rattle.evm_serve.specs.evm_core.Steps.{behind_step, steps}
 use Rattle.evm_serve.proofs.evm_rules.Replays.{accepted, accepted-journal, IsReplayOf-step, empty_as_replay}
-use Rattle.evm_serve.specs.Given.{Attached, an_image}
+use Rattle.evm_serve.specs.RunOptions.{Attached, image_options}
 use Rattle.evm_serve.specs.Starting.{started, with_image}
 
 -- its numbers are good, it began with the image, and what it had since is in its journal
@@ -95,7 +95,7 @@ boot-if devices image boot s false b line e =
       few = rw empty (omega arith);
     }
 
-pub driven-boot : (devices : List Attached) (image : Contents) (boot : Boot) (s : State) → HasBootLine boot → started (an_image devices image) boot ≡ Ok s → IsDriven devices image s
+pub driven-boot : (devices : List Attached) (image : Contents) (boot : Boot) (s : State) → HasBootLine boot → started (image_options devices image) boot ≡ Ok s → IsDriven devices image s
 driven-boot devices image boot s line e = boot-if devices image boot s (bad_boot boot) refl line e
 
 -- ---- what its journal may hold

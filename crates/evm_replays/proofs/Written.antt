@@ -2,10 +2,10 @@
 use Rattle.std.proofs.Common.{◌≡◌, ℕ, List, ap, ◌∙◌}
 use Rattle.evm_model.specs.State.{State}
 use Rattle.evm_serve.specs.evm_journal.Journal.{journal_text}
-use Rattle.evm_serve.specs.Given.{an_image}
+use Rattle.evm_serve.specs.RunOptions.{image_options}
 use Rattle.evm_serve.specs.ReplayLaws.{ReplaysSaved}
-use Rattle.evm_serve.specs.Replaying.{replay_told}
+use Rattle.evm_serve.specs.Replaying.{replay_report}
 use Rattle.evm_replays.specs.Machines.{ShowsAgain}
 
 pub shows_again : (text : List ℕ) (s : State) → text ≡ journal_text s.boot s.journal → ReplaysSaved s → ShowsAgain text s
-shows_again text s written saved = λ devices image first loads replays. ap (replay_told (an_image devices image)) written ∙ saved devices image first loads replays
+shows_again text s written saved = λ devices image first loads replays. ap (replay_report (image_options devices image)) written ∙ saved devices image first loads replays

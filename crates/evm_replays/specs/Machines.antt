@@ -5,11 +5,11 @@ use Rattle.evm_image.specs.Images.{Contents}
 use Rattle.evm_model.specs.Replay.{start, IsReplayOf}
 use Rattle.evm_model.specs.State.{State}
 use Rattle.evm_serve.specs.evm_debug.Summary.{summary_text}
-use Rattle.evm_serve.specs.Given.{Attached, an_image}
-use Rattle.evm_serve.specs.Replaying.{replay_told}
+use Rattle.evm_serve.specs.RunOptions.{Attached, image_options}
+use Rattle.evm_serve.specs.Replaying.{replay_report}
 use Rattle.evm_serve.specs.declared.ending.Verdict.TheVariants.{Done}
 
 -- a text that, replayed with the devices and the image that the machine began with, shows the machine
 abbrev pub ShowsAgain : List ℕ → State → Type 0
 ShowsAgain text s = (devices : List Attached) (image : Contents) (first : State) → load image (start devices s.boot) ≡ Ok first → IsReplayOf first s
-    → replay_told (an_image devices image) text ≡ record { text = summary_text s; verdict = Done }
+    → replay_report (image_options devices image) text ≡ record { text = summary_text s; verdict = Done }

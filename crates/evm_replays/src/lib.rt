@@ -14,7 +14,7 @@ use evm_serve::{Machine, replays_saved, write_journal};
 use std::alloc::Global;
 
 /// Of every script that comes to its end with an image in its machine: one more line `journal` prints the journal of
-/// the machine that it leaves, and that text, given to a replay with the same devices and the same image, shows that
+/// the machine that it leaves, and that text, replayed with the same devices and the same image, shows that
 /// machine, with status 0. Nothing else is asked of the script, of its numbers, of the devices or of the image.
 pub fn a_printed_journal_shows_its_machine()
     ensures prints { PrintsItsJournal }
@@ -22,7 +22,7 @@ pub fn a_printed_journal_shows_its_machine()
 {}
 
 /// The journal of a machine: of one that was booted with devices, loaded with an image and driven, however it was, the
-/// text, given to a replay with the same devices and the same image, shows that machine, with status 0. Nothing else is
+/// text, replayed with the same devices and the same image, shows that machine, with status 0. Nothing else is
 /// asked of the machine.
 pub fn a_written_journal_shows_its_machine<D: Device>(
     alloc: Global,

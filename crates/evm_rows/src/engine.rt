@@ -3,7 +3,7 @@
 use evm_devs::{AnyDevice, Console, MailRing, Pins};
 use evm_image::Image;
 use evm_serve::{
-    Devices, Ending, Given, ReadStop, assemble_to, import, read_utf8, replay_to, serve,
+    Devices, Ending, ReadStop, RunOptions, assemble_to, import, read_utf8, replay_to, serve,
 };
 use std::alloc::Global;
 
@@ -46,9 +46,9 @@ pub(crate) fn imported(alloc: Global, file: &[u8]) -> Result<Image, Outcome> {
 
 /// The image of a source, or how assembling or reading it ends if it has none.
 pub(crate) fn image_of(alloc: Global, source: &[u8]) -> Result<Image, Outcome> {
-    let (file, told) = assembled(alloc, source);
-    if told.status != 0 {
-        return Err(told);
+    let (file, report) = assembled(alloc, source);
+    if report.status != 0 {
+        return Err(report);
     }
     imported(alloc, file.as_slice())
 }
@@ -71,7 +71,7 @@ pub(crate) fn served(alloc: Global, image: Option<&Image>, script: &[u8]) -> Out
         return Outcome::new(text, &Ending::NoMemory);
     };
     let mut reader = script;
-    let ending = serve(alloc, &mut reader, &mut text, Given { image, devices });
+    let ending = serve(alloc, &mut reader, &mut text, RunOptions { image, devices });
     Outcome::new(text, &ending)
 }
 
@@ -93,11 +93,11 @@ pub(crate) fn replayed(alloc: Global, image: Result<Image, Outcome>, journal: &[
     let Some(devices) = devices_of(alloc) else {
         return Outcome::new(text, &Ending::NoMemory);
     };
-    let given = Given {
+    let options = RunOptions {
         image: Some(&image),
         devices,
     };
     let mut reader = journal;
-    let ending = replay_to(alloc, given, &mut reader, &mut text);
+    let ending = replay_to(alloc, options, &mut reader, &mut text);
     Outcome::new(text, &ending)
 }

@@ -62,13 +62,13 @@ fn outcome_of(
     let alloc = rt.alloc();
     match *command {
         Command::Image(source) => {
-            let (file, told) = assembled(alloc, bytes(rt, folder, source)?.as_slice());
-            let status = told.status;
+            let (file, report) = assembled(alloc, bytes(rt, folder, source)?.as_slice());
+            let status = report.status;
             Ok(Outcome { text: file, status })
         }
         Command::Assemble(source) => {
-            let (_, told) = assembled(alloc, bytes(rt, folder, source)?.as_slice());
-            Ok(told)
+            let (_, report) = assembled(alloc, bytes(rt, folder, source)?.as_slice());
+            Ok(report)
         }
         Command::Run(script) => {
             let script = bytes(rt, folder, script)?;

@@ -39,8 +39,8 @@ fn run_bytes(rt: &(impl Files + AllocGlobal), folder: &str, name: &str) -> io::R
 
 fn assemble(rt: &(impl Files + AllocGlobal), folder: &str, name: &str) -> io::Result<Outcome> {
     let source = bytes_of(rt, folder, name, "s")?;
-    let (_, told) = assembled(rt.alloc(), source.as_slice());
-    Ok(told)
+    let (_, report) = assembled(rt.alloc(), source.as_slice());
+    Ok(report)
 }
 
 fn replay(

@@ -18,8 +18,8 @@ use std::{fs, io};
 
 const EXAMPLES: &str = "examples";
 
-/// Says what is wrong with a row, if it doesn't give what is wanted.
-fn tell_row(
+/// Reports a row that does not give what is wanted.
+fn report_row(
     rt: &(impl Files + Print + AllocGlobal),
     folder: &str,
     row: &Row<'_>,
@@ -37,29 +37,33 @@ fn tell_row(
     println!(rt; "{folder}/{name}: status {status} wanted, {had} had; the text is {text}")
 }
 
-/// Runs the row of a line of INDEX, and says what is wrong with it.
-fn tell_line(rt: &(impl Files + Print + AllocGlobal), folder: &str, line: &str) -> io::Result<()> {
+/// Runs the row of a line of INDEX, and reports it if it does not give what is wanted.
+fn report_line(
+    rt: &(impl Files + Print + AllocGlobal),
+    folder: &str,
+    line: &str,
+) -> io::Result<()> {
     let words: Vec<&str> = line.split(' ').collect(rt.alloc())?;
     let Some(row) = row_of(words.as_slice()) else {
         return println!(rt; "{folder}: no row: {line}");
     };
-    match tell_row(rt, folder, &row) {
+    match report_row(rt, folder, &row) {
         Ok(()) => Ok(()),
         Err(error) => println!(rt; "{folder}: {error}: {line}"),
     }
 }
 
-/// Runs the rows of a folder, and answers how many there are.
-fn tell_folder(rt: &(impl Files + Print + AllocGlobal), folder: &str) -> io::Result<usize> {
+/// Runs the rows of a folder, and returns their number.
+fn report_folder(rt: &(impl Files + Print + AllocGlobal), folder: &str) -> io::Result<usize> {
     let index = fs::read_to_string(rt, format!(in rt.alloc(); "{folder}/INDEX")?)?;
     for line in index.lines() {
-        tell_line(rt, folder, line)?;
+        report_line(rt, folder, line)?;
     }
     Ok(index.lines().count())
 }
 
-/// Runs the example of a line of LIST, and says if it isn't as wanted.
-fn tell_example(rt: &(impl Files + Print + AllocGlobal), line: &str) -> io::Result<()> {
+/// Runs the example of a line of LIST, and reports it if it does not give what is wanted.
+fn report_example(rt: &(impl Files + Print + AllocGlobal), line: &str) -> io::Result<()> {
     let words: Vec<&str> = line.split(' ').collect(rt.alloc())?;
     let Some(example) = example_of(words.as_slice()) else {
         return println!(rt; "{EXAMPLES}: no example: {line}");
@@ -71,11 +75,11 @@ fn tell_example(rt: &(impl Files + Print + AllocGlobal), line: &str) -> io::Resu
     }
 }
 
-/// Runs the examples, and answers how many there are.
-fn tell_examples(rt: &(impl Files + Print + AllocGlobal)) -> io::Result<usize> {
+/// Runs the examples, and returns their number.
+fn report_examples(rt: &(impl Files + Print + AllocGlobal)) -> io::Result<usize> {
     let list = fs::read_to_string(rt, format!(in rt.alloc(); "{EXAMPLES}/LIST")?)?;
     for line in list.lines() {
-        tell_example(rt, line)?;
+        report_example(rt, line)?;
     }
     Ok(list.lines().count())
 }
@@ -85,9 +89,9 @@ fn main(rt: HostRuntime) -> io::Result<()> {
     let folders: Vec<&str> = stages.lines().collect(rt.alloc())?;
     let mut count = 0usize;
     for folder in &folders {
-        count = count.saturating_add(tell_folder(&rt, folder)?);
+        count = count.saturating_add(report_folder(&rt, folder)?);
     }
     let names = folders.as_slice().join(rt.alloc(), ", ")?;
-    let examples = tell_examples(&rt)?;
+    let examples = report_examples(&rt)?;
     println!(rt; "{count} rows of {names}; {examples} examples")
 }

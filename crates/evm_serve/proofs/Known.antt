@@ -12,7 +12,7 @@ use Rattle.evm_streams.proofs.KnownBytes.{reads_known, writes_known}
 use Rattle.evm_elf.specs.Faults.{fault_of}
 use Rattle.evm_elf.specs.declared.fault.ElfFault.{ElfFault}
 use Rattle.evm_elf.specs.evm_asm_lexer.declared.fault.AsmFault.{AsmFault}
-use Rattle.evm_serve.specs.Told.{Told}
+use Rattle.evm_serve.specs.Script.{Report}
 use Rattle.evm_serve.specs.Serving.{WritesAll, WritesMemory, EndsInMemory, Finishes}
 use Rattle.evm_serve.specs.Imaging as imaging
 use Rattle.evm_serve.specs.Assembling as assembling
@@ -45,7 +45,7 @@ module _ {W : Type 0} (contents : W → Option (List ℕ)) where
   kept : (w w' : W) → w' ≡ w → Keeps (contents w) (contents w')
   kept w w' same = let P : W → Type 0 = λ z. Keeps (contents w) (contents z) in subst P (sym same) (keeps_same (contents w))
 
-  all_known : (all : Told) (w w' : W) (ending : Ending) → WritesAll (WriterTakes contents) all w w' ending → AppendsAll all (contents w) (contents w') ending
+  all_known : (all : Report) (w w' : W) (ending : Ending) → WritesAll (WriterTakes contents) all w w' ending → AppendsAll all (contents w) (contents w') ending
   all_known all w w' (Complete verdict) h = ((writes_known contents).whole w w' all.text h.0, h.1)
   all_known all w w' NoMemory h = absurd h
   all_known all w w' (ReadFailed fault) h = absurd h
@@ -58,7 +58,7 @@ module _ {W : Type 0} (contents : W → Option (List ℕ)) where
   memory_known prefix w w' (WriteFailed fault) h = (writes_known contents).failed w w' _ h
 
   -- no read failed
-  report_of : (all : Told) (w w' : W) (ending : Ending)
+  report_of : (all : Report) (w w' : W) (ending : Ending)
       → AppendsAll all (contents w) (contents w') ending ⊎ ((prefix : List ℕ) × ((rest : List ℕ) × (all.text ≡ prefix ++ rest)) × AppendsMemory prefix (contents w) (contents w') ending)
       → AppendsReport all (contents w) (contents w') ending
   report_of all w w' (Complete verdict) h = h
@@ -67,19 +67,19 @@ module _ {W : Type 0} (contents : W → Option (List ℕ)) where
   report_of all w w' (ReadFailed fault) (inr h) = absurd h.2
   report_of all w w' (WriteFailed fault) h = h
 
-  finishes_known : (all : Told) (w w' : W) (ending : Ending) → Finishes (WriterTakes contents) all w w' ending → AppendsReport all (contents w) (contents w') ending
+  finishes_known : (all : Report) (w w' : W) (ending : Ending) → Finishes (WriterTakes contents) all w w' ending → AppendsReport all (contents w) (contents w') ending
   finishes_known all w w' ending (inl h) = report_of all w w' ending (inl (all_known all w w' ending h))
   finishes_known all w w' ending (inr h) = report_of all w w' ending (inr (h.0, h.1, memory_known h.0 w w' ending (h.2).1))
 
   -- the line `memory` alone is a report of anything
-  memory_report : (all : Told) (w w' : W) (ending : Ending) → WritesMemory (WriterTakes contents) [] w w' ending → AppendsReport all (contents w) (contents w') ending
+  memory_report : (all : Report) (w w' : W) (ending : Ending) → WritesMemory (WriterTakes contents) [] w w' ending → AppendsReport all (contents w) (contents w') ending
   memory_report all w w' ending h = report_of all w w' ending (inr ([], (all.text, refl), memory_known [] w w' ending h))
 
-  fault_report : (all : Told) (w w' : W) (ending : Ending) (fault : ReadFault) → w' ≡ w → ending ≡ ReadFailed fault → AppendsReport all (contents w) (contents w') ending
+  fault_report : (all : Report) (w w' : W) (ending : Ending) (fault : ReadFault) → w' ≡ w → ending ≡ ReadFailed fault → AppendsReport all (contents w) (contents w') ending
   fault_report all w w' ending fault same is = let P : Ending → Type 0 = λ e. AppendsReport all (contents w) (contents w') e in subst P (sym is) (kept w w' same)
 
   -- what was finished, or ended with `memory`, is within the limit where the input is
-  finished_within : (all : Told) (w w' : W) (input : List ℕ) (ending : Ending) → length input ≤ FILE_LIMIT → Finishes (WriterTakes contents) all w w' ending → IsWithin input ending
+  finished_within : (all : Report) (w w' : W) (input : List ℕ) (ending : Ending) → length input ≤ FILE_LIMIT → Finishes (WriterTakes contents) all w w' ending → IsWithin input ending
   finished_within all w w' input (Complete verdict) most h = most
   finished_within all w w' input NoMemory most h = tt
   finished_within all w w' input (ReadFailed fault) most (inl h) = absurd h
@@ -92,7 +92,7 @@ module _ {W : Type 0} (contents : W → Option (List ℕ)) where
   memory_within prefix w w' input (ReadFailed fault) h = absurd h
   memory_within prefix w w' input (WriteFailed fault) h = tt
 
-  finished_text : (all : Told) (w w' : W) (input : List ℕ) (ending : Ending) → length input ≤ FILE_LIMIT → IsUtf8 input → Finishes (WriterTakes contents) all w w' ending → IsTextWithin input ending
+  finished_text : (all : Report) (w w' : W) (input : List ℕ) (ending : Ending) → length input ≤ FILE_LIMIT → IsUtf8 input → Finishes (WriterTakes contents) all w w' ending → IsTextWithin input ending
   finished_text all w w' input (Complete verdict) most utf8 h = (most, utf8)
   finished_text all w w' input NoMemory most utf8 h = tt
   finished_text all w w' input (ReadFailed fault) most utf8 (inl h) = absurd h
@@ -124,7 +124,7 @@ module _ {R W : Type 0} (remaining : R → Option (List ℕ)) (contents : W → 
       (λ input within. let P : Ending → Type 0 = λ e. IsWithin input e in (fault_report contents (report input) w w' ending fault h.0 h.1, subst P (sym h.1) within))
 
   -- the same of a text
-  text_fault : (report : List ℕ → Told) (s t : R) (w w' : W) (fault : ReadFault) (ending : Ending) → w' ≡ w → ending ≡ ReadFailed fault
+  text_fault : (report : List ℕ → Report) (s t : R) (w w' : W) (fault : ReadFault) (ending : Ending) → w' ≡ w → ending ≡ ReadFailed fault
       → IfSome (remaining s) (λ input. IsTextWithin input (ReadFailed fault))
       → IfSome (remaining s) (λ input. AppendsReport (report input) (contents w) (contents w') ending × IsTextWithin input ending)
   text_fault report s t w w' fault ending same is h =

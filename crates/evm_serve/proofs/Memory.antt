@@ -5,11 +5,11 @@ use Rattle.std.specs.List.{list_any}
 use Rattle.evm_room.specs.Growth.{RefusedWithin}
 use Rattle.evm_model.specs.declared.refusal.Refusal.{Refusal}
 use Rattle.evm_model.specs.declared.refusal.Refusal.TheVariants.{BadAddress, Started, NoMemory}
-use Rattle.evm_debug.specs.evm_board.Room.{passes_ram}
+use Rattle.evm_diagnostics.specs.evm_board.Room.{passes_ram}
 use Rattle.evm_image.specs.Images.{Contents}
 use Rattle.evm_model.specs.State.{State}
-use Rattle.evm_debug.specs.evm_core.Load.{load, load_unless}
-use Rattle.evm_debug.specs.Views.{LacksMemory}
+use Rattle.evm_diagnostics.specs.evm_core.Load.{load, load_unless}
+use Rattle.evm_diagnostics.specs.evm_debug.Views.{LacksMemory}
 use Rattle.evm_serve.specs.Memory.{MemoryRefused}
 
 pub by_asked : (asked : ℕ) → ((most : ℕ) → asked ≤ most → RefusedWithin most) → MemoryRefused

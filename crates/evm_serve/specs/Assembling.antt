@@ -4,15 +4,15 @@ use Rattle.evm_streams.specs.declared.sink.Writing.{Writing}
 use Rattle.evm_elf.specs.evm_asm.Assembled.{Assembled}
 use Rattle.evm_elf.specs.evm_asm_lexer.declared.fault.AsmFault.{AsmFault}
 use Rattle.evm_elf.specs.Files.{file_of}
-use Rattle.evm_serve.specs.Told.{Told}
-use Rattle.evm_serve.specs.Faults.{fault_text}
+use Rattle.evm_serve.specs.Script.{Report}
+use Rattle.evm_serve.specs.FaultLines.{fault_text}
 use Rattle.evm_serve.specs.Serving.{WritesAll, EndsInMemory}
 use Rattle.evm_serve.specs.declared.ending.Ending.{Ending}
 use Rattle.evm_serve.specs.declared.ending.Verdict.TheVariants.{Done, Refused}
-use Rattle.evm_serve.specs.declared.fault.Fault.TheVariants.{NoProgram}
+use Rattle.evm_diagnostics.specs.declared.fault.InputFault.TheVariants.{NoProgram}
 
 -- the report of a source that has a fault
-abbrev pub no_program_report : AsmFault → Told
+abbrev pub no_program_report : AsmFault → Report
 no_program_report fault = record { text = fault_text (NoProgram fault); verdict = Refused (NoProgram fault) }
 
 module _ {W T : Type 0} (takes : W → Writing → List ℕ → W → Type 0) (takes_report : T → Writing → List ℕ → T → Type 0) where

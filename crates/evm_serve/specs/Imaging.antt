@@ -5,14 +5,14 @@ use Rattle.evm_streams.specs.declared.source.ReadStop.{ReadStop}
 use Rattle.evm_image.specs.Images.{Contents}
 use Rattle.evm_elf.specs.Faults.{fault_of, image_of}
 use Rattle.evm_elf.specs.declared.fault.ElfFault.{ElfFault}
-use Rattle.evm_serve.specs.Told.{Told}
-use Rattle.evm_serve.specs.Faults.{no_image_text}
+use Rattle.evm_serve.specs.Script.{Report}
+use Rattle.evm_serve.specs.FaultLines.{no_image_text}
 use Rattle.evm_serve.specs.Serving.{WritesAll, EndsInMemory, Unread}
 use Rattle.evm_serve.specs.declared.ending.Ending.{Ending}
 use Rattle.evm_serve.specs.declared.ending.Verdict.TheVariants.{ImageRefused}
 
 -- the report of a file that has a fault
-abbrev pub no_image_report : ElfFault → Told
+abbrev pub no_image_report : ElfFault → Report
 no_image_report fault = record { text = no_image_text fault; verdict = ImageRefused fault }
 
 module _ {W : Type 0} (takes : W → Writing → List ℕ → W → Type 0) where
@@ -22,7 +22,7 @@ module _ {W : Type 0} (takes : W → Writing → List ℕ → W → Type 0) wher
   Checks file w w' (Ok image) = (fault_of file ≡ None) × (image ≡ image_of file) × (w' ≡ w)
   Checks file w w' (Err ending) = IsSomeAnd (fault_of file) (λ fault. WritesAll takes (no_image_report fault) w w' ending) ⊎ EndsInMemory takes [] w w' ending
 
-  -- the same of a file that was read; or the end of a run that could not read it
+  -- likewise of a file that was read; or the end of a run that could not read it
   abbrev pub Imports : Result (List ℕ) ReadStop → W → W → Result Contents Ending → Type 0
   Imports (Ok file) w w' result = Checks file w w' result
   Imports (Err stop) w w' (Ok image) = ⊥

@@ -11,7 +11,7 @@ use Rattle.evm_elf.specs.Faults.{fault_of, image_of}
 use Rattle.evm_elf.specs.Files.{file_of}
 use Rattle.evm_elf.specs.evm_asm.Assembled.{Assembled}
 use Rattle.evm_elf.specs.evm_asm_lexer.declared.fault.AsmFault.{AsmFault}
-use Rattle.evm_serve.specs.Told.{Told, memory_text}
+use Rattle.evm_serve.specs.Script.{Report, memory_text}
 use Rattle.evm_serve.specs.Serving.{IsPrefix, Serves}
 use Rattle.evm_serve.specs.Imaging as imaging
 use Rattle.evm_serve.specs.Assembling as assembling
@@ -20,7 +20,7 @@ use Rattle.evm_serve.specs.declared.ending.Verdict.TheVariants.{Done}
 use Rattle.evm_serve.specs.declared.ending.Ending.TheVariants.{Complete, NoMemory, ReadFailed, WriteFailed}
 
 -- all of a report stands behind known contents, with its verdict, or a prefix of it
-abbrev pub AppendsAll : Told → Option (List ℕ) → Option (List ℕ) → Ending → Type 0
+abbrev pub AppendsAll : Report → Option (List ℕ) → Option (List ℕ) → Ending → Type 0
 AppendsAll all old new (Complete verdict) = Appends old new all.text × (verdict ≡ all.verdict)
 AppendsAll all old new NoMemory = ⊥
 AppendsAll all old new (ReadFailed fault) = ⊥
@@ -34,7 +34,7 @@ AppendsMemory prefix old new (ReadFailed fault) = ⊥
 AppendsMemory prefix old new (WriteFailed fault) = AppendsPrefix old new (prefix ++ memory_text)
 
 -- what a run has written of its report by its end: after a failed read nothing
-abbrev pub AppendsReport : Told → Option (List ℕ) → Option (List ℕ) → Ending → Type 0
+abbrev pub AppendsReport : Report → Option (List ℕ) → Option (List ℕ) → Ending → Type 0
 AppendsReport all old new (ReadFailed fault) = Keeps old new
 AppendsReport all old new ending = AppendsAll all old new ending ⊎ ((prefix : List ℕ) × IsPrefix prefix all.text × AppendsMemory prefix old new ending)
 
@@ -47,7 +47,7 @@ IsWithin input (ReadFailed TooLong) = FILE_LIMIT < length input
 IsWithin input (ReadFailed NotUtf8) = ⊥
 IsWithin input (WriteFailed fault) = ⊤
 
--- the same of an input that is a text
+-- likewise an input that is a text
 abbrev pub IsTextWithin : List ℕ → Ending → Type 0
 IsTextWithin input (Complete verdict) = (length input ≤ FILE_LIMIT) × IsUtf8 input
 IsTextWithin input (ReadFailed NotUtf8) = ¬ IsUtf8 input
@@ -70,13 +70,13 @@ AssemblesKnown (Err fault) out out' report report' ending =
 module _ {R W : Type 0} (remaining : R → Option (List ℕ)) (contents : W → Option (List ℕ)) where
   -- a run that reads known bytes is the run of these
   abbrev pub ServesKnown : Type 0
-  ServesKnown = (report : List ℕ → Told) (s t : R) (w w' : W) (read : Result (List ℕ) ReadStop) (ending : Ending)
+  ServesKnown = (report : List ℕ → Report) (s t : R) (w w' : W) (read : Result (List ℕ) ReadStop) (ending : Ending)
       → Reads (ReaderGives remaining) s t read → Serves (WriterTakes contents) report read w w' ending
       → IfSome (remaining s) (λ input. AppendsReport (report input) (contents w) (contents w') ending × IsWithin input ending)
 
-  -- the same of one that reads a text
+  -- likewise one that reads a text
   abbrev pub ServesKnownText : Type 0
-  ServesKnownText = (report : List ℕ → Told) (s t : R) (w w' : W) (read : Result (List ℕ) ReadStop) (ending : Ending)
+  ServesKnownText = (report : List ℕ → Report) (s t : R) (w w' : W) (read : Result (List ℕ) ReadStop) (ending : Ending)
       → ReadsText (ReaderGives remaining) s t read → Serves (WriterTakes contents) report read w w' ending
       → IfSome (remaining s) (λ input. AppendsReport (report input) (contents w) (contents w') ending × IsTextWithin input ending)
 

@@ -6,10 +6,10 @@ use Rattle.evm_streams.specs.declared.source.ReadStop.TheVariants as stops
 use Rattle.evm_streams.specs.Writes.{Took, TookPrefix}
 use Rattle.evm_model.specs.Devices.{Attached}
 use Rattle.evm_model.specs.State.{State}
-use Rattle.evm_serve.specs.Given.{Holds}
+use Rattle.evm_serve.specs.RunOptions.{HoldsDevices}
 use Rattle.evm_serve.specs.Memory.{MemoryRefused}
-use Rattle.evm_serve.specs.Told.{Told, memory_text, Telling, Goes, Ends}
-use Rattle.evm_serve.specs.Faults.{fault_text, no_image_text}
+use Rattle.evm_serve.specs.Script.{Report, memory_text, LineOutcome, Goes, Ends}
+use Rattle.evm_serve.specs.FaultLines.{fault_text, no_image_text}
 use Rattle.evm_serve.specs.declared.ending.Verdict.{Verdict}
 use Rattle.evm_serve.specs.declared.ending.Verdict.TheVariants.{Done, Refused, ImageRefused}
 use Rattle.evm_serve.specs.declared.ending.Ending.{Ending}
@@ -17,15 +17,15 @@ use Rattle.evm_serve.specs.declared.ending.Ending.TheVariants.{Complete, NoMemor
 use Rattle.evm_serve.specs.declared.ending.Reply.{Reply}
 use Rattle.evm_serve.specs.declared.ending.Reply.TheVariants as replies
 
--- what the code replies to a line is what the line tells, and leaves its machine
-abbrev pub Replies : Reply → List ℕ → Option State → Telling → Type 0
-Replies (replies.Goes noted) text machine telling = telling ≡ Goes text machine
-Replies (replies.Ends fault) text machine telling = telling ≡ Ends fault
+-- the reply of the code to a line is the outcome of the line, with its text and its machine
+abbrev pub Replies : Reply → List ℕ → Option State → LineOutcome → Type 0
+Replies (replies.Goes noted) text machine outcome = outcome ≡ Goes text machine
+Replies (replies.Ends fault) text machine outcome = outcome ≡ Ends fault
 
 -- where the run goes on, the devices are there until a machine is booted
-abbrev pub StillHolds : Reply → Option State → Option (List Attached) → List Attached → Type 0
-StillHolds (replies.Goes noted) machine held devices = Holds machine held devices
-StillHolds (replies.Ends fault) machine held devices = ⊤
+abbrev pub StillHoldsDevices : Reply → Option State → Option (List Attached) → List Attached → Type 0
+StillHoldsDevices (replies.Goes noted) machine held devices = HoldsDevices machine held devices
+StillHoldsDevices (replies.Ends fault) machine held devices = ⊤
 
 -- the status of a run whose report was written to its end
 abbrev pub status_of : Verdict → ℕ
@@ -51,7 +51,7 @@ EndsIn (ImageRefused fault) text = (front : List ℕ) × (text ≡ front ++ no_i
 
 module _ {W : Type 0} (takes : W → Writing → List ℕ → W → Type 0) where
   -- All of a report was written, with its verdict, whose fault is the one that it ends with; or a write failed, after a prefix of it.
-  abbrev pub WritesAll : Told → W → W → Ending → Type 0
+  abbrev pub WritesAll : Report → W → W → Ending → Type 0
   WritesAll all w w' (Complete verdict) = Took takes w all.text w' × (verdict ≡ all.verdict) × EndsIn verdict all.text
   WritesAll all w w' NoMemory = ⊥
   WritesAll all w w' (ReadFailed fault) = ⊥
@@ -69,7 +69,7 @@ module _ {W : Type 0} (takes : W → Writing → List ℕ → W → Type 0) wher
   EndsInMemory prefix w w' ending = MemoryRefused × WritesMemory prefix w w' ending
 
   -- A run writes all of its report; or, once memory was refused to it, a prefix of it and then the line `memory`.
-  abbrev pub Finishes : Told → W → W → Ending → Type 0
+  abbrev pub Finishes : Report → W → W → Ending → Type 0
   Finishes all w w' ending = WritesAll all w w' ending ⊎ ((prefix : List ℕ) × IsPrefix prefix all.text × EndsInMemory prefix w w' ending)
 
   -- A run that could not read its input ends with the fault, and the writer has no call; where an allocation failed, with the line `memory`.
@@ -78,6 +78,6 @@ module _ {W : Type 0} (takes : W → Writing → List ℕ → W → Type 0) wher
   Unread (stops.Fault fault) w w' ending = (w' ≡ w) × (ending ≡ ReadFailed fault)
 
   -- A run that read its input writes the report of it.
-  abbrev pub Serves : (List ℕ → Told) → Result (List ℕ) ReadStop → W → W → Ending → Type 0
+  abbrev pub Serves : (List ℕ → Report) → Result (List ℕ) ReadStop → W → W → Ending → Type 0
   Serves report (Ok input) w w' ending = Finishes (report input) w w' ending
   Serves report (Err stop) w w' ending = Unread stop w w' ending

@@ -1,8 +1,8 @@
--- The machine that a run begins with: booted with its devices, and with an image in it, if one is given.
+-- The machine that a run begins with: booted with its devices, and with an image in it, if there is one.
 use Rattle.std.specs.Prelude.{◌≡◌, Option, Some, None, Result, Ok, Err, false, if◌then◌else◌}
-use Rattle.evm_debug.specs.evm_core.Load.{load}
+use Rattle.evm_diagnostics.specs.evm_core.Load.{load}
 use Rattle.evm_image.specs.Images.{Contents}
-use Rattle.evm_serve.specs.Given.{Given}
+use Rattle.evm_serve.specs.RunOptions.{RunOptions}
 use Rattle.evm_serve.specs.Memory.{MemoryRefused}
 use Rattle.evm_model.specs.declared.refusal.Refusal.{Refusal}
 use Rattle.evm_model.specs.declared.refusal.Refusal.TheVariants.{BadSize, NoMemory}
@@ -16,11 +16,11 @@ with_image None s = Ok s
 with_image (Some image) s = load image s
 
 -- the machine of a boot, or why there is none: bad numbers go before what the image is refused for
-abbrev pub started : Given → Boot → Result State Refusal
-started given boot = if bad_boot boot then Err BadSize else with_image given.image (start given.devices boot)
+abbrev pub started : RunOptions → Boot → Result State Refusal
+started options boot = if bad_boot boot then Err BadSize else with_image options.image (start options.devices boot)
 
 -- what the code answers is that, unless memory is refused to a good boot
-abbrev pub Starts : Given → Boot → Result State Refusal → Type 0
-Starts given boot (Ok s) = started given boot ≡ Ok s
-Starts given boot (Err NoMemory) = (bad_boot boot ≡ false) × MemoryRefused
-Starts given boot (Err refusal) = started given boot ≡ Err refusal
+abbrev pub Starts : RunOptions → Boot → Result State Refusal → Type 0
+Starts options boot (Ok s) = started options boot ≡ Ok s
+Starts options boot (Err NoMemory) = (bad_boot boot ≡ false) × MemoryRefused
+Starts options boot (Err refusal) = started options boot ≡ Err refusal

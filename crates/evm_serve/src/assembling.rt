@@ -3,12 +3,12 @@
 ghost use Rattle.evm_elf.specs.Files.{file_of};
 ghost use Rattle.evm_elf.specs.evm_asm.Assembled.{program_of};
 ghost use Rattle.evm_elf.specs.evm_asm_lexer.Faults.{reported};
-ghost use Rattle.evm_serve.specs.Playing.{Says};
+ghost use Rattle.evm_serve.specs.Playing.{WritesOnce};
 ghost use Rattle.evm_serve.specs.Assembling.{Assembles};
 
 use crate::ending::{Ending, Halt, Verdict};
-use crate::fault::Fault;
-use crate::halting::{ended, say, say_fault};
+use crate::run_end::{ended, write_fault, write_report};
+use evm_diagnostics::InputFault;
 use evm_elf::{AsmFaultKind, Program, assemble, write_image};
 use evm_streams::Sink;
 use std::alloc::Global;
@@ -16,10 +16,10 @@ use std::alloc::Global;
 // Writes the file of a program.
 #[tactic(auto, using(crate::proofs::Memory::memory))]
 fn write_file<W: Sink>(alloc: Global, program: &Program, out: &mut W) -> Result<Verdict, Halt>
-    ensures { Says W.takes (record { text = file_of program.now.bytes; verdict = Verdict.Done }) out.old out.new result }
+    ensures { WritesOnce W.takes (record { text = file_of program.now.bytes; verdict = Verdict.Done }) out.old out.new result }
 {
     match write_image(alloc, program) {
-        Ok(file) => say(Verdict::Done, file.as_slice(), out),
+        Ok(file) => write_report(Verdict::Done, file.as_slice(), out),
         Err(_) => Err(Halt::NoMemory),
     }
 }
@@ -39,7 +39,7 @@ pub fn assemble_to<W: Sink, T: Sink>(
     let outcome = match assemble(alloc, source) {
         Ok(program) => write_file(alloc, &program, out),
         Err(fault) if matches!(fault.kind, AsmFaultKind::NoMemory) => Err(Halt::NoMemory),
-        Err(fault) => say_fault(alloc, Fault::NoProgram(fault), report),
+        Err(fault) => write_fault(alloc, InputFault::NoProgram(fault), report),
     };
     ended(outcome, report)
 }

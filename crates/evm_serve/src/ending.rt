@@ -3,8 +3,7 @@
 ghost use Rattle.std.specs.Prelude.{◌≡◌};
 ghost use Rattle.evm_serve.specs.Serving.{status_of, status_at};
 
-use crate::fault::Fault;
-use crate::note::StepNote;
+use evm_diagnostics::{InputFault, StepNote};
 use evm_elf::ElfFault;
 use evm_streams::{ReadFault, WriteFault};
 
@@ -14,7 +13,7 @@ pub enum Reply {
     /// The run goes on, with a note if a processor is stopped that was to step.
     Goes(Option<StepNote>),
     /// The run ends at this fault.
-    Ends(Fault),
+    Ends(InputFault),
 }
 
 /// What a run came to whose report was written to its end.
@@ -23,7 +22,7 @@ pub enum Verdict {
     /// All was done.
     Done,
     /// A line, a journal, a source or an event was bad or refused.
-    Refused(Fault),
+    Refused(InputFault),
     /// The file of the image has a fault.
     ImageRefused(ElfFault),
 }

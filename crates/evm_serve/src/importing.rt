@@ -3,11 +3,11 @@
 ghost use Rattle.std.specs.Prelude.{List, ℕ, Result};
 ghost use Rattle.evm_streams.specs.declared.source.ReadStop.{ReadStop};
 ghost use Rattle.evm_streams.specs.Reads.{Reads};
-ghost use Rattle.evm_serve.specs.Playing.{Says};
+ghost use Rattle.evm_serve.specs.Playing.{WritesOnce};
 ghost use Rattle.evm_serve.specs.Imaging.{Checks, Imports, no_image_report};
 
 use crate::ending::{Ending, Halt, Verdict};
-use crate::halting::{ended, say, unread};
+use crate::run_end::{ended, unread, write_report};
 use crate::texts::no_image;
 use evm_elf::{ElfFault, read_image};
 use evm_image::Image;
@@ -16,11 +16,11 @@ use std::alloc::Global;
 
 // Reports the fault of a file.
 #[tactic(auto, using(crate::proofs::Memory::memory))]
-fn say_no_image<W: Sink>(alloc: Global, fault: ElfFault, writer: &mut W) -> Result<Verdict, Halt>
-    ensures { Says W.takes (no_image_report fault) writer.old writer.new result }
+fn write_no_image<W: Sink>(alloc: Global, fault: ElfFault, writer: &mut W) -> Result<Verdict, Halt>
+    ensures { WritesOnce W.takes (no_image_report fault) writer.old writer.new result }
 {
     match no_image(alloc, fault) {
-        Ok(text) => say(Verdict::ImageRefused(fault), text.as_bytes(), writer),
+        Ok(text) => write_report(Verdict::ImageRefused(fault), text.as_bytes(), writer),
         Err(refused) => {
             refused.within();
             Err(Halt::NoMemory)
@@ -41,7 +41,7 @@ pub fn import_bytes<W: Sink>(alloc: Global, file: &[u8], writer: &mut W) -> Resu
         Ok(image) => Ok(image),
         Err(ElfFault::NoMemory) => Err(ended(Err(Halt::NoMemory), writer)),
         Err(fault) => {
-            let outcome = say_no_image(alloc, fault, writer);
+            let outcome = write_no_image(alloc, fault, writer);
             Err(ended(outcome, writer))
         }
     }

@@ -3,8 +3,8 @@
 ghost use Rattle.evm_serve.specs.ReplayLaws.{RefusedOnItsLine, ReplaysSaved};
 ghost use Rattle.evm_serve.specs.Known.{ServesKnown, ServesKnownText, ImportsKnownFile, AssemblesIntoKnown};
 
-use evm_debug::Machine;
 use evm_dev::Device;
+use evm_diagnostics::Machine;
 use std::io::{Read, Write};
 
 /// A refused event is reported with the number of the line on which it stands in the journal.
@@ -25,7 +25,7 @@ pub fn known_inputs_are_served<R: Read, W: Write>()
     ensures { ServesKnown R.remaining W.contents }
 {}
 
-/// The same of a run that reads a text, as a replay does.
+/// Likewise a run that reads a text, as a replay does.
 pub fn known_texts_are_served<R: Read, W: Write>()
     ensures { ServesKnownText R.remaining W.contents }
 {}

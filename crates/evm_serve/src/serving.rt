@@ -1,58 +1,57 @@
 ghost use Rattle.std.specs.Prelude.{List, ℕ, Result};
 ghost use Rattle.evm_streams.specs.declared.source.ReadStop.{ReadStop};
 ghost use Rattle.evm_streams.specs.Reads.{Reads};
-ghost use Rattle.evm_serve.specs.Told.{told};
+ghost use Rattle.evm_serve.specs.Script.{script_report};
 ghost use Rattle.evm_serve.specs.Playing.{Plays};
-ghost use Rattle.evm_serve.specs.Notes.{notes, PlaysNotes, EndsNotes};
+ghost use Rattle.evm_serve.specs.RunNotes.{notes, PlaysNotes, EndsNotes};
 ghost use Rattle.evm_serve.specs.Serving.{Finishes, Serves};
 
 use crate::ending::{Ending, Halt, Reply, Verdict};
-use crate::given::Given;
-use crate::halting::{ended, say_fault, unread};
-use crate::note::{report_ended, report_note};
 use crate::nowhere::Nowhere;
-use crate::tell::tell;
-use evm_debug::cut_line;
+use crate::options::RunOptions;
+use crate::run_end::{ended, unread, write_fault};
+use crate::script_line::run_line;
 use evm_dev::Device;
+use evm_diagnostics::{cut_line, report_ended, report_note};
 use evm_streams::{Sink, Source, read_all, write_all};
 use std::alloc::Global;
 
 // Runs the lines of a script.
 fn play<W: Sink, E: Sink, D: Device>(
     alloc: Global,
-    given: Given<'_, D>,
+    options: RunOptions<'_, D>,
     name: &str,
     script: &[u8],
     writer: &mut W,
     errors: &mut E,
 ) -> Result<Verdict, Halt>
-    ensures told { Plays W.takes (told given.entry script.now) writer.old writer.new result }
-    ensures noted { PlaysNotes E.takes (notes given.entry name.now script.now) result errors.old errors.new }
+    ensures report { Plays W.takes (script_report options.entry script.now) writer.old writer.new result }
+    ensures noted { PlaysNotes E.takes (notes options.entry name.now script.now) result errors.old errors.new }
 {
-    let Given { image, devices } = given;
+    let RunOptions { image, devices } = options;
     let mut held = Some(devices);
     let mut machine = None;
-    let mut said = String::new(alloc);
+    let mut text = String::new(alloc);
     let mut rest = script;
     let mut number = 1u64;
     'lines: while let Some((line, after)) = cut_line(rest) {
-        match tell(
+        match run_line(
             alloc,
             image,
             &mut held,
             number,
             line,
             &mut machine,
-            &mut said,
+            &mut text,
         ) {
             Err(_) => return Err(Halt::NoMemory),
             Ok(Reply::Goes(note)) => {
                 report_note(name, number, note, errors);
-                if let Err(fault) = write_all(writer, said.as_bytes()) {
+                if let Err(fault) = write_all(writer, text.as_bytes()) {
                     return Err(Halt::WriteFailed(fault));
                 }
             }
-            Ok(Reply::Ends(fault)) => return say_fault(alloc, fault, writer),
+            Ok(Reply::Ends(fault)) => return write_fault(alloc, fault, writer),
         }
         rest = after;
         number += 1;
@@ -61,21 +60,21 @@ fn play<W: Sink, E: Sink, D: Device>(
     Ok(Verdict::Done)
 }
 
-/// Runs the lines of a script of this name, and writes what they tell and nothing else. The machine boots with the
-/// devices, and with the image, if one is given. `errors` gets the notes on lines whose processor is stopped, and on
+/// Runs the lines of a script of this name, and writes its report. The machine boots with the devices and the image of the
+/// options. `errors` gets the notes on lines whose processor is stopped, and on
 /// tasks that ended by a fault.
 pub fn run_script<W: Sink, E: Sink, D: Device>(
     alloc: Global,
-    given: Given<'_, D>,
+    options: RunOptions<'_, D>,
     name: &str,
     script: &[u8],
     writer: &mut W,
     errors: &mut E,
 ) -> Ending
-    ensures told { Finishes W.takes (told given.entry script.now) writer.old writer.new result }
-    ensures noted { EndsNotes E.takes (notes given.entry name.now script.now) result errors.old errors.new }
+    ensures report { Finishes W.takes (script_report options.entry script.now) writer.old writer.new result }
+    ensures noted { EndsNotes E.takes (notes options.entry name.now script.now) result errors.old errors.new }
 {
-    let outcome = play(alloc, given, name, script, writer, errors);
+    let outcome = play(alloc, options, name, script, writer, errors);
     ended(outcome, writer)
 }
 
@@ -84,25 +83,25 @@ pub fn serve_script<W: Sink, D: Device>(
     alloc: Global,
     script: &[u8],
     writer: &mut W,
-    given: Given<'_, D>,
+    options: RunOptions<'_, D>,
 ) -> Ending
-    ensures { Finishes W.takes (told given.entry script.now) writer.old writer.new result }
+    ensures { Finishes W.takes (script_report options.entry script.now) writer.old writer.new result }
 {
-    run_script(alloc, given, "", script, writer, &mut Nowhere)
+    run_script(alloc, options, "", script, writer, &mut Nowhere)
 }
 
-/// The same of a script that it reads to its end. Where that can't be read, or has more than 16,777,216 bytes,
+/// Like `serve_script`, of a script that it reads to its end. If the script can't be read, or has more than 16,777,216 bytes,
 /// nothing is written.
 pub fn serve<R: Source, W: Sink, D: Device>(
     alloc: Global,
     reader: &mut R,
     writer: &mut W,
-    given: Given<'_, D>,
+    options: RunOptions<'_, D>,
 ) -> Ending
-    ensures { (read : Result (List ℕ) ReadStop) × Reads R.gives reader.old reader.new read × Serves W.takes (told given.entry) read writer.old writer.new result }
+    ensures { (read : Result (List ℕ) ReadStop) × Reads R.gives reader.old reader.new read × Serves W.takes (script_report options.entry) read writer.old writer.new result }
 {
     match read_all(alloc, reader) {
-        Ok(script) => serve_script(alloc, script.as_slice(), writer, given),
+        Ok(script) => serve_script(alloc, script.as_slice(), writer, options),
         Err(stop) => unread(stop, writer),
     }
 }

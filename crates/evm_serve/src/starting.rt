@@ -2,22 +2,22 @@
 
 ghost use Rattle.evm_serve.specs.Starting.{Starts};
 
-use crate::given::Given;
-use evm_debug::{Boot, Machine, Refusal};
+use crate::options::RunOptions;
 use evm_dev::Device;
+use evm_diagnostics::{Boot, Machine, Refusal};
 use std::alloc::Global;
 
-/// A machine with these numbers and the devices, and with the image in it, if one is given. Bad numbers are reported
-/// before what the image is refused for; `NoMemory` says that memory was refused.
+/// A machine with these numbers and the devices, and with the image in it, if there is one. Bad numbers are reported before
+/// the refusal of the image; `NoMemory` means that an allocation was refused.
 #[tactic(auto, using(crate::proofs::Memory::memory))]
 pub(crate) fn start<D: Device>(
     alloc: Global,
-    given: Given<'_, D>,
+    options: RunOptions<'_, D>,
     numbers: &Boot,
 ) -> Result<Machine<D>, Refusal>
-    ensures { Starts given.entry numbers.now result }
+    ensures { Starts options.entry numbers.now result }
 {
-    let Given { image, devices } = given;
+    let RunOptions { image, devices } = options;
     let mut machine = match Machine::from_boot(alloc, *numbers, devices) {
         Ok(machine) => machine,
         Err(refusal) => return Err(refusal),

@@ -1,10 +1,10 @@
 //! Scripts, images and journals with the text wanted, and streams that fail.
 
-use crate::given::Given;
+use crate::options::RunOptions;
 use crate::replay::replay_to;
 use crate::serving::serve;
-use evm_debug::Devices;
 use evm_devs::Pins;
+use evm_diagnostics::Devices;
 use evm_elf::{PROGRAM_MAX, read_image, write_bytes};
 use evm_image::Image;
 use std::alloc::Global;
@@ -12,22 +12,20 @@ use std::process::Abort;
 use std::test::Fail;
 
 mod assembling;
-mod details;
 mod fakes;
 mod faults;
 mod images;
 mod journals;
 mod loading;
 mod notes;
-mod scripts;
 mod streams;
 
-/// An image or none, and no devices.
-fn handed<'a>(rt: &impl Abort, alloc: Global, image: Option<&'a Image>) -> Given<'a, Pins> {
+/// The options of a run: an image or none, and no devices.
+fn options<'a>(rt: &impl Abort, alloc: Global, image: Option<&'a Image>) -> RunOptions<'a, Pins> {
     let Ok(devices) = Devices::new(alloc) else {
         panic!(rt; "no memory for devices")
     };
-    Given { image, devices }
+    RunOptions { image, devices }
 }
 
 /// Serves a script with an image or none, and compares its text and its status.
@@ -41,18 +39,13 @@ fn check_with(
 ) {
     let mut reader = script;
     let mut written = Vec::new(alloc);
-    let ending = serve(alloc, &mut reader, &mut written, handed(rt, alloc, image));
+    let ending = serve(alloc, &mut reader, &mut written, options(rt, alloc, image));
     assert_eq!(rt;
         written.as_slice(),
         text.as_bytes(),
         "the text of {script:?}"
     );
     assert_eq!(rt; ending.status(), status, "the status of {script:?}");
-}
-
-/// The same with no image.
-fn check(rt: &impl Abort, alloc: Global, script: &[u8], text: &str, status: u8) {
-    check_with(rt, alloc, None, script, text, status);
 }
 
 /// Replays a journal, and compares its text and its status.
@@ -68,7 +61,7 @@ fn check_replay(
     let mut written = Vec::new(alloc);
     let ending = replay_to(
         alloc,
-        handed(rt, alloc, Some(image)),
+        options(rt, alloc, Some(image)),
         &mut reader,
         &mut written,
     );

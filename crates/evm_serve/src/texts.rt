@@ -2,11 +2,10 @@
 
 ghost use Rattle.std.specs.Prelude.{◌≡◌, ◌≤◌, ◌++◌, length, IfOk, IfErr, codes};
 ghost use Rattle.std.specs.String.{string_bytes};
-ghost use Rattle.evm_debug.specs.evm_text.Written.{decimal};
-ghost use Rattle.evm_serve.specs.Faults.{fault_text, no_image_text};
+ghost use Rattle.evm_diagnostics.specs.evm_text.Written.{decimal};
+ghost use Rattle.evm_serve.specs.FaultLines.{fault_text, no_image_text};
 
-use crate::fault::Fault;
-use evm_debug::{JournalFault, push_decimal};
+use evm_diagnostics::{InputFault, JournalFault, push_decimal};
 use evm_elf::{AsmFault, ElfFault};
 use evm_room::{Refused, push_text};
 use std::alloc::Global;
@@ -39,19 +38,19 @@ fn with_two(alloc: Global, word: &str, first: u64, second: u64) -> Result<String
 }
 
 /// The line of a fault, at which a run ends.
-pub(crate) fn fault_line(alloc: Global, fault: Fault) -> Result<String, Refused>
+pub(crate) fn fault_line(alloc: Global, fault: InputFault) -> Result<String, Refused>
     ensures ok { IfOk result (λ text. string_bytes text ≡ fault_text fault) }
     ensures refused { IfErr result (λ asked. asked ≤ length (fault_text fault)) }
 {
     match fault {
-        Fault::BadLine(line, _) => with_one(alloc, "bad ", line),
-        Fault::Refused(line, _, refusal) => {
+        InputFault::BadLine(line, _) => with_one(alloc, "bad ", line),
+        InputFault::Refused(line, _, refusal) => {
             with_two(alloc, "refused ", line, u64::from(refusal.number()))
         }
-        Fault::NoProgram(AsmFault { line, kind }) => {
+        InputFault::NoProgram(AsmFault { line, kind }) => {
             with_two(alloc, "asm ", line, u64::from(kind.number()))
         }
-        Fault::NoJournal(JournalFault { line, kind }) => {
+        InputFault::NoJournal(JournalFault { line, kind }) => {
             with_two(alloc, "journal ", line, u64::from(kind.number()))
         }
     }

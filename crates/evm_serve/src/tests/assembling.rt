@@ -14,7 +14,7 @@ const TOLD: &[u8] = b"asm 1 4\n";
 
 #[test]
 fn sources_have_files_or_faults(rt: HostRuntime) {
-    // a source, how many bytes its file has, and what is told
+    // a source, how many bytes its file has, and what is report
     let rows: [(&str, usize, &[u8]); 4] = [
         ("", 120, b""),
         ("la a0,x\n.data\nx: .dword 5\n", 4224, b""),
@@ -23,12 +23,12 @@ fn sources_have_files_or_faults(rt: HostRuntime) {
     ];
     for (source, bytes, text) in rows {
         let mut out = Vec::new(rt.alloc());
-        let mut told = Vec::new(rt.alloc());
-        let ending = assemble_to(rt.alloc(), source, &mut out, &mut told);
+        let mut report = Vec::new(rt.alloc());
+        let ending = assemble_to(rt.alloc(), source, &mut out, &mut report);
         let status = if text.is_empty() { 0 } else { 1 };
         assert_eq!(rt; ending.status(), status, "the status of {source:?}");
         assert_eq!(rt; out.len(), bytes, "the file of {source:?}");
-        assert_eq!(rt; told.as_slice(), text, "what is told of {source:?}");
+        assert_eq!(rt; report.as_slice(), text, "what is report of {source:?}");
     }
 }
 
@@ -40,7 +40,7 @@ struct Narrow {
 }
 
 impl Narrow {
-    /// Room for so many bytes.
+    /// Room for `room` bytes.
     fn new(alloc: Global, room: usize) -> Self {
         let taken = Vec::new(alloc);
         Narrow { taken, room }
@@ -69,20 +69,20 @@ fn failed_writes_end_assembling(rt: HostRuntime) {
     let alloc = rt.alloc();
     for room in [0, 7, 119, 120] {
         let mut out = Narrow::new(alloc, room);
-        let mut told = Vec::new(alloc);
-        let ending = assemble_to(alloc, "", &mut out, &mut told);
+        let mut report = Vec::new(alloc);
+        let ending = assemble_to(alloc, "", &mut out, &mut report);
         let status = if room < 120 { 4 } else { 0 };
         assert_eq!(rt; ending.status(), status, "a file of {room} bytes");
         assert_eq!(rt; out.taken.len(), room, "a file of {room} bytes");
-        assert_eq!(rt; told.len(), 0, "a file of {room} bytes");
+        assert_eq!(rt; report.len(), 0, "a file of {room} bytes");
     }
     for room in [0, 3, 7, 8] {
         let mut out = Vec::new(alloc);
-        let mut told = Narrow::new(alloc, room);
-        let ending = assemble_to(alloc, FAULTY, &mut out, &mut told);
+        let mut report = Narrow::new(alloc, room);
+        let ending = assemble_to(alloc, FAULTY, &mut out, &mut report);
         let status = if room < 8 { 4 } else { 1 };
         assert_eq!(rt; ending.status(), status, "a line of {room} bytes");
-        assert!(rt; TOLD.starts_with(&told.taken), "a line of {room} bytes");
+        assert!(rt; TOLD.starts_with(&report.taken), "a line of {room} bytes");
         assert_eq!(rt; out.len(), 0, "a line of {room} bytes");
     }
 }
@@ -108,10 +108,10 @@ impl Write for Counter {
 #[test]
 fn failed_allocations_write_no_file(rt: HostRuntime) {
     let mut out = Counter { count: 0 };
-    let mut told = Counter { count: 0 };
-    match assemble_to(rt.alloc(), "nop\n", &mut out, &mut told) {
-        Ending::Complete(Verdict::Done) => assert_eq!(rt; (out.count, told.count), (124, 0)),
-        Ending::NoMemory => assert_eq!(rt; (out.count, told.count), (0, 7)),
+    let mut report = Counter { count: 0 };
+    match assemble_to(rt.alloc(), "nop\n", &mut out, &mut report) {
+        Ending::Complete(Verdict::Done) => assert_eq!(rt; (out.count, report.count), (124, 0)),
+        Ending::NoMemory => assert_eq!(rt; (out.count, report.count), (0, 7)),
         _ => panic!(rt; "neither a file nor the line `memory`"),
     }
 }

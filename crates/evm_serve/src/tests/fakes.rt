@@ -6,7 +6,7 @@ use std::io::{self, Error, ErrorKind, Read, Write};
 /// not.
 pub(crate) const FAULTS: [ErrorKind; 2] = [ErrorKind::Interrupted, ErrorKind::Other];
 
-/// Gives at most so many bytes at a call, and after so many calls fails once: a call behind the fault would give more.
+/// Gives at most `most` bytes at a call, and after `calls` calls fails once: a call behind the fault would give more.
 #[derive(Drop)]
 pub(crate) struct Source<'a> {
     pub(crate) rest: &'a [u8],
@@ -30,7 +30,7 @@ impl Read for Source<'_> {
     }
 }
 
-/// Takes at most so many bytes at a call, and after so many calls fails, or takes none where it has no fault.
+/// Takes at most `most` bytes at a call. After `calls` calls it fails, or takes none if it has no fault.
 #[derive(Drop)]
 pub(crate) struct Sink {
     pub(crate) taken: Vec<u8>,

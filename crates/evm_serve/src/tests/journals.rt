@@ -2,7 +2,7 @@
 
 use super::fakes::{FAULTS, Sink, Source};
 use super::images::PROGRAM;
-use super::{check_replay, handed, image_of};
+use super::{check_replay, image_of, options};
 use crate::replay::replay_to;
 use crate::serving::serve;
 use evm_image::Image;
@@ -104,7 +104,7 @@ fn served(rt: &impl Abort, alloc: Global, image: &Image, script: &str) -> Vec<u8
         alloc,
         &mut reader,
         &mut written,
-        handed(rt, alloc, Some(image)),
+        options(rt, alloc, Some(image)),
     );
     written
 }
@@ -119,7 +119,7 @@ fn check_saved(rt: &impl Abort, alloc: Global, image: &Image, script: &str) -> R
     let mut written = Vec::new(alloc);
     let ending = replay_to(
         alloc,
-        handed(rt, alloc, Some(image)),
+        options(rt, alloc, Some(image)),
         &mut reader,
         &mut written,
     );
@@ -165,7 +165,7 @@ fn unread_journals_are_not_replayed(rt: HostRuntime) -> Result<(), Fail> {
             let mut written = Vec::new(alloc);
             let ending = replay_to(
                 alloc,
-                handed(&rt, alloc, Some(&image)),
+                options(&rt, alloc, Some(&image)),
                 &mut source,
                 &mut written,
             );
@@ -192,7 +192,7 @@ fn unread_journals_are_not_replayed(rt: HostRuntime) -> Result<(), Fail> {
     let mut written = Vec::new(alloc);
     let ending = replay_to(
         alloc,
-        handed(&rt, alloc, Some(&image)),
+        options(&rt, alloc, Some(&image)),
         &mut long,
         &mut written,
     );
@@ -225,7 +225,7 @@ fn unwritten_views_leave_a_prefix(rt: HostRuntime) -> Result<(), Fail> {
                 let mut reader = journal;
                 let ending = replay_to(
                     alloc,
-                    handed(&rt, alloc, Some(&image)),
+                    options(&rt, alloc, Some(&image)),
                     &mut reader,
                     &mut sink,
                 );

@@ -1,7 +1,7 @@
 //! Images in a machine with the least RAM.
 
-use evm_debug::{Answer, Event, Machine, Refusal};
 use evm_devs::Pins;
+use evm_diagnostics::{Answer, Event, Machine, Refusal};
 use evm_elf::read_image;
 use evm_image::Image;
 use evm_ram::BASE;

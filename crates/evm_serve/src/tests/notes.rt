@@ -1,6 +1,6 @@
 //! What standard error gets while a script runs.
 
-use super::handed;
+use super::options;
 use crate::serving::run_script;
 use std::process::Abort;
 use std::test::Fail;
@@ -45,10 +45,10 @@ fn stopped_steps_and_faults_are_reported(rt: HostRuntime) -> Result<(), Fail> {
         let script = format!(in alloc; "boot 2 65536 64\n{PROGRAM}{commands}")?;
         let mut output = Vec::new(alloc);
         let mut errors = Vec::new(alloc);
-        let given = handed(&rt, alloc, None);
+        let options = options(&rt, alloc, None);
         let _ = run_script(
             alloc,
-            given,
+            options,
             "s",
             script.as_bytes(),
             &mut output,

@@ -1,7 +1,7 @@
 //! Readers and writers that fail, and scripts that are too long.
 
 use super::fakes::{FAULTS, Sink, Source};
-use super::handed;
+use super::options;
 use crate::serving::serve;
 use std::io::{self, ErrorKind, Read};
 
@@ -29,7 +29,7 @@ fn failed_reads_end_the_run(rt: HostRuntime) {
                 rt.alloc(),
                 &mut source,
                 &mut written,
-                handed(&rt, rt.alloc(), None),
+                options(&rt, rt.alloc(), None),
             );
             let (text, status) = if calls < 10 { ("", 4) } else { (TEXT, 1) };
             assert_eq!(rt; ending.status(), status, "after {calls} reads");
@@ -56,7 +56,7 @@ fn failed_writes_leave_a_prefix(rt: HostRuntime) {
                     rt.alloc(),
                     &mut reader,
                     &mut sink,
-                    handed(&rt, rt.alloc(), None),
+                    options(&rt, rt.alloc(), None),
                 );
                 let taken = sink.taken.as_slice();
                 let whole = taken == TEXT.as_bytes();
@@ -81,7 +81,7 @@ fn long_scripts_are_not_read(rt: HostRuntime) {
             rt.alloc(),
             &mut reader,
             &mut written,
-            handed(&rt, rt.alloc(), None),
+            options(&rt, rt.alloc(), None),
         );
         assert_eq!(rt; ending.status(), status, "a comment of {bytes} bytes");
         assert_eq!(rt; written.len(), 0, "a comment of {bytes} bytes");

@@ -1,7 +1,7 @@
 use Rattle.std.proofs.Common.{rules, ◌≡◌, codes, refl}
 use Rattle.evm_serve.specs.declared.ending.Ending.TheVariants.{Complete}
 use Rattle.evm_serve.specs.declared.ending.Verdict.TheVariants.{Refused}
-use Rattle.evm_serve.specs.Message.{about, Reports}
+use Rattle.evm_messages.specs.Diagnostic.{about, Reports}
 use Rattle.evm_command.specs.Exit.{shown_path}
 use Rattle.evm_command.proofs.exit.report_emptied.Goals as goal
 

@@ -1,6 +1,6 @@
 use Rattle.std.proofs.Common.{rules, ◌≡◌, true, codes, refl}
 use Rattle.std.specs.Str.{bytes_eq}
-use Rattle.evm_serve.specs.Message.{about, Reports}
+use Rattle.evm_messages.specs.Diagnostic.{about, Reports}
 use Rattle.evm_command.specs.Exit.{shown_path}
 use Rattle.evm_command.proofs.exit.report_out.Goals as goal
 

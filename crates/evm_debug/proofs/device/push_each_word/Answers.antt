@@ -10,7 +10,7 @@ use Rattle.evm_debug.proofs.DeviceWords.{few_words, is_within, word_found, words
 use Rattle.evm_debug.proofs.device.push_each_word.Goals as goal
 
 pub words-init : goal.words-init
-words-init g c = record { told = appends_none _ _ (words_below-none _); within = omega arith }
+words-init g c = record { appended = appends_none _ _ (words_below-none _); within = omega arith }
 
 pub overflow_add-k : goal.overflow_add-k
 overflow_add-k g c =
@@ -34,7 +34,7 @@ words-preserved g c =
     let is : slice_get words c.words.k ≡ Some c.in-Some.word = word_found devices c.args.i c.words.k c.in-Some.word c.in-Some.ensures in
     let within : c.words.k < length words = is_within words c.words.k c.in-Some.word is in
     record {
-      told = appends_more _ _ _ _ _ _ c.words.invariant.told c.in-Ok.ensures (words_below-more c.words.k words ∙ ap (λ (o : Option ℕ). words_below c.words.k words ++ blank_word o) is);
+      appended = appends_more _ _ _ _ _ _ c.words.invariant.appended c.in-Ok.ensures (words_below-more c.words.k words ∙ ap (λ (o : Option ℕ). words_below c.words.k words ++ blank_word o) is);
       within = omega (arith, within);
     }
 
@@ -46,7 +46,7 @@ returns-in-Err g c =
     let within : c.words.k < length words = is_within words c.words.k c.in-Some.word is in
     let size = ap (λ (o : Option ℕ). length (blank_word o)) is in
     let longer = words_below-longer c.words.k (length words) words within in
-    appends_front _ _ _ _ _ _ _ c.words.invariant.told c.in-Err.ensures (omega (arith, size, longer))
+    appends_front _ _ _ _ _ _ _ c.words.invariant.appended c.in-Err.ensures (omega (arith, size, longer))
 
 pub returns : goal.returns
 returns g c =
@@ -55,4 +55,4 @@ returns g c =
     let none : device_word c.args.i c.words.k devices ≡ None = search rules in
     let past : length words ≤ c.words.k = words_over devices c.args.i c.words.k none in
     let all : c.words.k ≡ length words = omega (arith, past, c.words.invariant.within) in
-    subst (λ (k : ℕ). Appends (words_below k words) c.args.out.now c.words.out (Ok tt)) all c.words.invariant.told
+    subst (λ (k : ℕ). Appends (words_below k words) c.args.out.now c.words.out (Ok tt)) all c.words.invariant.appended

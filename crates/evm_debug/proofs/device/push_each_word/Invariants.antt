@@ -5,10 +5,10 @@ use Rattle.evm_debug.specs.Pieces.{words_in}
 use Rattle.evm_debug.specs.Views.{words_below}
 use Rattle.evm_debug.proofs.device.push_each_word.Given as goal
 
--- the words below k are told
+-- the words below k were appended
 abbrev pub invariant-words : goal.invariant-words
 invariant-words g l = record {
-  told : Appends (words_below l.k (words_in (slice_get l.machine.board.memory.devices l.i))) l.fn.out l.out (Ok tt);
+  appended : Appends (words_below l.k (words_in (slice_get l.machine.board.memory.devices l.i))) l.fn.out l.out (Ok tt);
   within : l.k ≤ length (words_in (slice_get l.machine.board.memory.devices l.i));
 }
 

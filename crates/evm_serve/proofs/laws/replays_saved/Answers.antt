@@ -1,4 +1,4 @@
-use Rattle.evm_debug.proofs.evm_journal.Machines.{machine_journal}
+use Rattle.evm_diagnostics.proofs.evm_journal.Machines.{machine_journal}
 use Rattle.evm_serve.proofs.Replays.{replays_saved}
 use Rattle.evm_serve.proofs.laws.replays_saved.Goals as goal
 

@@ -1,0 +1,15 @@
+use Rattle.std.proofs.Common.{rules, codes}
+use Rattle.evm_streams.specs.Writes.{Took, TookPrefix}
+use Rattle.evm_messages.specs.Diagnostic.{diagnostic_text}
+use Rattle.evm_messages.proofs.Messages.{writes_then, writes_failed, written}
+use Rattle.evm_messages.proofs.diagnostic.write_diagnostic_line.Goals as goal
+
+pub returns-in-Ok : goal.returns-in-Ok
+returns-in-Ok g c =
+    let took : Took g.E.Sink.takes c.args.errors.now (diagnostic_text c.args.diagnostic) c.write_diagnostic.new.errors = search rules in
+    writes_then _ _ _ _ (diagnostic_text c.args.diagnostic) (codes "\n") _ took (written _ _ _ _ _ c.write_all.ensures)
+
+pub returns-in-Err : goal.returns-in-Err
+returns-in-Err g c =
+    let failed : TookPrefix g.E.Sink.takes c.args.errors.now (diagnostic_text c.args.diagnostic) c.write_diagnostic.new.errors = search rules in
+    writes_failed _ _ _ (diagnostic_text c.args.diagnostic) (codes "\n") failed

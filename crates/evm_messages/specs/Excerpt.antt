@@ -1,0 +1,26 @@
+-- How standard error quotes a word or a line: its first bytes, with bytes that are not printable escaped.
+use Rattle.std.specs.Prelude.{ℕ, ◌/◌, ◌%◌, ◌==◌, List, [], ◌∷◌, ◌++◌, Option, Some, None, take, codes, if◌then◌else◌}
+use Rattle.evm_messages.specs.Printable.{is_printable}
+use Rattle.evm_text.specs.Written.{character}
+use Rattle.evm_messages.specs.declared.excerpt.TheConstants.{EXCERPT_LIMIT}
+
+-- \r, \t, or \x and two digits
+abbrev pub escape : ℕ → List ℕ
+escape c =
+    if is_printable c then c ∷ []
+    else (if c == 13 then codes "\\r"
+    else (if c == 9 then codes "\\t"
+    else 92 ∷ 120 ∷ character (c / 16) ∷ character (c % 16) ∷ []))
+
+unfoldable pub escaped : List ℕ → List ℕ
+escaped [] = []
+escaped (c ∷ bytes) = escape c ++ escaped bytes
+
+-- the bytes that are quoted
+abbrev pub excerpt : List ℕ → List ℕ
+excerpt word = take EXCERPT_LIMIT word
+
+-- a message, and behind it what it quotes, if anything: its first bytes, escaped
+abbrev pub quoting : List ℕ → List ℕ → Option (List ℕ) → List ℕ
+quoting message between None = message
+quoting message between (Some word) = message ++ (between ++ (escaped (excerpt word) ++ codes "\""))

@@ -1,0 +1,153 @@
+//! The message of a line outside the grammar: the first byte that is not printable, or the form of the command.
+
+ghost use Rattle.std.specs.Prelude.{◌≡◌, option_copied};
+ghost use Rattle.evm_messages.specs.Message.{message_text};
+ghost use Rattle.evm_messages.specs.LineDetails.{byte_detail, first_forms, event_forms, debug_forms, view_forms, other_form, printable_detail, grammar_detail, bad_line_detail};
+
+use crate::line_fault::LineFault;
+use crate::message::{Message, Numeral};
+use crate::near::{command_word, near_command, spacing};
+use crate::printable::odd_byte;
+
+/// The message of a line that has a byte which is not printable.
+pub fn byte_detail(byte: u8) -> Message
+    ensures { message_text result ≡ byte_detail byte }
+{
+    if byte == b'\r' {
+        Message::Plain("bad line: a carriage return; save the file with Unix line ends")
+    } else if byte == b'\t' {
+        Message::Plain("bad line: a tab; one blank separates words")
+    } else if byte == 0xef {
+        Message::Plain(
+            "bad line: byte ef, which begins a byte order mark; save the file without one",
+        )
+    } else {
+        Message::WithOne(
+            "bad line: byte ",
+            Numeral::Hexadecimal(u64::from(byte)),
+            " is not printable ASCII",
+        )
+    }
+}
+
+// A line whose first word is no command.
+fn other_form(line: &[u8]) -> &'static str
+    ensures { result.now ≡ other_form line.now }
+{
+    match near_command(command_word(line)) {
+        Some(words) => words,
+        None =>
+            "bad line: no such command; there are boot, step, tick, raise, bell, stop, go, stepi, set, setpc, poke, break, unbreak, regs, mem, stages, tasks, owners, rank, notices, counts, journal, console and words",
+    }
+}
+
+fn view_form(line: &[u8]) -> &'static str
+    ensures { result.now ≡ view_forms line.now }
+{
+    if line.starts_with(b"regs") {
+        "bad line: regs wants C: a processor, decimal, below 256"
+    } else if line.starts_with(b"mem") {
+        "bad line: mem wants A N: an address, lower-case hexadecimal without 0x, and a decimal count"
+    } else if line.starts_with(b"stages") {
+        "bad line: stages wants C: a processor, decimal, below 256"
+    } else if line.starts_with(b"tasks") {
+        "bad line: tasks stands alone on its line"
+    } else if line.starts_with(b"owners") {
+        "bad line: owners stands alone on its line"
+    } else if line.starts_with(b"rank") {
+        "bad line: rank wants T: a task, decimal, below 256"
+    } else if line.starts_with(b"counts") {
+        "bad line: counts wants C L: a processor and an interrupt line, decimal, below 256"
+    } else if line.starts_with(b"journal") {
+        "bad line: journal stands alone on its line"
+    } else if line.starts_with(b"console") {
+        "bad line: console stands alone on its line"
+    } else if line.starts_with(b"notices") {
+        "bad line: notices stands alone on its line"
+    } else if line.starts_with(b"words") {
+        "bad line: words wants I: a device, decimal, below 256"
+    } else {
+        other_form(line)
+    }
+}
+
+fn debug_form(line: &[u8]) -> &'static str
+    ensures { result.now ≡ debug_forms line.now }
+{
+    if line.starts_with(b"stepi") {
+        "bad line: stepi wants C: a processor, decimal, below 256"
+    } else if line.starts_with(b"setpc") {
+        "bad line: setpc wants C V: a processor, decimal, and the pc, lower-case hexadecimal without 0x"
+    } else if line.starts_with(b"set") {
+        "bad line: set wants C R V: a processor and a register, decimal, and a value, lower-case hexadecimal without 0x"
+    } else if line.starts_with(b"poke") {
+        "bad line: poke wants A HEX: an address, lower-case hexadecimal without 0x, and 1 to 64 bytes of two digits each"
+    } else if line.starts_with(b"break") {
+        "bad line: break wants A: an address, lower-case hexadecimal without 0x"
+    } else if line.starts_with(b"unbreak") {
+        "bad line: unbreak wants A: an address, lower-case hexadecimal without 0x"
+    } else {
+        view_form(line)
+    }
+}
+
+fn event_form(line: &[u8]) -> &'static str
+    ensures { result.now ≡ event_forms line.now }
+{
+    if line.starts_with(b"tick") {
+        "bad line: tick stands alone on its line"
+    } else if line.starts_with(b"raise") {
+        "bad line: raise wants C L: a processor and an interrupt line, decimal, below 256"
+    } else if line.starts_with(b"bell") {
+        "bad line: bell wants C L: a processor and an interrupt line, decimal, below 256"
+    } else if line.starts_with(b"stop") {
+        "bad line: stop wants C: a processor, decimal, below 256"
+    } else if line.starts_with(b"go") {
+        "bad line: go wants C: a processor, decimal, below 256"
+    } else {
+        debug_form(line)
+    }
+}
+
+// The form that the first word of a line wants.
+fn form(line: &[u8]) -> &'static str
+    ensures { result.now ≡ first_forms line.now }
+{
+    if line.starts_with(b"boot") {
+        "bad line: boot wants P RAM CAP: processors, bytes and events, decimal without leading zeros"
+    } else if line.starts_with(b"step ") {
+        "bad line: step wants C N: a processor below 256 and a count of 1 to 1048576, decimal without leading zeros"
+    } else {
+        event_form(line)
+    }
+}
+
+// A line of printable bytes.
+fn printable_detail(line: &[u8]) -> &'static str
+    ensures { result.now ≡ printable_detail line.now }
+{
+    match spacing(line) {
+        Some(words) => words,
+        None => form(line),
+    }
+}
+
+/// The message of a line outside the grammar.
+pub fn grammar_detail(line: &[u8]) -> Message
+    ensures { message_text result ≡ grammar_detail line.now }
+{
+    match odd_byte(line) {
+        Some(byte) => byte_detail(byte),
+        None => Message::Plain(printable_detail(line)),
+    }
+}
+
+/// The message of a bad line of a script.
+pub fn bad_line_detail(fault: LineFault, line: Option<&[u8]>) -> Message
+    ensures { message_text result ≡ bad_line_detail fault (option_copied line.entry) }
+{
+    match (fault, line) {
+        (LineFault::OutsideGrammar, Some(line)) => grammar_detail(line),
+        _ => Message::Plain(fault.message()),
+    }
+}
