@@ -1,5 +1,5 @@
 //! A debugger for an emulated multiprocessor: `evltool run` serves a script from standard input, `evltool replay`
-//! replays a journal, and `evltool asm` assembles a source into an image.
+//! replays a journal, `evltool asm` assembles a source into an image, and `evltool threads` runs an image by threads.
 #![tactic(auto)]
 
 use std::process::ExitCode;

@@ -1,7 +1,7 @@
 -- The machine that a run begins with.
 use Rattle.std.proofs.Common.{◌≡◌, Bool, true, false, Option, Some, None, Result, Ok, Err, [], List, refl, sym, ap, ◌∙◌, subst}
 use Rattle.std.specs.Prelude.{if◌then◌else◌, length}
-use Rattle.evm_core.specs.Load.{load, load_refusal, load_unless}
+use Rattle.evm_journal.specs.evm_core.Load.{load, load_refusal, load_unless}
 use Rattle.evm_image.specs.Images.{Contents}
 use Rattle.evm_model.specs.Devices.{Attached}
 use Rattle.evm_model.specs.Replay.{start}

@@ -1,7 +1,7 @@
 -- What a run by threads writes.
 use Rattle.std.specs.Prelude.{◌≡◌, ℕ, List, Result, Ok, Err, codes}
 use Rattle.std.specs.String.{string_bytes}
-use Rattle.evm_core.specs.Load.{load}
+use Rattle.evm_journal.specs.evm_core.Load.{load}
 use Rattle.evm_image.specs.Images.{Contents}
 use Rattle.evm_journal.specs.Journal.{journal_text}
 use Rattle.evm_model.specs.Devices.{Attached}

@@ -9,9 +9,8 @@ ghost use Rattle.evm_threads.specs.Runs.{IsOutcome};
 
 use crate::outcome::Outcome;
 use evm_bells::{Bells, Taker};
-use evm_core::Machine;
 use evm_dev::Device;
-use evm_journal::write_journal;
+use evm_journal::{Machine, write_journal};
 use evm_room::with_room;
 use evm_shared::{Blanks, Gate, Origin, Port, Shared, Worker};
 use std::alloc::Global;
@@ -98,7 +97,7 @@ fn work<
     ports_of(alloc, workers)
 }
 
-/// Runs two workers for so many turns on a machine: its journal's text.
+/// Runs two workers on a machine, for a number of turns each: its journal's text.
 pub(crate) fn share<
     D: Device,
     O: Origin + Send + Sync,

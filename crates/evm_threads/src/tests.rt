@@ -1,13 +1,12 @@
 //! Two real threads on `loop: j loop`: the text that they leave is read, replayed, and looked at event by event.
 
-ghost use Rattle.std.specs.Prelude.{◌≡◌, ◌<◌, ◌≤◌, ◌^◌};
+ghost use Rattle.std.specs.Prelude.{◌≡◌, ◌<◌, ◌≤◌, length};
 
 use crate::{Blanks, RunEnding, threads_to};
-use evm_core::{Answer, Devices, Event, Machine};
 use evm_devs::{AnyDevice, Console, MailRing, Pins};
-use evm_image::{Image, Segment};
-use evm_journal::read_journal;
-use evm_ram::BASE;
+use evm_elf::{read_image, write_bytes};
+use evm_image::Image;
+use evm_journal::{Answer, Devices, Event, Machine, read_journal};
 use evm_streams::{Cause, WriteFault};
 use std::alloc::Global;
 use std::io::{self, Error, ErrorKind, Write};
@@ -39,15 +38,20 @@ fn devices(alloc: Global) -> Result<Devices<AnyDevice>, Fail> {
     Ok(devices)
 }
 
-// An image of one instruction, `j .`, and zeros up to so many bytes.
-fn image(alloc: Global, memsz: u64) -> Result<Image, Fail>
-    requires { (4 ≤ memsz) × (memsz < 2 ^ 31) }
+/// `j .`: jal x0, 0.
+const LOOP: [u8; 4] = [0x6f, 0, 0, 0];
+
+// An image of these bytes, which begins with the first of them.
+fn image(alloc: Global, bytes: &[u8]) -> Result<Image, Fail>
+    requires { length bytes.now ≤ 16777216 }
 {
-    // jal x0, 0
-    let bytes = Vec::from_slice(alloc, &[0x6f, 0, 0, 0])?;
-    let mut segments = Vec::new(alloc);
-    segments.push(Segment::new(BASE, bytes, memsz))?;
-    Ok(Image::new(BASE, segments))
+    let Ok(file) = write_bytes(alloc, bytes) else {
+        return Err(Fail::from("no memory for a file"));
+    };
+    match read_image(alloc, file.as_slice()) {
+        Ok(image) => Ok(image),
+        Err(_) => Err(Fail::from("the file is no image")),
+    }
 }
 
 /// What the journal has of a processor.
@@ -121,7 +125,7 @@ fn looks_right(rt: &impl Abort, alloc: Global, text: &[u8], turns: u32) -> Resul
     let Ok(mut machine) = Machine::from_boot(alloc, boot, devices(alloc)?) else {
         return Err(Fail::from("the boot is refused"));
     };
-    let Ok(()) = machine.load(&image(alloc, 4)?) else {
+    let Ok(()) = machine.load(&image(alloc, &LOOP)?) else {
         return Err(Fail::from("the image is refused"));
     };
     let tallies = replay(rt, &mut machine, events.as_slice())?;
@@ -142,7 +146,7 @@ fn journals_of_loops_are_replayed(rt: HostRuntime) -> Result<(), Fail> {
         let ending = threads_to(
             &rt,
             alloc,
-            &image(alloc, 4)?,
+            &image(alloc, &LOOP)?,
             turns,
             devices(alloc)?,
             blanks(),
@@ -159,11 +163,12 @@ fn journals_of_loops_are_replayed(rt: HostRuntime) -> Result<(), Fail> {
 #[test]
 fn an_image_past_ram_is_refused(rt: HostRuntime) -> Result<(), Fail> {
     let alloc = rt.alloc();
+    let bytes = vec![in alloc; 0u8; 1_048_577]?;
     let mut out = Vec::new(alloc);
     let ending = threads_to(
         &rt,
         alloc,
-        &image(alloc, 1_048_577)?,
+        &image(alloc, bytes.as_slice())?,
         1,
         devices(alloc)?,
         blanks(),
@@ -195,7 +200,7 @@ fn a_failed_write_ends_with_status_4(rt: HostRuntime) -> Result<(), Fail> {
     let ending = threads_to(
         &rt,
         alloc,
-        &image(alloc, 4)?,
+        &image(alloc, &LOOP)?,
         1,
         devices(alloc)?,
         blanks(),

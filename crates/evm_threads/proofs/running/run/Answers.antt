@@ -1,5 +1,5 @@
 use Rattle.std.proofs.Common.{◌≡◌, ◌∙◌, Err, ap, sym, refl}
-use Rattle.evm_core.specs.Load.{load}
+use Rattle.evm_journal.specs.evm_core.Load.{load}
 use Rattle.evm_threads.specs.Runs.{loaded}
 use Rattle.evm_threads.proofs.Loading.{bad_address}
 use Rattle.evm_threads.proofs.running.run.Goals as goal
