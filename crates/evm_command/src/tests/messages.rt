@@ -6,7 +6,9 @@ use crate::system::{OpenFault, System, World};
 use evm_serve::write_bytes;
 use std::alloc::Global;
 use std::process::Abort;
+use std::sync::Wait;
 use std::test::Fail;
+use std::thread::Threads;
 
 /// A system whose streams are kept, with an image beside its files.
 #[derive(Drop)]
