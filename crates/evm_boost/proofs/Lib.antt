@@ -1,4 +1,4 @@
 pub mod Fills
-pub mod Meets
+pub mod Reaches
 pub mod Owners
 pub mod Raising

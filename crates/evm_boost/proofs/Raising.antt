@@ -6,7 +6,7 @@ use Rattle.std.proofs.lemmas.Bool.Decides.{eqb_tells, nat_tests}
 use Rattle.std.proofs.lemmas.List.{length-set}
 use Rattle.evm_ranks.specs.Boosts.{greater, is_number, greatest, rank_after}
 use Rattle.evm_ranks.proofs.Greatest.{greatest-same}
-use Rattle.evm_model.specs.Mutexes.{raised, ceiling, boosts, heir_for, lock_at}
+use Rattle.evm_model.specs.Mutexes.{ceiling_owner, ceiling, boosts, heir_for, lock_at}
 use Rattle.evm_model.specs.Ranks.{own_rank, rank}
 use Rattle.evm_model.specs.declared.limits.TheConstants.{TASK_LIMIT}
 use Rattle.evm_model.specs.declared.mutex.Mutex.{Mutex}
@@ -72,7 +72,7 @@ told-scatter boosts rank ranks (suc u) t less =
 pub length-own : (mutexes : List Mutex) (tasks : List Task) (ranks : List ℕ) → length (own_ranks mutexes tasks ranks) ≡ length ranks
 unfolding own_ranks
 length-own mutexes tasks ranks =
-    length-scatter (raised mutexes) (ceiling mutexes) (filled (class_rank_at tasks) ranks (length tasks)) (length mutexes)
+    length-scatter (ceiling_owner mutexes) (ceiling mutexes) (filled (class_rank_at tasks) ranks (length tasks)) (length mutexes)
     ∙ length-filled (class_rank_at tasks) ranks (length tasks)
 
 told-own : (mutexes : List Mutex) (tasks : List Task) (ranks : List ℕ) (t : ℕ) → length tasks ≤ length ranks → t < length tasks
@@ -80,8 +80,8 @@ told-own : (mutexes : List Mutex) (tasks : List Task) (ranks : List ℕ) (t : �
 unfolding own_ranks own_rank
 told-own mutexes tasks ranks t room less =
     let long : length (filled (class_rank_at tasks) ranks (length tasks)) ≡ length ranks = length-filled (class_rank_at tasks) ranks (length tasks) in
-    told-scatter (raised mutexes) (ceiling mutexes) (filled (class_rank_at tasks) ranks (length tasks)) (length mutexes) t (omega (arith, long, room, less))
-    ∙ ap (λ (r : ℕ). greatest (raised mutexes) (ceiling mutexes) t r (length mutexes)) (told-filled (class_rank_at tasks) ranks (length tasks) t less room)
+    told-scatter (ceiling_owner mutexes) (ceiling mutexes) (filled (class_rank_at tasks) ranks (length tasks)) (length mutexes) t (omega (arith, long, room, less))
+    ∙ ap (λ (r : ℕ). greatest (ceiling_owner mutexes) (ceiling mutexes) t r (length mutexes)) (told-filled (class_rank_at tasks) ranks (length tasks) t less room)
 
 -- ---- the rounds
 told-after : (mutexes : List Mutex) (tasks : List Task) (own : List ℕ) (r t : ℕ) → length tasks ≤ length own

@@ -2,7 +2,7 @@
 use Rattle.std.specs.Prelude.{◌≡◌, ℕ, zero, suc, ◌<◌, List, Option, Some, None, slice_get, slice_set, length}
 use Rattle.evm_ranks.specs.Boosts.{greater}
 use Rattle.evm_model.specs.Lists.{change}
-use Rattle.evm_model.specs.Mutexes.{raised, ceiling, boosts}
+use Rattle.evm_model.specs.Mutexes.{ceiling_owner, ceiling, boosts}
 use Rattle.evm_model.specs.Ranks.{class_rank_of, rank}
 use Rattle.evm_model.specs.declared.mutex.Mutex.{Mutex}
 use Rattle.evm_model.specs.declared.task.Task.{Task}
@@ -30,7 +30,7 @@ class_rank_at tasks t = class_rank_of (slice_get tasks t)
 -- the own ranks of the tasks
 unfoldable pub own_ranks : List Mutex → List Task → List ℕ → List ℕ
 own_ranks mutexes tasks ranks =
-    scatter (raised mutexes) (ceiling mutexes) (filled (class_rank_at tasks) ranks (length tasks)) (length mutexes)
+    scatter (ceiling_owner mutexes) (ceiling mutexes) (filled (class_rank_at tasks) ranks (length tasks)) (length mutexes)
 
 -- their ranks after one more round
 unfoldable pub next_ranks : List Mutex → List Task → List ℕ → List ℕ → List ℕ

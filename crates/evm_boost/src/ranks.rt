@@ -2,7 +2,7 @@
 
 ghost use Rattle.std.specs.Prelude.{◌≡◌, ◌<◌, ◌≤◌, true, length, slice_set};
 ghost use Rattle.evm_boost.specs.Scatter.{filled, raise_to, class_rank_at, own_ranks, next_ranks, AreRanks};
-ghost use Rattle.evm_model.specs.Mutexes.{raised, ceiling};
+ghost use Rattle.evm_model.specs.Mutexes.{ceiling_owner, ceiling};
 ghost use Rattle.evm_model.specs.Ranks.{class_rank, first, rank, stamp};
 ghost use Rattle.evm_model.specs.Waits.{awaits};
 ghost use Rattle.evm_ranks.specs.Boosts.{greater};
@@ -79,8 +79,8 @@ fn class_ranks(tasks: &Tasks, ranks: &mut [u16])
 
 impl Mutexes {
     // The task that mutex m raises to its ceiling: its owner.
-    fn raised(&self, m: u8) -> Option<u8>
-        ensures { result ≡ raised self.now m }
+    fn ceiling_owner(&self, m: u8) -> Option<u8>
+        ensures { result ≡ ceiling_owner self.now m }
     {
         let Some(mutex) = self.get(m) else {
             return None;
@@ -112,7 +112,7 @@ impl Mutexes {
     {
         class_ranks(tasks, ranks);
         for m in 0..self.count() {
-            raise(ranks, self.raised(m), self.ceiling(m));
+            raise(ranks, self.ceiling_owner(m), self.ceiling(m));
         }
     }
 

@@ -201,11 +201,11 @@ fn a_chain_is_walked(rt: HostRuntime) {
     tasks.push(task(Class::Fifo, 1));
     let mut mutexes = two(owned_by(0), owned_by(1));
     mutexes.create(owned_by(2));
-    assert!(rt; mutexes.meets(&tasks, 0, 2));
-    assert!(rt; mutexes.meets(&tasks, 0, 1));
-    assert!(rt; mutexes.meets(&tasks, 0, 0));
-    assert!(rt; !mutexes.meets(&tasks, 2, 0));
-    assert!(rt; !mutexes.meets(&tasks, 3, 2));
+    assert!(rt; mutexes.reaches(&tasks, 0, 2));
+    assert!(rt; mutexes.reaches(&tasks, 0, 1));
+    assert!(rt; mutexes.reaches(&tasks, 0, 0));
+    assert!(rt; !mutexes.reaches(&tasks, 2, 0));
+    assert!(rt; !mutexes.reaches(&tasks, 3, 2));
     assert_eq!(rt; mutexes.waits_on(&tasks, 2), Some(1));
     assert_eq!(rt; mutexes.boosts(&tasks, 2), Some(1));
     assert_eq!(rt; mutexes.first_waiter(Wait::Lock(1), &tasks), Some(2));

@@ -3,7 +3,7 @@
 ghost use Rattle.std.specs.Prelude.{◌≡◌, Some, if◌then◌else◌};
 ghost use Rattle.evm_model.specs.Mutexes.{lock_at, waits_on, heir_by, heir_of, boosts};
 ghost use Rattle.evm_model.specs.declared.limits.TheConstants.{TASK_LIMIT};
-ghost use Rattle.evm_ranks.specs.Boosts.{is_number, meets, walk_on};
+ghost use Rattle.evm_ranks.specs.Boosts.{is_number, reaches, walk_on};
 
 use crate::mutexes::Mutexes;
 use evm_model::{Mutex, Protocol, TASK_LIMIT, TaskState, Wait};
@@ -77,9 +77,9 @@ impl Mutexes {
     }
 
     /// Whether task u waits for task t by some chain, or is it.
-    #[tactic(auto, using(crate::proofs::Meets::ways))]
-    pub fn meets(&self, tasks: &Tasks, t: u8, u: u8) -> bool
-        ensures { result ≡ meets (waits_on self.now tasks.now) t TASK_LIMIT (Some u) }
+    #[tactic(auto, using(crate::proofs::Reaches::ways))]
+    pub fn reaches(&self, tasks: &Tasks, t: u8, u: u8) -> bool
+        ensures { result ≡ reaches (waits_on self.now tasks.now) t TASK_LIMIT (Some u) }
     {
         let mut at = Some(u);
         for link in 0..TASK_LIMIT {

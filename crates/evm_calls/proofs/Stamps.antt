@@ -11,7 +11,7 @@ use Rattle.evm_model.specs.State.{Parts, on_hart}
 use Rattle.evm_model.specs.Tasks.{demote, restamp, set_state}
 use Rattle.evm_model.specs.declared.call.Call.{Call}
 use Rattle.evm_model.specs.declared.call.Outcome.{Outcome}
-use Rattle.evm_model.specs.declared.call.Outcome.TheVariants.{Answers, Waits, Leaves}
+use Rattle.evm_model.specs.declared.call.Outcome.TheVariants.{Returns, Blocks, Exits}
 use Rattle.evm_parts.specs.evm_task.Asks.{AskedBy}
 use Rattle.evm_parts.specs.evm_task.declared.harts.Asked.{Asked}
 use Rattle.evm_walk.proofs.Calls.{walks_closely}
@@ -39,9 +39,9 @@ unfolding return_weak
 weak-least c t x = least-if (is_weak_oob (slice_get x.tasks t) && not (owns_any t x.mutexes)) x (demote c t x) (demote-least c t x)
 
 answered-least : (outcome : Outcome) (c t : ℕ) (x : Parts) → x.stamps ≤ (answered outcome c t x).stamps
-answered-least (Answers value) c t x = weak-least c t (on_hart t (answer value) x)
-answered-least Waits c t x = omega arith
-answered-least Leaves c t x = omega arith
+answered-least (Returns value) c t x = weak-least c t (on_hart t (answer value) x)
+answered-least Blocks c t x = omega arith
+answered-least Exits c t x = omega arith
 
 pub few-left : (named : Call) (x : Hart) (c t : ℕ) (k : Parts) → AreFew k → HasRoom PER_CALL k → finish_call c t (perform named x c t k) ≡ call c t k → HasStamps 1 (perform named x c t k).0
 few-left named x c t k few room done =

@@ -33,5 +33,5 @@ pub fn set_line(parts: &mut Parts, line: u64, action: u64, object: u64) -> Outco
         return refused(Errno::Invalid);
     };
     parts.set_action(line as u8, action);
-    Outcome::Answers(0)
+    Outcome::Returns(0)
 }

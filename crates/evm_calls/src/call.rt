@@ -92,12 +92,12 @@ fn answer(parts: &mut Parts, outcome: Outcome, c: u8, t: u8)
     ensures { parts.new ≡ answered outcome c t parts.old }
 {
     match outcome {
-        Outcome::Answers(value) => {
+        Outcome::Returns(value) => {
             parts.harts.answer(t, value);
             return_weak(parts, c, t);
         }
-        Outcome::Waits => parts.harts.advance(t),
-        Outcome::Leaves => {}
+        Outcome::Blocks => parts.harts.advance(t),
+        Outcome::Exits => {}
     }
 }
 

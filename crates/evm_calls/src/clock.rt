@@ -9,5 +9,5 @@ use evm_parts::Parts;
 pub fn clock(parts: &Parts) -> Outcome
     ensures { (parts.now, result) ≡ clock parts.now }
 {
-    Outcome::Answers(parts.ticks)
+    Outcome::Returns(parts.ticks)
 }

@@ -10,5 +10,5 @@ pub fn putc(parts: &mut Parts, byte: u64) -> Outcome
     ensures { (parts.new, result) ≡ putc byte parts.old }
 {
     parts.console.push((byte % 256) as u8);
-    Outcome::Answers(0)
+    Outcome::Returns(0)
 }

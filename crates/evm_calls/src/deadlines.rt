@@ -16,7 +16,7 @@ pub fn sleep_until(parts: &mut Parts, c: u8, t: u8, until: u64) -> Outcome
     ensures { (parts.new, result) ≡ sleep_until c t until parts.old }
 {
     if until <= parts.ticks {
-        return Outcome::Answers(0);
+        return Outcome::Returns(0);
     }
     wait_unless(parts, c, t, Wait::Sleep, None, until)
 }

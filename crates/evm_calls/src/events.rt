@@ -20,7 +20,7 @@ pub fn new_event(parts: &mut Parts) -> Outcome
         return refused(Errno::NoNumber);
     }
     parts.add_event();
-    Outcome::Answers(u64::from(number))
+    Outcome::Returns(u64::from(number))
 }
 
 fn is_number(number: Option<u8>, n: u8) -> bool
@@ -66,7 +66,7 @@ fn begin_event_wait(parts: &mut Parts, t: u8, e: u8, m: u8, deadline: u64)
     ensures { parts.new ≡ begin_event_wait t e m deadline parts.old }
 {
     parts.bind_event(e, m);
-    parts.pass_on(m);
+    parts.hand_over(m);
     parts.begin_wait(t, Wait::Event(e), deadline);
 }
 
@@ -95,7 +95,7 @@ pub fn event_wait(parts: &mut Parts, c: u8, t: u8, event: u64, mutex: u64, deadl
         return refused(error);
     }
     begin_event_wait(parts, t, e, m, deadline);
-    Outcome::Waits
+    Outcome::Blocks
 }
 
 /// Call 43: the first task that waits for an event waits for it no more, but may wait for its mutex; answers 0. -22 if
@@ -109,7 +109,7 @@ pub fn signal(parts: &mut Parts, event: u64) -> Outcome
         return refused(Errno::Invalid);
     }
     let _found = parts.signal_first(event as u8);
-    Outcome::Answers(0)
+    Outcome::Returns(0)
 }
 
 /// Call 44: all tasks that wait for an event wait for it no more, but may wait for its mutex; answers 0. -22 if there is no
@@ -123,5 +123,5 @@ pub fn broadcast(parts: &mut Parts, event: u64) -> Outcome
         return refused(Errno::Invalid);
     }
     parts.signal_all(event as u8);
-    Outcome::Answers(0)
+    Outcome::Returns(0)
 }

@@ -19,7 +19,7 @@ pub fn new_flags(parts: &mut Parts) -> Outcome
         return refused(Errno::NoNumber);
     }
     parts.add_flags();
-    Outcome::Answers(u64::from(number))
+    Outcome::Returns(u64::from(number))
 }
 
 /// Call 45: the task takes a flag group's word, which is 0 then, or waits for one, until a deadline if that is not 0;
@@ -39,7 +39,7 @@ pub fn flags_wait(parts: &mut Parts, c: u8, t: u8, flags: u64, deadline: u64) ->
         Some(0) => wait_unless(parts, c, t, Wait::Flags(f), None, deadline),
         Some(word) => {
             parts.set_flags(f, 0);
-            Outcome::Answers(u64::from(word))
+            Outcome::Returns(u64::from(word))
         }
     }
 }
@@ -58,5 +58,5 @@ pub fn flags_post(parts: &mut Parts, flags: u64, bits: u64) -> Outcome
         return refused(Errno::Invalid);
     }
     parts.post(flags as u8, bits as u32);
-    Outcome::Answers(0)
+    Outcome::Returns(0)
 }

@@ -24,5 +24,5 @@ pub fn wait_line(parts: &mut Parts, c: u8, t: u8, line: u64) -> Outcome
     }
     parts.begin_wait(t, Wait::Line(line as u8), 0);
     parts.leave_in_band(c);
-    Outcome::Waits
+    Outcome::Blocks
 }

@@ -60,7 +60,7 @@ pub fn new_mutex(parts: &mut Parts, kind: u64, priority: u64) -> Outcome
         return refused(Errno::NoNumber);
     }
     parts.add_mutex(mutex);
-    Outcome::Answers(u64::from(number))
+    Outcome::Returns(u64::from(number))
 }
 
 // The task gets a notice if its call is refused with this error.
@@ -75,7 +75,7 @@ fn notify_refused(
     ensures { (parts.new, result) ≡ notify_refused error kind t (parts.old, outcome) }
 {
     match outcome {
-        Outcome::Answers(value) if value == error.answer() => parts.notify(kind, t),
+        Outcome::Returns(value) if value == error.answer() => parts.notify(kind, t),
         _ => {}
     }
     outcome
@@ -91,14 +91,14 @@ fn lock_again(parts: &mut Parts, t: u8, m: u8, mutex: Mutex) -> Outcome
         return refused(Errno::Deadlock);
     }
     parts.hold_mutex(t, m, mutex.count + 1);
-    Outcome::Answers(0)
+    Outcome::Returns(0)
 }
 
 // The owner u waits for the task by some chain: the wait would never end.
 fn cycle_refusal(parts: &Parts, t: u8, u: u8) -> Option<Errno>
     ensures { result ≡ cycle_refusal t u parts.now }
 {
-    if parts.meets(t, u) {
+    if parts.reaches(t, u) {
         Some(Errno::Deadlock)
     } else {
         None
@@ -130,7 +130,7 @@ fn take_or_wait(parts: &mut Parts, c: u8, t: u8, mutex: u64, deadline: u64) -> O
     match mutex.owner {
         None => {
             parts.take_mutex(t, m);
-            Outcome::Answers(0)
+            Outcome::Returns(0)
         }
         Some(u) if u == t => lock_again(parts, t, m, mutex),
         Some(u) => lock_other(parts, c, t, m, u, deadline),
@@ -165,7 +165,7 @@ fn take_at_once(parts: &mut Parts, t: u8, mutex: u64) -> Outcome
     match mutex.owner {
         None => {
             parts.take_mutex(t, m);
-            Outcome::Answers(0)
+            Outcome::Returns(0)
         }
         Some(u) if u == t => lock_again(parts, t, m, mutex),
         Some(_) => refused(Errno::Busy),
@@ -190,7 +190,7 @@ fn unlock_once(parts: &mut Parts, t: u8, m: u8, mutex: Mutex)
     ensures { parts.new ≡ unlock_once t m mutex parts.old }
 {
     if mutex.count <= 1 {
-        parts.pass_on(m);
+        parts.hand_over(m);
     } else {
         parts.hold_mutex(t, m, mutex.count - 1);
     }
@@ -212,7 +212,7 @@ fn give_back(parts: &mut Parts, t: u8, mutex: u64) -> Outcome
         return refused(Errno::NotPermitted);
     }
     unlock_once(parts, t, m, mutex);
-    Outcome::Answers(0)
+    Outcome::Returns(0)
 }
 
 /// Call 38: the task gives a mutex back, once for each time that it locked it; answers 0. The last time the first of

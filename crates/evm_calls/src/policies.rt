@@ -55,7 +55,7 @@ pub fn attach(parts: &mut Parts, t: u8, class: u64, priority: u64) -> Outcome
         return refused(Errno::Busy);
     }
     parts.set_policy(t, wanted, priority as u8);
-    Outcome::Answers(0)
+    Outcome::Returns(0)
 }
 
 /// Call 8: the task has no class any more, no priority and no mode bits; answers 0. -1 where it has none, else -16
@@ -71,7 +71,7 @@ pub fn detach(parts: &mut Parts, t: u8) -> Outcome
         return refused(Errno::Busy);
     }
     parts.clear_policy(t);
-    Outcome::Answers(0)
+    Outcome::Returns(0)
 }
 
 /// Call 34: a task, of whatever processor, has another class and priority, and a whole slice; answers 0. -3 where
@@ -88,7 +88,7 @@ pub fn set_sched(parts: &mut Parts, task: u64, class: u64, priority: u64) -> Out
         return refused(Errno::Invalid);
     };
     parts.set_policy(task as u8, class, priority as u8);
-    Outcome::Answers(0)
+    Outcome::Returns(0)
 }
 
 /// Call 35: the task has these mode bits, 1 and 2 and their sum 3; answers the old ones. -22 for more.
@@ -101,5 +101,5 @@ pub fn set_mode(parts: &mut Parts, t: u8, bits: u64) -> Outcome
     }
     let old = parts.tasks.mode_bits(t);
     parts.set_mode_bits(t, bits as u8);
-    Outcome::Answers(u64::from(old))
+    Outcome::Returns(u64::from(old))
 }

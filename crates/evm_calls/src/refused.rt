@@ -5,7 +5,7 @@ use evm_model::{Errno, Outcome};
 
 /// A call that is refused is answered at once.
 pub fn refused(error: Errno) -> Outcome
-    ensures { result ≡ Outcome.Answers (refusal_answer error) }
+    ensures { result ≡ Outcome.Returns (refusal_answer error) }
 {
-    Outcome::Answers(error.answer())
+    Outcome::Returns(error.answer())
 }

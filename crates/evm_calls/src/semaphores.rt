@@ -23,7 +23,7 @@ pub fn new_semaphore(parts: &mut Parts, count: u64) -> Outcome
         return refused(Errno::NoNumber);
     }
     parts.add_semaphore(count as u32);
-    Outcome::Answers(u64::from(number))
+    Outcome::Returns(u64::from(number))
 }
 
 /// Call 39: the task takes one from a semaphore, or waits for one, until a deadline if that is not 0; answers 0. -22 if
@@ -42,7 +42,7 @@ pub fn sem_get(parts: &mut Parts, c: u8, t: u8, semaphore: u64, deadline: u64) -
         Some(0) => wait_unless(parts, c, t, Wait::Semaphore(s), None, deadline),
         Some(_) => {
             parts.take_semaphore(s);
-            Outcome::Answers(0)
+            Outcome::Returns(0)
         }
     }
 }
@@ -61,7 +61,7 @@ pub fn sem_try_get(parts: &mut Parts, semaphore: u64) -> Outcome
         Some(0) => refused(Errno::TryAgain),
         Some(_) => {
             parts.take_semaphore(s);
-            Outcome::Answers(0)
+            Outcome::Returns(0)
         }
     }
 }

@@ -17,7 +17,7 @@ pub fn stall(parts: &mut Parts, stage: Stage, stalled: bool, c: u8) -> Outcome
 {
     let old = parts.is_stalled(c, stage);
     parts.set_stall(c, stage, stalled);
-    Outcome::Answers(u64::from(old))
+    Outcome::Returns(u64::from(old))
 }
 
 /// Call 32: the task is out-of-band; answers 0. That it goes there is no work of the call: it is promoted for any
@@ -26,7 +26,7 @@ pub fn stall(parts: &mut Parts, stage: Stage, stalled: bool, c: u8) -> Outcome
 pub fn switch_oob(parts: &Parts) -> Outcome
     ensures { (parts.now, result) ≡ switch_oob parts.now }
 {
-    Outcome::Answers(0)
+    Outcome::Returns(0)
 }
 
 /// Call 33: the task goes in-band; answers 0, or -1 while out-of-band is stalled.
@@ -39,7 +39,7 @@ pub fn switch_in_band(parts: &mut Parts, c: u8, t: u8) -> Outcome
         return refused(Errno::NotPermitted);
     }
     parts.demote(c, t);
-    Outcome::Answers(0)
+    Outcome::Returns(0)
 }
 
 fn bit(b: bool) -> u64
@@ -57,5 +57,5 @@ pub fn state_bits(parts: &Parts, c: u8, t: u8) -> Outcome
     let oob = parts.tasks.is_oob(Some(t));
     let attached = parts.is_attached(t);
     let stalled = parts.is_stalled(c, parts.stage_at(t));
-    Outcome::Answers(bit(oob) + 2 * bit(attached) + 4 * bit(stalled))
+    Outcome::Returns(bit(oob) + 2 * bit(attached) + 4 * bit(stalled))
 }

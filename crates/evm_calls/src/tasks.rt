@@ -17,7 +17,7 @@ pub fn exit(parts: &mut Parts, c: u8, t: u8) -> Outcome
     ensures { (parts.new, result) ≡ exit c t parts.old }
 {
     parts.end_task(c, t, TaskState::Exit);
-    Outcome::Leaves
+    Outcome::Exits
 }
 
 /// Call 2: the task goes behind the others that are ready in-band; answers 0, or -1 while in-band is stalled.
@@ -31,7 +31,7 @@ pub fn yield_now(parts: &mut Parts, c: u8, t: u8) -> Outcome
     }
     parts.restamp(t);
     parts.leave_in_band(c);
-    Outcome::Answers(0)
+    Outcome::Returns(0)
 }
 
 // An entry that is no multiple of 4 in RAM of so many bytes.
@@ -57,7 +57,7 @@ pub fn spawn(parts: &mut Parts, entry: u64, value: u64, cpu: u64) -> Outcome
         return refused(Errno::NoNumber);
     }
     parts.add_task(entry, value, cpu as u8);
-    Outcome::Answers(u64::from(number))
+    Outcome::Returns(u64::from(number))
 }
 
 /// Call 50: the task goes behind the others of its rank that are ready out-of-band; answers 0.
@@ -67,5 +67,5 @@ pub fn yield_oob(parts: &mut Parts, t: u8) -> Outcome
     ensures { (parts.new, result) ≡ yield_oob t parts.old }
 {
     parts.restamp(t);
-    Outcome::Answers(0)
+    Outcome::Returns(0)
 }

@@ -19,7 +19,7 @@ pub fn new_timer(parts: &mut Parts) -> Outcome
         return refused(Errno::NoNumber);
     }
     parts.add_timer();
-    Outcome::Answers(u64::from(number))
+    Outcome::Returns(u64::from(number))
 }
 
 /// Call 48: a timer expires first at a tick, then every period, as the calling processor plays the tick; a first tick of 0
@@ -36,7 +36,7 @@ pub fn timer_set(parts: &mut Parts, c: u8, timer: u64, first: u64, period: u64) 
         return refused(Errno::Invalid);
     }
     parts.set_timer(c, timer as u8, first, period);
-    Outcome::Answers(0)
+    Outcome::Returns(0)
 }
 
 /// Call 49: the task takes the expiries of a timer, or waits for one; answers how many there are. -22 if there is no such
@@ -55,7 +55,7 @@ pub fn timer_wait(parts: &mut Parts, c: u8, t: u8, timer: u64) -> Outcome
     };
     if timer.expiries > 0 {
         parts.take_expiries(n);
-        return Outcome::Answers(timer.expiries);
+        return Outcome::Returns(timer.expiries);
     }
     if timer.due == 0 {
         return refused(Errno::TryAgain);

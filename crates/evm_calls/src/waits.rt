@@ -57,5 +57,5 @@ pub fn wait_unless(
         return refused(error);
     }
     parts.begin_wait(t, wait, deadline);
-    Outcome::Waits
+    Outcome::Blocks
 }

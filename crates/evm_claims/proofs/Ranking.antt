@@ -5,7 +5,7 @@ use Rattle.evm_ranks.specs.Boosts.{is_number, greater, greatest, HasHeight}
 use Rattle.evm_ranks.proofs.Greatest.{boosts-is}
 use Rattle.evm_ranks.proofs.Links.{fewer-keeps}
 use Rattle.evm_model.specs.Good.{AreLocks}
-use Rattle.evm_model.specs.Mutexes.{owner, owner_of, owner_for, lock_of, lock_of_task, lock_at, waits_on, heir_by, heir_of, heir_for, boosts, raised_by, raised_of, raised, ceiling, ceiling_by, ceiling_of}
+use Rattle.evm_model.specs.Mutexes.{owner, owner_of, owner_for, lock_of, lock_of_task, lock_at, waits_on, heir_by, heir_of, heir_for, boosts, ceiling_owner_by, ceiling_owner_of, ceiling_owner, ceiling, ceiling_by, ceiling_of}
 use Rattle.evm_model.specs.declared.limits.TheConstants.{TASK_LIMIT}
 use Rattle.evm_model.specs.declared.mutex.Mutex.{Mutex}
 use Rattle.evm_model.specs.declared.mutex.Protocol.{Protocol}
@@ -128,19 +128,19 @@ pub record IsRaised (mutexes : List Mutex) (m t : ℕ) : Type 0 where
   pub ceils : mutex.protocol ≡ Ceiling priority
   pub its : mutex.owner ≡ Some t
 
-raised_mutex : (mutexes : List Mutex) (m t : ℕ) (mutex : Mutex) (protocol : Protocol) → slice_get mutexes m ≡ Some mutex → mutex.protocol ≡ protocol → raised_by protocol mutex.owner ≡ Some t → IsRaised mutexes m t
+raised_mutex : (mutexes : List Mutex) (m t : ℕ) (mutex : Mutex) (protocol : Protocol) → slice_get mutexes m ≡ Some mutex → mutex.protocol ≡ protocol → ceiling_owner_by protocol mutex.owner ≡ Some t → IsRaised mutexes m t
 raised_mutex mutexes m t mutex Inheritance e p h = cc
 raised_mutex mutexes m t mutex (Ceiling priority) e p h = record { mutex = mutex; priority = priority; there = e; ceils = p; its = h }
 
-raised_as : (mutexes : List Mutex) (m t : ℕ) (o : Option Mutex) → slice_get mutexes m ≡ o → raised_of o ≡ Some t → IsRaised mutexes m t
+raised_as : (mutexes : List Mutex) (m t : ℕ) (o : Option Mutex) → slice_get mutexes m ≡ o → ceiling_owner_of o ≡ Some t → IsRaised mutexes m t
 raised_as mutexes m t None e h = cc
 raised_as mutexes m t (Some mutex) e h = raised_mutex mutexes m t mutex mutex.protocol e refl h
 
-pub is_raised : (mutexes : List Mutex) (m t : ℕ) → raised mutexes m ≡ Some t → IsRaised mutexes m t
+pub is_raised : (mutexes : List Mutex) (m t : ℕ) → ceiling_owner mutexes m ≡ Some t → IsRaised mutexes m t
 is_raised mutexes m t e = raised_as mutexes m t (slice_get mutexes m) refl e
 
 pub ceiling_is : (mutexes : List Mutex) (m priority : ℕ) (mutex : Mutex) → slice_get mutexes m ≡ Some mutex → mutex.protocol ≡ Ceiling priority → ceiling mutexes m ≡ 100 + priority
 ceiling_is mutexes m priority mutex e p = ap ceiling_of e ∙ ap ceiling_by p
 
-pub raised_is : (mutexes : List Mutex) (m t priority : ℕ) (mutex : Mutex) → slice_get mutexes m ≡ Some mutex → mutex.protocol ≡ Ceiling priority → mutex.owner ≡ Some t → raised mutexes m ≡ Some t
-raised_is mutexes m t priority mutex e p its = ap raised_of e ∙ ap (λ protocol. raised_by protocol mutex.owner) p ∙ its
+pub raised_is : (mutexes : List Mutex) (m t priority : ℕ) (mutex : Mutex) → slice_get mutexes m ≡ Some mutex → mutex.protocol ≡ Ceiling priority → mutex.owner ≡ Some t → ceiling_owner mutexes m ≡ Some t
+raised_is mutexes m t priority mutex e p its = ap ceiling_owner_of e ∙ ap (λ protocol. ceiling_owner_by protocol mutex.owner) p ∙ its

@@ -40,7 +40,7 @@ small bound n few most = record {
   oob_arrivals = omega (arith, most.oob.arrivals, few);
   oob_merged = omega (arith, most.oob.merged, few);
   oob_played = omega (arith, most.oob.played, few);
-  inband_arrivals = omega (arith, most.inband.arrivals, few);
-  inband_merged = omega (arith, most.inband.merged, few);
-  inband_played = omega (arith, most.inband.played, few);
+  inband_arrivals = omega (arith, most.in_band.arrivals, few);
+  inband_merged = omega (arith, most.in_band.merged, few);
+  inband_played = omega (arith, most.in_band.played, few);
 }

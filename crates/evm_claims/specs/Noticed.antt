@@ -8,7 +8,7 @@ use Rattle.evm_model.specs.Locks.{lock, try_lock, unlock}
 use Rattle.evm_model.specs.Memory.{fetch}
 use Rattle.evm_model.specs.Settle.{is_oob}
 use Rattle.evm_model.specs.State.{Memory, Notices, Parts}
-use Rattle.evm_model.specs.declared.call.Outcome.TheVariants.{Answers}
+use Rattle.evm_model.specs.declared.call.Outcome.TheVariants.{Returns}
 use Rattle.evm_model.specs.declared.notice.Notice.{Notice}
 use Rattle.evm_model.specs.declared.notice.NoticeKind.{NoticeKind}
 use Rattle.evm_model.specs.declared.notice.NoticeKind.TheVariants.{DemotedByCall, DemotedByFault, Deadlock, NotOwner}
@@ -23,12 +23,12 @@ pub data NoticeBy (runs : Option ℕ) (c t : ℕ) (memory : Memory) (old : Parts
   by_fault : (hart : Hart) → slice_get old.harts t ≡ Some hart → word_faults (fetch hart.pc memory) hart memory ≡ true → NoticeBy runs c t memory old DemotedByFault 0
   -- call 36 or 37 answers -35
   by_lock : (hart : Hart) → IsAbout runs t hart Call old.harts memory → register_of hart.regs 17 ≡ 36
-      → (lock c t (register_of hart.regs 10) (register_of hart.regs 11) old).1 ≡ Answers (2 ^ 64 - 35) → NoticeBy runs c t memory old Deadlock 1
+      → (lock c t (register_of hart.regs 10) (register_of hart.regs 11) old).1 ≡ Returns (2 ^ 64 - 35) → NoticeBy runs c t memory old Deadlock 1
   by_try_lock : (hart : Hart) → IsAbout runs t hart Call old.harts memory → register_of hart.regs 17 ≡ 37
-      → (try_lock t (register_of hart.regs 10) old).1 ≡ Answers (2 ^ 64 - 35) → NoticeBy runs c t memory old Deadlock 1
+      → (try_lock t (register_of hart.regs 10) old).1 ≡ Returns (2 ^ 64 - 35) → NoticeBy runs c t memory old Deadlock 1
   -- call 38 answers -1
   by_unlock : (hart : Hart) → IsAbout runs t hart Call old.harts memory → register_of hart.regs 17 ≡ 38
-      → (unlock t (register_of hart.regs 10) old).1 ≡ Answers (2 ^ 64 - 1) → NoticeBy runs c t memory old NotOwner 1
+      → (unlock t (register_of hart.regs 10) old).1 ≡ Returns (2 ^ 64 - 1) → NoticeBy runs c t memory old NotOwner 1
 
 -- the current task, whose mode has the bit, gets one notice more, at this tick; the last 64 are kept
 pub record IsNoticed (runs : Option ℕ) (c : ℕ) (memory : Memory) (old : Parts) (new : Notices) : Type 0 where

@@ -39,6 +39,6 @@ pub record AreSmall (n : Counts) : Type 0 where
   pub oob_arrivals : n.oob.arrivals < 2 ^ 29
   pub oob_merged : n.oob.merged < 2 ^ 29
   pub oob_played : n.oob.played < 2 ^ 29
-  pub inband_arrivals : n.inband.arrivals < 2 ^ 29
-  pub inband_merged : n.inband.merged < 2 ^ 29
-  pub inband_played : n.inband.played < 2 ^ 29
+  pub inband_arrivals : n.in_band.arrivals < 2 ^ 29
+  pub inband_merged : n.in_band.merged < 2 ^ 29
+  pub inband_played : n.in_band.played < 2 ^ 29

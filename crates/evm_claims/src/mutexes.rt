@@ -4,7 +4,7 @@ ghost use Rattle.std.specs.Prelude.{◌≡◌, ◌≢◌, ◌+◌, ◌<◌, ◌�
 ghost use Rattle.evm_exec.specs.Registers.{with_register};
 ghost use Rattle.evm_exec.specs.declared.hart.Hart.{Hart};
 ghost use Rattle.evm_model.specs.Mutexes.{owner, waits_on, boosts};
-ghost use Rattle.evm_model.specs.Passing.{pass_on};
+ghost use Rattle.evm_model.specs.Passing.{hand_over};
 ghost use Rattle.evm_model.specs.Ranks.{class_rank, own_rank, rank};
 ghost use Rattle.evm_model.specs.State.{State, Parts};
 ghost use Rattle.evm_model.specs.Waits.{first_waiter};
@@ -121,22 +121,22 @@ pub fn a_mutex_passes_to_the_first_waiter()
         slice_get k.tasks u ≡ Option.Some other → WaitsForMutex other.state m → ⊥ }
     ensures passes { (m t : ℕ) (k : Parts) (mutex : Mutex) (task : Task) → first_waiter (Wait.Lock m) k ≡ Option.Some t →
         slice_get k.mutexes m ≡ Option.Some mutex → slice_get k.tasks t ≡ Option.Some task →
-        (slice_get (pass_on m k).mutexes m ≡ Option.Some (record mutex { owner = Option.Some t; count = 1 }))
-        × (slice_get (pass_on m k).tasks t ≡ Option.Some (record task { stamp = k.stamps; deadline = 0; state = TaskState.OobReady })) }
+        (slice_get (hand_over m k).mutexes m ≡ Option.Some (record mutex { owner = Option.Some t; count = 1 }))
+        × (slice_get (hand_over m k).tasks t ≡ Option.Some (record task { stamp = k.stamps; deadline = 0; state = TaskState.OobReady })) }
     ensures answers { (m t : ℕ) (k : Parts) (hart : Hart) (task : Task) → first_waiter (Wait.Lock m) k ≡ Option.Some t → slice_get k.harts t ≡ Option.Some hart →
         slice_get k.tasks t ≡ Option.Some task → task.state ≡ TaskState.Waits (Wait.Lock m) →
-        slice_get (pass_on m k).harts t ≡ Option.Some (record hart { regs = with_register hart.regs 10 0 }) }
+        slice_get (hand_over m k).harts t ≡ Option.Some (record hart { regs = with_register hart.regs 10 0 }) }
     ensures keeps { (m t answer : ℕ) (k : Parts) (hart : Hart) (task : Task) → first_waiter (Wait.Lock m) k ≡ Option.Some t → slice_get k.harts t ≡ Option.Some hart →
         slice_get k.tasks t ≡ Option.Some task → task.state ≡ TaskState.Waits (Wait.Reacquire m answer) →
-        slice_get (pass_on m k).harts t ≡ Option.Some (record hart { regs = with_register hart.regs 10 answer }) }
+        slice_get (hand_over m k).harts t ≡ Option.Some (record hart { regs = with_register hart.regs 10 answer }) }
     ensures other_tasks { (m u : ℕ) (k : Parts) → first_waiter (Wait.Lock m) k ≢ Option.Some u →
-        (slice_get (pass_on m k).tasks u ≡ slice_get k.tasks u) × (slice_get (pass_on m k).harts u ≡ slice_get k.harts u) }
-    ensures other_mutexes { (m n : ℕ) (k : Parts) → n ≢ m → slice_get (pass_on m k).mutexes n ≡ slice_get k.mutexes n }
+        (slice_get (hand_over m k).tasks u ≡ slice_get k.tasks u) × (slice_get (hand_over m k).harts u ≡ slice_get k.harts u) }
+    ensures other_mutexes { (m n : ℕ) (k : Parts) → n ≢ m → slice_get (hand_over m k).mutexes n ≡ slice_get k.mutexes n }
     ensures rest { (m : ℕ) (k : Parts) →
-        pass_on m k ≡ record k { harts = (pass_on m k).harts; tasks = (pass_on m k).tasks; mutexes = (pass_on m k).mutexes; stamps = (pass_on m k).stamps } }
+        hand_over m k ≡ record k { harts = (hand_over m k).harts; tasks = (hand_over m k).tasks; mutexes = (hand_over m k).mutexes; stamps = (hand_over m k).stamps } }
     ensures frees { (m : ℕ) (k : Parts) (mutex : Mutex) → first_waiter (Wait.Lock m) k ≡ Option.None → slice_get k.mutexes m ≡ Option.Some mutex →
-        (slice_get (pass_on m k).mutexes m ≡ Option.Some (record mutex { owner = Option.None; count = 0 }))
-        × ((pass_on m k).tasks ≡ k.tasks) }
+        (slice_get (hand_over m k).mutexes m ≡ Option.Some (record mutex { owner = Option.None; count = 0 }))
+        × ((hand_over m k).tasks ≡ k.tasks) }
 {
     evm_runs::finds_first();
 }

@@ -51,15 +51,15 @@ pub fn no_line_is_lost_in_a_stage()
     ensures in_band { (boot : Boot) (s : State) (c l : ℕ) (pipe : Pipe) (n : Counts) → Ran boot s →
         slice_get s.board.parts.pipes c ≡ Option.Some pipe →
         slice_get pipe.counts l ≡ Option.Some n →
-        n.inband.arrivals ≡ n.inband.merged + (if has_line pipe.inband.lines l then 1 else 0) + n.inband.played }
+        n.in_band.arrivals ≡ n.in_band.merged + (if has_line pipe.in_band.lines l then 1 else 0) + n.in_band.played }
     ensures out_of_band_fresh { (s : State) (events : List Event) (c l : ℕ) (pipe : Pipe) (n : Counts) → IsIdle s →
         slice_get (replay s events).board.parts.pipes c ≡ Option.Some pipe → slice_get pipe.counts l ≡ Option.Some n →
         n.oob.arrivals ≡ n.oob.merged + (if has_line pipe.oob.lines l then 1 else 0) + n.oob.played }
     ensures in_band_fresh { (s : State) (events : List Event) (c l : ℕ) (pipe : Pipe) (n : Counts) → IsIdle s →
         slice_get (replay s events).board.parts.pipes c ≡ Option.Some pipe → slice_get pipe.counts l ≡ Option.Some n →
-        n.inband.arrivals ≡ n.inband.merged + (if has_line pipe.inband.lines l then 1 else 0) + n.inband.played }
+        n.in_band.arrivals ≡ n.in_band.merged + (if has_line pipe.in_band.lines l then 1 else 0) + n.in_band.played }
 {
-    evm_runs::balance_holds(); // the fields oob and inband
+    evm_runs::balance_holds(); // the fields oob and in_band
 }
 
 /// After every boot, with an image loaded or none, and every list of events, what a processor received came to a
@@ -70,22 +70,22 @@ pub fn what_is_received_comes_to_a_stage()
     ensures timer { (boot : Boot) (s : State) (c : ℕ) (pipe : Pipe) (n : Counts) → Ran boot s →
         slice_get s.board.parts.pipes c ≡ Option.Some pipe →
         slice_get pipe.counts 0 ≡ Option.Some n →
-        (n.received ≡ n.oob.arrivals) × (n.inband.arrivals ≡ n.oob.played) }
+        (n.received ≡ n.oob.arrivals) × (n.in_band.arrivals ≡ n.oob.played) }
     ensures request { (boot : Boot) (s : State) (c : ℕ) (pipe : Pipe) (n : Counts) → Ran boot s →
         slice_get s.board.parts.pipes c ≡ Option.Some pipe →
-        slice_get pipe.counts 1 ≡ Option.Some n → (n.received ≡ n.oob.arrivals) × (n.inband.arrivals ≡ 0) }
+        slice_get pipe.counts 1 ≡ Option.Some n → (n.received ≡ n.oob.arrivals) × (n.in_band.arrivals ≡ 0) }
     ensures others { (boot : Boot) (s : State) (c l : ℕ) (pipe : Pipe) (n : Counts) → Ran boot s → 2 ≤ l →
         slice_get s.board.parts.pipes c ≡ Option.Some pipe →
-        slice_get pipe.counts l ≡ Option.Some n → n.received ≡ n.oob.arrivals + n.inband.arrivals }
+        slice_get pipe.counts l ≡ Option.Some n → n.received ≡ n.oob.arrivals + n.in_band.arrivals }
     ensures timer_fresh { (s : State) (events : List Event) (c : ℕ) (pipe : Pipe) (n : Counts) → IsIdle s →
         slice_get (replay s events).board.parts.pipes c ≡ Option.Some pipe → slice_get pipe.counts 0 ≡ Option.Some n →
-        (n.received ≡ n.oob.arrivals) × (n.inband.arrivals ≡ n.oob.played) }
+        (n.received ≡ n.oob.arrivals) × (n.in_band.arrivals ≡ n.oob.played) }
     ensures request_fresh { (s : State) (events : List Event) (c : ℕ) (pipe : Pipe) (n : Counts) → IsIdle s →
         slice_get (replay s events).board.parts.pipes c ≡ Option.Some pipe → slice_get pipe.counts 1 ≡ Option.Some n →
-        (n.received ≡ n.oob.arrivals) × (n.inband.arrivals ≡ 0) }
+        (n.received ≡ n.oob.arrivals) × (n.in_band.arrivals ≡ 0) }
     ensures others_fresh { (s : State) (events : List Event) (c l : ℕ) (pipe : Pipe) (n : Counts) → 2 ≤ l → IsIdle s →
         slice_get (replay s events).board.parts.pipes c ≡ Option.Some pipe → slice_get pipe.counts l ≡ Option.Some n →
-        n.received ≡ n.oob.arrivals + n.inband.arrivals }
+        n.received ≡ n.oob.arrivals + n.in_band.arrivals }
 {
     evm_runs::balance_holds(); // the field routes
 }

@@ -2,7 +2,7 @@
 ghost use Rattle.std.specs.Prelude.{◌≡◌, ◌↔◌, ℕ, List, false, Option, slice_get};
 ghost use Rattle.std.specs.List.{Contains, fold};
 ghost use Rattle.std.specs.List.Sorted.{IsStrictlyIncreasing};
-ghost use Rattle.evm_model.specs.Passing.{pass_on, end_task};
+ghost use Rattle.evm_model.specs.Passing.{hand_over, end_task};
 ghost use Rattle.evm_model.specs.Pipes.{Pipe, play, receive, set_stall};
 ghost use Rattle.evm_model.specs.Settle.{play_oob, play_in_band, run_best, run_in_band, settle_oob, turn_in_band};
 ghost use Rattle.evm_model.specs.State.{State, Parts, on_pipe};
@@ -21,13 +21,13 @@ ghost use Rattle.evm_claims.specs.Reached.{Reached};
 /// stage that isn't stalled plays the lines of its log one after another.
 pub fn lines_are_played_in_rising_order()
     ensures rise { (boot : Boot) (s : State) (c : ℕ) (pipe : Pipe) → Reached boot s → slice_get s.board.parts.pipes c ≡ Option.Some pipe →
-        IsStrictlyIncreasing pipe.wire × IsStrictlyIncreasing pipe.oob.lines × IsStrictlyIncreasing pipe.inband.lines }
+        IsStrictlyIncreasing pipe.wire × IsStrictlyIncreasing pipe.oob.lines × IsStrictlyIncreasing pipe.in_band.lines }
     ensures received { (boot : Boot) (s : State) (stage : Stage) (c l : ℕ) (pipe : Pipe) → Reached boot s → slice_get s.board.parts.pipes c ≡ Option.Some pipe →
-        IsStrictlyIncreasing (receive stage l pipe).oob.lines × IsStrictlyIncreasing (receive stage l pipe).inband.lines }
+        IsStrictlyIncreasing (receive stage l pipe).oob.lines × IsStrictlyIncreasing (receive stage l pipe).in_band.lines }
     ensures oob { (was : Option ℕ) (c : ℕ) (k : Parts) (pipe : Pipe) → slice_get k.pipes c ≡ Option.Some pipe → pipe.oob.stalled ≡ false →
         settle_oob was c k ≡ run_best c (fold (λ x l. play_oob was c l x) k pipe.oob.lines) }
-    ensures in_band { (c : ℕ) (k : Parts) (pipe : Pipe) → slice_get k.pipes c ≡ Option.Some pipe → pipe.inband.stalled ≡ false →
-        turn_in_band c k ≡ run_in_band c (fold (λ x l. play_in_band c l x) k pipe.inband.lines) }
+    ensures in_band { (c : ℕ) (k : Parts) (pipe : Pipe) → slice_get k.pipes c ≡ Option.Some pipe → pipe.in_band.stalled ≡ false →
+        turn_in_band c k ≡ run_in_band c (fold (λ x l. play_in_band c l x) k pipe.in_band.lines) }
 {
     evm_rules::rules_hold();
     evm_runs::goes_in_order(); // the clauses rise and plays
@@ -47,7 +47,7 @@ pub fn waiters_of_a_line_wake_by_number()
 pub fn a_task_that_ends_passes_its_mutexes_by_number()
     ensures { (c t : ℕ) (state : TaskState) (k : Parts) → (owned : List ℕ) × (IsStrictlyIncreasing owned
         × ((m : ℕ) → Contains owned m ↔ ((mutex : Mutex) × ((slice_get k.mutexes m ≡ Option.Some mutex) × (mutex.owner ≡ Option.Some t))))
-        × (end_task c t state k ≡ set_state t state (leave_in_band c (on_pipe c (set_stall Stage.InBand false) (fold (λ x m. pass_on m x) k owned))))) }
+        × (end_task c t state k ≡ set_state t state (leave_in_band c (on_pipe c (set_stall Stage.InBand false) (fold (λ x m. hand_over m x) k owned))))) }
 {
     evm_runs::goes_in_order(); // the clause passes
 }

@@ -1,4 +1,4 @@
-//! Each part meets its rows: what each event but a step changes, which task is first, which refusal is told.
+//! Each part reaches its rows: what each event but a step changes, which task is first, which refusal is told.
 ghost use Rattle.std.specs.Prelude.{◌≡◌, ◌≢◌, ◌+◌, ◌^◌, ◌<◌, ◌≤◌, ◌++◌, ℕ, List, [], ◌∷◌, Bool, true, false, Option, Result, if◌then◌else◌, slice_get, slice_index, length, option_map};
 ghost use Rattle.evm_exec.specs.Registers.{register_of, with_register};
 ghost use Rattle.evm_exec.specs.declared.hart.Hart.{Hart};
@@ -115,7 +115,7 @@ pub fn a_raise_puts_its_line_on_the_wire()
         × (slice_get new.board.parts.pipes c ≡ option_map (raise l) (slice_get old.board.parts.pipes c))
         × ((d : ℕ) → d ≢ c → slice_get new.board.parts.pipes d ≡ slice_get old.board.parts.pipes d) }
     ensures wire { (l : ℕ) (pipe : Pipe) → (raise l pipe).wire ≡ with_line pipe.wire l }
-    ensures stages { (l : ℕ) (pipe : Pipe) → ((raise l pipe).oob ≡ pipe.oob) × ((raise l pipe).inband ≡ pipe.inband) }
+    ensures stages { (l : ℕ) (pipe : Pipe) → ((raise l pipe).oob ≡ pipe.oob) × ((raise l pipe).in_band ≡ pipe.in_band) }
     ensures counts { (l : ℕ) (pipe : Pipe) (n : Counts) → slice_get pipe.counts l ≡ Option.Some n →
         slice_get (raise l pipe).counts l ≡ Option.Some (record n { raised = n.raised + 1; merged = (if has_line pipe.wire l then n.merged + 1 else n.merged) }) }
     ensures others { (l m : ℕ) (pipe : Pipe) → m ≢ l → slice_get (raise l pipe).counts m ≡ slice_get pipe.counts m }

@@ -48,7 +48,7 @@ pub fn nothing_waits_in_an_open_log()
         pipe.oob.stalled ≡ false → pipe.oob.lines ≡ [] }
     ensures in_band { (boot : Boot) (s : State) (c : ℕ) (pipe : Pipe) (p : Processor) → Reached boot s →
         slice_get s.board.parts.pipes c ≡ Option.Some pipe → slice_get s.board.parts.processors c ≡ Option.Some p →
-        pipe.inband.stalled ≡ false → is_oob p.current s.board.parts.tasks ≡ false → pipe.inband.lines ≡ [] }
+        pipe.in_band.stalled ≡ false → is_oob p.current s.board.parts.tasks ≡ false → pipe.in_band.lines ≡ [] }
 {
     evm_rules::rules_hold();
 }
@@ -61,7 +61,7 @@ pub fn a_stage_is_stalled_by_its_task()
         pipe.oob.stalled ≡ true → is_oob p.current s.board.parts.tasks ≡ true }
     ensures in_band { (boot : Boot) (s : State) (c : ℕ) (pipe : Pipe) (p : Processor) → Reached boot s →
         slice_get s.board.parts.pipes c ≡ Option.Some pipe → slice_get s.board.parts.processors c ≡ Option.Some p →
-        pipe.inband.stalled ≡ true → p.in_band_task ≢ Option.None }
+        pipe.in_band.stalled ≡ true → p.in_band_task ≢ Option.None }
 {
     evm_rules::rules_hold();
 }

@@ -30,7 +30,7 @@ wire_of (Some pipe) = Some pipe.wire
 -- the two logs and the wire, where there is a pipe
 abbrev pub stages_in : Option Pipe → Option Stages
 stages_in None = None
-stages_in (Some pipe) = Some (record { oob = pipe.oob; inband = pipe.inband; wire = pipe.wire })
+stages_in (Some pipe) = Some (record { oob = pipe.oob; in_band = pipe.in_band; wire = pipe.wire })
 
 -- those of processor c
 abbrev pub stages_at : ℕ → Parts → Option Stages

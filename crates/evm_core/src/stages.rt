@@ -7,7 +7,7 @@ pub struct Stages {
     /// The log of the out-of-band stage.
     pub oob: StageLog,
     /// The log of the in-band stage.
-    pub inband: StageLog,
+    pub in_band: StageLog,
     /// The lines that were raised and not yet received.
     pub wire: LineSet,
 }

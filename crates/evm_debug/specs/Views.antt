@@ -186,7 +186,7 @@ abbrev pub stages_text : ℕ → Processor → Stages → List ℕ
 stages_text c p stages = parts_text (
     codes "cpu " ∷ decimal c ∷ codes " current " ∷ number_or_none p.current
     ∷ codes " oob " ∷ bit_text stages.oob.stalled ∷ codes " " ∷ line_set_text stages.oob.lines
-    ∷ codes " in " ∷ bit_text stages.inband.stalled ∷ codes " " ∷ line_set_text stages.inband.lines
+    ∷ codes " in " ∷ bit_text stages.in_band.stalled ∷ codes " " ∷ line_set_text stages.in_band.lines
     ∷ codes " task " ∷ number_or_none p.in_band_task ∷ codes " wire " ∷ line_set_text stages.wire
     ∷ codes " stop " ∷ bit_text p.stopped ∷ codes " skip " ∷ bit_text p.skip ∷ codes "\n" ∷ [])
 
@@ -195,7 +195,7 @@ abbrev pub counts_text : Counts → List ℕ
 counts_text n = parts_text (
     codes "raised " ∷ decimal n.raised ∷ codes " merged " ∷ decimal n.merged ∷ codes " received " ∷ decimal n.received
     ∷ codes " oob " ∷ decimal n.oob.arrivals ∷ codes " " ∷ decimal n.oob.merged ∷ codes " " ∷ decimal n.oob.played
-    ∷ codes " in " ∷ decimal n.inband.arrivals ∷ codes " " ∷ decimal n.inband.merged ∷ codes " " ∷ decimal n.inband.played
+    ∷ codes " in " ∷ decimal n.in_band.arrivals ∷ codes " " ∷ decimal n.in_band.merged ∷ codes " " ∷ decimal n.in_band.played
     ∷ codes "\n" ∷ [])
 
 -- the stages of a processor, if there is one

@@ -9,7 +9,7 @@ use Rattle.evm_model.specs.State.{Parts, on_action, on_pipe}
 use Rattle.evm_model.specs.declared.action.Action.{Action}
 use Rattle.evm_model.specs.declared.action.Action.TheVariants.{Nothing, Puts, Posts}
 use Rattle.evm_model.specs.declared.call.Outcome.{Outcome}
-use Rattle.evm_model.specs.declared.call.Outcome.TheVariants.{Answers}
+use Rattle.evm_model.specs.declared.call.Outcome.TheVariants.{Returns}
 use Rattle.evm_model.specs.declared.errno.Errno.TheVariants.{Invalid}
 
 abbrev pub action_or_nothing : Option Action → Action
@@ -43,7 +43,7 @@ action_of action object k =
 
 abbrev pub set_line_to : Option Action → ℕ → Parts → Parts × Outcome
 set_line_to None l k = refused Invalid k
-set_line_to (Some action) l k = (on_action l (λ _. action) k, Answers 0)
+set_line_to (Some action) l k = (on_action l (λ _. action) k, Returns 0)
 
 -- 14: lines from 2 on have an action
 unfoldable pub set_line : ℕ → ℕ → ℕ → Parts → Parts × Outcome

@@ -26,7 +26,7 @@ pub record UpTo (bound : ℕ) (n : Counts) : Type 0 where
   pub merged : n.merged ≤ bound
   pub received : n.received ≤ bound
   pub oob : PassageUpTo bound n.oob
-  pub inband : PassageUpTo bound n.inband
+  pub in_band : PassageUpTo bound n.in_band
 
 -- .. of no line of a pipe
 pub record PipeUpTo (bound : ℕ) (p : Pipe) : Type 0 where

@@ -22,7 +22,7 @@ use Rattle.evm_model.specs.Timers.{new_timer, timer_set, timer_wait}
 use Rattle.evm_model.specs.declared.call.Call.{Call}
 use Rattle.evm_model.specs.declared.call.Call.TheVariants.{Exit as Ends, Putc, Yield, Spawn, Stall, Unstall, WaitLine, Attach, Detach, NewMutex, NewSemaphore, NewEvent, NewFlags, NewTimer, SetLine, SwitchOob, SwitchInBand, SetSched, SetMode, Lock, TryLock, Unlock, SemGet, SemTryGet, SemPut, EventWait, Signal, Broadcast, FlagsWait, FlagsPost, SleepUntil, TimerSet, TimerWait, YieldOob, StallOob, UnstallOob, Clock, StateBits}
 use Rattle.evm_model.specs.declared.call.Outcome.{Outcome}
-use Rattle.evm_model.specs.declared.call.Outcome.TheVariants.{Answers, Waits, Leaves}
+use Rattle.evm_model.specs.declared.call.Outcome.TheVariants.{Returns, Blocks, Exits}
 use Rattle.evm_model.specs.declared.errno.Errno.TheVariants.{NotPermitted, NoSuchCall}
 use Rattle.evm_model.specs.declared.notice.NoticeKind.TheVariants.{DemotedByCall}
 use Rattle.evm_model.specs.declared.stage.Stage.{Stage}
@@ -142,9 +142,9 @@ return_weak c t k = if is_weak_oob (slice_get k.tasks t) && not (owns_any t k.mu
 
 -- a call is answered, or its task waits, or has left
 abbrev pub answered : Outcome → ℕ → ℕ → Parts → Parts
-answered (Answers value) c t k = return_weak c t (on_hart t (answer value) k)
-answered Waits c t k = on_hart t advance k
-answered Leaves c t k = k
+answered (Returns value) c t k = return_weak c t (on_hart t (answer value) k)
+answered Blocks c t k = on_hart t advance k
+answered Exits c t k = k
 
 abbrev pub finish_call : ℕ → ℕ → Parts × Outcome → Parts
 finish_call c t done = answered done.1 c t done.0

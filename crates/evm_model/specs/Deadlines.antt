@@ -7,7 +7,7 @@ use Rattle.evm_model.specs.Stages.{is_stalled, wait_refusal, wait_unless}
 use Rattle.evm_model.specs.State.{Parts}
 use Rattle.evm_model.specs.Waits.{wake}
 use Rattle.evm_model.specs.declared.call.Outcome.{Outcome}
-use Rattle.evm_model.specs.declared.call.Outcome.TheVariants.{Answers}
+use Rattle.evm_model.specs.declared.call.Outcome.TheVariants.{Returns}
 use Rattle.evm_model.specs.declared.errno.Errno.TheVariants.{TimedOut}
 use Rattle.evm_model.specs.declared.stage.Stage.TheVariants.{OutOfBand}
 use Rattle.evm_model.specs.declared.task.Task.{Task}
@@ -20,7 +20,7 @@ use Rattle.evm_model.specs.declared.task.Wait.TheVariants.{Event, Sleep}
 -- the task waits until a tick, if it is still to come
 unfoldable pub sleep_until : ℕ → ℕ → ℕ → Parts → Parts × Outcome
 sleep_until c t until k =
-    if nat_le until k.ticks then (k, Answers 0)
+    if nat_le until k.ticks then (k, Returns 0)
     else wait_unless (wait_refusal (is_stalled OutOfBand c k) None k.ticks until) t Sleep until k
 
 -- ---- deadlines that have come

@@ -3,12 +3,12 @@ use Rattle.std.specs.Prelude.{ℕ, zero, suc, [], ◌∷◌, ◌++◌, Option, S
 use Rattle.evm_ranks.specs.Boosts.{is_number}
 use Rattle.evm_model.specs.Lists.{change}
 use Rattle.evm_model.specs.Mutexes.{owner, owns_any, freed, held_by}
-use Rattle.evm_model.specs.Passing.{pass_on}
+use Rattle.evm_model.specs.Passing.{hand_over}
 use Rattle.evm_model.specs.Stages.{refused, is_stalled, wait_refusal}
 use Rattle.evm_model.specs.State.{Parts, on_event, on_mutex}
 use Rattle.evm_model.specs.Waits.{first_waiter, begin_wait, wake}
 use Rattle.evm_model.specs.declared.call.Outcome.{Outcome}
-use Rattle.evm_model.specs.declared.call.Outcome.TheVariants.{Answers, Waits}
+use Rattle.evm_model.specs.declared.call.Outcome.TheVariants.{Returns, Blocks}
 use Rattle.evm_model.specs.declared.errno.Errno.{Errno}
 use Rattle.evm_model.specs.declared.errno.Errno.TheVariants.{NotPermitted, NoNumber, Invalid}
 use Rattle.evm_model.specs.declared.limits.TheConstants.{EVENT_LIMIT}
@@ -22,7 +22,7 @@ add_event k = record k { events = k.events ++ None ∷ [] }
 
 -- its number is answered
 unfoldable pub new_event : Parts → Parts × Outcome
-new_event k = if nat_le EVENT_LIMIT (length k.events) then refused NoNumber k else (add_event k, Answers (length k.events))
+new_event k = if nat_le EVENT_LIMIT (length k.events) then refused NoNumber k else (add_event k, Returns (length k.events))
 
 -- ---- a task waits for an event no more
 -- it owns the mutex and wakes; or another task owns it, and it waits for it, without a deadline, and keeps the answer
@@ -64,11 +64,11 @@ holding_refusal t m mutex k = if holds_alone t m mutex k then None else Some Not
 
 -- the mutex passes on, and the task waits
 unfoldable pub begin_event_wait : ℕ → ℕ → ℕ → ℕ → Parts → Parts
-begin_event_wait t e m deadline k = begin_wait t (Event e) deadline (pass_on m (on_event e (λ _. Some m) k))
+begin_event_wait t e m deadline k = begin_wait t (Event e) deadline (hand_over m (on_event e (λ _. Some m) k))
 
 abbrev pub event_wait_unless : Option Errno → ℕ → ℕ → ℕ → ℕ → Parts → Parts × Outcome
 event_wait_unless (Some error) t e m deadline k = refused error k
-event_wait_unless None t e m deadline k = (begin_event_wait t e m deadline k, Waits)
+event_wait_unless None t e m deadline k = (begin_event_wait t e m deadline k, Blocks)
 
 abbrev pub event_wait_with : Option Mutex → ℕ → ℕ → ℕ → ℕ → ℕ → Parts → Parts × Outcome
 event_wait_with None c t e m deadline k = refused Invalid k
@@ -100,7 +100,7 @@ signal_rounds e (suc n) k = signal_first e (signal_rounds e n k)
 
 abbrev pub signal_known : Option (Option ℕ) → ℕ → ℕ → Parts → Parts × Outcome
 signal_known None e rounds k = refused Invalid k
-signal_known (Some mutex) e rounds k = (signal_rounds e rounds k, Answers 0)
+signal_known (Some mutex) e rounds k = (signal_rounds e rounds k, Returns 0)
 
 -- 43: the first that waits waits no more
 unfoldable pub signal : ℕ → Parts → Parts × Outcome

@@ -4,7 +4,7 @@ use Rattle.evm_model.specs.Stages.{refused, is_stalled, wait_refusal, wait_unles
 use Rattle.evm_model.specs.State.{Parts, on_flags}
 use Rattle.evm_model.specs.Waits.{first_waiter, wake}
 use Rattle.evm_model.specs.declared.call.Outcome.{Outcome}
-use Rattle.evm_model.specs.declared.call.Outcome.TheVariants.{Answers}
+use Rattle.evm_model.specs.declared.call.Outcome.TheVariants.{Returns}
 use Rattle.evm_model.specs.declared.errno.Errno.TheVariants.{NoNumber, Invalid}
 use Rattle.evm_model.specs.declared.limits.TheConstants.{FLAGS_LIMIT, FLAGS_WORD_LIMIT}
 use Rattle.evm_model.specs.declared.stage.Stage.TheVariants.{OutOfBand}
@@ -16,14 +16,14 @@ add_flags k = record k { flags = k.flags ++ 0 ∷ [] }
 
 -- its number is answered
 unfoldable pub new_flags : Parts → Parts × Outcome
-new_flags k = if nat_le FLAGS_LIMIT (length k.flags) then refused NoNumber k else (add_flags k, Answers (length k.flags))
+new_flags k = if nat_le FLAGS_LIMIT (length k.flags) then refused NoNumber k else (add_flags k, Returns (length k.flags))
 
 -- ---- 45: the word is taken
 abbrev pub flags_wait_known : Option ℕ → ℕ → ℕ → ℕ → ℕ → Parts → Parts × Outcome
 flags_wait_known None c t f deadline k = refused Invalid k
 flags_wait_known (Some word) c t f deadline k =
     if word == 0 then wait_unless (wait_refusal (is_stalled OutOfBand c k) None k.ticks deadline) t (Flags f) deadline k
-    else (on_flags f (λ _. 0) k, Answers word)
+    else (on_flags f (λ _. 0) k, Returns word)
 
 -- 45: the task takes the word, which is 0 then, or waits for one
 unfoldable pub flags_wait : ℕ → ℕ → ℕ → ℕ → Parts → Parts × Outcome
@@ -45,7 +45,7 @@ post f bits k = post_known (slice_get k.flags f) f bits k
 -- a post of no bit, or of bits that no word has
 abbrev pub flags_post_of : ℕ → ℕ → Parts → Parts × Outcome
 flags_post_of f bits k =
-    if bits == 0 then refused Invalid k else (if nat_lt FLAGS_WORD_LIMIT bits then refused Invalid k else (post f bits k, Answers 0))
+    if bits == 0 then refused Invalid k else (if nat_lt FLAGS_WORD_LIMIT bits then refused Invalid k else (post f bits k, Returns 0))
 
 abbrev pub flags_post_known : Option ℕ → ℕ → ℕ → Parts → Parts × Outcome
 flags_post_known None f bits k = refused Invalid k

@@ -56,16 +56,16 @@ pub record IsSettled (c : ℕ) (pipe : Pipe) (p : Processor) (mutexes : List Mut
   -- an out-of-band log isn't empty only while that stage is stalled
   pub oob_played : pipe.oob.stalled ≡ false → pipe.oob.lines ≡ []
   -- an in-band log only while that stage is stalled or an out-of-band task is current
-  pub in_band_played : pipe.inband.stalled ≡ false → is_oob p.current tasks ≡ false → pipe.inband.lines ≡ []
+  pub in_band_played : pipe.in_band.stalled ≡ false → is_oob p.current tasks ≡ false → pipe.in_band.lines ≡ []
   -- a stage is stalled only by a current task of it
   pub oob_staller : pipe.oob.stalled ≡ true → is_oob p.current tasks ≡ true
-  pub in_band_staller : pipe.inband.stalled ≡ true → p.in_band_task ≡ None → ⊥
+  pub in_band_staller : pipe.in_band.stalled ≡ true → p.in_band_task ≡ None → ⊥
 
 -- a pipe's wire and logs are sets of lines, and there are counts for each line
 pub record IsPipe (p : Pipe) : Type 0 where
   pub wire : IsLineSet p.wire
   pub oob : IsLineSet p.oob.lines
-  pub inband : IsLineSet p.inband.lines
+  pub in_band : IsLineSet p.in_band.lines
   pub counts : length p.counts ≡ LINES
 
 -- who owns the mutexes, and who waits for them

@@ -1,13 +1,13 @@
 -- What each call on a mutex does to the parts, and what comes of it.
 use Rattle.std.specs.Prelude.{ℕ, ◌+◌, ◌-◌, [], ◌∷◌, ◌++◌, Option, Some, None, Bool, true, false, ◌==◌, nat_lt, nat_le, if◌then◌else◌, slice_get, length}
-use Rattle.evm_ranks.specs.Boosts.{is_number, meets}
+use Rattle.evm_ranks.specs.Boosts.{is_number, reaches}
 use Rattle.evm_model.specs.Mutexes.{free_mutex, held_by, waits_on}
 use Rattle.evm_model.specs.Notices.{notify_refused}
-use Rattle.evm_model.specs.Passing.{pass_on}
+use Rattle.evm_model.specs.Passing.{hand_over}
 use Rattle.evm_model.specs.Stages.{refused, is_stalled, wait_refusal, wait_unless}
 use Rattle.evm_model.specs.State.{Parts, on_mutex}
 use Rattle.evm_model.specs.declared.call.Outcome.{Outcome}
-use Rattle.evm_model.specs.declared.call.Outcome.TheVariants.{Answers}
+use Rattle.evm_model.specs.declared.call.Outcome.TheVariants.{Returns}
 use Rattle.evm_model.specs.declared.errno.Errno.{Errno}
 use Rattle.evm_model.specs.declared.errno.Errno.TheVariants.{NotPermitted, NoNumber, Busy, Invalid, Deadlock}
 use Rattle.evm_model.specs.declared.limits.TheConstants.{MUTEX_LIMIT, PRIORITY_LIMIT, TASK_LIMIT}
@@ -39,7 +39,7 @@ abbrev pub new_mutex_as : Option Mutex → Parts → Parts × Outcome
 new_mutex_as None k = refused Invalid k
 new_mutex_as (Some mutex) k =
     if nat_le MUTEX_LIMIT (length k.mutexes) then refused NoNumber k
-    else (add_mutex mutex k, Answers (length k.mutexes))
+    else (add_mutex mutex k, Returns (length k.mutexes))
 
 -- its number is answered
 unfoldable pub new_mutex : ℕ → ℕ → Parts → Parts × Outcome
@@ -53,11 +53,11 @@ take_mutex t m k = on_mutex m (held_by t 1) k
 -- of its own: it has it once more, where it is recursive
 unfoldable pub lock_again : ℕ → ℕ → Mutex → Parts → Parts × Outcome
 lock_again t m mutex k =
-    if mutex.recursive then (on_mutex m (held_by t (mutex.count + 1)) k, Answers 0) else refused Deadlock k
+    if mutex.recursive then (on_mutex m (held_by t (mutex.count + 1)) k, Returns 0) else refused Deadlock k
 
 -- the owner u waits for task t by some chain, or is it: the wait would never end
 abbrev pub cycle_refusal : ℕ → ℕ → Parts → Option Errno
-cycle_refusal t u k = if meets (waits_on k.mutexes k.tasks) t TASK_LIMIT (Some u) then Some Deadlock else None
+cycle_refusal t u k = if reaches (waits_on k.mutexes k.tasks) t TASK_LIMIT (Some u) then Some Deadlock else None
 
 -- of task u's: it waits
 unfoldable pub lock_other : ℕ → ℕ → ℕ → ℕ → ℕ → Parts → Parts × Outcome
@@ -65,7 +65,7 @@ lock_other c t m u deadline k =
     wait_unless (wait_refusal (is_stalled OutOfBand c k) (cycle_refusal t u k) k.ticks deadline) t (Lock m) deadline k
 
 abbrev pub lock_owned : Option ℕ → ℕ → ℕ → ℕ → ℕ → Mutex → Parts → Parts × Outcome
-lock_owned None c t m deadline mutex k = (take_mutex t m k, Answers 0)
+lock_owned None c t m deadline mutex k = (take_mutex t m k, Returns 0)
 lock_owned (Some u) c t m deadline mutex k =
     if u == t then lock_again t m mutex k else lock_other c t m u deadline k
 
@@ -78,7 +78,7 @@ unfoldable pub lock : ℕ → ℕ → ℕ → ℕ → Parts → Parts × Outcome
 lock c t m deadline k = notify_refused Deadlock Unending t (lock_known (slice_get k.mutexes m) c t m deadline k)
 
 abbrev pub try_owned : Option ℕ → ℕ → ℕ → Mutex → Parts → Parts × Outcome
-try_owned None t m mutex k = (take_mutex t m k, Answers 0)
+try_owned None t m mutex k = (take_mutex t m k, Returns 0)
 try_owned (Some u) t m mutex k = if u == t then lock_again t m mutex k else refused Busy k
 
 abbrev pub try_known : Option Mutex → ℕ → ℕ → Parts → Parts × Outcome
@@ -92,12 +92,12 @@ try_lock t m k = notify_refused Deadlock Unending t (try_known (slice_get k.mute
 -- ---- 38: an unlock
 -- the last one passes the mutex on
 unfoldable pub unlock_once : ℕ → ℕ → Mutex → Parts → Parts
-unlock_once t m mutex k = if nat_le mutex.count 1 then pass_on m k else on_mutex m (held_by t (mutex.count - 1)) k
+unlock_once t m mutex k = if nat_le mutex.count 1 then hand_over m k else on_mutex m (held_by t (mutex.count - 1)) k
 
 abbrev pub unlock_known : Option Mutex → ℕ → ℕ → Parts → Parts × Outcome
 unlock_known None t m k = refused Invalid k
 unlock_known (Some mutex) t m k =
-    if is_number mutex.owner t then (unlock_once t m mutex k, Answers 0) else refused NotPermitted k
+    if is_number mutex.owner t then (unlock_once t m mutex k, Returns 0) else refused NotPermitted k
 
 -- 38: an unlock by another task than the owner makes a notice
 unfoldable pub unlock : ℕ → ℕ → Parts → Parts × Outcome

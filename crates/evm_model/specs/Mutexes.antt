@@ -78,17 +78,17 @@ heir_for mutexes (Some m) = heir_of (slice_get mutexes m)
 abbrev pub boosts : List Mutex → List Task → ℕ → Option ℕ
 boosts mutexes tasks u = heir_for mutexes (lock_at tasks u)
 
-abbrev pub raised_by : Protocol → Option ℕ → Option ℕ
-raised_by Inheritance owner = None
-raised_by (Ceiling priority) owner = owner
+abbrev pub ceiling_owner_by : Protocol → Option ℕ → Option ℕ
+ceiling_owner_by Inheritance owner = None
+ceiling_owner_by (Ceiling priority) owner = owner
 
-abbrev pub raised_of : Option Mutex → Option ℕ
-raised_of None = None
-raised_of (Some mutex) = raised_by mutex.protocol mutex.owner
+abbrev pub ceiling_owner_of : Option Mutex → Option ℕ
+ceiling_owner_of None = None
+ceiling_owner_of (Some mutex) = ceiling_owner_by mutex.protocol mutex.owner
 
 -- the task that mutex m raises to its ceiling: its owner
-abbrev pub raised : List Mutex → ℕ → Option ℕ
-raised mutexes m = raised_of (slice_get mutexes m)
+abbrev pub ceiling_owner : List Mutex → ℕ → Option ℕ
+ceiling_owner mutexes m = ceiling_owner_of (slice_get mutexes m)
 
 abbrev pub ceiling_by : Protocol → ℕ
 ceiling_by Inheritance = 0

@@ -15,7 +15,7 @@ pub record Pipe : Type 0 where
   -- the out-of-band stage's stall bit, and the lines that wait there
   pub oob : StageLog
   -- the in-band stage's
-  pub inband : StageLog
+  pub in_band : StageLog
   -- the lines that were raised and not yet received
   pub wire : List ℕ
   -- of each line, how often what happened to it
@@ -29,10 +29,10 @@ abbrev pub no_passage : Passage
 no_passage = record { arrivals = 0; merged = 0; played = 0 }
 
 abbrev pub no_counts : Counts
-no_counts = record { raised = 0; merged = 0; received = 0; oob = no_passage; inband = no_passage }
+no_counts = record { raised = 0; merged = 0; received = 0; oob = no_passage; in_band = no_passage }
 
 abbrev pub idle_pipe : Pipe
-idle_pipe = record { oob = idle_log; inband = idle_log; wire = []; counts = replicate LINES no_counts }
+idle_pipe = record { oob = idle_log; in_band = idle_log; wire = []; counts = replicate LINES no_counts }
 
 -- line 0 is the timer, line 1 asks a processor to reschedule: these two are the out-of-band stage's
 abbrev pub is_oob_line : ℕ → Bool
@@ -48,15 +48,15 @@ stage_of action l = if is_oob_line l then OutOfBand else stage_by action
 
 abbrev pub log_of : Stage → Pipe → StageLog
 log_of OutOfBand p = p.oob
-log_of InBand p = p.inband
+log_of InBand p = p.in_band
 
 abbrev pub on_log : Stage → (StageLog → StageLog) → Pipe → Pipe
 on_log OutOfBand f p = record p { oob = f p.oob }
-on_log InBand f p = record p { inband = f p.inband }
+on_log InBand f p = record p { in_band = f p.in_band }
 
 abbrev pub on_passage : Stage → (Passage → Passage) → Counts → Counts
 on_passage OutOfBand f n = record n { oob = f n.oob }
-on_passage InBand f n = record n { inband = f n.inband }
+on_passage InBand f n = record n { in_band = f n.in_band }
 
 -- one more, where the test holds
 abbrev pub more_if : Bool → ℕ → ℕ

@@ -1,7 +1,7 @@
 -- Which task goes first. Tasks are spoken of by their numbers, so that a rank may come from other tasks too.
 use Rattle.std.specs.Prelude.{◌≡◌, ℕ, zero, suc, ◌+◌, ◌<◌, List, Option, Some, None, Bool, true, false, ◌&&◌, ◌==◌, nat_lt, if◌then◌else◌, slice_get, length}
 use Rattle.evm_ranks.specs.Boosts.{greatest, rank_after}
-use Rattle.evm_model.specs.Mutexes.{raised, ceiling, boosts}
+use Rattle.evm_model.specs.Mutexes.{ceiling_owner, ceiling, boosts}
 use Rattle.evm_model.specs.declared.limits.TheConstants.{TASK_LIMIT}
 use Rattle.evm_model.specs.declared.mutex.Mutex.{Mutex}
 use Rattle.evm_model.specs.declared.task.Task.{Task}
@@ -23,7 +23,7 @@ class_rank_of (Some task) = class_rank task.class task.priority
 
 -- task t's own rank: that of its class, and of each ceiling mutex that it owns
 unfoldable pub own_rank : List Mutex → List Task → ℕ → ℕ
-own_rank mutexes tasks t = greatest (raised mutexes) (ceiling mutexes) t (class_rank_of (slice_get tasks t)) (length mutexes)
+own_rank mutexes tasks t = greatest (ceiling_owner mutexes) (ceiling mutexes) t (class_rank_of (slice_get tasks t)) (length mutexes)
 
 abbrev pub stamp_of : Option Task → ℕ
 stamp_of None = 0

@@ -4,7 +4,7 @@ use Rattle.evm_model.specs.Stages.{refused, is_stalled, wait_refusal, wait_unles
 use Rattle.evm_model.specs.State.{Parts, on_semaphore}
 use Rattle.evm_model.specs.Waits.{first_waiter, wake}
 use Rattle.evm_model.specs.declared.call.Outcome.{Outcome}
-use Rattle.evm_model.specs.declared.call.Outcome.TheVariants.{Answers}
+use Rattle.evm_model.specs.declared.call.Outcome.TheVariants.{Returns}
 use Rattle.evm_model.specs.declared.errno.Errno.TheVariants.{NoNumber, TryAgain, Invalid}
 use Rattle.evm_model.specs.declared.limits.TheConstants.{SEMAPHORE_LIMIT, SEMAPHORE_COUNT_LIMIT}
 use Rattle.evm_model.specs.declared.stage.Stage.TheVariants.{OutOfBand}
@@ -19,14 +19,14 @@ unfoldable pub new_semaphore : ℕ → Parts → Parts × Outcome
 new_semaphore count k =
     if nat_lt SEMAPHORE_COUNT_LIMIT count then refused Invalid k
     else (if nat_le SEMAPHORE_LIMIT (length k.semaphores) then refused NoNumber k
-    else (add_semaphore count k, Answers (length k.semaphores)))
+    else (add_semaphore count k, Returns (length k.semaphores)))
 
 -- ---- 39 and 40: one is taken
 abbrev pub sem_get_known : Option ℕ → ℕ → ℕ → ℕ → ℕ → Parts → Parts × Outcome
 sem_get_known None c t s deadline k = refused Invalid k
 sem_get_known (Some count) c t s deadline k =
     if count == 0 then wait_unless (wait_refusal (is_stalled OutOfBand c k) None k.ticks deadline) t (Semaphore s) deadline k
-    else (on_semaphore s (λ n. n - 1) k, Answers 0)
+    else (on_semaphore s (λ n. n - 1) k, Returns 0)
 
 -- 39: the task takes one, or waits for one
 unfoldable pub sem_get : ℕ → ℕ → ℕ → ℕ → Parts → Parts × Outcome
@@ -34,7 +34,7 @@ sem_get c t s deadline k = sem_get_known (slice_get k.semaphores s) c t s deadli
 
 abbrev pub sem_try_get_known : Option ℕ → ℕ → Parts → Parts × Outcome
 sem_try_get_known None s k = refused Invalid k
-sem_try_get_known (Some count) s k = if count == 0 then refused TryAgain k else (on_semaphore s (λ n. n - 1) k, Answers 0)
+sem_try_get_known (Some count) s k = if count == 0 then refused TryAgain k else (on_semaphore s (λ n. n - 1) k, Returns 0)
 
 -- 40: the task takes one, if it need not wait for it
 unfoldable pub sem_try_get : ℕ → Parts → Parts × Outcome
@@ -43,8 +43,8 @@ sem_try_get s k = sem_try_get_known (slice_get k.semaphores s) s k
 -- ---- 41: one is put
 -- the first that waits wakes; if there is none, the count is one more
 abbrev pub sem_put_to : Option ℕ → ℕ → ℕ → Parts → Parts × Outcome
-sem_put_to None s count k = if nat_le SEMAPHORE_COUNT_LIMIT count then refused Invalid k else (on_semaphore s (λ n. n + 1) k, Answers 0)
-sem_put_to (Some t) s count k = (wake t 0 k, Answers 0)
+sem_put_to None s count k = if nat_le SEMAPHORE_COUNT_LIMIT count then refused Invalid k else (on_semaphore s (λ n. n + 1) k, Returns 0)
+sem_put_to (Some t) s count k = (wake t 0 k, Returns 0)
 
 abbrev pub sem_put_known : Option ℕ → ℕ → Parts → Parts × Outcome
 sem_put_known None s k = refused Invalid k

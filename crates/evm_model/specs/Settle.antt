@@ -72,7 +72,7 @@ run_in_band c k = on_processor c (λ p. run_task (take_up p.in_band_task (next_i
 -- unless it is stalled the in-band log is played
 abbrev pub play_in_band_pipe : Option Pipe → ℕ → Parts → Parts
 play_in_band_pipe None c k = k
-play_in_band_pipe (Some pipe) c k = if pipe.inband.stalled then k else play_in_band_lines c pipe.inband.lines k
+play_in_band_pipe (Some pipe) c k = if pipe.in_band.stalled then k else play_in_band_lines c pipe.in_band.lines k
 
 unfoldable pub turn_in_band : ℕ → Parts → Parts
 turn_in_band c k = run_in_band c (play_in_band_pipe (slice_get k.pipes c) c k)

@@ -6,7 +6,7 @@ use Rattle.evm_model.specs.Current.{is_oob}
 use Rattle.evm_model.specs.State.{Parts}
 use Rattle.evm_model.specs.Waits.{begin_wait}
 use Rattle.evm_model.specs.declared.call.Outcome.{Outcome}
-use Rattle.evm_model.specs.declared.call.Outcome.TheVariants.{Answers, Waits as Blocks}
+use Rattle.evm_model.specs.declared.call.Outcome.TheVariants.{Returns, Blocks}
 use Rattle.evm_model.specs.declared.errno.Errno.{Errno}
 use Rattle.evm_model.specs.declared.errno.Errno.TheVariants.{NotPermitted, TimedOut}
 use Rattle.evm_model.specs.declared.stage.Stage.{Stage}
@@ -18,7 +18,7 @@ use Rattle.evm_model.specs.declared.task.Wait.{Wait}
 
 -- a call that is refused changes nothing, and answers its error
 abbrev pub refused : Errno → Parts → Parts × Outcome
-refused e k = (k, Answers (refusal_answer e))
+refused e k = (k, Returns (refusal_answer e))
 
 abbrev pub bit : Bool → ℕ
 bit b = if b then 1 else 0

@@ -4,7 +4,7 @@ use Rattle.evm_model.specs.Stages.{refused, is_stalled, wait_refusal, wait_unles
 use Rattle.evm_model.specs.State.{Parts, on_timer}
 use Rattle.evm_model.specs.Waits.{first_waiter, wake}
 use Rattle.evm_model.specs.declared.call.Outcome.{Outcome}
-use Rattle.evm_model.specs.declared.call.Outcome.TheVariants.{Answers}
+use Rattle.evm_model.specs.declared.call.Outcome.TheVariants.{Returns}
 use Rattle.evm_model.specs.declared.errno.Errno.TheVariants.{NoNumber, TryAgain, Invalid}
 use Rattle.evm_model.specs.declared.limits.TheConstants.{TIMER_LIMIT, TIMER_SPAN_LIMIT}
 use Rattle.evm_model.specs.declared.stage.Stage.TheVariants.{OutOfBand}
@@ -21,7 +21,7 @@ add_timer k = record k { timers = k.timers ++ idle_timer ∷ [] }
 
 -- its number is answered
 unfoldable pub new_timer : Parts → Parts × Outcome
-new_timer k = if nat_le TIMER_LIMIT (length k.timers) then refused NoNumber k else (add_timer k, Answers (length k.timers))
+new_timer k = if nat_le TIMER_LIMIT (length k.timers) then refused NoNumber k else (add_timer k, Returns (length k.timers))
 
 -- ---- 48: a timer is set
 -- one of processor c that expires first at this tick, or never if that is 0
@@ -32,7 +32,7 @@ abbrev pub timer_set_known : Option Timer → ℕ → ℕ → ℕ → ℕ → Pa
 timer_set_known None c n first period k = refused Invalid k
 timer_set_known (Some timer) c n first period k =
     if nat_lt TIMER_SPAN_LIMIT first then refused Invalid k
-    else (if nat_lt TIMER_SPAN_LIMIT period then refused Invalid k else (on_timer n (λ _. set_timer c first period) k, Answers 0))
+    else (if nat_lt TIMER_SPAN_LIMIT period then refused Invalid k else (on_timer n (λ _. set_timer c first period) k, Returns 0))
 
 -- 48: timer n expires first at this tick, then every period
 unfoldable pub timer_set : ℕ → ℕ → ℕ → ℕ → Parts → Parts × Outcome
@@ -45,7 +45,7 @@ taken timer = record timer { expiries = 0 }
 abbrev pub timer_wait_known : Option Timer → ℕ → ℕ → ℕ → Parts → Parts × Outcome
 timer_wait_known None c t n k = refused Invalid k
 timer_wait_known (Some timer) c t n k =
-    if nat_lt 0 timer.expiries then (on_timer n taken k, Answers timer.expiries)
+    if nat_lt 0 timer.expiries then (on_timer n taken k, Returns timer.expiries)
     else (if timer.due == 0 then refused TryAgain k
     else wait_unless (wait_refusal (is_stalled OutOfBand c k) None k.ticks 0) t (For n) 0 k)
 

@@ -178,9 +178,9 @@ impl Call {
 #[derive(Clone, Copy, Debug, PartialEq, Eq)]
 pub enum Outcome {
     /// It is answered: a0 is this, and the pc goes on.
-    Answers(u64),
+    Returns(u64),
     /// The task waits: the pc goes on, and a0 is set when it wakes.
-    Waits,
+    Blocks,
     /// The task is gone, its pc unchanged.
-    Leaves,
+    Exits,
 }

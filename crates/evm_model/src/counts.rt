@@ -19,5 +19,5 @@ pub struct Counts {
     /// It was received from the wire.
     pub received: u64,
     pub oob: Passage,
-    pub inband: Passage,
+    pub in_band: Passage,
 }

@@ -6,12 +6,12 @@ ghost use Rattle.evm_model.specs.Bounds.{HasStamps};
 ghost use Rattle.evm_model.specs.Lists.{change};
 ghost use Rattle.evm_model.specs.Locks.{add_mutex, take_mutex};
 ghost use Rattle.evm_model.specs.Mutexes.{freed, owns_any, held_by, waits_on};
-ghost use Rattle.evm_model.specs.Passing.{pass_on, pass_if, pass_below};
+ghost use Rattle.evm_model.specs.Passing.{hand_over, hand_over_if, hand_over_below};
 ghost use Rattle.evm_model.specs.Ranks.{best, rank};
 ghost use Rattle.evm_model.specs.State.{on_mutex};
 ghost use Rattle.evm_model.specs.Waits.{first_waiter};
 ghost use Rattle.evm_model.specs.declared.task.Task.{Task};
-ghost use Rattle.evm_ranks.specs.Boosts.{meets};
+ghost use Rattle.evm_ranks.specs.Boosts.{reaches};
 
 use crate::parts::Parts;
 use evm_model::{MUTEX_LIMIT, Mutex, TASK_LIMIT, Wait};
@@ -59,10 +59,10 @@ impl Parts {
     }
 
     /// Whether task u waits for task t by some chain, or is it.
-    pub fn meets(&self, t: u8, u: u8) -> bool
-        ensures { result ≡ meets (waits_on self.now.mutexes self.now.tasks) t TASK_LIMIT (Some u) }
+    pub fn reaches(&self, t: u8, u: u8) -> bool
+        ensures { result ≡ reaches (waits_on self.now.mutexes self.now.tasks) t TASK_LIMIT (Some u) }
     {
-        self.mutexes.meets(&self.tasks, t, u)
+        self.mutexes.reaches(&self.tasks, t, u)
     }
 
     /// One mutex more.
@@ -100,10 +100,10 @@ impl Parts {
 
     /// A task that waited for a mutex owns it and wakes, with the answer that it kept if it waited for it again; if there
     /// is none, the mutex is free.
-    #[tactic(auto, unfolding(evm_model::specs::Passing::pass_on))]
-    pub fn pass_on(&mut self, m: u8)
+    #[tactic(auto, unfolding(evm_model::specs::Passing::hand_over))]
+    pub fn hand_over(&mut self, m: u8)
         requires room { HasStamps 1 self.old }
-        ensures row { self.new ≡ pass_on m self.old }
+        ensures row { self.new ≡ hand_over m self.old }
         ensures stamps { self.new.stamps ≤ self.old.stamps + 1 }
     {
         match self.first_waiter(Wait::Lock(m)) {
@@ -117,24 +117,24 @@ impl Parts {
     }
 
     // A mutex passes on if the task owns it.
-    fn pass_if(&mut self, t: u8, m: u8)
+    fn hand_over_if(&mut self, t: u8, m: u8)
         requires room { HasStamps 1 self.old }
-        ensures row { self.new ≡ pass_if t m self.old }
+        ensures row { self.new ≡ hand_over_if t m self.old }
         ensures stamps { self.new.stamps ≤ self.old.stamps + 1 }
     {
         if self.mutexes.is_owner(m, t) {
-            self.pass_on(m);
+            self.hand_over(m);
         }
     }
 
     /// The mutexes of a task pass on, by number.
     #[tactic(auto, using(crate::proofs::Passes::passes))]
-    pub fn pass_all(&mut self, t: u8)
+    pub fn hand_over_all(&mut self, t: u8)
         requires room { HasStamps MUTEX_LIMIT self.old }
-        ensures row { self.new ≡ pass_below t (length self.old.mutexes) self.old }
+        ensures row { self.new ≡ hand_over_below t (length self.old.mutexes) self.old }
     {
         'passing: for m in 0..self.mutexes.count() {
-            self.pass_if(t, m);
+            self.hand_over_if(t, m);
         }
     }
 }

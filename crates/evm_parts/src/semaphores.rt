@@ -43,17 +43,17 @@ impl Parts {
         ensures stamps { self.new.stamps ≤ self.old.stamps + 1 }
     {
         let Some(count) = self.semaphores.get(s) else {
-            return Outcome::Answers(Errno::Invalid.answer());
+            return Outcome::Returns(Errno::Invalid.answer());
         };
         match self.first_waiter(Wait::Semaphore(s)) {
             Some(t) => {
                 self.wake(t, 0);
-                Outcome::Answers(0)
+                Outcome::Returns(0)
             }
-            None if count >= SEMAPHORE_COUNT_LIMIT => Outcome::Answers(Errno::Invalid.answer()),
+            None if count >= SEMAPHORE_COUNT_LIMIT => Outcome::Returns(Errno::Invalid.answer()),
             None => {
                 self.put_semaphore(s);
-                Outcome::Answers(0)
+                Outcome::Returns(0)
             }
         }
     }

@@ -64,7 +64,7 @@ impl Parts {
         requires room { HasStamps MUTEX_LIMIT self.old }
         ensures row { self.new ≡ end_task c t state self.old }
     {
-        self.pass_all(t);
+        self.hand_over_all(t);
         self.set_stall(c, Stage::InBand, false);
         self.leave_in_band(c);
         self.set_state(t, state);

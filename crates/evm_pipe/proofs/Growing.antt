@@ -16,7 +16,7 @@ UpTo-more a b n h x = record {
   merged = omega arith;
   received = omega arith;
   oob = PassageUpTo-more a b n.oob h x.oob;
-  inband = PassageUpTo-more a b n.inband h x.inband;
+  in_band = PassageUpTo-more a b n.in_band h x.in_band;
 }
 
 UpTo-receipt : (a : ℕ) (n : Counts) → UpTo a n → UpTo (a + 1) (count_receipt n)
@@ -25,7 +25,7 @@ UpTo-receipt a n x = record {
   merged = omega arith;
   received = omega arith;
   oob = PassageUpTo-more a (a + 1) n.oob (omega arith) x.oob;
-  inband = PassageUpTo-more a (a + 1) n.inband (omega arith) x.inband;
+  in_band = PassageUpTo-more a (a + 1) n.in_band (omega arith) x.in_band;
 }
 
 pub PipeUpTo-leave_wire : (a l : ℕ) (p : Pipe) → PipeUpTo a p → PipeUpTo (a + 1) (leave_wire l p)

@@ -47,7 +47,7 @@ fn count_arrival_at(counts: &mut Counts, stage: Stage, merged: bool)
 {
     match stage {
         Stage::OutOfBand => count_arrival(&mut counts.oob, merged),
-        Stage::InBand => count_arrival(&mut counts.inband, merged),
+        Stage::InBand => count_arrival(&mut counts.in_band, merged),
     }
 }
 
@@ -57,7 +57,7 @@ fn count_play_at(counts: &mut Counts, stage: Stage)
 {
     match stage {
         Stage::OutOfBand => count_play(&mut counts.oob),
-        Stage::InBand => count_play(&mut counts.inband),
+        Stage::InBand => count_play(&mut counts.in_band),
     }
 }
 

@@ -12,7 +12,7 @@ use std::marker::Model;
 #[derive(Debug, Drop)]
 pub struct Pipe {
     oob: StageLog,
-    inband: StageLog,
+    in_band: StageLog,
     wire: LineSet,
     counts: [Counts; LINE_COUNT],
 }
@@ -22,7 +22,7 @@ impl Model for Pipe {
 
     ghost Value = { model.Pipe };
 
-    ghost view = { λ p. record { oob = p.oob; inband = p.inband; wire = p.wire; counts = p.counts } };
+    ghost view = { λ p. record { oob = p.oob; in_band = p.in_band; wire = p.wire; counts = p.counts } };
 }
 
 fn idle_log() -> StageLog
@@ -47,7 +47,7 @@ fn no_counts() -> Counts
         merged: 0,
         received: 0,
         oob: passage,
-        inband: passage,
+        in_band: passage,
     }
 }
 
@@ -58,7 +58,7 @@ impl Pipe {
     {
         Pipe {
             oob: idle_log(),
-            inband: idle_log(),
+            in_band: idle_log(),
             wire: LineSet::new(),
             counts: [no_counts(); LINE_COUNT],
         }
@@ -77,7 +77,7 @@ impl Pipe {
     {
         match stage {
             Stage::OutOfBand => self.oob,
-            Stage::InBand => self.inband,
+            Stage::InBand => self.in_band,
         }
     }
 
@@ -114,8 +114,8 @@ impl Pipe {
                 arrive_in(&mut self.counts, stage, line, merged);
             }
             Stage::InBand => {
-                let merged = self.inband.lines.contains(line);
-                self.inband.lines.insert(line);
+                let merged = self.in_band.lines.contains(line);
+                self.in_band.lines.insert(line);
                 arrive_in(&mut self.counts, stage, line, merged);
             }
         }
@@ -153,7 +153,7 @@ impl Pipe {
         play_in(&mut self.counts, stage, line);
         match stage {
             Stage::OutOfBand => self.oob.lines.remove(line),
-            Stage::InBand => self.inband.lines.remove(line),
+            Stage::InBand => self.in_band.lines.remove(line),
         }
     }
 
@@ -164,7 +164,7 @@ impl Pipe {
     {
         match stage {
             Stage::OutOfBand => self.oob.stalled = stalled,
-            Stage::InBand => self.inband.stalled = stalled,
+            Stage::InBand => self.in_band.stalled = stalled,
         }
     }
 }

@@ -44,10 +44,10 @@ pub record HasHeight (boosts : ℕ → Option ℕ) (limit : ℕ) : Type 0 where
   pub falls : (u t : ℕ) → boosts u ≡ Some t → height t < height u
 
 -- whether t is met on the way from a task, within so many links
-unfoldable pub meets : (ℕ → Option ℕ) → ℕ → ℕ → Option ℕ → Bool
-meets boosts t links None = false
-meets boosts t zero (Some u) = u == t
-meets boosts t (suc links) (Some u) = if u == t then true else meets boosts t links (boosts u)
+unfoldable pub reaches : (ℕ → Option ℕ) → ℕ → ℕ → Option ℕ → Bool
+reaches boosts t links None = false
+reaches boosts t zero (Some u) = u == t
+reaches boosts t (suc links) (Some u) = if u == t then true else reaches boosts t links (boosts u)
 
 -- task t boosts u too, where it boosted none
 abbrev pub with_link : (ℕ → Option ℕ) → ℕ → ℕ → ℕ → Option ℕ

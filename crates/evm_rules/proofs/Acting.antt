@@ -2,7 +2,7 @@
 use Rattle.std.proofs.Common.{◌≡◌, ℕ, ◌<◌, ◌%◌, List, Bool, true, false, Some, None, length, refl, ap, sym, ◌∙◌, arith}
 use Rattle.std.specs.Prelude.{slice_get}
 use Rattle.evm_exec.specs.declared.hart.Hart.{Hart}
-use Rattle.evm_ranks.specs.Boosts.{meets}
+use Rattle.evm_ranks.specs.Boosts.{reaches}
 use Rattle.evm_model.proofs.Lists.{change-elsewhere, length-change}
 use Rattle.evm_model.specs.InBandCalls.{add_task}
 use Rattle.evm_model.specs.Events.{bound}
@@ -41,7 +41,7 @@ but-hart c t f k h g = record { pipes = g.pipes; others = g.others; own = g.own;
 -- ---- the stall bits
 -- in-band is not stalled on c
 pub record IsFree (c : ℕ) (k : Parts) : Type 0 where
-  pub free : (pipe : Pipe) → slice_get k.pipes c ≡ Some pipe → pipe.inband.stalled ≡ false
+  pub free : (pipe : Pipe) → slice_get k.pipes c ≡ Some pipe → pipe.in_band.stalled ≡ false
 
 -- out-of-band is not stalled on c
 pub record IsOpen (c : ℕ) (k : Parts) : Type 0 where
@@ -59,11 +59,11 @@ stalls-oob : (b : Bool) (p : Pipe) → (set_stall InBand b p).oob ≡ p.oob
 unfolding set_stall
 stalls-oob b p = refl
 
-stalls-in_band : (b : Bool) (p : Pipe) → (set_stall InBand b p).inband.stalled ≡ b
+stalls-in_band : (b : Bool) (p : Pipe) → (set_stall InBand b p).in_band.stalled ≡ b
 unfolding set_stall
 stalls-in_band b p = refl
 
-stalls-own : (b : Bool) (p : Pipe) → ((set_stall OutOfBand b p).oob.stalled ≡ b) × ((set_stall OutOfBand b p).inband ≡ p.inband)
+stalls-own : (b : Bool) (p : Pipe) → ((set_stall OutOfBand b p).oob.stalled ≡ b) × ((set_stall OutOfBand b p).in_band ≡ p.in_band)
 unfolding set_stall
 stalls-own b p = (refl, refl)
 
@@ -267,7 +267,7 @@ but-parks c t deadline wait k locks events f o g =
     (λ v p h x w. one-other is_in_ready c t v waiting k.tasks (oob-other c t v k.tasks o w) w) f (own-live c t k.tasks o) g)
 
 -- .. for a lock
-pub but-waits : (c t m u deadline : ℕ) (k : Parts) → owner k.mutexes m ≡ Some u → meets (waits_on k.mutexes k.tasks) t TASK_LIMIT (Some u) ≡ false → IsOpen c k → IsOobOwn c t k.tasks → GoodBut c k
+pub but-waits : (c t m u deadline : ℕ) (k : Parts) → owner k.mutexes m ≡ Some u → reaches (waits_on k.mutexes k.tasks) t TASK_LIMIT (Some u) ≡ false → IsOpen c k → IsOobOwn c t k.tasks → GoodBut c k
     → GoodBut c (begin_wait t (Lock m) deadline k)
 but-waits c t m u deadline k own away f o g =
     let waiting : Task → Task = λ task. record task { state = Waits (Lock m); deadline = deadline } in

@@ -110,7 +110,7 @@ idle-up = record {
     merged = omega arith;
     received = omega arith;
     oob = record { arrivals = omega arith; merged = omega arith; played = omega arith };
-    inband = record { arrivals = omega arith; merged = omega arith; played = omega arith };
+    in_band = record { arrivals = omega arith; merged = omega arith; played = omega arith };
   });
 }
 

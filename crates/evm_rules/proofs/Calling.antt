@@ -23,7 +23,7 @@ use Rattle.evm_model.specs.Tasks.{restamp, leave_in_band, set_policy, clear_poli
 use Rattle.evm_model.specs.declared.call.Call.{Call}
 use Rattle.evm_model.specs.declared.call.Call.TheVariants.{Exit, Putc, Yield, Spawn, Stall, Unstall, WaitLine, Attach, Detach, NewMutex, NewSemaphore, NewEvent, NewFlags, NewTimer, SetLine, SwitchOob, SwitchInBand, SetSched, SetMode, Lock as Lock_call, TryLock, Unlock, SemGet, SemTryGet, SemPut, EventWait, Signal, Broadcast, FlagsWait, FlagsPost, SleepUntil, TimerSet, TimerWait, YieldOob, StallOob, UnstallOob, Clock, StateBits}
 use Rattle.evm_model.specs.declared.call.Outcome.{Outcome}
-use Rattle.evm_model.specs.declared.call.Outcome.TheVariants.{Answers, Waits, Leaves}
+use Rattle.evm_model.specs.declared.call.Outcome.TheVariants.{Returns, Blocks, Exits}
 use Rattle.evm_model.specs.declared.errno.Errno.{Errno}
 use Rattle.evm_model.specs.declared.errno.Errno.TheVariants.{NotPermitted, NoSuchCall}
 use Rattle.evm_model.specs.declared.fault.Fault.{Fault}
@@ -245,10 +245,10 @@ return-but : (c t : ℕ) (k : Parts) → GoodBut c k → IsOwn c t k.tasks → G
 unfolding return_weak
 return-but c t k g o = but-if c (is_weak_oob (slice_get k.tasks t) && not (owns_any t k.mutexes)) _ k (λ e. demote-but c t k g o) (λ e. g)
 
-answer-but : (outcome : Outcome) (c t : ℕ) (k : Parts) → GoodBut c k → ((value : ℕ) → outcome ≡ Answers value → IsOwn c t k.tasks) → GoodBut c (answered outcome c t k)
-answer-but (Answers value) c t k g o = return-but c t (on_hart t (answer value) k) (but-hart c t (answer value) k (λ hart. next-aligned hart.pc) g) (o value refl)
-answer-but Waits c t k g o = but-hart c t advance k (λ hart. next-aligned hart.pc) g
-answer-but Leaves c t k g o = g
+answer-but : (outcome : Outcome) (c t : ℕ) (k : Parts) → GoodBut c k → ((value : ℕ) → outcome ≡ Returns value → IsOwn c t k.tasks) → GoodBut c (answered outcome c t k)
+answer-but (Returns value) c t k g o = return-but c t (on_hart t (answer value) k) (but-hart c t (answer value) k (λ hart. next-aligned hart.pc) g) (o value refl)
+answer-but Blocks c t k g o = but-hart c t advance k (λ hart. next-aligned hart.pc) g
+answer-but Exits c t k g o = g
 
 finish_call-but : (c t : ℕ) (done : Parts × Outcome) → IsDone c t done → GoodBut c (finish_call c t done)
 finish_call-but c t done d = answer-but done.1 c t done.0 d.but d.own

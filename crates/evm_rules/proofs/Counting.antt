@@ -54,7 +54,7 @@ on_play-up b c stage l k u = change-up b (b + 1) c (play stage l) k.pipes (omega
 
 -- ---- a play
 oob_played-up : (timer : Bool) (b l : ℕ) (p : Pipe) → (l == 0) ≡ timer → PipeUpTo b p → PipeUpTo (b + 1) (oob_played_if timer l p)
-oob_played-up true b l p e u = let same : l ≡ 0 = grind (arith, nat_tests) in rw same (counted-up b 0 _ p _ (timer-counted p) (timer-up b (has_line p.inband.lines 0)) u)
+oob_played-up true b l p e u = let same : l ≡ 0 = grind (arith, nat_tests) in rw same (counted-up b 0 _ p _ (timer-counted p) (timer-up b (has_line p.in_band.lines 0)) u)
 oob_played-up false b l p e u = play-up b OutOfBand l p u
 
 pub play_oob-up : (b : ℕ) (was : Option ℕ) (c l : ℕ) (k : Parts) → PipesUpTo b k.pipes → PipesUpTo (b + 2) (play_oob was c l k).pipes

@@ -8,7 +8,7 @@ use Rattle.evm_model.specs.State.{Parts}
 use Rattle.evm_model.specs.Waits.{begin_wait}
 use Rattle.evm_model.specs.declared.action.Action.{Action}
 use Rattle.evm_model.specs.declared.call.Outcome.{Outcome}
-use Rattle.evm_model.specs.declared.call.Outcome.TheVariants.{Answers}
+use Rattle.evm_model.specs.declared.call.Outcome.TheVariants.{Returns}
 use Rattle.evm_model.specs.declared.errno.Errno.{Errno}
 use Rattle.evm_model.specs.declared.stage.Stage.TheVariants.{OutOfBand, InBand}
 use Rattle.evm_model.specs.declared.task.TaskState.TheVariants.{Waits}
@@ -23,7 +23,7 @@ use Rattle.evm_rules.proofs.Waking.{alike-own}
 -- what a call leaves: all good but for settling, and where it is answered the task is the processor's own
 pub record IsDone (c t : ℕ) (done : Parts × Outcome) : Type 0 where
   pub but : GoodBut c done.0
-  pub own : (value : ℕ) → done.1 ≡ Answers value → IsOwn c t done.0.tasks
+  pub own : (value : ℕ) → done.1 ≡ Returns value → IsOwn c t done.0.tasks
 
 pub either : (c t : ℕ) (b : Bool) (x y : Parts × Outcome) → (b ≡ true → IsDone c t x) → (b ≡ false → IsDone c t y) → IsDone c t (if b then x else y)
 either c t true x y p q = p refl

@@ -8,7 +8,7 @@ use Rattle.evm_model.specs.Events.{add_event, new_event, bound, bound_of, has_ot
 use Rattle.evm_model.specs.Good.{IsOwn, is_mutex}
 use Rattle.evm_model.specs.Lists.{change}
 use Rattle.evm_model.specs.Mutexes.{owner, freed, lock_of, lock_of_task, lock_at, owns_any}
-use Rattle.evm_model.specs.Passing.{pass_on}
+use Rattle.evm_model.specs.Passing.{hand_over}
 use Rattle.evm_model.specs.Pipes.{Pipe}
 use Rattle.evm_model.specs.Ranks.{is_oob_ready}
 use Rattle.evm_model.specs.Stages.{is_stalled, wait_refusal}
@@ -26,7 +26,7 @@ use Rattle.evm_model.specs.declared.task.Wait.TheVariants.{Event}
 use Rattle.evm_rules.proofs.Acting.{IsOpen, but-awaits, but-stirs}
 use Rattle.evm_rules.proofs.Done.{IsDone, either, may-wait, not-closed, stirs-done}
 use Rattle.evm_rules.proofs.Firsts.{IsOobOwn, both}
-use Rattle.evm_rules.proofs.Passing.{pass_on-stirs, pass_on-events, pass_on-mutexes, pass_on-owner, owns-none}
+use Rattle.evm_rules.proofs.Passing.{hand_over-stirs, hand_over-events, hand_over-mutexes, hand_over-owner, owns-none}
 use Rattle.evm_rules.proofs.Settling.{GoodBut}
 use Rattle.evm_rules.proofs.Shapes.{IsShaped}
 use Rattle.evm_rules.proofs.Stirring.{Stirs, stirs-none, stirs-then, stirs-events, reacquire-stirs, first-awaits}
@@ -81,15 +81,15 @@ begin-but : (c t e m : ℕ) (x : Option ℕ) (mutex : Mutex) (deadline : ℕ) (k
 unfolding begin_event_wait
 begin-but c t e m x mutex deadline k g w at there alone opened =
     let named : Parts = on_event e (λ old. Some m) k in
-    let passed : Parts = pass_on m named in
+    let passed : Parts = hand_over m named in
     let is : is_mutex (Some m) k.mutexes ≡ true = mutex-there m k.mutexes (slice_get-below k.mutexes m mutex there) in
     let first : Stirs k named = stirs-events k (change (λ (old : Option ℕ). Some m) k.events e) (events-set k.events k.mutexes k.tasks e m is g.shape.events) g.shape in
-    let second : Stirs named passed = pass_on-stirs m named first.shape in
+    let second : Stirs named passed = hand_over-stirs m named first.shape in
     let all : Stirs k passed = stirs-then k named passed first second in
     let idle : lock_at named.tasks t ≡ None = ap lock_of_task w.there ∙ oob-lockless w.task.state w.ready in
-    let free : (n : ℕ) → owner passed.mutexes n ≡ Some t → ⊥ = λ n h. alone-none t m mutex k alone n (pass_on-owner m n t named idle h) in
-    let mine : bound e passed ≡ Some m = ap (λ (events : List (Option ℕ)). bound_of (slice_get events e)) (pass_on-events m named) ∙ named-here e m k x at in
-    let still : is_mutex (bound e passed) passed.mutexes ≡ true = rw mine (named-again (Some m) k.mutexes passed.mutexes (pass_on-mutexes m named) is) in
+    let free : (n : ℕ) → owner passed.mutexes n ≡ Some t → ⊥ = λ n h. alone-none t m mutex k alone n (hand_over-owner m n t named idle h) in
+    let mine : bound e passed ≡ Some m = ap (λ (events : List (Option ℕ)). bound_of (slice_get events e)) (hand_over-events m named) ∙ named-here e m k x at in
+    let still : is_mutex (bound e passed) passed.mutexes ≡ true = rw mine (named-again (Some m) k.mutexes passed.mutexes (hand_over-mutexes m named) is) in
     let open_there : IsOpen c passed = record { open_there = λ pipe h. opened.open_there pipe (ap (λ (pipes : List Pipe). slice_get pipes c) (sym all.pipes) ∙ h) } in
     but-awaits c t e deadline passed still free open_there (alike-oob_own c t k.tasks passed.tasks (all.alike c) w) (but-stirs c k passed all g)
 

@@ -150,17 +150,17 @@ number-good None f k h g = g
 number-good (Some t) f k h g = hart-good t f k h g
 
 -- ---- a line is received
-receive-bits : (l : ℕ) (stage : Stage) (p : Pipe) → ((arrive stage l (leave_wire l p)).oob.stalled ≡ p.oob.stalled) × ((arrive stage l (leave_wire l p)).inband.stalled ≡ p.inband.stalled)
+receive-bits : (l : ℕ) (stage : Stage) (p : Pipe) → ((arrive stage l (leave_wire l p)).oob.stalled ≡ p.oob.stalled) × ((arrive stage l (leave_wire l p)).in_band.stalled ≡ p.in_band.stalled)
 unfolding arrive leave_wire
 receive-bits l OutOfBand p = (refl, refl)
 receive-bits l InBand p = (refl, refl)
 
-received-bits : (stage : Stage) (l : ℕ) (p : Pipe) → ((receive stage l p).oob.stalled ≡ p.oob.stalled) × ((receive stage l p).inband.stalled ≡ p.inband.stalled)
+received-bits : (stage : Stage) (l : ℕ) (p : Pipe) → ((receive stage l p).oob.stalled ≡ p.oob.stalled) × ((receive stage l p).in_band.stalled ≡ p.in_band.stalled)
 unfolding receive
 received-bits stage l p = receive-bits l stage p
 
 -- the acting processor's pipe changed, but not its stall bits
-pub pipe-but : (c : ℕ) (f : Pipe → Pipe) (k : Parts) → ((p : Pipe) → ((f p).oob.stalled ≡ p.oob.stalled) × ((f p).inband.stalled ≡ p.inband.stalled)) → ((p : Pipe) → IsPipe p → IsPipe (f p)) → GoodBut c k → GoodBut c (on_pipe c f k)
+pub pipe-but : (c : ℕ) (f : Pipe → Pipe) (k : Parts) → ((p : Pipe) → ((f p).oob.stalled ≡ p.oob.stalled) × ((f p).in_band.stalled ≡ p.in_band.stalled)) → ((p : Pipe) → IsPipe p → IsPipe (f p)) → GoodBut c k → GoodBut c (on_pipe c f k)
 pipe-but c f k b w g = record {
   pipes = are-change c f k w g.pipes;
   others = λ d pipe p n e h. g.others d pipe p n (sym (change-elsewhere f k.pipes c d n) ∙ e) h;

@@ -2,12 +2,12 @@
 use Rattle.std.proofs.Common.{◌≡◌, ℕ, ◌+◌, ◌-◌, ◌<◌, [], ◌∷◌, ◌++◌, Bool, true, false, Option, Some, None, length, refl, ap, sym, ◌∙◌, arith}
 use Rattle.std.specs.Prelude.{slice_get, nat_lt, nat_le, ◌==◌, if◌then◌else◌}
 use Rattle.std.proofs.lemmas.Bool.Decides.{nat_tests}
-use Rattle.evm_ranks.specs.Boosts.{is_number, meets}
+use Rattle.evm_ranks.specs.Boosts.{is_number, reaches}
 use Rattle.evm_model.proofs.Lists.{slice_get-below}
 use Rattle.evm_model.specs.Good.{IsOwn, event_of, event_of_task, event_at, is_ready}
 use Rattle.evm_model.specs.Locks.{with_ceiling, mutex_of, add_mutex, new_mutex_as, new_mutex, take_mutex, lock_again, cycle_refusal, lock_other, lock_owned, lock_known, lock, try_owned, try_known, try_lock, unlock_once, unlock_known, unlock}
 use Rattle.evm_model.specs.Mutexes.{owner, owner_of, free_mutex, held_by, lock_of, lock_of_task, lock_at, waits_on}
-use Rattle.evm_model.specs.Passing.{pass_on}
+use Rattle.evm_model.specs.Passing.{hand_over}
 use Rattle.evm_model.specs.Stages.{is_stalled, wait_refusal}
 use Rattle.evm_model.specs.State.{Parts, on_mutex}
 use Rattle.evm_model.specs.declared.errno.Errno.TheVariants.{Deadlock, NotPermitted}
@@ -25,7 +25,7 @@ use Rattle.evm_rules.proofs.Acting.{but-waits}
 use Rattle.evm_rules.proofs.Firsts.{IsOobOwn}
 use Rattle.evm_rules.proofs.Locks.{locks-push}
 use Rattle.evm_rules.proofs.Notices.{noted-done}
-use Rattle.evm_rules.proofs.Passing.{but-mutexes, but-owned, pass_on-stirs}
+use Rattle.evm_rules.proofs.Passing.{but-mutexes, but-owned, hand_over-stirs}
 use Rattle.evm_rules.proofs.Settling.{GoodBut}
 use Rattle.evm_rules.proofs.Waited.{events-push}
 use Rattle.evm_rules.proofs.Done.{IsDone, either, may-wait, not-closed, stirs-done, unless-done}
@@ -119,7 +119,7 @@ module _ (c t : ℕ) (k : Parts) (g : GoodBut c k) (o : IsOwn c t k.tasks) where
   other-done m u deadline own w =
       unless-done c t k g o (wait_refusal (is_stalled OutOfBand c k) (cycle_refusal t u k) k.ticks deadline) (Lock m) deadline (λ e.
       let free = may-wait (is_stalled OutOfBand c k) (cycle_refusal t u k) k.ticks deadline e in
-      but-waits c t m u deadline k own (no-cycle (meets (waits_on k.mutexes k.tasks) t TASK_LIMIT (Some u)) free.1) (not-closed c k free.0) w g)
+      but-waits c t m u deadline k own (no-cycle (reaches (waits_on k.mutexes k.tasks) t TASK_LIMIT (Some u)) free.1) (not-closed c k free.0) w g)
 
   owned-done : (x : Option ℕ) (m deadline : ℕ) (mutex : Mutex) → owner k.mutexes m ≡ x → IsOobOwn c t k.tasks → IsDone c t (lock_owned x c t m deadline mutex k)
   owned-done None m deadline mutex own w = take-done m _
@@ -145,8 +145,8 @@ module _ (c t : ℕ) (k : Parts) (g : GoodBut c k) (o : IsOwn c t k.tasks) where
   unfolding try_lock
   try_lock-done m = noted-done c t Deadlock Unending (try_known (slice_get k.mutexes m) t m k) (try_known-done (slice_get k.mutexes m) m)
 
-  passes-done : (m : ℕ) (outcome : Outcome) → IsDone c t (pass_on m k, outcome)
-  passes-done m outcome = stirs-done c t k (pass_on m k) outcome (pass_on-stirs m k g.shape) g o
+  passes-done : (m : ℕ) (outcome : Outcome) → IsDone c t (hand_over m k, outcome)
+  passes-done m outcome = stirs-done c t k (hand_over m k) outcome (hand_over-stirs m k g.shape) g o
 
   unlock_once-done : (m : ℕ) (mutex : Mutex) (outcome : Outcome) → IsDone c t (unlock_once t m mutex k, outcome)
   unfolding unlock_once

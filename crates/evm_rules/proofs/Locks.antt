@@ -3,7 +3,7 @@ use Rattle.std.proofs.Common.{◌≡◌, ℕ, zero, suc, ◌+◌, ◌<◌, ◌�
 use Rattle.std.specs.Prelude.{slice_get, option_map, ◌==◌, if◌then◌else◌}
 use Rattle.std.proofs.lemmas.Bool.{cases_eq}
 use Rattle.std.proofs.lemmas.Bool.Decides.{eqb_tells}
-use Rattle.evm_ranks.specs.Boosts.{HasHeight, Falls, meets, with_link}
+use Rattle.evm_ranks.specs.Boosts.{HasHeight, Falls, reaches, with_link}
 use Rattle.evm_ranks.proofs.Heights.{falls-low}
 use Rattle.evm_ranks.proofs.Links.{link-keeps, fewer-keeps}
 use Rattle.evm_model.proofs.Lists.{change-here, change-elsewhere, length-change, slice_get-push, slice_get-before}
@@ -91,7 +91,7 @@ wait-link mutexes tasks t m u x y f h own e =
     ]
 
 pub locks-wait : (mutexes : List Mutex) (tasks : List Task) (t m u : ℕ) (f : Task → Task) → ((x : Task) → lock_of (f x).state ≡ Some m) → length tasks ≤ TASK_LIMIT → owner mutexes m ≡ Some u
-    → meets (waits_on mutexes tasks) t TASK_LIMIT (Some u) ≡ false → AreLocks mutexes tasks → AreLocks mutexes (change f tasks t)
+    → reaches (waits_on mutexes tasks) t TASK_LIMIT (Some u) ≡ false → AreLocks mutexes tasks → AreLocks mutexes (change f tasks t)
 locks-wait mutexes tasks t m u f h few own away l =
     let size : length (change f tasks t) ≡ length tasks = length-change f tasks t in
     let there : (n w : ℕ) → owner mutexes n ≡ Some w → w < length (change f tasks t) = λ n w e. rw size (l.owners n w e) in
@@ -110,14 +110,14 @@ locks-wait mutexes tasks t m u f h few own away l =
     }
 
 -- a task that owns no mutex is on no way
-free-meets : (boosts : ℕ → Option ℕ) (t links : ℕ) (o : Option ℕ) → ((u : ℕ) → boosts u ≡ Some t → ⊥) → (o ≡ Some t → ⊥) → meets boosts t links o ≡ false
-unfolding meets
-free-meets boosts t zero None none other = refl
-free-meets boosts t (suc links) None none other = refl
-free-meets boosts t zero (Some u) none other = elim (eqb_tells u t) [ inl g ↦ absurd (other (ap (λ (x : ℕ). Some x) g.1)) | inr g ↦ g.0 ]
-free-meets boosts t (suc links) (Some u) none other = elim (eqb_tells u t) [
+free-reaches : (boosts : ℕ → Option ℕ) (t links : ℕ) (o : Option ℕ) → ((u : ℕ) → boosts u ≡ Some t → ⊥) → (o ≡ Some t → ⊥) → reaches boosts t links o ≡ false
+unfolding reaches
+free-reaches boosts t zero None none other = refl
+free-reaches boosts t (suc links) None none other = refl
+free-reaches boosts t zero (Some u) none other = elim (eqb_tells u t) [ inl g ↦ absurd (other (ap (λ (x : ℕ). Some x) g.1)) | inr g ↦ g.0 ]
+free-reaches boosts t (suc links) (Some u) none other = elim (eqb_tells u t) [
   | inl g ↦ absurd (other (ap (λ (x : ℕ). Some x) g.1))
-  | inr g ↦ rw g.0 (free-meets boosts t links (boosts u) none (none u))
+  | inr g ↦ rw g.0 (free-reaches boosts t links (boosts u) none (none u))
 ]
 
 -- so it may wait for any that another task owns
@@ -125,7 +125,7 @@ pub locks-retake : (mutexes : List Mutex) (tasks : List Task) (t m u : ℕ) (f :
     → ((n : ℕ) → owner mutexes n ≡ Some t → ⊥) → AreLocks mutexes tasks → AreLocks mutexes (change f tasks t)
 locks-retake mutexes tasks t m u f h few own free l =
     let leads : (x : ℕ) → waits_on mutexes tasks x ≡ Some t → ⊥ = λ x e. let on = on-lock mutexes tasks x t e in free on.0 on.2 in
-    locks-wait mutexes tasks t m u f h few own (free-meets (waits_on mutexes tasks) t TASK_LIMIT (Some u) leads (λ same. free m (own ∙ same))) l
+    locks-wait mutexes tasks t m u f h few own (free-reaches (waits_on mutexes tasks) t TASK_LIMIT (Some u) leads (λ same. free m (own ∙ same))) l
 
 -- ---- mutex m has another owner
 pub option-owner : (g : Mutex → Mutex) (o : Option Mutex) (w t : ℕ) → ((x : Mutex) → (g x).owner ≡ Some w) → owner_of (option_map g o) ≡ Some t → t ≡ w

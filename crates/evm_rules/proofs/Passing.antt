@@ -8,7 +8,7 @@ use Rattle.evm_model.proofs.Lists.{change-here, change-elsewhere, length-change,
 use Rattle.evm_model.specs.Good.{IsOwn, AreLocks, AreEvents, event_of, event_at, is_ready}
 use Rattle.evm_model.specs.Lists.{change}
 use Rattle.evm_model.specs.Mutexes.{owner, owner_of, held_by, freed, lock_of, lock_of_task, lock_at, owns_below, owns_any}
-use Rattle.evm_model.specs.Passing.{pass_to, pass_on, pass_below, end_task}
+use Rattle.evm_model.specs.Passing.{hand_over_to, hand_over, hand_over_below, end_task}
 use Rattle.evm_model.specs.Pipes.{Pipe, set_stall}
 use Rattle.evm_model.specs.Ranks.{rank, stamp}
 use Rattle.evm_model.specs.State.{Parts, on_mutex, on_pipe}
@@ -79,43 +79,43 @@ first-locked m t k e =
     (found.0, for-waits m (slice_get k.tasks t) found.1)
 
 -- ---- a mutex passes on: the task that wakes waited for it
-pass_to-stirs : (m : ℕ) (o : Option ℕ) (k : Parts) → first_waiter (Lock m) k ≡ o → IsShaped k → Stirs k (pass_to o m k)
-pass_to-stirs m None k e s = stirs-freed m k (none-waits m k e) s
-pass_to-stirs m (Some t) k e s = let found = first-locked m t k e in given-stirs t m (kept_of (slice_get k.tasks t)) k found.0 (waiter-idle k.tasks t m found.1) s
+hand_over_to-stirs : (m : ℕ) (o : Option ℕ) (k : Parts) → first_waiter (Lock m) k ≡ o → IsShaped k → Stirs k (hand_over_to o m k)
+hand_over_to-stirs m None k e s = stirs-freed m k (none-waits m k e) s
+hand_over_to-stirs m (Some t) k e s = let found = first-locked m t k e in given-stirs t m (kept_of (slice_get k.tasks t)) k found.0 (waiter-idle k.tasks t m found.1) s
 
-pub pass_on-stirs : (m : ℕ) (k : Parts) → IsShaped k → Stirs k (pass_on m k)
-unfolding pass_on
-pass_on-stirs m k s = pass_to-stirs m (first_waiter (Lock m) k) k refl s
+pub hand_over-stirs : (m : ℕ) (k : Parts) → IsShaped k → Stirs k (hand_over m k)
+unfolding hand_over
+hand_over-stirs m k s = hand_over_to-stirs m (first_waiter (Lock m) k) k refl s
 
-pub pass_below-stirs : (t m : ℕ) (k : Parts) → IsShaped k → Stirs k (pass_below t m k)
-unfolding pass_below
-pass_below-stirs t zero k s = stirs-none k s
-pass_below-stirs t (suc m) k s =
-    let before : Parts = pass_below t m k in
-    let so_far : Stirs k before = pass_below-stirs t m k s in
-    stirs-then k before _ so_far (stirs-if (is_number (owner before.mutexes m) t) before (pass_on m before) before (λ e. pass_on-stirs m before so_far.shape) (λ e. stirs-none before so_far.shape))
+pub hand_over_below-stirs : (t m : ℕ) (k : Parts) → IsShaped k → Stirs k (hand_over_below t m k)
+unfolding hand_over_below
+hand_over_below-stirs t zero k s = stirs-none k s
+hand_over_below-stirs t (suc m) k s =
+    let before : Parts = hand_over_below t m k in
+    let so_far : Stirs k before = hand_over_below-stirs t m k s in
+    stirs-then k before _ so_far (stirs-if (is_number (owner before.mutexes m) t) before (hand_over m before) before (λ e. hand_over-stirs m before so_far.shape) (λ e. stirs-none before so_far.shape))
 
 -- ---- what a mutex that passes on leaves
-to-events : (o : Option ℕ) (m : ℕ) (k : Parts) → (pass_to o m k).events ≡ k.events
+to-events : (o : Option ℕ) (m : ℕ) (k : Parts) → (hand_over_to o m k).events ≡ k.events
 unfolding wake restamp
 to-events None m k = refl
 to-events (Some t) m k = refl
 
-to-mutexes : (o : Option ℕ) (m : ℕ) (k : Parts) → length (pass_to o m k).mutexes ≡ length k.mutexes
+to-mutexes : (o : Option ℕ) (m : ℕ) (k : Parts) → length (hand_over_to o m k).mutexes ≡ length k.mutexes
 unfolding wake restamp
 to-mutexes None m k = length-change (λ (mutex : Mutex). freed mutex) k.mutexes m
 to-mutexes (Some t) m k = length-change (held_by t 1) k.mutexes m
 
-pub pass_on-events : (m : ℕ) (k : Parts) → (pass_on m k).events ≡ k.events
-unfolding pass_on
-pass_on-events m k = to-events (first_waiter (Lock m) k) m k
+pub hand_over-events : (m : ℕ) (k : Parts) → (hand_over m k).events ≡ k.events
+unfolding hand_over
+hand_over-events m k = to-events (first_waiter (Lock m) k) m k
 
-pub pass_on-mutexes : (m : ℕ) (k : Parts) → length (pass_on m k).mutexes ≡ length k.mutexes
-unfolding pass_on
-pass_on-mutexes m k = to-mutexes (first_waiter (Lock m) k) m k
+pub hand_over-mutexes : (m : ℕ) (k : Parts) → length (hand_over m k).mutexes ≡ length k.mutexes
+unfolding hand_over
+hand_over-mutexes m k = to-mutexes (first_waiter (Lock m) k) m k
 
 -- the owner of none but this mutex owns none after it
-to-owner : (o : Option ℕ) (m n t : ℕ) (k : Parts) → (o ≡ Some t → ⊥) → owner (pass_to o m k).mutexes n ≡ Some t → owner (change (λ mutex. freed mutex) k.mutexes m) n ≡ Some t
+to-owner : (o : Option ℕ) (m n t : ℕ) (k : Parts) → (o ≡ Some t → ⊥) → owner (hand_over_to o m k).mutexes n ≡ Some t → owner (change (λ mutex. freed mutex) k.mutexes m) n ≡ Some t
 unfolding wake restamp
 to-owner None m n t k other e = e
 to-owner (Some u) m n t k other e = elim (cases_eq n m) [
@@ -126,9 +126,9 @@ to-owner (Some u) m n t k other e = elim (cases_eq n m) [
   | inr apart ↦ ap owner_of (change-elsewhere (λ (mutex : Mutex). freed mutex) k.mutexes m n apart) ∙ ap owner_of (sym (change-elsewhere (held_by u 1) k.mutexes m n apart)) ∙ e
 ]
 
-pub pass_on-owner : (m n t : ℕ) (k : Parts) → lock_at k.tasks t ≡ None → owner (pass_on m k).mutexes n ≡ Some t → owner (change (λ mutex. freed mutex) k.mutexes m) n ≡ Some t
-unfolding pass_on
-pass_on-owner m n t k idle e =
+pub hand_over-owner : (m n t : ℕ) (k : Parts) → lock_at k.tasks t ≡ None → owner (hand_over m k).mutexes n ≡ Some t → owner (change (λ mutex. freed mutex) k.mutexes m) n ≡ Some t
+unfolding hand_over
+hand_over-owner m n t k idle e =
     to-owner (first_waiter (Lock m) k) m n t k (λ h. let no : None ≡ Some m = sym idle ∙ (first-locked m t k h).1 in cc) e
 
 -- a task that owns none
@@ -160,8 +160,8 @@ owns-none t mutexes e m h =
 pub end-but : (c t : ℕ) (state : TaskState) (k : Parts) → lock_of state ≡ None → event_of state ≡ None → IsOpen c k → GoodBut c k → IsOwn c t k.tasks → GoodBut c (end_task c t state k)
 unfolding end_task set_state leave_in_band
 end-but c t state k lock event f g o =
-    let passed : Parts = pass_below t (length k.mutexes) k in
-    let p : Stirs k passed = pass_below-stirs t (length k.mutexes) k g.shape in
+    let passed : Parts = hand_over_below t (length k.mutexes) k in
+    let p : Stirs k passed = hand_over_below-stirs t (length k.mutexes) k g.shape in
     let opened : IsOpen c passed = record { open_there = λ pipe e. f.open_there pipe (ap (λ (pipes : List Pipe). slice_get pipes c) (sym p.pipes) ∙ e) } in
     let own : IsOwn c t passed.tasks = alike-own c t k.tasks passed.tasks (p.alike c) o in
     let free : Parts = on_pipe c (set_stall InBand false) passed in

@@ -68,35 +68,35 @@ play_in_band_lines-pipes c (l ∷ ls) k =
 -- ---- playing leaves the stall bits
 pub record HasSameStalls (p q : Pipe) : Type 0 where
   pub oob : q.oob.stalled ≡ p.oob.stalled
-  pub inband : q.inband.stalled ≡ p.inband.stalled
+  pub in_band : q.in_band.stalled ≡ p.in_band.stalled
 
 pub same_stalls-then : (p q r : Pipe) → HasSameStalls p q → HasSameStalls q r → HasSameStalls p r
-same_stalls-then p q r a b = record { oob = b.oob ∙ a.oob; inband = b.inband ∙ a.inband }
+same_stalls-then p q r a b = record { oob = b.oob ∙ a.oob; in_band = b.in_band ∙ a.in_band }
 
 hand_on-stalls : (first : Bool) (p : Pipe) → HasSameStalls p (if first then arrive InBand 0 p else p)
 unfolding arrive
-hand_on-stalls true p = record { oob = refl; inband = refl }
-hand_on-stalls false p = record { oob = refl; inband = refl }
+hand_on-stalls true p = record { oob = refl; in_band = refl }
+hand_on-stalls false p = record { oob = refl; in_band = refl }
 
 play_oob-stalls : (l : ℕ) (p : Pipe) → HasSameStalls p (play OutOfBand l p)
 unfolding play
-play_oob-stalls l p = record { oob = refl; inband = refl }
+play_oob-stalls l p = record { oob = refl; in_band = refl }
 
 play_in_band-stalls : (l : ℕ) (p : Pipe) → HasSameStalls p (play InBand l p)
 unfolding play
-play_in_band-stalls l p = record { oob = refl; inband = refl }
+play_in_band-stalls l p = record { oob = refl; in_band = refl }
 
 handed : (l : ℕ) (p : Pipe) → HasSameStalls p (hand_on l (play OutOfBand l p))
 handed l p = same_stalls-then p (play OutOfBand l p) _ (play_oob-stalls l p) (hand_on-stalls (l == 0) (play OutOfBand l p))
 
 pub plays_oob-stalls : (lines : List ℕ) (p : Pipe) → HasSameStalls p (plays_oob lines p)
 unfolding plays_oob
-plays_oob-stalls [] p = record { oob = refl; inband = refl }
+plays_oob-stalls [] p = record { oob = refl; in_band = refl }
 plays_oob-stalls (l ∷ ls) p = same_stalls-then p (hand_on l (play OutOfBand l p)) _ (handed l p) (plays_oob-stalls ls (hand_on l (play OutOfBand l p)))
 
 pub plays_in_band-stalls : (lines : List ℕ) (p : Pipe) → HasSameStalls p (plays_in_band lines p)
 unfolding plays_in_band
-plays_in_band-stalls [] p = record { oob = refl; inband = refl }
+plays_in_band-stalls [] p = record { oob = refl; in_band = refl }
 plays_in_band-stalls (l ∷ ls) p = same_stalls-then p (play InBand l p) _ (play_in_band-stalls l p) (plays_in_band-stalls ls (play InBand l p))
 
 -- ---- a log that was played is empty
@@ -113,9 +113,9 @@ played-oob : (l : ℕ) (ls : List ℕ) (p : Pipe) → IsPipe p → p.oob.lines �
 unfolding play
 played-oob l ls p h e = ap (λ set. without_line set l) e ∙ without_line-least l ls (rw (← e) h.oob)
 
-played-in_band : (l : ℕ) (ls : List ℕ) (p : Pipe) → IsPipe p → p.inband.lines ≡ l ∷ ls → (play InBand l p).inband.lines ≡ ls
+played-in_band : (l : ℕ) (ls : List ℕ) (p : Pipe) → IsPipe p → p.in_band.lines ≡ l ∷ ls → (play InBand l p).in_band.lines ≡ ls
 unfolding play
-played-in_band l ls p h e = ap (λ set. without_line set l) e ∙ without_line-least l ls (rw (← e) h.inband)
+played-in_band l ls p h e = ap (λ set. without_line set l) e ∙ without_line-least l ls (rw (← e) h.in_band)
 
 pub plays_oob-empty : (lines : List ℕ) (p : Pipe) → IsPipe p → p.oob.lines ≡ lines → (plays_oob lines p).oob.lines ≡ []
 unfolding plays_oob
@@ -124,7 +124,7 @@ plays_oob-empty (l ∷ ls) p h e =
     plays_oob-empty ls (hand_on l (play OutOfBand l p)) (hand_on-pipe (l == 0) (play OutOfBand l p) (IsPipe-play OutOfBand l p h))
     (ap (λ log. log.lines) (hand_on-oob (l == 0) (play OutOfBand l p)) ∙ played-oob l ls p h e)
 
-pub plays_in_band-empty : (lines : List ℕ) (p : Pipe) → IsPipe p → p.inband.lines ≡ lines → (plays_in_band lines p).inband.lines ≡ []
+pub plays_in_band-empty : (lines : List ℕ) (p : Pipe) → IsPipe p → p.in_band.lines ≡ lines → (plays_in_band lines p).in_band.lines ≡ []
 unfolding plays_in_band
 plays_in_band-empty [] p h e = e
 plays_in_band-empty (l ∷ ls) p h e = plays_in_band-empty ls (play InBand l p) (IsPipe-play InBand l p h) (played-in_band l ls p h e)

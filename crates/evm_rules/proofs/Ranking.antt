@@ -5,7 +5,7 @@ use Rattle.std.proofs.lemmas.Bool.{cases_eq}
 use Rattle.evm_ranks.specs.Boosts.{greater, is_number, greatest, rank_after}
 use Rattle.evm_model.proofs.Lists.{change-here, change-elsewhere, length-change}
 use Rattle.evm_model.specs.Lists.{change}
-use Rattle.evm_model.specs.Mutexes.{lock_of_task, lock_at, heir_for, boosts, raised, ceiling}
+use Rattle.evm_model.specs.Mutexes.{lock_of_task, lock_at, heir_for, boosts, ceiling_owner, ceiling}
 use Rattle.evm_model.specs.Ranks.{class_rank_of, own_rank, rank}
 use Rattle.evm_model.specs.State.{Parts}
 use Rattle.evm_model.specs.declared.limits.TheConstants.{TASK_LIMIT}
@@ -51,7 +51,7 @@ ranked-then x y z p q = record {
 
 own-alike : (mutexes : List Mutex) (tasks new : List Task) (u : ℕ) → class_rank_of (slice_get new u) ≡ class_rank_of (slice_get tasks u) → own_rank mutexes new u ≡ own_rank mutexes tasks u
 unfolding own_rank
-own-alike mutexes tasks new u e = first-alike (raised mutexes) (ceiling mutexes) u _ _ (length mutexes) e
+own-alike mutexes tasks new u e = first-alike (ceiling_owner mutexes) (ceiling mutexes) u _ _ (length mutexes) e
 
 rank-tasks : (mutexes : List Mutex) (tasks new : List Task) → length new ≡ length tasks → ((u : ℕ) → lock_at new u ≡ lock_at tasks u) → ((u : ℕ) → class_rank_of (slice_get new u) ≡ class_rank_of (slice_get tasks u))
     → (t : ℕ) → rank mutexes new t ≡ rank mutexes tasks t

@@ -69,9 +69,9 @@ pub record IsCalm (c : ℕ) (pipe : Pipe) (p : Processor) (tasks : List Task) : 
   pub in_band_own : (t : ℕ) → p.in_band_task ≡ Some t → IsOneOf is_in_ready c t tasks
   pub runs_in_band : is_oob p.current tasks ≡ false → p.current ≡ p.in_band_task
   pub oob_played : pipe.oob.stalled ≡ false → pipe.oob.lines ≡ []
-  pub in_band_played : pipe.inband.stalled ≡ false → is_oob p.current tasks ≡ false → pipe.inband.lines ≡ []
+  pub in_band_played : pipe.in_band.stalled ≡ false → is_oob p.current tasks ≡ false → pipe.in_band.lines ≡ []
   pub oob_staller : pipe.oob.stalled ≡ true → is_oob p.current tasks ≡ true
-  pub in_band_staller : pipe.inband.stalled ≡ true → p.in_band_task ≡ None → ⊥
+  pub in_band_staller : pipe.in_band.stalled ≡ true → p.in_band_task ≡ None → ⊥
 
 -- it runs an out-of-band task of its own
 pub record IsHeld (c : ℕ) (p : Processor) (tasks : List Task) : Type 0 where
@@ -83,7 +83,7 @@ pub record IsHeld (c : ℕ) (p : Processor) (tasks : List Task) : Type 0 where
 pub record IsActing (c : ℕ) (pipe : Pipe) (p : Processor) (tasks : List Task) : Type 0 where
   pub in_band_own : (t : ℕ) → p.in_band_task ≡ Some t → IsOneOf is_in_ready c t tasks
   pub held : pipe.oob.stalled ≡ true → IsHeld c p tasks
-  pub in_band_staller : pipe.inband.stalled ≡ true → p.in_band_task ≡ None → ⊥
+  pub in_band_staller : pipe.in_band.stalled ≡ true → p.in_band_task ≡ None → ⊥
 
 pub record GoodBut (c : ℕ) (k : Parts) : Type 0 where
   pub pipes : ArePipes k.pipes
@@ -143,7 +143,7 @@ record IsOobSettled (c : ℕ) (pipe : Pipe) (p : Processor) (mutexes : List Mute
   in_band_own : (t : ℕ) → p.in_band_task ≡ Some t → IsOneOf is_in_ready c t tasks
   oob_lines : pipe.oob.stalled ≡ false → pipe.oob.lines ≡ []
   oob_staller : pipe.oob.stalled ≡ true → is_oob p.current tasks ≡ true
-  in_band_staller : pipe.inband.stalled ≡ true → p.in_band_task ≡ None → ⊥
+  in_band_staller : pipe.in_band.stalled ≡ true → p.in_band_task ≡ None → ⊥
   runs : pipe.oob.stalled ≡ false → p.current ≡ best c mutexes tasks
   whole : IsPipe pipe
 
@@ -187,7 +187,7 @@ oob_settled-if was c k pipe false s e g q p f h =
       in_band_own = λ t m. alike-in_band c t k.tasks x.tasks (r.alike c) (a.in_band_own t m);
       oob_lines = λ u. plays_oob-empty ls pipe whole refl;
       oob_staller = λ u. let no : true ≡ false = sym u ∙ same.oob ∙ s in cc;
-      in_band_staller = λ u. a.in_band_staller (sym same.inband ∙ u);
+      in_band_staller = λ u. a.in_band_staller (sym same.in_band ∙ u);
       runs = λ u. refl;
       whole = plays_oob-pipe ls pipe whole;
     })
@@ -232,21 +232,21 @@ up-none : (held next : Option ℕ) → take_up held next ≡ None → held ≡ N
 up-none None next e = refl
 up-none (Some u) next e = cc
 
-in_band_pipe-if : (c : ℕ) (k : Parts) (pipe : Pipe) (b : Bool) → pipe.inband.stalled ≡ b → slice_get k.pipes c ≡ Some pipe → IsPipe pipe → (q : Pipe)
-    → slice_get (if b then k else play_in_band_lines c pipe.inband.lines k).pipes c ≡ Some q → HasSameStalls pipe q × (q.oob ≡ pipe.oob) × (q.inband.stalled ≡ false → q.inband.lines ≡ [])
-in_band_pipe-if c k pipe true s e w q f = let it : pipe ≡ q = cc in rw (← it) (record { oob = refl; inband = refl }, refl, λ u. let no : true ≡ false = sym s ∙ u in cc)
+in_band_pipe-if : (c : ℕ) (k : Parts) (pipe : Pipe) (b : Bool) → pipe.in_band.stalled ≡ b → slice_get k.pipes c ≡ Some pipe → IsPipe pipe → (q : Pipe)
+    → slice_get (if b then k else play_in_band_lines c pipe.in_band.lines k).pipes c ≡ Some q → HasSameStalls pipe q × (q.oob ≡ pipe.oob) × (q.in_band.stalled ≡ false → q.in_band.lines ≡ [])
+in_band_pipe-if c k pipe true s e w q f = let it : pipe ≡ q = cc in rw (← it) (record { oob = refl; in_band = refl }, refl, λ u. let no : true ≡ false = sym s ∙ u in cc)
 in_band_pipe-if c k pipe false s e w q f =
-    let ls : List ℕ = pipe.inband.lines in
+    let ls : List ℕ = pipe.in_band.lines in
     let there : slice_get (change (plays_in_band ls) k.pipes c) c ≡ Some q = ap (λ (pipes : List Pipe). slice_get pipes c) (sym (play_in_band_lines-pipes c ls k)) ∙ f in
     let it : plays_in_band ls pipe ≡ q = changed-is (plays_in_band ls) k.pipes c pipe q e there in
     rw (← it) (plays_in_band-stalls ls pipe, plays_in_band-oob ls pipe, λ u. plays_in_band-empty ls pipe w refl)
 
 rouses-pipe : (c : ℕ) (o : Option Pipe) (k : Parts) → Rouses c k (play_in_band_pipe o c k)
 rouses-pipe c None k = rouses-none c k
-rouses-pipe c (Some pipe) k = rouses-if c pipe.inband.stalled k k (play_in_band_lines c pipe.inband.lines k) (λ e. rouses-none c k) (λ e. rouses-lines c pipe.inband.lines k)
+rouses-pipe c (Some pipe) k = rouses-if c pipe.in_band.stalled k k (play_in_band_lines c pipe.in_band.lines k) (λ e. rouses-none c k) (λ e. rouses-lines c pipe.in_band.lines k)
 
 settled-turn : (c : ℕ) (k x : Parts) (pipe q : Pipe) (p : Processor) → Rouses c k x
-    → HasSameStalls pipe q × (q.oob ≡ pipe.oob) × (q.inband.stalled ≡ false → q.inband.lines ≡ [])
+    → HasSameStalls pipe q × (q.oob ≡ pipe.oob) × (q.in_band.stalled ≡ false → q.in_band.lines ≡ [])
     → ((p : Processor) → slice_get k.processors c ≡ Some p → IsOobSettled c pipe p k.mutexes k.tasks)
     → ((p : Processor) → slice_get k.processors c ≡ Some p → is_oob p.current k.tasks ≡ false)
     → slice_get (run_in_band c x).processors c ≡ Some p → IsSettled c q p x.mutexes x.tasks
@@ -265,7 +265,7 @@ settled-turn c k x pipe q p r same s n h =
       oob_played = λ u. ap (λ log. log.lines) same.1 ∙ z.oob_lines free;
       in_band_played = λ u m. same.2 u;
       oob_staller = λ u. let no : true ≡ false = sym u ∙ still in cc;
-      in_band_staller = λ u m. z.in_band_staller (sym same.0.inband ∙ u) (up-none from.0.in_band_task (next_in_band c x.tasks) m);
+      in_band_staller = λ u m. z.in_band_staller (sym same.0.in_band ∙ u) (up-none from.0.in_band_task (next_in_band c x.tasks) m);
     })
 
 -- ---- what settling in-band makes, of a processor that has settled out-of-band
@@ -281,7 +281,7 @@ turned-pipe : (c : ℕ) (k : Parts) (o : Option Pipe) → slice_get k.pipes c �
 turned-pipe c k None e s n w q p f h = cc
 turned-pipe c k (Some pipe) e s n w q p f h =
     settled-turn c k (play_in_band_pipe (Some pipe) c k) pipe q p (rouses-pipe c (Some pipe) k)
-    (in_band_pipe-if c k pipe pipe.inband.stalled refl e (w pipe e) q f) (λ p g. s pipe p e g) n h
+    (in_band_pipe-if c k pipe pipe.in_band.stalled refl e (w pipe e) q f) (λ p g. s pipe p e g) n h
 
 turned : (c : ℕ) (k : Parts)
     → ((q : Pipe) (p : Processor) → slice_get k.pipes c ≡ Some q → slice_get k.processors c ≡ Some p → IsOobSettled c q p k.mutexes k.tasks)

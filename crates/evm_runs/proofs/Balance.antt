@@ -39,32 +39,32 @@ greater false l e h = grind (arith, nat_tests)
 record Apart (l : ℕ) (p q : Pipe) : Type 0 where
   wire : (m : ℕ) → (m ≡ l → ⊥) → m < LINES → has_line q.wire m ≡ has_line p.wire m
   oob : (m : ℕ) → (m ≡ l → ⊥) → m < LINES → has_line q.oob.lines m ≡ has_line p.oob.lines m
-  inband : (m : ℕ) → (m ≡ l → ⊥) → m < LINES → has_line q.inband.lines m ≡ has_line p.inband.lines m
+  in_band : (m : ℕ) → (m ≡ l → ⊥) → m < LINES → has_line q.in_band.lines m ≡ has_line p.in_band.lines m
 
 apart-then : (l : ℕ) (x y z : Pipe) → Apart l x y → Apart l y z → Apart l x z
 apart-then l x y z p q = record {
   wire = λ m o h. q.wire m o h ∙ p.wire m o h;
   oob = λ m o h. q.oob m o h ∙ p.oob m o h;
-  inband = λ m o h. q.inband m o h ∙ p.inband m o h;
+  in_band = λ m o h. q.in_band m o h ∙ p.in_band m o h;
 }
 
 raise-apart : (l : ℕ) (p : Pipe) → Apart l p (raise l p)
 unfolding raise
-raise-apart l p = record { wire = λ m o h. has_line-with_other p.wire l m o h; oob = λ m o h. refl; inband = λ m o h. refl }
+raise-apart l p = record { wire = λ m o h. has_line-with_other p.wire l m o h; oob = λ m o h. refl; in_band = λ m o h. refl }
 
 leave-apart : (l : ℕ) (p : Pipe) → Apart l p (leave_wire l p)
 unfolding leave_wire
-leave-apart l p = record { wire = λ m o h. has_line-without_other p.wire l m o h; oob = λ m o h. refl; inband = λ m o h. refl }
+leave-apart l p = record { wire = λ m o h. has_line-without_other p.wire l m o h; oob = λ m o h. refl; in_band = λ m o h. refl }
 
 arrive-apart : (stage : Stage) (l : ℕ) (p : Pipe) → Apart l p (arrive stage l p)
 unfolding arrive
-arrive-apart OutOfBand l p = record { wire = λ m o h. refl; oob = λ m o h. has_line-with_other p.oob.lines l m o h; inband = λ m o h. refl }
-arrive-apart InBand l p = record { wire = λ m o h. refl; oob = λ m o h. refl; inband = λ m o h. has_line-with_other p.inband.lines l m o h }
+arrive-apart OutOfBand l p = record { wire = λ m o h. refl; oob = λ m o h. has_line-with_other p.oob.lines l m o h; in_band = λ m o h. refl }
+arrive-apart InBand l p = record { wire = λ m o h. refl; oob = λ m o h. refl; in_band = λ m o h. has_line-with_other p.in_band.lines l m o h }
 
 play-apart : (stage : Stage) (l : ℕ) (p : Pipe) → Apart l p (play stage l p)
 unfolding play
-play-apart OutOfBand l p = record { wire = λ m o h. refl; oob = λ m o h. has_line-without_other p.oob.lines l m o h; inband = λ m o h. refl }
-play-apart InBand l p = record { wire = λ m o h. refl; oob = λ m o h. refl; inband = λ m o h. has_line-without_other p.inband.lines l m o h }
+play-apart OutOfBand l p = record { wire = λ m o h. refl; oob = λ m o h. has_line-without_other p.oob.lines l m o h; in_band = λ m o h. refl }
+play-apart InBand l p = record { wire = λ m o h. refl; oob = λ m o h. refl; in_band = λ m o h. has_line-without_other p.in_band.lines l m o h }
 
 -- ---- what a move does to its line
 raise-here : (l : ℕ) (p : Pipe) (n : Counts) → l < LINES → Balances l p n → Balances l (raise l p) (count_raise (has_line p.wire l) n)
@@ -72,7 +72,7 @@ unfolding raise
 raise-here l p n h s = record {
   wire = rw (has_line-with_same p.wire l h) (put_in n.raised n.merged n.received (has_line p.wire l) s.wire);
   oob = s.oob;
-  inband = s.inband;
+  in_band = s.in_band;
   routes = record { oob_lines = s.routes.oob_lines; timer = s.routes.timer; request = s.routes.request; others = s.routes.others };
 }
 
@@ -82,7 +82,7 @@ unfolding arrive leave_wire
 received-here OutOfBand l p n fixed on h s = record {
   wire = rw (has_line-without_same p.wire l h) (taken_out n.raised n.merged n.received (rw on at s.wire));
   oob = rw (has_line-with_same p.oob.lines l h) (put_in n.oob.arrivals n.oob.merged n.oob.played (has_line p.oob.lines l) s.oob);
-  inband = s.inband;
+  in_band = s.in_band;
   routes = record {
     oob_lines = λ g. ap (λ x. x + 1) (s.routes.oob_lines g);
     timer = s.routes.timer;
@@ -93,7 +93,7 @@ received-here OutOfBand l p n fixed on h s = record {
 received-here InBand l p n fixed on h s = let high : l < 2 → ⊥ = λ low. let no : InBand ≡ OutOfBand = fixed low in cc in record {
   wire = rw (has_line-without_same p.wire l h) (taken_out n.raised n.merged n.received (rw on at s.wire));
   oob = s.oob;
-  inband = rw (has_line-with_same p.inband.lines l h) (put_in n.inband.arrivals n.inband.merged n.inband.played (has_line p.inband.lines l) s.inband);
+  in_band = rw (has_line-with_same p.in_band.lines l h) (put_in n.in_band.arrivals n.in_band.merged n.in_band.played (has_line p.in_band.lines l) s.in_band);
   routes = record {
     oob_lines = λ g. absurd (high g);
     timer = λ g. absurd (high (omega arith));
@@ -103,12 +103,12 @@ received-here InBand l p n fixed on h s = let high : l < 2 → ⊥ = λ low. let
 }
 
 timer-here : (p : Pipe) (n : Counts) → has_line p.oob.lines 0 ≡ true → Balances 0 p n
-    → Balances 0 (arrive InBand 0 (play OutOfBand 0 p)) (on_passage InBand (count_arrival (has_line p.inband.lines 0)) (on_passage OutOfBand count_play n))
+    → Balances 0 (arrive InBand 0 (play OutOfBand 0 p)) (on_passage InBand (count_arrival (has_line p.in_band.lines 0)) (on_passage OutOfBand count_play n))
 unfolding arrive play
 timer-here p n on s = let h : 0 < LINES = omega arith in record {
   wire = s.wire;
   oob = rw (has_line-without_same p.oob.lines 0 h) (taken_out n.oob.arrivals n.oob.merged n.oob.played (rw on at s.oob));
-  inband = rw (has_line-with_same p.inband.lines 0 h) (put_in n.inband.arrivals n.inband.merged n.inband.played (has_line p.inband.lines 0) s.inband);
+  in_band = rw (has_line-with_same p.in_band.lines 0 h) (put_in n.in_band.arrivals n.in_band.merged n.in_band.played (has_line p.in_band.lines 0) s.in_band);
   routes = record {
     oob_lines = s.routes.oob_lines;
     timer = λ g. ap (λ x. x + 1) (s.routes.timer g);
@@ -122,16 +122,16 @@ unfolding play
 oob-here l p n other on h s = record {
   wire = s.wire;
   oob = rw (has_line-without_same p.oob.lines l h) (taken_out n.oob.arrivals n.oob.merged n.oob.played (rw on at s.oob));
-  inband = s.inband;
+  in_band = s.in_band;
   routes = record { oob_lines = s.routes.oob_lines; timer = λ g. absurd (other g); request = s.routes.request; others = s.routes.others };
 }
 
-in_band-here : (l : ℕ) (p : Pipe) (n : Counts) → has_line p.inband.lines l ≡ true → l < LINES → Balances l p n → Balances l (play InBand l p) (on_passage InBand count_play n)
+in_band-here : (l : ℕ) (p : Pipe) (n : Counts) → has_line p.in_band.lines l ≡ true → l < LINES → Balances l p n → Balances l (play InBand l p) (on_passage InBand count_play n)
 unfolding play
 in_band-here l p n on h s = record {
   wire = s.wire;
   oob = s.oob;
-  inband = rw (has_line-without_same p.inband.lines l h) (taken_out n.inband.arrivals n.inband.merged n.inband.played (rw on at s.inband));
+  in_band = rw (has_line-without_same p.in_band.lines l h) (taken_out n.in_band.arrivals n.in_band.merged n.in_band.played (rw on at s.in_band));
   routes = record { oob_lines = s.routes.oob_lines; timer = s.routes.timer; request = s.routes.request; others = s.routes.others };
 }
 
@@ -141,7 +141,7 @@ pub record PipeBalances (p : Pipe) : Type 0 where
   pub lines : (l : ℕ) (n : Counts) → slice_get p.counts l ≡ Some n → Balances l p n
 
 stays : (l m : ℕ) (p q : Pipe) (n : Counts) → Apart l p q → (m ≡ l → ⊥) → m < LINES → Balances m p n → Balances m q n
-stays l m p q n a o h s = record { wire = rw (a.wire m o h) s.wire; oob = rw (a.oob m o h) s.oob; inband = rw (a.inband m o h) s.inband; routes = s.routes }
+stays l m p q n a o h s = record { wire = rw (a.wire m o h) s.wire; oob = rw (a.oob m o h) s.oob; in_band = rw (a.in_band m o h) s.in_band; routes = s.routes }
 
 moved-balances : (l : ℕ) (f : Counts → Counts) (p q : Pipe) → Counted l f p q → Apart l p q → ((n : Counts) → Balances l p n → Balances l q (f n)) → PipeBalances p
     → (m : ℕ) (n : Counts) → slice_get q.counts m ≡ Some n → Balances m q n
@@ -154,8 +154,8 @@ moved-balances l f p q c a here s m n e =
 
 stall-balances : (stage : Stage) (b : Bool) (p : Pipe) → PipeBalances p → (m : ℕ) (n : Counts) → slice_get (set_stall stage b p).counts m ≡ Some n → Balances m (set_stall stage b p) n
 unfolding set_stall
-stall-balances OutOfBand b p s m n e = let old = s.lines m n e in record { wire = old.wire; oob = old.oob; inband = old.inband; routes = old.routes }
-stall-balances InBand b p s m n e = let old = s.lines m n e in record { wire = old.wire; oob = old.oob; inband = old.inband; routes = old.routes }
+stall-balances OutOfBand b p s m n e = let old = s.lines m n e in record { wire = old.wire; oob = old.oob; in_band = old.in_band; routes = old.routes }
+stall-balances InBand b p s m n e = let old = s.lines m n e in record { wire = old.wire; oob = old.oob; in_band = old.in_band; routes = old.routes }
 
 lines-balance : (may : ℕ → Bool) (n : ℕ) (p q : Pipe) → PipeMove may n p q → PipeBalances p → (m : ℕ) (n : Counts) → slice_get q.counts m ≡ Some n → Balances m q n
 unfolding receive
@@ -169,7 +169,7 @@ lines-balance may _ _ _ (plays_timer p on) s =
 lines-balance may _ _ _ (plays_oob l p other on) s =
     moved-balances l _ p _ (play-counted OutOfBand l p) (play-apart OutOfBand l p) (λ n. oob-here l p n other on (line_below p.oob.lines l s.pipe.oob on)) s
 lines-balance may _ _ _ (plays_in_band l p on) s =
-    moved-balances l _ p _ (play-counted InBand l p) (play-apart InBand l p) (λ n. in_band-here l p n on (line_below p.inband.lines l s.pipe.inband on)) s
+    moved-balances l _ p _ (play-counted InBand l p) (play-apart InBand l p) (λ n. in_band-here l p n on (line_below p.in_band.lines l s.pipe.in_band on)) s
 lines-balance may _ _ _ (stalls stage b p) s = stall-balances stage b p s
 
 pub move-balances : (may : ℕ → Bool) (n : ℕ) (p q : Pipe) → PipeMove may n p q → PipeBalances p → PipeBalances q

@@ -106,7 +106,7 @@ idle_up cpus b = record {
       merged = omega arith;
       received = omega arith;
       oob = record { arrivals = omega arith; merged = omega arith; played = omega arith };
-      inband = record { arrivals = omega arith; merged = omega arith; played = omega arith };
+      in_band = record { arrivals = omega arith; merged = omega arith; played = omega arith };
     });
   });
 }

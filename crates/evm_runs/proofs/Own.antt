@@ -13,7 +13,7 @@ use Rattle.evm_model.specs.Lists.{change}
 use Rattle.evm_model.specs.Notices.{asks_for, notify}
 use Rattle.evm_model.specs.Mutexes.{owns_any}
 use Rattle.evm_model.specs.OobCalls.{stall, switch_oob, switch_in_band, is_scheduled_task, schedule_as, set_sched, set_mode, yield_oob, clock, state_bits}
-use Rattle.evm_model.specs.Passing.{pass_below, end_task}
+use Rattle.evm_model.specs.Passing.{hand_over_below, end_task}
 use Rattle.evm_model.specs.Policies.{policy_of}
 use Rattle.evm_model.specs.Profiles.{line_count}
 use Rattle.evm_model.specs.Ranks.{is_oob_ready}
@@ -25,7 +25,7 @@ use Rattle.evm_model.specs.Waits.{begin_wait}
 use Rattle.evm_model.specs.declared.call.Call.{Call}
 use Rattle.evm_model.specs.declared.call.Call.TheVariants.{Exit as Ends, Putc, Yield, Spawn, Stall, Unstall, WaitLine, Attach, Detach, NewMutex, NewSemaphore, NewEvent, NewFlags, NewTimer, SetLine, SwitchOob, SwitchInBand, SetSched, SetMode, Lock, TryLock, Unlock, SemGet, SemTryGet, SemPut, EventWait, Signal, Broadcast, FlagsWait, FlagsPost, SleepUntil, TimerSet, TimerWait, YieldOob, StallOob, UnstallOob, Clock, StateBits}
 use Rattle.evm_model.specs.declared.call.Outcome.{Outcome}
-use Rattle.evm_model.specs.declared.call.Outcome.TheVariants.{Answers, Waits as Blocks, Leaves as Left}
+use Rattle.evm_model.specs.declared.call.Outcome.TheVariants.{Returns, Blocks, Exits}
 use Rattle.evm_model.specs.declared.errno.Errno.{Errno}
 use Rattle.evm_model.specs.declared.errno.Errno.TheVariants.{NotPermitted, NoSuchCall}
 use Rattle.evm_model.specs.declared.limits.TheConstants.{SLICE, TASK_LIMIT, MODE_LIMIT}
@@ -42,7 +42,7 @@ use Rattle.evm_model.specs.declared.task.Wait.TheVariants.{Line}
 use Rattle.evm_model.proofs.Lists.{change-here, change-elsewhere, slice_get-before}
 use Rattle.evm_runs.specs.Own.{Fields, nothing, waiting, changes, may_change, Leaves, OnlyAnswers, CallsLeave}
 use Rattle.evm_runs.proofs.Fares.{both}
-use Rattle.evm_runs.proofs.Owning.{Own, Apart, leaves_all, turned, alone, same, either, passes_below, waits}
+use Rattle.evm_runs.proofs.Owning.{Own, Apart, leaves_all, turned, alone, same, either, hands_over_below, waits}
 use Rattle.evm_runs.proofs.Own_mutexes.{makes, locks, tries, unlocks}
 use Rattle.evm_runs.proofs.Own_objects.{sets_up, gets, tries_get, puts, adds_flags_group, takes_word, posts, adds_a_timer, sets_a_timer, awaits_a_timer, sleeps, sets_line, adds_an_event, waits_event, signals, broadcasts}
 
@@ -51,10 +51,10 @@ module _ (t : ℕ) (task : Task) (k : Parts) (there : slice_get k.tasks t ≡ So
   exits : (c : ℕ) → Own (changes Ends) t task k (exit c t k).0
   unfolding exit end_task set_state leave_in_band
   exits c =
-      let a : Apart t k (pass_below t (length k.mutexes) k) = passes_below t task k there ready (length k.mutexes) in
+      let a : Apart t k (hand_over_below t (length k.mutexes) k) = hands_over_below t task k there ready (length k.mutexes) in
       record {
         after = record task { state = Exit };
-        there = change-here (λ (y : Task). record y { state = Exit }) (pass_below t (length k.mutexes) k).tasks t ∙ ap (option_map (λ (y : Task). record y { state = Exit })) (a.task ∙ there);
+        there = change-here (λ (y : Task). record y { state = Exit }) (hand_over_below t (length k.mutexes) k).tasks t ∙ ap (option_map (λ (y : Task). record y { state = Exit })) (a.task ∙ there);
         leaves = record { cpu = refl; class = λ no. refl; priority = λ no. refl; slice = λ no. refl; mode = λ no. refl; deadline = λ no. refl; stamp = λ no same. refl; state = λ no. cc };
         stamp = λ no. refl;
         state = λ no. cc;
@@ -315,14 +315,14 @@ module _ (c t : ℕ) (task : Task) (hart : Hart) where
       let bad : InReady ≡ OobReady = one ∙ sym (still no) ∙ on in cc) a) (λ e. a)
 
   module _ (k : Parts) (there : slice_get k.tasks t ≡ Some task) (ready : is_ready task.state ≡ true) (has : slice_get k.harts t ≡ Some hart) where
-    finishes : (may : Fields) (o : Outcome) (x : Parts) → Own may t task k x → (o ≡ Left) ⊎ (may.stamp ≡ false → may.state ≡ false) → After may t task hart (answered o c t x)
-    finishes may (Answers value) x w (inl e) = cc
-    finishes may (Answers value) x w (inr quiet) =
+    finishes : (may : Fields) (o : Outcome) (x : Parts) → Own may t task k x → (o ≡ Exits) ⊎ (may.stamp ≡ false → may.state ≡ false) → After may t task hart (answered o c t x)
+    finishes may (Returns value) x w (inl e) = cc
+    finishes may (Returns value) x w (inr quiet) =
         let a : After may t task hart (on_hart t (answer value) x) =
         record { after = w.after; left = answer value hart; there = w.there; has = change-here (answer value) x.harts t ∙ ap (option_map (answer value)) (w.hart hart has); leaves = w.leaves; answers = inr (value, refl) } in
         returns may (on_hart t (answer value) x) a (λ no. w.state (quiet no))
     finishes may Blocks x w quiet = record { after = w.after; left = advance hart; there = w.there; has = change-here advance x.harts t ∙ ap (option_map advance) (w.hart hart has); leaves = w.leaves; answers = inl refl }
-    finishes may Left x w quiet = record { after = w.after; left = hart; there = w.there; has = w.hart hart has; leaves = w.leaves; answers = inl refl }
+    finishes may Exits x w quiet = record { after = w.after; left = hart; there = w.there; has = w.hart hart has; leaves = w.leaves; answers = inl refl }
 
     refuses : (may : Fields) (e : Errno) → After may t task hart (finish_call c t (refused e k))
     refuses may e =
@@ -334,7 +334,7 @@ module _ (c t : ℕ) (task : Task) (hart : Hart) where
     itself may = record { after = task; left = hart; there = there; has = has; leaves = leaves_all may task ready; answers = inl refl }
 
     -- a call that answers and may change the state may change the stamp
-    quiet : (made : Call) → ((perform made hart c t k).1 ≡ Left) ⊎ ((changes made).stamp ≡ false → (changes made).state ≡ false)
+    quiet : (made : Call) → ((perform made hart c t k).1 ≡ Exits) ⊎ ((changes made).stamp ≡ false → (changes made).state ≡ false)
     unfolding exit
     quiet Ends = inl refl
     quiet WaitLine = inr (λ no. cc)

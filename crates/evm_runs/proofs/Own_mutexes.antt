@@ -6,7 +6,7 @@ use Rattle.evm_model.specs.Good.{is_ready}
 use Rattle.evm_model.specs.Locks.{mutex_of, add_mutex, new_mutex_as, new_mutex, take_mutex, lock_again, cycle_refusal, lock_other, lock_owned, lock_known, lock, try_owned, try_known, try_lock, unlock_once, unlock_known, unlock}
 use Rattle.evm_model.specs.Mutexes.{held_by}
 use Rattle.evm_model.specs.Notices.{asks_for, keep, is_refused, notify, notify_refused}
-use Rattle.evm_model.specs.Passing.{pass_on}
+use Rattle.evm_model.specs.Passing.{hand_over}
 use Rattle.evm_model.specs.Stages.{is_stalled, wait_refusal}
 use Rattle.evm_model.specs.State.{Parts, on_mutex}
 use Rattle.evm_model.specs.declared.call.Outcome.{Outcome}
@@ -20,7 +20,7 @@ use Rattle.evm_model.specs.declared.stage.Stage.TheVariants.{OutOfBand}
 use Rattle.evm_model.specs.declared.task.Task.{Task}
 use Rattle.evm_model.specs.declared.task.Wait.TheVariants.{Lock as Locked}
 use Rattle.evm_runs.specs.Own.{Fields, nothing, waiting}
-use Rattle.evm_runs.proofs.Owning.{Own, alone, same, either, passes_on, waits_unless}
+use Rattle.evm_runs.proofs.Owning.{Own, alone, same, either, hands_over, waits_unless}
 
 module _ (t : ℕ) (task : Task) (k : Parts) (there : slice_get k.tasks t ≡ Some task) (ready : is_ready task.state ≡ true) where
   -- a notice is nothing that it has
@@ -80,8 +80,8 @@ module _ (t : ℕ) (task : Task) (k : Parts) (there : slice_get k.tasks t ≡ So
   unfolding try_lock
   tries m = refused_so nothing Deadlock Unending (try_known (slice_get k.mutexes m) t m k) (tries_known (slice_get k.mutexes m) m)
 
-  unlocks_if : (b : Bool) (m count : ℕ) → Own nothing t task k (if b then pass_on m k else on_mutex m (held_by t count) k)
-  unlocks_if true m count = alone t task k there ready nothing _ (passes_on t task k there ready m k (record { task = refl; hart = refl }))
+  unlocks_if : (b : Bool) (m count : ℕ) → Own nothing t task k (if b then hand_over m k else on_mutex m (held_by t count) k)
+  unlocks_if true m count = alone t task k there ready nothing _ (hands_over t task k there ready m k (record { task = refl; hart = refl }))
   unlocks_if false m count = alone t task k there ready nothing _ (record { task = refl; hart = refl })
 
   unlocks_once : (m : ℕ) (mutex : Mutex) → Own nothing t task k (unlock_once t m mutex k)

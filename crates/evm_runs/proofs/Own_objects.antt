@@ -4,7 +4,7 @@ use Rattle.std.specs.Prelude.{slice_get, bit_or, nat_lt, nat_le, ◌==◌}
 use Rattle.evm_model.specs.Good.{is_ready}
 use Rattle.evm_model.specs.Harts.{answer}
 use Rattle.evm_model.specs.Mutexes.{owner, held_by}
-use Rattle.evm_model.specs.Passing.{pass_on}
+use Rattle.evm_model.specs.Passing.{hand_over}
 use Rattle.evm_model.specs.Profiles.{line_count}
 use Rattle.evm_model.specs.Semaphores.{add_semaphore, new_semaphore, sem_get_known, sem_get, sem_try_get_known, sem_try_get, sem_put_to, sem_put_known, sem_put}
 use Rattle.evm_model.specs.Stages.{is_stalled, wait_refusal}
@@ -24,7 +24,7 @@ use Rattle.evm_model.specs.Flags.{add_flags, new_flags, flags_wait_known, flags_
 use Rattle.evm_model.specs.Timers.{add_timer, new_timer, timer_set_known, timer_set, timer_wait_known, timer_wait}
 use Rattle.evm_model.specs.declared.action.Action.{Action}
 use Rattle.evm_model.specs.declared.timer.Timer.{Timer}
-use Rattle.evm_runs.proofs.Owning.{Own, Apart, alone, same, either, another, wakes_another, waits_another, passes_on, waits_unless, waits_after}
+use Rattle.evm_runs.proofs.Owning.{Own, Apart, alone, same, either, another, wakes_another, waits_another, hands_over, waits_unless, waits_after}
 
 module _ (t : ℕ) (task : Task) (k : Parts) (there : slice_get k.tasks t ≡ Some task) (ready : is_ready task.state ≡ true) where
   pub sets_up : (count : ℕ) → Own nothing t task k (new_semaphore count k).0
@@ -143,7 +143,7 @@ module _ (t : ℕ) (task : Task) (k : Parts) (there : slice_get k.tasks t ≡ So
   unfolding begin_event_wait
   awaits_event e m deadline =
       let named : Parts = on_event e (λ old. Some m) k in
-      waits_after t task k there ready (pass_on m named) (Event e) deadline (passes_on t task k there ready m named (record { task = refl; hart = refl }))
+      waits_after t task k there ready (hand_over m named) (Event e) deadline (hands_over t task k there ready m named (record { task = refl; hart = refl }))
 
   event_unless : (o : Option Errno) (e m deadline : ℕ) → Own waiting t task k (event_wait_unless o t e m deadline k).0
   event_unless (Some error) e m deadline = same t task k there ready waiting

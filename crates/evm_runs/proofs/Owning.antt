@@ -7,7 +7,7 @@ use Rattle.evm_model.specs.Good.{is_ready}
 use Rattle.evm_model.specs.Harts.{A0, set_register}
 use Rattle.evm_model.specs.Lists.{change}
 use Rattle.evm_model.specs.Mutexes.{owner, held_by}
-use Rattle.evm_model.specs.Passing.{pass_to, pass_on, pass_below}
+use Rattle.evm_model.specs.Passing.{hand_over_to, hand_over, hand_over_below}
 use Rattle.evm_model.specs.Stages.{wait_unless}
 use Rattle.evm_model.specs.State.{Parts, on_mutex}
 use Rattle.evm_model.specs.Tasks.{restamp}
@@ -78,22 +78,22 @@ module _ (t : ℕ) (task : Task) (k : Parts) (there : slice_get k.tasks t ≡ So
   unfolding begin_wait restamp
   waits_another u wait deadline x other a = record { task = change-elsewhere _ _ u t other ∙ change-elsewhere _ x.tasks u t other ∙ a.task; hart = a.hart }
 
-  passes_to : (o : Option ℕ) (m : ℕ) (x : Parts) → Apart t k x → first_waiter (Locked m) x ≡ o → Apart t k (pass_to o m x)
-  passes_to None m x a first = record { task = a.task; hart = a.hart }
-  passes_to (Some u) m x a first = wakes_another u (kept_of (slice_get x.tasks u)) (on_mutex m (held_by u 1) x) (another u (Locked m) x a.task first) (record { task = a.task; hart = a.hart })
+  hands_over_to : (o : Option ℕ) (m : ℕ) (x : Parts) → Apart t k x → first_waiter (Locked m) x ≡ o → Apart t k (hand_over_to o m x)
+  hands_over_to None m x a first = record { task = a.task; hart = a.hart }
+  hands_over_to (Some u) m x a first = wakes_another u (kept_of (slice_get x.tasks u)) (on_mutex m (held_by u 1) x) (another u (Locked m) x a.task first) (record { task = a.task; hart = a.hart })
 
-  pub passes_on : (m : ℕ) (x : Parts) → Apart t k x → Apart t k (pass_on m x)
-  unfolding pass_on
-  passes_on m x a = passes_to (first_waiter (Locked m) x) m x a refl
+  pub hands_over : (m : ℕ) (x : Parts) → Apart t k x → Apart t k (hand_over m x)
+  unfolding hand_over
+  hands_over m x a = hands_over_to (first_waiter (Locked m) x) m x a refl
 
-  passes_if : (b : Bool) (m : ℕ) (x : Parts) → Apart t k x → Apart t k (if b then pass_on m x else x)
-  passes_if true m x a = passes_on m x a
-  passes_if false m x a = a
+  hands_over_if : (b : Bool) (m : ℕ) (x : Parts) → Apart t k x → Apart t k (if b then hand_over m x else x)
+  hands_over_if true m x a = hands_over m x a
+  hands_over_if false m x a = a
 
-  pub passes_below : (n : ℕ) → Apart t k (pass_below t n k)
-  unfolding pass_below
-  passes_below zero = record { task = refl; hart = refl }
-  passes_below (suc m) = let before : Parts = pass_below t m k in passes_if (is_number (owner before.mutexes m) t) m before (passes_below m)
+  pub hands_over_below : (n : ℕ) → Apart t k (hand_over_below t n k)
+  unfolding hand_over_below
+  hands_over_below zero = record { task = refl; hart = refl }
+  hands_over_below (suc m) = let before : Parts = hand_over_below t m k in hands_over_if (is_number (owner before.mutexes m) t) m before (hands_over_below m)
 
   pub waits : (x : Parts) (wait : Wait) (deadline : ℕ) → x.tasks ≡ (begin_wait t wait deadline k).tasks → x.harts ≡ k.harts → Own waiting t task k x
   unfolding begin_wait restamp

@@ -241,11 +241,11 @@ lines_stay c l s (event ∷ events) = lines_stay c l (left_by (apply s event) s)
 -- ---- the start
 pub idle_balances : PipeBalances idle_pipe
 idle_balances = record {
-  pipe = record { wire = IsLineSet-empty; oob = IsLineSet-empty; inband = IsLineSet-empty; counts = length-replicate LINES no_counts };
+  pipe = record { wire = IsLineSet-empty; oob = IsLineSet-empty; in_band = IsLineSet-empty; counts = length-replicate LINES no_counts };
   lines = λ l n e. rw (slice_get-replicate LINES no_counts l n e) (record {
     wire = refl;
     oob = refl;
-    inband = refl;
+    in_band = refl;
     routes = record { oob_lines = λ h. refl; timer = λ h. refl; request = λ h. refl; others = λ h. refl };
   });
 }

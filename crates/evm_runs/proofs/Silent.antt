@@ -11,14 +11,14 @@ use Rattle.evm_model.specs.Harts.{A7, answer}
 use Rattle.evm_model.specs.Locks.{take_mutex, lock_again, lock_other, lock_owned, lock_known, cycle_refusal, try_owned, try_known, unlock_once, unlock_known}
 use Rattle.evm_model.specs.Mutexes.{owner, owns_any}
 use Rattle.evm_model.specs.Notices.{is_refused, notify, notify_refused}
-use Rattle.evm_model.specs.Passing.{pass_to, pass_on, pass_below, end_task}
+use Rattle.evm_model.specs.Passing.{hand_over_to, hand_over, hand_over_below, end_task}
 use Rattle.evm_model.specs.Stages.{refused, is_stalled, may_promote, wait_refusal, wait_unless}
 use Rattle.evm_model.specs.State.{Parts, on_hart}
 use Rattle.evm_model.specs.Tasks.{demote, promote, restamp, set_state, leave_in_band}
 use Rattle.evm_model.specs.Waits.{first_waiter, wake, begin_wait}
 use Rattle.evm_model.specs.declared.call.Call.{Call}
 use Rattle.evm_model.specs.declared.call.Outcome.{Outcome}
-use Rattle.evm_model.specs.declared.call.Outcome.TheVariants.{Answers, Waits, Leaves}
+use Rattle.evm_model.specs.declared.call.Outcome.TheVariants.{Returns, Blocks, Exits}
 use Rattle.evm_model.specs.declared.errno.Errno.{Errno}
 use Rattle.evm_model.specs.declared.errno.Errno.TheVariants.{NotPermitted}
 use Rattle.evm_model.specs.declared.mutex.Mutex.{Mutex}
@@ -38,21 +38,21 @@ either true k x y p q = p
 either false k x y p q = q
 
 -- ---- a task ends, or is demoted
-passed_to : (o : Option ℕ) (m : ℕ) (k : Parts) → Quiet k (pass_to o m k)
+passed_to : (o : Option ℕ) (m : ℕ) (k : Parts) → Quiet k (hand_over_to o m k)
 unfolding wake restamp
 passed_to None m k = refl
 passed_to (Some t) m k = refl
 
-passed_on : (m : ℕ) (k : Parts) → Quiet k (pass_on m k)
-unfolding pass_on
+passed_on : (m : ℕ) (k : Parts) → Quiet k (hand_over m k)
+unfolding hand_over
 passed_on m k = passed_to (first_waiter (For m) k) m k
 
-passed_below : (t m : ℕ) (k : Parts) → Quiet k (pass_below t m k)
-unfolding pass_below
+passed_below : (t m : ℕ) (k : Parts) → Quiet k (hand_over_below t m k)
+unfolding hand_over_below
 passed_below t zero k = refl
 passed_below t (suc m) k =
-    let before : Parts = pass_below t m k in
-    either (is_number (owner before.mutexes m) t) before (pass_on m before) before (passed_on m before) refl ∙ passed_below t m k
+    let before : Parts = hand_over_below t m k in
+    either (is_number (owner before.mutexes m) t) before (hand_over m before) before (passed_on m before) refl ∙ passed_below t m k
 
 pub ended : (c t : ℕ) (state : TaskState) (k : Parts) → Quiet k (end_task c t state k)
 unfolding end_task set_state leave_in_band
@@ -65,11 +65,11 @@ demoted c t k = refl
 -- ---- a call is finished
 finished : (o : Outcome) (c t : ℕ) (k : Parts) → Quiet k (answered o c t k)
 unfolding return_weak
-finished (Answers value) c t k =
+finished (Returns value) c t k =
     let after : Parts = on_hart t (answer value) k in
     either (is_weak_oob (slice_get after.tasks t) && not (owns_any t after.mutexes)) after (demote c t after) after (demoted c t after) refl
-finished Waits c t k = refl
-finished Leaves c t k = refl
+finished Blocks c t k = refl
+finished Exits c t k = refl
 
 asked : (c t : ℕ) (k : Parts) → Quiet k (ask_oob c t k)
 unfolding ask_oob promote restamp set_state leave_in_band
@@ -109,10 +109,10 @@ silent false refused e kind c t k done is h quiet = out_of_band false c t k (not
 same_number : (v n : ℕ) → (v == n) ≡ true → v ≡ n
 same_number v n h = grind (arith, nat_tests)
 
-pub refused_is : (e : Errno) (o : Outcome) → is_refused e o ≡ true → o ≡ Answers (refusal_answer e)
-refused_is e (Answers value) h = ap Answers (same_number value (refusal_answer e) h)
-refused_is e Waits h = cc
-refused_is e Leaves h = cc
+pub refused_is : (e : Errno) (o : Outcome) → is_refused e o ≡ true → o ≡ Returns (refusal_answer e)
+refused_is e (Returns value) h = ap Returns (same_number value (refusal_answer e) h)
+refused_is e Blocks h = cc
+refused_is e Exits h = cc
 
 -- ---- what the calls on mutexes do before
 -- .. to the notices, and what they answer whatever the processors
@@ -161,7 +161,7 @@ module _ (t m : ℕ) (k : Parts) (ps : List Processor) where
 
   unlocked : (mutex : Mutex) → Quiet k (unlock_once t m mutex k)
   unfolding unlock_once
-  unlocked mutex = either _ k (pass_on m k) _ (passed_on m k) refl
+  unlocked mutex = either _ k (hand_over m k) _ (passed_on m k) refl
 
   pub unlocks : (o : Option Mutex) → Plain k ps (unlock_known o t m k) (unlock_known o t m moved)
   unlocks None = record { quiet = refl; same = refl }

@@ -14,7 +14,7 @@ use Rattle.evm_ranks.specs.Boosts.{is_number}
 use Rattle.evm_ranks.proofs.Greatest.{boosts-is, boosts-so}
 use Rattle.evm_model.specs.Good.{IsPipe}
 use Rattle.evm_model.specs.Mutexes.{owner, owner_of}
-use Rattle.evm_model.specs.Passing.{pass_on, pass_below, end_task}
+use Rattle.evm_model.specs.Passing.{hand_over, hand_over_below, end_task}
 use Rattle.evm_model.specs.Pipes.{Pipe, play, receive}
 use Rattle.evm_model.specs.Settle.{play_oob, play_oob_lines, play_in_band, play_in_band_lines, play_in_band_pipe, run_best, run_in_band, settle_oob, settle_oob_pipe, turn_in_band}
 use Rattle.evm_model.specs.State.{Parts, on_pipe}
@@ -107,7 +107,7 @@ by_number f test g step (suc n) = either (test n) refl (by_number f test g step 
 
 -- ---- lines
 rise : (p : Pipe) → IsPipe p → Rise p
-rise p h = record { wire = rises p.wire h.wire; oob = rises p.oob.lines h.oob; inband = rises p.inband.lines h.inband }
+rise p h = record { wire = rises p.wire h.wire; oob = rises p.oob.lines h.oob; in_band = rises p.in_band.lines h.in_band }
 
 pub lines_rise : LinesRise
 lines_rise stage l p h = (rise p h, rise (receive stage l p) (IsPipe-receive stage l p h))
@@ -126,14 +126,14 @@ open_oob : (was : Option ℕ) (c : ℕ) (k : Parts) (pipe : Pipe) → slice_get 
 unfolding settle_oob
 open_oob was c k pipe there open_stage = ap (λ o. settle_oob_pipe o was c k) there ∙ ap (λ (b : Bool). if b then k else run_best c (play_oob_lines was c pipe.oob.lines k)) open_stage
 
-open_in_band : (c : ℕ) (k : Parts) (pipe : Pipe) → slice_get k.pipes c ≡ Some pipe → pipe.inband.stalled ≡ false → turn_in_band c k ≡ run_in_band c (play_in_band_lines c pipe.inband.lines k)
+open_in_band : (c : ℕ) (k : Parts) (pipe : Pipe) → slice_get k.pipes c ≡ Some pipe → pipe.in_band.stalled ≡ false → turn_in_band c k ≡ run_in_band c (play_in_band_lines c pipe.in_band.lines k)
 unfolding turn_in_band
-open_in_band c k pipe there open_stage = ap (λ o. run_in_band c (play_in_band_pipe o c k)) there ∙ ap (λ (b : Bool). run_in_band c (if b then k else play_in_band_lines c pipe.inband.lines k)) open_stage
+open_in_band c k pipe there open_stage = ap (λ o. run_in_band c (play_in_band_pipe o c k)) there ∙ ap (λ (b : Bool). run_in_band c (if b then k else play_in_band_lines c pipe.in_band.lines k)) open_stage
 
 pub logs_play_in_order : LogsPlayInOrder
 logs_play_in_order was c k pipe there = record {
   oob = λ open_stage. open_oob was c k pipe there open_stage ∙ ap (run_best c) (oob_in_order was c pipe.oob.lines k);
-  inband = λ open_stage. open_in_band c k pipe there open_stage ∙ ap (run_in_band c) (in_band_in_order c pipe.inband.lines k);
+  in_band = λ open_stage. open_in_band c k pipe there open_stage ∙ ap (run_in_band c) (in_band_in_order c pipe.in_band.lines k);
 }
 
 -- ---- waiters
@@ -196,14 +196,14 @@ waiters_wake_by_number c l k =
     }
 
 -- ---- mutexes
-pass_step : (t n : ℕ) (k : Parts) → pass_below t (suc n) k ≡ (if is_number (owner k.mutexes n) t then pass_on n (pass_below t n k) else pass_below t n k)
-unfolding pass_below
+pass_step : (t n : ℕ) (k : Parts) → hand_over_below t (suc n) k ≡ (if is_number (owner k.mutexes n) t then hand_over n (hand_over_below t n k) else hand_over_below t n k)
+unfolding hand_over_below
 pass_step t n k =
-    let before : Parts = pass_below t n k in
-    ap (λ (o : Option Mutex). if is_number (owner_of o) t then pass_on n before else before) (untouched t n n k (omega arith))
+    let before : Parts = hand_over_below t n k in
+    ap (λ (o : Option Mutex). if is_number (owner_of o) t then hand_over n before else before) (untouched t n n k (omega arith))
 
-pass_none : (t : ℕ) (k : Parts) → pass_below t 0 k ≡ k
-unfolding pass_below
+pass_none : (t : ℕ) (k : Parts) → hand_over_below t 0 k ≡ k
+unfolding hand_over_below
 pass_none t k = refl
 
 owned_within : (t m : ℕ) (mutexes : List Mutex) (o : Option Mutex) → slice_get mutexes m ≡ o → owner_of o ≡ Some t → m < length mutexes
@@ -215,9 +215,9 @@ unfolding end_task
 mutexes_pass_by_number c t state k =
     let test : ℕ → Bool = λ m. is_number (owner k.mutexes m) t in
     let count : ℕ = length k.mutexes in
-    let passed : pass_below t count k ≡ fold (λ x m. pass_on m x) k (numbers test count) =
-    by_number (λ x m. pass_on m x) test (λ n. pass_below t n k) (λ n. pass_step t n k) count
-    ∙ ap (λ x. fold (λ x m. pass_on m x) x (numbers test count)) (pass_none t k) in
+    let passed : hand_over_below t count k ≡ fold (λ x m. hand_over m x) k (numbers test count) =
+    by_number (λ x m. hand_over m x) test (λ n. hand_over_below t n k) (λ n. pass_step t n k) count
+    ∙ ap (λ x. fold (λ x m. hand_over m x) x (numbers test count)) (pass_none t k) in
     record {
       owned = numbers test count;
       in_order = record {

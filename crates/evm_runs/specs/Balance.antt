@@ -33,17 +33,17 @@ pub record Routes (l : ℕ) (n : Counts) : Type 0 where
   -- the timer's line and the request to reschedule come to the out-of-band stage
   pub oob_lines : l < 2 → n.received ≡ n.oob.arrivals
   -- the timer's goes on in-band each time it is played there
-  pub timer : l ≡ 0 → n.inband.arrivals ≡ n.oob.played
+  pub timer : l ≡ 0 → n.in_band.arrivals ≡ n.oob.played
   -- the request doesn't
-  pub request : l ≡ 1 → n.inband.arrivals ≡ 0
+  pub request : l ≡ 1 → n.in_band.arrivals ≡ 0
   -- the others come to one of the stages
-  pub others : 2 ≤ l → n.received ≡ n.oob.arrivals + n.inband.arrivals
+  pub others : 2 ≤ l → n.received ≡ n.oob.arrivals + n.in_band.arrivals
 
 -- line l of a processor was raised as often as it merged on the wire, is on it still, or was received; and it passes both stages
 pub record Balances (l : ℕ) (p : Pipe) (n : Counts) : Type 0 where
   pub wire : n.raised ≡ n.merged + one_if (has_line p.wire l) + n.received
   pub oob : Passes l p.oob n.oob
-  pub inband : Passes l p.inband n.inband
+  pub in_band : Passes l p.in_band n.in_band
   pub routes : Routes l n
 
 -- an event that raises line l on processor c

@@ -16,7 +16,7 @@ use Rattle.evm_model.specs.Notices.{asks_for, keep}
 use Rattle.evm_model.specs.Settle.{current, is_oob}
 use Rattle.evm_model.specs.State.{Board, Memory, Notices}
 use Rattle.evm_model.specs.declared.call.Call.{Call}
-use Rattle.evm_model.specs.declared.call.Outcome.TheVariants.{Answers}
+use Rattle.evm_model.specs.declared.call.Outcome.TheVariants.{Returns}
 use Rattle.evm_model.specs.declared.event.Answer.{Answer}
 use Rattle.evm_model.specs.declared.event.Answer.TheVariants.{Ran}
 use Rattle.evm_model.specs.declared.notice.NoticeKind.{NoticeKind}
@@ -49,10 +49,10 @@ pub data NoticeCause (c task : ℕ) (old : Board) : NoticeKind → Type 0 where
   by_call : (call : Call) (hart : Hart) → MakesCall c (call_number call) hart old → call_stage call ≡ Some InBand → NoticeCause c task old DemotedByCall
   by_fault : (hart : Hart) → slice_get old.parts.harts task ≡ Some hart → word_faults (fetch hart.pc old.memory) hart old.memory ≡ true → NoticeCause c task old DemotedByFault
   -- its call 36 or 37 answers -35
-  by_lock : (hart : Hart) → MakesCall c 36 hart old → (lock c task (argument 0 hart) (argument 1 hart) old.parts).1 ≡ Answers (refusal_answer Deadlock) → NoticeCause c task old Unending
-  by_try_lock : (hart : Hart) → MakesCall c 37 hart old → (try_lock task (argument 0 hart) old.parts).1 ≡ Answers (refusal_answer Deadlock) → NoticeCause c task old Unending
+  by_lock : (hart : Hart) → MakesCall c 36 hart old → (lock c task (argument 0 hart) (argument 1 hart) old.parts).1 ≡ Returns (refusal_answer Deadlock) → NoticeCause c task old Unending
+  by_try_lock : (hart : Hart) → MakesCall c 37 hart old → (try_lock task (argument 0 hart) old.parts).1 ≡ Returns (refusal_answer Deadlock) → NoticeCause c task old Unending
   -- its call 38 answers -1
-  by_unlock : (hart : Hart) → MakesCall c 38 hart old → (unlock task (argument 0 hart) old.parts).1 ≡ Answers (refusal_answer NotPermitted) → NoticeCause c task old NotOwner
+  by_unlock : (hart : Hart) → MakesCall c 38 hart old → (unlock task (argument 0 hart) old.parts).1 ≡ Returns (refusal_answer NotPermitted) → NoticeCause c task old NotOwner
 
 -- in a step that answers so, the task that was current on c asked for notices of a kind and gets one more, at this tick; the last 64 are kept
 pub record GetsNotice (c : ℕ) (old : Board) (answer : Answer) (new : Notices) : Type 0 where

@@ -5,7 +5,7 @@ use Rattle.std.specs.List.Sorted.{IsStrictlyIncreasing}
 use Rattle.evm_lines.specs.Lines.{has_line}
 use Rattle.evm_model.specs.Good.{GoodState, IsPipe}
 use Rattle.evm_model.specs.Mutexes.{owner}
-use Rattle.evm_model.specs.Passing.{pass_on, end_task}
+use Rattle.evm_model.specs.Passing.{hand_over, end_task}
 use Rattle.evm_model.specs.Pipes.{Pipe, play, receive, set_stall}
 use Rattle.evm_model.specs.Replay.{apply}
 use Rattle.evm_model.specs.Settle.{play_oob, play_in_band, run_best, run_in_band, settle_oob, turn_in_band}
@@ -35,7 +35,7 @@ StepsReceiveLeast = (s new : State) (c l : ℕ) (pipe : Pipe) → GoodState s �
 pub record Rise (p : Pipe) : Type 0 where
   pub wire : IsStrictlyIncreasing p.wire
   pub oob : IsStrictlyIncreasing p.oob.lines
-  pub inband : IsStrictlyIncreasing p.inband.lines
+  pub in_band : IsStrictlyIncreasing p.in_band.lines
 
 -- .. of each pipe, and still where a line is received by either stage
 abbrev pub LinesRise : Type 0
@@ -44,7 +44,7 @@ LinesRise = (stage : Stage) (l : ℕ) (p : Pipe) → IsPipe p → Rise p × Rise
 -- a stage that isn't stalled plays the lines of its log one after another
 pub record PlaysInOrder (was : Option ℕ) (c : ℕ) (pipe : Pipe) (k : Parts) : Type 0 where
   pub oob : pipe.oob.stalled ≡ false → settle_oob was c k ≡ run_best c (fold (λ x l. play_oob was c l x) k pipe.oob.lines)
-  pub inband : pipe.inband.stalled ≡ false → turn_in_band c k ≡ run_in_band c (fold (λ x l. play_in_band c l x) k pipe.inband.lines)
+  pub in_band : pipe.in_band.stalled ≡ false → turn_in_band c k ≡ run_in_band c (fold (λ x l. play_in_band c l x) k pipe.in_band.lines)
 
 abbrev pub LogsPlayInOrder : Type 0
 LogsPlayInOrder = (was : Option ℕ) (c : ℕ) (k : Parts) (pipe : Pipe) → slice_get k.pipes c ≡ Some pipe → PlaysInOrder was c pipe k
@@ -75,7 +75,7 @@ WaitersWakeByNumber = (c l : ℕ) (k : Parts) → WakesByNumber c l k
 pub record PassesByNumber (c t : ℕ) (state : TaskState) (k : Parts) : Type 0 where
   pub owned : List ℕ
   pub in_order : AreInOrder (λ m. owner k.mutexes m ≡ Some t) owned
-  pub passes : end_task c t state k ≡ set_state t state (leave_in_band c (on_pipe c (set_stall InBand false) (fold (λ x m. pass_on m x) k owned)))
+  pub passes : end_task c t state k ≡ set_state t state (leave_in_band c (on_pipe c (set_stall InBand false) (fold (λ x m. hand_over m x) k owned)))
 
 abbrev pub MutexesPassByNumber : Type 0
 MutexesPassByNumber = (c t : ℕ) (state : TaskState) (k : Parts) → PassesByNumber c t state k

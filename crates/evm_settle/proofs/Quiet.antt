@@ -93,7 +93,7 @@ quiet-lines c (l ∷ ls) k q = quiet-lines c ls (play_in_band c l k) (quiet-play
 
 quiet-pipe : (c : ℕ) (o : Option Pipe) (k : Parts) → IsQuiet k.tasks → IsQuiet (play_in_band_pipe o c k).tasks
 quiet-pipe c None k q = q
-quiet-pipe c (Some pipe) k q = quiet-if pipe.inband.stalled k (play_in_band_lines c pipe.inband.lines k) q (quiet-lines c pipe.inband.lines k q)
+quiet-pipe c (Some pipe) k q = quiet-if pipe.in_band.stalled k (play_in_band_lines c pipe.in_band.lines k) q (quiet-lines c pipe.in_band.lines k q)
 
 quiet-turn : (c : ℕ) (k : Parts) → IsQuiet k.tasks → IsQuiet (turn_in_band c k).tasks
 unfolding turn_in_band
@@ -153,8 +153,8 @@ aside-lines c (l ∷ ls) k ps = rw (aside-play c l k ps) (aside-lines c ls (play
 aside-pipe : (c : ℕ) (o : Option Pipe) (k : Parts) (ps : List Processor) → play_in_band_pipe o c (record k { processors = ps }) ≡ record (play_in_band_pipe o c k) { processors = ps }
 aside-pipe c None k ps = refl
 aside-pipe c (Some pipe) k ps =
-    aside-if pipe.inband.stalled (record k { processors = ps }) (play_in_band_lines c pipe.inband.lines (record k { processors = ps })) k (play_in_band_lines c pipe.inband.lines k) ps
-    refl (aside-lines c pipe.inband.lines k ps)
+    aside-if pipe.in_band.stalled (record k { processors = ps }) (play_in_band_lines c pipe.in_band.lines (record k { processors = ps })) k (play_in_band_lines c pipe.in_band.lines k) ps
+    refl (aside-lines c pipe.in_band.lines k ps)
 
 aside-turn : (c : ℕ) (k : Parts) (ps : List Processor)
     → turn_in_band c (record k { processors = ps }) ≡ run_in_band c (record (play_in_band_pipe (slice_get k.pipes c) c k) { processors = ps })

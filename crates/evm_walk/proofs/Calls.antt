@@ -21,7 +21,7 @@ use Rattle.evm_model.specs.Tasks.{restamp, demote, set_policy, clear_policy, set
 use Rattle.evm_model.specs.declared.call.Call.{Call}
 use Rattle.evm_model.specs.declared.call.Call.TheVariants.{Exit as Ends, Putc, Yield, Spawn, Stall, Unstall, WaitLine, Attach, Detach, NewMutex, NewSemaphore, NewEvent, NewFlags, NewTimer, SetLine, SwitchOob, SwitchInBand, SetSched, SetMode, Lock, TryLock, Unlock, SemGet, SemTryGet, SemPut, EventWait, Signal, Broadcast, FlagsWait, FlagsPost, SleepUntil, TimerSet, TimerWait, YieldOob, StallOob, UnstallOob, Clock, StateBits}
 use Rattle.evm_model.specs.declared.call.Outcome.{Outcome}
-use Rattle.evm_model.specs.declared.call.Outcome.TheVariants.{Answers, Waits, Leaves}
+use Rattle.evm_model.specs.declared.call.Outcome.TheVariants.{Returns, Blocks, Exits}
 use Rattle.evm_model.specs.declared.errno.Errno.{Errno}
 use Rattle.evm_model.specs.declared.errno.Errno.TheVariants.{NotPermitted, NoSuchCall}
 use Rattle.evm_model.specs.declared.limits.TheConstants.{SLICE, TASK_LIMIT, MODE_LIMIT}
@@ -250,9 +250,9 @@ module _ (a : Actor) (old k : Parts) (t : ℕ) (own : a.task ≡ Some t) (fresh 
 
   module _ (below : t < length old.harts) where
     answers : (outcome : Outcome) (x : Parts) → Walk a old 1 64 x → Walk a old 1 65 (answered outcome a.cpu t x)
-    answers (Answers value) x v = returns_weak (on_hart t (answer value) x) (quietly a old 1 64 x _ (hart t A0 value (answer value) x own (λ h. refl) (inl below)) v)
-    answers Waits x v = slack a old 1 1 64 65 _ (λ p. omega arith) (λ p. omega arith) (quietly a old 1 64 x _ (hart t 0 0 advance x own (λ h. refl) (inl below)) v)
-    answers Leaves x v = slack a old 1 1 64 65 x (λ p. omega arith) (λ p. omega arith) v
+    answers (Returns value) x v = returns_weak (on_hart t (answer value) x) (quietly a old 1 64 x _ (hart t A0 value (answer value) x own (λ h. refl) (inl below)) v)
+    answers Blocks x v = slack a old 1 1 64 65 _ (λ p. omega arith) (λ p. omega arith) (quietly a old 1 64 x _ (hart t 0 0 advance x own (λ h. refl) (inl below)) v)
+    answers Exits x v = slack a old 1 1 64 65 x (λ p. omega arith) (λ p. omega arith) v
 
     finishes_call : (done : Parts × Outcome) → Walk a old 1 64 done.0 → Walk a old 1 65 (finish_call a.cpu t done)
     finishes_call done v = answers done.1 done.0 v

@@ -25,7 +25,7 @@ UpTo-more a b n h s = record {
   merged = omega arith;
   received = omega arith;
   oob = Passage-more a b n.oob h s.oob;
-  inband = Passage-more a b n.inband h s.inband;
+  in_band = Passage-more a b n.in_band h s.in_band;
 }
 
 more_if-up : (b : Bool) (n bound : ℕ) → n ≤ bound → more_if b n ≤ bound + 1
@@ -38,7 +38,7 @@ raise-up b merged n s = record {
   merged = more_if-up merged n.merged b s.merged;
   received = omega arith;
   oob = Passage-more b (b + 1) n.oob (omega arith) s.oob;
-  inband = Passage-more b (b + 1) n.inband (omega arith) s.inband;
+  in_band = Passage-more b (b + 1) n.in_band (omega arith) s.in_band;
 }
 
 arrival-up : (b : ℕ) (merged : Bool) (n : Passage) → PassageUpTo b n → PassageUpTo (b + 1) (count_arrival merged n)
@@ -53,14 +53,14 @@ receipt-up b OutOfBand merged n s = record {
   merged = omega arith;
   received = omega arith;
   oob = arrival-up b merged n.oob s.oob;
-  inband = Passage-more b (b + 1) n.inband (omega arith) s.inband;
+  in_band = Passage-more b (b + 1) n.in_band (omega arith) s.in_band;
 }
 receipt-up b InBand merged n s = record {
   raised = omega arith;
   merged = omega arith;
   received = omega arith;
   oob = Passage-more b (b + 1) n.oob (omega arith) s.oob;
-  inband = arrival-up b merged n.inband s.inband;
+  in_band = arrival-up b merged n.in_band s.in_band;
 }
 
 pub oob-up : (b : ℕ) (n : Counts) → UpTo b n → UpTo (b + 1) (on_passage OutOfBand count_play n)
@@ -69,7 +69,7 @@ oob-up b n s = record {
   merged = omega arith;
   received = omega arith;
   oob = play-up b n.oob s.oob;
-  inband = Passage-more b (b + 1) n.inband (omega arith) s.inband;
+  in_band = Passage-more b (b + 1) n.in_band (omega arith) s.in_band;
 }
 
 pub in_band-up : (b : ℕ) (n : Counts) → UpTo b n → UpTo (b + 1) (on_passage InBand count_play n)
@@ -78,7 +78,7 @@ in_band-up b n s = record {
   merged = omega arith;
   received = omega arith;
   oob = Passage-more b (b + 1) n.oob (omega arith) s.oob;
-  inband = play-up b n.inband s.inband;
+  in_band = play-up b n.in_band s.in_band;
 }
 
 pub timer-up : (b : ℕ) (merged : Bool) (n : Counts) → UpTo b n → UpTo (b + 1) (on_passage InBand (count_arrival merged) (on_passage OutOfBand count_play n))
@@ -87,7 +87,7 @@ timer-up b merged n s = record {
   merged = omega arith;
   received = omega arith;
   oob = play-up b n.oob s.oob;
-  inband = arrival-up b merged n.inband s.inband;
+  in_band = arrival-up b merged n.in_band s.in_band;
 }
 
 -- ---- a pipe's
@@ -141,7 +141,7 @@ unfolding receive
 receive-counted stage l p = rw (← left-log stage l p) (counted-then l count_receipt _ p (leave_wire l p) _ (leave-counted l p) (arrive-counted stage l (leave_wire l p)))
 
 pub timer-counted : (p : Pipe)
-    → Counted 0 (λ n. on_passage InBand (count_arrival (has_line p.inband.lines 0)) (on_passage OutOfBand count_play n)) p (arrive InBand 0 (play OutOfBand 0 p))
+    → Counted 0 (λ n. on_passage InBand (count_arrival (has_line p.in_band.lines 0)) (on_passage OutOfBand count_play n)) p (arrive InBand 0 (play OutOfBand 0 p))
 unfolding play
 timer-counted p = counted-then 0 (on_passage OutOfBand count_play) _ p (play OutOfBand 0 p) _ (play-counted OutOfBand 0 p) (arrive-counted InBand 0 (play OutOfBand 0 p))
 
@@ -151,7 +151,7 @@ PipeUpTo-more a b p h s = record { lines = λ l n e. UpTo-more a b n h (s.lines 
 pub move_counted : (may : ℕ → Bool) (n b : ℕ) (p q : Pipe) → PipeMove may n p q → PipeUpTo b p → PipeUpTo (b + n) q
 move_counted may _ b _ _ (raises l p h on) s = counted-up b l _ p _ (raise-counted l p) (raise-up b (has_line p.wire l)) s
 move_counted may _ b _ _ (receives stage l p fixed h) s = counted-up b l _ p _ (receive-counted stage l p) (receipt-up b stage (has_line (log_of stage p).lines l)) s
-move_counted may _ b _ _ (plays_timer p h) s = counted-up b 0 _ p _ (timer-counted p) (timer-up b (has_line p.inband.lines 0)) s
+move_counted may _ b _ _ (plays_timer p h) s = counted-up b 0 _ p _ (timer-counted p) (timer-up b (has_line p.in_band.lines 0)) s
 move_counted may _ b _ _ (plays_oob l p other h) s = counted-up b l _ p _ (play-counted OutOfBand l p) (oob-up b) s
 move_counted may _ b _ _ (plays_in_band l p h) s = counted-up b l _ p _ (play-counted InBand l p) (in_band-up b) s
 move_counted may _ b _ _ (stalls stage bit p) s = record { lines = λ m n e. UpTo-more b (b + 0) n (omega arith) (s.lines m n (sym (ap (λ (ns : List Counts). slice_get ns m) (stall-counts stage bit p)) ∙ e)) }

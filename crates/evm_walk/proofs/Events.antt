@@ -9,7 +9,7 @@ use Rattle.evm_model.specs.Events.{add_event, new_event, reacquire_from, reacqui
 use Rattle.evm_model.specs.Harts.{argument}
 use Rattle.evm_model.specs.Lists.{change}
 use Rattle.evm_model.specs.Mutexes.{owner, owner_of, owns_any, freed, held_by}
-use Rattle.evm_model.specs.Passing.{pass_to, pass_on}
+use Rattle.evm_model.specs.Passing.{hand_over_to, hand_over}
 use Rattle.evm_model.specs.Stages.{is_stalled, late, or_else, wait_refusal}
 use Rattle.evm_model.specs.State.{Parts, on_event, on_mutex}
 use Rattle.evm_model.specs.Tasks.{restamp}
@@ -78,13 +78,13 @@ module _ (a : Actor) (old : Parts) (n e : ℕ) (hart : Hart) (call : Makes a old
 named_is : (e m : ℕ) (k : Parts) (was : Option ℕ) → slice_get k.events e ≡ Some was → bound e (on_event e (λ _. Some m) k) ≡ Some m
 named_is e m k was there = ap bound_of (change-here (λ (_ : Option ℕ). Some m) k.events e ∙ ap (option_map (λ (_ : Option ℕ). Some m)) there)
 
-events_to : (o : Option ℕ) (m : ℕ) (k : Parts) → (pass_to o m k).events ≡ k.events
+events_to : (o : Option ℕ) (m : ℕ) (k : Parts) → (hand_over_to o m k).events ≡ k.events
 unfolding wake restamp
 events_to None m k = refl
 events_to (Some u) m k = refl
 
-events_on : (m : ℕ) (k : Parts) → (pass_on m k).events ≡ k.events
-unfolding pass_on
+events_on : (m : ℕ) (k : Parts) → (hand_over m k).events ≡ k.events
+unfolding hand_over
 events_on m k = events_to (first_waiter (Lock m) k) m k
 
 -- a wait that is not refused has passed the call's own test
@@ -125,7 +125,7 @@ module _ (a : Actor) (old k : Parts) (t : ℕ) (own : a.task ≡ Some t) (fresh 
       unfolding begin_event_wait
       begins deadline was mutex there at its =
           let named : Parts = on_event e (λ _. Some m) k in
-          let passed : Parts = pass_on m named in
+          let passed : Parts = hand_over m named in
           let small : m < length old.mutexes = rw (ap length (sym fresh.mutexes)) (slice_get-below k.mutexes m mutex at) in
           let binds : bound e passed ≡ Some m = ap (λ xs. bound_of (slice_get xs e)) (events_on m named) ∙ named_is e m k was there in
           up a old k t own fresh w 0 2 _ (omega arith) (omega arith)

@@ -8,7 +8,7 @@ use Rattle.evm_exec.specs.declared.hart.Hart.{Hart}
 use Rattle.evm_model.specs.Good.{event_of}
 use Rattle.evm_model.specs.Locks.{with_ceiling, mutex_of, add_mutex, new_mutex_as, new_mutex, take_mutex, lock_again, cycle_refusal, lock_other, lock_owned, lock_known, lock, try_owned, try_known, try_lock, unlock_once, unlock_known, unlock}
 use Rattle.evm_model.specs.Mutexes.{free_mutex, owner_of, held_by}
-use Rattle.evm_model.specs.Passing.{pass_on}
+use Rattle.evm_model.specs.Passing.{hand_over}
 use Rattle.evm_model.specs.Stages.{is_stalled, wait_refusal, wait_unless}
 use Rattle.evm_model.specs.State.{Parts, on_mutex}
 use Rattle.evm_model.specs.declared.call.Outcome.{Outcome}
@@ -143,7 +143,7 @@ module _ (a : Actor) (old k : Parts) (t : ℕ) (own : a.task ≡ Some t) (fresh 
   tries x call m = notifies_refused a old 1 64 t Errnos.Deadlock Deadlock k (try_known (slice_get k.mutexes m) t m k) own (by_deadlock x (inr call)) fresh (try_rests t m k (slice_get k.mutexes m)) (tries_known (slice_get k.mutexes m) m refl)
 
   -- ---- an unlock
-  unlocks_if : (b : Bool) (m : ℕ) (mutex : Mutex) → slice_get k.mutexes m ≡ Some mutex → mutex.owner ≡ Some t → Walk a old 1 64 (if b then pass_on m k else on_mutex m (held_by t (mutex.count - 1)) k)
+  unlocks_if : (b : Bool) (m : ℕ) (mutex : Mutex) → slice_get k.mutexes m ≡ Some mutex → mutex.owner ≡ Some t → Walk a old 1 64 (if b then hand_over m k else on_mutex m (held_by t (mutex.count - 1)) k)
   unlocks_if true m mutex e its = up 0 1 _ (omega arith) (omega arith) (passes a old 0 t own 0 m k (ap (λ xs. slice_get xs m) fresh.mutexes) (ap owner_of e ∙ its) (stayed_same old k fresh.tasks) w)
   unlocks_if false m mutex e its = takes 0 m (mutex.count - 1) mutex (omega arith) e (inr its) (omega arith)
 

@@ -6,7 +6,7 @@ use Rattle.evm_ranks.proofs.Greatest.{boosts-is}
 use Rattle.evm_model.specs.Good.{event_of, is_waiting}
 use Rattle.evm_model.specs.Lists.{change}
 use Rattle.evm_model.specs.Mutexes.{owner, owner_of, owns_any, held_by, freed}
-use Rattle.evm_model.specs.Passing.{pass_to, pass_on, pass_below, end_task}
+use Rattle.evm_model.specs.Passing.{hand_over_to, hand_over, hand_over_below, end_task}
 use Rattle.evm_model.specs.Pipes.{set_stall}
 use Rattle.evm_model.specs.State.{Parts, on_pipe, on_mutex}
 use Rattle.evm_model.specs.Tasks.{restamp, set_state, leave_in_band, is_weak}
@@ -25,41 +25,41 @@ use Rattle.evm_walk.proofs.Waiters.{AtLock, locks, reacquires, IsWaiter, first_i
 use Rattle.evm_walk.proofs.Walk.{Actor, IsPassed, passed, passed_back, task, wakes, gives, holds, Walk, quietly, stamped, slack, walk_if}
 
 -- ---- another mutex, and how many tasks there are
-elsewhere_to : (o : Option ℕ) (m i : ℕ) (k : Parts) → (i ≡ m → ⊥) → slice_get (pass_to o m k).mutexes i ≡ slice_get k.mutexes i
+elsewhere_to : (o : Option ℕ) (m i : ℕ) (k : Parts) → (i ≡ m → ⊥) → slice_get (hand_over_to o m k).mutexes i ≡ slice_get k.mutexes i
 unfolding wake restamp
 elsewhere_to None m i k other = change-elsewhere freed k.mutexes m i other
 elsewhere_to (Some u) m i k other = change-elsewhere (held_by u 1) k.mutexes m i other
 
-elsewhere_if : (b : Bool) (m i : ℕ) (k : Parts) → (i ≡ m → ⊥) → slice_get (if b then pass_on m k else k).mutexes i ≡ slice_get k.mutexes i
-unfolding pass_on
+elsewhere_if : (b : Bool) (m i : ℕ) (k : Parts) → (i ≡ m → ⊥) → slice_get (if b then hand_over m k else k).mutexes i ≡ slice_get k.mutexes i
+unfolding hand_over
 elsewhere_if true m i k other = elsewhere_to (first_waiter (Lock m) k) m i k other
 elsewhere_if false m i k other = refl
 
 -- the mutexes from a number on
-pub untouched : (t n i : ℕ) (k : Parts) → n ≤ i → slice_get (pass_below t n k).mutexes i ≡ slice_get k.mutexes i
-unfolding pass_below
+pub untouched : (t n i : ℕ) (k : Parts) → n ≤ i → slice_get (hand_over_below t n k).mutexes i ≡ slice_get k.mutexes i
+unfolding hand_over_below
 untouched t zero i k h = refl
 untouched t (suc m) i k h =
-    let before : Parts = pass_below t m k in
+    let before : Parts = hand_over_below t m k in
     elsewhere_if (is_number (owner before.mutexes m) t) m i before (λ same. omega arith) ∙ untouched t m i k (omega arith)
 
-tasks_to : (o : Option ℕ) (m : ℕ) (k : Parts) → length (pass_to o m k).tasks ≡ length k.tasks
+tasks_to : (o : Option ℕ) (m : ℕ) (k : Parts) → length (hand_over_to o m k).tasks ≡ length k.tasks
 unfolding wake restamp
 tasks_to None m k = refl
 tasks_to (Some u) m k = length-change _ _ u ∙ length-change _ k.tasks u
 
-tasks_if : (b : Bool) (m : ℕ) (k : Parts) → length (if b then pass_on m k else k).tasks ≡ length k.tasks
-unfolding pass_on
+tasks_if : (b : Bool) (m : ℕ) (k : Parts) → length (if b then hand_over m k else k).tasks ≡ length k.tasks
+unfolding hand_over
 tasks_if true m k = tasks_to (first_waiter (Lock m) k) m k
 tasks_if false m k = refl
 
-pub tasks_on : (m : ℕ) (k : Parts) → length (pass_on m k).tasks ≡ length k.tasks
+pub tasks_on : (m : ℕ) (k : Parts) → length (hand_over m k).tasks ≡ length k.tasks
 tasks_on m k = tasks_if true m k
 
-tasks_below : (t n : ℕ) (k : Parts) → length (pass_below t n k).tasks ≡ length k.tasks
-unfolding pass_below
+tasks_below : (t n : ℕ) (k : Parts) → length (hand_over_below t n k).tasks ≡ length k.tasks
+unfolding hand_over_below
 tasks_below t zero k = refl
-tasks_below t (suc m) k = let before : Parts = pass_below t m k in tasks_if (is_number (owner before.mutexes m) t) m before ∙ tasks_below t m k
+tasks_below t (suc m) k = let before : Parts = hand_over_below t m k in tasks_if (is_number (owner before.mutexes m) t) m before ∙ tasks_below t m k
 
 left_tasks : (c : ℕ) (k : Parts) → length (leave_in_band c k).tasks ≡ length k.tasks
 unfolding leave_in_band
@@ -99,20 +99,20 @@ stayed_woken old k u stamp owns xs same s v x e w =
       | inr g ↦ s.stays v x g.1 w
     ]
 
-stayed_to : (old : Parts) (o : Option ℕ) (m : ℕ) (k : Parts) → Stayed old k → Stayed old (pass_to o m k)
+stayed_to : (old : Parts) (o : Option ℕ) (m : ℕ) (k : Parts) → Stayed old k → Stayed old (hand_over_to o m k)
 unfolding wake restamp
 stayed_to old None m k s = record { stays = s.stays }
 stayed_to old (Some u) m k s = record { stays = stayed_woken old k u k.stamps (owns_any u (change (held_by u 1) k.mutexes m)) _ refl s }
 
-stayed_if : (b : Bool) (old : Parts) (m : ℕ) (k : Parts) → Stayed old k → Stayed old (if b then pass_on m k else k)
-unfolding pass_on
+stayed_if : (b : Bool) (old : Parts) (m : ℕ) (k : Parts) → Stayed old k → Stayed old (if b then hand_over m k else k)
+unfolding hand_over
 stayed_if true old m k s = stayed_to old (first_waiter (Lock m) k) m k s
 stayed_if false old m k s = s
 
-stayed_below : (old : Parts) (t m : ℕ) (k : Parts) → Stayed old k → Stayed old (pass_below t m k)
-unfolding pass_below
+stayed_below : (old : Parts) (t m : ℕ) (k : Parts) → Stayed old k → Stayed old (hand_over_below t m k)
+unfolding hand_over_below
 stayed_below old t zero k s = s
-stayed_below old t (suc m) k s = let before : Parts = pass_below t m k in stayed_if (is_number (owner before.mutexes m) t) old m before (stayed_below old t m k s)
+stayed_below old t (suc m) k s = let before : Parts = hand_over_below t m k in stayed_if (is_number (owner before.mutexes m) t) old m before (stayed_below old t m k s)
 
 at_lock_waits : (m : ℕ) (state : TaskState) → AtLock m state → is_waiting state ≡ true
 at_lock_waits m _ locks = refl
@@ -123,12 +123,12 @@ module _ (a : Actor) (old : Parts) (n t : ℕ) (own : a.task ≡ Some t) where
   wakes_passed s u m x _ k there on locks its w = stamped a old n s k _ (wakes u 0 x (Lock m) k there on (passed m its)) w
   wakes_passed s u m x _ k there on (reacquires answer) its w = stamped a old n s k _ (wakes u answer x (Reacquire m answer) k there on (passed_back m answer its)) w
 
-  passes_to : (s m : ℕ) (o : Option ℕ) (k : Parts) → first_waiter (Lock m) k ≡ o → slice_get k.mutexes m ≡ slice_get old.mutexes m → owner k.mutexes m ≡ Some t → Stayed old k
-      → Walk a old n s k → Walk a old n (s + 1) (pass_to o m k)
-  passes_to s m None k first same its stayed w =
+  hands_over_to : (s m : ℕ) (o : Option ℕ) (k : Parts) → first_waiter (Lock m) k ≡ o → slice_get k.mutexes m ≡ slice_get old.mutexes m → owner k.mutexes m ≡ Some t → Stayed old k
+      → Walk a old n s k → Walk a old n (s + 1) (hand_over_to o m k)
+  hands_over_to s m None k first same its stayed w =
       slack a old n n s (s + 1) _ (λ g. omega arith) (λ g. omega arith)
       (quietly a old n s k _ (holds 0 t m freed k own same (λ x e. record { kind = refl; whose = inr (ap owner_of (sym e) ∙ its); count = omega arith })) w)
-  passes_to s m (Some u) k first same its stayed w =
+  hands_over_to s m (Some u) k first same its stayed w =
       let given : Parts = on_mutex m (held_by u 1) k in
       let mutex = mutex_there m t k.mutexes (slice_get k.mutexes m) refl its in
       let waiter : IsWaiter (Lock m) u k = first_is (Lock m) u k first in
@@ -144,18 +144,18 @@ module _ (a : Actor) (old : Parts) (n t : ℕ) (own : a.task ≡ Some t) where
       rw waiter.there
       (wakes_passed s u m waiter.task waiter.task.state given waiter.there refl at is (quietly a old n s k given (gives t u m k own same its) w))
 
-  pub passes : (s m : ℕ) (k : Parts) → slice_get k.mutexes m ≡ slice_get old.mutexes m → owner k.mutexes m ≡ Some t → Stayed old k → Walk a old n s k → Walk a old n (s + 1) (pass_on m k)
-  unfolding pass_on
-  passes s m k same its stayed w = passes_to s m (first_waiter (Lock m) k) k refl same its stayed w
+  pub passes : (s m : ℕ) (k : Parts) → slice_get k.mutexes m ≡ slice_get old.mutexes m → owner k.mutexes m ≡ Some t → Stayed old k → Walk a old n s k → Walk a old n (s + 1) (hand_over m k)
+  unfolding hand_over
+  passes s m k same its stayed w = hands_over_to s m (first_waiter (Lock m) k) k refl same its stayed w
 
-  passes_below : (s m : ℕ) (k : Parts) → k.mutexes ≡ old.mutexes → Stayed old k → Walk a old n s k → Walk a old n (s + m) (pass_below t m k)
-  unfolding pass_below
-  passes_below s zero k same stayed w = slack a old n n s (s + 0) k (λ g. omega arith) (λ g. omega arith) w
-  passes_below s (suc m) k same stayed w =
-      let before : Parts = pass_below t m k in
-      let so_far : Walk a old n (s + m) before = passes_below s m k same stayed w in
+  hands_over_below : (s m : ℕ) (k : Parts) → k.mutexes ≡ old.mutexes → Stayed old k → Walk a old n s k → Walk a old n (s + m) (hand_over_below t m k)
+  unfolding hand_over_below
+  hands_over_below s zero k same stayed w = slack a old n n s (s + 0) k (λ g. omega arith) (λ g. omega arith) w
+  hands_over_below s (suc m) k same stayed w =
+      let before : Parts = hand_over_below t m k in
+      let so_far : Walk a old n (s + m) before = hands_over_below s m k same stayed w in
       let more : s + suc m ≡ s + m + 1 = omega arith in
-      rw more (walk_if a old n (s + m + 1) (is_number (owner before.mutexes m) t) (pass_on m before) before
+      rw more (walk_if a old n (s + m + 1) (is_number (owner before.mutexes m) t) (hand_over m before) before
       (λ its. passes (s + m) m before (untouched t m m k (omega arith) ∙ ap (λ xs. slice_get xs m) same) (boosts-is (owner before.mutexes m) t its) (stayed_below old t m k stayed) so_far)
       (λ other. slack a old n n (s + m) (s + m + 1) before (λ g. omega arith) (λ g. omega arith) so_far))
 
@@ -163,8 +163,8 @@ module _ (a : Actor) (old : Parts) (n t : ℕ) (own : a.task ≡ Some t) where
   unfolding end_task set_state
   ends s state k none same few w =
       let u : ℕ = s + length k.mutexes in
-      let passed : Parts = pass_below t (length k.mutexes) k in
+      let passed : Parts = hand_over_below t (length k.mutexes) k in
       let freed : Parts = on_pipe a.cpu (set_stall InBand false) passed in
       let left : Parts = leave_in_band a.cpu freed in
-      let gone : Walk a old n u left = leaves a old n u freed (stalls_stage a old n u passed (passes_below s (length k.mutexes) k same (stayed_same old k few) w) InBand false) in
+      let gone : Walk a old n u left = leaves a old n u freed (stalls_stage a old n u passed (hands_over_below s (length k.mutexes) k same (stayed_same old k few) w) InBand false) in
       quietly a old n u left _ (task t (λ x. record x { state = state }) left own (λ x. (refl, refl)) (λ x. inl none) (inl (left_tasks a.cpu freed ∙ tasks_below t (length k.mutexes) k ∙ ap length few))) gone

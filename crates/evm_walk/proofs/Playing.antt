@@ -290,7 +290,7 @@ module _ (a : Actor) (old : Parts) (was : Option ℕ) (runs : current a.cpu old 
       (counted a old n s k _ 1 (moves 1 f k (λ are q d. let same : p ≡ q = (let two : Some p ≡ Some q = sym e ∙ d in cc) in rw (← same) (move are))) w)))
 
 -- ---- in-band
-in_band_left : (l : ℕ) (p : Pipe) → (play InBand l p).inband.lines ≡ without_line p.inband.lines l
+in_band_left : (l : ℕ) (p : Pipe) → (play InBand l p).in_band.lines ≡ without_line p.in_band.lines l
 unfolding play
 in_band_left l p = refl
 
@@ -311,7 +311,7 @@ wakes-pipes c l (suc t) k =
     if_pipes (awaits_line c l (slice_get before.tasks t)) (wake t 0 before) before (wake_pipes t 0 before) ∙ wakes-pipes c l t k
 
 module _ (a : Actor) (old : Parts) where
-  pub walks_in_band_lines : (ls : List ℕ) (n s : ℕ) (k : Parts) (p : Pipe) → slice_get k.pipes a.cpu ≡ Some p → (ArePipes old → IsLeft ls p.inband.lines p)
+  pub walks_in_band_lines : (ls : List ℕ) (n s : ℕ) (k : Parts) (p : Pipe) → slice_get k.pipes a.cpu ≡ Some p → (ArePipes old → IsLeft ls p.in_band.lines p)
       → Walk a old n s k → Walk a old (n + length ls) (s + 64 * length ls) (play_in_band_lines a.cpu ls k)
   unfolding play_in_band_lines play_in_band
   walks_in_band_lines [] n s k p e g w = slack a old n (n + 0) s (s + 64 * 0) k (λ h. omega arith) (λ h. omega arith) w
@@ -320,7 +320,7 @@ module _ (a : Actor) (old : Parts) where
       let played : Parts = on_pipe a.cpu f k in
       let woken : Parts = wake_below a.cpu l (length k.tasks) played in
       let move : ArePipes old → PipeMove (a.may a.cpu) 1 p (f p) = λ are. plays_in_band l p (rw (g are).same (first_on l ls)) in
-      let left : ArePipes old → IsLeft ls (f p).inband.lines (f p) = λ are. let set : IsLineSet (l ∷ ls) = subst IsLineSet (g are).same (g are).pipe.inband in record {
+      let left : ArePipes old → IsLeft ls (f p).in_band.lines (f p) = λ are. let set : IsLineSet (l ∷ ls) = subst IsLineSet (g are).same (g are).pipe.in_band in record {
         same = in_band_left l p ∙ rw (g are).same (without_line-least l ls set);
         pipe = move_kept (a.may a.cpu) 1 p (f p) (move are) (g are).pipe;
       } in

@@ -74,9 +74,9 @@ module _ (a : Actor) (old : Parts) (may : a.chooses ≡ true) where
   plays_pipe : (o : Option Pipe) (n s : ℕ) (k : Parts) → slice_get k.pipes a.cpu ≡ o → Walk a old n s k → Walk a old (n + 32) (s + 2048) (play_in_band_pipe o a.cpu k)
   plays_pipe None n s k e w = slack a old n (n + 32) s (s + 2048) k (λ p. omega arith) (λ p. omega arith) w
   plays_pipe (Some pipe) n s k e w =
-      let ls : List ℕ = pipe.inband.lines in
-      let few : ArePipes old → length ls ≤ LINES = λ are. length-set ls ((walk_pipes a old n s k w are).each a.cpu pipe e).inband in
-      walk_if a old (n + 32) (s + 2048) pipe.inband.stalled k _
+      let ls : List ℕ = pipe.in_band.lines in
+      let few : ArePipes old → length ls ≤ LINES = λ are. length-set ls ((walk_pipes a old n s k w are).each a.cpu pipe e).in_band in
+      walk_if a old (n + 32) (s + 2048) pipe.in_band.stalled k _
       (λ stalled. slack a old n (n + 32) s (s + 2048) k (λ p. omega arith) (λ p. omega arith) w)
       (λ free. slack a old (n + length ls) (n + 32) (s + 64 * length ls) (s + 2048) _ (λ are. omega (arith, few are)) (λ p. omega (arith, few p.pipes))
       (walks_in_band_lines a old ls n s k pipe e (λ are. record { same = refl; pipe = (walk_pipes a old n s k w are).each a.cpu pipe e }) w))

@@ -23,33 +23,33 @@ length-set set s =
 
 pub IsPipe-raise : (l : ℕ) (p : Pipe) → IsPipe p → IsPipe (raise l p)
 unfolding raise
-IsPipe-raise l p s = record { wire = IsLineSet-with p.wire l; oob = s.oob; inband = s.inband; counts = length-change _ p.counts l ∙ s.counts }
+IsPipe-raise l p s = record { wire = IsLineSet-with p.wire l; oob = s.oob; in_band = s.in_band; counts = length-change _ p.counts l ∙ s.counts }
 
 pub IsPipe-leave : (l : ℕ) (p : Pipe) → IsPipe p → IsPipe (leave_wire l p)
 unfolding leave_wire
-IsPipe-leave l p s = record { wire = IsLineSet-without p.wire l; oob = s.oob; inband = s.inband; counts = length-change _ p.counts l ∙ s.counts }
+IsPipe-leave l p s = record { wire = IsLineSet-without p.wire l; oob = s.oob; in_band = s.in_band; counts = length-change _ p.counts l ∙ s.counts }
 
 pub IsPipe-arrive : (stage : Stage) (l : ℕ) (p : Pipe) → IsPipe p → IsPipe (arrive stage l p)
 unfolding arrive
-IsPipe-arrive OutOfBand l p s = record { wire = s.wire; oob = IsLineSet-with p.oob.lines l; inband = s.inband; counts = length-change _ p.counts l ∙ s.counts }
-IsPipe-arrive InBand l p s = record { wire = s.wire; oob = s.oob; inband = IsLineSet-with p.inband.lines l; counts = length-change _ p.counts l ∙ s.counts }
+IsPipe-arrive OutOfBand l p s = record { wire = s.wire; oob = IsLineSet-with p.oob.lines l; in_band = s.in_band; counts = length-change _ p.counts l ∙ s.counts }
+IsPipe-arrive InBand l p s = record { wire = s.wire; oob = s.oob; in_band = IsLineSet-with p.in_band.lines l; counts = length-change _ p.counts l ∙ s.counts }
 
 pub IsPipe-play : (stage : Stage) (l : ℕ) (p : Pipe) → IsPipe p → IsPipe (play stage l p)
 unfolding play
-IsPipe-play OutOfBand l p s = record { wire = s.wire; oob = IsLineSet-without p.oob.lines l; inband = s.inband; counts = length-change _ p.counts l ∙ s.counts }
-IsPipe-play InBand l p s = record { wire = s.wire; oob = s.oob; inband = IsLineSet-without p.inband.lines l; counts = length-change _ p.counts l ∙ s.counts }
+IsPipe-play OutOfBand l p s = record { wire = s.wire; oob = IsLineSet-without p.oob.lines l; in_band = s.in_band; counts = length-change _ p.counts l ∙ s.counts }
+IsPipe-play InBand l p s = record { wire = s.wire; oob = s.oob; in_band = IsLineSet-without p.in_band.lines l; counts = length-change _ p.counts l ∙ s.counts }
 
 pub IsPipe-stall : (stage : Stage) (b : Bool) (p : Pipe) → IsPipe p → IsPipe (set_stall stage b p)
 unfolding set_stall
-IsPipe-stall OutOfBand b p s = record { wire = s.wire; oob = s.oob; inband = s.inband; counts = s.counts }
-IsPipe-stall InBand b p s = record { wire = s.wire; oob = s.oob; inband = s.inband; counts = s.counts }
+IsPipe-stall OutOfBand b p s = record { wire = s.wire; oob = s.oob; in_band = s.in_band; counts = s.counts }
+IsPipe-stall InBand b p s = record { wire = s.wire; oob = s.oob; in_band = s.in_band; counts = s.counts }
 
 pub IsPipe-receive : (stage : Stage) (l : ℕ) (p : Pipe) → IsPipe p → IsPipe (receive stage l p)
 unfolding receive
 IsPipe-receive stage l p h = IsPipe-arrive stage l (leave_wire l p) (IsPipe-leave l p h)
 
 pub IsPipe-idle : IsPipe idle_pipe
-IsPipe-idle = record { wire = IsLineSet-empty; oob = IsLineSet-empty; inband = IsLineSet-empty; counts = refl }
+IsPipe-idle = record { wire = IsLineSet-empty; oob = IsLineSet-empty; in_band = IsLineSet-empty; counts = refl }
 
 pub move_kept : (may : ℕ → Bool) (n : ℕ) (p q : Pipe) → PipeMove may n p q → IsPipe p → IsPipe q
 move_kept may _ _ _ (raises l p h on) s = IsPipe-raise l p s

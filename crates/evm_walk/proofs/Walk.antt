@@ -67,7 +67,7 @@ pub data PipeMove (may : ℕ → Bool) : ℕ → Pipe → Pipe → Type 0 where
   -- a line in a log is played; the timer's, played out-of-band, arrives in-band
   plays_timer : (p : Pipe) → has_line p.oob.lines 0 ≡ true → PipeMove may 1 p (arrive InBand 0 (play OutOfBand 0 p))
   plays_oob : (l : ℕ) (p : Pipe) → (l ≡ 0 → ⊥) → has_line p.oob.lines l ≡ true → PipeMove may 1 p (play OutOfBand l p)
-  plays_in_band : (l : ℕ) (p : Pipe) → has_line p.inband.lines l ≡ true → PipeMove may 1 p (play InBand l p)
+  plays_in_band : (l : ℕ) (p : Pipe) → has_line p.in_band.lines l ≡ true → PipeMove may 1 p (play InBand l p)
   stalls : (stage : Stage) (b : Bool) (p : Pipe) → PipeMove may 0 p (set_stall stage b p)
 
 -- only processors and pipes have changed so far

@@ -5,7 +5,7 @@ use Rattle.evm_exec.specs.declared.hart.Hart.{Hart}
 use Rattle.evm_model.specs.Harts.{set_register}
 use Rattle.evm_model.specs.Lists.{change}
 use Rattle.evm_model.specs.Mutexes.{owner, owner_of, owns_any, held_by, freed}
-use Rattle.evm_model.specs.Passing.{pass_to, pass_on}
+use Rattle.evm_model.specs.Passing.{hand_over_to, hand_over}
 use Rattle.evm_model.specs.Ranks.{rank, stamp}
 use Rattle.evm_model.specs.State.{Parts}
 use Rattle.evm_model.specs.Tasks.{restamp}
@@ -59,7 +59,7 @@ wakes_oob m t mutexes task its (inl on) = woke (Lock m) (owns_any t mutexes) tas
 wakes_oob m t mutexes task its (inr on) = woke (Reacquire m on.0) (owns_any t mutexes) task on.1 ∙ ap (λ (state : TaskState). record task { state = state; deadline = 0 }) (owner_oob m t mutexes task its)
 
 passes : (m t : ℕ) (k : Parts) (mutex : Mutex) (task : Task) → slice_get k.mutexes m ≡ Some mutex → slice_get k.tasks t ≡ Some task → WaitsForMutex task.state m
-    → (slice_get (pass_to (Some t) m k).mutexes m ≡ Some (held_by t 1 mutex)) × (slice_get (pass_to (Some t) m k).tasks t ≡ Some (record task { stamp = k.stamps; deadline = 0; state = OobReady }))
+    → (slice_get (hand_over_to (Some t) m k).mutexes m ≡ Some (held_by t 1 mutex)) × (slice_get (hand_over_to (Some t) m k).tasks t ≡ Some (record task { stamp = k.stamps; deadline = 0; state = OobReady }))
 unfolding wake restamp
 passes m t k mutex task e there on =
     let given : List Mutex = change (held_by t 1) k.mutexes m in
@@ -69,7 +69,7 @@ passes m t k mutex task e there on =
     )
 
 pub returns-clause-passes : goal.returns-clause-passes
-unfolding pass_on
+unfolding hand_over
 returns-clause-passes c m t k mutex task e there on =
     let w : IsLocked k.tasks t m = locked k.tasks t m (first-locked m t k e).1 in
     let two : Some w.task ≡ Some task = sym w.there ∙ on in
@@ -77,12 +77,12 @@ returns-clause-passes c m t k mutex task e there on =
     rw e (passes m t k mutex task there on (rw (← same) w.on))
 
 pub returns-clause-frees : goal.returns-clause-frees
-unfolding pass_on
+unfolding hand_over
 returns-clause-frees c m k mutex e there = rw e (change-here freed k.mutexes m ∙ ap (option_map freed) there, refl)
 
 -- ---- what it leaves
 answered : (m t answer : ℕ) (k : Parts) (hart : Hart) (task : Task) → slice_get k.harts t ≡ Some hart → slice_get k.tasks t ≡ Some task → kept task.state ≡ answer
-    → slice_get (pass_to (Some t) m k).harts t ≡ Some (set_register 10 answer hart)
+    → slice_get (hand_over_to (Some t) m k).harts t ≡ Some (set_register 10 answer hart)
 unfolding wake restamp
 answered m t answer k hart task e there keeps =
     let value : ℕ = kept_of (slice_get k.tasks t) in
@@ -90,14 +90,14 @@ answered m t answer k hart task e there keeps =
     change-here (set_register 10 value) k.harts t ∙ ap (option_map (set_register 10 value)) e ∙ ap (λ (n : ℕ). Some (set_register 10 n hart)) same
 
 pub returns-clause-answers : goal.returns-clause-answers
-unfolding pass_on
+unfolding hand_over
 returns-clause-answers c m t k hart task e there at on = rw e (answered m t 0 k hart task there at (ap kept on))
 
 pub returns-clause-keeps : goal.returns-clause-keeps
-unfolding pass_on
+unfolding hand_over
 returns-clause-keeps c m t answer k hart task e there at on = rw e (answered m t answer k hart task there at (ap kept on))
 
-left : (m u : ℕ) (k : Parts) (o : Option ℕ) → o ≢ Some u → (slice_get (pass_to o m k).tasks u ≡ slice_get k.tasks u) × (slice_get (pass_to o m k).harts u ≡ slice_get k.harts u)
+left : (m u : ℕ) (k : Parts) (o : Option ℕ) → o ≢ Some u → (slice_get (hand_over_to o m k).tasks u ≡ slice_get k.tasks u) × (slice_get (hand_over_to o m k).harts u ≡ slice_get k.harts u)
 unfolding wake restamp
 left m u k None other = (refl, refl)
 left m u k (Some t) other =
@@ -108,23 +108,23 @@ left m u k (Some t) other =
     )
 
 pub returns-clause-other_tasks : goal.returns-clause-other_tasks
-unfolding pass_on
+unfolding hand_over
 returns-clause-other_tasks c m u k other = left m u k (first_waiter (Lock m) k) other
 
-others : (m n : ℕ) (k : Parts) (o : Option ℕ) → n ≢ m → slice_get (pass_to o m k).mutexes n ≡ slice_get k.mutexes n
+others : (m n : ℕ) (k : Parts) (o : Option ℕ) → n ≢ m → slice_get (hand_over_to o m k).mutexes n ≡ slice_get k.mutexes n
 unfolding wake restamp
 others m n k None other = change-elsewhere freed k.mutexes m n other
 others m n k (Some t) other = change-elsewhere (held_by t 1) k.mutexes m n other
 
 pub returns-clause-other_mutexes : goal.returns-clause-other_mutexes
-unfolding pass_on
+unfolding hand_over
 returns-clause-other_mutexes c m n k other = others m n k (first_waiter (Lock m) k) other
 
-rests : (m : ℕ) (k : Parts) (o : Option ℕ) → pass_to o m k ≡ record k { harts = (pass_to o m k).harts; tasks = (pass_to o m k).tasks; mutexes = (pass_to o m k).mutexes; stamps = (pass_to o m k).stamps }
+rests : (m : ℕ) (k : Parts) (o : Option ℕ) → hand_over_to o m k ≡ record k { harts = (hand_over_to o m k).harts; tasks = (hand_over_to o m k).tasks; mutexes = (hand_over_to o m k).mutexes; stamps = (hand_over_to o m k).stamps }
 unfolding wake restamp
 rests m k None = refl
 rests m k (Some t) = refl
 
 pub returns-clause-rest : goal.returns-clause-rest
-unfolding pass_on
+unfolding hand_over
 returns-clause-rest c m k = rests m k (first_waiter (Lock m) k)

@@ -1,7 +1,7 @@
 use Rattle.std.proofs.Common.{◌≡◌, ◌≢◌, ℕ, List, Some, slice_get, length, inl, inr, ap, ◌∙◌}
 use Rattle.evm_ranks.proofs.Greatest.{greatest-first, greatest-booster, greatest-none}
 use Rattle.evm_ranks.specs.Boosts.{rank_after}
-use Rattle.evm_model.specs.Mutexes.{owner, owner_of, boosts, raised, ceiling}
+use Rattle.evm_model.specs.Mutexes.{owner, owner_of, boosts, ceiling_owner, ceiling}
 use Rattle.evm_model.specs.Ranks.{class_rank_of, own_rank, rank}
 use Rattle.evm_model.specs.declared.limits.TheConstants.{TASK_LIMIT}
 use Rattle.evm_model.specs.declared.mutex.Mutex.{Mutex}
@@ -16,18 +16,18 @@ returns-clause-own g mutexes tasks t = g.ranks_settle.ensures.own (boosts mutexe
 
 pub returns-clause-class : goal.returns-clause-class
 unfolding own_rank
-returns-clause-class g mutexes tasks t task e = rw (← ap class_rank_of e) (greatest-first (raised mutexes) (ceiling mutexes) t (class_rank_of (slice_get tasks t)) (length mutexes))
+returns-clause-class g mutexes tasks t task e = rw (← ap class_rank_of e) (greatest-first (ceiling_owner mutexes) (ceiling mutexes) t (class_rank_of (slice_get tasks t)) (length mutexes))
 
 pub returns-clause-ceiling : goal.returns-clause-ceiling
 unfolding own_rank
 returns-clause-ceiling g mutexes tasks t m priority mutex e p its =
     rw (← ceiling_is mutexes m priority mutex e p)
-    (greatest-booster (raised mutexes) (ceiling mutexes) t (class_rank_of (slice_get tasks t)) (length mutexes) m (slice_get-below mutexes m mutex e) (raised_is mutexes m t priority mutex e p its))
+    (greatest-booster (ceiling_owner mutexes) (ceiling mutexes) t (class_rank_of (slice_get tasks t)) (length mutexes) m (slice_get-below mutexes m mutex e) (raised_is mutexes m t priority mutex e p its))
 
 pub returns-clause-one_of_them : goal.returns-clause-one_of_them
 unfolding own_rank
 returns-clause-one_of_them g mutexes tasks t task e =
-    elim (greatest-one (raised mutexes) (ceiling mutexes) t (class_rank_of (slice_get tasks t)) (length mutexes)) [
+    elim (greatest-one (ceiling_owner mutexes) (ceiling mutexes) t (class_rank_of (slice_get tasks t)) (length mutexes)) [
       | inl own ↦ inl (own ∙ ap class_rank_of e)
       | inr r ↦
           let h = is_raised mutexes r.0 t r.2 in
@@ -38,7 +38,7 @@ returns-clause-one_of_them g mutexes tasks t task e =
 none_boosts : (mutexes : List Mutex) (tasks : List Task) (t : ℕ) → ((m : ℕ) → owner mutexes m ≢ Some t) → (u : ℕ) → boosts mutexes tasks u ≡ Some t → ⊥
 none_boosts mutexes tasks t none u e = let b = booster mutexes tasks u t e in none b.m (ap owner_of b.heir.there ∙ b.heir.its)
 
-none_raises : (mutexes : List Mutex) (t : ℕ) → ((m : ℕ) → owner mutexes m ≢ Some t) → (m : ℕ) → raised mutexes m ≡ Some t → ⊥
+none_raises : (mutexes : List Mutex) (t : ℕ) → ((m : ℕ) → owner mutexes m ≢ Some t) → (m : ℕ) → ceiling_owner mutexes m ≡ Some t → ⊥
 none_raises mutexes t none m e = let r = is_raised mutexes m t e in none m (ap owner_of r.there ∙ r.its)
 
 its_own : (mutexes : List Mutex) (tasks : List Task) (t : ℕ) → ((m : ℕ) → owner mutexes m ≢ Some t) → rank mutexes tasks t ≡ own_rank mutexes tasks t
@@ -48,7 +48,7 @@ its_own mutexes tasks t none =
 
 its_class : (mutexes : List Mutex) (tasks : List Task) (t : ℕ) → ((m : ℕ) → owner mutexes m ≢ Some t) → own_rank mutexes tasks t ≡ class_rank_of (slice_get tasks t)
 unfolding own_rank
-its_class mutexes tasks t none = greatest-none (raised mutexes) (ceiling mutexes) t (class_rank_of (slice_get tasks t)) (length mutexes) (none_raises mutexes t none)
+its_class mutexes tasks t none = greatest-none (ceiling_owner mutexes) (ceiling mutexes) t (class_rank_of (slice_get tasks t)) (length mutexes) (none_raises mutexes t none)
 
 pub returns-clause-alone : goal.returns-clause-alone
 returns-clause-alone g mutexes tasks t task e none = its_own mutexes tasks t none ∙ its_class mutexes tasks t none ∙ ap class_rank_of e

@@ -38,7 +38,7 @@ counted raised merged received arrivals played = record {
   merged = merged;
   received = received;
   oob = record { arrivals = 0; merged = 0; played = 0 };
-  inband = record { arrivals = arrivals; merged = 0; played = played };
+  in_band = record { arrivals = arrivals; merged = 0; played = played };
 }
 
 read_off : (all : Counts) (wire : List ℕ) (o : Option Pipe) (pipe : Pipe) (n : Counts) → counts_of o ≡ Some all → wire_of o ≡ wire

@@ -16,7 +16,7 @@ returns-clause-wire c l pipe = ap (λ (p : Pipe). p.wire) (c.raises_one_line.ens
 
 pub returns-clause-stages : goal.returns-clause-stages
 returns-clause-stages c l pipe =
-    let rest = (c.raises_one_line.ensures l pipe).rest in (ap (λ (p : Pipe). p.oob) rest, ap (λ (p : Pipe). p.inband) rest)
+    let rest = (c.raises_one_line.ensures l pipe).rest in (ap (λ (p : Pipe). p.oob) rest, ap (λ (p : Pipe). p.in_band) rest)
 
 pub returns-clause-counts : goal.returns-clause-counts
 returns-clause-counts c l pipe n there =
