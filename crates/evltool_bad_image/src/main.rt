@@ -5,5 +5,5 @@ use std::process::ExitCode;
 
 fn main(rt: HostRuntime) -> ExitCode {
     let devices = evm_command::devices(rt.alloc());
-    ExitCode::from(evm_command::run(&rt, devices))
+    ExitCode::from(evm_command::run(&rt, &rt, devices))
 }

@@ -6,12 +6,13 @@ use std::alloc::{AllocError, Global};
 use std::io;
 
 /// The command lines. The first `run` has the script of standard input, a later one finds it at its end.
-const LINES: [&str; 20] = [
+const LINES: [&str; 26] = [
     "--version",
     "--help",
     "help asm",
     "run --help",
     "replay --help",
+    "threads --help",
     "asm sum.s sum.elf",
     "run sum.elf",
     "replay sum.elf sum.journal",
@@ -27,6 +28,11 @@ const LINES: [&str; 20] = [
     "replay sum.elf missing.journal",
     "replay sum.elf bad.journal",
     "asm sum.s",
+    "threads sum.elf",
+    "threads sum.elf 0",
+    "threads sum.elf 8001",
+    "threads sum.s 10",
+    "threads missing.elf 10",
 ];
 
 // The words of a command line, behind the name of the program.
@@ -47,7 +53,7 @@ fn main(rt: HostRuntime) -> io::Result<()> {
         let Ok(devices) = devices(rt.alloc()) else {
             return Err(io::ErrorKind::OutOfMemory.into());
         };
-        let status = answer(rt.alloc(), words.as_slice(), devices, &mut world);
+        let status = answer(&rt, rt.alloc(), words.as_slice(), devices, &mut world);
         println!(rt; "status {status}")?;
     }
     Ok(())

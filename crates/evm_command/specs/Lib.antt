@@ -3,6 +3,7 @@ pub mod Exit
 pub mod ImageMessages
 pub mod Jobs
 pub mod SourceMessages
+pub mod ThreadRuns
 pub mod Words
 pub mod Running
 pub mod Trusted

@@ -1,6 +1,7 @@
 //! A run of the program, from its words to its exit status.
 
-ghost use Rattle.std.specs.Prelude.{MatchResult, map, option_map};
+ghost use Rattle.std.specs.Prelude.{◌≡◌, ◌<◌, ◌^◌, MatchResult, map, option_map};
+ghost use Rattle.std.specs.Str.Parse.{IsNumeral, digits_value, without_leading_plus};
 ghost use Rattle.std.specs.String.{string_bytes};
 ghost use Rattle.clap.specs.Words.{kind_of};
 ghost use Rattle.evm_command.specs.Running.{Shows, Blames, Responds, Refuses, Does, DoesNamed, Answers, HasNoWords};
@@ -11,12 +12,15 @@ use crate::exit::{FAILED, PROGRAM, USAGE, ended, memory_refused, words_not_read}
 use crate::replaying::replay;
 use crate::running::run;
 use crate::system::{System, World};
+use crate::threading::run_by_threads;
 use crate::words::{Job, job_of, parse};
 use clap::Error;
 use clap::error::ErrorKind;
 use evm_dev::Device;
 use evm_serve::{Devices, Ending, Verdict, write_all};
 use std::alloc::Global;
+use std::sync::Wait;
+use std::thread::Threads;
 
 // Writes help or the version.
 fn show<S: System>(text: &str, world: &mut World<S>) -> u8
@@ -64,7 +68,7 @@ fn subcommand_tip(subcommand: &str) -> &'static str {
 // What helps behind an error of the words.
 fn tip(kind: ErrorKind, words: &[String]) -> &'static str {
     match kind {
-        ErrorKind::InvalidSubcommand => "\nThe commands are asm, run, replay and help.\n",
+        ErrorKind::InvalidSubcommand => "\nThe commands are asm, run, replay, threads and help.\n",
         ErrorKind::UnknownArgument | ErrorKind::MissingRequiredArgument => match words {
             [_, subcommand, ..] => subcommand_tip(subcommand.as_str()),
             _ => "",
@@ -84,8 +88,19 @@ fn refuse<S: System>(alloc: Global, error: &Error, words: &[String], world: &mut
     }
 }
 
+// How many turns a word of TURNS says. It was checked: it is a number from 1 to 8000.
+fn turns_of(word: &str) -> u32
+    ensures { IsNumeral 10 (without_leading_plus word.now) → digits_value 10 (without_leading_plus word.now) < 2 ^ 32 → result ≡ digits_value 10 (without_leading_plus word.now) }
+{
+    match word.parse() {
+        Ok(turns) => turns,
+        Err(_) => 1,
+    }
+}
+
 // Does a job, with devices in its machine.
-fn do_job<S: System, D: Device>(
+fn do_job<S: System, D: Device, R: Threads + Wait + Sync>(
+    rt: &R,
     alloc: Global,
     devices: Devices<D>,
     job: Job<'_>,
@@ -97,11 +112,15 @@ fn do_job<S: System, D: Device>(
         Job::Assemble { source, out } => assemble_file(alloc, source, out, world),
         Job::Run { image } => run(alloc, devices, image, world),
         Job::Replay { image, journal } => replay(alloc, devices, image, journal, world),
+        Job::Threads { image, turns } => {
+            run_by_threads(rt, alloc, devices, image, turns_of(turns), world)
+        }
     }
 }
 
 // Does the job that the words name. They have been checked: they name one.
-fn do_named<S: System, D: Device>(
+fn do_named<S: System, D: Device, R: Threads + Wait + Sync>(
+    rt: &R,
     alloc: Global,
     devices: Devices<D>,
     job: Option<Job<'_>>,
@@ -110,13 +129,14 @@ fn do_named<S: System, D: Device>(
     ensures { DoesNamed S.opens S.creates S.Opened.gives S.Created.takes S.Input.gives S.Output.takes S.Errors.takes devices (option_map wanted job.entry) world.old world.new result }
 {
     match job {
-        Some(job) => do_job(alloc, devices, job, world),
+        Some(job) => do_job(rt, alloc, devices, job, world),
         None => USAGE,
     }
 }
 
 /// Does what the words ask for, with devices in the machine, and returns the exit status.
-pub fn answer<S: System, D: Device>(
+pub fn answer<S: System, D: Device, R: Threads + Wait + Sync>(
+    rt: &R,
     alloc: Global,
     words: &[String],
     devices: Devices<D>,
@@ -125,7 +145,7 @@ pub fn answer<S: System, D: Device>(
     ensures { Answers S.opens S.creates S.Opened.gives S.Created.takes S.Input.gives S.Output.takes S.Errors.takes devices (map string_bytes words.now) world.old world.new result }
 {
     match parse(alloc, words) {
-        Ok(matches) => do_named(alloc, devices, job_of(&matches), world),
+        Ok(matches) => do_named(rt, alloc, devices, job_of(&matches), world),
         Err(error) => refuse(alloc, &error, words, world),
     }
 }
@@ -140,7 +160,8 @@ pub enum WordsFault {
 }
 
 /// Does what the words ask for, or reports why they could not be read, and returns the exit status.
-pub fn answer_read<S: System, D: Device>(
+pub fn answer_read<S: System, D: Device, R: Threads + Wait + Sync>(
+    rt: &R,
     alloc: Global,
     words: Result<Vec<String>, WordsFault>,
     devices: Devices<D>,
@@ -149,7 +170,7 @@ pub fn answer_read<S: System, D: Device>(
     ensures { MatchResult words (λ read. Answers S.opens S.creates S.Opened.gives S.Created.takes S.Input.gives S.Output.takes S.Errors.takes devices (map string_bytes read.items) world.old world.new result) (λ fault. HasNoWords S.Output.takes S.Errors.takes fault world.old world.new result) }
 {
     match words {
-        Ok(words) => answer(alloc, words.as_slice(), devices, world),
+        Ok(words) => answer(rt, alloc, words.as_slice(), devices, world),
         Err(WordsFault::NotText) => words_not_read(world),
         Err(WordsFault::NoMemory) => memory_refused(world),
     }

@@ -30,7 +30,7 @@ pub(crate) const USAGE: u8 = 2;
 pub(crate) const PROGRAM: &str = "evltool";
 
 /// The name of the stream that reports are written to.
-const OUTPUT: &str = "standard output";
+pub(crate) const OUTPUT: &str = "standard output";
 
 /// The name of what `asm` writes to.
 const OUTPUTS: &str = "OUT or standard output";
@@ -126,7 +126,8 @@ fn failed_read_message(cause: Cause) -> &'static str
     }
 }
 
-fn failed_write_message(cause: Cause) -> &'static str
+/// Why a write failed.
+pub(crate) fn failed_write_message(cause: Cause) -> &'static str
     ensures { result.now ≡ failed_write_message cause }
 {
     match cause {

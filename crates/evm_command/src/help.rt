@@ -47,7 +47,7 @@ Commands:
                   idle or a stopped processor
   tick            the clock ticks: line 0 is raised on every processor
   raise C L       raises line L (0 to 31) on processor C
-  bell C L        like raise; for interrupts from a worker thread, which are to come
+  bell C L        like raise; an interrupt that a worker thread took from its bell
   stop C          stops processor C: its steps do nothing until go, which standard error says
   go C            lets it go on, past a breakpoint at its pc
   stepi C         one step of a stopped processor
@@ -100,3 +100,18 @@ Statuses: 0 done, 1 a line is bad or refused, 2 wrong words, 3 no image, 4 a fai
 
 Example:
   evltool replay sum.elf sum.journal";
+
+/// Behind the help of `threads`.
+pub(crate) const THREADS_HELP: &str = "\
+Two processors with 1048576 bytes of RAM run the program, each driven by a thread of its own. In
+each of TURNS turns a thread takes the lines that were rung at its processor's bell, puts a bell
+event for each into the journal, and makes one step. Line 8 of both processors is rung before the
+first turn. Standard output gets the journal, as the view journal of a script prints it; evltool
+replay takes it. In which order the threads come differs from run to run.
+
+Statuses: 0 done, 1 the image or memory is refused, 2 wrong words, 3 no image, 4 a failed read or
+write
+
+Example:
+  evltool threads loop.elf 10 > loop.journal
+  evltool replay loop.elf loop.journal";

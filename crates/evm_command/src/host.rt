@@ -9,6 +9,8 @@ use evm_room::NoMemory;
 use evm_serve::Devices;
 use std::fs::File;
 use std::io::{ErrorKind, Stderr, Stdin, Stdout};
+use std::sync::Wait;
+use std::thread::Threads;
 
 // Why std says that a file can't be opened or created.
 fn open_fault(kind: ErrorKind) -> OpenFault {
@@ -111,10 +113,14 @@ fn words_of(rt: &HostRuntime) -> Result<Vec<String>, WordsFault> {
 ///
 /// It has no contract: which words std gives, and what its streams did before, no clause can name. What is done with
 /// the words, or why there are none, is the contract of `answer_read`, of any system.
-pub fn run<D: Device>(rt: &HostRuntime, devices: Result<Devices<D>, NoMemory>) -> u8 {
+pub fn run<D: Device, R: Threads + Wait + Sync>(
+    rt: &HostRuntime,
+    threads: &R,
+    devices: Result<Devices<D>, NoMemory>,
+) -> u8 {
     let mut world = host_world(rt);
     match devices {
-        Ok(devices) => answer_read(rt.alloc(), words_of(rt), devices, &mut world),
+        Ok(devices) => answer_read(threads, rt.alloc(), words_of(rt), devices, &mut world),
         Err(NoMemory) => memory_refused(&mut world),
     }
 }

@@ -13,6 +13,7 @@ mod replaying;
 mod running;
 mod source_message;
 mod system;
+mod threading;
 mod words;
 
 pub use attaching::devices;

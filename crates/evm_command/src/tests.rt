@@ -7,7 +7,9 @@ use std::alloc::Global;
 use std::cell::Cell;
 use std::io::{self, Error, ErrorKind, Read, Write};
 use std::process::Abort;
+use std::sync::Wait;
 use std::test::Fail;
+use std::thread::Threads;
 
 mod messages;
 
@@ -138,7 +140,12 @@ impl<'a> System for Fake<'a> {
 }
 
 /// Runs a command line, and answers its status.
-fn status_of<'a>(alloc: Global, line: &str, setup: &'a Setup<'a>) -> Result<u8, Fail> {
+fn status_of<'a, R: Threads + Wait + Sync>(
+    rt: &R,
+    alloc: Global,
+    line: &str,
+    setup: &'a Setup<'a>,
+) -> Result<u8, Fail> {
     let mut world = World {
         files: Fake { setup },
         input: Reader {
@@ -161,7 +168,7 @@ fn status_of<'a>(alloc: Global, line: &str, setup: &'a Setup<'a>) -> Result<u8, 
     let Ok(devices) = devices(alloc) else {
         return Err("no memory for devices".into());
     };
-    Ok(answer(alloc, words.as_slice(), devices, &mut world))
+    Ok(answer(rt, alloc, words.as_slice(), devices, &mut world))
 }
 
 /// A source, a faulty one, one that is no text, and a journal that is none.
@@ -176,7 +183,7 @@ const FILES: [(&str, &[u8]); 4] = [
 const SCRIPT: &[u8] = b"boot 1 65536 8\ntasks\n";
 
 /// A line, its status, the calls to the system, and how many bytes go to OUT and to standard output.
-const LINES: [(&str, u8, usize, usize, usize); 12] = [
+const LINES: [(&str, u8, usize, usize, usize); 17] = [
     ("evltool asm src out", 0, 12, 124, 0),
     ("evltool asm faulty out", 1, 12, 0, 8),
     ("evltool asm bytes out", 4, 1, 0, 0),
@@ -187,6 +194,11 @@ const LINES: [(&str, u8, usize, usize, usize); 12] = [
     ("evltool run missing", 4, 1, 0, 0),
     ("evltool replay missing journal", 4, 1, 0, 0),
     ("evltool replay src journal", 3, 1, 0, 8),
+    ("evltool threads missing 1", 4, 1, 0, 0),
+    ("evltool threads src 8000", 3, 1, 0, 8),
+    ("evltool threads src 0", 2, 0, 0, 0),
+    ("evltool threads src 8001", 2, 0, 0, 0),
+    ("evltool threads src", 2, 0, 0, 0),
     ("evltool asm src", 2, 0, 0, 0),
     ("evltool --version", 0, 0, 0, 14),
 ];
@@ -195,7 +207,7 @@ const LINES: [(&str, u8, usize, usize, usize); 12] = [
 fn lines_have_their_statuses(rt: HostRuntime) -> Result<(), Fail> {
     for (line, status, asked, out, output) in LINES {
         let setup = Setup::new(1000, 10_000);
-        let answered = status_of(rt.alloc(), line, &setup)?;
+        let answered = status_of(&rt, rt.alloc(), line, &setup)?;
         assert_eq!(rt; answered, status, "the status of {line}");
         assert_eq!(rt; setup.asked.get(), asked, "what {line} asks for");
         assert_eq!(rt; setup.out.get(), out, "the file of {line}");
@@ -210,7 +222,7 @@ fn failed_reads_end_with_status_4(rt: HostRuntime) -> Result<(), Fail> {
     for (line, enough) in [("evltool asm src out", 2), ("evltool run", 4)] {
         for reads in 0..=enough {
             let setup = Setup::new(reads, 10_000);
-            let answered = status_of(rt.alloc(), line, &setup)?;
+            let answered = status_of(&rt, rt.alloc(), line, &setup)?;
             let whole = reads == enough;
             let wanted = if whole { 0 } else { 4 };
             assert_eq!(rt; answered, wanted, "{reads} reads of {line}");
@@ -230,7 +242,7 @@ fn failed_writes_end_with_status_4(rt: HostRuntime) -> Result<(), Fail> {
     ] {
         for room in [0, 3, less, bytes] {
             let setup = Setup::new(1000, room);
-            let answered = status_of(rt.alloc(), line, &setup)?;
+            let answered = status_of(&rt, rt.alloc(), line, &setup)?;
             let wanted = if room == bytes { 0 } else { 4 };
             assert_eq!(rt; answered, wanted, "{room} bytes of {line}");
             assert_eq!(rt;

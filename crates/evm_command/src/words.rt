@@ -4,9 +4,10 @@ ghost use Rattle.std.specs.Prelude.{◌≡◌, IfOk, false, map, option_copied, 
 ghost use Rattle.std.specs.String.{string_bytes};
 ghost use Rattle.clap.specs.Words.{FailsBy, app_of, fault_of, first_of, found_of, rows_of, rule_of, subcommand_of, subcommand_rows_of};
 ghost use Rattle.clap.specs.declared.builder.command.Command.TheViews.{out-Command};
-ghost use Rattle.evm_command.specs.Words.{place_rule, asm_app, run_app, replay_app, bare_app, evltool, asm_job, replay_job, job_named, job_of, wanted};
+ghost use Rattle.evm_command.specs.Words.{place_rule, asm_app, run_app, replay_app, threads_app, turns_rule, bare_app, evltool, asm_job, replay_job, threads_job, job_named, job_of, wanted};
 
-use crate::help::{ASM_HELP, PROGRAM_HELP, REPLAY_HELP, RUN_HELP};
+use crate::help::{ASM_HELP, PROGRAM_HELP, REPLAY_HELP, RUN_HELP, THREADS_HELP};
+use clap::builder::ValueParser;
 use clap::{Arg, ArgMatches, Command, Error};
 use std::alloc::{AllocError, Global};
 
@@ -34,6 +35,13 @@ pub enum Job<'a> {
         image: &'a str,
         /// The file of the journal.
         journal: &'a str,
+    },
+    /// An image is run by worker threads.
+    Threads {
+        /// The file of the program.
+        image: &'a str,
+        /// How many turns each worker has, in decimal: 1 to 8000.
+        turns: &'a str,
     },
 }
 
@@ -73,6 +81,28 @@ fn replay_command<'a>(alloc: Global) -> Result<Command<'a>, AllocError>
         .arg(place(alloc, "JOURNAL", "The file of the journal"))
 }
 
+// The number of turns of each worker.
+fn turns<'a>(alloc: Global) -> Arg<'a>
+    ensures rule { rule_of result ≡ turns_rule }
+    ensures local { result.global ≡ false }
+{
+    place(alloc, "TURNS", "The turns of each worker, 1 to 8000").value_parser(ValueParser::Unsigned(
+        1, 8000,
+    ))
+}
+
+// The subcommand that runs an image by threads.
+fn threads_command<'a>(alloc: Global) -> Result<Command<'a>, AllocError>
+    ensures app { IfOk result (λ c. app_of c ≡ threads_app) }
+    ensures local { IfOk result (λ c. (out-Command c).has_globals ≡ false) }
+{
+    Command::new(alloc, "threads")
+        .about("Runs a program on two processors, each driven by a thread, and prints the journal")
+        .after_help(THREADS_HELP)
+        .arg(place(alloc, "IMAGE", "The file of the program"))?
+        .arg(turns(alloc))
+}
+
 // The subcommand that assembles.
 fn asm_command<'a>(alloc: Global) -> Result<Command<'a>, AllocError>
     ensures app { IfOk result (λ c. app_of c ≡ asm_app) }
@@ -103,7 +133,8 @@ fn command<'a>(alloc: Global) -> Result<Command<'a>, AllocError>
     bare_command(alloc)
         .subcommand(asm_command(alloc)?)?
         .subcommand(run_command(alloc)?)?
-        .subcommand(replay_command(alloc)?)
+        .subcommand(replay_command(alloc)?)?
+        .subcommand(threads_command(alloc)?)
 }
 
 /// The matches of the words.
@@ -144,6 +175,15 @@ fn replaying<'a>(words: &ArgMatches<'a>) -> Option<Job<'a>>
     }
 }
 
+fn threading<'a>(words: &ArgMatches<'a>) -> Option<Job<'a>>
+    ensures { option_map wanted result ≡ threads_job (rows_of (found_of words.now)) }
+{
+    match (value(words, "IMAGE"), value(words, "TURNS")) {
+        (Some(image), Some(turns)) => Some(Job::Threads { image, turns }),
+        _ => None,
+    }
+}
+
 // The job of a subcommand of this name.
 fn job_named<'a>(name: &str, words: &ArgMatches<'a>) -> Option<Job<'a>>
     ensures { option_map wanted result ≡ job_named name.now (rows_of (found_of words.now)) }
@@ -155,6 +195,8 @@ fn job_named<'a>(name: &str, words: &ArgMatches<'a>) -> Option<Job<'a>>
         Some(Job::Run { image })
     } else if name == "replay" {
         replaying(words)
+    } else if name == "threads" {
+        threading(words)
     } else {
         None
     }

@@ -45,7 +45,7 @@ fn run<D: Device, R: Threads + Wait + Sync>(
 }
 
 /// Boots 2 processors with 1,048,576 bytes of RAM and room for 1,048,576 events, loads an image, rings line 8 of both
-/// processors, and runs a worker for each, in a thread of its own, for so many turns. Then writes the text of the
+/// processors, and runs a worker for each, in a thread of its own, for a number of turns. Then writes the text of the
 /// journal; or `refused 2 6` where the image is not loaded, or `memory` where memory was refused.
 pub fn threads_to<W: Sink, D: Device, R: Threads + Wait + Sync>(
     rt: &R,

@@ -6,7 +6,9 @@ use crate::system::{OpenFault, System, World};
 use evm_serve::write_bytes;
 use std::alloc::Global;
 use std::process::Abort;
+use std::sync::Wait;
 use std::test::Fail;
+use std::thread::Threads;
 
 /// A system whose streams are kept, with an image beside its files.
 #[derive(Drop)]
@@ -90,8 +92,8 @@ const FILES: [(&str, &[u8]); 18] = [
 ];
 
 /// Runs a command line on a script, and compares what is written to standard error.
-fn check_errors(
-    rt: &impl Abort,
+fn check_errors<R: Abort + Threads + Wait + Sync>(
+    rt: &R,
     alloc: Global,
     line: &str,
     script: &'static [u8],
@@ -114,7 +116,7 @@ fn check_errors(
     let Ok(devices) = devices(alloc) else {
         return Err("no memory for devices".into());
     };
-    let _ = answer(alloc, words.as_slice(), devices, &mut world);
+    let _ = answer(rt, alloc, words.as_slice(), devices, &mut world);
     assert_eq!(rt; world.errors.as_slice(), wanted.as_bytes(), "{line}");
     Ok(())
 }
