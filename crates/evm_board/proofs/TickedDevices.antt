@@ -1,5 +1,5 @@
 -- The ticks of one device after another are those of all.
-use Rattle.std.proofs.Common.{◌≡◌, ℕ, zero, suc, ◌+◌, ◌≤◌, List, [], ◌∷◌, Bool, Option, Some, None, drop, length, map, refl, sym, ap, ◌∙◌, arith}
+use Rattle.std.proofs.Common.{◌≡◌, ℕ, zero, suc, ◌+◌, ◌≤◌, List, [], ◌∷◌, Bool, Option, Some, None, drop, map, refl, sym, ap, ◌∙◌, arith, leb-true, leb-false}
 use Rattle.std.specs.Prelude.{false, true, slice_get, nat_le, option_map}
 use Rattle.std.proofs.lemmas.Option.{slice_get-map}
 use Rattle.evm_bus.specs.Bus.{AreIdleFrom, tick, tick_device}
