@@ -61,11 +61,11 @@ PER_OOB_LOG = 4096
 abbrev pub PER_IN_BAND_LOG : ℕ
 PER_IN_BAND_LOG = 2048
 
--- .. and all of settling, with the other processors that are told
+-- .. and all of settling, with the other processors that are nudged
 abbrev pub PER_SETTLING : ℕ
 PER_SETTLING = 6208
 
--- so many stamps can be given
+-- n stamps can be given
 abbrev pub HasStamps : ℕ → Parts → Type 0
 HasStamps n k = k.stamps + n ≤ COUNT_LIMIT
 

@@ -36,7 +36,7 @@ putc byte k = (record k { console = last_bytes (k.console ++ (byte % 256) ∷ []
 unfoldable pub yield_now : ℕ → ℕ → Parts → Parts × Outcome
 yield_now c t k = if is_stalled InBand c k then refused NotPermitted k else (leave_in_band c (restamp t k), Returns 0)
 
--- an entry that is no multiple of 4 in RAM of so many bytes
+-- an entry that is no multiple of 4 in RAM of this size
 abbrev pub is_bad_entry : ℕ → ℕ → Bool
 is_bad_entry ram entry = if not (entry % 4 == 0) then true else (if nat_lt entry BASE then true else nat_le (BASE + ram) entry)
 

@@ -32,7 +32,7 @@ abbrev pub is_scheduled_task : Option Task → Bool
 is_scheduled_task None = false
 is_scheduled_task (Some task) = is_live task.state && is_class task.class
 
--- 34: task u, of whatever processor, has another class and priority; its stamp stays
+-- 34: task u, of any processor, has another class and priority; its stamp stays
 abbrev pub schedule_as : Option Class → ℕ → ℕ → Parts → Parts × Outcome
 schedule_as None u priority k = refused Invalid k
 schedule_as (Some class) u priority k = (set_policy u class priority k, Returns 0)

@@ -90,7 +90,7 @@ differs None now = false
 differs (Some t) None = true
 differs (Some t) (Some u) = not (t == u)
 
--- processor d has a better task than its current one, and can be told so: it isn't stalled, and line 1 isn't on its wire
+-- processor d has a better task than its current one, and can be nudged: it isn't stalled, and line 1 isn't on its wire
 abbrev pub wants_nudge : ℕ → Pipe → Parts → Bool
 wants_nudge d pipe k = not pipe.oob.stalled && (not (has_line pipe.wire 1) && differs (best d k.mutexes k.tasks) (current d k))
 

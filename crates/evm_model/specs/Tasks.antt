@@ -43,7 +43,7 @@ clear_policy t k = on_task t (λ task. record task { class = Unattached; priorit
 unfoldable pub set_mode_bits : ℕ → ℕ → Parts → Parts
 set_mode_bits t bits k = on_task t (λ task. record task { mode = record { bits = bits } }) k
 
--- task t has so many ticks left
+-- task t has n ticks left
 unfoldable pub set_slice : ℕ → ℕ → Parts → Parts
 set_slice t slice k = on_task t (λ task. record task { slice = slice }) k
 
