@@ -17,7 +17,7 @@ use evm_asm_parser::{
 use evm_room::Refused;
 use std::alloc::Global;
 
-/// Why the meaning of a line is not told: a growth was refused, or the line has a fault.
+/// Why a line has no meaning: a growth was refused, or the line has a fault.
 #[derive(Drop)]
 pub enum Stop {
     Memory(Refused),

@@ -3,11 +3,11 @@
 
 mod extensions;
 mod fault;
+mod message;
 pub mod laws;
 mod mnemonic;
 mod names;
 mod registers;
-mod sentences;
 mod source_fault;
 mod text;
 mod token;
