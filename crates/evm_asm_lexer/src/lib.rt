@@ -3,8 +3,8 @@
 
 mod extensions;
 mod fault;
-mod message;
 pub mod laws;
+mod message;
 mod mnemonic;
 mod names;
 mod registers;
