@@ -148,3 +148,13 @@ pub fn behind_word(text: &[u8]) -> &[u8]
     let place = word_len(text);
     &text[place..]
 }
+
+/// The longest word at the front, and what follows it.
+#[tactic(auto, unfolding(crate::specs::Text::first_word, crate::specs::Text::behind_word))]
+pub fn cut_word(text: &[u8]) -> (&[u8], &[u8])
+    ensures word { result.0.now ≡ first_word text.now }
+    ensures behind { result.1.now ≡ behind_word text.now }
+{
+    let place = word_len(text);
+    (&text[..place], &text[place..])
+}

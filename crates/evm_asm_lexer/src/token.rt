@@ -82,6 +82,7 @@ fn is_name_or_number(text: &[u8]) -> bool
     !starts_with_digit(text) || size(first_word(text)).is_some()
 }
 
+#[inline(always)]
 #[tactic(auto, unfolding(crate::specs::Text::begins_well))]
 fn begins_well(inside: bool, text: &[u8]) -> bool
     ensures { result ≡ begins_well inside text.now }
