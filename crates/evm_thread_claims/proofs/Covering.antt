@@ -65,9 +65,9 @@ module _ {X R P : Type 0} (start : R → ℕ) (made : R → List X) (kept : P �
       subst (λ m. sum_by (λ q. hits q k) others + sum_by (λ x. hit x k) (take m rs) ≤ value k) (sym next)
       (⊎_elim
       (λ covers.
-          let no_others = sum_by_nothing (λ q. hits q k) others (λ i q lt. sum_by_nothing (λ x. hit x k) (kept (get_or others i q)) (λ j x l. quiet _ r k (its.2 i q lt j x l) covers)) in
-          let none_before = sum_by_nothing (λ x. hit x k) (take n rs) (λ j x l. quiet _ r k (its.1 j x l) covers) in
-          omega (arith, more, no_others, none_before, inside r k its.0 covers))
+      let no_others = sum_by_nothing (λ q. hits q k) others (λ i q lt. sum_by_nothing (λ x. hit x k) (kept (get_or others i q)) (λ j x l. quiet _ r k (its.2 i q lt j x l) covers)) in
+      let none_before = sum_by_nothing (λ x. hit x k) (take n rs) (λ j x l. quiet _ r k (its.1 j x l) covers) in
+      omega (arith, more, no_others, none_before, inside r k its.0 covers))
       (λ nothing. omega (arith, more, rest, nothing))
       (covers_or_not r k))
 

@@ -33,13 +33,7 @@ pub fn checked_receipts_have_each_bell<D: Device, S: Ledger, B: Ledger, T: Ledge
 /// each processor the rings that were fresh were taken or are left. If besides no Bell was made before, each Bell of the
 /// ports is in a receipt, the check of the receipts is passed, and the receipts say of each line as many Bells as were
 /// taken, then each fresh ring of each line is one Bell of it in the journal, or is left, and the journal has no other.
-pub fn each_ring_is_left_or_becomes_a_bell<
-    D: Device,
-    O: Origin,
-    S: Ledger,
-    B: Ledger,
-    T: Ledger,
->(
+pub fn each_ring_is_left_or_becomes_a_bell<D: Device, O: Origin, S: Ledger, B: Ledger, T: Ledger>(
     shared: Shared<D, O, S, B, T>,
     ports: Vec<Port<S, B, T>>,
     bells: Bells,

@@ -17,10 +17,7 @@ pub fn the_machine_under_the_lock_is_its_journals_replay<
     S: Ledger,
     B: Ledger,
     T: Ledger,
->(
-    shared: Shared<D, O, S, B, T>,
-    ports: Vec<Port<S, B, T>>,
-) -> Option<Finished<D, S, B, T>>
+>(shared: Shared<D, O, S, B, T>, ports: Vec<Port<S, B, T>>) -> Option<Finished<D, S, B, T>>
     ensures replayed { IfSome result (λ done. replay O.start done.machine.journal ≡ done.machine) }
     ensures ports { IfSome result (λ done. done.ports.items ≡ ports.items) }
     ensures steps { IfSome result (λ done. count_by (λ event. is_same_kind (kind_of event) AStep) done.machine.journal ≡ O.base.steps + sum_by (λ (p : PortValue). p.share.steps) ports.items) }

@@ -62,9 +62,9 @@ pub fn each_ring_comes_to_a_stage<D: Device, O: Origin, S: Ledger, B: Ledger, T:
         + (n.in_band.merged + (if has_line pipe.in_band.lines l then 1 else 0) + n.in_band.played)) }
 {
     each_bell_comes_to_a_stage();
-    let Some((done, closed)) =
-        each_ring_is_left_or_becomes_a_bell(shared, ports, bells, ringer, takers)
-    else {
+    let Some((done, closed)) = each_ring_is_left_or_becomes_a_bell(
+        shared, ports, bells, ringer, takers,
+    ) else {
         return None;
     };
     Some((done, closed))
