@@ -10,7 +10,7 @@ ghost use Rattle.evm_asm.specs.Places.{here, statement_in};
 use crate::failure::Shortage;
 use crate::place::{Place, here, place_behind, source_start, statement_in};
 use evm_asm_parser::{
-    KeptLines, Labels, Reading, SourceFault, SourceFaultKind, Spot, after, before, has, least,
+    KeptLines, Labels, Reading, SourceFault, SourceFaultKind, Spot, after, before, cut, has, least,
     name_in,
 };
 use evm_room::Refused;
@@ -181,7 +181,8 @@ pub fn lay_out(alloc: Global, source: &[u8]) -> Result<(Layout, KeptLines), Shor
     let mut lines: u64 = 0;
     let mut rest = source;
     while !rest.is_empty() {
-        let code = code_of(before(b'\n', rest));
+        let (line, behind) = cut(b'\n', rest);
+        let code = code_of(line);
         let (next, fault) = match lay_line(alloc, &mut labels, &mut kept, place, code) {
             Ok(laid) => laid,
             Err(refused) => {
@@ -194,7 +195,7 @@ pub fn lay_out(alloc: Global, source: &[u8]) -> Result<(Layout, KeptLines), Shor
         lines += 1;
         first = first_fault(first, lines, fault);
         place = next;
-        rest = after(b'\n', rest);
+        rest = behind;
     }
     let layout = Layout {
         labels,

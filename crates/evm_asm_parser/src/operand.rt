@@ -68,7 +68,7 @@ pub fn how_many(text: &[u8]) -> usize
     }
 }
 
-/// What was read of `n` operands, where there are so many.
+/// What was read of `n` operands, if there are `n`.
 #[tactic(auto, unfolding(crate::specs::Operands::counted))]
 pub fn counted<A: Drop>(
     n: usize,

@@ -1,4 +1,5 @@
 pub mod Accesses
+pub mod Bursts
 pub mod Idle
 pub mod Loads
 pub mod Quietly

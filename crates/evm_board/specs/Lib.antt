@@ -1,4 +1,5 @@
 pub mod Access
+pub mod Bursts
 pub mod Room
 pub mod Steps
 pub mod Stops

@@ -6,6 +6,7 @@ mod access;
 mod accessing;
 mod attaching;
 mod board;
+mod bursting;
 mod commands;
 mod instructions;
 mod loading;

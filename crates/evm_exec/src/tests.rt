@@ -7,6 +7,7 @@ use evm_ram::Width;
 use std::process::Abort;
 use std::test::Fail;
 
+mod bursts;
 mod vectors;
 
 use vectors::accesses::{LOAD_CASES, STORE_CASES};
