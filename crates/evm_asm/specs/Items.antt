@@ -175,7 +175,7 @@ and_then (Err e) f = Err e
 unfoldable pub line_or_fault : Spots → ℕ → Option SourceFault → ℕ → Place → List ℕ → List Placed → Result (Place × List Placed) SourceFault
 line_or_fault labels text_size first line place code so_far = meaning_or_fault first line (line_meant labels text_size line place (statement_text code) so_far)
 
--- the items so far, and behind them those of the lines, of which so many stand before
+-- the items so far, and behind them those of the lines, before which there are n lines
 unfoldable pub lines_meant : Laid → ℕ → Place → List (List ℕ) → List Placed → Result (List Placed) SourceFault
 lines_meant l before place [] so_far = Ok so_far
 lines_meant l before place (line ∷ lines) so_far =
@@ -197,7 +197,7 @@ abbrev pub IsMeant : {X Y : Type 0} → (X → Y) → Result X Stop → Result Y
 IsMeant view (Ok x) meant = meant ≡ Ok (view x)
 IsMeant view (Err e) meant = Fails e meant
 
--- The same of a source or its items, unless room for so many more was refused.
+-- A source or its items, unless room for that many more was refused.
 abbrev pub FailsBy : {Y : Type 0} → ℕ → Failure → Result Y SourceFault → Type 0
 FailsBy most (failure.Fault fault) meant = meant ≡ Err fault
 FailsBy most (failure.Memory shortage) meant = shortage.refused ≤ most

@@ -20,7 +20,7 @@ abbrev pub other_kept : List (Option Kept) → List (Option Kept)
 other_kept [] = []
 other_kept (first ∷ others) = others
 
--- the same of each line, one after the other
+-- so for each line, one after the other
 unfoldable pub AreKept : List (Option Kept) → List (List ℕ) → Type 0
 AreKept kept [] = Unit {0}
 AreKept kept (line ∷ lines) = IsKept (first_kept kept) (statement_text (code_of line)) × AreKept (other_kept kept) lines

@@ -28,7 +28,7 @@ offset place = section_size place.section place
 abbrev pub here : Place → Spot
 here place = record { section = place.section; offset = offset place }
 
--- the place with so many bytes more in its section
+-- the place n bytes farther in its section
 abbrev pub farther : Part → Place → ℕ → Place
 farther section.Text place size = record place { text_size = place.text_size + size }
 farther section.Data place size = record place { data_size = place.data_size + size }

@@ -29,7 +29,7 @@ abbrev pub with_bytes : Part → List ℕ → Spelled → Spelled
 with_bytes section.Text bytes s = record { lines = s.lines; text_bytes = s.text_bytes ++ bytes; data_bytes = s.data_bytes }
 with_bytes section.Data bytes s = record { lines = s.lines; text_bytes = s.text_bytes; data_bytes = s.data_bytes ++ bytes }
 
--- bytes, and behind them so many times the others
+-- bytes, and behind them n times the others
 unfoldable pub repeated : ℕ → List ℕ → List ℕ → List ℕ
 repeated zero unit bytes = bytes
 repeated (suc n) unit bytes = repeated n unit (bytes ++ unit)

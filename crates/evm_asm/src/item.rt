@@ -21,11 +21,11 @@ pub const TEXT_BASE: u64 = BASE;
 pub enum Item {
     /// An instruction of a line.
     Instruction(u64, Inst),
-    /// A number of so many bytes, modulo 2^64.
+    /// A number of a given count of bytes, modulo 2^64.
     Number(Width, u64),
-    /// So many zero bytes.
+    /// A number of zero bytes.
     Zeros(u64),
-    /// So many nops.
+    /// A number of nops.
     Nops(u64),
 }
 
@@ -44,7 +44,7 @@ pub enum Expansion {
     Double(Inst, Inst),
 }
 
-/// Where the data begins, behind so many bytes of text.
+/// Where the data begins, behind the given count of bytes of text.
 pub fn data_base(text_size: u32) -> u64
     ensures { result ≡ data_base text_size }
 {

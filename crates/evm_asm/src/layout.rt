@@ -10,7 +10,7 @@ ghost use Rattle.evm_asm.specs.Places.{here, statement_in};
 use crate::failure::Shortage;
 use crate::place::{Place, here, place_behind, source_start, statement_in};
 use evm_asm_parser::{
-    KeptLines, Labels, Reading, SourceFault, SourceFaultKind, Spot, after, before, has, least,
+    KeptLines, Labels, Reading, SourceFault, SourceFaultKind, Spot, after, before, cut, has, least,
     name_in,
 };
 use evm_room::Refused;
@@ -71,23 +71,29 @@ fn add_label(
     Ok(twice)
 }
 
-/// Adds the labels at the front of a text; true where one came twice.
-fn define(alloc: Global, labels: &mut Labels, spot: Spot, text: &[u8]) -> Result<bool, Refused>
+/// Adds the labels at the front of a text; true where one came twice, and the text behind them.
+fn define<'a>(
+    alloc: Global,
+    labels: &mut Labels,
+    spot: Spot,
+    text: &'a [u8],
+) -> Result<(bool, &'a [u8]), Refused>
     ensures refused { IfErr result (λ asked. asked ≤ length text.now + 1) }
-    ensures defined { IfOk result (λ after. record { labels = labels.new; twice = after } ≡ defined (length text.now) spot text.now (record { labels = labels.old; twice = false })) }
+    ensures defined { IfOk result (λ after. record { labels = labels.new; twice = after.0 } ≡ defined (length text.now) spot text.now (record { labels = labels.old; twice = false })) }
+    ensures behind { IfOk result (λ after. after.1.now ≡ behind_labels (length text.now) text.now) }
 {
     let mut twice = false;
     let mut rest = text;
     for _ in 0..text.len() {
         match label_at(rest) {
-            None => return Ok(twice),
+            None => return Ok((twice, rest)),
             Some((name, tail)) => {
                 twice = add_label(alloc, labels, spot, name, twice)?;
                 rest = tail;
             }
         }
     }
-    Ok(twice)
+    Ok((twice, rest))
 }
 
 fn outcome(
@@ -137,8 +143,8 @@ fn lay_line(
     ensures refused { IfErr result (λ asked. asked ≤ length code.now + 1) }
     ensures kept { OnOk result (kept.new ≡ kept.old ++ kept_of (here place) (statement_in labels.new place (statement_text code.now)) ∷ []) }
 {
-    let twice = define(alloc, labels, here(place), code)?;
-    let reading = statement_in(labels, place, statement_text(code));
+    let (twice, text) = define(alloc, labels, here(place), code)?;
+    let reading = statement_in(labels, place, text);
     kept.keep(here(place), &reading)?;
     let end = behind_reading(place, &reading);
     Ok(outcome(place, twice, end))
@@ -181,7 +187,8 @@ pub fn lay_out(alloc: Global, source: &[u8]) -> Result<(Layout, KeptLines), Shor
     let mut lines: u64 = 0;
     let mut rest = source;
     while !rest.is_empty() {
-        let code = code_of(before(b'\n', rest));
+        let (line, behind) = cut(b'\n', rest);
+        let code = code_of(line);
         let (next, fault) = match lay_line(alloc, &mut labels, &mut kept, place, code) {
             Ok(laid) => laid,
             Err(refused) => {
@@ -194,7 +201,7 @@ pub fn lay_out(alloc: Global, source: &[u8]) -> Result<(Layout, KeptLines), Shor
         lines += 1;
         first = first_fault(first, lines, fault);
         place = next;
-        rest = after(b'\n', rest);
+        rest = behind;
     }
     let layout = Layout {
         labels,

@@ -12,12 +12,12 @@ use crate::layout::{Layout, code_of, statement_text};
 use crate::place::{Place, here, place_behind, source_start, statement_in};
 use evm_asm_parser::{
     Kept, KeptLines, Labels, Reading, Section, SourceFault, SourceFaultKind, Statement, Width,
-    after, before, behind_word, first_operand, least, other_operands, push, skip_blanks,
+    behind_word, cut, first_operand, least, other_operands, push, skip_blanks,
 };
 use evm_room::Refused;
 use std::alloc::Global;
 
-/// Why the meaning of a line is not told: a growth was refused, or the line has a fault.
+/// Why a line has no meaning: a growth was refused, or the line has a fault.
 #[derive(Drop)]
 pub enum Stop {
     Memory(Refused),
@@ -299,7 +299,8 @@ pub fn meaning(
     let mut rest = source;
     let mut known = kept.lines();
     while !rest.is_empty() {
-        let code = code_of(before(b'\n', rest));
+        let (line, behind) = cut(b'\n', rest);
+        let code = code_of(line);
         match push_told(
             &mut items,
             layout,
@@ -312,7 +313,7 @@ pub fn meaning(
             Err(failure) => return Err(failure),
         }
         lines += 1;
-        rest = after(b'\n', rest);
+        rest = behind;
         known = other_kept(known);
     }
     Ok(items)

@@ -43,7 +43,7 @@ fn push_bytes(out: &mut Output, section: Section, bytes: &[u8]) -> Result<(), Re
     }
 }
 
-/// Adds bytes so many times.
+/// Appends bytes, `count` times.
 fn push_repeated(bytes: &mut Vec<u8>, count: u64, unit: &[u8]) -> Result<(), Refused>
     ensures ok { OnOk result (bytes.new.items ≡ repeated count unit.now bytes.old.items) }
     ensures refused { IfErr result (λ asked. asked ≡ length unit.now) }

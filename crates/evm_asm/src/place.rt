@@ -6,8 +6,8 @@ ghost use Rattle.evm_asm_parser.specs.Operands.{upper};
 ghost use Rattle.evm_asm.specs.Sources.{source_start};
 
 use evm_asm_parser::{
-    Labels, Mnemonic, Section, SourceFaultKind, Spot, Statement, Width, also, behind_word,
-    first_word, is_sound, mnemonic_named, skip_blanks, starts_with_name, statement_of, upper,
+    Labels, Mnemonic, Section, SourceFaultKind, Spot, Statement, Width, also, cut_word, is_sound,
+    mnemonic_named, skip_blanks, starts_with_name, statement_of, upper,
 };
 use evm_isa::Shift;
 
@@ -232,9 +232,10 @@ pub fn statement_in(
     if !starts_with_name(statement) {
         return Err(SourceFaultKind::BadToken);
     }
-    match mnemonic_named(first_word(statement)) {
+    let (name, operands) = cut_word(statement);
+    match mnemonic_named(name) {
         Some(mnemonic) => {
-            let reading = statement_of(labels, mnemonic, behind_word(statement));
+            let reading = statement_of(labels, mnemonic, operands);
             also(reading, placed(mnemonic, place))
         }
         None => Err(SourceFaultKind::UnknownName),

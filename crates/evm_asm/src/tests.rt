@@ -92,7 +92,7 @@ fn a_line_is_a_nop(rt: HostRuntime) -> Result<(), Fail> {
     Ok(())
 }
 
-// Of two faults of a line the one of the lesser number is told.
+// Of two faults of a line the one of the lesser number is reported.
 #[test]
 fn the_least_of_two_faults_is_told(rt: HostRuntime) {
     for (source, kind) in PAIRS.iter() {
@@ -105,7 +105,7 @@ fn the_least_of_two_faults_is_told(rt: HostRuntime) {
     }
 }
 
-// Of two lines that have faults the lesser is told, and each line counts the bytes that its labels stand behind.
+// Of two lines with faults the lesser is reported, and each line counts the bytes that its labels stand behind.
 #[test]
 fn the_least_line_is_told(rt: HostRuntime) {
     for (source, line, kind) in LINES.iter() {

@@ -1,4 +1,4 @@
--- What a person is told of a line beside the sentence of its fault.
+-- Details of a faulty line, beside the message of its fault.
 use Rattle.std.specs.Prelude.{ℕ, ◌+◌, ◌-◌, ◌==◌, if◌then◌else◌, List, [], ◌∷◌, length, Option, Some, None, option_and_then, false}
 use Rattle.evm_asm_parser.specs.evm_asm_lexer.Characters.{newline, dot}
 use Rattle.evm_asm_parser.specs.evm_asm_lexer.declared.extensions.Extension.{Extension as Extended}
@@ -114,6 +114,6 @@ line_detail RangeOfImmediate code =
     option_and_then (λ mnemonic. limits_of mnemonic (how_many (behind_word (skip_blanks (statement_text code))))) (mnemonic_named (first_word (skip_blanks (statement_text code))))
 line_detail kind code = None
 
--- what is behind the fault of a source, where the line has more to say than the sentence of its kind
+-- what is behind the fault of a source, where the line has more to say than the message of its kind
 unfoldable pub source_detail : List ℕ → AsmFault → Option SourceDetail
 source_detail source fault = line_detail fault.kind (code_of (before newline (behind_lines (fault.line - 1) source)))

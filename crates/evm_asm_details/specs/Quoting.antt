@@ -62,11 +62,11 @@ quoted_in LabelMissing code = missing_label (mnemonic_named (first_word (skip_bl
 quoted_in LabelTwice code = only_label (label_at code)
 quoted_in kind code = None
 
--- the source behind so many of its lines
+-- the source behind its first n lines
 unfoldable pub behind_lines : ℕ → List ℕ → List ℕ
 behind_lines zero source = source
 behind_lines (suc n) source = behind_lines n (after newline source)
 
--- the word that a person is shown beside the sentence of a fault
+-- the word that a person is shown beside the message of a fault
 unfoldable pub quoted : List ℕ → AsmFault → Option (List ℕ)
 quoted source fault = quoted_in fault.kind (code_of (before newline (behind_lines (fault.line - 1) source)))

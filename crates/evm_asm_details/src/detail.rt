@@ -1,4 +1,4 @@
-//! What a person is told of a line beside the sentence of its fault.
+//! Details of a faulty line, beside the message of its fault.
 
 ghost use Rattle.std.specs.Prelude.{◌≡◌};
 ghost use Rattle.evm_asm_details.specs.Details.{name_detail, unknown_detail, token_at, token_text, places_of, operands_detail, natural, width_range, range_of, distance_of, limits_of, line_detail, source_detail};
@@ -29,7 +29,7 @@ pub enum SourceDetail {
     Operands { found: u64, wanted: u64 },
     /// The number of the line must be -`below` to `above`.
     Range { below: u64, above: u64 },
-    /// The label must be at most so many bytes back or ahead.
+    /// The label must be at most this many bytes back or ahead.
     Distance { back: u64, ahead: u64 },
 }
 
@@ -204,7 +204,7 @@ fn line_detail(kind: AsmFaultKind, code: &[u8]) -> Option<SourceDetail>
     }
 }
 
-/// What is behind the fault of a source, where the line has more to say than the sentence of its kind.
+/// What is behind the fault of a source, where the line has more to say than the message of its kind.
 #[tactic(auto, unfolding(crate::specs::Details::source_detail))]
 pub fn source_detail(source: &str, fault: AsmFault) -> Option<SourceDetail>
     ensures { result ≡ source_detail source.now fault }

@@ -1,4 +1,4 @@
-//! What a person is told of the fault of a source beside its sentence: the word that is wrong, and what is behind the fault.
+//! Details of the fault of a source, beside its message: the word that is wrong, and the reason of the fault.
 #![tactic(auto)]
 
 mod detail;

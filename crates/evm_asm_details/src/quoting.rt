@@ -1,4 +1,4 @@
-//! The word that a person is shown beside the sentence of a fault.
+//! The word that a person is shown beside the message of a fault.
 
 ghost use Rattle.std.specs.Prelude.{◌≡◌, option_copied};
 ghost use Rattle.evm_asm.specs.Sources.{label_at};
@@ -121,7 +121,7 @@ fn quoted_in(kind: AsmFaultKind, code: &[u8]) -> Option<&[u8]>
     }
 }
 
-/// The source behind so many of its lines.
+/// The source behind its first lines.
 pub(crate) fn behind_lines(lines: u64, source: &[u8]) -> &[u8]
     ensures { result.now ≡ behind_lines lines source.now }
 {

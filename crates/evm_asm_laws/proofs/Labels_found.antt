@@ -312,7 +312,7 @@ laid_named s (line ∷ lines) names h =
 none_named : HasNames [] []
 none_named = record { to = λ name h. cc; from = λ name h. absurd h }
 
--- a label is told to stand twice exactly where an earlier line has it too, or the line itself before
+-- a label is told to stand twice if and only if an earlier line has it too, or the line itself before
 pub label_twice : (earlier : List (List ℕ)) (line : List ℕ)
     → ((line_defined (laid nothing_laid earlier).labels (laid nothing_laid earlier).place (code_of line)).twice ≡ true → HasLabelTwice earlier line)
     × (HasLabelTwice earlier line → (line_defined (laid nothing_laid earlier).labels (laid nothing_laid earlier).place (code_of line)).twice ≡ true)

@@ -138,7 +138,7 @@ OfForm text P = Of text (λ m. P (form (how_many (operands text)) m) (operands t
 abbrev pub IsMisplaced : Place → List ℕ → Type 0
 IsMisplaced place text = Of text (λ m. may_stand m place ≡ false)
 
--- The way from an address to a target is odd, or goes back further than so many bytes, or ahead further.
+-- The way from an address to a target is odd, or goes back or ahead further than its limits.
 abbrev pub IsBeyond : ℕ → ℕ → ℕ → ℕ → Type 0
 IsBeyond back ahead from target = (from % 2 ≢ target % 2) ⊎ (target + back < from) ⊎ (from + ahead < target)
 
@@ -204,8 +204,8 @@ IsLeastOfFirst source fault =
     × ((kind : SourceFaultKind) → HasFault source fault.line kind → source_number fault.kind ≤ source_number kind)
     × ((n : ℕ) → n < fault.line → (kind : SourceFaultKind) → HasFault source n kind → ⊥)
 
--- A source is refused with a fault exactly where that is the least of the first line that has any, and it has a program
--- exactly where no line has a fault.
+-- A source is refused with a fault if and only if that is the least of the first line that has any, and it has a program
+-- if and only if no line has a fault.
 abbrev pub RefusedWithTheLeast : Type 0
 RefusedWithTheLeast = (source : List ℕ)
     → ((fault : SourceFault) → program_of source ≡ Err fault ↔ IsLeastOfFirst source fault)

@@ -1,4 +1,4 @@
--- The fault that is told of a source: the least of the first line that has any.
+-- The fault that is reported of a source: the least of the first line that has any.
 use Rattle.std.specs.Prelude.{◌≡◌, ◌<◌, ◌↔◌, ℕ, zero, suc, List, [], take, slice_get, IsOk, Option, Some, None, option_and_then, Result, Ok, Err}
 use Rattle.evm_asm.specs.evm_asm_lexer.declared.source_fault.SourceFault.{SourceFault}
 use Rattle.evm_asm.specs.evm_asm_lexer.declared.source_fault.SourceFaultKind.{SourceFaultKind}
@@ -39,7 +39,7 @@ IsFirstFault source fault = (fault_at source fault.line ≡ Some fault.kind) × 
 abbrev pub RefusesTheLeast : Type 0
 RefusesTheLeast = (source : List ℕ) (fault : SourceFault) → meaning_of source ≡ Err fault ↔ IsFirstFault source fault
 
--- A source means something exactly where no line has a fault.
+-- A source means something if and only if no line has a fault.
 abbrev pub MeansWithoutFaults : Type 0
 MeansWithoutFaults = (source : List ℕ) → IsOk (meaning_of source) ↔ ((n : ℕ) → fault_at source n ≡ None)
 

@@ -41,7 +41,7 @@ ComesLater l m = (l.line ≤ m.line) × (l.address + 4 ≤ m.address)
 abbrev pub LinesStandInOrder : Type 0
 LinesStandInOrder = (source : List ℕ) (p : Assembled) → program_of source ≡ Ok p → AllPairs ComesLater p.lines
 
--- Line n of a source, from 1, has a label of this name at its front, behind so many others.
+-- Line n of a source, from 1, has a label of this name at its front, behind other labels.
 pub record HasLabel (source : List ℕ) (n : ℕ) (name : List ℕ) : Type 0 where
   pub line : List ℕ
   pub others : ℕ
@@ -74,7 +74,7 @@ labels_of (line ∷ lines) = labels_at (length (code_of line)) (code_of line) ++
 abbrev pub LabelsStandInOrder : Type 0
 LabelsStandInOrder = (source : List ℕ) (p : Assembled) → program_of source ≡ Ok p → map (λ l. l.0) p.labels ≡ labels_of (source_lines source)
 
--- the operand that stands behind so many commas
+-- the operand behind n commas
 abbrev pub operand_at : ℕ → List ℕ → List ℕ
 operand_at zero text = first_operand text
 operand_at (suc k) text = operand_at k (other_operands text)
@@ -91,11 +91,11 @@ abbrev pub NumbersStandWhereTheyAreMeant : Type 0
 NumbersStandWhereTheyAreMeant = (source : List ℕ) (p : Assembled) → program_of source ≡ Ok p → (n k : ℕ) (width : Width) (value : ℕ) → HasNumber source n k width value
     → take (bytes_in width) (drop (address (size_of_text source) (here (place_before source n)) - text_base + k * bytes_in width) p.bytes) ≡ number_bytes (bytes_in width) value
 
--- so many bytes of a program from the place of line n on
+-- count bytes of a program from the place of line n on
 abbrev pub bytes_at_line : List ℕ → ℕ → ℕ → List ℕ → List ℕ
 bytes_at_line source n count bytes = take count (drop (address (size_of_text source) (here (place_before source n)) - text_base) bytes)
 
--- At the place of a line `.space size` stand so many zeros.
+-- At the place of a line `.space size` there are size zeros.
 abbrev pub SpacesAreZeros : Type 0
 SpacesAreZeros = (source : List ℕ) (p : Assembled) → program_of source ≡ Ok p → (n size : ℕ) → Says source n (Space size)
     → bytes_at_line source n size p.bytes ≡ replicate size 0

@@ -27,7 +27,7 @@ EveryItemHasItsWord = (source : List ℕ) (items : List Placed) → meaning_of s
 abbrev pub SpellingNeverFails : Type 0
 SpellingNeverFails = (source : List ℕ) (items : List Placed) → meaning_of source ≡ Ok items → (s : Spelled) × (spelled items nothing_spelled ≡ Ok s)
 
--- A source has a program exactly where it means something, and a fault exactly where that is the fault of its meaning.
+-- A source has a program if and only if it means something, and a fault if and only if that is the fault of its meaning.
 abbrev pub RefusedAsMeant : Type 0
 RefusedAsMeant = (source : List ℕ)
     → ((fault : SourceFault) → (program_of source ≡ Err fault) ↔ (meaning_of source ≡ Err fault))

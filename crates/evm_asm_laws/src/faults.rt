@@ -1,11 +1,11 @@
-//! Which fault of a source is told. The functions do nothing: their contracts are the laws.
+//! Which fault of a source is reported. The functions do nothing: their contracts are the laws.
 
 ghost use Rattle.evm_asm_laws.specs.FirstFault.{RefusedWithTheFirst};
 ghost use Rattle.evm_asm_laws.specs.HasFault.{RefusedWithTheLeast};
 ghost use Rattle.evm_asm_laws.specs.Least.{RefusesTheLeast, MeansWithoutFaults, NoFaultIsIgnored};
 ghost use Rattle.evm_asm_laws.specs.Wording.{RefusedAsMeant};
 
-/// A source becomes a program exactly where no line has a fault, and else the least fault of the first line that has
+/// A source becomes a program if and only if no line has a fault, and else the least fault of the first line that has
 /// any is reported.
 pub fn refused_with_the_first()
     ensures { RefusedWithTheFirst }
@@ -22,7 +22,7 @@ pub fn refuses_the_least()
     ensures { RefusesTheLeast }
 {}
 
-/// A source means something exactly where no line has a fault.
+/// A source means something if and only if no line has a fault.
 pub fn means_without_faults()
     ensures { MeansWithoutFaults }
 {}
@@ -32,7 +32,7 @@ pub fn no_fault_is_ignored()
     ensures { NoFaultIsIgnored }
 {}
 
-/// A source has a program exactly where it means something, and else the fault of its meaning.
+/// A source has a program if and only if it means something, and else the fault of its meaning.
 pub fn refused_as_meant()
     ensures { RefusedAsMeant }
 {}

@@ -1,4 +1,4 @@
-//! Laws of the assembler: which fault of a source is told, where the lines of a program stand, and which words they have.
+//! Laws of the assembler: which fault of a source is reported, where the lines of a program stand, and which words they have.
 #![tactic(auto)]
 
 mod faults;

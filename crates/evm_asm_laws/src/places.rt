@@ -43,7 +43,7 @@ pub fn numbers_stand_where_they_are_meant()
     ensures { NumbersStandWhereTheyAreMeant }
 {}
 
-/// `.space size` puts so many zeros at its line's place.
+/// `.space size` puts `size` zeros at its line's place.
 pub fn spaces_are_zeros()
     ensures { SpacesAreZeros }
 {}

@@ -3,4 +3,4 @@ pub mod Faults
 pub mod Text
 pub mod Names
 pub mod Extensions
-pub mod Sentences
+pub mod Messages

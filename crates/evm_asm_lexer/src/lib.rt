@@ -4,10 +4,10 @@
 mod extensions;
 mod fault;
 pub mod laws;
+mod message;
 mod mnemonic;
 mod names;
 mod registers;
-mod sentences;
 mod source_fault;
 mod text;
 mod token;
@@ -18,7 +18,9 @@ pub use mnemonic::{BareOp, Mnemonic, Section, UnaryOp, Width};
 pub use names::mnemonic_named;
 pub use registers::register_named;
 pub use source_fault::{SourceFault, SourceFaultKind, both, least};
-pub use text::{after, before, behind_word, first_word, has, is_name_start, skip_blanks};
+pub use text::{
+    after, before, behind_word, cut, cut_word, first_word, has, is_name_start, skip_blanks,
+};
 pub use token::{bad_token, is_sound, size, starts_with_digit};
 
 #[cfg(test)]

@@ -173,7 +173,7 @@ const OWN: [SourceFaultKind; 7] = [
     SourceFaultKind::TooLarge,
 ];
 
-// Of two faults the one of the lesser number is told, whichever is found first.
+// Of two faults the one of the lesser number is reported, whichever is found first.
 #[test]
 fn the_least_fault_is_told(rt: HostRuntime) {
     let (unknown, bad) = (SourceFaultKind::UnknownName, SourceFaultKind::BadOperand);
@@ -216,7 +216,7 @@ fn the_least_fault_is_told(rt: HostRuntime) {
     );
 }
 
-// What a person is told of each kind of fault, and of a fault with its line.
+// The message of each kind of fault, and of a fault with its line.
 #[test]
 fn faults_are_told_in_words(rt: HostRuntime) -> Result<(), Fail> {
     for (kind, text) in [

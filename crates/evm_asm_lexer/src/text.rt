@@ -102,6 +102,19 @@ pub fn after(c: u8, text: &[u8]) -> &[u8]
     }
 }
 
+/// The text before the first byte `c` and the text behind it: the whole text and nothing where there is none.
+#[tactic(auto, unfolding(crate::specs::Text::before, crate::specs::Text::after))]
+pub fn cut(c: u8, text: &[u8]) -> (&[u8], &[u8])
+    ensures before { result.0.now ≡ before c text.now }
+    ensures after { result.1.now ≡ after c text.now }
+{
+    let place = place_of(c, text);
+    match &text[place..] {
+        [] => (&text[..place], &[]),
+        [_, rest @ ..] => (&text[..place], rest),
+    }
+}
+
 /// Whether the byte `c` is in the text.
 pub fn has(c: u8, text: &[u8]) -> bool
     ensures { result ≡ has c text.now }
@@ -134,4 +147,14 @@ pub fn behind_word(text: &[u8]) -> &[u8]
 {
     let place = word_len(text);
     &text[place..]
+}
+
+/// The longest word at the front, and what follows it.
+#[tactic(auto, unfolding(crate::specs::Text::first_word, crate::specs::Text::behind_word))]
+pub fn cut_word(text: &[u8]) -> (&[u8], &[u8])
+    ensures word { result.0.now ≡ first_word text.now }
+    ensures behind { result.1.now ≡ behind_word text.now }
+{
+    let place = word_len(text);
+    (&text[..place], &text[place..])
 }

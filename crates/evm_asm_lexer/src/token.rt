@@ -1,7 +1,7 @@
 //! The tokens of a line: names, numbers and marks.
 
 ghost use Rattle.std.specs.Prelude.{◌≡◌, ◌≤◌, false, option_copied};
-ghost use Rattle.evm_asm_lexer.specs.Text.{starts_with, is_digit, digit, with_digit, with_digits, digits, size, is_name_or_number, begins_well, bad_token, is_sound};
+ghost use Rattle.evm_asm_lexer.specs.Text.{first_word, starts_with, is_digit, digit, with_digit, with_digits, digits, size, is_name_or_number, begins_well, bad_token, is_sound};
 
 use crate::text::{first_word, is_digit, is_mark, is_white, is_word_byte};
 
@@ -74,12 +74,15 @@ pub fn size(text: &[u8]) -> Option<u64>
     }
 }
 
+// Whether the word at the front is a name or a number. Most words are names, and of those the first byte tells it.
+#[tactic(auto, using(crate::proofs::Words::digit_first))]
 fn is_name_or_number(text: &[u8]) -> bool
-    ensures { result ≡ is_name_or_number text.now }
+    ensures { result ≡ is_name_or_number (first_word text.now) }
 {
-    !starts_with_digit(text) || size(text).is_some()
+    !starts_with_digit(text) || size(first_word(text)).is_some()
 }
 
+#[inline(always)]
 #[tactic(auto, unfolding(crate::specs::Text::begins_well))]
 fn begins_well(inside: bool, text: &[u8]) -> bool
     ensures { result ≡ begins_well inside text.now }
@@ -88,7 +91,7 @@ fn begins_well(inside: bool, text: &[u8]) -> bool
         [] => true,
         [b, rest @ ..] => {
             if is_word_byte(*b) {
-                inside || is_name_or_number(first_word(text))
+                inside || is_name_or_number(text)
             } else if *b == b'-' {
                 starts_with_digit(rest)
             } else {

@@ -88,7 +88,7 @@ unary_instruction Snez rd rs = inst.Register Sltu rd 0 rs
 unary_instruction Sltz rd rs = inst.Register Slt rd rs 0
 unary_instruction Sgtz rd rs = inst.Register Slt rd 0 rs
 
--- The form of a mnemonic that stands with so many operands. In place of x1 jal and jalr may leave the first away.
+-- The form of a mnemonic with n operands. jal and jalr may leave x1 out.
 abbrev pub form : ℕ → Mnemonic → Form
 form count (names.Register op) = Each (Register ∷ Register ∷ Register ∷ []) (λ v. One (inst.Register op v.0 v.1.0 v.1.1))
 form count (names.Word op) = Each (Register ∷ Register ∷ Register ∷ []) (λ v. One (inst.Word op v.0 v.1.0 v.1.1))

@@ -30,7 +30,7 @@ other_operands text = after comma text
 unfoldable pub how_many : List ℕ → ℕ
 how_many text = if is_blank_text text then 0 else count_by (λ b. b == comma) text + 1
 
--- what was read of n operands, where there are so many
+-- what was read of n operands, if there are n
 unfoldable pub counted : {A : Type 0} → ℕ → ℕ → Result A SourceFaultKind → Result A SourceFaultKind
 counted n count (Ok a) = if count == n then Ok a else Err BadOperand
 counted n count (Err e) = if count == n then Err e else Err (least e BadOperand)

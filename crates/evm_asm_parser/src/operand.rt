@@ -9,8 +9,8 @@ ghost use Rattle.evm_asm_parser.specs.Operands.{is_blank_text, first_operand, ot
 use crate::labels::Labels;
 use crate::spot::Spot;
 use evm_asm_lexer::{
-    SourceFaultKind, after, before, behind_word, both, first_word, has, is_name_start, least,
-    register_named, size, skip_blanks, starts_with_digit,
+    SourceFaultKind, after, before, both, cut_word, has, is_name_start, least, register_named,
+    size, skip_blanks, starts_with_digit,
 };
 use evm_isa::Register;
 
@@ -68,7 +68,7 @@ pub fn how_many(text: &[u8]) -> usize
     }
 }
 
-/// What was read of `n` operands, where there are so many.
+/// What was read of `n` operands, if there are `n`.
 #[tactic(auto, unfolding(crate::specs::Operands::counted))]
 pub fn counted<A: Drop>(
     n: usize,
@@ -120,8 +120,12 @@ pub fn name_in(text: &[u8]) -> Option<&[u8]>
     ensures { option_copied result ≡ name_in text.now }
 {
     let text = skip_blanks(text);
-    if starts_with_name(text) && is_blank_text(behind_word(text)) {
-        Some(first_word(text))
+    if !starts_with_name(text) {
+        return None;
+    }
+    let (name, behind) = cut_word(text);
+    if is_blank_text(behind) {
+        Some(name)
     } else {
         None
     }
@@ -153,8 +157,12 @@ pub fn label_in(labels: &Labels, text: &[u8]) -> Result<Option<Spot>, SourceFaul
 fn size_in(text: &[u8]) -> Option<u64>
     ensures { result ≡ size_in text.now }
 {
-    if starts_with_digit(text) && is_blank_text(behind_word(text)) {
-        size(first_word(text))
+    if !starts_with_digit(text) {
+        return None;
+    }
+    let (digits, behind) = cut_word(text);
+    if is_blank_text(behind) {
+        size(digits)
     } else {
         None
     }

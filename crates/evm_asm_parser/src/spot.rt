@@ -1,6 +1,6 @@
 use evm_asm_lexer::Section;
 
-/// Where a label is: so many bytes into a section.
+/// Where a label is: its offset into a section, in bytes.
 #[derive(Clone, Copy, Debug, PartialEq, Eq)]
 pub struct Spot {
     pub section: Section,

@@ -53,12 +53,12 @@ pub enum Statement {
         target: Option<Spot>,
     },
     Section(Section),
-    /// So many numbers of this width, which stand in the text.
+    /// Numbers of this width, and how many the text has.
     Numbers {
         width: Width,
         count: u64,
     },
-    /// So many zero bytes.
+    /// A number of zero bytes.
     Space(u64),
     /// Up to a multiple of this power of 2, 0 to 12.
     Align(Shift),

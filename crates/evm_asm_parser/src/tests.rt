@@ -299,7 +299,7 @@ fn targets(rt: HostRuntime) -> Result<(), Fail> {
     Ok(())
 }
 
-// Of several faults of the operands the one of the least number is told, wherever it stands.
+// Of several faults of the operands the one of the least number is reported, at whichever operand.
 #[test]
 fn each_fault(rt: HostRuntime) -> Result<(), Fail> {
     let labels = labels_with_here(&rt)?;
@@ -341,7 +341,7 @@ fn data(rt: HostRuntime) -> Result<(), Fail> {
     Ok(())
 }
 
-// Of two readings the first is told, or the least fault of both.
+// Of two readings the first is taken, or the least fault of both.
 #[test]
 fn two_readings(rt: HostRuntime) {
     assert_eq!(rt;

@@ -81,7 +81,7 @@ impl Bells {
         taken
     }
 
-    // The words at the end, told by a seat of all the weight.
+    // The words at the end, read by a seat of all the weight.
     fn left(self, seat: Seat<(), View>) -> [u32; PROCESSOR_LIMIT]
         requires bells { seat.table_id ≡ self.id }
         requires all { seat.me.0.weight ≡ whole_weight self.cpus }

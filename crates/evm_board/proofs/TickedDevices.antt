@@ -1,17 +1,18 @@
 -- The ticks of one device after another are those of all.
-use Rattle.std.proofs.Common.{◌≡◌, ℕ, zero, suc, ◌+◌, ◌≤◌, List, [], ◌∷◌, Bool, Option, Some, None, drop, length, map, refl, sym, ap, ◌∙◌, arith}
-use Rattle.std.specs.Prelude.{slice_get, nat_le}
+use Rattle.std.proofs.Common.{◌≡◌, ℕ, zero, suc, ◌+◌, ◌≤◌, List, [], ◌∷◌, Bool, Option, Some, None, drop, map, refl, sym, ap, ◌∙◌, arith, leb-true, leb-false}
+use Rattle.std.specs.Prelude.{false, true, slice_get, nat_le, option_map}
 use Rattle.std.proofs.lemmas.Option.{slice_get-map}
-use Rattle.evm_bus.specs.Bus.{tick, tick_device}
+use Rattle.evm_bus.specs.Bus.{AreIdleFrom, tick, tick_device}
 use Rattle.evm_dev.specs.Attached.{Attached}
 use Rattle.evm_dev.specs.Rows.{ticked}
+use Rattle.evm_dev.specs.Touched.{Ticked}
 use Rattle.evm_model.specs.Bounds.{PipesUpTo}
 use Rattle.evm_model.specs.Devices.{line_if, raise_line, raise_by_ticks, tick_device as device_ticked, tick_devices}
 use Rattle.evm_model.specs.Lists.{change, change_some}
 use Rattle.evm_model.specs.State.{Board, Parts}
-use Rattle.evm_model.proofs.Lists.{change-elsewhere, same_elements}
+use Rattle.evm_model.proofs.Lists.{same_elements}
 use Rattle.evm_rules.proofs.Counting.{on_raise-up}
-use Rattle.evm_settle.proofs.Nudges.{changed_below, changed_below-more, changed_below-none, all-at}
+use Rattle.evm_settle.proofs.Nudges.{changed_below, changed_below-more, changed_below-none, changed_below-reached, changed_below-unreached}
 use Rattle.evm_walk.proofs.Counted.{PipesUpTo-more}
 use Rattle.evm_board.specs.Ticks.{ticked_once}
 use Rattle.evm_board.proofs.Accesses.{line-ticks}
@@ -30,11 +31,21 @@ pub ticked-more : (i : ℕ) (devices : List Attached) → (tick i (changed_below
 ticked-more i devices =
     ticked-some (slice_get (changed_below one_ticked i devices) i) i (changed_below one_ticked i devices) refl ∙ sym (changed_below-more one_ticked i devices)
 
-all-map : (n i : ℕ) (xs : List Attached) (b : Bool) → nat_le n i ≡ b → length xs ≤ n → slice_get (changed_below one_ticked n xs) i ≡ slice_get (map device_ticked xs) i
-all-map n i xs b e h = all-at one_ticked n i xs b e h ∙ sym (slice_get-map device_ticked xs i)
+-- an idle device that has ticked is as it was
+kept-at : (n i : ℕ) (xs : List Attached) (o : Option Attached) → slice_get xs i ≡ o → n ≤ i → AreIdleFrom n xs → o ≡ option_map device_ticked o
+kept-at n i xs None at past idle = refl
+kept-at n i xs (Some device) at past idle =
+    let same : device_ticked device ≡ device = ap (λ (t : Ticked). record device { words = t.words }) (idle i device past at) in
+    ap (λ (d : Attached). Some d) (sym same)
 
-pub ticked-all : (n : ℕ) (xs : List Attached) → length xs ≤ n → changed_below one_ticked n xs ≡ map device_ticked xs
-ticked-all n xs h = same_elements (changed_below one_ticked n xs) (map device_ticked xs) (λ i. all-map n i xs (nat_le n i) refl h)
+all-map : (n i : ℕ) (xs : List Attached) (b : Bool) → nat_le n i ≡ b → AreIdleFrom n xs → slice_get (changed_below one_ticked n xs) i ≡ slice_get (map device_ticked xs) i
+all-map n i xs true e idle =
+    let past : n ≤ i = leb-true n i e in
+    changed_below-unreached one_ticked n i xs past ∙ kept-at n i xs (slice_get xs i) refl past idle ∙ sym (slice_get-map device_ticked xs i)
+all-map n i xs false e idle = changed_below-reached one_ticked n i xs (leb-false n i e) ∙ sym (slice_get-map device_ticked xs i)
+
+pub ticked-all : (n : ℕ) (xs : List Attached) → AreIdleFrom n xs → changed_below one_ticked n xs ≡ map device_ticked xs
+ticked-all n xs idle = same_elements (changed_below one_ticked n xs) (map device_ticked xs) (λ i. all-map n i xs (nat_le n i) refl idle)
 
 -- ---- their lines
 abbrev raises_at : Option Attached → ℕ → Parts → Parts
@@ -56,32 +67,29 @@ rest-more n (suc i) [] k = refl
 rest-more n zero (device ∷ devices) k = refl
 rest-more n (suc i) (device ∷ devices) k = rest-more n i devices k
 
--- a device that hasn't ticked yet is as it was
-not-yet : (n i : ℕ) (devices : List Attached) → n ≤ i → slice_get (changed_below one_ticked n devices) i ≡ slice_get devices i
-unfolding changed_below
-not-yet zero i devices h = refl
-not-yet (suc n) i devices h = change-elsewhere device_ticked (changed_below one_ticked n devices) n i (λ same. omega arith) ∙ not-yet n i devices (omega arith)
-
 pub raised-more : (i : ℕ) (devices : List Attached) (k : Parts)
     → left_to_raise i devices k ≡ left_to_raise (i + 1) devices (raise_line (line_if (tick i (changed_below one_ticked i devices)).1 i) k)
 raised-more i devices k =
     let seen : List Attached = changed_below one_ticked i devices in
     let one : suc i ≡ i + 1 = omega arith in
     let here : raise_line (line_if (tick i seen).1 i) k ≡ raises_at (slice_get devices i) i k =
-    tick-raises (slice_get seen i) i seen k ∙ ap (λ (o : Option Attached). raises_at o i k) (not-yet i i devices (omega arith)) in
+    tick-raises (slice_get seen i) i seen k ∙ ap (λ (o : Option Attached). raises_at o i k) (changed_below-unreached one_ticked i i devices (omega arith)) in
     rest-more i i devices k
     ∙ ap (λ (j : ℕ). left_to_raise j devices (raises_at (slice_get devices i) i k)) one
     ∙ ap (left_to_raise (i + 1) devices) (sym here)
 
-none-left : (i n : ℕ) (devices : List Attached) (k : Parts) → length devices ≤ n → raise_by_ticks i (drop n devices) k ≡ k
+none-left : (i n : ℕ) (devices : List Attached) (k : Parts) → AreIdleFrom n devices → raise_by_ticks i (drop n devices) k ≡ k
 unfolding raise_by_ticks
-none-left i zero [] k h = refl
-none-left i (suc n) [] k h = refl
-none-left i zero (device ∷ devices) k h = absurd (omega arith)
-none-left i (suc n) (device ∷ devices) k h = none-left i n devices k (omega arith)
+none-left i zero [] k idle = refl
+none-left i (suc n) [] k idle = refl
+none-left i zero (device ∷ devices) k idle =
+    let quiet : (ticked device.kind device.words).raise ≡ false = ap (λ (t : Ticked). t.raise) (idle 0 device (omega arith) refl) in
+    ap (λ (raise : Bool). raise_by_ticks (suc i) devices (raise_line (line_if raise i) k)) quiet
+    ∙ none-left (suc i) zero devices k (λ j d past there. idle (suc j) d (omega arith) there)
+none-left i (suc n) (device ∷ devices) k idle = none-left i n devices k (λ j d past there. idle (suc j) d (omega (arith, past)) there)
 
-pub raised-all : (n : ℕ) (devices : List Attached) (k : Parts) → length devices ≤ n → left_to_raise n devices k ≡ k
-raised-all n devices k h = none-left n n devices k h
+pub raised-all : (n : ℕ) (devices : List Attached) (k : Parts) → AreIdleFrom n devices → left_to_raise n devices k ≡ k
+raised-all n devices k idle = none-left n n devices k idle
 
 -- ---- room
 pub line-up : (b : ℕ) (line : Option ℕ) (k : Parts) → PipesUpTo b k.pipes → PipesUpTo (b + 1) (raise_line line k).pipes
@@ -125,9 +133,9 @@ room-more n i b x new was is h =
     let sum : n + (i + 1) ≡ n + i + 1 = omega arith in
     rw (parts-more i b x new was is, sum) (line-up (n + i) _ x.parts h)
 
-pub all-ticked : (n : ℕ) (b x : Board) → length b.memory.devices ≤ n → x ≡ seen n b x.parts → raise_by_ticks 0 b.memory.devices b.parts ≡ left_to_raise n b.memory.devices x.parts → x ≡ tick_devices b
+pub all-ticked : (n : ℕ) (b x : Board) → AreIdleFrom n b.memory.devices → x ≡ seen n b x.parts → raise_by_ticks 0 b.memory.devices b.parts ≡ left_to_raise n b.memory.devices x.parts → x ≡ tick_devices b
 unfolding tick_devices with_devices
-all-ticked n b x few was lines =
+all-ticked n b x idle was lines =
     was
-    ∙ ap (with_devices b x.parts) (ticked-all n b.memory.devices few)
-    ∙ ap (λ (k : Parts). with_devices b k (map device_ticked b.memory.devices)) (sym (lines ∙ raised-all n b.memory.devices x.parts few))
+    ∙ ap (with_devices b x.parts) (ticked-all n b.memory.devices idle)
+    ∙ ap (λ (k : Parts). with_devices b k (map device_ticked b.memory.devices)) (sym (lines ∙ raised-all n b.memory.devices x.parts idle))

@@ -1,6 +1,7 @@
 //! The devices of a board, before its first event and behind its last one.
 
 ghost use Rattle.std.specs.Prelude.{◌≡◌, ◌<◌, ◌≤◌, [], ◌∷◌, ◌++◌, length, map};
+ghost use Rattle.evm_bus.specs.Bus.{AreIdleFrom};
 ghost use Rattle.evm_model.specs.Good.{AreDevices};
 ghost use Rattle.evm_model.specs.State.{on_memory};
 
@@ -15,6 +16,14 @@ impl<D: Device> Board<D> {
         ensures limit { result ≤ DEVICE_LIMIT }
     {
         self.memory.devices.len()
+    }
+
+    /// A number from which on a tick changes no device and raises no line of one.
+    pub(crate) fn active_devices(&self) -> usize
+        ensures limit { result ≤ DEVICE_LIMIT }
+        ensures idle { AreIdleFrom result self.now.memory.devices }
+    {
+        self.memory.devices.active()
     }
 
     /// There are no more devices than there may be, and each has words that its kind may have.

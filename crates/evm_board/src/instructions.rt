@@ -61,7 +61,7 @@ pub(crate) fn stop(parts: &mut Parts, c: u8)
 }
 
 impl<D: Device> Board<D> {
-    /// Goes on where a processor's run stopped, and answers as that Step does. Here alone is told what follows each reason.
+    /// Goes on where a processor's run stopped, and answers as that Step does. What follows each reason is decided here alone.
     #[tactic(auto, unfolding(evm_model::specs::Instructions::finish))]
     pub(crate) fn follow(&mut self, c: u8, t: u8, why: Stop) -> Answer
         requires { IsRunning false c t self.old }

@@ -43,7 +43,7 @@ impl<D: Device> Board<D> {
         ensures room { PipesUpTo (COUNT_LIMIT - PROCESSOR_LIMIT) self.new.parts.pipes }
         ensures clock { self.new.parts.ticks ≡ self.old.parts.ticks }
     {
-        for i in 0..self.device_count() {
+        for i in 0..self.active_devices() {
             self.tick_device(i);
         }
     }

@@ -36,7 +36,7 @@ own_ranks mutexes tasks ranks =
 unfoldable pub next_ranks : List Mutex → List Task → List ℕ → List ℕ → List ℕ
 next_ranks mutexes tasks own now = scatter (boosts mutexes tasks) (rank_told now) own (length tasks)
 
--- their ranks after so many
+-- their ranks after n
 unfoldable pub ranks_after : List Mutex → List Task → List ℕ → ℕ → List ℕ
 ranks_after mutexes tasks own zero = own
 ranks_after mutexes tasks own (suc rounds) = next_ranks mutexes tasks own (ranks_after mutexes tasks own rounds)

@@ -1,5 +1,5 @@
 -- A list of devices as contracts see it, after one of them was touched or has ticked.
-use Rattle.std.proofs.Common.{◌≡◌, ℕ, zero, suc, ◌+◌, ◌≤◌, ◌<◌, Bool, List, [], ◌∷◌, length, map, Option, Some, None, IsSome, inl, inr, refl, sym, ap, subst, ◌∙◌, arith}
+use Rattle.std.proofs.Common.{◌≡◌, ℕ, zero, suc, ◌+◌, ◌≤◌, ◌<◌, ◌⊎◌, Bool, true, List, [], ◌∷◌, length, map, Option, Some, None, IsSome, inl, inr, refl, sym, ap, subst, ◌∙◌, arith}
 use Rattle.std.specs.Prelude.{false, is_some, slice_get, slice_set, option_map, IfNone}
 use Rattle.std.proofs.lemmas.Bool.{cases_lt}
 use Rattle.std.proofs.lemmas.List.{length-map}
@@ -7,7 +7,7 @@ use Rattle.std.proofs.lemmas.Option.{slice_get-map, slice_get_within}
 use Rattle.evm_dev.specs.Attached.{Attached, IsDevice}
 use Rattle.evm_dev.specs.Mailbox.{oldest_taken}
 use Rattle.evm_dev.specs.Rows.{rows, ticked, touched}
-use Rattle.evm_dev.specs.Touched.{Touched, answers, at_register}
+use Rattle.evm_dev.specs.Touched.{Ticked, Touched, answers, at_register}
 use Rattle.evm_dev.specs.declared.kind.Kind.{Kind}
 use Rattle.evm_dev.specs.declared.kind.Kind.TheVariants.{Console, Mailbox, Pins}
 use Rattle.evm_dev.specs.declared.touch.Op.{Op}
@@ -16,8 +16,8 @@ use Rattle.evm_dev.specs.declared.touch.Touch.{Touch}
 use Rattle.evm_model.specs.Good.{AreDevices}
 use Rattle.evm_model.specs.declared.limits.TheConstants.{DEVICE_LIMIT}
 use Rattle.evm_model.specs.Lists.{change, change_some}
-use Rattle.evm_model.proofs.Lists.{change-same}
-use Rattle.evm_bus.specs.Bus.{tick, tick_device, touch, touch_device, with_words}
+use Rattle.evm_model.proofs.Lists.{change-same, slice_get-set_other, slice_get-slice_set}
+use Rattle.evm_bus.specs.Bus.{AreIdleFrom, IsIdle, tick, tick_device, touch, touch_device, with_words}
 
 -- ---- one element of a list, as it is seen
 map-slice_set : {A : Type 0} {B : Type 0} (f : A → B) (xs : List A) (i : ℕ) (y : A) → map f (slice_set xs i y) ≡ slice_set (map f xs) i (f y)
@@ -151,3 +151,49 @@ pub all-first : {A : Type 0} (f : A → Attached) (xs : List A) (devices : List 
 all-first f xs devices n seen past few all =
     let count : length devices ≡ length xs = ap length (sym seen) ∙ length-map xs f in
     record { few = omega (arith, count, few); each = λ i device there. all i device (omega (arith, slice_get_within devices i device there, count, past)) there }
+
+-- ---- the devices that a tick leaves alone
+-- another device at a place below the idle ones
+pub idle-touched : {A : Type 0} (f : A → Attached) (xs : List A) (i n : ℕ) (y : A) (m : ℕ) → n ≤ m → i < m → AreIdleFrom n (map f xs) → AreIdleFrom m (map f (slice_set xs i y))
+idle-touched f xs i n y m more past idle j device from there =
+    let other : j ≡ i → ⊥ = λ same. omega (arith, same, past, from) in
+    let here : slice_get (map f xs) j ≡ Some device =
+    sym (slice_get-set_other (map f xs) i j (f y) other) ∙ ap (λ (ds : List Attached). slice_get ds j) (sym (map-slice_set f xs i y)) ∙ there in
+    idle j device (omega (arith, more, from)) here
+
+-- a tick of an idle device leaves it so
+still-idle : (a b : Attached) → b.kind ≡ a.kind → b.words ≡ (ticked a.kind a.words).words → IsIdle a → IsIdle b
+still-idle a b kind words idle =
+    let same : b ≡ a = same-device b a kind (words ∙ ap (λ (t : Ticked). t.words) idle) in
+    subst IsIdle (sym same) idle
+
+pub idle-ticked : {A : Type 0} (f : A → Attached) (xs : List A) (i n : ℕ) (x y : A) (m : ℕ) (is_idle : Bool) → slice_get xs i ≡ Some x
+    → (f y).kind ≡ (f x).kind → (f y).words ≡ (ticked (f x).kind (f x).words).words → (is_idle ≡ true → IsIdle (f y))
+    → (m ≡ n) ⊎ ((m ≡ i) × (n ≡ i + 1) × (is_idle ≡ true)) → AreIdleFrom n (map f xs) → AreIdleFrom m (map f (slice_set xs i y))
+idle-ticked f xs i n x y m is_idle at kind words test left idle j device from there =
+    let set : slice_get (slice_set (map f xs) i (f y)) j ≡ Some device = ap (λ (ds : List Attached). slice_get ds j) (sym (map-slice_set f xs i y)) ∙ there in
+    elim (slice_get-slice_set (map f xs) i j (f y) device set) [
+      | inl here ↦
+          elim left [
+            | inl same ↦
+                let was : IsIdle (f x) = idle i (f x) (omega (arith, same, from, here.0)) (seen-at f xs i x at) in
+                subst IsIdle (sym here.1) (still-idle (f x) (f y) kind words was)
+            | inr less ↦ subst IsIdle (sym here.1) (test less.2)
+          ]
+      | inr other ↦
+          elim left [
+            | inl same ↦ idle j device (omega (arith, same, from)) other.1
+            | inr less ↦
+                elim (cases_lt i j) [
+                  | inl above ↦ idle j device (omega (arith, less.1, above)) other.1
+                  | inr below ↦ absurd (other.0 (omega (arith, less.0, from, below)))
+                ]
+          ]
+    ]
+
+pub fewer-active : (n m i : ℕ) (is_idle : Bool) → (m ≡ n) ⊎ ((m ≡ i) × (n ≡ i + 1) × (is_idle ≡ true)) → m ≤ n
+fewer-active n m i is_idle left =
+    elim left [
+      | inl same ↦ omega (arith, same)
+      | inr less ↦ omega (arith, less.0, less.1)
+    ]

@@ -1,8 +1,8 @@
 -- What a touch and a tick of one device make of a list of devices.
-use Rattle.std.specs.Prelude.{ℕ, Bool, false, List, Option, Some, None, slice_get}
+use Rattle.std.specs.Prelude.{◌≡◌, ◌≤◌, ℕ, Bool, false, List, Option, Some, None, slice_get}
 use Rattle.evm_dev.specs.Attached.{Attached}
 use Rattle.evm_dev.specs.Rows.{touched, ticked}
-use Rattle.evm_dev.specs.Touched.{no_answer}
+use Rattle.evm_dev.specs.Touched.{no_answer, unmoved}
 use Rattle.evm_dev.specs.declared.touch.Op.{Op}
 use Rattle.evm_dev.specs.declared.touch.Touch.{Touch}
 use Rattle.evm_model.specs.Lists.{change}
@@ -27,6 +27,14 @@ tick_device (Some device) i devices = (with_words i (ticked device.kind device.w
 -- device i ticks, if there is one: whether it raises
 abbrev pub tick : ℕ → List Attached → List Attached × Bool
 tick i devices = tick_device (slice_get devices i) i devices
+
+-- a tick neither changes the device nor raises its line
+abbrev pub IsIdle : Attached → Type 0
+IsIdle device = ticked device.kind device.words ≡ unmoved device.words
+
+-- each device from number n on is idle
+abbrev pub AreIdleFrom : ℕ → List Attached → Type 0
+AreIdleFrom n devices = (i : ℕ) (device : Attached) → n ≤ i → slice_get devices i ≡ Some device → IsIdle device
 
 abbrev pub word_of : Option Attached → ℕ → Option ℕ
 word_of None k = None

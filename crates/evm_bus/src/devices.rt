@@ -1,8 +1,8 @@
-ghost use Rattle.std.specs.Prelude.{◌≡◌, ◌<◌, ◌≤◌, [], ◌∷◌, ◌++◌, length, map, nat_le, IfErr, IfNone, IfOk};
-ghost use Rattle.evm_bus.specs.Bus.{tick, touch, word};
+ghost use Rattle.std.specs.Prelude.{◌≡◌, ◌↔◌, ◌⊎◌, ◌+◌, true, ◌<◌, ◌≤◌, [], ◌∷◌, ◌++◌, length, map, nat_le, IfErr, IfNone, IfOk};
+ghost use Rattle.evm_bus.specs.Bus.{AreIdleFrom, IsIdle, tick, touch, word};
 ghost use Rattle.evm_model.specs.Good.{AreDevices};
 
-use evm_dev::{Device, Op, Touch};
+use evm_dev::{Device, Kind, Op, Touch};
 use evm_model::DEVICE_LIMIT;
 use evm_room::{Refused, with_room};
 use std::alloc::Global;
@@ -12,19 +12,43 @@ use std::marker::Model;
 #[derive(Debug, Drop)]
 pub struct Devices<D: Device> {
     items: Vec<D>,
+    // a tick changes none of the devices from this number on
+    active: usize,
 }
 
 impl<D: Device> Model for Devices<D> {
     ghost use Rattle.std.specs.Prelude.{◌≤◌, List, length, map, vec_capacity};
+    ghost use Rattle.evm_bus.specs.Bus.{AreIdleFrom};
     ghost use Rattle.evm_dev.specs.Attached.{Attached};
     ghost use Rattle.evm_model.specs.declared.limits.TheConstants.{DEVICE_LIMIT};
 
     ghost Value = { List Attached };
 
     // there is room for as many as there may be
-    ghost invariant = { λ devices. (length devices.items.items ≤ DEVICE_LIMIT) × (DEVICE_LIMIT ≤ vec_capacity devices.items) };
+    ghost invariant = { λ devices. (length devices.items.items ≤ DEVICE_LIMIT) × (DEVICE_LIMIT ≤ vec_capacity devices.items) × (devices.active ≤ length devices.items.items) × AreIdleFrom devices.active (map (λ device. record { kind = D.kind_of device; words = D.words_of device }) devices.items.items) };
 
     ghost view = { λ devices. map (λ device. record { kind = D.kind_of device; words = D.words_of device }) devices.items.items };
+}
+
+// Whether a tick neither changes a device nor raises its line.
+fn is_idle<D: Device>(device: &D) -> bool
+    ensures { (result ≡ true) ↔ IsIdle (record { kind = D.kind_of device.now; words = D.words_of device.now }) }
+{
+    match device.kind() {
+        Kind::Console | Kind::Mailbox => true,
+        Kind::Pins => device.words(2) == Some(0),
+    }
+}
+
+// The number of active devices after a tick of device i: one less if it was the last of them and is idle.
+fn active_after(active: usize, i: usize, idle: bool) -> usize
+    ensures { (result ≡ active) ⊎ ((result ≡ i) × (active ≡ i + 1) × (idle ≡ true)) }
+{
+    if idle && active > 0 && active - 1 == i {
+        i
+    } else {
+        active
+    }
 }
 
 impl<D: Device> Devices<D> {
@@ -35,7 +59,17 @@ impl<D: Device> Devices<D> {
     {
         Ok(Devices {
             items: with_room(alloc, DEVICE_LIMIT)?,
+            active: 0,
         })
+    }
+
+    /// A number from which on no device does anything at a tick: those below it are the ones to tick.
+    pub fn active(&self) -> usize
+        ensures some { result ≤ length self.now }
+        ensures limit { result ≤ DEVICE_LIMIT }
+        ensures idle { AreIdleFrom result self.now }
+    {
+        self.active
     }
 
     /// How many devices there are.
@@ -59,6 +93,7 @@ impl<D: Device> Devices<D> {
         ensures { self.new ≡ self.old ++ record { kind = D.kind_of device; words = D.words_of device } ∷ [] }
     {
         self.items.push_reserved(device);
+        self.active = self.items.len();
     }
 
     /// A touch of a device's register; no answer if there is no such device.
@@ -69,7 +104,9 @@ impl<D: Device> Devices<D> {
         let Some(device) = self.items.get_mut(i) else {
             return Touch::NONE;
         };
-        device.touch(op, register, value)
+        let touch = device.touch(op, register, value);
+        self.active = self.active.max(i + 1);
+        touch
     }
 
     /// A tick of a device: whether it raises its line.
@@ -79,7 +116,9 @@ impl<D: Device> Devices<D> {
         let Some(device) = self.items.get_mut(i) else {
             return false;
         };
-        device.tick()
+        let raise = device.tick();
+        self.active = active_after(self.active, i, is_idle(device));
+        raise
     }
 
     /// A word of a device.

@@ -74,7 +74,7 @@ pub fn detach(parts: &mut Parts, t: u8) -> Outcome
     Outcome::Returns(0)
 }
 
-/// Call 34: a task, of whatever processor, has another class and priority, and a whole slice; answers 0. -3 where
+/// Call 34: a task of any processor has another class and priority, and a whole slice; answers 0. -3 where
 /// there is no such task, or it has ended or has no class, else -22 where there is no such class or it has no such
 /// priority.
 #[tactic(auto, unfolding(evm_model::specs::OobCalls::set_sched))]

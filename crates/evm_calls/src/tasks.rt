@@ -34,7 +34,7 @@ pub fn yield_now(parts: &mut Parts, c: u8, t: u8) -> Outcome
     Outcome::Returns(0)
 }
 
-// An entry that is no multiple of 4 in RAM of so many bytes.
+// An entry that is no multiple of 4 in RAM of this size.
 fn is_bad_entry(ram: u64, entry: u64) -> bool
     ensures { result ≡ is_bad_entry ram entry }
 {

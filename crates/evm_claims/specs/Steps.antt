@@ -139,7 +139,7 @@ pub record Stands (t : ℕ) (tasks : List Task) (harts : List Hart) (task : Task
   pub task_is : slice_get tasks t ≡ Some task
   pub hart_is : slice_get harts t ≡ Some hart
 
--- a task that is there afterwards and was not before: in-band, unattached, with no mode bits, its registers zero but for a0
+-- a task that is there afterwards and was not before: in-band, unattached, with no mode bits, its registers zero except a0
 pub record IsNewTask (t : ℕ) (before : List Hart) (tasks : List Task) (harts : List Hart) : Type 0 where
   pub cpu : ℕ
   pub stamp : ℕ
@@ -212,7 +212,7 @@ pub record StepChangesOnly (runs : Option ℕ) (c : ℕ) (old new : Board) : Typ
   pub stamps : old.parts.stamps ≤ new.parts.stamps
   pub breakpoints : new.breakpoints ≡ old.breakpoints
   pub processors : (d : ℕ) → d ≢ c → slice_get new.parts.processors d ≡ slice_get old.parts.processors d
-  -- the devices stand but for one that the instruction touches; its line, if it raises it, is raised on processor 0
+  -- no device changes except one that the instruction touches; its line, if it raises it, is raised on processor 0
   pub line : Option ℕ
   pub devices : DevicesAfter runs old.parts.harts old.memory new.memory.devices line
   -- the notices stand, or the current task gets one

@@ -1,4 +1,4 @@
-//! Each part reaches its rows: what each event but a step changes, which task is first, which refusal is told.
+//! Each part meets its rows: what each event except a Step changes, which task is first, which refusal is reported.
 ghost use Rattle.std.specs.Prelude.{◌≡◌, ◌≢◌, ◌+◌, ◌^◌, ◌<◌, ◌≤◌, ◌++◌, ℕ, List, [], ◌∷◌, Bool, true, false, Option, Result, if◌then◌else◌, slice_get, slice_index, length, option_map};
 ghost use Rattle.evm_exec.specs.Registers.{register_of, with_register};
 ghost use Rattle.evm_exec.specs.declared.hart.Hart.{Hart};
@@ -206,7 +206,7 @@ pub fn the_best_task_is_first()
     evm_runs::finds_first();
 }
 
-/// Where the journal is full every event is refused with Full; else an event is refused exactly where a reason of the
+/// Where the journal is full every event is refused with Full; else an event is refused if and only if a reason of the
 /// table applies, and of several the one of least number is reported.
 pub fn the_least_refusal_is_told()
     ensures full { (s : State) (event : Event) → s.boot.capacity ≤ length s.journal → apply s event ≡ Result.Err Refusal.Full }

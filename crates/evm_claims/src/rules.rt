@@ -1,4 +1,4 @@
-//! Which task a processor runs, and what waits in its logs: the rules that hold after every event.
+//! Which task a processor runs, and what is pending in its logs: the rules that hold after every event.
 ghost use Rattle.std.specs.Prelude.{◌≡◌, ◌≢◌, ◌%◌, ◌<◌, ◌≤◌, ◌++◌, ◌⊎◌, ℕ, List, [], ◌∷◌, true, false, Option, Result, slice_get, length};
 ghost use Rattle.evm_exec.specs.Registers.{with_register};
 ghost use Rattle.evm_exec.specs.declared.hart.Hart.{Hart};

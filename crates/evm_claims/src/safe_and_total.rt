@@ -14,7 +14,7 @@ ghost use Rattle.evm_model.specs.declared.limits.TheConstants.{DEVICE_LIMIT, TAS
 ghost use Rattle.evm_model.specs.declared.mutex.Mutex.{Mutex};
 ghost use Rattle.evm_claims.specs.Reached.{AreSmall, Ran};
 
-/// Whatever happens to a machine, it has as many processors, pipes and bytes of RAM afterwards, no fewer tasks and
+/// Whatever happens to a machine, it has as many processors, pipes and bytes of RAM afterwards, at least as many tasks and
 /// harts, and the boot numbers that it had; where there were 64 tasks at the most there are, and where each had a
 /// hart each has one; where each task had 32 registers and an x0 of zero, each has so still.
 pub fn sizes_never_change()

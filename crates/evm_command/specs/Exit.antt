@@ -6,7 +6,7 @@ use Rattle.evm_serve.specs.evm_streams.declared.cause.Cause.TheVariants as cause
 use Rattle.evm_serve.specs.evm_streams.declared.sink.Writing.{Writing}
 use Rattle.evm_serve.specs.evm_streams.declared.source.ReadFault.{ReadFault}
 use Rattle.evm_serve.specs.evm_streams.declared.source.ReadFault.TheVariants.{Failed, TooLong, NotUtf8}
-use Rattle.evm_serve.specs.evm_elf.Sentences.{elf_sentence}
+use Rattle.evm_serve.specs.evm_elf.Messages.{elf_message}
 use Rattle.evm_serve.specs.evm_elf.declared.fault.ElfFault.{ElfFault}
 use Rattle.evm_image.specs.Images.{Contents}
 use Rattle.evm_serve.specs.evm_diagnostics.Details.{fault_detail}
@@ -161,7 +161,7 @@ out_texts source out ending =
 -- the message of a file that is not an image
 abbrev pub image_fault_message : Known → ElfFault → List ℕ
 image_fault_message (File bytes) fault = image_message bytes fault
-image_fault_message known fault = elf_sentence fault
+image_fault_message known fault = elf_message fault
 
 module _ {E : Type 0} (takes : E → Writing → List ℕ → E → Type 0) where
   -- A script without a boot line does nothing.

@@ -3,7 +3,7 @@ use Rattle.std.specs.Prelude.{ℕ, ◌^◌, ◌-◌, ◌==◌, ◌++◌, nat_eq,
 use Rattle.std.specs.List.{starts_with}
 use Rattle.evm_serve.specs.evm_text.Written.{decimal, hexadecimal}
 use Rattle.evm_serve.specs.evm_elf.Details.{image_detail, hint_of}
-use Rattle.evm_serve.specs.evm_elf.Sentences.{elf_sentence}
+use Rattle.evm_serve.specs.evm_elf.Messages.{elf_message}
 use Rattle.evm_serve.specs.evm_elf.declared.fault.ElfFault.{ElfFault}
 use Rattle.evm_serve.specs.evm_elf.declared.detail.ImageDetail.{ImageDetail}
 use Rattle.evm_serve.specs.evm_elf.declared.detail.ImageDetail.TheVariants.{Machine, Compressed, HeaderSize, HeaderCut, Cut, Outside, Entry}
@@ -20,7 +20,7 @@ below_2_64 n = if nat_lt n (2 ^ 64) then n else 2 ^ 64 - 1
 
 abbrev pub hint_or_kind : ElfFault → Option (List ℕ) → List ℕ
 hint_or_kind fault (Some hint) = hint
-hint_or_kind fault None = elf_sentence fault
+hint_or_kind fault None = elf_message fault
 
 -- where a segment is outside that begins at this address
 abbrev pub outside_words : ℕ → List ℕ
@@ -41,7 +41,7 @@ image_detail_message fault detail = hint_or_kind fault (hint_of detail)
 
 abbrev pub image_detail_or_kind : ElfFault → Option ImageDetail → List ℕ
 image_detail_or_kind fault (Some detail) = image_detail_message fault detail
-image_detail_or_kind fault None = elf_sentence fault
+image_detail_or_kind fault None = elf_message fault
 
 -- a file that is no journal
 abbrev pub file_message : List ℕ → ElfFault → List ℕ

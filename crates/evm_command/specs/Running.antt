@@ -18,7 +18,7 @@ use Rattle.evm_command.specs.declared.system.OpenFault.{OpenFault}
 use Rattle.evm_command.specs.declared.system.World.{World}
 use Rattle.evm_command.specs.Exit.{program_name, Ended}
 use Rattle.evm_command.specs.Jobs.{AsksNothing, NotWords, NotRead, AssemblesFile, Runs, Replays}
-use Rattle.evm_command.specs.ThreadRuns.{RunsFileByThreads}
+use Rattle.evm_command.specs.ThreadRuns.{RunsFileByThreads, SaysNumber}
 use Rattle.evm_command.specs.Words.{Wanted, Assemble, Run, Replay, Threads, evltool, job_of}
 
 module _ {S O C I W E : Type 0} (writes : W → Writing → List ℕ → W → Type 0) (reports : E → Writing → List ℕ → E → Type 0) where
@@ -49,7 +49,7 @@ module _ {S O C I W E : Type 0} (opens : S → List ℕ → Result O OpenFault �
   Does devices (Assemble source out) w w' status = AssemblesFile opens creates opened created writes reports source out w w' status
   Does devices (Run image) w w' status = Runs opens opened gives writes reports devices image w w' status
   Does devices (Replay image journal) w w' status = Replays opens opened writes reports devices image journal w w' status
-  Does devices (Threads image turns) w w' status = RunsFileByThreads opens opened writes reports devices image w w' status
+  Does devices (Threads image turns) w w' status = (n : ℕ) × SaysNumber turns n × RunsFileByThreads opens opened writes reports devices image n w w' status
 
   -- where no job is named, nothing is asked for
   abbrev pub DoesNamed : List Attached → Option Wanted → World S O C I W E → World S O C I W E → ℕ → Type 0

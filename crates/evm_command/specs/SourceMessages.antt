@@ -2,7 +2,7 @@
 use Rattle.std.specs.Prelude.{ℕ, ◌-◌, ◌==◌, ◌&&◌, ◌++◌, nat_le, List, length, drop, Option, Some, None, codes, if◌then◌else◌}
 use Rattle.evm_serve.specs.evm_diagnostics.Lookup.{line_numbered}
 use Rattle.evm_serve.specs.evm_text.Written.{decimal}
-use Rattle.evm_serve.specs.evm_asm_lexer.Sentences.{asm_sentence}
+use Rattle.evm_serve.specs.evm_asm_lexer.Messages.{asm_message}
 use Rattle.evm_serve.specs.evm_asm_lexer.declared.extensions.Extension.{Extension as Extended}
 use Rattle.evm_serve.specs.evm_asm_lexer.declared.extensions.Extension.TheVariants.{Multiply, Atomic, Float, Compressed, Status, FenceI}
 use Rattle.evm_serve.specs.evm_asm_lexer.declared.fault.AsmFault.{AsmFault}
@@ -54,7 +54,7 @@ source_detail_message (Distance back ahead) = codes "the label must be even, and
 
 abbrev pub kind_message : AsmFaultKind → List ℕ
 kind_message BadOperand = codes "an operand is missing or of another kind, or the instruction is in .data or not at a multiple of 4"
-kind_message kind = asm_sentence kind
+kind_message kind = asm_message kind
 
 abbrev pub source_detail_or_kind : AsmFaultKind → Option SourceDetail → List ℕ
 source_detail_or_kind kind (Some detail) = source_detail_message detail

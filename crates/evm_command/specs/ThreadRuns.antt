@@ -1,5 +1,6 @@
 -- What `threads IMAGE TURNS` asks of the system, and the status that it ends with.
-use Rattle.std.specs.Prelude.{◌≡◌, ℕ, List, Result, codes}
+use Rattle.std.specs.Prelude.{◌≡◌, ℕ, ◌<◌, ◌^◌, List, Result, codes}
+use Rattle.std.specs.Str.Parse.{IsNumeral, digits_value, without_leading_plus}
 use Rattle.evm_image.specs.Images.{Contents}
 use Rattle.evm_messages.specs.Diagnostic.{about, Reports}
 use Rattle.evm_serve.specs.RunOptions.{Attached}
@@ -7,29 +8,34 @@ use Rattle.evm_serve.specs.evm_streams.declared.source.Reading.{Reading}
 use Rattle.evm_serve.specs.evm_streams.declared.sink.Writing.{Writing}
 use Rattle.evm_threads.specs.Runs.{Ends, loaded, status_of}
 use Rattle.evm_threads.specs.declared.outcome.RunEnding.{RunEnding}
-use Rattle.evm_threads.specs.declared.outcome.RunEnding.TheVariants.{Written, ImageRefused, NoMemory, WriteFailed}
+use Rattle.evm_threads.specs.declared.outcome.RunEnding.TheVariants.{Written, Incomplete, ImageRefused, NoMemory, WriteFailed}
 use Rattle.evm_command.specs.Exit.{failed_write_message, report_name}
 use Rattle.evm_command.specs.Jobs.{AsksNothing, Behind, Loads}
 use Rattle.evm_command.specs.declared.system.OpenFault.{OpenFault}
 use Rattle.evm_command.specs.declared.system.World.{World}
 
+-- The number that a word says, if it says one of 32 bits.
+abbrev pub SaysNumber : List ℕ → ℕ → Type 0
+SaysNumber word n = IsNumeral 10 (without_leading_plus word) → digits_value 10 (without_leading_plus word) < 2 ^ 32 → n ≡ digits_value 10 (without_leading_plus word)
+
 module _ {E : Type 0} (reports : E → Writing → List ℕ → E → Type 0) where
   -- What is reported of a run by threads with the image of a file.
   abbrev pub ExplainsRun : List ℕ → RunEnding → E → E → Type 0
   ExplainsRun path Written e e' = e' ≡ e
+  ExplainsRun path Incomplete e e' = Reports reports (about path (codes "the journal has no room for all turns")) e e'
   ExplainsRun path ImageRefused e e' = Reports reports (about path (codes "memory of a segment ends past RAM of 1048576 bytes")) e e'
   ExplainsRun path NoMemory e e' = Reports reports (about path (codes "out of memory")) e e'
   ExplainsRun path (WriteFailed fault) e e' = Reports reports (about report_name (failed_write_message fault.cause)) e e'
 
 module _ {S O C I W E : Type 0} (writes : W → Writing → List ℕ → W → Type 0) (reports : E → Writing → List ℕ → E → Type 0) where
   -- The image is run by threads; neither a file nor standard input is asked for.
-  abbrev pub RunsByThreads : List Attached → List ℕ → Contents → World S O C I W E → World S O C I W E → ℕ → Type 0
-  RunsByThreads devices path image w w' status = AsksNothing w w' × ((ending : RunEnding)
-      × Ends writes (loaded devices image) w.output w'.output ending × ExplainsRun reports path ending w.errors w'.errors × (status ≡ status_of ending))
+  abbrev pub RunsByThreads : List Attached → List ℕ → ℕ → Contents → World S O C I W E → World S O C I W E → ℕ → Type 0
+  RunsByThreads devices path turns image w w' status = AsksNothing w w' × ((ending : RunEnding)
+      × Ends writes turns (loaded devices image) w.output w'.output ending × ExplainsRun reports path ending w.errors w'.errors × (status ≡ status_of ending))
 
 module _ {S O C I W E : Type 0} (opens : S → List ℕ → Result O OpenFault → S → Type 0)
     (opened : O → Reading → List ℕ → O → Type 0) (writes : W → Writing → List ℕ → W → Type 0) (reports : E → Writing → List ℕ → E → Type 0) where
   -- `threads IMAGE TURNS`: IMAGE is opened and imported, and then run.
-  abbrev pub RunsFileByThreads : List Attached → List ℕ → World S O C I W E → World S O C I W E → ℕ → Type 0
-  RunsFileByThreads devices path w w' status = (image : Result Contents ℕ) × (between : World S O C I W E)
-      × Loads opens opened writes reports path w between image × Behind image (RunsByThreads writes reports devices path) between w' status
+  abbrev pub RunsFileByThreads : List Attached → List ℕ → ℕ → World S O C I W E → World S O C I W E → ℕ → Type 0
+  RunsFileByThreads devices path turns w w' status = (image : Result Contents ℕ) × (between : World S O C I W E)
+      × Loads opens opened writes reports path w between image × Behind image (RunsByThreads writes reports devices path turns) between w' status

@@ -1,7 +1,7 @@
 //! A run of the program, from its words to its exit status.
 
-ghost use Rattle.std.specs.Prelude.{◌≡◌, ◌<◌, ◌^◌, MatchResult, map, option_map};
-ghost use Rattle.std.specs.Str.Parse.{IsNumeral, digits_value, without_leading_plus};
+ghost use Rattle.std.specs.Prelude.{◌≡◌, MatchResult, map, option_map};
+ghost use Rattle.evm_command.specs.ThreadRuns.{SaysNumber};
 ghost use Rattle.std.specs.String.{string_bytes};
 ghost use Rattle.clap.specs.Words.{kind_of};
 ghost use Rattle.evm_command.specs.Running.{Shows, Blames, Responds, Refuses, Does, DoesNamed, Answers, HasNoWords};
@@ -90,7 +90,7 @@ fn refuse<S: System>(alloc: Global, error: &Error, words: &[String], world: &mut
 
 // How many turns a word of TURNS says. It was checked: it is a number from 1 to 8000.
 fn turns_of(word: &str) -> u32
-    ensures { IsNumeral 10 (without_leading_plus word.now) → digits_value 10 (without_leading_plus word.now) < 2 ^ 32 → result ≡ digits_value 10 (without_leading_plus word.now) }
+    ensures { SaysNumber word.now result }
 {
     match word.parse() {
         Ok(turns) => turns,

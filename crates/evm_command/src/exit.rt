@@ -205,7 +205,7 @@ fn image_fault_message(known: Known<'_>, fault: ElfFault) -> Message
     match known {
         Known::File(bytes) => image_message(bytes, fault),
         Known::Nothing | Known::Source(_) | Known::Lines(_, _) => {
-            Message::Plain(fault.sentence())
+            Message::Plain(fault.message())
         }
     }
 }

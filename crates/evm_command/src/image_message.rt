@@ -88,7 +88,7 @@ fn image_detail_message(fault: ElfFault, detail: ImageDetail) -> Message
         ),
         _ => Message::Plain(match detail.hint() {
             Some(hint) => hint,
-            None => fault.sentence(),
+            None => fault.message(),
         }),
     }
 }
@@ -99,7 +99,7 @@ fn file_message(file: &[u8], fault: ElfFault) -> Message
 {
     match image_detail(file, fault) {
         Some(detail) => image_detail_message(fault, detail),
-        None => Message::Plain(fault.sentence()),
+        None => Message::Plain(fault.message()),
     }
 }
 

@@ -101,7 +101,7 @@ fn kind_message(kind: AsmFaultKind) -> &'static str
         AsmFaultKind::BadOperand => {
             "an operand is missing or of another kind, or the instruction is in .data or not at a multiple of 4"
         }
-        _ => kind.sentence(),
+        _ => kind.message(),
     }
 }
 

@@ -33,6 +33,11 @@ fn explain_run<E: Sink>(path: &str, ending: RunEnding, errors: &mut E)
 {
     match ending {
         RunEnding::Written => {}
+        RunEnding::Incomplete => report(
+            path,
+            Message::Plain("the journal has no room for all turns"),
+            errors,
+        ),
         RunEnding::ImageRefused => report(
             path,
             Message::Plain("memory of a segment ends past RAM of 1048576 bytes"),
@@ -57,7 +62,7 @@ fn run_image<S: System, D: Device, R: Threads + Wait + Sync>(
     turns: u32,
     world: &mut World<S>,
 ) -> u8
-    ensures { RunsByThreads S.Output.takes S.Errors.takes devices path.now image.now world.old world.new result }
+    ensures { RunsByThreads S.Output.takes S.Errors.takes devices path.now turns image.now world.old world.new result }
 {
     let ending = threads_to(
         rt,
@@ -81,7 +86,7 @@ pub(crate) fn run_by_threads<S: System, D: Device, R: Threads + Wait + Sync>(
     turns: u32,
     world: &mut World<S>,
 ) -> u8
-    ensures { RunsFileByThreads S.opens S.Opened.gives S.Output.takes S.Errors.takes devices path.now world.old world.new result }
+    ensures { RunsFileByThreads S.opens S.Opened.gives S.Output.takes S.Errors.takes devices path.now turns world.old world.new result }
 {
     match image_at(alloc, path, world) {
         Ok(image) => run_image(rt, alloc, devices, path, &image, turns, world),

@@ -1,4 +1,4 @@
--- What is asked of a machine.
+-- Views of a machine.
 use Rattle.std.specs.Prelude.{ℕ, List, Option, Some, None, slice_get}
 use Rattle.evm_model.specs.Devices.{Attached}
 use Rattle.evm_model.specs.Pipes.{Pipe, log_of}

@@ -56,7 +56,7 @@ fn at_most(count: u32, room: u64) -> u32
     }
 }
 
-/// At least one of so many Steps of a processor: how many were made, or why the first is refused. `Machine::steps` is these,
+/// At least one of `count` Steps of a processor: how many were made, or why the first is refused. `Machine::steps` is these,
 /// one after the other.
 #[inline(always)]
 #[tactic(auto, using(crate::proofs::Many::step_rules))]

@@ -145,7 +145,7 @@ fn board_of<D: Device>(alloc: Global, boot: &Boot, devices: Devices<D>) -> Resul
 
 impl<D: Device> Machine<D> {
     /// A machine that has had no event: RAM is zero, and task 0 is current on processor 0, at RAM's first
-    /// byte. It has room for its whole journal and all else that events will take. `BadSize` exactly where
+    /// byte. It has room for its whole journal and all else that events will take. `BadSize` if and only if
     /// a number is outside its limits: processors 1 to 8, RAM 65,536 to 16,777,216 bytes in multiples of
     /// 4,096, capacity 1 to 1,048,576 events. It has no device.
     pub fn boot(alloc: Global, cpus: u8, ram: u64, capacity: u32) -> Result<Machine<D>, Refusal>
@@ -168,7 +168,7 @@ impl<D: Device> Machine<D> {
         }
     }
 
-    /// The same of the numbers of a boot line, which may be any, and with devices.
+    /// Like `boot`, from the numbers of a boot line, which may be any, and with devices.
     pub fn from_boot(alloc: Global, boot: Boot, devices: Devices<D>) -> Result<Machine<D>, Refusal>
         ensures { BootAnswers devices boot result }
     {

@@ -1,7 +1,7 @@
 use evm_lines::LineSet;
 use evm_model::StageLog;
 
-/// The interrupts of a processor, but for their counts.
+/// The interrupts of a processor, without their counts.
 #[derive(Clone, Copy, Debug)]
 pub struct Stages {
     /// The log of the out-of-band stage.

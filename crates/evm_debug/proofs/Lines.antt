@@ -141,7 +141,7 @@ line_again (Look view) bytes is =
 pub reads_lines : ReadsLines
 reads_lines line bytes = (line_takes bytes line, line_again line bytes)
 
--- an answer is there exactly where there is no error
+-- an answer is there if and only if there is no error
 ok_some : {A E : Type 0} (r : Result A E) (x : A) → (r ≡ Ok x) ↔ (result_ok r ≡ Some x)
 ok_some (Ok y) x = (λ e. cc, λ e. cc)
 ok_some (Err d) x = (λ e. absurd cc, λ e. absurd cc)

@@ -9,6 +9,7 @@ mod line;
 mod look;
 mod piece;
 mod reading;
+mod refusable;
 mod render;
 mod views;
 

@@ -8,10 +8,11 @@ use crate::device::push_device;
 use crate::health::push_notices;
 use crate::line::View;
 use crate::look::ViewRefusal;
-use crate::views::{push_counts, push_owners, push_rank, push_regs, push_stages, push_tasks};
+use crate::refusable::{push_cpu_stages, push_line_counts, push_memory};
+use crate::views::{push_owners, push_rank, push_regs, push_tasks};
 use evm_dev::Device;
 use evm_journal::{Machine, push_journal, push_pairs};
-use evm_model::{POKE_LIMIT, Refusal};
+use evm_model::Refusal;
 use evm_room::{Refused, push_text};
 use std::alloc::Global;
 
@@ -33,24 +34,8 @@ fn push_shown<D: Device>(
             None => Err(Refusal::NoSuchCpu),
             Some(processor) => Ok(push_regs(out, processor.current, machine)),
         },
-        View::Mem(address, count) => {
-            if *count == 0 || *count > POKE_LIMIT as u64 {
-                return Err(Refusal::BadAddress);
-            }
-            match machine.bytes(*address, *count) {
-                None => Err(Refusal::BadAddress),
-                Some(bytes) => Ok(push_bytes(out, bytes)),
-            }
-        }
-        View::Stages(c) => {
-            let Some(processor) = machine.cpu(*c) else {
-                return Err(Refusal::NoSuchCpu);
-            };
-            match machine.stages(*c) {
-                None => Err(Refusal::NoSuchCpu),
-                Some(stages) => Ok(push_stages(out, *c, &processor, &stages)),
-            }
-        }
+        View::Mem(address, count) => push_memory(out, *address, *count, machine),
+        View::Stages(c) => push_cpu_stages(out, *c, machine),
         View::Tasks => Ok(push_tasks(out, machine)),
         View::Owners => Ok(push_owners(out, machine)),
         View::Rank(t) => match machine.task(*t) {
@@ -63,15 +48,7 @@ fn push_shown<D: Device>(
             let (older, newer) = machine.console();
             Ok(push_console(out, older, newer))
         }
-        View::Counts(c, line) => {
-            let Some(_) = machine.stages(*c) else {
-                return Err(Refusal::NoSuchCpu);
-            };
-            match machine.counts(*c, *line) {
-                None => Err(Refusal::NoSuchLine),
-                Some(counts) => Ok(push_counts(out, &counts)),
-            }
-        }
+        View::Counts(c, line) => push_line_counts(out, *c, *line, machine),
     }
 }
 
@@ -121,12 +98,4 @@ fn push_console(out: &mut String, older: &[u8], newer: &[u8]) -> Result<(), Refu
     push_pairs(out, newer)?;
     push_text(out, "\n")?;
     Ok(())
-}
-
-#[tactic(auto, using(crate::proofs::Below::lengths))]
-fn push_bytes(out: &mut String, bytes: &[u8]) -> Result<(), Refused>
-    ensures { Appends (pairs bytes.now ++ codes "\n") out.old out.new result }
-{
-    push_pairs(out, bytes)?;
-    push_text(out, "\n")
 }

@@ -12,7 +12,7 @@ use Rattle.evm_debug.specs.evm_journal.declared.fault.JournalFaultKind.{JournalF
 use Rattle.evm_debug.specs.evm_journal.declared.fault.JournalFaultKind.TheVariants as kinds
 use Rattle.evm_debug.specs.evm_text.Lines.{text_lines}
 use Rattle.evm_debug.specs.evm_text.Written.{decimal, hexadecimal}
-use Rattle.evm_elf.specs.evm_asm_lexer.Sentences.{asm_sentence}
+use Rattle.evm_elf.specs.evm_asm_lexer.Messages.{asm_message}
 use Rattle.evm_image.specs.Images.{Contents, Loaded}
 use Rattle.evm_model.specs.Event.{Event}
 use Rattle.evm_model.specs.Replay.{bad_cpus, bad_ram}
@@ -43,7 +43,7 @@ abbrev pub size_detail : Option Line → List ℕ
 size_detail (Some (lines.Boot boot)) = boot_detail boot
 size_detail _ = refusal_message None BadSize
 
--- ---- addresses, where RAM has so many bytes
+-- ---- addresses, in RAM of a given size
 
 -- the address behind the last byte
 abbrev pub ram_end : ℕ → ℕ
@@ -155,4 +155,4 @@ abbrev pub fault_detail : Option Contents → List ℕ → InputFault → List �
 fault_detail image text (BadLine n fault) = bad_line_detail fault (line_numbered n text)
 fault_detail image text (Refused n cpu refusal) = refusal_detail image text (line_read (line_numbered n text)) cpu refusal
 fault_detail image text (NoJournal fault) = journal_detail text fault.line (line_numbered fault.line text) fault.kind
-fault_detail image text (NoProgram fault) = asm_sentence fault.kind
+fault_detail image text (NoProgram fault) = asm_message fault.kind

@@ -3,7 +3,7 @@ use Rattle.std.specs.Prelude.{ℕ, List, ◌++◌, Option, Some, None, codes}
 use Rattle.evm_debug.specs.evm_text.Written.{decimal}
 use Rattle.evm_model.specs.declared.refusal.Refusal.{Refusal}
 use Rattle.evm_model.specs.declared.refusal.Refusal.TheVariants as refusals
-use Rattle.evm_elf.specs.evm_asm_lexer.Sentences.{asm_sentence}
+use Rattle.evm_elf.specs.evm_asm_lexer.Messages.{asm_message}
 use Rattle.evm_debug.specs.evm_journal.Messages.{journal_message}
 use Rattle.evm_model.specs.Event.{Event}
 use Rattle.evm_model.specs.declared.event.Event.TheVariants as events
@@ -86,5 +86,5 @@ refusal_message cpu refusals.SeatsOut = codes "refused: a seat is still out (Sea
 abbrev pub fault_message : InputFault → List ℕ
 fault_message (BadLine n fault) = line_message fault
 fault_message (Refused n cpu refusal) = refusal_message cpu refusal
-fault_message (NoProgram fault) = asm_sentence fault.kind
+fault_message (NoProgram fault) = asm_message fault.kind
 fault_message (NoJournal fault) = journal_message fault.kind

@@ -94,6 +94,6 @@ pub fn fault_detail(image: Option<&Image>, text: &[u8], fault: InputFault) -> Me
             fault,
             line_numbered(fault.line, text),
         ),
-        InputFault::NoProgram(fault) => Message::Plain(fault.kind.sentence()),
+        InputFault::NoProgram(fault) => Message::Plain(fault.kind.message()),
     }
 }

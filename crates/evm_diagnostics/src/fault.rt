@@ -139,7 +139,7 @@ impl InputFault {
         match self {
             InputFault::BadLine(_, fault) => Message::Plain(fault.message()),
             InputFault::Refused(_, cpu, refusal) => refusal_message(cpu, refusal),
-            InputFault::NoProgram(fault) => Message::Plain(fault.kind.sentence()),
+            InputFault::NoProgram(fault) => Message::Plain(fault.kind.message()),
             InputFault::NoJournal(fault) => Message::Plain(fault.kind.message()),
         }
     }

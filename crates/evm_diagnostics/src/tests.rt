@@ -130,7 +130,7 @@ fn an_image_past_ram_names_both_ends(rt: HostRuntime) -> Result<(), Fail> {
 }
 
 #[test]
-fn bad_lines_name_their_form(rt: HostRuntime) -> Result<(), Fail> {
+fn bad_arguments_name_the_form_of_their_command(rt: HostRuntime) -> Result<(), Fail> {
     let fault = InputFault::BadLine(1, LineFault::OutsideGrammar);
     for (script, wanted) in [
         (
@@ -150,7 +150,20 @@ fn bad_lines_name_their_form(rt: HostRuntime) -> Result<(), Fail> {
             "bad line: setpc wants C V: a processor, decimal, and the pc, lower-case hexadecimal without 0x",
         ),
         ("tasks 0", "bad line: tasks stands alone on its line"),
-        (" tick", "bad line: a blank before the command"),
+        (
+            "breaks",
+            "bad line: break wants A: an address, lower-case hexadecimal without 0x",
+        ),
+    ] {
+        check(&rt, rt.alloc(), None, script, fault, wanted)?;
+    }
+    Ok(())
+}
+
+#[test]
+fn bytes_outside_the_grammar_are_named(rt: HostRuntime) -> Result<(), Fail> {
+    let fault = InputFault::BadLine(1, LineFault::OutsideGrammar);
+    for (script, wanted) in [
         (
             "boot 1 65536 64\r\n",
             "bad line: a carriage return; save the file with Unix line ends",
@@ -161,6 +174,16 @@ fn bad_lines_name_their_form(rt: HostRuntime) -> Result<(), Fail> {
             "bad line: byte ef, which begins a byte order mark; save the file without one",
         ),
         ("step\u{1b}", "bad line: byte 1b is not printable ASCII"),
+    ] {
+        check(&rt, rt.alloc(), None, script, fault, wanted)?;
+    }
+    Ok(())
+}
+
+#[test]
+fn misspelt_commands_name_a_near_one(rt: HostRuntime) -> Result<(), Fail> {
+    let fault = InputFault::BadLine(1, LineFault::OutsideGrammar);
+    for (script, wanted) in [
         (
             "stpe 0 1",
             "bad line: no such command; did you mean `step`?",
@@ -170,10 +193,6 @@ fn bad_lines_name_their_form(rt: HostRuntime) -> Result<(), Fail> {
             "bad line: no such command; did you mean `step`?",
         ),
         (
-            "breaks",
-            "bad line: break wants A: an address, lower-case hexadecimal without 0x",
-        ),
-        (
             "jurnal",
             "bad line: no such command; did you mean `journal`?",
         ),
@@ -181,6 +200,17 @@ fn bad_lines_name_their_form(rt: HostRuntime) -> Result<(), Fail> {
             "quit",
             "bad line: no such command; there are boot, step, tick, raise, bell, stop, go, stepi, set, setpc, poke, break, unbreak, regs, mem, stages, tasks, owners, rank, notices, counts, journal, console and words",
         ),
+    ] {
+        check(&rt, rt.alloc(), None, script, fault, wanted)?;
+    }
+    Ok(())
+}
+
+#[test]
+fn blanks_and_comments_have_their_place(rt: HostRuntime) -> Result<(), Fail> {
+    let fault = InputFault::BadLine(1, LineFault::OutsideGrammar);
+    for (script, wanted) in [
+        (" tick", "bad line: a blank before the command"),
         (
             "step 0 1 # one",
             "bad line: a comment must be on a line of its own",
@@ -208,32 +238,30 @@ fn boot_lines_come_first_and_once(rt: HostRuntime) -> Result<(), Fail> {
 }
 
 #[test]
-fn journals_name_what_is_wrong(rt: HostRuntime) -> Result<(), Fail> {
-    for (line, kind, journal, wanted) in [
+fn first_lines_of_journals_are_named(rt: HostRuntime) -> Result<(), Fail> {
+    let kind = JournalFaultKind::Header;
+    for (line, journal, wanted) in [
+        (1, "", "line 1 must be `evl-journal 1`"),
+        (1, "evl-journal 2\n", "line 1 must be `evl-journal 1`"),
         (
             1,
-            JournalFaultKind::Header,
-            "",
-            "line 1 must be `evl-journal 1`",
-        ),
-        (
-            1,
-            JournalFaultKind::Header,
-            "evl-journal 2\n",
-            "line 1 must be `evl-journal 1`",
-        ),
-        (
-            1,
-            JournalFaultKind::Header,
             "evl-journal 1\r\n",
             "bad line: a carriage return; save the file with Unix line ends",
         ),
-        (
-            2,
-            JournalFaultKind::Header,
-            "evl-journal 1\n",
-            "line 2 must be `boot P RAM CAP`",
-        ),
+        (2, "evl-journal 1\n", "line 2 must be `boot P RAM CAP`"),
+    ] {
+        let fault = InputFault::NoJournal(JournalFault { line, kind });
+        check(&rt, rt.alloc(), None, journal, fault, wanted)?;
+    }
+    let refused = InputFault::Refused(2, None, Refusal::BadSize);
+    let wanted = "refused: P is 9: 1 to 8 processors (BadSize, 10)";
+    let journal = "evl-journal 1\nboot 9 65536 9\n";
+    check(&rt, rt.alloc(), None, journal, refused, wanted)
+}
+
+#[test]
+fn bad_lines_of_journals_are_named(rt: HostRuntime) -> Result<(), Fail> {
+    for (line, kind, journal, wanted) in [
         (
             3,
             JournalFaultKind::Line,
@@ -268,10 +296,7 @@ fn journals_name_what_is_wrong(rt: HostRuntime) -> Result<(), Fail> {
         let fault = InputFault::NoJournal(JournalFault { line, kind });
         check(&rt, rt.alloc(), None, journal, fault, wanted)?;
     }
-    let refused = InputFault::Refused(2, None, Refusal::BadSize);
-    let wanted = "refused: P is 9: 1 to 8 processors (BadSize, 10)";
-    let journal = "evl-journal 1\nboot 9 65536 9\n";
-    check(&rt, rt.alloc(), None, journal, refused, wanted)
+    Ok(())
 }
 
 #[test]

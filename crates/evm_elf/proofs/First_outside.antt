@@ -19,7 +19,7 @@ pub outside_done : (file : List ℕ) (i n : ℕ) → n ≤ i → first_outside f
 unfolding first_outside
 outside_done file i n h = let e : n - i ≡ zero = omega arith in rw e refl
 
--- ---- a detail is found exactly where a segment is outside
+-- ---- a detail is found if and only if a segment is outside
 
 two_tests : (p q : Bool) (a b : ImageDetail) → is_some (cond p (Some a) (cond q (Some b) None)) ≡ (p || q)
 two_tests true q a b = refl

@@ -1,4 +1,4 @@
--- Two segments share an address exactly where some address is taken twice, so the order of the segments doesn't matter, nor do those
+-- Two segments share an address if and only if some address is taken twice, so the order of the segments doesn't matter, nor do those
 -- that take no memory. In the order of addresses it is enough to compare neighbours.
 use Rattle.std.proofs.Common.{◌≡◌, ℕ, ◌+◌, ◌<◌, ◌≤◌, suc, zero, Bool, true, false, not, cond, ◌&&◌, ltb, leb, max, inl, inr, Option, Some, None, List, [], ◌∷◌, refl, sym, ◌∙◌, ap, subst, arith, lit≤}
 use Rattle.std.proofs.lemmas.Bool.{cases_Bool, and_parts, and_from, or_cases, or_left, or_right, or_from, ltb-true, lt-ltb, le-ltb, leb-true, leb-false, le-leb, cond-true, cond-false, not_from_true, not_from_false}

@@ -1,4 +1,4 @@
--- What a person is told of a file beside the sentence of its fault.
+-- Details of a faulty file, beside the message of its fault.
 use Rattle.std.specs.Prelude.{ℕ, zero, suc, ◌+◌, Bool, true, false, ◌==◌, not, nat_lt, if◌then◌else◌, List, [], ◌∷◌, take, length, Option, Some, None, codes}
 use Rattle.std.specs.Str.{bytes_eq}
 use Rattle.evm_elf.specs.declared.detail.ImageDetail.{ImageDetail}

@@ -1,4 +1,4 @@
-//! What a person is told of a file beside the sentence of its fault.
+//! Details of a faulty file, beside the message of its fault.
 
 ghost use Rattle.std.specs.Prelude.{◌≡◌, ◌+◌, ◌≤◌, length, option_copied};
 ghost use Rattle.evm_elf.specs.Fields.{program_header};
@@ -27,7 +27,7 @@ pub enum ImageDetail {
     PositionIndependent,
     /// It has compressed instructions.
     Compressed,
-    /// A program header has so many bytes, not 56.
+    /// The size of a program header, in bytes, if it isn't 56.
     HeaderSize(u16),
     /// This program header, from 0, passes the end of the file.
     HeaderCut(u16),
@@ -186,7 +186,7 @@ fn long_detail(file: &[u8], fault: ElfFault) -> Option<ImageDetail>
     }
 }
 
-/// What is behind the fault of a file, where there is more to say than its sentence.
+/// What is behind the fault of a file, where there is more to say than its message.
 pub fn image_detail(file: &[u8], fault: ElfFault) -> Option<ImageDetail>
     ensures { result ≡ image_detail file.now fault }
 {

@@ -16,7 +16,7 @@ pub fn accepted_is_sound()
     ensures { (file : List ℕ) → fault_of file ≡ None → IsSound (image_of file) }
 {}
 
-/// Segments overlap exactly where some address is in the memory of two of them.
+/// Segments overlap if and only if some address is in the memory of two of them.
 pub fn overlap_is_shared_address()
     ensures { (file : List ℕ) → (file_has file SegmentOverlap ≡ true) ↔ IsTakenTwice (loads file) }
 {}

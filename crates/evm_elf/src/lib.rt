@@ -6,10 +6,10 @@ mod fault;
 mod faults;
 mod header;
 mod laws;
+mod message;
 mod overlap;
 mod reading;
 mod segments;
-mod sentences;
 mod writing;
 
 pub use detail::{ImageDetail, image_detail};

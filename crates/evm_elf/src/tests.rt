@@ -209,9 +209,9 @@ fn refused_growths_are_no_memory(rt: HostRuntime) {
     }
 }
 
-/// Each fault is told in the words of docs/FORMATS.md.
+/// Each fault is reported in the words of docs/FORMATS.md.
 #[test]
-fn faults_have_their_sentences(rt: HostRuntime) -> Result<(), Fail> {
+fn faults_have_their_messages(rt: HostRuntime) -> Result<(), Fail> {
     use ElfFault::{
         Class, Compressed, Dynamic, Entry, Kind, MachineNumber, Magic, SegmentOutside,
         SegmentOverlap, Short, SizeOrder,
@@ -239,10 +239,10 @@ fn faults_have_their_sentences(rt: HostRuntime) -> Result<(), Fail> {
         ),
         (ElfFault::NoMemory, "out of memory"),
     ];
-    for (fault, sentence) in rows {
-        assert_eq!(rt; fault.sentence(), sentence);
+    for (fault, message) in rows {
+        assert_eq!(rt; fault.message(), message);
         let told = format!(in rt.alloc(); "{fault}")?;
-        assert_eq!(rt; told.as_str(), sentence);
+        assert_eq!(rt; told.as_str(), message);
     }
     Ok(())
 }

@@ -1,7 +1,7 @@
 use evm_isa::{LoadOp, Register};
 use evm_ram::Width;
 
-/// What one instruction does, told without the registers that it leaves alone.
+/// What one instruction does, without the registers that it leaves alone.
 #[derive(Clone, Copy, Debug, PartialEq, Eq)]
 pub enum Effect {
     /// `rd` gets `value`, which is lost if it is x0, and the pc moves to `pc`.

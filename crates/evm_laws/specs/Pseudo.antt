@@ -25,7 +25,7 @@ expansion_after Empty hart = Some hart
 expansion_after (Single i) hart = instruction_after i hart
 expansion_after (Double i j) hart = option_and_then (instruction_after j) (instruction_after i hart)
 
--- the hart with a number in rd and its pc behind so many bytes of instructions; all else is as before
+-- the hart with a number in rd and its pc behind the bytes of the instructions; all else is as before
 abbrev pub loaded : ℕ → ℕ → ℕ → Hart → Hart
 loaded rd number size hart = record { regs = with_register hart.regs rd number; pc = sum hart.pc size }
 
@@ -42,7 +42,7 @@ LaLeavesItsAddress =
     → hart.pc < 18446744073709551616 → target < 18446744073709551616
     → expansion_after (load_address_by rd ((target + 4294967296 - hart.pc) % 4294967296)) hart ≡ Some (loaded rd target 8 hart)
 
--- rd reads the number, each other register what it read before, and the pc is so many bytes farther
+-- rd reads the number, each other register what it read before, and the pc is behind the bytes of the instructions
 pub record Reads (rd number size : ℕ) (before after : Hart) : Type 0 where
   pub number_there : register_of after.regs rd ≡ number
   pub others : (n : ℕ) → n ≢ rd → register_of after.regs n ≡ register_of before.regs n

@@ -23,7 +23,7 @@ use Rattle.evm_model.specs.declared.processor.Processor.{Processor}
 use Rattle.evm_laws.specs.Running.{HasLine, Proceeds, line_stepped}
 use Rattle.evm_laws.specs.Loading.{booted_with}
 
--- so many bytes from an address on are none of the line's four
+-- n bytes from an address on are none of the line's four
 abbrev pub IsBeside : ProgramLine → ℕ → ℕ → Type 0
 IsBeside l address count = (address + count ≤ l.address) ⊎ (l.address + 4 ≤ address)
 

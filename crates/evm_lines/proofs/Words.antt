@@ -108,7 +108,7 @@ has_none-tells true set h = (λ _. has_none-means set (sym h), λ _. refl)
 has_none-tells false [] h = cc
 has_none-tells false (first ∷ rest) h = (λ t. cc, λ e. cc)
 
--- the words of two sets are equal exactly where their numbers are
+-- the words of two sets are equal if and only if their numbers are
 pub same_word : (a b : ℕ) (x y : List ℕ) → lines_of a ≡ x → lines_of b ≡ y → a < 2 ^ LINES → b < 2 ^ LINES → nat_eq a b ≡ nat_eq (word_of x) (word_of y)
 same_word a b x y p q h k =
     let left : a ≡ word_of x = sym (word_of-lines_of a h) ∙ ap word_of p in

@@ -21,32 +21,32 @@ abbrev pub action_in : List Action → ℕ → Action
 action_in actions l = action_or_nothing (slice_get actions l)
 
 abbrev pub action_at : ℕ → Parts → Action
-action_at l k = action_in k.actions l
+action_at l p = action_in p.actions l
 
 -- line l of processor c is received by the stage that its action says now
 unfoldable pub receive_line : ℕ → ℕ → Parts → Parts
-receive_line c l k = on_pipe c (receive (stage_of (action_at l k) l) l) k
+receive_line c l p = on_pipe c (receive (stage_of (action_at l p) l) l) p
 
 -- what line l does by an action: it puts one into a semaphore, unless that has its greatest count, or posts bit l
 unfoldable pub act : Action → ℕ → Parts → Parts
-act Nothing l k = k
-act (Puts s) l k = (sem_put s k).0
-act (Posts f) l k = post f (2 ^ l) k
+act Nothing l p = p
+act (Puts s) l p = (sem_put s p).0
+act (Posts f) l p = post f (2 ^ l) p
 
 -- ---- 14: a line has an action
 -- 0 none, 1 puts into a semaphore, 2 posts to a flag group
 abbrev pub action_of : ℕ → ℕ → Parts → Option Action
-action_of action object k =
+action_of action object p =
     if action == 0 then Some Nothing
-    else (if action == 1 then (if is_none (slice_get k.semaphores object) then None else Some (Puts object))
-    else (if action == 2 then (if is_none (slice_get k.flags object) then None else Some (Posts object)) else None))
+    else (if action == 1 then (if is_none (slice_get p.semaphores object) then None else Some (Puts object))
+    else (if action == 2 then (if is_none (slice_get p.flags object) then None else Some (Posts object)) else None))
 
 abbrev pub set_line_to : Option Action → ℕ → Parts → Parts × Outcome
-set_line_to None l k = refused Invalid k
-set_line_to (Some action) l k = (on_action l (λ _. action) k, Returns 0)
+set_line_to None l p = refused Invalid p
+set_line_to (Some action) l p = (on_action l (λ _. action) p, Returns 0)
 
 -- 14: lines from 2 on have an action
 unfoldable pub set_line : ℕ → ℕ → ℕ → Parts → Parts × Outcome
-set_line l action object k =
-    if nat_lt l 2 then refused Invalid k
-    else (if nat_le (line_count k.profile) l then refused Invalid k else set_line_to (action_of action object k) l k)
+set_line l action object p =
+    if nat_lt l 2 then refused Invalid p
+    else (if nat_le (line_count p.profile) l then refused Invalid p else set_line_to (action_of action object p) l p)

@@ -61,21 +61,21 @@ PER_OOB_LOG = 4096
 abbrev pub PER_IN_BAND_LOG : ℕ
 PER_IN_BAND_LOG = 2048
 
--- .. and all of settling, with the other processors that are told
+-- .. and all of settling, with the other processors that are nudged
 abbrev pub PER_SETTLING : ℕ
 PER_SETTLING = 6208
 
--- so many stamps can be given
+-- n stamps can be given
 abbrev pub HasStamps : ℕ → Parts → Type 0
-HasStamps n k = k.stamps + n ≤ COUNT_LIMIT
+HasStamps n p = p.stamps + n ≤ COUNT_LIMIT
 
 -- .. each count of a line can grow by as much, each mutex can be locked once more, each timer can expire, and there can be one more
 -- notice; and there is a hart for each task
-pub record HasRoom (n : ℕ) (k : Parts) : Type 0 where
-  pub stamps : HasStamps n k
-  pub counts : PipesUpTo (COUNT_LIMIT - n) k.pipes
-  pub holds : HeldUpTo COUNT_LIMIT k.mutexes
-  pub clock : k.ticks ≤ COUNT_LIMIT
-  pub timers : length k.timers ≤ TIMER_LIMIT
-  pub notices : k.notices.total ≤ COUNT_LIMIT
-  pub harts : length k.harts ≡ length k.tasks
+pub record HasRoom (n : ℕ) (p : Parts) : Type 0 where
+  pub stamps : HasStamps n p
+  pub counts : PipesUpTo (COUNT_LIMIT - n) p.pipes
+  pub holds : HeldUpTo COUNT_LIMIT p.mutexes
+  pub clock : p.ticks ≤ COUNT_LIMIT
+  pub timers : length p.timers ≤ TIMER_LIMIT
+  pub notices : p.notices.total ≤ COUNT_LIMIT
+  pub harts : length p.harts ≡ length p.tasks

@@ -93,44 +93,44 @@ call_of n = numbered n all_calls
 
 -- what a call does for task t of processor c, which has this hart
 abbrev pub perform : Call → Hart → ℕ → ℕ → Parts → Parts × Outcome
-perform Ends hart c t k = exit c t k
-perform Putc hart c t k = putc (argument 0 hart) k
-perform Yield hart c t k = yield_now c t k
-perform Spawn hart c t k = spawn (argument 0 hart) (argument 1 hart) (argument 2 hart) k
-perform Stall hart c t k = stall InBand true c k
-perform Unstall hart c t k = stall InBand false c k
-perform WaitLine hart c t k = wait_line c t (argument 0 hart) k
-perform Attach hart c t k = attach t (argument 0 hart) (argument 1 hart) k
-perform Detach hart c t k = detach t k
-perform NewMutex hart c t k = new_mutex (argument 0 hart) (argument 1 hart) k
-perform NewSemaphore hart c t k = new_semaphore (argument 0 hart) k
-perform NewEvent hart c t k = new_event k
-perform NewFlags hart c t k = new_flags k
-perform NewTimer hart c t k = new_timer k
-perform SetLine hart c t k = set_line (argument 0 hart) (argument 1 hart) (argument 2 hart) k
-perform SwitchOob hart c t k = switch_oob k
-perform SwitchInBand hart c t k = switch_in_band c t k
-perform SetSched hart c t k = set_sched (argument 0 hart) (argument 1 hart) (argument 2 hart) k
-perform SetMode hart c t k = set_mode t (argument 0 hart) k
-perform Lock hart c t k = lock c t (argument 0 hart) (argument 1 hart) k
-perform TryLock hart c t k = try_lock t (argument 0 hart) k
-perform Unlock hart c t k = unlock t (argument 0 hart) k
-perform SemGet hart c t k = sem_get c t (argument 0 hart) (argument 1 hart) k
-perform SemTryGet hart c t k = sem_try_get (argument 0 hart) k
-perform SemPut hart c t k = sem_put (argument 0 hart) k
-perform EventWait hart c t k = event_wait c t (argument 0 hart) (argument 1 hart) (argument 2 hart) k
-perform Signal hart c t k = signal (argument 0 hart) k
-perform Broadcast hart c t k = broadcast (argument 0 hart) k
-perform FlagsWait hart c t k = flags_wait c t (argument 0 hart) (argument 1 hart) k
-perform FlagsPost hart c t k = flags_post (argument 0 hart) (argument 1 hart) k
-perform SleepUntil hart c t k = sleep_until c t (argument 0 hart) k
-perform TimerSet hart c t k = timer_set c (argument 0 hart) (argument 1 hart) (argument 2 hart) k
-perform TimerWait hart c t k = timer_wait c t (argument 0 hart) k
-perform YieldOob hart c t k = yield_oob t k
-perform StallOob hart c t k = stall OutOfBand true c k
-perform UnstallOob hart c t k = stall OutOfBand false c k
-perform Clock hart c t k = clock k
-perform StateBits hart c t k = state_bits c t k
+perform Ends hart c t p = exit c t p
+perform Putc hart c t p = putc (argument 0 hart) p
+perform Yield hart c t p = yield_now c t p
+perform Spawn hart c t p = spawn (argument 0 hart) (argument 1 hart) (argument 2 hart) p
+perform Stall hart c t p = stall InBand true c p
+perform Unstall hart c t p = stall InBand false c p
+perform WaitLine hart c t p = wait_line c t (argument 0 hart) p
+perform Attach hart c t p = attach t (argument 0 hart) (argument 1 hart) p
+perform Detach hart c t p = detach t p
+perform NewMutex hart c t p = new_mutex (argument 0 hart) (argument 1 hart) p
+perform NewSemaphore hart c t p = new_semaphore (argument 0 hart) p
+perform NewEvent hart c t p = new_event p
+perform NewFlags hart c t p = new_flags p
+perform NewTimer hart c t p = new_timer p
+perform SetLine hart c t p = set_line (argument 0 hart) (argument 1 hart) (argument 2 hart) p
+perform SwitchOob hart c t p = switch_oob p
+perform SwitchInBand hart c t p = switch_in_band c t p
+perform SetSched hart c t p = set_sched (argument 0 hart) (argument 1 hart) (argument 2 hart) p
+perform SetMode hart c t p = set_mode t (argument 0 hart) p
+perform Lock hart c t p = lock c t (argument 0 hart) (argument 1 hart) p
+perform TryLock hart c t p = try_lock t (argument 0 hart) p
+perform Unlock hart c t p = unlock t (argument 0 hart) p
+perform SemGet hart c t p = sem_get c t (argument 0 hart) (argument 1 hart) p
+perform SemTryGet hart c t p = sem_try_get (argument 0 hart) p
+perform SemPut hart c t p = sem_put (argument 0 hart) p
+perform EventWait hart c t p = event_wait c t (argument 0 hart) (argument 1 hart) (argument 2 hart) p
+perform Signal hart c t p = signal (argument 0 hart) p
+perform Broadcast hart c t p = broadcast (argument 0 hart) p
+perform FlagsWait hart c t p = flags_wait c t (argument 0 hart) (argument 1 hart) p
+perform FlagsPost hart c t p = flags_post (argument 0 hart) (argument 1 hart) p
+perform SleepUntil hart c t p = sleep_until c t (argument 0 hart) p
+perform TimerSet hart c t p = timer_set c (argument 0 hart) (argument 1 hart) (argument 2 hart) p
+perform TimerWait hart c t p = timer_wait c t (argument 0 hart) p
+perform YieldOob hart c t p = yield_oob t p
+perform StallOob hart c t p = stall OutOfBand true c p
+perform UnstallOob hart c t p = stall OutOfBand false c p
+perform Clock hart c t p = clock p
+perform StateBits hart c t p = state_bits c t p
 
 abbrev pub is_weak_oob : Option Task → Bool
 is_weak_oob None = false
@@ -138,37 +138,37 @@ is_weak_oob (Some task) = is_oob_ready task.state && is_weak task.class
 
 -- a weak task that owns no mutex stays out-of-band only until its call is answered
 unfoldable pub return_weak : ℕ → ℕ → Parts → Parts
-return_weak c t k = if is_weak_oob (slice_get k.tasks t) && not (owns_any t k.mutexes) then demote c t k else k
+return_weak c t p = if is_weak_oob (slice_get p.tasks t) && not (owns_any t p.mutexes) then demote c t p else p
 
 -- a call is answered, or its task waits, or has left
 abbrev pub answered : Outcome → ℕ → ℕ → Parts → Parts
-answered (Returns value) c t k = return_weak c t (on_hart t (answer value) k)
-answered Blocks c t k = on_hart t advance k
-answered Exits c t k = k
+answered (Returns value) c t p = return_weak c t (on_hart t (answer value) p)
+answered Blocks c t p = on_hart t advance p
+answered Exits c t p = p
 
 abbrev pub finish_call : ℕ → ℕ → Parts × Outcome → Parts
 finish_call c t done = answered done.1 c t done.0
 
 -- a task that may goes out-of-band, its pc unchanged, so that it makes its call again there
 unfoldable pub ask_oob : ℕ → ℕ → Parts → Parts
-ask_oob c t k = if may_promote c t k then promote c t k else finish_call c t (refused NotPermitted k)
+ask_oob c t p = if may_promote c t p then promote c t p else finish_call c t (refused NotPermitted p)
 
 -- a call of the other stage changes the task's stage first, in-band with a notice; one of either stage never does
 abbrev pub call_on : Option Stage → Call → Hart → ℕ → ℕ → Parts → Parts
-call_on None call hart c t k = finish_call c t (perform call hart c t k)
-call_on (Some InBand) call hart c t k =
-    if is_oob (Some t) k.tasks then notify DemotedByCall t (demote c t k) else finish_call c t (perform call hart c t k)
-call_on (Some OutOfBand) call hart c t k =
-    if is_oob (Some t) k.tasks then finish_call c t (perform call hart c t k) else ask_oob c t k
+call_on None call hart c t p = finish_call c t (perform call hart c t p)
+call_on (Some InBand) call hart c t p =
+    if is_oob (Some t) p.tasks then notify DemotedByCall t (demote c t p) else finish_call c t (perform call hart c t p)
+call_on (Some OutOfBand) call hart c t p =
+    if is_oob (Some t) p.tasks then finish_call c t (perform call hart c t p) else ask_oob c t p
 
 abbrev pub call_known : Option Call → Hart → ℕ → ℕ → Parts → Parts
-call_known None hart c t k = finish_call c t (refused NoSuchCall k)
-call_known (Some call) hart c t k = call_on (call_stage call) call hart c t k
+call_known None hart c t p = finish_call c t (refused NoSuchCall p)
+call_known (Some call) hart c t p = call_on (call_stage call) call hart c t p
 
 abbrev pub call_of_hart : Option Hart → ℕ → ℕ → Parts → Parts
-call_of_hart None c t k = k
-call_of_hart (Some hart) c t k = call_known (call_of (register_of hart.regs A7)) hart c t k
+call_of_hart None c t p = p
+call_of_hart (Some hart) c t p = call_known (call_of (register_of hart.regs A7)) hart c t p
 
 -- task t of processor c calls a kernel
 unfoldable pub call : ℕ → ℕ → Parts → Parts
-call c t k = call_of_hart (slice_get k.harts t) c t k
+call c t p = call_of_hart (slice_get p.harts t) c t p

@@ -8,19 +8,19 @@ use Rattle.evm_model.specs.State.{Board, Parts, on_hart, on_processor}
 
 -- one more tick, and line 0 is raised on each processor
 unfoldable pub tick : Parts → Parts
-tick k = record k { ticks = k.ticks + 1; pipes = map (raise 0) k.pipes }
+tick p = record p { ticks = p.ticks + 1; pipes = map (raise 0) p.pipes }
 
 -- processor c has these stop and skip bits
 unfoldable pub set_bits : Bool → Bool → ℕ → Parts → Parts
-set_bits stopped skip c k = on_processor c (λ p. record p { stopped = stopped; skip = skip }) k
+set_bits stopped skip c p = on_processor c (λ cpu. record cpu { stopped = stopped; skip = skip }) p
 
 abbrev pub on_number : Option ℕ → (Hart → Hart) → Parts → Parts
-on_number None f k = k
-on_number (Some t) f k = on_hart t f k
+on_number None f p = p
+on_number (Some t) f p = on_hart t f p
 
 -- the registers or the pc of c's current task are changed
 abbrev pub on_current : ℕ → (Hart → Hart) → Parts → Parts
-on_current c f k = on_number (current c k) f k
+on_current c f p = on_number (current c p) f p
 
 -- whether a breakpoint is set at an address
 abbrev pub is_set : List ℕ → ℕ → Bool

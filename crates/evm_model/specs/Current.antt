@@ -11,7 +11,7 @@ current_of (Some p) = p.current
 
 -- the number of the task that processor c runs
 abbrev pub current : ℕ → Parts → Option ℕ
-current c k = current_of (slice_get k.processors c)
+current c p = current_of (slice_get p.processors c)
 
 abbrev pub is_oob_task : Option Task → Bool
 is_oob_task None = false

@@ -19,9 +19,9 @@ use Rattle.evm_model.specs.declared.task.Wait.TheVariants.{Event, Sleep}
 -- ---- 47: a sleep
 -- the task waits until a tick, if it is still to come
 unfoldable pub sleep_until : ℕ → ℕ → ℕ → Parts → Parts × Outcome
-sleep_until c t until k =
-    if nat_le until k.ticks then (k, Returns 0)
-    else wait_unless (wait_refusal (is_stalled OutOfBand c k) None k.ticks until) t Sleep until k
+sleep_until c t until p =
+    if nat_le until p.ticks then (p, Returns 0)
+    else wait_unless (wait_refusal (is_stalled OutOfBand c p) None p.ticks until) t Sleep until p
 
 -- ---- deadlines that have come
 abbrev pub deadline_of : Option Task → ℕ
@@ -41,34 +41,34 @@ is_due c now tasks t = is_due_task c now (slice_get tasks t)
 
 -- of these tasks the one of least deadline, then of least number
 unfoldable pub next_due : ℕ → Parts → Option ℕ
-next_due c k = first (is_due c k.ticks k.tasks) (λ _. 0) (deadline k.tasks) (length k.tasks)
+next_due c p = first (is_due c p.ticks p.tasks) (λ _. 0) (deadline p.tasks) (length p.tasks)
 
 -- the wait of task t ends by its deadline: a sleep is answered 0, any other wait -110
 abbrev pub end_wait_for : Wait → ℕ → Parts → Parts
-end_wait_for Sleep t k = wake t 0 k
-end_wait_for (Event e) t k = reacquire e t (refusal_answer TimedOut) k
-end_wait_for _ t k = wake t (refusal_answer TimedOut) k
+end_wait_for Sleep t p = wake t 0 p
+end_wait_for (Event e) t p = reacquire e t (refusal_answer TimedOut) p
+end_wait_for _ t p = wake t (refusal_answer TimedOut) p
 
 abbrev pub end_wait_in : TaskState → ℕ → Parts → Parts
-end_wait_in (Waits wait) t k = end_wait_for wait t k
-end_wait_in _ t k = k
+end_wait_in (Waits wait) t p = end_wait_for wait t p
+end_wait_in _ t p = p
 
 abbrev pub end_wait_of : Option Task → ℕ → Parts → Parts
-end_wait_of None t k = k
-end_wait_of (Some task) t k = end_wait_in task.state t k
+end_wait_of None t p = p
+end_wait_of (Some task) t p = end_wait_in task.state t p
 
 unfoldable pub end_wait : ℕ → Parts → Parts
-end_wait t k = end_wait_of (slice_get k.tasks t) t k
+end_wait t p = end_wait_of (slice_get p.tasks t) t p
 
 abbrev pub end_next : Option ℕ → Parts → Parts
-end_next None k = k
-end_next (Some t) k = end_wait t k
+end_next None p = p
+end_next (Some t) p = end_wait t p
 
 -- the next whose deadline has come, again and again
 unfoldable pub end_rounds : ℕ → ℕ → Parts → Parts
-end_rounds c zero k = k
-end_rounds c (suc n) k = let x = end_rounds c n k in end_next (next_due c x) x
+end_rounds c zero p = p
+end_rounds c (suc n) p = let x = end_rounds c n p in end_next (next_due c x) x
 
 -- the waits on c whose deadlines have come end
 unfoldable pub end_waits : ℕ → Parts → Parts
-end_waits c k = end_rounds c (length k.tasks) k
+end_waits c p = end_rounds c (length p.tasks) p

@@ -61,8 +61,8 @@ touch op address value m = touch_register (register_at address) op value m
 -- ---- lines
 -- a line is raised on processor 0, if there is one
 abbrev pub raise_line : Option ℕ → Parts → Parts
-raise_line None k = k
-raise_line (Some l) k = on_pipe 0 (raise l) k
+raise_line None p = p
+raise_line (Some l) p = on_pipe 0 (raise l) p
 
 -- ---- a tick
 abbrev pub tick_device : Attached → Attached
@@ -70,9 +70,9 @@ tick_device device = record device { words = (ticked device.kind device.words).w
 
 -- the devices, of which the first is device i, raise their lines by their ticks, in the order of their numbers
 unfoldable pub raise_by_ticks : ℕ → List Attached → Parts → Parts
-raise_by_ticks i [] k = k
-raise_by_ticks i (device ∷ devices) k =
-    raise_by_ticks (suc i) devices (raise_line (line_if (ticked device.kind device.words).raise i) k)
+raise_by_ticks i [] p = p
+raise_by_ticks i (device ∷ devices) p =
+    raise_by_ticks (suc i) devices (raise_line (line_if (ticked device.kind device.words).raise i) p)
 
 -- each device ticks
 unfoldable pub tick_devices : Board → Board

@@ -12,45 +12,45 @@ use Rattle.evm_model.specs.declared.task.Wait.TheVariants.{Flags}
 
 -- ---- 12: a new flag group
 unfoldable pub add_flags : Parts → Parts
-add_flags k = record k { flags = k.flags ++ 0 ∷ [] }
+add_flags p = record p { flags = p.flags ++ 0 ∷ [] }
 
 -- its number is answered
 unfoldable pub new_flags : Parts → Parts × Outcome
-new_flags k = if nat_le FLAGS_LIMIT (length k.flags) then refused NoNumber k else (add_flags k, Returns (length k.flags))
+new_flags p = if nat_le FLAGS_LIMIT (length p.flags) then refused NoNumber p else (add_flags p, Returns (length p.flags))
 
 -- ---- 45: the word is taken
 abbrev pub flags_wait_known : Option ℕ → ℕ → ℕ → ℕ → ℕ → Parts → Parts × Outcome
-flags_wait_known None c t f deadline k = refused Invalid k
-flags_wait_known (Some word) c t f deadline k =
-    if word == 0 then wait_unless (wait_refusal (is_stalled OutOfBand c k) None k.ticks deadline) t (Flags f) deadline k
-    else (on_flags f (λ _. 0) k, Returns word)
+flags_wait_known None c t f deadline p = refused Invalid p
+flags_wait_known (Some word) c t f deadline p =
+    if word == 0 then wait_unless (wait_refusal (is_stalled OutOfBand c p) None p.ticks deadline) t (Flags f) deadline p
+    else (on_flags f (λ _. 0) p, Returns word)
 
 -- 45: the task takes the word, which is 0 then, or waits for one
 unfoldable pub flags_wait : ℕ → ℕ → ℕ → ℕ → Parts → Parts × Outcome
-flags_wait c t f deadline k = flags_wait_known (slice_get k.flags f) c t f deadline k
+flags_wait c t f deadline p = flags_wait_known (slice_get p.flags f) c t f deadline p
 
 -- ---- bits are posted
 -- the first that waits wakes with the word, which is 0 then; if there is none, it is kept
 abbrev pub post_to : Option ℕ → ℕ → ℕ → Parts → Parts
-post_to None f word k = on_flags f (λ _. word) k
-post_to (Some t) f word k = wake t word (on_flags f (λ _. 0) k)
+post_to None f word p = on_flags f (λ _. word) p
+post_to (Some t) f word p = wake t word (on_flags f (λ _. 0) p)
 
 abbrev pub post_known : Option ℕ → ℕ → ℕ → Parts → Parts
-post_known None f bits k = k
-post_known (Some word) f bits k = post_to (first_waiter (Flags f) k) f (bit_or word bits) k
+post_known None f bits p = p
+post_known (Some word) f bits p = post_to (first_waiter (Flags f) p) f (bit_or word bits) p
 
 unfoldable pub post : ℕ → ℕ → Parts → Parts
-post f bits k = post_known (slice_get k.flags f) f bits k
+post f bits p = post_known (slice_get p.flags f) f bits p
 
 -- a post of no bit, or of bits that no word has
 abbrev pub flags_post_of : ℕ → ℕ → Parts → Parts × Outcome
-flags_post_of f bits k =
-    if bits == 0 then refused Invalid k else (if nat_lt FLAGS_WORD_LIMIT bits then refused Invalid k else (post f bits k, Returns 0))
+flags_post_of f bits p =
+    if bits == 0 then refused Invalid p else (if nat_lt FLAGS_WORD_LIMIT bits then refused Invalid p else (post f bits p, Returns 0))
 
 abbrev pub flags_post_known : Option ℕ → ℕ → ℕ → Parts → Parts × Outcome
-flags_post_known None f bits k = refused Invalid k
-flags_post_known (Some word) f bits k = flags_post_of f bits k
+flags_post_known None f bits p = refused Invalid p
+flags_post_known (Some word) f bits p = flags_post_of f bits p
 
 -- 46: the bits are set in the word
 unfoldable pub flags_post : ℕ → ℕ → Parts → Parts × Outcome
-flags_post f bits k = flags_post_known (slice_get k.flags f) f bits k
+flags_post f bits p = flags_post_known (slice_get p.flags f) f bits p

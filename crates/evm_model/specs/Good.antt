@@ -149,25 +149,25 @@ pub record AreDevices (devices : List Attached) : Type 0 where
   pub each : (i : ℕ) (device : Attached) → slice_get devices i ≡ Some device → IsDevice device
 
 -- what holds of the parts
-pub record Good (k : Parts) : Type 0 where
-  pub pipes : (c : ℕ) (pipe : Pipe) → slice_get k.pipes c ≡ Some pipe → IsPipe pipe
-  pub settled : (c : ℕ) (pipe : Pipe) (p : Processor) → slice_get k.pipes c ≡ Some pipe → slice_get k.processors c ≡ Some p → IsSettled c pipe p k.mutexes k.tasks
+pub record Good (p : Parts) : Type 0 where
+  pub pipes : (c : ℕ) (pipe : Pipe) → slice_get p.pipes c ≡ Some pipe → IsPipe pipe
+  pub settled : (c : ℕ) (pipe : Pipe) (processor : Processor) → slice_get p.pipes c ≡ Some pipe → slice_get p.processors c ≡ Some processor → IsSettled c pipe processor p.mutexes p.tasks
   -- each pc is a multiple of 4
-  pub aligned : (t : ℕ) (hart : Hart) → slice_get k.harts t ≡ Some hart → hart.pc % 4 ≡ 0
+  pub aligned : (t : ℕ) (hart : Hart) → slice_get p.harts t ≡ Some hart → hart.pc % 4 ≡ 0
   -- each task is of a processor that is there
-  pub homes : (t : ℕ) (task : Task) → slice_get k.tasks t ≡ Some task → task.cpu < length k.processors
-  pub locks : AreLocks k.mutexes k.tasks
-  pub events : AreEvents k.events k.mutexes k.tasks
+  pub homes : (t : ℕ) (task : Task) → slice_get p.tasks t ≡ Some task → task.cpu < length p.processors
+  pub locks : AreLocks p.mutexes p.tasks
+  pub events : AreEvents p.events p.mutexes p.tasks
   -- a task that doesn't wait has no deadline
-  pub deadlines : (t : ℕ) (task : Task) → slice_get k.tasks t ≡ Some task → is_waiting task.state ≡ false → task.deadline ≡ 0
+  pub deadlines : (t : ℕ) (task : Task) → slice_get p.tasks t ≡ Some task → is_waiting task.state ≡ false → task.deadline ≡ 0
   -- stamps are distinct, and below the next
-  pub stamps_below : (t : ℕ) (task : Task) → slice_get k.tasks t ≡ Some task → task.stamp < k.stamps
-  pub stamps_differ : (t u : ℕ) (a b : Task) → slice_get k.tasks t ≡ Some a → slice_get k.tasks u ≡ Some b → a.stamp ≡ b.stamp → t ≡ u
+  pub stamps_below : (t : ℕ) (task : Task) → slice_get p.tasks t ≡ Some task → task.stamp < p.stamps
+  pub stamps_differ : (t u : ℕ) (a b : Task) → slice_get p.tasks t ≡ Some a → slice_get p.tasks u ≡ Some b → a.stamp ≡ b.stamp → t ≡ u
   -- a hart for each task, a pipe for each processor, and no more of them than there may be
-  pub harts_count : length k.harts ≡ length k.tasks
-  pub pipes_count : length k.pipes ≡ length k.processors
-  pub few_tasks : length k.tasks ≤ TASK_LIMIT
-  pub few_processors : length k.processors ≤ PROCESSOR_LIMIT
+  pub harts_count : length p.harts ≡ length p.tasks
+  pub pipes_count : length p.pipes ≡ length p.processors
+  pub few_tasks : length p.tasks ≤ TASK_LIMIT
+  pub few_processors : length p.processors ≤ PROCESSOR_LIMIT
 
 abbrev pub is_tick : Event → Bool
 is_tick Tick = true

@@ -7,7 +7,7 @@ use Rattle.evm_model.specs.Replay.{start}
 use Rattle.evm_model.specs.State.{State, Board, on_hart, on_parts, on_memory}
 use Rattle.evm_model.specs.declared.boot.Boot.{Boot}
 
--- so many bytes, from an address on
+-- n bytes, from an address on
 unfoldable pub bytes_from : (ℕ → ℕ) → ℕ → ℕ → List ℕ
 bytes_from byte address zero = []
 bytes_from byte address (suc n) = byte address ∷ bytes_from byte (address + 1) n

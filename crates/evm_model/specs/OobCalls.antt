@@ -17,30 +17,30 @@ use Rattle.evm_model.specs.declared.task.Task.{Task}
 
 -- 4 and 5, 51 and 52: a stage is stalled, or not; the old bit is answered
 unfoldable pub stall : Stage → Bool → ℕ → Parts → Parts × Outcome
-stall stage stalled c k = (on_pipe c (set_stall stage stalled) k, Returns (bit (is_stalled stage c k)))
+stall stage stalled c p = (on_pipe c (set_stall stage stalled) p, Returns (bit (is_stalled stage c p)))
 
 -- 32: the task is out-of-band, as it was promoted for the call
 unfoldable pub switch_oob : Parts → Parts × Outcome
-switch_oob k = (k, Returns 0)
+switch_oob p = (p, Returns 0)
 
 -- 33: the task goes in-band; not while out-of-band is stalled
 unfoldable pub switch_in_band : ℕ → ℕ → Parts → Parts × Outcome
-switch_in_band c t k = if is_stalled OutOfBand c k then refused NotPermitted k else (demote c t k, Returns 0)
+switch_in_band c t p = if is_stalled OutOfBand c p then refused NotPermitted p else (demote c t p, Returns 0)
 
 -- a task that has not ended and has a class
 abbrev pub is_scheduled_task : Option Task → Bool
 is_scheduled_task None = false
 is_scheduled_task (Some task) = is_live task.state && is_class task.class
 
--- 34: task u, of whatever processor, has another class and priority; its stamp stays
+-- 34: task u, of any processor, has another class and priority; its stamp stays
 abbrev pub schedule_as : Option Class → ℕ → ℕ → Parts → Parts × Outcome
-schedule_as None u priority k = refused Invalid k
-schedule_as (Some class) u priority k = (set_policy u class priority k, Returns 0)
+schedule_as None u priority p = refused Invalid p
+schedule_as (Some class) u priority p = (set_policy u class priority p, Returns 0)
 
 unfoldable pub set_sched : ℕ → ℕ → ℕ → Parts → Parts × Outcome
-set_sched u class priority k =
-    if is_scheduled_task (slice_get k.tasks u) then schedule_as (policy_of class priority) u priority k
-    else refused NoSuchTask k
+set_sched u class priority p =
+    if is_scheduled_task (slice_get p.tasks u) then schedule_as (policy_of class priority) u priority p
+    else refused NoSuchTask p
 
 abbrev pub mode_of : Option Task → ℕ
 mode_of None = 0
@@ -48,19 +48,19 @@ mode_of (Some task) = task.mode.bits
 
 -- 35: the task has these mode bits; the old ones are answered
 unfoldable pub set_mode : ℕ → ℕ → Parts → Parts × Outcome
-set_mode t bits k =
-    if nat_lt MODE_LIMIT bits then refused Invalid k
-    else (set_mode_bits t bits k, Returns (mode_of (slice_get k.tasks t)))
+set_mode t bits p =
+    if nat_lt MODE_LIMIT bits then refused Invalid p
+    else (set_mode_bits t bits p, Returns (mode_of (slice_get p.tasks t)))
 
 -- 50: the task goes behind the others of its rank
 unfoldable pub yield_oob : ℕ → Parts → Parts × Outcome
-yield_oob t k = (restamp t k, Returns 0)
+yield_oob t p = (restamp t p, Returns 0)
 
 -- 53: how many ticks there were
 unfoldable pub clock : Parts → Parts × Outcome
-clock k = (k, Returns k.ticks)
+clock p = (p, Returns p.ticks)
 
 -- 54: 1 for an out-of-band task, 2 for an attached one, 4 where its own stage is stalled
 unfoldable pub state_bits : ℕ → ℕ → Parts → Parts × Outcome
-state_bits c t k =
-    (k, Returns (bit (is_oob (Some t) k.tasks) + 2 * bit (is_attached t k) + 4 * bit (is_stalled (stage_at t k) c k)))
+state_bits c t p =
+    (p, Returns (bit (is_oob (Some t) p.tasks) + 2 * bit (is_attached t p) + 4 * bit (is_stalled (stage_at t p) c p)))

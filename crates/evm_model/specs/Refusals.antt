@@ -13,7 +13,7 @@ use Rattle.evm_model.specs.declared.refusal.Refusal.TheVariants.{Full, NoSuchCpu
 use Rattle.evm_model.specs.Event.{Event}
 use Rattle.evm_model.specs.declared.event.Event.TheVariants.{Step, Raise, Bell, Stop, Go, StepI, SetReg, SetPc, Poke, Break, Unbreak}
 
--- the number under which a refusal is told
+-- the number of a refusal, as it is reported
 abbrev pub number_of : Refusal → ℕ
 number_of Full = 1
 number_of NoSuchCpu = 2

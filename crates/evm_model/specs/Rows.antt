@@ -35,8 +35,8 @@ step_current (Some t) p c b = step_hart (slice_get b.parts.harts t) p c t b
 
 -- a line on the wire is received before an instruction, the least first
 abbrev pub step_wire : Option ℕ → Processor → ℕ → Board → Board × Answer
-step_wire None p c b = step_current p.current p c b
-step_wire (Some l) p c b = (on_parts (λ k. settle_and_nudge p.current c (receive_line c l k)) b, Received l)
+step_wire None processor c b = step_current processor.current processor c b
+step_wire (Some l) processor c b = (on_parts (λ p. settle_and_nudge processor.current c (receive_line c l p)) b, Received l)
 
 abbrev pub step_pipe : Option Pipe → Processor → ℕ → Board → Board × Answer
 step_pipe None p c b = (b, Stopped)

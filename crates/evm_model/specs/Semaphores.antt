@@ -12,43 +12,43 @@ use Rattle.evm_model.specs.declared.task.Wait.TheVariants.{Semaphore}
 
 -- ---- 10: a new semaphore
 unfoldable pub add_semaphore : ℕ → Parts → Parts
-add_semaphore count k = record k { semaphores = k.semaphores ++ count ∷ [] }
+add_semaphore count p = record p { semaphores = p.semaphores ++ count ∷ [] }
 
 -- its number is answered
 unfoldable pub new_semaphore : ℕ → Parts → Parts × Outcome
-new_semaphore count k =
-    if nat_lt SEMAPHORE_COUNT_LIMIT count then refused Invalid k
-    else (if nat_le SEMAPHORE_LIMIT (length k.semaphores) then refused NoNumber k
-    else (add_semaphore count k, Returns (length k.semaphores)))
+new_semaphore count p =
+    if nat_lt SEMAPHORE_COUNT_LIMIT count then refused Invalid p
+    else (if nat_le SEMAPHORE_LIMIT (length p.semaphores) then refused NoNumber p
+    else (add_semaphore count p, Returns (length p.semaphores)))
 
 -- ---- 39 and 40: one is taken
 abbrev pub sem_get_known : Option ℕ → ℕ → ℕ → ℕ → ℕ → Parts → Parts × Outcome
-sem_get_known None c t s deadline k = refused Invalid k
-sem_get_known (Some count) c t s deadline k =
-    if count == 0 then wait_unless (wait_refusal (is_stalled OutOfBand c k) None k.ticks deadline) t (Semaphore s) deadline k
-    else (on_semaphore s (λ n. n - 1) k, Returns 0)
+sem_get_known None c t s deadline p = refused Invalid p
+sem_get_known (Some count) c t s deadline p =
+    if count == 0 then wait_unless (wait_refusal (is_stalled OutOfBand c p) None p.ticks deadline) t (Semaphore s) deadline p
+    else (on_semaphore s (λ n. n - 1) p, Returns 0)
 
 -- 39: the task takes one, or waits for one
 unfoldable pub sem_get : ℕ → ℕ → ℕ → ℕ → Parts → Parts × Outcome
-sem_get c t s deadline k = sem_get_known (slice_get k.semaphores s) c t s deadline k
+sem_get c t s deadline p = sem_get_known (slice_get p.semaphores s) c t s deadline p
 
 abbrev pub sem_try_get_known : Option ℕ → ℕ → Parts → Parts × Outcome
-sem_try_get_known None s k = refused Invalid k
-sem_try_get_known (Some count) s k = if count == 0 then refused TryAgain k else (on_semaphore s (λ n. n - 1) k, Returns 0)
+sem_try_get_known None s p = refused Invalid p
+sem_try_get_known (Some count) s p = if count == 0 then refused TryAgain p else (on_semaphore s (λ n. n - 1) p, Returns 0)
 
 -- 40: the task takes one, if it need not wait for it
 unfoldable pub sem_try_get : ℕ → Parts → Parts × Outcome
-sem_try_get s k = sem_try_get_known (slice_get k.semaphores s) s k
+sem_try_get s p = sem_try_get_known (slice_get p.semaphores s) s p
 
 -- ---- 41: one is put
 -- the first that waits wakes; if there is none, the count is one more
 abbrev pub sem_put_to : Option ℕ → ℕ → ℕ → Parts → Parts × Outcome
-sem_put_to None s count k = if nat_le SEMAPHORE_COUNT_LIMIT count then refused Invalid k else (on_semaphore s (λ n. n + 1) k, Returns 0)
-sem_put_to (Some t) s count k = (wake t 0 k, Returns 0)
+sem_put_to None s count p = if nat_le SEMAPHORE_COUNT_LIMIT count then refused Invalid p else (on_semaphore s (λ n. n + 1) p, Returns 0)
+sem_put_to (Some t) s count p = (wake t 0 p, Returns 0)
 
 abbrev pub sem_put_known : Option ℕ → ℕ → Parts → Parts × Outcome
-sem_put_known None s k = refused Invalid k
-sem_put_known (Some count) s k = sem_put_to (first_waiter (Semaphore s) k) s count k
+sem_put_known None s p = refused Invalid p
+sem_put_known (Some count) s p = sem_put_to (first_waiter (Semaphore s) p) s count p
 
 unfoldable pub sem_put : ℕ → Parts → Parts × Outcome
-sem_put s k = sem_put_known (slice_get k.semaphores s) s k
+sem_put s p = sem_put_known (slice_get p.semaphores s) s p

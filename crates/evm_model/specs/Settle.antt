@@ -16,47 +16,47 @@ use Rattle.evm_model.specs.declared.stage.Stage.TheVariants.{OutOfBand, InBand}
 
 -- a tick of the slice of this task, if there is one
 unfoldable pub spend : Option ℕ → Parts → Parts
-spend None k = k
-spend (Some t) k = spend_task (slice_get k.tasks t) t k
+spend None p = p
+spend (Some t) p = spend_task (slice_get p.tasks t) t p
 
 -- ---- `was`, from here on, is the task that was current on c before the event
 -- the timer's line is played on c: it goes on into the in-band log, for the in-band tick; then deadlines end waits, timers
 -- expire, and that task's slice takes a tick
 unfoldable pub play_tick : Option ℕ → ℕ → Parts → Parts
-play_tick was c k = spend was (expire_timers c (end_waits c (on_pipe c (arrive InBand 0) k)))
+play_tick was c p = spend was (expire_timers c (end_waits c (on_pipe c (arrive InBand 0) p)))
 
 -- what an out-of-band play does, by its line: line 1 has no action
 abbrev pub handle_oob : Option ℕ → ℕ → ℕ → Parts → Parts
-handle_oob was c l k = if l == 0 then play_tick was c k else act (action_at l k) l k
+handle_oob was c l p = if l == 0 then play_tick was c p else act (action_at l p) l p
 
 -- line l is played out-of-band on c
 unfoldable pub play_oob : Option ℕ → ℕ → ℕ → Parts → Parts
-play_oob was c l k = handle_oob was c l (on_pipe c (play OutOfBand l) k)
+play_oob was c l p = handle_oob was c l (on_pipe c (play OutOfBand l) p)
 
 -- line l is played in-band on c: the tasks that wait there for it wake
 unfoldable pub play_in_band : ℕ → ℕ → Parts → Parts
-play_in_band c l k = wake_below c l (length k.tasks) (on_pipe c (play InBand l) k)
+play_in_band c l p = wake_below c l (length p.tasks) (on_pipe c (play InBand l) p)
 
 -- lines are played one after another, in the order of the list
 unfoldable pub play_oob_lines : Option ℕ → ℕ → List ℕ → Parts → Parts
-play_oob_lines was c [] k = k
-play_oob_lines was c (l ∷ ls) k = play_oob_lines was c ls (play_oob was c l k)
+play_oob_lines was c [] p = p
+play_oob_lines was c (l ∷ ls) p = play_oob_lines was c ls (play_oob was c l p)
 
 unfoldable pub play_in_band_lines : ℕ → List ℕ → Parts → Parts
-play_in_band_lines c [] k = k
-play_in_band_lines c (l ∷ ls) k = play_in_band_lines c ls (play_in_band c l k)
+play_in_band_lines c [] p = p
+play_in_band_lines c (l ∷ ls) p = play_in_band_lines c ls (play_in_band c l p)
 
 -- the best out-of-band task is current, or none
 abbrev pub run_best : ℕ → Parts → Parts
-run_best c k = on_processor c (λ p. record p { current = best c k.mutexes k.tasks }) k
+run_best c p = on_processor c (λ processor. record processor { current = best c p.mutexes p.tasks }) p
 
 -- the out-of-band part: unless it is stalled the log is played, and the best task is current
 abbrev pub settle_oob_pipe : Option Pipe → Option ℕ → ℕ → Parts → Parts
-settle_oob_pipe None was c k = k
-settle_oob_pipe (Some pipe) was c k = if pipe.oob.stalled then k else run_best c (play_oob_lines was c pipe.oob.lines k)
+settle_oob_pipe None was c p = p
+settle_oob_pipe (Some pipe) was c p = if pipe.oob.stalled then p else run_best c (play_oob_lines was c pipe.oob.lines p)
 
 unfoldable pub settle_oob : Option ℕ → ℕ → Parts → Parts
-settle_oob was c k = settle_oob_pipe (slice_get k.pipes c) was c k
+settle_oob was c p = settle_oob_pipe (slice_get p.pipes c) was c p
 
 -- the in-band current task stays, or the ready one of least stamp is taken up; it is current
 abbrev pub take_up : Option ℕ → Option ℕ → Option ℕ
@@ -67,22 +67,22 @@ abbrev pub run_task : Option ℕ → Processor → Processor
 run_task task p = record p { current = task; in_band_task = task }
 
 abbrev pub run_in_band : ℕ → Parts → Parts
-run_in_band c k = on_processor c (λ p. run_task (take_up p.in_band_task (next_in_band c k.tasks)) p) k
+run_in_band c p = on_processor c (λ processor. run_task (take_up processor.in_band_task (next_in_band c p.tasks)) processor) p
 
 -- unless it is stalled the in-band log is played
 abbrev pub play_in_band_pipe : Option Pipe → ℕ → Parts → Parts
-play_in_band_pipe None c k = k
-play_in_band_pipe (Some pipe) c k = if pipe.in_band.stalled then k else play_in_band_lines c pipe.in_band.lines k
+play_in_band_pipe None c p = p
+play_in_band_pipe (Some pipe) c p = if pipe.in_band.stalled then p else play_in_band_lines c pipe.in_band.lines p
 
 unfoldable pub turn_in_band : ℕ → Parts → Parts
-turn_in_band c k = run_in_band c (play_in_band_pipe (slice_get k.pipes c) c k)
+turn_in_band c p = run_in_band c (play_in_band_pipe (slice_get p.pipes c) c p)
 
 -- the in-band part comes where no out-of-band task is current
 unfoldable pub settle_in_band : ℕ → Parts → Parts
-settle_in_band c k = if is_oob (current c k) k.tasks then k else turn_in_band c k
+settle_in_band c p = if is_oob (current c p) p.tasks then p else turn_in_band c p
 
 unfoldable pub settle : Option ℕ → ℕ → Parts → Parts
-settle was c k = settle_in_band c (settle_oob was c k)
+settle was c p = settle_in_band c (settle_oob was c p)
 
 -- whether a processor that should run the first runs another, or none
 abbrev pub differs : Option ℕ → Option ℕ → Bool
@@ -90,17 +90,17 @@ differs None now = false
 differs (Some t) None = true
 differs (Some t) (Some u) = not (t == u)
 
--- processor d has a better task than its current one, and can be told so: it isn't stalled, and line 1 isn't on its wire
+-- processor d has a better task than its current one, and can be nudged: it isn't stalled, and line 1 isn't on its wire
 abbrev pub wants_nudge : ℕ → Pipe → Parts → Bool
-wants_nudge d pipe k = not pipe.oob.stalled && (not (has_line pipe.wire 1) && differs (best d k.mutexes k.tasks) (current d k))
+wants_nudge d pipe p = not pipe.oob.stalled && (not (has_line pipe.wire 1) && differs (best d p.mutexes p.tasks) (current d p))
 
 abbrev pub nudge_pipe : ℕ → Parts → ℕ → Pipe → Pipe
-nudge_pipe c k d pipe = if d == c then pipe else (if wants_nudge d pipe k then raise 1 pipe else pipe)
+nudge_pipe c p d pipe = if d == c then pipe else (if wants_nudge d pipe p then raise 1 pipe else pipe)
 
 -- line 1 is raised on each other processor than c that wants it
 unfoldable pub nudge : ℕ → Parts → Parts
-nudge c k = record k { pipes = each (nudge_pipe c k) k.pipes }
+nudge c p = record p { pipes = each (nudge_pipe c p) p.pipes }
 
 -- c settles, and tells the others
 unfoldable pub settle_and_nudge : Option ℕ → ℕ → Parts → Parts
-settle_and_nudge was c k = nudge c (settle was c k)
+settle_and_nudge was c p = nudge c (settle was c p)

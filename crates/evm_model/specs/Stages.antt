@@ -18,7 +18,7 @@ use Rattle.evm_model.specs.declared.task.Wait.{Wait}
 
 -- a call that is refused changes nothing, and answers its error
 abbrev pub refused : Errno → Parts → Parts × Outcome
-refused e k = (k, Returns (refusal_answer e))
+refused e p = (p, Returns (refusal_answer e))
 
 abbrev pub bit : Bool → ℕ
 bit b = if b then 1 else 0
@@ -29,7 +29,7 @@ stalled_pipe stage (Some pipe) = (log_of stage pipe).stalled
 
 -- whether a stage is stalled on c
 abbrev pub is_stalled : Stage → ℕ → Parts → Bool
-is_stalled stage c k = stalled_pipe stage (slice_get k.pipes c)
+is_stalled stage c p = stalled_pipe stage (slice_get p.pipes c)
 
 abbrev pub is_class : Class → Bool
 is_class Unattached = false
@@ -41,15 +41,15 @@ is_attached_task (Some task) = is_class task.class
 
 -- whether task t has a class
 abbrev pub is_attached : ℕ → Parts → Bool
-is_attached t k = is_attached_task (slice_get k.tasks t)
+is_attached t p = is_attached_task (slice_get p.tasks t)
 
 -- the stage that task t is on
 abbrev pub stage_at : ℕ → Parts → Stage
-stage_at t k = if is_oob (Some t) k.tasks then OutOfBand else InBand
+stage_at t p = if is_oob (Some t) p.tasks then OutOfBand else InBand
 
 -- a task of c may go out-of-band where it has a class and in-band isn't stalled
 abbrev pub may_promote : ℕ → ℕ → Parts → Bool
-may_promote c t k = is_attached t k && not (is_stalled InBand c k)
+may_promote c t p = is_attached t p && not (is_stalled InBand c p)
 
 -- ---- why a call may not wait
 -- a deadline that has come; 0 is none
@@ -66,5 +66,5 @@ wait_refusal stalled own now deadline = or_else (if stalled then Some NotPermitt
 
 -- task t waits, unless the call is refused
 abbrev pub wait_unless : Option Errno → ℕ → Wait → ℕ → Parts → Parts × Outcome
-wait_unless (Some e) t wait deadline k = refused e k
-wait_unless None t wait deadline k = (begin_wait t wait deadline k, Blocks)
+wait_unless (Some e) t wait deadline p = refused e p
+wait_unless None t wait deadline p = (begin_wait t wait deadline p, Blocks)

@@ -78,34 +78,34 @@ pub record State : Type 0 where
   pub board : Board
 
 abbrev pub on_hart : ℕ → (Hart → Hart) → Parts → Parts
-on_hart t f k = record k { harts = change f k.harts t }
+on_hart t f p = record p { harts = change f p.harts t }
 
 abbrev pub on_task : ℕ → (Task → Task) → Parts → Parts
-on_task t f k = record k { tasks = change f k.tasks t }
+on_task t f p = record p { tasks = change f p.tasks t }
 
 abbrev pub on_processor : ℕ → (Processor → Processor) → Parts → Parts
-on_processor c f k = record k { processors = change f k.processors c }
+on_processor c f p = record p { processors = change f p.processors c }
 
 abbrev pub on_pipe : ℕ → (Pipe → Pipe) → Parts → Parts
-on_pipe c f k = record k { pipes = change f k.pipes c }
+on_pipe c f p = record p { pipes = change f p.pipes c }
 
 abbrev pub on_mutex : ℕ → (Mutex → Mutex) → Parts → Parts
-on_mutex m f k = record k { mutexes = change f k.mutexes m }
+on_mutex m f p = record p { mutexes = change f p.mutexes m }
 
 abbrev pub on_semaphore : ℕ → (ℕ → ℕ) → Parts → Parts
-on_semaphore s f k = record k { semaphores = change f k.semaphores s }
+on_semaphore s f p = record p { semaphores = change f p.semaphores s }
 
 abbrev pub on_event : ℕ → (Option ℕ → Option ℕ) → Parts → Parts
-on_event e f k = record k { events = change f k.events e }
+on_event e f p = record p { events = change f p.events e }
 
 abbrev pub on_flags : ℕ → (ℕ → ℕ) → Parts → Parts
-on_flags g f k = record k { flags = change f k.flags g }
+on_flags g f p = record p { flags = change f p.flags g }
 
 abbrev pub on_timer : ℕ → (Timer → Timer) → Parts → Parts
-on_timer n f k = record k { timers = change f k.timers n }
+on_timer n f p = record p { timers = change f p.timers n }
 
 abbrev pub on_action : ℕ → (Action → Action) → Parts → Parts
-on_action l f k = record k { actions = change f k.actions l }
+on_action l f p = record p { actions = change f p.actions l }
 
 abbrev pub on_parts : (Parts → Parts) → Board → Board
 on_parts f b = record b { parts = f b.parts }

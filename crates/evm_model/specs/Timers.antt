@@ -17,11 +17,11 @@ abbrev pub idle_timer : Timer
 idle_timer = record { cpu = 0; due = 0; period = 0; expiries = 0 }
 
 unfoldable pub add_timer : Parts → Parts
-add_timer k = record k { timers = k.timers ++ idle_timer ∷ [] }
+add_timer p = record p { timers = p.timers ++ idle_timer ∷ [] }
 
 -- its number is answered
 unfoldable pub new_timer : Parts → Parts × Outcome
-new_timer k = if nat_le TIMER_LIMIT (length k.timers) then refused NoNumber k else (add_timer k, Returns (length k.timers))
+new_timer p = if nat_le TIMER_LIMIT (length p.timers) then refused NoNumber p else (add_timer p, Returns (length p.timers))
 
 -- ---- 48: a timer is set
 -- one of processor c that expires first at this tick, or never if that is 0
@@ -29,29 +29,29 @@ abbrev pub set_timer : ℕ → ℕ → ℕ → Timer
 set_timer c first period = record { cpu = c; due = first; period = period; expiries = 0 }
 
 abbrev pub timer_set_known : Option Timer → ℕ → ℕ → ℕ → ℕ → Parts → Parts × Outcome
-timer_set_known None c n first period k = refused Invalid k
-timer_set_known (Some timer) c n first period k =
-    if nat_lt TIMER_SPAN_LIMIT first then refused Invalid k
-    else (if nat_lt TIMER_SPAN_LIMIT period then refused Invalid k else (on_timer n (λ _. set_timer c first period) k, Returns 0))
+timer_set_known None c n first period p = refused Invalid p
+timer_set_known (Some timer) c n first period p =
+    if nat_lt TIMER_SPAN_LIMIT first then refused Invalid p
+    else (if nat_lt TIMER_SPAN_LIMIT period then refused Invalid p else (on_timer n (λ _. set_timer c first period) p, Returns 0))
 
 -- 48: timer n expires first at this tick, then every period
 unfoldable pub timer_set : ℕ → ℕ → ℕ → ℕ → Parts → Parts × Outcome
-timer_set c n first period k = timer_set_known (slice_get k.timers n) c n first period k
+timer_set c n first period p = timer_set_known (slice_get p.timers n) c n first period p
 
 -- ---- 49: expiries are taken
 abbrev pub taken : Timer → Timer
 taken timer = record timer { expiries = 0 }
 
 abbrev pub timer_wait_known : Option Timer → ℕ → ℕ → ℕ → Parts → Parts × Outcome
-timer_wait_known None c t n k = refused Invalid k
-timer_wait_known (Some timer) c t n k =
-    if nat_lt 0 timer.expiries then (on_timer n taken k, Returns timer.expiries)
-    else (if timer.due == 0 then refused TryAgain k
-    else wait_unless (wait_refusal (is_stalled OutOfBand c k) None k.ticks 0) t (For n) 0 k)
+timer_wait_known None c t n p = refused Invalid p
+timer_wait_known (Some timer) c t n p =
+    if nat_lt 0 timer.expiries then (on_timer n taken p, Returns timer.expiries)
+    else (if timer.due == 0 then refused TryAgain p
+    else wait_unless (wait_refusal (is_stalled OutOfBand c p) None p.ticks 0) t (For n) 0 p)
 
 -- 49: the task takes the expiries of timer n, or waits for one; not for a timer that is off
 unfoldable pub timer_wait : ℕ → ℕ → ℕ → Parts → Parts × Outcome
-timer_wait c t n k = timer_wait_known (slice_get k.timers n) c t n k
+timer_wait c t n p = timer_wait_known (slice_get p.timers n) c t n p
 
 -- ---- timers expire
 abbrev pub is_due_timer : ℕ → ℕ → Timer → Bool
@@ -70,23 +70,23 @@ expired now timer = record timer { due = due_after now timer; expiries = timer.e
 
 -- the first task that waits for the timer wakes with all its expiries; if there is none, they are kept
 abbrev pub expire_to : Option ℕ → ℕ → Timer → Parts → Parts
-expire_to None n timer k = on_timer n (λ _. timer) k
-expire_to (Some t) n timer k = wake t timer.expiries (on_timer n (λ _. taken timer) k)
+expire_to None n timer p = on_timer n (λ _. timer) p
+expire_to (Some t) n timer p = wake t timer.expiries (on_timer n (λ _. taken timer) p)
 
 abbrev pub expire_known : Option Timer → ℕ → ℕ → Parts → Parts
-expire_known None c n k = k
-expire_known (Some timer) c n k =
-    if is_due_timer c k.ticks timer then expire_to (first_waiter (For n) k) n (expired k.ticks timer) k else k
+expire_known None c n p = p
+expire_known (Some timer) c n p =
+    if is_due_timer c p.ticks timer then expire_to (first_waiter (For n) p) n (expired p.ticks timer) p else p
 
 -- timer n expires if it is c's and due
 unfoldable pub expire : ℕ → ℕ → Parts → Parts
-expire c n k = expire_known (slice_get k.timers n) c n k
+expire c n p = expire_known (slice_get p.timers n) c n p
 
 -- of the timers below a number those of c that are due have expired, by number
 unfoldable pub expire_below : ℕ → ℕ → Parts → Parts
-expire_below c zero k = k
-expire_below c (suc n) k = expire c n (expire_below c n k)
+expire_below c zero p = p
+expire_below c (suc n) p = expire c n (expire_below c n p)
 
 -- the timers of c that are due expire
 unfoldable pub expire_timers : ℕ → Parts → Parts
-expire_timers c k = expire_below c (length k.timers) k
+expire_timers c p = expire_below c (length p.timers) p

@@ -40,12 +40,12 @@ awaits wait tasks t = awaits_task wait (slice_get tasks t)
 
 -- of the tasks that wait for it the one of greatest rank, then of least stamp
 unfoldable pub first_waiter : Wait → Parts → Option ℕ
-first_waiter wait k = first (awaits wait k.tasks) (rank k.mutexes k.tasks) (stamp k.tasks) (length k.tasks)
+first_waiter wait p = first (awaits wait p.tasks) (rank p.mutexes p.tasks) (stamp p.tasks) (length p.tasks)
 
 -- ---- beginning to wait
 -- task t waits, until a deadline if that is not 0; it has a fresh stamp
 unfoldable pub begin_wait : ℕ → Wait → ℕ → Parts → Parts
-begin_wait t wait deadline k = restamp t (on_task t (λ task. record task { state = Waits wait; deadline = deadline }) k)
+begin_wait t wait deadline p = restamp t (on_task t (λ task. record task { state = Waits wait; deadline = deadline }) p)
 
 -- ---- waking
 -- the answer that a task keeps while it reacquires a mutex; 0 else
@@ -77,7 +77,7 @@ woken owns task = record task { state = woken_state (is_weak task.class && not o
 
 -- task t wakes, and its call is answered with this value; it has a fresh stamp
 unfoldable pub wake : ℕ → ℕ → Parts → Parts
-wake t value k = restamp t (on_task t (woken (owns_any t k.mutexes)) (on_hart t (set_register A0 value) k))
+wake t value p = restamp t (on_task t (woken (owns_any t p.mutexes)) (on_hart t (set_register A0 value) p))
 
 -- ---- a line wakes its waiters
 abbrev pub awaits_line : ℕ → ℕ → Option Task → Bool
@@ -86,9 +86,9 @@ awaits_line c l (Some task) = is_wait_for (Line l) task.state && task.cpu == c
 
 -- task t wakes if it waits on c for line l
 abbrev pub wake_waiter : ℕ → ℕ → ℕ → Parts → Parts
-wake_waiter c l t k = if awaits_line c l (slice_get k.tasks t) then wake t 0 k else k
+wake_waiter c l t p = if awaits_line c l (slice_get p.tasks t) then wake t 0 p else p
 
 -- of the tasks below a number those that wait on c for line l have woken, by number
 unfoldable pub wake_below : ℕ → ℕ → ℕ → Parts → Parts
-wake_below c l zero k = k
-wake_below c l (suc t) k = wake_waiter c l t (wake_below c l t k)
+wake_below c l zero p = p
+wake_below c l (suc t) p = wake_waiter c l t (wake_below c l t p)

@@ -43,7 +43,7 @@ pub const CAPACITY_LIMIT: u64 = 1_048_576;
 /// The least bytes that RAM may have; the most are `evm_ram::SIZE_LIMIT`.
 pub const RAM_LEAST: u64 = 65_536;
 
-/// RAM has a multiple of so many bytes.
+/// The size of RAM is a multiple of this, in bytes.
 pub const RAM_UNIT: u64 = 4_096;
 
 /// The ticks of a task of the round-robin class before it goes behind the others of its rank.

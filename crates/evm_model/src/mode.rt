@@ -2,7 +2,7 @@ ghost use Rattle.std.specs.Prelude.{⊤, [], ◌∷◌, codes};
 
 use bitflags::{Flag, Flags};
 
-/// What a task is told of its own mistakes (EVL, "Thread mode bits").
+/// Which of its own mistakes a task gets notices of (EVL, "Thread mode bits").
 #[derive(Clone, Copy, Debug, PartialEq, Eq)]
 pub struct Mode {
     /// The sum of the bits that are on.
@@ -10,10 +10,10 @@ pub struct Mode {
 }
 
 impl Mode {
-    /// It is told when it is demoted.
+    /// A notice when it is demoted.
     pub const T_WOSS: Mode = Mode { bits: 1 };
 
-    /// It is told when it locks or unlocks wrongly.
+    /// A notice when it locks or unlocks wrongly.
     pub const T_WOLI: Mode = Mode { bits: 2 };
 
     const FLAGS: &'static [Flag<Mode>] = &[

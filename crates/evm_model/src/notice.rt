@@ -1,4 +1,4 @@
-/// What a task asked to be told of by its mode bits (EVL, "Health monitoring").
+/// A notice: what a task asked for by its mode bits (EVL, "Health monitoring").
 #[derive(Clone, Copy, Debug, PartialEq, Eq)]
 pub enum NoticeKind {
     /// A call of the other stage demoted the task.

@@ -1,4 +1,4 @@
-//! What a task is told of its own mistakes.
+//! Notices of a task's own mistakes.
 
 ghost use Rattle.std.specs.Prelude.{◌≡◌, ◌≤◌};
 ghost use Rattle.evm_model.specs.Bounds.{COUNT_LIMIT};

@@ -57,7 +57,7 @@ impl Parts {
         self.tasks.set_mode(t, bits);
     }
 
-    // A task has so many ticks left.
+    // A task has this many ticks left.
     #[tactic(auto, unfolding(evm_model::specs::Tasks::set_slice))]
     fn set_slice(&mut self, t: u8, slice: u8)
         ensures row { self.new ≡ set_slice t slice self.old }

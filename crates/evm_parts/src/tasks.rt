@@ -70,7 +70,7 @@ impl Parts {
         self.set_state(t, state);
     }
 
-    /// One task more: unattached, ready in-band, its registers 0 but for a0.
+    /// One task more: unattached, ready in-band, its registers 0 except a0.
     #[tactic(auto, unfolding(evm_model::specs::InBandCalls::add_task))]
     pub fn add_task(&mut self, entry: u64, value: u64, cpu: u8)
         requires room { HasStamps 1 self.old }

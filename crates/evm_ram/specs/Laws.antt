@@ -158,7 +158,7 @@ pub bytes_at-elsewhere : (ram : List ℕ) (address : ℕ) (bytes after : List �
 bytes_at-elsewhere ram address bytes after other count h away =
     elsewhere-cases ram address bytes after other count (is_inside ram other count) refl h away
 
--- ---- the same of numbers
+-- ---- numbers
 pub length-low_bytes : (count number : ℕ) → length (low_bytes count number) ≡ count
 length-low_bytes zero number = refl
 length-low_bytes (suc count) number = ap suc (length-low_bytes count (number / 256))

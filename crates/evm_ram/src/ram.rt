@@ -54,7 +54,7 @@ impl Ram {
         self.bytes.len() as u64
     }
 
-    /// Where `count` bytes from `address` on begin in the list; None exactly where one of them is outside.
+    /// Where `count` bytes from `address` on begin in the list; None if and only if one of them is outside.
     #[inline(always)]
     fn place(&self, address: u64, count: u64) -> Option<usize>
         requires { 0 < count }
@@ -71,7 +71,7 @@ impl Ram {
         }
     }
 
-    /// The `count` bytes from `address` on; None exactly where one of them is outside. No bytes are found
+    /// The `count` bytes from `address` on; None if and only if one of them is outside. No bytes are found
     /// at every address.
     #[inline(always)]
     pub fn bytes(&self, address: u64, count: u64) -> Option<&[u8]>
@@ -85,7 +85,7 @@ impl Ram {
         Some(&self.bytes[start..start + count as usize])
     }
 
-    /// The number that is stored at `address`, its lowest byte first; None exactly where one of its bytes is
+    /// The number that is stored at `address`, its lowest byte first; None if and only if one of its bytes is
     /// outside. The address need not be a multiple of the width.
     #[inline(always)]
     pub fn read(&self, address: u64, width: Width) -> Option<u64>
@@ -96,7 +96,7 @@ impl Ram {
         Some(number(bytes, width))
     }
 
-    /// Puts `bytes` from `address` on; None, and nothing is changed, exactly where one of them would be
+    /// Puts `bytes` from `address` on; None, and nothing is changed, if and only if one of them would be
     /// outside. No bytes can be put at every address.
     #[inline(always)]
     pub fn poke(&mut self, address: u64, bytes: &[u8]) -> Option<()>

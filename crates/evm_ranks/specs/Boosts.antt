@@ -15,7 +15,7 @@ greatest boosts rank t first zero = first
 greatest boosts rank t first (suc u) =
     let so_far = greatest boosts rank t first u in if is_number (boosts u) t then greater so_far (rank u) else so_far
 
--- the ranks after so many rounds: the first are their own, and in each round a task takes up those of its boosters
+-- the ranks after n rounds: the first are their own, and in each round a task takes up those of its boosters
 unfoldable pub rank_after : (ℕ → Option ℕ) → (ℕ → ℕ) → ℕ → ℕ → ℕ → ℕ
 rank_after boosts own count zero t = own t
 rank_after boosts own count (suc rounds) t = greatest boosts (rank_after boosts own count rounds) t (own t) count
@@ -24,7 +24,7 @@ rank_after boosts own count (suc rounds) t = greatest boosts (rank_after boosts 
 abbrev pub IsSettledRank : (ℕ → Option ℕ) → (ℕ → ℕ) → ℕ → (ℕ → ℕ) → Type 0
 IsSettledRank boosts own count rank = (t : ℕ) → t < count → rank t ≡ greatest boosts rank t (own t) count
 
--- where a walk of so many links leads
+-- where a walk of n links leads
 abbrev pub walk_on : (ℕ → Option ℕ) → Option ℕ → Option ℕ
 walk_on boosts None = None
 walk_on boosts (Some t) = boosts t
@@ -33,7 +33,7 @@ unfoldable pub walk : (ℕ → Option ℕ) → ℕ → ℕ → Option ℕ
 walk boosts zero t = Some t
 walk boosts (suc links) t = walk_on boosts (walk boosts links t)
 
--- no walk has so many links: so none returns to its start
+-- no walk has n links: so none returns to its start
 abbrev pub Ends : (ℕ → Option ℕ) → ℕ → Type 0
 Ends boosts links = (t : ℕ) → walk boosts links t ≡ None
 
@@ -43,7 +43,7 @@ pub record HasHeight (boosts : ℕ → Option ℕ) (limit : ℕ) : Type 0 where
   pub low : (t : ℕ) → height t ≤ limit
   pub falls : (u t : ℕ) → boosts u ≡ Some t → height t < height u
 
--- whether t is met on the way from a task, within so many links
+-- whether t is met on the way from a task, within n links
 unfoldable pub reaches : (ℕ → Option ℕ) → ℕ → ℕ → Option ℕ → Bool
 reaches boosts t links None = false
 reaches boosts t zero (Some u) = u == t

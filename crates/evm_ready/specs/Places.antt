@@ -64,7 +64,7 @@ abbrev pub oob_count : List (Option Place) → ℕ
 oob_count [] = 0
 oob_count (place ∷ places) = oob_bit place + oob_count places
 
--- so many tasks are ready out-of-band, and there are no more tasks than may be
+-- count tasks are ready out-of-band, and there are no more tasks than may be
 pub record AreCounted (count : ℕ) (places : List (Option Place)) : Type 0 where
   pub oob : count ≡ oob_count places
   pub room : length places ≤ TASK_LIMIT

@@ -1,11 +1,11 @@
--- Ranks that are told: a list of them, by the numbers of the tasks. Of two tasks the one that goes first.
+-- A list of ranks, by the numbers of the tasks. Of two tasks the one that goes first.
 use Rattle.std.specs.Prelude.{ℕ, List, Option, Some, None, Bool, true, false, nat_lt, if◌then◌else◌, slice_get}
 
 abbrev pub told_of : Option ℕ → ℕ
 told_of None = 0
 told_of (Some rank) = rank
 
--- the rank of task t, as it is told
+-- the rank of task t in the list
 abbrev pub rank_told : List ℕ → ℕ → ℕ
 rank_told ranks t = told_of (slice_get ranks t)
 

@@ -3,7 +3,7 @@
 ghost use Rattle.std.specs.Prelude.{◌≡◌};
 ghost use Rattle.evm_ready.specs.Told.{rank_told, is_before};
 
-/// The rank that is told of a task, 0 where none is.
+/// The rank of a task in `ranks`, 0 if it has none there.
 pub fn rank_told(ranks: &[u16], t: u8) -> u16
     ensures { result ≡ rank_told ranks.now t }
 {

@@ -97,7 +97,7 @@ impl Ready {
         }
     }
 
-    // Of the one that leads so far and another, the one that goes first by the ranks told.
+    // Of the one that leads so far and another, the one that goes first by `ranks`.
     fn leader_of(&self, ranks: &[u16], leading: Option<u8>, t: u8) -> u8
         ensures { result ≡ leader (rank_told ranks.now) (λ u. stamp_of (entry self.now u)) leading t }
     {
@@ -123,7 +123,7 @@ impl Ready {
         }
     }
 
-    /// The number of the out-of-band task that processor c should run by the ranks told: of those that are ready there,
+    /// The number of the out-of-band task that processor c should run by `ranks`: of those that are ready there,
     /// the one of greatest rank, then of least stamp.
     #[tactic(auto, using(crate::proofs::Scans::scans))]
     pub fn best(&self, c: u8, ranks: &[u16]) -> Option<u8>

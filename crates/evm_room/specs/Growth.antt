@@ -1,7 +1,7 @@
 -- That memory was refused.
 use Rattle.std.specs.Prelude.{ℕ, ◌≤◌}
 
--- A growth by so many elements was refused: opaque, so that a proof has it of a call alone.
+-- A growth by n elements was refused: opaque, so that a proof has it of a call alone.
 pub WasRefused : ℕ → Type 0
 WasRefused asked = Unit {0}
 

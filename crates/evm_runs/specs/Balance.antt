@@ -106,7 +106,7 @@ unfoldable pub device_count : ℕ → ℕ → State → List Event → ℕ
 device_count c l s [] = 0
 device_count c l s (event ∷ events) = one_if (device_raised c l s event (apply s event)) + device_count c l (left_by (apply s event) s) events
 
--- each line but line 1 was raised by the events of the journal that name it, and by a device in so many events
+-- each line but line 1 was raised by the events of the journal that name it, and by a device in n events
 abbrev pub RaisesFrom : State → Type 0
 RaisesFrom s = (events : List Event) (c l : ℕ) (p : Pipe) (n : Counts) → slice_get (replay s events).board.parts.pipes c ≡ Some p → slice_get p.counts l ≡ Some n
     → (l ≡ 1 → ⊥) → n.raised ≡ count_by (is_raise c l) (replay s events).journal + device_count c l s events

@@ -143,7 +143,7 @@ pub data WokenBy (acts : Option ℕ) (makes : ℕ → Hart → Type 0) (c t : �
 abbrev pub IsReadyAfter : Wait → Class → TaskState → Type 0
 IsReadyAfter wait class state = (state ≡ ready_on (stage_of_wait wait) false) ⊎ ((state ≡ InReady) × (is_weak class ≡ true))
 
--- task t, of whatever processor, waited, and is ready now: its call is answered, its stamp is a later one, it has no deadline
+-- task t, of any processor, waited, and is ready now: its call is answered, its stamp is a later one, it has no deadline
 pub record Wakes (acts : Option ℕ) (makes : ℕ → Hart → Type 0) (c t : ℕ) (old new : Parts) : Type 0 where
   pub task : Task
   pub wait : Wait
@@ -158,7 +158,7 @@ pub record Wakes (acts : Option ℕ) (makes : ℕ → Hart → Type 0) (c t : �
   pub wakes : slice_get new.tasks t ≡ Some (record task { stamp = stamp; deadline = 0; state = state })
   pub hart : (hart : Hart) → slice_get old.harts t ≡ Some hart → slice_get new.harts t ≡ Some (set_register A0 answer hart)
 
--- task t, of whatever processor, waited for an event, and waits for the event's mutex now, which had an owner: it keeps the answer of its call, its stamp is a later one, it has no deadline
+-- task t, of any processor, waited for an event, and waits for the event's mutex now, which had an owner: it keeps the answer of its call, its stamp is a later one, it has no deadline
 pub record Requeues (makes : ℕ → Hart → Type 0) (c t : ℕ) (old new : Parts) : Type 0 where
   pub task : Task
   pub event : ℕ
@@ -248,7 +248,7 @@ pub record Hears (c : ℕ) (k : Parts) : Type 0 where
   pub there : slice_get k.pipes c ≡ Some pipe
   pub on : has_line pipe.wire line ≡ true
 
--- there is one task more, the last: unattached, ready in-band, its registers zero but for a0
+-- there is one task more, the last: unattached, ready in-band, its registers zero except a0
 pub record Adds (old new : Parts) : Type 0 where
   pub cpu : ℕ
   pub stamp : ℕ

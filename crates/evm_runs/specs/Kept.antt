@@ -22,7 +22,7 @@ AllHaveRegisters harts = (t : ℕ) (hart : Hart) → slice_get harts t ≡ Some 
 abbrev pub kinds : List Attached → List Kind
 kinds devices = map (λ (device : Attached). device.kind) devices
 
--- as many processors, pipes and bytes of RAM as before, devices of the same kinds, no fewer tasks, a hart for each, and no more of them than there may be; tasks keep their registers
+-- as many processors, pipes and bytes of RAM as before, devices of the same kinds, at least as many tasks, a hart for each, and no more of them than there may be; tasks keep their registers
 pub record SameSizes (old new : Board) : Type 0 where
   pub processors : length new.parts.processors ≡ length old.parts.processors
   pub pipes : length new.parts.pipes ≡ length old.parts.pipes

@@ -1,4 +1,4 @@
--- Of several refusals that apply the one of least number is told.
+-- Of several refusals that apply the one of least number is reported.
 use Rattle.std.specs.Prelude.{◌≡◌, ◌<◌, Some, None, Bool, true, false}
 use Rattle.evm_model.specs.Refusals.{number_of}
 use Rattle.evm_model.specs.declared.refusal.Refusal.{Refusal}
@@ -20,7 +20,7 @@ pub record IsLeast (event : Event) (s : State) (reason : Refusal) : Type 0 where
 pub record TellsLeast (event : Event) (s : State) : Type 0 where
   pub told : (reason : Refusal) → refusal event s ≡ Some reason → IsLeast event s reason
   pub tells : (reason : Refusal) → IsLeast event s reason → refusal event s ≡ Some reason
-  -- an event is accepted exactly where there is no reason
+  -- an event is accepted if and only if there is no reason
   pub accepted : refusal event s ≡ None → (reason : Refusal) → is_reason event s reason ≡ false
   pub accepts : ((reason : Refusal) → is_reason event s reason ≡ false) → refusal event s ≡ None
 

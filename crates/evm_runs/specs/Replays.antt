@@ -21,7 +21,7 @@ StartsAsReplay = (devices : List Attached) (boot : Boot) → IsReplayOf (start d
 abbrev pub StaysReplay : Type 0
 StaysReplay = (first : State) (events : List Event) → first.journal ≡ [] → IsReplayOf first (replay first events)
 
--- there are so many bytes, and each is that of its address
+-- there are n bytes, and each is that of its address
 abbrev pub LoadsSoManyBytes : Type 0
 LoadsSoManyBytes = (byte : ℕ → ℕ) (address n : ℕ) → length (bytes_from byte address n) ≡ n
 

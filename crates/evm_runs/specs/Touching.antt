@@ -55,7 +55,7 @@ pub record StoreWrites (c : ℕ) (old new : Board) : Type 0 where
   pub rest : new.memory ≡ record old.memory { ram = new.memory.ram }
   pub ram : write_at old.memory.ram address width value ≡ Some new.memory.ram
 
--- an access of 8 bytes at an address: a load, of whatever register, or a store
+-- an access of 8 bytes at an address: a load of any register, or a store
 pub data Accesses (address : ℕ) : Effect → Op → ℕ → Type 0 where
   loads : (op : LoadOp) (rd : ℕ) → width_of_load op ≡ Double → Accesses address (Load op rd address) Fetch 0
   stores : (value : ℕ) → Accesses address (Store Double address value) Put value

@@ -111,7 +111,7 @@ pub fn finds_first()
     ensures { AlwaysFindsFirst }
 {}
 
-/// An event is refused exactly where there is a reason for it, and of several the one of least number is reported:
+/// An event is refused if and only if there is a reason for it, and of several the one of least number is reported:
 /// that the journal is full goes before all others.
 pub fn tells_least()
     ensures { AlwaysTellsLeast }
@@ -132,7 +132,7 @@ pub fn stays_replay()
     ensures { StaysReplay }
 {}
 
-/// What a load puts into RAM: so many bytes, each the one of its address.
+/// What a load puts into RAM: as many bytes as before, each the one of its address.
 pub fn loads_each_byte()
     ensures count { LoadsSoManyBytes }
     ensures each { LoadsEachByte }

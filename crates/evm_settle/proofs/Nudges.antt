@@ -28,21 +28,21 @@ unfolding changed_below
 changed_below-more f n xs = rw add-one refl
 
 -- one that isn't reached is as it was
-above : {X : Type 0} (f : ℕ → X → X) (n i : ℕ) (xs : List X) → n ≤ i → slice_get (changed_below f n xs) i ≡ slice_get xs i
+pub changed_below-unreached : {X : Type 0} (f : ℕ → X → X) (n i : ℕ) (xs : List X) → n ≤ i → slice_get (changed_below f n xs) i ≡ slice_get xs i
 unfolding changed_below
-above f zero i xs h = refl
-above f (suc n) i xs h =
-    change-elsewhere (f n) (changed_below f n xs) n i (λ same. omega arith) ∙ above f n i xs (omega arith)
+changed_below-unreached f zero i xs h = refl
+changed_below-unreached f (suc n) i xs h =
+    change-elsewhere (f n) (changed_below f n xs) n i (λ same. omega arith) ∙ changed_below-unreached f n i xs (omega arith)
 
--- one that is has changed
-below : {X : Type 0} (f : ℕ → X → X) (n i : ℕ) (xs : List X) → i < n → slice_get (changed_below f n xs) i ≡ option_map (f i) (slice_get xs i)
+-- one that is reached has changed
+pub changed_below-reached : {X : Type 0} (f : ℕ → X → X) (n i : ℕ) (xs : List X) → i < n → slice_get (changed_below f n xs) i ≡ option_map (f i) (slice_get xs i)
 unfolding changed_below
-below {X = X} f zero i xs h = absurd (omega arith)
-below {X = X} f (suc n) i xs h = elim (eq-or-lt_of_le {n = i} {m = n} (omega arith)) [
+changed_below-reached {X = X} f zero i xs h = absurd (omega arith)
+changed_below-reached {X = X} f (suc n) i xs h = elim (eq-or-lt_of_le {n = i} {m = n} (omega arith)) [
   | inl at ↦
       let step : slice_get (change (f n) (changed_below f n xs) n) n ≡ option_map (f n) (slice_get (changed_below f n xs) n) = change-here (f n) (changed_below f n xs) n in
-      rw at (step ∙ ap (option_map (f n)) (above f n n xs (omega arith)))
-  | inr less ↦ change-elsewhere (f n) (changed_below f n xs) n i (λ same. omega arith) ∙ below f n i xs less
+      rw at (step ∙ ap (option_map (f n)) (changed_below-unreached f n n xs (omega arith)))
+  | inr less ↦ change-elsewhere (f n) (changed_below f n xs) n i (λ same. omega arith) ∙ changed_below-reached f n i xs less
 ]
 
 -- all are changed
@@ -50,8 +50,8 @@ pub all-at : {X : Type 0} (f : ℕ → X → X) (n i : ℕ) (xs : List X) (b : B
 all-at f n i xs true e h =
     let past : n ≤ i = leb-true n i e in
     let none : slice_get xs i ≡ None = slice_get_past xs i (omega arith) in
-    above f n i xs past ∙ none ∙ ap (option_map (f i)) (sym none)
-all-at f n i xs false e h = below f n i xs (leb-false n i e)
+    changed_below-unreached f n i xs past ∙ none ∙ ap (option_map (f i)) (sym none)
+all-at f n i xs false e h = changed_below-reached f n i xs (leb-false n i e)
 
 pub changed_below-all : {X : Type 0} (f : ℕ → X → X) (n : ℕ) (xs : List X) → length xs ≤ n → changed_below f n xs ≡ each f xs
 changed_below-all f n xs h =

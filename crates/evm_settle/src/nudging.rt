@@ -18,7 +18,7 @@ fn is_other(best: Option<u8>, current: Option<u8>) -> bool
     }
 }
 
-// Whether a processor has a better task than its current one, and can be told so.
+// Whether a processor has a better task than its current one, and can be nudged.
 pub(crate) fn wants_nudge(parts: &Parts, d: u8, pipe: &Pipe, ranks: &[u16]) -> bool
     requires { AreRanks ranks.now parts.now.mutexes parts.now.tasks }
     ensures { result ≡ wants_nudge d pipe.now parts.now }

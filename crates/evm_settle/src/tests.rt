@@ -1,4 +1,4 @@
-//! Who is told that a better task is ready for it, against rows worked by hand: line 1 is raised on each other
+//! Which processors are nudged for a better task, against rows worked by hand: line 1 is raised on each other
 //! processor that has a better out-of-band task than its current one, is not stalled out-of-band, and does not
 //! have the line on its wire already.
 
@@ -20,7 +20,7 @@ use std::test::Fail;
 
 mod rescheduling;
 
-// Processor 1, for which task 0 is ready, and whether it is to be told.
+// Processor 1, for which task 0 is ready, and whether it is to be nudged.
 #[derive(Drop)]
 struct Row {
     name: &'static str,
@@ -34,7 +34,7 @@ struct Row {
     told: bool,
 }
 
-// The lines that the rows have on wires: that of the timer, that of a processor to be told, and one of a device.
+// The lines that the rows have on wires: that of the timer, that of a processor to be nudged, and one of a device.
 #[derive(Clone, Copy)]
 enum Line {
     None,
@@ -231,7 +231,7 @@ fn raises(parts: &Parts, c: u8) -> Option<(u64, u64)> {
     Some((counts.raised, counts.merged))
 }
 
-// Another processor is told exactly where the row says so, by line 1 and once, and no other processor is.
+// Another processor is nudged if and only if the row says so, by line 1 and once, and no other processor is.
 #[test]
 #[tactic(auto, using(crate::proofs::Idle::idle))]
 fn others_are_told(rt: HostRuntime) -> Result<(), Fail> {
@@ -252,7 +252,7 @@ fn others_are_told(rt: HostRuntime) -> Result<(), Fail> {
     Ok(())
 }
 
-// The processor that acts is never told: it has settled.
+// The processor that acts is never nudged: it has settled.
 #[test]
 #[tactic(auto, using(crate::proofs::Idle::idle))]
 fn the_acting_processor_is_not_told(rt: HostRuntime) -> Result<(), Fail> {
@@ -273,7 +273,7 @@ fn the_acting_processor_is_not_told(rt: HostRuntime) -> Result<(), Fail> {
     Ok(())
 }
 
-// Nobody is told of a task that isn't ready out-of-band, or that belongs to the acting processor or to none.
+// Nobody is nudged for a task that isn't ready out-of-band, or that belongs to the acting processor or to none.
 #[test]
 #[tactic(auto, using(crate::proofs::Idle::idle))]
 fn nobody_is_told_of_other_tasks(rt: HostRuntime) -> Result<(), Fail> {
@@ -294,7 +294,7 @@ fn nobody_is_told_of_other_tasks(rt: HostRuntime) -> Result<(), Fail> {
     Ok(())
 }
 
-// A processor that there is not is told nothing, and one for which nothing is ready neither.
+// A processor that there is not is not nudged, and one for which nothing is ready neither.
 #[test]
 #[tactic(auto, using(crate::proofs::Idle::idle))]
 fn one_processor_is_told(rt: HostRuntime) -> Result<(), Fail> {
@@ -335,7 +335,7 @@ fn settling_tells(rt: HostRuntime) -> Result<(), Fail> {
 }
 
 // Where no task is ready out-of-band a processor runs its in-band task, if one is ready, whatever it ran before, and
-// nobody is told.
+// nobody is nudged.
 #[test]
 #[tactic(auto, using(crate::proofs::Idle::idle))]
 fn settling_in_band(rt: HostRuntime) -> Result<(), Fail> {

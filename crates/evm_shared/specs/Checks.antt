@@ -48,6 +48,6 @@ IsFirstBreak s others p index = ReceiptsHold s others p index × (ReceiptBreaks 
 abbrev pub IsFirstMismatch : State → List PortValue → Mismatch → Type 0
 IsFirstMismatch s ports m = (m.port < length ports) × PortsHold s ports m.port × ((d : PortValue) → IsFirstBreak s (take m.port ports) (slice_index_or ports m.port d) m.index)
 
--- what is lent
+-- the ports behind their references
 abbrev pub lent : List (Bor PortValue) → List PortValue
 lent ports = map (λ p. p.now) ports

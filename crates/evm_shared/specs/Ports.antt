@@ -64,7 +64,7 @@ no_machine = start [] (record { cpus = 0; ram = 0; capacity = 0 })
 abbrev pub bad_ports : ℕ → Bool
 bad_ports n = if n == 0 then true else nat_lt PORT_LIMIT n
 
--- why a machine is not shared by so many ports, with room for so many receipts each
+-- why a machine is not shared by n ports, with room for m receipts each
 abbrev pub RefusesPorts : ℕ → ℕ → Refusal → Type 0
 RefusesPorts ports receipts BadSize = bad_ports ports ≡ true
 RefusesPorts ports receipts NoMemory = (bad_ports ports ≡ false) × RefusedWithin (ports + receipts)

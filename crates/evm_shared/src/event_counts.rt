@@ -24,7 +24,7 @@ impl EventCounts {
         }
     }
 
-    /// So many Steps.
+    /// `count` Steps.
     pub fn steps(count: u32) -> EventCounts
         ensures { result ≡ counts count 0 0 }
     {
@@ -34,7 +34,7 @@ impl EventCounts {
         }
     }
 
-    /// So many Bells.
+    /// `count` Bells.
     pub fn bells(count: u32) -> EventCounts
         ensures { result ≡ counts 0 count 0 }
     {

@@ -8,7 +8,7 @@ use evm_model::Event;
 /// What a call made.
 #[derive(Clone, Debug, PartialEq, Eq, Drop)]
 pub enum Made {
-    /// A commit: so many Steps of a processor.
+    /// A commit: its Steps of a processor.
     Steps(u8, u32),
     /// A deliver: a Bell of a processor for each line whose bit is set, in rising order.
     Bells(u8, u32),

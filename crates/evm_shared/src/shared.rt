@@ -62,7 +62,7 @@ pub struct Unfinished<D: Device, O: Origin, S: Ledger, B: Ledger, T: Ledger> {
     pub ports: Vec<Port<S, B, T>>,
 }
 
-// New ports, each with one part of the ledgers and room for so many receipts.
+// New ports, each with one part of the ledgers and room for `receipts` receipts.
 fn new_ports<S: Ledger, B: Ledger, T: Ledger>(
     alloc: Global,
     mut all: Shares<S, B, T>,

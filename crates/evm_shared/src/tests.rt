@@ -30,7 +30,7 @@ fn machine(alloc: Global, cpus: u8, capacity: u32) -> Option<Machine<Pins>>
     }
 }
 
-// Ledgers of so many parts.
+// Ledgers of `parts` parts.
 fn blanks(parts: u64) -> Blanks
     ensures { (result.steps.parts ≡ parts) × (result.bells.parts ≡ parts) × (result.others.parts ≡ parts) }
 {

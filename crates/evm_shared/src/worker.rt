@@ -158,7 +158,7 @@ impl<
     B: Ledger + Send + Sync,
     T: Ledger + Send + Sync,
 > Shared<D, O, S, B, T> {
-    /// Has each worker make so many turns, in a thread of its own: it delivers, then commits, and calls the gate before
+    /// Has each worker make `turns` turns, in a thread of its own: it delivers, then commits, and calls the gate before
     /// and after. A worker that is refused makes no further turn. A worker for which no thread can be made makes its
     /// turns on the caller's.
     ///

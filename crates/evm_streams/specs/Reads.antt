@@ -61,7 +61,7 @@ module _ {R : Type 0} (gives : R → Reading → List ℕ → R → Type 0) wher
   Reads s t (Ok bytes) = Whole s bytes t × (length bytes ≤ FILE_LIMIT)
   Reads s t (Err stop) = Stops s t stop
 
-  -- the same of a text
+  -- so for a text
   abbrev pub ReadsText : R → R → Result (List ℕ) ReadStop → Type 0
   ReadsText s t (Ok bytes) = Whole s bytes t × (length bytes ≤ FILE_LIMIT) × IsUtf8 bytes
   ReadsText s t (Err (Fault faults.NotUtf8)) = NoText s t

@@ -1,4 +1,4 @@
-//! Readers and writers of std as sources and sinks. That a call of `read` or `write` did what it answered is trusted
+//! Readers and writers of std as sources and sinks. The answer of a call of `read` or `write` is trusted
 //! here, and nowhere else.
 
 use crate::cause::cause_of;

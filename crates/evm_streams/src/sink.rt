@@ -7,7 +7,7 @@ use crate::cause::Cause;
 /// What one call of a sink answers.
 #[derive(Clone, Copy, Debug)]
 pub enum Writing {
-    /// So many bytes were taken, from the start of what was offered.
+    /// This many bytes were taken, from the start of those offered.
     Bytes(usize),
     /// The call failed.
     Failed(Cause),

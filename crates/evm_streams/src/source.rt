@@ -7,7 +7,7 @@ use crate::cause::Cause;
 /// What one call of a source answers.
 #[derive(Clone, Copy, Debug)]
 pub enum Reading {
-    /// So many bytes were given, at the start of the part. None, where the part has room, says that no more come.
+    /// This many bytes were given, at the start of the part. 0, if the part has room, means the end.
     Bytes(usize),
     /// The call failed.
     Failed(Cause),

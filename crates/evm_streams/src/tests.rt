@@ -4,7 +4,7 @@ use super::{Cause, ReadFault, ReadStop, WriteFault, read_all, read_utf8, write_a
 use std::io::{self, Error, ErrorKind, Read, Write};
 use std::test::Fail;
 
-/// Gives three bytes at a call, and after so many calls is interrupted once.
+/// Gives three bytes at a call, and after `calls` calls is interrupted once.
 #[derive(Drop)]
 struct Reader<'a> {
     rest: &'a [u8],
@@ -27,7 +27,7 @@ impl Read for Reader<'_> {
     }
 }
 
-/// Takes three bytes at a call, and after so many calls is interrupted.
+/// Takes three bytes at a call, and after `calls` calls is interrupted.
 #[derive(Drop)]
 struct Writer {
     taken: Vec<u8>,

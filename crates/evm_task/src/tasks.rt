@@ -149,7 +149,7 @@ impl Tasks {
         }
     }
 
-    /// A task has so many ticks left.
+    /// A task has this many ticks left.
     pub fn set_slice(&mut self, t: u8, slice: u8)
         ensures { self.new ≡ change (λ task. record task { slice = slice }) self.old t }
     {
@@ -286,7 +286,7 @@ impl Tasks {
         self.tasks.as_slice()
     }
 
-    /// The number of the out-of-band task that a processor should run, by the ranks told.
+    /// The number of the out-of-band task that a processor should run, by `ranks`.
     pub fn best(&self, c: u8, ranks: &[u16]) -> Option<u8>
         ensures { result ≡ first (runs_oob c self.now) (rank_told ranks.now) (stamp self.now) (length self.now) }
     {
@@ -300,7 +300,7 @@ impl Tasks {
         self.ready.next_in_band(c)
     }
 
-    /// The number of the first task that waits for this, by the ranks told.
+    /// The number of the first task that waits for this, by `ranks`.
     pub fn first_waiter(&self, wait: Wait, ranks: &[u16]) -> Option<u8>
         ensures { result ≡ first (awaits wait self.now) (rank_told ranks.now) (stamp self.now) (length self.now) }
     {

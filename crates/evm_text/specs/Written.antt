@@ -6,7 +6,7 @@ abbrev pub character : ℕ → ℕ
 character d = if nat_lt d 10 then 48 + d else 87 + d
 
 -- A number in a base, by division: below the base it is one digit, from there on the digits of the quotient and
--- then that of the remainder. At most so many divisions are made, which is enough for one digit more.
+-- then that of the remainder. At most n divisions are made, which is enough for n + 1 digits.
 unfoldable pub numeral : ℕ → ℕ → ℕ → List ℕ
 numeral base zero n = character n ∷ []
 numeral base (suc divisions) n = if nat_lt n base then character n ∷ [] else numeral base divisions (n / base) ++ character (n % base) ∷ []
@@ -19,7 +19,7 @@ decimal n = numeral 10 19 n
 abbrev pub hexadecimal : ℕ → List ℕ
 hexadecimal n = numeral 16 15 n
 
--- the last hexadecimal digits of a number, so many of them, with zeros in front where it is shorter
+-- the last n hexadecimal digits of a number, with zeros in front where it is shorter
 unfoldable pub hexadecimal_padded : ℕ → ℕ → List ℕ
 hexadecimal_padded zero n = []
 hexadecimal_padded (suc count) n = hexadecimal_padded count (n / 16) ++ character (n % 16) ∷ []

@@ -99,7 +99,7 @@ pub fn push_hexadecimal(out: &mut String, n: u64) -> Result<(), Refused>
     push_text(out, text.as_str())
 }
 
-/// Appends the last hexadecimal digits of a number, so many of them (at most 16), with zeros in
+/// Appends the last `count` hexadecimal digits of a number (at most 16), with zeros in
 /// front where the number is shorter.
 pub fn push_hexadecimal_padded(out: &mut String, count: u8, n: u64) -> Result<(), Refused>
     requires { count ≤ 16 }

@@ -8,8 +8,10 @@ use evm_streams::WriteFault;
 /// How a run by threads ended.
 #[derive(Clone, Copy, Debug, PartialEq, Eq)]
 pub enum RunEnding {
-    /// The text of the journal was written.
+    /// All turns were made, and the text of the journal was written.
     Written,
+    /// Not all turns were made, since the journal had no room for more; the text of the journal was written.
+    Incomplete,
     /// Memory of a segment of the image lies past RAM: the line `refused 2 6` was written.
     ImageRefused,
     /// Memory was refused: the line `memory` was written.
@@ -19,13 +21,13 @@ pub enum RunEnding {
 }
 
 impl RunEnding {
-    /// The exit status: 0 where the journal was written, 1 where the image or memory was refused, 4 after a failed write.
+    /// The exit status: 0 where the journal of all turns was written, 1 where a turn, the image or memory was refused, 4 after a failed write.
     pub fn status(&self) -> u8
         ensures { result ≡ status_of self.now }
     {
         match self {
             RunEnding::Written => 0,
-            RunEnding::ImageRefused | RunEnding::NoMemory => 1,
+            RunEnding::Incomplete | RunEnding::ImageRefused | RunEnding::NoMemory => 1,
             RunEnding::WriteFailed(_) => 4,
         }
     }
@@ -35,6 +37,7 @@ impl RunEnding {
 #[derive(Debug, Drop)]
 pub(crate) enum Outcome {
     Journal(String),
+    Incomplete(String),
     ImageRefused,
     NoMemory,
 }
@@ -45,6 +48,7 @@ impl Outcome {
     {
         match self {
             Outcome::Journal(_) => RunEnding::Written,
+            Outcome::Incomplete(_) => RunEnding::Incomplete,
             Outcome::ImageRefused => RunEnding::ImageRefused,
             Outcome::NoMemory => RunEnding::NoMemory,
         }
@@ -54,7 +58,7 @@ impl Outcome {
         ensures { result.now ≡ text_of self.now }
     {
         match self {
-            Outcome::Journal(text) => text.as_str(),
+            Outcome::Journal(text) | Outcome::Incomplete(text) => text.as_str(),
             // line 2 is the boot line of the journal that would be written
             Outcome::ImageRefused => "refused 2 6\n",
             Outcome::NoMemory => "memory\n",

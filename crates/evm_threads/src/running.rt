@@ -33,7 +33,7 @@ fn run<D: Device, R: Threads + Wait + Sync>(
     blanks: Blanks,
 ) -> Outcome
     requires { (blanks.steps.parts ≡ 2) × (blanks.bells.parts ≡ 2) × (blanks.others.parts ≡ 2) }
-    ensures { IsOutcome (loaded devices image.now) result }
+    ensures { IsOutcome turns (loaded devices image.now) result }
 {
     let Ok(mut machine) = Machine::from_boot(alloc, RUN_BOOT, devices) else {
         return Outcome::NoMemory;
@@ -46,7 +46,8 @@ fn run<D: Device, R: Threads + Wait + Sync>(
 
 /// Boots 2 processors with 1,048,576 bytes of RAM and room for 1,048,576 events, loads an image, rings line 8 of both
 /// processors, and runs a worker for each, in a thread of its own, for a number of turns. Then writes the text of the
-/// journal; or `refused 2 6` where the image is not loaded, or `memory` where memory was refused.
+/// journal; or `refused 2 6` where the image is not loaded, or `memory` where memory was refused. The ending says whether
+/// all turns were made: then the journal has a Step at least of each turn of each worker, and a Bell of each line rung.
 pub fn threads_to<W: Sink, D: Device, R: Threads + Wait + Sync>(
     rt: &R,
     alloc: Global,
@@ -57,7 +58,7 @@ pub fn threads_to<W: Sink, D: Device, R: Threads + Wait + Sync>(
     out: &mut W,
 ) -> RunEnding
     requires { (blanks.steps.parts ≡ 2) × (blanks.bells.parts ≡ 2) × (blanks.others.parts ≡ 2) }
-    ensures { Ends W.takes (loaded devices image.now) out.old out.new result }
+    ensures { Ends W.takes turns (loaded devices image.now) out.old out.new result }
 {
     let outcome = run(rt, alloc, image, turns, devices, blanks);
     write(&outcome, out)

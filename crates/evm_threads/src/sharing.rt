@@ -1,18 +1,18 @@
 //! Two workers on a machine that they share, and its journal when they are done.
 
-ghost use Rattle.std.specs.Prelude.{◌≡◌, Ok, All, IfSome, length};
+ghost use Rattle.std.specs.Prelude.{◌≡◌, true, Ok, All, IfSome, length};
 ghost use Rattle.evm_bells.specs.Seats.{TakerValue};
 ghost use Rattle.evm_model.specs.Replay.{IsReplayOf};
 ghost use Rattle.evm_shared.specs.EventCounts.{counts_of};
 ghost use Rattle.evm_shared.specs.Workers.{WorkerValue};
-ghost use Rattle.evm_threads.specs.Runs.{IsOutcome};
+ghost use Rattle.evm_threads.specs.Runs.{HaveMade, IsOutcome, bells_after};
 
 use crate::outcome::Outcome;
 use evm_bells::{Bells, Taker};
 use evm_dev::Device;
 use evm_journal::{Machine, write_journal};
 use evm_room::with_room;
-use evm_shared::{Blanks, Gate, Origin, Port, Shared, Worker};
+use evm_shared::{Blanks, EventCounts, Gate, Origin, Port, Shared, Worker};
 use std::alloc::Global;
 use std::sync::Wait;
 use std::sync::ledger::Ledger;
@@ -97,7 +97,24 @@ fn work<
     ports_of(alloc, workers)
 }
 
-/// Runs two workers on a machine, for a number of turns each: its journal's text.
+// How many Bells the workers deliver in so many turns: the line that was rung at each, in the first.
+fn bells_after(turns: u32) -> u64
+    ensures { result ≡ bells_after turns }
+{
+    if turns == 0 { 0 } else { 2 }
+}
+
+// Whether the workers have made all their turns.
+fn have_made(turns: u32, made: &EventCounts) -> bool
+    ensures { result ≡ true → HaveMade turns made.now }
+{
+    if made.steps < 2 * u64::from(turns) {
+        return false;
+    }
+    made.bells == bells_after(turns)
+}
+
+/// Runs two workers on a machine, for a number of turns each: its journal's text, and whether all turns were made.
 pub(crate) fn share<
     D: Device,
     O: Origin + Send + Sync,
@@ -106,12 +123,13 @@ pub(crate) fn share<
     T: Ledger + Send + Sync,
     R: Threads + Wait + Sync,
 >(rt: &R, alloc: Global, machine: Machine<D>, turns: u32, blanks: Blanks) -> Outcome
+    requires start { machine ≡ O.start }
     requires replays { IsReplayOf O.start machine }
     requires base { counts_of machine.journal ≡ O.base }
     requires steps { (blanks.steps.name ≡ S.name) × (blanks.steps.parts ≡ S.parts) × (S.parts ≡ 2) }
     requires bells { (blanks.bells.name ≡ B.name) × (blanks.bells.parts ≡ B.parts) × (B.parts ≡ 2) }
     requires others { (blanks.others.name ≡ T.name) × (blanks.others.parts ≡ T.parts) × (T.parts ≡ 2) }
-    ensures { IsOutcome (Ok O.start) result }
+    ensures { IsOutcome turns (Ok O.start) result }
 {
     let Ok((shared, ports)) = Shared::<D, O, S, B, T>::new(alloc, machine, WORKERS, 0, blanks)
     else {
@@ -123,8 +141,12 @@ pub(crate) fn share<
     let Ok(finished) = shared.finish(ports) else {
         unreachable!()
     };
-    match write_journal(alloc, &finished.machine) {
-        Ok(text) => Outcome::Journal(text),
-        Err(_) => Outcome::NoMemory,
+    let Ok(text) = write_journal(alloc, &finished.machine) else {
+        return Outcome::NoMemory;
+    };
+    if have_made(turns, &finished.totals) {
+        Outcome::Journal(text)
+    } else {
+        Outcome::Incomplete(text)
     }
 }

@@ -1,6 +1,6 @@
 //! What a run came to, written.
 
-ghost use Rattle.std.specs.Prelude.{Result};
+ghost use Rattle.std.specs.Prelude.{ℕ, Result};
 ghost use Rattle.evm_model.specs.State.{State};
 ghost use Rattle.evm_model.specs.declared.refusal.Refusal.{Refusal};
 ghost use Rattle.evm_threads.specs.Runs.{Ends, IsOutcome};
@@ -10,7 +10,7 @@ use evm_streams::{Sink, write_all};
 
 /// Writes what a run came to.
 pub(crate) fn write<W: Sink>(outcome: &Outcome, out: &mut W) -> RunEnding
-    ensures { (loaded : Result State Refusal) → IsOutcome loaded outcome.now → Ends W.takes loaded out.old out.new result }
+    ensures { (turns : ℕ) (loaded : Result State Refusal) → IsOutcome turns loaded outcome.now → Ends W.takes turns loaded out.old out.new result }
 {
     match write_all(out, outcome.text().as_bytes()) {
         Ok(()) => outcome.ending(),

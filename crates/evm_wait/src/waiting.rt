@@ -80,7 +80,7 @@ impl Waiting {
         }
     }
 
-    // Of the one that leads so far and another, the one that goes first by the ranks told.
+    // Of the one that leads so far and another, the one that goes first by `ranks`.
     fn leader_of(&self, ranks: &[u16], leading: Option<u8>, t: u8) -> u8
         ensures { result ≡ leader (rank_told ranks.now) (λ u. stamp_of (entry self.now u)) leading t }
     {
@@ -103,7 +103,7 @@ impl Waiting {
         waits_for(self.get(t), wait)
     }
 
-    /// The number of the task that goes first, by the ranks told, of those that wait for this: the one of greatest rank,
+    /// The number of the task that goes first, by `ranks`, of those that wait for this: the one of greatest rank,
     /// then of least stamp.
     #[tactic(auto, using(evm_ready::proofs::Scans::scans))]
     pub fn first(&self, wait: Wait, ranks: &[u16]) -> Option<u8>

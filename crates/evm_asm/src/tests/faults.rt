@@ -1,4 +1,4 @@
-//! Faulty sources, with the line and the number of the fault that is told.
+//! Faulty sources, with the line and the number of the fault that is reported.
 
 use crate::AsmFaultKind::{
     self, BadOperand, BadToken, LabelMissing, LabelTwice, RangeOfImmediate, TooLarge, UnknownName,

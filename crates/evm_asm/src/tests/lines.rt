@@ -71,7 +71,7 @@ pub const PAIRS: [(&str, AsmFaultKind); 34] = [
 
 /// Sources of more lines, with the line that is reported and its fault.
 pub const LINES: [(&str, u64, AsmFaultKind); 36] = [
-    // of two lines the lesser is told, whatever the numbers of their faults are
+    // the fault of the lesser line is reported, whatever the numbers of the faults
     ("j nowhere\n@", 1, LabelMissing),
     ("x: nop\nx:\n@", 2, LabelTwice),
     ("addi a0,a0,5000\nfoo", 1, RangeOfImmediate),
@@ -79,7 +79,7 @@ pub const LINES: [(&str, u64, AsmFaultKind); 36] = [
     // all lines are counted, empty ones and comments too
     ("\n# foo\n\r\n\t\nfoo", 5, UnknownName),
     ("foo # foo\n", 1, UnknownName),
-    // a fault of an instruction that passes the limit is told before the limit
+    // a fault of an instruction that passes the limit is reported before the limit
     (".space 8388608\nfoo", 2, UnknownName),
     (".space 8388608\nadd a0,a0,a9", 2, UnknownName),
     (".space 8388608\nadd a0", 2, BadOperand),

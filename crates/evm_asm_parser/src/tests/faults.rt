@@ -1,5 +1,5 @@
-//! Lines whose operands are faulty, with the fault that is told: the operands are compared with the form place
-//! by place as far as both go, then the least number is told.
+//! Lines whose operands are faulty, with the fault that is reported: the operands are compared with the form place
+//! by place as far as both go, then the least number is reported.
 
 use evm_asm_lexer::SourceFaultKind::{self, BadOperand, RangeOfImmediate, UnknownName};
 

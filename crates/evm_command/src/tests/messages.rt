@@ -122,9 +122,8 @@ fn check_errors<R: Abort + Threads + Wait + Sync>(
 }
 
 #[test]
-fn files_are_named(rt: HostRuntime) -> Result<(), Fail> {
+fn lines_of_sources_are_named(rt: HostRuntime) -> Result<(), Fail> {
     for (line, wanted) in [
-        ("evltool asm p.s p.elf", ""),
         (
             "evltool asm q.s p.elf",
             "q.s:3: unknown register \"a9\"\np.elf: it is empty now, since the source has a fault\n",
@@ -149,11 +148,6 @@ fn files_are_named(rt: HostRuntime) -> Result<(), Fail> {
             "evltool asm range.s p.elf",
             "range.s:1: the number must be -2048 to 2047\np.elf: it is empty now, since the source has a fault\n",
         ),
-        ("evltool asm bytes.s p.elf", "bytes.s: not UTF-8\n"),
-        (
-            "evltool asm both.s both.s",
-            "both.s: SRC and OUT are one file, so the source is lost\n",
-        ),
         (
             "evltool asm two.s p.elf",
             "two.s:1: a statement is a line of its own, and a comment begins with #; column 4: \"; nop\"\np.elf: it is empty now, since the source has a fault\n",
@@ -162,43 +156,6 @@ fn files_are_named(rt: HostRuntime) -> Result<(), Fail> {
             "evltool asm mark.s p.elf",
             "mark.s:1: byte ef, which begins a byte order mark, is no token; save the file without one; column 1: \"\\xef\\xbb\\xbfnop\"\np.elf: it is empty now, since the source has a fault\n",
         ),
-        (
-            "evltool asm none.s p.elf",
-            "none.s: can't be opened: no such file\n",
-        ),
-        (
-            "evltool asm p.s none/p.elf",
-            "none/p.elf: can't be created: no such folder\n",
-        ),
-        (
-            "evltool run secret",
-            "secret: can't be opened: permission denied\n",
-        ),
-        (
-            "evltool asm p.s secret",
-            "secret: can't be created: permission denied\n",
-        ),
-        (
-            "evltool asm folder p.elf",
-            "folder: can't be opened: it is a folder\n",
-        ),
-        (
-            "evltool asm p.s folder",
-            "folder: can't be created: it is a folder\n",
-        ),
-        ("evltool run ", "'': can't be opened: the name is empty\n"),
-        ("evltool run tape", "tape: can't be opened\n"),
-        ("evltool asm p.s tape", "tape: can't be created\n"),
-        ("evltool run p.s", "p.s: it is no ELF file\n"),
-        (
-            "evltool replay one image.elf",
-            "one: it is a journal, not an image; the order is `replay IMAGE JOURNAL`\n",
-        ),
-        (
-            "evltool replay p.elf journal",
-            "p.elf: can't be opened: no such file\n",
-        ),
-        ("evltool --version", ""),
     ] {
         check_errors(&rt, rt.alloc(), line, b"", wanted)?;
     }
@@ -206,9 +163,88 @@ fn files_are_named(rt: HostRuntime) -> Result<(), Fail> {
 }
 
 #[test]
-fn lines_of_scripts_are_named(rt: HostRuntime) -> Result<(), Fail> {
-    let scripts: [(&'static [u8], &str); 18] = [
-        (b"boot 1 65536 8\ntasks\n", ""),
+fn files_of_another_kind_are_named(rt: HostRuntime) -> Result<(), Fail> {
+    for (line, wanted) in [
+        ("evltool asm bytes.s p.elf", "bytes.s: not UTF-8\n"),
+        (
+            "evltool asm both.s both.s",
+            "both.s: SRC and OUT are one file, so the source is lost\n",
+        ),
+        ("evltool run p.s", "p.s: it is no ELF file\n"),
+        (
+            "evltool replay one image.elf",
+            "one: it is a journal, not an image; the order is `replay IMAGE JOURNAL`\n",
+        ),
+    ] {
+        check_errors(&rt, rt.alloc(), line, b"", wanted)?;
+    }
+    Ok(())
+}
+
+#[test]
+fn files_that_are_not_opened_are_named(rt: HostRuntime) -> Result<(), Fail> {
+    for (line, wanted) in [
+        (
+            "evltool asm none.s p.elf",
+            "none.s: can't be opened: no such file\n",
+        ),
+        (
+            "evltool run secret",
+            "secret: can't be opened: permission denied\n",
+        ),
+        (
+            "evltool asm folder p.elf",
+            "folder: can't be opened: it is a folder\n",
+        ),
+        ("evltool run ", "'': can't be opened: the name is empty\n"),
+        ("evltool run tape", "tape: can't be opened\n"),
+        (
+            "evltool replay p.elf journal",
+            "p.elf: can't be opened: no such file\n",
+        ),
+    ] {
+        check_errors(&rt, rt.alloc(), line, b"", wanted)?;
+    }
+    Ok(())
+}
+
+#[test]
+fn files_that_are_not_created_are_named(rt: HostRuntime) -> Result<(), Fail> {
+    for (line, wanted) in [
+        (
+            "evltool asm p.s none/p.elf",
+            "none/p.elf: can't be created: no such folder\n",
+        ),
+        (
+            "evltool asm p.s secret",
+            "secret: can't be created: permission denied\n",
+        ),
+        (
+            "evltool asm p.s folder",
+            "folder: can't be created: it is a folder\n",
+        ),
+        ("evltool asm p.s tape", "tape: can't be created\n"),
+    ] {
+        check_errors(&rt, rt.alloc(), line, b"", wanted)?;
+    }
+    Ok(())
+}
+
+#[test]
+fn a_job_that_ends_well_has_no_message(rt: HostRuntime) -> Result<(), Fail> {
+    for (line, wanted) in [("evltool asm p.s p.elf", ""), ("evltool --version", "")] {
+        check_errors(&rt, rt.alloc(), line, b"", wanted)?;
+    }
+    Ok(())
+}
+
+#[test]
+fn refusals_of_scripts_name_their_line(rt: HostRuntime) -> Result<(), Fail> {
+    let scripts: [(&'static [u8], &str); 5] = [
+        (
+            b"boot 9 65536 8\n",
+            "script:1: refused: P is 9: 1 to 8 processors (BadSize, 10)\n",
+        ),
         (
             b"boot 1 65536 8\nset 0 1 5\n",
             "script:2: refused: processor 0 is not stopped (NotStopped, 4)\n",
@@ -225,6 +261,16 @@ fn lines_of_scripts_are_named(rt: HostRuntime) -> Result<(), Fail> {
             b"boot 1 65536 8\nrank 9\n",
             "script:2: refused: no task has this number (NoTask, 5)\n",
         ),
+    ];
+    for (script, wanted) in scripts {
+        check_errors(&rt, rt.alloc(), "evltool run", script, wanted)?;
+    }
+    Ok(())
+}
+
+#[test]
+fn bad_lines_of_scripts_are_named(rt: HostRuntime) -> Result<(), Fail> {
+    let scripts: [(&'static [u8], &str); 6] = [
         (
             b"\n\n\n\n\n\n\n\n\n\n\ntock\n",
             "script:12: bad line: no such command; did you mean `tick`?: \"tock\"\n",
@@ -242,10 +288,6 @@ fn lines_of_scripts_are_named(rt: HostRuntime) -> Result<(), Fail> {
             "script:2: bad line: poke wants A HEX: an address, lower-case hexadecimal without 0x, and 1 to 64 bytes of two digits each: \"poke 80000000 1112131415161718192021222324252627282930313233\"\n",
         ),
         (
-            b"step 0 \x1b[2J1\n",
-            "script:1: bad line: byte 1b is not printable ASCII: \"step 0 \\x1b[2J1\"\n",
-        ),
-        (
             b"# no machine\ntick\n",
             "script:2: bad line: the first command must be `boot`: \"tick\"\n",
         ),
@@ -253,12 +295,20 @@ fn lines_of_scripts_are_named(rt: HostRuntime) -> Result<(), Fail> {
             b"boot 1 65536 8\nboot 2 65536 8\n",
             "script:2: bad line: only one boot line is allowed: \"boot 2 65536 8\"\n",
         ),
+    ];
+    for (script, wanted) in scripts {
+        check_errors(&rt, rt.alloc(), "evltool run", script, wanted)?;
+    }
+    Ok(())
+}
+
+#[test]
+fn bytes_of_scripts_are_named(rt: HostRuntime) -> Result<(), Fail> {
+    let scripts: [(&'static [u8], &str); 3] = [
         (
-            b"boot 1 65536 9\nstop 0\nstep 0 2\ngo 0\nstep 0 1\n",
-            "script:3: processor 0 is stopped at pc 80000000; these steps did nothing, and `go` lets it go on\nscript: task 0 ended at pc 80000000: fault 2, RAM holds 0 there, which is not an instruction\n",
+            b"step 0 \x1b[2J1\n",
+            "script:1: bad line: byte 1b is not printable ASCII: \"step 0 \\x1b[2J1\"\n",
         ),
-        (b"", "script: no boot line, so nothing is done\n"),
-        (b"# x\n\n", "script: no boot line, so nothing is done\n"),
         (
             b"boot 1 65536 64\r\n",
             "script:1: bad line: a carriage return; save the file with Unix line ends: \"boot 1 65536 64\\r\"\n",
@@ -267,10 +317,23 @@ fn lines_of_scripts_are_named(rt: HostRuntime) -> Result<(), Fail> {
             b"\xef\xbb\xbfboot\t1\x00\n",
             "script:1: bad line: byte ef, which begins a byte order mark; save the file without one: \"\\xef\\xbb\\xbfboot\\t1\\x00\"\n",
         ),
+    ];
+    for (script, wanted) in scripts {
+        check_errors(&rt, rt.alloc(), "evltool run", script, wanted)?;
+    }
+    Ok(())
+}
+
+#[test]
+fn ends_of_scripts_are_named(rt: HostRuntime) -> Result<(), Fail> {
+    let scripts: [(&'static [u8], &str); 4] = [
+        (b"boot 1 65536 8\ntasks\n", ""),
         (
-            b"boot 9 65536 8\n",
-            "script:1: refused: P is 9: 1 to 8 processors (BadSize, 10)\n",
+            b"boot 1 65536 9\nstop 0\nstep 0 2\ngo 0\nstep 0 1\n",
+            "script:3: processor 0 is stopped at pc 80000000; these steps did nothing, and `go` lets it go on\nscript: task 0 ended at pc 80000000: fault 2, RAM holds 0 there, which is not an instruction\n",
         ),
+        (b"", "script: no boot line, so nothing is done\n"),
+        (b"# x\n\n", "script: no boot line, so nothing is done\n"),
     ];
     for (script, wanted) in scripts {
         check_errors(&rt, rt.alloc(), "evltool run", script, wanted)?;

@@ -1,6 +1,6 @@
 use Rattle.std.proofs.Common.{ℕ, ◌∙◌, ◌-◌, ◌+◌, ◌≤◌, sym, ap, arith, rules, length}
 use Rattle.evm_asm.specs.Sources.{defined, Defined}
-use Rattle.evm_asm.proofs.Line_by_line.{label-within, defined-none, defined-some, defined-done}
+use Rattle.evm_asm.proofs.Line_by_line.{label-within, defined-none, defined-some, defined-done, behind_labels-none, behind_labels-some, behind_labels-done}
 use Rattle.evm_asm.proofs.layout.define.Goals as goal
 
 pub returns-in-None-clause-defined : goal.returns-in-None-clause-defined
@@ -28,8 +28,19 @@ loop-preserved c =
           ap (λ d. defined rest c.args.spot c.in-Some.tail.now d) c.in_ok-twice-in-Some.ensures.added
           ∙ sym (defined-some (length c.args.text.now) c.loop.counter c.args.spot c.loop.rest.now c.in-Some.name.now c.in-Some.tail.now so_far c.loop-test.true (sym c.in-Some.ensures))
           ∙ c.loop.invariant.defined_so_far;
+      behind_so_far =
+          sym (behind_labels-some (length c.args.text.now) c.loop.counter c.loop.rest.now c.in-Some.name.now c.in-Some.tail.now c.loop-test.true (sym c.in-Some.ensures))
+          ∙ c.loop.invariant.behind_so_far;
     }
 
 pub returns-clause-defined : goal.returns-clause-defined
 returns-clause-defined c =
     sym (defined-done (length c.args.text.now) c.loop.counter c.args.spot c.loop.rest.now (record { labels = c.loop.labels; twice = c.loop.twice }) c.loop-test.false) ∙ c.loop.invariant.defined_so_far
+
+pub returns-in-None-clause-behind : goal.returns-in-None-clause-behind
+returns-in-None-clause-behind c =
+    sym (behind_labels-none (length c.args.text.now - c.loop.counter) c.loop.rest.now (sym c.in-None.ensures)) ∙ c.loop.invariant.behind_so_far
+
+pub returns-clause-behind : goal.returns-clause-behind
+returns-clause-behind c =
+    sym (behind_labels-done (length c.args.text.now) c.loop.counter c.loop.rest.now c.loop-test.false) ∙ c.loop.invariant.behind_so_far

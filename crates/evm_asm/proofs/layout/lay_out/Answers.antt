@@ -24,7 +24,7 @@ loop-rest-init c = record {
 
 pub returns-in-Err-clause-refused : goal.returns-in-Err-clause-refused
 returns-in-Err-clause-refused c =
-    let code : c.code_of-code.result.now ≡ code_of (before newline c.loop-rest.rest.now) = c.code_of-code.ensures ∙ ap code_of c.before-in-loop-rest.ensures in
+    let code : c.code_of-code.result.now ≡ code_of (before newline c.loop-rest.rest.now) = c.code_of-code.ensures ∙ ap code_of c.cut.ensures.before in
     let asked : c.in-Err.refused ≤ length (code_of (before newline c.loop-rest.rest.now)) + 1 = rw code at c.in-Err.ensures.refused in
     let within = code-within c.loop-rest.rest.now in
     let counted = c.loop-rest.invariant.counted in
@@ -34,7 +34,7 @@ pub loop-rest-smaller : goal.loop-rest-smaller
 loop-rest-smaller c =
     let some : 0 < length c.loop-rest.rest.now = search rules in
     let less = after-less newline c.loop-rest.rest.now some in
-    omega (arith, ap (λ (l : List ℕ). length l) c.after-rest.ensures)
+    omega (arith, ap (λ (l : List ℕ). length l) c.cut.ensures.after)
 
 pub loop-rest-preserved : goal.loop-rest-preserved
 loop-rest-preserved c =
@@ -42,20 +42,20 @@ loop-rest-preserved c =
     let less = after-less newline c.loop-rest.rest.now some in
     let so_far : Laid = record { lines = c.loop-rest.lines; place = c.loop-rest.place; labels = c.loop-rest.labels; first = c.loop-rest.first } in
     let first = before newline c.loop-rest.rest.now in
-    let code : c.code_of-code.result.now ≡ code_of first = c.code_of-code.ensures ∙ ap code_of c.before-in-loop-rest.ensures in
+    let code : c.code_of-code.result.now ≡ code_of first = c.code_of-code.ensures ∙ ap code_of c.cut.ensures.before in
     let line = line-is so_far first c.lay_line.new.labels c.in-Ok.laid (rw code at c.in-Ok.ensures.laid) in
     let k = kept_of (here c.loop-rest.place) (statement_in c.lay_line.new.labels c.loop-rest.place (statement_text (code_of first))) in
     let kept : c.lay_line.new.kept ≡ c.loop-rest.kept ++ k ∷ [] = rw code at c.in-Ok.ensures.kept in
     record {
-      counted = omega (arith, ap (λ (l : List ℕ). length l) c.after-rest.ensures);
+      counted = omega (arith, ap (λ (l : List ℕ). length l) c.cut.ensures.after);
       laid_so_far =
-          rw (c.after-rest.ensures, c.first_fault-first.ensures)
+          rw (c.cut.ensures.after, c.first_fault-first.ensures)
           (sym (one-line so_far c.loop-rest.rest.now some ∙ ap (λ (s : Laid). laid s (source_lines (after newline c.loop-rest.rest.now))) line) ∙ c.loop-rest.invariant.laid_so_far);
       kept_so_far = λ more all.
           subst (λ (ks : List (Option Kept)). AreKept ks (source_lines c.args.source.now)) (sym (ap (λ (ks : List (Option Kept)). ks ++ more) kept ∙ append_assoc c.loop-rest.kept (k ∷ []) more))
           (c.loop-rest.invariant.kept_so_far (k ∷ more)
           (kept-first k more c.loop-rest.rest.now some (is_kept c.lay_line.new.labels c.loop-rest.place (statement_text (code_of first)))
-          (subst (λ (rest : List ℕ). AreKept more (source_lines rest)) c.after-rest.ensures all)));
+          (subst (λ (rest : List ℕ). AreKept more (source_lines rest)) c.cut.ensures.after all)));
     }
 
 pub returns-clause-laid : goal.returns-clause-laid

@@ -25,7 +25,7 @@ loop-rest-init c = record {
 pub push_told-requires : goal.push_told-requires
 push_told-requires c =
     let some : 0 < length c.loop-rest.rest.now = search rules in
-    let code : c.code_of-code.result.now ≡ code_of (before newline c.loop-rest.rest.now) = c.code_of-code.ensures ∙ ap code_of c.before-in-loop-rest.ensures in
+    let code : c.code_of-code.result.now ≡ code_of (before newline c.loop-rest.rest.now) = c.code_of-code.ensures ∙ ap code_of c.cut.ensures.before in
     subst (λ (k : Option Kept). IsKept k (statement_text c.code_of-code.result.now)) (sym c.first_kept.ensures)
     (subst (λ (t : List ℕ). IsKept (first_kept c.loop-rest.known.now) (statement_text t)) (sym code) (kept-rest c.loop-rest.known.now c.loop-rest.rest.now some c.loop-rest.invariant.kept).0)
 
@@ -34,7 +34,7 @@ returns-in-Err c =
     let some : 0 < length c.loop-rest.rest.now = search rules in
     let l = layout_of c.args.source.now in
     let a = c.args.layout.now in
-    let code : c.code_of-code.result.now ≡ code_of (before newline c.loop-rest.rest.now) = c.code_of-code.ensures ∙ ap code_of c.before-in-loop-rest.ensures in
+    let code : c.code_of-code.result.now ≡ code_of (before newline c.loop-rest.rest.now) = c.code_of-code.ensures ∙ ap code_of c.cut.ensures.before in
     fails-on 1 c.in-Err.failure _ (meaning_of c.args.source.now)
     (λ fault h.
     let here = sym (same-line a.labels a.place a.first l c.requires.laid (c.loop-rest.lines + 1) c.loop-rest.place (code_of (before newline c.loop-rest.rest.now)) c.loop-rest.items.items) ∙ h in
@@ -45,7 +45,7 @@ pub loop-rest-smaller : goal.loop-rest-smaller
 loop-rest-smaller c =
     let some : 0 < length c.loop-rest.rest.now = search rules in
     let less = after-less newline c.loop-rest.rest.now some in
-    omega (arith, ap (λ (l : List ℕ). length l) c.after-rest.ensures)
+    omega (arith, ap (λ (l : List ℕ). length l) c.cut.ensures.after)
 
 pub loop-rest-preserved : goal.loop-rest-preserved
 loop-rest-preserved c =
@@ -53,16 +53,16 @@ loop-rest-preserved c =
     let less = after-less newline c.loop-rest.rest.now some in
     let l = layout_of c.args.source.now in
     let a = c.args.layout.now in
-    let code : c.code_of-code.result.now ≡ code_of (before newline c.loop-rest.rest.now) = c.code_of-code.ensures ∙ ap code_of c.before-in-loop-rest.ensures in
+    let code : c.code_of-code.result.now ≡ code_of (before newline c.loop-rest.rest.now) = c.code_of-code.ensures ∙ ap code_of c.cut.ensures.before in
     let here = sym (same-line a.labels a.place a.first l c.requires.laid (c.loop-rest.lines + 1) c.loop-rest.place (code_of (before newline c.loop-rest.rest.now)) c.loop-rest.items.items) ∙ (rw code at c.in-Ok.ensures) in
     record {
-      counted = omega (arith, ap (λ (l : List ℕ). length l) c.after-rest.ensures);
+      counted = omega (arith, ap (λ (l : List ℕ). length l) c.cut.ensures.after);
       meant_so_far =
-          rw c.after-rest.ensures
+          rw c.cut.ensures.after
           (sym (goes-on l c.loop-rest.lines c.loop-rest.place c.loop-rest.rest.now c.loop-rest.items.items c.in-Ok.next c.push_told.new.items.items some here) ∙ c.loop-rest.invariant.meant_so_far);
       kept =
-          subst (λ (ks : List (Option Kept)). AreKept ks (source_lines c.after-rest.result.now)) (sym c.other_kept-known.ensures)
-          (subst (λ (r : List ℕ). AreKept (other_kept c.loop-rest.known.now) (source_lines r)) (sym c.after-rest.ensures)
+          subst (λ (ks : List (Option Kept)). AreKept ks (source_lines c.cut.result.1.now)) (sym c.other_kept-known.ensures)
+          (subst (λ (r : List ℕ). AreKept (other_kept c.loop-rest.known.now) (source_lines r)) (sym c.cut.ensures.after)
           (kept-rest c.loop-rest.known.now c.loop-rest.rest.now some c.loop-rest.invariant.kept).1);
     }
 

@@ -8,7 +8,7 @@ pub loop-i-init : goal.loop-i-init
 loop-i-init g c = record { board = seen-none c.args.self.now; raised = refl; room = PipesUpTo-more _ _ _ (omega arith) c.requires; clock = refl }
 
 pub tick_device-requires-clause-room : goal.tick_device-requires-clause-room
-tick_device-requires-clause-room g c κs within = PipesUpTo-more _ _ _ (omega (arith, c.device_count-i-end.ensures.limit, c.loop-i-test.true)) c.loop-i.invariant.room
+tick_device-requires-clause-room g c κs within = PipesUpTo-more _ _ _ (omega (arith, c.active_devices-i-end.ensures.limit, c.loop-i-test.true)) c.loop-i.invariant.room
 
 pub loop-i-preserved : goal.loop-i-preserved
 loop-i-preserved g c = record {
@@ -20,7 +20,7 @@ loop-i-preserved g c = record {
 
 pub returns-clause-done : goal.returns-clause-done
 returns-clause-done g c =
-    all-ticked c.loop-i.i c.args.self.now c.loop-i.self (omega (arith, c.device_count-i-end.ensures.count, c.loop-i-test.false)) c.loop-i.invariant.board c.loop-i.invariant.raised
+    all-ticked c.loop-i.i c.args.self.now c.loop-i.self (λ i device past there. c.active_devices-i-end.ensures.idle i device (omega (arith, past, c.loop-i-test.false)) there) c.loop-i.invariant.board c.loop-i.invariant.raised
 
 pub returns-clause-room : goal.returns-clause-room
-returns-clause-room g c = PipesUpTo-more _ _ _ (omega (arith, c.loop-i.auto.i-end, c.device_count-i-end.ensures.limit)) c.loop-i.invariant.room
+returns-clause-room g c = PipesUpTo-more _ _ _ (omega (arith, c.loop-i.auto.i-end, c.active_devices-i-end.ensures.limit)) c.loop-i.invariant.room

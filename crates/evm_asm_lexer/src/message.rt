@@ -1,15 +1,15 @@
-//! What a person is told of the fault of a source.
+//! Messages of the faults of a source.
 
 ghost use Rattle.std.specs.Prelude.{◌≡◌, Some};
-ghost use Rattle.evm_asm_lexer.specs.Sentences.{asm_sentence};
+ghost use Rattle.evm_asm_lexer.specs.Messages.{asm_message};
 
 use crate::fault::AsmFaultKind;
 use std::fmt;
 
 impl AsmFaultKind {
     /// What is wrong with the line, in words.
-    pub fn sentence(self) -> &'static str
-        ensures { result.now ≡ asm_sentence self }
+    pub fn message(self) -> &'static str
+        ensures { result.now ≡ asm_message self }
     {
         match self {
             AsmFaultKind::BadToken => {
@@ -31,9 +31,9 @@ impl AsmFaultKind {
 }
 
 impl fmt::Display for AsmFaultKind {
-    ghost output = { λ kind. Some (asm_sentence kind) };
+    ghost output = { λ kind. Some (asm_message kind) };
 
     fn fmt<W: fmt::Write>(&self, f: &mut fmt::Formatter<W>) -> fmt::Result {
-        f.write_str(self.sentence())
+        f.write_str(self.message())
     }
 }

@@ -1,15 +1,15 @@
-//! What a person is told of the fault of a file.
+//! Messages of the faults of a file.
 
 ghost use Rattle.std.specs.Prelude.{◌≡◌, Some};
-ghost use Rattle.evm_elf.specs.Sentences.{elf_sentence};
+ghost use Rattle.evm_elf.specs.Messages.{elf_message};
 
 use crate::fault::ElfFault;
 use std::fmt;
 
 impl ElfFault {
     /// What is wrong with the file, in words.
-    pub fn sentence(self) -> &'static str
-        ensures { result.now ≡ elf_sentence self }
+    pub fn message(self) -> &'static str
+        ensures { result.now ≡ elf_message self }
     {
         match self {
             ElfFault::Short => "shorter than a file header, 64 bytes",
@@ -29,9 +29,9 @@ impl ElfFault {
 }
 
 impl fmt::Display for ElfFault {
-    ghost output = { λ fault. Some (elf_sentence fault) };
+    ghost output = { λ fault. Some (elf_message fault) };
 
     fn fmt<W: fmt::Write>(&self, f: &mut fmt::Formatter<W>) -> fmt::Result {
-        f.write_str(self.sentence())
+        f.write_str(self.message())
     }
 }

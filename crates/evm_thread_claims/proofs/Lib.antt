@@ -1,0 +1,4 @@
+pub mod Bells
+pub mod Covering
+pub mod Shares
+pub mod Sums
