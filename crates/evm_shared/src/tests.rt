@@ -4,7 +4,10 @@ ghost use Rattle.std.specs.Prelude.{◌≡◌, IfSome};
 ghost use Rattle.evm_model.specs.Replay.{IsReplayOf};
 ghost use Rattle.evm_shared.specs.EventCounts.{counts_of};
 
-use crate::{Blanks, Finished, Made, Mismatch, Origin, Port, Receipt, Shared, check_receipts};
+use crate::{
+    Blanks, Finished, Made, Mismatch, Origin, Port, Receipt, Refused, Shared, Unfinished,
+    check_receipts,
+};
 use evm_bells::Bells;
 use evm_core::Machine;
 use evm_devs::Pins;
@@ -136,4 +139,97 @@ fn a_commit_hits_a_breakpoint(rt: HostRuntime) -> Result<(), Fail> {
     );
     assert_eq!(rt; right, Some(true));
     Ok(())
+}
+
+// A machine that is not shared comes back, and takes an event.
+fn comes_back<O: Origin, S: Ledger, B: Ledger, T: Ledger>(
+    alloc: Global,
+    machine: Machine<Pins>,
+    ports: u8,
+    blanks: Blanks,
+) -> Option<bool>
+    requires replays { IsReplayOf O.start machine }
+    requires base { counts_of machine.journal ≡ O.base }
+    requires steps { (blanks.steps.name ≡ S.name) × (blanks.steps.parts ≡ S.parts) × (S.parts ≡ ports) }
+    requires bells { (blanks.bells.name ≡ B.name) × (blanks.bells.parts ≡ B.parts) × (B.parts ≡ ports) }
+    requires others { (blanks.others.name ≡ T.name) × (blanks.others.parts ≡ T.parts) × (T.parts ≡ ports) }
+{
+    let Err(Refused {
+        refusal,
+        mut machine,
+    }) = Shared::<Pins, O, S, B, T>::new(alloc, machine, ports, 8, blanks)
+    else {
+        return None;
+    };
+    let ticked = machine.apply(Event::Tick);
+    Some(refusal == Refusal::BadSize && ticked == Ok(Answer::Done) && machine.event_count() == 1)
+}
+
+fn refuses_ports(alloc: Global, ports: u8) -> Option<bool> {
+    let machine = machine(alloc, 1, 4096)?;
+    comes_back::<Brand, Brand, Brand, Brand>(alloc, machine, ports, blanks(u64::from(ports)))
+}
+
+#[test]
+fn there_are_1_to_16_ports(rt: HostRuntime) {
+    assert_eq!(rt; refuses_ports(rt.alloc(), 0), Some(true));
+    assert_eq!(rt; refuses_ports(rt.alloc(), 17), Some(true));
+    assert_eq!(rt; refuses_ports(rt.alloc(), 1), None);
+}
+
+// A journal with room for one event, and a port with room for one receipt: the second tick is refused and marked. The
+// sharing does not end without the port.
+fn marks_full<O: Origin, S: Ledger, B: Ledger, T: Ledger, R: Wait>(
+    rt: &R,
+    alloc: Global,
+    machine: Machine<Pins>,
+    roomy: &Machine<Pins>,
+    blanks: Blanks,
+) -> Option<bool>
+    requires replays { IsReplayOf O.start machine }
+    requires base { counts_of machine.journal ≡ O.base }
+    requires steps { (blanks.steps.name ≡ S.name) × (blanks.steps.parts ≡ S.parts) × (S.parts ≡ 1) }
+    requires bells { (blanks.bells.name ≡ B.name) × (blanks.bells.parts ≡ B.parts) × (B.parts ≡ 1) }
+    requires others { (blanks.others.name ≡ T.name) × (blanks.others.parts ≡ T.parts) × (T.parts ≡ 1) }
+{
+    let (shared, mut ports) = Shared::<Pins, O, S, B, T>::new(alloc, machine, 1, 1, blanks).ok()?;
+    let mut port = ports.pop()?;
+    let first = shared.tick(rt, &mut port);
+    let second = shared.tick(rt, &mut port);
+    let wanted = [Receipt {
+        position: 0,
+        made: Made::One(Event::Tick),
+    }];
+    let right = first == Ok(Answer::Done)
+        && second == Err(Refusal::Full)
+        && port.is_full()
+        && has_receipts(&port, &wanted);
+    let Err(Unfinished { shared, mut ports }) = shared.finish(ports) else {
+        return None;
+    };
+    ports.push(port).ok()?;
+    let Finished {
+        machine,
+        ports,
+        totals,
+    } = shared.finish(ports).ok()?;
+    let port = ports.get(0)?;
+    let checked = check_one(&machine, port) == Ok(());
+    let mismatch = check_one(roomy, port) == Err(Mismatch { port: 0, index: 1 });
+    Some(right && totals.others == 1 && checked && mismatch)
+}
+
+// The same beside a machine that has room for another event after its tick.
+fn marks_full_of_one<R: Wait>(rt: &R, alloc: Global) -> Option<bool> {
+    let machine_of_one = machine(alloc, 1, 1)?;
+    let mut roomy = machine(alloc, 1, 2)?;
+    let Ok(_) = roomy.apply(Event::Tick) else {
+        return None;
+    };
+    marks_full::<Brand, Brand, Brand, Brand, R>(rt, alloc, machine_of_one, &roomy, blanks(1))
+}
+
+#[test]
+fn a_full_journal_is_marked(rt: HostRuntime) {
+    assert_eq!(rt; marks_full_of_one(&rt, rt.alloc()), Some(true));
 }
