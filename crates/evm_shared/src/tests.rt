@@ -154,10 +154,12 @@ fn comes_back<O: Origin, S: Ledger, B: Ledger, T: Ledger>(
     requires bells { (blanks.bells.name ≡ B.name) × (blanks.bells.parts ≡ B.parts) × (B.parts ≡ ports) }
     requires others { (blanks.others.name ≡ T.name) × (blanks.others.parts ≡ T.parts) × (T.parts ≡ ports) }
 {
-    let Err(Refused {
-        refusal,
-        mut machine,
-    }) = Shared::<Pins, O, S, B, T>::new(alloc, machine, ports, 8, blanks)
+    let Err(
+        Refused {
+            refusal,
+            mut machine,
+        },
+    ) = Shared::<Pins, O, S, B, T>::new(alloc, machine, ports, 8, blanks)
     else {
         return None;
     };
