@@ -232,7 +232,7 @@ fn unless_stopped(stop: Option<SourceFault>, place: Place) -> Result<Place, Sour
 
 /// Adds the items of a line, of which this is kept; the place behind it, or the least of its faults.
 #[tactic(auto, unfolding(crate::specs::Items::line_or_fault))]
-fn push_told(
+fn push_or_fault(
     items: &mut Vec<Placed>,
     layout: &Layout,
     line: u64,
@@ -301,7 +301,7 @@ pub fn meaning(
     while !rest.is_empty() {
         let (line, behind) = cut(b'\n', rest);
         let code = code_of(line);
-        match push_told(
+        match push_or_fault(
             &mut items,
             layout,
             lines + 1,

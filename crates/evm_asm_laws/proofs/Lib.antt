@@ -4,7 +4,7 @@ pub mod Data_at_its_base
 pub mod Data_there
 pub mod Labels_found
 pub mod Source_order
-pub mod First_fault_told
+pub mod First_fault
 pub mod Operand_faults
 pub mod Statement_faults
 pub mod Line_faults

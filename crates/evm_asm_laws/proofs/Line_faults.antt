@@ -18,7 +18,7 @@ use Rattle.evm_asm_laws.specs.Least.{fault_in, lesser, line_fault, fault_at, IsF
 use Rattle.evm_asm_laws.specs.HasFault.{HasLabelTwice, text_behind_labels, IsFar, LacksLabel, Said, IsWrong, HasFault, IsLeastOfFirst, RefusedWithTheLeast}
 use Rattle.evm_asm.proofs.Statements_without_labels.{measured_alike}
 use Rattle.evm_asm_laws.proofs.Operand_faults.{IsLeast, same_least, either_least}
-use Rattle.evm_asm_laws.proofs.First_fault_told.{refused_with_the_first}
+use Rattle.evm_asm_laws.proofs.First_fault.{refused_with_the_first}
 use Rattle.evm_asm_laws.proofs.Statement_faults.{Only, only_least, only_same, distance_least, behind_least, all_read, numbers_least, ReadingFault, reading_least}
 use Rattle.evm_asm_laws.proofs.Labels_found.{label_twice}
 

@@ -12,7 +12,7 @@ use Rattle.evm_model.specs.declared.limits.TheConstants.{TASK_LIMIT}
 use Rattle.evm_model.specs.declared.mutex.Mutex.{Mutex}
 use Rattle.evm_model.specs.declared.task.Task.{Task}
 use Rattle.evm_model.proofs.Lists.{change-here, change-elsewhere, length-change, slice_get-within, slice_get-set_same, slice_get-set_other}
-use Rattle.evm_task.specs.evm_ready.Told.{rank_told, told_of}
+use Rattle.evm_task.specs.evm_ready.ListedRanks.{listed_rank, rank_or_0}
 use Rattle.evm_boost.specs.Scatter.{filled, raise_to, scatter, class_rank_at, own_ranks, next_ranks, ranks_after, AreRanks}
 
 -- ---- filled
@@ -21,10 +21,10 @@ unfolding filled
 length-filled rank ranks zero = refl
 length-filled rank ranks (suc n) = length-set (filled rank ranks n) n (rank n) ∙ length-filled rank ranks n
 
-set-here : (xs : List ℕ) (t r : ℕ) → t < length xs → rank_told (slice_set xs t r) t ≡ r
-set-here xs t r less = let there = slice_get-within xs t less in ap told_of (slice_get-set_same xs t there.0 r there.1)
+set-here : (xs : List ℕ) (t r : ℕ) → t < length xs → listed_rank (slice_set xs t r) t ≡ r
+set-here xs t r less = let there = slice_get-within xs t less in ap rank_or_0 (slice_get-set_same xs t there.0 r there.1)
 
-told-filled : (rank : ℕ → ℕ) (ranks : List ℕ) (n t : ℕ) → t < n → n ≤ length ranks → rank_told (filled rank ranks n) t ≡ rank t
+told-filled : (rank : ℕ → ℕ) (ranks : List ℕ) (n t : ℕ) → t < n → n ≤ length ranks → listed_rank (filled rank ranks n) t ≡ rank t
 unfolding filled
 told-filled rank ranks zero t less room = absurd (omega (arith, less))
 told-filled rank ranks (suc n) t less room =
@@ -32,7 +32,7 @@ told-filled rank ranks (suc n) t less room =
     elim (eq-or-lt_of_le {n = t} {m = n} (omega (arith, less))) [
       | inl at ↦ rw at (set-here (filled rank ranks n) n (rank n) (omega (arith, long, room)))
       | inr below ↦
-          ap told_of (slice_get-set_other (filled rank ranks n) n t (rank n) (λ same. omega (arith, same, below)))
+          ap rank_or_0 (slice_get-set_other (filled rank ranks n) n t (rank n) (λ same. omega (arith, same, below)))
           ∙ told-filled rank ranks n t below (omega (arith, room))
     ]
 
@@ -46,21 +46,21 @@ unfolding scatter
 length-scatter boosts rank ranks zero = refl
 length-scatter boosts rank ranks (suc u) = length-raise (boosts u) (rank u) (scatter boosts rank ranks u) ∙ length-scatter boosts rank ranks u
 
-raise-here : (ranks : List ℕ) (least t : ℕ) → t < length ranks → rank_told (raise_to (Some t) least ranks) t ≡ greater (rank_told ranks t) least
+raise-here : (ranks : List ℕ) (least t : ℕ) → t < length ranks → listed_rank (raise_to (Some t) least ranks) t ≡ greater (listed_rank ranks t) least
 raise-here ranks least t less =
     let there = slice_get-within ranks t less in
-    ap told_of (change-here (λ rank. greater rank least) ranks t) ∙ rw there.1 refl
+    ap rank_or_0 (change-here (λ rank. greater rank least) ranks t) ∙ rw there.1 refl
 
 told-raise : (o : Option ℕ) (ranks : List ℕ) (least t : ℕ) → t < length ranks
-    → rank_told (raise_to o least ranks) t ≡ (if is_number o t then greater (rank_told ranks t) least else rank_told ranks t)
+    → listed_rank (raise_to o least ranks) t ≡ (if is_number o t then greater (listed_rank ranks t) least else listed_rank ranks t)
 told-raise None ranks least t less = refl
 told-raise (Some u) ranks least t less = elim (eqb_tells u t) [
   | inl g ↦ rw (g.0, g.1) (raise-here ranks least t less)
-  | inr g ↦ rw g.0 (ap told_of (change-elsewhere (λ rank. greater rank least) ranks u t (λ same. g.1 (sym same))))
+  | inr g ↦ rw g.0 (ap rank_or_0 (change-elsewhere (λ rank. greater rank least) ranks u t (λ same. g.1 (sym same))))
 ]
 
 told-scatter : (boosts : ℕ → Option ℕ) (rank : ℕ → ℕ) (ranks : List ℕ) (n t : ℕ) → t < length ranks
-    → rank_told (scatter boosts rank ranks n) t ≡ greatest boosts rank t (rank_told ranks t) n
+    → listed_rank (scatter boosts rank ranks n) t ≡ greatest boosts rank t (listed_rank ranks t) n
 unfolding scatter greatest
 told-scatter boosts rank ranks zero t less = refl
 told-scatter boosts rank ranks (suc u) t less =
@@ -76,7 +76,7 @@ length-own mutexes tasks ranks =
     ∙ length-filled (class_rank_at tasks) ranks (length tasks)
 
 told-own : (mutexes : List Mutex) (tasks : List Task) (ranks : List ℕ) (t : ℕ) → length tasks ≤ length ranks → t < length tasks
-    → rank_told (own_ranks mutexes tasks ranks) t ≡ own_rank mutexes tasks t
+    → listed_rank (own_ranks mutexes tasks ranks) t ≡ own_rank mutexes tasks t
 unfolding own_ranks own_rank
 told-own mutexes tasks ranks t room less =
     let long : length (filled (class_rank_at tasks) ranks (length tasks)) ≡ length ranks = length-filled (class_rank_at tasks) ranks (length tasks) in
@@ -85,14 +85,14 @@ told-own mutexes tasks ranks t room less =
 
 -- ---- the rounds
 told-after : (mutexes : List Mutex) (tasks : List Task) (own : List ℕ) (r t : ℕ) → length tasks ≤ length own
-    → ((u : ℕ) → u < length tasks → rank_told own u ≡ own_rank mutexes tasks u) → t < length tasks
-    → rank_told (ranks_after mutexes tasks own r) t ≡ rank_after (boosts mutexes tasks) (own_rank mutexes tasks) (length tasks) r t
+    → ((u : ℕ) → u < length tasks → listed_rank own u ≡ own_rank mutexes tasks u) → t < length tasks
+    → listed_rank (ranks_after mutexes tasks own r) t ≡ rank_after (boosts mutexes tasks) (own_rank mutexes tasks) (length tasks) r t
 unfolding ranks_after next_ranks rank_after
 told-after mutexes tasks own zero t room h less = h t less
 told-after mutexes tasks own (suc r) t room h less =
-    told-scatter (boosts mutexes tasks) (rank_told (ranks_after mutexes tasks own r)) own (length tasks) t (omega (arith, room, less))
-    ∙ ap (λ (first : ℕ). greatest (boosts mutexes tasks) (rank_told (ranks_after mutexes tasks own r)) t first (length tasks)) (h t less)
-    ∙ greatest-same (boosts mutexes tasks) (rank_told (ranks_after mutexes tasks own r)) (rank_after (boosts mutexes tasks) (own_rank mutexes tasks) (length tasks) r) t
+    told-scatter (boosts mutexes tasks) (listed_rank (ranks_after mutexes tasks own r)) own (length tasks) t (omega (arith, room, less))
+    ∙ ap (λ (first : ℕ). greatest (boosts mutexes tasks) (listed_rank (ranks_after mutexes tasks own r)) t first (length tasks)) (h t less)
+    ∙ greatest-same (boosts mutexes tasks) (listed_rank (ranks_after mutexes tasks own r)) (rank_after (boosts mutexes tasks) (own_rank mutexes tasks) (length tasks) r) t
     (own_rank mutexes tasks t) (length tasks) (λ u below e. told-after mutexes tasks own r u room h below)
 
 -- after all rounds they are the ranks
@@ -115,7 +115,7 @@ ranks_after-more mutexes tasks own r = rw add-one refl
 
 pub length-next : (mutexes : List Mutex) (tasks : List Task) (own now : List ℕ) → length (next_ranks mutexes tasks own now) ≡ length own
 unfolding next_ranks
-length-next mutexes tasks own now = length-scatter (boosts mutexes tasks) (rank_told now) own (length tasks)
+length-next mutexes tasks own now = length-scatter (boosts mutexes tasks) (listed_rank now) own (length tasks)
 
 -- a round more is made
 pub round-made : (mutexes : List Mutex) (tasks : List Task) (own now next : List ℕ) (r : ℕ) → now ≡ ranks_after mutexes tasks own r
@@ -160,4 +160,4 @@ nobody-raises boosts rank ranks (suc u) h = rw (h u) (nobody-raises boosts rank 
 
 pub next-none : (mutexes : List Mutex) (tasks : List Task) (own now : List ℕ) → mutexes ≡ [] → next_ranks mutexes tasks own now ≡ own
 unfolding next_ranks
-next-none mutexes tasks own now e = rw e (nobody-raises (boosts [] tasks) (rank_told now) own (length tasks) (λ u. no-heir (lock_at tasks u)))
+next-none mutexes tasks own now e = rw e (nobody-raises (boosts [] tasks) (listed_rank now) own (length tasks) (λ u. no-heir (lock_at tasks u)))

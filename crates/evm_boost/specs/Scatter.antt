@@ -6,7 +6,7 @@ use Rattle.evm_model.specs.Mutexes.{ceiling_owner, ceiling, boosts}
 use Rattle.evm_model.specs.Ranks.{class_rank_of, rank}
 use Rattle.evm_model.specs.declared.mutex.Mutex.{Mutex}
 use Rattle.evm_model.specs.declared.task.Task.{Task}
-use Rattle.evm_task.specs.evm_ready.Told.{rank_told}
+use Rattle.evm_task.specs.evm_ready.ListedRanks.{listed_rank}
 
 -- the ranks of those below a count are these
 unfoldable pub filled : (ℕ → ℕ) → List ℕ → ℕ → List ℕ
@@ -34,7 +34,7 @@ own_ranks mutexes tasks ranks =
 
 -- their ranks after one more round
 unfoldable pub next_ranks : List Mutex → List Task → List ℕ → List ℕ → List ℕ
-next_ranks mutexes tasks own now = scatter (boosts mutexes tasks) (rank_told now) own (length tasks)
+next_ranks mutexes tasks own now = scatter (boosts mutexes tasks) (listed_rank now) own (length tasks)
 
 -- their ranks after n
 unfoldable pub ranks_after : List Mutex → List Task → List ℕ → ℕ → List ℕ
@@ -43,4 +43,4 @@ ranks_after mutexes tasks own (suc rounds) = next_ranks mutexes tasks own (ranks
 
 -- these are the ranks of the tasks
 abbrev pub AreRanks : List ℕ → List Mutex → List Task → Type 0
-AreRanks ranks mutexes tasks = (t : ℕ) → t < length tasks → rank_told ranks t ≡ rank mutexes tasks t
+AreRanks ranks mutexes tasks = (t : ℕ) → t < length tasks → listed_rank ranks t ≡ rank mutexes tasks t

@@ -6,11 +6,11 @@ ghost use Rattle.evm_model.specs.Mutexes.{ceiling_owner, ceiling};
 ghost use Rattle.evm_model.specs.Ranks.{class_rank, first, rank, stamp};
 ghost use Rattle.evm_model.specs.Waits.{awaits};
 ghost use Rattle.evm_ranks.specs.Boosts.{greater};
-ghost use Rattle.evm_task.specs.evm_ready.Told.{rank_told};
+ghost use Rattle.evm_task.specs.evm_ready.ListedRanks.{listed_rank};
 
 use crate::mutexes::Mutexes;
 use evm_model::{Class, Protocol, TASK_LIMIT, Wait};
-use evm_task::{Tasks, rank_told};
+use evm_task::{Tasks, listed_rank};
 
 fn class_rank(class: Class, priority: u8) -> u16
     ensures { result ≡ class_rank class priority }
@@ -122,7 +122,7 @@ impl Mutexes {
         ensures { ranks.new ≡ next_ranks self.now tasks.now ranks.old now.now }
     {
         for u in 0..tasks.count() {
-            raise(ranks, self.boosts(tasks, u), rank_told(now, u));
+            raise(ranks, self.boosts(tasks, u), listed_rank(now, u));
         }
     }
 
@@ -151,7 +151,7 @@ impl Mutexes {
         requires there { t < length tasks.now }
         ensures { result ≡ rank self.now tasks.now t }
     {
-        rank_told(&self.ranks(tasks), t)
+        listed_rank(&self.ranks(tasks), t)
     }
 
     /// The number of the first task that waits for this: the one of greatest rank, then of least stamp.

@@ -46,7 +46,7 @@ pub use order::{
 pub use parts::{
     a_command_changes_one_place, a_raise_puts_its_line_on_the_wire, a_register_keeps_its_number,
     a_tick_moves_the_clock, an_accepted_event_is_journaled, an_image_stands_in_ram,
-    the_best_task_is_first, the_least_refusal_is_told, words_and_instructions_are_inverse,
+    the_best_task_is_first, the_least_refusal_is_returned, words_and_instructions_are_inverse,
 };
 pub use rules::{
     a_current_task_is_ready_at_home, a_private_row_changes_one_hart, a_private_row_settles_nothing,

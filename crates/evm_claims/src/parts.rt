@@ -208,7 +208,7 @@ pub fn the_best_task_is_first()
 
 /// Where the journal is full every event is refused with Full; else an event is refused if and only if a reason of the
 /// table applies, and of several the one of least number is reported.
-pub fn the_least_refusal_is_told()
+pub fn the_least_refusal_is_returned()
     ensures full { (s : State) (event : Event) → s.boot.capacity ≤ length s.journal → apply s event ≡ Result.Err Refusal.Full }
     ensures told { (s : State) (event : Event) (reason : Refusal) → apply s event ≡ Result.Err reason → reason ≢ Refusal.Full →
         applies event s.board reason ≡ true }
@@ -224,5 +224,5 @@ pub fn the_least_refusal_is_told()
         ((reason : Refusal) → applies event s.board reason ≡ false) →
         (new : State) × ((answer : Answer) × (apply s event ≡ Result.Ok (new, answer))) }
 {
-    evm_runs::tells_least();
+    evm_runs::returns_least();
 }

@@ -7,12 +7,12 @@ use Rattle.evm_model.specs.Ranks.{best, first, rank, runs_oob, stamp}
 use Rattle.evm_model.specs.declared.mutex.Mutex.{Mutex}
 use Rattle.evm_model.specs.declared.task.Task.{Task}
 use Rattle.evm_task.proofs.evm_ready.Firsts.{first-same}
-use Rattle.evm_task.specs.evm_ready.Told.{rank_told}
+use Rattle.evm_task.specs.evm_ready.ListedRanks.{listed_rank}
 
 pub best-told : (c : ℕ) (ranks : List ℕ) (mutexes : List Mutex) (tasks : List Task) → AreRanks ranks mutexes tasks
-    → first (runs_oob c tasks) (rank_told ranks) (stamp tasks) (length tasks) ≡ best c mutexes tasks
+    → first (runs_oob c tasks) (listed_rank ranks) (stamp tasks) (length tasks) ≡ best c mutexes tasks
 unfolding best
-best-told c ranks mutexes tasks are = first-same (runs_oob c tasks) (rank_told ranks) (rank mutexes tasks) (stamp tasks) (length tasks) are
+best-told c ranks mutexes tasks are = first-same (runs_oob c tasks) (listed_rank ranks) (rank mutexes tasks) (stamp tasks) (length tasks) are
 
 -- a task that is there has a number below their count
 pub task-below : (tasks : List Task) (t : ℕ) (task : Task) → slice_get tasks t ≡ Some task → t < length tasks

@@ -1,3 +1,3 @@
 pub mod Oob
 pub mod Places
-pub mod Told
+pub mod ListedRanks

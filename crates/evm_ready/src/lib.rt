@@ -5,7 +5,7 @@ mod order;
 mod place;
 mod ready;
 
-pub use order::{is_before, rank_told};
+pub use order::{is_before, listed_rank};
 pub use place::{Place, place_of};
 pub use ready::Ready;
 

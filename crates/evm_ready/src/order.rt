@@ -1,11 +1,11 @@
 //! Which of two tasks goes first.
 
 ghost use Rattle.std.specs.Prelude.{◌≡◌};
-ghost use Rattle.evm_ready.specs.Told.{rank_told, is_before};
+ghost use Rattle.evm_ready.specs.ListedRanks.{listed_rank, is_before};
 
 /// The rank of a task in `ranks`, 0 if it has none there.
-pub fn rank_told(ranks: &[u16], t: u8) -> u16
-    ensures { result ≡ rank_told ranks.now t }
+pub fn listed_rank(ranks: &[u16], t: u8) -> u16
+    ensures { result ≡ listed_rank ranks.now t }
 {
     match ranks.get(t as usize) {
         None => 0,

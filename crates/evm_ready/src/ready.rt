@@ -3,9 +3,9 @@ ghost use Rattle.arrayvec.specs.ArrayVec.{array_vec_len};
 ghost use Rattle.evm_model.specs.Lists.{change};
 ghost use Rattle.evm_model.specs.Ranks.{first, leader};
 ghost use Rattle.evm_ready.specs.Places.{any_oob, entry, runs_oob, runs_in_band, stamp_of};
-ghost use Rattle.evm_ready.specs.Told.{rank_told};
+ghost use Rattle.evm_ready.specs.ListedRanks.{listed_rank};
 
-use crate::order::{is_before, rank_told};
+use crate::order::{is_before, listed_rank};
 use crate::place::{Place, oob_bit, runs_in_band, runs_oob};
 use arrayvec::ArrayVec;
 use evm_model::TASK_LIMIT;
@@ -99,15 +99,15 @@ impl Ready {
 
     // Of the one that leads so far and another, the one that goes first by `ranks`.
     fn leader_of(&self, ranks: &[u16], leading: Option<u8>, t: u8) -> u8
-        ensures { result ≡ leader (rank_told ranks.now) (λ u. stamp_of (entry self.now u)) leading t }
+        ensures { result ≡ leader (listed_rank ranks.now) (λ u. stamp_of (entry self.now u)) leading t }
     {
         let Some(u) = leading else {
             return t;
         };
         let before = is_before(
-            rank_told(ranks, t),
+            listed_rank(ranks, t),
             self.stamp(t),
-            rank_told(ranks, u),
+            listed_rank(ranks, u),
             self.stamp(u),
         );
         if before { t } else { u }
@@ -127,7 +127,7 @@ impl Ready {
     /// the one of greatest rank, then of least stamp.
     #[tactic(auto, using(crate::proofs::Scans::scans))]
     pub fn best(&self, c: u8, ranks: &[u16]) -> Option<u8>
-        ensures { result ≡ first (λ t. runs_oob c (entry self.now t)) (rank_told ranks.now) (λ t. stamp_of (entry self.now t)) (length self.now) }
+        ensures { result ≡ first (λ t. runs_oob c (entry self.now t)) (listed_rank ranks.now) (λ t. stamp_of (entry self.now t)) (length self.now) }
     {
         let mut leading = None;
         for t in 0..self.len() {

@@ -1,6 +1,6 @@
 //! Which task goes first, against rows worked by hand.
 
-use crate::{Place, Ready, is_before, place_of, rank_told};
+use crate::{Place, Ready, is_before, place_of, listed_rank};
 use evm_model::{Stage, Task, TaskState, Wait};
 
 fn oob(cpu: u8, stamp: u64) -> Option<Place> {
@@ -39,8 +39,8 @@ fn the_greatest_rank_goes_first(rt: HostRuntime) {
     assert_eq!(rt; ready.best(1, &ranks), Some(2));
     assert_eq!(rt; ready.best(2, &ranks), None);
     assert_eq!(rt; ready.next_in_band(0), None);
-    assert_eq!(rt; rank_told(&ranks, 2), 190);
-    assert_eq!(rt; rank_told(&ranks, 4), 0);
+    assert_eq!(rt; listed_rank(&ranks, 2), 190);
+    assert_eq!(rt; listed_rank(&ranks, 4), 0);
     assert!(rt; is_before(110, 4, 110, 5));
     assert!(rt; !is_before(110, 5, 110, 5));
     assert!(rt; is_before(190, 9, 110, 4));

@@ -113,7 +113,7 @@ pub fn finds_first()
 
 /// An event is refused if and only if there is a reason for it, and of several the one of least number is reported:
 /// that the journal is full goes before all others.
-pub fn tells_least()
+pub fn returns_least()
     ensures { AlwaysTellsLeast }
 {}
 

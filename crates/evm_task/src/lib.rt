@@ -6,7 +6,7 @@ mod harts;
 mod tasks;
 mod woken;
 
-pub use evm_ready::rank_told;
+pub use evm_ready::listed_rank;
 pub use harts::{Asked, Harts};
 pub use tasks::Tasks;
 

@@ -13,7 +13,7 @@ ghost use Rattle.evm_model.specs.Tasks.{is_live};
 ghost use Rattle.evm_model.specs.Waits.{awaits, kept_of, woken};
 ghost use Rattle.evm_ready.specs.Oob.{has_oob};
 ghost use Rattle.evm_ready.specs.Places.{placed};
-ghost use Rattle.evm_ready.specs.Told.{rank_told};
+ghost use Rattle.evm_ready.specs.ListedRanks.{listed_rank};
 ghost use Rattle.evm_task.specs.Early.{IsEarly, lowered};
 ghost use Rattle.evm_wait.specs.Waiters.{awaited};
 
@@ -288,7 +288,7 @@ impl Tasks {
 
     /// The number of the out-of-band task that a processor should run, by `ranks`.
     pub fn best(&self, c: u8, ranks: &[u16]) -> Option<u8>
-        ensures { result ≡ first (runs_oob c self.now) (rank_told ranks.now) (stamp self.now) (length self.now) }
+        ensures { result ≡ first (runs_oob c self.now) (listed_rank ranks.now) (stamp self.now) (length self.now) }
     {
         self.ready.best(c, ranks)
     }
@@ -302,7 +302,7 @@ impl Tasks {
 
     /// The number of the first task that waits for this, by `ranks`.
     pub fn first_waiter(&self, wait: Wait, ranks: &[u16]) -> Option<u8>
-        ensures { result ≡ first (awaits wait self.now) (rank_told ranks.now) (stamp self.now) (length self.now) }
+        ensures { result ≡ first (awaits wait self.now) (listed_rank ranks.now) (stamp self.now) (length self.now) }
     {
         self.waiting.first(wait, ranks)
     }

@@ -3,13 +3,13 @@ ghost use Rattle.arrayvec.specs.ArrayVec.{array_vec_len};
 ghost use Rattle.evm_model.specs.Lists.{change};
 ghost use Rattle.evm_model.specs.Ranks.{first, leader};
 ghost use Rattle.evm_ready.specs.Places.{entry};
-ghost use Rattle.evm_ready.specs.Told.{rank_told};
+ghost use Rattle.evm_ready.specs.ListedRanks.{listed_rank};
 ghost use Rattle.evm_wait.specs.Waiters.{stamp_of, waits_for};
 
 use crate::waiter::{Waiter, waits_for};
 use arrayvec::ArrayVec;
 use evm_model::{TASK_LIMIT, Wait};
-use evm_ready::{is_before, rank_told};
+use evm_ready::{is_before, listed_rank};
 use std::marker::Model;
 
 /// What each task waits for, by its number, with room for all from the start.
@@ -82,15 +82,15 @@ impl Waiting {
 
     // Of the one that leads so far and another, the one that goes first by `ranks`.
     fn leader_of(&self, ranks: &[u16], leading: Option<u8>, t: u8) -> u8
-        ensures { result ≡ leader (rank_told ranks.now) (λ u. stamp_of (entry self.now u)) leading t }
+        ensures { result ≡ leader (listed_rank ranks.now) (λ u. stamp_of (entry self.now u)) leading t }
     {
         let Some(u) = leading else {
             return t;
         };
         let before = is_before(
-            rank_told(ranks, t),
+            listed_rank(ranks, t),
             self.stamp(t),
-            rank_told(ranks, u),
+            listed_rank(ranks, u),
             self.stamp(u),
         );
         if before { t } else { u }
@@ -107,7 +107,7 @@ impl Waiting {
     /// then of least stamp.
     #[tactic(auto, using(evm_ready::proofs::Scans::scans))]
     pub fn first(&self, wait: Wait, ranks: &[u16]) -> Option<u8>
-        ensures { result ≡ first (λ t. waits_for wait (entry self.now t)) (rank_told ranks.now) (λ t. stamp_of (entry self.now t)) (length self.now) }
+        ensures { result ≡ first (λ t. waits_for wait (entry self.now t)) (listed_rank ranks.now) (λ t. stamp_of (entry self.now t)) (length self.now) }
     {
         let mut leading = None;
         for t in 0..self.len() {

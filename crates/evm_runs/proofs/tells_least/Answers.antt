@@ -1,5 +1,5 @@
 use Rattle.evm_runs.proofs.Least.{always_tells_least}
-use Rattle.evm_runs.proofs.tells_least.Goals as goal
+use Rattle.evm_runs.proofs.returns_least.Goals as goal
 
 pub returns : goal.returns
 returns c = always_tells_least

@@ -22,8 +22,8 @@ loop-rest-init c = record {
   kept = subst (λ (k : List (Option Kept)). AreKept k (source_lines c.args.source.now)) (sym c.lines-known.ensures) c.requires.kept;
 }
 
-pub push_told-requires : goal.push_told-requires
-push_told-requires c =
+pub push_or_fault-requires : goal.push_or_fault-requires
+push_or_fault-requires c =
     let some : 0 < length c.loop-rest.rest.now = search rules in
     let code : c.code_of-code.result.now ≡ code_of (before newline c.loop-rest.rest.now) = c.code_of-code.ensures ∙ ap code_of c.cut.ensures.before in
     subst (λ (k : Option Kept). IsKept k (statement_text c.code_of-code.result.now)) (sym c.first_kept.ensures)
@@ -59,7 +59,7 @@ loop-rest-preserved c =
       counted = omega (arith, ap (λ (l : List ℕ). length l) c.cut.ensures.after);
       meant_so_far =
           rw c.cut.ensures.after
-          (sym (goes-on l c.loop-rest.lines c.loop-rest.place c.loop-rest.rest.now c.loop-rest.items.items c.in-Ok.next c.push_told.new.items.items some here) ∙ c.loop-rest.invariant.meant_so_far);
+          (sym (goes-on l c.loop-rest.lines c.loop-rest.place c.loop-rest.rest.now c.loop-rest.items.items c.in-Ok.next c.push_or_fault.new.items.items some here) ∙ c.loop-rest.invariant.meant_so_far);
       kept =
           subst (λ (ks : List (Option Kept)). AreKept ks (source_lines c.cut.result.1.now)) (sym c.other_kept-known.ensures)
           (subst (λ (r : List ℕ). AreKept (other_kept c.loop-rest.known.now) (source_lines r)) (sym c.cut.ensures.after)

@@ -1,9 +1,9 @@
 use Rattle.std.proofs.Common.{◌≡◌}
 use Rattle.evm_model.specs.Ranks.{first}
 use Rattle.evm_ready.specs.Places.{entry, runs_oob, stamp_of}
-use Rattle.evm_ready.specs.Told.{rank_told}
+use Rattle.evm_ready.specs.ListedRanks.{listed_rank}
 use Rattle.evm_ready.proofs.ready.Ready.best.Given as goal
 
 -- the one that leads is the first of those so far
 abbrev pub invariant-loop-t : goal.invariant-loop-t
-invariant-loop-t l = l.leading ≡ first (λ t. runs_oob l.c (entry l.self t)) (rank_told l.ranks) (λ t. stamp_of (entry l.self t)) l.t
+invariant-loop-t l = l.leading ≡ first (λ t. runs_oob l.c (entry l.self t)) (listed_rank l.ranks) (λ t. stamp_of (entry l.self t)) l.t

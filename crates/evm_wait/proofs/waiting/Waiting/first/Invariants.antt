@@ -1,10 +1,10 @@
 use Rattle.std.proofs.Common.{◌≡◌}
 use Rattle.evm_model.specs.Ranks.{first}
 use Rattle.evm_ready.specs.Places.{entry}
-use Rattle.evm_ready.specs.Told.{rank_told}
+use Rattle.evm_ready.specs.ListedRanks.{listed_rank}
 use Rattle.evm_wait.specs.Waiters.{stamp_of, waits_for}
 use Rattle.evm_wait.proofs.waiting.Waiting.first.Given as goal
 
 -- the one that leads is the first of those so far
 abbrev pub invariant-loop-t : goal.invariant-loop-t
-invariant-loop-t l = l.leading ≡ first (λ t. waits_for l.wait (entry l.self t)) (rank_told l.ranks) (λ t. stamp_of (entry l.self t)) l.t
+invariant-loop-t l = l.leading ≡ first (λ t. waits_for l.wait (entry l.self t)) (listed_rank l.ranks) (λ t. stamp_of (entry l.self t)) l.t

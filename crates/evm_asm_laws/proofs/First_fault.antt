@@ -1,4 +1,4 @@
--- The first line with a fault is told, with the least of its faults; else the source means something.
+-- The first line with a fault is returned, with the least of its faults; else the source means something.
 use Rattle.std.proofs.Common.{◌≡◌, ℕ, zero, suc, List, Result, Ok, Err, ◌+◌, refl, ◌∙◌, ◌<◌, ◌≤◌, Bool, true, false, cond, ◌==◌, [], ◌∷◌, ◌++◌, length, take, Option, Some, None, ap, sym, subst, arith, ◌↔◌, ⊎_elim, append_assoc, length-append}
 use Rattle.std.specs.List.{slice_get}
 use Rattle.std.specs.Option.{option_and_then, option_map}

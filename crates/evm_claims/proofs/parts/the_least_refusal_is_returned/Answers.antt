@@ -9,7 +9,7 @@ use Rattle.evm_model.specs.State.{State}
 use Rattle.evm_model.specs.declared.event.Answer.{Answer}
 use Rattle.evm_model.specs.Event.{Event}
 use Rattle.evm_runs.specs.Least.{is_reason}
-use Rattle.evm_claims.proofs.parts.the_least_refusal_is_told.Goals as goal
+use Rattle.evm_claims.proofs.parts.the_least_refusal_is_returned.Goals as goal
 
 -- what is no reason does not apply
 no_reason : (event : Event) (s : State) (reason : Refusal) → is_reason event s reason ≡ false → applies event s.board reason ≡ false
@@ -50,17 +50,17 @@ returns-clause-full c s event none_left = let full : is_full s ≡ true = grind 
 
 pub returns-clause-told : goal.returns-clause-told
 returns-clause-told c s event reason e other =
-    reason_applies event s reason other ((c.tells_least.ensures event s).told reason (refused s event reason e)).holds
+    reason_applies event s reason other ((c.returns_least.ensures event s).told reason (refused s event reason e)).holds
 
 pub returns-clause-least : goal.returns-clause-least
 returns-clause-least c s event reason other e low =
-    no_reason event s other (((c.tells_least.ensures event s).told reason (refused s event reason e)).least other low)
+    no_reason event s other (((c.returns_least.ensures event s).told reason (refused s event reason e)).least other low)
 
 pub returns-clause-tells : goal.returns-clause-tells
 unfolding apply
 returns-clause-tells c s event reason room holds least =
     let room_left : is_full s ≡ false = grind (arith, nat_tests) in
-    let told : refusal event s ≡ Some reason = (c.tells_least.ensures event s).tells reason (record {
+    let told : refusal event s ≡ Some reason = (c.returns_least.ensures event s).tells reason (record {
       holds = applying event s reason holds;
       least = λ other low. unreasonable event s other room_left (least other low);
     }) in
@@ -69,7 +69,7 @@ returns-clause-tells c s event reason room holds least =
 pub returns-clause-accepted : goal.returns-clause-accepted
 returns-clause-accepted c s new event answer reason e =
     let none : refusal event s ≡ None = unrefused s event (new, answer) e in
-    let told = (c.tells_least.ensures event s).accepted none in
+    let told = (c.returns_least.ensures event s).accepted none in
     let room : is_full s ≡ false = told Full in
     (no_reason event s reason (told reason), grind (arith, nat_tests))
 
@@ -77,6 +77,6 @@ pub returns-clause-accepts : goal.returns-clause-accepts
 unfolding apply
 returns-clause-accepts c s event room none =
     let room_left : is_full s ≡ false = grind (arith, nat_tests) in
-    let accepted : refusal event s ≡ None = (c.tells_least.ensures event s).accepts (λ reason. unreasonable event s reason room_left (none reason)) in
+    let accepted : refusal event s ≡ None = (c.returns_least.ensures event s).accepts (λ reason. unreasonable event s reason room_left (none reason)) in
     let after = accept event (row event s.board) s in
     (after.0, (after.1, rw accepted refl))

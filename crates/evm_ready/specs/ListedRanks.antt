@@ -1,13 +1,13 @@
 -- A list of ranks, by the numbers of the tasks. Of two tasks the one that goes first.
 use Rattle.std.specs.Prelude.{ℕ, List, Option, Some, None, Bool, true, false, nat_lt, if◌then◌else◌, slice_get}
 
-abbrev pub told_of : Option ℕ → ℕ
-told_of None = 0
-told_of (Some rank) = rank
+abbrev pub rank_or_0 : Option ℕ → ℕ
+rank_or_0 None = 0
+rank_or_0 (Some rank) = rank
 
 -- the rank of task t in the list
-abbrev pub rank_told : List ℕ → ℕ → ℕ
-rank_told ranks t = told_of (slice_get ranks t)
+abbrev pub listed_rank : List ℕ → ℕ → ℕ
+listed_rank ranks t = rank_or_0 (slice_get ranks t)
 
 -- a task of the first rank and stamp goes before one of the others
 abbrev pub is_before : ℕ → ℕ → ℕ → ℕ → Bool
