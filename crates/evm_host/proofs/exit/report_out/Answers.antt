@@ -1,8 +1,8 @@
 use Rattle.std.proofs.Common.{rules, ◌≡◌, true, codes, refl}
 use Rattle.std.specs.Str.{bytes_eq}
 use Rattle.evm_messages.specs.Diagnostic.{about, Reports}
-use Rattle.evm_command.specs.Exit.{shown_path}
-use Rattle.evm_command.proofs.exit.report_out.Goals as goal
+use Rattle.evm_host.specs.Exit.{shown_path}
+use Rattle.evm_host.proofs.exit.report_out.Goals as goal
 
 pub returns-then-eq : goal.returns-then-eq
 returns-then-eq g c =

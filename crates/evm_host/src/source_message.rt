@@ -3,7 +3,7 @@
 ghost use Rattle.std.specs.Prelude.{◌≡◌, option_copied};
 ghost use Rattle.evm_messages.specs.Message.{message_text};
 ghost use Rattle.evm_messages.specs.Diagnostic.{diagnostic_text};
-ghost use Rattle.evm_command.specs.SourceMessages.{extension_message, range_message, token_front, source_detail_message, kind_message, from_column, quoted_part, before_quote, source_diagnostic};
+ghost use Rattle.evm_host.specs.SourceMessages.{extension_message, range_message, token_front, source_detail_message, kind_message, from_column, quoted_part, before_quote, source_diagnostic};
 
 use evm_messages::{Diagnostic, Message, Numeral};
 use evm_serve::{
@@ -141,7 +141,7 @@ fn before_quote(detail: Option<SourceDetail>) -> &'static str
 }
 
 /// The diagnostic of the fault of a source: the message, and the part of the line that it quotes.
-pub(crate) fn source_diagnostic(source: &str, fault: AsmFault) -> Diagnostic<'_>
+pub fn source_diagnostic(source: &str, fault: AsmFault) -> Diagnostic<'_>
     ensures { diagnostic_text result ≡ source_diagnostic source.now fault }
 {
     let detail = source_detail(source, fault);

@@ -6,9 +6,9 @@ ghost use Rattle.evm_messages.specs.Message.{message_text};
 ghost use Rattle.evm_serve.specs.evm_diagnostics.Lookup.{has_boot};
 ghost use Rattle.evm_messages.specs.Diagnostic.{Reports, ReportsAll, diagnostic_text};
 ghost use Rattle.evm_serve.specs.Serving.{Unread};
-ghost use Rattle.evm_command.specs.Jobs.{NotRead, NotWords};
+ghost use Rattle.evm_host.specs.Asks.{NotRead, NotWords};
 ghost use Rattle.evm_messages.specs.Excerpt.{quoting};
-ghost use Rattle.evm_command.specs.Exit.{Explains, Ended, EndedWith, Source, known_of, quoted_line, fault_diagnostic, image_fault_message, Boots, Finished, program_name, shown_path, not_opened_message, not_opened_text, not_created_message, not_created_text, failed_read_message, failed_write_message, not_read_message, output_name, emptied_texts, out_texts};
+ghost use Rattle.evm_host.specs.Exit.{Explains, Ended, EndedWith, Source, known_of, quoted_line, fault_diagnostic, image_fault_message, Boots, Finished, shown_path, not_opened_message, not_opened_text, not_created_message, not_created_text, failed_read_message, failed_write_message, not_read_message, output_name, emptied_texts, out_texts};
 
 use crate::image_message::image_message;
 use crate::source_message::source_diagnostic;
@@ -21,23 +21,20 @@ use evm_serve::{
 };
 
 /// The status where a file can't be opened, created, read or written.
-pub(crate) const FAILED: u8 = 4;
+pub const FAILED: u8 = 4;
 
 /// The status where the words are no command.
-pub(crate) const USAGE: u8 = 2;
-
-/// The name in front of messages that are about no file.
-pub(crate) const PROGRAM: &str = "evltool";
+pub const USAGE: u8 = 2;
 
 /// The name of the stream that reports are written to.
-pub(crate) const OUTPUT: &str = "standard output";
+pub const OUTPUT: &str = "standard output";
 
 /// The name of what `asm` writes to.
 const OUTPUTS: &str = "OUT or standard output";
 
 /// What is known of the input of a job.
 #[derive(Clone, Copy)]
-pub(crate) enum Known<'a> {
+pub enum Known<'a> {
     Nothing,
     /// The source that it assembles.
     Source(&'a str),
@@ -73,7 +70,7 @@ fn not_opened_message(fault: OpenFault) -> &'static str
 }
 
 /// Reports that a file can't be opened, and why, and returns the status.
-pub(crate) fn not_opened<E: Sink>(path: &str, fault: OpenFault, errors: &mut E) -> u8
+pub fn not_opened<E: Sink>(path: &str, fault: OpenFault, errors: &mut E) -> u8
     ensures report { Reports E.takes (not_opened_text path.now fault) errors.old errors.new }
     ensures status { result ≡ 4 }
 {
@@ -101,7 +98,7 @@ fn not_created_message(fault: OpenFault) -> &'static str
 }
 
 /// Reports that a file can't be created, and why, and returns the status.
-pub(crate) fn not_created<E: Sink>(path: &str, fault: OpenFault, errors: &mut E) -> u8
+pub fn not_created<E: Sink>(path: &str, fault: OpenFault, errors: &mut E) -> u8
     ensures report { Reports E.takes (not_created_text path.now fault) errors.old errors.new }
     ensures status { result ≡ 4 }
 {
@@ -127,7 +124,7 @@ fn failed_read_message(cause: Cause) -> &'static str
 }
 
 /// Why a write failed.
-pub(crate) fn failed_write_message(cause: Cause) -> &'static str
+pub fn failed_write_message(cause: Cause) -> &'static str
     ensures { result.now ≡ failed_write_message cause }
 {
     match cause {
@@ -285,7 +282,7 @@ fn report_emptied<E: Sink>(out: &str, ending: Ending, errors: &mut E)
 }
 
 /// Reports what became of OUT and SRC, if the source is lost or OUT is empty.
-pub(crate) fn report_out<E: Sink>(source: &str, out: &str, ending: &Ending, errors: &mut E)
+pub fn report_out<E: Sink>(source: &str, out: &str, ending: &Ending, errors: &mut E)
     ensures { ReportsAll E.takes (out_texts source.now out.now ending.now) errors.old errors.new }
 {
     if source == out {
@@ -300,12 +297,7 @@ pub(crate) fn report_out<E: Sink>(source: &str, out: &str, ending: &Ending, erro
 }
 
 /// Reports why a job on a file did not end well, and returns its status.
-pub(crate) fn ended_with<E: Sink>(
-    known: Known<'_>,
-    name: &str,
-    ending: &Ending,
-    errors: &mut E,
-) -> u8
+pub fn ended_with<E: Sink>(known: Known<'_>, name: &str, ending: &Ending, errors: &mut E) -> u8
     ensures { EndedWith E.takes (known_of known.entry) name.now ending.now errors.old errors.new result }
 {
     explain(known, name, *ending, errors);
@@ -313,7 +305,7 @@ pub(crate) fn ended_with<E: Sink>(
 }
 
 /// Like `ended_with`, of a job that knows nothing of its input.
-pub(crate) fn ended<E: Sink>(name: &str, ending: &Ending, errors: &mut E) -> u8
+pub fn ended<E: Sink>(name: &str, ending: &Ending, errors: &mut E) -> u8
     ensures { Ended E.takes name.now ending.now errors.old errors.new result }
 {
     ended_with(Known::Nothing, name, ending, errors)
@@ -333,26 +325,26 @@ fn unread<W: Sink>(stop: ReadStop, output: &mut W) -> Ending
 }
 
 /// The status of a job that has not read the file of this name.
-pub(crate) fn not_read<S: System>(stop: ReadStop, name: &str, world: &mut World<S>) -> u8
+pub fn not_read<S: System>(stop: ReadStop, name: &str, world: &mut World<S>) -> u8
     ensures { NotRead S.Output.takes S.Errors.takes name.now stop world.old world.new result }
 {
     let ending = unread(stop, &mut world.output);
     ended(name, &ending, &mut world.errors)
 }
 
-/// The status of a run to which memory is refused before it has a job.
-pub(crate) fn memory_refused<S: System>(world: &mut World<S>) -> u8
-    ensures { NotRead S.Output.takes S.Errors.takes program_name ReadStop.NoMemory world.old world.new result }
+/// The status of a run of a program to which memory is refused before it has a job.
+pub fn memory_refused<S: System>(program: &str, world: &mut World<S>) -> u8
+    ensures { NotRead S.Output.takes S.Errors.takes program.now ReadStop.NoMemory world.old world.new result }
 {
-    not_read(ReadStop::NoMemory, PROGRAM, world)
+    not_read(ReadStop::NoMemory, program, world)
 }
 
-/// The status of a run that has a word which is no text.
-pub(crate) fn words_not_read<S: System>(world: &mut World<S>) -> u8
-    ensures { NotWords S.Errors.takes world.old world.new result }
+/// The status of a run of a program that has a word which is no text.
+pub fn words_not_read<S: System>(program: &str, world: &mut World<S>) -> u8
+    ensures { NotWords program.now S.Errors.takes world.old world.new result }
 {
     report(
-        PROGRAM,
+        program,
         Message::Plain("a word of the command line is not UTF-8"),
         &mut world.errors,
     );

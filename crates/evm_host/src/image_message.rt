@@ -2,7 +2,7 @@
 
 ghost use Rattle.std.specs.Prelude.{◌≡◌};
 ghost use Rattle.evm_messages.specs.Message.{message_text};
-ghost use Rattle.evm_command.specs.ImageMessages.{machine_message, below_2_64, outside_words, image_detail_message, file_message, image_message};
+ghost use Rattle.evm_host.specs.ImageMessages.{machine_message, below_2_64, outside_words, image_detail_message, file_message, image_message};
 
 use evm_messages::{Message, Numeral};
 use evm_serve::{ElfFault, ImageDetail, image_detail};
@@ -104,7 +104,7 @@ fn file_message(file: &[u8], fault: ElfFault) -> Message
 }
 
 /// The message of the fault of a file: what is wrong there, if more is known than its kind.
-pub(crate) fn image_message(file: &[u8], fault: ElfFault) -> Message
+pub fn image_message(file: &[u8], fault: ElfFault) -> Message
     ensures { message_text result ≡ image_message file.now fault }
 {
     if file.starts_with(b"evl-journal ") {

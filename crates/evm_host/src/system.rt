@@ -32,7 +32,7 @@ pub enum OpenFault {
 /// A system that opens files and creates them, and that has three streams.
 pub trait System {
     ghost use Rattle.std.specs.Prelude.{ℕ, List, Result};
-    ghost use Rattle.evm_command.specs.declared.system.OpenFault.{OpenFault};
+    ghost use Rattle.evm_host.specs.declared.system.OpenFault.{OpenFault};
 
     /// A file that was opened.
     type Opened: Source + Drop;

@@ -1,7 +1,7 @@
 -- The system that a program runs on: what std did as it opened or created a file. Nothing is known of it but that the call was made: what it
 -- answered, and the reason that it gave, are std's words.
 use Rattle.std.specs.Prelude.{ℕ, List, Result}
-use Rattle.evm_command.specs.declared.system.OpenFault.{OpenFault}
+use Rattle.evm_host.specs.declared.system.OpenFault.{OpenFault}
 
 -- opaque, so that a proof has it of a call alone
 pub StdOpens : {S O : Type 0} → S → List ℕ → Result O OpenFault → S → Type 0

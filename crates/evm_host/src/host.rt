@@ -1,16 +1,18 @@
 //! The system that the program runs on. That a call of `File::open` or `File::create` did what it returned is trusted
 //! here, and nowhere else.
 
-use crate::command::{WordsFault, answer_read};
-use crate::exit::memory_refused;
 use crate::system::{OpenFault, System, World};
-use evm_dev::Device;
-use evm_room::NoMemory;
-use evm_serve::Devices;
 use std::fs::File;
 use std::io::{ErrorKind, Stderr, Stdin, Stdout};
-use std::sync::Wait;
-use std::thread::Threads;
+
+/// Why the words of a command line are not read.
+#[derive(Clone, Copy, Debug, PartialEq, Eq)]
+pub enum WordsFault {
+    /// One of them is no text.
+    NotText,
+    /// Memory was refused.
+    NoMemory,
+}
 
 // Why std says that a file can't be opened or created.
 fn open_fault(kind: ErrorKind) -> OpenFault {
@@ -61,7 +63,7 @@ pub struct Host<'a> {
 }
 
 impl System for Host<'_> {
-    ghost use Rattle.evm_command.specs.Trusted.{StdOpens, StdCreates};
+    ghost use Rattle.evm_host.specs.Trusted.{StdOpens, StdCreates};
 
     type Opened = File;
 
@@ -96,8 +98,14 @@ pub fn host_world(rt: &HostRuntime) -> World<Host<'_>> {
     }
 }
 
-// The words of the command line, as std gives them.
-fn words_of(rt: &HostRuntime) -> Result<Vec<String>, WordsFault> {
+/// The words of the command line, the name of the program first.
+///
+/// It has no contract: which words std gives no clause can name.
+///
+/// # Errors
+///
+/// A word is no text, or memory was refused.
+pub fn words_of(rt: &HostRuntime) -> Result<Vec<String>, WordsFault> {
     let arguments = match std::env::args(rt) {
         Ok(arguments) => arguments,
         Err(error) if error.kind() == ErrorKind::OutOfMemory => return Err(WordsFault::NoMemory),
@@ -106,21 +114,5 @@ fn words_of(rt: &HostRuntime) -> Result<Vec<String>, WordsFault> {
     match arguments.collect(rt.alloc()) {
         Ok(words) => Ok(words),
         Err(_) => Err(WordsFault::NoMemory),
-    }
-}
-
-/// Runs the program on the words of its command line, with devices in its machine, and answers the exit status.
-///
-/// It has no contract: which words std gives, and what its streams did before, no clause can name. What is done with
-/// the words, or why there are none, is the contract of `answer_read`, of any system.
-pub fn run<D: Device, R: Threads + Wait + Sync>(
-    rt: &HostRuntime,
-    threads: &R,
-    devices: Result<Devices<D>, NoMemory>,
-) -> u8 {
-    let mut world = host_world(rt);
-    match devices {
-        Ok(devices) => answer_read(threads, rt.alloc(), words_of(rt), devices, &mut world),
-        Err(NoMemory) => memory_refused(&mut world),
     }
 }

@@ -20,24 +20,13 @@ use Rattle.evm_serve.specs.Serving.{status_at}
 use Rattle.evm_serve.specs.declared.ending.Verdict.TheVariants as verdicts
 use Rattle.evm_serve.specs.declared.ending.Ending.{Ending}
 use Rattle.evm_serve.specs.declared.ending.Ending.TheVariants.{Complete, NoMemory, ReadFailed, WriteFailed}
-use Rattle.evm_command.specs.ImageMessages.{image_message}
+use Rattle.evm_host.specs.ImageMessages.{image_message}
 use Rattle.evm_messages.specs.Excerpt.{quoting}
-use Rattle.evm_command.specs.SourceMessages.{source_diagnostic}
-use Rattle.evm_command.specs.declared.exit.Known as declared
-use Rattle.evm_command.specs.declared.exit.Known.TheVariants as knowns
-use Rattle.evm_command.specs.declared.system.OpenFault.{OpenFault}
-use Rattle.evm_command.specs.declared.system.OpenFault.TheVariants.{Missing, Denied, Folder, NoName, NotFolder, ReadOnly, Full, Busy, NameTooLong, Loop, Other}
-
-abbrev pub program_name : List ℕ
-program_name = codes "evltool"
-
--- the name of a script in front of its lines
-abbrev pub script_name : List ℕ
-script_name = codes "script"
-
--- the name of the stream that it comes from
-abbrev pub input_name : List ℕ
-input_name = codes "standard input"
+use Rattle.evm_host.specs.SourceMessages.{source_diagnostic}
+use Rattle.evm_host.specs.declared.exit.Known as declared
+use Rattle.evm_host.specs.declared.exit.Known.TheVariants as knowns
+use Rattle.evm_host.specs.declared.system.OpenFault.{OpenFault}
+use Rattle.evm_host.specs.declared.system.OpenFault.TheVariants.{Missing, Denied, Folder, NoName, NotFolder, ReadOnly, Full, Busy, NameTooLong, Loop, Other}
 
 -- why a file can't be opened
 abbrev pub not_opened_message : OpenFault → List ℕ

@@ -2,8 +2,8 @@ use Rattle.std.proofs.Common.{rules, ◌≡◌, codes, refl}
 use Rattle.evm_serve.specs.declared.ending.Ending.TheVariants.{Complete}
 use Rattle.evm_serve.specs.declared.ending.Verdict.TheVariants.{Refused}
 use Rattle.evm_messages.specs.Diagnostic.{about, Reports}
-use Rattle.evm_command.specs.Exit.{shown_path}
-use Rattle.evm_command.proofs.exit.report_emptied.Goals as goal
+use Rattle.evm_host.specs.Exit.{shown_path}
+use Rattle.evm_host.proofs.exit.report_emptied.Goals as goal
 
 pub returns-in-Complete-Refused : goal.returns-in-Complete-Refused
 returns-in-Complete-Refused g c =

@@ -1,6 +1,6 @@
 use Rattle.std.proofs.Common.{Ok, Err, subst, List, ℕ}
-use Rattle.evm_command.specs.Jobs.{ImportsBytes}
-use Rattle.evm_command.proofs.loading.image_at.Goals as goal
+use Rattle.evm_host.specs.Asks.{ImportsBytes}
+use Rattle.evm_host.proofs.loading.image_at.Goals as goal
 
 pub returns-in-Ok-read_all : goal.returns-in-Ok-read_all
 returns-in-Ok-read_all g c =

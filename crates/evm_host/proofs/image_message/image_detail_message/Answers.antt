@@ -1,5 +1,5 @@
 use Rattle.std.proofs.Common.{refl}
-use Rattle.evm_command.proofs.image_message.image_detail_message.Goals as goal
+use Rattle.evm_host.proofs.image_message.image_detail_message.Goals as goal
 
 pub returns-in-Cut : goal.returns-in-Cut
 returns-in-Cut c = rw (c.in-Cut.is, c.from-in-Cut.ensures, c.below_2_64.ensures) refl
