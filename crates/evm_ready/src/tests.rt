@@ -1,6 +1,6 @@
 //! Which task goes first, against rows worked by hand.
 
-use crate::{Place, Ready, is_before, place_of, listed_rank};
+use crate::{Place, Ready, is_before, listed_rank, place_of};
 use evm_model::{Stage, Task, TaskState, Wait};
 
 fn oob(cpu: u8, stamp: u64) -> Option<Place> {
