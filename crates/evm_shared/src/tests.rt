@@ -4,6 +4,8 @@ ghost use Rattle.std.specs.Prelude.{◌≡◌, IfSome};
 ghost use Rattle.evm_model.specs.Replay.{IsReplayOf};
 ghost use Rattle.evm_shared.specs.EventCounts.{counts_of};
 
+mod bursts;
+
 use crate::{
     Blanks, Finished, Made, Mismatch, Origin, Port, Receipt, Refused, Shared, Unfinished,
     check_receipts,
