@@ -1,14 +1,14 @@
-//! A machine with an endless loop on processor 0 and no task on processor 1, that threads share by two ports.
+//! A machine with an endless loop on processor 0, that threads share by two ports. Another processor has no task.
 
 ghost use Rattle.std.specs.Prelude.{◌≡◌, IfOk};
 ghost use Rattle.evm_model.specs.Replay.{IsReplayOf};
 ghost use Rattle.evm_shared.specs.EventCounts.{counts_of};
 
-use super::plays::{a_full_journal, rings_beside_a_worker, two_ports, two_workers};
+use super::plays::{a_full_journal, two_workers};
 use super::{LOOP, blanks, devices, image};
 use evm_devs::AnyDevice;
 use evm_journal::{Boot, Event, Machine, read_journal, write_journal};
-use evm_shared::{Blanks, EventCounts, Finished, Origin, Shared, check_receipts};
+use evm_shared::{Blanks, EventCounts, Finished, Origin, Port, Shared, check_receipts};
 use std::alloc::Global;
 use std::marker::Brand;
 use std::process::Abort;
@@ -18,11 +18,11 @@ use std::test::Fail;
 use std::thread::Threads;
 
 // A machine that has had no event, with the loop.
-fn looping(alloc: Global, capacity: u64) -> Result<Machine<AnyDevice>, Fail>
+fn looping(alloc: Global, cpus: u64, capacity: u64) -> Result<Machine<AnyDevice>, Fail>
     ensures { IfOk result (λ m. IsReplayOf m m) }
 {
     let boot = Boot {
-        cpus: 2,
+        cpus,
         ram: 65_536,
         capacity,
     };
@@ -40,8 +40,6 @@ fn looping(alloc: Global, capacity: u64) -> Result<Machine<AnyDevice>, Fail>
 enum Play {
     TwoWorkers,
     FullJournal,
-    Rings,
-    TwoPorts,
 }
 
 /// What came of a play.
@@ -55,13 +53,28 @@ struct Outcome {
     machine: Machine<AnyDevice>,
 }
 
+// Whether the receipts and marks of two ports are true.
+fn are_true<S: Ledger, B: Ledger, T: Ledger>(
+    machine: &Machine<AnyDevice>,
+    first: &Port<S, B, T>,
+    second: &Port<S, B, T>,
+) -> bool {
+    check_receipts(machine, &[first, second]) == Ok(())
+}
+
 fn played<
     O: Origin + Send + Sync,
     S: Ledger + Send + Sync,
     B: Ledger + Send + Sync,
     T: Ledger + Send + Sync,
     R: Threads + Wait + Sync,
->(rt: &R, alloc: Global, machine: Machine<AnyDevice>, blanks: Blanks, play: Play) -> Option<Outcome>
+>(
+    rt: &R,
+    alloc: Global,
+    machine: Machine<AnyDevice>,
+    blanks: Blanks,
+    which: Play,
+) -> Option<Outcome>
     requires replays { IsReplayOf O.start machine }
     requires base { counts_of machine.journal ≡ O.base }
     requires steps { (blanks.steps.name ≡ S.name) × (blanks.steps.parts ≡ S.parts) × (S.parts ≡ 2) }
@@ -74,8 +87,6 @@ fn played<
     let (ports, answered) = match which {
         Play::TwoWorkers => two_workers(rt, alloc, &shared, ports)?,
         Play::FullJournal => a_full_journal(rt, alloc, &shared, ports)?,
-        Play::Rings => rings_beside_a_worker(rt, alloc, &shared, ports)?,
-        Play::TwoPorts => two_ports(rt, &shared, ports)?,
     };
     let Finished {
         machine,
@@ -83,7 +94,7 @@ fn played<
         totals,
     } = shared.finish(ports).ok()?;
     let (first, second) = (ports.get(0)?, ports.get(1)?);
-    let checked = check_receipts(&machine, &[first, second]) == Ok(());
+    let checked = are_true(&machine, first, second);
     Some(Outcome {
         right: answered && checked,
         totals,
@@ -95,10 +106,11 @@ fn played<
 fn outcome_of<R: Threads + Wait + Sync>(
     rt: &R,
     alloc: Global,
+    cpus: u64,
     capacity: u64,
     which: Play,
 ) -> Result<Outcome, Fail> {
-    let machine = looping(alloc, capacity)?;
+    let machine = looping(alloc, cpus, capacity)?;
     match played::<Brand, Brand, Brand, Brand, R>(rt, alloc, machine, blanks(), which) {
         Some(outcome) => Ok(outcome),
         None => Err(Fail::from("the play has no end")),
@@ -131,7 +143,7 @@ fn leads_there(
     let Ok((_boot, events)) = read_journal(alloc, text.as_str()) else {
         return Err(Fail::from("the text is no journal"));
     };
-    let mut other = looping(alloc, 4_096)?;
+    let mut other = looping(alloc, 2, 4_096)?;
     let found = replayed(&mut other, events.as_slice());
     Ok(
         found == Some(steps)
@@ -145,7 +157,7 @@ fn leads_there(
 #[test]
 fn two_workers_make_586_and_10_steps(rt: HostRuntime) -> Result<(), Fail> {
     let alloc = rt.alloc();
-    let outcome = outcome_of(&rt, alloc, 4_096, Play::TwoWorkers)?;
+    let outcome = outcome_of(&rt, alloc, 2, 4_096, Play::TwoWorkers)?;
     assert!(rt; outcome.right);
     assert_eq!(rt; outcome.totals.steps, 596);
     assert_eq!(rt; outcome.totals.bells, 0);
@@ -156,27 +168,9 @@ fn two_workers_make_586_and_10_steps(rt: HostRuntime) -> Result<(), Fail> {
 
 #[test]
 fn a_worker_and_commits_fill_a_journal(rt: HostRuntime) -> Result<(), Fail> {
-    let outcome = outcome_of(&rt, rt.alloc(), 40, Play::FullJournal)?;
+    let outcome = outcome_of(&rt, rt.alloc(), 1, 40, Play::FullJournal)?;
     assert!(rt; outcome.right);
     assert_eq!(rt; outcome.totals.steps, 40);
     assert_eq!(rt; outcome.receipts, (9, 31));
-    Ok(())
-}
-
-#[test]
-fn each_ring_becomes_a_bell_or_is_left(rt: HostRuntime) -> Result<(), Fail> {
-    let outcome = outcome_of(&rt, rt.alloc(), 16_384, Play::Rings)?;
-    assert!(rt; outcome.right);
-    Ok(())
-}
-
-#[test]
-fn two_threads_make_ticks_and_steps(rt: HostRuntime) -> Result<(), Fail> {
-    let outcome = outcome_of(&rt, rt.alloc(), 4_096, Play::TwoPorts)?;
-    assert!(rt; outcome.right);
-    assert_eq!(rt; outcome.totals.others, 100);
-    assert_eq!(rt; outcome.totals.steps, 100);
-    assert_eq!(rt; outcome.machine.ticks(), 100);
-    assert_eq!(rt; outcome.receipts, (100, 100));
     Ok(())
 }
