@@ -2,3 +2,4 @@ pub mod Bells
 pub mod Counting
 pub mod Locks
 pub mod Tested
+pub mod Turns

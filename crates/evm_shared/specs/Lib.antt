@@ -1,5 +1,6 @@
 pub mod Checks
 pub mod EventCounts
+pub mod Lookaheads
 pub mod Ports
 pub mod Receipts
 pub mod Workers

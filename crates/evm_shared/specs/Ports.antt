@@ -1,8 +1,9 @@
 -- What contracts see of shares, of ports and of what lies under the lock.
 use Rattle.std.specs.Prelude.{◌≡◌, ℕ, ◌+◌, ◌-◌, ◌<◌, ◌≤◌, ◌⊎◌, ◌==◌, if◌then◌else◌, Bool, true, false, MatchBool, nat_lt, List, [], ◌∷◌, ◌++◌, length, None, Result, Ok, Err, MatchResult}
-use Rattle.evm_core.specs.Commit.{LastAnswers, code_at, current_hart}
+use Rattle.evm_core.specs.Commit.{IsTaken, LastAnswers, code_at, current_hart}
 use Rattle.evm_core.specs.Steps.{steps}
 use Rattle.evm_core.specs.declared.committing.Committed.{Committed}
+use Rattle.evm_exec.specs.Burst.{Speculated}
 use Rattle.evm_lines.specs.declared.TheConstants.{LINES}
 use Rattle.evm_model.specs.Event.{Event}
 use Rattle.evm_model.specs.Replay.{apply, start, IsReplayOf}
@@ -101,11 +102,11 @@ marked_short _ p = p
 abbrev pub Found : State → (State → Type 0) → Type 0
 Found start such = (before : State) × IsReplayOf start before × such before
 
--- a commit of Steps of processor c on this machine, and all that it answers
-abbrev pub IsCommit : State → ℕ → Committed → Type 0
-IsCommit before c done =
-    (after : State) × (0 < done.steps) × (steps c done.steps before ≡ (after, None)) × LastAnswers c done.steps done.answer before after
-    × (done.next ≡ current_hart c after.board.parts) × (done.code.items ≡ code_at done.next after.board.memory)
+-- a commit of a burst on processor c of this machine: the Steps that are taken of it and one more, and all that it answers
+abbrev pub IsCommit : State → ℕ → Speculated → Committed → Type 0
+IsCommit before c burst done =
+    (after : State) × (0 < done.steps) × IsTaken (done.steps - 1) c burst before × (steps c done.steps before ≡ (after, None))
+    × LastAnswers c done.steps done.answer before after × (done.next ≡ current_hart c after.board.parts) × (done.code.items ≡ code_at done.next after.board.memory)
 
 -- an event that this machine accepts, and its answer
 abbrev pub Accepts : State → Event → Answer → Type 0
@@ -122,10 +123,10 @@ RefusesBells s cpus c why =
 
 -- ---- calls through a port, by what they return and what they leave of the port
 
-abbrev pub MakesSteps : State → ℕ → Result Committed Refusal → PortValue → PortValue → Type 0
-MakesSteps start c result old new =
+abbrev pub MakesSteps : State → ℕ → Speculated → Result Committed Refusal → PortValue → PortValue → Type 0
+MakesSteps start c burst result old new =
     Found start (λ before. MatchResult result
-    (λ done. IsCommit before c done × Records before (Steps c done.steps) (counts done.steps 0 0) old new)
+    (λ done. IsCommit before c burst done × Records before (Steps c done.steps) (counts done.steps 0 0) old new)
     (λ why. (apply before (Step c) ≡ Err why) × (new ≡ marked why old)))
 
 abbrev pub MakesBells : State → ℕ → ℕ → Result ℕ Refusal → PortValue → PortValue → Type 0

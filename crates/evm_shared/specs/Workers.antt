@@ -1,29 +1,55 @@
 -- What contracts see of workers, and what a run does to them.
-use Rattle.std.specs.Prelude.{◌≡◌, ℕ, ◌+◌, ◌≤◌, ◌⊎◌, Err, List, [], ◌∷◌, Option, Some, None, MatchOption, nat_le, if◌then◌else◌}
+use Rattle.std.specs.Prelude.{◌≡◌, ℕ, zero, suc, ◌+◌, ◌≤◌, ◌⊎◌, Ok, Err, List, [], ◌∷◌, ◌++◌, Option, Some, None, MatchOption, nat_le, if◌then◌else◌}
 use Rattle.evm_bells.specs.Seats.{TakerValue}
+use Rattle.evm_core.specs.declared.committing.Committed.{Committed}
+use Rattle.evm_exec.specs.Burst.{Speculated}
 use Rattle.evm_model.specs.Replay.{apply}
 use Rattle.evm_model.specs.State.{State}
 use Rattle.evm_model.specs.declared.event.Event.TheVariants.{Step}
 use Rattle.evm_model.specs.Refusals.{number_of}
 use Rattle.evm_model.specs.declared.refusal.Refusal.{Refusal}
-use Rattle.evm_shared.specs.Ports.{Found, PortValue, RefusesBells}
+use Rattle.evm_shared.specs.Lookaheads.{IsAhead, IsUsed, Keeps, LookaheadValue}
+use Rattle.evm_shared.specs.Ports.{Found, MakesBells, MakesSteps, PortValue, RefusesBells}
 
--- its processor, its port and its taker, and why its last run ended before all its turns
+-- its processor, its port and its taker, what it does ahead, and why its last run ended before all its turns
 pub record WorkerValue : Type 0 where
   pub cpu : ℕ
   pub port : PortValue
   pub taker : TakerValue
+  pub ahead : LookaheadValue
   pub refused : Option Refusal
 
 -- a turn on processor c was refused: its deliver or its commit
 abbrev pub RefusesTurn : State → ℕ → ℕ → Refusal → Type 0
 RefusesTurn start cpus c why = Found start (λ before. RefusesBells before cpus c why ⊎ (apply before (Step c) ≡ Err why))
 
--- after a run of some turns: a Step was made in each turn at least, unless one was refused
+-- a turn: it delivers the lines that were rung, then commits what was done ahead from the hart that its last commit answered,
+-- and keeps the hart and the code that this commit answers
+pub record MakesTurn (start : State) (cpus : ℕ) (old new : WorkerValue) : Type 0 where
+  pub word : ℕ
+  pub delivered : PortValue
+  pub burst : Speculated
+  pub used : LookaheadValue
+  pub done : Committed
+  pub taken : new.taker.taken ≡ old.taker.taken ++ (old.cpu, word) ∷ []
+  pub bells : MakesBells start cpus old.cpu (Ok word) old.port delivered
+  pub speculates : IsAhead old.ahead.next old.ahead.cache burst × IsUsed old.ahead used
+  pub commits : MakesSteps start old.cpu burst (Ok done) delivered new.port
+  pub keeps : Keeps done used new.ahead
+  pub same : (new.cpu ≡ old.cpu) × (new.taker.bells ≡ old.taker.bells)
+
+-- turns, one after the other
+abbrev pub MakesTurns : State → ℕ → ℕ → WorkerValue → WorkerValue → Type 0
+MakesTurns start cpus zero old new = new ≡ (record old { refused = None })
+MakesTurns start cpus (suc n) old new = (between : WorkerValue) × MakesTurns start cpus n old between × MakesTurn start cpus between new
+
+-- after a run of some turns: all were made, each with a Step at least, or one was refused
 abbrev pub HasTurned : State → ℕ → ℕ → WorkerValue → WorkerValue → Type 0
 HasTurned start cpus turns old new =
     (new.cpu ≡ old.cpu) × (new.taker.bells ≡ old.taker.bells)
-    × MatchOption new.refused (old.port.share.steps + turns ≤ new.port.share.steps) (RefusesTurn start cpus old.cpu)
+    × MatchOption new.refused
+    (MakesTurns start cpus turns old new × (old.port.share.steps + turns ≤ new.port.share.steps))
+    (RefusesTurn start cpus old.cpu)
 
 -- of two, the refusal of the lesser number
 abbrev pub lesser : Option Refusal → Option Refusal → Option Refusal

@@ -5,6 +5,7 @@ mod checking;
 mod event_counts;
 mod ledgers;
 mod locked;
+mod lookahead;
 mod port;
 mod receipt;
 mod shared;

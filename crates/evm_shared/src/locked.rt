@@ -117,15 +117,15 @@ impl<D: Device, O: Origin, S: Ledger, B: Ledger, T: Ledger> Locked<D, O, S, B, T
         cpu: u8,
         burst: &Burst,
     ) -> Result<Committed, Refusal>
-        ensures call { MakesSteps O.start cpu result port.old port.new }
+        ensures call { MakesSteps O.start cpu burst.now result port.old port.new }
         ensures refused { IfErr result (λ why. RefusesCpu O.start cpu why) }
     {
         self.machine.rules();
         let position = self.machine.event_count();
         match self.machine.commit(cpu, burst) {
-            Err(why) => {
-                port.mark(why);
-                Err(why)
+            Err(refusal) => {
+                port.mark(refusal);
+                Err(refusal)
             }
             Ok(done) => {
                 let _count = self.machine.event_count();

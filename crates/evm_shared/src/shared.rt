@@ -146,7 +146,7 @@ impl<D: Device, O: Origin, S: Ledger, B: Ledger, T: Ledger> Shared<D, O, S, B, T
         cpu: u8,
         burst: &Burst,
     ) -> Result<Committed, Refusal>
-        ensures call { MakesSteps O.start cpu result port.old port.new }
+        ensures call { MakesSteps O.start cpu burst.now result port.old port.new }
         ensures refused { IfErr result (λ why. RefusesCpu O.start cpu why) }
     {
         self.locked.lock(rt).commit(port, cpu, burst)

@@ -4,6 +4,8 @@ ghost use Rattle.std.specs.Prelude.{◌≡◌, IfSome};
 ghost use Rattle.evm_model.specs.Replay.{IsReplayOf};
 ghost use Rattle.evm_shared.specs.EventCounts.{counts_of};
 
+mod bursts;
+
 use crate::{
     Blanks, Finished, Made, Mismatch, Origin, Port, Receipt, Refused, Shared, Unfinished,
     check_receipts,
@@ -141,13 +143,14 @@ fn a_commit_hits_a_breakpoint(rt: HostRuntime) -> Result<(), Fail> {
     Ok(())
 }
 
-// A machine that is not shared comes back, and takes an event.
+// A machine that is not shared comes back, and takes an event: why it is not.
 fn comes_back<O: Origin, S: Ledger, B: Ledger, T: Ledger>(
     alloc: Global,
     machine: Machine<Pins>,
     ports: u8,
+    receipts: u32,
     blanks: Blanks,
-) -> Option<bool>
+) -> Option<Refusal>
     requires replays { IsReplayOf O.start machine }
     requires base { counts_of machine.journal ≡ O.base }
     requires steps { (blanks.steps.name ≡ S.name) × (blanks.steps.parts ≡ S.parts) × (S.parts ≡ ports) }
@@ -159,24 +162,43 @@ fn comes_back<O: Origin, S: Ledger, B: Ledger, T: Ledger>(
             refusal,
             mut machine,
         },
-    ) = Shared::<Pins, O, S, B, T>::new(alloc, machine, ports, 8, blanks)
+    ) = Shared::<Pins, O, S, B, T>::new(alloc, machine, ports, receipts, blanks)
     else {
         return None;
     };
     let ticked = machine.apply(Event::Tick);
-    Some(refusal == Refusal::BadSize && ticked == Ok(Answer::Done) && machine.event_count() == 1)
+    if ticked == Ok(Answer::Done) && machine.event_count() == 1 {
+        Some(refusal)
+    } else {
+        None
+    }
 }
 
-fn refuses_ports(alloc: Global, ports: u8) -> Option<bool> {
+fn refuses_ports(alloc: Global, ports: u8, receipts: u32) -> Option<Refusal> {
     let machine = machine(alloc, 1, 4096)?;
-    comes_back::<Brand, Brand, Brand, Brand>(alloc, machine, ports, blanks(u64::from(ports)))
+    comes_back::<Brand, Brand, Brand, Brand>(
+        alloc,
+        machine,
+        ports,
+        receipts,
+        blanks(u64::from(ports)),
+    )
 }
 
 #[test]
 fn there_are_1_to_16_ports(rt: HostRuntime) {
-    assert_eq!(rt; refuses_ports(rt.alloc(), 0), Some(true));
-    assert_eq!(rt; refuses_ports(rt.alloc(), 17), Some(true));
-    assert_eq!(rt; refuses_ports(rt.alloc(), 1), None);
+    assert_eq!(rt; refuses_ports(rt.alloc(), 0, 8), Some(Refusal::BadSize));
+    assert_eq!(rt; refuses_ports(rt.alloc(), 17, 8), Some(Refusal::BadSize));
+    assert_eq!(rt; refuses_ports(rt.alloc(), 1, 8), None);
+}
+
+// No machine of today has memory for so many receipts.
+#[test]
+fn receipts_want_memory(rt: HostRuntime) {
+    assert_eq!(rt;
+        refuses_ports(rt.alloc(), 16, u32::MAX),
+        Some(Refusal::NoMemory)
+    );
 }
 
 // A journal with room for one event, and a port with room for one receipt: the second tick is refused and marked. The

@@ -1,12 +1,13 @@
-ghost use Rattle.std.specs.Prelude.{◌≡◌, ℕ, ◌+◌, ◌<◌, ◌≤◌, All, IfErr, IfOk, IsOk, MatchResult, length, slice_index_or, Option};
-ghost use Rattle.evm_shared.specs.Workers.{HasTurned, RefusesTurn, WorkerValue, least_refusal, lesser};
+ghost use Rattle.std.specs.Prelude.{◌≡◌, ℕ, ◌+◌, ◌<◌, ◌≤◌, All, IfErr, IfOk, MatchResult, length, slice_index_or, Option};
+ghost use Rattle.evm_shared.specs.Lookaheads.{nothing_ahead};
+ghost use Rattle.evm_shared.specs.Workers.{HasTurned, MakesTurn, RefusesTurn, WorkerValue, least_refusal, lesser};
 
 use crate::locked::Origin;
+use crate::lookahead::Lookahead;
 use crate::port::Port;
 use crate::shared::Shared;
 use evm_bells::{Bells, Taker};
 use evm_dev::Device;
-use evm_exec::{Burst, Hart, REGISTER_COUNT};
 use evm_model::Refusal;
 use std::alloc::Global;
 use std::marker::Model;
@@ -24,12 +25,14 @@ pub trait Gate: Sync {
     fn after(&self, cpu: u8, steps: u32);
 }
 
-/// A processor that a thread drives, with a port and a taker.
+/// A processor that a thread drives, with a port and a taker. What it commits was done ahead of the machine, from the hart
+/// that its last commit answered, by the words of a cache that notes the code after each commit.
 #[derive(Drop)]
 pub struct Worker<S: Ledger, B: Ledger, T: Ledger> {
     cpu: u8,
     port: Port<S, B, T>,
     taker: Taker,
+    ahead: Lookahead,
     refused: Option<Refusal>,
 }
 
@@ -38,15 +41,7 @@ impl<S: Ledger, B: Ledger, T: Ledger> Model for Worker<S, B, T> {
 
     ghost Value = { WorkerValue };
 
-    ghost view = { λ w. record { cpu = w.cpu; port = w.port; taker = w.taker; refused = w.refused } };
-}
-
-// A burst of no instruction.
-fn empty_burst() -> Burst {
-    Burst::empty(Hart {
-        regs: [0; REGISTER_COUNT],
-        pc: 0,
-    })
+    ghost view = { λ w. record { cpu = w.cpu; port = w.port; taker = w.taker; ahead = w.ahead; refused = w.refused } };
 }
 
 // The refusal of the lesser number.
@@ -77,7 +72,7 @@ fn least_refusal<S: Ledger, B: Ledger, T: Ledger>(workers: &[Worker<S, B, T>]) -
 }
 
 impl<S: Ledger, B: Ledger, T: Ledger> Worker<S, B, T> {
-    /// A worker of a processor, which has made no turn. It takes no memory today, so it is never refused.
+    /// A worker of a processor, which has made no turn, with an empty cache.
     ///
     /// # Errors
     ///
@@ -88,16 +83,19 @@ impl<S: Ledger, B: Ledger, T: Ledger> Worker<S, B, T> {
         port: Port<S, B, T>,
         taker: Taker,
     ) -> Result<Worker<S, B, T>, (Port<S, B, T>, Taker)>
-        ensures never { IsOk result }
         ensures parts { MatchResult result (λ w. (w.cpu ≡ cpu) × (w.port ≡ port) × (w.taker ≡ taker)) (λ back. (back.0 ≡ port) × (back.1 ≡ taker)) }
+        ensures ahead { IfOk result (λ w. w.ahead ≡ nothing_ahead) }
     {
-        let _ = alloc;
-        Ok(Worker {
-            cpu,
-            port,
-            taker,
-            refused: None,
-        })
+        match Lookahead::new(alloc) {
+            Err(_) => Err((port, taker)),
+            Ok(ahead) => Ok(Worker {
+                cpu,
+                port,
+                taker,
+                ahead,
+                refused: None,
+            }),
+        }
     }
 
     /// Its port and its taker.
@@ -108,7 +106,7 @@ impl<S: Ledger, B: Ledger, T: Ledger> Worker<S, B, T> {
         (port, taker)
     }
 
-    // One turn: before, deliver, commit, after.
+    // One turn: before, deliver, speculate, commit, note, after.
     fn turn<D: Device, O: Origin, R: Wait, G: Gate>(
         &mut self,
         rt: &R,
@@ -121,10 +119,13 @@ impl<S: Ledger, B: Ledger, T: Ledger> Worker<S, B, T> {
         ensures same { (self.new.cpu ≡ self.old.cpu) × (self.new.taker.bells ≡ self.old.taker.bells) × (self.new.refused ≡ self.old.refused) }
         ensures refused { IfErr result (λ why. RefusesTurn O.start bells.now.cpus self.old.cpu why) }
         ensures steps { IfOk result (λ _. self.old.port.share.steps + 1 ≤ self.new.port.share.steps) }
+        ensures made { IfOk result (λ _. MakesTurn O.start bells.now.cpus self.old self.new) }
     {
         gate.before(self.cpu, turn);
         shared.deliver(rt, &mut self.port, bells, &mut self.taker, self.cpu)?;
-        let done = shared.commit(rt, &mut self.port, self.cpu, &empty_burst())?;
+        let burst = self.ahead.burst();
+        let done = shared.commit(rt, &mut self.port, self.cpu, &burst)?;
+        self.ahead.keep(&done);
         gate.after(self.cpu, done.steps);
         Ok(())
     }
@@ -158,8 +159,8 @@ impl<
     B: Ledger + Send + Sync,
     T: Ledger + Send + Sync,
 > Shared<D, O, S, B, T> {
-    /// Has each worker make `turns` turns, in a thread of its own: it delivers, then commits, and calls the gate before
-    /// and after. A worker that is refused makes no further turn. A worker for which no thread can be made makes its
+    /// Has each worker make `turns` turns, in a thread of its own: it delivers, then commits what was done ahead, at most 65
+    /// Steps, and calls the gate before and after. A worker that is refused makes no further turn. A worker for which no thread can be made makes its
     /// turns on the caller's.
     ///
     /// # Errors

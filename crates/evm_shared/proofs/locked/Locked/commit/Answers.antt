@@ -20,4 +20,4 @@ invariant_of-self-in-Ok g c =
     }
 
 pub returns-in-Err-clause-refused : goal.returns-in-Err-clause-refused
-returns-in-Err-clause-refused g c = refuses g.O.Origin.start c.self.inside.machine c.args.cpu c.in-Err.why c.rules.ensures.good c.self.invariant.replays c.in-Err.ensures.made
+returns-in-Err-clause-refused g c = refuses g.O.Origin.start c.self.inside.machine c.args.cpu c.in-Err.refusal c.rules.ensures.good c.self.invariant.replays c.in-Err.ensures.made
