@@ -6,7 +6,7 @@
 
 #define ROUNDS 8
 
-static long mutex, done;
+static long mutex, begin, done;
 static volatile long count;
 static struct evl_stack stacks[2];
 
@@ -14,6 +14,7 @@ void counter(void *arg)
 {
 	(void)arg;
 	evl_attach_self(EVL_RR, 20);
+	evl_get_sem(begin);
 	for (int i = 0; i < ROUNDS; i++) {
 		long old;
 
@@ -36,10 +37,13 @@ EVL_NAME(counter, "counter");
 int main(void)
 {
 	mutex = evl_create_mutex(EVL_MUTEX_INHERITANCE, 0);
+	begin = evl_create_sem(0);
 	done = evl_create_sem(0);
 	evl_create(counter, 0, 1, &stacks[0]);
 	evl_create(counter, 0, 1, &stacks[1]);
 	evl_attach_self(EVL_FIFO, 30);
+	evl_put_sem(begin);
+	evl_put_sem(begin);
 	evl_get_sem(done);
 	evl_get_sem(done);
 	evl_assert(count == 2 * ROUNDS);
