@@ -1,5 +1,7 @@
 //! The answer to a command.
 
+ghost use Rattle.std.specs.Prelude.{◌≡◌, ◌++◌, ℕ, List, Option, OnOk, length, slice_get};
+ghost use Rattle.evm_gdb.specs.Answers.{alive_text, answer_text, is_task, register_text, task_registers};
 ghost use Rattle.evm_gdb.specs.Kept.{Keeps};
 
 use crate::bytes::{push_bytes, push_error, push_outcome, push_thread, push_word};
@@ -26,7 +28,9 @@ use std::alloc::Global;
 const MALFORMED: u8 = 22;
 
 // Appends the registers of the task that is looked at.
-fn answer_registers<D: Device>(session: &Session<D>, out: &mut Vec<u8>) -> Result<(), Refused> {
+fn answer_registers<D: Device>(session: &Session<D>, out: &mut Vec<u8>) -> Result<(), Refused>
+    ensures ok { OnOk result (out.new.items ≡ out.old.items ++ task_registers (slice_get session.now.machine.board.parts.harts session.now.looked)) }
+{
     match session.machine.hart(session.looked) {
         Some(hart) => push_registers(out, &hart),
         None => push_error(out, Refusal::NoTask.number()),
@@ -38,7 +42,9 @@ fn answer_register<D: Device>(
     session: &Session<D>,
     r: u64,
     out: &mut Vec<u8>,
-) -> Result<(), Refused> {
+) -> Result<(), Refused>
+    ensures ok { OnOk result (out.new.items ≡ out.old.items ++ register_text r (slice_get session.now.machine.board.parts.harts session.now.looked)) }
+{
     if r > 32 {
         return push_error(out, Refusal::BadRegister.number());
     }
@@ -156,7 +162,7 @@ pub(crate) fn refusal_text(refusal: Refusal) -> &'static str {
 fn note_of(why: Why) -> &'static str {
     match why {
         Why::Limit =>
-            "evlgdb: stopped after as many events as a continue may make (monitor limit N)\n",
+            "evlgdb: stopped after as many Steps as a continue may make (monitor limit N)\n",
         Why::Idle => "evlgdb: no task is ready and no line is raised on the processors that step\n",
         _ => "",
     }
@@ -190,7 +196,9 @@ fn answer_thread<D: Device>(
     machine: &Machine<D>,
     thread: Option<u8>,
     out: &mut Vec<u8>,
-) -> Result<(), Refused> {
+) -> Result<(), Refused>
+    ensures ok { OnOk result (out.new.items ≡ out.old.items ++ alive_text (is_task (length machine.now.board.parts.tasks) thread)) }
+{
     if is_task(machine, thread) {
         push_bytes(out, b"OK")
     } else {
@@ -199,7 +207,9 @@ fn answer_thread<D: Device>(
 }
 
 // Whether there is a task; any is there.
-fn is_task<D: Device>(machine: &Machine<D>, thread: Option<u8>) -> bool {
+fn is_task<D: Device>(machine: &Machine<D>, thread: Option<u8>) -> bool
+    ensures { result ≡ is_task (length machine.now.board.parts.tasks) thread }
+{
     match thread {
         Some(task) => task < machine.task_count(),
         None => true,
@@ -298,7 +308,9 @@ fn answer_question<D: Device>(
     session: &Session<D>,
     command: Command,
     out: &mut Vec<u8>,
-) -> Result<(), Refused> {
+) -> Result<(), Refused>
+    ensures said { (text : List ℕ) → answer_text session.now.looked session.now.halt session.now.machine command ≡ Option.Some text → OnOk result (out.new.items ≡ out.old.items ++ text) }
+{
     match command {
         Command::Why => push_halt(out, &session.halt),
         Command::Registers => answer_registers(session, out),
@@ -379,6 +391,8 @@ fn answer_order<D: Device>(
     out: &mut Vec<u8>,
 ) -> Result<(), Refused>
     ensures kept { Keeps session.old.machine session.new.machine }
+    ensures said { (text : List ℕ) → answer_text session.old.looked session.old.halt session.old.machine command ≡ Option.Some text → OnOk result (out.new.items ≡ out.old.items ++ text) }
+    ensures unchanged { (text : List ℕ) → answer_text session.old.looked session.old.halt session.old.machine command ≡ Option.Some text → session.new ≡ session.old }
 {
     match command {
         Command::Resume(pace) => {
@@ -439,6 +453,8 @@ pub(crate) fn answer<D: Device>(
     out: &mut Vec<u8>,
 ) -> Result<(), NoMemory>
     ensures kept { Keeps session.old.machine session.new.machine }
+    ensures said { (text : List ℕ) → answer_text session.old.looked session.old.halt session.old.machine command ≡ Option.Some text → OnOk result (out.new.items ≡ out.old.items ++ text) }
+    ensures unchanged { (text : List ℕ) → answer_text session.old.looked session.old.halt session.old.machine command ≡ Option.Some text → session.new ≡ session.old }
 {
     match command {
         Command::WriteBytes(_, _) => answer_data(session, command, behind, told, out),

@@ -2,6 +2,7 @@ use super::*;
 use evm_devs::AnyDevice;
 use evm_gdb_packets::push_framed;
 use std::alloc::Global;
+use std::io::{self, Error, ErrorKind, Read, Write};
 use std::test::Fail;
 
 // A machine of 2 processors whose task 0 does addi a0, a0, 1 for ever.
@@ -152,5 +153,58 @@ fn the_monitor_shows_a_view(rt: HostRuntime) -> Result<(), Fail> {
     let out = talk(rt.alloc(), &[b"qRcmd,6d656d2038303030303030302032"])?;
     let wanted = packets(rt.alloc(), &[b"O313330350a", b"OK"])?;
     assert_eq!(rt; out.as_slice(), wanted.as_slice());
+    Ok(())
+}
+
+/// Gives a byte at a call.
+#[derive(Drop)]
+struct Slow<'a> {
+    rest: &'a [u8],
+}
+
+impl Read for Slow<'_> {
+    fn read(&mut self, buf: &mut [u8]) -> io::Result<usize> {
+        let mut part = &self.rest[..self.rest.len().min(1)];
+        let count = part.read(buf)?;
+        self.rest = &self.rest[count.min(self.rest.len())..];
+        Ok(count)
+    }
+}
+
+/// Takes nothing.
+#[derive(Drop)]
+struct Broken;
+
+impl Write for Broken {
+    fn write(&mut self, _buf: &[u8]) -> io::Result<usize> {
+        Err(Error::from(ErrorKind::BrokenPipe))
+    }
+
+    fn flush(&mut self) -> io::Result<()> {
+        Ok(())
+    }
+}
+
+// A packet in pieces, a damaged one, and what was written last once more.
+#[test]
+fn packets_come_in_pieces(rt: HostRuntime) -> Result<(), Fail> {
+    let mut session = Session::new(machine(rt.alloc())?);
+    let mut source = Slow {
+        rest: b"+$qC#b4$qC#b5-+x",
+    };
+    let mut out = Vec::new(rt.alloc());
+    let end = serve(rt.alloc(), &mut session, &mut source, &mut out);
+    assert_eq!(rt; end, Ended::Left);
+    assert_eq!(rt; out.as_slice(), b"+$QC01#f5--".as_slice());
+    Ok(())
+}
+
+#[test]
+fn a_failed_write_ends_a_session(rt: HostRuntime) -> Result<(), Fail> {
+    let mut session = Session::new(machine(rt.alloc())?);
+    let mut source: &[u8] = b"$?#3f";
+    let end = serve(rt.alloc(), &mut session, &mut source, &mut Broken);
+    let failed = matches!(end, Ended::WriteFailed(_));
+    assert!(rt; failed, "{end:?}");
     Ok(())
 }
