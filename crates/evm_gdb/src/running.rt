@@ -99,32 +99,52 @@ fn next_turn(turn: usize, turns: usize) -> usize {
 /// What the next step of a processor does.
 #[derive(Clone, Copy)]
 enum Next {
-    /// It receives a line.
-    Receives,
+    /// It receives a line, or takes up a task that is ready.
+    Prepares,
     /// The task does an instruction.
     Runs(u8),
     /// Nothing.
     Idles,
 }
 
-fn next_of<D: Device>(machine: &Machine<D>, c: u8) -> Next {
-    if let Some(wire) = machine.wire(c) {
-        if !wire.is_empty() {
-            return Next::Receives;
+// Whether a line is on the wire of a processor.
+fn has_line<D: Device>(machine: &Machine<D>, c: u8) -> bool {
+    match machine.wire(c) {
+        Some(wire) => !wire.is_empty(),
+        None => false,
+    }
+}
+
+// Whether a task of a processor is ready. One that was just spawned there runs from the processor's next step on.
+fn has_ready<D: Device>(machine: &Machine<D>, c: u8) -> bool {
+    for t in 0..machine.task_count() {
+        if let Some(task) = machine.task(t) {
+            if task.cpu == c && matches!(task.state, TaskState::InReady | TaskState::OobReady) {
+                return true;
+            }
         }
     }
-    match machine.cpu(c) {
-        Some(processor) => match processor.current {
-            Some(task) => Next::Runs(task),
-            None => Next::Idles,
-        },
+    false
+}
+
+fn next_of<D: Device>(machine: &Machine<D>, c: u8) -> Next {
+    if has_line(machine, c) {
+        return Next::Prepares;
+    }
+    let current = match machine.cpu(c) {
+        Some(processor) => processor.current,
+        None => None,
+    };
+    match current {
+        Some(task) => Next::Runs(task),
+        None if has_ready(machine, c) => Next::Prepares,
         None => Next::Idles,
     }
 }
 
 fn is_busy<D: Device>(machine: &Machine<D>, c: u8) -> bool {
     match next_of(machine, c) {
-        Next::Receives | Next::Runs(_) => true,
+        Next::Prepares | Next::Runs(_) => true,
         Next::Idles => false,
     }
 }
@@ -242,7 +262,7 @@ pub(crate) fn step<D: Device>(machine: &mut Machine<D>, c: u8, looked: u8) -> Re
             return Err(refusal);
         }
         match next {
-            Next::Receives => {}
+            Next::Prepares => {}
             Next::Runs(task) => return Ok(stepped(machine, c, task)),
             Next::Idles => {
                 return Ok(Halt {

@@ -5,8 +5,8 @@ use std::alloc::Global;
 use std::io::{self, Error, ErrorKind, Read, Write};
 use std::test::Fail;
 
-// A machine of 2 processors whose task 0 does addi a0, a0, 1 for ever.
-fn machine(alloc: Global) -> Result<Machine<AnyDevice>, Fail> {
+// A machine of 2 processors, and what is poked into it.
+fn machine_with(alloc: Global, line: &[u8]) -> Result<Machine<AnyDevice>, Fail> {
     let numbers = Boot {
         cpus: 2,
         ram: 65_536,
@@ -17,13 +17,33 @@ fn machine(alloc: Global) -> Result<Machine<AnyDevice>, Fail> {
         Err(_) => return Err(Fail::from("the boot was refused")),
     };
     let mut text = String::new(alloc);
-    let _ = run_line(&mut machine, b"poke 80000000 130515006ff0dfff", &mut text)?;
+    let _ = run_line(&mut machine, line, &mut text)?;
     Ok(machine)
+}
+
+// Its task 0 does addi a0, a0, 1 for ever.
+fn machine(alloc: Global) -> Result<Machine<AnyDevice>, Fail> {
+    machine_with(alloc, b"poke 80000000 130515006ff0dfff")
+}
+
+// Its task 0 spawns a task of processor 1 at 80000018, and both jump for ever (GNU as).
+fn spawning(alloc: Global) -> Result<Machine<AnyDevice>, Fail> {
+    let line = b"poke 80000000 17050000130585011306100093083000730000006f000000938616006ff0dfff";
+    machine_with(alloc, line)
 }
 
 // What a session answers to packets of these payloads, with no acknowledgements.
 fn talk(alloc: Global, payloads: &[&[u8]]) -> Result<Vec<u8>, Fail> {
-    let mut session = Session::new(machine(alloc)?);
+    talk_to(alloc, machine(alloc)?, payloads)
+}
+
+// The same with a machine.
+fn talk_to(
+    alloc: Global,
+    machine: Machine<AnyDevice>,
+    payloads: &[&[u8]],
+) -> Result<Vec<u8>, Fail> {
+    let mut session = Session::new(machine);
     session.acknowledges = false;
     let mut input = Vec::new(alloc);
     for payload in payloads {
@@ -206,5 +226,23 @@ fn a_failed_write_ends_a_session(rt: HostRuntime) -> Result<(), Fail> {
     let end = serve(rt.alloc(), &mut session, &mut source, &mut Broken);
     let failed = matches!(end, Ended::WriteFailed(_));
     assert!(rt; failed, "{end:?}");
+    Ok(())
+}
+
+// The task is passed over neither by a continue nor by a step.
+#[test]
+fn a_spawned_task_runs(rt: HostRuntime) -> Result<(), Fail> {
+    let machine = spawning(rt.alloc())?;
+    let out = talk_to(rt.alloc(), machine, &[b"Z0,80000018,4", b"vCont;c", b"qC"])?;
+    let wanted = packets(rt.alloc(), &[b"OK", b"T05thread:02;swbreak:;", b"QC02"])?;
+    assert_eq!(rt; out.as_slice(), wanted.as_slice());
+    let machine = spawning(rt.alloc())?;
+    let steps: [&[u8]; 6] = [b"s", b"s", b"s", b"s", b"s", b"vCont;s:2"];
+    let out = talk_to(rt.alloc(), machine, &steps)?;
+    let last = packets(rt.alloc(), &[b"T05thread:02;"])?;
+    assert!(rt;
+        out.as_slice().ends_with(last.as_slice()),
+        "a step of the spawned task"
+    );
     Ok(())
 }
