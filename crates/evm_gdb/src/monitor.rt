@@ -1,0 +1,160 @@
+//! Lines of a script, as a monitor takes them.
+
+ghost use Rattle.evm_gdb.specs.Kept.{Keeps};
+
+use crate::session::{Session, TURN_LIMIT, each_processor};
+use arrayvec::ArrayVec;
+use evm_debug::{Line, Machine, Refusal, View, ViewRefusal, push_view, read_line};
+use evm_dev::Device;
+use evm_room::NoMemory;
+use evm_text::{after_word, decimal_at, decimal_last};
+
+/// What came of a line.
+#[derive(Clone, Copy, Debug, PartialEq, Eq)]
+pub enum LineEnd {
+    /// It was done.
+    Done,
+    /// It is outside the grammar.
+    Bad,
+    /// The machine refuses it.
+    Refused(Refusal),
+    /// It would boot a second time.
+    BootsAgain,
+}
+
+fn refused_or_done(outcome: Result<(), Refusal>) -> LineEnd {
+    match outcome {
+        Ok(()) => LineEnd::Done,
+        Err(refusal) => LineEnd::Refused(refusal),
+    }
+}
+
+// Appends the text of a view.
+fn look<D: Device>(
+    machine: &Machine<D>,
+    what: &View,
+    text: &mut String,
+) -> Result<LineEnd, NoMemory> {
+    match push_view(text, machine, what) {
+        Ok(()) => Ok(LineEnd::Done),
+        Err(ViewRefusal::Refused(refusal)) => Ok(LineEnd::Refused(refusal)),
+        Err(ViewRefusal::NoMemory) => Err(NoMemory),
+    }
+}
+
+/// Does a line of a script on a machine that is booted, and appends the text of a view.
+///
+/// # Errors
+///
+/// Memory for the text was refused.
+#[tactic(auto, using(crate::proofs::Kept::keeps_same))]
+pub fn run_line<D: Device>(
+    machine: &mut Machine<D>,
+    line: &[u8],
+    text: &mut String,
+) -> Result<LineEnd, NoMemory>
+    ensures kept { Keeps machine.old machine.new }
+{
+    let Ok(line) = read_line(line) else {
+        return Ok(LineEnd::Bad);
+    };
+    match line {
+        Line::Blank => Ok(LineEnd::Done),
+        Line::Boot(_) => Ok(LineEnd::BootsAgain),
+        Line::Steps(c, count) => Ok(refused_or_done(machine.steps(c, count))),
+        Line::One(event) => match machine.apply(event.lend()) {
+            Ok(_) => Ok(LineEnd::Done),
+            Err(refusal) => Ok(LineEnd::Refused(refusal)),
+        },
+        Line::Look(what) => look(machine, &what, text),
+    }
+}
+
+// The processors of a schedule, with one blank between them.
+fn turns_at(bytes: &[u8], cpus: u8) -> Option<ArrayVec<u8, TURN_LIMIT>> {
+    let mut turns = ArrayVec::new();
+    let mut rest = bytes;
+    'turns: for _ in 0..TURN_LIMIT {
+        let (number, behind) = decimal_at(rest)?;
+        if number >= u64::from(cpus) {
+            return None;
+        }
+        let Ok(()) = turns.try_push(number as u8) else {
+            return None;
+        };
+        if behind.is_empty() {
+            return Some(turns);
+        }
+        rest = after_word(b" ", behind)?;
+    }
+    None
+}
+
+/// A line of the monitor that is no line of a script.
+enum Own {
+    /// `limit N`.
+    Limit(u32),
+    /// `schedule ..`.
+    Turns(ArrayVec<u8, TURN_LIMIT>),
+    /// `help`.
+    Help,
+}
+
+// What a line of the monitor's own asks for.
+fn own_line(line: &[u8], cpus: u8) -> Option<Own> {
+    if line == b"help".as_slice() {
+        return Some(Own::Help);
+    }
+    if line == b"schedule round-robin".as_slice() {
+        return Some(Own::Turns(each_processor(cpus)));
+    }
+    if let Some(rest) = after_word(b"schedule ", line) {
+        return Some(Own::Turns(turns_at(rest, cpus)?));
+    }
+    let number = decimal_last(after_word(b"limit ", line)?)?;
+    if number == 0 || number > 1_048_576 {
+        None
+    } else {
+        Some(Own::Limit(number as u32))
+    }
+}
+
+/// What `monitor help` shows.
+pub(crate) const HELP: &str = "limit N               a continue makes at most N events, 1 to 1048576
+schedule C C ..       in a continue these processors step, one after the other
+schedule round-robin  in a continue each processor steps in turn
+step C N, tick, raise C L, stop C, go C, stepi C, set C R V, setpc C V,
+poke A HEX, break A, unbreak A                             events of a script
+regs C, mem A N, stages C, tasks, owners, rank T, notices, counts C L,
+journal, console, words I                                  views of a script
+";
+
+/// Does a line of the monitor, and appends its text.
+///
+/// # Errors
+///
+/// Memory for the text was refused.
+#[tactic(auto, using(crate::proofs::Kept::keeps_same))]
+pub(crate) fn run_monitor<D: Device>(
+    session: &mut Session<D>,
+    line: &[u8],
+    text: &mut String,
+) -> Result<LineEnd, NoMemory>
+    ensures kept { Keeps session.old.machine session.new.machine }
+{
+    match own_line(line, session.machine.cpu_count()) {
+        None => run_line(&mut session.machine, line, text),
+        Some(Own::Limit(limit)) => {
+            session.limit = limit;
+            Ok(LineEnd::Done)
+        }
+        Some(Own::Turns(turns)) => {
+            session.turns = turns;
+            Ok(LineEnd::Done)
+        }
+        Some(Own::Help) => match evm_room::push_text(text, HELP) {
+            Ok(()) => Ok(LineEnd::Done),
+            Err(_) => Err(NoMemory),
+        },
+    }
+}

@@ -1,0 +1,347 @@
+//! The server: bytes in, packets out.
+
+ghost use Rattle.std.specs.Prelude.{◌≡◌, ◌≢◌, ◌<◌, ◌++◌, [], length, OnOk, Option};
+ghost use Rattle.evm_gdb_packets.specs.Framing.{framed};
+ghost use Rattle.evm_gdb.specs.Commands.{command_at};
+ghost use Rattle.evm_gdb.specs.Written.{Extends, acknowledgement};
+ghost use Rattle.evm_gdb.specs.Kept.{Keeps};
+
+use crate::answering::answer;
+use crate::bytes::{part_len, push_bytes};
+use crate::command::{Command, read_command};
+use crate::session::Session;
+use evm_dev::Device;
+use evm_gdb_packets::{Item, push_digits, push_framed, read_item};
+use evm_room::{NoMemory, Refused};
+use evm_streams::{ReadFault, Reading, Sink, Source, WriteFault, write_all};
+use std::alloc::Global;
+
+/// How a session ended.
+#[derive(Clone, Copy, Debug, PartialEq, Eq)]
+pub enum Ended {
+    /// GDB left, or its stream ended.
+    Left,
+    /// An allocation failed.
+    NoMemory,
+    /// A read failed.
+    ReadFailed(ReadFault),
+    /// A write failed.
+    WriteFailed(WriteFault),
+}
+
+// What a session is answered with, and where it is made.
+#[derive(Drop)]
+struct Desk {
+    data: Vec<u8>,
+    told: String,
+    answer: Vec<u8>,
+    // What is written, and what was written last.
+    out: Vec<u8>,
+}
+
+fn new_desk(alloc: Global) -> Desk {
+    Desk {
+        data: Vec::new(alloc),
+        told: String::new(alloc),
+        answer: Vec::new(alloc),
+        out: Vec::new(alloc),
+    }
+}
+
+/// How many bytes of text one packet shows.
+const SHOWN_LIMIT: usize = 1_024;
+
+// Appends a packet that shows a part of a text: O and its digits.
+#[tactic(auto, using(crate::proofs::Extending::extends_by))]
+fn push_shown_part(text: &[u8], packet: &mut Vec<u8>, out: &mut Vec<u8>) -> Result<(), Refused>
+    ensures extends { OnOk result (Extends out.old.items out.new.items) }
+{
+    packet.clear();
+    push_bytes(packet, b"O")?;
+    push_digits(packet, text)?;
+    push_framed(out, packet.as_slice())
+}
+
+// Appends the packets that show a text.
+#[tactic(auto, using(crate::proofs::Extending::extends_none, crate::proofs::Extending::extends_more))]
+fn push_shown(text: &[u8], packet: &mut Vec<u8>, out: &mut Vec<u8>) -> Result<(), Refused>
+    ensures extends { OnOk result (Extends out.old.items out.new.items) }
+{
+    let mut rest = text;
+    'packets: while !rest.is_empty() {
+        let (first, after) = cut_text(rest);
+        match push_shown_part(first, packet, out) {
+            Ok(()) => rest = after,
+            Err(refused) => return Err(refused),
+        }
+    }
+    Ok(())
+}
+
+// The first bytes of a text, as many as one packet shows, and the others.
+fn cut_text(text: &[u8]) -> (&[u8], &[u8])
+    ensures shorter { 0 < length text.now → length result.1.now < length text.now }
+{
+    let end = part_len(text.len(), SHOWN_LIMIT);
+    (&text[..end], &text[end..])
+}
+
+// Appends the packet of an answer, if GDB waits for one.
+#[tactic(auto, using(crate::proofs::Extending::extends_none, crate::proofs::Extending::extends_by))]
+fn push_answer(answer: &[u8], over: bool, out: &mut Vec<u8>) -> Result<(), Refused>
+    ensures extends { OnOk result (Extends out.old.items out.new.items) }
+{
+    if over && answer.is_empty() {
+        return Ok(());
+    }
+    push_framed(out, answer)
+}
+
+// Appends the packets of an answer: those that show a text, and the answer itself.
+#[tactic(auto, using(crate::proofs::Extending::extends_more))]
+fn push_packets(desk: &mut Desk, over: bool) -> Result<(), NoMemory>
+    ensures extends { OnOk result (Extends desk.old.out.items desk.new.out.items) }
+{
+    match push_shown(desk.told.as_bytes(), &mut desk.data, &mut desk.out) {
+        Ok(()) => {}
+        Err(_) => return Err(NoMemory),
+    }
+    match push_answer(desk.answer.as_slice(), over, &mut desk.out) {
+        Ok(()) => Ok(()),
+        Err(_) => Err(NoMemory),
+    }
+}
+
+// Does a command, and appends the packets of its answer.
+fn answer_command<D: Device>(
+    alloc: Global,
+    session: &mut Session<D>,
+    command: Command,
+    behind: &[u8],
+    desk: &mut Desk,
+) -> Result<(), NoMemory>
+    ensures kept { Keeps session.old.machine session.new.machine }
+    ensures extends { OnOk result (Extends desk.old.out.items desk.new.out.items) }
+{
+    desk.told.clear();
+    desk.answer.clear();
+    match answer(
+        alloc,
+        session,
+        command,
+        behind,
+        &mut desk.data,
+        &mut desk.told,
+        &mut desk.answer,
+    ) {
+        Ok(()) => push_packets(desk, session.over),
+        Err(NoMemory) => Err(NoMemory),
+    }
+}
+
+// Appends the empty packet.
+fn push_none(out: &mut Vec<u8>) -> Result<(), NoMemory>
+    ensures ok { OnOk result (out.new.items ≡ out.old.items ++ framed []) }
+{
+    match push_framed(out, &[]) {
+        Ok(()) => Ok(()),
+        Err(_) => Err(NoMemory),
+    }
+}
+
+// Appends an acknowledgement, if packets are acknowledged.
+fn push_sign(acknowledges: bool, item: Item, out: &mut Vec<u8>) -> Result<(), NoMemory>
+    ensures ok { OnOk result (out.new.items ≡ out.old.items ++ acknowledgement acknowledges item) }
+{
+    let sign: &[u8] = match item {
+        Item::Packet if acknowledges => b"+",
+        Item::Damaged if acknowledges => b"-",
+        _ => b"",
+    };
+    match push_bytes(out, sign) {
+        Ok(()) => Ok(()),
+        Err(_) => Err(NoMemory),
+    }
+}
+
+// Answers a payload.
+#[tactic(auto, using(crate::proofs::Kept::keeps_same, crate::proofs::Extending::extends_by))]
+fn answer_payload<D: Device>(
+    alloc: Global,
+    session: &mut Session<D>,
+    payload: &[u8],
+    desk: &mut Desk,
+) -> Result<(), NoMemory>
+    ensures kept { Keeps session.old.machine session.new.machine }
+    ensures extends { OnOk result (Extends desk.old.out.items desk.new.out.items) }
+    ensures unknown { command_at payload.now ≡ Option.None → session.new ≡ session.old }
+    ensures empty { command_at payload.now ≡ Option.None → OnOk result (desk.new.out.items ≡ desk.old.out.items ++ framed []) }
+{
+    match read_command(payload) {
+        Some((command, behind)) => answer_command(alloc, session, command, behind, desk),
+        None => push_none(&mut desk.out),
+    }
+}
+
+// Makes what is to be written for an item: its acknowledgement, and the packets of the answer to a payload.
+#[tactic(auto, using(crate::proofs::Kept::keeps_same, crate::proofs::Extending::extends_none))]
+fn hear<D: Device>(
+    alloc: Global,
+    session: &mut Session<D>,
+    item: Item,
+    payload: &[u8],
+    desk: &mut Desk,
+) -> Result<(), NoMemory>
+    ensures kept { Keeps session.old.machine session.new.machine }
+    ensures acknowledged { OnOk result (Extends (acknowledgement session.old.acknowledges item) desk.new.out.items) }
+    ensures others { item ≢ Item.Packet → session.new ≡ session.old }
+    ensures sign { item ≢ Item.Packet → OnOk result (desk.new.out.items ≡ acknowledgement session.old.acknowledges item) }
+    ensures unknown { item ≡ Item.Packet → command_at payload.now ≡ Option.None → session.new ≡ session.old }
+    ensures empty { item ≡ Item.Packet → command_at payload.now ≡ Option.None → OnOk result (desk.new.out.items ≡ acknowledgement session.old.acknowledges item ++ framed []) }
+{
+    desk.out.clear();
+    match push_sign(session.acknowledges, item, &mut desk.out) {
+        Ok(()) => {}
+        Err(NoMemory) => return Err(NoMemory),
+    }
+    match item {
+        Item::Packet => answer_payload(alloc, session, payload, desk),
+        _ => Ok(()),
+    }
+}
+
+// Whether something is written for an item. For - it is what was written last.
+fn is_answered(item: Item) -> bool {
+    matches!(item, Item::Packet | Item::Damaged | Item::NotAcknowledged)
+}
+
+// Makes what is written for an item; what was written last stays where nothing new is.
+#[tactic(auto, using(crate::proofs::Kept::keeps_same))]
+fn prepare<D: Device>(
+    alloc: Global,
+    session: &mut Session<D>,
+    item: Item,
+    payload: &[u8],
+    desk: &mut Desk,
+) -> Result<(), NoMemory>
+    ensures kept { Keeps session.old.machine session.new.machine }
+{
+    match item {
+        Item::Packet | Item::Damaged => hear(alloc, session, item, payload, desk),
+        _ => Ok(()),
+    }
+}
+
+// Answers an item.
+fn serve_item<W: Sink, D: Device>(
+    alloc: Global,
+    session: &mut Session<D>,
+    item: Item,
+    payload: &[u8],
+    desk: &mut Desk,
+    sink: &mut W,
+) -> Result<(), Ended>
+    ensures kept { Keeps session.old.machine session.new.machine }
+{
+    match prepare(alloc, session, item, payload, desk) {
+        Ok(()) => {}
+        Err(NoMemory) => return Err(Ended::NoMemory),
+    }
+    if !is_answered(item) {
+        return Ok(());
+    }
+    match write_all(sink, desk.out.as_slice()) {
+        Ok(()) => Ok(()),
+        Err(fault) => Err(Ended::WriteFailed(fault)),
+    }
+}
+
+// Answers the items that are whole in some bytes: how many bytes are left.
+#[tactic(auto, using(crate::proofs::Kept::keeps_same, crate::proofs::Kept::keeps_more))]
+fn serve_items<W: Sink, D: Device>(
+    alloc: Global,
+    session: &mut Session<D>,
+    bytes: &[u8],
+    payload: &mut Vec<u8>,
+    desk: &mut Desk,
+    sink: &mut W,
+) -> Result<usize, Ended>
+    ensures kept { Keeps session.old.machine session.new.machine }
+{
+    let mut rest = bytes;
+    'items: for _ in 0..bytes.len() {
+        if session.over {
+            return Ok(0);
+        }
+        match read_item(rest, payload) {
+            Err(_) => return Err(Ended::NoMemory),
+            Ok(None) => return Ok(rest.len()),
+            Ok(Some((item, after))) => {
+                match serve_item(alloc, session, item, payload.as_slice(), desk, sink) {
+                    Ok(()) => rest = after,
+                    Err(ended) => return Err(ended),
+                }
+            }
+        }
+    }
+    Ok(rest.len())
+}
+
+// Reads some bytes behind those that are not answered.
+fn read_more<R: Source>(source: &mut R, heard: &mut Vec<u8>) -> Result<bool, Ended> {
+    let mut part = [0u8; 4_096];
+    match source.read(&mut part) {
+        Reading::Failed(cause) => Err(Ended::ReadFailed(ReadFault::Failed(cause))),
+        Reading::Bytes(0) => Ok(false),
+        Reading::Bytes(n) => match push_bytes(heard, &part[..n]) {
+            Ok(()) => Ok(true),
+            Err(_) => Err(Ended::NoMemory),
+        },
+    }
+}
+
+// Keeps the last bytes of a list alone.
+fn keep_last(heard: &mut Vec<u8>, left: usize) {
+    let len = heard.len();
+    if left < len {
+        heard.copy_within(len - left..len, 0);
+        heard.truncate(left);
+    }
+}
+
+/// Serves a session: reads what GDB sends until it leaves, and writes the answers.
+#[tactic(auto, using(crate::proofs::Kept::keeps_same, crate::proofs::Kept::keeps_more))]
+pub fn serve<R: Source, W: Sink, D: Device>(
+    alloc: Global,
+    session: &mut Session<D>,
+    source: &mut R,
+    sink: &mut W,
+) -> Ended
+    ensures kept { Keeps session.old.machine session.new.machine }
+{
+    let mut desk = new_desk(alloc);
+    let mut heard = Vec::new(alloc);
+    let mut payload = Vec::new(alloc);
+    'parts: for _ in 0..u64::MAX {
+        match read_more(source, &mut heard) {
+            Ok(true) => {}
+            Ok(false) => return Ended::Left,
+            Err(ended) => return ended,
+        }
+        match serve_items(
+            alloc,
+            session,
+            heard.as_slice(),
+            &mut payload,
+            &mut desk,
+            sink,
+        ) {
+            Ok(left) => keep_last(&mut heard, left),
+            Err(ended) => return ended,
+        }
+        if session.over {
+            return Ended::Left;
+        }
+    }
+    Ended::Left
+}

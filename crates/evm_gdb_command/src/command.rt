@@ -1,0 +1,183 @@
+//! A run of the program, from its words to its exit status.
+
+use crate::booting::{DEFAULT, NotBooted, boot, run_script};
+use crate::words::{Job, job_of, parse};
+use clap::Error;
+use clap::error::ErrorKind;
+use evm_dev::Device;
+use evm_gdb::{Devices, Ended, Machine, Refusal, Session, serve};
+use evm_host::{
+    Ending, FAILED, Known, Message, System, USAGE, Verdict, WordsFault, World, ended, ended_with,
+    image_at, memory_refused, report, text_at, words_not_read, write_all,
+};
+use evm_image::Image;
+use evm_serve::InputFault;
+use std::alloc::Global;
+
+/// The name in front of messages that are about no file.
+pub(crate) const PROGRAM: &str = "evlgdb";
+
+// Writes help or the version.
+fn show<S: System>(text: &str, world: &mut World<S>) -> u8 {
+    let ending = match write_all(&mut world.output, text.as_bytes()) {
+        Ok(()) => Ending::Complete(Verdict::Done),
+        Err(fault) => Ending::WriteFailed(fault),
+    };
+    ended(PROGRAM, &ending, &mut world.errors)
+}
+
+// Writes what is wrong with the words.
+fn blame<S: System>(text: &str, world: &mut World<S>) -> u8 {
+    match write_all(&mut world.errors, text.as_bytes()) {
+        Ok(()) => USAGE,
+        Err(_) => FAILED,
+    }
+}
+
+// Ends a run whose words are no command, or ask for help or the version.
+fn refuse<S: System>(alloc: Global, error: &Error, world: &mut World<S>) -> u8 {
+    let Ok(text) = format!(in alloc; "{error}") else {
+        return memory_refused(PROGRAM, world);
+    };
+    match error.kind() {
+        ErrorKind::DisplayHelp | ErrorKind::DisplayVersion => show(text.as_str(), world),
+        ErrorKind::OutOfMemory => memory_refused(PROGRAM, world),
+        _ => blame(text.as_str(), world),
+    }
+}
+
+// Ends a run whose script left no machine.
+fn not_booted<S: System>(
+    fault: NotBooted,
+    name: &str,
+    script: &[u8],
+    image: &Image,
+    world: &mut World<S>,
+) -> u8 {
+    match fault {
+        NotBooted::NoMemory => memory_refused(PROGRAM, world),
+        NotBooted::NoBoot => {
+            report(
+                name,
+                Message::Plain("no boot line, so there is no machine"),
+                &mut world.errors,
+            );
+            1
+        }
+        NotBooted::Fault(fault) => ended_with(
+            Known::Lines(Some(image), script),
+            name,
+            &Ending::Complete(Verdict::Refused(fault)),
+            &mut world.errors,
+        ),
+    }
+}
+
+// The machine that boots by default.
+fn default_machine<S: System, D: Device>(
+    alloc: Global,
+    devices: Devices<D>,
+    name: &str,
+    image: &Image,
+    world: &mut World<S>,
+) -> Result<Machine<D>, u8> {
+    match boot(alloc, DEFAULT, devices, image) {
+        Ok(machine) => Ok(machine),
+        Err(Refusal::NoMemory) => Err(memory_refused(PROGRAM, world)),
+        Err(_) => {
+            report(
+                name,
+                Message::Plain("the machine refuses the image"),
+                &mut world.errors,
+            );
+            Err(1)
+        }
+    }
+}
+
+// The machine that the words ask for.
+fn machine_of<S: System, D: Device>(
+    alloc: Global,
+    devices: Devices<D>,
+    job: Job<'_>,
+    image: &Image,
+    world: &mut World<S>,
+) -> Result<Machine<D>, u8> {
+    let Some(name) = job.script else {
+        return default_machine(alloc, devices, job.image, image, world);
+    };
+    let script = match text_at(alloc, name, world) {
+        Ok(script) => script,
+        Err(status) => return Err(status),
+    };
+    match run_script(alloc, script.as_bytes(), devices, image, &mut world.errors) {
+        Ok(machine) => Ok(machine),
+        Err(fault) => Err(not_booted(fault, name, script.as_bytes(), image, world)),
+    }
+}
+
+// The status of a session that has ended.
+fn status_of<S: System>(end: Ended, world: &mut World<S>) -> u8 {
+    match end {
+        Ended::Left => 0,
+        Ended::NoMemory => memory_refused(PROGRAM, world),
+        Ended::ReadFailed(fault) => ended(
+            "standard input",
+            &Ending::ReadFailed(fault),
+            &mut world.errors,
+        ),
+        Ended::WriteFailed(fault) => {
+            ended(PROGRAM, &Ending::WriteFailed(fault), &mut world.errors)
+        }
+    }
+}
+
+// Boots a machine, and serves GDB.
+fn do_job<S: System, D: Device>(
+    alloc: Global,
+    devices: Devices<D>,
+    job: Job<'_>,
+    world: &mut World<S>,
+) -> u8 {
+    let image = match image_at(alloc, job.image, world) {
+        Ok(image) => image,
+        Err(status) => return status,
+    };
+    let machine = match machine_of(alloc, devices, job, &image, world) {
+        Ok(machine) => machine,
+        Err(status) => return status,
+    };
+    let mut session = Session::new(machine);
+    let end = serve(alloc, &mut session, &mut world.input, &mut world.output);
+    status_of(end, world)
+}
+
+/// Does what the words ask for, with devices in the machine, and returns the exit status.
+pub fn answer<S: System, D: Device>(
+    alloc: Global,
+    words: &[String],
+    devices: Devices<D>,
+    world: &mut World<S>,
+) -> u8 {
+    match parse(alloc, words) {
+        Ok(matches) => match job_of(&matches) {
+            Some(job) => do_job(alloc, devices, job, world),
+            None => USAGE,
+        },
+        Err(error) => refuse(alloc, &error, world),
+    }
+}
+
+/// Does what the words ask for, or reports why they could not be read, and returns the exit status.
+pub fn answer_read<S: System, D: Device>(
+    alloc: Global,
+    words: Result<Vec<String>, WordsFault>,
+    devices: Devices<D>,
+    world: &mut World<S>,
+) -> u8 {
+    match words {
+        Ok(words) => answer(alloc, words.as_slice(), devices, world),
+        Err(WordsFault::NotText) => words_not_read(PROGRAM, world),
+        Err(WordsFault::NoMemory) => memory_refused(PROGRAM, world),
+    }
+}

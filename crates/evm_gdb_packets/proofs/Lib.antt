@@ -1,0 +1,5 @@
+pub mod Bodies
+pub mod Cuts
+pub mod Digits
+pub mod Escapes
+pub mod Pieces

@@ -1,0 +1,4 @@
+pub mod Framing
+pub mod Hexadecimal
+pub mod Items
+pub mod Laws
