@@ -1,16 +1,18 @@
 //! A window of a journal as a bounded row of cells.
 
+ghost use Rattle.std.specs.Prelude.{◌≡◌, ◌+◌, ◌<◌, ◌^◌, ◌++◌, ◌∷◌, [], ℕ, IfOk, OnOk};
+ghost use Rattle.evm_cells.specs.Rows.{IsRow};
+
 use evm_model::PROCESSOR_LIMIT;
 use evm_room::{Refused, grow};
 use evm_timeline::{Event, Item, Lane, Mark, lane_of};
 use std::alloc::Global;
-use std::mem;
 
 /// The most cells that a timeline has.
-pub const CELL_LIMIT: usize = 512;
+pub const CELL_LIMIT: usize = 320;
 
 /// The most marks that are kept of one cell.
-pub const MARK_LIMIT: u32 = 12;
+pub const MARK_LIMIT: u32 = 8;
 
 /// How many lanes there may be: one for each processor, and behind them that of the machine.
 pub const LANE_LIMIT: usize = PROCESSOR_LIMIT + 1;
@@ -81,7 +83,10 @@ fn shares_of(item: &Item) -> [u64; LANE_LIMIT] {
     shares
 }
 
-fn cell_of(item: &Item, lanes: &Lanes, kept: u32, dropped: u64) -> Cell {
+fn cell_of(item: &Item, lanes: &Lanes, kept: u32, dropped: u64) -> Cell
+    ensures first { result.first ≡ item.now.first }
+    ensures count { result.count ≡ item.now.count }
+{
     Cell {
         first: item.first,
         count: u64::from(item.count),
@@ -107,7 +112,10 @@ fn kept_of(one: u32, two: u32) -> u32 {
     one.saturating_add(two).min(MARK_LIMIT)
 }
 
-fn joined(one: &Cell, two: &Cell) -> Cell {
+fn joined(one: &Cell, two: &Cell) -> Cell
+    ensures first { result.first ≡ one.now.first }
+    ensures count { one.now.count + two.now.count < 2 ^ 64 → result.count ≡ one.now.count + two.now.count }
+{
     let kept = kept_of(one.kept, two.kept);
     let lost = u64::from(one.kept.saturating_add(two.kept).saturating_sub(kept));
     Cell {
@@ -122,7 +130,9 @@ fn joined(one: &Cell, two: &Cell) -> Cell {
     }
 }
 
-fn put<T: Drop>(items: &mut Vec<T>, item: T) -> Result<(), Refused> {
+fn put<T: Drop>(items: &mut Vec<T>, item: T) -> Result<(), Refused>
+    ensures { OnOk result (items.new.items ≡ items.old.items ++ item ∷ []) }
+{
     grow(items, 1)?;
     items.push_reserved(item);
     Ok(())
@@ -142,9 +152,80 @@ fn behind(marks: &[Shown], count: u32) -> &[Shown] {
     &marks[at..]
 }
 
+// Each two neighbouring cells joined.
+fn halved(alloc: Global, cells: &[Cell]) -> Result<Vec<Cell>, Refused>
+    ensures { (from to : ℕ) → to < 2 ^ 64 → IsRow from cells.now to → IfOk result (λ new. IsRow from new.items to) }
+{
+    let mut new = Vec::new(alloc);
+    let mut rest = cells;
+    while let [one, two, others @ ..] = rest {
+        put(&mut new, joined(one, two))?;
+        rest = others;
+    }
+    if let [cell] = rest {
+        put(&mut new, *cell)?;
+    }
+    Ok(new)
+}
+
+// The marks that are kept where each two neighbouring cells are joined.
+fn halved_marks(alloc: Global, cells: &[Cell], marks: &[Shown]) -> Result<Vec<Shown>, Refused> {
+    let mut new = Vec::new(alloc);
+    let mut left = marks;
+    let mut rest = cells;
+    while let [one, two, others @ ..] = rest {
+        copy_marks(&mut new, left, kept_of(one.kept, two.kept))?;
+        left = behind(left, one.kept.saturating_add(two.kept));
+        rest = others;
+    }
+    if let Some(cell) = rest.first() {
+        copy_marks(&mut new, left, cell.kept)?;
+    }
+    Ok(new)
+}
+
+// A cell more, which is joined to the last.
+fn put_joined(cells: &mut Vec<Cell>, cell: &Cell) -> Result<(), Refused>
+    ensures { (from : ℕ) → cell.now.first + cell.now.count < 2 ^ 64 → 0 < cell.now.count → IsRow from cells.old.items cell.now.first → OnOk result (IsRow from cells.new.items (cell.now.first + cell.now.count)) }
+{
+    match cells.pop() {
+        Some(last) => put(cells, joined(&last, cell)),
+        None => put(cells, *cell),
+    }
+}
+
+// A cell more, joined to the last or not.
+fn put_cell(cells: &mut Vec<Cell>, cell: &Cell, joins: bool) -> Result<(), Refused>
+    ensures { (from : ℕ) → cell.now.first + cell.now.count < 2 ^ 64 → 0 < cell.now.count → IsRow from cells.old.items cell.now.first → OnOk result (IsRow from cells.new.items (cell.now.first + cell.now.count)) }
+{
+    if joins {
+        put_joined(cells, cell)
+    } else {
+        put(cells, *cell)
+    }
+}
+
+// How many marks the last cell keeps, if it has room for one event or run more.
+fn room_of(cells: &[Cell], span: u64) -> Option<u32> {
+    match cells.last() {
+        Some(cell) if cell.items < span => Some(cell.kept),
+        _ => None,
+    }
+}
+
+// Appends the marks that are kept of those found, beside so many: how many.
+fn keep(marks: &mut Vec<Shown>, found: &[Shown], before: u32) -> Result<u32, Refused> {
+    let room = MARK_LIMIT.saturating_sub(before);
+    let kept = u32::try_from(found.len()).unwrap_or(u32::MAX).min(room);
+    copy_marks(marks, found, kept)?;
+    Ok(kept)
+}
+
 impl Timeline {
     /// No cell. Takes no memory.
-    pub fn new(alloc: Global, cpu_count: u8) -> Timeline {
+    pub fn new(alloc: Global, cpu_count: u8) -> Timeline
+        ensures { result.cells.items ≡ [] }
+    {
         Timeline {
             cpu_count,
             cells: Vec::new(alloc),
@@ -154,67 +235,45 @@ impl Timeline {
     }
 
     // Joins each two neighbouring cells.
-    fn halve(&mut self, alloc: Global) -> Result<(), Refused> {
-        let cells = mem::replace(&mut self.cells, Vec::new(alloc));
-        let marks = mem::replace(&mut self.marks, Vec::new(alloc));
-        let mut left = marks.as_slice();
-        let mut rest = cells.as_slice();
-        while let [one, two, others @ ..] = rest {
-            let cell = joined(one, two);
-            copy_marks(&mut self.marks, left, cell.kept)?;
-            left = behind(left, one.kept.saturating_add(two.kept));
-            put(&mut self.cells, cell)?;
-            rest = others;
-        }
-        if let Some(cell) = rest.first() {
-            copy_marks(&mut self.marks, left, cell.kept)?;
-            put(&mut self.cells, *cell)?;
-        }
+    fn halve(&mut self, alloc: Global) -> Result<(), Refused>
+        ensures { (from to : ℕ) → to < 2 ^ 64 → IsRow from self.old.cells.items to → OnOk result (IsRow from self.new.cells.items to) }
+    {
+        let marks = halved_marks(alloc, self.cells.as_slice(), self.marks.as_slice())?;
+        let cells = halved(alloc, self.cells.as_slice())?;
+        self.marks = marks;
+        self.cells = cells;
         self.span = self.span.saturating_mul(2);
         Ok(())
     }
 
-    // Whether the last cell has room for one event or run more.
-    fn has_room(&self) -> bool {
-        match self.cells.last() {
-            None => false,
-            Some(cell) => cell.items < self.span,
+    // Joins them, where there are as many cells as there may be.
+    fn bound(&mut self, alloc: Global) -> Result<(), Refused>
+        ensures { (from to : ℕ) → to < 2 ^ 64 → IsRow from self.old.cells.items to → OnOk result (IsRow from self.new.cells.items to) }
+    {
+        if self.cells.len() >= CELL_LIMIT {
+            self.halve(alloc)
+        } else {
+            Ok(())
         }
     }
 
-    // The marks that are kept of those found, besides so many.
-    fn keep(&mut self, found: &[Shown], before: u32) -> Result<u32, Refused> {
-        let room = MARK_LIMIT.saturating_sub(before);
-        let kept = u32::try_from(found.len()).unwrap_or(u32::MAX).min(room);
-        copy_marks(&mut self.marks, found, kept)?;
-        Ok(kept)
-    }
-
-    /// An event or a run more, with what was seen before it and its marks.
+    /// An event or a run more, with what was seen before it and its marks. Where the cells stood one behind the other up to it,
+    /// they do so up to its end.
     pub fn add(
         &mut self,
         alloc: Global,
         item: &Item,
         lanes: &Lanes,
         found: &[Shown],
-    ) -> Result<(), Refused> {
-        let before = match self.cells.last() {
-            Some(cell) if cell.items < self.span => cell.kept,
-            _ => 0,
-        };
-        let kept = self.keep(found, before)?;
+    ) -> Result<(), Refused>
+        ensures { (from : ℕ) → item.now.first + item.now.count < 2 ^ 64 → 0 < item.now.count → IsRow from self.old.cells.items item.now.first
+            → OnOk result (IsRow from self.new.cells.items (item.now.first + item.now.count)) }
+    {
+        let room = room_of(self.cells.as_slice(), self.span);
+        let kept = keep(&mut self.marks, found, room.unwrap_or(0))?;
         let dropped = (found.len() as u64).saturating_sub(u64::from(kept));
         let cell = cell_of(item, lanes, kept, dropped);
-        if self.has_room() {
-            if let Some(last) = self.cells.last_mut() {
-                *last = joined(last, &cell);
-            }
-            return Ok(());
-        }
-        put(&mut self.cells, cell)?;
-        if self.cells.len() >= CELL_LIMIT {
-            self.halve(alloc)?;
-        }
-        Ok(())
+        put_cell(&mut self.cells, &cell, room.is_some())?;
+        self.bound(alloc)
     }
 }

@@ -102,7 +102,10 @@ pub fn gather<D: Device>(
     let mut found = Vec::new(alloc);
     let mut shown = Vec::new(alloc);
     let mut left = window.to.saturating_sub(walk.next_event());
-    while left > 0 {
+    for _ in 0..left {
+        if left == 0 {
+            break;
+        }
         let lanes = lanes_of(walk.look());
         let Some(item) = walk.next_within(left, &mut found)? else {
             break;

@@ -8,13 +8,8 @@ use evm_text::{push_decimal, push_hexadecimal};
 pub enum Piece<'a> {
     Text(&'a str),
     Number(u64),
-    /// In base 16, with `0x` in front.
+    /// In base 16.
     Address(u64),
-}
-
-fn push_address(out: &mut String, address: u64) -> Result<(), Refused> {
-    push_text(out, "0x")?;
-    push_hexadecimal(out, address)
 }
 
 /// Appends the parts of a text.
@@ -23,7 +18,7 @@ pub fn say(out: &mut String, pieces: &[Piece<'_>]) -> Result<(), Refused> {
         match piece {
             Piece::Text(text) => push_text(out, text)?,
             Piece::Number(n) => push_decimal(out, *n)?,
-            Piece::Address(n) => push_address(out, *n)?,
+            Piece::Address(n) => push_hexadecimal(out, *n)?,
         }
     }
     Ok(())

@@ -261,9 +261,9 @@ pub fn push_event(out: &mut String, event: &Event<u8>) -> Result<(), Refused> {
         Event::SetReg(c, r, value) => say(
             out,
             &[
-                Text("setreg "),
+                Text("set "),
                 numeral(c),
-                Text(" x"),
+                Text(" "),
                 numeral(r),
                 Text(" "),
                 Address(value),

@@ -14,7 +14,7 @@ const WAITING: &str = "evl-journal 1\nboot 1 65536 64\n\
     73000000\n\
     step 0 2\nraise 0 5\nstep 0 8\nraise 0 5\nstep 0 3\n";
 
-fn walk(rt: &impl Abort, alloc: Global, journal: &str) -> Walk<Pins> {
+fn started(rt: &impl Abort, alloc: Global, journal: &str) -> Walk<Pins> {
     let Ok(devices) = Devices::new(alloc) else {
         panic!(rt; "no memory for devices")
     };
@@ -40,7 +40,7 @@ fn goes(
 
 #[test]
 fn a_line_comes_to_a_stalled_stage(rt: HostRuntime) -> Result<(), Fail> {
-    let mut walk = walk(&rt, rt.alloc(), WAITING);
+    let mut walk = started(&rt, rt.alloc(), WAITING);
     let mut found = Vec::new(rt.alloc());
     let in_band = Stage::InBand;
     goes(
@@ -82,5 +82,41 @@ fn a_line_comes_to_a_stalled_stage(rt: HostRuntime) -> Result<(), Fail> {
         &[received],
     );
     goes(&rt, &mut walk, &mut found, (5, 3, Event::Step(0)), &[]);
+    Ok(())
+}
+
+// The marks of what a run of quiet Steps changed.
+fn marks_of_quiet(
+    alloc: Global,
+    walk: &mut Walk<Pins>,
+    found: &mut Vec<Mark>,
+) -> Result<bool, Fail> {
+    let before = Look::of(alloc, walk.machine())?;
+    match walk.next(found) {
+        Ok(Some(item)) if item.quiet => {
+            let after = Look::of(alloc, walk.machine())?;
+            marks(found, &before, &after)?;
+            Ok(true)
+        }
+        Ok(Some(_)) => {
+            found.clear();
+            Ok(true)
+        }
+        _ => Ok(false),
+    }
+}
+
+#[test]
+fn quiet_steps_have_no_marks(rt: HostRuntime) -> Result<(), Fail> {
+    let mut walk = started(&rt, rt.alloc(), WAITING);
+    let mut found = Vec::new(rt.alloc());
+    for _ in 0..16 {
+        let goes = marks_of_quiet(rt.alloc(), &mut walk, &mut found)?;
+        assert!(rt; found.is_empty());
+        if !goes {
+            break;
+        }
+    }
+    assert_eq!(rt; walk.next_event(), 16);
     Ok(())
 }

@@ -188,27 +188,63 @@ fn stall_run(cells: &[Cell], row: &Row, on: bool) -> usize {
     count
 }
 
-// The first cells, and those behind them.
-fn cut(cells: &[Cell], count: usize) -> (&[Cell], &[Cell]) {
+// The first cells.
+fn front(cells: &[Cell], count: usize) -> &[Cell] {
     let at = count.min(cells.len());
-    (&cells[..at], &cells[at..])
+    &cells[..at]
 }
 
-fn draw_run(
+// Whether a cell has another task on a row than the one before it.
+fn changes_task(cells: &[Cell], row: &Row, i: usize) -> bool {
+    match (i.checked_sub(1), cells.get(i)) {
+        (Some(before), Some(cell)) => match cells.get(before) {
+            None => true,
+            Some(last) => !same_task(
+                task_on(last, row.cpu, row.stage),
+                task_on(cell, row.cpu, row.stage),
+            ),
+        },
+        _ => true,
+    }
+}
+
+// Whether a stall of a row begins in a cell.
+fn begins_stall(cells: &[Cell], row: &Row, i: usize) -> bool {
+    let now = match cells.get(i) {
+        None => false,
+        Some(cell) => is_stalled(cell, row.cpu, row.stage),
+    };
+    let before = match i.checked_sub(1) {
+        None => false,
+        Some(before) => match cells.get(before) {
+            None => false,
+            Some(cell) => is_stalled(cell, row.cpu, row.stage),
+        },
+    };
+    now && !before
+}
+
+// The run of a task that begins in the first of the cells.
+fn task_bar(
     draft: Draft,
     alloc: Global,
     row: &Row,
     column: usize,
-    run: &[Cell],
-    task: Option<u8>,
+    cells: &[Cell],
 ) -> Result<Draft, Refused>
     requires content { draft.in_tag ≡ false }
     requires inside { 0 < length draft.tags }
     ensures { IfOk result (λ new. new ≡ draft) }
 {
-    match task {
+    let Some(cell) = cells.first() else {
+        return Ok(draft);
+    };
+    match task_on(cell, row.cpu, row.stage) {
         None => Ok(draft),
-        Some(task) => bar(draft, alloc, row, column, run, task),
+        Some(task) => {
+            let count = task_run(cells, row, Some(task));
+            bar(draft, alloc, row, column, front(cells, count), task)
+        }
     }
 }
 
@@ -219,14 +255,10 @@ pub(crate) fn bars(draft: Draft, alloc: Global, row: &Row, cells: &[Cell]) -> Re
     ensures { IfOk result (λ new. new ≡ draft) }
 {
     let mut draft = draft;
-    let mut rest = cells;
-    let mut column = 0usize;
-    while let Some(cell) = rest.first() {
-        let task = task_on(cell, row.cpu, row.stage);
-        let (run, others) = cut(rest, task_run(rest, row, task).max(1));
-        draft = draw_run(draft, alloc, row, column, run, task)?;
-        column = column.saturating_add(run.len());
-        rest = others;
+    for i in 0..cells.len() {
+        if changes_task(cells, row, i) {
+            draft = task_bar(draft, alloc, row, i, &cells[i..])?;
+        }
     }
     Ok(draft)
 }
@@ -243,16 +275,11 @@ pub(crate) fn stalls(
     ensures { IfOk result (λ new. new ≡ draft) }
 {
     let mut draft = draft;
-    let mut rest = cells;
-    let mut column = 0usize;
-    while let Some(cell) = rest.first() {
-        let on = is_stalled(cell, row.cpu, row.stage);
-        let (run, others) = cut(rest, stall_run(rest, row, on).max(1));
-        if on {
-            draft = stall(draft, alloc, row, column, run)?;
+    for i in 0..cells.len() {
+        if begins_stall(cells, row, i) {
+            let count = stall_run(&cells[i..], row, true);
+            draft = stall(draft, alloc, row, i, front(&cells[i..], count))?;
         }
-        column = column.saturating_add(run.len());
-        rest = others;
     }
     Ok(draft)
 }

@@ -68,7 +68,8 @@ fn raise(
         draft,
         alloc,
         line,
-        at.x.saturating_add(10), y.saturating_add(12),
+        at.x.saturating_add(10),
+        y.saturating_add(12),
     )
 }
 
@@ -96,8 +97,7 @@ fn play(draft: Draft, at: Place, cpu: u8, stage: Stage, words: &str) -> Result<D
         Stage::OutOfBand => OUT_OF_BAND,
         Stage::InBand => IN_BAND,
     };
-    let y = y_of(at.top, cpu, part)
-        .saturating_add(ROW);
+    let y = y_of(at.top, cpu, part).saturating_add(ROW);
     let sides = [
         (Key::CenterX, at.x.saturating_add(12)),
         (Key::CenterY, y),

@@ -1,7 +1,8 @@
 //! Colours: those of Okabe and Ito (Color Universal Design), which readers tell apart who see few colours; for light and for dark.
 
 /// The style sheet of a picture.
-pub(crate) const STYLE: &str = "svg{font-family:ui-monospace,Menlo,Consolas,'DejaVu Sans Mono',monospace;font-size:10px}\
+pub(crate) const STYLE: &str =
+    "svg{font-family:ui-monospace,Menlo,Consolas,'DejaVu Sans Mono',monospace;font-size:10px}\
 text{fill:#1b1b1b}.b{font-size:13px;font-weight:600}.l,.s{font-size:9px}.s,.r{text-anchor:middle}\
 text.d,text.r{fill:#5f5f5f}text.k{fill:#000}text.w{fill:#fff}\
 .paper{fill:#fff}.row{fill:#ececec}.tick{stroke:#5f5f5f;stroke-width:1}\

@@ -221,8 +221,7 @@ fn strips(draft: Draft, alloc: Global, timeline: &Timeline) -> Result<Draft, Ref
     let mut draft = draft;
     let mut cells = timeline.cells.as_slice();
     let mut marks = timeline.marks.as_slice();
-    let mut number = 0usize;
-    while !cells.is_empty() {
+    for number in 0..strip_count(timeline.cells.len()) {
         let at = STRIP.min(cells.len());
         let (here, others) = cut(marks, kept_in(&cells[..at]));
         let one = Strip {
@@ -234,7 +233,6 @@ fn strips(draft: Draft, alloc: Global, timeline: &Timeline) -> Result<Draft, Ref
         draft = draw_strip(draft, alloc, &one)?;
         marks = others;
         cells = &cells[at..];
-        number = number.saturating_add(1);
     }
     Ok(draft)
 }

@@ -1,6 +1,6 @@
 //! A timeline in characters.
 
-use crate::layout::STRIP;
+use crate::layout::{STRIP, strip_count};
 use evm_cells::{
     Cell, Piece, Shown, Timeline, is_stalled, letter, push_cell, push_mark, say, share, task_on,
 };
@@ -178,7 +178,7 @@ fn push_list(out: &mut String, timeline: &Timeline) -> Result<(), Refused> {
 pub fn written(alloc: Global, timeline: &Timeline, parts: Option<u64>) -> Result<String, Refused> {
     let mut out = String::new(alloc);
     let mut cells = timeline.cells.as_slice();
-    while !cells.is_empty() {
+    for _ in 0..strip_count(cells.len()) {
         let at = STRIP.min(cells.len());
         push_strip(&mut out, &cells[..at], timeline.cpu_count, parts)?;
         cells = &cells[at..];

@@ -101,10 +101,13 @@ fn read_all<'a>(words: &'a [String]) -> Result<Read<'a>, Fault<'a>> {
         from: 0,
         to: u64::MAX,
     };
-    let mut at = 0usize;
-    while let Some(word) = words.get(at) {
+    let mut behind = 0usize;
+    for (at, word) in words.iter().enumerate() {
+        if at < behind {
+            continue;
+        }
         let done = read_word(&mut read, word.as_str(), words.get(at.saturating_add(1)))?;
-        at = at.saturating_add(done.max(1));
+        behind = at.saturating_add(done);
     }
     Ok(read)
 }

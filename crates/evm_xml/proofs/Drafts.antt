@@ -94,9 +94,6 @@ all bytes s =
 last-first : (items before : List Tag) (t : Tag) → items ≡ before ++ t ∷ [] → reverse items ≡ t ∷ reverse before
 last-first items before t e = rw (e, reverse-append before (t ∷ [])) refl
 
-pub svg_begun : (items : List Tag) (out front : List ℕ) → items ≡ tag.Svg ∷ [] → front ≡ [] → out ≡ front ++ start tag.Svg [] → ∥ IsDraft true (reverse items) out ∥₁
-svg_begun items out front one none written = rw (one, written, none) ∣ ([], refl, [], refl) ∣₁
-
 pub opened : (b : Bool) (items before : List Tag) (out front : List ℕ) (t : Tag) → ∥ IsDraft b (reverse before) front ∥₁ → b ≡ false → items ≡ before ++ t ∷ [] → out ≡ front ++ start t []
     → ∥ IsDraft true (reverse items) out ∥₁
 opened b items before out front t d content more written =
