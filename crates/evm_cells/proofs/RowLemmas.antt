@@ -1,8 +1,8 @@
 -- Rows of cells that grow and are joined.
-use Rattle.std.proofs.Common.{◌≡◌, ℕ, ◌+◌, ◌<◌, ◌≤◌, ◌^◌, List, [], ◌∷◌, ◌++◌, refl, sym, ap, ◌∙◌, subst, arith}
+use Rattle.std.proofs.Common.{◌≡◌, ℕ, ◌+◌, ◌<◌, ◌≤◌, ◌^◌, List, [], ◌∷◌, ◌++◌, zero, suc, drop, add-one, length, refl, sym, ap, ◌∙◌, subst, arith}
 use Rattle.std.proofs.lemmas.List.{append-nil}
-use Rattle.std.specs.Prelude.{OnOk, IfOk, Result, Ok, Err}
-use Rattle.evm_cells.specs.Rows.{IsRow}
+use Rattle.std.specs.Prelude.{OnOk, IfOk, Option, Some, None, Result, Ok, Err, slice_get}
+use Rattle.evm_cells.specs.Rows.{Halves, IsRow}
 use Rattle.evm_cells.specs.declared.cells.Cell.{Cell}
 
 -- a row doesn't end before it begins
@@ -27,18 +27,6 @@ row-split from [] last to row = record { before = sym row.0; some = row.1; ends 
 row-split from (one ∷ cells) last to row =
     let rest = row-split (from + one.count) cells last to row.2 in record { before = (row.0, row.1, rest.before); some = rest.some; ends = rest.ends }
 
--- the first two joined
-pub row-pair : (from : ℕ) (new : List Cell) (mid : ℕ) (one two cell : Cell) (others : List Cell) (to : ℕ) → to < 2 ^ 64 → IsRow from new mid → IsRow mid (one ∷ two ∷ others) to
-    → cell.first ≡ one.first → (one.count + two.count < 2 ^ 64 → cell.count ≡ one.count + two.count)
-    → (next : ℕ) × IsRow from (new ++ cell ∷ []) next × IsRow next others to
-row-pair from new mid one two cell others to below row rest first count =
-    let rises = row-rises (mid + one.count + two.count) others to rest.2.2 in
-    let fits : one.count + two.count < 2 ^ 64 = omega (arith, rises, below) in
-    let counts = count fits in
-    let some : 0 < cell.count = omega (arith, counts, rest.1) in
-    let next : mid + one.count + two.count ≡ mid + cell.count = omega (arith, counts) in
-    (mid + one.count + two.count, row-more from new mid (mid + one.count + two.count) cell row (first ∙ rest.0) some next, rest.2.2)
-
 -- a cell joined to the last
 pub joins : {A E : Type 0} → (r : Result A E) (items before out : List Cell) (last cell one : Cell) → items ≡ before ++ last ∷ [] → one.first ≡ last.first
     → (last.count + cell.count < 2 ^ 64 → one.count ≡ last.count + cell.count) → OnOk r (out ≡ before ++ one ∷ [])
@@ -59,3 +47,36 @@ pub stands : {A E : Type 0} → (r : Result A E) (items out : List Cell) (cell :
 stands (Err e) items out cell written from fits some row = tt
 stands (Ok a) items out cell written from fits some row =
     subst (λ x. IsRow from x (cell.first + cell.count)) (sym written) (row-more from items cell.first (cell.first + cell.count) cell row refl some refl)
+
+-- the cells from one of them on
+drop-at : (cells : List Cell) (i : ℕ) (cell : Cell) → slice_get cells i ≡ Some cell → drop i cells ≡ cell ∷ drop (i + 1) cells
+drop-at [] zero cell e = cc
+drop-at [] (suc i) cell e = cc
+drop-at (x ∷ cells) zero cell e = let same : x ≡ cell = cc in ap (λ c. c ∷ cells) same
+drop-at (x ∷ cells) (suc i) cell e = let n : suc i + 1 ≡ suc (i + 1) = omega arith in rw n (drop-at cells i cell e)
+
+drop-past : (cells : List Cell) (i : ℕ) → slice_get cells i ≡ None → drop i cells ≡ drop (i + 1) cells
+drop-past [] zero e = refl
+drop-past [] (suc i) e = let n : suc i + 1 ≡ suc (i + 1) = omega arith in rw n refl
+drop-past (x ∷ cells) zero e = cc
+drop-past (x ∷ cells) (suc i) e = let n : suc i + 1 ≡ suc (i + 1) = omega arith in rw n (drop-past cells i e)
+
+-- a cell goes from those that are left to those that were joined
+pub halves-more : {A E : Type 0} → (r : Result A E) (cells : List Cell) (i : ℕ) (cell : Cell) (old new : List Cell) → slice_get cells i ≡ Some cell
+    → ((from : ℕ) → cell.first + cell.count < 2 ^ 64 → 0 < cell.count → IsRow from old cell.first → OnOk r (IsRow from new (cell.first + cell.count)))
+    → (from to : ℕ) → to < 2 ^ 64 → Halves from (drop i cells) to old → OnOk r (Halves from (drop (i + 1) cells) to new)
+halves-more (Err e) cells i cell old new at put from to below half = tt
+halves-more (Ok a) cells i cell old new at put from to below half =
+    let left : IsRow half.0 (cell ∷ drop (i + 1) cells) to = subst (λ x. IsRow half.0 x to) (drop-at cells i cell at) half.2 in
+    let begins : cell.first ≡ half.0 = left.0 in
+    let next : IsRow (half.0 + cell.count) (drop (i + 1) cells) to = left.2 in
+    let rises = row-rises (half.0 + cell.count) (drop (i + 1) cells) to next in
+    let fits : cell.first + cell.count < 2 ^ 64 = omega (arith, rises, begins, below) in
+    let row : IsRow from old cell.first = subst (λ x. IsRow from old x) (sym begins) half.1 in
+    (cell.first + cell.count, put from fits left.1 row, subst (λ x. IsRow (x + cell.count) (drop (i + 1) cells) to) (sym begins) next)
+
+pub halves-none : {A E : Type 0} → (r : Result A E) (cells : List Cell) (i : ℕ) (old new : List Cell) → slice_get cells i ≡ None → new ≡ old
+    → (from to : ℕ) → to < 2 ^ 64 → Halves from (drop i cells) to old → OnOk r (Halves from (drop (i + 1) cells) to new)
+halves-none (Err e) cells i old new at same from to below half = tt
+halves-none (Ok a) cells i old new at same from to below half =
+    (half.0, subst (λ x. IsRow from x half.0) (sym same) half.1, subst (λ x. IsRow half.0 x to) (drop-past cells i at) half.2)

@@ -7,3 +7,7 @@ use Rattle.evm_cells.specs.declared.cells.Cell.{Cell}
 abbrev pub IsRow : ℕ → List Cell → ℕ → Type 0
 IsRow from [] to = from ≡ to
 IsRow from (cell ∷ cells) to = (cell.first ≡ from) × (0 < cell.count) × IsRow (from + cell.count) cells to
+
+-- cells that were joined, and those that are left, are a row
+abbrev pub Halves : ℕ → List Cell → ℕ → List Cell → Type 0
+Halves from left to new = (mid : ℕ) × IsRow from new mid × IsRow mid left to

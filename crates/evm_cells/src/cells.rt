@@ -1,7 +1,7 @@
 //! A window of a journal as a bounded row of cells.
 
-ghost use Rattle.std.specs.Prelude.{◌≡◌, ◌+◌, ◌<◌, ◌^◌, ◌++◌, ◌∷◌, [], ℕ, IfOk, OnOk};
-ghost use Rattle.evm_cells.specs.Rows.{IsRow};
+ghost use Rattle.std.specs.Prelude.{◌≡◌, ◌+◌, ◌<◌, ◌^◌, ◌++◌, ◌∷◌, [], ℕ, IfOk, OnOk, drop};
+ghost use Rattle.evm_cells.specs.Rows.{Halves, IsRow};
 
 use evm_model::PROCESSOR_LIMIT;
 use evm_room::{Refused, grow};
@@ -152,22 +152,6 @@ fn behind(marks: &[Shown], count: u32) -> &[Shown] {
     &marks[at..]
 }
 
-// Each two neighbouring cells joined.
-fn halved(alloc: Global, cells: &[Cell]) -> Result<Vec<Cell>, Refused>
-    ensures { (from to : ℕ) → to < 2 ^ 64 → IsRow from cells.now to → IfOk result (λ new. IsRow from new.items to) }
-{
-    let mut new = Vec::new(alloc);
-    let mut rest = cells;
-    while let [one, two, others @ ..] = rest {
-        put(&mut new, joined(one, two))?;
-        rest = others;
-    }
-    if let [cell] = rest {
-        put(&mut new, *cell)?;
-    }
-    Ok(new)
-}
-
 // The marks that are kept where each two neighbouring cells are joined.
 fn halved_marks(alloc: Global, cells: &[Cell], marks: &[Shown]) -> Result<Vec<Shown>, Refused> {
     let mut new = Vec::new(alloc);
@@ -203,6 +187,27 @@ fn put_cell(cells: &mut Vec<Cell>, cell: &Cell, joins: bool) -> Result<(), Refus
     } else {
         put(cells, *cell)
     }
+}
+
+// A cell more by its number, if there is one: each second is joined to the one before it.
+fn put_numbered(new: &mut Vec<Cell>, cells: &[Cell], i: usize) -> Result<(), Refused>
+    ensures { (from to : ℕ) → to < 2 ^ 64 → Halves from (drop i cells.now) to new.old.items → OnOk result (Halves from (drop (i + 1) cells.now) to new.new.items) }
+{
+    match cells.get(i) {
+        None => Ok(()),
+        Some(cell) => put_cell(new, cell, i % 2 == 1),
+    }
+}
+
+// Each two neighbouring cells joined.
+fn halved(alloc: Global, cells: &[Cell]) -> Result<Vec<Cell>, Refused>
+    ensures { (from to : ℕ) → to < 2 ^ 64 → IsRow from cells.now to → IfOk result (λ new. IsRow from new.items to) }
+{
+    let mut new = Vec::new(alloc);
+    for i in 0..cells.len() {
+        put_numbered(&mut new, cells, i)?;
+    }
+    Ok(new)
 }
 
 // How many marks the last cell keeps, if it has room for one event or run more.

@@ -8,7 +8,10 @@ mod seen;
 mod words;
 
 pub use cells::{CELL_LIMIT, Cell, Lanes, MARK_LIMIT, Shown, Timeline};
-pub use evm_timeline::{Devices, Event, InputFault, Mark, Walk, WalkStop};
+pub use evm_timeline::{
+    Boot, Devices, Event, EventLine, InputFault, Journal, JournalFaultKind, Mark, Walk, WalkStop,
+    read_history,
+};
 pub use gathering::{Window, gather};
 pub use pieces::{Piece, say};
 pub use seen::{is_stalled, letter, same_stage, share, task_on};

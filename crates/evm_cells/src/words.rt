@@ -248,7 +248,7 @@ pub fn push_shown(out: &mut String, shown: &Shown) -> Result<(), Refused> {
     push_mark(out, shown)
 }
 
-/// Appends an event as a journal writes it, but for the bytes of a poke.
+/// Appends an event as a journal writes it, with the number of its bytes in place of a poke's bytes.
 pub fn push_event(out: &mut String, event: &Event<u8>) -> Result<(), Refused> {
     match *event {
         Event::Step(c) => say(out, &[Text("step "), numeral(c)]),

@@ -9,7 +9,9 @@ mod quiet;
 mod task_marks;
 mod walk;
 
-pub use evm_diagnostics::{Devices, Event, InputFault, Machine};
+pub use evm_diagnostics::{
+    Boot, Devices, Event, EventLine, InputFault, Journal, JournalFaultKind, Machine, read_history,
+};
 pub use item::{Item, lane_of, outline};
 pub use look::{Lane, Look, Running};
 pub use mark::Mark;

@@ -22,7 +22,7 @@ pub(crate) fn takes_room(free: &mut Free, cpu: u8, x: u32, text: &str) -> bool {
             if x < *from {
                 return false;
             }
-            *from = x.saturating_add(label_width(text)).saturating_add(4);
+            *from = x.saturating_add(label_width(text)).saturating_add(12);
             true
         }
     }
@@ -95,6 +95,23 @@ fn arrow_class(mark: &Mark) -> Option<&'static str> {
     }
 }
 
+// Where in its cell an arrow stands.
+fn offset(mark: &Mark) -> u32 {
+    match mark {
+        Mark::Rank { .. } => 11,
+        _ => 5,
+    }
+}
+
+// Where the label of an arrow begins: beside it, where the arrow comes from another lane.
+fn label_x(x: u32, shown: &Shown, cpu: u8) -> u32 {
+    match (&shown.mark, shown.actor) {
+        (Mark::Waits { .. }, _) => x.saturating_sub(3),
+        (_, Some(actor)) if actor != cpu => x.saturating_add(3),
+        _ => x.saturating_sub(3),
+    }
+}
+
 // The point of an arrow, which ends at `to`.
 fn push_head(out: &mut String, x: u32, from: u32, to: u32) -> Result<(), Refused> {
     let back = if from < to {
@@ -161,7 +178,7 @@ pub(crate) fn arrow_sign(
         return Ok(draft);
     };
     let words = words_of(alloc, shown)?;
-    let x = at.x.saturating_add(4);
+    let x = at.x.saturating_add(offset(&shown.mark));
     let draft = arrow(draft, alloc, class, x, ends(at, shown, cpu), words.as_str())?;
     let mut name = String::new(alloc);
     push_arrow_name(&mut name, &shown.mark)?;
@@ -171,7 +188,7 @@ pub(crate) fn arrow_sign(
         free,
         cpu,
         class,
-        (x.saturating_sub(3), y),
+        (label_x(x, shown, cpu), y),
         name.as_str(),
     )
 }

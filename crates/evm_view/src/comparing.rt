@@ -1,8 +1,8 @@
 //! Where two journals part.
 
-use evm_cells::{Piece, WalkStop, say};
-use evm_diagnostics::{
-    Boot, Event, EventLine, InputFault, Journal, JournalFaultKind, read_history,
+use evm_cells::{
+    Boot, Event, EventLine, InputFault, Journal, JournalFaultKind, Piece, WalkStop, read_history,
+    say,
 };
 use evm_room::Refused;
 use std::alloc::Global;

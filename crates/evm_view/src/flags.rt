@@ -43,13 +43,24 @@ fn is_alarm(mark: &Mark) -> bool {
     }
 }
 
+// The row of flags that has room for a flag and its label: the upper one, or the lower one.
+fn row_of(upper: &mut Free, lower: &mut Free, cpu: u8, x: u32, text: &str) -> Option<u8> {
+    if takes_room(upper, cpu, x, text) {
+        return Some(0);
+    }
+    if takes_room(lower, cpu, x, text) {
+        return Some(1);
+    }
+    None
+}
+
 /// The flag of a mark, if it has one.
 pub(crate) fn flag_sign(
     draft: Draft,
     alloc: Global,
     at: Place,
     shown: &Shown,
-    free: &mut Free,
+    free: &mut [Free; 2],
 ) -> Result<Draft, Refused>
     requires content { draft.in_tag ≡ false }
     requires inside { 0 < length draft.tags }
@@ -64,21 +75,22 @@ pub(crate) fn flag_sign(
         "flag"
     };
     let words = words_of(alloc, shown)?;
-    let y = y_of(at.top, cpu, FLAGS);
-    let mut points = String::new(alloc);
-    push_point(&mut points, at.x.saturating_add(2), y.saturating_sub(8))?;
-    push_point(&mut points, at.x.saturating_add(9), y.saturating_sub(4))?;
-    push_point(&mut points, at.x.saturating_add(2), y)?;
-    let draft = polygon(draft, class, points.as_str(), words.as_str())?;
     let mut name = String::new(alloc);
     say(
         &mut name,
         &[Piece::Text(word), Piece::Number(u64::from(task))],
     )?;
-    let x = at.x.saturating_add(11);
-    if takes_room(free, cpu, x, name.as_str()) {
-        label(draft, class, x, y, name.as_str())
-    } else {
-        Ok(draft)
+    let [upper, lower] = free;
+    let x = at.x.saturating_add(2);
+    let row = row_of(upper, lower, cpu, x, name.as_str());
+    let y = y_of(at.top, cpu, FLAGS).saturating_add(if row == Some(1) { 11 } else { 0 });
+    let mut points = String::new(alloc);
+    push_point(&mut points, x, y.saturating_sub(8))?;
+    push_point(&mut points, x.saturating_add(7), y.saturating_sub(4))?;
+    push_point(&mut points, x, y)?;
+    let draft = polygon(draft, class, points.as_str(), words.as_str())?;
+    match row {
+        None => Ok(draft),
+        Some(_) => label(draft, class, x.saturating_add(9), y, name.as_str()),
     }
 }

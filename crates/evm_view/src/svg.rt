@@ -79,13 +79,13 @@ fn lane(draft: Draft, alloc: Global, strip: &Strip<'_>, cpu: u8) -> Result<Draft
     ensures { IfOk result (λ new. new ≡ draft) }
 {
     let name = cpu_name(alloc, cpu)?;
-    let y = y_of(strip.top, cpu, 30);
+    let y = y_of(strip.top, cpu, 42);
     let mut draft = label(draft, "b", 8, y, name.as_str())?;
     for one in &rows_of(strip.top, cpu) {
         draft = draw_row(draft, alloc, one, strip.cells)?;
     }
-    let draft = label(draft, "d", 30, y_of(strip.top, cpu, 94), "lines")?;
-    let draft = label(draft, "d", 30, y_of(strip.top, cpu, 109), "events")?;
+    let draft = label(draft, "d", 30, y_of(strip.top, cpu, 106), "lines")?;
+    let draft = label(draft, "d", 30, y_of(strip.top, cpu, 121), "events")?;
     boxes(draft, alloc, cpu, strip.top, strip.cells)
 }
 
@@ -129,7 +129,7 @@ fn sign(
     alloc: Global,
     at: Place,
     shown: &Shown,
-    flags: &mut Free,
+    flags: &mut [Free; 2],
     arrows: &mut Free,
 ) -> Result<Draft, Refused>
     requires content { draft.in_tag ≡ false }
@@ -147,7 +147,7 @@ fn cell_signs(
     alloc: Global,
     at: Place,
     marks: &[Shown],
-    flags: &mut Free,
+    flags: &mut [Free; 2],
     arrows: &mut Free,
 ) -> Result<Draft, Refused>
     requires content { draft.in_tag ≡ false }
@@ -173,7 +173,7 @@ fn signs(draft: Draft, alloc: Global, strip: &Strip<'_>) -> Result<Draft, Refuse
     ensures { IfOk result (λ new. new ≡ draft) }
 {
     let mut draft = draft;
-    let mut flags = [0u32; PROCESSOR_LIMIT];
+    let mut flags = [[0u32; PROCESSOR_LIMIT]; 2];
     let mut arrows = [0u32; PROCESSOR_LIMIT];
     let mut rest = strip.marks;
     let mut column = 0usize;

@@ -7,8 +7,7 @@ use evm_host::{
     not_created, text_at, write_all,
 };
 use evm_image::Image;
-use evm_timeline::{Walk, WalkStop};
-use evm_view::{Timeline, Window, drawn, gather, written};
+use evm_view::{Timeline, Walk, WalkStop, Window, drawn, gather, written};
 use std::alloc::Global;
 
 /// Ends a run whose journal stops.
