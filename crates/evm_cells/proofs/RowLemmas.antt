@@ -1,6 +1,8 @@
 -- Rows of cells that grow and are joined.
-use Rattle.std.proofs.Common.{◌≡◌, ℕ, ◌+◌, ◌<◌, ◌≤◌, ◌^◌, List, [], ◌∷◌, ◌++◌, zero, suc, drop, add-one, length, refl, sym, ap, ◌∙◌, subst, arith}
-use Rattle.std.proofs.lemmas.List.{append-nil}
+use Rattle.std.proofs.Common.{◌≡◌, ℕ, ◌+◌, ◌<◌, ◌≤◌, ◌^◌, List, [], ◌∷◌, ◌++◌, zero, suc, drop, get_or, length, true, refl, sym, ap, ◌∙◌, subst, arith}
+use Rattle.std.proofs.Math.Dec.{ltb}
+use Rattle.std.proofs.Math.Seq.{drop-cons}
+use Rattle.std.proofs.lemmas.Bool.{ltb-true}
 use Rattle.std.specs.Prelude.{OnOk, IfOk, Option, Some, None, Result, Ok, Err, slice_get}
 use Rattle.evm_cells.specs.Rows.{Halves, IsRow}
 use Rattle.evm_cells.specs.declared.cells.Cell.{Cell}
@@ -49,11 +51,11 @@ stands (Ok a) items out cell written from fits some row =
     subst (λ x. IsRow from x (cell.first + cell.count)) (sym written) (row-more from items cell.first (cell.first + cell.count) cell row refl some refl)
 
 -- the cells from one of them on
-drop-at : (cells : List Cell) (i : ℕ) (cell : Cell) → slice_get cells i ≡ Some cell → drop i cells ≡ cell ∷ drop (i + 1) cells
-drop-at [] zero cell e = cc
-drop-at [] (suc i) cell e = cc
-drop-at (x ∷ cells) zero cell e = let same : x ≡ cell = cc in ap (λ c. c ∷ cells) same
-drop-at (x ∷ cells) (suc i) cell e = let n : suc i + 1 ≡ suc (i + 1) = omega arith in rw n (drop-at cells i cell e)
+drop-at : (cells : List Cell) (i : ℕ) (cell : Cell) → true ≡ ltb i (length cells) → cell ≡ get_or cells i cell → drop i cells ≡ cell ∷ drop (i + 1) cells
+drop-at cells i cell within at =
+    let below : i < length cells = ltb-true i (length cells) (sym within) in
+    let n : i + 1 ≡ suc i = omega arith in
+    rw n (drop-cons cells i cell below ∙ ap (λ c. c ∷ drop (suc i) cells) (sym at))
 
 drop-past : (cells : List Cell) (i : ℕ) → slice_get cells i ≡ None → drop i cells ≡ drop (i + 1) cells
 drop-past [] zero e = refl
@@ -62,12 +64,12 @@ drop-past (x ∷ cells) zero e = cc
 drop-past (x ∷ cells) (suc i) e = let n : suc i + 1 ≡ suc (i + 1) = omega arith in rw n (drop-past cells i e)
 
 -- a cell goes from those that are left to those that were joined
-pub halves-more : {A E : Type 0} → (r : Result A E) (cells : List Cell) (i : ℕ) (cell : Cell) (old new : List Cell) → slice_get cells i ≡ Some cell
+pub halves-more : {A E : Type 0} → (r : Result A E) (cells : List Cell) (i : ℕ) (cell : Cell) (old new : List Cell) → true ≡ ltb i (length cells) → cell ≡ get_or cells i cell
     → ((from : ℕ) → cell.first + cell.count < 2 ^ 64 → 0 < cell.count → IsRow from old cell.first → OnOk r (IsRow from new (cell.first + cell.count)))
     → (from to : ℕ) → to < 2 ^ 64 → Halves from (drop i cells) to old → OnOk r (Halves from (drop (i + 1) cells) to new)
-halves-more (Err e) cells i cell old new at put from to below half = tt
-halves-more (Ok a) cells i cell old new at put from to below half =
-    let left : IsRow half.0 (cell ∷ drop (i + 1) cells) to = subst (λ x. IsRow half.0 x to) (drop-at cells i cell at) half.2 in
+halves-more (Err e) cells i cell old new within at put from to below half = tt
+halves-more (Ok a) cells i cell old new within at put from to below half =
+    let left : IsRow half.0 (cell ∷ drop (i + 1) cells) to = subst (λ x. IsRow half.0 x to) (drop-at cells i cell within at) half.2 in
     let begins : cell.first ≡ half.0 = left.0 in
     let next : IsRow (half.0 + cell.count) (drop (i + 1) cells) to = left.2 in
     let rises = row-rises (half.0 + cell.count) (drop (i + 1) cells) to next in

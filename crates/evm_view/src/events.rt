@@ -25,10 +25,10 @@ fn push_sign(out: &mut String, cell: &Cell, share: u64) -> Result<(), Refused> {
     if cell.count <= 1 {
         return say(out, &[Piece::Text(letter(&cell.event))]);
     }
-    if share < 100 {
+    if share < 1_000 {
         return say(out, &[Piece::Number(share)]);
     }
-    if share < 10_000 {
+    if share < 100_000 {
         return say(out, &[Piece::Number(share / 1000), Piece::Text("k")]);
     }
     say(out, &[Piece::Text("..")])

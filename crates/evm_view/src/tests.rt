@@ -1,8 +1,8 @@
 //! Timelines of journals worked by hand.
 
 use super::*;
-use evm_cells::Walk;
 use evm_devs::Pins;
+use std::alloc::Global;
 use std::process::Abort;
 use std::test::Fail;
 
@@ -11,6 +11,15 @@ const WAITING: &str = "evl-journal 1\nboot 1 65536 64\n\
     poke 80000000 93084000730000001300000013000000930850007300000013055000930860007300000093080000\
     73000000\n\
     step 0 2\nraise 0 5\nstep 0 8\nraise 0 5\nstep 0 3\n";
+
+// Its first strip.
+const STRIP: &str = "events 0 to 15
+machine           P............
+cpu 0 out-of-band .............
+      in-band     000000000..00
+      stalled     ...iiii......
+      events      .ssRs3s2sRsss
+";
 
 #[test]
 fn a_timeline_is_drawn(rt: HostRuntime) -> Result<(), Fail> {
@@ -23,8 +32,28 @@ fn a_timeline_is_drawn(rt: HostRuntime) -> Result<(), Fail> {
         panic!(rt; "no timeline");
     };
     let text = written(alloc, &timeline, None)?;
+    assert!(rt; text.starts_with(STRIP));
+    assert!(rt; text.contains("event 3: raise 0 5\n    line 5 is raised on processor 0\n"));
     let bytes = drawn(alloc, &timeline)?;
-    println!(rt; "{text}")?;
-    println!(rt; "{}", bytes.len())?;
+    assert!(rt; bytes.starts_with(b"<svg xmlns="));
+    assert!(rt; bytes.ends_with(b"</svg>"));
     Ok(())
+}
+
+// Where the texts of two journals part.
+fn where_parted(rt: &impl Abort, alloc: Global, one: &str, two: &str) -> Parting {
+    match journals_part(alloc, one, two) {
+        Ok(parting) => parting,
+        Err(_) => panic!(rt; "no journals"),
+    }
+}
+
+#[test]
+fn journals_part_at_an_event(rt: HostRuntime) {
+    let one = "evl-journal 1\nboot 1 65536 64\nstep 0 5\ntick\nstep 0 2\n";
+    let two = "evl-journal 1\nboot 1 65536 64\nstep 0 5\ntick\nstep 0 1\ntick\n";
+    assert_eq!(rt; where_parted(&rt, rt.alloc(), one, one), Parting::Nowhere);
+    assert_eq!(rt; where_parted(&rt, rt.alloc(), one, two), Parting::At(7));
+    let longer = "evl-journal 1\nboot 1 65536 64\nstep 0 6\n";
+    assert_eq!(rt; where_parted(&rt, rt.alloc(), one, longer), Parting::At(5));
 }
