@@ -60,7 +60,8 @@ pub(crate) fn flag_sign(
     alloc: Global,
     at: Place,
     shown: &Shown,
-    free: &mut [Free; 2],
+    upper: &mut Free,
+    lower: &mut Free,
 ) -> Result<Draft, Refused>
     requires content { draft.in_tag ≡ false }
     requires inside { 0 < length draft.tags }
@@ -80,7 +81,6 @@ pub(crate) fn flag_sign(
         &mut name,
         &[Piece::Text(word), Piece::Number(u64::from(task))],
     )?;
-    let [upper, lower] = free;
     let x = at.x.saturating_add(2);
     let row = row_of(upper, lower, cpu, x, name.as_str());
     let y = y_of(at.top, cpu, FLAGS).saturating_add(if row == Some(1) { 11 } else { 0 });

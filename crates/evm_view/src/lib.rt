@@ -3,7 +3,6 @@
 
 mod arrows;
 mod bars;
-mod comparing;
 mod events;
 mod flags;
 mod layout;
@@ -14,8 +13,10 @@ mod style;
 mod svg;
 mod terminal;
 
-pub use comparing::{Parting, first_parting, journals_part, parting_text};
-pub use evm_cells::{Devices, InputFault, Timeline, Walk, WalkStop, Window, gather};
+pub use evm_cells::{
+    Boot, Devices, Event, EventLine, InputFault, Journal, JournalFaultKind, Piece, Timeline, Walk,
+    WalkStop, Window, gather, read_history, say,
+};
 pub use svg::drawn;
 pub use terminal::written;
 

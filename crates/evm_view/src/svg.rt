@@ -1,6 +1,6 @@
 //! The picture of a timeline.
 
-ghost use Rattle.std.specs.Prelude.{◌≡◌, ◌<◌, false, IfOk, length};
+ghost use Rattle.std.specs.Prelude.{◌≡◌, ◌<◌, ◌∷◌, [], false, IfOk, length};
 ghost use Rattle.evm_xml.specs.Xml.{IsElement};
 
 use crate::arrows::{Free, arrow_sign};
@@ -129,7 +129,8 @@ fn sign(
     alloc: Global,
     at: Place,
     shown: &Shown,
-    flags: &mut [Free; 2],
+    upper: &mut Free,
+    lower: &mut Free,
     arrows: &mut Free,
 ) -> Result<Draft, Refused>
     requires content { draft.in_tag ≡ false }
@@ -137,7 +138,7 @@ fn sign(
     ensures { IfOk result (λ new. new ≡ draft) }
 {
     let draft = line_sign(draft, alloc, at, shown)?;
-    let draft = flag_sign(draft, alloc, at, shown, flags)?;
+    let draft = flag_sign(draft, alloc, at, shown, upper, lower)?;
     arrow_sign(draft, alloc, at, shown, arrows)
 }
 
@@ -147,7 +148,8 @@ fn cell_signs(
     alloc: Global,
     at: Place,
     marks: &[Shown],
-    flags: &mut [Free; 2],
+    upper: &mut Free,
+    lower: &mut Free,
     arrows: &mut Free,
 ) -> Result<Draft, Refused>
     requires content { draft.in_tag ≡ false }
@@ -156,7 +158,7 @@ fn cell_signs(
 {
     let mut draft = draft;
     for shown in marks {
-        draft = sign(draft, alloc, at, shown, flags, arrows)?;
+        draft = sign(draft, alloc, at, shown, upper, lower, arrows)?;
     }
     Ok(draft)
 }
@@ -173,7 +175,8 @@ fn signs(draft: Draft, alloc: Global, strip: &Strip<'_>) -> Result<Draft, Refuse
     ensures { IfOk result (λ new. new ≡ draft) }
 {
     let mut draft = draft;
-    let mut flags = [[0u32; PROCESSOR_LIMIT]; 2];
+    let mut upper = [0u32; PROCESSOR_LIMIT];
+    let mut lower = [0u32; PROCESSOR_LIMIT];
     let mut arrows = [0u32; PROCESSOR_LIMIT];
     let mut rest = strip.marks;
     let mut column = 0usize;
@@ -183,7 +186,7 @@ fn signs(draft: Draft, alloc: Global, strip: &Strip<'_>) -> Result<Draft, Refuse
             top: strip.top,
         };
         let (marks, others) = cut(rest, cell.kept);
-        draft = cell_signs(draft, alloc, at, marks, &mut flags, &mut arrows)?;
+        draft = cell_signs(draft, alloc, at, marks, &mut upper, &mut lower, &mut arrows)?;
         rest = others;
         column = column.saturating_add(1);
     }

@@ -2,7 +2,6 @@
 
 use super::*;
 use evm_devs::Pins;
-use std::alloc::Global;
 use std::process::Abort;
 use std::test::Fail;
 
@@ -38,22 +37,4 @@ fn a_timeline_is_drawn(rt: HostRuntime) -> Result<(), Fail> {
     assert!(rt; bytes.starts_with(b"<svg xmlns="));
     assert!(rt; bytes.ends_with(b"</svg>"));
     Ok(())
-}
-
-// Where the texts of two journals part.
-fn where_parted(rt: &impl Abort, alloc: Global, one: &str, two: &str) -> Parting {
-    match journals_part(alloc, one, two) {
-        Ok(parting) => parting,
-        Err(_) => panic!(rt; "no journals"),
-    }
-}
-
-#[test]
-fn journals_part_at_an_event(rt: HostRuntime) {
-    let one = "evl-journal 1\nboot 1 65536 64\nstep 0 5\ntick\nstep 0 2\n";
-    let two = "evl-journal 1\nboot 1 65536 64\nstep 0 5\ntick\nstep 0 1\ntick\n";
-    assert_eq!(rt; where_parted(&rt, rt.alloc(), one, one), Parting::Nowhere);
-    assert_eq!(rt; where_parted(&rt, rt.alloc(), one, two), Parting::At(7));
-    let longer = "evl-journal 1\nboot 1 65536 64\nstep 0 6\n";
-    assert_eq!(rt; where_parted(&rt, rt.alloc(), one, longer), Parting::At(5));
 }

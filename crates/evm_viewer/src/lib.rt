@@ -3,10 +3,12 @@
 
 mod comparing;
 mod help;
+mod parting;
 mod running;
 mod viewing;
 mod words;
 
+pub use parting::{Parting, first_parting, journals_part, parting_text};
 pub use running::{run, run_words};
 pub use words::{Fault, Job, job_of};
 

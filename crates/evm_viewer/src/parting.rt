@@ -1,10 +1,10 @@
 //! Where two journals part.
 
-use evm_cells::{
+use evm_room::Refused;
+use evm_view::{
     Boot, Event, EventLine, InputFault, Journal, JournalFaultKind, Piece, WalkStop, read_history,
     say,
 };
-use evm_room::Refused;
 use std::alloc::Global;
 
 /// Where two journals part.
