@@ -17,6 +17,3 @@ pub use look::{Lane, Look, Running};
 pub use mark::Mark;
 pub use marking::marks;
 pub use walk::{Walk, WalkStop};
-
-#[cfg(test)]
-mod tests;

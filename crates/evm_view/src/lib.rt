@@ -19,6 +19,3 @@ pub use evm_cells::{
 };
 pub use svg::drawn;
 pub use terminal::written;
-
-#[cfg(test)]
-mod tests;
