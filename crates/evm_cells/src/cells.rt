@@ -1,0 +1,284 @@
+//! A window of a journal as a bounded row of cells.
+
+ghost use Rattle.std.specs.Prelude.{◌≡◌, ◌+◌, ◌<◌, ◌^◌, ◌++◌, ◌∷◌, [], ℕ, IfOk, OnOk, drop};
+ghost use Rattle.evm_cells.specs.Rows.{Halves, IsRow};
+
+use evm_model::PROCESSOR_LIMIT;
+use evm_room::{Refused, grow};
+use evm_timeline::{Event, Item, Lane, Mark, lane_of};
+use std::alloc::Global;
+
+/// The most cells that a timeline has.
+pub const CELL_LIMIT: usize = 320;
+
+/// The most marks that are kept of one cell.
+pub const MARK_LIMIT: u32 = 8;
+
+/// How many lanes there may be: one for each processor, and behind them that of the machine.
+pub const LANE_LIMIT: usize = PROCESSOR_LIMIT + 1;
+
+/// What is seen of the processors.
+pub type Lanes = [Option<Lane>; PROCESSOR_LIMIT];
+
+/// A mark with what is said beside it.
+#[derive(Clone, Copy)]
+pub struct Shown {
+    pub mark: Mark,
+    /// The number of its event.
+    pub event: u64,
+    /// The processor of the event.
+    pub actor: Option<u8>,
+    /// The processor of the task, line or stage that it is about.
+    pub subject: Option<u8>,
+    /// The task that owns the mutex that is waited for.
+    pub owner: Option<u8>,
+}
+
+/// Neighbouring events that are drawn in one column.
+#[derive(Clone, Copy)]
+pub struct Cell {
+    /// The number of its first event.
+    pub first: u64,
+    /// How many events it has, at least 1.
+    pub count: u64,
+    /// How many of them are of each processor, and behind those how many have none.
+    pub shares: [u64; LANE_LIMIT],
+    /// How many events and runs were joined.
+    pub items: u64,
+    /// The first event.
+    pub event: Event<u8>,
+    /// What was seen before its first event.
+    pub lanes: Lanes,
+    /// How many of its marks are kept.
+    pub kept: u32,
+    /// How many are not.
+    pub dropped: u64,
+}
+
+/// A window of a journal.
+#[derive(Drop)]
+pub struct Timeline {
+    /// How many processors there are.
+    pub cpu_count: u8,
+    /// The cells, one behind the other.
+    pub cells: Vec<Cell>,
+    /// Their marks, one behind the other.
+    pub marks: Vec<Shown>,
+    // how many events and runs a cell has
+    span: u64,
+}
+
+fn lane_index(lane: Option<u8>) -> usize {
+    match lane {
+        Some(cpu) => usize::from(cpu).min(PROCESSOR_LIMIT),
+        None => PROCESSOR_LIMIT,
+    }
+}
+
+fn shares_of(item: &Item) -> [u64; LANE_LIMIT] {
+    let mut shares = [0; LANE_LIMIT];
+    if let Some(share) = shares.get_mut(lane_index(lane_of(&item.event))) {
+        *share = u64::from(item.count);
+    }
+    shares
+}
+
+fn cell_of(item: &Item, lanes: &Lanes, kept: u32, dropped: u64) -> Cell
+    ensures first { result.first ≡ item.now.first }
+    ensures count { result.count ≡ item.now.count }
+{
+    Cell {
+        first: item.first,
+        count: u64::from(item.count),
+        shares: shares_of(item),
+        items: 1,
+        event: item.event,
+        lanes: *lanes,
+        kept,
+        dropped,
+    }
+}
+
+fn summed(one: &[u64; LANE_LIMIT], two: &[u64; LANE_LIMIT]) -> [u64; LANE_LIMIT] {
+    let mut shares = *one;
+    for i in 0..LANE_LIMIT {
+        shares[i] = one[i].saturating_add(two[i]);
+    }
+    shares
+}
+
+// How many of so many marks are kept.
+fn kept_of(one: u32, two: u32) -> u32 {
+    one.saturating_add(two).min(MARK_LIMIT)
+}
+
+fn joined(one: &Cell, two: &Cell) -> Cell
+    ensures first { result.first ≡ one.now.first }
+    ensures count { one.now.count + two.now.count < 2 ^ 64 → result.count ≡ one.now.count + two.now.count }
+{
+    let kept = kept_of(one.kept, two.kept);
+    let lost = u64::from(one.kept.saturating_add(two.kept).saturating_sub(kept));
+    Cell {
+        first: one.first,
+        count: one.count.saturating_add(two.count),
+        shares: summed(&one.shares, &two.shares),
+        items: one.items.saturating_add(two.items),
+        event: one.event,
+        lanes: one.lanes,
+        kept,
+        dropped: one.dropped.saturating_add(two.dropped).saturating_add(lost),
+    }
+}
+
+fn put<T: Drop>(items: &mut Vec<T>, item: T) -> Result<(), Refused>
+    ensures { OnOk result (items.new.items ≡ items.old.items ++ item ∷ []) }
+{
+    grow(items, 1)?;
+    items.push_reserved(item);
+    Ok(())
+}
+
+// Appends the first marks of a slice.
+fn copy_marks(to: &mut Vec<Shown>, from: &[Shown], count: u32) -> Result<(), Refused> {
+    for shown in from.iter().take(count as usize) {
+        put(to, *shown)?;
+    }
+    Ok(())
+}
+
+// The marks behind the first ones.
+fn behind(marks: &[Shown], count: u32) -> &[Shown] {
+    let at = (count as usize).min(marks.len());
+    &marks[at..]
+}
+
+// The marks that are kept where each two neighbouring cells are joined.
+fn halved_marks(alloc: Global, cells: &[Cell], marks: &[Shown]) -> Result<Vec<Shown>, Refused> {
+    let mut new = Vec::new(alloc);
+    let mut left = marks;
+    let mut rest = cells;
+    while let [one, two, others @ ..] = rest {
+        copy_marks(&mut new, left, kept_of(one.kept, two.kept))?;
+        left = behind(left, one.kept.saturating_add(two.kept));
+        rest = others;
+    }
+    if let Some(cell) = rest.first() {
+        copy_marks(&mut new, left, cell.kept)?;
+    }
+    Ok(new)
+}
+
+// A cell more, which is joined to the last.
+fn put_joined(cells: &mut Vec<Cell>, cell: &Cell) -> Result<(), Refused>
+    ensures { (from : ℕ) → cell.now.first + cell.now.count < 2 ^ 64 → 0 < cell.now.count → IsRow from cells.old.items cell.now.first → OnOk result (IsRow from cells.new.items (cell.now.first + cell.now.count)) }
+{
+    match cells.pop() {
+        Some(last) => put(cells, joined(&last, cell)),
+        None => put(cells, *cell),
+    }
+}
+
+// A cell more, joined to the last or not.
+fn put_cell(cells: &mut Vec<Cell>, cell: &Cell, joins: bool) -> Result<(), Refused>
+    ensures { (from : ℕ) → cell.now.first + cell.now.count < 2 ^ 64 → 0 < cell.now.count → IsRow from cells.old.items cell.now.first → OnOk result (IsRow from cells.new.items (cell.now.first + cell.now.count)) }
+{
+    if joins {
+        put_joined(cells, cell)
+    } else {
+        put(cells, *cell)
+    }
+}
+
+// A cell more by its number, if there is one: each second is joined to the one before it.
+fn put_numbered(new: &mut Vec<Cell>, cells: &[Cell], i: usize) -> Result<(), Refused>
+    ensures { (from to : ℕ) → to < 2 ^ 64 → Halves from (drop i cells.now) to new.old.items → OnOk result (Halves from (drop (i + 1) cells.now) to new.new.items) }
+{
+    match cells.get(i) {
+        None => Ok(()),
+        Some(cell) => put_cell(new, cell, i % 2 == 1),
+    }
+}
+
+// Each two neighbouring cells joined.
+fn halved(alloc: Global, cells: &[Cell]) -> Result<Vec<Cell>, Refused>
+    ensures { (from to : ℕ) → to < 2 ^ 64 → IsRow from cells.now to → IfOk result (λ new. IsRow from new.items to) }
+{
+    let mut new = Vec::new(alloc);
+    for i in 0..cells.len() {
+        put_numbered(&mut new, cells, i)?;
+    }
+    Ok(new)
+}
+
+// How many marks the last cell keeps, if it has room for one event or run more.
+fn room_of(cells: &[Cell], span: u64) -> Option<u32> {
+    match cells.last() {
+        Some(cell) if cell.items < span => Some(cell.kept),
+        _ => None,
+    }
+}
+
+// Appends the marks that are kept of those found, beside so many: how many.
+fn keep(marks: &mut Vec<Shown>, found: &[Shown], before: u32) -> Result<u32, Refused> {
+    let room = MARK_LIMIT.saturating_sub(before);
+    let kept = u32::try_from(found.len()).unwrap_or(u32::MAX).min(room);
+    copy_marks(marks, found, kept)?;
+    Ok(kept)
+}
+
+impl Timeline {
+    /// No cell. Takes no memory.
+    pub fn new(alloc: Global, cpu_count: u8) -> Timeline
+        ensures { result.cells.items ≡ [] }
+    {
+        Timeline {
+            cpu_count,
+            cells: Vec::new(alloc),
+            marks: Vec::new(alloc),
+            span: 1,
+        }
+    }
+
+    // Joins each two neighbouring cells.
+    fn halve(&mut self, alloc: Global) -> Result<(), Refused>
+        ensures { (from to : ℕ) → to < 2 ^ 64 → IsRow from self.old.cells.items to → OnOk result (IsRow from self.new.cells.items to) }
+    {
+        let marks = halved_marks(alloc, self.cells.as_slice(), self.marks.as_slice())?;
+        let cells = halved(alloc, self.cells.as_slice())?;
+        self.marks = marks;
+        self.cells = cells;
+        self.span = self.span.saturating_mul(2);
+        Ok(())
+    }
+
+    // Joins them, where there are as many cells as there may be.
+    fn bound(&mut self, alloc: Global) -> Result<(), Refused>
+        ensures { (from to : ℕ) → to < 2 ^ 64 → IsRow from self.old.cells.items to → OnOk result (IsRow from self.new.cells.items to) }
+    {
+        if self.cells.len() >= CELL_LIMIT {
+            self.halve(alloc)
+        } else {
+            Ok(())
+        }
+    }
+
+    /// An event or a run more, with what was seen before it and its marks. Where the cells stood one behind the other up to it,
+    /// they do so up to its end.
+    pub fn add(
+        &mut self,
+        alloc: Global,
+        item: &Item,
+        lanes: &Lanes,
+        found: &[Shown],
+    ) -> Result<(), Refused>
+        ensures { (from : ℕ) → item.now.first + item.now.count < 2 ^ 64 → 0 < item.now.count → IsRow from self.old.cells.items item.now.first
+            → OnOk result (IsRow from self.new.cells.items (item.now.first + item.now.count)) }
+    {
+        let room = room_of(self.cells.as_slice(), self.span);
+        let kept = keep(&mut self.marks, found, room.unwrap_or(0))?;
+        let dropped = (found.len() as u64).saturating_sub(u64::from(kept));
+        let cell = cell_of(item, lanes, kept, dropped);
+        put_cell(&mut self.cells, &cell, room.is_some())?;
+        self.bound(alloc)
+    }
+}

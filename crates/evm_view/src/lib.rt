@@ -1,0 +1,21 @@
+//! A journal as a picture (SVG) or as text: which task runs on which stage, and what each event did.
+#![tactic(auto)]
+
+mod arrows;
+mod bars;
+mod events;
+mod flags;
+mod layout;
+mod legend;
+mod lines;
+mod shapes;
+mod style;
+mod svg;
+mod terminal;
+
+pub use evm_cells::{
+    Boot, Devices, Event, EventLine, InputFault, Journal, JournalFaultKind, Piece, Timeline, Walk,
+    WalkStop, Window, gather, read_history, say,
+};
+pub use svg::drawn;
+pub use terminal::written;
