@@ -1,5 +1,5 @@
 -- Decimal digits are a number of JSON, and need no escape.
-use Rattle.std.proofs.Common.{◌≡◌, ℕ, zero, suc, ◌+◌, ◌/◌, ◌%◌, ◌^◌, ◌<◌, ◌≤◌, cond, false, List, [], ◌∷◌, ◌++◌, length, drop, get_or, Some, flat_map, option_and_then, refl, sym, ap, ap₂, subst, ◌∙◌, arith, ◌==◌, inl, inr}
+use Rattle.std.proofs.Common.{◌≡◌, ◌≢◌, ℕ, zero, suc, ◌+◌, ◌/◌, ◌%◌, ◌^◌, ◌<◌, ◌≤◌, cond, false, List, [], ◌∷◌, ◌++◌, length, drop, get_or, Some, flat_map, option_and_then, refl, sym, ap, ap₂, subst, ◌∙◌, arith, ◌==◌, inl, inr}
 use Rattle.std.proofs.lemmas.Bool.{ne_eqb, le-leb, and_from, cases_eq, cases_lt, lt-ltb, le-ltb}
 use Rattle.std.proofs.lemmas.Nat.{mod_below}
 use Rattle.std.proofs.lemmas.List.{drop_all}
@@ -50,10 +50,46 @@ all_figures [] all = refl
 all_figures (d ∷ ds) all =
     ap (λ b. cond b (1 + prefix_len is_ascii_digit ds) 0) (and_from _ _ (le-leb 48 d all.0) (le-leb d 57 all.1)) ∙ omega (arith, all_figures ds all.2)
 
-escape-figures : (ds : List ℕ) → AreFigures ds → escape ds ≡ ds
-escape-figures [] all = refl
-escape-figures (d ∷ ds) all =
-    ap₂ (λ (xs ys : List ℕ). xs ++ ys) (escape_byte_plain d (λ e. omega arith) (λ e. omega arith) (omega arith)) (escape-figures ds all.2)
+-- the bytes need no escape
+abbrev ArePlain : List ℕ → Type 0
+ArePlain [] = Unit {0}
+ArePlain (d ∷ ds) = (48 ≤ d) × (d ≢ 92) × ArePlain ds
+
+plain-push : (ds : List ℕ) (d : ℕ) → ArePlain ds → 48 ≤ d → d ≢ 92 → ArePlain (ds ++ d ∷ [])
+plain-push [] d all low other = (low, other, tt)
+plain-push (c ∷ ds) d all low other = (all.0, all.1, plain-push ds d all.2 low other)
+
+plain_character : (d : ℕ) → (48 ≤ character d) × (character d ≢ 92)
+plain_character d =
+    elim (cases_lt d 10) [
+      | inl small ↦ let e = figure d small in (omega (arith, e), λ same. omega (arith, e, same))
+      | inr large ↦
+          let e = le-ltb d 10 large in
+          let letter : character d ≡ 87 + d = rw e refl in
+          (omega (arith, letter), λ same. omega (arith, letter, same))
+    ]
+
+plain-numeral : (divisions n : ℕ) → ArePlain (numeral 10 divisions n)
+unfolding numeral
+plain-numeral zero n = let is = plain_character n in (is.0, is.1, tt)
+plain-numeral (suc divisions) n =
+    elim (cases_lt n 10) [
+      | inl small ↦
+          let e = lt-ltb n 10 small in
+          let one : numeral 10 (suc divisions) n ≡ character n ∷ [] = rw e refl in
+          let is = plain_character n in
+          subst ArePlain (sym one) (is.0, is.1, tt)
+      | inr large ↦
+          let e = le-ltb n 10 large in
+          let more : numeral 10 (suc divisions) n ≡ numeral 10 divisions (n / 10) ++ character (n % 10) ∷ [] = rw e refl in
+          let is = plain_character (n % 10) in
+          subst ArePlain (sym more) (plain-push (numeral 10 divisions (n / 10)) (character (n % 10)) (plain-numeral divisions (n / 10)) is.0 is.1)
+    ]
+
+escape-plain : (ds : List ℕ) → ArePlain ds → escape ds ≡ ds
+escape-plain [] all = refl
+escape-plain (d ∷ ds) all =
+    ap₂ (λ (xs ys : List ℕ). xs ++ ys) (escape_byte_plain d (λ e. omega arith) all.1 (omega arith)) (escape-plain ds all.2)
 
 -- A number of figures: a lone 0, or a first figure that is none.
 figures_number : (d : ℕ) (ds : List ℕ) → AreFigures (d ∷ ds) → (d ≡ 48 → ds ≡ []) → IsNumber (d ∷ ds)
@@ -76,12 +112,14 @@ worth_zero : (d : ℕ) → d ≡ 48 → worth d ≡ 0
 unfolding worth
 worth_zero d e = rw e refl
 
-pub decimals : (n : ℕ) → n < 2 ^ 64 → IsNumber (decimal n) × (escape (decimal n) ≡ decimal n)
-decimals n lt =
+number : (n : ℕ) → n < 2 ^ 64 → IsNumber (decimal n)
+number n lt =
     let base : IsBase 10 = record { low = omega arith; high = omega arith } in
     let fits = Fits_from_power 10 19 n (omega arith) (omega arith) in
     let all = figures-numeral 19 n fits in
     let begins = numeral-begins 10 19 n base fits in
     let figures : AreFigures (begins.first ∷ begins.others) = rw begins.whole at all in
-    let number = figures_number begins.first begins.others figures (λ e. begins.zero_alone (worth_zero begins.first e)) in
-    (subst IsNumber (sym begins.whole) number, escape-figures (decimal n) all)
+    subst IsNumber (sym begins.whole) (figures_number begins.first begins.others figures (λ e. begins.zero_alone (worth_zero begins.first e)))
+
+pub decimals : (n : ℕ) → (n < 2 ^ 64 → IsNumber (decimal n)) × (escape (decimal n) ≡ decimal n)
+decimals n = (number n, escape-plain (decimal n) (plain-numeral 19 n))

@@ -15,4 +15,4 @@ ListingsAreJson = (key : List ℕ) (js : Items) → ItemsHaveNumbers js → item
 
 -- Decimal digits are a number of JSON, and stand for themselves in a string.
 abbrev pub DecimalsAreJson : Type 0
-DecimalsAreJson = (n : ℕ) → n < 2 ^ 64 → IsNumber (decimal n) × (escape (decimal n) ≡ decimal n)
+DecimalsAreJson = (n : ℕ) → (n < 2 ^ 64 → IsNumber (decimal n)) × (escape (decimal n) ≡ decimal n)

@@ -1,0 +1,19 @@
+//! The records of a trace, in the Trace Event Format: a track for each stage of a processor, for its lines and for each task, slices
+//! that follow one another on a track, and the records as JSON.
+#![tactic(auto)]
+
+mod entry;
+mod laws;
+mod note;
+mod piece;
+mod state;
+mod track;
+mod tracks;
+
+pub use entry::{push_end, push_note, push_start};
+pub use laws::{notes_are_kept, slices_follow, traces_are_json, traces_are_written};
+pub use note::{Detail, Flow, Note, Passage};
+pub use state::State;
+pub use track::Track;
+pub use tracks::Tracks;
+
