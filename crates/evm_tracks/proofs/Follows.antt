@@ -1,14 +1,17 @@
 -- The slices of a track follow one another, and the notes are kept.
-use Rattle.std.proofs.Common.{◌≡◌, ℕ, zero, suc, ◌+◌, ◌-◌, ◌≤◌, ◌<◌, ◌==◌, cond, Bool, true, false, List, [], ◌∷◌, ◌++◌, Option, Some, None, refl, sym, ap, subst, ◌∙◌, arith, inl, inr}
+use Rattle.std.proofs.Common.{◌≡◌, ℕ, zero, suc, ◌+◌, ◌-◌, ◌≤◌, ◌<◌, ◌==◌, cond, max, Bool, true, false, List, [], ◌∷◌, ◌++◌, Option, Some, None, refl, sym, ap, subst, ◌∙◌, arith, inl, inr}
 use Rattle.std.specs.Prelude.{slice_get, slice_set, replicate}
+use Rattle.std.proofs.Math.Nat.{le-max_left}
 use Rattle.std.proofs.lemmas.Bool.{cases_Bool, cases_eq, eqb-true, eqb-false}
+use Rattle.evm_tracks.specs.declared.change.Change.{Change}
+use Rattle.evm_tracks.specs.declared.change.Change.TheVariants.{Shows, Noted}
 use Rattle.evm_tracks.specs.declared.note.Note.{Note}
 use Rattle.evm_tracks.specs.declared.state.State.{State}
 use Rattle.evm_tracks.specs.declared.track.Track.{Track}
 use Rattle.evm_tracks.specs.declared.tracks.Span.{Span}
-use Rattle.evm_tracks.specs.Entries.{Slice, Record, slice, note}
-use Rattle.evm_tracks.specs.Changes.{Change, shows, noted, Spans, row, opened, is_open, is_shown, closed, records_by, after, records_of, no_spans}
-use Rattle.evm_tracks.specs.Laws.{slices_at, Follow, AreInOrder, notes_in, notes_of}
+use Rattle.evm_tracks.specs.Entries.{Slice, Record, slice, note, first_note}
+use Rattle.evm_tracks.specs.Changes.{Spans, row, opened, is_open, is_shown, closed, records_by, after, records_of, no_spans, in_time, time_after, in_order, trace_of}
+use Rattle.evm_tracks.specs.Laws.{slices_at, Follow, notes_in, notes_of}
 
 -- ---- lists
 
@@ -44,17 +47,33 @@ notes-closed false track (Some (Some span)) at = refl
 
 notes-kept : (spans : Spans) (changes : List Change) → notes_in (records_of spans changes) ≡ notes_of changes
 notes-kept spans [] = refl
-notes-kept spans (noted n ∷ changes) = ap (λ (ns : List Note). n ∷ ns) (notes-kept spans changes)
-notes-kept spans (shows track state at ∷ changes) =
+notes-kept spans (Noted n ∷ changes) = ap (λ (ns : List Note). n ∷ ns) (notes-kept spans changes)
+notes-kept spans (Shows track state at ∷ changes) =
     let now = slice_get spans (row track) in
-    let next = after spans (shows track state at) in
-    notes-append (records_by spans (shows track state at)) (records_of next changes)
+    let next = after spans (Shows track state at) in
+    notes-append (records_by spans (Shows track state at)) (records_of next changes)
     ∙ ap (λ (ns : List Note). ns ++ notes_in (records_of next changes)) (notes-closed (is_shown now state) track now at) ∙ notes-kept next changes
 
-pub notes_kept : (changes : List Change) → notes_in (records_of no_spans changes) ≡ notes_of changes
-notes_kept changes = notes-kept no_spans changes
+notes-order : (last : ℕ) (changes : List Change) → notes_of (in_order last changes) ≡ notes_of changes
+notes-order last [] = refl
+notes-order last (Shows track state at ∷ changes) = notes-order (max last at) changes
+notes-order last (Noted n ∷ changes) = ap (λ (ns : List Note). n ∷ ns) (notes-order last changes)
+
+pub notes_kept : (changes : List Change) → notes_in (trace_of changes) ≡ first_note ∷ notes_of changes
+notes_kept changes = ap (λ (ns : List Note). first_note ∷ ns) (notes-kept no_spans (in_order 0 changes) ∙ notes-order 0 changes)
 
 -- ---- the slices
+
+-- no change comes before one that stands in front of it
+abbrev AreInOrder : ℕ → List Change → Type 0
+AreInOrder last [] = Unit {0}
+AreInOrder last (Shows track state at ∷ changes) = (last ≤ at) × AreInOrder at changes
+AreInOrder last (Noted n ∷ changes) = AreInOrder last changes
+
+ordered : (last : ℕ) (changes : List Change) → AreInOrder last (in_order last changes)
+ordered last [] = tt
+ordered last (Shows track state at ∷ changes) = (le-max_left last at, ordered (max last at) changes)
+ordered last (Noted n ∷ changes) = ordered last changes
 
 -- the tick from which the next slice of a track begins
 abbrev start : ℕ → Option (Option Span) → ℕ
@@ -112,7 +131,7 @@ within (Some x) state new = (x, refl)
 abbrev Goes : ℕ → List Change → Type 0
 Goes r changes = (spans : Spans) (now : ℕ) → start now (slice_get spans r) ≤ now → AreInOrder now changes → Follow (start now (slice_get spans r)) (slices_at r (records_of spans changes))
 
-goes-shows : (r : ℕ) (track : Track) (state : Option State) (at : ℕ) (changes : List Change) → Goes r changes → Goes r (shows track state at ∷ changes)
+goes-shows : (r : ℕ) (track : Track) (state : Option State) (at : ℕ) (changes : List Change) → Goes r changes → Goes r (Shows track state at ∷ changes)
 goes-shows r track state at changes more spans now before order =
     let here = slice_get spans r in
     let there = slice_get spans (row track) in
@@ -146,16 +165,17 @@ goes-shows r track state at changes more spans now before order =
 
 goes : (r : ℕ) (changes : List Change) → Goes r changes
 goes r [] spans now before order = tt
-goes r (noted n ∷ changes) spans now before order = goes r changes spans now before order
-goes r (shows track state at ∷ changes) spans now before order = goes-shows r track state at changes (goes r changes) spans now before order
+goes r (Noted n ∷ changes) spans now before order = goes r changes spans now before order
+goes r (Shows track state at ∷ changes) spans now before order = goes-shows r track state at changes (goes r changes) spans now before order
 
 nothing_shown : (r : ℕ) (o : Option (Option Span)) → ((x : Option Span) → o ≡ Some x → x ≡ None) → start 0 o ≡ 0
 nothing_shown r None none = refl
 nothing_shown r (Some None) none = refl
 nothing_shown r (Some (Some span)) none = let e : Some span ≡ None = none (Some span) refl in cc
 
-pub follows : (changes : List Change) (track : Track) → AreInOrder 0 changes → Follow 0 (slices_at (row track) (records_of no_spans changes))
-follows changes track order =
+pub follows : (changes : List Change) (track : Track) → Follow 0 (slices_at (row track) (trace_of changes))
+follows changes track =
     let r = row track in
+    let given = in_order 0 changes in
     let begins : start 0 (slice_get no_spans r) ≡ 0 = nothing_shown r (slice_get no_spans r) (λ (x : Option Span) (e : slice_get no_spans r ≡ Some x). get-replicate 1536 r x e) in
-    subst (λ (a : ℕ). Follow a (slices_at r (records_of no_spans changes))) begins (goes r changes no_spans 0 (omega (arith, begins)) order)
+    subst (λ (a : ℕ). Follow a (slices_at r (records_of no_spans given))) begins (goes r given no_spans 0 (omega (arith, begins)) (ordered 0 changes))

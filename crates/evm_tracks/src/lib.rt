@@ -2,6 +2,7 @@
 //! that follow one another on a track, and the records as JSON.
 #![tactic(auto)]
 
+mod change;
 mod entry;
 mod laws;
 mod note;
@@ -10,6 +11,7 @@ mod state;
 mod track;
 mod tracks;
 
+pub use change::Change;
 pub use entry::{push_end, push_note, push_start};
 pub use laws::{notes_are_kept, slices_follow, traces_are_json, traces_are_written};
 pub use note::{Detail, Flow, Note, Passage};

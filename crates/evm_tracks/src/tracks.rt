@@ -4,8 +4,9 @@ ghost use Rattle.std.specs.Prelude.{◌≡◌, ◌++◌, OnOk, OnErr, IfOk, if�
 ghost use Rattle.std.specs.String.{string_bytes};
 ghost use Rattle.evm_tracks.specs.Names.{state_code};
 ghost use Rattle.evm_tracks.specs.Entries.{record_lines};
-ghost use Rattle.evm_tracks.specs.Changes.{row, is_open, is_shown, shows, records_by, after, opened, no_spans};
+ghost use Rattle.evm_tracks.specs.Changes.{row, is_open, is_shown, records_by, after, opened, no_spans};
 
+use crate::change::Change;
 use crate::entry::push_slice;
 use crate::state::State;
 use crate::track::Track;
@@ -88,8 +89,8 @@ impl Tracks {
         state: Option<State>,
         at: u64,
     ) -> Result<(), Refused>
-        ensures spans { OnOk result (self.new ≡ after self.old (shows track state at)) }
-        ensures text { OnOk result (string_bytes out.new ≡ string_bytes out.old ++ record_lines (records_by self.old (shows track state at))) }
+        ensures spans { OnOk result (self.new ≡ after self.old (Change.Shows track state at)) }
+        ensures text { OnOk result (string_bytes out.new ≡ string_bytes out.old ++ record_lines (records_by self.old (Change.Shows track state at))) }
     {
         let row = row_of(track);
         let Some(shown) = self.spans.get(row) else {
