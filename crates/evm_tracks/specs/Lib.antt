@@ -3,3 +3,4 @@ pub mod Entries
 pub mod Templates
 pub mod Changes
 pub mod Laws
+pub mod Telling

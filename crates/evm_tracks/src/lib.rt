@@ -8,14 +8,15 @@ mod laws;
 mod note;
 mod piece;
 mod state;
+mod trace;
 mod track;
 mod tracks;
 
 pub use change::Change;
-pub use entry::{push_end, push_note, push_start};
 pub use laws::{notes_are_kept, slices_follow, traces_are_json, traces_are_written};
 pub use note::{Detail, Flow, Note, Passage};
 pub use state::State;
+pub use trace::{Trace, TraceStop};
 pub use track::Track;
-pub use tracks::Tracks;
+pub use tracks::{Span, Tracks};
 

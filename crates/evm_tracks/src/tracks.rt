@@ -42,7 +42,7 @@ impl Model for Tracks {
 }
 
 // The row of a track: each has its own.
-fn row_of(track: Track) -> usize
+pub(crate) fn row_of(track: Track) -> usize
     ensures { result ≡ row track }
 {
     match track {
