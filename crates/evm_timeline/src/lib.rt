@@ -1,0 +1,20 @@
+//! What each event of a journal did: what is seen of the machine before and after it, and the marks by which the two differ.
+#![tactic(auto)]
+
+mod item;
+mod look;
+mod mark;
+mod marks;
+mod quiet;
+mod task_marks;
+mod walk;
+
+pub use evm_diagnostics::{Devices, Event, InputFault, Machine};
+pub use item::{Item, lane_of, outline};
+pub use look::{Lane, Look, Running};
+pub use mark::Mark;
+pub use marks::marks;
+pub use walk::{Walk, WalkStop};
+
+#[cfg(test)]
+mod tests;
