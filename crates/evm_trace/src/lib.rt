@@ -13,5 +13,5 @@ pub use command::{answer, answer_read};
 pub use program::run;
 pub use tracing::{TraceEnd, trace_journal};
 
-#[cfg(test)]
-mod tests;
+
+

@@ -163,14 +163,15 @@ impl Teller {
         }
     }
 
-    // It ends where the line is played.
-    fn end_arrow(&mut self, cpu: u8, line: u8, at: u64) -> Result<(), Refused> {
+    // It ends where the line is played, at what the processor does then.
+    fn end_arrow(&mut self, look: &Look, cpu: u8, line: u8, at: u64) -> Result<(), Refused> {
         let entry = entry_of(cpu, line);
         match self.begun.get(entry) {
             Some(Some(id)) => {
                 let id = *id;
                 self.begun[entry] = None;
-                self.note(self.track_of(cpu), at, Detail::FlowEnd(Flow::Line(line), id))
+                let end = Detail::FlowEnd(Flow::Line(line), id);
+                self.note(current_track(look, cpu), at.saturating_add(1), end)
             }
             _ => Ok(()),
         }
@@ -206,7 +207,7 @@ impl Teller {
             }
             Mark::Played { cpu, line, times, .. } => {
                 self.interrupt(Passage::Played, cpu, line, times, at)?;
-                self.end_arrow(cpu, line, at)
+                self.end_arrow(look, cpu, line, at)
             }
             Mark::Owner {
                 mutex,
