@@ -4,7 +4,7 @@
 mod item;
 mod look;
 mod mark;
-mod marks;
+mod marking;
 mod quiet;
 mod task_marks;
 mod walk;
@@ -13,7 +13,7 @@ pub use evm_diagnostics::{Devices, Event, InputFault, Machine};
 pub use item::{Item, lane_of, outline};
 pub use look::{Lane, Look, Running};
 pub use mark::Mark;
-pub use marks::marks;
+pub use marking::marks;
 pub use walk::{Walk, WalkStop};
 
 #[cfg(test)]

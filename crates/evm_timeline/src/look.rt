@@ -1,21 +1,26 @@
 //! What is seen of a machine between two events.
 
+ghost use Rattle.std.specs.Prelude.{◌≡◌, ◌∷◌, ◌++◌, [], IfOk, OnOk, length, option_to_list, slice_get};
+ghost use Rattle.evm_model.specs.Stages.{is_stalled};
+ghost use Rattle.evm_timeline.specs.Lists.{below};
+ghost use Rattle.evm_timeline.specs.Looks.{IsLookAt, lane_at, last_notice, lines_at, owner_at, rank_at, ready_stage, running_of};
+
 use evm_dev::Device;
 use evm_journal::Machine;
 use evm_lines::LINES;
-use evm_model::{Counts, Notice, Stage, StageLog, Task, TaskState};
+use evm_model::{Counts, Notice, Stage, Task, TaskState};
 use evm_room::{Refused, grow};
 use std::alloc::Global;
 
 /// The task that a processor runs, and the stage on which.
-#[derive(Clone, Copy, Debug, PartialEq, Eq)]
+#[derive(Clone, Copy)]
 pub struct Running {
     pub task: u8,
     pub stage: Stage,
 }
 
 /// What is seen of a processor.
-#[derive(Clone, Copy, Debug, PartialEq, Eq)]
+#[derive(Clone, Copy)]
 pub struct Lane {
     pub running: Option<Running>,
     /// The debugger has stopped it.
@@ -27,7 +32,7 @@ pub struct Lane {
 }
 
 /// What is seen of a machine.
-#[derive(Debug, Drop)]
+#[derive(Drop)]
 pub struct Look {
     /// How many processors there are.
     pub cpu_count: u8,
@@ -53,14 +58,28 @@ pub struct Look {
 }
 
 // One element more.
-pub(crate) fn put<T: Drop>(items: &mut Vec<T>, item: T) -> Result<(), Refused> {
+pub(crate) fn put<T: Drop>(items: &mut Vec<T>, item: T) -> Result<(), Refused>
+    ensures { OnOk result (items.new.items ≡ items.old.items ++ item ∷ []) }
+{
     grow(items, 1)?;
     items.push_reserved(item);
     Ok(())
 }
 
+// One element more, if there is one.
+fn put_some<T: Drop>(items: &mut Vec<T>, item: Option<T>) -> Result<(), Refused>
+    ensures { OnOk result (items.new.items ≡ items.old.items ++ option_to_list item) }
+{
+    match item {
+        None => Ok(()),
+        Some(item) => put(items, item),
+    }
+}
+
 // The stage on which a task is that is ready.
-fn stage_of(task: Option<Task>) -> Stage {
+fn ready_stage(task: Option<Task>) -> Stage
+    ensures { result ≡ ready_stage task }
+{
     match task {
         None => Stage::InBand,
         Some(task) => match task.state {
@@ -70,98 +89,131 @@ fn stage_of(task: Option<Task>) -> Stage {
     }
 }
 
-fn running_at<D: Device>(machine: &Machine<D>, current: Option<u8>) -> Option<Running> {
+fn running_of<D: Device>(current: Option<u8>, machine: &Machine<D>) -> Option<Running>
+    ensures { result ≡ running_of current machine.now.board.parts }
+{
     match current {
         None => None,
         Some(task) => Some(Running {
             task,
-            stage: stage_of(machine.task(task)),
+            stage: ready_stage(machine.task(task)),
         }),
     }
 }
 
-fn stall_of(log: Option<StageLog>) -> bool {
-    match log {
+fn is_stalled<D: Device>(stage: Stage, c: u8, machine: &Machine<D>) -> bool
+    ensures { result ≡ is_stalled stage c machine.now.board.parts }
+{
+    match machine.log(c, stage) {
         None => false,
         Some(log) => log.stalled,
     }
 }
 
-fn lane_at<D: Device>(machine: &Machine<D>, c: u8) -> Option<Lane> {
+fn lane_at<D: Device>(machine: &Machine<D>, c: u8) -> Option<Lane>
+    ensures { result ≡ lane_at machine.now.board.parts c }
+{
     match machine.cpu(c) {
         None => None,
         Some(processor) => Some(Lane {
-            running: running_at(machine, processor.current),
+            running: running_of(processor.current, machine),
             stopped: processor.stopped,
-            oob_stalled: stall_of(machine.log(c, Stage::OutOfBand)),
-            in_band_stalled: stall_of(machine.log(c, Stage::InBand)),
+            oob_stalled: is_stalled(Stage::OutOfBand, c, machine),
+            in_band_stalled: is_stalled(Stage::InBand, c, machine),
         }),
     }
 }
 
-fn see_lanes<D: Device>(lanes: &mut Vec<Lane>, machine: &Machine<D>) -> Result<(), Refused> {
+fn owner_at<D: Device>(machine: &Machine<D>, m: u8) -> Option<Option<u8>>
+    ensures { result ≡ owner_at machine.now.board.parts m }
+{
+    match machine.mutex(m) {
+        None => None,
+        Some(mutex) => Some(mutex.owner),
+    }
+}
+
+fn rank_at<D: Device>(machine: &Machine<D>, t: u8) -> Option<u16>
+    ensures { result ≡ rank_at machine.now.board.parts t }
+{
+    match machine.task(t) {
+        None => None,
+        Some(_) => Some(machine.rank(t)),
+    }
+}
+
+#[tactic(auto, using(crate::proofs::Lemmas::numbered))]
+fn see_lanes<D: Device>(lanes: &mut Vec<Lane>, machine: &Machine<D>) -> Result<(), Refused>
+    ensures { OnOk result (lanes.new.items ≡ below (λ c. option_to_list (lane_at machine.now.board.parts c)) (length machine.now.board.parts.processors)) }
+{
     lanes.clear();
     for c in 0..machine.cpu_count() {
-        if let Some(lane) = lane_at(machine, c) {
-            put(lanes, lane)?;
-        }
+        put_some(lanes, lane_at(machine, c))?;
     }
     Ok(())
 }
 
-fn see_line_counts<D: Device>(
+#[tactic(auto, using(crate::proofs::Lemmas::numbered))]
+fn see_lines<D: Device>(
     counts: &mut Vec<Counts>,
     machine: &Machine<D>,
     c: u8,
-) -> Result<(), Refused> {
+) -> Result<(), Refused>
+    ensures { OnOk result (counts.new.items ≡ counts.old.items ++ lines_at machine.now.board.parts c) }
+{
     for line in 0..LINES {
-        if let Some(count) = machine.counts(c, line) {
-            put(counts, count)?;
-        }
+        put_some(counts, machine.counts(c, line))?;
     }
     Ok(())
 }
 
-fn see_counts<D: Device>(counts: &mut Vec<Counts>, machine: &Machine<D>) -> Result<(), Refused> {
+#[tactic(auto, using(crate::proofs::Lemmas::numbered))]
+fn see_counts<D: Device>(counts: &mut Vec<Counts>, machine: &Machine<D>) -> Result<(), Refused>
+    ensures { OnOk result (counts.new.items ≡ below (lines_at machine.now.board.parts) (length machine.now.board.parts.processors)) }
+{
     counts.clear();
     for c in 0..machine.cpu_count() {
-        see_line_counts(counts, machine, c)?;
+        see_lines(counts, machine, c)?;
     }
     Ok(())
 }
 
-fn see_tasks<D: Device>(tasks: &mut Vec<Task>, machine: &Machine<D>) -> Result<(), Refused> {
+#[tactic(auto, using(crate::proofs::Lemmas::numbered))]
+fn see_tasks<D: Device>(tasks: &mut Vec<Task>, machine: &Machine<D>) -> Result<(), Refused>
+    ensures { OnOk result (tasks.new.items ≡ below (λ t. option_to_list (slice_get machine.now.board.parts.tasks t)) (length machine.now.board.parts.tasks)) }
+{
     tasks.clear();
     for t in 0..machine.task_count() {
-        if let Some(task) = machine.task(t) {
-            put(tasks, task)?;
-        }
+        put_some(tasks, machine.task(t))?;
     }
     Ok(())
 }
 
-fn see_ranks<D: Device>(ranks: &mut Vec<u16>, machine: &Machine<D>) -> Result<(), Refused> {
+#[tactic(auto, using(crate::proofs::Lemmas::numbered))]
+fn see_ranks<D: Device>(ranks: &mut Vec<u16>, machine: &Machine<D>) -> Result<(), Refused>
+    ensures { OnOk result (ranks.new.items ≡ below (λ t. option_to_list (rank_at machine.now.board.parts t)) (length machine.now.board.parts.tasks)) }
+{
     ranks.clear();
     for t in 0..machine.task_count() {
-        put(ranks, machine.rank(t))?;
+        put_some(ranks, rank_at(machine, t))?;
     }
     Ok(())
 }
 
-fn see_owners<D: Device>(
-    owners: &mut Vec<Option<u8>>,
-    machine: &Machine<D>,
-) -> Result<(), Refused> {
+#[tactic(auto, using(crate::proofs::Lemmas::numbered))]
+fn see_owners<D: Device>(owners: &mut Vec<Option<u8>>, machine: &Machine<D>) -> Result<(), Refused>
+    ensures { OnOk result (owners.new.items ≡ below (λ m. option_to_list (owner_at machine.now.board.parts m)) (length machine.now.board.parts.mutexes)) }
+{
     owners.clear();
     for m in 0..machine.mutex_count() {
-        if let Some(mutex) = machine.mutex(m) {
-            put(owners, mutex.owner)?;
-        }
+        put_some(owners, owner_at(machine, m))?;
     }
     Ok(())
 }
 
-fn last_notice<D: Device>(machine: &Machine<D>) -> Option<Notice> {
+fn last_notice<D: Device>(machine: &Machine<D>) -> Option<Notice>
+    ensures { result ≡ last_notice machine.now.board.parts.notices.kept }
+{
     let count = machine.notice_count();
     if count == 0 {
         None
@@ -189,7 +241,9 @@ impl Look {
     }
 
     /// Looks at a machine; what was seen before is forgotten, and its room is used again.
-    pub fn see<D: Device>(&mut self, machine: &Machine<D>) -> Result<(), Refused> {
+    pub fn see<D: Device>(&mut self, machine: &Machine<D>) -> Result<(), Refused>
+        ensures { OnOk result (IsLookAt self.new machine.now.board.parts) }
+    {
         see_lanes(&mut self.lanes, machine)?;
         see_counts(&mut self.counts, machine)?;
         see_tasks(&mut self.tasks, machine)?;
@@ -205,7 +259,9 @@ impl Look {
     }
 
     /// What is seen of a machine.
-    pub fn of<D: Device>(alloc: Global, machine: &Machine<D>) -> Result<Look, Refused> {
+    pub fn of<D: Device>(alloc: Global, machine: &Machine<D>) -> Result<Look, Refused>
+        ensures { IfOk result (λ look. IsLookAt look machine.now.board.parts) }
+    {
         let mut look = Look::new(alloc);
         look.see(machine)?;
         Ok(look)

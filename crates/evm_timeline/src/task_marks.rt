@@ -1,13 +1,19 @@
 //! The marks of one task.
 
+ghost use Rattle.std.specs.Prelude.{◌≡◌, ◌++◌, OnOk, option_copied};
+ghost use Rattle.evm_timeline.specs.Lists.{below};
+ghost use Rattle.evm_timeline.specs.Marks.{change_marks, deadline_marks, end_marks, has_ended, is_wait, moves_marks, one_task_marks, rank_marks, same_wait, stage_of, task_marks, wait_of, wait_stage, waits_marks, woken_marks};
+
 use crate::look::Look;
 use crate::mark::Mark;
-use crate::marks::push_when;
+use crate::marking::{push_when, same_stage};
 use evm_model::{Stage, Task, TaskState, Wait};
 use evm_room::Refused;
 
 // Whether a wait is this one.
-fn same_wait(one: Wait, two: Wait) -> bool {
+fn same_wait(one: Wait, two: Wait) -> bool
+    ensures { result ≡ same_wait one two }
+{
     match (one, two) {
         (Wait::Line(a), Wait::Line(b))
         | (Wait::Lock(a), Wait::Lock(b))
@@ -31,111 +37,129 @@ fn same_wait(one: Wait, two: Wait) -> bool {
 }
 
 // What a task waits for.
-fn wait_of(state: TaskState) -> Option<Wait> {
+fn wait_of(state: TaskState) -> Option<Wait>
+    ensures { result ≡ wait_of state }
+{
     match state {
         TaskState::Waits(wait) => Some(wait),
         _ => None,
     }
 }
 
-fn is_wait(wait: Wait, other: Option<Wait>) -> bool {
+fn is_wait(wait: Wait, other: Option<Wait>) -> bool
+    ensures { result ≡ is_wait wait other }
+{
     match other {
         None => false,
         Some(other) => same_wait(wait, other),
     }
 }
 
+// The stage on which a task waits.
+fn wait_stage(wait: Wait) -> Stage
+    ensures { result ≡ wait_stage wait }
+{
+    match wait {
+        Wait::Line(_) => Stage::InBand,
+        _ => Stage::OutOfBand,
+    }
+}
+
 // The stage of a task that hasn't ended.
-fn stage_of(state: TaskState) -> Option<Stage> {
+fn stage_of(state: TaskState) -> Option<Stage>
+    ensures { result ≡ stage_of state }
+{
     match state {
-        TaskState::InReady | TaskState::Waits(Wait::Line(_)) => Some(Stage::InBand),
-        TaskState::OobReady | TaskState::Waits(_) => Some(Stage::OutOfBand),
+        TaskState::InReady => Some(Stage::InBand),
+        TaskState::OobReady => Some(Stage::OutOfBand),
+        TaskState::Waits(wait) => Some(wait_stage(wait)),
         TaskState::Exit | TaskState::Faulted(_) => None,
     }
 }
 
+#[tactic(auto, using(crate::proofs::Lemmas::numbered))]
 fn push_wait(
     marks: &mut Vec<Mark>,
     task: u8,
     before: Option<Wait>,
     after: Option<Wait>,
-) -> Result<(), Refused> {
+) -> Result<(), Refused>
+    ensures { OnOk result (marks.new.items ≡ marks.old.items ++ (waits_marks task before after)) }
+{
     match after {
         None => Ok(()),
         Some(wait) => push_when(marks, !is_wait(wait, before), Mark::Waits { task, wait }),
     }
 }
 
+#[tactic(auto, using(crate::proofs::Lemmas::numbered))]
 fn push_woken(
     marks: &mut Vec<Mark>,
     task: u8,
     before: Option<Wait>,
     after: Option<Wait>,
-) -> Result<(), Refused> {
+) -> Result<(), Refused>
+    ensures { OnOk result (marks.new.items ≡ marks.old.items ++ (woken_marks task before after)) }
+{
     match before {
         None => Ok(()),
         Some(wait) => push_when(marks, !is_wait(wait, after), Mark::Woken { task, wait }),
     }
 }
 
-fn has_come(deadline: u64, ticks: u64) -> bool {
-    deadline != 0 && deadline <= ticks
-}
-
 fn push_deadline(
     marks: &mut Vec<Mark>,
     task: u8,
     ticks: u64,
-    before: &Task,
-    after: &Task,
-) -> Result<(), Refused> {
-    let ended = has_come(before.deadline, ticks) && before.deadline != after.deadline;
+    before: u64,
+    after: u64,
+) -> Result<(), Refused>
+    ensures { OnOk result (marks.new.items ≡ marks.old.items ++ (deadline_marks task ticks before after)) }
+{
     push_when(
         marks,
-        ended,
-        Mark::Deadline {
-            task,
-            tick: before.deadline,
-        },
+        before != 0 && (before <= ticks && before != after),
+        Mark::Deadline { task, tick: before },
     )
 }
 
-fn same_stage(one: Stage, two: Stage) -> bool {
-    match (one, two) {
-        (Stage::OutOfBand, Stage::OutOfBand) | (Stage::InBand, Stage::InBand) => true,
-        _ => false,
-    }
-}
-
+#[tactic(auto, using(crate::proofs::Lemmas::numbered))]
 fn push_moves(
     marks: &mut Vec<Mark>,
     task: u8,
-    before: TaskState,
-    after: TaskState,
-) -> Result<(), Refused> {
-    match (stage_of(before), stage_of(after)) {
-        (Some(old), Some(stage)) => push_when(
+    before: Option<Stage>,
+    after: Option<Stage>,
+) -> Result<(), Refused>
+    ensures { OnOk result (marks.new.items ≡ marks.old.items ++ (moves_marks task before after)) }
+{
+    match (before, after) {
+        (Some(before), Some(stage)) => push_when(
             marks,
-            !same_stage(old, stage),
+            !same_stage(before, stage),
             Mark::Moves { task, stage },
         ),
         _ => Ok(()),
     }
 }
 
-fn has_ended(state: TaskState) -> bool {
+fn has_ended(state: TaskState) -> bool
+    ensures { result ≡ has_ended state }
+{
     match state {
         TaskState::Exit | TaskState::Faulted(_) => true,
         _ => false,
     }
 }
 
+#[tactic(auto, using(crate::proofs::Lemmas::numbered))]
 fn push_end(
     marks: &mut Vec<Mark>,
     task: u8,
     before: TaskState,
     after: TaskState,
-) -> Result<(), Refused> {
+) -> Result<(), Refused>
+    ensures { OnOk result (marks.new.items ≡ marks.old.items ++ (end_marks task before after)) }
+{
     match after {
         TaskState::Exit => push_when(marks, !has_ended(before), Mark::Ended { task }),
         TaskState::Faulted(fault) => {
@@ -145,27 +169,33 @@ fn push_end(
     }
 }
 
+#[tactic(auto, using(crate::proofs::Lemmas::numbered))]
 fn push_changes(
     marks: &mut Vec<Mark>,
     task: u8,
     ticks: u64,
     before: &Task,
     after: &Task,
-) -> Result<(), Refused> {
+) -> Result<(), Refused>
+    ensures { OnOk result (marks.new.items ≡ marks.old.items ++ (change_marks task ticks before.now after.now)) }
+{
     push_woken(marks, task, wait_of(before.state), wait_of(after.state))?;
-    push_deadline(marks, task, ticks, before, after)?;
-    push_moves(marks, task, before.state, after.state)?;
+    push_deadline(marks, task, ticks, before.deadline, after.deadline)?;
+    push_moves(marks, task, stage_of(before.state), stage_of(after.state))?;
     push_wait(marks, task, wait_of(before.state), wait_of(after.state))?;
     push_end(marks, task, before.state, after.state)
 }
 
+#[tactic(auto, unfolding(crate::specs::Marks::task_marks), using(crate::proofs::Lemmas::numbered))]
 fn push_task(
     marks: &mut Vec<Mark>,
     task: u8,
     ticks: u64,
     before: Option<&Task>,
     after: Option<&Task>,
-) -> Result<(), Refused> {
+) -> Result<(), Refused>
+    ensures { OnOk result (marks.new.items ≡ marks.old.items ++ (task_marks task ticks (option_copied before.entry) (option_copied after.entry))) }
+{
     match (before, after) {
         (None, Some(_)) => push_when(marks, true, Mark::Created { task }),
         (Some(before), Some(after)) => push_changes(marks, task, ticks, before, after),
@@ -173,12 +203,15 @@ fn push_task(
     }
 }
 
+#[tactic(auto, using(crate::proofs::Lemmas::numbered))]
 fn push_rank(
     marks: &mut Vec<Mark>,
     task: u8,
     before: Option<&u16>,
     after: Option<&u16>,
-) -> Result<(), Refused> {
+) -> Result<(), Refused>
+    ensures { OnOk result (marks.new.items ≡ marks.old.items ++ (rank_marks task (option_copied before.entry) (option_copied after.entry))) }
+{
     match (before, after) {
         (Some(from), Some(to)) => push_when(
             marks,
@@ -193,21 +226,32 @@ fn push_rank(
     }
 }
 
-pub(crate) fn push_tasks(
+#[tactic(auto, unfolding(crate::specs::Marks::one_task_marks), using(crate::proofs::Lemmas::numbered))]
+fn push_one_task(
     marks: &mut Vec<Mark>,
+    task: u8,
     before: &Look,
     after: &Look,
-) -> Result<(), Refused> {
+) -> Result<(), Refused>
+    ensures { OnOk result (marks.new.items ≡ marks.old.items ++ one_task_marks before.now after.now task) }
+{
+    let at = usize::from(task);
+    push_task(
+        marks,
+        task,
+        after.ticks,
+        before.tasks.get(at),
+        after.tasks.get(at),
+    )?;
+    push_rank(marks, task, before.ranks.get(at), after.ranks.get(at))
+}
+
+#[tactic(auto, using(crate::proofs::Lemmas::numbered))]
+pub(crate) fn push_tasks(marks: &mut Vec<Mark>, before: &Look, after: &Look) -> Result<(), Refused>
+    ensures { OnOk result (marks.new.items ≡ marks.old.items ++ below (one_task_marks before.now after.now) after.now.task_count) }
+{
     for task in 0..after.task_count {
-        let at = usize::from(task);
-        push_task(
-            marks,
-            task,
-            after.ticks,
-            before.tasks.get(at),
-            after.tasks.get(at),
-        )?;
-        push_rank(marks, task, before.ranks.get(at), after.ranks.get(at))?;
+        push_one_task(marks, task, before, after)?;
     }
     Ok(())
 }

@@ -1,5 +1,10 @@
 //! The marks by which two looks differ.
 
+ghost use Rattle.std.specs.Prelude.{◌≡◌, ◌*◌, ◌+◌, ◌++◌, ◌-◌, OnOk, nat_lt, option_copied, slice_get};
+ghost use Rattle.evm_lines.specs.declared.TheConstants.{LINES};
+ghost use Rattle.evm_timeline.specs.Lists.{below};
+ghost use Rattle.evm_timeline.specs.Marks.{counted_marks, lane_marks, line_marks, lines_marks, marks_of, notice_marks, owner_in, owner_marks, processor_marks, running_marks, same_bit, same_owner, same_running, same_stage, stall_marks, stop_marks, tick_marks, when};
+
 use crate::look::{Lane, Look, Running, put};
 use crate::mark::Mark;
 use crate::task_marks::push_tasks;
@@ -8,18 +13,32 @@ use evm_model::{Counts, Notice, Stage};
 use evm_room::Refused;
 
 /// Appends a mark, if it is one.
-pub(crate) fn push_when(marks: &mut Vec<Mark>, holds: bool, mark: Mark) -> Result<(), Refused> {
+#[tactic(auto, using(crate::proofs::Lemmas::numbered))]
+pub(crate) fn push_when(marks: &mut Vec<Mark>, holds: bool, mark: Mark) -> Result<(), Refused>
+    ensures { OnOk result (marks.new.items ≡ marks.old.items ++ (when holds mark)) }
+{
     if holds { put(marks, mark) } else { Ok(()) }
 }
 
-fn same_stage(one: Stage, two: Stage) -> bool {
+// Whether a bit stays.
+fn same_bit(before: bool, after: bool) -> bool
+    ensures { result ≡ same_bit before after }
+{
+    if before { after } else { !after }
+}
+
+pub(crate) fn same_stage(one: Stage, two: Stage) -> bool
+    ensures { result ≡ same_stage one two }
+{
     match (one, two) {
         (Stage::OutOfBand, Stage::OutOfBand) | (Stage::InBand, Stage::InBand) => true,
         _ => false,
     }
 }
 
-fn same_running(before: Option<Running>, after: Running) -> bool {
+fn same_running(before: Option<Running>, after: Running) -> bool
+    ensures { result ≡ same_running before after }
+{
     match before {
         None => false,
         Some(before) => before.task == after.task && same_stage(before.stage, after.stage),
@@ -31,7 +50,9 @@ fn push_running(
     cpu: u8,
     before: Option<Running>,
     after: Option<Running>,
-) -> Result<(), Refused> {
+) -> Result<(), Refused>
+    ensures { OnOk result (marks.new.items ≡ marks.old.items ++ (running_marks cpu before after)) }
+{
     match after {
         None => push_when(marks, before.is_some(), Mark::Idles { cpu }),
         Some(now) => push_when(
@@ -52,10 +73,12 @@ fn push_stall(
     stage: Stage,
     before: bool,
     after: bool,
-) -> Result<(), Refused> {
+) -> Result<(), Refused>
+    ensures { OnOk result (marks.new.items ≡ marks.old.items ++ (stall_marks cpu stage before after)) }
+{
     push_when(
         marks,
-        before != after,
+        !same_bit(before, after),
         Mark::Stall {
             cpu,
             stage,
@@ -64,16 +87,25 @@ fn push_stall(
     )
 }
 
-fn push_stop(marks: &mut Vec<Mark>, cpu: u8, before: bool, after: bool) -> Result<(), Refused> {
-    push_when(marks, before != after, Mark::Stop { cpu, on: after })
+fn push_stop(marks: &mut Vec<Mark>, cpu: u8, before: bool, after: bool) -> Result<(), Refused>
+    ensures { OnOk result (marks.new.items ≡ marks.old.items ++ (stop_marks cpu before after)) }
+{
+    push_when(
+        marks,
+        !same_bit(before, after),
+        Mark::Stop { cpu, on: after },
+    )
 }
 
+#[tactic(auto, unfolding(crate::specs::Marks::lane_marks), using(crate::proofs::Lemmas::numbered))]
 fn push_lane(
     marks: &mut Vec<Mark>,
     cpu: u8,
     before: Option<&Lane>,
     after: Option<&Lane>,
-) -> Result<(), Refused> {
+) -> Result<(), Refused>
+    ensures { OnOk result (marks.new.items ≡ marks.old.items ++ (lane_marks cpu (option_copied before.entry) (option_copied after.entry))) }
+{
     let (Some(before), Some(after)) = (before, after) else {
         return Ok(());
     };
@@ -101,7 +133,9 @@ fn push_raised(
     line: u8,
     before: u64,
     after: u64,
-) -> Result<(), Refused> {
+) -> Result<(), Refused>
+    ensures { OnOk result (marks.new.items ≡ marks.old.items ++ (when (nat_lt before after) (Mark.Raised cpu line (after - before)))) }
+{
     let times = after.saturating_sub(before);
     push_when(marks, before < after, Mark::Raised { cpu, line, times })
 }
@@ -112,7 +146,9 @@ fn push_received(
     line: u8,
     before: u64,
     after: u64,
-) -> Result<(), Refused> {
+) -> Result<(), Refused>
+    ensures { OnOk result (marks.new.items ≡ marks.old.items ++ (when (nat_lt before after) (Mark.Received cpu line (after - before)))) }
+{
     let times = after.saturating_sub(before);
     push_when(marks, before < after, Mark::Received { cpu, line, times })
 }
@@ -124,7 +160,9 @@ fn push_played(
     stage: Stage,
     before: u64,
     after: u64,
-) -> Result<(), Refused> {
+) -> Result<(), Refused>
+    ensures { OnOk result (marks.new.items ≡ marks.old.items ++ (when (nat_lt before after) (Mark.Played cpu stage line (after - before)))) }
+{
     let times = after.saturating_sub(before);
     push_when(
         marks,
@@ -138,13 +176,16 @@ fn push_played(
     )
 }
 
+#[tactic(auto, using(crate::proofs::Lemmas::numbered))]
 fn push_counted(
     marks: &mut Vec<Mark>,
     cpu: u8,
     line: u8,
     before: &Counts,
     after: &Counts,
-) -> Result<(), Refused> {
+) -> Result<(), Refused>
+    ensures { OnOk result (marks.new.items ≡ marks.old.items ++ (counted_marks cpu line before.now after.now)) }
+{
     push_raised(marks, cpu, line, before.raised, after.raised)?;
     push_received(marks, cpu, line, before.received, after.received)?;
     push_played(
@@ -165,25 +206,31 @@ fn push_counted(
     )
 }
 
+#[tactic(auto, unfolding(crate::specs::Marks::line_marks), using(crate::proofs::Lemmas::numbered))]
 fn push_line(
     marks: &mut Vec<Mark>,
     cpu: u8,
     line: u8,
     before: Option<&Counts>,
     after: Option<&Counts>,
-) -> Result<(), Refused> {
+) -> Result<(), Refused>
+    ensures { OnOk result (marks.new.items ≡ marks.old.items ++ (line_marks cpu line (option_copied before.entry) (option_copied after.entry))) }
+{
     match (before, after) {
         (Some(before), Some(after)) => push_counted(marks, cpu, line, before, after),
         _ => Ok(()),
     }
 }
 
+#[tactic(auto, unfolding(crate::specs::Marks::lines_marks), using(crate::proofs::Lemmas::numbered))]
 fn push_lines(
     marks: &mut Vec<Mark>,
     cpu: u8,
     before: &[Counts],
     after: &[Counts],
-) -> Result<(), Refused> {
+) -> Result<(), Refused>
+    ensures { OnOk result (marks.new.items ≡ marks.old.items ++ (lines_marks cpu before.now after.now)) }
+{
     let first = usize::from(cpu) * usize::from(LINES);
     for line in 0..LINES {
         let at = first + usize::from(line);
@@ -192,12 +239,15 @@ fn push_lines(
     Ok(())
 }
 
+#[tactic(auto, unfolding(crate::specs::Marks::processor_marks), using(crate::proofs::Lemmas::numbered))]
 fn push_processor(
     marks: &mut Vec<Mark>,
     cpu: u8,
     before: &Look,
     after: &Look,
-) -> Result<(), Refused> {
+) -> Result<(), Refused>
+    ensures { OnOk result (marks.new.items ≡ marks.old.items ++ (processor_marks before.now after.now cpu)) }
+{
     let at = usize::from(cpu);
     push_lane(marks, cpu, before.lanes.get(at), after.lanes.get(at))?;
     push_lines(
@@ -208,14 +258,19 @@ fn push_processor(
     )
 }
 
-fn push_processors(marks: &mut Vec<Mark>, before: &Look, after: &Look) -> Result<(), Refused> {
+#[tactic(auto, using(crate::proofs::Lemmas::numbered))]
+fn push_processors(marks: &mut Vec<Mark>, before: &Look, after: &Look) -> Result<(), Refused>
+    ensures { OnOk result (marks.new.items ≡ marks.old.items ++ (below (processor_marks before.now after.now) after.now.cpu_count)) }
+{
     for cpu in 0..after.cpu_count {
         push_processor(marks, cpu, before, after)?;
     }
     Ok(())
 }
 
-fn same_owner(one: Option<u8>, two: Option<u8>) -> bool {
+fn same_owner(one: Option<u8>, two: Option<u8>) -> bool
+    ensures { result ≡ same_owner one two }
+{
     match (one, two) {
         (None, None) => true,
         (Some(one), Some(two)) => one == two,
@@ -224,19 +279,22 @@ fn same_owner(one: Option<u8>, two: Option<u8>) -> bool {
 }
 
 // The owner of a mutex; a mutex that isn't there has none.
-fn owner_in(owner: Option<&Option<u8>>) -> Option<u8> {
+fn owner_in(owner: Option<&Option<u8>>) -> Option<u8>
+    ensures { result ≡ owner_in (option_copied owner.entry) }
+{
     match owner {
         None => None,
         Some(owner) => *owner,
     }
 }
 
-fn push_owner(
-    marks: &mut Vec<Mark>,
-    mutex: u8,
-    from: Option<u8>,
-    to: Option<u8>,
-) -> Result<(), Refused> {
+#[tactic(auto, unfolding(crate::specs::Marks::owner_marks), using(crate::proofs::Lemmas::numbered))]
+fn push_owner(marks: &mut Vec<Mark>, mutex: u8, before: &Look, after: &Look) -> Result<(), Refused>
+    ensures { OnOk result (marks.new.items ≡ marks.old.items ++ owner_marks before.now after.now mutex) }
+{
+    let at = usize::from(mutex);
+    let from = owner_in(before.owners.get(at));
+    let to = owner_in(after.owners.get(at));
     push_when(
         marks,
         !same_owner(from, to),
@@ -244,30 +302,25 @@ fn push_owner(
     )
 }
 
-fn push_owners(
-    marks: &mut Vec<Mark>,
-    count: u8,
-    before: &[Option<u8>],
-    after: &[Option<u8>],
-) -> Result<(), Refused> {
-    for mutex in 0..count {
-        let at = usize::from(mutex);
-        push_owner(
-            marks,
-            mutex,
-            owner_in(before.get(at)),
-            owner_in(after.get(at)),
-        )?;
+#[tactic(auto, using(crate::proofs::Lemmas::numbered))]
+fn push_owners(marks: &mut Vec<Mark>, before: &Look, after: &Look) -> Result<(), Refused>
+    ensures { OnOk result (marks.new.items ≡ marks.old.items ++ below (owner_marks before.now after.now) after.now.mutex_count) }
+{
+    for mutex in 0..after.mutex_count {
+        push_owner(marks, mutex, before, after)?;
     }
     Ok(())
 }
 
+#[tactic(auto, using(crate::proofs::Lemmas::numbered))]
 fn push_notice(
     marks: &mut Vec<Mark>,
     before: u64,
     after: u64,
     last: Option<Notice>,
-) -> Result<(), Refused> {
+) -> Result<(), Refused>
+    ensures { OnOk result (marks.new.items ≡ marks.old.items ++ (notice_marks before after last)) }
+{
     match last {
         None => Ok(()),
         Some(notice) => push_when(
@@ -282,22 +335,22 @@ fn push_notice(
     }
 }
 
-fn push_ticks(marks: &mut Vec<Mark>, before: u64, after: u64) -> Result<(), Refused> {
+fn push_ticks(marks: &mut Vec<Mark>, before: u64, after: u64) -> Result<(), Refused>
+    ensures { OnOk result (marks.new.items ≡ marks.old.items ++ (tick_marks before after)) }
+{
     let times = after.saturating_sub(before);
     push_when(marks, before < after, Mark::Ticked { times })
 }
 
 /// Appends the marks by which what is seen after differs from what is seen before: those of each processor, of each task, of each
 /// mutex, and of the machine.
-pub fn marks(marks: &mut Vec<Mark>, before: &Look, after: &Look) -> Result<(), Refused> {
+#[tactic(auto, unfolding(crate::specs::Marks::marks_of), using(crate::proofs::Lemmas::numbered))]
+pub fn marks(marks: &mut Vec<Mark>, before: &Look, after: &Look) -> Result<(), Refused>
+    ensures { OnOk result (marks.new.items ≡ marks.old.items ++ (marks_of before.now after.now)) }
+{
     push_ticks(marks, before.ticks, after.ticks)?;
     push_processors(marks, before, after)?;
     push_tasks(marks, before, after)?;
-    push_owners(
-        marks,
-        after.mutex_count,
-        before.owners.as_slice(),
-        after.owners.as_slice(),
-    )?;
+    push_owners(marks, before, after)?;
     push_notice(marks, before.notices, after.notices, after.last_notice)
 }

@@ -1,0 +1,18 @@
+//! A window of a journal as a bounded row of cells, each with its marks, and what they say in words.
+#![tactic(auto)]
+
+mod cells;
+mod gathering;
+mod pieces;
+mod seen;
+mod words;
+
+pub use cells::{CELL_LIMIT, Cell, Lanes, MARK_LIMIT, Shown, Timeline};
+pub use evm_timeline::{Devices, Event, InputFault, Mark, Walk, WalkStop};
+pub use gathering::{Window, gather};
+pub use pieces::{Piece, say};
+pub use seen::{is_stalled, letter, same_stage, share, task_on};
+pub use words::{push_cell, push_event, push_mark, push_shown, stage_name, wait_name};
+
+#[cfg(test)]
+mod tests;

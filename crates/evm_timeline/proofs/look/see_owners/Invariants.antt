@@ -1,0 +1,8 @@
+use Rattle.std.proofs.Common.{◌≡◌, ◌++◌, ◌+◌, ◌*◌, option_to_list, slice_get}
+use Rattle.evm_timeline.specs.Lists.{below}
+use Rattle.evm_timeline.specs.Looks.{owner_at}
+use Rattle.evm_timeline.proofs.look.see_owners.Given as goal
+
+-- what there is of those below m
+abbrev pub invariant-loop-m : goal.invariant-loop-m
+invariant-loop-m g l = l.owners.items ≡ below (λ m. option_to_list (owner_at l.machine.board.parts m)) l.m

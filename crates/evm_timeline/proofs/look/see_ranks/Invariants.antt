@@ -1,0 +1,8 @@
+use Rattle.std.proofs.Common.{◌≡◌, ◌++◌, ◌+◌, ◌*◌, option_to_list, slice_get}
+use Rattle.evm_timeline.specs.Lists.{below}
+use Rattle.evm_timeline.specs.Looks.{rank_at}
+use Rattle.evm_timeline.proofs.look.see_ranks.Given as goal
+
+-- what there is of those below t
+abbrev pub invariant-loop-t : goal.invariant-loop-t
+invariant-loop-t g l = l.ranks.items ≡ below (λ t. option_to_list (rank_at l.machine.board.parts t)) l.t

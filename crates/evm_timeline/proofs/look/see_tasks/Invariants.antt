@@ -1,0 +1,7 @@
+use Rattle.std.proofs.Common.{◌≡◌, ◌++◌, ◌+◌, ◌*◌, option_to_list, slice_get}
+use Rattle.evm_timeline.specs.Lists.{below}
+use Rattle.evm_timeline.proofs.look.see_tasks.Given as goal
+
+-- what there is of those below t
+abbrev pub invariant-loop-t : goal.invariant-loop-t
+invariant-loop-t g l = l.tasks.items ≡ below (λ t. option_to_list (slice_get l.machine.board.parts.tasks t)) l.t

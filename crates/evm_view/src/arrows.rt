@@ -1,0 +1,177 @@
+//! Waits, wakes and boosts as arrows.
+
+ghost use Rattle.std.specs.Prelude.{◌≡◌, ◌<◌, false, IfOk, length};
+
+use crate::layout::{ARROWS, OUT_OF_BAND, label_width, y_of};
+use crate::lines::{Place, push_point, words_of};
+use crate::shapes::{label, polygon, shape};
+use evm_cells::{Mark, Piece, Shown, say, wait_name};
+use evm_model::{PROCESSOR_LIMIT, Wait};
+use evm_room::Refused;
+use evm_xml::{Draft, Key, Tag};
+use std::alloc::Global;
+
+/// From where on there is room for labels, on each processor's lane.
+pub(crate) type Free = [u32; PROCESSOR_LIMIT];
+
+/// Whether a label has room there; then it has no more.
+pub(crate) fn takes_room(free: &mut Free, cpu: u8, x: u32, text: &str) -> bool {
+    match free.get_mut(usize::from(cpu)) {
+        None => false,
+        Some(from) => {
+            if x < *from {
+                return false;
+            }
+            *from = x.saturating_add(label_width(text)).saturating_add(4);
+            true
+        }
+    }
+}
+
+/// A label, where there is room for it.
+pub(crate) fn label_if_room(
+    draft: Draft,
+    free: &mut Free,
+    cpu: u8,
+    class: &str,
+    at: (u32, u32),
+    text: &str,
+) -> Result<Draft, Refused>
+    requires content { draft.in_tag ≡ false }
+    requires inside { 0 < length draft.tags }
+    ensures { IfOk result (λ new. new ≡ draft) }
+{
+    if takes_room(free, cpu, at.0, text) {
+        label(draft, class, at.0, at.1, text)
+    } else {
+        Ok(draft)
+    }
+}
+
+// The short name of what is waited for.
+fn push_short(out: &mut String, wait: Wait) -> Result<(), Refused> {
+    let name = match wait {
+        Wait::Line(_) => "l",
+        Wait::Lock(_) | Wait::Reacquire { .. } => "m",
+        Wait::Semaphore(_) => "s",
+        Wait::Event(_) => "e",
+        Wait::Flags(_) => "f",
+        Wait::Sleep => "zz",
+        Wait::Timer(_) => "n",
+    };
+    say(out, &[Piece::Text(name)])?;
+    match wait_name(wait) {
+        (_, None) => Ok(()),
+        (_, Some(at)) => say(out, &[Piece::Number(u64::from(at))]),
+    }
+}
+
+// What stands beside an arrow.
+fn push_arrow_name(out: &mut String, mark: &Mark) -> Result<(), Refused> {
+    match *mark {
+        Mark::Waits { task, wait } => {
+            say(out, &[Piece::Number(u64::from(task)), Piece::Text(":")])?;
+            push_short(out, wait)
+        }
+        Mark::Woken { task, .. } => say(out, &[Piece::Number(u64::from(task))]),
+        Mark::Rank { task, to, .. } => say(
+            out,
+            &[
+                Piece::Number(u64::from(task)),
+                Piece::Text("="),
+                Piece::Number(u64::from(to)),
+            ],
+        ),
+        _ => Ok(()),
+    }
+}
+
+fn arrow_class(mark: &Mark) -> Option<&'static str> {
+    match *mark {
+        Mark::Waits { .. } => Some("wait"),
+        Mark::Woken { .. } => Some("wake"),
+        Mark::Rank { from, to, .. } => Some(if from < to { "boost" } else { "fall" }),
+        _ => None,
+    }
+}
+
+// The point of an arrow, which ends at `to`.
+fn push_head(out: &mut String, x: u32, from: u32, to: u32) -> Result<(), Refused> {
+    let back = if from < to {
+        to.saturating_sub(5)
+    } else {
+        to.saturating_add(5)
+    };
+    push_point(out, x, to)?;
+    push_point(out, x.saturating_sub(3), back)?;
+    push_point(out, x.saturating_add(3), back)
+}
+
+fn arrow(
+    draft: Draft,
+    alloc: Global,
+    class: &str,
+    x: u32,
+    ends: (u32, u32),
+    words: &str,
+) -> Result<Draft, Refused>
+    requires content { draft.in_tag ≡ false }
+    requires inside { 0 < length draft.tags }
+    ensures { IfOk result (λ new. new ≡ draft) }
+{
+    let sides = [
+        (Key::X1, x),
+        (Key::Y1, ends.0),
+        (Key::X2, x),
+        (Key::Y2, ends.1),
+    ];
+    let draft = shape(draft, Tag::Line, class, &sides, words)?;
+    let mut head = String::new(alloc);
+    push_head(&mut head, x, ends.0, ends.1)?;
+    polygon(draft, class, head.as_str(), words)
+}
+
+// Where an arrow begins and ends: a wait leaves its task's row, a wake and a boost come to it; from another processor's lane
+// where its event is of another.
+fn ends(at: Place, shown: &Shown, cpu: u8) -> (u32, u32) {
+    let row = y_of(at.top, cpu, OUT_OF_BAND).saturating_add(3);
+    let band = y_of(at.top, cpu, ARROWS).saturating_sub(6);
+    if let Mark::Waits { .. } = shown.mark {
+        return (row, band);
+    }
+    match shown.actor {
+        Some(actor) if actor != cpu => (y_of(at.top, actor, OUT_OF_BAND).saturating_add(3), row),
+        _ => (band, row),
+    }
+}
+
+/// The arrow of a mark about a wait or a rank; no other mark has one.
+pub(crate) fn arrow_sign(
+    draft: Draft,
+    alloc: Global,
+    at: Place,
+    shown: &Shown,
+    free: &mut Free,
+) -> Result<Draft, Refused>
+    requires content { draft.in_tag ≡ false }
+    requires inside { 0 < length draft.tags }
+    ensures { IfOk result (λ new. new ≡ draft) }
+{
+    let (Some(class), Some(cpu)) = (arrow_class(&shown.mark), shown.subject) else {
+        return Ok(draft);
+    };
+    let words = words_of(alloc, shown)?;
+    let x = at.x.saturating_add(4);
+    let draft = arrow(draft, alloc, class, x, ends(at, shown, cpu), words.as_str())?;
+    let mut name = String::new(alloc);
+    push_arrow_name(&mut name, &shown.mark)?;
+    let y = y_of(at.top, cpu, ARROWS).saturating_add(3);
+    label_if_room(
+        draft,
+        free,
+        cpu,
+        class,
+        (x.saturating_add(4), y),
+        name.as_str(),
+    )
+}

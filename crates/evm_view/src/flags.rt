@@ -1,0 +1,84 @@
+//! Deadlines, timers, notices, promotions and ends as flags.
+
+ghost use Rattle.std.specs.Prelude.{◌≡◌, ◌<◌, false, IfOk, length};
+
+use crate::arrows::{Free, takes_room};
+use crate::layout::{FLAGS, y_of};
+use crate::lines::{Place, push_point, words_of};
+use crate::shapes::{label, polygon};
+use evm_cells::{Mark, Piece, Shown, say};
+use evm_model::{Stage, Wait};
+use evm_room::Refused;
+use evm_xml::Draft;
+use std::alloc::Global;
+
+// What is written on a flag: the word, and the task.
+fn flag(mark: &Mark) -> Option<(&'static str, u8)> {
+    match *mark {
+        Mark::Deadline { task, .. } => Some(("deadline ", task)),
+        Mark::Woken {
+            task,
+            wait: Wait::Timer(_),
+        } => Some(("timer ", task)),
+        Mark::Notice { task, .. } => Some(("notice ", task)),
+        Mark::Created { task } => Some(("new ", task)),
+        Mark::Ended { task } => Some(("end ", task)),
+        Mark::Faulted { task, .. } => Some(("fault ", task)),
+        Mark::Moves {
+            task,
+            stage: Stage::OutOfBand,
+        } => Some(("oob ", task)),
+        Mark::Moves {
+            task,
+            stage: Stage::InBand,
+        } => Some(("in ", task)),
+        _ => None,
+    }
+}
+
+fn is_alarm(mark: &Mark) -> bool {
+    match mark {
+        Mark::Deadline { .. } | Mark::Notice { .. } | Mark::Faulted { .. } => true,
+        _ => false,
+    }
+}
+
+/// The flag of a mark, if it has one.
+pub(crate) fn flag_sign(
+    draft: Draft,
+    alloc: Global,
+    at: Place,
+    shown: &Shown,
+    free: &mut Free,
+) -> Result<Draft, Refused>
+    requires content { draft.in_tag ≡ false }
+    requires inside { 0 < length draft.tags }
+    ensures { IfOk result (λ new. new ≡ draft) }
+{
+    let (Some((word, task)), Some(cpu)) = (flag(&shown.mark), shown.subject) else {
+        return Ok(draft);
+    };
+    let class = if is_alarm(&shown.mark) {
+        "alarm"
+    } else {
+        "flag"
+    };
+    let words = words_of(alloc, shown)?;
+    let y = y_of(at.top, cpu, FLAGS);
+    let mut points = String::new(alloc);
+    push_point(&mut points, at.x.saturating_add(2), y.saturating_sub(8))?;
+    push_point(&mut points, at.x.saturating_add(9), y.saturating_sub(4))?;
+    push_point(&mut points, at.x.saturating_add(2), y)?;
+    let draft = polygon(draft, class, points.as_str(), words.as_str())?;
+    let mut name = String::new(alloc);
+    say(
+        &mut name,
+        &[Piece::Text(word), Piece::Number(u64::from(task))],
+    )?;
+    let x = at.x.saturating_add(11);
+    if takes_room(free, cpu, x, name.as_str()) {
+        label(draft, class, x, y, name.as_str())
+    } else {
+        Ok(draft)
+    }
+}

@@ -1,0 +1,85 @@
+//! Where things stand in the picture, in pixels.
+
+/// How many cells stand side by side; those behind them begin the next strip.
+pub(crate) const STRIP: usize = 64;
+
+/// The width of a cell.
+pub(crate) const CELL: u32 = 16;
+
+/// Where the first cell begins.
+pub(crate) const LEFT: u32 = 104;
+
+/// Where the first strip begins.
+pub(crate) const TOP: u32 = 44;
+
+/// The height of a lane of a processor.
+pub(crate) const LANE: u32 = 118;
+
+/// The height of the ruler and the lane of the machine.
+pub(crate) const HEAD: u32 = 44;
+
+/// What is left free below a strip.
+const GAP: u32 = 22;
+
+/// The height of the legend.
+pub(crate) const LEGEND: u32 = 96;
+
+/// The width of a character of a label.
+const CHARACTER: u32 = 6;
+
+/// The height of a row of tasks.
+pub(crate) const ROW: u32 = 18;
+
+/// Where in a lane its parts begin.
+pub(crate) const FLAGS: u32 = 12;
+
+pub(crate) const ARROWS: u32 = 30;
+
+pub(crate) const OUT_OF_BAND: u32 = 40;
+
+pub(crate) const IN_BAND: u32 = 60;
+
+pub(crate) const LINES: u32 = 80;
+
+pub(crate) const EVENTS: u32 = 96;
+
+/// Where the cell of a number in its strip begins.
+pub(crate) fn x_of(column: usize) -> u32 {
+    let column = u32::try_from(column).unwrap_or(u32::MAX);
+    LEFT.saturating_add(column.saturating_mul(CELL))
+}
+
+/// The height of a strip.
+fn strip_height(cpu_count: u8) -> u32 {
+    HEAD.saturating_add(u32::from(cpu_count).saturating_mul(LANE))
+        .saturating_add(GAP)
+}
+
+/// Where the strip of a number begins.
+pub(crate) fn strip_top(strip: usize, cpu_count: u8) -> u32 {
+    let strip = u32::try_from(strip).unwrap_or(u32::MAX);
+    TOP.saturating_add(strip.saturating_mul(strip_height(cpu_count)))
+}
+
+/// Where a part of the lane of a processor begins.
+pub(crate) fn y_of(top: u32, cpu: u8, part: u32) -> u32 {
+    top.saturating_add(HEAD)
+        .saturating_add(u32::from(cpu).saturating_mul(LANE))
+        .saturating_add(part)
+}
+
+/// The width of a picture.
+pub(crate) fn width(columns: usize) -> u32 {
+    x_of(columns.min(STRIP).max(40)).saturating_add(CELL)
+}
+
+/// The width of a label.
+pub(crate) fn label_width(text: &str) -> u32 {
+    let count = u32::try_from(text.len()).unwrap_or(u32::MAX);
+    count.saturating_mul(CHARACTER)
+}
+
+/// How many strips there are.
+pub(crate) fn strip_count(cells: usize) -> usize {
+    cells / STRIP + if cells % STRIP == 0 { 0 } else { 1 }
+}

@@ -1,0 +1,178 @@
+//! What the signs of a picture mean.
+
+ghost use Rattle.std.specs.Prelude.{◌≡◌, ◌<◌, false, IfOk, length};
+
+use crate::lines::push_point;
+use crate::shapes::{label, plain};
+use evm_room::Refused;
+use evm_xml::{Draft, Key, Tag};
+use std::alloc::Global;
+
+fn disc(draft: Draft, class: &str, x: u32, y: u32) -> Result<Draft, Refused>
+    requires content { draft.in_tag ≡ false }
+    requires inside { 0 < length draft.tags }
+    ensures { IfOk result (λ new. new ≡ draft) }
+{
+    let sides = [
+        (Key::CenterX, x.saturating_add(5)),
+        (Key::CenterY, y.saturating_sub(4)),
+        (Key::Radius, 4),
+    ];
+    plain(draft, Tag::Circle, class, &sides)
+}
+
+fn block(draft: Draft, class: &str, x: u32, y: u32) -> Result<Draft, Refused>
+    requires content { draft.in_tag ≡ false }
+    requires inside { 0 < length draft.tags }
+    ensures { IfOk result (λ new. new ≡ draft) }
+{
+    let sides = [
+        (Key::X, x),
+        (Key::Y, y.saturating_sub(10)),
+        (Key::Width, 14),
+        (Key::Height, 12),
+    ];
+    plain(draft, Tag::Rectangle, class, &sides)
+}
+
+fn triangle(draft: Draft, alloc: Global, class: &str, x: u32, y: u32) -> Result<Draft, Refused>
+    requires content { draft.in_tag ≡ false }
+    requires inside { 0 < length draft.tags }
+    ensures { IfOk result (λ new. new ≡ draft) }
+{
+    let mut points = String::new(alloc);
+    push_point(&mut points, x.saturating_add(1), y)?;
+    push_point(&mut points, x.saturating_add(5), y.saturating_sub(8))?;
+    push_point(&mut points, x.saturating_add(9), y)?;
+    draft
+        .open(Tag::Polygon)?
+        .attribute(Key::Class, class)?
+        .attribute(Key::Points, points.as_str())?
+        .end()
+}
+
+// What a sign looks like.
+#[derive(Clone, Copy)]
+enum Look {
+    Block,
+    Disc,
+    Triangle,
+}
+
+#[derive(Clone, Copy)]
+struct Sign {
+    look: Look,
+    class: &'static str,
+    words: &'static str,
+}
+
+fn draw_sign(draft: Draft, alloc: Global, sign: &Sign, x: u32, y: u32) -> Result<Draft, Refused>
+    requires content { draft.in_tag ≡ false }
+    requires inside { 0 < length draft.tags }
+    ensures { IfOk result (λ new. new ≡ draft) }
+{
+    let draft = match sign.look {
+        Look::Block => block(draft, sign.class, x, y)?,
+        Look::Disc => disc(draft, sign.class, x, y)?,
+        Look::Triangle => triangle(draft, alloc, sign.class, x, y)?,
+    };
+    label(draft, "d", x.saturating_add(20), y, sign.words)
+}
+
+const SIGNS: [Sign; 15] = [
+    Sign {
+        look: Look::Block,
+        class: "t0",
+        words: "a task runs",
+    },
+    Sign {
+        look: Look::Block,
+        class: "stall",
+        words: "the stage is stalled",
+    },
+    Sign {
+        look: Look::Triangle,
+        class: "raise",
+        words: "a line is raised",
+    },
+    Sign {
+        look: Look::Disc,
+        class: "receive",
+        words: "a line is received",
+    },
+    Sign {
+        look: Look::Disc,
+        class: "play",
+        words: "a line is played",
+    },
+    Sign {
+        look: Look::Triangle,
+        class: "wait",
+        words: "task:object, waits",
+    },
+    Sign {
+        look: Look::Triangle,
+        class: "wake",
+        words: "a task wakes",
+    },
+    Sign {
+        look: Look::Triangle,
+        class: "boost",
+        words: "task=rank, boosted",
+    },
+    Sign {
+        look: Look::Triangle,
+        class: "fall",
+        words: "task=rank, falls",
+    },
+    Sign {
+        look: Look::Triangle,
+        class: "flag",
+        words: "new, end, oob, in, timer",
+    },
+    Sign {
+        look: Look::Triangle,
+        class: "alarm",
+        words: "deadline, notice, fault",
+    },
+    Sign {
+        look: Look::Block,
+        class: "e step",
+        words: "a step that changes more",
+    },
+    Sign {
+        look: Look::Block,
+        class: "e",
+        words: "steps on registers, RAM",
+    },
+    Sign {
+        look: Look::Block,
+        class: "e out",
+        words: "an event from outside",
+    },
+    Sign {
+        look: Look::Block,
+        class: "e many",
+        words: "several events joined",
+    },
+];
+
+/// The legend, from a height on.
+pub(crate) fn legend(draft: Draft, alloc: Global, top: u32) -> Result<Draft, Refused>
+    requires content { draft.in_tag ≡ false }
+    requires inside { 0 < length draft.tags }
+    ensures { IfOk result (λ new. new ≡ draft) }
+{
+    let mut draft = draft;
+    let mut x = 16u32;
+    let mut y = top.saturating_add(14);
+    for one in &SIGNS {
+        draft = draw_sign(draft, alloc, one, x, y)?;
+        x = x.saturating_add(176);
+        if x > 600 {
+            x = 16;
+            y = y.saturating_add(16);
+        }
+    }
+    Ok(draft)
+}

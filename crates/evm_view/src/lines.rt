@@ -1,0 +1,129 @@
+//! Raises, receives and plays of interrupt lines.
+
+ghost use Rattle.std.specs.Prelude.{◌≡◌, ◌<◌, false, IfOk, length};
+
+use crate::layout::{IN_BAND, LINES, OUT_OF_BAND, ROW, y_of};
+use crate::shapes::{label, polygon, shape};
+use evm_cells::{Mark, Piece, Shown, push_shown, say};
+use evm_model::Stage;
+use evm_room::Refused;
+use evm_xml::{Draft, Key, Tag};
+use std::alloc::Global;
+
+/// Where marks are drawn: the left side of their cell, and the top of their strip.
+#[derive(Clone, Copy)]
+pub(crate) struct Place {
+    pub(crate) x: u32,
+    pub(crate) top: u32,
+}
+
+/// Appends a point.
+pub(crate) fn push_point(out: &mut String, x: u32, y: u32) -> Result<(), Refused> {
+    let pieces = [
+        Piece::Number(u64::from(x)),
+        Piece::Text(","),
+        Piece::Number(u64::from(y)),
+        Piece::Text(" "),
+    ];
+    say(out, &pieces)
+}
+
+/// The words of a mark.
+pub(crate) fn words_of(alloc: Global, shown: &Shown) -> Result<String, Refused> {
+    let mut words = String::new(alloc);
+    push_shown(&mut words, shown)?;
+    Ok(words)
+}
+
+fn line_label(draft: Draft, alloc: Global, line: u8, x: u32, y: u32) -> Result<Draft, Refused>
+    requires content { draft.in_tag ≡ false }
+    requires inside { 0 < length draft.tags }
+    ensures { IfOk result (λ new. new ≡ draft) }
+{
+    let mut name = String::new(alloc);
+    say(&mut name, &[Piece::Number(u64::from(line))])?;
+    label(draft, "l", x, y, name.as_str())
+}
+
+// A triangle that points up, for a raise.
+fn raise(
+    draft: Draft,
+    alloc: Global,
+    at: Place,
+    cpu: u8,
+    line: u8,
+    words: &str,
+) -> Result<Draft, Refused>
+    requires content { draft.in_tag ≡ false }
+    requires inside { 0 < length draft.tags }
+    ensures { IfOk result (λ new. new ≡ draft) }
+{
+    let y = y_of(at.top, cpu, LINES);
+    let mut points = String::new(alloc);
+    push_point(&mut points, at.x.saturating_add(1), y.saturating_add(12))?;
+    push_point(&mut points, at.x.saturating_add(5), y.saturating_add(4))?;
+    push_point(&mut points, at.x.saturating_add(9), y.saturating_add(12))?;
+    let draft = polygon(draft, "raise", points.as_str(), words)?;
+    line_label(
+        draft,
+        alloc,
+        line,
+        at.x.saturating_add(12),
+        y.saturating_add(9),
+    )
+}
+
+// A ring, for a receive.
+fn receive(draft: Draft, at: Place, cpu: u8, words: &str) -> Result<Draft, Refused>
+    requires content { draft.in_tag ≡ false }
+    requires inside { 0 < length draft.tags }
+    ensures { IfOk result (λ new. new ≡ draft) }
+{
+    let sides = [
+        (Key::CenterX, at.x.saturating_add(8)),
+        (Key::CenterY, y_of(at.top, cpu, LINES).saturating_add(8)),
+        (Key::Radius, 4),
+    ];
+    shape(draft, Tag::Circle, "receive", &sides, words)
+}
+
+// A disc on the row of the stage, for a play.
+fn play(draft: Draft, at: Place, cpu: u8, stage: Stage, words: &str) -> Result<Draft, Refused>
+    requires content { draft.in_tag ≡ false }
+    requires inside { 0 < length draft.tags }
+    ensures { IfOk result (λ new. new ≡ draft) }
+{
+    let part = match stage {
+        Stage::OutOfBand => OUT_OF_BAND,
+        Stage::InBand => IN_BAND,
+    };
+    let y = y_of(at.top, cpu, part)
+        .saturating_add(ROW)
+        .saturating_sub(4);
+    let sides = [
+        (Key::CenterX, at.x.saturating_add(12)),
+        (Key::CenterY, y),
+        (Key::Radius, 3),
+    ];
+    shape(draft, Tag::Circle, "play", &sides, words)
+}
+
+/// The sign of a mark about a line; no other mark has one here.
+pub(crate) fn line_sign(
+    draft: Draft,
+    alloc: Global,
+    at: Place,
+    shown: &Shown,
+) -> Result<Draft, Refused>
+    requires content { draft.in_tag ≡ false }
+    requires inside { 0 < length draft.tags }
+    ensures { IfOk result (λ new. new ≡ draft) }
+{
+    let words = words_of(alloc, shown)?;
+    match shown.mark {
+        Mark::Raised { cpu, line, .. } => raise(draft, alloc, at, cpu, line, words.as_str()),
+        Mark::Received { cpu, .. } => receive(draft, at, cpu, words.as_str()),
+        Mark::Played { cpu, stage, .. } => play(draft, at, cpu, stage, words.as_str()),
+        _ => Ok(draft),
+    }
+}

@@ -1,0 +1,301 @@
+//! The picture of a timeline.
+
+ghost use Rattle.std.specs.Prelude.{◌≡◌, ◌<◌, false, IfOk, length};
+ghost use Rattle.evm_xml.specs.Xml.{IsElement};
+
+use crate::arrows::{Free, arrow_sign};
+use crate::bars::{Row, bars, stalls};
+use crate::events::{boxes, machine_boxes};
+use crate::flags::flag_sign;
+use crate::layout::{
+    CELL, IN_BAND, LEFT, LEGEND, OUT_OF_BAND, ROW, STRIP, strip_count, strip_top, width, x_of, y_of,
+};
+use crate::legend::legend;
+use crate::lines::{Place, line_sign};
+use crate::shapes::{label, plain};
+use crate::style::STYLE;
+use evm_cells::{Cell, Piece, Shown, Timeline, say, stage_name};
+use evm_model::{PROCESSOR_LIMIT, Stage};
+use evm_room::Refused;
+use evm_xml::{Draft, Key, Tag, finished};
+use std::alloc::Global;
+
+// Cells that stand side by side, with their marks.
+#[derive(Clone, Copy)]
+struct Strip<'a> {
+    cells: &'a [Cell],
+    marks: &'a [Shown],
+    top: u32,
+    cpu_count: u8,
+}
+
+fn cpu_name(alloc: Global, cpu: u8) -> Result<String, Refused> {
+    let mut name = String::new(alloc);
+    say(
+        &mut name,
+        &[Piece::Text("cpu "), Piece::Number(u64::from(cpu))],
+    )?;
+    Ok(name)
+}
+
+fn rows_of(top: u32, cpu: u8) -> [Row; 2] {
+    [
+        Row {
+            cpu,
+            stage: Stage::OutOfBand,
+            top,
+            part: OUT_OF_BAND,
+        },
+        Row {
+            cpu,
+            stage: Stage::InBand,
+            top,
+            part: IN_BAND,
+        },
+    ]
+}
+
+fn draw_row(draft: Draft, alloc: Global, row: &Row, cells: &[Cell]) -> Result<Draft, Refused>
+    requires content { draft.in_tag ≡ false }
+    requires inside { 0 < length draft.tags }
+    ensures { IfOk result (λ new. new ≡ draft) }
+{
+    let y = y_of(row.top, row.cpu, row.part);
+    let sides = [
+        (Key::X, LEFT),
+        (Key::Y, y),
+        (Key::Width, x_of(cells.len()).saturating_sub(LEFT)),
+        (Key::Height, ROW),
+    ];
+    let draft = plain(draft, Tag::Rectangle, "row", &sides)?;
+    let draft = label(draft, "d", 30, y.saturating_add(13), stage_name(row.stage))?;
+    let draft = bars(draft, alloc, row, cells)?;
+    stalls(draft, alloc, row, cells)
+}
+
+fn lane(draft: Draft, alloc: Global, strip: &Strip<'_>, cpu: u8) -> Result<Draft, Refused>
+    requires content { draft.in_tag ≡ false }
+    requires inside { 0 < length draft.tags }
+    ensures { IfOk result (λ new. new ≡ draft) }
+{
+    let name = cpu_name(alloc, cpu)?;
+    let y = y_of(strip.top, cpu, 33);
+    let mut draft = label(draft, "b", 8, y, name.as_str())?;
+    for one in &rows_of(strip.top, cpu) {
+        draft = draw_row(draft, alloc, one, strip.cells)?;
+    }
+    let draft = label(draft, "d", 30, y_of(strip.top, cpu, 91), "lines")?;
+    let draft = label(draft, "d", 30, y_of(strip.top, cpu, 106), "events")?;
+    boxes(draft, alloc, cpu, strip.top, strip.cells)
+}
+
+fn tick(draft: Draft, alloc: Global, cell: &Cell, x: u32, top: u32) -> Result<Draft, Refused>
+    requires content { draft.in_tag ≡ false }
+    requires inside { 0 < length draft.tags }
+    ensures { IfOk result (λ new. new ≡ draft) }
+{
+    let x = x.saturating_add(CELL / 2);
+    let sides = [
+        (Key::X1, x),
+        (Key::Y1, top.saturating_add(13)),
+        (Key::X2, x),
+        (Key::Y2, top.saturating_add(18)),
+    ];
+    let draft = plain(draft, Tag::Line, "tick", &sides)?;
+    let mut number = String::new(alloc);
+    say(&mut number, &[Piece::Number(cell.first)])?;
+    label(draft, "r", x, top.saturating_add(10), number.as_str())
+}
+
+// The numbers of the events, at each fourth cell.
+fn ruler(draft: Draft, alloc: Global, strip: &Strip<'_>) -> Result<Draft, Refused>
+    requires content { draft.in_tag ≡ false }
+    requires inside { 0 < length draft.tags }
+    ensures { IfOk result (λ new. new ≡ draft) }
+{
+    let mut draft = label(draft, "d", 8, strip.top.saturating_add(10), "event")?;
+    let mut column = 0usize;
+    for cell in strip.cells {
+        if column % 4 == 0 {
+            draft = tick(draft, alloc, cell, x_of(column), strip.top)?;
+        }
+        column = column.saturating_add(1);
+    }
+    Ok(draft)
+}
+
+fn sign(
+    draft: Draft,
+    alloc: Global,
+    at: Place,
+    shown: &Shown,
+    flags: &mut Free,
+    arrows: &mut Free,
+) -> Result<Draft, Refused>
+    requires content { draft.in_tag ≡ false }
+    requires inside { 0 < length draft.tags }
+    ensures { IfOk result (λ new. new ≡ draft) }
+{
+    let draft = line_sign(draft, alloc, at, shown)?;
+    let draft = flag_sign(draft, alloc, at, shown, flags)?;
+    arrow_sign(draft, alloc, at, shown, arrows)
+}
+
+// The signs of a cell, of the first marks.
+fn cell_signs(
+    draft: Draft,
+    alloc: Global,
+    at: Place,
+    marks: &[Shown],
+    flags: &mut Free,
+    arrows: &mut Free,
+) -> Result<Draft, Refused>
+    requires content { draft.in_tag ≡ false }
+    requires inside { 0 < length draft.tags }
+    ensures { IfOk result (λ new. new ≡ draft) }
+{
+    let mut draft = draft;
+    for shown in marks {
+        draft = sign(draft, alloc, at, shown, flags, arrows)?;
+    }
+    Ok(draft)
+}
+
+// The first marks, and those behind them.
+fn cut(marks: &[Shown], count: u32) -> (&[Shown], &[Shown]) {
+    let at = (count as usize).min(marks.len());
+    (&marks[..at], &marks[at..])
+}
+
+fn signs(draft: Draft, alloc: Global, strip: &Strip<'_>) -> Result<Draft, Refused>
+    requires content { draft.in_tag ≡ false }
+    requires inside { 0 < length draft.tags }
+    ensures { IfOk result (λ new. new ≡ draft) }
+{
+    let mut draft = draft;
+    let mut flags = [0u32; PROCESSOR_LIMIT];
+    let mut arrows = [0u32; PROCESSOR_LIMIT];
+    let mut rest = strip.marks;
+    let mut column = 0usize;
+    for cell in strip.cells {
+        let at = Place {
+            x: x_of(column),
+            top: strip.top,
+        };
+        let (marks, others) = cut(rest, cell.kept);
+        draft = cell_signs(draft, alloc, at, marks, &mut flags, &mut arrows)?;
+        rest = others;
+        column = column.saturating_add(1);
+    }
+    Ok(draft)
+}
+
+fn draw_strip(draft: Draft, alloc: Global, strip: &Strip<'_>) -> Result<Draft, Refused>
+    requires content { draft.in_tag ≡ false }
+    requires inside { 0 < length draft.tags }
+    ensures { IfOk result (λ new. new ≡ draft) }
+{
+    let draft = ruler(draft, alloc, strip)?;
+    let draft = label(draft, "b", 8, strip.top.saturating_add(33), "machine")?;
+    let mut draft = machine_boxes(draft, alloc, strip.top, strip.cells)?;
+    for cpu in 0..strip.cpu_count {
+        draft = lane(draft, alloc, strip, cpu)?;
+    }
+    signs(draft, alloc, strip)
+}
+
+// How many marks cells keep.
+fn kept_in(cells: &[Cell]) -> u32 {
+    let mut kept = 0u32;
+    for cell in cells {
+        kept = kept.saturating_add(cell.kept);
+    }
+    kept
+}
+
+fn strips(draft: Draft, alloc: Global, timeline: &Timeline) -> Result<Draft, Refused>
+    requires content { draft.in_tag ≡ false }
+    requires inside { 0 < length draft.tags }
+    ensures { IfOk result (λ new. new ≡ draft) }
+{
+    let mut draft = draft;
+    let mut cells = timeline.cells.as_slice();
+    let mut marks = timeline.marks.as_slice();
+    let mut number = 0usize;
+    while !cells.is_empty() {
+        let at = STRIP.min(cells.len());
+        let (here, others) = cut(marks, kept_in(&cells[..at]));
+        let one = Strip {
+            cells: &cells[..at],
+            marks: here,
+            top: strip_top(number, timeline.cpu_count),
+            cpu_count: timeline.cpu_count,
+        };
+        draft = draw_strip(draft, alloc, &one)?;
+        marks = others;
+        cells = &cells[at..];
+        number = number.saturating_add(1);
+    }
+    Ok(draft)
+}
+
+fn heading(alloc: Global, timeline: &Timeline) -> Result<String, Refused> {
+    let mut text = String::new(alloc);
+    match (timeline.cells.first(), timeline.cells.last()) {
+        (Some(first), Some(last)) => say(
+            &mut text,
+            &[
+                Piece::Text("events "),
+                Piece::Number(first.first),
+                Piece::Text(" to "),
+                Piece::Number(last.first.saturating_add(last.count.saturating_sub(1))),
+            ],
+        )?,
+        _ => say(&mut text, &[Piece::Text("no event")])?,
+    }
+    Ok(text)
+}
+
+fn view_box(alloc: Global, width: u32, height: u32) -> Result<String, Refused> {
+    let mut text = String::new(alloc);
+    let pieces = [
+        Piece::Text("0 0 "),
+        Piece::Number(u64::from(width)),
+        Piece::Text(" "),
+        Piece::Number(u64::from(height)),
+    ];
+    say(&mut text, &pieces)?;
+    Ok(text)
+}
+
+fn begun(alloc: Global, width: u32, height: u32) -> Result<Draft, Refused>
+    ensures { IfOk result (λ draft. draft ≡ record { tags = Tag.Svg ∷ []; in_tag = false }) }
+{
+    let all = view_box(alloc, width, height)?;
+    let draft = Draft::svg(alloc)?
+        .attribute(Key::Namespace, "http://www.w3.org/2000/svg")?
+        .number(Key::Width, width)?
+        .number(Key::Height, height)?
+        .attribute(Key::ViewBox, all.as_str())?
+        .enter()?;
+    let draft = draft.open(Tag::Style)?.enter()?.text(STYLE)?.close()?;
+    let sides = [(Key::Width, width), (Key::Height, height)];
+    plain(draft, Tag::Rectangle, "paper", &sides)
+}
+
+/// The picture of a timeline, an SVG file.
+///
+/// # Errors
+///
+/// Memory was refused.
+pub fn drawn(alloc: Global, timeline: &Timeline) -> Result<Vec<u8>, Refused>
+    ensures { IfOk result (λ bytes. ∥ IsElement Tag.Svg bytes.items ∥₁) }
+{
+    let end = strip_top(strip_count(timeline.cells.len()), timeline.cpu_count);
+    let width = width(timeline.cells.len());
+    let draft = begun(alloc, width, end.saturating_add(LEGEND))?;
+    let heading = heading(alloc, timeline)?;
+    let draft = label(draft, "b", 8, 22, heading.as_str())?;
+    let draft = strips(draft, alloc, timeline)?;
+    finished(legend(draft, alloc, end)?)
+}

@@ -1,0 +1,6 @@
+use Rattle.std.proofs.Common.{◌≡◌, ap, sym, ◌∙◌, true, false}
+use Rattle.evm_xml.proofs.Drafts.{after_enter}
+use Rattle.evm_xml.proofs.draft.Draft.enter.Goals as goal
+
+pub invariant_of-result : goal.invariant_of-result
+invariant_of-result c = after_enter c.self.inside.in_tag c.self.inside.tags.items c.push_bytes.new.out.items c.self.inside.out.items c.self.invariant (cc) c.in_ok-push_bytes.ensures

@@ -1,0 +1,94 @@
+-- XML: trees of elements and text, and their bytes.
+use Rattle.std.specs.Prelude.{◌≡◌, ◌==◌, ℕ, List, [], ◌∷◌, ◌++◌, codes, nat_lt, if◌then◌else◌}
+use Rattle.evm_xml.specs.declared.names.Key.{Key}
+use Rattle.evm_xml.specs.declared.names.Key.TheVariants as key
+use Rattle.evm_xml.specs.declared.names.Tag.{Tag}
+use Rattle.evm_xml.specs.declared.names.Tag.TheVariants as tag
+
+-- the names of elements
+abbrev pub tag_text : Tag → List ℕ
+tag_text tag.Svg = codes "svg"
+tag_text tag.Style = codes "style"
+tag_text tag.Title = codes "title"
+tag_text tag.Group = codes "g"
+tag_text tag.Rectangle = codes "rect"
+tag_text tag.Line = codes "line"
+tag_text tag.Circle = codes "circle"
+tag_text tag.Polygon = codes "polygon"
+tag_text tag.Text = codes "text"
+
+-- the names of attributes
+abbrev pub key_text : Key → List ℕ
+key_text key.Namespace = codes "xmlns"
+key_text key.ViewBox = codes "viewBox"
+key_text key.Width = codes "width"
+key_text key.Height = codes "height"
+key_text key.Class = codes "class"
+key_text key.X = codes "x"
+key_text key.Y = codes "y"
+key_text key.X1 = codes "x1"
+key_text key.Y1 = codes "y1"
+key_text key.X2 = codes "x2"
+key_text key.Y2 = codes "y2"
+key_text key.CenterX = codes "cx"
+key_text key.CenterY = codes "cy"
+key_text key.Radius = codes "r"
+key_text key.Points = codes "points"
+key_text key.Anchor = codes "text-anchor"
+
+-- a byte of a character that is no markup; a blank for those that XML has not
+abbrev pub plain_byte : ℕ → List ℕ
+plain_byte byte = if nat_lt byte 32 then 32 ∷ [] else byte ∷ []
+
+-- a byte of a text: those that could be markup by their entities
+abbrev pub escaped_byte : ℕ → List ℕ
+escaped_byte byte =
+    if byte == 38 then codes "&amp;"
+    else if byte == 60 then codes "&lt;"
+    else if byte == 62 then codes "&gt;"
+    else if byte == 34 then codes "&quot;"
+    else plain_byte byte
+
+unfoldable pub escaped : List ℕ → List ℕ
+escaped [] = []
+escaped (byte ∷ bytes) = escaped_byte byte ++ escaped bytes
+
+-- an attribute: its name and its value, which is any text
+pub record Attribute : Type 0 where
+  pub key : Key
+  pub value : List ℕ
+
+abbrev pub attribute_text : Attribute → List ℕ
+attribute_text a = 32 ∷ (key_text a.key ++ (codes "=\"" ++ (escaped a.value ++ 34 ∷ [])))
+
+unfoldable pub attributes_text : List Attribute → List ℕ
+attributes_text [] = []
+attributes_text (a ∷ attributes) = attribute_text a ++ attributes_text attributes
+
+-- what stands one behind the other inside an element: text, elements with nothing inside, and elements
+pub data Forest : Type 0 where
+  Nothing : Forest
+  Characters : (characters : List ℕ) (others : Forest) → Forest
+  Leaf : (tag : Tag) (attributes : List Attribute) (others : Forest) → Forest
+  Element : (tag : Tag) (attributes : List Attribute) (inside others : Forest) → Forest
+
+-- a start tag without its end
+abbrev pub start : Tag → List Attribute → List ℕ
+start t attributes = 60 ∷ (tag_text t ++ attributes_text attributes)
+
+-- an end tag
+abbrev pub close : Tag → List ℕ
+close t = codes "</" ++ (tag_text t ++ 62 ∷ [])
+
+-- its bytes: each element is closed, each text is escaped
+unfoldable pub xml : Forest → List ℕ
+xml Nothing = []
+xml (Characters characters others) = escaped characters ++ xml others
+xml (Leaf t attributes others) = (start t attributes ++ codes "/>") ++ xml others
+xml (Element t attributes inside others) = (start t attributes ++ (62 ∷ (xml inside ++ close t))) ++ xml others
+
+-- the bytes of one element, whatever is inside it
+pub record IsElement (t : Tag) (bytes : List ℕ) : Type 0 where
+  pub attributes : List Attribute
+  pub inside : Forest
+  pub written : bytes ≡ start t attributes ++ (62 ∷ (xml inside ++ close t))
