@@ -1,20 +1,19 @@
 //! A journal's run, told as a trace.
 
 ghost use Rattle.std.specs.Prelude.{OnOk};
-ghost use Rattle.evm_tracks.specs.Telling.{IsTelling, IsTraced};
+ghost use Rattle.evm_tracks.specs.Telling.{IsTraced};
 
-use crate::teller::Teller;
+use crate::changes::Changes;
 use evm_dev::Device;
-use evm_host::Sink;
 use evm_image::Image;
 use evm_room::Refused;
-use evm_streams::WriteFault;
+use evm_streams::{Sink, WriteFault};
 use evm_timeline::{Devices, InputFault, Mark, Walk, WalkStop};
-use evm_tracks::{Trace, TraceStop};
+use evm_tracks::{Change, RunStop, Teller, Told, TraceStop, trace_run};
 use std::alloc::Global;
 
 /// Why a run is not traced to its end.
-#[derive(Debug, Drop)]
+#[derive(Clone, Copy, Debug)]
 pub enum TraceEnd {
     /// The journal, its boot numbers, the image or an event was bad or refused.
     AtFault(InputFault),
@@ -24,124 +23,100 @@ pub enum TraceEnd {
     WriteFailed(WriteFault),
 }
 
-fn walk_end(stop: WalkStop) -> TraceEnd {
-    match stop {
-        WalkStop::AtFault(fault) => TraceEnd::AtFault(fault),
-        WalkStop::NoMemory => TraceEnd::NoMemory,
+/// How far a run was told.
+#[derive(Clone, Copy)]
+enum Stage {
+    Begins,
+    Goes,
+    Ends,
+    Ended,
+}
+
+/// A walk over a journal, and what is told of it.
+struct Telling<D: Device> {
+    walk: Walk<D>,
+    changes: Changes,
+    marks: Vec<Mark>,
+    stage: Stage,
+    fault: Option<InputFault>,
+}
+
+fn told(outcome: Result<(), Refused>) -> Told {
+    match outcome {
+        Ok(()) => Told::Changes,
+        Err(_) => Told::NoMemory,
     }
 }
 
-fn told_end(stop: TraceStop) -> TraceEnd {
-    match stop {
-        TraceStop::NoMemory => TraceEnd::NoMemory,
-        TraceStop::WriteFailed(fault) => TraceEnd::WriteFailed(fault),
-    }
-}
-
-// Tells what the teller has found.
-fn tell<W: Sink>(
-    trace: &mut Trace,
-    sink: &mut W,
-    found: Result<(), Refused>,
-    teller: &Teller,
-) -> Result<(), TraceEnd>
-    ensures { (start : W) → IsTelling W.takes start sink.old trace.old → OnOk result (IsTelling W.takes start sink.new trace.new) }
-{
-    if found.is_err() {
-        return Err(TraceEnd::NoMemory);
-    }
-    match trace.tell_more(sink, teller.changes.as_slice()) {
-        Ok(()) => Ok(()),
-        Err(stop) => Err(told_end(stop)),
-    }
-}
-
-// The next event, or the next run of quiet Steps: whether there was one. Its changes are with the teller then.
-fn next_changes<D: Device>(
-    walk: &mut Walk<D>,
-    marks: &mut Vec<Mark>,
-    teller: &mut Teller,
-) -> Result<bool, TraceEnd> {
-    teller.changes.clear();
-    match walk.next(marks) {
-        Err(stop) => Err(walk_end(stop)),
-        Ok(None) => Ok(false),
-        Ok(Some(item)) if item.quiet => Ok(true),
-        Ok(Some(item)) => match teller.event(walk.look(), marks.as_slice(), item.first) {
-            Ok(()) => Ok(true),
-            Err(_) => Err(TraceEnd::NoMemory),
-        },
-    }
-}
-
-// Tells the events that are left.
-fn tell_events<W: Sink, D: Device>(
-    alloc: Global,
-    walk: &mut Walk<D>,
-    teller: &mut Teller,
-    trace: &mut Trace,
-    sink: &mut W,
-) -> Result<(), TraceEnd>
-    ensures { (start : W) → IsTelling W.takes start sink.old trace.old → OnOk result (IsTelling W.takes start sink.new trace.new) }
-{
-    let mut marks = Vec::new(alloc);
-    for _ in 0..walk.event_count() {
-        match next_changes(walk, &mut marks, teller) {
-            Err(end) => return Err(end),
-            Ok(false) => return Ok(()),
-            Ok(true) => match tell(trace, sink, Ok(()), teller) {
-                Ok(()) => {}
-                Err(end) => return Err(end),
-            },
+impl<D: Device> Telling<D> {
+    // The next event, or the next run of Steps that change only registers and RAM.
+    fn walk_on(&mut self, list: &mut Vec<Change>) -> Told {
+        match self.walk.next(&mut self.marks) {
+            Err(WalkStop::NoMemory) => Told::NoMemory,
+            Err(WalkStop::AtFault(fault)) => {
+                self.fault = Some(fault);
+                Told::Fault
+            }
+            Ok(None) => {
+                self.stage = Stage::Ends;
+                Told::Changes
+            }
+            Ok(Some(item)) if item.quiet => Told::Changes,
+            Ok(Some(item)) => {
+                let marks = self.marks.as_slice();
+                told(self.changes.event(list, self.walk.look(), marks, item.first))
+            }
         }
     }
-    Ok(())
 }
 
-// Tells a walk from its beginning to its end.
-fn tell_walk<W: Sink, D: Device>(
-    alloc: Global,
-    walk: &mut Walk<D>,
-    teller: &mut Teller,
-    trace: &mut Trace,
-    sink: &mut W,
-) -> Result<(), TraceEnd>
-    ensures { (start : W) → IsTelling W.takes start sink.old trace.old → OnOk result (IsTelling W.takes start sink.new trace.new) }
-{
-    let begun = teller.begin(walk.look());
-    match tell(trace, sink, begun, teller) {
-        Ok(()) => {}
-        Err(end) => return Err(end),
+impl<D: Device> Teller for Telling<D> {
+    fn next(&mut self, changes: &mut Vec<Change>) -> Told {
+        match self.stage {
+            Stage::Begins => {
+                self.stage = Stage::Goes;
+                told(self.changes.begin(changes, self.walk.look()))
+            }
+            Stage::Goes => self.walk_on(changes),
+            Stage::Ends => {
+                self.stage = Stage::Ended;
+                let last = self.walk.next_event().saturating_add(1);
+                told(self.changes.end(changes, self.walk.look(), last))
+            }
+            Stage::Ended => Told::End,
+        }
     }
-    match tell_events(alloc, walk, teller, trace, sink) {
-        Ok(()) => {}
-        Err(end) => return Err(end),
+}
+
+// Why a run stopped, with the fault that the walk met.
+fn end_of(stop: RunStop, fault: Option<InputFault>) -> TraceEnd {
+    match (stop, fault) {
+        (RunStop::Fault, Some(fault)) => TraceEnd::AtFault(fault),
+        (RunStop::Trace(TraceStop::WriteFailed(fault)), _) => TraceEnd::WriteFailed(fault),
+        _ => TraceEnd::NoMemory,
     }
-    let last = walk.next_event().saturating_add(1);
-    let ended = teller.end(walk.look(), last);
-    tell(trace, sink, ended, teller)
 }
 
 fn trace_walk<W: Sink, D: Device>(
     alloc: Global,
-    walk: &mut Walk<D>,
+    walk: Walk<D>,
+    changes: Changes,
     sink: &mut W,
 ) -> Result<(), TraceEnd>
     ensures { OnOk result (IsTraced W.takes sink.old sink.new) }
 {
-    let Ok(mut teller) = Teller::new(alloc) else {
-        return Err(TraceEnd::NoMemory);
+    // The begin, the end, and that there is no more are a call each.
+    let calls = walk.event_count().saturating_add(4);
+    let mut telling = Telling {
+        walk,
+        changes,
+        marks: Vec::new(alloc),
+        stage: Stage::Begins,
+        fault: None,
     };
-    let Ok(mut trace) = Trace::on(alloc, sink) else {
-        return Err(TraceEnd::NoMemory);
-    };
-    match tell_walk(alloc, walk, &mut teller, &mut trace, sink) {
-        Ok(()) => {}
-        Err(end) => return Err(end),
-    }
-    match trace.finish(sink) {
+    match trace_run(alloc, &mut telling, calls, sink) {
         Ok(()) => Ok(()),
-        Err(stop) => Err(told_end(stop)),
+        Err(stop) => Err(end_of(stop, telling.fault)),
     }
 }
 
@@ -159,9 +134,13 @@ pub fn trace_journal<W: Sink, D: Device>(
 ) -> Result<(), TraceEnd>
     ensures { OnOk result (IsTraced W.takes sink.old sink.new) }
 {
-    let mut walk = match Walk::start(alloc, image, devices, journal) {
+    let walk = match Walk::start(alloc, image, devices, journal) {
         Ok(walk) => walk,
-        Err(stop) => return Err(walk_end(stop)),
+        Err(WalkStop::AtFault(fault)) => return Err(TraceEnd::AtFault(fault)),
+        Err(WalkStop::NoMemory) => return Err(TraceEnd::NoMemory),
     };
-    trace_walk(alloc, &mut walk, sink)
+    match Changes::new(alloc) {
+        Ok(changes) => trace_walk(alloc, walk, changes, sink),
+        Err(_) => Err(TraceEnd::NoMemory),
+    }
 }
