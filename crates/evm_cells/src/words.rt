@@ -147,7 +147,7 @@ fn push_rank(out: &mut String, task: u8, from: u16, to: u16) -> Result<(), Refus
         Text("task "),
         numeral(task),
         Text(if from < to {
-            " is boosted from rank "
+            " rises from rank "
         } else {
             " falls from rank "
         }),

@@ -97,14 +97,26 @@ fn push_stop(marks: &mut Vec<Mark>, cpu: u8, before: bool, after: bool) -> Resul
     )
 }
 
+fn lane_at(lanes: &[Lane], at: usize) -> Option<Lane>
+    ensures { result ≡ slice_get lanes.now at }
+{
+    lanes.get(at).copied()
+}
+
+fn counts_at(counts: &[Counts], at: usize) -> Option<Counts>
+    ensures { result ≡ slice_get counts.now at }
+{
+    counts.get(at).copied()
+}
+
 #[tactic(auto, unfolding(crate::specs::Marks::lane_marks), using(crate::proofs::Lemmas::numbered))]
 fn push_lane(
     marks: &mut Vec<Mark>,
     cpu: u8,
-    before: Option<&Lane>,
-    after: Option<&Lane>,
+    before: Option<Lane>,
+    after: Option<Lane>,
 ) -> Result<(), Refused>
-    ensures { OnOk result (marks.new.items ≡ marks.old.items ++ (lane_marks cpu (option_copied before.entry) (option_copied after.entry))) }
+    ensures { OnOk result (marks.new.items ≡ marks.old.items ++ (lane_marks cpu before after)) }
 {
     let (Some(before), Some(after)) = (before, after) else {
         return Ok(());
@@ -211,13 +223,13 @@ fn push_line(
     marks: &mut Vec<Mark>,
     cpu: u8,
     line: u8,
-    before: Option<&Counts>,
-    after: Option<&Counts>,
+    before: Option<Counts>,
+    after: Option<Counts>,
 ) -> Result<(), Refused>
-    ensures { OnOk result (marks.new.items ≡ marks.old.items ++ (line_marks cpu line (option_copied before.entry) (option_copied after.entry))) }
+    ensures { OnOk result (marks.new.items ≡ marks.old.items ++ (line_marks cpu line before after)) }
 {
     match (before, after) {
-        (Some(before), Some(after)) => push_counted(marks, cpu, line, before, after),
+        (Some(before), Some(after)) => push_counted(marks, cpu, line, &before, &after),
         _ => Ok(()),
     }
 }
@@ -234,7 +246,13 @@ fn push_lines(
     let first = usize::from(cpu) * usize::from(LINES);
     for line in 0..LINES {
         let at = first + usize::from(line);
-        push_line(marks, cpu, line, before.get(at), after.get(at))?;
+        push_line(
+            marks,
+            cpu,
+            line,
+            counts_at(before, at),
+            counts_at(after, at),
+        )?;
     }
     Ok(())
 }
@@ -249,7 +267,12 @@ fn push_processor(
     ensures { OnOk result (marks.new.items ≡ marks.old.items ++ (processor_marks before.now after.now cpu)) }
 {
     let at = usize::from(cpu);
-    push_lane(marks, cpu, before.lanes.get(at), after.lanes.get(at))?;
+    push_lane(
+        marks,
+        cpu,
+        lane_at(before.lanes.as_slice(), at),
+        lane_at(after.lanes.as_slice(), at),
+    )?;
     push_lines(
         marks,
         cpu,

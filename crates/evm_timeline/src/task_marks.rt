@@ -1,6 +1,6 @@
 //! The marks of one task.
 
-ghost use Rattle.std.specs.Prelude.{◌≡◌, ◌++◌, OnOk, option_copied};
+ghost use Rattle.std.specs.Prelude.{◌≡◌, ◌++◌, OnOk, slice_get};
 ghost use Rattle.evm_timeline.specs.Lists.{below};
 ghost use Rattle.evm_timeline.specs.Marks.{change_marks, deadline_marks, end_marks, has_ended, is_wait, moves_marks, one_task_marks, rank_marks, same_wait, stage_of, task_marks, wait_of, wait_stage, waits_marks, woken_marks};
 
@@ -191,14 +191,14 @@ fn push_task(
     marks: &mut Vec<Mark>,
     task: u8,
     ticks: u64,
-    before: Option<&Task>,
-    after: Option<&Task>,
+    before: Option<Task>,
+    after: Option<Task>,
 ) -> Result<(), Refused>
-    ensures { OnOk result (marks.new.items ≡ marks.old.items ++ (task_marks task ticks (option_copied before.entry) (option_copied after.entry))) }
+    ensures { OnOk result (marks.new.items ≡ marks.old.items ++ (task_marks task ticks before after)) }
 {
     match (before, after) {
         (None, Some(_)) => push_when(marks, true, Mark::Created { task }),
-        (Some(before), Some(after)) => push_changes(marks, task, ticks, before, after),
+        (Some(before), Some(after)) => push_changes(marks, task, ticks, &before, &after),
         _ => Ok(()),
     }
 }
@@ -207,23 +207,27 @@ fn push_task(
 fn push_rank(
     marks: &mut Vec<Mark>,
     task: u8,
-    before: Option<&u16>,
-    after: Option<&u16>,
+    before: Option<u16>,
+    after: Option<u16>,
 ) -> Result<(), Refused>
-    ensures { OnOk result (marks.new.items ≡ marks.old.items ++ (rank_marks task (option_copied before.entry) (option_copied after.entry))) }
+    ensures { OnOk result (marks.new.items ≡ marks.old.items ++ (rank_marks task before after)) }
 {
     match (before, after) {
-        (Some(from), Some(to)) => push_when(
-            marks,
-            *from != *to,
-            Mark::Rank {
-                task,
-                from: *from,
-                to: *to,
-            },
-        ),
+        (Some(from), Some(to)) => push_when(marks, from != to, Mark::Rank { task, from, to }),
         _ => Ok(()),
     }
+}
+
+fn task_at(tasks: &[Task], at: usize) -> Option<Task>
+    ensures { result ≡ slice_get tasks.now at }
+{
+    tasks.get(at).copied()
+}
+
+fn rank_at(ranks: &[u16], at: usize) -> Option<u16>
+    ensures { result ≡ slice_get ranks.now at }
+{
+    ranks.get(at).copied()
 }
 
 #[tactic(auto, unfolding(crate::specs::Marks::one_task_marks), using(crate::proofs::Lemmas::numbered))]
@@ -240,10 +244,15 @@ fn push_one_task(
         marks,
         task,
         after.ticks,
-        before.tasks.get(at),
-        after.tasks.get(at),
+        task_at(before.tasks.as_slice(), at),
+        task_at(after.tasks.as_slice(), at),
     )?;
-    push_rank(marks, task, before.ranks.get(at), after.ranks.get(at))
+    push_rank(
+        marks,
+        task,
+        rank_at(before.ranks.as_slice(), at),
+        rank_at(after.ranks.as_slice(), at),
+    )
 }
 
 #[tactic(auto, using(crate::proofs::Lemmas::numbered))]

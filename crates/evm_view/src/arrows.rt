@@ -135,7 +135,7 @@ fn arrow(
 // where its event is of another.
 fn ends(at: Place, shown: &Shown, cpu: u8) -> (u32, u32) {
     let row = y_of(at.top, cpu, OUT_OF_BAND).saturating_add(3);
-    let band = y_of(at.top, cpu, ARROWS).saturating_sub(6);
+    let band = y_of(at.top, cpu, ARROWS).saturating_add(3);
     if let Mark::Waits { .. } = shown.mark {
         return (row, band);
     }
@@ -165,13 +165,13 @@ pub(crate) fn arrow_sign(
     let draft = arrow(draft, alloc, class, x, ends(at, shown, cpu), words.as_str())?;
     let mut name = String::new(alloc);
     push_arrow_name(&mut name, &shown.mark)?;
-    let y = y_of(at.top, cpu, ARROWS).saturating_add(3);
+    let y = y_of(at.top, cpu, ARROWS);
     label_if_room(
         draft,
         free,
         cpu,
         class,
-        (x.saturating_add(4), y),
+        (x.saturating_sub(3), y),
         name.as_str(),
     )
 }

@@ -13,7 +13,7 @@ pub(crate) const LEFT: u32 = 104;
 pub(crate) const TOP: u32 = 44;
 
 /// The height of a lane of a processor.
-pub(crate) const LANE: u32 = 118;
+pub(crate) const LANE: u32 = 122;
 
 /// The height of the ruler and the lane of the machine.
 pub(crate) const HEAD: u32 = 44;
@@ -31,17 +31,17 @@ const CHARACTER: u32 = 6;
 pub(crate) const ROW: u32 = 18;
 
 /// Where in a lane its parts begin.
-pub(crate) const FLAGS: u32 = 12;
+pub(crate) const FLAGS: u32 = 11;
 
-pub(crate) const ARROWS: u32 = 30;
+pub(crate) const ARROWS: u32 = 24;
 
-pub(crate) const OUT_OF_BAND: u32 = 40;
+pub(crate) const OUT_OF_BAND: u32 = 42;
 
-pub(crate) const IN_BAND: u32 = 60;
+pub(crate) const IN_BAND: u32 = 62;
 
-pub(crate) const LINES: u32 = 80;
+pub(crate) const LINES: u32 = 82;
 
-pub(crate) const EVENTS: u32 = 96;
+pub(crate) const EVENTS: u32 = 99;
 
 /// Where the cell of a number in its strip begins.
 pub(crate) fn x_of(column: usize) -> u32 {

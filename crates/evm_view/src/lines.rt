@@ -62,14 +62,13 @@ fn raise(
     let mut points = String::new(alloc);
     push_point(&mut points, at.x.saturating_add(1), y.saturating_add(12))?;
     push_point(&mut points, at.x.saturating_add(5), y.saturating_add(4))?;
-    push_point(&mut points, at.x.saturating_add(9), y.saturating_add(12))?;
+    push_point(&mut points, at.x.saturating_add(8), y.saturating_add(12))?;
     let draft = polygon(draft, "raise", points.as_str(), words)?;
     line_label(
         draft,
         alloc,
         line,
-        at.x.saturating_add(12),
-        y.saturating_add(9),
+        at.x.saturating_add(10), y.saturating_add(12),
     )
 }
 
@@ -98,8 +97,7 @@ fn play(draft: Draft, at: Place, cpu: u8, stage: Stage, words: &str) -> Result<D
         Stage::InBand => IN_BAND,
     };
     let y = y_of(at.top, cpu, part)
-        .saturating_add(ROW)
-        .saturating_sub(4);
+        .saturating_add(ROW);
     let sides = [
         (Key::CenterX, at.x.saturating_add(12)),
         (Key::CenterY, y),

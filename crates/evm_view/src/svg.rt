@@ -79,13 +79,13 @@ fn lane(draft: Draft, alloc: Global, strip: &Strip<'_>, cpu: u8) -> Result<Draft
     ensures { IfOk result (λ new. new ≡ draft) }
 {
     let name = cpu_name(alloc, cpu)?;
-    let y = y_of(strip.top, cpu, 33);
+    let y = y_of(strip.top, cpu, 30);
     let mut draft = label(draft, "b", 8, y, name.as_str())?;
     for one in &rows_of(strip.top, cpu) {
         draft = draw_row(draft, alloc, one, strip.cells)?;
     }
-    let draft = label(draft, "d", 30, y_of(strip.top, cpu, 91), "lines")?;
-    let draft = label(draft, "d", 30, y_of(strip.top, cpu, 106), "events")?;
+    let draft = label(draft, "d", 30, y_of(strip.top, cpu, 94), "lines")?;
+    let draft = label(draft, "d", 30, y_of(strip.top, cpu, 109), "events")?;
     boxes(draft, alloc, cpu, strip.top, strip.cells)
 }
 

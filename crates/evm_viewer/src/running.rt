@@ -60,7 +60,15 @@ fn draw<S: System>(
     world: &mut World<S>,
 ) -> u8 {
     match devices_of(alloc) {
-        Ok(devices) => view(alloc, devices, image, journal, out, Window { from, to }, world),
+        Ok(devices) => view(
+            alloc,
+            devices,
+            image,
+            journal,
+            out,
+            Window { from, to },
+            world,
+        ),
         Err(_) => memory_refused(PROGRAM, world),
     }
 }

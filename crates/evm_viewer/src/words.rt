@@ -38,6 +38,7 @@ pub enum Fault<'a> {
 }
 
 // What was read so far.
+#[derive(Drop)]
 struct Read<'a> {
     files: [Option<&'a str>; 4],
     count: usize,

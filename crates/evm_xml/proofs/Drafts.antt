@@ -38,7 +38,7 @@ start-more t attributes a =
 grows : (t : Tag) (tags : List Tag) (bytes : List ℕ) (h : Forest) → SoFar (t ∷ tags) bytes → SoFar (t ∷ tags) (bytes ++ xml h)
 grows t tags bytes h s =
     let e : bytes ++ xml h ≡ s.0 ++ (start t s.2 ++ (62 ∷ xml (append s.3 h))) =
-        rw (s.4, xml-append s.3 h) (append_assoc s.0 (start t s.2 ++ (62 ∷ xml s.3)) (xml h) ∙ ap (λ x. s.0 ++ x) (append_assoc (start t s.2) (62 ∷ xml s.3) (xml h))) in
+    rw (s.4, xml-append s.3 h) (append_assoc s.0 (start t s.2 ++ (62 ∷ xml s.3)) (xml h) ∙ ap (λ x. s.0 ++ x) (append_assoc (start t s.2) (62 ∷ xml s.3) (xml h))) in
     (s.0, s.1, s.2, append s.3 h, e)
 
 begins : (t : Tag) (tags : List Tag) (bytes : List ℕ) → SoFar tags bytes → InTag (t ∷ tags) (bytes ++ start t [])
@@ -48,7 +48,7 @@ attributed : (tags : List Tag) (bytes : List ℕ) (a : Attribute) → InTag tags
 attributed [] bytes a s = s
 attributed (t ∷ tags) bytes a s =
     let e : bytes ++ attribute_text a ≡ s.0 ++ start t (s.2 ++ a ∷ []) =
-        rw (s.3, start-more t s.2 a) (append_assoc s.0 (start t s.2) (attribute_text a)) in
+    rw (s.3, start-more t s.2 a) (append_assoc s.0 (start t s.2) (attribute_text a)) in
     (s.0, s.1, s.2 ++ a ∷ [], e)
 
 entered : (tags : List Tag) (bytes : List ℕ) → InTag tags bytes → SoFar tags (bytes ++ 62 ∷ [])
@@ -68,7 +68,7 @@ unfolding xml
 ended t [] bytes inside s = absurd (omega arith)
 ended t (u ∷ tags) bytes inside s =
     let whole : s.0 ++ xml (Leaf t s.2 Nothing) ≡ bytes ++ codes "/>" =
-        rw s.3 (ap (λ x. s.0 ++ x) (append-nil (start t s.2 ++ codes "/>")) ∙ sym (append_assoc s.0 (start t s.2) (codes "/>"))) in
+    rw s.3 (ap (λ x. s.0 ++ x) (append-nil (start t s.2 ++ codes "/>")) ∙ sym (append_assoc s.0 (start t s.2) (codes "/>"))) in
     subst (λ x. SoFar (u ∷ tags) x) whole (grows u tags s.0 (Leaf t s.2 Nothing) s.1)
 
 inner : (t : Tag) (front : List ℕ) (attributes : List Attribute) (inside : Forest)
