@@ -97,13 +97,13 @@ unfolding after_number
 figures_number d ds all alone =
     let minus : (head (d ∷ ds) == 45) ≡ false = ne_eqb d 45 (λ e. omega arith) in
     let whole : after_whole (d ∷ ds) ≡ Some [] =
-        elim (cases_eq d 48) [
-          | inl nought ↦ let none = alone nought in rw (nought, none) refl
-          | inr other ↦
-              let size = all_figures (d ∷ ds) all in
-              let some : (length (d ∷ ds) == 0) ≡ false = ne_eqb (length (d ∷ ds)) 0 (λ e. omega arith) in
-              rw (ne_eqb d 48 other, size, some) (ap Some (drop_all (length (d ∷ ds)) (d ∷ ds) (omega arith)))
-        ]
+    elim (cases_eq d 48) [
+      | inl nought ↦ let none = alone nought in rw (nought, none) refl
+      | inr other ↦
+          let size = all_figures (d ∷ ds) all in
+          let some : (length (d ∷ ds) == 0) ≡ false = ne_eqb (length (d ∷ ds)) 0 (λ e. omega arith) in
+          rw (ne_eqb d 48 other, size, some) (ap Some (drop_all (length (d ∷ ds)) (d ∷ ds) (omega arith)))
+    ]
     in
     ap (λ o. option_and_then after_exponent (option_and_then after_fraction o))
     (ap (λ b. after_whole (cond b (drop 1 (d ∷ ds)) (d ∷ ds))) minus ∙ whole)

@@ -177,5 +177,5 @@ document-listing key js numbers shallow =
     let last = ([], Token.end_object) ∷ [] in
     let gaps : AreGaps ps = (tt, (tt, (tt, gaps-append (line_tokens js) last (line_tokens-gaps js) (tt, tt)))) in
     let same : map (λ p. p.1) ps ≡ json_tokens (listing_of key js) =
-        ap (λ (ts : List Token). Token.begin_object ∷ Token.key key ∷ Token.begin_array ∷ ts) (map-append (line_tokens js) last ∙ ap (λ (ts : List Token). ts ++ Token.end_object ∷ []) (line_tokens-tokens js)) in
+    ap (λ (ts : List Token). Token.begin_object ∷ Token.key key ∷ Token.begin_array ∷ ts) (map-append (line_tokens js) last ∙ ap (λ (ts : List Token). ts ++ Token.end_object ∷ []) (line_tokens-tokens js)) in
     ap document (sym (print_listing key js)) ∙ read_spaced (listing_of key js) ps gaps same (numbers, tt) (omega arith)

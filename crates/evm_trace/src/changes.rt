@@ -1,10 +1,13 @@
 //! The changes that are told of each event.
 
+ghost use Rattle.std.specs.Prelude.{◌≡◌, ◌++◌, ◌∷◌, [], OnOk, flat_map};
+ghost use Rattle.evm_trace.specs.Instants.{instant, instants_of, if_instant, instants_in};
+
 use crate::states::{current_track, stage_states, task_state};
 use evm_lines::LINES;
 use evm_room::{Refused, copies, grow};
 use evm_timeline::{Look, Mark};
-use evm_tracks::{Change, Detail, Flow, Note, Passage, Track};
+use evm_tracks::{Change, Detail, Flow, Note, Passage, State, Track};
 use std::alloc::Global;
 use std::boxed::BoxedSlice;
 
@@ -14,18 +17,35 @@ const ENTRIES: usize = 256;
 /// How many processors there are at most.
 const PROCESSORS: usize = 8;
 
-fn push(list: &mut Vec<Change>, change: Change) -> Result<(), Refused> {
+fn push(list: &mut Vec<Change>, change: Change) -> Result<(), Refused>
+    ensures { OnOk result (list.new.items ≡ list.old.items ++ change ∷ []) }
+{
     grow(list, 1)?;
     list.push_reserved(change);
     Ok(())
 }
 
-fn note(list: &mut Vec<Change>, track: Track, at: u64, detail: Detail) -> Result<(), Refused> {
-    push(list, Change::Noted(Note { track, at, detail }))
+#[tactic(auto, using(crate::proofs::Told::told))]
+fn note(list: &mut Vec<Change>, track: Track, at: u64, detail: Detail) -> Result<(), Refused>
+    ensures { OnOk result (instants_in list.new.items ≡ instants_in list.old.items ++ if_instant (record { track = track; at = at; detail = detail }) detail) }
+{
+    push(list, Change::Noted(Note { track, at, detail }))?;
+    Ok(())
+}
+
+#[tactic(auto, using(crate::proofs::Told::told))]
+fn shows(list: &mut Vec<Change>, track: Track, state: Option<State>, at: u64) -> Result<(), Refused>
+    ensures { OnOk result (instants_in list.new.items ≡ instants_in list.old.items) }
+{
+    push(list, Change::Shows(track, state, at))?;
+    Ok(())
 }
 
 // The name of a track, and its place.
-fn name(list: &mut Vec<Change>, track: Track, at: u64) -> Result<(), Refused> {
+#[tactic(auto, using(crate::proofs::Told::told))]
+fn name(list: &mut Vec<Change>, track: Track, at: u64) -> Result<(), Refused>
+    ensures { OnOk result (instants_in list.new.items ≡ instants_in list.old.items) }
+{
     note(list, track, at, Detail::ThreadName)?;
     note(list, track, at, Detail::SortIndex)
 }
@@ -40,7 +60,10 @@ fn name_processors(list: &mut Vec<Change>, count: u8) -> Result<(), Refused> {
 }
 
 // The name of a task's track, and its rank.
-fn name_task(list: &mut Vec<Change>, look: &Look, task: u8, at: u64) -> Result<(), Refused> {
+#[tactic(auto, using(crate::proofs::Told::told))]
+fn name_task(list: &mut Vec<Change>, look: &Look, task: u8, at: u64) -> Result<(), Refused>
+    ensures { OnOk result (instants_in list.new.items ≡ instants_in list.old.items) }
+{
     name(list, Track::Task(task), at)?;
     match look.ranks.get(usize::from(task)) {
         None => Ok(()),
@@ -55,47 +78,76 @@ fn name_tasks(list: &mut Vec<Change>, look: &Look) -> Result<(), Refused> {
     Ok(())
 }
 
-fn show_processor(list: &mut Vec<Change>, look: &Look, cpu: u8, at: u64) -> Result<(), Refused> {
+#[tactic(auto, using(crate::proofs::Told::told))]
+fn show_processor(list: &mut Vec<Change>, look: &Look, cpu: u8, at: u64) -> Result<(), Refused>
+    ensures { OnOk result (instants_in list.new.items ≡ instants_in list.old.items) }
+{
     match look.lanes.get(usize::from(cpu)) {
         None => Ok(()),
         Some(lane) => {
             let (out_of_band, in_band) = stage_states(lane);
-            push(list, Change::Shows(Track::OutOfBand(cpu), out_of_band, at))?;
-            push(list, Change::Shows(Track::InBand(cpu), in_band, at))
+            shows(list, Track::OutOfBand(cpu), out_of_band, at)?;
+            shows(list, Track::InBand(cpu), in_band, at)
         }
     }
 }
 
-fn show_task(list: &mut Vec<Change>, look: &Look, task: u8, at: u64) -> Result<(), Refused> {
+#[tactic(auto, using(crate::proofs::Told::told))]
+fn show_task(list: &mut Vec<Change>, look: &Look, task: u8, at: u64) -> Result<(), Refused>
+    ensures { OnOk result (instants_in list.new.items ≡ instants_in list.old.items) }
+{
     match look.tasks.get(usize::from(task)) {
         None => Ok(()),
         Some(seen) => {
             let state = task_state(look, task, seen);
-            push(list, Change::Shows(Track::Task(task), Some(state), at))
+            shows(list, Track::Task(task), Some(state), at)
         }
     }
 }
 
-// What the tracks show from a tick on.
-fn show(list: &mut Vec<Change>, look: &Look, at: u64) -> Result<(), Refused> {
+fn show_processors(list: &mut Vec<Change>, look: &Look, at: u64) -> Result<(), Refused>
+    ensures { OnOk result (instants_in list.new.items ≡ instants_in list.old.items) }
+{
     for cpu in 0..look.cpu_count {
         show_processor(list, look, cpu, at)?;
     }
+    Ok(())
+}
+
+fn show_tasks(list: &mut Vec<Change>, look: &Look, at: u64) -> Result<(), Refused>
+    ensures { OnOk result (instants_in list.new.items ≡ instants_in list.old.items) }
+{
     for task in 0..look.task_count {
         show_task(list, look, task, at)?;
     }
     Ok(())
 }
 
+// What the tracks show from a tick on.
+fn show(list: &mut Vec<Change>, look: &Look, at: u64) -> Result<(), Refused>
+    ensures { OnOk result (instants_in list.new.items ≡ instants_in list.old.items) }
+{
+    show_processors(list, look, at)?;
+    show_tasks(list, look, at)
+}
+
+#[tactic(auto, using(crate::proofs::Told::told))]
 fn interrupt(
     list: &mut Vec<Change>,
     passage: Passage,
     place: (u8, u8),
     times: u64,
     at: u64,
-) -> Result<(), Refused> {
+) -> Result<(), Refused>
+    ensures { OnOk result (instants_in list.new.items ≡ instants_in list.old.items ++ instant passage place.0 place.1 times at ∷ []) }
+{
     let (cpu, line) = place;
-    note(list, Track::Lines(cpu), at, Detail::Interrupt(passage, line, times))
+    note(
+        list,
+        Track::Lines(cpu),
+        at,
+        Detail::Interrupt(passage, line, times),
+    )
 }
 
 fn entry_of(cpu: u8, line: u8) -> usize {
@@ -152,13 +204,16 @@ impl Changes {
     }
 
     // An arrow begins where a line is raised that has none.
+    #[tactic(auto, using(crate::proofs::Told::told))]
     fn begin_arrow(
         &mut self,
         list: &mut Vec<Change>,
         cpu: u8,
         line: u8,
         at: u64,
-    ) -> Result<(), Refused> {
+    ) -> Result<(), Refused>
+        ensures { OnOk result (instants_in list.new.items ≡ instants_in list.old.items) }
+    {
         let entry = entry_of(cpu, line);
         if self.begun_at(entry).is_some() {
             return Ok(());
@@ -170,6 +225,7 @@ impl Changes {
     }
 
     // It ends where the line is played, at what the processor does then.
+    #[tactic(auto, using(crate::proofs::Told::told))]
     fn end_arrow(
         &mut self,
         list: &mut Vec<Change>,
@@ -177,7 +233,9 @@ impl Changes {
         entry: usize,
         line: u8,
         at: u64,
-    ) -> Result<(), Refused> {
+    ) -> Result<(), Refused>
+        ensures { OnOk result (instants_in list.new.items ≡ instants_in list.old.items) }
+    {
         match self.begun_at(entry) {
             None => Ok(()),
             Some(id) => {
@@ -188,6 +246,7 @@ impl Changes {
     }
 
     // An arrow from the task that had a mutex to the one that has it after the event.
+    #[tactic(auto, using(crate::proofs::Told::told))]
     fn hand_over(
         &mut self,
         list: &mut Vec<Change>,
@@ -195,43 +254,104 @@ impl Changes {
         from: u8,
         to: u8,
         at: u64,
-    ) -> Result<(), Refused> {
+    ) -> Result<(), Refused>
+        ensures { OnOk result (instants_in list.new.items ≡ instants_in list.old.items) }
+    {
         let id = self.arrow();
         note(list, Track::Task(from), at, Detail::FlowStart(flow, id))?;
-        note(list, Track::Task(to), at.saturating_add(1), Detail::FlowEnd(flow, id))
+        note(
+            list,
+            Track::Task(to),
+            at.saturating_add(1),
+            Detail::FlowEnd(flow, id),
+        )
     }
 
+    // Tells that a mutex has another owner.
+    #[tactic(auto, using(crate::proofs::Told::told))]
+    fn owner(
+        &mut self,
+        list: &mut Vec<Change>,
+        flow: Flow,
+        from: Option<u8>,
+        to: Option<u8>,
+        at: u64,
+    ) -> Result<(), Refused>
+        ensures { OnOk result (instants_in list.new.items ≡ instants_in list.old.items) }
+    {
+        match (from, to) {
+            (Some(from), Some(to)) => self.hand_over(list, flow, from, to, at),
+            _ => Ok(()),
+        }
+    }
+
+    #[tactic(auto, using(crate::proofs::Told::told))]
     fn mark(
         &mut self,
         list: &mut Vec<Change>,
         look: &Look,
         mark: &Mark,
         at: u64,
-    ) -> Result<(), Refused> {
+    ) -> Result<(), Refused>
+        ensures { OnOk result (instants_in list.new.items ≡ instants_in list.old.items ++ instants_of at mark.now) }
+    {
         let then = at.saturating_add(1);
-        match *mark {
+        match mark {
             Mark::Raised { cpu, line, times } => {
-                interrupt(list, Passage::Raised, (cpu, line), times, at)?;
-                self.begin_arrow(list, cpu, line, at)
+                interrupt(list, Passage::Raised, (*cpu, *line), *times, at)?;
+                self.begin_arrow(list, *cpu, *line, at)
             }
             Mark::Received { cpu, line, times } => {
-                interrupt(list, Passage::Received, (cpu, line), times, at)
+                interrupt(list, Passage::Received, (*cpu, *line), *times, at)
             }
             Mark::Played {
-                cpu, line, times, ..
+                cpu,
+                line,
+                times,
+                ..
             } => {
-                interrupt(list, Passage::Played, (cpu, line), times, at)?;
-                self.end_arrow(list, current_track(look, cpu), entry_of(cpu, line), line, then)
+                interrupt(list, Passage::Played, (*cpu, *line), *times, at)?;
+                let entry = entry_of(*cpu, *line);
+                self.end_arrow(list, current_track(look, *cpu), entry, *line, then)
             }
-            Mark::Owner {
-                mutex,
-                from: Some(from),
-                to: Some(to),
-            } => self.hand_over(list, Flow::Mutex(mutex), from, to, at),
-            Mark::Created { task } => name_task(list, look, task, then),
-            Mark::Rank { task, to, .. } => note(list, Track::Task(task), then, Detail::Rank(to)),
-            _ => Ok(()),
+            Mark::Owner { mutex, from, to } => self.owner(
+                list,
+                Flow::Mutex(*mutex),
+                *from,
+                *to,
+                at,
+            ),
+            Mark::Created { task } => name_task(list, look, *task, then),
+            Mark::Rank { task, to, .. } => note(list, Track::Task(*task), then, Detail::Rank(*to)),
+            Mark::Runs { .. } => Ok(()),
+            Mark::Idles { .. } => Ok(()),
+            Mark::Stop { .. } => Ok(()),
+            Mark::Stall { .. } => Ok(()),
+            Mark::Waits { .. } => Ok(()),
+            Mark::Woken { .. } => Ok(()),
+            Mark::Deadline { .. } => Ok(()),
+            Mark::Moves { .. } => Ok(()),
+            Mark::Ended { .. } => Ok(()),
+            Mark::Faulted { .. } => Ok(()),
+            Mark::Ticked { .. } => Ok(()),
+            Mark::Notice { .. } => Ok(()),
         }
+    }
+
+    #[tactic(auto, using(crate::proofs::Told::told))]
+    fn marks(
+        &mut self,
+        list: &mut Vec<Change>,
+        look: &Look,
+        marks: &[Mark],
+        at: u64,
+    ) -> Result<(), Refused>
+        ensures { OnOk result (instants_in list.new.items ≡ instants_in list.old.items ++ flat_map (instants_of at) marks.now) }
+    {
+        for mark in marks {
+            self.mark(list, look, mark, at)?;
+        }
+        Ok(())
     }
 
     // Keeps what the processors do.
@@ -241,7 +361,7 @@ impl Changes {
         }
     }
 
-    /// What is told before the first event: names, ranks, and what the tracks show.
+    /// Tells names, ranks and what the tracks show before the first event.
     pub(crate) fn begin(&mut self, list: &mut Vec<Change>, look: &Look) -> Result<(), Refused> {
         note(list, Track::Task(0), 0, Detail::ProcessName)?;
         note(list, Track::Lines(0), 0, Detail::ProcessName)?;
@@ -251,34 +371,30 @@ impl Changes {
         show(list, look, 0)
     }
 
-    /// What is told of the event at a tick: its marks, and what the tracks show after it.
+    /// Tells the event at a tick: its marks, and what the tracks show after it.
+    #[tactic(auto, using(crate::proofs::Told::told))]
     pub(crate) fn event(
         &mut self,
         list: &mut Vec<Change>,
         look: &Look,
         marks: &[Mark],
         at: u64,
-    ) -> Result<(), Refused> {
-        for mark in marks {
-            self.mark(list, look, mark, at)?;
-        }
+    ) -> Result<(), Refused>
+        ensures { OnOk result (instants_in list.new.items ≡ instants_in list.old.items ++ flat_map (instants_of at) marks.now) }
+    {
+        self.marks(list, look, marks, at)?;
         self.keep(look);
         show(list, look, at.saturating_add(1))
     }
 
-    /// What is told behind the last event: the tracks show nothing more.
-    pub(crate) fn end(
-        &self,
-        list: &mut Vec<Change>,
-        look: &Look,
-        at: u64,
-    ) -> Result<(), Refused> {
+    /// Tells that the tracks show nothing more, behind the last event.
+    pub(crate) fn end(&self, list: &mut Vec<Change>, look: &Look, at: u64) -> Result<(), Refused> {
         for cpu in 0..look.cpu_count {
-            push(list, Change::Shows(Track::OutOfBand(cpu), None, at))?;
-            push(list, Change::Shows(Track::InBand(cpu), None, at))?;
+            shows(list, Track::OutOfBand(cpu), None, at)?;
+            shows(list, Track::InBand(cpu), None, at)?;
         }
         for task in 0..look.task_count {
-            push(list, Change::Shows(Track::Task(task), None, at))?;
+            shows(list, Track::Task(task), None, at)?;
         }
         Ok(())
     }

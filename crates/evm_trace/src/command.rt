@@ -4,7 +4,7 @@ use crate::tracing::{TraceEnd, trace_journal};
 use crate::words::{Job, job_of, parse};
 use clap::Error;
 use clap::error::ErrorKind;
-use evm_dev::Device;
+use evm_devs::AnyDevice;
 use evm_host::{
     Devices, Ending, FAILED, Known, Message, Sink, System, USAGE, Verdict, WordsFault, World,
     ended, ended_with, failed_write_message, image_at, memory_refused, not_created, report,
@@ -92,9 +92,9 @@ fn out_name(out: &str) -> &str {
 }
 
 // Traces a journal that was read, to OUT.
-fn trace_to_out<S: System, D: Device>(
+fn trace_to_out<S: System>(
     alloc: Global,
-    devices: Devices<D>,
+    devices: Devices<AnyDevice>,
     image: &Image,
     job: Job<'_>,
     journal: &str,
@@ -114,9 +114,9 @@ fn trace_to_out<S: System, D: Device>(
 }
 
 // Traces the journal of a file on the image of another.
-fn trace<S: System, D: Device>(
+fn trace<S: System>(
     alloc: Global,
-    devices: Devices<D>,
+    devices: Devices<AnyDevice>,
     job: Job<'_>,
     world: &mut World<S>,
 ) -> u8 {
@@ -131,10 +131,10 @@ fn trace<S: System, D: Device>(
 }
 
 /// Does what the words ask for, with devices in the machine, and returns the exit status.
-pub fn answer<S: System, D: Device>(
+pub fn answer<S: System>(
     alloc: Global,
     words: &[String],
-    devices: Devices<D>,
+    devices: Devices<AnyDevice>,
     world: &mut World<S>,
 ) -> u8 {
     match parse(alloc, words) {
@@ -147,10 +147,10 @@ pub fn answer<S: System, D: Device>(
 }
 
 /// Does what the words ask for, or reports why they could not be read, and returns the exit status.
-pub fn answer_read<S: System, D: Device>(
+pub fn answer_read<S: System>(
     alloc: Global,
     words: Result<Vec<String>, WordsFault>,
-    devices: Devices<D>,
+    devices: Devices<AnyDevice>,
     world: &mut World<S>,
 ) -> u8 {
     match words {

@@ -12,4 +12,3 @@ mod words;
 pub use command::{answer, answer_read};
 pub use program::run;
 pub use tracing::{TraceEnd, trace_journal};
-

@@ -4,7 +4,7 @@ ghost use Rattle.std.specs.Prelude.{OnOk};
 ghost use Rattle.evm_tracks.specs.Telling.{IsTraced};
 
 use crate::changes::Changes;
-use evm_dev::Device;
+use evm_devs::AnyDevice;
 use evm_image::Image;
 use evm_room::Refused;
 use evm_streams::{Sink, WriteFault};
@@ -32,9 +32,10 @@ enum Stage {
     Ended,
 }
 
-/// A walk over a journal, and what is told of it.
-struct Telling<D: Device> {
-    walk: Walk<D>,
+/// A walk over a journal, and the changes that tell it.
+#[derive(Drop)]
+struct Telling {
+    walk: Walk<AnyDevice>,
     changes: Changes,
     marks: Vec<Mark>,
     stage: Stage,
@@ -48,7 +49,7 @@ fn told(outcome: Result<(), Refused>) -> Told {
     }
 }
 
-impl<D: Device> Telling<D> {
+impl Telling {
     // The next event, or the next run of Steps that change only registers and RAM.
     fn walk_on(&mut self, list: &mut Vec<Change>) -> Told {
         match self.walk.next(&mut self.marks) {
@@ -64,27 +65,40 @@ impl<D: Device> Telling<D> {
             Ok(Some(item)) if item.quiet => Told::Changes,
             Ok(Some(item)) => {
                 let marks = self.marks.as_slice();
-                told(self.changes.event(list, self.walk.look(), marks, item.first))
+                told(
+                    self.changes
+                        .event(list, self.walk.look(), marks, item.first),
+                )
             }
+        }
+    }
+
+    // Tells what is seen before the first event.
+    fn begin(&mut self, list: &mut Vec<Change>) -> Told {
+        self.stage = Stage::Goes;
+        told(self.changes.begin(list, self.walk.look()))
+    }
+
+    // Tells the end, behind the last one.
+    fn end(&mut self, list: &mut Vec<Change>) -> Told {
+        self.stage = Stage::Ended;
+        let last = self.walk.next_event().saturating_add(1);
+        told(self.changes.end(list, self.walk.look(), last))
+    }
+
+    fn go_on(&mut self, list: &mut Vec<Change>) -> Told {
+        match self.stage {
+            Stage::Begins => self.begin(list),
+            Stage::Goes => self.walk_on(list),
+            Stage::Ends => self.end(list),
+            Stage::Ended => Told::End,
         }
     }
 }
 
-impl<D: Device> Teller for Telling<D> {
+impl Teller for Telling {
     fn next(&mut self, changes: &mut Vec<Change>) -> Told {
-        match self.stage {
-            Stage::Begins => {
-                self.stage = Stage::Goes;
-                told(self.changes.begin(changes, self.walk.look()))
-            }
-            Stage::Goes => self.walk_on(changes),
-            Stage::Ends => {
-                self.stage = Stage::Ended;
-                let last = self.walk.next_event().saturating_add(1);
-                told(self.changes.end(changes, self.walk.look(), last))
-            }
-            Stage::Ended => Told::End,
-        }
+        self.go_on(changes)
     }
 }
 
@@ -97,9 +111,9 @@ fn end_of(stop: RunStop, fault: Option<InputFault>) -> TraceEnd {
     }
 }
 
-fn trace_walk<W: Sink, D: Device>(
+fn trace_walk<W: Sink>(
     alloc: Global,
-    walk: Walk<D>,
+    walk: Walk<AnyDevice>,
     changes: Changes,
     sink: &mut W,
 ) -> Result<(), TraceEnd>
@@ -125,10 +139,10 @@ fn trace_walk<W: Sink, D: Device>(
 /// # Errors
 ///
 /// The first fault, as a replay reports it; memory was refused; or a write failed.
-pub fn trace_journal<W: Sink, D: Device>(
+pub fn trace_journal<W: Sink>(
     alloc: Global,
     image: Option<&Image>,
-    devices: Devices<D>,
+    devices: Devices<AnyDevice>,
     journal: &str,
     sink: &mut W,
 ) -> Result<(), TraceEnd>

@@ -22,3 +22,5 @@ pub use trace::{Trace, TraceStop};
 pub use track::Track;
 pub use tracks::{Span, Tracks};
 
+#[cfg(test)]
+mod tests;

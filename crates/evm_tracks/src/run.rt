@@ -36,7 +36,7 @@ pub enum RunStop {
     Trace(TraceStop),
 }
 
-// Tells what the teller finds, in at most so many calls of it.
+// Tells what the teller finds, in at most this number of calls.
 fn tell_run<T: Teller, W: Sink>(
     alloc: Global,
     teller: &mut T,
@@ -81,7 +81,7 @@ fn trace_to_end<T: Teller, W: Sink>(
     }
 }
 
-/// Traces what a teller tells to a sink, in at most so many calls of it.
+/// Traces what a teller tells to a sink, in at most this number of calls.
 ///
 /// # Errors
 ///

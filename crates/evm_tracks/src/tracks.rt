@@ -101,7 +101,13 @@ impl Tracks {
             return Ok(());
         }
         if let Some(span) = shown {
-            push_slice(out, track, span.state, span.from, at.saturating_sub(span.from))?;
+            push_slice(
+                out,
+                track,
+                span.state,
+                span.from,
+                at.saturating_sub(span.from),
+            )?;
         }
         self.spans[row] = opened(state, at);
         Ok(())
