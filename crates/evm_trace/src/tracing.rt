@@ -1,0 +1,160 @@
+//! A journal's run, told as a trace.
+
+ghost use Rattle.std.specs.Prelude.{OnOk};
+ghost use Rattle.evm_tracks.specs.Telling.{IsTraced};
+
+use crate::changes::Changes;
+use evm_devs::AnyDevice;
+use evm_image::Image;
+use evm_room::Refused;
+use evm_streams::{Sink, WriteFault};
+use evm_timeline::{Devices, InputFault, Mark, Walk, WalkStop};
+use evm_tracks::{Change, RunStop, Teller, Told, TraceStop, trace_run};
+use std::alloc::Global;
+
+/// Why a run is not traced to its end.
+#[derive(Clone, Copy, Debug)]
+pub enum TraceEnd {
+    /// The journal, its boot numbers, the image or an event was bad or refused.
+    AtFault(InputFault),
+    /// Memory was refused.
+    NoMemory,
+    /// A write failed.
+    WriteFailed(WriteFault),
+}
+
+/// How far a run was told.
+#[derive(Clone, Copy)]
+enum Stage {
+    Begins,
+    Goes,
+    Ends,
+    Ended,
+}
+
+/// A walk over a journal, and the changes that tell it.
+#[derive(Drop)]
+struct Telling {
+    walk: Walk<AnyDevice>,
+    changes: Changes,
+    marks: Vec<Mark>,
+    stage: Stage,
+    fault: Option<InputFault>,
+}
+
+fn told(outcome: Result<(), Refused>) -> Told {
+    match outcome {
+        Ok(()) => Told::Changes,
+        Err(_) => Told::NoMemory,
+    }
+}
+
+impl Telling {
+    // The next event, or the next run of Steps that change only registers and RAM.
+    fn walk_on(&mut self, list: &mut Vec<Change>) -> Told {
+        match self.walk.next(&mut self.marks) {
+            Err(WalkStop::NoMemory) => Told::NoMemory,
+            Err(WalkStop::AtFault(fault)) => {
+                self.fault = Some(fault);
+                Told::Fault
+            }
+            Ok(None) => {
+                self.stage = Stage::Ends;
+                Told::Changes
+            }
+            Ok(Some(item)) if item.quiet => Told::Changes,
+            Ok(Some(item)) => {
+                let marks = self.marks.as_slice();
+                told(
+                    self.changes
+                        .event(list, self.walk.look(), marks, item.first),
+                )
+            }
+        }
+    }
+
+    // Tells what is seen before the first event.
+    fn begin(&mut self, list: &mut Vec<Change>) -> Told {
+        self.stage = Stage::Goes;
+        told(self.changes.begin(list, self.walk.look()))
+    }
+
+    // Tells the end, behind the last one.
+    fn end(&mut self, list: &mut Vec<Change>) -> Told {
+        self.stage = Stage::Ended;
+        let last = self.walk.next_event().saturating_add(1);
+        told(self.changes.end(list, self.walk.look(), last))
+    }
+
+    fn go_on(&mut self, list: &mut Vec<Change>) -> Told {
+        match self.stage {
+            Stage::Begins => self.begin(list),
+            Stage::Goes => self.walk_on(list),
+            Stage::Ends => self.end(list),
+            Stage::Ended => Told::End,
+        }
+    }
+}
+
+impl Teller for Telling {
+    fn next(&mut self, changes: &mut Vec<Change>) -> Told {
+        self.go_on(changes)
+    }
+}
+
+// Why a run stopped, with the fault that the walk met.
+fn end_of(stop: RunStop, fault: Option<InputFault>) -> TraceEnd {
+    match (stop, fault) {
+        (RunStop::Fault, Some(fault)) => TraceEnd::AtFault(fault),
+        (RunStop::Trace(TraceStop::WriteFailed(fault)), _) => TraceEnd::WriteFailed(fault),
+        _ => TraceEnd::NoMemory,
+    }
+}
+
+fn trace_walk<W: Sink>(
+    alloc: Global,
+    walk: Walk<AnyDevice>,
+    changes: Changes,
+    sink: &mut W,
+) -> Result<(), TraceEnd>
+    ensures { OnOk result (IsTraced W.takes sink.old sink.new) }
+{
+    // The begin, the end, and that there is no more are a call each.
+    let calls = walk.event_count().saturating_add(4);
+    let mut telling = Telling {
+        walk,
+        changes,
+        marks: Vec::new(alloc),
+        stage: Stage::Begins,
+        fault: None,
+    };
+    match trace_run(alloc, &mut telling, calls, sink) {
+        Ok(()) => Ok(()),
+        Err(stop) => Err(end_of(stop, telling.fault)),
+    }
+}
+
+/// Traces the run of a journal, on a machine with the devices and the image, to a sink.
+///
+/// # Errors
+///
+/// The first fault, as a replay reports it; memory was refused; or a write failed.
+pub fn trace_journal<W: Sink>(
+    alloc: Global,
+    image: Option<&Image>,
+    devices: Devices<AnyDevice>,
+    journal: &str,
+    sink: &mut W,
+) -> Result<(), TraceEnd>
+    ensures { OnOk result (IsTraced W.takes sink.old sink.new) }
+{
+    let walk = match Walk::start(alloc, image, devices, journal) {
+        Ok(walk) => walk,
+        Err(WalkStop::AtFault(fault)) => return Err(TraceEnd::AtFault(fault)),
+        Err(WalkStop::NoMemory) => return Err(TraceEnd::NoMemory),
+    };
+    match Changes::new(alloc) {
+        Ok(changes) => trace_walk(alloc, walk, changes, sink),
+        Err(_) => Err(TraceEnd::NoMemory),
+    }
+}

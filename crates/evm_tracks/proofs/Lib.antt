@@ -1,0 +1,4 @@
+pub mod Lines
+pub mod Follows
+pub mod Traces
+pub mod Telling

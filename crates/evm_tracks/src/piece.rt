@@ -1,0 +1,53 @@
+//! The constant parts of the text of a record.
+
+ghost use Rattle.std.specs.Prelude.{◌≡◌};
+ghost use Rattle.evm_tracks.specs.Templates.{piece_text};
+
+/// A constant part of the text of a record, named by what comes behind it.
+#[derive(Clone, Copy)]
+pub(crate) enum Piece {
+    Phase,
+    Process,
+    Thread,
+    Tick,
+    Name,
+    Duration,
+    End,
+    ProcessName,
+    ThreadName,
+    SortIndex,
+    NameEnd,
+    CountEnd,
+    Times,
+    RankOf,
+    Rank,
+    Flow,
+    FlowEnd,
+}
+
+impl Piece {
+    #[tactic(auto, unfolding(crate::specs::Templates::piece_text))]
+    pub(crate) fn text(self) -> &'static str
+        ensures { result.now ≡ piece_text self }
+    {
+        match self {
+            Piece::Phase => ",\n{\"ph\":\"",
+            Piece::Process => "\",\"pid\":",
+            Piece::Thread => ",\"tid\":",
+            Piece::Tick => ",\"ts\":",
+            Piece::Name => ",\"name\":\"",
+            Piece::Duration => "\",\"dur\":",
+            Piece::End => "}",
+            Piece::ProcessName => ",\"name\":\"process_name\",\"args\":{\"name\":\"",
+            Piece::ThreadName => ",\"name\":\"thread_name\",\"args\":{\"name\":\"",
+            Piece::SortIndex => ",\"name\":\"thread_sort_index\",\"args\":{\"sort_index\":",
+            Piece::NameEnd => "\"}}",
+            Piece::CountEnd => "}}",
+            Piece::Times => "\",\"s\":\"t\",\"args\":{\"times\":",
+            Piece::RankOf => ",\"name\":\"rank of ",
+            Piece::Rank => "\",\"args\":{\"rank\":",
+            Piece::Flow => "\",\"cat\":\"flow\",\"id\":",
+            Piece::FlowEnd => ",\"bp\":\"e\"}",
+        }
+    }
+}
