@@ -1,0 +1,26 @@
+//! A hunt: many schedules of a program, each failure once, and the shortest list of events that makes it.
+#![tactic(auto)]
+
+mod found;
+mod hunting;
+mod key;
+mod listing;
+mod ordering;
+mod reporting;
+mod script;
+mod shortening;
+mod switching;
+
+pub use evm_schedules::{BeginFault, Boot, Errors, Failure, Inversion, Machine, Watch, Way};
+pub use found::{Found, Tried, replayed, try_schedule};
+pub use hunting::{Plan, Report, Row, Span, hunt};
+pub use key::{Key, kind_name};
+pub use listing::Events;
+pub use ordering::{Cycle, Orders};
+pub use reporting::report_text;
+pub use script::{journal_text, script_text};
+pub use shortening::{Stop, first_length, shorten};
+pub use switching::{Switching, hunt_all};
+
+#[cfg(test)]
+mod tests;

@@ -1,0 +1,72 @@
+//! What a hunt prints.
+
+use crate::hunting::{Report, Row, Span};
+use crate::key::Key;
+use evm_journal::{push_decimal, push_hexadecimal_padded};
+use evm_room::{NoMemory, Refused, push_text};
+use std::alloc::Global;
+
+/// Appends the kind and the place of a failure.
+pub(crate) fn push_key(out: &mut String, key: &Key) -> Result<(), Refused> {
+    push_text(out, key.kind)?;
+    push_text(out, " ")?;
+    push_hexadecimal_padded(out, 8, key.place)
+}
+
+// Appends a word and a number.
+fn push_number(out: &mut String, word: &str, number: u64) -> Result<(), Refused> {
+    push_text(out, word)?;
+    push_decimal(out, number)
+}
+
+// Appends the line of a failure.
+fn push_row(out: &mut String, row: &Row) -> Result<(), Refused> {
+    push_key(out, &row.key)?;
+    if let Some(other) = row.other {
+        push_text(out, " with ")?;
+        push_hexadecimal_padded(out, 8, other)?;
+    }
+    push_number(out, " seed ", row.seed)?;
+    push_number(out, " events ", row.events)?;
+    push_text(out, "\n")
+}
+
+// Appends which schedules were looked at.
+fn push_span(out: &mut String, span: Span) -> Result<(), Refused> {
+    match span {
+        Span::Seeds(first, last) => {
+            push_number(out, "seeds ", first)?;
+            push_number(out, " to ", last)
+        }
+        Span::Switches(most) => push_number(out, "switches ", u64::from(most)),
+    }
+}
+
+// Appends the last line: how many schedules were looked at, of how many events, and how many of them ended with a full journal.
+fn push_counts(out: &mut String, report: &Report, span: Span) -> Result<(), Refused> {
+    push_span(out, span)?;
+    push_number(out, ": schedules ", report.schedules)?;
+    push_number(out, " events ", report.events)?;
+    push_number(out, " full ", report.full)?;
+    push_text(out, if report.cut { " cut\n" } else { "\n" })
+}
+
+fn push_report(out: &mut String, report: &Report, span: Span) -> Result<(), Refused> {
+    for row in &report.rows {
+        push_row(out, row)?;
+    }
+    push_counts(out, report, span)
+}
+
+/// A line for each failure, `KIND PLACE seed S events N`, and a last line with the number of schedules.
+///
+/// # Errors
+///
+/// Memory was refused.
+pub fn report_text(alloc: Global, report: &Report, span: Span) -> Result<String, NoMemory> {
+    let mut text = String::new(alloc);
+    match push_report(&mut text, report, span) {
+        Ok(()) => Ok(text),
+        Err(_) => Err(NoMemory),
+    }
+}

@@ -1,0 +1,213 @@
+//! A run of the program, from its words to its exit status.
+
+use crate::words::{Options, Search, options_of, parse};
+use clap::Error;
+use clap::error::ErrorKind;
+use evm_host::{
+    Ending, FAILED, Message, System, USAGE, WordsFault, World, ended, failed_write_message,
+    host_world, image_at, memory_refused, not_created, report, words_not_read, words_of, write_all,
+};
+use evm_hunt::{
+    BeginFault, Found, Plan, Report, Span, Stop, Switching, Way, first_length, hunt, hunt_all,
+    journal_text, report_text, script_text,
+};
+use evm_image::Image;
+use std::alloc::Global;
+
+/// The name in front of messages that are about no file.
+const PROGRAM: &str = "evlhunt";
+
+/// The status of a hunt that has found a failure.
+const FOUND: u8 = 1;
+
+/// The status where the file is no image that can be loaded.
+const NO_IMAGE: u8 = 3;
+
+// Writes a text to standard output; the status is the one that is given if all of it is written.
+fn show<S: System>(text: &str, status: u8, world: &mut World<S>) -> u8 {
+    match write_all(&mut world.output, text.as_bytes()) {
+        Ok(()) => status,
+        Err(fault) => ended(PROGRAM, &Ending::WriteFailed(fault), &mut world.errors),
+    }
+}
+
+// Writes what is wrong with the words.
+fn blame<S: System>(text: &str, world: &mut World<S>) -> u8 {
+    match write_all(&mut world.errors, text.as_bytes()) {
+        Ok(()) => USAGE,
+        Err(_) => FAILED,
+    }
+}
+
+// Ends a run whose words are no command, or ask for help or the version.
+fn refuse<S: System>(alloc: Global, error: &Error, world: &mut World<S>) -> u8 {
+    let Ok(text) = format!(in alloc; "{error}") else {
+        return memory_refused(PROGRAM, world);
+    };
+    match error.kind() {
+        ErrorKind::DisplayHelp | ErrorKind::DisplayVersion => show(text.as_str(), 0, world),
+        ErrorKind::OutOfMemory => memory_refused(PROGRAM, world),
+        _ => blame(text.as_str(), world),
+    }
+}
+
+// Creates a file and writes a text to it.
+fn write_file<S: System>(path: &str, text: &str, world: &mut World<S>) -> Result<(), u8> {
+    let mut file = match world.files.create(path) {
+        Ok(file) => file,
+        Err(fault) => return Err(not_created(path, fault, &mut world.errors)),
+    };
+    match write_all(&mut file, text.as_bytes()) {
+        Ok(()) => Ok(()),
+        Err(fault) => {
+            let message = Message::Plain(failed_write_message(fault.cause));
+            report(path, message, &mut world.errors);
+            Err(FAILED)
+        }
+    }
+}
+
+// Writes the journal and the script of the shortest.
+fn write_files<S: System>(
+    alloc: Global,
+    name: &str,
+    found: &Found,
+    seed: u64,
+    world: &mut World<S>,
+) -> Result<(), u8> {
+    let (Ok(journal), Ok(script)) = (journal_text(alloc, found), script_text(alloc, found, seed))
+    else {
+        return Err(memory_refused(PROGRAM, world));
+    };
+    let (Ok(journal_path), Ok(script_path)) = (
+        format!(in alloc; "{name}.journal"),
+        format!(in alloc; "{name}.script"),
+    ) else {
+        return Err(memory_refused(PROGRAM, world));
+    };
+    write_file(journal_path.as_str(), journal.as_str(), world)?;
+    write_file(script_path.as_str(), script.as_str(), world)
+}
+
+// Writes what a hunt came to.
+fn tell<S: System>(
+    alloc: Global,
+    options: &Options<'_>,
+    span: Span,
+    report: &Report,
+    world: &mut World<S>,
+) -> u8 {
+    let mut status = if report.rows.is_empty() { 0 } else { FOUND };
+    if let Some(found) = &report.shortest {
+        if let Some(name) = options.out
+            && let Err(failed) = write_files(alloc, name, found, report.seed, world)
+        {
+            status = failed;
+        }
+    }
+    if status > FOUND {
+        return status;
+    }
+    match report_text(alloc, report, span) {
+        Ok(text) => show(text.as_str(), status, world),
+        Err(_) => memory_refused(PROGRAM, world),
+    }
+}
+
+// Reports why a hunt has ended early.
+fn stopped<S: System>(path: &str, stop: Stop, world: &mut World<S>) -> u8 {
+    match stop {
+        Stop::NoMemory | Stop::NoMachine(BeginFault::NoMemory) => memory_refused(PROGRAM, world),
+        Stop::NoMachine(BeginFault::PastRam) => {
+            let message = Message::Plain("memory of a segment lies past RAM: see --ram");
+            report(path, message, &mut world.errors);
+            NO_IMAGE
+        }
+        Stop::NoMachine(BeginFault::BadSize) => {
+            let message = Message::Plain("--ram is no multiple of 4096");
+            report(PROGRAM, message, &mut world.errors);
+            USAGE
+        }
+    }
+}
+
+// Looks at schedules that are chosen by seeds.
+fn hunt_seeds(
+    alloc: Global,
+    options: &Options<'_>,
+    image: &Image,
+    points: Option<u8>,
+) -> Result<Report, Stop> {
+    let way = match points {
+        None => Way::Random,
+        Some(points) => Way::Priorities {
+            points,
+            length: first_length(alloc, image, &options.boot, &options.watch)?,
+        },
+    };
+    let plan = Plan {
+        way,
+        first: options.first,
+        last: options.last,
+        orders: options.orders,
+    };
+    hunt(alloc, image, &options.boot, &options.watch, &plan)
+}
+
+// Looks at the schedules of the options.
+fn hunt_by(alloc: Global, options: &Options<'_>, image: &Image) -> Result<Report, Stop> {
+    match options.search {
+        Search::Random => hunt_seeds(alloc, options, image, None),
+        Search::Pct(points) => hunt_seeds(alloc, options, image, Some(points)),
+        Search::All(switches) => {
+            let bounds = Switching {
+                switches,
+                schedules: options.most,
+                orders: options.orders,
+            };
+            hunt_all(alloc, image, &options.boot, &options.watch, &bounds)
+        }
+    }
+}
+
+// Hunts in an image.
+fn hunt_in<S: System>(
+    alloc: Global,
+    options: &Options<'_>,
+    image: &Image,
+    world: &mut World<S>,
+) -> u8 {
+    let span = match options.search {
+        Search::Random | Search::Pct(_) => Span::Seeds(options.first, options.last),
+        Search::All(switches) => Span::Switches(switches),
+    };
+    match hunt_by(alloc, options, image) {
+        Ok(report) => tell(alloc, options, span, &report, world),
+        Err(stop) => stopped(options.image, stop, world),
+    }
+}
+
+/// Does what the words ask for, and returns the exit status.
+pub fn answer<S: System>(alloc: Global, words: &[String], world: &mut World<S>) -> u8 {
+    let matches = match parse(alloc, words) {
+        Ok(matches) => matches,
+        Err(error) => return refuse(alloc, &error, world),
+    };
+    let Some(options) = options_of(&matches) else {
+        return USAGE;
+    };
+    match image_at(alloc, options.image, world) {
+        Ok(image) => hunt_in(alloc, &options, &image, world),
+        Err(status) => status,
+    }
+}
+
+/// Runs the program on the words of its command line, and returns the exit status.
+pub fn run(rt: &HostRuntime) -> u8 {
+    let mut world = host_world(rt);
+    match words_of(rt) {
+        Ok(words) => answer(rt.alloc(), words.as_slice(), &mut world),
+        Err(WordsFault::NotText) => words_not_read(PROGRAM, &mut world),
+        Err(WordsFault::NoMemory) => memory_refused(PROGRAM, &mut world),
+    }
+}

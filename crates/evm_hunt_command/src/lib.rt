@@ -1,0 +1,12 @@
+//! The command line of `evlhunt`, from its words to the exit status, over a system that opens files and has three streams.
+#![tactic(auto)]
+
+mod command;
+mod help;
+mod words;
+
+pub use command::{answer, run};
+pub use words::{Options, Search};
+
+#[cfg(test)]
+mod tests;

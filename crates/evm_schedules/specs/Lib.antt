@@ -1,0 +1,4 @@
+pub mod Beginning
+pub mod Eves
+pub mod Failures
+pub mod Runs

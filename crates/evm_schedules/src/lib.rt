@@ -1,0 +1,32 @@
+//! Schedules of a machine: what may come next, what is chosen by a seed, and when a run has failed.
+#![tactic(auto)]
+
+mod beginning;
+mod calls;
+mod chooser;
+mod devices;
+mod eve;
+mod failure;
+mod lines;
+mod looks;
+mod monitor;
+mod random;
+mod running;
+mod waking;
+mod watch;
+
+pub use beginning::{BeginFault, begin};
+pub use chooser::{Chooser, POINT_LIMIT, Way};
+pub use devices::program_devices;
+pub use evm_core::{Boot, Machine};
+pub use evm_devs::AnyDevice;
+pub use evm_model::{Event, NoBytes};
+pub use failure::{Failure, place_of};
+pub use looks::is_deadlock;
+pub use monitor::Monitor;
+pub use running::{Outcome, advance, play, run};
+pub use waking::{Awake, awake_processors, is_over};
+pub use watch::{Errors, Inversion, Watch};
+
+#[cfg(test)]
+mod tests;

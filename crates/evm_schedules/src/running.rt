@@ -1,0 +1,83 @@
+//! Runs: a schedule on a machine, up to a failure.
+
+ghost use Rattle.std.specs.Prelude.{◌≡◌, OnErr, IfOk, IfSome};
+ghost use Rattle.evm_model.specs.Replay.{IsReplayOf};
+ghost use Rattle.evm_model.specs.State.{State};
+ghost use Rattle.evm_schedules.specs.Runs.{Ends, HasFailed};
+
+use crate::chooser::Chooser;
+use crate::eve::{eve_of, looked};
+use crate::failure::Failure;
+use crate::monitor::Monitor;
+use crate::watch::Watch;
+use evm_core::{Machine, Refusal};
+use evm_devs::AnyDevice;
+use evm_model::{Event, NoBytes};
+
+/// How a run ended.
+#[derive(Clone, Copy, Debug, PartialEq, Eq)]
+pub enum Outcome {
+    /// The machine has failed, by its last event.
+    Failed(Failure),
+    /// Nothing more can happen, or all events of the list were made.
+    Over,
+    /// The journal is full: a bound, and no failure.
+    Full,
+}
+
+/// One event, and the failure that it has made, if that is looked for. A machine that is its journal's replay stays so.
+///
+/// # Errors
+///
+/// Why the event is refused; nothing is changed then.
+pub fn advance(
+    machine: &mut Machine<AnyDevice>,
+    event: Event<NoBytes>,
+    watch: &Watch,
+    monitor: &mut Monitor,
+) -> Result<Option<Failure>, Refusal>
+    ensures fails { IfOk result (λ failed. IfSome failed (λ failure. HasFailed watch.now.lines failure machine.new)) }
+    ensures unchanged { OnErr result (machine.new ≡ machine.old) }
+    ensures replays { (first : State) → IsReplayOf first machine.old → IsReplayOf first machine.new }
+{
+    let eve = eve_of(machine, event, watch);
+    match machine.apply(event.widen()) {
+        Ok(answer) => Ok(looked(machine, event, answer, &eve, watch, monitor)),
+        Err(refusal) => Err(refusal),
+    }
+}
+
+/// Makes events as they are chosen, up to the first failure that is watched for. A machine that is its journal's replay stays so.
+pub fn run(machine: &mut Machine<AnyDevice>, chooser: &mut Chooser, watch: &Watch) -> Outcome
+    ensures ends { Ends watch.now.lines result machine.new }
+    ensures replays { (first : State) → IsReplayOf first machine.old → IsReplayOf first machine.new }
+{
+    let mut monitor = Monitor::new();
+    'events: for _ in 0..machine.room() {
+        let Some(event) = chooser.next(machine) else {
+            return Outcome::Over;
+        };
+        match advance(machine, event, watch, &mut monitor) {
+            Ok(Some(failure)) => return Outcome::Failed(failure),
+            Ok(None) => {}
+            Err(_) => return Outcome::Full,
+        }
+    }
+    Outcome::Full
+}
+
+/// Makes the events of a list, up to the first failure that is watched for. A machine that is its journal's replay stays so.
+pub fn play(machine: &mut Machine<AnyDevice>, events: &[Event<NoBytes>], watch: &Watch) -> Outcome
+    ensures ends { Ends watch.now.lines result machine.new }
+    ensures replays { (first : State) → IsReplayOf first machine.old → IsReplayOf first machine.new }
+{
+    let mut monitor = Monitor::new();
+    'events: for event in events {
+        match advance(machine, *event, watch, &mut monitor) {
+            Ok(Some(failure)) => return Outcome::Failed(failure),
+            Ok(None) => {}
+            Err(_) => return Outcome::Full,
+        }
+    }
+    Outcome::Over
+}

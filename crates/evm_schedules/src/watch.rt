@@ -1,0 +1,137 @@
+//! What a hunt watches for.
+
+use evm_lines::LineSet;
+use evm_model::{Errno, NoticeKind};
+
+/// Which errors of calls are looked for.
+#[derive(Clone, Copy, Debug, PartialEq, Eq)]
+pub struct Errors {
+    /// -1.
+    pub eperm: bool,
+    /// -3.
+    pub esrch: bool,
+    /// -11.
+    pub eagain: bool,
+    /// -12.
+    pub enomem: bool,
+    /// -16.
+    pub ebusy: bool,
+    /// -22.
+    pub einval: bool,
+    /// -35.
+    pub edeadlk: bool,
+    /// -38.
+    pub enosys: bool,
+    /// -110.
+    pub etimedout: bool,
+}
+
+impl Errors {
+    /// None of them.
+    pub fn none() -> Errors {
+        Errors {
+            eperm: false,
+            esrch: false,
+            eagain: false,
+            enomem: false,
+            ebusy: false,
+            einval: false,
+            edeadlk: false,
+            enosys: false,
+            etimedout: false,
+        }
+    }
+
+    /// Whether an error is looked for.
+    pub fn contains(&self, error: Errno) -> bool {
+        match error {
+            Errno::NotPermitted => self.eperm,
+            Errno::NoSuchTask => self.esrch,
+            Errno::TryAgain => self.eagain,
+            Errno::NoNumber => self.enomem,
+            Errno::Busy => self.ebusy,
+            Errno::Invalid => self.einval,
+            Errno::Deadlock => self.edeadlk,
+            Errno::NoSuchCall => self.enosys,
+            Errno::TimedOut => self.etimedout,
+        }
+    }
+}
+
+/// A task of a greater rank that is kept from running while one of a lower rank runs.
+#[derive(Clone, Copy, Debug, PartialEq, Eq)]
+pub struct Inversion {
+    /// Tasks of a greater rank than this are looked at.
+    pub rank: u16,
+    /// For how many steps one may be kept back.
+    pub steps: u32,
+}
+
+/// Which failures end a run, and which lines come from outside.
+#[derive(Clone, Copy, Debug)]
+pub struct Watch {
+    /// A processor that stops at EBREAK.
+    pub ebreak: bool,
+    /// A task that ends by a fault.
+    pub fault: bool,
+    /// Tasks that wait for one another.
+    pub deadlock: bool,
+    /// A notice that a call demoted a task.
+    pub demoted_by_call: bool,
+    /// A notice that a fault demoted a task.
+    pub demoted_by_fault: bool,
+    /// A notice that a lock would never end.
+    pub never_ends: bool,
+    /// A notice that a task unlocked a mutex of another.
+    pub not_owner: bool,
+    /// Calls that are refused with one of these errors.
+    pub errors: Option<Errors>,
+    /// A line that is played though no task waits for it.
+    pub lost: bool,
+    /// A mutex that one task has for more than this number of ticks.
+    pub held: Option<u64>,
+    /// A task that is kept back by one of a lower rank.
+    pub inversion: Option<Inversion>,
+    /// The lines that a schedule may raise.
+    pub lines: LineSet,
+}
+
+impl Watch {
+    /// An EBREAK, a fault and a deadlock, with these lines.
+    pub fn usual(lines: LineSet) -> Watch {
+        Watch {
+            ebreak: true,
+            fault: true,
+            deadlock: true,
+            ..Watch::nothing(lines)
+        }
+    }
+
+    /// Nothing, with these lines.
+    pub fn nothing(lines: LineSet) -> Watch {
+        Watch {
+            ebreak: false,
+            fault: false,
+            deadlock: false,
+            demoted_by_call: false,
+            demoted_by_fault: false,
+            never_ends: false,
+            not_owner: false,
+            errors: None,
+            lost: false,
+            held: None,
+            inversion: None,
+            lines,
+        }
+    }
+
+    /// Whether a notice of a kind ends a run.
+    pub fn notices(&self, kind: NoticeKind) -> bool {
+        match kind {
+            NoticeKind::DemotedByCall => self.demoted_by_call,
+            NoticeKind::DemotedByFault => self.demoted_by_fault,
+            NoticeKind::Deadlock => self.never_ends,
+            NoticeKind::NotOwner => self.not_owner,
+        }
+    }
+}
