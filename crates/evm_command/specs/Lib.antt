@@ -1,9 +1,5 @@
 pub mod ProgramDevices
-pub mod Exit
-pub mod ImageMessages
 pub mod Jobs
-pub mod SourceMessages
 pub mod ThreadRuns
 pub mod Words
 pub mod Running
-pub mod Trusted

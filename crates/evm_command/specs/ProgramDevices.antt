@@ -1,7 +1,7 @@
 -- The devices of the program.
 use Rattle.std.specs.Prelude.{List, [], ◌∷◌}
 use Rattle.evm_dev.specs.declared.kind.Kind.TheVariants.{Console, Mailbox, Pins}
-use Rattle.evm_serve.specs.RunOptions.{Attached}
+use Rattle.evm_host.specs.evm_serve.RunOptions.{Attached}
 
 -- an empty console, an empty mailbox, and pins that are low
 abbrev pub program_devices : List Attached

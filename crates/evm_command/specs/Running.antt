@@ -1,25 +1,29 @@
 -- What a run of the program does, from the words of the command line to its exit status.
-use Rattle.std.specs.Prelude.{◌≡◌, ℕ, List, [], ◌⊎◌, Option, Some, None, Result}
-use Rattle.evm_serve.specs.evm_streams.declared.source.Reading.{Reading}
-use Rattle.evm_serve.specs.evm_streams.declared.source.ReadStop.TheVariants.{NoMemory}
-use Rattle.evm_serve.specs.evm_streams.declared.sink.Writing.{Writing}
-use Rattle.evm_serve.specs.evm_streams.Writes.{Took, TookPrefix}
+use Rattle.std.specs.Prelude.{◌≡◌, ℕ, List, [], ◌⊎◌, Option, Some, None, Result, codes}
+use Rattle.evm_host.specs.evm_serve.evm_streams.declared.source.Reading.{Reading}
+use Rattle.evm_host.specs.evm_serve.evm_streams.declared.source.ReadStop.TheVariants.{NoMemory}
+use Rattle.evm_host.specs.evm_serve.evm_streams.declared.sink.Writing.{Writing}
+use Rattle.evm_host.specs.evm_serve.evm_streams.Writes.{Took, TookPrefix}
 use Rattle.clap.specs.Words.{Text, IsAmong, fault_of, subcommand_of}
 use Rattle.clap.specs.declared.error.ErrorKind.{ErrorKind}
 use Rattle.clap.specs.declared.error.ErrorKind.TheVariants.{DisplayHelp, DisplayVersion, OutOfMemory}
-use Rattle.evm_serve.specs.RunOptions.{Attached}
-use Rattle.evm_serve.specs.Serving.{WritesAll}
-use Rattle.evm_serve.specs.declared.ending.Ending.{Ending}
-use Rattle.evm_serve.specs.declared.ending.Verdict.TheVariants.{Done}
-use Rattle.evm_command.specs.declared.command.WordsFault.{WordsFault}
-use Rattle.evm_command.specs.declared.command.WordsFault.TheVariants.{NotText}
-use Rattle.evm_command.specs.declared.command.WordsFault.TheVariants as faults
-use Rattle.evm_command.specs.declared.system.OpenFault.{OpenFault}
-use Rattle.evm_command.specs.declared.system.World.{World}
-use Rattle.evm_command.specs.Exit.{program_name, Ended}
-use Rattle.evm_command.specs.Jobs.{AsksNothing, NotWords, NotRead, AssemblesFile, Runs, Replays}
+use Rattle.evm_host.specs.evm_serve.RunOptions.{Attached}
+use Rattle.evm_host.specs.evm_serve.Serving.{WritesAll}
+use Rattle.evm_host.specs.evm_serve.declared.ending.Ending.{Ending}
+use Rattle.evm_host.specs.evm_serve.declared.ending.Verdict.TheVariants.{Done}
+use Rattle.evm_host.specs.declared.host.WordsFault.{WordsFault}
+use Rattle.evm_host.specs.declared.host.WordsFault.TheVariants.{NotText}
+use Rattle.evm_host.specs.declared.host.WordsFault.TheVariants as faults
+use Rattle.evm_host.specs.declared.system.OpenFault.{OpenFault}
+use Rattle.evm_host.specs.declared.system.World.{World}
+use Rattle.evm_host.specs.Asks.{AsksNothing, NotWords, NotRead}
+use Rattle.evm_host.specs.Exit.{Ended}
+use Rattle.evm_command.specs.Jobs.{AssemblesFile, Runs, Replays}
 use Rattle.evm_command.specs.ThreadRuns.{RunsFileByThreads, SaysNumber}
 use Rattle.evm_command.specs.Words.{Wanted, Assemble, Run, Replay, Threads, evltool, job_of}
+
+abbrev pub program_name : List ℕ
+program_name = codes "evltool"
 
 module _ {S O C I W E : Type 0} (writes : W → Writing → List ℕ → W → Type 0) (reports : E → Writing → List ℕ → E → Type 0) where
   -- Help or the version is written to standard output.
@@ -65,5 +69,5 @@ module _ {S O C I W E : Type 0} (opens : S → List ℕ → Result O OpenFault �
 module _ {S O C I W E : Type 0} (writes : W → Writing → List ℕ → W → Type 0) (reports : E → Writing → List ℕ → E → Type 0) where
   -- If there are no words, this is reported and nothing else is asked for.
   abbrev pub HasNoWords : WordsFault → World S O C I W E → World S O C I W E → ℕ → Type 0
-  HasNoWords NotText w w' status = NotWords reports w w' status
+  HasNoWords NotText w w' status = NotWords program_name reports w w' status
   HasNoWords faults.NoMemory w w' status = NotRead writes reports program_name NoMemory w w' status

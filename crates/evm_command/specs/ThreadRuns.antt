@@ -2,17 +2,17 @@
 use Rattle.std.specs.Prelude.{◌≡◌, ℕ, ◌<◌, ◌^◌, List, Result, codes}
 use Rattle.std.specs.Str.Parse.{IsNumeral, digits_value, without_leading_plus}
 use Rattle.evm_image.specs.Images.{Contents}
-use Rattle.evm_messages.specs.Diagnostic.{about, Reports}
-use Rattle.evm_serve.specs.RunOptions.{Attached}
-use Rattle.evm_serve.specs.evm_streams.declared.source.Reading.{Reading}
-use Rattle.evm_serve.specs.evm_streams.declared.sink.Writing.{Writing}
+use Rattle.evm_host.specs.evm_messages.Diagnostic.{about, Reports}
+use Rattle.evm_host.specs.evm_serve.RunOptions.{Attached}
+use Rattle.evm_host.specs.evm_serve.evm_streams.declared.source.Reading.{Reading}
+use Rattle.evm_host.specs.evm_serve.evm_streams.declared.sink.Writing.{Writing}
 use Rattle.evm_threads.specs.Runs.{Ends, loaded, status_of}
 use Rattle.evm_threads.specs.declared.outcome.RunEnding.{RunEnding}
 use Rattle.evm_threads.specs.declared.outcome.RunEnding.TheVariants.{Written, Incomplete, ImageRefused, NoMemory, WriteFailed}
-use Rattle.evm_command.specs.Exit.{failed_write_message, report_name}
-use Rattle.evm_command.specs.Jobs.{AsksNothing, Behind, Loads}
-use Rattle.evm_command.specs.declared.system.OpenFault.{OpenFault}
-use Rattle.evm_command.specs.declared.system.World.{World}
+use Rattle.evm_host.specs.Exit.{failed_write_message, report_name}
+use Rattle.evm_host.specs.Asks.{AsksNothing, Behind, Loads}
+use Rattle.evm_host.specs.declared.system.OpenFault.{OpenFault}
+use Rattle.evm_host.specs.declared.system.World.{World}
 
 -- The number that a word says, if it says one of 32 bits.
 abbrev pub SaysNumber : List ℕ → ℕ → Type 0

@@ -2,9 +2,10 @@
 
 ghost use Rattle.evm_command.specs.Jobs.{Creates, AssemblesFile};
 
-use crate::exit::{Known, ended_with, not_created, not_opened, not_read, report_out};
-use crate::system::{System, World};
-use evm_serve::{assemble_to, read_utf8};
+use evm_host::{
+    Known, System, World, assemble_to, ended_with, not_created, not_opened, not_read, read_utf8,
+    report_out,
+};
 use std::alloc::Global;
 
 // Creates OUT, and assembles the text of a source into it.

@@ -4,8 +4,8 @@ ghost use Rattle.std.specs.Prelude.{◌≡◌, IfOk};
 ghost use Rattle.evm_command.specs.ProgramDevices.{program_devices};
 
 use evm_devs::{AnyDevice, Console, MailRing, Pins};
+use evm_host::Devices;
 use evm_room::NoMemory;
-use evm_serve::Devices;
 use std::alloc::Global;
 
 /// The devices that the program attaches: a console, a mailbox and pins.

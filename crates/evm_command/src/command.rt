@@ -8,19 +8,23 @@ ghost use Rattle.evm_command.specs.Running.{Shows, Blames, Responds, Refuses, Do
 ghost use Rattle.evm_command.specs.Words.{wanted};
 
 use crate::assembling::assemble_file;
-use crate::exit::{FAILED, PROGRAM, USAGE, ended, memory_refused, words_not_read};
 use crate::replaying::replay;
 use crate::running::run;
-use crate::system::{System, World};
 use crate::threading::run_by_threads;
 use crate::words::{Job, job_of, parse};
 use clap::Error;
 use clap::error::ErrorKind;
 use evm_dev::Device;
-use evm_serve::{Devices, Ending, Verdict, write_all};
+use evm_host::{
+    Devices, Ending, FAILED, System, USAGE, Verdict, WordsFault, World, ended, memory_refused,
+    words_not_read, write_all,
+};
 use std::alloc::Global;
 use std::sync::Wait;
 use std::thread::Threads;
+
+/// The name in front of messages that are about no file.
+pub(crate) const PROGRAM: &str = "evltool";
 
 // Writes help or the version.
 fn show<S: System>(text: &str, world: &mut World<S>) -> u8
@@ -49,7 +53,7 @@ fn respond<S: System>(kind: ErrorKind, text: &str, world: &mut World<S>) -> u8
 {
     match kind {
         ErrorKind::DisplayHelp | ErrorKind::DisplayVersion => show(text, world),
-        ErrorKind::OutOfMemory => memory_refused(world),
+        ErrorKind::OutOfMemory => memory_refused(PROGRAM, world),
         _ => blame(text, world),
     }
 }
@@ -84,7 +88,7 @@ fn refuse<S: System>(alloc: Global, error: &Error, words: &[String], world: &mut
     let tip = tip(error.kind(), words);
     match format!(in alloc; "{error}{tip}") {
         Ok(text) => respond(error.kind(), text.as_str(), world),
-        Err(_) => memory_refused(world),
+        Err(_) => memory_refused(PROGRAM, world),
     }
 }
 
@@ -150,15 +154,6 @@ pub fn answer<S: System, D: Device, R: Threads + Wait + Sync>(
     }
 }
 
-/// Why the words of a command line are not read.
-#[derive(Clone, Copy, Debug, PartialEq, Eq)]
-pub enum WordsFault {
-    /// One of them is no text.
-    NotText,
-    /// Memory was refused.
-    NoMemory,
-}
-
 /// Does what the words ask for, or reports why they could not be read, and returns the exit status.
 pub fn answer_read<S: System, D: Device, R: Threads + Wait + Sync>(
     rt: &R,
@@ -171,7 +166,7 @@ pub fn answer_read<S: System, D: Device, R: Threads + Wait + Sync>(
 {
     match words {
         Ok(words) => answer(rt, alloc, words.as_slice(), devices, world),
-        Err(WordsFault::NotText) => words_not_read(world),
-        Err(WordsFault::NoMemory) => memory_refused(world),
+        Err(WordsFault::NotText) => words_not_read(PROGRAM, world),
+        Err(WordsFault::NoMemory) => memory_refused(PROGRAM, world),
     }
 }

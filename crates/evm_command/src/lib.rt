@@ -4,22 +4,17 @@
 mod assembling;
 mod attaching;
 mod command;
-mod exit;
 mod help;
-mod host;
-mod image_message;
-mod loading;
+mod program;
 mod replaying;
 mod running;
-mod source_message;
-mod system;
 mod threading;
 mod words;
 
 pub use attaching::devices;
-pub use command::{WordsFault, answer, answer_read};
-pub use host::{Host, host_world, run};
-pub use system::{OpenFault, System, World};
+pub use command::{answer, answer_read};
+pub use evm_host::host_world;
+pub use program::run;
 
 #[cfg(test)]
 mod tests;

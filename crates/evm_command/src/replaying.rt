@@ -2,12 +2,12 @@
 
 ghost use Rattle.evm_command.specs.Jobs.{ReplaysText, ReplaysJournal, Replays};
 
-use crate::exit::{Known, ended_with, not_opened, not_read};
-use crate::loading::image_at;
-use crate::system::{System, World};
 use evm_dev::Device;
+use evm_host::{
+    Devices, Known, RunOptions, System, World, ended_with, image_at, not_opened, not_read,
+    read_utf8, replay_text,
+};
 use evm_image::Image;
-use evm_serve::{Devices, RunOptions, read_utf8, replay_text};
 use std::alloc::Global;
 
 // Replays the text of a journal with devices and an image.

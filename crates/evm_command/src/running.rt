@@ -3,11 +3,10 @@
 ghost use Rattle.std.specs.Prelude.{option_copied};
 ghost use Rattle.evm_command.specs.Jobs.{ServesScript, ServesInput, RunsImage, Runs};
 
-use crate::exit::{Known, ended_with, not_read};
-use crate::loading::image_at;
-use crate::system::{System, World};
 use evm_dev::Device;
-use evm_serve::{Devices, RunOptions, read_all, run_script};
+use evm_host::{
+    Devices, Known, RunOptions, System, World, ended_with, image_at, not_read, read_all, run_script,
+};
 use std::alloc::Global;
 
 /// The name of the script in front of its lines.

@@ -2,7 +2,7 @@
 
 use crate::attaching::devices;
 use crate::command::answer;
-use crate::system::{OpenFault, System, World};
+use evm_host::{OpenFault, System, World};
 use std::alloc::Global;
 use std::cell::Cell;
 use std::io::{self, Error, ErrorKind, Read, Write};

@@ -3,13 +3,11 @@
 ghost use Rattle.std.specs.Prelude.{◌≡◌};
 ghost use Rattle.evm_command.specs.ThreadRuns.{ExplainsRun, RunsByThreads, RunsFileByThreads};
 
-use crate::exit::{OUTPUT, failed_write_message};
-use crate::loading::image_at;
-use crate::system::{System, World};
 use evm_dev::Device;
+use evm_host::{
+    Devices, Message, OUTPUT, Sink, System, World, failed_write_message, image_at, report,
+};
 use evm_image::Image;
-use evm_messages::{Message, report};
-use evm_serve::{Devices, Sink};
 use evm_threads::{Blanks, RunEnding, threads_to};
 use std::alloc::Global;
 use std::sync::Wait;

@@ -1,4 +1,4 @@
-//! Runs the worked rows and the examples in its folder, as `evltool` runs them. Each line of the file STAGES names a
+//! Runs the worked rows and the examples in its folder, as `evltool` runs them. Each line of the file FOLDERS names a
 //! folder, and each line of the file INDEX in it is a row; each line of `examples/LIST` is an example. A line is printed for
 //! each that does not give the text and the status that are wanted, and at the end one that counts the rows and the examples.
 #![tactic(auto)]
@@ -85,8 +85,8 @@ fn report_examples(rt: &(impl Files + Print + AllocGlobal)) -> io::Result<usize>
 }
 
 fn main(rt: HostRuntime) -> io::Result<()> {
-    let stages = fs::read_to_string(&rt, "STAGES")?;
-    let folders: Vec<&str> = stages.lines().collect(rt.alloc())?;
+    let list = fs::read_to_string(&rt, "FOLDERS")?;
+    let folders: Vec<&str> = list.lines().collect(rt.alloc())?;
     let mut count = 0usize;
     for folder in &folders {
         count = count.saturating_add(report_folder(&rt, folder)?);

@@ -2,8 +2,7 @@
 
 use crate::attaching::devices;
 use crate::command::answer;
-use crate::system::{OpenFault, System, World};
-use evm_serve::write_bytes;
+use evm_host::{OpenFault, System, World, write_bytes};
 use std::alloc::Global;
 use std::process::Abort;
 use std::sync::Wait;
