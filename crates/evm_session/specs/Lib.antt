@@ -1,0 +1,4 @@
+pub mod Sitting
+pub mod Scripted
+pub mod Laws
+pub mod Bench
