@@ -1,0 +1,6 @@
+pub mod Sitting
+pub mod Scripted
+pub mod Laws
+pub mod Bench
+pub use Rattle.evm_diagnostics.specs.evm_core as evm_core
+pub use Rattle.evm_diagnostics.specs.evm_debug as evm_debug

@@ -1,0 +1,27 @@
+//! A machine that lines of a script drive, one at a time, with the lines that made it what it is.
+#![tactic(auto)]
+
+mod bench;
+mod booting;
+mod devices;
+mod laws;
+mod plain;
+mod running;
+mod script;
+mod session;
+mod stop;
+
+pub use bench::Bench;
+pub use evm_devs::AnyDevice;
+pub use evm_diagnostics::{
+    Boot, Devices, InputFault, Line, Machine, Refusal, View, event_cpu, fault_detail, read_line,
+    view_cpu, write_journal,
+};
+pub use laws::text_is_script;
+pub use plain::PlainLine;
+pub use script::script_text;
+pub use session::Session;
+pub use stop::Stop;
+
+#[cfg(test)]
+mod tests;

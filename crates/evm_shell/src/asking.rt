@@ -1,0 +1,233 @@
+//! Commands that look at the machine and leave it as it is.
+
+use crate::answers::put_place;
+use crate::changes::{put_changes, put_harts, put_owners};
+use crate::numbers::address_of;
+use crate::page::Page;
+use crate::plain::put_plain;
+use crate::shell::{Outcome, Shell, Watch};
+use crate::show::{numbers_of, put_numbers};
+use crate::snapshot::{Snapshot, push};
+use evm_room::NoMemory;
+use evm_session::{AnyDevice, Line, Machine, read_line};
+use evm_symbols::{SymbolTable, Symbols};
+use std::alloc::Global;
+
+/// The most watches.
+const MOST_WATCHES: usize = 16;
+
+const EXPECT_FORM: &str = "bad line: wanted `expect VIEW is TEXT` or `expect VIEW has TEXT`";
+
+const WATCH_FORM: &str = "bad line: wanted `watch ADDRESS`, of up to 16 words of 8 bytes in RAM";
+
+const SHOW_FORM: &str =
+    "bad line: wanted `show ADDRESS as TYPE` or `TYPE[N]`, of u8 to u64 or s8 to s64, inside RAM";
+
+const MARK_FORM: &str = "bad line: wanted `mark`";
+
+const DIFF_FORM: &str = "bad line: wanted `diff`, after a `mark`";
+
+const WHERE_FORM: &str = "bad line: wanted `where ADDRESS`";
+
+const SYMBOLS_FORM: &str = "bad line: wanted `symbols`";
+
+// The word of 8 bytes at an address.
+fn word_at(machine: &Machine<AnyDevice>, address: u64) -> Option<u64> {
+    let bytes = machine.bytes(address, 8)?;
+    let mut value = 0u64;
+    for byte in bytes.iter().rev() {
+        value = value.wrapping_mul(256).wrapping_add(u64::from(*byte));
+    }
+    Some(value)
+}
+
+// A view, how its text is compared, and with what.
+fn expected(rest: &str) -> Option<(&str, bool, &str)> {
+    if let Some((view, text)) = rest.split_once(" is ") {
+        return Some((view, true, text));
+    }
+    let (view, text) = rest.split_once(" has ")?;
+    Some((view, false, text))
+}
+
+fn put_watch(
+    page: &mut Page,
+    symbols: &Symbols,
+    watch: &Watch,
+    new: Option<u64>,
+) -> Result<(), NoMemory> {
+    page.put("  ")?;
+    put_place(page, symbols, watch.address)?;
+    page.put(" ")?;
+    page.put_decimal(watch.value.unwrap_or(0))?;
+    page.put(" -> ")?;
+    page.put_decimal(new.unwrap_or(0))?;
+    page.put("\n")
+}
+
+impl Shell<'_> {
+    /// Says which watched words have changed.
+    pub(crate) fn tell_watches(&mut self, page: &mut Page) -> Result<(), NoMemory> {
+        let Some(machine) = self.bench.machine() else {
+            return Ok(());
+        };
+        for watch in self.watches.iter_mut() {
+            let new = word_at(machine, watch.address);
+            if new != watch.value {
+                put_watch(page, &self.symbols, watch, new)?;
+                watch.value = new;
+            }
+        }
+        Ok(())
+    }
+
+    /// `watch ADDRESS`: from now on each change of a word of 8 bytes is said.
+    pub(crate) fn watch(&mut self, rest: &str, page: &mut Page) -> Result<Outcome, NoMemory> {
+        let Some(address) = address_of(&self.symbols, rest) else {
+            return Ok(Outcome::Wanted(WATCH_FORM));
+        };
+        let Some(machine) = self.bench.machine() else {
+            return Ok(Outcome::NotBooted);
+        };
+        let value = word_at(machine, address);
+        if value.is_none() || self.watches.len() >= MOST_WATCHES {
+            return Ok(Outcome::Wanted(WATCH_FORM));
+        }
+        push(&mut self.watches, Watch { address, value })?;
+        page.put("  ")?;
+        put_place(page, &self.symbols, address)?;
+        page.put(" is ")?;
+        page.put_decimal(value.unwrap_or(0))?;
+        page.put("\n")?;
+        Ok(Outcome::Said)
+    }
+
+    /// `expect VIEW is TEXT`: whether the text of a view is this, or has it.
+    pub(crate) fn expect(
+        &mut self,
+        alloc: Global,
+        number: u64,
+        rest: &str,
+        page: &mut Page,
+    ) -> Result<Outcome, NoMemory> {
+        let Some((view, whole, wanted)) = expected(rest) else {
+            return Ok(Outcome::Wanted(EXPECT_FORM));
+        };
+        let mut line = Page::new(alloc);
+        put_plain(&mut line, &self.symbols, view)?;
+        let Ok(Line::Look(_)) = read_line(line.bytes()) else {
+            return Ok(Outcome::Wanted(EXPECT_FORM));
+        };
+        let mut seen = Page::new(alloc);
+        if !self.run_plain(alloc, number, line.bytes(), &mut seen)? {
+            page.put_bytes(seen.bytes())?;
+            return Ok(Outcome::Said);
+        }
+        self.compare(seen.bytes(), whole, wanted, page)?;
+        Ok(Outcome::Said)
+    }
+
+    fn compare(
+        &mut self,
+        seen: &[u8],
+        whole: bool,
+        wanted: &str,
+        page: &mut Page,
+    ) -> Result<(), NoMemory> {
+        let met = match std::str::from_utf8(seen) {
+            Ok(text) if whole => text.trim_end() == wanted,
+            Ok(text) => text.contains(wanted),
+            Err(_) => false,
+        };
+        if met {
+            return page.put("  as expected\n");
+        }
+        self.failed = true;
+        page.put_bytes(seen)?;
+        page.put("  differs\n")
+    }
+
+    /// `show ADDRESS as TYPE[N]`: what RAM holds, as numbers.
+    pub(crate) fn show(&mut self, rest: &str, page: &mut Page) -> Result<Outcome, NoMemory> {
+        let Some(numbers) = numbers_of(&self.symbols, rest) else {
+            return Ok(Outcome::Wanted(SHOW_FORM));
+        };
+        let Some(machine) = self.bench.machine() else {
+            return Ok(Outcome::NotBooted);
+        };
+        page.put(" ")?;
+        if !put_numbers(page, machine, numbers)? {
+            page.put("\n")?;
+            return Ok(Outcome::Wanted(SHOW_FORM));
+        }
+        page.put("\n")?;
+        Ok(Outcome::Said)
+    }
+
+    /// `mark`: what `diff` compares with.
+    pub(crate) fn set_mark(&mut self, alloc: Global, rest: &str) -> Result<Outcome, NoMemory> {
+        if !rest.is_empty() {
+            return Ok(Outcome::Wanted(MARK_FORM));
+        }
+        let Some(machine) = self.bench.machine() else {
+            return Ok(Outcome::NotBooted);
+        };
+        self.mark = Some(Snapshot::of(alloc, machine)?);
+        Ok(Outcome::Said)
+    }
+
+    /// `diff`: what has changed since the last `mark`.
+    pub(crate) fn diff(&mut self, rest: &str, page: &mut Page) -> Result<Outcome, NoMemory> {
+        let Some(machine) = self.bench.machine() else {
+            return Ok(Outcome::NotBooted);
+        };
+        let Some(mark) = &self.mark else {
+            return Ok(Outcome::Wanted(DIFF_FORM));
+        };
+        if !rest.is_empty() {
+            return Ok(Outcome::Wanted(DIFF_FORM));
+        }
+        page.put("  ")?;
+        page.put_decimal(machine.event_count().saturating_sub(mark.events))?;
+        page.put(" events, ")?;
+        page.put_decimal(machine.ticks().saturating_sub(mark.ticks))?;
+        page.put(" ticks\n")?;
+        put_changes(page, &self.symbols, machine, mark)?;
+        put_owners(page, machine, mark)?;
+        put_harts(page, &self.symbols, machine, mark)?;
+        Ok(Outcome::Said)
+    }
+
+    /// `where ADDRESS`: an address by number and by name.
+    pub(crate) fn place(&mut self, rest: &str, page: &mut Page) -> Result<Outcome, NoMemory> {
+        let Some(address) = address_of(&self.symbols, rest) else {
+            return Ok(Outcome::Wanted(WHERE_FORM));
+        };
+        page.put("  ")?;
+        page.put_hexadecimal(address)?;
+        page.put(" ")?;
+        put_place(page, &self.symbols, address)?;
+        page.put("\n")?;
+        Ok(Outcome::Said)
+    }
+
+    /// `symbols`: the names that the image has.
+    pub(crate) fn list(&mut self, rest: &str, page: &mut Page) -> Result<Outcome, NoMemory> {
+        if !rest.is_empty() {
+            return Ok(Outcome::Wanted(SYMBOLS_FORM));
+        }
+        match self.symbols.table() {
+            SymbolTable::Absent => page.put("  the image has no symbol table\n")?,
+            SymbolTable::Damaged => page.put("  the image has a damaged symbol table\n")?,
+            SymbolTable::Read => {}
+        }
+        for symbol in self.symbols.symbols() {
+            page.put("  ")?;
+            page.put_hexadecimal(symbol.value())?;
+            page.put(" ")?;
+            page.put(symbol.name())?;
+            page.put("\n")?;
+        }
+        Ok(Outcome::Said)
+    }
+}

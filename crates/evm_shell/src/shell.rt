@@ -1,0 +1,132 @@
+//! The shell: a line, and what it answers.
+
+use crate::help::HELP;
+use crate::page::Page;
+use crate::snapshot::Snapshot;
+use crate::words::cut_word;
+use evm_image::Image;
+use evm_room::NoMemory;
+use evm_session::Bench;
+use evm_symbols::Symbols;
+use std::alloc::Global;
+
+/// A word of RAM that is watched: its address, and what it was.
+#[derive(Clone, Copy, Debug)]
+pub(crate) struct Watch {
+    pub address: u64,
+    pub value: Option<u64>,
+}
+
+/// A shell over a bench.
+#[derive(Drop)]
+pub struct Shell<'a> {
+    pub(crate) bench: Bench<'a>,
+    pub(crate) image: &'a Image,
+    pub(crate) symbols: Symbols,
+    pub(crate) mark: Option<Snapshot>,
+    pub(crate) watches: Vec<Watch>,
+    pub(crate) failed: bool,
+}
+
+/// What came of a command.
+#[derive(Clone, Copy, Debug, PartialEq, Eq)]
+pub(crate) enum Outcome {
+    /// It was done, or the page says why not.
+    Said,
+    /// It is misspelt: this form is wanted.
+    Wanted(&'static str),
+    /// No machine is booted.
+    NotBooted,
+}
+
+impl<'a> Shell<'a> {
+    /// A shell for an image, with the symbols of its file.
+    pub fn new(alloc: Global, image: &'a Image, symbols: Symbols) -> Self {
+        Shell {
+            bench: Bench::new(image),
+            image,
+            symbols,
+            mark: None,
+            watches: Vec::new(alloc),
+            failed: false,
+        }
+    }
+
+    /// Whether a line was not done, or an expectation was not met.
+    pub fn has_failed(&self) -> bool {
+        self.failed
+    }
+
+    /// The bench, which has the machine and the lines of a script that made it.
+    pub fn bench(&self) -> &Bench<'a> {
+        &self.bench
+    }
+
+    // A command, from its keyword and the words behind it.
+    fn command(
+        &mut self,
+        alloc: Global,
+        number: u64,
+        text: &str,
+        page: &mut Page,
+    ) -> Result<Outcome, NoMemory> {
+        let (keyword, rest) = cut_word(text);
+        match keyword {
+            "each" => self.each(alloc, number, rest, page),
+            "until" => self.until(alloc, number, rest, page),
+            "expect" => self.expect(alloc, number, rest, page),
+            "watch" => self.watch(rest, page),
+            "show" => self.show(rest, page),
+            "mark" => self.set_mark(alloc, rest),
+            "diff" => self.diff(rest, page),
+            "where" => self.place(rest, page),
+            "symbols" => self.list(rest, page),
+            "help" => {
+                page.put(HELP)?;
+                Ok(Outcome::Said)
+            }
+            _ => self.plain(alloc, number, text, page),
+        }
+    }
+
+    // Says that a line is misspelt, or that there is no machine.
+    fn blame(&mut self, number: u64, words: &str, page: &mut Page) -> Result<(), NoMemory> {
+        self.failed = true;
+        page.put("! line:")?;
+        page.put_decimal(number)?;
+        page.put(": ")?;
+        page.put(words)?;
+        page.put("\n")
+    }
+
+    /// Does the line of this number, without its newline, and appends to the page the line and what it answers.
+    ///
+    /// # Errors
+    ///
+    /// Memory was refused. The bench is as the lines say that were done.
+    pub fn line(
+        &mut self,
+        alloc: Global,
+        number: u64,
+        line: &[u8],
+        page: &mut Page,
+    ) -> Result<(), NoMemory> {
+        let Ok(text) = std::str::from_utf8(line) else {
+            return self.blame(number, "bad line: no UTF-8", page);
+        };
+        let text = text.trim_end();
+        if text.is_empty() || text.starts_with('#') {
+            return Ok(());
+        }
+        page.put("> ")?;
+        page.put(text)?;
+        page.put("\n")?;
+        match self.command(alloc, number, text, page)? {
+            Outcome::Said => Ok(()),
+            Outcome::Wanted(form) => self.blame(number, form, page),
+            Outcome::NotBooted => {
+                self.blame(number, "bad line: the first command must be `boot`", page)
+            }
+        }
+    }
+}

@@ -1,0 +1,3 @@
+pub mod OneBehind
+pub mod OneEntry
+pub mod IsFound
