@@ -2,6 +2,10 @@
 
 ghost use Rattle.std.specs.Prelude.{◌≡◌, ◌<◌, ◌≤◌, length};
 
+mod meeting;
+mod plays;
+mod rows;
+
 use crate::{Blanks, RunEnding, threads_to};
 use evm_devs::{AnyDevice, Console, MailRing, Pins};
 use evm_elf::{read_image, write_bytes};
