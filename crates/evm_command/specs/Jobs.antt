@@ -91,7 +91,7 @@ module _ {S O C I W E : Type 0} (opens : S → List ℕ → Result O OpenFault �
 
   -- `replay IMAGE JOURNAL`: once IMAGE is imported, JOURNAL is opened.
   abbrev pub Replays : List Attached → List ℕ → List ℕ → World S O C I W E → World S O C I W E → ℕ → Type 0
-  Replays devices path journal w w' status = (loaded : Result Contents ℕ) × (between : World S O C I W E) × Loads path w between loaded × Behind loaded (ReplaysJournal devices journal) between w' status
+  Replays devices path journal w w' status = (loaded : Result Contents ℕ) × (between : World S O C I W E) × Loads opens opened writes reports path w between loaded × Behind loaded (ReplaysJournal devices journal) between w' status
 
 module _ {S O C I W E : Type 0} (gives : I → Reading → List ℕ → I → Type 0) (writes : W → Writing → List ℕ → W → Type 0) (reports : E → Writing → List ℕ → E → Type 0) where
   -- the script of standard input is read to its end, and then served
