@@ -21,6 +21,3 @@ pub use reporting::report_text;
 pub use script::{journal_text, script_text};
 pub use shortening::{Stop, first_length, shorten};
 pub use switching::{Switching, hunt_all};
-
-#[cfg(test)]
-mod tests;

@@ -7,6 +7,3 @@ mod words;
 
 pub use command::{answer, run};
 pub use words::{Options, Search};
-
-#[cfg(test)]
-mod tests;

@@ -22,6 +22,3 @@ pub use plain::PlainLine;
 pub use script::script_text;
 pub use session::Session;
 pub use stop::Stop;
-
-#[cfg(test)]
-mod tests;
