@@ -6,6 +6,7 @@ mod booting;
 mod committing;
 mod laws;
 mod machine;
+mod objects;
 mod stages;
 mod stepping;
 mod typed;
