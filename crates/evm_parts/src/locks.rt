@@ -12,7 +12,7 @@ ghost use Rattle.evm_model.specs.Waits.{first_waiter};
 ghost use Rattle.evm_model.specs.declared.task.Task.{Task};
 ghost use Rattle.evm_model.specs.Waits.{wake};
 ghost use Rattle.evm_ranks.specs.Boosts.{reaches};
-ghost use Rattle.evm_ready.specs.Oob.{has_oob};
+ghost use Rattle.evm_boost.specs.evm_ready.Oob.{has_oob};
 
 use crate::parts::Parts;
 use evm_model::{MUTEX_LIMIT, Mutex, TASK_LIMIT, Wait};
@@ -115,6 +115,17 @@ impl Parts {
         self.schedule.leave(&mut self.mutexes, &self.tasks, m);
     }
 
+    // Whether a task owns a mutex once it has this one.
+    #[tactic(auto, using(crate::proofs::Giving::owners))]
+    fn owns_with(&self, t: u8, m: u8) -> bool
+        ensures { result ≡ owns_any t (change (held_by t 1) self.now.mutexes m) }
+    {
+        match self.mutexes.get(m) {
+            None => self.mutexes.owns_any(t),
+            Some(_) => true,
+        }
+    }
+
     // A task that waits has a mutex, and wakes with an answer. Its owner before leaves it first, and the task is ready
     // before it has it, so that no chain of tasks that wait closes meanwhile.
     fn give_mutex(&mut self, t: u8, m: u8, value: u64)
@@ -122,7 +133,7 @@ impl Parts {
         ensures row { self.new ≡ wake t value (on_mutex m (held_by t 1) self.old) }
         ensures stamps { self.new.stamps ≡ self.old.stamps + 1 }
     {
-        let owns = self.mutexes.get(m).is_some() || self.mutexes.owns_any(t);
+        let owns = self.owns_with(t, m);
         self.leave_mutex(m);
         self.wake_with(t, value, owns);
         self.hold_mutex(t, m, 1);

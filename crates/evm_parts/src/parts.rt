@@ -55,7 +55,7 @@ pub struct Parts {
 }
 
 impl Model for Parts {
-    ghost use Rattle.evm_boost.specs.Schedules.{IsScheduled};
+    ghost use Rattle.evm_boost.specs.Scheduled.{IsScheduled};
     ghost use Rattle.evm_model.specs.State as model;
 
     ghost Value = { model.Parts };

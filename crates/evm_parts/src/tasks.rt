@@ -7,6 +7,7 @@ ghost use Rattle.evm_model.specs.Passing.{end_task};
 ghost use Rattle.evm_model.specs.State.{new_task};
 ghost use Rattle.evm_model.specs.Tasks.{restamp, set_state, leave_in_band};
 ghost use Rattle.evm_model.specs.Waits.{awaits_line, begin_wait, wake, wake_below, wake_waiter};
+ghost use Rattle.evm_parts.specs.Waking.{woken_with};
 
 use crate::parts::Parts;
 use evm_model::{Class, MUTEX_LIMIT, Mode, Stage, TASK_LIMIT, Task, TaskState, Wait};
