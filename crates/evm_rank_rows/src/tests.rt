@@ -1,0 +1,227 @@
+//! 10,000 events over four processors and 16 tasks. After each, every rank is the one that is computed anew, and a
+//! processor that must run its best task runs the best by these ranks.
+
+mod anew;
+
+use anew::{Ranks, best_of, ranks_of};
+use evm_core::Machine;
+use evm_devs::Pins;
+use evm_model::{Block, Event, Stage};
+use std::alloc::Global;
+use std::test::Fail;
+
+const PROCESSORS: u8 = 4;
+
+const TASKS: u64 = 16;
+
+const MUTEXES: u64 = 8;
+
+// loop: ecall; j loop
+const PROGRAM: [u32; 2] = [0x0000_0073, 0xffdf_f06f];
+
+// A linear congruential generator (Knuth, "The Art of Computer Programming", volume 2, section 3.3.4: MMIX).
+#[derive(Drop)]
+struct Generator {
+    state: u64,
+}
+
+impl Generator {
+    // A number below a power of two.
+    fn below(&mut self, power: u64) -> u64 {
+        self.state = self
+            .state
+            .wrapping_mul(6_364_136_223_846_793_005)
+            .wrapping_add(1_442_695_040_888_963_407);
+        (self.state >> 33) & power.wrapping_sub(1)
+    }
+}
+
+// A call, by its number and its arguments.
+#[derive(Clone, Copy)]
+struct Call {
+    number: u64,
+    first: u64,
+    second: u64,
+    third: u64,
+}
+
+fn call_of(number: u64, first: u64, second: u64, third: u64) -> Call {
+    Call {
+        number,
+        first,
+        second,
+        third,
+    }
+}
+
+// A priority from 1 to 99, out of 64 of them.
+fn priority(random: &mut Generator) -> u64 {
+    1 + random.below(64)
+}
+
+// No deadline, or one a few ticks ahead.
+fn deadline(random: &mut Generator, ticks: u64) -> u64 {
+    if random.below(2) == 0 {
+        0
+    } else {
+        ticks.saturating_add(1 + random.below(8))
+    }
+}
+
+// A call on an object.
+fn object_call(random: &mut Generator, ticks: u64) -> Call {
+    let mutex = random.below(MUTEXES);
+    let until = deadline(random, ticks);
+    match random.below(8) {
+        0..=2 => call_of(36, mutex, until, 0),
+        3 | 4 => call_of(38, mutex, 0, 0),
+        5 => call_of(42, random.below(2), mutex, until),
+        6 => call_of(43 + random.below(2), random.below(2), 0, 0),
+        _ => call_of(39 + 2 * random.below(2), random.below(2), until, 0),
+    }
+}
+
+// A call on the caller's or another task's place.
+fn task_call(random: &mut Generator, ticks: u64) -> Call {
+    let class = 1 + random.below(4);
+    match random.below(8) {
+        0..=2 => call_of(7, class, priority(random), 0),
+        3 | 4 => call_of(34, random.below(TASKS), class, priority(random)),
+        5 => call_of(47, ticks.saturating_add(random.below(8)), 0, 0),
+        6 => call_of(32 + random.below(2), 0, 0, 0),
+        _ if random.below(64) == 0 => call_of(0, 0, 0, 0),
+        _ => call_of(50, 0, 0, 0),
+    }
+}
+
+fn any_call(random: &mut Generator, ticks: u64) -> Call {
+    if random.below(2) == 0 {
+        object_call(random, ticks)
+    } else {
+        task_call(random, ticks)
+    }
+}
+
+// Whether each rank of the machine is the one computed anew.
+fn ranks_agree(machine: &Machine<Pins>, ranks: &Ranks) -> bool {
+    let mut agree = true;
+    for t in 0..machine.task_count() {
+        agree = agree && ranks.as_slice().get(usize::from(t)).copied() == Some(machine.rank(t));
+    }
+    agree
+}
+
+// Whether a processor must run its best task: its out-of-band stage isn't stalled, and line 1 is not on its wire.
+fn must_run_best(machine: &Machine<Pins>, c: u8) -> bool {
+    let (Some(log), Some(wire)) = (machine.log(c, Stage::OutOfBand), machine.wire(c)) else {
+        return false;
+    };
+    !log.stalled && !wire.contains(1)
+}
+
+fn current_of(machine: &Machine<Pins>, c: u8) -> Option<u8> {
+    machine.cpu(c)?.current
+}
+
+fn bests_agree(machine: &Machine<Pins>, ranks: &Ranks) -> bool {
+    let mut agree = true;
+    for c in 0..PROCESSORS {
+        let best = best_of(machine, ranks, c);
+        let runs = best.is_none() || current_of(machine, c) == best;
+        agree = agree && (runs || !must_run_best(machine, c));
+    }
+    agree
+}
+
+// How many events an event is: 1, or 0 if it is refused.
+fn happens(machine: &mut Machine<Pins>, event: Event<&Block>) -> Result<u32, Fail> {
+    if machine.apply(event).is_err() {
+        return Ok(0);
+    }
+    let ranks = ranks_of(machine);
+    if !ranks_agree(machine, &ranks) {
+        return Err(Fail::from("a rank is not the one computed anew"));
+    }
+    if !bests_agree(machine, &ranks) {
+        return Err(Fail::from("a processor does not run its best task"));
+    }
+    Ok(1)
+}
+
+// The current task of a processor makes a call, which may take a step that changes its stage first.
+fn makes(machine: &mut Machine<Pins>, c: u8, call: Call) -> Result<u32, Fail> {
+    let mut events = 0u32;
+    for event in [
+        Event::Stop(c),
+        Event::SetReg(c, 17, call.number),
+        Event::SetReg(c, 10, call.first),
+        Event::SetReg(c, 11, call.second),
+        Event::SetReg(c, 12, call.third),
+        Event::Go(c),
+        Event::Step(c),
+        Event::Step(c),
+    ] {
+        events = events.saturating_add(happens(machine, event)?);
+    }
+    Ok(events)
+}
+
+// A call, or a tick, or a step of a processor.
+fn round(machine: &mut Machine<Pins>, random: &mut Generator) -> Result<u32, Fail> {
+    let c = random.below(u64::from(PROCESSORS)) as u8;
+    match random.below(8) {
+        0 => happens(machine, Event::Tick),
+        1 | 2 => happens(machine, Event::Step(c)),
+        _ => {
+            let call = any_call(random, machine.ticks());
+            makes(machine, c, call)
+        }
+    }
+}
+
+// Task 0 creates eight mutexes of all kinds, two semaphores, two events, and the other 15 tasks.
+fn begins(machine: &mut Machine<Pins>) -> Result<(), Fail> {
+    for m in 0..MUTEXES {
+        makes(machine, 0, call_of(9, m % 4, 20 + 10 * m, 0))?;
+    }
+    for _ in 0..2 {
+        makes(machine, 0, call_of(10, 1, 0, 0))?;
+        makes(machine, 0, call_of(11, 0, 0, 0))?;
+    }
+    for t in 1..TASKS {
+        makes(machine, 0, call_of(3, 0x8000_0000, 0, t % 4))?;
+    }
+    Ok(())
+}
+
+// Four processors that run the program.
+fn booted(alloc: Global) -> Result<Machine<Pins>, Fail> {
+    let Ok(mut machine) = Machine::boot(alloc, PROCESSORS, 65_536, 16_384) else {
+        return Err(Fail::from("the boot is refused"));
+    };
+    let mut bytes = Block::new();
+    for word in PROGRAM {
+        let _ = bytes.try_extend_from_slice(word.to_le_bytes().as_slice());
+    }
+    match machine.apply(Event::Poke(0x8000_0000, &bytes)) {
+        Ok(_) => Ok(machine),
+        Err(_) => Err(Fail::from("the program is refused")),
+    }
+}
+
+#[test]
+fn ranks_and_bests_are_those_computed_anew(rt: HostRuntime) -> Result<(), Fail> {
+    let mut machine = booted(rt.alloc())?;
+    begins(&mut machine)?;
+    assert_eq!(rt; machine.task_count(), 16);
+    assert_eq!(rt; machine.mutex_count(), 8);
+    let mut random = Generator { state: 1 };
+    let mut events = 0u32;
+    for _ in 0..20_000 {
+        if events < 10_000 {
+            events = events.saturating_add(round(&mut machine, &mut random)?);
+        }
+    }
+    assert!(rt; events >= 10_000);
+    Ok(())
+}

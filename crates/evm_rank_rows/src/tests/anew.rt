@@ -1,0 +1,128 @@
+//! Ranks and the best task of a processor, computed anew from the tasks and the mutexes.
+
+use evm_core::Machine;
+use evm_devs::Pins;
+use evm_model::{Class, Mutex, Protocol, TASK_LIMIT, Task, TaskState, Wait};
+
+/// The ranks of all tasks, by their numbers.
+pub(super) type Ranks = [u16; TASK_LIMIT];
+
+fn class_rank(task: &Task) -> u16 {
+    match task.class {
+        Class::Unattached => 0,
+        Class::Fifo | Class::RoundRobin => 100 + u16::from(task.priority),
+        Class::Weak => u16::from(task.priority),
+    }
+}
+
+// The rank of a mutex that a task owns: that of its ceiling.
+fn ceiling_of(mutex: &Mutex, t: u8) -> u16 {
+    match mutex.protocol {
+        Protocol::Ceiling(priority) if mutex.owner == Some(t) => 100 + u16::from(priority),
+        _ => 0,
+    }
+}
+
+fn own_rank(machine: &Machine<Pins>, t: u8) -> u16 {
+    let Some(task) = machine.task(t) else {
+        return 0;
+    };
+    let mut rank = class_rank(&task);
+    for m in 0..machine.mutex_count() {
+        if let Some(mutex) = machine.mutex(m) {
+            rank = rank.max(ceiling_of(&mutex, t));
+        }
+    }
+    rank
+}
+
+fn own_ranks(machine: &Machine<Pins>) -> Ranks {
+    let mut ranks = [0; TASK_LIMIT];
+    for t in 0..machine.task_count() {
+        if let Some(rank) = ranks.get_mut(usize::from(t)) {
+            *rank = own_rank(machine, t);
+        }
+    }
+    ranks
+}
+
+// The task that task u boosts: the owner of the mutex of inheritance that it waits for.
+fn boosts(machine: &Machine<Pins>, u: u8) -> Option<u8> {
+    let m = match machine.task(u)?.state {
+        TaskState::Waits(Wait::Lock(m)) => m,
+        TaskState::Waits(Wait::Reacquire { mutex, .. }) => mutex,
+        _ => return None,
+    };
+    let mutex = machine.mutex(m)?;
+    match mutex.protocol {
+        Protocol::Inheritance => mutex.owner,
+        Protocol::Ceiling(_) => None,
+    }
+}
+
+fn rank_in(ranks: &Ranks, t: u8) -> u16 {
+    match ranks.as_slice().get(usize::from(t)) {
+        None => 0,
+        Some(rank) => *rank,
+    }
+}
+
+// One round: each task takes up the ranks of those that boost it.
+fn next_ranks(machine: &Machine<Pins>, own: &Ranks, now: &Ranks) -> Ranks {
+    let mut next = *own;
+    for u in 0..machine.task_count() {
+        if let Some(t) = boosts(machine, u) {
+            if let Some(rank) = next.get_mut(usize::from(t)) {
+                *rank = (*rank).max(rank_in(now, u));
+            }
+        }
+    }
+    next
+}
+
+pub(super) fn ranks_of(machine: &Machine<Pins>) -> Ranks {
+    let own = own_ranks(machine);
+    let mut ranks = own;
+    for _ in 0..machine.task_count() {
+        let next = next_ranks(machine, &own, &ranks);
+        if next == ranks {
+            return ranks;
+        }
+        ranks = next;
+    }
+    ranks
+}
+
+// Whether task t is ready out-of-band on processor c.
+fn runs_oob(machine: &Machine<Pins>, c: u8, t: u8) -> bool {
+    match machine.task(t) {
+        None => false,
+        Some(task) => task.state == TaskState::OobReady && task.cpu == c,
+    }
+}
+
+fn stamp_of(machine: &Machine<Pins>, t: u8) -> u64 {
+    match machine.task(t) {
+        None => 0,
+        Some(task) => task.stamp,
+    }
+}
+
+// Whether task t goes before task u: by the greater rank, then by the lesser stamp.
+fn goes_before(machine: &Machine<Pins>, ranks: &Ranks, t: u8, u: u8) -> bool {
+    let (rank, other) = (rank_in(ranks, t), rank_in(ranks, u));
+    rank > other || (rank == other && stamp_of(machine, t) < stamp_of(machine, u))
+}
+
+pub(super) fn best_of(machine: &Machine<Pins>, ranks: &Ranks, c: u8) -> Option<u8> {
+    let mut best = None;
+    for t in 0..machine.task_count() {
+        if runs_oob(machine, c, t) {
+            best = match best {
+                Some(u) if !goes_before(machine, ranks, t, u) => Some(u),
+                _ => Some(t),
+            };
+        }
+    }
+    best
+}
