@@ -23,8 +23,8 @@ pub use board::Board;
 pub use evm_bus::Devices;
 pub use evm_quiet::{Breakpoints, Slots};
 pub use evm_settle::{
-    Actions, Console, Events, Flags, Harts, Mutexes, Notices, Parts, Pipe, Semaphores, Tasks,
-    Timers,
+    Actions, Console, Events, Flags, Harts, Mutexes, Notices, Parts, Pipe, Schedule, Semaphores,
+    Tasks, Timers,
 };
 pub use memory::Memory;
 pub use stepping::Made;

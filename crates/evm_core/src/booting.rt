@@ -1,4 +1,5 @@
 ghost use Rattle.std.specs.Prelude.{◌≡◌, ◌≤◌, [], ◌∷◌, replicate, IfErr, IfOk, Option, false};
+ghost use Rattle.evm_board.specs.evm_boost.Scheduled.{IsScheduled};
 ghost use Rattle.evm_model.specs.Harts.{first_hart};
 ghost use Rattle.evm_model.specs.Pipes.{idle_pipe};
 ghost use Rattle.evm_model.specs.State.{booted, booted_parts, first_processor, first_task, no_notices};
@@ -8,7 +9,7 @@ use crate::machine::Machine;
 use arrayvec::ArrayVec;
 use evm_board::{
     Actions, Board, Breakpoints, Console, Devices, Events, Flags, Harts, Memory, Mutexes, Notices,
-    Parts, Pipe, Semaphores, Slots, Tasks, Timers,
+    Parts, Pipe, Schedule, Semaphores, Slots, Tasks, Timers,
 };
 use evm_dev::Device;
 use evm_exec::{Hart, REGISTER_COUNT};
@@ -95,7 +96,8 @@ fn pipes_of(count: u64) -> ArrayVec<Pipe, PROCESSOR_LIMIT>
 
 // The parts at boot: task 0 is current on processor 0.
 #[tactic(auto, unfolding(evm_model::specs::State::booted_parts))]
-fn parts_of(boot: &Boot, console: Console, notices: Notices) -> Parts
+fn parts_of(boot: &Boot, schedule: Schedule, console: Console, notices: Notices) -> Parts
+    requires schedule { IsScheduled schedule [] (first_task ∷ []) }
     requires fits { bad_boot boot.now ≡ false }
     requires empty { console ≡ [] }
     requires none { notices ≡ no_notices }
@@ -115,6 +117,7 @@ fn parts_of(boot: &Boot, console: Console, notices: Notices) -> Parts
         pipes: pipes_of(boot.cpus),
         stamps: 1,
         mutexes: Mutexes::new(),
+        schedule,
         semaphores: Semaphores::new(),
         events: Events::new(),
         flags: Flags::new(),
@@ -133,12 +136,13 @@ fn board_of<D: Device>(alloc: Global, boot: &Boot, devices: Devices<D>) -> Resul
     ensures refused { IfErr result (λ asked. asked ≤ boot.now.ram) }
 {
     let ram = Ram::new(alloc, boot.ram)?;
+    let schedule = Schedule::of_first(alloc, boot.cpus as u8, task_zero())?;
     let console = Console::new(alloc)?;
     let notices = Notices::new(alloc)?;
     Ok(Board {
         memory: Memory::new(ram, devices),
         breakpoints: Breakpoints::new(),
-        parts: parts_of(boot, console, notices),
+        parts: parts_of(boot, schedule, console, notices),
         slots: Slots::new(alloc)?,
     })
 }

@@ -16,7 +16,7 @@ mod tasks;
 mod timers;
 
 pub use console::Console;
-pub use evm_boost::Mutexes;
+pub use evm_boost::{Mutexes, Schedule};
 pub use evm_health::Notices;
 pub use evm_pipe::Pipe;
 pub use evm_sync::{Actions, Events, Flags, Semaphores};

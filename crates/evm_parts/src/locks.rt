@@ -1,29 +1,23 @@
 //! What rows do to a mutex, and to the tasks that wait for it.
 
 ghost use Rattle.std.specs.Prelude.{◌≡◌, ◌<◌, ◌≤◌, ◌+◌, Some, None, length, slice_get};
-ghost use Rattle.evm_boost.specs.Scatter.{AreRanks};
 ghost use Rattle.evm_model.specs.Bounds.{HasStamps};
 ghost use Rattle.evm_model.specs.Lists.{change};
 ghost use Rattle.evm_model.specs.Locks.{add_mutex, take_mutex};
 ghost use Rattle.evm_model.specs.Mutexes.{freed, owns_any, held_by, waits_on};
 ghost use Rattle.evm_model.specs.Passing.{hand_over, hand_over_if, hand_over_below};
-ghost use Rattle.evm_model.specs.Ranks.{best, rank};
+ghost use Rattle.evm_model.specs.Ranks.{best, next_in_band, rank};
 ghost use Rattle.evm_model.specs.State.{on_mutex};
 ghost use Rattle.evm_model.specs.Waits.{first_waiter};
 ghost use Rattle.evm_model.specs.declared.task.Task.{Task};
+ghost use Rattle.evm_model.specs.Waits.{wake};
 ghost use Rattle.evm_ranks.specs.Boosts.{reaches};
+ghost use Rattle.evm_boost.specs.evm_ready.Oob.{has_oob};
 
 use crate::parts::Parts;
 use evm_model::{MUTEX_LIMIT, Mutex, TASK_LIMIT, Wait};
 
 impl Parts {
-    /// The ranks of all tasks, by their numbers.
-    pub fn ranks(&self) -> [u16; TASK_LIMIT]
-        ensures { AreRanks result self.now.mutexes self.now.tasks }
-    {
-        self.mutexes.ranks(&self.tasks)
-    }
-
     /// The rank of a task; 0 where there is none.
     #[tactic(auto, using(crate::proofs::Chosen::there))]
     pub fn rank(&self, t: u8) -> u16
@@ -33,15 +27,28 @@ impl Parts {
         if t >= self.tasks.count() {
             return 0;
         }
-        self.mutexes.rank(&self.tasks, t)
+        self.schedule.rank(t)
     }
 
-    /// The number of the out-of-band task that a processor should run, by the ranks of all.
-    pub fn best(&self, c: u8, ranks: &[u16]) -> Option<u8>
-        requires { AreRanks ranks.now self.now.mutexes self.now.tasks }
+    /// The number of the out-of-band task that a processor should run.
+    pub fn best(&self, c: u8) -> Option<u8>
         ensures { result ≡ best c self.now.mutexes self.now.tasks }
     {
-        self.tasks.best(c, ranks)
+        self.schedule.best(c)
+    }
+
+    /// The number of the in-band task that a processor should take up.
+    pub fn next_in_band(&self, c: u8) -> Option<u8>
+        ensures { result ≡ next_in_band c self.now.tasks }
+    {
+        self.schedule.next_in_band(c)
+    }
+
+    /// Whether any task is ready out-of-band, on whichever processor.
+    pub fn has_oob(&self) -> bool
+        ensures { result ≡ has_oob self.now.tasks }
+    {
+        self.schedule.has_oob()
     }
 
     /// Whether a task owns a mutex.
@@ -71,7 +78,8 @@ impl Parts {
         requires { length self.old.mutexes < MUTEX_LIMIT }
         ensures row { self.new ≡ add_mutex mutex self.old }
     {
-        self.mutexes.create(mutex);
+        self.schedule
+            .create(&mut self.mutexes, &self.tasks, mutex);
     }
 
     /// A task has a mutex, locked so often.
@@ -79,7 +87,8 @@ impl Parts {
         ensures row { self.new ≡ on_mutex m (held_by t count) self.old }
         ensures stamps { self.new.stamps ≡ self.old.stamps }
     {
-        self.mutexes.hold(m, t, count);
+        self.schedule
+            .hold(&mut self.mutexes, &self.tasks, m, t, count);
     }
 
     /// A task has a mutex that was free.
@@ -95,7 +104,39 @@ impl Parts {
     pub fn first_waiter(&self, wait: Wait) -> Option<u8>
         ensures { result ≡ first_waiter wait self.now }
     {
-        self.mutexes.first_waiter(wait, &self.tasks)
+        self.schedule.first_waiter(wait)
+    }
+
+    // Nobody has a mutex.
+    fn leave_mutex(&mut self, m: u8)
+        ensures row { self.new ≡ on_mutex m freed self.old }
+        ensures stamps { self.new.stamps ≡ self.old.stamps }
+    {
+        self.schedule.leave(&mut self.mutexes, &self.tasks, m);
+    }
+
+    // Whether a task owns a mutex once it has this one.
+    #[tactic(auto, using(crate::proofs::Giving::owners))]
+    fn owns_with(&self, t: u8, m: u8) -> bool
+        ensures { result ≡ owns_any t (change (held_by t 1) self.now.mutexes m) }
+    {
+        match self.mutexes.get(m) {
+            None => self.mutexes.owns_any(t),
+            Some(_) => true,
+        }
+    }
+
+    // A task that waits has a mutex, and wakes with an answer. Its owner before leaves it first, and the task is ready
+    // before it has it, so that no chain of tasks that wait closes meanwhile.
+    fn give_mutex(&mut self, t: u8, m: u8, value: u64)
+        requires room { HasStamps 1 self.old }
+        ensures row { self.new ≡ wake t value (on_mutex m (held_by t 1) self.old) }
+        ensures stamps { self.new.stamps ≡ self.old.stamps + 1 }
+    {
+        let owns = self.owns_with(t, m);
+        self.leave_mutex(m);
+        self.wake_with(t, value, owns);
+        self.hold_mutex(t, m, 1);
     }
 
     /// A task that waited for a mutex owns it and wakes, with the answer that it kept if it waited for it again; if there
@@ -107,11 +148,10 @@ impl Parts {
         ensures stamps { self.new.stamps ≤ self.old.stamps + 1 }
     {
         match self.first_waiter(Wait::Lock(m)) {
-            None => self.mutexes.leave(m),
+            None => self.leave_mutex(m),
             Some(t) => {
                 let kept = self.tasks.kept(t);
-                self.hold_mutex(t, m, 1);
-                self.wake(t, kept);
+                self.give_mutex(t, m, kept);
             }
         }
     }

@@ -7,7 +7,7 @@ ghost use Rattle.evm_model.specs.State.{on_pipe, on_processor};
 
 use crate::console::Console;
 use arrayvec::ArrayVec;
-use evm_boost::Mutexes;
+use evm_boost::{Mutexes, Schedule};
 use evm_health::Notices;
 use evm_lines::LINES;
 use evm_model::{PROCESSOR_LIMIT, Processor, Profile, Stage};
@@ -36,6 +36,8 @@ pub struct Parts {
     pub stamps: u64,
     /// The mutexes.
     pub mutexes: Mutexes,
+    /// The ranks of the tasks, and the queues of those that are ready or wait.
+    pub schedule: Schedule,
     /// The counts of the semaphores.
     pub semaphores: Semaphores,
     /// The mutexes of the tasks that wait for the events.
@@ -53,9 +55,12 @@ pub struct Parts {
 }
 
 impl Model for Parts {
+    ghost use Rattle.evm_boost.specs.Scheduled.{IsScheduled};
     ghost use Rattle.evm_model.specs.State as model;
 
     ghost Value = { model.Parts };
+
+    ghost invariant = { λ k. IsScheduled k.schedule k.mutexes k.tasks };
 
     ghost view = { λ k. record {
       profile = k.profile;

@@ -38,7 +38,8 @@ impl Parts {
         ensures row { self.new ≡ set_policy t class priority self.old }
         ensures stamps { self.new.stamps ≡ self.old.stamps }
     {
-        self.tasks.set_policy(t, class, priority);
+        self.schedule
+            .set_policy(&mut self.tasks, &self.mutexes, t, class, priority);
     }
 
     /// A task has no class, no priority and no mode bits.
@@ -46,7 +47,8 @@ impl Parts {
     pub fn clear_policy(&mut self, t: u8)
         ensures row { self.new ≡ clear_policy t self.old }
     {
-        self.tasks.clear_policy(t);
+        self.schedule
+            .clear_policy(&mut self.tasks, &self.mutexes, t);
     }
 
     /// A task has these mode bits.

@@ -7,6 +7,7 @@ ghost use Rattle.evm_model.specs.Passing.{end_task};
 ghost use Rattle.evm_model.specs.State.{new_task};
 ghost use Rattle.evm_model.specs.Tasks.{restamp, set_state, leave_in_band};
 ghost use Rattle.evm_model.specs.Waits.{awaits_line, begin_wait, wake, wake_below, wake_waiter};
+ghost use Rattle.evm_parts.specs.Waking.{woken_with};
 
 use crate::parts::Parts;
 use evm_model::{Class, MUTEX_LIMIT, Mode, Stage, TASK_LIMIT, Task, TaskState, Wait};
@@ -36,7 +37,8 @@ impl Parts {
         ensures stamps { self.new.stamps ≡ self.old.stamps + 1 }
     {
         let stamp = self.stamps;
-        self.tasks.set_stamp(t, stamp);
+        self.schedule
+            .set_stamp(&mut self.tasks, &self.mutexes, t, stamp);
         self.stamps = stamp + 1;
     }
 
@@ -46,7 +48,8 @@ impl Parts {
         ensures row { self.new ≡ set_state t state self.old }
         ensures stamps { self.new.stamps ≡ self.old.stamps }
     {
-        self.tasks.set_state(t, state);
+        self.schedule
+            .set_state(&mut self.tasks, &self.mutexes, t, state);
     }
 
     /// A processor has no in-band current task.
@@ -80,7 +83,8 @@ impl Parts {
     {
         let stamp = self.stamps;
         self.harts.push_spawned(entry, value);
-        self.tasks.push(new_task(cpu, stamp));
+        self.schedule
+            .push(&mut self.tasks, &self.mutexes, new_task(cpu, stamp));
         self.stamps = stamp + 1;
     }
 
@@ -91,7 +95,8 @@ impl Parts {
         ensures row { self.new ≡ begin_wait t wait deadline self.old }
         ensures stamps { self.new.stamps ≡ self.old.stamps + 1 }
     {
-        self.tasks.begin_wait(t, wait, deadline);
+        self.schedule
+            .begin_wait(&mut self.tasks, &self.mutexes, t, wait, deadline);
         self.restamp(t);
     }
 
@@ -104,8 +109,18 @@ impl Parts {
         ensures stamps { self.new.stamps ≡ self.old.stamps + 1 }
     {
         let owns = self.mutexes.owns_any(t);
+        self.wake_with(t, value, owns);
+    }
+
+    // A task wakes, and its call is answered: in-band if it is weak, unless it owns a mutex.
+    pub(crate) fn wake_with(&mut self, t: u8, value: u64, owns: bool)
+        requires room { HasStamps 1 self.old }
+        ensures row { self.new ≡ woken_with t value owns self.old }
+        ensures stamps { self.new.stamps ≡ self.old.stamps + 1 }
+    {
         self.harts.set_a0(t, value);
-        self.tasks.end_wait(t, owns);
+        self.schedule
+            .end_wait(&mut self.tasks, &self.mutexes, t, owns);
         self.restamp(t);
     }
 

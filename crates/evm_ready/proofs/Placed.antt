@@ -1,6 +1,6 @@
 -- What the entries of tasks say is what their tasks say.
-use Rattle.std.proofs.Common.{◌≡◌, ℕ, zero, suc, List, [], ◌∷◌, Option, Some, None, Bool, true, false, length, refl, ap, ◌∙◌}
-use Rattle.std.specs.Prelude.{map, slice_get, ◌==◌, ◌&&◌, ◌||◌}
+use Rattle.std.proofs.Common.{◌≡◌, ℕ, zero, suc, List, [], ◌∷◌, Bool, true, length, refl, ap, ◌∙◌}
+use Rattle.std.specs.Prelude.{map, ◌==◌, ◌&&◌, ◌||◌}
 use Rattle.std.proofs.lemmas.List.{length-map}
 use Rattle.evm_model.specs.Ranks as ranks
 use Rattle.evm_model.specs.declared.task.Task.{Task}

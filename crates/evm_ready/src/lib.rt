@@ -9,5 +9,6 @@ pub use order::{is_before, listed_rank};
 pub use place::{Place, place_of};
 pub use ready::Ready;
 
-#[cfg(test)]
-mod tests;
+/// The most queues of ready tasks that there are: on each of 8 processors one for each out-of-band rank, which is
+/// below 200, and one for the tasks that are ready in-band.
+pub const READY_QUEUE_LIMIT: usize = 1_608;

@@ -1,68 +1,83 @@
-ghost use Rattle.std.specs.Prelude.{◌≡◌, ◌<◌, ◌≤◌, ◌++◌, ◌∷◌, [], length};
+ghost use Rattle.std.specs.Prelude.{◌≡◌, ◌<◌, ◌≤◌, ◌++◌, ◌∷◌, [], length, IfOk, IfErr};
 ghost use Rattle.arrayvec.specs.ArrayVec.{array_vec_len};
 ghost use Rattle.evm_model.specs.Lists.{change};
 ghost use Rattle.evm_model.specs.Ranks.{first, leader};
 ghost use Rattle.evm_ready.specs.Places.{any_oob, entry, runs_oob, runs_in_band, stamp_of};
 ghost use Rattle.evm_ready.specs.ListedRanks.{listed_rank};
 
+use crate::READY_QUEUE_LIMIT;
 use crate::order::{is_before, listed_rank};
 use crate::place::{Place, oob_bit, runs_in_band, runs_oob};
 use arrayvec::ArrayVec;
 use evm_model::TASK_LIMIT;
+use evm_room::Refused;
+use std::alloc::Global;
 use std::marker::Model;
 
-/// Where each task is ready, by its number, with room for all from the start.
+/// Where each task is ready, and its rank, by its number, with room for all from the start.
 #[derive(Debug, Drop)]
 pub struct Ready {
     places: ArrayVec<Option<Place>, TASK_LIMIT>,
+    ranks: ArrayVec<u16, TASK_LIMIT>,
     // how many are ready out-of-band
     oob: u8,
 }
 
 impl Model for Ready {
-    ghost use Rattle.std.specs.Prelude.{List, Option};
-    ghost use Rattle.evm_ready.specs.declared.place.Place.{Place};
+    ghost use Rattle.evm_ready.specs.Places.{AreReady, ReadyTasks};
 
-    ghost Value = { List (Option Place) };
+    ghost Value = { ReadyTasks };
 
-    ghost use Rattle.evm_ready.specs.Places.{AreCounted};
+    ghost invariant = { λ r. AreReady r.oob r.places.items r.ranks.items };
 
-    ghost invariant = { λ r. AreCounted r.oob r.places.items };
-
-    ghost view = { λ r. r.places.items };
+    ghost view = { λ r. record {
+      places = r.places.items;
+      ranks = r.ranks.items;
+    } };
 }
 
 impl Ready {
-    /// No task.
-    pub fn new() -> Ready
-        ensures { result ≡ [] }
+    /// No task. The room for the queues of this many processors is taken at once; 8 at the most have queues.
+    ///
+    /// # Errors
+    ///
+    /// Where an allocation of their room failed.
+    pub fn new(alloc: Global, processors: u8) -> Result<Ready, Refused>
+        ensures places { IfOk result (λ ready. ready.places ≡ []) }
+        ensures ranks { IfOk result (λ ready. ready.ranks ≡ []) }
+        ensures refused { IfErr result (λ asked. asked ≤ READY_QUEUE_LIMIT) }
     {
-        Ready {
+        let _queues = (alloc, processors);
+        Ok(Ready {
             places: ArrayVec::new(),
+            ranks: ArrayVec::new(),
             oob: 0,
-        }
+        })
     }
 
     /// How many tasks there are, ready or not; 64 at the most.
     pub fn len(&self) -> u8
-        ensures count { result ≡ length self.now }
+        ensures count { result ≡ length self.now.places }
+        ensures ranked { result ≡ length self.now.ranks }
         ensures limit { result ≤ TASK_LIMIT }
     {
         self.places.len() as u8
     }
 
-    /// One task more, the last: it is ready there, or isn't ready.
+    /// One task more, the last, of this rank: it is ready there, or isn't ready.
     #[tactic(auto, using(crate::proofs::Counts::counts))]
-    pub fn push(&mut self, place: Option<Place>)
-        requires { length self.old < TASK_LIMIT }
-        ensures { self.new ≡ self.old ++ place ∷ [] }
+    pub fn push(&mut self, place: Option<Place>, rank: u16)
+        requires { length self.old.places < TASK_LIMIT }
+        ensures places { self.new.places ≡ self.old.places ++ place ∷ [] }
+        ensures ranks { self.new.ranks ≡ self.old.ranks ++ rank ∷ [] }
     {
         self.oob += oob_bit(place);
         self.places.push(place);
+        self.ranks.push(rank);
     }
 
     fn get(&self, t: u8) -> Option<Place>
-        ensures { result ≡ entry self.now t }
+        ensures { result ≡ entry self.now.places t }
     {
         match self.places.as_slice().get(t as usize) {
             None => None,
@@ -72,7 +87,8 @@ impl Ready {
 
     /// Task t is ready there, or isn't ready.
     pub fn set(&mut self, t: u8, place: Option<Place>)
-        ensures { self.new ≡ change (λ _. place) self.old t }
+        ensures places { self.new.places ≡ change (λ _. place) self.old.places t }
+        ensures ranks { self.new.ranks ≡ self.old.ranks }
     {
         if let Some(entry) = self.places.get_mut(t as usize) {
             self.oob = self.oob - oob_bit(*entry) + oob_bit(place);
@@ -80,16 +96,33 @@ impl Ready {
         }
     }
 
+    /// Task t has this rank.
+    pub fn set_rank(&mut self, t: u8, rank: u16)
+        ensures places { self.new.places ≡ self.old.places }
+        ensures ranks { self.new.ranks ≡ change (λ _. rank) self.old.ranks t }
+    {
+        if let Some(entry) = self.ranks.get_mut(t as usize) {
+            *entry = rank;
+        }
+    }
+
+    /// The rank of task t; 0 if there is no such task.
+    pub fn rank(&self, t: u8) -> u16
+        ensures { result ≡ listed_rank self.now.ranks t }
+    {
+        listed_rank(self.ranks.as_slice(), t)
+    }
+
     /// Whether any task is ready out-of-band, on whichever processor.
     #[tactic(auto, using(crate::proofs::Counts::counts))]
     pub fn has_oob(&self) -> bool
-        ensures { result ≡ any_oob self.now }
+        ensures { result ≡ any_oob self.now.places }
     {
         self.oob > 0
     }
 
     fn stamp(&self, t: u8) -> u64
-        ensures { result ≡ stamp_of (entry self.now t) }
+        ensures { result ≡ stamp_of (entry self.now.places t) }
     {
         match self.get(t) {
             None => 0,
@@ -97,25 +130,20 @@ impl Ready {
         }
     }
 
-    // Of the one that leads so far and another, the one that goes first by `ranks`.
-    fn leader_of(&self, ranks: &[u16], leading: Option<u8>, t: u8) -> u8
-        ensures { result ≡ leader (listed_rank ranks.now) (λ u. stamp_of (entry self.now u)) leading t }
+    // Of the one that leads so far and another, the one that goes first.
+    fn leader_of(&self, leading: Option<u8>, t: u8) -> u8
+        ensures { result ≡ leader (listed_rank self.now.ranks) (λ u. stamp_of (entry self.now.places u)) leading t }
     {
         let Some(u) = leading else {
             return t;
         };
-        let before = is_before(
-            listed_rank(ranks, t),
-            self.stamp(t),
-            listed_rank(ranks, u),
-            self.stamp(u),
-        );
+        let before = is_before(self.rank(t), self.stamp(t), self.rank(u), self.stamp(u));
         if before { t } else { u }
     }
 
     // Of the one that leads so far and another, the one of lesser stamp.
     fn least_stamped_of(&self, leading: Option<u8>, t: u8) -> u8
-        ensures { result ≡ leader (λ _. 0) (λ u. stamp_of (entry self.now u)) leading t }
+        ensures { result ≡ leader (λ _. 0) (λ u. stamp_of (entry self.now.places u)) leading t }
     {
         match leading {
             Some(u) if self.stamp(u) <= self.stamp(t) => u,
@@ -123,16 +151,16 @@ impl Ready {
         }
     }
 
-    /// The number of the out-of-band task that processor c should run by `ranks`: of those that are ready there,
-    /// the one of greatest rank, then of least stamp.
+    /// The number of the out-of-band task that processor c should run: of those that are ready there, the one of
+    /// greatest rank, then of least stamp.
     #[tactic(auto, using(crate::proofs::Scans::scans))]
-    pub fn best(&self, c: u8, ranks: &[u16]) -> Option<u8>
-        ensures { result ≡ first (λ t. runs_oob c (entry self.now t)) (listed_rank ranks.now) (λ t. stamp_of (entry self.now t)) (length self.now) }
+    pub fn best(&self, c: u8) -> Option<u8>
+        ensures { result ≡ first (λ t. runs_oob c (entry self.now.places t)) (listed_rank self.now.ranks) (λ t. stamp_of (entry self.now.places t)) (length self.now.places) }
     {
         let mut leading = None;
         for t in 0..self.len() {
             if runs_oob(self.get(t), c) {
-                leading = Some(self.leader_of(ranks, leading, t));
+                leading = Some(self.leader_of(leading, t));
             }
         }
         leading
@@ -142,7 +170,7 @@ impl Ready {
     /// least stamp.
     #[tactic(auto, using(crate::proofs::Scans::scans))]
     pub fn next_in_band(&self, c: u8) -> Option<u8>
-        ensures { result ≡ first (λ t. runs_in_band c (entry self.now t)) (λ _. 0) (λ t. stamp_of (entry self.now t)) (length self.now) }
+        ensures { result ≡ first (λ t. runs_in_band c (entry self.now.places t)) (λ _. 0) (λ t. stamp_of (entry self.now.places t)) (length self.now.places) }
     {
         let mut leading = None;
         for t in 0..self.len() {

@@ -3,7 +3,6 @@ use Rattle.std.proofs.Common.{◌≡◌, ℕ, zero, suc, ◌+◌, ◌<◌, ◌�
 use Rattle.std.specs.Prelude.{slice_get, slice_set, option_map, nat_le, ◌==◌, if◌then◌else◌}
 use Rattle.std.proofs.Math.Nat.{eq-or-lt_of_le}
 use Rattle.std.proofs.lemmas.Option.{slice_get_past}
-use Rattle.evm_parts.specs.evm_boost.Scatter.{AreRanks}
 use Rattle.evm_model.specs.Bounds.{PipesUpTo}
 use Rattle.evm_model.specs.Lists.{change, each}
 use Rattle.evm_model.specs.Pipes.{Pipe, raise}
@@ -109,20 +108,3 @@ up-one b d k false h = up-pipe b d k (slice_get k.pipes d) h
 
 pub nudge_one-up : (b c d : ℕ) (k : Parts) → PipesUpTo b k.pipes → PipesUpTo (b + 1) (nudge_one c d k).pipes
 nudge_one-up b c d k h = up-one b d k (d == c) h
-
--- and ranks stay
-ranks-if : (d : ℕ) (k : Parts) (ranks : List ℕ) (test : Bool) → AreRanks ranks k.mutexes k.tasks → AreRanks ranks (if test then on_pipe d (raise 1) k else k).mutexes (if test then on_pipe d (raise 1) k else k).tasks
-ranks-if d k ranks true h = h
-ranks-if d k ranks false h = h
-
-ranks-pipe : (d : ℕ) (k : Parts) (ranks : List ℕ) (o : Option Pipe) → AreRanks ranks k.mutexes k.tasks → AreRanks ranks (nudge_if o d k).mutexes (nudge_if o d k).tasks
-ranks-pipe d k ranks None h = h
-ranks-pipe d k ranks (Some pipe) h = ranks-if d k ranks (wants_nudge d pipe k) h
-
-ranks-one : (d : ℕ) (k : Parts) (ranks : List ℕ) (test : Bool) → AreRanks ranks k.mutexes k.tasks
-    → AreRanks ranks (if test then k else nudge_if (slice_get k.pipes d) d k).mutexes (if test then k else nudge_if (slice_get k.pipes d) d k).tasks
-ranks-one d k ranks true h = h
-ranks-one d k ranks false h = ranks-pipe d k ranks (slice_get k.pipes d) h
-
-pub nudge_one-ranks : (c d : ℕ) (k : Parts) (ranks : List ℕ) → AreRanks ranks k.mutexes k.tasks → AreRanks ranks (nudge_one c d k).mutexes (nudge_one c d k).tasks
-nudge_one-ranks c d k ranks h = ranks-one d k ranks (d == c) h

@@ -1,7 +1,6 @@
 -- Settling out-of-band in two steps, and the room that each takes up.
 use Rattle.std.proofs.Common.{◌≡◌, ℕ, List, ◌+◌, ◌-◌, Bool, true, false, Option, Some, None, refl, ap, sym, ◌∙◌, arith}
 use Rattle.std.specs.Prelude.{not, slice_get, if◌then◌else◌}
-use Rattle.evm_parts.specs.evm_boost.Scatter.{AreRanks}
 use Rattle.evm_model.specs.Bounds.{COUNT_LIMIT, PER_IN_BAND_LOG, PER_OOB_LOG, PER_SETTLING, HasStamps, PipesUpTo}
 use Rattle.evm_model.specs.Pipes.{Pipe}
 use Rattle.evm_model.specs.Settle.{play_oob_lines, run_best, settle_oob, settle_oob_pipe, settle_in_band, settle, nudge, settle_and_nudge}
@@ -9,8 +8,6 @@ use Rattle.evm_model.specs.State.{Parts}
 use Rattle.evm_model.specs.declared.limits.TheConstants.{PROCESSOR_LIMIT}
 use Rattle.evm_rules.proofs.Bounded.{AreWithin, within-more, within-settle_oob, within-settle_in_band}
 use Rattle.evm_rules.proofs.evm_walk.Counted.{PipesUpTo-more}
-use Rattle.evm_rules.proofs.Ranking.{AreRanked, ranked-same}
-use Rattle.evm_rules.proofs.Settling.{ranked-in_band}
 use Rattle.evm_settle.specs.Steps.{play_oob_pipe, chooses, choose}
 
 -- ---- the two steps
@@ -40,10 +37,6 @@ pub choose-stamps : (c : ℕ) (b : Bool) (k : Parts) → (choose b c k).stamps �
 choose-stamps c true k = refl
 choose-stamps c false k = refl
 
-pub choose-ranks : (c : ℕ) (b : Bool) (k : Parts) (ranks : List ℕ) → AreRanks ranks k.mutexes k.tasks → AreRanks ranks (choose b c k).mutexes (choose b c k).tasks
-choose-ranks c true k ranks h = h
-choose-ranks c false k ranks h = h
-
 -- ---- room
 pub room-first : (k : Parts) → AreWithin (COUNT_LIMIT - PER_SETTLING) k → PipesUpTo (COUNT_LIMIT - PER_OOB_LOG) k.pipes
 room-first k w = PipesUpTo-more (COUNT_LIMIT - PER_SETTLING) (COUNT_LIMIT - PER_OOB_LOG) k.pipes (omega arith) w.up
@@ -70,19 +63,10 @@ room-chosen c b k w = rw (choose-pipes c b k) w.up
 pub stamps-chosen : (c : ℕ) (b : Bool) (k : Parts) → HasStamps PER_IN_BAND_LOG k → HasStamps PER_IN_BAND_LOG (choose b c k)
 stamps-chosen c b k h = rw (choose-stamps c b k) h
 
--- the in-band part follows, and leaves the ranks
+-- the in-band part follows
 pub room-settled : (c : ℕ) (b : Bool) (k : Parts) → AreWithin (COUNT_LIMIT - PER_IN_BAND_LOG) k → PipesUpTo (COUNT_LIMIT - PROCESSOR_LIMIT) (settle_in_band c (choose b c k)).pipes
 room-settled c b k w =
     let all : AreWithin (COUNT_LIMIT - PER_IN_BAND_LOG + 32) (settle_in_band c (choose b c k)) = within-settle_in_band (COUNT_LIMIT - PER_IN_BAND_LOG) c (choose b c k) (choose-within (COUNT_LIMIT - PER_IN_BAND_LOG) c b k w) in
     PipesUpTo-more (COUNT_LIMIT - PER_IN_BAND_LOG + 32) (COUNT_LIMIT - PROCESSOR_LIMIT) _ (omega arith) all.up
 
-ranks-stay : (c : ℕ) (k : Parts) (ranks : List ℕ) → AreRanks ranks k.mutexes k.tasks → AreRanks ranks (settle_in_band c k).mutexes (settle_in_band c k).tasks
-ranks-stay c k ranks h t less =
-    let r : AreRanked k (settle_in_band c k) = ranked-in_band c k in
-    h t (rw (← r.size) less) ∙ sym (ranked-same k (settle_in_band c k) r t)
-
-pub ranks-settled : (c : ℕ) (b : Bool) (k : Parts) (ranks : List ℕ) → AreRanks ranks k.mutexes k.tasks
-    → AreRanks ranks (settle_in_band c (choose b c k)).mutexes (settle_in_band c (choose b c k)).tasks
-ranks-settled c b k ranks h = ranks-stay c (choose b c k) ranks (choose-ranks c b k ranks h)
-
-pub ruleset steps = (room-first, room-up, room-played, room-chosen, stamps-chosen, room-settled, ranks-settled, settle_and_nudge-steps)
+pub ruleset steps = (room-first, room-up, room-played, room-chosen, stamps-chosen, room-settled, settle_and_nudge-steps)

@@ -6,8 +6,8 @@ mod playing;
 mod settling;
 
 pub use evm_parts::{
-    Actions, Console, Events, Flags, Harts, Mutexes, Notices, Parts, Pipe, Semaphores, Tasks,
-    Timers,
+    Actions, Console, Events, Flags, Harts, Mutexes, Notices, Parts, Pipe, Schedule, Semaphores,
+    Tasks, Timers,
 };
 pub use settling::settle_and_nudge;
 

@@ -1,4 +1,3 @@
-ghost use Rattle.evm_parts.specs.evm_boost.Scatter.{AreRanks};
 ghost use Rattle.std.specs.Prelude.{◌≡◌, ◌-◌};
 ghost use Rattle.evm_model.specs.Bounds.{COUNT_LIMIT, PipesUpTo};
 ghost use Rattle.evm_model.specs.Settle.{nudge, differs, wants_nudge};
@@ -19,19 +18,17 @@ fn is_other(best: Option<u8>, current: Option<u8>) -> bool
 }
 
 // Whether a processor has a better task than its current one, and can be nudged.
-pub(crate) fn wants_nudge(parts: &Parts, d: u8, pipe: &Pipe, ranks: &[u16]) -> bool
-    requires { AreRanks ranks.now parts.now.mutexes parts.now.tasks }
+pub(crate) fn wants_nudge(parts: &Parts, d: u8, pipe: &Pipe) -> bool
     ensures { result ≡ wants_nudge d pipe.now parts.now }
 {
     !pipe.log(Stage::OutOfBand).stalled
         && !pipe.wire().contains(1)
-        && is_other(parts.best(d, ranks), parts.current(d))
+        && is_other(parts.best(d), parts.current(d))
 }
 
 // Raises line 1 of another processor that wants it.
-pub(crate) fn nudge_one(parts: &mut Parts, c: u8, d: u8, ranks: &[u16])
-    requires room { PipesUpTo COUNT_LIMIT parts.old.pipes }
-    requires ranks { AreRanks ranks.now parts.old.mutexes parts.old.tasks }
+pub(crate) fn nudge_one(parts: &mut Parts, c: u8, d: u8)
+    requires { PipesUpTo COUNT_LIMIT parts.old.pipes }
     ensures { parts.new ≡ nudge_one c d parts.old }
 {
     if d == c {
@@ -40,18 +37,17 @@ pub(crate) fn nudge_one(parts: &mut Parts, c: u8, d: u8, ranks: &[u16])
     let Some(pipe) = parts.pipe(d) else {
         return;
     };
-    if wants_nudge(parts, d, pipe, ranks) {
+    if wants_nudge(parts, d, pipe) {
         parts.raise(d, 1);
     }
 }
 
 // Raises line 1 of each other processor that wants it.
-pub(crate) fn nudge(parts: &mut Parts, c: u8, ranks: &[u16])
-    requires room { PipesUpTo (COUNT_LIMIT - PROCESSOR_LIMIT) parts.old.pipes }
-    requires ranks { AreRanks ranks.now parts.old.mutexes parts.old.tasks }
+pub(crate) fn nudge(parts: &mut Parts, c: u8)
+    requires { PipesUpTo (COUNT_LIMIT - PROCESSOR_LIMIT) parts.old.pipes }
     ensures { parts.new ≡ nudge c parts.old }
 {
     for d in 0..parts.pipe_count() {
-        nudge_one(parts, c, d, ranks);
+        nudge_one(parts, c, d);
     }
 }

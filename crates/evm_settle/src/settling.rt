@@ -1,7 +1,5 @@
-ghost use Rattle.evm_parts.specs.evm_boost.Scatter.{AreRanks};
 ghost use Rattle.std.specs.Prelude.{◌≡◌, ◌≤◌, ◌+◌, ◌-◌, slice_get, Option};
 ghost use Rattle.evm_model.specs.Bounds.{COUNT_LIMIT, PER_IN_BAND_LOG, PER_OOB_LOG, PER_SETTLING, HasStamps, PipesUpTo};
-ghost use Rattle.evm_model.specs.Ranks.{next_in_band};
 ghost use Rattle.evm_model.specs.Settle.{turn_in_band, settle_in_band, run_in_band, nudge, settle_and_nudge, play_in_band_pipe};
 ghost use Rattle.evm_rules.specs.Within.{AreWithin};
 ghost use Rattle.evm_settle.specs.Steps.{play_oob_pipe, chooses, choose};
@@ -35,22 +33,13 @@ fn play_oob_log(parts: &mut Parts, was: Option<u8>, c: u8) -> bool
 }
 
 // The best task is current, if it is to be.
-fn choose(parts: &mut Parts, c: u8, chooses: bool, ranks: &[u16])
-    requires { AreRanks ranks.now parts.old.mutexes parts.old.tasks }
+fn choose(parts: &mut Parts, c: u8, chooses: bool)
     ensures { parts.new ≡ choose chooses c parts.old }
 {
     if chooses {
-        let best = parts.best(c, ranks);
+        let best = parts.best(c);
         parts.set_current(c, best);
     }
-}
-
-// The in-band task to take up. Apart, as it is looked for among all tasks, and mostly there is one already.
-#[inline(never)]
-fn next_in_band(parts: &Parts, c: u8) -> Option<u8>
-    ensures { result ≡ next_in_band c parts.now.tasks }
-{
-    parts.tasks.next_in_band(c)
 }
 
 // Takes up an in-band task where there is none, and makes it current.
@@ -62,7 +51,7 @@ fn run_in_band(parts: &mut Parts, c: u8)
     };
     let task = match processor.in_band_task {
         Some(task) => Some(task),
-        None => next_in_band(parts, c),
+        None => parts.next_in_band(c),
     };
     parts.run_in_band(c, task);
 }
@@ -109,19 +98,16 @@ fn settle_in_band(parts: &mut Parts, c: u8)
     }
 }
 
-// What follows by the ranks, once the out-of-band log is played. It is apart, since they take room that would be
-// cleared after each event, also where no task is ready out-of-band.
-#[inline(never)]
+// What follows once the out-of-band log is played, where a task is ready out-of-band.
 #[tactic(auto, using(crate::proofs::Steps::steps))]
-fn settle_by_ranks(parts: &mut Parts, c: u8, chooses: bool)
+fn settle_oob_ready(parts: &mut Parts, c: u8, chooses: bool)
     requires room { AreWithin (COUNT_LIMIT - PER_IN_BAND_LOG) parts.old }
     requires stamps { HasStamps PER_IN_BAND_LOG parts.old }
     ensures { parts.new ≡ nudge c (settle_in_band c (choose chooses c parts.old)) }
 {
-    let ranks = parts.mutexes.ranks(&parts.tasks);
-    choose(parts, c, chooses, &ranks);
+    choose(parts, c, chooses);
     settle_in_band(parts, c);
-    nudge(parts, c, &ranks);
+    nudge(parts, c);
 }
 
 /// A processor settles after an event, and tells the others that should run another task. `was` is the task that was
@@ -135,8 +121,8 @@ pub fn settle_and_nudge(parts: &mut Parts, was: Option<u8>, c: u8)
 {
     let chooses = play_oob_log(parts, was, c);
     // Where no task is ready out-of-band no processor has a best one, so the in-band part is all that follows.
-    if parts.tasks.has_oob() {
-        settle_by_ranks(parts, c, chooses);
+    if parts.has_oob() {
+        settle_oob_ready(parts, c, chooses);
     } else {
         turn_in_band(parts, c);
     }

@@ -2,7 +2,7 @@
 //! processor that has a better out-of-band task than its current one, is not stalled out-of-band, and does not
 //! have the line on its wire already.
 
-ghost use Rattle.std.specs.Prelude.{◌≡◌, replicate};
+ghost use Rattle.std.specs.Prelude.{◌≡◌, replicate, IfOk};
 ghost use Rattle.evm_model.specs.Pipes.{idle_pipe};
 ghost use Rattle.evm_rules.specs.Within.{AreWithin};
 
@@ -12,7 +12,7 @@ use arrayvec::ArrayVec;
 use evm_exec::Hart;
 use evm_model::{Class, Mode, Processor, Profile, Stage, Task, TaskState, Wait};
 use evm_parts::{
-    Actions, Console, Events, Flags, Harts, Mutexes, Notices, Parts, Pipe, Semaphores, Tasks,
+    Actions, Console, Events, Flags, Harts, Mutexes, Notices, Parts, Pipe, Schedule, Semaphores, Tasks,
     Timers,
 };
 use std::alloc::Global;
@@ -146,24 +146,13 @@ fn task_of(cpu: u8, state: TaskState) -> Task {
     }
 }
 
-// The rings of the parts.
-#[derive(Drop)]
-struct Rings {
-    console: Console,
-    notices: Notices,
-}
-
-// Empty rings.
-fn rings_of(alloc: Global) -> Result<Rings, Fail> {
+// Three processors of which processor 1 runs what the row says, and this task, the only one.
+fn parts_with(alloc: Global, task: Task, row: &Row) -> Result<Parts, Fail>
+    ensures { IfOk result (λ parts. parts.pipes ≡ replicate 3 idle_pipe) }
+{
+    let schedule = Schedule::of_first(alloc, 3, task)?;
     let console = Console::new(alloc)?;
     let notices = Notices::new(alloc)?;
-    Ok(Rings { console, notices })
-}
-
-// Three processors of which processor 1 runs what the row says, and this task, the only one.
-fn parts_with(rings: Rings, task: Task, row: &Row) -> Parts
-    ensures { result.pipes ≡ replicate 3 idle_pipe }
-{
     let mut processors = ArrayVec::new();
     processors.push(Processor::default());
     processors.push(Processor {
@@ -177,7 +166,7 @@ fn parts_with(rings: Rings, task: Task, row: &Row) -> Parts
     pipes.push(Pipe::new());
     pipes.push(Pipe::new());
     pipes.push(Pipe::new());
-    Parts {
+    Ok(Parts {
         profile: Profile { ram: 65_536 },
         ticks: 0,
         harts: Harts::of_first(Hart {
@@ -189,14 +178,15 @@ fn parts_with(rings: Rings, task: Task, row: &Row) -> Parts
         pipes,
         stamps: 1,
         mutexes: Mutexes::new(),
+        schedule,
         semaphores: Semaphores::new(),
         events: Events::new(),
         flags: Flags::new(),
         timers: Timers::new(),
         actions: Actions::new(),
-        console: rings.console,
-        notices: rings.notices,
-    }
+        console,
+        notices,
+    })
 }
 
 // Puts the row's line on processor 1's wire.
@@ -214,14 +204,14 @@ fn wire(parts: &mut Parts, line: Line)
 }
 
 // The parts of a row.
-fn parts_of(rings: Rings, task: Task, row: &Row) -> Parts
-    ensures { AreWithin 1 result }
+fn parts_of(alloc: Global, task: Task, row: &Row) -> Result<Parts, Fail>
+    ensures { IfOk result (AreWithin 1) }
 {
-    let mut parts = parts_with(rings, task, row);
+    let mut parts = parts_with(alloc, task, row)?;
     wire(&mut parts, row.wire);
     parts.set_stall(1, Stage::OutOfBand, row.oob_stalled);
     parts.set_stall(1, Stage::InBand, row.in_band_stalled);
-    parts
+    Ok(parts)
 }
 
 // How often line 1 of a processor was raised, and how often it was merged.
@@ -236,14 +226,12 @@ fn raises(parts: &Parts, c: u8) -> Option<(u64, u64)> {
 #[tactic(auto, using(crate::proofs::Idle::idle))]
 fn others_are_told(rt: HostRuntime) -> Result<(), Fail> {
     for row in ROWS.iter() {
-        let rings = rings_of(rt.alloc())?;
-        let mut parts = parts_of(rings, task_of(1, TaskState::OobReady), row);
+        let mut parts = parts_of(rt.alloc(), task_of(1, TaskState::OobReady), row)?;
         let name = row.name;
         let pipe = parts.pipe(1).ok_or("a pipe")?;
-        let ranks = parts.ranks();
-        assert_eq!(rt; wants_nudge(&parts, 1, pipe, &ranks), row.told, "{name}");
+        assert_eq!(rt; wants_nudge(&parts, 1, pipe), row.told, "{name}");
         let was = u64::from(matches!(row.wire, Line::Nudge));
-        nudge(&mut parts, 0, &ranks);
+        nudge(&mut parts, 0);
         let now = was.saturating_add(u64::from(row.told));
         assert_eq!(rt; raises(&parts, 1), Some((now, 0)), "{name}");
         assert_eq!(rt; raises(&parts, 0), Some((0, 0)), "{name}");
@@ -258,16 +246,12 @@ fn others_are_told(rt: HostRuntime) -> Result<(), Fail> {
 fn the_acting_processor_is_not_told(rt: HostRuntime) -> Result<(), Fail> {
     for row in ROWS.iter() {
         let name = row.name;
-        let rings = rings_of(rt.alloc())?;
-        let mut parts = parts_of(rings, task_of(1, TaskState::OobReady), row);
+        let mut parts = parts_of(rt.alloc(), task_of(1, TaskState::OobReady), row)?;
         let before = raises(&parts, 1);
-        let ranks = parts.ranks();
-        nudge(&mut parts, 1, &ranks);
+        nudge(&mut parts, 1);
         assert_eq!(rt; raises(&parts, 1), before, "{name}");
-        let rings = rings_of(rt.alloc())?;
-        let mut parts = parts_of(rings, task_of(1, TaskState::OobReady), row);
-        let ranks = parts.ranks();
-        nudge_one(&mut parts, 1, 1, &ranks);
+        let mut parts = parts_of(rt.alloc(), task_of(1, TaskState::OobReady), row)?;
+        nudge_one(&mut parts, 1, 1);
         assert_eq!(rt; raises(&parts, 1), before, "{name}");
     }
     Ok(())
@@ -284,10 +268,8 @@ fn nobody_is_told_of_other_tasks(rt: HostRuntime) -> Result<(), Fail> {
         (0, TaskState::OobReady),
         (3, TaskState::OobReady),
     ] {
-        let rings = rings_of(rt.alloc())?;
-        let mut parts = parts_of(rings, task_of(cpu, state), &IDLE);
-        let ranks = parts.ranks();
-        nudge(&mut parts, 0, &ranks);
+        let mut parts = parts_of(rt.alloc(), task_of(cpu, state), &IDLE)?;
+        nudge(&mut parts, 0);
         let told = [raises(&parts, 0), raises(&parts, 1), raises(&parts, 2)];
         assert_eq!(rt; told, [Some((0, 0)); 3], "of {state:?} on {cpu}");
     }
@@ -298,16 +280,12 @@ fn nobody_is_told_of_other_tasks(rt: HostRuntime) -> Result<(), Fail> {
 #[test]
 #[tactic(auto, using(crate::proofs::Idle::idle))]
 fn one_processor_is_told(rt: HostRuntime) -> Result<(), Fail> {
-    let rings = rings_of(rt.alloc())?;
-    let mut parts = parts_of(rings, task_of(1, TaskState::OobReady), &IDLE);
-    let ranks = parts.ranks();
-    nudge_one(&mut parts, 0, 3, &ranks);
+    let mut parts = parts_of(rt.alloc(), task_of(1, TaskState::OobReady), &IDLE)?;
+    nudge_one(&mut parts, 0, 3);
     assert_eq!(rt; raises(&parts, 1), Some((0, 0)));
     assert_eq!(rt; raises(&parts, 3), None);
-    let rings = rings_of(rt.alloc())?;
-    let mut parts = parts_of(rings, task_of(1, TaskState::OobReady), &IDLE);
-    let ranks = parts.ranks();
-    nudge_one(&mut parts, 0, 2, &ranks);
+    let mut parts = parts_of(rt.alloc(), task_of(1, TaskState::OobReady), &IDLE)?;
+    nudge_one(&mut parts, 0, 2);
     assert_eq!(rt; raises(&parts, 1), Some((0, 0)));
     assert_eq!(rt; raises(&parts, 2), Some((0, 0)));
     Ok(())
@@ -317,15 +295,13 @@ fn one_processor_is_told(rt: HostRuntime) -> Result<(), Fail> {
 #[test]
 #[tactic(auto, using(crate::proofs::Idle::idle))]
 fn settling_tells(rt: HostRuntime) -> Result<(), Fail> {
-    let rings = rings_of(rt.alloc())?;
-    let mut parts = parts_of(rings, task_of(1, TaskState::OobReady), &IDLE);
+    let mut parts = parts_of(rt.alloc(), task_of(1, TaskState::OobReady), &IDLE)?;
     assert_eq!(rt; parts.stamps, 1);
     assert_eq!(rt; parts.ticks, 0);
     settle_and_nudge(&mut parts, None, 0);
     assert_eq!(rt; raises(&parts, 1), Some((1, 0)));
     assert_eq!(rt; parts.current(1), None);
-    let rings = rings_of(rt.alloc())?;
-    let mut parts = parts_of(rings, task_of(1, TaskState::OobReady), &IDLE);
+    let mut parts = parts_of(rt.alloc(), task_of(1, TaskState::OobReady), &IDLE)?;
     assert_eq!(rt; parts.stamps, 1);
     assert_eq!(rt; parts.ticks, 0);
     settle_and_nudge(&mut parts, None, 1);
@@ -344,8 +320,7 @@ fn settling_in_band(rt: HostRuntime) -> Result<(), Fail> {
         (TaskState::Exit, None),
         (TaskState::Waits(Wait::Line(3)), None),
     ] {
-        let rings = rings_of(rt.alloc())?;
-        let mut parts = parts_of(rings, task_of(1, state), &BUSY);
+        let mut parts = parts_of(rt.alloc(), task_of(1, state), &BUSY)?;
         assert_eq!(rt; parts.stamps, 1);
         assert_eq!(rt; parts.ticks, 0);
         settle_and_nudge(&mut parts, BUSY.running, 1);

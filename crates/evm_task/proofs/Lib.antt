@@ -1,3 +1,2 @@
+pub mod Changed
 pub mod Early
-pub mod Entered
-pub use Rattle.evm_ready.proofs as evm_ready

@@ -6,7 +6,6 @@ mod harts;
 mod tasks;
 mod woken;
 
-pub use evm_ready::listed_rank;
 pub use harts::{Asked, Harts};
 pub use tasks::Tasks;
 

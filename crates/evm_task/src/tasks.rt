@@ -4,33 +4,24 @@ ghost use Rattle.evm_model.specs.Calls.{is_weak_oob};
 ghost use Rattle.evm_model.specs.Deadlines.{deadline, is_due};
 ghost use Rattle.evm_model.specs.Lists.{change};
 ghost use Rattle.evm_model.specs.declared.limits.TheConstants.{SLICE};
+ghost use Rattle.evm_model.specs.Ranks.{first, leader};
 ghost use Rattle.evm_model.specs.OobCalls.{is_scheduled_task, mode_of};
-ghost use Rattle.evm_model.specs.Ranks.{first, leader, next_in_band, runs_oob, stamp};
 ghost use Rattle.evm_model.specs.Settle.{is_oob};
 ghost use Rattle.evm_model.specs.Stages.{is_attached_task};
 ghost use Rattle.evm_model.specs.State.{no_mode};
 ghost use Rattle.evm_model.specs.Tasks.{is_live};
-ghost use Rattle.evm_model.specs.Waits.{awaits, kept_of, woken};
-ghost use Rattle.evm_ready.specs.Oob.{has_oob};
-ghost use Rattle.evm_ready.specs.Places.{placed};
-ghost use Rattle.evm_ready.specs.ListedRanks.{listed_rank};
+ghost use Rattle.evm_model.specs.Waits.{kept_of, woken};
 ghost use Rattle.evm_task.specs.Early.{IsEarly, lowered};
-ghost use Rattle.evm_wait.specs.Waiters.{awaited};
 
 use crate::woken::wake;
 use arrayvec::ArrayVec;
 use evm_model::{Class, Mode, SLICE, TASK_LIMIT, Task, TaskState, Wait};
-use evm_ready::{Ready, place_of};
-use evm_wait::{Waiting, waiter_of};
 use std::marker::Model;
 
-/// The tasks, in the order of their numbers. Where they are ready and what they wait for is kept beside them, so that
-/// the one that goes first is found without them.
+/// The tasks, in the order of their numbers.
 #[derive(Debug, Drop)]
 pub struct Tasks {
     tasks: ArrayVec<Task, TASK_LIMIT>,
-    ready: Ready,
-    waiting: Waiting,
     // no task has an earlier deadline
     earliest: u64,
 }
@@ -41,20 +32,11 @@ impl Model for Tasks {
 
     ghost Value = { List Task };
 
-    ghost use Rattle.evm_task.specs.Entered.{AreEntered};
+    ghost use Rattle.evm_task.specs.Early.{IsEarly};
 
-    ghost invariant = { λ t. AreEntered t.tasks.items t.ready t.waiting t.earliest };
+    ghost invariant = { λ t. IsEarly t.earliest t.tasks.items };
 
     ghost view = { λ t. t.tasks.items };
-}
-
-// Task t is ready where it is now, and waits for what it waits for now.
-fn enter(ready: &mut Ready, waiting: &mut Waiting, t: u8, task: &Task)
-    ensures ready { ready.new ≡ change (λ _. placed task.now) ready.old t }
-    ensures waiting { waiting.new ≡ change (λ _. awaited task.now) waiting.old t }
-{
-    ready.set(t, place_of(task));
-    waiting.set(t, waiter_of(task));
 }
 
 // The bound of the deadlines with one more; 0 is none.
@@ -82,8 +64,6 @@ impl Tasks {
     {
         let mut tasks = Tasks {
             tasks: ArrayVec::new(),
-            ready: Ready::new(),
-            waiting: Waiting::new(),
             earliest: u64::MAX,
         };
         tasks.push(task);
@@ -110,10 +90,10 @@ impl Tasks {
     pub fn set_state(&mut self, t: u8, state: TaskState)
         ensures { self.new ≡ change (λ task. record task { state = state }) self.old t }
     {
-        if let Some(task) = self.tasks.get_mut(t as usize) {
-            task.state = state;
-            enter(&mut self.ready, &mut self.waiting, t, task);
-        }
+        let Some(task) = self.tasks.get_mut(t as usize) else {
+            return;
+        };
+        task.state = state;
     }
 
     /// A task waits, until a deadline if that is not 0.
@@ -123,7 +103,6 @@ impl Tasks {
         if let Some(task) = self.tasks.get_mut(t as usize) {
             task.state = TaskState::Waits(wait);
             task.deadline = deadline;
-            enter(&mut self.ready, &mut self.waiting, t, task);
             self.earliest = lowered(self.earliest, deadline);
         }
     }
@@ -133,20 +112,20 @@ impl Tasks {
     pub fn end_wait(&mut self, t: u8, owns: bool)
         ensures { self.new ≡ change (woken owns) self.old t }
     {
-        if let Some(task) = self.tasks.get_mut(t as usize) {
-            wake(task, owns);
-            enter(&mut self.ready, &mut self.waiting, t, task);
-        }
+        let Some(task) = self.tasks.get_mut(t as usize) else {
+            return;
+        };
+        wake(task, owns);
     }
 
     /// A task has another stamp.
     pub fn set_stamp(&mut self, t: u8, stamp: u64)
         ensures { self.new ≡ change (λ task. record task { stamp = stamp }) self.old t }
     {
-        if let Some(task) = self.tasks.get_mut(t as usize) {
-            task.stamp = stamp;
-            enter(&mut self.ready, &mut self.waiting, t, task);
-        }
+        let Some(task) = self.tasks.get_mut(t as usize) else {
+            return;
+        };
+        task.stamp = stamp;
     }
 
     /// A task has this many ticks left.
@@ -198,8 +177,6 @@ impl Tasks {
         requires { length self.old < TASK_LIMIT }
         ensures { self.new ≡ self.old ++ task ∷ [] }
     {
-        self.ready.push(place_of(&task));
-        self.waiting.push(waiter_of(&task));
         self.earliest = lowered(self.earliest, task.deadline);
         self.tasks.push(task);
     }
@@ -215,13 +192,6 @@ impl Tasks {
             None => false,
             Some(task) => task.state == TaskState::OobReady,
         }
-    }
-
-    /// Whether any task is ready out-of-band, on whichever processor.
-    pub fn has_oob(&self) -> bool
-        ensures { result ≡ has_oob self.now }
-    {
-        self.ready.has_oob()
     }
 
     /// Whether there is such a task and it has a class.
@@ -284,27 +254,6 @@ impl Tasks {
         ensures limit { length result.now ≤ TASK_LIMIT }
     {
         self.tasks.as_slice()
-    }
-
-    /// The number of the out-of-band task that a processor should run, by `ranks`.
-    pub fn best(&self, c: u8, ranks: &[u16]) -> Option<u8>
-        ensures { result ≡ first (runs_oob c self.now) (listed_rank ranks.now) (stamp self.now) (length self.now) }
-    {
-        self.ready.best(c, ranks)
-    }
-
-    /// The number of the in-band task that a processor should take up.
-    pub fn next_in_band(&self, c: u8) -> Option<u8>
-        ensures { result ≡ next_in_band c self.now }
-    {
-        self.ready.next_in_band(c)
-    }
-
-    /// The number of the first task that waits for this, by `ranks`.
-    pub fn first_waiter(&self, wait: Wait, ranks: &[u16]) -> Option<u8>
-        ensures { result ≡ first (awaits wait self.now) (listed_rank ranks.now) (stamp self.now) (length self.now) }
-    {
-        self.waiting.first(wait, ranks)
     }
 
     // The deadline of task t, 0 where it has none.

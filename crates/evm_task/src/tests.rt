@@ -1,4 +1,4 @@
-//! Which task goes first as tasks change, against rows worked by hand.
+//! How tasks change, against rows worked by hand.
 
 ghost use Rattle.std.specs.Prelude.{◌≡◌, length};
 
@@ -60,50 +60,27 @@ fn tick(tasks: &mut Tasks, t: u8, stamp: u64) {
     }
 }
 
-#[test]
-fn two_round_robin_tasks_take_turns(rt: HostRuntime) {
-    let mut tasks = Tasks::of_first(ready(Class::RoundRobin, 10, 5));
-    tasks.push(ready(Class::RoundRobin, 10, 6));
-    for _ in 0..3 {
-        tick(&mut tasks, 0, 7);
-        assert_eq!(rt; tasks.best(0, &[110, 110]), Some(0));
+fn stamp_of(tasks: &Tasks, t: u8) -> u64 {
+    match tasks.get(t) {
+        None => 0,
+        Some(task) => task.stamp,
     }
-    assert_eq!(rt; slice_of(&tasks, 0), 1);
-    tick(&mut tasks, 0, 7);
-    assert_eq!(rt; slice_of(&tasks, 0), 4);
-    assert_eq!(rt; tasks.best(0, &[110, 110]), Some(1));
-    for _ in 0..4 {
-        tick(&mut tasks, 1, 8);
-    }
-    assert_eq!(rt; tasks.best(0, &[110, 110]), Some(0));
 }
 
 #[test]
-fn the_best_changes_with_its_tasks(rt: HostRuntime) {
-    let mut tasks = three(
-        ready(Class::Fifo, 10, 1),
-        ready(Class::Fifo, 20, 2),
-        ready(Class::Weak, 50, 3),
-    );
-    let ranks = [110, 120, 50];
-    assert_eq!(rt; tasks.best(0, &ranks), Some(1));
-    tasks.set_state(1, TaskState::InReady);
-    assert_eq!(rt; tasks.best(0, &ranks), Some(0));
-    assert_eq!(rt; tasks.next_in_band(0), Some(1));
-    tasks.set_state(1, TaskState::OobReady);
-    assert_eq!(rt; tasks.best(0, &ranks), Some(1));
-    assert_eq!(rt; tasks.next_in_band(0), None);
-    tasks.set_slice(1, 1);
-    tasks.set_policy(1, Class::RoundRobin, 10);
-    assert_eq!(rt; slice_of(&tasks, 1), SLICE);
-    assert_eq!(rt; tasks.best(0, &[110, 110, 50]), Some(0));
-    tasks.set_state(3, TaskState::OobReady);
-    assert_eq!(rt; tasks.best(0, &[99, 110, 50]), Some(1));
-    tasks.set_state(0, TaskState::Exit);
-    tasks.set_state(1, TaskState::Exit);
-    assert!(rt; tasks.has_oob());
-    tasks.set_state(2, TaskState::Exit);
-    assert!(rt; !tasks.has_oob());
+fn the_last_tick_of_a_slice_gives_a_whole_one(rt: HostRuntime) {
+    let mut tasks = Tasks::of_first(ready(Class::RoundRobin, 10, 5));
+    for _ in 0..3 {
+        tick(&mut tasks, 0, 7);
+    }
+    assert_eq!(rt; slice_of(&tasks, 0), 1);
+    assert_eq!(rt; stamp_of(&tasks, 0), 5);
+    tick(&mut tasks, 0, 7);
+    assert_eq!(rt; slice_of(&tasks, 0), 4);
+    assert_eq!(rt; stamp_of(&tasks, 0), 7);
+    tasks.set_slice(0, 1);
+    tasks.set_policy(0, Class::Fifo, 10);
+    assert_eq!(rt; slice_of(&tasks, 0), SLICE);
 }
 
 // A weak task that owns no mutex returns in-band with its answer.
@@ -121,30 +98,6 @@ fn a_weak_task_wakes_in_band(rt: HostRuntime) {
     assert!(rt; is_in(&tasks, 0, TaskState::InReady));
     assert!(rt; is_in(&tasks, 1, TaskState::OobReady));
     assert!(rt; is_in(&tasks, 2, TaskState::InReady));
-    assert_eq!(rt; tasks.next_in_band(0), Some(0));
-    assert_eq!(rt; tasks.best(0, &[9, 9, 9]), Some(1));
-}
-
-#[test]
-fn the_first_waiter_changes_with_its_tasks(rt: HostRuntime) {
-    let mut tasks = three(
-        waiter(Class::Fifo, 1),
-        waiter(Class::Fifo, 2),
-        waiter(Class::Fifo, 3),
-    );
-    let lock = Wait::Lock(3);
-    assert_eq!(rt; tasks.first_waiter(lock, &[120, 150, 120]), Some(1));
-    tasks.end_wait(1, true);
-    assert!(rt; is_in(&tasks, 1, TaskState::OobReady));
-    assert_eq!(rt; tasks.first_waiter(lock, &[120, 150, 120]), Some(0));
-    tasks.set_stamp(0, 4);
-    assert_eq!(rt; tasks.first_waiter(lock, &[120, 150, 120]), Some(2));
-    tasks.begin_wait(1, lock, 7);
-    assert_eq!(rt; tasks.first_waiter(lock, &[120, 150, 120]), Some(1));
-    tasks.end_wait(0, false);
-    tasks.end_wait(1, false);
-    tasks.end_wait(2, true);
-    assert_eq!(rt; tasks.first_waiter(lock, &[120, 150, 120]), None);
 }
 
 // Deadlines 4 and 2 end their waits in the order 2, 4, and of two equal ones the lesser number goes first.

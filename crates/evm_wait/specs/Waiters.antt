@@ -1,5 +1,5 @@
 -- What tasks wait for: an entry for each task, by its number.
-use Rattle.std.specs.Prelude.{ℕ, Option, Some, None, Bool, false}
+use Rattle.std.specs.Prelude.{◌≡◌, ℕ, List, Option, Some, None, Bool, false, length}
 use Rattle.evm_model.specs.Waits.{same_wait}
 use Rattle.evm_model.specs.declared.task.Task.{Task}
 use Rattle.evm_model.specs.declared.task.TaskState.{TaskState}
@@ -24,3 +24,13 @@ waits_for wait (Some waiter) = same_wait waiter.wait wait
 abbrev pub stamp_of : Option Waiter → ℕ
 stamp_of None = 0
 stamp_of (Some waiter) = waiter.stamp
+
+-- ---- all entries
+-- the tasks, by their numbers: what each waits for, and its rank
+pub record WaitingTasks : Type 0 where
+  pub waiters : List (Option Waiter)
+  pub ranks : List ℕ
+
+-- each task has a rank
+pub record AreWaiting (waiters : List (Option Waiter)) (ranks : List ℕ) : Type 0 where
+  pub ranked : length ranks ≡ length waiters

@@ -7,5 +7,6 @@ mod waiting;
 pub use waiter::{Waiter, waiter_of};
 pub use waiting::Waiting;
 
-#[cfg(test)]
-mod tests;
+/// How many queues there are of tasks that wait: one for each of 32 mutexes, semaphores, events, flag groups and
+/// timers.
+pub const WAIT_QUEUE_LIMIT: usize = 160;

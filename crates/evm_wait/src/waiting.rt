@@ -1,4 +1,4 @@
-ghost use Rattle.std.specs.Prelude.{◌≡◌, ◌<◌, ◌≤◌, ◌++◌, ◌∷◌, [], length};
+ghost use Rattle.std.specs.Prelude.{◌≡◌, ◌<◌, ◌≤◌, ◌++◌, ◌∷◌, [], length, IfOk, IfErr};
 ghost use Rattle.arrayvec.specs.ArrayVec.{array_vec_len};
 ghost use Rattle.evm_model.specs.Lists.{change};
 ghost use Rattle.evm_model.specs.Ranks.{first, leader};
@@ -6,64 +6,101 @@ ghost use Rattle.evm_ready.specs.Places.{entry};
 ghost use Rattle.evm_ready.specs.ListedRanks.{listed_rank};
 ghost use Rattle.evm_wait.specs.Waiters.{stamp_of, waits_for};
 
+use crate::WAIT_QUEUE_LIMIT;
 use crate::waiter::{Waiter, waits_for};
 use arrayvec::ArrayVec;
 use evm_model::{TASK_LIMIT, Wait};
 use evm_ready::{is_before, listed_rank};
+use evm_room::Refused;
+use std::alloc::Global;
 use std::marker::Model;
 
-/// What each task waits for, by its number, with room for all from the start.
+/// What each task waits for, and its rank, by its number, with room for all from the start.
 #[derive(Debug, Drop)]
 pub struct Waiting {
     waiters: ArrayVec<Option<Waiter>, TASK_LIMIT>,
+    ranks: ArrayVec<u16, TASK_LIMIT>,
 }
 
 impl Model for Waiting {
-    ghost use Rattle.std.specs.Prelude.{List, Option};
-    ghost use Rattle.evm_wait.specs.declared.waiter.Waiter.{Waiter};
+    ghost use Rattle.evm_wait.specs.Waiters.{AreWaiting, WaitingTasks};
 
-    ghost Value = { List (Option Waiter) };
+    ghost Value = { WaitingTasks };
 
-    ghost view = { λ w. w.waiters.items };
+    ghost invariant = { λ w. AreWaiting w.waiters.items w.ranks.items };
+
+    ghost view = { λ w. record {
+      waiters = w.waiters.items;
+      ranks = w.ranks.items;
+    } };
 }
 
 impl Waiting {
-    /// No task.
-    pub fn new() -> Waiting
-        ensures { result ≡ [] }
+    /// No task. The room for the queues is taken at once.
+    ///
+    /// # Errors
+    ///
+    /// Where an allocation of their room failed.
+    pub fn new(alloc: Global) -> Result<Waiting, Refused>
+        ensures waiters { IfOk result (λ waiting. waiting.waiters ≡ []) }
+        ensures ranks { IfOk result (λ waiting. waiting.ranks ≡ []) }
+        ensures refused { IfErr result (λ asked. asked ≤ WAIT_QUEUE_LIMIT) }
     {
-        Waiting {
+        let _queues = alloc;
+        Ok(Waiting {
             waiters: ArrayVec::new(),
-        }
+            ranks: ArrayVec::new(),
+        })
     }
 
     /// How many tasks there are, whether they wait or not; 64 at the most.
     pub fn len(&self) -> u8
-        ensures count { result ≡ length self.now }
+        ensures count { result ≡ length self.now.waiters }
+        ensures ranked { result ≡ length self.now.ranks }
         ensures limit { result ≤ TASK_LIMIT }
     {
         self.waiters.len() as u8
     }
 
-    /// One task more, the last: it waits for this, or doesn't wait.
-    pub fn push(&mut self, waiter: Option<Waiter>)
-        requires { length self.old < TASK_LIMIT }
-        ensures { self.new ≡ self.old ++ waiter ∷ [] }
+    /// One task more, the last, of this rank: it waits for this, or doesn't wait.
+    pub fn push(&mut self, waiter: Option<Waiter>, rank: u16)
+        requires { length self.old.waiters < TASK_LIMIT }
+        ensures waiters { self.new.waiters ≡ self.old.waiters ++ waiter ∷ [] }
+        ensures ranks { self.new.ranks ≡ self.old.ranks ++ rank ∷ [] }
     {
         self.waiters.push(waiter);
+        self.ranks.push(rank);
     }
 
     /// Task t waits for this, or doesn't wait.
     pub fn set(&mut self, t: u8, waiter: Option<Waiter>)
-        ensures { self.new ≡ change (λ _. waiter) self.old t }
+        ensures waiters { self.new.waiters ≡ change (λ _. waiter) self.old.waiters t }
+        ensures ranks { self.new.ranks ≡ self.old.ranks }
     {
         if let Some(entry) = self.waiters.get_mut(t as usize) {
             *entry = waiter;
         }
     }
 
+    /// Task t has this rank.
+    pub fn set_rank(&mut self, t: u8, rank: u16)
+        ensures waiters { self.new.waiters ≡ self.old.waiters }
+        ensures ranks { self.new.ranks ≡ change (λ _. rank) self.old.ranks t }
+    {
+        if let Some(entry) = self.ranks.get_mut(t as usize) {
+            *entry = rank;
+        }
+    }
+
+    /// The rank of task t; 0 if there is no such task.
+    pub fn rank(&self, t: u8) -> u16
+        ensures { result ≡ listed_rank self.now.ranks t }
+    {
+        listed_rank(self.ranks.as_slice(), t)
+    }
+
     fn get(&self, t: u8) -> Option<Waiter>
-        ensures { result ≡ entry self.now t }
+        ensures { result ≡ entry self.now.waiters t }
     {
         match self.waiters.as_slice().get(t as usize) {
             None => None,
@@ -72,7 +109,7 @@ impl Waiting {
     }
 
     fn stamp(&self, t: u8) -> u64
-        ensures { result ≡ stamp_of (entry self.now t) }
+        ensures { result ≡ stamp_of (entry self.now.waiters t) }
     {
         match self.get(t) {
             None => 0,
@@ -80,39 +117,34 @@ impl Waiting {
         }
     }
 
-    // Of the one that leads so far and another, the one that goes first by `ranks`.
-    fn leader_of(&self, ranks: &[u16], leading: Option<u8>, t: u8) -> u8
-        ensures { result ≡ leader (listed_rank ranks.now) (λ u. stamp_of (entry self.now u)) leading t }
+    // Of the one that leads so far and another, the one that goes first.
+    fn leader_of(&self, leading: Option<u8>, t: u8) -> u8
+        ensures { result ≡ leader (listed_rank self.now.ranks) (λ u. stamp_of (entry self.now.waiters u)) leading t }
     {
         let Some(u) = leading else {
             return t;
         };
-        let before = is_before(
-            listed_rank(ranks, t),
-            self.stamp(t),
-            listed_rank(ranks, u),
-            self.stamp(u),
-        );
+        let before = is_before(self.rank(t), self.stamp(t), self.rank(u), self.stamp(u));
         if before { t } else { u }
     }
 
     /// Whether task t waits for this.
     pub fn awaits(&self, wait: Wait, t: u8) -> bool
-        ensures { result ≡ waits_for wait (entry self.now t) }
+        ensures { result ≡ waits_for wait (entry self.now.waiters t) }
     {
         waits_for(self.get(t), wait)
     }
 
-    /// The number of the task that goes first, by `ranks`, of those that wait for this: the one of greatest rank,
-    /// then of least stamp.
+    /// The number of the task that goes first of those that wait for this: the one of greatest rank, then of least
+    /// stamp.
     #[tactic(auto, using(evm_ready::proofs::Scans::scans))]
-    pub fn first(&self, wait: Wait, ranks: &[u16]) -> Option<u8>
-        ensures { result ≡ first (λ t. waits_for wait (entry self.now t)) (listed_rank ranks.now) (λ t. stamp_of (entry self.now t)) (length self.now) }
+    pub fn first(&self, wait: Wait) -> Option<u8>
+        ensures { result ≡ first (λ t. waits_for wait (entry self.now.waiters t)) (listed_rank self.now.ranks) (λ t. stamp_of (entry self.now.waiters t)) (length self.now.waiters) }
     {
         let mut leading = None;
         for t in 0..self.len() {
             if self.awaits(wait, t) {
-                leading = Some(self.leader_of(ranks, leading, t));
+                leading = Some(self.leader_of(leading, t));
             }
         }
         leading

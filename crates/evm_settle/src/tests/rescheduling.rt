@@ -1,16 +1,19 @@
 //! A better rank of another processor's task, on parts made by hand: two tasks of processor 1
 //! are ready out-of-band, of which the one behind becomes the better by `set_sched` from processor 0.
 
-ghost use Rattle.std.specs.Prelude.{◌≡◌, ◌≤◌, replicate};
+ghost use Rattle.std.specs.Prelude.{◌≡◌, ◌≤◌, replicate, IfOk};
 ghost use Rattle.evm_model.specs.Pipes.{idle_pipe};
 ghost use Rattle.evm_rules.specs.Within.{AreWithin};
 
-use super::{Rings, rings_of};
 use crate::settle_and_nudge;
 use arrayvec::ArrayVec;
 use evm_exec::Hart;
 use evm_model::{Class, Mode, Processor, Profile, Stage, Task, TaskState};
-use evm_parts::{Actions, Events, Flags, Harts, Mutexes, Parts, Pipe, Semaphores, Tasks, Timers};
+use evm_parts::{
+    Actions, Console, Events, Flags, Harts, Mutexes, Notices, Parts, Pipe, Schedule, Semaphores,
+    Tasks, Timers,
+};
+use std::alloc::Global;
 use std::test::Fail;
 
 // A first-in-first-out task that is ready out-of-band.
@@ -35,12 +38,17 @@ fn running(task: u8) -> Processor {
 }
 
 // Processor 0 runs task 0; processor 1 runs task 2 of priority 20, and task 1 of priority 10 is ready behind it.
-fn two_processors(rings: Rings) -> Parts
-    ensures { result.pipes ≡ replicate 2 idle_pipe }
+fn two_processors(alloc: Global) -> Result<Parts, Fail>
+    ensures { IfOk result (λ parts. parts.pipes ≡ replicate 2 idle_pipe) }
 {
-    let mut tasks = Tasks::of_first(ready(0, 50, 0));
-    tasks.push(ready(1, 10, 1));
-    tasks.push(ready(1, 20, 2));
+    let first = ready(0, 50, 0);
+    let mutexes = Mutexes::new();
+    let mut tasks = Tasks::of_first(first);
+    let mut schedule = Schedule::of_first(alloc, 2, first)?;
+    schedule.push(&mut tasks, &mutexes, ready(1, 10, 1));
+    schedule.push(&mut tasks, &mutexes, ready(1, 20, 2));
+    let console = Console::new(alloc)?;
+    let notices = Notices::new(alloc)?;
     let mut processors = ArrayVec::new();
     processors.push(running(0));
     processors.push(running(2));
@@ -51,7 +59,7 @@ fn two_processors(rings: Rings) -> Parts
         regs: [0; 32],
         pc: 0x8000_0000,
     };
-    Parts {
+    Ok(Parts {
         profile: Profile { ram: 65_536 },
         ticks: 0,
         harts: Harts::of_first(hart),
@@ -59,15 +67,16 @@ fn two_processors(rings: Rings) -> Parts
         processors,
         pipes,
         stamps: 3,
-        mutexes: Mutexes::new(),
+        mutexes,
+        schedule,
         semaphores: Semaphores::new(),
         events: Events::new(),
         flags: Flags::new(),
         timers: Timers::new(),
         actions: Actions::new(),
-        console: rings.console,
-        notices: rings.notices,
-    }
+        console,
+        notices,
+    })
 }
 
 // Puts line 1 on processor 1's wire, or not.
@@ -82,13 +91,13 @@ fn wire(parts: &mut Parts, line: bool)
 }
 
 // The same, of which processor 1 may have line 1 on its wire, or be stalled out-of-band.
-fn parts_of(rings: Rings, line: bool, stalled: bool) -> Parts
-    ensures { AreWithin 1 result }
+fn parts_of(alloc: Global, line: bool, stalled: bool) -> Result<Parts, Fail>
+    ensures { IfOk result (AreWithin 1) }
 {
-    let mut parts = two_processors(rings);
+    let mut parts = two_processors(alloc)?;
     wire(&mut parts, line);
     parts.set_stall(1, Stage::OutOfBand, stalled);
-    parts
+    Ok(parts)
 }
 
 // Processor 0 makes task 1 the better one, and settles.
@@ -131,7 +140,7 @@ fn line_1(parts: &Parts) -> Option<(bool, u64, u64)> {
 
 #[test]
 fn a_better_task_is_told_by_line_1(rt: HostRuntime) -> Result<(), Fail> {
-    let mut parts = parts_of(rings_of(rt.alloc())?, false, false);
+    let mut parts = parts_of(rt.alloc(), false, false)?;
     assert!(rt; parts.stamps <= 3);
     assert_eq!(rt; parts.ticks, 0);
     betters(&mut parts);
@@ -146,7 +155,7 @@ fn a_better_task_is_told_by_line_1(rt: HostRuntime) -> Result<(), Fail> {
 
 #[test]
 fn a_stalled_processor_is_not_told(rt: HostRuntime) -> Result<(), Fail> {
-    let mut parts = parts_of(rings_of(rt.alloc())?, false, true);
+    let mut parts = parts_of(rt.alloc(), false, true)?;
     assert!(rt; parts.stamps <= 3);
     assert_eq!(rt; parts.ticks, 0);
     betters(&mut parts);
@@ -162,7 +171,7 @@ fn a_stalled_processor_is_not_told(rt: HostRuntime) -> Result<(), Fail> {
 
 #[test]
 fn a_processor_is_told_once(rt: HostRuntime) -> Result<(), Fail> {
-    let mut parts = parts_of(rings_of(rt.alloc())?, true, false);
+    let mut parts = parts_of(rt.alloc(), true, false)?;
     assert!(rt; parts.stamps <= 3);
     assert_eq!(rt; parts.ticks, 0);
     betters(&mut parts);

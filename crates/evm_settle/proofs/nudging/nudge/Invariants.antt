@@ -1,5 +1,4 @@
 use Rattle.std.proofs.Common.{◌≡◌, ◌+◌, ◌-◌}
-use Rattle.evm_parts.specs.evm_boost.Scatter.{AreRanks}
 use Rattle.evm_model.specs.Bounds.{COUNT_LIMIT, PipesUpTo}
 use Rattle.evm_model.specs.Settle.{nudge_pipe}
 use Rattle.evm_model.specs.declared.limits.TheConstants.{PROCESSOR_LIMIT}
@@ -11,5 +10,4 @@ abbrev pub invariant-loop-d : goal.invariant-loop-d
 invariant-loop-d l = record {
   told : l.parts ≡ record l.fn.parts { pipes = changed_below (nudge_pipe l.c l.fn.parts) l.d l.fn.parts.pipes };
   room : PipesUpTo (COUNT_LIMIT - PROCESSOR_LIMIT + l.d) l.parts.pipes;
-  ranks : AreRanks l.ranks l.parts.mutexes l.parts.tasks;
 }

@@ -6,4 +6,4 @@ use Rattle.evm_ready.proofs.ready.Ready.best.Given as goal
 
 -- the one that leads is the first of those so far
 abbrev pub invariant-loop-t : goal.invariant-loop-t
-invariant-loop-t l = l.leading ≡ first (λ t. runs_oob l.c (entry l.self t)) (listed_rank l.ranks) (λ t. stamp_of (entry l.self t)) l.t
+invariant-loop-t l = l.leading ≡ first (λ t. runs_oob l.c (entry l.self.places t)) (listed_rank l.self.ranks) (λ t. stamp_of (entry l.self.places t)) l.t

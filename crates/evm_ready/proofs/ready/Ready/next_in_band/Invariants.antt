@@ -5,4 +5,4 @@ use Rattle.evm_ready.proofs.ready.Ready.next_in_band.Given as goal
 
 -- the one that leads is the first of those so far
 abbrev pub invariant-loop-t : goal.invariant-loop-t
-invariant-loop-t l = l.leading ≡ first (λ t. runs_in_band l.c (entry l.self t)) (λ _. 0) (λ t. stamp_of (entry l.self t)) l.t
+invariant-loop-t l = l.leading ≡ first (λ t. runs_in_band l.c (entry l.self.places t)) (λ _. 0) (λ t. stamp_of (entry l.self.places t)) l.t

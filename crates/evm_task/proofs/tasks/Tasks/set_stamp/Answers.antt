@@ -1,16 +1,15 @@
 use Rattle.std.proofs.Common.{refl}
 use Rattle.std.proofs.lemmas.Option.{slice_get_read}
-use Rattle.evm_task.proofs.Entered.{changed, entered}
+use Rattle.evm_task.proofs.Changed.{changed}
 use Rattle.evm_task.proofs.Early.{early-kept}
 use Rattle.evm_task.proofs.tasks.Tasks.set_stamp.Goals as goal
 
-pub invariant_of-self : goal.invariant_of-self
-invariant_of-self c =
+pub invariant_of-self-2 : goal.invariant_of-self-2
+invariant_of-self-2 c =
     let there = slice_get_read _ _ c.args.t _ refl c.in-Some.ensures.item.3.0 c.in-Some.ensures.item.1 in
-    entered _ _ _ _ _ _ _ _ _ _ c.self.invariant there c.enter.ensures.ready c.enter.ensures.waiting
-    (early-kept _ _ _ _ _ c.self.invariant.early there refl)
+    early-kept _ _ _ _ _ c.self.invariant there refl
 
-pub returns-in-Some : goal.returns-in-Some
-returns-in-Some c =
+pub returns : goal.returns
+returns c =
     let there = slice_get_read _ _ c.args.t _ refl c.in-Some.ensures.item.3.0 c.in-Some.ensures.item.1 in
     changed _ _ _ _ _ there c.self.view_is

@@ -7,4 +7,4 @@ use Rattle.evm_wait.proofs.waiting.Waiting.first.Given as goal
 
 -- the one that leads is the first of those so far
 abbrev pub invariant-loop-t : goal.invariant-loop-t
-invariant-loop-t l = l.leading ≡ first (λ t. waits_for l.wait (entry l.self t)) (listed_rank l.ranks) (λ t. stamp_of (entry l.self t)) l.t
+invariant-loop-t l = l.leading ≡ first (λ t. waits_for l.wait (entry l.self.waiters t)) (listed_rank l.self.ranks) (λ t. stamp_of (entry l.self.waiters t)) l.t
