@@ -2,17 +2,14 @@
 use Rattle.std.specs.Prelude.{◌≡◌, ℕ, ◌<◌, List, Option, Some, Bool, true, map, length}
 use Rattle.evm_boost.specs.Scatter.{AreRanks}
 use Rattle.evm_model.specs.Mutexes.{boosts}
-use Rattle.evm_model.specs.Ranks.{own_rank}
 use Rattle.evm_model.specs.declared.limits.TheConstants.{TASK_LIMIT}
 use Rattle.evm_model.specs.declared.mutex.Mutex.{Mutex}
 use Rattle.evm_model.specs.declared.task.Task.{Task}
 use Rattle.evm_ranks.specs.Boosts.{HasHeight}
-use Rattle.evm_ranks.specs.Mending.{IsSettledBut}
-use Rattle.evm_task.specs.evm_ready.ListedRanks.{listed_rank}
-use Rattle.evm_task.specs.evm_ready.Places.{placed}
-use Rattle.evm_task.specs.evm_ready.declared.place.Place.{Place}
-use Rattle.evm_task.specs.evm_wait.Waiters.{awaited}
-use Rattle.evm_task.specs.evm_wait.declared.waiter.Waiter.{Waiter}
+use Rattle.evm_ready.specs.Places.{placed}
+use Rattle.evm_ready.specs.declared.place.Place.{Place}
+use Rattle.evm_wait.specs.Waiters.{awaited}
+use Rattle.evm_wait.specs.declared.waiter.Waiter.{Waiter}
 
 -- the tasks, by their numbers: where each is ready, what it waits for, and its rank; and whether no chain of boosts is
 -- known to close
@@ -38,9 +35,3 @@ pub record IsScheduled (s : Scheduled) (mutexes : List Mutex) (tasks : List Task
   pub entered : AreEntered s tasks
   pub ranks : AreRanks s.ranks mutexes tasks
   pub sound : s.sound ≡ true → IsSound mutexes tasks
-
--- each has its entries, and while no chain closes each but the rest has a rank that follows from those of its boosters
-pub record IsSettling (rest : ℕ → Bool) (s : Scheduled) (mutexes : List Mutex) (tasks : List Task) : Type 0 where
-  pub entered : AreEntered s tasks
-  pub sound : s.sound ≡ true → IsSound mutexes tasks
-  pub settled : s.sound ≡ true → IsSettledBut rest (boosts mutexes tasks) (own_rank mutexes tasks) (length tasks) (listed_rank s.ranks)
