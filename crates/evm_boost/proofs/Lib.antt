@@ -1,4 +1,10 @@
+pub use Rattle.evm_ready.proofs as evm_ready
+pub use Rattle.evm_wait.proofs as evm_wait
+pub mod Entries
 pub mod Fills
-pub mod Reaches
+pub mod Lending
 pub mod Owners
 pub mod Raising
+pub mod Reaches
+pub mod Settled
+pub mod Lends

@@ -12,7 +12,7 @@ use Rattle.evm_model.specs.declared.limits.TheConstants.{TASK_LIMIT}
 use Rattle.evm_model.specs.declared.mutex.Mutex.{Mutex}
 use Rattle.evm_model.specs.declared.task.Task.{Task}
 use Rattle.evm_model.proofs.Lists.{change-here, change-elsewhere, length-change, slice_get-within, slice_get-set_same, slice_get-set_other}
-use Rattle.evm_task.specs.evm_ready.ListedRanks.{listed_rank, rank_or_0}
+use Rattle.evm_ready.specs.ListedRanks.{listed_rank, rank_or_0}
 use Rattle.evm_boost.specs.Scatter.{filled, raise_to, scatter, class_rank_at, own_ranks, next_ranks, ranks_after, AreRanks}
 
 -- ---- filled

@@ -1,1 +1,6 @@
+pub use Rattle.evm_ready.specs as evm_ready
+pub use Rattle.evm_wait.specs as evm_wait
+pub mod Lent
 pub mod Scatter
+pub mod Scheduled
+pub mod Settling

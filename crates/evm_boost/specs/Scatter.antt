@@ -6,7 +6,7 @@ use Rattle.evm_model.specs.Mutexes.{ceiling_owner, ceiling, boosts}
 use Rattle.evm_model.specs.Ranks.{class_rank_of, rank}
 use Rattle.evm_model.specs.declared.mutex.Mutex.{Mutex}
 use Rattle.evm_model.specs.declared.task.Task.{Task}
-use Rattle.evm_task.specs.evm_ready.ListedRanks.{listed_rank}
+use Rattle.evm_ready.specs.ListedRanks.{listed_rank}
 
 -- the ranks of those below a count are these
 unfoldable pub filled : (ℕ → ℕ) → List ℕ → ℕ → List ℕ

@@ -3,16 +3,16 @@
 ghost use Rattle.std.specs.Prelude.{◌≡◌, ◌<◌, ◌≤◌, true, length, slice_set};
 ghost use Rattle.evm_boost.specs.Scatter.{filled, raise_to, class_rank_at, own_ranks, next_ranks, AreRanks};
 ghost use Rattle.evm_model.specs.Mutexes.{ceiling_owner, ceiling};
-ghost use Rattle.evm_model.specs.Ranks.{class_rank, first, rank, stamp};
-ghost use Rattle.evm_model.specs.Waits.{awaits};
+ghost use Rattle.evm_model.specs.Ranks.{class_rank};
 ghost use Rattle.evm_ranks.specs.Boosts.{greater};
-ghost use Rattle.evm_task.specs.evm_ready.ListedRanks.{listed_rank};
+ghost use Rattle.evm_ready.specs.ListedRanks.{listed_rank};
 
 use crate::mutexes::Mutexes;
-use evm_model::{Class, Protocol, TASK_LIMIT, Wait};
-use evm_task::{Tasks, listed_rank};
+use evm_model::{Class, Protocol, TASK_LIMIT};
+use evm_ready::listed_rank;
+use evm_task::Tasks;
 
-fn class_rank(class: Class, priority: u8) -> u16
+pub(crate) fn class_rank(class: Class, priority: u8) -> u16
     ensures { result ≡ class_rank class priority }
 {
     match class {
@@ -23,7 +23,7 @@ fn class_rank(class: Class, priority: u8) -> u16
 }
 
 // The rank of a task's class.
-fn class_rank_at(tasks: &Tasks, t: u8) -> u16
+pub(crate) fn class_rank_at(tasks: &Tasks, t: u8) -> u16
     ensures { result ≡ class_rank_at tasks.now t }
 {
     match tasks.as_slice().get(t as usize) {
@@ -32,7 +32,7 @@ fn class_rank_at(tasks: &Tasks, t: u8) -> u16
     }
 }
 
-fn greater(a: u16, b: u16) -> u16
+pub(crate) fn greater(a: u16, b: u16) -> u16
     ensures { result ≡ greater a b }
 {
     if a <= b { b } else { a }
@@ -144,20 +144,5 @@ impl Mutexes {
             rounds += 1;
         }
         now
-    }
-
-    /// The rank of a task.
-    pub fn rank(&self, tasks: &Tasks, t: u8) -> u16
-        requires there { t < length tasks.now }
-        ensures { result ≡ rank self.now tasks.now t }
-    {
-        listed_rank(&self.ranks(tasks), t)
-    }
-
-    /// The number of the first task that waits for this: the one of greatest rank, then of least stamp.
-    pub fn first_waiter(&self, wait: Wait, tasks: &Tasks) -> Option<u8>
-        ensures { result ≡ first (awaits wait tasks.now) (rank self.now tasks.now) (stamp tasks.now) (length tasks.now) }
-    {
-        tasks.first_waiter(wait, &self.ranks(tasks))
     }
 }

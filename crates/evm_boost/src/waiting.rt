@@ -66,25 +66,21 @@ impl Mutexes {
         }
     }
 
-    // The way to task t goes one link on, unless it is there.
-    fn walk_to(&self, tasks: &Tasks, t: u8, at: Option<u8>) -> Option<u8>
-        ensures { result ≡ (if is_number at t then at else walk_on (waits_on self.now tasks.now) at) }
-    {
-        let Some(u) = at else {
-            return None;
-        };
-        if u == t { at } else { self.waits_on(tasks, u) }
-    }
-
     /// Whether task u waits for task t by some chain, or is it.
     #[tactic(auto, using(crate::proofs::Reaches::ways))]
     pub fn reaches(&self, tasks: &Tasks, t: u8, u: u8) -> bool
         ensures { result ≡ reaches (waits_on self.now tasks.now) t TASK_LIMIT (Some u) }
     {
-        let mut at = Some(u);
+        let mut at = u;
         for link in 0..TASK_LIMIT {
-            at = self.walk_to(tasks, t, at);
+            if at == t {
+                return true;
+            }
+            let Some(next) = self.waits_on(tasks, at) else {
+                return false;
+            };
+            at = next;
         }
-        is_number(at, t)
+        at == t
     }
 }

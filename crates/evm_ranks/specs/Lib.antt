@@ -1,1 +1,2 @@
 pub mod Boosts
+pub mod Mending

@@ -1,6 +1,6 @@
 use Rattle.std.proofs.Common.{◌≡◌}
 use Rattle.evm_model.specs.Mutexes.{boosts}
-use Rattle.evm_task.specs.evm_ready.ListedRanks.{listed_rank}
+use Rattle.evm_ready.specs.ListedRanks.{listed_rank}
 use Rattle.evm_boost.specs.Scatter.{scatter}
 use Rattle.evm_boost.proofs.mutexes.Mutexes.next_ranks.Given as goal
 

@@ -1,0 +1,57 @@
+-- How the entries follow the tasks.
+use Rattle.std.proofs.Common.{◌≡◌, ℕ, zero, suc, ◌<◌, List, [], ◌∷◌, ◌++◌, Option, Some, None, length, refl, sym, ap, ◌∙◌, arith}
+use Rattle.std.specs.Prelude.{map, option_map, slice_get, slice_set}
+use Rattle.std.proofs.lemmas.List.{length-append, map-append, map-set}
+use Rattle.std.proofs.lemmas.Option.{slice_get-map}
+use Rattle.evm_boost.specs.Scheduled.{Scheduled, AreEntered}
+use Rattle.evm_boost.specs.Settling.{entered_as}
+use Rattle.evm_model.proofs.Lists.{length-change, slice_get-set_same}
+use Rattle.evm_model.specs.Lists.{change, change_some}
+use Rattle.evm_model.specs.declared.task.Task.{Task}
+use Rattle.evm_ready.specs.Places.{placed}
+use Rattle.evm_wait.specs.Waiters.{awaited}
+
+-- one entry follows its task
+follows-there : {X : Type 0} (says : Task → Option X) (tasks : List Task) (t : ℕ) (old new : Task) → slice_get tasks t ≡ Some old
+    → change (λ _. says new) (map says tasks) t ≡ map says (slice_set tasks t new)
+follows-there says tasks t old new e =
+    let there : slice_get (map says tasks) t ≡ Some (says old) = slice_get-map says tasks t ∙ ap (option_map says) e in
+    rw there (sym (map-set says tasks t new))
+
+follows-some : {X : Type 0} (says : Task → Option X) (f : Task → Task) (tasks : List Task) (t : ℕ) (o : Option Task) → slice_get tasks t ≡ o
+    → entered_as says (slice_get (change_some o f tasks t) t) t (map says tasks) ≡ map says (change_some o f tasks t)
+follows-some says f tasks t None e = rw e refl
+follows-some says f tasks t (Some old) e = rw (slice_get-set_same tasks t old (f old) e) (follows-there says tasks t old (f old) e)
+
+follows : {X : Type 0} (says : Task → Option X) (f : Task → Task) (tasks : List Task) (t : ℕ)
+    → entered_as says (slice_get (change f tasks t) t) t (map says tasks) ≡ map says (change f tasks t)
+follows says f tasks t = follows-some says f tasks t (slice_get tasks t) refl
+
+-- a task changed, and its entries with it
+pub entered-change : (s next : Scheduled) (f : Task → Task) (tasks new : List Task) (t : ℕ) → AreEntered s tasks → new ≡ change f tasks t
+    → next.places ≡ entered_as placed (slice_get new t) t s.places → next.waiters ≡ entered_as awaited (slice_get new t) t s.waiters → next.ranks ≡ s.ranks
+    → AreEntered next new
+entered-change s next f tasks new t are is place waiter ranks = record {
+  places = place ∙ rw (is, are.places) (follows placed f tasks t);
+  waiters = waiter ∙ rw (is, are.waiters) (follows awaited f tasks t);
+  count = ap length ranks ∙ are.count ∙ rw is (sym (length-change f tasks t));
+}
+
+-- one more task
+pub entered-push : (s next : Scheduled) (tasks new : List Task) (task : Task) (rank : ℕ) → AreEntered s tasks → new ≡ tasks ++ task ∷ []
+    → next.places ≡ s.places ++ placed task ∷ [] → next.waiters ≡ s.waiters ++ awaited task ∷ [] → next.ranks ≡ s.ranks ++ rank ∷ []
+    → AreEntered next new
+entered-push s next tasks new task rank are is place waiter ranks = record {
+  places = place ∙ rw (is, are.places, map-append) refl;
+  waiters = waiter ∙ rw (is, are.waiters, map-append) refl;
+  count = ap length ranks ∙ rw is (length-append s.ranks (rank ∷ []) ∙ rw are.count (sym (length-append tasks (task ∷ []))));
+}
+
+-- another rank
+pub entered-rank : (s next : Scheduled) (tasks : List Task) (t rank : ℕ) → AreEntered s tasks → next.places ≡ s.places → next.waiters ≡ s.waiters
+    → next.ranks ≡ change (λ _. rank) s.ranks t → AreEntered next tasks
+entered-rank s next tasks t rank are place waiter ranks = record {
+  places = place ∙ are.places;
+  waiters = waiter ∙ are.waiters;
+  count = ap length ranks ∙ length-change (λ _. rank) s.ranks t ∙ are.count;
+}
