@@ -4,3 +4,4 @@ pub mod Room
 pub mod Steps
 pub mod Stops
 pub mod Ticks
+pub use Rattle.evm_settle.specs.evm_boost as evm_boost

@@ -78,8 +78,7 @@ impl Parts {
         requires { length self.old.mutexes < MUTEX_LIMIT }
         ensures row { self.new ≡ add_mutex mutex self.old }
     {
-        self.schedule
-            .create(&mut self.mutexes, &self.tasks, mutex);
+        self.schedule.create(&mut self.mutexes, &self.tasks, mutex);
     }
 
     /// A task has a mutex, locked so often.

@@ -12,8 +12,8 @@ use arrayvec::ArrayVec;
 use evm_exec::Hart;
 use evm_model::{Class, Mode, Processor, Profile, Stage, Task, TaskState, Wait};
 use evm_parts::{
-    Actions, Console, Events, Flags, Harts, Mutexes, Notices, Parts, Pipe, Schedule, Semaphores, Tasks,
-    Timers,
+    Actions, Console, Events, Flags, Harts, Mutexes, Notices, Parts, Pipe, Schedule, Semaphores,
+    Tasks, Timers,
 };
 use std::alloc::Global;
 use std::test::Fail;

@@ -7,7 +7,7 @@ use Rattle.evm_settle.proofs.Nudges.{nudge_one-none, nudge_one-more, nudge_one-a
 use Rattle.evm_settle.proofs.nudging.nudge.Goals as goal
 
 pub loop-d-init : goal.loop-d-init
-loop-d-init c = record { told = sym (nudge_one-none c.args.c c.args.parts.now); room = PipesUpTo-more _ _ _ (omega arith) c.requires}
+loop-d-init c = record { told = sym (nudge_one-none c.args.c c.args.parts.now); room = PipesUpTo-more _ _ _ (omega arith) c.requires }
 
 pub nudge_one-requires : goal.nudge_one-requires
 nudge_one-requires c = PipesUpTo-more _ _ _ (omega arith) c.loop-d.invariant.room
