@@ -1,18 +1,16 @@
--- The best task by ranks that are told is the best one.
-use Rattle.std.proofs.Common.{◌≡◌, ℕ, ◌<◌, List, Some, None, length, sym, ◌∙◌}
+-- Tasks by number, and the first of those that wait.
+use Rattle.std.proofs.Common.{◌≡◌, ℕ, ◌<◌, List, Option, Some, None, length, sym, ◌∙◌}
 use Rattle.std.specs.Prelude.{slice_get}
-use Rattle.evm_boost.specs.Scatter.{AreRanks}
 use Rattle.evm_model.proofs.Lists.{slice_get-below, slice_get-within}
-use Rattle.evm_model.specs.Ranks.{best, first, rank, runs_oob, stamp}
-use Rattle.evm_model.specs.declared.mutex.Mutex.{Mutex}
+use Rattle.evm_model.specs.Ranks.{first, rank, stamp}
+use Rattle.evm_model.specs.State.{Parts}
+use Rattle.evm_model.specs.Waits.{awaits, first_waiter}
 use Rattle.evm_model.specs.declared.task.Task.{Task}
-use Rattle.evm_task.proofs.evm_ready.Firsts.{first-same}
-use Rattle.evm_task.specs.evm_ready.ListedRanks.{listed_rank}
+use Rattle.evm_model.specs.declared.task.Wait.{Wait}
 
-pub best-told : (c : ℕ) (ranks : List ℕ) (mutexes : List Mutex) (tasks : List Task) → AreRanks ranks mutexes tasks
-    → first (runs_oob c tasks) (listed_rank ranks) (stamp tasks) (length tasks) ≡ best c mutexes tasks
-unfolding best
-best-told c ranks mutexes tasks are = first-same (runs_oob c tasks) (listed_rank ranks) (rank mutexes tasks) (stamp tasks) (length tasks) are
+pub first_waiter-is : (o : Option ℕ) (wait : Wait) (k : Parts) → o ≡ first (awaits wait k.tasks) (rank k.mutexes k.tasks) (stamp k.tasks) (length k.tasks) → o ≡ first_waiter wait k
+unfolding first_waiter
+first_waiter-is o wait k e = e
 
 -- a task that is there has a number below their count
 pub task-below : (tasks : List Task) (t : ℕ) (task : Task) → slice_get tasks t ≡ Some task → t < length tasks
