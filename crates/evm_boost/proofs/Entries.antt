@@ -1,12 +1,13 @@
 -- How the entries follow the tasks.
 use Rattle.std.proofs.Common.{◌≡◌, ℕ, zero, suc, ◌<◌, List, [], ◌∷◌, ◌++◌, Option, Some, None, length, refl, sym, ap, ◌∙◌, arith}
 use Rattle.std.specs.Prelude.{map, option_map, slice_get, slice_set}
-use Rattle.std.proofs.lemmas.List.{length-append, map-append, map-set}
+use Rattle.std.proofs.lemmas.List.{length-append, length-map, map-append, map-set}
 use Rattle.std.proofs.lemmas.Option.{slice_get-map}
 use Rattle.evm_boost.specs.Scheduled.{Scheduled, AreEntered}
 use Rattle.evm_boost.specs.Settling.{entered_as}
-use Rattle.evm_model.proofs.Lists.{length-change, slice_get-set_same}
+use Rattle.evm_model.proofs.Lists.{length-change, slice_get-set_same, slice_set-same}
 use Rattle.evm_model.specs.Lists.{change, change_some}
+use Rattle.evm_model.specs.declared.limits.TheConstants.{TASK_LIMIT}
 use Rattle.evm_model.specs.declared.task.Task.{Task}
 use Rattle.evm_ready.specs.Places.{placed}
 use Rattle.evm_wait.specs.Waiters.{awaited}
@@ -55,3 +56,34 @@ entered-rank s next tasks t rank are place waiter ranks = record {
   waiters = waiter ∙ are.waiters;
   count = ap length ranks ∙ length-change (λ _. rank) s.ranks t ∙ are.count;
 }
+
+-- a task changed in what no entry says
+map-kept : {X : Type 0} (says : Task → Option X) (f : Task → Task) (tasks : List Task) (t : ℕ) (o : Option Task) → ((task : Task) → says (f task) ≡ says task) → slice_get tasks t ≡ o
+    → map says (change_some o f tasks t) ≡ map says tasks
+map-kept says f tasks t None kept e = refl
+map-kept says f tasks t (Some old) kept e =
+    let there : slice_get (map says tasks) t ≡ Some (says old) = slice_get-map says tasks t ∙ ap (option_map says) e in
+    map-set says tasks t (f old) ∙ rw (kept old) (slice_set-same (map says tasks) t (says old) there)
+
+pub entered-same : (s next : Scheduled) (f : Task → Task) (tasks new : List Task) (t : ℕ) → ((task : Task) → placed (f task) ≡ placed task) → ((task : Task) → awaited (f task) ≡ awaited task)
+    → AreEntered s tasks → new ≡ change f tasks t → next.places ≡ s.places → next.waiters ≡ s.waiters → next.ranks ≡ s.ranks → AreEntered next new
+entered-same s next f tasks new t place_kept waiter_kept are is place waiter ranks = record {
+  places = place ∙ are.places ∙ rw is (sym (map-kept placed f tasks t (slice_get tasks t) place_kept refl));
+  waiters = waiter ∙ are.waiters ∙ rw is (sym (map-kept awaited f tasks t (slice_get tasks t) waiter_kept refl));
+  count = ap length ranks ∙ are.count ∙ rw is (sym (length-change f tasks t));
+}
+
+-- the same entries
+pub entered-by : (s next : Scheduled) (tasks : List Task) → AreEntered s tasks → next.places ≡ s.places → next.waiters ≡ s.waiters → next.ranks ≡ s.ranks → AreEntered next tasks
+entered-by s next tasks are place waiter ranks = record {
+  places = place ∙ are.places;
+  waiters = waiter ∙ are.waiters;
+  count = ap length ranks ∙ are.count;
+}
+
+-- there is room for one more
+pub entered-room : (s : Scheduled) (tasks : List Task) → AreEntered s tasks → length tasks < TASK_LIMIT → record { places : length s.places < TASK_LIMIT; waiters : length s.waiters < TASK_LIMIT }
+entered-room s tasks are room =
+    let ready : length s.places ≡ length tasks = ap length are.places ∙ length-map tasks placed in
+    let waiting : length s.waiters ≡ length tasks = ap length are.waiters ∙ length-map tasks awaited in
+    record { places = omega (arith, ready, room); waiters = omega (arith, waiting, room) }

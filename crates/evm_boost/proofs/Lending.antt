@@ -19,7 +19,7 @@ use Rattle.evm_model.specs.declared.task.TaskState.TheVariants.{InReady, OobRead
 use Rattle.evm_model.specs.declared.task.Wait.{Wait}
 use Rattle.evm_model.specs.declared.task.Wait.TheVariants.{Line, Lock, Reacquire, Semaphore, Event, Flags, Sleep, Timer}
 use Rattle.evm_ranks.proofs.Greatest.{greatest-first, greatest-booster}
-use Rattle.evm_ranks.proofs.Least.{greatest-least, greatest-is}
+use Rattle.evm_mending.proofs.Least.{greatest-least, greatest-is}
 use Rattle.evm_ranks.specs.Boosts.{greatest}
 use Rattle.evm_ready.proofs.Firsts.{first-below, first-member}
 use Rattle.evm_ready.specs.ListedRanks.{listed_rank}

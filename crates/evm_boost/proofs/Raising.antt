@@ -16,7 +16,7 @@ use Rattle.evm_ready.specs.ListedRanks.{listed_rank, rank_or_0}
 use Rattle.evm_boost.specs.Scatter.{filled, raise_to, scatter, class_rank_at, own_ranks, next_ranks, ranks_after, AreRanks}
 
 -- ---- filled
-length-filled : (rank : ℕ → ℕ) (ranks : List ℕ) (n : ℕ) → length (filled rank ranks n) ≡ length ranks
+pub length-filled : (rank : ℕ → ℕ) (ranks : List ℕ) (n : ℕ) → length (filled rank ranks n) ≡ length ranks
 unfolding filled
 length-filled rank ranks zero = refl
 length-filled rank ranks (suc n) = length-set (filled rank ranks n) n (rank n) ∙ length-filled rank ranks n
@@ -161,3 +161,9 @@ nobody-raises boosts rank ranks (suc u) h = rw (h u) (nobody-raises boosts rank 
 pub next-none : (mutexes : List Mutex) (tasks : List Task) (own now : List ℕ) → mutexes ≡ [] → next_ranks mutexes tasks own now ≡ own
 unfolding next_ranks
 next-none mutexes tasks own now e = rw e (nobody-raises (boosts [] tasks) (listed_rank now) own (length tasks) (λ u. no-heir (lock_at tasks u)))
+
+-- the ranks, set one after another
+pub filled-are : (mutexes : List Mutex) (tasks : List Task) (ranks were now : List ℕ) (t : ℕ) → length were ≡ length tasks → now ≡ filled (listed_rank ranks) were t → t ≡ length tasks
+    → AreRanks ranks mutexes tasks → AreRanks now mutexes tasks
+filled-are mutexes tasks ranks were now t count e all are u less =
+    ap (λ (xs : List ℕ). listed_rank xs u) e ∙ told-filled (listed_rank ranks) were t u (omega (arith, all, less)) (omega (arith, all, count)) ∙ are u less

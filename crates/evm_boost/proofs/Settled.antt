@@ -17,10 +17,10 @@ use Rattle.evm_model.specs.declared.mutex.Protocol.TheVariants.{Inheritance, Cei
 use Rattle.evm_model.specs.declared.task.Task.{Task}
 use Rattle.evm_ranks.proofs.Heights.{falls-low}
 use Rattle.evm_ranks.proofs.Links.{fewer-keeps}
-use Rattle.evm_ranks.proofs.Mending.{settled-are, are-settled, mended-here, mended-on, mended-none, changed-but, no-loop, walk-over}
-use Rattle.evm_ranks.proofs.Relinks.{limit-more, relink-keeps, free-keeps, way-more}
+use Rattle.evm_mending.proofs.Mending.{settled-are, are-settled, mended-here, mended-on, mended-none, changed-but, no-loop, walk-over}
+use Rattle.evm_mending.proofs.Relinks.{limit-more, relink-keeps, free-keeps, way-more}
 use Rattle.evm_ranks.specs.Boosts.{is_number, greatest, reaches, walk, HasHeight, Falls, IsSettledRank}
-use Rattle.evm_ranks.specs.Mending.{no_task, with_task, IsSettledBut}
+use Rattle.evm_mending.specs.Mending.{no_task, with_task, IsSettledBut}
 use Rattle.evm_ready.specs.ListedRanks.{listed_rank, rank_or_0}
 
 -- ---- between schedules
@@ -126,8 +126,8 @@ settled-over rest s mutexes tasks from link o over few way is =
 -- ---- what a change leaves to be mended
 pub settling : (rest : ℕ → Bool) (s next : Scheduled) (mutexes others : List Mutex) (tasks new : List Task) → IsScheduled s mutexes tasks → AreEntered next new
     → next.ranks ≡ s.ranks → length new ≡ length tasks → (next.sound ≡ true → s.sound ≡ true) → (next.sound ≡ true → IsSound others new)
-    → ((u : ℕ) → rest u ≡ false → own_rank others new u ≡ own_rank mutexes tasks u)
-    → ((u v : ℕ) → rest u ≡ false → is_number (boosts mutexes tasks v) u ≡ is_number (boosts others new v) u)
+    → (next.sound ≡ true → (u : ℕ) → rest u ≡ false → own_rank others new u ≡ own_rank mutexes tasks u)
+    → (next.sound ≡ true → (u v : ℕ) → rest u ≡ false → is_number (boosts mutexes tasks v) u ≡ is_number (boosts others new v) u)
     → IsSettling rest next others new
 settling rest s next mutexes others tasks new is entered ranks count was sound own links = record {
   entered = entered;
@@ -135,7 +135,7 @@ settling rest s next mutexes others tasks new is entered ranks count was sound o
   settled = λ yes.
       rw (ranks, count)
       (changed-but rest (boosts mutexes tasks) (boosts others new) (own_rank mutexes tasks) (own_rank others new) (length tasks) (listed_rank s.ranks)
-      (λ u less out. own u out) (λ u v less below out. links u v out) (scheduled-settled s mutexes tasks is (was yes)));
+      (λ u less out. own yes u out) (λ u v less below out. links yes u v out) (scheduled-settled s mutexes tasks is (was yes)));
 }
 
 -- ---- chains that don't close
@@ -164,7 +164,7 @@ sound-free mutexes others tasks t few less is none to =
     (free-keeps (boosts mutexes tasks) (boosts others tasks) TASK_LIMIT t is.height none to)
 
 -- who boosts a task waits for it
-heir-owns : (o : Option Mutex) (t : ℕ) → heir_of o ≡ Some t → owner_of o ≡ Some t
+pub heir-owns : (o : Option Mutex) (t : ℕ) → heir_of o ≡ Some t → owner_of o ≡ Some t
 heir-owns None t e = cc
 heir-owns (Some mutex) t e = by mutex.protocol refl
   where
@@ -189,3 +189,15 @@ away mutexes tasks t u e =
     not-both (reaches (boosts mutexes tasks) t TASK_LIMIT (Some u))
     (λ way. let no = way-more (boosts mutexes tasks) (waits_on mutexes tasks) t TASK_LIMIT (Some u) (Some u) (boosts-waits mutexes tasks) (λ v is. is) way in
     let bad : true ≡ false = sym no ∙ e in cc)
+
+pub settled-to_none : (rest : ℕ → Bool) (s : Scheduled) (mutexes : List Mutex) (tasks : List Task) → IsSettling rest s mutexes tasks → IsSettling (with_task None rest) s mutexes tasks
+settled-to_none rest s mutexes tasks is = record {
+  entered = is.entered;
+  sound = is.sound;
+  settled = λ sound. record { settled = (is.settled sound).settled };
+}
+
+-- the task where a walk is
+pub settled-at : (rest : ℕ → Bool) (s : Scheduled) (mutexes : List Mutex) (tasks : List Task) (o p : Option ℕ) → o ≡ p
+    → IsSettling (with_task o rest) s mutexes tasks → IsSettling (with_task p rest) s mutexes tasks
+settled-at rest s mutexes tasks o p e is = rw e at is

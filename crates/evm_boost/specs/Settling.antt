@@ -1,5 +1,5 @@
 -- Ranks on the way from one schedule to the next: at which tasks they may still be wrong.
-use Rattle.std.specs.Prelude.{◌≡◌, ℕ, ◌<◌, List, [], ◌∷◌, Option, Some, None, Bool, true, false, ◌⊎◌, length, slice_get}
+use Rattle.std.specs.Prelude.{◌≡◌, ℕ, ◌<◌, ◌≤◌, List, [], ◌∷◌, Option, Some, None, Bool, true, false, ◌⊎◌, length, slice_get}
 use Rattle.evm_boost.specs.Lent.{first_waiting}
 use Rattle.evm_boost.specs.Scheduled.{Scheduled, AreEntered, IsScheduled, IsSound}
 use Rattle.evm_model.specs.Lists.{change}
@@ -11,7 +11,7 @@ use Rattle.evm_model.specs.declared.mutex.Protocol.TheVariants.{Inheritance}
 use Rattle.evm_model.specs.declared.task.Task.{Task}
 use Rattle.evm_model.specs.declared.task.Wait.TheVariants.{Lock}
 use Rattle.evm_ranks.specs.Boosts.{reaches}
-use Rattle.evm_ranks.specs.Mending.{IsSettledBut}
+use Rattle.evm_mending.specs.Mending.{IsSettledBut}
 use Rattle.evm_ready.specs.ListedRanks.{listed_rank}
 
 -- the entry of a task, if there is one, says what the task says
@@ -40,8 +40,15 @@ pub record IsRelinked (s : Scheduled) (mutexes : List Mutex) (tasks : List Task)
 
 -- task t may boost task u: there is such a task, and it doesn't wait for t by any chain
 pub record IsOpen (mutexes : List Mutex) (tasks : List Task) (t u : ℕ) : Type 0 where
+  pub few : length tasks ≤ TASK_LIMIT
   pub below : u < length tasks
   pub away : reaches (waits_on mutexes tasks) t TASK_LIMIT (Some u) ≡ false
+
+-- task t, which is there, may be boosted: it boosts nobody
+pub record IsFree (mutexes : List Mutex) (tasks : List Task) (t : ℕ) : Type 0 where
+  pub few : length tasks ≤ TASK_LIMIT
+  pub below : t < length tasks
+  pub alone : boosts mutexes tasks t ≡ None
 
 -- mutex m, if there is one, raises nobody: it is one of inheritance, and no task waits for it
 pub record IsIdle (s : Scheduled) (mutexes : List Mutex) (m : ℕ) : Type 0 where

@@ -3,7 +3,7 @@
 ghost use Rattle.std.specs.Prelude.{◌≡◌, ◌<◌, ◌≤◌, ◌++◌, [], ◌∷◌, true, false, Some, None, List, Option, length, slice_get, IfOk, IfErr, ℕ};
 ghost use Rattle.evm_boost.specs.Lent.{first_waiting};
 ghost use Rattle.evm_boost.specs.Scheduled.{IsScheduled};
-ghost use Rattle.evm_boost.specs.Settling.{entered_as, IsCalm, IsIdle, IsOpen, IsRelinked};
+ghost use Rattle.evm_boost.specs.Settling.{entered_as, IsCalm, IsFree, IsIdle, IsOpen, IsRelinked};
 ghost use Rattle.evm_model.specs.Lists.{change};
 ghost use Rattle.evm_model.specs.Mutexes.{boosts, freed, heir_by, held_by, waits_on};
 ghost use Rattle.evm_model.specs.Ranks.{best, first, next_in_band, rank, stamp};
@@ -56,16 +56,6 @@ impl Model for Schedule {
     } };
 }
 
-// Whether a task that boosts this one, if any, closes no chain.
-fn is_open(mutexes: &Mutexes, tasks: &Tasks, t: u8, heir: Option<u8>) -> bool
-    ensures { result ≡ true → (u : ℕ) → heir ≡ Some u → IsOpen mutexes.now tasks.now t u }
-{
-    let Some(u) = heir else {
-        return true;
-    };
-    u < tasks.count() && !mutexes.reaches(tasks, t, u)
-}
-
 fn is_nobody(task: Option<u8>) -> bool
     ensures { result ≡ true → task ≡ None }
 {
@@ -106,14 +96,42 @@ impl Schedule {
         }
     }
 
+    // Whether chains stay open where a task boosts this one, if any.
+    fn is_open(&self, mutexes: &Mutexes, tasks: &Tasks, t: u8, heir: Option<u8>) -> bool
+        ensures sound { result ≡ true → self.now.sound ≡ true }
+        ensures opens { result ≡ true → (u : ℕ) → heir ≡ Some u → IsOpen mutexes.now tasks.now t u }
+    {
+        let Some(u) = heir else {
+            return self.sound;
+        };
+        self.sound && u < tasks.count() && !mutexes.reaches(tasks, t, u)
+    }
+
+    // Whether chains stay open where a task that is there boosts nobody.
+    fn is_free(&self, mutexes: &Mutexes, tasks: &Tasks, t: u8) -> bool
+        ensures sound { result ≡ true → self.now.sound ≡ true }
+        ensures free { result ≡ true → IsFree mutexes.now tasks.now t }
+    {
+        self.sound && t < tasks.count() && is_nobody(mutexes.boosts(tasks, t))
+    }
+
+    // Whether chains stay open where there is no such task.
+    fn is_sound_without(&self, task: Option<u8>) -> bool
+        ensures sound { result ≡ true → self.now.sound ≡ true }
+        ensures nobody { result ≡ true → task ≡ None }
+    {
+        self.sound && is_nobody(task)
+    }
+
     // Ranks follow where task t may boost another than before.
     fn relink(&mut self, mutexes: &Mutexes, tasks: &Tasks, t: u8, before: Option<u8>)
         requires { IsRelinked self.old mutexes.now tasks.now t before }
         ensures { IsScheduled self.new mutexes.now tasks.now }
     {
         let heir = mutexes.boosts(tasks, t);
-        let sound = self.sound && is_open(mutexes, tasks, t, heir);
-        self.mend(mutexes, tasks, sound, before, heir);
+        let open = self.is_open(mutexes, tasks, t, heir);
+        self.trust(open);
+        self.mend(mutexes, tasks, before, heir);
     }
 
     /// A task has another state.
@@ -168,8 +186,7 @@ impl Schedule {
     {
         tasks.set_stamp(t, stamp);
         self.enter(tasks, t);
-        let sound = self.sound;
-        self.mend(mutexes, tasks, sound, None, None);
+        self.mend(mutexes, tasks, None, None);
     }
 
     /// A task has a class and a priority, and a whole slice.
@@ -186,8 +203,7 @@ impl Schedule {
         ensures scheduled { IsScheduled self.new mutexes.now tasks.new }
     {
         tasks.set_policy(t, class, priority);
-        let sound = self.sound;
-        self.mend(mutexes, tasks, sound, Some(t), None);
+        self.mend(mutexes, tasks, Some(t), None);
     }
 
     /// A task has no class, no priority and no mode bits.
@@ -197,8 +213,20 @@ impl Schedule {
         ensures scheduled { IsScheduled self.new mutexes.now tasks.new }
     {
         tasks.clear_policy(t);
-        let sound = self.sound;
-        self.mend(mutexes, tasks, sound, Some(t), None);
+        self.mend(mutexes, tasks, Some(t), None);
+    }
+
+    // One task more, with no rank yet.
+    fn add(&mut self, task: &Task)
+        requires places { length self.old.places < TASK_LIMIT }
+        requires waiters { length self.old.waiters < TASK_LIMIT }
+        ensures places { self.new.places ≡ self.old.places ++ placed task.now ∷ [] }
+        ensures waiters { self.new.waiters ≡ self.old.waiters ++ awaited task.now ∷ [] }
+        ensures ranks { self.new.ranks ≡ self.old.ranks ++ 0 ∷ [] }
+        ensures sound { self.new.sound ≡ self.old.sound }
+    {
+        self.ready.push(place_of(task), 0);
+        self.waiting.push(waiter_of(task), 0);
     }
 
     /// One task more, the last.
@@ -209,11 +237,11 @@ impl Schedule {
         ensures scheduled { IsScheduled self.new mutexes.now tasks.new }
     {
         let t = tasks.count();
-        self.ready.push(place_of(&task), 0);
-        self.waiting.push(waiter_of(&task), 0);
+        self.add(&task);
         tasks.push(task);
-        let sound = self.sound && is_nobody(mutexes.boosts(tasks, t));
-        self.mend(mutexes, tasks, sound, Some(t), None);
+        let open = self.is_sound_without(mutexes.boosts(tasks, t));
+        self.trust(open);
+        self.mend(mutexes, tasks, Some(t), None);
     }
 
     /// One mutex more, the last.
@@ -223,9 +251,10 @@ impl Schedule {
         ensures mutexes { mutexes.new ≡ mutexes.old ++ mutex ∷ [] }
         ensures scheduled { IsScheduled self.new mutexes.new tasks.now }
     {
-        let sound = self.sound && is_nobody(mutex.owner);
+        let open = self.is_sound_without(mutex.owner);
         mutexes.create(mutex);
-        self.mend(mutexes, tasks, sound, None, None);
+        self.trust(open);
+        self.mend(mutexes, tasks, None, None);
     }
 
     // Whether a mutex raises nobody, whoever owns it: it is one of inheritance, and no task waits for it.
@@ -253,14 +282,14 @@ impl Schedule {
     {
         if self.is_calm(mutexes, m, t) {
             mutexes.hold(m, t, count);
-            let sound = self.sound;
-            self.mend(mutexes, tasks, sound, None, None);
+            self.mend(mutexes, tasks, None, None);
             return;
         }
         let before = mutexes.owner(m);
         mutexes.hold(m, t, count);
-        let sound = self.sound && t < tasks.count() && is_nobody(mutexes.boosts(tasks, t));
-        self.mend(mutexes, tasks, sound, before, Some(t));
+        let open = self.is_free(mutexes, tasks, t);
+        self.trust(open);
+        self.mend(mutexes, tasks, before, Some(t));
     }
 
     /// Nobody has mutex m.
@@ -269,15 +298,14 @@ impl Schedule {
         ensures mutexes { mutexes.new ≡ change freed mutexes.old m }
         ensures scheduled { IsScheduled self.new mutexes.new tasks.now }
     {
-        let sound = self.sound;
         if self.is_idle(mutexes, m) {
             mutexes.leave(m);
-            self.mend(mutexes, tasks, sound, None, None);
+            self.mend(mutexes, tasks, None, None);
             return;
         }
         let before = mutexes.owner(m);
         mutexes.leave(m);
-        self.mend(mutexes, tasks, sound, before, None);
+        self.mend(mutexes, tasks, before, None);
     }
 
     /// The rank of a task; 0 where there is none.

@@ -1,9 +1,9 @@
 //! Who waits for whom.
 
-ghost use Rattle.std.specs.Prelude.{◌≡◌, Some, if◌then◌else◌};
+ghost use Rattle.std.specs.Prelude.{◌≡◌, Some};
 ghost use Rattle.evm_model.specs.Mutexes.{lock_at, waits_on, heir_by, heir_of, boosts};
 ghost use Rattle.evm_model.specs.declared.limits.TheConstants.{TASK_LIMIT};
-ghost use Rattle.evm_ranks.specs.Boosts.{is_number, reaches, walk_on};
+ghost use Rattle.evm_ranks.specs.Boosts.{reaches};
 
 use crate::mutexes::Mutexes;
 use evm_model::{Mutex, Protocol, TASK_LIMIT, TaskState, Wait};
@@ -36,15 +36,6 @@ fn heir_of(mutex: Option<Mutex>) -> Option<u8>
     }
 }
 
-fn is_number(task: Option<u8>, t: u8) -> bool
-    ensures { result ≡ is_number task t }
-{
-    match task {
-        None => false,
-        Some(u) => u == t,
-    }
-}
-
 impl Mutexes {
     /// The task that task u waits for: the owner of its mutex.
     pub fn waits_on(&self, tasks: &Tasks, u: u8) -> Option<u8>
@@ -67,7 +58,6 @@ impl Mutexes {
     }
 
     /// Whether task u waits for task t by some chain, or is it.
-    #[tactic(auto, using(crate::proofs::Reaches::ways))]
     pub fn reaches(&self, tasks: &Tasks, t: u8, u: u8) -> bool
         ensures { result ≡ reaches (waits_on self.now tasks.now) t TASK_LIMIT (Some u) }
     {

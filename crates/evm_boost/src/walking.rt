@@ -9,7 +9,7 @@ ghost use Rattle.evm_model.specs.Lists.{change};
 ghost use Rattle.evm_model.specs.Mutexes.{boosts, owner};
 ghost use Rattle.evm_model.specs.declared.task.Wait.TheVariants.{Lock};
 ghost use Rattle.evm_ranks.specs.Boosts.{greatest};
-ghost use Rattle.evm_ranks.specs.Mending.{no_task, with_task};
+ghost use Rattle.evm_mending.specs.Mending.{no_task, with_task};
 ghost use Rattle.evm_ready.specs.ListedRanks.{listed_rank};
 
 use crate::mutexes::Mutexes;
@@ -121,21 +121,29 @@ impl Schedule {
         }
     }
 
-    // The ranks follow a change, after which those of two tasks at most may be others. Where a chain may have closed, all
-    // are reckoned anew, now and after each change from now on.
+    // Whether no chain of boosts is known to close from now on.
+    pub(crate) fn trust(&mut self, sound: bool)
+        ensures places { self.new.places ≡ self.old.places }
+        ensures waiters { self.new.waiters ≡ self.old.waiters }
+        ensures ranks { self.new.ranks ≡ self.old.ranks }
+        ensures sound { self.new.sound ≡ sound }
+    {
+        self.sound = sound;
+    }
+
+    // The ranks follow a change after which those of two tasks at most may be others. Where a chain may have closed, all
+    // are reckoned anew, now and after each later change.
     pub(crate) fn mend(
         &mut self,
         mutexes: &Mutexes,
         tasks: &Tasks,
-        sound: bool,
         first: Option<u8>,
         second: Option<u8>,
     )
-        requires { IsSettling (with_task first (with_task second no_task)) (record self.old { sound = sound }) mutexes.now tasks.now }
+        requires { IsSettling (with_task first (with_task second no_task)) self.old mutexes.now tasks.now }
         ensures { IsScheduled self.new mutexes.now tasks.now }
     {
-        self.sound = sound;
-        if !sound {
+        if !self.sound {
             self.reckon(mutexes, tasks);
             return;
         }

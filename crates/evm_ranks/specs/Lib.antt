@@ -1,2 +1,1 @@
 pub mod Boosts
-pub mod Mending

@@ -7,4 +7,4 @@ use Rattle.evm_boost.proofs.mutexes.Mutexes.reaches.Given as goal
 -- the rest of the way reaches task t where the whole way does
 abbrev pub invariant-loop-link : goal.invariant-loop-link
 invariant-loop-link l =
-    reaches (waits_on l.self l.tasks) l.t (TASK_LIMIT - l.link) l.at ≡ reaches (waits_on l.self l.tasks) l.t TASK_LIMIT (Some l.u)
+    reaches (waits_on l.self l.tasks) l.t (TASK_LIMIT - l.link) (Some l.at) ≡ reaches (waits_on l.self l.tasks) l.t TASK_LIMIT (Some l.u)

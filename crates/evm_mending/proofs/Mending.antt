@@ -3,9 +3,9 @@ use Rattle.std.proofs.Common.{◌≡◌, ℕ, suc, ◌+◌, ◌<◌, Option, Som
 use Rattle.std.specs.Prelude.{◌==◌, if◌then◌else◌}
 use Rattle.std.proofs.lemmas.Bool.Decides.{eqb_tells}
 use Rattle.evm_ranks.specs.Boosts.{is_number, greatest, rank_after, walk, IsSettledRank, HasHeight}
-use Rattle.evm_ranks.specs.Mending.{no_task, with_task, IsSettledBut}
+use Rattle.evm_mending.specs.Mending.{no_task, with_task, IsSettledBut}
 use Rattle.evm_ranks.proofs.Greatest.{greatest-same, boosts-so}
-use Rattle.evm_ranks.proofs.Least.{greatest-links}
+use Rattle.evm_mending.proofs.Least.{greatest-links}
 use Rattle.evm_ranks.proofs.Rounds.{settled_is_one, rounds_settle}
 use Rattle.evm_ranks.proofs.Walks.{walks_end}
 
