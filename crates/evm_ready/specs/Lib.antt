@@ -1,3 +1,4 @@
 pub mod Oob
 pub mod Places
 pub mod ListedRanks
+pub mod Queues

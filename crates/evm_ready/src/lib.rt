@@ -3,11 +3,14 @@
 
 mod order;
 mod place;
+mod queue;
 mod ready;
+mod turn;
 
 pub use order::{is_before, listed_rank};
 pub use place::{Place, place_of};
 pub use ready::Ready;
+pub use turn::Turn;
 
 /// The most queues of ready tasks that there are: on each of 8 processors one for each out-of-band rank, which is
 /// below 200, and one for the tasks that are ready in-band.
