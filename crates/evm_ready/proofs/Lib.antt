@@ -1,6 +1,9 @@
 pub mod Counts
+pub mod Filing
 pub mod Firsts
+pub mod Leads
 pub mod Members
 pub mod Placed
 pub mod Preceding
 pub mod Scans
+pub mod Turning

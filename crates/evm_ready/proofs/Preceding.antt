@@ -5,16 +5,16 @@ use Rattle.std.proofs.lemmas.Bool.Decides.{nat_tests}
 use Rattle.evm_ready.specs.declared.turn.Turn.{Turn}
 use Rattle.evm_ready.specs.Queues.{is_ahead, precedes, turn_rank, turn_stamp}
 
-ahead-trans : (r s t q p u l k v : ℕ) → is_ahead r s t q p u ≡ true → is_ahead q p u l k v ≡ true → is_ahead r s t l k v ≡ true
+pub ahead-trans : (r s t q p u l k v : ℕ) → is_ahead r s t q p u ≡ true → is_ahead q p u l k v ≡ true → is_ahead r s t l k v ≡ true
 ahead-trans r s t q p u l k v first second = grind (arith, nat_tests)
 
-ahead-not_both : (r s t q p u : ℕ) → is_ahead r s t q p u ≡ true → is_ahead q p u r s t ≡ false
+pub ahead-not_both : (r s t q p u : ℕ) → is_ahead r s t q p u ≡ true → is_ahead q p u r s t ≡ false
 ahead-not_both r s t q p u first = grind (arith, nat_tests)
 
-ahead-total : (r s t q p u : ℕ) → (t ≡ u → ⊥) → is_ahead r s t q p u ≡ false → is_ahead q p u r s t ≡ true
+pub ahead-total : (r s t q p u : ℕ) → (t ≡ u → ⊥) → is_ahead r s t q p u ≡ false → is_ahead q p u r s t ≡ true
 ahead-total r s t q p u other h = grind (arith, nat_tests)
 
-ahead-itself : (r s t : ℕ) → is_ahead r s t r s t ≡ false
+pub ahead-itself : (r s t : ℕ) → is_ahead r s t r s t ≡ false
 ahead-itself r s t = grind (arith, nat_tests)
 
 pub precedes-trans : (turns : List Turn) (t u v : ℕ) → precedes turns t u ≡ true → precedes turns u v ≡ true → precedes turns t v ≡ true

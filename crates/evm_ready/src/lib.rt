@@ -1,9 +1,11 @@
 //! The tasks that are ready, on either stage, and which of them a processor should run.
 #![tactic(auto)]
 
+mod bitmap;
 mod order;
 mod place;
 mod queue;
+mod queues;
 mod ready;
 mod turn;
 
