@@ -90,3 +90,7 @@ AreEmpty queues from to = (q : ℕ) (queue : List ℕ) → from ≤ q → q < to
 pub record Queued : Type 0 where
   pub turns : List Turn
   pub count : ℕ
+
+-- no task's turn is in the queues from one number up to another
+abbrev pub NoneIn : List Turn → ℕ → ℕ → Type 0
+NoneIn turns from to = (q t : ℕ) → from ≤ q → q < to → is_in turns q t ≡ false

@@ -23,7 +23,7 @@ fn without_bit(word: u64, i: usize) -> u64
     word & !(1 << i)
 }
 
-fn least_bit(word: u64) -> Option<usize>
+fn least_bit(word: u64) -> Option<u16>
     ensures below { IfSome result (λ i. i < 64) }
     ensures set { IfSome result (λ i. bit_at word i ≡ 1) }
     ensures least { IfSome result (λ i. (k : ℕ) → k < i → bit_at word k ≡ 0) }
@@ -32,7 +32,7 @@ fn least_bit(word: u64) -> Option<usize>
     if word == 0 {
         None
     } else {
-        Some(word.trailing_zeros() as usize)
+        Some(word.trailing_zeros() as u16)
     }
 }
 
@@ -55,7 +55,7 @@ pub(crate) fn clear_bit(words: &mut [u64], q: usize)
 }
 
 // The least bit that is set from word `from` up to word `to`.
-pub(crate) fn first_bit(words: &[u64], from: u8, to: u8) -> Option<usize>
+pub(crate) fn first_bit(words: &[u64], from: u8, to: u8) -> Option<u16>
     requires { to ≤ length words.now }
     ensures above { IfSome result (λ q. from * 64 ≤ q) }
     ensures below { IfSome result (λ q. q < to * 64) }
@@ -65,7 +65,7 @@ pub(crate) fn first_bit(words: &[u64], from: u8, to: u8) -> Option<usize>
 {
     for w in from..to {
         if let Some(i) = least_bit(words[w as usize]) {
-            return Some(w as usize * 64 + i);
+            return Some(w as u16 * 64 + i);
         }
     }
     None

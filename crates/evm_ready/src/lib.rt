@@ -8,11 +8,13 @@ mod queue;
 mod queues;
 mod ready;
 mod turn;
+mod turns;
 
 pub use order::{is_before, listed_rank};
 pub use place::{Place, place_of};
 pub use ready::Ready;
 pub use turn::Turn;
+pub use turns::Turns;
 
 /// The most queues of ready tasks that there are: on each of 8 processors one for each out-of-band rank, which is
 /// below 200, and one for the tasks that are ready in-band.

@@ -92,7 +92,7 @@ impl Queues {
     }
 
     // The first queue that has a task, of those of word `from` up to those of word `to`.
-    pub(crate) fn first_used(&self, from: u8, to: u8) -> Option<usize>
+    pub(crate) fn first_used(&self, from: u8, to: u8) -> Option<u16>
         requires { to * 64 ≤ length self.now }
         ensures above { IfSome result (λ q. from * 64 ≤ q) }
         ensures below { IfSome result (λ q. q < to * 64) }
