@@ -5,5 +5,7 @@ pub mod Leads
 pub mod Members
 pub mod Placed
 pub mod Preceding
+pub mod Queued_first
+pub mod Ready_turns
 pub mod Scans
 pub mod Turning

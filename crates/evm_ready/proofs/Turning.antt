@@ -1,12 +1,12 @@
 -- The turns of tasks, as one is set or one more comes.
-use Rattle.std.proofs.Common.{◌≡◌, ℕ, zero, suc, ◌+◌, ◌*◌, ◌<◌, ◌≤◌, List, [], ◌∷◌, ◌++◌, Option, Some, None, Bool, true, false, length, refl, ap, sym, ◌∙◌, ◌⊎◌, inl, inr, arith}
+use Rattle.std.proofs.Common.{◌≡◌, ℕ, zero, suc, List, [], ◌∷◌, ◌++◌, Bool, true, false, length, refl, ap, sym, ◌∙◌, arith}
 use Rattle.std.specs.Prelude.{slice_get, ◌&&◌, ◌==◌, not}
 use Rattle.std.proofs.lemmas.Bool.Decides.{nat_tests}
 use Rattle.std.proofs.lemmas.Option.{slice_get_past}
 use Rattle.evm_model.specs.Lists.{change}
 use Rattle.evm_model.proofs.Lists.{change-elsewhere}
 use Rattle.evm_ready.specs.declared.turn.Turn.{Turn}
-use Rattle.evm_ready.specs.Queues.{has, is_in, precedes, IsQueueOf, AreQueued, AreQueuedBut}
+use Rattle.evm_ready.specs.Queues.{has, is_in, precedes, AreQueued, AreQueuedBut}
 use Rattle.evm_ready.proofs.Members.{in_order-same}
 
 test-same : (t : ℕ) → (t == t) ≡ true

@@ -2,3 +2,4 @@ pub mod Oob
 pub mod Places
 pub mod ListedRanks
 pub mod Queues
+pub mod ReadyTurns

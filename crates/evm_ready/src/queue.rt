@@ -55,7 +55,7 @@ impl Queue {
         ensures order { IsInOrder turns.now self.new }
         ensures members { (u : ℕ) → has self.new u ≡ has (t ∷ self.old) u }
     {
-        let place = place_of(self.tasks(), turns, t);
+        let place = place_for(self.tasks(), turns, t);
         insert_at(&mut self.tasks, self.len as usize, place, t);
         self.len += 1;
     }
@@ -74,7 +74,7 @@ impl Queue {
 }
 
 // The place of task t: behind those that precede it. It is sought from the back, since a fresh stamp goes there.
-fn place_of(tasks: &[u8], turns: &[Turn], t: u8) -> usize
+fn place_for(tasks: &[u8], turns: &[Turn], t: u8) -> usize
     ensures within { result ≤ length tasks.now }
     ensures behind { (i u : ℕ) → result ≤ i → slice_get tasks.now i ≡ Some u → precedes turns.now t u ≡ true }
     ensures before { (i u : ℕ) → i + 1 ≡ result → slice_get tasks.now i ≡ Some u → precedes turns.now t u ≡ false }

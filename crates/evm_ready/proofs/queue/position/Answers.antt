@@ -1,4 +1,4 @@
-use Rattle.std.proofs.Common.{◌<◌, arith}
+use Rattle.std.proofs.Common.{arith}
 use Rattle.evm_model.proofs.Lists.{slice_get-below}
 use Rattle.evm_ready.proofs.Members.{has-none}
 use Rattle.evm_ready.proofs.queue.position.Goals as goal

@@ -1,6 +1,6 @@
-use Rattle.std.proofs.Common.{◌≡◌, ◌*◌, ◌<◌, ◌≤◌, ◌∙◌, ℕ, List, Some, None, [], sym, length, arith, ap}
+use Rattle.std.proofs.Common.{◌≡◌, ◌*◌, ◌<◌, ◌≤◌, ◌∙◌, ℕ, List, Some, None, [], sym, arith}
 use Rattle.std.specs.Prelude.{slice_get, IfSome, IfNone, Option}
-use Rattle.evm_ready.specs.Queues.{AreEmpty, IsBitmap, bit_of, use_bit}
+use Rattle.evm_ready.specs.Queues.{AreEmpty, IsBitmap, bit_of}
 use Rattle.evm_ready.proofs.Filing.{empty-use}
 use Rattle.evm_ready.proofs.queues.Queues.first_used.Goals as goal
 

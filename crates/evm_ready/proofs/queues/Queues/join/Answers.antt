@@ -1,9 +1,9 @@
-use Rattle.std.proofs.Common.{◌≡◌, ◌≢◌, ◌<◌, ◌≤◌, ◌∙◌, ℕ, List, Some, None, true, [], ◌∷◌, sym, length, arith, ap, refl}
+use Rattle.std.proofs.Common.{◌≡◌, ◌∙◌, Some, true, ◌∷◌, sym, refl}
 use Rattle.std.specs.Prelude.{slice_get}
 use Rattle.std.proofs.lemmas.Option.{slice_get_read, slice_get_past}
-use Rattle.evm_ready.specs.Queues.{AreQueued, AreQueuedBut, has}
+use Rattle.evm_ready.specs.Queues.{AreQueuedBut, has}
 use Rattle.evm_ready.proofs.Members.{has-at}
-use Rattle.evm_ready.proofs.Filing.{queue_of, join-none, join-past, joined, room-for, absent-from, bitmap-set, use-has, use-head, use-empty}
+use Rattle.evm_ready.proofs.Filing.{queue_of, join-none, join-past, joined, room-for, absent-from, bitmap-set, use-has}
 use Rattle.evm_ready.proofs.queues.Queues.join.Goals as goal
 
 pub returns-in_default-clause-queued : goal.returns-in_default-clause-queued

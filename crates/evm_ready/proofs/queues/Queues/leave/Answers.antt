@@ -1,8 +1,8 @@
-use Rattle.std.proofs.Common.{◌≡◌, ◌≢◌, ◌<◌, ◌≤◌, ◌∙◌, ℕ, List, Some, None, Bool, true, false, [], sym, length, arith, ap, refl}
+use Rattle.std.proofs.Common.{◌≡◌, ◌∙◌, ℕ, Some, None, true, false, sym, ap, refl}
 use Rattle.std.specs.Prelude.{slice_get, not, is_some, Option}
 use Rattle.std.proofs.lemmas.Option.{slice_get_read, slice_get_past}
-use Rattle.evm_ready.specs.Queues.{AreQueued, AreQueuedBut}
-use Rattle.evm_ready.proofs.Filing.{queue_of, leave-none, leave-past, left, bitmap-set, use-has, use-left, use-empty}
+use Rattle.evm_ready.specs.Queues.{AreQueued}
+use Rattle.evm_ready.proofs.Filing.{queue_of, leave-none, leave-past, left, bitmap-set, use-left, use-empty}
 use Rattle.evm_ready.proofs.queues.Queues.leave.Goals as goal
 
 is_none-none : (o : Option ℕ) → false ≡ is_some o → o ≡ None

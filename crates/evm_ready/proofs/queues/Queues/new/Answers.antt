@@ -1,4 +1,4 @@
-use Rattle.std.proofs.Common.{◌*◌, ◌≤◌, length, replicate, arith}
+use Rattle.std.proofs.Common.{◌*◌, replicate, arith}
 use Rattle.evm_ready.proofs.Filing.{bitmap-empty, bit_of-zero}
 use Rattle.evm_ready.proofs.queues.Queues.new.Goals as goal
 

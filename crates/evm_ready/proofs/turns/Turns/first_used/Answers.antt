@@ -1,8 +1,8 @@
-use Rattle.std.proofs.Common.{◌≡◌, ◌*◌, ◌<◌, ◌≤◌, ◌∙◌, ℕ, List, [], ◌∷◌, Option, Some, None, true, length, arith, refl, ap, sym}
+use Rattle.std.proofs.Common.{◌≡◌, ◌*◌, ◌<◌, ◌≤◌, ◌∙◌, ℕ, List, [], ◌∷◌, Option, Some, None, true, length, arith, refl, sym}
 use Rattle.std.specs.Prelude.{slice_get, IfSome, IfNone}
 use Rattle.evm_model.proofs.Lists.{slice_get-within}
 use Rattle.evm_ready.specs.declared.turn.Turn.{Turn}
-use Rattle.evm_ready.specs.Queues.{has, is_in, AreEmpty, AreQueued, NoneIn}
+use Rattle.evm_ready.specs.Queues.{is_in, AreEmpty, AreQueued, NoneIn}
 use Rattle.evm_ready.proofs.Members.{has-at}
 use Rattle.evm_ready.proofs.turns.Turns.first_used.Goals as goal
 

@@ -1,4 +1,4 @@
-use Rattle.std.proofs.Common.{◌≡◌, ◌<◌, ◌∙◌, ℕ, List, Option, Some, None, length, arith, refl, ap, sym}
+use Rattle.std.proofs.Common.{◌≡◌, ◌<◌, ◌∙◌, ℕ, List, Option, Some, None, length, refl}
 use Rattle.std.specs.Prelude.{slice_get, option_and_then}
 use Rattle.evm_model.proofs.Lists.{slice_get-within}
 use Rattle.evm_model.specs.Ranks.{first}

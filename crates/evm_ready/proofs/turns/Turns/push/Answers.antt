@@ -1,4 +1,4 @@
-use Rattle.std.proofs.Common.{◌≡◌, ◌++◌, ◌∷◌, [], length, rules}
+use Rattle.std.proofs.Common.{◌≡◌, length, rules}
 use Rattle.evm_ready.proofs.Turning.{pushed}
 use Rattle.evm_ready.proofs.turns.Turns.push.Goals as goal
 

@@ -2,7 +2,7 @@ use Rattle.std.proofs.Common.{◌≡◌, ◌≤◌, ℕ, List, Some, true, lengt
 use Rattle.std.specs.Prelude.{slice_get}
 use Rattle.evm_ready.specs.Queues.{precedes}
 use Rattle.evm_ready.specs.declared.turn.Turn.{Turn}
-use Rattle.evm_ready.proofs.queue.place_of.Given as goal
+use Rattle.evm_ready.proofs.queue.place_for.Given as goal
 
 -- the task precedes those from the place on
 pub record Precedes (tasks : List ℕ) (turns : List Turn) (t place : ℕ) : Type 0 where
