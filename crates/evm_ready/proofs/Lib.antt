@@ -1,4 +1,11 @@
 pub mod Counts
+pub mod Filing
 pub mod Firsts
+pub mod Leads
+pub mod Members
 pub mod Placed
+pub mod Preceding
+pub mod Queued_first
+pub mod Ready_turns
 pub mod Scans
+pub mod Turning

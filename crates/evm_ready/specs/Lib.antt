@@ -1,3 +1,5 @@
 pub mod Oob
 pub mod Places
 pub mod ListedRanks
+pub mod Queues
+pub mod ReadyTurns

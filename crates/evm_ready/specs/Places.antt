@@ -69,11 +69,6 @@ pub record AreCounted (count : ℕ) (places : List (Option Place)) : Type 0 wher
   pub oob : count ≡ oob_count places
   pub room : length places ≤ TASK_LIMIT
 
--- count tasks are ready out-of-band, and each task has a rank
-pub record AreReady (count : ℕ) (places : List (Option Place)) (ranks : List ℕ) : Type 0 where
-  pub counted : AreCounted count places
-  pub ranked : length ranks ≡ length places
-
 -- the tasks, by their numbers: where each is ready, and its rank
 pub record ReadyTasks : Type 0 where
   pub places : List (Option Place)

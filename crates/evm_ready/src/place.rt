@@ -1,7 +1,15 @@
 ghost use Rattle.std.specs.Prelude.{◌≡◌, ◌≤◌, ◌<◌};
 ghost use Rattle.evm_ready.specs.Places.{placed, oob_bit, runs_oob, runs_in_band};
+ghost use Rattle.evm_ready.specs.ReadyTurns.{turn_of, turn_at};
 
+use crate::turn::Turn;
 use evm_model::{Stage, Task, TaskState};
+
+// How many queues a processor has, of which some are never used.
+pub(crate) const LEVELS: u16 = 256;
+
+// The level of the in-band tasks, behind those of the out-of-band ranks.
+pub(crate) const IN_BAND_LEVEL: u16 = 200;
 
 /// Where a ready task is, and since when.
 #[derive(Clone, Copy, Debug, PartialEq, Eq)]
@@ -57,4 +65,36 @@ pub(crate) fn runs_in_band(place: Option<Place>, c: u8) -> bool
         return false;
     };
     place.stage == Stage::InBand && place.cpu == c
+}
+
+// The turn of a task of this rank that is ready there, or isn't ready.
+pub(crate) fn turn_of(place: Option<Place>, rank: u16) -> Turn
+    ensures { result ≡ turn_of place rank }
+{
+    match place {
+        None => Turn {
+            queue: None,
+            rank,
+            stamp: 0,
+        },
+        Some(place) => turn_at(place.stage, place.cpu, place.stamp, rank),
+    }
+}
+
+fn turn_at(stage: Stage, cpu: u8, stamp: u64, rank: u16) -> Turn
+    ensures { result ≡ turn_at stage cpu stamp rank }
+{
+    let queues = cpu as u16 * LEVELS;
+    match stage {
+        Stage::OutOfBand => Turn {
+            queue: Some(queues + 199u16.saturating_sub(rank)),
+            rank,
+            stamp,
+        },
+        Stage::InBand => Turn {
+            queue: Some(queues + IN_BAND_LEVEL),
+            rank: 0,
+            stamp,
+        },
+    }
 }

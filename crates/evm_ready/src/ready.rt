@@ -1,15 +1,18 @@
-ghost use Rattle.std.specs.Prelude.{◌≡◌, ◌<◌, ◌≤◌, ◌++◌, ◌∷◌, [], length, IfOk, IfErr};
+ghost use Rattle.std.specs.Prelude.{◌≡◌, ◌<◌, ◌≤◌, ◌+◌, ◌*◌, ◌++◌, ◌∷◌, ℕ, List, Option, [], length, IfOk, IfErr};
 ghost use Rattle.arrayvec.specs.ArrayVec.{array_vec_len};
 ghost use Rattle.evm_model.specs.Lists.{change};
 ghost use Rattle.evm_model.specs.Ranks.{first, leader};
 ghost use Rattle.evm_ready.specs.Places.{any_oob, entry, runs_oob, runs_in_band, stamp_of};
 ghost use Rattle.evm_ready.specs.ListedRanks.{listed_rank};
+ghost use Rattle.evm_ready.specs.ReadyTurns.{turns_of};
+ghost use Rattle.evm_ready.specs.declared.place.Place.{Place};
 
 use crate::READY_QUEUE_LIMIT;
 use crate::order::{is_before, listed_rank};
-use crate::place::{Place, oob_bit, runs_in_band, runs_oob};
+use crate::place::{IN_BAND_LEVEL, LEVELS, Place, oob_bit, runs_in_band, runs_oob, turn_of};
+use crate::turns::Turns;
 use arrayvec::ArrayVec;
-use evm_model::TASK_LIMIT;
+use evm_model::{PROCESSOR_LIMIT, TASK_LIMIT};
 use evm_room::Refused;
 use std::alloc::Global;
 use std::marker::Model;
@@ -21,14 +24,18 @@ pub struct Ready {
     ranks: ArrayVec<u16, TASK_LIMIT>,
     // how many are ready out-of-band
     oob: u8,
+    turns: Turns,
+    // how many processors have queues
+    processors: u8,
 }
 
 impl Model for Ready {
-    ghost use Rattle.evm_ready.specs.Places.{AreReady, ReadyTasks};
+    ghost use Rattle.evm_ready.specs.Places.{ReadyTasks};
+    ghost use Rattle.evm_ready.specs.ReadyTurns.{AreReady};
 
     ghost Value = { ReadyTasks };
 
-    ghost invariant = { λ r. AreReady r.oob r.places.items r.ranks.items };
+    ghost invariant = { λ r. AreReady r.oob r.places.items r.ranks.items r.turns r.processors };
 
     ghost view = { λ r. record {
       places = r.places.items;
@@ -47,11 +54,14 @@ impl Ready {
         ensures ranks { IfOk result (λ ready. ready.ranks ≡ []) }
         ensures refused { IfErr result (λ asked. asked ≤ READY_QUEUE_LIMIT) }
     {
-        let _queues = (alloc, processors);
+        let processors = processors.min(PROCESSOR_LIMIT as u8);
+        let turns = Turns::new(alloc, processors * 4)?;
         Ok(Ready {
             places: ArrayVec::new(),
             ranks: ArrayVec::new(),
             oob: 0,
+            turns,
+            processors,
         })
     }
 
@@ -74,6 +84,7 @@ impl Ready {
         self.oob += oob_bit(place);
         self.places.push(place);
         self.ranks.push(rank);
+        self.turns.push(turn_of(place, rank));
     }
 
     fn get(&self, t: u8) -> Option<Place>
@@ -90,9 +101,11 @@ impl Ready {
         ensures places { self.new.places ≡ change (λ _. place) self.old.places t }
         ensures ranks { self.new.ranks ≡ self.old.ranks }
     {
+        let rank = self.rank(t);
         if let Some(entry) = self.places.get_mut(t as usize) {
             self.oob = self.oob - oob_bit(*entry) + oob_bit(place);
             *entry = place;
+            self.turns.set(t, turn_of(place, rank));
         }
     }
 
@@ -101,8 +114,10 @@ impl Ready {
         ensures places { self.new.places ≡ self.old.places }
         ensures ranks { self.new.ranks ≡ change (λ _. rank) self.old.ranks t }
     {
+        let place = self.get(t);
         if let Some(entry) = self.ranks.get_mut(t as usize) {
             *entry = rank;
+            self.turns.set(t, turn_of(place, rank));
         }
     }
 
@@ -153,8 +168,19 @@ impl Ready {
 
     /// The number of the out-of-band task that processor c should run: of those that are ready there, the one of
     /// greatest rank, then of least stamp.
-    #[tactic(auto, using(crate::proofs::Scans::scans))]
     pub fn best(&self, c: u8) -> Option<u8>
+        ensures { result ≡ first (λ t. runs_oob c (entry self.now.places t)) (listed_rank self.now.ranks) (λ t. stamp_of (entry self.now.places t)) (length self.now.places) }
+    {
+        if c < self.processors {
+            best_in(&self.turns, c)
+        } else {
+            self.best_of_all(c)
+        }
+    }
+
+    // The same by a look at each task, for a processor that has no queues.
+    #[tactic(auto, using(crate::proofs::Scans::scans))]
+    fn best_of_all(&self, c: u8) -> Option<u8>
         ensures { result ≡ first (λ t. runs_oob c (entry self.now.places t)) (listed_rank self.now.ranks) (λ t. stamp_of (entry self.now.places t)) (length self.now.places) }
     {
         let mut leading = None;
@@ -168,8 +194,19 @@ impl Ready {
 
     /// The number of the in-band task that processor c should take up: of those that are ready there, the one of
     /// least stamp.
-    #[tactic(auto, using(crate::proofs::Scans::scans))]
     pub fn next_in_band(&self, c: u8) -> Option<u8>
+        ensures { result ≡ first (λ t. runs_in_band c (entry self.now.places t)) (λ _. 0) (λ t. stamp_of (entry self.now.places t)) (length self.now.places) }
+    {
+        if c < self.processors {
+            self.turns.head(c as u16 * LEVELS + IN_BAND_LEVEL)
+        } else {
+            self.next_of_all(c)
+        }
+    }
+
+    // The same by a look at each task, for a processor that has no queues.
+    #[tactic(auto, using(crate::proofs::Scans::scans))]
+    fn next_of_all(&self, c: u8) -> Option<u8>
         ensures { result ≡ first (λ t. runs_in_band c (entry self.now.places t)) (λ _. 0) (λ t. stamp_of (entry self.now.places t)) (length self.now.places) }
     {
         let mut leading = None;
@@ -179,5 +216,21 @@ impl Ready {
             }
         }
         leading
+    }
+}
+
+// The head of the first level of processor c at which a task is ready out-of-band.
+fn best_in(turns: &Turns, c: u8) -> Option<u8>
+    requires limit { c < PROCESSOR_LIMIT }
+    requires queues { c * LEVELS + LEVELS ≤ turns.now.count }
+    ensures { (places : List (Option Place)) (ranks : List ℕ) → length ranks ≡ length places → turns.now.turns ≡ turns_of places ranks → result ≡ first (λ t. runs_oob c (entry places t)) (listed_rank ranks) (λ t. stamp_of (entry places t)) (length places) }
+{
+    let Some(q) = turns.first_used(c * 4, c * 4 + 4) else {
+        return None;
+    };
+    if q < c as u16 * LEVELS + IN_BAND_LEVEL {
+        turns.head(q)
+    } else {
+        None
     }
 }

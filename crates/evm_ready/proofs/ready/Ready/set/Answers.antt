@@ -1,9 +1,12 @@
-use Rattle.std.proofs.Common.{◌≡◌, ◌≤◌, Some, refl, ap, ◌∙◌, arith}
+use Rattle.std.proofs.Common.{◌≡◌, ◌≤◌, List, Option, Some, refl, sym, ap, ◌∙◌, arith}
 use Rattle.std.proofs.lemmas.List.{length-set}
 use Rattle.std.proofs.lemmas.Option.{slice_get_read}
 use Rattle.std.specs.Prelude.{slice_get}
 use Rattle.evm_model.specs.Lists.{change}
 use Rattle.evm_ready.specs.Places.{oob_bit, oob_count, ReadyTasks}
+use Rattle.evm_ready.specs.declared.place.Place.{Place}
+use Rattle.evm_ready.specs.ReadyTurns.{turns_of}
+use Rattle.evm_ready.proofs.Ready_turns.{turns-place}
 use Rattle.evm_ready.proofs.Counts.{bit-least, count-has, count-least, count-set, set-there}
 use Rattle.evm_ready.proofs.ready.Ready.set.Goals as goal
 
@@ -28,6 +31,13 @@ invariant_of-self c =
         room = rw (length-set c.self.inside.places.items c.args.t c.args.place) c.self.invariant.counted.room;
       };
       ranked = rw (length-set c.self.inside.places.items c.args.t c.args.place) c.self.invariant.ranked;
+      turns = c.set.ensures.turns
+        ∙ rw (c.turn_of.ensures, c.rank-rank.ensures, ← c.self.view_is, c.self.invariant.turns)
+          (turns-place c.self.inside.places.items c.self.inside.ranks.items c.args.t c.args.place c.self.invariant.ranked)
+        ∙ ap (λ (places : List (Option Place)). turns_of places c.self.inside.ranks.items)
+          (sym (set-there c.self.inside.places.items c.args.t c.in-Some.entry.now c.args.place there));
+      queues = c.set.ensures.count ∙ c.self.invariant.queues;
+      limit = c.self.invariant.limit;
     }
 
 pub returns-in-Some-clause-places : goal.returns-in-Some-clause-places

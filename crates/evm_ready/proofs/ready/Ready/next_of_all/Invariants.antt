@@ -1,7 +1,7 @@
 use Rattle.std.proofs.Common.{◌≡◌}
 use Rattle.evm_model.specs.Ranks.{first}
 use Rattle.evm_ready.specs.Places.{entry, runs_in_band, stamp_of}
-use Rattle.evm_ready.proofs.ready.Ready.next_in_band.Given as goal
+use Rattle.evm_ready.proofs.ready.Ready.next_of_all.Given as goal
 
 -- the one that leads is the first of those so far
 abbrev pub invariant-loop-t : goal.invariant-loop-t

@@ -1,0 +1,104 @@
+ghost use Rattle.std.specs.Prelude.{◌≡◌, ◌≤◌, ◌<◌, ◌+◌, ◌*◌, ◌++◌, ◌∷◌, ℕ, [], true, length, IfOk, IfErr, IfSome, IfNone};
+ghost use Rattle.arrayvec.specs.ArrayVec.{array_vec_len};
+ghost use Rattle.evm_model.specs.Lists.{change};
+ghost use Rattle.evm_model.specs.Ranks.{first};
+ghost use Rattle.evm_ready.specs.Queues.{is_in, turn_rank, turn_stamp, NoneIn};
+
+use crate::queues::Queues;
+use crate::turn::Turn;
+use arrayvec::ArrayVec;
+use evm_model::TASK_LIMIT;
+use evm_room::Refused;
+use std::alloc::Global;
+use std::marker::Model;
+
+/// The turn of each task, by its number, and the queues in which the tasks are. The room for them is there from the
+/// start.
+#[derive(Debug, Drop)]
+pub struct Turns {
+    turns: ArrayVec<Turn, TASK_LIMIT>,
+    queues: Queues,
+}
+
+impl Model for Turns {
+    ghost use Rattle.std.specs.Prelude.{length};
+    ghost use Rattle.evm_ready.specs.Queues.{AreQueued, Queued};
+
+    ghost Value = { Queued };
+
+    ghost invariant = { λ t. AreQueued t.turns.items t.queues };
+
+    ghost view = { λ t. record {
+      turns = t.turns.items;
+      count = length t.queues;
+    } };
+}
+
+impl Turns {
+    /// No task, and 64 queues for each word of their bitmap, of which there are 32 at the most.
+    ///
+    /// # Errors
+    ///
+    /// Where the allocation of their room failed.
+    pub fn new(alloc: Global, words: u8) -> Result<Turns, Refused>
+        requires { words ≤ 32 }
+        ensures turns { IfOk result (λ made. made.turns ≡ []) }
+        ensures count { IfOk result (λ made. made.count ≡ words * 64) }
+        ensures refused { IfErr result (λ asked. asked ≡ words * 64) }
+    {
+        let queues = Queues::new(alloc, words)?;
+        Ok(Turns {
+            turns: ArrayVec::new(),
+            queues,
+        })
+    }
+
+    /// One task more, the last.
+    pub fn push(&mut self, turn: Turn)
+        requires { length self.old.turns < TASK_LIMIT }
+        ensures turns { self.new.turns ≡ self.old.turns ++ turn ∷ [] }
+        ensures count { self.new.count ≡ self.old.count }
+    {
+        let t = self.turns.len() as u8;
+        self.turns.push(turn);
+        self.queues.join(self.turns.as_slice(), t);
+    }
+
+    /// Task t has this turn.
+    pub fn set(&mut self, t: u8, turn: Turn)
+        ensures turns { self.new.turns ≡ change (λ _. turn) self.old.turns t }
+        ensures count { self.new.count ≡ self.old.count }
+    {
+        self.queues.leave(self.turns.as_slice(), t);
+        set_turn(&mut self.turns, t, turn);
+        self.queues.join(self.turns.as_slice(), t);
+    }
+
+    /// The task that goes first of those whose turn is in queue q: the one of greatest rank, then of least stamp.
+    pub fn head(&self, q: u16) -> Option<u8>
+        requires { q < self.now.count }
+        ensures { result ≡ first (is_in self.now.turns q) (turn_rank self.now.turns) (turn_stamp self.now.turns) (length self.now.turns) }
+    {
+        self.queues.head(q as usize)
+    }
+
+    /// The first queue with a task in it, of those of word `from` up to those of word `to`.
+    pub fn first_used(&self, from: u8, to: u8) -> Option<u16>
+        requires { to * 64 ≤ self.now.count }
+        ensures above { IfSome result (λ q. from * 64 ≤ q) }
+        ensures below { IfSome result (λ q. q < to * 64) }
+        ensures least { IfSome result (λ q. NoneIn self.now.turns (from * 64) q) }
+        ensures used { IfSome result (λ q. (t : ℕ) × (is_in self.now.turns q t ≡ true)) }
+        ensures none { IfNone result (NoneIn self.now.turns (from * 64) (to * 64)) }
+    {
+        self.queues.first_used(from, to)
+    }
+}
+
+fn set_turn(turns: &mut ArrayVec<Turn, TASK_LIMIT>, t: u8, turn: Turn)
+    ensures { turns.new.items ≡ change (λ _. turn) turns.old.items t }
+{
+    if let Some(entry) = turns.get_mut(t as usize) {
+        *entry = turn;
+    }
+}
