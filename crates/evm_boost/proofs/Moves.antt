@@ -162,6 +162,23 @@ still-settling s next mutexes f tasks new t locks classes is e place waiter rank
     (λ yes u out. own-class mutexes tasks new u (ap (λ (xs : List Task). class_rank_of (slice_get xs u)) e ∙ classes-kept f tasks t u classes))
     (λ yes u v out. ap (λ (o : Option ℕ). is_number o u) (sym (links v)))
 
+-- a task changed in what neither a link, nor a class, nor an entry says
+pub same-settling : (s next : Scheduled) (mutexes : List Mutex) (f : Task → Task) (tasks new : List Task) (t : ℕ) → KeepsLocks f → KeepsClasses f
+    → ((task : Task) → placed (f task) ≡ placed task) → ((task : Task) → awaited (f task) ≡ awaited task)
+    → IsScheduled s mutexes tasks → new ≡ change f tasks t
+    → next.places ≡ s.places → next.waiters ≡ s.waiters → next.ranks ≡ s.ranks → next.sound ≡ s.sound
+    → IsSettling (with_task None (with_task None no_task)) next mutexes new
+same-settling s next mutexes f tasks new t locks classes place_kept waiter_kept is e place waiter ranks sound =
+    let count : length new ≡ length tasks = ap length e ∙ length-change f tasks t in
+    let links : (u : ℕ) → boosts mutexes new u ≡ boosts mutexes tasks u =
+    λ u. boosts-lock mutexes tasks new u (ap (λ (xs : List Task). lock_at xs u) e ∙ locks-kept f tasks t u locks) in
+    settling (with_task None (with_task None no_task)) s next mutexes mutexes tasks new is
+    (entered-same s next f tasks new t place_kept waiter_kept is.entered e place waiter ranks)
+    ranks count (λ yes. sym sound ∙ yes)
+    (λ yes. sound-fewer mutexes mutexes tasks new (omega (arith, count)) (is.sound (sym sound ∙ yes)) (λ u v to. sym (links u) ∙ to))
+    (λ yes u out. own-class mutexes tasks new u (ap (λ (xs : List Task). class_rank_of (slice_get xs u)) e ∙ classes-kept f tasks t u classes))
+    (λ yes u v out. ap (λ (o : Option ℕ). is_number o u) (sym (links v)))
+
 -- ---- another class
 pub out-other : (t u : ℕ) → is_number (Some t) u ≡ false → (u ≡ t → ⊥)
 out-other t u e same = let yes : (t == u) ≡ true = rw same (eq-eqb t t refl) in let no : true ≡ false = sym yes ∙ e in cc

@@ -216,6 +216,26 @@ impl Schedule {
         self.mend(mutexes, tasks, Some(t), None);
     }
 
+    /// A task has this many ticks left.
+    pub fn set_slice(&mut self, tasks: &mut Tasks, mutexes: &Mutexes, t: u8, slice: u8)
+        requires { IsScheduled self.old mutexes.now tasks.old }
+        ensures tasks { tasks.new ≡ change (λ task. record task { slice = slice }) tasks.old t }
+        ensures scheduled { IsScheduled self.new mutexes.now tasks.new }
+    {
+        tasks.set_slice(t, slice);
+        self.mend(mutexes, tasks, None, None);
+    }
+
+    /// A task has these mode bits.
+    pub fn set_mode(&mut self, tasks: &mut Tasks, mutexes: &Mutexes, t: u8, bits: u8)
+        requires { IsScheduled self.old mutexes.now tasks.old }
+        ensures tasks { tasks.new ≡ change (λ task. record task { mode = record { bits = bits } }) tasks.old t }
+        ensures scheduled { IsScheduled self.new mutexes.now tasks.new }
+    {
+        tasks.set_mode(t, bits);
+        self.mend(mutexes, tasks, None, None);
+    }
+
     // One task more, with no rank yet.
     fn add(&mut self, task: &Task)
         requires places { length self.old.places < TASK_LIMIT }

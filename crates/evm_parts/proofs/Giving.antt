@@ -57,8 +57,7 @@ held-twice t m ms (Some mutex) e =
     rw (e, there) (set-twice ms m (freed mutex) (held_by t 1 mutex))
 
 pub given : (t m value : ℕ) (p : Parts)
-    → record (woken_with t value (owns_any t (change (held_by t 1) p.mutexes m)) (on_mutex m freed p)) { mutexes = change (held_by t 1) (change freed p.mutexes m) m }
-    ≡ wake t value (on_mutex m (held_by t 1) p)
+    → on_mutex m (held_by t 1) (woken_with t value (owns_any t (change (held_by t 1) p.mutexes m)) (on_mutex m freed p)) ≡ wake t value (on_mutex m (held_by t 1) p)
 unfolding wake restamp
 given t m value p =
     ap (λ (ms : List Mutex). record (woken_with t value (owns_any t (change (held_by t 1) p.mutexes m)) p) { mutexes = ms }) (held-twice t m p.mutexes (slice_get p.mutexes m) refl)

@@ -56,7 +56,8 @@ impl Parts {
     pub fn set_mode_bits(&mut self, t: u8, bits: u8)
         ensures row { self.new ≡ set_mode_bits t bits self.old }
     {
-        self.tasks.set_mode(t, bits);
+        self.schedule
+            .set_mode(&mut self.tasks, &self.mutexes, t, bits);
     }
 
     // A task has this many ticks left.
@@ -65,7 +66,8 @@ impl Parts {
         ensures row { self.new ≡ set_slice t slice self.old }
         ensures stamps { self.new.stamps ≡ self.old.stamps }
     {
-        self.tasks.set_slice(t, slice);
+        self.schedule
+            .set_slice(&mut self.tasks, &self.mutexes, t, slice);
     }
 
     // A tick less of a task's slice; the last one gives a whole slice, and a fresh stamp.

@@ -1,0 +1,7 @@
+use Rattle.std.proofs.Common.{◌∙◌}
+use Rattle.evm_parts.proofs.Giving.{given}
+use Rattle.evm_parts.proofs.parts.Parts.give_mutex.Goals as goal
+
+pub returns-clause-row : goal.returns-clause-row
+returns-clause-row c =
+    rw (c.hold_mutex.ensures.row, c.wake_with.ensures.row, c.leave_mutex.ensures.row, c.owns_with-owns.ensures) (given c.args.t c.args.m c.args.value c.args.self.now)
