@@ -13,4 +13,8 @@ pub use mutexes::Mutexes;
 pub use schedule::Schedule;
 
 #[cfg(test)]
+mod board;
+#[cfg(test)]
+mod schedule_tests;
+#[cfg(test)]
 mod tests;

@@ -208,9 +208,7 @@ fn a_chain_is_walked(rt: HostRuntime) {
     assert!(rt; !mutexes.reaches(&tasks, 3, 2));
     assert_eq!(rt; mutexes.waits_on(&tasks, 2), Some(1));
     assert_eq!(rt; mutexes.boosts(&tasks, 2), Some(1));
-    assert_eq!(rt; mutexes.first_waiter(Wait::Lock(1), &tasks), Some(2));
-    assert_eq!(rt; mutexes.first_waiter(Wait::Lock(2), &tasks), None);
-    assert_eq!(rt; mutexes.rank(&tasks, 0), 101);
+    assert_eq!(rt; mutexes.ranks(&tasks)[0], 101);
     assert_eq!(rt; mutexes.waits_on(&tasks, 3), None);
 }
 
@@ -226,8 +224,7 @@ fn one_that_waits_again_boosts_too(rt: HostRuntime) {
     tasks.set_state(1, TaskState::Waits(again));
     let mutexes = two(owned_by(0), FREE);
     assert_eq!(rt; mutexes.waits_on(&tasks, 1), Some(0));
-    assert_eq!(rt; mutexes.rank(&tasks, 0), 140);
-    assert_eq!(rt; mutexes.first_waiter(Wait::Lock(0), &tasks), Some(1));
+    assert_eq!(rt; mutexes.ranks(&tasks)[0], 140);
     assert_eq!(rt; tasks.kept(1), 9);
 }
 
