@@ -31,5 +31,7 @@ waiting-head waiters ranks wait q e is =
     (first-alike (is_in (turns_of waiters ranks) q) (λ t. waits_for wait (entry waiters t)) (turn_rank (turns_of waiters ranks)) (listed_rank ranks)
     (turn_stamp (turns_of waiters ranks)) (λ t. stamp_of (entry waiters t)) (length waiters)
     (λ t. in-turns waiter_turn waiters ranks q t e ∙ turn-waits wait q (entry waiters t) (listed_rank ranks t) is)
-    (λ t h. (rank-turns waiter_turn waiters ranks t e ∙ turn-rank (entry waiters t) (listed_rank ranks t),
-      stamp-turns waiter_turn waiters ranks t e ∙ turn-stamp (entry waiters t) (listed_rank ranks t))))
+    (λ t h. (
+      rank-turns waiter_turn waiters ranks t e ∙ turn-rank (entry waiters t) (listed_rank ranks t),
+      stamp-turns waiter_turn waiters ranks t e ∙ turn-stamp (entry waiters t) (listed_rank ranks t),
+    )))

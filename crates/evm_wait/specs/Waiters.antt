@@ -1,5 +1,5 @@
 -- What tasks wait for: an entry for each task, by its number.
-use Rattle.std.specs.Prelude.{◌≡◌, ℕ, List, Option, Some, None, Bool, false}
+use Rattle.std.specs.Prelude.{ℕ, List, Option, Some, None, Bool, false}
 use Rattle.evm_model.specs.Waits.{same_wait}
 use Rattle.evm_model.specs.declared.task.Task.{Task}
 use Rattle.evm_model.specs.declared.task.TaskState.{TaskState}

@@ -22,7 +22,7 @@ invariant_of-self c =
       };
       ranked = omega (arith, places, ranks, c.self.invariant.ranked);
       turns = c.push-3.ensures.turns
-        ∙ rw (c.turn_of.ensures, c.self.invariant.turns, c.push.ensures.items, c.push-2.ensures.items)
+          ∙ rw (c.turn_of.ensures, c.self.invariant.turns, c.push.ensures.items, c.push-2.ensures.items)
           (sym (turns-push place_turn c.self.inside.places.items c.self.inside.ranks.items c.args.place c.args.rank c.self.invariant.ranked));
       queues = c.push-3.ensures.count ∙ c.self.invariant.queues;
       limit = c.self.invariant.limit;

@@ -32,9 +32,9 @@ invariant_of-self c =
       };
       ranked = rw (length-set c.self.inside.places.items c.args.t c.args.place) c.self.invariant.ranked;
       turns = c.set.ensures.turns
-        ∙ rw (c.turn_of.ensures, c.rank-rank.ensures, ← c.self.view_is, c.self.invariant.turns)
+          ∙ rw (c.turn_of.ensures, c.rank-rank.ensures, ← c.self.view_is, c.self.invariant.turns)
           (turns-entry place_turn c.self.inside.places.items c.self.inside.ranks.items c.args.t c.args.place c.self.invariant.ranked)
-        ∙ ap (λ (places : List (Option Place)). turns_of places c.self.inside.ranks.items)
+          ∙ ap (λ (places : List (Option Place)). turns_of places c.self.inside.ranks.items)
           (sym (set-there c.self.inside.places.items c.args.t c.in-Some.entry.now c.args.place there));
       queues = c.set.ensures.count ∙ c.self.invariant.queues;
       limit = c.self.invariant.limit;

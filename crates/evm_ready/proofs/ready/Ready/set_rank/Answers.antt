@@ -17,9 +17,9 @@ invariant_of-self c =
       counted = c.self.invariant.counted;
       ranked = length-set c.self.inside.ranks.items c.args.t c.args.rank ∙ c.self.invariant.ranked;
       turns = c.set.ensures.turns
-        ∙ rw (c.turn_of.ensures, c.get-place.ensures, ← c.self.view_is, c.self.invariant.turns)
+          ∙ rw (c.turn_of.ensures, c.get-place.ensures, ← c.self.view_is, c.self.invariant.turns)
           (turns-rank place_turn c.self.inside.places.items c.self.inside.ranks.items c.args.t c.args.rank c.self.invariant.ranked)
-        ∙ ap (λ (ranks : List ℕ). turns_of c.self.inside.places.items ranks)
+          ∙ ap (λ (ranks : List ℕ). turns_of c.self.inside.places.items ranks)
           (sym (set-there c.self.inside.ranks.items c.args.t c.in-Some.entry.now c.args.rank there));
       queues = c.set.ensures.count ∙ c.self.invariant.queues;
       limit = c.self.invariant.limit;

@@ -6,4 +6,4 @@ pub returns-in-Some : goal.returns-in-Some
 returns-in-Some c =
     c.head.ensures
     ∙ rw (← c.self.view_is, c.self.invariant.turns)
-      (waiting-head c.self.inside.waiters.items c.self.inside.ranks.items c.args.wait c.in-Some.q c.self.invariant.ranked c.in-Some.ensures)
+    (waiting-head c.self.inside.waiters.items c.self.inside.ranks.items c.args.wait c.in-Some.q c.self.invariant.ranked c.in-Some.ensures)

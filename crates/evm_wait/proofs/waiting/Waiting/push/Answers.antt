@@ -1,4 +1,4 @@
-use Rattle.std.proofs.Common.{◌≡◌, ◌<◌, ◌≤◌, ◌+◌, ◌∙◌, ◌∷◌, [], length, refl, sym, ap, arith, length-append}
+use Rattle.std.proofs.Common.{◌<◌, ◌∙◌, ◌∷◌, [], length, sym, ap, arith, length-append}
 use Rattle.evm_model.specs.declared.limits.TheConstants.{TASK_LIMIT}
 use Rattle.evm_ready.proofs.Listed_turns.{length-turns, turns-push}
 use Rattle.evm_wait.specs.WaitTurns.{waiter_turn}
@@ -16,7 +16,7 @@ invariant_of-self c =
     record {
       ranked = omega (arith, waiters, ranks, c.self.invariant.ranked);
       turns = c.push-3.ensures.turns
-        ∙ rw (c.turn_of.ensures, c.self.invariant.turns, c.push.ensures.items, c.push-2.ensures.items)
+          ∙ rw (c.turn_of.ensures, c.self.invariant.turns, c.push.ensures.items, c.push-2.ensures.items)
           (sym (turns-push waiter_turn c.self.inside.waiters.items c.self.inside.ranks.items c.args.waiter c.args.rank c.self.invariant.ranked));
       queues = c.push-3.ensures.count ∙ c.self.invariant.queues;
     }

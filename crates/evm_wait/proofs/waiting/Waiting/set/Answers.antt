@@ -17,9 +17,9 @@ invariant_of-self c =
     record {
       ranked = c.self.invariant.ranked ∙ sym (length-set c.self.inside.waiters.items c.args.t c.args.waiter);
       turns = c.set.ensures.turns
-        ∙ rw (c.turn_of.ensures, c.rank-rank.ensures, ← c.self.view_is, c.self.invariant.turns)
+          ∙ rw (c.turn_of.ensures, c.rank-rank.ensures, ← c.self.view_is, c.self.invariant.turns)
           (turns-entry waiter_turn c.self.inside.waiters.items c.self.inside.ranks.items c.args.t c.args.waiter c.self.invariant.ranked)
-        ∙ ap (λ (waiters : List (Option Waiter)). turns_of waiters c.self.inside.ranks.items)
+          ∙ ap (λ (waiters : List (Option Waiter)). turns_of waiters c.self.inside.ranks.items)
           (sym (set-there c.self.inside.waiters.items c.args.t c.in-Some.entry.now c.args.waiter there));
       queues = c.set.ensures.count ∙ c.self.invariant.queues;
     }

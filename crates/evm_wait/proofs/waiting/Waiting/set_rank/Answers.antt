@@ -16,9 +16,9 @@ invariant_of-self c =
     record {
       ranked = length-set c.self.inside.ranks.items c.args.t c.args.rank ∙ c.self.invariant.ranked;
       turns = c.set.ensures.turns
-        ∙ rw (c.turn_of.ensures, c.get-waiter.ensures, ← c.self.view_is, c.self.invariant.turns)
+          ∙ rw (c.turn_of.ensures, c.get-waiter.ensures, ← c.self.view_is, c.self.invariant.turns)
           (turns-rank waiter_turn c.self.inside.waiters.items c.self.inside.ranks.items c.args.t c.args.rank c.self.invariant.ranked)
-        ∙ ap (λ (ranks : List ℕ). turns_of c.self.inside.waiters.items ranks)
+          ∙ ap (λ (ranks : List ℕ). turns_of c.self.inside.waiters.items ranks)
           (sym (set-there c.self.inside.ranks.items c.args.t c.in-Some.entry.now c.args.rank there));
       queues = c.set.ensures.count ∙ c.self.invariant.queues;
     }
