@@ -89,10 +89,10 @@ leave-elsewhere turns p t queue absent was = record {
 
 -- ---- all queues
 pub join-none : (turns : List Turn) (t : ℕ) (queues : List (List ℕ)) → queue_of turns t ≡ None → AreQueuedBut t turns queues → AreQueued turns queues
-join-none turns t queues e was = record { queued = λ p queue at. join-elsewhere turns p t queue (is_in-nowhere turns p t e) (was.queued p queue at); }
+join-none turns t queues e was = record { queued = λ p queue at. join-elsewhere turns p t queue (is_in-nowhere turns p t e) (was.queued p queue at) }
 
 pub leave-none : (turns : List Turn) (t : ℕ) (queues : List (List ℕ)) → queue_of turns t ≡ None → AreQueued turns queues → AreQueuedBut t turns queues
-leave-none turns t queues e was = record { queued = λ p queue at. leave-elsewhere turns p t queue (is_in-nowhere turns p t e) (was.queued p queue at); }
+leave-none turns t queues e was = record { queued = λ p queue at. leave-elsewhere turns p t queue (is_in-nowhere turns p t e) (was.queued p queue at) }
 
 -- a queue whose number is too great isn't there
 pub join-past : (turns : List Turn) (t q : ℕ) (queues : List (List ℕ)) → queue_of turns t ≡ Some q → slice_get queues q ≡ None → AreQueuedBut t turns queues → AreQueued turns queues
@@ -130,7 +130,7 @@ room-for turns t q queues queue limit e there was =
     let is = was.queued q queue there in
     let absent : has queue t ≡ false = is.members t ∙ ap (λ b. not b && is_in turns q t) (test-same t) in
     let fewer = length-missing turns (length turns) queue t (is_in-below turns q t (is_in-here turns q t e)) absent is.in_order
-      (λ u h. is_in-below turns q u (and-right (not (t == u)) (is_in turns q u) (sym (is.members u) ∙ h))) in
+    (λ u h. is_in-below turns q u (and-right (not (t == u)) (is_in turns q u) (sym (is.members u) ∙ h))) in
     omega (arith, fewer, limit)
 
 pub absent-from : (turns : List Turn) (t q : ℕ) (queues : List (List ℕ)) (queue : List ℕ) → slice_get queues q ≡ Some queue → AreQueuedBut t turns queues → has queue t ≡ false

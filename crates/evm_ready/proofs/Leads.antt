@@ -28,10 +28,10 @@ test-cases : (t n : ℕ) → ((t == n) ≡ true) ⊎ ((t == n) ≡ false)
 test-cases t n = elim (t == n) as (λ b. (b ≡ true) ⊎ (b ≡ false)) [ true ↦ inl refl | false ↦ inr refl ]
 
 same-or-not : (t n : ℕ) → (t ≡ n) ⊎ (t ≡ n → ⊥)
-same-or-not t n = elim (test-cases t n) [ | inl e ↦ inl (grind (arith, nat_tests)) | inr e ↦ inr (λ same. grind (arith, nat_tests)) ]
+same-or-not t n = elim (test-cases t n) [ inl e ↦ inl (grind (arith, nat_tests)) | inr e ↦ inr (λ same. grind (arith, nat_tests)) ]
 
 below-or-last : (u n : ℕ) → u < suc n → (u < n) ⊎ (u ≡ n)
-below-or-last u n less = elim (same-or-not u n) [ | inl e ↦ inr e | inr e ↦ inl (omega (arith, e)) ]
+below-or-last u n less = elim (same-or-not u n) [ inl e ↦ inr e | inr e ↦ inl (omega (arith, e)) ]
 
 -- ---- none
 nobody-step : (here : Bool) (best : Option ℕ) (t : ℕ) → (if here then Some t else best) ≡ None → (here ≡ false) × (best ≡ None)
@@ -59,7 +59,7 @@ leads-some : (rank stamp : ℕ → ℕ) (n c u : ℕ) (before : Bool) → goes_b
 leads-some rank stamp n c u true is less h = elim h [
   | inl same ↦ rw same (ahead-itself (rank n) (stamp n) n)
   | inr not_ahead ↦ false-true (ahead rank stamp u n) (λ yes.
-    let through : ahead rank stamp u c ≡ true = ahead-trans (rank u) (stamp u) u (rank n) (stamp n) n (rank c) (stamp c) c yes (before-ahead rank stamp n c is) in cc)
+      let through : ahead rank stamp u c ≡ true = ahead-trans (rank u) (stamp u) u (rank n) (stamp n) n (rank c) (stamp c) c yes (before-ahead rank stamp n c is) in cc)
 ]
 leads-some rank stamp n c u false is less h = elim h [
   | inl same ↦ rw same (behind-ahead rank stamp n c is less)
@@ -83,7 +83,7 @@ leads-step member rank stamp n b u true None at is e less in_it before =
 leads-step member rank stamp n b u true (Some c) at is e less in_it before =
     let it : (if goes_before rank stamp n c then n else c) ≡ b = cc in
     let lower = first-below member rank stamp n c is in
-    let h : (u ≡ n) ⊎ (ahead rank stamp u c ≡ false) = elim (below-or-last u n less) [ | inl under ↦ inr (before c refl under) | inr last ↦ inl last ] in
+    let h : (u ≡ n) ⊎ (ahead rank stamp u c ≡ false) = elim (below-or-last u n less) [ inl under ↦ inr (before c refl under) | inr last ↦ inl last ] in
     rw (← it) (leads-some rank stamp n c u (goes_before rank stamp n c) refl lower h)
 
 pub first-leads : (member : ℕ → Bool) (rank stamp : ℕ → ℕ) (n b u : ℕ) → first member rank stamp n ≡ Some b → u < n → member u ≡ true → ahead rank stamp u b ≡ false
@@ -100,10 +100,10 @@ first-case member rank stamp n t (Some b) is less in_it leads =
     elim (same-or-not t b) [
       | inl same ↦ rw same refl
       | inr other ↦
-        let mine = first-leads member rank stamp n b t is less in_it in
-        let theirs = leads b (first-below member rank stamp n b is) (first-member member rank stamp n b is) in
-        let ahead_of : ahead rank stamp b t ≡ true = ahead-total (rank t) (stamp t) t (rank b) (stamp b) b other mine in
-        cc
+          let mine = first-leads member rank stamp n b t is less in_it in
+          let theirs = leads b (first-below member rank stamp n b is) (first-member member rank stamp n b is) in
+          let ahead_of : ahead rank stamp b t ≡ true = ahead-total (rank t) (stamp t) t (rank b) (stamp b) b other mine in
+          cc
     ]
 
 pub first-is : (member : ℕ → Bool) (rank stamp : ℕ → ℕ) (n t : ℕ) → t < n → member t ≡ true → ((u : ℕ) → u < n → member u ≡ true → ahead rank stamp u t ≡ false)

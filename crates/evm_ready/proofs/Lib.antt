@@ -2,6 +2,7 @@ pub mod Counts
 pub mod Filing
 pub mod Firsts
 pub mod Leads
+pub mod Listed_turns
 pub mod Members
 pub mod Placed
 pub mod Preceding

@@ -81,17 +81,17 @@ has-remove turns [] i t u order e = cc
 has-remove turns (v ∷ queue) zero t u order e =
     let is : v ≡ t = cc in
     rw is (gone-here (t == u) (has queue u) (λ same. false-true (has queue u) (λ h.
-      let before = order.0 u h in
-      let at : v ≡ u = is ∙ same-test t u same in
-      let itself : precedes turns u u ≡ true = rw at at before in
-      let never = precedes-itself turns u in cc)))
+    let before = order.0 u h in
+    let at : v ≡ u = is ∙ same-test t u same in
+    let itself : precedes turns u u ≡ true = rw at at before in
+    let never = precedes-itself turns u in cc)))
 has-remove turns (v ∷ queue) (suc i) t u order e =
     ap (λ b. (v == u) || b) (has-remove turns queue i t u order.1 e)
     ∙ gone-rest (v == u) (t == u) (has queue u) (λ here. test-other t u (λ same.
-      let at : v ≡ t = same-test v u here ∙ sym same in
-      let before = order.0 t (has-at queue i t e) in
-      let itself : precedes turns t t ≡ true = rw at at before in
-      let never = precedes-itself turns t in cc))
+    let at : v ≡ t = same-test v u here ∙ sym same in
+    let before = order.0 t (has-at queue i t e) in
+    let itself : precedes turns t t ≡ true = rw at at before in
+    let never = precedes-itself turns t in cc))
 
 -- ---- the order
 pub in_order-remove : (turns : List Turn) (queue : List ℕ) (i : ℕ) → IsInOrder turns queue → IsInOrder turns (remove queue i)
@@ -104,9 +104,10 @@ in_order-remove turns (v ∷ queue) (suc i) order = ((λ u h. order.0 u (has-rem
 pub in_order-same : (turns others : List Turn) (queue : List ℕ) → ((t u : ℕ) → has queue t ≡ true → has queue u ≡ true → precedes turns t u ≡ precedes others t u)
     → IsInOrder turns queue → IsInOrder others queue
 in_order-same turns others [] same order = order
-in_order-same turns others (v ∷ queue) same order =
-    ((λ u h. sym (same v u (ap (λ b. b || has queue v) (test-same v)) (or-right (v == u) (has queue u) h)) ∙ order.0 u h),
-    in_order-same turns others queue (λ t u h k. same t u (or-right (v == t) (has queue t) h) (or-right (v == u) (has queue u) k)) order.1)
+in_order-same turns others (v ∷ queue) same order = (
+  (λ u h. sym (same v u (ap (λ b. b || has queue v) (test-same v)) (or-right (v == u) (has queue u) h)) ∙ order.0 u h),
+  in_order-same turns others queue (λ t u h k. same t u (or-right (v == t) (has queue t) h) (or-right (v == u) (has queue u) k)) order.1,
+)
 
 -- the one before a place precedes t, and so does each before it
 before-insert : (turns : List Turn) (queue : List ℕ) (at t v : ℕ) → at ≤ length queue → ((u : ℕ) → has queue u ≡ true → precedes turns v u ≡ true) → (t ≡ v → ⊥) → has queue t ≡ false
@@ -127,14 +128,15 @@ in_order-insert turns queue zero t h order new behind before =
 in_order-insert turns [] (suc at) t h order new behind before = absurd (omega arith)
 in_order-insert turns (v ∷ queue) (suc at) t h order new behind before =
     let other : t ≡ v → ⊥ = λ same. let here : has (v ∷ queue) t ≡ true = rw same (ap (λ b. b || has queue v) (test-same v)) in cc in
-    let absent : has queue t ≡ false = false-true (has queue t) (λ is. let here = or-right (v == t) (has queue t) is in cc) in
-    ((λ u is. elim (either (t == u) (has queue u) (sym (has-insert queue at t u (omega arith)) ∙ is)) [
-      | inl e ↦ rw (← same-test t u e) (before-insert turns queue at t v (omega arith) order.0 other absent before)
-      | inr e ↦ order.0 u e
-    ]),
-    in_order-insert turns queue at t (omega arith) order.1 absent
-    (λ i u le e. behind (suc i) u (omega arith) e)
-    (λ i u is e. before (suc i) u (omega arith) e))
+    let absent : has queue t ≡ false = false-true (has queue t) (λ is. let here = or-right (v == t) (has queue t) is in cc) in (
+      (λ u is. elim (either (t == u) (has queue u) (sym (has-insert queue at t u (omega arith)) ∙ is)) [
+        | inl e ↦ rw (← same-test t u e) (before-insert turns queue at t v (omega arith) order.0 other absent before)
+        | inr e ↦ order.0 u e
+      ]),
+      in_order-insert turns queue at t (omega arith) order.1 absent
+          (λ i u le e. behind (suc i) u (omega arith) e)
+          (λ i u is e. before (suc i) u (omega arith) e),
+    )
 
 -- ---- no queue is longer than there are tasks
 -- of those below n + 1 all but n are below n
@@ -142,7 +144,7 @@ test-cases : (t n : ℕ) → ((t == n) ≡ true) ⊎ ((t == n) ≡ false)
 test-cases t n = elim (t == n) as (λ b. (b ≡ true) ⊎ (b ≡ false)) [ true ↦ inl refl | false ↦ inr refl ]
 
 cases-lt : (t n : ℕ) → t ≤ n → (t < n) ⊎ (t ≡ n)
-cases-lt t n h = elim (test-cases t n) [ | inl e ↦ inr (same-test t n e) | inr e ↦ inl (grind (arith, nat_tests)) ]
+cases-lt t n h = elim (test-cases t n) [ inl e ↦ inr (same-test t n e) | inr e ↦ inl (grind (arith, nat_tests)) ]
 
 all-but : (n u : ℕ) → u < suc n → (n ≡ u → ⊥) → u < n
 all-but n u h other = omega (arith, other)
@@ -153,14 +155,19 @@ without-last : (turns : List Turn) (n : ℕ) (queue : List ℕ) → IsInOrder tu
     × (b ≡ false → length queue ≡ length rest)
 without-last turns n queue order below true is =
     let at = at-has queue n is in
-    let shorter = length-remove queue at.0 (slice_get-below queue at.0 n at.1) in
-    (remove queue at.0, in_order-remove turns queue at.0 order,
-    (λ u h. let there = has-removed queue at.0 u h in
-      (all-but n u (below u there) (λ same.
-        let gone = has-remove turns queue at.0 n u order at.1 in
-        let here : (n == u) ≡ true = rw same (test-same u) in
-        let never : has (remove queue at.0) u ≡ false = gone ∙ rw here refl in cc), there)),
-    omega (arith, shorter), (λ e. cc))
+    let shorter = length-remove queue at.0 (slice_get-below queue at.0 n at.1) in (
+      remove queue at.0,
+      in_order-remove turns queue at.0 order,
+      (λ u h. let there = has-removed queue at.0 u h in (
+        all-but n u (below u there) (λ same.
+            let gone = has-remove turns queue at.0 n u order at.1 in
+            let here : (n == u) ≡ true = rw same (test-same u) in
+            let never : has (remove queue at.0) u ≡ false = gone ∙ rw here refl in cc),
+        there,
+      )),
+      omega (arith, shorter),
+      (λ e. cc),
+    )
 without-last turns n queue order below false is =
     (queue, order, (λ u h. (all-but n u (below u h) (λ same. let here : has queue n ≡ true = rw same h in cc), h)), omega arith, (λ _. refl))
 
@@ -183,11 +190,11 @@ length-missing turns (suc n) queue t less missing order below =
     let same = rest.4 in
     elim (cases-lt t n (omega arith)) [
       | inl lower ↦
-        let absent : has rest.0 t ≡ false = false-true (has rest.0 t) (λ h. let there = (rest.2 t h).1 in cc) in
-        let shorter = length-missing turns n rest.0 t lower absent rest.1 (λ u h. (rest.2 u h).0) in
-        omega (arith, shorter, most)
+          let absent : has rest.0 t ≡ false = false-true (has rest.0 t) (λ h. let there = (rest.2 t h).1 in cc) in
+          let shorter = length-missing turns n rest.0 t lower absent rest.1 (λ u h. (rest.2 u h).0) in
+          omega (arith, shorter, most)
       | inr last ↦
-        let shorter = length-below turns n rest.0 rest.1 (λ u h. (rest.2 u h).0) in
-        let as_long : length queue ≡ length rest.0 = same (rw (← last) missing) in
-        omega (arith, shorter, as_long)
+          let shorter = length-below turns n rest.0 rest.1 (λ u h. (rest.2 u h).0) in
+          let as_long : length queue ≡ length rest.0 = same (rw (← last) missing) in
+          omega (arith, shorter, as_long)
     ]

@@ -1,71 +1,15 @@
 -- What the turns of ready tasks say of their places and ranks.
-use Rattle.std.proofs.Common.{◌≡◌, ℕ, zero, suc, ◌+◌, ◌*◌, ◌<◌, ◌≤◌, List, [], ◌∷◌, ◌++◌, Option, Some, None, true, length, refl, ap, sym, ◌∙◌, arith}
-use Rattle.std.specs.Prelude.{slice_get}
+use Rattle.std.proofs.Common.{◌≡◌, ℕ, ◌+◌, ◌*◌, ◌<◌, ◌≤◌, List, Option, Some, None, true, length, refl, sym, ◌∙◌, arith}
 use Rattle.std.proofs.lemmas.Bool.Decides.{nat_tests}
-use Rattle.evm_model.specs.Lists.{change, change_some}
 use Rattle.evm_model.specs.declared.stage.Stage.{Stage}
 use Rattle.evm_model.specs.declared.stage.Stage.TheVariants.{OutOfBand, InBand}
 use Rattle.evm_ready.specs.declared.place.Place.{Place}
 use Rattle.evm_ready.specs.declared.place.TheConstants.{LEVELS, IN_BAND_LEVEL}
-use Rattle.evm_ready.specs.declared.turn.Turn.{Turn}
 use Rattle.evm_ready.specs.ListedRanks.{listed_rank}
 use Rattle.evm_ready.specs.Places.{entry, runs_oob, runs_in_band, stamp_of}
-use Rattle.evm_ready.specs.Queues.{is_in, is_number, turn_rank, turn_stamp}
-use Rattle.evm_ready.specs.ReadyTurns.{turn_at, turn_of, turns_of, level}
-
--- ---- lists
-pub change-cons : {X : Type 0} (f : X → X) (x : X) (xs : List X) (i : ℕ) → change f (x ∷ xs) (suc i) ≡ x ∷ change f xs i
-change-cons {X = X} f x xs i = elim (slice_get xs i) as (λ o. change_some o f (x ∷ xs) (suc i) ≡ x ∷ change_some o f xs i) [ None ↦ refl | Some y ↦ refl ]
-
-pub length-turns : (places : List (Option Place)) (ranks : List ℕ) → length ranks ≡ length places → length (turns_of places ranks) ≡ length places
-length-turns [] ranks e = refl
-length-turns (p ∷ places) [] e = absurd (omega arith)
-length-turns (p ∷ places) (r ∷ ranks) e = ap suc (length-turns places ranks (omega arith))
-
-pub turns-push : (places : List (Option Place)) (ranks : List ℕ) (place : Option Place) (rank : ℕ) → length ranks ≡ length places
-    → turns_of (places ++ place ∷ []) (ranks ++ rank ∷ []) ≡ turns_of places ranks ++ turn_of place rank ∷ []
-turns-push [] [] place rank e = refl
-turns-push [] (r ∷ ranks) place rank e = absurd (omega arith)
-turns-push (p ∷ places) [] place rank e = absurd (omega arith)
-turns-push (p ∷ places) (r ∷ ranks) place rank e = ap (λ (turns : List Turn). turn_of p r ∷ turns) (turns-push places ranks place rank (omega arith))
-
-pub turns-place : (places : List (Option Place)) (ranks : List ℕ) (t : ℕ) (place : Option Place) → length ranks ≡ length places
-    → change (λ _. turn_of place (listed_rank ranks t)) (turns_of places ranks) t ≡ turns_of (change (λ _. place) places t) ranks
-turns-place [] ranks t place e = refl
-turns-place (p ∷ places) [] t place e = absurd (omega arith)
-turns-place (p ∷ places) (r ∷ ranks) zero place e = refl
-turns-place (p ∷ places) (r ∷ ranks) (suc t) place e =
-    change-cons (λ _. turn_of place (listed_rank ranks t)) (turn_of p r) (turns_of places ranks) t
-    ∙ ap (λ (turns : List Turn). turn_of p r ∷ turns) (turns-place places ranks t place (omega arith))
-    ∙ sym (ap (λ (ps : List (Option Place)). turns_of ps (r ∷ ranks)) (change-cons (λ _. place) p places t))
-
-pub turns-rank : (places : List (Option Place)) (ranks : List ℕ) (t rank : ℕ) → length ranks ≡ length places
-    → change (λ _. turn_of (entry places t) rank) (turns_of places ranks) t ≡ turns_of places (change (λ _. rank) ranks t)
-turns-rank [] ranks t rank e = refl
-turns-rank (p ∷ places) [] t rank e = absurd (omega arith)
-turns-rank (p ∷ places) (r ∷ ranks) zero rank e = refl
-turns-rank (p ∷ places) (r ∷ ranks) (suc t) rank e =
-    change-cons (λ _. turn_of (entry places t) rank) (turn_of p r) (turns_of places ranks) t
-    ∙ ap (λ (turns : List Turn). turn_of p r ∷ turns) (turns-rank places ranks t rank (omega arith))
-    ∙ sym (ap (λ (rs : List ℕ). turns_of (p ∷ places) rs) (change-cons (λ _. rank) r ranks t))
-
-pub in-turns : (places : List (Option Place)) (ranks : List ℕ) (q t : ℕ) → length ranks ≡ length places
-    → is_in (turns_of places ranks) q t ≡ is_number q (turn_of (entry places t) (listed_rank ranks t)).queue
-in-turns [] ranks q t e = refl
-in-turns (p ∷ places) [] q t e = absurd (omega arith)
-in-turns (p ∷ places) (r ∷ ranks) q zero e = refl
-in-turns (p ∷ places) (r ∷ ranks) q (suc t) e = in-turns places ranks q t (omega arith)
-
-no-rank : (ranks : List ℕ) (t : ℕ) → length ranks ≡ 0 → listed_rank ranks t ≡ 0
-no-rank [] t e = refl
-no-rank (r ∷ ranks) t e = absurd (omega arith)
-
-pub rank-turns : (places : List (Option Place)) (ranks : List ℕ) (t : ℕ) → length ranks ≡ length places
-    → turn_rank (turns_of places ranks) t ≡ (turn_of (entry places t) (listed_rank ranks t)).rank
-rank-turns [] ranks t e = sym (no-rank ranks t e)
-rank-turns (p ∷ places) [] t e = absurd (omega arith)
-rank-turns (p ∷ places) (r ∷ ranks) zero e = refl
-rank-turns (p ∷ places) (r ∷ ranks) (suc t) e = rank-turns places ranks t (omega arith)
+use Rattle.evm_ready.specs.Queues.{is_number, turn_stamp}
+use Rattle.evm_ready.proofs.Listed_turns.{stamp-turns}
+use Rattle.evm_ready.specs.ReadyTurns.{place_turn, turn_at, turn_of, turns_of, level}
 
 stamp-at : (stage : Stage) (cpu stamp rank : ℕ) → (turn_at stage cpu stamp rank).stamp ≡ stamp
 stamp-at OutOfBand cpu stamp rank = refl
@@ -75,11 +19,8 @@ stamp-turn : (place : Option Place) (rank : ℕ) → (turn_of place rank).stamp 
 stamp-turn None rank = refl
 stamp-turn (Some place) rank = stamp-at place.stage place.cpu place.stamp rank
 
-pub stamp-turns : (places : List (Option Place)) (ranks : List ℕ) (t : ℕ) → length ranks ≡ length places → turn_stamp (turns_of places ranks) t ≡ stamp_of (entry places t)
-stamp-turns [] ranks t e = refl
-stamp-turns (p ∷ places) [] t e = absurd (omega arith)
-stamp-turns (p ∷ places) (r ∷ ranks) zero e = stamp-turn p r
-stamp-turns (p ∷ places) (r ∷ ranks) (suc t) e = stamp-turns places ranks t (omega arith)
+pub stamp-placed : (places : List (Option Place)) (ranks : List ℕ) (t : ℕ) → length ranks ≡ length places → turn_stamp (turns_of places ranks) t ≡ stamp_of (entry places t)
+stamp-placed places ranks t e = stamp-turns place_turn places ranks t e ∙ stamp-turn (entry places t) (listed_rank ranks t)
 
 -- ---- one place
 stage-oob : (stage : Stage) (cpu stamp rank c : ℕ) → runs_oob c (Some (record { stage = stage; cpu = cpu; stamp = stamp })) ≡ true

@@ -33,13 +33,13 @@ pub others-same : (turns others : List Turn) (t : ℕ) (queues : List (List ℕ)
     → AreQueuedBut t turns queues → AreQueuedBut t others queues
 others-same turns others t queues same was = record {
   queued = λ q queue at.
-    let is = was.queued q queue at in
-    let elsewhere : (u : ℕ) → has queue u ≡ true → slice_get turns u ≡ slice_get others u =
+      let is = was.queued q queue at in
+      let elsewhere : (u : ℕ) → has queue u ≡ true → slice_get turns u ≡ slice_get others u =
       λ u h. same u (test-differs t u (but-member (t == u) (is_in turns q u) (sym (is.members u) ∙ h))) in
-    record {
-      in_order = in_order-same turns others queue (λ v u h k. precedes-same turns others v u (elsewhere v h) (elsewhere u k)) is.in_order;
-      members = λ u. is.members u ∙ but-same (t == u) (is_in turns q u) (is_in others q u) (λ e. rw (same u (test-differs t u e)) refl);
-    };
+      record {
+        in_order = in_order-same turns others queue (λ v u h k. precedes-same turns others v u (elsewhere v h) (elsewhere u k)) is.in_order;
+        members = λ u. is.members u ∙ but-same (t == u) (is_in turns q u) (is_in others q u) (λ e. rw (same u (test-differs t u e)) refl);
+      };
 }
 
 pub turned : (turns : List Turn) (t : ℕ) (turn : Turn) (queues : List (List ℕ)) → AreQueuedBut t turns queues → AreQueuedBut t (change (λ _. turn) turns t) queues
@@ -67,9 +67,9 @@ pushed turns turn queues was =
     others-same turns (turns ++ turn ∷ []) (length turns) queues (push-other turns turn)
     (record {
       queued = λ q queue at.
-        let is = was.queued q queue at in
-        record {
-          in_order = is.in_order;
-          members = λ u. is.members u ∙ stay (length turns == u) (is_in turns q u) (λ e. rw (← same-test (length turns) u e) (past-none turns q));
-        };
+          let is = was.queued q queue at in
+          record {
+            in_order = is.in_order;
+            members = λ u. is.members u ∙ stay (length turns == u) (is_in turns q u) (λ e. rw (← same-test (length turns) u e) (past-none turns q));
+          };
     })

@@ -94,3 +94,14 @@ pub record Queued : Type 0 where
 -- no task's turn is in the queues from one number up to another
 abbrev pub NoneIn : List Turn → ℕ → ℕ → Type 0
 NoneIn turns from to = (q t : ℕ) → from ≤ q → q < to → is_in turns q t ≡ false
+
+-- ---- the turns that a list gives: an entry for each task, beside its rank
+-- a task that has no entry is in no queue
+abbrev pub turn_for : {X : Type 0} → (X → ℕ → Turn) → Option X → ℕ → Turn
+turn_for f None rank = record { queue = None; rank = rank; stamp = 0 }
+turn_for f (Some x) rank = f x rank
+
+abbrev pub turns_for : {X : Type 0} → (X → ℕ → Turn) → List (Option X) → List ℕ → List Turn
+turns_for f [] ranks = []
+turns_for f (x ∷ xs) [] = []
+turns_for f (x ∷ xs) (rank ∷ ranks) = turn_for f x rank ∷ turns_for f xs ranks

@@ -1,5 +1,5 @@
 -- The turns of ready tasks: on each processor the levels of out-of-band ranks, and behind them one in-band level.
-use Rattle.std.specs.Prelude.{◌≡◌, ◌≤◌, ℕ, ◌+◌, ◌-◌, ◌*◌, List, [], ◌∷◌, Option, Some, None, length}
+use Rattle.std.specs.Prelude.{◌≡◌, ◌≤◌, ℕ, ◌+◌, ◌-◌, ◌*◌, List, Option, Some, length}
 use Rattle.evm_model.specs.declared.limits.TheConstants.{PROCESSOR_LIMIT}
 use Rattle.evm_model.specs.declared.stage.Stage.{Stage}
 use Rattle.evm_model.specs.declared.stage.Stage.TheVariants.{OutOfBand, InBand}
@@ -7,7 +7,7 @@ use Rattle.evm_ready.specs.declared.place.TheConstants.{LEVELS, IN_BAND_LEVEL}
 use Rattle.evm_ready.specs.declared.place.Place.{Place}
 use Rattle.evm_ready.specs.declared.turn.Turn.{Turn}
 use Rattle.evm_ready.specs.Places.{AreCounted}
-use Rattle.evm_ready.specs.Queues.{Queued}
+use Rattle.evm_ready.specs.Queues.{Queued, turn_for, turns_for}
 
 -- the level of an out-of-band rank: the greatest rank has the first, and so has each above it
 abbrev pub level : ℕ → ℕ
@@ -18,16 +18,16 @@ abbrev pub turn_at : Stage → ℕ → ℕ → ℕ → Turn
 turn_at OutOfBand cpu stamp rank = record { queue = Some (cpu * LEVELS + level rank); rank = rank; stamp = stamp }
 turn_at InBand cpu stamp rank = record { queue = Some (cpu * LEVELS + IN_BAND_LEVEL); rank = 0; stamp = stamp }
 
+abbrev pub place_turn : Place → ℕ → Turn
+place_turn place rank = turn_at place.stage place.cpu place.stamp rank
+
 -- the turn of a task of this rank
 abbrev pub turn_of : Option Place → ℕ → Turn
-turn_of None rank = record { queue = None; rank = rank; stamp = 0 }
-turn_of (Some place) rank = turn_at place.stage place.cpu place.stamp rank
+turn_of place rank = turn_for place_turn place rank
 
 -- the turns of all tasks
 abbrev pub turns_of : List (Option Place) → List ℕ → List Turn
-turns_of [] ranks = []
-turns_of (place ∷ places) [] = []
-turns_of (place ∷ places) (rank ∷ ranks) = turn_of place rank ∷ turns_of places ranks
+turns_of places ranks = turns_for place_turn places ranks
 
 -- count tasks are ready out-of-band, each task has a rank and the turn that its place gives it, and these
 -- processors have queues

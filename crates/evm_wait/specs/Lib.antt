@@ -1,2 +1,3 @@
 pub use Rattle.evm_ready.specs as evm_ready
 pub mod Waiters
+pub mod WaitTurns

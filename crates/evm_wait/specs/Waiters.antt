@@ -1,5 +1,5 @@
 -- What tasks wait for: an entry for each task, by its number.
-use Rattle.std.specs.Prelude.{◌≡◌, ℕ, List, Option, Some, None, Bool, false, length}
+use Rattle.std.specs.Prelude.{ℕ, List, Option, Some, None, Bool, false}
 use Rattle.evm_model.specs.Waits.{same_wait}
 use Rattle.evm_model.specs.declared.task.Task.{Task}
 use Rattle.evm_model.specs.declared.task.TaskState.{TaskState}
@@ -30,7 +30,3 @@ stamp_of (Some waiter) = waiter.stamp
 pub record WaitingTasks : Type 0 where
   pub waiters : List (Option Waiter)
   pub ranks : List ℕ
-
--- each task has a rank
-pub record AreWaiting (waiters : List (Option Waiter)) (ranks : List ℕ) : Type 0 where
-  pub ranked : length ranks ≡ length waiters

@@ -7,6 +7,8 @@ mod waiting;
 pub use waiter::{Waiter, waiter_of};
 pub use waiting::Waiting;
 
-/// How many queues there are of tasks that wait: one for each of 32 mutexes, semaphores, events, flag groups and
-/// timers.
-pub const WAIT_QUEUE_LIMIT: usize = 160;
+/// How many queues there are of tasks that wait: 8 for each number below 32, by the kinds of what they wait for.
+pub const WAIT_QUEUE_LIMIT: usize = 256;
+
+#[cfg(test)]
+mod tests;

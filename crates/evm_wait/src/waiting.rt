@@ -1,16 +1,17 @@
-ghost use Rattle.std.specs.Prelude.{◌≡◌, ◌<◌, ◌≤◌, ◌++◌, ◌∷◌, [], length, IfOk, IfErr};
+ghost use Rattle.std.specs.Prelude.{◌≡◌, ◌<◌, ◌≤◌, ◌++◌, ◌∷◌, [], length, IfOk, IfErr, IfSome};
 ghost use Rattle.arrayvec.specs.ArrayVec.{array_vec_len};
 ghost use Rattle.evm_model.specs.Lists.{change};
 ghost use Rattle.evm_model.specs.Ranks.{first, leader};
 ghost use Rattle.evm_ready.specs.Places.{entry};
 ghost use Rattle.evm_ready.specs.ListedRanks.{listed_rank};
 ghost use Rattle.evm_wait.specs.Waiters.{stamp_of, waits_for};
+ghost use Rattle.evm_wait.specs.WaitTurns.{IsQueueFor};
 
 use crate::WAIT_QUEUE_LIMIT;
-use crate::waiter::{Waiter, waits_for};
+use crate::waiter::{Waiter, turn_of, wait_queue, waits_for};
 use arrayvec::ArrayVec;
 use evm_model::{TASK_LIMIT, Wait};
-use evm_ready::{is_before, listed_rank};
+use evm_ready::{Turns, is_before, listed_rank};
 use evm_room::Refused;
 use std::alloc::Global;
 use std::marker::Model;
@@ -20,14 +21,16 @@ use std::marker::Model;
 pub struct Waiting {
     waiters: ArrayVec<Option<Waiter>, TASK_LIMIT>,
     ranks: ArrayVec<u16, TASK_LIMIT>,
+    turns: Turns,
 }
 
 impl Model for Waiting {
-    ghost use Rattle.evm_wait.specs.Waiters.{AreWaiting, WaitingTasks};
+    ghost use Rattle.evm_wait.specs.Waiters.{WaitingTasks};
+    ghost use Rattle.evm_wait.specs.WaitTurns.{AreWaiting};
 
     ghost Value = { WaitingTasks };
 
-    ghost invariant = { λ w. AreWaiting w.waiters.items w.ranks.items };
+    ghost invariant = { λ w. AreWaiting w.waiters.items w.ranks.items w.turns };
 
     ghost view = { λ w. record {
       waiters = w.waiters.items;
@@ -46,10 +49,11 @@ impl Waiting {
         ensures ranks { IfOk result (λ waiting. waiting.ranks ≡ []) }
         ensures refused { IfErr result (λ asked. asked ≤ WAIT_QUEUE_LIMIT) }
     {
-        let _queues = alloc;
+        let turns = Turns::new(alloc, 4)?;
         Ok(Waiting {
             waiters: ArrayVec::new(),
             ranks: ArrayVec::new(),
+            turns,
         })
     }
 
@@ -70,6 +74,7 @@ impl Waiting {
     {
         self.waiters.push(waiter);
         self.ranks.push(rank);
+        self.turns.push(turn_of(waiter, rank));
     }
 
     /// Task t waits for this, or doesn't wait.
@@ -77,8 +82,10 @@ impl Waiting {
         ensures waiters { self.new.waiters ≡ change (λ _. waiter) self.old.waiters t }
         ensures ranks { self.new.ranks ≡ self.old.ranks }
     {
+        let rank = self.rank(t);
         if let Some(entry) = self.waiters.get_mut(t as usize) {
             *entry = waiter;
+            self.turns.set(t, turn_of(waiter, rank));
         }
     }
 
@@ -87,8 +94,10 @@ impl Waiting {
         ensures waiters { self.new.waiters ≡ self.old.waiters }
         ensures ranks { self.new.ranks ≡ change (λ _. rank) self.old.ranks t }
     {
+        let waiter = self.get(t);
         if let Some(entry) = self.ranks.get_mut(t as usize) {
             *entry = rank;
+            self.turns.set(t, turn_of(waiter, rank));
         }
     }
 
@@ -137,8 +146,18 @@ impl Waiting {
 
     /// The number of the task that goes first of those that wait for this: the one of greatest rank, then of least
     /// stamp.
-    #[tactic(auto, using(evm_ready::proofs::Scans::scans))]
     pub fn first(&self, wait: Wait) -> Option<u8>
+        ensures { result ≡ first (λ t. waits_for wait (entry self.now.waiters t)) (listed_rank self.now.ranks) (λ t. stamp_of (entry self.now.waiters t)) (length self.now.waiters) }
+    {
+        match asked_queue(wait) {
+            Some(q) => self.turns.head(q),
+            None => self.first_of_all(wait),
+        }
+    }
+
+    // The same by a look at each task, for what has no queue.
+    #[tactic(auto, using(evm_ready::proofs::Scans::scans))]
+    fn first_of_all(&self, wait: Wait) -> Option<u8>
         ensures { result ≡ first (λ t. waits_for wait (entry self.now.waiters t)) (listed_rank self.now.ranks) (λ t. stamp_of (entry self.now.waiters t)) (length self.now.waiters) }
     {
         let mut leading = None;
@@ -148,5 +167,18 @@ impl Waiting {
             }
         }
         leading
+    }
+}
+
+// The queue that has all tasks that wait for this and no others, if there is one.
+fn asked_queue(wait: Wait) -> Option<u16>
+    ensures { IfSome result (λ q. IsQueueFor wait q) }
+{
+    if let Wait::Reacquire { .. } = wait {
+        return None;
+    }
+    match wait_queue(wait) {
+        Some(q) if q < WAIT_QUEUE_LIMIT as u16 => Some(q),
+        _ => None,
     }
 }

@@ -6,5 +6,5 @@ use Rattle.evm_ready.proofs.queue.position.Goals as goal
 pub returns-clause-none : goal.returns-clause-none
 returns-clause-none c =
     has-none c.args.tasks.now c.args.t (λ i u e same.
-      let below = slice_get-below c.args.tasks.now i u e in
-      c.loop-i.invariant i u (omega (arith, below, c.loop-i-test.false)) e same)
+    let below = slice_get-below c.args.tasks.now i u e in
+    c.loop-i.invariant i u (omega (arith, below, c.loop-i-test.false)) e same)

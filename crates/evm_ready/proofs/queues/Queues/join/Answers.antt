@@ -20,21 +20,21 @@ pub insert-requires-clause-room : goal.insert-requires-clause-room
 insert-requires-clause-room c =
     let e : queue_of c.args.turns.now c.args.t ≡ Some c.in-Some.q = sym c.in-Some.ensures in
     let there : slice_get c.self.inside.queues.items c.in-Some.q ≡ Some c.in-Some-get_mut.queue.now =
-      slice_get_read _ _ c.in-Some.q _ refl c.in-Some-get_mut.ensures.item.3.0 c.in-Some-get_mut.ensures.item.1 in
+    slice_get_read _ _ c.in-Some.q _ refl c.in-Some-get_mut.ensures.item.3.0 c.in-Some-get_mut.ensures.item.1 in
     let was : AreQueuedBut c.args.t c.args.turns.now c.self.inside.queues.items = rw c.self.view_is c.requires.queued in
     room-for c.args.turns.now c.args.t c.in-Some.q c.self.inside.queues.items c.in-Some-get_mut.queue.now c.requires.limit e there was
 
 pub insert-requires-clause-order : goal.insert-requires-clause-order
 insert-requires-clause-order c =
     let there : slice_get c.self.inside.queues.items c.in-Some.q ≡ Some c.in-Some-get_mut.queue.now =
-      slice_get_read _ _ c.in-Some.q _ refl c.in-Some-get_mut.ensures.item.3.0 c.in-Some-get_mut.ensures.item.1 in
+    slice_get_read _ _ c.in-Some.q _ refl c.in-Some-get_mut.ensures.item.3.0 c.in-Some-get_mut.ensures.item.1 in
     let was : AreQueuedBut c.args.t c.args.turns.now c.self.inside.queues.items = rw c.self.view_is c.requires.queued in
     (was.queued c.in-Some.q c.in-Some-get_mut.queue.now there).in_order
 
 pub insert-requires-clause-new : goal.insert-requires-clause-new
 insert-requires-clause-new c =
     let there : slice_get c.self.inside.queues.items c.in-Some.q ≡ Some c.in-Some-get_mut.queue.now =
-      slice_get_read _ _ c.in-Some.q _ refl c.in-Some-get_mut.ensures.item.3.0 c.in-Some-get_mut.ensures.item.1 in
+    slice_get_read _ _ c.in-Some.q _ refl c.in-Some-get_mut.ensures.item.3.0 c.in-Some-get_mut.ensures.item.1 in
     let was : AreQueuedBut c.args.t c.args.turns.now c.self.inside.queues.items = rw c.self.view_is c.requires.queued in
     absent-from c.args.turns.now c.args.t c.in-Some.q c.self.inside.queues.items c.in-Some-get_mut.queue.now there was
 
@@ -42,7 +42,7 @@ pub returns-in-Some-get_mut-clause-queued : goal.returns-in-Some-get_mut-clause-
 returns-in-Some-get_mut-clause-queued c =
     let e : queue_of c.args.turns.now c.args.t ≡ Some c.in-Some.q = sym c.in-Some.ensures in
     let there : slice_get c.self.inside.queues.items c.in-Some.q ≡ Some c.in-Some-get_mut.queue.now =
-      slice_get_read _ _ c.in-Some.q _ refl c.in-Some-get_mut.ensures.item.3.0 c.in-Some-get_mut.ensures.item.1 in
+    slice_get_read _ _ c.in-Some.q _ refl c.in-Some-get_mut.ensures.item.3.0 c.in-Some-get_mut.ensures.item.1 in
     let was : AreQueuedBut c.args.t c.args.turns.now c.self.inside.queues.items = rw c.self.view_is c.requires.queued in
     joined c.args.turns.now c.args.t c.in-Some.q c.self.inside.queues.items c.in-Some-get_mut.queue.now c.insert.new.self e there was c.insert.ensures.order c.insert.ensures.members
 

@@ -26,7 +26,7 @@ returns-in_default-get_mut-clause-queued c =
 pub remove-requires : goal.remove-requires
 remove-requires c =
     let there : slice_get c.self.inside.queues.items c.in-Some.q ≡ Some c.in-Some-get_mut.queue.now =
-      slice_get_read _ _ c.in-Some.q _ refl c.in-Some-get_mut.ensures.item.3.0 c.in-Some-get_mut.ensures.item.1 in
+    slice_get_read _ _ c.in-Some.q _ refl c.in-Some-get_mut.ensures.item.3.0 c.in-Some-get_mut.ensures.item.1 in
     let was : AreQueued c.args.turns.now c.self.inside.queues.items = rw c.self.view_is c.requires in
     (was.queued c.in-Some.q c.in-Some-get_mut.queue.now there).in_order
 
@@ -34,7 +34,7 @@ pub returns-then-is_none-clause-queued : goal.returns-then-is_none-clause-queued
 returns-then-is_none-clause-queued c =
     let e : queue_of c.args.turns.now c.args.t ≡ Some c.in-Some.q = sym c.in-Some.ensures in
     let there : slice_get c.self.inside.queues.items c.in-Some.q ≡ Some c.in-Some-get_mut.queue.now =
-      slice_get_read _ _ c.in-Some.q _ refl c.in-Some-get_mut.ensures.item.3.0 c.in-Some-get_mut.ensures.item.1 in
+    slice_get_read _ _ c.in-Some.q _ refl c.in-Some-get_mut.ensures.item.3.0 c.in-Some-get_mut.ensures.item.1 in
     let was : AreQueued c.args.turns.now c.self.inside.queues.items = rw c.self.view_is c.requires in
     left c.args.turns.now c.args.t c.in-Some.q c.self.inside.queues.items c.in-Some-get_mut.queue.now c.remove.new.self e there was c.remove.ensures.order c.remove.ensures.members
 
@@ -42,7 +42,7 @@ pub returns-else-is_none-clause-queued : goal.returns-else-is_none-clause-queued
 returns-else-is_none-clause-queued c =
     let e : queue_of c.args.turns.now c.args.t ≡ Some c.in-Some.q = sym c.in-Some.ensures in
     let there : slice_get c.self.inside.queues.items c.in-Some.q ≡ Some c.in-Some-get_mut.queue.now =
-      slice_get_read _ _ c.in-Some.q _ refl c.in-Some-get_mut.ensures.item.3.0 c.in-Some-get_mut.ensures.item.1 in
+    slice_get_read _ _ c.in-Some.q _ refl c.in-Some-get_mut.ensures.item.3.0 c.in-Some-get_mut.ensures.item.1 in
     let was : AreQueued c.args.turns.now c.self.inside.queues.items = rw c.self.view_is c.requires in
     left c.args.turns.now c.args.t c.in-Some.q c.self.inside.queues.items c.in-Some-get_mut.queue.now c.remove.new.self e there was c.remove.ensures.order c.remove.ensures.members
 
@@ -56,7 +56,7 @@ invariant_of-self c =
 pub invariant_of-self-else-is_none : goal.invariant_of-self-else-is_none
 invariant_of-self-else-is_none c =
     let there : slice_get c.self.inside.queues.items c.in-Some.q ≡ Some c.in-Some-get_mut.queue.now =
-      slice_get_read _ _ c.in-Some.q _ refl c.in-Some-get_mut.ensures.item.3.0 c.in-Some-get_mut.ensures.item.1 in
+    slice_get_read _ _ c.in-Some.q _ refl c.in-Some-get_mut.ensures.item.3.0 c.in-Some-get_mut.ensures.item.1 in
     let some = some-some c.head.result (c.is_none.ensures ∙ ap not c.if-is_none.false) in
     let at : slice_get c.remove.new.self 0 ≡ Some some.0 = sym c.head.ensures ∙ some.1 in
     bitmap-set c.self.inside.words c.self.inside.words c.self.inside.queues.items c.in-Some.q c.remove.new.self c.self.invariant refl

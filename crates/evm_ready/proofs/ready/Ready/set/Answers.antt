@@ -5,8 +5,8 @@ use Rattle.std.specs.Prelude.{slice_get}
 use Rattle.evm_model.specs.Lists.{change}
 use Rattle.evm_ready.specs.Places.{oob_bit, oob_count, ReadyTasks}
 use Rattle.evm_ready.specs.declared.place.Place.{Place}
-use Rattle.evm_ready.specs.ReadyTurns.{turns_of}
-use Rattle.evm_ready.proofs.Ready_turns.{turns-place}
+use Rattle.evm_ready.specs.ReadyTurns.{place_turn, turns_of}
+use Rattle.evm_ready.proofs.Listed_turns.{turns-entry}
 use Rattle.evm_ready.proofs.Counts.{bit-least, count-has, count-least, count-set, set-there}
 use Rattle.evm_ready.proofs.ready.Ready.set.Goals as goal
 
@@ -32,9 +32,9 @@ invariant_of-self c =
       };
       ranked = rw (length-set c.self.inside.places.items c.args.t c.args.place) c.self.invariant.ranked;
       turns = c.set.ensures.turns
-        ∙ rw (c.turn_of.ensures, c.rank-rank.ensures, ← c.self.view_is, c.self.invariant.turns)
-          (turns-place c.self.inside.places.items c.self.inside.ranks.items c.args.t c.args.place c.self.invariant.ranked)
-        ∙ ap (λ (places : List (Option Place)). turns_of places c.self.inside.ranks.items)
+          ∙ rw (c.turn_of.ensures, c.rank-rank.ensures, ← c.self.view_is, c.self.invariant.turns)
+          (turns-entry place_turn c.self.inside.places.items c.self.inside.ranks.items c.args.t c.args.place c.self.invariant.ranked)
+          ∙ ap (λ (places : List (Option Place)). turns_of places c.self.inside.ranks.items)
           (sym (set-there c.self.inside.places.items c.args.t c.in-Some.entry.now c.args.place there));
       queues = c.set.ensures.count ∙ c.self.invariant.queues;
       limit = c.self.invariant.limit;

@@ -3,7 +3,7 @@ use Rattle.evm_model.specs.Ranks.{first}
 use Rattle.evm_ready.specs.Places.{entry}
 use Rattle.evm_ready.specs.ListedRanks.{listed_rank}
 use Rattle.evm_wait.specs.Waiters.{stamp_of, waits_for}
-use Rattle.evm_wait.proofs.waiting.Waiting.first.Given as goal
+use Rattle.evm_wait.proofs.waiting.Waiting.first_of_all.Given as goal
 
 -- the one that leads is the first of those so far
 abbrev pub invariant-loop-t : goal.invariant-loop-t
