@@ -1,6 +1,8 @@
 //! 10,000 events over four processors and 16 tasks. After each, every rank is the one that is computed anew, and a
 //! processor that must run its best task runs the best by these ranks.
 
+ghost use Rattle.std.specs.Prelude.{◌<◌};
+
 mod anew;
 
 use anew::{Ranks, best_of, ranks_of};
@@ -26,13 +28,16 @@ struct Generator {
 }
 
 impl Generator {
-    // A number below a power of two.
-    fn below(&mut self, power: u64) -> u64 {
+    // A number below this one.
+    fn below(&mut self, limit: u64) -> u64
+        requires { 0 < limit }
+        ensures { result < limit }
+    {
         self.state = self
             .state
             .wrapping_mul(6_364_136_223_846_793_005)
             .wrapping_add(1_442_695_040_888_963_407);
-        (self.state >> 33) & power.wrapping_sub(1)
+        (self.state >> 33) % limit
     }
 }
 
