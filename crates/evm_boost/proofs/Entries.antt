@@ -1,5 +1,5 @@
 -- How the entries follow the tasks.
-use Rattle.std.proofs.Common.{◌≡◌, ℕ, zero, suc, ◌<◌, List, [], ◌∷◌, ◌++◌, Option, Some, None, length, refl, sym, ap, ◌∙◌, arith}
+use Rattle.std.proofs.Common.{◌≡◌, ℕ, ◌<◌, List, [], ◌∷◌, ◌++◌, Option, Some, None, length, refl, sym, ap, ◌∙◌, arith}
 use Rattle.std.specs.Prelude.{map, option_map, slice_get, slice_set}
 use Rattle.std.proofs.lemmas.List.{length-append, length-map, map-append, map-set}
 use Rattle.std.proofs.lemmas.Option.{slice_get-map}

@@ -1,15 +1,14 @@
 -- What its mutexes lend to a task is what its own rank and its boosters say.
-use Rattle.std.proofs.Common.{◌≡◌, ℕ, zero, suc, ◌+◌, ◌<◌, ◌≤◌, ◌⊎◌, List, [], ◌∷◌, Option, Some, None, Bool, true, false, length, refl, ap, sym, ◌∙◌, inl, inr, arith, eq-eqb}
-use Rattle.std.specs.Prelude.{nat_lt, ◌==◌, if◌then◌else◌, map, slice_get}
+use Rattle.std.proofs.Common.{◌≡◌, ℕ, zero, suc, ◌<◌, ◌≤◌, List, [], ◌∷◌, Option, Some, None, Bool, true, false, length, refl, ap, sym, ◌∙◌, inl, inr, arith, eq-eqb}
+use Rattle.std.specs.Prelude.{nat_lt, if◌then◌else◌, slice_get}
 use Rattle.std.proofs.lemmas.Bool.{cases_lt}
 use Rattle.std.proofs.lemmas.Bool.Decides.{nat_tests, eqb_tells}
 use Rattle.std.proofs.Math.Nat.{eq-or-lt_of_le}
 use Rattle.evm_boost.specs.Lent.{first_waiting, rank_of, lent, lent_of, lent_by}
 use Rattle.evm_boost.specs.Scheduled.{Scheduled, AreEntered}
-use Rattle.evm_model.proofs.Lists.{slice_get-below}
-use Rattle.evm_model.specs.Mutexes.{owner, boosts, heir_for, heir_of, heir_by, lock_at, lock_of, lock_of_task, owner_of, ceiling_owner, ceiling_owner_of, ceiling, ceiling_of, ceiling_by}
+use Rattle.evm_model.specs.Mutexes.{owner, boosts, heir_for, heir_of, lock_at, lock_of, lock_of_task, owner_of, ceiling_owner, ceiling_owner_of, ceiling, ceiling_of, ceiling_by}
 use Rattle.evm_model.specs.Ranks.{class_rank_of, first, leader, goes_before, own_rank, stamp}
-use Rattle.evm_model.specs.Waits.{awaits, awaits_task, is_wait_for, same_wait}
+use Rattle.evm_model.specs.Waits.{awaits, awaits_task, is_wait_for}
 use Rattle.evm_model.specs.declared.mutex.Mutex.{Mutex}
 use Rattle.evm_model.specs.declared.mutex.Protocol.{Protocol}
 use Rattle.evm_model.specs.declared.mutex.Protocol.TheVariants.{Inheritance, Ceiling}
@@ -19,7 +18,7 @@ use Rattle.evm_model.specs.declared.task.TaskState.TheVariants.{InReady, OobRead
 use Rattle.evm_model.specs.declared.task.Wait.{Wait}
 use Rattle.evm_model.specs.declared.task.Wait.TheVariants.{Line, Lock, Reacquire, Semaphore, Event, Flags, Sleep, Timer}
 use Rattle.evm_ranks.proofs.Greatest.{greatest-first, greatest-booster}
-use Rattle.evm_mending.proofs.Least.{greatest-least, greatest-is}
+use Rattle.evm_mending.proofs.Least.{greatest-least}
 use Rattle.evm_ranks.specs.Boosts.{greatest}
 use Rattle.evm_ready.proofs.Firsts.{first-below, first-member}
 use Rattle.evm_ready.specs.ListedRanks.{listed_rank}

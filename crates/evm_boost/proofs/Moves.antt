@@ -1,17 +1,15 @@
 -- What a changed task leaves to be mended.
-use Rattle.std.proofs.Common.{◌≡◌, ℕ, zero, suc, ◌+◌, ◌<◌, ◌≤◌, ◌⊎◌, List, [], ◌∷◌, ◌++◌, Option, Some, None, Bool, true, false, length, refl, ap, sym, ◌∙◌, inl, inr, arith, add-one, eq-eqb}
-use Rattle.std.specs.Prelude.{◌==◌, if◌then◌else◌, map, option_map, slice_get, slice_set}
+use Rattle.std.proofs.Common.{◌≡◌, ℕ, zero, suc, ◌+◌, ◌<◌, List, [], ◌∷◌, ◌++◌, Option, Some, None, Bool, true, false, length, refl, ap, sym, ◌∙◌, inl, inr, arith, add-one, eq-eqb}
+use Rattle.std.specs.Prelude.{◌==◌, option_map, slice_get}
 use Rattle.std.proofs.lemmas.Bool.Decides.{eqb_tells}
 use Rattle.std.proofs.lemmas.List.{length-append}
 use Rattle.evm_boost.proofs.Entries.{entered-by, entered-change, entered-push, entered-same}
 use Rattle.evm_boost.proofs.Settled.{away, scheduled-settled, settling, sound-falls, sound-fewer}
-use Rattle.evm_boost.specs.Scatter.{class_rank_at}
-use Rattle.evm_boost.specs.Scheduled.{Scheduled, AreEntered, IsScheduled, IsSound}
+use Rattle.evm_boost.specs.Scheduled.{Scheduled, IsScheduled, IsSound}
 use Rattle.evm_boost.specs.Settling.{entered_as, IsOpen, IsRelinked, IsSettling}
-use Rattle.evm_mending.proofs.Mending.{changed-but}
 use Rattle.evm_mending.proofs.Relinks.{relink-keeps}
-use Rattle.evm_mending.specs.Mending.{no_task, with_task, IsSettledBut}
-use Rattle.evm_model.proofs.Lists.{change-elsewhere, change-here, length-change, slice_get-before, slice_get-push, slice_get-below, slice_get-within}
+use Rattle.evm_mending.specs.Mending.{no_task, with_task}
+use Rattle.evm_model.proofs.Lists.{change-elsewhere, change-here, length-change}
 use Rattle.evm_model.specs.Lists.{change}
 use Rattle.evm_model.specs.Mutexes.{boosts, heir_for, lock_at, lock_of, lock_of_task, ceiling_owner, ceiling}
 use Rattle.evm_model.specs.Ranks.{class_rank, class_rank_of, own_rank}
@@ -20,7 +18,7 @@ use Rattle.evm_model.specs.declared.mutex.Mutex.{Mutex}
 use Rattle.evm_model.specs.declared.task.Task.{Task}
 use Rattle.evm_mending.proofs.Least.{greatest-links}
 use Rattle.evm_ranks.proofs.Greatest.{greatest-same}
-use Rattle.evm_ranks.specs.Boosts.{greatest, is_number, reaches, Falls}
+use Rattle.evm_ranks.specs.Boosts.{greatest, is_number}
 use Rattle.evm_ready.specs.ListedRanks.{listed_rank, rank_or_0}
 use Rattle.evm_ready.specs.Places.{placed}
 use Rattle.evm_wait.specs.Waiters.{awaited}

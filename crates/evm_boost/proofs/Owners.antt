@@ -1,5 +1,6 @@
 -- One more mutex of a look for an owner.
-use Rattle.std.proofs.Common.{◌≡◌, ℕ, ◌+◌, List, Option, Some, None, Bool, true, false, length, refl, ap, ◌∙◌, inl, inr, add-one, eq-eqb}
+use Rattle.std.proofs.Common.{◌≡◌, ℕ, zero, suc, ◌+◌, ◌<◌, List, Option, Some, None, Bool, true, false, length, refl, ap, sym, ◌∙◌, inl, inr, add-one, arith, eq-eqb}
+use Rattle.std.proofs.Math.Nat.{eq-or-lt_of_le}
 use Rattle.std.specs.Prelude.{◌==◌, ◌&&◌, not, option_map, slice_get, if◌then◌else◌}
 use Rattle.std.proofs.lemmas.Bool.{cases_eq, ne_eqb}
 use Rattle.evm_model.proofs.Lists.{change-here, change-elsewhere, length-change}
@@ -16,7 +17,26 @@ pub owns-more : (t : ℕ) (mutexes : List Mutex) (m : ℕ) → owns_below t mute
 unfolding owns_below
 owns-more t mutexes m = rw add-one refl
 
-pub ruleset owners = (owns-none, owns-more)
+owns-if : (b : Bool) (d : Bool) → b ≡ true → (if b then true else d) ≡ true
+owns-if true d e = refl
+owns-if false d e = cc
+
+owns-else : (b : Bool) → (if b then true else true) ≡ true
+owns-else true = refl
+owns-else false = refl
+
+-- one of them is enough
+pub owns-one : (t : ℕ) (mutexes : List Mutex) (m n : ℕ) → m < n → is_number (owner mutexes m) t ≡ true → owns_below t mutexes n ≡ true
+unfolding owns_below
+owns-one t mutexes m zero less e = absurd (omega (arith, less))
+owns-one t mutexes m (suc n) less e = elim (eq-or-lt_of_le {n = m} {m = n} (omega (arith, less))) [
+  | inl at ↦ owns-if (is_number (owner mutexes n) t) (owns_below t mutexes n) (ap (λ (n : ℕ). is_number (owner mutexes n) t) (sym at) ∙ e)
+  | inr below ↦ rw (owns-one t mutexes m n below e) (owns-else (is_number (owner mutexes n) t))
+]
+
+-- and one that it doesn't own changes nothing
+pub owns-not : (t : ℕ) (mutexes : List Mutex) (m : ℕ) → owns_below t mutexes m ≡ false → is_number (owner mutexes m) t ≡ false → owns_below t mutexes (m + 1) ≡ false
+owns-not t mutexes m so_far not_it = owns-more t mutexes m ∙ rw not_it so_far
 
 -- ---- the mutexes with one free
 freed-of : (o : Option Mutex) → owner_of (option_map freed o) ≡ None

@@ -1,5 +1,5 @@
 -- What the schedule says is what the tasks and the mutexes say.
-use Rattle.std.proofs.Common.{◌≡◌, ℕ, ◌<◌, ◌+◌, List, [], ◌∷◌, Option, Some, None, true, length, refl, ap, sym, ◌∙◌, arith}
+use Rattle.std.proofs.Common.{◌≡◌, ℕ, ◌<◌, List, [], ◌∷◌, Option, Some, None, true, length, refl, ap, sym, ◌∙◌, arith}
 use Rattle.evm_boost.proofs.Lending.{first-waiting-is}
 use Rattle.evm_boost.proofs.Settled.{settled-scheduled}
 use Rattle.evm_boost.specs.Lent.{first_waiting}

@@ -1,14 +1,14 @@
 -- Ranks on the way from one schedule to the next.
-use Rattle.std.proofs.Common.{◌≡◌, ℕ, zero, suc, ◌+◌, ◌<◌, ◌≤◌, ◌⊎◌, List, Option, Some, None, Bool, true, false, length, refl, ap, sym, ◌∙◌, inl, inr, arith, eq-eqb}
+use Rattle.std.proofs.Common.{◌≡◌, ℕ, ◌+◌, ◌<◌, ◌≤◌, ◌⊎◌, List, Option, Some, None, Bool, true, false, length, refl, ap, sym, ◌∙◌, inl, inr, arith}
 use Rattle.std.specs.Prelude.{◌==◌, if◌then◌else◌, slice_get}
 use Rattle.std.proofs.lemmas.Bool.Decides.{eqb_tells}
 use Rattle.evm_boost.proofs.Entries.{entered-rank}
 use Rattle.evm_boost.specs.Scatter.{AreRanks}
 use Rattle.evm_boost.specs.Scheduled.{Scheduled, AreEntered, IsScheduled, IsSound}
-use Rattle.evm_boost.specs.Settling.{IsSettling, IsRelinked}
-use Rattle.evm_model.proofs.Lists.{change-here, change-elsewhere, slice_get-within, slice_get-below}
+use Rattle.evm_boost.specs.Settling.{IsSettling}
+use Rattle.evm_model.proofs.Lists.{change-here, change-elsewhere, slice_get-within}
 use Rattle.evm_model.specs.Lists.{change}
-use Rattle.evm_model.specs.Mutexes.{boosts, waits_on, heir_for, heir_of, heir_by, lock_at, owner_of, owner_for}
+use Rattle.evm_model.specs.Mutexes.{boosts, waits_on, heir_for, heir_of, lock_at, owner_of, owner_for}
 use Rattle.evm_model.specs.Ranks.{own_rank, rank}
 use Rattle.evm_model.specs.declared.limits.TheConstants.{TASK_LIMIT}
 use Rattle.evm_model.specs.declared.mutex.Mutex.{Mutex}
@@ -18,9 +18,9 @@ use Rattle.evm_model.specs.declared.task.Task.{Task}
 use Rattle.evm_ranks.proofs.Heights.{falls-low}
 use Rattle.evm_ranks.proofs.Links.{fewer-keeps}
 use Rattle.evm_mending.proofs.Mending.{settled-are, are-settled, mended-here, mended-on, mended-none, changed-but, no-loop, walk-over}
-use Rattle.evm_mending.proofs.Relinks.{limit-more, relink-keeps, free-keeps, way-more}
-use Rattle.evm_ranks.specs.Boosts.{is_number, greatest, reaches, walk, HasHeight, Falls, IsSettledRank}
-use Rattle.evm_mending.specs.Mending.{no_task, with_task, IsSettledBut}
+use Rattle.evm_mending.proofs.Relinks.{limit-more, free-keeps, way-more}
+use Rattle.evm_ranks.specs.Boosts.{is_number, greatest, reaches, walk, Falls, IsSettledRank}
+use Rattle.evm_mending.specs.Mending.{no_task, with_task}
 use Rattle.evm_ready.specs.ListedRanks.{listed_rank, rank_or_0}
 
 -- ---- between schedules

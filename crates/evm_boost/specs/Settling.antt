@@ -1,5 +1,5 @@
 -- Ranks on the way from one schedule to the next: at which tasks they may still be wrong.
-use Rattle.std.specs.Prelude.{◌≡◌, ℕ, ◌<◌, ◌≤◌, List, [], ◌∷◌, Option, Some, None, Bool, true, false, ◌⊎◌, length, slice_get}
+use Rattle.std.specs.Prelude.{◌≡◌, ℕ, ◌<◌, ◌≤◌, List, Option, Some, None, Bool, true, false, ◌⊎◌, length, slice_get}
 use Rattle.evm_boost.specs.Lent.{first_waiting}
 use Rattle.evm_boost.specs.Scheduled.{Scheduled, AreEntered, IsScheduled, IsSound}
 use Rattle.evm_model.specs.Lists.{change}

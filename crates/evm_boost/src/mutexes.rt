@@ -43,6 +43,7 @@ impl Mutexes {
     }
 
     /// How many there are, 32 at the most.
+    #[inline]
     pub fn count(&self) -> u8
         ensures count { result ≡ length self.now }
         ensures limit { result ≤ MUTEX_LIMIT }
@@ -51,6 +52,7 @@ impl Mutexes {
     }
 
     /// The mutex of this number.
+    #[inline]
     pub fn get(&self, m: u8) -> Option<Mutex>
         ensures { result ≡ slice_get self.now m }
     {
@@ -61,6 +63,7 @@ impl Mutexes {
     }
 
     /// The number of the task that owns mutex m.
+    #[inline]
     pub fn owner(&self, m: u8) -> Option<u8>
         ensures { result ≡ owner self.now m }
     {
@@ -71,6 +74,7 @@ impl Mutexes {
     }
 
     /// Whether task t owns mutex m.
+    #[inline]
     pub fn is_owner(&self, m: u8, t: u8) -> bool
         ensures { result ≡ is_number (owner self.now m) t }
     {
@@ -81,17 +85,15 @@ impl Mutexes {
     }
 
     /// Whether task t owns a mutex.
-    #[tactic(auto, using(crate::proofs::Owners::owners))]
     pub fn owns_any(&self, t: u8) -> bool
         ensures { result ≡ owns_any t self.now }
     {
-        let mut owns = false;
         for m in 0..self.count() {
             if self.is_owner(m, t) {
-                owns = true;
+                return true;
             }
         }
-        owns
+        false
     }
 
     /// Whether task t owns another mutex than m.

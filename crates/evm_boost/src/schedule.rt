@@ -329,6 +329,7 @@ impl Schedule {
     }
 
     /// The rank of a task; 0 where there is none.
+    #[inline]
     pub fn rank(&self, t: u8) -> u16
         ensures there { (mutexes : List AMutex) (tasks : List ATask) → IsScheduled self.now mutexes tasks → t < length tasks → result ≡ rank mutexes tasks t }
         ensures absent { (mutexes : List AMutex) (tasks : List ATask) → IsScheduled self.now mutexes tasks → length tasks ≤ t → result ≡ 0 }
@@ -338,6 +339,7 @@ impl Schedule {
 
     /// The number of the out-of-band task that a processor should run: of those that may run there the one of greatest
     /// rank, then of least stamp.
+    #[inline]
     pub fn best(&self, c: u8) -> Option<u8>
         ensures { (mutexes : List AMutex) (tasks : List ATask) → IsScheduled self.now mutexes tasks → result ≡ best c mutexes tasks }
     {
@@ -346,6 +348,7 @@ impl Schedule {
 
     /// The number of the in-band task that a processor should take up: of those that may run there the one of least
     /// stamp.
+    #[inline]
     pub fn next_in_band(&self, c: u8) -> Option<u8>
         ensures { (mutexes : List AMutex) (tasks : List ATask) → IsScheduled self.now mutexes tasks → result ≡ next_in_band c tasks }
     {
@@ -353,6 +356,7 @@ impl Schedule {
     }
 
     /// The number of the first task that waits for this: the one of greatest rank, then of least stamp.
+    #[inline]
     pub fn first_waiter(&self, wait: Wait) -> Option<u8>
         ensures { (mutexes : List AMutex) (tasks : List ATask) → IsScheduled self.now mutexes tasks → result ≡ first (awaits wait tasks) (rank mutexes tasks) (stamp tasks) (length tasks) }
     {
@@ -360,6 +364,7 @@ impl Schedule {
     }
 
     /// Whether any task is ready out-of-band, on whichever processor.
+    #[inline]
     pub fn has_oob(&self) -> bool
         ensures { (mutexes : List AMutex) (tasks : List ATask) → IsScheduled self.now mutexes tasks → result ≡ has_oob tasks }
     {

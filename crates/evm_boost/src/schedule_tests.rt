@@ -4,6 +4,17 @@ use crate::board::{Board, task};
 use evm_model::{Class, Protocol, TaskState, Wait};
 use std::test::Fail;
 
+fn ranks(board: &Board) -> [u16; 6] {
+    [
+        board.rank(0),
+        board.rank(1),
+        board.rank(2),
+        board.rank(3),
+        board.rank(4),
+        board.rank(5),
+    ]
+}
+
 // Tasks 0 to 4 own a mutex each, and each of 1 to 5 waits for the mutex of the one before it.
 fn chain(rt: &HostRuntime) -> Result<Board, Fail> {
     let mut board = Board::of(rt, task(Class::Weak, 5, 1))?;
@@ -16,88 +27,114 @@ fn chain(rt: &HostRuntime) -> Result<Board, Fail> {
 }
 
 #[test]
-fn a_chain_of_five_owners_rises_and_falls(rt: HostRuntime) -> Result<(), Fail> {
+fn a_boost_rises_through_five_owners(rt: HostRuntime) -> Result<(), Fail> {
     let mut board = chain(&rt)?;
-    assert_eq!(rt; board.rank(0), 150);
-    assert_eq!(rt; board.rank(4), 150);
+    assert_eq!(rt; ranks(&board), [150, 150, 150, 150, 150, 150]);
     board.set_policy(5, Class::Fifo, 80);
-    assert_eq!(rt; board.rank(0), 180);
-    assert_eq!(rt; board.rank(3), 180);
+    assert_eq!(rt; ranks(&board), [180, 180, 180, 180, 180, 180]);
+    Ok(())
+}
+
+#[test]
+fn a_boost_falls_through_five_owners(rt: HostRuntime) -> Result<(), Fail> {
+    let mut board = chain(&rt)?;
     board.wake(5, false);
-    assert_eq!(rt; board.rank(5), 180);
-    assert_eq!(rt; board.rank(4), 140);
-    assert_eq!(rt; board.rank(0), 140);
-    board.set_state(3, TaskState::OobReady);
-    assert_eq!(rt; board.rank(3), 140);
-    assert_eq!(rt; board.rank(2), 120);
-    assert_eq!(rt; board.rank(0), 120);
+    assert_eq!(rt; ranks(&board), [140, 140, 140, 140, 140, 150]);
     assert!(rt; board.schedule.sound);
     Ok(())
 }
 
 #[test]
-fn a_ceiling_lies_beside_a_boost(rt: HostRuntime) -> Result<(), Fail> {
-    let mut board = Board::of(&rt, task(Class::Fifo, 10, 1))?;
-    board.push(task(Class::Fifo, 90, 2));
-    board.create(Protocol::Ceiling(40));
-    board.hold(0, 0);
-    assert_eq!(rt; board.rank(0), 140);
-    board.own(0);
-    board.wait(1, 1);
-    assert_eq!(rt; board.rank(0), 190);
-    board.leave(0);
-    assert_eq!(rt; board.rank(0), 190);
-    board.hold(0, 0);
-    board.leave(1);
-    assert_eq!(rt; board.rank(0), 140);
-    board.leave(0);
-    assert_eq!(rt; board.rank(0), 110);
-    assert_eq!(rt; board.rank(1), 190);
+fn a_chain_breaks_in_its_middle(rt: HostRuntime) -> Result<(), Fail> {
+    let mut board = chain(&rt)?;
+    board.set_state(3, TaskState::OobReady);
+    assert_eq!(rt; ranks(&board), [120, 120, 120, 150, 150, 150]);
     Ok(())
 }
 
-// The mutex of task 0 passes on to the first of its waiters, which the other one boosts from then on.
+// Task 0, of rank 110, owns a mutex of ceiling 40, and one for which task 1 waits, of rank 190.
+fn ceiling_and_boost(rt: &HostRuntime) -> Result<Board, Fail> {
+    let mut board = Board::of(rt, task(Class::Fifo, 10, 1))?;
+    board.push(task(Class::Fifo, 90, 2));
+    board.create(Protocol::Ceiling(40));
+    board.hold(0, 0);
+    board.own(0);
+    board.wait(1, 1);
+    Ok(board)
+}
+
 #[test]
-fn a_hand_over_moves_the_boost(rt: HostRuntime) -> Result<(), Fail> {
-    let mut board = Board::of(&rt, task(Class::Weak, 1, 1))?;
+fn a_boost_lies_above_a_ceiling(rt: HostRuntime) -> Result<(), Fail> {
+    let mut board = ceiling_and_boost(&rt)?;
+    assert_eq!(rt; ranks(&board), [190, 190, 0, 0, 0, 0]);
+    board.leave(0);
+    assert_eq!(rt; ranks(&board), [190, 190, 0, 0, 0, 0]);
+    Ok(())
+}
+
+#[test]
+fn a_ceiling_stays_below_a_boost(rt: HostRuntime) -> Result<(), Fail> {
+    let mut board = ceiling_and_boost(&rt)?;
+    board.leave(1);
+    assert_eq!(rt; ranks(&board), [140, 190, 0, 0, 0, 0]);
+    board.leave(0);
+    assert_eq!(rt; ranks(&board), [110, 190, 0, 0, 0, 0]);
+    Ok(())
+}
+
+// Task 0 owns the mutex for which tasks 1 and 2 wait.
+fn two_waiters(rt: &HostRuntime) -> Result<Board, Fail> {
+    let mut board = Board::of(rt, task(Class::Weak, 1, 1))?;
     board.push(task(Class::Fifo, 10, 2));
     board.push(task(Class::Fifo, 60, 3));
     board.own(0);
     board.wait(1, 0);
     board.wait(2, 0);
-    assert_eq!(rt; board.rank(0), 160);
-    assert_eq!(rt; board.schedule.first_waiter(Wait::Lock(0)), Some(2));
-    board.leave(0);
-    board.wake(2, true);
-    board.hold(0, 2);
-    assert_eq!(rt; board.rank(0), 1);
-    assert_eq!(rt; board.rank(2), 160);
-    assert_eq!(rt; board.schedule.first_waiter(Wait::Lock(0)), Some(1));
+    Ok(board)
+}
+
+// The mutex passes on to the first of its waiters.
+fn pass_on(board: &mut Board, m: u8) {
+    let next = board.schedule.first_waiter(Wait::Lock(m));
+    board.leave(m);
+    if let Some(t) = next {
+        board.wake(t, true);
+        board.hold(m, t);
+    }
+}
+
+#[test]
+fn a_hand_over_moves_the_boost(rt: HostRuntime) -> Result<(), Fail> {
+    let mut board = two_waiters(&rt)?;
+    assert_eq!(rt; ranks(&board), [160, 110, 160, 0, 0, 0]);
+    pass_on(&mut board, 0);
+    assert_eq!(rt; ranks(&board), [1, 110, 160, 0, 0, 0]);
     board.set_policy(1, Class::Fifo, 99);
-    assert_eq!(rt; board.rank(2), 199);
-    assert!(rt; board.schedule.sound);
+    assert_eq!(rt; ranks(&board), [1, 199, 199, 0, 0, 0]);
     Ok(())
 }
 
-// Each of two tasks waits for the other: from then on all ranks are reckoned anew.
-#[test]
-fn a_cycle_is_reckoned(rt: HostRuntime) -> Result<(), Fail> {
-    let mut board = Board::of(&rt, task(Class::Fifo, 10, 1))?;
+// Each of two tasks waits for the other.
+fn cycle(rt: &HostRuntime) -> Result<Board, Fail> {
+    let mut board = Board::of(rt, task(Class::Fifo, 10, 1))?;
     board.push(task(Class::Fifo, 20, 2));
     board.own(0);
     board.own(1);
     board.wait(0, 1);
-    assert!(rt; board.schedule.sound);
     board.wait(1, 0);
+    Ok(board)
+}
+
+#[test]
+fn a_cycle_is_reckoned(rt: HostRuntime) -> Result<(), Fail> {
+    let mut board = cycle(&rt)?;
     assert!(rt; !board.schedule.sound);
-    assert_eq!(rt; board.rank(0), 120);
-    assert_eq!(rt; board.rank(0), board.reckoned(0));
+    assert_eq!(rt; ranks(&board), [120, 120, 0, 0, 0, 0]);
+    assert_eq!(rt; board.reckoned(0), 120);
     board.wake(1, true);
-    assert_eq!(rt; board.rank(0), 110);
-    assert_eq!(rt; board.rank(1), 120);
+    assert_eq!(rt; ranks(&board), [110, 120, 0, 0, 0, 0]);
     board.set_policy(0, Class::Fifo, 50);
-    assert_eq!(rt; board.rank(1), 150);
-    assert_eq!(rt; board.rank(1), board.reckoned(1));
+    assert_eq!(rt; ranks(&board), [150, 150, 0, 0, 0, 0]);
     Ok(())
 }
 
@@ -113,11 +150,16 @@ fn two_tasks_take_turns(rt: HostRuntime) -> Result<(), Fail> {
     Ok(())
 }
 
-#[test]
-fn the_best_changes_with_its_tasks(rt: HostRuntime) -> Result<(), Fail> {
-    let mut board = Board::of(&rt, task(Class::Fifo, 10, 1))?;
+fn three_ready(rt: &HostRuntime) -> Result<Board, Fail> {
+    let mut board = Board::of(rt, task(Class::Fifo, 10, 1))?;
     board.push(task(Class::Fifo, 20, 2));
     board.push(task(Class::Weak, 50, 3));
+    Ok(board)
+}
+
+#[test]
+fn the_best_changes_with_a_state(rt: HostRuntime) -> Result<(), Fail> {
+    let mut board = three_ready(&rt)?;
     assert_eq!(rt; board.schedule.best(0), Some(1));
     board.set_state(1, TaskState::InReady);
     assert_eq!(rt; board.schedule.best(0), Some(0));
@@ -125,11 +167,23 @@ fn the_best_changes_with_its_tasks(rt: HostRuntime) -> Result<(), Fail> {
     board.set_state(1, TaskState::OobReady);
     assert_eq!(rt; board.schedule.best(0), Some(1));
     assert_eq!(rt; board.schedule.next_in_band(0), None);
+    Ok(())
+}
+
+#[test]
+fn the_best_changes_with_a_class(rt: HostRuntime) -> Result<(), Fail> {
+    let mut board = three_ready(&rt)?;
     board.set_policy(1, Class::RoundRobin, 10);
     assert_eq!(rt; board.schedule.best(0), Some(0));
     board.set_state(3, TaskState::OobReady);
     board.set_policy(0, Class::Weak, 99);
     assert_eq!(rt; board.schedule.best(0), Some(1));
+    Ok(())
+}
+
+#[test]
+fn the_last_out_of_band_task_ends(rt: HostRuntime) -> Result<(), Fail> {
+    let mut board = three_ready(&rt)?;
     board.set_state(0, TaskState::Exit);
     board.set_state(1, TaskState::Exit);
     assert!(rt; board.schedule.has_oob());
@@ -138,25 +192,37 @@ fn the_best_changes_with_its_tasks(rt: HostRuntime) -> Result<(), Fail> {
     Ok(())
 }
 
-#[test]
-fn the_first_waiter_changes_with_its_tasks(rt: HostRuntime) -> Result<(), Fail> {
-    let mut board = Board::of(&rt, task(Class::Fifo, 20, 1))?;
+const LOCK: Wait = Wait::Lock(3);
+
+fn three_waiting(rt: &HostRuntime) -> Result<Board, Fail> {
+    let mut board = Board::of(rt, task(Class::Fifo, 20, 1))?;
     board.push(task(Class::Fifo, 50, 2));
     board.push(task(Class::Fifo, 20, 3));
     board.wait(0, 3);
     board.wait(1, 3);
     board.wait(2, 3);
-    let lock = Wait::Lock(3);
-    assert_eq!(rt; board.schedule.first_waiter(lock), Some(1));
+    Ok(board)
+}
+
+#[test]
+fn the_first_waiter_changes_with_its_tasks(rt: HostRuntime) -> Result<(), Fail> {
+    let mut board = three_waiting(&rt)?;
+    assert_eq!(rt; board.schedule.first_waiter(LOCK), Some(1));
     board.wake(1, true);
-    assert_eq!(rt; board.schedule.first_waiter(lock), Some(0));
+    assert_eq!(rt; board.schedule.first_waiter(LOCK), Some(0));
     board.set_stamp(0, 4);
-    assert_eq!(rt; board.schedule.first_waiter(lock), Some(2));
+    assert_eq!(rt; board.schedule.first_waiter(LOCK), Some(2));
     board.wait(1, 3);
-    assert_eq!(rt; board.schedule.first_waiter(lock), Some(1));
+    assert_eq!(rt; board.schedule.first_waiter(LOCK), Some(1));
+    Ok(())
+}
+
+#[test]
+fn none_waits_any_more(rt: HostRuntime) -> Result<(), Fail> {
+    let mut board = three_waiting(&rt)?;
     board.wake(0, false);
     board.wake(1, false);
     board.wake(2, true);
-    assert_eq!(rt; board.schedule.first_waiter(lock), None);
+    assert_eq!(rt; board.schedule.first_waiter(LOCK), None);
     Ok(())
 }

@@ -1,4 +1,4 @@
-use Rattle.std.proofs.Common.{◌∙◌, sym, refl}
+use Rattle.std.proofs.Common.{refl}
 use Rattle.evm_boost.proofs.Passing.{idle-as, idle-settling, leave-settling}
 use Rattle.evm_model.specs.Mutexes.{freed}
 use Rattle.evm_boost.proofs.schedule.Schedule.leave.Goals as goal

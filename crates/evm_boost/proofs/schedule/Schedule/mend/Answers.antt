@@ -1,4 +1,4 @@
-use Rattle.std.proofs.Common.{◌≡◌, ◌∙◌, sym, ap, true}
+use Rattle.std.proofs.Common.{◌∙◌, sym, ap}
 use Rattle.evm_boost.proofs.Settled.{settled-scheduled}
 use Rattle.evm_boost.specs.Scheduled.{Scheduled}
 use Rattle.evm_mending.specs.Mending.{no_task, with_task}

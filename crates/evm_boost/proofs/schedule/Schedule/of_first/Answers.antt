@@ -1,4 +1,4 @@
-use Rattle.std.proofs.Common.{◌∙◌, sym, refl, ap}
+use Rattle.std.proofs.Common.{◌∙◌, refl}
 use Rattle.evm_boost.proofs.Queries.{first-scheduled}
 use Rattle.evm_boost.proofs.schedule.Schedule.of_first.Goals as goal
 

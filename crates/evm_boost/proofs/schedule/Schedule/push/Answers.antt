@@ -1,4 +1,4 @@
-use Rattle.std.proofs.Common.{◌∙◌, sym, arith, ap, length}
+use Rattle.std.proofs.Common.{◌∙◌, sym}
 use Rattle.evm_boost.proofs.Entries.{entered-room}
 use Rattle.evm_boost.proofs.Moves.{push-settling}
 use Rattle.evm_boost.proofs.schedule.Schedule.push.Goals as goal

@@ -1,4 +1,4 @@
-use Rattle.std.proofs.Common.{◌≡◌, ◌∙◌, ◌+◌, Option, Some, None, refl, sym, ap, arith}
+use Rattle.std.proofs.Common.{◌∙◌, refl, arith}
 use Rattle.evm_boost.proofs.Settled.{settled-at, settled-none, settled-over}
 use Rattle.evm_mending.proofs.Mending.{walk-none, walk-more}
 use Rattle.evm_boost.proofs.schedule.Schedule.walk_from.Goals as goal

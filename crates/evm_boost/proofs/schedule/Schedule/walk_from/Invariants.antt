@@ -1,8 +1,7 @@
-use Rattle.std.proofs.Common.{◌≡◌, ◌≤◌, ◌+◌, ℕ, Bool, Some}
+use Rattle.std.proofs.Common.{◌≡◌, ℕ, Bool, Some}
 use Rattle.evm_boost.specs.Settling.{IsSettling}
 use Rattle.evm_mending.specs.Mending.{with_task}
 use Rattle.evm_model.specs.Mutexes.{boosts}
-use Rattle.evm_model.specs.declared.limits.TheConstants.{TASK_LIMIT}
 use Rattle.evm_ranks.specs.Boosts.{walk}
 use Rattle.evm_boost.proofs.schedule.Schedule.walk_from.Given as goal
 
