@@ -97,3 +97,11 @@ past_end (x ∷ xs) (suc k) h = past_end xs k (omega arith)
 
 pub bell_missing : (c word lines number : ℕ) → length (bells_below c word lines) ≤ number → None ≡ slice_get (bells_below c word lines) number
 bell_missing c word lines number h = past_end (bells_below c word lines) number h
+
+-- more lines have no fewer Bells
+pub bells_grow : (c word n more : ℕ) → length (bells_below c word n) ≤ length (bells_below c word (n + more))
+unfolding bells_below
+bells_grow c word n zero = let same : n + 0 ≡ n = omega arith in rw same (omega arith)
+bells_grow c word n (suc more) =
+    let next : n + suc more ≡ suc (n + more) = omega arith in
+    rw next (omega (arith, bells_grow c word n more, length-append (bells_below c word (n + more)) (bell_if (bit_at word (n + more) == 1) c (n + more))))

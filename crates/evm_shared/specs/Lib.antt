@@ -1,4 +1,5 @@
 pub mod Checks
+pub mod Cursors
 pub mod EventCounts
 pub mod Lookaheads
 pub mod Ports

@@ -1,13 +1,15 @@
-ghost use Rattle.std.specs.Prelude.{◌≡◌, ◌↔◌, true, All, MatchOption, MatchResult, length};
-ghost use Rattle.evm_shared.specs.Checks.{AreTrueMarks, Holds, IsFirstBreak, IsFirstMismatch, PortHolds, PortsHold, lent};
-ghost use Rattle.evm_shared.specs.Receipts.{AreApart, HasFrom, IsBefore, IsTrueReceipt, events_of};
+ghost use Rattle.std.specs.Prelude.{◌≡◌, ◌↔◌, ◌<◌, ◌≤◌, true, All, MatchOption, MatchResult, IfSome, length, slice_index_or, take};
+ghost use Rattle.evm_shared.specs.Checks.{AreTrueMarks, IsFirstBreak, IsFirstMismatch, PortHolds, PortsHold, lent};
+ghost use Rattle.evm_shared.specs.Cursors.{AreApartFrom, AreInTurn, AreRising, IsBehind, IsInTurn, IsWalk, end_with};
+ghost use Rattle.evm_shared.specs.Receipts.{AreApart, IsBefore, IsTrueReceipt};
+ghost use Rattle.evm_shared.specs.declared.receipt.Receipt.{Receipt as ReceiptValue};
 
+use crate::cursor::Cursor;
 use crate::port::Port;
 use crate::receipt::Receipt;
 use evm_core::Machine;
 use evm_dev::Device;
 use evm_lines::LINES;
-use evm_model::Event;
 use std::sync::ledger::Ledger;
 
 /// The first place of some ports that is not true.
@@ -19,105 +21,129 @@ pub struct Mismatch {
     pub index: usize,
 }
 
-// Whether two events are the same, or are both missing.
-fn is_same(a: &Option<Event>, b: &Option<Event>) -> bool
-    ensures { (result ≡ true) ↔ (a.now ≡ b.now) }
-{
-    *a == *b
+/// How far a port's receipts were gone over: the line of the journal, and the end of their positions.
+#[derive(Clone, Copy, Drop)]
+pub(crate) struct Walk {
+    pub(crate) cursor: Cursor,
+    pub(crate) end: u64,
 }
 
-// Whether the journal has the events of a receipt at its positions.
-fn has_events<D: Device>(machine: &Machine<D>, receipt: &Receipt) -> bool
-    ensures { (result ≡ true) ↔ HasFrom machine.now.journal receipt.now.position (events_of receipt.now.made) }
-{
-    let count = u64::from(receipt.made.event_count());
-    if count == 0 {
-        return true;
-    }
-    if machine.event_count() < receipt.position {
-        return false;
-    }
-    if machine.event_count() - receipt.position < count {
-        return false;
-    }
-    for k in 0..count {
-        let found = machine.event_at((receipt.position + k) as usize);
-        if !is_same(&found, &receipt.made.event(k)) {
-            return false;
+impl Walk {
+    // Before the first receipt.
+    fn start() -> Walk
+        ensures { (result.cursor.line ≡ 0) × (result.cursor.first ≡ 0) × (result.end ≡ 0) }
+    {
+        Walk {
+            cursor: Cursor::start(),
+            end: 0,
         }
     }
-    true
-}
 
-// Whether a receipt is true, whatever others there are.
-fn is_true_receipt<D: Device>(machine: &Machine<D>, since: u64, receipt: &Receipt) -> bool
-    ensures { (result ≡ true) ↔ IsTrueReceipt machine.now.journal since receipt.now }
-{
-    if receipt.position < since {
-        return false;
-    }
-    if !receipt.made.can_be_made() {
-        return false;
-    }
-    has_events(machine, receipt)
-}
-
-// Whether each position of these receipts is below each of another.
-fn are_before(before: &[Receipt], receipt: &Receipt) -> bool
-    ensures { (result ≡ true) ↔ All (λ b. IsBefore b receipt.now) before.now }
-{
-    for earlier in before {
-        if !earlier.is_before(receipt) {
-            return false;
+    // Goes over the next receipt, if it is true and behind the others.
+    fn pass<D: Device>(self, machine: &Machine<D>, since: u64, receipt: &Receipt) -> Option<Walk>
+        requires { IsWalk machine.now.journal self }
+        ensures some { MatchOption result (IsTrueReceipt machine.now.journal since receipt.now → IsBehind self.end receipt.now → ⊥) (λ walk. IsTrueReceipt machine.now.journal since receipt.now × IsBehind self.end receipt.now) }
+        ensures walk { IfSome result (λ walk. IsWalk machine.now.journal walk × (walk.end ≡ end_with self.end receipt.now)) }
+    {
+        if receipt.position < since || !receipt.made.can_be_made() {
+            return None;
         }
-    }
-    true
-}
-
-// Whether no position of these receipts is one of another.
-fn are_apart(others: &[Receipt], receipt: &Receipt) -> bool
-    ensures { (result ≡ true) ↔ All (λ o. AreApart o receipt.now) others.now }
-{
-    for other in others {
-        if !other.is_apart(receipt) {
-            return false;
+        let count = u64::from(receipt.made.event_count());
+        if count == 0 {
+            return Some(self);
         }
-    }
-    true
-}
-
-// Whether no position of a receipt of these ports is one of another.
-fn ports_are_apart<S: Ledger, B: Ledger, T: Ledger>(
-    ports: &[&Port<S, B, T>],
-    receipt: &Receipt,
-) -> bool
-    ensures { (result ≡ true) ↔ All (λ p. All (λ o. AreApart o receipt.now) p.receipts) (lent ports.now) }
-{
-    for port in ports {
-        if !are_apart(port.receipts(), receipt) {
-            return false;
+        let end = machine.event_count();
+        if receipt.position < self.end || end < receipt.position || end - receipt.position < count {
+            return None;
         }
+        let mut cursor = self.cursor;
+        if !cursor.has_events(machine, receipt) {
+            return None;
+        }
+        Some(Walk {
+            cursor,
+            end: receipt.position + count,
+        })
     }
-    true
 }
 
-// Whether a receipt holds beside those before it in its port and beside other ports.
-fn holds<D: Device, S: Ledger, B: Ledger, T: Ledger>(
+// The first receipt of a port that is not true or not behind those before it, or their number.
+fn first_untrue<D: Device, S: Ledger, B: Ledger, T: Ledger>(
     machine: &Machine<D>,
-    others: &[&Port<S, B, T>],
-    before: &[Receipt],
-    since: u64,
-    receipt: &Receipt,
-) -> bool
-    ensures { (result ≡ true) ↔ Holds machine.now (lent others.now) before.now since receipt.now }
+    port: &Port<S, B, T>,
+) -> usize
+    ensures within { result ≤ length port.now.receipts }
+    ensures turn { AreInTurn machine.now.journal port.now result }
+    ensures untrue { result < length port.now.receipts → (d : ReceiptValue) → IsInTurn machine.now.journal port.now result (slice_index_or port.now.receipts result d) → ⊥ }
 {
-    if !is_true_receipt(machine, since, receipt) {
-        return false;
+    let receipts = port.receipts();
+    let mut walk = Walk::start();
+    for index in 0..receipts.len() {
+        let Some(next) = walk.pass(machine, port.since(), &receipts[index]) else {
+            return index;
+        };
+        walk = next;
     }
-    if !are_before(before, receipt) {
-        return false;
+    receipts.len()
+}
+
+// The first of some receipts, from a place on, that is not before another, or their number.
+fn first_not_before(receipts: &[Receipt], from: usize, later: &Receipt) -> usize
+    requires from { from ≤ length receipts.now }
+    requires passed { All (λ r. IsBefore r later.now) (take from receipts.now) }
+    ensures within { result ≤ length receipts.now }
+    ensures passed { All (λ r. IsBefore r later.now) (take result receipts.now) }
+    ensures next { result < length receipts.now → (d : ReceiptValue) → IsBefore (slice_index_or receipts.now result d) later.now → ⊥ }
+{
+    let mut next = from;
+    while next < receipts.len() {
+        if !receipts[next].is_before(later) {
+            return next;
+        }
+        next += 1;
     }
-    ports_are_apart(others, receipt)
+    next
+}
+
+// The first of `limit` receipts that shares a position with one of others, or `limit`. The positions of both rise.
+fn first_shared(others: &[Receipt], receipts: &[Receipt], limit: usize) -> usize
+    requires limit { limit ≤ length receipts.now }
+    requires rising { AreRising others.now (length others.now) × AreRising receipts.now limit }
+    ensures within { result ≤ limit }
+    ensures apart { AreApartFrom others.now receipts.now result }
+    ensures shared { result < limit → (d : ReceiptValue) → All (λ o. AreApart o (slice_index_or receipts.now result d)) others.now → ⊥ }
+{
+    let mut next = 0;
+    for index in 0..limit {
+        let receipt = &receipts[index];
+        if receipt.made.event_count() != 0 {
+            next = first_not_before(others, next, receipt);
+            if next < others.len() && !receipt.is_before(&others[next]) {
+                return index;
+            }
+        }
+    }
+    limit
+}
+
+// The first of `limit` receipts that shares a position with one of other ports, or `limit`. The positions of each port rise.
+fn first_shared_by_ports<S: Ledger, B: Ledger, T: Ledger>(
+    others: &[&Port<S, B, T>],
+    receipts: &[Receipt],
+    limit: usize,
+) -> usize
+    requires limit { limit ≤ length receipts.now }
+    requires rising { AreRising receipts.now limit }
+    requires others { All (λ p. AreRising p.receipts (length p.receipts)) (lent others.now) }
+    ensures within { result ≤ limit }
+    ensures apart { All (λ p. AreApartFrom p.receipts receipts.now result) (lent others.now) }
+    ensures shared { result < limit → (d : ReceiptValue) → All (λ p. All (λ o. AreApart o (slice_index_or receipts.now result d)) p.receipts) (lent others.now) → ⊥ }
+{
+    let mut index = limit;
+    for other in others {
+        index = first_shared(other.receipts(), receipts, index);
+    }
+    index
 }
 
 // Whether the marks of a port are true.
@@ -137,35 +163,31 @@ fn marks_are_true<D: Device, S: Ledger, B: Ledger, T: Ledger>(
     true
 }
 
-// The first place of a port that does not hold beside other ports.
+// The first place of a port that does not hold beside other ports, whose positions rise.
 fn first_break<D: Device, S: Ledger, B: Ledger, T: Ledger>(
     machine: &Machine<D>,
     others: &[&Port<S, B, T>],
     port: &Port<S, B, T>,
 ) -> Option<usize>
+    requires { All (λ p. AreRising p.receipts (length p.receipts)) (lent others.now) }
     ensures { MatchOption result (PortHolds machine.now (lent others.now) port.now) (λ index. IsFirstBreak machine.now (lent others.now) port.now index) }
 {
     let receipts = port.receipts();
-    for index in 0..receipts.len() {
-        if !holds(
-            machine,
-            others,
-            &receipts[..index],
-            port.since(),
-            &receipts[index],
-        ) {
-            return Some(index);
-        }
+    let untrue = first_untrue(machine, port);
+    let index = first_shared_by_ports(others, receipts, untrue);
+    if index < receipts.len() {
+        return Some(index);
     }
     if marks_are_true(machine, port) {
         None
     } else {
-        Some(receipts.len())
+        Some(index)
     }
 }
 
 /// Checks the receipts and the marks of some ports against the journal of a machine: that each is true, that the
 /// positions of each port's receipts rise, and that no two receipts of any ports share a position. Takes no memory.
+/// Goes over the lines of the journal once for each port, and over the receipts of both ports for each two.
 ///
 /// # Errors
 ///

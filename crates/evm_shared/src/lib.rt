@@ -2,6 +2,7 @@
 #![tactic(auto)]
 
 mod checking;
+mod cursor;
 mod event_counts;
 mod ledgers;
 mod locked;

@@ -1,6 +1,6 @@
-ghost use Rattle.std.specs.Prelude.{◌≡◌, ◌↔◌, ◌<◌, ◌≤◌, true, false, length, slice_get};
+ghost use Rattle.std.specs.Prelude.{◌≡◌, ◌↔◌, ◌<◌, ◌≤◌, true, false, length};
 ghost use Rattle.evm_lines.specs.declared.TheConstants.{LINES};
-ghost use Rattle.evm_shared.specs.Receipts.{AreApart, CanBeMade, IsBefore, bells_below, events_of};
+ghost use Rattle.evm_shared.specs.Receipts.{CanBeMade, IsBefore, bells_below, events_of};
 
 use evm_lines::LINES;
 use evm_model::Event;
@@ -37,22 +37,6 @@ fn bell_count(cpu: u8, word: u32) -> u32
     count
 }
 
-// The Bell of a number among those of a word.
-fn bell(cpu: u8, word: u32, number: u64) -> Option<Event>
-    ensures { result ≡ slice_get (bells_below cpu word LINES) number }
-{
-    let mut before = 0u64;
-    for line in 0..LINES {
-        if (word >> line) & 1 == 1 {
-            if before == number {
-                return Some(Event::Bell(cpu, line));
-            }
-            before += 1;
-        }
-    }
-    None
-}
-
 impl Made {
     /// How many events.
     pub(crate) fn event_count(&self) -> u32
@@ -62,29 +46,6 @@ impl Made {
             Made::Steps(_, count) => *count,
             Made::Bells(cpu, word) => bell_count(*cpu, *word),
             Made::One(_) => 1,
-        }
-    }
-
-    /// Its event of a number, the first of which is 0.
-    pub(crate) fn event(&self, number: u64) -> Option<Event>
-        ensures { result ≡ slice_get (events_of self.now) number }
-    {
-        match self {
-            Made::Steps(cpu, count) => {
-                if number < u64::from(*count) {
-                    Some(Event::Step(*cpu))
-                } else {
-                    None
-                }
-            }
-            Made::Bells(cpu, word) => bell(*cpu, *word, number),
-            Made::One(event) => {
-                if number == 0 {
-                    Some(event.lend().copied())
-                } else {
-                    None
-                }
-            }
         }
     }
 
@@ -115,12 +76,5 @@ impl Receipt {
             return false;
         }
         later.position - self.position >= count
-    }
-
-    /// Whether no position is one of both.
-    pub(crate) fn is_apart(&self, other: &Receipt) -> bool
-        ensures { (result ≡ true) ↔ AreApart self.now other.now }
-    {
-        self.is_before(other) || other.is_before(self)
     }
 }
