@@ -12,7 +12,7 @@ mod walk;
 pub use evm_diagnostics::{
     Boot, Devices, Event, EventLine, InputFault, Journal, JournalFaultKind, Machine, read_history,
 };
-pub use item::{Item, lane_of, outline};
+pub use item::{Item, actor_of, outline};
 pub use look::{Lane, Look, Running};
 pub use mark::Mark;
 pub use marking::marks;

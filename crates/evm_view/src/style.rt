@@ -5,7 +5,7 @@ pub(crate) const STYLE: &str =
     "svg{font-family:ui-monospace,Menlo,Consolas,'DejaVu Sans Mono',monospace;font-size:10px}\
 text{fill:#1b1b1b}.b{font-size:13px;font-weight:600}.l{font-size:9px}.s{font-size:8px}.s,.r{text-anchor:middle}\
 text.d,text.r{fill:#5f5f5f}text.k{fill:#000}text.w{fill:#fff}\
-.paper{fill:#fff}.row{fill:#ececec}.tick{stroke:#5f5f5f;stroke-width:1}\
+.paper{fill:#fff}.row{fill:#ececec}.tick{stroke:#5f5f5f;stroke-width:1}.part{stroke:#d55e00;stroke-width:3}\
 .t0{fill:#56b4e9}.t1{fill:#e69f00}.t2{fill:#009e73}.t3{fill:#f0e442}.t4{fill:#0072b2}.t5{fill:#d55e00}.t6{fill:#cc79a7}.t7{fill:#999}\
 .stall{fill:#000;fill-opacity:.2;stroke:#1b1b1b;stroke-dasharray:3 2}\
 .e{fill:#d9d9d9}.step{fill:#bdbdbd;stroke:#1b1b1b}.out{fill:#fff;stroke:#d55e00;stroke-width:1.5}.many{stroke:#5f5f5f;stroke-dasharray:2 2}\

@@ -12,9 +12,10 @@ use crate::layout::{
 };
 use crate::legend::legend;
 use crate::lines::{Place, line_sign};
+use crate::parting::{column_in, column_of, parting_sign};
 use crate::shapes::{label, plain};
 use crate::style::STYLE;
-use evm_cells::{Cell, Piece, Shown, Timeline, say, stage_name};
+use evm_cells::{Cell, Piece, Shown, Symbols, Timeline, say, stage_name};
 use evm_model::{PROCESSOR_LIMIT, Stage};
 use evm_room::Refused;
 use evm_xml::{Draft, Key, Tag, finished};
@@ -25,8 +26,11 @@ use std::alloc::Global;
 struct Strip<'a> {
     cells: &'a [Cell],
     marks: &'a [Shown],
+    symbols: &'a Symbols,
     top: u32,
     cpu_count: u8,
+    // the column and the event where two journals part
+    parts: Option<(usize, u64)>,
 }
 
 fn cpu_name(alloc: Global, cpu: u8) -> Result<String, Refused> {
@@ -86,7 +90,7 @@ fn lane(draft: Draft, alloc: Global, strip: &Strip<'_>, cpu: u8) -> Result<Draft
     }
     let draft = label(draft, "d", 30, y_of(strip.top, cpu, 106), "lines")?;
     let draft = label(draft, "d", 30, y_of(strip.top, cpu, 121), "events")?;
-    boxes(draft, alloc, cpu, strip.top, strip.cells)
+    boxes(draft, alloc, strip.symbols, cpu, strip.top, strip.cells)
 }
 
 fn tick(draft: Draft, alloc: Global, cell: &Cell, x: u32, top: u32) -> Result<Draft, Refused>
@@ -200,11 +204,17 @@ fn draw_strip(draft: Draft, alloc: Global, strip: &Strip<'_>) -> Result<Draft, R
 {
     let draft = ruler(draft, alloc, strip)?;
     let draft = label(draft, "b", 8, strip.top.saturating_add(33), "machine")?;
-    let mut draft = machine_boxes(draft, alloc, strip.top, strip.cells)?;
+    let mut draft = machine_boxes(draft, alloc, strip.symbols, strip.top, strip.cells)?;
     for cpu in 0..strip.cpu_count {
         draft = lane(draft, alloc, strip, cpu)?;
     }
-    signs(draft, alloc, strip)
+    let draft = signs(draft, alloc, strip)?;
+    match strip.parts {
+        None => Ok(draft),
+        Some((column, event)) => {
+            parting_sign(draft, alloc, strip.top, strip.cpu_count, column, event)
+        }
+    }
 }
 
 // How many marks cells keep.
@@ -216,23 +226,46 @@ fn kept_in(cells: &[Cell]) -> u32 {
     kept
 }
 
-fn strips(draft: Draft, alloc: Global, timeline: &Timeline) -> Result<Draft, Refused>
+// The strip of a number, of the first cells and marks.
+fn strip_of<'a>(
+    picture: &Picture<'a>,
+    number: usize,
+    cells: &'a [Cell],
+    marks: &'a [Shown],
+) -> Strip<'a> {
+    let timeline = picture.timeline;
+    let parts = match picture.parts {
+        None => None,
+        Some(event) => {
+            let all = timeline.cells.as_slice();
+            match column_in(number, column_of(all, event), all.len()) {
+                None => None,
+                Some(column) => Some((column, event)),
+            }
+        }
+    };
+    Strip {
+        cells,
+        marks,
+        symbols: picture.symbols,
+        top: strip_top(number, timeline.cpu_count),
+        cpu_count: timeline.cpu_count,
+        parts,
+    }
+}
+
+fn strips(draft: Draft, alloc: Global, picture: &Picture<'_>) -> Result<Draft, Refused>
     requires content { draft.in_tag ≡ false }
     requires inside { 0 < length draft.tags }
     ensures { IfOk result (λ new. new ≡ draft) }
 {
     let mut draft = draft;
-    let mut cells = timeline.cells.as_slice();
-    let mut marks = timeline.marks.as_slice();
-    for number in 0..strip_count(timeline.cells.len()) {
+    let mut cells = picture.timeline.cells.as_slice();
+    let mut marks = picture.timeline.marks.as_slice();
+    for number in 0..strip_count(cells.len()) {
         let at = STRIP.min(cells.len());
         let (here, others) = cut(marks, kept_in(&cells[..at]));
-        let one = Strip {
-            cells: &cells[..at],
-            marks: here,
-            top: strip_top(number, timeline.cpu_count),
-            cpu_count: timeline.cpu_count,
-        };
+        let one = strip_of(picture, number, &cells[..at], here);
         draft = draw_strip(draft, alloc, &one)?;
         marks = others;
         cells = &cells[at..];
@@ -284,19 +317,31 @@ fn begun(alloc: Global, width: u32, height: u32) -> Result<Draft, Refused>
     plain(draft, Tag::Rectangle, "paper", &sides)
 }
 
+/// What is drawn.
+#[derive(Clone, Copy)]
+pub struct Picture<'a> {
+    /// The window of a journal.
+    pub timeline: &'a Timeline,
+    /// The symbols of the image.
+    pub symbols: &'a Symbols,
+    /// The event where the journal and another part.
+    pub parts: Option<u64>,
+}
+
 /// The picture of a timeline, an SVG file.
 ///
 /// # Errors
 ///
 /// Memory was refused.
-pub fn drawn(alloc: Global, timeline: &Timeline) -> Result<Vec<u8>, Refused>
+pub fn drawn(alloc: Global, picture: &Picture<'_>) -> Result<Vec<u8>, Refused>
     ensures { IfOk result (λ bytes. ∥ IsElement Tag.Svg bytes.items ∥₁) }
 {
+    let timeline = picture.timeline;
     let end = strip_top(strip_count(timeline.cells.len()), timeline.cpu_count);
     let width = width(timeline.cells.len());
     let draft = begun(alloc, width, end.saturating_add(LEGEND))?;
     let heading = heading(alloc, timeline)?;
     let draft = label(draft, "b", 8, 22, heading.as_str())?;
-    let draft = strips(draft, alloc, timeline)?;
+    let draft = strips(draft, alloc, picture)?;
     finished(legend(draft, alloc, end)?)
 }
