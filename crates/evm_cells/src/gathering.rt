@@ -1,5 +1,8 @@
 //! A window of a journal, replayed.
 
+ghost use Rattle.std.specs.Prelude.{ℕ, IfOk};
+ghost use Rattle.evm_cells.specs.Rows.{IsRow};
+
 use crate::cells::{Lanes, Shown, Timeline};
 use evm_dev::Device;
 use evm_model::{PROCESSOR_LIMIT, Wait};
@@ -108,7 +111,8 @@ fn skip<D: Device, M: Meter>(walk: &mut Walk<D>, from: u64, meter: &mut M) -> Re
     walk.skip(from % SKIPPED)
 }
 
-/// The events of a window of a journal that is walked from its first event on, which come to a timeline.
+/// The events of a window of a journal that is walked from its first event on, which come to a timeline: one cell behind the other, up
+/// to the event that the walk comes to next.
 ///
 /// # Errors
 ///
@@ -118,13 +122,16 @@ pub fn gather<D: Device, M: Meter>(
     walk: &mut Walk<D>,
     window: Window,
     meter: &mut M,
-) -> Result<Timeline, WalkStop> {
+) -> Result<Timeline, WalkStop>
+    ensures { IfOk result (λ timeline. (from : ℕ) × IsRow from timeline.cells.items walk.new) }
+{
     skip(walk, window.from.min(walk.event_count()), meter)?;
     let mut timeline = Timeline::new(alloc, walk.look().cpu_count);
     let mut found = Vec::new(alloc);
     let mut shown = Vec::new(alloc);
-    let mut left = window.to.saturating_sub(walk.next_event());
-    for _ in 0..left {
+    let first = walk.next_event();
+    for _event in first..window.to {
+        let left = window.to.saturating_sub(walk.next_event());
         if left == 0 {
             break;
         }
@@ -134,7 +141,6 @@ pub fn gather<D: Device, M: Meter>(
         };
         show(&mut shown, found.as_slice(), &item, walk.look())?;
         timeline.add(alloc, &item, &lanes, shown.as_slice())?;
-        left = left.saturating_sub(u64::from(item.count));
         meter.passed(walk.next_event());
     }
     Ok(timeline)

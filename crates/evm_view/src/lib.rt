@@ -9,6 +9,7 @@ mod layout;
 mod legend;
 mod lines;
 mod parting;
+mod room;
 mod shapes;
 mod style;
 mod svg;

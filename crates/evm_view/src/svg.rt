@@ -3,20 +3,22 @@
 ghost use Rattle.std.specs.Prelude.{◌≡◌, ◌<◌, ◌∷◌, [], false, IfOk, length};
 ghost use Rattle.evm_xml.specs.Xml.{IsElement};
 
-use crate::arrows::{Free, arrow_sign};
-use crate::bars::{Row, bars, stalls};
+use crate::arrows::arrow_sign;
+use crate::bars::{Row, bar_names, bars, stalls};
 use crate::events::{boxes, machine_boxes};
 use crate::flags::flag_sign;
 use crate::layout::{
-    CELL, IN_BAND, LEFT, LEGEND, OUT_OF_BAND, ROW, STRIP, strip_count, strip_top, width, x_of, y_of,
+    CELL, EVENTS, IN_BAND, LEFT, LEGEND, OUT_OF_BAND, RAISED, RECEIVED, ROW, STRIP, strip_count,
+    strip_top, width, x_of, y_of,
 };
 use crate::legend::legend;
 use crate::lines::{Place, line_sign};
 use crate::parting::{column_in, column_of, parting_sign};
+use crate::room::Rows;
 use crate::shapes::{label, plain};
 use crate::style::STYLE;
 use evm_cells::{Cell, Piece, Shown, Symbols, Timeline, say, stage_name};
-use evm_model::{PROCESSOR_LIMIT, Stage};
+use evm_model::Stage;
 use evm_room::Refused;
 use evm_xml::{Draft, Key, Tag, finished};
 use std::alloc::Global;
@@ -74,7 +76,24 @@ fn draw_row(draft: Draft, alloc: Global, row: &Row, cells: &[Cell]) -> Result<Dr
     let draft = plain(draft, Tag::Rectangle, "row", &sides)?;
     let draft = label(draft, "d", 30, y.saturating_add(13), stage_name(row.stage))?;
     let draft = bars(draft, alloc, row, cells)?;
-    stalls(draft, alloc, row, cells)
+    let draft = stalls(draft, alloc, row, cells)?;
+    bar_names(draft, alloc, row, cells)
+}
+
+// The name of a row of a lane, beside it.
+fn row_name(
+    draft: Draft,
+    strip: &Strip<'_>,
+    cpu: u8,
+    part: u32,
+    name: &str,
+) -> Result<Draft, Refused>
+    requires content { draft.in_tag ≡ false }
+    requires inside { 0 < length draft.tags }
+    ensures { IfOk result (λ new. new ≡ draft) }
+{
+    let y = y_of(strip.top, cpu, part).saturating_add(11);
+    label(draft, "d", 30, y, name)
 }
 
 fn lane(draft: Draft, alloc: Global, strip: &Strip<'_>, cpu: u8) -> Result<Draft, Refused>
@@ -83,13 +102,14 @@ fn lane(draft: Draft, alloc: Global, strip: &Strip<'_>, cpu: u8) -> Result<Draft
     ensures { IfOk result (λ new. new ≡ draft) }
 {
     let name = cpu_name(alloc, cpu)?;
-    let y = y_of(strip.top, cpu, 42);
+    let y = y_of(strip.top, cpu, 60);
     let mut draft = label(draft, "b", 8, y, name.as_str())?;
     for one in &rows_of(strip.top, cpu) {
         draft = draw_row(draft, alloc, one, strip.cells)?;
     }
-    let draft = label(draft, "d", 30, y_of(strip.top, cpu, 106), "lines")?;
-    let draft = label(draft, "d", 30, y_of(strip.top, cpu, 121), "events")?;
+    let draft = row_name(draft, strip, cpu, RAISED, "raised")?;
+    let draft = row_name(draft, strip, cpu, RECEIVED, "received")?;
+    let draft = row_name(draft, strip, cpu, EVENTS, "events")?;
     boxes(draft, alloc, strip.symbols, cpu, strip.top, strip.cells)
 }
 
@@ -133,16 +153,15 @@ fn sign(
     alloc: Global,
     at: Place,
     shown: &Shown,
-    upper: &mut Free,
-    lower: &mut Free,
-    arrows: &mut Free,
+    flags: &mut Rows,
+    arrows: &mut Rows,
 ) -> Result<Draft, Refused>
     requires content { draft.in_tag ≡ false }
     requires inside { 0 < length draft.tags }
     ensures { IfOk result (λ new. new ≡ draft) }
 {
     let draft = line_sign(draft, alloc, at, shown)?;
-    let draft = flag_sign(draft, alloc, at, shown, upper, lower)?;
+    let draft = flag_sign(draft, alloc, at, shown, flags)?;
     arrow_sign(draft, alloc, at, shown, arrows)
 }
 
@@ -152,9 +171,8 @@ fn cell_signs(
     alloc: Global,
     at: Place,
     marks: &[Shown],
-    upper: &mut Free,
-    lower: &mut Free,
-    arrows: &mut Free,
+    flags: &mut Rows,
+    arrows: &mut Rows,
 ) -> Result<Draft, Refused>
     requires content { draft.in_tag ≡ false }
     requires inside { 0 < length draft.tags }
@@ -162,7 +180,7 @@ fn cell_signs(
 {
     let mut draft = draft;
     for shown in marks {
-        draft = sign(draft, alloc, at, shown, upper, lower, arrows)?;
+        draft = sign(draft, alloc, at, shown, flags, arrows)?;
     }
     Ok(draft)
 }
@@ -179,9 +197,8 @@ fn signs(draft: Draft, alloc: Global, strip: &Strip<'_>) -> Result<Draft, Refuse
     ensures { IfOk result (λ new. new ≡ draft) }
 {
     let mut draft = draft;
-    let mut upper = [0u32; PROCESSOR_LIMIT];
-    let mut lower = [0u32; PROCESSOR_LIMIT];
-    let mut arrows = [0u32; PROCESSOR_LIMIT];
+    let mut flags = Rows::new();
+    let mut arrows = Rows::new();
     let mut rest = strip.marks;
     let mut column = 0usize;
     for cell in strip.cells {
@@ -190,7 +207,7 @@ fn signs(draft: Draft, alloc: Global, strip: &Strip<'_>) -> Result<Draft, Refuse
             top: strip.top,
         };
         let (marks, others) = cut(rest, cell.kept);
-        draft = cell_signs(draft, alloc, at, marks, &mut upper, &mut lower, &mut arrows)?;
+        draft = cell_signs(draft, alloc, at, marks, &mut flags, &mut arrows)?;
         rest = others;
         column = column.saturating_add(1);
     }
