@@ -90,7 +90,7 @@ fn show(shown: &mut Vec<Shown>, found: &[Mark], item: &Item, look: &Look) -> Res
     Ok(())
 }
 
-/// What is asked how far a walk has come.
+/// How far a walk has come.
 pub trait Meter {
     /// The walk has come to the event of this number.
     fn passed(&mut self, event: u64);

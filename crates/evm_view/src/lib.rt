@@ -17,7 +17,7 @@ mod terminal;
 
 pub use evm_cells::{
     Boot, Devices, Event, EventLine, InputFault, Journal, JournalFaultKind, Meter, Piece, Symbols,
-    Timeline, Walk, WalkStop, Window, gather, push_event, read_history, say,
+    Timeline, Walk, WalkStop, Window, gather, push_boot_line, push_event_line, read_history, say,
 };
 pub use svg::{Picture, drawn};
 pub use terminal::written;

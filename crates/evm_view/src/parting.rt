@@ -31,7 +31,7 @@ pub(crate) fn column_of(cells: &[Cell], event: u64) -> Option<usize> {
     }
 }
 
-/// The column in the strip of a number that has the cell of a number, of so many cells.
+/// The column of a cell in a strip, by the numbers of both; `cells` is how many cells there are. None where another strip has it.
 pub(crate) fn column_in(strip: usize, column: Option<usize>, cells: usize) -> Option<usize> {
     let column = column?;
     let from = strip.saturating_mul(STRIP);

@@ -6,13 +6,13 @@ use crate::showing::{Input, show_run};
 use crate::words::{Job, job_of, parse};
 use clap::Error;
 use clap::error::ErrorKind;
-use evm_cells::{Meter, Symbols};
 use evm_devs::AnyDevice;
 use evm_host::{
     Devices, Ending, FAILED, System, USAGE, WordsFault, World, ended, image_at, memory_refused,
     not_opened, not_read, read_all, text_at, words_not_read, write_all,
 };
 use evm_image::Image;
+use evm_view::{Meter, Symbols};
 use std::alloc::Global;
 
 // Writes help or the version.

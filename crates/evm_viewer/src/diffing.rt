@@ -5,11 +5,10 @@ use crate::drawing::ViewEnd;
 use crate::reports::{Files, PROGRAM, STANDARD_OUTPUT, stopped};
 use crate::showing::{Input, show_run};
 use crate::telling::{Names, alike_text, boots_text, parting_text};
-use evm_cells::Meter;
 use evm_devs::AnyDevice;
 use evm_host::{Devices, Ending, System, World, ended, text_at, write_all};
 use evm_room::Refused;
-use evm_timeline::{Boot, InputFault, Journal, JournalFaultKind, read_history};
+use evm_view::{Boot, InputFault, Journal, JournalFaultKind, Meter, read_history};
 use std::alloc::Global;
 
 /// The status where the journals part.

@@ -4,12 +4,12 @@ ghost use Rattle.std.specs.Prelude.{◌≡◌, OnOk};
 ghost use Rattle.evm_streams.specs.Writes.{Took};
 ghost use Rattle.evm_viewer.specs.Viewing.{IsPictured};
 
-use evm_cells::{InputFault, Meter, Timeline, Walk, WalkStop, Window, gather};
 use evm_devs::AnyDevice;
 use evm_image::Image;
 use evm_streams::{Sink, WriteFault, write_all};
-use evm_timeline::Devices;
-use evm_view::{Picture, drawn, written};
+use evm_view::{
+    Devices, InputFault, Meter, Picture, Timeline, Walk, WalkStop, Window, drawn, gather, written,
+};
 use std::alloc::Global;
 
 /// Why a run is not shown.

@@ -16,5 +16,8 @@ mod words;
 pub use command::{answer, answer_read};
 pub use comparing::{Parting, first_parting};
 pub use drawing::{ViewEnd, draw_to, timeline_of, write_to};
-pub use evm_cells::Meter;
+pub use evm_view::Meter;
 pub use program::run;
+
+#[cfg(test)]
+mod tests;

@@ -1,6 +1,6 @@
 //! How far a run has come, on a terminal.
 
-use evm_cells::Meter;
+use evm_view::Meter;
 use std::io::{IsTerminal, Write};
 use std::time::Instant;
 

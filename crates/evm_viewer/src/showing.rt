@@ -3,11 +3,10 @@
 use crate::drawing::{ViewEnd, draw_to, timeline_of, write_to};
 use crate::reports::{Files, STANDARD_OUTPUT, stopped};
 use crate::words::Job;
-use evm_cells::{Meter, Symbols, Timeline};
 use evm_devs::AnyDevice;
 use evm_host::{Devices, System, World, not_created};
 use evm_image::Image;
-use evm_view::Picture;
+use evm_view::{Meter, Picture, Symbols, Timeline};
 use std::alloc::Global;
 
 /// What is read of the files of a job.

@@ -1,10 +1,8 @@
 //! Where two journals part, in words.
 
 use crate::comparing::Parting;
-use evm_cells::{Piece, say};
-use evm_journal::{push_boot_line, push_event_line};
 use evm_room::{Refused, push_text};
-use evm_timeline::{Boot, EventLine};
+use evm_view::{Boot, EventLine, Piece, push_boot_line, push_event_line, say};
 use std::alloc::Global;
 
 /// The names of two journals.

@@ -3,7 +3,7 @@
 use crate::help::{DIFF_HELP, PROGRAM_HELP};
 use clap::builder::ValueParser;
 use clap::{Arg, ArgAction, ArgMatches, Command, Error};
-use evm_cells::Window;
+use evm_view::Window;
 use std::alloc::{AllocError, Global};
 
 /// The version that `--version` prints.
