@@ -89,7 +89,7 @@ pub(crate) fn flag_sign(
     )?;
     let x = at.x.saturating_add(2);
     let row = row_of(rows, cpu, x, name.as_str());
-    let y = y_of(at.top, cpu, FLAGS).saturating_add(row * LABEL);
+    let y = y_of(at.top, cpu, FLAGS).saturating_add(row.saturating_mul(LABEL));
     let mut points = String::new(alloc);
     push_flag(&mut points, x, y)?;
     let draft = polygon(draft, class, points.as_str(), words.as_str())?;
