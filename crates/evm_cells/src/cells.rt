@@ -5,7 +5,7 @@ ghost use Rattle.evm_cells.specs.Rows.{Halves, IsRow};
 
 use evm_model::PROCESSOR_LIMIT;
 use evm_room::{Refused, grow};
-use evm_timeline::{Event, Item, Lane, Mark, lane_of};
+use evm_timeline::{Event, Item, Lane, Mark, actor_of};
 use std::alloc::Global;
 
 /// The most cells that a timeline has.
@@ -47,6 +47,8 @@ pub struct Cell {
     pub items: u64,
     /// The first event.
     pub event: Event<u8>,
+    /// Where its instruction is, if it is a Step.
+    pub pc: Option<u64>,
     /// What was seen before its first event.
     pub lanes: Lanes,
     /// How many of its marks are kept.
@@ -77,7 +79,7 @@ fn lane_index(lane: Option<u8>) -> usize {
 
 fn shares_of(item: &Item) -> [u64; LANE_LIMIT] {
     let mut shares = [0; LANE_LIMIT];
-    if let Some(share) = shares.get_mut(lane_index(lane_of(&item.event))) {
+    if let Some(share) = shares.get_mut(lane_index(actor_of(&item.event))) {
         *share = u64::from(item.count);
     }
     shares
@@ -93,6 +95,7 @@ fn cell_of(item: &Item, lanes: &Lanes, kept: u32, dropped: u64) -> Cell
         shares: shares_of(item),
         items: 1,
         event: item.event,
+        pc: item.pc,
         lanes: *lanes,
         kept,
         dropped,
@@ -124,6 +127,7 @@ fn joined(one: &Cell, two: &Cell) -> Cell
         shares: summed(&one.shares, &two.shares),
         items: one.items.saturating_add(two.items),
         event: one.event,
+        pc: one.pc,
         lanes: one.lanes,
         kept,
         dropped: one.dropped.saturating_add(two.dropped).saturating_add(lost),

@@ -1,10 +1,13 @@
 //! A window of a journal, replayed.
 
+ghost use Rattle.std.specs.Prelude.{ℕ, IfOk};
+ghost use Rattle.evm_cells.specs.Rows.{IsRow};
+
 use crate::cells::{Lanes, Shown, Timeline};
 use evm_dev::Device;
 use evm_model::{PROCESSOR_LIMIT, Wait};
 use evm_room::{Refused, grow};
-use evm_timeline::{Item, Look, Mark, Walk, WalkStop, lane_of};
+use evm_timeline::{Item, Look, Mark, Walk, WalkStop, actor_of};
 use std::alloc::Global;
 
 /// Which events are drawn: those from the first number on, and below the last.
@@ -72,7 +75,7 @@ fn shown_of(mark: &Mark, item: &Item, look: &Look) -> Shown {
     Shown {
         mark: *mark,
         event: item.first,
-        actor: lane_of(&item.event),
+        actor: actor_of(&item.event),
         subject: subject(mark, look),
         owner: owner(mark, look),
     }
@@ -87,22 +90,48 @@ fn show(shown: &mut Vec<Shown>, found: &[Mark], item: &Item, look: &Look) -> Res
     Ok(())
 }
 
-/// The events of a window of a journal that is walked from its first event on, which come to a timeline.
+/// How far a walk has come.
+pub trait Meter {
+    /// The walk has come to the event of this number.
+    fn passed(&mut self, event: u64);
+
+    /// The walk has ended.
+    fn ended(&mut self);
+}
+
+/// How many events are skipped at a time.
+const SKIPPED: u64 = 65_536;
+
+// Skips the events before a window.
+fn skip<D: Device, M: Meter>(walk: &mut Walk<D>, from: u64, meter: &mut M) -> Result<(), WalkStop> {
+    for _ in 0..from / SKIPPED {
+        walk.skip(SKIPPED)?;
+        meter.passed(walk.next_event());
+    }
+    walk.skip(from % SKIPPED)
+}
+
+/// The events of a window of a journal that is walked from its first event on, which come to a timeline: one cell behind the other, up
+/// to the event that the walk comes to next.
 ///
 /// # Errors
 ///
 /// Why the walk stopped.
-pub fn gather<D: Device>(
+pub fn gather<D: Device, M: Meter>(
     alloc: Global,
     walk: &mut Walk<D>,
     window: Window,
-) -> Result<Timeline, WalkStop> {
-    walk.skip(window.from)?;
+    meter: &mut M,
+) -> Result<Timeline, WalkStop>
+    ensures { IfOk result (λ timeline. (from : ℕ) × IsRow from timeline.cells.items walk.new) }
+{
+    skip(walk, window.from.min(walk.event_count()), meter)?;
     let mut timeline = Timeline::new(alloc, walk.look().cpu_count);
     let mut found = Vec::new(alloc);
     let mut shown = Vec::new(alloc);
-    let mut left = window.to.saturating_sub(walk.next_event());
-    for _ in 0..left {
+    let first = walk.next_event();
+    for _event in first..window.to {
+        let left = window.to.saturating_sub(walk.next_event());
         if left == 0 {
             break;
         }
@@ -112,7 +141,7 @@ pub fn gather<D: Device>(
         };
         show(&mut shown, found.as_slice(), &item, walk.look())?;
         timeline.add(alloc, &item, &lanes, shown.as_slice())?;
-        left = left.saturating_sub(u64::from(item.count));
+        meter.passed(walk.next_event());
     }
     Ok(timeline)
 }

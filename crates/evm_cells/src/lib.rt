@@ -4,15 +4,20 @@
 mod cells;
 mod gathering;
 mod pieces;
+mod places;
 mod seen;
 mod words;
 
 pub use cells::{CELL_LIMIT, Cell, Lanes, MARK_LIMIT, Shown, Timeline};
+pub use evm_symbols::Symbols;
 pub use evm_timeline::{
     Boot, Devices, Event, EventLine, InputFault, Journal, JournalFaultKind, Mark, Walk, WalkStop,
-    read_history,
+    push_boot_line, push_event_line, read_history,
 };
-pub use gathering::{Window, gather};
+pub use gathering::{Meter, Window, gather};
 pub use pieces::{Piece, say};
 pub use seen::{is_stalled, letter, same_stage, share, task_on};
 pub use words::{push_cell, push_event, push_mark, push_shown, stage_name, wait_name};
+
+#[cfg(test)]
+mod tests;

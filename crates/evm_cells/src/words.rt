@@ -2,9 +2,11 @@
 
 use crate::cells::{Cell, Shown};
 use crate::pieces::{Piece, say};
+use crate::places::push_place;
 use Piece::{Address, Number, Text};
 use evm_model::{Fault, NoticeKind, Stage, Wait};
-use evm_room::Refused;
+use evm_room::{Refused, push_text};
+use evm_symbols::Symbols;
 use evm_timeline::{Event, Mark};
 
 /// The name of a stage.
@@ -248,8 +250,14 @@ pub fn push_shown(out: &mut String, shown: &Shown) -> Result<(), Refused> {
     push_mark(out, shown)
 }
 
-/// Appends an event as a journal writes it, with the number of its bytes in place of a poke's bytes.
-pub fn push_event(out: &mut String, event: &Event<u8>) -> Result<(), Refused> {
+// Appends a word and an address.
+fn push_at(out: &mut String, word: &str, address: u64, symbols: &Symbols) -> Result<(), Refused> {
+    push_text(out, word)?;
+    push_place(out, address, symbols)
+}
+
+/// Appends an event as a journal writes it, with the number of its bytes in place of a poke's bytes, and with symbols.
+pub fn push_event(out: &mut String, event: &Event<u8>, symbols: &Symbols) -> Result<(), Refused> {
     match *event {
         Event::Step(c) => say(out, &[Text("step "), numeral(c)]),
         Event::Tick => say(out, &[Text("tick")]),
@@ -269,27 +277,33 @@ pub fn push_event(out: &mut String, event: &Event<u8>) -> Result<(), Refused> {
                 Address(value),
             ],
         ),
-        Event::SetPc(c, pc) => say(out, &[Text("setpc "), numeral(c), Text(" "), Address(pc)]),
-        Event::Poke(address, bytes) => say(
-            out,
-            &[
-                Text("poke "),
-                Address(address),
-                Text(", "),
-                numeral(bytes),
-                Text(" bytes"),
-            ],
-        ),
-        Event::Break(address) => say(out, &[Text("break "), Address(address)]),
-        Event::Unbreak(address) => say(out, &[Text("unbreak "), Address(address)]),
+        Event::SetPc(c, pc) => {
+            say(out, &[Text("setpc "), numeral(c)])?;
+            push_at(out, " ", pc, symbols)
+        }
+        Event::Poke(address, bytes) => {
+            push_at(out, "poke ", address, symbols)?;
+            say(out, &[Text(", "), numeral(bytes), Text(" bytes")])
+        }
+        Event::Break(address) => push_at(out, "break ", address, symbols),
+        Event::Unbreak(address) => push_at(out, "unbreak ", address, symbols),
+    }
+}
+
+// The event of a cell, and where its instruction is.
+fn push_placed(out: &mut String, cell: &Cell, symbols: &Symbols) -> Result<(), Refused> {
+    push_event(out, &cell.event, symbols)?;
+    match cell.pc {
+        None => Ok(()),
+        Some(pc) => push_at(out, " at ", pc, symbols),
     }
 }
 
 /// Appends what a cell holds.
-pub fn push_cell(out: &mut String, cell: &Cell) -> Result<(), Refused> {
+pub fn push_cell(out: &mut String, cell: &Cell, symbols: &Symbols) -> Result<(), Refused> {
     if cell.count <= 1 {
         say(out, &[Text("event "), Number(cell.first), Text(": ")])?;
-        return push_event(out, &cell.event);
+        return push_placed(out, cell, symbols);
     }
     let last = cell.first.saturating_add(cell.count.saturating_sub(1));
     let pieces = [
@@ -303,13 +317,13 @@ pub fn push_cell(out: &mut String, cell: &Cell) -> Result<(), Refused> {
     if cell.items > 1 {
         return say(out, &[Number(cell.count), Text(" events")]);
     }
-    push_event(out, &cell.event)?;
+    push_placed(out, cell, symbols)?;
     say(
         out,
         &[
             Text(", "),
             Number(cell.count),
-            Text(" times; only registers and RAM change"),
+            Text(" steps that change only registers and RAM"),
         ],
     )
 }

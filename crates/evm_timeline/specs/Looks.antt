@@ -42,19 +42,19 @@ abbrev pub lines_at : Parts → ℕ → List Counts
 lines_at k c = below (λ l. option_to_list (counts_at c l k)) LINES
 
 -- ---- a task and a mutex
-abbrev pub rank_of : Option Task → ℕ → Parts → Option ℕ
-rank_of None t k = None
-rank_of (Some task) t k = Some (rank k.mutexes k.tasks t)
+abbrev pub rank_seen : Option Task → ℕ → Parts → Option ℕ
+rank_seen None t k = None
+rank_seen (Some task) t k = Some (rank k.mutexes k.tasks t)
 
 abbrev pub rank_at : Parts → ℕ → Option ℕ
-rank_at k t = rank_of (slice_get k.tasks t) t k
+rank_at k t = rank_seen (slice_get k.tasks t) t k
 
-abbrev pub owner_of : Option Mutex → Option (Option ℕ)
-owner_of None = None
-owner_of (Some mutex) = Some mutex.owner
+abbrev pub owner_seen : Option Mutex → Option (Option ℕ)
+owner_seen None = None
+owner_seen (Some mutex) = Some mutex.owner
 
 abbrev pub owner_at : Parts → ℕ → Option (Option ℕ)
-owner_at k m = owner_of (slice_get k.mutexes m)
+owner_at k m = owner_seen (slice_get k.mutexes m)
 
 -- ---- the machine
 abbrev pub last_notice : List Notice → Option Notice

@@ -77,16 +77,16 @@ processor_marks before after c =
     lane_marks c (slice_get before.lanes.items c) (slice_get after.lanes.items c) ++ lines_marks c before.counts.items after.counts.items
 
 -- ---- a task
-abbrev pub same_wait : Wait → Wait → Bool
-same_wait (waits.Line l) (waits.Line m) = l == m
-same_wait (waits.Lock m) (waits.Lock n) = m == n
-same_wait (waits.Reacquire m x) (waits.Reacquire n y) = m == n && x == y
-same_wait (waits.Semaphore s) (waits.Semaphore r) = s == r
-same_wait (waits.Event e) (waits.Event d) = e == d
-same_wait (waits.Flags f) (waits.Flags g) = f == g
-same_wait waits.Sleep waits.Sleep = true
-same_wait (waits.Timer n) (waits.Timer m) = n == m
-same_wait _ _ = false
+abbrev pub equal_waits : Wait → Wait → Bool
+equal_waits (waits.Line l) (waits.Line m) = l == m
+equal_waits (waits.Lock m) (waits.Lock n) = m == n
+equal_waits (waits.Reacquire m x) (waits.Reacquire n y) = m == n && x == y
+equal_waits (waits.Semaphore s) (waits.Semaphore r) = s == r
+equal_waits (waits.Event e) (waits.Event d) = e == d
+equal_waits (waits.Flags f) (waits.Flags g) = f == g
+equal_waits waits.Sleep waits.Sleep = true
+equal_waits (waits.Timer n) (waits.Timer m) = n == m
+equal_waits _ _ = false
 
 abbrev pub wait_of : TaskState → Option Wait
 wait_of (states.Waits wait) = Some wait
@@ -94,7 +94,7 @@ wait_of _ = None
 
 abbrev pub is_wait : Wait → Option Wait → Bool
 is_wait wait None = false
-is_wait wait (Some other) = same_wait wait other
+is_wait wait (Some other) = equal_waits wait other
 
 -- the task waits for this, and did not before
 abbrev pub waits_marks : ℕ → Option Wait → Option Wait → List Mark
@@ -115,11 +115,11 @@ wait_stage (waits.Line l) = InBand
 wait_stage _ = OutOfBand
 
 -- the stage on which a task is that hasn't ended
-abbrev pub stage_of : TaskState → Option Stage
-stage_of states.InReady = Some InBand
-stage_of states.OobReady = Some OutOfBand
-stage_of (states.Waits wait) = Some (wait_stage wait)
-stage_of _ = None
+abbrev pub task_stage : TaskState → Option Stage
+task_stage states.InReady = Some InBand
+task_stage states.OobReady = Some OutOfBand
+task_stage (states.Waits wait) = Some (wait_stage wait)
+task_stage _ = None
 
 -- it is on a stage, and was on the other
 abbrev pub moves_marks : ℕ → Option Stage → Option Stage → List Mark
@@ -141,7 +141,7 @@ abbrev pub change_marks : ℕ → ℕ → Task → Task → List Mark
 change_marks t ticks before after =
     woken_marks t (wait_of before.state) (wait_of after.state)
     ++ deadline_marks t ticks before.deadline after.deadline
-    ++ moves_marks t (stage_of before.state) (stage_of after.state)
+    ++ moves_marks t (task_stage before.state) (task_stage after.state)
     ++ waits_marks t (wait_of before.state) (wait_of after.state)
     ++ end_marks t before.state after.state
 

@@ -12,7 +12,8 @@ mod walk;
 pub use evm_diagnostics::{
     Boot, Devices, Event, EventLine, InputFault, Journal, JournalFaultKind, Machine, read_history,
 };
-pub use item::{Item, lane_of, outline};
+pub use evm_journal::{push_boot_line, push_event_line};
+pub use item::{Item, actor_of, outline};
 pub use look::{Lane, Look, Running};
 pub use mark::Mark;
 pub use marking::marks;

@@ -41,9 +41,10 @@ fn is_quiet_hart<D: Device>(machine: &Machine<D>, hart: &Hart) -> bool {
     }
 }
 
+// Whether an instruction of the task is quiet; where there is none, nothing is done.
 fn is_quiet_task<D: Device>(machine: &Machine<D>, current: Option<u8>) -> bool {
     let Some(task) = current else {
-        return false;
+        return true;
     };
     match machine.hart(task) {
         None => false,
@@ -58,8 +59,8 @@ fn is_clear<D: Device>(machine: &Machine<D>, c: u8) -> bool {
     }
 }
 
-/// Whether the next Step of a processor changes only registers and RAM: it isn't stopped, passes no breakpoint, has no line on its
-/// wire, and its task's instruction is no call, no fault and no access outside RAM.
+/// Whether the next Step of a processor changes only registers and RAM, or nothing: it isn't stopped, passes no breakpoint, has no
+/// line on its wire, and its task's instruction is no call, no fault and no access outside RAM, or it has no task.
 pub(crate) fn is_quiet<D: Device>(machine: &Machine<D>, c: u8) -> bool {
     match machine.cpu(c) {
         None => false,

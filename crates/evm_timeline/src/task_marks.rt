@@ -2,7 +2,7 @@
 
 ghost use Rattle.std.specs.Prelude.{◌≡◌, ◌++◌, OnOk, slice_get};
 ghost use Rattle.evm_timeline.specs.Lists.{below};
-ghost use Rattle.evm_timeline.specs.Marks.{change_marks, deadline_marks, end_marks, has_ended, is_wait, moves_marks, one_task_marks, rank_marks, same_wait, stage_of, task_marks, wait_of, wait_stage, waits_marks, woken_marks};
+ghost use Rattle.evm_timeline.specs.Marks.{change_marks, deadline_marks, end_marks, has_ended, is_wait, moves_marks, one_task_marks, rank_marks, equal_waits, task_stage, task_marks, wait_of, wait_stage, waits_marks, woken_marks};
 
 use crate::look::Look;
 use crate::mark::Mark;
@@ -11,8 +11,8 @@ use evm_model::{Stage, Task, TaskState, Wait};
 use evm_room::Refused;
 
 // Whether a wait is this one.
-fn same_wait(one: Wait, two: Wait) -> bool
-    ensures { result ≡ same_wait one two }
+fn equal_waits(one: Wait, two: Wait) -> bool
+    ensures { result ≡ equal_waits one two }
 {
     match (one, two) {
         (Wait::Line(a), Wait::Line(b))
@@ -51,7 +51,7 @@ fn is_wait(wait: Wait, other: Option<Wait>) -> bool
 {
     match other {
         None => false,
-        Some(other) => same_wait(wait, other),
+        Some(other) => equal_waits(wait, other),
     }
 }
 
@@ -66,8 +66,8 @@ fn wait_stage(wait: Wait) -> Stage
 }
 
 // The stage of a task that hasn't ended.
-fn stage_of(state: TaskState) -> Option<Stage>
-    ensures { result ≡ stage_of state }
+fn task_stage(state: TaskState) -> Option<Stage>
+    ensures { result ≡ task_stage state }
 {
     match state {
         TaskState::InReady => Some(Stage::InBand),
@@ -181,7 +181,12 @@ fn push_changes(
 {
     push_woken(marks, task, wait_of(before.state), wait_of(after.state))?;
     push_deadline(marks, task, ticks, before.deadline, after.deadline)?;
-    push_moves(marks, task, stage_of(before.state), stage_of(after.state))?;
+    push_moves(
+        marks,
+        task,
+        task_stage(before.state),
+        task_stage(after.state),
+    )?;
     push_wait(marks, task, wait_of(before.state), wait_of(after.state))?;
     push_end(marks, task, before.state, after.state)
 }

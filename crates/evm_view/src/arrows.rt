@@ -2,36 +2,20 @@
 
 ghost use Rattle.std.specs.Prelude.{◌≡◌, ◌<◌, false, IfOk, length};
 
-use crate::layout::{ARROWS, OUT_OF_BAND, label_width, y_of};
+use crate::layout::{ARROWS, BAND, LABEL, OUT_OF_BAND, y_of};
 use crate::lines::{Place, push_point, words_of};
+use crate::room::{Rows, takes_room};
 use crate::shapes::{label, polygon, shape};
 use evm_cells::{Mark, Piece, Shown, say, wait_name};
-use evm_model::{PROCESSOR_LIMIT, Wait};
+use evm_model::Wait;
 use evm_room::Refused;
 use evm_xml::{Draft, Key, Tag};
 use std::alloc::Global;
 
-/// From where on there is room for labels, on each processor's lane.
-pub(crate) type Free = [u32; PROCESSOR_LIMIT];
-
-/// Whether a label has room there; then it has no more.
-pub(crate) fn takes_room(free: &mut Free, cpu: u8, x: u32, text: &str) -> bool {
-    match free.get_mut(usize::from(cpu)) {
-        None => false,
-        Some(from) => {
-            if x < *from {
-                return false;
-            }
-            *from = x.saturating_add(label_width(text)).saturating_add(12);
-            true
-        }
-    }
-}
-
-/// A label, where there is room for it.
-pub(crate) fn label_if_room(
+/// A label at a point of the lower row, or of the upper one, where there is room for it.
+fn label_if_room(
     draft: Draft,
-    free: &mut Free,
+    rows: &mut Rows,
     cpu: u8,
     class: &str,
     at: (u32, u32),
@@ -41,11 +25,13 @@ pub(crate) fn label_if_room(
     requires inside { 0 < length draft.tags }
     ensures { IfOk result (λ new. new ≡ draft) }
 {
-    if takes_room(free, cpu, at.0, text) {
-        label(draft, class, at.0, at.1, text)
-    } else {
-        Ok(draft)
+    if takes_room(&mut rows.lower, cpu, at.0, text) {
+        return label(draft, class, at.0, at.1.saturating_add(LABEL), text);
     }
+    if takes_room(&mut rows.upper, cpu, at.0, text) {
+        return label(draft, class, at.0, at.1, text);
+    }
+    Ok(draft)
 }
 
 // The short name of what is waited for.
@@ -112,8 +98,8 @@ fn label_x(x: u32, shown: &Shown, cpu: u8) -> u32 {
     }
 }
 
-// The point of an arrow, which ends at `to`.
-fn push_head(out: &mut String, x: u32, from: u32, to: u32) -> Result<(), Refused> {
+/// Appends the points of the head of an arrow, which ends at `to`.
+pub(crate) fn push_head(out: &mut String, x: u32, from: u32, to: u32) -> Result<(), Refused> {
     let back = if from < to {
         to.saturating_sub(5)
     } else {
@@ -152,7 +138,7 @@ fn arrow(
 // where its event is of another.
 fn ends(at: Place, shown: &Shown, cpu: u8) -> (u32, u32) {
     let row = y_of(at.top, cpu, OUT_OF_BAND).saturating_add(3);
-    let band = y_of(at.top, cpu, ARROWS).saturating_add(3);
+    let band = y_of(at.top, cpu, BAND);
     if let Mark::Waits { .. } = shown.mark {
         return (row, band);
     }
@@ -168,7 +154,7 @@ pub(crate) fn arrow_sign(
     alloc: Global,
     at: Place,
     shown: &Shown,
-    free: &mut Free,
+    rows: &mut Rows,
 ) -> Result<Draft, Refused>
     requires content { draft.in_tag ≡ false }
     requires inside { 0 < length draft.tags }
@@ -185,7 +171,7 @@ pub(crate) fn arrow_sign(
     let y = y_of(at.top, cpu, ARROWS);
     label_if_room(
         draft,
-        free,
+        rows,
         cpu,
         class,
         (label_x(x, shown, cpu), y),

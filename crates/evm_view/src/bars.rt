@@ -133,8 +133,23 @@ fn bar(
     };
     let words = bar_words(alloc, row, task, first, last)?;
     let at = span_sides(row, column, cells.len());
-    let draft = shape(draft, Tag::Rectangle, task_class(task), &at, words.as_str())?;
-    let width = CELL.saturating_mul(u32::try_from(cells.len()).unwrap_or(u32::MAX));
+    shape(draft, Tag::Rectangle, task_class(task), &at, words.as_str())
+}
+
+// The name of a task on its bar, of so many cells.
+fn named(
+    draft: Draft,
+    alloc: Global,
+    row: &Row,
+    column: usize,
+    count: usize,
+    task: u8,
+) -> Result<Draft, Refused>
+    requires content { draft.in_tag ≡ false }
+    requires inside { 0 < length draft.tags }
+    ensures { IfOk result (λ new. new ≡ draft) }
+{
+    let width = CELL.saturating_mul(u32::try_from(count).unwrap_or(u32::MAX));
     let name = bar_name(alloc, task, width)?;
     let x = x_of(column).saturating_add(4);
     let y = y_of(row.top, row.cpu, row.part).saturating_add(13);
@@ -246,6 +261,50 @@ fn task_bar(
             bar(draft, alloc, row, column, front(cells, count), task)
         }
     }
+}
+
+// The name of a task whose run begins in the first of the cells.
+fn task_name(
+    draft: Draft,
+    alloc: Global,
+    row: &Row,
+    column: usize,
+    cells: &[Cell],
+) -> Result<Draft, Refused>
+    requires content { draft.in_tag ≡ false }
+    requires inside { 0 < length draft.tags }
+    ensures { IfOk result (λ new. new ≡ draft) }
+{
+    let Some(cell) = cells.first() else {
+        return Ok(draft);
+    };
+    match task_on(cell, row.cpu, row.stage) {
+        None => Ok(draft),
+        Some(task) => {
+            let count = task_run(cells, row, Some(task));
+            named(draft, alloc, row, column, count, task)
+        }
+    }
+}
+
+/// The names of the tasks of a row, on their bars.
+pub(crate) fn bar_names(
+    draft: Draft,
+    alloc: Global,
+    row: &Row,
+    cells: &[Cell],
+) -> Result<Draft, Refused>
+    requires content { draft.in_tag ≡ false }
+    requires inside { 0 < length draft.tags }
+    ensures { IfOk result (λ new. new ≡ draft) }
+{
+    let mut draft = draft;
+    for i in 0..cells.len() {
+        if changes_task(cells, row, i) {
+            draft = task_name(draft, alloc, row, i, &cells[i..])?;
+        }
+    }
+    Ok(draft)
 }
 
 /// The bars of the tasks of a row.

@@ -4,7 +4,7 @@ ghost use Rattle.std.specs.Prelude.{◌≡◌, ◌<◌, false, IfOk, length};
 
 use crate::layout::{EVENTS, x_of, y_of};
 use crate::shapes::{label, shape};
-use evm_cells::{Cell, Event, Piece, letter, push_cell, say, share};
+use evm_cells::{Cell, Event, Piece, Symbols, letter, push_cell, say, share};
 use evm_model::PROCESSOR_LIMIT;
 use evm_room::Refused;
 use evm_xml::{Draft, Key, Tag};
@@ -34,8 +34,14 @@ fn push_sign(out: &mut String, cell: &Cell, share: u64) -> Result<(), Refused> {
     say(out, &[Piece::Text("..")])
 }
 
-fn push_share(out: &mut String, cell: &Cell, lane: usize, share: u64) -> Result<(), Refused> {
-    push_cell(out, cell)?;
+fn push_share(
+    out: &mut String,
+    symbols: &Symbols,
+    cell: &Cell,
+    lane: usize,
+    share: u64,
+) -> Result<(), Refused> {
+    push_cell(out, cell, symbols)?;
     if cell.items <= 1 {
         return Ok(());
     }
@@ -63,6 +69,7 @@ fn push_share(out: &mut String, cell: &Cell, lane: usize, share: u64) -> Result<
 fn boxed(
     draft: Draft,
     alloc: Global,
+    symbols: &Symbols,
     cell: &Cell,
     lane: usize,
     x: u32,
@@ -83,7 +90,7 @@ fn boxed(
         (Key::Height, 13),
     ];
     let mut words = String::new(alloc);
-    push_share(&mut words, cell, lane, share)?;
+    push_share(&mut words, symbols, cell, lane, share)?;
     let draft = shape(
         draft,
         Tag::Rectangle,
@@ -101,6 +108,7 @@ fn boxed(
 pub(crate) fn boxes(
     draft: Draft,
     alloc: Global,
+    symbols: &Symbols,
     cpu: u8,
     top: u32,
     cells: &[Cell],
@@ -113,7 +121,15 @@ pub(crate) fn boxes(
     let mut column = 0usize;
     let y = y_of(top, cpu, EVENTS);
     for cell in cells {
-        draft = boxed(draft, alloc, cell, usize::from(cpu), x_of(column), y)?;
+        draft = boxed(
+            draft,
+            alloc,
+            symbols,
+            cell,
+            usize::from(cpu),
+            x_of(column),
+            y,
+        )?;
         column = column.saturating_add(1);
     }
     Ok(draft)
@@ -123,6 +139,7 @@ pub(crate) fn boxes(
 pub(crate) fn machine_boxes(
     draft: Draft,
     alloc: Global,
+    symbols: &Symbols,
     top: u32,
     cells: &[Cell],
 ) -> Result<Draft, Refused>
@@ -134,7 +151,15 @@ pub(crate) fn machine_boxes(
     let mut column = 0usize;
     let y = top.saturating_add(22);
     for cell in cells {
-        draft = boxed(draft, alloc, cell, PROCESSOR_LIMIT, x_of(column), y)?;
+        draft = boxed(
+            draft,
+            alloc,
+            symbols,
+            cell,
+            PROCESSOR_LIMIT,
+            x_of(column),
+            y,
+        )?;
         column = column.saturating_add(1);
     }
     Ok(draft)

@@ -2,9 +2,9 @@
 
 ghost use Rattle.std.specs.Prelude.{◌≡◌, ◌<◌, false, IfOk, length};
 
-use crate::arrows::{Free, takes_room};
-use crate::layout::{FLAGS, y_of};
+use crate::layout::{FLAGS, LABEL, y_of};
 use crate::lines::{Place, push_point, words_of};
+use crate::room::{Rows, takes_room};
 use crate::shapes::{label, polygon};
 use evm_cells::{Mark, Piece, Shown, say};
 use evm_model::{Stage, Wait};
@@ -43,15 +43,22 @@ fn is_alarm(mark: &Mark) -> bool {
     }
 }
 
-// The row of flags that has room for a flag and its label: the upper one, or the lower one.
-fn row_of(upper: &mut Free, lower: &mut Free, cpu: u8, x: u32, text: &str) -> Option<u8> {
-    if takes_room(upper, cpu, x, text) {
-        return Some(0);
+// The row of flags that has room for a flag and its label: the first, or the second; the third has flags without labels.
+fn row_of(rows: &mut Rows, cpu: u8, x: u32, text: &str) -> u32 {
+    if takes_room(&mut rows.upper, cpu, x, text) {
+        return 0;
     }
-    if takes_room(lower, cpu, x, text) {
-        return Some(1);
+    if takes_room(&mut rows.lower, cpu, x, text) {
+        return 1;
     }
-    None
+    2
+}
+
+/// Appends the points of a flag.
+pub(crate) fn push_flag(out: &mut String, x: u32, y: u32) -> Result<(), Refused> {
+    push_point(out, x, y.saturating_sub(8))?;
+    push_point(out, x.saturating_add(7), y.saturating_sub(4))?;
+    push_point(out, x, y)
 }
 
 /// The flag of a mark, if it has one.
@@ -60,8 +67,7 @@ pub(crate) fn flag_sign(
     alloc: Global,
     at: Place,
     shown: &Shown,
-    upper: &mut Free,
-    lower: &mut Free,
+    rows: &mut Rows,
 ) -> Result<Draft, Refused>
     requires content { draft.in_tag ≡ false }
     requires inside { 0 < length draft.tags }
@@ -82,15 +88,14 @@ pub(crate) fn flag_sign(
         &[Piece::Text(word), Piece::Number(u64::from(task))],
     )?;
     let x = at.x.saturating_add(2);
-    let row = row_of(upper, lower, cpu, x, name.as_str());
-    let y = y_of(at.top, cpu, FLAGS).saturating_add(if row == Some(1) { 11 } else { 0 });
+    let row = row_of(rows, cpu, x, name.as_str());
+    let y = y_of(at.top, cpu, FLAGS).saturating_add(row.saturating_mul(LABEL));
     let mut points = String::new(alloc);
-    push_point(&mut points, x, y.saturating_sub(8))?;
-    push_point(&mut points, x.saturating_add(7), y.saturating_sub(4))?;
-    push_point(&mut points, x, y)?;
+    push_flag(&mut points, x, y)?;
     let draft = polygon(draft, class, points.as_str(), words.as_str())?;
-    match row {
-        None => Ok(draft),
-        Some(_) => label(draft, class, x.saturating_add(9), y, name.as_str()),
+    if row < 2 {
+        label(draft, class, x.saturating_add(9), y, name.as_str())
+    } else {
+        Ok(draft)
     }
 }

@@ -13,7 +13,7 @@ pub(crate) const LEFT: u32 = 104;
 pub(crate) const TOP: u32 = 44;
 
 /// The height of a lane of a processor.
-pub(crate) const LANE: u32 = 134;
+pub(crate) const LANE: u32 = 166;
 
 /// The height of the ruler and the lane of the machine.
 pub(crate) const HEAD: u32 = 44;
@@ -30,18 +30,25 @@ const CHARACTER: u32 = 6;
 /// The height of a row of tasks.
 pub(crate) const ROW: u32 = 18;
 
-/// Where in a lane its parts begin.
+/// Where in a lane its parts begin: three rows of flags, two of the labels of arrows, both stages, raises, receives and events.
 pub(crate) const FLAGS: u32 = 11;
 
-pub(crate) const ARROWS: u32 = 36;
+pub(crate) const ARROWS: u32 = 44;
 
-pub(crate) const OUT_OF_BAND: u32 = 54;
+pub(crate) const BAND: u32 = 57;
 
-pub(crate) const IN_BAND: u32 = 74;
+pub(crate) const OUT_OF_BAND: u32 = 72;
 
-pub(crate) const LINES: u32 = 94;
+pub(crate) const IN_BAND: u32 = 92;
 
-pub(crate) const EVENTS: u32 = 111;
+pub(crate) const RAISED: u32 = 112;
+
+pub(crate) const RECEIVED: u32 = 126;
+
+pub(crate) const EVENTS: u32 = 143;
+
+/// The height of a row of labels.
+pub(crate) const LABEL: u32 = 11;
 
 /// Where the cell of a number in its strip begins.
 pub(crate) fn x_of(column: usize) -> u32 {

@@ -2,6 +2,8 @@
 
 ghost use Rattle.std.specs.Prelude.{◌≡◌, ◌<◌, false, IfOk, length};
 
+use crate::arrows::push_head;
+use crate::flags::push_flag;
 use crate::lines::push_point;
 use crate::shapes::{label, plain};
 use evm_room::Refused;
@@ -35,6 +37,18 @@ fn block(draft: Draft, class: &str, x: u32, y: u32) -> Result<Draft, Refused>
     plain(draft, Tag::Rectangle, class, &sides)
 }
 
+fn points_of(draft: Draft, class: &str, points: &str) -> Result<Draft, Refused>
+    requires content { draft.in_tag ≡ false }
+    requires inside { 0 < length draft.tags }
+    ensures { IfOk result (λ new. new ≡ draft) }
+{
+    draft
+        .open(Tag::Polygon)?
+        .attribute(Key::Class, class)?
+        .attribute(Key::Points, points)?
+        .end()
+}
+
 fn triangle(draft: Draft, alloc: Global, class: &str, x: u32, y: u32) -> Result<Draft, Refused>
     requires content { draft.in_tag ≡ false }
     requires inside { 0 < length draft.tags }
@@ -44,11 +58,38 @@ fn triangle(draft: Draft, alloc: Global, class: &str, x: u32, y: u32) -> Result<
     push_point(&mut points, x.saturating_add(1), y)?;
     push_point(&mut points, x.saturating_add(5), y.saturating_sub(8))?;
     push_point(&mut points, x.saturating_add(9), y)?;
-    draft
-        .open(Tag::Polygon)?
-        .attribute(Key::Class, class)?
-        .attribute(Key::Points, points.as_str())?
-        .end()
+    points_of(draft, class, points.as_str())
+}
+
+// An arrow that ends above, or below.
+fn arrow(
+    draft: Draft,
+    alloc: Global,
+    class: &str,
+    x: u32,
+    from: u32,
+    to: u32,
+) -> Result<Draft, Refused>
+    requires content { draft.in_tag ≡ false }
+    requires inside { 0 < length draft.tags }
+    ensures { IfOk result (λ new. new ≡ draft) }
+{
+    let x = x.saturating_add(6);
+    let sides = [(Key::X1, x), (Key::Y1, from), (Key::X2, x), (Key::Y2, to)];
+    let draft = plain(draft, Tag::Line, class, &sides)?;
+    let mut points = String::new(alloc);
+    push_head(&mut points, x, from, to)?;
+    points_of(draft, class, points.as_str())
+}
+
+fn flag(draft: Draft, alloc: Global, class: &str, x: u32, y: u32) -> Result<Draft, Refused>
+    requires content { draft.in_tag ≡ false }
+    requires inside { 0 < length draft.tags }
+    ensures { IfOk result (λ new. new ≡ draft) }
+{
+    let mut points = String::new(alloc);
+    push_flag(&mut points, x.saturating_add(3), y)?;
+    points_of(draft, class, points.as_str())
 }
 
 // What a sign looks like.
@@ -57,6 +98,9 @@ enum Look {
     Block,
     Disc,
     Triangle,
+    Up,
+    Down,
+    Flag,
 }
 
 #[derive(Clone, Copy)]
@@ -75,6 +119,23 @@ fn draw_sign(draft: Draft, alloc: Global, sign: &Sign, x: u32, y: u32) -> Result
         Look::Block => block(draft, sign.class, x, y)?,
         Look::Disc => disc(draft, sign.class, x, y)?,
         Look::Triangle => triangle(draft, alloc, sign.class, x, y)?,
+        Look::Up => arrow(
+            draft,
+            alloc,
+            sign.class,
+            x,
+            y.saturating_add(2),
+            y.saturating_sub(10),
+        )?,
+        Look::Down => arrow(
+            draft,
+            alloc,
+            sign.class,
+            x,
+            y.saturating_sub(10),
+            y.saturating_add(2),
+        )?,
+        Look::Flag => flag(draft, alloc, sign.class, x, y)?,
     };
     label(draft, "d", x.saturating_add(20), y, sign.words)
 }
@@ -106,32 +167,32 @@ const SIGNS: [Sign; 15] = [
         words: "a line is played",
     },
     Sign {
-        look: Look::Triangle,
+        look: Look::Up,
         class: "wait",
         words: "task:object, waits",
     },
     Sign {
-        look: Look::Triangle,
+        look: Look::Down,
         class: "wake",
-        words: "a task wakes",
+        words: "this task wakes",
     },
     Sign {
-        look: Look::Triangle,
+        look: Look::Down,
         class: "boost",
         words: "task=rank, boosted",
     },
     Sign {
-        look: Look::Triangle,
+        look: Look::Down,
         class: "fall",
         words: "task=rank, falls",
     },
     Sign {
-        look: Look::Triangle,
+        look: Look::Flag,
         class: "flag",
         words: "new, end, oob, in, timer",
     },
     Sign {
-        look: Look::Triangle,
+        look: Look::Flag,
         class: "alarm",
         words: "deadline, notice, fault",
     },

@@ -8,14 +8,16 @@ mod flags;
 mod layout;
 mod legend;
 mod lines;
+mod parting;
+mod room;
 mod shapes;
 mod style;
 mod svg;
 mod terminal;
 
 pub use evm_cells::{
-    Boot, Devices, Event, EventLine, InputFault, Journal, JournalFaultKind, Piece, Timeline, Walk,
-    WalkStop, Window, gather, read_history, say,
+    Boot, Devices, Event, EventLine, InputFault, Journal, JournalFaultKind, Meter, Piece, Symbols,
+    Timeline, Walk, WalkStop, Window, gather, push_boot_line, push_event_line, read_history, say,
 };
-pub use svg::drawn;
+pub use svg::{Picture, drawn};
 pub use terminal::written;

@@ -2,7 +2,7 @@
 
 ghost use Rattle.std.specs.Prelude.{◌≡◌, ◌<◌, false, IfOk, length};
 
-use crate::layout::{IN_BAND, LINES, OUT_OF_BAND, ROW, y_of};
+use crate::layout::{IN_BAND, OUT_OF_BAND, RAISED, RECEIVED, ROW, y_of};
 use crate::shapes::{label, polygon, shape};
 use evm_cells::{Mark, Piece, Shown, push_shown, say};
 use evm_model::Stage;
@@ -58,7 +58,7 @@ fn raise(
     requires inside { 0 < length draft.tags }
     ensures { IfOk result (λ new. new ≡ draft) }
 {
-    let y = y_of(at.top, cpu, LINES);
+    let y = y_of(at.top, cpu, RAISED);
     let mut points = String::new(alloc);
     push_point(&mut points, at.x.saturating_add(1), y.saturating_add(12))?;
     push_point(&mut points, at.x.saturating_add(5), y.saturating_add(4))?;
@@ -74,17 +74,32 @@ fn raise(
 }
 
 // A ring, for a receive.
-fn receive(draft: Draft, at: Place, cpu: u8, words: &str) -> Result<Draft, Refused>
+fn receive(
+    draft: Draft,
+    alloc: Global,
+    at: Place,
+    cpu: u8,
+    line: u8,
+    words: &str,
+) -> Result<Draft, Refused>
     requires content { draft.in_tag ≡ false }
     requires inside { 0 < length draft.tags }
     ensures { IfOk result (λ new. new ≡ draft) }
 {
+    let y = y_of(at.top, cpu, RECEIVED);
     let sides = [
-        (Key::CenterX, at.x.saturating_add(8)),
-        (Key::CenterY, y_of(at.top, cpu, LINES).saturating_add(8)),
+        (Key::CenterX, at.x.saturating_add(5)),
+        (Key::CenterY, y.saturating_add(8)),
         (Key::Radius, 4),
     ];
-    shape(draft, Tag::Circle, "receive", &sides, words)
+    let draft = shape(draft, Tag::Circle, "receive", &sides, words)?;
+    line_label(
+        draft,
+        alloc,
+        line,
+        at.x.saturating_add(10),
+        y.saturating_add(12),
+    )
 }
 
 // A disc on the row of the stage, for a play.
@@ -120,7 +135,7 @@ pub(crate) fn line_sign(
     let words = words_of(alloc, shown)?;
     match shown.mark {
         Mark::Raised { cpu, line, .. } => raise(draft, alloc, at, cpu, line, words.as_str()),
-        Mark::Received { cpu, .. } => receive(draft, at, cpu, words.as_str()),
+        Mark::Received { cpu, line, .. } => receive(draft, alloc, at, cpu, line, words.as_str()),
         Mark::Played { cpu, stage, .. } => play(draft, at, cpu, stage, words.as_str()),
         _ => Ok(draft),
     }

@@ -3,19 +3,22 @@
 ghost use Rattle.std.specs.Prelude.{◌≡◌, ◌<◌, ◌∷◌, [], false, IfOk, length};
 ghost use Rattle.evm_xml.specs.Xml.{IsElement};
 
-use crate::arrows::{Free, arrow_sign};
-use crate::bars::{Row, bars, stalls};
+use crate::arrows::arrow_sign;
+use crate::bars::{Row, bar_names, bars, stalls};
 use crate::events::{boxes, machine_boxes};
 use crate::flags::flag_sign;
 use crate::layout::{
-    CELL, IN_BAND, LEFT, LEGEND, OUT_OF_BAND, ROW, STRIP, strip_count, strip_top, width, x_of, y_of,
+    CELL, EVENTS, IN_BAND, LEFT, LEGEND, OUT_OF_BAND, RAISED, RECEIVED, ROW, STRIP, strip_count,
+    strip_top, width, x_of, y_of,
 };
 use crate::legend::legend;
 use crate::lines::{Place, line_sign};
+use crate::parting::{column_in, column_of, parting_sign};
+use crate::room::Rows;
 use crate::shapes::{label, plain};
 use crate::style::STYLE;
-use evm_cells::{Cell, Piece, Shown, Timeline, say, stage_name};
-use evm_model::{PROCESSOR_LIMIT, Stage};
+use evm_cells::{Cell, Piece, Shown, Symbols, Timeline, say, stage_name};
+use evm_model::Stage;
 use evm_room::Refused;
 use evm_xml::{Draft, Key, Tag, finished};
 use std::alloc::Global;
@@ -25,8 +28,11 @@ use std::alloc::Global;
 struct Strip<'a> {
     cells: &'a [Cell],
     marks: &'a [Shown],
+    symbols: &'a Symbols,
     top: u32,
     cpu_count: u8,
+    // the column and the event where two journals part
+    parts: Option<(usize, u64)>,
 }
 
 fn cpu_name(alloc: Global, cpu: u8) -> Result<String, Refused> {
@@ -70,7 +76,24 @@ fn draw_row(draft: Draft, alloc: Global, row: &Row, cells: &[Cell]) -> Result<Dr
     let draft = plain(draft, Tag::Rectangle, "row", &sides)?;
     let draft = label(draft, "d", 30, y.saturating_add(13), stage_name(row.stage))?;
     let draft = bars(draft, alloc, row, cells)?;
-    stalls(draft, alloc, row, cells)
+    let draft = stalls(draft, alloc, row, cells)?;
+    bar_names(draft, alloc, row, cells)
+}
+
+// The name of a row of a lane, beside it.
+fn row_name(
+    draft: Draft,
+    strip: &Strip<'_>,
+    cpu: u8,
+    part: u32,
+    name: &str,
+) -> Result<Draft, Refused>
+    requires content { draft.in_tag ≡ false }
+    requires inside { 0 < length draft.tags }
+    ensures { IfOk result (λ new. new ≡ draft) }
+{
+    let y = y_of(strip.top, cpu, part).saturating_add(11);
+    label(draft, "d", 30, y, name)
 }
 
 fn lane(draft: Draft, alloc: Global, strip: &Strip<'_>, cpu: u8) -> Result<Draft, Refused>
@@ -79,14 +102,15 @@ fn lane(draft: Draft, alloc: Global, strip: &Strip<'_>, cpu: u8) -> Result<Draft
     ensures { IfOk result (λ new. new ≡ draft) }
 {
     let name = cpu_name(alloc, cpu)?;
-    let y = y_of(strip.top, cpu, 42);
+    let y = y_of(strip.top, cpu, 60);
     let mut draft = label(draft, "b", 8, y, name.as_str())?;
     for one in &rows_of(strip.top, cpu) {
         draft = draw_row(draft, alloc, one, strip.cells)?;
     }
-    let draft = label(draft, "d", 30, y_of(strip.top, cpu, 106), "lines")?;
-    let draft = label(draft, "d", 30, y_of(strip.top, cpu, 121), "events")?;
-    boxes(draft, alloc, cpu, strip.top, strip.cells)
+    let draft = row_name(draft, strip, cpu, RAISED, "raised")?;
+    let draft = row_name(draft, strip, cpu, RECEIVED, "received")?;
+    let draft = row_name(draft, strip, cpu, EVENTS, "events")?;
+    boxes(draft, alloc, strip.symbols, cpu, strip.top, strip.cells)
 }
 
 fn tick(draft: Draft, alloc: Global, cell: &Cell, x: u32, top: u32) -> Result<Draft, Refused>
@@ -129,16 +153,15 @@ fn sign(
     alloc: Global,
     at: Place,
     shown: &Shown,
-    upper: &mut Free,
-    lower: &mut Free,
-    arrows: &mut Free,
+    flags: &mut Rows,
+    arrows: &mut Rows,
 ) -> Result<Draft, Refused>
     requires content { draft.in_tag ≡ false }
     requires inside { 0 < length draft.tags }
     ensures { IfOk result (λ new. new ≡ draft) }
 {
     let draft = line_sign(draft, alloc, at, shown)?;
-    let draft = flag_sign(draft, alloc, at, shown, upper, lower)?;
+    let draft = flag_sign(draft, alloc, at, shown, flags)?;
     arrow_sign(draft, alloc, at, shown, arrows)
 }
 
@@ -148,9 +171,8 @@ fn cell_signs(
     alloc: Global,
     at: Place,
     marks: &[Shown],
-    upper: &mut Free,
-    lower: &mut Free,
-    arrows: &mut Free,
+    flags: &mut Rows,
+    arrows: &mut Rows,
 ) -> Result<Draft, Refused>
     requires content { draft.in_tag ≡ false }
     requires inside { 0 < length draft.tags }
@@ -158,7 +180,7 @@ fn cell_signs(
 {
     let mut draft = draft;
     for shown in marks {
-        draft = sign(draft, alloc, at, shown, upper, lower, arrows)?;
+        draft = sign(draft, alloc, at, shown, flags, arrows)?;
     }
     Ok(draft)
 }
@@ -175,9 +197,8 @@ fn signs(draft: Draft, alloc: Global, strip: &Strip<'_>) -> Result<Draft, Refuse
     ensures { IfOk result (λ new. new ≡ draft) }
 {
     let mut draft = draft;
-    let mut upper = [0u32; PROCESSOR_LIMIT];
-    let mut lower = [0u32; PROCESSOR_LIMIT];
-    let mut arrows = [0u32; PROCESSOR_LIMIT];
+    let mut flags = Rows::new();
+    let mut arrows = Rows::new();
     let mut rest = strip.marks;
     let mut column = 0usize;
     for cell in strip.cells {
@@ -186,7 +207,7 @@ fn signs(draft: Draft, alloc: Global, strip: &Strip<'_>) -> Result<Draft, Refuse
             top: strip.top,
         };
         let (marks, others) = cut(rest, cell.kept);
-        draft = cell_signs(draft, alloc, at, marks, &mut upper, &mut lower, &mut arrows)?;
+        draft = cell_signs(draft, alloc, at, marks, &mut flags, &mut arrows)?;
         rest = others;
         column = column.saturating_add(1);
     }
@@ -200,11 +221,17 @@ fn draw_strip(draft: Draft, alloc: Global, strip: &Strip<'_>) -> Result<Draft, R
 {
     let draft = ruler(draft, alloc, strip)?;
     let draft = label(draft, "b", 8, strip.top.saturating_add(33), "machine")?;
-    let mut draft = machine_boxes(draft, alloc, strip.top, strip.cells)?;
+    let mut draft = machine_boxes(draft, alloc, strip.symbols, strip.top, strip.cells)?;
     for cpu in 0..strip.cpu_count {
         draft = lane(draft, alloc, strip, cpu)?;
     }
-    signs(draft, alloc, strip)
+    let draft = signs(draft, alloc, strip)?;
+    match strip.parts {
+        None => Ok(draft),
+        Some((column, event)) => {
+            parting_sign(draft, alloc, strip.top, strip.cpu_count, column, event)
+        }
+    }
 }
 
 // How many marks cells keep.
@@ -216,23 +243,46 @@ fn kept_in(cells: &[Cell]) -> u32 {
     kept
 }
 
-fn strips(draft: Draft, alloc: Global, timeline: &Timeline) -> Result<Draft, Refused>
+// The strip of a number, of the first cells and marks.
+fn strip_of<'a>(
+    picture: &Picture<'a>,
+    number: usize,
+    cells: &'a [Cell],
+    marks: &'a [Shown],
+) -> Strip<'a> {
+    let timeline = picture.timeline;
+    let parts = match picture.parts {
+        None => None,
+        Some(event) => {
+            let all = timeline.cells.as_slice();
+            match column_in(number, column_of(all, event), all.len()) {
+                None => None,
+                Some(column) => Some((column, event)),
+            }
+        }
+    };
+    Strip {
+        cells,
+        marks,
+        symbols: picture.symbols,
+        top: strip_top(number, timeline.cpu_count),
+        cpu_count: timeline.cpu_count,
+        parts,
+    }
+}
+
+fn strips(draft: Draft, alloc: Global, picture: &Picture<'_>) -> Result<Draft, Refused>
     requires content { draft.in_tag ≡ false }
     requires inside { 0 < length draft.tags }
     ensures { IfOk result (λ new. new ≡ draft) }
 {
     let mut draft = draft;
-    let mut cells = timeline.cells.as_slice();
-    let mut marks = timeline.marks.as_slice();
-    for number in 0..strip_count(timeline.cells.len()) {
+    let mut cells = picture.timeline.cells.as_slice();
+    let mut marks = picture.timeline.marks.as_slice();
+    for number in 0..strip_count(cells.len()) {
         let at = STRIP.min(cells.len());
         let (here, others) = cut(marks, kept_in(&cells[..at]));
-        let one = Strip {
-            cells: &cells[..at],
-            marks: here,
-            top: strip_top(number, timeline.cpu_count),
-            cpu_count: timeline.cpu_count,
-        };
+        let one = strip_of(picture, number, &cells[..at], here);
         draft = draw_strip(draft, alloc, &one)?;
         marks = others;
         cells = &cells[at..];
@@ -284,19 +334,31 @@ fn begun(alloc: Global, width: u32, height: u32) -> Result<Draft, Refused>
     plain(draft, Tag::Rectangle, "paper", &sides)
 }
 
+/// What is drawn.
+#[derive(Clone, Copy)]
+pub struct Picture<'a> {
+    /// The window of a journal.
+    pub timeline: &'a Timeline,
+    /// The symbols of the image.
+    pub symbols: &'a Symbols,
+    /// The event where the journal and another part.
+    pub parts: Option<u64>,
+}
+
 /// The picture of a timeline, an SVG file.
 ///
 /// # Errors
 ///
 /// Memory was refused.
-pub fn drawn(alloc: Global, timeline: &Timeline) -> Result<Vec<u8>, Refused>
+pub fn drawn(alloc: Global, picture: &Picture<'_>) -> Result<Vec<u8>, Refused>
     ensures { IfOk result (λ bytes. ∥ IsElement Tag.Svg bytes.items ∥₁) }
 {
+    let timeline = picture.timeline;
     let end = strip_top(strip_count(timeline.cells.len()), timeline.cpu_count);
     let width = width(timeline.cells.len());
     let draft = begun(alloc, width, end.saturating_add(LEGEND))?;
     let heading = heading(alloc, timeline)?;
     let draft = label(draft, "b", 8, 22, heading.as_str())?;
-    let draft = strips(draft, alloc, timeline)?;
+    let draft = strips(draft, alloc, picture)?;
     finished(legend(draft, alloc, end)?)
 }

@@ -1,8 +1,11 @@
 //! A timeline in characters.
 
 use crate::layout::{STRIP, strip_count};
+use crate::parting::{WORDS, column_in, column_of};
+use crate::svg::Picture;
 use evm_cells::{
-    Cell, Piece, Shown, Timeline, is_stalled, letter, push_cell, push_mark, say, share, task_on,
+    Cell, Piece, Shown, Symbols, Timeline, is_stalled, letter, push_cell, push_mark, say, share,
+    task_on,
 };
 use evm_model::{PROCESSOR_LIMIT, Stage};
 use evm_room::{Refused, push_text};
@@ -86,31 +89,26 @@ fn push_cpu(out: &mut String, cpu: u8, cells: &[Cell]) -> Result<(), Refused> {
     push_events(out, "      events      ", usize::from(cpu), cells)
 }
 
-fn is_at(cell: &Cell, event: u64) -> bool {
-    cell.first <= event && event < cell.first.saturating_add(cell.count)
-}
-
-// A caret below the cell of an event.
-fn push_caret(out: &mut String, cells: &[Cell], event: Option<u64>) -> Result<(), Refused> {
-    let Some(event) = event else {
+// A caret below a column.
+fn push_caret(out: &mut String, column: Option<usize>) -> Result<(), Refused> {
+    let Some(column) = column else {
         return Ok(());
     };
     push_text(out, "                  ")?;
-    for cell in cells {
-        if is_at(cell, event) {
-            push_text(out, "^ they part here")?;
-            break;
-        }
+    for _ in 0..column {
         push_text(out, " ")?;
     }
-    push_text(out, "\n")
+    say(
+        out,
+        &[Piece::Text("^ "), Piece::Text(WORDS), Piece::Text("\n")],
+    )
 }
 
 fn push_strip(
     out: &mut String,
     cells: &[Cell],
     cpu_count: u8,
-    event: Option<u64>,
+    column: Option<usize>,
 ) -> Result<(), Refused> {
     if let (Some(first), Some(last)) = (cells.first(), cells.last()) {
         let end = last.first.saturating_add(last.count.saturating_sub(1));
@@ -127,7 +125,7 @@ fn push_strip(
     for cpu in 0..cpu_count {
         push_cpu(out, cpu, cells)?;
     }
-    push_caret(out, cells, event)?;
+    push_caret(out, column)?;
     push_text(out, "\n")
 }
 
@@ -141,11 +139,16 @@ fn push_marks(out: &mut String, marks: &[Shown]) -> Result<(), Refused> {
 }
 
 // A cell in words, and its marks, if it has some.
-fn push_listed(out: &mut String, cell: &Cell, marks: &[Shown]) -> Result<(), Refused> {
+fn push_listed(
+    out: &mut String,
+    symbols: &Symbols,
+    cell: &Cell,
+    marks: &[Shown],
+) -> Result<(), Refused> {
     if marks.is_empty() {
         return Ok(());
     }
-    push_cell(out, cell)?;
+    push_cell(out, cell, symbols)?;
     push_text(out, "\n")?;
     push_marks(out, marks)?;
     if cell.dropped > 0 {
@@ -159,11 +162,11 @@ fn push_listed(out: &mut String, cell: &Cell, marks: &[Shown]) -> Result<(), Ref
     Ok(())
 }
 
-fn push_list(out: &mut String, timeline: &Timeline) -> Result<(), Refused> {
+fn push_list(out: &mut String, symbols: &Symbols, timeline: &Timeline) -> Result<(), Refused> {
     let mut rest = timeline.marks.as_slice();
     for cell in timeline.cells.as_slice() {
         let at = (cell.kept as usize).min(rest.len());
-        push_listed(out, cell, &rest[..at])?;
+        push_listed(out, symbols, cell, &rest[..at])?;
         rest = &rest[at..];
     }
     Ok(())
@@ -175,14 +178,21 @@ fn push_list(out: &mut String, timeline: &Timeline) -> Result<(), Refused> {
 /// # Errors
 ///
 /// Memory was refused.
-pub fn written(alloc: Global, timeline: &Timeline, parts: Option<u64>) -> Result<String, Refused> {
+pub fn written(alloc: Global, picture: &Picture<'_>) -> Result<String, Refused> {
     let mut out = String::new(alloc);
+    let timeline = picture.timeline;
     let mut cells = timeline.cells.as_slice();
-    for _ in 0..strip_count(cells.len()) {
+    let count = cells.len();
+    let parts = match picture.parts {
+        None => None,
+        Some(event) => column_of(cells, event),
+    };
+    for number in 0..strip_count(count) {
         let at = STRIP.min(cells.len());
-        push_strip(&mut out, &cells[..at], timeline.cpu_count, parts)?;
+        let column = column_in(number, parts, count);
+        push_strip(&mut out, &cells[..at], timeline.cpu_count, column)?;
         cells = &cells[at..];
     }
-    push_list(&mut out, timeline)?;
+    push_list(&mut out, picture.symbols, timeline)?;
     Ok(out)
 }

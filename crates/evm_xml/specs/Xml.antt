@@ -49,9 +49,9 @@ escaped_byte byte =
     else if byte == 34 then codes "&quot;"
     else plain_byte byte
 
-unfoldable pub escaped : List ℕ → List ℕ
-escaped [] = []
-escaped (byte ∷ bytes) = escaped_byte byte ++ escaped bytes
+unfoldable pub escaped_text : List ℕ → List ℕ
+escaped_text [] = []
+escaped_text (byte ∷ bytes) = escaped_byte byte ++ escaped_text bytes
 
 -- an attribute: its name and its value, which is any text
 pub record Attribute : Type 0 where
@@ -59,7 +59,7 @@ pub record Attribute : Type 0 where
   pub value : List ℕ
 
 abbrev pub attribute_text : Attribute → List ℕ
-attribute_text a = 32 ∷ (key_text a.key ++ (codes "=\"" ++ (escaped a.value ++ 34 ∷ [])))
+attribute_text a = 32 ∷ (key_text a.key ++ (codes "=\"" ++ (escaped_text a.value ++ 34 ∷ [])))
 
 unfoldable pub attributes_text : List Attribute → List ℕ
 attributes_text [] = []
@@ -73,8 +73,8 @@ pub data Forest : Type 0 where
   Element : (tag : Tag) (attributes : List Attribute) (inside others : Forest) → Forest
 
 -- a start tag without its end
-abbrev pub start : Tag → List Attribute → List ℕ
-start t attributes = 60 ∷ (tag_text t ++ attributes_text attributes)
+abbrev pub start_tag : Tag → List Attribute → List ℕ
+start_tag t attributes = 60 ∷ (tag_text t ++ attributes_text attributes)
 
 -- an end tag
 abbrev pub close : Tag → List ℕ
@@ -83,12 +83,12 @@ close t = codes "</" ++ (tag_text t ++ 62 ∷ [])
 -- its bytes: each element is closed, each text is escaped
 unfoldable pub xml : Forest → List ℕ
 xml Nothing = []
-xml (Characters characters others) = escaped characters ++ xml others
-xml (Leaf t attributes others) = (start t attributes ++ codes "/>") ++ xml others
-xml (Element t attributes inside others) = (start t attributes ++ (62 ∷ (xml inside ++ close t))) ++ xml others
+xml (Characters characters others) = escaped_text characters ++ xml others
+xml (Leaf t attributes others) = (start_tag t attributes ++ codes "/>") ++ xml others
+xml (Element t attributes inside others) = (start_tag t attributes ++ (62 ∷ (xml inside ++ close t))) ++ xml others
 
 -- the bytes of one element, whatever is inside it
 pub record IsElement (t : Tag) (bytes : List ℕ) : Type 0 where
   pub attributes : List Attribute
   pub inside : Forest
-  pub written : bytes ≡ start t attributes ++ (62 ∷ (xml inside ++ close t))
+  pub written : bytes ≡ start_tag t attributes ++ (62 ∷ (xml inside ++ close t))

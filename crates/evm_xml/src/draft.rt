@@ -2,7 +2,7 @@
 
 ghost use Rattle.std.specs.Prelude.{◌≡◌, ◌<◌, ◌∷◌, ◌++◌, [], true, false, IfOk, OnOk, length, drop};
 ghost use Rattle.std.specs.String.{string_bytes};
-ghost use Rattle.evm_xml.specs.Xml.{IsElement, attribute_text, close, start};
+ghost use Rattle.evm_xml.specs.Xml.{IsElement, attribute_text, close, start_tag};
 
 use crate::escape::{push_bytes, push_escaped};
 use crate::names::{Key, Tag};
@@ -36,7 +36,7 @@ impl Model for Draft {
 
 #[tactic(auto, unfolding(crate::specs::Xml::attributes_text), using(crate::proofs::Lemmas::escapes))]
 fn push_start(out: &mut Vec<u8>, tag: Tag) -> Result<(), Refused>
-    ensures { OnOk result (out.new.items ≡ out.old.items ++ start tag []) }
+    ensures { OnOk result (out.new.items ≡ out.old.items ++ start_tag tag []) }
 {
     push_bytes(out, b"<")?;
     push_bytes(out, tag.text().as_bytes())

@@ -1,7 +1,7 @@
 //! Text in which no character can be taken for markup.
 
 ghost use Rattle.std.specs.Prelude.{◌≡◌, ◌++◌, OnOk};
-ghost use Rattle.evm_xml.specs.Xml.{escaped, escaped_byte, plain_byte};
+ghost use Rattle.evm_xml.specs.Xml.{escaped_text, escaped_byte, plain_byte};
 
 use evm_room::{Refused, grow};
 
@@ -41,7 +41,7 @@ fn push_one(out: &mut Vec<u8>, byte: u8) -> Result<(), Refused>
 /// Appends a text, escaped.
 #[tactic(auto, using(crate::proofs::Lemmas::escapes))]
 pub(crate) fn push_escaped(out: &mut Vec<u8>, text: &str) -> Result<(), Refused>
-    ensures { OnOk result (out.new.items ≡ out.old.items ++ escaped text.now) }
+    ensures { OnOk result (out.new.items ≡ out.old.items ++ escaped_text text.now) }
 {
     for byte in text.as_bytes() {
         push_one(out, *byte)?;

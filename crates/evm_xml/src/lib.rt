@@ -7,3 +7,6 @@ mod names;
 
 pub use draft::{Draft, finished};
 pub use names::{Key, Tag};
+
+#[cfg(test)]
+mod tests;

@@ -1,0 +1,98 @@
+//! A journal's run, shown as the words ask for.
+
+use crate::drawing::{ViewEnd, draw_to, timeline_of, write_to};
+use crate::reports::{Files, STANDARD_OUTPUT, stopped};
+use crate::words::Job;
+use evm_devs::AnyDevice;
+use evm_host::{Devices, System, World, not_created};
+use evm_image::Image;
+use evm_view::{Meter, Picture, Symbols, Timeline};
+use std::alloc::Global;
+
+/// What is read of the files of a job.
+#[derive(Clone, Copy)]
+pub(crate) struct Input<'a> {
+    pub(crate) job: Job<'a>,
+    pub(crate) image: &'a Image,
+    pub(crate) symbols: &'a Symbols,
+    /// The text of the journal.
+    pub(crate) journal: &'a str,
+}
+
+fn status<S: System>(files: Files<'_>, end: Result<(), ViewEnd>, world: &mut World<S>) -> u8 {
+    match end {
+        Ok(()) => 0,
+        Err(end) => stopped(files, end, &mut world.errors),
+    }
+}
+
+// Draws a picture to OUT.
+fn draw<S: System>(
+    alloc: Global,
+    files: Files<'_>,
+    picture: &Picture<'_>,
+    world: &mut World<S>,
+) -> u8 {
+    if files.out == STANDARD_OUTPUT {
+        let end = draw_to(alloc, picture, &mut world.output);
+        return status(files, end, world);
+    }
+    match world.files.create(files.out) {
+        Err(fault) => not_created(files.out, fault, &mut world.errors),
+        Ok(mut file) => {
+            let end = draw_to(alloc, picture, &mut file);
+            status(files, end, world)
+        }
+    }
+}
+
+// Shows a timeline: in characters, or as a picture.
+fn show_timeline<S: System>(
+    alloc: Global,
+    input: &Input<'_>,
+    files: Files<'_>,
+    timeline: &Timeline,
+    parts: Option<u64>,
+    world: &mut World<S>,
+) -> u8 {
+    let picture = Picture {
+        timeline,
+        symbols: input.symbols,
+        parts,
+    };
+    if input.job.text {
+        let end = write_to(alloc, &picture, &mut world.output);
+        return status(files, end, world);
+    }
+    draw(alloc, files, &picture, world)
+}
+
+/// Replays the journal, and shows its run: in characters, or as a picture. The event where it and another part is marked.
+pub(crate) fn show_run<S: System, M: Meter>(
+    alloc: Global,
+    devices: Devices<AnyDevice>,
+    input: &Input<'_>,
+    parts: Option<u64>,
+    meter: &mut M,
+    world: &mut World<S>,
+) -> u8 {
+    let job = input.job;
+    let files = Files {
+        image: input.image,
+        name: job.journal,
+        journal: input.journal,
+        out: job.out.unwrap_or(STANDARD_OUTPUT),
+    };
+    let gathered = timeline_of(
+        alloc,
+        input.image,
+        devices,
+        input.journal,
+        job.window,
+        meter,
+    );
+    match gathered {
+        Ok(timeline) => show_timeline(alloc, input, files, &timeline, parts, world),
+        Err(end) => stopped(files, end, &mut world.errors),
+    }
+}
