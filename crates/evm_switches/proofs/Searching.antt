@@ -11,14 +11,15 @@ use Rattle.evm_model.specs.declared.event.Event.TheVariants.{Step, Tick, Raise, 
 use Rattle.evm_model.specs.declared.refusal.Refusal.{Refusal}
 use Rattle.evm_switches.specs.Branches.{event_of, turn_events, events_of, forked, HasBranch, IsClean, AreCleanBelow, IsSettled}
 use Rattle.evm_switches.specs.Schedules.{switches, stepped, Behind, IsSchedule, IsHarmless, NoneFails, NoScheduleFails}
+use Rattle.evm_switches.specs.Walks.{IsReached}
 use Rattle.evm_switches.specs.declared.branch.Branch.{Branch}
 use Rattle.evm_switches.specs.declared.branch.Choice.{Choice}
 use Rattle.evm_switches.specs.declared.branch.Turn.{Turn}
 
-abbrev Allows : Type 1
+abbrev pub Allows : Type 1
 Allows = State → Event → Type 0
 
-abbrev Failing : Type 1
+abbrev pub Failing : Type 1
 Failing = State → Event → Answer → State → Type 0
 
 -- ---- one list behind another
@@ -95,10 +96,6 @@ step-or-switch c (Break address) = inr refl
 step-or-switch c (Unbreak address) = inr refl
 
 -- ---- a branch that goes another way
--- a state that a branch reaches by some steps
-abbrev pub IsReached : State → Branch → ℕ → State → Type 0
-IsReached first branch steps s = s ≡ replay first (events_of branch.turns.items ++ replicate steps (Step branch.cpu))
-
 reached-more : (first : State) (branch : Branch) (steps : ℕ) (s : State) (choice : Choice) → IsReached first branch steps s
     → replay first (events_of (forked branch steps choice).turns.items) ≡ left_by (apply s (event_of choice)) s
 reached-more first branch steps s choice e =

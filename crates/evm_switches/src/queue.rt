@@ -41,6 +41,16 @@ impl Queue {
         }
     }
 
+    /// A branch by its number, the root at 0.
+    pub fn get(&self, place: u64) -> Option<Branch>
+        ensures { result ≡ slice_get self.now.branches.items place }
+    {
+        match self.branches.get(place as usize) {
+            Some(branch) => Some(branch.copied()),
+            None => None,
+        }
+    }
+
     // One more, if there may be more.
     fn push(&mut self, branch: Branch) -> Result<(), NoMemory>
         ensures keeps { KeepsBranches self.old.branches.items self.new.branches.items }
