@@ -1,9 +1,10 @@
 //! The schedules of many seeds.
 
-ghost use Rattle.std.specs.Prelude.{◌≡◌, ◌⊎◌, IfOk, OnOk, Option};
+ghost use Rattle.std.specs.Prelude.{◌≡◌, ◌⊎◌, [], true, false, IfOk, OnOk, Option};
 ghost use Rattle.evm_schedules.specs.Beginning.{ComesFrom};
-ghost use Rattle.evm_schedules.specs.Runs.{Ends};
+ghost use Rattle.evm_schedules.specs.Runs.{Ends, HasFailed, IsFound};
 ghost use Rattle.evm_hunt.specs.Hunts.{IsShown};
+ghost use Rattle.evm_hunt.specs.Searches.{is_failed};
 
 use crate::found::{Found, Tried, replayed, try_schedule};
 use crate::key::Key;
@@ -12,7 +13,7 @@ use crate::ordering::{Cycle, Orders};
 use crate::shortening::{Stop, shorten};
 use evm_image::Image;
 use evm_room::NoMemory;
-use evm_schedules::{Boot, Chooser, Outcome, Watch, Way};
+use evm_schedules::{Boot, Chooser, Failure, Outcome, Watch, Way};
 use std::alloc::Global;
 
 /// Which schedules are looked at.
@@ -74,7 +75,8 @@ pub struct Report {
 impl Report {
     /// Nothing was looked at. `orders` says whether the orders of locks are.
     pub(crate) fn new(alloc: Global, orders: bool) -> Report
-        ensures { result.shortest ≡ Option.None }
+        ensures shown { result.shortest ≡ Option.None }
+        ensures rows { result.rows.items ≡ [] }
     {
         Report {
             rows: Vec::new(alloc),
@@ -89,7 +91,9 @@ impl Report {
     }
 
     // Whether a failure was found before.
-    fn knows(&self, key: &Key) -> bool {
+    fn knows(&self, key: &Key) -> bool
+        ensures { result ≡ true → self.now.rows.items ≡ [] → ⊥ }
+    {
         for row in &self.rows {
             if row.key.is(key) {
                 return true;
@@ -100,7 +104,8 @@ impl Report {
 
     // Counts a schedule.
     fn count(&mut self, tried: &Tried)
-        ensures { self.new.shortest ≡ self.old.shortest }
+        ensures shown { self.new.shortest ≡ self.old.shortest }
+        ensures rows { self.new.rows ≡ self.old.rows }
     {
         self.schedules = self.schedules.saturating_add(1);
         self.events = self.events.saturating_add(tried.machine.event_count());
@@ -111,14 +116,17 @@ impl Report {
 
     /// Says whether there were more schedules than may be looked at.
     pub(crate) fn set_cut(&mut self, cut: bool)
-        ensures { self.new.shortest ≡ self.old.shortest }
+        ensures shown { self.new.shortest ≡ self.old.shortest }
+        ensures rows { self.new.rows ≡ self.old.rows }
+        ensures cut { self.new.cut ≡ cut }
     {
         self.cut = cut;
     }
 
     // Adds two locks that close a cycle.
     fn add_cycle(&mut self, cycle: Cycle, events: u64, seed: u64) -> Result<(), NoMemory>
-        ensures { self.new.shortest ≡ self.old.shortest }
+        ensures shown { self.new.shortest ≡ self.old.shortest }
+        ensures rows { self.new.rows.items ≡ [] → self.old.rows.items ≡ [] }
     {
         let key = Key {
             kind: "order",
@@ -149,7 +157,8 @@ impl Report {
 
     // Adds a failure.
     fn add(&mut self, key: Key, seed: u64, found: Found) -> Result<(), NoMemory>
-        ensures { OnOk result ((self.new.shortest ≡ self.old.shortest) ⊎ (self.new.shortest ≡ Option.Some found)) }
+        ensures shown { OnOk result ((self.new.shortest ≡ self.old.shortest) ⊎ (self.new.shortest ≡ Option.Some found)) }
+        ensures rows { OnOk result (self.new.rows.items ≡ [] → ⊥) }
     {
         let row = Row {
             key,
@@ -193,6 +202,29 @@ fn shorter(
     }
 }
 
+// The shorter list of events that makes a machine fail; the schedule itself if that doesn't.
+fn shortest_of(
+    alloc: Global,
+    image: &Image,
+    boot: &Boot,
+    watch: &Watch,
+    key: &Key,
+    tried: Tried,
+    failure: Failure,
+) -> Result<Found, Stop>
+    requires { IsFound image.now boot.now watch.now.lines failure tried.machine }
+    ensures { IfOk result (λ found. IsFound image.now boot.now watch.now.lines found.failure found.machine) }
+{
+    match shorter(alloc, image, boot, watch, key, &tried) {
+        Ok(Some(found)) => Ok(found),
+        Ok(None) => Ok(Found {
+            machine: tried.machine,
+            failure,
+        }),
+        Err(stop) => Err(stop),
+    }
+}
+
 // Adds the orders of the locks of a schedule, if they are looked at.
 fn add_orders(
     alloc: Global,
@@ -202,7 +234,8 @@ fn add_orders(
     tried: &Tried,
     report: &mut Report,
 ) -> Result<(), Stop>
-    ensures { report.new.shortest ≡ report.old.shortest }
+    ensures shown { report.new.shortest ≡ report.old.shortest }
+    ensures rows { report.new.rows.items ≡ [] → report.old.rows.items ≡ [] }
 {
     let Some(mut orders) = report.orders.take() else {
         return Ok(());
@@ -226,30 +259,33 @@ pub(crate) fn note(
     boot: &Boot,
     watch: &Watch,
     seed: u64,
-    tried: &Tried,
+    tried: Tried,
     report: &mut Report,
 ) -> Result<(), Stop>
-    requires { IsShown image.now boot.now watch.now.lines report.old.shortest }
-    ensures { OnOk result (IsShown image.now boot.now watch.now.lines report.new.shortest) }
+    requires shown { IsShown image.now boot.now watch.now.lines report.old.shortest }
+    requires tried { ComesFrom image.now boot.now tried.machine × Ends watch.now.lines tried.outcome tried.machine }
+    ensures shown { OnOk result (IsShown image.now boot.now watch.now.lines report.new.shortest) }
+    ensures rows { OnOk result (report.new.rows.items ≡ [] → report.old.rows.items ≡ []) }
+    ensures none { OnOk result (report.new.rows.items ≡ [] → is_failed tried.outcome ≡ false) }
 {
-    report.count(tried);
-    match add_orders(alloc, image, boot, seed, tried, report) {
+    report.count(&tried);
+    match add_orders(alloc, image, boot, seed, &tried, report) {
         Ok(()) => {}
         Err(stop) => return Err(stop),
     }
-    let Outcome::Failed(failure) = tried.outcome else {
-        return Ok(());
+    let failure = match tried.outcome {
+        Outcome::Failed(failure) => failure,
+        Outcome::Over | Outcome::Full => return Ok(()),
     };
     let key = Key::of(&tried.machine, failure);
     if report.knows(&key) {
         return Ok(());
     }
-    match shorter(alloc, image, boot, watch, &key, tried) {
-        Ok(Some(found)) => match report.add(key, seed, found) {
+    match shortest_of(alloc, image, boot, watch, &key, tried, failure) {
+        Ok(found) => match report.add(key, seed, found) {
             Ok(()) => Ok(()),
             Err(fault) => Err(Stop::from(fault)),
         },
-        Ok(None) => Ok(()),
         Err(stop) => Err(stop),
     }
 }
@@ -269,7 +305,7 @@ fn look(
 {
     let mut chooser = Chooser::new(seed, way, watch.lines);
     match try_schedule(alloc, image, boot, &mut chooser, watch) {
-        Ok(tried) => note(alloc, image, boot, watch, seed, &tried, report),
+        Ok(tried) => note(alloc, image, boot, watch, seed, tried, report),
         Err(fault) => Err(Stop::from(fault)),
     }
 }

@@ -10,6 +10,7 @@ mod reporting;
 mod script;
 mod shortening;
 mod switching;
+mod walking;
 
 pub use evm_schedules::{BeginFault, Boot, Errors, Failure, Inversion, Machine, Watch, Way};
 pub use found::{Found, Tried, replayed, try_schedule};

@@ -1,11 +1,12 @@
 -- When a machine has failed.
-use Rattle.std.specs.Prelude.{◌≡◌, ℕ, ◌+◌, ◌<◌, ◌==◌, ◌&&◌, List, [], ◌∷◌, Option, Some, None, Bool, true, false, not, is_some, slice_get, length}
+use Rattle.std.specs.Prelude.{◌≡◌, ℕ, ◌+◌, ◌-◌, ◌<◌, ◌≢◌, ◌==◌, ◌&&◌, List, [], ◌∷◌, Option, Some, None, Bool, true, false, not, is_some, slice_get, length}
 use Rattle.evm_core.specs.Views.{counts_at, device_word}
 use Rattle.evm_exec.specs.Registers.{register_of}
 use Rattle.evm_exec.specs.declared.hart.Hart.{Hart}
 use Rattle.evm_lines.specs.Lines.{has_line, has_none}
 use Rattle.evm_model.specs.Current.{current}
 use Rattle.evm_model.specs.Errnos.{refusal_answer}
+use Rattle.evm_model.specs.Event.{Event as Happening}
 use Rattle.evm_model.specs.Harts.{A0}
 use Rattle.evm_model.specs.Pipes.{Pipe}
 use Rattle.evm_model.specs.Ranks.{rank}
@@ -14,17 +15,30 @@ use Rattle.evm_model.specs.State.{State}
 use Rattle.evm_model.specs.Waits.{awaits_line}
 use Rattle.evm_model.specs.declared.counts.Counts.{Counts}
 use Rattle.evm_model.specs.declared.errno.Errno.{Errno}
+use Rattle.evm_model.specs.declared.errno.Errno.TheVariants as errors
+use Rattle.evm_model.specs.declared.event.Answer.{Answer}
+use Rattle.evm_model.specs.declared.event.Answer.TheVariants.{Ran}
+use Rattle.evm_model.specs.declared.event.Event.TheVariants.{Step}
 use Rattle.evm_model.specs.declared.mutex.Mutex.{Mutex}
 use Rattle.evm_model.specs.declared.notice.Notice.{Notice}
 use Rattle.evm_model.specs.declared.notice.NoticeKind.{NoticeKind}
+use Rattle.evm_model.specs.declared.notice.NoticeKind.TheVariants as notices
 use Rattle.evm_model.specs.declared.task.Task.{Task}
 use Rattle.evm_model.specs.declared.task.TaskState.{TaskState}
 use Rattle.evm_model.specs.declared.task.TaskState.TheVariants.{InReady, OobReady, Waits, Exit, Faulted}
 use Rattle.evm_model.specs.declared.task.Wait.{Wait}
-use Rattle.evm_model.specs.declared.task.Wait.TheVariants.{Line, Lock, Reacquire, Semaphore, Event, Flags, Sleep, Timer}
+use Rattle.evm_model.specs.declared.task.Wait.TheVariants.{Line, Lock, Reacquire, Semaphore, Event, Flags, Sleep, Timer as Expiry}
+use Rattle.evm_model.specs.declared.timer.Timer.{Timer}
 use Rattle.evm_ram.specs.Ram.{bytes_at}
 use Rattle.evm_schedules.specs.declared.failure.Failure.{Failure}
 use Rattle.evm_schedules.specs.declared.failure.Failure.TheVariants as failures
+use Rattle.evm_schedules.specs.declared.watch.Errors.{Errors}
+use Rattle.evm_schedules.specs.declared.watch.Watch.{Watch}
+
+-- the processor that a Step is of
+abbrev pub step_of : Happening → Option ℕ
+step_of (Step c) = Some c
+step_of _ = None
 
 -- ---- a processor stopped
 -- a schedule has no command of a debugger, so a processor that is stopped came to an EBREAK
@@ -45,31 +59,36 @@ abbrev pub faulted_at : ℕ → State → Bool
 faulted_at t s = is_faulted_task (slice_get s.board.parts.tasks t)
 
 -- ---- a deadlock
--- A wait that nothing but another task ends, where these lines may be raised from outside: a line may have an action, which puts
--- a semaphore or posts a flag, and a timer may be pending.
-abbrev pub only_tasks_end : List ℕ → Wait → Bool
-only_tasks_end lines (Lock m) = true
-only_tasks_end lines (Reacquire m answer) = true
-only_tasks_end lines (Event e) = true
-only_tasks_end lines (Semaphore s) = has_none lines
-only_tasks_end lines (Flags f) = has_none lines
-only_tasks_end lines (Line l) = not (l == 0) && not (has_line lines l)
-only_tasks_end lines Sleep = false
-only_tasks_end lines (Timer n) = false
+-- a timer that is off, which only a task sets
+abbrev pub is_off : Option Timer → Bool
+is_off None = true
+is_off (Some timer) = timer.due == 0
 
-abbrev pub is_stuck_state : List ℕ → TaskState → Bool
-is_stuck_state lines Exit = true
-is_stuck_state lines (Faulted fault) = true
-is_stuck_state lines (Waits wait) = only_tasks_end lines wait
-is_stuck_state lines _ = false
+-- A wait that nothing but another task ends, where these lines may be raised from outside: a line may have an action, which puts
+-- a semaphore or posts a flag.
+abbrev pub only_tasks_end : List ℕ → List Timer → Wait → Bool
+only_tasks_end lines timers (Lock m) = true
+only_tasks_end lines timers (Reacquire m answer) = true
+only_tasks_end lines timers (Event e) = true
+only_tasks_end lines timers (Semaphore s) = has_none lines
+only_tasks_end lines timers (Flags f) = has_none lines
+only_tasks_end lines timers (Line l) = not (l == 0) && not (has_line lines l)
+only_tasks_end lines timers Sleep = false
+only_tasks_end lines timers (Expiry n) = is_off (slice_get timers n)
+
+abbrev pub is_stuck_state : List ℕ → List Timer → TaskState → Bool
+is_stuck_state lines timers Exit = true
+is_stuck_state lines timers (Faulted fault) = true
+is_stuck_state lines timers (Waits wait) = only_tasks_end lines timers wait
+is_stuck_state lines timers _ = false
 
 -- a task that has ended, or waits without a deadline for another task
-abbrev pub is_stuck : List ℕ → Task → Bool
-is_stuck lines task = task.deadline == 0 && is_stuck_state lines task.state
+abbrev pub is_stuck : List ℕ → List Timer → Task → Bool
+is_stuck lines timers task = task.deadline == 0 && is_stuck_state lines timers task.state
 
-abbrev pub is_stuck_task : List ℕ → Option Task → Bool
-is_stuck_task lines None = true
-is_stuck_task lines (Some task) = is_stuck lines task
+abbrev pub is_stuck_task : List ℕ → List Timer → Option Task → Bool
+is_stuck_task lines timers None = true
+is_stuck_task lines timers (Some task) = is_stuck lines timers task
 
 abbrev pub is_waiting : TaskState → Bool
 is_waiting (Waits wait) = true
@@ -89,7 +108,7 @@ is_zero (Some n) = n == 0
 
 -- each task has ended or waits for another, and one waits: no line is on a wire, and the pins, device 2, count no ticks
 pub record IsDeadlock (lines : List ℕ) (s : State) : Type 0 where
-  pub each : (t : ℕ) → t < length s.board.parts.tasks → is_stuck_task lines (slice_get s.board.parts.tasks t) ≡ true
+  pub each : (t : ℕ) → t < length s.board.parts.tasks → is_stuck_task lines s.board.parts.timers (slice_get s.board.parts.tasks t) ≡ true
   pub one : (t : ℕ) × (is_waiting_task (slice_get s.board.parts.tasks t) ≡ true)
   pub wires : (c : ℕ) → c < length s.board.parts.processors → is_quiet_pipe (slice_get s.board.parts.pipes c) ≡ true
   pub pins : is_zero (device_word 2 2 s.board.memory.devices) ≡ true
@@ -99,9 +118,10 @@ abbrev pub is_notice_of : ℕ → NoticeKind → Option Notice → Type 0
 is_notice_of t kind None = ⊥
 is_notice_of t kind (Some notice) = (notice.task ≡ t) × (notice.kind ≡ kind)
 
--- the health monitor keeps a notice of this kind for task t
-abbrev pub HasNotice : ℕ → NoticeKind → State → Type 0
-HasNotice t kind s = (i : ℕ) × is_notice_of t kind (slice_get s.board.parts.notices.kept i)
+-- the event left notices, the last of which is of this kind for task t
+abbrev pub IsNoticed : ℕ → NoticeKind → State → State → Type 0
+IsNoticed t kind before s = (s.board.parts.notices.total ≢ before.board.parts.notices.total)
+    × is_notice_of t kind (slice_get s.board.parts.notices.kept (length s.board.parts.notices.kept - 1))
 
 -- ---- a call that was refused
 -- the four bytes of an ECALL
@@ -125,6 +145,10 @@ is_answered pc e (Some hart) = hart.pc == pc + 4 && register_of hart.regs A0 == 
 -- task t was at an ECALL, and is behind it with this error
 abbrev pub IsRefused : ℕ → Errno → State → State → Type 0
 IsRefused t e before s = (pc : ℕ) × IsAtCall t pc before × (is_answered pc e (slice_get s.board.parts.harts t) ≡ true)
+
+-- task t was the current one of the processor that stepped
+abbrev pub IsCaller : ℕ → State → Happening → Type 0
+IsCaller t before event = (c : ℕ) × (step_of event ≡ Some c) × (current c before.board.parts ≡ Some t)
 
 -- ---- a line that is lost
 abbrev pub plays : Option Counts → ℕ
@@ -175,13 +199,54 @@ pub record IsKeptBack (t : ℕ) (s : State) : Type 0 where
   pub cpu : ℕ
   pub lower : RunsLower cpu t s
 
--- the last event, which led from one state to another, has made a machine fail; these lines may be raised from outside
-abbrev pub Fails : List ℕ → Failure → State → State → Type 0
-Fails lines (failures.Ebreak c) before s = stopped_at c s ≡ true
-Fails lines (failures.Fault t) before s = faulted_at t s ≡ true
-Fails lines failures.Deadlock before s = IsDeadlock lines s
-Fails lines (failures.Notice t kind) before s = HasNotice t kind s
-Fails lines (failures.Refused t e) before s = IsRefused t e before s
-Fails lines (failures.Lost c l) before s = IsLost c l before s
-Fails lines (failures.Held m) before s = is_held (slice_get s.board.parts.mutexes m) ≡ true
-Fails lines (failures.KeptBack t) before s = IsKeptBack t s
+-- an event, which led from one state to another with an answer, has made a machine fail; these lines may be raised from outside
+abbrev pub Fails : List ℕ → Failure → State → Happening → Answer → State → Type 0
+Fails lines (failures.Ebreak c) before event answer s = (step_of event ≡ Some c) × (stopped_at c s ≡ true)
+Fails lines (failures.Fault t) before event answer s = (is_some (step_of event) ≡ true) × (answer ≡ Ran t) × (faulted_at t s ≡ true)
+Fails lines failures.Deadlock before event answer s = IsDeadlock lines s
+Fails lines (failures.Notice t kind) before event answer s = IsNoticed t kind before s
+Fails lines (failures.Refused t e) before event answer s = IsCaller t before event × IsRefused t e before s
+Fails lines (failures.Lost c l) before event answer s = IsLost c l before s
+Fails lines (failures.Held m) before event answer s = is_held (slice_get s.board.parts.mutexes m) ≡ true
+Fails lines (failures.KeptBack t) before event answer s = IsKeptBack t s
+
+-- ---- what is looked for
+abbrev pub error_in : Errors → Errno → Bool
+error_in set errors.NotPermitted = set.eperm
+error_in set errors.NoSuchTask = set.esrch
+error_in set errors.TryAgain = set.eagain
+error_in set errors.NoNumber = set.enomem
+error_in set errors.Busy = set.ebusy
+error_in set errors.Invalid = set.einval
+error_in set errors.Deadlock = set.edeadlk
+error_in set errors.NoSuchCall = set.enosys
+error_in set errors.TimedOut = set.etimedout
+
+abbrev pub has_error : Option Errors → Errno → Bool
+has_error None e = false
+has_error (Some set) e = error_in set e
+
+abbrev pub has_kind : Watch → NoticeKind → Bool
+has_kind watch notices.DemotedByCall = watch.demoted_by_call
+has_kind watch notices.DemotedByFault = watch.demoted_by_fault
+has_kind watch notices.Deadlock = watch.never_ends
+has_kind watch notices.NotOwner = watch.not_owner
+
+-- A failure that is looked for and that one event shows: for how long a mutex is held or a task is kept back is counted by the code, and of
+-- lines that are lost it looks at the least.
+abbrev pub is_sought : Watch → Failure → Bool
+is_sought watch (failures.Ebreak c) = watch.ebreak
+is_sought watch (failures.Fault t) = watch.fault
+is_sought watch failures.Deadlock = watch.deadlock
+is_sought watch (failures.Notice t kind) = has_kind watch kind
+is_sought watch (failures.Refused t e) = has_error watch.errors e
+is_sought watch _ = false
+
+-- an event has made a machine fail in a way that is looked for
+abbrev pub FailsAsSought : Watch → State → Happening → Answer → State → Type 0
+FailsAsSought watch before event answer s = (failure : Failure) × (is_sought watch failure ≡ true) × Fails watch.lines failure before event answer s
+
+-- what was seen of an event: a failure, or that it made none that is looked for
+abbrev pub IsSeen : Watch → State → Happening → Answer → State → Option Failure → Type 0
+IsSeen watch before event answer s None = FailsAsSought watch before event answer s → ⊥
+IsSeen watch before event answer s (Some failure) = Fails watch.lines failure before event answer s

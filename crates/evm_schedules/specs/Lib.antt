@@ -1,4 +1,5 @@
 pub mod Beginning
 pub mod Eves
 pub mod Failures
+pub mod Making
 pub mod Runs

@@ -12,13 +12,9 @@ use Rattle.evm_schedules.specs.declared.failure.Failure.{Failure}
 use Rattle.evm_schedules.specs.declared.running.Outcome.{Outcome}
 use Rattle.evm_schedules.specs.declared.running.Outcome.TheVariants.{Failed, Over, Full}
 
--- an accepted event leads from one state to another
-abbrev pub LeadsTo : State → State → Type 0
-LeadsTo before s = (event : Event) × (answer : Answer) × (apply before event ≡ Ok (s, answer))
-
 -- a machine whose last event has made it fail
 abbrev pub HasFailed : List ℕ → Failure → State → Type 0
-HasFailed lines failure s = (before : State) × LeadsTo before s × Fails lines failure before s
+HasFailed lines failure s = (before : State) × (event : Event) × (answer : Answer) × (apply before event ≡ Ok (s, answer)) × Fails lines failure before event answer s
 
 -- a machine that has failed, and is the replay of its journal from the boot with the image
 abbrev pub IsFound : Contents → Boot → List ℕ → Failure → State → Type 0

@@ -1,12 +1,12 @@
 //! Calls that are refused.
 
-ghost use Rattle.std.specs.Prelude.{◌≡◌, ℕ, List, true, IfSome, Option};
-ghost use Rattle.evm_model.specs.Errnos.{refusal_answer};
-ghost use Rattle.evm_model.specs.State.{State};
-ghost use Rattle.evm_schedules.specs.Failures.{Fails, IsAtCall, is_answered, is_ecall};
+ghost use Rattle.std.specs.Prelude.{◌≡◌, ℕ, true, false, MatchOption, Option, slice_get};
+ghost use Rattle.evm_model.specs.Current.{current};
+ghost use Rattle.evm_model.specs.declared.errno.Errno.{Errno};
+ghost use Rattle.evm_schedules.specs.Failures.{IsAtCall, error_in, is_answered, is_ecall};
 ghost use Rattle.evm_ram.specs.Ram.{bytes_at};
 
-use crate::failure::Failure;
+use crate::failure::{Failure, current};
 use crate::watch::Errors;
 use evm_core::Machine;
 use evm_devs::AnyDevice;
@@ -35,11 +35,14 @@ fn is_ecall(machine: &Machine<AnyDevice>, address: u64) -> bool
 
 /// The task that a processor runs, if its next instruction is an ECALL.
 pub(crate) fn caller_on(machine: &Machine<AnyDevice>, c: u8) -> Option<Caller>
-    ensures { IfSome result (λ caller. IsAtCall caller.task caller.pc machine.now) }
+    ensures { MatchOption result ((t pc : ℕ) → current c machine.now.board.parts ≡ Option.Some t → IsAtCall t pc machine.now → ⊥) (λ caller. (current c machine.now.board.parts ≡ Option.Some caller.task) × IsAtCall caller.task caller.pc machine.now) }
 {
-    let processor = machine.cpu(c)?;
-    let task = processor.current?;
-    let hart = machine.hart(task)?;
+    let Some(task) = current(machine, c) else {
+        return None;
+    };
+    let Some(hart) = machine.hart(task) else {
+        return None;
+    };
     let pc = hart.pc;
     if is_ecall(machine, pc) {
         Some(Caller { task, pc })
@@ -48,36 +51,60 @@ pub(crate) fn caller_on(machine: &Machine<AnyDevice>, c: u8) -> Option<Caller>
     }
 }
 
-// The error of an answer.
-fn error_of(answer: u64) -> Option<Errno>
-    ensures { IfSome result (λ error. answer ≡ refusal_answer error) }
-{
-    for error in [
-        Errno::NotPermitted,
-        Errno::NoSuchTask,
-        Errno::TryAgain,
-        Errno::NoNumber,
-        Errno::Busy,
-        Errno::Invalid,
-        Errno::Deadlock,
-        Errno::NoSuchCall,
-        Errno::TimedOut,
-    ] {
-        if error.answer() == answer {
-            return Some(error);
-        }
-    }
-    None
-}
-
 // Whether a hart is behind an ECALL at this address, with this error.
 fn is_answered(hart: &Hart, pc: u64, error: Errno) -> bool
-    ensures { result ≡ true → is_answered pc error (Option.Some hart.now) ≡ true }
+    ensures { result ≡ is_answered pc error (Option.Some hart.now) }
 {
+    let at = hart.pc;
     let Some(behind) = pc.checked_add(4) else {
         return false;
     };
-    hart.pc == behind && hart.regs[A0] == error.answer()
+    at == behind && hart.regs[A0] == error.answer()
+}
+
+// Whether an error is looked for, and a hart is behind an ECALL with it.
+fn is_sought(hart: &Hart, pc: u64, errors: &Errors, error: Errno) -> bool
+    ensures none { result ≡ false → error_in errors.now error ≡ true → is_answered pc error (Option.Some hart.now) ≡ true → ⊥ }
+    ensures one { result ≡ true → is_answered pc error (Option.Some hart.now) ≡ true }
+{
+    if !errors.contains(error) {
+        return false;
+    }
+    is_answered(hart, pc, error)
+}
+
+// The error that is looked for with which a hart is behind an ECALL.
+fn error_of(hart: &Hart, pc: u64, errors: &Errors) -> Option<Errno>
+    ensures { MatchOption result ((e : Errno) → error_in errors.now e ≡ true → is_answered pc e (Option.Some hart.now) ≡ true → ⊥) (λ e. is_answered pc e (Option.Some hart.now) ≡ true) }
+{
+    if is_sought(hart, pc, errors, Errno::NotPermitted) {
+        return Some(Errno::NotPermitted);
+    }
+    if is_sought(hart, pc, errors, Errno::NoSuchTask) {
+        return Some(Errno::NoSuchTask);
+    }
+    if is_sought(hart, pc, errors, Errno::TryAgain) {
+        return Some(Errno::TryAgain);
+    }
+    if is_sought(hart, pc, errors, Errno::NoNumber) {
+        return Some(Errno::NoNumber);
+    }
+    if is_sought(hart, pc, errors, Errno::Busy) {
+        return Some(Errno::Busy);
+    }
+    if is_sought(hart, pc, errors, Errno::Invalid) {
+        return Some(Errno::Invalid);
+    }
+    if is_sought(hart, pc, errors, Errno::Deadlock) {
+        return Some(Errno::Deadlock);
+    }
+    if is_sought(hart, pc, errors, Errno::NoSuchCall) {
+        return Some(Errno::NoSuchCall);
+    }
+    if is_sought(hart, pc, errors, Errno::TimedOut) {
+        return Some(Errno::TimedOut);
+    }
+    None
 }
 
 /// The failure of a task that was at a call, and that was refused it.
@@ -86,20 +113,13 @@ pub(crate) fn refused(
     caller: Caller,
     errors: &Errors,
 ) -> Option<Failure>
-    ensures { (lines : List ℕ) (before : State) → IsAtCall caller.task caller.pc before → IfSome result (λ failure. Fails lines failure before machine.now) }
+    ensures { MatchOption result ((e : Errno) → error_in errors.now e ≡ true → is_answered caller.pc e (slice_get machine.now.board.parts.harts caller.task) ≡ true → ⊥) (λ failure. (e : Errno) × (failure ≡ Failure.Refused caller.task e) × (is_answered caller.pc e (slice_get machine.now.board.parts.harts caller.task) ≡ true)) }
 {
     let Some(hart) = machine.hart(caller.task) else {
         return None;
     };
-    let Some(error) = error_of(hart.regs[A0]) else {
-        return None;
-    };
-    if !errors.contains(error) {
-        return None;
-    }
-    if is_answered(&hart, caller.pc, error) {
-        Some(Failure::Refused(caller.task, error))
-    } else {
-        None
+    match error_of(&hart, caller.pc, errors) {
+        Some(error) => Some(Failure::Refused(caller.task, error)),
+        None => None,
     }
 }

@@ -1,14 +1,17 @@
 //! What is noted before an event, and the failure that the event has made.
 
-ghost use Rattle.std.specs.Prelude.{IfSome};
+ghost use Rattle.std.specs.Prelude.{◌≡◌, ℕ, true, is_some, IfSome, MatchOption, Option};
+ghost use Rattle.evm_model.specs.Current.{current};
+ghost use Rattle.evm_model.specs.Event.{Event as Happening, short_event};
 ghost use Rattle.evm_model.specs.State.{State};
-ghost use Rattle.evm_schedules.specs.Failures.{Fails, IsAtCall, IsUnawaited};
-ghost use Rattle.evm_schedules.specs.Eves.{IsEve};
+ghost use Rattle.evm_model.specs.declared.errno.Errno.{Errno};
+ghost use Rattle.evm_schedules.specs.Failures.{Fails, IsAtCall, IsCaller, IsRefused, IsSeen, IsUnawaited, step_of};
+ghost use Rattle.evm_schedules.specs.Eves.{IsEve, IsQuietStep, NoneRefused};
 
 use crate::calls::{Caller, caller_on, refused};
 use crate::failure::Failure;
 use crate::lines::{Unawaited, first_unawaited, lost};
-use crate::looks::{notice_left, stepped};
+use crate::looks::{deadlocked, notice_left, ran, stopped};
 use crate::monitor::Monitor;
 use crate::watch::Watch;
 use evm_core::{Answer, Machine};
@@ -26,12 +29,24 @@ pub(crate) struct Eve {
     pub(crate) line: Option<Unawaited>,
 }
 
+/// The processor that an event steps.
+pub(crate) fn stepping(event: Event<NoBytes>) -> Option<u8>
+    ensures { result ≡ step_of (short_event event) }
+{
+    match event {
+        Event::Step(c) => Some(c),
+        _ => None,
+    }
+}
+
 // The task that is about to make a call, if errors are looked for.
 fn caller_of(machine: &Machine<AnyDevice>, c: u8, watch: &Watch) -> Option<Caller>
-    ensures { IfSome result (λ caller. IsAtCall caller.task caller.pc machine.now) }
+    ensures { MatchOption result (is_some watch.now.errors ≡ true → (t pc : ℕ) → current c machine.now.board.parts ≡ Option.Some t → IsAtCall t pc machine.now → ⊥) (λ caller. (current c machine.now.board.parts ≡ Option.Some caller.task) × IsAtCall caller.task caller.pc machine.now) }
 {
-    watch.errors?;
-    caller_on(machine, c)
+    match watch.errors {
+        None => None,
+        Some(_) => caller_on(machine, c),
+    }
 }
 
 // A line that nobody waits for, if lost lines are looked for.
@@ -47,16 +62,16 @@ fn line_of(machine: &Machine<AnyDevice>, c: u8, watch: &Watch) -> Option<Unawait
 
 /// What is noted before an event.
 pub(crate) fn eve_of(machine: &Machine<AnyDevice>, event: Event<NoBytes>, watch: &Watch) -> Eve
-    ensures { IsEve result machine.now }
+    ensures { IsEve result watch.now (short_event event) machine.now }
 {
     let notices = machine.notice_total();
-    match event {
-        Event::Step(c) => Eve {
+    match stepping(event) {
+        Some(c) => Eve {
             notices,
             caller: caller_of(machine, c, watch),
             line: line_of(machine, c, watch),
         },
-        _ => Eve {
+        None => Eve {
             notices,
             caller: None,
             line: None,
@@ -66,20 +81,20 @@ pub(crate) fn eve_of(machine: &Machine<AnyDevice>, event: Event<NoBytes>, watch:
 
 // The failure of a call that was refused.
 fn refused_call(machine: &Machine<AnyDevice>, eve: &Eve, watch: &Watch) -> Option<Failure>
-    ensures { (before : State) → IsEve eve.now before → IfSome result (λ failure. Fails watch.now.lines failure before machine.now) }
+    ensures { (before : State) (event : Happening) → IsEve eve.now watch.now event before → MatchOption result (NoneRefused watch.now before event machine.now) (λ failure. (t : ℕ) × (e : Errno) × (failure ≡ Failure.Refused t e) × IsCaller t before event × IsRefused t e before machine.now) }
 {
     let Some(errors) = watch.errors else {
         return None;
     };
-    match eve.caller {
-        Some(caller) => refused(machine, caller, &errors),
-        None => None,
-    }
+    let Some(caller) = eve.caller else {
+        return None;
+    };
+    refused(machine, caller, &errors)
 }
 
 // The failure of a line that was lost.
-fn lost_line(machine: &Machine<AnyDevice>, eve: &Eve, watch: &Watch) -> Option<Failure>
-    ensures { (before : State) → IsEve eve.now before → IfSome result (λ failure. Fails watch.now.lines failure before machine.now) }
+fn lost_line(machine: &Machine<AnyDevice>, eve: &Eve) -> Option<Failure>
+    ensures { (before : State) (watch : Watch) (event : Happening) (answer : Answer) → IsEve eve.now watch event before → IfSome result (λ failure. Fails watch.lines failure before event answer machine.now) }
 {
     match eve.line {
         Some(line) => lost(machine, line),
@@ -89,7 +104,7 @@ fn lost_line(machine: &Machine<AnyDevice>, eve: &Eve, watch: &Watch) -> Option<F
 
 // The failure of what has gone on for too long.
 fn too_long(machine: &Machine<AnyDevice>, watch: &Watch, monitor: &mut Monitor) -> Option<Failure>
-    ensures { (before : State) → IfSome result (λ failure. Fails watch.now.lines failure before machine.now) }
+    ensures { (before : State) (event : Happening) (answer : Answer) → IfSome result (λ failure. Fails watch.now.lines failure before event answer machine.now) }
 {
     if let Some(ticks) = watch.held
         && let Some(failure) = monitor.held(machine, ticks)
@@ -102,7 +117,54 @@ fn too_long(machine: &Machine<AnyDevice>, watch: &Watch, monitor: &mut Monitor) 
     }
 }
 
-/// The failure that an event has made, the first in this order: a call refused, a line lost, a notice, an EBREAK, a fault, a deadlock, a
+// The failure of a step: an EBREAK, a fault, a deadlock.
+fn stepped(machine: &Machine<AnyDevice>, c: u8, answer: Answer, watch: &Watch) -> Option<Failure>
+    ensures { (before : State) (event : Happening) → step_of event ≡ Option.Some c → MatchOption result (IsQuietStep watch.now c answer machine.now) (λ failure. Fails watch.now.lines failure before event answer machine.now) }
+{
+    match stopped(machine, c, watch) {
+        Some(failure) => return Some(failure),
+        None => {}
+    }
+    match ran(machine, answer, watch) {
+        Some(failure) => return Some(failure),
+        None => {}
+    }
+    deadlocked(machine, watch)
+}
+
+// The failure of an event that comes from outside.
+fn outside(machine: &Machine<AnyDevice>, eve: &Eve, watch: &Watch) -> Option<Failure>
+    ensures { (before : State) (event : Happening) (answer : Answer) → step_of event ≡ Option.None → IsEve eve.now watch.now event before → IsSeen watch.now before event answer machine.now result }
+{
+    match notice_left(machine, eve.notices, watch) {
+        Some(failure) => return Some(failure),
+        None => {}
+    }
+    deadlocked(machine, watch)
+}
+
+// The failure of a step that one event shows: a call refused, a notice, an EBREAK, a fault, a deadlock.
+fn shown(
+    machine: &Machine<AnyDevice>,
+    c: u8,
+    answer: Answer,
+    eve: &Eve,
+    watch: &Watch,
+) -> Option<Failure>
+    ensures { (before : State) (event : Happening) → step_of event ≡ Option.Some c → IsEve eve.now watch.now event before → IsSeen watch.now before event answer machine.now result }
+{
+    match refused_call(machine, eve, watch) {
+        Some(failure) => return Some(failure),
+        None => {}
+    }
+    match notice_left(machine, eve.notices, watch) {
+        Some(failure) => return Some(failure),
+        None => {}
+    }
+    stepped(machine, c, answer, watch)
+}
+
+/// The failure that an event has made, the first in this order: a call refused, a notice, an EBREAK, a fault, a deadlock, a line lost, a
 /// mutex held or a task kept back for too long.
 pub(crate) fn looked(
     machine: &Machine<AnyDevice>,
@@ -112,22 +174,18 @@ pub(crate) fn looked(
     watch: &Watch,
     monitor: &mut Monitor,
 ) -> Option<Failure>
-    ensures { (before : State) → IsEve eve.now before → IfSome result (λ failure. Fails watch.now.lines failure before machine.now) }
+    ensures { (before : State) → IsEve eve.now watch.now (short_event event) before → IsSeen watch.now before (short_event event) answer machine.now result }
 {
-    let Event::Step(c) = event else {
-        return None;
+    let Some(c) = stepping(event) else {
+        return outside(machine, eve, watch);
     };
-    if let Some(failure) = refused_call(machine, eve, watch) {
-        return Some(failure);
+    match shown(machine, c, answer, eve, watch) {
+        Some(failure) => return Some(failure),
+        None => {}
     }
-    if let Some(failure) = lost_line(machine, eve, watch) {
-        return Some(failure);
-    }
-    if let Some(failure) = notice_left(machine, eve.notices, watch) {
-        return Some(failure);
-    }
-    if let Some(failure) = stepped(machine, c, answer, watch) {
-        return Some(failure);
+    match lost_line(machine, eve) {
+        Some(failure) => return Some(failure),
+        None => {}
     }
     too_long(machine, watch, monitor)
 }

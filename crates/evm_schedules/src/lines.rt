@@ -2,7 +2,9 @@
 
 ghost use Rattle.std.specs.Prelude.{◌≡◌, ℕ, ◌<◌, false, IfSome, List, length, slice_get};
 ghost use Rattle.evm_core.specs.Views.{counts_at};
+ghost use Rattle.evm_model.specs.Event.{Event};
 ghost use Rattle.evm_model.specs.State.{State};
+ghost use Rattle.evm_model.specs.declared.event.Answer.{Answer};
 ghost use Rattle.evm_model.specs.Waits.{awaits_line};
 ghost use Rattle.evm_schedules.specs.Failures.{Fails, IsUnawaited, plays};
 
@@ -101,7 +103,7 @@ pub(crate) fn first_unawaited(
 
 /// The failure of a line that was played though no task waited for it.
 pub(crate) fn lost(machine: &Machine<AnyDevice>, line: Unawaited) -> Option<Failure>
-    ensures { (lines : List ℕ) (before : State) → IsUnawaited line.cpu line.line line.played before → IfSome result (λ failure. Fails lines failure before machine.now) }
+    ensures { (lines : List ℕ) (before : State) (event : Event) (answer : Answer) → IsUnawaited line.cpu line.line line.played before → IfSome result (λ failure. Fails lines failure before event answer machine.now) }
 {
     if plays(machine, line.cpu, line.line) > line.played {
         Some(Failure::Lost(line.cpu, line.line))

@@ -1,9 +1,10 @@
 //! Whether a machine has failed.
 
-ghost use Rattle.std.specs.Prelude.{◌≡◌, ℕ, ◌<◌, true, IfSome, IsTrue, length, slice_get};
+ghost use Rattle.std.specs.Prelude.{◌≡◌, ℕ, ◌<◌, true, false, IsTrue, MatchOption, Option, length, slice_get};
 ghost use Rattle.evm_core.specs.Views.{device_word};
 ghost use Rattle.evm_model.specs.State.{State};
-ghost use Rattle.evm_schedules.specs.Failures.{Fails, IsDeadlock, faulted_at, is_quiet_pipe, is_stuck, is_stuck_task, is_waiting_task, is_zero, only_tasks_end, stopped_at};
+ghost use Rattle.evm_model.specs.declared.notice.NoticeKind.{NoticeKind};
+ghost use Rattle.evm_schedules.specs.Failures.{IsDeadlock, IsNoticed, faulted_at, has_kind, is_off, is_quiet_pipe, is_stuck, is_stuck_task, is_waiting_task, is_zero, only_tasks_end, stopped_at};
 
 use crate::failure::Failure;
 use crate::watch::Watch;
@@ -35,48 +36,64 @@ fn is_faulted(machine: &Machine<AnyDevice>, t: u8) -> bool
     }
 }
 
+// Whether a timer is off.
+fn is_off(machine: &Machine<AnyDevice>, n: u8) -> bool
+    ensures { result ≡ is_off (slice_get machine.now.board.parts.timers n) }
+{
+    match machine.timer(n) {
+        None => true,
+        Some(timer) => timer.due == 0,
+    }
+}
+
 // Whether nothing but another task ends a wait.
-fn only_tasks_end(lines: LineSet, wait: Wait) -> bool
-    ensures { result ≡ only_tasks_end lines wait }
+fn only_tasks_end(machine: &Machine<AnyDevice>, lines: LineSet, wait: Wait) -> bool
+    ensures { result ≡ only_tasks_end lines machine.now.board.parts.timers wait }
 {
     match wait {
         Wait::Lock(_) | Wait::Reacquire { .. } | Wait::Event(_) => true,
         Wait::Semaphore(_) | Wait::Flags(_) => lines.is_empty(),
         Wait::Line(line) => line != 0 && !lines.contains(line),
-        Wait::Sleep | Wait::Timer(_) => false,
+        Wait::Sleep => false,
+        Wait::Timer(n) => is_off(machine, n),
     }
 }
 
 // Whether a task has ended, or waits without a deadline for another.
-fn is_stuck(lines: LineSet, task: &Task) -> bool
-    ensures { result ≡ is_stuck lines task.now }
+fn is_stuck(machine: &Machine<AnyDevice>, lines: LineSet, task: &Task) -> bool
+    ensures { result ≡ is_stuck lines machine.now.board.parts.timers task.now }
 {
     if task.deadline != 0 {
         return false;
     }
     match task.state {
         TaskState::Exit | TaskState::Faulted(_) => true,
-        TaskState::Waits(wait) => only_tasks_end(lines, wait),
+        TaskState::Waits(wait) => only_tasks_end(machine, lines, wait),
         TaskState::InReady | TaskState::OobReady => false,
     }
 }
 
 /// Whether there is no task, or it has ended, or waits without a deadline for another.
-pub(crate) fn is_stuck_task(lines: LineSet, task: Option<Task>) -> bool
-    ensures { result ≡ is_stuck_task lines task }
+pub(crate) fn is_stuck_task(
+    machine: &Machine<AnyDevice>,
+    lines: LineSet,
+    task: Option<Task>,
+) -> bool
+    ensures { result ≡ is_stuck_task lines machine.now.board.parts.timers task }
 {
     match task {
         None => true,
-        Some(task) => is_stuck(lines, &task),
+        Some(task) => is_stuck(machine, lines, &task),
     }
 }
 
 // Whether each task has ended, or waits without a deadline for another.
 fn are_stuck(machine: &Machine<AnyDevice>, lines: LineSet) -> bool
-    ensures { IsTrue result → (t : ℕ) → t < length machine.now.board.parts.tasks → is_stuck_task lines (slice_get machine.now.board.parts.tasks t) ≡ true }
+    ensures all { IsTrue result → (t : ℕ) → t < length machine.now.board.parts.tasks → is_stuck_task lines machine.now.board.parts.timers (slice_get machine.now.board.parts.tasks t) ≡ true }
+    ensures one { result ≡ false → ((t : ℕ) → t < length machine.now.board.parts.tasks → is_stuck_task lines machine.now.board.parts.timers (slice_get machine.now.board.parts.tasks t) ≡ true) → ⊥ }
 {
-    for t in 0..machine.task_count() {
-        if !is_stuck_task(lines, machine.task(t)) {
+    'tasks: for t in 0..machine.task_count() {
+        if !is_stuck_task(machine, lines, machine.task(t)) {
             return false;
         }
     }
@@ -97,9 +114,10 @@ fn is_waiting(task: Option<Task>) -> bool
 
 // Whether a task waits.
 fn one_waits(machine: &Machine<AnyDevice>) -> bool
-    ensures { IsTrue result → (t : ℕ) × (is_waiting_task (slice_get machine.now.board.parts.tasks t) ≡ true) }
+    ensures one { IsTrue result → (t : ℕ) × (is_waiting_task (slice_get machine.now.board.parts.tasks t) ≡ true) }
+    ensures none { result ≡ false → (t : ℕ) → is_waiting_task (slice_get machine.now.board.parts.tasks t) ≡ false }
 {
-    for t in 0..machine.task_count() {
+    'tasks: for t in 0..machine.task_count() {
         if is_waiting(machine.task(t)) {
             return true;
         }
@@ -119,9 +137,10 @@ fn is_quiet(machine: &Machine<AnyDevice>, c: u8) -> bool
 
 // Whether no line is on any wire.
 fn are_quiet(machine: &Machine<AnyDevice>) -> bool
-    ensures { IsTrue result → (c : ℕ) → c < length machine.now.board.parts.processors → is_quiet_pipe (slice_get machine.now.board.parts.pipes c) ≡ true }
+    ensures all { IsTrue result → (c : ℕ) → c < length machine.now.board.parts.processors → is_quiet_pipe (slice_get machine.now.board.parts.pipes c) ≡ true }
+    ensures one { result ≡ false → ((c : ℕ) → c < length machine.now.board.parts.processors → is_quiet_pipe (slice_get machine.now.board.parts.pipes c) ≡ true) → ⊥ }
 {
-    for c in 0..machine.cpu_count() {
+    'cpus: for c in 0..machine.cpu_count() {
         if !is_quiet(machine, c) {
             return false;
         }
@@ -141,7 +160,8 @@ pub(crate) fn pins_are_still(machine: &Machine<AnyDevice>) -> bool
 
 /// Whether a task waits and none can run again, where these lines may be raised from outside.
 pub fn is_deadlock(machine: &Machine<AnyDevice>, lines: LineSet) -> bool
-    ensures { IsTrue result → IsDeadlock lines machine.now }
+    ensures dead { IsTrue result → IsDeadlock lines machine.now }
+    ensures alive { result ≡ false → IsDeadlock lines machine.now → ⊥ }
 {
     if !are_stuck(machine, lines) {
         return false;
@@ -155,22 +175,19 @@ pub fn is_deadlock(machine: &Machine<AnyDevice>, lines: LineSet) -> bool
     pins_are_still(machine)
 }
 
-/// The failure of a notice that was left since there were `noticed` of them.
+/// The task and the kind of the last notice, if there are more of them than `noticed`, and it is one that is watched for.
 pub(crate) fn notice_left(
     machine: &Machine<AnyDevice>,
     noticed: u64,
     watch: &Watch,
 ) -> Option<Failure>
-    ensures { (before : State) → IfSome result (λ failure. Fails watch.now.lines failure before machine.now) }
+    ensures { (before : State) → noticed ≡ before.board.parts.notices.total → MatchOption result ((t : ℕ) (kind : NoticeKind) → has_kind watch.now kind ≡ true → IsNoticed t kind before machine.now → ⊥) (λ failure. (t : ℕ) × (kind : NoticeKind) × (failure ≡ Failure.Notice t kind) × IsNoticed t kind before machine.now) }
 {
     if machine.notice_total() == noticed {
         return None;
     }
     let count = machine.notice_count();
-    if count == 0 {
-        return None;
-    }
-    let Some(notice) = machine.notice(count - 1) else {
+    let Some(notice) = machine.notice(count.saturating_sub(1)) else {
         return None;
     };
     if watch.notices(notice.kind) {
@@ -180,39 +197,42 @@ pub(crate) fn notice_left(
     }
 }
 
-// The failure of a processor that stopped.
-fn stopped(machine: &Machine<AnyDevice>, c: u8, watch: &Watch) -> Option<Failure>
-    ensures { (before : State) → IfSome result (λ failure. Fails watch.now.lines failure before machine.now) }
+/// The failure of a processor that stopped.
+pub(crate) fn stopped(machine: &Machine<AnyDevice>, c: u8, watch: &Watch) -> Option<Failure>
+    ensures { MatchOption result (watch.now.ebreak ≡ true → stopped_at c machine.now ≡ true → ⊥) (λ failure. (failure ≡ Failure.Ebreak c) × (stopped_at c machine.now ≡ true)) }
 {
-    if watch.ebreak && is_stopped(machine, c) {
+    if !watch.ebreak {
+        return None;
+    }
+    if is_stopped(machine, c) {
         Some(Failure::Ebreak(c))
     } else {
         None
     }
 }
 
-// The failure of a task that did an instruction.
-fn ran(machine: &Machine<AnyDevice>, t: u8, watch: &Watch) -> Option<Failure>
-    ensures { (before : State) → IfSome result (λ failure. Fails watch.now.lines failure before machine.now) }
+/// The failure of a task that did an instruction.
+pub(crate) fn ran(machine: &Machine<AnyDevice>, answer: Answer, watch: &Watch) -> Option<Failure>
+    ensures { MatchOption result (watch.now.fault ≡ true → (t : ℕ) → answer ≡ Answer.Ran t → faulted_at t machine.now ≡ true → ⊥) (λ failure. (t : ℕ) × (failure ≡ Failure.Fault t) × (answer ≡ Answer.Ran t) × (faulted_at t machine.now ≡ true)) }
 {
-    if watch.fault && is_faulted(machine, t) {
+    if !watch.fault {
+        return None;
+    }
+    let Answer::Ran(t) = answer else {
+        return None;
+    };
+    if is_faulted(machine, t) {
         Some(Failure::Fault(t))
     } else {
         None
     }
 }
 
-// The failure of tasks that wait for one another.
-fn deadlocked(machine: &Machine<AnyDevice>, c: u8, watch: &Watch) -> Option<Failure>
-    ensures { (before : State) → IfSome result (λ failure. Fails watch.now.lines failure before machine.now) }
+/// The failure of tasks that wait for one another.
+pub(crate) fn deadlocked(machine: &Machine<AnyDevice>, watch: &Watch) -> Option<Failure>
+    ensures { MatchOption result (watch.now.deadlock ≡ true → IsDeadlock watch.now.lines machine.now → ⊥) (λ failure. (failure ≡ Failure.Deadlock) × IsDeadlock watch.now.lines machine.now) }
 {
     if !watch.deadlock {
-        return None;
-    }
-    let Some(processor) = machine.cpu(c) else {
-        return None;
-    };
-    if processor.current.is_some() {
         return None;
     }
     if is_deadlock(machine, watch.lines) {
@@ -220,24 +240,4 @@ fn deadlocked(machine: &Machine<AnyDevice>, c: u8, watch: &Watch) -> Option<Fail
     } else {
         None
     }
-}
-
-/// The failure of a step of a processor: an EBREAK, a fault, a deadlock.
-pub(crate) fn stepped(
-    machine: &Machine<AnyDevice>,
-    c: u8,
-    answer: Answer,
-    watch: &Watch,
-) -> Option<Failure>
-    ensures { (before : State) → IfSome result (λ failure. Fails watch.now.lines failure before machine.now) }
-{
-    if let Some(failure) = stopped(machine, c, watch) {
-        return Some(failure);
-    }
-    if let Answer::Ran(t) = answer
-        && let Some(failure) = ran(machine, t, watch)
-    {
-        return Some(failure);
-    }
-    deadlocked(machine, c, watch)
 }

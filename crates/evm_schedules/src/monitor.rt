@@ -1,7 +1,9 @@
 //! What is counted over a run: how long a mutex is held, and how long a task is kept from running.
 
 ghost use Rattle.std.specs.Prelude.{◌≡◌, ℕ, List, true, IfSome, slice_get};
+ghost use Rattle.evm_model.specs.Event.{Event};
 ghost use Rattle.evm_model.specs.State.{State};
+ghost use Rattle.evm_model.specs.declared.event.Answer.{Answer};
 ghost use Rattle.evm_schedules.specs.Failures.{Fails, IsKeptBack, RunsLower, is_held, is_kept, is_kept_task};
 
 use crate::failure::{Failure, current, owner_of};
@@ -112,7 +114,7 @@ impl Monitor {
 
     /// The failure of a mutex that one task has for more than `ticks`.
     pub(crate) fn held(&mut self, machine: &Machine<AnyDevice>, ticks: u64) -> Option<Failure>
-        ensures { (lines : List ℕ) (before : State) → IfSome result (λ failure. Fails lines failure before machine.now) }
+        ensures { (lines : List ℕ) (before : State) (event : Event) (answer : Answer) → IfSome result (λ failure. Fails lines failure before event answer machine.now) }
     {
         for m in 0..machine.mutex_count() {
             if self.is_held_long(machine, m, ticks) && is_held(machine.mutex(m)) {
@@ -138,7 +140,7 @@ impl Monitor {
         rank: u16,
         steps: u32,
     ) -> Option<Failure>
-        ensures { (lines : List ℕ) (before : State) → IfSome result (λ failure. Fails lines failure before machine.now) }
+        ensures { (lines : List ℕ) (before : State) (event : Event) (answer : Answer) → IfSome result (λ failure. Fails lines failure before event answer machine.now) }
     {
         for t in 0..machine.task_count() {
             let is_kept = machine.rank(t) > rank && is_kept_back(machine, t);

@@ -1,8 +1,11 @@
 //! Runs: a schedule on a machine, up to a failure.
 
-ghost use Rattle.std.specs.Prelude.{◌≡◌, OnErr, IfOk, IfSome};
-ghost use Rattle.evm_model.specs.Replay.{IsReplayOf};
+ghost use Rattle.std.specs.Prelude.{◌≡◌, ◌∷◌, ◌++◌, [], OnErr, OnOk, IfOk, IfErr, IfSome, Result};
+ghost use Rattle.evm_model.specs.Event.{short_event};
+ghost use Rattle.evm_model.specs.Replay.{apply, IsReplayOf};
 ghost use Rattle.evm_model.specs.State.{State};
+ghost use Rattle.evm_model.specs.declared.event.Answer.{Answer};
+ghost use Rattle.evm_schedules.specs.Failures.{IsSeen};
 ghost use Rattle.evm_schedules.specs.Runs.{Ends, HasFailed};
 
 use crate::chooser::Chooser;
@@ -37,6 +40,11 @@ pub fn advance(
     monitor: &mut Monitor,
 ) -> Result<Option<Failure>, Refusal>
     ensures fails { IfOk result (λ failed. IfSome failed (λ failure. HasFailed watch.now.lines failure machine.new)) }
+    // what it answers is all that the event has made fail
+    ensures seen { IfOk result (λ seen. (answer : Answer) × (apply machine.old (short_event event) ≡ Result.Ok (machine.new, answer)) × IsSeen watch.now machine.old (short_event event) answer machine.new seen) }
+    ensures refused { IfErr result (λ refusal. apply machine.old (short_event event) ≡ Result.Err refusal) }
+    ensures journaled { OnOk result (machine.new.journal ≡ machine.old.journal ++ short_event event ∷ []) }
+    ensures booted { machine.new.boot ≡ machine.old.boot }
     ensures unchanged { OnErr result (machine.new ≡ machine.old) }
     ensures replays { (first : State) → IsReplayOf first machine.old → IsReplayOf first machine.new }
 {

@@ -1,5 +1,8 @@
 //! What a hunt watches for.
 
+ghost use Rattle.std.specs.Prelude.{◌≡◌};
+ghost use Rattle.evm_schedules.specs.Failures.{error_in, has_kind};
+
 use evm_lines::LineSet;
 use evm_model::{Errno, NoticeKind};
 
@@ -43,7 +46,9 @@ impl Errors {
     }
 
     /// Whether an error is looked for.
-    pub fn contains(&self, error: Errno) -> bool {
+    pub fn contains(&self, error: Errno) -> bool
+        ensures { result ≡ error_in self.now error }
+    {
         match error {
             Errno::NotPermitted => self.eperm,
             Errno::NoSuchTask => self.esrch,
@@ -126,7 +131,9 @@ impl Watch {
     }
 
     /// Whether a notice of a kind ends a run.
-    pub fn notices(&self, kind: NoticeKind) -> bool {
+    pub fn notices(&self, kind: NoticeKind) -> bool
+        ensures { result ≡ has_kind self.now kind }
+    {
         match kind {
             NoticeKind::DemotedByCall => self.demoted_by_call,
             NoticeKind::DemotedByFault => self.demoted_by_fault,

@@ -1,0 +1,226 @@
+//! A branch of a search: the events with which it begins, and its further steps.
+
+ghost use Rattle.std.specs.Prelude.{◌≡◌, ◌∷◌, [], ◌<◌, ℕ, true, false, length, replicate, slice_get, IfNone, IfOk, IfSome, IsTrue, MatchOption, OnOk, Option};
+ghost use Rattle.evm_model.specs.Event.{short_event};
+ghost use Rattle.evm_model.specs.Replay.{IsReplayOf};
+ghost use Rattle.evm_model.specs.State.{State};
+ghost use Rattle.evm_model.specs.declared.event.Event.{Event};
+ghost use Rattle.evm_hunt.specs.Searches.{EndsBranch, is_failed};
+ghost use Rattle.evm_schedules.specs.Failures.{FailsAsSought};
+ghost use Rattle.evm_schedules.specs.Making.{IsAwake, MayMake};
+ghost use Rattle.evm_schedules.specs.Runs.{Ends, HasFailed};
+ghost use Rattle.evm_switches.specs.Branches.{KeepsBranches, events_of, turn_events};
+ghost use Rattle.evm_switches.specs.Walks.{AreForked, HasPassed, HasStepped, IsCovered, IsReached};
+
+use crate::switching::Switching;
+use evm_room::NoMemory;
+use evm_schedules::{
+    AnyDevice, Event, Failure, Machine, Monitor, NoBytes, Outcome, Watch, advance,
+    awake_processors, is_over,
+};
+use evm_switches::{Branch, Queue, Turn};
+
+// The failure that an event has made, if it is accepted.
+fn attempt(
+    machine: &mut Machine<AnyDevice>,
+    event: Event<NoBytes>,
+    watch: &Watch,
+    monitor: &mut Monitor,
+) -> Option<Failure>
+    ensures ends { IfSome result (λ failure. HasFailed watch.now.lines failure machine.new) }
+    ensures passes { IfNone result (HasPassed (FailsAsSought watch.now) machine.old (short_event event ∷ []) machine.new) }
+    ensures replays { (first : State) → IsReplayOf first machine.old → IsReplayOf first machine.new }
+{
+    match advance(machine, event, watch, monitor) {
+        Ok(seen) => seen,
+        Err(_) => None,
+    }
+}
+
+// Makes so many Steps of a processor, up to one that makes the machine fail.
+fn take_steps(
+    machine: &mut Machine<AnyDevice>,
+    cpu: u8,
+    steps: u32,
+    watch: &Watch,
+    monitor: &mut Monitor,
+) -> Option<Failure>
+    ensures ends { IfSome result (λ failure. HasFailed watch.now.lines failure machine.new) }
+    ensures passes { IfNone result (HasPassed (FailsAsSought watch.now) machine.old (replicate steps (Event.Step cpu)) machine.new) }
+    ensures replays { (first : State) → IsReplayOf first machine.old → IsReplayOf first machine.new }
+{
+    'steps: for _i in 0..steps {
+        match attempt(machine, Event::Step(cpu), watch, monitor) {
+            Some(failure) => return Some(failure),
+            None => {}
+        }
+    }
+    None
+}
+
+// Makes the events of a turn, up to one that makes the machine fail.
+fn take_turn(
+    machine: &mut Machine<AnyDevice>,
+    turn: &Turn,
+    watch: &Watch,
+    monitor: &mut Monitor,
+) -> Option<Failure>
+    ensures ends { IfSome result (λ failure. HasFailed watch.now.lines failure machine.new) }
+    ensures passes { IfNone result (HasPassed (FailsAsSought watch.now) machine.old (turn_events turn.now) machine.new) }
+    ensures replays { (first : State) → IsReplayOf first machine.old → IsReplayOf first machine.new }
+{
+    match take_steps(machine, turn.cpu, turn.steps, watch, monitor) {
+        Some(failure) => return Some(failure),
+        None => {}
+    }
+    attempt(machine, turn.choice.event(), watch, monitor)
+}
+
+/// Makes the events with which a branch begins, up to one that makes the machine fail.
+pub(crate) fn begin_with(
+    machine: &mut Machine<AnyDevice>,
+    turns: &[Turn],
+    watch: &Watch,
+    monitor: &mut Monitor,
+) -> Option<Failure>
+    ensures ends { IfSome result (λ failure. HasFailed watch.now.lines failure machine.new) }
+    ensures passes { IfNone result (HasPassed (FailsAsSought watch.now) machine.old (events_of turns.now) machine.new) }
+    ensures replays { (first : State) → IsReplayOf first machine.old → IsReplayOf first machine.new }
+{
+    'turns: for turn in turns {
+        match take_turn(machine, turn, watch, monitor) {
+            Some(failure) => return Some(failure),
+            None => {}
+        }
+    }
+    None
+}
+
+// Whether a processor is one of some.
+fn is_among(cpus: &[u8], cpu: u8) -> bool
+    ensures { result ≡ false → (i : ℕ) → slice_get cpus.now i ≡ Option.Some cpu → ⊥ }
+{
+    'cpus: for c in cpus {
+        if *c == cpu {
+            return true;
+        }
+    }
+    false
+}
+
+// Whether a branch has fewer switches than there may be.
+fn has_more(branch: &Branch, bounds: &Switching) -> bool
+    ensures { result ≡ false → length branch.now.turns.items < bounds.now.switches → ⊥ }
+{
+    branch.turns.len() < usize::from(bounds.switches)
+}
+
+// Adds the branches that go another way behind so many steps of one, if there may be one more switch.
+fn fork(
+    machine: &Machine<AnyDevice>,
+    branch: &Branch,
+    steps: u32,
+    awake: &[u8],
+    watch: &Watch,
+    bounds: &Switching,
+    queue: &mut Queue,
+) -> Result<(), NoMemory>
+    requires { (c : ℕ) → IsAwake c machine.now → (i : ℕ) × (slice_get awake.now i ≡ Option.Some c) }
+    ensures keeps { KeepsBranches queue.old.branches.items queue.new.branches.items }
+    ensures cut { queue.new.cut ≡ false → queue.old.cut ≡ false }
+    ensures forks { OnOk result (queue.new.cut ≡ false → AreForked (MayMake watch.now.lines) bounds.now.switches queue.new.branches.items branch.now steps machine.now) }
+{
+    if !has_more(branch, bounds) {
+        return Ok(());
+    }
+    match queue.fork_all(branch, steps, awake, machine.cpu_count(), watch.lines) {
+        Ok(()) => Ok(()),
+        Err(fault) => Err(fault),
+    }
+}
+
+// Makes the next step of a branch, if its processor can step; else, or if the step makes the machine fail, how the branch ends.
+fn step_on(
+    machine: &mut Machine<AnyDevice>,
+    branch: &Branch,
+    awake: &[u8],
+    watch: &Watch,
+    monitor: &mut Monitor,
+) -> Option<Outcome>
+    requires { (c : ℕ) → IsAwake c machine.old → (i : ℕ) × (slice_get awake.now i ≡ Option.Some c) }
+    ensures steps { MatchOption result (HasStepped (FailsAsSought watch.now) branch.now machine.old machine.new) (λ outcome. EndsBranch watch.now branch.now machine.old machine.new outcome) }
+    ensures replays { (first : State) → IsReplayOf first machine.old → IsReplayOf first machine.new }
+{
+    if !is_among(awake, branch.cpu) {
+        return Some(Outcome::Over);
+    }
+    match advance(machine, Event::Step(branch.cpu), watch, monitor) {
+        Ok(Some(failure)) => Some(Outcome::Failed(failure)),
+        Ok(None) => None,
+        Err(_) => Some(Outcome::Full),
+    }
+}
+
+// Adds the branches that go another way, and makes the next step of one that has made so many steps; how the branch ends, if it does.
+fn go_on_once(
+    machine: &mut Machine<AnyDevice>,
+    branch: &Branch,
+    steps: u32,
+    watch: &Watch,
+    monitor: &mut Monitor,
+    bounds: &Switching,
+    queue: &mut Queue,
+) -> Result<Option<Outcome>, NoMemory>
+    ensures keeps { KeepsBranches queue.old.branches.items queue.new.branches.items }
+    ensures cut { queue.new.cut ≡ false → queue.old.cut ≡ false }
+    ensures forks { OnOk result (queue.new.cut ≡ false → AreForked (MayMake watch.now.lines) bounds.now.switches queue.new.branches.items branch.now steps machine.old) }
+    ensures steps { IfOk result (λ outcome. MatchOption outcome (HasStepped (FailsAsSought watch.now) branch.now machine.old machine.new) (λ outcome. EndsBranch watch.now branch.now machine.old machine.new outcome)) }
+    ensures replays { (first : State) → IsReplayOf first machine.old → IsReplayOf first machine.new }
+{
+    let awake = awake_processors(machine);
+    if awake.is_empty() && is_over(machine, watch.lines) {
+        return Ok(Some(Outcome::Over));
+    }
+    match fork(
+        machine,
+        branch,
+        steps,
+        awake.as_slice(),
+        watch,
+        bounds,
+        queue,
+    ) {
+        Ok(()) => Ok(step_on(machine, branch, awake.as_slice(), watch, monitor)),
+        Err(fault) => Err(fault),
+    }
+}
+
+/// Goes on with the processor of a branch as long as it can step, and adds the branches that go another way.
+///
+/// # Errors
+///
+/// Memory was refused.
+pub(crate) fn go_on(
+    machine: &mut Machine<AnyDevice>,
+    branch: &Branch,
+    watch: &Watch,
+    monitor: &mut Monitor,
+    bounds: &Switching,
+    queue: &mut Queue,
+) -> Result<Outcome, NoMemory>
+    ensures keeps { KeepsBranches queue.old.branches.items queue.new.branches.items }
+    ensures cut { queue.new.cut ≡ false → queue.old.cut ≡ false }
+    ensures ends { IfOk result (λ outcome. Ends watch.now.lines outcome machine.new) }
+    ensures covers { IfOk result (λ outcome. is_failed outcome ≡ false → queue.new.cut ≡ false → (first : State) → IsReached first branch.now 0 machine.old → IsCovered (MayMake watch.now.lines) (FailsAsSought watch.now) bounds.now.switches branch.now queue.new.branches.items first machine.old) }
+    ensures replays { (first : State) → IsReplayOf first machine.old → IsReplayOf first machine.new }
+{
+    'steps: for steps in 0..u32::MAX {
+        match go_on_once(machine, branch, steps, watch, monitor, bounds, queue) {
+            Ok(None) => {}
+            Ok(Some(outcome)) => return Ok(outcome),
+            Err(fault) => return Err(fault),
+        }
+    }
+    queue.cut = true;
+    Ok(Outcome::Full)
+}
