@@ -3,7 +3,8 @@ use Rattle.std.proofs.Common.{◌≡◌, ℕ, Bool, true, false, ◌&&◌, ◌==
 use Rattle.std.specs.Prelude.{Option, Some, None}
 use Rattle.evm_image.specs.Images.{Contents}
 use Rattle.evm_session.specs.Sitting.{Sitting}
-use Rattle.evm_session.specs.Bench.{program_devices, IsScriptedIn, LeavesMachine}
+use Rattle.evm_program.specs.Devices.{program_devices}
+use Rattle.evm_session.specs.Bench.{IsScriptedIn, LeavesMachine}
 use Rattle.std.proofs.lemmas.Bool.{and_parts, cases_Bool}
 use Rattle.evm_diagnostics.specs.evm_text.Lines.{Text, Ended, text_of, with_byte, lines_in, text_lines}
 use Rattle.evm_session.specs.Scripted.{is_one_line, are_lines, lines_text, script_machine}

@@ -1,16 +1,11 @@
 -- A bench: an image, and the session that was begun with it, if a machine is booted.
 use Rattle.std.specs.Prelude.{◌≡◌, ℕ, List, [], ◌∷◌, Option, Some, None}
-use Rattle.evm_dev.specs.declared.kind.Kind.TheVariants.{Console, Mailbox, Pins}
 use Rattle.evm_image.specs.Images.{Contents}
-use Rattle.evm_model.specs.Devices.{Attached}
+use Rattle.evm_program.specs.Devices.{program_devices}
 use Rattle.evm_diagnostics.specs.evm_debug.LineReading.{line_at}
 use Rattle.evm_diagnostics.specs.evm_text.Lines.{text_lines}
 use Rattle.evm_session.specs.Sitting.{Sitting}
 use Rattle.evm_session.specs.Scripted.{IsScripted, IsDone, booted_by, script_machine, lines_text}
-
--- an empty console, an empty mailbox, and pins that are low: the devices of `evltool`
-abbrev pub program_devices : List Attached
-program_devices = record { kind = Console; words = [] } ∷ record { kind = Mailbox; words = [] } ∷ record { kind = Pins; words = 0 ∷ 0 ∷ 0 ∷ [] } ∷ []
 
 pub record BenchState : Type 0 where
   pub image : Contents

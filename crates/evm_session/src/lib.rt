@@ -3,7 +3,6 @@
 
 mod bench;
 mod booting;
-mod devices;
 mod laws;
 mod plain;
 mod running;

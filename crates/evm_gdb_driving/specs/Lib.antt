@@ -1,0 +1,3 @@
+pub mod Interrupts
+pub mod Kept
+pub mod Shown
