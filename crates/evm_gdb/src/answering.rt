@@ -9,12 +9,11 @@ use crate::questions::answer_question;
 use crate::resuming::{answer_resumed, refusal_text};
 use crate::session::Session;
 use arrayvec::ArrayVec;
-use evm_debug::{Event, Machine, Refusal};
 use evm_dev::Device;
 use evm_gdb_commands::{BreakKind, Command};
 use evm_gdb_driving::{
-    Interrupts, event, processor_of, push_bytes, push_error, push_outcome, push_task_text,
-    set_register, set_registers, word_at, write,
+    Event, Interrupts, Machine, Refusal, event, processor_of, push_bytes, push_error, push_outcome,
+    push_task_text, set_register, set_registers, word_at, write,
 };
 use evm_gdb_packets::read_digits;
 use evm_room::{NoMemory, Refused, push_text};

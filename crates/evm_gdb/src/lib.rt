@@ -10,8 +10,7 @@ mod serving;
 mod session;
 mod target;
 
-pub use evm_debug::{Boot, Devices, Line, Machine, Refusal, cut_line, read_line};
-pub use evm_gdb_driving::Interrupts;
+pub use evm_gdb_driving::{Boot, Devices, Interrupts, Line, Machine, Refusal, cut_line, read_line};
 pub use monitor::{LineEnd, run_line};
 pub use serving::{Ended, serve};
 pub use session::Session;

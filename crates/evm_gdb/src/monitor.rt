@@ -4,8 +4,8 @@ ghost use Rattle.evm_gdb_driving.specs.Kept.{Keeps};
 
 use crate::session::{Session, TURN_LIMIT, each_processor};
 use arrayvec::ArrayVec;
-use evm_debug::{Line, Machine, Refusal, View, ViewRefusal, push_view, read_line};
 use evm_dev::Device;
+use evm_gdb_driving::{Line, Machine, Refusal, View, ViewRefusal, push_view, read_line};
 use evm_room::NoMemory;
 use evm_text::{after_word, decimal_at, decimal_last};
 

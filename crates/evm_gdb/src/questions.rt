@@ -5,12 +5,11 @@ ghost use Rattle.evm_gdb.specs.Answers.{alive_text, answer_text, is_task, regist
 
 use crate::session::Session;
 use crate::target::{ACTIONS, DESCRIPTION, SUPPORTED, push_part};
-use evm_debug::{Machine, Refusal};
 use evm_dev::Device;
 use evm_gdb_commands::Command;
 use evm_gdb_driving::{
-    push_bytes, push_error, push_halt, push_memory, push_registers, push_thread, push_threads,
-    push_word, register,
+    Machine, Refusal, push_bytes, push_error, push_halt, push_memory, push_registers, push_thread,
+    push_threads, push_word, register,
 };
 use evm_room::Refused;
 

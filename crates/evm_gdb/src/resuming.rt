@@ -3,10 +3,9 @@
 ghost use Rattle.evm_gdb_driving.specs.Kept.{Keeps};
 
 use crate::session::Session;
-use evm_debug::{Machine, Refusal};
 use evm_dev::Device;
 use evm_gdb_commands::Pace;
-use evm_gdb_driving::{Interrupts, Why, push_error, push_halt, resume, step};
+use evm_gdb_driving::{Interrupts, Machine, Refusal, Why, push_error, push_halt, resume, step};
 use evm_room::{Refused, push_text};
 
 // Who goes on if GDB named nobody.

@@ -1,9 +1,8 @@
 //! A session: a machine, and what GDB has chosen.
 
 use arrayvec::ArrayVec;
-use evm_debug::Machine;
 use evm_dev::Device;
-use evm_gdb_driving::{Halt, Why, stop_all};
+use evm_gdb_driving::{Halt, Machine, Why, stop_all};
 
 /// How many turns a schedule may have.
 pub const TURN_LIMIT: usize = 32;

@@ -4,7 +4,6 @@
 
 mod bytes;
 mod driving;
-mod interrupts;
 mod memory;
 mod registers;
 mod running;
@@ -13,7 +12,10 @@ mod threads;
 
 pub use bytes::{part_len, push_bytes, push_error, push_outcome, push_thread, push_word};
 pub use driving::{event, stop_all};
-pub use interrupts::Interrupts;
+pub use evm_debug::{
+    Boot, Devices, Event, Line, Machine, Refusal, View, ViewRefusal, cut_line, push_view, read_line,
+};
+pub use evm_interrupts::Interrupts;
 pub use memory::{push_memory, write};
 pub use registers::{processor_of, push_registers, register, set_register, set_registers, word_at};
 pub use running::{resume, step};

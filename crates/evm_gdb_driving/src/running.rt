@@ -5,10 +5,10 @@ ghost use Rattle.evm_gdb_driving.specs.Interrupts.{CameAlone, IsAlone, OnlyIfAsk
 ghost use Rattle.evm_gdb_driving.specs.Kept.{Keeps};
 
 use crate::driving::{event, go_all, stop_all};
-use crate::interrupts::Interrupts;
 use crate::stops::{Halt, Why};
 use evm_debug::{Answer, Event, Machine, Refusal};
 use evm_dev::Device;
+use evm_interrupts::Interrupts;
 use evm_model::TaskState;
 
 // The task that a processor runs, or else another.

@@ -1,7 +1,7 @@
 //! The bytes that a thread hears, as a source.
 
 use crate::heard::{Coming, Heard};
-use evm_gdb_driving::Interrupts;
+use evm_interrupts::Interrupts;
 use evm_room::NoMemory;
 use std::alloc::Global;
 use std::io::{self, Error, Read};

@@ -71,7 +71,7 @@ impl Heard {
         self.bytes.is_empty() && matches!(self.coming, Coming::More)
     }
 
-    /// Whether so many bytes wait that no more is heard.
+    /// Whether no more is heard until some bytes are read.
     pub(crate) fn is_full(&self) -> bool {
         self.bytes.len() >= MOST && matches!(self.coming, Coming::More)
     }

@@ -1,5 +1,5 @@
 use super::Ear;
-use evm_gdb_driving::Interrupts;
+use evm_interrupts::Interrupts;
 use std::io::Read;
 use std::test::Fail;
 

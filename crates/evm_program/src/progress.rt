@@ -3,7 +3,7 @@
 use std::io::{IsTerminal, Write};
 use std::time::Instant;
 
-/// Who is told how far a run has come.
+/// Someone who shows how far a run has come.
 pub trait Meter {
     /// The run has come to this event, or this round.
     fn passed(&mut self, place: u64);

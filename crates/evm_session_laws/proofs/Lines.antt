@@ -10,17 +10,17 @@ use Rattle.evm_model.specs.declared.boot.Boot.{Boot}
 use Rattle.evm_model.specs.declared.event.Answer.{Answer}
 use Rattle.evm_model.specs.declared.refusal.Refusal.{Refusal}
 use Rattle.evm_model.specs.declared.refusal.Refusal.TheVariants.{BadSize}
-use Rattle.evm_serve.specs.evm_core.Load.{load}
-use Rattle.evm_serve.specs.evm_core.Steps.{steps}
-use Rattle.evm_serve.specs.evm_debug.LineReading.{line_at}
-use Rattle.evm_serve.specs.evm_debug.Views.{shown}
-use Rattle.evm_serve.specs.evm_debug.declared.line.Line.{Line}
-use Rattle.evm_serve.specs.evm_debug.declared.line.Line.TheVariants as lines
-use Rattle.evm_serve.specs.evm_debug.declared.line.View.{View}
-use Rattle.evm_serve.specs.evm_text.Lines.{text_lines}
-use Rattle.evm_serve.specs.RunOptions.{RunOptions, image_options}
-use Rattle.evm_serve.specs.Script.{LineOutcome, Goes, Ends, Report, after_steps, behind, boot_outcome, booted_outcome, event_outcome, line_outcome, lines_report, run_on, script_report, unbooted_outcome, view_outcome}
-use Rattle.evm_serve.specs.declared.ending.Verdict.TheVariants.{Done}
+use Rattle.evm_replays.specs.evm_serve.evm_core.Load.{load}
+use Rattle.evm_replays.specs.evm_serve.evm_core.Steps.{steps}
+use Rattle.evm_replays.specs.evm_serve.evm_debug.LineReading.{line_at}
+use Rattle.evm_replays.specs.evm_serve.evm_debug.Views.{shown}
+use Rattle.evm_replays.specs.evm_serve.evm_debug.declared.line.Line.{Line}
+use Rattle.evm_replays.specs.evm_serve.evm_debug.declared.line.Line.TheVariants as lines
+use Rattle.evm_replays.specs.evm_serve.evm_debug.declared.line.View.{View}
+use Rattle.evm_replays.specs.evm_serve.evm_text.Lines.{text_lines}
+use Rattle.evm_replays.specs.evm_serve.RunOptions.{RunOptions, image_options}
+use Rattle.evm_replays.specs.evm_serve.Script.{LineOutcome, Goes, Ends, Report, after_steps, behind, boot_outcome, booted_outcome, event_outcome, line_outcome, lines_report, run_on, script_report, unbooted_outcome, view_outcome}
+use Rattle.evm_replays.specs.evm_serve.declared.ending.Verdict.TheVariants.{Done}
 use Rattle.evm_replays.specs.Scripts as runs
 use Rattle.evm_session.specs.Sitting.{Sitting}
 use Rattle.evm_session.specs.Scripted.{IsScripted, after_event, after_line, after_lines, after_read, after_view, booted_by, goes_on, lines_text, loaded, script_machine, unless_refused}

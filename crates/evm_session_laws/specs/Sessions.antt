@@ -3,9 +3,9 @@ use Rattle.std.specs.Prelude.{◌≡◌, List, Some}
 use Rattle.evm_image.specs.Images.{Contents}
 use Rattle.evm_model.specs.Devices.{Attached}
 use Rattle.evm_replays.specs.Scripts.{machine_left}
-use Rattle.evm_serve.specs.RunOptions.{image_options}
-use Rattle.evm_serve.specs.Script.{script_report}
-use Rattle.evm_serve.specs.declared.ending.Verdict.TheVariants.{Done}
+use Rattle.evm_replays.specs.evm_serve.RunOptions.{image_options}
+use Rattle.evm_replays.specs.evm_serve.Script.{script_report}
+use Rattle.evm_replays.specs.evm_serve.declared.ending.Verdict.TheVariants.{Done}
 use Rattle.evm_session.specs.Sitting.{Sitting}
 use Rattle.evm_session.specs.Scripted.{IsScripted, lines_text}
 

@@ -3,10 +3,9 @@
 use crate::shell::{Outcome, Shell, Watch};
 use evm_program::Meter;
 use evm_room::NoMemory;
-use evm_session::{AnyDevice, Line, Machine, read_line};
 use evm_shell_answers::{
-    Names, Page, Snapshot, address_of, numbers_of, push, put_changes, put_code, put_harts,
-    put_numbers, put_owners, put_place, put_plain,
+    AnyDevice, Line, Machine, Names, Page, Snapshot, address_of, numbers_of, push, put_changes,
+    put_code, put_harts, put_numbers, put_owners, put_place, put_plain, read_line,
 };
 use evm_symbols::SymbolTable;
 use std::alloc::Global;

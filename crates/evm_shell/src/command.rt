@@ -11,8 +11,7 @@ use evm_host::{
 use evm_image::Image;
 use evm_messages::{Diagnostic, report_line};
 use evm_program::Meter;
-use evm_session::{script_text, write_journal};
-use evm_shell_answers::{MapFault, Names, SourceLines};
+use evm_shell_answers::{MapFault, Names, SourceLines, script_text, write_journal};
 use evm_streams::{ReadFault, ReadStop};
 use evm_symbols::Symbols;
 use std::alloc::Global;

@@ -12,8 +12,7 @@ mod words;
 
 pub use command::{answer, answer_read};
 pub use evm_host::{Devices, Ending, RunOptions, Verdict, host_world, run_script};
-pub use evm_session::{AnyDevice, script_text};
-pub use evm_shell_answers::{Names, Page, SourceLines};
+pub use evm_shell_answers::{AnyDevice, Names, Page, SourceLines, script_text};
 pub use program::run;
 pub use reading::{Finish, serve_lines};
 pub use shell::Shell;

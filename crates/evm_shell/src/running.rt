@@ -3,10 +3,9 @@
 use crate::shell::{Outcome, Shell};
 use evm_program::Meter;
 use evm_room::NoMemory;
-use evm_session::{Line, Stop, View, read_line};
 use evm_shell_answers::{
-    Condition, Page, Snapshot, condition_of, holds, number_of, put_changes, put_decoded, put_plain,
-    put_swallowed, report_stop,
+    Condition, Line, Page, Snapshot, Stop, View, condition_of, holds, number_of, put_changes,
+    put_decoded, put_plain, put_swallowed, read_line, report_stop,
 };
 use std::alloc::Global;
 

@@ -4,8 +4,7 @@ use crate::help::HELP;
 use evm_image::Image;
 use evm_program::Meter;
 use evm_room::NoMemory;
-use evm_session::Bench;
-use evm_shell_answers::{Names, Page, Snapshot, cut_word};
+use evm_shell_answers::{Bench, Names, Page, Snapshot, cut_word};
 use std::alloc::Global;
 
 /// A word of RAM that is watched: its address, and what it was.
@@ -39,7 +38,7 @@ pub(crate) enum Outcome {
 }
 
 impl<'a, M: Meter + Drop> Shell<'a, M> {
-    /// A shell for an image, with the names of its addresses. The meter is told of the rounds of a command.
+    /// A shell for an image, with the names of its addresses. The meter gets the rounds of a command.
     pub fn new(alloc: Global, image: &'a Image, names: Names, meter: M) -> Self {
         Shell {
             bench: Bench::new(image),

@@ -19,6 +19,9 @@ mod words;
 pub use answers::{put_code, put_place};
 pub use changes::{put_changes, put_harts, put_owners, put_swallowed};
 pub use conditions::{Condition, condition_of, holds};
+pub use evm_session::{
+    AnyDevice, Bench, Line, Machine, Stop, View, read_line, script_text, write_journal,
+};
 pub use names::Names;
 pub use numbers::{address_of, number_of};
 pub use page::Page;
@@ -28,3 +31,6 @@ pub use snapshot::{Snapshot, push};
 pub use source_lines::{MapFault, SourceLines};
 pub use views::put_decoded;
 pub use words::cut_word;
+
+#[cfg(test)]
+mod tests;

@@ -141,7 +141,7 @@ fn trace_walk<W: Sink, M: Meter>(
     }
 }
 
-/// Traces the run of a journal, on a machine with the devices and the image, to a sink. The meter is told of the events.
+/// Traces the run of a journal, on a machine with the devices and the image, to a sink. The meter gets the events.
 ///
 /// # Errors
 ///
