@@ -23,7 +23,7 @@ use Rattle.evm_replays.specs.evm_serve.Script.{LineOutcome, Goes, Ends, Report, 
 use Rattle.evm_replays.specs.evm_serve.declared.ending.Verdict.TheVariants.{Done}
 use Rattle.evm_replays.specs.Scripts as runs
 use Rattle.evm_session.specs.Sitting.{Sitting}
-use Rattle.evm_session.specs.Scripted.{IsScripted, after_event, after_line, after_lines, after_read, after_view, booted_by, goes_on, lines_text, loaded, script_machine, unless_refused}
+use Rattle.evm_session.specs.Scripted.{IsScripted, after_event, after_line, after_lines, after_read, after_view, booted_by, with_state, script_of, loaded_state, script_machine, unless_refused}
 use Rattle.evm_session.proofs.Texts.{text_is}
 use Rattle.evm_session_laws.specs.Sessions.{IsRunAgain}
 
@@ -44,7 +44,7 @@ view-goes : (n : ℕ) (view : View) (s t : State) (r : Result (List ℕ) Refusal
 view-goes n view s t (Ok text) e = record { text = text; same = ap (Goes text) e }
 view-goes n view s t (Err refusal) e = cc
 
-boot-goes : (n : ℕ) (bad : Bool) (r : Result State Refusal) (s : State) → (if bad then None else loaded r) ≡ Some s → GoesWith (boot_outcome n (if bad then Err BadSize else r)) s
+boot-goes : (n : ℕ) (bad : Bool) (r : Result State Refusal) (s : State) → (if bad then None else loaded_state r) ≡ Some s → GoesWith (boot_outcome n (if bad then Err BadSize else r)) s
 boot-goes n true r s e = cc
 boot-goes n false (Ok t) s e = record { text = []; same = ap (Goes []) e }
 boot-goes n false (Err refusal) s e = cc
@@ -85,7 +85,7 @@ leave-on t others report u s g h = record {
 }
 
 lines-next : (o : Option State) (ls : List (List ℕ)) (t : LineOutcome) (others : Option State → Option State) (report : Option State → Report) (s : State)
-    → ((u : State) → o ≡ Some u → GoesWith t u) → ((u : State) → after_lines ls u ≡ Some s → LeaveFrom others report u s) → goes_on o (after_lines ls) ≡ Some s → Leave t others report s
+    → ((u : State) → o ≡ Some u → GoesWith t u) → ((u : State) → after_lines ls u ≡ Some s → LeaveFrom others report u s) → with_state o (after_lines ls) ≡ Some s → Leave t others report s
 lines-next None ls t others report s g h e = cc
 lines-next (Some u) ls t others report s g h e = leave-on t others report u s (g u refl) (h u e)
 
@@ -109,4 +109,4 @@ script-goes devices image (line ∷ ls) s e =
 
 pub is_run_again : IsRunAgain
 unfolding script_report
-is_run_again devices image s h = script-goes devices image (text_lines (lines_text s.lines)) s.machine (text_is devices image s h)
+is_run_again devices image s h = script-goes devices image (text_lines (script_of s.lines)) s.machine (text_is devices image s h)

@@ -7,9 +7,9 @@ use Rattle.evm_replays.specs.evm_serve.RunOptions.{image_options}
 use Rattle.evm_replays.specs.evm_serve.Script.{script_report}
 use Rattle.evm_replays.specs.evm_serve.declared.ending.Verdict.TheVariants.{Done}
 use Rattle.evm_session.specs.Sitting.{Sitting}
-use Rattle.evm_session.specs.Scripted.{IsScripted, lines_text}
+use Rattle.evm_session.specs.Scripted.{IsScripted, script_of}
 
 abbrev pub IsRunAgain : Type 0
 IsRunAgain = (devices : List Attached) (image : Contents) (s : Sitting) → IsScripted devices image s
-    → (machine_left (image_options devices image) (lines_text s.lines) ≡ Some s.machine)
-    × ((script_report (image_options devices image) (lines_text s.lines)).verdict ≡ Done)
+    → (machine_left (image_options devices image) (script_of s.lines) ≡ Some s.machine)
+    × ((script_report (image_options devices image) (script_of s.lines)).verdict ≡ Done)
