@@ -4,6 +4,6 @@
 use std::process::ExitCode;
 
 fn main(rt: HostRuntime) -> ExitCode {
-    let devices = evm_gdb_command::devices(rt.alloc());
-    ExitCode::from(evm_gdb_command::run(&rt, devices))
+    let devices = evm_gdb_command::program_devices(rt.alloc());
+    ExitCode::from(evm_gdb_command::run(&rt, rt, devices))
 }

@@ -1,3 +1,1 @@
 pub mod Extending
-pub mod Kept
-pub mod Lists

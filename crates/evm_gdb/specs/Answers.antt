@@ -1,91 +1,13 @@
 -- The answers to what GDB asks of the machine.
-use Rattle.std.specs.Prelude.{ℕ, zero, suc, ◌+◌, ◌%◌, Bool, true, false, slice_get, List, [], ◌∷◌, ◌++◌, Option, Some, None, codes, length, take, drop, nat_le, nat_lt, if◌then◌else◌, ◌==◌}
-use Rattle.std.specs.Int.{w64, to_le_bytes}
-use Rattle.evm_text.specs.Written.{pairs}
-use Rattle.evm_exec.specs.Registers.{register_of}
+use Rattle.std.specs.Prelude.{ℕ, Bool, true, false, slice_get, List, ◌++◌, Option, Some, None, codes, length, take, drop, nat_le, nat_lt, if◌then◌else◌}
 use Rattle.evm_exec.specs.declared.hart.Hart.{Hart}
 use Rattle.evm_exec.specs.declared.hart.TheConstants.{REGISTERS}
-use Rattle.evm_model.specs.declared.fault.Fault.TheVariants as faults
 use Rattle.evm_ram.specs.Ram.{bytes_at}
 use Rattle.evm_model.specs.State.{State}
-use Rattle.evm_gdb.specs.declared.command.Command.{Command}
-use Rattle.evm_gdb.specs.declared.command.Command.TheVariants as commands
-use Rattle.evm_gdb.specs.declared.stops.Halt.{Halt}
-use Rattle.evm_gdb.specs.declared.stops.Why.{Why}
-use Rattle.evm_gdb.specs.declared.stops.Why.TheVariants.{Asked, SoftwareBreak, HardwareBreak, Ebreak, Faulted, Limit, Idle}
-
--- a number of 64 bits, its low byte first
-abbrev pub word_text : ℕ → List ℕ
-word_text word = pairs (to_le_bytes w64 word)
-
--- the thread of a task
-abbrev pub thread_text : ℕ → List ℕ
-thread_text task = pairs ((task + 1) % 256 ∷ [])
-
--- E and a number of two digits
-abbrev pub error_text : ℕ → List ℕ
-error_text number = codes "E" ++ pairs (number ∷ [])
-
--- ---- registers
-
--- register r, and the pc behind them
-abbrev pub hart_register : Hart → ℕ → ℕ
-hart_register hart r = if r == REGISTERS then hart.pc else (if nat_lt r REGISTERS then register_of hart.regs r else 0)
-
--- the first registers
-unfoldable pub register_texts : ℕ → Hart → List ℕ
-register_texts zero hart = []
-register_texts (suc r) hart = register_texts r hart ++ word_text (hart_register hart r)
-
--- all of them, and the pc
-abbrev pub registers_text : Hart → List ℕ
-registers_text hart = register_texts (REGISTERS + 1) hart
-
--- ---- memory
-
--- bytes of RAM, or error 6 where one is outside
-abbrev pub memory_text : Option (List ℕ) → List ℕ
-memory_text None = error_text 6
-memory_text (Some bytes) = pairs bytes
-
--- ---- threads
-
--- a thread, behind a comma if it is not the first
-abbrev pub listed_text : ℕ → List ℕ
-listed_text t = if t == 0 then thread_text t else codes "," ++ thread_text t
-
--- the threads of the tasks below a number
-unfoldable pub thread_texts : ℕ → List ℕ
-thread_texts zero = []
-thread_texts (suc t) = thread_texts t ++ listed_text t
-
-abbrev pub threads_text : ℕ → List ℕ
-threads_text count = codes "m" ++ thread_texts count
-
--- ---- stops
-
--- the signal of a stop
-abbrev pub signal_of : Why → ℕ
-signal_of Asked = 5
-signal_of SoftwareBreak = 5
-signal_of HardwareBreak = 5
-signal_of Ebreak = 5
-signal_of (Faulted faults.Misaligned) = 10
-signal_of (Faulted faults.Fetch) = 11
-signal_of (Faulted faults.Illegal) = 4
-signal_of (Faulted faults.Load) = 11
-signal_of (Faulted faults.Store) = 11
-signal_of Limit = 2
-signal_of Idle = 0
-
-abbrev pub break_text : Why → List ℕ
-break_text SoftwareBreak = codes ";swbreak:;"
-break_text HardwareBreak = codes ";hwbreak:;"
-break_text _ = codes ";"
-
--- T, the signal, the thread, and which kind of breakpoint it was
-abbrev pub halt_text : Halt → List ℕ
-halt_text halt = codes "T" ++ pairs (signal_of halt.why ∷ []) ++ codes "thread:" ++ thread_text halt.task ++ break_text halt.why
+use Rattle.evm_gdb_commands.specs.declared.command.Command.{Command}
+use Rattle.evm_gdb_commands.specs.declared.command.Command.TheVariants as commands
+use Rattle.evm_gdb_driving.specs.Shown.{error_text, hart_register, halt_text, memory_text, registers_text, thread_text, threads_text, word_text}
+use Rattle.evm_gdb_driving.specs.declared.stops.Halt.{Halt}
 
 -- ---- questions
 

@@ -1,4 +1,2 @@
 pub mod Answers
-pub mod Commands
-pub mod Kept
 pub mod Written

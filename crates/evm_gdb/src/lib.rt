@@ -1,22 +1,16 @@
-//! A machine under GDB: commands of the remote serial protocol, their answers, and the server over a source and a sink.
+//! A machine under GDB: the answers to its commands, and the server over a source and a sink.
 //! The packets are those of "Debugging with GDB", appendix "GDB Remote Serial Protocol".
 #![tactic(auto)]
 
 mod answering;
-mod bytes;
-mod command;
-mod driving;
-mod memory;
 mod monitor;
-mod registers;
-mod running;
+mod questions;
+mod resuming;
 mod serving;
 mod session;
-mod stops;
 mod target;
-mod threads;
 
-pub use evm_debug::{Boot, Devices, Line, Machine, Refusal, cut_line, read_line};
+pub use evm_gdb_driving::{Boot, Devices, Interrupts, Line, Machine, Refusal, cut_line, read_line};
 pub use monitor::{LineEnd, run_line};
 pub use serving::{Ended, serve};
 pub use session::Session;

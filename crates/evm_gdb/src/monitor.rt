@@ -1,11 +1,11 @@
 //! Lines of a script, as a monitor takes them.
 
-ghost use Rattle.evm_gdb.specs.Kept.{Keeps};
+ghost use Rattle.evm_gdb_driving.specs.Kept.{Keeps};
 
 use crate::session::{Session, TURN_LIMIT, each_processor};
 use arrayvec::ArrayVec;
-use evm_debug::{Line, Machine, Refusal, View, ViewRefusal, push_view, read_line};
 use evm_dev::Device;
+use evm_gdb_driving::{Line, Machine, Refusal, View, ViewRefusal, push_view, read_line};
 use evm_room::NoMemory;
 use evm_text::{after_word, decimal_at, decimal_last};
 
@@ -47,7 +47,7 @@ fn look<D: Device>(
 /// # Errors
 ///
 /// Memory for the text was refused.
-#[tactic(auto, using(crate::proofs::Kept::keeps_same))]
+#[tactic(auto, using(evm_gdb_driving::proofs::Kept::keeps_same))]
 pub fn run_line<D: Device>(
     machine: &mut Machine<D>,
     line: &[u8],
@@ -134,7 +134,7 @@ journal, console, words I                                  views of a script
 /// # Errors
 ///
 /// Memory for the text was refused.
-#[tactic(auto, using(crate::proofs::Kept::keeps_same))]
+#[tactic(auto, using(evm_gdb_driving::proofs::Kept::keeps_same))]
 pub(crate) fn run_monitor<D: Device>(
     session: &mut Session<D>,
     line: &[u8],

@@ -2,15 +2,15 @@
 
 ghost use Rattle.std.specs.Prelude.{◌≡◌, ◌≢◌, ◌<◌, ◌++◌, [], length, OnOk, Option};
 ghost use Rattle.evm_gdb_packets.specs.Framing.{framed};
-ghost use Rattle.evm_gdb.specs.Commands.{command_at};
+ghost use Rattle.evm_gdb_commands.specs.Commands.{command_at};
 ghost use Rattle.evm_gdb.specs.Written.{Extends, acknowledgement};
-ghost use Rattle.evm_gdb.specs.Kept.{Keeps};
+ghost use Rattle.evm_gdb_driving.specs.Kept.{Keeps};
 
 use crate::answering::answer;
-use crate::bytes::{part_len, push_bytes};
-use crate::command::{Command, read_command};
 use crate::session::Session;
 use evm_dev::Device;
+use evm_gdb_commands::{Command, read_command};
+use evm_gdb_driving::{Interrupts, part_len, push_bytes};
 use evm_gdb_packets::{Item, push_digits, push_framed, read_item};
 use evm_room::{NoMemory, Refused};
 use evm_streams::{ReadFault, Reading, Sink, Source, WriteFault, write_all};
@@ -113,11 +113,12 @@ fn push_packets(desk: &mut Desk, over: bool) -> Result<(), NoMemory>
 }
 
 // Does a command, and appends the packets of its answer.
-fn answer_command<D: Device>(
+fn answer_command<D: Device, I: Interrupts>(
     alloc: Global,
     session: &mut Session<D>,
     command: Command,
     behind: &[u8],
+    interrupts: &I,
     desk: &mut Desk,
 ) -> Result<(), NoMemory>
     ensures kept { Keeps session.old.machine session.new.machine }
@@ -130,6 +131,7 @@ fn answer_command<D: Device>(
         session,
         command,
         behind,
+        interrupts,
         &mut desk.data,
         &mut desk.told,
         &mut desk.answer,
@@ -165,11 +167,12 @@ fn push_sign(acknowledges: bool, item: Item, out: &mut Vec<u8>) -> Result<(), No
 }
 
 // Answers a payload.
-#[tactic(auto, using(crate::proofs::Kept::keeps_same, crate::proofs::Extending::extends_by))]
-fn answer_payload<D: Device>(
+#[tactic(auto, using(evm_gdb_driving::proofs::Kept::keeps_same, crate::proofs::Extending::extends_by))]
+fn answer_payload<D: Device, I: Interrupts>(
     alloc: Global,
     session: &mut Session<D>,
     payload: &[u8],
+    interrupts: &I,
     desk: &mut Desk,
 ) -> Result<(), NoMemory>
     ensures kept { Keeps session.old.machine session.new.machine }
@@ -178,18 +181,21 @@ fn answer_payload<D: Device>(
     ensures empty { command_at payload.now ≡ Option.None → OnOk result (desk.new.out.items ≡ desk.old.out.items ++ framed []) }
 {
     match read_command(payload) {
-        Some((command, behind)) => answer_command(alloc, session, command, behind, desk),
+        Some((command, behind)) => answer_command(
+            alloc, session, command, behind, interrupts, desk,
+        ),
         None => push_none(&mut desk.out),
     }
 }
 
 // Makes what is to be written for an item: its acknowledgement, and the packets of the answer to a payload.
-#[tactic(auto, using(crate::proofs::Kept::keeps_same, crate::proofs::Extending::extends_none))]
-fn hear<D: Device>(
+#[tactic(auto, using(evm_gdb_driving::proofs::Kept::keeps_same, crate::proofs::Extending::extends_none))]
+fn hear<D: Device, I: Interrupts>(
     alloc: Global,
     session: &mut Session<D>,
     item: Item,
     payload: &[u8],
+    interrupts: &I,
     desk: &mut Desk,
 ) -> Result<(), NoMemory>
     ensures kept { Keeps session.old.machine session.new.machine }
@@ -205,7 +211,7 @@ fn hear<D: Device>(
         Err(NoMemory) => return Err(NoMemory),
     }
     match item {
-        Item::Packet => answer_payload(alloc, session, payload, desk),
+        Item::Packet => answer_payload(alloc, session, payload, interrupts, desk),
         _ => Ok(()),
     }
 }
@@ -216,34 +222,36 @@ fn is_answered(item: Item) -> bool {
 }
 
 // Makes what is written for an item; what was written last stays where nothing new is.
-#[tactic(auto, using(crate::proofs::Kept::keeps_same))]
-fn prepare<D: Device>(
+#[tactic(auto, using(evm_gdb_driving::proofs::Kept::keeps_same))]
+fn prepare<D: Device, I: Interrupts>(
     alloc: Global,
     session: &mut Session<D>,
     item: Item,
     payload: &[u8],
+    interrupts: &I,
     desk: &mut Desk,
 ) -> Result<(), NoMemory>
     ensures kept { Keeps session.old.machine session.new.machine }
 {
     match item {
-        Item::Packet | Item::Damaged => hear(alloc, session, item, payload, desk),
+        Item::Packet | Item::Damaged => hear(alloc, session, item, payload, interrupts, desk),
         _ => Ok(()),
     }
 }
 
 // Answers an item.
-fn serve_item<W: Sink, D: Device>(
+fn serve_item<W: Sink, D: Device, I: Interrupts>(
     alloc: Global,
     session: &mut Session<D>,
     item: Item,
     payload: &[u8],
+    interrupts: &I,
     desk: &mut Desk,
     sink: &mut W,
 ) -> Result<(), Ended>
     ensures kept { Keeps session.old.machine session.new.machine }
 {
-    match prepare(alloc, session, item, payload, desk) {
+    match prepare(alloc, session, item, payload, interrupts, desk) {
         Ok(()) => {}
         Err(NoMemory) => return Err(Ended::NoMemory),
     }
@@ -257,11 +265,12 @@ fn serve_item<W: Sink, D: Device>(
 }
 
 // Answers the items that are whole in some bytes: how many bytes are left.
-#[tactic(auto, using(crate::proofs::Kept::keeps_same, crate::proofs::Kept::keeps_more))]
-fn serve_items<W: Sink, D: Device>(
+#[tactic(auto, using(evm_gdb_driving::proofs::Kept::keeps_same, evm_gdb_driving::proofs::Kept::keeps_more))]
+fn serve_items<W: Sink, D: Device, I: Interrupts>(
     alloc: Global,
     session: &mut Session<D>,
     bytes: &[u8],
+    interrupts: &I,
     payload: &mut Vec<u8>,
     desk: &mut Desk,
     sink: &mut W,
@@ -277,7 +286,15 @@ fn serve_items<W: Sink, D: Device>(
             Err(_) => return Err(Ended::NoMemory),
             Ok(None) => return Ok(rest.len()),
             Ok(Some((item, after))) => {
-                match serve_item(alloc, session, item, payload.as_slice(), desk, sink) {
+                match serve_item(
+                    alloc,
+                    session,
+                    item,
+                    payload.as_slice(),
+                    interrupts,
+                    desk,
+                    sink,
+                ) {
                     Ok(()) => rest = after,
                     Err(ended) => return Err(ended),
                 }
@@ -309,9 +326,10 @@ fn keep_last(heard: &mut Vec<u8>, left: usize) {
     }
 }
 
-/// Serves a session: reads what GDB sends until it leaves, and writes the answers.
-#[tactic(auto, using(crate::proofs::Kept::keeps_same, crate::proofs::Kept::keeps_more))]
-pub fn serve<R: Source, W: Sink, D: Device>(
+/// Serves a session: reads what GDB sends until it leaves, and writes the answers. While the program goes on, the source
+/// says whether GDB asks that it be stopped.
+#[tactic(auto, using(evm_gdb_driving::proofs::Kept::keeps_same, evm_gdb_driving::proofs::Kept::keeps_more))]
+pub fn serve<R: Source + Interrupts, W: Sink, D: Device>(
     alloc: Global,
     session: &mut Session<D>,
     source: &mut R,
@@ -332,6 +350,7 @@ pub fn serve<R: Source, W: Sink, D: Device>(
             alloc,
             session,
             heard.as_slice(),
+            source,
             &mut payload,
             &mut desk,
             sink,

@@ -1,8 +1,8 @@
-use crate::driving::stop_all;
-use crate::stops::{Halt, Why};
+//! A session: a machine, and what GDB has chosen.
+
 use arrayvec::ArrayVec;
-use evm_debug::Machine;
 use evm_dev::Device;
+use evm_gdb_driving::{Halt, Machine, Why, stop_all};
 
 /// How many turns a schedule may have.
 pub const TURN_LIMIT: usize = 32;

@@ -3,7 +3,7 @@
 ghost use Rattle.std.specs.Prelude.{◌≡◌, ◌++◌, OnOk};
 ghost use Rattle.evm_gdb.specs.Answers.{part_text};
 
-use crate::bytes::push_bytes;
+use evm_gdb_driving::push_bytes;
 use evm_room::Refused;
 
 /// What is supported.

@@ -65,6 +65,22 @@ fn packets(alloc: Global, payloads: &[&[u8]]) -> Result<Vec<u8>, Fail> {
 }
 
 #[test]
+fn a_continue_is_interrupted(rt: HostRuntime) -> Result<(), Fail> {
+    let mut session = Session::new(machine(rt.alloc())?);
+    session.acknowledges = false;
+    let input = packets(rt.alloc(), &[b"vCont;c", b"p20"])?;
+    let mut source = Slow {
+        rest: input.as_slice(),
+        asks: true,
+    };
+    let mut out = Vec::new(rt.alloc());
+    let _ = serve(rt.alloc(), &mut session, &mut source, &mut out);
+    let wanted = packets(rt.alloc(), &[b"T02thread:01;", b"0000008000000000"])?;
+    assert_eq!(rt; out.as_slice(), wanted.as_slice());
+    Ok(())
+}
+
+#[test]
 fn a_stop_is_told(rt: HostRuntime) -> Result<(), Fail> {
     let out = talk(rt.alloc(), &[b"?", b"qC", b"qfThreadInfo", b"T02"])?;
     let wanted = packets(rt.alloc(), &[b"T05thread:01;", b"QC01", b"m01", b""])?;
@@ -176,10 +192,21 @@ fn the_monitor_shows_a_view(rt: HostRuntime) -> Result<(), Fail> {
     Ok(())
 }
 
-/// Gives a byte at a call.
+/// Gives a byte at a call, and asks for a stop at every look, or at none.
 #[derive(Drop)]
 struct Slow<'a> {
     rest: &'a [u8],
+    asks: bool,
+}
+
+impl Interrupts for Slow<'_> {
+    ghost use Rattle.std.specs.Prelude.{◌≡◌};
+
+    ghost asks = { λ slow answer. answer ≡ slow.asks };
+
+    fn is_asked(&self) -> bool {
+        self.asks
+    }
 }
 
 impl Read for Slow<'_> {
@@ -211,6 +238,7 @@ fn packets_come_in_pieces(rt: HostRuntime) -> Result<(), Fail> {
     let mut session = Session::new(machine(rt.alloc())?);
     let mut source = Slow {
         rest: b"+$qC#b4$qC#b5-+x",
+        asks: false,
     };
     let mut out = Vec::new(rt.alloc());
     let end = serve(rt.alloc(), &mut session, &mut source, &mut out);

@@ -5,13 +5,14 @@ use crate::words::{Job, job_of, parse};
 use clap::Error;
 use clap::error::ErrorKind;
 use evm_dev::Device;
-use evm_gdb::{Devices, Ended, Machine, Refusal, Session, serve};
+use evm_gdb::{Devices, Ended, Interrupts, Machine, Refusal, Session, serve};
 use evm_host::{
     Ending, FAILED, Known, Message, System, USAGE, Verdict, WordsFault, World, ended, ended_with,
     image_at, memory_refused, report, text_at, words_not_read, write_all,
 };
 use evm_image::Image;
 use evm_serve::InputFault;
+use evm_streams::Source;
 use std::alloc::Global;
 
 /// The name in front of messages that are about no file.
@@ -133,10 +134,11 @@ fn status_of<S: System>(end: Ended, world: &mut World<S>) -> u8 {
 }
 
 // Boots a machine, and serves GDB.
-fn do_job<S: System, D: Device>(
+fn do_job<S: System, D: Device, I: Source + Interrupts>(
     alloc: Global,
     devices: Devices<D>,
     job: Job<'_>,
+    input: &mut I,
     world: &mut World<S>,
 ) -> u8 {
     let image = match image_at(alloc, job.image, world) {
@@ -148,20 +150,21 @@ fn do_job<S: System, D: Device>(
         Err(status) => return status,
     };
     let mut session = Session::new(machine);
-    let end = serve(alloc, &mut session, &mut world.input, &mut world.output);
+    let end = serve(alloc, &mut session, input, &mut world.output);
     status_of(end, world)
 }
 
-/// Does what the words ask for, with devices in the machine, and returns the exit status.
-pub fn answer<S: System, D: Device>(
+/// Does what the words ask for, with devices in the machine, and returns the exit status. GDB is heard by the input.
+pub fn answer<S: System, D: Device, I: Source + Interrupts>(
     alloc: Global,
     words: &[String],
     devices: Devices<D>,
+    input: &mut I,
     world: &mut World<S>,
 ) -> u8 {
     match parse(alloc, words) {
         Ok(matches) => match job_of(&matches) {
-            Some(job) => do_job(alloc, devices, job, world),
+            Some(job) => do_job(alloc, devices, job, input, world),
             None => USAGE,
         },
         Err(error) => refuse(alloc, &error, world),
@@ -169,14 +172,15 @@ pub fn answer<S: System, D: Device>(
 }
 
 /// Does what the words ask for, or reports why they could not be read, and returns the exit status.
-pub fn answer_read<S: System, D: Device>(
+pub fn answer_read<S: System, D: Device, I: Source + Interrupts>(
     alloc: Global,
     words: Result<Vec<String>, WordsFault>,
     devices: Devices<D>,
+    input: &mut I,
     world: &mut World<S>,
 ) -> u8 {
     match words {
-        Ok(words) => answer(alloc, words.as_slice(), devices, world),
+        Ok(words) => answer(alloc, words.as_slice(), devices, input, world),
         Err(WordsFault::NotText) => words_not_read(PROGRAM, world),
         Err(WordsFault::NoMemory) => memory_refused(PROGRAM, world),
     }

@@ -1,13 +1,12 @@
 //! The command line of `evlgdb`, from its words to the exit status.
 #![tactic(auto)]
 
-mod attaching;
 mod booting;
 mod command;
 mod help;
 mod program;
 mod words;
 
-pub use attaching::devices;
 pub use command::{answer, answer_read};
+pub use evm_program::program_devices;
 pub use program::run;

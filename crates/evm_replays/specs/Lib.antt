@@ -1,2 +1,3 @@
 pub mod Scripts
 pub mod Machines
+pub use Rattle.evm_serve.specs as evm_serve

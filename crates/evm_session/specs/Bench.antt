@@ -1,16 +1,11 @@
 -- A bench: an image, and the session that was begun with it, if a machine is booted.
 use Rattle.std.specs.Prelude.{◌≡◌, ℕ, List, [], ◌∷◌, Option, Some, None}
-use Rattle.evm_dev.specs.declared.kind.Kind.TheVariants.{Console, Mailbox, Pins}
 use Rattle.evm_image.specs.Images.{Contents}
-use Rattle.evm_model.specs.Devices.{Attached}
+use Rattle.evm_program.specs.Devices.{program_devices}
 use Rattle.evm_diagnostics.specs.evm_debug.LineReading.{line_at}
 use Rattle.evm_diagnostics.specs.evm_text.Lines.{text_lines}
 use Rattle.evm_session.specs.Sitting.{Sitting}
-use Rattle.evm_session.specs.Scripted.{IsScripted, IsDone, booted_by, script_machine, lines_text}
-
--- an empty console, an empty mailbox, and pins that are low: the devices of `evltool`
-abbrev pub program_devices : List Attached
-program_devices = record { kind = Console; words = [] } ∷ record { kind = Mailbox; words = [] } ∷ record { kind = Pins; words = 0 ∷ 0 ∷ 0 ∷ [] } ∷ []
+use Rattle.evm_session.specs.Scripted.{IsScripted, IsLineDone, booted_by, script_machine, script_of}
 
 pub record BenchState : Type 0 where
   pub image : Contents
@@ -24,7 +19,7 @@ IsScriptedIn image (Some s) = IsScripted program_devices image s
 -- a line was done: it booted a machine, or the machine did it
 abbrev pub DoneFrom : Contents → List ℕ → Option Sitting → Sitting → List ℕ → Type 0
 DoneFrom image line None new text = (booted_by program_devices image (line_at line) ≡ Some new.machine) × (new.lines ≡ line ∷ []) × (text ≡ [])
-DoneFrom image line (Some old) new text = IsDone line old new text
+DoneFrom image line (Some old) new text = IsLineDone line old new text
 
 abbrev pub IsDoneBy : List ℕ → BenchState → BenchState → List ℕ → Type 0
 IsDoneBy line old new text = (new.image ≡ old.image) × ((s : Sitting) × (new.sitting ≡ Some s) × DoneFrom old.image line old.sitting s text)
@@ -32,4 +27,4 @@ IsDoneBy line old new text = (new.image ≡ old.image) × ((s : Sitting) × (new
 -- The lines as the text of a script leave the machine.
 abbrev pub LeavesMachine : Contents → Option Sitting → Type 0
 LeavesMachine image None = Unit {0}
-LeavesMachine image (Some s) = script_machine program_devices image (text_lines (lines_text s.lines)) ≡ Some s.machine
+LeavesMachine image (Some s) = script_machine program_devices image (text_lines (script_of s.lines)) ≡ Some s.machine

@@ -50,26 +50,26 @@ line_text line s = []
 
 -- ---- a script
 
-abbrev pub goes_on : Option State → (State → Option State) → Option State
-goes_on None others = None
-goes_on (Some s) others = others s
+abbrev pub with_state : Option State → (State → Option State) → Option State
+with_state None others = None
+with_state (Some s) others = others s
 
 abbrev pub after_lines : List (List ℕ) → State → Option State
 after_lines [] s = Some s
-after_lines (line ∷ lines) s = goes_on (after_read (line_at line) s) (after_lines lines)
+after_lines (line ∷ lines) s = with_state (after_read (line_at line) s) (after_lines lines)
 
-abbrev pub loaded : Result State Refusal → Option State
-loaded (Ok s) = Some s
-loaded (Err refusal) = None
+abbrev pub loaded_state : Result State Refusal → Option State
+loaded_state (Ok s) = Some s
+loaded_state (Err refusal) = None
 
 abbrev pub booted_by : List Attached → Contents → Option Line → Option State
-booted_by devices image (Some (Boot boot)) = if bad_boot boot then None else loaded (load image (start devices boot))
+booted_by devices image (Some (Boot boot)) = if bad_boot boot then None else loaded_state (load image (start devices boot))
 booted_by devices image line = None
 
 -- the machine that a script leaves, whose first line boots
 abbrev pub script_machine : List Attached → Contents → List (List ℕ) → Option State
 script_machine devices image [] = None
-script_machine devices image (line ∷ lines) = goes_on (booted_by devices image (line_at line)) (after_lines lines)
+script_machine devices image (line ∷ lines) = with_state (booted_by devices image (line_at line)) (after_lines lines)
 
 -- none of its bytes is a newline
 abbrev pub is_one_line : List ℕ → Bool
@@ -86,13 +86,13 @@ pub record IsScripted (devices : List Attached) (image : Contents) (s : Sitting)
   pub each : are_lines s.lines ≡ true
 
 -- a line was done: it is behind the others, and the machine is what it made of the one before
-pub record IsDone (line : List ℕ) (old new : Sitting) (text : List ℕ) : Type 0 where
+pub record IsLineDone (line : List ℕ) (old new : Sitting) (text : List ℕ) : Type 0 where
   pub one_line : is_one_line line ≡ true
   pub machine : after_read (line_at line) old.machine ≡ Some new.machine
   pub lines : new.lines ≡ old.lines ++ line ∷ []
   pub shows : text ≡ line_text (line_at line) old.machine
 
 -- the lines as a text
-abbrev pub lines_text : List (List ℕ) → List ℕ
-lines_text [] = []
-lines_text (line ∷ lines) = line ++ (10 ∷ lines_text lines)
+abbrev pub script_of : List (List ℕ) → List ℕ
+script_of [] = []
+script_of (line ∷ lines) = line ++ (10 ∷ script_of lines)

@@ -4,7 +4,6 @@ ghost use Rattle.std.specs.Prelude.{◌≡◌, OnOk, OnErr, None};
 ghost use Rattle.std.specs.String.{string_bytes};
 ghost use Rattle.evm_session.specs.Bench.{IsDoneBy, LeavesMachine};
 
-use crate::devices::devices;
 use crate::laws::text_is_script;
 use crate::plain::PlainLine;
 use crate::session::Session;
@@ -12,6 +11,7 @@ use crate::stop::Stop;
 use evm_devs::AnyDevice;
 use evm_diagnostics::Machine;
 use evm_image::Image;
+use evm_program::program_devices;
 use evm_room::NoMemory;
 use std::alloc::Global;
 use std::marker::Model;
@@ -58,7 +58,7 @@ impl<'a> Bench<'a> {
         if let Some(session) = &mut self.session {
             return session.run(alloc, line, text);
         }
-        let Ok(devices) = devices(alloc) else {
+        let Ok(devices) = program_devices(alloc) else {
             return Err(Stop::NoMemory);
         };
         match Session::boot(alloc, self.image, devices, line) {

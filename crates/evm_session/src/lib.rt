@@ -3,7 +3,6 @@
 
 mod bench;
 mod booting;
-mod devices;
 mod laws;
 mod plain;
 mod running;
@@ -22,3 +21,6 @@ pub use plain::PlainLine;
 pub use script::script_text;
 pub use session::Session;
 pub use stop::Stop;
+
+#[cfg(test)]
+mod tests;

@@ -1,7 +1,7 @@
 //! The text of lines.
 
 ghost use Rattle.std.specs.Prelude.{◌≡◌, ◌++◌, ◌∷◌, [], OnOk, IfOk};
-ghost use Rattle.evm_session.specs.Scripted.{lines_text};
+ghost use Rattle.evm_session.specs.Scripted.{script_of};
 
 use crate::plain::PlainLine;
 use evm_room::{NoMemory, grow};
@@ -32,7 +32,7 @@ fn push_line(text: &mut Vec<u8>, line: &[u8]) -> Result<(), NoMemory>
 ///
 /// Memory was refused.
 pub fn script_text(alloc: Global, lines: &[PlainLine]) -> Result<Vec<u8>, NoMemory>
-    ensures { IfOk result (λ text. text.items ≡ lines_text lines.now) }
+    ensures { IfOk result (λ text. text.items ≡ script_of lines.now) }
 {
     let mut text = Vec::new(alloc);
     for line in lines {

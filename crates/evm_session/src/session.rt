@@ -4,7 +4,7 @@ ghost use Rattle.std.specs.Prelude.{◌≡◌, List, [], ◌∷◌, IfOk, OnOk, 
 ghost use Rattle.std.specs.String.{string_bytes};
 ghost use Rattle.evm_image.specs.Images.{Contents};
 ghost use Rattle.evm_model.specs.Devices.{Attached};
-ghost use Rattle.evm_session.specs.Scripted.{IsScripted, IsDone, booted_by};
+ghost use Rattle.evm_session.specs.Scripted.{IsScripted, IsLineDone, booted_by};
 ghost use Rattle.evm_diagnostics.specs.evm_debug.LineReading.{line_at};
 
 use crate::booting::boot;
@@ -69,7 +69,7 @@ impl<D: Device> Session<D> {
     // A line, and that it is behind the others then.
     fn add(&mut self, alloc: Global, line: &[u8], text: &mut String) -> Result<(), Stop>
         requires { string_bytes text.old ≡ [] }
-        ensures done { OnOk result (IsDone line.now self.old self.new (string_bytes text.new)) }
+        ensures done { OnOk result (IsLineDone line.now self.old self.new (string_bytes text.new)) }
         ensures refused { OnErr result (self.new ≡ self.old) }
     {
         if !is_one_line(line) {
@@ -96,7 +96,7 @@ impl<D: Device> Session<D> {
     ///
     /// Why the line is not done. The session is as before.
     pub fn run(&mut self, alloc: Global, line: &[u8], text: &mut String) -> Result<(), Stop>
-        ensures done { OnOk result (IsDone line.now self.old self.new (string_bytes text.new)) }
+        ensures done { OnOk result (IsLineDone line.now self.old self.new (string_bytes text.new)) }
         ensures refused { OnErr result (self.new ≡ self.old) }
         // The lines still make the machine.
         ensures scripted { (devices : List Attached) (image : Contents) → IsScripted devices image self.old → IsScripted devices image self.new }

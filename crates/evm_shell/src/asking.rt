@@ -1,16 +1,13 @@
 //! Commands that look at the machine and leave it as it is.
 
-use crate::answers::put_place;
-use crate::changes::{put_changes, put_harts, put_owners};
-use crate::numbers::address_of;
-use crate::page::Page;
-use crate::plain::put_plain;
 use crate::shell::{Outcome, Shell, Watch};
-use crate::show::{numbers_of, put_numbers};
-use crate::snapshot::{Snapshot, push};
+use evm_program::Meter;
 use evm_room::NoMemory;
-use evm_session::{AnyDevice, Line, Machine, read_line};
-use evm_symbols::{SymbolTable, Symbols};
+use evm_shell_answers::{
+    AnyDevice, Line, Machine, Names, Page, Snapshot, address_of, numbers_of, push, put_changes,
+    put_code, put_harts, put_numbers, put_owners, put_place, put_plain, read_line,
+};
+use evm_symbols::SymbolTable;
 use std::alloc::Global;
 
 /// The most watches.
@@ -52,12 +49,12 @@ fn expected(rest: &str) -> Option<(&str, bool, &str)> {
 
 fn put_watch(
     page: &mut Page,
-    symbols: &Symbols,
+    names: &Names,
     watch: &Watch,
     new: Option<u64>,
 ) -> Result<(), NoMemory> {
     page.put("  ")?;
-    put_place(page, symbols, watch.address)?;
+    put_place(page, names, watch.address)?;
     page.put(" ")?;
     page.put_decimal(watch.value.unwrap_or(0))?;
     page.put(" -> ")?;
@@ -65,7 +62,7 @@ fn put_watch(
     page.put("\n")
 }
 
-impl Shell<'_> {
+impl<M: Meter + Drop> Shell<'_, M> {
     /// Says which watched words have changed.
     pub(crate) fn tell_watches(&mut self, page: &mut Page) -> Result<(), NoMemory> {
         let Some(machine) = self.bench.machine() else {
@@ -74,7 +71,7 @@ impl Shell<'_> {
         for watch in self.watches.iter_mut() {
             let new = word_at(machine, watch.address);
             if new != watch.value {
-                put_watch(page, &self.symbols, watch, new)?;
+                put_watch(page, &self.names, watch, new)?;
                 watch.value = new;
             }
         }
@@ -83,7 +80,7 @@ impl Shell<'_> {
 
     /// `watch ADDRESS`: from now on each change of a word of 8 bytes is said.
     pub(crate) fn watch(&mut self, rest: &str, page: &mut Page) -> Result<Outcome, NoMemory> {
-        let Some(address) = address_of(&self.symbols, rest) else {
+        let Some(address) = address_of(&self.names.symbols, rest) else {
             return Ok(Outcome::Wanted(WATCH_FORM));
         };
         let Some(machine) = self.bench.machine() else {
@@ -95,7 +92,7 @@ impl Shell<'_> {
         }
         push(&mut self.watches, Watch { address, value })?;
         page.put("  ")?;
-        put_place(page, &self.symbols, address)?;
+        put_place(page, &self.names, address)?;
         page.put(" is ")?;
         page.put_decimal(value.unwrap_or(0))?;
         page.put("\n")?;
@@ -114,7 +111,7 @@ impl Shell<'_> {
             return Ok(Outcome::Wanted(EXPECT_FORM));
         };
         let mut line = Page::new(alloc);
-        put_plain(&mut line, &self.symbols, view)?;
+        put_plain(&mut line, &self.names, view)?;
         let Ok(Line::Look(_)) = read_line(line.bytes()) else {
             return Ok(Outcome::Wanted(EXPECT_FORM));
         };
@@ -149,7 +146,7 @@ impl Shell<'_> {
 
     /// `show ADDRESS as TYPE[N]`: what RAM holds, as numbers.
     pub(crate) fn show(&mut self, rest: &str, page: &mut Page) -> Result<Outcome, NoMemory> {
-        let Some(numbers) = numbers_of(&self.symbols, rest) else {
+        let Some(numbers) = numbers_of(&self.names, rest) else {
             return Ok(Outcome::Wanted(SHOW_FORM));
         };
         let Some(machine) = self.bench.machine() else {
@@ -192,21 +189,21 @@ impl Shell<'_> {
         page.put(" events, ")?;
         page.put_decimal(machine.ticks().saturating_sub(mark.ticks))?;
         page.put(" ticks\n")?;
-        put_changes(page, &self.symbols, machine, mark)?;
+        put_changes(page, &self.names, machine, mark)?;
         put_owners(page, machine, mark)?;
-        put_harts(page, &self.symbols, machine, mark)?;
+        put_harts(page, &self.names, machine, mark)?;
         Ok(Outcome::Said)
     }
 
     /// `where ADDRESS`: an address by number and by name.
     pub(crate) fn place(&mut self, rest: &str, page: &mut Page) -> Result<Outcome, NoMemory> {
-        let Some(address) = address_of(&self.symbols, rest) else {
+        let Some(address) = address_of(&self.names.symbols, rest) else {
             return Ok(Outcome::Wanted(WHERE_FORM));
         };
         page.put("  ")?;
         page.put_hexadecimal(address)?;
         page.put(" ")?;
-        put_place(page, &self.symbols, address)?;
+        put_code(page, &self.names, address)?;
         page.put("\n")?;
         Ok(Outcome::Said)
     }
@@ -216,12 +213,12 @@ impl Shell<'_> {
         if !rest.is_empty() {
             return Ok(Outcome::Wanted(SYMBOLS_FORM));
         }
-        match self.symbols.table() {
+        match self.names.symbols.table() {
             SymbolTable::Absent => page.put("  the image has no symbol table\n")?,
             SymbolTable::Damaged => page.put("  the image has a damaged symbol table\n")?,
             SymbolTable::Read => {}
         }
-        for symbol in self.symbols.symbols() {
+        for symbol in self.names.symbols.symbols() {
             page.put("  ")?;
             page.put_hexadecimal(symbol.value())?;
             page.put(" ")?;

@@ -3,12 +3,15 @@
 use crate::help::{HELP, USAGE_TEXT};
 use crate::reading::{Finish, serve_lines};
 use crate::shell::Shell;
+use crate::words::{Job, Wish, wish_of};
 use evm_host::{
     Ending, Message, System, USAGE, Verdict, WordsFault, World, ended, image_at, memory_refused,
-    not_created, not_opened, not_read, read_all, report, words_not_read, write_all,
+    not_created, not_opened, not_read, read_all, report, text_at, words_not_read, write_all,
 };
 use evm_image::Image;
-use evm_session::{script_text, write_journal};
+use evm_messages::{Diagnostic, report_line};
+use evm_program::Meter;
+use evm_shell_answers::{MapFault, Names, SourceLines, script_text, write_journal};
 use evm_streams::{ReadFault, ReadStop};
 use evm_symbols::Symbols;
 use std::alloc::Global;
@@ -22,94 +25,6 @@ const VERSION: &str = "evlsh 0.1.0\n";
 const INPUT: &str = "standard input";
 
 const OUTPUT: &str = "standard output";
-
-/// What the words ask for.
-#[derive(Clone, Copy, Debug)]
-struct Job<'a> {
-    image: &'a str,
-    file: Option<&'a str>,
-    script: Option<&'a str>,
-    journal: Option<&'a str>,
-}
-
-/// What the words of the command line say.
-#[derive(Clone, Copy, Debug)]
-enum Wish<'a> {
-    Help,
-    Version,
-    Serve(Job<'a>),
-    Wrong(&'static str),
-}
-
-// What is being read of the words.
-#[derive(Clone, Copy, Debug)]
-struct Parsed<'a> {
-    image: Option<&'a str>,
-    file: Option<&'a str>,
-    script: Option<&'a str>,
-    journal: Option<&'a str>,
-}
-
-fn positional<'a>(parsed: Parsed<'a>, word: &'a str) -> Option<Parsed<'a>> {
-    let mut parsed = parsed;
-    if parsed.image.is_none() {
-        parsed.image = Some(word);
-    } else if parsed.file.is_none() {
-        parsed.file = Some(word);
-    } else {
-        return None;
-    }
-    Some(parsed)
-}
-
-// The words behind the name of the program.
-fn wish_of(words: &[String]) -> Wish<'_> {
-    let mut parsed = Parsed {
-        image: None,
-        file: None,
-        script: None,
-        journal: None,
-    };
-    let mut wants_script = false;
-    let mut wants_journal = false;
-    for word in words {
-        let word = word.as_str();
-        if wants_script {
-            parsed.script = Some(word);
-            wants_script = false;
-        } else if wants_journal {
-            parsed.journal = Some(word);
-            wants_journal = false;
-        } else if word == "--help" || word == "-h" {
-            return Wish::Help;
-        } else if word == "--version" || word == "-V" {
-            return Wish::Version;
-        } else if word == "--script" {
-            wants_script = true;
-        } else if word == "--journal" {
-            wants_journal = true;
-        } else if word.starts_with('-') {
-            return Wish::Wrong("an unknown option; see evlsh --help");
-        } else {
-            let Some(more) = positional(parsed, word) else {
-                return Wish::Wrong("too many words; see evlsh --help");
-            };
-            parsed = more;
-        }
-    }
-    if wants_script || wants_journal {
-        return Wish::Wrong("an option without its file; see evlsh --help");
-    }
-    match parsed.image {
-        None => Wish::Wrong("IMAGE is wanted; see evlsh --help"),
-        Some(image) => Wish::Serve(Job {
-            image,
-            file: parsed.file,
-            script: parsed.script,
-            journal: parsed.journal,
-        }),
-    }
-}
 
 // Writes a text, and answers the status.
 fn show<S: System>(text: &str, world: &mut World<S>) -> u8 {
@@ -133,6 +48,39 @@ fn symbols_at<S: System>(alloc: Global, path: &str, world: &mut World<S>) -> Res
         },
         Err(stop) => Err(not_read(stop, path, world)),
     }
+}
+
+// The lines of sources that a map file gives.
+fn map_at<S: System>(alloc: Global, path: &str, world: &mut World<S>) -> Result<SourceLines, u8> {
+    let text = match text_at(alloc, path, world) {
+        Ok(text) => text,
+        Err(status) => return Err(status),
+    };
+    match SourceLines::read(alloc, text.as_str()) {
+        Ok(lines) => Ok(lines),
+        Err(MapFault::NoMemory) => Err(memory_refused(PROGRAM, world)),
+        Err(MapFault::BadLine(number)) => {
+            let message = Message::Plain("bad line: wanted `ADDRESS FILE:LINE` or `ADDRESS -`");
+            report_line(path, number, Diagnostic::Alone(message), &mut world.errors);
+            Err(1)
+        }
+    }
+}
+
+// The names that the image and the map file give.
+fn names_at<S: System>(alloc: Global, job: Job<'_>, world: &mut World<S>) -> Result<Names, u8> {
+    let symbols = match symbols_at(alloc, job.image, world) {
+        Ok(symbols) => symbols,
+        Err(status) => return Err(status),
+    };
+    let lines = match job.map {
+        None => SourceLines::new(alloc),
+        Some(path) => match map_at(alloc, path, world) {
+            Ok(lines) => lines,
+            Err(status) => return Err(status),
+        },
+    };
+    Ok(Names { symbols, lines })
 }
 
 // What the end of the lines says, and the status.
@@ -160,9 +108,9 @@ fn finished<S: System>(
 }
 
 // Serves the lines of a file, or of standard input.
-fn serve<S: System>(
+fn serve<S: System, M: Meter + Drop>(
     alloc: Global,
-    shell: &mut Shell<'_>,
+    shell: &mut Shell<'_, M>,
     file: Option<&str>,
     world: &mut World<S>,
 ) -> u8 {
@@ -190,9 +138,9 @@ fn save<S: System>(path: &str, text: &[u8], world: &mut World<S>) -> u8 {
     }
 }
 
-fn save_script<S: System>(
+fn save_script<S: System, M: Meter + Drop>(
     alloc: Global,
-    shell: &Shell<'_>,
+    shell: &Shell<'_, M>,
     path: &str,
     world: &mut World<S>,
 ) -> u8 {
@@ -202,9 +150,9 @@ fn save_script<S: System>(
     }
 }
 
-fn save_journal<S: System>(
+fn save_journal<S: System, M: Meter + Drop>(
     alloc: Global,
-    shell: &Shell<'_>,
+    shell: &Shell<'_, M>,
     path: &str,
     world: &mut World<S>,
 ) -> u8 {
@@ -218,9 +166,9 @@ fn save_journal<S: System>(
 }
 
 // What is saved at the end, and the greatest status.
-fn save_all<S: System>(
+fn save_all<S: System, M: Meter + Drop>(
     alloc: Global,
-    shell: &Shell<'_>,
+    shell: &Shell<'_, M>,
     job: Job<'_>,
     status: u8,
     world: &mut World<S>,
@@ -235,32 +183,32 @@ fn save_all<S: System>(
     status
 }
 
-fn do_job<S: System>(alloc: Global, job: Job<'_>, world: &mut World<S>) -> u8 {
+fn do_job<S: System, M: Meter + Drop>(
+    alloc: Global,
+    job: Job<'_>,
+    meter: M,
+    world: &mut World<S>,
+) -> u8 {
     let image = match image_at(alloc, job.image, world) {
         Ok(image) => image,
         Err(status) => return status,
     };
-    let symbols = match symbols_at(alloc, job.image, world) {
-        Ok(symbols) => symbols,
+    let names = match names_at(alloc, job, world) {
+        Ok(names) => names,
         Err(status) => return status,
     };
-    serve_image(alloc, &image, symbols, job, world)
-}
-
-fn serve_image<S: System>(
-    alloc: Global,
-    image: &Image,
-    symbols: Symbols,
-    job: Job<'_>,
-    world: &mut World<S>,
-) -> u8 {
-    let mut shell = Shell::new(alloc, image, symbols);
+    let mut shell = Shell::new(alloc, &image, names, meter);
     let status = serve(alloc, &mut shell, job.file, world);
     save_all(alloc, &shell, job, status, world)
 }
 
 /// Does what the words ask for, and returns the exit status.
-pub fn answer<S: System>(alloc: Global, words: &[String], world: &mut World<S>) -> u8 {
+pub fn answer<S: System, M: Meter + Drop>(
+    alloc: Global,
+    words: &[String],
+    meter: M,
+    world: &mut World<S>,
+) -> u8 {
     let words = match words {
         [_, rest @ ..] => rest,
         [] => words,
@@ -271,7 +219,7 @@ pub fn answer<S: System>(alloc: Global, words: &[String], world: &mut World<S>) 
             status => status,
         },
         Wish::Version => show(VERSION, world),
-        Wish::Serve(job) => do_job(alloc, job, world),
+        Wish::Serve(job) => do_job(alloc, job, meter, world),
         Wish::Wrong(words) => {
             report(PROGRAM, Message::Plain(words), &mut world.errors);
             USAGE
@@ -280,13 +228,14 @@ pub fn answer<S: System>(alloc: Global, words: &[String], world: &mut World<S>) 
 }
 
 /// Does what the words ask for, or reports why they could not be read, and returns the exit status.
-pub fn answer_read<S: System>(
+pub fn answer_read<S: System, M: Meter + Drop>(
     alloc: Global,
     words: Result<Vec<String>, WordsFault>,
+    meter: M,
     world: &mut World<S>,
 ) -> u8 {
     match words {
-        Ok(words) => answer(alloc, words.as_slice(), world),
+        Ok(words) => answer(alloc, words.as_slice(), meter, world),
         Err(WordsFault::NotText) => words_not_read(PROGRAM, world),
         Err(WordsFault::NoMemory) => memory_refused(PROGRAM, world),
     }

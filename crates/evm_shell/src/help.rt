@@ -28,6 +28,7 @@ Arguments:
 Options:
       --script OUT   Writes the lines of the script that were done, which `evltool run` repeats
       --journal OUT  Writes the journal
+      --map FILE     The lines of sources that addresses come from, as kit/map writes them
   -h, --help         Print help
   -V, --version      Print version
 

@@ -1,8 +1,9 @@
 //! Lines as they come: each is answered before the next is read.
 
-use crate::page::Page;
 use crate::shell::Shell;
+use evm_program::Meter;
 use evm_room::NoMemory;
+use evm_shell_answers::Page;
 use evm_streams::{Cause, Reading, Sink, Source, WriteFault, write_all};
 use evm_text::cut_ended;
 use std::alloc::Global;
@@ -31,9 +32,9 @@ struct Pending {
 }
 
 // Answers a line, and writes the answer.
-fn answer<W: Sink>(
+fn answer<W: Sink, M: Meter + Drop>(
     alloc: Global,
-    shell: &mut Shell<'_>,
+    shell: &mut Shell<'_, M>,
     number: u64,
     line: &[u8],
     output: &mut W,
@@ -50,9 +51,9 @@ fn answer<W: Sink>(
 }
 
 // Answers the whole lines, and leaves the start of the next.
-fn answer_whole<W: Sink>(
+fn answer_whole<W: Sink, M: Meter + Drop>(
     alloc: Global,
-    shell: &mut Shell<'_>,
+    shell: &mut Shell<'_, M>,
     pending: Pending,
     output: &mut W,
 ) -> Result<Pending, Finish> {
@@ -81,9 +82,9 @@ fn take(pending: &mut Pending, part: &[u8]) -> Result<(), Finish> {
 }
 
 /// Answers each line of a source as it comes. A last line without a newline is a line too.
-pub fn serve_lines<R: Source, W: Sink>(
+pub fn serve_lines<R: Source, W: Sink, M: Meter + Drop>(
     alloc: Global,
-    shell: &mut Shell<'_>,
+    shell: &mut Shell<'_, M>,
     source: &mut R,
     output: &mut W,
 ) -> Result<(), Finish> {

@@ -1,15 +1,12 @@
 //! Commands that drive the machine, each by plain lines.
 
-use crate::changes::{put_changes, put_swallowed};
-use crate::conditions::{Condition, condition_of, holds};
-use crate::numbers::number_of;
-use crate::page::Page;
-use crate::plain::{put_plain, report_stop};
 use crate::shell::{Outcome, Shell};
-use crate::snapshot::Snapshot;
-use crate::views::put_decoded;
+use evm_program::Meter;
 use evm_room::NoMemory;
-use evm_session::{Line, Stop, View, read_line};
+use evm_shell_answers::{
+    Condition, Line, Page, Snapshot, Stop, View, condition_of, holds, number_of, put_changes,
+    put_decoded, put_plain, put_swallowed, read_line, report_stop,
+};
 use std::alloc::Global;
 
 /// The most rounds of `each` and `until`.
@@ -51,7 +48,7 @@ pub(crate) fn put_steps(page: &mut Page, c: u8, count: u64) -> Result<(), NoMemo
     page.put_decimal(count)
 }
 
-impl Shell<'_> {
+impl<M: Meter + Drop> Shell<'_, M> {
     // Does a plain line, and appends the text of its view; false where it is not done, which the page says.
     pub(crate) fn run_plain(
         &mut self,
@@ -89,7 +86,7 @@ impl Shell<'_> {
         if let Some(machine) = self.bench.machine()
             && let Some(before) = before
         {
-            put_changes(page, &self.symbols, machine, before)?;
+            put_changes(page, &self.names, machine, before)?;
         }
         self.tell_watches(page)
     }
@@ -103,7 +100,7 @@ impl Shell<'_> {
         page: &mut Page,
     ) -> Result<Outcome, NoMemory> {
         let mut line = Page::new(alloc);
-        put_plain(&mut line, &self.symbols, text)?;
+        put_plain(&mut line, &self.names, text)?;
         let before = self.shot(alloc)?;
         if !self.run_plain(alloc, number, line.bytes(), page)? {
             return Ok(Outcome::Said);
@@ -121,14 +118,14 @@ impl Shell<'_> {
     fn decode(&self, view: &View, page: &mut Page) -> Result<(), NoMemory> {
         match self.bench.machine() {
             None => Ok(()),
-            Some(machine) => put_decoded(page, &self.symbols, machine, view),
+            Some(machine) => put_decoded(page, &self.names, machine, view),
         }
     }
 
     fn tell_swallowed(&self, c: u8, count: u32, page: &mut Page) -> Result<(), NoMemory> {
         match self.bench.machine() {
             None => Ok(()),
-            Some(machine) => put_swallowed(page, &self.symbols, machine, c, count),
+            Some(machine) => put_swallowed(page, &self.names, machine, c, count),
         }
     }
 
@@ -174,7 +171,8 @@ impl Shell<'_> {
             let _done = self.steps(alloc, number, 0, count, page)?;
             return Ok(());
         }
-        for _ in 0..count {
+        for done in 0..count {
+            self.meter.passed(done);
             if !self.round(alloc, number, cpus, page)? {
                 return Ok(());
             }
@@ -198,7 +196,9 @@ impl Shell<'_> {
         };
         let cpus = machine.cpu_count();
         let before = self.shot(alloc)?;
-        self.rounds(alloc, number, cpus, count, page)?;
+        let outcome = self.rounds(alloc, number, cpus, count, page);
+        self.meter.ended();
+        outcome?;
         self.tell(before.as_ref(), page)?;
         Ok(Outcome::Said)
     }
@@ -220,6 +220,7 @@ impl Shell<'_> {
                 return Ok(Some(done));
             }
             let cpus = machine.cpu_count();
+            self.meter.passed(done);
             if !self.round(alloc, number, cpus, page)? {
                 return Ok(None);
             }
@@ -256,14 +257,16 @@ impl Shell<'_> {
             None => (rest, Some(ROUNDS)),
             Some((words, bound)) => (words, rounds_of(bound)),
         };
-        let (Some(condition), Some(bound)) = (condition_of(&self.symbols, words), bound) else {
+        let (Some(condition), Some(bound)) = (condition_of(&self.names, words), bound) else {
             return Ok(Outcome::Wanted(UNTIL_FORM));
         };
         if self.bench.machine().is_none() {
             return Ok(Outcome::NotBooted);
         }
         let before = self.shot(alloc)?;
-        let reached = self.rounds_until(alloc, number, condition, bound, page)?;
+        let outcome = self.rounds_until(alloc, number, condition, bound, page);
+        self.meter.ended();
+        let reached = outcome?;
         self.say_rounds(reached, page)?;
         self.tell(before.as_ref(), page)?;
         Ok(Outcome::Said)

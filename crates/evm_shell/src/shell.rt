@@ -1,13 +1,10 @@
 //! The shell: a line, and what it answers.
 
 use crate::help::HELP;
-use crate::page::Page;
-use crate::snapshot::Snapshot;
-use crate::words::cut_word;
 use evm_image::Image;
+use evm_program::Meter;
 use evm_room::NoMemory;
-use evm_session::Bench;
-use evm_symbols::Symbols;
+use evm_shell_answers::{Bench, Names, Page, Snapshot, cut_word};
 use std::alloc::Global;
 
 /// A word of RAM that is watched: its address, and what it was.
@@ -19,13 +16,14 @@ pub(crate) struct Watch {
 
 /// A shell over a bench.
 #[derive(Drop)]
-pub struct Shell<'a> {
+pub struct Shell<'a, M: Meter + Drop> {
     pub(crate) bench: Bench<'a>,
     pub(crate) image: &'a Image,
-    pub(crate) symbols: Symbols,
+    pub(crate) names: Names,
     pub(crate) mark: Option<Snapshot>,
     pub(crate) watches: Vec<Watch>,
     pub(crate) failed: bool,
+    pub(crate) meter: M,
 }
 
 /// What came of a command.
@@ -39,16 +37,17 @@ pub(crate) enum Outcome {
     NotBooted,
 }
 
-impl<'a> Shell<'a> {
-    /// A shell for an image, with the symbols of its file.
-    pub fn new(alloc: Global, image: &'a Image, symbols: Symbols) -> Self {
+impl<'a, M: Meter + Drop> Shell<'a, M> {
+    /// A shell for an image, with the names of its addresses. The meter gets the rounds of a command.
+    pub fn new(alloc: Global, image: &'a Image, names: Names, meter: M) -> Self {
         Shell {
             bench: Bench::new(image),
             image,
-            symbols,
+            names,
             mark: None,
             watches: Vec::new(alloc),
             failed: false,
+            meter,
         }
     }
 

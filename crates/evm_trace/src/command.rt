@@ -11,6 +11,7 @@ use evm_host::{
     text_at, words_not_read, write_all,
 };
 use evm_image::Image;
+use evm_program::Meter;
 use std::alloc::Global;
 
 /// The name in front of messages that are about no file.
@@ -92,32 +93,41 @@ fn out_name(out: &str) -> &str {
 }
 
 // Traces a journal that was read, to OUT.
-fn trace_to_out<S: System>(
+fn trace_to_out<S: System, M: Meter>(
     alloc: Global,
     devices: Devices<AnyDevice>,
     image: &Image,
     job: Job<'_>,
     journal: &str,
+    meter: &mut M,
     world: &mut World<S>,
 ) -> u8 {
     if job.out == STANDARD_OUTPUT {
-        let outcome = trace_journal(alloc, Some(image), devices, journal, &mut world.output);
+        let outcome = trace_journal(
+            alloc,
+            Some(image),
+            devices,
+            journal,
+            meter,
+            &mut world.output,
+        );
         return traced(image, job, journal, outcome, &mut world.errors);
     }
     match world.files.create(job.out) {
         Err(fault) => not_created(job.out, fault, &mut world.errors),
         Ok(mut file) => {
-            let outcome = trace_journal(alloc, Some(image), devices, journal, &mut file);
+            let outcome = trace_journal(alloc, Some(image), devices, journal, meter, &mut file);
             traced(image, job, journal, outcome, &mut world.errors)
         }
     }
 }
 
 // Traces the journal of a file on the image of another.
-fn trace<S: System>(
+fn trace<S: System, M: Meter>(
     alloc: Global,
     devices: Devices<AnyDevice>,
     job: Job<'_>,
+    meter: &mut M,
     world: &mut World<S>,
 ) -> u8 {
     let image = match image_at(alloc, job.image, world) {
@@ -125,21 +135,22 @@ fn trace<S: System>(
         Err(status) => return status,
     };
     match text_at(alloc, job.journal, world) {
-        Ok(journal) => trace_to_out(alloc, devices, &image, job, journal.as_str(), world),
+        Ok(journal) => trace_to_out(alloc, devices, &image, job, journal.as_str(), meter, world),
         Err(status) => status,
     }
 }
 
 /// Does what the words ask for, with devices in the machine, and returns the exit status.
-pub fn answer<S: System>(
+pub fn answer<S: System, M: Meter>(
     alloc: Global,
     words: &[String],
     devices: Devices<AnyDevice>,
+    meter: &mut M,
     world: &mut World<S>,
 ) -> u8 {
     match parse(alloc, words) {
         Ok(matches) => match job_of(&matches) {
-            Some(job) => trace(alloc, devices, job, world),
+            Some(job) => trace(alloc, devices, job, meter, world),
             None => USAGE,
         },
         Err(error) => refuse(alloc, &error, world),
@@ -147,14 +158,15 @@ pub fn answer<S: System>(
 }
 
 /// Does what the words ask for, or reports why they could not be read, and returns the exit status.
-pub fn answer_read<S: System>(
+pub fn answer_read<S: System, M: Meter>(
     alloc: Global,
     words: Result<Vec<String>, WordsFault>,
     devices: Devices<AnyDevice>,
+    meter: &mut M,
     world: &mut World<S>,
 ) -> u8 {
     match words {
-        Ok(words) => answer(alloc, words.as_slice(), devices, world),
+        Ok(words) => answer(alloc, words.as_slice(), devices, meter, world),
         Err(WordsFault::NotText) => words_not_read(PROGRAM, world),
         Err(WordsFault::NoMemory) => memory_refused(PROGRAM, world),
     }

@@ -6,6 +6,7 @@ ghost use Rattle.evm_tracks.specs.Telling.{IsTraced};
 use crate::changes::Changes;
 use evm_devs::AnyDevice;
 use evm_image::Image;
+use evm_program::Meter;
 use evm_room::Refused;
 use evm_streams::{Sink, WriteFault};
 use evm_timeline::{Devices, InputFault, Mark, Walk, WalkStop};
@@ -34,12 +35,13 @@ enum Stage {
 
 /// A walk over a journal, and the changes that tell it.
 #[derive(Drop)]
-struct Telling {
+struct Telling<'m, M: Meter> {
     walk: Walk<AnyDevice>,
     changes: Changes,
     marks: Vec<Mark>,
     stage: Stage,
     fault: Option<InputFault>,
+    meter: &'m mut M,
 }
 
 fn told(outcome: Result<(), Refused>) -> Told {
@@ -49,9 +51,10 @@ fn told(outcome: Result<(), Refused>) -> Told {
     }
 }
 
-impl Telling {
+impl<M: Meter> Telling<'_, M> {
     // The next event, or the next run of Steps that change only registers and RAM.
     fn walk_on(&mut self, list: &mut Vec<Change>) -> Told {
+        self.meter.passed(self.walk.next_event());
         match self.walk.next(&mut self.marks) {
             Err(WalkStop::NoMemory) => Told::NoMemory,
             Err(WalkStop::AtFault(fault)) => {
@@ -96,7 +99,7 @@ impl Telling {
     }
 }
 
-impl Teller for Telling {
+impl<M: Meter> Teller for Telling<'_, M> {
     fn next(&mut self, changes: &mut Vec<Change>) -> Told {
         self.go_on(changes)
     }
@@ -111,10 +114,11 @@ fn end_of(stop: RunStop, fault: Option<InputFault>) -> TraceEnd {
     }
 }
 
-fn trace_walk<W: Sink>(
+fn trace_walk<W: Sink, M: Meter>(
     alloc: Global,
     walk: Walk<AnyDevice>,
     changes: Changes,
+    meter: &mut M,
     sink: &mut W,
 ) -> Result<(), TraceEnd>
     ensures { OnOk result (IsTraced W.takes sink.old sink.new) }
@@ -127,23 +131,27 @@ fn trace_walk<W: Sink>(
         marks: Vec::new(alloc),
         stage: Stage::Begins,
         fault: None,
+        meter,
     };
-    match trace_run(alloc, &mut telling, calls, sink) {
+    let outcome = trace_run(alloc, &mut telling, calls, sink);
+    telling.meter.ended();
+    match outcome {
         Ok(()) => Ok(()),
         Err(stop) => Err(end_of(stop, telling.fault)),
     }
 }
 
-/// Traces the run of a journal, on a machine with the devices and the image, to a sink.
+/// Traces the run of a journal, on a machine with the devices and the image, to a sink. The meter gets the events.
 ///
 /// # Errors
 ///
 /// The first fault, as a replay reports it; memory was refused; or a write failed.
-pub fn trace_journal<W: Sink>(
+pub fn trace_journal<W: Sink, M: Meter>(
     alloc: Global,
     image: Option<&Image>,
     devices: Devices<AnyDevice>,
     journal: &str,
+    meter: &mut M,
     sink: &mut W,
 ) -> Result<(), TraceEnd>
     ensures { OnOk result (IsTraced W.takes sink.old sink.new) }
@@ -154,7 +162,7 @@ pub fn trace_journal<W: Sink>(
         Err(WalkStop::NoMemory) => return Err(TraceEnd::NoMemory),
     };
     match Changes::new(alloc) {
-        Ok(changes) => trace_walk(alloc, walk, changes, sink),
+        Ok(changes) => trace_walk(alloc, walk, changes, meter, sink),
         Err(_) => Err(TraceEnd::NoMemory),
     }
 }

@@ -1,5 +1,0 @@
-use Rattle.evm_gdb.specs.Kept.{Keeps}
-use Rattle.evm_gdb.proofs.running.step.Given as goal
-
-abbrev pub invariant-lines : goal.invariant-lines
-invariant-lines g l = Keeps l.fn.machine l.machine

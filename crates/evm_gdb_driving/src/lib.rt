@@ -1,0 +1,23 @@
+//! A machine under GDB: its registers, bytes and threads as packets show them, and how it goes on and stops. Each change is
+//! an accepted event.
+#![tactic(auto)]
+
+mod bytes;
+mod driving;
+mod memory;
+mod registers;
+mod running;
+mod stops;
+mod threads;
+
+pub use bytes::{part_len, push_bytes, push_error, push_outcome, push_thread, push_word};
+pub use driving::{event, stop_all};
+pub use evm_debug::{
+    Boot, Devices, Event, Line, Machine, Refusal, View, ViewRefusal, cut_line, push_view, read_line,
+};
+pub use evm_interrupts::Interrupts;
+pub use memory::{push_memory, write};
+pub use registers::{processor_of, push_registers, register, set_register, set_registers, word_at};
+pub use running::{resume, step};
+pub use stops::{Halt, Why, push_halt};
+pub use threads::{push_task_text, push_threads};

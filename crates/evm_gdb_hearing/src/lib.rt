@@ -1,0 +1,10 @@
+//! What GDB sends, heard by a thread of its own: so a stop that it asks for is heard while the program goes on.
+#![tactic(auto)]
+
+mod ear;
+mod heard;
+
+pub use ear::Ear;
+
+#[cfg(test)]
+mod tests;

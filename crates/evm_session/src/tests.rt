@@ -1,0 +1,48 @@
+//! What no clause says: that the calls succeed, and why they stop.
+
+use super::*;
+use evm_image::{Image, Segment};
+use std::alloc::Global;
+use std::test::Fail;
+
+/// An image of two times `nop`.
+fn image(alloc: Global) -> Result<Image, Fail> {
+    let bytes = Vec::from_slice(alloc, b"\x13\0\0\0\x13\0\0\0")?;
+    let mut segments = Vec::new(alloc);
+    segments.push(Segment::new(0x8000_0000, bytes, 8))?;
+    Ok(Image::new(0x8000_0000, segments))
+}
+
+/// Why the last of some lines is not done, and the script of those that are.
+fn run_lines(alloc: Global, lines: &[&[u8]]) -> Result<(Option<Stop>, Vec<u8>), Fail> {
+    let image = image(alloc)?;
+    let mut bench = Bench::new(&image);
+    let mut text = String::new(alloc);
+    let mut stop = None;
+    for line in lines {
+        stop = bench.run(alloc, line, &mut text).err();
+    }
+    Ok((stop, script_text(alloc, bench.lines())?))
+}
+
+fn last_stop(alloc: Global, lines: &[&[u8]]) -> Result<Option<Stop>, Fail> {
+    Ok(run_lines(alloc, lines)?.0)
+}
+
+#[test]
+fn a_boot_line_comes_first(rt: HostRuntime) -> Result<(), Fail> {
+    let early = last_stop(rt.alloc(), &[b"step 0 1"])?;
+    assert_eq!(rt; early, Some(Stop::NotBooted));
+    let again = last_stop(rt.alloc(), &[b"boot 1 65536 2", b"boot 1 65536 2"])?;
+    assert_eq!(rt; again, Some(Stop::BootedAgain));
+    Ok(())
+}
+
+#[test]
+fn refused_lines_are_not_kept(rt: HostRuntime) -> Result<(), Fail> {
+    let lines: [&[u8]; 4] = [b"boot 1 65536 2", b"step 0 3", b"tick", b"step 1 1"];
+    let (stop, script) = run_lines(rt.alloc(), &lines)?;
+    assert_eq!(rt; stop, Some(Stop::Refused(Refusal::NoSuchCpu)));
+    assert_eq!(rt; script.as_slice(), b"boot 1 65536 2\ntick\n".as_slice());
+    Ok(())
+}

@@ -1,0 +1,1 @@
+pub use Rattle.evm_session.specs as evm_session

@@ -1,0 +1,223 @@
+//! What has changed since a snapshot.
+
+use crate::answers::{put_code, put_state};
+use crate::names::Names;
+use crate::page::Page;
+use crate::registers::register_name;
+use crate::snapshot::{Snapshot, TaskShot};
+use evm_exec::Hart;
+use evm_model::Processor;
+use evm_room::NoMemory;
+use evm_session::{AnyDevice, Machine};
+
+fn put_task(page: &mut Page, t: u8) -> Result<(), NoMemory> {
+    page.put("  task ")?;
+    page.put_decimal(u64::from(t))
+}
+
+fn put_cpu(page: &mut Page, c: u8) -> Result<(), NoMemory> {
+    page.put("  cpu ")?;
+    page.put_decimal(u64::from(c))
+}
+
+fn put_optional(page: &mut Page, number: Option<u8>) -> Result<(), NoMemory> {
+    match number {
+        None => page.put("none"),
+        Some(number) => page.put_decimal(u64::from(number)),
+    }
+}
+
+fn put_current(page: &mut Page, current: Option<u8>) -> Result<(), NoMemory> {
+    match current {
+        None => page.put("no task"),
+        Some(t) => {
+            page.put("task ")?;
+            page.put_decimal(u64::from(t))
+        }
+    }
+}
+
+// Where a processor is stopped: at the pc of its task.
+fn put_stop(
+    page: &mut Page,
+    names: &Names,
+    machine: &Machine<AnyDevice>,
+    current: Option<u8>,
+) -> Result<(), NoMemory> {
+    let Some(t) = current else {
+        return page.put(", without a task");
+    };
+    match machine.hart(t) {
+        None => Ok(()),
+        Some(hart) => {
+            page.put(" at ")?;
+            put_code(page, names, hart.pc)
+        }
+    }
+}
+
+fn put_processor(
+    page: &mut Page,
+    names: &Names,
+    machine: &Machine<AnyDevice>,
+    c: u8,
+    old: &Processor,
+    new: &Processor,
+) -> Result<(), NoMemory> {
+    if old.current != new.current {
+        put_cpu(page, c)?;
+        page.put(" runs ")?;
+        put_current(page, new.current)?;
+        page.put(", before: ")?;
+        put_current(page, old.current)?;
+        page.put("\n")?;
+    }
+    if old.stopped != new.stopped {
+        put_cpu(page, c)?;
+        page.put(if new.stopped { " stopped" } else { " goes on" })?;
+        put_stop(page, names, machine, new.current)?;
+        page.put("\n")?;
+    }
+    Ok(())
+}
+
+fn put_task_change(
+    page: &mut Page,
+    names: &Names,
+    t: u8,
+    old: Option<&TaskShot>,
+    new: &TaskShot,
+) -> Result<(), NoMemory> {
+    let Some(old) = old else {
+        put_task(page, t)?;
+        page.put(" is new, ")?;
+        put_state(page, new.state)?;
+        return page.put("\n");
+    };
+    if old.state == new.state {
+        return Ok(());
+    }
+    put_task(page, t)?;
+    page.put(" at ")?;
+    put_code(page, names, new.hart.pc)?;
+    page.put(" ")?;
+    put_state(page, new.state)?;
+    page.put(", was: ")?;
+    put_state(page, old.state)?;
+    page.put("\n")
+}
+
+/// How many steps of a processor did nothing, since it is stopped.
+pub fn put_swallowed(
+    page: &mut Page,
+    names: &Names,
+    machine: &Machine<AnyDevice>,
+    c: u8,
+    count: u32,
+) -> Result<(), NoMemory> {
+    let Some(processor) = machine.cpu(c) else {
+        return Ok(());
+    };
+    put_cpu(page, c)?;
+    page.put(" is stopped")?;
+    put_stop(page, names, machine, processor.current)?;
+    page.put(", ")?;
+    page.put_decimal(u64::from(count))?;
+    page.put(if count == 1 { " step" } else { " steps" })?;
+    page.put(" swallowed\n")
+}
+
+/// The processors that were stopped or let go, or run another task, and the tasks whose state is another.
+pub fn put_changes(
+    page: &mut Page,
+    names: &Names,
+    machine: &Machine<AnyDevice>,
+    old: &Snapshot,
+) -> Result<(), NoMemory> {
+    for c in 0..machine.cpu_count() {
+        if let Some(before) = old.processors.get(usize::from(c))
+            && let Some(now) = machine.cpu(c)
+        {
+            put_processor(page, names, machine, c, before, &now)?;
+        }
+    }
+    for t in 0..machine.task_count() {
+        if let Some(task) = machine.task(t)
+            && let Some(hart) = machine.hart(t)
+        {
+            let state = task.state;
+            let new = TaskShot { state, hart };
+            put_task_change(page, names, t, old.tasks.get(usize::from(t)), &new)?;
+        }
+    }
+    Ok(())
+}
+
+fn put_registers(page: &mut Page, t: u8, old: &Hart, new: &Hart) -> Result<(), NoMemory> {
+    for r in 1..32usize {
+        if old.regs[r] != new.regs[r] {
+            put_task(page, t)?;
+            page.put(" ")?;
+            page.put(register_name(r))?;
+            page.put(" ")?;
+            page.put_hexadecimal(old.regs[r])?;
+            page.put(" -> ")?;
+            page.put_hexadecimal(new.regs[r])?;
+            page.put("\n")?;
+        }
+    }
+    Ok(())
+}
+
+fn put_pc(page: &mut Page, names: &Names, t: u8, old: &Hart, new: &Hart) -> Result<(), NoMemory> {
+    if old.pc == new.pc {
+        return Ok(());
+    }
+    put_task(page, t)?;
+    page.put(" pc ")?;
+    put_code(page, names, old.pc)?;
+    page.put(" -> ")?;
+    put_code(page, names, new.pc)?;
+    page.put("\n")
+}
+
+/// The pcs and registers that are others.
+pub fn put_harts(
+    page: &mut Page,
+    names: &Names,
+    machine: &Machine<AnyDevice>,
+    old: &Snapshot,
+) -> Result<(), NoMemory> {
+    for t in 0..machine.task_count() {
+        if let Some(before) = old.tasks.get(usize::from(t))
+            && let Some(now) = machine.hart(t)
+        {
+            put_pc(page, names, t, &before.hart, &now)?;
+            put_registers(page, t, &before.hart, &now)?;
+        }
+    }
+    Ok(())
+}
+
+/// The mutexes that have another owner.
+pub fn put_owners(
+    page: &mut Page,
+    machine: &Machine<AnyDevice>,
+    old: &Snapshot,
+) -> Result<(), NoMemory> {
+    for m in 0..machine.mutex_count() {
+        let before = old.owners.get(usize::from(m)).copied().flatten();
+        if let Some(mutex) = machine.mutex(m)
+            && mutex.owner != before
+        {
+            page.put("  mutex ")?;
+            page.put_decimal(u64::from(m))?;
+            page.put(" owner ")?;
+            put_optional(page, before)?;
+            page.put(" -> ")?;
+            put_optional(page, mutex.owner)?;
+            page.put("\n")?;
+        }
+    }
+    Ok(())
+}
