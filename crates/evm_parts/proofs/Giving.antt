@@ -1,8 +1,8 @@
 -- A mutex is given to a task that waits: its owner leaves it, the task wakes, and has it then.
 use Rattle.std.proofs.Common.{◌≡◌, ℕ, zero, suc, ◌<◌, List, [], ◌∷◌, Option, Some, None, Bool, true, false, length, refl, ap, ◌∙◌, inl, inr, arith, eq-eqb}
-use Rattle.std.specs.Prelude.{◌==◌, if◌then◌else◌, slice_get, slice_set}
+use Rattle.std.specs.Prelude.{if◌then◌else◌, slice_get, slice_set}
 use Rattle.std.proofs.Math.Nat.{eq-or-lt_of_le}
-use Rattle.evm_model.proofs.Lists.{slice_get-below, slice_get-set_same, length-change}
+use Rattle.evm_model.proofs.Lists.{slice_get-below, slice_get-set_same}
 use Rattle.evm_model.specs.Lists.{change}
 use Rattle.evm_model.specs.Mutexes.{freed, held_by, owner, owner_of, owns_any, owns_below}
 use Rattle.evm_model.specs.State.{Parts, on_mutex}

@@ -1,5 +1,5 @@
 -- Settling out-of-band in two steps, and the room that each takes up.
-use Rattle.std.proofs.Common.{◌≡◌, ℕ, List, ◌+◌, ◌-◌, Bool, true, false, Option, Some, None, refl, ap, sym, ◌∙◌, arith}
+use Rattle.std.proofs.Common.{◌≡◌, ℕ, ◌+◌, ◌-◌, Bool, true, false, Option, Some, None, refl, ap, sym, ◌∙◌, arith}
 use Rattle.std.specs.Prelude.{not, slice_get, if◌then◌else◌}
 use Rattle.evm_model.specs.Bounds.{COUNT_LIMIT, PER_IN_BAND_LOG, PER_OOB_LOG, PER_SETTLING, HasStamps, PipesUpTo}
 use Rattle.evm_model.specs.Pipes.{Pipe}

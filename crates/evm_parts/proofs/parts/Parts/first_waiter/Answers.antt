@@ -1,5 +1,4 @@
 use Rattle.std.proofs.Common.{◌∙◌, ap}
-use Rattle.evm_model.specs.State.{Parts}
 use Rattle.evm_model.specs.Waits.{first_waiter}
 use Rattle.evm_parts.proofs.Chosen.{first_waiter-is}
 use Rattle.evm_parts.proofs.parts.Parts.first_waiter.Goals as goal

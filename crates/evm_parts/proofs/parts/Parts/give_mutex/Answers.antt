@@ -1,4 +1,3 @@
-use Rattle.std.proofs.Common.{◌∙◌}
 use Rattle.evm_parts.proofs.Giving.{given}
 use Rattle.evm_parts.proofs.parts.Parts.give_mutex.Goals as goal
 
