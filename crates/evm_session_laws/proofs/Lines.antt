@@ -94,7 +94,7 @@ unfolding lines_report runs.machine_after
 lines-go options n [] t s e = record { machine = e; verdict = refl }
 lines-go options n (line ∷ ls) t s e =
     let it = lines-next (after_read (line_at line) t) ls (line_outcome options n (Some t) (line_at line)) (runs.machine_after options (n + 1) ls) (lines_report options (n + 1) ls) s
-      (λ u h. read-goes options n t u (line_at line) h) (λ u h. lines-go options (n + 1) ls u s h) e in
+    (λ u h. read-goes options n t u (line_at line) h) (λ u h. lines-go options (n + 1) ls u s h) e in
     record { machine = it.machine; verdict = it.verdict }
 
 script-goes : (devices : List Attached) (image : Contents) (ls : List (List ℕ)) (s : State) → script_machine devices image ls ≡ Some s
@@ -104,7 +104,7 @@ script-goes devices image [] s e = cc
 script-goes devices image (line ∷ ls) s e =
     let options = image_options devices image in
     let it = lines-next (booted_by devices image (line_at line)) ls (line_outcome options 1 None (line_at line)) (runs.machine_after options 2 ls) (lines_report options 2 ls) s
-      (λ u h. first-goes devices image 1 u (line_at line) h) (λ u h. lines-go options 2 ls u s h) e in
+    (λ u h. first-goes devices image 1 u (line_at line) h) (λ u h. lines-go options 2 ls u s h) e in
     (it.machine, it.verdict)
 
 pub is_run_again : IsRunAgain
