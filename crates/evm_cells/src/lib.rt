@@ -18,6 +18,3 @@ pub use gathering::{Meter, Window, gather};
 pub use pieces::{Piece, say};
 pub use seen::{is_stalled, letter, same_stage, share, task_on};
 pub use words::{push_cell, push_event, push_mark, push_shown, stage_name, wait_name};
-
-#[cfg(test)]
-mod tests;

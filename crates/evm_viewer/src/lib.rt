@@ -18,6 +18,3 @@ pub use comparing::{Parting, first_parting};
 pub use drawing::{ViewEnd, draw_to, timeline_of, write_to};
 pub use evm_view::Meter;
 pub use program::run;
-
-#[cfg(test)]
-mod tests;
