@@ -32,7 +32,7 @@ returns-in_default-clause-complete c empty uncut =
 
 pub returns-clause-complete : goal.returns-clause-complete
 returns-clause-complete c empty uncut =
-    let known = c.is_cut.ensures (sym c.set_cut.ensures.cut ∙ uncut) in
-    let same : c.places.report.rows.items ≡ [] = subst (λ r. r.items ≡ []) c.set_cut.ensures.rows empty in
+    let known = c.is_cut-2.ensures (sym c.set_cut-2.ensures.cut ∙ uncut) in
+    let same : c.places.report.rows.items ≡ [] = subst (λ r. r.items ≡ []) c.set_cut-2.ensures.rows empty in
     searched-all c.args.image.now c.args.boot.now c.args.watch.now c.args.bounds.now.switches c.places.queue.branches.items c.places.place c.places.invariant.1 (omega arith)
     (λ first begins. c.places.invariant.2 same known.0 first begins)
