@@ -38,7 +38,7 @@ fn attempt(
     }
 }
 
-// Makes so many Steps of a processor, up to one that makes the machine fail.
+// Makes Steps of a processor, up to one that makes the machine fail.
 fn take_steps(
     machine: &mut Machine<AnyDevice>,
     cpu: u8,
@@ -116,7 +116,7 @@ fn has_more(branch: &Branch, bounds: &Switching) -> bool
     branch.turns.len() < usize::from(bounds.switches)
 }
 
-// Adds the branches that go another way behind so many steps of one, if there may be one more switch.
+// Adds the branches that go another way behind some steps of one, if there may be one more switch.
 fn fork(
     machine: &Machine<AnyDevice>,
     branch: &Branch,
@@ -173,7 +173,7 @@ fn is_ended(machine: &Machine<AnyDevice>, awake: &[u8], lines: LineSet) -> bool
     is_over(machine, lines)
 }
 
-// Adds the branches that go another way, and makes the next step of one that has made so many steps; how the branch ends, if it does.
+// Adds the branches that go another way, and makes the next step of one; how the branch ends, if it does.
 fn go_on_once(
     machine: &mut Machine<AnyDevice>,
     branch: &Branch,
