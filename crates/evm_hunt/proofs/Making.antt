@@ -1,6 +1,6 @@
 -- The events of a schedule as the choices of a search.
-use Rattle.std.proofs.Common.{◌≡◌, ℕ, ◌<◌, ◌≢◌, List, [], ◌∷◌, Some, Ok, Err, Result, true, false, length, refl, sym, ap, subst, ◌∙◌, arith}
-use Rattle.std.specs.Prelude.{slice_get, ◌==◌}
+use Rattle.std.proofs.Common.{◌≡◌, ℕ, ◌<◌, ◌≢◌, List, [], ◌∷◌, Option, Some, None, Ok, Err, Result, true, false, length, refl, sym, ap, subst, ◌∙◌, arith}
+use Rattle.std.specs.Prelude.{slice_get, ◌==◌, IfNone}
 use Rattle.std.proofs.lemmas.Bool.Decides.{nat_tests}
 use Rattle.evm_model.specs.Event.{Event}
 use Rattle.evm_model.specs.Replay.{apply, left_by, replay}
@@ -8,8 +8,9 @@ use Rattle.evm_model.specs.State.{State}
 use Rattle.evm_model.specs.declared.event.Answer.{Answer}
 use Rattle.evm_model.specs.declared.event.Event.TheVariants.{Step, Tick, Raise, Bell, Stop, Go, StepI, SetReg, SetPc, Poke, Break, Unbreak}
 use Rattle.evm_model.specs.declared.refusal.Refusal.{Refusal}
-use Rattle.evm_schedules.specs.Failures.{FailsAsSought}
+use Rattle.evm_schedules.specs.Failures.{FailsAsSought, IsSeen}
 use Rattle.evm_schedules.specs.Making.{IsAwake, IsOver, MayMake}
+use Rattle.evm_schedules.specs.declared.failure.Failure.{Failure}
 use Rattle.evm_schedules.specs.declared.watch.Watch.{Watch}
 use Rattle.evm_switches.proofs.Searching.{replay-one}
 use Rattle.evm_switches.proofs.Walking.{AreChoices}
@@ -40,11 +41,11 @@ over-none lines s (choices.Step c) over may = over.asleep c may
 over-none lines s choices.Tick over may = may over
 over-none lines s (choices.Raise c line) over may = may.0 over
 
-pub over-forked : (lines : List ℕ) (most : ℕ) (branches : List Branch) (branch : Branch) (steps : ℕ) (s : State) → IsOver lines s → AreForked (MayMake lines) most branches branch steps s
-over-forked lines most branches branch steps s over few choice may one = absurd (over-none lines s choice over may)
+pub over_forked : (lines : List ℕ) (most : ℕ) (branches : List Branch) (branch : Branch) (steps : ℕ) (s : State) → IsOver lines s → AreForked (MayMake lines) most branches branch steps s
+over_forked lines most branches branch steps s over few choice may one = absurd (over-none lines s choice over may)
 
-pub over-cant : (lines : List ℕ) (branch : Branch) (s : State) → IsOver lines s → CantStep (MayMake lines) branch s
-over-cant lines branch s over may after answer done = over.asleep branch.cpu may
+pub over_cant : (lines : List ℕ) (branch : Branch) (s : State) → IsOver lines s → CantStep (MayMake lines) branch s
+over_cant lines branch s over may after answer done = over.asleep branch.cpu may
 
 -- ---- the switches that may be made
 same-step : (c : ℕ) → switches c (Step c) ≡ 1 → ⊥
@@ -81,3 +82,16 @@ not-accepted watch before event why done = record {
   harmless = ((λ t a same fails. let both : Err why ≡ Ok (t, a) = sym done ∙ same in cc), tt);
   reached = sym (replay-one before event ∙ ap (λ (r : Result (State × Answer) Refusal). left_by r before) done);
 }
+
+pub attempted-if : (watch : Watch) (before after : State) (event : Event) (seen : Option Failure)
+    → (answer : Answer) × (apply before event ≡ Ok (after, answer)) × IsSeen watch before event answer after seen → IfNone seen (HasPassed (FailsAsSought watch) before (event ∷ []) after)
+attempted-if watch before after event None h = attempted watch before after event h.0 h.1 h.2
+attempted-if watch before after event (Some failure) h = tt
+
+pub if-none : (seen : Option Failure) (P Q : Type 0) → (P → Q) → IfNone seen P → IfNone seen Q
+if-none None P Q more h = more h
+if-none (Some failure) P Q more h = tt
+
+pub asleep : (awake : List ℕ) (s : State) → length awake ≡ 0 → ((d : ℕ) → IsAwake d s → (i : ℕ) × (slice_get awake i ≡ Some d)) → (c : ℕ) → IsAwake c s → ⊥
+asleep [] s none all c is = let found = all c is in let bad : slice_get [] found.0 ≡ Some c = found.1 in cc
+asleep (x ∷ xs) s none all c is = absurd (omega arith)

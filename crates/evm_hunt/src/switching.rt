@@ -1,6 +1,6 @@
 //! Every schedule with at most a number of switches.
 
-ghost use Rattle.std.specs.Prelude.{◌≡◌, ◌∷◌, [], false, true, IfOk, OnOk, Option};
+ghost use Rattle.std.specs.Prelude.{◌≤◌, length, ◌≡◌, ◌∷◌, [], false, true, IfOk, OnOk, Option};
 ghost use Rattle.evm_hunt.specs.Hunts.{IsShown};
 ghost use Rattle.evm_hunt.specs.Searches.{is_failed};
 ghost use Rattle.evm_model.specs.State.{State};
@@ -82,9 +82,22 @@ fn look_at(
     ensures settles { OnOk result (report.new.rows.items ≡ [] → queue.new.cut ≡ false → (first : State) → Begins image.now boot.now first → IsSettled (MayMake watch.now.lines) (FailsAsSought watch.now) first bounds.now.switches queue.new.branches.items branch.now) }
 {
     match run_branch(alloc, image, boot, watch, branch, bounds, queue) {
-        Ok(tried) => note(alloc, image, boot, watch, place, tried, report),
+        Ok(tried) => match note(alloc, image, boot, watch, place, tried, report) {
+            Ok(()) => Ok(()),
+            Err(stop) => Err(stop),
+        },
         Err(stop) => Err(stop),
     }
+}
+
+// Whether there are more branches than were looked at.
+fn is_cut(queue: &Queue, place: u64) -> bool
+    ensures { result ≡ false → (queue.now.cut ≡ false) × (length queue.now.branches.items ≤ place) }
+{
+    if queue.cut {
+        return true;
+    }
+    queue.branches.len() as u64 > place
 }
 
 /// Looks at every schedule with at most a number of switches, those of the fewest first. In place of a seed a failure has the number of its
@@ -111,7 +124,7 @@ pub fn hunt_all(
     };
     'places: for place in 0..bounds.schedules {
         let Some(branch) = queue.get(place) else {
-            report.set_cut(queue.cut);
+            report.set_cut(is_cut(&queue, place));
             return Ok(report);
         };
         match look_at(
@@ -129,7 +142,6 @@ pub fn hunt_all(
             Err(stop) => return Err(stop),
         }
     }
-    let more = queue.get(bounds.schedules).is_some();
-    report.set_cut(queue.cut || more);
+    report.set_cut(is_cut(&queue, bounds.schedules));
     Ok(report)
 }

@@ -7,12 +7,13 @@ ghost use Rattle.evm_model.specs.State.{State};
 ghost use Rattle.evm_model.specs.declared.event.Event.{Event};
 ghost use Rattle.evm_hunt.specs.Searches.{EndsBranch, is_failed};
 ghost use Rattle.evm_schedules.specs.Failures.{FailsAsSought};
-ghost use Rattle.evm_schedules.specs.Making.{IsAwake, MayMake};
+ghost use Rattle.evm_schedules.specs.Making.{IsAwake, IsOver, MayMake};
 ghost use Rattle.evm_schedules.specs.Runs.{Ends, HasFailed};
 ghost use Rattle.evm_switches.specs.Branches.{KeepsBranches, events_of, turn_events};
 ghost use Rattle.evm_switches.specs.Walks.{AreForked, HasPassed, HasStepped, IsCovered, IsReached};
 
 use crate::switching::Switching;
+use evm_lines::LineSet;
 use evm_room::NoMemory;
 use evm_schedules::{
     AnyDevice, Event, Failure, Machine, Monitor, NoBytes, Outcome, Watch, advance,
@@ -37,7 +38,7 @@ fn attempt(
     }
 }
 
-// Makes so many Steps of a processor, up to one that makes the machine fail.
+// Makes Steps of a processor, up to one that makes the machine fail.
 fn take_steps(
     machine: &mut Machine<AnyDevice>,
     cpu: u8,
@@ -115,7 +116,7 @@ fn has_more(branch: &Branch, bounds: &Switching) -> bool
     branch.turns.len() < usize::from(bounds.switches)
 }
 
-// Adds the branches that go another way behind so many steps of one, if there may be one more switch.
+// Adds the branches that go another way behind some steps of one, if there may be one more switch.
 fn fork(
     machine: &Machine<AnyDevice>,
     branch: &Branch,
@@ -161,7 +162,18 @@ fn step_on(
     }
 }
 
-// Adds the branches that go another way, and makes the next step of one that has made so many steps; how the branch ends, if it does.
+// Whether nothing more can happen.
+fn is_ended(machine: &Machine<AnyDevice>, awake: &[u8], lines: LineSet) -> bool
+    requires { (c : ℕ) → IsAwake c machine.now → (i : ℕ) × (slice_get awake.now i ≡ Option.Some c) }
+    ensures { IsTrue result → IsOver lines machine.now }
+{
+    if !awake.is_empty() {
+        return false;
+    }
+    is_over(machine, lines)
+}
+
+// Adds the branches that go another way, and makes the next step of one; how the branch ends, if it does.
 fn go_on_once(
     machine: &mut Machine<AnyDevice>,
     branch: &Branch,
@@ -178,7 +190,7 @@ fn go_on_once(
     ensures replays { (first : State) → IsReplayOf first machine.old → IsReplayOf first machine.new }
 {
     let awake = awake_processors(machine);
-    if awake.is_empty() && is_over(machine, watch.lines) {
+    if is_ended(machine, awake.as_slice(), watch.lines) {
         return Ok(Some(Outcome::Over));
     }
     match fork(

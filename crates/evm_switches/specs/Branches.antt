@@ -17,7 +17,7 @@ event_of (choices.Step c) = Step c
 event_of choices.Tick = Tick
 event_of (choices.Raise c line) = Raise c line
 
--- so many Steps of one processor, and an event that is a switch
+-- Steps of one processor, and an event that is a switch
 abbrev pub turn_events : Turn → List Event
 turn_events turn = replicate turn.steps (Step turn.cpu) ++ event_of turn.choice ∷ []
 
@@ -26,7 +26,7 @@ abbrev pub events_of : List Turn → List Event
 events_of [] = []
 events_of (turn ∷ turns) = turn_events turn ++ events_of turns
 
--- the branch that goes another way behind so many steps
+-- the branch that goes another way behind some steps
 abbrev pub forked : Branch → ℕ → Choice → Branch
 forked branch steps choice = record {
   turns = record { items = branch.turns.items ++ record { cpu = branch.cpu; steps = steps; choice = choice } ∷ [] };
@@ -41,13 +41,13 @@ HasBranch branches branch = (j : ℕ) × (slice_get branches j ≡ Some branch)
 abbrev pub KeepsBranches : List Branch → List Branch → Type 0
 KeepsBranches before after = (j : ℕ) (branch : Branch) → slice_get before j ≡ Some branch → slice_get after j ≡ Some branch
 
--- a switch from processor c, where these processors may step and these lines may be raised on so many processors
+-- a switch from processor c, where these processors may step, and these lines may be raised on `cpus` processors
 abbrev pub IsSwitch : ℕ → List ℕ → ℕ → List ℕ → Choice → Type 0
 IsSwitch c awake cpus lines (choices.Step d) = (d ≢ c) × (i : ℕ) × (slice_get awake i ≡ Some d)
 IsSwitch c awake cpus lines choices.Tick = ⊤
 IsSwitch c awake cpus lines (choices.Raise d line) = (d < cpus) × (has_line lines line ≡ true)
 
--- each way that a branch may go behind so many steps is among the branches
+-- each way that a branch may go behind some steps is among the branches
 abbrev pub HasSwitches : List Branch → Branch → ℕ → List ℕ → ℕ → List ℕ → Type 0
 HasSwitches branches branch steps awake cpus lines = (choice : Choice) → IsSwitch branch.cpu awake cpus lines choice → HasBranch branches (forked branch steps choice)
 

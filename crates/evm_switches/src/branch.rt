@@ -89,7 +89,7 @@ impl Branch {
         }
     }
 
-    /// The one that goes another way behind so many steps; None if there are as many turns as there may be.
+    /// The one that goes another way behind some steps; None if there are as many turns as there may be.
     pub(crate) fn forked(&self, steps: u32, choice: Choice) -> Option<Branch>
         ensures { IfSome result (λ branch. branch ≡ forked self.now steps choice) }
     {

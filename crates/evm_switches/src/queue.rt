@@ -67,7 +67,7 @@ impl Queue {
         }
     }
 
-    /// The branch that goes another way behind so many steps of one.
+    /// The branch that goes another way behind some steps of one.
     ///
     /// # Errors
     ///
@@ -156,8 +156,8 @@ impl Queue {
         Ok(())
     }
 
-    /// All branches that go another way behind so many steps of one: a step of another of the processors that are awake, a tick, and a raise of
-    /// one of the lines on one of so many processors.
+    /// All branches that go another way behind some steps of one: a step of another of the processors that are awake, a tick, and a raise of
+    /// one of the lines on a processor.
     ///
     /// # Errors
     ///
