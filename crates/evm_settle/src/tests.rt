@@ -203,15 +203,24 @@ fn wire(parts: &mut Parts, line: Line)
     }
 }
 
+// The parts with the row's line on the wire, and its stalls.
+fn prepared(parts: Parts, row: &Row) -> Parts
+    requires { parts.pipes ≡ replicate 3 idle_pipe }
+    ensures { AreWithin 1 result }
+{
+    let mut parts = parts;
+    wire(&mut parts, row.wire);
+    parts.set_stall(1, Stage::OutOfBand, row.oob_stalled);
+    parts.set_stall(1, Stage::InBand, row.in_band_stalled);
+    parts
+}
+
 // The parts of a row.
 fn parts_of(alloc: Global, task: Task, row: &Row) -> Result<Parts, Fail>
     ensures { IfOk result (AreWithin 1) }
 {
-    let mut parts = parts_with(alloc, task, row)?;
-    wire(&mut parts, row.wire);
-    parts.set_stall(1, Stage::OutOfBand, row.oob_stalled);
-    parts.set_stall(1, Stage::InBand, row.in_band_stalled);
-    Ok(parts)
+    let parts = parts_with(alloc, task, row)?;
+    Ok(prepared(parts, row))
 }
 
 // How often line 1 of a processor was raised, and how often it was merged.

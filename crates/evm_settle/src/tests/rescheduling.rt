@@ -90,14 +90,22 @@ fn wire(parts: &mut Parts, line: bool)
     }
 }
 
-// The same, of which processor 1 may have line 1 on its wire, or be stalled out-of-band.
+// The same parts, of which processor 1 may have line 1 on its wire, or be stalled out-of-band.
+fn prepared(parts: Parts, line: bool, stalled: bool) -> Parts
+    requires { parts.pipes ≡ replicate 2 idle_pipe }
+    ensures { AreWithin 1 result }
+{
+    let mut parts = parts;
+    wire(&mut parts, line);
+    parts.set_stall(1, Stage::OutOfBand, stalled);
+    parts
+}
+
 fn parts_of(alloc: Global, line: bool, stalled: bool) -> Result<Parts, Fail>
     ensures { IfOk result (AreWithin 1) }
 {
-    let mut parts = two_processors(alloc)?;
-    wire(&mut parts, line);
-    parts.set_stall(1, Stage::OutOfBand, stalled);
-    Ok(parts)
+    let parts = two_processors(alloc)?;
+    Ok(prepared(parts, line, stalled))
 }
 
 // Processor 0 makes task 1 the better one, and settles.
