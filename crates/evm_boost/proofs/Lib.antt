@@ -5,6 +5,7 @@ pub mod Fills
 pub mod Lending
 pub mod Lends
 pub mod Moves
+pub mod Owning
 pub mod Owners
 pub mod Passing
 pub mod Raising

@@ -6,10 +6,10 @@ use Rattle.std.proofs.lemmas.List.{length-append}
 use Rattle.evm_boost.proofs.Entries.{entered-by, entered-change, entered-push, entered-same}
 use Rattle.evm_boost.proofs.Settled.{away, scheduled-settled, settling, sound-falls, sound-fewer}
 use Rattle.evm_boost.specs.Scheduled.{Scheduled, IsScheduled, IsSound}
-use Rattle.evm_boost.specs.Settling.{entered_as, IsOpen, IsRelinked, IsSettling}
+use Rattle.evm_boost.specs.Settling.{entered_as, IsOpen, IsRelinked, IsSettling, stamped}
 use Rattle.evm_mending.proofs.Relinks.{relink-keeps}
 use Rattle.evm_mending.specs.Mending.{no_task, with_task}
-use Rattle.evm_model.proofs.Lists.{change-elsewhere, change-here, length-change}
+use Rattle.evm_model.proofs.Lists.{change-elsewhere, change-here, length-change, same_elements}
 use Rattle.evm_model.specs.Lists.{change}
 use Rattle.evm_model.specs.Mutexes.{boosts, heir_for, lock_at, lock_of, lock_of_task, ceiling_owner, ceiling}
 use Rattle.evm_model.specs.Ranks.{class_rank, class_rank_of, own_rank}
@@ -78,6 +78,26 @@ relinked s next mutexes f tasks new t before keeps is e boosted place waiter ran
   own = λ u. own-class mutexes tasks new u (ap (λ (xs : List Task). class_rank_of (slice_get xs u)) e ∙ classes-kept f tasks t u keeps);
   boosted = boosted;
 }
+
+map-twice : {X : Type 0} (f g : X → X) (o : Option X) → option_map f (option_map g o) ≡ option_map (λ x. f (g x)) o
+map-twice f g None = refl
+map-twice f g (Some x) = refl
+
+change-twice : {X : Type 0} (f g : X → X) (xs : List X) (i : ℕ) → change f (change g xs i) i ≡ change (λ x. f (g x)) xs i
+change-twice {X = X} f g xs i = same_elements (change f (change g xs i) i) (change (λ (x : X). f (g x)) xs i) (λ j. elim (eqb_tells j i) [
+  | inl same ↦ rw same.1
+      (change-here f (change g xs i) i ∙ ap (option_map f) (change-here g xs i) ∙ map-twice f g (slice_get xs i) ∙ sym (change-here (λ (x : X). f (g x)) xs i))
+  | inr other ↦ change-elsewhere f (change g xs i) i j other.1 ∙ change-elsewhere g xs i j other.1 ∙ sym (change-elsewhere (λ (x : X). f (g x)) xs i j other.1)
+])
+
+-- the same where the task has another stamp too
+pub relinked-stamped : (s next : Scheduled) (mutexes : List Mutex) (f : Task → Task) (tasks mid new : List Task) (t stamp : ℕ) (before : Option ℕ) → KeepsClasses f
+    → IsScheduled s mutexes tasks → mid ≡ change f tasks t → new ≡ change (stamped stamp) mid t → before ≡ boosts mutexes tasks t
+    → next.places ≡ entered_as placed (slice_get new t) t s.places → next.waiters ≡ entered_as awaited (slice_get new t) t s.waiters → next.ranks ≡ s.ranks → next.sound ≡ s.sound
+    → IsRelinked next mutexes new t before
+relinked-stamped s next mutexes f tasks mid new t stamp before keeps is e g boosted place waiter ranks sound =
+    relinked s next mutexes (λ task. stamped stamp (f task)) tasks new t before keeps is
+    (g ∙ ap (λ (xs : List Task). change (stamped stamp) xs t) e ∙ change-twice (stamped stamp) f tasks t) boosted place waiter ranks sound
 
 pub out-first : (o : Option ℕ) (rest : ℕ → Bool) (u : ℕ) → with_task o rest u ≡ false → is_number o u ≡ false
 out-first o rest u e = by (is_number o u) refl

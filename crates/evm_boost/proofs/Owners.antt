@@ -44,7 +44,7 @@ freed-of None = refl
 freed-of (Some mutex) = refl
 
 -- it has no owner then, and the others keep theirs
-freed-here : (mutexes : List Mutex) (m : ℕ) → owner (change freed mutexes m) m ≡ None
+pub freed-here : (mutexes : List Mutex) (m : ℕ) → owner (change freed mutexes m) m ≡ None
 freed-here mutexes m = ap owner_of (change-here freed mutexes m) ∙ freed-of (slice_get mutexes m)
 
 pub freed-owner : (mutexes : List Mutex) (m n t : ℕ) → is_number (owner (change freed mutexes m) n) t ≡ (not (n == m) && is_number (owner mutexes n) t)

@@ -19,6 +19,10 @@ abbrev pub entered_as : {X : Type 0} → (Task → Option X) → Option Task →
 entered_as says None t entries = entries
 entered_as says (Some task) t entries = change (λ _. says task) entries t
 
+-- a task with another stamp
+abbrev pub stamped : ℕ → Task → Task
+stamped stamp task = record task { stamp = stamp }
+
 -- each task has its entries, and while no chain closes each but the rest has the rank that follows from its boosters'
 pub record IsSettling (rest : ℕ → Bool) (s : Scheduled) (mutexes : List Mutex) (tasks : List Task) : Type 0 where
   pub entered : AreEntered s tasks

@@ -89,14 +89,24 @@ impl Board {
         self.hold(m, t);
     }
 
+    // The stamp of a task; 0 where there is no such task.
+    fn stamp(&self, t: u8) -> u64 {
+        match self.tasks.get(t) {
+            None => 0,
+            Some(task) => task.stamp,
+        }
+    }
+
     pub(crate) fn wait(&mut self, t: u8, m: u8) {
+        let stamp = self.stamp(t);
         self.schedule
-            .begin_wait(&mut self.tasks, &self.mutexes, t, Wait::Lock(m), 9);
+            .begin_wait(&mut self.tasks, &self.mutexes, t, Wait::Lock(m), 9, stamp);
     }
 
     pub(crate) fn wake(&mut self, t: u8, owns: bool) {
+        let stamp = self.stamp(t);
         self.schedule
-            .end_wait(&mut self.tasks, &self.mutexes, t, owns);
+            .end_wait(&mut self.tasks, &self.mutexes, t, owns, stamp);
     }
 
     pub(crate) fn set_state(&mut self, t: u8, state: TaskState) {

@@ -3,6 +3,7 @@
 #![tactic(auto)]
 
 mod mutexes;
+mod owned;
 mod ranks;
 mod schedule;
 mod slot;

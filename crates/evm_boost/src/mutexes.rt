@@ -1,11 +1,14 @@
 ghost use Rattle.std.specs.Prelude.{◌≡◌, ◌<◌, ◌≤◌, [], ◌∷◌, ◌++◌, length, slice_get};
 ghost use Rattle.arrayvec.specs.ArrayVec.{array_vec_len};
+ghost use Rattle.evm_boost.specs.Owning.{owned_by};
 ghost use Rattle.evm_model.specs.Lists.{change};
 ghost use Rattle.evm_model.specs.Mutexes.{owner, owns_any, held_by, freed};
 ghost use Rattle.evm_ranks.specs.Boosts.{is_number};
 
+use crate::owned::Owned;
 use crate::slot::Slot;
 use arrayvec::ArrayVec;
+use evm_lines::{LINES, LineSet};
 use evm_model::{MUTEX_LIMIT, Mutex};
 use std::marker::Model;
 
@@ -13,13 +16,17 @@ use std::marker::Model;
 #[derive(Debug, Drop)]
 pub struct Mutexes {
     mutexes: ArrayVec<Slot, MUTEX_LIMIT>,
+    owned: Owned,
 }
 
 impl Model for Mutexes {
     ghost use Rattle.std.specs.Prelude.{List};
     ghost use Rattle.evm_model.specs.declared.mutex.Mutex.{Mutex};
+    ghost use Rattle.evm_boost.specs.Owning.{AreOwners};
 
     ghost Value = { List Mutex };
+
+    ghost invariant = { λ m. AreOwners m.owned m.mutexes.items };
 
     ghost view = { λ m. m.mutexes.items };
 }
@@ -31,6 +38,7 @@ impl Mutexes {
     {
         Mutexes {
             mutexes: ArrayVec::new(),
+            owned: Owned::none(),
         }
     }
 
@@ -39,7 +47,11 @@ impl Mutexes {
         requires { length self.old < MUTEX_LIMIT }
         ensures { self.new ≡ self.old ++ mutex ∷ [] }
     {
+        let m = self.count();
         self.mutexes.push(Slot::of(mutex));
+        if let Some(t) = mutex.owner {
+            self.owned.hold(t, m);
+        }
     }
 
     /// How many there are, 32 at the most.
@@ -84,47 +96,73 @@ impl Mutexes {
         }
     }
 
+    // The mutexes that task t owns.
+    pub(crate) fn owned(&self, t: u8) -> LineSet
+        ensures owned { result ≡ owned_by (owner self.now) t }
+        ensures few { length self.now ≤ LINES }
+    {
+        self.owned.of(t)
+    }
+
     /// Whether task t owns a mutex.
     pub fn owns_any(&self, t: u8) -> bool
         ensures { result ≡ owns_any t self.now }
     {
-        for m in 0..self.count() {
-            if self.is_owner(m, t) {
-                return true;
-            }
-        }
-        false
+        !self.owned(t).is_empty()
     }
 
     /// Whether task t owns another mutex than m.
-    #[tactic(auto, using(crate::proofs::Owners::others))]
     pub fn owns_other(&self, t: u8, m: u8) -> bool
         ensures { result ≡ owns_any t (change freed self.now m) }
     {
-        let mut owns = false;
-        for n in 0..self.count() {
-            if n != m && self.is_owner(n, t) {
-                owns = true;
-            }
+        let mut others = self.owned(t);
+        if m >= self.count() {
+            return !others.is_empty();
         }
-        owns
+        others.remove(m);
+        !others.is_empty()
     }
 
     /// Task t has mutex m, locked so often.
     pub fn hold(&mut self, m: u8, t: u8, count: u64)
         ensures { self.new ≡ change (held_by t count) self.old m }
     {
-        if let Some(slot) = self.mutexes.get_mut(m as usize) {
-            slot.hold(t, count);
+        if m >= self.count() {
+            return;
         }
+        let before = self.owner(m);
+        hold_slot(&mut self.mutexes, m, t, count);
+        self.owned.leave(before, m);
+        self.owned.hold(t, m);
     }
 
     /// Nobody has mutex m.
     pub fn leave(&mut self, m: u8)
         ensures { self.new ≡ change freed self.old m }
     {
-        if let Some(slot) = self.mutexes.get_mut(m as usize) {
-            slot.leave();
+        if m >= self.count() {
+            return;
         }
+        let before = self.owner(m);
+        leave_slot(&mut self.mutexes, m);
+        self.owned.leave(before, m);
+    }
+}
+
+// Task t has mutex m, locked so often.
+fn hold_slot(mutexes: &mut ArrayVec<Slot, MUTEX_LIMIT>, m: u8, t: u8, count: u64)
+    ensures { mutexes.new.items ≡ change (held_by t count) mutexes.old.items m }
+{
+    if let Some(slot) = mutexes.get_mut(m as usize) {
+        slot.hold(t, count);
+    }
+}
+
+// Nobody has mutex m.
+fn leave_slot(mutexes: &mut ArrayVec<Slot, MUTEX_LIMIT>, m: u8)
+    ensures { mutexes.new.items ≡ change freed mutexes.old.items m }
+{
+    if let Some(slot) = mutexes.get_mut(m as usize) {
+        slot.leave();
     }
 }

@@ -3,7 +3,7 @@
 ghost use Rattle.std.specs.Prelude.{◌≡◌, ◌<◌, ◌≤◌, ◌++◌, [], ◌∷◌, true, false, Some, None, List, Option, length, slice_get, IfOk, IfErr, ℕ};
 ghost use Rattle.evm_boost.specs.Lent.{first_waiting};
 ghost use Rattle.evm_boost.specs.Scheduled.{IsScheduled};
-ghost use Rattle.evm_boost.specs.Settling.{entered_as, IsCalm, IsFree, IsIdle, IsOpen, IsRelinked};
+ghost use Rattle.evm_boost.specs.Settling.{entered_as, IsCalm, IsFree, IsIdle, IsOpen, IsRelinked, stamped};
 ghost use Rattle.evm_model.specs.Lists.{change};
 ghost use Rattle.evm_model.specs.Mutexes.{boosts, freed, heir_by, held_by, waits_on};
 ghost use Rattle.evm_model.specs.Ranks.{best, first, next_in_band, rank, stamp};
@@ -146,7 +146,27 @@ impl Schedule {
         self.relink(mutexes, tasks, t, before);
     }
 
-    /// A task waits, until a deadline if that is not 0.
+    /// A task has another state and another stamp.
+    pub fn set_state_and_stamp(
+        &mut self,
+        tasks: &mut Tasks,
+        mutexes: &Mutexes,
+        t: u8,
+        state: TaskState,
+        stamp: u64,
+    )
+        requires { IsScheduled self.old mutexes.now tasks.old }
+        ensures tasks { tasks.new ≡ change (stamped stamp) (change (λ task. record task { state = state }) tasks.old t) t }
+        ensures scheduled { IsScheduled self.new mutexes.now tasks.new }
+    {
+        let before = mutexes.boosts(tasks, t);
+        tasks.set_state(t, state);
+        tasks.set_stamp(t, stamp);
+        self.enter(tasks, t);
+        self.relink(mutexes, tasks, t, before);
+    }
+
+    /// A task waits, until a deadline if that is not 0, and has another stamp.
     pub fn begin_wait(
         &mut self,
         tasks: &mut Tasks,
@@ -154,26 +174,29 @@ impl Schedule {
         t: u8,
         wait: Wait,
         deadline: u64,
+        stamp: u64,
     )
         requires { IsScheduled self.old mutexes.now tasks.old }
-        ensures tasks { tasks.new ≡ change (λ task. record task { state = TaskState.Waits wait; deadline = deadline }) tasks.old t }
+        ensures tasks { tasks.new ≡ change (stamped stamp) (change (λ task. record task { state = TaskState.Waits wait; deadline = deadline }) tasks.old t) t }
         ensures scheduled { IsScheduled self.new mutexes.now tasks.new }
     {
         let before = mutexes.boosts(tasks, t);
         tasks.begin_wait(t, wait, deadline);
+        tasks.set_stamp(t, stamp);
         self.enter(tasks, t);
         self.relink(mutexes, tasks, t, before);
     }
 
     /// The wait of a task is over: it is ready on the stage on which it waited, but in-band if it is weak and owns no
-    /// mutex.
-    pub fn end_wait(&mut self, tasks: &mut Tasks, mutexes: &Mutexes, t: u8, owns: bool)
+    /// mutex. It has another stamp.
+    pub fn end_wait(&mut self, tasks: &mut Tasks, mutexes: &Mutexes, t: u8, owns: bool, stamp: u64)
         requires { IsScheduled self.old mutexes.now tasks.old }
-        ensures tasks { tasks.new ≡ change (woken owns) tasks.old t }
+        ensures tasks { tasks.new ≡ change (stamped stamp) (change (woken owns) tasks.old t) t }
         ensures scheduled { IsScheduled self.new mutexes.now tasks.new }
     {
         let before = mutexes.boosts(tasks, t);
         tasks.end_wait(t, owns);
+        tasks.set_stamp(t, stamp);
         self.enter(tasks, t);
         self.relink(mutexes, tasks, t, before);
     }
@@ -181,7 +204,7 @@ impl Schedule {
     /// A task has another stamp.
     pub fn set_stamp(&mut self, tasks: &mut Tasks, mutexes: &Mutexes, t: u8, stamp: u64)
         requires { IsScheduled self.old mutexes.now tasks.old }
-        ensures tasks { tasks.new ≡ change (λ task. record task { stamp = stamp }) tasks.old t }
+        ensures tasks { tasks.new ≡ change (stamped stamp) tasks.old t }
         ensures scheduled { IsScheduled self.new mutexes.now tasks.new }
     {
         tasks.set_stamp(t, stamp);

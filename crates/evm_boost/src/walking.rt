@@ -44,15 +44,13 @@ impl Schedule {
     }
 
     // The rank of a task, by its class and what its mutexes lend.
-    #[tactic(auto, using(crate::proofs::Lends::lends))]
     fn rank_now(&self, mutexes: &Mutexes, tasks: &Tasks, t: u8) -> u16
         ensures { result ≡ greatest (owner mutexes.now) (lent self.now mutexes.now) t (class_rank_at tasks.now t) (length mutexes.now) }
     {
         let mut rank = class_rank_at(tasks, t);
-        for m in 0..mutexes.count() {
-            if mutexes.is_owner(m, t) {
-                rank = greater(rank, self.lent(mutexes, m));
-            }
+        let mut left = mutexes.owned(t);
+        'lending: while let Some(m) = left.pop() {
+            rank = greater(rank, self.lent(mutexes, m));
         }
         rank
     }
@@ -100,6 +98,7 @@ impl Schedule {
     }
 
     // A walk from a task, if there is one.
+    #[inline(always)]
     fn settle(&mut self, mutexes: &Mutexes, tasks: &Tasks, from: Option<u8>)
         ensures settled { (rest : ℕ → Bool) → IsSettling (with_task from rest) self.old mutexes.now tasks.now → IsSettling rest self.new mutexes.now tasks.now }
         ensures sound { self.new.sound ≡ self.old.sound }
@@ -133,6 +132,7 @@ impl Schedule {
 
     // The ranks follow a change after which those of two tasks at most may be others. Where a chain may have closed, all
     // are reckoned anew, now and after each later change.
+    #[inline(always)]
     pub(crate) fn mend(
         &mut self,
         mutexes: &Mutexes,

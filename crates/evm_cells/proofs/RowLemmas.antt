@@ -1,54 +1,148 @@
 -- Rows of cells that grow and are joined.
-use Rattle.std.proofs.Common.{◌≡◌, ℕ, ◌+◌, ◌<◌, ◌≤◌, ◌^◌, List, [], ◌∷◌, ◌++◌, zero, suc, drop, get_or, length, true, refl, sym, ap, ◌∙◌, subst, arith}
+use Rattle.std.proofs.Common.{◌≡◌, ℕ, ◌+◌, ◌-◌, ◌<◌, ◌≤◌, ◌^◌, List, [], ◌∷◌, ◌++◌, zero, suc, drop, take, get_or, length, replicate, Bool, true, false, refl, sym, ap, ◌∙◌, subst, arith}
 use Rattle.std.proofs.Math.Dec.{ltb}
 use Rattle.std.proofs.Math.Seq.{drop-cons}
 use Rattle.std.proofs.lemmas.Bool.{ltb-true}
-use Rattle.std.specs.Prelude.{OnOk, IfOk, Option, Some, None, Result, Ok, Err, slice_get}
-use Rattle.evm_cells.specs.Rows.{Halves, IsRow}
+use Rattle.std.proofs.lemmas.List.{drop-drop, length-append, length-replicate}
+use Rattle.std.specs.Prelude.{OnOk, IfOk, Option, Some, None, Result, Ok, Err, slice_get, ◌==◌, if◌then◌else◌}
+use Rattle.evm_cells.specs.Rows.{Halves, IsRow, Outline, Tells, count_on, lane_of, stretch}
 use Rattle.evm_cells.specs.declared.cells.Cell.{Cell}
+use Rattle.evm_cells.specs.declared.cells.TheConstants.{LANE_LIMIT}
 
+-- ---- the events of lanes
+-- one list behind another
+pub count-append : (lane : ℕ) (front back : List Outline) → count_on lane (front ++ back) ≡ count_on lane front + count_on lane back
+unfolding count_on
+count-append lane [] back = omega arith
+count-append lane (event ∷ front) back = let h = count-append lane front back in omega (arith, h)
+
+if-one : (b : Bool) (n m : ℕ) → m ≡ (if b then n else 0) → (if b then 1 else 0) + m ≡ (if b then suc n else 0)
+if-one true n m e = omega (arith, e)
+if-one false n m e = omega (arith, e)
+
+if-none : (b : Bool) → ◌≡◌ {A = ℕ} 0 (if b then 0 else 0)
+if-none true = refl
+if-none false = refl
+
+-- equal ones
+pub count-alike : (lane n : ℕ) (event : Outline) → count_on lane (replicate n event) ≡ (if lane_of event == lane then n else 0)
+unfolding count_on
+count-alike lane zero event = if-none (lane_of event == lane)
+count-alike lane (suc n) event = if-one (lane_of event == lane) n (count_on lane (replicate n event)) (count-alike lane n event)
+
+if-most : (b : Bool) → (if b then 1 else 0) ≤ 1
+if-most true = omega arith
+if-most false = omega arith
+
+-- no more than there are
+pub count-most : (lane : ℕ) (events : List Outline) → count_on lane events ≤ length events
+unfolding count_on
+count-most lane [] = omega arith
+count-most lane (event ∷ events) = let h = count-most lane events in let k = if-most (lane_of event == lane) in omega (arith, h, k)
+
+-- ---- events one behind the other
+none-taken : {X : Type 0} (b : ℕ) → ◌≡◌ {A = List X} [] (take b [])
+none-taken zero = refl
+none-taken (suc b) = refl
+
+take-add : {X : Type 0} (a b : ℕ) (xs : List X) → take (a + b) xs ≡ take a xs ++ take b (drop a xs)
+take-add zero b xs = let n : zero + b ≡ b = omega arith in ap (λ k. take k xs) n
+take-add (suc a) b [] = sym (none-taken (suc a + b)) ∙ none-taken b
+take-add (suc a) b (x ∷ xs) = let n : suc a + b ≡ suc (a + b) = omega arith in rw n (ap (λ l. x ∷ l) (take-add a b xs))
+
+pub stretch-add : (events : List Outline) (first a b : ℕ) → stretch events first (a + b) ≡ stretch events first a ++ stretch events (first + a) b
+stretch-add events first a b =
+    take-add a b (drop first events) ∙ ap (λ l. take a (drop first events) ++ take b l) (drop-drop a first events)
+
+first-append : (front back : List Outline) (x : Outline) → slice_get front 0 ≡ Some x → slice_get (front ++ back) 0 ≡ Some x
+first-append [] back x e = absurd cc
+first-append (y ∷ front) back x e = e
+
+first-alike : (n : ℕ) (x : Outline) → 0 < n → slice_get (replicate n x) 0 ≡ Some x
+first-alike zero x h = absurd (omega (arith, h))
+first-alike (suc n) x h = refl
+
+-- ---- cells
+-- a cell of an item
+pub tells-item : (cell : Cell) (n : ℕ) (event : Outline) → cell.count ≡ n → cell.event ≡ event → ((lane : ℕ) → lane < LANE_LIMIT → get_or cell.shares lane 0 ≡ (if lane_of event == lane then n else 0)) → 0 < n
+    → Tells cell (replicate n event)
+tells-item cell n event count is shares some =
+    record { count = count ∙ sym (length-replicate n event); event = first-alike n event some ∙ ap (λ e. Some e) (sym is); shares = λ lane h. shares lane h ∙ sym (count-alike lane n event) }
+
+-- two that were joined
+pub tells-joined : (one two cell : Cell) (front back : List Outline) → (one.count + two.count < 2 ^ 64 → cell.count ≡ one.count + two.count) → cell.event ≡ one.event
+    → ((lane : ℕ) → lane < LANE_LIMIT → get_or one.shares lane 0 + get_or two.shares lane 0 < 2 ^ 64 → get_or cell.shares lane 0 ≡ get_or one.shares lane 0 + get_or two.shares lane 0)
+    → one.count + two.count < 2 ^ 64 → Tells one front → Tells two back → Tells cell (front ++ back)
+tells-joined one two cell front back count is shares fits a b =
+    let long = length-append front back in
+    record {
+      count = let c = count fits in let x = a.count in let y = b.count in omega (arith, long, c, x, y);
+      event = first-append front back one.event a.event ∙ ap (λ e. Some e) (sym is);
+      shares = λ lane h.
+          let x = a.shares lane h in
+          let y = b.shares lane h in
+          let p = count-most lane front in
+          let q = count-most lane back in
+          let both = a.count in
+          let other = b.count in
+          let few : get_or one.shares lane 0 + get_or two.shares lane 0 < 2 ^ 64 = omega (arith, x, y, p, q, both, other, fits) in
+          let s = shares lane h few in
+          let t = count-append lane front back in
+          omega (arith, s, t, x, y);
+    }
+
+-- ---- rows
 -- a row doesn't end before it begins
-pub row-rises : (from : ℕ) (cells : List Cell) (to : ℕ) → IsRow from cells to → from ≤ to
-row-rises from [] to row = omega (arith, row)
-row-rises from (cell ∷ cells) to row = let h = row-rises (from + cell.count) cells to row.2 in omega (arith, h)
+pub row-rises : (events : List Outline) (from : ℕ) (cells : List Cell) (to : ℕ) → IsRow events from cells to → from ≤ to
+row-rises events from [] to row = omega (arith, row)
+row-rises events from (cell ∷ cells) to row = let h = row-rises events (from + cell.count) cells to row.3 in omega (arith, h)
 
 -- a cell more
-pub row-more : (from : ℕ) (cells : List Cell) (mid to : ℕ) (cell : Cell) → IsRow from cells mid → cell.first ≡ mid → 0 < cell.count → to ≡ mid + cell.count → IsRow from (cells ++ cell ∷ []) to
-row-more from [] mid to cell row first some ends =
-    let begins : cell.first ≡ from = first ∙ sym row in let h : from + cell.count ≡ to = rw (row, ends) refl in (begins, some, h)
-row-more from (one ∷ cells) mid to cell row first some ends = (row.0, row.1, row-more (from + one.count) cells mid to cell row.2 first some ends)
+pub row-more : (events : List Outline) (from : ℕ) (cells : List Cell) (mid to : ℕ) (cell : Cell) → IsRow events from cells mid → cell.first ≡ mid → 0 < cell.count → Tells cell (stretch events mid cell.count) → to ≡ mid + cell.count
+    → IsRow events from (cells ++ cell ∷ []) to
+row-more events from [] mid to cell row first some tells ends =
+    let begins : cell.first ≡ from = first ∙ sym row in let h : from + cell.count ≡ to = rw (row, ends) refl in (begins, some, rw row tells, h)
+row-more events from (one ∷ cells) mid to cell row first some tells ends = (row.0, row.1, row.2, row-more events (from + one.count) cells mid to cell row.3 first some tells ends)
 
 -- without the last cell
-pub record Split (from : ℕ) (cells : List Cell) (last : Cell) (to : ℕ) : Type 0 where
-  pub before : IsRow from cells last.first
+pub record Split (events : List Outline) (from : ℕ) (cells : List Cell) (last : Cell) (to : ℕ) : Type 0 where
+  pub before : IsRow events from cells last.first
   pub some : 0 < last.count
+  pub tells : Tells last (stretch events last.first last.count)
   pub ends : last.first + last.count ≡ to
 
-pub row-split : (from : ℕ) (cells : List Cell) (last : Cell) (to : ℕ) → IsRow from (cells ++ last ∷ []) to → Split from cells last to
-row-split from [] last to row = record { before = sym row.0; some = row.1; ends = rw row.0 row.2 }
-row-split from (one ∷ cells) last to row =
-    let rest = row-split (from + one.count) cells last to row.2 in record { before = (row.0, row.1, rest.before); some = rest.some; ends = rest.ends }
+pub row-split : (events : List Outline) (from : ℕ) (cells : List Cell) (last : Cell) (to : ℕ) → IsRow events from (cells ++ last ∷ []) to → Split events from cells last to
+row-split events from [] last to row = record { before = sym row.0; some = row.1; tells = subst (λ x. Tells last (stretch events x last.count)) (sym row.0) row.2; ends = rw row.0 row.3 }
+row-split events from (one ∷ cells) last to row =
+    let rest = row-split events (from + one.count) cells last to row.3 in record { before = (row.0, row.1, row.2, rest.before); some = rest.some; tells = rest.tells; ends = rest.ends }
 
 -- a cell joined to the last
 pub joins : {A E : Type 0} → (r : Result A E) (items before out : List Cell) (last cell one : Cell) → items ≡ before ++ last ∷ [] → one.first ≡ last.first
-    → (last.count + cell.count < 2 ^ 64 → one.count ≡ last.count + cell.count) → OnOk r (out ≡ before ++ one ∷ [])
-    → (from : ℕ) → cell.first + cell.count < 2 ^ 64 → 0 < cell.count → IsRow from items cell.first → OnOk r (IsRow from out (cell.first + cell.count))
-joins (Err e) items before out last cell one popped first count written from fits some row = tt
-joins (Ok a) items before out last cell one popped first count written from fits some row =
-    let split = row-split from before last cell.first (subst (λ x. IsRow from x cell.first) popped row) in
+    → ((front back : List Outline) → last.count + cell.count < 2 ^ 64 → Tells last front → Tells cell back → Tells one (front ++ back)) → OnOk r (out ≡ before ++ one ∷ [])
+    → (events : List Outline) (from : ℕ) → cell.first + cell.count < 2 ^ 64 → 0 < cell.count → Tells cell (stretch events cell.first cell.count) → IsRow events from items cell.first
+    → OnOk r (IsRow events from out (cell.first + cell.count))
+joins (Err e) items before out last cell one popped first told written events from fits some tells row = tt
+joins (Ok a) items before out last cell one popped first told written events from fits some tells row =
+    let split = row-split events from before last cell.first (subst (λ x. IsRow events from x cell.first) popped row) in
     let ends : last.first + last.count ≡ cell.first = split.ends in
     let sum : last.count + cell.count < 2 ^ 64 = omega (arith, ends, fits) in
-    let counts : one.count ≡ last.count + cell.count = count sum in
+    let both = told (stretch events last.first last.count) (stretch events cell.first cell.count) sum split.tells tells in
+    let long = length-append (stretch events last.first last.count) (stretch events cell.first cell.count) in
+    let counts : one.count ≡ last.count + cell.count = let a = both.count in let b = split.tells.count in let c = tells.count in omega (arith, long, a, b, c) in
+    let all : stretch events last.first last.count ++ stretch events cell.first cell.count ≡ stretch events last.first one.count =
+    ap (λ n. stretch events last.first last.count ++ stretch events n cell.count) (sym ends) ∙ sym (stretch-add events last.first last.count cell.count) ∙ ap (stretch events last.first) (sym counts) in
     let more : 0 < one.count = omega (arith, counts, some) in
     let to : cell.first + cell.count ≡ last.first + one.count = omega (arith, counts, ends) in
-    subst (λ x. IsRow from x (cell.first + cell.count)) (sym written) (row-more from before last.first (cell.first + cell.count) one split.before first more to)
+    subst (λ x. IsRow events from x (cell.first + cell.count)) (sym written)
+    (row-more events from before last.first (cell.first + cell.count) one split.before first more (subst (Tells one) all both) to)
 
 -- a cell behind the last
 pub stands : {A E : Type 0} → (r : Result A E) (items out : List Cell) (cell : Cell) → OnOk r (out ≡ items ++ cell ∷ [])
-    → (from : ℕ) → cell.first + cell.count < 2 ^ 64 → 0 < cell.count → IsRow from items cell.first → OnOk r (IsRow from out (cell.first + cell.count))
-stands (Err e) items out cell written from fits some row = tt
-stands (Ok a) items out cell written from fits some row =
-    subst (λ x. IsRow from x (cell.first + cell.count)) (sym written) (row-more from items cell.first (cell.first + cell.count) cell row refl some refl)
+    → (events : List Outline) (from : ℕ) → cell.first + cell.count < 2 ^ 64 → 0 < cell.count → Tells cell (stretch events cell.first cell.count) → IsRow events from items cell.first
+    → OnOk r (IsRow events from out (cell.first + cell.count))
+stands (Err e) items out cell written events from fits some tells row = tt
+stands (Ok a) items out cell written events from fits some tells row =
+    subst (λ x. IsRow events from x (cell.first + cell.count)) (sym written) (row-more events from items cell.first (cell.first + cell.count) cell row refl some tells refl)
 
 -- the cells from one of them on
 drop-at : (cells : List Cell) (i : ℕ) (cell : Cell) → true ≡ ltb i (length cells) → cell ≡ get_or cells i cell → drop i cells ≡ cell ∷ drop (i + 1) cells
@@ -65,20 +159,22 @@ drop-past (x ∷ cells) (suc i) e = let n : suc i + 1 ≡ suc (i + 1) = omega ar
 
 -- a cell goes from those that are left to those that were joined
 pub halves-more : {A E : Type 0} → (r : Result A E) (cells : List Cell) (i : ℕ) (cell : Cell) (old new : List Cell) → true ≡ ltb i (length cells) → cell ≡ get_or cells i cell
-    → ((from : ℕ) → cell.first + cell.count < 2 ^ 64 → 0 < cell.count → IsRow from old cell.first → OnOk r (IsRow from new (cell.first + cell.count)))
-    → (from to : ℕ) → to < 2 ^ 64 → Halves from (drop i cells) to old → OnOk r (Halves from (drop (i + 1) cells) to new)
-halves-more (Err e) cells i cell old new within at put from to below half = tt
-halves-more (Ok a) cells i cell old new within at put from to below half =
-    let left : IsRow half.0 (cell ∷ drop (i + 1) cells) to = subst (λ x. IsRow half.0 x to) (drop-at cells i cell within at) half.2 in
+    → ((events : List Outline) (from : ℕ) → cell.first + cell.count < 2 ^ 64 → 0 < cell.count → Tells cell (stretch events cell.first cell.count) → IsRow events from old cell.first
+    → OnOk r (IsRow events from new (cell.first + cell.count)))
+    → (events : List Outline) (from to : ℕ) → to < 2 ^ 64 → Halves events from (drop i cells) to old → OnOk r (Halves events from (drop (i + 1) cells) to new)
+halves-more (Err e) cells i cell old new within at put events from to below half = tt
+halves-more (Ok a) cells i cell old new within at put events from to below half =
+    let left : IsRow events half.0 (cell ∷ drop (i + 1) cells) to = subst (λ x. IsRow events half.0 x to) (drop-at cells i cell within at) half.2 in
     let begins : cell.first ≡ half.0 = left.0 in
-    let next : IsRow (half.0 + cell.count) (drop (i + 1) cells) to = left.2 in
-    let rises = row-rises (half.0 + cell.count) (drop (i + 1) cells) to next in
+    let next : IsRow events (half.0 + cell.count) (drop (i + 1) cells) to = left.3 in
+    let rises = row-rises events (half.0 + cell.count) (drop (i + 1) cells) to next in
     let fits : cell.first + cell.count < 2 ^ 64 = omega (arith, rises, begins, below) in
-    let row : IsRow from old cell.first = subst (λ x. IsRow from old x) (sym begins) half.1 in
-    (cell.first + cell.count, put from fits left.1 row, subst (λ x. IsRow (x + cell.count) (drop (i + 1) cells) to) (sym begins) next)
+    let row : IsRow events from old cell.first = subst (λ x. IsRow events from old x) (sym begins) half.1 in
+    let tells : Tells cell (stretch events cell.first cell.count) = subst (λ x. Tells cell (stretch events x cell.count)) (sym begins) left.2 in
+    (cell.first + cell.count, put events from fits left.1 tells row, subst (λ x. IsRow events (x + cell.count) (drop (i + 1) cells) to) (sym begins) next)
 
 pub halves-none : {A E : Type 0} → (r : Result A E) (cells : List Cell) (i : ℕ) (old new : List Cell) → slice_get cells i ≡ None → new ≡ old
-    → (from to : ℕ) → to < 2 ^ 64 → Halves from (drop i cells) to old → OnOk r (Halves from (drop (i + 1) cells) to new)
-halves-none (Err e) cells i old new at same from to below half = tt
-halves-none (Ok a) cells i old new at same from to below half =
-    (half.0, subst (λ x. IsRow from x half.0) (sym same) half.1, subst (λ x. IsRow half.0 x to) (drop-past cells i at) half.2)
+    → (events : List Outline) (from to : ℕ) → to < 2 ^ 64 → Halves events from (drop i cells) to old → OnOk r (Halves events from (drop (i + 1) cells) to new)
+halves-none (Err e) cells i old new at same events from to below half = tt
+halves-none (Ok a) cells i old new at same events from to below half =
+    (half.0, subst (λ x. IsRow events from x half.0) (sym same) half.1, subst (λ x. IsRow events half.0 x to) (drop-past cells i at) half.2)

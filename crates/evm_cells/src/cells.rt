@@ -1,7 +1,8 @@
 //! A window of a journal as a bounded row of cells.
 
-ghost use Rattle.std.specs.Prelude.{◌≡◌, ◌+◌, ◌<◌, ◌^◌, ◌++◌, ◌∷◌, [], ℕ, IfOk, OnOk, drop};
-ghost use Rattle.evm_cells.specs.Rows.{Halves, IsRow};
+ghost use Rattle.std.specs.Prelude.{◌≡◌, ◌+◌, ◌<◌, ◌==◌, ◌^◌, ◌++◌, ◌∷◌, [], ℕ, List, IfOk, OnOk, drop, get_or, if◌then◌else◌, replicate};
+ghost use Rattle.evm_cells.specs.Rows.{Halves, IsRow, Outline, Tells, lane_in, lane_of, stretch};
+ghost use Rattle.evm_cells.specs.declared.cells.TheConstants.{LANE_LIMIT};
 
 use evm_model::PROCESSOR_LIMIT;
 use evm_room::{Refused, grow};
@@ -70,24 +71,29 @@ pub struct Timeline {
     span: u64,
 }
 
-fn lane_index(lane: Option<u8>) -> usize {
+fn lane_index(lane: Option<u8>) -> usize
+    ensures lane { result ≡ lane_in lane }
+    ensures limit { result < LANE_LIMIT }
+{
     match lane {
         Some(cpu) => usize::from(cpu).min(PROCESSOR_LIMIT),
         None => PROCESSOR_LIMIT,
     }
 }
 
-fn shares_of(item: &Item) -> [u64; LANE_LIMIT] {
+// How many events of an item are of each lane.
+fn shares_of(item: &Item) -> [u64; LANE_LIMIT]
+    ensures { (lane : ℕ) → lane < LANE_LIMIT → get_or result lane 0 ≡ (if lane_of item.now.event == lane then item.now.count else 0) }
+{
     let mut shares = [0; LANE_LIMIT];
-    if let Some(share) = shares.get_mut(lane_index(actor_of(&item.event))) {
-        *share = u64::from(item.count);
-    }
+    shares[lane_index(actor_of(&item.event))] = u64::from(item.count);
     shares
 }
 
 fn cell_of(item: &Item, lanes: &Lanes, kept: u32, dropped: u64) -> Cell
     ensures first { result.first ≡ item.now.first }
     ensures count { result.count ≡ item.now.count }
+    ensures tells { 0 < item.now.count → Tells result (replicate item.now.count item.now.event) }
 {
     Cell {
         first: item.first,
@@ -102,7 +108,9 @@ fn cell_of(item: &Item, lanes: &Lanes, kept: u32, dropped: u64) -> Cell
     }
 }
 
-fn summed(one: &[u64; LANE_LIMIT], two: &[u64; LANE_LIMIT]) -> [u64; LANE_LIMIT] {
+fn summed(one: &[u64; LANE_LIMIT], two: &[u64; LANE_LIMIT]) -> [u64; LANE_LIMIT]
+    ensures { (lane : ℕ) → lane < LANE_LIMIT → get_or one.now lane 0 + get_or two.now lane 0 < 2 ^ 64 → get_or result lane 0 ≡ get_or one.now lane 0 + get_or two.now lane 0 }
+{
     let mut shares = *one;
     for i in 0..LANE_LIMIT {
         shares[i] = one[i].saturating_add(two[i]);
@@ -117,7 +125,7 @@ fn kept_of(one: u32, two: u32) -> u32 {
 
 fn joined(one: &Cell, two: &Cell) -> Cell
     ensures first { result.first ≡ one.now.first }
-    ensures count { one.now.count + two.now.count < 2 ^ 64 → result.count ≡ one.now.count + two.now.count }
+    ensures tells { (front back : List Outline) → one.now.count + two.now.count < 2 ^ 64 → Tells one.now front → Tells two.now back → Tells result (front ++ back) }
 {
     let kept = kept_of(one.kept, two.kept);
     let lost = u64::from(one.kept.saturating_add(two.kept).saturating_sub(kept));
@@ -174,7 +182,8 @@ fn halved_marks(alloc: Global, cells: &[Cell], marks: &[Shown]) -> Result<Vec<Sh
 
 // A cell more, which is joined to the last.
 fn put_joined(cells: &mut Vec<Cell>, cell: &Cell) -> Result<(), Refused>
-    ensures { (from : ℕ) → cell.now.first + cell.now.count < 2 ^ 64 → 0 < cell.now.count → IsRow from cells.old.items cell.now.first → OnOk result (IsRow from cells.new.items (cell.now.first + cell.now.count)) }
+    ensures { (events : List Outline) (from : ℕ) → cell.now.first + cell.now.count < 2 ^ 64 → 0 < cell.now.count → Tells cell.now (stretch events cell.now.first cell.now.count)
+        → IsRow events from cells.old.items cell.now.first → OnOk result (IsRow events from cells.new.items (cell.now.first + cell.now.count)) }
 {
     match cells.pop() {
         Some(last) => put(cells, joined(&last, cell)),
@@ -184,7 +193,8 @@ fn put_joined(cells: &mut Vec<Cell>, cell: &Cell) -> Result<(), Refused>
 
 // A cell more, joined to the last or not.
 fn put_cell(cells: &mut Vec<Cell>, cell: &Cell, joins: bool) -> Result<(), Refused>
-    ensures { (from : ℕ) → cell.now.first + cell.now.count < 2 ^ 64 → 0 < cell.now.count → IsRow from cells.old.items cell.now.first → OnOk result (IsRow from cells.new.items (cell.now.first + cell.now.count)) }
+    ensures { (events : List Outline) (from : ℕ) → cell.now.first + cell.now.count < 2 ^ 64 → 0 < cell.now.count → Tells cell.now (stretch events cell.now.first cell.now.count)
+        → IsRow events from cells.old.items cell.now.first → OnOk result (IsRow events from cells.new.items (cell.now.first + cell.now.count)) }
 {
     if joins {
         put_joined(cells, cell)
@@ -195,7 +205,7 @@ fn put_cell(cells: &mut Vec<Cell>, cell: &Cell, joins: bool) -> Result<(), Refus
 
 // A cell more by its number, if there is one: each second is joined to the one before it.
 fn put_numbered(new: &mut Vec<Cell>, cells: &[Cell], i: usize) -> Result<(), Refused>
-    ensures { (from to : ℕ) → to < 2 ^ 64 → Halves from (drop i cells.now) to new.old.items → OnOk result (Halves from (drop (i + 1) cells.now) to new.new.items) }
+    ensures { (events : List Outline) (from to : ℕ) → to < 2 ^ 64 → Halves events from (drop i cells.now) to new.old.items → OnOk result (Halves events from (drop (i + 1) cells.now) to new.new.items) }
 {
     match cells.get(i) {
         None => Ok(()),
@@ -205,7 +215,7 @@ fn put_numbered(new: &mut Vec<Cell>, cells: &[Cell], i: usize) -> Result<(), Ref
 
 // Each two neighbouring cells joined.
 fn halved(alloc: Global, cells: &[Cell]) -> Result<Vec<Cell>, Refused>
-    ensures { (from to : ℕ) → to < 2 ^ 64 → IsRow from cells.now to → IfOk result (λ new. IsRow from new.items to) }
+    ensures { (events : List Outline) (from to : ℕ) → to < 2 ^ 64 → IsRow events from cells.now to → IfOk result (λ new. IsRow events from new.items to) }
 {
     let mut new = Vec::new(alloc);
     for i in 0..cells.len() {
@@ -245,7 +255,7 @@ impl Timeline {
 
     // Joins each two neighbouring cells.
     fn halve(&mut self, alloc: Global) -> Result<(), Refused>
-        ensures { (from to : ℕ) → to < 2 ^ 64 → IsRow from self.old.cells.items to → OnOk result (IsRow from self.new.cells.items to) }
+        ensures { (events : List Outline) (from to : ℕ) → to < 2 ^ 64 → IsRow events from self.old.cells.items to → OnOk result (IsRow events from self.new.cells.items to) }
     {
         let marks = halved_marks(alloc, self.cells.as_slice(), self.marks.as_slice())?;
         let cells = halved(alloc, self.cells.as_slice())?;
@@ -257,7 +267,7 @@ impl Timeline {
 
     // Joins them, where there are as many cells as there may be.
     fn bound(&mut self, alloc: Global) -> Result<(), Refused>
-        ensures { (from to : ℕ) → to < 2 ^ 64 → IsRow from self.old.cells.items to → OnOk result (IsRow from self.new.cells.items to) }
+        ensures { (events : List Outline) (from to : ℕ) → to < 2 ^ 64 → IsRow events from self.old.cells.items to → OnOk result (IsRow events from self.new.cells.items to) }
     {
         if self.cells.len() >= CELL_LIMIT {
             self.halve(alloc)
@@ -275,8 +285,9 @@ impl Timeline {
         lanes: &Lanes,
         found: &[Shown],
     ) -> Result<(), Refused>
-        ensures { (from : ℕ) → item.now.first + item.now.count < 2 ^ 64 → 0 < item.now.count → IsRow from self.old.cells.items item.now.first
-            → OnOk result (IsRow from self.new.cells.items (item.now.first + item.now.count)) }
+        ensures { (events : List Outline) (from : ℕ) → item.now.first + item.now.count < 2 ^ 64 → 0 < item.now.count
+            → stretch events item.now.first item.now.count ≡ replicate item.now.count item.now.event → IsRow events from self.old.cells.items item.now.first
+            → OnOk result (IsRow events from self.new.cells.items (item.now.first + item.now.count)) }
     {
         let room = room_of(self.cells.as_slice(), self.span);
         let kept = keep(&mut self.marks, found, room.unwrap_or(0))?;

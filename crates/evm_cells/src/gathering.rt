@@ -1,11 +1,14 @@
 //! A window of a journal, replayed.
 
-ghost use Rattle.std.specs.Prelude.{ℕ, IfOk};
-ghost use Rattle.evm_cells.specs.Rows.{IsRow};
+ghost use Rattle.std.specs.Prelude.{◌≡◌, ◌+◌, ◌≤◌, IfOk, OnOk, length, map};
+ghost use Rattle.evm_cells.specs.Rows.{IsWindow};
+ghost use Rattle.evm_timeline.specs.Items.{outline};
+ghost use Rattle.evm_timeline.specs.Walks.{Follows, place};
 
 use crate::cells::{Lanes, Shown, Timeline};
 use evm_dev::Device;
 use evm_model::{PROCESSOR_LIMIT, Wait};
+use evm_program::Meter;
 use evm_room::{Refused, grow};
 use evm_timeline::{Item, Look, Mark, Walk, WalkStop, actor_of};
 use std::alloc::Global;
@@ -90,21 +93,16 @@ fn show(shown: &mut Vec<Shown>, found: &[Mark], item: &Item, look: &Look) -> Res
     Ok(())
 }
 
-/// How far a walk has come.
-pub trait Meter {
-    /// The walk has come to the event of this number.
-    fn passed(&mut self, event: u64);
-
-    /// The walk has ended.
-    fn ended(&mut self);
-}
-
 /// How many events are skipped at a time.
 const SKIPPED: u64 = 65_536;
 
 // Skips the events before a window.
-fn skip<D: Device, M: Meter>(walk: &mut Walk<D>, from: u64, meter: &mut M) -> Result<(), WalkStop> {
-    for _ in 0..from / SKIPPED {
+fn skip<D: Device, M: Meter>(walk: &mut Walk<D>, from: u64, meter: &mut M) -> Result<(), WalkStop>
+    requires { place walk.old + from ≤ length walk.old.events }
+    ensures skipped { OnOk result (place walk.new ≡ place walk.old + from) }
+    ensures follows { OnOk result (Follows walk.old walk.new) }
+{
+    for _part in 0..from / SKIPPED {
         walk.skip(SKIPPED)?;
         meter.passed(walk.next_event());
     }
@@ -123,7 +121,9 @@ pub fn gather<D: Device, M: Meter>(
     window: Window,
     meter: &mut M,
 ) -> Result<Timeline, WalkStop>
-    ensures { IfOk result (λ timeline. (from : ℕ) × IsRow from timeline.cells.items walk.new) }
+    requires { place walk.old ≡ 0 }
+    ensures window { IfOk result (λ timeline. IsWindow window (map outline walk.old.events) timeline.cells.items) }
+    ensures follows { OnOk result (Follows walk.old walk.new) }
 {
     skip(walk, window.from.min(walk.event_count()), meter)?;
     let mut timeline = Timeline::new(alloc, walk.look().cpu_count);

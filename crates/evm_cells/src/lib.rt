@@ -6,6 +6,8 @@ mod gathering;
 mod pieces;
 mod places;
 mod seen;
+mod strips;
+mod terminal;
 mod words;
 
 pub use cells::{CELL_LIMIT, Cell, Lanes, MARK_LIMIT, Shown, Timeline};
@@ -14,7 +16,9 @@ pub use evm_timeline::{
     Boot, Devices, Event, EventLine, InputFault, Journal, JournalFaultKind, Mark, Walk, WalkStop,
     push_boot_line, push_event_line, read_history,
 };
-pub use gathering::{Meter, Window, gather};
+pub use gathering::{Window, gather};
 pub use pieces::{Piece, say};
 pub use seen::{is_stalled, letter, same_stage, share, task_on};
+pub use strips::{PARTING, STRIP, column_in, column_of, strip_count};
+pub use terminal::written;
 pub use words::{push_cell, push_event, push_mark, push_shown, stage_name, wait_name};

@@ -1,5 +1,7 @@
 //! What is seen of a processor before a cell, and how many of its events are of a lane.
 
+ghost use Rattle.std.specs.Prelude.{◌≡◌, get_or};
+
 use crate::cells::Cell;
 use evm_model::Stage;
 use evm_timeline::{Event, Lane};
@@ -39,7 +41,9 @@ pub fn is_stalled(cell: &Cell, cpu: u8, stage: Stage) -> bool {
 }
 
 /// How many events of a cell are of a lane: that of a processor by its number, or that of the machine behind those.
-pub fn share(cell: &Cell, lane: usize) -> u64 {
+pub fn share(cell: &Cell, lane: usize) -> u64
+    ensures { result ≡ get_or cell.now.shares lane 0 }
+{
     match cell.shares.get(lane) {
         Some(share) => *share,
         None => 0,

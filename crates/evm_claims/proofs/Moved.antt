@@ -9,7 +9,7 @@ use Rattle.evm_model.specs.declared.processor.Processor.{Processor}
 use Rattle.evm_model.specs.declared.task.Task.{Task}
 use Rattle.evm_model.specs.declared.task.TaskState.{TaskState}
 use Rattle.evm_model.specs.declared.task.Wait.{Wait}
-use Rattle.evm_claims.specs.Steps.{EventEnds, by_signal, by_time, WaitsAgain, Wakes, WokenBy, by_line, by_owner, by_owner_back, by_event, by_sleep, by_deadline, by_put, by_line_put, by_post, by_line_post, by_timer, StepChangesOnly, ObjectsChangeOnly}
+use Rattle.evm_claims.specs.Steps.{EventWaitEnds, by_signal, by_time, WaitsAgain, WaitEnds, WaitEndsBy, by_line, by_owner, by_owner_back, by_event, by_sleep, by_deadline, by_put, by_line_put, by_post, by_line_post, by_timer, StepChangesOnly, ObjectsChangeOnly}
 use Rattle.evm_claims.proofs.Noticed.{noticed_moved}
 
 -- ---- bits of processors are nothing that it speaks of
@@ -20,11 +20,11 @@ module _ (runs : Option ℕ) (c t : ℕ) (memory : Memory) (old new : Parts) (be
   abbrev new' : Parts
   new' = record new { processors = after }
 
-  moved_ends : (e answer : ℕ) (task : Task) → EventEnds runs c e memory old task answer → EventEnds runs c e memory old' task answer
+  moved_ends : (e answer : ℕ) (task : Task) → EventWaitEnds runs c e memory old task answer → EventWaitEnds runs c e memory old' task answer
   moved_ends e _ task (by_signal caller hart call number is) = by_signal caller hart call number is
   moved_ends e _ task (by_time come) = by_time come
 
-  moved_why : (task : Task) (state : TaskState) (wait : Wait) (answer : ℕ) → WokenBy runs c t memory old new task state wait answer → WokenBy runs c t memory old' new' task state wait answer
+  moved_why : (task : Task) (state : TaskState) (wait : Wait) (answer : ℕ) → WaitEndsBy runs c t memory old new task state wait answer → WaitEndsBy runs c t memory old' new' task state wait answer
   moved_why task state _ _ (by_line l home there) = by_line l home there
   moved_why task state _ _ (by_owner m giver own had has) = by_owner m giver own had has
   moved_why task state _ _ (by_owner_back m answer giver own had has) = by_owner_back m answer giver own had has
@@ -37,7 +37,7 @@ module _ (runs : Option ℕ) (c t : ℕ) (memory : Memory) (old new : Parts) (be
   moved_why task state _ _ (by_line_post l f word acts awake) = by_line_post l f word acts awake
   moved_why task state _ _ (by_timer n timer set come home there awake) = by_timer n timer set come home there awake
 
-  moved_wakes : (task : Task) (hart : Hart) → Wakes runs c t memory old new task hart → Wakes runs c t memory old' new' task hart
+  moved_wakes : (task : Task) (hart : Hart) → WaitEnds runs c t memory old new task hart → WaitEnds runs c t memory old' new' task hart
   moved_wakes task hart w = record {
     wait = w.wait;
     state = w.state;

@@ -30,7 +30,7 @@ use Rattle.evm_model.specs.declared.task.Wait.TheVariants.{Line, Event as OfEven
 use Rattle.evm_model.specs.declared.timer.Timer.{Timer}
 use Rattle.evm_runs.specs.Changes.{EventEnds as EndsBefore, by_signal as signalled, by_time as timed, HasMutex, IsReadyAfter, MakesCall, MakesNone, MutexesTaken, Requeues, Schedules, Spends, Stays, StepChanges, Wakes as WakesBefore, WasLate, is_event_wait, late_answer, WokenBy as WokenBefore, by_line as line, by_owner as passed, by_owner_back as passed_back, by_event as regained, by_deadline as overdue, by_put as put, by_line_put as line_put, by_post as posted, by_line_post as line_posted, by_timer as timer_due}
 use Rattle.evm_claims.specs.About.{IsAbout}
-use Rattle.evm_claims.specs.Steps.{IsReacquired, EventEnds, by_signal, by_time, HadCome, IsScheduled, OwnsNow, WaitsAgain, Wakes, WokenBy, by_line, by_owner, by_owner_back, by_event, by_sleep, by_deadline, by_put, by_line_put, by_post, by_line_post, by_timer, SpendsSlice, Stands, IsAnothers}
+use Rattle.evm_claims.specs.Steps.{IsReacquired, EventWaitEnds, by_signal, by_time, HadCome, IsGivenPolicy, OwnsNow, WaitsAgain, WaitEnds, WaitEndsBy, by_line, by_owner, by_owner_back, by_event, by_sleep, by_deadline, by_put, by_line_put, by_post, by_line_post, by_timer, SpendsSlice, Stands, IsAnothers}
 
 -- ---- one task
 same_task : (tasks : List Task) (t : ℕ) (x y : Task) → slice_get tasks t ≡ Some x → slice_get tasks t ≡ Some y → x ≡ y
@@ -88,19 +88,19 @@ abbrev pub IsAboutCall : Option ℕ → Board → ℕ → Hart → Type 0
 IsAboutCall runs old number hart = (caller : ℕ) × (IsAbout runs caller hart Call old.parts.harts old.memory × (register_of hart.regs 17 ≡ number))
 
 module _ (runs : Option ℕ) (c t : ℕ) (old : Board) (makes : ℕ → Hart → Type 0) (tells : (n : ℕ) (h : Hart) → makes n h → IsAboutCall runs old n h) where
-  event_ends : (e answer : ℕ) (task : Task) → EndsBefore makes c old.parts.ticks e task answer → EventEnds runs c e old.memory old.parts task answer
+  event_ends : (e answer : ℕ) (task : Task) → EndsBefore makes c old.parts.ticks e task answer → EventWaitEnds runs c e old.memory old.parts task answer
   event_ends e _ task (signalled hart (inl call) is) = let a = tells 43 hart call in by_signal a.0 hart a.1.0 (inl a.1.1) is
   event_ends e _ task (signalled hart (inr call) is) = let a = tells 44 hart call in by_signal a.0 hart a.1.0 (inr a.1.1) is
   event_ends e _ task (timed late) = by_time (had_come c old.parts.ticks task late)
 
-  by_lateness : (wait : Wait) (new : Parts) (task : Task) (state : TaskState) → is_event_wait wait ≡ false → HadCome c old.parts.ticks task → IsReadyAfter wait task.class state → WokenBy runs c t old.memory old.parts new task state wait (late_answer wait)
+  by_lateness : (wait : Wait) (new : Parts) (task : Task) (state : TaskState) → is_event_wait wait ≡ false → HadCome c old.parts.ticks task → IsReadyAfter wait task.class state → WaitEndsBy runs c t old.memory old.parts new task state wait (late_answer wait)
   by_lateness Sleep new task state other late ready = by_sleep late (weakly state task.class ready)
   by_lateness (OfEvent e) new task state other late ready = cc
   by_lateness (Line l) new task state other late ready = by_deadline (Line l) (λ e. cc) (λ d e. cc) late (inr (l, (refl, in_band_only state task.class ready)))
   by_lateness wait new task state other late ready = by_deadline wait (λ e. cc) (λ d e. cc) late (inl (weakly state task.class ready))
 
   why : (new : Parts) (task : Task) (state : TaskState) (wait : Wait) (answer : ℕ) → WokenBefore runs makes c t task state old.parts new wait answer → IsReadyAfter wait task.class state
-      → WokenBy runs c t old.memory old.parts new task state wait answer
+      → WaitEndsBy runs c t old.memory old.parts new task state wait answer
   why new task state _ _ (line l home) ready = by_line l home (in_band_only state task.class ready)
   why new task state _ _ (passed m giver own had has) ready = by_owner m giver own had (owns_now t m state new.mutexes has)
   why new task state _ _ (passed_back m answer giver own had has) ready = by_owner_back m answer giver own had (owns_now t m state new.mutexes has)
@@ -127,7 +127,7 @@ module _ (runs : Option ℕ) (c t : ℕ) (old : Board) (makes : ℕ → Hart →
   from_asked tasks new task state _ _ (timer_due n timer due there) = timer_due n timer due there
 
   wakes : (tasks : List Task) (new : Parts) (task : Task) (hart : Hart) → slice_get tasks t ≡ Some task → slice_get old.parts.harts t ≡ Some hart → WakesBefore runs makes c t (record old.parts { tasks = tasks }) new
-      → Wakes runs c t old.memory old.parts new task hart
+      → WaitEnds runs c t old.memory old.parts new task hart
   wakes tasks new task hart there at w =
       let same : w.task ≡ task = same_task tasks t w.task task w.waited there in
       record {
@@ -180,7 +180,7 @@ has_class class h same = let no : is_class Unattached ≡ true = ap is_class (sy
 
 record IsAsked (c t : ℕ) (old : Board) (asked : List Task) (task : Task) : Type 0 where
   given : Task
-  is_given : (given ≡ task) ⊎ IsScheduled (current c old.parts) t old.parts.tasks old.parts.harts old.memory task given
+  is_given : (given ≡ task) ⊎ IsGivenPolicy (current c old.parts) t old.parts.tasks old.parts.harts old.memory task given
   there : slice_get asked t ≡ Some given
 
 as_asked : (c t : ℕ) (old : Board) (asked : List Task) (task : Task) → slice_get old.parts.tasks t ≡ Some task → (asked ≡ old.parts.tasks) ⊎ Schedules c old asked → IsAsked c t old asked task
@@ -217,15 +217,15 @@ calls_of c old number hart call = (call.task, (about c number hart old call, cal
 
 left : (c t : ℕ) (old : Board) (tasks : List Task) (new : Parts) (task : Task) (hart : Hart) → slice_get tasks t ≡ Some task → slice_get old.parts.harts t ≡ Some hart
     → Stays (current c old.parts) (λ number hart. MakesCall c number hart old) c t (record old.parts { tasks = tasks }) new
-    → Stands t new.tasks new.harts task hart ⊎ Wakes (current c old.parts) c t old.memory old.parts new task hart ⊎ WaitsAgain (current c old.parts) c t old.memory old.parts new task hart
+    → Stands t new.tasks new.harts task hart ⊎ WaitEnds (current c old.parts) c t old.memory old.parts new task hart ⊎ WaitsAgain (current c old.parts) c t old.memory old.parts new task hart
 left c t old tasks new task hart there at (inl r) = inl (record { task_is = r.task task there; hart_is = r.hart hart at })
 left c t old tasks new task hart there at (inr (inl w)) = inr (inl (wakes (current c old.parts) c t old (λ number hart. MakesCall c number hart old) (calls_of c old) tasks new task hart there at w))
 left c t old tasks new task hart there at (inr (inr w)) = inr (inr (waits_again (current c old.parts) c t old (λ number hart. MakesCall c number hart old) (calls_of c old) tasks new task hart there at w))
 
 pub tasks_of : (c : ℕ) (old new : Board) → StepChanges c old new → (t : ℕ) (task : Task) (hart : Hart) → current c old.parts ≢ Some t → slice_get old.parts.tasks t ≡ Some task → slice_get old.parts.harts t ≡ Some hart
-    → (given : Task) × (((given ≡ task) ⊎ IsScheduled (current c old.parts) t old.parts.tasks old.parts.harts old.memory task given)
+    → (given : Task) × (((given ≡ task) ⊎ IsGivenPolicy (current c old.parts) t old.parts.tasks old.parts.harts old.memory task given)
     × (Stands t new.parts.tasks new.parts.harts given hart
-    ⊎ Wakes (current c old.parts) c t old.memory old.parts new.parts given hart
+    ⊎ WaitEnds (current c old.parts) c t old.memory old.parts new.parts given hart
     ⊎ WaitsAgain (current c old.parts) c t old.memory old.parts new.parts given hart))
 tasks_of c old new b t task hart other there at =
     let a : IsAsked c t old b.asked task = as_asked c t old b.asked task there b.scheduled in
@@ -234,7 +234,7 @@ tasks_of c old new b t task hart other there at =
 -- ---- each task where a line is on the wire
 own : (c t : ℕ) (old : Board) (new : Parts) (task : Task) (hart : Hart) → slice_get old.parts.tasks t ≡ Some task → slice_get old.parts.harts t ≡ Some hart → Stays None MakesNone c t old.parts new ⊎ Spends c t old.parts new
     → Stands t new.tasks new.harts task hart
-    ⊎ Wakes None c t old.memory old.parts new task hart
+    ⊎ WaitEnds None c t old.memory old.parts new task hart
     ⊎ WaitsAgain None c t old.memory old.parts new task hart
     ⊎ SpendsSlice (current c old.parts) t old.parts.stamps new.tasks new.harts task hart
 own c t old new task hart there at (inl (inl r)) = inl (record { task_is = r.task task there; hart_is = r.hart hart at })
@@ -245,7 +245,7 @@ own c t old new task hart there at (inr q) = inr (inr (inr (spends c t old.parts
 pub line_tasks_of : (c : ℕ) (old new : Board) → StepChanges c old new → (l t : ℕ) (pipe : Pipe) (task : Task) (hart : Hart) → slice_get old.parts.pipes c ≡ Some pipe → has_line pipe.wire l ≡ true
     → slice_get old.parts.tasks t ≡ Some task → slice_get old.parts.harts t ≡ Some hart
     → Stands t new.parts.tasks new.parts.harts task hart
-    ⊎ Wakes None c t old.memory old.parts new.parts task hart
+    ⊎ WaitEnds None c t old.memory old.parts new.parts task hart
     ⊎ WaitsAgain None c t old.memory old.parts new.parts task hart
     ⊎ SpendsSlice (current c old.parts) t old.parts.stamps new.parts.tasks new.parts.harts task hart
 line_tasks_of c old new b l t pipe task hart there on is has = own c t old new.parts task hart is has ((b.hears (record { pipe = pipe; line = l; there = there; on = on })).1 t)

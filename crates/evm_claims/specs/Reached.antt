@@ -27,7 +27,7 @@ pub record Reached (boot : Boot) (s : State) : Type 0 where
   pub from : (s ≡ replay (start devices boot) events) ⊎ ((byte : ℕ → ℕ) × ((entry : ℕ) × ((entry % 4 ≡ 0) × (s ≡ replay (start_loaded devices byte entry boot) events))))
 
 -- a machine that has had no event, whose pipes are idle: any RAM, devices, tasks and processors
-pub record IsIdle (s : State) : Type 0 where
+pub record HasHadNoEvent (s : State) : Type 0 where
   pub journal : s.journal ≡ []
   pub pipes : (c : ℕ) (pipe : Pipe) → slice_get s.board.parts.pipes c ≡ Some pipe → pipe ≡ idle_pipe
 

@@ -35,7 +35,7 @@ use Rattle.evm_claims.specs.Noticed.{IsNoticed}
 
 -- ---- a task
 -- the current task is out-of-band and makes call 34 for task t, which has not ended and has a class: it is given the class and the priority of a1 and a2 and a slice of 4, and nothing else
-pub record IsScheduled (runs : Option ℕ) (t : ℕ) (tasks : List Task) (harts : List Hart) (memory : Memory) (task given : Task) : Type 0 where
+pub record IsGivenPolicy (runs : Option ℕ) (t : ℕ) (tasks : List Task) (harts : List Hart) (memory : Memory) (task given : Task) : Type 0 where
   pub caller : ℕ
   pub hart : Hart
   pub class : Class
@@ -67,45 +67,45 @@ abbrev pub IsAwake : Class → TaskState → Type 0
 IsAwake class state = (state ≡ OobReady) ⊎ ((state ≡ InReady) × (class ≡ Weak))
 
 -- why the wait of a task for event e ended; the last is what its call answers
-pub data EventEnds (runs : Option ℕ) (c e : ℕ) (memory : Memory) (old : Parts) (task : Task) : ℕ → Type 0 where
+pub data EventWaitEnds (runs : Option ℕ) (c e : ℕ) (memory : Memory) (old : Parts) (task : Task) : ℕ → Type 0 where
   -- the current task makes call 43 or 44, whose a0 is the event's number
-  by_signal : (caller : ℕ) (hart : Hart) → IsAbout runs caller hart Call old.harts memory → (register_of hart.regs 17 ≡ 43) ⊎ (register_of hart.regs 17 ≡ 44) → e ≡ register_of hart.regs 10 → EventEnds runs c e memory old task 0
+  by_signal : (caller : ℕ) (hart : Hart) → IsAbout runs caller hart Call old.harts memory → (register_of hart.regs 17 ≡ 43) ⊎ (register_of hart.regs 17 ≡ 44) → e ≡ register_of hart.regs 10 → EventWaitEnds runs c e memory old task 0
   -- its deadline had come: -110
-  by_time : HadCome c old.ticks task → EventEnds runs c e memory old task (2 ^ 64 - 110)
+  by_time : HadCome c old.ticks task → EventWaitEnds runs c e memory old task (2 ^ 64 - 110)
 
 -- why task t, which waited, woke into this state, by what it waited for; the last is what its call answers
-pub data WokenBy (runs : Option ℕ) (c t : ℕ) (memory : Memory) (old new : Parts) (task : Task) (state : TaskState) : Wait → ℕ → Type 0 where
+pub data WaitEndsBy (runs : Option ℕ) (c t : ℕ) (memory : Memory) (old new : Parts) (task : Task) (state : TaskState) : Wait → ℕ → Type 0 where
   -- the line was played on processor c, which is its own: it is ready in-band
-  by_line : (l : ℕ) → task.cpu ≡ c → state ≡ InReady → WokenBy runs c t memory old new task state (Line l) 0
+  by_line : (l : ℕ) → task.cpu ≡ c → state ≡ InReady → WaitEndsBy runs c t memory old new task state (Line l) 0
   -- the mutex was the current task's: it owns it, locked once, and is ready out-of-band
-  by_owner : (m giver : ℕ) → runs ≡ Some giver → owner old.mutexes m ≡ Some giver → OwnsNow t m state new.mutexes → WokenBy runs c t memory old new task state (Lock m) 0
+  by_owner : (m giver : ℕ) → runs ≡ Some giver → owner old.mutexes m ≡ Some giver → OwnsNow t m state new.mutexes → WaitEndsBy runs c t memory old new task state (Lock m) 0
   -- .. after a wait for an event: it has the answer that it kept
-  by_owner_back : (m answer giver : ℕ) → runs ≡ Some giver → owner old.mutexes m ≡ Some giver → OwnsNow t m state new.mutexes → WokenBy runs c t memory old new task state (Reacquire m answer) answer
+  by_owner_back : (m answer giver : ℕ) → runs ≡ Some giver → owner old.mutexes m ≡ Some giver → OwnsNow t m state new.mutexes → WaitEndsBy runs c t memory old new task state (Reacquire m answer) answer
   -- its wait for the event ended, and it owns the event's mutex
-  by_event : (e m answer : ℕ) → slice_get new.events e ≡ Some (Some m) → OwnsNow t m state new.mutexes → EventEnds runs c e memory old task answer → WokenBy runs c t memory old new task state (OfEvent e) answer
+  by_event : (e m answer : ℕ) → slice_get new.events e ≡ Some (Some m) → OwnsNow t m state new.mutexes → EventWaitEnds runs c e memory old task answer → WaitEndsBy runs c t memory old new task state (OfEvent e) answer
   -- it slept until its deadline
-  by_sleep : HadCome c old.ticks task → IsAwake task.class state → WokenBy runs c t memory old new task state Sleep 0
+  by_sleep : HadCome c old.ticks task → IsAwake task.class state → WaitEndsBy runs c t memory old new task state Sleep 0
   -- its deadline had come while it waited for neither an event nor its sleep's end: -110
-  by_deadline : (wait : Wait) → wait ≢ Sleep → ((e : ℕ) → wait ≢ OfEvent e) → HadCome c old.ticks task → IsAwake task.class state ⊎ ((l : ℕ) × ((wait ≡ Line l) × (state ≡ InReady))) → WokenBy runs c t memory old new task state wait (2 ^ 64 - 110)
+  by_deadline : (wait : Wait) → wait ≢ Sleep → ((e : ℕ) → wait ≢ OfEvent e) → HadCome c old.ticks task → IsAwake task.class state ⊎ ((l : ℕ) × ((wait ≡ Line l) × (state ≡ InReady))) → WaitEndsBy runs c t memory old new task state wait (2 ^ 64 - 110)
   -- the current task makes call 41, whose a0 is the semaphore's number; or the action of a line puts into it
-  by_put : (caller : ℕ) (hart : Hart) → IsAbout runs caller hart Call old.harts memory → register_of hart.regs 17 ≡ 41 → IsAwake task.class state → WokenBy runs c t memory old new task state (Semaphore (register_of hart.regs 10)) 0
-  by_line_put : (l s : ℕ) → slice_get new.actions l ≡ Some (Puts s) → IsAwake task.class state → WokenBy runs c t memory old new task state (Semaphore s) 0
+  by_put : (caller : ℕ) (hart : Hart) → IsAbout runs caller hart Call old.harts memory → register_of hart.regs 17 ≡ 41 → IsAwake task.class state → WaitEndsBy runs c t memory old new task state (Semaphore (register_of hart.regs 10)) 0
+  by_line_put : (l s : ℕ) → slice_get new.actions l ≡ Some (Puts s) → IsAwake task.class state → WaitEndsBy runs c t memory old new task state (Semaphore s) 0
   -- the current task makes call 46, whose a0 is the flag group's number and whose a1 is the bits: it has them and the word; or the action of a line posts its bit
   by_post : (caller : ℕ) (hart : Hart) (word : ℕ) → IsAbout runs caller hart Call old.harts memory → register_of hart.regs 17 ≡ 46 → slice_get old.flags (register_of hart.regs 10) ≡ Some word → IsAwake task.class state
-      → WokenBy runs c t memory old new task state (Flags (register_of hart.regs 10)) (bit_or word (register_of hart.regs 11))
-  by_line_post : (l f word : ℕ) → slice_get new.actions l ≡ Some (Posts f) → IsAwake task.class state → WokenBy runs c t memory old new task state (Flags f) (bit_or word (2 ^ l))
+      → WaitEndsBy runs c t memory old new task state (Flags (register_of hart.regs 10)) (bit_or word (register_of hart.regs 11))
+  by_line_post : (l f word : ℕ) → slice_get new.actions l ≡ Some (Posts f) → IsAwake task.class state → WaitEndsBy runs c t memory old new task state (Flags f) (bit_or word (2 ^ l))
   -- the timer was due on processor c, and has expired: it has all its expiries, and the timer none
   by_timer : (n : ℕ) (timer : Timer) → timer.due ≢ 0 → timer.due ≤ old.ticks → timer.cpu ≡ c → slice_get new.timers n ≡ Some (record (expired old.ticks timer) { expiries = 0 }) → IsAwake task.class state
-      → WokenBy runs c t memory old new task state (OfTimer n) (expired old.ticks timer).expiries
+      → WaitEndsBy runs c t memory old new task state (OfTimer n) (expired old.ticks timer).expiries
 
 -- it waited, on whatever processor, and is ready: it has no deadline, a later stamp, and the answer in a0
-pub record Wakes (runs : Option ℕ) (c t : ℕ) (memory : Memory) (old new : Parts) (task : Task) (hart : Hart) : Type 0 where
+pub record WaitEnds (runs : Option ℕ) (c t : ℕ) (memory : Memory) (old new : Parts) (task : Task) (hart : Hart) : Type 0 where
   pub wait : Wait
   pub state : TaskState
   pub stamp : ℕ
   pub answer : ℕ
   pub on : task.state ≡ Waits wait
-  pub by : WokenBy runs c t memory old new task state wait answer
+  pub by : WaitEndsBy runs c t memory old new task state wait answer
   pub later : old.stamps ≤ stamp
   pub task_is : slice_get new.tasks t ≡ Some (record task { stamp = stamp; deadline = 0; state = state })
   pub hart_is : slice_get new.harts t ≡ Some (record hart { regs = with_register hart.regs 10 answer })
@@ -118,7 +118,7 @@ pub record WaitsAgain (runs : Option ℕ) (c t : ℕ) (memory : Memory) (old new
   pub answer : ℕ
   pub on : task.state ≡ Waits (OfEvent event)
   pub named : slice_get new.events event ≡ Some (Some mutex)
-  pub ends : EventEnds runs c event memory old task answer
+  pub ends : EventWaitEnds runs c event memory old task answer
   pub later : old.stamps ≤ stamp
   pub task_is : slice_get new.tasks t ≡ Some (record task { stamp = stamp; deadline = 0; state = Waits (Reacquire mutex answer) })
   pub hart_is : slice_get new.harts t ≡ Some hart
@@ -229,9 +229,9 @@ pub record StepChangesOnly (runs : Option ℕ) (c : ℕ) (old new : Board) : Typ
       ⊎ ((byte : ℕ) × (new.parts.console ≡ drop (length (old.parts.console ++ byte ∷ []) - CONSOLE_LIMIT) (old.parts.console ++ byte ∷ [])))
   -- each task but the current one, as call 34 may have given it another class, stands, wakes or waits again
   pub tasks : (t : ℕ) (task : Task) (hart : Hart) → runs ≢ Some t → slice_get old.parts.tasks t ≡ Some task → slice_get old.parts.harts t ≡ Some hart
-      → (given : Task) × (((given ≡ task) ⊎ IsScheduled runs t old.parts.tasks old.parts.harts old.memory task given)
+      → (given : Task) × (((given ≡ task) ⊎ IsGivenPolicy runs t old.parts.tasks old.parts.harts old.memory task given)
       × (Stands t new.parts.tasks new.parts.harts given hart
-      ⊎ Wakes runs c t old.memory old.parts new.parts given hart
+      ⊎ WaitEnds runs c t old.memory old.parts new.parts given hart
       ⊎ WaitsAgain runs c t old.memory old.parts new.parts given hart))
   -- where a line is on the wire memory and the notices stand
   pub line_memory : (l : ℕ) (pipe : Pipe) → slice_get old.parts.pipes c ≡ Some pipe → has_line pipe.wire l ≡ true → (new.memory ≡ old.memory) × (new.parts.notices ≡ old.parts.notices)
@@ -239,7 +239,7 @@ pub record StepChangesOnly (runs : Option ℕ) (c : ℕ) (old new : Board) : Typ
   pub line_tasks : (l t : ℕ) (pipe : Pipe) (task : Task) (hart : Hart) → slice_get old.parts.pipes c ≡ Some pipe → has_line pipe.wire l ≡ true
       → slice_get old.parts.tasks t ≡ Some task → slice_get old.parts.harts t ≡ Some hart
       → Stands t new.parts.tasks new.parts.harts task hart
-      ⊎ Wakes None c t old.memory old.parts new.parts task hart
+      ⊎ WaitEnds None c t old.memory old.parts new.parts task hart
       ⊎ WaitsAgain None c t old.memory old.parts new.parts task hart
       ⊎ SpendsSlice runs t old.parts.stamps new.parts.tasks new.parts.harts task hart
   -- as many tasks, with their harts, or one of each more where there were fewer than 64

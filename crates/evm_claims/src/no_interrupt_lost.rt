@@ -14,7 +14,7 @@ ghost use Rattle.evm_model.specs.declared.event.Event.TheVariants as Event;
 ghost use Rattle.evm_runs.specs.Balance.{device_count};
 ghost use Rattle.evm_runs.specs.Nudged.{found_count};
 ghost use Rattle.evm_claims.specs.Raising.{NoDevicesLine, raises};
-ghost use Rattle.evm_claims.specs.Reached.{IsIdle, Ran};
+ghost use Rattle.evm_claims.specs.Reached.{HasHadNoEvent, Ran};
 
 /// After every boot, with an image loaded or none, and every list of events, each line of each processor was raised
 /// as often as it merged on the wire, is there still, or was received; likewise from any first state whose journal
@@ -24,7 +24,7 @@ pub fn no_line_is_lost_on_its_wire()
         slice_get s.board.parts.pipes c ≡ Option.Some pipe →
         slice_get pipe.counts l ≡ Option.Some n →
         n.raised ≡ n.merged + (if has_line pipe.wire l then 1 else 0) + n.received }
-    ensures fresh { (s : State) (events : List Event) (c l : ℕ) (pipe : Pipe) (n : Counts) → IsIdle s →
+    ensures fresh { (s : State) (events : List Event) (c l : ℕ) (pipe : Pipe) (n : Counts) → HasHadNoEvent s →
         slice_get (replay s events).board.parts.pipes c ≡ Option.Some pipe → slice_get pipe.counts l ≡ Option.Some n →
         n.raised ≡ n.merged + (if has_line pipe.wire l then 1 else 0) + n.received }
     // worked: line 5 is raised twice, merges once, and is on the wire; then a Step receives it
@@ -52,10 +52,10 @@ pub fn no_line_is_lost_in_a_stage()
         slice_get s.board.parts.pipes c ≡ Option.Some pipe →
         slice_get pipe.counts l ≡ Option.Some n →
         n.in_band.arrivals ≡ n.in_band.merged + (if has_line pipe.in_band.lines l then 1 else 0) + n.in_band.played }
-    ensures out_of_band_fresh { (s : State) (events : List Event) (c l : ℕ) (pipe : Pipe) (n : Counts) → IsIdle s →
+    ensures out_of_band_fresh { (s : State) (events : List Event) (c l : ℕ) (pipe : Pipe) (n : Counts) → HasHadNoEvent s →
         slice_get (replay s events).board.parts.pipes c ≡ Option.Some pipe → slice_get pipe.counts l ≡ Option.Some n →
         n.oob.arrivals ≡ n.oob.merged + (if has_line pipe.oob.lines l then 1 else 0) + n.oob.played }
-    ensures in_band_fresh { (s : State) (events : List Event) (c l : ℕ) (pipe : Pipe) (n : Counts) → IsIdle s →
+    ensures in_band_fresh { (s : State) (events : List Event) (c l : ℕ) (pipe : Pipe) (n : Counts) → HasHadNoEvent s →
         slice_get (replay s events).board.parts.pipes c ≡ Option.Some pipe → slice_get pipe.counts l ≡ Option.Some n →
         n.in_band.arrivals ≡ n.in_band.merged + (if has_line pipe.in_band.lines l then 1 else 0) + n.in_band.played }
 {
@@ -77,13 +77,13 @@ pub fn what_is_received_comes_to_a_stage()
     ensures others { (boot : Boot) (s : State) (c l : ℕ) (pipe : Pipe) (n : Counts) → Ran boot s → 2 ≤ l →
         slice_get s.board.parts.pipes c ≡ Option.Some pipe →
         slice_get pipe.counts l ≡ Option.Some n → n.received ≡ n.oob.arrivals + n.in_band.arrivals }
-    ensures timer_fresh { (s : State) (events : List Event) (c : ℕ) (pipe : Pipe) (n : Counts) → IsIdle s →
+    ensures timer_fresh { (s : State) (events : List Event) (c : ℕ) (pipe : Pipe) (n : Counts) → HasHadNoEvent s →
         slice_get (replay s events).board.parts.pipes c ≡ Option.Some pipe → slice_get pipe.counts 0 ≡ Option.Some n →
         (n.received ≡ n.oob.arrivals) × (n.in_band.arrivals ≡ n.oob.played) }
-    ensures request_fresh { (s : State) (events : List Event) (c : ℕ) (pipe : Pipe) (n : Counts) → IsIdle s →
+    ensures request_fresh { (s : State) (events : List Event) (c : ℕ) (pipe : Pipe) (n : Counts) → HasHadNoEvent s →
         slice_get (replay s events).board.parts.pipes c ≡ Option.Some pipe → slice_get pipe.counts 1 ≡ Option.Some n →
         (n.received ≡ n.oob.arrivals) × (n.in_band.arrivals ≡ 0) }
-    ensures others_fresh { (s : State) (events : List Event) (c l : ℕ) (pipe : Pipe) (n : Counts) → 2 ≤ l → IsIdle s →
+    ensures others_fresh { (s : State) (events : List Event) (c l : ℕ) (pipe : Pipe) (n : Counts) → 2 ≤ l → HasHadNoEvent s →
         slice_get (replay s events).board.parts.pipes c ≡ Option.Some pipe → slice_get pipe.counts l ≡ Option.Some n →
         n.received ≡ n.oob.arrivals + n.in_band.arrivals }
 {
@@ -100,7 +100,7 @@ pub fn raised_as_often_as_the_journal_says()
         slice_get s.board.parts.pipes c ≡ Option.Some pipe →
         slice_get pipe.counts l ≡ Option.Some n →
         n.raised ≡ count_by (raises c l) s.journal }
-    ensures fresh { (s : State) (events : List Event) (c l : ℕ) (pipe : Pipe) (n : Counts) → l ≢ 1 → IsIdle s →
+    ensures fresh { (s : State) (events : List Event) (c l : ℕ) (pipe : Pipe) (n : Counts) → l ≢ 1 → HasHadNoEvent s →
         NoDevicesLine c l (replay s events).board.memory.devices →
         slice_get (replay s events).board.parts.pipes c ≡ Option.Some pipe → slice_get pipe.counts l ≡ Option.Some n →
         n.raised ≡ count_by (raises c l) (replay s events).journal }
@@ -119,7 +119,7 @@ pub fn a_device_raises_its_line()
     ensures loaded { (devices : List Attached) (byte : ℕ → ℕ) (entry : ℕ) (boot : Boot) (events : List Event) (c l : ℕ) (pipe : Pipe) (n : Counts) → l ≢ 1 →
         slice_get (replay (start_loaded devices byte entry boot) events).board.parts.pipes c ≡ Option.Some pipe → slice_get pipe.counts l ≡ Option.Some n →
         n.raised ≡ count_by (raises c l) (replay (start_loaded devices byte entry boot) events).journal + device_count c l (start_loaded devices byte entry boot) events }
-    ensures fresh { (s : State) (events : List Event) (c l : ℕ) (pipe : Pipe) (n : Counts) → l ≢ 1 → IsIdle s →
+    ensures fresh { (s : State) (events : List Event) (c l : ℕ) (pipe : Pipe) (n : Counts) → l ≢ 1 → HasHadNoEvent s →
         slice_get (replay s events).board.parts.pipes c ≡ Option.Some pipe → slice_get pipe.counts l ≡ Option.Some n →
         n.raised ≡ count_by (raises c l) (replay s events).journal + device_count c l s events }
 {

@@ -15,7 +15,7 @@ ghost use Rattle.evm_claims.specs.Steps.{StepChangesOnly};
 /// is raised; RAM changes only where the instruction at the current task's pc is a store; the console has one byte more at
 /// the most. Each task but the current one, which may have given it another class by call 34, stands, or wakes: by a line
 /// that was played, its deadline, a timer, a line's action, a mutex of the current task, or since the current task calls for
-/// it (`WokenBy`); or it waited for an event, and waits for the event's mutex. One task is added at the most. Only mutexes
+/// it (`WaitEndsBy`); or it waited for an event, and waits for the event's mutex. One task is added at the most. Only mutexes
 /// change that were free or the current task's, and one is added at the most. Where a line is on the wire no task acts: the
 /// current one too stands, wakes or waits again by a line, or spends its slice; and no mutex changes but such as were free and
 /// are locked once by a task that waited for an event. Each semaphore, flag group, event, timer and action of a line stands

@@ -1,24 +1,35 @@
--- How a branch ends, and what a whole search comes to.
-use Rattle.std.proofs.Common.{◌≡◌, ℕ, zero, suc, ◌+◌, ◌<◌, ◌≤◌, List, [], ◌∷◌, Some, Ok, Result, true, false, length, refl, sym, subst, ◌∙◌, below_more, arith}
-use Rattle.std.specs.Prelude.{slice_get}
+-- How a branch goes on and ends, and what a whole search comes to.
+use Rattle.std.proofs.Common.{◌≡◌, ℕ, zero, suc, ◌+◌, ◌<◌, ◌≤◌, List, [], ◌∷◌, ◌++◌, Some, Ok, Result, true, false, length, refl, sym, ap, subst, ◌∙◌, below_more, arith}
+use Rattle.std.specs.Prelude.{map, replicate, slice_get}
 use Rattle.std.proofs.lemmas.Option.{slice_get_within}
+use Rattle.std.proofs.lemmas.List.{append-nil}
 use Rattle.evm_image.specs.Images.{Contents}
+use Rattle.evm_dev.specs.declared.kind.Kind.{Kind}
+use Rattle.evm_model.specs.Devices.{Attached}
+use Rattle.evm_model.specs.Event.{Event}
+use Rattle.evm_model.specs.Replay.{replay}
 use Rattle.evm_model.specs.State.{State}
 use Rattle.evm_model.specs.declared.boot.Boot.{Boot}
+use Rattle.evm_model.specs.declared.event.Event.TheVariants.{Step}
 use Rattle.evm_hunt.specs.Searches.{EndsBranch, is_failed}
 use Rattle.evm_hunt.proofs.Making.{are-choices}
 use Rattle.evm_schedules.specs.Beginning.{Begins}
 use Rattle.evm_schedules.specs.Failures.{FailsAsSought}
-use Rattle.evm_schedules.specs.Making.{MayMake, NoneFails}
+use Rattle.evm_schedules.specs.Making.{MayMake, NeverFails}
 use Rattle.evm_schedules.specs.Runs.{Ends}
 use Rattle.evm_schedules.specs.declared.running.Outcome.{Outcome}
 use Rattle.evm_schedules.specs.declared.running.Outcome.TheVariants.{Failed, Over, Full}
 use Rattle.evm_schedules.specs.declared.watch.Watch.{Watch}
-use Rattle.evm_switches.proofs.Searching.{searched, settled-still}
-use Rattle.evm_switches.proofs.Walking.{walked-more, walked-out, settled-by}
-use Rattle.evm_switches.specs.Branches.{IsSettled, KeepsBranches, events_of}
-use Rattle.evm_switches.specs.Walks.{AreForked, CantStep, HasPassed, HasStepped, IsCovered, IsReached, IsWalked}
+use Rattle.evm_schedules.proofs.Boards.{look-at-boards}
+use Rattle.evm_switches.proofs.Closing.{GoesFarther, searched, searched-still}
+use Rattle.evm_switches.proofs.Going.{at-last, front-still, more-goes, walked-more, walked-out, searched-by}
+use Rattle.evm_switches.proofs.Searching.{replay-append}
+use Rattle.evm_switches.proofs.Walking.{reached-none, reached-step}
+use Rattle.evm_switches.specs.Branches.{KeepsBranches, events_of}
+use Rattle.evm_switches.specs.Searches.{AreSearched, HasWalked, IsPassed, IsSearched, IsWalked}
+use Rattle.evm_switches.specs.Walks.{AreForked, CantStep, HasPassed, HasStepped, IsReached}
 use Rattle.evm_switches.specs.declared.branch.Branch.{Branch}
+use Rattle.evm_switches.specs.declared.branch.Turn.{Turn}
 
 pub ends-branch : (watch : Watch) (branch : Branch) (before after : State) (outcome : Outcome) → EndsBranch watch branch before after outcome → Ends watch.lines outcome after
 ends-branch watch branch before after (Failed failure) h = h
@@ -30,39 +41,75 @@ cant-step watch branch before after (Failed failure) alive h = cc
 cant-step watch branch before after Over alive h = h
 cant-step watch branch before after Full alive h = h
 
--- a branch has made one step more
-pub walks : (watch : Watch) (most : ℕ) (branch : Branch) (before branches : List Branch) (start : State) (steps : ℕ) (s after : State) → KeepsBranches before branches
-    → AreForked (MayMake watch.lines) most branches branch steps s → HasStepped (FailsAsSought watch) branch s after
-    → IsWalked (MayMake watch.lines) (FailsAsSought watch) most branch before start steps s → IsWalked (MayMake watch.lines) (FailsAsSought watch) most branch branches start (steps + 1) after
-walks watch most branch before branches start steps s after keeps forks stepped walked =
-    let one : suc steps ≡ steps + 1 = omega arith in
-    subst (λ (n : ℕ). IsWalked (MayMake watch.lines) (FailsAsSought watch) most branch branches start n after) one
-    (walked-more (MayMake watch.lines) (FailsAsSought watch) most branch before branches start steps s after (are-choices watch.lines) keeps forks stepped walked)
-
--- a branch has come to its end
-pub covers : (watch : Watch) (most : ℕ) (branch : Branch) (before branches : List Branch) (start : State) (steps : ℕ) (s after : State) (outcome : Outcome) → KeepsBranches before branches
-    → AreForked (MayMake watch.lines) most branches branch steps s → EndsBranch watch branch s after outcome → is_failed outcome ≡ false
-    → IsWalked (MayMake watch.lines) (FailsAsSought watch) most branch before start steps s → (first : State) → IsReached first branch 0 start
-    → IsCovered (MayMake watch.lines) (FailsAsSought watch) most branch branches first start
-covers watch most branch before branches start steps s after outcome keeps forks ends alive walked first reached =
-    walked-out (MayMake watch.lines) (FailsAsSought watch) most branch before branches start steps s (are-choices watch.lines) keeps forks
-    (cant-step watch branch s after outcome alive ends) walked first reached
-
+-- ---- the states that a branch reaches
 -- there is one machine with which schedules begin
-one-first : (image : Contents) (boot : Boot) (a b : State) → Begins image boot a → Begins image boot b → a ≡ b
+pub one-first : (image : Contents) (boot : Boot) (a b : State) → Begins image boot a → Begins image boot b → a ≡ b
 one-first image boot a b h g = let both : Ok a ≡ Ok b = sym h ∙ g in cc
 
-pub settles : (image : Contents) (boot : Boot) (watch : Watch) (most : ℕ) (branch : Branch) (branches : List Branch) (begun start first : State) → Begins image boot begun
-    → HasPassed (FailsAsSought watch) begun (events_of branch.turns.items) start
-    → ((first : State) → IsReached first branch 0 start → IsCovered (MayMake watch.lines) (FailsAsSought watch) most branch branches first start)
-    → Begins image boot first → IsSettled (MayMake watch.lines) (FailsAsSought watch) first most branches branch
-settles image boot watch most branch branches begun start first begins passed covered begins' =
-    subst (λ (s : State). IsSettled (MayMake watch.lines) (FailsAsSought watch) s most branches branch) (one-first image boot begun first begins begins')
-    (settled-by (MayMake watch.lines) (FailsAsSought watch) most branch branches begun start passed (covered begun))
+-- the state behind the beginning of a branch
+pub begins-at : (image : Contents) (boot : Boot) (watch : Watch) (branch : Branch) (turns : List Turn) (begun start first : State) → branch.turns.items ≡ turns → Begins image boot begun
+    → HasPassed (FailsAsSought watch) begun (events_of turns) start → Begins image boot first → IsReached first branch 0 start
+begins-at image boot watch branch turns begun start first same begins passed begins' =
+    let one = one-first image boot begun first begins begins' in
+    let here : start ≡ replay begun (events_of branch.turns.items) = subst (λ (xs : List Turn). start ≡ replay begun (events_of xs)) (sym same) passed.reached in
+    subst (λ (s : State). IsReached s branch 0 start) one (reached-none begun start branch here)
 
--- the branches that were looked at are settled
-abbrev pub AreSettledTo : Watch → ℕ → State → List Branch → ℕ → Type 0
-AreSettledTo watch most first branches place = (j : ℕ) (branch : Branch) → j < place → slice_get branches j ≡ Some branch → IsSettled (MayMake watch.lines) (FailsAsSought watch) first most branches branch
+-- the state behind some steps more
+pub comes-to : (watch : Watch) (first start s : State) (branch : Branch) (steps : ℕ) → HasPassed (FailsAsSought watch) start (replicate steps (Step branch.cpu)) s → IsReached first branch 0 start → IsReached first branch steps s
+comes-to watch first start s branch steps passed reached =
+    let events = events_of branch.turns.items in
+    let none : events ++ [] ≡ events = append-nil events in
+    let there : start ≡ replay first events = reached ∙ ap (replay first) none in
+    passed.reached ∙ (ap (λ (t : State). replay t (replicate steps (Step branch.cpu))) there ∙ sym (replay-append first events (replicate steps (Step branch.cpu))))
+
+pub steps-to : (watch : Watch) (first s after : State) (branch : Branch) (steps : ℕ) → HasStepped (FailsAsSought watch) branch s after → IsReached first branch steps s → IsReached first branch (steps + 1) after
+steps-to watch first s after branch steps made reached =
+    let one : suc steps ≡ steps + 1 = omega arith in
+    subst (λ (n : ℕ). IsReached first branch n after) one (reached-step first s after branch steps made.0 reached made.1)
+
+-- two states that branches reach have devices of the same kinds
+abbrev pub kinds_at : State → List Kind
+kinds_at s = map (λ (device : Attached). device.kind) s.board.memory.devices
+
+pub same-kinds : ((s : State) (events : List Event) → kinds_at (replay s events) ≡ kinds_at s) → (first s t : State) (a b : Branch) (n m : ℕ) → IsReached first a n s → IsReached first b m t → kinds_at s ≡ kinds_at t
+same-kinds stay first s t a b n m h g =
+    let one : kinds_at s ≡ kinds_at first = ap kinds_at h ∙ stay first (events_of a.turns.items ++ replicate n (Step a.cpu)) in
+    let other : kinds_at t ≡ kinds_at first = ap kinds_at g ∙ stay first (events_of b.turns.items ++ replicate m (Step b.cpu)) in
+    one ∙ sym other
+
+-- ---- a branch step by step
+abbrev pub IsWalkedBy : Watch → State → ℕ → List Branch → List ℕ → Branch → ℕ → State → Type 0
+IsWalkedBy watch first most branches walked branch steps s = IsWalked (MayMake watch.lines) (FailsAsSought watch) first most branches walked branch steps s
+
+abbrev pub HasWalkedBy : Watch → State → ℕ → List Branch → List ℕ → Branch → ℕ → State → Type 0
+HasWalkedBy watch first most branches walked branch count start = HasWalked (MayMake watch.lines) (FailsAsSought watch) first most branches walked branch count start
+
+pub walks : (watch : Watch) (first : State) (most : ℕ) (before branches : List Branch) (walked : List ℕ) (branch : Branch) (steps : ℕ) (s after : State) → slice_get before (length walked) ≡ Some branch → KeepsBranches before branches
+    → AreForked (MayMake watch.lines) most branches branch steps s → HasStepped (FailsAsSought watch) branch s after
+    → IsWalkedBy watch first most before walked branch steps s → IsWalkedBy watch first most branches walked branch (steps + 1) after
+walks watch first most before branches walked branch steps s after there keeps forks made walked' =
+    walked-more (MayMake watch.lines) (FailsAsSought watch) first most before branches walked branch steps s after there keeps forks made walked'
+
+-- a branch has come to its end
+pub walks-out : (watch : Watch) (first : State) (most : ℕ) (before branches : List Branch) (walked : List ℕ) (branch : Branch) (steps : ℕ) (start s after : State) (outcome : Outcome)
+    → slice_get before (length walked) ≡ Some branch → KeepsBranches before branches → AreForked (MayMake watch.lines) most branches branch steps s → EndsBranch watch branch s after outcome → is_failed outcome ≡ false
+    → IsReached first branch 0 start → IsWalkedBy watch first most before walked branch steps s → HasWalkedBy watch first most branches walked branch (steps + 1) start
+walks-out watch first most before branches walked branch steps start s after outcome there keeps forks ends alive begins walked' =
+    walked-out (MayMake watch.lines) (FailsAsSought watch) first most before branches walked branch steps start s there keeps forks (cant-step watch branch s after outcome alive ends) begins walked'
+
+-- a branch that has passed its beginning and gone on is looked at
+pub searches : (image : Contents) (boot : Boot) (watch : Watch) (most : ℕ) (branches : List Branch) (walked : List ℕ) (branch : Branch) (turns : List Turn) (count : ℕ) (begun start first : State) → branch.turns.items ≡ turns
+    → Begins image boot begun → HasPassed (FailsAsSought watch) begun (events_of turns) start → Begins image boot first → HasWalkedBy watch first most branches walked branch count start
+    → IsSearched (MayMake watch.lines) (FailsAsSought watch) first most branches (IsPassed first branches (walked ++ count ∷ [])) branch count
+searches image boot watch most branches walked branch turns count begun start first same begins passed begins' walked' =
+    let one = one-first image boot begun first begins begins' in
+    let passed' = subst (λ (xs : List Turn). HasPassed (FailsAsSought watch) begun (events_of xs) start) (sym same) passed in
+    searched-by (MayMake watch.lines) (FailsAsSought watch) first most branches walked branch count start (subst (λ (s : State). HasPassed (FailsAsSought watch) s (events_of branch.turns.items) start) one passed') walked'
+
+-- ---- the whole search
+-- the branches that were looked at
+abbrev pub AreSearchedTo : Watch → ℕ → State → List Branch → List ℕ → ℕ → Type 0
+AreSearchedTo watch most first branches walked place = AreSearched (MayMake watch.lines) (FailsAsSought watch) first most branches walked place
 
 old-has : (before : List Branch) (j place : ℕ) (branch : Branch) → slice_get before place ≡ Some branch → j < place → (b : Branch) × (slice_get before j ≡ Some b)
 old-has [] j place branch h less = cc
@@ -70,23 +117,27 @@ old-has (x ∷ xs) zero place branch h less = (x, refl)
 old-has (x ∷ xs) (suc j) zero branch h less = absurd (omega arith)
 old-has (x ∷ xs) (suc j) (suc place) branch h less = old-has xs j place branch h (omega arith)
 
-pub settled-more : (watch : Watch) (most : ℕ) (first : State) (before branches : List Branch) (place : ℕ) (branch : Branch) → KeepsBranches before branches → slice_get before place ≡ Some branch
-    → IsSettled (MayMake watch.lines) (FailsAsSought watch) first most branches branch → AreSettledTo watch most first before place → AreSettledTo watch most first branches (place + 1)
-settled-more watch most first before branches place branch keeps there here old j b less at =
-    let P : ℕ → Type 0 = λ i. (c : Branch) → slice_get branches i ≡ Some c → IsSettled (MayMake watch.lines) (FailsAsSought watch) first most branches c in
+pub searched-more : (watch : Watch) (most : ℕ) (first : State) (before branches : List Branch) (walked : List ℕ) (place count : ℕ) (branch : Branch) → length walked ≡ place → KeepsBranches before branches → slice_get before place ≡ Some branch
+    → IsSearched (MayMake watch.lines) (FailsAsSought watch) first most branches (IsPassed first branches (walked ++ count ∷ [])) branch count
+    → AreSearchedTo watch most first before walked place → AreSearchedTo watch most first branches (walked ++ count ∷ []) (place + 1)
+searched-more watch most first before branches walked place count branch long keeps there here old j b less at =
+    let P : ℕ → Type 0 = λ i. (c : Branch) → slice_get branches i ≡ Some c
+    → (n : ℕ) × (slice_get (walked ++ count ∷ []) i ≡ Some n) × IsSearched (MayMake watch.lines) (FailsAsSought watch) first most branches (IsPassed first branches (walked ++ count ∷ [])) c n in
     let below : (i : ℕ) → i < place → P i = λ i lower c found.
     let had = old-has before i place branch there lower in
     let both : Some had.0 ≡ Some c = sym (keeps i had.0 had.1) ∙ found in
-    settled-still (MayMake watch.lines) (FailsAsSought watch) first most before branches c keeps (old i c lower (had.1 ∙ both)) in
+    let all = old i c lower (had.1 ∙ both) in
+    (all.0, front-still walked (count ∷ []) i all.0 all.1, searched-still (MayMake watch.lines) (FailsAsSought watch) first most before branches walked (walked ++ count ∷ []) c all.0 keeps (more-goes walked count) all.2) in
     let now : P place = λ c found.
     let both : Some branch ≡ Some c = sym (keeps place branch there) ∙ found in
     let same : branch ≡ c = cc in
-    subst (λ (d : Branch). IsSettled (MayMake watch.lines) (FailsAsSought watch) first most branches d) same here in
+    let last : slice_get (walked ++ count ∷ []) place ≡ Some count = subst (λ (i : ℕ). slice_get (walked ++ count ∷ []) i ≡ Some count) long (at-last walked count) in
+    (count, last, subst (λ (d : Branch). IsSearched (MayMake watch.lines) (FailsAsSought watch) first most branches (IsPassed first branches (walked ++ count ∷ [])) d count) same here) in
     below_more P place below now j less b at
 
 -- a search that has looked at all its branches
-pub searched-all : (image : Contents) (boot : Boot) (watch : Watch) (most : ℕ) (branches : List Branch) (place : ℕ) → slice_get branches 0 ≡ Some (record { turns = record { items = [] }; cpu = 0 })
-    → length branches ≤ place → ((first : State) → Begins image boot first → AreSettledTo watch most first branches place) → NoneFails image boot watch most
-searched-all image boot watch most branches place root few all first begins =
-    searched (MayMake watch.lines) (FailsAsSought watch) first most branches (record { turns = record { items = [] }; cpu = 0 }) refl root
+pub searched-all : (image : Contents) (boot : Boot) (watch : Watch) (most : ℕ) (branches : List Branch) (walked : List ℕ) (place : ℕ) → slice_get branches 0 ≡ Some (record { turns = record { items = [] }; cpu = 0 })
+    → length branches ≤ place → ((first : State) → Begins image boot first → AreSearchedTo watch most first branches walked place) → NeverFails image boot watch most
+searched-all image boot watch most branches walked place root few all first begins =
+    searched (MayMake watch.lines) (FailsAsSought watch) first most branches walked (record { turns = record { items = [] }; cpu = 0 }) (look-at-boards watch) (are-choices watch.lines) refl root
     (λ j branch there. let within = slice_get_within branches j branch there in all first begins j branch (omega arith) there)

@@ -2,15 +2,20 @@
 #![tactic(auto)]
 
 mod found;
+mod going;
+mod hashing;
 mod hunting;
 mod key;
 mod listing;
+mod marks;
 mod ordering;
 mod reporting;
 mod script;
+mod seeing;
 mod shortening;
 mod switching;
 mod walking;
+mod watching;
 
 pub use evm_schedules::{BeginFault, Boot, Errors, Failure, Inversion, Machine, Watch, Way};
 pub use found::{Found, Tried, replayed, try_schedule};

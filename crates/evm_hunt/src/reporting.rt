@@ -4,13 +4,36 @@ use crate::hunting::{Report, Row, Span};
 use crate::key::Key;
 use evm_journal::{push_decimal, push_hexadecimal_padded};
 use evm_room::{NoMemory, Refused, push_text};
+use evm_symbols::Symbols;
 use std::alloc::Global;
 
+// Whether a name has only printable characters of ASCII, and no blank.
+fn is_plain(name: &str) -> bool {
+    name.as_bytes().iter().all(|byte| *byte > 32 && *byte < 127)
+}
+
+// Appends an address, and the symbol that it belongs to: `80000010 (main+0x8)`.
+fn push_place(out: &mut String, place: u64, symbols: &Symbols) -> Result<(), Refused> {
+    push_hexadecimal_padded(out, 8, place)?;
+    match symbols.at(place) {
+        Some((name, offset)) if is_plain(name) => {
+            push_text(out, " (")?;
+            push_text(out, name)?;
+            if offset != 0 {
+                push_text(out, "+0x")?;
+                push_hexadecimal_padded(out, 1, offset)?;
+            }
+            push_text(out, ")")
+        }
+        _ => Ok(()),
+    }
+}
+
 /// Appends the kind and the place of a failure.
-pub(crate) fn push_key(out: &mut String, key: &Key) -> Result<(), Refused> {
+pub(crate) fn push_key(out: &mut String, key: &Key, symbols: &Symbols) -> Result<(), Refused> {
     push_text(out, key.kind)?;
     push_text(out, " ")?;
-    push_hexadecimal_padded(out, 8, key.place)
+    push_place(out, key.place, symbols)
 }
 
 // Appends a word and a number.
@@ -20,11 +43,11 @@ fn push_number(out: &mut String, word: &str, number: u64) -> Result<(), Refused>
 }
 
 // Appends the line of a failure.
-fn push_row(out: &mut String, row: &Row) -> Result<(), Refused> {
-    push_key(out, &row.key)?;
+fn push_row(out: &mut String, row: &Row, symbols: &Symbols) -> Result<(), Refused> {
+    push_key(out, &row.key, symbols)?;
     if let Some(other) = row.other {
         push_text(out, " with ")?;
-        push_hexadecimal_padded(out, 8, other)?;
+        push_place(out, other, symbols)?;
     }
     push_number(out, " seed ", row.seed)?;
     push_number(out, " events ", row.events)?;
@@ -51,21 +74,32 @@ fn push_counts(out: &mut String, report: &Report, span: Span) -> Result<(), Refu
     push_text(out, if report.cut { " cut\n" } else { "\n" })
 }
 
-fn push_report(out: &mut String, report: &Report, span: Span) -> Result<(), Refused> {
+fn push_report(
+    out: &mut String,
+    report: &Report,
+    span: Span,
+    symbols: &Symbols,
+) -> Result<(), Refused> {
     for row in &report.rows {
-        push_row(out, row)?;
+        push_row(out, row, symbols)?;
     }
     push_counts(out, report, span)
 }
 
-/// A line for each failure, `KIND PLACE seed S events N`, and a last line with the number of schedules.
+/// A line for each failure, `KIND PLACE seed S events N`, and a last line with the number of schedules. A place has the symbol that it
+/// belongs to, if there is one.
 ///
 /// # Errors
 ///
 /// Memory was refused.
-pub fn report_text(alloc: Global, report: &Report, span: Span) -> Result<String, NoMemory> {
+pub fn report_text(
+    alloc: Global,
+    report: &Report,
+    span: Span,
+    symbols: &Symbols,
+) -> Result<String, NoMemory> {
     let mut text = String::new(alloc);
-    match push_report(&mut text, report, span) {
+    match push_report(&mut text, report, span, symbols) {
         Ok(()) => Ok(text),
         Err(_) => Err(NoMemory),
     }

@@ -5,19 +5,20 @@ ghost use Rattle.evm_model.specs.Event.{short_event};
 ghost use Rattle.evm_model.specs.Replay.{IsReplayOf};
 ghost use Rattle.evm_model.specs.State.{State};
 ghost use Rattle.evm_model.specs.declared.event.Event.{Event};
-ghost use Rattle.evm_hunt.specs.Searches.{EndsBranch, is_failed};
+ghost use Rattle.evm_hunt.specs.Searches.{EndsBranch};
 ghost use Rattle.evm_schedules.specs.Failures.{FailsAsSought};
 ghost use Rattle.evm_schedules.specs.Making.{IsAwake, IsOver, MayMake};
-ghost use Rattle.evm_schedules.specs.Runs.{Ends, HasFailed};
+ghost use Rattle.evm_schedules.specs.Runs.{HasFailed};
 ghost use Rattle.evm_switches.specs.Branches.{KeepsBranches, events_of, turn_events};
-ghost use Rattle.evm_switches.specs.Walks.{AreForked, HasPassed, HasStepped, IsCovered, IsReached};
+ghost use Rattle.evm_switches.specs.Walks.{AreForked, HasPassed, HasStepped};
 
+use crate::hashing::store_of;
 use crate::switching::Switching;
+use crate::watching::Watcher;
 use evm_lines::LineSet;
 use evm_room::NoMemory;
 use evm_schedules::{
-    AnyDevice, Event, Failure, Machine, Monitor, NoBytes, Outcome, Watch, advance,
-    awake_processors, is_over,
+    AnyDevice, Event, Failure, Machine, NoBytes, Outcome, Watch, advance, awake_processors, is_over,
 };
 use evm_switches::{Branch, Queue, Turn};
 
@@ -26,32 +27,36 @@ fn attempt(
     machine: &mut Machine<AnyDevice>,
     event: Event<NoBytes>,
     watch: &Watch,
-    monitor: &mut Monitor,
+    watcher: &mut Watcher,
 ) -> Option<Failure>
     ensures ends { IfSome result (λ failure. HasFailed watch.now.lines failure machine.new) }
     ensures passes { IfNone result (HasPassed (FailsAsSought watch.now) machine.old (short_event event ∷ []) machine.new) }
     ensures replays { (first : State) → IsReplayOf first machine.old → IsReplayOf first machine.new }
 {
-    match advance(machine, event, watch, monitor) {
-        Ok(seen) => seen,
+    let store = store_of(machine, event);
+    match advance(machine, event, watch, &mut watcher.monitor) {
+        Ok(seen) => {
+            watcher.trail.follow(machine, &store);
+            seen
+        }
         Err(_) => None,
     }
 }
 
-// Makes Steps of a processor, up to one that makes the machine fail.
-fn take_steps(
+/// Makes Steps of a processor, up to one that makes the machine fail.
+pub(crate) fn take_steps(
     machine: &mut Machine<AnyDevice>,
     cpu: u8,
     steps: u32,
     watch: &Watch,
-    monitor: &mut Monitor,
+    watcher: &mut Watcher,
 ) -> Option<Failure>
     ensures ends { IfSome result (λ failure. HasFailed watch.now.lines failure machine.new) }
     ensures passes { IfNone result (HasPassed (FailsAsSought watch.now) machine.old (replicate steps (Event.Step cpu)) machine.new) }
     ensures replays { (first : State) → IsReplayOf first machine.old → IsReplayOf first machine.new }
 {
     'steps: for _i in 0..steps {
-        match attempt(machine, Event::Step(cpu), watch, monitor) {
+        match attempt(machine, Event::Step(cpu), watch, watcher) {
             Some(failure) => return Some(failure),
             None => {}
         }
@@ -64,17 +69,17 @@ fn take_turn(
     machine: &mut Machine<AnyDevice>,
     turn: &Turn,
     watch: &Watch,
-    monitor: &mut Monitor,
+    watcher: &mut Watcher,
 ) -> Option<Failure>
     ensures ends { IfSome result (λ failure. HasFailed watch.now.lines failure machine.new) }
     ensures passes { IfNone result (HasPassed (FailsAsSought watch.now) machine.old (turn_events turn.now) machine.new) }
     ensures replays { (first : State) → IsReplayOf first machine.old → IsReplayOf first machine.new }
 {
-    match take_steps(machine, turn.cpu, turn.steps, watch, monitor) {
+    match take_steps(machine, turn.cpu, turn.steps, watch, watcher) {
         Some(failure) => return Some(failure),
         None => {}
     }
-    attempt(machine, turn.choice.event(), watch, monitor)
+    attempt(machine, turn.choice.event(), watch, watcher)
 }
 
 /// Makes the events with which a branch begins, up to one that makes the machine fail.
@@ -82,14 +87,14 @@ pub(crate) fn begin_with(
     machine: &mut Machine<AnyDevice>,
     turns: &[Turn],
     watch: &Watch,
-    monitor: &mut Monitor,
+    watcher: &mut Watcher,
 ) -> Option<Failure>
     ensures ends { IfSome result (λ failure. HasFailed watch.now.lines failure machine.new) }
     ensures passes { IfNone result (HasPassed (FailsAsSought watch.now) machine.old (events_of turns.now) machine.new) }
     ensures replays { (first : State) → IsReplayOf first machine.old → IsReplayOf first machine.new }
 {
     'turns: for turn in turns {
-        match take_turn(machine, turn, watch, monitor) {
+        match take_turn(machine, turn, watch, watcher) {
             Some(failure) => return Some(failure),
             None => {}
         }
@@ -146,7 +151,7 @@ fn step_on(
     branch: &Branch,
     awake: &[u8],
     watch: &Watch,
-    monitor: &mut Monitor,
+    watcher: &mut Watcher,
 ) -> Option<Outcome>
     requires { (c : ℕ) → IsAwake c machine.old → (i : ℕ) × (slice_get awake.now i ≡ Option.Some c) }
     ensures steps { MatchOption result (HasStepped (FailsAsSought watch.now) branch.now machine.old machine.new) (λ outcome. EndsBranch watch.now branch.now machine.old machine.new outcome) }
@@ -155,9 +160,18 @@ fn step_on(
     if !is_among(awake, branch.cpu) {
         return Some(Outcome::Over);
     }
-    match advance(machine, Event::Step(branch.cpu), watch, monitor) {
+    let store = store_of(machine, Event::Step(branch.cpu));
+    match advance(
+        machine,
+        Event::Step(branch.cpu),
+        watch,
+        &mut watcher.monitor,
+    ) {
         Ok(Some(failure)) => Some(Outcome::Failed(failure)),
-        Ok(None) => None,
+        Ok(None) => {
+            watcher.trail.follow(machine, &store);
+            None
+        }
         Err(_) => Some(Outcome::Full),
     }
 }
@@ -173,13 +187,17 @@ fn is_ended(machine: &Machine<AnyDevice>, awake: &[u8], lines: LineSet) -> bool
     is_over(machine, lines)
 }
 
-// Adds the branches that go another way, and makes the next step of one; how the branch ends, if it does.
-fn go_on_once(
+/// Adds the branches that go another way, and makes the next step of one; how the branch ends, if it does.
+///
+/// # Errors
+///
+/// Memory was refused.
+pub(crate) fn go_on_once(
     machine: &mut Machine<AnyDevice>,
     branch: &Branch,
     steps: u32,
     watch: &Watch,
-    monitor: &mut Monitor,
+    watcher: &mut Watcher,
     bounds: &Switching,
     queue: &mut Queue,
 ) -> Result<Option<Outcome>, NoMemory>
@@ -202,37 +220,7 @@ fn go_on_once(
         bounds,
         queue,
     ) {
-        Ok(()) => Ok(step_on(machine, branch, awake.as_slice(), watch, monitor)),
+        Ok(()) => Ok(step_on(machine, branch, awake.as_slice(), watch, watcher)),
         Err(fault) => Err(fault),
     }
-}
-
-/// Goes on with the processor of a branch as long as it can step, and adds the branches that go another way.
-///
-/// # Errors
-///
-/// Memory was refused.
-pub(crate) fn go_on(
-    machine: &mut Machine<AnyDevice>,
-    branch: &Branch,
-    watch: &Watch,
-    monitor: &mut Monitor,
-    bounds: &Switching,
-    queue: &mut Queue,
-) -> Result<Outcome, NoMemory>
-    ensures keeps { KeepsBranches queue.old.branches.items queue.new.branches.items }
-    ensures cut { queue.new.cut ≡ false → queue.old.cut ≡ false }
-    ensures ends { IfOk result (λ outcome. Ends watch.now.lines outcome machine.new) }
-    ensures covers { IfOk result (λ outcome. is_failed outcome ≡ false → queue.new.cut ≡ false → (first : State) → IsReached first branch.now 0 machine.old → IsCovered (MayMake watch.now.lines) (FailsAsSought watch.now) bounds.now.switches branch.now queue.new.branches.items first machine.old) }
-    ensures replays { (first : State) → IsReplayOf first machine.old → IsReplayOf first machine.new }
-{
-    'steps: for steps in 0..u32::MAX {
-        match go_on_once(machine, branch, steps, watch, monitor, bounds, queue) {
-            Ok(None) => {}
-            Ok(Some(outcome)) => return Ok(outcome),
-            Err(fault) => return Err(fault),
-        }
-    }
-    queue.cut = true;
-    Ok(Outcome::Full)
 }

@@ -5,13 +5,15 @@ use clap::Error;
 use clap::error::ErrorKind;
 use evm_host::{
     Ending, FAILED, Message, System, USAGE, WordsFault, World, ended, failed_write_message,
-    host_world, image_at, memory_refused, not_created, report, words_not_read, words_of, write_all,
+    host_world, image_at, memory_refused, not_created, not_opened, not_read, read_all, report,
+    words_not_read, words_of, write_all,
 };
 use evm_hunt::{
     BeginFault, Found, Plan, Report, Span, Stop, Switching, Way, first_length, hunt, hunt_all,
     journal_text, report_text, script_text,
 };
 use evm_image::Image;
+use evm_symbols::Symbols;
 use std::alloc::Global;
 
 /// The name in front of messages that are about no file.
@@ -73,10 +75,13 @@ fn write_files<S: System>(
     name: &str,
     found: &Found,
     seed: u64,
+    symbols: &Symbols,
     world: &mut World<S>,
 ) -> Result<(), u8> {
-    let (Ok(journal), Ok(script)) = (journal_text(alloc, found), script_text(alloc, found, seed))
-    else {
+    let (Ok(journal), Ok(script)) = (
+        journal_text(alloc, found),
+        script_text(alloc, found, seed, symbols),
+    ) else {
         return Err(memory_refused(PROGRAM, world));
     };
     let (Ok(journal_path), Ok(script_path)) = (
@@ -95,12 +100,13 @@ fn tell<S: System>(
     options: &Options<'_>,
     span: Span,
     report: &Report,
+    symbols: &Symbols,
     world: &mut World<S>,
 ) -> u8 {
     let mut status = if report.rows.is_empty() { 0 } else { FOUND };
     if let Some(found) = &report.shortest {
         if let Some(name) = options.out
-            && let Err(failed) = write_files(alloc, name, found, report.seed, world)
+            && let Err(failed) = write_files(alloc, name, found, report.seed, symbols, world)
         {
             status = failed;
         }
@@ -108,7 +114,7 @@ fn tell<S: System>(
     if status > FOUND {
         return status;
     }
-    match report_text(alloc, report, span) {
+    match report_text(alloc, report, span, symbols) {
         Ok(text) => show(text.as_str(), status, world),
         Err(_) => memory_refused(PROGRAM, world),
     }
@@ -170,11 +176,27 @@ fn hunt_by(alloc: Global, options: &Options<'_>, image: &Image) -> Result<Report
     }
 }
 
+// The symbols of a file that was read as an image before.
+fn symbols_at<S: System>(alloc: Global, path: &str, world: &mut World<S>) -> Result<Symbols, u8> {
+    let mut file = match world.files.open(path) {
+        Ok(file) => file,
+        Err(fault) => return Err(not_opened(path, fault, &mut world.errors)),
+    };
+    match read_all(alloc, &mut file) {
+        Ok(bytes) => match Symbols::read(alloc, bytes.as_slice()) {
+            Ok(symbols) => Ok(symbols),
+            Err(_) => Err(memory_refused(PROGRAM, world)),
+        },
+        Err(stop) => Err(not_read(stop, path, world)),
+    }
+}
+
 // Hunts in an image.
 fn hunt_in<S: System>(
     alloc: Global,
     options: &Options<'_>,
     image: &Image,
+    symbols: &Symbols,
     world: &mut World<S>,
 ) -> u8 {
     let span = match options.search {
@@ -182,7 +204,7 @@ fn hunt_in<S: System>(
         Search::All(switches) => Span::Switches(switches),
     };
     match hunt_by(alloc, options, image) {
-        Ok(report) => tell(alloc, options, span, &report, world),
+        Ok(report) => tell(alloc, options, span, &report, symbols, world),
         Err(stop) => stopped(options.image, stop, world),
     }
 }
@@ -196,8 +218,12 @@ pub fn answer<S: System>(alloc: Global, words: &[String], world: &mut World<S>) 
     let Some(options) = options_of(&matches) else {
         return USAGE;
     };
-    match image_at(alloc, options.image, world) {
-        Ok(image) => hunt_in(alloc, &options, &image, world),
+    let image = match image_at(alloc, options.image, world) {
+        Ok(image) => image,
+        Err(status) => return status,
+    };
+    match symbols_at(alloc, options.image, world) {
+        Ok(symbols) => hunt_in(alloc, &options, &image, &symbols, world),
         Err(status) => status,
     }
 }

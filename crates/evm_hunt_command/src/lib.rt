@@ -6,4 +6,5 @@ mod help;
 mod words;
 
 pub use command::{answer, run};
+pub use evm_host::host_world;
 pub use words::{Options, Search};

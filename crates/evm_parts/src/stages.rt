@@ -17,8 +17,7 @@ impl Parts {
         ensures row { self.new ≡ demote c t self.old }
     {
         self.set_stall(c, Stage::OutOfBand, false);
-        self.set_state(t, TaskState::InReady);
-        self.restamp(t);
+        self.requeue(t, TaskState::InReady);
     }
 
     /// A task goes out-of-band: it is ready there, and in-band current no more.
@@ -27,8 +26,7 @@ impl Parts {
         requires room { HasStamps 1 self.old }
         ensures row { self.new ≡ promote c t self.old }
     {
-        self.set_state(t, TaskState::OobReady);
-        self.restamp(t);
+        self.requeue(t, TaskState::OobReady);
         self.leave_in_band(c);
     }
 

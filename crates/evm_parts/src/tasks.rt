@@ -52,6 +52,19 @@ impl Parts {
             .set_state(&mut self.tasks, &self.mutexes, t, state);
     }
 
+    // A task has another state and a fresh stamp.
+    #[tactic(auto, unfolding(evm_model::specs::Tasks::restamp, evm_model::specs::Tasks::set_state))]
+    pub(crate) fn requeue(&mut self, t: u8, state: TaskState)
+        requires room { HasStamps 1 self.old }
+        ensures row { self.new ≡ restamp t (set_state t state self.old) }
+        ensures stamps { self.new.stamps ≡ self.old.stamps + 1 }
+    {
+        let stamp = self.stamps;
+        self.schedule
+            .set_state_and_stamp(&mut self.tasks, &self.mutexes, t, state, stamp);
+        self.stamps = stamp + 1;
+    }
+
     /// A processor has no in-band current task.
     #[tactic(auto, unfolding(evm_model::specs::Tasks::leave_in_band))]
     pub fn leave_in_band(&mut self, c: u8)
@@ -89,15 +102,16 @@ impl Parts {
     }
 
     /// A task waits, until a deadline if that is not 0.
-    #[tactic(auto, unfolding(evm_model::specs::Waits::begin_wait))]
+    #[tactic(auto, unfolding(evm_model::specs::Waits::begin_wait, evm_model::specs::Tasks::restamp))]
     pub fn begin_wait(&mut self, t: u8, wait: Wait, deadline: u64)
         requires room { HasStamps 1 self.old }
         ensures row { self.new ≡ begin_wait t wait deadline self.old }
         ensures stamps { self.new.stamps ≡ self.old.stamps + 1 }
     {
+        let stamp = self.stamps;
         self.schedule
-            .begin_wait(&mut self.tasks, &self.mutexes, t, wait, deadline);
-        self.restamp(t);
+            .begin_wait(&mut self.tasks, &self.mutexes, t, wait, deadline, stamp);
+        self.stamps = stamp + 1;
     }
 
     /// A task wakes, and its call is answered: it is ready on the stage on which it waited, but in-band if it is weak
@@ -113,15 +127,17 @@ impl Parts {
     }
 
     // A task wakes, and its call is answered: in-band if it is weak, unless it owns a mutex.
+    #[tactic(auto, unfolding(evm_model::specs::Tasks::restamp))]
     pub(crate) fn wake_with(&mut self, t: u8, value: u64, owns: bool)
         requires room { HasStamps 1 self.old }
         ensures row { self.new ≡ woken_with t value owns self.old }
         ensures stamps { self.new.stamps ≡ self.old.stamps + 1 }
     {
+        let stamp = self.stamps;
         self.harts.set_a0(t, value);
         self.schedule
-            .end_wait(&mut self.tasks, &self.mutexes, t, owns);
-        self.restamp(t);
+            .end_wait(&mut self.tasks, &self.mutexes, t, owns, stamp);
+        self.stamps = stamp + 1;
     }
 
     // Whether a task waits on a processor for a line.

@@ -8,5 +8,6 @@ pub mod Placed
 pub mod Preceding
 pub mod Queued_first
 pub mod Ready_turns
+pub mod Same_entries
 pub mod Scans
 pub mod Turning

@@ -97,7 +97,18 @@ impl Ready {
     }
 
     /// Task t is ready there, or isn't ready.
+    #[inline]
     pub fn set(&mut self, t: u8, place: Option<Place>)
+        ensures places { self.new.places ≡ change (λ _. place) self.old.places t }
+        ensures ranks { self.new.ranks ≡ self.old.ranks }
+    {
+        if self.get(t).is_some() || place.is_some() {
+            self.replace(t, place);
+        }
+    }
+
+    // The same, where something may change.
+    fn replace(&mut self, t: u8, place: Option<Place>)
         ensures places { self.new.places ≡ change (λ _. place) self.old.places t }
         ensures ranks { self.new.ranks ≡ self.old.ranks }
     {

@@ -65,6 +65,8 @@ impl Turns {
     }
 
     /// Task t has this turn.
+    // A turn that is passed by its address is stored in parts and read as a whole.
+    #[inline(always)]
     pub fn set(&mut self, t: u8, turn: Turn)
         ensures turns { self.new.turns ≡ change (λ _. turn) self.old.turns t }
         ensures count { self.new.count ≡ self.old.count }

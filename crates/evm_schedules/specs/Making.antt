@@ -51,5 +51,5 @@ MayMake lines s (Raise c line) = (IsOver lines s → ⊥) × (c < length s.board
 MayMake lines s _ = ⊥
 
 -- from the boot with an image no schedule with at most b switches fails in a way that is looked for; processor 0 steps first
-abbrev pub NoneFails : Contents → Boot → Watch → ℕ → Type 0
-NoneFails image boot watch b = (first : State) → Begins image boot first → NoScheduleFails (MayMake watch.lines) (FailsAsSought watch) 0 b first
+abbrev pub NeverFails : Contents → Boot → Watch → ℕ → Type 0
+NeverFails image boot watch b = (first : State) → Begins image boot first → NoScheduleFails (MayMake watch.lines) (FailsAsSought watch) 0 b first

@@ -1,2 +1,5 @@
 pub mod Searching
 pub mod Walking
+pub mod Covering
+pub mod Closing
+pub mod Going

@@ -1,12 +1,9 @@
 -- The branches of a search: schedules that go on with the processor that stepped last.
-use Rattle.std.specs.Prelude.{◌≡◌, ℕ, ◌+◌, ◌<◌, ◌≤◌, ◌≢◌, List, [], ◌∷◌, ◌++◌, Some, true, length, replicate, slice_get, ⊤}
+use Rattle.std.specs.Prelude.{◌≡◌, ℕ, ◌<◌, ◌≢◌, List, [], ◌∷◌, ◌++◌, Some, true, replicate, slice_get, ⊤}
 use Rattle.evm_lines.specs.Lines.{has_line}
 use Rattle.evm_model.specs.Event.{Event}
-use Rattle.evm_model.specs.Replay.{replay}
-use Rattle.evm_model.specs.State.{State}
-use Rattle.evm_model.specs.declared.event.Answer.{Answer}
 use Rattle.evm_model.specs.declared.event.Event.TheVariants.{Step, Tick, Raise}
-use Rattle.evm_switches.specs.Schedules.{stepped, NoneFails, NoScheduleFails}
+use Rattle.evm_switches.specs.Schedules.{stepped}
 use Rattle.evm_switches.specs.declared.branch.Branch.{Branch}
 use Rattle.evm_switches.specs.declared.branch.Choice.{Choice}
 use Rattle.evm_switches.specs.declared.branch.Choice.TheVariants as choices
@@ -50,19 +47,3 @@ IsSwitch c awake cpus lines (choices.Raise d line) = (d < cpus) × (has_line lin
 -- each way that a branch may go behind some steps is among the branches
 abbrev pub HasSwitches : List Branch → Branch → ℕ → List ℕ → ℕ → List ℕ → Type 0
 HasSwitches branches branch steps awake cpus lines = (choice : Choice) → IsSwitch branch.cpu awake cpus lines choice → HasBranch branches (forked branch steps choice)
-
--- of a branch of a search from a state, that no event of its beginning makes the machine fail, and none of a schedule from there on with at
--- most b switches
-pub record IsClean (May : State → Event → Type 0) (Fails : State → Event → Answer → State → Type 0) (first : State) (b : ℕ) (branch : Branch) : Type 0 where
-  pub beginning : NoneFails Fails first (events_of branch.turns.items)
-  pub rest : NoScheduleFails May Fails branch.cpu b (replay first (events_of branch.turns.items))
-
--- each branch is clean for fewer switches than m, if it has as many left of `most`
-abbrev pub AreCleanBelow : (State → Event → Type 0) → (State → Event → Answer → State → Type 0) → State → ℕ → List Branch → ℕ → Type 0
-AreCleanBelow May Fails first most branches m =
-    (k j : ℕ) (branch : Branch) → k < m → slice_get branches j ≡ Some branch → k + length branch.turns.items ≤ most → IsClean May Fails first k branch
-
--- a branch is clean as far as those with fewer switches left are
-abbrev pub IsSettled : (State → Event → Type 0) → (State → Event → Answer → State → Type 0) → State → ℕ → List Branch → Branch → Type 0
-IsSettled May Fails first most branches branch =
-    (m : ℕ) → m + length branch.turns.items ≤ most → AreCleanBelow May Fails first most branches m → IsClean May Fails first m branch

@@ -1,3 +1,5 @@
 pub mod Schedules
 pub mod Branches
 pub mod Walks
+pub mod Covering
+pub mod Searches

@@ -1,12 +1,12 @@
 -- A branch that goes on with its processor, step by step.
-use Rattle.std.specs.Prelude.{◌≡◌, ℕ, ◌+◌, ◌<◌, ◌≤◌, List, ◌++◌, Ok, length, replicate}
+use Rattle.std.specs.Prelude.{◌≡◌, ℕ, ◌<◌, List, ◌++◌, Ok, length, replicate}
 use Rattle.evm_model.specs.Event.{Event}
 use Rattle.evm_model.specs.Replay.{apply, replay}
 use Rattle.evm_model.specs.State.{State}
 use Rattle.evm_model.specs.declared.event.Answer.{Answer}
 use Rattle.evm_model.specs.declared.event.Event.TheVariants.{Step}
-use Rattle.evm_switches.specs.Branches.{event_of, events_of, forked, AreCleanBelow, HasBranch}
-use Rattle.evm_switches.specs.Schedules.{switches, NoneFails, NoScheduleFails}
+use Rattle.evm_switches.specs.Branches.{event_of, events_of, forked, HasBranch}
+use Rattle.evm_switches.specs.Schedules.{switches, NoneFails}
 use Rattle.evm_switches.specs.declared.branch.Branch.{Branch}
 use Rattle.evm_switches.specs.declared.branch.Choice.{Choice}
 
@@ -31,14 +31,3 @@ HasStepped Fails branch before after = (answer : Answer) × (apply before (Step 
 -- the processor of a branch can't make a step that is accepted
 abbrev pub CantStep : (State → Event → Type 0) → Branch → State → Type 0
 CantStep May branch s = May s (Step branch.cpu) → (after : State) (answer : Answer) → apply s (Step branch.cpu) ≡ Ok (after, answer) → ⊥
-
--- no schedule from a state fails, as far as branches are clean
-abbrev pub IsCovered : (State → Event → Type 0) → (State → Event → Answer → State → Type 0) → ℕ → Branch → List Branch → State → State → Type 0
-IsCovered May Fails most branch branches first s =
-    (m : ℕ) → m + length branch.turns.items ≤ most → AreCleanBelow May Fails first most branches m → NoScheduleFails May Fails branch.cpu m s
-
--- A branch has come from one state to another by some steps: it is reached so from any first state, and the one is covered if the
--- other is.
-pub record IsWalked (May : State → Event → Type 0) (Fails : State → Event → Answer → State → Type 0) (most : ℕ) (branch : Branch) (branches : List Branch) (start : State) (steps : ℕ) (s : State) : Type 0 where
-  pub reached : (first : State) → IsReached first branch 0 start → IsReached first branch steps s
-  pub covered : (first : State) (m : ℕ) → IsReached first branch 0 start → m + length branch.turns.items ≤ most → AreCleanBelow May Fails first most branches m → NoScheduleFails May Fails branch.cpu m s → NoScheduleFails May Fails branch.cpu m start

@@ -1,9 +1,10 @@
 -- What receipts say of the lines that were taken.
-use Rattle.std.specs.Prelude.{◌≡◌, ℕ, ◌<◌, List, [], ◌∷◌}
+use Rattle.std.specs.Prelude.{◌≡◌, ℕ, ◌*◌, ◌<◌, ◌≤◌, List, [], ◌∷◌}
 use Rattle.evm_bells.specs.Batches.{count}
-use Rattle.evm_bells.specs.Seats.{TakerValue}
+use Rattle.evm_bells.specs.Seats.{BellsValue, TakerValue}
 use Rattle.evm_lines.specs.declared.TheConstants.{LINES}
 use Rattle.evm_shared.specs.Ports.{PortValue}
+use Rattle.evm_shared.specs.Workers.{WorkerValue}
 use Rattle.evm_thread_claims.specs.Lines.{in_receipts, is_bell, rings}
 
 -- a port's receipts say of each line of each processor as many Bells as the taker has taken lines, and of all lines as many
@@ -17,3 +18,11 @@ abbrev pub SayTaken : List PortValue → List TakerValue → Type 0
 SayTaken [] [] = Unit {0}
 SayTaken (p ∷ ports) (t ∷ takers) = SaysTaken p t × SayTaken ports takers
 SayTaken _ _ = ⊥
+
+-- a worker's taker is of these bells, and its port's receipts say what the taker has taken
+abbrev pub IsSaid : BellsValue → WorkerValue → Type 0
+IsSaid bells w = (w.taker.bells ≡ bells.id) × SaysTaken w.port w.taker
+
+-- likewise, and the port has room for two receipts of each of some turns
+abbrev pub IsSaidWithRoom : BellsValue → ℕ → WorkerValue → Type 0
+IsSaidWithRoom bells turns w = IsSaid bells w × (2 * turns ≤ w.port.room)

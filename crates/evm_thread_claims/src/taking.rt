@@ -65,7 +65,7 @@ pub fn a_command_says_no_bell<D: Device, O: Origin, S: Ledger, B: Ledger, T: Led
 }
 
 /// A run in which all turns were made. A worker whose port has room for two receipts a turn, and whose receipts said what its
-/// taker had taken, says so after it.
+/// taker had taken, says so after it. The workers and their takers stay.
 pub fn a_run_says_what_it_takes<
     D: Device,
     O: Origin + Send + Sync,
@@ -83,7 +83,9 @@ pub fn a_run_says_what_it_takes<
     gate: &G,
 ) -> Result<(), Refusal>
     requires { All (λ (w : WorkerValue). w.taker.bells ≡ bells.now.id) workers.old }
-    ensures { IfOk result (λ _. (i : ℕ) (d : WorkerValue) → i < length workers.old → 2 * turns ≤ (slice_index_or workers.old i d).port.room
+    ensures count { length workers.new ≡ length workers.old }
+    ensures bells { All (λ (w : WorkerValue). w.taker.bells ≡ bells.now.id) workers.new }
+    ensures says { IfOk result (λ _. (i : ℕ) (d : WorkerValue) → i < length workers.old → 2 * turns ≤ (slice_index_or workers.old i d).port.room
         → SaysTaken (slice_index_or workers.old i d).port (slice_index_or workers.old i d).taker → SaysTaken (slice_index_or workers.new i d).port (slice_index_or workers.new i d).taker) }
 {
     shared.run(rt, bells, workers, turns, gate)

@@ -1,6 +1,7 @@
 //! What each event of a journal did: what is seen of the machine before and after it, and the marks by which the two differ.
 #![tactic(auto)]
 
+mod course;
 mod item;
 mod look;
 mod mark;
@@ -9,6 +10,7 @@ mod quiet;
 mod task_marks;
 mod walk;
 
+pub use course::WalkStop;
 pub use evm_diagnostics::{
     Boot, Devices, Event, EventLine, InputFault, Journal, JournalFaultKind, Machine, read_history,
 };
@@ -17,4 +19,4 @@ pub use item::{Item, actor_of, outline};
 pub use look::{Lane, Look, Running};
 pub use mark::Mark;
 pub use marking::marks;
-pub use walk::{Walk, WalkStop};
+pub use walk::Walk;

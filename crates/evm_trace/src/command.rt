@@ -103,20 +103,13 @@ fn trace_to_out<S: System, M: Meter>(
     world: &mut World<S>,
 ) -> u8 {
     if job.out == STANDARD_OUTPUT {
-        let outcome = trace_journal(
-            alloc,
-            Some(image),
-            devices,
-            journal,
-            meter,
-            &mut world.output,
-        );
+        let outcome = trace_journal(alloc, image, devices, journal, meter, &mut world.output);
         return traced(image, job, journal, outcome, &mut world.errors);
     }
     match world.files.create(job.out) {
         Err(fault) => not_created(job.out, fault, &mut world.errors),
         Ok(mut file) => {
-            let outcome = trace_journal(alloc, Some(image), devices, journal, meter, &mut file);
+            let outcome = trace_journal(alloc, image, devices, journal, meter, &mut file);
             traced(image, job, journal, outcome, &mut world.errors)
         }
     }

@@ -148,7 +148,7 @@ fn trace_walk<W: Sink, M: Meter>(
 /// The first fault, as a replay reports it; memory was refused; or a write failed.
 pub fn trace_journal<W: Sink, M: Meter>(
     alloc: Global,
-    image: Option<&Image>,
+    image: &Image,
     devices: Devices<AnyDevice>,
     journal: &str,
     meter: &mut M,

@@ -1,13 +1,14 @@
 //! A box for each cell on the lane of its processor.
 
-ghost use Rattle.std.specs.Prelude.{◌≡◌, ◌<◌, false, IfOk, length};
+ghost use Rattle.std.specs.Prelude.{◌≡◌, ◌<◌, ◌∷◌, [], false, IfOk, length};
+ghost use Rattle.evm_view.specs.Boxes.{box_of, lane_boxes, with_boxes};
 
-use crate::layout::{EVENTS, x_of, y_of};
-use crate::shapes::{label, shape};
+use crate::layout::x_of;
+use crate::shapes::{label, sides, title};
 use evm_cells::{Cell, Event, Piece, Symbols, letter, push_cell, say, share};
 use evm_model::PROCESSOR_LIMIT;
 use evm_room::Refused;
-use evm_xml::{Draft, Key, Tag};
+use evm_xml::{Draft, Key, Share, Tag};
 use std::alloc::Global;
 
 fn event_class(cell: &Cell) -> &'static str {
@@ -66,100 +67,79 @@ fn push_share(
     )
 }
 
-fn boxed(
+// The rectangle of a box, which stands for the events.
+fn rectangle(
     draft: Draft,
-    alloc: Global,
-    symbols: &Symbols,
-    cell: &Cell,
-    lane: usize,
-    x: u32,
-    y: u32,
+    share: Share,
+    class: &str,
+    at: (u32, u32),
+    words: &str,
 ) -> Result<Draft, Refused>
     requires content { draft.in_tag ≡ false }
     requires inside { 0 < length draft.tags }
-    ensures { IfOk result (λ new. new ≡ draft) }
+    ensures { IfOk result (λ new. new ≡ with_boxes (share ∷ []) draft) }
 {
-    let share = share(cell, lane);
-    if share == 0 {
-        return Ok(draft);
-    }
+    let (x, y) = at;
     let at = [
         (Key::X, x.saturating_add(1)),
         (Key::Y, y),
         (Key::Width, 14),
         (Key::Height, 13),
     ];
+    let draft = draft.open(Tag::Rectangle)?.events(share)?;
+    let draft = draft.attribute(Key::Class, class)?;
+    let draft = sides(draft, &at)?.enter()?;
+    title(draft, words)?.close()
+}
+
+fn boxed(
+    draft: Draft,
+    alloc: Global,
+    symbols: &Symbols,
+    cell: &Cell,
+    lane: usize,
+    at: (u32, u32),
+) -> Result<Draft, Refused>
+    requires content { draft.in_tag ≡ false }
+    requires inside { 0 < length draft.tags }
+    ensures { IfOk result (λ new. new ≡ with_boxes (box_of lane cell.now) draft) }
+{
+    let events = share(cell, lane);
+    if events == 0 {
+        return Ok(draft);
+    }
+    let share = Share {
+        lane: lane as u64,
+        first: cell.first,
+        count: cell.count,
+        events,
+    };
     let mut words = String::new(alloc);
-    push_share(&mut words, symbols, cell, lane, share)?;
-    let draft = shape(
-        draft,
-        Tag::Rectangle,
-        event_class(cell),
-        &at,
-        words.as_str(),
-    )?;
+    push_share(&mut words, symbols, cell, lane, events)?;
+    let draft = rectangle(draft, share, event_class(cell), at, words.as_str())?;
     let mut sign = String::new(alloc);
-    push_sign(&mut sign, cell, share)?;
-    let (x, y) = (x.saturating_add(8), y.saturating_add(10));
+    push_sign(&mut sign, cell, events)?;
+    let (x, y) = (at.0.saturating_add(8), at.1.saturating_add(10));
     label(draft, "s", x, y, sign.as_str())
 }
 
-/// The boxes of a processor's lane.
+/// The boxes of a lane, at a height.
 pub(crate) fn boxes(
     draft: Draft,
     alloc: Global,
     symbols: &Symbols,
-    cpu: u8,
-    top: u32,
+    lane: usize,
+    y: u32,
     cells: &[Cell],
 ) -> Result<Draft, Refused>
     requires content { draft.in_tag ≡ false }
     requires inside { 0 < length draft.tags }
-    ensures { IfOk result (λ new. new ≡ draft) }
+    ensures { IfOk result (λ new. new ≡ with_boxes (lane_boxes lane cells.now) draft) }
 {
     let mut draft = draft;
     let mut column = 0usize;
-    let y = y_of(top, cpu, EVENTS);
     for cell in cells {
-        draft = boxed(
-            draft,
-            alloc,
-            symbols,
-            cell,
-            usize::from(cpu),
-            x_of(column),
-            y,
-        )?;
-        column = column.saturating_add(1);
-    }
-    Ok(draft)
-}
-
-/// The boxes of the machine's lane.
-pub(crate) fn machine_boxes(
-    draft: Draft,
-    alloc: Global,
-    symbols: &Symbols,
-    top: u32,
-    cells: &[Cell],
-) -> Result<Draft, Refused>
-    requires content { draft.in_tag ≡ false }
-    requires inside { 0 < length draft.tags }
-    ensures { IfOk result (λ new. new ≡ draft) }
-{
-    let mut draft = draft;
-    let mut column = 0usize;
-    let y = top.saturating_add(22);
-    for cell in cells {
-        draft = boxed(
-            draft,
-            alloc,
-            symbols,
-            cell,
-            PROCESSOR_LIMIT,
-            x_of(column),
-            y,
-        )?;
+        draft = boxed(draft, alloc, symbols, cell, lane, (x_of(column), y))?;
         column = column.saturating_add(1);
     }
     Ok(draft)

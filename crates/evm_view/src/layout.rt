@@ -1,7 +1,6 @@
 //! Where things stand in the picture, in pixels.
 
-/// How many cells stand side by side; those behind them begin the next strip.
-pub(crate) const STRIP: usize = 64;
+use evm_cells::STRIP;
 
 /// The width of a cell.
 pub(crate) const CELL: u32 = 16;
@@ -84,9 +83,4 @@ pub(crate) fn width(columns: usize) -> u32 {
 pub(crate) fn label_width(text: &str) -> u32 {
     let count = u32::try_from(text.len()).unwrap_or(u32::MAX);
     count.saturating_mul(CHARACTER)
-}
-
-/// How many strips there are.
-pub(crate) fn strip_count(cells: usize) -> usize {
-    cells / STRIP + if cells % STRIP == 0 { 0 } else { 1 }
 }

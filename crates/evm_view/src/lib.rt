@@ -1,4 +1,4 @@
-//! A journal as a picture (SVG) or as text: which task runs on which stage, and what each event did.
+//! A journal as a picture (SVG): which task runs on which stage, and what each event did.
 #![tactic(auto)]
 
 mod arrows;
@@ -13,11 +13,10 @@ mod room;
 mod shapes;
 mod style;
 mod svg;
-mod terminal;
 
 pub use evm_cells::{
-    Boot, Devices, Event, EventLine, InputFault, Journal, JournalFaultKind, Meter, Piece, Symbols,
+    Boot, Devices, Event, EventLine, InputFault, Journal, JournalFaultKind, Piece, Symbols,
     Timeline, Walk, WalkStop, Window, gather, push_boot_line, push_event_line, read_history, say,
+    written,
 };
 pub use svg::{Picture, drawn};
-pub use terminal::written;

@@ -20,7 +20,8 @@ pub(crate) fn sides(draft: Draft, sides: &[Side]) -> Result<Draft, Refused>
     Ok(draft)
 }
 
-fn title(draft: Draft, text: &str) -> Result<Draft, Refused>
+/// What is said of an element.
+pub(crate) fn title(draft: Draft, text: &str) -> Result<Draft, Refused>
     requires content { draft.in_tag ≡ false }
     requires inside { 0 < length draft.tags }
     ensures { IfOk result (λ new. new ≡ draft) }

@@ -1,24 +1,28 @@
 //! The picture of a timeline.
 
 ghost use Rattle.std.specs.Prelude.{◌≡◌, ◌<◌, ◌∷◌, [], false, IfOk, length};
+ghost use Rattle.evm_view.specs.Boxes.{boxes_of, lane_boxes, strip_boxes, with_boxes};
 ghost use Rattle.evm_xml.specs.Xml.{IsElement};
 
 use crate::arrows::arrow_sign;
 use crate::bars::{Row, bar_names, bars, stalls};
-use crate::events::{boxes, machine_boxes};
+use crate::events::boxes;
 use crate::flags::flag_sign;
 use crate::layout::{
-    CELL, EVENTS, IN_BAND, LEFT, LEGEND, OUT_OF_BAND, RAISED, RECEIVED, ROW, STRIP, strip_count,
-    strip_top, width, x_of, y_of,
+    CELL, EVENTS, IN_BAND, LEFT, LEGEND, OUT_OF_BAND, RAISED, RECEIVED, ROW, strip_top, width,
+    x_of, y_of,
 };
 use crate::legend::legend;
 use crate::lines::{Place, line_sign};
-use crate::parting::{column_in, column_of, parting_sign};
+use crate::parting::parting_sign;
 use crate::room::Rows;
 use crate::shapes::{label, plain};
 use crate::style::STYLE;
-use evm_cells::{Cell, Piece, Shown, Symbols, Timeline, say, stage_name};
-use evm_model::Stage;
+use evm_cells::{
+    Cell, Piece, STRIP, Shown, Symbols, Timeline, column_in, column_of, say, stage_name,
+    strip_count,
+};
+use evm_model::{PROCESSOR_LIMIT, Stage};
 use evm_room::Refused;
 use evm_xml::{Draft, Key, Tag, finished};
 use std::alloc::Global;
@@ -99,7 +103,7 @@ fn row_name(
 fn lane(draft: Draft, alloc: Global, strip: &Strip<'_>, cpu: u8) -> Result<Draft, Refused>
     requires content { draft.in_tag ≡ false }
     requires inside { 0 < length draft.tags }
-    ensures { IfOk result (λ new. new ≡ draft) }
+    ensures { IfOk result (λ new. new ≡ with_boxes (lane_boxes cpu strip.now.cells.now) draft) }
 {
     let name = cpu_name(alloc, cpu)?;
     let y = y_of(strip.top, cpu, 60);
@@ -110,7 +114,15 @@ fn lane(draft: Draft, alloc: Global, strip: &Strip<'_>, cpu: u8) -> Result<Draft
     let draft = row_name(draft, strip, cpu, RAISED, "raised")?;
     let draft = row_name(draft, strip, cpu, RECEIVED, "received")?;
     let draft = row_name(draft, strip, cpu, EVENTS, "events")?;
-    boxes(draft, alloc, strip.symbols, cpu, strip.top, strip.cells)
+    let y = y_of(strip.top, cpu, EVENTS);
+    boxes(
+        draft,
+        alloc,
+        strip.symbols,
+        usize::from(cpu),
+        y,
+        strip.cells,
+    )
 }
 
 fn tick(draft: Draft, alloc: Global, cell: &Cell, x: u32, top: u32) -> Result<Draft, Refused>
@@ -217,11 +229,12 @@ fn signs(draft: Draft, alloc: Global, strip: &Strip<'_>) -> Result<Draft, Refuse
 fn draw_strip(draft: Draft, alloc: Global, strip: &Strip<'_>) -> Result<Draft, Refused>
     requires content { draft.in_tag ≡ false }
     requires inside { 0 < length draft.tags }
-    ensures { IfOk result (λ new. new ≡ draft) }
+    ensures { IfOk result (λ new. new ≡ with_boxes (strip_boxes strip.now.cpu_count strip.now.cells.now) draft) }
 {
     let draft = ruler(draft, alloc, strip)?;
     let draft = label(draft, "b", 8, strip.top.saturating_add(33), "machine")?;
-    let mut draft = machine_boxes(draft, alloc, strip.symbols, strip.top, strip.cells)?;
+    let y = strip.top.saturating_add(22);
+    let mut draft = boxes(draft, alloc, strip.symbols, PROCESSOR_LIMIT, y, strip.cells)?;
     for cpu in 0..strip.cpu_count {
         draft = lane(draft, alloc, strip, cpu)?;
     }
@@ -249,7 +262,10 @@ fn strip_of<'a>(
     number: usize,
     cells: &'a [Cell],
     marks: &'a [Shown],
-) -> Strip<'a> {
+) -> Strip<'a>
+    ensures cells { result.cells.now ≡ cells.now }
+    ensures count { result.cpu_count ≡ picture.now.timeline.now.cpu_count }
+{
     let timeline = picture.timeline;
     let parts = match picture.parts {
         None => None,
@@ -274,7 +290,7 @@ fn strip_of<'a>(
 fn strips(draft: Draft, alloc: Global, picture: &Picture<'_>) -> Result<Draft, Refused>
     requires content { draft.in_tag ≡ false }
     requires inside { 0 < length draft.tags }
-    ensures { IfOk result (λ new. new ≡ draft) }
+    ensures { IfOk result (λ new. new ≡ with_boxes (boxes_of picture.now.timeline.now.cpu_count picture.now.timeline.now.cells.items) draft) }
 {
     let mut draft = draft;
     let mut cells = picture.timeline.cells.as_slice();
@@ -320,7 +336,7 @@ fn view_box(alloc: Global, width: u32, height: u32) -> Result<String, Refused> {
 }
 
 fn begun(alloc: Global, width: u32, height: u32) -> Result<Draft, Refused>
-    ensures { IfOk result (λ draft. draft ≡ record { tags = Tag.Svg ∷ []; in_tag = false }) }
+    ensures { IfOk result (λ draft. draft ≡ record { tags = Tag.Svg ∷ []; in_tag = false; shares = [] }) }
 {
     let all = view_box(alloc, width, height)?;
     let draft = Draft::svg(alloc)?
@@ -351,7 +367,7 @@ pub struct Picture<'a> {
 ///
 /// Memory was refused.
 pub fn drawn(alloc: Global, picture: &Picture<'_>) -> Result<Vec<u8>, Refused>
-    ensures { IfOk result (λ bytes. ∥ IsElement Tag.Svg bytes.items ∥₁) }
+    ensures { IfOk result (λ bytes. ∥ IsElement Tag.Svg (boxes_of picture.now.timeline.now.cpu_count picture.now.timeline.now.cells.items) bytes.items ∥₁) }
 {
     let timeline = picture.timeline;
     let end = strip_top(strip_count(timeline.cells.len()), timeline.cpu_count);

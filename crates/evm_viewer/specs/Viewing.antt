@@ -1,15 +1,31 @@
 -- What a run of the viewer writes, and its status.
-use Rattle.std.specs.Prelude.{ℕ, List, Result, Ok, Err}
+use Rattle.std.specs.Prelude.{◌≡◌, ℕ, List, Result, Ok, Err, map}
 use Rattle.evm_streams.specs.declared.sink.Writing.{Writing}
 use Rattle.evm_streams.specs.Writes.{Took}
+use Rattle.evm_image.specs.Images.{Contents}
+use Rattle.evm_model.specs.Devices.{Attached}
+use Rattle.evm_model.specs.Event.{Event}
+use Rattle.evm_view.specs.evm_timeline.Items.{outline}
+use Rattle.evm_view.specs.evm_timeline.Walks.{IsBegin, Walked}
+use Rattle.evm_view.specs.Boxes.{boxes_of}
+use Rattle.evm_view.specs.evm_cells.Rows.{IsWindow}
+use Rattle.evm_view.specs.evm_cells.declared.cells.Timeline.{Timeline}
+use Rattle.evm_view.specs.evm_cells.declared.gathering.Window.{Window}
 use Rattle.evm_xml.specs.Xml.{IsElement}
 use Rattle.evm_xml.specs.declared.names.Tag.TheVariants.{Svg}
 use Rattle.evm_viewer.specs.declared.drawing.ViewEnd.{ViewEnd}
 use Rattle.evm_viewer.specs.declared.drawing.ViewEnd.TheVariants.{AtFault, NoMemory, WriteFailed}
 
--- the sink took the whole text of one element, a picture
-abbrev pub IsPictured : {W : Type 0} → (W → Writing → List ℕ → W → Type 0) → W → W → Type 0
-IsPictured takes start sink = (bytes : List ℕ) × Took takes start bytes sink × ∥ IsElement Svg bytes ∥₁
+-- a timeline tells of the window of a journal's text, which is replayed on a machine with these devices and this image: its cells stand one behind the
+-- other, and each tells of its events
+abbrev pub TellsRun : List Attached → Contents → List ℕ → Window → Timeline → Type 0
+TellsRun devices image text window timeline =
+    (walk : Walked) × IsBegin devices image text walk × IsWindow window (map outline walk.events) timeline.cells.items
+
+-- the sink took the whole text of one element, a picture in which a box stands for the events of each cell on each lane
+abbrev pub IsPictured : {W : Type 0} → (W → Writing → List ℕ → W → Type 0) → Timeline → W → W → Type 0
+IsPictured takes timeline start sink =
+    (bytes : List ℕ) × Took takes start bytes sink × ∥ IsElement Svg (boxes_of timeline.cpu_count timeline.cells.items) bytes ∥₁
 
 -- the status of a run that ended so
 abbrev pub status_of : ViewEnd → ℕ

@@ -12,7 +12,8 @@ use evm_host::{
     not_opened, not_read, read_all, text_at, words_not_read, write_all,
 };
 use evm_image::Image;
-use evm_view::{Meter, Symbols};
+use evm_program::Meter;
+use evm_view::Symbols;
 use std::alloc::Global;
 
 // Writes help or the version.

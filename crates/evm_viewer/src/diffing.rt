@@ -7,8 +7,9 @@ use crate::showing::{Input, show_run};
 use crate::telling::{Names, alike_text, boots_text, parting_text};
 use evm_devs::AnyDevice;
 use evm_host::{Devices, Ending, System, World, ended, text_at, write_all};
+use evm_program::Meter;
 use evm_room::Refused;
-use evm_view::{Boot, InputFault, Journal, JournalFaultKind, Meter, read_history};
+use evm_view::{Boot, InputFault, Journal, JournalFaultKind, read_history};
 use std::alloc::Global;
 
 /// The status where the journals part.

@@ -1,14 +1,15 @@
 //! A journal's run as a document, written to a sink.
 
-ghost use Rattle.std.specs.Prelude.{◌≡◌, OnOk};
+ghost use Rattle.std.specs.Prelude.{◌≡◌, IfOk, OnOk};
 ghost use Rattle.evm_streams.specs.Writes.{Took};
-ghost use Rattle.evm_viewer.specs.Viewing.{IsPictured};
+ghost use Rattle.evm_viewer.specs.Viewing.{IsPictured, TellsRun};
 
 use evm_devs::AnyDevice;
 use evm_image::Image;
+use evm_program::Meter;
 use evm_streams::{Sink, WriteFault, write_all};
 use evm_view::{
-    Devices, InputFault, Meter, Picture, Timeline, Walk, WalkStop, Window, drawn, gather, written,
+    Devices, InputFault, Picture, Timeline, Walk, WalkStop, Window, drawn, gather, written,
 };
 use std::alloc::Global;
 
@@ -44,8 +45,10 @@ pub fn timeline_of<M: Meter>(
     journal: &str,
     window: Window,
     meter: &mut M,
-) -> Result<Timeline, ViewEnd> {
-    let mut walk = Walk::start(alloc, Some(image), devices, journal)?;
+) -> Result<Timeline, ViewEnd>
+    ensures { IfOk result (TellsRun devices image.now journal.now window) }
+{
+    let mut walk = Walk::start(alloc, image, devices, journal)?;
     let gathered = gather(alloc, &mut walk, window, meter);
     meter.ended();
     let timeline = gathered?;
@@ -67,7 +70,7 @@ fn put<W: Sink>(sink: &mut W, text: &[u8]) -> Result<(), ViewEnd>
 ///
 /// Memory was refused, or a write failed.
 pub fn draw_to<W: Sink>(alloc: Global, picture: &Picture<'_>, sink: &mut W) -> Result<(), ViewEnd>
-    ensures { OnOk result (IsPictured W.takes sink.old sink.new) }
+    ensures { OnOk result (IsPictured W.takes picture.now.timeline.now sink.old sink.new) }
 {
     match drawn(alloc, picture) {
         Ok(bytes) => put(sink, bytes.as_slice()),
@@ -85,7 +88,7 @@ pub fn write_to<W: Sink>(
     picture: &Picture<'_>,
     sink: &mut W,
 ) -> Result<(), ViewEnd> {
-    match written(alloc, picture) {
+    match written(alloc, picture.timeline, picture.symbols, picture.parts) {
         Ok(text) => put(sink, text.as_bytes()),
         Err(_) => Err(ViewEnd::NoMemory),
     }

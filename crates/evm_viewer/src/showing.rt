@@ -6,7 +6,8 @@ use crate::words::Job;
 use evm_devs::AnyDevice;
 use evm_host::{Devices, System, World, not_created};
 use evm_image::Image;
-use evm_view::{Meter, Picture, Symbols, Timeline};
+use evm_program::Meter;
+use evm_view::{Picture, Symbols, Timeline};
 use std::alloc::Global;
 
 /// What is read of the files of a job.

@@ -78,7 +78,18 @@ impl Waiting {
     }
 
     /// Task t waits for this, or doesn't wait.
+    #[inline]
     pub fn set(&mut self, t: u8, waiter: Option<Waiter>)
+        ensures waiters { self.new.waiters ≡ change (λ _. waiter) self.old.waiters t }
+        ensures ranks { self.new.ranks ≡ self.old.ranks }
+    {
+        if self.get(t).is_some() || waiter.is_some() {
+            self.replace(t, waiter);
+        }
+    }
+
+    // The same, where something may change.
+    fn replace(&mut self, t: u8, waiter: Option<Waiter>)
         ensures waiters { self.new.waiters ≡ change (λ _. waiter) self.old.waiters t }
         ensures ranks { self.new.ranks ≡ self.old.ranks }
     {

@@ -1,7 +1,9 @@
 -- XML: trees of elements and text, and their bytes.
 use Rattle.std.specs.Prelude.{◌≡◌, ◌==◌, ℕ, List, [], ◌∷◌, ◌++◌, codes, nat_lt, if◌then◌else◌}
+use Rattle.evm_text.specs.Written.{decimal}
 use Rattle.evm_xml.specs.declared.names.Key.{Key}
 use Rattle.evm_xml.specs.declared.names.Key.TheVariants as key
+use Rattle.evm_xml.specs.declared.names.Share.{Share}
 use Rattle.evm_xml.specs.declared.names.Tag.{Tag}
 use Rattle.evm_xml.specs.declared.names.Tag.TheVariants as tag
 
@@ -53,17 +55,31 @@ unfoldable pub escaped_text : List ℕ → List ℕ
 escaped_text [] = []
 escaped_text (byte ∷ bytes) = escaped_byte byte ++ escaped_text bytes
 
--- an attribute: its name and its value, which is any text
-pub record Attribute : Type 0 where
-  pub key : Key
-  pub value : List ℕ
+-- an attribute: its name and its value, which is any text; or which events an element stands for
+pub data Attribute : Type 0 where
+  Named : (key : Key) (value : List ℕ) → Attribute
+  Events : (share : Share) → Attribute
+
+-- the four numbers of a share
+abbrev pub share_text : Share → List ℕ
+share_text share = decimal share.lane ++ (32 ∷ (decimal share.first ++ (32 ∷ (decimal share.count ++ (32 ∷ decimal share.events)))))
 
 abbrev pub attribute_text : Attribute → List ℕ
-attribute_text a = 32 ∷ (key_text a.key ++ (codes "=\"" ++ (escaped_text a.value ++ 34 ∷ [])))
+attribute_text (Named key value) = 32 ∷ (key_text key ++ (codes "=\"" ++ (escaped_text value ++ 34 ∷ [])))
+attribute_text (Events share) = codes " data-events=\"" ++ (share_text share ++ 34 ∷ [])
 
 unfoldable pub attributes_text : List Attribute → List ℕ
 attributes_text [] = []
 attributes_text (a ∷ attributes) = attribute_text a ++ attributes_text attributes
+
+-- the events for which an element stands, by its attributes
+abbrev pub shares_by : Attribute → List Share
+shares_by (Named key value) = []
+shares_by (Events share) = share ∷ []
+
+unfoldable pub shares_on : List Attribute → List Share
+shares_on [] = []
+shares_on (a ∷ attributes) = shares_by a ++ shares_on attributes
 
 -- what stands one behind the other inside an element: text, elements with nothing inside, and elements
 pub data Forest : Type 0 where
@@ -87,8 +103,16 @@ xml (Characters characters others) = escaped_text characters ++ xml others
 xml (Leaf t attributes others) = (start_tag t attributes ++ codes "/>") ++ xml others
 xml (Element t attributes inside others) = (start_tag t attributes ++ (62 ∷ (xml inside ++ close t))) ++ xml others
 
--- the bytes of one element, whatever is inside it
-pub record IsElement (t : Tag) (bytes : List ℕ) : Type 0 where
+-- the events for which its elements stand, in their order
+unfoldable pub shares_in : Forest → List Share
+shares_in Nothing = []
+shares_in (Characters characters others) = shares_in others
+shares_in (Leaf t attributes others) = shares_on attributes ++ shares_in others
+shares_in (Element t attributes inside others) = shares_on attributes ++ (shares_in inside ++ shares_in others)
+
+-- the bytes of one element, whatever is inside it, which stands for these events
+pub record IsElement (t : Tag) (shares : List Share) (bytes : List ℕ) : Type 0 where
   pub attributes : List Attribute
   pub inside : Forest
   pub written : bytes ≡ start_tag t attributes ++ (62 ∷ (xml inside ++ close t))
+  pub told : shares ≡ shares_on attributes ++ shares_in inside

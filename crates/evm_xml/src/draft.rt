@@ -2,11 +2,11 @@
 
 ghost use Rattle.std.specs.Prelude.{◌≡◌, ◌<◌, ◌∷◌, ◌++◌, [], true, false, IfOk, OnOk, length, drop};
 ghost use Rattle.std.specs.String.{string_bytes};
-ghost use Rattle.evm_xml.specs.Xml.{IsElement, attribute_text, close, start_tag};
+ghost use Rattle.evm_xml.specs.Xml.{Attribute, IsElement, attribute_text, close, share_text, start_tag};
 
 use crate::escape::{push_bytes, push_escaped};
-use crate::names::{Key, Tag};
-use evm_room::{Refused, grow};
+use crate::names::{Key, Share, Tag};
+use evm_room::{Refused, grow, push_text};
 use evm_text::push_decimal;
 use std::alloc::Global;
 use std::marker::Model;
@@ -17,6 +17,8 @@ pub struct Draft {
     out: Vec<u8>,
     tags: Vec<Tag>,
     in_tag: bool,
+    // the events for which elements stand, as they are written
+    shares: Vec<Share>,
     // a number's digits, before they are written
     digits: String,
 }
@@ -29,9 +31,9 @@ impl Model for Draft {
     ghost Value = { model.Draft };
 
     // what is written is the front of an element, as far as it goes
-    ghost invariant = { λ d. ∥ IsDraft d.in_tag (reverse d.tags.items) d.out.items ∥₁ };
+    ghost invariant = { λ d. ∥ IsDraft d.in_tag (reverse d.tags.items) d.shares.items d.out.items ∥₁ };
 
-    ghost view = { λ d. record { tags = reverse d.tags.items; in_tag = d.in_tag } };
+    ghost view = { λ d. record { tags = reverse d.tags.items; in_tag = d.in_tag; shares = d.shares.items } };
 }
 
 #[tactic(auto, unfolding(crate::specs::Xml::attributes_text), using(crate::proofs::Lemmas::escapes))]
@@ -43,7 +45,7 @@ fn push_start(out: &mut Vec<u8>, tag: Tag) -> Result<(), Refused>
 }
 
 fn push_attribute(out: &mut Vec<u8>, key: Key, value: &str) -> Result<(), Refused>
-    ensures { OnOk result (out.new.items ≡ out.old.items ++ attribute_text (record { key = key; value = value.now })) }
+    ensures { OnOk result (out.new.items ≡ out.old.items ++ attribute_text (Attribute.Named key value.now)) }
 {
     push_bytes(out, b" ")?;
     push_bytes(out, key.text().as_bytes())?;
@@ -68,10 +70,41 @@ fn push_tag(tags: &mut Vec<Tag>, tag: Tag) -> Result<(), Refused>
     Ok(())
 }
 
+fn push_shared(shares: &mut Vec<Share>, share: Share) -> Result<(), Refused>
+    ensures { OnOk result (shares.new.items ≡ shares.old.items ++ share ∷ []) }
+{
+    grow(shares, 1)?;
+    shares.push_reserved(share);
+    Ok(())
+}
+
+// The four numbers of a share.
+fn push_share(out: &mut String, share: Share) -> Result<(), Refused>
+    ensures { OnOk result (string_bytes out.new ≡ string_bytes out.old ++ share_text share) }
+{
+    push_decimal(out, share.lane)?;
+    push_text(out, " ")?;
+    push_decimal(out, share.first)?;
+    push_text(out, " ")?;
+    push_decimal(out, share.count)?;
+    push_text(out, " ")?;
+    push_decimal(out, share.events)
+}
+
+fn push_events(out: &mut Vec<u8>, digits: &mut String, share: Share) -> Result<(), Refused>
+    ensures { OnOk result (out.new.items ≡ out.old.items ++ attribute_text (Attribute.Events share)) }
+{
+    digits.clear();
+    push_share(digits, share)?;
+    push_bytes(out, b" data-events=\"")?;
+    push_bytes(out, digits.as_bytes())?;
+    push_bytes(out, b"\"")
+}
+
 impl Draft {
     /// The start tag of an `svg` element, open for its attributes.
     pub fn svg(alloc: Global) -> Result<Draft, Refused>
-        ensures { IfOk result (λ draft. draft ≡ record { tags = Tag.Svg ∷ []; in_tag = true }) }
+        ensures { IfOk result (λ draft. draft ≡ record { tags = Tag.Svg ∷ []; in_tag = true; shares = [] }) }
     {
         let mut out = Vec::new(alloc);
         push_start(&mut out, Tag::Svg)?;
@@ -81,6 +114,7 @@ impl Draft {
             out,
             tags,
             in_tag: true,
+            shares: Vec::new(alloc),
             digits: String::new(alloc),
         })
     }
@@ -94,12 +128,13 @@ impl Draft {
     pub fn open(self, tag: Tag) -> Result<Draft, Refused>
         requires content { self.in_tag ≡ false }
         requires inside { 0 < length self.tags }
-        ensures { IfOk result (λ draft. draft ≡ record { tags = tag ∷ self.tags; in_tag = true }) }
+        ensures { IfOk result (λ draft. draft ≡ record { tags = tag ∷ self.tags; in_tag = true; shares = self.shares }) }
     {
         let Draft {
             mut out,
             mut tags,
             in_tag: _,
+            shares,
             digits,
         } = self;
         push_start(&mut out, tag)?;
@@ -108,6 +143,7 @@ impl Draft {
             out,
             tags,
             in_tag: true,
+            shares,
             digits,
         })
     }
@@ -121,6 +157,7 @@ impl Draft {
             mut out,
             tags,
             in_tag,
+            shares,
             digits,
         } = self;
         push_attribute(&mut out, key, value)?;
@@ -128,6 +165,7 @@ impl Draft {
             out,
             tags,
             in_tag,
+            shares,
             digits,
         })
     }
@@ -141,6 +179,7 @@ impl Draft {
             mut out,
             tags,
             in_tag,
+            shares,
             mut digits,
         } = self;
         digits.clear();
@@ -150,6 +189,30 @@ impl Draft {
             out,
             tags,
             in_tag,
+            shares,
+            digits,
+        })
+    }
+
+    /// An attribute that says for which events the element stands.
+    pub fn events(self, share: Share) -> Result<Draft, Refused>
+        requires { self.in_tag ≡ true }
+        ensures { IfOk result (λ draft. draft ≡ record { tags = self.tags; in_tag = true; shares = self.shares ++ share ∷ [] }) }
+    {
+        let Draft {
+            mut out,
+            tags,
+            in_tag,
+            mut shares,
+            mut digits,
+        } = self;
+        push_events(&mut out, &mut digits, share)?;
+        push_shared(&mut shares, share)?;
+        Ok(Draft {
+            out,
+            tags,
+            in_tag,
+            shares,
             digits,
         })
     }
@@ -163,6 +226,7 @@ impl Draft {
             mut out,
             tags,
             in_tag: _,
+            shares,
             digits,
         } = self;
         push_bytes(&mut out, b">")?;
@@ -170,6 +234,7 @@ impl Draft {
             out,
             tags,
             in_tag: false,
+            shares,
             digits,
         })
     }
@@ -184,6 +249,7 @@ impl Draft {
             mut out,
             tags,
             in_tag,
+            shares,
             digits,
         } = self;
         push_escaped(&mut out, text)?;
@@ -191,6 +257,7 @@ impl Draft {
             out,
             tags,
             in_tag,
+            shares,
             digits,
         })
     }
@@ -199,12 +266,13 @@ impl Draft {
     pub fn end(self) -> Result<Draft, Refused>
         requires tag { self.in_tag ≡ true }
         requires inside { 1 < length self.tags }
-        ensures { IfOk result (λ draft. draft ≡ record { tags = drop 1 self.tags; in_tag = false }) }
+        ensures { IfOk result (λ draft. draft ≡ record { tags = drop 1 self.tags; in_tag = false; shares = self.shares }) }
     {
         let Draft {
             mut out,
             mut tags,
             in_tag: _,
+            shares,
             digits,
         } = self;
         push_bytes(&mut out, b"/>")?;
@@ -215,6 +283,7 @@ impl Draft {
             out,
             tags,
             in_tag: false,
+            shares,
             digits,
         })
     }
@@ -223,12 +292,13 @@ impl Draft {
     pub fn close(self) -> Result<Draft, Refused>
         requires content { self.in_tag ≡ false }
         requires inside { 1 < length self.tags }
-        ensures { IfOk result (λ draft. draft ≡ record { tags = drop 1 self.tags; in_tag = false }) }
+        ensures { IfOk result (λ draft. draft ≡ record { tags = drop 1 self.tags; in_tag = false; shares = self.shares }) }
     {
         let Draft {
             mut out,
             mut tags,
             in_tag: _,
+            shares,
             digits,
         } = self;
         let Some(tag) = tags.pop() else {
@@ -239,6 +309,7 @@ impl Draft {
             out,
             tags,
             in_tag: false,
+            shares,
             digits,
         })
     }
@@ -248,12 +319,13 @@ impl Draft {
 pub fn finished(draft: Draft) -> Result<Vec<u8>, Refused>
     requires content { draft.in_tag ≡ false }
     requires outermost { draft.tags ≡ Tag.Svg ∷ [] }
-    ensures { IfOk result (λ bytes. ∥ IsElement Tag.Svg bytes.items ∥₁) }
+    ensures { IfOk result (λ bytes. ∥ IsElement Tag.Svg draft.shares bytes.items ∥₁) }
 {
     let Draft {
         mut out,
         tags: _,
         in_tag: _,
+        shares: _,
         digits: _,
     } = draft;
     push_close(&mut out, Tag::Svg)?;

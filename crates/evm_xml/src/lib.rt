@@ -6,7 +6,7 @@ mod escape;
 mod names;
 
 pub use draft::{Draft, finished};
-pub use names::{Key, Tag};
+pub use names::{Key, Share, Tag};
 
 #[cfg(test)]
 mod tests;

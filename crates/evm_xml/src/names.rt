@@ -3,6 +3,19 @@
 ghost use Rattle.std.specs.Prelude.{◌≡◌};
 ghost use Rattle.evm_xml.specs.Xml.{key_text, tag_text};
 
+/// The events for which an element stands.
+#[derive(Clone, Copy, Debug, PartialEq, Eq)]
+pub struct Share {
+    /// The lane on which it is drawn.
+    pub lane: u64,
+    /// The first of neighbouring events.
+    pub first: u64,
+    /// How many these are.
+    pub count: u64,
+    /// How many of them are of the lane.
+    pub events: u64,
+}
+
 /// An element.
 #[derive(Clone, Copy, Debug, PartialEq, Eq)]
 pub enum Tag {

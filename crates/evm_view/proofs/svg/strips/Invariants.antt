@@ -1,5 +1,12 @@
-use Rattle.std.proofs.Common.{◌≡◌}
+use Rattle.std.proofs.Common.{◌≡◌, ◌*◌, drop}
+use Rattle.evm_cells.specs.evm_timeline.Lists.{below}
+use Rattle.evm_cells.specs.Strips.{strip_at}
+use Rattle.evm_cells.specs.declared.strips.TheConstants.{STRIP}
+use Rattle.evm_view.specs.Boxes.{strip_boxes, with_boxes}
 use Rattle.evm_view.proofs.svg.strips.Given as goal
 
+-- the boxes of the strips so far, and the cells behind them
 abbrev pub invariant-loop-number : goal.invariant-loop-number
-invariant-loop-number l = l.draft ≡ l.initial.draft
+invariant-loop-number l =
+    (l.draft ≡ with_boxes (below (λ number. strip_boxes l.picture.timeline.now.cpu_count (strip_at number l.picture.timeline.now.cells.items)) l.number) l.fn.draft)
+    × (l.cells ≡ drop (l.number * STRIP) l.picture.timeline.now.cells.items)

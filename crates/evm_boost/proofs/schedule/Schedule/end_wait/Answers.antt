@@ -1,8 +1,8 @@
 use Rattle.std.proofs.Common.{refl}
-use Rattle.evm_boost.proofs.Moves.{relinked}
+use Rattle.evm_boost.proofs.Moves.{relinked-stamped}
 use Rattle.evm_boost.proofs.schedule.Schedule.end_wait.Goals as goal
 
 pub relink-requires : goal.relink-requires
 relink-requires c =
-    relinked _ _ _ _ _ _ c.args.t _ (λ task. refl) c.requires c.end_wait.ensures c.boosts-before.ensures
+    relinked-stamped _ _ _ _ _ _ _ c.args.t c.args.stamp _ (λ task. refl) c.requires c.end_wait.ensures c.set_stamp.ensures c.boosts-before.ensures
     c.enter.ensures.places c.enter.ensures.waiters c.enter.ensures.ranks c.enter.ensures.sound

@@ -1,10 +1,13 @@
-use Rattle.std.proofs.Common.{◌≡◌}
+use Rattle.std.proofs.Common.{◌≡◌, length}
 use Rattle.evm_boost.specs.Lent.{lent}
+use Rattle.evm_boost.specs.Owning.{greatest_of, owned_by}
 use Rattle.evm_boost.specs.Scatter.{class_rank_at}
 use Rattle.evm_model.specs.Mutexes.{owner}
-use Rattle.evm_ranks.specs.Boosts.{greatest}
 use Rattle.evm_boost.proofs.schedule.Schedule.rank_now.Given as goal
 
--- the mutexes below m have lent
-abbrev pub invariant-loop-m : goal.invariant-loop-m
-invariant-loop-m l = l.rank ≡ greatest (owner l.mutexes) (lent l.self l.mutexes) l.t (class_rank_at l.tasks l.t) l.m
+-- the rank and those that are left make what the class and all of them make
+abbrev pub invariant-lending : goal.invariant-lending
+invariant-lending l = greatest_of (lent l.self l.mutexes) l.rank l.left ≡ greatest_of (lent l.self l.mutexes) (class_rank_at l.tasks l.t) (owned_by (owner l.mutexes) l.t)
+
+abbrev pub decreases-lending : goal.decreases-lending
+decreases-lending l = length l.left

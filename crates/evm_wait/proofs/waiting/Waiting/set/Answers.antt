@@ -1,30 +1,7 @@
-use Rattle.std.proofs.Common.{◌≡◌, List, Option, Some, refl, sym, ap, ◌∙◌}
-use Rattle.std.proofs.lemmas.List.{length-set}
-use Rattle.std.proofs.lemmas.Option.{slice_get_read}
-use Rattle.std.specs.Prelude.{slice_get}
-use Rattle.evm_model.specs.Lists.{change}
-use Rattle.evm_ready.proofs.Counts.{set-there}
-use Rattle.evm_ready.proofs.Listed_turns.{turns-entry}
-use Rattle.evm_wait.specs.declared.waiter.Waiter.{Waiter}
-use Rattle.evm_wait.specs.Waiters.{WaitingTasks}
-use Rattle.evm_wait.specs.WaitTurns.{turns_of, waiter_turn}
+use Rattle.std.proofs.Common.{◌∙◌, ap}
+use Rattle.std.specs.Prelude.{is_some}
+use Rattle.evm_wait.proofs.evm_ready.Same_entries.{change-none}
 use Rattle.evm_wait.proofs.waiting.Waiting.set.Goals as goal
 
-pub invariant_of-self : goal.invariant_of-self
-invariant_of-self c =
-    let there : slice_get c.self.inside.waiters.items c.args.t ≡ Some c.in-Some.entry.now =
-    slice_get_read _ _ c.args.t _ refl c.in-Some.ensures.item.3.0 c.in-Some.ensures.item.1 in
-    record {
-      ranked = c.self.invariant.ranked ∙ sym (length-set c.self.inside.waiters.items c.args.t c.args.waiter);
-      turns = c.set.ensures.turns
-          ∙ rw (c.turn_of.ensures, c.rank-rank.ensures, ← c.self.view_is, c.self.invariant.turns)
-          (turns-entry waiter_turn c.self.inside.waiters.items c.self.inside.ranks.items c.args.t c.args.waiter c.self.invariant.ranked)
-          ∙ ap (λ (waiters : List (Option Waiter)). turns_of waiters c.self.inside.ranks.items)
-          (sym (set-there c.self.inside.waiters.items c.args.t c.in-Some.entry.now c.args.waiter there));
-      queues = c.set.ensures.count ∙ c.self.invariant.queues;
-    }
-
-pub returns-in-Some-clause-waiters : goal.returns-in-Some-clause-waiters
-returns-in-Some-clause-waiters c =
-    let there = slice_get_read _ _ c.args.t _ refl c.in-Some.ensures.item.3.0 c.in-Some.ensures.item.1 in
-    set-there _ _ _ _ there ∙ ap (λ (v : WaitingTasks). change (λ _. c.args.waiter) v.waiters c.args.t) c.self.view_is
+pub returns-else-is_some-2-clause-waiters : goal.returns-else-is_some-2-clause-waiters
+returns-else-is_some-2-clause-waiters c = change-none _ c.args.t c.args.waiter (c.if-is_some.ensures ∙ ap is_some c.get.ensures) c.if-is_some-2.ensures

@@ -1,0 +1,152 @@
+//! A branch goes on with its processor, up to a state that the search has passed.
+
+ghost use Rattle.std.specs.Prelude.{◌≡◌, ◌∷◌, ◌++◌, [], true, false, length, slice_get, IfOk, Option};
+ghost use Rattle.evm_hunt.specs.Searches.{is_failed};
+ghost use Rattle.evm_model.specs.Replay.{IsReplayOf};
+ghost use Rattle.evm_model.specs.State.{State};
+ghost use Rattle.evm_schedules.specs.Beginning.{Begins};
+ghost use Rattle.evm_schedules.specs.Failures.{FailsAsSought};
+ghost use Rattle.evm_schedules.specs.Making.{MayMake};
+ghost use Rattle.evm_schedules.specs.Runs.{Ends};
+ghost use Rattle.evm_switches.specs.Branches.{KeepsBranches};
+ghost use Rattle.evm_switches.specs.Covering.{IsCovered};
+ghost use Rattle.evm_switches.specs.Searches.{HasWalked, IsPassed};
+ghost use Rattle.evm_switches.specs.Walks.{IsReached};
+
+use crate::hashing::hash_of;
+use crate::marks::{Mark, Marks};
+use crate::seeing::is_seen;
+use crate::shortening::Stop;
+use crate::switching::Switching;
+use crate::walking::go_on_once;
+use crate::watching::Watcher;
+use evm_image::Image;
+use evm_schedules::{AnyDevice, BeginFault, Boot, Machine, Outcome, Watch};
+use evm_switches::{Branch, Queue};
+use std::alloc::Global;
+
+/// How a branch has ended, and at how many states it went on.
+#[derive(Clone, Copy, Debug)]
+pub(crate) struct Walk {
+    pub(crate) outcome: Outcome,
+    pub(crate) steps: u32,
+}
+
+// Whether all that is looked for is to be seen on one state: for how long a mutex is held or a task is kept back isn't.
+fn looks_at_states(watch: &Watch) -> bool {
+    watch.held.is_none() && watch.inversion.is_none()
+}
+
+// The mark of a state, if one of its hash was passed; else it is marked.
+fn mark_of(
+    machine: &Machine<AnyDevice>,
+    branch: &Branch,
+    steps: u32,
+    watch: &Watch,
+    watcher: &Watcher,
+    place: usize,
+    marks: &mut Marks,
+) -> Option<Mark> {
+    if steps == 0 {
+        marks.begin();
+    }
+    if !looks_at_states(watch) || marks.are_tired() {
+        return None;
+    }
+    let hash = hash_of(machine, branch.cpu, &watcher.trail);
+    let mark = marks.find(hash);
+    if mark.is_none() {
+        marks.add(hash, place as u64, steps);
+    }
+    mark
+}
+
+// Whether a state, which the last branch has reached by some steps, is covered by one that the search has passed.
+fn is_covered(
+    alloc: Global,
+    image: &Image,
+    boot: &Boot,
+    machine: &Machine<AnyDevice>,
+    branch: &Branch,
+    steps: u32,
+    watch: &Watch,
+    watcher: &Watcher,
+    queue: &Queue,
+    walked: &[u32],
+    marks: &mut Marks,
+) -> Result<bool, BeginFault>
+    requires { (first : State) → Begins image.now boot.now first → IsReached first branch.now steps machine.now }
+    ensures { IfOk result (λ covered. covered ≡ true → (first : State) → Begins image.now boot.now first → IsCovered (IsPassed first queue.now.branches.items (walked.now ++ steps ∷ [])) machine.now branch.now.cpu (length branch.now.turns.items)) }
+{
+    let Some(mark) = mark_of(machine, branch, steps, watch, watcher, walked.len(), marks) else {
+        return Ok(false);
+    };
+    match is_seen(
+        alloc, image, boot, watch, machine, branch, steps, queue, walked, mark,
+    ) {
+        Ok(true) => Ok(true),
+        Ok(false) => {
+            marks.miss();
+            Ok(false)
+        }
+        Err(fault) => Err(fault),
+    }
+}
+
+/// Goes on with the processor of the last branch as long as it can step and comes to no state that is covered, and adds the branches that
+/// go another way.
+///
+/// # Errors
+///
+/// Memory was refused.
+pub(crate) fn go_on(
+    alloc: Global,
+    image: &Image,
+    boot: &Boot,
+    machine: &mut Machine<AnyDevice>,
+    branch: &Branch,
+    watch: &Watch,
+    watcher: &mut Watcher,
+    bounds: &Switching,
+    queue: &mut Queue,
+    walked: &[u32],
+    marks: &mut Marks,
+) -> Result<Walk, Stop>
+    requires begins { (first : State) → Begins image.now boot.now first → IsReached first branch.now 0 machine.old }
+    requires there { slice_get queue.old.branches.items (length walked.now) ≡ Option.Some branch.now }
+    ensures keeps { KeepsBranches queue.old.branches.items queue.new.branches.items }
+    ensures cut { queue.new.cut ≡ false → queue.old.cut ≡ false }
+    ensures ends { IfOk result (λ walk. Ends watch.now.lines walk.outcome machine.new) }
+    ensures walks { IfOk result (λ walk. is_failed walk.outcome ≡ false → queue.new.cut ≡ false → (first : State) → Begins image.now boot.now first → HasWalked (MayMake watch.now.lines) (FailsAsSought watch.now) first bounds.now.switches queue.new.branches.items walked.now branch.now walk.steps machine.old) }
+    ensures replays { (first : State) → IsReplayOf first machine.old → IsReplayOf first machine.new }
+{
+    'steps: for steps in 0..u32::MAX {
+        match is_covered(
+            alloc, image, boot, machine, branch, steps, watch, watcher, queue, walked, marks,
+        ) {
+            Ok(true) => {
+                return Ok(Walk {
+                    outcome: Outcome::Over,
+                    steps,
+                });
+            }
+            Ok(false) => {}
+            Err(fault) => return Err(Stop::from(fault)),
+        }
+        match go_on_once(machine, branch, steps, watch, watcher, bounds, queue) {
+            Ok(None) => {}
+            Ok(Some(outcome)) => {
+                return Ok(Walk {
+                    outcome,
+                    steps: steps + 1,
+                });
+            }
+            Err(fault) => return Err(Stop::from(fault)),
+        }
+    }
+    queue.cut = true;
+    Ok(Walk {
+        outcome: Outcome::Full,
+        steps: u32::MAX,
+    })
+}
