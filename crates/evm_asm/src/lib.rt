@@ -18,6 +18,3 @@ pub use layout::{code_of, label_at, statement_text};
 pub use output::ProgramLine;
 pub use place::is_directive;
 pub use program::{Program, assemble};
-
-#[cfg(test)]
-mod tests;

@@ -7,6 +7,3 @@ mod quoting;
 pub use detail::{SourceDetail, source_detail};
 pub use evm_asm_parser::Extension;
 pub use quoting::quoted;
-
-#[cfg(test)]
-mod tests;

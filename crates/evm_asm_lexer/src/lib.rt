@@ -22,6 +22,3 @@ pub use text::{
     after, before, behind_word, cut, cut_word, first_word, has, is_name_start, skip_blanks,
 };
 pub use token::{bad_token, is_sound, size, starts_with_digit};
-
-#[cfg(test)]
-mod tests;

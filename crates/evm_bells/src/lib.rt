@@ -10,6 +10,3 @@ mod rule;
 pub use bells::{Bells, BellsRefusal, RINGER_WEIGHT, Ringer, Taker};
 pub use closing::{Closed, SeatsOut};
 pub use counts::{LineCounts, PROCESSOR_LIMIT};
-
-#[cfg(test)]
-mod tests;

@@ -15,6 +15,3 @@ pub use attaching::devices;
 pub use command::{answer, answer_read};
 pub use evm_host::host_world;
 pub use program::run;
-
-#[cfg(test)]
-mod tests;

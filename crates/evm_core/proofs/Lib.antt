@@ -4,7 +4,6 @@ pub mod Journaled
 pub mod Lists
 pub mod Many
 pub mod Outcomes
-pub mod Risen
 pub mod Rules
 pub mod Words
 pub use Rattle.evm_history.proofs as evm_history

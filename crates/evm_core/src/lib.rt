@@ -22,6 +22,3 @@ pub use laws::{
 };
 pub use machine::Machine;
 pub use stages::Stages;
-
-#[cfg(test)]
-mod tests;

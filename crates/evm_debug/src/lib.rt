@@ -23,6 +23,3 @@ pub use line::{Bad, Line, View};
 pub use look::ViewRefusal;
 pub use reading::{read_line, read_poke, read_short};
 pub use render::{push_view, view};
-
-#[cfg(test)]
-mod tests;

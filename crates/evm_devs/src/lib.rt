@@ -12,6 +12,3 @@ pub use console::Console;
 pub use mail_list::MailList;
 pub use mail_ring::MailRing;
 pub use pins::Pins;
-
-#[cfg(test)]
-mod tests;

@@ -17,6 +17,3 @@ pub use evm_debug::{
 pub use fault::{InputFault, event_cpu, view_cpu};
 pub use lookup::{has_boot, line_numbered};
 pub use note::{StepNote, StopPlace, is_cpu_stopped, note_of, report_ended, report_note};
-
-#[cfg(test)]
-mod tests;

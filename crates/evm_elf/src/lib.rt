@@ -24,6 +24,3 @@ pub use laws::{
 };
 pub use reading::read_image;
 pub use writing::{PROGRAM_MAX, write_bytes, write_image};
-
-#[cfg(test)]
-mod tests;

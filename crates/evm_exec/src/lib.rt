@@ -8,8 +8,6 @@ mod hart;
 mod laws;
 mod memory;
 mod outcome;
-#[cfg(test)]
-mod tests;
 
 pub use arithmetic::{extend, is_taken, on_immediate, on_registers, on_shift, on_words};
 pub use burst::{BURST_LIMIT, Burst};

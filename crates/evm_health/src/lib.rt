@@ -6,6 +6,3 @@ mod notices;
 
 pub use kinds::{asks_for, number};
 pub use notices::Notices;
-
-#[cfg(test)]
-mod tests;

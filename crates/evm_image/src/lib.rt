@@ -4,6 +4,3 @@
 mod image;
 
 pub use image::{Image, Segment};
-
-#[cfg(test)]
-mod tests;

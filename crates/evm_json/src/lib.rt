@@ -6,6 +6,3 @@ mod quoted;
 
 pub use laws::{decimals_are_json, listings_are_json, values_are_json};
 pub use quoted::push_quoted;
-
-#[cfg(test)]
-mod tests;

@@ -6,6 +6,3 @@ mod counting;
 mod pipe;
 
 pub use pipe::Pipe;
-
-#[cfg(test)]
-mod tests;

@@ -6,6 +6,3 @@ mod width;
 
 pub use ram::{BASE, Ram, SIZE_LIMIT};
 pub use width::Width;
-
-#[cfg(test)]
-mod tests;

@@ -18,6 +18,3 @@ pub use turns::Turns;
 
 /// The most queues of ready tasks that there are: 256 on each of 8 processors, by the levels of their ranks.
 pub const READY_QUEUE_LIMIT: usize = 2_048;
-
-#[cfg(test)]
-mod tests;

@@ -27,6 +27,3 @@ pub use monitor::Monitor;
 pub use running::{Outcome, advance, play, run};
 pub use waking::{Awake, awake_processors, is_over};
 pub use watch::{Errors, Inversion, Watch};
-
-#[cfg(test)]
-mod tests;

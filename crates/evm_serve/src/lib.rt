@@ -33,6 +33,3 @@ pub use laws::{
 pub use options::RunOptions;
 pub use replay::{replay_text, replay_to};
 pub use serving::{run_script, serve, serve_script};
-
-#[cfg(test)]
-mod tests;

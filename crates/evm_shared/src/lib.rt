@@ -20,6 +20,3 @@ pub use port::Port;
 pub use receipt::{Made, Receipt};
 pub use shared::{Finished, PORT_LIMIT, Refused, Shared, Unfinished};
 pub use worker::{Gate, Worker};
-
-#[cfg(test)]
-mod tests;

@@ -31,6 +31,3 @@ pub use snapshot::{Snapshot, push};
 pub use source_lines::{MapFault, SourceLines};
 pub use views::put_decoded;
 pub use words::cut_word;
-
-#[cfg(test)]
-mod tests;

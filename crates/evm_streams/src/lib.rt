@@ -15,6 +15,3 @@ pub use reads::{FILE_LIMIT, read_all, read_utf8};
 pub use sink::{Sink, WriteFault, Writing};
 pub use source::{ReadFault, ReadStop, Reading, Source};
 pub use writes::write_all;
-
-#[cfg(test)]
-mod tests;

@@ -11,6 +11,3 @@ mod symbols;
 
 pub use symbol::{Symbol, SymbolKind};
 pub use symbols::{SymbolTable, Symbols};
-
-#[cfg(test)]
-mod tests;

@@ -8,6 +8,3 @@ mod woken;
 
 pub use harts::{Asked, Harts};
 pub use tasks::Tasks;
-
-#[cfg(test)]
-mod tests;

@@ -20,6 +20,3 @@ pub use laws::{
 pub use lines::{cut_ended, cut_line};
 pub use reading::{BLOCK_LIMIT, after_word, decimal_at, hexadecimal_at, pairs_at};
 pub use writing::{push_decimal, push_hexadecimal, push_hexadecimal_padded, push_pairs};
-
-#[cfg(test)]
-mod tests;

@@ -6,6 +6,3 @@ mod timers;
 
 pub use expiring::{expired, is_due, taken};
 pub use timers::Timers;
-
-#[cfg(test)]
-mod tests;

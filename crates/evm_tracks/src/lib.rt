@@ -21,6 +21,3 @@ pub use state::State;
 pub use trace::{Trace, TraceStop};
 pub use track::Track;
 pub use tracks::{Span, Tracks};
-
-#[cfg(test)]
-mod tests;

@@ -9,6 +9,3 @@ pub use waiting::Waiting;
 
 /// How many queues there are of tasks that wait: 8 for each number below 32, by the kinds of what they wait for.
 pub const WAIT_QUEUE_LIMIT: usize = 256;
-
-#[cfg(test)]
-mod tests;

@@ -7,6 +7,3 @@ mod names;
 
 pub use draft::{Draft, finished};
 pub use names::{Key, Share, Tag};
-
-#[cfg(test)]
-mod tests;

@@ -1,0 +1,157 @@
+//! Sources assembled into files, and streams that fail.
+
+use super::fakes::{FAULTS, Source};
+use evm_serve::{Ending, Verdict, assemble_to};
+use evm_streams::{ReadFault, ReadStop, read_utf8};
+use std::alloc::Global;
+use std::io::{self, Error, ErrorKind, Read, Write};
+
+/// One line that has a fault, and what is reported of it.
+const FAULTY: &str = "addi a0,a0,2048";
+
+const TOLD: &[u8] = b"asm 1 4\n";
+
+#[test]
+fn sources_have_files_or_faults(rt: HostRuntime) {
+    // a source, how many bytes its file has, and what is report
+    let rows: [(&str, usize, &[u8]); 4] = [
+        ("", 120, b""),
+        ("la a0,x\n.data\nx: .dword 5\n", 4224, b""),
+        (FAULTY, 0, TOLD),
+        (" addi a0,a0,1\nj nowhere\n", 0, b"asm 2 6\n"),
+    ];
+    for (source, bytes, text) in rows {
+        let mut out = Vec::new(rt.alloc());
+        let mut report = Vec::new(rt.alloc());
+        let ending = assemble_to(rt.alloc(), source, &mut out, &mut report);
+        let status = if text.is_empty() { 0 } else { 1 };
+        assert_eq!(rt; ending.status(), status, "the status of {source:?}");
+        assert_eq!(rt; out.len(), bytes, "the file of {source:?}");
+        assert_eq!(rt; report.as_slice(), text, "what is report of {source:?}");
+    }
+}
+
+/// Takes at most five bytes at a call, and fails once it has no room left.
+#[derive(Drop)]
+struct Narrow {
+    taken: Vec<u8>,
+    room: usize,
+}
+
+impl Narrow {
+    /// Room for `room` bytes.
+    fn new(alloc: Global, room: usize) -> Self {
+        let taken = Vec::new(alloc);
+        Narrow { taken, room }
+    }
+}
+
+impl Write for Narrow {
+    fn write(&mut self, buf: &[u8]) -> io::Result<usize> {
+        let count = buf.len().min(self.room).min(5);
+        if count == 0 {
+            return Err(Error::from(ErrorKind::Interrupted));
+        }
+        self.taken.extend_from_slice(&buf[..count])?;
+        self.room -= count;
+        Ok(count)
+    }
+
+    fn flush(&mut self) -> io::Result<()> {
+        Ok(())
+    }
+}
+
+// The file has 120 bytes, the line 8.
+#[test]
+fn failed_writes_end_assembling(rt: HostRuntime) {
+    let alloc = rt.alloc();
+    for room in [0, 7, 119, 120] {
+        let mut out = Narrow::new(alloc, room);
+        let mut report = Vec::new(alloc);
+        let ending = assemble_to(alloc, "", &mut out, &mut report);
+        let status = if room < 120 { 4 } else { 0 };
+        assert_eq!(rt; ending.status(), status, "a file of {room} bytes");
+        assert_eq!(rt; out.taken.len(), room, "a file of {room} bytes");
+        assert_eq!(rt; report.len(), 0, "a file of {room} bytes");
+    }
+    for room in [0, 3, 7, 8] {
+        let mut out = Vec::new(alloc);
+        let mut report = Narrow::new(alloc, room);
+        let ending = assemble_to(alloc, FAULTY, &mut out, &mut report);
+        let status = if room < 8 { 4 } else { 1 };
+        assert_eq!(rt; ending.status(), status, "a line of {room} bytes");
+        assert!(rt; TOLD.starts_with(&report.taken), "a line of {room} bytes");
+        assert_eq!(rt; out.len(), 0, "a line of {room} bytes");
+    }
+}
+
+/// Counts what it is given, and needs no memory.
+#[derive(Drop)]
+struct Counter {
+    count: u64,
+}
+
+impl Write for Counter {
+    fn write(&mut self, buf: &[u8]) -> io::Result<usize> {
+        self.count = self.count.saturating_add(buf.len() as u64);
+        Ok(buf.len())
+    }
+
+    fn flush(&mut self) -> io::Result<()> {
+        Ok(())
+    }
+}
+
+/// Holds whichever allocation fails: the file is written whole or not at all.
+#[test]
+fn failed_allocations_write_no_file(rt: HostRuntime) {
+    let mut out = Counter { count: 0 };
+    let mut report = Counter { count: 0 };
+    match assemble_to(rt.alloc(), "nop\n", &mut out, &mut report) {
+        Ending::Complete(Verdict::Done) => assert_eq!(rt; (out.count, report.count), (124, 0)),
+        Ending::NoMemory => assert_eq!(rt; (out.count, report.count), (0, 7)),
+        _ => panic!(rt; "neither a file nor the line `memory`"),
+    }
+}
+
+// The text has 14 bytes: five calls give them, and one more says that they are over.
+#[test]
+fn texts_are_read_whole(rt: HostRuntime) {
+    let text = "j nowhere # \u{e9}";
+    for kind in FAULTS {
+        for calls in 0..=6 {
+            let mut reader = Source {
+                rest: text.as_bytes(),
+                most: 3,
+                calls,
+                fault: Some(kind),
+            };
+            match read_utf8(rt.alloc(), &mut reader) {
+                Ok(read) => assert_eq!(rt; (read.as_str(), calls), (text, 6)),
+                Err(ReadStop::Fault(ReadFault::Failed(_))) => assert!(rt;
+                    calls < 6,
+                    "{calls} reads"
+                ),
+                Err(_) => panic!(rt; "{calls} reads"),
+            }
+        }
+    }
+}
+
+#[test]
+fn other_bytes_are_no_texts(rt: HostRuntime) {
+    for bytes in [b"nop\n\xff".as_slice(), b"\xc3\x28", b"# \xf0\x9f"] {
+        let mut reader = bytes;
+        let read = read_utf8(rt.alloc(), &mut reader);
+        assert!(rt;
+            matches!(read, Err(ReadStop::Fault(ReadFault::NotUtf8))),
+            "{bytes:?}"
+        );
+    }
+    let mut most = io::repeat(b'#').take(16_777_216);
+    assert!(rt; read_utf8(rt.alloc(), &mut most).is_ok());
+    let mut more = io::repeat(b'#').take(16_777_217);
+    let read = read_utf8(rt.alloc(), &mut more);
+    assert!(rt; matches!(read, Err(ReadStop::Fault(ReadFault::TooLong))));
+}
