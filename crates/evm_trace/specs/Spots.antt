@@ -7,7 +7,7 @@ use Rattle.evm_places.specs.declared.place.Place.{Place}
 use Rattle.evm_timeline.specs.declared.mark.Mark.{Mark}
 use Rattle.evm_timeline.specs.declared.mark.Mark.TheVariants as marks
 
--- what a task does, so many bytes before its pc
+-- what a task does, and where: `back` bytes in front of its pc
 abbrev pub place_at : ℕ → ℕ → Doing → ℕ → Option Hart → List Place
 place_at task at doing back None = []
 place_at task at doing back (Some hart) = record { task = task; at = at; doing = doing; address = hart.pc - back } ∷ []

@@ -11,7 +11,7 @@ use evm_timeline::{Machine, Mark};
 /// How many bytes behind its ECALL a task is that waits.
 const CALL: u64 = 4;
 
-// What a task does, so many bytes before its pc.
+// What a task does, and where: `back` bytes in front of its pc.
 fn place(
     list: &mut Vec<Place>,
     machine: &Machine<AnyDevice>,
