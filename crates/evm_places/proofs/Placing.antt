@@ -32,13 +32,13 @@ use Rattle.evm_tracks.specs.Laws.{AreFitting}
 use Rattle.evm_tracks.specs.Telling.{Tells, IsTelling}
 use Rattle.evm_tracks.proofs.Traces.{traces}
 use Rattle.evm_places.specs.declared.place.Place.{Place}
-use Rattle.evm_places.specs.Places.{item_by, line_by, place_items, place_json, place_line, place_lines, symbol_at}
-use Rattle.evm_places.specs.Placed.{FitsPlace, Holds, IsPlaced, placed_json, placed_text, records_then}
+use Rattle.evm_places.specs.Places.{item_by, line_by, place_items, place_json, place_line, place_lines, place_symbol}
+use Rattle.evm_places.specs.Placed.{FitsPlace, IsPending, IsPlaced, placed_json, placed_text, records_then}
 
 -- ---- a text that is held
 
 module _ {W : Type 0} (takes : W → Writing → List ℕ → W → Type 0) where
-  pub held_more : (start sink : W) (whole more : List ℕ) (old new : String Global) → Holds takes start whole sink old → string_bytes new ≡ string_bytes old ++ more → Holds takes start (whole ++ more) sink new
+  pub held_more : (start sink : W) (whole more : List ℕ) (old new : String Global) → IsPending takes start whole sink old → string_bytes new ≡ string_bytes old ++ more → IsPending takes start (whole ++ more) sink new
   held_more start sink whole more old new held grown =
       record {
         sunk = held.sunk;
@@ -46,7 +46,7 @@ module _ {W : Type 0} (takes : W → Writing → List ℕ → W → Type 0) wher
         text = ap (λ (x : List ℕ). held.sunk ++ x) grown ∙ sym (append_assoc held.sunk (string_bytes old) more) ∙ ap (λ (x : List ℕ). x ++ more) held.text;
       }
 
-  pub held_on : (start sink later : W) (whole : List ℕ) (old new : String Global) → Holds takes start whole sink old → Took takes sink (string_bytes old) later → string_bytes new ≡ [] → Holds takes start whole later new
+  pub held_on : (start sink later : W) (whole : List ℕ) (old new : String Global) → IsPending takes start whole sink old → Took takes sink (string_bytes old) later → string_bytes new ≡ [] → IsPending takes start whole later new
   held_on start sink later whole old new held took gone =
       record {
         sunk = held.sunk ++ string_bytes old;
@@ -54,13 +54,13 @@ module _ {W : Type 0} (takes : W → Writing → List ℕ → W → Type 0) wher
         text = ap (λ (x : List ℕ). (held.sunk ++ string_bytes old) ++ x) gone ∙ append-nil (held.sunk ++ string_bytes old) ∙ held.text;
       }
 
-  held_all : (start sink later : W) (whole rest : List ℕ) (old : String Global) → Holds takes start whole sink old → rest ≡ string_bytes old ++ codes "\n]}" → Took takes sink rest later → Took takes start (whole ++ codes "\n]}") later
+  held_all : (start sink later : W) (whole rest : List ℕ) (old : String Global) → IsPending takes start whole sink old → rest ≡ string_bytes old ++ codes "\n]}" → Took takes sink rest later → Took takes start (whole ++ codes "\n]}") later
   held_all start sink later whole rest old held ends took =
       subst (λ (x : List ℕ). Took takes start x later)
       (ap (λ (x : List ℕ). held.sunk ++ x) ends ∙ sym (append_assoc held.sunk (string_bytes old) (codes "\n]}")) ∙ ap (λ (x : List ℕ). x ++ codes "\n]}") held.text)
       (took_append takes start sink later held.sunk rest held.took took)
 
-  pub held_to_end : {E : Type 0} (result : Result (Unit {0}) E) (start sink later : W) (whole rest : List ℕ) (old : String Global) → Holds takes start whole sink old → rest ≡ string_bytes old ++ codes "\n]}" → OnOk result (Took takes sink rest later) → OnOk result (Took takes start (whole ++ codes "\n]}") later)
+  pub held_to_end : {E : Type 0} (result : Result (Unit {0}) E) (start sink later : W) (whole rest : List ℕ) (old : String Global) → IsPending takes start whole sink old → rest ≡ string_bytes old ++ codes "\n]}" → OnOk result (Took takes sink rest later) → OnOk result (Took takes start (whole ++ codes "\n]}") later)
   held_to_end (Ok done) start sink later whole rest old held ends took = held_all start sink later whole rest old held ends took
   held_to_end (Err stop) start sink later whole rest old held ends took = tt
 
@@ -85,8 +85,8 @@ places_then : (symbols : List Named) (places : List Place) → item_lines true (
 unfolding place_line
 places_then symbols [] = refl
 places_then symbols (p ∷ places) =
-    by_line p (symbol_at symbols p) (place_items symbols places)
-    ∙ ap (λ (x : List ℕ). line_by p (symbol_at symbols p) ++ x) (places_then symbols places)
+    by_line p (place_symbol symbols p) (place_items symbols places)
+    ∙ ap (λ (x : List ℕ). line_by p (place_symbol symbols p) ++ x) (places_then symbols places)
     ∙ sym (append_assoc (place_line symbols p) (place_lines symbols places) (codes "\n]"))
 
 records_written : (rs : List Record) (more : Items) → item_lines true (records_then rs more) ≡ record_lines rs ++ item_lines true more
@@ -132,7 +132,7 @@ place_numbers (Some symbol) p more fits rest =
 
 places_numbers : (symbols : List Named) (places : List Place) → AllByRecursion FitsPlace places → ItemsHaveNumbers (place_items symbols places)
 places_numbers symbols [] fits = tt
-places_numbers symbols (p ∷ places) fits = place_numbers (symbol_at symbols p) p (place_items symbols places) fits.0 (places_numbers symbols places fits.1)
+places_numbers symbols (p ∷ places) fits = place_numbers (place_symbol symbols p) p (place_items symbols places) fits.0 (places_numbers symbols places fits.1)
 
 records_numbers : (rs : List Record) (more : Items) → ItemsHaveNumbers (record_items rs) → ItemsHaveNumbers more → ItemsHaveNumbers (records_then rs more)
 records_numbers [] more have rest = rest
@@ -147,7 +147,7 @@ place_deep (Some symbol) p more rest = max-le (omega arith) rest
 
 places_deep : (symbols : List Named) (places : List Place) → items_depth (place_items symbols places) ≤ 3
 places_deep symbols [] = omega arith
-places_deep symbols (p ∷ places) = place_deep (symbol_at symbols p) p (place_items symbols places) (places_deep symbols places)
+places_deep symbols (p ∷ places) = place_deep (place_symbol symbols p) p (place_items symbols places) (places_deep symbols places)
 
 members_deep : (track : Track) (detail : Detail) → members_depth (note_members track detail) ≤ 1
 members_deep track ProcessName = omega arith
@@ -179,7 +179,7 @@ placed_is_json changes symbols places fits all =
 
 module _ {W : Type 0} (takes : W → Writing → List ℕ → W → Type 0) where
   -- a trace that was told so far holds the start and the lines of its records
-  pub held_of : (start sink : W) (trace : Trace) (told : List Change) → Tells takes start told sink trace → Holds takes start (start_text ++ record_lines (records_of no_spans (in_order 0 told))) sink trace.text
+  pub held_of : (start sink : W) (trace : Trace) (told : List Change) → Tells takes start told sink trace → IsPending takes start (start_text ++ record_lines (records_of no_spans (in_order 0 told))) sink trace.text
   held_of start sink trace told tells = record { sunk = tells.sunk; took = tells.took; text = tells.text }
 
   pub placed : {E : Type 0} (result : Result (Unit {0}) E) (start sink : W) (changes : List Change) (symbols : List Named) (places : List Place) → AreFitting changes → All FitsPlace places

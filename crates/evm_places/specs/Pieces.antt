@@ -4,7 +4,7 @@ use Rattle.json.specs.Print.{quoted}
 use Rattle.evm_json.specs.Text.{shown}
 use Rattle.evm_text.specs.Written.{decimal}
 
-unfoldable pub line_text : ℕ → ℕ → List ℕ → List ℕ
-line_text thread at name =
+unfoldable pub place_pieces : ℕ → ℕ → List ℕ → List ℕ
+place_pieces thread at name =
     codes ",\n{\"ph\":\"i\",\"pid\":2,\"tid\":" ++ decimal thread ++ codes ",\"ts\":" ++ decimal at ++ codes ",\"name\":" ++ quoted (shown name)
     ++ codes ",\"s\":\"t\"}"

@@ -31,7 +31,7 @@ abbrev pub FitsPlace : Place → Type 0
 FitsPlace p = (p.task + 1 < 2 ^ 64) × (p.at < 2 ^ 64)
 
 -- What the sink took and what is still to be written are together this text.
-pub record Holds {W : Type 0} (takes : W → Writing → List ℕ → W → Type 0) (start : W) (whole : List ℕ) (sink : W) (kept : String Global) : Type 0 where
+pub record IsPending {W : Type 0} (takes : W → Writing → List ℕ → W → Type 0) (start : W) (whole : List ℕ) (sink : W) (kept : String Global) : Type 0 where
   pub sunk : List ℕ
   pub took : Took takes start sunk sink
   pub text : sunk ++ string_bytes kept ≡ whole

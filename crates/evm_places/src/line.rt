@@ -4,8 +4,8 @@ ghost use Rattle.std.specs.Prelude.{◌≡◌, ◌++◌, codes, IfOk, OnOk, Opti
 ghost use Rattle.std.specs.String.{string_bytes};
 ghost use Rattle.evm_text.specs.Appending.{Appends};
 ghost use Rattle.evm_text.specs.Written.{hexadecimal};
-ghost use Rattle.evm_places.specs.Places.{doing_text, offset_text, place_text, place_line, line_by, symbol_at};
-ghost use Rattle.evm_places.specs.Pieces.{line_text};
+ghost use Rattle.evm_places.specs.Places.{doing_text, distance_text, place_words, place_line, line_by, place_symbol};
+ghost use Rattle.evm_places.specs.Pieces.{place_pieces};
 
 use crate::place::{Doing, Place};
 use evm_json::push_quoted;
@@ -41,7 +41,7 @@ fn push_distance(out: &mut String, offset: u64) -> Result<(), Refused>
 }
 
 fn push_offset(out: &mut String, offset: u64) -> Result<(), Refused>
-    ensures { Appends (offset_text offset) out.old out.new result }
+    ensures { Appends (distance_text offset) out.old out.new result }
 {
     if offset == 0 {
         Ok(())
@@ -52,7 +52,7 @@ fn push_offset(out: &mut String, offset: u64) -> Result<(), Refused>
 
 // What a task does, and the symbol with the offset.
 fn name_of(alloc: Global, doing: Doing, name: &str, offset: u64) -> Result<String, Refused>
-    ensures { IfOk result (λ text. string_bytes text ≡ place_text doing (name.now, offset)) }
+    ensures { IfOk result (λ text. string_bytes text ≡ place_words doing (name.now, offset)) }
 {
     let mut text = String::new(alloc);
     push_doing(&mut text, doing)?;
@@ -61,9 +61,9 @@ fn name_of(alloc: Global, doing: Doing, name: &str, offset: u64) -> Result<Strin
     Ok(text)
 }
 
-#[tactic(auto, unfolding(crate::specs::Pieces::line_text))]
+#[tactic(auto, unfolding(crate::specs::Pieces::place_pieces))]
 fn push_line(out: &mut String, thread: u64, at: u64, name: &[u8]) -> Result<(), Refused>
-    ensures { OnOk result (string_bytes out.new ≡ string_bytes out.old ++ line_text thread at name.now) }
+    ensures { OnOk result (string_bytes out.new ≡ string_bytes out.old ++ place_pieces thread at name.now) }
 {
     push_text(out, ",\n{\"ph\":\"i\",\"pid\":2,\"tid\":")?;
     push_decimal(out, thread)?;

@@ -5,7 +5,7 @@ ghost use Rattle.std.specs.String.{string_bytes};
 ghost use Rattle.evm_streams.specs.Writes.{Took};
 ghost use Rattle.evm_tracks.specs.Telling.{IsTelling};
 ghost use Rattle.evm_places.specs.Places.{place_line, place_lines};
-ghost use Rattle.evm_places.specs.Placed.{FitsPlace, Holds, IsPlaced};
+ghost use Rattle.evm_places.specs.Placed.{FitsPlace, IsPending, IsPlaced};
 
 use crate::line::push_place;
 use crate::place::Place;
@@ -34,7 +34,7 @@ fn flush<W: Sink>(text: &mut String, sink: &mut W) -> Result<(), WriteFault>
 
 // Writes what is kept, if that is much.
 fn write_kept<W: Sink>(text: &mut String, sink: &mut W) -> Result<(), TraceStop>
-    ensures { (start : W) (whole : List ℕ) → Holds W.takes start whole sink.old text.old → OnOk result (Holds W.takes start whole sink.new text.new) }
+    ensures { (start : W) (whole : List ℕ) → IsPending W.takes start whole sink.old text.old → OnOk result (IsPending W.takes start whole sink.new text.new) }
 {
     if text.len() < KEPT {
         return Ok(());
@@ -52,7 +52,7 @@ fn write_place<W: Sink>(
     place: &Place,
     sink: &mut W,
 ) -> Result<(), TraceStop>
-    ensures { (start : W) (whole : List ℕ) → Holds W.takes start whole sink.old text.old → OnOk result (Holds W.takes start (whole ++ place_line symbols.now.symbols place.now) sink.new text.new) }
+    ensures { (start : W) (whole : List ℕ) → IsPending W.takes start whole sink.old text.old → OnOk result (IsPending W.takes start (whole ++ place_line symbols.now.symbols place.now) sink.new text.new) }
 {
     match push_place(alloc, text, symbols, place) {
         Ok(()) => write_kept(text, sink),
@@ -67,7 +67,7 @@ fn write_places<W: Sink>(
     places: &[Place],
     sink: &mut W,
 ) -> Result<(), TraceStop>
-    ensures { (start : W) (whole : List ℕ) → Holds W.takes start whole sink.old text.old → OnOk result (Holds W.takes start (whole ++ place_lines symbols.now.symbols places.now) sink.new text.new) }
+    ensures { (start : W) (whole : List ℕ) → IsPending W.takes start whole sink.old text.old → OnOk result (IsPending W.takes start (whole ++ place_lines symbols.now.symbols places.now) sink.new text.new) }
 {
     for place in places {
         match write_place(alloc, text, symbols, place, sink) {
@@ -90,7 +90,7 @@ fn write_rest<W: Sink>(text: &mut String, sink: &mut W) -> Result<(), TraceStop>
 
 // Ends the file.
 fn write_end<W: Sink>(text: &mut String, sink: &mut W) -> Result<(), TraceStop>
-    ensures { (start : W) (whole : List ℕ) → Holds W.takes start whole sink.old text.old → OnOk result (Took W.takes start (whole ++ codes "\n]}") sink.new) }
+    ensures { (start : W) (whole : List ℕ) → IsPending W.takes start whole sink.old text.old → OnOk result (Took W.takes start (whole ++ codes "\n]}") sink.new) }
 {
     match push_text(text, "\n]}") {
         Ok(()) => write_rest(text, sink),
@@ -105,7 +105,7 @@ fn write_to_end<W: Sink>(
     places: &[Place],
     sink: &mut W,
 ) -> Result<(), TraceStop>
-    ensures { (start : W) (whole : List ℕ) → Holds W.takes start whole sink.old text.old → OnOk result (Took W.takes start ((whole ++ place_lines symbols.now.symbols places.now) ++ codes "\n]}") sink.new) }
+    ensures { (start : W) (whole : List ℕ) → IsPending W.takes start whole sink.old text.old → OnOk result (Took W.takes start ((whole ++ place_lines symbols.now.symbols places.now) ++ codes "\n]}") sink.new) }
 {
     match write_places(alloc, text, symbols, places, sink) {
         Ok(()) => write_end(text, sink),

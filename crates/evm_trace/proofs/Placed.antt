@@ -6,12 +6,12 @@ use Rattle.std.proofs.lemmas.List.{take_more}
 use Rattle.evm_exec.specs.declared.hart.Hart.{Hart}
 use Rattle.evm_places.specs.declared.place.Place.{Place}
 use Rattle.evm_timeline.specs.declared.mark.Mark.{Mark}
-use Rattle.evm_trace.specs.Spots.{places_of}
+use Rattle.evm_trace.specs.Spots.{spots_of}
 
 pub placed_more : (harts : List Hart) (at : ℕ) (marks : List Mark) (i : ℕ) (d : Mark) (old so_far new : List Place) → i < length marks
-    → so_far ≡ old ++ flat_map (places_of harts at) (take i marks) → new ≡ so_far ++ places_of harts at (get_or marks i d) → new ≡ old ++ flat_map (places_of harts at) (take (i + 1) marks)
+    → so_far ≡ old ++ flat_map (spots_of harts at) (take i marks) → new ≡ so_far ++ spots_of harts at (get_or marks i d) → new ≡ old ++ flat_map (spots_of harts at) (take (i + 1) marks)
 placed_more harts at marks i d old so_far new below before one =
-    let f = places_of harts at in
+    let f = spots_of harts at in
     let front = take i marks in
     let m = get_or marks i d in
     let next : take (i + 1) marks ≡ front ++ m ∷ [] = take_more marks i d below in

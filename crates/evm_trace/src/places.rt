@@ -1,7 +1,7 @@
 //! The places that are told of each event.
 
 ghost use Rattle.std.specs.Prelude.{◌≡◌, ◌++◌, OnOk, flat_map, slice_get};
-ghost use Rattle.evm_trace.specs.Spots.{place_at, owner_place, places_of};
+ghost use Rattle.evm_trace.specs.Spots.{spot_of, owner_place, spots_of};
 
 use evm_devs::AnyDevice;
 use evm_places::{Doing, Place};
@@ -20,7 +20,7 @@ fn place(
     doing: Doing,
     back: u64,
 ) -> Result<(), Refused>
-    ensures { OnOk result (list.new.items ≡ list.old.items ++ place_at task at doing back (slice_get machine.now.board.parts.harts task)) }
+    ensures { OnOk result (list.new.items ≡ list.old.items ++ spot_of task at doing back (slice_get machine.now.board.parts.harts task)) }
 {
     match machine.hart(task) {
         None => Ok(()),
@@ -58,7 +58,7 @@ fn place_mark(
     mark: &Mark,
     at: u64,
 ) -> Result<(), Refused>
-    ensures { OnOk result (list.new.items ≡ list.old.items ++ places_of machine.now.board.parts.harts at mark.now) }
+    ensures { OnOk result (list.new.items ≡ list.old.items ++ spots_of machine.now.board.parts.harts at mark.now) }
 {
     match mark {
         Mark::Created { task } => place(list, machine, *task, at, Doing::Begins, 0),
@@ -89,7 +89,7 @@ pub(crate) fn place_marks(
     marks: &[Mark],
     at: u64,
 ) -> Result<(), Refused>
-    ensures { OnOk result (list.new.items ≡ list.old.items ++ flat_map (places_of machine.now.board.parts.harts at) marks.now) }
+    ensures { OnOk result (list.new.items ≡ list.old.items ++ flat_map (spots_of machine.now.board.parts.harts at) marks.now) }
 {
     for mark in marks {
         place_mark(list, machine, mark, at)?;

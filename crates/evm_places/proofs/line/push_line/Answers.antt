@@ -4,12 +4,12 @@ use Rattle.std.specs.String.{string_bytes}
 use Rattle.json.specs.Print.{quoted}
 use Rattle.evm_json.specs.Text.{shown}
 use Rattle.evm_text.specs.Written.{decimal}
-use Rattle.evm_places.specs.Pieces.{line_text}
+use Rattle.evm_places.specs.Pieces.{place_pieces}
 use Rattle.evm_places.proofs.Lines.{more, last}
 use Rattle.evm_places.proofs.line.push_line.Goals as goal
 
 pub returns : goal.returns
-unfolding line_text
+unfolding place_pieces
 returns c =
     let old = string_bytes c.args.out.now in
     let t1 = string_bytes c.push_text.new.out in
