@@ -9,6 +9,7 @@ ghost use Rattle.evm_hunt.specs.Searches.{is_failed};
 use crate::found::{Found, Tried, replayed, try_schedule};
 use crate::key::Key;
 use crate::listing::events_of;
+use crate::onlooker::Onlooker;
 use crate::ordering::{Cycle, Orders};
 use crate::shortening::{Stop, shorten};
 use evm_image::Image;
@@ -315,17 +316,19 @@ fn look(
 /// # Errors
 ///
 /// Memory was refused, or no machine boots with the image.
-pub fn hunt(
+pub fn hunt<O: Onlooker>(
     alloc: Global,
     image: &Image,
     boot: &Boot,
     watch: &Watch,
     plan: &Plan,
+    onlooker: &mut O,
 ) -> Result<Report, Stop>
     ensures { IfOk result (λ report. IsShown image.now boot.now watch.now.lines report.shortest) }
 {
     let mut report = Report::new(alloc, plan.orders);
     'seeds: for seed in plan.first..=plan.last {
+        onlooker.looked(report.schedules, report.rows.len() as u64);
         match look(alloc, image, boot, watch, plan.way, seed, &mut report) {
             Ok(()) => {}
             Err(stop) => return Err(stop),

@@ -2,9 +2,10 @@
 
 use crate::hunting::{Report, Row, Span};
 use crate::key::Key;
-use evm_journal::{push_decimal, push_hexadecimal_padded};
+use evm_journal::push_decimal;
 use evm_room::{NoMemory, Refused, push_text};
 use evm_symbols::Symbols;
+use evm_text::push_hexadecimal;
 use std::alloc::Global;
 
 // Whether a name has only printable characters of ASCII, and no blank.
@@ -14,14 +15,14 @@ fn is_plain(name: &str) -> bool {
 
 // Appends an address, and the symbol that it belongs to: `80000010 (main+0x8)`.
 fn push_place(out: &mut String, place: u64, symbols: &Symbols) -> Result<(), Refused> {
-    push_hexadecimal_padded(out, 8, place)?;
+    push_hexadecimal(out, place)?;
     match symbols.at(place) {
         Some((name, offset)) if is_plain(name) => {
             push_text(out, " (")?;
             push_text(out, name)?;
             if offset != 0 {
                 push_text(out, "+0x")?;
-                push_hexadecimal_padded(out, 1, offset)?;
+                push_hexadecimal(out, offset)?;
             }
             push_text(out, ")")
         }

@@ -92,8 +92,8 @@ impl Cut {
 }
 
 /// A list of events that fails alike and is no longer: chunks are left out, and then single events, as long as it still fails
-/// (Zeller and Hildebrandt, "Simplifying and isolating failure-inducing input", 2002). It is at most one event longer than needed if no
-/// more than 20,000 lists were tried.
+/// (Zeller and Hildebrandt, "Simplifying and isolating failure-inducing input", 2002). None of its events alone can be left out if
+/// no more than 20,000 lists were tried.
 ///
 /// # Errors
 ///

@@ -15,6 +15,7 @@ use crate::found::Tried;
 use crate::going::go_on;
 use crate::hunting::{Report, note};
 use crate::marks::Marks;
+use crate::onlooker::Onlooker;
 use crate::shortening::Stop;
 use crate::walking::begin_with;
 use crate::watching::Watcher;
@@ -147,12 +148,13 @@ fn is_cut(queue: &Queue, place: u64) -> bool
 /// # Errors
 ///
 /// Memory was refused, or no machine boots with the image.
-pub fn hunt_all(
+pub fn hunt_all<O: Onlooker>(
     alloc: Global,
     image: &Image,
     boot: &Boot,
     watch: &Watch,
     bounds: &Switching,
+    onlooker: &mut O,
 ) -> Result<Report, Stop>
     ensures shown { IfOk result (λ report. IsShown image.now boot.now watch.now.lines report.shortest) }
     // if it has found none, and there were no more schedules than may be looked at, no schedule fails
@@ -169,6 +171,7 @@ pub fn hunt_all(
     };
     let mut walked = Vec::new(alloc);
     'places: for place in 0..bounds.schedules {
+        onlooker.looked(place, report.rows.len() as u64);
         let Some(branch) = queue.get(place) else {
             report.set_cut(is_cut(&queue, place));
             return Ok(report);

@@ -1,5 +1,6 @@
 //! A run of the program, from its words to its exit status.
 
+use crate::progress::Progress;
 use crate::words::{Options, Search, options_of, parse};
 use clap::Error;
 use clap::error::ErrorKind;
@@ -9,8 +10,8 @@ use evm_host::{
     words_not_read, words_of, write_all,
 };
 use evm_hunt::{
-    BeginFault, Found, Plan, Report, Span, Stop, Switching, Way, first_length, hunt, hunt_all,
-    journal_text, report_text, script_text,
+    BeginFault, Found, Onlooker, Plan, Report, Span, Stop, Switching, Way, first_length, hunt,
+    hunt_all, journal_text, report_text, script_text,
 };
 use evm_image::Image;
 use evm_symbols::Symbols;
@@ -138,11 +139,12 @@ fn stopped<S: System>(path: &str, stop: Stop, world: &mut World<S>) -> u8 {
 }
 
 // Looks at schedules that are chosen by seeds.
-fn hunt_seeds(
+fn hunt_seeds<O: Onlooker>(
     alloc: Global,
     options: &Options<'_>,
     image: &Image,
     points: Option<u8>,
+    onlooker: &mut O,
 ) -> Result<Report, Stop> {
     let way = match points {
         None => Way::Random,
@@ -157,21 +159,33 @@ fn hunt_seeds(
         last: options.last,
         orders: options.orders,
     };
-    hunt(alloc, image, &options.boot, &options.watch, &plan)
+    hunt(alloc, image, &options.boot, &options.watch, &plan, onlooker)
 }
 
 // Looks at the schedules of the options.
-fn hunt_by(alloc: Global, options: &Options<'_>, image: &Image) -> Result<Report, Stop> {
+fn hunt_by<O: Onlooker>(
+    alloc: Global,
+    options: &Options<'_>,
+    image: &Image,
+    onlooker: &mut O,
+) -> Result<Report, Stop> {
     match options.search {
-        Search::Random => hunt_seeds(alloc, options, image, None),
-        Search::Pct(points) => hunt_seeds(alloc, options, image, Some(points)),
+        Search::Random => hunt_seeds(alloc, options, image, None, onlooker),
+        Search::Pct(points) => hunt_seeds(alloc, options, image, Some(points), onlooker),
         Search::All(switches) => {
             let bounds = Switching {
                 switches,
                 schedules: options.most,
                 orders: options.orders,
             };
-            hunt_all(alloc, image, &options.boot, &options.watch, &bounds)
+            hunt_all(
+                alloc,
+                image,
+                &options.boot,
+                &options.watch,
+                &bounds,
+                onlooker,
+            )
         }
     }
 }
@@ -192,25 +206,33 @@ fn symbols_at<S: System>(alloc: Global, path: &str, world: &mut World<S>) -> Res
 }
 
 // Hunts in an image.
-fn hunt_in<S: System>(
+fn hunt_in<S: System, O: Onlooker>(
     alloc: Global,
     options: &Options<'_>,
     image: &Image,
     symbols: &Symbols,
+    onlooker: &mut O,
     world: &mut World<S>,
 ) -> u8 {
     let span = match options.search {
         Search::Random | Search::Pct(_) => Span::Seeds(options.first, options.last),
         Search::All(switches) => Span::Switches(switches),
     };
-    match hunt_by(alloc, options, image) {
+    let hunted = hunt_by(alloc, options, image, onlooker);
+    onlooker.ended();
+    match hunted {
         Ok(report) => tell(alloc, options, span, &report, symbols, world),
         Err(stop) => stopped(options.image, stop, world),
     }
 }
 
 /// Does what the words ask for, and returns the exit status.
-pub fn answer<S: System>(alloc: Global, words: &[String], world: &mut World<S>) -> u8 {
+pub fn answer<S: System, O: Onlooker>(
+    alloc: Global,
+    words: &[String],
+    onlooker: &mut O,
+    world: &mut World<S>,
+) -> u8 {
     let matches = match parse(alloc, words) {
         Ok(matches) => matches,
         Err(error) => return refuse(alloc, &error, world),
@@ -223,7 +245,7 @@ pub fn answer<S: System>(alloc: Global, words: &[String], world: &mut World<S>) 
         Err(status) => return status,
     };
     match symbols_at(alloc, options.image, world) {
-        Ok(symbols) => hunt_in(alloc, &options, &image, &symbols, world),
+        Ok(symbols) => hunt_in(alloc, &options, &image, &symbols, onlooker, world),
         Err(status) => status,
     }
 }
@@ -231,8 +253,9 @@ pub fn answer<S: System>(alloc: Global, words: &[String], world: &mut World<S>) 
 /// Runs the program on the words of its command line, and returns the exit status.
 pub fn run(rt: &HostRuntime) -> u8 {
     let mut world = host_world(rt);
+    let mut progress = Progress::new(rt);
     match words_of(rt) {
-        Ok(words) => answer(rt.alloc(), words.as_slice(), &mut world),
+        Ok(words) => answer(rt.alloc(), words.as_slice(), &mut progress, &mut world),
         Err(WordsFault::NotText) => words_not_read(PROGRAM, &mut world),
         Err(WordsFault::NoMemory) => memory_refused(PROGRAM, &mut world),
     }

@@ -3,8 +3,11 @@
 
 mod command;
 mod help;
+mod progress;
 mod words;
 
 pub use command::{answer, run};
-pub use evm_host::host_world;
+pub use evm_host::{OpenFault, System, World, host_world};
+pub use evm_hunt::Onlooker;
+pub use progress::Progress;
 pub use words::{Options, Search};

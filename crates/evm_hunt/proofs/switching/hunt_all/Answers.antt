@@ -7,7 +7,7 @@ use Rattle.evm_switches.specs.Searches.{IsPassed, IsSearched}
 use Rattle.evm_hunt.proofs.switching.hunt_all.Goals as goal
 
 pub places-preserved : goal.places-preserved
-places-preserved c =
+places-preserved g c =
     let all = c.places.invariant in
     let longer = c.in-Ok-push.ensures.items in
     let counted : length c.push.new.self.items ≡ c.places.place + 1 = ap length longer ∙ (length_push c.places.walked.items c.in-Ok-look_at.steps ∙ ap (λ (n : ℕ). n + 1) all.2) in (
@@ -24,14 +24,14 @@ places-preserved c =
     )
 
 pub returns-in_default-clause-complete : goal.returns-in_default-clause-complete
-returns-in_default-clause-complete c empty uncut =
+returns-in_default-clause-complete g c empty uncut =
     let known = c.is_cut.ensures (sym c.set_cut.ensures.cut ∙ uncut) in
     let same : c.places.report.rows.items ≡ [] = subst (λ r. r.items ≡ []) c.set_cut.ensures.rows empty in
     searched-all c.args.image.now c.args.boot.now c.args.watch.now c.args.bounds.now.switches c.places.queue.branches.items c.places.walked.items c.places.place c.places.invariant.1 known.1
     (λ first begins. c.places.invariant.3 same known.0 first begins)
 
 pub returns-clause-complete : goal.returns-clause-complete
-returns-clause-complete c empty uncut =
+returns-clause-complete g c empty uncut =
     let known = c.is_cut-2.ensures (sym c.set_cut-2.ensures.cut ∙ uncut) in
     let same : c.places.report.rows.items ≡ [] = subst (λ r. r.items ≡ []) c.set_cut-2.ensures.rows empty in
     searched-all c.args.image.now c.args.boot.now c.args.watch.now c.args.bounds.now.switches c.places.queue.branches.items c.places.walked.items c.places.place c.places.invariant.1 (omega arith)

@@ -7,7 +7,7 @@ use Rattle.evm_schedules.specs.Beginning.{Begins}
 use Rattle.evm_hunt.proofs.switching.hunt_all.Given as goal
 
 abbrev pub invariant-places : goal.invariant-places
-invariant-places l =
+invariant-places g l =
     IsShown l.image l.boot l.watch.lines l.report.shortest
     × (slice_get l.queue.branches.items 0 ≡ Some (record { turns = record { items = [] }; cpu = 0 }))
     × (length l.walked.items ≡ l.place)
