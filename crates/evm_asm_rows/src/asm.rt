@@ -1,3 +1,5 @@
+//! Sources assembled: images, addresses and faults.
+
 use evm_asm::*;
 use std::test::Fail;
 

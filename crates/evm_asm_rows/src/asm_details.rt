@@ -1,3 +1,5 @@
+//! What a fault of a source quotes.
+
 use evm_asm::assemble;
 use evm_asm_details::*;
 use std::test::Fail;

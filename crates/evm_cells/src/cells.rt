@@ -243,7 +243,8 @@ fn keep(marks: &mut Vec<Shown>, found: &[Shown], before: u32) -> Result<u32, Ref
 impl Timeline {
     /// No cell. Takes no memory.
     pub fn new(alloc: Global, cpu_count: u8) -> Timeline
-        ensures { result.cells.items ≡ [] }
+        ensures cells { result.cells.items ≡ [] }
+        ensures count { result.cpu_count ≡ cpu_count }
     {
         Timeline {
             cpu_count,
@@ -255,7 +256,8 @@ impl Timeline {
 
     // Joins each two neighbouring cells.
     fn halve(&mut self, alloc: Global) -> Result<(), Refused>
-        ensures { (events : List Outline) (from to : ℕ) → to < 2 ^ 64 → IsRow events from self.old.cells.items to → OnOk result (IsRow events from self.new.cells.items to) }
+        ensures row { (events : List Outline) (from to : ℕ) → to < 2 ^ 64 → IsRow events from self.old.cells.items to → OnOk result (IsRow events from self.new.cells.items to) }
+        ensures count { self.new.cpu_count ≡ self.old.cpu_count }
     {
         let marks = halved_marks(alloc, self.cells.as_slice(), self.marks.as_slice())?;
         let cells = halved(alloc, self.cells.as_slice())?;
@@ -267,7 +269,8 @@ impl Timeline {
 
     // Joins them, where there are as many cells as there may be.
     fn bound(&mut self, alloc: Global) -> Result<(), Refused>
-        ensures { (events : List Outline) (from to : ℕ) → to < 2 ^ 64 → IsRow events from self.old.cells.items to → OnOk result (IsRow events from self.new.cells.items to) }
+        ensures row { (events : List Outline) (from to : ℕ) → to < 2 ^ 64 → IsRow events from self.old.cells.items to → OnOk result (IsRow events from self.new.cells.items to) }
+        ensures count { self.new.cpu_count ≡ self.old.cpu_count }
     {
         if self.cells.len() >= CELL_LIMIT {
             self.halve(alloc)
@@ -285,9 +288,10 @@ impl Timeline {
         lanes: &Lanes,
         found: &[Shown],
     ) -> Result<(), Refused>
-        ensures { (events : List Outline) (from : ℕ) → item.now.first + item.now.count < 2 ^ 64 → 0 < item.now.count
+        ensures row { (events : List Outline) (from : ℕ) → item.now.first + item.now.count < 2 ^ 64 → 0 < item.now.count
             → stretch events item.now.first item.now.count ≡ replicate item.now.count item.now.event → IsRow events from self.old.cells.items item.now.first
             → OnOk result (IsRow events from self.new.cells.items (item.now.first + item.now.count)) }
+        ensures count { self.new.cpu_count ≡ self.old.cpu_count }
     {
         let room = room_of(self.cells.as_slice(), self.span);
         let kept = keep(&mut self.marks, found, room.unwrap_or(0))?;

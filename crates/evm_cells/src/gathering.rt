@@ -110,7 +110,7 @@ fn skip<D: Device, M: Meter>(walk: &mut Walk<D>, from: u64, meter: &mut M) -> Re
 }
 
 /// The events of a window of a journal that is walked from its first event on, which come to a timeline: one cell behind the other, up
-/// to the event that the walk comes to next.
+/// to the event that the walk comes to next. Its lanes are the processors of the machine at which the walk began.
 ///
 /// # Errors
 ///
@@ -123,10 +123,12 @@ pub fn gather<D: Device, M: Meter>(
 ) -> Result<Timeline, WalkStop>
     requires { place walk.old ≡ 0 }
     ensures window { IfOk result (λ timeline. IsWindow window (map outline walk.old.events) timeline.cells.items) }
+    ensures lanes { IfOk result (λ timeline. timeline.cpu_count ≡ length walk.old.machine.board.parts.processors) }
     ensures follows { OnOk result (Follows walk.old walk.new) }
 {
+    let cpu_count = walk.machine().cpu_count();
     skip(walk, window.from.min(walk.event_count()), meter)?;
-    let mut timeline = Timeline::new(alloc, walk.look().cpu_count);
+    let mut timeline = Timeline::new(alloc, cpu_count);
     let mut found = Vec::new(alloc);
     let mut shown = Vec::new(alloc);
     let first = walk.next_event();

@@ -1,3 +1,5 @@
+//! Views of a machine and their texts.
+
 use evm_debug::*;
 use evm_devs::Pins;
 use evm_journal::{EventLine, Machine};

@@ -1,15 +1,13 @@
+//! Rows of the machine: events, commits, journals, views, and the machine under its lock.
 #![tactic(auto)]
 
 #[cfg(test)]
-#[cfg(test)]
-#[cfg(test)]
-#[cfg(test)]
-mod core;
-#[cfg(test)]
 mod debug;
+#[cfg(test)]
+mod event_lines;
 #[cfg(test)]
 mod journal;
 #[cfg(test)]
-mod journal_more;
+mod machine;
 #[cfg(test)]
 mod shared;

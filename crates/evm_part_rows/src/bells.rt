@@ -1,3 +1,5 @@
+//! Bells rung and taken, by seats.
+
 ghost use Rattle.std.specs.Prelude.{◌≡◌, ◌<◌, ◌≤◌};
 ghost use Rattle.std.specs.Thread.{IsSync};
 

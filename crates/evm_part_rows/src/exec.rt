@@ -1,3 +1,5 @@
+//! Instructions against the results of other emulators, and bursts.
+
 use evm_exec::{
     Access, Direction, Effect, Hart, access, effect, load_width, loaded, private, store_width,
     stored,

@@ -1,3 +1,5 @@
+//! Packets of the GDB remote protocol.
+
 use evm_gdb_packets::*;
 use std::alloc::Global;
 use std::test::Fail;

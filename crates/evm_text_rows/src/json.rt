@@ -1,3 +1,5 @@
+//! Strings and numbers as JSON.
+
 use evm_json::*;
 use std::alloc::Global;
 use std::process::Abort;

@@ -1,3 +1,5 @@
+//! Texts that are appended, and lines that are read.
+
 use evm_text::*;
 use std::process::Abort;
 use std::test::Fail;

@@ -7,10 +7,11 @@ use clap::error::ErrorKind;
 use evm_devs::AnyDevice;
 use evm_host::{
     Devices, Ending, FAILED, Known, Message, Sink, System, USAGE, Verdict, WordsFault, World,
-    ended, ended_with, failed_write_message, image_at, memory_refused, not_created, report,
-    text_at, words_not_read, write_all,
+    ended, ended_with, failed_write_message, image_at, memory_refused, not_created, not_opened,
+    not_read, read_all, report, text_at, words_not_read, write_all,
 };
 use evm_image::Image;
+use evm_places::Symbols;
 use evm_program::Meter;
 use std::alloc::Global;
 
@@ -92,26 +93,50 @@ fn out_name(out: &str) -> &str {
     }
 }
 
+/// The image and its symbols.
+#[derive(Clone, Copy)]
+struct Program<'a> {
+    image: &'a Image,
+    symbols: &'a Symbols,
+}
+
 // Traces a journal that was read, to OUT.
 fn trace_to_out<S: System, M: Meter>(
     alloc: Global,
     devices: Devices<AnyDevice>,
-    image: &Image,
+    program: Program<'_>,
     job: Job<'_>,
     journal: &str,
     meter: &mut M,
     world: &mut World<S>,
 ) -> u8 {
+    let Program { image, symbols } = program;
     if job.out == STANDARD_OUTPUT {
-        let outcome = trace_journal(alloc, image, devices, journal, meter, &mut world.output);
+        let out = &mut world.output;
+        let outcome = trace_journal(alloc, image, symbols, devices, journal, meter, out);
         return traced(image, job, journal, outcome, &mut world.errors);
     }
     match world.files.create(job.out) {
         Err(fault) => not_created(job.out, fault, &mut world.errors),
         Ok(mut file) => {
-            let outcome = trace_journal(alloc, image, devices, journal, meter, &mut file);
+            let outcome = trace_journal(alloc, image, symbols, devices, journal, meter, &mut file);
             traced(image, job, journal, outcome, &mut world.errors)
         }
+    }
+}
+
+// The symbols of a file that was read as an image before.
+fn symbols_at<S: System>(alloc: Global, path: &str, world: &mut World<S>) -> Result<Symbols, u8> {
+    let mut file = match world.files.open(path) {
+        Ok(file) => file,
+        Err(fault) => return Err(not_opened(path, fault, &mut world.errors)),
+    };
+    match read_all(alloc, &mut file) {
+        Ok(bytes) => match Symbols::read(alloc, bytes.as_slice()) {
+            Ok(symbols) => Ok(symbols),
+            Err(_) => Err(out_of_memory(world)),
+        },
+        Err(stop) => Err(not_read(stop, path, world)),
     }
 }
 
@@ -127,8 +152,16 @@ fn trace<S: System, M: Meter>(
         Ok(image) => image,
         Err(status) => return status,
     };
+    let symbols = match symbols_at(alloc, job.image, world) {
+        Ok(symbols) => symbols,
+        Err(status) => return status,
+    };
+    let program = Program {
+        image: &image,
+        symbols: &symbols,
+    };
     match text_at(alloc, job.journal, world) {
-        Ok(journal) => trace_to_out(alloc, devices, &image, job, journal.as_str(), meter, world),
+        Ok(journal) => trace_to_out(alloc, devices, program, job, journal.as_str(), meter, world),
         Err(status) => status,
     }
 }

@@ -4,6 +4,7 @@
 mod changes;
 mod command;
 mod help;
+mod places;
 mod program;
 mod states;
 mod tracing;

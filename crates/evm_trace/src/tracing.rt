@@ -1,16 +1,18 @@
 //! A journal's run, told as a trace.
 
 ghost use Rattle.std.specs.Prelude.{OnOk};
-ghost use Rattle.evm_tracks.specs.Telling.{IsTraced};
+ghost use Rattle.evm_places.specs.Placed.{IsPlacedSomewhere};
 
 use crate::changes::Changes;
+use crate::places::{place_marks, place_tasks};
 use evm_devs::AnyDevice;
 use evm_image::Image;
+use evm_places::{Place, Placer, Symbols, trace_places};
 use evm_program::Meter;
 use evm_room::Refused;
 use evm_streams::{Sink, WriteFault};
 use evm_timeline::{Devices, InputFault, Mark, Walk, WalkStop};
-use evm_tracks::{Change, RunStop, Teller, Told, TraceStop, trace_run};
+use evm_tracks::{Change, RunStop, Teller, Told, TraceStop};
 use std::alloc::Global;
 
 /// Why a run is not traced to its end.
@@ -39,6 +41,9 @@ struct Telling<'m, M: Meter> {
     walk: Walk<AnyDevice>,
     changes: Changes,
     marks: Vec<Mark>,
+    // where tasks are when something happens, if the image has symbols
+    places: Vec<Place>,
+    named: bool,
     stage: Stage,
     fault: Option<InputFault>,
     meter: &'m mut M,
@@ -52,6 +57,23 @@ fn told(outcome: Result<(), Refused>) -> Told {
 }
 
 impl<M: Meter> Telling<'_, M> {
+    // Tells the event at a tick, whose marks were found.
+    fn event(&mut self, list: &mut Vec<Change>, at: u64) -> Result<(), Refused> {
+        let marks = self.marks.as_slice();
+        if self.named {
+            place_marks(&mut self.places, self.walk.machine(), marks, at)?;
+        }
+        self.changes.event(list, self.walk.look(), marks, at)
+    }
+
+    // Tells what is seen before the first event.
+    fn first(&mut self, list: &mut Vec<Change>) -> Result<(), Refused> {
+        if self.named {
+            place_tasks(&mut self.places, self.walk.machine())?;
+        }
+        self.changes.begin(list, self.walk.look())
+    }
+
     // The next event, or the next run of Steps that change only registers and RAM.
     fn walk_on(&mut self, list: &mut Vec<Change>) -> Told {
         self.meter.passed(self.walk.next_event());
@@ -66,20 +88,13 @@ impl<M: Meter> Telling<'_, M> {
                 Told::Changes
             }
             Ok(Some(item)) if item.quiet => Told::Changes,
-            Ok(Some(item)) => {
-                let marks = self.marks.as_slice();
-                told(
-                    self.changes
-                        .event(list, self.walk.look(), marks, item.first),
-                )
-            }
+            Ok(Some(item)) => told(self.event(list, item.first)),
         }
     }
 
-    // Tells what is seen before the first event.
     fn begin(&mut self, list: &mut Vec<Change>) -> Told {
         self.stage = Stage::Goes;
-        told(self.changes.begin(list, self.walk.look()))
+        told(self.first(list))
     }
 
     // Tells the end, behind the last one.
@@ -105,6 +120,12 @@ impl<M: Meter> Teller for Telling<'_, M> {
     }
 }
 
+impl<M: Meter> Placer for Telling<'_, M> {
+    fn places(&self) -> &[Place] {
+        self.places.as_slice()
+    }
+}
+
 // Why a run stopped, with the fault that the walk met.
 fn end_of(stop: RunStop, fault: Option<InputFault>) -> TraceEnd {
     match (stop, fault) {
@@ -118,10 +139,11 @@ fn trace_walk<W: Sink, M: Meter>(
     alloc: Global,
     walk: Walk<AnyDevice>,
     changes: Changes,
+    symbols: &Symbols,
     meter: &mut M,
     sink: &mut W,
 ) -> Result<(), TraceEnd>
-    ensures { OnOk result (IsTraced W.takes sink.old sink.new) }
+    ensures { OnOk result (IsPlacedSomewhere W.takes sink.old symbols.now.symbols sink.new) }
 {
     // The begin, the end, and that there is no more are a call each.
     let calls = walk.event_count().saturating_add(4);
@@ -129,11 +151,13 @@ fn trace_walk<W: Sink, M: Meter>(
         walk,
         changes,
         marks: Vec::new(alloc),
+        places: Vec::new(alloc),
+        named: !symbols.symbols().is_empty(),
         stage: Stage::Begins,
         fault: None,
         meter,
     };
-    let outcome = trace_run(alloc, &mut telling, calls, sink);
+    let outcome = trace_places(alloc, &mut telling, calls, symbols, sink);
     telling.meter.ended();
     match outcome {
         Ok(()) => Ok(()),
@@ -141,7 +165,8 @@ fn trace_walk<W: Sink, M: Meter>(
     }
 }
 
-/// Traces the run of a journal, on a machine with the devices and the image, to a sink. The meter gets the events.
+/// Traces the run of a journal, on a machine with the devices and the image, to a sink, with places by the symbols. The meter gets
+/// the events.
 ///
 /// # Errors
 ///
@@ -149,12 +174,13 @@ fn trace_walk<W: Sink, M: Meter>(
 pub fn trace_journal<W: Sink, M: Meter>(
     alloc: Global,
     image: &Image,
+    symbols: &Symbols,
     devices: Devices<AnyDevice>,
     journal: &str,
     meter: &mut M,
     sink: &mut W,
 ) -> Result<(), TraceEnd>
-    ensures { OnOk result (IsTraced W.takes sink.old sink.new) }
+    ensures { OnOk result (IsPlacedSomewhere W.takes sink.old symbols.now.symbols sink.new) }
 {
     let walk = match Walk::start(alloc, image, devices, journal) {
         Ok(walk) => walk,
@@ -162,7 +188,7 @@ pub fn trace_journal<W: Sink, M: Meter>(
         Err(WalkStop::NoMemory) => return Err(TraceEnd::NoMemory),
     };
     match Changes::new(alloc) {
-        Ok(changes) => trace_walk(alloc, walk, changes, meter, sink),
+        Ok(changes) => trace_walk(alloc, walk, changes, symbols, meter, sink),
         Err(_) => Err(TraceEnd::NoMemory),
     }
 }

@@ -1,15 +1,9 @@
-use Rattle.std.proofs.Common.{◌≡◌, ◌≤◌, length, map}
-use Rattle.std.specs.Prelude.{max}
-use Rattle.evm_cells.specs.Rows.{IsRow}
-use Rattle.evm_timeline.specs.Items.{outline}
-use Rattle.evm_timeline.specs.Walks.{Follows, place}
+use Rattle.std.proofs.Common.{◌≡◌, length}
+use Rattle.evm_cells.proofs.WindowLemmas.{Comes}
 use Rattle.evm_cells.proofs.gathering.gather.Given as goal
 
--- the cells tell of the events so far
+-- the cells tell of the events so far, and the lanes are the processors of the first machine
 abbrev pub invariant-loop-event : goal.invariant-loop-event
 invariant-loop-event g l =
-    IsRow (map outline l.fn.walk.events) l.first l.timeline.cells.items (place l.walk)
-    × Follows l.fn.walk l.walk
-    × (l._event ≤ place l.walk)
-    × (place l.walk ≤ max l.first l.fn.window.to)
-    × (place l.walk ≤ length l.walk.events)
+    Comes l.fn.walk l.walk l.first l.fn.window.to l._event l.timeline.cells.items
+    × (l.timeline.cpu_count ≡ length l.fn.walk.machine.board.parts.processors)

@@ -1,0 +1,54 @@
+-- Places: what a task does, and where in the program, by the image's symbols.
+use Rattle.std.specs.Prelude.{ℕ, ◌==◌, if◌then◌else◌, List, [], ◌∷◌, ◌++◌, Option, Some, None, codes, flat_map}
+use Rattle.json.specs.Json.{Json, Items, no_items, item, no_members}
+use Rattle.evm_json.specs.Text.{text, shown}
+use Rattle.evm_symbols.specs.Named.{Named}
+use Rattle.evm_symbols.specs.Nearest.{place_of, said}
+use Rattle.evm_text.specs.Written.{decimal, hexadecimal}
+use Rattle.evm_tracks.specs.Entries.{entry, word}
+use Rattle.evm_tracks.specs.declared.track.Track.TheVariants.{Task}
+use Rattle.evm_places.specs.declared.place.Doing.{Doing}
+use Rattle.evm_places.specs.declared.place.Doing.TheVariants.{Begins, Runs, Waits, Locks}
+use Rattle.evm_places.specs.declared.place.Place.{Place}
+
+abbrev pub doing_text : Doing → List ℕ
+doing_text Begins = codes "begins at "
+doing_text Runs = codes "runs at "
+doing_text Waits = codes "waits at "
+doing_text (Locks m) = codes "locks mutex " ++ (decimal m ++ codes " at ")
+
+abbrev pub distance_text : ℕ → List ℕ
+distance_text offset = if offset == 0 then [] else codes "+0x" ++ hexadecimal offset
+
+-- what the task does, and the symbol with the offset
+abbrev pub place_words : Doing → List ℕ × ℕ → List ℕ
+place_words doing symbol = doing_text doing ++ (symbol.0 ++ distance_text symbol.1)
+
+-- the instant of a place on the track of its task
+abbrev pub place_json : Place → List ℕ × ℕ → Json
+place_json p symbol = entry (codes "i") (Task p.task) p.at (word (codes "name") (shown (place_words p.doing symbol)) (word (codes "s") (codes "t") no_members))
+
+-- the symbol of a place, and how far behind it the place is
+abbrev pub place_symbol : List Named → Place → Option (List ℕ × ℕ)
+place_symbol symbols p = said p.address (place_of symbols p.address)
+
+abbrev pub item_by : Place → Option (List ℕ × ℕ) → Items → Items
+item_by p None more = more
+item_by p (Some symbol) more = item (place_json p symbol) more
+
+-- an instant for each place that has a symbol
+abbrev pub place_items : List Named → List Place → Items
+place_items symbols [] = no_items
+place_items symbols (p ∷ places) = item_by p (place_symbol symbols p) (place_items symbols places)
+
+-- ---- as it is written: behind a comma, on a line of its own
+
+abbrev pub line_by : Place → Option (List ℕ × ℕ) → List ℕ
+line_by p None = []
+line_by p (Some symbol) = 44 ∷ 10 ∷ text (place_json p symbol)
+
+unfoldable pub place_line : List Named → Place → List ℕ
+place_line symbols p = line_by p (place_symbol symbols p)
+
+abbrev pub place_lines : List Named → List Place → List ℕ
+place_lines symbols places = flat_map (place_line symbols) places

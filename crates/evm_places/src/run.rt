@@ -1,0 +1,84 @@
+//! A run that is told to its end, with places.
+
+ghost use Rattle.std.specs.Prelude.{OnOk};
+ghost use Rattle.evm_tracks.specs.Telling.{IsTelling};
+ghost use Rattle.evm_places.specs.Placed.{IsPlacedSomewhere};
+
+use crate::place::Place;
+use crate::writing::finish;
+use evm_streams::Sink;
+use evm_symbols::Symbols;
+use evm_tracks::{RunStop, Teller, Told, Trace, TraceStop};
+use std::alloc::Global;
+
+/// What has the places of a run, once it was told.
+pub trait Placer {
+    /// The places so far.
+    fn places(&self) -> &[Place];
+}
+
+// Tells what the teller finds, in at most this number of calls.
+fn tell_run<T: Teller, W: Sink>(
+    alloc: Global,
+    teller: &mut T,
+    calls: u64,
+    trace: &mut Trace,
+    sink: &mut W,
+) -> Result<(), RunStop>
+    ensures { (start : W) → IsTelling W.takes start sink.old trace.old → OnOk result (IsTelling W.takes start sink.new trace.new) }
+{
+    let mut changes = Vec::new(alloc);
+    for _ in 0..calls {
+        changes.clear();
+        match teller.next(&mut changes) {
+            Told::Changes => match trace.tell_more(sink, changes.as_slice()) {
+                Ok(()) => {}
+                Err(stop) => return Err(RunStop::Trace(stop)),
+            },
+            Told::End => return Ok(()),
+            Told::Fault => return Err(RunStop::Fault),
+            Told::NoMemory => return Err(RunStop::Trace(TraceStop::NoMemory)),
+        }
+    }
+    Ok(())
+}
+
+// Traces a run on a trace that was begun.
+fn trace_to_end<T: Teller + Placer, W: Sink>(
+    alloc: Global,
+    teller: &mut T,
+    calls: u64,
+    symbols: &Symbols,
+    trace: &mut Trace,
+    sink: &mut W,
+) -> Result<(), RunStop>
+    ensures { (start : W) → IsTelling W.takes start sink.old trace.old → OnOk result (IsPlacedSomewhere W.takes start symbols.now.symbols sink.new) }
+{
+    match tell_run(alloc, teller, calls, trace, sink) {
+        Err(stop) => Err(stop),
+        Ok(()) => match finish(alloc, trace, symbols, teller.places(), sink) {
+            Ok(()) => Ok(()),
+            Err(stop) => Err(RunStop::Trace(stop)),
+        },
+    }
+}
+
+/// Traces what a teller tells to a sink, in at most this number of calls, with its places behind that.
+///
+/// # Errors
+///
+/// The teller met a fault, memory was refused, or a write failed.
+pub fn trace_places<T: Teller + Placer, W: Sink>(
+    alloc: Global,
+    teller: &mut T,
+    calls: u64,
+    symbols: &Symbols,
+    sink: &mut W,
+) -> Result<(), RunStop>
+    ensures { OnOk result (IsPlacedSomewhere W.takes sink.old symbols.now.symbols sink.new) }
+{
+    match Trace::on(alloc, sink) {
+        Ok(mut trace) => trace_to_end(alloc, teller, calls, symbols, &mut trace, sink),
+        Err(_) => Err(RunStop::Trace(TraceStop::NoMemory)),
+    }
+}

@@ -1,0 +1,147 @@
+//! Places written behind the records of a trace.
+
+ghost use Rattle.std.specs.Prelude.{◌≡◌, ◌++◌, ◌+◌, ◌<◌, ◌^◌, ℕ, List, [], All, OnOk, codes};
+ghost use Rattle.std.specs.String.{string_bytes};
+ghost use Rattle.evm_streams.specs.Writes.{Took};
+ghost use Rattle.evm_tracks.specs.Telling.{IsTelling};
+ghost use Rattle.evm_places.specs.Places.{place_line, place_lines};
+ghost use Rattle.evm_places.specs.Placed.{FitsPlace, IsPending, IsPlaced};
+
+use crate::line::push_place;
+use crate::place::Place;
+use evm_room::push_text;
+use evm_streams::{Sink, WriteFault, write_all};
+use evm_symbols::Symbols;
+use evm_tracks::{Trace, TraceStop};
+use std::alloc::Global;
+
+/// How many bytes are kept before they are written.
+const KEPT: usize = 65_536;
+
+// Writes what is kept.
+fn flush<W: Sink>(text: &mut String, sink: &mut W) -> Result<(), WriteFault>
+    ensures took { OnOk result (Took W.takes sink.old (string_bytes text.old) sink.new) }
+    ensures text { OnOk result (string_bytes text.new ≡ []) }
+{
+    match write_all(sink, text.as_bytes()) {
+        Ok(()) => {
+            text.clear();
+            Ok(())
+        }
+        Err(fault) => Err(fault),
+    }
+}
+
+// Writes what is kept, if that is much.
+fn write_kept<W: Sink>(text: &mut String, sink: &mut W) -> Result<(), TraceStop>
+    ensures { (start : W) (whole : List ℕ) → IsPending W.takes start whole sink.old text.old → OnOk result (IsPending W.takes start whole sink.new text.new) }
+{
+    if text.len() < KEPT {
+        return Ok(());
+    }
+    match flush(text, sink) {
+        Ok(()) => Ok(()),
+        Err(fault) => Err(TraceStop::WriteFailed(fault)),
+    }
+}
+
+fn write_place<W: Sink>(
+    alloc: Global,
+    text: &mut String,
+    symbols: &Symbols,
+    place: &Place,
+    sink: &mut W,
+) -> Result<(), TraceStop>
+    ensures { (start : W) (whole : List ℕ) → IsPending W.takes start whole sink.old text.old → OnOk result (IsPending W.takes start (whole ++ place_line symbols.now.symbols place.now) sink.new text.new) }
+{
+    match push_place(alloc, text, symbols, place) {
+        Ok(()) => write_kept(text, sink),
+        Err(_) => Err(TraceStop::NoMemory),
+    }
+}
+
+fn write_places<W: Sink>(
+    alloc: Global,
+    text: &mut String,
+    symbols: &Symbols,
+    places: &[Place],
+    sink: &mut W,
+) -> Result<(), TraceStop>
+    ensures { (start : W) (whole : List ℕ) → IsPending W.takes start whole sink.old text.old → OnOk result (IsPending W.takes start (whole ++ place_lines symbols.now.symbols places.now) sink.new text.new) }
+{
+    for place in places {
+        match write_place(alloc, text, symbols, place, sink) {
+            Ok(()) => {}
+            Err(stop) => return Err(stop),
+        }
+    }
+    Ok(())
+}
+
+// Writes all that is left.
+fn write_rest<W: Sink>(text: &mut String, sink: &mut W) -> Result<(), TraceStop>
+    ensures { OnOk result (Took W.takes sink.old (string_bytes text.old) sink.new) }
+{
+    match flush(text, sink) {
+        Ok(()) => Ok(()),
+        Err(fault) => Err(TraceStop::WriteFailed(fault)),
+    }
+}
+
+// Ends the file.
+fn write_end<W: Sink>(text: &mut String, sink: &mut W) -> Result<(), TraceStop>
+    ensures { (start : W) (whole : List ℕ) → IsPending W.takes start whole sink.old text.old → OnOk result (Took W.takes start (whole ++ codes "\n]}") sink.new) }
+{
+    match push_text(text, "\n]}") {
+        Ok(()) => write_rest(text, sink),
+        Err(_) => Err(TraceStop::NoMemory),
+    }
+}
+
+fn write_to_end<W: Sink>(
+    alloc: Global,
+    text: &mut String,
+    symbols: &Symbols,
+    places: &[Place],
+    sink: &mut W,
+) -> Result<(), TraceStop>
+    ensures { (start : W) (whole : List ℕ) → IsPending W.takes start whole sink.old text.old → OnOk result (Took W.takes start ((whole ++ place_lines symbols.now.symbols places.now) ++ codes "\n]}") sink.new) }
+{
+    match write_places(alloc, text, symbols, places, sink) {
+        Ok(()) => write_end(text, sink),
+        Err(stop) => Err(stop),
+    }
+}
+
+// Whatever the numbers are, they fit.
+fn fit_place(place: Place)
+    ensures { FitsPlace place }
+{
+    let (_task, _at) = (place.task, place.at);
+}
+
+fn fit_places(places: &[Place])
+    ensures { All FitsPlace places.now }
+{
+    for place in places {
+        fit_place(*place);
+    }
+}
+
+/// Ends a trace, whatever was told, with places behind its records, and writes what is left of it.
+///
+/// # Errors
+///
+/// Memory was refused, or a write failed.
+pub(crate) fn finish<W: Sink>(
+    alloc: Global,
+    trace: &mut Trace,
+    symbols: &Symbols,
+    places: &[Place],
+    sink: &mut W,
+) -> Result<(), TraceStop>
+    ensures { (start : W) → IsTelling W.takes start sink.old trace.old → OnOk result (IsPlaced W.takes start symbols.now.symbols places.now sink.new) }
+{
+    fit_places(places);
+    write_to_end(alloc, &mut trace.text, symbols, places, sink)
+}
