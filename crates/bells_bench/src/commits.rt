@@ -2,7 +2,7 @@
 
 ghost use Rattle.std.specs.Prelude.{◌≡◌, IfSome};
 ghost use Rattle.evm_model.specs.Replay.{IsReplayOf};
-ghost use Rattle.evm_shared.specs.EventCounts.{counts_of};
+ghost use Rattle.evm_shared.specs.EventCounts.{kind_counts};
 
 use evm_core::{Burst, Event, Machine};
 use evm_devs::Pins;
@@ -17,7 +17,7 @@ use std::thread;
 use std::thread::Threads;
 
 /// The largest journal.
-const CAPACITY: u32 = 1_048_576;
+pub(crate) const CAPACITY: u32 = 1_048_576;
 
 /// `j .`: jal x0, 0.
 const LOOP: [u8; 4] = [0x6f, 0, 0, 0];
@@ -33,7 +33,8 @@ fn looping(alloc: Global) -> Option<Machine<Pins>>
     Some(machine)
 }
 
-fn blanks(ports: u8) -> Blanks
+/// Ledgers of a part for each port.
+pub(crate) fn blanks(ports: u8) -> Blanks
     ensures { (result.steps.parts ≡ ports) × (result.bells.parts ≡ ports) × (result.others.parts ≡ ports) }
 {
     Blanks {
@@ -43,8 +44,8 @@ fn blanks(ports: u8) -> Blanks
     }
 }
 
-// Commits of one Step each through a port, up to the first that is refused.
-fn commit_many<O: Origin, S: Ledger, B: Ledger, T: Ledger, R: Wait>(
+/// Commits of one Step each through a port, up to the first that is refused.
+pub(crate) fn commit_many<O: Origin, S: Ledger, B: Ledger, T: Ledger, R: Wait>(
     rt: &R,
     shared: &Shared<Pins, O, S, B, T>,
     port: &mut Port<S, B, T>,
@@ -74,7 +75,7 @@ fn commit_by<
     each: u32,
 ) -> Option<u64>
     requires replays { IsReplayOf O.start machine }
-    requires base { counts_of machine.journal ≡ O.base }
+    requires base { kind_counts machine.journal ≡ O.base }
     requires steps { (blanks.steps.name ≡ S.name) × (blanks.steps.parts ≡ S.parts) × (S.parts ≡ ports) }
     requires bells { (blanks.bells.name ≡ B.name) × (blanks.bells.parts ≡ B.parts) × (B.parts ≡ ports) }
     requires others { (blanks.others.name ≡ T.name) × (blanks.others.parts ≡ T.parts) × (T.parts ≡ ports) }

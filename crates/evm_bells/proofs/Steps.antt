@@ -16,10 +16,10 @@ use Rattle.atomic_table.specs.Table.{State, Me, Allows, Splits, Joins, Act, keep
 use Rattle.evm_lines.specs.declared.TheConstants.{LINES}
 use Rattle.evm_bells.specs.declared.counts.TheConstants.{PROCESSOR_LIMIT}
 use Rattle.evm_bells.specs.Batches.{Batch, count}
-use Rattle.evm_bells.specs.Rule.{whole_weight, total, IsIdle, AreIdle, AreAccounted, view_of, first_view, rung, Rings, took, Takes, Weighs, half_kept, half_given, one_kept, one_given, joined, spent}
+use Rattle.evm_bells.specs.Rule.{whole_weight, total, WeighsNothing, WeighNothing, AreAccounted, view_of, first_view, rung, Rings, took, Takes, Weighs, half_kept, half_given, one_kept, one_given, joined, spent}
 use Rattle.evm_bells.specs.declared.rule.View.{View}
 use Rattle.evm_bells.proofs.Sums.{total_set, total_snoc, idle_set, idle_snoc, weight_below, alone, count-append}
-use Rattle.evm_bells.specs.Seats.{Balances}
+use Rattle.evm_bells.specs.Seats.{AddsUp}
 
 -- what a step adds to the fresh batches, it adds to the taken ones and to the word
 abbrev Moves : List ℕ → List ℕ → View → View → Type 0
@@ -238,15 +238,15 @@ read_words words left cpus long low high c = by_place (dec_le cpus c)
     by_place (yes past) = past_end words c (rw long past) ∙ sym (high c past)
     by_place (no below) = elem_index words c (slice_index left c) (low c (lt_of_not-le below))
 
-nothing_fresh : (c l : ℕ) (v : View) → IsIdle v → v.weight ≡ 0 → count v.fresh c l ≡ 0
+nothing_fresh : (c l : ℕ) (v : View) → WeighsNothing v → v.weight ≡ 0 → count v.fresh c l ≡ 0
 nothing_fresh c l v idle light = ap (λ m. count m c l) (idle light).0
 
-nothing_taken : (c l : ℕ) (v : View) → IsIdle v → v.weight ≡ 0 → count v.taken c l ≡ 0
+nothing_taken : (c l : ℕ) (v : View) → WeighsNothing v → v.weight ≡ 0 → count v.taken c l ≡ 0
 nothing_taken c l v idle light = ap (λ m. count m c l) (idle light).1
 
 -- a view with all the weight knows that the bells balance
 pub settles : (cpus : ℕ) (words left : List ℕ) (views : List View) (id : ℕ) (v : View) → AreAccounted cpus words views → get_elem? views id ≡ some v → v.weight ≡ whole_weight cpus
-    → ((c : ℕ) → slice_index words c ≡ slice_index left c) → Balances v.fresh v.taken left
+    → ((c : ℕ) → slice_index words c ≡ slice_index left c) → AddsUp v.fresh v.taken left
 settles cpus words left views id v kept at all same c l =
     let weights : total (λ u. u.weight) views ≡ v.weight = kept.weighs ∙ sym all in
     omega (

@@ -18,12 +18,12 @@ total f [] = 0
 total f (v ∷ views) = f v + total f views
 
 -- a view of no weight has rung and taken nothing
-abbrev pub IsIdle : View → Type 0
-IsIdle v = v.weight ≡ 0 → (v.fresh ≡ []) × (v.taken ≡ [])
+abbrev pub WeighsNothing : View → Type 0
+WeighsNothing v = v.weight ≡ 0 → (v.fresh ≡ []) × (v.taken ≡ [])
 
-abbrev pub AreIdle : List View → Type 0
-AreIdle [] = Unit {0}
-AreIdle (v ∷ views) = IsIdle v × AreIdle views
+abbrev pub WeighNothing : List View → Type 0
+WeighNothing [] = Unit {0}
+WeighNothing (v ∷ views) = WeighsNothing v × WeighNothing views
 
 -- the weight of all seats: the first ringer's, and 1 for the taker of each processor
 abbrev pub whole_weight : ℕ → ℕ
@@ -35,7 +35,7 @@ pub record AreAccounted (cpus : ℕ) (words : List ℕ) (views : List View) : Ty
   pub narrow : (c : ℕ) → slice_index words c < 2 ^ LINES
   pub weighs : total (λ v. v.weight) views ≡ whole_weight cpus
   pub balance : (c l : ℕ) → total (λ v. count v.fresh c l) views ≡ total (λ v. count v.taken c l) views + bit_at (slice_index words c) l
-  pub idle : AreIdle views
+  pub idle : WeighNothing views
 
 -- the first seat has all the weight
 abbrev pub first_view : ℕ → View

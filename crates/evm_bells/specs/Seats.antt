@@ -38,8 +38,8 @@ taken_by [] = []
 taken_by (t ∷ takers) = t.taken ++ taken_by takers
 
 -- each line that was rung fresh was taken or is left
-abbrev pub Balances : List Batch → List Batch → List ℕ → Type 0
-Balances fresh taken left = (c l : ℕ) → count fresh c l ≡ count taken c l + bit_at (slice_index left c) l
+abbrev pub AddsUp : List Batch → List Batch → List ℕ → Type 0
+AddsUp fresh taken left = (c l : ℕ) → count fresh c l ≡ count taken c l + bit_at (slice_index left c) l
 
 -- ---- invariants
 

@@ -3,7 +3,7 @@
 ghost use Rattle.std.specs.Prelude.{◌≡◌, ◌↔◌, ◌+◌, ◌<◌, [], length, All, IsOk, IfOk, IfErr};
 ghost use Rattle.evm_bells.specs.Batches.{HaveCounted};
 ghost use Rattle.evm_bells.specs.Rule.{whole_weight};
-ghost use Rattle.evm_bells.specs.Seats.{TakerValue, Balances, taken_by};
+ghost use Rattle.evm_bells.specs.Seats.{TakerValue, AddsUp, taken_by};
 
 use crate::bells::{Bells, RINGER_WEIGHT, Ringer, Taker};
 use crate::counts::{LineCounts, PROCESSOR_LIMIT};
@@ -32,7 +32,7 @@ impl Bells {
         requires ringer { ringer.bells ≡ self.id }
         requires takers { All (λ (t : TakerValue). t.bells ≡ self.id) takers.items }
         ensures all { IsOk result ↔ (ringer.weight + length takers.items ≡ whole_weight self.cpus) }
-        ensures balance { IfOk result (λ closed. Balances ringer.fresh (taken_by takers.items) closed.left) }
+        ensures balance { IfOk result (λ closed. AddsUp ringer.fresh (taken_by takers.items) closed.left) }
         ensures fresh { IfOk result (λ closed. HaveCounted closed.fresh.rows ringer.fresh) }
         ensures taken { IfOk result (λ closed. HaveCounted closed.taken.rows (taken_by takers.items)) }
         ensures back { IfErr result (λ out. (out.bells ≡ self) × (out.ringer ≡ ringer) × (out.takers.items ≡ takers.items)) }
@@ -85,7 +85,7 @@ impl Bells {
     fn left(self, seat: Seat<(), View>) -> [u32; PROCESSOR_LIMIT]
         requires bells { seat.table_id ≡ self.id }
         requires all { seat.me.0.weight ≡ whole_weight self.cpus }
-        ensures { Balances seat.me.0.fresh seat.me.0.taken result }
+        ensures { AddsUp seat.me.0.fresh seat.me.0.taken result }
     {
         let Bells { table, cpus } = self;
         let closed = table.close_with(seat);

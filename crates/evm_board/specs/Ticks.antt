@@ -6,9 +6,9 @@ use Rattle.evm_model.specs.Devices.{line_if, raise_line}
 use Rattle.evm_model.specs.State.{Board}
 
 -- a line that there is, if any
-abbrev pub IsLine : Option ℕ → Type 0
-IsLine None = ⊤
-IsLine (Some l) = l < LINES
+abbrev pub IsLineNumber : Option ℕ → Type 0
+IsLineNumber None = ⊤
+IsLineNumber (Some l) = l < LINES
 
 -- device i has ticked, and its line is raised if it is to
 abbrev pub ticked_once : ℕ → Board → Board

@@ -1,7 +1,7 @@
 //! What an access gives, and where the registers of devices are.
 
 ghost use Rattle.std.specs.Prelude.{◌≡◌, ◌<◌, Option};
-ghost use Rattle.evm_board.specs.Ticks.{IsLine};
+ghost use Rattle.evm_board.specs.Ticks.{IsLineNumber};
 ghost use Rattle.evm_model.specs.Devices.{line_if, register_at};
 
 use evm_model::{DEVICE_BASE, DEVICE_LIMIT, DEVICE_LINE, DEVICE_SPAN, REGISTERS_PER_DEVICE};
@@ -44,7 +44,7 @@ pub(crate) fn register_at(address: u64) -> Option<(usize, u8)>
 pub(crate) fn line_if(raise: bool, i: usize) -> Option<u8>
     requires { i < DEVICE_LIMIT }
     ensures value { result ≡ line_if raise i }
-    ensures line { IsLine result }
+    ensures line { IsLineNumber result }
 {
     if raise {
         Some(DEVICE_LINE + i as u8)

@@ -2,7 +2,7 @@
 
 ghost use Rattle.std.specs.Prelude.{◌≡◌, Some, false};
 ghost use Rattle.evm_board.specs.Steps.{IsRunning};
-ghost use Rattle.evm_board.specs.Ticks.{IsLine};
+ghost use Rattle.evm_board.specs.Ticks.{IsLineNumber};
 ghost use Rattle.evm_exec.specs.declared.outcome.Effect.TheVariants as effects;
 ghost use Rattle.evm_model.specs.Bounds.{STAMPS_PER_EVENT, HasRoom};
 ghost use Rattle.evm_model.specs.Devices.{raise_line};
@@ -39,7 +39,7 @@ fn advance(parts: &mut Parts, t: u8)
 
 // A register has what was loaded and the pc goes on, the line of a device is raised, and the processor settles.
 fn load_and_settle(parts: &mut Parts, c: u8, t: u8, rd: Register, value: u64, line: Option<u8>)
-    requires line { IsLine line }
+    requires line { IsLineNumber line }
     requires room { HasRoom STAMPS_PER_EVENT parts.old }
     requires few { AreFew parts.old }
     ensures { parts.new ≡ settle_and_nudge (Some t) c (raise_line line (on_hart t (λ hart. advance (set_register rd value hart)) parts.old)) }
@@ -51,7 +51,7 @@ fn load_and_settle(parts: &mut Parts, c: u8, t: u8, rd: Register, value: u64, li
 
 // The pc goes on, the line of a device is raised, and the processor settles.
 fn advance_and_settle(parts: &mut Parts, c: u8, t: u8, line: Option<u8>)
-    requires line { IsLine line }
+    requires line { IsLineNumber line }
     requires room { HasRoom STAMPS_PER_EVENT parts.old }
     requires few { AreFew parts.old }
     ensures { parts.new ≡ settle_and_nudge (Some t) c (raise_line line (on_hart t advance parts.old)) }

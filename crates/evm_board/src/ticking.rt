@@ -1,7 +1,7 @@
 //! The ticks of devices, and the lines that devices raise.
 
 ghost use Rattle.std.specs.Prelude.{◌≡◌, ◌<◌, ◌-◌};
-ghost use Rattle.evm_board.specs.Ticks.{IsLine, ticked_once};
+ghost use Rattle.evm_board.specs.Ticks.{IsLineNumber, ticked_once};
 ghost use Rattle.evm_model.specs.Bounds.{COUNT_LIMIT, STAMPS_PER_EVENT, PipesUpTo};
 ghost use Rattle.evm_model.specs.Commands.{tick};
 ghost use Rattle.evm_model.specs.Devices.{raise_line, tick_devices};
@@ -16,7 +16,7 @@ use evm_settle::Parts;
 
 /// Raises the line of a device on processor 0, if there is one.
 pub(crate) fn raise_line(parts: &mut Parts, line: Option<u8>)
-    requires line { IsLine line }
+    requires line { IsLineNumber line }
     requires room { PipesUpTo COUNT_LIMIT parts.old.pipes }
     ensures { parts.new ≡ raise_line line parts.old }
 {

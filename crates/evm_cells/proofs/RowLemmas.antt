@@ -5,7 +5,7 @@ use Rattle.std.proofs.Math.Seq.{drop-cons}
 use Rattle.std.proofs.lemmas.Bool.{ltb-true}
 use Rattle.std.proofs.lemmas.List.{drop-drop, length-append, length-replicate}
 use Rattle.std.specs.Prelude.{OnOk, IfOk, Option, Some, None, Result, Ok, Err, slice_get, ◌==◌, if◌then◌else◌}
-use Rattle.evm_cells.specs.Rows.{Halves, IsRow, Outline, Tells, count_on, lane_of, stretch}
+use Rattle.evm_cells.specs.Rows.{Halves, IsRow, Outline, Summarizes, count_on, event_lane, stretch}
 use Rattle.evm_cells.specs.declared.cells.Cell.{Cell}
 use Rattle.evm_cells.specs.declared.cells.TheConstants.{LANE_LIMIT}
 
@@ -25,10 +25,10 @@ if-none true = refl
 if-none false = refl
 
 -- equal ones
-pub count-alike : (lane n : ℕ) (event : Outline) → count_on lane (replicate n event) ≡ (if lane_of event == lane then n else 0)
+pub count-alike : (lane n : ℕ) (event : Outline) → count_on lane (replicate n event) ≡ (if event_lane event == lane then n else 0)
 unfolding count_on
-count-alike lane zero event = if-none (lane_of event == lane)
-count-alike lane (suc n) event = if-one (lane_of event == lane) n (count_on lane (replicate n event)) (count-alike lane n event)
+count-alike lane zero event = if-none (event_lane event == lane)
+count-alike lane (suc n) event = if-one (event_lane event == lane) n (count_on lane (replicate n event)) (count-alike lane n event)
 
 if-most : (b : Bool) → (if b then 1 else 0) ≤ 1
 if-most true = omega arith
@@ -38,7 +38,7 @@ if-most false = omega arith
 pub count-most : (lane : ℕ) (events : List Outline) → count_on lane events ≤ length events
 unfolding count_on
 count-most lane [] = omega arith
-count-most lane (event ∷ events) = let h = count-most lane events in let k = if-most (lane_of event == lane) in omega (arith, h, k)
+count-most lane (event ∷ events) = let h = count-most lane events in let k = if-most (event_lane event == lane) in omega (arith, h, k)
 
 -- ---- events one behind the other
 none-taken : {X : Type 0} (b : ℕ) → ◌≡◌ {A = List X} [] (take b [])
@@ -64,15 +64,15 @@ first-alike (suc n) x h = refl
 
 -- ---- cells
 -- a cell of an item
-pub tells-item : (cell : Cell) (n : ℕ) (event : Outline) → cell.count ≡ n → cell.event ≡ event → ((lane : ℕ) → lane < LANE_LIMIT → get_or cell.shares lane 0 ≡ (if lane_of event == lane then n else 0)) → 0 < n
-    → Tells cell (replicate n event)
+pub tells-item : (cell : Cell) (n : ℕ) (event : Outline) → cell.count ≡ n → cell.event ≡ event → ((lane : ℕ) → lane < LANE_LIMIT → get_or cell.shares lane 0 ≡ (if event_lane event == lane then n else 0)) → 0 < n
+    → Summarizes cell (replicate n event)
 tells-item cell n event count is shares some =
     record { count = count ∙ sym (length-replicate n event); event = first-alike n event some ∙ ap (λ e. Some e) (sym is); shares = λ lane h. shares lane h ∙ sym (count-alike lane n event) }
 
 -- two that were joined
 pub tells-joined : (one two cell : Cell) (front back : List Outline) → (one.count + two.count < 2 ^ 64 → cell.count ≡ one.count + two.count) → cell.event ≡ one.event
     → ((lane : ℕ) → lane < LANE_LIMIT → get_or one.shares lane 0 + get_or two.shares lane 0 < 2 ^ 64 → get_or cell.shares lane 0 ≡ get_or one.shares lane 0 + get_or two.shares lane 0)
-    → one.count + two.count < 2 ^ 64 → Tells one front → Tells two back → Tells cell (front ++ back)
+    → one.count + two.count < 2 ^ 64 → Summarizes one front → Summarizes two back → Summarizes cell (front ++ back)
 tells-joined one two cell front back count is shares fits a b =
     let long = length-append front back in
     record {
@@ -98,7 +98,7 @@ row-rises events from [] to row = omega (arith, row)
 row-rises events from (cell ∷ cells) to row = let h = row-rises events (from + cell.count) cells to row.3 in omega (arith, h)
 
 -- a cell more
-pub row-more : (events : List Outline) (from : ℕ) (cells : List Cell) (mid to : ℕ) (cell : Cell) → IsRow events from cells mid → cell.first ≡ mid → 0 < cell.count → Tells cell (stretch events mid cell.count) → to ≡ mid + cell.count
+pub row-more : (events : List Outline) (from : ℕ) (cells : List Cell) (mid to : ℕ) (cell : Cell) → IsRow events from cells mid → cell.first ≡ mid → 0 < cell.count → Summarizes cell (stretch events mid cell.count) → to ≡ mid + cell.count
     → IsRow events from (cells ++ cell ∷ []) to
 row-more events from [] mid to cell row first some tells ends =
     let begins : cell.first ≡ from = first ∙ sym row in let h : from + cell.count ≡ to = rw (row, ends) refl in (begins, some, rw row tells, h)
@@ -108,18 +108,18 @@ row-more events from (one ∷ cells) mid to cell row first some tells ends = (ro
 pub record Split (events : List Outline) (from : ℕ) (cells : List Cell) (last : Cell) (to : ℕ) : Type 0 where
   pub before : IsRow events from cells last.first
   pub some : 0 < last.count
-  pub tells : Tells last (stretch events last.first last.count)
+  pub tells : Summarizes last (stretch events last.first last.count)
   pub ends : last.first + last.count ≡ to
 
 pub row-split : (events : List Outline) (from : ℕ) (cells : List Cell) (last : Cell) (to : ℕ) → IsRow events from (cells ++ last ∷ []) to → Split events from cells last to
-row-split events from [] last to row = record { before = sym row.0; some = row.1; tells = subst (λ x. Tells last (stretch events x last.count)) (sym row.0) row.2; ends = rw row.0 row.3 }
+row-split events from [] last to row = record { before = sym row.0; some = row.1; tells = subst (λ x. Summarizes last (stretch events x last.count)) (sym row.0) row.2; ends = rw row.0 row.3 }
 row-split events from (one ∷ cells) last to row =
     let rest = row-split events (from + one.count) cells last to row.3 in record { before = (row.0, row.1, row.2, rest.before); some = rest.some; tells = rest.tells; ends = rest.ends }
 
 -- a cell joined to the last
 pub joins : {A E : Type 0} → (r : Result A E) (items before out : List Cell) (last cell one : Cell) → items ≡ before ++ last ∷ [] → one.first ≡ last.first
-    → ((front back : List Outline) → last.count + cell.count < 2 ^ 64 → Tells last front → Tells cell back → Tells one (front ++ back)) → OnOk r (out ≡ before ++ one ∷ [])
-    → (events : List Outline) (from : ℕ) → cell.first + cell.count < 2 ^ 64 → 0 < cell.count → Tells cell (stretch events cell.first cell.count) → IsRow events from items cell.first
+    → ((front back : List Outline) → last.count + cell.count < 2 ^ 64 → Summarizes last front → Summarizes cell back → Summarizes one (front ++ back)) → OnOk r (out ≡ before ++ one ∷ [])
+    → (events : List Outline) (from : ℕ) → cell.first + cell.count < 2 ^ 64 → 0 < cell.count → Summarizes cell (stretch events cell.first cell.count) → IsRow events from items cell.first
     → OnOk r (IsRow events from out (cell.first + cell.count))
 joins (Err e) items before out last cell one popped first told written events from fits some tells row = tt
 joins (Ok a) items before out last cell one popped first told written events from fits some tells row =
@@ -134,11 +134,11 @@ joins (Ok a) items before out last cell one popped first told written events fro
     let more : 0 < one.count = omega (arith, counts, some) in
     let to : cell.first + cell.count ≡ last.first + one.count = omega (arith, counts, ends) in
     subst (λ x. IsRow events from x (cell.first + cell.count)) (sym written)
-    (row-more events from before last.first (cell.first + cell.count) one split.before first more (subst (Tells one) all both) to)
+    (row-more events from before last.first (cell.first + cell.count) one split.before first more (subst (Summarizes one) all both) to)
 
 -- a cell behind the last
 pub stands : {A E : Type 0} → (r : Result A E) (items out : List Cell) (cell : Cell) → OnOk r (out ≡ items ++ cell ∷ [])
-    → (events : List Outline) (from : ℕ) → cell.first + cell.count < 2 ^ 64 → 0 < cell.count → Tells cell (stretch events cell.first cell.count) → IsRow events from items cell.first
+    → (events : List Outline) (from : ℕ) → cell.first + cell.count < 2 ^ 64 → 0 < cell.count → Summarizes cell (stretch events cell.first cell.count) → IsRow events from items cell.first
     → OnOk r (IsRow events from out (cell.first + cell.count))
 stands (Err e) items out cell written events from fits some tells row = tt
 stands (Ok a) items out cell written events from fits some tells row =
@@ -159,7 +159,7 @@ drop-past (x ∷ cells) (suc i) e = let n : suc i + 1 ≡ suc (i + 1) = omega ar
 
 -- a cell goes from those that are left to those that were joined
 pub halves-more : {A E : Type 0} → (r : Result A E) (cells : List Cell) (i : ℕ) (cell : Cell) (old new : List Cell) → true ≡ ltb i (length cells) → cell ≡ get_or cells i cell
-    → ((events : List Outline) (from : ℕ) → cell.first + cell.count < 2 ^ 64 → 0 < cell.count → Tells cell (stretch events cell.first cell.count) → IsRow events from old cell.first
+    → ((events : List Outline) (from : ℕ) → cell.first + cell.count < 2 ^ 64 → 0 < cell.count → Summarizes cell (stretch events cell.first cell.count) → IsRow events from old cell.first
     → OnOk r (IsRow events from new (cell.first + cell.count)))
     → (events : List Outline) (from to : ℕ) → to < 2 ^ 64 → Halves events from (drop i cells) to old → OnOk r (Halves events from (drop (i + 1) cells) to new)
 halves-more (Err e) cells i cell old new within at put events from to below half = tt
@@ -170,7 +170,7 @@ halves-more (Ok a) cells i cell old new within at put events from to below half 
     let rises = row-rises events (half.0 + cell.count) (drop (i + 1) cells) to next in
     let fits : cell.first + cell.count < 2 ^ 64 = omega (arith, rises, begins, below) in
     let row : IsRow events from old cell.first = subst (λ x. IsRow events from old x) (sym begins) half.1 in
-    let tells : Tells cell (stretch events cell.first cell.count) = subst (λ x. Tells cell (stretch events x cell.count)) (sym begins) left.2 in
+    let tells : Summarizes cell (stretch events cell.first cell.count) = subst (λ x. Summarizes cell (stretch events x cell.count)) (sym begins) left.2 in
     (cell.first + cell.count, put events from fits left.1 tells row, subst (λ x. IsRow events (x + cell.count) (drop (i + 1) cells) to) (sym begins) next)
 
 pub halves-none : {A E : Type 0} → (r : Result A E) (cells : List Cell) (i : ℕ) (old new : List Cell) → slice_get cells i ≡ None → new ≡ old

@@ -16,16 +16,16 @@ abbrev pub lane_in : Option ℕ → ℕ
 lane_in None = PROCESSOR_LIMIT
 lane_in (Some cpu) = min cpu PROCESSOR_LIMIT
 
-abbrev pub lane_of : Outline → ℕ
-lane_of event = lane_in (actor_of event)
+abbrev pub event_lane : Outline → ℕ
+event_lane event = lane_in (actor_of event)
 
 -- how many events are of a lane
 unfoldable pub count_on : ℕ → List Outline → ℕ
 count_on lane [] = 0
-count_on lane (event ∷ events) = (if lane_of event == lane then 1 else 0) + count_on lane events
+count_on lane (event ∷ events) = (if event_lane event == lane then 1 else 0) + count_on lane events
 
 -- a cell tells of these events: how many there are, the first of them, and how many are of each lane
-pub record Tells (cell : Cell) (events : List Outline) : Type 0 where
+pub record Summarizes (cell : Cell) (events : List Outline) : Type 0 where
   pub count : cell.count ≡ length events
   pub event : slice_get events 0 ≡ Some cell.event
   pub shares : (lane : ℕ) → lane < LANE_LIMIT → get_or cell.shares lane 0 ≡ count_on lane events
@@ -38,7 +38,7 @@ stretch events first count = take count (drop first events)
 -- before `to` is in one cell, and in no other. Each cell tells of its events
 abbrev pub IsRow : List Outline → ℕ → List Cell → ℕ → Type 0
 IsRow events from [] to = from ≡ to
-IsRow events from (cell ∷ cells) to = (cell.first ≡ from) × (0 < cell.count) × Tells cell (stretch events from cell.count) × IsRow events (from + cell.count) cells to
+IsRow events from (cell ∷ cells) to = (cell.first ≡ from) × (0 < cell.count) × Summarizes cell (stretch events from cell.count) × IsRow events (from + cell.count) cells to
 
 -- the events of a window, of those that there are
 abbrev pub window_from : Window → List Outline → ℕ

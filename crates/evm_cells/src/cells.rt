@@ -1,7 +1,7 @@
 //! A window of a journal as a bounded row of cells.
 
 ghost use Rattle.std.specs.Prelude.{◌≡◌, ◌+◌, ◌<◌, ◌==◌, ◌^◌, ◌++◌, ◌∷◌, [], ℕ, List, IfOk, OnOk, drop, get_or, if◌then◌else◌, replicate};
-ghost use Rattle.evm_cells.specs.Rows.{Halves, IsRow, Outline, Tells, lane_in, lane_of, stretch};
+ghost use Rattle.evm_cells.specs.Rows.{Halves, IsRow, Outline, Summarizes, lane_in, event_lane, stretch};
 ghost use Rattle.evm_cells.specs.declared.cells.TheConstants.{LANE_LIMIT};
 
 use evm_model::PROCESSOR_LIMIT;
@@ -83,7 +83,7 @@ fn lane_index(lane: Option<u8>) -> usize
 
 // How many events of an item are of each lane.
 fn shares_of(item: &Item) -> [u64; LANE_LIMIT]
-    ensures { (lane : ℕ) → lane < LANE_LIMIT → get_or result lane 0 ≡ (if lane_of item.now.event == lane then item.now.count else 0) }
+    ensures { (lane : ℕ) → lane < LANE_LIMIT → get_or result lane 0 ≡ (if event_lane item.now.event == lane then item.now.count else 0) }
 {
     let mut shares = [0; LANE_LIMIT];
     shares[lane_index(actor_of(&item.event))] = u64::from(item.count);
@@ -93,7 +93,7 @@ fn shares_of(item: &Item) -> [u64; LANE_LIMIT]
 fn cell_of(item: &Item, lanes: &Lanes, kept: u32, dropped: u64) -> Cell
     ensures first { result.first ≡ item.now.first }
     ensures count { result.count ≡ item.now.count }
-    ensures tells { 0 < item.now.count → Tells result (replicate item.now.count item.now.event) }
+    ensures tells { 0 < item.now.count → Summarizes result (replicate item.now.count item.now.event) }
 {
     Cell {
         first: item.first,
@@ -125,7 +125,7 @@ fn kept_of(one: u32, two: u32) -> u32 {
 
 fn joined(one: &Cell, two: &Cell) -> Cell
     ensures first { result.first ≡ one.now.first }
-    ensures tells { (front back : List Outline) → one.now.count + two.now.count < 2 ^ 64 → Tells one.now front → Tells two.now back → Tells result (front ++ back) }
+    ensures tells { (front back : List Outline) → one.now.count + two.now.count < 2 ^ 64 → Summarizes one.now front → Summarizes two.now back → Summarizes result (front ++ back) }
 {
     let kept = kept_of(one.kept, two.kept);
     let lost = u64::from(one.kept.saturating_add(two.kept).saturating_sub(kept));
@@ -182,7 +182,7 @@ fn halved_marks(alloc: Global, cells: &[Cell], marks: &[Shown]) -> Result<Vec<Sh
 
 // A cell more, which is joined to the last.
 fn put_joined(cells: &mut Vec<Cell>, cell: &Cell) -> Result<(), Refused>
-    ensures { (events : List Outline) (from : ℕ) → cell.now.first + cell.now.count < 2 ^ 64 → 0 < cell.now.count → Tells cell.now (stretch events cell.now.first cell.now.count)
+    ensures { (events : List Outline) (from : ℕ) → cell.now.first + cell.now.count < 2 ^ 64 → 0 < cell.now.count → Summarizes cell.now (stretch events cell.now.first cell.now.count)
         → IsRow events from cells.old.items cell.now.first → OnOk result (IsRow events from cells.new.items (cell.now.first + cell.now.count)) }
 {
     match cells.pop() {
@@ -193,7 +193,7 @@ fn put_joined(cells: &mut Vec<Cell>, cell: &Cell) -> Result<(), Refused>
 
 // A cell more, joined to the last or not.
 fn put_cell(cells: &mut Vec<Cell>, cell: &Cell, joins: bool) -> Result<(), Refused>
-    ensures { (events : List Outline) (from : ℕ) → cell.now.first + cell.now.count < 2 ^ 64 → 0 < cell.now.count → Tells cell.now (stretch events cell.now.first cell.now.count)
+    ensures { (events : List Outline) (from : ℕ) → cell.now.first + cell.now.count < 2 ^ 64 → 0 < cell.now.count → Summarizes cell.now (stretch events cell.now.first cell.now.count)
         → IsRow events from cells.old.items cell.now.first → OnOk result (IsRow events from cells.new.items (cell.now.first + cell.now.count)) }
 {
     if joins {

@@ -23,7 +23,7 @@ use Rattle.evm_runs.specs.Noticing.{NoticeCause, by_call as called, by_fault as 
 use Rattle.evm_runs.specs.Places.{MakesCall}
 use Rattle.evm_runs.proofs.Silent.{outcome_stays, locks, tries, unlocks}
 use Rattle.evm_claims.specs.About.{IsAbout}
-use Rattle.evm_claims.specs.Noticed.{NoticeBy, by_call, by_fault, by_lock, by_try_lock, by_unlock, IsNoticed}
+use Rattle.evm_claims.specs.Noticed.{NoticeBy, by_call, by_fault, by_lock, by_try_lock, by_unlock, AddsNotice}
 
 -- ---- the numbers of the calls of the in-band kernel
 in_band_number : (made : Number) → call_stage made ≡ Some InBand → call_number made ≤ 14
@@ -67,7 +67,7 @@ asked_task kind (Some task) e = (task, (refl, one (bit_at task.mode.bits (notice
     one : (n : ℕ) → (n == 1) ≡ true → n ≡ 1
     one n h = grind (arith, nat_tests)
 
-pub noticed_of : (c : ℕ) (old : Board) (answer : Answer) (new : Notices) → GetsNotice c old answer new → IsNoticed (current c old.parts) c old.memory old.parts new
+pub noticed_of : (c : ℕ) (old : Board) (answer : Answer) (new : Notices) → GetsNotice c old answer new → AddsNotice (current c old.parts) c old.memory old.parts new
 unfolding keep
 noticed_of c old answer new g =
     let t = asked_task g.kind (slice_get old.parts.tasks g.task) g.asked in
@@ -112,7 +112,7 @@ module _ (k : Parts) (ps : List Processor) where
   cause_moved runs c t memory _ _ (by_try_lock hart about number answers) = by_try_lock hart about number (try_moved t _ ∙ answers)
   cause_moved runs c t memory _ _ (by_unlock hart about number answers) = by_unlock hart about number (unlock_moved t _ ∙ answers)
 
-  pub noticed_moved : (runs : Option ℕ) (c : ℕ) (memory : Memory) (new : Notices) → IsNoticed runs c memory k new → IsNoticed runs c memory moved new
+  pub noticed_moved : (runs : Option ℕ) (c : ℕ) (memory : Memory) (new : Notices) → AddsNotice runs c memory k new → AddsNotice runs c memory moved new
   noticed_moved runs c memory new n = record {
     notice = n.notice;
     task = n.task;

@@ -31,7 +31,7 @@ pub data NoticeBy (runs : Option ℕ) (c t : ℕ) (memory : Memory) (old : Parts
       → (unlock t (register_of hart.regs 10) old).1 ≡ Returns (2 ^ 64 - 1) → NoticeBy runs c t memory old NotOwner 1
 
 -- the current task, whose mode has the bit, gets one notice more, at this tick; the last 64 are kept
-pub record IsNoticed (runs : Option ℕ) (c : ℕ) (memory : Memory) (old : Parts) (new : Notices) : Type 0 where
+pub record AddsNotice (runs : Option ℕ) (c : ℕ) (memory : Memory) (old : Parts) (new : Notices) : Type 0 where
   pub notice : Notice
   pub task : Task
   pub bit : ℕ

@@ -31,7 +31,7 @@ use Rattle.evm_ram.specs.Ram.{write_at}
 use Rattle.evm_ram.specs.declared.width.Width.{Width}
 use Rattle.evm_claims.specs.About.{IsAbout}
 use Rattle.evm_claims.specs.Devices.{DevicesAfter}
-use Rattle.evm_claims.specs.Noticed.{IsNoticed}
+use Rattle.evm_claims.specs.Noticed.{AddsNotice}
 
 -- ---- a task
 -- the current task is out-of-band and makes call 34 for task t, which has not ended and has a class: it is given the class and the priority of a1 and a2 and a slice of 4, and nothing else
@@ -63,8 +63,8 @@ pub record HadCome (c now : ℕ) (task : Task) : Type 0 where
   pub home : task.cpu ≡ c
 
 -- ready out-of-band, or in-band if it is weak
-abbrev pub IsAwake : Class → TaskState → Type 0
-IsAwake class state = (state ≡ OobReady) ⊎ ((state ≡ InReady) × (class ≡ Weak))
+abbrev pub IsReadyAgain : Class → TaskState → Type 0
+IsReadyAgain class state = (state ≡ OobReady) ⊎ ((state ≡ InReady) × (class ≡ Weak))
 
 -- why the wait of a task for event e ended; the last is what its call answers
 pub data EventWaitEnds (runs : Option ℕ) (c e : ℕ) (memory : Memory) (old : Parts) (task : Task) : ℕ → Type 0 where
@@ -84,18 +84,18 @@ pub data WaitEndsBy (runs : Option ℕ) (c t : ℕ) (memory : Memory) (old new :
   -- its wait for the event ended, and it owns the event's mutex
   by_event : (e m answer : ℕ) → slice_get new.events e ≡ Some (Some m) → OwnsNow t m state new.mutexes → EventWaitEnds runs c e memory old task answer → WaitEndsBy runs c t memory old new task state (OfEvent e) answer
   -- it slept until its deadline
-  by_sleep : HadCome c old.ticks task → IsAwake task.class state → WaitEndsBy runs c t memory old new task state Sleep 0
+  by_sleep : HadCome c old.ticks task → IsReadyAgain task.class state → WaitEndsBy runs c t memory old new task state Sleep 0
   -- its deadline had come while it waited for neither an event nor its sleep's end: -110
-  by_deadline : (wait : Wait) → wait ≢ Sleep → ((e : ℕ) → wait ≢ OfEvent e) → HadCome c old.ticks task → IsAwake task.class state ⊎ ((l : ℕ) × ((wait ≡ Line l) × (state ≡ InReady))) → WaitEndsBy runs c t memory old new task state wait (2 ^ 64 - 110)
+  by_deadline : (wait : Wait) → wait ≢ Sleep → ((e : ℕ) → wait ≢ OfEvent e) → HadCome c old.ticks task → IsReadyAgain task.class state ⊎ ((l : ℕ) × ((wait ≡ Line l) × (state ≡ InReady))) → WaitEndsBy runs c t memory old new task state wait (2 ^ 64 - 110)
   -- the current task makes call 41, whose a0 is the semaphore's number; or the action of a line puts into it
-  by_put : (caller : ℕ) (hart : Hart) → IsAbout runs caller hart Call old.harts memory → register_of hart.regs 17 ≡ 41 → IsAwake task.class state → WaitEndsBy runs c t memory old new task state (Semaphore (register_of hart.regs 10)) 0
-  by_line_put : (l s : ℕ) → slice_get new.actions l ≡ Some (Puts s) → IsAwake task.class state → WaitEndsBy runs c t memory old new task state (Semaphore s) 0
+  by_put : (caller : ℕ) (hart : Hart) → IsAbout runs caller hart Call old.harts memory → register_of hart.regs 17 ≡ 41 → IsReadyAgain task.class state → WaitEndsBy runs c t memory old new task state (Semaphore (register_of hart.regs 10)) 0
+  by_line_put : (l s : ℕ) → slice_get new.actions l ≡ Some (Puts s) → IsReadyAgain task.class state → WaitEndsBy runs c t memory old new task state (Semaphore s) 0
   -- the current task makes call 46, whose a0 is the flag group's number and whose a1 is the bits: it has them and the word; or the action of a line posts its bit
-  by_post : (caller : ℕ) (hart : Hart) (word : ℕ) → IsAbout runs caller hart Call old.harts memory → register_of hart.regs 17 ≡ 46 → slice_get old.flags (register_of hart.regs 10) ≡ Some word → IsAwake task.class state
+  by_post : (caller : ℕ) (hart : Hart) (word : ℕ) → IsAbout runs caller hart Call old.harts memory → register_of hart.regs 17 ≡ 46 → slice_get old.flags (register_of hart.regs 10) ≡ Some word → IsReadyAgain task.class state
       → WaitEndsBy runs c t memory old new task state (Flags (register_of hart.regs 10)) (bit_or word (register_of hart.regs 11))
-  by_line_post : (l f word : ℕ) → slice_get new.actions l ≡ Some (Posts f) → IsAwake task.class state → WaitEndsBy runs c t memory old new task state (Flags f) (bit_or word (2 ^ l))
+  by_line_post : (l f word : ℕ) → slice_get new.actions l ≡ Some (Posts f) → IsReadyAgain task.class state → WaitEndsBy runs c t memory old new task state (Flags f) (bit_or word (2 ^ l))
   -- the timer was due on processor c, and has expired: it has all its expiries, and the timer none
-  by_timer : (n : ℕ) (timer : Timer) → timer.due ≢ 0 → timer.due ≤ old.ticks → timer.cpu ≡ c → slice_get new.timers n ≡ Some (record (expired old.ticks timer) { expiries = 0 }) → IsAwake task.class state
+  by_timer : (n : ℕ) (timer : Timer) → timer.due ≢ 0 → timer.due ≤ old.ticks → timer.cpu ≡ c → slice_get new.timers n ≡ Some (record (expired old.ticks timer) { expiries = 0 }) → IsReadyAgain task.class state
       → WaitEndsBy runs c t memory old new task state (OfTimer n) (expired old.ticks timer).expiries
 
 -- it waited, on whatever processor, and is ready: it has no deadline, a later stamp, and the answer in a0
@@ -216,7 +216,7 @@ pub record StepChangesOnly (runs : Option ℕ) (c : ℕ) (old new : Board) : Typ
   pub line : Option ℕ
   pub devices : DevicesAfter runs old.parts.harts old.memory new.memory.devices line
   -- the notices stand, or the current task gets one
-  pub notices : (new.parts.notices ≡ old.parts.notices) ⊎ IsNoticed runs c old.memory old.parts new.parts.notices
+  pub notices : (new.parts.notices ≡ old.parts.notices) ⊎ AddsNotice runs c old.memory old.parts new.parts.notices
   -- on other pipes at most line 1 is raised, and the device's line on processor 0
   pub pipes : (d : ℕ) → d ≢ c
       → (slice_get new.parts.pipes d ≡ slice_get (raise_line line old.parts).pipes d) ⊎ (slice_get new.parts.pipes d ≡ option_map (raise 1) (slice_get (raise_line line old.parts).pipes d))

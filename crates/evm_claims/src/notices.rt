@@ -11,7 +11,7 @@ ghost use Rattle.evm_model.specs.declared.boot.Boot.{Boot};
 ghost use Rattle.evm_model.specs.declared.event.Answer.{Answer};
 ghost use Rattle.evm_model.specs.declared.event.Event.TheVariants as Event;
 ghost use Rattle.evm_claims.specs.About.{IsAbout};
-ghost use Rattle.evm_claims.specs.Noticed.{IsNoticed};
+ghost use Rattle.evm_claims.specs.Noticed.{AddsNotice};
 ghost use Rattle.evm_claims.specs.Reached.{Reached};
 
 /// After every boot whose numbers are inside their limits, with devices and an image loaded or none, and every list of events:
@@ -22,7 +22,7 @@ ghost use Rattle.evm_claims.specs.Reached.{Reached};
 pub fn a_step_makes_one_notice_at_most()
     ensures one { (boot : Boot) (old new : State) (answer : Answer) (c : ℕ) → Reached boot old → apply old (Event.Step c) ≡ Result.Ok (new, answer) →
         (new.board.parts.notices ≡ old.board.parts.notices)
-        ⊎ IsNoticed (current c old.board.parts) c old.board.memory old.board.parts new.board.parts.notices }
+        ⊎ AddsNotice (current c old.board.parts) c old.board.memory old.board.parts new.board.parts.notices }
     ensures none { (boot : Boot) (old new : State) (answer : Answer) (c task : ℕ) (hart : Hart) → Reached boot old → apply old (Event.Step c) ≡ Result.Ok (new, answer) →
         IsAbout (current c old.board.parts) task hart Effect.Call old.board.parts.harts old.board.memory →
         14 < register_of hart.regs 17 → register_of hart.regs 17 ≢ 36 → register_of hart.regs 17 ≢ 37 → register_of hart.regs 17 ≢ 38 →

@@ -6,7 +6,7 @@ use Rattle.evm_host.specs.evm_messages.Diagnostic.{about, Reports}
 use Rattle.evm_host.specs.evm_serve.RunOptions.{Attached}
 use Rattle.evm_host.specs.evm_serve.evm_streams.declared.source.Reading.{Reading}
 use Rattle.evm_host.specs.evm_serve.evm_streams.declared.sink.Writing.{Writing}
-use Rattle.evm_threads.specs.Runs.{Ends, loaded, status_of}
+use Rattle.evm_threads.specs.Runs.{Ends, loaded_machine, ending_status}
 use Rattle.evm_threads.specs.declared.outcome.RunEnding.{RunEnding}
 use Rattle.evm_threads.specs.declared.outcome.RunEnding.TheVariants.{Written, Incomplete, ImageRefused, NoMemory, WriteFailed}
 use Rattle.evm_host.specs.Exit.{failed_write_message, report_name}
@@ -31,7 +31,7 @@ module _ {S O C I W E : Type 0} (writes : W → Writing → List ℕ → W → T
   -- The image is run by threads; neither a file nor standard input is asked for.
   abbrev pub RunsByThreads : List Attached → List ℕ → ℕ → Contents → World S O C I W E → World S O C I W E → ℕ → Type 0
   RunsByThreads devices path turns image w w' status = AsksNothing w w' × ((ending : RunEnding)
-      × Ends writes turns (loaded devices image) w.output w'.output ending × ExplainsRun reports path ending w.errors w'.errors × (status ≡ status_of ending))
+      × Ends writes turns (loaded_machine devices image) w.output w'.output ending × ExplainsRun reports path ending w.errors w'.errors × (status ≡ ending_status ending))
 
 module _ {S O C I W E : Type 0} (opens : S → List ℕ → Result O OpenFault → S → Type 0)
     (opened : O → Reading → List ℕ → O → Type 0) (writes : W → Writing → List ℕ → W → Type 0) (reports : E → Writing → List ℕ → E → Type 0) where

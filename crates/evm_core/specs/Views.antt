@@ -9,13 +9,13 @@ use Rattle.evm_model.specs.declared.stage.StageLog.{StageLog}
 use Rattle.evm_core.specs.declared.stages.Stages.{Stages}
 
 -- the counts of line l, where there are a pipe and such a line
-abbrev pub counts_of : Option Pipe → ℕ → Option Counts
-counts_of None l = None
-counts_of (Some pipe) l = slice_get pipe.counts l
+abbrev pub counts_on_line : Option Pipe → ℕ → Option Counts
+counts_on_line None l = None
+counts_on_line (Some pipe) l = slice_get pipe.counts l
 
 -- the counts of line l of processor c
 abbrev pub counts_at : ℕ → ℕ → Parts → Option Counts
-counts_at c l k = counts_of (slice_get k.pipes c) l
+counts_at c l k = counts_on_line (slice_get k.pipes c) l
 
 -- the log of a stage, where there is a pipe
 abbrev pub log_in : Stage → Option Pipe → Option StageLog
@@ -36,10 +36,10 @@ stages_in (Some pipe) = Some (record { oob = pipe.oob; in_band = pipe.in_band; w
 abbrev pub stages_at : ℕ → Parts → Option Stages
 stages_at c k = stages_in (slice_get k.pipes c)
 
-abbrev pub word_of : Option Attached → ℕ → Option ℕ
-word_of None k = None
-word_of (Some device) k = slice_get device.words k
+abbrev pub word_in_device : Option Attached → ℕ → Option ℕ
+word_in_device None k = None
+word_in_device (Some device) k = slice_get device.words k
 
 -- word k of device i
 abbrev pub device_word : ℕ → ℕ → List Attached → Option ℕ
-device_word i k devices = word_of (slice_get devices i) k
+device_word i k devices = word_in_device (slice_get devices i) k

@@ -6,7 +6,7 @@ use Rattle.evm_dev.specs.declared.kind.Kind.{Kind}
 use Rattle.evm_dev.specs.declared.kind.Kind.TheVariants.{Console, Mailbox, Pins}
 use Rattle.evm_model.specs.Devices.{Attached}
 use Rattle.evm_model.specs.Good.{AreDevices}
-use Rattle.evm_journal.specs.evm_core.Views.{device_word, word_of}
+use Rattle.evm_journal.specs.evm_core.Views.{device_word, word_in_device}
 use Rattle.evm_debug.specs.Pieces.{words_in}
 
 pub is_within : {X : Type 0} (xs : List X) (i : ℕ) (x : X) → slice_get xs i ≡ Some x → i < length xs
@@ -31,7 +31,7 @@ few_in devices i (Some device) e are = few_of_kind device.kind device.words (are
 pub few_words : (devices : List Attached) (i : ℕ) → AreDevices devices → length (words_in (slice_get devices i)) ≤ 256
 few_words devices i are = few_in devices i (slice_get devices i) refl are
 
-same_word : (o : Option Attached) (k : ℕ) → word_of o k ≡ slice_get (words_in o) k
+same_word : (o : Option Attached) (k : ℕ) → word_in_device o k ≡ slice_get (words_in o) k
 same_word None k = refl
 same_word (Some device) k = refl
 

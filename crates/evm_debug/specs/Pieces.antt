@@ -2,19 +2,19 @@
 use Rattle.std.specs.Prelude.{ℕ, List, [], ◌∷◌, ◌++◌, Option, Some, None}
 use Rattle.evm_journal.specs.evm_text.Written.{decimal}
 use Rattle.evm_model.specs.Devices.{Attached}
-use Rattle.evm_debug.specs.Views.{word_text, line_set_text, bit_text, number_or_none, two_digits, state_text, class_text, stage_text}
+use Rattle.evm_debug.specs.Views.{hexadecimal_word, line_set_text, bit_text, number_or_none, two_digits, state_codes, class_text, stage_text}
 use Rattle.evm_debug.specs.declared.piece.Piece.{Piece}
 use Rattle.evm_debug.specs.declared.piece.Piece.TheVariants.{Text, Decimal, Word, Lines, Bit, Number, TwoDigits, State, Class, Stage}
 
 abbrev pub piece_text : Piece → List ℕ
 piece_text (Text s) = s.now
 piece_text (Decimal n) = decimal n
-piece_text (Word n) = word_text n
+piece_text (Word n) = hexadecimal_word n
 piece_text (Lines lines) = line_set_text lines
 piece_text (Bit b) = bit_text b
 piece_text (Number t) = number_or_none t
 piece_text (TwoDigits n) = two_digits n
-piece_text (State s) = state_text s
+piece_text (State s) = state_codes s
 piece_text (Class c) = class_text c
 piece_text (Stage s) = stage_text s
 

@@ -41,8 +41,8 @@ parts_text [] = []
 parts_text (part ∷ parts) = part ++ parts_text parts
 
 -- a number of 16 hexadecimal digits
-abbrev pub word_text : ℕ → List ℕ
-word_text n = hexadecimal_padded 16 n
+abbrev pub hexadecimal_word : ℕ → List ℕ
+hexadecimal_word n = hexadecimal_padded 16 n
 
 -- a set of lines, as a number of as many hexadecimal digits as they need, with bit l for line l
 abbrev pub line_set_text : List ℕ → List ℕ
@@ -62,18 +62,18 @@ two_digits n = decimal (n / 10) ++ decimal (n % 10)
 -- four registers from r on, each with its number of two digits
 abbrev pub four_registers : ℕ → List ℕ → List ℕ
 four_registers r regs = parts_text (
-    codes "x" ∷ two_digits r ∷ codes " " ∷ word_text (register_of regs r)
-    ∷ codes " x" ∷ two_digits (r + 1) ∷ codes " " ∷ word_text (register_of regs (r + 1))
-    ∷ codes " x" ∷ two_digits (r + 2) ∷ codes " " ∷ word_text (register_of regs (r + 2))
-    ∷ codes " x" ∷ two_digits (r + 3) ∷ codes " " ∷ word_text (register_of regs (r + 3)) ∷ codes "\n" ∷ [])
+    codes "x" ∷ two_digits r ∷ codes " " ∷ hexadecimal_word (register_of regs r)
+    ∷ codes " x" ∷ two_digits (r + 1) ∷ codes " " ∷ hexadecimal_word (register_of regs (r + 1))
+    ∷ codes " x" ∷ two_digits (r + 2) ∷ codes " " ∷ hexadecimal_word (register_of regs (r + 2))
+    ∷ codes " x" ∷ two_digits (r + 3) ∷ codes " " ∷ hexadecimal_word (register_of regs (r + 3)) ∷ codes "\n" ∷ [])
 
 -- four registers a line, from r on
 unfoldable pub register_lines : ℕ → ℕ → List ℕ → List ℕ
 register_lines r zero regs = []
 register_lines r (suc count) regs = four_registers r regs ++ register_lines (r + 4) count regs
 
-abbrev pub registers_text : List ℕ → List ℕ
-registers_text regs = register_lines 0 (REGISTERS / 4) regs
+abbrev pub register_rows : List ℕ → List ℕ
+register_rows regs = register_lines 0 (REGISTERS / 4) regs
 
 -- the stage that a current task is on
 abbrev pub stage_text : TaskState → List ℕ
@@ -84,8 +84,8 @@ abbrev pub current_text : ℕ → Option Task → Option Hart → List ℕ
 current_text t None hart = codes "none\n"
 current_text t (Some task) None = codes "none\n"
 current_text t (Some task) (Some hart) =
-    parts_text (codes "task " ∷ decimal t ∷ codes " " ∷ stage_text task.state ∷ codes " pc " ∷ word_text hart.pc ∷ codes "\n" ∷ [])
-    ++ registers_text hart.regs
+    parts_text (codes "task " ∷ decimal t ∷ codes " " ∷ stage_text task.state ∷ codes " pc " ∷ hexadecimal_word hart.pc ∷ codes "\n" ∷ [])
+    ++ register_rows hart.regs
 
 abbrev pub regs_text : Option ℕ → Parts → List ℕ
 regs_text None k = codes "none\n"
@@ -107,12 +107,12 @@ wait_text (wait.Flags n) = codes "flags " ++ decimal n
 wait_text wait.Sleep = codes "sleep"
 wait_text (wait.Timer n) = codes "timer " ++ decimal n
 
-abbrev pub state_text : TaskState → List ℕ
-state_text state.InReady = codes "in-ready"
-state_text state.OobReady = codes "oob-ready"
-state_text (state.Waits on) = wait_text on
-state_text state.Exit = codes "exit"
-state_text (state.Faulted fault) = codes "fault " ++ decimal (fault_number fault)
+abbrev pub state_codes : TaskState → List ℕ
+state_codes state.InReady = codes "in-ready"
+state_codes state.OobReady = codes "oob-ready"
+state_codes (state.Waits on) = wait_text on
+state_codes state.Exit = codes "exit"
+state_codes (state.Faulted fault) = codes "fault " ++ decimal (fault_number fault)
 
 -- task t and its pc, if there is such a task
 abbrev pub task_text : ℕ → Option Task → Option Hart → List ℕ
@@ -120,7 +120,7 @@ task_text t None hart = []
 task_text t (Some task) None = []
 task_text t (Some task) (Some hart) = parts_text (
     decimal t ∷ codes " cpu " ∷ decimal task.cpu ∷ codes " " ∷ class_text task.class ∷ codes " " ∷ decimal task.priority
-    ∷ codes " " ∷ state_text task.state ∷ codes " pc " ∷ word_text hart.pc ∷ codes "\n" ∷ [])
+    ∷ codes " " ∷ state_codes task.state ∷ codes " pc " ∷ hexadecimal_word hart.pc ∷ codes "\n" ∷ [])
 
 -- the tasks below a number, by their numbers
 unfoldable pub tasks_below : ℕ → Parts → List ℕ
@@ -170,7 +170,7 @@ notices_text notices = total_text notices.total ++ notices_below (length notices
 -- a word, if there is one, behind a blank
 abbrev pub blank_word : Option ℕ → List ℕ
 blank_word None = []
-blank_word (Some word) = parts_text (codes " " ∷ word_text word ∷ [])
+blank_word (Some word) = parts_text (codes " " ∷ hexadecimal_word word ∷ [])
 
 -- the words below a number, by their numbers
 unfoldable pub words_below : ℕ → List ℕ → List ℕ
@@ -209,9 +209,9 @@ regs_of None k = Err NoSuchCpu
 regs_of (Some p) k = Ok (regs_text p.current k)
 
 -- of a task that is there; one that has ended has a rank too
-abbrev pub rank_of : Option Task → ℕ → Result (List ℕ) Refusal
-rank_of None n = Err NoTask
-rank_of (Some task) n = Ok (rank_text n)
+abbrev pub rank_answer : Option Task → ℕ → Result (List ℕ) Refusal
+rank_answer None n = Err NoTask
+rank_answer (Some task) n = Ok (rank_text n)
 
 abbrev pub counts_of_line : Option Counts → Result (List ℕ) Refusal
 counts_of_line None = Err NoSuchLine
@@ -243,7 +243,7 @@ shown (Mem address count) s = mem_of address count s.board.memory
 shown (StagesView c) s = stages_of c (slice_get s.board.parts.processors c) (stages_at c s.board.parts)
 shown Tasks s = Ok (tasks_text s.board.parts)
 shown Owners s = Ok (owners_text s.board.parts)
-shown (Rank t) s = rank_of (slice_get s.board.parts.tasks t) (rank s.board.parts.mutexes s.board.parts.tasks t)
+shown (Rank t) s = rank_answer (slice_get s.board.parts.tasks t) (rank s.board.parts.mutexes s.board.parts.tasks t)
 shown NoticesView s = Ok (notices_text s.board.parts.notices)
 shown (CountsView c l) s = counts_shown (stages_at c s.board.parts) (counts_at c l s.board.parts)
 shown Journal s = Ok (journal_text s.boot s.journal)

@@ -3,7 +3,7 @@
 ghost use Rattle.std.specs.Prelude.{◌≡◌, ◌++◌};
 ghost use Rattle.evm_journal.specs.evm_text.Appending.{Appends};
 ghost use Rattle.evm_journal.specs.evm_text.Written.{decimal};
-ghost use Rattle.evm_debug.specs.Views.{state_text, wait_text, class_text, number_or_none, two_digits};
+ghost use Rattle.evm_debug.specs.Views.{state_codes, wait_text, class_text, number_or_none, two_digits};
 ghost use Rattle.evm_debug.specs.Pieces.{piece_text, pieces_text};
 
 use evm_journal::{push_decimal, push_hexadecimal_padded};
@@ -66,7 +66,7 @@ fn push_wait(out: &mut String, wait: Wait) -> Result<(), Refused>
 }
 
 fn push_state(out: &mut String, state: TaskState) -> Result<(), Refused>
-    ensures { Appends (state_text state) out.old out.new result }
+    ensures { Appends (state_codes state) out.old out.new result }
 {
     match state {
         TaskState::InReady => push_text(out, "in-ready"),

@@ -1,6 +1,6 @@
 ghost use Rattle.std.specs.Prelude.{◌≡◌, ◌<◌, ◌+◌, Option, slice_get};
 ghost use Rattle.evm_journal.specs.evm_text.Appending.{Appends};
-ghost use Rattle.evm_debug.specs.Views.{four_registers, registers_text, current_text, regs_text, task_text, tasks_text, owner_text, owners_text, rank_text, stages_text, counts_text};
+ghost use Rattle.evm_debug.specs.Views.{four_registers, register_rows, current_text, regs_text, task_text, tasks_text, owner_text, owners_text, rank_text, stages_text, counts_text};
 ghost use Rattle.evm_exec.specs.Registers.{register_of};
 
 use crate::piece::{Piece, push_pieces};
@@ -50,7 +50,7 @@ fn push_register_line(out: &mut String, r: u8, hart: &Hart) -> Result<(), Refuse
 
 #[tactic(auto, using(crate::proofs::RegisterLines::first_line))]
 fn push_registers(out: &mut String, hart: &Hart) -> Result<(), Refused>
-    ensures { Appends (registers_text hart.now.regs) out.old out.new result }
+    ensures { Appends (register_rows hart.now.regs) out.old out.new result }
 {
     for line in 0..REGISTERS / 4 {
         match push_register_line(out, line * 4, hart) {

@@ -24,19 +24,19 @@ abbrev pub is_ebreak : Option (List ℕ) → Bool
 is_ebreak (Some word) = starts_with nat_eq word (115 ∷ 0 ∷ 16 ∷ 0 ∷ [])
 is_ebreak None = false
 
-abbrev pub place_at : ℕ → Board → StopPlace
-place_at pc b =
+abbrev pub stop_place_at : ℕ → Board → StopPlace
+stop_place_at pc b =
     if is_set b.breakpoints pc then Breakpoint pc
     else (if is_ebreak (bytes_at b.memory.ram (pc - 4) 4) then Ebreak (pc - 4) else Pc pc)
 
 abbrev pub place_of_hart : Option Hart → Board → StopPlace
 place_of_hart None b = Idle
-place_of_hart (Some hart) b = place_at hart.pc b
+place_of_hart (Some hart) b = stop_place_at hart.pc b
 
 -- the place of the current task
-abbrev pub place_of : Option ℕ → Board → StopPlace
-place_of None b = Idle
-place_of (Some t) b = place_of_hart (slice_get b.parts.harts t) b
+abbrev pub stop_place_of : Option ℕ → Board → StopPlace
+stop_place_of None b = Idle
+stop_place_of (Some t) b = place_of_hart (slice_get b.parts.harts t) b
 
 abbrev pub is_cpu_stopped : ℕ → State → Bool
 is_cpu_stopped c s = is_stopped (slice_get s.board.parts.processors c)
@@ -46,7 +46,7 @@ is_cpu_stopped c s = is_stopped (slice_get s.board.parts.processors c)
 -- processor c, if it is stopped; and whether it was stopped before the line
 abbrev pub note_of : ℕ → Bool → Option Processor → Board → Option StepNote
 note_of c earlier None b = None
-note_of c earlier (Some p) b = if p.stopped then Some (record { cpu = c; earlier = earlier; place = place_of p.current b }) else None
+note_of c earlier (Some p) b = if p.stopped then Some (record { cpu = c; earlier = earlier; place = stop_place_of p.current b }) else None
 
 -- ---- messages
 

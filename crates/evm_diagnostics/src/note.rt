@@ -3,7 +3,7 @@
 ghost use Rattle.std.specs.Prelude.{◌≡◌, option_copied, slice_get, Option};
 ghost use Rattle.evm_messages.specs.Message.{message_text};
 ghost use Rattle.evm_messages.specs.Diagnostic.{ReportsAll};
-ghost use Rattle.evm_diagnostics.specs.Notes.{is_ebreak, place_at, place_of, is_cpu_stopped, note_of, stop_effect, idle_words, at_breakpoint, behind_ebreak, at_pc, stop_text, note_text, is_zero_word, is_multiply, illegal_text, task_fault_words, task_fault, note_texts, faulted_texts, task_texts, ended_texts};
+ghost use Rattle.evm_diagnostics.specs.Notes.{is_ebreak, stop_place_at, stop_place_of, is_cpu_stopped, note_of, stop_effect, idle_words, at_breakpoint, behind_ebreak, at_pc, stop_text, note_text, is_zero_word, is_multiply, illegal_text, task_fault_words, task_fault, note_texts, faulted_texts, task_texts, ended_texts};
 
 use evm_debug::Machine;
 use evm_dev::Device;
@@ -44,8 +44,8 @@ fn is_ebreak(word: Option<&[u8]>) -> bool
     }
 }
 
-fn place_at<D: Device>(pc: u64, machine: &Machine<D>) -> StopPlace
-    ensures { result ≡ place_at pc machine.now.board }
+fn stop_place_at<D: Device>(pc: u64, machine: &Machine<D>) -> StopPlace
+    ensures { result ≡ stop_place_at pc machine.now.board }
 {
     let before = pc.saturating_sub(4);
     if machine.is_breakpoint(pc) {
@@ -58,14 +58,14 @@ fn place_at<D: Device>(pc: u64, machine: &Machine<D>) -> StopPlace
 }
 
 // The place of a current task.
-fn place_of<D: Device>(current: Option<u8>, machine: &Machine<D>) -> StopPlace
-    ensures { result ≡ place_of current machine.now.board }
+fn stop_place_of<D: Device>(current: Option<u8>, machine: &Machine<D>) -> StopPlace
+    ensures { result ≡ stop_place_of current machine.now.board }
 {
     let Some(t) = current else {
         return StopPlace::Idle;
     };
     match machine.hart(t) {
-        Some(hart) => place_at(hart.pc, machine),
+        Some(hart) => stop_place_at(hart.pc, machine),
         None => StopPlace::Idle,
     }
 }
@@ -90,7 +90,7 @@ pub fn note_of<D: Device>(c: u8, earlier: bool, machine: &Machine<D>) -> Option<
                 Some(StepNote {
                     cpu: c,
                     earlier,
-                    place: place_of(processor.current, machine),
+                    place: stop_place_of(processor.current, machine),
                 })
             } else {
                 None

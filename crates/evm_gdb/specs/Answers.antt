@@ -6,7 +6,7 @@ use Rattle.evm_ram.specs.Ram.{bytes_at}
 use Rattle.evm_model.specs.State.{State}
 use Rattle.evm_gdb_commands.specs.declared.command.Command.{Command}
 use Rattle.evm_gdb_commands.specs.declared.command.Command.TheVariants as commands
-use Rattle.evm_gdb_driving.specs.Shown.{error_text, hart_register, halt_text, memory_text, registers_text, thread_text, threads_text, word_text}
+use Rattle.evm_gdb_driving.specs.Shown.{error_text, hart_register, halt_text, memory_reply, registers_text, thread_text, threads_text, word_text}
 use Rattle.evm_gdb_driving.specs.declared.stops.Halt.{Halt}
 
 -- ---- questions
@@ -21,13 +21,13 @@ task_register r None = error_text 5
 task_register r (Some hart) = word_text (hart_register hart r)
 
 -- a register of a task, or error 7 where there is no such register
-abbrev pub register_text : ℕ → Option Hart → List ℕ
-register_text r hart = if nat_lt REGISTERS r then error_text 7 else task_register r hart
+abbrev pub register_reply : ℕ → Option Hart → List ℕ
+register_reply r hart = if nat_lt REGISTERS r then error_text 7 else task_register r hart
 
 -- whether there is a task of a thread; any is there
-abbrev pub is_task : ℕ → Option ℕ → Bool
-is_task count None = true
-is_task count (Some t) = nat_lt t count
+abbrev pub is_thread : ℕ → Option ℕ → Bool
+is_thread count None = true
+is_thread count (Some t) = nat_lt t count
 
 abbrev pub alive_text : Bool → List ℕ
 alive_text true = codes "OK"
@@ -37,9 +37,9 @@ alive_text false = error_text 5
 abbrev pub answer_text : ℕ → Halt → State → Command → Option (List ℕ)
 answer_text looked halt s commands.Why = Some (halt_text halt)
 answer_text looked halt s commands.Registers = Some (task_registers (slice_get s.board.parts.harts looked))
-answer_text looked halt s (commands.Register r) = Some (register_text r (slice_get s.board.parts.harts looked))
-answer_text looked halt s (commands.Memory address count) = Some (memory_text (bytes_at s.board.memory.ram address count))
-answer_text looked halt s (commands.IsThread thread) = Some (alive_text (is_task (length s.board.parts.tasks) thread))
+answer_text looked halt s (commands.Register r) = Some (register_reply r (slice_get s.board.parts.harts looked))
+answer_text looked halt s (commands.Memory address count) = Some (memory_reply (bytes_at s.board.memory.ram address count))
+answer_text looked halt s (commands.IsThread thread) = Some (alive_text (is_thread (length s.board.parts.tasks) thread))
 answer_text looked halt s commands.Looked = Some (codes "QC" ++ thread_text looked)
 answer_text looked halt s commands.Threads = Some (threads_text (length s.board.parts.tasks))
 answer_text looked halt s commands.MoreThreads = Some (codes "l")

@@ -2,7 +2,7 @@
 
 ghost use Rattle.std.specs.Prelude.{◌≡◌, ◌++◌, ℕ, List, Option, OnOk};
 ghost use Rattle.evm_gdb.specs.Answers.{answer_text};
-ghost use Rattle.evm_gdb_driving.specs.Kept.{Keeps};
+ghost use Rattle.evm_gdb_driving.specs.Kept.{KeepsJournal};
 
 use crate::monitor::{LineEnd, run_monitor};
 use crate::questions::answer_question;
@@ -30,7 +30,7 @@ fn write_register<D: Device>(
     r: u64,
     bytes: &[u8],
 ) -> Result<(), Refusal>
-    ensures kept { Keeps machine.old machine.new }
+    ensures kept { KeepsJournal machine.old machine.new }
 {
     let Some((value, rest)) = word_at(bytes) else {
         return Err(Refusal::BadRegister);
@@ -52,7 +52,7 @@ fn write_counted<D: Device>(
     count: u64,
     bytes: &[u8],
 ) -> Result<(), Refusal>
-    ensures kept { Keeps machine.old machine.new }
+    ensures kept { KeepsJournal machine.old machine.new }
 {
     if bytes.len() as u64 != count {
         return Err(Refusal::BadAddress);
@@ -63,7 +63,7 @@ fn write_counted<D: Device>(
 // A breakpoint more or less.
 #[tactic(auto, using(evm_gdb_driving::proofs::Kept::keeps_same))]
 fn change_breakpoint<D: Device>(machine: &mut Machine<D>, change: Event) -> Result<(), Refusal>
-    ensures kept { Keeps machine.old machine.new }
+    ensures kept { KeepsJournal machine.old machine.new }
 {
     match event(machine, change.lend()) {
         Ok(_) => Ok(()),
@@ -78,7 +78,7 @@ fn look_at<D: Device>(
     thread: Option<u8>,
     out: &mut Vec<u8>,
 ) -> Result<(), Refused>
-    ensures kept { Keeps session.old.machine session.new.machine }
+    ensures kept { KeepsJournal session.old.machine session.new.machine }
 {
     if let Some(task) = thread {
         if task >= session.machine.task_count() {
@@ -97,7 +97,7 @@ fn insert<D: Device>(
     address: u64,
     out: &mut Vec<u8>,
 ) -> Result<(), Refused>
-    ensures kept { Keeps session.old.machine session.new.machine }
+    ensures kept { KeepsJournal session.old.machine session.new.machine }
 {
     let outcome = change_breakpoint(&mut session.machine, Event::Break(address));
     if outcome.is_ok() && kind == BreakKind::Hardware {
@@ -113,7 +113,7 @@ fn remove<D: Device>(
     address: u64,
     out: &mut Vec<u8>,
 ) -> Result<(), Refused>
-    ensures kept { Keeps session.old.machine session.new.machine }
+    ensures kept { KeepsJournal session.old.machine session.new.machine }
 {
     let outcome = change_breakpoint(&mut session.machine, Event::Unbreak(address));
     session.hardware = without(session.hardware.as_slice(), address);
@@ -139,7 +139,7 @@ fn answer_monitor<D: Device>(
     told: &mut String,
     out: &mut Vec<u8>,
 ) -> Result<(), NoMemory>
-    ensures kept { Keeps session.old.machine session.new.machine }
+    ensures kept { KeepsJournal session.old.machine session.new.machine }
 {
     let end = run_monitor(session, line, told)?;
     let said = match end {
@@ -167,7 +167,7 @@ fn answer_data<D: Device>(
     told: &mut String,
     out: &mut Vec<u8>,
 ) -> Result<(), NoMemory>
-    ensures kept { Keeps session.old.machine session.new.machine }
+    ensures kept { KeepsJournal session.old.machine session.new.machine }
 {
     let looked = session.looked;
     let outcome = match command {
@@ -195,7 +195,7 @@ fn answer_digits<D: Device>(
     told: &mut String,
     out: &mut Vec<u8>,
 ) -> Result<(), NoMemory>
-    ensures kept { Keeps session.old.machine session.new.machine }
+    ensures kept { KeepsJournal session.old.machine session.new.machine }
 {
     match read_digits(digits, data) {
         Ok(true) => answer_data(session, command, data.as_slice(), told, out),
@@ -216,7 +216,7 @@ fn answer_order<D: Device, I: Interrupts>(
     told: &mut String,
     out: &mut Vec<u8>,
 ) -> Result<(), Refused>
-    ensures kept { Keeps session.old.machine session.new.machine }
+    ensures kept { KeepsJournal session.old.machine session.new.machine }
     ensures said { (text : List ℕ) → answer_text session.old.looked session.old.halt session.old.machine command ≡ Option.Some text → OnOk result (out.new.items ≡ out.old.items ++ text) }
     ensures unchanged { (text : List ℕ) → answer_text session.old.looked session.old.halt session.old.machine command ≡ Option.Some text → session.new ≡ session.old }
 {
@@ -281,7 +281,7 @@ pub(crate) fn answer<D: Device, I: Interrupts>(
     told: &mut String,
     out: &mut Vec<u8>,
 ) -> Result<(), NoMemory>
-    ensures kept { Keeps session.old.machine session.new.machine }
+    ensures kept { KeepsJournal session.old.machine session.new.machine }
     ensures said { (text : List ℕ) → answer_text session.old.looked session.old.halt session.old.machine command ≡ Option.Some text → OnOk result (out.new.items ≡ out.old.items ++ text) }
     ensures unchanged { (text : List ℕ) → answer_text session.old.looked session.old.halt session.old.machine command ≡ Option.Some text → session.new ≡ session.old }
 {

@@ -1,6 +1,6 @@
 //! Lines of a script, as a monitor takes them.
 
-ghost use Rattle.evm_gdb_driving.specs.Kept.{Keeps};
+ghost use Rattle.evm_gdb_driving.specs.Kept.{KeepsJournal};
 
 use crate::session::{Session, TURN_LIMIT, each_processor};
 use arrayvec::ArrayVec;
@@ -53,7 +53,7 @@ pub fn run_line<D: Device>(
     line: &[u8],
     text: &mut String,
 ) -> Result<LineEnd, NoMemory>
-    ensures kept { Keeps machine.old machine.new }
+    ensures kept { KeepsJournal machine.old machine.new }
 {
     let Ok(line) = read_line(line) else {
         return Ok(LineEnd::Bad);
@@ -140,7 +140,7 @@ pub(crate) fn run_monitor<D: Device>(
     line: &[u8],
     text: &mut String,
 ) -> Result<LineEnd, NoMemory>
-    ensures kept { Keeps session.old.machine session.new.machine }
+    ensures kept { KeepsJournal session.old.machine session.new.machine }
 {
     match own_line(line, session.machine.cpu_count()) {
         None => run_line(&mut session.machine, line, text),

@@ -1,7 +1,7 @@
 //! Answers to questions, which change nothing.
 
 ghost use Rattle.std.specs.Prelude.{◌≡◌, ◌++◌, ℕ, List, Option, OnOk, length, slice_get};
-ghost use Rattle.evm_gdb.specs.Answers.{alive_text, answer_text, is_task, register_text, task_registers};
+ghost use Rattle.evm_gdb.specs.Answers.{alive_text, answer_text, is_thread, register_reply, task_registers};
 
 use crate::session::Session;
 use crate::target::{ACTIONS, DESCRIPTION, SUPPORTED, push_part};
@@ -29,7 +29,7 @@ fn answer_register<D: Device>(
     r: u64,
     out: &mut Vec<u8>,
 ) -> Result<(), Refused>
-    ensures ok { OnOk result (out.new.items ≡ out.old.items ++ register_text r (slice_get session.now.machine.board.parts.harts session.now.looked)) }
+    ensures ok { OnOk result (out.new.items ≡ out.old.items ++ register_reply r (slice_get session.now.machine.board.parts.harts session.now.looked)) }
 {
     if r > 32 {
         return push_error(out, Refusal::BadRegister.number());
@@ -46,9 +46,9 @@ fn answer_thread<D: Device>(
     thread: Option<u8>,
     out: &mut Vec<u8>,
 ) -> Result<(), Refused>
-    ensures ok { OnOk result (out.new.items ≡ out.old.items ++ alive_text (is_task (length machine.now.board.parts.tasks) thread)) }
+    ensures ok { OnOk result (out.new.items ≡ out.old.items ++ alive_text (is_thread (length machine.now.board.parts.tasks) thread)) }
 {
-    if is_task(machine, thread) {
+    if is_thread(machine, thread) {
         push_bytes(out, b"OK")
     } else {
         push_error(out, Refusal::NoTask.number())
@@ -56,8 +56,8 @@ fn answer_thread<D: Device>(
 }
 
 // Whether there is a task; any is there.
-fn is_task<D: Device>(machine: &Machine<D>, thread: Option<u8>) -> bool
-    ensures { result ≡ is_task (length machine.now.board.parts.tasks) thread }
+fn is_thread<D: Device>(machine: &Machine<D>, thread: Option<u8>) -> bool
+    ensures { result ≡ is_thread (length machine.now.board.parts.tasks) thread }
 {
     match thread {
         Some(task) => task < machine.task_count(),

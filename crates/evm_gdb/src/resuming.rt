@@ -1,6 +1,6 @@
 //! The program goes on, and why it is stopped again.
 
-ghost use Rattle.evm_gdb_driving.specs.Kept.{Keeps};
+ghost use Rattle.evm_gdb_driving.specs.Kept.{KeepsJournal};
 
 use crate::session::Session;
 use evm_dev::Device;
@@ -24,7 +24,7 @@ fn go_on<D: Device, I: Interrupts>(
     thread: Option<u8>,
     interrupts: &I,
 ) -> Result<(), Refusal>
-    ensures kept { Keeps session.old.machine session.new.machine }
+    ensures kept { KeepsJournal session.old.machine session.new.machine }
 {
     let looked = session.looked;
     let outcome = match pace {
@@ -89,7 +89,7 @@ pub(crate) fn answer_resumed<D: Device, I: Interrupts>(
     told: &mut String,
     out: &mut Vec<u8>,
 ) -> Result<(), Refused>
-    ensures kept { Keeps session.old.machine session.new.machine }
+    ensures kept { KeepsJournal session.old.machine session.new.machine }
 {
     match go_on(session, pace, thread, interrupts) {
         Ok(()) => {

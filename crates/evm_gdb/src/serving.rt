@@ -4,7 +4,7 @@ ghost use Rattle.std.specs.Prelude.{◌≡◌, ◌≢◌, ◌<◌, ◌++◌, [],
 ghost use Rattle.evm_gdb_packets.specs.Framing.{framed};
 ghost use Rattle.evm_gdb_commands.specs.Commands.{command_at};
 ghost use Rattle.evm_gdb.specs.Written.{Extends, acknowledgement};
-ghost use Rattle.evm_gdb_driving.specs.Kept.{Keeps};
+ghost use Rattle.evm_gdb_driving.specs.Kept.{KeepsJournal};
 
 use crate::answering::answer;
 use crate::session::Session;
@@ -121,7 +121,7 @@ fn answer_command<D: Device, I: Interrupts>(
     interrupts: &I,
     desk: &mut Desk,
 ) -> Result<(), NoMemory>
-    ensures kept { Keeps session.old.machine session.new.machine }
+    ensures kept { KeepsJournal session.old.machine session.new.machine }
     ensures extends { OnOk result (Extends desk.old.out.items desk.new.out.items) }
 {
     desk.told.clear();
@@ -175,7 +175,7 @@ fn answer_payload<D: Device, I: Interrupts>(
     interrupts: &I,
     desk: &mut Desk,
 ) -> Result<(), NoMemory>
-    ensures kept { Keeps session.old.machine session.new.machine }
+    ensures kept { KeepsJournal session.old.machine session.new.machine }
     ensures extends { OnOk result (Extends desk.old.out.items desk.new.out.items) }
     ensures unknown { command_at payload.now ≡ Option.None → session.new ≡ session.old }
     ensures empty { command_at payload.now ≡ Option.None → OnOk result (desk.new.out.items ≡ desk.old.out.items ++ framed []) }
@@ -198,7 +198,7 @@ fn hear<D: Device, I: Interrupts>(
     interrupts: &I,
     desk: &mut Desk,
 ) -> Result<(), NoMemory>
-    ensures kept { Keeps session.old.machine session.new.machine }
+    ensures kept { KeepsJournal session.old.machine session.new.machine }
     ensures acknowledged { OnOk result (Extends (acknowledgement session.old.acknowledges item) desk.new.out.items) }
     ensures others { item ≢ Item.Packet → session.new ≡ session.old }
     ensures sign { item ≢ Item.Packet → OnOk result (desk.new.out.items ≡ acknowledgement session.old.acknowledges item) }
@@ -231,7 +231,7 @@ fn prepare<D: Device, I: Interrupts>(
     interrupts: &I,
     desk: &mut Desk,
 ) -> Result<(), NoMemory>
-    ensures kept { Keeps session.old.machine session.new.machine }
+    ensures kept { KeepsJournal session.old.machine session.new.machine }
 {
     match item {
         Item::Packet | Item::Damaged => hear(alloc, session, item, payload, interrupts, desk),
@@ -249,7 +249,7 @@ fn serve_item<W: Sink, D: Device, I: Interrupts>(
     desk: &mut Desk,
     sink: &mut W,
 ) -> Result<(), Ended>
-    ensures kept { Keeps session.old.machine session.new.machine }
+    ensures kept { KeepsJournal session.old.machine session.new.machine }
 {
     match prepare(alloc, session, item, payload, interrupts, desk) {
         Ok(()) => {}
@@ -275,7 +275,7 @@ fn serve_items<W: Sink, D: Device, I: Interrupts>(
     desk: &mut Desk,
     sink: &mut W,
 ) -> Result<usize, Ended>
-    ensures kept { Keeps session.old.machine session.new.machine }
+    ensures kept { KeepsJournal session.old.machine session.new.machine }
 {
     let mut rest = bytes;
     'items: for _ in 0..bytes.len() {
@@ -317,7 +317,7 @@ fn read_more<R: Source>(source: &mut R, heard: &mut Vec<u8>) -> Result<bool, End
     }
 }
 
-// Keeps the last bytes of a list alone.
+// KeepsJournal the last bytes of a list alone.
 fn keep_last(heard: &mut Vec<u8>, left: usize) {
     let len = heard.len();
     if left < len {
@@ -335,7 +335,7 @@ pub fn serve<R: Source + Interrupts, W: Sink, D: Device>(
     source: &mut R,
     sink: &mut W,
 ) -> Ended
-    ensures kept { Keeps session.old.machine session.new.machine }
+    ensures kept { KeepsJournal session.old.machine session.new.machine }
 {
     let mut desk = new_desk(alloc);
     let mut heard = Vec::new(alloc);

@@ -1,22 +1,28 @@
 //! A run of the program, from its words to its exit status.
 
+ghost use Rattle.evm_gdb_command.specs.SessionEnds.{SessionEnded, Unheard};
+
 use crate::booting::{DEFAULT, NotBooted, boot, run_script};
 use crate::words::{Job, job_of, parse};
 use clap::Error;
 use clap::error::ErrorKind;
 use evm_dev::Device;
 use evm_gdb::{Devices, Ended, Interrupts, Machine, Refusal, Session, serve};
+use evm_gdb_hearing::{Hearing, HearingEnd};
 use evm_host::{
     Ending, FAILED, Known, Message, System, USAGE, Verdict, WordsFault, World, ended, ended_with,
     image_at, memory_refused, report, text_at, words_not_read, write_all,
 };
 use evm_image::Image;
 use evm_serve::InputFault;
-use evm_streams::Source;
+use evm_streams::{ReadFault, Source};
 use std::alloc::Global;
 
 /// The name in front of messages that are about no file.
 pub(crate) const PROGRAM: &str = "evlgdb";
+
+/// The name of what GDB sends.
+const INPUT: &str = "standard input";
 
 // Writes help or the version.
 fn show<S: System>(text: &str, world: &mut World<S>) -> u8 {
@@ -117,16 +123,26 @@ fn machine_of<S: System, D: Device>(
     }
 }
 
-// The status of a session that has ended.
-fn status_of<S: System>(end: Ended, world: &mut World<S>) -> u8 {
+// The status of a session that could not read what GDB sends: memory was refused to the thread that hears it, or a read failed.
+fn unread<S: System>(fault: ReadFault, heard: Option<HearingEnd>, world: &mut World<S>) -> u8
+    ensures { Unheard S.Output.takes S.Errors.takes fault heard world.old world.new result }
+{
+    match heard {
+        Some(HearingEnd::NoMemory) => memory_refused(PROGRAM, world),
+        Some(HearingEnd::EndOfInput) | Some(HearingEnd::ReadFailed(_)) | None => {
+            ended(INPUT, &Ending::ReadFailed(fault), &mut world.errors)
+        }
+    }
+}
+
+// The status of a session that has ended, and of which the hearing ended so.
+fn status_of<S: System>(end: Ended, heard: Option<HearingEnd>, world: &mut World<S>) -> u8
+    ensures { SessionEnded S.Output.takes S.Errors.takes end heard world.old world.new result }
+{
     match end {
         Ended::Left => 0,
         Ended::NoMemory => memory_refused(PROGRAM, world),
-        Ended::ReadFailed(fault) => ended(
-            "standard input",
-            &Ending::ReadFailed(fault),
-            &mut world.errors,
-        ),
+        Ended::ReadFailed(fault) => unread(fault, heard, world),
         Ended::WriteFailed(fault) => {
             ended(PROGRAM, &Ending::WriteFailed(fault), &mut world.errors)
         }
@@ -134,7 +150,7 @@ fn status_of<S: System>(end: Ended, world: &mut World<S>) -> u8 {
 }
 
 // Boots a machine, and serves GDB.
-fn do_job<S: System, D: Device, I: Source + Interrupts>(
+fn do_job<S: System, D: Device, I: Source + Interrupts + Hearing>(
     alloc: Global,
     devices: Devices<D>,
     job: Job<'_>,
@@ -151,11 +167,11 @@ fn do_job<S: System, D: Device, I: Source + Interrupts>(
     };
     let mut session = Session::new(machine);
     let end = serve(alloc, &mut session, input, &mut world.output);
-    status_of(end, world)
+    status_of(end, input.end(), world)
 }
 
 /// Does what the words ask for, with devices in the machine, and returns the exit status. GDB is heard by the input.
-pub fn answer<S: System, D: Device, I: Source + Interrupts>(
+pub fn answer<S: System, D: Device, I: Source + Interrupts + Hearing>(
     alloc: Global,
     words: &[String],
     devices: Devices<D>,
@@ -172,7 +188,7 @@ pub fn answer<S: System, D: Device, I: Source + Interrupts>(
 }
 
 /// Does what the words ask for, or reports why they could not be read, and returns the exit status.
-pub fn answer_read<S: System, D: Device, I: Source + Interrupts>(
+pub fn answer_read<S: System, D: Device, I: Source + Interrupts + Hearing>(
     alloc: Global,
     words: Result<Vec<String>, WordsFault>,
     devices: Devices<D>,

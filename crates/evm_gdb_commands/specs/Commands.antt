@@ -46,8 +46,8 @@ span_at bytes = do
   Some ((address.0, count.0), count.1)
 
 -- ADDRESS,COUNT:
-unfoldable pub write_at : List ℕ → Option ((ℕ × ℕ) × List ℕ)
-write_at bytes = do
+unfoldable pub write_in : List ℕ → Option ((ℕ × ℕ) × List ℕ)
+write_in bytes = do
   span ← span_at bytes
   rest ← after_word (codes ":") span.1
   Some (span.0, rest)
@@ -61,12 +61,12 @@ memory_said bytes = do
 
 unfoldable pub digits_said : List ℕ → Option (Command × List ℕ)
 digits_said bytes = do
-  write ← write_at bytes
+  write ← write_in bytes
   Some (WriteDigits write.0.0 write.0.1, write.1)
 
 unfoldable pub bytes_said : List ℕ → Option (Command × List ℕ)
 bytes_said bytes = do
-  write ← write_at bytes
+  write ← write_in bytes
   Some (WriteBytes write.0.0 write.0.1, write.1)
 
 unfoldable pub register_said : List ℕ → Option (Command × List ℕ)
@@ -76,16 +76,16 @@ register_said bytes = do
 
 -- ---- breakpoints
 
-unfoldable pub place_at : List ℕ → Option ℕ
-place_at bytes = do
+unfoldable pub address_at : List ℕ → Option ℕ
+address_at bytes = do
   address ← number_to (codes ",") bytes
   Some address.0
 
 abbrev pub insert_said : BreakKind → List ℕ → Option Command
-insert_said kind bytes = place_at bytes >>= λ address. Some (Insert kind address)
+insert_said kind bytes = address_at bytes >>= λ address. Some (Insert kind address)
 
 abbrev pub remove_said : BreakKind → List ℕ → Option Command
-remove_said kind bytes = place_at bytes >>= λ address. Some (Remove kind address)
+remove_said kind bytes = address_at bytes >>= λ address. Some (Remove kind address)
 
 unfoldable pub breakpoint_at : List ℕ → Option Command
 breakpoint_at bytes =
@@ -121,8 +121,8 @@ acted bytes =
     else (after_word (codes ":") bytes >>= λ rest. thread_at rest >>= λ thread. if is_end thread.1 then Some thread.0 else None)
 
 -- the first action decides
-unfoldable pub action_at : List ℕ → Option Command
-action_at bytes = do
+unfoldable pub action_named : List ℕ → Option Command
+action_named bytes = do
   pace ← pace_at bytes
   thread ← acted pace.1
   Some (ResumeThread pace.0 thread)
@@ -151,8 +151,8 @@ thread_said bytes =
 abbrev pub bare : Command → List ℕ → Option Command
 bare command rest = if length rest == 0 then Some command else None
 
-unfoldable pub word_at : List ℕ → Option Command
-word_at bytes =
+unfoldable pub named_command : List ℕ → Option Command
+named_command bytes =
     keyword (after_word (codes "?") bytes) (bare Why)
     (keyword (after_word (codes "g") bytes) (bare Registers)
     (keyword (after_word (codes "D") bytes) (bare Detach)
@@ -165,18 +165,18 @@ word_at bytes =
     (keyword (after_word (codes "vCont?") bytes) (bare Actions)
     (thread_said bytes))))))))))
 
-abbrev pub or_else : Option Command → Option Command → Option Command
-or_else None other = other
-or_else (Some command) other = Some command
+abbrev pub first_command : Option Command → Option Command → Option Command
+first_command None other = other
+first_command (Some command) other = Some command
 
 unfoldable pub long_at : List ℕ → Option Command
 long_at bytes =
     keyword (after_word (codes "qSupported") bytes) (λ rest. Some Supported)
     (keyword (after_word (codes "qXfer:features:read:target.xml:") bytes) description_said
-    (keyword (after_word (codes "vCont;") bytes) action_at
+    (keyword (after_word (codes "vCont;") bytes) action_named
     (keyword (after_word (codes "p") bytes) (λ rest. hexadecimal_last rest >>= λ register. Some (Register register))
     (keyword (after_word (codes "m") bytes) memory_said
-    (or_else (resume_said bytes) (word_at bytes))))))
+    (first_command (resume_said bytes) (named_command bytes))))))
 
 -- ---- any command, and the digits or bytes behind it
 

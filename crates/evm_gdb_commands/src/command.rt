@@ -2,7 +2,7 @@
 
 ghost use Rattle.std.specs.Prelude.{◌≡◌};
 ghost use Rattle.evm_text.specs.Reading.{ReadsAs};
-ghost use Rattle.evm_gdb_commands.specs.Commands.{acted, action_at, bare, breakpoint_at, command_at, description_said, digits_said, bytes_said, is_end, insert_said, long_at, memory_said, number_to, numbered_thread, pace_at, place_at, register_said, remove_said, resume_said, signal_behind, span_at, thread_at, thread_last, thread_of, thread_said, word_at, write_at};
+ghost use Rattle.evm_gdb_commands.specs.Commands.{acted, action_named, bare, breakpoint_at, command_at, description_said, digits_said, bytes_said, is_end, insert_said, long_at, memory_said, number_to, numbered_thread, pace_at, address_at, register_said, remove_said, resume_said, signal_behind, span_at, thread_at, thread_last, thread_of, thread_said, named_command, write_in};
 
 use evm_text::{after_word, hexadecimal_at, hexadecimal_last};
 
@@ -154,9 +154,9 @@ fn memory_said(bytes: &[u8]) -> Option<Command>
     }
 }
 
-#[tactic(auto, unfolding(crate::specs::Commands::write_at))]
-fn write_at(bytes: &[u8]) -> Option<((u64, u64), &[u8])>
-    ensures { ReadsAs (λ x. (x.0, x.1.now)) result (write_at bytes.now) }
+#[tactic(auto, unfolding(crate::specs::Commands::write_in))]
+fn write_in(bytes: &[u8]) -> Option<((u64, u64), &[u8])>
+    ensures { ReadsAs (λ x. (x.0, x.1.now)) result (write_in bytes.now) }
 {
     let (span, rest) = span_at(bytes)?;
     Some((span, after_word(b":", rest)?))
@@ -166,7 +166,7 @@ fn write_at(bytes: &[u8]) -> Option<((u64, u64), &[u8])>
 fn digits_said(bytes: &[u8]) -> Option<(Command, &[u8])>
     ensures { ReadsAs (λ x. (x.0, x.1.now)) result (digits_said bytes.now) }
 {
-    let ((address, count), digits) = write_at(bytes)?;
+    let ((address, count), digits) = write_in(bytes)?;
     Some((Command::WriteDigits(address, count), digits))
 }
 
@@ -174,7 +174,7 @@ fn digits_said(bytes: &[u8]) -> Option<(Command, &[u8])>
 fn bytes_said(bytes: &[u8]) -> Option<(Command, &[u8])>
     ensures { ReadsAs (λ x. (x.0, x.1.now)) result (bytes_said bytes.now) }
 {
-    let ((address, count), others) = write_at(bytes)?;
+    let ((address, count), others) = write_in(bytes)?;
     Some((Command::WriteBytes(address, count), others))
 }
 
@@ -187,9 +187,9 @@ fn register_said(bytes: &[u8]) -> Option<(Command, &[u8])>
 }
 
 // The address of a breakpoint; what stands behind it is of no use here.
-#[tactic(auto, unfolding(crate::specs::Commands::place_at))]
-fn place_at(bytes: &[u8]) -> Option<u64>
-    ensures { result ≡ place_at bytes.now }
+#[tactic(auto, unfolding(crate::specs::Commands::address_at))]
+fn address_at(bytes: &[u8]) -> Option<u64>
+    ensures { result ≡ address_at bytes.now }
 {
     let (address, _) = number_to(b",", bytes)?;
     Some(address)
@@ -198,13 +198,13 @@ fn place_at(bytes: &[u8]) -> Option<u64>
 fn insert_said(kind: BreakKind, bytes: &[u8]) -> Option<Command>
     ensures { result ≡ insert_said kind bytes.now }
 {
-    Some(Command::Insert(kind, place_at(bytes)?))
+    Some(Command::Insert(kind, address_at(bytes)?))
 }
 
 fn remove_said(kind: BreakKind, bytes: &[u8]) -> Option<Command>
     ensures { result ≡ remove_said kind bytes.now }
 {
-    Some(Command::Remove(kind, place_at(bytes)?))
+    Some(Command::Remove(kind, address_at(bytes)?))
 }
 
 #[tactic(auto, unfolding(crate::specs::Commands::breakpoint_at))]
@@ -276,9 +276,9 @@ fn acted(bytes: &[u8]) -> Option<Option<u8>>
 }
 
 // The first action decides; other threads are resumed as the schedule says.
-#[tactic(auto, unfolding(crate::specs::Commands::action_at))]
-fn action_at(bytes: &[u8]) -> Option<Command>
-    ensures { result ≡ action_at bytes.now }
+#[tactic(auto, unfolding(crate::specs::Commands::action_named))]
+fn action_named(bytes: &[u8]) -> Option<Command>
+    ensures { result ≡ action_named bytes.now }
 {
     let (pace, rest) = pace_at(bytes)?;
     Some(Command::ResumeThread(pace, acted(rest)?))
@@ -334,9 +334,9 @@ fn bare(command: Command, rest: &[u8]) -> Option<Command>
     if rest.is_empty() { Some(command) } else { None }
 }
 
-#[tactic(auto, unfolding(crate::specs::Commands::word_at))]
-fn word_at(bytes: &[u8]) -> Option<Command>
-    ensures { result ≡ word_at bytes.now }
+#[tactic(auto, unfolding(crate::specs::Commands::named_command))]
+fn named_command(bytes: &[u8]) -> Option<Command>
+    ensures { result ≡ named_command bytes.now }
 {
     if let Some(rest) = after_word(b"?", bytes) {
         return bare(Command::Why, rest);
@@ -382,7 +382,7 @@ fn long_at(bytes: &[u8]) -> Option<Command>
         return description_said(rest);
     }
     if let Some(rest) = after_word(b"vCont;", bytes) {
-        return action_at(rest);
+        return action_named(rest);
     }
     if let Some(rest) = after_word(b"p", bytes) {
         return Some(Command::Register(hexadecimal_last(rest)?));
@@ -393,7 +393,7 @@ fn long_at(bytes: &[u8]) -> Option<Command>
     if let Some(command) = resume_said(bytes) {
         return Some(command);
     }
-    word_at(bytes)
+    named_command(bytes)
 }
 
 /// What a payload asks for, and the digits or bytes behind that. None where it is of no kind that is answered.

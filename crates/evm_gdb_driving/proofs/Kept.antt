@@ -1,10 +1,10 @@
 -- What is kept by nothing, and by one call behind another.
 use Rattle.std.proofs.Common.{◌≡◌, refl, ◌∙◌}
 use Rattle.evm_model.specs.State.{State}
-use Rattle.evm_gdb_driving.specs.Kept.{Keeps}
+use Rattle.evm_gdb_driving.specs.Kept.{KeepsJournal}
 
-pub keeps_same : (s : State) → Keeps s s
+pub keeps_same : (s : State) → KeepsJournal s s
 keeps_same s = record { replays = λ first h. h; booted = refl }
 
-pub keeps_more : (s t u : State) → Keeps s t → Keeps t u → Keeps s u
+pub keeps_more : (s t u : State) → KeepsJournal s t → KeepsJournal t u → KeepsJournal s u
 keeps_more s t u a b = record { replays = λ first h. b.replays first (a.replays first h); booted = b.booted ∙ a.booted }

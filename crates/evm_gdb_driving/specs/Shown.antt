@@ -40,9 +40,9 @@ registers_text hart = register_texts (REGISTERS + 1) hart
 -- ---- memory
 
 -- bytes of RAM, or error 6 where one is outside
-abbrev pub memory_text : Option (List ℕ) → List ℕ
-memory_text None = error_text 6
-memory_text (Some bytes) = pairs bytes
+abbrev pub memory_reply : Option (List ℕ) → List ℕ
+memory_reply None = error_text 6
+memory_reply (Some bytes) = pairs bytes
 
 -- ---- threads
 

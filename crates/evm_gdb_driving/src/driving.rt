@@ -3,7 +3,7 @@
 ghost use Rattle.std.specs.Prelude.{◌≡◌, IfOk, IfErr, OnErr, Result};
 ghost use Rattle.evm_model.specs.Event.{event_lent};
 ghost use Rattle.evm_model.specs.Replay.{apply};
-ghost use Rattle.evm_gdb_driving.specs.Kept.{Keeps};
+ghost use Rattle.evm_gdb_driving.specs.Kept.{KeepsJournal};
 
 use evm_debug::{Answer, Event, Machine, Refusal};
 use evm_dev::Device;
@@ -14,7 +14,7 @@ pub fn event<D: Device>(machine: &mut Machine<D>, event: Event<&Block>) -> Resul
     ensures ok { IfOk result (λ answer. apply machine.old (event_lent event.entry) ≡ Result.Ok (machine.new, answer)) }
     ensures err { IfErr result (λ refusal. apply machine.old (event_lent event.entry) ≡ Result.Err refusal) }
     ensures unchanged { OnErr result (machine.new ≡ machine.old) }
-    ensures kept { Keeps machine.old machine.new }
+    ensures kept { KeepsJournal machine.old machine.new }
 {
     machine.apply(event)
 }
@@ -22,7 +22,7 @@ pub fn event<D: Device>(machine: &mut Machine<D>, event: Event<&Block>) -> Resul
 // Stops a processor that is not stopped.
 #[tactic(auto, using(crate::proofs::Kept::keeps_same))]
 fn stop<D: Device>(machine: &mut Machine<D>, c: u8) -> Result<(), Refusal>
-    ensures kept { Keeps machine.old machine.new }
+    ensures kept { KeepsJournal machine.old machine.new }
 {
     match machine.cpu(c) {
         Some(processor) if processor.stopped => Ok(()),
@@ -40,7 +40,7 @@ fn stop<D: Device>(machine: &mut Machine<D>, c: u8) -> Result<(), Refusal>
 /// Why the first of them can't be stopped.
 #[tactic(auto, using(crate::proofs::Kept::keeps_same, crate::proofs::Kept::keeps_more))]
 pub fn stop_all<D: Device>(machine: &mut Machine<D>) -> Result<(), Refusal>
-    ensures kept { Keeps machine.old machine.new }
+    ensures kept { KeepsJournal machine.old machine.new }
 {
     for c in 0..machine.cpu_count() {
         match stop(machine, c) {
@@ -54,7 +54,7 @@ pub fn stop_all<D: Device>(machine: &mut Machine<D>) -> Result<(), Refusal>
 // Lets a stopped processor go on.
 #[tactic(auto, using(crate::proofs::Kept::keeps_same))]
 fn go<D: Device>(machine: &mut Machine<D>, c: u8) -> Result<(), Refusal>
-    ensures kept { Keeps machine.old machine.new }
+    ensures kept { KeepsJournal machine.old machine.new }
 {
     match machine.cpu(c) {
         Some(processor) if processor.stopped => match event(machine, Event::Go(c)) {
@@ -72,7 +72,7 @@ fn go<D: Device>(machine: &mut Machine<D>, c: u8) -> Result<(), Refusal>
 /// Why the first of them can't go on.
 #[tactic(auto, using(crate::proofs::Kept::keeps_same, crate::proofs::Kept::keeps_more))]
 pub fn go_all<D: Device>(machine: &mut Machine<D>) -> Result<(), Refusal>
-    ensures kept { Keeps machine.old machine.new }
+    ensures kept { KeepsJournal machine.old machine.new }
 {
     for c in 0..machine.cpu_count() {
         match go(machine, c) {

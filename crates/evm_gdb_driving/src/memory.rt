@@ -2,8 +2,8 @@
 
 ghost use Rattle.std.specs.Prelude.{◌≡◌, ◌<◌, ◌++◌, length, OnOk};
 ghost use Rattle.evm_ram.specs.Ram.{bytes_at};
-ghost use Rattle.evm_gdb_driving.specs.Shown.{memory_text};
-ghost use Rattle.evm_gdb_driving.specs.Kept.{Keeps};
+ghost use Rattle.evm_gdb_driving.specs.Shown.{memory_reply};
+ghost use Rattle.evm_gdb_driving.specs.Kept.{KeepsJournal};
 
 use crate::bytes::{part_len, push_error};
 use crate::driving::event;
@@ -21,7 +21,7 @@ pub fn push_memory<D: Device>(
     address: u64,
     count: u64,
 ) -> Result<(), Refused>
-    ensures ok { OnOk result (out.new.items ≡ out.old.items ++ memory_text (bytes_at machine.now.board.memory.ram address count)) }
+    ensures ok { OnOk result (out.new.items ≡ out.old.items ++ memory_reply (bytes_at machine.now.board.memory.ram address count)) }
 {
     match machine.bytes(address, count) {
         Some(bytes) => push_digits(out, bytes),
@@ -52,7 +52,7 @@ fn cut_block(bytes: &[u8]) -> (&[u8], &[u8])
 /// Any other refusal is that of the first event that was refused.
 #[tactic(auto, using(crate::proofs::Kept::keeps_same, crate::proofs::Kept::keeps_more))]
 pub fn write<D: Device>(machine: &mut Machine<D>, address: u64, bytes: &[u8]) -> Result<(), Refusal>
-    ensures kept { Keeps machine.old machine.new }
+    ensures kept { KeepsJournal machine.old machine.new }
 {
     if machine.bytes(address, bytes.len() as u64).is_none() {
         return Err(Refusal::BadAddress);

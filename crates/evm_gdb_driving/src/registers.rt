@@ -3,7 +3,7 @@
 ghost use Rattle.std.specs.Prelude.{◌≡◌, ◌<◌, ◌++◌, IfSome, OnErr, OnOk};
 ghost use Rattle.evm_exec.specs.Registers.{register_of};
 ghost use Rattle.evm_gdb_driving.specs.Shown.{hart_register, register_texts, registers_text};
-ghost use Rattle.evm_gdb_driving.specs.Kept.{Keeps};
+ghost use Rattle.evm_gdb_driving.specs.Kept.{KeepsJournal};
 
 use crate::bytes::push_word;
 use crate::driving::event;
@@ -78,7 +78,7 @@ pub fn set_register<D: Device>(
     r: u64,
     value: u64,
 ) -> Result<(), Refusal>
-    ensures kept { Keeps machine.old machine.new }
+    ensures kept { KeepsJournal machine.old machine.new }
     ensures unchanged { OnErr result (machine.new ≡ machine.old) }
 {
     if r == 0 {
@@ -108,7 +108,7 @@ fn change_register<D: Device>(
     r: u8,
     value: u64,
 ) -> Result<(), Refusal>
-    ensures kept { Keeps machine.old machine.new }
+    ensures kept { KeepsJournal machine.old machine.new }
     ensures unchanged { OnErr result (machine.new ≡ machine.old) }
 {
     if register(hart, r) == value {
@@ -130,7 +130,7 @@ pub fn set_registers<D: Device>(
     t: u8,
     bytes: &[u8],
 ) -> Result<(), Refusal>
-    ensures kept { Keeps machine.old machine.new }
+    ensures kept { KeepsJournal machine.old machine.new }
 {
     if bytes.len() != 264 {
         return Err(Refusal::BadRegister);

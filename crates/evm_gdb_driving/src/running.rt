@@ -2,7 +2,7 @@
 
 ghost use Rattle.std.specs.Prelude.{IfOk, IfSome, true};
 ghost use Rattle.evm_gdb_driving.specs.Interrupts.{CameAlone, IsAlone, OnlyIfAsked};
-ghost use Rattle.evm_gdb_driving.specs.Kept.{Keeps};
+ghost use Rattle.evm_gdb_driving.specs.Kept.{KeepsJournal};
 
 use crate::driving::{event, go_all, stop_all};
 use crate::stops::{Halt, Why};
@@ -194,7 +194,7 @@ fn run_some<D: Device>(
     count: u64,
     looked: u8,
 ) -> Result<Came, Refusal>
-    ensures kept { Keeps machine.old machine.new }
+    ensures kept { KeepsJournal machine.old machine.new }
     ensures halts { IfOk result CameAlone }
 {
     let mut turn = first;
@@ -228,7 +228,7 @@ fn run<D: Device, I: Interrupts>(
     looked: u8,
     interrupts: &I,
 ) -> Result<Halt, Refusal>
-    ensures kept { Keeps machine.old machine.new }
+    ensures kept { KeepsJournal machine.old machine.new }
     ensures asked { IfOk result (λ halt. OnlyIfAsked (I.asks interrupts.now true) halt.why) }
 {
     let mut turn = 0;
@@ -277,7 +277,7 @@ pub fn resume<D: Device, I: Interrupts>(
     looked: u8,
     interrupts: &I,
 ) -> Result<Halt, Refusal>
-    ensures kept { Keeps machine.old machine.new }
+    ensures kept { KeepsJournal machine.old machine.new }
     ensures asked { IfOk result (λ halt. OnlyIfAsked (I.asks interrupts.now true) halt.why) }
 {
     let most = room_to_run(machine).min(u64::from(limit));
@@ -315,7 +315,7 @@ fn stepped<D: Device>(machine: &Machine<D>, c: u8, task: u8) -> Halt {
 /// Why the first event was refused that was; those before it were made.
 #[tactic(auto, using(crate::proofs::Kept::keeps_same, crate::proofs::Kept::keeps_more))]
 pub fn step<D: Device>(machine: &mut Machine<D>, c: u8, looked: u8) -> Result<Halt, Refusal>
-    ensures kept { Keeps machine.old machine.new }
+    ensures kept { KeepsJournal machine.old machine.new }
 {
     'lines: for _ in 0..LINES_BEFORE {
         let next = next_of(machine, c);

@@ -1,10 +1,14 @@
 //! The bytes that a thread hears, as a source.
 
-use crate::heard::{Coming, Heard};
+ghost use Rattle.std.specs.Prelude.{◌≡◌, IfOk};
+ghost use Rattle.evm_gdb_hearing.specs.Hearings.{ReadsNothing};
+
+use crate::ends::{Hearing, HearingEnd};
+use crate::heard::Heard;
 use evm_interrupts::Interrupts;
 use evm_room::NoMemory;
 use std::alloc::Global;
-use std::io::{self, Error, Read};
+use std::io::{self, Error, ErrorKind, Read};
 use std::sync::{Arc, Condvar, Mutex, Wait};
 use std::thread;
 use std::thread::Threads;
@@ -30,16 +34,28 @@ fn leave<R: Wait>(rt: &R, inbox: &Inbox, part: &[u8]) -> bool {
         .changed
         .wait_while(rt, inbox.heard.lock(rt), |heard| heard.is_full());
     heard.add(part);
-    let goes_on = matches!(heard.coming(), Coming::More);
+    let goes_on = heard.end().is_none();
     drop(heard);
     inbox.changed.notify_all();
     goes_on
 }
 
 // Leaves in the inbox that nothing more comes.
-fn close<R: Wait>(rt: &R, inbox: &Inbox, coming: Coming) {
-    inbox.heard.lock(rt).end(coming);
+fn close<R: Wait>(rt: &R, inbox: &Inbox, end: HearingEnd) {
+    inbox.heard.lock(rt).close(end);
     inbox.changed.notify_all();
+}
+
+// What a read answers that has no bytes to give.
+fn read_nothing(end: Option<HearingEnd>) -> io::Result<usize>
+    ensures value { IfOk result (λ count. count ≡ 0) }
+    ensures end { ReadsNothing end result }
+{
+    match end {
+        Some(HearingEnd::ReadFailed(kind)) => Err(Error::from(kind)),
+        Some(HearingEnd::NoMemory) => Err(Error::from(ErrorKind::OutOfMemory)),
+        Some(HearingEnd::EndOfInput) | None => Ok(0),
+    }
 }
 
 // Hears to the end.
@@ -47,13 +63,13 @@ fn listen<R: Wait, I: Read>(rt: &R, input: &mut I, inbox: &Inbox) {
     let mut part = [0u8; 4_096];
     for _ in rt.forever() {
         match input.read(&mut part) {
-            Ok(0) => return close(rt, inbox, Coming::End),
+            Ok(0) => return close(rt, inbox, HearingEnd::EndOfInput),
             Ok(count) => {
                 if !leave(rt, inbox, &part[..count]) {
                     return;
                 }
             }
-            Err(error) => return close(rt, inbox, Coming::Failed(error.kind())),
+            Err(error) => return close(rt, inbox, HearingEnd::ReadFailed(error.kind())),
         }
     }
 }
@@ -96,13 +112,13 @@ impl<R: Wait + Drop> Read for Ear<R> {
             |heard| heard.is_awaited(),
         );
         let count = heard.give(buf);
-        let coming = heard.coming();
+        let end = heard.end();
         drop(heard);
         inbox.changed.notify_all();
-        match coming {
-            Coming::Failed(kind) if count == 0 => Err(Error::from(kind)),
-            _ => Ok(count),
+        if count == 0 {
+            return read_nothing(end);
         }
+        Ok(count)
     }
 }
 
@@ -113,5 +129,15 @@ impl<R: Wait + Drop> Interrupts for Ear<R> {
 
     fn is_asked(&self) -> bool {
         self.inbox.heard.lock(&self.rt).has_interrupt()
+    }
+}
+
+impl<R: Wait + Drop> Hearing for Ear<R> {
+    ghost use Rattle.evm_gdb_hearing.specs.Trusted.{Ended};
+
+    ghost ends = { Ended };
+
+    fn end(&self) -> Option<HearingEnd> {
+        self.inbox.heard.lock(&self.rt).end()
     }
 }

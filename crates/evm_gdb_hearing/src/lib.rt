@@ -2,9 +2,11 @@
 #![tactic(auto)]
 
 mod ear;
+mod ends;
 mod heard;
 
 pub use ear::Ear;
+pub use ends::{Hearing, HearingEnd};
 
 #[cfg(test)]
 mod tests;

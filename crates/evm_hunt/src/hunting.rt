@@ -44,6 +44,8 @@ pub enum Span {
 pub struct Row {
     /// The kind and the place.
     pub key: Key,
+    /// What has failed; None of two locks that close a cycle.
+    pub failure: Option<Failure>,
     /// Of two locks that close a cycle the place of the other.
     pub other: Option<u64>,
     /// The first seed whose schedule failed so.
@@ -138,6 +140,7 @@ impl Report {
         }
         let row = Row {
             key,
+            failure: None,
             other: Some(cycle.other),
             seed,
             events,
@@ -163,6 +166,7 @@ impl Report {
     {
         let row = Row {
             key,
+            failure: Some(found.failure),
             other: None,
             seed,
             events: found.machine.event_count(),

@@ -29,6 +29,7 @@ pub fn kind_name(failure: Failure) -> &'static str {
         Failure::Notice(_, NoticeKind::Deadlock) => "notice-3",
         Failure::Notice(_, NoticeKind::NotOwner) => "notice-4",
         Failure::Refused(_, error) => error_name(error),
+        Failure::Abandoned(_, _) => "abandoned",
         Failure::Lost(_, _) => "lost",
         Failure::Held(_) => "held",
         Failure::KeptBack(_) => "inversion",

@@ -4,6 +4,7 @@ use crate::hunting::{Report, Row, Span};
 use crate::key::Key;
 use evm_journal::push_decimal;
 use evm_room::{NoMemory, Refused, push_text};
+use evm_schedules::Failure;
 use evm_symbols::Symbols;
 use evm_text::push_hexadecimal;
 use std::alloc::Global;
@@ -30,6 +31,23 @@ fn push_place(out: &mut String, place: u64, symbols: &Symbols) -> Result<(), Ref
     }
 }
 
+// Appends a word and a number.
+fn push_number(out: &mut String, word: &str, number: u64) -> Result<(), Refused> {
+    push_text(out, word)?;
+    push_decimal(out, number)
+}
+
+/// Appends what is behind the place of a failure: of a mutex that was abandoned ` mutex M task T`, the task that has ended.
+pub(crate) fn push_subject(out: &mut String, failure: Failure) -> Result<(), Refused> {
+    match failure {
+        Failure::Abandoned(task, mutex) => {
+            push_number(out, " mutex ", u64::from(mutex))?;
+            push_number(out, " task ", u64::from(task))
+        }
+        _ => Ok(()),
+    }
+}
+
 /// Appends the kind and the place of a failure.
 pub(crate) fn push_key(out: &mut String, key: &Key, symbols: &Symbols) -> Result<(), Refused> {
     push_text(out, key.kind)?;
@@ -37,15 +55,12 @@ pub(crate) fn push_key(out: &mut String, key: &Key, symbols: &Symbols) -> Result
     push_place(out, key.place, symbols)
 }
 
-// Appends a word and a number.
-fn push_number(out: &mut String, word: &str, number: u64) -> Result<(), Refused> {
-    push_text(out, word)?;
-    push_decimal(out, number)
-}
-
 // Appends the line of a failure.
 fn push_row(out: &mut String, row: &Row, symbols: &Symbols) -> Result<(), Refused> {
     push_key(out, &row.key, symbols)?;
+    if let Some(failure) = row.failure {
+        push_subject(out, failure)?;
+    }
     if let Some(other) = row.other {
         push_text(out, " with ")?;
         push_place(out, other, symbols)?;

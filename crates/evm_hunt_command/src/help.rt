@@ -11,6 +11,8 @@ Failures:
   deadlock    a task waits without a deadline, and none can run again
   notice      a notice of the health monitor: notice-1 a call demoted a task, notice-2 a fault
               did, notice-3 a lock would never end, notice-4 a task unlocked what it doesn't own
+  abandoned   a task ends while it has a mutex, which passes on to another task
+  lost        a line of --lines is played in-band where no task waits for it
 
 Printed is a line for each failure, once for its kind and place: KIND ADDRESS seed S events N,
 with the events that are left when those that aren't needed are left out. The last line counts the

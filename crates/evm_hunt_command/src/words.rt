@@ -12,7 +12,16 @@ const VERSION: &str = "0.1.0";
 
 /// The names of failures.
 const NAMES: &[&str] = &[
-    "ebreak", "fault", "deadlock", "notice", "notice-1", "notice-2", "notice-3", "notice-4", "lost",
+    "ebreak",
+    "fault",
+    "deadlock",
+    "notice",
+    "notice-1",
+    "notice-2",
+    "notice-3",
+    "notice-4",
+    "abandoned",
+    "lost",
 ];
 
 /// The names of errors.
@@ -283,6 +292,7 @@ fn ask_for(watch: &mut Watch, name: &str) {
     watch.demoted_by_fault |= notice || name == "notice-2";
     watch.never_ends |= notice || name == "notice-3";
     watch.not_owner |= notice || name == "notice-4";
+    watch.abandoned |= name == "abandoned";
     watch.lost |= name == "lost";
 }
 

@@ -23,7 +23,7 @@ use Rattle.evm_model.specs.declared.event.Answer.{Answer}
 use Rattle.evm_model.specs.declared.event.Answer.TheVariants.{Hit, Ran, Stopped}
 use Rattle.evm_model.specs.declared.event.Event.TheVariants.{Step}
 use Rattle.evm_model.specs.declared.processor.Processor.{Processor}
-use Rattle.evm_laws.specs.Running.{IsAt, ExecutesLine, StepsLine, AcceptsStep, execute_some, skip_off}
+use Rattle.evm_laws.specs.Running.{IsAtLine, ExecutesLine, StepsLine, AcceptsStep, execute_some, skip_off}
 
 module _ (law : (w : ℕ) (i : Inst) → w < 2 ^ 32 → (decoded w ≡ Some i) ↔ Row i w) where
   pub executes : (l : ProgramLine) → IsWorded l → ExecutesLine l
@@ -44,7 +44,7 @@ module _ (law : (w : ℕ) (i : Inst) → w < 2 ^ 32 → (decoded w ≡ Some i) �
   steps l w c t p pipe hart b h at =
       let goes : (is_set b.breakpoints l.address && not p.skip) ≡ false = unstopped (is_set b.breakpoints l.address) p.skip h.passes in
       let before : Board = skip_off c b in
-      let at_line : IsAt l t hart before = record { there = at.there; pc = at.pc; word = at.word } in
+      let at_line : IsAtLine l t hart before = record { there = at.there; pc = at.pc; word = at.word } in
       ap (λ (o : Option Processor). step_processor o c b) h.there
       ∙ ap (λ (x : Bool). cond x (b, Stopped) (step_pipe (slice_get b.parts.pipes c) p c b)) h.goes
       ∙ ap (λ (o : Option Pipe). step_pipe o p c b) h.its_pipe

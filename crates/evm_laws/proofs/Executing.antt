@@ -32,7 +32,7 @@ use Rattle.evm_model.specs.State.{Memory, Board, Parts, on_hart, on_parts}
 use Rattle.evm_model.proofs.Lists.{slice_get-set_same}
 use Rattle.evm_laws.specs.Expansions.{all_executed, ComesTo, EachLiIsExecuted, EachLaIsExecuted}
 use Rattle.evm_laws.specs.Pseudo.{Becomes, instruction_after, expansion_after, loaded, EachLiLoads, EachLaLoads}
-use Rattle.evm_laws.specs.Running.{HasLine, IsAt, execute_task}
+use Rattle.evm_laws.specs.Running.{HasLine, IsAtLine, execute_task}
 use Rattle.evm_laws.proofs.Doing.{executes}
 use Rattle.evm_laws.proofs.Each.{same_expansion}
 use Rattle.evm_laws.proofs.Limits.{all_bounded}
@@ -78,7 +78,7 @@ module _ (law : (w : ℕ) (i : Inst) → w < 2 ^ 32 → (decoded w ≡ Some i) �
       → instruction_after i hart ≡ Some after → execute_task c t b ≡ with_hart t after b
   alone i c t hart b after there s e =
       let l = s.line in
-      let is_at : IsAt l t hart b = record { there = there; pc = sym s.at; word = s.word } in
+      let is_at : IsAtLine l t hart b = record { there = there; pc = sym s.at; word = s.word } in
       executes law l s.worded c t hart b is_at
       ∙ ap (λ (a : ℕ). finish (does l.instruction hart.regs a) c t b) s.at
       ∙ ap (λ (j : Inst). finish (does j hart.regs hart.pc) c t b) s.is

@@ -28,7 +28,7 @@ use Rattle.evm_model.specs.declared.event.Event.TheVariants.{Step}
 use Rattle.evm_model.specs.declared.limits.TheConstants.{PROCESSOR_LIMIT, CAPACITY_LIMIT}
 use Rattle.evm_model.specs.declared.processor.Processor.{Processor}
 use Rattle.evm_model.proofs.Lists.{change-same}
-use Rattle.evm_laws.specs.Running.{HasLine, IsAt, Proceeds, AcceptsStep, line_done, line_stepped, skip_off}
+use Rattle.evm_laws.specs.Running.{HasLine, IsAtLine, Proceeds, AcceptsStep, line_done, line_stepped, skip_off}
 use Rattle.evm_laws.specs.Loading.{HoldsProgram, booted_with, BeginsWithLine}
 use Rattle.evm_laws.proofs.Standing.{all_bytes, line_stands}
 
@@ -108,7 +108,7 @@ first_of_many (suc n) x h = refl
 
 -- ---- after boot and loading
 is_at : (devices : List Attached) (boot : Boot) (bytes : List ℕ) (l : ProgramLine) → l.address ≡ range_start → HasLine (after devices boot bytes).board.memory l
-    → IsAt l 0 (first_hart boot.ram) (after devices boot bytes).board
+    → IsAtLine l 0 (first_hart boot.ram) (after devices boot bytes).board
 unfolding after load_board booted booted_parts
 is_at devices boot bytes l first has = record { there = refl; pc = sym first; word = has }
 

@@ -43,7 +43,7 @@ LaLeavesItsAddress =
     → expansion_after (load_address_by rd ((target + 4294967296 - hart.pc) % 4294967296)) hart ≡ Some (loaded rd target 8 hart)
 
 -- rd reads the number, each other register what it read before, and the pc is behind the bytes of the instructions
-pub record Reads (rd number size : ℕ) (before after : Hart) : Type 0 where
+pub record ReadsNumber (rd number size : ℕ) (before after : Hart) : Type 0 where
   pub number_there : register_of after.regs rd ≡ number
   pub others : (n : ℕ) → n ≢ rd → register_of after.regs n ≡ register_of before.regs n
   pub pc : after.pc ≡ (before.pc + size) % 18446744073709551616
@@ -51,7 +51,7 @@ pub record Reads (rd number size : ℕ) (before after : Hart) : Type 0 where
 -- what the registers of such a hart read, where rd isn't x0
 abbrev pub WhatIsLoadedIsRead : Type 0
 WhatIsLoadedIsRead =
-    (rd number size : ℕ) (hart : Hart) → 0 < rd → rd < length hart.regs → Reads rd number size hart (loaded rd number size hart)
+    (rd number size : ℕ) (hart : Hart) → 0 < rd → rd < length hart.regs → ReadsNumber rd number size hart (loaded rd number size hart)
 
 -- Line n of a source says a statement, which becomes these instructions at the line's address.
 pub record Becomes (source : List ℕ) (n : ℕ) (statement : Statement) (expansion : Expansion) : Type 0 where

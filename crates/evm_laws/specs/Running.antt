@@ -21,7 +21,7 @@ abbrev pub HasLine : Memory → ProgramLine → Type 0
 HasLine m l = fetch l.address m ≡ Some l.word
 
 -- the pc of task t is the line's address, and the line's word stands there
-pub record IsAt (l : ProgramLine) (t : ℕ) (hart : Hart) (b : Board) : Type 0 where
+pub record IsAtLine (l : ProgramLine) (t : ℕ) (hart : Hart) (b : Board) : Type 0 where
   pub there : slice_get b.parts.harts t ≡ Some hart
   pub pc : hart.pc ≡ l.address
   pub word : HasLine b.memory l
@@ -40,7 +40,7 @@ line_done l hart c t b = finish (does l.instruction hart.regs l.address) c t b
 
 -- a task that is at the line executes the line's instruction
 abbrev pub ExecutesLine : ProgramLine → Type 0
-ExecutesLine l = (c t : ℕ) (hart : Hart) (b : Board) → IsAt l t hart b → execute_task c t b ≡ line_done l hart c t b
+ExecutesLine l = (c t : ℕ) (hart : Hart) (b : Board) → IsAtLine l t hart b → execute_task c t b ≡ line_done l hart c t b
 
 -- a processor whose step is an instruction of task t at an address: it isn't stopped, nothing is on its wire, t is its current task, and no breakpoint stops it
 pub record Proceeds (address t c : ℕ) (p : Processor) (pipe : Pipe) (b : Board) : Type 0 where
@@ -62,14 +62,14 @@ line_stepped l hart c t b = on_parts (settle_and_nudge (Some t) c) (line_done l 
 -- a Step of such a processor, whose task is at the line, does so and answers that the task ran
 abbrev pub StepsLine : ProgramLine → Type 0
 StepsLine l =
-    (c t : ℕ) (p : Processor) (pipe : Pipe) (hart : Hart) (b : Board) → Proceeds l.address t c p pipe b → IsAt l t hart b
+    (c t : ℕ) (p : Processor) (pipe : Pipe) (hart : Hart) (b : Board) → Proceeds l.address t c p pipe b → IsAtLine l t hart b
     → row (Step c) b ≡ (line_stepped l hart c t b, Ran t)
 
 -- it is accepted where the journal has room
 abbrev pub AcceptsStep : ProgramLine → Type 0
 AcceptsStep l =
     (c t : ℕ) (p : Processor) (pipe : Pipe) (hart : Hart) (s : State) → length s.journal < s.boot.capacity
-    → Proceeds l.address t c p pipe s.board → IsAt l t hart s.board
+    → Proceeds l.address t c p pipe s.board → IsAtLine l t hart s.board
     → apply s (Step c) ≡ Ok (accept (Step c) (line_stepped l hart c t s.board, Ran t) s)
 
 -- a law of each line of the program of each source

@@ -1,13 +1,5 @@
-//! Rows of the machine: events, commits, journals, views, and the machine under its lock.
+//! Rows of the machine: events, commits and what is attached.
 #![tactic(auto)]
 
 #[cfg(test)]
-mod debug;
-#[cfg(test)]
-mod event_lines;
-#[cfg(test)]
-mod journal;
-#[cfg(test)]
 mod machine;
-#[cfg(test)]
-mod shared;

@@ -12,9 +12,9 @@ escape c =
     else (if c == 9 then codes "\\t"
     else 92 ∷ 120 ∷ character (c / 16) ∷ character (c % 16) ∷ []))
 
-unfoldable pub escaped : List ℕ → List ℕ
-escaped [] = []
-escaped (c ∷ bytes) = escape c ++ escaped bytes
+unfoldable pub escaped_bytes : List ℕ → List ℕ
+escaped_bytes [] = []
+escaped_bytes (c ∷ bytes) = escape c ++ escaped_bytes bytes
 
 -- the bytes that are quoted
 abbrev pub excerpt : List ℕ → List ℕ
@@ -23,4 +23,4 @@ excerpt word = take EXCERPT_LIMIT word
 -- a message, and behind it what it quotes, if anything: its first bytes, escaped
 abbrev pub quoting : List ℕ → List ℕ → Option (List ℕ) → List ℕ
 quoting message between None = message
-quoting message between (Some word) = message ++ (between ++ (escaped (excerpt word) ++ codes "\""))
+quoting message between (Some word) = message ++ (between ++ (escaped_bytes (excerpt word) ++ codes "\""))

@@ -21,8 +21,8 @@ byte_detail byte =
     else (if byte == 0xef then codes "bad line: byte ef, which begins a byte order mark; save the file without one"
     else codes "bad line: byte " ++ (hexadecimal byte ++ codes " is not printable ASCII")))
 
-abbrev pub begins : List ℕ → List ℕ → Bool
-begins line word = starts_with nat_eq line word
+abbrev pub line_begins : List ℕ → List ℕ → Bool
+line_begins line word = starts_with nat_eq line word
 
 -- the form that the first word of a line wants
 
@@ -37,42 +37,42 @@ other_form line =
 
 abbrev pub view_forms : List ℕ → List ℕ
 view_forms line =
-    if begins line (codes "regs") then codes "bad line: regs wants C: a processor, decimal, below 256"
-    else (if begins line (codes "mem") then codes "bad line: mem wants A N: an address, lower-case hexadecimal without 0x, and a decimal count"
-    else (if begins line (codes "stages") then codes "bad line: stages wants C: a processor, decimal, below 256"
-    else (if begins line (codes "tasks") then codes "bad line: tasks stands alone on its line"
-    else (if begins line (codes "owners") then codes "bad line: owners stands alone on its line"
-    else (if begins line (codes "rank") then codes "bad line: rank wants T: a task, decimal, below 256"
-    else (if begins line (codes "counts") then codes "bad line: counts wants C L: a processor and an interrupt line, decimal, below 256"
-    else (if begins line (codes "journal") then codes "bad line: journal stands alone on its line"
-    else (if begins line (codes "console") then codes "bad line: console stands alone on its line"
-    else (if begins line (codes "notices") then codes "bad line: notices stands alone on its line"
-    else (if begins line (codes "words") then codes "bad line: words wants I: a device, decimal, below 256"
+    if line_begins line (codes "regs") then codes "bad line: regs wants C: a processor, decimal, below 256"
+    else (if line_begins line (codes "mem") then codes "bad line: mem wants A N: an address, lower-case hexadecimal without 0x, and a decimal count"
+    else (if line_begins line (codes "stages") then codes "bad line: stages wants C: a processor, decimal, below 256"
+    else (if line_begins line (codes "tasks") then codes "bad line: tasks stands alone on its line"
+    else (if line_begins line (codes "owners") then codes "bad line: owners stands alone on its line"
+    else (if line_begins line (codes "rank") then codes "bad line: rank wants T: a task, decimal, below 256"
+    else (if line_begins line (codes "counts") then codes "bad line: counts wants C L: a processor and an interrupt line, decimal, below 256"
+    else (if line_begins line (codes "journal") then codes "bad line: journal stands alone on its line"
+    else (if line_begins line (codes "console") then codes "bad line: console stands alone on its line"
+    else (if line_begins line (codes "notices") then codes "bad line: notices stands alone on its line"
+    else (if line_begins line (codes "words") then codes "bad line: words wants I: a device, decimal, below 256"
     else other_form line))))))))))
 
 abbrev pub debug_forms : List ℕ → List ℕ
 debug_forms line =
-    if begins line (codes "stepi") then codes "bad line: stepi wants C: a processor, decimal, below 256"
-    else (if begins line (codes "setpc") then codes "bad line: setpc wants C V: a processor, decimal, and the pc, lower-case hexadecimal without 0x"
-    else (if begins line (codes "set") then codes "bad line: set wants C R V: a processor and a register, decimal, and a value, lower-case hexadecimal without 0x"
-    else (if begins line (codes "poke") then codes "bad line: poke wants A HEX: an address, lower-case hexadecimal without 0x, and 1 to 64 bytes of two digits each"
-    else (if begins line (codes "break") then codes "bad line: break wants A: an address, lower-case hexadecimal without 0x"
-    else (if begins line (codes "unbreak") then codes "bad line: unbreak wants A: an address, lower-case hexadecimal without 0x"
+    if line_begins line (codes "stepi") then codes "bad line: stepi wants C: a processor, decimal, below 256"
+    else (if line_begins line (codes "setpc") then codes "bad line: setpc wants C V: a processor, decimal, and the pc, lower-case hexadecimal without 0x"
+    else (if line_begins line (codes "set") then codes "bad line: set wants C R V: a processor and a register, decimal, and a value, lower-case hexadecimal without 0x"
+    else (if line_begins line (codes "poke") then codes "bad line: poke wants A HEX: an address, lower-case hexadecimal without 0x, and 1 to 64 bytes of two digits each"
+    else (if line_begins line (codes "break") then codes "bad line: break wants A: an address, lower-case hexadecimal without 0x"
+    else (if line_begins line (codes "unbreak") then codes "bad line: unbreak wants A: an address, lower-case hexadecimal without 0x"
     else view_forms line)))))
 
 abbrev pub event_forms : List ℕ → List ℕ
 event_forms line =
-    if begins line (codes "tick") then codes "bad line: tick stands alone on its line"
-    else (if begins line (codes "raise") then codes "bad line: raise wants C L: a processor and an interrupt line, decimal, below 256"
-    else (if begins line (codes "bell") then codes "bad line: bell wants C L: a processor and an interrupt line, decimal, below 256"
-    else (if begins line (codes "stop") then codes "bad line: stop wants C: a processor, decimal, below 256"
-    else (if begins line (codes "go") then codes "bad line: go wants C: a processor, decimal, below 256"
+    if line_begins line (codes "tick") then codes "bad line: tick stands alone on its line"
+    else (if line_begins line (codes "raise") then codes "bad line: raise wants C L: a processor and an interrupt line, decimal, below 256"
+    else (if line_begins line (codes "bell") then codes "bad line: bell wants C L: a processor and an interrupt line, decimal, below 256"
+    else (if line_begins line (codes "stop") then codes "bad line: stop wants C: a processor, decimal, below 256"
+    else (if line_begins line (codes "go") then codes "bad line: go wants C: a processor, decimal, below 256"
     else debug_forms line))))
 
 abbrev pub first_forms : List ℕ → List ℕ
 first_forms line =
-    if begins line (codes "boot") then codes "bad line: boot wants P RAM CAP: processors, bytes and events, decimal without leading zeros"
-    else (if begins line (codes "step ") then codes "bad line: step wants C N: a processor below 256 and a count of 1 to 1048576, decimal without leading zeros"
+    if line_begins line (codes "boot") then codes "bad line: boot wants P RAM CAP: processors, bytes and events, decimal without leading zeros"
+    else (if line_begins line (codes "step ") then codes "bad line: step wants C N: a processor below 256 and a count of 1 to 1048576, decimal without leading zeros"
     else event_forms line)
 
 -- a line of printable bytes

@@ -3,7 +3,7 @@
 ghost use Rattle.std.specs.Prelude.{◌≡◌, ◌<◌, ◌+◌, ◌^◌, ◌++◌, Some, codes};
 ghost use Rattle.evm_text.specs.Written.{numeral, decimal};
 ghost use Rattle.evm_messages.specs.Message.{number_text, message_text};
-ghost use Rattle.evm_messages.specs.Excerpt.{escaped, excerpt, quoting};
+ghost use Rattle.evm_messages.specs.Excerpt.{escaped_bytes, excerpt, quoting};
 ghost use Rattle.evm_messages.specs.Diagnostic.{Writes, Reports, behind_place, about, about_line, diagnostic_text};
 
 use crate::excerpt::{digit_character, excerpt, write_escaped};
@@ -115,7 +115,7 @@ fn write_with_two<E: Sink>(
 
 // Writes the end of a quoted word.
 fn write_closed<E: Sink>(word: &[u8], errors: &mut E) -> Result<(), WriteFault>
-    ensures { Writes E.takes (escaped (excerpt word.now) ++ codes "\"") result errors.old errors.new }
+    ensures { Writes E.takes (escaped_bytes (excerpt word.now) ++ codes "\"") result errors.old errors.new }
 {
     match write_escaped(excerpt(word), errors) {
         Ok(()) => write_all(errors, b"\""),
@@ -125,7 +125,7 @@ fn write_closed<E: Sink>(word: &[u8], errors: &mut E) -> Result<(), WriteFault>
 
 // Writes the text between a message and its quote, and the quote.
 fn write_quoted<E: Sink>(between: &str, word: &[u8], errors: &mut E) -> Result<(), WriteFault>
-    ensures { Writes E.takes (between.now ++ (escaped (excerpt word.now) ++ codes "\"")) result errors.old errors.new }
+    ensures { Writes E.takes (between.now ++ (escaped_bytes (excerpt word.now) ++ codes "\"")) result errors.old errors.new }
 {
     match write_all(errors, between.as_bytes()) {
         Ok(()) => write_closed(word, errors),

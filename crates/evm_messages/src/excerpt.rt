@@ -2,7 +2,7 @@
 
 ghost use Rattle.std.specs.Prelude.{◌≡◌, ◌<◌};
 ghost use Rattle.evm_text.specs.Written.{character};
-ghost use Rattle.evm_messages.specs.Excerpt.{escape, escaped, excerpt};
+ghost use Rattle.evm_messages.specs.Excerpt.{escape, escaped_bytes, excerpt};
 ghost use Rattle.evm_messages.specs.Diagnostic.{Writes};
 
 use crate::printable::is_printable;
@@ -52,7 +52,7 @@ fn write_byte<E: Sink>(byte: u8, errors: &mut E) -> Result<(), WriteFault>
 
 /// Writes bytes, with those that are not printable escaped.
 pub(crate) fn write_escaped<E: Sink>(bytes: &[u8], errors: &mut E) -> Result<(), WriteFault>
-    ensures { Writes E.takes (escaped bytes.now) result errors.old errors.new }
+    ensures { Writes E.takes (escaped_bytes bytes.now) result errors.old errors.new }
 {
     let [first, rest @ ..] = bytes else {
         return Ok(());

@@ -1,22 +1,12 @@
-//! Rows of the parts of a machine: memory, instructions, devices, bells, bursts, pipes, ticks, tasks and queues.
+//! Rows of the parts of a machine: pipes, ticks, health, tasks, queues and quiet steps.
 #![tactic(auto)]
 
-#[cfg(test)]
-mod bells;
-#[cfg(test)]
-mod burst;
-#[cfg(test)]
-mod devs;
-#[cfg(test)]
-mod exec;
 #[cfg(test)]
 mod health;
 #[cfg(test)]
 mod pipe;
 #[cfg(test)]
 mod quiet;
-#[cfg(test)]
-mod ram;
 #[cfg(test)]
 mod ready;
 #[cfg(test)]

@@ -30,7 +30,7 @@ use Rattle.evm_model.specs.declared.limits.TheConstants.{DEVICE_LIMIT, DEVICE_LI
 use Rattle.evm_model.specs.declared.processor.Processor.{Processor}
 use Rattle.evm_model.proofs.Lists.{change-here, change-elsewhere, length-change}
 use Rattle.evm_walk.proofs.Refused.{passes}
-use Rattle.evm_runs.specs.Changes.{RaisesOneLine, ProcessorChanges, CurrentChanges, RamChanges, ClockTicks, StepsOnce, ChangesOnly, IsDone, EventChanges, EventsChangeOnly}
+use Rattle.evm_runs.specs.Changes.{RaisesOneLine, ProcessorChanges, CurrentChanges, RamChanges, ClockTicks, StepsOnce, ChangesOnly, AnswersDone, EventChanges, EventsChangeOnly}
 use Rattle.evm_runs.specs.Kept.{kinds}
 use Rattle.evm_runs.specs.Touching.{tick_pipe}
 use Rattle.evm_runs.proofs.Breakpoints.{set-changes, unset-changes}
@@ -175,7 +175,7 @@ row-changes (Poke address bytes) b e = pokes address bytes.items b (passes (Poke
 row-changes (Break address) b e = set-changes address b
 row-changes (Unbreak address) b e = unset-changes address b
 
-row-done : (event : Event) (b : Board) → IsDone event (row event b).1
+row-done : (event : Event) (b : Board) → AnswersDone event (row event b).1
 unfolding row
 row-done (Step c) b = tt
 row-done Tick b = refl

@@ -11,7 +11,7 @@ use Rattle.evm_model.specs.Timers.{is_due_timer, expired, expire_to, expire_know
 use Rattle.evm_model.specs.Waits.{first_waiter, wake}
 use Rattle.evm_model.specs.declared.task.Wait.TheVariants.{Timer as For}
 use Rattle.evm_model.specs.declared.timer.Timer.{Timer}
-use Rattle.evm_runs.specs.Due.{IsDue, TimersExpireByNumber}
+use Rattle.evm_runs.specs.Due.{IsTimerDue, TimersExpireByNumber}
 use Rattle.evm_runs.proofs.Turns.{numbers, numbers_rise, are_such, are_all, by_number}
 use Rattle.evm_runs.proofs.Due.{both_of, unset, all_of}
 
@@ -25,11 +25,11 @@ abbrev is_due_at : ℕ → ℕ → Option Timer → Bool
 is_due_at c now None = false
 is_due_at c now (Some timer) = is_due_timer c now timer
 
-timer_is : (c n : ℕ) (k : Parts) (o : Option Timer) → slice_get k.timers n ≡ o → is_due_at c k.ticks o ≡ true → IsDue c n k
+timer_is : (c n : ℕ) (k : Parts) (o : Option Timer) → slice_get k.timers n ≡ o → is_due_at c k.ticks o ≡ true → IsTimerDue c n k
 timer_is c n k None there h = cc
 timer_is c n k (Some timer) there h = let w = due_timer c n k.ticks timer h in record { timer = timer; there = there; set = w.0; come = w.1; home = w.2 }
 
-is_timer : (c n : ℕ) (k : Parts) → IsDue c n k → is_due_at c k.ticks (slice_get k.timers n) ≡ true
+is_timer : (c n : ℕ) (k : Parts) → IsTimerDue c n k → is_due_at c k.ticks (slice_get k.timers n) ≡ true
 is_timer c n k w =
     let set : not (w.timer.due == 0) ≡ true = grind (arith, nat_tests, w.set) in
     let come : nat_le w.timer.due k.ticks ≡ true = grind (arith, nat_tests, w.come) in

@@ -193,7 +193,7 @@ abbrev pub MutexesStay : Option ℕ → List Mutex → List Mutex → Type 0
 MutexesStay holder old new = (m : ℕ) (before : Mutex) → slice_get old m ≡ Some before → (slice_get new m ≡ Some before) ⊎ MutexChanges holder m before new
 
 -- a mutex that was free has an owner now, which waited for an event and has locked it once
-pub record IsTaken (m : ℕ) (before : Mutex) (old : List Task) (new : List Mutex) : Type 0 where
+pub record PassesToWaiter (m : ℕ) (before : Mutex) (old : List Task) (new : List Mutex) : Type 0 where
   pub task : ℕ
   pub waiter : Task
   pub event : ℕ
@@ -204,7 +204,7 @@ pub record IsTaken (m : ℕ) (before : Mutex) (old : List Task) (new : List Mute
 
 -- each mutex is as it was, or is taken
 abbrev pub MutexesTaken : Parts → List Mutex → Type 0
-MutexesTaken old new = (m : ℕ) (before : Mutex) → slice_get old.mutexes m ≡ Some before → (slice_get new m ≡ Some before) ⊎ IsTaken m before old.tasks new
+MutexesTaken old new = (m : ℕ) (before : Mutex) → slice_get old.mutexes m ≡ Some before → (slice_get new m ≡ Some before) ⊎ PassesToWaiter m before old.tasks new
 
 -- there is one mutex more, the last, and it is free
 pub record AddsMutex (old new : List Mutex) : Type 0 where
@@ -339,16 +339,16 @@ ChangesOnly (Poke address bytes) old new = RamChanges address bytes.items old ne
 ChangesOnly (Break address) old new = BreakpointChanges address true old new
 ChangesOnly (Unbreak address) old new = BreakpointChanges address false old new
 
-abbrev pub IsDone : Event → Answer → Type 0
-IsDone (Step c) answer = Unit {0}
-IsDone _ answer = answer ≡ Done
+abbrev pub AnswersDone : Event → Answer → Type 0
+AnswersDone (Step c) answer = Unit {0}
+AnswersDone _ answer = answer ≡ Done
 
 -- an accepted event stands in the journal afterwards, and changes only what it may; a command answers Done
 pub record EventChanges (event : Event) (answer : Answer) (old new : State) : Type 0 where
   pub rest : new ≡ record old { journal = new.journal; board = new.board }
   pub journal : new.journal ≡ old.journal ++ event ∷ []
   pub board : ChangesOnly event old.board new.board
-  pub answers : IsDone event answer
+  pub answers : AnswersDone event answer
 
 abbrev pub EventsChangeOnly : Type 0
 EventsChangeOnly = (old new : State) (event : Event) (answer : Answer) → apply old event ≡ Ok (new, answer) → EventChanges event answer old new

@@ -36,7 +36,7 @@ WaitsEndByDeadline = (c : ℕ) (k : Parts) → ((t e : ℕ) → event_at k.tasks
 
 -- ---- timers
 -- timer n of c is on, and due
-pub record IsDue (c n : ℕ) (k : Parts) : Type 0 where
+pub record IsTimerDue (c n : ℕ) (k : Parts) : Type 0 where
   pub timer : Timer
   pub there : slice_get k.timers n ≡ Some timer
   pub set : timer.due ≡ 0 → ⊥
@@ -46,7 +46,7 @@ pub record IsDue (c n : ℕ) (k : Parts) : Type 0 where
 -- the timers that are due expire one after another, by number
 pub record ExpiresByNumber (c : ℕ) (k : Parts) : Type 0 where
   pub due : List ℕ
-  pub in_order : AreInOrder (λ n. IsDue c n k) due
+  pub in_order : AreInOrder (λ n. IsTimerDue c n k) due
   pub expires : expire_timers c k ≡ fold (λ x n. expire c n x) k due
 
 abbrev pub TimersExpireByNumber : Type 0

@@ -2,7 +2,7 @@
 use Rattle.std.proofs.Common.{◌≡◌, ℕ, zero, suc, ◌+◌, ◌-◌, ◌<◌, ◌≤◌, ◌⊎◌, inl, inr, List, [], ◌∷◌, Option, Some, None, Bool, true, false, length, refl, sym, ap, ◌∙◌, arith}
 use Rattle.std.specs.Prelude.{slice_get, map, cond, take, drop}
 use Rattle.std.proofs.lemmas.List.{take_all}
-use Rattle.evm_core.specs.Views.{counts_of, device_word, stages_in, word_of}
+use Rattle.evm_core.specs.Views.{counts_on_line, device_word, stages_in, word_in_device}
 use Rattle.evm_core.specs.declared.stages.Stages.{Stages}
 use Rattle.evm_dev.specs.declared.kind.Kind.{Kind}
 use Rattle.evm_model.specs.Actions.{action_in}
@@ -65,7 +65,7 @@ same-pipe p q n a b stages counts =
     rw oob (rw in_band (rw wire (rw same refl)))
 
 pub same-pipes : (p q : Option Pipe) (n : ℕ) → ((pipe : Pipe) → p ≡ Some pipe → length pipe.counts ≤ n) → ((pipe : Pipe) → q ≡ Some pipe → length pipe.counts ≤ n)
-    → stages_in p ≡ stages_in q → ((l : ℕ) → l < n → counts_of p l ≡ counts_of q l) → p ≡ q
+    → stages_in p ≡ stages_in q → ((l : ℕ) → l < n → counts_on_line p l ≡ counts_on_line q l) → p ≡ q
 same-pipes None None n a b stages counts = refl
 same-pipes (Some p) None n a b stages counts = cc
 same-pipes None (Some q) n a b stages counts = cc
@@ -94,7 +94,7 @@ past-none (x ∷ xs) zero j h less = cc
 past-none (x ∷ xs) (suc k) zero h less = absurd (omega arith)
 past-none (x ∷ xs) (suc k) (suc j) h less = past-none xs k j h (omega arith)
 
-past-words : (device : Option Attached) (k j : ℕ) → word_of device k ≡ None → k ≤ j → word_of device j ≡ None
+past-words : (device : Option Attached) (k j : ℕ) → word_in_device device k ≡ None → k ≤ j → word_in_device device j ≡ None
 past-words None k j h less = refl
 past-words (Some device) k j h less = past-none device.words k j h less
 
@@ -107,7 +107,7 @@ below-or-past (suc j) (suc k) = elim (below-or-past j k) [
 ]
 
 -- words that are the same up to the end of both
-pub same-words : (a b : Option Attached) (k : ℕ) → ((j : ℕ) → j < k → word_of a j ≡ word_of b j) → word_of a k ≡ None → word_of a k ≡ word_of b k → (j : ℕ) → word_of a j ≡ word_of b j
+pub same-words : (a b : Option Attached) (k : ℕ) → ((j : ℕ) → j < k → word_in_device a j ≡ word_in_device b j) → word_in_device a k ≡ None → word_in_device a k ≡ word_in_device b k → (j : ℕ) → word_in_device a j ≡ word_in_device b j
 same-words a b k before none same j = elim (below-or-past j k) [
   | inl less ↦ before j less
   | inr past ↦ past-words a k j none past ∙ sym (past-words b k j (sym same ∙ none) past)

@@ -1,5 +1,5 @@
 -- What may come, and what has failed, is to be seen on the board alone.
-use Rattle.std.proofs.Common.{◌≡◌, ℕ, ◌<◌, ◌⊎◌, List, Option, Some, None, Bool, true, false, length, refl, sym, ap, subst, ◌∙◌}
+use Rattle.std.proofs.Common.{◌≡◌, ℕ, ◌<◌, ◌⊎◌, List, Option, Some, None, true, false, length, refl, sym, ap, subst, ◌∙◌}
 use Rattle.std.specs.Prelude.{if◌then◌else◌, is_some, slice_get}
 use Rattle.evm_core.specs.Views.{device_word}
 use Rattle.evm_model.specs.Current.{current}
@@ -10,8 +10,8 @@ use Rattle.evm_model.specs.State.{Board, State}
 use Rattle.evm_model.specs.declared.event.Answer.{Answer}
 use Rattle.evm_model.specs.declared.event.Event.TheVariants.{Step, Tick, Raise, Bell, Stop, Go, StepI, SetReg, SetPc, Poke, Break, Unbreak}
 use Rattle.evm_model.specs.declared.task.Task.{Task}
-use Rattle.evm_schedules.specs.Failures.{Fails, FailsAsSought, IsCaller, IsDeadlock, IsNoticed, IsRefused, faulted_at, is_quiet_pipe, is_sought, is_stuck_task, is_waiting_task, is_zero, stopped_at}
-use Rattle.evm_schedules.specs.Making.{HasReady, IsAwake, IsOver, MayMake, is_done, is_ready_on}
+use Rattle.evm_schedules.specs.Failures.{Fails, FailsAsSought, IsAbandoned, IsCaller, IsDeadlock, IsNoticed, IsRefused, faulted_at, is_quiet_pipe, is_sought, is_stuck_task, is_waiting_task, is_zero}
+use Rattle.evm_schedules.specs.Making.{IsAwake, IsOver, MayMake, is_done, is_ready_on}
 use Rattle.evm_schedules.specs.declared.failure.Failure.{Failure}
 use Rattle.evm_schedules.specs.declared.failure.Failure.TheVariants as failures
 use Rattle.evm_schedules.specs.declared.watch.Watch.{Watch}
@@ -78,6 +78,8 @@ fails-at watch (failures.Refused u error) s t after behind event answer sought e
   subst (λ (b : Board). IsCaller u (record s { board = b }) event) e h.0,
   at-boards (λ (a x : Board). IsRefused u error (record s { board = a }) (record after { board = x })) s.board t.board after.board behind.board e f h.1,
 )
+fails-at watch (failures.Abandoned u m) s t after behind event answer sought e f h =
+    (h.0, at-boards (λ (a x : Board). IsAbandoned u m (record s { board = a }) (record after { board = x })) s.board t.board after.board behind.board e f h.1)
 fails-at watch (failures.Lost c l) s t after behind event answer sought e f h = cc
 fails-at watch (failures.Held m) s t after behind event answer sought e f h = cc
 fails-at watch (failures.KeptBack u) s t after behind event answer sought e f h = cc

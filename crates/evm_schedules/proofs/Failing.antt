@@ -1,7 +1,8 @@
 -- From what is known of an event to what is known of a run.
-use Rattle.std.proofs.Common.{◌≡◌, ℕ, List, Option, Some, None, Ok, true, false, refl, sym, ap, subst, ◌∙◌, arith}
-use Rattle.std.specs.Prelude.{IfSome, MatchOption, slice_get, ◌==◌, is_some}
+use Rattle.std.proofs.Common.{◌≡◌, ℕ, Option, Some, None, Ok, Bool, true, false, refl, sym, ap, subst, ◌∙◌, arith}
+use Rattle.std.specs.Prelude.{IfSome, MatchOption, slice_get, is_some}
 use Rattle.std.proofs.lemmas.Bool.Decides.{nat_tests}
+use Rattle.arrayvec.specs.ArrayVec.{ArrayVec}
 use Rattle.evm_exec.specs.declared.hart.Hart.{Hart}
 use Rattle.evm_model.specs.Current.{current}
 use Rattle.evm_model.specs.Event.{Event, event_lent, short_event}
@@ -13,9 +14,8 @@ use Rattle.evm_model.specs.declared.event.Answer.TheVariants.{Ran}
 use Rattle.evm_model.specs.declared.event.Event.{Event as EventOf}
 use Rattle.evm_model.specs.declared.event.Event.TheVariants.{Step, Tick, Raise, Bell, Stop, Go, StepI, SetReg, SetPc, Poke, Break, Unbreak}
 use Rattle.evm_model.specs.declared.event.NoBytes.{NoBytes}
-use Rattle.evm_model.specs.declared.notice.NoticeKind.{NoticeKind}
-use Rattle.evm_schedules.specs.Eves.{IsQuietStep, NoneNoticed, NoneRefused}
-use Rattle.evm_schedules.specs.Failures.{Fails, FailsAsSought, IsAtCall, IsCaller, IsDeadlock, IsNoticed, IsRefused, IsSeen, error_in, has_error, faulted_at, has_kind, is_answered, is_at, is_sought, step_of, stopped_at}
+use Rattle.evm_schedules.specs.Eves.{IsQuietStep, NoneAbandoned, NoneNoticed, NoneRefused, noted_owner, owner_sought}
+use Rattle.evm_schedules.specs.Failures.{Fails, FailsAsSought, IsAbandoned, IsAtCall, IsCaller, IsDeadlock, IsRefused, IsSeen, error_in, has_error, faulted_at, is_answered, is_at, is_left, live_owner, step_of, stopped_at}
 use Rattle.evm_schedules.specs.Runs.{HasFailed}
 use Rattle.evm_schedules.specs.declared.calls.Caller.{Caller}
 use Rattle.evm_schedules.specs.declared.failure.Failure.{Failure}
@@ -84,6 +84,26 @@ none-set (Some set) e same h = cc
 pub none-sought : (watch : Watch) (before s : State) (event : Event) → watch.errors ≡ None → NoneRefused watch before event s
 none-sought watch before s event none t e sought caller refused = none-set watch.errors e none sought
 
+-- ---- mutexes that are abandoned
+-- where they are looked for, the owner that is to be noted is the owner
+sought-owner : (sought : Bool) (m : ℕ) (s : State) → sought ≡ true → owner_sought sought m s ≡ live_owner m s
+sought-owner true m s h = refl
+sought-owner false m s h = cc
+
+-- an owner that is to be noted is the owner
+owner-sought : (sought : Bool) (m t : ℕ) (s : State) → owner_sought sought m s ≡ Some t → live_owner m s ≡ Some t
+owner-sought true m t s h = h
+owner-sought false m t s h = cc
+
+pub abandoned-mutex : (owners : Option (ArrayVec (Option ℕ))) (watch : Watch) (before s : State) (r : Option Failure) → ((m : ℕ) → noted_owner owners m ≡ owner_sought watch.abandoned m before)
+    → MatchOption r ((t m : ℕ) → noted_owner owners m ≡ Some t → is_left t m s ≡ true → ⊥)
+    (λ failure. (t : ℕ) × (m : ℕ) × (failure ≡ failures.Abandoned t m) × (noted_owner owners m ≡ Some t) × (is_left t m s ≡ true))
+    → MatchOption r (NoneAbandoned watch before s) (λ failure. (t : ℕ) × (m : ℕ) × (failure ≡ failures.Abandoned t m) × IsAbandoned t m before s)
+abandoned-mutex owners watch before s None noted h = λ t m sought abandoned.
+    h t m (noted m ∙ (sought-owner watch.abandoned m before sought ∙ abandoned.0)) abandoned.1
+abandoned-mutex owners watch before s (Some failure) noted h =
+    (h.0, h.1, h.2, (owner-sought watch.abandoned h.1 h.0 before (sym (noted h.1) ∙ h.3), h.4))
+
 -- ---- what a step shows
 pub quiet-step : (watch : Watch) (c : ℕ) (before s : State) (event : Event) (answer : Answer) (r : Option Failure)
     → (watch.ebreak ≡ true → stopped_at c s ≡ true → ⊥) → (watch.fault ≡ true → (t : ℕ) → answer ≡ Ran t → faulted_at t s ≡ true → ⊥)
@@ -95,18 +115,19 @@ quiet-step watch c before s event answer (Some failure) ebreak fault h = subst (
 step-is : (event : Event) (c d : ℕ) → step_of event ≡ Some c → step_of event ≡ Some d → d ≡ c
 step-is event c d h g = let both : Some d ≡ Some c = sym g ∙ h in cc
 
--- what isn't refused, left as a notice, or a failure of a step, is none that is looked for
+-- what isn't refused, left as a notice, a failure of a step, or a mutex abandoned, is none that is looked for
 pub nothing-shown : (watch : Watch) (c : ℕ) (before s : State) (event : Event) (answer : Answer) → step_of event ≡ Some c
-    → NoneRefused watch before event s → NoneNoticed watch before s → IsQuietStep watch c answer s → FailsAsSought watch before event answer s → ⊥
-nothing-shown watch c before s event answer is refused noticed quiet (failures.Ebreak d, sought, fails) =
+    → NoneRefused watch before event s → NoneNoticed watch before s → IsQuietStep watch c answer s → NoneAbandoned watch before s → FailsAsSought watch before event answer s → ⊥
+nothing-shown watch c before s event answer is refused noticed quiet kept (failures.Ebreak d, sought, fails) =
     quiet.ebreak sought (subst (λ (n : ℕ). stopped_at n s ≡ true) (step-is event c d is fails.0) fails.1)
-nothing-shown watch c before s event answer is refused noticed quiet (failures.Fault t, sought, fails) = quiet.fault sought t fails.1 fails.2
-nothing-shown watch c before s event answer is refused noticed quiet (failures.Deadlock, sought, fails) = quiet.deadlock sought fails
-nothing-shown watch c before s event answer is refused noticed quiet (failures.Notice t kind, sought, fails) = noticed t kind sought fails
-nothing-shown watch c before s event answer is refused noticed quiet (failures.Refused t e, sought, fails) = refused t e sought fails.0 fails.1
-nothing-shown watch c before s event answer is refused noticed quiet (failures.Lost d line, sought, fails) = cc
-nothing-shown watch c before s event answer is refused noticed quiet (failures.Held m, sought, fails) = cc
-nothing-shown watch c before s event answer is refused noticed quiet (failures.KeptBack t, sought, fails) = cc
+nothing-shown watch c before s event answer is refused noticed quiet kept (failures.Fault t, sought, fails) = quiet.fault sought t fails.1 fails.2
+nothing-shown watch c before s event answer is refused noticed quiet kept (failures.Deadlock, sought, fails) = quiet.deadlock sought fails
+nothing-shown watch c before s event answer is refused noticed quiet kept (failures.Notice t kind, sought, fails) = noticed t kind sought fails
+nothing-shown watch c before s event answer is refused noticed quiet kept (failures.Refused t e, sought, fails) = refused t e sought fails.0 fails.1
+nothing-shown watch c before s event answer is refused noticed quiet kept (failures.Abandoned t m, sought, fails) = kept t m sought fails.1
+nothing-shown watch c before s event answer is refused noticed quiet kept (failures.Lost d line, sought, fails) = cc
+nothing-shown watch c before s event answer is refused noticed quiet kept (failures.Held m, sought, fails) = cc
+nothing-shown watch c before s event answer is refused noticed quiet kept (failures.KeptBack t, sought, fails) = cc
 
 no-step : (event : Event) (c : ℕ) → step_of event ≡ None → step_of event ≡ Some c → ⊥
 no-step event c h g = let both : None ≡ Some c = sym h ∙ g in cc
@@ -121,6 +142,7 @@ nothing-outside watch before s event answer is noticed deadlock (failures.Fault 
 nothing-outside watch before s event answer is noticed deadlock (failures.Deadlock, sought, fails) = deadlock sought fails
 nothing-outside watch before s event answer is noticed deadlock (failures.Notice t kind, sought, fails) = noticed t kind sought fails
 nothing-outside watch before s event answer is noticed deadlock (failures.Refused t e, sought, fails) = no-step event fails.0.0 is fails.0.1
+nothing-outside watch before s event answer is noticed deadlock (failures.Abandoned t m, sought, fails) = no-step-at-all event is fails.0
 nothing-outside watch before s event answer is noticed deadlock (failures.Lost d line, sought, fails) = cc
 nothing-outside watch before s event answer is noticed deadlock (failures.Held m, sought, fails) = cc
 nothing-outside watch before s event answer is noticed deadlock (failures.KeptBack t, sought, fails) = cc
@@ -131,11 +153,14 @@ pub seen-outside : (watch : Watch) (before s : State) (event : Event) (answer : 
 seen-outside watch before s event answer None is noticed h = nothing-outside watch before s event answer is noticed h
 seen-outside watch before s event answer (Some failure) is noticed h = subst (λ (f : Failure). Fails watch.lines f before event answer s) (sym h.0) h.1
 
+-- a step that made none of the other failures, and a mutex that it has abandoned, or none
 pub seen-step : (watch : Watch) (c : ℕ) (before s : State) (event : Event) (answer : Answer) (r : Option Failure) → step_of event ≡ Some c
-    → NoneRefused watch before event s → NoneNoticed watch before s
-    → MatchOption r (IsQuietStep watch c answer s) (λ failure. Fails watch.lines failure before event answer s) → IsSeen watch before event answer s r
-seen-step watch c before s event answer None is refused noticed h = nothing-shown watch c before s event answer is refused noticed h
-seen-step watch c before s event answer (Some failure) is refused noticed h = h
+    → NoneRefused watch before event s → NoneNoticed watch before s → IsQuietStep watch c answer s
+    → MatchOption r (NoneAbandoned watch before s) (λ failure. (t : ℕ) × (m : ℕ) × (failure ≡ failures.Abandoned t m) × IsAbandoned t m before s) → IsSeen watch before event answer s r
+seen-step watch c before s event answer None is refused noticed quiet h = nothing-shown watch c before s event answer is refused noticed quiet h
+seen-step watch c before s event answer (Some failure) is refused noticed quiet h =
+    let step : is_some (step_of event) ≡ true = ap is_some is in
+    subst (λ (f : Failure). Fails watch.lines f before event answer s) (sym h.2) (step, h.3)
 
 -- a failure that is what it is known to be
 pub seen-as : (watch : Watch) (before s : State) (event : Event) (answer : Answer) (failure known : Failure) → failure ≡ known

@@ -1,5 +1,5 @@
 -- When a machine has failed.
-use Rattle.std.specs.Prelude.{◌≡◌, ℕ, ◌+◌, ◌-◌, ◌<◌, ◌≢◌, ◌==◌, ◌&&◌, List, [], ◌∷◌, Option, Some, None, Bool, true, false, not, is_some, slice_get, length}
+use Rattle.std.specs.Prelude.{◌≡◌, ℕ, ◌+◌, ◌-◌, ◌<◌, ◌≢◌, ◌==◌, ◌&&◌, if◌then◌else◌, List, [], ◌∷◌, Option, Some, None, Bool, true, false, not, is_some, slice_get, length}
 use Rattle.evm_core.specs.Views.{counts_at, device_word}
 use Rattle.evm_exec.specs.Registers.{register_of}
 use Rattle.evm_exec.specs.declared.hart.Hart.{Hart}
@@ -8,10 +8,12 @@ use Rattle.evm_model.specs.Current.{current}
 use Rattle.evm_model.specs.Errnos.{refusal_answer}
 use Rattle.evm_model.specs.Event.{Event as Happening}
 use Rattle.evm_model.specs.Harts.{A0}
+use Rattle.evm_model.specs.Mutexes.{owner}
 use Rattle.evm_model.specs.Pipes.{Pipe}
 use Rattle.evm_model.specs.Ranks.{rank}
 use Rattle.evm_model.specs.Refusals.{is_stopped}
 use Rattle.evm_model.specs.State.{State}
+use Rattle.evm_model.specs.Tasks.{is_live}
 use Rattle.evm_model.specs.Waits.{awaits_line}
 use Rattle.evm_model.specs.declared.counts.Counts.{Counts}
 use Rattle.evm_model.specs.declared.errno.Errno.{Errno}
@@ -150,6 +152,36 @@ IsRefused t e before s = (pc : ℕ) × IsAtCall t pc before × (is_answered pc e
 abbrev pub IsCaller : ℕ → State → Happening → Type 0
 IsCaller t before event = (c : ℕ) × (step_of event ≡ Some c) × (current c before.board.parts ≡ Some t)
 
+-- ---- a mutex whose owner ended
+abbrev pub is_ended_task : Option Task → Bool
+is_ended_task None = false
+is_ended_task (Some task) = not (is_live task.state)
+
+-- task t has ended
+abbrev pub ended_at : ℕ → State → Bool
+ended_at t s = is_ended_task (slice_get s.board.parts.tasks t)
+
+abbrev pub live_of : Option ℕ → List Task → Option ℕ
+live_of None tasks = None
+live_of (Some t) tasks = if is_ended_task (slice_get tasks t) then None else Some t
+
+-- the task that has mutex m, if it has not ended
+abbrev pub live_owner : ℕ → State → Option ℕ
+live_owner m s = live_of (owner s.board.parts.mutexes m) s.board.parts.tasks
+
+-- a task, and not t
+abbrev pub is_another : ℕ → Option ℕ → Bool
+is_another t None = false
+is_another t (Some u) = not (u == t)
+
+-- task t has ended, and another has mutex m
+abbrev pub is_left : ℕ → ℕ → State → Bool
+is_left t m s = ended_at t s && is_another t (owner s.board.parts.mutexes m)
+
+-- task t had mutex m and has ended since, and another task has the mutex
+abbrev pub IsAbandoned : ℕ → ℕ → State → State → Type 0
+IsAbandoned t m before s = (live_owner m before ≡ Some t) × (is_left t m s ≡ true)
+
 -- ---- a line that is lost
 abbrev pub plays : Option Counts → ℕ
 plays None = 0
@@ -206,6 +238,7 @@ Fails lines (failures.Fault t) before event answer s = (is_some (step_of event) 
 Fails lines failures.Deadlock before event answer s = IsDeadlock lines s
 Fails lines (failures.Notice t kind) before event answer s = IsNoticed t kind before s
 Fails lines (failures.Refused t e) before event answer s = IsCaller t before event × IsRefused t e before s
+Fails lines (failures.Abandoned t m) before event answer s = (is_some (step_of event) ≡ true) × IsAbandoned t m before s
 Fails lines (failures.Lost c l) before event answer s = IsLost c l before s
 Fails lines (failures.Held m) before event answer s = is_held (slice_get s.board.parts.mutexes m) ≡ true
 Fails lines (failures.KeptBack t) before event answer s = IsKeptBack t s
@@ -240,6 +273,7 @@ is_sought watch (failures.Fault t) = watch.fault
 is_sought watch failures.Deadlock = watch.deadlock
 is_sought watch (failures.Notice t kind) = has_kind watch kind
 is_sought watch (failures.Refused t e) = has_error watch.errors e
+is_sought watch (failures.Abandoned t m) = watch.abandoned
 is_sought watch _ = false
 
 -- an event has made a machine fail in a way that is looked for

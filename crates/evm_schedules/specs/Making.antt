@@ -10,7 +10,6 @@ use Rattle.evm_model.specs.State.{State}
 use Rattle.evm_model.specs.declared.boot.Boot.{Boot}
 use Rattle.evm_model.specs.declared.event.Event.TheVariants.{Step, Tick, Raise}
 use Rattle.evm_model.specs.declared.task.Task.{Task}
-use Rattle.evm_model.specs.declared.timer.Timer.{Timer}
 use Rattle.evm_schedules.specs.Beginning.{Begins}
 use Rattle.evm_schedules.specs.Failures.{stopped_at, is_quiet_pipe, is_stuck_task, is_zero, FailsAsSought}
 use Rattle.evm_schedules.specs.declared.watch.Watch.{Watch}

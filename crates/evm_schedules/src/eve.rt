@@ -5,11 +5,12 @@ ghost use Rattle.evm_model.specs.Current.{current};
 ghost use Rattle.evm_model.specs.Event.{Event as Happening, short_event};
 ghost use Rattle.evm_model.specs.State.{State};
 ghost use Rattle.evm_model.specs.declared.errno.Errno.{Errno};
-ghost use Rattle.evm_schedules.specs.Failures.{Fails, IsAtCall, IsCaller, IsRefused, IsSeen, IsUnawaited, step_of};
-ghost use Rattle.evm_schedules.specs.Eves.{IsEve, IsQuietStep, NoneRefused};
+ghost use Rattle.evm_schedules.specs.Failures.{Fails, IsAbandoned, IsAtCall, IsCaller, IsRefused, IsSeen, IsUnawaited, step_of};
+ghost use Rattle.evm_schedules.specs.Eves.{IsEve, IsQuietStep, NoneAbandoned, NoneRefused, noted_owner, owner_sought};
 
 use crate::calls::{Caller, caller_on, refused};
 use crate::failure::Failure;
+use crate::leaving::{Owners, abandoned, owners_of};
 use crate::lines::{Unawaited, first_unawaited, lost};
 use crate::looks::{deadlocked, notice_left, ran, stopped};
 use crate::monitor::Monitor;
@@ -19,7 +20,7 @@ use evm_devs::AnyDevice;
 use evm_model::{Event, NoBytes};
 
 /// What is noted of a machine before an event.
-#[derive(Clone, Copy, Debug)]
+#[derive(Debug, Drop)]
 pub(crate) struct Eve {
     /// How many notices there were.
     pub(crate) notices: u64,
@@ -27,6 +28,8 @@ pub(crate) struct Eve {
     pub(crate) caller: Option<Caller>,
     /// A line that nobody waits for.
     pub(crate) line: Option<Unawaited>,
+    /// Who has which mutex.
+    pub(crate) owners: Option<Owners>,
 }
 
 /// The processor that an event steps.
@@ -60,21 +63,35 @@ fn line_of(machine: &Machine<AnyDevice>, c: u8, watch: &Watch) -> Option<Unawait
     }
 }
 
+// Who has which mutex, if abandoned ones are looked for.
+fn owners_for(machine: &Machine<AnyDevice>, watch: &Watch) -> Option<Owners>
+    ensures { (m : ℕ) → noted_owner result m ≡ owner_sought watch.now.abandoned m machine.now }
+{
+    if watch.abandoned {
+        Some(owners_of(machine))
+    } else {
+        None
+    }
+}
+
 /// What is noted before an event.
 pub(crate) fn eve_of(machine: &Machine<AnyDevice>, event: Event<NoBytes>, watch: &Watch) -> Eve
     ensures { IsEve result watch.now (short_event event) machine.now }
 {
     let notices = machine.notice_total();
+    let owners = owners_for(machine, watch);
     match stepping(event) {
         Some(c) => Eve {
             notices,
             caller: caller_of(machine, c, watch),
             line: line_of(machine, c, watch),
+            owners,
         },
         None => Eve {
             notices,
             caller: None,
             line: None,
+            owners,
         },
     }
 }
@@ -90,6 +107,16 @@ fn refused_call(machine: &Machine<AnyDevice>, eve: &Eve, watch: &Watch) -> Optio
         return None;
     };
     refused(machine, caller, &errors)
+}
+
+// The failure of a mutex that was abandoned.
+fn abandoned_mutex(machine: &Machine<AnyDevice>, eve: &Eve) -> Option<Failure>
+    ensures { (before : State) (watch : Watch) (event : Happening) → IsEve eve.now watch event before → MatchOption result (NoneAbandoned watch before machine.now) (λ failure. (t : ℕ) × (m : ℕ) × (failure ≡ Failure.Abandoned t m) × IsAbandoned t m before machine.now) }
+{
+    match &eve.owners {
+        None => None,
+        Some(owners) => abandoned(machine, owners.as_slice()),
+    }
 }
 
 // The failure of a line that was lost.
@@ -143,7 +170,7 @@ fn outside(machine: &Machine<AnyDevice>, eve: &Eve, watch: &Watch) -> Option<Fai
     deadlocked(machine, watch)
 }
 
-// The failure of a step that one event shows: a call refused, a notice, an EBREAK, a fault, a deadlock.
+// The failure of a step that one event shows: a call refused, a notice, an EBREAK, a fault, a deadlock, a mutex abandoned.
 fn shown(
     machine: &Machine<AnyDevice>,
     c: u8,
@@ -161,11 +188,15 @@ fn shown(
         Some(failure) => return Some(failure),
         None => {}
     }
-    stepped(machine, c, answer, watch)
+    match stepped(machine, c, answer, watch) {
+        Some(failure) => return Some(failure),
+        None => {}
+    }
+    abandoned_mutex(machine, eve)
 }
 
-/// The failure that an event has made, the first in this order: a call refused, a notice, an EBREAK, a fault, a deadlock, a line lost, a
-/// mutex held or a task kept back for too long.
+/// The failure that an event has made, the first in this order: a call refused, a notice, an EBREAK, a fault, a deadlock, a mutex abandoned, a
+/// line lost, a mutex held or a task kept back for too long.
 pub(crate) fn looked(
     machine: &Machine<AnyDevice>,
     event: Event<NoBytes>,

@@ -2,6 +2,7 @@
 
 ghost use Rattle.std.specs.Prelude.{◌≡◌};
 ghost use Rattle.evm_model.specs.Current.{current};
+ghost use Rattle.evm_model.specs.Mutexes.{owner};
 
 use evm_core::Machine;
 use evm_devs::AnyDevice;
@@ -20,6 +21,8 @@ pub enum Failure {
     Notice(u8, NoticeKind),
     /// A call of this task was refused with this error.
     Refused(u8, Errno),
+    /// This task ended while it had this mutex, which another task has now.
+    Abandoned(u8, u8),
     /// On this processor this line was played in-band, and no task waited for it.
     Lost(u8, u8),
     /// This mutex has had its owner for too many ticks.
@@ -62,7 +65,9 @@ fn first_waiting(machine: &Machine<AnyDevice>) -> Option<u8> {
 }
 
 /// The owner of a mutex.
-pub(crate) fn owner_of(machine: &Machine<AnyDevice>, m: u8) -> Option<u8> {
+pub(crate) fn owner_of(machine: &Machine<AnyDevice>, m: u8) -> Option<u8>
+    ensures { result ≡ owner machine.now.board.parts.mutexes m }
+{
     match machine.mutex(m) {
         None => None,
         Some(mutex) => mutex.owner,
@@ -70,8 +75,9 @@ pub(crate) fn owner_of(machine: &Machine<AnyDevice>, m: u8) -> Option<u8> {
 }
 
 /// The address of the instruction at which a machine has failed: the EBREAK, the instruction that faulted, the ECALL that was refused or
-/// by which the waiting task of least number waits, the instruction that demoted a task. Of a lost line it is the next instruction of the
-/// processor, of a held mutex that of its owner, and of a task that is kept back its own.
+/// by which the waiting task of least number waits, the instruction that demoted a task, the ECALL or the
+/// instruction that faulted by which a task has left a mutex. Of a lost line it is the next instruction of the processor, of a held mutex
+/// that of its owner, and of a task that is kept back its own.
 pub fn place_of(machine: &Machine<AnyDevice>, failure: Failure) -> u64 {
     match failure {
         Failure::Ebreak(c) => pc_of(machine, current(machine, c)).saturating_sub(4),
@@ -83,6 +89,7 @@ pub fn place_of(machine: &Machine<AnyDevice>, failure: Failure) -> u64 {
         Failure::Notice(t, _) | Failure::Refused(t, _) => {
             pc_of(machine, Some(t)).saturating_sub(4)
         }
+        Failure::Abandoned(t, _) => pc_of(machine, Some(t)),
         Failure::Lost(c, _) => pc_of(machine, current(machine, c)),
         Failure::Held(m) => pc_of(machine, owner_of(machine, m)),
         Failure::KeptBack(t) => pc_of(machine, Some(t)),

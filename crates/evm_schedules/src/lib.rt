@@ -7,6 +7,7 @@ mod chooser;
 mod devices;
 mod eve;
 mod failure;
+mod leaving;
 mod lines;
 mod looks;
 mod monitor;

@@ -91,6 +91,8 @@ pub struct Watch {
     pub not_owner: bool,
     /// Calls that are refused with one of these errors.
     pub errors: Option<Errors>,
+    /// A mutex whose owner ends and that passes on to another task.
+    pub abandoned: bool,
     /// A line that is played though no task waits for it.
     pub lost: bool,
     /// A mutex that one task has for more than this number of ticks.
@@ -123,6 +125,7 @@ impl Watch {
             never_ends: false,
             not_owner: false,
             errors: None,
+            abandoned: false,
             lost: false,
             held: None,
             inversion: None,

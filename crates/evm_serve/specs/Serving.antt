@@ -28,14 +28,14 @@ StillHoldsDevices (replies.Goes noted) machine held devices = HoldsDevices machi
 StillHoldsDevices (replies.Ends fault) machine held devices = ⊤
 
 -- the status of a run whose report was written to its end
-abbrev pub status_of : Verdict → ℕ
-status_of Done = 0
-status_of (Refused fault) = 1
-status_of (ImageRefused fault) = 3
+abbrev pub verdict_status : Verdict → ℕ
+verdict_status Done = 0
+verdict_status (Refused fault) = 1
+verdict_status (ImageRefused fault) = 3
 
 -- the status that a run ends with
 abbrev pub status_at : Ending → ℕ
-status_at (Complete verdict) = status_of verdict
+status_at (Complete verdict) = verdict_status verdict
 status_at NoMemory = 1
 status_at (ReadFailed fault) = 4
 status_at (WriteFailed fault) = 4

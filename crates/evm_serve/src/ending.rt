@@ -1,7 +1,7 @@
 //! How runs end.
 
 ghost use Rattle.std.specs.Prelude.{◌≡◌};
-ghost use Rattle.evm_serve.specs.Serving.{status_of, status_at};
+ghost use Rattle.evm_serve.specs.Serving.{verdict_status, status_at};
 
 use evm_diagnostics::{InputFault, StepNote};
 use evm_elf::ElfFault;

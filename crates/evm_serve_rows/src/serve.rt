@@ -11,11 +11,8 @@ use std::test::Fail;
 
 mod assembling;
 mod fakes;
-mod faults;
 mod images;
 mod journals;
-mod loading;
-mod notes;
 mod streams;
 
 /// The options of a run: an image or none, and no devices.

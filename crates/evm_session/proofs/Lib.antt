@@ -1,3 +1,4 @@
 pub mod Behind
 pub mod Fitting
+pub mod OneByOne
 pub mod Texts

@@ -4,6 +4,9 @@ use Rattle.evm_image.specs.Images.{Contents}
 use Rattle.evm_program.specs.Devices.{program_devices}
 use Rattle.evm_diagnostics.specs.evm_debug.LineReading.{line_at}
 use Rattle.evm_diagnostics.specs.evm_text.Lines.{text_lines}
+use Rattle.evm_session.specs.Noted.{line_begun}
+use Rattle.evm_session.specs.Notes.{Noted}
+use Rattle.evm_session.specs.Noting.{noted_read}
 use Rattle.evm_session.specs.Sitting.{Sitting}
 use Rattle.evm_session.specs.Scripted.{IsScripted, IsLineDone, booted_by, script_machine, script_of}
 
@@ -23,6 +26,11 @@ DoneFrom image line (Some old) new text = IsLineDone line old new text
 
 abbrev pub IsDoneBy : List ℕ → BenchState → BenchState → List ℕ → Type 0
 IsDoneBy line old new text = (new.image ≡ old.image) × ((s : Sitting) × (new.sitting ≡ Some s) × DoneFrom old.image line old.sitting s text)
+
+-- it left these notes
+abbrev pub NotedFrom : Option Sitting → List ℕ → Noted → Noted → Type 0
+NotedFrom None line old new = new ≡ line_begun old
+NotedFrom (Some sitting) line old new = new ≡ noted_read (line_at line) sitting.machine old
 
 -- The lines as the text of a script leave the machine.
 abbrev pub LeavesMachine : Contents → Option Sitting → Type 0

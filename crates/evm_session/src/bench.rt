@@ -2,9 +2,10 @@
 
 ghost use Rattle.std.specs.Prelude.{◌≡◌, OnOk, OnErr, None};
 ghost use Rattle.std.specs.String.{string_bytes};
-ghost use Rattle.evm_session.specs.Bench.{IsDoneBy, LeavesMachine};
+ghost use Rattle.evm_session.specs.Bench.{IsDoneBy, LeavesMachine, NotedFrom};
 
 use crate::laws::text_is_script;
+use crate::notes::Notes;
 use crate::plain::PlainLine;
 use crate::session::Session;
 use crate::stop::Stop;
@@ -45,19 +46,28 @@ impl<'a> Bench<'a> {
         }
     }
 
-    /// Does a line of a script, without its newline, and leaves the text of its view in `text`. The first line boots the machine.
+    /// Does a line of a script, without its newline, and leaves the text of its view in `text`. The first line boots the machine. The
+    /// Steps of the line and the calls of tasks are noted.
     ///
     /// # Errors
     ///
     /// Why the line is not done. Nothing has changed.
-    pub fn run(&mut self, alloc: Global, line: &[u8], text: &mut String) -> Result<(), Stop>
+    pub fn run(
+        &mut self,
+        alloc: Global,
+        line: &[u8],
+        text: &mut String,
+        notes: &mut Notes,
+    ) -> Result<(), Stop>
         ensures done { OnOk result (IsDoneBy line.now self.old self.new (string_bytes text.new)) }
+        ensures noted { OnOk result (NotedFrom self.old.sitting line.now notes.old notes.new) }
         ensures refused { OnErr result (self.new ≡ self.old) }
     {
         text.clear();
         if let Some(session) = &mut self.session {
-            return session.run(alloc, line, text);
+            return session.run(alloc, line, text, notes);
         }
+        notes.begin();
         let Ok(devices) = program_devices(alloc) else {
             return Err(Stop::NoMemory);
         };

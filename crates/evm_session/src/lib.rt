@@ -4,6 +4,8 @@
 mod bench;
 mod booting;
 mod laws;
+mod notes;
+mod noting;
 mod plain;
 mod running;
 mod script;
@@ -17,6 +19,7 @@ pub use evm_diagnostics::{
     view_cpu, write_journal,
 };
 pub use laws::text_is_script;
+pub use notes::{LastCall, Notes};
 pub use plain::PlainLine;
 pub use script::script_text;
 pub use session::Session;

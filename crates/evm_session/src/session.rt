@@ -4,10 +4,12 @@ ghost use Rattle.std.specs.Prelude.{◌≡◌, List, [], ◌∷◌, IfOk, OnOk, 
 ghost use Rattle.std.specs.String.{string_bytes};
 ghost use Rattle.evm_image.specs.Images.{Contents};
 ghost use Rattle.evm_model.specs.Devices.{Attached};
+ghost use Rattle.evm_session.specs.Noting.{noted_read};
 ghost use Rattle.evm_session.specs.Scripted.{IsScripted, IsLineDone, booted_by};
 ghost use Rattle.evm_diagnostics.specs.evm_debug.LineReading.{line_at};
 
 use crate::booting::boot;
+use crate::notes::Notes;
 use crate::plain::{PlainLine, is_one_line};
 use crate::running::run_on;
 use crate::stop::Stop;
@@ -67,9 +69,16 @@ impl<D: Device> Session<D> {
     }
 
     // A line, and that it is behind the others then.
-    fn add(&mut self, alloc: Global, line: &[u8], text: &mut String) -> Result<(), Stop>
+    fn add(
+        &mut self,
+        alloc: Global,
+        line: &[u8],
+        text: &mut String,
+        notes: &mut Notes,
+    ) -> Result<(), Stop>
         requires { string_bytes text.old ≡ [] }
         ensures done { OnOk result (IsLineDone line.now self.old self.new (string_bytes text.new)) }
+        ensures noted { OnOk result (notes.new ≡ noted_read (line_at line.now) self.old.machine notes.old) }
         ensures refused { OnErr result (self.new ≡ self.old) }
     {
         if !is_one_line(line) {
@@ -81,7 +90,7 @@ impl<D: Device> Session<D> {
         let Ok(()) = grow(&mut self.lines, 1) else {
             return Err(Stop::NoMemory);
         };
-        match run_on(&mut self.machine, line, text) {
+        match run_on(&mut self.machine, line, text, notes) {
             Ok(()) => {
                 self.lines.push_reserved(plain);
                 Ok(())
@@ -90,19 +99,26 @@ impl<D: Device> Session<D> {
         }
     }
 
-    /// Does one more line of a script, and leaves the text of its view in `text`.
+    /// Does one more line of a script, and leaves the text of its view in `text`. Its Steps and the calls of tasks are noted.
     ///
     /// # Errors
     ///
     /// Why the line is not done. The session is as before.
-    pub fn run(&mut self, alloc: Global, line: &[u8], text: &mut String) -> Result<(), Stop>
+    pub fn run(
+        &mut self,
+        alloc: Global,
+        line: &[u8],
+        text: &mut String,
+        notes: &mut Notes,
+    ) -> Result<(), Stop>
         ensures done { OnOk result (IsLineDone line.now self.old self.new (string_bytes text.new)) }
+        ensures noted { OnOk result (notes.new ≡ noted_read (line_at line.now) self.old.machine notes.old) }
         ensures refused { OnErr result (self.new ≡ self.old) }
         // The lines still make the machine.
         ensures scripted { (devices : List Attached) (image : Contents) → IsScripted devices image self.old → IsScripted devices image self.new }
     {
         text.clear();
-        match self.add(alloc, line, text) {
+        match self.add(alloc, line, text, notes) {
             Ok(()) => Ok(()),
             Err(stop) => Err(stop),
         }

@@ -8,7 +8,7 @@ use Rattle.std.specs.Int.{bit_at}
 use Rattle.evm_model.specs.Event.{Event}
 use Rattle.evm_model.specs.declared.event.Event.TheVariants as event
 use Rattle.evm_shared.proofs.Counting.{same_counts, counts_append}
-use Rattle.evm_shared.specs.EventCounts.{counts, counts_of}
+use Rattle.evm_shared.specs.EventCounts.{counts, kind_counts}
 use Rattle.evm_shared.specs.Receipts.{bells_below}
 use Rattle.evm_shared.specs.declared.event_counts.EventCounts.{EventCounts}
 
@@ -16,11 +16,11 @@ use Rattle.evm_shared.specs.declared.event_counts.EventCounts.{EventCounts}
 abbrev bell_if : Bool → ℕ → ℕ → List Event
 bell_if b c n = if b then event.Bell c n ∷ [] else []
 
-bells_one : (c n : ℕ) (b : Bool) → (counts_of (bell_if b c n) ≡ counts 0 (length (bell_if b c n)) 0) × (length (bell_if b c n) ≤ 1)
+bells_one : (c n : ℕ) (b : Bool) → (kind_counts (bell_if b c n) ≡ counts 0 (length (bell_if b c n)) 0) × (length (bell_if b c n) ≤ 1)
 bells_one c n true = (refl, omega arith)
 bells_one c n false = (refl, omega arith)
 
-pub counts_bells : (c word n : ℕ) → counts_of (bells_below c word n) ≡ counts 0 (length (bells_below c word n)) 0
+pub counts_bells : (c word n : ℕ) → kind_counts (bells_below c word n) ≡ counts 0 (length (bells_below c word n)) 0
 unfolding bells_below
 counts_bells c word zero = refl
 counts_bells c word (suc n) =
@@ -53,7 +53,7 @@ unfolding bells_below
 few_bells c word zero = omega arith
 few_bells c word (suc n) = omega (arith, few_bells c word n, (bells_one c n (bit_at word n == 1)).1, length-append (bells_below c word n) (bell_if (bit_at word n == 1) c n))
 
-pub bells_counted : (c word count n : ℕ) (more : EventCounts) → more ≡ counts 0 count 0 → count ≡ length (bells_below c word n) → counts_of (bells_below c word n) ≡ more
+pub bells_counted : (c word count n : ℕ) (more : EventCounts) → more ≡ counts 0 count 0 → count ≡ length (bells_below c word n) → kind_counts (bells_below c word n) ≡ more
 bells_counted c word count n more is long = counts_bells c word n ∙ ap (λ k. counts 0 k 0) (sym long) ∙ sym is
 
 get_behind : (xs : List Event) (x : Event) (ys : List Event) → slice_get (xs ++ x ∷ ys) (length xs) ≡ Some x

@@ -6,20 +6,20 @@ use Rattle.evm_model.proofs.Counting.{kinds_add_up}
 use Rattle.evm_model.specs.Event.{Event}
 use Rattle.evm_model.specs.Kinds.{AStep, ABell, Another, kind_of, is_same_kind}
 use Rattle.evm_model.specs.declared.event.Event.TheVariants as event
-use Rattle.evm_shared.specs.EventCounts.{counts, plus, counts_of, Fit}
+use Rattle.evm_shared.specs.EventCounts.{counts, plus, kind_counts, FitWords}
 use Rattle.evm_shared.specs.declared.event_counts.EventCounts.{EventCounts}
 
 -- equal in each kind
 pub same_counts : (a b : EventCounts) → a.steps ≡ b.steps → a.bells ≡ b.bells → a.others ≡ b.others → a ≡ b
 same_counts a b s l o = λ i. counts (s i) (l i) (o i)
 
-pub counts_append : (xs ys : List Event) → counts_of (xs ++ ys) ≡ plus (counts_of xs) (counts_of ys)
+pub counts_append : (xs ys : List Event) → kind_counts (xs ++ ys) ≡ plus (kind_counts xs) (kind_counts ys)
 counts_append xs ys = same_counts _ _ (kinds_add_up AStep xs ys) (kinds_add_up ABell xs ys) (kinds_add_up Another xs ys)
 
-one_step : (c : ℕ) → counts_of (event.Step c ∷ []) ≡ counts 1 0 0
+one_step : (c : ℕ) → kind_counts (event.Step c ∷ []) ≡ counts 1 0 0
 one_step c = refl
 
-pub counts_steps : (n c : ℕ) → counts_of (replicate n (event.Step c)) ≡ counts n 0 0
+pub counts_steps : (n c : ℕ) → kind_counts (replicate n (event.Step c)) ≡ counts n 0 0
 counts_steps zero c = refl
 counts_steps (suc n) c =
     let all = counts_append (event.Step c ∷ []) (replicate n (event.Step c)) in
@@ -31,7 +31,7 @@ counts_steps (suc n) c =
     (omega (arith, ap (λ (x : EventCounts). x.others) all, ap (λ (x : EventCounts). x.others) rest, ap (λ (x : EventCounts). x.others) one))
 
 -- no kind has more events than there are
-pub counts_below : (events : List Event) → ((counts_of events).steps ≤ length events) × ((counts_of events).bells ≤ length events) × ((counts_of events).others ≤ length events)
+pub counts_below : (events : List Event) → ((kind_counts events).steps ≤ length events) × ((kind_counts events).bells ≤ length events) × ((kind_counts events).others ≤ length events)
 counts_below events = (
   count_by-le-length (λ e. is_same_kind (kind_of e) AStep) events,
   count_by-le-length (λ e. is_same_kind (kind_of e) ABell) events,
@@ -39,16 +39,16 @@ counts_below events = (
 )
 
 -- the counts after some events more
-pub counted_more : (base book more : EventCounts) (old new added : List Event) → counts_of old ≡ plus base book → new ≡ old ++ added → counts_of added ≡ more → counts_of new ≡ plus base (plus book more)
+pub counted_more : (base book more : EventCounts) (old new added : List Event) → kind_counts old ≡ plus base book → new ≡ old ++ added → kind_counts added ≡ more → kind_counts new ≡ plus base (plus book more)
 counted_more base book more old new added counted journal kinds =
-    let all = ap counts_of journal ∙ counts_append old added in
+    let all = ap kind_counts journal ∙ counts_append old added in
     same_counts _ _
     (omega (arith, ap (λ (n : EventCounts). n.steps) all, ap (λ (n : EventCounts). n.steps) counted, ap (λ (n : EventCounts). n.steps) kinds))
     (omega (arith, ap (λ (n : EventCounts). n.bells) all, ap (λ (n : EventCounts). n.bells) counted, ap (λ (n : EventCounts). n.bells) kinds))
     (omega (arith, ap (λ (n : EventCounts). n.others) all, ap (λ (n : EventCounts). n.others) counted, ap (λ (n : EventCounts). n.others) kinds))
 
 -- a book of a journal whose length is below 2 ^ 64
-pub book_fits : (base book : EventCounts) (journal : List Event) → counts_of journal ≡ plus base book → length journal < 2 ^ 64 → Fit book
+pub book_fits : (base book : EventCounts) (journal : List Event) → kind_counts journal ≡ plus base book → length journal < 2 ^ 64 → FitWords book
 book_fits base book journal counted short =
     let low = counts_below journal in (
       omega (arith, low.0, ap (λ (n : EventCounts). n.steps) counted),

@@ -12,7 +12,7 @@ use Rattle.evm_shared.proofs.Bells.{bells_off, bells_on}
 use Rattle.evm_model.specs.Event.{Event}
 use Rattle.evm_model.specs.declared.event.Answer.{Answer}
 use Rattle.evm_model.specs.declared.refusal.Refusal.TheVariants.{Full}
-use Rattle.evm_shared.specs.EventCounts.{counts_of, plus}
+use Rattle.evm_shared.specs.EventCounts.{kind_counts, plus}
 use Rattle.evm_shared.specs.Ports.{MakesOne, PortValue, Records, RefusesCpu, recorded}
 use Rattle.evm_shared.specs.declared.event_counts.EventCounts.{EventCounts}
 use Rattle.evm_shared.specs.declared.receipt.Made.TheVariants.{One}
@@ -74,8 +74,8 @@ tick_full start (Ok answer) old new h = tt
 tick_full start (Err why) old new h = (tick_refusals h.0 why h.2.0).0
 
 -- the receipt of an event
-pub records_one : (before : State) (e own : Event) (position : ℕ) (more : EventCounts) (old counted new : PortValue) → position ≡ length before.journal → own ≡ e → more ≡ counts_of (e ∷ [])
-    → counted ≡ (record old { share = plus old.share more }) → new ≡ recorded position (One own) counted → Records before (One e) (counts_of (e ∷ [])) old new
+pub records_one : (before : State) (e own : Event) (position : ℕ) (more : EventCounts) (old counted new : PortValue) → position ≡ length before.journal → own ≡ e → more ≡ kind_counts (e ∷ [])
+    → counted ≡ (record old { share = plus old.share more }) → new ≡ recorded position (One own) counted → Records before (One e) (kind_counts (e ∷ [])) old new
 records_one before e own position more old counted new at same counts share recorded_is =
-    let whole : counted ≡ (record old { share = plus old.share (counts_of (e ∷ [])) }) = share ∙ ap (λ m. (record old { share = plus old.share m })) counts in
+    let whole : counted ≡ (record old { share = plus old.share (kind_counts (e ∷ [])) }) = share ∙ ap (λ m. (record old { share = plus old.share m })) counts in
     recorded_is ∙ (λ i. recorded (at i) (One (same i)) (whole i))

@@ -9,7 +9,7 @@ use Rattle.evm_shared.specs.declared.checking.Mismatch.{Mismatch}
 use Rattle.evm_shared.specs.declared.receipt.Receipt.{Receipt}
 
 -- a receipt is true, its positions are behind those of the receipts before it in its port, and no receipt of other ports has one of them
-pub record Holds (s : State) (others : List PortValue) (before : List Receipt) (since : ℕ) (r : Receipt) : Type 0 where
+pub record IsProper (s : State) (others : List PortValue) (before : List Receipt) (since : ℕ) (r : Receipt) : Type 0 where
   pub correct : IsTrueReceipt s.journal since r
   pub rising : All (λ b. IsBefore b r) before
   pub apart : All (λ p. All (λ o. AreApart o r) p.receipts) others
@@ -21,7 +21,7 @@ pub record AreTrueMarks (s : State) (p : PortValue) : Type 0 where
 
 -- the first n receipts of a port hold, each beside those before it
 abbrev pub ReceiptsHold : State → List PortValue → PortValue → ℕ → Type 0
-ReceiptsHold s others p n = (i : ℕ) (d : Receipt) → i < n → Holds s others (take i p.receipts) p.since (slice_index_or p.receipts i d)
+ReceiptsHold s others p n = (i : ℕ) (d : Receipt) → i < n → IsProper s others (take i p.receipts) p.since (slice_index_or p.receipts i d)
 
 -- a port holds: its receipts, and behind them its marks
 pub record PortHolds (s : State) (others : List PortValue) (p : PortValue) : Type 0 where
@@ -34,7 +34,7 @@ PortsHold s ports n = (i : ℕ) (d : PortValue) → i < n → PortHolds s (take 
 
 -- a receipt of a port does not hold
 abbrev pub ReceiptBreaks : State → List PortValue → PortValue → ℕ → Type 0
-ReceiptBreaks s others p index = (index < length p.receipts) × ((d : Receipt) → Holds s others (take index p.receipts) p.since (slice_index_or p.receipts index d) → ⊥)
+ReceiptBreaks s others p index = (index < length p.receipts) × ((d : Receipt) → IsProper s others (take index p.receipts) p.since (slice_index_or p.receipts index d) → ⊥)
 
 -- a mark of a port is not true; its index comes behind the last receipt
 abbrev pub MarkBreaks : State → PortValue → ℕ → Type 0

@@ -1,6 +1,6 @@
 -- What contracts see of shares, of ports and of what lies under the lock.
 use Rattle.std.specs.Prelude.{◌≡◌, ℕ, ◌+◌, ◌-◌, ◌<◌, ◌≤◌, ◌⊎◌, ◌==◌, if◌then◌else◌, Bool, true, false, MatchBool, nat_lt, List, [], ◌∷◌, ◌++◌, length, None, Result, Ok, Err, MatchResult}
-use Rattle.evm_core.specs.Commit.{IsTaken, LastAnswers, code_at, current_hart}
+use Rattle.evm_core.specs.Commit.{TakesBurst, LastAnswers, code_at, current_hart}
 use Rattle.evm_core.specs.Steps.{steps}
 use Rattle.evm_core.specs.declared.committing.Committed.{Committed}
 use Rattle.evm_exec.specs.Burst.{Speculated}
@@ -12,8 +12,8 @@ use Rattle.evm_model.specs.declared.event.Answer.{Answer}
 use Rattle.evm_model.specs.declared.event.Event.TheVariants.{Step}
 use Rattle.evm_model.specs.declared.refusal.Refusal.{Refusal}
 use Rattle.evm_model.specs.declared.refusal.Refusal.TheVariants.{Full, NoSuchCpu, BadSize, NoMemory}
-use Rattle.evm_shared.specs.EventCounts.{counts, none, plus, counts_of}
-use Rattle.evm_shared.specs.Receipts.{receipt, events_of}
+use Rattle.evm_shared.specs.EventCounts.{counts, none, plus, kind_counts}
+use Rattle.evm_shared.specs.Receipts.{receipt, made_events}
 use Rattle.evm_room.specs.Growth.{RefusedWithin}
 use Rattle.evm_shared.specs.declared.shared.TheConstants.{PORT_LIMIT}
 use Rattle.evm_shared.specs.declared.event_counts.EventCounts.{EventCounts}
@@ -37,7 +37,7 @@ pub record LockedValue : Type 0 where
 -- the machine is its journal's replay from start, and its journal has as many events of each kind as base and book
 pub record IsAccounted (start : State) (base : EventCounts) (machine : State) (book : EventCounts) : Type 0 where
   pub replays : IsReplayOf start machine
-  pub counted : counts_of machine.journal ≡ plus base book
+  pub counted : kind_counts machine.journal ≡ plus base book
 
 -- the events made through it, its receipts and the room for more, the journal's length when it was made, and its marks
 pub record PortValue : Type 0 where
@@ -84,7 +84,7 @@ Records before made more old new = new ≡ recorded (length before.journal) made
 -- a deliver that took these lines of processor c: where there are any, they are its Bells
 abbrev pub Delivers : State → ℕ → ℕ → PortValue → PortValue → Type 0
 Delivers before c word old new =
-    MatchBool (word == 0) (new ≡ old) (Records before (Bells c word) (counts 0 (length (events_of (Bells c word))) 0) old new)
+    MatchBool (word == 0) (new ≡ old) (Records before (Bells c word) (counts 0 (length (made_events (Bells c word))) 0) old new)
 
 -- a call that was refused: a Full sets the mark full, and nothing else is changed
 abbrev pub marked : Refusal → PortValue → PortValue
@@ -105,7 +105,7 @@ Found start such = (before : State) × IsReplayOf start before × such before
 -- a commit of a burst on processor c of this machine: the Steps that are taken of it and one more, and all that it answers
 abbrev pub IsCommit : State → ℕ → Speculated → Committed → Type 0
 IsCommit before c burst done =
-    (after : State) × (0 < done.steps) × IsTaken (done.steps - 1) c burst before × (steps c done.steps before ≡ (after, None))
+    (after : State) × (0 < done.steps) × TakesBurst (done.steps - 1) c burst before × (steps c done.steps before ≡ (after, None))
     × LastAnswers c done.steps done.answer before after × (done.next ≡ current_hart c after.board.parts) × (done.code.items ≡ code_at done.next after.board.memory)
 
 -- an event that this machine accepts, and its answer
@@ -113,8 +113,8 @@ abbrev pub Accepts : State → Event → Answer → Type 0
 Accepts before event answer = (after : State) × (apply before event ≡ Ok (after, answer))
 
 -- the machine has room for a Bell of each line
-abbrev pub HasRoom : State → Type 0
-HasRoom s = length s.journal + LINES ≤ s.boot.capacity
+abbrev pub HasBellRoom : State → Type 0
+HasBellRoom s = length s.journal + LINES ≤ s.boot.capacity
 
 -- a deliver is refused: there is no such room, or the machine or the bells lack the processor
 abbrev pub RefusesBells : State → ℕ → ℕ → Refusal → Type 0
@@ -132,13 +132,13 @@ MakesSteps start c burst result old new =
 abbrev pub MakesBells : State → ℕ → ℕ → Result ℕ Refusal → PortValue → PortValue → Type 0
 MakesBells start cpus c result old new =
     Found start (λ before. MatchResult result
-    (λ word. HasRoom before × Delivers before c word old new)
+    (λ word. HasBellRoom before × Delivers before c word old new)
     (λ why. RefusesBells before cpus c why × (new ≡ marked_short why old)))
 
 abbrev pub MakesOne : State → Event → Result Answer Refusal → PortValue → PortValue → Type 0
 MakesOne start event result old new =
     Found start (λ before. MatchResult result
-    (λ answer. Accepts before event answer × Records before (One event) (counts_of (event ∷ [])) old new)
+    (λ answer. Accepts before event answer × Records before (One event) (kind_counts (event ∷ [])) old new)
     (λ why. (apply before event ≡ Err why) × (new ≡ marked why old)))
 
 -- ---- why a call on processor c is refused: Full, or no such processor

@@ -8,7 +8,7 @@ use Rattle.evm_model.specs.State.{State}
 use Rattle.evm_model.specs.declared.event.Event.TheVariants.{Step}
 use Rattle.evm_model.specs.Refusals.{number_of}
 use Rattle.evm_model.specs.declared.refusal.Refusal.{Refusal}
-use Rattle.evm_shared.specs.Lookaheads.{IsAhead, IsUsed, Keeps, LookaheadValue}
+use Rattle.evm_shared.specs.Lookaheads.{IsAhead, IsUsed, Remembers, LookaheadValue}
 use Rattle.evm_shared.specs.Ports.{Found, MakesBells, MakesSteps, PortValue, RefusesBells}
 
 -- its processor, its port and its taker, what it does ahead, and why its last run ended before all its turns
@@ -35,7 +35,7 @@ pub record MakesTurn (start : State) (cpus : ℕ) (old new : WorkerValue) : Type
   pub bells : MakesBells start cpus old.cpu (Ok word) old.port delivered
   pub speculates : IsAhead old.ahead.next old.ahead.cache burst × IsUsed old.ahead used
   pub commits : MakesSteps start old.cpu burst (Ok done) delivered new.port
-  pub keeps : Keeps done used new.ahead
+  pub keeps : Remembers done used new.ahead
   pub same : (new.cpu ≡ old.cpu) × (new.taker.bells ≡ old.taker.bells)
 
 -- turns, one after the other
@@ -52,12 +52,12 @@ HasTurned start cpus turns old new =
     (RefusesTurn start cpus old.cpu)
 
 -- of two, the refusal of the lesser number
-abbrev pub lesser : Option Refusal → Option Refusal → Option Refusal
-lesser None other = other
-lesser (Some why) None = Some why
-lesser (Some why) (Some other) = if nat_le (number_of why) (number_of other) then Some why else Some other
+abbrev pub lesser_refusal : Option Refusal → Option Refusal → Option Refusal
+lesser_refusal None other = other
+lesser_refusal (Some why) None = Some why
+lesser_refusal (Some why) (Some other) = if nat_le (number_of why) (number_of other) then Some why else Some other
 
 -- the refusal of the least number
 abbrev pub least_refusal : List WorkerValue → Option Refusal
 least_refusal [] = None
-least_refusal (w ∷ workers) = lesser w.refused (least_refusal workers)
+least_refusal (w ∷ workers) = lesser_refusal w.refused (least_refusal workers)

@@ -1,6 +1,6 @@
 ghost use Rattle.std.specs.Prelude.{◌≡◌, [], ◌∷◌};
 ghost use Rattle.evm_model.specs.Event.{event_lent};
-ghost use Rattle.evm_shared.specs.EventCounts.{Fit, counts, counts_of, none, plus};
+ghost use Rattle.evm_shared.specs.EventCounts.{FitWords, counts, kind_counts, none, plus};
 
 use evm_model::{Block, Event};
 
@@ -46,7 +46,7 @@ impl EventCounts {
 
     /// One event.
     pub fn one(event: &Event<&Block>) -> EventCounts
-        ensures { result ≡ counts_of (event_lent event.now ∷ []) }
+        ensures { result ≡ kind_counts (event_lent event.now ∷ []) }
     {
         match event {
             Event::Step(_) => EventCounts::steps(1),
@@ -69,7 +69,7 @@ impl EventCounts {
 
     /// The sums of both.
     pub fn plus(self, more: EventCounts) -> EventCounts
-        requires { Fit (plus self more) }
+        requires { FitWords (plus self more) }
         ensures { result ≡ plus self more }
     {
         EventCounts {

@@ -1,5 +1,5 @@
 ghost use Rattle.std.specs.Prelude.{◌≡◌, ℕ, ◌+◌, ◌<◌, ◌≤◌};
-ghost use Rattle.evm_shared.specs.EventCounts.{AreWithin, none, plus};
+ghost use Rattle.evm_shared.specs.EventCounts.{AtMost, none, plus};
 ghost use Rattle.evm_shared.specs.Ports.{shares_of};
 
 use crate::event_counts::EventCounts;
@@ -92,7 +92,7 @@ impl<S: Ledger, B: Ledger, T: Ledger> Books<S, B, T> {
     /// A share has no more than the books, and all parts have just that.
     pub(crate) fn audit(&mut self, shares: &mut Shares<S, B, T>)
         ensures same { (self.new ≡ self.old) × (shares.new ≡ shares.old) }
-        ensures within { AreWithin shares.old.amount self.old }
+        ensures within { AtMost shares.old.amount self.old }
         ensures whole { shares.old.parts ≡ S.parts → shares.old.parts ≡ B.parts → shares.old.parts ≡ T.parts → shares.old.amount ≡ self.old }
     {
         self.steps.audit(&mut shares.steps);
@@ -130,7 +130,7 @@ impl<S: Ledger, B: Ledger, T: Ledger> Shares<S, B, T> {
     /// Gives one part to one that has none: what was lent goes back.
     pub(crate) fn give_back(&mut self, to: &mut Shares<S, B, T>, amount: EventCounts)
         requires more { 1 < self.old.parts }
-        requires enough { AreWithin amount self.old.amount }
+        requires enough { AtMost amount self.old.amount }
         requires empty { to.old ≡ shares_of 0 none }
         ensures back { to.new ≡ shares_of 1 amount }
         ensures left { (self.new.parts + 1 ≡ self.old.parts) × (plus self.new.amount amount ≡ self.old.amount) }

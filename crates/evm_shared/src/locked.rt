@@ -3,8 +3,8 @@ ghost use Rattle.evm_lines.specs.declared.TheConstants.{LINES};
 ghost use Rattle.evm_model.specs.Event.{event_lent};
 ghost use Rattle.evm_model.specs.Replay.{IsReplayOf};
 ghost use Rattle.evm_model.specs.State.{State};
-ghost use Rattle.evm_shared.specs.Ports.{HasRoom, MakesBells, MakesOne, MakesSteps, RefusesCpu, RefusesEither};
-ghost use Rattle.evm_shared.specs.Receipts.{events_of};
+ghost use Rattle.evm_shared.specs.Ports.{HasBellRoom, MakesBells, MakesOne, MakesSteps, RefusesCpu, RefusesEither};
+ghost use Rattle.evm_shared.specs.Receipts.{made_events};
 
 use crate::event_counts::EventCounts;
 use crate::ledgers::Books;
@@ -59,9 +59,9 @@ impl<D: Device, O: Origin, S: Ledger, B: Ledger, T: Ledger> Model for Locked<D, 
 // A Bell of a processor for each line of a word, in rising order. Returns how many.
 fn ring_all<D: Device>(machine: &mut Machine<D>, cpu: u8, word: u32) -> u32
     requires cpu { cpu < length machine.old.board.parts.processors }
-    requires room { HasRoom machine.old }
-    ensures count { result ≡ length (events_of (Made.Bells cpu word)) }
-    ensures journaled { machine.new.journal ≡ machine.old.journal ++ events_of (Made.Bells cpu word) }
+    requires room { HasBellRoom machine.old }
+    ensures count { result ≡ length (made_events (Made.Bells cpu word)) }
+    ensures journaled { machine.new.journal ≡ machine.old.journal ++ made_events (Made.Bells cpu word) }
     ensures replays { (first : State) → IsReplayOf first machine.old → IsReplayOf first machine.new }
 {
     let mut count = 0;

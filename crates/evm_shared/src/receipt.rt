@@ -1,6 +1,6 @@
 ghost use Rattle.std.specs.Prelude.{◌≡◌, ◌↔◌, ◌<◌, ◌≤◌, true, false, length};
 ghost use Rattle.evm_lines.specs.declared.TheConstants.{LINES};
-ghost use Rattle.evm_shared.specs.Receipts.{CanBeMade, IsBefore, bells_below, events_of};
+ghost use Rattle.evm_shared.specs.Receipts.{CanBeMade, IsBefore, bells_below, made_events};
 
 use evm_lines::LINES;
 use evm_model::Event;
@@ -40,7 +40,7 @@ fn bell_count(cpu: u8, word: u32) -> u32
 impl Made {
     /// How many events.
     pub(crate) fn event_count(&self) -> u32
-        ensures { result ≡ length (events_of self.now) }
+        ensures { result ≡ length (made_events self.now) }
     {
         match self {
             Made::Steps(_, count) => *count,

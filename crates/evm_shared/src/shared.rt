@@ -1,6 +1,6 @@
 ghost use Rattle.std.specs.Prelude.{◌≡◌, ◌≢◌, ◌+◌, ◌<◌, ◌≤◌, [], ◌∷◌, ◌++◌, false, length, replicate, IfErr, IfOk, MatchResult};
 ghost use Rattle.evm_model.specs.Replay.{IsReplayOf};
-ghost use Rattle.evm_shared.specs.EventCounts.{Fit, counts_of, none, plus};
+ghost use Rattle.evm_shared.specs.EventCounts.{FitWords, kind_counts, none, plus};
 ghost use Rattle.evm_shared.specs.Ports.{MakesBells, MakesOne, MakesSteps, RefusesCpu, RefusesEither, RefusesPorts, bad_ports, fresh_port, made_by, shares_of};
 
 use crate::event_counts::EventCounts;
@@ -99,7 +99,7 @@ impl<D: Device, O: Origin, S: Ledger, B: Ledger, T: Ledger> Shared<D, O, S, B, T
         blanks: Blanks,
     ) -> Result<(Shared<D, O, S, B, T>, Vec<Port<S, B, T>>), Refused<D>>
         requires replays { IsReplayOf O.start machine }
-        requires base { counts_of machine.journal ≡ O.base }
+        requires base { kind_counts machine.journal ≡ O.base }
         requires steps { (blanks.steps.name ≡ S.name) × (blanks.steps.parts ≡ S.parts) × (S.parts ≡ ports) }
         requires bells { (blanks.bells.name ≡ B.name) × (blanks.bells.parts ≡ B.parts) × (B.parts ≡ ports) }
         requires others { (blanks.others.name ≡ T.name) × (blanks.others.parts ≡ T.parts) × (T.parts ≡ ports) }
@@ -209,7 +209,7 @@ impl<D: Device, O: Origin, S: Ledger, B: Ledger, T: Ledger> Shared<D, O, S, B, T
     #[inline(never)]
     fn open(self, mut ports: Vec<Port<S, B, T>>) -> Finished<D, S, B, T>
         requires all { length ports.items ≡ self }
-        ensures machine { IsReplayOf O.start result.machine × (counts_of result.machine.journal ≡ plus O.base result.totals) }
+        ensures machine { IsReplayOf O.start result.machine × (kind_counts result.machine.journal ≡ plus O.base result.totals) }
         ensures totals { result.totals ≡ made_by ports.items }
         ensures ports { result.ports.items ≡ ports.items }
     {
@@ -237,7 +237,7 @@ impl<D: Device, O: Origin, S: Ledger, B: Ledger, T: Ledger> Shared<D, O, S, B, T
         self,
         ports: Vec<Port<S, B, T>>,
     ) -> Result<Finished<D, S, B, T>, Unfinished<D, O, S, B, T>>
-        ensures machine { IfOk result (λ done. IsReplayOf O.start done.machine × (counts_of done.machine.journal ≡ plus O.base done.totals)) }
+        ensures machine { IfOk result (λ done. IsReplayOf O.start done.machine × (kind_counts done.machine.journal ≡ plus O.base done.totals)) }
         ensures totals { IfOk result (λ done. done.totals ≡ made_by ports.items) }
         ensures ports { MatchResult result (λ done. done.ports.items ≡ ports.items) (λ back. (back.shared ≡ self) × (back.ports.items ≡ ports.items)) }
         ensures all { MatchResult result (λ done. length ports.items ≡ self) (λ back. length ports.items ≢ self) }
@@ -258,7 +258,7 @@ fn sum_all<S: Ledger, B: Ledger, T: Ledger>(
     ports: &mut [Port<S, B, T>],
 ) -> EventCounts
     requires some { 0 < length ports.old }
-    requires fits { Fit books.old }
+    requires fits { FitWords books.old }
     requires all { (S.parts ≡ length ports.old) × (B.parts ≡ length ports.old) × (T.parts ≡ length ports.old) }
     ensures sum { result ≡ made_by ports.old }
     ensures book { result ≡ books.old }
@@ -278,7 +278,7 @@ fn sum_rest<S: Ledger, B: Ledger, T: Ledger>(
     sum: EventCounts,
 ) -> EventCounts
     requires seen { (0 < seen.old.parts) × (seen.old.amount ≡ sum) }
-    requires fits { Fit books.old }
+    requires fits { FitWords books.old }
     requires all { (S.parts ≡ seen.old.parts + length ports.old) × (B.parts ≡ seen.old.parts + length ports.old) × (T.parts ≡ seen.old.parts + length ports.old) }
     ensures sum { result ≡ plus sum (made_by ports.old) }
     ensures book { result ≡ books.old }

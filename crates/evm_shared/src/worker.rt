@@ -1,6 +1,6 @@
 ghost use Rattle.std.specs.Prelude.{◌≡◌, ℕ, ◌+◌, ◌<◌, ◌≤◌, All, IfErr, IfOk, MatchResult, length, slice_index_or, Option};
 ghost use Rattle.evm_shared.specs.Lookaheads.{nothing_ahead};
-ghost use Rattle.evm_shared.specs.Workers.{HasTurned, MakesTurn, RefusesTurn, WorkerValue, least_refusal, lesser};
+ghost use Rattle.evm_shared.specs.Workers.{HasTurned, MakesTurn, RefusesTurn, WorkerValue, least_refusal, lesser_refusal};
 
 use crate::locked::Origin;
 use crate::lookahead::Lookahead;
@@ -45,8 +45,8 @@ impl<S: Ledger, B: Ledger, T: Ledger> Model for Worker<S, B, T> {
 }
 
 // The refusal of the lesser number.
-fn lesser(first: Option<Refusal>, second: Option<Refusal>) -> Option<Refusal>
-    ensures { result ≡ lesser first second }
+fn lesser_refusal(first: Option<Refusal>, second: Option<Refusal>) -> Option<Refusal>
+    ensures { result ≡ lesser_refusal first second }
 {
     let Some(why) = first else {
         return second;
@@ -67,7 +67,7 @@ fn least_refusal<S: Ledger, B: Ledger, T: Ledger>(workers: &[Worker<S, B, T>]) -
 {
     match workers.split_first() {
         None => None,
-        Some((worker, others)) => lesser(worker.refused, least_refusal(others)),
+        Some((worker, others)) => lesser_refusal(worker.refused, least_refusal(others)),
     }
 }
 

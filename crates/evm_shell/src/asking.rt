@@ -189,7 +189,7 @@ impl<M: Meter + Drop> Shell<'_, M> {
         page.put(" events, ")?;
         page.put_decimal(machine.ticks().saturating_sub(mark.ticks))?;
         page.put(" ticks\n")?;
-        put_changes(page, &self.names, machine, mark)?;
+        put_changes(page, &self.names, machine, mark, None)?;
         put_owners(page, machine, mark)?;
         put_harts(page, &self.names, machine, mark)?;
         Ok(Outcome::Said)

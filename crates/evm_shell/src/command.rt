@@ -1,5 +1,7 @@
 //! A run of the program, from its words to its exit status.
 
+ghost use Rattle.std.specs.Prelude.{◌≡◌, ◌≤◌, OnOk, if◌then◌else◌};
+
 use crate::help::{HELP, USAGE_TEXT};
 use crate::reading::{Finish, serve_lines};
 use crate::shell::Shell;
@@ -11,6 +13,7 @@ use evm_host::{
 use evm_image::Image;
 use evm_messages::{Diagnostic, report_line};
 use evm_program::Meter;
+use evm_room::NoMemory;
 use evm_shell_answers::{MapFault, Names, SourceLines, script_text, write_journal};
 use evm_streams::{ReadFault, ReadStop};
 use evm_symbols::Symbols;
@@ -89,7 +92,9 @@ fn finished<S: System>(
     failed: bool,
     name: &str,
     world: &mut World<S>,
-) -> u8 {
+) -> u8
+    ensures { OnOk finish (result ≡ (if failed then 1 else 0)) }
+{
     match finish {
         Ok(()) => u8::from(failed),
         Err(Finish::ReadFailed(cause)) => {
@@ -172,7 +177,9 @@ fn save_all<S: System, M: Meter + Drop>(
     job: Job<'_>,
     status: u8,
     world: &mut World<S>,
-) -> u8 {
+) -> u8
+    ensures { status ≤ result }
+{
     let mut status = status;
     if let Some(path) = job.script {
         status = status.max(save_script(alloc, shell, path, world));
@@ -197,7 +204,10 @@ fn do_job<S: System, M: Meter + Drop>(
         Ok(names) => names,
         Err(status) => return status,
     };
-    let mut shell = Shell::new(alloc, &image, names, meter);
+    let mut shell = match Shell::new(alloc, &image, names, meter) {
+        Ok(shell) => shell,
+        Err(NoMemory) => return memory_refused(PROGRAM, world),
+    };
     let status = serve(alloc, &mut shell, job.file, world);
     save_all(alloc, &shell, job, status, world)
 }

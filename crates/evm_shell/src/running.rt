@@ -1,11 +1,13 @@
 //! Commands that drive the machine, each by plain lines.
 
+ghost use Rattle.std.specs.Prelude.{◌<◌, ◌≤◌, IfSome};
+
 use crate::shell::{Outcome, Shell};
 use evm_program::Meter;
 use evm_room::NoMemory;
 use evm_shell_answers::{
-    Condition, Line, Page, Snapshot, Stop, View, condition_of, holds, number_of, put_changes,
-    put_decoded, put_plain, put_swallowed, read_line, report_stop,
+    Condition, Line, Page, Snapshot, Stop, Swallowed, View, condition_of, holds, number_of,
+    put_changes, put_decoded, put_plain, put_swallowed, read_line, report_stop,
 };
 use std::alloc::Global;
 
@@ -21,7 +23,9 @@ const UNTIL_FORM: &str =
     "bad line: wanted `until PC|owner M T|state T in-ready|oob-ready|waits|exit|fault|errno T [within N]`";
 
 // A number of rounds.
-fn rounds_of(word: &str) -> Option<u64> {
+fn rounds_of(word: &str) -> Option<u64>
+    ensures { IfSome result (λ rounds. (0 < rounds) × (rounds ≤ MOST_ROUNDS)) }
+{
     let rounds = number_of(word)?;
     if rounds == 0 || rounds > MOST_ROUNDS {
         return None;
@@ -58,7 +62,7 @@ impl<M: Meter + Drop> Shell<'_, M> {
         page: &mut Page,
     ) -> Result<bool, NoMemory> {
         let mut text = String::new(alloc);
-        match self.bench.run(alloc, line, &mut text) {
+        match self.bench.run(alloc, line, &mut text, &mut self.notes) {
             Ok(()) => {
                 page.put(&text)?;
                 Ok(true)
@@ -81,12 +85,23 @@ impl<M: Meter + Drop> Shell<'_, M> {
         }
     }
 
+    // The steps of a processor, whose line was the last that was done, that did nothing.
+    fn swallowed(&self, cpu: u8) -> Option<Swallowed> {
+        let steps = self.notes.swallowed();
+        Some(Swallowed { cpu, steps })
+    }
+
     // What has changed since then.
-    fn tell(&mut self, before: Option<&Snapshot>, page: &mut Page) -> Result<(), NoMemory> {
+    fn tell(
+        &mut self,
+        before: Option<&Snapshot>,
+        swallowed: Option<Swallowed>,
+        page: &mut Page,
+    ) -> Result<(), NoMemory> {
         if let Some(machine) = self.bench.machine()
             && let Some(before) = before
         {
-            put_changes(page, &self.names, machine, before)?;
+            put_changes(page, &self.names, machine, before, swallowed)?;
         }
         self.tell_watches(page)
     }
@@ -110,7 +125,8 @@ impl<M: Meter + Drop> Shell<'_, M> {
             Ok(Line::Steps(c, count)) if was_stopped(before.as_ref(), c) => {
                 self.tell_swallowed(c, count, page)?;
             }
-            _ => self.tell(before.as_ref(), page)?,
+            Ok(Line::Steps(c, _)) => self.tell(before.as_ref(), self.swallowed(c), page)?,
+            _ => self.tell(before.as_ref(), None, page)?,
         }
         Ok(Outcome::Said)
     }
@@ -118,7 +134,7 @@ impl<M: Meter + Drop> Shell<'_, M> {
     fn decode(&self, view: &View, page: &mut Page) -> Result<(), NoMemory> {
         match self.bench.machine() {
             None => Ok(()),
-            Some(machine) => put_decoded(page, &self.names, machine, view),
+            Some(machine) => put_decoded(page, &self.names, machine, &self.notes, view),
         }
     }
 
@@ -199,7 +215,8 @@ impl<M: Meter + Drop> Shell<'_, M> {
         let outcome = self.rounds(alloc, number, cpus, count, page);
         self.meter.ended();
         outcome?;
-        self.tell(before.as_ref(), page)?;
+        let swallowed = if cpus == 1 { self.swallowed(0) } else { None };
+        self.tell(before.as_ref(), swallowed, page)?;
         Ok(Outcome::Said)
     }
 
@@ -268,7 +285,7 @@ impl<M: Meter + Drop> Shell<'_, M> {
         self.meter.ended();
         let reached = outcome?;
         self.say_rounds(reached, page)?;
-        self.tell(before.as_ref(), page)?;
+        self.tell(before.as_ref(), None, page)?;
         Ok(Outcome::Said)
     }
 }

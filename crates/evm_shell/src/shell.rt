@@ -4,7 +4,7 @@ use crate::help::HELP;
 use evm_image::Image;
 use evm_program::Meter;
 use evm_room::NoMemory;
-use evm_shell_answers::{Bench, Names, Page, Snapshot, cut_word};
+use evm_shell_answers::{Bench, Names, Notes, Page, Snapshot, cut_word};
 use std::alloc::Global;
 
 /// A word of RAM that is watched: its address, and what it was.
@@ -20,6 +20,7 @@ pub struct Shell<'a, M: Meter + Drop> {
     pub(crate) bench: Bench<'a>,
     pub(crate) image: &'a Image,
     pub(crate) names: Names,
+    pub(crate) notes: Notes,
     pub(crate) mark: Option<Snapshot>,
     pub(crate) watches: Vec<Watch>,
     pub(crate) failed: bool,
@@ -39,16 +40,22 @@ pub(crate) enum Outcome {
 
 impl<'a, M: Meter + Drop> Shell<'a, M> {
     /// A shell for an image, with the names of its addresses. The meter gets the rounds of a command.
-    pub fn new(alloc: Global, image: &'a Image, names: Names, meter: M) -> Self {
-        Shell {
+    ///
+    /// # Errors
+    ///
+    /// Memory was refused.
+    pub fn new(alloc: Global, image: &'a Image, names: Names, meter: M) -> Result<Self, NoMemory> {
+        let notes = Notes::new(alloc)?;
+        Ok(Shell {
             bench: Bench::new(image),
             image,
             names,
+            notes,
             mark: None,
             watches: Vec::new(alloc),
             failed: false,
             meter,
-        }
+        })
     }
 
     /// Whether a line was not done, or an expectation was not met.

@@ -6,7 +6,7 @@ use crate::page::Page;
 use evm_exec::Hart;
 use evm_model::{TaskState, Wait};
 use evm_room::NoMemory;
-use evm_session::{AnyDevice, Machine};
+use evm_session::{AnyDevice, LastCall, Machine};
 
 /// The word of ECALL.
 const ECALL: &[u8] = b"\x73\0\0\0";
@@ -83,14 +83,35 @@ pub fn is_behind_call(machine: &Machine<AnyDevice>, hart: &Hart) -> bool {
     }
 }
 
+// A call by its number and its name.
+fn put_call_name(page: &mut Page, number: u64) -> Result<(), NoMemory> {
+    page.put_decimal(number)?;
+    match call_name(number) {
+        None => Ok(()),
+        Some(name) => {
+            page.put(" ")?;
+            page.put(name)
+        }
+    }
+}
+
 /// The call that a task is behind, and what a0 holds.
 pub fn put_call(page: &mut Page, hart: &Hart) -> Result<(), NoMemory> {
     page.put(", behind call ")?;
-    page.put_decimal(hart.regs[17])?;
-    if let Some(name) = call_name(hart.regs[17]) {
-        page.put(" ")?;
-        page.put(name)?;
-    }
+    put_call_name(page, hart.regs[17])?;
     page.put(", a0 ")?;
     put_answer(page, hart.regs[10])
+}
+
+/// The last call that a task has made, and what it returned.
+pub fn put_last_call(page: &mut Page, call: LastCall) -> Result<(), NoMemory> {
+    page.put(", last call ")?;
+    put_call_name(page, call.number)?;
+    match call.answer {
+        None => Ok(()),
+        Some(answer) => {
+            page.put(" returned ")?;
+            put_answer(page, answer)
+        }
+    }
 }

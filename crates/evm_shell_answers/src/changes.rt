@@ -63,6 +63,7 @@ fn put_processor(
     c: u8,
     old: &Processor,
     new: &Processor,
+    swallowed: u32,
 ) -> Result<(), NoMemory> {
     if old.current != new.current {
         put_cpu(page, c)?;
@@ -76,6 +77,9 @@ fn put_processor(
         put_cpu(page, c)?;
         page.put(if new.stopped { " stopped" } else { " goes on" })?;
         put_stop(page, names, machine, new.current)?;
+        if swallowed != 0 {
+            put_steps(page, swallowed)?;
+        }
         page.put("\n")?;
     }
     Ok(())
@@ -107,6 +111,14 @@ fn put_task_change(
     page.put("\n")
 }
 
+// So many steps did nothing.
+fn put_steps(page: &mut Page, count: u32) -> Result<(), NoMemory> {
+    page.put(", ")?;
+    page.put_decimal(u64::from(count))?;
+    page.put(if count == 1 { " step" } else { " steps" })?;
+    page.put(" swallowed")
+}
+
 /// How many steps of a processor did nothing, since it is stopped.
 pub fn put_swallowed(
     page: &mut Page,
@@ -121,24 +133,40 @@ pub fn put_swallowed(
     put_cpu(page, c)?;
     page.put(" is stopped")?;
     put_stop(page, names, machine, processor.current)?;
-    page.put(", ")?;
-    page.put_decimal(u64::from(count))?;
-    page.put(if count == 1 { " step" } else { " steps" })?;
-    page.put(" swallowed\n")
+    put_steps(page, count)?;
+    page.put("\n")
 }
 
-/// The processors that were stopped or let go, or run another task, and the tasks whose state is another.
+/// The last steps of a processor, which did nothing, since it had stopped.
+#[derive(Clone, Copy, Debug)]
+pub struct Swallowed {
+    pub cpu: u8,
+    pub steps: u32,
+}
+
+// How many steps of a processor were swallowed.
+fn swallowed_by(c: u8, swallowed: Option<Swallowed>) -> u32 {
+    match swallowed {
+        Some(swallowed) if swallowed.cpu == c => swallowed.steps,
+        _ => 0,
+    }
+}
+
+/// The processors that were stopped or let go, or run another task, and the tasks whose state is another. A processor that
+/// has stopped may have swallowed steps.
 pub fn put_changes(
     page: &mut Page,
     names: &Names,
     machine: &Machine<AnyDevice>,
     old: &Snapshot,
+    swallowed: Option<Swallowed>,
 ) -> Result<(), NoMemory> {
     for c in 0..machine.cpu_count() {
         if let Some(before) = old.processors.get(usize::from(c))
             && let Some(now) = machine.cpu(c)
         {
-            put_processor(page, names, machine, c, before, &now)?;
+            let steps = swallowed_by(c, swallowed);
+            put_processor(page, names, machine, c, before, &now, steps)?;
         }
     }
     for t in 0..machine.task_count() {

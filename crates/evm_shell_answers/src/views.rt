@@ -1,12 +1,13 @@
 //! What stands behind the text of a view, decoded.
 
-use crate::answers::{is_behind_call, put_answer, put_call, put_code, put_state};
+use crate::answers::{is_behind_call, put_answer, put_call, put_code, put_last_call, put_state};
 use crate::names::Names;
 use crate::page::Page;
+use evm_exec::Hart;
 use evm_lines::LineSet;
-use evm_model::StageLog;
+use evm_model::{StageLog, TaskState};
 use evm_room::NoMemory;
-use evm_session::{AnyDevice, Machine, View};
+use evm_session::{AnyDevice, LastCall, Machine, Notes, View};
 
 fn put_lines(page: &mut Page, words: &str, lines: LineSet) -> Result<(), NoMemory> {
     if lines.is_empty() {
@@ -52,10 +53,27 @@ fn put_stages(page: &mut Page, machine: &Machine<AnyDevice>, c: u8) -> Result<()
     )
 }
 
+// The call that a task is behind, or else the last that it has made.
+fn put_calls(
+    page: &mut Page,
+    machine: &Machine<AnyDevice>,
+    hart: &Hart,
+    last: Option<LastCall>,
+) -> Result<(), NoMemory> {
+    if is_behind_call(machine, hart) {
+        return put_call(page, hart);
+    }
+    match last {
+        None => Ok(()),
+        Some(call) => put_last_call(page, call),
+    }
+}
+
 fn put_task(
     page: &mut Page,
     names: &Names,
     machine: &Machine<AnyDevice>,
+    notes: &Notes,
     t: u8,
 ) -> Result<(), NoMemory> {
     let (Some(task), Some(hart)) = (machine.task(t), machine.hart(t)) else {
@@ -67,8 +85,8 @@ fn put_task(
     put_code(page, names, hart.pc)?;
     page.put(", ")?;
     put_state(page, task.state)?;
-    if is_behind_call(machine, &hart) {
-        put_call(page, &hart)?;
+    if !matches!(task.state, TaskState::Exit) {
+        put_calls(page, machine, &hart, notes.last_call(t))?;
     }
     page.put("\n")
 }
@@ -102,6 +120,7 @@ pub fn put_decoded(
     page: &mut Page,
     names: &Names,
     machine: &Machine<AnyDevice>,
+    notes: &Notes,
     view: &View,
 ) -> Result<(), NoMemory> {
     match view {
@@ -109,7 +128,7 @@ pub fn put_decoded(
         View::Regs(c) => put_regs(page, names, machine, *c),
         View::Tasks => {
             for t in 0..machine.task_count() {
-                put_task(page, names, machine, t)?;
+                put_task(page, names, machine, notes, t)?;
             }
             Ok(())
         }

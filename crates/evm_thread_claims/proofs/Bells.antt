@@ -7,21 +7,21 @@ use Rattle.evm_model.specs.declared.event.Event.TheVariants.{Bell, Raise, Tick}
 use Rattle.evm_claims.specs.Raising.{raises}
 use Rattle.evm_shared.specs.Checks.{PortsHold}
 use Rattle.evm_shared.specs.Ports.{PortValue}
-use Rattle.evm_shared.specs.Receipts.{events_of}
+use Rattle.evm_shared.specs.Receipts.{made_events}
 use Rattle.evm_shared.specs.declared.receipt.Receipt.{Receipt}
 use Rattle.evm_thread_claims.proofs.Covering.{AllFit, no_more_than}
 use Rattle.evm_thread_claims.proofs.Sums.{sum_by_both}
 use Rattle.evm_thread_claims.specs.Lines.{in_ports, in_receipts, is_bell, raises_otherwise, rings}
 
 fits : (such : Event → Bool) (s : State) (ports : List PortValue) → PortsHold s ports (length ports)
-    → AllFit (λ (r : Receipt). r.position) (λ (r : Receipt). events_of r.made) (λ (p : PortValue). p.receipts) such s.journal ports
+    → AllFit (λ (r : Receipt). r.position) (λ (r : Receipt). made_events r.made) (λ (p : PortValue). p.receipts) such s.journal ports
 fits such s ports holds i d lt j e l =
     let h = (holds i d lt).receipts j e l in
     (h.correct.journaled, λ x b y k before its. let no = h.rising x b y k k before its in absurd (omega (arith, no)), h.apart)
 
 -- checked receipts say no more events of a kind than the journal has
 pub within : (such : Event → Bool) (s : State) (ports : List PortValue) → PortsHold s ports (length ports) → in_ports such ports ≤ count_by such s.journal
-within such s ports holds = no_more_than (λ (r : Receipt). r.position) (λ (r : Receipt). events_of r.made) (λ (p : PortValue). p.receipts) such s.journal ports (fits such s ports holds)
+within such s ports holds = no_more_than (λ (r : Receipt). r.position) (λ (r : Receipt). made_events r.made) (λ (p : PortValue). p.receipts) such s.journal ports (fits such s ports holds)
 
 -- ---- kinds that make up another
 abbrev Splits : (Event → Bool) → (Event → Bool) → (Event → Bool) → Type 0
@@ -32,8 +32,8 @@ split_events p q r splits events = (λ i. sum_by (λ e. splits e i) events) ∙ 
 
 split_receipts : (p q r : Event → Bool) → Splits p q r → (receipts : List Receipt) → in_receipts p receipts ≡ in_receipts q receipts + in_receipts r receipts
 split_receipts p q r splits receipts =
-    (λ i. sum_by (λ (x : Receipt). split_events p q r splits (events_of x.made) i) receipts)
-    ∙ sum_by_both (λ (x : Receipt). count_by q (events_of x.made)) (λ (x : Receipt). count_by r (events_of x.made)) receipts
+    (λ i. sum_by (λ (x : Receipt). split_events p q r splits (made_events x.made) i) receipts)
+    ∙ sum_by_both (λ (x : Receipt). count_by q (made_events x.made)) (λ (x : Receipt). count_by r (made_events x.made)) receipts
 
 split_ports : (p q r : Event → Bool) → Splits p q r → (ports : List PortValue) → in_ports p ports ≡ in_ports q ports + in_ports r ports
 split_ports p q r splits ports =

@@ -15,7 +15,7 @@ use Rattle.evm_model.specs.Replay.{bad_boot, bad_capacity, bad_cpus, bad_ram, re
 use Rattle.evm_model.specs.State.{State}
 use Rattle.evm_model.specs.declared.boot.Boot.{Boot}
 use Rattle.evm_model.specs.declared.limits.TheConstants.{CAPACITY_LIMIT}
-use Rattle.evm_thread_claims.specs.Passing.{Begins}
+use Rattle.evm_thread_claims.specs.Passing.{IsBooted}
 
 -- ---- a machine that began with a boot, and is its journal's replay, is one that was run
 
@@ -29,7 +29,7 @@ from_begin : (devices : List Attached) (boot : Boot) (first s : State) (events :
 from_begin devices boot first s events replayed (inl is) = inl (sym (subst (λ x. replay x events ≡ s) is replayed))
 from_begin devices boot first s events replayed (inr is) = inr (is.0, (is.1.0, sym (subst (λ x. replay x events ≡ s) is.1.1 replayed)))
 
-pub run_from : (boot : Boot) (first s : State) → Begins boot first → replay first s.journal ≡ s → Ran boot s
+pub run_from : (boot : Boot) (first s : State) → IsBooted boot first → replay first s.journal ≡ s → Ran boot s
 run_from boot first s b replayed = record { devices = b.devices; few = b.few; events = s.journal; from = from_begin b.devices boot first s s.journal replayed b.from }
 
 -- ---- counters are exact, since a journal is short

@@ -15,7 +15,7 @@ use Rattle.evm_model.specs.State.{State}
 use Rattle.evm_shared.proofs.Bells.{counts_bells}
 use Rattle.evm_shared.specs.EventCounts.{counts, plus}
 use Rattle.evm_shared.specs.Ports.{Delivers, MakesBells, PortValue, Records, recorded}
-use Rattle.evm_shared.specs.Receipts.{bells_below, events_of, receipt}
+use Rattle.evm_shared.specs.Receipts.{bells_below, made_events, receipt}
 use Rattle.evm_shared.specs.declared.event_counts.EventCounts.{EventCounts}
 use Rattle.evm_shared.specs.declared.receipt.Made.{Made}
 use Rattle.evm_shared.specs.declared.receipt.Made.TheVariants.{Steps, Bells, One}
@@ -96,14 +96,14 @@ share_tested : (b : Bool) (position : ℕ) (made : Made) (p : PortValue) → (p.
 share_tested true position made p test = rw test refl
 share_tested false position made p test = rw test refl
 
-said_more : (such : Event → Bool) (receipts : List Receipt) (position : ℕ) (made : Made) → in_receipts such (receipts ++ receipt position made ∷ []) ≡ in_receipts such receipts + count_by such (events_of made)
+said_more : (such : Event → Bool) (receipts : List Receipt) (position : ℕ) (made : Made) → in_receipts such (receipts ++ receipt position made ∷ []) ≡ in_receipts such receipts + count_by such (made_events made)
 said_more such receipts position made =
-    let one = sum_by-append (λ (r : Receipt). count_by such (events_of r.made)) receipts (receipt position made ∷ []) in
-    let last = sum_by-cons (λ (r : Receipt). count_by such (events_of r.made)) (receipt position made) [] in
+    let one = sum_by-append (λ (r : Receipt). count_by such (made_events r.made)) receipts (receipt position made ∷ []) in
+    let last = sum_by-cons (λ (r : Receipt). count_by such (made_events r.made)) (receipt position made) [] in
     omega (arith, one, last)
 
 -- after an accepted call through a port with room
-pub says_more : (such : Event → Bool) (before : State) (made : Made) (more : EventCounts) (old new : PortValue) → 0 < old.room → Records before made more old new → in_receipts such new.receipts ≡ in_receipts such old.receipts + count_by such (events_of made)
+pub says_more : (such : Event → Bool) (before : State) (made : Made) (more : EventCounts) (old new : PortValue) → 0 < old.room → Records before made more old new → in_receipts such new.receipts ≡ in_receipts such old.receipts + count_by such (made_events made)
 says_more such before made more old new some records =
     let counted : PortValue = record old { share = plus old.share more } in
     ap (λ (p : PortValue). in_receipts such p.receipts) records ∙ ap (in_receipts such) (kept_tested (old.room == 0) (length before.journal) made counted refl some) ∙ said_more such old.receipts (length before.journal) made
@@ -114,11 +114,11 @@ shares_more before made more old new records =
     ap (λ (p : PortValue). p.share) records ∙ share_tested (old.room == 0) (length before.journal) made counted refl
 
 -- a call that makes no such event says none, whether its receipt is kept or not
-none_tested : (b : Bool) (such : Event → Bool) (position : ℕ) (made : Made) (p : PortValue) → (p.room == 0) ≡ b → count_by such (events_of made) ≡ 0 → in_receipts such (recorded position made p).receipts ≡ in_receipts such p.receipts
+none_tested : (b : Bool) (such : Event → Bool) (position : ℕ) (made : Made) (p : PortValue) → (p.room == 0) ≡ b → count_by such (made_events made) ≡ 0 → in_receipts such (recorded position made p).receipts ≡ in_receipts such p.receipts
 none_tested true such position made p test none = rw test refl
 none_tested false such position made p test none = rw test (omega (arith, said_more such p.receipts position made, none))
 
-pub says_none : (such : Event → Bool) (before : State) (made : Made) (more : EventCounts) (old new : PortValue) → count_by such (events_of made) ≡ 0 → Records before made more old new → in_receipts such new.receipts ≡ in_receipts such old.receipts
+pub says_none : (such : Event → Bool) (before : State) (made : Made) (more : EventCounts) (old new : PortValue) → count_by such (made_events made) ≡ 0 → Records before made more old new → in_receipts such new.receipts ≡ in_receipts such old.receipts
 says_none such before made more old new none records =
     let counted : PortValue = record old { share = plus old.share more } in
     ap (λ (p : PortValue). in_receipts such p.receipts) records ∙ none_tested (old.room == 0) such (length before.journal) made counted refl none

@@ -19,8 +19,8 @@ use Rattle.evm_model.specs.Refusals.{number_of}
 use Rattle.evm_model.specs.declared.refusal.Refusal.{Refusal}
 use Rattle.evm_model.specs.declared.refusal.Refusal.TheVariants as refusals
 use Rattle.evm_shared.specs.Ports.{Delivers, MakesBells, MakesOne, MakesSteps, PortValue, Records, marked, marked_short}
-use Rattle.evm_shared.specs.Receipts.{bells_below, events_of}
-use Rattle.evm_shared.specs.Workers.{HasTurned, MakesTurn, MakesTurns, RefusesTurn, WorkerValue, least_refusal, lesser}
+use Rattle.evm_shared.specs.Receipts.{bells_below, made_events}
+use Rattle.evm_shared.specs.Workers.{HasTurned, MakesTurn, MakesTurns, RefusesTurn, WorkerValue, least_refusal, lesser_refusal}
 use Rattle.evm_shared.specs.declared.event_counts.EventCounts.{EventCounts}
 use Rattle.evm_shared.specs.declared.receipt.Made.TheVariants.{Steps, Bells, One}
 use Rattle.evm_thread_claims.proofs.Said.{room_left, says_bells, says_lines, says_more, says_none, shares_more}
@@ -174,7 +174,7 @@ lesser_some : (first : Bool) (a b : Refusal) → (if first then Some a else Some
 lesser_some true a b none = absurd cc
 lesser_some false a b none = absurd cc
 
-lesser_none : (a b : Option Refusal) → lesser a b ≡ None → (a ≡ None) × (b ≡ None)
+lesser_none : (a b : Option Refusal) → lesser_refusal a b ≡ None → (a ≡ None) × (b ≡ None)
 lesser_none None b none = (refl, none)
 lesser_none (Some a) None none = absurd cc
 lesser_none (Some a) (Some b) none = lesser_some (nat_le (number_of a) (number_of b)) a b none

@@ -4,7 +4,7 @@ use Rattle.evm_model.specs.Event.{Event}
 use Rattle.evm_model.specs.Kinds.{ABell, kind_of, is_same_kind}
 use Rattle.evm_model.specs.declared.event.Event.TheVariants.{Raise, Bell, Tick}
 use Rattle.evm_shared.specs.Ports.{PortValue}
-use Rattle.evm_shared.specs.Receipts.{events_of}
+use Rattle.evm_shared.specs.Receipts.{made_events}
 use Rattle.evm_shared.specs.declared.receipt.Receipt.{Receipt}
 
 -- the event is a Bell of line l of processor c
@@ -24,7 +24,7 @@ raises_otherwise c l _ = false
 
 -- how many such events some receipts say that their calls made
 abbrev pub in_receipts : (Event → Bool) → List Receipt → ℕ
-in_receipts such receipts = sum_by (λ r. count_by such (events_of r.made)) receipts
+in_receipts such receipts = sum_by (λ r. count_by such (made_events r.made)) receipts
 
 -- how many such events the receipts of some ports say
 abbrev pub in_ports : (Event → Bool) → List PortValue → ℕ

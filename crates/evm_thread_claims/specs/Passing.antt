@@ -11,7 +11,7 @@ use Rattle.evm_model.specs.declared.counts.Counts.{Counts}
 use Rattle.evm_model.specs.declared.limits.TheConstants.{DEVICE_LIMIT}
 
 -- a machine of these boot numbers, with any devices, of which there are at most 8, and with any image or none, that has had no event
-pub record Begins (boot : Boot) (s : State) : Type 0 where
+pub record IsBooted (boot : Boot) (s : State) : Type 0 where
   pub devices : List Attached
   pub few : length devices ≤ DEVICE_LIMIT
   pub from : (s ≡ start devices boot) ⊎ ((byte : ℕ → ℕ) × ((entry : ℕ) × (s ≡ start_loaded devices byte entry boot)))

@@ -6,7 +6,7 @@ ghost use Rattle.evm_bells.specs.Seats.{IsNewTaker, TakerValue};
 ghost use Rattle.evm_bells.specs.declared.counts.TheConstants.{PROCESSOR_LIMIT};
 ghost use Rattle.evm_lines.specs.declared.TheConstants.{LINES};
 ghost use Rattle.evm_model.specs.Replay.{IsReplayOf, replay};
-ghost use Rattle.evm_shared.specs.EventCounts.{counts_of};
+ghost use Rattle.evm_shared.specs.EventCounts.{kind_counts};
 ghost use Rattle.evm_shared.specs.Ports.{PortValue, fresh_port};
 ghost use Rattle.evm_shared.specs.Workers.{WorkerValue};
 ghost use Rattle.evm_thread_claims.specs.Lines.{rings};
@@ -168,7 +168,7 @@ pub fn rings_beside_workers_become_bells<
     gate: &G,
 ) -> Option<(Finished<D, S, B, T>, Closed)>
     requires replays { IsReplayOf O.start machine }
-    requires base { counts_of machine.journal ≡ O.base }
+    requires base { kind_counts machine.journal ≡ O.base }
     requires none { O.base.bells ≡ 0 }
     requires steps { (blanks.steps.name ≡ S.name) × (blanks.steps.parts ≡ S.parts) × (S.parts ≡ cpus) }
     requires bells { (blanks.bells.name ≡ B.name) × (blanks.bells.parts ≡ B.parts) × (B.parts ≡ cpus) }

@@ -14,7 +14,7 @@ ghost use Rattle.evm_model.specs.declared.counts.Counts.{Counts};
 ghost use Rattle.evm_shared.specs.Checks.{PortsHold, lent};
 ghost use Rattle.evm_shared.specs.Ports.{PortValue};
 ghost use Rattle.evm_thread_claims.specs.Lines.{in_ports, raises_otherwise, rings};
-ghost use Rattle.evm_thread_claims.specs.Passing.{Begins, merged, pending, played};
+ghost use Rattle.evm_thread_claims.specs.Passing.{IsBooted, merged, pending, played};
 ghost use Rattle.evm_thread_claims.specs.Said.{SayTaken};
 
 use crate::sharing::the_machine_under_the_lock_is_its_journals_replay;
@@ -89,7 +89,7 @@ pub fn no_interrupt_is_lost_or_played_twice<D: Device, O: Origin, S: Ledger, B: 
         count ringer.fresh c l ≡ in_ports (rings c l) ports.items + bit_at (slice_index ended.1.left c) l) }
     ensures delivered { IfSome result (λ ended. (c l : ℕ) → O.base.bells ≡ 0 → SayTaken ports.items takers.items →
         in_ports (rings c l) ports.items ≡ count_by (rings c l) ended.0.machine.journal) }
-    ensures played { IfSome result (λ ended. (boot : Boot) (c l : ℕ) (pipe : Pipe) (n : Counts) → Begins boot O.start →
+    ensures played { IfSome result (λ ended. (boot : Boot) (c l : ℕ) (pipe : Pipe) (n : Counts) → IsBooted boot O.start →
         2 ≤ l → NoDevicesLine c l ended.0.machine.board.memory.devices →
         slice_get ended.0.machine.board.parts.pipes c ≡ Option.Some pipe → slice_get pipe.counts l ≡ Option.Some n →
         count_by (rings c l) ended.0.machine.journal + count_by (raises_otherwise c l) ended.0.machine.journal

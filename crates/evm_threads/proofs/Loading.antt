@@ -8,13 +8,13 @@ use Rattle.evm_model.specs.Replay.{start}
 use Rattle.evm_model.specs.State.{State}
 use Rattle.evm_model.specs.declared.refusal.Refusal.{Refusal}
 use Rattle.evm_model.specs.declared.refusal.Refusal.TheVariants.{BadAddress, Started}
-use Rattle.evm_threads.specs.Runs.{run_boot, loaded}
+use Rattle.evm_threads.specs.Runs.{run_boot, loaded_machine}
 
 one_reason : (past : Bool) (image : Contents) (s : State) (why : Refusal) → load_unless (if past then Some BadAddress else None) image s ≡ Err why → why ≡ BadAddress
 one_reason true image s why e = cc
 one_reason false image s why e = cc
 
 -- a machine that has had no event refuses an image for its addresses alone
-pub bad_address : (devices : List Attached) (image : Contents) (why : Refusal) → loaded devices image ≡ Err why → why ≡ BadAddress
+pub bad_address : (devices : List Attached) (image : Contents) (why : Refusal) → loaded_machine devices image ≡ Err why → why ≡ BadAddress
 unfolding load
 bad_address devices image why e = one_reason _ image (start devices run_boot) why e

@@ -24,8 +24,8 @@ abbrev pub run_boot : Boot
 run_boot = record { cpus = 2; ram = 1048576; capacity = 1048576 }
 
 -- the machine that the run begins with, or why the image is not loaded
-abbrev pub loaded : List Attached → Contents → Result State Refusal
-loaded devices image = load image (start devices run_boot)
+abbrev pub loaded_machine : List Attached → Contents → Result State Refusal
+loaded_machine devices image = load image (start devices run_boot)
 
 -- how many Bells two workers have delivered after some turns: the line that was rung at each, in the first turn
 abbrev pub bells_after : ℕ → ℕ
@@ -59,8 +59,8 @@ abbrev pub IsText : ℕ → Result State Refusal → RunEnding → List ℕ → 
 IsText turns (Ok first) Written text = IsWholeJournal turns first text
 IsText turns (Ok first) Incomplete text = IsJournalFrom first text
 IsText turns (Err refusal) ImageRefused text = (refusal ≡ BadAddress) × (text ≡ codes "refused 2 6\n")
-IsText turns loaded NoMemory text = text ≡ codes "memory\n"
-IsText turns loaded ending text = ⊥
+IsText turns loaded_machine NoMemory text = text ≡ codes "memory\n"
+IsText turns loaded_machine ending text = ⊥
 
 abbrev pub ending_of : Outcome → RunEnding
 ending_of (outcomes.Journal text) = Written
@@ -68,26 +68,26 @@ ending_of (outcomes.Incomplete text) = Incomplete
 ending_of outcomes.ImageRefused = ImageRefused
 ending_of outcomes.NoMemory = NoMemory
 
-abbrev pub text_of : Outcome → List ℕ
-text_of (outcomes.Journal text) = string_bytes text
-text_of (outcomes.Incomplete text) = string_bytes text
-text_of outcomes.ImageRefused = codes "refused 2 6\n"
-text_of outcomes.NoMemory = codes "memory\n"
+abbrev pub journal_or_fault_text : Outcome → List ℕ
+journal_or_fault_text (outcomes.Journal text) = string_bytes text
+journal_or_fault_text (outcomes.Incomplete text) = string_bytes text
+journal_or_fault_text outcomes.ImageRefused = codes "refused 2 6\n"
+journal_or_fault_text outcomes.NoMemory = codes "memory\n"
 
 -- what the code has to write is that
 abbrev pub IsOutcome : ℕ → Result State Refusal → Outcome → Type 0
-IsOutcome turns loaded outcome = IsText turns loaded (ending_of outcome) (text_of outcome)
+IsOutcome turns loaded_machine outcome = IsText turns loaded_machine (ending_of outcome) (journal_or_fault_text outcome)
 
 module _ {W : Type 0} (takes : W → Writing → List ℕ → W → Type 0) where
   -- all of its text was written, or a prefix before a write failed
   abbrev pub Ends : ℕ → Result State Refusal → W → W → RunEnding → Type 0
-  Ends turns loaded w w' (WriteFailed fault) = (ending : RunEnding) × (text : List ℕ) × IsText turns loaded ending text × TookPrefix takes w text w'
-  Ends turns loaded w w' ending = (text : List ℕ) × IsText turns loaded ending text × Took takes w text w'
+  Ends turns loaded_machine w w' (WriteFailed fault) = (ending : RunEnding) × (text : List ℕ) × IsText turns loaded_machine ending text × TookPrefix takes w text w'
+  Ends turns loaded_machine w w' ending = (text : List ℕ) × IsText turns loaded_machine ending text × Took takes w text w'
 
 -- the exit status of a run that ends so
-abbrev pub status_of : RunEnding → ℕ
-status_of Written = 0
-status_of Incomplete = 1
-status_of ImageRefused = 1
-status_of NoMemory = 1
-status_of (WriteFailed fault) = 4
+abbrev pub ending_status : RunEnding → ℕ
+ending_status Written = 0
+ending_status Incomplete = 1
+ending_status ImageRefused = 1
+ending_status NoMemory = 1
+ending_status (WriteFailed fault) = 4

@@ -1,7 +1,7 @@
 //! What a run by threads came to.
 
 ghost use Rattle.std.specs.Prelude.{◌≡◌};
-ghost use Rattle.evm_threads.specs.Runs.{ending_of, status_of, text_of};
+ghost use Rattle.evm_threads.specs.Runs.{ending_of, ending_status, journal_or_fault_text};
 
 use evm_streams::WriteFault;
 
@@ -23,7 +23,7 @@ pub enum RunEnding {
 impl RunEnding {
     /// The exit status: 0 where the journal of all turns was written, 1 where a turn, the image or memory was refused, 4 after a failed write.
     pub fn status(&self) -> u8
-        ensures { result ≡ status_of self.now }
+        ensures { result ≡ ending_status self.now }
     {
         match self {
             RunEnding::Written => 0,
@@ -55,7 +55,7 @@ impl Outcome {
     }
 
     pub(crate) fn text(&self) -> &str
-        ensures { result.now ≡ text_of self.now }
+        ensures { result.now ≡ journal_or_fault_text self.now }
     {
         match self {
             Outcome::Journal(text) | Outcome::Incomplete(text) => text.as_str(),

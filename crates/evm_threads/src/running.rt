@@ -1,7 +1,7 @@
 //! An image run by worker threads.
 
 ghost use Rattle.std.specs.Prelude.{◌≡◌};
-ghost use Rattle.evm_threads.specs.Runs.{Ends, IsOutcome, loaded};
+ghost use Rattle.evm_threads.specs.Runs.{Ends, IsOutcome, loaded_machine};
 
 use crate::outcome::{Outcome, RunEnding};
 use crate::sharing::share;
@@ -33,7 +33,7 @@ fn run<D: Device, R: Threads + Wait + Sync>(
     blanks: Blanks,
 ) -> Outcome
     requires { (blanks.steps.parts ≡ 2) × (blanks.bells.parts ≡ 2) × (blanks.others.parts ≡ 2) }
-    ensures { IsOutcome turns (loaded devices image.now) result }
+    ensures { IsOutcome turns (loaded_machine devices image.now) result }
 {
     let Ok(mut machine) = Machine::from_boot(alloc, RUN_BOOT, devices) else {
         return Outcome::NoMemory;
@@ -59,7 +59,7 @@ pub fn threads_to<W: Sink, D: Device, R: Threads + Wait + Sync>(
     out: &mut W,
 ) -> RunEnding
     requires { (blanks.steps.parts ≡ 2) × (blanks.bells.parts ≡ 2) × (blanks.others.parts ≡ 2) }
-    ensures { Ends W.takes turns (loaded devices image.now) out.old out.new result }
+    ensures { Ends W.takes turns (loaded_machine devices image.now) out.old out.new result }
 {
     let outcome = run(rt, alloc, image, turns, devices, blanks);
     write(&outcome, out)

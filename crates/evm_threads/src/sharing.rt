@@ -3,7 +3,7 @@
 ghost use Rattle.std.specs.Prelude.{◌≡◌, true, Ok, All, IfSome, length};
 ghost use Rattle.evm_bells.specs.Seats.{TakerValue};
 ghost use Rattle.evm_model.specs.Replay.{IsReplayOf};
-ghost use Rattle.evm_shared.specs.EventCounts.{counts_of};
+ghost use Rattle.evm_shared.specs.EventCounts.{kind_counts};
 ghost use Rattle.evm_shared.specs.Workers.{WorkerValue};
 ghost use Rattle.evm_threads.specs.Runs.{HaveMade, IsOutcome, bells_after};
 
@@ -125,7 +125,7 @@ pub(crate) fn share<
 >(rt: &R, alloc: Global, machine: Machine<D>, turns: u32, blanks: Blanks) -> Outcome
     requires start { machine ≡ O.start }
     requires replays { IsReplayOf O.start machine }
-    requires base { counts_of machine.journal ≡ O.base }
+    requires base { kind_counts machine.journal ≡ O.base }
     requires steps { (blanks.steps.name ≡ S.name) × (blanks.steps.parts ≡ S.parts) × (S.parts ≡ 2) }
     requires bells { (blanks.bells.name ≡ B.name) × (blanks.bells.parts ≡ B.parts) × (B.parts ≡ 2) }
     requires others { (blanks.others.name ≡ T.name) × (blanks.others.parts ≡ T.parts) × (T.parts ≡ 2) }

@@ -9,6 +9,7 @@ use Rattle.evm_tracks.specs.declared.change.Change.TheVariants.{Shows, Noted}
 use Rattle.evm_tracks.specs.declared.note.Note.{Note}
 use Rattle.evm_tracks.specs.declared.state.State.{State}
 use Rattle.evm_tracks.specs.declared.track.Track.{Track}
+use Rattle.evm_trace.specs.Flows.{if_flow, flows_in}
 use Rattle.evm_trace.specs.Instants.{instants_of, if_instant, instants_in}
 
 instants-append : (xs ys : List Change) → instants_in (xs ++ ys) ≡ instants_in xs ++ instants_in ys
@@ -25,6 +26,17 @@ instants_shown xs track state at = instants-append xs (Shows track state at ∷ 
 pub instants_noted : (xs : List Change) (n : Note) → instants_in (xs ++ Noted n ∷ []) ≡ instants_in xs ++ if_instant n n.detail
 unfolding instants_in
 instants_noted xs n = instants-append xs (Noted n ∷ []) ∙ ap (λ (ns : List Note). instants_in xs ++ ns) (append-nil (if_instant n n.detail))
+
+flows-append : (xs ys : List Change) → flows_in (xs ++ ys) ≡ flows_in xs ++ flows_in ys
+unfolding flows_in
+flows-append [] ys = refl
+flows-append (Shows track state at ∷ xs) ys = flows-append xs ys
+flows-append (Noted n ∷ xs) ys =
+    ap (λ (ns : List Note). if_flow n n.detail ++ ns) (flows-append xs ys) ∙ sym (append_assoc (if_flow n n.detail) (flows_in xs) (flows_in ys))
+
+pub flows_noted : (xs : List Change) (n : Note) → flows_in (xs ++ Noted n ∷ []) ≡ flows_in xs ++ if_flow n n.detail
+unfolding flows_in
+flows_noted xs n = flows-append xs (Noted n ∷ []) ∙ ap (λ (ns : List Note). flows_in xs ++ ns) (append-nil (if_flow n n.detail))
 
 pub nothing : (ns : List Note) → ns ++ [] ≡ ns
 nothing ns = append-nil ns

@@ -1,6 +1,10 @@
 //! The changes that are told of each event.
 
-ghost use Rattle.std.specs.Prelude.{◌≡◌, ◌++◌, ◌∷◌, [], OnOk, flat_map};
+ghost use Rattle.std.specs.Prelude.{◌≡◌, ◌+◌, ◌*◌, ◌++◌, ◌∷◌, [], OnOk, flat_map, ◌-◌, ◌^◌, min, slice_get, slice_set};
+ghost use Rattle.std.specs.Option.{option_flatten};
+ghost use Rattle.std.specs.Box.{boxed_slice_items};
+ghost use Rattle.evm_lines.specs.declared.TheConstants.{LINES};
+ghost use Rattle.evm_trace.specs.Flows.{begun_flows, ended_flows, flows_in, handed_over, if_flow, kept_track, owner_flows};
 ghost use Rattle.evm_trace.specs.Instants.{instant, instants_of, if_instant, instants_in};
 
 use crate::states::{current_track, stage_states, task_state};
@@ -27,7 +31,8 @@ fn push(list: &mut Vec<Change>, change: Change) -> Result<(), Refused>
 
 #[tactic(auto, using(crate::proofs::Told::told))]
 fn note(list: &mut Vec<Change>, track: Track, at: u64, detail: Detail) -> Result<(), Refused>
-    ensures { OnOk result (instants_in list.new.items ≡ instants_in list.old.items ++ if_instant (record { track = track; at = at; detail = detail }) detail) }
+    ensures instants { OnOk result (instants_in list.new.items ≡ instants_in list.old.items ++ if_instant (record { track = track; at = at; detail = detail }) detail) }
+    ensures flows { OnOk result (flows_in list.new.items ≡ flows_in list.old.items ++ if_flow (record { track = track; at = at; detail = detail }) detail) }
 {
     push(list, Change::Noted(Note { track, at, detail }))?;
     Ok(())
@@ -150,7 +155,9 @@ fn interrupt(
     )
 }
 
-fn entry_of(cpu: u8, line: u8) -> usize {
+fn entry_of(cpu: u8, line: u8) -> usize
+    ensures { result ≡ cpu * LINES + line }
+{
     usize::from(cpu) * usize::from(LINES) + usize::from(line)
 }
 
@@ -177,26 +184,36 @@ impl Changes {
     }
 
     // The number of an arrow that begins.
-    fn arrow(&mut self) -> u64 {
+    fn arrow(&mut self) -> u64
+        ensures number { result ≡ self.old.next }
+        ensures tracks { self.new.current ≡ self.old.current }
+    {
         let id = self.next;
         self.next = id.saturating_add(1);
         id
     }
 
-    fn begun_at(&self, entry: usize) -> Option<u64> {
+    fn begun_at(&self, entry: usize) -> Option<u64>
+        ensures { result ≡ option_flatten (slice_get (boxed_slice_items self.now.begun) entry) }
+    {
         match self.begun.get(entry) {
             None => None,
             Some(begun) => *begun,
         }
     }
 
-    fn set_begun(&mut self, entry: usize, id: Option<u64>) {
+    fn set_begun(&mut self, entry: usize, id: Option<u64>)
+        ensures begun { boxed_slice_items self.new.begun ≡ slice_set (boxed_slice_items self.old.begun) entry id }
+        ensures tracks { self.new.current ≡ self.old.current }
+    {
         if entry < self.begun.len() {
             self.begun[entry] = id;
         }
     }
 
-    fn track_of(&self, cpu: u8) -> Track {
+    fn track_of(&self, cpu: u8) -> Track
+        ensures { result ≡ kept_track cpu (slice_get self.now.current cpu) }
+    {
         match self.current.get(usize::from(cpu)) {
             None => Track::InBand(cpu),
             Some(track) => *track,
@@ -212,7 +229,8 @@ impl Changes {
         line: u8,
         at: u64,
     ) -> Result<(), Refused>
-        ensures { OnOk result (instants_in list.new.items ≡ instants_in list.old.items) }
+        ensures instants { OnOk result (instants_in list.new.items ≡ instants_in list.old.items) }
+        ensures flows { OnOk result (flows_in list.new.items ≡ flows_in list.old.items ++ begun_flows (kept_track cpu (slice_get self.old.current cpu)) at (Flow.Line line) self.old.next (option_flatten (slice_get (boxed_slice_items self.old.begun) (cpu * LINES + line)))) }
     {
         let entry = entry_of(cpu, line);
         if self.begun_at(entry).is_some() {
@@ -234,7 +252,8 @@ impl Changes {
         line: u8,
         at: u64,
     ) -> Result<(), Refused>
-        ensures { OnOk result (instants_in list.new.items ≡ instants_in list.old.items) }
+        ensures instants { OnOk result (instants_in list.new.items ≡ instants_in list.old.items) }
+        ensures flows { OnOk result (flows_in list.new.items ≡ flows_in list.old.items ++ ended_flows track at (Flow.Line line) (option_flatten (slice_get (boxed_slice_items self.old.begun) entry))) }
     {
         match self.begun_at(entry) {
             None => Ok(()),
@@ -255,7 +274,8 @@ impl Changes {
         to: u8,
         at: u64,
     ) -> Result<(), Refused>
-        ensures { OnOk result (instants_in list.new.items ≡ instants_in list.old.items) }
+        ensures instants { OnOk result (instants_in list.new.items ≡ instants_in list.old.items) }
+        ensures flows { OnOk result (flows_in list.new.items ≡ flows_in list.old.items ++ handed_over flow self.old.next from to at (min (at + 1) (2 ^ 64 - 1))) }
     {
         let id = self.arrow();
         note(list, Track::Task(from), at, Detail::FlowStart(flow, id))?;
@@ -277,7 +297,8 @@ impl Changes {
         to: Option<u8>,
         at: u64,
     ) -> Result<(), Refused>
-        ensures { OnOk result (instants_in list.new.items ≡ instants_in list.old.items) }
+        ensures instants { OnOk result (instants_in list.new.items ≡ instants_in list.old.items) }
+        ensures flows { OnOk result (flows_in list.new.items ≡ flows_in list.old.items ++ owner_flows flow self.old.next from to at (min (at + 1) (2 ^ 64 - 1))) }
     {
         match (from, to) {
             (Some(from), Some(to)) => self.hand_over(list, flow, from, to, at),

@@ -1,5 +1,5 @@
 -- What a run of the viewer writes, and its status.
-use Rattle.std.specs.Prelude.{◌≡◌, ℕ, List, Result, Ok, Err, map}
+use Rattle.std.specs.Prelude.{◌≡◌, ℕ, List, Result, Ok, Err, length, map}
 use Rattle.evm_streams.specs.declared.sink.Writing.{Writing}
 use Rattle.evm_streams.specs.Writes.{Took}
 use Rattle.evm_image.specs.Images.{Contents}
@@ -16,11 +16,12 @@ use Rattle.evm_xml.specs.declared.names.Tag.TheVariants.{Svg}
 use Rattle.evm_viewer.specs.declared.drawing.ViewEnd.{ViewEnd}
 use Rattle.evm_viewer.specs.declared.drawing.ViewEnd.TheVariants.{AtFault, NoMemory, WriteFailed}
 
--- a timeline tells of the window of a journal's text, which is replayed on a machine with these devices and this image: its cells stand one behind the
--- other, and each tells of its events
+-- a timeline tells of the window of a journal's text, which is replayed on a machine with these devices and this image: it has a lane for each
+-- processor of that machine, its cells stand one behind the other, and each tells of its events
 abbrev pub TellsRun : List Attached → Contents → List ℕ → Window → Timeline → Type 0
 TellsRun devices image text window timeline =
     (walk : Walked) × IsBegin devices image text walk × IsWindow window (map outline walk.events) timeline.cells.items
+    × (timeline.cpu_count ≡ length walk.machine.board.parts.processors)
 
 -- the sink took the whole text of one element, a picture in which a box stands for the events of each cell on each lane
 abbrev pub IsPictured : {W : Type 0} → (W → Writing → List ℕ → W → Type 0) → Timeline → W → W → Type 0

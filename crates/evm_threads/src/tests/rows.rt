@@ -2,7 +2,7 @@
 
 ghost use Rattle.std.specs.Prelude.{◌≡◌, IfOk};
 ghost use Rattle.evm_model.specs.Replay.{IsReplayOf};
-ghost use Rattle.evm_shared.specs.EventCounts.{counts_of};
+ghost use Rattle.evm_shared.specs.EventCounts.{kind_counts};
 
 use super::plays::{a_full_journal, two_workers};
 use super::{LOOP, blanks, devices, image};
@@ -76,7 +76,7 @@ fn played<
     which: Play,
 ) -> Option<Outcome>
     requires replays { IsReplayOf O.start machine }
-    requires base { counts_of machine.journal ≡ O.base }
+    requires base { kind_counts machine.journal ≡ O.base }
     requires steps { (blanks.steps.name ≡ S.name) × (blanks.steps.parts ≡ S.parts) × (S.parts ≡ 2) }
     requires bells { (blanks.bells.name ≡ B.name) × (blanks.bells.parts ≡ B.parts) × (B.parts ≡ 2) }
     requires others { (blanks.others.name ≡ T.name) × (blanks.others.parts ≡ T.parts) × (T.parts ≡ 2) }

@@ -4,7 +4,7 @@ use Rattle.evm_model.specs.declared.event.Answer.{Answer}
 use Rattle.evm_model.specs.declared.event.Answer.TheVariants.{Done}
 use Rattle.evm_model.specs.Event.{Event}
 use Rattle.evm_model.specs.declared.event.Event.TheVariants.{Step}
-use Rattle.evm_runs.specs.Changes.{IsDone}
+use Rattle.evm_runs.specs.Changes.{AnswersDone}
 use Rattle.evm_claims.proofs.parts.an_accepted_event_is_journaled.Goals as goal
 
 pub returns-clause-journal : goal.returns-clause-journal
@@ -13,7 +13,7 @@ returns-clause-journal c old new event answer e = (c.events_change_only.ensures 
 pub returns-clause-boot : goal.returns-clause-boot
 returns-clause-boot c old new event answer e = ap (λ (s : State). s.boot) (c.events_change_only.ensures old new event answer e).rest
 
-done : (event : Event) (answer : Answer) → ((c : ℕ) → event ≡ Step c → ⊥) → IsDone event answer → answer ≡ Done
+done : (event : Event) (answer : Answer) → ((c : ℕ) → event ≡ Step c → ⊥) → AnswersDone event answer → answer ≡ Done
 done (Step c) answer other d = absurd (other c refl)
 done _ answer other d = d
 

@@ -1,7 +1,7 @@
 use Rattle.std.proofs.Common.{◌≡◌, ◌≤◌, ◌+◌, ◌<◌, ◌∙◌, ℕ, true, false, ap, length, arith}
 use Rattle.std.proofs.lemmas.Bool.Decides.{nat_tests}
 use Rattle.std.proofs.lemmas.List.{length-append, length-replicate}
-use Rattle.evm_board.specs.Steps.{stepped}
+use Rattle.evm_board.specs.Steps.{after_all_steps}
 use Rattle.evm_model.specs.Refusals.{is_full}
 use Rattle.evm_model.specs.State.{State}
 use Rattle.evm_model.specs.declared.event.Event.TheVariants.{Step}
@@ -22,7 +22,7 @@ returns-clause-stays g c =
     let some : n ≤ c.at_most.result = c.steps-made.ensures.fits in
     let fits : length s.journal + n ≤ s.boot.capacity = grind (arith, c.len.ensures.count, c.at_most.ensures.room) in
     let all = steps_made n c.args.c s c.requires.parts.1 within fits in
-    let board : c.steps-made.new.self ≡ stepped n c.args.c s.board = made-board n c.at_most.result c.args.c c.steps-made.result.answer s.board c.steps-made.new.self c.steps-made.ensures in
+    let board : c.steps-made.new.self ≡ after_all_steps n c.args.c s.board = made-board n c.at_most.result c.args.c c.steps-made.result.answer s.board c.steps-made.new.self c.steps-made.ensures in
     let long = ap length c.push_steps.ensures.events ∙ length-append s.journal _ ∙ ap (λ n. length s.journal + n) (length-replicate n (Step c.args.c)) in
     (omega (arith, long, c.push_steps.ensures.room, c.requires.parts.0), rw (c.push_steps.ensures.events, board) all.1, rw c.push_steps.ensures.events (steps_more s.journal n c.args.c c.requires.parts.2 (omega arith)))
 
@@ -34,7 +34,7 @@ returns-clause-made g c =
     let some : n ≤ c.at_most.result = c.steps-made.ensures.fits in
     let fits : length s.journal + n ≤ s.boot.capacity = grind (arith, c.len.ensures.count, c.at_most.ensures.room) in
     let all = steps_made n c.args.c s c.requires.parts.1 within fits in
-    let board : c.steps-made.new.self ≡ stepped n c.args.c s.board = made-board n c.at_most.result c.args.c c.steps-made.result.answer s.board c.steps-made.new.self c.steps-made.ensures in
+    let board : c.steps-made.new.self ≡ after_all_steps n c.args.c s.board = made-board n c.at_most.result c.args.c c.steps-made.result.answer s.board c.steps-made.new.self c.steps-made.ensures in
     (c.steps-made.ensures.some, omega (arith, some, c.at_most.ensures.count), rw (c.push_steps.ensures.events, board) all.0)
 
 pub returns-then-room-eq0-clause-made : goal.returns-then-room-eq0-clause-made

@@ -1,5 +1,5 @@
-use Rattle.evm_gdb_driving.specs.Kept.{Keeps}
+use Rattle.evm_gdb_driving.specs.Kept.{KeepsJournal}
 use Rattle.evm_gdb_driving.proofs.running.run_some.Given as goal
 
 abbrev pub invariant-steps : goal.invariant-steps
-invariant-steps g l = Keeps l.fn.machine l.machine
+invariant-steps g l = KeepsJournal l.fn.machine l.machine

@@ -1,16 +1,16 @@
 use Rattle.std.proofs.Common.{rules, ◌++◌, codes}
 use Rattle.evm_streams.specs.Writes.{Took, TookPrefix}
 use Rattle.evm_messages.specs.Message.{message_text}
-use Rattle.evm_messages.specs.Excerpt.{escaped, excerpt}
+use Rattle.evm_messages.specs.Excerpt.{escaped_bytes, excerpt}
 use Rattle.evm_messages.proofs.Messages.{writes_then, writes_failed}
 use Rattle.evm_messages.proofs.diagnostic.write_quoting.Goals as goal
 
 pub returns-in-Ok : goal.returns-in-Ok
 returns-in-Ok g c =
     let took : Took g.E.Sink.takes c.args.errors.now (message_text c.args.message) c.write_alone.new.errors = search rules in
-    writes_then _ _ _ _ (message_text c.args.message) (c.args.between.now ++ (escaped (excerpt c.args.word.now) ++ codes "\"")) _ took c.write_quoted.ensures
+    writes_then _ _ _ _ (message_text c.args.message) (c.args.between.now ++ (escaped_bytes (excerpt c.args.word.now) ++ codes "\"")) _ took c.write_quoted.ensures
 
 pub returns-in-Err : goal.returns-in-Err
 returns-in-Err g c =
     let failed : TookPrefix g.E.Sink.takes c.args.errors.now (message_text c.args.message) c.write_alone.new.errors = search rules in
-    writes_failed _ _ _ (message_text c.args.message) (c.args.between.now ++ (escaped (excerpt c.args.word.now) ++ codes "\"")) failed
+    writes_failed _ _ _ (message_text c.args.message) (c.args.between.now ++ (escaped_bytes (excerpt c.args.word.now) ++ codes "\"")) failed

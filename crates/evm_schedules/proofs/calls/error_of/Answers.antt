@@ -1,5 +1,4 @@
 use Rattle.std.proofs.Common.{◌≡◌, true, Some, refl}
-use Rattle.evm_model.specs.declared.errno.Errno.{Errno}
 use Rattle.evm_model.specs.declared.errno.Errno.TheVariants.{NotPermitted, NoSuchTask, TryAgain, NoNumber, Busy, Invalid, Deadlock, NoSuchCall, TimedOut}
 use Rattle.evm_schedules.specs.Failures.{error_in, is_answered}
 use Rattle.evm_schedules.proofs.calls.error_of.Goals as goal

@@ -1,4 +1,4 @@
-use Rattle.std.proofs.Common.{◌≡◌, ℕ, Option, Some, None, ◌⊎◌, inl, inr, refl, sym, ◌∙◌}
+use Rattle.std.proofs.Common.{◌≡◌, ℕ, Option, Some, None, refl, sym, ◌∙◌}
 use Rattle.evm_model.specs.Event.{Event, short_event}
 use Rattle.evm_schedules.specs.Failures.{step_of}
 use Rattle.evm_schedules.proofs.Failing.{seen-late}

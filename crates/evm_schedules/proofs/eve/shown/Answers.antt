@@ -9,5 +9,5 @@ returns-in-Some-notice_left c before event is eve =
 
 pub returns : goal.returns
 returns c before event is eve =
-    seen-step c.args.watch.now c.args.c before c.args.machine.now event c.args.answer c.stepped.result is
-    (c.in-None.ensures before event eve) (c.in-None-notice_left.ensures before eve.notices) (c.stepped.ensures before event is)
+    seen-step c.args.watch.now c.args.c before c.args.machine.now event c.args.answer c.abandoned_mutex.result is
+    (c.in-None.ensures before event eve) (c.in-None-notice_left.ensures before eve.notices) (c.in-None-stepped.ensures before event is) (c.abandoned_mutex.ensures before c.args.watch.now event eve)

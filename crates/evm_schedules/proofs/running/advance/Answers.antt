@@ -1,9 +1,6 @@
-use Rattle.std.proofs.Common.{◌≡◌, ◌∷◌, ◌++◌, [], Result, Ok, ap, subst, sym, ◌∙◌}
+use Rattle.std.proofs.Common.{◌≡◌, ◌∷◌, ◌++◌, [], Ok, ap, subst, sym, ◌∙◌}
 use Rattle.evm_model.specs.Event.{Event, event_lent, short_event}
 use Rattle.evm_model.specs.Replay.{apply}
-use Rattle.evm_model.specs.State.{State}
-use Rattle.evm_model.specs.declared.event.Answer.{Answer}
-use Rattle.evm_model.specs.declared.refusal.Refusal.{Refusal}
 use Rattle.evm_schedules.proofs.Failing.{has_failed, lent-short}
 use Rattle.evm_schedules.proofs.running.advance.Goals as goal
 

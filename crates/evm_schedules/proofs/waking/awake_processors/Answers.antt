@@ -1,4 +1,4 @@
-use Rattle.std.proofs.Common.{◌≡◌, ◌<◌, ℕ, Some, below_more, arith}
+use Rattle.std.proofs.Common.{◌≡◌, ℕ, Some, below_more, arith}
 use Rattle.std.specs.Prelude.{slice_get}
 use Rattle.evm_schedules.specs.Making.{IsAwake}
 use Rattle.evm_schedules.proofs.waking.awake_processors.Goals as goal

@@ -4,7 +4,7 @@ use Rattle.std.specs.Prelude.{All}
 use Rattle.evm_shared.proofs.Tested.{says_no, upto_more}
 use Rattle.evm_shared.proofs.Walks.{ArePassed, apart_between, apart_past, none_apart, not_apart, passed_more, passed_same}
 use Rattle.evm_shared.specs.Cursors.{AreApartFrom}
-use Rattle.evm_shared.specs.Receipts.{AreApart, IsBefore, events_of}
+use Rattle.evm_shared.specs.Receipts.{AreApart, IsBefore, made_events}
 use Rattle.evm_shared.proofs.checking.first_shared.Goals.{then-event_count-ne0+else-next-others, else-next-others-via-then-next-others+else-not-is_before, else-next-others-via-else-next-others, else-event_count-ne0}
 use Rattle.evm_shared.proofs.checking.first_shared.Goals as goal
 
@@ -41,7 +41,7 @@ loop-index-preserved c =
       | then-event_count-ne0+else-next-others w ↦
           let next = w.first_not_before-next.result in
           let passed = w.first_not_before-next.ensures.passed in
-          let some : 0 < length (events_of x.made) = omega (arith, w.if-event_count-ne0.true, c.event_count.ensures) in record {
+          let some : 0 < length (made_events x.made) = omega (arith, w.if-event_count-ne0.true, c.event_count.ensures) in record {
             within = omega (arith, w.next-is, w.first_not_before-next.ensures.within);
             apart = more (elim w.else-next-others.branch [
               | else-next-others-via-then-next-others+else-not-is_before v ↦
@@ -54,7 +54,7 @@ loop-index-preserved c =
             passed = subst (λ n. ArePassed others receipts n (i + 1) limit) (sym w.next-is) (passed_more others receipts next i limit x c.loop-index-test.true c.requires.limit c.index-receipts-index.is some c.requires.rising.1 passed);
           }
       | else-event_count-ne0 w ↦
-          let none : length (events_of x.made) ≡ 0 = omega (arith, w.if-event_count-ne0.false, c.event_count.ensures) in record {
+          let none : length (made_events x.made) ≡ 0 = omega (arith, w.if-event_count-ne0.false, c.event_count.ensures) in record {
             within = omega (arith, w.next-is, inv.within);
             apart = more (none_apart others x none) inv.apart;
             passed = subst (λ n. ArePassed others receipts n (i + 1) limit) (sym w.next-is) (passed_same others receipts c.loop-index.next i limit inv.passed);

@@ -1,8 +1,8 @@
-use Rattle.evm_shared.specs.EventCounts.{counts_of}
+use Rattle.evm_shared.specs.EventCounts.{kind_counts}
 use Rattle.evm_threads.proofs.running.run.Given as goal
 
 abbrev pub ghosts-share-O-Origin : goal.ghosts-share-O-Origin
-ghosts-share-O-Origin g a = record { start = a.machine; base = counts_of a.machine.journal }
+ghosts-share-O-Origin g a = record { start = a.machine; base = kind_counts a.machine.journal }
 
 abbrev pub ghosts-share-S-Ledger : goal.ghosts-share-S-Ledger
 ghosts-share-S-Ledger g a = record { name = a.blanks.steps.name; parts = a.blanks.steps.parts }

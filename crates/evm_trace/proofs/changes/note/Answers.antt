@@ -1,7 +1,11 @@
 use Rattle.std.proofs.Common.{ap, ◌∙◌}
+use Rattle.evm_trace.specs.Flows.{flows_in}
 use Rattle.evm_trace.specs.Instants.{instants_in}
-use Rattle.evm_trace.proofs.Told.{instants_noted}
+use Rattle.evm_trace.proofs.Told.{flows_noted, instants_noted}
 use Rattle.evm_trace.proofs.changes.note.Goals as goal
 
-pub returns : goal.returns
-returns c = ap instants_in c.in_ok-push.ensures ∙ instants_noted c.args.list.now.items (record { track = c.args.track; at = c.args.at; detail = c.args.detail })
+pub returns-clause-instants : goal.returns-clause-instants
+returns-clause-instants c = ap instants_in c.in_ok-push.ensures ∙ instants_noted c.args.list.now.items (record { track = c.args.track; at = c.args.at; detail = c.args.detail })
+
+pub returns-clause-flows : goal.returns-clause-flows
+returns-clause-flows c = ap flows_in c.in_ok-push.ensures ∙ flows_noted c.args.list.now.items (record { track = c.args.track; at = c.args.at; detail = c.args.detail })

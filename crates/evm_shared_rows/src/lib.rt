@@ -1,0 +1,5 @@
+//! Rows of the machine under its lock.
+#![tactic(auto)]
+
+#[cfg(test)]
+mod shared;

@@ -1,0 +1,5 @@
+//! Rows of threads: a machine under its lock, driven by workers, ringers and commands at the same time.
+#![tactic(auto)]
+
+#[cfg(test)]
+mod tests;

@@ -1,0 +1,212 @@
+//! Plays of threads on a machine in an endless loop, which they share by three ports. Each is played once more from its journal.
+
+ghost use Rattle.std.specs.Prelude.{◌≡◌};
+ghost use Rattle.evm_model.specs.Replay.{IsReplayOf};
+ghost use Rattle.evm_shared.specs.EventCounts.{kind_counts};
+
+mod bell;
+mod giving;
+mod machines;
+mod meeting;
+mod rings;
+mod seats;
+mod workers;
+
+use self::machines::{leads_there, looping};
+use evm_core::Machine;
+use evm_devs::Pins;
+use evm_ram::BASE;
+use evm_shared::{Blanks, EventCounts, Finished, Origin, Port, Shared, check_receipts};
+use std::alloc::Global;
+use std::marker::Brand;
+use std::sync::Wait;
+use std::sync::ledger::{Blank, Ledger};
+use std::test::Fail;
+use std::thread::Threads;
+
+/// How many events the machines have room for.
+const CAPACITY: u64 = 16_384;
+
+/// Which play.
+#[derive(Clone, Copy)]
+enum Play {
+    ThousandRings,
+    TwoTakers,
+    OneLine,
+    TenTurns,
+    Breakpoint,
+}
+
+/// All ports, whether each call answered what it must, and how many Bells were delivered.
+#[derive(Drop)]
+struct Played<S: Ledger, B: Ledger, T: Ledger> {
+    ports: Vec<Port<S, B, T>>,
+    right: bool,
+    bells: u64,
+}
+
+/// What came of a play.
+#[derive(Drop)]
+struct Outcome {
+    /// Each call answered what it must, the receipts and marks are true, and the journal has the Bells that were delivered.
+    right: bool,
+    totals: EventCounts,
+    /// How many receipts each port has.
+    receipts: [usize; 3],
+    machine: Machine<Pins>,
+}
+
+// Ledgers of three parts, one for each port.
+fn blanks() -> Blanks
+    ensures { (result.steps.parts ≡ 3) × (result.bells.parts ≡ 3) × (result.others.parts ≡ 3) }
+{
+    Blanks {
+        steps: Blank::new(3),
+        bells: Blank::new(3),
+        others: Blank::new(3),
+    }
+}
+
+// Whether the receipts and marks of three ports are true.
+fn are_true<S: Ledger, B: Ledger, T: Ledger>(
+    machine: &Machine<Pins>,
+    first: &Port<S, B, T>,
+    second: &Port<S, B, T>,
+    third: &Port<S, B, T>,
+) -> bool {
+    check_receipts(machine, &[first, second, third]) == Ok(())
+}
+
+// What a machine that is no longer shared shows.
+fn seen<S: Ledger, B: Ledger, T: Ledger>(
+    finished: Finished<Pins, S, B, T>,
+    right: bool,
+    bells: u64,
+) -> Option<Outcome> {
+    let Finished {
+        machine,
+        ports,
+        totals,
+    } = finished;
+    let (first, second, third) = (ports.get(0)?, ports.get(1)?, ports.get(2)?);
+    let checked = are_true(&machine, first, second, third);
+    let receipts = [
+        first.receipts().len(),
+        second.receipts().len(),
+        third.receipts().len(),
+    ];
+    Some(Outcome {
+        right: right && checked && totals.bells == bells,
+        totals,
+        receipts,
+        machine,
+    })
+}
+
+// A play on a machine that is shared.
+fn play_on<
+    O: Origin + Send + Sync,
+    S: Ledger + Send + Sync,
+    B: Ledger + Send + Sync,
+    T: Ledger + Send + Sync,
+    R: Threads + Wait + Sync,
+>(rt: &R, alloc: Global, machine: Machine<Pins>, blanks: Blanks, which: Play) -> Option<Outcome>
+    requires replays { IsReplayOf O.start machine }
+    requires base { kind_counts machine.journal ≡ O.base }
+    requires steps { (blanks.steps.name ≡ S.name) × (blanks.steps.parts ≡ S.parts) × (S.parts ≡ 3) }
+    requires bells { (blanks.bells.name ≡ B.name) × (blanks.bells.parts ≡ B.parts) × (B.parts ≡ 3) }
+    requires others { (blanks.others.name ≡ T.name) × (blanks.others.parts ≡ T.parts) × (T.parts ≡ 3) }
+{
+    let (shared, ports) = Shared::<Pins, O, S, B, T>::new(alloc, machine, 3, 256, blanks).ok()?;
+    let Played {
+        ports,
+        right,
+        bells,
+    } = match which {
+        Play::ThousandRings => rings::play(rt, alloc, &shared, ports, 1)?,
+        Play::TwoTakers => rings::play(rt, alloc, &shared, ports, 0)?,
+        Play::OneLine => bell::play(rt, alloc, &shared, ports)?,
+        Play::TenTurns => workers::play(rt, alloc, &shared, ports, false)?,
+        Play::Breakpoint => workers::play(rt, alloc, &shared, ports, true)?,
+    };
+    seen(shared.finish(ports).ok()?, right, bells)
+}
+
+// A play on a machine of `cpus` processors.
+fn outcome_of<R: Threads + Wait + Sync>(
+    rt: &R,
+    alloc: Global,
+    cpus: u64,
+    which: Play,
+) -> Result<Outcome, Fail> {
+    let Some(machine) = looping(alloc, cpus, CAPACITY) else {
+        return Err(Fail::from("no machine"));
+    };
+    match play_on::<Brand, Brand, Brand, Brand, R>(rt, alloc, machine, blanks(), which) {
+        Some(outcome) => Ok(outcome),
+        None => Err(Fail::from("the play has no end")),
+    }
+}
+
+#[test]
+fn a_thousand_rings(rt: HostRuntime) -> Result<(), Fail> {
+    let mut outcome = outcome_of(&rt, rt.alloc(), 2, Play::ThousandRings)?;
+    assert!(rt; outcome.right);
+    // each worker makes a Step in each turn at least
+    assert!(rt; 200 <= outcome.totals.steps);
+    assert_eq!(rt; leads_there(rt.alloc(), &mut outcome.machine), Some(true));
+    Ok(())
+}
+
+// Both workers deliver the lines of processor 0, by a taker each.
+#[test]
+fn two_takers(rt: HostRuntime) -> Result<(), Fail> {
+    let mut outcome = outcome_of(&rt, rt.alloc(), 1, Play::TwoTakers)?;
+    assert!(rt; outcome.right);
+    assert!(rt; 200 <= outcome.totals.steps);
+    assert_eq!(rt; leads_there(rt.alloc(), &mut outcome.machine), Some(true));
+    Ok(())
+}
+
+#[test]
+fn a_line_rung_twice_is_delivered_once(rt: HostRuntime) -> Result<(), Fail> {
+    let mut outcome = outcome_of(&rt, rt.alloc(), 1, Play::OneLine)?;
+    assert!(rt; outcome.right);
+    assert_eq!(rt; outcome.totals.bells, 1);
+    assert_eq!(rt; leads_there(rt.alloc(), &mut outcome.machine), Some(true));
+    Ok(())
+}
+
+// The first turn of processor 0 knows no hart and makes one Step; each of the nine others makes 64 and one.
+#[test]
+fn two_workers_make_586_and_10_steps(rt: HostRuntime) -> Result<(), Fail> {
+    let mut outcome = outcome_of(&rt, rt.alloc(), 2, Play::TenTurns)?;
+    assert!(rt; outcome.right);
+    assert_eq!(rt; outcome.totals.steps, 596);
+    assert_eq!(rt; outcome.receipts, [10, 10, 0]);
+    assert_eq!(rt; leads_there(rt.alloc(), &mut outcome.machine), Some(true));
+    Ok(())
+}
+
+// Processor 0 makes a Step, three times 65, one that hits, and five while it is stopped; processor 1 makes ten.
+#[test]
+fn a_breakpoint_stops_a_worker(rt: HostRuntime) -> Result<(), Fail> {
+    let mut outcome = outcome_of(&rt, rt.alloc(), 2, Play::Breakpoint)?;
+    assert!(rt; outcome.right);
+    assert_eq!(rt; outcome.totals.steps, 212);
+    assert_eq!(rt; outcome.machine.event_count(), 213);
+    assert_eq!(rt; outcome.machine.cpu(0).map(|cpu| cpu.stopped), Some(true));
+    assert_eq!(rt; outcome.machine.hart(0).map(|hart| hart.pc), Some(BASE));
+    assert_eq!(rt; leads_there(rt.alloc(), &mut outcome.machine), Some(true));
+    Ok(())
+}
+
+// The second time there is memory for what the first lacked it for.
+#[test]
+fn gives_back(rt: HostRuntime) {
+    let right = match giving::gives_back(&rt, rt.alloc()) {
+        None => giving::gives_back(&rt, rt.alloc()),
+        right => right,
+    };
+    assert_eq!(rt; right, Some(true));
+}
