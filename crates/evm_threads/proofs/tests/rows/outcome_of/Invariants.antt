@@ -1,8 +1,8 @@
-use Rattle.evm_shared.specs.EventCounts.{counts_of}
+use Rattle.evm_shared.specs.EventCounts.{kind_counts}
 use Rattle.evm_threads.proofs.tests.rows.outcome_of.Given as goal
 
 abbrev pub ghosts-played-O-Origin : goal.ghosts-played-O-Origin
-ghosts-played-O-Origin g a = record { start = a.machine; base = counts_of a.machine.journal }
+ghosts-played-O-Origin g a = record { start = a.machine; base = kind_counts a.machine.journal }
 
 abbrev pub ghosts-played-S-Ledger : goal.ghosts-played-S-Ledger
 ghosts-played-S-Ledger g a = record { name = a.blanks.steps.name; parts = a.blanks.steps.parts }
