@@ -8,6 +8,8 @@ pub mod Placed
 pub mod Preceding
 pub mod Queued_first
 pub mod Ready_turns
+pub mod Ring
 pub mod Same_entries
 pub mod Scans
+pub mod Shifts
 pub mod Turning

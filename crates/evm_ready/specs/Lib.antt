@@ -3,3 +3,4 @@ pub mod Places
 pub mod ListedRanks
 pub mod Queues
 pub mod ReadyTurns
+pub mod Ring

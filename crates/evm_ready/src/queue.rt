@@ -1,26 +1,29 @@
-ghost use Rattle.std.specs.Prelude.{◌≡◌, ◌<◌, ◌≤◌, ◌+◌, ◌-◌, ◌==◌, ◌&&◌, ◌∷◌, ℕ, [], true, false, not, length, take, insert, remove, slice_get, IfSome, IfNone};
-ghost use Rattle.evm_ready.specs.Queues.{has, IsInOrder, precedes};
+ghost use Rattle.std.specs.Prelude.{◌≡◌, ◌<◌, ◌≤◌, ◌==◌, ◌&&◌, ◌∷◌, ◌++◌, ℕ, [], false, not, length, drop, remove, slice_get, slice_set, IfSome, IfNone};
+ghost use Rattle.evm_ready.specs.Queues.{has, IsInOrder};
 
 use crate::turn::{Turn, precedes};
 use evm_model::TASK_LIMIT;
 use std::marker::Model;
 
-// Numbers of tasks, in the order in which they go.
+// Numbers of tasks, in the order in which they go. They lie in the array from `start` on, and go on at its beginning
+// where they reach its end, so that neither a task that goes from the head nor one that comes to the end moves another.
 #[derive(Debug, Drop)]
 pub(crate) struct Queue {
     tasks: [u8; TASK_LIMIT],
+    start: u8,
     len: u8,
 }
 
 impl Model for Queue {
-    ghost use Rattle.std.specs.Prelude.{ℕ, List, take, ◌≤◌};
+    ghost use Rattle.std.specs.Prelude.{ℕ, List, ◌<◌, ◌≤◌};
     ghost use Rattle.evm_model.specs.declared.limits.TheConstants.{TASK_LIMIT};
+    ghost use Rattle.evm_ready.specs.Ring.{ring};
 
     ghost Value = { List ℕ };
 
-    ghost view = { λ queue. take queue.len queue.tasks };
+    ghost view = { λ queue. ring queue.tasks queue.start queue.len };
 
-    ghost invariant = { λ queue. queue.len ≤ TASK_LIMIT };
+    ghost invariant = { λ queue. (queue.start < TASK_LIMIT) × (queue.len ≤ TASK_LIMIT) };
 }
 
 impl Queue {
@@ -30,24 +33,24 @@ impl Queue {
     {
         Queue {
             tasks: [0; TASK_LIMIT],
+            start: 0,
             len: 0,
         }
     }
 
     // The task that goes first.
+    #[inline]
     pub(crate) fn head(&self) -> Option<u8>
         ensures { result ≡ slice_get self.now 0 }
     {
-        self.tasks().first().copied()
+        if self.len() == 0 {
+            None
+        } else {
+            Some(self.get(0))
+        }
     }
 
-    fn tasks(&self) -> &[u8]
-        ensures { result.now ≡ self.now }
-    {
-        &self.tasks[..self.len as usize]
-    }
-
-    // Task t comes to its place.
+    // Task t comes to its place. It is sought from the end, since a fresh stamp goes there.
     pub(crate) fn insert(&mut self, turns: &[Turn], t: u8)
         requires room { length self.old < TASK_LIMIT }
         requires order { IsInOrder turns.now self.old }
@@ -55,9 +58,14 @@ impl Queue {
         ensures order { IsInOrder turns.now self.new }
         ensures members { (u : ℕ) → has self.new u ≡ has (t ∷ self.old) u }
     {
-        let place = place_for(self.tasks(), turns, t);
-        insert_at(&mut self.tasks, self.len as usize, place, t);
-        self.len += 1;
+        let mut place = self.len();
+        self.push(t);
+        while place > 0 && precedes(turns, t, self.get(place - 1)) {
+            let behind = self.get(place - 1);
+            self.put(place, behind);
+            place -= 1;
+        }
+        self.put(place, t);
     }
 
     // Task t goes, if it is there.
@@ -66,60 +74,81 @@ impl Queue {
         ensures order { IsInOrder turns.now self.new }
         ensures members { (u : ℕ) → has self.new u ≡ (not (t == u) && has self.old u) }
     {
-        if let Some(place) = position(self.tasks(), t) {
-            remove_at(&mut self.tasks, self.len as usize, place);
-            self.len -= 1;
+        if let Some(place) = self.position(t) {
+            self.remove_at(place);
         }
     }
-}
 
-// The place of task t: behind those that precede it. It is sought from the back, since a fresh stamp goes there.
-fn place_for(tasks: &[u8], turns: &[Turn], t: u8) -> usize
-    ensures within { result ≤ length tasks.now }
-    ensures behind { (i u : ℕ) → result ≤ i → slice_get tasks.now i ≡ Some u → precedes turns.now t u ≡ true }
-    ensures before { (i u : ℕ) → i + 1 ≡ result → slice_get tasks.now i ≡ Some u → precedes turns.now t u ≡ false }
-{
-    let mut place = tasks.len();
-    while place > 0 && precedes(turns, t, tasks[place - 1]) {
-        place -= 1;
-    }
-    place
-}
-
-// Where task t is.
-fn position(tasks: &[u8], t: u8) -> Option<usize>
-    ensures found { IfSome result (λ i. slice_get tasks.now i ≡ Some t) }
-    ensures none { IfNone result (has tasks.now t ≡ false) }
-{
-    for i in 0..tasks.len() {
-        if tasks[i] == t {
-            return Some(i);
+    // Where task t is.
+    fn position(&self, t: u8) -> Option<usize>
+        ensures found { IfSome result (λ i. slice_get self.now i ≡ Some t) }
+        ensures none { IfNone result (has self.now t ≡ false) }
+    {
+        for i in 0..self.len() {
+            if self.get(i) == t {
+                return Some(i);
+            }
         }
+        None
     }
-    None
-}
 
-// Of the first `len`, those from `place` on move up, and t comes there.
-fn insert_at(tasks: &mut [u8], len: usize, place: usize, t: u8)
-    requires within { place ≤ len }
-    requires room { len < length tasks.old }
-    ensures { take (len + 1) tasks.new ≡ insert (take len tasks.old) place t }
-{
-    let mut i = len;
-    while i > place {
-        tasks[i] = tasks[i - 1];
-        i -= 1;
+    // Those before `place` move up over it, and then the head goes: as many move as were passed in the search.
+    fn remove_at(&mut self, place: usize)
+        requires { place < length self.old }
+        ensures { self.new ≡ remove self.old place }
+    {
+        let mut i = place;
+        while i > 0 {
+            let before = self.get(i - 1);
+            self.put(i, before);
+            i -= 1;
+        }
+        self.drop_head();
     }
-    tasks[place] = t;
-}
 
-// Of the first `len`, those behind `place` move down.
-fn remove_at(tasks: &mut [u8], len: usize, place: usize)
-    requires within { place < len }
-    requires room { len ≤ length tasks.old }
-    ensures { take (len - 1) tasks.new ≡ remove (take len tasks.old) place }
-{
-    for i in place..len - 1 {
-        tasks[i] = tasks[i + 1];
+    #[inline]
+    fn len(&self) -> usize
+        ensures length { result ≡ length self.now }
+        ensures limit { result ≤ TASK_LIMIT }
+    {
+        self.len as usize
+    }
+
+    // The task at place i of the queue.
+    #[inline]
+    fn get(&self, i: usize) -> u8
+        requires { i < length self.now }
+        ensures { slice_get self.now i ≡ Some result }
+    {
+        self.tasks[(self.start as usize + i) % TASK_LIMIT]
+    }
+
+    // Task t takes place i.
+    #[inline]
+    fn put(&mut self, i: usize, t: u8)
+        requires { i < length self.old }
+        ensures { self.new ≡ slice_set self.old i t }
+    {
+        self.tasks[(self.start as usize + i) % TASK_LIMIT] = t;
+    }
+
+    // Task t comes to the end.
+    #[inline]
+    fn push(&mut self, t: u8)
+        requires { length self.old < TASK_LIMIT }
+        ensures { self.new ≡ self.old ++ t ∷ [] }
+    {
+        self.tasks[(self.start as usize + self.len as usize) % TASK_LIMIT] = t;
+        self.len += 1;
+    }
+
+    // The first goes.
+    #[inline]
+    fn drop_head(&mut self)
+        requires { 0 < length self.old }
+        ensures { self.new ≡ drop 1 self.old }
+    {
+        self.start = (self.start + 1) % TASK_LIMIT as u8;
+        self.len -= 1;
     }
 }

@@ -1,13 +1,9 @@
-use Rattle.std.proofs.Common.{◌≡◌, Some}
-use Rattle.std.specs.Prelude.{slice_get}
 use Rattle.evm_ready.proofs.Members.{has-remove, in_order-remove}
 use Rattle.evm_ready.proofs.queue.Queue.remove.Goals as goal
 
 pub returns-in-Some-clause-order : goal.returns-in-Some-clause-order
-returns-in-Some-clause-order c =
-    rw (c.remove_at.ensures, c.self.view_is) (in_order-remove c.args.turns.now c.args.self.now c.in-Some.place c.requires)
+returns-in-Some-clause-order c = rw c.remove_at.ensures (in_order-remove c.args.turns.now c.args.self.now c.in-Some.place c.requires)
 
 pub returns-in-Some-clause-members : goal.returns-in-Some-clause-members
 returns-in-Some-clause-members c =
-    let found : slice_get c.args.self.now c.in-Some.place ≡ Some c.args.t = rw (← c.tasks.ensures) c.in-Some.ensures.found in
-    λ u. rw (c.remove_at.ensures, c.self.view_is) (has-remove c.args.turns.now c.args.self.now c.in-Some.place c.args.t u c.requires found)
+    λ u. rw c.remove_at.ensures (has-remove c.args.turns.now c.args.self.now c.in-Some.place c.args.t u c.requires c.in-Some.ensures.found)
