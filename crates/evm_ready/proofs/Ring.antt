@@ -1,5 +1,5 @@
--- What the steps of a ring leave, and what each place of it holds.
-use Rattle.std.proofs.Common.{◌≡◌, ℕ, ◌+◌, ◌-◌, ◌%◌, ◌<◌, ◌≤◌, ◌⊎◌, List, [], ◌∷◌, ◌++◌, length, get_or, drop, set, ap, ◌∙◌, inl, inr, mod-eq_of_lt, arith, length-append, length-drop, length-set, length-take-le, get_or-drop, get_or-take}
+-- What each place of a ring holds, and what its steps leave.
+use Rattle.std.proofs.Common.{◌≡◌, ℕ, ◌+◌, ◌-◌, ◌%◌, ◌<◌, ◌≤◌, ◌⊎◌, List, [], ◌∷◌, ◌++◌, length, get_or, drop, set, sym, ap, ◌∙◌, inl, inr, mod-eq_of_lt, arith, length-append, length-drop, length-set, length-take-le, get_or-drop, get_or-take}
 use native.Mathlib.Nat.{mod-eq-sub-mod, mod-add-mod}
 use Rattle.std.proofs.lemmas.List.{same_lists, get_or_append_left, get_or-append_right}
 use Rattle.std.proofs.lemmas.Bool.{cases_lt}
@@ -27,6 +27,21 @@ module _ (n : ℕ) (xs : List ℕ) (start len : ℕ) (within : start < n) (fits 
       ]
 
 module _ (n : ℕ) (xs : List ℕ) (start len : ℕ) (within : start < n) (fits : len ≤ n) (whole : length xs ≡ n) where
+  pub put-ring : (i t : ℕ) → i < len → ring (set xs ((start + i) % n) t) start len ≡ set (ring xs start len) i t
+  put-ring i t below =
+      let ys = set xs ((start + i) % n) t in
+      let whole_new = length-set xs ((start + i) % n) t ∙ whole in
+      let old = length-ring n xs start len within fits whole in
+      let new = length-ring n ys start len within fits whole_new in
+      let written = wraps_once n (start + i) (omega arith) in
+      same_lists _ _ (new ∙ sym (length-set (ring xs start len) i t ∙ old)) (λ j d here. grind (
+        arith,
+        common_steps,
+        wraps_once n (start + j) (omega arith),
+        get_or-ring n xs start len within fits whole j d,
+        get_or-ring n ys start len within fits whole_new j d,
+      ))
+
   pub push-ring : (t : ℕ) → len < n → ring (set xs ((start + len) % n) t) start (len + 1) ≡ ring xs start len ++ t ∷ []
   push-ring t room =
       let ys = set xs ((start + len) % n) t in
