@@ -25,7 +25,7 @@ use Rattle.evm_asm.specs.declared.failure.Failure.{Failure}
 use Rattle.evm_asm.specs.declared.failure.Failure.TheVariants as failure
 use Rattle.evm_asm.specs.declared.meaning.Stop.{Stop}
 use Rattle.evm_asm.specs.declared.item.Placed.{Placed}
-use Rattle.evm_asm.specs.Items.{Fails, FailsBy, with_numbers, number_pushed, line_or_fault, lines_meant, and_then}
+use Rattle.evm_asm.specs.Items.{StopsAsMeant, FailsBy, with_numbers, number_pushed, line_or_fault, lines_meant, and_then}
 use Rattle.evm_asm.specs.declared.meaning.Stop.TheVariants as stop
 
 -- ---- the address of the label of a name
@@ -278,8 +278,8 @@ module _ (labels : Spots) (size : ℕ) (part : Section) (width : Width) (count i
       ap (λ n. with_numbers labels size part width n text so_far) e
 
 pub numbers-stop : (s : Stop) (labels : Spots) (size : ℕ) (part : Section) (width : Width) (count i : ℕ) (text : List ℕ) (so_far : List Placed) (whole : Result (List Placed) SourceFaultKind)
-    → i < count → Fails s (number_pushed labels size part width (first_operand text) so_far)
-    → with_numbers labels size part width (count - i) text so_far ≡ whole → Fails s whole
+    → i < count → StopsAsMeant s (number_pushed labels size part width (first_operand text) so_far)
+    → with_numbers labels size part width (count - i) text so_far ≡ whole → StopsAsMeant s whole
 numbers-stop (stop.Memory asked) labels size part width count i text so_far whole lt h w = h
 numbers-stop (stop.Fault kind) labels size part width count i text so_far whole lt h w =
     sym w ∙ one labels size part width count i text so_far lt

@@ -189,13 +189,13 @@ unfoldable pub meaning_of : List ℕ → Result (List Placed) SourceFault
 meaning_of source = lines_meant (layout_of source) 0 source_start (source_lines source) []
 
 -- What a function returned, seen by view, is what is meant, unless room for one element more was refused.
-abbrev pub Fails : {Y : Type 0} → Stop → Result Y SourceFaultKind → Type 0
-Fails (stop.Memory asked) meant = asked ≤ 1
-Fails (stop.Fault kind) meant = meant ≡ Err kind
+abbrev pub StopsAsMeant : {Y : Type 0} → Stop → Result Y SourceFaultKind → Type 0
+StopsAsMeant (stop.Memory asked) meant = asked ≤ 1
+StopsAsMeant (stop.Fault kind) meant = meant ≡ Err kind
 
 abbrev pub IsMeant : {X Y : Type 0} → (X → Y) → Result X Stop → Result Y SourceFaultKind → Type 0
 IsMeant view (Ok x) meant = meant ≡ Ok (view x)
-IsMeant view (Err e) meant = Fails e meant
+IsMeant view (Err e) meant = StopsAsMeant e meant
 
 -- A source or its items, unless room for that many more was refused.
 abbrev pub FailsBy : {Y : Type 0} → ℕ → Failure → Result Y SourceFault → Type 0
@@ -207,6 +207,6 @@ Gives view most (Ok x) meant = meant ≡ Ok (view x)
 Gives view most (Err e) meant = FailsBy most e meant
 
 -- A fault that was reported is the source's, unless memory ran out.
-abbrev pub Tells : {X Y : Type 0} → (X → Y) → Result X AsmFault → Result Y AsmFault → Type 0
-Tells view (Ok x) meant = meant ≡ Ok (view x)
-Tells view (Err e) meant = (e.kind ≡ NoMemory → ⊥) → meant ≡ Err e
+abbrev pub ReportsAsMeant : {X Y : Type 0} → (X → Y) → Result X AsmFault → Result Y AsmFault → Type 0
+ReportsAsMeant view (Ok x) meant = meant ≡ Ok (view x)
+ReportsAsMeant view (Err e) meant = (e.kind ≡ NoMemory → ⊥) → meant ≡ Err e

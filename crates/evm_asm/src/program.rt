@@ -2,7 +2,7 @@
 
 ghost use Rattle.std.specs.Prelude.{◌≡◌, ◌≤◌, ◌+◌, IfOk, IfErr, length, slice_get, All};
 ghost use Rattle.std.specs.Option.{option_map};
-ghost use Rattle.evm_asm.specs.Items.{Gives, Tells};
+ghost use Rattle.evm_asm.specs.Items.{Gives, ReportsAsMeant};
 ghost use Rattle.evm_asm_parser.specs.evm_asm_lexer.Faults.{reported};
 ghost use Rattle.evm_asm_parser.specs.evm_asm_lexer.Names.{named};
 ghost use Rattle.evm_asm.specs.Assembled.{assembled, program_of, IsWorded, StandsIn};
@@ -134,7 +134,7 @@ fn assembled(alloc: Global, source: &str) -> Result<Program, Failure>
 /// Assembles a source: its program, or the least line that has a fault and the least of its faults.
 pub fn assemble(alloc: Global, source: &str) -> Result<Program, AsmFault>
     // The program or the fault is the one that the source means, unless memory runs out.
-    ensures exact { Tells (λ p. p) result (reported (program_of source.now)) }
+    ensures exact { ReportsAsMeant (λ p. p) result (reported (program_of source.now)) }
     // Memory runs out only where a growth was refused that is hardly greater than the source, or no greater than a program.
     ensures memory { IfErr result (λ fault. fault.kind ≡ AsmFaultKind.NoMemory → RefusedWithin (length source.now + bytes_max)) }
     // The word of each line stands for its instruction, by the table of instructions.

@@ -61,24 +61,24 @@ operands_detail mnemonic found = option_and_then (λ wanted. if found == wanted 
 
 -- ---- numbers and labels
 
-abbrev pub natural : ℕ → Option SourceDetail
-natural above = Some (Range 0 above)
+abbrev pub range_from_zero : ℕ → Option SourceDetail
+range_from_zero above = Some (Range 0 above)
 
 abbrev pub slot_range : Slot → Option SourceDetail
 slot_range (slot.Integer below above) = Some (Range below above)
-slot_range (slot.Natural above) = natural above
-slot_range slot.Upper = natural 1048575
+slot_range (slot.Natural above) = range_from_zero above
+slot_range slot.Upper = range_from_zero 1048575
 slot_range slot.Address = Some (Range 2048 2047)
 slot_range slot.FullAddress = Some (Range 2048 2047)
 slot_range other = None
 
-abbrev pub or_else : Option SourceDetail → Option SourceDetail → Option SourceDetail
-or_else (Some detail) next = Some detail
-or_else None next = next
+abbrev pub first_detail : Option SourceDetail → Option SourceDetail → Option SourceDetail
+first_detail (Some detail) next = Some detail
+first_detail None next = next
 
 abbrev pub slots_range : List Slot → Option SourceDetail
 slots_range [] = None
-slots_range (s ∷ slots) = or_else (slot_range s) (slots_range slots)
+slots_range (s ∷ slots) = first_detail (slot_range s) (slots_range slots)
 
 abbrev pub width_range : Width → SourceDetail
 width_range Byte = Range 128 255
@@ -101,7 +101,7 @@ distance_of names.Jump = Some (Distance 1048576 1048574)
 distance_of mnemonic = None
 
 abbrev pub limits_of : Named → ℕ → Option SourceDetail
-limits_of mnemonic count = or_else (range_of (form count mnemonic)) (distance_of mnemonic)
+limits_of mnemonic count = first_detail (range_of (form count mnemonic)) (distance_of mnemonic)
 
 -- ---- a line that has this fault
 

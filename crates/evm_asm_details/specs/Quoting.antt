@@ -23,15 +23,15 @@ unless_register None = None
 unfoldable pub unknown_in : List ℕ → Option (List ℕ)
 unknown_in operand = unless_register (name_in (register_text operand))
 
-abbrev pub or_else : Option (List ℕ) → Option (List ℕ) → Option (List ℕ)
-or_else (Some word) next = Some word
-or_else None next = next
+abbrev pub first_quoted : Option (List ℕ) → Option (List ℕ) → Option (List ℕ)
+first_quoted (Some word) next = Some word
+first_quoted None next = next
 
 -- the first of such names: no form has registers behind its third place
 unfoldable pub unknown_register : List ℕ → Option (List ℕ)
 unknown_register operands =
-    or_else (unknown_in (first_operand operands))
-    (or_else (unknown_in (first_operand (other_operands operands))) (unknown_in (first_operand (other_operands (other_operands operands)))))
+    first_quoted (unknown_in (first_operand operands))
+    (first_quoted (unknown_in (first_operand (other_operands operands))) (unknown_in (first_operand (other_operands (other_operands operands)))))
 
 -- the name of a statement, where it is no mnemonic, or else of an operand, where it is no register
 abbrev pub unknown_name : Option Mnemonic → List ℕ → Option (List ℕ)

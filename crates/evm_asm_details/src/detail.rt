@@ -1,7 +1,7 @@
 //! Details of a faulty line, beside the message of its fault.
 
 ghost use Rattle.std.specs.Prelude.{◌≡◌};
-ghost use Rattle.evm_asm_details.specs.Details.{name_detail, unknown_detail, token_at, token_text, places_of, operands_detail, natural, width_range, range_of, distance_of, limits_of, line_detail, source_detail};
+ghost use Rattle.evm_asm_details.specs.Details.{name_detail, unknown_detail, token_at, token_text, places_of, operands_detail, range_from_zero, width_range, range_of, distance_of, limits_of, line_detail, source_detail};
 ghost use Rattle.evm_asm_parser.specs.Forms.{form};
 
 use crate::quoting::behind_lines;
@@ -128,8 +128,8 @@ fn width_range(width: Width) -> SourceDetail
     }
 }
 
-fn natural(above: u64) -> Option<SourceDetail>
-    ensures { result ≡ natural above }
+fn range_from_zero(above: u64) -> Option<SourceDetail>
+    ensures { result ≡ range_from_zero above }
 {
     Some(SourceDetail::Range { below: 0, above })
 }
@@ -145,16 +145,16 @@ fn range_of(count: usize, mnemonic: Mnemonic) -> Option<SourceDetail>
     match mnemonic {
         Mnemonic::Immediate(_) | Mnemonic::Load(_) | Mnemonic::Store(_) => Some(offset),
         Mnemonic::Jalr => { if count == 1 { None } else { Some(offset) } }
-        Mnemonic::Shift(ShiftOp::Slli | ShiftOp::Srli | ShiftOp::Srai) => natural(63),
-        Mnemonic::Shift(_) => natural(31),
-        Mnemonic::Lui | Mnemonic::Auipc => natural(1048575),
+        Mnemonic::Shift(ShiftOp::Slli | ShiftOp::Srli | ShiftOp::Srai) => range_from_zero(63),
+        Mnemonic::Shift(_) => range_from_zero(31),
+        Mnemonic::Lui | Mnemonic::Auipc => range_from_zero(1048575),
         Mnemonic::LoadImmediate => Some(SourceDetail::Range {
             below: 2147483648,
             above: 2147483647,
         }),
         Mnemonic::Numbers(width) => Some(width_range(width)),
-        Mnemonic::Space => natural(u64::MAX),
-        Mnemonic::Align => natural(12),
+        Mnemonic::Space => range_from_zero(u64::MAX),
+        Mnemonic::Align => range_from_zero(12),
         _ => None,
     }
 }

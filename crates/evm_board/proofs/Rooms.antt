@@ -17,7 +17,7 @@ use Rattle.evm_walk.proofs.Rows.{faults}
 use Rattle.evm_walk.proofs.Sets.{walk_pipes}
 use Rattle.evm_walk.proofs.Sizes.{walk_most, walk_ticks}
 use Rattle.evm_walk.proofs.Walk.{Actor, ArePipes as AllPipes, AreFew, Walk, start, unchanged}
-use Rattle.evm_rules.proofs.Bounded.{ArePipes, AreWithin, within-more, within-receive}
+use Rattle.evm_rules.proofs.Bounded.{EachIsPipe, AreWithin, within-more, within-receive}
 use Rattle.evm_walk.proofs.Counted.{PipesUpTo-more}
 
 -- task t acts on processor c: it raises and chooses nothing
@@ -89,14 +89,14 @@ pub ruleset fault_stamps = (room-fault, stamps-fault, stamps-faulting, clock-fau
 pub ruleset calls = (room-call, stamps-call, room-asked, clock-call)
 
 -- settling alone
-pub room-settle : (k : Parts) → ArePipes k.pipes → HasRoom STAMPS_PER_EVENT k → AreWithin (COUNT_LIMIT - PER_SETTLING) k
+pub room-settle : (k : Parts) → EachIsPipe k.pipes → HasRoom STAMPS_PER_EVENT k → AreWithin (COUNT_LIMIT - PER_SETTLING) k
 room-settle k are h = record { are = are; up = PipesUpTo-more (COUNT_LIMIT - STAMPS_PER_EVENT) (COUNT_LIMIT - PER_SETTLING) k.pipes (omega arith) h.counts }
 
 pub stamps-settle : (k : Parts) → HasRoom STAMPS_PER_EVENT k → HasStamps PER_SETTLING k
 stamps-settle k h = omega (arith, h.stamps)
 
 -- .. after a line is received
-pub room-receive : (c l : ℕ) (k : Parts) → ArePipes k.pipes → HasRoom STAMPS_PER_EVENT k → AreWithin (COUNT_LIMIT - PER_SETTLING) (receive_line c l k)
+pub room-receive : (c l : ℕ) (k : Parts) → EachIsPipe k.pipes → HasRoom STAMPS_PER_EVENT k → AreWithin (COUNT_LIMIT - PER_SETTLING) (receive_line c l k)
 unfolding receive_line
 room-receive c l k are h =
     let w : AreWithin (COUNT_LIMIT - STAMPS_PER_EVENT) k = record { are = are; up = h.counts } in

@@ -5,14 +5,14 @@ use Rattle.evm_elf.specs.declared.detail.ImageDetail.{ImageDetail}
 use Rattle.evm_elf.specs.declared.header.Header.{Header}
 use Rattle.evm_elf.specs.Fields.{headers_from, program_header}
 use Rattle.evm_elf.specs.Faults.{is_load, passes_end, leaves_range, is_outside}
-use Rattle.evm_elf.specs.Details.{outside_of, outside_at, or_else, first_outside}
+use Rattle.evm_elf.specs.Details.{outside_of, outside_at, first_image_detail, first_outside}
 
-one_more : (file : List ℕ) (i n : ℕ) → first_outside file i (suc n) ≡ or_else (outside_at (length file) i (program_header file i)) (first_outside file (i + 1) n)
+one_more : (file : List ℕ) (i n : ℕ) → first_outside file i (suc n) ≡ first_image_detail (outside_at (length file) i (program_header file i)) (first_outside file (i + 1) n)
 unfolding first_outside
 one_more file i n = refl
 
 pub outside_more : (file : List ℕ) (i n : ℕ) → i < n
-    → first_outside file i (n - i) ≡ or_else (outside_at (length file) i (program_header file i)) (first_outside file (i + 1) (n - (i + 1)))
+    → first_outside file i (n - i) ≡ first_image_detail (outside_at (length file) i (program_header file i)) (first_outside file (i + 1) (n - (i + 1)))
 outside_more file i n h = let e : n - i ≡ suc (n - (i + 1)) = omega arith in ap (first_outside file i) e ∙ one_more file i (n - (i + 1))
 
 pub outside_done : (file : List ℕ) (i n : ℕ) → n ≤ i → first_outside file i (n - i) ≡ None
@@ -34,7 +34,7 @@ found_at : (len i : ℕ) (o : Option Header) → is_some (outside_at len i o) �
 found_at len i None = refl
 found_at len i (Some h) = if_load (is_load h) (passes_end len h) (leaves_range h) _ _
 
-either_found : (o next : Option ImageDetail) (t rest : Bool) → is_some o ≡ t → is_some next ≡ rest → is_some (or_else o next) ≡ (t || rest)
+either_found : (o next : Option ImageDetail) (t rest : Bool) → is_some o ≡ t → is_some next ≡ rest → is_some (first_image_detail o next) ≡ (t || rest)
 either_found (Some detail) next true rest h k = refl
 either_found (Some detail) next false rest h k = cc
 either_found None next true rest h k = cc

@@ -6,9 +6,9 @@ use Rattle.std.proofs.lemmas.Bool.{cases_Bool, and_cases, and_parts, or_parts, n
 use Rattle.std.proofs.lemmas.Bool.Decides.{nat_tests}
 use Rattle.evm_elf.specs.declared.header.Header.{Header}
 use Rattle.evm_elf.specs.declared.fault.ElfFault.TheVariants.{NoMemory}
-use Rattle.evm_elf.specs.Fields.{headers, headers_from, header_count, entry}
+use Rattle.evm_elf.specs.Fields.{headers, headers_from, header_count, entry_point}
 use Rattle.evm_image.specs.Images.{Loaded, Contents, Covers, byte_in, IsFree, IsOnly, Fills, IsApart, IsSound, range_start, range_end}
-use Rattle.evm_elf.specs.Faults.{is_load, load_of, loads, is_outside, passes_end, leaves_range, share, some_two, is_overfull, is_entry, file_has, faults, fault_of, segment_of, image_of}
+use Rattle.evm_elf.specs.Faults.{is_load, load_of, load_headers, is_outside, passes_end, leaves_range, share, some_two, is_overfull, is_entry, file_has, faults, fault_of, segment_of, image_of}
 use Rattle.evm_elf.proofs.Sharing.{holds, point_share}
 
 -- where none is found, no element passes the test
@@ -39,9 +39,9 @@ has_header file none = ltb-false _ _ (find_none (file_has file) faults none).0
 -- the faults that matter for the image
 pub record Passes (file : List ℕ) : Type 0 where
   pub outside : list_any (is_outside (length file)) (headers file) ≡ false
-  pub overlap : some_two share (loads file) ≡ false
-  pub sizes : list_any is_overfull (loads file) ≡ false
-  pub enters : is_entry (entry file) ≡ true
+  pub overlap : some_two share (load_headers file) ≡ false
+  pub sizes : list_any is_overfull (load_headers file) ≡ false
+  pub enters : is_entry (entry_point file) ≡ true
 
 pub passes : (file : List ℕ) → fault_of file ≡ None → Passes file
 unfolding fault_of file_has
@@ -147,17 +147,17 @@ sound file none =
       entry_aligned = eqb-true _ _ aligned.0;
       entry_low = leb-true _ _ inside.0;
       entry_high = ltb-true _ _ inside.1;
-      sizes = sizes_hold file (loads file) p.sizes;
+      sizes = sizes_hold file (load_headers file) p.sizes;
       low = low_holds file (length file) (headers file) p.outside;
       high = high_holds file (length file) (headers file) p.outside;
-      apart = apart_from (map (segment_of file) (loads file)) (λ a. fills_all file (loads file) a p.overlap);
-      fills = λ a. fills_all file (loads file) a p.overlap;
+      apart = apart_from (map (segment_of file) (load_headers file)) (λ a. fills_all file (load_headers file) a p.overlap);
+      fills = λ a. fills_all file (load_headers file) a p.overlap;
     }
 
 -- the image of a file from its parts
-pub built : (file : List ℕ) (start count : ℕ) (segments : List Loaded) → start ≡ entry file → count ≡ header_count file → segments ≡ map (segment_of file) (filter_map load_of (headers_from file 0 count)) → image_of file ≡ record { entry = start; segments = segments }
+pub built : (file : List ℕ) (start count : ℕ) (segments : List Loaded) → start ≡ entry_point file → count ≡ header_count file → segments ≡ map (segment_of file) (filter_map load_of (headers_from file 0 count)) → image_of file ≡ record { entry = start; segments = segments }
 unfolding image_of
 built file start count segments p q r =
-    let whole : segments ≡ map (segment_of file) (loads file) = r ∙ ap (λ n. map (segment_of file) (filter_map load_of (headers_from file 0 n))) q in
+    let whole : segments ≡ map (segment_of file) (load_headers file) = r ∙ ap (λ n. map (segment_of file) (filter_map load_of (headers_from file 0 n))) q in
     let make : ℕ → List Loaded → Contents = λ n s. record { entry = n; segments = s } in
-    ap (λ n. make n (map (segment_of file) (loads file))) (sym p) ∙ ap (make start) (sym whole)
+    ap (λ n. make n (map (segment_of file) (load_headers file))) (sym p) ∙ ap (make start) (sym whole)

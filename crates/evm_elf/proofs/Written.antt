@@ -3,14 +3,14 @@ use Rattle.std.proofs.Common.{◌≡◌, ℕ, ◌+◌, ◌-◌, ◌%◌, ◌==�
 use Rattle.byteorder.specs.Endian.{little_bytes}
 use Rattle.byteorder.specs.Numbers.{little_number-reads_back}
 use Rattle.evm_elf.specs.declared.header.Header.{Header}
-use Rattle.evm_elf.specs.Fields.{number, header_at, program_header, headers_from, headers, header_count, table_offset, entry, magic, machine_number, flags}
+use Rattle.evm_elf.specs.Fields.{number, header_at, program_header, headers_from, headers, header_count, table_offset, entry_point, magic, machine_number, flags}
 use Rattle.evm_elf.specs.declared.fault.ElfFault.TheVariants.{Dynamic, SegmentOutside, SegmentOverlap, SizeOrder}
 use Rattle.std.specs.Prelude.{slice_index}
 use Rattle.std.proofs.lemmas.List.{get_or_past}
 use Rattle.std.specs.List.{list_any, filter_map, find, AllByRecursion}
 use Rattle.std.proofs.lemmas.Bool.{cases_lt, or_from, and_right, and_from, lt-ltb, le-leb, le-ltb, cond-false, not_from_true}
 use Rattle.evm_image.specs.Images.{Loaded, Contents, covers, byte_at, range_start, range_end}
-use Rattle.evm_elf.specs.Faults.{load_of, loads, is_dynamic, is_outside, passes_end, leaves_range, is_overfull, share, some_two, has_other_class, has_other_kind, has_other_header_size, is_entry, segment_of, file_has, faults, fault_of, image_of}
+use Rattle.evm_elf.specs.Faults.{load_of, load_headers, is_dynamic, is_outside, passes_end, leaves_range, is_overfull, share, some_two, has_other_class, has_other_kind, has_other_header_size, is_entry, segment_of, file_has, faults, fault_of, image_of}
 use Rattle.evm_elf.specs.Files.{file_of, image_of_bytes}
 
 pub length_file : (bytes : List ℕ) → length (file_of bytes) ≡ 120 + length bytes
@@ -25,7 +25,7 @@ count : (bytes : List ℕ) → header_count (file_of bytes) ≡ 1
 unfolding file_of number
 count bytes = refl
 
-start : (bytes : List ℕ) → entry (file_of bytes) ≡ 0x8000_0000
+start : (bytes : List ℕ) → entry_point (file_of bytes) ≡ 0x8000_0000
 unfolding file_of number
 start bytes = refl
 
@@ -87,11 +87,11 @@ not_dynamic : (bytes : List ℕ) → is_dynamic (Some (the_header bytes)) ≡ fa
 unfolding the_header
 not_dynamic bytes = refl
 
-loads_is : (bytes : List ℕ) → length bytes < 2 ^ 64 → loads (file_of bytes) ≡ the_header bytes ∷ []
+loads_is : (bytes : List ℕ) → length bytes < 2 ^ 64 → load_headers (file_of bytes) ≡ the_header bytes ∷ []
 unfolding the_header
 loads_is bytes few = ap (filter_map load_of) (headers_is bytes few)
 
-fields_pass : (bytes : List ℕ) → (not (magic (file_of bytes) == 0x464c_457f) ≡ false) × (has_other_class (file_of bytes) ≡ false) × (has_other_kind (file_of bytes) ≡ false) × (not (machine_number (file_of bytes) == 243) ≡ false) × (flags (file_of bytes) % 2 == 1 ≡ false) × (has_other_header_size (file_of bytes) ≡ false) × (is_entry (entry (file_of bytes)) ≡ true)
+fields_pass : (bytes : List ℕ) → (not (magic (file_of bytes) == 0x464c_457f) ≡ false) × (has_other_class (file_of bytes) ≡ false) × (has_other_kind (file_of bytes) ≡ false) × (not (machine_number (file_of bytes) == 243) ≡ false) × (flags (file_of bytes) % 2 == 1 ≡ false) × (has_other_header_size (file_of bytes) ≡ false) × (is_entry (entry_point (file_of bytes)) ≡ true)
 unfolding file_of number
 fields_pass bytes = (refl, refl, refl, refl, refl, refl, refl)
 
@@ -122,7 +122,7 @@ image_is bytes few =
     let made = ap (map (segment_of file)) (loads_is bytes few) in
     let own : take (length bytes) (drop 120 file) ≡ bytes = ap (take (length bytes)) (own_bytes bytes) ∙ take_all (length bytes) bytes (omega arith) in
     let make : ℕ → List Loaded → Contents = λ n s. record { entry = n; segments = s } in
-    ap (λ n. make n (map (segment_of file) (loads file))) (start bytes)
+    ap (λ n. make n (map (segment_of file) (load_headers file))) (start bytes)
     ∙ (ap (make range_start) made
     ∙ ap (λ b. make range_start (record { address = range_start; bytes = b; memsz = length bytes } ∷ [])) own)
 

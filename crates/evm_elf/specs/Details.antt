@@ -6,7 +6,7 @@ use Rattle.evm_elf.specs.declared.detail.ImageDetail.TheVariants.{Empty, NoElf, 
 use Rattle.evm_elf.specs.declared.fault.ElfFault.{ElfFault}
 use Rattle.evm_elf.specs.declared.fault.ElfFault.TheVariants as faults
 use Rattle.evm_elf.specs.declared.header.Header.{Header}
-use Rattle.evm_elf.specs.Fields.{class, encoding, file_kind, machine_number, entry, header_size, header_count, program_header}
+use Rattle.evm_elf.specs.Fields.{class, encoding, file_kind, machine_number, entry_point, header_size, header_count, program_header}
 use Rattle.evm_elf.specs.Faults.{is_load, passes_end, leaves_range, has_other_header_size}
 
 -- ---- a file that is shorter than a file header
@@ -46,14 +46,14 @@ abbrev pub outside_at : ℕ → ℕ → Option Header → Option ImageDetail
 outside_at len i None = Some (HeaderCut i)
 outside_at len i (Some h) = if is_load h then outside_of len i h else None
 
-abbrev pub or_else : Option ImageDetail → Option ImageDetail → Option ImageDetail
-or_else (Some detail) next = Some detail
-or_else None next = next
+abbrev pub first_image_detail : Option ImageDetail → Option ImageDetail → Option ImageDetail
+first_image_detail (Some detail) next = Some detail
+first_image_detail None next = next
 
 -- the first of n program headers from number i on that is outside, and why
 unfoldable pub first_outside : List ℕ → ℕ → ℕ → Option ImageDetail
 first_outside file i zero = None
-first_outside file i (suc n) = or_else (outside_at (length file) i (program_header file i)) (first_outside file (i + 1) n)
+first_outside file i (suc n) = first_image_detail (outside_at (length file) i (program_header file i)) (first_outside file (i + 1) n)
 
 abbrev pub segment_detail : List ℕ → Option ImageDetail
 segment_detail file = if has_other_header_size file then Some (HeaderSize (header_size file)) else first_outside file 0 (header_count file)
@@ -66,7 +66,7 @@ long_detail file faults.Kind = kind_detail file
 long_detail file faults.MachineNumber = machine_detail file
 long_detail file faults.Compressed = Some Compressed
 long_detail file faults.SegmentOutside = segment_detail file
-long_detail file faults.Entry = Some (Entry (entry file))
+long_detail file faults.Entry = Some (Entry (entry_point file))
 long_detail file fault = None
 
 abbrev pub image_detail : List ℕ → ElfFault → Option ImageDetail

@@ -4,7 +4,7 @@ use Rattle.std.specs.List.{list_any, filter_map, find}
 use Rattle.evm_elf.specs.declared.fault.ElfFault.{ElfFault}
 use Rattle.evm_elf.specs.declared.fault.ElfFault.TheVariants.{Short, Magic, Class, Kind, MachineNumber, Compressed, Dynamic, SegmentOutside, SegmentOverlap, SizeOrder, Entry, NoMemory}
 use Rattle.evm_elf.specs.declared.header.Header.{Header}
-use Rattle.evm_elf.specs.Fields.{magic, class, encoding, ident_version, file_kind, machine_number, version, entry, flags, header_size, header_count, headers}
+use Rattle.evm_elf.specs.Fields.{magic, class, encoding, ident_version, file_kind, machine_number, version, entry_point, flags, header_size, header_count, headers}
 use Rattle.evm_image.specs.Images.{Loaded, Contents, Fills, byte_at, range_start, range_end}
 
 -- a segment to be loaded
@@ -17,8 +17,8 @@ load_of None = None
 load_of (Some h) = if is_load h then Some h else None
 
 -- the headers of the segments to be loaded, in the file's order
-abbrev pub loads : List ℕ → List Header
-loads file = filter_map load_of (headers file)
+abbrev pub load_headers : List ℕ → List Header
+load_headers file = filter_map load_of (headers file)
 
 -- a header of dynamic linking, or of the name of an interpreter
 abbrev pub is_dynamic : Option Header → Bool
@@ -86,9 +86,9 @@ file_has file MachineNumber = not (machine_number file == 243)
 file_has file Compressed = flags file % 2 == 1
 file_has file Dynamic = list_any is_dynamic (headers file)
 file_has file SegmentOutside = has_other_header_size file || list_any (is_outside (length file)) (headers file)
-file_has file SegmentOverlap = some_two share (loads file)
-file_has file SizeOrder = list_any is_overfull (loads file)
-file_has file Entry = not (is_entry (entry file))
+file_has file SegmentOverlap = some_two share (load_headers file)
+file_has file SizeOrder = list_any is_overfull (load_headers file)
+file_has file Entry = not (is_entry (entry_point file))
 file_has file NoMemory = false
 
 -- the faults of a file in the order of their numbers
@@ -106,7 +106,7 @@ segment_of file h = record { address = h.address; bytes = take h.filesz (drop h.
 
 -- the image of a file
 unfoldable pub image_of : List ℕ → Contents
-image_of file = record { entry = entry file; segments = map (segment_of file) (loads file) }
+image_of file = record { entry = entry_point file; segments = map (segment_of file) (load_headers file) }
 
 -- the image is that of the file, and each address has the byte of the one segment that takes it, or zero
 abbrev pub Loads : List ℕ → Contents → Type 0

@@ -29,8 +29,8 @@ machine_number = number 2 18
 abbrev pub version : List ℕ → ℕ
 version = number 4 20
 
-abbrev pub entry : List ℕ → ℕ
-entry = number 8 24
+abbrev pub entry_point : List ℕ → ℕ
+entry_point = number 8 24
 
 abbrev pub table_offset : List ℕ → ℕ
 table_offset = number 8 32

@@ -6,7 +6,7 @@ ghost use Rattle.evm_image.specs.Images.{byte_at, range_start, IsSound};
 ghost use Rattle.evm_elf.specs.Files.{file_of, image_of_bytes};
 ghost use Rattle.evm_elf.specs.Programs.{AssembledIsRead, WordsAreLoaded};
 ghost use Rattle.evm_elf.specs.declared.writing.TheConstants.{PROGRAM_MAX};
-ghost use Rattle.evm_elf.specs.Faults.{file_has, fault_of, image_of, IsTakenTwice, loads};
+ghost use Rattle.evm_elf.specs.Faults.{file_has, fault_of, image_of, IsTakenTwice, load_headers};
 
 use evm_asm::{programs_fit, words_stand};
 
@@ -18,7 +18,7 @@ pub fn accepted_is_sound()
 
 /// Segments overlap if and only if some address is in the memory of two of them.
 pub fn overlap_is_shared_address()
-    ensures { (file : List ℕ) → (file_has file SegmentOverlap ≡ true) ↔ IsTakenTwice (loads file) }
+    ensures { (file : List ℕ) → (file_has file SegmentOverlap ≡ true) ↔ IsTakenTwice (load_headers file) }
 {}
 
 /// What `write_bytes` writes is read again as the program: the file has no fault, and its image is one

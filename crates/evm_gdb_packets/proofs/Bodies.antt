@@ -5,7 +5,7 @@ use Rattle.std.proofs.lemmas.Bool.{cases_Bool, eqb-true, eq-eqb, ltb-false, le-l
 use Rattle.std.proofs.lemmas.Option.{some_pair_parts}
 use Rattle.evm_text.specs.Written.{character, pairs}
 use Rattle.evm_text.proofs.Options.{refuse_some}
-use Rattle.evm_gdb_packets.specs.Framing.{turned, is_mark, escaped, checksum, packet, framed}
+use Rattle.evm_gdb_packets.specs.Framing.{turned, is_special, escaped, checksum, packet, framed}
 use Rattle.evm_gdb_packets.specs.Items.{Item, Packet, Damaged, payload_on, payload_of, IsPacket, cut_hash, says, or_damaged, checked, packet_behind, behind_dollar, packet_at, sign, item_at}
 use Rattle.evm_gdb_packets.specs.declared.item.TheConstants.{PACKET_LIMIT}
 use Rattle.evm_gdb_packets.proofs.Cuts.{cut_hash-whole}
@@ -126,7 +126,7 @@ item_at-packet payload one rest is =
 
 -- ---- a packet that was written
 
-unmarked : (b : ℕ) → is_mark b ≡ false → (eqb b 35 ≡ false) × (eqb b 36 ≡ false) × (eqb b 125 ≡ false)
+unmarked : (b : ℕ) → is_special b ≡ false → (eqb b 35 ≡ false) × (eqb b 36 ≡ false) × (eqb b 125 ≡ false)
 unmarked b e =
     elim (cases_Bool (eqb b 35)) [
       | inl is ↦ let wrong : true ≡ false = rw is at e in absurd cc
@@ -157,7 +157,7 @@ turns_42 = record { hash = refl; dollar = refl; back = refl }
 turns_125 : Turns 125
 turns_125 = record { hash = refl; dollar = refl; back = refl }
 
-marked : (b : ℕ) → is_mark b ≡ true → Turns b
+marked : (b : ℕ) → is_special b ≡ true → Turns b
 marked b e =
     elim (cases_Bool (eqb b 35)) [
       | inl is ↦ rw (eqb-true b 35 is) turns_35
@@ -175,7 +175,7 @@ unfolding payload_on escaped
 payload_on-escaped so_far [] = ap Some (sym (append-nil so_far))
 payload_on-escaped so_far (b ∷ payload) =
     let next = payload_on-escaped (so_far ++ b ∷ []) payload ∙ ap Some (append_assoc so_far (b ∷ []) payload) in
-    elim (cases_Bool (is_mark b)) [
+    elim (cases_Bool (is_special b)) [
       | inl mark ↦ let t = marked b mark in rw (mark, t.hash, t.dollar, t.back) next
       | inr other ↦ let u = unmarked b other in rw (other, u.0, u.1, u.2) next
     ]

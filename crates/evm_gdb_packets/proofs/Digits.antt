@@ -8,7 +8,7 @@ use Rattle.evm_text.specs.Written.{character, pairs}
 use Rattle.evm_text.specs.Reading.{worth}
 use Rattle.evm_text.proofs.Digits.{worth-character, character-worth}
 use Rattle.evm_text.proofs.Options.{guard_some}
-use Rattle.evm_gdb_packets.specs.Hexadecimal.{bytes_on, bytes_of}
+use Rattle.evm_gdb_packets.specs.Hexadecimal.{bytes_on, bytes_of_digits}
 
 -- ---- written
 
@@ -79,15 +79,15 @@ bytes_on-again so_far (byte ∷ more) each =
     let back = div-add-mod' byte 16 in
     rw (high, low, high_digit, low_digit, back) (bytes_on-again (so_far ++ byte ∷ []) more each.1 ∙ ap Some (append_assoc so_far (byte ∷ []) more))
 
-pub bytes_of-takes : (bytes digits : List ℕ) → bytes_of digits ≡ Some bytes → (digits ≡ pairs bytes) × AllByRecursion (λ byte. byte < 256) bytes
-bytes_of-takes bytes digits read =
+pub bytes_of_digits-takes : (bytes digits : List ℕ) → bytes_of_digits digits ≡ Some bytes → (digits ≡ pairs bytes) × AllByRecursion (λ byte. byte < 256) bytes
+bytes_of_digits-takes bytes digits read =
     let t = bytes_on-takes [] bytes digits read in (
       t.whole ∙ ap pairs (sym t.bytes-is),
       rw t.bytes-is t.each,
     )
 
-pub bytes_of-again : (bytes digits : List ℕ) → (digits ≡ pairs bytes) × AllByRecursion (λ byte. byte < 256) bytes → bytes_of digits ≡ Some bytes
-bytes_of-again bytes digits h = rw h.0 (bytes_on-again [] bytes h.1)
+pub bytes_of_digits-again : (bytes digits : List ℕ) → (digits ≡ pairs bytes) × AllByRecursion (λ byte. byte < 256) bytes → bytes_of_digits digits ≡ Some bytes
+bytes_of_digits-again bytes digits h = rw h.0 (bytes_on-again [] bytes h.1)
 
 -- one more pair
 pub bytes_on_more : (so_far rest : List ℕ) → 2 ≤ length rest → worth (get_or rest 0 0) < 16 → worth (get_or rest 1 0) < 16

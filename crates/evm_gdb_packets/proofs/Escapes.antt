@@ -5,13 +5,13 @@ use Rattle.std.proofs.lemmas.List.{append-nil, take_more}
 use Rattle.std.proofs.lemmas.Bool.{cases_Bool}
 use Rattle.std.proofs.lemmas.List.Sums.{fold-append}
 use Rattle.std.specs.List.{sum, fold}
-use Rattle.evm_gdb_packets.specs.Framing.{is_mark, escaped, checksum}
+use Rattle.evm_gdb_packets.specs.Framing.{is_special, escaped, checksum}
 
 escaped-append : (xs ys : List ℕ) → escaped (xs ++ ys) ≡ escaped xs ++ escaped ys
 unfolding escaped
 escaped-append [] ys = refl
 escaped-append (x ∷ xs) ys =
-    elim (cases_Bool (is_mark x)) [
+    elim (cases_Bool (is_special x)) [
       | inl mark ↦ rw (mark, escaped-append xs ys) refl
       | inr other ↦ rw (other, escaped-append xs ys) refl
     ]

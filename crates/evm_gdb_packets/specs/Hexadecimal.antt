@@ -12,8 +12,8 @@ bytes_on so_far (high ∷ low ∷ digits) =
     else None
 
 -- the bytes whose pairs of digits these are
-abbrev pub bytes_of : List ℕ → Option (List ℕ)
-bytes_of digits = bytes_on [] digits
+abbrev pub bytes_of_digits : List ℕ → Option (List ℕ)
+bytes_of_digits digits = bytes_on [] digits
 
 -- What a function read: whether there are such bytes, and which.
 abbrev pub Reads : Option (List ℕ) → Bool → List ℕ → Type 0

@@ -3,7 +3,7 @@ use Rattle.std.specs.Prelude.{◌≡◌, ◌↔◌, ℕ, ◌<◌, ◌≤◌, Lis
 use Rattle.std.specs.List.{AllByRecursion}
 use Rattle.evm_text.specs.Written.{pairs}
 use Rattle.evm_gdb_packets.specs.Framing.{escaped, framed}
-use Rattle.evm_gdb_packets.specs.Hexadecimal.{bytes_of}
+use Rattle.evm_gdb_packets.specs.Hexadecimal.{bytes_of_digits}
 use Rattle.evm_gdb_packets.specs.Items.{Item, Packet, IsPacket, item_at}
 use Rattle.evm_gdb_packets.specs.declared.item.TheConstants.{PACKET_LIMIT}
 
@@ -17,4 +17,4 @@ abbrev pub PiecesAreRead : Type 0
 PiecesAreRead = (item : Item) (rest bytes more : List ℕ) → item_at bytes ≡ Some (item, rest) → item_at (bytes ++ more) ≡ Some (item, rest ++ more)
 
 abbrev pub DigitsAreRead : Type 0
-DigitsAreRead = (bytes digits : List ℕ) → (bytes_of digits ≡ Some bytes) ↔ ((digits ≡ pairs bytes) × AllByRecursion (λ byte. byte < 256) bytes)
+DigitsAreRead = (bytes digits : List ℕ) → (bytes_of_digits digits ≡ Some bytes) ↔ ((digits ≡ pairs bytes) × AllByRecursion (λ byte. byte < 256) bytes)

@@ -1,6 +1,6 @@
 ghost use Rattle.std.specs.Prelude.{◌≡◌, ◌<◌, ◌++◌, ◌∷◌, [], IfOk, IfErr, OnOk};
 ghost use Rattle.evm_text.specs.Written.{character};
-ghost use Rattle.evm_gdb_packets.specs.Framing.{checksum, escaped, framed, is_mark, turned};
+ghost use Rattle.evm_gdb_packets.specs.Framing.{checksum, escaped, framed, is_special, turned};
 
 use evm_room::{Refused, grow};
 
@@ -24,8 +24,8 @@ pub(crate) fn turned(byte: u8) -> u8
     }
 }
 
-fn is_mark(byte: u8) -> bool
-    ensures { result ≡ is_mark byte }
+fn is_special(byte: u8) -> bool
+    ensures { result ≡ is_special byte }
 {
     byte == HASH || byte == DOLLAR || byte == b'*' || byte == ESCAPE
 }
@@ -59,7 +59,7 @@ fn push_escaped_byte(out: &mut Vec<u8>, byte: u8) -> Result<u8, Refused>
     ensures sum { IfOk result (λ sum. sum ≡ checksum (escaped (byte ∷ []))) }
     ensures refused { IfErr result (λ asked. asked ≡ 1) }
 {
-    if is_mark(byte) {
+    if is_special(byte) {
         let stand_in = turned(byte);
         push_byte(out, ESCAPE)?;
         push_byte(out, stand_in)?;

@@ -1,7 +1,7 @@
 ghost use Rattle.std.specs.Prelude.{◌≡◌, ◌++◌, IfOk, IfErr, OnOk};
 ghost use Rattle.evm_text.specs.Reading.{worth};
 ghost use Rattle.evm_text.specs.Written.{pairs};
-ghost use Rattle.evm_gdb_packets.specs.Hexadecimal.{bytes_of, bytes_on, Reads};
+ghost use Rattle.evm_gdb_packets.specs.Hexadecimal.{bytes_of_digits, bytes_on, Reads};
 
 use crate::framing::{digit, push_byte};
 use evm_room::Refused;
@@ -48,7 +48,7 @@ pub fn push_digits(out: &mut Vec<u8>, bytes: &[u8]) -> Result<(), Refused>
 /// Memory for a byte was refused.
 #[tactic(auto, unfolding(crate::specs::Hexadecimal::bytes_on))]
 pub fn read_digits(digits: &[u8], bytes: &mut Vec<u8>) -> Result<bool, Refused>
-    ensures ok { IfOk result (λ whole. Reads (bytes_of digits.now) whole bytes.new.items) }
+    ensures ok { IfOk result (λ whole. Reads (bytes_of_digits digits.now) whole bytes.new.items) }
     ensures refused { IfErr result (λ asked. asked ≡ 1) }
 {
     bytes.clear();

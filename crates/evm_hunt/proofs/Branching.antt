@@ -25,7 +25,7 @@ use Rattle.evm_switches.proofs.Closing.{GoesFarther, searched, searched-still}
 use Rattle.evm_switches.proofs.Going.{at-last, front-still, more-goes, walked-more, walked-out, searched-by}
 use Rattle.evm_switches.proofs.Searching.{replay-append}
 use Rattle.evm_switches.proofs.Walking.{reached-none, reached-step}
-use Rattle.evm_switches.specs.Branches.{KeepsBranches, events_of}
+use Rattle.evm_switches.specs.Branches.{KeepsBranches, events_of_turns}
 use Rattle.evm_switches.specs.Searches.{AreSearched, HasWalked, IsPassed, IsSearched, IsWalked}
 use Rattle.evm_switches.specs.Walks.{AreForked, CantStep, HasPassed, HasStepped, IsReached}
 use Rattle.evm_switches.specs.declared.branch.Branch.{Branch}
@@ -48,16 +48,16 @@ one-first image boot a b h g = let both : Ok a ≡ Ok b = sym h ∙ g in cc
 
 -- the state behind the beginning of a branch
 pub begins-at : (image : Contents) (boot : Boot) (watch : Watch) (branch : Branch) (turns : List Turn) (begun start first : State) → branch.turns.items ≡ turns → Begins image boot begun
-    → HasPassed (FailsAsSought watch) begun (events_of turns) start → Begins image boot first → IsReached first branch 0 start
+    → HasPassed (FailsAsSought watch) begun (events_of_turns turns) start → Begins image boot first → IsReached first branch 0 start
 begins-at image boot watch branch turns begun start first same begins passed begins' =
     let one = one-first image boot begun first begins begins' in
-    let here : start ≡ replay begun (events_of branch.turns.items) = subst (λ (xs : List Turn). start ≡ replay begun (events_of xs)) (sym same) passed.reached in
+    let here : start ≡ replay begun (events_of_turns branch.turns.items) = subst (λ (xs : List Turn). start ≡ replay begun (events_of_turns xs)) (sym same) passed.reached in
     subst (λ (s : State). IsReached s branch 0 start) one (reached-none begun start branch here)
 
 -- the state behind some steps more
 pub comes-to : (watch : Watch) (first start s : State) (branch : Branch) (steps : ℕ) → HasPassed (FailsAsSought watch) start (replicate steps (Step branch.cpu)) s → IsReached first branch 0 start → IsReached first branch steps s
 comes-to watch first start s branch steps passed reached =
-    let events = events_of branch.turns.items in
+    let events = events_of_turns branch.turns.items in
     let none : events ++ [] ≡ events = append-nil events in
     let there : start ≡ replay first events = reached ∙ ap (replay first) none in
     passed.reached ∙ (ap (λ (t : State). replay t (replicate steps (Step branch.cpu))) there ∙ sym (replay-append first events (replicate steps (Step branch.cpu))))
@@ -73,8 +73,8 @@ kinds_at s = map (λ (device : Attached). device.kind) s.board.memory.devices
 
 pub same-kinds : ((s : State) (events : List Event) → kinds_at (replay s events) ≡ kinds_at s) → (first s t : State) (a b : Branch) (n m : ℕ) → IsReached first a n s → IsReached first b m t → kinds_at s ≡ kinds_at t
 same-kinds stay first s t a b n m h g =
-    let one : kinds_at s ≡ kinds_at first = ap kinds_at h ∙ stay first (events_of a.turns.items ++ replicate n (Step a.cpu)) in
-    let other : kinds_at t ≡ kinds_at first = ap kinds_at g ∙ stay first (events_of b.turns.items ++ replicate m (Step b.cpu)) in
+    let one : kinds_at s ≡ kinds_at first = ap kinds_at h ∙ stay first (events_of_turns a.turns.items ++ replicate n (Step a.cpu)) in
+    let other : kinds_at t ≡ kinds_at first = ap kinds_at g ∙ stay first (events_of_turns b.turns.items ++ replicate m (Step b.cpu)) in
     one ∙ sym other
 
 -- ---- a branch step by step
@@ -99,12 +99,12 @@ walks-out watch first most before branches walked branch steps start s after out
 
 -- a branch that has passed its beginning and gone on is looked at
 pub searches : (image : Contents) (boot : Boot) (watch : Watch) (most : ℕ) (branches : List Branch) (walked : List ℕ) (branch : Branch) (turns : List Turn) (count : ℕ) (begun start first : State) → branch.turns.items ≡ turns
-    → Begins image boot begun → HasPassed (FailsAsSought watch) begun (events_of turns) start → Begins image boot first → HasWalkedBy watch first most branches walked branch count start
+    → Begins image boot begun → HasPassed (FailsAsSought watch) begun (events_of_turns turns) start → Begins image boot first → HasWalkedBy watch first most branches walked branch count start
     → IsSearched (MayMake watch.lines) (FailsAsSought watch) first most branches (IsPassed first branches (walked ++ count ∷ [])) branch count
 searches image boot watch most branches walked branch turns count begun start first same begins passed begins' walked' =
     let one = one-first image boot begun first begins begins' in
-    let passed' = subst (λ (xs : List Turn). HasPassed (FailsAsSought watch) begun (events_of xs) start) (sym same) passed in
-    searched-by (MayMake watch.lines) (FailsAsSought watch) first most branches walked branch count start (subst (λ (s : State). HasPassed (FailsAsSought watch) s (events_of branch.turns.items) start) one passed') walked'
+    let passed' = subst (λ (xs : List Turn). HasPassed (FailsAsSought watch) begun (events_of_turns xs) start) (sym same) passed in
+    searched-by (MayMake watch.lines) (FailsAsSought watch) first most branches walked branch count start (subst (λ (s : State). HasPassed (FailsAsSought watch) s (events_of_turns branch.turns.items) start) one passed') walked'
 
 -- ---- the whole search
 -- the branches that were looked at

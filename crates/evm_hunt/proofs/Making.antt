@@ -14,7 +14,7 @@ use Rattle.evm_schedules.specs.declared.failure.Failure.{Failure}
 use Rattle.evm_schedules.specs.declared.watch.Watch.{Watch}
 use Rattle.evm_switches.proofs.Searching.{replay-one}
 use Rattle.evm_switches.proofs.Walking.{AreChoices}
-use Rattle.evm_switches.specs.Branches.{event_of, HasBranch, HasSwitches, IsSwitch, forked}
+use Rattle.evm_switches.specs.Branches.{event_of_choice, HasBranch, HasSwitches, IsSwitch, forked}
 use Rattle.evm_switches.specs.Schedules.{switches}
 use Rattle.evm_switches.specs.Walks.{AreForked, CantStep, HasPassed}
 use Rattle.evm_switches.specs.declared.branch.Branch.{Branch}
@@ -36,7 +36,7 @@ are-choices lines s (Break address) may = absurd may
 are-choices lines s (Unbreak address) may = absurd may
 
 -- ---- where nothing more can happen
-pub over-none : (lines : List ℕ) (s : State) (choice : Choice) → IsOver lines s → MayMake lines s (event_of choice) → ⊥
+pub over-none : (lines : List ℕ) (s : State) (choice : Choice) → IsOver lines s → MayMake lines s (event_of_choice choice) → ⊥
 over-none lines s (choices.Step c) over may = over.asleep c may
 over-none lines s choices.Tick over may = may over
 over-none lines s (choices.Raise c line) over may = may.0 over
@@ -52,7 +52,7 @@ same-step : (c : ℕ) → switches c (Step c) ≡ 1 → ⊥
 same-step c h = let e : (c == c) ≡ true = grind (arith, nat_tests) in let zero : switches c (Step c) ≡ 0 = rw e refl in let no : 0 ≡ 1 = sym zero ∙ h in cc
 
 pub may-switch : (lines awake : List ℕ) (cpus c : ℕ) (s : State) (choice : Choice) → ((d : ℕ) → IsAwake d s → (i : ℕ) × (slice_get awake i ≡ Some d)) → cpus ≡ length s.board.parts.processors
-    → MayMake lines s (event_of choice) → switches c (event_of choice) ≡ 1 → IsSwitch c awake cpus lines choice
+    → MayMake lines s (event_of_choice choice) → switches c (event_of_choice choice) ≡ 1 → IsSwitch c awake cpus lines choice
 may-switch lines awake cpus c s (choices.Step d) all count may one = ((λ same. same-step c (subst (λ (n : ℕ). switches c (Step n) ≡ 1) same one)), (all d may).0, (all d may).1)
 may-switch lines awake cpus c s choices.Tick all count may one = tt
 may-switch lines awake cpus c s (choices.Raise d line) all count may one = (subst (λ (n : ℕ). d < n) (sym count) may.1, may.2)

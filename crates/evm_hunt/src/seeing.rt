@@ -4,7 +4,7 @@ ghost use Rattle.std.specs.Prelude.{◌≡◌, ◌<◌, ◌≤◌, ◌∷◌, �
 ghost use Rattle.evm_model.specs.Devices.{Attached};
 ghost use Rattle.evm_model.specs.State.{State};
 ghost use Rattle.evm_schedules.specs.Beginning.{Begins};
-ghost use Rattle.evm_switches.specs.Covering.{Covers, IsCovered};
+ghost use Rattle.evm_switches.specs.Covering.{Subsumes, IsCovered};
 ghost use Rattle.evm_switches.specs.Searches.{IsPassed};
 ghost use Rattle.evm_switches.specs.Walks.{IsReached};
 
@@ -64,7 +64,7 @@ fn has_no_more(seen: &Branch, branch: &Branch) -> bool
 
 // Whether a machine covers another, both reached by branches from the boot.
 fn covers(seen: &Machine<AnyDevice>, machine: &Machine<AnyDevice>) -> bool
-    ensures { result ≡ true → map (λ (device : Attached). device.kind) seen.now.board.memory.devices ≡ map (λ (device : Attached). device.kind) machine.now.board.memory.devices → Covers seen.now machine.now }
+    ensures { result ≡ true → map (λ (device : Attached). device.kind) seen.now.board.memory.devices ≡ map (λ (device : Attached). device.kind) machine.now.board.memory.devices → Subsumes seen.now machine.now }
 {
     if seen.event_count() > machine.event_count() {
         return false;

@@ -9,7 +9,7 @@ ghost use Rattle.evm_hunt.specs.Searches.{EndsBranch};
 ghost use Rattle.evm_schedules.specs.Failures.{FailsAsSought};
 ghost use Rattle.evm_schedules.specs.Making.{IsAwake, IsOver, MayMake};
 ghost use Rattle.evm_schedules.specs.Runs.{HasFailed};
-ghost use Rattle.evm_switches.specs.Branches.{KeepsBranches, events_of, turn_events};
+ghost use Rattle.evm_switches.specs.Branches.{KeepsBranches, events_of_turns, turn_events};
 ghost use Rattle.evm_switches.specs.Walks.{AreForked, HasPassed, HasStepped};
 
 use crate::hashing::store_of;
@@ -90,7 +90,7 @@ pub(crate) fn begin_with(
     watcher: &mut Watcher,
 ) -> Option<Failure>
     ensures ends { IfSome result (λ failure. HasFailed watch.now.lines failure machine.new) }
-    ensures passes { IfNone result (HasPassed (FailsAsSought watch.now) machine.old (events_of turns.now) machine.new) }
+    ensures passes { IfNone result (HasPassed (FailsAsSought watch.now) machine.old (events_of_turns turns.now) machine.new) }
     ensures replays { (first : State) → IsReplayOf first machine.old → IsReplayOf first machine.new }
 {
     'turns: for turn in turns {

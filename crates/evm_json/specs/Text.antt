@@ -42,5 +42,5 @@ listing key js = 123 ∷ (quoted key ++ 58 ∷ 91 ∷ (item_lines false js ++ 12
 abbrev pub shown_byte : ℕ → ℕ
 shown_byte byte = if nat_lt 31 byte && nat_lt byte 127 then byte else 63
 
-abbrev pub shown : List ℕ → List ℕ
-shown bytes = map shown_byte bytes
+abbrev pub shown_bytes : List ℕ → List ℕ
+shown_bytes bytes = map shown_byte bytes

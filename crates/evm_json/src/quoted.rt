@@ -3,7 +3,7 @@
 ghost use Rattle.std.specs.Prelude.{◌≢◌, ◌<◌, ◌∷◌, []};
 ghost use Rattle.json.specs.Print.{escape, escape_byte, quoted};
 ghost use Rattle.evm_text.specs.Appending.{Appends};
-ghost use Rattle.evm_json.specs.Text.{shown, shown_byte};
+ghost use Rattle.evm_json.specs.Text.{shown_bytes, shown_byte};
 
 use evm_room::{Refused, grow_text, push_text};
 
@@ -33,7 +33,7 @@ fn push_byte(out: &mut String, byte: u8) -> Result<(), Refused>
 }
 
 fn push_escaped(out: &mut String, content: &[u8]) -> Result<(), Refused>
-    ensures { Appends (escape (shown content.now)) out.old out.new result }
+    ensures { Appends (escape (shown_bytes content.now)) out.old out.new result }
 {
     let [first, rest @ ..] = content else {
         return Ok(());
@@ -44,7 +44,7 @@ fn push_escaped(out: &mut String, content: &[u8]) -> Result<(), Refused>
 
 /// Appends a string in quotes. A byte that is no printable ASCII character is written as `?`.
 pub fn push_quoted(out: &mut String, content: &[u8]) -> Result<(), Refused>
-    ensures { Appends (quoted (shown content.now)) out.old out.new result }
+    ensures { Appends (quoted (shown_bytes content.now)) out.old out.new result }
 {
     push_text(out, "\"")?;
     push_escaped(out, content)?;

@@ -3,9 +3,9 @@ use Rattle.std.proofs.Common.{◌≡◌, ℕ, ◌+◌, List, [], ◌∷◌, ◌+
 use Rattle.std.specs.Prelude.{codes, Some, Result, Ok, Err, OnOk}
 use Rattle.json.specs.Json.{no_members}
 use Rattle.json.specs.Print.{quoted, escape_byte}
-use Rattle.evm_json.specs.Text.{text, shown}
+use Rattle.evm_json.specs.Text.{text, shown_bytes}
 use Rattle.evm_text.specs.Written.{decimal, numeral}
-use Rattle.evm_tracks.specs.Entries.{entry, word}
+use Rattle.evm_tracks.specs.Entries.{trace_event, string_member}
 use Rattle.evm_tracks.specs.declared.track.Track.TheVariants.{Task}
 use Rattle.evm_places.specs.declared.place.Place.{Place}
 use Rattle.evm_places.specs.Places.{place_json, place_words, line_by}
@@ -17,10 +17,10 @@ seven a b c d e f g = simp append_assoc
 name_end : (s : List ℕ) → quoted s ++ codes ",\"s\":\"t\"}" ≡ 34 ∷ ((Rattle.json.specs.Print.escape s ++ 34 ∷ []) ++ codes ",\"s\":\"t\"}")
 name_end s = refl
 
-named_line : (task at : ℕ) (name : List ℕ) → place_pieces (task + 1) at name ≡ 44 ∷ 10 ∷ text (entry (codes "i") (Task task) at (word (codes "name") (shown name) (word (codes "s") (codes "t") no_members)))
+named_line : (task at : ℕ) (name : List ℕ) → place_pieces (task + 1) at name ≡ 44 ∷ 10 ∷ text (trace_event (codes "i") (Task task) at (string_member (codes "name") (shown_bytes name) (string_member (codes "s") (codes "t") no_members)))
 unfolding place_pieces escape_byte numeral
 named_line task at name =
-    seven (codes ",\n{\"ph\":\"i\",\"pid\":2,\"tid\":") (decimal (task + 1)) (codes ",\"ts\":") (decimal at) (codes ",\"name\":") (quoted (shown name)) (codes ",\"s\":\"t\"}")
+    seven (codes ",\n{\"ph\":\"i\",\"pid\":2,\"tid\":") (decimal (task + 1)) (codes ",\"ts\":") (decimal at) (codes ",\"name\":") (quoted (shown_bytes name)) (codes ",\"s\":\"t\"}")
 
 pub place_is_line : (p : Place) (name : List ℕ) (offset : ℕ) → place_pieces (p.task + 1) p.at (place_words p.doing (name, offset)) ≡ line_by p (Some (name, offset))
 place_is_line p name offset = named_line p.task p.at (place_words p.doing (name, offset))

@@ -1,10 +1,10 @@
 -- The line of a place in the pieces in which it is written, for private clauses.
 use Rattle.std.specs.Prelude.{ℕ, List, ◌++◌, codes}
 use Rattle.json.specs.Print.{quoted}
-use Rattle.evm_json.specs.Text.{shown}
+use Rattle.evm_json.specs.Text.{shown_bytes}
 use Rattle.evm_text.specs.Written.{decimal}
 
 unfoldable pub place_pieces : ℕ → ℕ → List ℕ → List ℕ
 place_pieces thread at name =
-    codes ",\n{\"ph\":\"i\",\"pid\":2,\"tid\":" ++ decimal thread ++ codes ",\"ts\":" ++ decimal at ++ codes ",\"name\":" ++ quoted (shown name)
+    codes ",\n{\"ph\":\"i\",\"pid\":2,\"tid\":" ++ decimal thread ++ codes ",\"ts\":" ++ decimal at ++ codes ",\"name\":" ++ quoted (shown_bytes name)
     ++ codes ",\"s\":\"t\"}"

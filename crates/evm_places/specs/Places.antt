@@ -1,11 +1,11 @@
 -- Places: what a task does, and where in the program, by the image's symbols.
 use Rattle.std.specs.Prelude.{ℕ, ◌==◌, if◌then◌else◌, List, [], ◌∷◌, ◌++◌, Option, Some, None, codes, flat_map}
 use Rattle.json.specs.Json.{Json, Items, no_items, item, no_members}
-use Rattle.evm_json.specs.Text.{text, shown}
+use Rattle.evm_json.specs.Text.{text, shown_bytes}
 use Rattle.evm_symbols.specs.Named.{Named}
-use Rattle.evm_symbols.specs.Nearest.{place_of, said}
+use Rattle.evm_symbols.specs.Nearest.{place_of, name_and_offset}
 use Rattle.evm_text.specs.Written.{decimal, hexadecimal}
-use Rattle.evm_tracks.specs.Entries.{entry, word}
+use Rattle.evm_tracks.specs.Entries.{trace_event, string_member}
 use Rattle.evm_tracks.specs.declared.track.Track.TheVariants.{Task}
 use Rattle.evm_places.specs.declared.place.Doing.{Doing}
 use Rattle.evm_places.specs.declared.place.Doing.TheVariants.{Begins, Runs, Waits, Locks}
@@ -26,11 +26,11 @@ place_words doing symbol = doing_text doing ++ (symbol.0 ++ distance_text symbol
 
 -- the instant of a place on the track of its task
 abbrev pub place_json : Place → List ℕ × ℕ → Json
-place_json p symbol = entry (codes "i") (Task p.task) p.at (word (codes "name") (shown (place_words p.doing symbol)) (word (codes "s") (codes "t") no_members))
+place_json p symbol = trace_event (codes "i") (Task p.task) p.at (string_member (codes "name") (shown_bytes (place_words p.doing symbol)) (string_member (codes "s") (codes "t") no_members))
 
 -- the symbol of a place, and how far behind it the place is
 abbrev pub place_symbol : List Named → Place → Option (List ℕ × ℕ)
-place_symbol symbols p = said p.address (place_of symbols p.address)
+place_symbol symbols p = name_and_offset p.address (place_of symbols p.address)
 
 abbrev pub item_by : Place → Option (List ℕ × ℕ) → Items → Items
 item_by p None more = more

@@ -15,11 +15,11 @@ use Rattle.evm_walk.proofs.Rows.{settles_oob, settles_in_band, nudges}
 use Rattle.evm_walk.proofs.Sets.{IsPipe-raise, IsPipe-receive, IsPipe-idle, walk_pipes}
 use Rattle.evm_walk.proofs.Tasks.{stalls_stage}
 use Rattle.evm_walk.proofs.Walk.{Actor, ArePipes as AllPipes, Walk, start}
-pub use Rattle.evm_rules.specs.Within.{ArePipes, AreWithin}
+pub use Rattle.evm_rules.specs.Within.{EachIsPipe, AreWithin}
 use Rattle.evm_rules.proofs.Playing.{play_oob_lines-pipes}
 use Rattle.evm_rules.proofs.Counting.{each-change, on_raise-up, on_receive-up}
 
-pub are-change : (c : ℕ) (f : Pipe → Pipe) (k : Parts) → ((p : Pipe) → IsPipe p → IsPipe (f p)) → ArePipes k.pipes → ArePipes (on_pipe c f k).pipes
+pub are-change : (c : ℕ) (f : Pipe → Pipe) (k : Parts) → ((p : Pipe) → IsPipe p → IsPipe (f p)) → EachIsPipe k.pipes → EachIsPipe (on_pipe c f k).pipes
 are-change c f k here h = each-change IsPipe IsPipe f k.pipes c (λ p s. s) (λ p e. here p) h
 
 -- ---- pipes whose counts are within a bound
@@ -27,7 +27,7 @@ pub within-more : (a b : ℕ) (k : Parts) → a ≤ b → AreWithin a k → AreW
 within-more a b k h w = record { are = w.are; up = PipesUpTo-more a b k.pipes h w.up }
 
 -- ---- a walk
-are-walk : (a : Actor) (n s : ℕ) (k new : Parts) → Walk a k n s new → ArePipes k.pipes → ArePipes new.pipes
+are-walk : (a : Actor) (n s : ℕ) (k new : Parts) → Walk a k n s new → EachIsPipe k.pipes → EachIsPipe new.pipes
 are-walk a n s k new w h = let are : AllPipes k = record { each = h } in (walk_pipes a k n s new w are).each
 
 pub within-walk : (a : Actor) (n s b : ℕ) (k new : Parts) → Walk a k n s new → AreWithin b k → AreWithin (b + n) new
@@ -61,13 +61,13 @@ in_band-walk c k = settles_in_band (settler c) k refl 0 0 k start
 nudge-walk : (c : ℕ) (k : Parts) → Walk (settler c) k 1 0 (nudge c k)
 nudge-walk c k = nudges (settler c) k 0 0 k (λ d. refl) start
 
-pub are-settle_oob : (was : Option ℕ) (c : ℕ) (k : Parts) → ArePipes k.pipes → ArePipes (settle_oob was c k).pipes
+pub are-settle_oob : (was : Option ℕ) (c : ℕ) (k : Parts) → EachIsPipe k.pipes → EachIsPipe (settle_oob was c k).pipes
 are-settle_oob was c k h = rw (oob-pipes was c k) (are-walk (settler c) 32 128 k _ (oob-walk c k) h)
 
-pub are-settle_in_band : (c : ℕ) (k : Parts) → ArePipes k.pipes → ArePipes (settle_in_band c k).pipes
+pub are-settle_in_band : (c : ℕ) (k : Parts) → EachIsPipe k.pipes → EachIsPipe (settle_in_band c k).pipes
 are-settle_in_band c k h = are-walk (settler c) 32 2048 k _ (in_band-walk c k) h
 
-pub are-nudge : (c : ℕ) (k : Parts) → ArePipes k.pipes → ArePipes (nudge c k).pipes
+pub are-nudge : (c : ℕ) (k : Parts) → EachIsPipe k.pipes → EachIsPipe (nudge c k).pipes
 are-nudge c k h = are-walk (settler c) 1 0 k _ (nudge-walk c k) h
 
 pub within-settle_oob : (b : ℕ) (was : Option ℕ) (c : ℕ) (k : Parts) → AreWithin b k → AreWithin (b + 64) (settle_oob was c k)

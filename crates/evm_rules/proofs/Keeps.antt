@@ -70,7 +70,7 @@ settled-raised d l pipe p mutexes tasks s = record {
   in_band_staller = s.in_band_staller;
 }
 
-good-pipes : (k : Parts) (pipes : List Pipe) → length pipes ≡ length k.pipes → ArePipes pipes
+good-pipes : (k : Parts) (pipes : List Pipe) → length pipes ≡ length k.pipes → EachIsPipe pipes
     → ((d : ℕ) (q : Pipe) → slice_get pipes d ≡ Some q → (x : Pipe) × (slice_get k.pipes d ≡ Some x) × ((q ≡ x) ⊎ ((l : ℕ) × (q ≡ raise l x)))) → Good k → Good (record k { pipes = pipes })
 good-pipes k pipes e a h g = record {
   pipes = a;

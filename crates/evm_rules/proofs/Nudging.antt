@@ -91,7 +91,7 @@ shaped-pipes k pipes e s = record {
   deadlines = s.deadlines;
 }
 
-pub good_of : (k : Parts) → ArePipes k.pipes → ((c : ℕ) (pipe : Pipe) (p : Processor) → slice_get k.pipes c ≡ Some pipe → slice_get k.processors c ≡ Some p → IsSettled c pipe p k.mutexes k.tasks) → IsShaped k → Good k
+pub good_of : (k : Parts) → EachIsPipe k.pipes → ((c : ℕ) (pipe : Pipe) (p : Processor) → slice_get k.pipes c ≡ Some pipe → slice_get k.processors c ≡ Some p → IsSettled c pipe p k.mutexes k.tasks) → IsShaped k → Good k
 good_of k a s h = record {
   pipes = a;
   settled = s;

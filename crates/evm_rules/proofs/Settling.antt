@@ -86,7 +86,7 @@ pub record IsActing (c : ℕ) (pipe : Pipe) (p : Processor) (tasks : List Task) 
   pub in_band_staller : pipe.in_band.stalled ≡ true → p.in_band_task ≡ None → ⊥
 
 pub record GoodBut (c : ℕ) (k : Parts) : Type 0 where
-  pub pipes : ArePipes k.pipes
+  pub pipes : EachIsPipe k.pipes
   pub others : (d : ℕ) (pipe : Pipe) (p : Processor) → (d ≡ c → ⊥) → slice_get k.pipes d ≡ Some pipe → slice_get k.processors d ≡ Some p → IsCalm d pipe p k.tasks
   pub own : (pipe : Pipe) (p : Processor) → slice_get k.pipes c ≡ Some pipe → slice_get k.processors c ≡ Some p → IsActing c pipe p k.tasks
   pub shape : IsShaped k
@@ -332,7 +332,7 @@ ranked-in_band c k = ranked-if (is_oob (current c k) k.tasks) k (turn_in_band c 
 
 -- ---- settled, and the others not yet told
 pub record IsUntold (c : ℕ) (k : Parts) : Type 0 where
-  pub pipes : ArePipes k.pipes
+  pub pipes : EachIsPipe k.pipes
   pub others : (d : ℕ) (pipe : Pipe) (p : Processor) → (d ≡ c → ⊥) → slice_get k.pipes d ≡ Some pipe → slice_get k.processors d ≡ Some p → IsCalm d pipe p k.tasks
   pub own : (pipe : Pipe) (p : Processor) → slice_get k.pipes c ≡ Some pipe → slice_get k.processors c ≡ Some p → IsSettled c pipe p k.mutexes k.tasks
   pub shape : IsShaped k

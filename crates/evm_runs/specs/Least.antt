@@ -13,13 +13,13 @@ is_reason event s Full = is_full s
 is_reason event s reason = applies event s.board reason
 
 -- it is a reason, and none of lesser number is
-pub record IsLeast (event : Event) (s : State) (reason : Refusal) : Type 0 where
+pub record IsLeastReason (event : Event) (s : State) (reason : Refusal) : Type 0 where
   pub holds : is_reason event s reason ≡ true
   pub least : (other : Refusal) → number_of other < number_of reason → is_reason event s other ≡ false
 
 pub record TellsLeast (event : Event) (s : State) : Type 0 where
-  pub told : (reason : Refusal) → refusal event s ≡ Some reason → IsLeast event s reason
-  pub tells : (reason : Refusal) → IsLeast event s reason → refusal event s ≡ Some reason
+  pub told : (reason : Refusal) → refusal event s ≡ Some reason → IsLeastReason event s reason
+  pub tells : (reason : Refusal) → IsLeastReason event s reason → refusal event s ≡ Some reason
   -- an event is accepted if and only if there is no reason
   pub accepted : refusal event s ≡ None → (reason : Refusal) → is_reason event s reason ≡ false
   pub accepts : ((reason : Refusal) → is_reason event s reason ≡ false) → refusal event s ≡ None

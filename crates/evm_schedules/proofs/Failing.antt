@@ -15,7 +15,7 @@ use Rattle.evm_model.specs.declared.event.Event.{Event as EventOf}
 use Rattle.evm_model.specs.declared.event.Event.TheVariants.{Step, Tick, Raise, Bell, Stop, Go, StepI, SetReg, SetPc, Poke, Break, Unbreak}
 use Rattle.evm_model.specs.declared.event.NoBytes.{NoBytes}
 use Rattle.evm_schedules.specs.Eves.{IsQuietStep, NoneAbandoned, NoneNoticed, NoneRefused, noted_owner, owner_sought}
-use Rattle.evm_schedules.specs.Failures.{Fails, FailsAsSought, IsAbandoned, IsAtCall, IsCaller, IsDeadlock, IsRefused, IsSeen, error_in, has_error, faulted_at, is_answered, is_at, is_left, live_owner, step_of, stopped_at}
+use Rattle.evm_schedules.specs.Failures.{Fails, FailsAsSought, IsAbandoned, IsAtCall, IsCaller, IsDeadlock, IsRefused, IsSeen, error_in, has_error, faulted_at, is_answered, is_at_pc, is_left, live_owner, step_of, stopped_at}
 use Rattle.evm_schedules.specs.Runs.{HasFailed}
 use Rattle.evm_schedules.specs.declared.calls.Caller.{Caller}
 use Rattle.evm_schedules.specs.declared.failure.Failure.{Failure}
@@ -52,7 +52,7 @@ same-caller t u s event h g =
     let some : Some t ≡ Some u = sym h.2 ∙ here in
     cc
 
-same-pc : (hart : Option Hart) (pc at : ℕ) → is_at pc hart ≡ true → is_at at hart ≡ true → pc ≡ at
+same-pc : (hart : Option Hart) (pc at : ℕ) → is_at_pc pc hart ≡ true → is_at_pc at hart ≡ true → pc ≡ at
 same-pc None pc at h g = cc
 same-pc (Some hart) pc at h g = grind (arith, nat_tests)
 
@@ -63,7 +63,7 @@ pub refused-call : (caller : Caller) (errors : Errors) (watch : Watch) (before s
     → MatchOption r (NoneRefused watch before event s) (λ failure. (t : ℕ) × (e : Errno) × (failure ≡ failures.Refused t e) × IsCaller t before event × IsRefused t e before s)
 refused-call caller errors watch before s event None known is at h = λ t e sought caller' refused.
     let one : t ≡ caller.task = same-caller t caller.task before event caller' is in
-    let at' : is_at refused.0 (slice_get before.board.parts.harts caller.task) ≡ true = subst (λ (u : ℕ). is_at refused.0 (slice_get before.board.parts.harts u) ≡ true) one refused.1.0 in
+    let at' : is_at_pc refused.0 (slice_get before.board.parts.harts caller.task) ≡ true = subst (λ (u : ℕ). is_at_pc refused.0 (slice_get before.board.parts.harts u) ≡ true) one refused.1.0 in
     let here : refused.0 ≡ caller.pc = same-pc (slice_get before.board.parts.harts caller.task) refused.0 caller.pc at' at.0 in
     let sought' : error_in errors e ≡ true = subst (λ (set : Option Errors). has_error set e ≡ true) known sought in
     let answered : is_answered refused.0 e (slice_get s.board.parts.harts caller.task) ≡ true = subst (λ (u : ℕ). is_answered refused.0 e (slice_get s.board.parts.harts u) ≡ true) one refused.2 in

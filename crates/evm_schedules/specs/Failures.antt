@@ -7,6 +7,7 @@ use Rattle.evm_lines.specs.Lines.{has_line, has_none}
 use Rattle.evm_model.specs.Current.{current}
 use Rattle.evm_model.specs.Errnos.{refusal_answer}
 use Rattle.evm_model.specs.Event.{Event as Happening}
+use Rattle.evm_model.specs.Good.{is_waiting}
 use Rattle.evm_model.specs.Harts.{A0}
 use Rattle.evm_model.specs.Mutexes.{owner}
 use Rattle.evm_model.specs.Pipes.{Pipe}
@@ -92,10 +93,6 @@ abbrev pub is_stuck_task : List ℕ → List Timer → Option Task → Bool
 is_stuck_task lines timers None = true
 is_stuck_task lines timers (Some task) = is_stuck lines timers task
 
-abbrev pub is_waiting : TaskState → Bool
-is_waiting (Waits wait) = true
-is_waiting _ = false
-
 abbrev pub is_waiting_task : Option Task → Bool
 is_waiting_task None = false
 is_waiting_task (Some task) = is_waiting task.state
@@ -131,13 +128,13 @@ abbrev pub is_ecall : Option (List ℕ) → Bool
 is_ecall (Some (a ∷ b ∷ c ∷ d ∷ [])) = a == 115 && b == 0 && c == 0 && d == 0
 is_ecall _ = false
 
-abbrev pub is_at : ℕ → Option Hart → Bool
-is_at pc None = false
-is_at pc (Some hart) = hart.pc == pc
+abbrev pub is_at_pc : ℕ → Option Hart → Bool
+is_at_pc pc None = false
+is_at_pc pc (Some hart) = hart.pc == pc
 
 -- the next instruction of task t is the ECALL at this address
 abbrev pub IsAtCall : ℕ → ℕ → State → Type 0
-IsAtCall t pc s = (is_at pc (slice_get s.board.parts.harts t) ≡ true) × (is_ecall (bytes_at s.board.memory.ram pc 4) ≡ true)
+IsAtCall t pc s = (is_at_pc pc (slice_get s.board.parts.harts t) ≡ true) × (is_ecall (bytes_at s.board.memory.ram pc 4) ≡ true)
 
 -- a hart behind the ECALL at this address, with an error in a0
 abbrev pub is_answered : ℕ → Errno → Option Hart → Bool

@@ -40,12 +40,12 @@ after_read None s = None
 after_read (Some line) s = after_line line s
 
 -- the text that a line shows: that of its view
-abbrev pub view_text : Result (List ℕ) Refusal → List ℕ
-view_text (Ok text) = text
-view_text (Err refusal) = []
+abbrev pub text_shown : Result (List ℕ) Refusal → List ℕ
+text_shown (Ok text) = text
+text_shown (Err refusal) = []
 
 abbrev pub line_text : Option Line → State → List ℕ
-line_text (Some (Look view)) s = view_text (shown view s)
+line_text (Some (Look view)) s = text_shown (shown view s)
 line_text line s = []
 
 -- ---- a script

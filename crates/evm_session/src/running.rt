@@ -8,7 +8,7 @@ ghost use Rattle.evm_diagnostics.specs.evm_debug.Views.{shown};
 ghost use Rattle.evm_model.specs.Replay.{apply};
 ghost use Rattle.evm_session.specs.Noted.{noted_ahead};
 ghost use Rattle.evm_session.specs.Noting.{event_ahead, noted_line, noted_read, noted_steps};
-ghost use Rattle.evm_session.specs.Scripted.{after_event, after_view, after_line, after_read, unless_refused, view_text, line_text};
+ghost use Rattle.evm_session.specs.Scripted.{after_event, after_view, after_line, after_read, unless_refused, text_shown, line_text};
 
 use crate::notes::Notes;
 use crate::noting::{event_ahead, noted_steps};
@@ -63,7 +63,7 @@ fn run_event<D: Device>(
 fn run_view<D: Device>(machine: &Machine<D>, view: &View, text: &mut String) -> Result<(), Stop>
     requires { string_bytes text.old ≡ [] }
     ensures ok { OnOk result (after_view (shown view.now machine.now) machine.now ≡ Some machine.now) }
-    ensures text { OnOk result (string_bytes text.new ≡ view_text (shown view.now machine.now)) }
+    ensures text { OnOk result (string_bytes text.new ≡ text_shown (shown view.now machine.now)) }
 {
     match push_view(text, machine, view) {
         Ok(()) => Ok(()),

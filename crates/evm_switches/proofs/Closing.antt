@@ -11,7 +11,7 @@ use Rattle.evm_model.specs.declared.refusal.Refusal.{Refusal}
 use Rattle.evm_switches.proofs.Covering.{none-from}
 use Rattle.evm_switches.proofs.Searching.{Allows, Failing, events-forked, has-still, none-behind, reached-more, step-or-switch}
 use Rattle.evm_switches.proofs.Walking.{AreChoices}
-use Rattle.evm_switches.specs.Branches.{event_of, events_of, forked, KeepsBranches}
+use Rattle.evm_switches.specs.Branches.{event_of_choice, events_of_turns, forked, KeepsBranches}
 use Rattle.evm_switches.specs.Covering.{AreClosed, IsCovered, LookAtBoards, StaysCovered}
 use Rattle.evm_switches.specs.Schedules.{switches, stepped, NoneFails, NoScheduleFails}
 use Rattle.evm_switches.specs.Searches.{IsDone, IsPassed, IsSearched}
@@ -50,7 +50,7 @@ pub searched-still : (May : Allows) (Fails : Failing) (first : State) (most : �
     → IsSearched May Fails first most before (IsPassed first before walked) branch count → IsSearched May Fails first most after (IsPassed first after more) branch count
 searched-still May Fails first most before after walked more branch count keeps farther h = record {
   harmless = h.harmless;
-  covered = covered-still first before after walked more (replay first (events_of branch.turns.items)) branch.cpu (length branch.turns.items) keeps farther h.covered;
+  covered = covered-still first before after walked more (replay first (events_of_turns branch.turns.items)) branch.cpu (length branch.turns.items) keeps farther h.covered;
   done = λ steps s less reached. done-still May Fails first most before after walked more branch steps s keeps farther (h.done steps s less reached);
 }
 
@@ -61,19 +61,19 @@ AllSearched May Fails first most branches walked =
 
 -- a switch from a position leads to the beginning of a branch
 switch-stays : (May : Allows) (Fails : Failing) (first : State) (most : ℕ) (branches : List Branch) (walked : List ℕ) (branch : Branch) (steps : ℕ) (s : State) (choice : Choice) (count : ℕ) → IsReached first branch steps s
-    → IsSearched May Fails first most branches (IsPassed first branches walked) (forked branch steps choice) count → switches branch.cpu (event_of choice) ≡ 1
-    → StaysCovered Fails (IsPassed first branches walked) s branch.cpu (length branch.turns.items) (event_of choice)
+    → IsSearched May Fails first most branches (IsPassed first branches walked) (forked branch steps choice) count → switches branch.cpu (event_of_choice choice) ≡ 1
+    → StaysCovered Fails (IsPassed first branches walked) s branch.cpu (length branch.turns.items) (event_of_choice choice)
 switch-stays May Fails first most branches walked branch steps s choice count reached searched one after answer done =
     let turn : Turn = record { cpu = branch.cpu; steps = steps; choice = choice } in
     let all = subst (NoneFails Fails first) (events-forked branch steps choice) searched.harmless in
-    let last = none-behind Fails first (events_of branch.turns.items ++ replicate steps (Step branch.cpu)) (event_of choice ∷ []) all in
-    let here = subst (λ (t : State). NoneFails Fails t (event_of choice ∷ [])) (sym reached) last in
-    let there : replay first (events_of (forked branch steps choice).turns.items) ≡ after = reached-more first branch steps s choice reached ∙ ap (λ (r : Result (State × Answer) Refusal). left_by r s) done in
+    let last = none-behind Fails first (events_of_turns branch.turns.items ++ replicate steps (Step branch.cpu)) (event_of_choice choice ∷ []) all in
+    let here = subst (λ (t : State). NoneFails Fails t (event_of_choice choice ∷ [])) (sym reached) last in
+    let there : replay first (events_of_turns (forked branch steps choice).turns.items) ≡ after = reached-more first branch steps s choice reached ∙ ap (λ (r : Result (State × Answer) Refusal). left_by r s) done in
     let longer : length (forked branch steps choice).turns.items ≡ length branch.turns.items + 1 = length-append branch.turns.items (turn ∷ []) in
-    let more : length (forked branch steps choice).turns.items ≡ length branch.turns.items + switches branch.cpu (event_of choice) = omega arith in
-    let covered : IsCovered (IsPassed first branches walked) after (stepped branch.cpu (event_of choice)) (length (forked branch steps choice).turns.items) =
-    subst (λ (t : State). IsCovered (IsPassed first branches walked) t (stepped branch.cpu (event_of choice)) (length (forked branch steps choice).turns.items)) there searched.covered in
-    (here.0 after answer done, subst (λ (k : ℕ). IsCovered (IsPassed first branches walked) after (stepped branch.cpu (event_of choice)) k) more covered)
+    let more : length (forked branch steps choice).turns.items ≡ length branch.turns.items + switches branch.cpu (event_of_choice choice) = omega arith in
+    let covered : IsCovered (IsPassed first branches walked) after (stepped branch.cpu (event_of_choice choice)) (length (forked branch steps choice).turns.items) =
+    subst (λ (t : State). IsCovered (IsPassed first branches walked) t (stepped branch.cpu (event_of_choice choice)) (length (forked branch steps choice).turns.items)) there searched.covered in
+    (here.0 after answer done, subst (λ (k : ℕ). IsCovered (IsPassed first branches walked) after (stepped branch.cpu (event_of_choice choice)) k) more covered)
 
 -- each event that may come at a position stays among them
 position-stays : (May : Allows) (Fails : Failing) (first : State) (most : ℕ) (branches : List Branch) (walked : List ℕ) (branch : Branch) (steps : ℕ) (s : State) (event : Event) → AreChoices May
@@ -86,7 +86,7 @@ position-stays May Fails first most branches walked branch steps s event choices
           let found = choices s event may in
           let fewer : length branch.turns.items < most = omega arith in
           let may' = subst (May s) (sym found.1) may in
-          let one' : switches branch.cpu (event_of found.0) ≡ 1 = ap (switches branch.cpu) found.1 ∙ one in
+          let one' : switches branch.cpu (event_of_choice found.0) ≡ 1 = ap (switches branch.cpu) found.1 ∙ one in
           let has = done.forks fewer found.0 may' one' in
           let next = all has.0 (forked branch steps found.0) has.1 in
           subst (StaysCovered Fails (IsPassed first branches walked) s branch.cpu (length branch.turns.items)) found.1
@@ -112,5 +112,5 @@ pub searched : (May : Allows) (Fails : Failing) (first : State) (most : ℕ) (br
 unfolding replay
 searched May Fails first most branches walked root look choices none there all events h =
     let covered = (all 0 root there).2.covered in
-    let begins : IsCovered (IsPassed first branches walked) first root.cpu 0 = subst (λ (turns : List Turn). IsCovered (IsPassed first branches walked) (replay first (events_of turns)) root.cpu (length turns)) none covered in
+    let begins : IsCovered (IsPassed first branches walked) first root.cpu 0 = subst (λ (turns : List Turn). IsCovered (IsPassed first branches walked) (replay first (events_of_turns turns)) root.cpu (length turns)) none covered in
     none-from May Fails most (IsPassed first branches walked) look (closed-search May Fails first most branches walked choices all) events first root.cpu 0 most begins (omega arith) h

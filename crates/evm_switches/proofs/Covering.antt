@@ -12,7 +12,7 @@ use Rattle.evm_model.specs.declared.event.Answer.{Answer}
 use Rattle.evm_model.specs.declared.refusal.Refusal.{Refusal}
 use Rattle.evm_model.specs.declared.refusal.Refusal.TheVariants.{Full}
 use Rattle.evm_switches.proofs.Searching.{Allows, Failing}
-use Rattle.evm_switches.specs.Covering.{Covers, Positions, IsCovered, StaysCovered, AreClosed, LookAtBoards}
+use Rattle.evm_switches.specs.Covering.{Subsumes, Positions, IsCovered, StaysCovered, AreClosed, LookAtBoards}
 use Rattle.evm_switches.specs.Schedules.{switches, stepped, Behind, IsSchedule, IsHarmless, NoneFails}
 
 -- ---- the same event at a state that covers another
@@ -44,7 +44,7 @@ accepted : (event : Event) (s : State) → is_full s ≡ false → board_refusal
 unfolding apply
 accepted event s room none = accepted-by event s (is_full s) (board_refusal event s.board) room none
 
-room-still : (seen s : State) → Covers seen s → is_full s ≡ false → is_full seen ≡ false
+room-still : (seen s : State) → Subsumes seen s → is_full s ≡ false → is_full seen ≡ false
 room-still seen s covers room =
     let capacity : seen.boot.capacity ≡ s.boot.capacity = ap (λ boot. boot.capacity) covers.boot in
     let fewer = covers.room in
@@ -56,7 +56,7 @@ room-still seen s covers room =
 abbrev next_of : Event → State → State
 next_of event s = (accept event (row event s.board) s).0
 
-covers-next : (event : Event) (seen s after : State) (answer : Answer) → Covers seen s → accept event (row event s.board) s ≡ (after, answer) → Covers (next_of event seen) after
+covers-next : (event : Event) (seen s after : State) (answer : Answer) → Subsumes seen s → accept event (row event s.board) s ≡ (after, answer) → Subsumes (next_of event seen) after
 covers-next event seen s after answer covers same =
     let there : next_of event s ≡ after = ap (λ (p : State × Answer). p.0) same in
     let longer : (xs : List Event) → length (xs ++ event ∷ []) ≡ length xs + 1 = λ xs. length-append xs (event ∷ []) in
@@ -64,16 +64,16 @@ covers-next event seen s after answer covers same =
     let a = longer seen.journal in
     let b = longer s.journal in
     let least : length (seen.journal ++ event ∷ []) ≤ length (s.journal ++ event ∷ []) = omega arith in
-    let here : Covers (next_of event seen) (next_of event s) = record {
+    let here : Subsumes (next_of event seen) (next_of event s) = record {
       boot = covers.boot;
       board = ap (λ (board : Board). (row event board).0) covers.board;
       room = least;
     } in
-    subst (λ (t : State). Covers (next_of event seen) t) there here
+    subst (λ (t : State). Subsumes (next_of event seen) t) there here
 
 -- an event that is accepted at a state is accepted where another covers it, with the same answer, and leads to one that covers
-pub covers-apply : (event : Event) (seen s after : State) (answer : Answer) → Covers seen s → apply s event ≡ Ok (after, answer)
-    → (behind : State) × (apply seen event ≡ Ok (behind, answer)) × Covers behind after
+pub covers-apply : (event : Event) (seen s after : State) (answer : Answer) → Subsumes seen s → apply s event ≡ Ok (after, answer)
+    → (behind : State) × (apply seen event ≡ Ok (behind, answer)) × Subsumes behind after
 covers-apply event seen s after answer covers done =
     let all = taken event s after answer done in
     let none : board_refusal event seen.board ≡ None = ap (board_refusal event) covers.board ∙ all.none in
@@ -82,14 +82,14 @@ covers-apply event seen s after answer covers done =
     let pair : (accept event (row event seen.board) seen) ≡ (next_of event seen, answer) = ap (λ (a : Answer). (next_of event seen, a)) word in
     (next_of event seen, ok ∙ ap (λ (p : State × Answer). let r : Result (State × Answer) Refusal = Ok p in r) pair, covers-next event seen s after answer covers all.same)
 
-pub covers-itself : (s : State) → Covers s s
+pub covers-itself : (s : State) → Subsumes s s
 covers-itself s = record { boot = refl; board = refl; room = omega arith }
 
-pub covers-more : (a b c : State) → Covers a b → Covers b c → Covers a c
+pub covers-more : (a b c : State) → Subsumes a b → Subsumes b c → Subsumes a c
 covers-more a b c h g = let x = h.room in let y = g.room in record { boot = h.boot ∙ g.boot; board = h.board ∙ g.board; room = omega arith }
 
 -- a position whose state is covered by one that is covered
-pub covered-more : (Seen : Positions) (s t : State) (c j k : ℕ) → IsCovered Seen s c j → j ≤ k → Covers s t → IsCovered Seen t c k
+pub covered-more : (Seen : Positions) (s t : State) (c j k : ℕ) → IsCovered Seen s c j → j ≤ k → Subsumes s t → IsCovered Seen t c k
 covered-more Seen s t c j k h less covers = (h.0, h.1, h.2, (let few = h.3 in omega arith), covers-more h.0 s t h.4 covers)
 
 -- ---- a schedule by its first event

@@ -8,8 +8,8 @@ use Rattle.evm_switches.proofs.Closing.{GoesFarther, done-still}
 use Rattle.evm_switches.proofs.Covering.{covered-more, covers-itself, same-answers}
 use Rattle.evm_switches.proofs.Searching.{Allows, Failing}
 use Rattle.evm_switches.proofs.Walking.{reached-step}
-use Rattle.evm_switches.specs.Branches.{events_of, KeepsBranches}
-use Rattle.evm_switches.specs.Covering.{Covers, IsCovered, StaysCovered}
+use Rattle.evm_switches.specs.Branches.{events_of_turns, KeepsBranches}
+use Rattle.evm_switches.specs.Covering.{Subsumes, IsCovered, StaysCovered}
 use Rattle.evm_switches.specs.Schedules.{switches, stepped}
 use Rattle.evm_switches.specs.Searches.{HasWalked, IsDone, IsPassed, IsSearched, IsWalked}
 use Rattle.evm_switches.specs.Walks.{AreForked, CantStep, HasPassed, HasStepped, IsReached}
@@ -93,7 +93,7 @@ covered-less first branches walked branch n s x c k there reached here h =
             | inr equal ↦
                 let there' : IsReached first branch n h.0 = subst (λ (i : ℕ). IsReached first branch i h.0) equal (subst (λ (b : Branch). IsReached first b p.steps h.0) (sym same) p.reached) in
                 let state : h.0 ≡ s = there' ∙ sym reached in
-                let covers : Covers s x = subst (λ (t : State). Covers t x) state h.4 in
+                let covers : Subsumes s x = subst (λ (t : State). Subsumes t x) state h.4 in
                 let cpu : branch.cpu ≡ c = ap (λ (b : Branch). b.cpu) same ∙ p.cpu in
                 let made : length branch.turns.items ≡ h.1 = ap (λ (b : Branch). length b.turns.items) same ∙ p.made in
                 let few = h.3 in
@@ -178,7 +178,7 @@ walked-into May Fails first most branches walked branch steps start s there here
 
 -- a branch that has passed its beginning and gone on is looked at
 pub searched-by : (May : Allows) (Fails : Failing) (first : State) (most : ℕ) (branches : List Branch) (walked : List ℕ) (branch : Branch) (count : ℕ) (start : State)
-    → HasPassed Fails first (events_of branch.turns.items) start → HasWalked May Fails first most branches walked branch count start
+    → HasPassed Fails first (events_of_turns branch.turns.items) start → HasWalked May Fails first most branches walked branch count start
     → IsSearched May Fails first most branches (IsPassed first branches (walked ++ count ∷ [])) branch count
 searched-by May Fails first most branches walked branch count start passed h = record {
   harmless = passed.harmless;

@@ -8,7 +8,7 @@ use Rattle.evm_model.specs.Replay.{apply, left_by, replay}
 use Rattle.evm_model.specs.State.{State}
 use Rattle.evm_model.specs.declared.event.Answer.{Answer}
 use Rattle.evm_model.specs.declared.event.Event.TheVariants.{Step, Tick, Raise, Bell, Stop, Go, StepI, SetReg, SetPc, Poke, Break, Unbreak}
-use Rattle.evm_switches.specs.Branches.{event_of, turn_events, events_of, forked, HasBranch, KeepsBranches}
+use Rattle.evm_switches.specs.Branches.{event_of_choice, turn_events, events_of_turns, forked, HasBranch, KeepsBranches}
 use Rattle.evm_switches.specs.Schedules.{switches, NoneFails}
 use Rattle.evm_switches.specs.Walks.{IsReached}
 use Rattle.evm_switches.specs.declared.branch.Branch.{Branch}
@@ -41,18 +41,18 @@ unfolding replay
 none-behind Fails s [] ys h = h
 none-behind Fails s (x ∷ xs) ys h = none-behind Fails (left_by (apply s x) s) xs ys h.1
 
-pub events-append : (xs ys : List Turn) → events_of (xs ++ ys) ≡ events_of xs ++ events_of ys
+pub events-append : (xs ys : List Turn) → events_of_turns (xs ++ ys) ≡ events_of_turns xs ++ events_of_turns ys
 events-append [] ys = refl
-events-append (x ∷ xs) ys = ap (λ (events : List Event). turn_events x ++ events) (events-append xs ys) ∙ sym (append_assoc (turn_events x) (events_of xs) (events_of ys))
+events-append (x ∷ xs) ys = ap (λ (events : List Event). turn_events x ++ events) (events-append xs ys) ∙ sym (append_assoc (turn_events x) (events_of_turns xs) (events_of_turns ys))
 
 -- the events of a branch that goes another way: those of the branch, the steps and the choice
 pub events-forked : (branch : Branch) (steps : ℕ) (choice : Choice)
-    → events_of (forked branch steps choice).turns.items ≡ (events_of branch.turns.items ++ replicate steps (Step branch.cpu)) ++ event_of choice ∷ []
+    → events_of_turns (forked branch steps choice).turns.items ≡ (events_of_turns branch.turns.items ++ replicate steps (Step branch.cpu)) ++ event_of_choice choice ∷ []
 events-forked branch steps choice =
     let turn : Turn = record { cpu = branch.cpu; steps = steps; choice = choice } in
     events-append branch.turns.items (turn ∷ [])
-    ∙ (ap (λ (events : List Event). events_of branch.turns.items ++ events) (append-nil (turn_events turn))
-    ∙ sym (append_assoc (events_of branch.turns.items) (replicate steps (Step branch.cpu)) (event_of choice ∷ [])))
+    ∙ (ap (λ (events : List Event). events_of_turns branch.turns.items ++ events) (append-nil (turn_events turn))
+    ∙ sym (append_assoc (events_of_turns branch.turns.items) (replicate steps (Step branch.cpu)) (event_of_choice choice ∷ [])))
 
 -- ---- a switch, or a step of the same processor
 cond-cases : (t : Bool) (n : ℕ) → (t ≡ true) ⊎ (t ≡ false)
@@ -78,12 +78,12 @@ step-or-switch c (Unbreak address) = inr refl
 
 -- ---- a branch that goes another way
 pub reached-more : (first : State) (branch : Branch) (steps : ℕ) (s : State) (choice : Choice) → IsReached first branch steps s
-    → replay first (events_of (forked branch steps choice).turns.items) ≡ left_by (apply s (event_of choice)) s
+    → replay first (events_of_turns (forked branch steps choice).turns.items) ≡ left_by (apply s (event_of_choice choice)) s
 reached-more first branch steps s choice e =
     ap (replay first) (events-forked branch steps choice)
-    ∙ (replay-append first (events_of branch.turns.items ++ replicate steps (Step branch.cpu)) (event_of choice ∷ [])
-    ∙ (ap (λ (t : State). replay t (event_of choice ∷ [])) (sym e)
-    ∙ replay-one s (event_of choice)))
+    ∙ (replay-append first (events_of_turns branch.turns.items ++ replicate steps (Step branch.cpu)) (event_of_choice choice ∷ [])
+    ∙ (ap (λ (t : State). replay t (event_of_choice choice ∷ [])) (sym e)
+    ∙ replay-one s (event_of_choice choice)))
 
 -- ---- more branches
 pub has-still : (before after : List Branch) (branch : Branch) → KeepsBranches before after → HasBranch before branch → HasBranch after branch

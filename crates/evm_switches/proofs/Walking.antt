@@ -9,7 +9,7 @@ use Rattle.evm_model.specs.declared.event.Answer.{Answer}
 use Rattle.evm_model.specs.declared.event.Event.TheVariants.{Step}
 use Rattle.evm_model.specs.declared.refusal.Refusal.{Refusal}
 use Rattle.evm_switches.proofs.Searching.{Allows, Failing, none-append, replay-append, replay-one, events-append}
-use Rattle.evm_switches.specs.Branches.{event_of, events_of, turn_events}
+use Rattle.evm_switches.specs.Branches.{event_of_choice, events_of_turns, turn_events}
 use Rattle.evm_switches.specs.Schedules.{NoneFails}
 use Rattle.evm_switches.specs.Walks.{HasPassed, IsReached}
 use Rattle.evm_switches.specs.declared.branch.Branch.{Branch}
@@ -38,19 +38,19 @@ passed-step Fails n c a b s h g =
     let more : replicate (n + 1) event ≡ replicate n event ++ event ∷ [] = ap (λ (k : ℕ). replicate k event) one ∙ replicate-last n event in
     subst (λ (events : List Event). HasPassed Fails a events s) (sym more) (passed-append Fails a b s (replicate n event) (event ∷ []) h g)
 
-pub passed-turn : (Fails : Failing) (a b s : State) (turns : List Turn) (turn : Turn) → HasPassed Fails a (events_of turns) b → HasPassed Fails b (turn_events turn) s → HasPassed Fails a (events_of (turns ++ turn ∷ [])) s
+pub passed-turn : (Fails : Failing) (a b s : State) (turns : List Turn) (turn : Turn) → HasPassed Fails a (events_of_turns turns) b → HasPassed Fails b (turn_events turn) s → HasPassed Fails a (events_of_turns (turns ++ turn ∷ [])) s
 passed-turn Fails a b s turns turn h g =
-    let more : events_of (turns ++ turn ∷ []) ≡ events_of turns ++ turn_events turn = events-append turns (turn ∷ []) ∙ ap (λ (events : List Event). events_of turns ++ events) (append-nil (turn_events turn)) in
-    subst (λ (events : List Event). HasPassed Fails a events s) (sym more) (passed-append Fails a b s (events_of turns) (turn_events turn) h g)
+    let more : events_of_turns (turns ++ turn ∷ []) ≡ events_of_turns turns ++ turn_events turn = events-append turns (turn ∷ []) ∙ ap (λ (events : List Event). events_of_turns turns ++ events) (append-nil (turn_events turn)) in
+    subst (λ (events : List Event). HasPassed Fails a events s) (sym more) (passed-append Fails a b s (events_of_turns turns) (turn_events turn) h g)
 
 -- ---- steps
-pub reached-none : (first s : State) (branch : Branch) → s ≡ replay first (events_of branch.turns.items) → IsReached first branch 0 s
-reached-none first s branch e = e ∙ ap (replay first) (sym (append-nil (events_of branch.turns.items)))
+pub reached-none : (first s : State) (branch : Branch) → s ≡ replay first (events_of_turns branch.turns.items) → IsReached first branch 0 s
+reached-none first s branch e = e ∙ ap (replay first) (sym (append-nil (events_of_turns branch.turns.items)))
 
 pub reached-step : (first s after : State) (branch : Branch) (steps : ℕ) (answer : Answer) → IsReached first branch steps s → apply s (Step branch.cpu) ≡ Ok (after, answer) → IsReached first branch (suc steps) after
 reached-step first s after branch steps answer h done =
     let event : Event = Step branch.cpu in
-    let events = events_of branch.turns.items in
+    let events = events_of_turns branch.turns.items in
     let there : replay s (event ∷ []) ≡ after = replay-one s event ∙ ap (λ (r : Result (State × Answer) Refusal). left_by r s) done in
     let longer : events ++ replicate (suc steps) event ≡ (events ++ replicate steps event) ++ event ∷ [] =
     ap (λ (xs : List Event). events ++ xs) (replicate-last steps event) ∙ sym (append_assoc events (replicate steps event) (event ∷ [])) in
@@ -58,4 +58,4 @@ reached-step first s after branch steps answer h done =
 
 -- every event that may be made is a choice
 abbrev pub AreChoices : Allows → Type 0
-AreChoices May = (s : State) (event : Event) → May s event → (choice : Choice) × (event_of choice ≡ event)
+AreChoices May = (s : State) (event : Event) → May s event → (choice : Choice) × (event_of_choice choice ≡ event)

@@ -9,25 +9,25 @@ use Rattle.evm_switches.specs.declared.branch.Choice.{Choice}
 use Rattle.evm_switches.specs.declared.branch.Choice.TheVariants as choices
 use Rattle.evm_switches.specs.declared.branch.Turn.{Turn}
 
-abbrev pub event_of : Choice → Event
-event_of (choices.Step c) = Step c
-event_of choices.Tick = Tick
-event_of (choices.Raise c line) = Raise c line
+abbrev pub event_of_choice : Choice → Event
+event_of_choice (choices.Step c) = Step c
+event_of_choice choices.Tick = Tick
+event_of_choice (choices.Raise c line) = Raise c line
 
 -- Steps of one processor, and an event that is a switch
 abbrev pub turn_events : Turn → List Event
-turn_events turn = replicate turn.steps (Step turn.cpu) ++ event_of turn.choice ∷ []
+turn_events turn = replicate turn.steps (Step turn.cpu) ++ event_of_choice turn.choice ∷ []
 
 -- the events with which a branch begins
-abbrev pub events_of : List Turn → List Event
-events_of [] = []
-events_of (turn ∷ turns) = turn_events turn ++ events_of turns
+abbrev pub events_of_turns : List Turn → List Event
+events_of_turns [] = []
+events_of_turns (turn ∷ turns) = turn_events turn ++ events_of_turns turns
 
 -- the branch that goes another way behind some steps
 abbrev pub forked : Branch → ℕ → Choice → Branch
 forked branch steps choice = record {
   turns = record { items = branch.turns.items ++ record { cpu = branch.cpu; steps = steps; choice = choice } ∷ [] };
-  cpu = stepped branch.cpu (event_of choice);
+  cpu = stepped branch.cpu (event_of_choice choice);
 }
 
 -- a branch is among others

@@ -8,7 +8,7 @@ use Rattle.evm_switches.specs.Schedules.{switches, stepped}
 
 -- A state covers one that differs from it in the journal alone, where it has no more events: what may come from the second may come
 -- from the first.
-pub record Covers (seen s : State) : Type 0 where
+pub record Subsumes (seen s : State) : Type 0 where
   pub boot : seen.boot ≡ s.boot
   pub board : seen.board ≡ s.board
   pub room : length seen.journal ≤ length s.journal
@@ -19,7 +19,7 @@ Positions = State → ℕ → ℕ → Type 0
 
 -- one of the positions has a state that covers this one, the same processor, and no more switches
 abbrev pub IsCovered : Positions → State → ℕ → ℕ → Type 0
-IsCovered Seen s c k = (seen : State) × (j : ℕ) × Seen seen c j × (j ≤ k) × Covers seen s
+IsCovered Seen s c k = (seen : State) × (j : ℕ) × Seen seen c j × (j ≤ k) × Subsumes seen s
 
 -- an event is harmless, and leads to a position that is covered
 abbrev pub StaysCovered : (State → Event → Answer → State → Type 0) → Positions → State → ℕ → ℕ → Event → Type 0

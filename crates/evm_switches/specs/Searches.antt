@@ -5,7 +5,7 @@ use Rattle.evm_model.specs.Replay.{replay}
 use Rattle.evm_model.specs.State.{State}
 use Rattle.evm_model.specs.declared.event.Answer.{Answer}
 use Rattle.evm_model.specs.declared.event.Event.TheVariants.{Step}
-use Rattle.evm_switches.specs.Branches.{events_of}
+use Rattle.evm_switches.specs.Branches.{events_of_turns}
 use Rattle.evm_switches.specs.Covering.{Positions, IsCovered, StaysCovered}
 use Rattle.evm_switches.specs.Schedules.{NoneFails}
 use Rattle.evm_switches.specs.Walks.{AreForked, IsReached}
@@ -32,8 +32,8 @@ pub record IsDone (May : State → Event → Type 0) (Fails : State → Event �
 
 -- a branch has a harmless beginning, which leads to a position that is covered, and all is done at each of this number of states
 pub record IsSearched (May : State → Event → Type 0) (Fails : State → Event → Answer → State → Type 0) (first : State) (most : ℕ) (branches : List Branch) (Seen : Positions) (branch : Branch) (count : ℕ) : Type 0 where
-  pub harmless : NoneFails Fails first (events_of branch.turns.items)
-  pub covered : IsCovered Seen (replay first (events_of branch.turns.items)) branch.cpu (length branch.turns.items)
+  pub harmless : NoneFails Fails first (events_of_turns branch.turns.items)
+  pub covered : IsCovered Seen (replay first (events_of_turns branch.turns.items)) branch.cpu (length branch.turns.items)
   pub done : (steps : ℕ) (s : State) → steps < count → IsReached first branch steps s → IsDone May Fails most branches Seen branch steps s
 
 -- each of the branches before a place was looked at

@@ -5,7 +5,7 @@ use Rattle.evm_model.specs.Replay.{apply, replay}
 use Rattle.evm_model.specs.State.{State}
 use Rattle.evm_model.specs.declared.event.Answer.{Answer}
 use Rattle.evm_model.specs.declared.event.Event.TheVariants.{Step}
-use Rattle.evm_switches.specs.Branches.{event_of, events_of, forked, HasBranch}
+use Rattle.evm_switches.specs.Branches.{event_of_choice, events_of_turns, forked, HasBranch}
 use Rattle.evm_switches.specs.Schedules.{switches, NoneFails}
 use Rattle.evm_switches.specs.declared.branch.Branch.{Branch}
 use Rattle.evm_switches.specs.declared.branch.Choice.{Choice}
@@ -17,12 +17,12 @@ pub record HasPassed (Fails : State → Event → Answer → State → Type 0) (
 
 -- a state that a branch reaches by some steps
 abbrev pub IsReached : State → Branch → ℕ → State → Type 0
-IsReached first branch steps s = s ≡ replay first (events_of branch.turns.items ++ replicate steps (Step branch.cpu))
+IsReached first branch steps s = s ≡ replay first (events_of_turns branch.turns.items ++ replicate steps (Step branch.cpu))
 
 -- each switch that may be made at a state is a branch, if there may be one more
 abbrev pub AreForked : (State → Event → Type 0) → ℕ → List Branch → Branch → ℕ → State → Type 0
 AreForked May most branches branch steps s =
-    length branch.turns.items < most → (choice : Choice) → May s (event_of choice) → switches branch.cpu (event_of choice) ≡ 1 → HasBranch branches (forked branch steps choice)
+    length branch.turns.items < most → (choice : Choice) → May s (event_of_choice choice) → switches branch.cpu (event_of_choice choice) ≡ 1 → HasBranch branches (forked branch steps choice)
 
 -- the processor of a branch has made a step that didn't make the machine fail
 abbrev pub HasStepped : (State → Event → Answer → State → Type 0) → Branch → State → State → Type 0

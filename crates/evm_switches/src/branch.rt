@@ -2,7 +2,7 @@
 
 ghost use Rattle.std.specs.Prelude.{◌≡◌, [], IfSome};
 ghost use Rattle.evm_model.specs.Event.{short_event};
-ghost use Rattle.evm_switches.specs.Branches.{event_of, forked};
+ghost use Rattle.evm_switches.specs.Branches.{event_of_choice, forked};
 ghost use Rattle.evm_switches.specs.Schedules.{stepped};
 
 use arrayvec::ArrayVec;
@@ -26,7 +26,7 @@ pub enum Choice {
 impl Choice {
     /// The event.
     pub fn event(self) -> Event<NoBytes>
-        ensures { short_event result ≡ event_of self }
+        ensures { short_event result ≡ event_of_choice self }
     {
         match self {
             Choice::Step(cpu) => Event::Step(cpu),
@@ -37,7 +37,7 @@ impl Choice {
 
     // The processor that has stepped last behind it, where one stepped last before.
     fn stepped(self, before: u8) -> u8
-        ensures { result ≡ stepped before (event_of self) }
+        ensures { result ≡ stepped before (event_of_choice self) }
     {
         match self {
             Choice::Step(cpu) => cpu,

@@ -3,5 +3,5 @@ use Rattle.std.specs.Prelude.{ℕ, List, drop}
 use Rattle.byteorder.specs.Endian.{little_number}
 
 -- the number in the n bytes at an offset
-unfoldable pub number : ℕ → ℕ → List ℕ → ℕ
-number n at file = little_number n (drop at file)
+unfoldable pub field_at : ℕ → ℕ → List ℕ → ℕ
+field_at n at file = little_number n (drop at file)

@@ -10,6 +10,6 @@ pub record Named : Type 0 where
   pub kind : SymbolKind
 
 -- what a file says of its symbols: whether it has a table, and the symbols with names, in its order
-pub record Known : Type 0 where
+pub record FileSymbols : Type 0 where
   pub table : SymbolTable
   pub symbols : List Named

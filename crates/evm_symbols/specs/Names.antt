@@ -8,12 +8,12 @@ zero_from n [] = None
 zero_from n (byte ∷ bytes) = if byte == 0 then Some n else zero_from (n + 1) bytes
 
 -- the text of n bytes, if it has any and is UTF-8
-abbrev pub text_of : ℕ → List ℕ → Option (List ℕ)
-text_of n bytes = if not (n == 0) && is_utf8 (take n bytes) then Some (take n bytes) else None
+abbrev pub name_text : ℕ → List ℕ → Option (List ℕ)
+name_text n bytes = if not (n == 0) && is_utf8 (take n bytes) then Some (take n bytes) else None
 
 abbrev pub text_by : Option ℕ → List ℕ → Option (List ℕ)
 text_by None bytes = None
-text_by (Some n) bytes = text_of n bytes
+text_by (Some n) bytes = name_text n bytes
 
 -- the name at an offset, of 1 to 255 bytes
 unfoldable pub name_at : ℕ → List ℕ → Option (List ℕ)

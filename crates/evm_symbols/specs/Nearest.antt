@@ -66,9 +66,9 @@ abbrev pub place_of : List Named → ℕ → Option Named
 place_of symbols address = or_label (nearest (passes Typed address) symbols) (nearest (passes Labels address) symbols)
 
 -- its name, and how far behind it the address is
-abbrev pub said : ℕ → Option Named → Option (List ℕ × ℕ)
-said address None = None
-said address (Some s) = Some (s.name, address - s.value)
+abbrev pub name_and_offset : ℕ → Option Named → Option (List ℕ × ℕ)
+name_and_offset address None = None
+name_and_offset address (Some s) = Some (s.name, address - s.value)
 
 -- what a place is
 abbrev pub IsPlaceOf : List Named → ℕ → Named → Type 0

@@ -3,7 +3,7 @@
 ghost use Rattle.std.specs.Prelude.{◌≡◌, ◌+◌, ◌*◌, ◌≤◌, IfOk, IfErr, OnOk, IsTrue, ◌++◌, option_to_list, length};
 ghost use Rattle.std.specs.String.{string_bytes};
 ghost use Rattle.evm_symbols.specs.Sections.{is_whole};
-ghost use Rattle.evm_symbols.specs.Entries.{kind_of, is_own, symbol_at, symbols_from, section_bytes};
+ghost use Rattle.evm_symbols.specs.Entries.{symbol_kind, is_own, symbol_at, symbols_from, section_bytes};
 
 use crate::fields::{byte_at, half_at, long_at, word_at};
 use crate::names::name_at;
@@ -20,8 +20,8 @@ const UNDEFINED: u16 = 0;
 
 const ABSOLUTE: u16 = 0xfff1;
 
-fn kind_of(kind: u8, section: u16) -> Option<SymbolKind>
-    ensures { result ≡ kind_of kind section }
+fn symbol_kind(kind: u8, section: u16) -> Option<SymbolKind>
+    ensures { result ≡ symbol_kind kind section }
 {
     if section == UNDEFINED {
         return None;
@@ -61,7 +61,7 @@ fn symbol_at(alloc: Global, file: &[u8], names: &[u8], at: usize) -> Result<Opti
     ensures ok { IfOk result (λ symbol. symbol ≡ symbol_at file.now names.now at) }
     ensures refused { IfErr result (λ asked. asked ≤ 255) }
 {
-    let Some(kind) = kind_of(byte_at(file, at + 4) % 16, half_at(file, at + 6)) else {
+    let Some(kind) = symbol_kind(byte_at(file, at + 4) % 16, half_at(file, at + 6)) else {
         return Ok(None);
     };
     let Some(name) = name_at(word_at(file, at), names) else {

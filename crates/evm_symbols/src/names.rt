@@ -2,7 +2,7 @@
 
 ghost use Rattle.std.specs.Prelude.{◌≡◌, ◌≤◌, ◌<◌, IfSome, length, take, drop, option_copied, if◌then◌else◌, Some, None};
 ghost use Rattle.std.specs.Str.{is_utf8};
-ghost use Rattle.evm_symbols.specs.Names.{zero_from, text_of, text_by, name_at};
+ghost use Rattle.evm_symbols.specs.Names.{zero_from, name_text, text_by, name_at};
 
 /// The most bytes of a name. A symbol with a longer name is left out.
 pub(crate) const NAME_LIMIT: u64 = 255;
@@ -30,9 +30,9 @@ fn zero_in(bytes: &[u8]) -> Option<usize>
     None
 }
 
-fn text_of(n: usize, bytes: &[u8]) -> Option<&str>
+fn name_text(n: usize, bytes: &[u8]) -> Option<&str>
     requires { n ≤ length bytes.now }
-    ensures text { option_copied result ≡ text_of n bytes.now }
+    ensures text { option_copied result ≡ name_text n bytes.now }
     ensures short { IfSome result (λ name. length name.now ≤ n) }
 {
     if n == 0 { None } else { text(&bytes[..n]) }
@@ -57,7 +57,7 @@ fn name_in(bytes: &[u8]) -> Option<&str>
 {
     match zero_in(bytes) {
         None => None,
-        Some(n) => text_of(n, bytes),
+        Some(n) => name_text(n, bytes),
     }
 }
 

@@ -3,7 +3,7 @@
 ghost use Rattle.std.specs.Prelude.{◌≡◌, ◌+◌, ◌*◌, ◌<◌, ◌≤◌, IsTrue, length};
 ghost use Rattle.std.specs.List.{find};
 ghost use Rattle.evm_symbols.specs.declared.sections.Tables.{Tables};
-ghost use Rattle.evm_symbols.specs.Sections.{is_elf64, section, sections_from, has_headers, is_whole, is_symbol_table, is_names, headers_offset, header_count, linked, tables_by, tables_in, tables_of, AreInside};
+ghost use Rattle.evm_symbols.specs.Sections.{is_elf64, section, sections_from, has_headers, is_whole, is_symbol_table, is_names, headers_offset, section_header_count, linked, tables_by, tables_in, tables_of, AreInside};
 
 use crate::fields::{byte_at, half_at, long_at, word_at};
 

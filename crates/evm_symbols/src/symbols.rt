@@ -3,9 +3,9 @@
 ghost use Rattle.std.specs.Prelude.{◌≡◌, ◌≤◌, ◌/◌, IsTrue, IfOk, IfErr, OnErr, option_map};
 ghost use Rattle.std.specs.List.{find};
 ghost use Rattle.evm_room.specs.Growth.{RefusedWithin};
-ghost use Rattle.evm_symbols.specs.Entries.{section_bytes, symbols_from, known_by, known_of};
+ghost use Rattle.evm_symbols.specs.Entries.{section_bytes, symbols_from, known_by, symbols_of_file};
 ghost use Rattle.evm_symbols.specs.Sections.{is_whole, AreInside};
-ghost use Rattle.evm_symbols.specs.Nearest.{place_of, said, IsPlace, is_named, valued};
+ghost use Rattle.evm_symbols.specs.Nearest.{place_of, name_and_offset, IsPlace, is_named, valued};
 
 use crate::entries::{section_bytes, symbols_from};
 use crate::nearest::{place_of, value_of};
@@ -34,9 +34,9 @@ pub struct Symbols {
 }
 
 impl Model for Symbols {
-    ghost use Rattle.evm_symbols.specs.Named.{Known};
+    ghost use Rattle.evm_symbols.specs.Named.{FileSymbols};
 
-    ghost Value = { Known };
+    ghost Value = { FileSymbols };
 
     ghost view = { λ s. record { table = s.table; symbols = s.symbols.items } };
 }
@@ -86,9 +86,9 @@ impl Symbols {
     /// # Errors
     ///
     /// `NoMemory` where memory was refused.
-    #[tactic(auto, unfolding(crate::specs::Entries::known_of))]
+    #[tactic(auto, unfolding(crate::specs::Entries::symbols_of_file))]
     pub fn read(alloc: Global, file: &[u8]) -> Result<Symbols, NoMemory>
-        ensures ok { IfOk result (λ known. known ≡ known_of file.now) }
+        ensures ok { IfOk result (λ known. known ≡ symbols_of_file file.now) }
         ensures refused { OnErr result (RefusedWithin 255) }
     {
         match known_by(alloc, file, tables_of(file)) {
@@ -119,7 +119,7 @@ impl Symbols {
     /// several that begin there it is the first of the table.
     #[tactic(auto, using(crate::proofs::IsFound::place_is))]
     pub fn at(&self, address: u64) -> Option<(&str, u64)>
-        ensures exact { option_map (λ x. (x.0.now, x.1)) result ≡ said address (place_of self.now.symbols address) }
+        ensures exact { option_map (λ x. (x.0.now, x.1)) result ≡ name_and_offset address (place_of self.now.symbols address) }
         ensures place { IsPlace self.now.symbols address (place_of self.now.symbols address) }
     {
         let symbol = place_of(&self.symbols, address)?;

@@ -10,7 +10,7 @@ use Rattle.evm_tracks.specs.declared.state.State.{State}
 use Rattle.evm_tracks.specs.declared.track.Track.{Track}
 use Rattle.evm_tracks.specs.declared.tracks.Span.{Span}
 use Rattle.evm_tracks.specs.Entries.{Slice, Record, slice, note, first_note}
-use Rattle.evm_tracks.specs.Changes.{Spans, row, opened, is_open, is_shown, closed, records_by, after, records_of, no_spans, in_time, time_after, in_order, trace_of}
+use Rattle.evm_tracks.specs.Changes.{Spans, track_row, span_opened, is_open, is_shown, closed, records_by, spans_with_change, records_of, no_spans, in_time, time_after, in_order, trace_of}
 use Rattle.evm_tracks.specs.Laws.{slices_at, Follow, notes_in, notes_of}
 
 -- ---- lists
@@ -49,8 +49,8 @@ notes-kept : (spans : Spans) (changes : List Change) → notes_in (records_of sp
 notes-kept spans [] = refl
 notes-kept spans (Noted n ∷ changes) = ap (λ (ns : List Note). n ∷ ns) (notes-kept spans changes)
 notes-kept spans (Shows track state at ∷ changes) =
-    let now = slice_get spans (row track) in
-    let next = after spans (Shows track state at) in
+    let now = slice_get spans (track_row track) in
+    let next = spans_with_change spans (Shows track state at) in
     notes-append (records_by spans (Shows track state at)) (records_of next changes)
     ∙ ap (λ (ns : List Note). ns ++ notes_in (records_of next changes)) (notes-closed (is_shown now state) track now at) ∙ notes-kept next changes
 
@@ -95,7 +95,7 @@ start-before now at None h le = omega arith
 start-before now at (Some None) h le = omega arith
 start-before now at (Some (Some span)) h le = omega arith
 
-start-opened : (at : ℕ) (state : Option State) → start at (Some (opened state at)) ≡ at
+start-opened : (at : ℕ) (state : Option State) → start at (Some (span_opened state at)) ≡ at
 start-opened at None = refl
 start-opened at (Some state) = refl
 
@@ -106,16 +106,16 @@ either-append false s xs ys zs e = e
 slices-append : (r : ℕ) (xs ys : List Record) → slices_at r (xs ++ ys) ≡ slices_at r xs ++ slices_at r ys
 slices-append r [] ys = refl
 slices-append r (note n ∷ xs) ys = slices-append r xs ys
-slices-append r (slice s ∷ xs) ys = either-append (row s.track == r) s (slices_at r xs) (slices_at r ys) (slices_at r (xs ++ ys)) (slices-append r xs ys)
+slices-append r (slice s ∷ xs) ys = either-append (track_row s.track == r) s (slices_at r xs) (slices_at r ys) (slices_at r (xs ++ ys)) (slices-append r xs ys)
 
 -- a slice of another track is none of this one
-slices-other : (r : ℕ) (track : Track) (span : Option (Option Span)) (at : ℕ) → (row track == r) ≡ false → slices_at r (closed track span at) ≡ []
+slices-other : (r : ℕ) (track : Track) (span : Option (Option Span)) (at : ℕ) → (track_row track == r) ≡ false → slices_at r (closed track span at) ≡ []
 slices-other r track None at other = refl
 slices-other r track (Some None) at other = refl
 slices-other r track (Some (Some span)) at other = rw other refl
 
 -- what the track showed is a slice, and the next one begins where it ends
-Follow-closed : (r : ℕ) (track : Track) (span : Option (Option Span)) (now at : ℕ) (rest : List Slice) → (row track == r) ≡ true → start now span ≤ now → now ≤ at → Follow at rest
+Follow-closed : (r : ℕ) (track : Track) (span : Option (Option Span)) (now at : ℕ) (rest : List Slice) → (track_row track == r) ≡ true → start now span ≤ now → now ≤ at → Follow at rest
     → Follow (start now span) (slices_at r (closed track span at) ++ rest)
 Follow-closed r track None now at rest this h le follow = Follow-le now at rest le follow
 Follow-closed r track (Some None) now at rest this h le follow = Follow-le now at rest le follow
@@ -134,29 +134,29 @@ Goes r changes = (spans : Spans) (now : ℕ) → start now (slice_get spans r) �
 goes-shows : (r : ℕ) (track : Track) (state : Option State) (at : ℕ) (changes : List Change) → Goes r changes → Goes r (Shows track state at ∷ changes)
 goes-shows r track state at changes more spans now before order =
     let here = slice_get spans r in
-    let there = slice_get spans (row track) in
+    let there = slice_get spans (track_row track) in
     elim (cases_Bool (is_shown there state)) [
       | inl same ↦
           let rest = more spans at (start-before now at here before order.0) order.1 in
           rw same (Follow-le (start now here) (start at here) (slices_at r (records_of spans changes)) (start-le now at here order.0) rest)
       | inr new ↦
-          let next = slice_set spans (row track) (opened state at) in
+          let next = slice_set spans (track_row track) (span_opened state at) in
           let split = slices-append r (closed track there at) (records_of next changes) in
-          elim (cases_Bool (row track == r)) [
+          elim (cases_Bool (track_row track == r)) [
             | inl this ↦
-                let place : row track ≡ r = eqb-true (row track) r this in
+                let place : track_row track ≡ r = eqb-true (track_row track) r this in
                 let old = within there state new in
-                let set : slice_get next (row track) ≡ Some (opened state at) = get-set_same spans (row track) old.0 (opened state at) old.1 in
-                let set_here : slice_get next r ≡ Some (opened state at) = subst (λ (i : ℕ). slice_get next i ≡ Some (opened state at)) place set in
+                let set : slice_get next (track_row track) ≡ Some (span_opened state at) = get-set_same spans (track_row track) old.0 (span_opened state at) old.1 in
+                let set_here : slice_get next r ≡ Some (span_opened state at) = subst (λ (i : ℕ). slice_get next i ≡ Some (span_opened state at)) place set in
                 let begins : start at (slice_get next r) ≡ at = ap (start at) set_here ∙ start-opened at state in
                 let follow : Follow at (slices_at r (records_of next changes)) = subst (λ (a : ℕ). Follow a (slices_at r (records_of next changes))) begins (more next at (omega (arith, begins)) order.1) in
-                let same_place : slice_get spans (row track) ≡ slice_get spans r = ap (slice_get spans) place in
+                let same_place : slice_get spans (track_row track) ≡ slice_get spans r = ap (slice_get spans) place in
                 let before_there : start now there ≤ now = subst (λ (o : Option (Option Span)). start now o ≤ now) (sym same_place) before in
                 let whole = Follow-closed r track there now at (slices_at r (records_of next changes)) this before_there order.0 follow in
                 rw (new, split) (subst (λ (o : Option (Option Span)). Follow (start now o) (slices_at r (closed track there at) ++ slices_at r (records_of next changes))) same_place whole)
             | inr other ↦
-                let apart : r ≡ row track → ⊥ = λ (e : r ≡ row track). eqb-false (row track) r other (sym e) in
-                let kept : slice_get next r ≡ here = get-set_other spans (row track) r (opened state at) apart in
+                let apart : r ≡ track_row track → ⊥ = λ (e : r ≡ track_row track). eqb-false (track_row track) r other (sym e) in
+                let kept : slice_get next r ≡ here = get-set_other spans (track_row track) r (span_opened state at) apart in
                 let rest = subst (λ (o : Option (Option Span)). Follow (start at o) (slices_at r (records_of next changes))) kept (more next at (subst (λ (o : Option (Option Span)). start at o ≤ at) (sym kept) (start-before now at here before order.0)) order.1) in
                 let none = slices-other r track there at other in
                 rw (new, split, none) (Follow-le (start now here) (start at here) (slices_at r (records_of next changes)) (start-le now at here order.0) rest)
@@ -173,9 +173,9 @@ nothing_shown r None none = refl
 nothing_shown r (Some None) none = refl
 nothing_shown r (Some (Some span)) none = let e : Some span ≡ None = none (Some span) refl in cc
 
-pub follows : (changes : List Change) (track : Track) → Follow 0 (slices_at (row track) (trace_of changes))
+pub follows : (changes : List Change) (track : Track) → Follow 0 (slices_at (track_row track) (trace_of changes))
 follows changes track =
-    let r = row track in
+    let r = track_row track in
     let given = in_order 0 changes in
     let begins : start 0 (slice_get no_spans r) ≡ 0 = nothing_shown r (slice_get no_spans r) (λ (x : Option Span) (e : slice_get no_spans r ≡ Some x). get-replicate 1536 r x e) in
     subst (λ (a : ℕ). Follow a (slices_at r (records_of no_spans given))) begins (goes r given no_spans 0 (omega (arith, begins)) (ordered 0 changes))

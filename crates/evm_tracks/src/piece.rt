@@ -1,7 +1,7 @@
 //! The constant parts of the text of a record.
 
 ghost use Rattle.std.specs.Prelude.{◌≡◌};
-ghost use Rattle.evm_tracks.specs.Templates.{piece_text};
+ghost use Rattle.evm_tracks.specs.Templates.{constant_part};
 
 /// A constant part of the text of a record, named by what comes behind it.
 #[derive(Clone, Copy)]
@@ -26,9 +26,9 @@ pub(crate) enum Piece {
 }
 
 impl Piece {
-    #[tactic(auto, unfolding(crate::specs::Templates::piece_text))]
+    #[tactic(auto, unfolding(crate::specs::Templates::constant_part))]
     pub(crate) fn text(self) -> &'static str
-        ensures { result.now ≡ piece_text self }
+        ensures { result.now ≡ constant_part self }
     {
         match self {
             Piece::Phase => ",\n{\"ph\":\"",

@@ -4,7 +4,7 @@ ghost use Rattle.std.specs.Prelude.{◌≡◌, ◌++◌, OnOk, OnErr, IfOk, if�
 ghost use Rattle.std.specs.String.{string_bytes};
 ghost use Rattle.evm_tracks.specs.Names.{state_code};
 ghost use Rattle.evm_tracks.specs.Entries.{record_lines};
-ghost use Rattle.evm_tracks.specs.Changes.{row, is_open, is_shown, records_by, after, opened, no_spans};
+ghost use Rattle.evm_tracks.specs.Changes.{track_row, is_open, is_shown, records_by, spans_with_change, span_opened, no_spans};
 
 use crate::change::Change;
 use crate::entry::push_slice;
@@ -43,7 +43,7 @@ impl Model for Tracks {
 
 // The row of a track: each has its own.
 pub(crate) fn row_of(track: Track) -> usize
-    ensures { result ≡ row track }
+    ensures { result ≡ track_row track }
 {
     match track {
         Track::OutOfBand(cpu) => 2 * cpu as usize + 1,
@@ -89,7 +89,7 @@ impl Tracks {
         state: Option<State>,
         at: u64,
     ) -> Result<(), Refused>
-        ensures spans { OnOk result (self.new ≡ after self.old (Change.Shows track state at)) }
+        ensures spans { OnOk result (self.new ≡ spans_with_change self.old (Change.Shows track state at)) }
         ensures text { OnOk result (string_bytes out.new ≡ string_bytes out.old ++ record_lines (records_by self.old (Change.Shows track state at))) }
     {
         let row = row_of(track);
@@ -109,13 +109,13 @@ impl Tracks {
                 at.saturating_sub(span.from),
             )?;
         }
-        self.spans[row] = opened(state, at);
+        self.spans[row] = span_opened(state, at);
         Ok(())
     }
 }
 
-fn opened(state: Option<State>, at: u64) -> Option<Span>
-    ensures { result ≡ opened state at }
+fn span_opened(state: Option<State>, at: u64) -> Option<Span>
+    ensures { result ≡ span_opened state at }
 {
     match state {
         None => None,

@@ -2,7 +2,7 @@ use Rattle.std.proofs.Common.{◌∷◌, ◌++◌, [], ◌≡◌, ◌+◌, List,
 use Rattle.std.proofs.lemmas.List.{take_more}
 use Rattle.evm_schedules.specs.Failures.{FailsAsSought}
 use Rattle.evm_switches.proofs.Walking.{passed-none, passed-turn}
-use Rattle.evm_switches.specs.Branches.{events_of}
+use Rattle.evm_switches.specs.Branches.{events_of_turns}
 use Rattle.evm_switches.specs.Walks.{HasPassed}
 use Rattle.evm_switches.specs.declared.branch.Choice.TheVariants as choices
 use Rattle.evm_switches.specs.declared.branch.Turn.{Turn}
@@ -17,7 +17,7 @@ turns-preserved c =
     let front = take c.turns.turn-index c.args.turns.now in
     let turn : Turn = get_or c.args.turns.now c.turns.turn-index none in
     let more : take (c.turns.turn-index + 1) c.args.turns.now ≡ front ++ turn ∷ [] = take_more c.args.turns.now c.turns.turn-index none c.turns-test.true in (
-      subst (λ (turns : List Turn). HasPassed (FailsAsSought c.args.watch.now) c.args.machine.now (events_of turns) c.take_turn.new.machine) (sym more)
+      subst (λ (turns : List Turn). HasPassed (FailsAsSought c.args.watch.now) c.args.machine.now (events_of_turns turns) c.take_turn.new.machine) (sym more)
           (passed-turn (FailsAsSought c.args.watch.now) c.args.machine.now c.turns.machine c.take_turn.new.machine front turn c.turns.invariant.0 c.in-None.ensures.passes),
       (λ first h. c.take_turn.ensures.replays first (c.turns.invariant.1 first h)),
     )

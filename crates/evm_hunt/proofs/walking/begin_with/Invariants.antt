@@ -2,9 +2,9 @@ use Rattle.std.proofs.Common.{take}
 use Rattle.evm_model.specs.Replay.{IsReplayOf}
 use Rattle.evm_model.specs.State.{State}
 use Rattle.evm_schedules.specs.Failures.{FailsAsSought}
-use Rattle.evm_switches.specs.Branches.{events_of}
+use Rattle.evm_switches.specs.Branches.{events_of_turns}
 use Rattle.evm_switches.specs.Walks.{HasPassed}
 use Rattle.evm_hunt.proofs.walking.begin_with.Given as goal
 
 abbrev pub invariant-turns : goal.invariant-turns
-invariant-turns l = HasPassed (FailsAsSought l.watch) l.initial.machine (events_of (take l.turn-index l.turns)) l.machine × ((first : State) → IsReplayOf first l.initial.machine → IsReplayOf first l.machine)
+invariant-turns l = HasPassed (FailsAsSought l.watch) l.initial.machine (events_of_turns (take l.turn-index l.turns)) l.machine × ((first : State) → IsReplayOf first l.initial.machine → IsReplayOf first l.machine)

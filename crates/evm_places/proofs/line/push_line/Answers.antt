@@ -2,7 +2,7 @@ use Rattle.std.proofs.Common.{◌++◌}
 use Rattle.std.specs.Prelude.{codes}
 use Rattle.std.specs.String.{string_bytes}
 use Rattle.json.specs.Print.{quoted}
-use Rattle.evm_json.specs.Text.{shown}
+use Rattle.evm_json.specs.Text.{shown_bytes}
 use Rattle.evm_text.specs.Written.{decimal}
 use Rattle.evm_places.specs.Pieces.{place_pieces}
 use Rattle.evm_places.proofs.Lines.{more, last}
@@ -23,10 +23,10 @@ returns c =
     let p3 = p2 ++ codes ",\"ts\":" in
     let p4 = p3 ++ decimal c.args.at in
     let p5 = p4 ++ codes ",\"name\":" in
-    let p6 = p5 ++ quoted (shown c.args.name.now) in
+    let p6 = p5 ++ quoted (shown_bytes c.args.name.now) in
     let e2 = more old t1 t2 p1 (decimal c.args.thread) c.in_ok-push_text.ensures.ok c.in_ok-push_decimal.ensures.appends.ok in
     let e3 = more old t2 t3 p2 (codes ",\"ts\":") e2 c.in_ok-push_text-2.ensures.ok in
     let e4 = more old t3 t4 p3 (decimal c.args.at) e3 c.in_ok-push_decimal-2.ensures.appends.ok in
     let e5 = more old t4 t5 p4 (codes ",\"name\":") e4 c.in_ok-push_text-3.ensures.ok in
-    let e6 = more old t5 t6 p5 (quoted (shown c.args.name.now)) e5 c.in_ok-push_quoted.ensures.ok in
+    let e6 = more old t5 t6 p5 (quoted (shown_bytes c.args.name.now)) e5 c.in_ok-push_quoted.ensures.ok in
     last c.push_text-4.result old t6 (string_bytes c.push_text-4.new.out) p6 (codes ",\"s\":\"t\"}") e6 c.push_text-4.ensures.ok
