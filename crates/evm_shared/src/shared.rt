@@ -14,12 +14,16 @@ use evm_exec::Burst;
 use evm_model::{Answer, Event, Refusal};
 use evm_room::with_room;
 use std::alloc::Global;
+use std::hint::spin_loop;
 use std::marker::{Model, PhantomData};
 use std::sync::ledger::Ledger;
-use std::sync::{Mutex, Wait};
+use std::sync::{Mutex, MutexGuard, Wait};
 
 /// How many ports a machine has at most.
 pub const PORT_LIMIT: u8 = 16;
+
+// How often a thread tries to take the lock before it waits for it.
+const TRIES: u32 = 200;
 
 /// A machine under a lock. `O` names where it began to be shared, and `S`, `B` and `T` name the ledgers of Steps, of
 /// Bells and of other events.
@@ -90,7 +94,7 @@ fn new_ports<S: Ledger, B: Ledger, T: Ledger>(
 }
 
 impl<D: Device, O: Origin, S: Ledger, B: Ledger, T: Ledger> Shared<D, O, S, B, T> {
-    /// A machine under a lock, and 1 to 16 ports. Made refuses it hands the machine back.
+    /// A machine under a lock, and 1 to 16 ports. If it is refused, it hands the machine back.
     pub fn new(
         alloc: Global,
         machine: Machine<D>,
@@ -134,6 +138,19 @@ impl<D: Device, O: Origin, S: Ledger, B: Ledger, T: Ledger> Shared<D, O, S, B, T
         Ok((Shared { locked, ports }, made))
     }
 
+    // Takes the lock. A hold lasts a fraction of a microsecond, far less than it takes to put a thread to sleep and to wake it, so a
+    // thread tries for a few holds first.
+    #[inline]
+    fn hold<R: Wait>(&self, rt: &R) -> MutexGuard<'_, Locked<D, O, S, B, T>> {
+        for _ in 0..TRIES {
+            if let Some(held) = self.locked.try_lock() {
+                return held;
+            }
+            spin_loop();
+        }
+        self.locked.lock(rt)
+    }
+
     /// Makes the Steps of a burst and one more, at least one, in one hold of the lock. Takes no memory.
     ///
     /// # Errors
@@ -149,7 +166,7 @@ impl<D: Device, O: Origin, S: Ledger, B: Ledger, T: Ledger> Shared<D, O, S, B, T
         ensures call { MakesSteps O.start cpu burst.now result port.old port.new }
         ensures refused { IfErr result (λ why. RefusesCpu O.start cpu why) }
     {
-        self.locked.lock(rt).commit(port, cpu, burst)
+        self.hold(rt).commit(port, cpu, burst)
     }
 
     /// Takes all lines that were rung of a processor, and makes a Bell of each in rising order, in one hold of the lock.
@@ -173,7 +190,7 @@ impl<D: Device, O: Origin, S: Ledger, B: Ledger, T: Ledger> Shared<D, O, S, B, T
         ensures call { MakesBells O.start bells.now.cpus cpu result port.old port.new }
         ensures refused { IfErr result (λ why. RefusesEither O.start bells.now.cpus cpu why) }
     {
-        self.locked.lock(rt).deliver(port, bells, taker, cpu)
+        self.hold(rt).deliver(port, bells, taker, cpu)
     }
 
     /// Makes one Tick. Takes no memory.
@@ -185,7 +202,7 @@ impl<D: Device, O: Origin, S: Ledger, B: Ledger, T: Ledger> Shared<D, O, S, B, T
         ensures call { MakesOne O.start Event.Tick result port.old port.new }
         ensures refused { IfErr result (λ why. why ≡ Refusal.Full) }
     {
-        self.locked.lock(rt).tick(port)
+        self.hold(rt).tick(port)
     }
 
     /// Makes one event of any kind. Takes no memory.
@@ -201,7 +218,7 @@ impl<D: Device, O: Origin, S: Ledger, B: Ledger, T: Ledger> Shared<D, O, S, B, T
     ) -> Result<Answer, Refusal>
         ensures { MakesOne O.start event.now result port.old port.new }
     {
-        self.locked.lock(rt).one(port, &event.lend())
+        self.hold(rt).one(port, &event.lend())
     }
 
     // The machine and its ports, which are all of them, with the totals. It is never inlined into `finish`: LLVM splits a machine
