@@ -59,8 +59,8 @@ abbrev pub IsText : ℕ → Result State Refusal → RunEnding → List ℕ → 
 IsText turns (Ok first) Written text = IsWholeJournal turns first text
 IsText turns (Ok first) Incomplete text = IsJournalFrom first text
 IsText turns (Err refusal) ImageRefused text = (refusal ≡ BadAddress) × (text ≡ codes "refused 2 6\n")
-IsText turns loaded_machine NoMemory text = text ≡ codes "memory\n"
-IsText turns loaded_machine ending text = ⊥
+IsText turns loaded NoMemory text = text ≡ codes "memory\n"
+IsText turns loaded ending text = ⊥
 
 abbrev pub ending_of : Outcome → RunEnding
 ending_of (outcomes.Journal text) = Written
@@ -76,13 +76,13 @@ journal_or_fault_text outcomes.NoMemory = codes "memory\n"
 
 -- what the code has to write is that
 abbrev pub IsOutcome : ℕ → Result State Refusal → Outcome → Type 0
-IsOutcome turns loaded_machine outcome = IsText turns loaded_machine (ending_of outcome) (journal_or_fault_text outcome)
+IsOutcome turns loaded outcome = IsText turns loaded (ending_of outcome) (journal_or_fault_text outcome)
 
 module _ {W : Type 0} (takes : W → Writing → List ℕ → W → Type 0) where
   -- all of its text was written, or a prefix before a write failed
   abbrev pub Ends : ℕ → Result State Refusal → W → W → RunEnding → Type 0
-  Ends turns loaded_machine w w' (WriteFailed fault) = (ending : RunEnding) × (text : List ℕ) × IsText turns loaded_machine ending text × TookPrefix takes w text w'
-  Ends turns loaded_machine w w' ending = (text : List ℕ) × IsText turns loaded_machine ending text × Took takes w text w'
+  Ends turns loaded w w' (WriteFailed fault) = (ending : RunEnding) × (text : List ℕ) × IsText turns loaded ending text × TookPrefix takes w text w'
+  Ends turns loaded w w' ending = (text : List ℕ) × IsText turns loaded ending text × Took takes w text w'
 
 -- the exit status of a run that ends so
 abbrev pub ending_status : RunEnding → ℕ

@@ -10,7 +10,7 @@ use evm_streams::{Sink, write_all};
 
 /// Writes what a run came to.
 pub(crate) fn write<W: Sink>(outcome: &Outcome, out: &mut W) -> RunEnding
-    ensures { (turns : ℕ) (loaded_machine : Result State Refusal) → IsOutcome turns loaded_machine outcome.now → Ends W.takes turns loaded_machine out.old out.new result }
+    ensures { (turns : ℕ) (loaded : Result State Refusal) → IsOutcome turns loaded outcome.now → Ends W.takes turns loaded out.old out.new result }
 {
     match write_all(out, outcome.text().as_bytes()) {
         Ok(()) => outcome.ending(),
