@@ -1,7 +1,7 @@
 -- Registers are below 32 and numbers in the range that is read.
 use Rattle.std.proofs.Common.{◌≡◌, ℕ, ◌<◌, Bool, true, false, cond, ◌&&◌, nat_lt, List, [], ◌∷◌, Option, Some, None, IfOk, IfSome, refl, bytes_eq, lit<, ℤ, pos, negsuc, zero, suc, ◌≤◌, nat_le, neg_ℤ, arith}
 use Rattle.std.proofs.lemmas.Bool.{ltb-true, and_parts, leb-true}
-use Rattle.evm_asm_parser.specs.evm_asm_lexer.Names.{named, register_named, registers, fixed_registers, argument_registers, saved_registers, temporary_registers, registers_to_7, registers_to_15, registers_to_23, registers_to_31}
+use Rattle.evm_asm_parser.specs.evm_asm_lexer.Names.{named, register_named, register_names, fixed_registers, argument_registers, saved_registers, temporary_registers, registers_to_7, registers_to_15, registers_to_23, registers_to_31}
 use Rattle.evm_asm_parser.specs.evm_asm_lexer.declared.source_fault.SourceFaultKind.TheVariants.{RangeOfImmediate}
 use Rattle.evm_asm_parser.specs.Operands.{register_in, named_register, known, name_in, number_in, integer, ranged, integer_in}
 use Rattle.evm_asm_parser.specs.declared.operand.Number.{Number}
@@ -29,13 +29,13 @@ found (e ∷ es) name h =
     let p = and_parts (nat_lt e.1 32) (all_registers es) h in
     picked (bytes_eq name e.0) e.1 (named es name) (ltb-true e.1 32 p.0) (found es name p.1)
 
-all_below : all_registers registers ≡ true
-unfolding registers fixed_registers argument_registers saved_registers temporary_registers registers_to_7 registers_to_15 registers_to_23 registers_to_31
+all_below : all_registers register_names ≡ true
+unfolding register_names fixed_registers argument_registers saved_registers temporary_registers registers_to_7 registers_to_15 registers_to_23 registers_to_31
 all_below = refl
 
 named_below : (name : List ℕ) → IfSome (register_named name) IsRegister
 unfolding register_named
-named_below name = found registers name all_below
+named_below name = found register_names name all_below
 
 known_below : (o : Option ℕ) → IfSome o IsRegister → IfOk (known o) IsRegister
 known_below (Some r) h = h

@@ -18,7 +18,7 @@ use Rattle.evm_asm_parser.specs.declared.statement.Statement.{Statement}
 use Rattle.evm_asm_parser.specs.declared.statement.Statement.TheVariants.{Nothing, LoadImmediate, Space, Align, One, Branch, Jump, LoadAddress}
 use Rattle.evm_asm_parser.specs.Forms.{Slot, Register, Integer, Natural, Upper, Label, Address, FullAddress, Name, Value, Values, Form, Each, Many, form}
 use Rattle.evm_asm_parser.specs.declared.spot.Spot.{Spot}
-use Rattle.evm_asm_parser.specs.Kept.{names_label, kept_of}
+use Rattle.evm_asm_parser.specs.Kept.{names_label, kept_statement}
 use Rattle.evm_asm_parser.proofs.Outcomes.{any_ok}
 use Rattle.evm_asm_parser.proofs.Forms_hold.{Makes, statement_holds}
 use Rattle.evm_asm.specs.declared.place.Place.{Place}
@@ -320,7 +320,7 @@ kept_where : (s : Statement) (spot : Spot) (text : List ℕ) (t : Bool) → name
 kept_where s spot text true e h = tt
 kept_where s spot text false e h = h e
 
-kept_by : (known : Spots) (at : Place) (text : List ℕ) (r : Reading) → statement_in known at text ≡ r → IsKept (kept_of (here at) r) text
+kept_by : (known : Spots) (at : Place) (text : List ℕ) (r : Reading) → statement_in known at text ≡ r → IsKept (kept_statement (here at) r) text
 kept_by known at text (Err e) h = tt
 kept_by known at text (Ok s) h = kept_where s (here at) text (names_label s) refl
     (λ none labels place same.
@@ -328,7 +328,7 @@ kept_by known at text (Ok s) h = kept_where s (here at) text (names_label s) ref
     ∙ same_ok s (statement_in labels at text)
     (subst (λ r. Like SameUnlabelled r (statement_in labels at text)) h (reading_alike known labels SameUnlabelled (λ s k. refl) forms_unlabelled at text)) none)
 
-pub is_kept : (known : Spots) (place : Place) (text : List ℕ) → IsKept (kept_of (here place) (statement_in known place text)) text
+pub is_kept : (known : Spots) (place : Place) (text : List ℕ) → IsKept (kept_statement (here place) (statement_in known place text)) text
 is_kept known place text = kept_by known place text _ refl
 
 -- ---- statements that become instructions stand in the text

@@ -2,7 +2,7 @@
 
 ghost use Rattle.std.specs.Prelude.{◌≡◌, ◌≤◌, ◌+◌, IfOk, IfErr, OnOk, length, false, [], ◌∷◌, ◌++◌};
 ghost use Rattle.std.specs.Option.{option_map};
-ghost use Rattle.evm_asm_parser.specs.Kept.{kept_of};
+ghost use Rattle.evm_asm_parser.specs.Kept.{kept_statement};
 ghost use Rattle.evm_asm.specs.Sources.{code_of, label_at, behind_labels, with_label, defined, statement_text, outcome, behind_reading, line_laid, first_fault, laid, nothing_laid, source_lines, source_start, IsLaid};
 ghost use Rattle.evm_asm.specs.Kept.{AreKept};
 ghost use Rattle.evm_asm.specs.Places.{here, statement_in};
@@ -141,7 +141,7 @@ fn lay_line(
 ) -> Result<(Place, Option<SourceFaultKind>), Refused>
     ensures laid { IfOk result (λ after. (labels.new, after) ≡ line_laid labels.old place code.now) }
     ensures refused { IfErr result (λ asked. asked ≤ length code.now + 1) }
-    ensures kept { OnOk result (kept.new ≡ kept.old ++ kept_of (here place) (statement_in labels.new place (statement_text code.now)) ∷ []) }
+    ensures kept { OnOk result (kept.new ≡ kept.old ++ kept_statement (here place) (statement_in labels.new place (statement_text code.now)) ∷ []) }
 {
     let (twice, text) = define(alloc, labels, here(place), code)?;
     let reading = statement_in(labels, place, text);

@@ -26,7 +26,7 @@ use Rattle.evm_asm.specs.evm_asm_parser.declared.statement.Statement.{Statement}
 use Rattle.evm_asm.specs.evm_asm_parser.declared.statement.Statement.TheVariants.{Nothing, One, Branch, Jump, LoadImmediate, LoadAddress, Section, Numbers, Space, Align}
 use Rattle.evm_asm.specs.evm_asm_parser.Operands.{Spots, how_many, name_in, label_in, first_operand, other_operands}
 use Rattle.evm_asm.specs.evm_asm_parser.Forms.{Slot, Register, Integer, Natural, Upper, Label, Address, FullAddress, Name, Value, greatest_shift, bare_instruction, unary_instruction, form}
-use Rattle.evm_asm.specs.evm_asm_parser.Statements.{is_named, operand_in, statement_of}
+use Rattle.evm_asm.specs.evm_asm_parser.Statements.{name_or_fault, operand_in, statement_of}
 use Rattle.evm_asm.proofs.evm_asm_parser.Outcomes.{any_ok, either_ok, also_ok, tested_ok, read_ok}
 use Rattle.evm_asm.proofs.evm_asm_parser.Forms_hold.{Makes, either_makes, statement_holds}
 use Rattle.evm_asm.specs.evm_asm_parser.declared.spot.Spot.{Spot}
@@ -79,7 +79,7 @@ operand_fits labels Upper text = upper_in_within text
 operand_fits labels Label text = any_ok (label_in labels text)
 operand_fits labels Address text = address_within text
 operand_fits labels FullAddress text = full_address_within text
-operand_fits labels Name text = any_ok (is_named (name_in text))
+operand_fits labels Name text = any_ok (name_or_fault (name_in text))
 
 below_amounts : (op : ShiftOp) (n : ℕ) → n ≤ greatest_shift op → n < amounts op
 below_amounts Slli n h = omega arith

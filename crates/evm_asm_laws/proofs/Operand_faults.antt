@@ -13,7 +13,7 @@ use Rattle.evm_asm.specs.evm_asm_lexer.Names.{register_named}
 use Rattle.evm_asm.specs.evm_asm_parser.declared.operand.Number.{Number}
 use Rattle.evm_asm.specs.evm_asm_parser.Operands.{Spots, first_operand, other_operands, how_many, counted, is_blank_text, name_in, known, named_register, register_in, labelled, label_in, number_in, integer, ranged, integer_in, immediate_in, offset_in, base_in, address_in, full_address_in, natural, limited, natural_in, upper, upper_in, wrapped, number_datum, label_datum, datum_of, datum_in}
 use Rattle.evm_asm.specs.evm_asm_parser.Forms.{Slot, Register, Integer, Natural, Upper, Label, Address, FullAddress, Name, Form, Each, Many, form}
-use Rattle.evm_asm.specs.evm_asm_parser.Statements.{Reading, is_named, operand_in, operands_in, also, with_data, said, statement_of}
+use Rattle.evm_asm.specs.evm_asm_parser.Statements.{Reading, name_or_fault, operand_in, operands_in, also, with_data, said, statement_of}
 use Rattle.evm_asm_laws.specs.Least.{fault_in, lesser}
 use Rattle.evm_asm_laws.specs.HasFault.{IsNoRegister, IsOutside, offset_text, Unknown, Misfit, OutOfRange, SomePlace, SomeOperand, IsNoDatum, IsDatumOutside, HasUnknownRegister, HasMisfit, HasNumberOutside}
 use Rattle.evm_asm.specs.evm_asm_parser.declared.statement.Datum.TheVariants as datum
@@ -163,7 +163,7 @@ module _ (text : List ℕ) where
   unfolding label_in
   label_least labels = labelled_least labels (name_in text) refl
 
-  is_named_least : (o : Option (List ℕ)) → name_in text ≡ o → IsLeast (Three ⊥ (name_in text ≡ None) ⊥) (fault_in (is_named o))
+  is_named_least : (o : Option (List ℕ)) → name_in text ≡ o → IsLeast (Three ⊥ (name_in text ≡ None) ⊥) (fault_in (name_or_fault o))
   is_named_least (Some name) e = no_three ⊥ (name_in text ≡ None) ⊥ (λ x. x) (λ m. cc) (λ x. x)
   is_named_least None e = (e, least_misfit ⊥ (name_in text ≡ None) ⊥ (λ x. x))
 

@@ -2,7 +2,7 @@
 use Rattle.std.proofs.Common.{◌≡◌, ◌∙◌, ℕ, Bool, true, false, cond, List, [], ◌∷◌, ◌++◌, Option, Some, None, ap, refl, bytes_eq}
 use Rattle.evm_asm_lexer.specs.declared.mnemonic.Mnemonic.{Mnemonic}
 use Rattle.evm_asm_lexer.specs.declared.mnemonic.Mnemonic.TheVariants.{Register, Word, Immediate, Shift, Load, Store, Branch, Bare, Unary}
-use Rattle.evm_asm_lexer.specs.Names.{named, fixed_registers, argument_registers, saved_registers, temporary_registers, registers_to_7, registers_to_15, registers_to_23, registers_to_31, registers, register_named, register_ops, word_ops, immediate_ops, shift_ops, load_ops, store_ops, branch_ops, bare_ops, unary_ops, branch_pseudos, jumps_and_loads, directives, each_as, mnemonics, mnemonic_named}
+use Rattle.evm_asm_lexer.specs.Names.{named, fixed_registers, argument_registers, saved_registers, temporary_registers, registers_to_7, registers_to_15, registers_to_23, registers_to_31, register_names, register_named, register_ops, word_ops, immediate_ops, shift_ops, load_ops, store_ops, branch_ops, bare_ops, unary_ops, branch_pseudos, jumps_and_loads, directives, each_as, mnemonics, mnemonic_named}
 
 -- what the name has in the first table, else what it has in the others
 abbrev pub or_else : {A B : Type 0} → Option A → (A → B) → Option B → Option B
@@ -34,7 +34,7 @@ pub register_in_parts : (name : List ℕ) → register_named name
     or_else (named registers_to_15 name) (λ n. n) (
     or_else (named registers_to_23 name) (λ n. n) (
     named registers_to_31 name)))))))
-unfolding register_named registers registers_to_15 registers_to_31 registers_to_7 temporary_registers saved_registers argument_registers fixed_registers
+unfolding register_named register_names registers_to_15 registers_to_31 registers_to_7 temporary_registers saved_registers argument_registers fixed_registers
 register_in_parts name =
     in_parts fixed_registers (argument_registers ++ saved_registers ++ temporary_registers ++ registers_to_7 ++ registers_to_15 ++ registers_to_23 ++ registers_to_31) name
     ∙ ap (or_else (named fixed_registers name) (λ n. n)) (

@@ -32,10 +32,10 @@ by_beginning name =
     else (if bytes_eq (take 2 name) (codes "c.") then Some Compressed
     else None))
 
-abbrev pub or_else : Option Extension → Option Extension → Option Extension
-or_else (Some extension) next = Some extension
-or_else None next = next
+abbrev pub first_extension : Option Extension → Option Extension → Option Extension
+first_extension (Some extension) next = Some extension
+first_extension None next = next
 
 -- the extension whose mnemonic has this name
 abbrev pub extension_of : List ℕ → Option Extension
-extension_of name = or_else (named products name) (or_else (named quotients name) (or_else (named others name) (by_beginning name)))
+extension_of name = first_extension (named products name) (first_extension (named quotients name) (first_extension (named others name) (by_beginning name)))

@@ -72,14 +72,14 @@ registers_to_31 =
     (codes "x29", 29) ∷ (codes "x30", 30) ∷ (codes "x31", 31) ∷ []
 
 -- the names of the registers, each with its number
-unfoldable pub registers : List (List ℕ × ℕ)
-registers =
+unfoldable pub register_names : List (List ℕ × ℕ)
+register_names =
     fixed_registers ++ argument_registers ++ saved_registers ++ temporary_registers
     ++ registers_to_7 ++ registers_to_15 ++ registers_to_23 ++ registers_to_31
 
 -- the number of the register of this name
 unfoldable pub register_named : List ℕ → Option ℕ
-register_named name = named registers name
+register_named name = named register_names name
 
 unfoldable pub register_ops : List (List ℕ × RegisterOp)
 register_ops =
@@ -171,4 +171,4 @@ no_name_twice (entry ∷ entries) = not (list_any (λ e. bytes_eq e.0 entry.0) e
 
 -- Each register and each mnemonic stands in its table by a name that is no other's.
 abbrev pub NoNameStandsTwice : Type 0
-NoNameStandsTwice = (no_name_twice registers ≡ true) × (no_name_twice mnemonics ≡ true)
+NoNameStandsTwice = (no_name_twice register_names ≡ true) × (no_name_twice mnemonics ≡ true)

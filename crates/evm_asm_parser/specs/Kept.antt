@@ -13,6 +13,6 @@ names_label (LoadAddress rd target) = true
 names_label statement = false
 
 -- the statement of a line that stands at a spot, where it names no label
-abbrev pub kept_of : Spot → Reading → Option Kept
-kept_of spot (Ok statement) = if names_label statement then None else Some (record { spot = spot; statement = statement })
-kept_of spot (Err kind) = None
+abbrev pub kept_statement : Spot → Reading → Option Kept
+kept_statement spot (Ok statement) = if names_label statement then None else Some (record { spot = spot; statement = statement })
+kept_statement spot (Err kind) = None

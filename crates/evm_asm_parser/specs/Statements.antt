@@ -13,9 +13,9 @@ abbrev pub Reading : Type 0
 Reading = Result Statement SourceFaultKind
 
 -- a name, to no effect
-abbrev pub is_named : Option (List ℕ) → Result (Unit {0}) SourceFaultKind
-is_named (Some name) = Ok tt
-is_named None = Err BadOperand
+abbrev pub name_or_fault : Option (List ℕ) → Result (Unit {0}) SourceFaultKind
+name_or_fault (Some name) = Ok tt
+name_or_fault None = Err BadOperand
 
 -- what a text says in a place
 abbrev pub operand_in : Spots → (slot : Slot) → List ℕ → Result (Value slot) SourceFaultKind
@@ -26,7 +26,7 @@ operand_in labels Upper text = upper_in text
 operand_in labels Label text = label_in labels text
 operand_in labels Address text = address_in text
 operand_in labels FullAddress text = full_address_in text
-operand_in labels Name text = is_named (name_in text)
+operand_in labels Name text = name_or_fault (name_in text)
 
 -- what the first operands say, each in its place, or the least of their faults
 abbrev pub operands_in : Spots → (slots : List Slot) → List ℕ → Result (Values slots) SourceFaultKind

@@ -1,7 +1,7 @@
 //! What is kept of the lines of a source, so that a line need not be read again.
 
 ghost use Rattle.std.specs.Prelude.{◌≡◌, OnOk, IfErr, [], ◌∷◌, ◌++◌};
-ghost use Rattle.evm_asm_parser.specs.Kept.{kept_of};
+ghost use Rattle.evm_asm_parser.specs.Kept.{kept_statement};
 
 use crate::memory::push;
 use crate::spot::Spot;
@@ -44,7 +44,7 @@ impl KeptLines {
 
     /// Keeps one line more: its statement, where that names no label.
     pub fn keep(&mut self, spot: Spot, reading: &Reading) -> Result<(), Refused>
-        ensures ok { OnOk result (self.new ≡ self.old ++ kept_of spot reading.now ∷ []) }
+        ensures ok { OnOk result (self.new ≡ self.old ++ kept_statement spot reading.now ∷ []) }
         ensures refused { IfErr result (λ asked. asked ≡ 1) }
     {
         let line = match reading {

@@ -2,7 +2,7 @@
 use Rattle.std.proofs.Common.{◌≡◌, ℕ, zero, suc, ◌+◌, ◌≤◌, List, [], ◌∷◌, Bool, Option, Some, None, drop, map, refl, sym, ap, ◌∙◌, arith, leb-true, leb-false}
 use Rattle.std.specs.Prelude.{false, true, slice_get, nat_le, option_map}
 use Rattle.std.proofs.lemmas.Option.{slice_get-map}
-use Rattle.evm_bus.specs.Bus.{AreIdleFrom, tick, tick_device}
+use Rattle.evm_bus.specs.Bus.{AreIdleFrom, tick_bus, tick_bus_device}
 use Rattle.evm_dev.specs.Attached.{Attached}
 use Rattle.evm_dev.specs.Rows.{ticked}
 use Rattle.evm_dev.specs.Touched.{Ticked}
@@ -21,13 +21,13 @@ use Rattle.evm_board.proofs.Accesses.{line-ticks}
 abbrev pub one_ticked : ℕ → Attached → Attached
 one_ticked i device = device_ticked device
 
-ticked-some : (o : Option Attached) (i : ℕ) (devices : List Attached) → slice_get devices i ≡ o → (tick_device o i devices).0 ≡ change device_ticked devices i
+ticked-some : (o : Option Attached) (i : ℕ) (devices : List Attached) → slice_get devices i ≡ o → (tick_bus_device o i devices).0 ≡ change device_ticked devices i
 ticked-some None i devices e = ap (λ (o : Option Attached). change_some o device_ticked devices i) (sym e)
 ticked-some (Some device) i devices e =
     ap (λ (o : Option Attached). change_some o (λ d. record d { words = (ticked device.kind device.words).words }) devices i) e
     ∙ ap (λ (o : Option Attached). change_some o device_ticked devices i) (sym e)
 
-pub ticked-more : (i : ℕ) (devices : List Attached) → (tick i (changed_below one_ticked i devices)).0 ≡ changed_below one_ticked (i + 1) devices
+pub ticked-more : (i : ℕ) (devices : List Attached) → (tick_bus i (changed_below one_ticked i devices)).0 ≡ changed_below one_ticked (i + 1) devices
 ticked-more i devices =
     ticked-some (slice_get (changed_below one_ticked i devices) i) i (changed_below one_ticked i devices) refl ∙ sym (changed_below-more one_ticked i devices)
 
@@ -52,7 +52,7 @@ abbrev raises_at : Option Attached → ℕ → Parts → Parts
 raises_at None i k = k
 raises_at (Some device) i k = raise_line (line_if (ticked device.kind device.words).raise i) k
 
-tick-raises : (o : Option Attached) (i : ℕ) (devices : List Attached) (k : Parts) → raise_line (line_if (tick_device o i devices).1 i) k ≡ raises_at o i k
+tick-raises : (o : Option Attached) (i : ℕ) (devices : List Attached) (k : Parts) → raise_line (line_if (tick_bus_device o i devices).1 i) k ≡ raises_at o i k
 tick-raises None i devices k = refl
 tick-raises (Some device) i devices k = refl
 
@@ -68,11 +68,11 @@ rest-more n zero (device ∷ devices) k = refl
 rest-more n (suc i) (device ∷ devices) k = rest-more n i devices k
 
 pub raised-more : (i : ℕ) (devices : List Attached) (k : Parts)
-    → left_to_raise i devices k ≡ left_to_raise (i + 1) devices (raise_line (line_if (tick i (changed_below one_ticked i devices)).1 i) k)
+    → left_to_raise i devices k ≡ left_to_raise (i + 1) devices (raise_line (line_if (tick_bus i (changed_below one_ticked i devices)).1 i) k)
 raised-more i devices k =
     let seen : List Attached = changed_below one_ticked i devices in
     let one : suc i ≡ i + 1 = omega arith in
-    let here : raise_line (line_if (tick i seen).1 i) k ≡ raises_at (slice_get devices i) i k =
+    let here : raise_line (line_if (tick_bus i seen).1 i) k ≡ raises_at (slice_get devices i) i k =
     tick-raises (slice_get seen i) i seen k ∙ ap (λ (o : Option Attached). raises_at o i k) (changed_below-unreached one_ticked i i devices (omega arith)) in
     rest-more i i devices k
     ∙ ap (λ (j : ℕ). left_to_raise j devices (raises_at (slice_get devices i) i k)) one
@@ -111,13 +111,13 @@ once-more : (i : ℕ) (b x new : Board) → x ≡ seen i b x.parts → new ≡ t
 once-more i b x new was is = is ∙ ap (ticked_once i) was
 
 pub parts-more : (i : ℕ) (b x new : Board) → x ≡ seen i b x.parts → new ≡ ticked_once i x
-    → new.parts ≡ raise_line (line_if (tick i (changed_below one_ticked i b.memory.devices)).1 i) x.parts
+    → new.parts ≡ raise_line (line_if (tick_bus i (changed_below one_ticked i b.memory.devices)).1 i) x.parts
 parts-more i b x new was is = ap (λ (y : Board). y.parts) (once-more i b x new was is)
 
 pub seen-more : (i : ℕ) (b x new : Board) → x ≡ seen i b x.parts → new ≡ ticked_once i x → new ≡ seen (i + 1) b new.parts
 unfolding with_devices
 seen-more i b x new was is =
-    let k : Parts = raise_line (line_if (tick i (changed_below one_ticked i b.memory.devices)).1 i) x.parts in
+    let k : Parts = raise_line (line_if (tick_bus i (changed_below one_ticked i b.memory.devices)).1 i) x.parts in
     once-more i b x new was is ∙ ap (with_devices b k) (ticked-more i b.memory.devices) ∙ ap (λ (p : Parts). seen (i + 1) b p) (sym (parts-more i b x new was is))
 
 pub lines-more : (i : ℕ) (b x new : Board) → x ≡ seen i b x.parts → new ≡ ticked_once i x → raise_by_ticks 0 b.memory.devices b.parts ≡ left_to_raise i b.memory.devices x.parts

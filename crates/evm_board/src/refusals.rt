@@ -1,7 +1,7 @@
 ghost use Rattle.std.specs.Prelude.{◌≡◌, if◌then◌else◌, not, Option, length};
 ghost use Rattle.evm_model.specs.Commands.{is_set};
 ghost use Rattle.evm_model.specs.Event.{event_lent};
-ghost use Rattle.evm_model.specs.Refusals.{board_refusal, no_such_cpu, no_such_line, not_stopped, no_task, bad_register, misaligned, bad_bytes, bad_place, no_slot};
+ghost use Rattle.evm_model.specs.Refusals.{board_refusal, no_such_cpu, no_such_line, not_stopped, runs_no_task, bad_register, misaligned, bad_bytes, bad_place, no_slot};
 
 use crate::board::Board;
 use evm_dev::Device;
@@ -38,7 +38,7 @@ impl<D: Device> Board<D> {
     }
 
     fn is_idle(&self, c: u8) -> bool
-        ensures { result ≡ no_task c self.now }
+        ensures { result ≡ runs_no_task c self.now }
     {
         self.parts.current(c).is_none()
     }
@@ -98,7 +98,7 @@ impl<D: Device> Board<D> {
     }
 
     fn register_refusal(&self, c: u8, r: u8) -> Option<Refusal>
-        ensures { result ≡ (if no_such_cpu c self.now then Option.Some Refusal.NoSuchCpu else (if not_stopped c self.now then Option.Some Refusal.NotStopped else (if no_task c self.now then Option.Some Refusal.NoTask else (if bad_register r then Option.Some Refusal.BadRegister else Option.None)))) }
+        ensures { result ≡ (if no_such_cpu c self.now then Option.Some Refusal.NoSuchCpu else (if not_stopped c self.now then Option.Some Refusal.NotStopped else (if runs_no_task c self.now then Option.Some Refusal.NoTask else (if bad_register r then Option.Some Refusal.BadRegister else Option.None)))) }
     {
         if self.lacks_cpu(c) {
             Some(Refusal::NoSuchCpu)
@@ -114,7 +114,7 @@ impl<D: Device> Board<D> {
     }
 
     fn pc_refusal(&self, c: u8, pc: u64) -> Option<Refusal>
-        ensures { result ≡ (if no_such_cpu c self.now then Option.Some Refusal.NoSuchCpu else (if not_stopped c self.now then Option.Some Refusal.NotStopped else (if no_task c self.now then Option.Some Refusal.NoTask else (if misaligned pc then Option.Some Refusal.BadAddress else Option.None)))) }
+        ensures { result ≡ (if no_such_cpu c self.now then Option.Some Refusal.NoSuchCpu else (if not_stopped c self.now then Option.Some Refusal.NotStopped else (if runs_no_task c self.now then Option.Some Refusal.NoTask else (if misaligned pc then Option.Some Refusal.BadAddress else Option.None)))) }
     {
         if self.lacks_cpu(c) {
             Some(Refusal::NoSuchCpu)

@@ -4,7 +4,7 @@ use Rattle.std.specs.Prelude.{nat_lt, if◌then◌else◌, slice_get}
 use Rattle.std.proofs.lemmas.Bool.{cases_lt}
 use Rattle.std.proofs.lemmas.Bool.Decides.{nat_tests, eqb_tells}
 use Rattle.std.proofs.Math.Nat.{eq-or-lt_of_le}
-use Rattle.evm_boost.specs.Lent.{first_waiting, rank_of, lent, lent_of, lent_by}
+use Rattle.evm_boost.specs.Lent.{first_waiting, rank_of, lent_rank, lent_of, lent_by}
 use Rattle.evm_boost.specs.Scheduled.{Scheduled, AreEntered}
 use Rattle.evm_model.specs.Mutexes.{owner, boosts, heir_for, heir_of, lock_at, lock_of, lock_of_task, owner_of, ceiling_owner, ceiling_owner_of, ceiling, ceiling_of, ceiling_by}
 use Rattle.evm_model.specs.Ranks.{class_rank_of, first, leader, goes_before, own_rank, stamp}
@@ -206,24 +206,24 @@ heir-some mutexes (Some m) t e = (m, refl, e)
 
 -- ---- so the rank that a task has by its mutexes is the one that follows from its own and its boosters'
 pub lent-is : (s : Scheduled) (mutexes : List Mutex) (tasks : List Task) (t : ℕ) → AreEntered s tasks
-    → greatest (owner mutexes) (lent s mutexes) t (class_rank_of (slice_get tasks t)) (length mutexes)
+    → greatest (owner mutexes) (lent_rank s mutexes) t (class_rank_of (slice_get tasks t)) (length mutexes)
     ≡ greatest (boosts mutexes tasks) (listed_rank s.ranks) t (own_rank mutexes tasks t) (length tasks)
 unfolding own_rank
 lent-is s mutexes tasks t are =
     let class = class_rank_of (slice_get tasks t) in
     let own = greatest (ceiling_owner mutexes) (ceiling mutexes) t class (length mutexes) in
-    let by_mutex = greatest (owner mutexes) (lent s mutexes) t class (length mutexes) in
+    let by_mutex = greatest (owner mutexes) (lent_rank s mutexes) t class (length mutexes) in
     let by_task = greatest (boosts mutexes tasks) (listed_rank s.ranks) t own (length tasks) in
     let own-low : own ≤ by_task = greatest-first (boosts mutexes tasks) (listed_rank s.ranks) t own (length tasks) in
     let class-low : class ≤ own = greatest-first (ceiling_owner mutexes) (ceiling mutexes) t class (length mutexes) in
     let most : by_mutex ≤ by_task =
-    greatest-least (owner mutexes) (lent s mutexes) t class (length mutexes) by_task (omega (arith, own-low, class-low))
+    greatest-least (owner mutexes) (lent_rank s mutexes) t class (length mutexes) by_task (omega (arith, own-low, class-low))
     (λ m less owns. ceiling-case s tasks m t by_task (slice_get mutexes m) are owns
     (λ e. let high = greatest-booster (ceiling_owner mutexes) (ceiling mutexes) t class (length mutexes) m less e in omega (arith, high, own-low))
     (λ u below lock heir. greatest-booster (boosts mutexes tasks) (listed_rank s.ranks) t own (length tasks) u below (rw lock heir))) in
     let own-most : own ≤ by_mutex =
-    greatest-least (ceiling_owner mutexes) (ceiling mutexes) t class (length mutexes) by_mutex (greatest-first (owner mutexes) (lent s mutexes) t class (length mutexes))
-    (λ m less e. let lends = lent-ceiling s m t (slice_get mutexes m) e in rw (← lends.1) (greatest-booster (owner mutexes) (lent s mutexes) t class (length mutexes) m less lends.0)) in
+    greatest-least (ceiling_owner mutexes) (ceiling mutexes) t class (length mutexes) by_mutex (greatest-first (owner mutexes) (lent_rank s mutexes) t class (length mutexes))
+    (λ m less e. let lends = lent-ceiling s m t (slice_get mutexes m) e in rw (← lends.1) (greatest-booster (owner mutexes) (lent_rank s mutexes) t class (length mutexes) m less lends.0)) in
     let least : by_task ≤ by_mutex =
     greatest-least (boosts mutexes tasks) (listed_rank s.ranks) t own (length tasks) by_mutex own-most
     (λ u below e.
@@ -231,7 +231,7 @@ lent-is s mutexes tasks t are =
     let lends = lent-heir s found.0 t (slice_get mutexes found.0) found.2 in
     let less : found.0 < length mutexes = owner-below mutexes found.0 t lends.0 in
     let waits = waiter-most s tasks found.0 u are below found.1 in
-    let high : lent s mutexes found.0 ≤ by_mutex = greatest-booster (owner mutexes) (lent s mutexes) t class (length mutexes) found.0 less lends.0 in
-    let lent-by : lent s mutexes found.0 ≡ rank_of s.ranks (first_waiting s (Lock found.0)) = lends.1 in
+    let high : lent_rank s mutexes found.0 ≤ by_mutex = greatest-booster (owner mutexes) (lent_rank s mutexes) t class (length mutexes) found.0 less lends.0 in
+    let lent-by : lent_rank s mutexes found.0 ≡ rank_of s.ranks (first_waiting s (Lock found.0)) = lends.1 in
     omega (arith, waits, high, lent-by)) in
     omega (arith, most, least)

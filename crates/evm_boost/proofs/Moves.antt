@@ -5,7 +5,7 @@ use Rattle.std.proofs.lemmas.Bool.Decides.{eqb_tells}
 use Rattle.std.proofs.lemmas.List.{length-append}
 use Rattle.evm_boost.proofs.Entries.{entered-by, entered-change, entered-push, entered-same}
 use Rattle.evm_boost.proofs.Settled.{away, scheduled-settled, settling, sound-falls, sound-fewer}
-use Rattle.evm_boost.specs.Scheduled.{Scheduled, IsScheduled, IsSound}
+use Rattle.evm_boost.specs.Scheduled.{Scheduled, IsScheduled, AreSoundBoosts}
 use Rattle.evm_boost.specs.Settling.{entered_as, IsOpen, IsRelinked, IsSettling, stamped}
 use Rattle.evm_mending.proofs.Relinks.{relink-keeps}
 use Rattle.evm_mending.specs.Mending.{no_task, with_task}
@@ -124,7 +124,7 @@ relink-links mutexes tasks new t u v before heir others boosted now out also = e
   | inr g ↦ ap (λ (o : Option ℕ). is_number o u) (sym (others v g.1))
 ]
 
-relink-inside : (mutexes : List Mutex) (tasks new : List Task) (t : ℕ) (heir : Option ℕ) → IsSound mutexes tasks → length new ≡ length tasks
+relink-inside : (mutexes : List Mutex) (tasks new : List Task) (t : ℕ) (heir : Option ℕ) → AreSoundBoosts mutexes tasks → length new ≡ length tasks
     → ((x : ℕ) → (x ≡ t → ⊥) → boosts mutexes new x ≡ boosts mutexes tasks x) → heir ≡ boosts mutexes new t → ((u : ℕ) → heir ≡ Some u → u < length new)
     → (u v : ℕ) → boosts mutexes new u ≡ Some v → v < length new
 relink-inside mutexes tasks new t heir is count others now low u v e = elim (eqb_tells u t) [
@@ -136,8 +136,8 @@ other-number : (x t : ℕ) → (x == t) ≡ false → (x ≡ t → ⊥)
 other-number x t e same = let yes : (x == t) ≡ true = rw same (eq-eqb t t refl) in let no : true ≡ false = sym yes ∙ e in cc
 
 -- it closes no chain
-relink-sound : (mutexes : List Mutex) (tasks new : List Task) (t : ℕ) (heir : Option ℕ) → IsSound mutexes tasks → length new ≡ length tasks
-    → ((x : ℕ) → (x ≡ t → ⊥) → boosts mutexes new x ≡ boosts mutexes tasks x) → heir ≡ boosts mutexes new t → ((u : ℕ) → heir ≡ Some u → IsOpen mutexes new t u) → IsSound mutexes new
+relink-sound : (mutexes : List Mutex) (tasks new : List Task) (t : ℕ) (heir : Option ℕ) → AreSoundBoosts mutexes tasks → length new ≡ length tasks
+    → ((x : ℕ) → (x ≡ t → ⊥) → boosts mutexes new x ≡ boosts mutexes tasks x) → heir ≡ boosts mutexes new t → ((u : ℕ) → heir ≡ Some u → IsOpen mutexes new t u) → AreSoundBoosts mutexes new
 relink-sound mutexes tasks new t None is count others now opens =
     sound-fewer mutexes mutexes tasks new (omega (arith, count)) is
     (λ u v e. elim (eqb_tells u t) [

@@ -8,8 +8,8 @@ use Rattle.evm_boost.proofs.Lending.{first-nobody}
 use Rattle.evm_boost.proofs.Moves.{out-first, out-second, out-other, slice_get-other}
 use Rattle.evm_boost.proofs.Settled.{heir-owns, settling, sound-fewer, sound-free}
 use Rattle.evm_boost.specs.Lent.{first_waiting}
-use Rattle.evm_boost.specs.Scheduled.{Scheduled, AreEntered, IsScheduled, IsSound}
-use Rattle.evm_boost.specs.Settling.{IsCalm, IsFree, IsIdle, IsSettling}
+use Rattle.evm_boost.specs.Scheduled.{Scheduled, AreEntered, IsScheduled, AreSoundBoosts}
+use Rattle.evm_boost.specs.Settling.{IsCalm, BoostsNobody, RaisesNobody, IsSettling}
 use Rattle.evm_mending.proofs.Least.{greatest-links}
 use Rattle.evm_mending.specs.Mending.{no_task, with_task}
 use Rattle.evm_model.proofs.Lists.{change-elsewhere, change-here, length-change}
@@ -102,7 +102,7 @@ own-same mutexes others tasks u count links same =
 pub pass-settling : (rest : ℕ → Bool) (g : Mutex → Mutex) (s next : Scheduled) (mutexes others : List Mutex) (tasks : List Task) (m : ℕ) → KeepsProtocols g
     → IsScheduled s mutexes tasks → others ≡ change g mutexes m
     → next.places ≡ s.places → next.waiters ≡ s.waiters → next.ranks ≡ s.ranks
-    → (next.sound ≡ true → s.sound ≡ true) → (next.sound ≡ true → IsSound others tasks)
+    → (next.sound ≡ true → s.sound ≡ true) → (next.sound ≡ true → AreSoundBoosts others tasks)
     → ((u : ℕ) → rest u ≡ false → (owner mutexes m ≡ Some u → ⊥) × (owner (change g mutexes m) m ≡ Some u → ⊥))
     → IsSettling rest next others tasks
 pass-settling rest g s next mutexes others tasks m keeps is e place waiter ranks was sound apart =
@@ -131,7 +131,7 @@ hold-to mutexes tasks m t count u v (Some n) e = elim (eqb_tells n m) [
 pub hold-settling : (s next : Scheduled) (mutexes others : List Mutex) (tasks : List Task) (m t count : ℕ) (before : Option ℕ)
     → IsScheduled s mutexes tasks → others ≡ change (held_by t count) mutexes m → before ≡ owner mutexes m
     → next.places ≡ s.places → next.waiters ≡ s.waiters → next.ranks ≡ s.ranks
-    → (next.sound ≡ true → s.sound ≡ true) → (next.sound ≡ true → IsFree others tasks t)
+    → (next.sound ≡ true → s.sound ≡ true) → (next.sound ≡ true → BoostsNobody others tasks t)
     → IsSettling (with_task before (with_task (Some t) no_task)) next others tasks
 hold-settling s next mutexes others tasks m t count before is e was_owner place waiter ranks was free =
     pass-settling (with_task before (with_task (Some t) no_task)) (held_by t count) s next mutexes others tasks m (λ mutex. refl) is e place waiter ranks was
@@ -219,7 +219,7 @@ idle-heir : (g : Mutex → Mutex) (s : Scheduled) (m : ℕ) (o : Option Mutex) �
 idle-heir g s m None alone = inr refl
 idle-heir g s m (Some mutex) alone = inl (alone mutex refl)
 
-pub idle-as : (g : Mutex → Mutex) (s : Scheduled) (mutexes : List Mutex) (m : ℕ) → KeepsProtocols g → IsIdle s mutexes m → IsAsIdle s mutexes (change g mutexes m) m
+pub idle-as : (g : Mutex → Mutex) (s : Scheduled) (mutexes : List Mutex) (m : ℕ) → KeepsProtocols g → RaisesNobody s mutexes m → IsAsIdle s mutexes (change g mutexes m) m
 idle-as g s mutexes m keeps idle = record {
   heir = rw (change-here g mutexes m) (idle-heir g s m (slice_get mutexes m) idle.alone);
   raises = ap ceiling_owner_of (change-here g mutexes m) ∙ idle-raises g (slice_get mutexes m) keeps idle.inherits;

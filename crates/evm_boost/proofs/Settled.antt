@@ -4,7 +4,7 @@ use Rattle.std.specs.Prelude.{◌==◌, if◌then◌else◌, slice_get}
 use Rattle.std.proofs.lemmas.Bool.Decides.{eqb_tells}
 use Rattle.evm_boost.proofs.Entries.{entered-rank}
 use Rattle.evm_boost.specs.Scatter.{AreRanks}
-use Rattle.evm_boost.specs.Scheduled.{Scheduled, AreEntered, IsScheduled, IsSound}
+use Rattle.evm_boost.specs.Scheduled.{Scheduled, AreEntered, IsScheduled, AreSoundBoosts}
 use Rattle.evm_boost.specs.Settling.{IsSettling}
 use Rattle.evm_model.proofs.Lists.{change-here, change-elsewhere, slice_get-within}
 use Rattle.evm_model.specs.Lists.{change}
@@ -125,7 +125,7 @@ settled-over rest s mutexes tasks from link o over few way is =
 
 -- ---- what a change leaves to be mended
 pub settling : (rest : ℕ → Bool) (s next : Scheduled) (mutexes others : List Mutex) (tasks new : List Task) → IsScheduled s mutexes tasks → AreEntered next new
-    → next.ranks ≡ s.ranks → length new ≡ length tasks → (next.sound ≡ true → s.sound ≡ true) → (next.sound ≡ true → IsSound others new)
+    → next.ranks ≡ s.ranks → length new ≡ length tasks → (next.sound ≡ true → s.sound ≡ true) → (next.sound ≡ true → AreSoundBoosts others new)
     → (next.sound ≡ true → (u : ℕ) → rest u ≡ false → own_rank others new u ≡ own_rank mutexes tasks u)
     → (next.sound ≡ true → (u v : ℕ) → rest u ≡ false → is_number (boosts mutexes tasks v) u ≡ is_number (boosts others new v) u)
     → IsSettling rest next others new
@@ -140,8 +140,8 @@ settling rest s next mutexes others tasks new is entered ranks count was sound o
 
 -- ---- chains that don't close
 -- links fewer
-pub sound-fewer : (mutexes others : List Mutex) (tasks new : List Task) → length tasks ≤ length new → IsSound mutexes tasks
-    → ((u v : ℕ) → boosts others new u ≡ Some v → boosts mutexes tasks u ≡ Some v) → IsSound others new
+pub sound-fewer : (mutexes others : List Mutex) (tasks new : List Task) → length tasks ≤ length new → AreSoundBoosts mutexes tasks
+    → ((u v : ℕ) → boosts others new u ≡ Some v → boosts mutexes tasks u ≡ Some v) → AreSoundBoosts others new
 sound-fewer mutexes others tasks new more is part = record {
   height = fewer-keeps (boosts mutexes tasks) (boosts others new) TASK_LIMIT is.height part;
   inside = λ u v e. let less = is.inside u v (part u v e) in omega (arith, less, more);
@@ -149,15 +149,15 @@ sound-fewer mutexes others tasks new more is part = record {
 
 -- something falls along each link, and each leads to a task
 pub sound-falls : (mutexes : List Mutex) (tasks : List Task) → length tasks ≤ TASK_LIMIT → ((u t : ℕ) → boosts mutexes tasks u ≡ Some t → t < length tasks)
-    → Falls (boosts mutexes tasks) → IsSound mutexes tasks
+    → Falls (boosts mutexes tasks) → AreSoundBoosts mutexes tasks
 sound-falls mutexes tasks few inside falls = record {
   height = limit-more (boosts mutexes tasks) (length tasks) TASK_LIMIT few (falls-low (boosts mutexes tasks) (length tasks) inside falls);
   inside = inside;
 }
 
 -- links into a task that boosts nobody
-pub sound-free : (mutexes others : List Mutex) (tasks : List Task) (t : ℕ) → length tasks ≤ TASK_LIMIT → t < length tasks → IsSound mutexes tasks → boosts others tasks t ≡ None
-    → ((u v : ℕ) → boosts others tasks u ≡ Some v → (v ≡ t) ⊎ (boosts mutexes tasks u ≡ Some v)) → IsSound others tasks
+pub sound-free : (mutexes others : List Mutex) (tasks : List Task) (t : ℕ) → length tasks ≤ TASK_LIMIT → t < length tasks → AreSoundBoosts mutexes tasks → boosts others tasks t ≡ None
+    → ((u v : ℕ) → boosts others tasks u ≡ Some v → (v ≡ t) ⊎ (boosts mutexes tasks u ≡ Some v)) → AreSoundBoosts others tasks
 sound-free mutexes others tasks t few less is none to =
     sound-falls others tasks few
     (λ u v e. elim (to u v e) [ inl same ↦ omega (arith, same, less) | inr was ↦ is.inside u v was ])

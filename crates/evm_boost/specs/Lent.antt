@@ -33,5 +33,5 @@ lent_of s m None = 0
 lent_of s m (Some mutex) = lent_by s m mutex.protocol
 
 -- the rank that mutex m lends to its owner: of its first waiter, or of its ceiling
-abbrev pub lent : Scheduled → List Mutex → ℕ → ℕ
-lent s mutexes m = lent_of s m (slice_get mutexes m)
+abbrev pub lent_rank : Scheduled → List Mutex → ℕ → ℕ
+lent_rank s mutexes m = lent_of s m (slice_get mutexes m)

@@ -26,7 +26,7 @@ pub record AreEntered (s : Scheduled) (tasks : List Task) : Type 0 where
   pub count : length s.ranks ≡ length tasks
 
 -- no chain of boosts closes, and each leads to a task
-pub record IsSound (mutexes : List Mutex) (tasks : List Task) : Type 0 where
+pub record AreSoundBoosts (mutexes : List Mutex) (tasks : List Task) : Type 0 where
   pub height : HasHeight (boosts mutexes tasks) TASK_LIMIT
   pub inside : (u t : ℕ) → boosts mutexes tasks u ≡ Some t → t < length tasks
 
@@ -34,4 +34,4 @@ pub record IsSound (mutexes : List Mutex) (tasks : List Task) : Type 0 where
 pub record IsScheduled (s : Scheduled) (mutexes : List Mutex) (tasks : List Task) : Type 0 where
   pub entered : AreEntered s tasks
   pub ranks : AreRanks s.ranks mutexes tasks
-  pub sound : s.sound ≡ true → IsSound mutexes tasks
+  pub sound : s.sound ≡ true → AreSoundBoosts mutexes tasks

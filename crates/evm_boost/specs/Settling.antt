@@ -1,7 +1,7 @@
 -- Ranks on the way from one schedule to the next: at which tasks they may still be wrong.
 use Rattle.std.specs.Prelude.{◌≡◌, ℕ, ◌<◌, ◌≤◌, List, Option, Some, None, Bool, true, false, ◌⊎◌, length, slice_get}
 use Rattle.evm_boost.specs.Lent.{first_waiting}
-use Rattle.evm_boost.specs.Scheduled.{Scheduled, AreEntered, IsScheduled, IsSound}
+use Rattle.evm_boost.specs.Scheduled.{Scheduled, AreEntered, IsScheduled, AreSoundBoosts}
 use Rattle.evm_model.specs.Lists.{change}
 use Rattle.evm_model.specs.Mutexes.{boosts, owner, waits_on}
 use Rattle.evm_model.specs.Ranks.{own_rank}
@@ -26,7 +26,7 @@ stamped stamp task = record task { stamp = stamp }
 -- each task has its entries, and while no chain closes each but the rest has the rank that follows from its boosters'
 pub record IsSettling (rest : ℕ → Bool) (s : Scheduled) (mutexes : List Mutex) (tasks : List Task) : Type 0 where
   pub entered : AreEntered s tasks
-  pub sound : s.sound ≡ true → IsSound mutexes tasks
+  pub sound : s.sound ≡ true → AreSoundBoosts mutexes tasks
   pub settled : s.sound ≡ true → IsSettledBut rest (boosts mutexes tasks) (own_rank mutexes tasks) (length tasks) (listed_rank s.ranks)
 
 -- task t, which boosted this one before, may boost another now; its rank is as before
@@ -49,16 +49,16 @@ pub record IsOpen (mutexes : List Mutex) (tasks : List Task) (t u : ℕ) : Type 
   pub away : reaches (waits_on mutexes tasks) t TASK_LIMIT (Some u) ≡ false
 
 -- task t, which is there, may be boosted: it boosts nobody
-pub record IsFree (mutexes : List Mutex) (tasks : List Task) (t : ℕ) : Type 0 where
+pub record BoostsNobody (mutexes : List Mutex) (tasks : List Task) (t : ℕ) : Type 0 where
   pub few : length tasks ≤ TASK_LIMIT
   pub below : t < length tasks
   pub alone : boosts mutexes tasks t ≡ None
 
 -- mutex m, if there is one, raises nobody: it is one of inheritance, and no task waits for it
-pub record IsIdle (s : Scheduled) (mutexes : List Mutex) (m : ℕ) : Type 0 where
+pub record RaisesNobody (s : Scheduled) (mutexes : List Mutex) (m : ℕ) : Type 0 where
   pub inherits : (mutex : Mutex) → slice_get mutexes m ≡ Some mutex → mutex.protocol ≡ Inheritance
   pub alone : (mutex : Mutex) → slice_get mutexes m ≡ Some mutex → first_waiting s (Lock m) ≡ None
 
 -- no rank changes where task t has mutex m: it has it already, or the mutex raises nobody
 abbrev pub IsCalm : Scheduled → List Mutex → ℕ → ℕ → Type 0
-IsCalm s mutexes m t = (owner mutexes m ≡ Some t) ⊎ IsIdle s mutexes m
+IsCalm s mutexes m t = (owner mutexes m ≡ Some t) ⊎ RaisesNobody s mutexes m

@@ -3,7 +3,7 @@
 ghost use Rattle.std.specs.Prelude.{◌≡◌, ◌<◌, ◌≤◌, ◌++◌, [], ◌∷◌, true, false, Some, None, List, Option, length, slice_get, IfOk, IfErr, ℕ};
 ghost use Rattle.evm_boost.specs.Lent.{first_waiting};
 ghost use Rattle.evm_boost.specs.Scheduled.{IsScheduled};
-ghost use Rattle.evm_boost.specs.Settling.{entered_as, IsCalm, IsFree, IsIdle, IsOpen, IsRelinked, stamped};
+ghost use Rattle.evm_boost.specs.Settling.{entered_as, IsCalm, BoostsNobody, RaisesNobody, IsOpen, IsRelinked, stamped};
 ghost use Rattle.evm_model.specs.Lists.{change};
 ghost use Rattle.evm_model.specs.Mutexes.{boosts, freed, heir_by, held_by, waits_on};
 ghost use Rattle.evm_model.specs.Ranks.{best, first, next_in_band, rank, stamp};
@@ -110,7 +110,7 @@ impl Schedule {
     // Whether chains stay open where a task that is there boosts nobody.
     fn is_free(&self, mutexes: &Mutexes, tasks: &Tasks, t: u8) -> bool
         ensures sound { result ≡ true → self.now.sound ≡ true }
-        ensures free { result ≡ true → IsFree mutexes.now tasks.now t }
+        ensures free { result ≡ true → BoostsNobody mutexes.now tasks.now t }
     {
         self.sound && t < tasks.count() && is_nobody(mutexes.boosts(tasks, t))
     }
@@ -302,7 +302,7 @@ impl Schedule {
 
     // Whether a mutex raises nobody, whoever owns it: it is one of inheritance, and no task waits for it.
     fn is_idle(&self, mutexes: &Mutexes, m: u8) -> bool
-        ensures { result ≡ true → IsIdle self.now mutexes.now m }
+        ensures { result ≡ true → RaisesNobody self.now mutexes.now m }
     {
         let Some(mutex) = mutexes.get(m) else {
             return true;

@@ -1,7 +1,7 @@
 //! How the ranks that are kept follow a change: by walks along the links that it touches, and no others.
 
 ghost use Rattle.std.specs.Prelude.{◌≡◌, ◌<◌, ◌≤◌, true, false, length, ℕ, Bool};
-ghost use Rattle.evm_boost.specs.Lent.{first_waiting, lent, lent_by, rank_of};
+ghost use Rattle.evm_boost.specs.Lent.{first_waiting, lent_rank, lent_by, rank_of};
 ghost use Rattle.evm_boost.specs.Scatter.{class_rank_at, AreRanks};
 ghost use Rattle.evm_boost.specs.Scheduled.{AreEntered, IsScheduled};
 ghost use Rattle.evm_boost.specs.Settling.{IsSettling};
@@ -31,8 +31,8 @@ impl Schedule {
     }
 
     // The rank that a mutex lends to its owner: of its first waiter, or of its ceiling.
-    fn lent(&self, mutexes: &Mutexes, m: u8) -> u16
-        ensures { result ≡ lent self.now mutexes.now m }
+    fn lent_rank(&self, mutexes: &Mutexes, m: u8) -> u16
+        ensures { result ≡ lent_rank self.now mutexes.now m }
     {
         let Some(mutex) = mutexes.get(m) else {
             return 0;
@@ -45,12 +45,12 @@ impl Schedule {
 
     // The rank of a task, by its class and what its mutexes lend.
     fn rank_now(&self, mutexes: &Mutexes, tasks: &Tasks, t: u8) -> u16
-        ensures { result ≡ greatest (owner mutexes.now) (lent self.now mutexes.now) t (class_rank_at tasks.now t) (length mutexes.now) }
+        ensures { result ≡ greatest (owner mutexes.now) (lent_rank self.now mutexes.now) t (class_rank_at tasks.now t) (length mutexes.now) }
     {
         let mut rank = class_rank_at(tasks, t);
         let mut left = mutexes.owned(t);
         'lending: while let Some(m) = left.pop() {
-            rank = greater(rank, self.lent(mutexes, m));
+            rank = greater(rank, self.lent_rank(mutexes, m));
         }
         rank
     }

@@ -17,7 +17,7 @@ use Rattle.evm_model.specs.Good.{AreDevices}
 use Rattle.evm_model.specs.declared.limits.TheConstants.{DEVICE_LIMIT}
 use Rattle.evm_model.specs.Lists.{change, change_some}
 use Rattle.evm_model.proofs.Lists.{change-same, slice_get-set_other, slice_get-slice_set}
-use Rattle.evm_bus.specs.Bus.{AreIdleFrom, IsIdle, tick, tick_device, touch, touch_device, with_words}
+use Rattle.evm_bus.specs.Bus.{AreIdleFrom, IsIdle, tick_bus, tick_bus_device, touch_bus, touch_bus_device, bus_with_words}
 
 -- ---- one element of a list, as it is seen
 map-slice_set : {A : Type 0} {B : Type 0} (f : A → B) (xs : List A) (i : ℕ) (y : A) → map f (slice_set xs i y) ≡ slice_set (map f xs) i (f y)
@@ -34,7 +34,7 @@ same-device a b kind words =
 
 -- a device has other words
 with_words-at : {A : Type 0} (f : A → Attached) (xs : List A) (i : ℕ) (x y : A) (words : List ℕ) → slice_get xs i ≡ Some x → (f y).kind ≡ (f x).kind → (f y).words ≡ words
-    → map f (slice_set xs i y) ≡ with_words i words (map f xs)
+    → map f (slice_set xs i y) ≡ bus_with_words i words (map f xs)
 with_words-at f xs i x y words at kind is =
     let here : change (λ (device : Attached). record device { words = words }) (map f xs) i ≡ slice_set (map f xs) i (record (f x) { words = words }) =
     ap (λ (o : Option Attached). change_some o (λ (device : Attached). record device { words = words }) (map f xs) i) (seen-at f xs i x at) in
@@ -44,22 +44,22 @@ with_words-at f xs i x y words at kind is =
 -- ---- a touch
 pub touched-at : {A : Type 0} (f : A → Attached) (xs : List A) (i : ℕ) (x y : A) (op : Op) (register value : ℕ) (t : Touch) → slice_get xs i ≡ Some x
     → (f y).kind ≡ (f x).kind → (f y).words ≡ (touched (f x).kind op register value (f x).words).words → t ≡ (touched (f x).kind op register value (f x).words).touch
-    → ◌≡◌ {A = List Attached × Touch} (map f (slice_set xs i y), t) (touch i op register value (map f xs))
+    → ◌≡◌ {A = List Attached × Touch} (map f (slice_set xs i y), t) (touch_bus i op register value (map f xs))
 touched-at f xs i x y op register value t at kind words answer =
-    let here : touch i op register value (map f xs) ≡ touch_device (Some (f x)) i op register value (map f xs) =
-    ap (λ (o : Option Attached). touch_device o i op register value (map f xs)) (seen-at f xs i x at) in
+    let here : touch_bus i op register value (map f xs) ≡ touch_bus_device (Some (f x)) i op register value (map f xs) =
+    ap (λ (o : Option Attached). touch_bus_device o i op register value (map f xs)) (seen-at f xs i x at) in
     let all = with_words-at f xs i x y (touched (f x).kind op register value (f x).words).words at kind words in
-    let both : ◌≡◌ {A = List Attached × Touch} (map f (slice_set xs i y), t) (touch_device (Some (f x)) i op register value (map f xs)) = cc in
+    let both : ◌≡◌ {A = List Attached × Touch} (map f (slice_set xs i y), t) (touch_bus_device (Some (f x)) i op register value (map f xs)) = cc in
     both ∙ sym here
 
 -- ---- a tick
 pub ticked-at : {A : Type 0} (f : A → Attached) (xs : List A) (i : ℕ) (x y : A) (raise : Bool) → slice_get xs i ≡ Some x
     → (f y).kind ≡ (f x).kind → (f y).words ≡ (ticked (f x).kind (f x).words).words → raise ≡ (ticked (f x).kind (f x).words).raise
-    → ◌≡◌ {A = List Attached × Bool} (map f (slice_set xs i y), raise) (tick i (map f xs))
+    → ◌≡◌ {A = List Attached × Bool} (map f (slice_set xs i y), raise) (tick_bus i (map f xs))
 ticked-at f xs i x y raise at kind words is =
-    let here : tick i (map f xs) ≡ tick_device (Some (f x)) i (map f xs) = ap (λ (o : Option Attached). tick_device o i (map f xs)) (seen-at f xs i x at) in
+    let here : tick_bus i (map f xs) ≡ tick_bus_device (Some (f x)) i (map f xs) = ap (λ (o : Option Attached). tick_bus_device o i (map f xs)) (seen-at f xs i x at) in
     let all = with_words-at f xs i x y (ticked (f x).kind (f x).words).words at kind words in
-    let both : ◌≡◌ {A = List Attached × Bool} (map f (slice_set xs i y), raise) (tick_device (Some (f x)) i (map f xs)) = cc in
+    let both : ◌≡◌ {A = List Attached × Bool} (map f (slice_set xs i y), raise) (tick_bus_device (Some (f x)) i (map f xs)) = cc in
     both ∙ sym here
 
 -- ---- no answer
@@ -110,24 +110,24 @@ unanswered-device device op register value none =
     ap (λ (words : List ℕ). record device { words = words }) same
 
 unanswered-by : (o : Option Attached) (i : ℕ) (op : Op) (register value : ℕ) (devices : List Attached) → slice_get devices i ≡ o
-    → (touch_device o i op register value devices).1.answer ≡ None → (touch_device o i op register value devices).0 ≡ devices
+    → (touch_bus_device o i op register value devices).1.answer ≡ None → (touch_bus_device o i op register value devices).0 ≡ devices
 unanswered-by None i op register value devices at none = refl
 unanswered-by (Some device) i op register value devices at none =
     change-same (λ (d : Attached). record d { words = (touched device.kind op register value device.words).words }) devices i
     (λ d there. let same : d ≡ device = let e : Some d ≡ Some device = sym there ∙ at in cc in subst (λ (x : Attached). record x { words = (touched device.kind op register value device.words).words } ≡ x) (sym same) (unanswered-device device op register value none))
 
 -- a touch without an answer changes nothing
-pub unanswered : (i : ℕ) (op : Op) (register value : ℕ) (devices new : List Attached) (t : Touch) → ◌≡◌ {A = List Attached × Touch} (new, t) (touch i op register value devices)
+pub unanswered : (i : ℕ) (op : Op) (register value : ℕ) (devices new : List Attached) (t : Touch) → ◌≡◌ {A = List Attached × Touch} (new, t) (touch_bus i op register value devices)
     → t.answer ≡ None → new ≡ devices
 unanswered i op register value devices new t done none =
-    let answer : (touch i op register value devices).1.answer ≡ None = ap (λ (x : List Attached × Touch). x.1.answer) (sym done) ∙ none in
+    let answer : (touch_bus i op register value devices).1.answer ≡ None = ap (λ (x : List Attached × Touch). x.1.answer) (sym done) ∙ none in
     ap (λ (x : List Attached × Touch). x.0) done ∙ unanswered-by (slice_get devices i) i op register value devices refl answer
 
 by-answer : (o : Option ℕ) (new devices : List Attached) → (o ≡ None → new ≡ devices) → IfNone o (new ≡ devices)
 by-answer None new devices h = h refl
 by-answer (Some answer) new devices h = tt
 
-pub unanswered-if : (i : ℕ) (op : Op) (register value : ℕ) (devices new : List Attached) (t : Touch) → ◌≡◌ {A = List Attached × Touch} (new, t) (touch i op register value devices)
+pub unanswered-if : (i : ℕ) (op : Op) (register value : ℕ) (devices new : List Attached) (t : Touch) → ◌≡◌ {A = List Attached × Touch} (new, t) (touch_bus i op register value devices)
     → IfNone t.answer (new ≡ devices)
 unanswered-if i op register value devices new t done = by-answer t.answer new devices (unanswered i op register value devices new t done)
 

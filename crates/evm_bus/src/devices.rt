@@ -1,5 +1,5 @@
 ghost use Rattle.std.specs.Prelude.{◌≡◌, ◌↔◌, ◌⊎◌, ◌+◌, true, ◌<◌, ◌≤◌, [], ◌∷◌, ◌++◌, length, map, nat_le, IfErr, IfNone, IfOk};
-ghost use Rattle.evm_bus.specs.Bus.{AreIdleFrom, IsIdle, tick, touch, word};
+ghost use Rattle.evm_bus.specs.Bus.{AreIdleFrom, IsIdle, tick_bus, touch_bus, bus_word};
 ghost use Rattle.evm_model.specs.Good.{AreDevices};
 
 use evm_dev::{Device, Kind, Op, Touch};
@@ -98,7 +98,7 @@ impl<D: Device> Devices<D> {
 
     /// A touch of a device's register; no answer if there is no such device.
     pub fn touch(&mut self, i: usize, op: Op, register: u8, value: u64) -> Touch
-        ensures done { (self.new, result) ≡ touch i op register value self.old }
+        ensures done { (self.new, result) ≡ touch_bus i op register value self.old }
         ensures unanswered { IfNone result.answer (self.new ≡ self.old) }
     {
         let Some(device) = self.items.get_mut(i) else {
@@ -111,7 +111,7 @@ impl<D: Device> Devices<D> {
 
     /// A tick of a device: whether it raises its line.
     pub fn tick(&mut self, i: usize) -> bool
-        ensures { (self.new, result) ≡ tick i self.old }
+        ensures { (self.new, result) ≡ tick_bus i self.old }
     {
         let Some(device) = self.items.get_mut(i) else {
             return false;
@@ -123,7 +123,7 @@ impl<D: Device> Devices<D> {
 
     /// A word of a device.
     pub fn word(&self, i: usize, k: usize) -> Option<u64>
-        ensures { result ≡ word i k self.now }
+        ensures { result ≡ bus_word i k self.now }
     {
         self.items.get(i)?.words(k)
     }

@@ -1,7 +1,7 @@
 //! The class and the priority of a task, and its mode bits.
 
 ghost use Rattle.std.specs.Prelude.{◌≡◌, ◌≤◌, IfSome};
-ghost use Rattle.evm_model.specs.InBandCalls.{attach, detach};
+ghost use Rattle.evm_model.specs.InBandCalls.{attach_task, detach};
 ghost use Rattle.evm_model.specs.OobCalls.{set_sched, set_mode};
 ghost use Rattle.evm_model.specs.Policies.{class_of, least_priority, policy_of};
 
@@ -44,9 +44,9 @@ pub fn policy_of(class: u64, priority: u64) -> Option<Class>
 
 /// Call 7: the task has a class and a priority; answers 0. -22 where there is no such class or it has no such
 /// priority, else -16 where the task has a class.
-#[tactic(auto, unfolding(evm_model::specs::InBandCalls::attach))]
+#[tactic(auto, unfolding(evm_model::specs::InBandCalls::attach_task))]
 pub fn attach(parts: &mut Parts, t: u8, class: u64, priority: u64) -> Outcome
-    ensures { (parts.new, result) ≡ attach t class priority parts.old }
+    ensures { (parts.new, result) ≡ attach_task t class priority parts.old }
 {
     let Some(wanted) = policy_of(class, priority) else {
         return refused(Errno::Invalid);

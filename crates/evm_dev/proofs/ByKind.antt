@@ -6,7 +6,7 @@ use Rattle.std.proofs.lemmas.List.{length-append, length-drop}
 use Rattle.std.specs.List.{AllByRecursion}
 use Rattle.evm_dev.specs.Console.{printed}
 use Rattle.evm_dev.specs.Mailbox.{last_words, oldest_taken}
-use Rattle.evm_dev.specs.Rows.{AreWords, registers, rows, ticked, touched}
+use Rattle.evm_dev.specs.Rows.{AreWords, register_count, rows, ticked, touched}
 use Rattle.evm_dev.specs.Touched.{Touched, answers, at_register, untouched}
 use Rattle.evm_dev.specs.declared.kind.TheConstants.{CONSOLE_LIMIT, MAILBOX_LIMIT}
 use Rattle.evm_dev.specs.declared.kind.Kind.{Kind}
@@ -34,14 +34,14 @@ three-rows : (op : Op) (value : ℕ) (words : List ℕ) → IsThree words → le
 three-rows Fetch value words (three a b c) = refl
 three-rows Put value words (three a b c) = refl
 
-length-rows : (kind : Kind) (op : Op) (value : ℕ) (words : List ℕ) → AreWords kind words → length (rows kind op value words) ≡ registers kind
+length-rows : (kind : Kind) (op : Op) (value : ℕ) (words : List ℕ) → AreWords kind words → length (rows kind op value words) ≡ register_count kind
 length-rows Console Fetch value words h = refl
 length-rows Console Put value words h = refl
 length-rows Mailbox Fetch value words h = refl
 length-rows Mailbox Put value words h = refl
 length-rows Pins op value words h = three-rows op value words (three_of words h)
 
-pub missing : (kind : Kind) (op : Op) (register value : ℕ) (words : List ℕ) → AreWords kind words → registers kind ≤ register
+pub missing : (kind : Kind) (op : Op) (register value : ℕ) (words : List ℕ) → AreWords kind words → register_count kind ≤ register
     → touched kind op register value words ≡ untouched words
 missing kind op register value words h k = past (rows kind op value words) register words (omega (arith, length-rows kind op value words h))
 
@@ -59,7 +59,7 @@ three-there Put (suc zero) value words (three a b c) h = refl
 three-there Put (suc (suc zero)) value words (three a b c) h = refl
 three-there Put (suc (suc (suc register))) value words (three a b c) h = absurd (omega arith)
 
-pub there : (kind : Kind) (op : Op) (register value : ℕ) (words : List ℕ) → AreWords kind words → register < registers kind
+pub there : (kind : Kind) (op : Op) (register value : ℕ) (words : List ℕ) → AreWords kind words → register < register_count kind
     → IsSome (touched kind op register value words).touch.answer
 there Console Fetch zero value words h k = refl
 there Console Put zero value words h k = refl

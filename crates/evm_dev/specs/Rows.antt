@@ -12,10 +12,10 @@ use Rattle.evm_dev.specs.declared.touch.Op.{Op}
 use Rattle.evm_dev.specs.declared.touch.Op.TheVariants.{Fetch, Put}
 
 -- how many registers a kind has, for fetches and for puts
-abbrev pub registers : Kind → ℕ
-registers Console = 1
-registers Mailbox = 2
-registers Pins = 3
+abbrev pub register_count : Kind → ℕ
+register_count Console = 1
+register_count Mailbox = 2
+register_count Pins = 3
 
 -- what a fetch does, and what a put of a value does: a row for each register of the kind, in order
 abbrev pub rows : Kind → Op → ℕ → List ℕ → List Touched

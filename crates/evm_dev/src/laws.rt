@@ -1,7 +1,7 @@
 //! Laws of the table of devices. A call does nothing.
 
 ghost use Rattle.std.specs.Prelude.{◌≡◌, ◌≢◌, ◌<◌, ◌≤◌, ℕ, List, true, Some, IsSome, slice_get};
-ghost use Rattle.evm_dev.specs.Rows.{AreWords, registers, ticked, touched};
+ghost use Rattle.evm_dev.specs.Rows.{AreWords, register_count, ticked, touched};
 ghost use Rattle.evm_dev.specs.Touched.{untouched};
 ghost use Rattle.evm_dev.specs.declared.kind.Kind.{Kind};
 ghost use Rattle.evm_dev.specs.declared.kind.Kind.TheVariants as kinds;
@@ -11,9 +11,9 @@ ghost use Rattle.evm_dev.specs.declared.touch.Op.TheVariants as ops;
 /// A touch of a register that the kind lacks changes nothing, and has no answer. A touch of any other register has one.
 pub fn missing_registers_do_nothing()
     ensures missing { (kind : Kind) (op : Op) (register value : ℕ) (words : List ℕ) → AreWords kind words →
-        registers kind ≤ register → touched kind op register value words ≡ untouched words }
+        register_count kind ≤ register → touched kind op register value words ≡ untouched words }
     ensures there { (kind : Kind) (op : Op) (register value : ℕ) (words : List ℕ) → AreWords kind words →
-        register < registers kind → IsSome (touched kind op register value words).touch.answer }
+        register < register_count kind → IsSome (touched kind op register value words).touch.answer }
 {}
 
 /// The words of a device stay words that its kind may have.

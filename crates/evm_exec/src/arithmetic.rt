@@ -5,7 +5,7 @@ ghost use Rattle.evm_exec.specs.Values.{
   word_value,
   immediate_value,
   shift_value,
-  taken,
+  is_taken,
 };
 
 use evm_isa::{BranchOp, ImmediateOp, RegisterOp, ShiftOp, WordOp};
@@ -99,9 +99,9 @@ pub fn on_words(op: WordOp, a: u64, b: u64) -> u64
 }
 
 #[inline(always)]
-#[tactic(auto, unfolding(crate::specs::Values::taken))]
+#[tactic(auto, unfolding(crate::specs::Values::is_taken))]
 pub fn is_taken(op: BranchOp, a: u64, b: u64) -> bool
-    ensures { result ≡ taken op a b }
+    ensures { result ≡ is_taken op a b }
 {
     match op {
         BranchOp::Beq => a == b,

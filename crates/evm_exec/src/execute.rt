@@ -1,5 +1,5 @@
 ghost use Rattle.std.specs.Prelude.{◌≡◌, IfSome, slice_index};
-ghost use Rattle.evm_exec.specs.Does.{does, hart_after, access_of, proceed, jump_to, branch_if, FitsWidth};
+ghost use Rattle.evm_exec.specs.Does.{does, hart_after, access_to_make, proceed, jump_to, branch_if, FitsWidth};
 
 use crate::arithmetic::{extend, is_taken, on_immediate, on_registers, on_shift, on_words};
 use crate::hart::Hart;
@@ -154,7 +154,7 @@ pub fn private(inst: &Inst, hart: &Hart) -> Option<Hart>
 
 /// The access to memory that a load or a store makes; None for any other instruction.
 pub fn access(inst: &Inst, hart: &Hart) -> Option<Access>
-    ensures { result ≡ access_of (does inst.now hart.now.regs hart.now.pc) }
+    ensures { result ≡ access_to_make (does inst.now hart.now.regs hart.now.pc) }
 {
     match effect(inst, hart) {
         Effect::Load { op, address, .. } => Some(Access {

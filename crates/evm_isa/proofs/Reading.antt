@@ -7,7 +7,7 @@ use Rattle.std.specs.Int.Bits.{bit_and}
 use Rattle.std.proofs.lemmas.Bool.Decides.{Decides-eqb}
 use Rattle.evm_isa.specs.Fields.{opcode_of, funct3_of}
 use Rattle.evm_isa.specs.Table.{branch_bits, load_bits, store_bits, immediate_bits, shift_bits, shift_mask, register_bits, word_bits, Row}
-use Rattle.evm_isa.specs.Decoded.{first_with, branches, loads, stores, immediates, shifts, word_shifts, registers, words, jalr_at, branch_at, load_at, store_at, immediate_or_shift, immediate_form, shift_form, immediate_at, word_immediate_at, register_at, word_at, fence_at, system_at, decoded}
+use Rattle.evm_isa.specs.Decoded.{first_with, branches, loads, stores, immediates, shifts, word_shifts, registers, words, jalr_at, branch_at, load_at, store_at, immediate_or_shift, immediate_form, shift_form, immediate_at, word_immediate_at, register_inst_at, word_inst_at, fence_at, system_at, decoded}
 use Rattle.evm_isa.proofs.Masks.{under_opcode, under_funct3, opcode_under, funct3_under, funct6_under, funct7_under}
 use Rattle.evm_isa.specs.declared.inst.Inst.{Inst}
 use Rattle.evm_isa.specs.declared.inst.Inst.TheVariants.{Lui, Auipc, Jal, Jalr, Branch, Load, Store, Immediate, Shift, Register, Word, Fence, Ecall, Ebreak}
@@ -97,12 +97,12 @@ word_immediate_stands : (w : ℕ) → Stands w (word_immediate_at w)
 unfolding word_immediate_at
 word_immediate_stands w = either w _ _ (immediate_fits w) (shift_fits w 0xfe00707f word_shifts (refl, (refl, (refl, tt))))
 
-register_stands : (w : ℕ) → Stands w (register_at w)
-unfolding register_at Row
+register_stands : (w : ℕ) → Stands w (register_inst_at w)
+unfolding register_inst_at Row
 register_stands w = mapped (λ o. register_bits o ≡ bit_and w 0xfe00707f) (λ i. Row i w) _ (first_with register_bits (bit_and w 0xfe00707f) registers) (has_bits register_bits (bit_and w 0xfe00707f) registers) (λ o q. (sym q, refl, refl, refl))
 
-word_stands : (w : ℕ) → Stands w (word_at w)
-unfolding word_at Row
+word_stands : (w : ℕ) → Stands w (word_inst_at w)
+unfolding word_inst_at Row
 word_stands w = mapped (λ o. word_bits o ≡ bit_and w 0xfe00707f) (λ i. Row i w) _ (first_with word_bits (bit_and w 0xfe00707f) words) (has_bits word_bits (bit_and w 0xfe00707f) words) (λ o q. (sym q, refl, refl, refl))
 
 fence_stands : (w : ℕ) → opcode_of w ≡ 0x0f → Stands w (fence_at w)
@@ -200,7 +200,7 @@ shift_of_table Srliw w h e = let f = funct7_under w (shift_bits Srliw) h e in rw
 shift_of_table Sraiw w h e = let f = funct7_under w (shift_bits Sraiw) h e in rw (f.0, low w _ _ f.0 f.1, e) refl
 
 pub decoded_complete : (i : Inst) (w : ℕ) → w < 2 ^ 32 → Row i w → decoded w ≡ Some i
-unfolding decoded Row jalr_at branch_at load_at store_at register_at word_at fence_at system_at
+unfolding decoded Row jalr_at branch_at load_at store_at register_inst_at word_inst_at fence_at system_at
 decoded_complete (Lui d i) w h r = let e = opcode_under w 0x37 r.0 in rw (e, r.1, r.2) refl
 decoded_complete (Auipc d i) w h r = let e = opcode_under w 0x17 r.0 in rw (e, r.1, r.2) refl
 decoded_complete (Jal d i) w h r = let e = opcode_under w 0x6f r.0 in rw (e, r.1, r.2) refl

@@ -10,8 +10,8 @@ ghost use Rattle.evm_isa.specs.Decoded.{
   immediate_or_shift,
   immediate_at,
   word_immediate_at,
-  register_at,
-  word_at,
+  register_inst_at,
+  word_inst_at,
   fence_at,
   system_at,
   decoded,
@@ -141,9 +141,9 @@ fn word_immediate(word: u32) -> Option<Inst>
     )
 }
 
-#[tactic(auto, unfolding(crate::specs::Decoded::register_at))]
+#[tactic(auto, unfolding(crate::specs::Decoded::register_inst_at))]
 fn register(word: u32) -> Option<Inst>
-    ensures { result ≡ register_at word }
+    ensures { result ≡ register_inst_at word }
 {
     Some(Inst::Register {
         op: first_with(&REGISTERS, word & FUNCT7_MASK)?,
@@ -153,9 +153,9 @@ fn register(word: u32) -> Option<Inst>
     })
 }
 
-#[tactic(auto, unfolding(crate::specs::Decoded::word_at))]
+#[tactic(auto, unfolding(crate::specs::Decoded::word_inst_at))]
 fn word_form(word: u32) -> Option<Inst>
-    ensures { result ≡ word_at word }
+    ensures { result ≡ word_inst_at word }
 {
     Some(Inst::Word {
         op: first_with(&WORDS, word & FUNCT7_MASK)?,

@@ -9,7 +9,7 @@ use Rattle.evm_elf.specs.evm_asm_parser.declared.statement.Statement.{Statement}
 use Rattle.evm_elf.specs.evm_asm_parser.declared.statement.Statement.TheVariants.{Nothing, LoadImmediate, LoadAddress}
 use Rattle.evm_elf.specs.evm_asm_parser.Operands.{Spots, how_many, name_in, natural_in, upper_in, address_in, full_address_in}
 use Rattle.evm_elf.specs.evm_asm_parser.Forms.{Slot, Register, Integer, Natural, Upper, Label, Address, FullAddress, Name, Value, form}
-use Rattle.evm_elf.specs.evm_asm_parser.Statements.{is_named, operand_in, statement_of}
+use Rattle.evm_elf.specs.evm_asm_parser.Statements.{name_or_fault, operand_in, statement_of}
 use Rattle.evm_elf.specs.evm_asm.declared.place.Place.{Place}
 use Rattle.evm_elf.specs.evm_asm.Places.{placed, of_mnemonic, statement_in}
 use Rattle.evm_elf.proofs.evm_asm_parser.Outcomes.{any_ok, either_ok, also_ok}
@@ -38,7 +38,7 @@ operand_loads labels near Upper text = any_ok (upper_in text)
 operand_loads labels near Label text = label_near labels text near
 operand_loads labels near Address text = any_ok (address_in text)
 operand_loads labels near FullAddress text = any_ok (full_address_in text)
-operand_loads labels near Name text = any_ok (is_named (name_in text))
+operand_loads labels near Name text = any_ok (name_or_fault (name_in text))
 
 -- each row of the table makes what can be loaded
 forms_load : (count : ℕ) (m : Mnemonic) → Makes Loads CanLoad (form count m)

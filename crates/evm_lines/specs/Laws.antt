@@ -229,8 +229,8 @@ among-rises : (test : ℕ → Bool) → IsStrictlyIncreasing (filter test all_li
 unfolding all_lines
 among-rises test = IsStrictlyIncreasing-filter test (range_with_len 0 LINES) (range-rises 0 LINES)
 
-pub rises : (set : List ℕ) → IsLineSet set → IsStrictlyIncreasing set
-rises set is = subst (λ (s : List ℕ). IsStrictlyIncreasing s) (sym is.members) (among-rises (has_line set))
+pub line_set_increases : (set : List ℕ) → IsLineSet set → IsStrictlyIncreasing set
+line_set_increases set is = subst (λ (s : List ℕ). IsStrictlyIncreasing s) (sym is.members) (among-rises (has_line set))
 
 -- the least member of a set is a line
 pub least_line-below : (set : List ℕ) (l : ℕ) → IsLineSet set → Some l ≡ least_line set → l < LINES

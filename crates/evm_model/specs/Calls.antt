@@ -8,7 +8,7 @@ use Rattle.evm_model.specs.Deadlines.{sleep_until}
 use Rattle.evm_model.specs.Events.{new_event, event_wait, signal, broadcast}
 use Rattle.evm_model.specs.Flags.{new_flags, flags_wait, flags_post}
 use Rattle.evm_model.specs.Harts.{A7, advance, answer, argument}
-use Rattle.evm_model.specs.InBandCalls.{exit, putc, yield_now, spawn, wait_line, attach, detach}
+use Rattle.evm_model.specs.InBandCalls.{exit, putc, yield_now, spawn, wait_line, attach_task, detach}
 use Rattle.evm_model.specs.Locks.{new_mutex, lock, try_lock, unlock}
 use Rattle.evm_model.specs.Mutexes.{owns_any}
 use Rattle.evm_model.specs.Notices.{notify}
@@ -100,7 +100,7 @@ perform Spawn hart c t p = spawn (argument 0 hart) (argument 1 hart) (argument 2
 perform Stall hart c t p = stall InBand true c p
 perform Unstall hart c t p = stall InBand false c p
 perform WaitLine hart c t p = wait_line c t (argument 0 hart) p
-perform Attach hart c t p = attach t (argument 0 hart) (argument 1 hart) p
+perform Attach hart c t p = attach_task t (argument 0 hart) (argument 1 hart) p
 perform Detach hart c t p = detach t p
 perform NewMutex hart c t p = new_mutex (argument 0 hart) (argument 1 hart) p
 perform NewSemaphore hart c t p = new_semaphore (argument 0 hart) p

@@ -73,8 +73,8 @@ attach_as None t priority p = refused Invalid p
 attach_as (Some class) t priority p =
     if is_attached t p then refused Busy p else (set_policy t class priority p, Returns 0)
 
-unfoldable pub attach : ℕ → ℕ → ℕ → Parts → Parts × Outcome
-attach t class priority p = attach_as (policy_of class priority) t priority p
+unfoldable pub attach_task : ℕ → ℕ → ℕ → Parts → Parts × Outcome
+attach_task t class priority p = attach_as (policy_of class priority) t priority p
 
 -- 8: the task has no class; not while it owns a mutex
 unfoldable pub detach : ℕ → Parts → Parts × Outcome

@@ -76,17 +76,17 @@ runs_in_band_task c None = false
 runs_in_band_task c (Some task) = is_in_ready task.state && task.cpu == c
 
 -- task t may run out-of-band on processor c
-abbrev pub runs_oob : ℕ → List Task → ℕ → Bool
-runs_oob c tasks t = runs_oob_task c (slice_get tasks t)
+abbrev pub may_run_oob : ℕ → List Task → ℕ → Bool
+may_run_oob c tasks t = runs_oob_task c (slice_get tasks t)
 
 -- task t may run in-band on processor c
-abbrev pub runs_in_band : ℕ → List Task → ℕ → Bool
-runs_in_band c tasks t = runs_in_band_task c (slice_get tasks t)
+abbrev pub may_run_in_band : ℕ → List Task → ℕ → Bool
+may_run_in_band c tasks t = runs_in_band_task c (slice_get tasks t)
 
 -- the out-of-band task that processor c should run
 unfoldable pub best : ℕ → List Mutex → List Task → Option ℕ
-best c mutexes tasks = first (runs_oob c tasks) (rank mutexes tasks) (stamp tasks) (length tasks)
+best c mutexes tasks = first (may_run_oob c tasks) (rank mutexes tasks) (stamp tasks) (length tasks)
 
 -- the in-band task that processor c should take up: that of least stamp
 unfoldable pub next_in_band : ℕ → List Task → Option ℕ
-next_in_band c tasks = first (runs_in_band c tasks) (λ _. 0) (stamp tasks) (length tasks)
+next_in_band c tasks = first (may_run_in_band c tasks) (λ _. 0) (stamp tasks) (length tasks)

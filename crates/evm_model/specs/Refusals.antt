@@ -43,8 +43,8 @@ is_stopped (Some p) = p.stopped
 abbrev pub not_stopped : ℕ → Board → Bool
 not_stopped c b = not (is_stopped (slice_get b.parts.processors c))
 
-abbrev pub no_task : ℕ → Board → Bool
-no_task c b = is_none (current c b.parts)
+abbrev pub runs_no_task : ℕ → Board → Bool
+runs_no_task c b = is_none (current c b.parts)
 
 abbrev pub bad_register : ℕ → Bool
 bad_register r = if r == 0 then true else nat_le REGISTERS r
@@ -92,8 +92,8 @@ wants_stopped _ b = false
 
 -- the event wants a current task, and there is none
 abbrev pub wants_task : Event → Board → Bool
-wants_task (SetReg c r value) b = no_task c b
-wants_task (SetPc c pc) b = no_task c b
+wants_task (SetReg c r value) b = runs_no_task c b
+wants_task (SetPc c pc) b = runs_no_task c b
 wants_task _ b = false
 
 -- the event names an address that won't do

@@ -1,6 +1,6 @@
 -- Where a height falls along each link, every walk is over soon, and none returns to its start.
 use Rattle.std.proofs.Common.{◌≡◌, ℕ, zero, suc, ◌+◌, ◌≤◌, Option, Some, None, refl, arith}
-use Rattle.evm_ranks.specs.Boosts.{walk_on, walk, Ends, HasHeight}
+use Rattle.evm_ranks.specs.Boosts.{walk_on, walk, EndsWithin, HasHeight}
 
 -- a link further is lower
 step-low : (boosts : ℕ → Option ℕ) (limit n links t : ℕ) (o : Option ℕ) (u : ℕ) (h : HasHeight boosts limit) → ((v : ℕ) → o ≡ Some v → h.height v + links ≤ n) → walk_on boosts o ≡ Some u → h.height u + suc links ≤ n
@@ -16,7 +16,7 @@ over : (o : Option ℕ) → ((u : ℕ) → o ≡ Some u → ⊥) → o ≡ None
 over None h = refl
 over (Some u) h = absurd (h u refl)
 
-pub walks_end : (boosts : ℕ → Option ℕ) (limit : ℕ) → HasHeight boosts limit → Ends boosts (suc limit)
+pub walks_end : (boosts : ℕ → Option ℕ) (limit : ℕ) → HasHeight boosts limit → EndsWithin boosts (suc limit)
 walks_end boosts limit h t = over (walk boosts (suc limit) t) (λ u e. let low = walk-low boosts limit (suc limit) t u h e in let top = h.low t in omega (arith, low, top))
 
 pub never_returns : (boosts : ℕ → Option ℕ) (limit links t : ℕ) → HasHeight boosts limit → walk boosts (suc links) t ≡ Some t → ⊥

@@ -34,8 +34,8 @@ walk boosts zero t = Some t
 walk boosts (suc links) t = walk_on boosts (walk boosts links t)
 
 -- no walk has n links: so none returns to its start
-abbrev pub Ends : (ℕ → Option ℕ) → ℕ → Type 0
-Ends boosts links = (t : ℕ) → walk boosts links t ≡ None
+abbrev pub EndsWithin : (ℕ → Option ℕ) → ℕ → Type 0
+EndsWithin boosts links = (t : ℕ) → walk boosts links t ≡ None
 
 -- a height, at most a limit, that falls along each link
 pub record HasHeight (boosts : ℕ → Option ℕ) (limit : ℕ) : Type 0 where

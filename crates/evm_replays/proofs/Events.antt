@@ -4,7 +4,7 @@ use Rattle.std.specs.Prelude.{Result, Ok, Err, nat_lt, ◌==◌, if◌then◌els
 use Rattle.std.specs.List.{AllByRecursion}
 use Rattle.std.proofs.lemmas.Bool.Decides.{nat_tests}
 use Rattle.evm_image.specs.Images.{Contents}
-use Rattle.evm_serve.specs.evm_history.Runs.{line_of}
+use Rattle.evm_serve.specs.evm_history.Runs.{line_of_event}
 use Rattle.evm_serve.specs.evm_journal.EventLine.{HasEventLine}
 use Rattle.evm_serve.specs.evm_journal.Journal.{HasBootLine, HasJournal}
 use Rattle.evm_model.specs.Refusals.{board_refusal, is_full}
@@ -30,7 +30,7 @@ pub record IsDriven (devices : List Attached) (image : Contents) (s : State) : T
   pub numbers : HasBootLine s.boot
   pub loads : load image (start devices s.boot) ≡ Ok first
   pub replays : IsReplayOf first s
-  pub each : AllByRecursion (λ event. HasEventLine (line_of event)) s.journal
+  pub each : AllByRecursion (λ event. HasEventLine (line_of_event event)) s.journal
   pub few : length s.journal ≤ s.boot.capacity
 
 -- ---- one event more
@@ -42,7 +42,7 @@ not-full : (s : State) (event : Event) (full : Bool) → is_full s ≡ full → 
 not-full s event true f e = cc
 not-full s event false f e = leb-false s.boot.capacity (length s.journal) f
 
-pub driven-event : (devices : List Attached) (image : Contents) (s new : State) (event : Event) (answer : Answer) → apply s event ≡ Ok (new, answer) → HasEventLine (line_of event) → IsDriven devices image s → IsDriven devices image new
+pub driven-event : (devices : List Attached) (image : Contents) (s new : State) (event : Event) (answer : Answer) → apply s event ≡ Ok (new, answer) → HasEventLine (line_of_event event) → IsDriven devices image s → IsDriven devices image new
 driven-event devices image s new event answer e line d =
     let it = accepted s new event answer e in
     let grown : new.journal ≡ s.journal ++ event ∷ [] = accepted-journal s new event answer e in
@@ -55,7 +55,7 @@ driven-event devices image s new event answer e line d =
       numbers = rw same d.numbers;
       loads = ap (λ (boot : Boot). load image (start devices boot)) same ∙ d.loads;
       replays = IsReplayOf-step d.first s new event answer e grown d.replays;
-      each = rw grown (all-push (λ event. HasEventLine (line_of event)) s.journal event d.each line);
+      each = rw grown (all-push (λ event. HasEventLine (line_of_event event)) s.journal event d.each line);
       few = rw same (omega (arith, size, room));
     }
 

@@ -2,7 +2,7 @@
 use Rattle.std.proofs.Common.{◌≡◌, ℕ, ◌+◌, ◌<◌, List, [], ◌∷◌, Option, Some, None, refl}
 use Rattle.std.specs.Prelude.{Result, Ok, Err}
 use Rattle.evm_image.specs.Images.{Contents}
-use Rattle.evm_serve.specs.evm_history.Runs.{line_of}
+use Rattle.evm_serve.specs.evm_history.Runs.{line_of_event}
 use Rattle.evm_serve.specs.evm_history.declared.event_line.EventLine.TheVariants as events
 use Rattle.evm_serve.specs.evm_journal.EventLine.{HasEventLine}
 use Rattle.evm_serve.specs.evm_journal.Journal.{HasBootLine}
@@ -39,7 +39,7 @@ abbrev LeadsOn : List Attached → Contents → LineOutcome → Type 0
 LeadsOn devices image (Goes text machine) = AreDriven devices image machine
 LeadsOn devices image (Ends fault) = Unit {0}
 
-event-leads : (devices : List Attached) (image : Contents) (n : ℕ) (s : State) (event : Event) (r : Result (State × Answer) Refusal) → apply s event ≡ r → HasEventLine (line_of event) → IsDriven devices image s → LeadsOn devices image (event_outcome n event r)
+event-leads : (devices : List Attached) (image : Contents) (n : ℕ) (s : State) (event : Event) (r : Result (State × Answer) Refusal) → apply s event ≡ r → HasEventLine (line_of_event event) → IsDriven devices image s → LeadsOn devices image (event_outcome n event r)
 event-leads devices image n s event (Ok after) e line d = driven-event devices image s after.0 event after.1 e line d
 event-leads devices image n s event (Err refusal) e line d = tt
 
@@ -57,7 +57,7 @@ view-leads devices image n view s (Ok text) d = d
 view-leads devices image n view s (Err refusal) d = tt
 
 -- an event line that isn't a run's has a line of its own
-one-line : (event : Event) → HasEventLine (events.One event) → HasEventLine (line_of event)
+one-line : (event : Event) → HasEventLine (events.One event) → HasEventLine (line_of_event event)
 one-line (Step c) h = absurd h
 one-line Tick h = h
 one-line (Raise c l) h = h

@@ -5,7 +5,7 @@ use Rattle.evm_isa.specs.declared.inst.Inst.{Inst}
 use Rattle.evm_isa.specs.declared.inst.Inst.TheVariants.{Lui, Auipc, Jal, Jalr, Branch, Load, Store, Immediate, Shift, Register, Word, Fence, Ecall, Ebreak}
 use Rattle.evm_exec.specs.Does.{does, jump_to, branch_if}
 use Rattle.evm_exec.specs.Registers.{register_of}
-use Rattle.evm_exec.specs.Values.{sum, taken}
+use Rattle.evm_exec.specs.Values.{sum, is_taken}
 use Rattle.evm_exec.specs.declared.outcome.Effect.{Effect}
 use Rattle.evm_exec.specs.declared.outcome.Effect.TheVariants.{Next, Misaligned}
 use Rattle.evm_rules.proofs.Firsts.{eqb-is}
@@ -35,7 +35,7 @@ does-aligned (Lui rd i) x pc h = next-aligned pc h
 does-aligned (Auipc rd i) x pc h = next-aligned pc h
 does-aligned (Jal rd i) x pc h = arrive-aligned rd (sum pc 4) _
 does-aligned (Jalr rd rs1 i) x pc h = arrive-aligned rd (sum pc 4) _
-does-aligned (Branch op rs1 rs2 i) x pc h = branch-aligned (taken op (register_of x rs1) (register_of x rs2)) _ pc h
+does-aligned (Branch op rs1 rs2 i) x pc h = branch-aligned (is_taken op (register_of x rs1) (register_of x rs2)) _ pc h
 does-aligned (Load op rd rs1 i) x pc h = tt
 does-aligned (Store op rs1 rs2 i) x pc h = tt
 does-aligned (Immediate op rd rs1 i) x pc h = next-aligned pc h

@@ -8,7 +8,7 @@ use Rattle.evm_model.proofs.Lists.{slice_get-below, slice_get-within}
 use Rattle.evm_model.specs.Calls.{call_of, call_stage, perform, is_weak_oob, return_weak, answered, finish_call, ask_oob, call_on, call_known, call_of_hart, call}
 use Rattle.evm_model.specs.Good.{Good, IsOwn, IsSettled}
 use Rattle.evm_model.specs.Harts.{A7, argument, answer, advance}
-use Rattle.evm_model.specs.InBandCalls.{exit, putc, yield_now, is_bad_entry, spawn, wait_line_unless, wait_line, attach_as, attach, detach}
+use Rattle.evm_model.specs.InBandCalls.{exit, putc, yield_now, is_bad_entry, spawn, wait_line_unless, wait_line, attach_as, attach_task, detach}
 use Rattle.evm_model.specs.Instructions.{fault}
 use Rattle.evm_model.specs.Mutexes.{owns_any}
 use Rattle.evm_model.specs.OobCalls.{stall, switch_oob, switch_in_band, is_scheduled_task, schedule_as, set_sched, set_mode, yield_oob, clock, state_bits}
@@ -126,8 +126,8 @@ module _ (c t : ℕ) (k : Parts) (g : GoodBut c k) (o : IsOwn c t k.tasks) where
   attach_as-done None priority = same _
   attach_as-done (Some class) priority = either c t (is_attached t k) _ _ (λ e. same _) (λ e. policy-done t class priority _)
 
-  attach-done : (class priority : ℕ) → IsDone c t (attach t class priority k)
-  unfolding attach
+  attach-done : (class priority : ℕ) → IsDone c t (attach_task t class priority k)
+  unfolding attach_task
   attach-done class priority = attach_as-done (policy_of class priority) priority
 
   clear-done : (outcome : Outcome) → IsDone c t (clear_policy t k, outcome)

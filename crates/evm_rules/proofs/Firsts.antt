@@ -5,7 +5,7 @@ use Rattle.std.proofs.Math.Nat.{eq-or-lt_of_le}
 use Rattle.std.specs.Prelude.{slice_get, ◌==◌, if◌then◌else◌}
 use Rattle.evm_model.proofs.Lists.{slice_get-below}
 use Rattle.evm_model.specs.Good.{IsOneOf, IsOwn, is_ready}
-use Rattle.evm_model.specs.Ranks.{best, next_in_band, first, leader, runs_oob, runs_oob_task, runs_in_band, runs_in_band_task, rank, stamp, is_oob_ready, is_in_ready}
+use Rattle.evm_model.specs.Ranks.{best, next_in_band, first, leader, may_run_oob, runs_oob_task, may_run_in_band, runs_in_band_task, rank, stamp, is_oob_ready, is_in_ready}
 use Rattle.evm_model.specs.Settle.{is_oob, is_oob_task}
 use Rattle.evm_model.specs.declared.mutex.Mutex.{Mutex}
 use Rattle.evm_model.specs.declared.task.Task.{Task}
@@ -53,7 +53,7 @@ oob-own c t tasks (Some task) e h = let b = both (is_oob_ready task.state) (task
 -- the best task is out-of-band ready, and the processor's own
 pub best-own : (c t : ℕ) (mutexes : List Mutex) (tasks : List Task) → best c mutexes tasks ≡ Some t → IsOobOwn c t tasks
 unfolding best
-best-own c t mutexes tasks e = oob-own c t tasks (slice_get tasks t) refl (first-member (runs_oob c tasks) (rank mutexes tasks) (stamp tasks) (length tasks) t e).1
+best-own c t mutexes tasks e = oob-own c t tasks (slice_get tasks t) refl (first-member (may_run_oob c tasks) (rank mutexes tasks) (stamp tasks) (length tasks) t e).1
 
 pub own-is_oob : (c t : ℕ) (tasks : List Task) → IsOobOwn c t tasks → is_oob (Some t) tasks ≡ true
 own-is_oob c t tasks o = rw o.there o.ready
@@ -85,7 +85,7 @@ pub no_best : (c t : ℕ) (mutexes : List Mutex) (tasks : List Task) → best c 
 unfolding best
 no_best c t mutexes tasks e o =
     not_oob c (slice_get tasks t) o.task o.there o.at_home
-    (first-none (runs_oob c tasks) (rank mutexes tasks) (stamp tasks) (length tasks) t e (slice_get-below tasks t o.task o.there))
+    (first-none (may_run_oob c tasks) (rank mutexes tasks) (stamp tasks) (length tasks) t e (slice_get-below tasks t o.task o.there))
 
 -- ---- in-band
 in_band-own : (c t : ℕ) (tasks : List Task) (o : Option Task) → slice_get tasks t ≡ o → runs_in_band_task c o ≡ true → IsOneOf is_in_ready c t tasks
@@ -97,4 +97,4 @@ in_band-own c t tasks (Some task) e h =
 -- the task to take up is the processor's own
 pub next-own : (c t : ℕ) (tasks : List Task) → next_in_band c tasks ≡ Some t → IsOneOf is_in_ready c t tasks
 unfolding next_in_band
-next-own c t tasks e = in_band-own c t tasks (slice_get tasks t) refl (first-member (runs_in_band c tasks) (λ _. 0) (stamp tasks) (length tasks) t e).1
+next-own c t tasks e = in_band-own c t tasks (slice_get tasks t) refl (first-member (may_run_in_band c tasks) (λ _. 0) (stamp tasks) (length tasks) t e).1

@@ -8,7 +8,7 @@ use Rattle.evm_model.specs.Harts.{A0, set_register}
 use Rattle.evm_model.specs.Lists.{change}
 use Rattle.evm_model.specs.Mutexes.{lock_of, owns_any}
 use Rattle.evm_model.specs.Pipes.{Pipe, play}
-use Rattle.evm_model.specs.Ranks.{best, rank, stamp, runs_oob, runs_oob_task, is_oob_ready, is_in_ready}
+use Rattle.evm_model.specs.Ranks.{best, rank, stamp, may_run_oob, runs_oob_task, is_oob_ready, is_in_ready}
 use Rattle.evm_model.specs.Settle.{is_oob, play_in_band, play_in_band_lines}
 use Rattle.evm_model.specs.State.{Parts, on_hart, on_task, on_pipe}
 use Rattle.evm_model.specs.Tasks.{restamp, set_state, is_weak}
@@ -146,7 +146,7 @@ pub record Rouses (c : ℕ) (k x : Parts) : Type 0 where
   pub shape : IsShaped k → IsShaped x
   pub others : (d : ℕ) → (d ≡ c → ⊥) → AreAlike d k.tasks x.tasks
   pub in_band : (u : ℕ) → IsOneOf is_in_ready c u k.tasks → IsOneOf is_in_ready c u x.tasks
-  pub oob : (u : ℕ) → runs_oob c x.tasks u ≡ runs_oob c k.tasks u
+  pub oob : (u : ℕ) → may_run_oob c x.tasks u ≡ may_run_oob c k.tasks u
   pub ranked : AreRanked k x
 
 pub rouses-none : (c : ℕ) (k : Parts) → Rouses c k k
@@ -248,7 +248,7 @@ waiter c l t tasks (Some task) e h =
     record { task = task; there = e; at_home = eqb-is task.cpu c b.1; idle = wait-idle l task.state b.0; lockless = wait-lockless l task.state b.0; wakes = λ returns. wait-wakes l returns task.state b.0 }
 
 -- the one that changes was not out-of-band ready, and isn't now
-oob-change : (c t u : ℕ) (f : Task → Task) (tasks : List Task) → (w : Waiter c t tasks) → is_oob_ready (f w.task).state ≡ false → runs_oob c (change f tasks t) u ≡ runs_oob c tasks u
+oob-change : (c t u : ℕ) (f : Task → Task) (tasks : List Task) → (w : Waiter c t tasks) → is_oob_ready (f w.task).state ≡ false → may_run_oob c (change f tasks t) u ≡ may_run_oob c tasks u
 oob-change c t u f tasks w h = elim (cases_eq u t) [
   | inl same ↦
       let now : slice_get (change f tasks t) t ≡ Some (f w.task) = change-here f tasks t ∙ ap (option_map f) w.there in
@@ -289,7 +289,7 @@ option-runs : (c : ℕ) (f : Task → Task) (o : Option Task) → ((task : Task)
 option-runs c f None cpu state = refl
 option-runs c f (Some task) cpu state = rw (cpu task, state task) refl
 
-runs-change : (c t u : ℕ) (f : Task → Task) (tasks : List Task) → ((task : Task) → (f task).cpu ≡ task.cpu) → ((task : Task) → (f task).state ≡ task.state) → runs_oob c (change f tasks t) u ≡ runs_oob c tasks u
+runs-change : (c t u : ℕ) (f : Task → Task) (tasks : List Task) → ((task : Task) → (f task).cpu ≡ task.cpu) → ((task : Task) → (f task).state ≡ task.state) → may_run_oob c (change f tasks t) u ≡ may_run_oob c tasks u
 runs-change c t u f tasks cpu state = elim (cases_eq u t) [
   | inl same ↦ rw same (ap (runs_oob_task c) (change-here f tasks t) ∙ option-runs c f (slice_get tasks t) cpu state)
   | inr other ↦ ap (runs_oob_task c) (change-elsewhere f tasks t u other)
@@ -339,10 +339,10 @@ runs-there : (c u : ℕ) (tasks : List Task) (o : Option Task) → slice_get tas
 runs-there c u tasks None e h = cc
 runs-there c u tasks (Some task) e h = slice_get-below tasks u task e
 
-pub none-best : (c t : ℕ) (mutexes others : List Mutex) (tasks new : List Task) → ((u : ℕ) → runs_oob c new u ≡ runs_oob c tasks u) → best c mutexes tasks ≡ None → best c others new ≡ Some t → ⊥
+pub none-best : (c t : ℕ) (mutexes others : List Mutex) (tasks new : List Task) → ((u : ℕ) → may_run_oob c new u ≡ may_run_oob c tasks u) → best c mutexes tasks ≡ None → best c others new ≡ Some t → ⊥
 unfolding best
 none-best c t mutexes others tasks new same none e =
-    let member : runs_oob c new t ≡ true = (first-member (runs_oob c new) (rank others new) (stamp new) (length new) t e).1 in
-    let was : runs_oob c tasks t ≡ true = sym (same t) ∙ member in
-    let not : runs_oob c tasks t ≡ false = first-none (runs_oob c tasks) (rank mutexes tasks) (stamp tasks) (length tasks) t none (runs-there c t tasks (slice_get tasks t) refl was) in
+    let member : may_run_oob c new t ≡ true = (first-member (may_run_oob c new) (rank others new) (stamp new) (length new) t e).1 in
+    let was : may_run_oob c tasks t ≡ true = sym (same t) ∙ member in
+    let not : may_run_oob c tasks t ≡ false = first-none (may_run_oob c tasks) (rank mutexes tasks) (stamp tasks) (length tasks) t none (runs-there c t tasks (slice_get tasks t) refl was) in
     let no : true ≡ false = sym was ∙ not in cc

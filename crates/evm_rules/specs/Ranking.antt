@@ -1,6 +1,6 @@
 -- Laws: ranks by boosts settle, and chains of waiting end, where some height falls along each link.
 use Rattle.std.specs.Prelude.{◌≡◌, ◌≢◌, ℕ, suc, ◌<◌, ◌≤◌, Option, Some}
-use Rattle.evm_ranks.specs.Boosts.{rank_after, IsSettledRank, walk, Ends, HasHeight}
+use Rattle.evm_ranks.specs.Boosts.{rank_after, IsSettledRank, walk, EndsWithin, HasHeight}
 
 -- as many rounds as there are heights end in ranks that another round leaves
 abbrev pub RoundsSettle : Type 0
@@ -21,7 +21,7 @@ RoundsKeepOwn = (boosts : ℕ → Option ℕ) (own : ℕ → ℕ) (count rounds 
 
 -- no walk has more links than there are heights, and none returns to its start
 abbrev pub WalksEnd : Type 0
-WalksEnd = (boosts : ℕ → Option ℕ) (limit : ℕ) → HasHeight boosts limit → Ends boosts (suc limit)
+WalksEnd = (boosts : ℕ → Option ℕ) (limit : ℕ) → HasHeight boosts limit → EndsWithin boosts (suc limit)
 
 abbrev pub WalksNeverReturn : Type 0
 WalksNeverReturn = (boosts : ℕ → Option ℕ) (limit links t : ℕ) → HasHeight boosts limit → walk boosts (suc links) t ≢ Some t

@@ -3,7 +3,7 @@ use Rattle.std.proofs.Common.{◌≡◌, ℕ, suc, ◌+◌, ◌<◌, ◌≤◌, 
 use Rattle.std.specs.Prelude.{slice_get, slice_index, if◌then◌else◌}
 use Rattle.std.specs.List.Sorted.{IsStrictlyIncreasing}
 use Rattle.std.proofs.lemmas.Bool.Decides.{nat_tests}
-use Rattle.evm_lines.specs.Laws.{rises}
+use Rattle.evm_lines.specs.Laws.{line_set_increases}
 use Rattle.evm_lines.specs.Lines.{has_line, least_line}
 use Rattle.evm_exec.specs.declared.hart.Hart.{Hart}
 use Rattle.evm_model.specs.Commands.{is_set}
@@ -90,4 +90,4 @@ unfolding row
 steps_receive_least s new c l pipe good e there =
     let it = accepted s new (Step c) (Received l) e in
     let answers : Received l ≡ (step c s.board).1 = ap (λ (x : State × Answer). x.1) it.1 in
-    least_is pipe.wire l (rises pipe.wire (good.good.pipes c pipe there).wire) (heard c l s.board pipe there answers)
+    least_is pipe.wire l (line_set_increases pipe.wire (good.good.pipes c pipe there).wire) (heard c l s.board pipe there answers)

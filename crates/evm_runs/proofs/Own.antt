@@ -8,7 +8,7 @@ use Rattle.evm_model.specs.Calls.{call_of, call_stage, perform, is_weak_oob, ret
 use Rattle.evm_model.specs.Errnos.{refusal_answer}
 use Rattle.evm_model.specs.Good.{is_ready}
 use Rattle.evm_model.specs.Harts.{A7, advance, answer, argument, spawned_hart}
-use Rattle.evm_model.specs.InBandCalls.{exit, putc, yield_now, is_bad_entry, add_task, spawn, wait_line_unless, wait_line, attach_as, attach, detach}
+use Rattle.evm_model.specs.InBandCalls.{exit, putc, yield_now, is_bad_entry, add_task, spawn, wait_line_unless, wait_line, attach_as, attach_task, detach}
 use Rattle.evm_model.specs.Lists.{change}
 use Rattle.evm_model.specs.Notices.{asks_for, notify}
 use Rattle.evm_model.specs.Mutexes.{owns_any}
@@ -118,8 +118,8 @@ module _ (t : ℕ) (task : Task) (k : Parts) (there : slice_get k.tasks t ≡ So
   attaches_as None priority = same t task k there ready (changes Attach)
   attaches_as (Some class) priority = either t task k there ready (changes Attach) (is_attached t k) _ _ (same t task k there ready (changes Attach)) (policy (changes Attach) class priority refl refl)
 
-  attaches : (class priority : ℕ) → Own (changes Attach) t task k (attach t class priority k).0
-  unfolding attach
+  attaches : (class priority : ℕ) → Own (changes Attach) t task k (attach_task t class priority k).0
+  unfolding attach_task
   attaches class priority = attaches_as (policy_of class priority) priority
 
   clears : Own (changes Detach) t task k (clear_policy t k)

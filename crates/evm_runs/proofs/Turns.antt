@@ -9,7 +9,7 @@ use Rattle.std.proofs.lemmas.List.Kept.{IsStrictlyIncreasing-filter}
 use Rattle.std.proofs.lemmas.List.Sums.{fold-append}
 use Rattle.std.proofs.lemmas.Option.{slice_get_within}
 use Rattle.std.proofs.Math.Nat.{eq-or-lt_of_le}
-use Rattle.evm_lines.specs.Laws.{rises}
+use Rattle.evm_lines.specs.Laws.{line_set_increases}
 use Rattle.evm_ranks.specs.Boosts.{is_number}
 use Rattle.evm_ranks.proofs.Greatest.{boosts-is, boosts-so}
 use Rattle.evm_model.specs.Good.{IsPipe}
@@ -107,7 +107,7 @@ by_number f test g step (suc n) = either (test n) refl (by_number f test g step 
 
 -- ---- lines
 rise : (p : Pipe) → IsPipe p → Rise p
-rise p h = record { wire = rises p.wire h.wire; oob = rises p.oob.lines h.oob; in_band = rises p.in_band.lines h.in_band }
+rise p h = record { wire = line_set_increases p.wire h.wire; oob = line_set_increases p.oob.lines h.oob; in_band = line_set_increases p.in_band.lines h.in_band }
 
 pub lines_rise : LinesRise
 lines_rise stage l p h = (rise p h, rise (receive stage l p) (IsPipe-receive stage l p h))

@@ -7,13 +7,13 @@ use Rattle.evm_model.proofs.Lists.{slice_get-slice_set, slice_get-push, slice_ge
 use Rattle.evm_model.specs.Timers.{idle_timer, set_timer}
 use Rattle.evm_model.specs.declared.limits.TheConstants.{TIMER_SPAN_LIMIT}
 use Rattle.evm_model.specs.declared.timer.Timer.{Timer}
-use Rattle.evm_tick.specs.Spans.{AreFrom, AreSpans, IsQuiet, IsSpan, due_at, due_of, lowered}
+use Rattle.evm_tick.specs.Spans.{AreFrom, AreSpans, IsQuiet, IsSpan, due_at, due_of, bound_with_tick}
 
 -- ---- the bound with one more tick
-lowered-bound : (bound due : ℕ) → lowered bound due ≤ bound
+lowered-bound : (bound due : ℕ) → bound_with_tick bound due ≤ bound
 lowered-bound bound due = grind (arith, nat_tests)
 
-lowered-due : (bound due : ℕ) → (due ≡ 0 → ⊥) → lowered bound due ≤ due
+lowered-due : (bound due : ℕ) → (due ≡ 0 → ⊥) → bound_with_tick bound due ≤ due
 lowered-due bound due h = grind (arith, nat_tests)
 
 -- ---- timers change
@@ -21,7 +21,7 @@ pub spans-none : (bound : ℕ) → AreSpans bound []
 spans-none bound = record { each = λ n timer e. cc; from = record { each = λ n timer e some. cc } }
 
 -- one timer set
-pub spans-set : (timers : List Timer) (bound n : ℕ) (new : Timer) → AreSpans bound timers → IsSpan new → AreSpans (lowered bound new.due) (slice_set timers n new)
+pub spans-set : (timers : List Timer) (bound n : ℕ) (new : Timer) → AreSpans bound timers → IsSpan new → AreSpans (bound_with_tick bound new.due) (slice_set timers n new)
 spans-set timers bound n new are is = record {
   each = λ m timer e. elim (slice_get-slice_set timers n m new timer e) [
     | inl h ↦ rw h.1 is
@@ -62,7 +62,7 @@ pub record AreFromBelow (bound n : ℕ) (timers : List Timer) : Type 0 where
 pub below-none : (bound : ℕ) (timers : List Timer) → AreFromBelow bound 0 timers
 below-none bound timers = record { each = λ m less some. absurd (omega arith) }
 
-pub below-more : (bound n : ℕ) (timers : List Timer) → AreFromBelow bound n timers → AreFromBelow (lowered bound (due_at timers n)) (n + 1) timers
+pub below-more : (bound n : ℕ) (timers : List Timer) → AreFromBelow bound n timers → AreFromBelow (bound_with_tick bound (due_at timers n)) (n + 1) timers
 below-more bound n timers from = record {
   each = λ m less some. elim (cases_lt m n) [
     | inl h ↦ let low = from.each m h some in omega (arith, low, lowered-bound bound (due_at timers n))

@@ -35,5 +35,5 @@ abbrev pub due_at : List Timer → ℕ → ℕ
 due_at timers n = due_of (slice_get timers n)
 
 -- the bound with one more tick
-abbrev pub lowered : ℕ → ℕ → ℕ
-lowered bound due = if not (due == 0) && nat_lt due bound then due else bound
+abbrev pub bound_with_tick : ℕ → ℕ → ℕ
+bound_with_tick bound due = if not (due == 0) && nat_lt due bound then due else bound

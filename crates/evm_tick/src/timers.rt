@@ -1,7 +1,7 @@
 ghost use Rattle.std.specs.Prelude.{◌≡◌, ◌<◌, ◌≤◌, [], ◌∷◌, ◌++◌, true, length, slice_get, IfSome};
 ghost use Rattle.evm_model.specs.Lists.{change};
 ghost use Rattle.evm_model.specs.Timers.{idle_timer, set_timer};
-ghost use Rattle.evm_tick.specs.Spans.{IsQuiet, IsSpan, due_at, AreFrom, lowered};
+ghost use Rattle.evm_tick.specs.Spans.{IsQuiet, IsSpan, due_at, AreFrom, bound_with_tick};
 
 use arrayvec::ArrayVec;
 use evm_model::{TIMER_LIMIT, TIMER_SPAN_LIMIT, Timer};
@@ -29,8 +29,8 @@ impl Model for Timers {
 }
 
 // The bound of the ticks at which timers are due with one more; 0 is none.
-fn lowered(bound: u64, due: u64) -> u64
-    ensures { result ≡ lowered bound due }
+fn bound_with_tick(bound: u64, due: u64) -> u64
+    ensures { result ≡ bound_with_tick bound due }
 {
     if due != 0 && due < bound { due } else { bound }
 }
@@ -90,7 +90,7 @@ impl Timers {
     {
         if let Some(entry) = self.timers.get_mut(n as usize) {
             *entry = timer;
-            self.earliest = lowered(self.earliest, timer.due);
+            self.earliest = bound_with_tick(self.earliest, timer.due);
         }
     }
 
@@ -134,7 +134,7 @@ impl Timers {
     {
         let mut least = u64::MAX;
         for n in 0..self.count() {
-            least = lowered(least, self.due(n));
+            least = bound_with_tick(least, self.due(n));
         }
         least
     }

@@ -7,7 +7,7 @@ use Rattle.evm_exec.specs.declared.hart.Hart.{Hart}
 use Rattle.evm_model.specs.Bounds.{PER_CALL}
 use Rattle.evm_model.specs.Calls.{call_number, numbered, all_calls, call_of, call_stage, perform, is_weak_oob, return_weak, answered, finish_call, ask_oob, call_on, call_known, call_of_hart, call}
 use Rattle.evm_model.specs.Harts.{A0, A7, argument, advance, answer}
-use Rattle.evm_model.specs.InBandCalls.{exit, putc, yield_now, is_bad_entry, add_task, spawn, wait_line_unless, wait_line, attach_as, attach, detach}
+use Rattle.evm_model.specs.InBandCalls.{exit, putc, yield_now, is_bad_entry, add_task, spawn, wait_line_unless, wait_line, attach_as, attach_task, detach}
 use Rattle.evm_model.specs.Mutexes.{owns_any}
 use Rattle.evm_model.specs.Notices.{notify}
 use Rattle.evm_model.specs.OobCalls.{stall, switch_oob, switch_in_band, is_scheduled_task, schedule_as, set_sched, set_mode, yield_oob, clock, state_bits}
@@ -132,8 +132,8 @@ module _ (a : Actor) (old k : Parts) (t : ℕ) (own : a.task ≡ Some t) (fresh 
       either a old (is_attached t k) _ _ (λ e. none)
       (λ e. at_most 0 0 _ (omega arith) (omega arith) (quietly a old 0 0 k _ (task t (λ x. record x { class = class; priority = priority; slice = SLICE }) k own (λ x. (refl, refl)) (λ x. inr refl) old_task) w))
 
-  attaches : (class priority : ℕ) → Walk a old 1 64 (attach t class priority k).0
-  unfolding attach
+  attaches : (class priority : ℕ) → Walk a old 1 64 (attach_task t class priority k).0
+  unfolding attach_task
   attaches class priority = attaches_as (policy_of class priority) priority
 
   clears : Walk a old 1 64 (clear_policy t k)

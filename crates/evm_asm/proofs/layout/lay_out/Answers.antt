@@ -3,7 +3,7 @@ use Rattle.std.proofs.lemmas.List.{append_assoc, append-nil}
 use Rattle.evm_asm_parser.specs.evm_asm_lexer.Characters.{newline}
 use Rattle.evm_asm_parser.specs.evm_asm_lexer.Text.{after, before}
 use Rattle.evm_asm_parser.specs.declared.kept.Kept.{Kept}
-use Rattle.evm_asm_parser.specs.Kept.{kept_of}
+use Rattle.evm_asm_parser.specs.Kept.{kept_statement}
 use Rattle.evm_asm_parser.specs.Operands.{Spots}
 use Rattle.evm_asm.specs.Kept.{AreKept}
 use Rattle.evm_asm.specs.declared.place.Place.{Place}
@@ -44,7 +44,7 @@ loop-rest-preserved c =
     let first = before newline c.loop-rest.rest.now in
     let code : c.code_of-code.result.now ≡ code_of first = c.code_of-code.ensures ∙ ap code_of c.cut.ensures.before in
     let line = line-is so_far first c.lay_line.new.labels c.in-Ok.laid (rw code at c.in-Ok.ensures.laid) in
-    let k = kept_of (here c.loop-rest.place) (statement_in c.lay_line.new.labels c.loop-rest.place (statement_text (code_of first))) in
+    let k = kept_statement (here c.loop-rest.place) (statement_in c.lay_line.new.labels c.loop-rest.place (statement_text (code_of first))) in
     let kept : c.lay_line.new.kept ≡ c.loop-rest.kept ++ k ∷ [] = rw code at c.in-Ok.ensures.kept in
     record {
       counted = omega (arith, ap (λ (l : List ℕ). length l) c.cut.ensures.after);

@@ -2,7 +2,7 @@ use Rattle.std.proofs.Common.{◌≡◌, ℕ, List, Option, Some, None, Bool, tr
 use Rattle.std.specs.Prelude.{◌==◌, ◌&&◌}
 use Rattle.std.proofs.lemmas.Bool.Decides.{eqb_tells}
 use Rattle.std.proofs.lemmas.Option.{slice_get_within}
-use Rattle.evm_model.specs.Ranks.{best, rank, stamp, is_oob_ready, runs_oob, runs_oob_task}
+use Rattle.evm_model.specs.Ranks.{best, rank, stamp, is_oob_ready, may_run_oob, runs_oob_task}
 use Rattle.evm_model.specs.declared.task.Task.{Task}
 use Rattle.evm_model.specs.declared.task.TaskState.{TaskState}
 use Rattle.evm_model.specs.declared.task.TaskState.TheVariants.{OobReady}
@@ -33,13 +33,13 @@ runs p None h = cc
 runs p (Some task) h = let b = both (is_oob_ready task.state) (task.cpu == p) h in
     record { task = task; there = refl; home = is_number task.cpu p b.1; ready = is_ready task.state b.0 }
 
-member : (p u : ℕ) (tasks : List Task) (task : Task) → slice_get tasks u ≡ Some task → task.cpu ≡ p → task.state ≡ OobReady → runs_oob p tasks u ≡ true
+member : (p u : ℕ) (tasks : List Task) (task : Task) → slice_get tasks u ≡ Some task → task.cpu ≡ p → task.state ≡ OobReady → may_run_oob p tasks u ≡ true
 member p u tasks task there home ready = let same : (task.cpu == p) ≡ true = eq-eqb task.cpu p home in rw (there, ready, same) refl
 
 pub returns-clause-best : goal.returns-clause-best
 unfolding best
 returns-clause-best c p t mutexes tasks e =
-    let found = (c.finds_first.ensures (runs_oob p tasks) (rank mutexes tasks) (stamp tasks) (length tasks)).found t e in
+    let found = (c.finds_first.ensures (may_run_oob p tasks) (rank mutexes tasks) (stamp tasks) (length tasks)).found t e in
     let r = runs p (slice_get tasks t) found.is_member in (
       r.task,
       (
@@ -56,7 +56,7 @@ returns-clause-best c p t mutexes tasks e =
 pub returns-clause-none_ready : goal.returns-clause-none_ready
 unfolding best
 returns-clause-none_ready c p t mutexes tasks task e there home ready =
-    let none = (c.finds_first.ensures (runs_oob p tasks) (rank mutexes tasks) (stamp tasks) (length tasks)).none_found e t (slice_get_within tasks t task there) in
+    let none = (c.finds_first.ensures (may_run_oob p tasks) (rank mutexes tasks) (stamp tasks) (length tasks)).none_found e t (slice_get_within tasks t task there) in
     let some = member p t tasks task there home ready in
     cc
 

@@ -3,7 +3,7 @@ use Rattle.std.proofs.lemmas.Option.{slice_get_read}
 use Rattle.std.proofs.lemmas.List.{length-set}
 use Rattle.evm_dev.specs.Attached.{Attached}
 use Rattle.std.specs.Prelude.{List}
-use Rattle.evm_bus.specs.Bus.{tick}
+use Rattle.evm_bus.specs.Bus.{tick_bus}
 use Rattle.evm_bus.proofs.Bus.{fewer-active, idle-ticked, ticked-at}
 use Rattle.evm_bus.proofs.devices.Devices.tick.Goals as goal
 
@@ -22,4 +22,4 @@ pub returns : goal.returns
 returns g c =
     let there = slice_get_read _ _ c.args.i _ refl c.in-Some.ensures.item.3.0 c.in-Some.ensures.item.1 in
     ticked-at _ c.self.inside.items.items c.args.i c.in-Some.device.now c.tick-raise.new.self c.tick-raise.result there c.tick-raise.ensures.kind c.tick-raise.ensures.words c.tick-raise.ensures.raise
-    ∙ ap (λ (devices : List Attached). tick c.args.i devices) c.self.view_is
+    ∙ ap (λ (devices : List Attached). tick_bus c.args.i devices) c.self.view_is
