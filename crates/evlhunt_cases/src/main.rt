@@ -3,7 +3,7 @@
 #![tactic(auto)]
 
 use evm_command::devices;
-use evm_hunt_command::{Progress, answer, host_world};
+use evm_hunt_command::{HuntProgress, answer, host_world};
 use std::alloc::{AllocError, Global};
 use std::{fs, io};
 
@@ -18,7 +18,7 @@ fn words_of(alloc: Global, line: &str) -> Result<Vec<String>, AllocError> {
 
 // Hunts by a command line, and returns the exit status.
 fn hunted(rt: &HostRuntime, words: &[String]) -> u8 {
-    let mut progress = Progress::new(rt);
+    let mut progress = HuntProgress::new(rt);
     let mut world = host_world(rt);
     answer(rt.alloc(), words, &mut progress, &mut world)
 }

@@ -8,7 +8,7 @@ use Rattle.std.proofs.lemmas.List.Sums.{prefix_len-le-length}
 use Rattle.evm_asm_parser.specs.evm_asm_lexer.Names.{named}
 use Rattle.std.proofs.lemmas.List.{length-take, length-drop}
 use Rattle.evm_asm_parser.specs.evm_asm_lexer.Characters.{newline, hash, colon}
-use Rattle.evm_asm_parser.specs.evm_asm_lexer.Text.{before, after, has, place_by, tail, first_word, skip_blanks, is_white, is_word_byte}
+use Rattle.evm_asm_parser.specs.evm_asm_lexer.Text.{before, after, has_byte, place_by, tail, first_word, skip_blanks, is_white, is_word_byte}
 use Rattle.evm_asm_parser.specs.evm_asm_lexer.declared.source_fault.SourceFaultKind.{SourceFaultKind}
 use Rattle.evm_asm_parser.specs.evm_asm_lexer.declared.mnemonic.Section.{Section}
 use Rattle.evm_asm_parser.specs.evm_asm_lexer.declared.mnemonic.Width.{Width}
@@ -96,7 +96,7 @@ label_by false o others name rest h = cc
 pub label-within : (text name rest : List ℕ) → label_at text ≡ Some (name, rest) → (length name ≤ length text) × (length rest ≤ length text)
 unfolding label_at
 label-within text name rest h =
-    let is = label_by (has colon text) (name_in (before colon text)) (after colon text) name rest h in
+    let is = label_by (has_byte colon text) (name_in (before colon text)) (after colon text) name rest h in
     let a = name-within (before colon text) name is.0 in
     let b = before-within colon text in
     let c = after-within colon text in

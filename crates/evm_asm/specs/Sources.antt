@@ -9,7 +9,7 @@ use Rattle.evm_asm_parser.specs.evm_asm_lexer.declared.mnemonic.Section.TheVaria
 use Rattle.evm_asm_parser.specs.declared.spot.Spot.{Spot}
 use Rattle.evm_asm.specs.declared.place.Place.{Place}
 use Rattle.evm_asm_parser.specs.evm_asm_lexer.Faults.{least, ◌>>=◌}
-use Rattle.evm_asm_parser.specs.evm_asm_lexer.Text.{before, after, has}
+use Rattle.evm_asm_parser.specs.evm_asm_lexer.Text.{before, after, has_byte}
 use Rattle.evm_asm_parser.specs.evm_asm_lexer.Names.{named}
 use Rattle.evm_asm_parser.specs.Operands.{Spots, name_in}
 use Rattle.evm_asm_parser.specs.Statements.{Reading}
@@ -30,7 +30,7 @@ code_of line = before hash line
 
 -- The label at the front of a text: one name and a ':'. Behind it the text goes on.
 unfoldable pub label_at : List ℕ → Option (List ℕ × List ℕ)
-label_at text = if has colon text then option_map (λ name. (name, after colon text)) (name_in (before colon text)) else None
+label_at text = if has_byte colon text then option_map (λ name. (name, after colon text)) (name_in (before colon text)) else None
 
 -- the text behind its labels, of which there are at most n
 unfoldable pub behind_labels : ℕ → List ℕ → List ℕ

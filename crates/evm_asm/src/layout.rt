@@ -10,8 +10,8 @@ ghost use Rattle.evm_asm.specs.Places.{here, statement_in};
 use crate::failure::Shortage;
 use crate::place::{Place, here, place_behind, source_start, statement_in};
 use evm_asm_parser::{
-    KeptLines, Labels, Reading, SourceFault, SourceFaultKind, Spot, after, before, cut, has, least,
-    name_in,
+    KeptLines, Labels, Reading, SourceFault, SourceFaultKind, Spot, after, before, cut, has_byte,
+    least, name_in,
 };
 use evm_room::Refused;
 use std::alloc::Global;
@@ -29,7 +29,7 @@ pub fn code_of(line: &[u8]) -> &[u8]
 pub fn label_at(text: &[u8]) -> Option<(&[u8], &[u8])>
     ensures { option_map (λ x. (x.0.now, x.1.now)) result ≡ label_at text.now }
 {
-    if !has(b':', text) {
+    if !has_byte(b':', text) {
         return None;
     }
     match name_in(before(b':', text)) {

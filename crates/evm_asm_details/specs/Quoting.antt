@@ -5,7 +5,7 @@ use Rattle.evm_asm_parser.specs.evm_asm_lexer.declared.fault.AsmFault.{AsmFault}
 use Rattle.evm_asm_parser.specs.evm_asm_lexer.declared.fault.AsmFaultKind.{AsmFaultKind}
 use Rattle.evm_asm_parser.specs.evm_asm_lexer.declared.fault.AsmFaultKind.TheVariants.{UnknownName, LabelTwice, LabelMissing}
 use Rattle.evm_asm_parser.specs.evm_asm_lexer.declared.mnemonic.Mnemonic.{Mnemonic}
-use Rattle.evm_asm_parser.specs.evm_asm_lexer.Text.{before, after, has, skip_blanks, first_word, behind_word}
+use Rattle.evm_asm_parser.specs.evm_asm_lexer.Text.{before, after, has_byte, skip_blanks, first_word, behind_word}
 use Rattle.evm_asm_parser.specs.evm_asm_lexer.Names.{mnemonic_named, register_named}
 use Rattle.evm_asm_parser.specs.Operands.{first_operand, other_operands, how_many, name_in}
 use Rattle.evm_asm.specs.Places.{is_directive}
@@ -13,7 +13,7 @@ use Rattle.evm_asm.specs.Sources.{code_of, label_at, statement_text}
 
 -- the name of a register is the whole of an operand, or stands in parentheses
 unfoldable pub register_text : List ℕ → List ℕ
-register_text operand = if has left_parenthesis operand then before right_parenthesis (after left_parenthesis operand) else operand
+register_text operand = if has_byte left_parenthesis operand then before right_parenthesis (after left_parenthesis operand) else operand
 
 abbrev pub unless_register : Option (List ℕ) → Option (List ℕ)
 unless_register (Some name) = if is_some (register_named name) then None else Some name

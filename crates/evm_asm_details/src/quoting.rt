@@ -6,15 +6,15 @@ ghost use Rattle.evm_asm_details.specs.Quoting.{register_text, unknown_in, unkno
 
 use evm_asm::{code_of, is_directive, label_at, statement_text};
 use evm_asm_parser::{
-    AsmFault, AsmFaultKind, Mnemonic, after, before, behind_word, first_operand, first_word, has,
-    how_many, mnemonic_named, name_in, other_operands, register_named, skip_blanks,
+    AsmFault, AsmFaultKind, Mnemonic, after, before, behind_word, first_operand, first_word,
+    has_byte, how_many, mnemonic_named, name_in, other_operands, register_named, skip_blanks,
 };
 
 #[tactic(auto, unfolding(crate::specs::Quoting::register_text))]
 fn register_text(operand: &[u8]) -> &[u8]
     ensures { result.now ≡ register_text operand.now }
 {
-    if has(b'(', operand) {
+    if has_byte(b'(', operand) {
         before(b')', after(b'(', operand))
     } else {
         operand

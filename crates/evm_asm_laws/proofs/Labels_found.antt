@@ -6,7 +6,7 @@ use Rattle.std.specs.Str.{bytes_eq}
 use Rattle.std.proofs.lemmas.Slice.Eq.{bytes_eq-Decides}
 use Rattle.evm_asm.specs.evm_asm_lexer.Characters.{colon}
 use Rattle.evm_asm.specs.evm_asm_lexer.declared.source_fault.SourceFaultKind.{SourceFaultKind}
-use Rattle.evm_asm.specs.evm_asm_lexer.Text.{before, after, has}
+use Rattle.evm_asm.specs.evm_asm_lexer.Text.{before, after, has_byte}
 use Rattle.evm_asm.specs.evm_asm_lexer.Names.{named}
 use Rattle.evm_asm.specs.evm_asm_parser.declared.spot.Spot.{Spot}
 use Rattle.evm_asm.specs.evm_asm_parser.Operands.{Spots, name_in}
@@ -127,7 +127,7 @@ shorter_by false o b bs label h = cc
 shorter : (text : List ℕ) (label : List ℕ × List ℕ) → label_at text ≡ Some label → length label.1 < length text
 unfolding label_at
 shorter [] label h = cc
-shorter (b ∷ bs) label h = let k = shorter_by (has colon (b ∷ bs)) (name_in (before colon (b ∷ bs))) b bs label h in omega arith
+shorter (b ∷ bs) label h = let k = shorter_by (has_byte colon (b ∷ bs)) (name_in (before colon (b ∷ bs))) b bs label h in omega arith
 
 -- a text has fewer labels at its front than bytes
 few : (j : ℕ) (text : List ℕ) (o : Option (List ℕ × List ℕ)) (label : List ℕ × List ℕ) → label_at text ≡ o → label_at (behind_labels j text) ≡ Some label → j < length text

@@ -8,7 +8,7 @@ use Rattle.evm_asm.specs.evm_asm_lexer.declared.mnemonic.Width.TheVariants.{Byte
 use Rattle.evm_asm.specs.evm_asm_lexer.declared.mnemonic.Mnemonic.{Mnemonic}
 use Rattle.evm_asm.specs.evm_asm_lexer.Characters.{left_parenthesis, right_parenthesis}
 use Rattle.evm_asm.specs.evm_asm_lexer.Faults.{source_number, least, both, ◌>>=◌}
-use Rattle.evm_asm.specs.evm_asm_lexer.Text.{before, after, has}
+use Rattle.evm_asm.specs.evm_asm_lexer.Text.{before, after, has_byte}
 use Rattle.evm_asm.specs.evm_asm_lexer.Names.{register_named}
 use Rattle.evm_asm.specs.evm_asm_parser.declared.operand.Number.{Number}
 use Rattle.evm_asm.specs.evm_asm_parser.Operands.{Spots, first_operand, other_operands, how_many, counted, is_blank_text, name_in, known, named_register, register_in, labelled, label_in, number_in, integer, ranged, integer_in, immediate_in, offset_in, base_in, address_in, full_address_in, natural, limited, natural_in, upper, upper_in, wrapped, number_datum, label_datum, datum_of, datum_in}
@@ -253,20 +253,20 @@ offset_least text =
 
 -- what stands behind a '('
 closes : List ℕ → Bool
-closes text = has right_parenthesis text && is_blank_text (after right_parenthesis text)
+closes text = has_byte right_parenthesis text && is_blank_text (after right_parenthesis text)
 
 base_least : (text : List ℕ)
     → IsLeast (Three ((closes text ≡ true) × IsNoRegister (before right_parenthesis text)) ((closes text ≡ false) ⊎ (name_in (before right_parenthesis text) ≡ None)) ⊥) (fault_in (base_in text))
 unfolding base_in closes
 base_least text =
-    by_test _ (has right_parenthesis text && is_blank_text (after right_parenthesis text)) _ _
+    by_test _ (has_byte right_parenthesis text && is_blank_text (after right_parenthesis text)) _ _
     (λ e. three_same _ _ ⊥ _ _ ⊥ _ (λ u. (e, u)) (λ m. inr m) (λ x. x) (λ u. u.1) (λ m. ⊎_elim (λ f. absurd (clash _ e f)) (λ n. n) m) (λ x. x) (register_least (before right_parenthesis text)))
     (λ e. (inl e, least_misfit _ _ ⊥ (λ u. clash _ u.0 e)))
 
 address_least : (text : List ℕ) → IsLeast (Three (Unknown Address text) (Misfit Address text) (OutOfRange Address text)) (fault_in (address_in text))
 unfolding address_in closes
 address_least text =
-    by_test _ (has left_parenthesis text) _ _
+    by_test _ (has_byte left_parenthesis text) _ _
     (λ e. subst (IsLeast (Three (Unknown Address text) (Misfit Address text) (OutOfRange Address text))) (both_fault (offset_in (offset_text text)) (base_in (after left_parenthesis text)))
     (three_same _ _ _ _ _ _ _
     (λ u. ⊎_elim (λ x. absurd x) (λ y. (e, y.0, y.1)) u)
@@ -281,7 +281,7 @@ address_least text =
 full_address_least : (text : List ℕ) → IsLeast (Three (Unknown FullAddress text) (Misfit FullAddress text) (OutOfRange FullAddress text)) (fault_in (full_address_in text))
 unfolding full_address_in closes immediate_in
 full_address_least text =
-    by_test _ (has left_parenthesis text) _ _
+    by_test _ (has_byte left_parenthesis text) _ _
     (λ e. subst (IsLeast (Three (Unknown FullAddress text) (Misfit FullAddress text) (OutOfRange FullAddress text))) (both_fault (integer_in 2048 2047 (offset_text text)) (base_in (after left_parenthesis text)))
     (three_same _ _ _ _ _ _ _
     (λ u. ⊎_elim (λ x. absurd x) (λ y. (e, y.0, y.1)) u)

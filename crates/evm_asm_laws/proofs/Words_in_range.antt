@@ -14,7 +14,7 @@ use Rattle.evm_isa.specs.declared.inst.Inst.TheVariants.{Lui, Auipc, Jal, Jalr, 
 use Rattle.evm_isa.specs.Encoded.{twos_complement, multiple, i_placed, s_placed, b_placed, j_placed, i_bits, s_bits, b_bits, u_bits, j_bits, is_register, amounts, amount_placed, fence_placed, bits_joined, encoded}
 use Rattle.evm_asm.specs.evm_asm_lexer.declared.source_fault.SourceFaultKind.TheVariants.{BadOperand, RangeOfImmediate}
 use Rattle.evm_asm.specs.evm_asm_lexer.Characters.{left_parenthesis, right_parenthesis}
-use Rattle.evm_asm.specs.evm_asm_lexer.Text.{before, after, has}
+use Rattle.evm_asm.specs.evm_asm_lexer.Text.{before, after, has_byte}
 use Rattle.evm_asm.specs.evm_asm_parser.Operands.{register_in, number_in, integer_in, immediate_in, offset_in, base_in, address_in, full_address_in, natural, limited, natural_in, is_blank_text, upper, upper_in}
 use Rattle.evm_asm.specs.evm_asm_parser.declared.operand.Number.{Number}
 use Rattle.evm_asm.proofs.evm_asm_parser.Outcomes.{either_ok, tested_ok, both_ok, read_ok}
@@ -171,13 +171,13 @@ base_below text = either_ok _ (register_in (before right_parenthesis text)) (Err
 pub address_within : (text : List ℕ) → IfOk (address_in text) (λ x. IsWithin 2048 x.0 × IsRegister x.1)
 unfolding address_in
 address_within text =
-    either_ok (has left_parenthesis text) _ (Err BadOperand) (λ x. IsWithin 2048 x.0 × IsRegister x.1)
+    either_ok (has_byte left_parenthesis text) _ (Err BadOperand) (λ x. IsWithin 2048 x.0 × IsRegister x.1)
     (both_ok (offset_in (before left_parenthesis text)) (base_in (after left_parenthesis text)) (IsWithin 2048) IsRegister (offset_within (before left_parenthesis text)) (base_below (after left_parenthesis text))) tt
 
 pub full_address_within : (text : List ℕ) → IfOk (full_address_in text) (λ x. IsWithin 2048 x.0 × IsRegister x.1)
 unfolding full_address_in
 full_address_within text =
-    either_ok (has left_parenthesis text) _ (Err BadOperand) (λ x. IsWithin 2048 x.0 × IsRegister x.1)
+    either_ok (has_byte left_parenthesis text) _ (Err BadOperand) (λ x. IsWithin 2048 x.0 × IsRegister x.1)
     (both_ok (immediate_in (before left_parenthesis text)) (base_in (after left_parenthesis text)) (IsWithin 2048) IsRegister (immediate_within (before left_parenthesis text)) (base_below (after left_parenthesis text))) tt
 
 -- ---- from 0 to above

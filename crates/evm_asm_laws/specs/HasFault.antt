@@ -8,7 +8,7 @@ use Rattle.evm_asm.specs.evm_asm_lexer.declared.mnemonic.Width.{Width}
 use Rattle.evm_asm.specs.evm_asm_lexer.declared.mnemonic.Width.TheVariants.{Byte, Word, Dword}
 use Rattle.evm_asm.specs.evm_asm_lexer.Characters.{left_parenthesis, right_parenthesis}
 use Rattle.evm_asm.specs.evm_asm_lexer.Faults.{source_number}
-use Rattle.evm_asm.specs.evm_asm_lexer.Text.{before, after, has, skip_blanks, first_word, starts_with, is_name_start, is_empty, is_sound}
+use Rattle.evm_asm.specs.evm_asm_lexer.Text.{before, after, has_byte, skip_blanks, first_word, starts_with, is_name_start, is_empty, is_sound}
 use Rattle.evm_asm.specs.evm_asm_lexer.Names.{register_named, mnemonic_named}
 use Rattle.evm_asm.specs.evm_asm_parser.declared.operand.Number.{Number}
 use Rattle.evm_asm.specs.evm_asm_parser.declared.statement.Datum.TheVariants as datum
@@ -44,13 +44,13 @@ offset_text text = before left_parenthesis text
 -- behind a '(' there is a ')', and nothing behind that
 abbrev pub encloses : List ℕ → Bool
 encloses text =
-    has right_parenthesis (after left_parenthesis text) && is_blank_text (after right_parenthesis (after left_parenthesis text))
+    has_byte right_parenthesis (after left_parenthesis text) && is_blank_text (after right_parenthesis (after left_parenthesis text))
 
 -- In a register's place stands a name that is no register.
 abbrev pub Unknown : Slot → List ℕ → Type 0
 Unknown Register text = IsNoRegister text
-Unknown Address text = (has left_parenthesis text ≡ true) × (encloses text ≡ true) × IsNoRegister (base_text text)
-Unknown FullAddress text = (has left_parenthesis text ≡ true) × (encloses text ≡ true) × IsNoRegister (base_text text)
+Unknown Address text = (has_byte left_parenthesis text ≡ true) × (encloses text ≡ true) × IsNoRegister (base_text text)
+Unknown FullAddress text = (has_byte left_parenthesis text ≡ true) × (encloses text ≡ true) × IsNoRegister (base_text text)
 Unknown slot text = ⊥
 
 -- In a place stands something of another kind: no name, no number, no address.
@@ -61,10 +61,10 @@ Misfit (Natural above) text = number_in text ≡ None
 Misfit Upper text = number_in text ≡ None
 Misfit Label text = name_in text ≡ None
 Misfit Address text =
-    (has left_parenthesis text ≡ false) ⊎ (encloses text ≡ false) ⊎ (name_in (base_text text) ≡ None)
+    (has_byte left_parenthesis text ≡ false) ⊎ (encloses text ≡ false) ⊎ (name_in (base_text text) ≡ None)
     ⊎ ((is_blank_text (offset_text text) ≡ false) × (number_in (offset_text text) ≡ None))
 Misfit FullAddress text =
-    (has left_parenthesis text ≡ false) ⊎ (encloses text ≡ false) ⊎ (name_in (base_text text) ≡ None)
+    (has_byte left_parenthesis text ≡ false) ⊎ (encloses text ≡ false) ⊎ (name_in (base_text text) ≡ None)
     ⊎ (number_in (offset_text text) ≡ None)
 Misfit Name text = name_in text ≡ None
 
@@ -73,8 +73,8 @@ abbrev pub OutOfRange : Slot → List ℕ → Type 0
 OutOfRange (Integer below above) text = IsOutside below above text
 OutOfRange (Natural above) text = IsOutside 0 above text
 OutOfRange Upper text = IsOutside 0 1048575 text
-OutOfRange Address text = (has left_parenthesis text ≡ true) × (is_blank_text (offset_text text) ≡ false) × IsOutside 2048 2047 (offset_text text)
-OutOfRange FullAddress text = (has left_parenthesis text ≡ true) × IsOutside 2048 2047 (offset_text text)
+OutOfRange Address text = (has_byte left_parenthesis text ≡ true) × (is_blank_text (offset_text text) ≡ false) × IsOutside 2048 2047 (offset_text text)
+OutOfRange FullAddress text = (has_byte left_parenthesis text ≡ true) × IsOutside 2048 2047 (offset_text text)
 OutOfRange slot text = ⊥
 
 -- ---- what is wrong with the operands

@@ -42,8 +42,8 @@ before c text = take (place_by (λ b. b == c) text) text
 unfoldable pub after : ℕ → List ℕ → List ℕ
 after c text = tail (drop (place_by (λ b. b == c) text) text)
 
-abbrev pub has : ℕ → List ℕ → Bool
-has c text = is_some (position (λ b. b == c) text)
+abbrev pub has_byte : ℕ → List ℕ → Bool
+has_byte c text = is_some (position (λ b. b == c) text)
 
 -- the text from its first byte on that isn't blank
 unfoldable pub skip_blanks : List ℕ → List ℕ

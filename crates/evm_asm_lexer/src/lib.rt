@@ -19,6 +19,6 @@ pub use names::mnemonic_named;
 pub use registers::register_named;
 pub use source_fault::{SourceFault, SourceFaultKind, both, least};
 pub use text::{
-    after, before, behind_word, cut, cut_word, first_word, has, is_name_start, skip_blanks,
+    after, before, behind_word, cut, cut_word, first_word, has_byte, is_name_start, skip_blanks,
 };
 pub use token::{bad_token, is_sound, size, starts_with_digit};

@@ -2,7 +2,7 @@
 
 ghost use Rattle.std.specs.Prelude.{◌≡◌, ◌<◌, ◌≤◌, ◌==◌, not, length, IfSome};
 ghost use Rattle.std.specs.List.{position};
-ghost use Rattle.evm_asm_lexer.specs.Text.{is_digit, is_name_start, is_word_byte, is_white, is_mark, before, after, has, place_by, skip_blanks, first_word, behind_word};
+ghost use Rattle.evm_asm_lexer.specs.Text.{is_digit, is_name_start, is_word_byte, is_white, is_mark, before, after, has_byte, place_by, skip_blanks, first_word, behind_word};
 
 /// Whether a byte is `0` to `9`.
 pub fn is_digit(b: u8) -> bool
@@ -116,8 +116,8 @@ pub fn cut(c: u8, text: &[u8]) -> (&[u8], &[u8])
 }
 
 /// Whether the byte `c` is in the text.
-pub fn has(c: u8, text: &[u8]) -> bool
-    ensures { result ≡ has c text.now }
+pub fn has_byte(c: u8, text: &[u8]) -> bool
+    ensures { result ≡ has_byte c text.now }
 {
     position_of(c, text).is_some()
 }

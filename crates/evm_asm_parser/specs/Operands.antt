@@ -10,7 +10,7 @@ use Rattle.evm_asm_parser.specs.declared.statement.Datum.{Datum}
 use Rattle.evm_asm_parser.specs.declared.statement.Datum.TheVariants as datum
 use Rattle.evm_asm_lexer.specs.Characters.{comma, minus, left_parenthesis, right_parenthesis}
 use Rattle.evm_asm_lexer.specs.Faults.{both, least, ◌>>=◌}
-use Rattle.evm_asm_lexer.specs.Text.{before, after, has, skip_blanks, first_word, behind_word, starts_with, is_digit, is_name_start, is_empty, size, tail}
+use Rattle.evm_asm_lexer.specs.Text.{before, after, has_byte, skip_blanks, first_word, behind_word, starts_with, is_digit, is_name_start, is_empty, size, tail}
 use Rattle.evm_asm_lexer.specs.Names.{named, register_named}
 
 -- the labels that are known, each with its spot
@@ -94,14 +94,14 @@ offset_in text = if is_blank_text text then Ok (pos 0) else immediate_in text
 
 -- what stands behind it: a register and ')'
 unfoldable pub base_in : List ℕ → Result ℕ SourceFaultKind
-base_in text = if has right_parenthesis text && is_blank_text (after right_parenthesis text) then register_in (before right_parenthesis text) else Err BadOperand
+base_in text = if has_byte right_parenthesis text && is_blank_text (after right_parenthesis text) then register_in (before right_parenthesis text) else Err BadOperand
 
 unfoldable pub address_in : List ℕ → Result (ℤ × ℕ) SourceFaultKind
-address_in text = if has left_parenthesis text then both (offset_in (before left_parenthesis text)) (base_in (after left_parenthesis text)) else Err BadOperand
+address_in text = if has_byte left_parenthesis text then both (offset_in (before left_parenthesis text)) (base_in (after left_parenthesis text)) else Err BadOperand
 
 -- an address whose offset is written
 unfoldable pub full_address_in : List ℕ → Result (ℤ × ℕ) SourceFaultKind
-full_address_in text = if has left_parenthesis text then both (immediate_in (before left_parenthesis text)) (base_in (after left_parenthesis text)) else Err BadOperand
+full_address_in text = if has_byte left_parenthesis text then both (immediate_in (before left_parenthesis text)) (base_in (after left_parenthesis text)) else Err BadOperand
 
 -- the number, where it is from 0 to above
 unfoldable pub natural : ℕ → Number → Result ℕ SourceFaultKind

@@ -15,8 +15,8 @@ mod target;
 pub use directive::{also, datum_in};
 pub use evm_asm_lexer::{
     AsmFault, AsmFaultKind, Extension, Mnemonic, Section, SourceFault, SourceFaultKind, Width,
-    after, bad_token, before, behind_word, cut, cut_word, extension_of, first_word, has, is_sound,
-    least, mnemonic_named, register_named, skip_blanks,
+    after, bad_token, before, behind_word, cut, cut_word, extension_of, first_word, has_byte,
+    is_sound, least, mnemonic_named, register_named, skip_blanks,
 };
 pub use instruction::upper;
 pub use kept::{Kept, KeptLines};

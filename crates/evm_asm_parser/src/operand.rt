@@ -9,7 +9,7 @@ ghost use Rattle.evm_asm_parser.specs.Operands.{is_blank_text, first_operand, ot
 use crate::labels::Labels;
 use crate::spot::Spot;
 use evm_asm_lexer::{
-    SourceFaultKind, after, before, both, cut_word, has, is_name_start, least, register_named,
+    SourceFaultKind, after, before, both, cut_word, has_byte, is_name_start, least, register_named,
     size, skip_blanks, starts_with_digit,
 };
 use evm_isa::Register;
@@ -247,7 +247,7 @@ fn offset_in(text: &[u8]) -> Result<i32, SourceFaultKind>
 fn base_in(text: &[u8]) -> Result<Register, SourceFaultKind>
     ensures { result ≡ base_in text.now }
 {
-    if has(b')', text) && is_blank_text(after(b')', text)) {
+    if has_byte(b')', text) && is_blank_text(after(b')', text)) {
         register_in(before(b')', text))
     } else {
         Err(SourceFaultKind::BadOperand)
@@ -259,7 +259,7 @@ fn base_in(text: &[u8]) -> Result<Register, SourceFaultKind>
 pub fn address_in(text: &[u8]) -> Result<(i32, Register), SourceFaultKind>
     ensures { result ≡ address_in text.now }
 {
-    if has(b'(', text) {
+    if has_byte(b'(', text) {
         both(offset_in(before(b'(', text)), base_in(after(b'(', text)))
     } else {
         Err(SourceFaultKind::BadOperand)
@@ -271,7 +271,7 @@ pub fn address_in(text: &[u8]) -> Result<(i32, Register), SourceFaultKind>
 pub fn full_address_in(text: &[u8]) -> Result<(i32, Register), SourceFaultKind>
     ensures { result ≡ full_address_in text.now }
 {
-    if has(b'(', text) {
+    if has_byte(b'(', text) {
         both(immediate_in(before(b'(', text)), base_in(after(b'(', text)))
     } else {
         Err(SourceFaultKind::BadOperand)

@@ -101,8 +101,8 @@ fn cuts(rt: HostRuntime) {
         );
         assert_eq!(rt; after(b',', text.as_bytes()), rest.as_bytes(), "in {text}");
     }
-    assert!(rt; has(b',', b"a,b"));
-    assert!(rt; !has(b',', b"a(b"));
+    assert!(rt; has_byte(b',', b"a,b"));
+    assert!(rt; !has_byte(b',', b"a(b"));
     assert_eq!(rt; skip_blanks(b" \t\r a \r"), b"a \r".as_slice());
     assert_eq!(rt; skip_blanks(b"\r"), b"".as_slice());
     assert_eq!(rt; skip_blanks(b"\x0ba"), b"\x0ba".as_slice());

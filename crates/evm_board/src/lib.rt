@@ -27,4 +27,4 @@ pub use evm_settle::{
     Tasks, Timers,
 };
 pub use memory::Memory;
-pub use stepping::Made;
+pub use stepping::StepsMade;

@@ -12,7 +12,7 @@ mod target;
 
 pub use evm_gdb_driving::{Boot, Devices, Interrupts, Line, Machine, Refusal, cut_line, read_line};
 pub use monitor::{LineEnd, run_line};
-pub use serving::{Ended, serve};
+pub use serving::{Ended, serve_gdb};
 pub use session::Session;
 
 #[cfg(test)]

@@ -329,7 +329,7 @@ fn keep_last(heard: &mut Vec<u8>, left: usize) {
 /// Serves a session: reads what GDB sends until it leaves, and writes the answers. While the program goes on, the source
 /// says whether GDB asks that it be stopped.
 #[tactic(auto, using(evm_gdb_driving::proofs::Kept::keeps_same, evm_gdb_driving::proofs::Kept::keeps_more))]
-pub fn serve<R: Source + Interrupts, W: Sink, D: Device>(
+pub fn serve_gdb<R: Source + Interrupts, W: Sink, D: Device>(
     alloc: Global,
     session: &mut Session<D>,
     source: &mut R,

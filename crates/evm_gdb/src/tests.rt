@@ -51,7 +51,7 @@ fn talk_to(
     }
     let mut out = Vec::new(alloc);
     let mut source = input.as_slice();
-    let _ = serve(alloc, &mut session, &mut source, &mut out);
+    let _ = serve_gdb(alloc, &mut session, &mut source, &mut out);
     Ok(out)
 }
 
@@ -74,7 +74,7 @@ fn a_continue_is_interrupted(rt: HostRuntime) -> Result<(), Fail> {
         asks: true,
     };
     let mut out = Vec::new(rt.alloc());
-    let _ = serve(rt.alloc(), &mut session, &mut source, &mut out);
+    let _ = serve_gdb(rt.alloc(), &mut session, &mut source, &mut out);
     let wanted = packets(rt.alloc(), &[b"T02thread:01;", b"0000008000000000"])?;
     assert_eq!(rt; out.as_slice(), wanted.as_slice());
     Ok(())
@@ -241,7 +241,7 @@ fn packets_come_in_pieces(rt: HostRuntime) -> Result<(), Fail> {
         asks: false,
     };
     let mut out = Vec::new(rt.alloc());
-    let end = serve(rt.alloc(), &mut session, &mut source, &mut out);
+    let end = serve_gdb(rt.alloc(), &mut session, &mut source, &mut out);
     assert_eq!(rt; end, Ended::Left);
     assert_eq!(rt; out.as_slice(), b"+$QC01#f5--".as_slice());
     Ok(())
@@ -251,7 +251,7 @@ fn packets_come_in_pieces(rt: HostRuntime) -> Result<(), Fail> {
 fn a_failed_write_ends_a_session(rt: HostRuntime) -> Result<(), Fail> {
     let mut session = Session::new(machine(rt.alloc())?);
     let mut source: &[u8] = b"$?#3f";
-    let end = serve(rt.alloc(), &mut session, &mut source, &mut Broken);
+    let end = serve_gdb(rt.alloc(), &mut session, &mut source, &mut Broken);
     let failed = matches!(end, Ended::WriteFailed(_));
     assert!(rt; failed, "{end:?}");
     Ok(())

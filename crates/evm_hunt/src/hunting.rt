@@ -7,7 +7,7 @@ ghost use Rattle.evm_hunt.specs.Hunts.{IsShown};
 ghost use Rattle.evm_hunt.specs.Searches.{is_failed};
 
 use crate::found::{Found, Tried, replayed, try_schedule};
-use crate::key::Key;
+use crate::key::FailureKey;
 use crate::listing::events_of;
 use crate::onlooker::Onlooker;
 use crate::ordering::{Cycle, Orders};
@@ -32,7 +32,7 @@ pub struct Plan {
 
 /// Which schedules were looked at.
 #[derive(Clone, Copy, Debug, PartialEq, Eq)]
-pub enum Span {
+pub enum SearchSpan {
     /// Those of the seeds from one to another.
     Seeds(u64, u64),
     /// Those with at most this number of switches.
@@ -43,7 +43,7 @@ pub enum Span {
 #[derive(Clone, Copy, Debug)]
 pub struct Row {
     /// The kind and the place.
-    pub key: Key,
+    pub key: FailureKey,
     /// What has failed; None of two locks that close a cycle.
     pub failure: Option<Failure>,
     /// Of two locks that close a cycle the place of the other.
@@ -94,7 +94,7 @@ impl Report {
     }
 
     // Whether a failure was found before.
-    fn knows(&self, key: &Key) -> bool
+    fn knows(&self, key: &FailureKey) -> bool
         ensures { result ≡ true → self.now.rows.items ≡ [] → ⊥ }
     {
         for row in &self.rows {
@@ -131,7 +131,7 @@ impl Report {
         ensures shown { self.new.shortest ≡ self.old.shortest }
         ensures rows { self.new.rows.items ≡ [] → self.old.rows.items ≡ [] }
     {
-        let key = Key {
+        let key = FailureKey {
             kind: "order",
             place: cycle.place,
         };
@@ -160,7 +160,7 @@ impl Report {
     }
 
     // Adds a failure.
-    fn add(&mut self, key: Key, seed: u64, found: Found) -> Result<(), NoMemory>
+    fn add(&mut self, key: FailureKey, seed: u64, found: Found) -> Result<(), NoMemory>
         ensures shown { OnOk result ((self.new.shortest ≡ self.old.shortest) ⊎ (self.new.shortest ≡ Option.Some found)) }
         ensures rows { OnOk result (self.new.rows.items ≡ [] → ⊥) }
     {
@@ -188,7 +188,7 @@ fn shorter(
     image: &Image,
     boot: &Boot,
     watch: &Watch,
-    key: &Key,
+    key: &FailureKey,
     tried: &Tried,
 ) -> Result<Option<Found>, Stop>
     ensures { IfOk result (λ found. IsShown image.now boot.now watch.now.lines found) }
@@ -213,7 +213,7 @@ fn shortest_of(
     image: &Image,
     boot: &Boot,
     watch: &Watch,
-    key: &Key,
+    key: &FailureKey,
     tried: Tried,
     failure: Failure,
 ) -> Result<Found, Stop>
@@ -282,7 +282,7 @@ pub(crate) fn note(
         Outcome::Failed(failure) => failure,
         Outcome::Over | Outcome::Full => return Ok(()),
     };
-    let key = Key::of(&tried.machine, failure);
+    let key = FailureKey::of(&tried.machine, failure);
     if report.knows(&key) {
         return Ok(());
     }

@@ -1,7 +1,7 @@
 //! Which failures are one.
 
 use evm_model::{Errno, NoticeKind};
-use evm_schedules::{AnyDevice, Failure, Machine, place_of};
+use evm_schedules::{AnyDevice, Failure, Machine, failure_address};
 
 /// The name of an error, as Linux has it.
 fn error_name(error: Errno) -> &'static str {
@@ -38,24 +38,24 @@ pub fn kind_name(failure: Failure) -> &'static str {
 
 /// The kind of a failure and its place: two that have them alike are shown as one.
 #[derive(Clone, Copy, Debug, PartialEq, Eq)]
-pub struct Key {
+pub struct FailureKey {
     /// The name of the kind.
     pub kind: &'static str,
     /// The address of the instruction.
     pub place: u64,
 }
 
-impl Key {
+impl FailureKey {
     /// That of a failure of a machine.
-    pub fn of(machine: &Machine<AnyDevice>, failure: Failure) -> Key {
-        Key {
+    pub fn of(machine: &Machine<AnyDevice>, failure: Failure) -> FailureKey {
+        FailureKey {
             kind: kind_name(failure),
-            place: place_of(machine, failure),
+            place: failure_address(machine, failure),
         }
     }
 
     /// Whether a failure is the same.
-    pub fn is(&self, other: &Key) -> bool {
+    pub fn is(&self, other: &FailureKey) -> bool {
         self.place == other.place && self.kind == other.kind
     }
 }

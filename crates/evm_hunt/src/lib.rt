@@ -20,12 +20,12 @@ mod watching;
 
 pub use evm_schedules::{BeginFault, Boot, Errors, Failure, Inversion, Machine, Watch, Way};
 pub use found::{Found, Tried, replayed, try_schedule};
-pub use hunting::{Plan, Report, Row, Span, hunt};
-pub use key::{Key, kind_name};
-pub use listing::Events;
+pub use hunting::{Plan, Report, Row, SearchSpan, hunt};
+pub use key::{FailureKey, kind_name};
+pub use listing::EventList;
 pub use onlooker::Onlooker;
 pub use ordering::{Cycle, Orders};
 pub use reporting::report_text;
-pub use script::{journal_text, script_text};
+pub use script::{failing_script, journal_text};
 pub use shortening::{Stop, first_length, shorten};
 pub use switching::{Switching, hunt_all};

@@ -1,7 +1,7 @@
 //! What a hunt prints.
 
-use crate::hunting::{Report, Row, Span};
-use crate::key::Key;
+use crate::hunting::{Report, Row, SearchSpan};
+use crate::key::FailureKey;
 use evm_journal::push_decimal;
 use evm_room::{NoMemory, Refused, push_text};
 use evm_schedules::Failure;
@@ -49,7 +49,11 @@ pub(crate) fn push_subject(out: &mut String, failure: Failure) -> Result<(), Ref
 }
 
 /// Appends the kind and the place of a failure.
-pub(crate) fn push_key(out: &mut String, key: &Key, symbols: &Symbols) -> Result<(), Refused> {
+pub(crate) fn push_key(
+    out: &mut String,
+    key: &FailureKey,
+    symbols: &Symbols,
+) -> Result<(), Refused> {
     push_text(out, key.kind)?;
     push_text(out, " ")?;
     push_place(out, key.place, symbols)
@@ -71,18 +75,18 @@ fn push_row(out: &mut String, row: &Row, symbols: &Symbols) -> Result<(), Refuse
 }
 
 // Appends which schedules were looked at.
-fn push_span(out: &mut String, span: Span) -> Result<(), Refused> {
+fn push_span(out: &mut String, span: SearchSpan) -> Result<(), Refused> {
     match span {
-        Span::Seeds(first, last) => {
+        SearchSpan::Seeds(first, last) => {
             push_number(out, "seeds ", first)?;
             push_number(out, " to ", last)
         }
-        Span::Switches(most) => push_number(out, "switches ", u64::from(most)),
+        SearchSpan::Switches(most) => push_number(out, "switches ", u64::from(most)),
     }
 }
 
 // Appends the last line: how many schedules were looked at, of how many events, and how many of them ended with a full journal.
-fn push_counts(out: &mut String, report: &Report, span: Span) -> Result<(), Refused> {
+fn push_counts(out: &mut String, report: &Report, span: SearchSpan) -> Result<(), Refused> {
     push_span(out, span)?;
     push_number(out, ": schedules ", report.schedules)?;
     push_number(out, " events ", report.events)?;
@@ -93,7 +97,7 @@ fn push_counts(out: &mut String, report: &Report, span: Span) -> Result<(), Refu
 fn push_report(
     out: &mut String,
     report: &Report,
-    span: Span,
+    span: SearchSpan,
     symbols: &Symbols,
 ) -> Result<(), Refused> {
     for row in &report.rows {
@@ -111,7 +115,7 @@ fn push_report(
 pub fn report_text(
     alloc: Global,
     report: &Report,
-    span: Span,
+    span: SearchSpan,
     symbols: &Symbols,
 ) -> Result<String, NoMemory> {
     let mut text = String::new(alloc);

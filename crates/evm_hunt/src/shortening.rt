@@ -1,8 +1,8 @@
 //! A failing schedule made shorter.
 
 use crate::found::try_schedule;
-use crate::key::Key;
-use crate::listing::{Events, without};
+use crate::key::FailureKey;
+use crate::listing::{EventList, without};
 use evm_image::Image;
 use evm_room::NoMemory;
 use evm_schedules::{BeginFault, Boot, Chooser, Event, NoBytes, Outcome, Watch, Way, begin, play};
@@ -41,12 +41,12 @@ fn fails_again(
     image: &Image,
     boot: &Boot,
     watch: &Watch,
-    key: &Key,
+    key: &FailureKey,
     events: &[Event<NoBytes>],
 ) -> Result<Option<u64>, BeginFault> {
     let mut machine = begin(alloc, image, boot)?;
     match play(&mut machine, events, watch) {
-        Outcome::Failed(failure) if Key::of(&machine, failure).is(key) => {
+        Outcome::Failed(failure) if FailureKey::of(&machine, failure).is(key) => {
             Ok(Some(machine.event_count()))
         }
         _ => Ok(None),
@@ -103,9 +103,9 @@ pub fn shorten(
     image: &Image,
     boot: &Boot,
     watch: &Watch,
-    key: &Key,
-    events: Events,
-) -> Result<Events, Stop> {
+    key: &FailureKey,
+    events: EventList,
+) -> Result<EventList, Stop> {
     let mut events = events;
     let mut cut = Cut::of_length(events.len());
     for _ in 0..TRIALS {

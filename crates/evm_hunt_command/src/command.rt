@@ -1,6 +1,6 @@
 //! A run of the program, from its words to its exit status.
 
-use crate::progress::Progress;
+use crate::progress::HuntProgress;
 use crate::words::{Options, Search, options_of, parse};
 use clap::Error;
 use clap::error::ErrorKind;
@@ -10,8 +10,8 @@ use evm_host::{
     words_not_read, words_of, write_all,
 };
 use evm_hunt::{
-    BeginFault, Found, Onlooker, Plan, Report, Span, Stop, Switching, Way, first_length, hunt,
-    hunt_all, journal_text, report_text, script_text,
+    BeginFault, Found, Onlooker, Plan, Report, SearchSpan, Stop, Switching, Way, failing_script,
+    first_length, hunt, hunt_all, journal_text, report_text,
 };
 use evm_image::Image;
 use evm_symbols::Symbols;
@@ -81,7 +81,7 @@ fn write_files<S: System>(
 ) -> Result<(), u8> {
     let (Ok(journal), Ok(script)) = (
         journal_text(alloc, found),
-        script_text(alloc, found, seed, symbols),
+        failing_script(alloc, found, seed, symbols),
     ) else {
         return Err(memory_refused(PROGRAM, world));
     };
@@ -99,7 +99,7 @@ fn write_files<S: System>(
 fn tell<S: System>(
     alloc: Global,
     options: &Options<'_>,
-    span: Span,
+    span: SearchSpan,
     report: &Report,
     symbols: &Symbols,
     world: &mut World<S>,
@@ -215,8 +215,8 @@ fn hunt_in<S: System, O: Onlooker>(
     world: &mut World<S>,
 ) -> u8 {
     let span = match options.search {
-        Search::Random | Search::Pct(_) => Span::Seeds(options.first, options.last),
-        Search::All(switches) => Span::Switches(switches),
+        Search::Random | Search::Pct(_) => SearchSpan::Seeds(options.first, options.last),
+        Search::All(switches) => SearchSpan::Switches(switches),
     };
     let hunted = hunt_by(alloc, options, image, onlooker);
     onlooker.ended();
@@ -253,7 +253,7 @@ pub fn answer<S: System, O: Onlooker>(
 /// Runs the program on the words of its command line, and returns the exit status.
 pub fn run(rt: &HostRuntime) -> u8 {
     let mut world = host_world(rt);
-    let mut progress = Progress::new(rt);
+    let mut progress = HuntProgress::new(rt);
     match words_of(rt) {
         Ok(words) => answer(rt.alloc(), words.as_slice(), &mut progress, &mut world),
         Err(WordsFault::NotText) => words_not_read(PROGRAM, &mut world),

@@ -9,5 +9,5 @@ mod words;
 pub use command::{answer, run};
 pub use evm_host::{OpenFault, System, World, host_world};
 pub use evm_hunt::Onlooker;
-pub use progress::Progress;
+pub use progress::HuntProgress;
 pub use words::{Options, Search};

@@ -6,22 +6,22 @@ use std::time::Instant;
 
 /// An onlooker that writes to standard error, where it is a terminal, how far a hunt has come: a line after each second.
 #[derive(Drop)]
-pub struct Progress<'a> {
+pub struct HuntProgress<'a> {
     rt: &'a HostRuntime,
     begun: Option<Instant>,
     // how many seconds the hunt had taken when the last line was written
     seconds: u64,
 }
 
-impl<'a> Progress<'a> {
+impl<'a> HuntProgress<'a> {
     /// It says nothing where standard error is no terminal, or there is no clock.
-    pub fn new(rt: &'a HostRuntime) -> Progress<'a> {
+    pub fn new(rt: &'a HostRuntime) -> HuntProgress<'a> {
         let begun = if rt.stderr().is_terminal() {
             Instant::now(rt).ok()
         } else {
             None
         };
-        Progress {
+        HuntProgress {
             rt,
             begun,
             seconds: 0,
@@ -40,7 +40,7 @@ impl<'a> Progress<'a> {
     }
 }
 
-impl Onlooker for Progress<'_> {
+impl Onlooker for HuntProgress<'_> {
     // What a terminal does not show is no fault of the hunt.
     fn looked(&mut self, schedules: u64, failures: u64) {
         let taken = self.taken();

@@ -16,9 +16,9 @@ first_or_rest : (a b : Bool) → (a || b) ≡ true → (a ≡ true) ⊎ (b ≡ t
 first_or_rest true b h = inl refl
 first_or_rest false b h = inr h
 
-both : (a b : Bool) → (a && b) ≡ true → (a ≡ true) × (b ≡ true)
-both true b h = (refl, h)
-both false b h = cc
+and_true : (a b : Bool) → (a && b) ≡ true → (a ≡ true) × (b ≡ true)
+and_true true b h = (refl, h)
+and_true false b h = cc
 
 has_line-cond : (test : Bool) (a b : List ℕ) (l : ℕ) → has_line (cond test a b) l ≡ cond test (has_line a l) (has_line b l)
 has_line-cond true a b l = refl
@@ -66,7 +66,7 @@ pub has_line-among : (test : ℕ → Bool) (l : ℕ) → l < LINES → has_line 
 has_line-among test l h = has_line-filter test all_lines l ∙ ap (λ b. b && test l) (has_line-all l h)
 
 pub has_line-among_below : (test : ℕ → Bool) (l : ℕ) → has_line (filter test all_lines) l ≡ true → l < LINES
-has_line-among_below test l h = has_line-all_below l (both (has_line all_lines l) (test l) (sym (has_line-filter test all_lines l) ∙ h)).0
+has_line-among_below test l h = has_line-all_below l (and_true (has_line all_lines l) (test l) (sym (has_line-filter test all_lines l) ∙ h)).0
 
 -- two tests that agree on the lines make one set
 filter-same_range : (p q : ℕ → Bool) (a n : ℕ) → ((l : ℕ) → a ≤ l → l < a + n → p l ≡ q l) → filter p (range_with_len a n) ≡ filter q (range_with_len a n)
@@ -189,9 +189,9 @@ unfolding lines_of
 lines_of-zero = filter-same (λ l. nat_eq (bit_at 0 l) 1) (λ l. false) (λ l h. rw (bit_at-zero l) refl) ∙ filter-nothing all_lines
 
 -- ---- the least line taken out leaves the others, in their order
-apart : (p same : Bool) → same ≡ false → p ≡ (p && not same)
-apart true same h = rw h refl
-apart false same h = refl
+not_same_kept : (p same : Bool) → same ≡ false → p ≡ (p && not same)
+not_same_kept true same h = rw h refl
+not_same_kept false same h = refl
 
 tail-cond : (test : Bool) (a m : ℕ) (kept left rest : List ℕ) → (a ≡ m → kept ≡ rest → rest ≡ left) → (kept ≡ m ∷ rest → rest ≡ left)
     → cond test (a ∷ kept) kept ≡ m ∷ rest → rest ≡ cond (test && not (nat_eq a m)) (a ∷ left) left
@@ -210,7 +210,7 @@ tail-range p a (suc n) m rest e =
     tail-cond (p a) a m (filter p range) (filter (λ l. p l && not (nat_eq l m)) range) rest
     (λ same others. sym others
     ∙ filter-same_range p (λ l. p l && not (nat_eq l m)) (a + 1) n
-    (λ l low high. apart (p l) (nat_eq l m) (let other : l ≢ m = omega arith in grind (arith, nat_tests))))
+    (λ l low high. not_same_kept (p l) (nat_eq l m) (let other : l ≢ m = omega arith in grind (arith, nat_tests))))
     (λ later. tail-range p (a + 1) n m rest later)
     e
 

@@ -11,13 +11,13 @@ use Rattle.evm_ram.specs.declared.ram.TheConstants.{BASE}
 use Rattle.evm_ram.specs.declared.width.Width.{Width}
 
 -- what an answer with bytes says of the addresses
-both : (a b : Bool) → (a && b) ≡ true → (a ≡ true) × (b ≡ true)
-both true b h = (refl, h)
-both false b h = cc
+both_bounds : (a b : Bool) → (a && b) ≡ true → (a ≡ true) × (b ≡ true)
+both_bounds true b h = (refl, h)
+both_bounds false b h = cc
 
 inside-cases : (none low high : Bool) → (none || (low && high)) ≡ true → (none ≡ true) ⊎ ((low ≡ true) × (high ≡ true))
 inside-cases true low high h = inl refl
-inside-cases false low high h = inr (both low high h)
+inside-cases false low high h = inr (both_bounds low high h)
 
 pub inside : (ram : List ℕ) (address count : ℕ) → is_inside ram address count ≡ true
     → (count ≡ 0) ⊎ ((BASE ≤ address) × (address + count ≤ BASE + length ram))
@@ -123,20 +123,20 @@ same_part ram after place count long h =
     ∙ h (place + k) d (omega arith) (omega arith)
     ∙ sym (get_or-take count (drop place ram) k d short ∙ get_or-drop place ram k d))
 
-apart : (ram : List ℕ) (address : ℕ) (bytes after : List ℕ) (other count : ℕ)
+reads_apart : (ram : List ℕ) (address : ℕ) (bytes after : List ℕ) (other count : ℕ)
     → overwritten ram (address - BASE) bytes ≡ after → length after ≡ length ram
     → (length bytes ≡ 0) ⊎ ((BASE ≤ address) × (address + length bytes ≤ BASE + length ram))
     → (count ≡ 0) ⊎ ((BASE ≤ other) × (other + count ≤ BASE + length ram))
     → (address + length bytes ≤ other) ⊎ (other + count ≤ address)
     → take count (drop (other - BASE) after) ≡ take count (drop (other - BASE) ram)
-apart ram address bytes after other count put long (inl none) q away =
+reads_apart ram address bytes after other count put long (inl none) q away =
     let empty = no_bytes bytes none in
     ap (λ (xs : List ℕ). take count (drop (other - BASE) xs)) (sym put ∙ ap (overwritten ram (address - BASE)) empty ∙ overwritten-nothing ram (address - BASE))
-apart ram address bytes after other count put long (inr p) (inl none) away = rw none refl
-apart ram address bytes after other count put long (inr p) (inr q) (inl before) =
+reads_apart ram address bytes after other count put long (inr p) (inl none) away = rw none refl
+reads_apart ram address bytes after other count put long (inr p) (inr q) (inl before) =
     same_part ram after (other - BASE) count long
     (λ i d low high. rw (← put) (get_or-overwritten_behind ram (address - BASE) bytes i d (omega arith) (omega arith)))
-apart ram address bytes after other count put long (inr p) (inr q) (inr behind) =
+reads_apart ram address bytes after other count put long (inr p) (inr q) (inr behind) =
     same_part ram after (other - BASE) count long
     (λ i d low high. rw (← put) (get_or-overwritten_before ram (address - BASE) bytes i d (omega arith) (omega arith)))
 
@@ -147,7 +147,7 @@ elsewhere-cases ram address bytes after other count true t h away =
     let done = poked ram address bytes after h in
     let long = length-poke_at ram address bytes after h in
     bytes_at-inside after other count (same_inside ram after other count long ∙ t)
-    ∙ ap Some (apart ram address bytes after other count done.1 long (inside ram address (length bytes) done.0) (inside ram other count t) away)
+    ∙ ap Some (reads_apart ram address bytes after other count done.1 long (inside ram address (length bytes) done.0) (inside ram other count t) away)
     ∙ sym (bytes_at-inside ram other count t)
 elsewhere-cases ram address bytes after other count false t h away =
     let long = length-poke_at ram address bytes after h in

@@ -5,7 +5,7 @@ use evm_core::{Boot, Machine};
 use evm_devs::AnyDevice;
 use evm_lines::LineSet;
 use evm_model::{Event, POKE_LIMIT};
-use evm_schedules::{Chooser, Failure, Outcome, Watch, Way, place_of, program_devices, run};
+use evm_schedules::{Chooser, Failure, Outcome, Watch, Way, failure_address, program_devices, run};
 use std::alloc::Global;
 use std::test::Fail;
 
@@ -43,7 +43,7 @@ fn outcome(alloc: Global, words: &[u32], seed: u64) -> Result<(Outcome, u64), Fa
     let mut chooser = Chooser::new(seed, Way::Random, LineSet::new());
     let outcome = run(&mut machine, &mut chooser, &Watch::usual(LineSet::new()));
     let place = match outcome {
-        Outcome::Failed(failure) => place_of(&machine, failure),
+        Outcome::Failed(failure) => failure_address(&machine, failure),
         Outcome::Over | Outcome::Full => 0,
     };
     Ok((outcome, place))

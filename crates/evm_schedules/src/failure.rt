@@ -78,7 +78,7 @@ pub(crate) fn owner_of(machine: &Machine<AnyDevice>, m: u8) -> Option<u8>
 /// by which the waiting task of least number waits, the instruction that demoted a task, the ECALL or the
 /// instruction that faulted by which a task has left a mutex. Of a lost line it is the next instruction of the processor, of a held mutex
 /// that of its owner, and of a task that is kept back its own.
-pub fn place_of(machine: &Machine<AnyDevice>, failure: Failure) -> u64 {
+pub fn failure_address(machine: &Machine<AnyDevice>, failure: Failure) -> u64 {
     match failure {
         Failure::Ebreak(c) => pc_of(machine, current(machine, c)).saturating_sub(4),
         Failure::Fault(t) => pc_of(machine, Some(t)),

@@ -22,7 +22,7 @@ pub use devices::program_devices;
 pub use evm_core::{Boot, Machine};
 pub use evm_devs::AnyDevice;
 pub use evm_model::{Event, NoBytes};
-pub use failure::{Failure, place_of};
+pub use failure::{Failure, failure_address};
 pub use looks::is_deadlock;
 pub use monitor::Monitor;
 pub use running::{Outcome, advance, play, run};

@@ -4,7 +4,7 @@ use crate::shell::{Outcome, Shell, Watch};
 use evm_program::Meter;
 use evm_room::NoMemory;
 use evm_shell_answers::{
-    AnyDevice, Line, Machine, Names, Page, Snapshot, address_of, numbers_of, push, put_changes,
+    AnyDevice, Line, Machine, Names, Page, Snapshot, address_of, numbers_of, push_one, put_changes,
     put_code, put_harts, put_numbers, put_owners, put_place, put_plain, read_line,
 };
 use evm_symbols::SymbolTable;
@@ -90,7 +90,7 @@ impl<M: Meter + Drop> Shell<'_, M> {
         if value.is_none() || self.watches.len() >= MOST_WATCHES {
             return Ok(Outcome::Wanted(WATCH_FORM));
         }
-        push(&mut self.watches, Watch { address, value })?;
+        push_one(&mut self.watches, Watch { address, value })?;
         page.put("  ")?;
         put_place(page, &self.names, address)?;
         page.put(" is ")?;

@@ -4,7 +4,7 @@ use crate::help::HELP;
 use evm_image::Image;
 use evm_program::Meter;
 use evm_room::NoMemory;
-use evm_shell_answers::{Bench, Names, Notes, Page, Snapshot, cut_word};
+use evm_shell_answers::{Bench, Names, Notes, Page, Snapshot, split_word};
 use std::alloc::Global;
 
 /// A word of RAM that is watched: its address, and what it was.
@@ -76,7 +76,7 @@ impl<'a, M: Meter + Drop> Shell<'a, M> {
         text: &str,
         page: &mut Page,
     ) -> Result<Outcome, NoMemory> {
-        let (keyword, rest) = cut_word(text);
+        let (keyword, rest) = split_word(text);
         match keyword {
             "each" => self.each(alloc, number, rest, page),
             "until" => self.until(alloc, number, rest, page),

@@ -4,7 +4,7 @@ use crate::answers::is_behind_call;
 use crate::errno::errno_name;
 use crate::names::Names;
 use crate::numbers::{address_of, number_of};
-use crate::words::cut_word;
+use crate::words::split_word;
 use evm_model::TaskState;
 use evm_session::{AnyDevice, Machine};
 
@@ -55,9 +55,9 @@ fn is_state(word: StateWord, state: TaskState) -> bool {
 
 /// The condition of some words: `ADDRESS`, `owner M T`, `state T S` or `errno T`.
 pub fn condition_of(names: &Names, text: &str) -> Option<Condition> {
-    let (first, rest) = cut_word(text);
-    let (second, rest) = cut_word(rest);
-    let (third, rest) = cut_word(rest);
+    let (first, rest) = split_word(text);
+    let (second, rest) = split_word(rest);
+    let (third, rest) = split_word(rest);
     if !rest.is_empty() {
         return None;
     }

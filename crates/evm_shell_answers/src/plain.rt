@@ -4,7 +4,7 @@ use crate::names::Names;
 use crate::numbers::address_of;
 use crate::page::Page;
 use crate::registers::register_number;
-use crate::words::cut_word;
+use crate::words::split_word;
 use evm_image::Image;
 use evm_messages::{Diagnostic, LineFault, report_line};
 use evm_room::NoMemory;
@@ -50,10 +50,10 @@ fn put_field(
 
 /// The plain line of a line with names: words with one blank between them, and numbers where names stood.
 pub fn put_plain(page: &mut Page, names: &Names, line: &str) -> Result<(), NoMemory> {
-    let (keyword, mut rest) = cut_word(line);
+    let (keyword, mut rest) = split_word(line);
     page.put(keyword)?;
     for field in 0..8u8 {
-        let (word, after) = cut_word(rest);
+        let (word, after) = split_word(rest);
         if word.is_empty() {
             return Ok(());
         }

@@ -3,7 +3,7 @@
 use crate::names::Names;
 use crate::numbers::{address_of, number_of};
 use crate::page::Page;
-use crate::words::cut_word;
+use crate::words::split_word;
 use evm_room::NoMemory;
 use evm_session::{AnyDevice, Machine};
 
@@ -47,9 +47,9 @@ fn shape_of(word: &str) -> Option<(u8, bool, u8)> {
 
 /// What the words `ADDRESS as TYPE[N]` ask for.
 pub fn numbers_of(names: &Names, text: &str) -> Option<Numbers> {
-    let (place, rest) = cut_word(text);
-    let (with, rest) = cut_word(rest);
-    let (shape, rest) = cut_word(rest);
+    let (place, rest) = split_word(text);
+    let (with, rest) = split_word(rest);
+    let (shape, rest) = split_word(rest);
     if with != "as" || !rest.is_empty() {
         return None;
     }

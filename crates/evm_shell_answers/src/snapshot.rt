@@ -24,7 +24,7 @@ pub struct Snapshot {
 }
 
 /// Appends an item, or answers that memory was refused.
-pub fn push<T: Drop>(items: &mut Vec<T>, item: T) -> Result<(), NoMemory> {
+pub fn push_one<T: Drop>(items: &mut Vec<T>, item: T) -> Result<(), NoMemory> {
     match items.push(item) {
         Ok(()) => Ok(()),
         Err(_) => Err(NoMemory),
@@ -35,7 +35,7 @@ fn processors_of(alloc: Global, machine: &Machine<AnyDevice>) -> Result<Vec<Proc
     let mut processors = Vec::new(alloc);
     for c in 0..machine.cpu_count() {
         if let Some(processor) = machine.cpu(c) {
-            push(&mut processors, processor)?;
+            push_one(&mut processors, processor)?;
         }
     }
     Ok(processors)
@@ -48,7 +48,7 @@ fn tasks_of(alloc: Global, machine: &Machine<AnyDevice>) -> Result<Vec<TaskShot>
             && let Some(hart) = machine.hart(t)
         {
             let state = task.state;
-            push(&mut tasks, TaskShot { state, hart })?;
+            push_one(&mut tasks, TaskShot { state, hart })?;
         }
     }
     Ok(tasks)
@@ -58,7 +58,7 @@ fn owners_of(alloc: Global, machine: &Machine<AnyDevice>) -> Result<Vec<Option<u
     let mut owners = Vec::new(alloc);
     for m in 0..machine.mutex_count() {
         if let Some(mutex) = machine.mutex(m) {
-            push(&mut owners, mutex.owner)?;
+            push_one(&mut owners, mutex.owner)?;
         }
     }
     Ok(owners)

@@ -1,8 +1,8 @@
 //! A map file: where the code of an address comes from.
 
 use crate::numbers::hexadecimal_of;
-use crate::snapshot::push;
-use crate::words::cut_word;
+use crate::snapshot::push_one;
+use crate::words::split_word;
 use evm_room::NoMemory;
 use std::alloc::Global;
 
@@ -30,8 +30,8 @@ pub struct SourceLines {
 
 // What a line of a map file says: an address, and a place, or `-` for none.
 fn entry_of(line: &str) -> Option<(u64, &str)> {
-    let (address, rest) = cut_word(line);
-    let (place, rest) = cut_word(rest);
+    let (address, rest) = split_word(line);
+    let (place, rest) = split_word(rest);
     if place.is_empty() || !rest.is_empty() {
         return None;
     }
@@ -56,7 +56,7 @@ impl SourceLines {
         let Ok(place) = place.to_string(alloc) else {
             return Err(NoMemory);
         };
-        push(&mut self.lines, SourceLine { address, place })
+        push_one(&mut self.lines, SourceLine { address, place })
     }
 
     // A line of a map file more.

@@ -1,7 +1,7 @@
 //! The words of a line.
 
 /// The first word of a text, and the text behind the blanks after it; both empty where there is no word.
-pub fn cut_word(text: &str) -> (&str, &str) {
+pub fn split_word(text: &str) -> (&str, &str) {
     let text = text.trim_start();
     match text.split_once(' ') {
         None => (text, ""),
