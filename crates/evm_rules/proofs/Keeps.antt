@@ -40,7 +40,7 @@ use Rattle.evm_model.specs.declared.refusal.Refusal.TheVariants.{BadAddress}
 use Rattle.evm_model.specs.Refusals.{board_refusal}
 use Rattle.evm_walk.proofs.Refused.{passes}
 use Rattle.evm_rules.proofs.Aligned.{IsAligned, next-aligned, does-aligned}
-use Rattle.evm_rules.proofs.Bounded.{ArePipes, are-change}
+use Rattle.evm_rules.proofs.Bounded.{EachIsPipe, are-change}
 use Rattle.evm_rules.proofs.Counting.{each-map, mapped}
 use Rattle.evm_rules.proofs.Firsts.{eqb-is}
 use Rattle.evm_rules.proofs.Nudging.{good_of, settle_and_nudge-good}

@@ -14,7 +14,7 @@ use Rattle.evm_model.specs.State.{Parts}
 use Rattle.evm_model.specs.declared.mutex.Mutex.{Mutex}
 use Rattle.evm_model.specs.declared.processor.Processor.{Processor}
 use Rattle.evm_model.specs.declared.task.Task.{Task}
-use Rattle.evm_rules.proofs.Bounded.{ArePipes, are-nudge}
+use Rattle.evm_rules.proofs.Bounded.{EachIsPipe, are-nudge}
 use Rattle.evm_rules.proofs.Counting.{mapped}
 use Rattle.evm_rules.proofs.Firsts.{eqb-is}
 use Rattle.evm_rules.proofs.Settling.{IsCalm, GoodBut, IsUntold, settle-untold}

@@ -11,7 +11,7 @@ use Rattle.evm_model.specs.State.{Parts, on_processor}
 use Rattle.evm_model.specs.declared.mutex.Mutex.{Mutex}
 use Rattle.evm_model.specs.declared.processor.Processor.{Processor}
 use Rattle.evm_model.specs.declared.task.Task.{Task}
-use Rattle.evm_rules.proofs.Bounded.{ArePipes, are-settle_oob, are-settle_in_band}
+use Rattle.evm_rules.proofs.Bounded.{EachIsPipe, are-settle_oob, are-settle_in_band}
 use Rattle.evm_rules.proofs.Firsts.{IsOobOwn, own-is_oob, best-is_oob, best-own, own-live, own-in_band, next-own}
 use Rattle.evm_rules.proofs.Handling.{Plays, lines-plays}
 use Rattle.evm_rules.proofs.Playing.{plays_oob, plays_in_band, play_oob_lines-pipes, play_in_band_lines-pipes, HasSameStalls, plays_oob-stalls, plays_in_band-stalls, plays_oob-empty, plays_in_band-empty, plays_in_band-oob, plays_oob-pipe}
