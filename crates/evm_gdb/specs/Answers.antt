@@ -7,7 +7,7 @@ use Rattle.evm_model.specs.State.{State}
 use Rattle.evm_gdb_commands.specs.declared.command.Command.{Command}
 use Rattle.evm_gdb_commands.specs.declared.command.Command.TheVariants as commands
 use Rattle.evm_gdb_driving.specs.Shown.{error_text, hart_register, halt_text, memory_reply, registers_text, thread_text, threads_text, word_text}
-use Rattle.evm_gdb_driving.specs.declared.stops.Halt.{Halt}
+use Rattle.evm_gdb_driving.specs.declared.stops.TargetHalt.{TargetHalt}
 
 -- ---- questions
 
@@ -34,7 +34,7 @@ alive_text true = codes "OK"
 alive_text false = error_text 5
 
 -- the answer to a question about a machine, of which task `looked` is looked at and which is stopped so
-abbrev pub answer_text : ℕ → Halt → State → Command → Option (List ℕ)
+abbrev pub answer_text : ℕ → TargetHalt → State → Command → Option (List ℕ)
 answer_text looked halt s commands.Why = Some (halt_text halt)
 answer_text looked halt s commands.Registers = Some (task_registers (slice_get s.board.parts.harts looked))
 answer_text looked halt s (commands.Register r) = Some (register_reply r (slice_get s.board.parts.harts looked))

@@ -7,7 +7,7 @@ ghost use Rattle.evm_gdb_driving.specs.Kept.{KeepsJournal};
 use crate::monitor::{LineEnd, run_monitor};
 use crate::questions::answer_question;
 use crate::resuming::{answer_resumed, refusal_text};
-use crate::session::Session;
+use crate::session::GdbSession;
 use arrayvec::ArrayVec;
 use evm_dev::Device;
 use evm_gdb_commands::{BreakKind, Command};
@@ -74,7 +74,7 @@ fn change_breakpoint<D: Device>(machine: &mut Machine<D>, change: Event) -> Resu
 // Looks at a task from now on.
 #[tactic(auto, using(evm_gdb_driving::proofs::Kept::keeps_same))]
 fn look_at<D: Device>(
-    session: &mut Session<D>,
+    session: &mut GdbSession<D>,
     thread: Option<u8>,
     out: &mut Vec<u8>,
 ) -> Result<(), Refused>
@@ -92,7 +92,7 @@ fn look_at<D: Device>(
 // Sets a breakpoint.
 #[tactic(auto, using(evm_gdb_driving::proofs::Kept::keeps_same))]
 fn insert<D: Device>(
-    session: &mut Session<D>,
+    session: &mut GdbSession<D>,
     kind: BreakKind,
     address: u64,
     out: &mut Vec<u8>,
@@ -109,7 +109,7 @@ fn insert<D: Device>(
 // Takes a breakpoint away.
 #[tactic(auto, using(evm_gdb_driving::proofs::Kept::keeps_same))]
 fn remove<D: Device>(
-    session: &mut Session<D>,
+    session: &mut GdbSession<D>,
     address: u64,
     out: &mut Vec<u8>,
 ) -> Result<(), Refused>
@@ -134,7 +134,7 @@ fn without(addresses: &[u64], gone: u64) -> ArrayVec<u64, 64> {
 // Does a line of the monitor, of digits.
 #[tactic(auto, using(evm_gdb_driving::proofs::Kept::keeps_same))]
 fn answer_monitor<D: Device>(
-    session: &mut Session<D>,
+    session: &mut GdbSession<D>,
     line: &[u8],
     told: &mut String,
     out: &mut Vec<u8>,
@@ -161,7 +161,7 @@ fn answer_monitor<D: Device>(
 // The answer to a command that has digits or bytes, which are these.
 #[tactic(auto, using(evm_gdb_driving::proofs::Kept::keeps_same))]
 fn answer_data<D: Device>(
-    session: &mut Session<D>,
+    session: &mut GdbSession<D>,
     command: Command,
     data: &[u8],
     told: &mut String,
@@ -188,7 +188,7 @@ fn answer_data<D: Device>(
 // The answer to a command that has digits: what they say, or that they are none.
 #[tactic(auto, using(evm_gdb_driving::proofs::Kept::keeps_same))]
 fn answer_digits<D: Device>(
-    session: &mut Session<D>,
+    session: &mut GdbSession<D>,
     command: Command,
     digits: &[u8],
     data: &mut Vec<u8>,
@@ -210,7 +210,7 @@ fn answer_digits<D: Device>(
 // The answer to a command that changes what GDB has chosen, or lets the program go on.
 #[tactic(auto, using(evm_gdb_driving::proofs::Kept::keeps_same))]
 fn answer_order<D: Device, I: Interrupts>(
-    session: &mut Session<D>,
+    session: &mut GdbSession<D>,
     command: Command,
     interrupts: &I,
     told: &mut String,
@@ -273,7 +273,7 @@ fn answer_text<D: Device>(
 #[tactic(auto, using(evm_gdb_driving::proofs::Kept::keeps_same))]
 pub(crate) fn answer<D: Device, I: Interrupts>(
     alloc: Global,
-    session: &mut Session<D>,
+    session: &mut GdbSession<D>,
     command: Command,
     behind: &[u8],
     interrupts: &I,

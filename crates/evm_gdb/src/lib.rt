@@ -13,7 +13,7 @@ mod target;
 pub use evm_gdb_driving::{Boot, Devices, Interrupts, Line, Machine, Refusal, cut_line, read_line};
 pub use monitor::{LineEnd, run_line};
 pub use serving::{Ended, serve_gdb};
-pub use session::Session;
+pub use session::GdbSession;
 
 #[cfg(test)]
 mod tests;

@@ -2,7 +2,7 @@
 
 ghost use Rattle.evm_gdb_driving.specs.Kept.{KeepsJournal};
 
-use crate::session::{Session, TURN_LIMIT, each_processor};
+use crate::session::{GdbSession, TURN_LIMIT, each_processor};
 use arrayvec::ArrayVec;
 use evm_dev::Device;
 use evm_gdb_driving::{Line, Machine, Refusal, View, ViewRefusal, push_view, read_line};
@@ -136,7 +136,7 @@ journal, console, words I                                  views of a script
 /// Memory for the text was refused.
 #[tactic(auto, using(evm_gdb_driving::proofs::Kept::keeps_same))]
 pub(crate) fn run_monitor<D: Device>(
-    session: &mut Session<D>,
+    session: &mut GdbSession<D>,
     line: &[u8],
     text: &mut String,
 ) -> Result<LineEnd, NoMemory>

@@ -3,7 +3,7 @@
 ghost use Rattle.std.specs.Prelude.{◌≡◌, ◌++◌, ℕ, List, Option, OnOk, length, slice_get};
 ghost use Rattle.evm_gdb.specs.Answers.{alive_text, answer_text, is_thread, register_reply, task_registers};
 
-use crate::session::Session;
+use crate::session::GdbSession;
 use crate::target::{ACTIONS, DESCRIPTION, SUPPORTED, push_part};
 use evm_dev::Device;
 use evm_gdb_commands::Command;
@@ -14,7 +14,7 @@ use evm_gdb_driving::{
 use evm_room::Refused;
 
 // Appends the registers of the task that is looked at.
-fn answer_registers<D: Device>(session: &Session<D>, out: &mut Vec<u8>) -> Result<(), Refused>
+fn answer_registers<D: Device>(session: &GdbSession<D>, out: &mut Vec<u8>) -> Result<(), Refused>
     ensures ok { OnOk result (out.new.items ≡ out.old.items ++ task_registers (slice_get session.now.machine.board.parts.harts session.now.looked)) }
 {
     match session.machine.hart(session.looked) {
@@ -25,7 +25,7 @@ fn answer_registers<D: Device>(session: &Session<D>, out: &mut Vec<u8>) -> Resul
 
 // Appends a register of the task that is looked at.
 fn answer_register<D: Device>(
-    session: &Session<D>,
+    session: &GdbSession<D>,
     r: u64,
     out: &mut Vec<u8>,
 ) -> Result<(), Refused>
@@ -67,7 +67,7 @@ fn is_thread<D: Device>(machine: &Machine<D>, thread: Option<u8>) -> bool
 
 /// The answer to a question, which changes nothing.
 pub(crate) fn answer_question<D: Device>(
-    session: &Session<D>,
+    session: &GdbSession<D>,
     command: Command,
     out: &mut Vec<u8>,
 ) -> Result<(), Refused>

@@ -2,7 +2,7 @@
 
 ghost use Rattle.evm_gdb_driving.specs.Kept.{KeepsJournal};
 
-use crate::session::Session;
+use crate::session::GdbSession;
 use evm_dev::Device;
 use evm_gdb_commands::Pace;
 use evm_gdb_driving::{Interrupts, Machine, Refusal, Why, push_error, push_halt, resume, step};
@@ -19,7 +19,7 @@ fn processor_to_step<D: Device>(machine: &Machine<D>, looked: u8) -> u8 {
 // Lets the machine go on, by the schedule, or the processor of a task by one instruction.
 #[tactic(auto, using(evm_gdb_driving::proofs::Kept::keeps_same))]
 fn go_on<D: Device, I: Interrupts>(
-    session: &mut Session<D>,
+    session: &mut GdbSession<D>,
     pace: Pace,
     thread: Option<u8>,
     interrupts: &I,
@@ -82,7 +82,7 @@ fn note_of(why: Why) -> &'static str {
 /// The answer to a command that lets the program go on: why it is stopped again.
 #[tactic(auto, using(evm_gdb_driving::proofs::Kept::keeps_same))]
 pub(crate) fn answer_resumed<D: Device, I: Interrupts>(
-    session: &mut Session<D>,
+    session: &mut GdbSession<D>,
     pace: Pace,
     thread: Option<u8>,
     interrupts: &I,

@@ -7,7 +7,7 @@ ghost use Rattle.evm_gdb.specs.Written.{Extends, acknowledgement};
 ghost use Rattle.evm_gdb_driving.specs.Kept.{KeepsJournal};
 
 use crate::answering::answer;
-use crate::session::Session;
+use crate::session::GdbSession;
 use evm_dev::Device;
 use evm_gdb_commands::{Command, read_command};
 use evm_gdb_driving::{Interrupts, part_len, push_bytes};
@@ -115,7 +115,7 @@ fn push_packets(desk: &mut Desk, over: bool) -> Result<(), NoMemory>
 // Does a command, and appends the packets of its answer.
 fn answer_command<D: Device, I: Interrupts>(
     alloc: Global,
-    session: &mut Session<D>,
+    session: &mut GdbSession<D>,
     command: Command,
     behind: &[u8],
     interrupts: &I,
@@ -170,7 +170,7 @@ fn push_sign(acknowledges: bool, item: Item, out: &mut Vec<u8>) -> Result<(), No
 #[tactic(auto, using(evm_gdb_driving::proofs::Kept::keeps_same, crate::proofs::Extending::extends_by))]
 fn answer_payload<D: Device, I: Interrupts>(
     alloc: Global,
-    session: &mut Session<D>,
+    session: &mut GdbSession<D>,
     payload: &[u8],
     interrupts: &I,
     desk: &mut Desk,
@@ -192,7 +192,7 @@ fn answer_payload<D: Device, I: Interrupts>(
 #[tactic(auto, using(evm_gdb_driving::proofs::Kept::keeps_same, crate::proofs::Extending::extends_none))]
 fn hear<D: Device, I: Interrupts>(
     alloc: Global,
-    session: &mut Session<D>,
+    session: &mut GdbSession<D>,
     item: Item,
     payload: &[u8],
     interrupts: &I,
@@ -225,7 +225,7 @@ fn is_answered(item: Item) -> bool {
 #[tactic(auto, using(evm_gdb_driving::proofs::Kept::keeps_same))]
 fn prepare<D: Device, I: Interrupts>(
     alloc: Global,
-    session: &mut Session<D>,
+    session: &mut GdbSession<D>,
     item: Item,
     payload: &[u8],
     interrupts: &I,
@@ -242,7 +242,7 @@ fn prepare<D: Device, I: Interrupts>(
 // Answers an item.
 fn serve_item<W: Sink, D: Device, I: Interrupts>(
     alloc: Global,
-    session: &mut Session<D>,
+    session: &mut GdbSession<D>,
     item: Item,
     payload: &[u8],
     interrupts: &I,
@@ -268,7 +268,7 @@ fn serve_item<W: Sink, D: Device, I: Interrupts>(
 #[tactic(auto, using(evm_gdb_driving::proofs::Kept::keeps_same, evm_gdb_driving::proofs::Kept::keeps_more))]
 fn serve_items<W: Sink, D: Device, I: Interrupts>(
     alloc: Global,
-    session: &mut Session<D>,
+    session: &mut GdbSession<D>,
     bytes: &[u8],
     interrupts: &I,
     payload: &mut Vec<u8>,
@@ -331,7 +331,7 @@ fn keep_last(heard: &mut Vec<u8>, left: usize) {
 #[tactic(auto, using(evm_gdb_driving::proofs::Kept::keeps_same, evm_gdb_driving::proofs::Kept::keeps_more))]
 pub fn serve_gdb<R: Source + Interrupts, W: Sink, D: Device>(
     alloc: Global,
-    session: &mut Session<D>,
+    session: &mut GdbSession<D>,
     source: &mut R,
     sink: &mut W,
 ) -> Ended

@@ -2,7 +2,7 @@
 
 use arrayvec::ArrayVec;
 use evm_dev::Device;
-use evm_gdb_driving::{Halt, Machine, Why, stop_all};
+use evm_gdb_driving::{Machine, TargetHalt, Why, stop_all};
 
 /// How many turns a schedule may have.
 pub const TURN_LIMIT: usize = 32;
@@ -12,7 +12,7 @@ pub const LIMIT: u32 = 1_000_000;
 
 /// A machine, and what GDB has chosen.
 #[derive(Drop)]
-pub struct Session<D: Device> {
+pub struct GdbSession<D: Device> {
     /// The machine.
     pub machine: Machine<D>,
     /// The task whose registers are asked for.
@@ -30,7 +30,7 @@ pub struct Session<D: Device> {
     /// The addresses at which `Z1` asked for a breakpoint, and `z1` not yet for none.
     pub hardware: ArrayVec<u64, 64>,
     /// Why the program is stopped.
-    pub halt: Halt,
+    pub halt: TargetHalt,
 }
 
 /// Each processor once.
@@ -54,13 +54,13 @@ fn first_task<D: Device>(machine: &Machine<D>) -> u8 {
     0
 }
 
-impl<D: Device> Session<D> {
+impl<D: Device> GdbSession<D> {
     /// A session with a machine, whose processors are stopped.
-    pub fn new(mut machine: Machine<D>) -> Session<D> {
+    pub fn new(mut machine: Machine<D>) -> GdbSession<D> {
         let _ = stop_all(&mut machine);
         let looked = first_task(&machine);
         let turns = each_processor(machine.cpu_count());
-        Session {
+        GdbSession {
             machine,
             looked,
             chosen: None,
@@ -69,7 +69,7 @@ impl<D: Device> Session<D> {
             limit: LIMIT,
             turns,
             hardware: ArrayVec::new(),
-            halt: Halt {
+            halt: TargetHalt {
                 task: looked,
                 why: Why::Asked,
             },

@@ -43,7 +43,7 @@ fn talk_to(
     machine: Machine<AnyDevice>,
     payloads: &[&[u8]],
 ) -> Result<Vec<u8>, Fail> {
-    let mut session = Session::new(machine);
+    let mut session = GdbSession::new(machine);
     session.acknowledges = false;
     let mut input = Vec::new(alloc);
     for payload in payloads {
@@ -66,7 +66,7 @@ fn packets(alloc: Global, payloads: &[&[u8]]) -> Result<Vec<u8>, Fail> {
 
 #[test]
 fn a_continue_is_interrupted(rt: HostRuntime) -> Result<(), Fail> {
-    let mut session = Session::new(machine(rt.alloc())?);
+    let mut session = GdbSession::new(machine(rt.alloc())?);
     session.acknowledges = false;
     let input = packets(rt.alloc(), &[b"vCont;c", b"p20"])?;
     let mut source = Slow {
@@ -235,7 +235,7 @@ impl Write for Broken {
 // A packet in pieces, a damaged one, and what was written last once more.
 #[test]
 fn packets_come_in_pieces(rt: HostRuntime) -> Result<(), Fail> {
-    let mut session = Session::new(machine(rt.alloc())?);
+    let mut session = GdbSession::new(machine(rt.alloc())?);
     let mut source = Slow {
         rest: b"+$qC#b4$qC#b5-+x",
         asks: false,
@@ -249,7 +249,7 @@ fn packets_come_in_pieces(rt: HostRuntime) -> Result<(), Fail> {
 
 #[test]
 fn a_failed_write_ends_a_session(rt: HostRuntime) -> Result<(), Fail> {
-    let mut session = Session::new(machine(rt.alloc())?);
+    let mut session = GdbSession::new(machine(rt.alloc())?);
     let mut source: &[u8] = b"$?#3f";
     let end = serve_gdb(rt.alloc(), &mut session, &mut source, &mut Broken);
     let failed = matches!(end, Ended::WriteFailed(_));

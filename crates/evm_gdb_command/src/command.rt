@@ -7,7 +7,7 @@ use crate::words::{Job, job_of, parse};
 use clap::Error;
 use clap::error::ErrorKind;
 use evm_dev::Device;
-use evm_gdb::{Devices, Ended, Interrupts, Machine, Refusal, Session, serve_gdb};
+use evm_gdb::{Devices, Ended, GdbSession, Interrupts, Machine, Refusal, serve_gdb};
 use evm_gdb_hearing::{Hearing, HearingEnd};
 use evm_host::{
     Ending, FAILED, Known, Message, System, USAGE, Verdict, WordsFault, World, ended, ended_with,
@@ -165,7 +165,7 @@ fn do_job<S: System, D: Device, I: Source + Interrupts + Hearing>(
         Ok(machine) => machine,
         Err(status) => return status,
     };
-    let mut session = Session::new(machine);
+    let mut session = GdbSession::new(machine);
     let end = serve_gdb(alloc, &mut session, input, &mut world.output);
     status_of(end, input.end(), world)
 }

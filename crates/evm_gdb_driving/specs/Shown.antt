@@ -6,7 +6,7 @@ use Rattle.evm_exec.specs.Registers.{register_of}
 use Rattle.evm_exec.specs.declared.hart.Hart.{Hart}
 use Rattle.evm_exec.specs.declared.hart.TheConstants.{REGISTERS}
 use Rattle.evm_model.specs.declared.fault.Fault.TheVariants as faults
-use Rattle.evm_gdb_driving.specs.declared.stops.Halt.{Halt}
+use Rattle.evm_gdb_driving.specs.declared.stops.TargetHalt.{TargetHalt}
 use Rattle.evm_gdb_driving.specs.declared.stops.Why.{Why}
 use Rattle.evm_gdb_driving.specs.declared.stops.Why.TheVariants.{Asked, SoftwareBreak, HardwareBreak, Ebreak, Faulted, Interrupted, Limit, Idle}
 
@@ -81,5 +81,5 @@ break_text HardwareBreak = codes ";hwbreak:;"
 break_text _ = codes ";"
 
 -- T, the signal, the thread, and which kind of breakpoint it was
-abbrev pub halt_text : Halt → List ℕ
+abbrev pub halt_text : TargetHalt → List ℕ
 halt_text halt = codes "T" ++ pairs (signal_of halt.why ∷ []) ++ codes "thread:" ++ thread_text halt.task ++ break_text halt.why

@@ -19,5 +19,5 @@ pub use evm_interrupts::Interrupts;
 pub use memory::{push_memory, write};
 pub use registers::{processor_of, push_registers, register, set_register, set_registers, word_at};
 pub use running::{resume, step};
-pub use stops::{Halt, Why, push_halt};
+pub use stops::{TargetHalt, Why, push_halt};
 pub use threads::{push_task_text, push_threads};

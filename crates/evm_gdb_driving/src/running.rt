@@ -5,7 +5,7 @@ ghost use Rattle.evm_gdb_driving.specs.Interrupts.{CameAlone, IsAlone, OnlyIfAsk
 ghost use Rattle.evm_gdb_driving.specs.Kept.{KeepsJournal};
 
 use crate::driving::{event, go_all, stop_all};
-use crate::stops::{Halt, Why};
+use crate::stops::{TargetHalt, Why};
 use evm_debug::{Answer, Event, Machine, Refusal};
 use evm_dev::Device;
 use evm_interrupts::Interrupts;
@@ -44,12 +44,12 @@ fn break_at<D: Device>(machine: &Machine<D>, hardware: &[u64], task: u8) -> Why
 }
 
 // The halt of a task that its last instruction ended by a fault.
-fn stop_of_step<D: Device>(machine: &Machine<D>, task: u8) -> Option<Halt>
+fn stop_of_step<D: Device>(machine: &Machine<D>, task: u8) -> Option<TargetHalt>
     ensures { IfSome result (λ halt. IsAlone halt.why) }
 {
     match machine.task(task) {
         Some(one) => match one.state {
-            TaskState::Faulted(fault) => Some(Halt {
+            TaskState::Faulted(fault) => Some(TargetHalt {
                 task,
                 why: Why::Faulted(fault),
             }),
@@ -60,14 +60,14 @@ fn stop_of_step<D: Device>(machine: &Machine<D>, task: u8) -> Option<Halt>
 }
 
 // Why a task is stopped that did an instruction of a processor, if it is.
-fn stop_of<D: Device>(machine: &Machine<D>, c: u8, task: u8) -> Option<Halt>
+fn stop_of<D: Device>(machine: &Machine<D>, c: u8, task: u8) -> Option<TargetHalt>
     ensures { IfSome result (λ halt. IsAlone halt.why) }
 {
     if let Some(halt) = stop_of_step(machine, task) {
         return Some(halt);
     }
     if is_stopped(machine, c) {
-        Some(Halt {
+        Some(TargetHalt {
             task,
             why: Why::Ebreak,
         })
@@ -82,13 +82,13 @@ fn halt_after<D: Device>(
     hardware: &[u64],
     c: u8,
     answer: Answer,
-) -> Option<Halt>
+) -> Option<TargetHalt>
     ensures { IfSome result (λ halt. IsAlone halt.why) }
 {
     match answer {
         Answer::Hit => {
             let task = current_or(machine, c, 0);
-            Some(Halt {
+            Some(TargetHalt {
                 task,
                 why: break_at(machine, hardware, task),
             })
@@ -179,7 +179,7 @@ const PATIENCE: u64 = 1_024;
 #[derive(Clone, Copy)]
 enum Came {
     /// A processor is stopped, or none has anything to do.
-    Halted(Halt),
+    Halted(TargetHalt),
     /// All were made; this turn is the next.
     Turn(usize),
 }
@@ -200,7 +200,7 @@ fn run_some<D: Device>(
     let mut turn = first;
     'steps: for _ in 0..count {
         let Some(at) = busy_turn(machine, turns, turn) else {
-            return Ok(Came::Halted(Halt {
+            return Ok(Came::Halted(TargetHalt {
                 task: looked,
                 why: Why::Idle,
             }));
@@ -227,7 +227,7 @@ fn run<D: Device, I: Interrupts>(
     most: u64,
     looked: u8,
     interrupts: &I,
-) -> Result<Halt, Refusal>
+) -> Result<TargetHalt, Refusal>
     ensures kept { KeepsJournal machine.old machine.new }
     ensures asked { IfOk result (λ halt. OnlyIfAsked (I.asks interrupts.now true) halt.why) }
 {
@@ -235,7 +235,7 @@ fn run<D: Device, I: Interrupts>(
     let mut left = most;
     'parts: while left > 0 {
         if interrupts.is_asked() {
-            return Ok(Halt {
+            return Ok(TargetHalt {
                 task: looked,
                 why: Why::Interrupted,
             });
@@ -248,7 +248,7 @@ fn run<D: Device, I: Interrupts>(
         }
         left -= count;
     }
-    Ok(Halt {
+    Ok(TargetHalt {
         task: looked,
         why: Why::Limit,
     })
@@ -276,7 +276,7 @@ pub fn resume<D: Device, I: Interrupts>(
     limit: u32,
     looked: u8,
     interrupts: &I,
-) -> Result<Halt, Refusal>
+) -> Result<TargetHalt, Refusal>
     ensures kept { KeepsJournal machine.old machine.new }
     ensures asked { IfOk result (λ halt. OnlyIfAsked (I.asks interrupts.now true) halt.why) }
 {
@@ -298,10 +298,10 @@ pub fn resume<D: Device, I: Interrupts>(
 const LINES_BEFORE: u32 = 64;
 
 // Who is stopped behind an instruction of a task: the task if it ended by a fault, else who runs now.
-fn stepped<D: Device>(machine: &Machine<D>, c: u8, task: u8) -> Halt {
+fn stepped<D: Device>(machine: &Machine<D>, c: u8, task: u8) -> TargetHalt {
     match stop_of_step(machine, task) {
         Some(halt) => halt,
-        None => Halt {
+        None => TargetHalt {
             task: current_or(machine, c, task),
             why: Why::Asked,
         },
@@ -314,7 +314,7 @@ fn stepped<D: Device>(machine: &Machine<D>, c: u8, task: u8) -> Halt {
 ///
 /// Why the first event was refused that was; those before it were made.
 #[tactic(auto, using(crate::proofs::Kept::keeps_same, crate::proofs::Kept::keeps_more))]
-pub fn step<D: Device>(machine: &mut Machine<D>, c: u8, looked: u8) -> Result<Halt, Refusal>
+pub fn step<D: Device>(machine: &mut Machine<D>, c: u8, looked: u8) -> Result<TargetHalt, Refusal>
     ensures kept { KeepsJournal machine.old machine.new }
 {
     'lines: for _ in 0..LINES_BEFORE {
@@ -326,14 +326,14 @@ pub fn step<D: Device>(machine: &mut Machine<D>, c: u8, looked: u8) -> Result<Ha
             Next::Prepares => {}
             Next::Runs(task) => return Ok(stepped(machine, c, task)),
             Next::Idles => {
-                return Ok(Halt {
+                return Ok(TargetHalt {
                     task: looked,
                     why: Why::Idle,
                 });
             }
         }
     }
-    Ok(Halt {
+    Ok(TargetHalt {
         task: current_or(machine, c, looked),
         why: Why::Asked,
     })

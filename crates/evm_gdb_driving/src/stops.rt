@@ -31,7 +31,7 @@ pub enum Why {
 
 /// Who is stopped, and why.
 #[derive(Clone, Copy, Debug, PartialEq, Eq)]
-pub struct Halt {
+pub struct TargetHalt {
     /// The task.
     pub task: u8,
     /// Why it is stopped.
@@ -53,7 +53,7 @@ fn signal_of(why: Why) -> u8
 }
 
 /// Appends the stop reply: the signal, the thread, and which kind of breakpoint it was.
-pub fn push_halt(out: &mut Vec<u8>, halt: &Halt) -> Result<(), Refused>
+pub fn push_halt(out: &mut Vec<u8>, halt: &TargetHalt) -> Result<(), Refused>
     ensures ok { OnOk result (out.new.items ≡ out.old.items ++ halt_text halt.now) }
 {
     push_bytes(out, b"T")?;
