@@ -9,7 +9,7 @@ use Rattle.evm_model.proofs.Lists.{length-change, slice_get-set_same, slice_set-
 use Rattle.evm_model.specs.Lists.{change, change_some}
 use Rattle.evm_model.specs.declared.limits.TheConstants.{TASK_LIMIT}
 use Rattle.evm_model.specs.declared.task.Task.{Task}
-use Rattle.evm_ready.specs.Places.{placed}
+use Rattle.evm_ready.specs.Places.{ready_place}
 use Rattle.evm_wait.specs.Waiters.{awaited}
 
 -- one entry follows its task
@@ -30,17 +30,17 @@ follows says f tasks t = follows-some says f tasks t (slice_get tasks t) refl
 
 -- a task changed, and its entries with it
 pub entered-change : (s next : Scheduled) (f : Task → Task) (tasks new : List Task) (t : ℕ) → AreEntered s tasks → new ≡ change f tasks t
-    → next.places ≡ entered_as placed (slice_get new t) t s.places → next.waiters ≡ entered_as awaited (slice_get new t) t s.waiters → next.ranks ≡ s.ranks
+    → next.places ≡ entered_as ready_place (slice_get new t) t s.places → next.waiters ≡ entered_as awaited (slice_get new t) t s.waiters → next.ranks ≡ s.ranks
     → AreEntered next new
 entered-change s next f tasks new t are is place waiter ranks = record {
-  places = place ∙ rw (is, are.places) (follows placed f tasks t);
+  places = place ∙ rw (is, are.places) (follows ready_place f tasks t);
   waiters = waiter ∙ rw (is, are.waiters) (follows awaited f tasks t);
   count = ap length ranks ∙ are.count ∙ rw is (sym (length-change f tasks t));
 }
 
 -- one more task
 pub entered-push : (s next : Scheduled) (tasks new : List Task) (task : Task) (rank : ℕ) → AreEntered s tasks → new ≡ tasks ++ task ∷ []
-    → next.places ≡ s.places ++ placed task ∷ [] → next.waiters ≡ s.waiters ++ awaited task ∷ [] → next.ranks ≡ s.ranks ++ rank ∷ []
+    → next.places ≡ s.places ++ ready_place task ∷ [] → next.waiters ≡ s.waiters ++ awaited task ∷ [] → next.ranks ≡ s.ranks ++ rank ∷ []
     → AreEntered next new
 entered-push s next tasks new task rank are is place waiter ranks = record {
   places = place ∙ rw (is, are.places, map-append) refl;
@@ -65,10 +65,10 @@ map-kept says f tasks t (Some old) kept e =
     let there : slice_get (map says tasks) t ≡ Some (says old) = slice_get-map says tasks t ∙ ap (option_map says) e in
     map-set says tasks t (f old) ∙ rw (kept old) (slice_set-same (map says tasks) t (says old) there)
 
-pub entered-same : (s next : Scheduled) (f : Task → Task) (tasks new : List Task) (t : ℕ) → ((task : Task) → placed (f task) ≡ placed task) → ((task : Task) → awaited (f task) ≡ awaited task)
+pub entered-same : (s next : Scheduled) (f : Task → Task) (tasks new : List Task) (t : ℕ) → ((task : Task) → ready_place (f task) ≡ ready_place task) → ((task : Task) → awaited (f task) ≡ awaited task)
     → AreEntered s tasks → new ≡ change f tasks t → next.places ≡ s.places → next.waiters ≡ s.waiters → next.ranks ≡ s.ranks → AreEntered next new
 entered-same s next f tasks new t place_kept waiter_kept are is place waiter ranks = record {
-  places = place ∙ are.places ∙ rw is (sym (map-kept placed f tasks t (slice_get tasks t) place_kept refl));
+  places = place ∙ are.places ∙ rw is (sym (map-kept ready_place f tasks t (slice_get tasks t) place_kept refl));
   waiters = waiter ∙ are.waiters ∙ rw is (sym (map-kept awaited f tasks t (slice_get tasks t) waiter_kept refl));
   count = ap length ranks ∙ are.count ∙ rw is (sym (length-change f tasks t));
 }
@@ -84,6 +84,6 @@ entered-by s next tasks are place waiter ranks = record {
 -- there is room for one more
 pub entered-room : (s : Scheduled) (tasks : List Task) → AreEntered s tasks → length tasks < TASK_LIMIT → record { places : length s.places < TASK_LIMIT; waiters : length s.waiters < TASK_LIMIT }
 entered-room s tasks are room =
-    let ready : length s.places ≡ length tasks = ap length are.places ∙ length-map tasks placed in
+    let ready : length s.places ≡ length tasks = ap length are.places ∙ length-map tasks ready_place in
     let waiting : length s.waiters ≡ length tasks = ap length are.waiters ∙ length-map tasks awaited in
     record { places = omega (arith, ready, room); waiters = omega (arith, waiting, room) }

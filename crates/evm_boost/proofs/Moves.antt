@@ -20,7 +20,7 @@ use Rattle.evm_mending.proofs.Least.{greatest-links}
 use Rattle.evm_ranks.proofs.Greatest.{greatest-same}
 use Rattle.evm_ranks.specs.Boosts.{greatest, is_number}
 use Rattle.evm_ready.specs.ListedRanks.{listed_rank, rank_or_0}
-use Rattle.evm_ready.specs.Places.{placed}
+use Rattle.evm_ready.specs.Places.{ready_place}
 use Rattle.evm_wait.specs.Waiters.{awaited}
 
 -- ---- what a change of tasks keeps
@@ -64,7 +64,7 @@ boosts-lock mutexes tasks new u e = ap (heir_for mutexes) e
 -- ---- another link of a task
 pub relinked : (s next : Scheduled) (mutexes : List Mutex) (f : Task → Task) (tasks new : List Task) (t : ℕ) (before : Option ℕ) → KeepsClasses f
     → IsScheduled s mutexes tasks → new ≡ change f tasks t → before ≡ boosts mutexes tasks t
-    → next.places ≡ entered_as placed (slice_get new t) t s.places → next.waiters ≡ entered_as awaited (slice_get new t) t s.waiters → next.ranks ≡ s.ranks → next.sound ≡ s.sound
+    → next.places ≡ entered_as ready_place (slice_get new t) t s.places → next.waiters ≡ entered_as awaited (slice_get new t) t s.waiters → next.ranks ≡ s.ranks → next.sound ≡ s.sound
     → IsRelinked next mutexes new t before
 relinked s next mutexes f tasks new t before keeps is e boosted place waiter ranks sound = record {
   was = s;
@@ -93,7 +93,7 @@ change-twice {X = X} f g xs i = same_elements (change f (change g xs i) i) (chan
 -- the same where the task has another stamp too
 pub relinked-stamped : (s next : Scheduled) (mutexes : List Mutex) (f : Task → Task) (tasks mid new : List Task) (t stamp : ℕ) (before : Option ℕ) → KeepsClasses f
     → IsScheduled s mutexes tasks → mid ≡ change f tasks t → new ≡ change (stamped stamp) mid t → before ≡ boosts mutexes tasks t
-    → next.places ≡ entered_as placed (slice_get new t) t s.places → next.waiters ≡ entered_as awaited (slice_get new t) t s.waiters → next.ranks ≡ s.ranks → next.sound ≡ s.sound
+    → next.places ≡ entered_as ready_place (slice_get new t) t s.places → next.waiters ≡ entered_as awaited (slice_get new t) t s.waiters → next.ranks ≡ s.ranks → next.sound ≡ s.sound
     → IsRelinked next mutexes new t before
 relinked-stamped s next mutexes f tasks mid new t stamp before keeps is e g boosted place waiter ranks sound =
     relinked s next mutexes (λ task. stamped stamp (f task)) tasks new t before keeps is
@@ -167,7 +167,7 @@ relink-settling s next mutexes tasks t before heir is now places waiters ranks w
 -- a task changed in what bears on no link
 pub still-settling : (s next : Scheduled) (mutexes : List Mutex) (f : Task → Task) (tasks new : List Task) (t : ℕ) → KeepsLocks f → KeepsClasses f
     → IsScheduled s mutexes tasks → new ≡ change f tasks t
-    → next.places ≡ entered_as placed (slice_get new t) t s.places → next.waiters ≡ entered_as awaited (slice_get new t) t s.waiters → next.ranks ≡ s.ranks → next.sound ≡ s.sound
+    → next.places ≡ entered_as ready_place (slice_get new t) t s.places → next.waiters ≡ entered_as awaited (slice_get new t) t s.waiters → next.ranks ≡ s.ranks → next.sound ≡ s.sound
     → IsSettling (with_task None (with_task None no_task)) next mutexes new
 still-settling s next mutexes f tasks new t locks classes is e place waiter ranks sound =
     let count : length new ≡ length tasks = ap length e ∙ length-change f tasks t in
@@ -182,7 +182,7 @@ still-settling s next mutexes f tasks new t locks classes is e place waiter rank
 
 -- a task changed in what neither a link, nor a class, nor an entry says
 pub same-settling : (s next : Scheduled) (mutexes : List Mutex) (f : Task → Task) (tasks new : List Task) (t : ℕ) → KeepsLocks f → KeepsClasses f
-    → ((task : Task) → placed (f task) ≡ placed task) → ((task : Task) → awaited (f task) ≡ awaited task)
+    → ((task : Task) → ready_place (f task) ≡ ready_place task) → ((task : Task) → awaited (f task) ≡ awaited task)
     → IsScheduled s mutexes tasks → new ≡ change f tasks t
     → next.places ≡ s.places → next.waiters ≡ s.waiters → next.ranks ≡ s.ranks → next.sound ≡ s.sound
     → IsSettling (with_task None (with_task None no_task)) next mutexes new
@@ -202,7 +202,7 @@ pub out-other : (t u : ℕ) → is_number (Some t) u ≡ false → (u ≡ t → 
 out-other t u e same = let yes : (t == u) ≡ true = rw same (eq-eqb t t refl) in let no : true ≡ false = sym yes ∙ e in cc
 
 pub class-settling : (s next : Scheduled) (mutexes : List Mutex) (f : Task → Task) (tasks new : List Task) (t : ℕ) → KeepsLocks f
-    → ((task : Task) → placed (f task) ≡ placed task) → ((task : Task) → awaited (f task) ≡ awaited task)
+    → ((task : Task) → ready_place (f task) ≡ ready_place task) → ((task : Task) → awaited (f task) ≡ awaited task)
     → IsScheduled s mutexes tasks → new ≡ change f tasks t
     → next.places ≡ s.places → next.waiters ≡ s.waiters → next.ranks ≡ s.ranks → next.sound ≡ s.sound
     → IsSettling (with_task (Some t) (with_task None no_task)) next mutexes new
@@ -255,7 +255,7 @@ push-links mutexes tasks new task e none u v to = elim (eqb_tells u (length task
 ]
 
 pub push-settling : (s next : Scheduled) (mutexes : List Mutex) (tasks new : List Task) (task : Task) → IsScheduled s mutexes tasks → new ≡ tasks ++ task ∷ []
-    → next.places ≡ s.places ++ placed task ∷ [] → next.waiters ≡ s.waiters ++ awaited task ∷ [] → next.ranks ≡ s.ranks ++ 0 ∷ []
+    → next.places ≡ s.places ++ ready_place task ∷ [] → next.waiters ≡ s.waiters ++ awaited task ∷ [] → next.ranks ≡ s.ranks ++ 0 ∷ []
     → (next.sound ≡ true → s.sound ≡ true) → (next.sound ≡ true → boosts mutexes new (length tasks) ≡ None)
     → IsSettling (with_task (Some (length tasks)) (with_task None no_task)) next mutexes new
 push-settling s next mutexes tasks new task is e place waiter ranks was alone =

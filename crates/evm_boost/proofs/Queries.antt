@@ -18,11 +18,11 @@ use Rattle.evm_ready.proofs.Firsts.{first-same}
 use Rattle.evm_ready.proofs.Placed.{best-placed, next-placed, any-placed}
 use Rattle.evm_ready.specs.ListedRanks.{listed_rank}
 use Rattle.evm_ready.specs.Oob.{has_oob}
-use Rattle.evm_ready.specs.Places.{any_oob, entry, placed, runs_oob, runs_in_band, stamp_of}
+use Rattle.evm_ready.specs.Places.{any_oob, entry, ready_place, runs_oob, runs_in_band, place_stamp}
 use Rattle.evm_wait.specs.Waiters.{awaited}
 
 pub best-is : (c : ℕ) (s : Scheduled) (mutexes : List Mutex) (tasks : List Task) → IsScheduled s mutexes tasks
-    → ranks.first (λ t. runs_oob c (entry s.places t)) (listed_rank s.ranks) (λ t. stamp_of (entry s.places t)) (length s.places) ≡ ranks.best c mutexes tasks
+    → ranks.first (λ t. runs_oob c (entry s.places t)) (listed_rank s.ranks) (λ t. place_stamp (entry s.places t)) (length s.places) ≡ ranks.best c mutexes tasks
 unfolding ranks.best
 best-is c s mutexes tasks is =
     rw is.entered.places
@@ -30,7 +30,7 @@ best-is c s mutexes tasks is =
     ∙ first-same (ranks.runs_oob c tasks) (listed_rank s.ranks) (ranks.rank mutexes tasks) (ranks.stamp tasks) (length tasks) is.ranks)
 
 pub next-is : (c : ℕ) (s : Scheduled) (mutexes : List Mutex) (tasks : List Task) → IsScheduled s mutexes tasks
-    → ranks.first (λ t. runs_in_band c (entry s.places t)) (λ _. 0) (λ t. stamp_of (entry s.places t)) (length s.places) ≡ ranks.next_in_band c tasks
+    → ranks.first (λ t. runs_in_band c (entry s.places t)) (λ _. 0) (λ t. place_stamp (entry s.places t)) (length s.places) ≡ ranks.next_in_band c tasks
 next-is c s mutexes tasks is = rw is.entered.places (next-placed c tasks)
 
 pub any-is : (s : Scheduled) (mutexes : List Mutex) (tasks : List Task) → IsScheduled s mutexes tasks → any_oob s.places ≡ has_oob tasks
@@ -60,7 +60,7 @@ first-settled task given t e less =
     ∙ sym (first-own task)
     ∙ sym (greatest-none (boosts [] (task ∷ [])) (listed_rank given) 0 (ranks.own_rank [] (task ∷ []) 0) 1 (λ u to. let no : boosts [] (task ∷ []) u ≡ None = no-heir (lock_at (task ∷ []) u) in cc)))
 
-pub first-scheduled : (s : Scheduled) (task : Task) → s.places ≡ placed task ∷ [] → s.waiters ≡ awaited task ∷ [] → s.ranks ≡ ranks.class_rank task.class task.priority ∷ [] → s.sound ≡ true
+pub first-scheduled : (s : Scheduled) (task : Task) → s.places ≡ ready_place task ∷ [] → s.waiters ≡ awaited task ∷ [] → s.ranks ≡ ranks.class_rank task.class task.priority ∷ [] → s.sound ≡ true
     → IsScheduled s [] (task ∷ [])
 first-scheduled s task places waiters given sound =
     settled-scheduled s [] (task ∷ [])

@@ -9,12 +9,12 @@ use Rattle.evm_model.specs.declared.task.Wait.{Wait}
 use Rattle.evm_model.specs.declared.task.Wait.TheVariants.{Lock}
 use Rattle.evm_ready.specs.ListedRanks.{listed_rank}
 use Rattle.evm_ready.specs.Places.{entry}
-use Rattle.evm_wait.specs.Waiters.{stamp_of, waits_for}
+use Rattle.evm_wait.specs.Waiters.{waiter_stamp, waits_for}
 use Rattle.evm_wait.specs.declared.waiter.Waiter.{Waiter}
 
 -- the first, by these ranks, of the tasks that wait for this
 abbrev pub first_by : List (Option Waiter) → Wait → List ℕ → Option ℕ
-first_by waiters wait ranks = first (λ t. waits_for wait (entry waiters t)) (listed_rank ranks) (λ t. stamp_of (entry waiters t)) (length waiters)
+first_by waiters wait ranks = first (λ t. waits_for wait (entry waiters t)) (listed_rank ranks) (λ t. waiter_stamp (entry waiters t)) (length waiters)
 
 abbrev pub first_waiting : Scheduled → Wait → Option ℕ
 first_waiting s wait = first_by s.waiters wait s.ranks

@@ -6,7 +6,7 @@ use Rattle.evm_model.specs.declared.limits.TheConstants.{TASK_LIMIT}
 use Rattle.evm_model.specs.declared.mutex.Mutex.{Mutex}
 use Rattle.evm_model.specs.declared.task.Task.{Task}
 use Rattle.evm_ranks.specs.Boosts.{HasHeight}
-use Rattle.evm_ready.specs.Places.{placed}
+use Rattle.evm_ready.specs.Places.{ready_place}
 use Rattle.evm_ready.specs.declared.place.Place.{Place}
 use Rattle.evm_wait.specs.Waiters.{awaited}
 use Rattle.evm_wait.specs.declared.waiter.Waiter.{Waiter}
@@ -21,7 +21,7 @@ pub record Scheduled : Type 0 where
 
 -- each task has the entries that its state, processor and stamp say, and some rank
 pub record AreEntered (s : Scheduled) (tasks : List Task) : Type 0 where
-  pub places : s.places ≡ map placed tasks
+  pub places : s.places ≡ map ready_place tasks
   pub waiters : s.waiters ≡ map awaited tasks
   pub count : length s.ranks ≡ length tasks
 

@@ -17,7 +17,7 @@ ghost use Rattle.evm_model.specs.declared.task.TaskState.TheVariants.{Waits};
 ghost use Rattle.evm_model.specs.declared.task.Wait.TheVariants.{Lock};
 ghost use Rattle.evm_ranks.specs.Boosts.{reaches};
 ghost use Rattle.evm_ready.specs.Oob.{has_oob};
-ghost use Rattle.evm_ready.specs.Places.{placed};
+ghost use Rattle.evm_ready.specs.Places.{ready_place};
 ghost use Rattle.evm_wait.specs.Waiters.{awaited};
 
 use crate::mutexes::Mutexes;
@@ -85,7 +85,7 @@ impl Schedule {
 
     // The entries of task t are what it says.
     fn enter(&mut self, tasks: &Tasks, t: u8)
-        ensures places { self.new.places ≡ entered_as placed (slice_get tasks.now t) t self.old.places }
+        ensures places { self.new.places ≡ entered_as ready_place (slice_get tasks.now t) t self.old.places }
         ensures waiters { self.new.waiters ≡ entered_as awaited (slice_get tasks.now t) t self.old.waiters }
         ensures ranks { self.new.ranks ≡ self.old.ranks }
         ensures sound { self.new.sound ≡ self.old.sound }
@@ -263,7 +263,7 @@ impl Schedule {
     fn add(&mut self, task: &Task)
         requires places { length self.old.places < TASK_LIMIT }
         requires waiters { length self.old.waiters < TASK_LIMIT }
-        ensures places { self.new.places ≡ self.old.places ++ placed task.now ∷ [] }
+        ensures places { self.new.places ≡ self.old.places ++ ready_place task.now ∷ [] }
         ensures waiters { self.new.waiters ≡ self.old.waiters ++ awaited task.now ∷ [] }
         ensures ranks { self.new.ranks ≡ self.old.ranks ++ 0 ∷ [] }
         ensures sound { self.new.sound ≡ self.old.sound }

@@ -3,7 +3,7 @@ use Rattle.std.proofs.Common.{◌≡◌, ℕ, zero, suc, ◌+◌, ◌≤◌, Lis
 use Rattle.std.specs.Prelude.{slice_get, slice_set, nat_lt, ◌||◌, if◌then◌else◌}
 use Rattle.std.proofs.lemmas.Bool.Decides.{nat_tests}
 use Rattle.evm_model.specs.Lists.{change}
-use Rattle.evm_ready.specs.Places.{is_oob, oob_bit, oob_count, any_oob}
+use Rattle.evm_ready.specs.Places.{is_oob_place, oob_bit, oob_count, any_oob}
 use Rattle.evm_ready.specs.declared.place.Place.{Place}
 
 bit-at : (b : Bool) → (if b then 1 else 0) ≤ 1
@@ -12,7 +12,7 @@ bit-at false = omega arith
 
 -- one task is one at the most
 pub bit-least : (place : Option Place) → oob_bit place ≤ 1
-bit-least place = bit-at (is_oob place)
+bit-least place = bit-at (is_oob_place place)
 
 -- they are no more than there are tasks
 pub count-least : (places : List (Option Place)) → oob_count places ≤ length places
@@ -48,6 +48,6 @@ any-step false n = grind (arith, nat_tests)
 -- some task is ready out-of-band where the count isn't 0
 pub count-any : (places : List (Option Place)) → any_oob places ≡ nat_lt 0 (oob_count places)
 count-any [] = refl
-count-any (p ∷ places) = ap (λ (rest : Bool). is_oob p || rest) (count-any places) ∙ any-step (is_oob p) (oob_count places)
+count-any (p ∷ places) = ap (λ (rest : Bool). is_oob_place p || rest) (count-any places) ∙ any-step (is_oob_place p) (oob_count places)
 
 pub ruleset counts = (bit-least, count-least, count-has, count-set, count-push, count-any)

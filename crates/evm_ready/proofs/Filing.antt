@@ -7,7 +7,7 @@ use Rattle.std.proofs.lemmas.Nat.Bits.{bit_at-zero}
 use Rattle.evm_model.specs.declared.limits.TheConstants.{TASK_LIMIT}
 use Rattle.evm_model.proofs.Lists.{slice_get-slice_set, slice_get-below, slice_get-replicate}
 use Rattle.evm_ready.specs.declared.turn.Turn.{Turn}
-use Rattle.evm_ready.specs.Queues.{has, is_in, is_number, turn_in, bit_of, use_bit, IsInOrder, IsQueueOf, AreQueued, AreQueuedBut, IsBitmap}
+use Rattle.evm_ready.specs.Queues.{has, is_in, is_queue, turn_in, bit_of, use_bit, IsInOrder, IsQueueOf, AreQueued, AreQueuedBut, IsBitmap}
 use Rattle.evm_ready.proofs.Members.{has-at, length-missing}
 
 same-test : (t u : ℕ) → (t == u) ≡ true → t ≡ u
@@ -23,11 +23,11 @@ test-same t = grind (arith, nat_tests)
 abbrev pub queue_of : List Turn → ℕ → Option ℕ
 queue_of turns t = option_and_then (λ turn. turn.queue) (slice_get turns t)
 
-in-option : (q : ℕ) (turn : Option Turn) → turn_in q turn ≡ is_number q (option_and_then (λ turn. turn.queue) turn)
+in-option : (q : ℕ) (turn : Option Turn) → turn_in q turn ≡ is_queue q (option_and_then (λ turn. turn.queue) turn)
 in-option q None = refl
 in-option q (Some turn) = refl
 
-pub is_in-queue_of : (turns : List Turn) (q t : ℕ) → is_in turns q t ≡ is_number q (queue_of turns t)
+pub is_in-queue_of : (turns : List Turn) (q t : ℕ) → is_in turns q t ≡ is_queue q (queue_of turns t)
 is_in-queue_of turns q t = in-option q (slice_get turns t)
 
 pub is_in-here : (turns : List Turn) (q t : ℕ) → queue_of turns t ≡ Some q → is_in turns q t ≡ true

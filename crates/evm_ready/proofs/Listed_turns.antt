@@ -5,7 +5,7 @@ use Rattle.evm_model.specs.Lists.{change, change_some}
 use Rattle.evm_ready.specs.declared.turn.Turn.{Turn}
 use Rattle.evm_ready.specs.ListedRanks.{listed_rank}
 use Rattle.evm_ready.specs.Places.{entry}
-use Rattle.evm_ready.specs.Queues.{is_in, is_number, turn_for, turn_rank, turn_stamp, turns_for}
+use Rattle.evm_ready.specs.Queues.{is_in, is_queue, turn_for, turn_rank, turn_stamp, turns_for}
 
 pub change-cons : {X : Type 0} (f : X → X) (x : X) (xs : List X) (i : ℕ) → change f (x ∷ xs) (suc i) ≡ x ∷ change f xs i
 change-cons {X = X} f x xs i = elim (slice_get xs i) as (λ o. change_some o f (x ∷ xs) (suc i) ≡ x ∷ change_some o f xs i) [ None ↦ refl | Some y ↦ refl ]
@@ -43,7 +43,7 @@ turns-rank {X = X} f (p ∷ xs) (r ∷ ranks) (suc t) rank e =
     ∙ sym (ap (λ (rs : List ℕ). turns_for f (p ∷ xs) rs) (change-cons (λ _. rank) r ranks t))
 
 pub in-turns : {X : Type 0} (f : X → ℕ → Turn) (xs : List (Option X)) (ranks : List ℕ) (q t : ℕ) → length ranks ≡ length xs
-    → is_in (turns_for f xs ranks) q t ≡ is_number q (turn_for f (entry xs t) (listed_rank ranks t)).queue
+    → is_in (turns_for f xs ranks) q t ≡ is_queue q (turn_for f (entry xs t) (listed_rank ranks t)).queue
 in-turns {X = X} f [] ranks q t e = refl
 in-turns {X = X} f (p ∷ xs) [] q t e = absurd (omega arith)
 in-turns {X = X} f (p ∷ xs) (r ∷ ranks) q zero e = refl

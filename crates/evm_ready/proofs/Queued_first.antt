@@ -7,9 +7,9 @@ use Rattle.evm_ready.specs.declared.place.Place.{Place}
 use Rattle.evm_ready.specs.declared.place.TheConstants.{LEVELS, IN_BAND_LEVEL}
 use Rattle.evm_ready.specs.declared.turn.Turn.{Turn}
 use Rattle.evm_ready.specs.ListedRanks.{listed_rank}
-use Rattle.evm_ready.specs.Places.{entry, runs_oob, runs_in_band, stamp_of}
+use Rattle.evm_ready.specs.Places.{entry, runs_oob, runs_in_band, place_stamp}
 use Rattle.evm_ready.specs.Queues.{is_ahead, is_in, turn_rank, turn_stamp, NoneIn}
-use Rattle.evm_ready.specs.ReadyTurns.{place_turn, turns_of, level}
+use Rattle.evm_ready.specs.ReadyTurns.{place_turn, ready_turns, level}
 use Rattle.evm_ready.proofs.Filing.{is_in-below}
 use Rattle.evm_ready.proofs.Firsts.{first-below, first-member}
 use Rattle.evm_ready.proofs.Leads.{first-leads, first-nobody, first-empty, first-is}
@@ -37,24 +37,24 @@ first-alike member others rank ranks stamp stamps n same at = alike-case member 
 
 -- ---- in-band
 pub in_band-head : (places : List (Option Place)) (ranks : List ℕ) (c : ℕ) → length ranks ≡ length places
-    → first (is_in (turns_of places ranks) (c * LEVELS + IN_BAND_LEVEL)) (turn_rank (turns_of places ranks)) (turn_stamp (turns_of places ranks)) (length (turns_of places ranks))
-    ≡ first (λ t. runs_in_band c (entry places t)) (λ _. 0) (λ t. stamp_of (entry places t)) (length places)
+    → first (is_in (ready_turns places ranks) (c * LEVELS + IN_BAND_LEVEL)) (turn_rank (ready_turns places ranks)) (turn_stamp (ready_turns places ranks)) (length (ready_turns places ranks))
+    ≡ first (λ t. runs_in_band c (entry places t)) (λ _. 0) (λ t. place_stamp (entry places t)) (length places)
 in_band-head places ranks c e =
-    let same : (t : ℕ) → is_in (turns_of places ranks) (c * LEVELS + IN_BAND_LEVEL) t ≡ runs_in_band c (entry places t) =
+    let same : (t : ℕ) → is_in (ready_turns places ranks) (c * LEVELS + IN_BAND_LEVEL) t ≡ runs_in_band c (entry places t) =
     λ t. in-turns place_turn places ranks (c * LEVELS + IN_BAND_LEVEL) t e ∙ in_band-in (entry places t) (listed_rank ranks t) c in
     rw (length-turns place_turn places ranks e)
-    (first-alike (is_in (turns_of places ranks) (c * LEVELS + IN_BAND_LEVEL)) (λ t. runs_in_band c (entry places t)) (turn_rank (turns_of places ranks)) (λ _. 0)
-    (turn_stamp (turns_of places ranks)) (λ t. stamp_of (entry places t)) (length places) same
+    (first-alike (is_in (ready_turns places ranks) (c * LEVELS + IN_BAND_LEVEL)) (λ t. runs_in_band c (entry places t)) (turn_rank (ready_turns places ranks)) (λ _. 0)
+    (turn_stamp (ready_turns places ranks)) (λ t. place_stamp (entry places t)) (length places) same
     (λ t h. (rank-turns place_turn places ranks t e ∙ in_band-rank (entry places t) (listed_rank ranks t) c (sym (same t) ∙ h), stamp-placed places ranks t e)))
 
 -- ---- out-of-band
-pub best-none : (places : List (Option Place)) (ranks : List ℕ) (c : ℕ) → length ranks ≡ length places → NoneIn (turns_of places ranks) (c * LEVELS) (c * LEVELS + IN_BAND_LEVEL)
-    → None ≡ first (λ t. runs_oob c (entry places t)) (listed_rank ranks) (λ t. stamp_of (entry places t)) (length places)
+pub best-none : (places : List (Option Place)) (ranks : List ℕ) (c : ℕ) → length ranks ≡ length places → NoneIn (ready_turns places ranks) (c * LEVELS) (c * LEVELS + IN_BAND_LEVEL)
+    → None ≡ first (λ t. runs_oob c (entry places t)) (listed_rank ranks) (λ t. place_stamp (entry places t)) (length places)
 best-none places ranks c e none =
-    sym (first-empty (λ t. runs_oob c (entry places t)) (listed_rank ranks) (λ t. stamp_of (entry places t)) (length places) (λ u less.
+    sym (first-empty (λ t. runs_oob c (entry places t)) (listed_rank ranks) (λ t. place_stamp (entry places t)) (length places) (λ u less.
     false-true (runs_oob c (entry places u)) (λ h.
     let at = oob-in (entry places u) (listed_rank ranks u) c h in
-    let there : is_in (turns_of places ranks) (c * LEVELS + level (listed_rank ranks u)) u ≡ true = in-turns place_turn places ranks (c * LEVELS + level (listed_rank ranks u)) u e ∙ at.0 in
+    let there : is_in (ready_turns places ranks) (c * LEVELS + level (listed_rank ranks u)) u ≡ true = in-turns place_turn places ranks (c * LEVELS + level (listed_rank ranks u)) u e ∙ at.0 in
     let never = none (c * LEVELS + level (listed_rank ranks u)) u (omega arith) (omega arith) in cc)))
 
 lesser-rank : (r s t q p u : ℕ) → r < q → is_ahead r s t q p u ≡ false
@@ -67,26 +67,26 @@ higher-or-same : (a b : ℕ) → (a < b → ⊥) → (b < a) ⊎ (a ≡ b)
 higher-or-same a b h = elim (test-cases a b) [ inl e ↦ inr (grind (arith, nat_tests)) | inr e ↦ let other : a ≡ b → ⊥ = λ same. grind (arith, nat_tests) in inl (omega (arith, h, other)) ]
 
 pub best-some : (places : List (Option Place)) (ranks : List ℕ) (c q : ℕ) (o : Option ℕ) → length ranks ≡ length places → c * LEVELS ≤ q → q < c * LEVELS + IN_BAND_LEVEL
-    → NoneIn (turns_of places ranks) (c * LEVELS) q → (t : ℕ) × (is_in (turns_of places ranks) q t ≡ true)
-    → first (is_in (turns_of places ranks) q) (turn_rank (turns_of places ranks)) (turn_stamp (turns_of places ranks)) (length (turns_of places ranks)) ≡ o
-    → o ≡ first (λ t. runs_oob c (entry places t)) (listed_rank ranks) (λ t. stamp_of (entry places t)) (length places)
+    → NoneIn (ready_turns places ranks) (c * LEVELS) q → (t : ℕ) × (is_in (ready_turns places ranks) q t ≡ true)
+    → first (is_in (ready_turns places ranks) q) (turn_rank (ready_turns places ranks)) (turn_stamp (ready_turns places ranks)) (length (ready_turns places ranks)) ≡ o
+    → o ≡ first (λ t. runs_oob c (entry places t)) (listed_rank ranks) (λ t. place_stamp (entry places t)) (length places)
 best-some places ranks c q None e above below least some is =
-    let never = first-nobody (is_in (turns_of places ranks) q) (turn_rank (turns_of places ranks)) (turn_stamp (turns_of places ranks)) (length (turns_of places ranks)) some.0 is
-    (is_in-below (turns_of places ranks) q some.0 some.1) in
+    let never = first-nobody (is_in (ready_turns places ranks) q) (turn_rank (ready_turns places ranks)) (turn_stamp (ready_turns places ranks)) (length (ready_turns places ranks)) some.0 is
+    (is_in-below (ready_turns places ranks) q some.0 some.1) in
     let here = some.1 in cc
 best-some places ranks c q (Some t) e above below least some is =
-    let turns : List Turn = turns_of places ranks in
+    let turns : List Turn = ready_turns places ranks in
     let there = first-member (is_in turns q) (turn_rank turns) (turn_stamp turns) (length turns) t is in
     let lower = first-below (is_in turns q) (turn_rank turns) (turn_stamp turns) (length turns) t is in
     let oob = in-oob (entry places t) (listed_rank ranks t) c q (sym (in-turns place_turn places ranks q t e) ∙ there) above below in
     let key = rank-turns place_turn places ranks t e ∙ (oob-in (entry places t) (listed_rank ranks t) c oob.0).1 in
-    sym (first-is (λ t. runs_oob c (entry places t)) (listed_rank ranks) (λ t. stamp_of (entry places t)) (length places) t
+    sym (first-is (λ t. runs_oob c (entry places t)) (listed_rank ranks) (λ t. place_stamp (entry places t)) (length places) t
     (rw (← length-turns place_turn places ranks e) lower) oob.0 (λ u less in_it.
     let at = oob-in (entry places u) (listed_rank ranks u) c in_it in
     let member : is_in turns (c * LEVELS + level (listed_rank ranks u)) u ≡ true = in-turns place_turn places ranks (c * LEVELS + level (listed_rank ranks u)) u e ∙ at.0 in
     let not_before : c * LEVELS + level (listed_rank ranks u) < q → ⊥ = λ before. let never = least (c * LEVELS + level (listed_rank ranks u)) u (omega arith) before in cc in
     elim (higher-or-same (c * LEVELS + level (listed_rank ranks u)) q not_before) [
-      | inl behind ↦ lesser-rank (listed_rank ranks u) (stamp_of (entry places u)) u (listed_rank ranks t) (stamp_of (entry places t)) t
+      | inl behind ↦ lesser-rank (listed_rank ranks u) (place_stamp (entry places u)) u (listed_rank ranks t) (place_stamp (entry places t)) t
           (let where_t = oob.1 in omega (arith, where_t, behind))
       | inr same ↦
           let with_it : is_in turns q u ≡ true = rw (← same) member in

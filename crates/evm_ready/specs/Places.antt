@@ -17,8 +17,8 @@ placed_in OobReady cpu stamp = Some (record { stage = OutOfBand; cpu = cpu; stam
 placed_in _ cpu stamp = None
 
 -- where a task is ready, if it is
-abbrev pub placed : Task → Option Place
-placed task = placed_in task.state task.cpu task.stamp
+abbrev pub ready_place : Task → Option Place
+ready_place task = placed_in task.state task.cpu task.stamp
 
 abbrev pub is_oob_stage : Stage → Bool
 is_oob_stage OutOfBand = true
@@ -29,12 +29,12 @@ is_in_band_stage OutOfBand = false
 is_in_band_stage InBand = true
 
 -- whether it is ready out-of-band, on whichever processor
-abbrev pub is_oob : Option Place → Bool
-is_oob None = false
-is_oob (Some place) = is_oob_stage place.stage
+abbrev pub is_oob_place : Option Place → Bool
+is_oob_place None = false
+is_oob_place (Some place) = is_oob_stage place.stage
 
 abbrev pub oob_bit : Option Place → ℕ
-oob_bit place = if is_oob place then 1 else 0
+oob_bit place = if is_oob_place place then 1 else 0
 
 -- whether it may run out-of-band on processor c
 abbrev pub runs_oob : ℕ → Option Place → Bool
@@ -46,9 +46,9 @@ abbrev pub runs_in_band : ℕ → Option Place → Bool
 runs_in_band c None = false
 runs_in_band c (Some place) = is_in_band_stage place.stage && place.cpu == c
 
-abbrev pub stamp_of : Option Place → ℕ
-stamp_of None = 0
-stamp_of (Some place) = place.stamp
+abbrev pub place_stamp : Option Place → ℕ
+place_stamp None = 0
+place_stamp (Some place) = place.stamp
 
 -- ---- all entries
 abbrev pub entry_of : {X : Type 0} → Option (Option X) → Option X
@@ -76,4 +76,4 @@ pub record ReadyTasks : Type 0 where
 
 -- whether any task is ready out-of-band, on whichever processor
 abbrev pub any_oob : List (Option Place) → Bool
-any_oob places = list_any is_oob places
+any_oob places = list_any is_oob_place places

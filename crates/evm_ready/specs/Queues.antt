@@ -48,13 +48,13 @@ pub record IsQueueOf (turns : List Turn) (member : ℕ → Bool) (queue : List �
   pub members : (t : ℕ) → has queue t ≡ member t
 
 -- ---- many queues, by their numbers
-abbrev pub is_number : ℕ → Option ℕ → Bool
-is_number q None = false
-is_number q (Some p) = p == q
+abbrev pub is_queue : ℕ → Option ℕ → Bool
+is_queue q None = false
+is_queue q (Some p) = p == q
 
 abbrev pub turn_in : ℕ → Option Turn → Bool
 turn_in q None = false
-turn_in q (Some turn) = is_number q turn.queue
+turn_in q (Some turn) = is_queue q turn.queue
 
 -- the turn of task t is in queue q
 abbrev pub is_in : List Turn → ℕ → ℕ → Bool

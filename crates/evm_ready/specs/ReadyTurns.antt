@@ -26,14 +26,14 @@ abbrev pub turn_of : Option Place → ℕ → Turn
 turn_of place rank = turn_for place_turn place rank
 
 -- the turns of all tasks
-abbrev pub turns_of : List (Option Place) → List ℕ → List Turn
-turns_of places ranks = turns_for place_turn places ranks
+abbrev pub ready_turns : List (Option Place) → List ℕ → List Turn
+ready_turns places ranks = turns_for place_turn places ranks
 
 -- count tasks are ready out-of-band, each task has a rank and the turn that its place gives it, and these
 -- processors have queues
 pub record AreReady (count : ℕ) (places : List (Option Place)) (ranks : List ℕ) (queued : Queued) (processors : ℕ) : Type 0 where
   pub counted : AreCounted count places
   pub ranked : length ranks ≡ length places
-  pub turns : queued.turns ≡ turns_of places ranks
+  pub turns : queued.turns ≡ ready_turns places ranks
   pub queues : queued.count ≡ processors * LEVELS
   pub limit : processors ≤ PROCESSOR_LIMIT

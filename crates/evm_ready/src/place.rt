@@ -1,5 +1,5 @@
 ghost use Rattle.std.specs.Prelude.{◌≡◌, ◌≤◌, ◌<◌};
-ghost use Rattle.evm_ready.specs.Places.{placed, oob_bit, runs_oob, runs_in_band};
+ghost use Rattle.evm_ready.specs.Places.{ready_place, oob_bit, runs_oob, runs_in_band};
 ghost use Rattle.evm_ready.specs.ReadyTurns.{turn_of, turn_at};
 
 use crate::turn::Turn;
@@ -23,7 +23,7 @@ pub struct Place {
 
 /// Where a task is ready, if it is.
 pub fn place_of(task: &Task) -> Option<Place>
-    ensures { result ≡ placed task.now }
+    ensures { result ≡ ready_place task.now }
 {
     let stage = match task.state {
         TaskState::InReady => Stage::InBand,

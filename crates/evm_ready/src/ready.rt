@@ -2,9 +2,9 @@ ghost use Rattle.std.specs.Prelude.{◌≡◌, ◌<◌, ◌≤◌, ◌+◌, ◌*
 ghost use Rattle.arrayvec.specs.ArrayVec.{array_vec_len};
 ghost use Rattle.evm_model.specs.Lists.{change};
 ghost use Rattle.evm_model.specs.Ranks.{first, leader};
-ghost use Rattle.evm_ready.specs.Places.{any_oob, entry, runs_oob, runs_in_band, stamp_of};
+ghost use Rattle.evm_ready.specs.Places.{any_oob, entry, runs_oob, runs_in_band, place_stamp};
 ghost use Rattle.evm_ready.specs.ListedRanks.{listed_rank};
-ghost use Rattle.evm_ready.specs.ReadyTurns.{turns_of};
+ghost use Rattle.evm_ready.specs.ReadyTurns.{ready_turns};
 ghost use Rattle.evm_ready.specs.declared.place.Place.{Place};
 
 use crate::READY_QUEUE_LIMIT;
@@ -148,7 +148,7 @@ impl Ready {
     }
 
     fn stamp(&self, t: u8) -> u64
-        ensures { result ≡ stamp_of (entry self.now.places t) }
+        ensures { result ≡ place_stamp (entry self.now.places t) }
     {
         match self.get(t) {
             None => 0,
@@ -158,7 +158,7 @@ impl Ready {
 
     // Of the one that leads so far and another, the one that goes first.
     fn leader_of(&self, leading: Option<u8>, t: u8) -> u8
-        ensures { result ≡ leader (listed_rank self.now.ranks) (λ u. stamp_of (entry self.now.places u)) leading t }
+        ensures { result ≡ leader (listed_rank self.now.ranks) (λ u. place_stamp (entry self.now.places u)) leading t }
     {
         let Some(u) = leading else {
             return t;
@@ -169,7 +169,7 @@ impl Ready {
 
     // Of the one that leads so far and another, the one of lesser stamp.
     fn least_stamped_of(&self, leading: Option<u8>, t: u8) -> u8
-        ensures { result ≡ leader (λ _. 0) (λ u. stamp_of (entry self.now.places u)) leading t }
+        ensures { result ≡ leader (λ _. 0) (λ u. place_stamp (entry self.now.places u)) leading t }
     {
         match leading {
             Some(u) if self.stamp(u) <= self.stamp(t) => u,
@@ -180,7 +180,7 @@ impl Ready {
     /// The number of the out-of-band task that processor c should run: of those that are ready there, the one of
     /// greatest rank, then of least stamp.
     pub fn best(&self, c: u8) -> Option<u8>
-        ensures { result ≡ first (λ t. runs_oob c (entry self.now.places t)) (listed_rank self.now.ranks) (λ t. stamp_of (entry self.now.places t)) (length self.now.places) }
+        ensures { result ≡ first (λ t. runs_oob c (entry self.now.places t)) (listed_rank self.now.ranks) (λ t. place_stamp (entry self.now.places t)) (length self.now.places) }
     {
         if c < self.processors {
             best_in(&self.turns, c)
@@ -192,7 +192,7 @@ impl Ready {
     // The same by a look at each task, for a processor that has no queues.
     #[tactic(auto, using(crate::proofs::Scans::scans))]
     fn best_of_all(&self, c: u8) -> Option<u8>
-        ensures { result ≡ first (λ t. runs_oob c (entry self.now.places t)) (listed_rank self.now.ranks) (λ t. stamp_of (entry self.now.places t)) (length self.now.places) }
+        ensures { result ≡ first (λ t. runs_oob c (entry self.now.places t)) (listed_rank self.now.ranks) (λ t. place_stamp (entry self.now.places t)) (length self.now.places) }
     {
         let mut leading = None;
         for t in 0..self.len() {
@@ -206,7 +206,7 @@ impl Ready {
     /// The number of the in-band task that processor c should take up: of those that are ready there, the one of
     /// least stamp.
     pub fn next_in_band(&self, c: u8) -> Option<u8>
-        ensures { result ≡ first (λ t. runs_in_band c (entry self.now.places t)) (λ _. 0) (λ t. stamp_of (entry self.now.places t)) (length self.now.places) }
+        ensures { result ≡ first (λ t. runs_in_band c (entry self.now.places t)) (λ _. 0) (λ t. place_stamp (entry self.now.places t)) (length self.now.places) }
     {
         if c < self.processors {
             self.turns.head(c as u16 * LEVELS + IN_BAND_LEVEL)
@@ -218,7 +218,7 @@ impl Ready {
     // The same by a look at each task, for a processor that has no queues.
     #[tactic(auto, using(crate::proofs::Scans::scans))]
     fn next_of_all(&self, c: u8) -> Option<u8>
-        ensures { result ≡ first (λ t. runs_in_band c (entry self.now.places t)) (λ _. 0) (λ t. stamp_of (entry self.now.places t)) (length self.now.places) }
+        ensures { result ≡ first (λ t. runs_in_band c (entry self.now.places t)) (λ _. 0) (λ t. place_stamp (entry self.now.places t)) (length self.now.places) }
     {
         let mut leading = None;
         for t in 0..self.len() {
@@ -234,7 +234,7 @@ impl Ready {
 fn best_in(turns: &Turns, c: u8) -> Option<u8>
     requires limit { c < PROCESSOR_LIMIT }
     requires queues { c * LEVELS + LEVELS ≤ turns.now.count }
-    ensures { (places : List (Option Place)) (ranks : List ℕ) → length ranks ≡ length places → turns.now.turns ≡ turns_of places ranks → result ≡ first (λ t. runs_oob c (entry places t)) (listed_rank ranks) (λ t. stamp_of (entry places t)) (length places) }
+    ensures { (places : List (Option Place)) (ranks : List ℕ) → length ranks ≡ length places → turns.now.turns ≡ ready_turns places ranks → result ≡ first (λ t. runs_oob c (entry places t)) (listed_rank ranks) (λ t. place_stamp (entry places t)) (length places) }
 {
     let Some(q) = turns.first_used(c * 4, c * 4 + 4) else {
         return None;

@@ -3,7 +3,7 @@ use Rattle.std.specs.Prelude.{◌≡◌, ◌<◌, ℕ, ◌+◌, ◌*◌, List, O
 use Rattle.evm_model.specs.Waits.{same_wait}
 use Rattle.evm_model.specs.declared.task.Wait.{Wait}
 use Rattle.evm_model.specs.declared.task.Wait.TheVariants.{Line, Lock, Reacquire, Semaphore, Event, Flags, Sleep, Timer}
-use Rattle.evm_ready.specs.Queues.{Queued, is_number, turns_for}
+use Rattle.evm_ready.specs.Queues.{Queued, is_queue, turns_for}
 use Rattle.evm_ready.specs.declared.turn.Turn.{Turn}
 use Rattle.evm_wait.specs.declared.waiter.Waiter.{Waiter}
 use Rattle.evm_wait.specs.declared.TheConstants.{WAIT_QUEUE_LIMIT}
@@ -23,16 +23,16 @@ abbrev pub waiter_turn : Waiter → ℕ → Turn
 waiter_turn waiter rank = record { queue = wait_queue waiter.wait; rank = rank; stamp = waiter.stamp }
 
 -- the turns of all tasks
-abbrev pub turns_of : List (Option Waiter) → List ℕ → List Turn
-turns_of waiters ranks = turns_for waiter_turn waiters ranks
+abbrev pub wait_turns : List (Option Waiter) → List ℕ → List Turn
+wait_turns waiters ranks = turns_for waiter_turn waiters ranks
 
 -- each task has a rank and the turn that its wait gives it
 pub record AreWaiting (waiters : List (Option Waiter)) (ranks : List ℕ) (queued : Queued) : Type 0 where
   pub ranked : length ranks ≡ length waiters
-  pub turns : queued.turns ≡ turns_of waiters ranks
+  pub turns : queued.turns ≡ wait_turns waiters ranks
   pub queues : queued.count ≡ WAIT_QUEUE_LIMIT
 
 -- there is queue q, and in it are all tasks that wait for this, and no others
 pub record IsQueueFor (wait : Wait) (q : ℕ) : Type 0 where
   pub there : q < WAIT_QUEUE_LIMIT
-  pub members : (other : Wait) → is_number q (wait_queue other) ≡ same_wait other wait
+  pub members : (other : Wait) → is_queue q (wait_queue other) ≡ same_wait other wait

@@ -21,9 +21,9 @@ abbrev pub waits_for : Wait → Option Waiter → Bool
 waits_for wait None = false
 waits_for wait (Some waiter) = same_wait waiter.wait wait
 
-abbrev pub stamp_of : Option Waiter → ℕ
-stamp_of None = 0
-stamp_of (Some waiter) = waiter.stamp
+abbrev pub waiter_stamp : Option Waiter → ℕ
+waiter_stamp None = 0
+waiter_stamp (Some waiter) = waiter.stamp
 
 -- ---- all entries
 -- the tasks, by their numbers: what each waits for, and its rank

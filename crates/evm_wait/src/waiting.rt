@@ -4,7 +4,7 @@ ghost use Rattle.evm_model.specs.Lists.{change};
 ghost use Rattle.evm_model.specs.Ranks.{first, leader};
 ghost use Rattle.evm_ready.specs.Places.{entry};
 ghost use Rattle.evm_ready.specs.ListedRanks.{listed_rank};
-ghost use Rattle.evm_wait.specs.Waiters.{stamp_of, waits_for};
+ghost use Rattle.evm_wait.specs.Waiters.{waiter_stamp, waits_for};
 ghost use Rattle.evm_wait.specs.WaitTurns.{IsQueueFor};
 
 use crate::WAIT_QUEUE_LIMIT;
@@ -129,7 +129,7 @@ impl Waiting {
     }
 
     fn stamp(&self, t: u8) -> u64
-        ensures { result ≡ stamp_of (entry self.now.waiters t) }
+        ensures { result ≡ waiter_stamp (entry self.now.waiters t) }
     {
         match self.get(t) {
             None => 0,
@@ -139,7 +139,7 @@ impl Waiting {
 
     // Of the one that leads so far and another, the one that goes first.
     fn leader_of(&self, leading: Option<u8>, t: u8) -> u8
-        ensures { result ≡ leader (listed_rank self.now.ranks) (λ u. stamp_of (entry self.now.waiters u)) leading t }
+        ensures { result ≡ leader (listed_rank self.now.ranks) (λ u. waiter_stamp (entry self.now.waiters u)) leading t }
     {
         let Some(u) = leading else {
             return t;
@@ -158,7 +158,7 @@ impl Waiting {
     /// The number of the task that goes first of those that wait for this: the one of greatest rank, then of least
     /// stamp.
     pub fn first(&self, wait: Wait) -> Option<u8>
-        ensures { result ≡ first (λ t. waits_for wait (entry self.now.waiters t)) (listed_rank self.now.ranks) (λ t. stamp_of (entry self.now.waiters t)) (length self.now.waiters) }
+        ensures { result ≡ first (λ t. waits_for wait (entry self.now.waiters t)) (listed_rank self.now.ranks) (λ t. waiter_stamp (entry self.now.waiters t)) (length self.now.waiters) }
     {
         match asked_queue(wait) {
             Some(q) => self.turns.head(q),
@@ -169,7 +169,7 @@ impl Waiting {
     // The same by a look at each task, for what has no queue.
     #[tactic(auto, using(evm_ready::proofs::Scans::scans))]
     fn first_of_all(&self, wait: Wait) -> Option<u8>
-        ensures { result ≡ first (λ t. waits_for wait (entry self.now.waiters t)) (listed_rank self.now.ranks) (λ t. stamp_of (entry self.now.waiters t)) (length self.now.waiters) }
+        ensures { result ≡ first (λ t. waits_for wait (entry self.now.waiters t)) (listed_rank self.now.ranks) (λ t. waiter_stamp (entry self.now.waiters t)) (length self.now.waiters) }
     {
         let mut leading = None;
         for t in 0..self.len() {

@@ -5,7 +5,7 @@ use Rattle.std.specs.Prelude.{slice_get}
 use Rattle.evm_model.specs.Lists.{change}
 use Rattle.evm_ready.specs.Places.{oob_bit, oob_count, ReadyTasks}
 use Rattle.evm_ready.specs.declared.place.Place.{Place}
-use Rattle.evm_ready.specs.ReadyTurns.{place_turn, turns_of}
+use Rattle.evm_ready.specs.ReadyTurns.{place_turn, ready_turns}
 use Rattle.evm_ready.proofs.Listed_turns.{turns-entry}
 use Rattle.evm_ready.proofs.Counts.{bit-least, count-has, count-least, count-set, set-there}
 use Rattle.evm_ready.proofs.ready.Ready.replace.Goals as goal
@@ -34,7 +34,7 @@ invariant_of-self c =
       turns = c.set.ensures.turns
           ∙ rw (c.turn_of.ensures, c.rank-rank.ensures, ← c.self.view_is, c.self.invariant.turns)
           (turns-entry place_turn c.self.inside.places.items c.self.inside.ranks.items c.args.t c.args.place c.self.invariant.ranked)
-          ∙ ap (λ (places : List (Option Place)). turns_of places c.self.inside.ranks.items)
+          ∙ ap (λ (places : List (Option Place)). ready_turns places c.self.inside.ranks.items)
           (sym (set-there c.self.inside.places.items c.args.t c.in-Some.entry.now c.args.place there));
       queues = c.set.ensures.count ∙ c.self.invariant.queues;
       limit = c.self.invariant.limit;

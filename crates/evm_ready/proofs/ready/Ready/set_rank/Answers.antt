@@ -4,7 +4,7 @@ use Rattle.std.proofs.lemmas.Option.{slice_get_read}
 use Rattle.std.specs.Prelude.{slice_get}
 use Rattle.evm_model.specs.Lists.{change}
 use Rattle.evm_ready.specs.Places.{ReadyTasks}
-use Rattle.evm_ready.specs.ReadyTurns.{place_turn, turns_of}
+use Rattle.evm_ready.specs.ReadyTurns.{place_turn, ready_turns}
 use Rattle.evm_ready.proofs.Counts.{set-there}
 use Rattle.evm_ready.proofs.Listed_turns.{turns-rank}
 use Rattle.evm_ready.proofs.ready.Ready.set_rank.Goals as goal
@@ -19,7 +19,7 @@ invariant_of-self c =
       turns = c.set.ensures.turns
           ∙ rw (c.turn_of.ensures, c.get-place.ensures, ← c.self.view_is, c.self.invariant.turns)
           (turns-rank place_turn c.self.inside.places.items c.self.inside.ranks.items c.args.t c.args.rank c.self.invariant.ranked)
-          ∙ ap (λ (ranks : List ℕ). turns_of c.self.inside.places.items ranks)
+          ∙ ap (λ (ranks : List ℕ). ready_turns c.self.inside.places.items ranks)
           (sym (set-there c.self.inside.ranks.items c.args.t c.in-Some.entry.now c.args.rank there));
       queues = c.set.ensures.count ∙ c.self.invariant.queues;
       limit = c.self.invariant.limit;

@@ -7,7 +7,7 @@ use Rattle.evm_ready.proofs.Counts.{set-there}
 use Rattle.evm_ready.proofs.Listed_turns.{turns-entry}
 use Rattle.evm_wait.specs.declared.waiter.Waiter.{Waiter}
 use Rattle.evm_wait.specs.Waiters.{WaitingTasks}
-use Rattle.evm_wait.specs.WaitTurns.{turns_of, waiter_turn}
+use Rattle.evm_wait.specs.WaitTurns.{wait_turns, waiter_turn}
 use Rattle.evm_wait.proofs.waiting.Waiting.replace.Goals as goal
 
 pub invariant_of-self : goal.invariant_of-self
@@ -19,7 +19,7 @@ invariant_of-self c =
       turns = c.set.ensures.turns
           ∙ rw (c.turn_of.ensures, c.rank-rank.ensures, ← c.self.view_is, c.self.invariant.turns)
           (turns-entry waiter_turn c.self.inside.waiters.items c.self.inside.ranks.items c.args.t c.args.waiter c.self.invariant.ranked)
-          ∙ ap (λ (waiters : List (Option Waiter)). turns_of waiters c.self.inside.ranks.items)
+          ∙ ap (λ (waiters : List (Option Waiter)). wait_turns waiters c.self.inside.ranks.items)
           (sym (set-there c.self.inside.waiters.items c.args.t c.in-Some.entry.now c.args.waiter there));
       queues = c.set.ensures.count ∙ c.self.invariant.queues;
     }

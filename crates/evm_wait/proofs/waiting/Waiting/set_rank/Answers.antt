@@ -4,7 +4,7 @@ use Rattle.std.proofs.lemmas.Option.{slice_get_read}
 use Rattle.std.specs.Prelude.{slice_get}
 use Rattle.evm_model.specs.Lists.{change}
 use Rattle.evm_wait.specs.Waiters.{WaitingTasks}
-use Rattle.evm_wait.specs.WaitTurns.{waiter_turn, turns_of}
+use Rattle.evm_wait.specs.WaitTurns.{waiter_turn, wait_turns}
 use Rattle.evm_ready.proofs.Counts.{set-there}
 use Rattle.evm_ready.proofs.Listed_turns.{turns-rank}
 use Rattle.evm_wait.proofs.waiting.Waiting.set_rank.Goals as goal
@@ -18,7 +18,7 @@ invariant_of-self c =
       turns = c.set.ensures.turns
           ∙ rw (c.turn_of.ensures, c.get-waiter.ensures, ← c.self.view_is, c.self.invariant.turns)
           (turns-rank waiter_turn c.self.inside.waiters.items c.self.inside.ranks.items c.args.t c.args.rank c.self.invariant.ranked)
-          ∙ ap (λ (ranks : List ℕ). turns_of c.self.inside.waiters.items ranks)
+          ∙ ap (λ (ranks : List ℕ). wait_turns c.self.inside.waiters.items ranks)
           (sym (set-there c.self.inside.ranks.items c.args.t c.in-Some.entry.now c.args.rank there));
       queues = c.set.ensures.count ∙ c.self.invariant.queues;
     }
