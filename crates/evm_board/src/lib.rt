@@ -26,5 +26,5 @@ pub use evm_settle::{
     Actions, Console, Events, Flags, Harts, Mutexes, Notices, Parts, Pipe, Schedule, Semaphores,
     Tasks, Timers,
 };
-pub use memory::Memory;
+pub use memory::{Memory, word_in};
 pub use stepping::StepsMade;

@@ -4,5 +4,5 @@
 mod ram;
 mod width;
 
-pub use ram::{BASE, Ram, SIZE_LIMIT};
+pub use ram::{BASE, Ram, SIZE_LIMIT, read_at};
 pub use width::Width;

@@ -54,21 +54,22 @@ impl Ram {
         self.bytes.len() as u64
     }
 
+    /// The bytes, of which the first stands at [`BASE`].
+    #[inline(always)]
+    pub fn as_slice(&self) -> &[u8]
+        ensures value { result.now ≡ self.now }
+        ensures limit { length result.now ≤ SIZE_LIMIT }
+    {
+        &self.bytes
+    }
+
     /// Where `count` bytes from `address` on begin in the list; None if and only if one of them is outside.
     #[inline(always)]
     fn place(&self, address: u64, count: u64) -> Option<usize>
         requires { 0 < count }
         ensures { result ≡ (if is_inside self.now address count then Some (address - BASE) else None) }
     {
-        let size = self.size();
-        let offset = address.wrapping_sub(BASE);
-        if count > size {
-            None
-        } else if offset > size - count {
-            None
-        } else {
-            Some(offset as usize)
-        }
+        place(self.as_slice(), address, count)
     }
 
     /// The `count` bytes from `address` on; None if and only if one of them is outside. No bytes are found
@@ -78,11 +79,7 @@ impl Ram {
         ensures found { option_copied result ≡ bytes_at self.now address count }
         ensures count { IfSome result (λ bytes. length bytes.now ≡ count) }
     {
-        if count == 0 {
-            return Some(&[]);
-        }
-        let start = self.place(address, count)?;
-        Some(&self.bytes[start..start + count as usize])
+        bytes_at(self.as_slice(), address, count)
     }
 
     /// The number that is stored at `address`, its lowest byte first; None if and only if one of its bytes is
@@ -92,8 +89,7 @@ impl Ram {
         ensures value { result ≡ read_at self.now address width }
         ensures fits { IfSome result (λ value. value < 256 ^ bytes_of width) }
     {
-        let bytes = self.bytes(address, width.bytes())?;
-        Some(number(bytes, width))
+        read_at(self.as_slice(), address, width)
     }
 
     /// Puts `bytes` from `address` on; None, and nothing is changed, if and only if one of them would be
@@ -135,6 +131,48 @@ impl Ram {
     {
         self.bytes.fill(0);
     }
+}
+
+/// Where `count` bytes from `address` on begin in RAM's bytes; None if and only if one of them is outside.
+#[inline(always)]
+fn place(ram: &[u8], address: u64, count: u64) -> Option<usize>
+    requires count { 0 < count }
+    requires limit { length ram.now ≤ SIZE_LIMIT }
+    ensures { result ≡ (if is_inside ram.now address count then Some (address - BASE) else None) }
+{
+    let size = ram.len() as u64;
+    let offset = address.wrapping_sub(BASE);
+    if count > size {
+        None
+    } else if offset > size - count {
+        None
+    } else {
+        Some(offset as usize)
+    }
+}
+
+#[inline(always)]
+fn bytes_at(ram: &[u8], address: u64, count: u64) -> Option<&[u8]>
+    requires { length ram.now ≤ SIZE_LIMIT }
+    ensures found { option_copied result ≡ bytes_at ram.now address count }
+    ensures count { IfSome result (λ bytes. length bytes.now ≡ count) }
+{
+    if count == 0 {
+        return Some(&[]);
+    }
+    let start = place(ram, address, count)?;
+    Some(&ram[start..start + count as usize])
+}
+
+/// As [`Ram::read`], from the bytes of [`Ram::as_slice`]: for a loop over many addresses, which needn't look for RAM each time.
+#[inline(always)]
+pub fn read_at(ram: &[u8], address: u64, width: Width) -> Option<u64>
+    requires { length ram.now ≤ SIZE_LIMIT }
+    ensures value { result ≡ read_at ram.now address width }
+    ensures fits { IfSome result (λ value. value < 256 ^ bytes_of width) }
+{
+    let bytes = bytes_at(ram, address, width.bytes())?;
+    Some(number(bytes, width))
 }
 
 /// The number that these bytes stand for, the lowest byte first.

@@ -1,7 +1,7 @@
 use Rattle.std.proofs.Common.{◌∙◌, sym, ap, option_copied}
 use Rattle.evm_ram.proofs.Places.{cond_none, bytes_at-no_bytes, bytes_at-placed}
 use Rattle.evm_ram.specs.Laws.{cond_some, bytes_at-outside}
-use Rattle.evm_ram.proofs.ram.Ram.bytes.Goals as goal
+use Rattle.evm_ram.proofs.ram.bytes_at.Goals as goal
 
 pub returns-then-count-eq0-clause-found : goal.returns-then-count-eq0-clause-found
 returns-then-count-eq0-clause-found c = sym (bytes_at-no_bytes _ _ _ c.if-count-eq0.true)
@@ -14,5 +14,4 @@ returns-in_err-start-clause-found c =
 pub returns-clause-found : goal.returns-clause-found
 returns-clause-found c =
     let inside = cond_some _ _ _ (sym c.place.ensures ∙ c.in_ok-start.was) in
-    let held = c.deref.ensures.value ∙ c.self.view_is in
-    rw held (sym (bytes_at-placed _ _ _ _ inside.0 inside.1))
+    sym (bytes_at-placed _ _ _ _ inside.0 inside.1)
