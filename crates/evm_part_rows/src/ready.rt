@@ -178,6 +178,42 @@ fn a_queue_has_room_for_all_tasks(rt: HostRuntime) -> Result<(), Fail> {
     Ok(())
 }
 
+// The order after 1,000 turns, but for tasks 2 and 61, of which each has the other's place.
+const TURNED: [u8; 64] = [
+    40, 41, 42, 43, 44, 45, 46, 47, 48, 49, 50, 51, 52, 53, 54, 55, 56, 57, 58, 59, 60, 2, 62, 63,
+    0, 1, 61, 3, 4, 5, 6, 7, 8, 9, 10, 11, 12, 13, 14, 15, 16, 17, 18, 19, 20, 21, 22, 23, 24, 25,
+    26, 27, 28, 29, 30, 31, 32, 33, 34, 35, 36, 37, 38, 39,
+];
+
+fn head_to_the_end(ready: &mut Ready, stamp: u64) {
+    if let Some(t) = ready.best(0) {
+        ready.set(t, oob(0, stamp));
+    }
+}
+
+// All tasks fill the array of a queue, in which they go round. Then tasks 63 and 0 lie on either side of its end, and
+// two change their places over it.
+#[test]
+fn a_full_queue_goes_round_in_its_array(rt: HostRuntime) -> Result<(), Fail> {
+    let mut ready = Ready::new(rt.alloc(), 1)?;
+    for t in 0..64u64 {
+        push_where_room_is(&mut ready, t);
+    }
+    for turn in 0..1_000u64 {
+        head_to_the_end(&mut ready, 64 + turn);
+    }
+    ready.set(61, None);
+    ready.set(2, None);
+    ready.set(2, oob(0, 1_021));
+    ready.set(61, oob(0, 1_026));
+    for t in TURNED {
+        assert_eq!(rt; ready.best(0), Some(t));
+        ready.set(t, None);
+    }
+    assert_eq!(rt; ready.best(0), None);
+    Ok(())
+}
+
 #[test]
 fn a_state_has_its_place(rt: HostRuntime) {
     assert!(rt; place_of(&in_state(TaskState::OobReady)) == oob(3, 7));

@@ -1,5 +1,5 @@
-ghost use Rattle.std.specs.Prelude.{◌≡◌, ◌<◌, ◌≤◌, ◌==◌, ◌&&◌, ◌∷◌, ◌++◌, ℕ, [], false, not, length, drop, remove, slice_get, slice_set, IfSome, IfNone};
-ghost use Rattle.evm_ready.specs.Queues.{has, IsInOrder};
+ghost use Rattle.std.specs.Prelude.{◌≡◌, ◌<◌, ◌≤◌, ◌+◌, ◌==◌, ◌&&◌, ◌∷◌, ◌++◌, ℕ, [], true, false, not, length, drop, remove, slice_get, slice_set, IfSome, IfNone};
+ghost use Rattle.evm_ready.specs.Queues.{has, precedes, IsInOrder};
 
 use crate::turn::{Turn, precedes};
 use evm_model::TASK_LIMIT;
@@ -50,8 +50,57 @@ impl Queue {
         }
     }
 
-    // Task t comes to its place. It is sought from the end, since a fresh stamp goes there.
+    // Task t comes to its place.
+    #[inline]
     pub(crate) fn insert(&mut self, turns: &[Turn], t: u8)
+        requires room { length self.old < TASK_LIMIT }
+        requires order { IsInOrder turns.now self.old }
+        requires new { has self.old t ≡ false }
+        ensures order { IsInOrder turns.now self.new }
+        ensures members { (u : ℕ) → has self.new u ≡ has (t ∷ self.old) u }
+    {
+        if self.is_behind(turns, t) {
+            self.push(t);
+        } else {
+            self.insert_between(turns, t);
+        }
+    }
+
+    // Task t goes, if it is there.
+    #[inline]
+    pub(crate) fn remove(&mut self, turns: &[Turn], t: u8)
+        requires { IsInOrder turns.now self.old }
+        ensures order { IsInOrder turns.now self.new }
+        ensures members { (u : ℕ) → has self.new u ≡ (not (t == u) && has self.old u) }
+    {
+        if self.is_head(t) {
+            self.drop_head();
+        } else {
+            self.remove_between(turns, t);
+        }
+    }
+
+    // Whether the place of task t is behind all that are there.
+    #[inline]
+    fn is_behind(&self, turns: &[Turn], t: u8) -> bool
+        ensures { result ≡ true → (i u : ℕ) → i + 1 ≡ length self.now → slice_get self.now i ≡ Some u → precedes turns.now t u ≡ false }
+    {
+        let len = self.len();
+        len == 0 || !precedes(turns, t, self.get(len - 1))
+    }
+
+    // Whether task t goes first.
+    #[inline]
+    fn is_head(&self, t: u8) -> bool
+        ensures { result ≡ true → slice_get self.now 0 ≡ Some t }
+    {
+        self.len() > 0 && self.get(0) == t
+    }
+
+    // Task t comes to its place, and those that it precedes move.
+    // What is seldom done stands apart, so that the rest has the registers.
+    #[inline(never)]
+    fn insert_between(&mut self, turns: &[Turn], t: u8)
         requires room { length self.old < TASK_LIMIT }
         requires order { IsInOrder turns.now self.old }
         requires new { has self.old t ≡ false }
@@ -68,8 +117,9 @@ impl Queue {
         self.put(place, t);
     }
 
-    // Task t goes, if it is there.
-    pub(crate) fn remove(&mut self, turns: &[Turn], t: u8)
+    // Task t goes, if it is there, and others move.
+    #[inline(never)]
+    fn remove_between(&mut self, turns: &[Turn], t: u8)
         requires { IsInOrder turns.now self.old }
         ensures order { IsInOrder turns.now self.new }
         ensures members { (u : ℕ) → has self.new u ≡ (not (t == u) && has self.old u) }

@@ -1,9 +1,9 @@
-use Rattle.evm_ready.proofs.Members.{has-remove, in_order-remove}
+use Rattle.std.proofs.Common.{◌≡◌, Some, refl}
+use Rattle.std.specs.Prelude.{slice_get}
+use Rattle.evm_ready.proofs.Members.{has-remove}
 use Rattle.evm_ready.proofs.queue.Queue.remove.Goals as goal
 
-pub returns-in-Some-clause-order : goal.returns-in-Some-clause-order
-returns-in-Some-clause-order c = rw c.remove_at.ensures (in_order-remove c.args.turns.now c.args.self.now c.in-Some.place c.requires)
-
-pub returns-in-Some-clause-members : goal.returns-in-Some-clause-members
-returns-in-Some-clause-members c =
-    λ u. rw c.remove_at.ensures (has-remove c.args.turns.now c.args.self.now c.in-Some.place c.args.t u c.requires c.in-Some.ensures.found)
+pub returns-then-is_head-clause-members : goal.returns-then-is_head-clause-members
+returns-then-is_head-clause-members c =
+    let found : slice_get c.args.self.now 0 ≡ Some c.args.t = c.if-is_head.ensures refl in
+    λ u. rw c.drop_head.ensures (has-remove c.args.turns.now c.args.self.now 0 c.args.t u c.requires found)

@@ -7,5 +7,5 @@ loop-i-preserved c =
     let within : c.loop-i.i < length c.loop-i.self = c.loop-i.invariant.within in
     rw c.put.ensures (record {
       within = omega (arith, length-set c.loop-i.self c.loop-i.i c.get-before.result);
-      left = remove-shift c.loop-i.self c.loop-i.i c.get-before.result c.loop-i-test.true within c.get-before.ensures ∙ c.loop-i.invariant.left;
+      left = remove-shift c.loop-i.self c.loop-i.i c.get-before.result (omega arith) within c.get-before.ensures ∙ c.loop-i.invariant.left;
     })

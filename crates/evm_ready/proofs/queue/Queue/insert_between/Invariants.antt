@@ -2,7 +2,7 @@ use Rattle.std.proofs.Common.{◌≡◌, ◌≤◌, ◌+◌, ℕ, List, Some, tr
 use Rattle.std.specs.Prelude.{slice_get, insert}
 use Rattle.evm_ready.specs.Queues.{precedes}
 use Rattle.evm_ready.specs.declared.turn.Turn.{Turn}
-use Rattle.evm_ready.proofs.queue.Queue.insert.Given as goal
+use Rattle.evm_ready.proofs.queue.Queue.insert_between.Given as goal
 
 -- those from the place on moved up, since the task precedes them
 pub record Comes (turns : List Turn) (queue moved : List ℕ) (t place : ℕ) : Type 0 where
