@@ -1,6 +1,6 @@
 //! What is seen of a machine between two events.
 
-ghost use Rattle.std.specs.Prelude.{◌≡◌, ◌∷◌, ◌++◌, [], IfOk, OnOk, length, option_to_list, slice_get};
+ghost use Rattle.std.specs.Prelude.{◌≡◌, ◌<◌, ◌≤◌, ◌+◌, ◌∷◌, ◌++◌, [], IfOk, OnOk, length, option_to_list, slice_get, vec_capacity, vec_len};
 ghost use Rattle.evm_model.specs.Stages.{is_stalled};
 ghost use Rattle.evm_timeline.specs.Lists.{below};
 ghost use Rattle.evm_timeline.specs.Looks.{IsLookAt, lane_at, last_notice, lines_at, owner_at, rank_at, ready_stage, running_of};
@@ -67,12 +67,16 @@ pub(crate) fn put<T: Drop>(items: &mut Vec<T>, item: T) -> Result<(), Refused>
 }
 
 // One element more, if there is one.
-fn put_some<T: Drop>(items: &mut Vec<T>, item: Option<T>) -> Result<(), Refused>
-    ensures { OnOk result (items.new.items ≡ items.old.items ++ option_to_list item) }
+#[inline]
+fn put_reserved<T: Drop>(items: &mut Vec<T>, item: Option<T>)
+    requires { vec_len items.old < vec_capacity items.old }
+    ensures items { items.new.items ≡ items.old.items ++ option_to_list item }
+    ensures len { vec_len items.new ≤ vec_len items.old + 1 }
+    ensures capacity { vec_capacity items.new ≡ vec_capacity items.old }
 {
     match item {
-        None => Ok(()),
-        Some(item) => put(items, item),
+        None => {}
+        Some(item) => items.push_reserved(item),
     }
 }
 
@@ -146,9 +150,11 @@ fn rank_at<D: Device>(machine: &Machine<D>, t: u8) -> Option<u16>
 fn see_lanes<D: Device>(lanes: &mut Vec<Lane>, machine: &Machine<D>) -> Result<(), Refused>
     ensures { OnOk result (lanes.new.items ≡ below (λ c. option_to_list (lane_at machine.now.board.parts c)) (length machine.now.board.parts.processors)) }
 {
+    let count = machine.cpu_count();
     lanes.clear();
-    for c in 0..machine.cpu_count() {
-        put_some(lanes, lane_at(machine, c))?;
+    grow(lanes, usize::from(count))?;
+    for c in 0..count {
+        put_reserved(lanes, lane_at(machine, c));
     }
     Ok(())
 }
@@ -161,8 +167,9 @@ fn see_lines<D: Device>(
 ) -> Result<(), Refused>
     ensures { OnOk result (counts.new.items ≡ counts.old.items ++ lines_at machine.now.board.parts c) }
 {
+    grow(counts, usize::from(LINES))?;
     for line in 0..LINES {
-        put_some(counts, machine.counts(c, line))?;
+        put_reserved(counts, machine.counts(c, line));
     }
     Ok(())
 }
@@ -182,9 +189,11 @@ fn see_counts<D: Device>(counts: &mut Vec<Counts>, machine: &Machine<D>) -> Resu
 fn see_tasks<D: Device>(tasks: &mut Vec<Task>, machine: &Machine<D>) -> Result<(), Refused>
     ensures { OnOk result (tasks.new.items ≡ below (λ t. option_to_list (slice_get machine.now.board.parts.tasks t)) (length machine.now.board.parts.tasks)) }
 {
+    let count = machine.task_count();
     tasks.clear();
-    for t in 0..machine.task_count() {
-        put_some(tasks, machine.task(t))?;
+    grow(tasks, usize::from(count))?;
+    for t in 0..count {
+        put_reserved(tasks, machine.task(t));
     }
     Ok(())
 }
@@ -193,9 +202,11 @@ fn see_tasks<D: Device>(tasks: &mut Vec<Task>, machine: &Machine<D>) -> Result<(
 fn see_ranks<D: Device>(ranks: &mut Vec<u16>, machine: &Machine<D>) -> Result<(), Refused>
     ensures { OnOk result (ranks.new.items ≡ below (λ t. option_to_list (rank_at machine.now.board.parts t)) (length machine.now.board.parts.tasks)) }
 {
+    let count = machine.task_count();
     ranks.clear();
-    for t in 0..machine.task_count() {
-        put_some(ranks, rank_at(machine, t))?;
+    grow(ranks, usize::from(count))?;
+    for t in 0..count {
+        put_reserved(ranks, rank_at(machine, t));
     }
     Ok(())
 }
@@ -204,9 +215,11 @@ fn see_ranks<D: Device>(ranks: &mut Vec<u16>, machine: &Machine<D>) -> Result<()
 fn see_owners<D: Device>(owners: &mut Vec<Option<u8>>, machine: &Machine<D>) -> Result<(), Refused>
     ensures { OnOk result (owners.new.items ≡ below (λ m. option_to_list (owner_at machine.now.board.parts m)) (length machine.now.board.parts.mutexes)) }
 {
+    let count = machine.mutex_count();
     owners.clear();
-    for m in 0..machine.mutex_count() {
-        put_some(owners, owner_at(machine, m))?;
+    grow(owners, usize::from(count))?;
+    for m in 0..count {
+        put_reserved(owners, owner_at(machine, m));
     }
     Ok(())
 }

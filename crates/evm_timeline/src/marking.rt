@@ -1,6 +1,6 @@
 //! The marks by which two looks differ.
 
-ghost use Rattle.std.specs.Prelude.{◌≡◌, ◌*◌, ◌+◌, ◌++◌, ◌-◌, OnOk, nat_lt, option_copied, slice_get};
+ghost use Rattle.std.specs.Prelude.{◌≡◌, ◌*◌, ◌+◌, ◌++◌, ◌-◌, ℕ, [], OnOk, false, nat_lt, option_copied, slice_get};
 ghost use Rattle.evm_lines.specs.declared.TheConstants.{LINES};
 ghost use Rattle.evm_timeline.specs.Lists.{below};
 ghost use Rattle.evm_timeline.specs.Marks.{counted_marks, lane_marks, line_marks, lines_marks, marks_of, notice_marks, owner_in, owner_marks, processor_marks, running_marks, same_bit, same_owner, same_running, same_stage, stall_marks, stop_marks, tick_marks, when};
@@ -101,12 +101,6 @@ fn lane_at(lanes: &[Lane], at: usize) -> Option<Lane>
     ensures { result ≡ slice_get lanes.now at }
 {
     lanes.get(at).copied()
-}
-
-fn counts_at(counts: &[Counts], at: usize) -> Option<Counts>
-    ensures { result ≡ slice_get counts.now at }
-{
-    counts.get(at).copied()
 }
 
 #[tactic(auto, unfolding(crate::specs::Marks::lane_marks), using(crate::proofs::Lemmas::numbered))]
@@ -218,20 +212,64 @@ fn push_counted(
     )
 }
 
+// Whether a count of those that are marked has grown.
+#[inline]
+fn is_grown(before: &Counts, after: &Counts) -> bool
+    ensures { (c l : ℕ) → result ≡ false → counted_marks c l before.now after.now ≡ [] }
+{
+    before.raised < after.raised
+        || before.received < after.received
+        || before.oob.played < after.oob.played
+        || before.in_band.played < after.in_band.played
+}
+
+// Most lines have no mark.
+#[inline]
+#[tactic(auto, using(crate::proofs::Lemmas::numbered))]
+fn push_grown(
+    marks: &mut Vec<Mark>,
+    cpu: u8,
+    line: u8,
+    before: &Counts,
+    after: &Counts,
+) -> Result<(), Refused>
+    ensures { OnOk result (marks.new.items ≡ marks.old.items ++ (counted_marks cpu line before.now after.now)) }
+{
+    if is_grown(before, after) {
+        push_counted(marks, cpu, line, before, after)
+    } else {
+        Ok(())
+    }
+}
+
 #[tactic(auto, unfolding(crate::specs::Marks::line_marks), using(crate::proofs::Lemmas::numbered))]
 fn push_line(
     marks: &mut Vec<Mark>,
     cpu: u8,
     line: u8,
-    before: Option<Counts>,
-    after: Option<Counts>,
+    before: Option<&Counts>,
+    after: Option<&Counts>,
 ) -> Result<(), Refused>
-    ensures { OnOk result (marks.new.items ≡ marks.old.items ++ (line_marks cpu line before after)) }
+    ensures { OnOk result (marks.new.items ≡ marks.old.items ++ (line_marks cpu line (option_copied before.entry) (option_copied after.entry))) }
 {
     match (before, after) {
-        (Some(before), Some(after)) => push_counted(marks, cpu, line, &before, &after),
+        (Some(before), Some(after)) => push_grown(marks, cpu, line, before, after),
         _ => Ok(()),
     }
+}
+
+#[tactic(auto, using(crate::proofs::Lemmas::numbered))]
+fn push_line_at(
+    marks: &mut Vec<Mark>,
+    cpu: u8,
+    line: u8,
+    before: &[Counts],
+    after: &[Counts],
+    at: usize,
+) -> Result<(), Refused>
+    ensures { OnOk result (marks.new.items ≡ marks.old.items ++ (line_marks cpu line (slice_get before.now at) (slice_get after.now at))) }
+{
+    push_line(marks, cpu, line, before.get(at), after.get(at))
 }
 
 #[tactic(auto, unfolding(crate::specs::Marks::lines_marks), using(crate::proofs::Lemmas::numbered))]
@@ -246,13 +284,7 @@ fn push_lines(
     let first = usize::from(cpu) * usize::from(LINES);
     for line in 0..LINES {
         let at = first + usize::from(line);
-        push_line(
-            marks,
-            cpu,
-            line,
-            counts_at(before, at),
-            counts_at(after, at),
-        )?;
+        push_line_at(marks, cpu, line, before, after, at)?;
     }
     Ok(())
 }

@@ -1,6 +1,6 @@
 //! The marks of one task.
 
-ghost use Rattle.std.specs.Prelude.{◌≡◌, ◌++◌, OnOk, slice_get};
+ghost use Rattle.std.specs.Prelude.{◌≡◌, ◌++◌, OnOk, option_copied, slice_get};
 ghost use Rattle.evm_timeline.specs.Lists.{below};
 ghost use Rattle.evm_timeline.specs.Marks.{change_marks, deadline_marks, end_marks, has_ended, is_wait, moves_marks, one_task_marks, rank_marks, equal_waits, task_stage, task_marks, wait_of, wait_stage, waits_marks, woken_marks};
 
@@ -196,16 +196,30 @@ fn push_task(
     marks: &mut Vec<Mark>,
     task: u8,
     ticks: u64,
-    before: Option<Task>,
-    after: Option<Task>,
+    before: Option<&Task>,
+    after: Option<&Task>,
 ) -> Result<(), Refused>
-    ensures { OnOk result (marks.new.items ≡ marks.old.items ++ (task_marks task ticks before after)) }
+    ensures { OnOk result (marks.new.items ≡ marks.old.items ++ (task_marks task ticks (option_copied before.entry) (option_copied after.entry))) }
 {
     match (before, after) {
         (None, Some(_)) => push_when(marks, true, Mark::Created { task }),
-        (Some(before), Some(after)) => push_changes(marks, task, ticks, &before, &after),
+        (Some(before), Some(after)) => push_changes(marks, task, ticks, before, after),
         _ => Ok(()),
     }
+}
+
+#[tactic(auto, using(crate::proofs::Lemmas::numbered))]
+fn push_task_at(
+    marks: &mut Vec<Mark>,
+    task: u8,
+    ticks: u64,
+    before: &[Task],
+    after: &[Task],
+    at: usize,
+) -> Result<(), Refused>
+    ensures { OnOk result (marks.new.items ≡ marks.old.items ++ (task_marks task ticks (slice_get before.now at) (slice_get after.now at))) }
+{
+    push_task(marks, task, ticks, before.get(at), after.get(at))
 }
 
 #[tactic(auto, using(crate::proofs::Lemmas::numbered))]
@@ -221,12 +235,6 @@ fn push_rank(
         (Some(from), Some(to)) => push_when(marks, from != to, Mark::Rank { task, from, to }),
         _ => Ok(()),
     }
-}
-
-fn task_at(tasks: &[Task], at: usize) -> Option<Task>
-    ensures { result ≡ slice_get tasks.now at }
-{
-    tasks.get(at).copied()
 }
 
 fn rank_at(ranks: &[u16], at: usize) -> Option<u16>
@@ -245,12 +253,13 @@ fn push_one_task(
     ensures { OnOk result (marks.new.items ≡ marks.old.items ++ one_task_marks before.now after.now task) }
 {
     let at = usize::from(task);
-    push_task(
+    push_task_at(
         marks,
         task,
         after.ticks,
-        task_at(before.tasks.as_slice(), at),
-        task_at(after.tasks.as_slice(), at),
+        before.tasks.as_slice(),
+        after.tasks.as_slice(),
+        at,
     )?;
     push_rank(
         marks,
