@@ -27,7 +27,7 @@ unfolding ranks.best
 best-is c s mutexes tasks is =
     rw is.entered.places
     (best-placed c (listed_rank s.ranks) tasks
-    ∙ first-same (ranks.runs_oob c tasks) (listed_rank s.ranks) (ranks.rank mutexes tasks) (ranks.stamp tasks) (length tasks) is.ranks)
+    ∙ first-same (ranks.may_run_oob c tasks) (listed_rank s.ranks) (ranks.rank mutexes tasks) (ranks.stamp tasks) (length tasks) is.ranks)
 
 pub next-is : (c : ℕ) (s : Scheduled) (mutexes : List Mutex) (tasks : List Task) → IsScheduled s mutexes tasks
     → ranks.first (λ t. runs_in_band c (entry s.places t)) (λ _. 0) (λ t. place_stamp (entry s.places t)) (length s.places) ≡ ranks.next_in_band c tasks

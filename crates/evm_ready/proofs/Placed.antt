@@ -47,7 +47,7 @@ in_band_stamp-in Exit cpu stamp c e = cc
 in_band_stamp-in (Faulted fault) cpu stamp c e = cc
 
 -- ---- by number
-oob-at : (tasks : List Task) (c t : ℕ) → runs_oob c (entry (map ready_place tasks) t) ≡ ranks.runs_oob c tasks t
+oob-at : (tasks : List Task) (c t : ℕ) → runs_oob c (entry (map ready_place tasks) t) ≡ ranks.may_run_oob c tasks t
 oob-at [] c t = refl
 oob-at (task ∷ tasks) c zero = oob-in task.state task.cpu task.stamp c
 oob-at (task ∷ tasks) c (suc t) = oob-at tasks c t
@@ -57,7 +57,7 @@ oob_stamp-at [] c t e = refl
 oob_stamp-at (task ∷ tasks) c zero e = oob_stamp-in task.state task.cpu task.stamp c e
 oob_stamp-at (task ∷ tasks) c (suc t) e = oob_stamp-at tasks c t e
 
-in_band-at : (tasks : List Task) (c t : ℕ) → runs_in_band c (entry (map ready_place tasks) t) ≡ ranks.runs_in_band c tasks t
+in_band-at : (tasks : List Task) (c t : ℕ) → runs_in_band c (entry (map ready_place tasks) t) ≡ ranks.may_run_in_band c tasks t
 in_band-at [] c t = refl
 in_band-at (task ∷ tasks) c zero = in_band-in task.state task.cpu task.stamp c
 in_band-at (task ∷ tasks) c (suc t) = in_band-at tasks c t
@@ -70,7 +70,7 @@ in_band_stamp-at (task ∷ tasks) c (suc t) e = in_band_stamp-at tasks c t e
 -- ---- the first of them
 pub best-placed : (c : ℕ) (rank : ℕ → ℕ) (tasks : List Task)
     → ranks.first (λ t. runs_oob c (entry (map ready_place tasks) t)) rank (λ t. place_stamp (entry (map ready_place tasks) t)) (length (map ready_place tasks))
-    ≡ ranks.first (ranks.runs_oob c tasks) rank (ranks.stamp tasks) (length tasks)
+    ≡ ranks.first (ranks.may_run_oob c tasks) rank (ranks.stamp tasks) (length tasks)
 best-placed c rank tasks =
     rw (length-map tasks ready_place) (first-agree _ _ rank _ _ (length tasks) (oob-at tasks c) (oob_stamp-at tasks c))
 
