@@ -1,5 +1,5 @@
 -- What each place of a ring holds, and what its steps leave.
-use Rattle.std.proofs.Common.{◌≡◌, ℕ, ◌+◌, ◌-◌, ◌%◌, ◌<◌, ◌≤◌, ◌⊎◌, List, [], ◌∷◌, ◌++◌, length, get_or, drop, set, sym, ap, ◌∙◌, inl, inr, mod-eq_of_lt, arith, length-append, length-drop, length-set, length-take-le, get_or-drop, get_or-take}
+use Rattle.std.proofs.Common.{◌≡◌, ◌≢◌, get_or-set_other, ℕ, zero, suc, ◌+◌, ◌-◌, ◌%◌, ◌<◌, ◌≤◌, ◌⊎◌, List, [], ◌∷◌, ◌++◌, length, get_or, drop, set, sym, ap, ◌∙◌, inl, inr, mod-eq_of_lt, arith, length-append, length-drop, length-set, length-take-le, get_or-drop, get_or-take}
 use native.Mathlib.Nat.{mod-eq-sub-mod, mod-add-mod}
 use Rattle.std.proofs.lemmas.List.{same_lists, get_or_append_left, get_or-append_right}
 use Rattle.std.proofs.lemmas.Bool.{cases_lt}
@@ -70,3 +70,41 @@ module _ (n : ℕ) (xs : List ℕ) (start len : ℕ) (within : start < n) (fits 
         get_or-ring n xs start len within fits whole (1 + i) d,
         get_or-ring n xs ((start + 1) % n) (len - 1) next (omega arith) whole i d,
       ))
+
+  front-at : (t : ℕ) → len < n → (i d : ℕ) → i < len + 1
+      → get_or (ring (set xs ((start + (n - 1)) % n) t) ((start + (n - 1)) % n) (len + 1)) i d ≡ get_or (t ∷ ring xs start len) i d
+  front-at t room zero d here =
+      let before = wraps_once n (start + (n - 1)) (omega arith) in
+      let next : (start + (n - 1)) % n < n = grind (arith, before) in
+      let ys = set xs ((start + (n - 1)) % n) t in
+      let whole_new = length-set xs ((start + (n - 1)) % n) t ∙ whole in
+      grind (
+        arith,
+        common_steps,
+        wraps_once n ((start + (n - 1)) % n + 0) (omega arith),
+        get_or-ring n ys ((start + (n - 1)) % n) (len + 1) next (omega arith) whole_new 0 d,
+      )
+  front-at t room (suc i) d here =
+      let before = wraps_once n (start + (n - 1)) (omega arith) in
+      let next : (start + (n - 1)) % n < n = grind (arith, before) in
+      let ys = set xs ((start + (n - 1)) % n) t in
+      let whole_new = length-set xs ((start + (n - 1)) % n) t ∙ whole in
+      let round : n ≤ start + (n - 1) + suc i = omega arith in
+      let same : ((start + (n - 1)) % n + suc i) % n ≡ (start + i) % n =
+      mod-add-mod (start + (n - 1)) n (suc i) ∙ mod-eq-sub-mod round ∙ ap (λ j. j % n) (omega arith) in
+      let on = wraps_once n (start + i) (omega arith) in
+      let apart : (start + i) % n ≢ (start + (n - 1)) % n = λ e. grind (arith, before, on, e) in
+      get_or-ring n ys ((start + (n - 1)) % n) (len + 1) next (omega arith) whole_new (suc i) d (omega arith)
+      ∙ ap (λ j. get_or ys j d) same
+      ∙ get_or-set_other xs ((start + (n - 1)) % n) ((start + i) % n) t d apart
+      ∙ sym (get_or-ring n xs start len within fits whole i d (omega arith))
+
+  pub front-ring : (t : ℕ) → len < n → ring (set xs ((start + (n - 1)) % n) t) ((start + (n - 1)) % n) (len + 1) ≡ t ∷ ring xs start len
+  front-ring t room =
+      let before = wraps_once n (start + (n - 1)) (omega arith) in
+      let next : (start + (n - 1)) % n < n = grind (arith, before) in
+      let ys = set xs ((start + (n - 1)) % n) t in
+      let whole_new = length-set xs ((start + (n - 1)) % n) t ∙ whole in
+      let old = length-ring n xs start len within fits whole in
+      let new = length-ring n ys ((start + (n - 1)) % n) (len + 1) next (omega arith) whole_new in
+      same_lists _ _ (grind (arith, common_steps)) (λ i d here. front-at t room i d (omega (arith, here, new)))

@@ -1,8 +1,11 @@
 -- A place moves up: the steps by which a task comes to its place in a queue, or goes from it.
-use Rattle.std.proofs.Common.{◌≡◌, ℕ, zero, suc, ◌-◌, ◌<◌, ◌≤◌, List, [], ◌∷◌, Some, true, length, set, inl, inr, ap, arith}
+use Rattle.std.proofs.Common.{◌≡◌, ℕ, zero, suc, ◌-◌, ◌<◌, ◌≤◌, List, [], ◌∷◌, Some, true, length, set, inl, inr, ap, refl, arith}
 use Rattle.std.specs.Prelude.{slice_get, insert, remove}
 use Rattle.std.proofs.lemmas.Bool.{cases_lt}
-use Rattle.evm_ready.specs.Queues.{precedes}
+use Rattle.evm_model.proofs.Lists.{slice_get-below}
+use Rattle.evm_ready.specs.Queues.{precedes, IsInOrder}
+use Rattle.evm_ready.proofs.Members.{has-at}
+use Rattle.evm_ready.proofs.Preceding.{precedes-trans}
 use Rattle.evm_ready.specs.declared.turn.Turn.{Turn}
 
 insert-suc : (xs queue : List ℕ) (q t u : ℕ) → suc q ≤ length queue → slice_get xs q ≡ Some u → set xs (suc q) t ≡ insert queue (suc q) t
@@ -59,3 +62,10 @@ behind-shift turns queue t u place at goes behind i v h e =
           rw same goes
       | inr high ↦ behind i v high e
     ]
+
+-- a task that precedes the first precedes all
+pub leads-all : (turns : List Turn) (queue : List ℕ) (t : ℕ) → IsInOrder turns queue → ((u : ℕ) → slice_get queue 0 ≡ Some u → precedes turns t u ≡ true)
+    → (i u : ℕ) → slice_get queue i ≡ Some u → precedes turns t u ≡ true
+leads-all turns [] t order first i u e = let below = slice_get-below [] i u e in absurd (omega arith)
+leads-all turns (v ∷ queue) t order first zero u e = first u e
+leads-all turns (v ∷ queue) t order first (suc i) u e = precedes-trans turns t v u (first v refl) (order.0 u (has-at queue i u e))

@@ -61,6 +61,8 @@ impl Queue {
     {
         if self.is_behind(turns, t) {
             self.push(t);
+        } else if self.leads(turns, t) {
+            self.push_head(t);
         } else {
             self.insert_between(turns, t);
         }
@@ -87,6 +89,14 @@ impl Queue {
     {
         let len = self.len();
         len == 0 || !precedes(turns, t, self.get(len - 1))
+    }
+
+    // Whether task t precedes the first that is there, as a preempted task does.
+    #[inline]
+    fn leads(&self, turns: &[Turn], t: u8) -> bool
+        ensures { result ≡ true → (u : ℕ) → slice_get self.now 0 ≡ Some u → precedes turns.now t u ≡ true }
+    {
+        self.len() > 0 && precedes(turns, t, self.get(0))
     }
 
     // Whether task t goes first.
@@ -189,6 +199,18 @@ impl Queue {
         ensures { self.new ≡ self.old ++ t ∷ [] }
     {
         self.tasks[(self.start as usize + self.len as usize) % TASK_LIMIT] = t;
+        self.len += 1;
+    }
+
+    // Task t comes to the head.
+    #[inline]
+    fn push_head(&mut self, t: u8)
+        requires { length self.old < TASK_LIMIT }
+        ensures { self.new ≡ t ∷ self.old }
+    {
+        let start = (self.start as usize + (TASK_LIMIT - 1)) % TASK_LIMIT;
+        self.tasks[start] = t;
+        self.start = start as u8;
         self.len += 1;
     }
 

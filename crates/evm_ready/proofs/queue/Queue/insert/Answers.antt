@@ -4,6 +4,7 @@ use Rattle.std.proofs.lemmas.List.Edits.{insert_end}
 use Rattle.evm_model.proofs.Lists.{slice_get-below}
 use Rattle.evm_ready.specs.Queues.{precedes}
 use Rattle.evm_ready.proofs.Members.{has-insert, in_order-insert}
+use Rattle.evm_ready.proofs.Shifts.{leads-all}
 use Rattle.evm_ready.proofs.queue.Queue.insert.Goals as goal
 
 pub returns-then-is_behind-clause-order : goal.returns-then-is_behind-clause-order
@@ -19,3 +20,13 @@ pub returns-then-is_behind-clause-members : goal.returns-then-is_behind-clause-m
 returns-then-is_behind-clause-members c =
     let queue = c.args.self.now in
     λ u. rw (c.push.ensures, ← insert_end queue c.args.t) (has-insert queue (length queue) c.args.t u (omega arith))
+
+pub returns-then-leads-clause-order : goal.returns-then-leads-clause-order
+returns-then-leads-clause-order c =
+    let queue = c.args.self.now in
+    rw c.push_head.ensures
+    (in_order-insert c.args.turns.now queue 0 c.args.t (omega arith) c.requires.order c.requires.new
+    (λ i u _ is. leads-all c.args.turns.now queue c.args.t c.requires.order (c.if-leads.ensures refl) i u is) (λ i u e. absurd (omega arith)))
+
+pub returns-then-leads-clause-members : goal.returns-then-leads-clause-members
+returns-then-leads-clause-members c = λ u. rw c.push_head.ensures refl
