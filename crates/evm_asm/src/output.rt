@@ -10,7 +10,7 @@ ghost use Rattle.evm_asm.specs.Places.{bytes_in};
 use crate::failure::{Failure, Shortage};
 use crate::item::{Item, Placed, TEXT_BASE};
 use crate::place::bytes_in;
-use evm_asm_parser::{Section, SourceFault, SourceFaultKind, Width, extend, push};
+use evm_asm_parser::{Section, SourceFault, SourceFaultKind, Width, extend_bytes, push};
 use evm_isa::{Inst, encode};
 use evm_room::Refused;
 use std::alloc::Global;
@@ -38,8 +38,8 @@ fn push_bytes(out: &mut Output, section: Section, bytes: &[u8]) -> Result<(), Re
     ensures refused { IfErr result (λ asked. asked ≡ length bytes.now) }
 {
     match section {
-        Section::Text => extend(&mut out.text_bytes, bytes),
-        Section::Data => extend(&mut out.data_bytes, bytes),
+        Section::Text => extend_bytes(&mut out.text_bytes, bytes),
+        Section::Data => extend_bytes(&mut out.data_bytes, bytes),
     }
 }
 
@@ -49,7 +49,7 @@ fn push_repeated(bytes: &mut Vec<u8>, count: u64, unit: &[u8]) -> Result<(), Ref
     ensures refused { IfErr result (λ asked. asked ≡ length unit.now) }
 {
     for _ in 0..count {
-        extend(bytes, unit)?;
+        extend_bytes(bytes, unit)?;
     }
     Ok(())
 }
@@ -85,7 +85,7 @@ fn push_word(out: &mut Output, line: u64, instruction: &Inst, word: u32) -> Resu
         instruction: *instruction,
     };
     push(&mut out.lines, program_line)?;
-    extend(&mut out.text_bytes, &word.to_le_bytes())
+    extend_bytes(&mut out.text_bytes, &word.to_le_bytes())
 }
 
 fn push_instruction(out: &mut Output, line: u64, instruction: &Inst) -> Result<(), Failure>
@@ -156,6 +156,6 @@ pub fn image(text: Vec<u8>, data_bytes: &[u8]) -> Result<Vec<u8>, Refused>
     let mut bytes = text;
     let padding = (4096 - bytes.len() as u64 % 4096) % 4096;
     push_repeated(&mut bytes, padding, &[0])?;
-    extend(&mut bytes, data_bytes)?;
+    extend_bytes(&mut bytes, data_bytes)?;
     Ok(bytes)
 }

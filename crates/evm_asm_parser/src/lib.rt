@@ -21,7 +21,7 @@ pub use evm_asm_lexer::{
 pub use instruction::upper;
 pub use kept::{Kept, KeptLines};
 pub use labels::Labels;
-pub use memory::{extend, push};
+pub use memory::{extend_bytes, push};
 pub use operand::{first_operand, how_many, name_in, other_operands, starts_with_name};
 pub use spot::Spot;
 pub use statement::{Datum, Reading, Statement, statement_of, zero};
