@@ -11,7 +11,7 @@ use Rattle.evm_asm_parser.specs.evm_asm_lexer.Characters.{newline, hash, colon}
 use Rattle.evm_asm_parser.specs.evm_asm_lexer.Text.{before, after, has_byte, place_by, tail, first_word, skip_blanks, is_white, is_word_byte}
 use Rattle.evm_asm_parser.specs.evm_asm_lexer.declared.source_fault.SourceFaultKind.{SourceFaultKind}
 use Rattle.evm_asm_parser.specs.evm_asm_lexer.declared.mnemonic.Section.{Section}
-use Rattle.evm_asm_parser.specs.evm_asm_lexer.declared.mnemonic.Width.{Width}
+use Rattle.evm_asm_parser.specs.evm_asm_lexer.declared.mnemonic.DataWidth.{DataWidth}
 use Rattle.evm_asm_parser.specs.evm_asm_lexer.Faults.{◌>>=◌}
 use Rattle.evm_asm_parser.specs.evm_asm_lexer.declared.source_fault.SourceFault.{SourceFault}
 use Rattle.evm_asm_parser.specs.declared.spot.Spot.{Spot}
@@ -20,13 +20,13 @@ use Rattle.evm_asm.specs.Programs.{repeated}
 use Rattle.evm_asm.specs.Sources.{label_at, behind_labels, Defined, with_label, defined, source_lines, in_front, code_of, Laid, laid, with_line_laid, line_laid, first_fault, IsLaid, statement_text}
 use Rattle.evm_asm.specs.Kept.{IsKept, AreKept, first_kept, other_kept}
 use Rattle.evm_asm_parser.specs.declared.kept.Kept.{Kept}
-use Rattle.evm_asm.specs.declared.place.Place.{Place}
-use Rattle.evm_asm.specs.declared.failure.Failure.{Failure}
-use Rattle.evm_asm.specs.declared.failure.Failure.TheVariants as failure
-use Rattle.evm_asm.specs.declared.meaning.Stop.{Stop}
+use Rattle.evm_asm.specs.declared.place.SectionPlace.{SectionPlace}
+use Rattle.evm_asm.specs.declared.failure.AssemblyFailure.{AssemblyFailure}
+use Rattle.evm_asm.specs.declared.failure.AssemblyFailure.TheVariants as failure
+use Rattle.evm_asm.specs.declared.meaning.LineFailure.{LineFailure}
 use Rattle.evm_asm.specs.declared.item.Placed.{Placed}
 use Rattle.evm_asm.specs.Items.{StopsAsMeant, FailsBy, with_numbers, number_pushed, line_or_fault, lines_meant, and_then}
-use Rattle.evm_asm.specs.declared.meaning.Stop.TheVariants as stop
+use Rattle.evm_asm.specs.declared.meaning.LineFailure.TheVariants as stop
 
 -- ---- the address of the label of a name
 
@@ -107,7 +107,7 @@ unfolding code_of
 code-within rest = let a = before-within hash (before newline rest) in let b = before-within newline rest in omega arith
 
 -- a failure of a part is one of the whole
-pub fails-on : {Y Z : Type 0} (most : ℕ) (f : Failure) (part : Result Y SourceFault) (whole : Result Z SourceFault) → ((fault : SourceFault) → part ≡ Err fault → whole ≡ Err fault)
+pub fails-on : {Y Z : Type 0} (most : ℕ) (f : AssemblyFailure) (part : Result Y SourceFault) (whole : Result Z SourceFault) → ((fault : SourceFault) → part ≡ Err fault → whole ≡ Err fault)
     → FailsBy most f part → FailsBy most f whole
 fails-on most (failure.Fault fault) part whole g h = g fault h
 fails-on most (failure.Memory shortage) part whole g h = h
@@ -223,11 +223,11 @@ unfolding laid
 one-line s [] h = absurd (omega arith)
 one-line s (b ∷ bs) h = ap (λ (ls : List (List ℕ)). laid s ls) (lines-cut b bs)
 
-pub line-is : (s : Laid) (line : List ℕ) (labels : Spots) (next : Place × Option SourceFaultKind) → (labels, next) ≡ line_laid s.labels s.place (code_of line)
+pub line-is : (s : Laid) (line : List ℕ) (labels : Spots) (next : SectionPlace × Option SourceFaultKind) → (labels, next) ≡ line_laid s.labels s.place (code_of line)
     → with_line_laid s line ≡ record { lines = s.lines + 1; place = next.0; labels = labels; first = first_fault s.first (s.lines + 1) next.1 }
 unfolding with_line_laid
 line-is s line labels next h =
-    ap (λ (o : Spots × (Place × Option SourceFaultKind)). let r : Laid = record { lines = s.lines + 1; place = o.1.0; labels = o.0; first = first_fault s.first (s.lines + 1) o.1.1 } in r) (sym h)
+    ap (λ (o : Spots × (SectionPlace × Option SourceFaultKind)). let r : Laid = record { lines = s.lines + 1; place = o.1.0; labels = o.0; first = first_fault s.first (s.lines + 1) o.1.1 } in r) (sym h)
 
 pub no-lines : (s : Laid) (rest : List ℕ) → length rest ≡ 0 → laid s (source_lines rest) ≡ s
 unfolding laid source_lines
@@ -258,7 +258,7 @@ kept-none (b ∷ bs) h = absurd (omega arith)
 
 -- ---- the meaning of a source, item by item and line by line
 
-module _ (labels : Spots) (size : ℕ) (part : Section) (width : Width) (count i : ℕ) (text : List ℕ) (so_far : List Placed) where
+module _ (labels : Spots) (size : ℕ) (part : Section) (width : DataWidth) (count i : ℕ) (text : List ℕ) (so_far : List Placed) where
   one : i < count → with_numbers labels size part width (count - i) text so_far
       ≡ (number_pushed labels size part width (first_operand text) so_far >>= λ items. with_numbers labels size part width (count - (i + 1)) (other_operands text) items)
   unfolding with_numbers
@@ -277,7 +277,7 @@ module _ (labels : Spots) (size : ℕ) (part : Section) (width : Width) (count i
       let e : count - i ≡ 0 = omega arith in
       ap (λ n. with_numbers labels size part width n text so_far) e
 
-pub numbers-stop : (s : Stop) (labels : Spots) (size : ℕ) (part : Section) (width : Width) (count i : ℕ) (text : List ℕ) (so_far : List Placed) (whole : Result (List Placed) SourceFaultKind)
+pub numbers-stop : (s : LineFailure) (labels : Spots) (size : ℕ) (part : Section) (width : DataWidth) (count i : ℕ) (text : List ℕ) (so_far : List Placed) (whole : Result (List Placed) SourceFaultKind)
     → i < count → StopsAsMeant s (number_pushed labels size part width (first_operand text) so_far)
     → with_numbers labels size part width (count - i) text so_far ≡ whole → StopsAsMeant s whole
 numbers-stop (stop.Memory asked) labels size part width count i text so_far whole lt h w = h
@@ -285,14 +285,14 @@ numbers-stop (stop.Fault kind) labels size part width count i text so_far whole 
     sym w ∙ one labels size part width count i text so_far lt
     ∙ ap (λ (r : Result (List Placed) SourceFaultKind). r >>= λ items. with_numbers labels size part width (count - (i + 1)) (other_operands text) items) h
 
-pub same-line : (labels : Spots) (place : Place) (first : Option SourceFault) (l : Laid) → IsLaid labels place first l → (n : ℕ) (at : Place) (code : List ℕ) (so_far : List Placed)
+pub same-line : (labels : Spots) (place : SectionPlace) (first : Option SourceFault) (l : Laid) → IsLaid labels place first l → (n : ℕ) (at : SectionPlace) (code : List ℕ) (so_far : List Placed)
     → line_or_fault labels place.text_size first n at code so_far ≡ line_or_fault l.labels l.place.text_size l.first n at code so_far
 same-line labels place first l h n at code so_far =
     ap (λ (s : Spots). line_or_fault s place.text_size first n at code so_far) h.labels_are
-    ∙ ap (λ (p : Place). line_or_fault l.labels p.text_size first n at code so_far) h.place_is
+    ∙ ap (λ (p : SectionPlace). line_or_fault l.labels p.text_size first n at code so_far) h.place_is
     ∙ ap (λ (f : Option SourceFault). line_or_fault l.labels l.place.text_size f n at code so_far) h.first_is
 
-module _ (l : Laid) (n : ℕ) (place : Place) where
+module _ (l : Laid) (n : ℕ) (place : SectionPlace) where
   told_line : (rest : List ℕ) (so_far : List Placed) → 0 < length rest
       → lines_meant l n place (source_lines rest) so_far
       ≡ and_then (line_or_fault l.labels l.place.text_size l.first (n + 1) place (code_of (before newline rest)) so_far) (λ x. lines_meant l (n + 1) x.0 (source_lines (after newline rest)) x.1)
@@ -300,17 +300,17 @@ module _ (l : Laid) (n : ℕ) (place : Place) where
   told_line [] so_far h = absurd (omega arith)
   told_line (b ∷ bs) so_far h = ap (λ (ls : List (List ℕ)). lines_meant l n place ls so_far) (lines-cut b bs)
 
-  pub goes-on : (rest : List ℕ) (so_far : List Placed) (next : Place) (items : List Placed) → 0 < length rest
+  pub goes-on : (rest : List ℕ) (so_far : List Placed) (next : SectionPlace) (items : List Placed) → 0 < length rest
       → line_or_fault l.labels l.place.text_size l.first (n + 1) place (code_of (before newline rest)) so_far ≡ Ok (next, items)
       → lines_meant l n place (source_lines rest) so_far ≡ lines_meant l (n + 1) next (source_lines (after newline rest)) items
   goes-on rest so_far next items h e =
-      told_line rest so_far h ∙ ap (λ (r : Result (Place × List Placed) SourceFault). and_then r (λ x. lines_meant l (n + 1) x.0 (source_lines (after newline rest)) x.1)) e
+      told_line rest so_far h ∙ ap (λ (r : Result (SectionPlace × List Placed) SourceFault). and_then r (λ x. lines_meant l (n + 1) x.0 (source_lines (after newline rest)) x.1)) e
 
   pub stops : (rest : List ℕ) (so_far : List Placed) (fault : SourceFault) → 0 < length rest
       → line_or_fault l.labels l.place.text_size l.first (n + 1) place (code_of (before newline rest)) so_far ≡ Err fault
       → lines_meant l n place (source_lines rest) so_far ≡ Err fault
   stops rest so_far fault h e =
-      told_line rest so_far h ∙ ap (λ (r : Result (Place × List Placed) SourceFault). and_then r (λ x. lines_meant l (n + 1) x.0 (source_lines (after newline rest)) x.1)) e
+      told_line rest so_far h ∙ ap (λ (r : Result (SectionPlace × List Placed) SourceFault). and_then r (λ x. lines_meant l (n + 1) x.0 (source_lines (after newline rest)) x.1)) e
 
   pub ends : (rest : List ℕ) (so_far : List Placed) → length rest ≡ 0 → lines_meant l n place (source_lines rest) so_far ≡ Ok so_far
   unfolding lines_meant source_lines

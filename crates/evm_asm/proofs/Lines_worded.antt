@@ -9,8 +9,8 @@ use Rattle.evm_isa.specs.Encoded.{encoded}
 use Rattle.evm_isa.specs.Table.{Row}
 use Rattle.evm_asm_parser.specs.evm_asm_lexer.declared.mnemonic.Section.{Section}
 use Rattle.evm_asm_parser.specs.evm_asm_lexer.declared.mnemonic.Section.TheVariants.{Text, Data}
-use Rattle.evm_asm.specs.declared.item.Item.{Item}
-use Rattle.evm_asm.specs.declared.item.Item.TheVariants.{Instruction, Number, Zeros, Nops}
+use Rattle.evm_asm.specs.declared.item.SourceItem.{SourceItem}
+use Rattle.evm_asm.specs.declared.item.SourceItem.TheVariants.{Instruction, Number, Zeros, Nops}
 use Rattle.evm_asm.specs.declared.item.Placed.{Placed}
 use Rattle.evm_asm.specs.Items.{and_then, meaning_of, layout_of, text_base}
 use Rattle.evm_asm.specs.Programs.{Spelled, nothing_spelled, spelled, spelled_item, worded, repeated, program_bytes}
@@ -26,7 +26,7 @@ module _ (law : (i : Inst) (w : ℕ) → encoded i ≡ Some w → (w < 2 ^ 32) �
       (let l = law i w e in record { table = l.1; fits = l.0 }))
   word_worded line i None s u e h all = cc
 
-  item_worded : (part : Section) (item : Item) (s u : Spelled) → spelled_item part item s ≡ Ok u → All IsWorded s.lines → All IsWorded u.lines
+  item_worded : (part : Section) (item : SourceItem) (s u : Spelled) → spelled_item part item s ≡ Ok u → All IsWorded s.lines → All IsWorded u.lines
   unfolding spelled_item
   item_worded part (Instruction line i) s u h all = word_worded line i (encoded i) s u refl h all
   item_worded Text (Number width value) s u h all = subst (λ (t : Spelled). All IsWorded t.lines) (same_ok _ u h) all
@@ -91,7 +91,7 @@ word_stands line i (Some w) s u h all =
     (All-push (StandsIn (s.text_bytes ++ to_le_bytes w32 w)) s.lines _ (all_stay s.text_bytes (to_le_bytes w32 w) s.lines all) (new_stands s.text_bytes line w i))
 word_stands line i None s u h all = cc
 
-item_stands : (part : Section) (item : Item) (s u : Spelled) → spelled_item part item s ≡ Ok u → All (StandsIn s.text_bytes) s.lines → All (StandsIn u.text_bytes) u.lines
+item_stands : (part : Section) (item : SourceItem) (s u : Spelled) → spelled_item part item s ≡ Ok u → All (StandsIn s.text_bytes) s.lines → All (StandsIn u.text_bytes) u.lines
 unfolding spelled_item
 item_stands part (Instruction line i) s u h all = word_stands line i (encoded i) s u h all
 item_stands Text (Number width value) s u h all = subst (λ (t : Spelled). All (StandsIn t.text_bytes) t.lines) (same_ok _ u h) (all_stay s.text_bytes _ s.lines all)

@@ -11,19 +11,19 @@ use Rattle.evm_asm_parser.specs.evm_asm_lexer.declared.source_fault.SourceFault.
 use Rattle.evm_asm_parser.specs.evm_asm_lexer.declared.source_fault.SourceFaultKind.{SourceFaultKind}
 use Rattle.evm_asm_parser.specs.evm_asm_lexer.declared.mnemonic.Section.{Section as Part}
 use Rattle.evm_asm_parser.specs.evm_asm_lexer.declared.mnemonic.Section.TheVariants.{Text, Data}
-use Rattle.evm_asm_parser.specs.evm_asm_lexer.declared.mnemonic.Width.{Width}
+use Rattle.evm_asm_parser.specs.evm_asm_lexer.declared.mnemonic.DataWidth.{DataWidth}
 use Rattle.evm_asm_parser.specs.evm_asm_lexer.Faults.{◌>>=◌}
 use Rattle.evm_asm_parser.specs.declared.statement.Statement.{Statement}
 use Rattle.evm_asm_parser.specs.declared.statement.Statement.TheVariants.{Numbers, Space, Align}
 use Rattle.evm_asm_parser.specs.Operands.{Spots, first_operand, other_operands}
 use Rattle.evm_asm.specs.declared.item.Placed.{Placed}
-use Rattle.evm_asm.specs.declared.place.Place.{Place}
+use Rattle.evm_asm.specs.declared.place.SectionPlace.{SectionPlace}
 use Rattle.evm_asm.specs.Sources.{source_lines, code_of, Laid, laid, with_line_laid, line_laid, first_fault, nothing_laid, source_start, statement_text, outcome, measured, line_defined}
 use Rattle.evm_asm.specs.Items.{line_meant, line_or_fault, meaning_or_fault, lines_meant, meaning_of, unless_stopped, layout_of, text_base, expanded, with_item, with_instructions, value_in, number_pushed, with_numbers, filling, operands, with_statement, statement_meant}
 use Rattle.evm_asm.specs.declared.item.Expansion.{Expansion}
 use Rattle.evm_asm.specs.declared.item.Expansion.TheVariants.{Empty, Single, Double}
-use Rattle.evm_asm.specs.declared.item.Item.{Item}
-use Rattle.evm_asm.specs.declared.item.Item.TheVariants.{Instruction, Number, Zeros, Nops}
+use Rattle.evm_asm.specs.declared.item.SourceItem.{SourceItem}
+use Rattle.evm_asm.specs.declared.item.SourceItem.TheVariants.{Instruction, Number, Zeros, Nops}
 use Rattle.evm_asm.specs.declared.output.ProgramLine.{ProgramLine}
 use Rattle.evm_asm.specs.Places.{offset, padding, is_text, place_behind, statement_in}
 use Rattle.evm_asm.specs.Programs.{Spelled, spelled, spelled_item, worded}
@@ -54,15 +54,15 @@ unfolding laid with_line_laid
 laid_lines s [] = omega arith
 laid_lines s (line ∷ lines) = let e = laid_lines (with_line_laid s line) lines in e ∙ omega arith
 
-stopped : (f : SourceFault) (n : ℕ) (a : Place × List Placed) (x : Place × List Placed) (t : Bool) → (f.line == n) ≡ t → unless_stopped (cond t (Some f) None) a ≡ Ok x → f.line ≡ n → ⊥
+stopped : (f : SourceFault) (n : ℕ) (a : SectionPlace × List Placed) (x : SectionPlace × List Placed) (t : Bool) → (f.line == n) ≡ t → unless_stopped (cond t (Some f) None) a ≡ Ok x → f.line ≡ n → ⊥
 stopped f n a x true e h same = cc
 stopped f n a x false e h same = absurd (grind (arith, nat_tests))
 
-told_later : (f : SourceFault) (n : ℕ) (r : Result (Place × List Placed) SourceFaultKind) (x : Place × List Placed) → meaning_or_fault (Some f) n r ≡ Ok x → f.line ≡ n → ⊥
+told_later : (f : SourceFault) (n : ℕ) (r : Result (SectionPlace × List Placed) SourceFaultKind) (x : SectionPlace × List Placed) → meaning_or_fault (Some f) n r ≡ Ok x → f.line ≡ n → ⊥
 told_later f n (Ok a) x h same = stopped f n a x (f.line == n) refl h same
 told_later f n (Err kind) x h same = cc
 
-never : (l : Laid) (f : SourceFault) → l.first ≡ Some f → (before : ℕ) (place : Place) (lines : List (List ℕ)) (so_far items : List Placed)
+never : (l : Laid) (f : SourceFault) → l.first ≡ Some f → (before : ℕ) (place : SectionPlace) (lines : List (List ℕ)) (so_far items : List Placed)
     → lines_meant l before place lines so_far ≡ Ok items → before < f.line → f.line ≤ before + length lines → ⊥
 unfolding lines_meant line_or_fault
 never l f e before place [] so_far items h a b = absurd (omega arith)
@@ -94,7 +94,7 @@ none_ignored source items h =
 
 module _ (P : ℕ → ℕ → Inst → Type 0) where
   -- P holds of the item, if it is an instruction, at so many bytes of text
-  abbrev pub OfItem : ℕ → Item → Type 0
+  abbrev pub OfItem : ℕ → SourceItem → Type 0
   OfItem off (Instruction line i) = P line (text_base + off) i
   OfItem off item = Unit {0}
 
@@ -109,16 +109,16 @@ module _ (P : ℕ → ℕ → Inst → Type 0) where
       (h.0, each_push (off + text_of q) ps p h.1 (subst (λ (n : ℕ). OfItem n p.item) e k))
 
   -- one more item behind those so far
-  each_item : (part : Part) (item : Item) (a : List Placed) → Each 0 a → OfItem (text_in a) item → Each 0 (with_item part item a)
+  each_item : (part : Part) (item : SourceItem) (a : List Placed) → Each 0 a → OfItem (text_in a) item → Each 0 (with_item part item a)
   each_item part item a h k = let e : text_in a ≡ 0 + text_in a = omega arith in each_push 0 a (record { section = part; item = item }) h (subst (λ (n : ℕ). OfItem n item) e k)
 
-  each_number : (labels : Spots) (size : ℕ) (part : Part) (width : Width) (text : List ℕ) (a b : List Placed) → number_pushed labels size part width text a ≡ Ok b → Each 0 a → Each 0 b
+  each_number : (labels : Spots) (size : ℕ) (part : Part) (width : DataWidth) (text : List ℕ) (a b : List Placed) → number_pushed labels size part width text a ≡ Ok b → Each 0 a → Each 0 b
   unfolding number_pushed
   each_number labels size part width text a b h k =
       let v = bind_ok (value_in labels size width text) (λ v. Ok (with_item part (Number width v) a)) b h in
       subst (λ (c : List Placed). Each 0 c) (same_items _ b v.2) (each_item part (Number width v.0) a k tt)
 
-  each_numbers : (labels : Spots) (size : ℕ) (part : Part) (width : Width) (n : ℕ) (text : List ℕ) (a b : List Placed) → with_numbers labels size part width n text a ≡ Ok b → Each 0 a → Each 0 b
+  each_numbers : (labels : Spots) (size : ℕ) (part : Part) (width : DataWidth) (n : ℕ) (text : List ℕ) (a b : List Placed) → with_numbers labels size part width n text a ≡ Ok b → Each 0 a → Each 0 b
   unfolding with_numbers
   each_numbers labels size part width zero text a b h k = subst (λ (c : List Placed). Each 0 c) (same_items a b h) k
   each_numbers labels size part width (suc n) text a b h k =
@@ -129,7 +129,7 @@ module _ (P : ℕ → ℕ → Inst → Type 0) where
   filling_none off true m n = tt
   filling_none off false m n = tt
 
-  each_filling : (place : Place) (power : ℕ) (a : List Placed) → Each 0 a → Each 0 (with_item place.section (filling place power) a)
+  each_filling : (place : SectionPlace) (power : ℕ) (a : List Placed) → Each 0 a → Each 0 (with_item place.section (filling place power) a)
   unfolding filling
   each_filling place power a k =
       each_item place.section (filling place power) a k
@@ -144,7 +144,7 @@ module _ (P : ℕ → ℕ → Inst → Type 0) where
       each_item Text (Instruction line j) _ (each_item Text (Instruction line i) a k (p i _ (inl (refl, refl)))) (p j _ (inr (refl, e)))
 
   -- behind a statement, where P holds of its instructions
-  pub each_statement : (labels : Spots) (size line : ℕ) (place : Place) (text : List ℕ) (s : Statement) (a b : List Placed) → with_statement labels size line place text s a ≡ Ok b
+  pub each_statement : (labels : Spots) (size line : ℕ) (place : SectionPlace) (text : List ℕ) (s : Statement) (a b : List Placed) → with_statement labels size line place text s a ≡ Ok b
       → ((e : Expansion) → expanded size (text_base + place.text_size) s ≡ Ok e → (i : Inst) (address : ℕ) → IsAmong e (text_base + text_in a) i address → P line address i)
       → Each 0 a → Each 0 b
   unfolding with_statement
@@ -164,7 +164,7 @@ module _ (P : ℕ → ℕ → Inst → Type 0) where
       (All-push OfLine s.lines (record { address = text_base + length s.text_bytes; line = line; word = w; instruction = i }) all p)
   word_listed line i None s u h p all = cc
 
-  item_listed : (part : Part) (item : Item) (s u : Spelled) → spelled_item part item s ≡ Ok u → OfItem (length s.text_bytes) item → All OfLine s.lines → All OfLine u.lines
+  item_listed : (part : Part) (item : SourceItem) (s u : Spelled) → spelled_item part item s ≡ Ok u → OfItem (length s.text_bytes) item → All OfLine s.lines → All OfLine u.lines
   unfolding spelled_item
   item_listed part (Instruction line i) s u h p all = word_listed line i (encoded i) s u h p all
   item_listed Text (Number width value) s u h p all = subst (λ (t : Spelled). All OfLine t.lines) (same_ok _ u h) all
@@ -214,7 +214,7 @@ unfolding laid
 lines_none s [] h = h
 lines_none s (line ∷ lines) h = (line_none s line (lines_none (with_line_laid s line) lines h)).0
 
-outcome_none : (place : Place) (twice : Bool) (r : Result Place SourceFaultKind) → (outcome place twice r).1 ≡ None → r ≡ Ok (outcome place twice r).0
+outcome_none : (place : SectionPlace) (twice : Bool) (r : Result SectionPlace SourceFaultKind) → (outcome place twice r).1 ≡ None → r ≡ Ok (outcome place twice r).0
 outcome_none place false (Ok next) h = refl
 outcome_none place false (Err kind) h = cc
 outcome_none place true (Ok next) h = cc
@@ -234,16 +234,16 @@ told_ok None n (Err kind) x e h = cc
 told_ok (Some f) n r x e h = cc
 
 -- a line that means something, from a place to the next
-pub record Line (labels : Spots) (size n : ℕ) (place next : Place) (text : List ℕ) (a b : List Placed) : Type 0 where
+pub record Line (labels : Spots) (size n : ℕ) (place next : SectionPlace) (text : List ℕ) (a b : List Placed) : Type 0 where
   pub statement : Statement
   pub reads : statement_in labels place text ≡ Ok statement
   pub adds : with_statement labels size n place text statement a ≡ Ok b
   pub goes_on : place_behind place statement ≡ Ok next
 
-same_pair : (a b : Place × List Placed) → ◌≡◌ {A = Result (Place × List Placed) SourceFaultKind} (Ok a) (Ok b) → (a.0 ≡ b.0) × (a.1 ≡ b.1)
-same_pair a b h = let e : a ≡ b = cc in (ap (λ (x : Place × List Placed). x.0) e, ap (λ (x : Place × List Placed). x.1) e)
+same_pair : (a b : SectionPlace × List Placed) → ◌≡◌ {A = Result (SectionPlace × List Placed) SourceFaultKind} (Ok a) (Ok b) → (a.0 ≡ b.0) × (a.1 ≡ b.1)
+same_pair a b h = let e : a ≡ b = cc in (ap (λ (x : SectionPlace × List Placed). x.0) e, ap (λ (x : SectionPlace × List Placed). x.1) e)
 
-pub line_of_told : (labels : Spots) (size n : ℕ) (first : Option SourceFault) (place : Place) (code : List ℕ) (a : List Placed) (x : Place × List Placed) → first ≡ None
+pub line_of_told : (labels : Spots) (size n : ℕ) (first : Option SourceFault) (place : SectionPlace) (code : List ℕ) (a : List Placed) (x : SectionPlace × List Placed) → first ≡ None
     → line_or_fault labels size first n place code a ≡ Ok x → Line labels size n place x.0 (statement_text code) a x.1
 unfolding line_or_fault line_meant statement_meant
 line_of_told labels size n first place code a x e h =
@@ -253,12 +253,12 @@ line_of_told labels size n first place code a x e h =
     let same = same_pair _ x next.2 in
     record { statement = s.0; reads = s.1; adds = items.1 ∙ ap Ok same.1; goes_on = next.1 ∙ ap Ok same.0 }
 
-line_next : (labels : Spots) (size n : ℕ) (place next : Place) (text : List ℕ) (a b : List Placed) → Line labels size n place next text a b → measured labels place text ≡ Ok next
+line_next : (labels : Spots) (size n : ℕ) (place next : SectionPlace) (text : List ℕ) (a b : List Placed) → Line labels size n place next text a b → measured labels place text ≡ Ok next
 unfolding measured
 line_next labels size n place next text a b l = ap (λ (r : Result Statement SourceFaultKind). r >>= place_behind place) l.reads ∙ l.goes_on
 
 -- the walk over what is meant takes the places of the layout
-pub same_next : (size n : ℕ) (s : Laid) (line : List ℕ) (labels : Spots) (next : Place) (a b : List Placed) → (with_line_laid s line).first ≡ None
+pub same_next : (size n : ℕ) (s : Laid) (line : List ℕ) (labels : Spots) (next : SectionPlace) (a b : List Placed) → (with_line_laid s line).first ≡ None
     → Line labels size n s.place next (statement_text (code_of line)) a b → next ≡ (with_line_laid s line).place
 same_next size n s line labels next a b h l =
     same_place next (with_line_laid s line).place (sym (line_next labels size n s.place next (statement_text (code_of line)) a b l) ∙ line_measured labels s line h)
@@ -280,7 +280,7 @@ module _ (source : List ℕ) (xs : List (List ℕ)) (line : List ℕ) (rest : Li
       ∙ ap (λ (ls : List (List ℕ)). (laid nothing_laid (take (length xs) ls)).place) split
       ∙ ap (λ (ls : List (List ℕ)). (laid nothing_laid ls).place) (take-append_seam xs (line ∷ rest))
 
-  means : (place next : Place) (a b : List Placed) → place_before source n ≡ place → IsBalanced place a → (l : Line (layout_of source).labels (size_of_text source) n place next (statement_text (code_of line)) a b)
+  means : (place next : SectionPlace) (a b : List Placed) → place_before source n ≡ place → IsBalanced place a → (l : Line (layout_of source).labels (size_of_text source) n place next (statement_text (code_of line)) a b)
       → (e : Expansion) → expanded (size_of_text source) (text_base + place.text_size) l.statement ≡ Ok e → (i : Inst) (address : ℕ) → IsAmong e (text_base + text_in a) i address → Means source n address i
   means place next a b is balanced l e h i address among = record {
     statement = l.statement;
@@ -289,16 +289,16 @@ module _ (source : List ℕ) (xs : List (List ℕ)) (line : List ℕ) (rest : Li
       line = line;
       from_one = omega arith;
       is_line = line_is;
-      reads = subst (λ (p : Place). statement_in (layout_of source).labels p (statement_text (code_of line)) ≡ Ok l.statement) (sym is) l.reads;
+      reads = subst (λ (p : SectionPlace). statement_in (layout_of source).labels p (statement_text (code_of line)) ≡ Ok l.statement) (sym is) l.reads;
     };
-    becomes = subst (λ (p : Place). expanded (size_of_text source) (text_base + p.text_size) l.statement ≡ Ok e) (sym is) h;
+    becomes = subst (λ (p : SectionPlace). expanded (size_of_text source) (text_base + p.text_size) l.statement ≡ Ok e) (sym is) h;
     stands =
-        let same : text_in a ≡ (place_before source n).text_size = balanced.text_is ∙ ap (λ (p : Place). p.text_size) (sym is) in
+        let same : text_in a ≡ (place_before source n).text_size = balanced.text_is ∙ ap (λ (p : SectionPlace). p.text_size) (sym is) in
         subst (λ (m : ℕ). IsAmong e (text_base + m) i address) same among;
   }
 
 -- the items of a source, behind all of its lines
-pub record IsWalked (source : List ℕ) (place : Place) (items : List Placed) : Type 0 where
+pub record IsWalked (source : List ℕ) (place : SectionPlace) (items : List Placed) : Type 0 where
   pub balanced : IsBalanced place items
   pub each : Each (Means source) 0 items
 
@@ -309,7 +309,7 @@ module _ (source : List ℕ) (xs : List (List ℕ)) (line : List ℕ) (rest : Li
       lines_none (with_line_laid (laid nothing_laid xs) line) rest
       (ap (λ (l : Laid). l.first) (sym (laid-append nothing_laid xs (line ∷ rest))) ∙ ap (λ (ls : List (List ℕ)). (laid nothing_laid ls).first) (sym split) ∙ none)
 
-  pub walked_line : (before : ℕ) (place : Place) → before ≡ length xs → place ≡ (laid nothing_laid xs).place → (a : List Placed) (x : Place × List Placed)
+  pub walked_line : (before : ℕ) (place : SectionPlace) → before ≡ length xs → place ≡ (laid nothing_laid xs).place → (a : List Placed) (x : SectionPlace × List Placed)
       → line_or_fault (layout_of source).labels (layout_of source).place.text_size (layout_of source).first (before + 1) place (code_of line) a ≡ Ok x → IsWalked source place a
       → (x.0 ≡ (laid nothing_laid (xs ++ line ∷ [])).place) × IsWalked source x.0 x.1
   walked_line before place number is a x h w =
@@ -318,7 +318,7 @@ module _ (source : List ℕ) (xs : List (List ℕ)) (line : List ℕ) (rest : Li
       let n : ℕ = before + 1 in
       let text : List ℕ = statement_text (code_of line) in
       let l = line_of_told labels size n (layout_of source).first place (code_of line) a x none h in
-      let there : Line labels size n (laid nothing_laid xs).place x.0 text a x.1 = subst (λ (p : Place). Line labels size n p x.0 text a x.1) is l in
+      let there : Line labels size n (laid nothing_laid xs).place x.0 text a x.1 = subst (λ (p : SectionPlace). Line labels size n p x.0 text a x.1) is l in
       let number' : n ≡ length xs + 1 = omega arith in
       let next : x.0 ≡ (with_line_laid (laid nothing_laid xs) line).place = same_next size n (laid nothing_laid xs) line labels x.0 a x.1 line_clean there in (
         next ∙ ap (λ (s : Laid). s.place) (sym (laid_one_more xs line)),
@@ -330,14 +330,14 @@ module _ (source : List ℕ) (xs : List (List ℕ)) (line : List ℕ) (rest : Li
         },
       )
 
-walked : (source : List ℕ) (xs rest : List (List ℕ)) → source_lines source ≡ xs ++ rest → (layout_of source).first ≡ None → (before : ℕ) (place : Place) → before ≡ length xs → place ≡ (laid nothing_laid xs).place
+walked : (source : List ℕ) (xs rest : List (List ℕ)) → source_lines source ≡ xs ++ rest → (layout_of source).first ≡ None → (before : ℕ) (place : SectionPlace) → before ≡ length xs → place ≡ (laid nothing_laid xs).place
     → (a items : List Placed) → lines_meant (layout_of source) before place rest a ≡ Ok items → IsWalked source place a → IsWalked source (layout_of source).place items
 unfolding lines_meant
 walked source xs [] split none before place number is a items h w =
     let whole : layout_of source ≡ laid nothing_laid xs = ap (λ (ls : List (List ℕ)). laid nothing_laid ls) (split ∙ append-nil xs) in
     let same : a ≡ items = cc in
     let there : place ≡ (layout_of source).place = is ∙ ap (λ (l : Laid). l.place) (sym whole) in
-    subst (λ (c : List Placed). IsWalked source (layout_of source).place c) same (subst (λ (p : Place). IsWalked source p a) there w)
+    subst (λ (c : List Placed). IsWalked source (layout_of source).place c) same (subst (λ (p : SectionPlace). IsWalked source p a) there w)
 walked source xs (line ∷ rest) split none before place number is a items h w =
     let l = layout_of source in
     let step = and_then_ok (line_or_fault l.labels l.place.text_size l.first (before + 1) place (code_of line) a) (λ x. lines_meant l (before + 1) x.0 rest x.1) items h in

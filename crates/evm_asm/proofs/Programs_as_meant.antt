@@ -22,13 +22,13 @@ use Rattle.evm_asm.specs.Items.{and_then, layout_of, meaning_of, line_or_fault, 
 use Rattle.evm_asm.specs.Programs.{Spelled, nothing_spelled, spelled, repeated, program_bytes, spelled_item, worded}
 use Rattle.evm_asm.specs.Assembled.{Assembled, assembled, program_of}
 use Rattle.evm_asm.specs.Sizes.{size_of_text, size_of_data, Means, IsAmong, place_before}
-use Rattle.evm_asm.specs.declared.place.Place.{Place}
+use Rattle.evm_asm.specs.declared.place.SectionPlace.{SectionPlace}
 use Rattle.evm_asm.specs.Places.{offset, section_size, farther, grown, size_at, place_behind, statement_in}
 use Rattle.evm_asm.specs.Sources.{Laid, nothing_laid, laid, with_line_laid, line_laid, line_defined, outcome, measured, source_lines, code_of, statement_text, source_start}
 use Rattle.evm_asm.specs.declared.item.Expansion.{Expansion}
 use Rattle.evm_asm.specs.declared.item.Expansion.TheVariants.{Empty, Single, Double}
-use Rattle.evm_asm.specs.declared.item.Item.{Item}
-use Rattle.evm_asm.specs.declared.item.Item.TheVariants.{Instruction, Number, Zeros, Nops}
+use Rattle.evm_asm.specs.declared.item.SourceItem.{SourceItem}
+use Rattle.evm_asm.specs.declared.item.SourceItem.TheVariants.{Instruction, Number, Zeros, Nops}
 use Rattle.evm_asm.proofs.Statements_add_their_size.{items_longer, length-repeated, IsBalanced, data_of, text_in, item_longer, text_in-push, Has, item_stays, item_comes, statement_stays}
 use Rattle.evm_asm.proofs.Placed_where_laid.{meaning_walked, none_ignored, Line, line_of_told, IsWalked, walked_line, same_some, same_statement, line_is, place_is}
 use Rattle.evm_asm.proofs.Results.{and_then_ok, same_program, bind_ok, same_place, same_items, same_expansion, same_ok}
@@ -44,35 +44,35 @@ sizes_agree source items s h k =
 
 -- ---- no section is longer than 8,388,608 bytes, so every program fits
 
-record IsLimited (place : Place) : Type 0 where
+record IsLimited (place : SectionPlace) : Type 0 where
   pub text_is : place.text_size ≤ 8388608
   pub rest_is : place.data_size ≤ 8388608
 
-farther_limited : (part : Part) (place : Place) (size : ℕ) → size ≤ 8388608 - section_size part place → IsLimited place → IsLimited (farther part place size)
+farther_limited : (part : Part) (place : SectionPlace) (size : ℕ) → size ≤ 8388608 - section_size part place → IsLimited place → IsLimited (farther part place size)
 farther_limited Text place size few h = record { text_is = omega (arith, few, h.text_is); rest_is = h.rest_is }
 farther_limited Data place size few h = record { text_is = h.text_is; rest_is = omega (arith, few, h.rest_is) }
 
-grown_limited_by : (part : Part) (place next : Place) (size : ℕ) (t : Bool) → nat_le size (8388608 - section_size part place) ≡ t → cond t (Ok (farther part place size)) (Err TooLarge) ≡ Ok next
+grown_limited_by : (part : Part) (place next : SectionPlace) (size : ℕ) (t : Bool) → nat_le size (8388608 - section_size part place) ≡ t → cond t (Ok (farther part place size)) (Err TooLarge) ≡ Ok next
     → IsLimited place → IsLimited next
 grown_limited_by part place next size true e h k = subst IsLimited (same_place _ next h) (farther_limited part place size (leb-true _ _ e) k)
 grown_limited_by part place next size false e h k = cc
 
-grown_limited : (place next : Place) (size : ℕ) → grown place size ≡ Ok next → IsLimited place → IsLimited next
+grown_limited : (place next : SectionPlace) (size : ℕ) → grown place size ≡ Ok next → IsLimited place → IsLimited next
 unfolding grown
 grown_limited place next size h k = grown_limited_by place.section place next size _ refl h k
 
-behind_limited : (place next : Place) (s : Statement) → place_behind place s ≡ Ok next → IsLimited place → IsLimited next
+behind_limited : (place next : SectionPlace) (s : Statement) → place_behind place s ≡ Ok next → IsLimited place → IsLimited next
 unfolding place_behind size_at
 behind_limited place next (Section part) h k = subst IsLimited (same_place _ next h) (record { text_is = k.text_is; rest_is = k.rest_is })
 behind_limited place next s h k = grown_limited place next (size_at (offset place) s) h k
 
-measured_limited : (labels : Spots) (place next : Place) (text : List ℕ) → measured labels place text ≡ Ok next → IsLimited place → IsLimited next
+measured_limited : (labels : Spots) (place next : SectionPlace) (text : List ℕ) → measured labels place text ≡ Ok next → IsLimited place → IsLimited next
 unfolding measured
 measured_limited labels place next text h k =
     let s = bind_ok (statement_in labels place text) (place_behind place) next h in
     behind_limited place next s.0 s.2 k
 
-outcome_limited : (place : Place) (twice : Bool) (r : Result Place SourceFaultKind) → ((next : Place) → r ≡ Ok next → IsLimited next) → IsLimited place → IsLimited (outcome place twice r).0
+outcome_limited : (place : SectionPlace) (twice : Bool) (r : Result SectionPlace SourceFaultKind) → ((next : SectionPlace) → r ≡ Ok next → IsLimited next) → IsLimited place → IsLimited (outcome place twice r).0
 outcome_limited place false (Ok next) h k = h next refl
 outcome_limited place false (Err kind) h k = k
 outcome_limited place true (Ok next) h k = k
@@ -114,10 +114,10 @@ program_fits source p h =
 -- ---- what a line of a source adds to the items, and later lines keep, holds of all items
 
 module _ (source : List ℕ) (n : ℕ) (H : List Placed → Type 0)
-    (stays : (k : ℕ) (place next : Place) (text : List ℕ) (a b : List Placed) → Line (layout_of source).labels (size_of_text source) k place next text a b → H a → H b)
-    (comes : (xs : List (List ℕ)) (line : List ℕ) (rest : List (List ℕ)) → source_lines source ≡ xs ++ line ∷ rest → n ≡ length xs + 1 → (place next : Place) → place ≡ (laid nothing_laid xs).place
+    (stays : (k : ℕ) (place next : SectionPlace) (text : List ℕ) (a b : List Placed) → Line (layout_of source).labels (size_of_text source) k place next text a b → H a → H b)
+    (comes : (xs : List (List ℕ)) (line : List ℕ) (rest : List (List ℕ)) → source_lines source ≡ xs ++ line ∷ rest → n ≡ length xs + 1 → (place next : SectionPlace) → place ≡ (laid nothing_laid xs).place
     → (a b : List Placed) → IsBalanced place a → Line (layout_of source).labels (size_of_text source) n place next (statement_text (code_of line)) a b → H b) where
-  kept : (xs rest : List (List ℕ)) → source_lines source ≡ xs ++ rest → (layout_of source).first ≡ None → (before : ℕ) (place : Place) → before ≡ length xs → place ≡ (laid nothing_laid xs).place
+  kept : (xs rest : List (List ℕ)) → source_lines source ≡ xs ++ rest → (layout_of source).first ≡ None → (before : ℕ) (place : SectionPlace) → before ≡ length xs → place ≡ (laid nothing_laid xs).place
       → (a items : List Placed) → lines_meant (layout_of source) before place rest a ≡ Ok items → IsWalked source place a → (n ≤ length xs → H a) → n ≤ length (source_lines source) → H items
   unfolding lines_meant
   kept xs [] split none before place number is a items h w has within =
@@ -153,7 +153,7 @@ any_stays : {X : Type 0} (P : X → Type 0) (xs ys : List X) → Any P xs → An
 any_stays P xs ys h = let less : h.0 < length xs = h.2 in (h.0, h.1, omega (arith, length-append xs ys), get_or-append xs ys h.1 h.0 less ∙ h.3, h.4)
 
 module _ (Q : ℕ → ℕ → Inst → Type 0) where
-  abbrev IsSuch : ℕ → Item → Type 0
+  abbrev IsSuch : ℕ → SourceItem → Type 0
   IsSuch t (Instruction line i) = Q line (text_base + t) i
   IsSuch t item = ⊥
 
@@ -180,7 +180,7 @@ module _ (Q : ℕ → ℕ → Inst → Type 0) where
       (λ h. second_comes line x y a (moved line address (text_base + text_in a + 4) i y h.0 h.1 q)) k
 
   -- an instruction of a statement is among its items
-  pub statement_comes : (labels : Spots) (size line : ℕ) (place : Place) (text : List ℕ) (s : Statement) (a b : List Placed) → with_statement labels size line place text s a ≡ Ok b
+  pub statement_comes : (labels : Spots) (size line : ℕ) (place : SectionPlace) (text : List ℕ) (s : Statement) (a b : List Placed) → with_statement labels size line place text s a ≡ Ok b
       → (e : Expansion) → expanded size (text_base + place.text_size) s ≡ Ok e → (i : Inst) (address : ℕ) → IsAmong e (text_base + text_in a) i address → Q line address i → Has Such 0 0 b
   unfolding with_statement expanded
   statement_comes labels size line place text (Numbers width count) a b h e g i address k q = absurd (subst (λ (x : Expansion). IsAmong x (text_base + text_in a) i address) (sym (same_expansion Empty e g)) k)
@@ -204,7 +204,7 @@ module _ (Q : ℕ → ℕ → Inst → Type 0) where
       (Any-push OfLine s.lines (record { address = text_base + length s.text_bytes; line = line; word = w; instruction = i }) q)
   word_comes line i None s u h q = cc
 
-  line_stays : (part : Part) (item : Item) (s u : Spelled) → spelled_item part item s ≡ Ok u → Any OfLine s.lines → Any OfLine u.lines
+  line_stays : (part : Part) (item : SourceItem) (s u : Spelled) → spelled_item part item s ≡ Ok u → Any OfLine s.lines → Any OfLine u.lines
   unfolding spelled_item
   line_stays part (Instruction line i) s u h k = word_stays line i (encoded i) s u h k
   line_stays Text (Number width value) s u h k = subst (λ (t : Spelled). Any OfLine t.lines) (same_ok _ u h) k
@@ -214,7 +214,7 @@ module _ (Q : ℕ → ℕ → Inst → Type 0) where
   line_stays Text (Nops n) s u h k = subst (λ (t : Spelled). Any OfLine t.lines) (same_ok _ u h) k
   line_stays Data (Nops n) s u h k = subst (λ (t : Spelled). Any OfLine t.lines) (same_ok _ u h) k
 
-  line_comes : (part : Part) (item : Item) (s u : Spelled) → spelled_item part item s ≡ Ok u → IsSuch (length s.text_bytes) item → Any OfLine u.lines
+  line_comes : (part : Part) (item : SourceItem) (s u : Spelled) → spelled_item part item s ≡ Ok u → IsSuch (length s.text_bytes) item → Any OfLine u.lines
   unfolding spelled_item
   line_comes part (Instruction line i) s u h q = word_comes line i (encoded i) s u h q
   line_comes part item s u h q = absurd q
@@ -242,7 +242,7 @@ module _ (source : List ℕ) (n address : ℕ) (i : Inst) (m : Means source n ad
   abbrev Is : ℕ → ℕ → Inst → Type 0
   Is line at j = (line ≡ n) × (at ≡ address) × (j ≡ i)
 
-  comes_here : (xs : List (List ℕ)) (line : List ℕ) (rest : List (List ℕ)) → source_lines source ≡ xs ++ line ∷ rest → n ≡ length xs + 1 → (k : ℕ) → k ≡ n → (place next : Place) → place ≡ (laid nothing_laid xs).place
+  comes_here : (xs : List (List ℕ)) (line : List ℕ) (rest : List (List ℕ)) → source_lines source ≡ xs ++ line ∷ rest → n ≡ length xs + 1 → (k : ℕ) → k ≡ n → (place next : SectionPlace) → place ≡ (laid nothing_laid xs).place
       → (a b : List Placed) → IsBalanced place a → Line (layout_of source).labels (size_of_text source) k place next (statement_text (code_of line)) a b → Has (Such Is) 0 0 b
   comes_here xs line rest split number k same place next is a b balanced l =
       let labels = (layout_of source).labels in
@@ -250,13 +250,13 @@ module _ (source : List ℕ) (n address : ℕ) (i : Inst) (m : Means source n ad
       let there : place_before source n ≡ place = place_is source xs line rest split n number ∙ sym is in
       let one : m.says.line ≡ line = same_some m.says.line line (sym m.says.is_line ∙ line_is source xs line rest split n number) in
       let reads : statement_in labels place (statement_text (code_of line)) ≡ Ok m.statement =
-      subst (λ (p : Place). statement_in labels p (statement_text (code_of line)) ≡ Ok m.statement) there
+      subst (λ (p : SectionPlace). statement_in labels p (statement_text (code_of line)) ≡ Ok m.statement) there
       (subst (λ (t : List ℕ). statement_in labels (place_before source n) (statement_text (code_of t)) ≡ Ok m.statement) one m.says.reads) in
       let statement : m.statement ≡ l.statement = same_statement m.statement l.statement (sym reads ∙ l.reads) in
       let becomes : expanded size (text_base + place.text_size) l.statement ≡ Ok m.expansion =
       subst (λ (s : Statement). expanded size (text_base + place.text_size) s ≡ Ok m.expansion) statement
-      (subst (λ (p : Place). expanded size (text_base + p.text_size) m.statement ≡ Ok m.expansion) there m.becomes) in
-      let sizes : (place_before source n).text_size ≡ text_in a = ap (λ (p : Place). p.text_size) there ∙ sym balanced.text_is in
+      (subst (λ (p : SectionPlace). expanded size (text_base + p.text_size) m.statement ≡ Ok m.expansion) there m.becomes) in
+      let sizes : (place_before source n).text_size ≡ text_in a = ap (λ (p : SectionPlace). p.text_size) there ∙ sym balanced.text_is in
       let among : IsAmong m.expansion (text_base + text_in a) i address = subst (λ (x : ℕ). IsAmong m.expansion (text_base + x) i address) sizes m.stands in
       statement_comes Is labels size k place (statement_text (code_of line)) l.statement a b l.adds m.expansion becomes i address among (same, refl, refl)
 

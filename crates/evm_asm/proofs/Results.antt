@@ -7,7 +7,7 @@ use Rattle.evm_asm_parser.specs.Statements.{also}
 use Rattle.evm_asm.specs.Items.{and_then, stop_at, unless_stopped, meaning_or_fault}
 use Rattle.evm_asm.specs.declared.item.Expansion.{Expansion}
 use Rattle.evm_asm.specs.declared.item.Placed.{Placed}
-use Rattle.evm_asm.specs.declared.place.Place.{Place}
+use Rattle.evm_asm.specs.declared.place.SectionPlace.{SectionPlace}
 use Rattle.evm_asm.specs.Programs.{Spelled}
 use Rattle.evm_asm.specs.Assembled.{Assembled}
 
@@ -30,7 +30,7 @@ also_ok (Err e) (Err f) a h = cc
 pub same_items : (a b : List Placed) → ◌≡◌ {A = Result (List Placed) SourceFaultKind} (Ok a) (Ok b) → a ≡ b
 same_items a b h = cc
 
-pub same_place : (a b : Place) → ◌≡◌ {A = Result Place SourceFaultKind} (Ok a) (Ok b) → a ≡ b
+pub same_place : (a b : SectionPlace) → ◌≡◌ {A = Result SectionPlace SourceFaultKind} (Ok a) (Ok b) → a ≡ b
 same_place a b h = cc
 
 pub same_expansion : (a b : Expansion) → ◌≡◌ {A = Result Expansion SourceFaultKind} (Ok a) (Ok b) → a ≡ b

@@ -10,22 +10,22 @@ use Rattle.evm_isa.specs.declared.inst.Inst.{Inst}
 use Rattle.evm_isa.specs.Encoded.{encoded}
 use Rattle.evm_asm_parser.specs.evm_asm_lexer.declared.mnemonic.Section.{Section as Part}
 use Rattle.evm_asm_parser.specs.evm_asm_lexer.declared.mnemonic.Section.TheVariants.{Text, Data}
-use Rattle.evm_asm_parser.specs.evm_asm_lexer.declared.mnemonic.Width.{Width}
-use Rattle.evm_asm_parser.specs.evm_asm_lexer.declared.mnemonic.Width.TheVariants.{Byte, Word, Dword}
+use Rattle.evm_asm_parser.specs.evm_asm_lexer.declared.mnemonic.DataWidth.{DataWidth}
+use Rattle.evm_asm_parser.specs.evm_asm_lexer.declared.mnemonic.DataWidth.TheVariants.{Byte, Word, Dword}
 use Rattle.evm_asm_parser.specs.evm_asm_lexer.declared.source_fault.SourceFaultKind.TheVariants.{TooLarge}
 use Rattle.evm_asm_parser.specs.evm_asm_lexer.Faults.{◌>>=◌}
 use Rattle.evm_asm_parser.specs.declared.spot.Spot.{Spot}
 use Rattle.evm_asm_parser.specs.declared.statement.Statement.{Statement}
 use Rattle.evm_asm_parser.specs.declared.statement.Statement.TheVariants.{Nothing, One, Branch, Jump, LoadImmediate, LoadAddress, Section, Numbers, Space, Align}
 use Rattle.evm_asm_parser.specs.Operands.{Spots, first_operand, other_operands}
-use Rattle.evm_asm.specs.declared.item.Item.{Item}
-use Rattle.evm_asm.specs.declared.item.Item.TheVariants.{Instruction, Number, Zeros, Nops}
+use Rattle.evm_asm.specs.declared.item.SourceItem.{SourceItem}
+use Rattle.evm_asm.specs.declared.item.SourceItem.TheVariants.{Instruction, Number, Zeros, Nops}
 use Rattle.evm_asm.specs.declared.item.Placed.{Placed}
 use Rattle.evm_asm.specs.Places.{bytes_in, offset, section_size, farther, grown, is_small, low_word, needs_low_part, padding, load_size, size_at, place_behind, is_text}
 use Rattle.evm_asm.specs.Programs.{Spelled, spelled, spelled_item, worded, repeated, number_bytes, nop_bytes}
 use Rattle.evm_asm.specs.declared.item.Expansion.{Expansion}
 use Rattle.evm_asm.specs.declared.item.Expansion.TheVariants.{Empty, Single, Double}
-use Rattle.evm_asm.specs.declared.place.Place.{Place}
+use Rattle.evm_asm.specs.declared.place.SectionPlace.{SectionPlace}
 use Rattle.evm_asm.specs.Items.{text_base, distance_to, load_immediate, load_address, expanded, with_item, with_instructions, value_in, number_pushed, with_numbers, filling, operands, with_statement}
 use Rattle.evm_asm.proofs.Results.{and_then_ok, same_ok, bind_ok, same_items, same_place, same_expansion}
 use Rattle.evm_asm.proofs.Statements_without_labels.{is_instruction}
@@ -41,14 +41,14 @@ abbrev pub in_data : Part → ℕ → ℕ
 in_data Text n = 0
 in_data Data n = n
 
-abbrev pub item_size : Item → ℕ
+abbrev pub item_size : SourceItem → ℕ
 item_size (Instruction line i) = 4
 item_size (Number width value) = bytes_in width
 item_size (Zeros n) = n
 item_size (Nops n) = n * 4
 
 -- an instruction stands in the text, whatever its section is
-abbrev pub item_section : Part → Item → Part
+abbrev pub item_section : Part → SourceItem → Part
 item_section part (Instruction line i) = Text
 item_section part item = part
 
@@ -84,7 +84,7 @@ pub record IsLonger (text more : ℕ) (s u : Spelled) : Type 0 where
   pub text_is : length u.text_bytes ≡ length s.text_bytes + text
   pub rest_is : length u.data_bytes ≡ length s.data_bytes + more
 
-pub number_length : (width : Width) (value : ℕ) → length (number_bytes (bytes_in width) value) ≡ bytes_in width
+pub number_length : (width : DataWidth) (value : ℕ) → length (number_bytes (bytes_in width) value) ≡ bytes_in width
 number_length Byte value = refl
 number_length Word value = refl
 number_length Dword value = refl
@@ -96,7 +96,7 @@ word_longer line i (Some w) s u h =
     (record { text_is = omega (arith, length-append s.text_bytes (to_le_bytes w32 w)); rest_is = omega arith })
 word_longer line i None s u h = cc
 
-longer_by : (part : Part) (item : Item) (s u : Spelled) → spelled_item part item s ≡ Ok u
+longer_by : (part : Part) (item : SourceItem) (s u : Spelled) → spelled_item part item s ≡ Ok u
     → IsLonger (in_text (item_section part item) (item_size item)) (in_data (item_section part item) (item_size item)) s u
 unfolding spelled_item
 longer_by part (Instruction line i) s u h = word_longer line i (encoded i) s u h
@@ -139,7 +139,7 @@ pub record Adds (part : Part) (n : ℕ) (a b : List Placed) : Type 0 where
   pub rest_is : data_in b ≡ data_in a + in_data part n
 
 -- the items have the bytes that the place counts
-pub record IsBalanced (place : Place) (items : List Placed) : Type 0 where
+pub record IsBalanced (place : SectionPlace) (items : List Placed) : Type 0 where
   pub text_is : text_in items ≡ place.text_size
   pub rest_is : data_in items ≡ place.data_size
 
@@ -151,38 +151,38 @@ adds_both : (part : Part) (m n k : ℕ) (a b c : List Placed) → k ≡ m + n �
 adds_both Text m n k a b c e h g = record { text_is = omega (arith, h.text_is, g.text_is); rest_is = omega (arith, h.rest_is, g.rest_is) }
 adds_both Data m n k a b c e h g = record { text_is = omega (arith, h.text_is, g.text_is); rest_is = omega (arith, h.rest_is, g.rest_is) }
 
-adds_item : (part : Part) (item : Item) (n : ℕ) (so_far : List Placed) → item_section part item ≡ part → item_size item ≡ n → Adds part n so_far (with_item part item so_far)
+adds_item : (part : Part) (item : SourceItem) (n : ℕ) (so_far : List Placed) → item_section part item ≡ part → item_size item ≡ n → Adds part n so_far (with_item part item so_far)
 adds_item part item n so_far e k = record {
   text_is = text_in-push so_far (record { section = part; item = item }) ∙ ap (λ (q : Part). text_in so_far + in_text q (item_size item)) e ∙ ap (λ (m : ℕ). text_in so_far + in_text part m) k;
   rest_is = data_in-push so_far (record { section = part; item = item }) ∙ ap (λ (q : Part). data_in so_far + in_data q (item_size item)) e ∙ ap (λ (m : ℕ). data_in so_far + in_data part m) k;
 }
 
-farther_balanced : (part : Part) (place : Place) (n : ℕ) (a b : List Placed) → Adds part n a b → IsBalanced place a → IsBalanced (farther part place n) b
+farther_balanced : (part : Part) (place : SectionPlace) (n : ℕ) (a b : List Placed) → Adds part n a b → IsBalanced place a → IsBalanced (farther part place n) b
 farther_balanced Text place n a b h k = record { text_is = omega (arith, h.text_is, k.text_is); rest_is = omega (arith, h.rest_is, k.rest_is) }
 farther_balanced Data place n a b h k = record { text_is = omega (arith, h.text_is, k.text_is); rest_is = omega (arith, h.rest_is, k.rest_is) }
 
 -- the place, where a section isn't too long
-grown_by : (part : Part) (place next : Place) (size room : ℕ) (t : Bool) → nat_le size room ≡ t → room ≤ 8388608 → cond t (Ok (farther part place size)) (Err TooLarge) ≡ Ok next
+grown_by : (part : Part) (place next : SectionPlace) (size room : ℕ) (t : Bool) → nat_le size room ≡ t → room ≤ 8388608 → cond t (Ok (farther part place size)) (Err TooLarge) ≡ Ok next
     → (size ≤ 8388608) × (farther part place size ≡ next)
 grown_by part place next size room true e k h = let le : size ≤ room = leb-true size room e in (omega arith, same_place _ next h)
 grown_by part place next size room false e k h = cc
 
-grown_ok : (place next : Place) (size : ℕ) → grown place size ≡ Ok next → (size ≤ 8388608) × (farther place.section place size ≡ next)
+grown_ok : (place next : SectionPlace) (size : ℕ) → grown place size ≡ Ok next → (size ≤ 8388608) × (farther place.section place size ≡ next)
 unfolding grown
 grown_ok place next size h = grown_by place.section place next size (8388608 - offset place) _ refl (omega arith) h
 
-grown_balanced : (place next : Place) (size : ℕ) (a b : List Placed) → grown place size ≡ Ok next → (size ≤ 8388608 → Adds place.section size a b) → IsBalanced place a → IsBalanced next b
+grown_balanced : (place next : SectionPlace) (size : ℕ) (a b : List Placed) → grown place size ≡ Ok next → (size ≤ 8388608 → Adds place.section size a b) → IsBalanced place a → IsBalanced next b
 grown_balanced place next size a b h adds k =
     let g = grown_ok place next size h in
-    subst (λ (p : Place). IsBalanced p b) g.1 (farther_balanced place.section place size a b (adds g.0) k)
+    subst (λ (p : SectionPlace). IsBalanced p b) g.1 (farther_balanced place.section place size a b (adds g.0) k)
 
-pub number_adds : (labels : Spots) (size : ℕ) (part : Part) (width : Width) (text : List ℕ) (a b : List Placed) → number_pushed labels size part width text a ≡ Ok b → Adds part (bytes_in width) a b
+pub number_adds : (labels : Spots) (size : ℕ) (part : Part) (width : DataWidth) (text : List ℕ) (a b : List Placed) → number_pushed labels size part width text a ≡ Ok b → Adds part (bytes_in width) a b
 unfolding number_pushed
 number_adds labels size part width text a b h =
     let v = bind_ok (value_in labels size width text) (λ v. Ok (with_item part (Number width v) a)) b h in
     subst (λ (c : List Placed). Adds part (bytes_in width) a c) (same_items _ b v.2) (adds_item part (Number width v.0) (bytes_in width) a refl refl)
 
-numbers_add : (labels : Spots) (size : ℕ) (part : Part) (width : Width) (n : ℕ) (text : List ℕ) (a b : List Placed) → with_numbers labels size part width n text a ≡ Ok b → Adds part (n * bytes_in width) a b
+numbers_add : (labels : Spots) (size : ℕ) (part : Part) (width : DataWidth) (n : ℕ) (text : List ℕ) (a b : List Placed) → with_numbers labels size part width n text a ≡ Ok b → Adds part (n * bytes_in width) a b
 unfolding with_numbers
 numbers_add labels size part width zero text a b h = subst (λ (c : List Placed). Adds part (0 * bytes_in width) a c) (same_items a b h) (adds_none part (0 * bytes_in width) a (omega arith))
 numbers_add labels size part width (suc n) text a b h =
@@ -228,7 +228,7 @@ expanded_size size from off (LoadImmediate rd value) e k h = immediate_size rd v
 expanded_size size from off (LoadAddress rd target) e k h = address_size size from rd target e h
 expanded_size size from off s e k h = cc
 
-instruction_balanced : (size line : ℕ) (place next : Place) (s : Statement) (a b : List Placed) → is_instruction s ≡ true → place.section ≡ Text
+instruction_balanced : (size line : ℕ) (place next : SectionPlace) (s : Statement) (a b : List Placed) → is_instruction s ≡ true → place.section ≡ Text
     → (expanded size (text_base + place.text_size) s >>= λ e. Ok (with_instructions line e a)) ≡ Ok b → grown place (size_at (offset place) s) ≡ Ok next → IsBalanced place a → IsBalanced next b
 instruction_balanced size line place next s a b k t h g balanced =
     let e = bind_ok (expanded size (text_base + place.text_size) s) (λ e. Ok (with_instructions line e a)) b h in
@@ -253,7 +253,7 @@ padded_by o p q e h k =
 padded : (o power : ℕ) → o % 4 ≡ 0 → 2 ≤ power → padding o power / 4 * 4 ≡ padding o power
 padded o power k h = padded_by o (2 ^ power) (2 ^ (power - 2)) (power_of_four power h) (pow_pos (power - 2)) k
 
-filled_by : (part : Part) (place : Place) (power : ℕ) (t u : Bool) → (place.text_size % 4 == 0) ≡ t → nat_le 2 power ≡ u
+filled_by : (part : Part) (place : SectionPlace) (power : ℕ) (t u : Bool) → (place.text_size % 4 == 0) ≡ t → nat_le 2 power ≡ u
     → item_size (cond (is_text part && (t && u)) (Nops (padding (section_size part place) power / 4)) (Zeros (padding (section_size part place) power))) ≡ padding (section_size part place) power
 filled_by Text place power true true e f = let le : 2 ≤ power = leb-true 2 power f in let zero : place.text_size % 4 ≡ 0 = grind (arith, nat_tests) in padded place.text_size power zero le
 filled_by Text place power true false e f = refl
@@ -264,11 +264,11 @@ filled_section : (part : Part) (t : Bool) (m n : ℕ) → item_section part (con
 filled_section part true m n = refl
 filled_section part false m n = refl
 
-pub padding_sized : (place : Place) (power : ℕ) → item_size (filling place power) ≡ padding (offset place) power
+pub padding_sized : (place : SectionPlace) (power : ℕ) → item_size (filling place power) ≡ padding (offset place) power
 unfolding filling
 padding_sized place power = filled_by place.section place power (place.text_size % 4 == 0) (nat_le 2 power) refl refl
 
-align_adds : (place : Place) (power : ℕ) (a : List Placed) → Adds place.section (padding (offset place) power) a (with_item place.section (filling place power) a)
+align_adds : (place : SectionPlace) (power : ℕ) (a : List Placed) → Adds place.section (padding (offset place) power) a (with_item place.section (filling place power) a)
 unfolding filling
 align_adds place power a =
     adds_item place.section (filling place power) (padding (offset place) power) a
@@ -276,14 +276,14 @@ align_adds place power a =
     (filled_by place.section place power (place.text_size % 4 == 0) (nat_le 2 power) refl refl)
 
 -- behind a statement the items have the bytes that the place counts
-pub statement_balanced : (labels : Spots) (size line : ℕ) (place next : Place) (text : List ℕ) (s : Statement) (a b : List Placed)
+pub statement_balanced : (labels : Spots) (size line : ℕ) (place next : SectionPlace) (text : List ℕ) (s : Statement) (a b : List Placed)
     → (is_instruction s ≡ true → place.section ≡ Text) → with_statement labels size line place text s a ≡ Ok b → place_behind place s ≡ Ok next → IsBalanced place a → IsBalanced next b
 unfolding with_statement place_behind expanded with_instructions size_at
 statement_balanced labels size line place next text Nothing a b t h k balanced =
     grown_balanced place next 0 a b k (λ _. subst (λ (c : List Placed). Adds place.section 0 a c) (same_items a b h) (adds_none place.section 0 a refl)) balanced
 statement_balanced labels size line place next text (Section part) a b t h k balanced =
     subst (λ (c : List Placed). IsBalanced next c) (same_items a b h)
-    (subst (λ (p : Place). IsBalanced p a) (same_place _ next k) (record { text_is = balanced.text_is; rest_is = balanced.rest_is }))
+    (subst (λ (p : SectionPlace). IsBalanced p a) (same_place _ next k) (record { text_is = balanced.text_is; rest_is = balanced.rest_is }))
 statement_balanced labels size line place next text (Numbers width count) a b t h k balanced =
     grown_balanced place next _ a b k
     (λ small. let n : count * bytes_in width ≡ min (bytes_in width * count) 18446744073709551615 = omega arith in
@@ -315,21 +315,21 @@ module _ (R : ℕ → ℕ → Placed → Type 0) where
       inr (comes (t + text_of q) (d + data_of q) ps p
       (at_bytes p (t + (text_of q + text_in ps)) (t + text_of q + text_in ps) (d + (data_of q + data_in ps)) (d + data_of q + data_in ps) (omega arith) (omega arith) r))
 
-  pub item_stays : (part : Part) (item : Item) (a : List Placed) → Has 0 0 a → Has 0 0 (with_item part item a)
+  pub item_stays : (part : Part) (item : SourceItem) (a : List Placed) → Has 0 0 a → Has 0 0 (with_item part item a)
   item_stays part item a h = stays 0 0 a (record { section = part; item = item }) h
 
-  pub item_comes : (part : Part) (item : Item) (a : List Placed) → R (text_in a) (data_in a) (record { section = part; item = item }) → Has 0 0 (with_item part item a)
+  pub item_comes : (part : Part) (item : SourceItem) (a : List Placed) → R (text_in a) (data_in a) (record { section = part; item = item }) → Has 0 0 (with_item part item a)
   item_comes part item a r =
       let p : Placed = record { section = part; item = item } in
       comes 0 0 a p (at_bytes p (text_in a) (0 + text_in a) (data_in a) (0 + data_in a) (omega arith) (omega arith) r)
 
-  number_stays : (labels : Spots) (size : ℕ) (part : Part) (width : Width) (text : List ℕ) (a b : List Placed) → number_pushed labels size part width text a ≡ Ok b → Has 0 0 a → Has 0 0 b
+  number_stays : (labels : Spots) (size : ℕ) (part : Part) (width : DataWidth) (text : List ℕ) (a b : List Placed) → number_pushed labels size part width text a ≡ Ok b → Has 0 0 a → Has 0 0 b
   unfolding number_pushed
   number_stays labels size part width text a b h k =
       let v = bind_ok (value_in labels size width text) (λ v. Ok (with_item part (Number width v) a)) b h in
       subst (λ (c : List Placed). Has 0 0 c) (same_items _ b v.2) (item_stays part (Number width v.0) a k)
 
-  pub numbers_stay : (labels : Spots) (size : ℕ) (part : Part) (width : Width) (n : ℕ) (text : List ℕ) (a b : List Placed) → with_numbers labels size part width n text a ≡ Ok b → Has 0 0 a → Has 0 0 b
+  pub numbers_stay : (labels : Spots) (size : ℕ) (part : Part) (width : DataWidth) (n : ℕ) (text : List ℕ) (a b : List Placed) → with_numbers labels size part width n text a ≡ Ok b → Has 0 0 a → Has 0 0 b
   unfolding with_numbers
   numbers_stay labels size part width zero text a b h k = subst (λ (c : List Placed). Has 0 0 c) (same_items a b h) k
   numbers_stay labels size part width (suc n) text a b h k =
@@ -342,7 +342,7 @@ module _ (R : ℕ → ℕ → Placed → Type 0) where
   instructions_stay line (Single i) a k = item_stays Text (Instruction line i) a k
   instructions_stay line (Double i j) a k = item_stays Text (Instruction line j) _ (item_stays Text (Instruction line i) a k)
 
-  pub statement_stays : (labels : Spots) (size line : ℕ) (place : Place) (text : List ℕ) (s : Statement) (a b : List Placed) → with_statement labels size line place text s a ≡ Ok b → Has 0 0 a → Has 0 0 b
+  pub statement_stays : (labels : Spots) (size line : ℕ) (place : SectionPlace) (text : List ℕ) (s : Statement) (a b : List Placed) → with_statement labels size line place text s a ≡ Ok b → Has 0 0 a → Has 0 0 b
   unfolding with_statement
   statement_stays labels size line place text (Numbers width count) a b h k = numbers_stay labels size place.section width count (operands text) a b h k
   statement_stays labels size line place text (Space n) a b h k = subst (λ (c : List Placed). Has 0 0 c) (same_items _ b h) (item_stays place.section (Zeros n) a k)

@@ -5,14 +5,14 @@ use Rattle.evm_asm_parser.specs.evm_asm_lexer.declared.source_fault.SourceFaultK
 use Rattle.evm_asm_parser.specs.evm_asm_lexer.declared.source_fault.SourceFaultKind.TheVariants.{BadOperand, BadToken, UnknownName}
 use Rattle.evm_asm_parser.specs.evm_asm_lexer.Faults.{both, least, ◌>>=◌}
 use Rattle.evm_asm_parser.specs.evm_asm_lexer.declared.mnemonic.Mnemonic.{Mnemonic}
-use Rattle.evm_asm_parser.specs.evm_asm_lexer.declared.mnemonic.Width.{Width}
-use Rattle.evm_asm_parser.specs.evm_asm_lexer.declared.mnemonic.Width.TheVariants.{Byte, Word, Dword}
+use Rattle.evm_asm_parser.specs.evm_asm_lexer.declared.mnemonic.DataWidth.{DataWidth}
+use Rattle.evm_asm_parser.specs.evm_asm_lexer.declared.mnemonic.DataWidth.TheVariants.{Byte, Word, Dword}
 use Rattle.evm_asm_parser.specs.evm_asm_lexer.Text.{skip_blanks, first_word, behind_word, starts_with, is_name_start, is_empty, is_sound}
 use Rattle.evm_asm_parser.specs.evm_asm_lexer.Names.{mnemonic_named}
 use Rattle.evm_asm_parser.specs.evm_asm_lexer.declared.mnemonic.Section.{Section as Part}
 use Rattle.evm_asm_parser.specs.evm_asm_lexer.declared.mnemonic.Section.TheVariants.{Text, Data}
 use Rattle.evm_asm_parser.specs.Operands.{counted, Spots, first_operand, other_operands, how_many, name_in, labelled, label_in, number_in, label_datum, datum_of, datum_in}
-use Rattle.evm_asm_parser.specs.Statements.{also, Reading, operand_in, operands_in, with_data, said, statement_of}
+use Rattle.evm_asm_parser.specs.Statements.{also, StatementReading, operand_in, operands_in, with_data, said, statement_of}
 use Rattle.evm_asm_parser.specs.declared.operand.Number.{Number}
 use Rattle.evm_asm_parser.specs.declared.statement.Statement.{Statement}
 use Rattle.evm_asm_parser.specs.declared.statement.Statement.TheVariants.{Nothing, LoadImmediate, Space, Align, One, Branch, Jump, LoadAddress}
@@ -21,7 +21,7 @@ use Rattle.evm_asm_parser.specs.declared.spot.Spot.{Spot}
 use Rattle.evm_asm_parser.specs.Kept.{names_label, kept_statement}
 use Rattle.evm_asm_parser.proofs.Outcomes.{any_ok}
 use Rattle.evm_asm_parser.proofs.Forms_hold.{Makes, statement_holds}
-use Rattle.evm_asm.specs.declared.place.Place.{Place}
+use Rattle.evm_asm.specs.declared.place.SectionPlace.{SectionPlace}
 use Rattle.evm_asm.specs.Kept.{IsKept}
 use Rattle.evm_asm.specs.Places.{section_size, here, size_at, place_behind, placed, of_mnemonic, statement_in, is_directive, is_text, may_stand}
 use Rattle.evm_asm.specs.Sources.{measured}
@@ -74,7 +74,7 @@ like_also R Q _ _ _ _ (faults e) (faults f) = faults (least e f)
 
 -- the two statements take the same room
 abbrev pub SameSize : Statement → Statement → Type 0
-SameSize s t = (place : Place) → place_behind place s ≡ place_behind place t
+SameSize s t = (place : SectionPlace) → place_behind place s ≡ place_behind place t
 
 -- what is read in a place is the same, but for the spot of a label
 abbrev Same : (slot : Slot) → Value slot → Value slot → Type 0
@@ -207,20 +207,20 @@ module _ (known all : Spots) where
   unfolding label_in
   label_alike text = named_alike (name_in text)
 
-  label_datum_alike : (width : Width) (text : List ℕ) → Like Whatever (label_datum known width text) (label_datum all width text)
+  label_datum_alike : (width : DataWidth) (text : List ℕ) → Like Whatever (label_datum known width text) (label_datum all width text)
   label_datum_alike Byte text = faults BadOperand
   label_datum_alike Word text = label_alike text
   label_datum_alike Dword text = label_alike text
 
-  datum_of_alike : (width : Width) (text : List ℕ) (o : Option Number) → Like Whatever (datum_of known width text o) (datum_of all width text o)
+  datum_of_alike : (width : DataWidth) (text : List ℕ) (o : Option Number) → Like Whatever (datum_of known width text o) (datum_of all width text o)
   datum_of_alike width text (Some n) = like_itself Whatever _ (λ a. tt)
   datum_of_alike width text None = like_mapped Whatever Whatever (λ s. datum.Label s) _ _ (λ a b h. tt) (label_datum_alike width text)
 
-  datum_alike : (width : Width) (text : List ℕ) → Like Whatever (datum_in known width text) (datum_in all width text)
+  datum_alike : (width : DataWidth) (text : List ℕ) → Like Whatever (datum_in known width text) (datum_in all width text)
   unfolding datum_in
   datum_alike width text = datum_of_alike width text (number_in text)
 
-  data_alike : (R : Statement → Statement → Type 0) (width : Width) (n : ℕ) (r r' : Reading) (text : List ℕ) → Like R r r' → Like R (with_data known width n r text) (with_data all width n r' text)
+  data_alike : (R : Statement → Statement → Type 0) (width : DataWidth) (n : ℕ) (r r' : StatementReading) (text : List ℕ) → Like R r r' → Like R (with_data known width n r text) (with_data all width n r' text)
   unfolding with_data
   data_alike R width zero r r' text h = h
   data_alike R width (suc n) r r' text h = data_alike R width n _ _ (other_operands text) (like_also R Whatever _ _ _ _ h (datum_alike width (first_operand text)))
@@ -254,11 +254,11 @@ module _ (known all : Spots) where
     unfolding statement_of
     statement_alike m text = said_alike (form (how_many text) m) text (rows (how_many text) m)
 
-    mnemonic_alike : (place : Place) (o : Option Mnemonic) (text : List ℕ) → Like R (of_mnemonic known place o text) (of_mnemonic all place o text)
+    mnemonic_alike : (place : SectionPlace) (o : Option Mnemonic) (text : List ℕ) → Like R (of_mnemonic known place o text) (of_mnemonic all place o text)
     mnemonic_alike place (Some m) text = like_also R Whatever _ _ _ _ (statement_alike m text) (like_itself Whatever (placed m place) (λ a. tt))
     mnemonic_alike place None text = faults UnknownName
 
-    reading_alike : (place : Place) (text : List ℕ) → Like R (statement_in known place text) (statement_in all place text)
+    reading_alike : (place : SectionPlace) (text : List ℕ) → Like R (statement_in known place text) (statement_in all place text)
     unfolding statement_in
     reading_alike place text =
         like_either R (not (is_sound false text)) _ _ _ _ (faults BadToken)
@@ -266,12 +266,12 @@ module _ (known all : Spots) where
         (like_either R (not (starts_with is_name_start (skip_blanks text))) _ _ _ _ (faults BadToken)
         (mnemonic_alike place (mnemonic_named (first_word (skip_blanks text))) (behind_word (skip_blanks text)))))
 
-measured_by : (place : Place) (r s : Reading) → Like SameSize r s → (r >>= place_behind place) ≡ (s >>= place_behind place)
+measured_by : (place : SectionPlace) (r s : StatementReading) → Like SameSize r s → (r >>= place_behind place) ≡ (s >>= place_behind place)
 measured_by place _ _ (values s t h) = h place
 measured_by place _ _ (faults e) = refl
 
 -- the place behind a line doesn't depend on where the labels are, nor does the line's fault
-pub measured_alike : (known all : Spots) (place : Place) (text : List ℕ) → measured known place text ≡ measured all place text
+pub measured_alike : (known all : Spots) (place : SectionPlace) (text : List ℕ) → measured known place text ≡ measured all place text
 unfolding measured
 measured_alike known all place text = measured_by place _ _ (reading_alike known all SameSize (λ s. λ place. refl) forms_alike place text)
 
@@ -286,41 +286,41 @@ may_at false Text Data t u s r e h = cc
 may_at false Data Text t u s r e h = cc
 may_at false Data Data t u s r e h = refl
 
-may_same : (m : Mnemonic) (p q : Place) → here p ≡ here q → may_stand m p ≡ may_stand m q
+may_same : (m : Mnemonic) (p q : SectionPlace) → here p ≡ here q → may_stand m p ≡ may_stand m q
 unfolding may_stand
 may_same m p q h =
     may_at (is_directive m) p.section q.section p.text_size q.text_size p.data_size q.data_size (ap (λ (s : Spot). s.section) h) (ap (λ (s : Spot). s.offset) h)
 
-also_placed : (r : Reading) (t : Bool) (p q : Place) → also r (cond t (Ok p) (Err BadOperand)) ≡ also r (cond t (Ok q) (Err BadOperand))
+also_placed : (r : StatementReading) (t : Bool) (p q : SectionPlace) → also r (cond t (Ok p) (Err BadOperand)) ≡ also r (cond t (Ok q) (Err BadOperand))
 unfolding also
 also_placed (Ok s) true p q = refl
 also_placed (Ok s) false p q = refl
 also_placed (Err e) true p q = refl
 also_placed (Err e) false p q = refl
 
-mnemonic_at : (labels : Spots) (p q : Place) → here p ≡ here q → (o : Option Mnemonic) (text : List ℕ) → of_mnemonic labels p o text ≡ of_mnemonic labels q o text
+mnemonic_at : (labels : Spots) (p q : SectionPlace) → here p ≡ here q → (o : Option Mnemonic) (text : List ℕ) → of_mnemonic labels p o text ≡ of_mnemonic labels q o text
 unfolding placed
 mnemonic_at labels p q h (Some m) text =
     also_placed (statement_of labels m text) (may_stand m p) p q
     ∙ ap (λ t. also (statement_of labels m text) (cond t (Ok q) (Err BadOperand))) (may_same m p q h)
 mnemonic_at labels p q h None text = refl
 
-reading_at : (labels : Spots) (p q : Place) → here p ≡ here q → (text : List ℕ) → statement_in labels p text ≡ statement_in labels q text
+reading_at : (labels : Spots) (p q : SectionPlace) → here p ≡ here q → (text : List ℕ) → statement_in labels p text ≡ statement_in labels q text
 unfolding statement_in
 reading_at labels p q h text =
-    ap (λ (r : Reading). cond (not (is_sound false text)) (Err BadToken) (cond (is_empty (skip_blanks text)) (Ok Nothing) (cond (not (starts_with is_name_start (skip_blanks text))) (Err BadToken) r)))
+    ap (λ (r : StatementReading). cond (not (is_sound false text)) (Err BadToken) (cond (is_empty (skip_blanks text)) (Ok Nothing) (cond (not (starts_with is_name_start (skip_blanks text))) (Err BadToken) r)))
     (mnemonic_at labels p q h (mnemonic_named (first_word (skip_blanks text))) (behind_word (skip_blanks text)))
 
-same_ok : (s : Statement) (r : Reading) → Like SameUnlabelled (Ok s) r → names_label s ≡ false → r ≡ Ok s
+same_ok : (s : Statement) (r : StatementReading) → Like SameUnlabelled (Ok s) r → names_label s ≡ false → r ≡ Ok s
 same_ok s _ (values _ t h) k = ap (λ x. Ok x) (h k)
 
 kept_where : (s : Statement) (spot : Spot) (text : List ℕ) (t : Bool) → names_label s ≡ t
-    → (names_label s ≡ false → (labels : Spots) (place : Place) → here place ≡ spot → statement_in labels place text ≡ Ok s)
+    → (names_label s ≡ false → (labels : Spots) (place : SectionPlace) → here place ≡ spot → statement_in labels place text ≡ Ok s)
     → IsKept (cond t None (Some (record { spot = spot; statement = s }))) text
 kept_where s spot text true e h = tt
 kept_where s spot text false e h = h e
 
-kept_by : (known : Spots) (at : Place) (text : List ℕ) (r : Reading) → statement_in known at text ≡ r → IsKept (kept_statement (here at) r) text
+kept_by : (known : Spots) (at : SectionPlace) (text : List ℕ) (r : StatementReading) → statement_in known at text ≡ r → IsKept (kept_statement (here at) r) text
 kept_by known at text (Err e) h = tt
 kept_by known at text (Ok s) h = kept_where s (here at) text (names_label s) refl
     (λ none labels place same.
@@ -328,7 +328,7 @@ kept_by known at text (Ok s) h = kept_where s (here at) text (names_label s) ref
     ∙ same_ok s (statement_in labels at text)
     (subst (λ r. Like SameUnlabelled r (statement_in labels at text)) h (reading_alike known labels SameUnlabelled (λ s k. refl) forms_unlabelled at text)) none)
 
-pub is_kept : (known : Spots) (place : Place) (text : List ℕ) → IsKept (kept_statement (here place) (statement_in known place text)) text
+pub is_kept : (known : Spots) (place : SectionPlace) (text : List ℕ) → IsKept (kept_statement (here place) (statement_in known place text)) text
 is_kept known place text = kept_by known place text _ refl
 
 -- ---- statements that become instructions stand in the text
@@ -358,11 +358,11 @@ directive_none : (labels : Spots) (m : Mnemonic) (text : List ℕ) → is_direct
 directive_none labels m text h =
     statement_holds labels (λ slot v. Unit {0}) (λ slot text. any_ok (operand_in labels slot text)) IsNone m text (directives_make_none (how_many text) m h)
 
-if_ok : (r : Reading) (s : Statement) → IfOk r IsNone → r ≡ Ok s → IsNone s
+if_ok : (r : StatementReading) (s : Statement) → IfOk r IsNone → r ≡ Ok s → IsNone s
 if_ok (Ok t) s h e = let same : t ≡ s = cc in subst IsNone same h
 if_ok (Err f) s h e = cc
 
-may_by : (t : Bool) (p q : Place) → cond t (Ok p) (Err BadOperand) ≡ Ok q → t ≡ true
+may_by : (t : Bool) (p q : SectionPlace) → cond t (Ok p) (Err BadOperand) ≡ Ok q → t ≡ true
 may_by true p q h = refl
 may_by false p q h = cc
 
@@ -374,7 +374,7 @@ where_by : (d : Bool) (part : Part) (t : Bool) → cond d true (is_text part && 
 where_by true part t h k = absurd (k refl)
 where_by false part t h k = text_by part t h
 
-mnemonic_in_text : (labels : Spots) (place : Place) (o : Option Mnemonic) (text : List ℕ) (s : Statement) → of_mnemonic labels place o text ≡ Ok s → is_instruction s ≡ true → place.section ≡ Text
+mnemonic_in_text : (labels : Spots) (place : SectionPlace) (o : Option Mnemonic) (text : List ℕ) (s : Statement) → of_mnemonic labels place o text ≡ Ok s → is_instruction s ≡ true → place.section ≡ Text
 unfolding placed may_stand
 mnemonic_in_text labels place (Some m) text s h k =
     let parts = also_ok (statement_of labels m text) (placed m place) s h in
@@ -382,13 +382,13 @@ mnemonic_in_text labels place (Some m) text s h k =
     (λ d. let none : is_instruction s ≡ false = if_ok (statement_of labels m text) s (directive_none labels m text d) parts.1 in let wrong : true ≡ false = sym k ∙ none in cc)
 mnemonic_in_text labels place None text s h k = cc
 
-by_tests : (a b c : Bool) (r : Reading) (s : Statement) → cond a (Err BadToken) (cond b (Ok Nothing) (cond c (Err BadToken) r)) ≡ Ok s → is_instruction s ≡ true → r ≡ Ok s
+by_tests : (a b c : Bool) (r : StatementReading) (s : Statement) → cond a (Err BadToken) (cond b (Ok Nothing) (cond c (Err BadToken) r)) ≡ Ok s → is_instruction s ≡ true → r ≡ Ok s
 by_tests true b c r s h k = cc
 by_tests false true c r s h k = let same : ◌≡◌ {A = Statement} Nothing s = cc in cc
 by_tests false false true r s h k = cc
 by_tests false false false r s h k = h
 
-pub in_the_text : (labels : Spots) (place : Place) (text : List ℕ) (s : Statement) → statement_in labels place text ≡ Ok s → is_instruction s ≡ true → place.section ≡ Text
+pub in_the_text : (labels : Spots) (place : SectionPlace) (text : List ℕ) (s : Statement) → statement_in labels place text ≡ Ok s → is_instruction s ≡ true → place.section ≡ Text
 unfolding statement_in
 in_the_text labels place text s h k =
     mnemonic_in_text labels place (mnemonic_named (first_word (skip_blanks text))) (behind_word (skip_blanks text)) s

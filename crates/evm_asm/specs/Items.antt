@@ -8,20 +8,20 @@ use Rattle.evm_asm_parser.specs.evm_asm_lexer.declared.source_fault.SourceFault.
 use Rattle.evm_asm_parser.specs.evm_asm_lexer.declared.source_fault.SourceFaultKind.{SourceFaultKind}
 use Rattle.evm_asm_parser.specs.evm_asm_lexer.declared.source_fault.SourceFaultKind.TheVariants.{RangeOfImmediate, LabelMissing}
 use Rattle.evm_ram.specs.declared.ram.TheConstants.{BASE}
-use Rattle.evm_asm.specs.declared.failure.Failure.{Failure}
-use Rattle.evm_asm.specs.declared.failure.Failure.TheVariants as failure
-use Rattle.evm_asm.specs.declared.meaning.Stop.{Stop}
-use Rattle.evm_asm.specs.declared.meaning.Stop.TheVariants as stop
+use Rattle.evm_asm.specs.declared.failure.AssemblyFailure.{AssemblyFailure}
+use Rattle.evm_asm.specs.declared.failure.AssemblyFailure.TheVariants as failure
+use Rattle.evm_asm.specs.declared.meaning.LineFailure.{LineFailure}
+use Rattle.evm_asm.specs.declared.meaning.LineFailure.TheVariants as stop
 use Rattle.evm_asm.specs.declared.item.Expansion.{Expansion}
 use Rattle.evm_asm.specs.declared.item.Expansion.TheVariants as expansion
-use Rattle.evm_asm.specs.declared.item.Item.{Item}
-use Rattle.evm_asm.specs.declared.item.Item.TheVariants as item
+use Rattle.evm_asm.specs.declared.item.SourceItem.{SourceItem}
+use Rattle.evm_asm.specs.declared.item.SourceItem.TheVariants as item
 use Rattle.evm_asm.specs.declared.item.Placed.{Placed}
 use Rattle.evm_asm_parser.specs.evm_asm_lexer.declared.mnemonic.Section.{Section as Part}
 use Rattle.evm_asm_parser.specs.evm_asm_lexer.declared.mnemonic.Section.TheVariants as section
-use Rattle.evm_asm_parser.specs.evm_asm_lexer.declared.mnemonic.Width.{Width}
+use Rattle.evm_asm_parser.specs.evm_asm_lexer.declared.mnemonic.DataWidth.{DataWidth}
 use Rattle.evm_asm_parser.specs.declared.spot.Spot.{Spot}
-use Rattle.evm_asm.specs.declared.place.Place.{Place}
+use Rattle.evm_asm.specs.declared.place.SectionPlace.{SectionPlace}
 use Rattle.evm_asm_parser.specs.declared.statement.Datum.{Datum}
 use Rattle.evm_asm_parser.specs.declared.statement.Datum.TheVariants as datum
 use Rattle.evm_asm_parser.specs.declared.statement.Statement.{Statement}
@@ -87,7 +87,7 @@ expanded text_size from (LoadImmediate rd value) = Ok (load_immediate rd value)
 expanded text_size from (LoadAddress rd target) = load_address text_size from rd target
 expanded text_size from statement = Ok expansion.Empty
 
-abbrev pub with_item : Part → Item → List Placed → List Placed
+abbrev pub with_item : Part → SourceItem → List Placed → List Placed
 with_item part i so_far = so_far ++ record { section = part; item = i } ∷ []
 
 -- the items so far, and behind them the instructions
@@ -101,24 +101,24 @@ value_of text_size (datum.Value n) = Ok n
 value_of text_size (datum.Label (Some spot)) = Ok (address text_size spot)
 value_of text_size (datum.Label None) = Err LabelMissing
 
-unfoldable pub value_in : Spots → ℕ → Width → List ℕ → Result ℕ SourceFaultKind
+unfoldable pub value_in : Spots → ℕ → DataWidth → List ℕ → Result ℕ SourceFaultKind
 value_in labels text_size width text = datum_in labels width text >>= value_of text_size
 
 -- the items so far, and behind them one number
-unfoldable pub number_pushed : Spots → ℕ → Part → Width → List ℕ → List Placed → Result (List Placed) SourceFaultKind
+unfoldable pub number_pushed : Spots → ℕ → Part → DataWidth → List ℕ → List Placed → Result (List Placed) SourceFaultKind
 number_pushed labels text_size part width text so_far = do
   v ← value_in labels text_size width text
   Ok (with_item part (item.Number width v) so_far)
 
 -- the items so far, and behind them the first n numbers of a list
-unfoldable pub with_numbers : Spots → ℕ → Part → Width → ℕ → List ℕ → List Placed → Result (List Placed) SourceFaultKind
+unfoldable pub with_numbers : Spots → ℕ → Part → DataWidth → ℕ → List ℕ → List Placed → Result (List Placed) SourceFaultKind
 with_numbers labels text_size part width zero text so_far = Ok so_far
 with_numbers labels text_size part width (suc n) text so_far = do
   items ← number_pushed labels text_size part width (first_operand text) so_far
   with_numbers labels text_size part width n (other_operands text) items
 
 -- In the text, at a multiple of 4, an alignment to a multiple of 4 is filled with nops, else with zeros.
-unfoldable pub filling : Place → ℕ → Item
+unfoldable pub filling : SectionPlace → ℕ → SourceItem
 filling place power =
     if is_text place.section && (place.text_size % 4 == 0 && nat_le 2 power)
     then item.Nops (padding (offset place) power / 4) else item.Zeros (padding (offset place) power)
@@ -127,7 +127,7 @@ abbrev pub operands : List ℕ → List ℕ
 operands text = behind_word (skip_blanks text)
 
 -- the items so far, and behind them those of a statement on a line
-unfoldable pub with_statement : Spots → ℕ → ℕ → Place → List ℕ → Statement → List Placed → Result (List Placed) SourceFaultKind
+unfoldable pub with_statement : Spots → ℕ → ℕ → SectionPlace → List ℕ → Statement → List Placed → Result (List Placed) SourceFaultKind
 with_statement labels text_size line place text (Numbers width count) so_far = with_numbers labels text_size place.section width count (operands text) so_far
 with_statement labels text_size line place text (Space size) so_far = Ok (with_item place.section (item.Zeros size) so_far)
 with_statement labels text_size line place text (Align power) so_far = Ok (with_item place.section (filling place power) so_far)
@@ -136,14 +136,14 @@ with_statement labels text_size line place text statement so_far = do
   Ok (with_instructions line e so_far)
 
 -- the place behind a statement, and the items so far with its own
-unfoldable pub statement_meant : Spots → ℕ → ℕ → Place → List ℕ → Statement → List Placed → Result (Place × List Placed) SourceFaultKind
+unfoldable pub statement_meant : Spots → ℕ → ℕ → SectionPlace → List ℕ → Statement → List Placed → Result (SectionPlace × List Placed) SourceFaultKind
 statement_meant labels text_size line place text statement so_far = do
   items ← with_statement labels text_size line place text statement so_far
   next ← place_behind place statement
   Ok (next, items)
 
 -- the place behind a line, and the items so far with those of the line
-unfoldable pub line_meant : Spots → ℕ → ℕ → Place → List ℕ → List Placed → Result (Place × List Placed) SourceFaultKind
+unfoldable pub line_meant : Spots → ℕ → ℕ → SectionPlace → List ℕ → List Placed → Result (SectionPlace × List Placed) SourceFaultKind
 line_meant labels text_size line place text so_far = do
   statement ← statement_in labels place text
   statement_meant labels text_size line place text statement so_far
@@ -172,11 +172,11 @@ and_then (Ok a) f = f a
 and_then (Err e) f = Err e
 
 -- the place behind a line, and the items so far with those of the line, or the least of its faults
-unfoldable pub line_or_fault : Spots → ℕ → Option SourceFault → ℕ → Place → List ℕ → List Placed → Result (Place × List Placed) SourceFault
+unfoldable pub line_or_fault : Spots → ℕ → Option SourceFault → ℕ → SectionPlace → List ℕ → List Placed → Result (SectionPlace × List Placed) SourceFault
 line_or_fault labels text_size first line place code so_far = meaning_or_fault first line (line_meant labels text_size line place (statement_text code) so_far)
 
 -- the items so far, and behind them those of the lines, before which there are n lines
-unfoldable pub lines_meant : Laid → ℕ → Place → List (List ℕ) → List Placed → Result (List Placed) SourceFault
+unfoldable pub lines_meant : Laid → ℕ → SectionPlace → List (List ℕ) → List Placed → Result (List Placed) SourceFault
 lines_meant l before place [] so_far = Ok so_far
 lines_meant l before place (line ∷ lines) so_far =
     and_then (line_or_fault l.labels l.place.text_size l.first (before + 1) place (code_of line) so_far) (λ x. lines_meant l (before + 1) x.0 lines x.1)
@@ -189,20 +189,20 @@ unfoldable pub meaning_of : List ℕ → Result (List Placed) SourceFault
 meaning_of source = lines_meant (layout_of source) 0 source_start (source_lines source) []
 
 -- What a function returned, seen by view, is what is meant, unless room for one element more was refused.
-abbrev pub StopsAsMeant : {Y : Type 0} → Stop → Result Y SourceFaultKind → Type 0
+abbrev pub StopsAsMeant : {Y : Type 0} → LineFailure → Result Y SourceFaultKind → Type 0
 StopsAsMeant (stop.Memory asked) meant = asked ≤ 1
 StopsAsMeant (stop.Fault kind) meant = meant ≡ Err kind
 
-abbrev pub IsMeant : {X Y : Type 0} → (X → Y) → Result X Stop → Result Y SourceFaultKind → Type 0
+abbrev pub IsMeant : {X Y : Type 0} → (X → Y) → Result X LineFailure → Result Y SourceFaultKind → Type 0
 IsMeant view (Ok x) meant = meant ≡ Ok (view x)
 IsMeant view (Err e) meant = StopsAsMeant e meant
 
 -- A source or its items, unless room for that many more was refused.
-abbrev pub FailsBy : {Y : Type 0} → ℕ → Failure → Result Y SourceFault → Type 0
+abbrev pub FailsBy : {Y : Type 0} → ℕ → AssemblyFailure → Result Y SourceFault → Type 0
 FailsBy most (failure.Fault fault) meant = meant ≡ Err fault
 FailsBy most (failure.Memory shortage) meant = shortage.refused ≤ most
 
-abbrev pub Gives : {X Y : Type 0} → (X → Y) → ℕ → Result X Failure → Result Y SourceFault → Type 0
+abbrev pub Gives : {X Y : Type 0} → (X → Y) → ℕ → Result X AssemblyFailure → Result Y SourceFault → Type 0
 Gives view most (Ok x) meant = meant ≡ Ok (view x)
 Gives view most (Err e) meant = FailsBy most e meant
 

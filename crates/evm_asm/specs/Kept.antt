@@ -2,14 +2,14 @@
 use Rattle.std.specs.Prelude.{◌≡◌, List, [], ◌∷◌, ℕ, Option, Some, None, Ok}
 use Rattle.evm_asm_parser.specs.declared.kept.Kept.{Kept}
 use Rattle.evm_asm_parser.specs.Operands.{Spots}
-use Rattle.evm_asm.specs.declared.place.Place.{Place}
+use Rattle.evm_asm.specs.declared.place.SectionPlace.{SectionPlace}
 use Rattle.evm_asm.specs.Places.{here, statement_in}
 use Rattle.evm_asm.specs.Sources.{code_of, statement_text}
 
 -- what is kept of a text is its statement at a spot, whatever labels are known
 abbrev pub IsKept : Option Kept → List ℕ → Type 0
 IsKept None text = Unit {0}
-IsKept (Some kept) text = (labels : Spots) (place : Place) → here place ≡ kept.spot → statement_in labels place text ≡ Ok kept.statement
+IsKept (Some kept) text = (labels : Spots) (place : SectionPlace) → here place ≡ kept.spot → statement_in labels place text ≡ Ok kept.statement
 
 -- what is kept of the first line, and of the others
 abbrev pub first_kept : List (Option Kept) → Option Kept

@@ -4,37 +4,37 @@ use Rattle.evm_asm_parser.specs.evm_asm_lexer.declared.source_fault.SourceFaultK
 use Rattle.evm_asm_parser.specs.evm_asm_lexer.declared.source_fault.SourceFaultKind.TheVariants.{BadToken, UnknownName, BadOperand, TooLarge}
 use Rattle.evm_asm_parser.specs.evm_asm_lexer.declared.mnemonic.Section.TheVariants as section
 use Rattle.evm_asm_parser.specs.evm_asm_lexer.declared.mnemonic.Section.{Section as Part}
-use Rattle.evm_asm_parser.specs.evm_asm_lexer.declared.mnemonic.Width.{Width}
-use Rattle.evm_asm_parser.specs.evm_asm_lexer.declared.mnemonic.Width.TheVariants.{Byte, Word, Dword}
+use Rattle.evm_asm_parser.specs.evm_asm_lexer.declared.mnemonic.DataWidth.{DataWidth}
+use Rattle.evm_asm_parser.specs.evm_asm_lexer.declared.mnemonic.DataWidth.TheVariants.{Byte, Word, Dword}
 use Rattle.evm_asm_parser.specs.evm_asm_lexer.declared.mnemonic.Mnemonic.{Mnemonic}
 use Rattle.evm_asm_parser.specs.evm_asm_lexer.declared.mnemonic.Mnemonic.TheVariants as names
 use Rattle.evm_asm_parser.specs.declared.spot.Spot.{Spot}
-use Rattle.evm_asm.specs.declared.place.Place.{Place}
+use Rattle.evm_asm.specs.declared.place.SectionPlace.{SectionPlace}
 use Rattle.evm_asm_parser.specs.declared.statement.Statement.{Statement}
 use Rattle.evm_asm_parser.specs.declared.statement.Statement.TheVariants.{Nothing, One, Branch, Jump, LoadImmediate, LoadAddress, Section, Numbers, Space, Align}
 use Rattle.evm_asm_parser.specs.evm_asm_lexer.Text.{skip_blanks, first_word, behind_word, starts_with, is_name_start, is_empty, is_sound}
 use Rattle.evm_asm_parser.specs.evm_asm_lexer.Names.{mnemonic_named}
 use Rattle.evm_asm_parser.specs.Operands.{Spots, upper}
-use Rattle.evm_asm_parser.specs.Statements.{Reading, statement_of, also}
+use Rattle.evm_asm_parser.specs.Statements.{StatementReading, statement_of, also}
 
 -- how far the section is that the place is in
-abbrev pub section_size : Part → Place → ℕ
+abbrev pub section_size : Part → SectionPlace → ℕ
 section_size section.Text place = place.text_size
 section_size section.Data place = place.data_size
 
-abbrev pub offset : Place → ℕ
+abbrev pub offset : SectionPlace → ℕ
 offset place = section_size place.section place
 
-abbrev pub here : Place → Spot
+abbrev pub here : SectionPlace → Spot
 here place = record { section = place.section; offset = offset place }
 
 -- the place n bytes farther in its section
-abbrev pub farther : Part → Place → ℕ → Place
+abbrev pub farther : Part → SectionPlace → ℕ → SectionPlace
 farther section.Text place size = record place { text_size = place.text_size + size }
 farther section.Data place size = record place { data_size = place.data_size + size }
 
 -- no section is longer than 8,388,608 bytes
-unfoldable pub grown : Place → ℕ → Result Place SourceFaultKind
+unfoldable pub grown : SectionPlace → ℕ → Result SectionPlace SourceFaultKind
 grown place size =
     if nat_le size (8388608 - offset place) then Ok (farther place.section place size) else Err TooLarge
 
@@ -57,7 +57,7 @@ high_part n = upper ((n + 2048) / 4096 % 1048576)
 abbrev pub needs_low_part : ℕ → Bool
 needs_low_part n = not (n % 4096 == 0)
 
-abbrev pub bytes_in : Width → ℕ
+abbrev pub bytes_in : DataWidth → ℕ
 bytes_in Byte = 1
 bytes_in Word = 4
 bytes_in Dword = 8
@@ -83,7 +83,7 @@ size_at offset (Space size) = size
 size_at offset (Align power) = padding offset power
 
 -- the place behind a statement
-unfoldable pub place_behind : Place → Statement → Result Place SourceFaultKind
+unfoldable pub place_behind : SectionPlace → Statement → Result SectionPlace SourceFaultKind
 place_behind place (Section part) = Ok (record place { section = part })
 place_behind place statement = grown place (size_at (offset place) statement)
 
@@ -100,18 +100,18 @@ abbrev pub is_text : Part → Bool
 is_text section.Text = true
 is_text section.Data = false
 
-unfoldable pub may_stand : Mnemonic → Place → Bool
+unfoldable pub may_stand : Mnemonic → SectionPlace → Bool
 may_stand mnemonic place = if is_directive mnemonic then true else is_text place.section && place.text_size % 4 == 0
 
-unfoldable pub placed : Mnemonic → Place → Result Place SourceFaultKind
+unfoldable pub placed : Mnemonic → SectionPlace → Result SectionPlace SourceFaultKind
 placed mnemonic place = if may_stand mnemonic place then Ok place else Err BadOperand
 
-abbrev pub of_mnemonic : Spots → Place → Option Mnemonic → List ℕ → Reading
+abbrev pub of_mnemonic : Spots → SectionPlace → Option Mnemonic → List ℕ → StatementReading
 of_mnemonic labels place (Some mnemonic) text = also (statement_of labels mnemonic text) (placed mnemonic place)
 of_mnemonic labels place None text = Err UnknownName
 
 -- What the text behind the labels of a line says.
-unfoldable pub statement_in : Spots → Place → List ℕ → Reading
+unfoldable pub statement_in : Spots → SectionPlace → List ℕ → StatementReading
 statement_in labels place text =
     if not (is_sound false text) then Err BadToken
     else (if is_empty (skip_blanks text) then Ok Nothing

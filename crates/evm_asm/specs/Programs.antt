@@ -5,10 +5,10 @@ use Rattle.evm_isa.specs.declared.inst.Inst.{Inst}
 use Rattle.evm_isa.specs.Encoded.{encoded}
 use Rattle.evm_asm_parser.specs.evm_asm_lexer.declared.source_fault.SourceFault.{SourceFault}
 use Rattle.evm_asm_parser.specs.evm_asm_lexer.declared.source_fault.SourceFaultKind.TheVariants.{RangeOfImmediate}
-use Rattle.evm_asm.specs.declared.failure.Failure.{Failure}
-use Rattle.evm_asm.specs.declared.failure.Failure.TheVariants as failure
-use Rattle.evm_asm.specs.declared.item.Item.{Item}
-use Rattle.evm_asm.specs.declared.item.Item.TheVariants as item
+use Rattle.evm_asm.specs.declared.failure.AssemblyFailure.{AssemblyFailure}
+use Rattle.evm_asm.specs.declared.failure.AssemblyFailure.TheVariants as failure
+use Rattle.evm_asm.specs.declared.item.SourceItem.{SourceItem}
+use Rattle.evm_asm.specs.declared.item.SourceItem.TheVariants as item
 use Rattle.evm_asm.specs.declared.item.Placed.{Placed}
 use Rattle.evm_asm_parser.specs.evm_asm_lexer.declared.mnemonic.Section.{Section as Part}
 use Rattle.evm_asm_parser.specs.evm_asm_lexer.declared.mnemonic.Section.TheVariants as section
@@ -58,7 +58,7 @@ abbrev pub worded : ℕ → Inst → Option ℕ → Spelled → Result Spelled S
 worded line i (Some word) s = Ok (with_word line i word s)
 worded line i None s = Err (record { line = line; kind = RangeOfImmediate })
 
-unfoldable pub spelled_item : Part → Item → Spelled → Result Spelled SourceFault
+unfoldable pub spelled_item : Part → SourceItem → Spelled → Result Spelled SourceFault
 spelled_item part (item.Instruction line i) s = worded line i (encoded i) s
 spelled_item part (item.Number width value) s = Ok (with_bytes part (number_bytes (bytes_in width) value) s)
 spelled_item part (item.Zeros n) s = Ok (with_repeated part n (0 ∷ []) s)
@@ -74,6 +74,6 @@ program_bytes text [] = text
 program_bytes text (b ∷ bs) = repeated ((4096 - length text % 4096) % 4096) (0 ∷ []) text ++ b ∷ bs
 
 -- For contracts of bodies: what was pushed of no line of its own.
-abbrev pub noted : Result (Unit {0}) ℕ → Result (Unit {0}) Failure
+abbrev pub noted : Result (Unit {0}) ℕ → Result (Unit {0}) AssemblyFailure
 noted (Ok x) = Ok x
 noted (Err asked) = Err (failure.Memory (record { line = 1; refused = asked }))

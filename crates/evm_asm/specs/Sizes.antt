@@ -3,7 +3,7 @@ use Rattle.std.specs.Prelude.{◌≡◌, ℕ, ◌+◌, ◌-◌, ◌<◌, ◌⊎�
 use Rattle.evm_isa.specs.declared.inst.Inst.{Inst}
 use Rattle.evm_asm.specs.declared.item.Expansion.{Expansion}
 use Rattle.evm_asm.specs.declared.item.Expansion.TheVariants.{Empty, Single, Double}
-use Rattle.evm_asm.specs.declared.place.Place.{Place}
+use Rattle.evm_asm.specs.declared.place.SectionPlace.{SectionPlace}
 use Rattle.evm_asm_parser.specs.declared.statement.Statement.{Statement}
 use Rattle.evm_asm.specs.Places.{statement_in}
 use Rattle.evm_asm.specs.Sources.{nothing_laid, laid, source_lines, code_of, statement_text}
@@ -17,7 +17,7 @@ abbrev pub size_of_data : List ℕ → ℕ
 size_of_data source = (layout_of source).place.data_size
 
 -- the place before line n, which is where laying out the lines before it ends
-abbrev pub place_before : List ℕ → ℕ → Place
+abbrev pub place_before : List ℕ → ℕ → SectionPlace
 place_before source n = (laid nothing_laid (take (n - 1) (source_lines source))).place
 
 -- where the statement of line n stands, if it is in the text

@@ -7,12 +7,12 @@ use Rattle.evm_asm_parser.specs.evm_asm_lexer.declared.source_fault.SourceFaultK
 use Rattle.evm_asm_parser.specs.evm_asm_lexer.declared.source_fault.SourceFaultKind.TheVariants.{LabelTwice}
 use Rattle.evm_asm_parser.specs.evm_asm_lexer.declared.mnemonic.Section.TheVariants as section
 use Rattle.evm_asm_parser.specs.declared.spot.Spot.{Spot}
-use Rattle.evm_asm.specs.declared.place.Place.{Place}
+use Rattle.evm_asm.specs.declared.place.SectionPlace.{SectionPlace}
 use Rattle.evm_asm_parser.specs.evm_asm_lexer.Faults.{least, ◌>>=◌}
 use Rattle.evm_asm_parser.specs.evm_asm_lexer.Text.{before, after, has_byte}
 use Rattle.evm_asm_parser.specs.evm_asm_lexer.Names.{named}
 use Rattle.evm_asm_parser.specs.Operands.{Spots, name_in}
-use Rattle.evm_asm_parser.specs.Statements.{Reading}
+use Rattle.evm_asm_parser.specs.Statements.{StatementReading}
 use Rattle.evm_asm.specs.Places.{here, place_behind, statement_in}
 
 abbrev pub in_front : ℕ → List (List ℕ) → List (List ℕ)
@@ -57,23 +57,23 @@ abbrev pub statement_text : List ℕ → List ℕ
 statement_text code = behind_labels (length code) code
 
 -- The place behind a line and the line's fault, those that a label causes apart: a line with a fault has no bytes.
-abbrev pub outcome : Place → Bool → Result Place SourceFaultKind → Place × Option SourceFaultKind
+abbrev pub outcome : SectionPlace → Bool → Result SectionPlace SourceFaultKind → SectionPlace × Option SourceFaultKind
 outcome place false (Ok next) = (next, None)
 outcome place false (Err kind) = (place, Some kind)
 outcome place true (Ok next) = (place, Some LabelTwice)
 outcome place true (Err kind) = (place, Some (least LabelTwice kind))
 
 -- the place behind what is read
-abbrev pub behind_reading : Place → Reading → Result Place SourceFaultKind
+abbrev pub behind_reading : SectionPlace → StatementReading → Result SectionPlace SourceFaultKind
 behind_reading place reading = reading >>= place_behind place
 
-unfoldable pub measured : Spots → Place → List ℕ → Result Place SourceFaultKind
+unfoldable pub measured : Spots → SectionPlace → List ℕ → Result SectionPlace SourceFaultKind
 measured labels place text = behind_reading place (statement_in labels place text)
 
-abbrev pub line_defined : Spots → Place → List ℕ → Defined
+abbrev pub line_defined : Spots → SectionPlace → List ℕ → Defined
 line_defined labels place code = defined (length code) (here place) code (record { labels = labels; twice = false })
 
-unfoldable pub line_laid : Spots → Place → List ℕ → Spots × (Place × Option SourceFaultKind)
+unfoldable pub line_laid : Spots → SectionPlace → List ℕ → Spots × (SectionPlace × Option SourceFaultKind)
 line_laid labels place code =
     ((line_defined labels place code).labels, outcome place (line_defined labels place code).twice (measured (line_defined labels place code).labels place (statement_text code)))
 
@@ -85,11 +85,11 @@ first_fault None line None = None
 -- How far a source is laid out: its lines so far, the place behind them, their labels, and the first line with a fault.
 pub record Laid : Type 0 where
   pub lines : ℕ
-  pub place : Place
+  pub place : SectionPlace
   pub labels : Spots
   pub first : Option SourceFault
 
-abbrev pub source_start : Place
+abbrev pub source_start : SectionPlace
 source_start = record { section = section.Text; text_size = 0; data_size = 0 }
 
 abbrev pub nothing_laid : Laid
@@ -105,7 +105,7 @@ laid s [] = s
 laid s (line ∷ lines) = laid (with_line_laid s line) lines
 
 -- these are the labels, the place and the first fault of what is laid out
-pub record IsLaid (labels : Spots) (place : Place) (first : Option SourceFault) (s : Laid) : Type 0 where
+pub record IsLaid (labels : Spots) (place : SectionPlace) (first : Option SourceFault) (s : Laid) : Type 0 where
   pub labels_are : labels ≡ s.labels
   pub place_is : place ≡ s.place
   pub first_is : first ≡ s.first

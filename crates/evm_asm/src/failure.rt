@@ -12,7 +12,7 @@ pub struct Shortage {
 
 /// Why a source has no program: it has a fault, or memory ran out.
 #[derive(Drop)]
-pub enum Failure {
+pub enum AssemblyFailure {
     Fault(SourceFault),
     Memory(Shortage),
 }

@@ -5,10 +5,10 @@ ghost use Rattle.evm_asm.specs.Items.{address, data_base, distance, distance_to,
 ghost use Rattle.evm_isa.specs.declared.inst.Inst.TheVariants as inst;
 
 use crate::place::{
-    Place, high_part, is_small, low_part, low_word, needs_low_part, offset, padding,
+    SectionPlace, high_part, is_small, low_part, low_word, needs_low_part, offset, padding,
 };
 use evm_asm_parser::{
-    Datum, Labels, Section, SourceFaultKind, Spot, Statement, Width, datum_in, zero,
+    DataWidth, Datum, Labels, Section, SourceFaultKind, Spot, Statement, datum_in, zero,
 };
 use evm_isa::{ImmediateOp, Inst, Register, Shift};
 use evm_ram::BASE;
@@ -18,11 +18,11 @@ pub const TEXT_BASE: u64 = BASE;
 
 /// What a statement adds to a section.
 #[derive(Clone, Copy)]
-pub enum Item {
+pub enum SourceItem {
     /// An instruction of a line.
     Instruction(u64, Inst),
     /// A number of a given count of bytes, modulo 2^64.
-    Number(Width, u64),
+    Number(DataWidth, u64),
     /// A number of zero bytes.
     Zeros(u64),
     /// A number of nops.
@@ -33,7 +33,7 @@ pub enum Item {
 #[derive(Clone, Copy)]
 pub struct Placed {
     pub section: Section,
-    pub item: Item,
+    pub item: SourceItem,
 }
 
 /// The instructions of one statement.
@@ -205,7 +205,7 @@ fn value_of(text_size: u32, datum: Datum) -> Result<u64, SourceFaultKind>
 pub fn value_in(
     labels: &Labels,
     text_size: u32,
-    width: Width,
+    width: DataWidth,
     text: &[u8],
 ) -> Result<u64, SourceFaultKind>
     ensures { result ≡ value_in labels.now text_size width text.now }
@@ -216,18 +216,18 @@ pub fn value_in(
 
 /// What an alignment is filled with.
 #[tactic(auto, unfolding(crate::specs::Items::filling))]
-pub fn filling(place: Place, power: Shift) -> Item
+pub fn filling(place: SectionPlace, power: Shift) -> SourceItem
     ensures { result ≡ filling place power }
 {
     let size = padding(offset(place), power);
     match place.section {
         Section::Text => {
             if place.text_size % 4 == 0 && 2 <= power.amount() {
-                Item::Nops(size / 4)
+                SourceItem::Nops(size / 4)
             } else {
-                Item::Zeros(size)
+                SourceItem::Zeros(size)
             }
         }
-        Section::Data => Item::Zeros(size),
+        Section::Data => SourceItem::Zeros(size),
     }
 }

@@ -8,10 +8,10 @@ ghost use Rattle.evm_asm.specs.Kept.{AreKept};
 ghost use Rattle.evm_asm.specs.Places.{here, statement_in};
 
 use crate::failure::Shortage;
-use crate::place::{Place, here, place_behind, source_start, statement_in};
+use crate::place::{SectionPlace, here, place_behind, source_start, statement_in};
 use evm_asm_parser::{
-    KeptLines, Labels, Reading, SourceFault, SourceFaultKind, Spot, after, before, cut, has_byte,
-    least, name_in,
+    KeptLines, Labels, SourceFault, SourceFaultKind, Spot, StatementReading, after, before, cut,
+    has_byte, least, name_in,
 };
 use evm_room::Refused;
 use std::alloc::Global;
@@ -97,10 +97,10 @@ fn define<'a>(
 }
 
 fn outcome(
-    place: Place,
+    place: SectionPlace,
     twice: bool,
-    measured: Result<Place, SourceFaultKind>,
-) -> (Place, Option<SourceFaultKind>)
+    measured: Result<SectionPlace, SourceFaultKind>,
+) -> (SectionPlace, Option<SourceFaultKind>)
     ensures { result ≡ outcome place twice measured }
 {
     match measured {
@@ -122,7 +122,10 @@ fn outcome(
 }
 
 /// The place behind what is read.
-fn behind_reading(place: Place, reading: &Reading) -> Result<Place, SourceFaultKind>
+fn behind_reading(
+    place: SectionPlace,
+    reading: &StatementReading,
+) -> Result<SectionPlace, SourceFaultKind>
     ensures { result ≡ behind_reading place reading.now }
 {
     match reading {
@@ -136,9 +139,9 @@ fn lay_line(
     alloc: Global,
     labels: &mut Labels,
     kept: &mut KeptLines,
-    place: Place,
+    place: SectionPlace,
     code: &[u8],
-) -> Result<(Place, Option<SourceFaultKind>), Refused>
+) -> Result<(SectionPlace, Option<SourceFaultKind>), Refused>
     ensures laid { IfOk result (λ after. (labels.new, after) ≡ line_laid labels.old place code.now) }
     ensures refused { IfErr result (λ asked. asked ≤ length code.now + 1) }
     ensures kept { OnOk result (kept.new ≡ kept.old ++ kept_statement (here place) (statement_in labels.new place (statement_text code.now)) ∷ []) }
@@ -169,7 +172,7 @@ fn first_fault(
 #[derive(Drop)]
 pub struct Layout {
     pub labels: Labels,
-    pub place: Place,
+    pub place: SectionPlace,
     pub first: Option<SourceFault>,
 }
 

@@ -6,43 +6,47 @@ ghost use Rattle.evm_asm.specs.Sources.{IsLaid, source_lines, statement_text};
 ghost use Rattle.evm_asm.specs.Kept.{IsKept, AreKept, first_kept, other_kept};
 ghost use Rattle.evm_asm.specs.Items.{IsMeant, Gives, unless_stopped, line_or_fault, layout_of, with_item, with_instructions, number_pushed, with_numbers, operands, with_statement, statement_meant, line_meant, least_so_far, stop_at, lines_meant, meaning_of};
 
-use crate::failure::{Failure, Shortage};
-use crate::item::{Expansion, Item, Placed, TEXT_BASE, expanded, filling, value_in};
+use crate::failure::{AssemblyFailure, Shortage};
+use crate::item::{Expansion, Placed, SourceItem, TEXT_BASE, expanded, filling, value_in};
 use crate::layout::{Layout, code_of, statement_text};
-use crate::place::{Place, here, place_behind, source_start, statement_in};
+use crate::place::{SectionPlace, here, place_behind, source_start, statement_in};
 use evm_asm_parser::{
-    Kept, KeptLines, Labels, Reading, Section, SourceFault, SourceFaultKind, Statement, Width,
-    behind_word, cut, first_operand, least, other_operands, push, skip_blanks,
+    DataWidth, Kept, KeptLines, Labels, Section, SourceFault, SourceFaultKind, Statement,
+    StatementReading, behind_word, cut, first_operand, least, other_operands, push, skip_blanks,
 };
 use evm_room::Refused;
 use std::alloc::Global;
 
 /// Why a line has no meaning: a growth was refused, or the line has a fault.
 #[derive(Drop)]
-pub enum Stop {
+pub enum LineFailure {
     Memory(Refused),
     Fault(SourceFaultKind),
 }
 
-fn push_item(items: &mut Vec<Placed>, section: Section, item: Item) -> Result<(), Stop>
+fn push_item(items: &mut Vec<Placed>, section: Section, item: SourceItem) -> Result<(), LineFailure>
     ensures { IsMeant (λ _. items.new.items) result (Ok (with_item section item items.old.items)) }
 {
     match push(items, Placed { section, item }) {
         Ok(()) => Ok(()),
-        Err(refused) => Err(Stop::Memory(refused)),
+        Err(refused) => Err(LineFailure::Memory(refused)),
     }
 }
 
 #[tactic(auto, unfolding(crate::specs::Items::with_instructions))]
-fn push_instructions(items: &mut Vec<Placed>, line: u64, expansion: Expansion) -> Result<(), Stop>
+fn push_instructions(
+    items: &mut Vec<Placed>,
+    line: u64,
+    expansion: Expansion,
+) -> Result<(), LineFailure>
     ensures { IsMeant (λ _. items.new.items) result (Ok (with_instructions line expansion items.old.items)) }
 {
     match expansion {
         Expansion::Empty => Ok(()),
-        Expansion::Single(a) => push_item(items, Section::Text, Item::Instruction(line, a)),
+        Expansion::Single(a) => push_item(items, Section::Text, SourceItem::Instruction(line, a)),
         Expansion::Double(a, b) => {
-            push_item(items, Section::Text, Item::Instruction(line, a))?;
-            push_item(items, Section::Text, Item::Instruction(line, b))
+            push_item(items, Section::Text, SourceItem::Instruction(line, a))?;
+            push_item(items, Section::Text, SourceItem::Instruction(line, b))
         }
     }
 }
@@ -59,14 +63,14 @@ fn push_number(
     labels: &Labels,
     text_size: u32,
     section: Section,
-    width: Width,
+    width: DataWidth,
     text: &[u8],
-) -> Result<(), Stop>
+) -> Result<(), LineFailure>
     ensures { IsMeant (λ _. items.new.items) result (number_pushed labels.now text_size section width text.now items.old.items) }
 {
     match value_in(labels, text_size, width, text) {
-        Ok(value) => push_item(items, section, Item::Number(width, value)),
-        Err(kind) => Err(Stop::Fault(kind)),
+        Ok(value) => push_item(items, section, SourceItem::Number(width, value)),
+        Err(kind) => Err(LineFailure::Fault(kind)),
     }
 }
 
@@ -75,10 +79,10 @@ fn push_numbers(
     labels: &Labels,
     text_size: u32,
     section: Section,
-    width: Width,
+    width: DataWidth,
     count: u64,
     text: &[u8],
-) -> Result<(), Stop>
+) -> Result<(), LineFailure>
     ensures { IsMeant (λ _. items.new.items) result (with_numbers labels.now text_size section width count text.now items.old.items) }
 {
     let mut rest = text;
@@ -104,10 +108,10 @@ fn push_statement(
     labels: &Labels,
     text_size: u32,
     line: u64,
-    place: Place,
+    place: SectionPlace,
     text: &[u8],
     statement: &Statement,
-) -> Result<(), Stop>
+) -> Result<(), LineFailure>
     ensures { IsMeant (λ _. items.new.items) result (with_statement labels.now text_size line place text.now statement.now items.old.items) }
 {
     match *statement {
@@ -115,24 +119,24 @@ fn push_statement(
             let text = operands(text);
             push_numbers(items, labels, text_size, place.section, width, count, text)
         }
-        Statement::Space(size) => push_item(items, place.section, Item::Zeros(size)),
+        Statement::Space(size) => push_item(items, place.section, SourceItem::Zeros(size)),
         Statement::Align(power) => push_item(items, place.section, filling(place, power)),
         _ => {
             let from = TEXT_BASE + u64::from(place.text_size);
             match expanded(text_size, from, *statement) {
                 Ok(expansion) => push_instructions(items, line, expansion),
-                Err(kind) => Err(Stop::Fault(kind)),
+                Err(kind) => Err(LineFailure::Fault(kind)),
             }
         }
     }
 }
 
-fn next_place(place: Place, statement: &Statement) -> Result<Place, Stop>
+fn next_place(place: SectionPlace, statement: &Statement) -> Result<SectionPlace, LineFailure>
     ensures { IsMeant (λ next. next) result (place_behind place statement.now) }
 {
     match place_behind(place, *statement) {
         Ok(next) => Ok(next),
-        Err(kind) => Err(Stop::Fault(kind)),
+        Err(kind) => Err(LineFailure::Fault(kind)),
     }
 }
 
@@ -143,10 +147,10 @@ fn push_placed(
     labels: &Labels,
     text_size: u32,
     line: u64,
-    place: Place,
+    place: SectionPlace,
     text: &[u8],
     statement: &Statement,
-) -> Result<Place, Stop>
+) -> Result<SectionPlace, LineFailure>
     ensures { IsMeant (λ next. (next, items.new.items)) result (statement_meant labels.now text_size line place text.now statement.now items.old.items) }
 {
     match push_statement(items, labels, text_size, line, place, text, statement) {
@@ -156,7 +160,12 @@ fn push_placed(
 }
 
 /// What the text behind the labels of a line says, of which this is kept.
-fn reading(labels: &Labels, place: Place, text: &[u8], kept: Option<Kept>) -> Reading
+fn reading(
+    labels: &Labels,
+    place: SectionPlace,
+    text: &[u8],
+    kept: Option<Kept>,
+) -> StatementReading
     requires { IsKept kept text.now }
     ensures { result ≡ statement_in labels.now place text.now }
 {
@@ -173,16 +182,16 @@ fn push_line(
     labels: &Labels,
     text_size: u32,
     line: u64,
-    place: Place,
+    place: SectionPlace,
     text: &[u8],
     kept: Option<Kept>,
-) -> Result<Place, Stop>
+) -> Result<SectionPlace, LineFailure>
     requires { IsKept kept text.now }
     ensures { IsMeant (λ next. (next, items.new.items)) result (line_meant labels.now text_size line place text.now items.old.items) }
 {
     match reading(labels, place, text, kept) {
         Ok(statement) => push_placed(items, labels, text_size, line, place, text, &statement),
-        Err(kind) => Err(Stop::Fault(kind)),
+        Err(kind) => Err(LineFailure::Fault(kind)),
     }
 }
 
@@ -221,7 +230,10 @@ fn stop_at(first: Option<SourceFault>, line: u64) -> Option<SourceFault>
     }
 }
 
-fn unless_stopped(stop: Option<SourceFault>, place: Place) -> Result<Place, SourceFault>
+fn unless_stopped(
+    stop: Option<SourceFault>,
+    place: SectionPlace,
+) -> Result<SectionPlace, SourceFault>
     ensures { result ≡ unless_stopped stop place }
 {
     match stop {
@@ -236,10 +248,10 @@ fn push_or_fault(
     items: &mut Vec<Placed>,
     layout: &Layout,
     line: u64,
-    place: Place,
+    place: SectionPlace,
     code: &[u8],
     kept: Option<Kept>,
-) -> Result<Place, Failure>
+) -> Result<SectionPlace, AssemblyFailure>
     requires { IsKept kept (statement_text code.now) }
     ensures { Gives (λ next. (next, items.new.items)) 1 result (line_or_fault layout.now.labels layout.now.place.text_size layout.now.first line place code.now items.old.items) }
 {
@@ -255,10 +267,17 @@ fn push_or_fault(
     ) {
         Ok(next) => match unless_stopped(stop_at(layout.first, line), next) {
             Ok(next) => Ok(next),
-            Err(fault) => Err(Failure::Fault(fault)),
+            Err(fault) => Err(AssemblyFailure::Fault(fault)),
         },
-        Err(Stop::Memory(refused)) => Err(Failure::Memory(Shortage { line, refused })),
-        Err(Stop::Fault(kind)) => Err(Failure::Fault(least_so_far(layout.first, line, kind))),
+        Err(LineFailure::Memory(refused)) => Err(AssemblyFailure::Memory(Shortage {
+            line,
+            refused,
+        })),
+        Err(LineFailure::Fault(kind)) => Err(AssemblyFailure::Fault(least_so_far(
+            layout.first,
+            line,
+            kind,
+        ))),
     }
 }
 
@@ -288,7 +307,7 @@ pub fn meaning(
     source: &[u8],
     layout: &Layout,
     kept: KeptLines,
-) -> Result<Vec<Placed>, Failure>
+) -> Result<Vec<Placed>, AssemblyFailure>
     requires laid { IsLaid layout.now.labels layout.now.place layout.now.first (layout_of source.now) }
     requires kept { AreKept kept (source_lines source.now) }
     ensures { Gives (λ v. v.items) 1 result (meaning_of source.now) }

@@ -7,10 +7,10 @@ ghost use Rattle.evm_asm.specs.Views.{view};
 ghost use Rattle.evm_asm.specs.Programs.{Spelled, nothing_spelled, with_bytes, repeated, with_repeated, number_bytes, nop_bytes, with_word, worded, spelled_item, spelled, program_bytes, noted};
 ghost use Rattle.evm_asm.specs.Places.{bytes_in};
 
-use crate::failure::{Failure, Shortage};
-use crate::item::{Item, Placed, TEXT_BASE};
+use crate::failure::{AssemblyFailure, Shortage};
+use crate::item::{Placed, SourceItem, TEXT_BASE};
 use crate::place::bytes_in;
-use evm_asm_parser::{Section, SourceFault, SourceFaultKind, Width, extend, push};
+use evm_asm_parser::{DataWidth, Section, SourceFault, SourceFaultKind, extend_bytes, push};
 use evm_isa::{Inst, encode};
 use evm_room::Refused;
 use std::alloc::Global;
@@ -38,8 +38,8 @@ fn push_bytes(out: &mut Output, section: Section, bytes: &[u8]) -> Result<(), Re
     ensures refused { IfErr result (λ asked. asked ≡ length bytes.now) }
 {
     match section {
-        Section::Text => extend(&mut out.text_bytes, bytes),
-        Section::Data => extend(&mut out.data_bytes, bytes),
+        Section::Text => extend_bytes(&mut out.text_bytes, bytes),
+        Section::Data => extend_bytes(&mut out.data_bytes, bytes),
     }
 }
 
@@ -49,7 +49,7 @@ fn push_repeated(bytes: &mut Vec<u8>, count: u64, unit: &[u8]) -> Result<(), Ref
     ensures refused { IfErr result (λ asked. asked ≡ length unit.now) }
 {
     for _ in 0..count {
-        extend(bytes, unit)?;
+        extend_bytes(bytes, unit)?;
     }
     Ok(())
 }
@@ -64,7 +64,12 @@ fn push_filling(out: &mut Output, section: Section, count: u64, unit: &[u8]) -> 
     }
 }
 
-fn push_number(out: &mut Output, section: Section, width: Width, value: u64) -> Result<(), Refused>
+fn push_number(
+    out: &mut Output,
+    section: Section,
+    width: DataWidth,
+    value: u64,
+) -> Result<(), Refused>
     ensures ok { OnOk result (view out.new ≡ with_bytes section (number_bytes (bytes_in width) value) (view out.old)) }
     ensures refused { IfErr result (λ asked. asked ≤ 8) }
 {
@@ -85,18 +90,18 @@ fn push_word(out: &mut Output, line: u64, instruction: &Inst, word: u32) -> Resu
         instruction: *instruction,
     };
     push(&mut out.lines, program_line)?;
-    extend(&mut out.text_bytes, &word.to_le_bytes())
+    extend_bytes(&mut out.text_bytes, &word.to_le_bytes())
 }
 
-fn push_instruction(out: &mut Output, line: u64, instruction: &Inst) -> Result<(), Failure>
+fn push_instruction(out: &mut Output, line: u64, instruction: &Inst) -> Result<(), AssemblyFailure>
     ensures { Gives (λ _. view out.new) 8 result (worded line instruction.now (encoded instruction.now) (view out.old)) }
 {
     match encode(*instruction) {
         Some(word) => match push_word(out, line, instruction, word) {
             Ok(()) => Ok(()),
-            Err(refused) => Err(Failure::Memory(Shortage { line, refused })),
+            Err(refused) => Err(AssemblyFailure::Memory(Shortage { line, refused })),
         },
-        None => Err(Failure::Fault(SourceFault {
+        None => Err(AssemblyFailure::Fault(SourceFault {
             line,
             kind: SourceFaultKind::RangeOfImmediate,
         })),
@@ -104,30 +109,30 @@ fn push_instruction(out: &mut Output, line: u64, instruction: &Inst) -> Result<(
 }
 
 /// What was pushed of no line of its own.
-fn noted(pushed: Result<(), Refused>) -> Result<(), Failure>
+fn noted(pushed: Result<(), Refused>) -> Result<(), AssemblyFailure>
     ensures { result ≡ noted pushed }
 {
     match pushed {
         Ok(()) => Ok(()),
-        Err(refused) => Err(Failure::Memory(Shortage { line: 1, refused })),
+        Err(refused) => Err(AssemblyFailure::Memory(Shortage { line: 1, refused })),
     }
 }
 
 #[tactic(auto, unfolding(crate::specs::Programs::spelled_item))]
-fn push_placed(out: &mut Output, section: Section, item: Item) -> Result<(), Failure>
+fn push_placed(out: &mut Output, section: Section, item: SourceItem) -> Result<(), AssemblyFailure>
     ensures { Gives (λ _. view out.new) 8 result (spelled_item section item (view out.old)) }
 {
     match item {
-        Item::Instruction(line, instruction) => push_instruction(out, line, &instruction),
-        Item::Number(width, value) => noted(push_number(out, section, width, value)),
-        Item::Zeros(count) => noted(push_filling(out, section, count, &[0])),
-        Item::Nops(count) => noted(push_filling(out, section, count, &[19, 0, 0, 0])),
+        SourceItem::Instruction(line, instruction) => push_instruction(out, line, &instruction),
+        SourceItem::Number(width, value) => noted(push_number(out, section, width, value)),
+        SourceItem::Zeros(count) => noted(push_filling(out, section, count, &[0])),
+        SourceItem::Nops(count) => noted(push_filling(out, section, count, &[19, 0, 0, 0])),
     }
 }
 
 /// The words and bytes of the items.
 #[tactic(auto, unfolding(crate::specs::Programs::spelled))]
-pub fn spell(alloc: Global, items: &[Placed]) -> Result<Output, Failure>
+pub fn spell(alloc: Global, items: &[Placed]) -> Result<Output, AssemblyFailure>
     ensures { Gives view 8 result (spelled items.now nothing_spelled) }
 {
     let mut out = Output {
@@ -156,6 +161,6 @@ pub fn image(text: Vec<u8>, data_bytes: &[u8]) -> Result<Vec<u8>, Refused>
     let mut bytes = text;
     let padding = (4096 - bytes.len() as u64 % 4096) % 4096;
     push_repeated(&mut bytes, padding, &[0])?;
-    extend(&mut bytes, data_bytes)?;
+    extend_bytes(&mut bytes, data_bytes)?;
     Ok(bytes)
 }

@@ -6,14 +6,14 @@ ghost use Rattle.evm_asm_parser.specs.Operands.{upper};
 ghost use Rattle.evm_asm.specs.Sources.{source_start};
 
 use evm_asm_parser::{
-    Labels, Mnemonic, Section, SourceFaultKind, Spot, Statement, Width, also, cut_word, is_sound,
-    mnemonic_named, skip_blanks, starts_with_name, statement_of, upper,
+    DataWidth, Labels, Mnemonic, Section, SourceFaultKind, Spot, Statement, also, cut_word,
+    is_sound, mnemonic_named, skip_blanks, starts_with_name, statement_of, upper,
 };
 use evm_isa::Shift;
 
 /// How far a program has come: the section in force, and the bytes of each so far.
 #[derive(Clone, Copy)]
-pub struct Place {
+pub struct SectionPlace {
     pub section: Section,
     pub text_size: u32,
     pub data_size: u32,
@@ -23,7 +23,7 @@ pub struct Place {
 const LIMIT: u64 = 8388608;
 
 /// The bytes so far of the section in force.
-pub fn offset(place: Place) -> u64
+pub fn offset(place: SectionPlace) -> u64
     ensures { result ≡ offset place }
 {
     match place.section {
@@ -33,10 +33,10 @@ pub fn offset(place: Place) -> u64
 }
 
 /// The place where a program begins.
-pub fn source_start() -> Place
+pub fn source_start() -> SectionPlace
     ensures { result ≡ source_start }
 {
-    Place {
+    SectionPlace {
         section: Section::Text,
         text_size: 0,
         data_size: 0,
@@ -44,7 +44,7 @@ pub fn source_start() -> Place
 }
 
 /// Where a label here is.
-pub fn here(place: Place) -> Spot
+pub fn here(place: SectionPlace) -> Spot
     ensures { result ≡ here place }
 {
     Spot {
@@ -57,18 +57,18 @@ pub fn here(place: Place) -> Spot
 }
 
 #[tactic(auto, unfolding(crate::specs::Places::grown))]
-fn grown(place: Place, size: u64) -> Result<Place, SourceFaultKind>
+fn grown(place: SectionPlace, size: u64) -> Result<SectionPlace, SourceFaultKind>
     ensures { result ≡ grown place size }
 {
     if size > LIMIT.saturating_sub(offset(place)) {
         return Err(SourceFaultKind::TooLarge);
     }
     match place.section {
-        Section::Text => Ok(Place {
+        Section::Text => Ok(SectionPlace {
             text_size: (u64::from(place.text_size) + size) as u32,
             ..place
         }),
-        Section::Data => Ok(Place {
+        Section::Data => Ok(SectionPlace {
             data_size: (u64::from(place.data_size) + size) as u32,
             ..place
         }),
@@ -117,13 +117,13 @@ pub fn needs_low_part(n: u64) -> bool
 }
 
 /// How many bytes a number of this width takes.
-pub fn bytes_in(width: Width) -> u64
+pub fn bytes_in(width: DataWidth) -> u64
     ensures { result ≡ bytes_in width }
 {
     match width {
-        Width::Byte => 1,
-        Width::Word => 4,
-        Width::Dword => 8,
+        DataWidth::Byte => 1,
+        DataWidth::Word => 4,
+        DataWidth::Dword => 8,
     }
 }
 
@@ -165,11 +165,14 @@ fn size_at(offset: u64, statement: Statement) -> u64
 
 /// The place behind a statement.
 #[tactic(auto, unfolding(crate::specs::Places::place_behind))]
-pub fn place_behind(place: Place, statement: Statement) -> Result<Place, SourceFaultKind>
+pub fn place_behind(
+    place: SectionPlace,
+    statement: Statement,
+) -> Result<SectionPlace, SourceFaultKind>
     ensures { result ≡ place_behind place statement }
 {
     match statement {
-        Statement::Section(section) => Ok(Place { section, ..place }),
+        Statement::Section(section) => Ok(SectionPlace { section, ..place }),
         _ => grown(place, size_at(offset(place), statement)),
     }
 }
@@ -189,7 +192,7 @@ pub fn is_directive(mnemonic: Mnemonic) -> bool
 }
 
 #[tactic(auto, unfolding(crate::specs::Places::may_stand))]
-fn may_stand(mnemonic: Mnemonic, place: Place) -> bool
+fn may_stand(mnemonic: Mnemonic, place: SectionPlace) -> bool
     ensures { result ≡ may_stand mnemonic place }
 {
     if is_directive(mnemonic) {
@@ -203,7 +206,7 @@ fn may_stand(mnemonic: Mnemonic, place: Place) -> bool
 
 /// The place, where this mnemonic may stand there.
 #[tactic(auto, unfolding(crate::specs::Places::placed))]
-fn placed(mnemonic: Mnemonic, place: Place) -> Result<Place, SourceFaultKind>
+fn placed(mnemonic: Mnemonic, place: SectionPlace) -> Result<SectionPlace, SourceFaultKind>
     ensures { result ≡ placed mnemonic place }
 {
     if may_stand(mnemonic, place) {
@@ -217,7 +220,7 @@ fn placed(mnemonic: Mnemonic, place: Place) -> Result<Place, SourceFaultKind>
 #[tactic(auto, unfolding(crate::specs::Places::statement_in))]
 pub fn statement_in(
     labels: &Labels,
-    place: Place,
+    place: SectionPlace,
     text: &[u8],
 ) -> Result<Statement, SourceFaultKind>
     ensures { result ≡ statement_in labels.now place text.now }

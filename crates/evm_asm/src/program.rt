@@ -11,7 +11,7 @@ ghost use Rattle.evm_asm.specs.Programs.{program_bytes};
 ghost use Rattle.evm_asm.specs.Bounds.{bytes_max};
 ghost use Rattle.evm_room.specs.Growth.{RefusedWithin};
 
-use crate::failure::{Failure, Shortage};
+use crate::failure::{AssemblyFailure, Shortage};
 use crate::item::address;
 use crate::layout::{Layout, lay_out};
 use crate::meaning::meaning;
@@ -108,14 +108,14 @@ fn finished(layout: Layout, out: Output) -> Result<Program, Refused>
 
 /// The same, or the fault or the growth that was refused.
 #[tactic(auto, unfolding(crate::specs::Assembled::program_of))]
-fn assembled(alloc: Global, source: &str) -> Result<Program, Failure>
+fn assembled(alloc: Global, source: &str) -> Result<Program, AssemblyFailure>
     // It gives up only where a growth was refused that is hardly greater than the source, or no greater than a program.
     ensures { Gives (λ p. p) (length source.now + bytes_max) result (program_of source.now) }
 {
     let source = source.as_bytes();
     let (layout, kept) = match lay_out(alloc, source) {
         Ok(laid) => laid,
-        Err(shortage) => return Err(Failure::Memory(shortage)),
+        Err(shortage) => return Err(AssemblyFailure::Memory(shortage)),
     };
     let items = match meaning(alloc, source, &layout, kept) {
         Ok(items) => items,
@@ -127,7 +127,7 @@ fn assembled(alloc: Global, source: &str) -> Result<Program, Failure>
     };
     match finished(layout, out) {
         Ok(program) => Ok(program),
-        Err(refused) => Err(Failure::Memory(Shortage { line: 1, refused })),
+        Err(refused) => Err(AssemblyFailure::Memory(Shortage { line: 1, refused })),
     }
 }
 
@@ -145,8 +145,8 @@ pub fn assemble(alloc: Global, source: &str) -> Result<Program, AsmFault>
     encoded_by_table();
     match assembled(alloc, source) {
         Ok(program) => Ok(program),
-        Err(Failure::Fault(fault)) => Err(fault.reported()),
-        Err(Failure::Memory(shortage)) => {
+        Err(AssemblyFailure::Fault(fault)) => Err(fault.reported()),
+        Err(AssemblyFailure::Memory(shortage)) => {
             shortage.refused.within();
             Err(AsmFault {
                 line: shortage.line,

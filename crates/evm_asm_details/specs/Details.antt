@@ -7,8 +7,8 @@ use Rattle.evm_asm_parser.specs.evm_asm_lexer.declared.fault.AsmFaultKind.{AsmFa
 use Rattle.evm_asm_parser.specs.evm_asm_lexer.declared.fault.AsmFaultKind.TheVariants.{BadToken, UnknownName, BadOperand, RangeOfImmediate}
 use Rattle.evm_asm_parser.specs.evm_asm_lexer.declared.mnemonic.Mnemonic.{Mnemonic as Named}
 use Rattle.evm_asm_parser.specs.evm_asm_lexer.declared.mnemonic.Mnemonic.TheVariants as names
-use Rattle.evm_asm_parser.specs.evm_asm_lexer.declared.mnemonic.Width.{Width}
-use Rattle.evm_asm_parser.specs.evm_asm_lexer.declared.mnemonic.Width.TheVariants.{Byte, Word, Dword}
+use Rattle.evm_asm_parser.specs.evm_asm_lexer.declared.mnemonic.DataWidth.{DataWidth}
+use Rattle.evm_asm_parser.specs.evm_asm_lexer.declared.mnemonic.DataWidth.TheVariants.{Byte, Word, Dword}
 use Rattle.evm_asm_parser.specs.evm_asm_lexer.Extensions.{extension_of}
 use Rattle.evm_asm_parser.specs.evm_asm_lexer.Names.{mnemonic_named}
 use Rattle.evm_asm_parser.specs.evm_asm_lexer.Text.{before, skip_blanks, first_word, behind_word, starts_with, bad_token}
@@ -80,7 +80,7 @@ abbrev pub slots_range : List Slot → Option SourceDetail
 slots_range [] = None
 slots_range (s ∷ slots) = first_detail (slot_range s) (slots_range slots)
 
-abbrev pub width_range : Width → SourceDetail
+abbrev pub width_range : DataWidth → SourceDetail
 width_range Byte = Range 128 255
 width_range Word = Range 2147483648 4294967295
 width_range Dword = Range 9223372036854775808 18446744073709551615

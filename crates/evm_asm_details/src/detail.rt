@@ -7,7 +7,7 @@ ghost use Rattle.evm_asm_parser.specs.Forms.{form};
 use crate::quoting::behind_lines;
 use evm_asm::{code_of, statement_text};
 use evm_asm_parser::{
-    AsmFault, AsmFaultKind, Extension, Mnemonic, Width, bad_token, before, behind_word,
+    AsmFault, AsmFaultKind, DataWidth, Extension, Mnemonic, bad_token, before, behind_word,
     extension_of, first_word, how_many, mnemonic_named, skip_blanks,
 };
 use evm_isa::ShiftOp;
@@ -109,19 +109,19 @@ fn operands_detail(mnemonic: Mnemonic, found: usize) -> Option<SourceDetail>
     }
 }
 
-fn width_range(width: Width) -> SourceDetail
+fn width_range(width: DataWidth) -> SourceDetail
     ensures { result ≡ width_range width }
 {
     match width {
-        Width::Byte => SourceDetail::Range {
+        DataWidth::Byte => SourceDetail::Range {
             below: 128,
             above: 255,
         },
-        Width::Word => SourceDetail::Range {
+        DataWidth::Word => SourceDetail::Range {
             below: 2147483648,
             above: 4294967295,
         },
-        Width::Dword => SourceDetail::Range {
+        DataWidth::Dword => SourceDetail::Range {
             below: 9223372036854775808,
             above: 18446744073709551615,
         },

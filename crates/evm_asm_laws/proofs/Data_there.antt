@@ -10,19 +10,19 @@ use Rattle.evm_isa.specs.Encoded.{encoded}
 use Rattle.evm_asm.specs.evm_asm_lexer.declared.mnemonic.Section.{Section as Part}
 use Rattle.evm_asm.specs.evm_asm_lexer.declared.mnemonic.Section.TheVariants.{Text, Data}
 use Rattle.evm_asm.specs.evm_asm_lexer.declared.source_fault.SourceFaultKind.{SourceFaultKind}
-use Rattle.evm_asm.specs.evm_asm_lexer.declared.mnemonic.Width.{Width}
+use Rattle.evm_asm.specs.evm_asm_lexer.declared.mnemonic.DataWidth.{DataWidth}
 use Rattle.evm_asm.specs.evm_asm_parser.Operands.{Spots, first_operand, other_operands}
 use Rattle.evm_asm.specs.evm_asm_parser.declared.statement.Statement.{Statement}
 use Rattle.evm_asm.specs.evm_asm_parser.declared.statement.Statement.TheVariants.{Numbers, Space, Align}
-use Rattle.evm_asm.specs.declared.item.Item.{Item}
-use Rattle.evm_asm.specs.declared.item.Item.TheVariants.{Instruction, Number, Zeros, Nops}
+use Rattle.evm_asm.specs.declared.item.SourceItem.{SourceItem}
+use Rattle.evm_asm.specs.declared.item.SourceItem.TheVariants.{Instruction, Number, Zeros, Nops}
 use Rattle.evm_asm.specs.declared.item.Placed.{Placed}
 use Rattle.evm_asm.specs.Places.{bytes_in, section_size, offset, here, statement_in, padding, is_text}
 use Rattle.evm_asm.specs.Items.{text_base, data_base, address_of_offset, with_item, value_in, number_pushed, with_numbers, address, operands, with_statement, and_then, layout_of, meaning_of, filling}
 use Rattle.evm_asm.specs.Programs.{Spelled, spelled, spelled_item, worded, repeated, number_bytes, nop_bytes, nothing_spelled}
 use Rattle.evm_asm.specs.Sizes.{size_of_text, size_of_data, place_before, Says}
 use Rattle.evm_asm_laws.specs.Standing.{gap, operand_at, HasNumber, filling_bytes, SpacesAreZeros, AlignmentsAreFilled}
-use Rattle.evm_asm.specs.declared.place.Place.{Place}
+use Rattle.evm_asm.specs.declared.place.SectionPlace.{SectionPlace}
 use Rattle.evm_asm.specs.Sources.{source_lines, code_of, statement_text, nothing_laid, laid}
 use Rattle.evm_asm.specs.Assembled.{Assembled, assembled, program_of}
 use Rattle.evm_asm.proofs.Statements_add_their_size.{data_of, text_in, data_in, item_longer, IsBalanced, Has, number_length, Adds, number_adds, item_comes, numbers_stay, statement_stays, padding_sized, item_size, length-repeated}
@@ -63,7 +63,7 @@ word_goes Text line i (Some w) s u h = (to_le_bytes w32 w, ap (λ (t : Spelled).
 word_goes Data line i (Some w) s u h = unmoved Data s u (ap (λ (t : Spelled). t.data_bytes) (sym (same_ok _ u h)))
 word_goes part line i None s u h = cc
 
-text_goes : (section : Part) (item : Item) (s u : Spelled) → spelled_item section item s ≡ Ok u → Goes Text s u
+text_goes : (section : Part) (item : SourceItem) (s u : Spelled) → spelled_item section item s ≡ Ok u → Goes Text s u
 unfolding spelled_item
 text_goes section (Instruction line i) s u h = word_goes Text line i (encoded i) s u h
 text_goes Text (Number width value) s u h = (number_bytes (bytes_in width) value, ap (λ (t : Spelled). t.text_bytes) (sym (same_ok _ u h)))
@@ -73,7 +73,7 @@ text_goes Data (Number width value) s u h = unmoved Text s u (ap (λ (t : Spelle
 text_goes Data (Zeros n) s u h = unmoved Text s u (ap (λ (t : Spelled). t.text_bytes) (sym (same_ok _ u h)))
 text_goes Data (Nops n) s u h = unmoved Text s u (ap (λ (t : Spelled). t.text_bytes) (sym (same_ok _ u h)))
 
-data_goes : (section : Part) (item : Item) (s u : Spelled) → spelled_item section item s ≡ Ok u → Goes Data s u
+data_goes : (section : Part) (item : SourceItem) (s u : Spelled) → spelled_item section item s ≡ Ok u → Goes Data s u
 unfolding spelled_item
 data_goes section (Instruction line i) s u h = word_goes Data line i (encoded i) s u h
 data_goes Data (Number width value) s u h = (number_bytes (bytes_in width) value, ap (λ (t : Spelled). t.data_bytes) (sym (same_ok _ u h)))
@@ -83,18 +83,18 @@ data_goes Text (Number width value) s u h = unmoved Data s u (ap (λ (t : Spelle
 data_goes Text (Zeros n) s u h = unmoved Data s u (ap (λ (t : Spelled). t.data_bytes) (sym (same_ok _ u h)))
 data_goes Text (Nops n) s u h = unmoved Data s u (ap (λ (t : Spelled). t.data_bytes) (sym (same_ok _ u h)))
 
-item_goes : (part section : Part) (item : Item) (s u : Spelled) → spelled_item section item s ≡ Ok u → Goes part s u
+item_goes : (part section : Part) (item : SourceItem) (s u : Spelled) → spelled_item section item s ≡ Ok u → Goes part s u
 item_goes Text section item s u h = text_goes section item s u h
 item_goes Data section item s u h = data_goes section item s u h
 
 -- the bytes of an item that is no instruction
-abbrev pub bytes_of_item : Item → List ℕ
+abbrev pub bytes_of_item : SourceItem → List ℕ
 bytes_of_item (Instruction line i) = []
 bytes_of_item (Number width value) = number_bytes (bytes_in width) value
 bytes_of_item (Zeros n) = repeated n (0 ∷ []) []
 bytes_of_item (Nops n) = repeated n nop_bytes []
 
-abbrev pub IsData : Item → Type 0
+abbrev pub IsData : SourceItem → Type 0
 IsData (Instruction line i) = ⊥
 IsData item = Unit {0}
 
@@ -104,7 +104,7 @@ repeated_is zero unit bytes = sym (append-nil bytes)
 repeated_is (suc n) unit bytes =
     repeated_is n unit (bytes ++ unit) ∙ append_assoc bytes unit (repeated n unit []) ∙ ap (λ (l : List ℕ). bytes ++ l) (sym (repeated_is n unit unit))
 
-item_adds : (part : Part) (item : Item) (s u : Spelled) → IsData item → spelled_item part item s ≡ Ok u → section_bytes part u ≡ section_bytes part s ++ bytes_of_item item
+item_adds : (part : Part) (item : SourceItem) (s u : Spelled) → IsData item → spelled_item part item s ≡ Ok u → section_bytes part u ≡ section_bytes part s ++ bytes_of_item item
 unfolding spelled_item
 item_adds part (Instruction line i) s u d h = absurd d
 item_adds Text (Number width value) s u d h = ap (λ (t : Spelled). t.text_bytes) (sym (same_ok _ u h))
@@ -134,7 +134,7 @@ comes_in wanted b = record {
   bytes_are = ap (λ (x : List ℕ). take (length wanted) x) (drop-append_seam b wanted) ∙ take-length wanted;
 }
 
-module _ (part : Part) (item : Item) (at : ℕ) where
+module _ (part : Part) (item : SourceItem) (at : ℕ) where
   -- the item is this, behind so many bytes of its section
   abbrev pub IsThis : ℕ → ℕ → Placed → Type 0
   IsThis t d p = (◌≡◌ {A = Placed} p (record { section = part; item = item })) × (bytes_of part t d ≡ at)
@@ -165,7 +165,7 @@ module _ (part : Part) (item : Item) (at : ℕ) where
       items_come_in ps step.0 t d step.2
       (subst (λ (m : ℕ). Has IsThis (length step.0.text_bytes) m ps) (sym longer.rest_is) (subst (λ (n : ℕ). Has IsThis n (length s.data_bytes + data_of p) ps) (sym longer.text_is) more))) k
 
-pub balanced_bytes : (part : Part) (place : Place) (a : List Placed) → IsBalanced place a → bytes_of part (text_in a) (data_in a) ≡ section_size part place
+pub balanced_bytes : (part : Part) (place : SectionPlace) (a : List Placed) → IsBalanced place a → bytes_of part (text_in a) (data_in a) ≡ section_size part place
 balanced_bytes Text place a h = h.text_is
 balanced_bytes Data place a h = h.rest_is
 
@@ -211,7 +211,7 @@ adds_bytes : (part : Part) (n : ℕ) (a b : List Placed) → Adds part n a b →
 adds_bytes Text n a b h = h.text_is
 adds_bytes Data n a b h = h.rest_is
 
-module _ (part : Part) (width : Width) (value at : ℕ) where
+module _ (part : Part) (width : DataWidth) (value at : ℕ) where
   -- the item is this number, behind so many bytes of its section
   abbrev pub IsThisNumber : ℕ → ℕ → Placed → Type 0
   IsThisNumber t d p = IsThis part (Number width value) at t d p
@@ -240,12 +240,12 @@ module _ (part : Part) (width : Width) (value at : ℕ) where
       let more = adds_bytes part (bytes_in width) a one.0 (number_adds labels size part width (first_operand text) a one.0 one.1) in
       numbers_come labels size n k (other_operands text) one.0 b (omega arith) one.2 v (omega (arith, more))
 
-module _ (source : List ℕ) (n k : ℕ) (width : Width) (value : ℕ) (h : HasNumber source n k width value) where
+module _ (source : List ℕ) (n k : ℕ) (width : DataWidth) (value : ℕ) (h : HasNumber source n k width value) where
   -- number k of line n, where the line is at a place
-  abbrev Number_at : Place → ℕ → ℕ → Placed → Type 0
+  abbrev Number_at : SectionPlace → ℕ → ℕ → Placed → Type 0
   Number_at place = IsThis place.section (Number width value) (offset place + k * bytes_in width)
 
-  number_comes_here : (xs : List (List ℕ)) (line : List ℕ) (rest : List (List ℕ)) → source_lines source ≡ xs ++ line ∷ rest → n ≡ length xs + 1 → (place next : Place) → place ≡ (laid nothing_laid xs).place
+  number_comes_here : (xs : List (List ℕ)) (line : List ℕ) (rest : List (List ℕ)) → source_lines source ≡ xs ++ line ∷ rest → n ≡ length xs + 1 → (place next : SectionPlace) → place ≡ (laid nothing_laid xs).place
       → (a b : List Placed) → IsBalanced place a → Line (layout_of source).labels (size_of_text source) n place next (statement_text (code_of line)) a b → Has (Number_at (place_before source n)) 0 0 b
   unfolding with_statement
   number_comes_here xs line rest split number place next is a b balanced l =
@@ -255,14 +255,14 @@ module _ (source : List ℕ) (n k : ℕ) (width : Width) (value : ℕ) (h : HasN
       let one : h.says.line ≡ line = same_some h.says.line line (sym h.says.is_line ∙ line_is source xs line rest split n number) in
       let text : List ℕ = statement_text (code_of line) in
       let reads : statement_in labels place text ≡ Ok (Numbers width h.count) =
-      subst (λ (p : Place). statement_in labels p text ≡ Ok (Numbers width h.count)) there
+      subst (λ (p : SectionPlace). statement_in labels p text ≡ Ok (Numbers width h.count)) there
       (subst (λ (t : List ℕ). statement_in labels (place_before source n) (statement_text (code_of t)) ≡ Ok (Numbers width h.count)) one h.says.reads) in
       let statement : l.statement ≡ Numbers width h.count = same_statement l.statement (Numbers width h.count) (sym l.reads ∙ reads) in
       let adds : with_statement labels size n place text (Numbers width h.count) a ≡ Ok b = subst (λ (s : Statement). with_statement labels size n place text s a ≡ Ok b) statement l.adds in
       let is_value : value_in labels size width (operand_at k (operands text)) ≡ Ok value =
       subst (λ (t : List ℕ). value_in labels size width (operand_at k (operands (statement_text (code_of t)))) ≡ Ok value) one h.is_value in
       let at : bytes_of place.section (text_in a) (data_in a) + k * bytes_in width ≡ offset place + k * bytes_in width = ap (λ (m : ℕ). m + k * bytes_in width) (balanced_bytes place.section place a balanced) in
-      subst (λ (p : Place). Has (Number_at p) 0 0 b) (sym there)
+      subst (λ (p : SectionPlace). Has (Number_at p) 0 0 b) (sym there)
       (numbers_come place.section width value (offset place + k * bytes_in width) labels size h.count k (operands text) a b h.within adds is_value at)
 
   meaning_has_number : (items : List Placed) → meaning_of source ≡ Ok items → Has (Number_at (place_before source n)) 0 0 items
@@ -275,7 +275,7 @@ module _ (source : List ℕ) (n k : ℕ) (width : Width) (value : ℕ) (h : HasN
       → take (bytes_in width) (drop (address (size_of_text source) (here (place_before source n)) - text_base + k * bytes_in width) p.bytes) ≡ number_bytes (bytes_in width) value
   unfolding program_of
   number_there p e =
-      let place : Place = place_before source n in
+      let place : SectionPlace = place_before source n in
       let meant = and_then_ok (meaning_of source) (λ items. and_then (spelled items nothing_spelled) (λ s. Ok (assembled (layout_of source).place.text_size (layout_of source).labels s))) p e in
       let spelt = and_then_ok (spelled meant.0 nothing_spelled) (λ s. Ok (assembled (layout_of source).place.text_size (layout_of source).labels s)) p meant.2 in
       let sizes = sizes_agree source meant.0 spelt.0 meant.1 spelt.1 in
@@ -288,12 +288,12 @@ module _ (source : List ℕ) (n k : ℕ) (width : Width) (value : ℕ) (h : HasN
 -- ---- the bytes of .space and .align stand at their line's place
 
 -- line n of a source adds one item of data at its place
-module _ (source : List ℕ) (n : ℕ) (statement : Statement) (item : Place → Item) (says : Says source n statement) (is_data : (place : Place) → IsData (item place))
-    (adds : (labels : Spots) (size j : ℕ) (place : Place) (text : List ℕ) (a b : List Placed) → with_statement labels size j place text statement a ≡ Ok b → with_item place.section (item place) a ≡ b) where
-  abbrev Item_at : Place → ℕ → ℕ → Placed → Type 0
+module _ (source : List ℕ) (n : ℕ) (statement : Statement) (item : SectionPlace → SourceItem) (says : Says source n statement) (is_data : (place : SectionPlace) → IsData (item place))
+    (adds : (labels : Spots) (size j : ℕ) (place : SectionPlace) (text : List ℕ) (a b : List Placed) → with_statement labels size j place text statement a ≡ Ok b → with_item place.section (item place) a ≡ b) where
+  abbrev Item_at : SectionPlace → ℕ → ℕ → Placed → Type 0
   Item_at place = IsThis place.section (item place) (offset place)
 
-  comes_here : (xs : List (List ℕ)) (line : List ℕ) (rest : List (List ℕ)) → source_lines source ≡ xs ++ line ∷ rest → n ≡ length xs + 1 → (place next : Place) → place ≡ (laid nothing_laid xs).place
+  comes_here : (xs : List (List ℕ)) (line : List ℕ) (rest : List (List ℕ)) → source_lines source ≡ xs ++ line ∷ rest → n ≡ length xs + 1 → (place next : SectionPlace) → place ≡ (laid nothing_laid xs).place
       → (a b : List Placed) → IsBalanced place a → Line (layout_of source).labels (size_of_text source) n place next (statement_text (code_of line)) a b → Has (Item_at (place_before source n)) 0 0 b
   comes_here xs line rest split number place next is a b balanced l =
       let labels = (layout_of source).labels in
@@ -302,11 +302,11 @@ module _ (source : List ℕ) (n : ℕ) (statement : Statement) (item : Place →
       let one : says.line ≡ line = same_some says.line line (sym says.is_line ∙ line_is source xs line rest split n number) in
       let text : List ℕ = statement_text (code_of line) in
       let reads : statement_in labels place text ≡ Ok statement =
-      subst (λ (p : Place). statement_in labels p text ≡ Ok statement) there
+      subst (λ (p : SectionPlace). statement_in labels p text ≡ Ok statement) there
       (subst (λ (t : List ℕ). statement_in labels (place_before source n) (statement_text (code_of t)) ≡ Ok statement) one says.reads) in
       let same : l.statement ≡ statement = same_statement l.statement statement (sym l.reads ∙ reads) in
       let added : with_statement labels size n place text statement a ≡ Ok b = subst (λ (s : Statement). with_statement labels size n place text s a ≡ Ok b) same l.adds in
-      subst (λ (p : Place). Has (Item_at p) 0 0 b) (sym there)
+      subst (λ (p : SectionPlace). Has (Item_at p) 0 0 b) (sym there)
       (subst (λ (c : List Placed). Has (Item_at place) 0 0 c) (adds labels size n place text a b added)
       (item_comes (Item_at place) place.section (item place) a (refl, balanced_bytes place.section place a balanced)))
 
@@ -320,7 +320,7 @@ module _ (source : List ℕ) (n : ℕ) (statement : Statement) (item : Place →
       → take (length (bytes_of_item (item (place_before source n)))) (drop (address (size_of_text source) (here (place_before source n)) - text_base) p.bytes) ≡ bytes_of_item (item (place_before source n))
   unfolding program_of
   item_there p e =
-      let place : Place = place_before source n in
+      let place : SectionPlace = place_before source n in
       let wanted : List ℕ = bytes_of_item (item place) in
       let meant = and_then_ok (meaning_of source) (λ items. and_then (spelled items nothing_spelled) (λ s. Ok (assembled (layout_of source).place.text_size (layout_of source).labels s))) p e in
       let spelt = and_then_ok (spelled meant.0 nothing_spelled) (λ s. Ok (assembled (layout_of source).place.text_size (layout_of source).labels s)) p meant.2 in
@@ -333,11 +333,11 @@ module _ (source : List ℕ) (n : ℕ) (statement : Statement) (item : Place →
       (section_in_all place.section wanted (size_of_text source) (size_of_data source) (offset place) 0 spelt.0 p.bytes sizes.0 sizes.1 image.0 image.1
       (subst (λ (m : ℕ). IsIn wanted m (section_bytes place.section spelt.0)) (sym at) stands))
 
-space_adds : (labels : Spots) (size j count : ℕ) (place : Place) (text : List ℕ) (a b : List Placed) → with_statement labels size j place text (Space count) a ≡ Ok b → with_item place.section (Zeros count) a ≡ b
+space_adds : (labels : Spots) (size j count : ℕ) (place : SectionPlace) (text : List ℕ) (a b : List Placed) → with_statement labels size j place text (Space count) a ≡ Ok b → with_item place.section (Zeros count) a ≡ b
 unfolding with_statement
 space_adds labels size j count place text a b h = same_items _ b h
 
-align_adds : (labels : Spots) (size j power : ℕ) (place : Place) (text : List ℕ) (a b : List Placed) → with_statement labels size j place text (Align power) a ≡ Ok b → with_item place.section (filling place power) a ≡ b
+align_adds : (labels : Spots) (size j power : ℕ) (place : SectionPlace) (text : List ℕ) (a b : List Placed) → with_statement labels size j place text (Align power) a ≡ Ok b → with_item place.section (filling place power) a ≡ b
 unfolding with_statement
 align_adds labels size j power place text a b h = same_items _ b h
 
@@ -348,7 +348,7 @@ spaces_are_zeros source p e n size says =
     let long : length (repeated size (0 ∷ []) []) ≡ size = omega (arith, length-repeated size (0 ∷ []) []) in
     subst (λ (m : ℕ). take m (drop (address (size_of_text source) (here (place_before source n)) - text_base) p.bytes) ≡ replicate size 0) long (there ∙ bytes)
 
-pub filling_data : (place : Place) (power : ℕ) → IsData (filling place power)
+pub filling_data : (place : SectionPlace) (power : ℕ) → IsData (filling place power)
 unfolding filling
 filling_data place power = by (is_text place.section && (place.text_size % 4 == 0 && nat_le 2 power))
   where
@@ -356,7 +356,7 @@ filling_data place power = by (is_text place.section && (place.text_size % 4 == 
     by true = tt
     by false = tt
 
-filling_is : (place : Place) (power : ℕ) → bytes_of_item (filling place power) ≡ filling_bytes place power
+filling_is : (place : SectionPlace) (power : ℕ) → bytes_of_item (filling place power) ≡ filling_bytes place power
 unfolding filling
 filling_is place power = by (is_text place.section && (place.text_size % 4 == 0 && nat_le 2 power))
   where
@@ -364,7 +364,7 @@ filling_is place power = by (is_text place.section && (place.text_size % 4 == 0 
     by true = refl
     by false = zeros (padding (offset place) power) []
 
-filling_long : (place : Place) (power : ℕ) → length (bytes_of_item (filling place power)) ≡ item_size (filling place power)
+filling_long : (place : SectionPlace) (power : ℕ) → length (bytes_of_item (filling place power)) ≡ item_size (filling place power)
 unfolding filling
 filling_long place power = by (is_text place.section && (place.text_size % 4 == 0 && nat_le 2 power))
   where
@@ -374,7 +374,7 @@ filling_long place power = by (is_text place.section && (place.text_size % 4 == 
 
 pub alignments_are_filled : AlignmentsAreFilled
 alignments_are_filled source p e n power says =
-    let place : Place = place_before source n in
+    let place : SectionPlace = place_before source n in
     let there = item_there source n (Align power) (λ place. filling place power) says (λ place. filling_data place power) (λ labels size j place text a b h. align_adds labels size j power place text a b h) p e in
     let long : length (bytes_of_item (filling place power)) ≡ padding (offset place) power = filling_long place power ∙ padding_sized place power in
     subst (λ (m : ℕ). take m (drop (address (size_of_text source) (here place) - text_base) p.bytes) ≡ filling_bytes place power) long (there ∙ filling_is place power)

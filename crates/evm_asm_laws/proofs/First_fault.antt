@@ -10,14 +10,14 @@ use Rattle.std.specs.Prelude.{IsOk}
 use Rattle.std.proofs.lemmas.List.{append-nil}
 use Rattle.evm_asm.specs.evm_asm_lexer.declared.source_fault.SourceFaultKind.{SourceFaultKind}
 use Rattle.evm_asm.specs.evm_asm_lexer.declared.mnemonic.Section.{Section as Part}
-use Rattle.evm_asm.specs.evm_asm_lexer.declared.mnemonic.Width.{Width}
+use Rattle.evm_asm.specs.evm_asm_lexer.declared.mnemonic.DataWidth.{DataWidth}
 use Rattle.evm_asm.specs.evm_asm_lexer.Faults.{◌>>=◌, least}
 use Rattle.evm_asm.specs.evm_asm_lexer.declared.source_fault.SourceFault.{SourceFault}
 use Rattle.evm_asm.specs.evm_asm_parser.declared.statement.Statement.{Statement}
 use Rattle.evm_asm.specs.evm_asm_parser.declared.statement.Statement.TheVariants.{Numbers, Space, Align}
 use Rattle.evm_asm.specs.evm_asm_parser.Operands.{Spots, first_operand, other_operands}
 use Rattle.evm_asm.specs.declared.item.Placed.{Placed}
-use Rattle.evm_asm.specs.declared.place.Place.{Place}
+use Rattle.evm_asm.specs.declared.place.SectionPlace.{SectionPlace}
 use Rattle.evm_asm.specs.Places.{place_behind, statement_in}
 use Rattle.evm_asm.specs.Items.{text_base, expanded, value_in, number_pushed, with_numbers, operands, with_statement, statement_meant, line_meant, meaning_or_fault, stop_at, unless_stopped, line_or_fault, layout_of, lines_meant, and_then, meaning_of}
 use Rattle.evm_asm_laws.specs.Least.{fault_in, lesser, line_fault, fault_at, IsFirstFault}
@@ -39,25 +39,25 @@ goes_on _ _ f g (values x y h) k = k x y
 goes_on _ _ f g (faults e) k = faults e
 
 module _ (labels : Spots) (size : ℕ) where
-  number_same : (part : Part) (width : Width) (text : List ℕ) (a b : List Placed) → Like Whatever (number_pushed labels size part width text a) (number_pushed labels size part width text b)
+  number_same : (part : Part) (width : DataWidth) (text : List ℕ) (a b : List Placed) → Like Whatever (number_pushed labels size part width text a) (number_pushed labels size part width text b)
   unfolding number_pushed
   number_same part width text a b = each_goes_on (value_in labels size width text) _ _ (λ v. values _ _ tt)
 
-  numbers_same : (part : Part) (width : Width) (n : ℕ) (text : List ℕ) (a b : List Placed) → Like Whatever (with_numbers labels size part width n text a) (with_numbers labels size part width n text b)
+  numbers_same : (part : Part) (width : DataWidth) (n : ℕ) (text : List ℕ) (a b : List Placed) → Like Whatever (with_numbers labels size part width n text a) (with_numbers labels size part width n text b)
   unfolding with_numbers
   numbers_same part width zero text a b = values a b tt
   numbers_same part width (suc n) text a b =
       goes_on _ _ (λ items. with_numbers labels size part width n (other_operands text) items) (λ items. with_numbers labels size part width n (other_operands text) items)
       (number_same part width (first_operand text) a b) (λ x y. numbers_same part width n (other_operands text) x y)
 
-  statement_same : (m n : ℕ) (place : Place) (text : List ℕ) (s : Statement) (a b : List Placed) → Like Whatever (with_statement labels size m place text s a) (with_statement labels size n place text s b)
+  statement_same : (m n : ℕ) (place : SectionPlace) (text : List ℕ) (s : Statement) (a b : List Placed) → Like Whatever (with_statement labels size m place text s a) (with_statement labels size n place text s b)
   unfolding with_statement
   statement_same m n place text (Numbers width count) a b = numbers_same place.section width count (operands text) a b
   statement_same m n place text (Space k) a b = values _ _ tt
   statement_same m n place text (Align power) a b = values _ _ tt
   statement_same m n place text s a b = each_goes_on (expanded size (text_base + place.text_size) s) _ _ (λ e. values _ _ tt)
 
-  line_same : (m n : ℕ) (place : Place) (text : List ℕ) (a b : List Placed) → Like Whatever (line_meant labels size m place text a) (line_meant labels size n place text b)
+  line_same : (m n : ℕ) (place : SectionPlace) (text : List ℕ) (a b : List Placed) → Like Whatever (line_meant labels size m place text a) (line_meant labels size n place text b)
   unfolding line_meant statement_meant
   line_same m n place text a b =
       each_goes_on (statement_in labels place text) _ _
@@ -67,7 +67,7 @@ alike_fault : {A : Type 0} (r s : Result A SourceFaultKind) → Like Whatever r 
 alike_fault _ _ (values a b h) = refl
 alike_fault _ _ (faults e) = refl
 
-pub line_fault_same : (labels : Spots) (size m n : ℕ) (place : Place) (text : List ℕ) (a b : List Placed) → fault_in (line_meant labels size m place text a) ≡ fault_in (line_meant labels size n place text b)
+pub line_fault_same : (labels : Spots) (size m n : ℕ) (place : SectionPlace) (text : List ℕ) (a b : List Placed) → fault_in (line_meant labels size m place text a) ≡ fault_in (line_meant labels size n place text b)
 line_fault_same labels size m n place text a b = alike_fault _ _ (line_same labels size m n place text a b)
 
 -- ---- the first line with a fault is told, with the least of its faults
@@ -183,11 +183,11 @@ module _ (source : List ℕ) (xs : List (List ℕ)) (line : List ℕ) (rest : Li
   unfolding laid
   whole_is = ap (λ (ls : List (List ℕ)). laid nothing_laid ls) split ∙ laid-append nothing_laid xs (line ∷ rest)
 
-  module _ (clean : (laid nothing_laid xs).first ≡ None) (n : ℕ) (place : Place) (number : n ≡ length xs + 1) (is : place ≡ (laid nothing_laid xs).place) (a : List Placed) where
+  module _ (clean : (laid nothing_laid xs).first ≡ None) (n : ℕ) (place : SectionPlace) (number : n ≡ length xs + 1) (is : place ≡ (laid nothing_laid xs).place) (a : List Placed) where
     abbrev found : Option SourceFaultKind
     found = (line_laid (laid nothing_laid xs).labels (laid nothing_laid xs).place (code_of line)).1.1
 
-    abbrev meant : Result (Place × List Placed) SourceFaultKind
+    abbrev meant : Result (SectionPlace × List Placed) SourceFaultKind
     meant = line_meant (layout_of source).labels (layout_of source).place.text_size n place (statement_text (code_of line)) a
 
     stopped : stop_at (layout_of source).first n ≡ fault_of_line n found
@@ -205,7 +205,7 @@ module _ (source : List ℕ) (xs : List (List ℕ)) (line : List ℕ) (rest : Li
         fault_is
         ∙ ap (λ (k : Option SourceFaultKind). lesser found k)
         (line_fault_same (layout_of source).labels (layout_of source).place.text_size 0 n (laid nothing_laid xs).place (statement_text (code_of line)) [] a
-        ∙ ap (λ (p : Place). fault_in (line_meant (layout_of source).labels (layout_of source).place.text_size n p (statement_text (code_of line)) a)) (sym is))
+        ∙ ap (λ (p : SectionPlace). fault_in (line_meant (layout_of source).labels (layout_of source).place.text_size n p (statement_text (code_of line)) a)) (sym is))
 
     pub refused : (f : SourceFault) → line_or_fault (layout_of source).labels (layout_of source).place.text_size (layout_of source).first n place (code_of line) a ≡ Err f
         → (f.line ≡ suc (length xs)) × (fault_at source (suc (length xs)) ≡ Some f.kind)
@@ -213,7 +213,7 @@ module _ (source : List ℕ) (xs : List (List ℕ)) (line : List ℕ) (rest : Li
         let meaning_or_fault = told_fault n found meant f (sym told_line ∙ h) in
         (omega (arith, meaning_or_fault.0), fault_found ∙ meaning_or_fault.1)
 
-    pub passed : (x : Place × List Placed) → line_or_fault (layout_of source).labels (layout_of source).place.text_size (layout_of source).first n place (code_of line) a ≡ Ok x
+    pub passed : (x : SectionPlace × List Placed) → line_or_fault (layout_of source).labels (layout_of source).place.text_size (layout_of source).first n place (code_of line) a ≡ Ok x
         → (x.0 ≡ (with_line_laid (laid nothing_laid xs) line).place) × ((with_line_laid (laid nothing_laid xs) line).first ≡ None) × (fault_at source (suc (length xs)) ≡ None)
     unfolding line_or_fault with_line_laid
     passed x h =
@@ -222,9 +222,9 @@ module _ (source : List ℕ) (xs : List (List ℕ)) (line : List ℕ) (rest : Li
         let size : ℕ = (layout_of source).place.text_size in
         let s : Laid = laid nothing_laid xs in
         let none : (with_line_laid s line).first ≡ None = ap (λ (o : Option SourceFault). first_fault o (s.lines + 1) found) clean ∙ ap (λ (k : Option SourceFaultKind). first_fault None (s.lines + 1) k) meaning_or_fault.1 in
-        let l = line_of_told labels size n None place (code_of line) a x refl (ap (λ (r : Result (Place × List Placed) SourceFaultKind). told_alone n r) meaning_or_fault.0) in
-        let there : Line labels size n s.place x.0 (statement_text (code_of line)) a x.1 = subst (λ (p : Place). Line labels size n p x.0 (statement_text (code_of line)) a x.1) is l in
-        (same_next size n s line labels x.0 a x.1 none there, none, fault_found ∙ ap (λ (k : Option SourceFaultKind). lesser k (fault_in meant)) meaning_or_fault.1 ∙ ap (λ (r : Result (Place × List Placed) SourceFaultKind). fault_in r) meaning_or_fault.0)
+        let l = line_of_told labels size n None place (code_of line) a x refl (ap (λ (r : Result (SectionPlace × List Placed) SourceFaultKind). told_alone n r) meaning_or_fault.0) in
+        let there : Line labels size n s.place x.0 (statement_text (code_of line)) a x.1 = subst (λ (p : SectionPlace). Line labels size n p x.0 (statement_text (code_of line)) a x.1) is l in
+        (same_next size n s line labels x.0 a x.1 none there, none, fault_found ∙ ap (λ (k : Option SourceFaultKind). lesser k (fault_in meant)) meaning_or_fault.1 ∙ ap (λ (r : Result (SectionPlace × List Placed) SourceFaultKind). fault_in r) meaning_or_fault.0)
 
 -- ---- a source is refused with the least fault of its first line that has any, and else means something
 
@@ -233,8 +233,8 @@ abbrev Tells : List ℕ → Result (List Placed) SourceFault → Type 0
 Tells source (Ok items) = (n : ℕ) → fault_at source n ≡ None
 Tells source (Err fault) = IsFirstFault source fault
 
-either_told : (source : List ℕ) (before : ℕ) (rest : List (List ℕ)) (t : Result (Place × List Placed) SourceFault) → ((f : SourceFault) → t ≡ Err f → IsFirstFault source f)
-    → ((x : Place × List Placed) → t ≡ Ok x → Tells source (lines_meant (layout_of source) before x.0 rest x.1)) → Tells source (and_then t (λ x. lines_meant (layout_of source) before x.0 rest x.1))
+either_told : (source : List ℕ) (before : ℕ) (rest : List (List ℕ)) (t : Result (SectionPlace × List Placed) SourceFault) → ((f : SourceFault) → t ≡ Err f → IsFirstFault source f)
+    → ((x : SectionPlace × List Placed) → t ≡ Ok x → Tells source (lines_meant (layout_of source) before x.0 rest x.1)) → Tells source (and_then t (λ x. lines_meant (layout_of source) before x.0 rest x.1))
 either_told source before rest (Ok x) h k = k x refl
 either_told source before rest (Err f) h k = h f refl
 
@@ -242,7 +242,7 @@ one_line_more : (source : List ℕ) (m : ℕ) → ((n : ℕ) → n < suc m → f
 one_line_more source m h k n less =
     ⊎_elim (λ (lt : n < suc m). h n lt) (λ (le : suc m ≤ n). let e : suc m ≡ n = omega arith in subst (λ (i : ℕ). fault_at source i ≡ None) e k) (cases_lt n (suc m))
 
-told : (source : List ℕ) (xs rest : List (List ℕ)) → source_lines source ≡ xs ++ rest → (laid nothing_laid xs).first ≡ None → (before : ℕ) (place : Place) → before ≡ length xs → place ≡ (laid nothing_laid xs).place
+told : (source : List ℕ) (xs rest : List (List ℕ)) → source_lines source ≡ xs ++ rest → (laid nothing_laid xs).first ≡ None → (before : ℕ) (place : SectionPlace) → before ≡ length xs → place ≡ (laid nothing_laid xs).place
     → ((n : ℕ) → n < suc (length xs) → fault_at source n ≡ None) → (a : List Placed) → Tells source (lines_meant (layout_of source) before place rest a)
 unfolding lines_meant
 told source xs [] split clean before place number is none a = λ n.

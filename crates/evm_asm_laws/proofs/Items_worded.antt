@@ -20,7 +20,7 @@ use Rattle.evm_asm.specs.evm_asm_lexer.Text.{skip_blanks, first_word, behind_wor
 use Rattle.evm_asm.specs.evm_asm_lexer.Names.{mnemonic_named}
 use Rattle.evm_asm.specs.evm_asm_lexer.declared.source_fault.SourceFault.{SourceFault}
 use Rattle.evm_asm.specs.evm_asm_lexer.declared.mnemonic.Section.{Section as Part}
-use Rattle.evm_asm.specs.evm_asm_lexer.declared.mnemonic.Width.{Width}
+use Rattle.evm_asm.specs.evm_asm_lexer.declared.mnemonic.DataWidth.{DataWidth}
 use Rattle.evm_asm.specs.evm_asm_lexer.Faults.{◌>>=◌}
 use Rattle.evm_asm.specs.evm_asm_parser.declared.statement.Statement.{Statement}
 use Rattle.evm_asm.specs.evm_asm_parser.declared.statement.Statement.TheVariants.{Nothing, One, Branch, Jump, LoadImmediate, LoadAddress, Section, Numbers, Space, Align}
@@ -30,14 +30,14 @@ use Rattle.evm_asm.specs.evm_asm_parser.Statements.{name_or_fault, operand_in, s
 use Rattle.evm_asm.proofs.evm_asm_parser.Outcomes.{any_ok, either_ok, also_ok, tested_ok, read_ok}
 use Rattle.evm_asm.proofs.evm_asm_parser.Forms_hold.{Makes, either_makes, statement_holds}
 use Rattle.evm_asm.specs.evm_asm_parser.declared.spot.Spot.{Spot}
-use Rattle.evm_asm.specs.declared.place.Place.{Place}
+use Rattle.evm_asm.specs.declared.place.SectionPlace.{SectionPlace}
 use Rattle.evm_asm.specs.Places.{placed, of_mnemonic, statement_in, is_small, low_word, low_part, high_part, needs_low_part, offset, padding, place_behind, is_text}
 use Rattle.evm_asm_laws.specs.Wording.{HasWord, HasItsWord, EveryItemHasItsWord, SpellingNeverFails, RefusedAsMeant}
 use Rattle.evm_asm.specs.declared.item.Expansion.{Expansion}
 use Rattle.evm_asm.specs.declared.item.Expansion.TheVariants.{Empty, Single, Double}
 use Rattle.evm_asm.specs.Items.{address, distance, distance_to, load_immediate, load_address_by, load_address, expanded, text_base, with_item, with_instructions, value_in, number_pushed, with_numbers, filling, operands, with_statement, statement_meant, line_meant, meaning_or_fault, and_then, line_or_fault, lines_meant, layout_of, meaning_of}
-use Rattle.evm_asm.specs.declared.item.Item.{Item}
-use Rattle.evm_asm.specs.declared.item.Item.TheVariants.{Instruction, Number, Zeros, Nops}
+use Rattle.evm_asm.specs.declared.item.SourceItem.{SourceItem}
+use Rattle.evm_asm.specs.declared.item.SourceItem.TheVariants.{Instruction, Number, Zeros, Nops}
 use Rattle.evm_asm.specs.declared.item.Placed.{Placed}
 use Rattle.evm_asm.specs.Sources.{Laid, source_start, source_lines, code_of, statement_text}
 use Rattle.evm_asm.specs.Programs.{Spelled, nothing_spelled, with_word, worded, spelled_item, spelled}
@@ -140,11 +140,11 @@ forms_fit count names.Global = λ v h. tt
 statement_fit : (labels : Spots) (m : Mnemonic) (text : List ℕ) → IfOk (statement_of labels m text) IsFit
 statement_fit labels m text = statement_holds labels Fits (operand_fits labels) IsFit m text (forms_fit (how_many text) m)
 
-of_mnemonic_fit : (labels : Spots) (place : Place) (o : Option Mnemonic) (text : List ℕ) → IfOk (of_mnemonic labels place o text) IsFit
+of_mnemonic_fit : (labels : Spots) (place : SectionPlace) (o : Option Mnemonic) (text : List ℕ) → IfOk (of_mnemonic labels place o text) IsFit
 of_mnemonic_fit labels place (Some m) text = also_ok (statement_of labels m text) (placed m place) IsFit (statement_fit labels m text)
 of_mnemonic_fit labels place None text = tt
 
-pub statement_in_fit : (labels : Spots) (place : Place) (text : List ℕ) → IfOk (statement_in labels place text) IsFit
+pub statement_in_fit : (labels : Spots) (place : SectionPlace) (text : List ℕ) → IfOk (statement_in labels place text) IsFit
 unfolding statement_in
 statement_in_fit labels place text =
     either_ok (not (is_sound false text)) (Err BadToken) _ IsFit tt
@@ -243,7 +243,7 @@ AllSpellable items = All IsSpellable items
 
 -- ---- one line
 
-pushed : (part : Part) (i : Item) (so_far : List Placed) → HasItsWord i → AllSpellable so_far → AllSpellable (with_item part i so_far)
+pushed : (part : Part) (i : SourceItem) (so_far : List Placed) → HasItsWord i → AllSpellable so_far → AllSpellable (with_item part i so_far)
 pushed part i so_far h all = All-push IsSpellable so_far (record { section = part; item = i }) all h
 
 instructions_pushed : (line : ℕ) (e : Expansion) (so_far : List Placed) → HaveWords e → AllSpellable so_far → AllSpellable (with_instructions line e so_far)
@@ -253,14 +253,14 @@ instructions_pushed line (Single a) so_far h all = pushed section.Text (Instruct
 instructions_pushed line (Double a b) so_far h all =
     pushed section.Text (Instruction line b) _ h.1 (pushed section.Text (Instruction line a) so_far h.0 all)
 
-value_pushed : (labels : Spots) (text_size : ℕ) (part : Part) (width : Width) (text : List ℕ) (so_far : List Placed)
+value_pushed : (labels : Spots) (text_size : ℕ) (part : Part) (width : DataWidth) (text : List ℕ) (so_far : List Placed)
     → AllSpellable so_far → IfOk (number_pushed labels text_size part width text so_far) AllSpellable
 unfolding number_pushed
 value_pushed labels text_size part width text so_far all =
     read_ok (value_in labels text_size width text) (λ v. Ok (with_item part (Number width v) so_far)) (λ _. Unit {0}) AllSpellable
     (any_ok (value_in labels text_size width text)) (λ v _. pushed part (Number width v) so_far tt all)
 
-values_pushed : (labels : Spots) (text_size : ℕ) (part : Part) (width : Width) (n : ℕ) (text : List ℕ) (so_far : List Placed)
+values_pushed : (labels : Spots) (text_size : ℕ) (part : Part) (width : DataWidth) (n : ℕ) (text : List ℕ) (so_far : List Placed)
     → AllSpellable so_far → IfOk (with_numbers labels text_size part width n text so_far) AllSpellable
 unfolding with_numbers
 values_pushed labels text_size part width zero text so_far all = all
@@ -268,12 +268,12 @@ values_pushed labels text_size part width (suc n) text so_far all =
     read_ok (number_pushed labels text_size part width (first_operand text) so_far) (with_numbers labels text_size part width n (other_operands text)) AllSpellable AllSpellable
     (value_pushed labels text_size part width (first_operand text) so_far all) (λ items h. values_pushed labels text_size part width n (other_operands text) items h)
 
-filling_spellable : (place : Place) (power : ℕ) (t : Bool)
+filling_spellable : (place : SectionPlace) (power : ℕ) (t : Bool)
     → HasItsWord (cond t (Nops (padding (offset place) power / 4)) (Zeros (padding (offset place) power)))
 filling_spellable place power true = tt
 filling_spellable place power false = tt
 
-filling_pushed : (place : Place) (power : ℕ) (so_far : List Placed) → AllSpellable so_far → AllSpellable (with_item place.section (filling place power) so_far)
+filling_pushed : (place : SectionPlace) (power : ℕ) (so_far : List Placed) → AllSpellable so_far → AllSpellable (with_item place.section (filling place power) so_far)
 unfolding filling
 filling_pushed place power so_far all =
     pushed place.section (filling place power) so_far (filling_spellable place power (is_text place.section && (place.text_size % 4 == 0 && nat_le 2 power))) all
@@ -284,7 +284,7 @@ becomes text_size line at statement so_far h all =
     read_ok (expanded text_size at statement) (λ e. Ok (with_instructions line e so_far)) HaveWords AllSpellable
     (expanded_worded text_size at statement h) (λ e k. instructions_pushed line e so_far k all)
 
-statement_pushed : (labels : Spots) (text_size line : ℕ) (place : Place) (text : List ℕ) (statement : Statement) (so_far : List Placed)
+statement_pushed : (labels : Spots) (text_size line : ℕ) (place : SectionPlace) (text : List ℕ) (statement : Statement) (so_far : List Placed)
     → IsFit statement → AllSpellable so_far → IfOk (with_statement labels text_size line place text statement so_far) AllSpellable
 unfolding with_statement
 statement_pushed labels text_size line place text (Numbers width count) so_far h all =
@@ -293,7 +293,7 @@ statement_pushed labels text_size line place text (Space size) so_far h all = pu
 statement_pushed labels text_size line place text (Align power) so_far h all = filling_pushed place power so_far all
 statement_pushed labels text_size line place text statement so_far h all = becomes text_size line (text_base + place.text_size) statement so_far h all
 
-line_pushed : (labels : Spots) (text_size line : ℕ) (place : Place) (text : List ℕ) (so_far : List Placed)
+line_pushed : (labels : Spots) (text_size line : ℕ) (place : SectionPlace) (text : List ℕ) (so_far : List Placed)
     → AllSpellable so_far → IfOk (line_meant labels text_size line place text so_far) (λ x. AllSpellable x.1)
 unfolding line_meant statement_meant
 line_pushed labels text_size line place text so_far all =
@@ -304,7 +304,7 @@ line_pushed labels text_size line place text so_far all =
 
 -- ---- the lines of a source
 
-lines_pushed : (l : Laid) (before : ℕ) (place : Place) (lines : List (List ℕ)) (so_far : List Placed)
+lines_pushed : (l : Laid) (before : ℕ) (place : SectionPlace) (lines : List (List ℕ)) (so_far : List Placed)
     → AllSpellable so_far → IfOk (lines_meant l before place lines so_far) AllSpellable
 unfolding lines_meant line_or_fault
 lines_pushed l before place [] so_far all = all
@@ -323,7 +323,7 @@ every_item_has_its_word source items h = IfOk-at_ok AllSpellable h (meaning_spel
 
 -- ---- the words
 
-item_spelled : (part : Part) (i : Item) (s : Spelled) → HasItsWord i → (u : Spelled) × (spelled_item part i s ≡ Ok u)
+item_spelled : (part : Part) (i : SourceItem) (s : Spelled) → HasItsWord i → (u : Spelled) × (spelled_item part i s ≡ Ok u)
 unfolding spelled_item
 item_spelled part (Instruction line i) s h = (with_word line i h.0 s, ap (λ (o : Option ℕ). worded line i o s) h.1)
 item_spelled part (Number width value) s h = (_, refl)

@@ -10,7 +10,7 @@ use Rattle.evm_asm.specs.evm_asm_lexer.Text.{before, after, has_byte}
 use Rattle.evm_asm.specs.evm_asm_lexer.Names.{named}
 use Rattle.evm_asm.specs.evm_asm_parser.declared.spot.Spot.{Spot}
 use Rattle.evm_asm.specs.evm_asm_parser.Operands.{Spots, name_in}
-use Rattle.evm_asm.specs.declared.place.Place.{Place}
+use Rattle.evm_asm.specs.declared.place.SectionPlace.{SectionPlace}
 use Rattle.evm_asm.specs.Places.{here}
 use Rattle.evm_asm.specs.Sources.{source_lines, code_of, label_at, behind_labels, Defined, with_label, defined, outcome, measured, line_defined, line_laid, Laid, nothing_laid, with_line_laid, laid, statement_text}
 use Rattle.evm_asm.specs.Items.{address, and_then, layout_of, meaning_of}
@@ -138,7 +138,7 @@ few (suc j) text (Some first) label e h =
     let others = few j first.1 (label_at first.1) label refl (ap (λ (t : List ℕ). label_at t) (sym (one_label j text first.0 first.1 e)) ∙ h) in
     omega arith
 
-pub once_told : (place : Place) (twice : Bool) (r : Result Place SourceFaultKind) → (outcome place twice r).1 ≡ None → twice ≡ false
+pub once_told : (place : SectionPlace) (twice : Bool) (r : Result SectionPlace SourceFaultKind) → (outcome place twice r).1 ≡ None → twice ≡ false
 once_told place false r h = refl
 once_told place true (Ok next) h = cc
 once_told place true (Err kind) h = cc
@@ -174,7 +174,7 @@ label_found source n name h none =
     let there : s.place ≡ place_before source n = sym (place_is source split.0 h.line split.1 split.2 n number) in
     ap (λ (l : Laid). named l.labels name) whole
     ∙ lines_keep (with_line_laid s h.line) split.1 name (here s.place) (line_found s h.line h.others name h.behind clean h.is_label)
-    ∙ ap (λ (p : Place). Some (here p)) there
+    ∙ ap (λ (p : SectionPlace). Some (here p)) there
 
 pub labels_found : (source : List ℕ) (p : Assembled) → program_of source ≡ Ok p → (n : ℕ) (name : List ℕ) → HasLabel source n name
     → named p.labels name ≡ Some (address (size_of_text source) (here (place_before source n)))

@@ -7,8 +7,8 @@ use Rattle.evm_asm.specs.evm_asm_lexer.Faults.{source_number, ◌>>=◌}
 use Rattle.evm_asm.specs.evm_asm_parser.declared.statement.Statement.{Statement}
 use Rattle.evm_asm.specs.evm_asm_parser.declared.statement.Statement.TheVariants.{Branch, Jump, LoadAddress, Numbers}
 use Rattle.evm_asm.specs.evm_asm_parser.Operands.{Spots}
-use Rattle.evm_asm.specs.evm_asm_parser.Statements.{Reading}
-use Rattle.evm_asm.specs.declared.place.Place.{Place}
+use Rattle.evm_asm.specs.evm_asm_parser.Statements.{StatementReading}
+use Rattle.evm_asm.specs.declared.place.SectionPlace.{SectionPlace}
 use Rattle.evm_asm.specs.declared.item.Expansion.{Expansion}
 use Rattle.evm_asm.specs.declared.item.Placed.{Placed}
 use Rattle.evm_asm.specs.Places.{place_behind, statement_in}
@@ -24,7 +24,7 @@ use Rattle.evm_asm_laws.proofs.Labels_found.{label_twice}
 
 -- ---- what is wrong with a statement that was read
 
-module _ (labels : Spots) (size : ℕ) (place : Place) (text : List ℕ) where
+module _ (labels : Spots) (size : ℕ) (place : SectionPlace) (text : List ℕ) where
   -- a label that is too far, or that no line defines
   abbrev LabelFault : Statement → SourceFaultKind → Type 0
   LabelFault s kind = Only RangeOfImmediate (IsFar size (text_base + place.text_size) s) kind ⊎ Only LabelMissing (LacksLabel labels text s) kind
@@ -65,8 +65,8 @@ module _ (labels : Spots) (size : ℕ) (place : Place) (text : List ℕ) where
   at_most_six s kind w =
       ⊎_elim (λ x. subst (λ (k : SourceFaultKind). source_number k ≤ 6) (sym x.0) (omega arith)) (λ x. subst (λ (k : SourceFaultKind). source_number k ≤ 6) (sym x.0) (omega arith)) w
 
-  placed_by : (s : Statement) (w : Result (List Placed) SourceFaultKind) (b : Result Place SourceFaultKind) → IsLeast (LabelFault s) (fault_in w) → IsLeast (Only TooLarge (place_behind place s ≡ Err TooLarge)) (fault_in b)
-      → IsLeast (λ kind. LabelFault s kind ⊎ Only TooLarge (place_behind place s ≡ Err TooLarge) kind) (fault_in {A = Place × List Placed} (w >>= λ items. b >>= λ next. Ok (next, items)))
+  placed_by : (s : Statement) (w : Result (List Placed) SourceFaultKind) (b : Result SectionPlace SourceFaultKind) → IsLeast (LabelFault s) (fault_in w) → IsLeast (Only TooLarge (place_behind place s ≡ Err TooLarge)) (fault_in b)
+      → IsLeast (λ kind. LabelFault s kind ⊎ Only TooLarge (place_behind place s ≡ Err TooLarge) kind) (fault_in {A = SectionPlace × List Placed} (w >>= λ items. b >>= λ next. Ok (next, items)))
   placed_by s (Err f) b h k = (
     inl h.0,
     λ kind w. ⊎_elim (λ x. h.1 kind x)
@@ -89,12 +89,12 @@ module _ (labels : Spots) (size : ℕ) (place : Place) (text : List ℕ) where
   Labelling kind = Only RangeOfImmediate (Said labels place text (IsFar size (text_base + place.text_size))) kind ⊎ Only LabelMissing (Said labels place text (LacksLabel labels text)) kind
 
   said_it : (s : Statement) (P : Statement → Type 0) → statement_in labels place text ≡ Ok s → Said labels place text P → P s
-  said_it s P e x = let both : ◌≡◌ {A = Reading} (Ok x.0) (Ok s) = sym x.1 ∙ e in let same : x.0 ≡ s = cc in subst P same x.2
+  said_it s P e x = let both : ◌≡◌ {A = StatementReading} (Ok x.0) (Ok s) = sym x.1 ∙ e in let same : x.0 ≡ s = cc in subst P same x.2
 
   unsaid : (f : SourceFaultKind) (P : Statement → Type 0) → statement_in labels place text ≡ Err f → Said labels place text P → ⊥
-  unsaid f P e x = let wrong : ◌≡◌ {A = Reading} (Ok x.0) (Err f) = sym x.1 ∙ e in cc
+  unsaid f P e x = let wrong : ◌≡◌ {A = StatementReading} (Ok x.0) (Err f) = sym x.1 ∙ e in cc
 
-  measured_by : (r : Reading) → statement_in labels place text ≡ r → IsLeast (ReadingFault place text) (fault_in r) → IsLeast (λ kind. ReadingFault place text kind ⊎ Large kind) (fault_in (r >>= place_behind place))
+  measured_by : (r : StatementReading) → statement_in labels place text ≡ r → IsLeast (ReadingFault place text) (fault_in r) → IsLeast (λ kind. ReadingFault place text kind ⊎ Large kind) (fault_in (r >>= place_behind place))
   measured_by (Err f) e h = either_least (ReadingFault place text) Large (Some f) None h (λ kind w. unsaid f _ e w.1)
   measured_by (Ok s) e h =
       either_least (ReadingFault place text) Large None (fault_in (place_behind place s)) h
@@ -104,7 +104,7 @@ module _ (labels : Spots) (size : ℕ) (place : Place) (text : List ℕ) where
   unfolding measured
   measured_least = measured_by (statement_in labels place text) refl (reading_least labels place text)
 
-  meant_by : (line : ℕ) (r : Reading) → statement_in labels place text ≡ r → IsLeast (ReadingFault place text) (fault_in r)
+  meant_by : (line : ℕ) (r : StatementReading) → statement_in labels place text ≡ r → IsLeast (ReadingFault place text) (fault_in r)
       → IsLeast (λ kind. ReadingFault place text kind ⊎ (Labelling kind ⊎ Large kind)) (fault_in (r >>= λ s. statement_meant labels size line place text s []))
   meant_by line (Err f) e h =
       either_least (ReadingFault place text) (λ kind. Labelling kind ⊎ Large kind) (Some f) None h
@@ -120,7 +120,7 @@ module _ (labels : Spots) (size : ℕ) (place : Place) (text : List ℕ) where
   unfolding line_meant
   meant_least line = meant_by line (statement_in labels place text) refl (reading_least labels place text)
 
-outcome_fault : (place : Place) (t : Bool) (r : Result Place SourceFaultKind) → lesser (cond t (Some LabelTwice) None) (fault_in r) ≡ (outcome place t r).1
+outcome_fault : (place : SectionPlace) (t : Bool) (r : Result SectionPlace SourceFaultKind) → lesser (cond t (Some LabelTwice) None) (fault_in r) ≡ (outcome place t r).1
 outcome_fault place false (Ok next) = refl
 outcome_fault place false (Err kind) = refl
 outcome_fault place true (Ok next) = refl
@@ -146,7 +146,7 @@ module _ (whole : Laid) (earlier : List (List ℕ)) (line : List ℕ) where
       subst (IsLeast (λ kind. Only LabelTwice Twice kind ⊎ (ReadingFault before.place (text_behind_labels line) kind ⊎ Large whole.labels whole.place.text_size before.place (text_behind_labels line) kind)))
       (outcome_fault before.place twice (measured known before.place (text_behind_labels line)))
       (either_least (Only LabelTwice Twice) _ _ _ (let told = label_twice earlier line in twice_least twice Twice told.0 told.1)
-      (subst (λ (r : Result Place SourceFaultKind). IsLeast (λ kind. ReadingFault before.place (text_behind_labels line) kind ⊎ Large whole.labels whole.place.text_size before.place (text_behind_labels line) kind) (fault_in r)) same
+      (subst (λ (r : Result SectionPlace SourceFaultKind). IsLeast (λ kind. ReadingFault before.place (text_behind_labels line) kind ⊎ Large whole.labels whole.place.text_size before.place (text_behind_labels line) kind) (fault_in r)) same
       (measured_least whole.labels whole.place.text_size before.place (text_behind_labels line))))
 
   abbrev All : SourceFaultKind → Type 0

@@ -3,8 +3,8 @@ use Rattle.std.proofs.Common.{◌≡◌, ◌≢◌, ◌∙◌, ◌<◌, ◌≤�
 use Rattle.std.proofs.lemmas.Bool.{leb-true, leb-false, eqb-true, eqb-false}
 use Rattle.evm_asm.specs.evm_asm_lexer.declared.source_fault.SourceFaultKind.{SourceFaultKind}
 use Rattle.evm_asm.specs.evm_asm_lexer.declared.source_fault.SourceFaultKind.TheVariants.{UnknownName, BadOperand, RangeOfImmediate}
-use Rattle.evm_asm.specs.evm_asm_lexer.declared.mnemonic.Width.{Width}
-use Rattle.evm_asm.specs.evm_asm_lexer.declared.mnemonic.Width.TheVariants.{Byte, Word, Dword}
+use Rattle.evm_asm.specs.evm_asm_lexer.declared.mnemonic.DataWidth.{DataWidth}
+use Rattle.evm_asm.specs.evm_asm_lexer.declared.mnemonic.DataWidth.TheVariants.{Byte, Word, Dword}
 use Rattle.evm_asm.specs.evm_asm_lexer.declared.mnemonic.Mnemonic.{Mnemonic}
 use Rattle.evm_asm.specs.evm_asm_lexer.Characters.{left_parenthesis, right_parenthesis}
 use Rattle.evm_asm.specs.evm_asm_lexer.Faults.{source_number, least, both, ◌>>=◌}
@@ -13,7 +13,7 @@ use Rattle.evm_asm.specs.evm_asm_lexer.Names.{register_named}
 use Rattle.evm_asm.specs.evm_asm_parser.declared.operand.Number.{Number}
 use Rattle.evm_asm.specs.evm_asm_parser.Operands.{Spots, first_operand, other_operands, how_many, counted, is_blank_text, name_in, known, named_register, register_in, labelled, label_in, number_in, integer, ranged, integer_in, immediate_in, offset_in, base_in, address_in, full_address_in, natural, limited, natural_in, upper, upper_in, wrapped, number_datum, label_datum, datum_of, datum_in}
 use Rattle.evm_asm.specs.evm_asm_parser.Forms.{Slot, Register, Integer, Natural, Upper, Label, Address, FullAddress, Name, Form, Each, Many, form}
-use Rattle.evm_asm.specs.evm_asm_parser.Statements.{Reading, name_or_fault, operand_in, operands_in, also, with_data, said, statement_of}
+use Rattle.evm_asm.specs.evm_asm_parser.Statements.{StatementReading, name_or_fault, operand_in, operands_in, also, with_data, said, statement_of}
 use Rattle.evm_asm_laws.specs.Least.{fault_in, lesser}
 use Rattle.evm_asm_laws.specs.HasFault.{IsNoRegister, IsOutside, offset_text, Unknown, Misfit, OutOfRange, SomePlace, SomeOperand, IsNoDatum, IsDatumOutside, HasUnknownRegister, HasMisfit, HasNumberOutside}
 use Rattle.evm_asm.specs.evm_asm_parser.declared.statement.Datum.TheVariants as datum
@@ -317,7 +317,7 @@ operands_least labels (slot ∷ next ∷ slots) text =
     (both_fault (operand_in labels slot (first_operand text)) (operands_in labels (next ∷ slots) (other_operands text)))
     (three_joined _ _ _ _ _ _ _ _ (operand_least labels slot (first_operand text)) (operands_least labels (next ∷ slots) (other_operands text)))
 
-label_datum_least : (labels : Spots) (width : Width) (text : List ℕ) → number_in text ≡ None → IsLeast (Three ⊥ (IsNoDatum width text) (IsDatumOutside width text)) (fault_in (label_datum labels width text))
+label_datum_least : (labels : Spots) (width : DataWidth) (text : List ℕ) → number_in text ≡ None → IsLeast (Three ⊥ (IsNoDatum width text) (IsDatumOutside width text)) (fault_in (label_datum labels width text))
 label_datum_least labels Byte text e = (e, least_misfit ⊥ _ _ (λ x. x))
 label_datum_least labels Word text e =
     three_same ⊥ _ ⊥ ⊥ _ _ _ (λ x. x) (λ m. (e, m)) (λ x. absurd x) (λ x. x) (λ m. m.1) (λ o. let wrong : ◌≡◌ {A = Option Number} (Some o.0) None = sym o.1 ∙ e in cc) (label_least text labels)
@@ -330,18 +330,18 @@ wrapped_least text below above n e =
     within_least text below above n e _ _ (nat_le n.size below) (nat_le n.size above) n.negative refl
     (λ h. leb-true _ _ h) (λ h. leb-false _ _ h) (λ h. leb-true _ _ h) (λ h. leb-false _ _ h)
 
-number_datum_least : (width : Width) (text : List ℕ) (n : Number) → number_in text ≡ Some n → IsLeast (Three ⊥ (IsNoDatum width text) (IsDatumOutside width text)) (fault_in (number_datum width n))
+number_datum_least : (width : DataWidth) (text : List ℕ) (n : Number) → number_in text ≡ Some n → IsLeast (Three ⊥ (IsNoDatum width text) (IsDatumOutside width text)) (fault_in (number_datum width n))
 number_datum_least Byte text n e = wrapped_least text 128 255 n e
 number_datum_least Word text n e =
     three_same ⊥ _ _ ⊥ _ _ _ (λ x. x) (λ m. let wrong : ◌≡◌ {A = Option Number} (Some n) None = sym e ∙ m in cc) (λ o. o) (λ x. x) (λ m. m.0) (λ o. o) (wrapped_least text 2147483648 4294967295 n e)
 number_datum_least Dword text n e =
     three_same ⊥ _ _ ⊥ _ _ _ (λ x. x) (λ m. let wrong : ◌≡◌ {A = Option Number} (Some n) None = sym e ∙ m in cc) (λ o. o) (λ x. x) (λ m. m.0) (λ o. o) (wrapped_least text 9223372036854775808 18446744073709551615 n e)
 
-datum_by : (labels : Spots) (width : Width) (text : List ℕ) (o : Option Number) → number_in text ≡ o → IsLeast (Three ⊥ (IsNoDatum width text) (IsDatumOutside width text)) (fault_in (datum_of labels width text o))
+datum_by : (labels : Spots) (width : DataWidth) (text : List ℕ) (o : Option Number) → number_in text ≡ o → IsLeast (Three ⊥ (IsNoDatum width text) (IsDatumOutside width text)) (fault_in (datum_of labels width text o))
 datum_by labels width text (Some n) e = subst (IsLeast (Three ⊥ (IsNoDatum width text) (IsDatumOutside width text))) (bind_fault (number_datum width n) (λ v. datum.Value v)) (number_datum_least width text n e)
 datum_by labels width text None e = subst (IsLeast (Three ⊥ (IsNoDatum width text) (IsDatumOutside width text))) (bind_fault (label_datum labels width text) (λ s. datum.Label s)) (label_datum_least labels width text e)
 
-datum_least : (labels : Spots) (width : Width) (text : List ℕ) → IsLeast (Three ⊥ (IsNoDatum width text) (IsDatumOutside width text)) (fault_in (datum_in labels width text))
+datum_least : (labels : Spots) (width : DataWidth) (text : List ℕ) → IsLeast (Three ⊥ (IsNoDatum width text) (IsDatumOutside width text)) (fault_in (datum_in labels width text))
 unfolding datum_in
 datum_least labels width text = datum_by labels width text (number_in text) refl
 
@@ -351,7 +351,7 @@ regrouped h = ⊎_elim (λ x. ⊎_elim (λ a. inl a) (λ b. inr (inl b)) x) (λ 
 grouped : {A B C : Type 0} → A ⊎ (B ⊎ C) → (A ⊎ B) ⊎ C
 grouped h = ⊎_elim (λ a. inl (inl a)) (λ x. ⊎_elim (λ b. inl (inr b)) (λ c. inr c) x) h
 
-data_least : (labels : Spots) (width : Width) (n : ℕ) (reading : Reading) (text : List ℕ) (m r : Type 0) → IsLeast (Three ⊥ m r) (fault_in reading)
+data_least : (labels : Spots) (width : DataWidth) (n : ℕ) (reading : StatementReading) (text : List ℕ) (m r : Type 0) → IsLeast (Three ⊥ m r) (fault_in reading)
     → IsLeast (Three ⊥ (m ⊎ SomeOperand (IsNoDatum width) n text) (r ⊎ SomeOperand (IsDatumOutside width) n text)) (fault_in (with_data labels width n reading text))
 unfolding with_data
 data_least labels width zero reading text m r h =

@@ -9,7 +9,7 @@ use Rattle.evm_isa.specs.declared.inst.Inst.{Inst}
 use Rattle.evm_isa.specs.Encoded.{encoded}
 use Rattle.evm_asm.specs.evm_asm_lexer.declared.mnemonic.Section.{Section as Part}
 use Rattle.evm_asm.specs.evm_asm_lexer.declared.mnemonic.Section.TheVariants.{Text, Data}
-use Rattle.evm_asm.specs.evm_asm_lexer.declared.mnemonic.Width.{Width}
+use Rattle.evm_asm.specs.evm_asm_lexer.declared.mnemonic.DataWidth.{DataWidth}
 use Rattle.evm_asm.specs.evm_asm_lexer.Faults.{◌>>=◌}
 use Rattle.evm_asm.specs.evm_asm_lexer.Names.{named}
 use Rattle.evm_asm.specs.evm_asm_parser.declared.statement.Statement.{Statement}
@@ -19,11 +19,11 @@ use Rattle.evm_asm.proofs.evm_asm_parser.Outcomes.{any_ok, read_ok}
 use Rattle.evm_asm.specs.evm_asm_parser.declared.spot.Spot.{Spot}
 use Rattle.evm_asm.specs.declared.item.Expansion.{Expansion}
 use Rattle.evm_asm.specs.declared.item.Expansion.TheVariants.{Empty, Single, Double}
-use Rattle.evm_asm.specs.declared.item.Item.{Item}
-use Rattle.evm_asm.specs.declared.item.Item.TheVariants.{Instruction, Number, Zeros, Nops}
+use Rattle.evm_asm.specs.declared.item.SourceItem.{SourceItem}
+use Rattle.evm_asm.specs.declared.item.SourceItem.TheVariants.{Instruction, Number, Zeros, Nops}
 use Rattle.evm_asm.specs.declared.item.Placed.{Placed}
 use Rattle.evm_asm.specs.declared.output.ProgramLine.{ProgramLine}
-use Rattle.evm_asm.specs.declared.place.Place.{Place}
+use Rattle.evm_asm.specs.declared.place.SectionPlace.{SectionPlace}
 use Rattle.evm_asm.specs.Places.{place_behind, statement_in, here}
 use Rattle.evm_asm.specs.Sources.{Laid, code_of, source_lines, source_start, statement_text, label_at, behind_labels, Defined, with_label, defined, line_laid, nothing_laid, with_line_laid, laid, measured, line_defined}
 use Rattle.evm_asm.specs.Items.{text_base, and_then, expanded, with_item, with_instructions, value_in, number_pushed, with_numbers, filling, operands, with_statement, statement_meant, line_meant, meaning_or_fault, line_or_fault, lines_meant, layout_of, meaning_of, address}
@@ -42,7 +42,7 @@ use Rattle.evm_asm_laws.proofs.Labels_found.{once_told}
 -- ---- the items of a source
 
 -- the line of an item, where it is an instruction
-abbrev line_from : ℕ → Item → ℕ
+abbrev line_from : ℕ → SourceItem → ℕ
 line_from low (Instruction line i) = line
 line_from low item = low
 
@@ -72,7 +72,7 @@ instruction_pushed n i a h =
     let p : Placed = record { section = Text; item = Instruction n i } in
     (rises_on 0 a p h.0 h.1, omega (arith, last_on 0 a p))
 
-data_pushed : (n : ℕ) (part : Part) (item : Item) (a : List Placed) → IsData item → RisesTo n a → RisesTo n (with_item part item a)
+data_pushed : (n : ℕ) (part : Part) (item : SourceItem) (a : List Placed) → IsData item → RisesTo n a → RisesTo n (with_item part item a)
 data_pushed n part (Instruction line i) a d h = absurd d
 data_pushed n part (Number width value) a d h = let p : Placed = record { section = part; item = Number width value } in (rises_on 0 a p h.0 (omega arith), (let k = h.1 in omega (arith, last_on 0 a p)))
 data_pushed n part (Zeros m) a d h = let p : Placed = record { section = part; item = Zeros m } in (rises_on 0 a p h.0 (omega arith), (let k = h.1 in omega (arith, last_on 0 a p)))
@@ -85,13 +85,13 @@ module _ (n : ℕ) where
   instructions_pushed (Single i) a h = instruction_pushed n i a h
   instructions_pushed (Double i j) a h = instruction_pushed n j _ (instruction_pushed n i a h)
 
-  value_pushed : (labels : Spots) (size : ℕ) (part : Part) (width : Width) (text : List ℕ) (a : List Placed) → RisesTo n a → IfOk (number_pushed labels size part width text a) (RisesTo n)
+  value_pushed : (labels : Spots) (size : ℕ) (part : Part) (width : DataWidth) (text : List ℕ) (a : List Placed) → RisesTo n a → IfOk (number_pushed labels size part width text a) (RisesTo n)
   unfolding number_pushed
   value_pushed labels size part width text a h =
       read_ok (value_in labels size width text) (λ v. Ok (with_item part (Number width v) a)) (λ _. Unit {0}) (RisesTo n)
       (any_ok (value_in labels size width text)) (λ v _. data_pushed n part (Number width v) a tt h)
 
-  values_pushed : (labels : Spots) (size : ℕ) (part : Part) (width : Width) (m : ℕ) (text : List ℕ) (a : List Placed) → RisesTo n a → IfOk (with_numbers labels size part width m text a) (RisesTo n)
+  values_pushed : (labels : Spots) (size : ℕ) (part : Part) (width : DataWidth) (m : ℕ) (text : List ℕ) (a : List Placed) → RisesTo n a → IfOk (with_numbers labels size part width m text a) (RisesTo n)
   unfolding with_numbers
   values_pushed labels size part width zero text a h = h
   values_pushed labels size part width (suc m) text a h =
@@ -102,21 +102,21 @@ module _ (n : ℕ) where
   becomes size at s a h =
       read_ok (expanded size at s) (λ e. Ok (with_instructions n e a)) (λ _. Unit {0}) (RisesTo n) (any_ok (expanded size at s)) (λ e _. instructions_pushed e a h)
 
-  statement_pushed : (labels : Spots) (size : ℕ) (place : Place) (text : List ℕ) (s : Statement) (a : List Placed) → RisesTo n a → IfOk (with_statement labels size n place text s a) (RisesTo n)
+  statement_pushed : (labels : Spots) (size : ℕ) (place : SectionPlace) (text : List ℕ) (s : Statement) (a : List Placed) → RisesTo n a → IfOk (with_statement labels size n place text s a) (RisesTo n)
   unfolding with_statement
   statement_pushed labels size place text (Numbers width count) a h = values_pushed labels size place.section width count (operands text) a h
   statement_pushed labels size place text (Space m) a h = data_pushed n place.section (Zeros m) a tt h
   statement_pushed labels size place text (Align power) a h = data_pushed n place.section (filling place power) a (filling_data place power) h
   statement_pushed labels size place text s a h = becomes size (text_base + place.text_size) s a h
 
-  line_pushed : (labels : Spots) (size : ℕ) (place : Place) (text : List ℕ) (a : List Placed) → RisesTo n a → IfOk (line_meant labels size n place text a) (λ x. RisesTo n x.1)
+  line_pushed : (labels : Spots) (size : ℕ) (place : SectionPlace) (text : List ℕ) (a : List Placed) → RisesTo n a → IfOk (line_meant labels size n place text a) (λ x. RisesTo n x.1)
   unfolding line_meant statement_meant
   line_pushed labels size place text a h =
       read_ok (statement_in labels place text) _ (λ _. Unit {0}) (λ x. RisesTo n x.1) (any_ok (statement_in labels place text)) (λ s _.
       read_ok (with_statement labels size n place text s a) _ (RisesTo n) (λ x. RisesTo n x.1) (statement_pushed labels size place text s a h) (λ items k.
       read_ok (place_behind place s) (λ next. Ok (next, items)) (λ _. Unit {0}) (λ x. RisesTo n x.1) (any_ok (place_behind place s)) (λ _ _. k)))
 
-lines_pushed : (l : Laid) (before : ℕ) (place : Place) (lines : List (List ℕ)) (a : List Placed) → RisesTo before a → IfOk (lines_meant l before place lines a) (Rises 0)
+lines_pushed : (l : Laid) (before : ℕ) (place : SectionPlace) (lines : List (List ℕ)) (a : List Placed) → RisesTo before a → IfOk (lines_meant l before place lines a) (Rises 0)
 unfolding lines_meant line_or_fault
 lines_pushed l before place [] a h = h.0
 lines_pushed l before place (line ∷ lines) a h =
@@ -137,7 +137,7 @@ record InOrder (low : ℕ) (s : Spelled) : Type 0 where
   pub later : AllPairs ComesLater s.lines
   pub within : All (λ l. (l.line ≤ low) × (l.address + 4 ≤ text_base + length s.text_bytes)) s.lines
 
-data_lines : (part : Part) (item : Item) (s u : Spelled) → IsData item → spelled_item part item s ≡ Ok u → s.lines ≡ u.lines
+data_lines : (part : Part) (item : SourceItem) (s u : Spelled) → IsData item → spelled_item part item s ≡ Ok u → s.lines ≡ u.lines
 unfolding spelled_item
 data_lines part (Instruction line i) s u d h = absurd d
 data_lines Text (Number width value) s u d h = ap (λ (t : Spelled). t.lines) (same_ok _ u h)
@@ -147,7 +147,7 @@ data_lines Data (Zeros n) s u d h = ap (λ (t : Spelled). t.lines) (same_ok _ u 
 data_lines Text (Nops n) s u d h = ap (λ (t : Spelled). t.lines) (same_ok _ u h)
 data_lines Data (Nops n) s u d h = ap (λ (t : Spelled). t.lines) (same_ok _ u h)
 
-data_in_order : (low : ℕ) (part : Part) (item : Item) (s u : Spelled) → IsData item → spelled_item part item s ≡ Ok u → InOrder low s → InOrder low u
+data_in_order : (low : ℕ) (part : Part) (item : SourceItem) (s u : Spelled) → IsData item → spelled_item part item s ≡ Ok u → InOrder low s → InOrder low u
 data_in_order low part item s u d h o =
     let same = data_lines part item s u d h in
     let longer = item_longer (record { section = part; item = item }) s u h in
@@ -177,7 +177,7 @@ worded_by part line i s u h = h
 item_in_order : (low : ℕ) (p : Placed) (s u : Spelled) → spelled_item p.section p.item s ≡ Ok u → low ≤ line_from low p.item → InOrder low s → InOrder (line_from low p.item) u
 item_in_order low p s u h le o = by p.section p.item h (item_longer p s u h).text_is le
   where
-    by : (part : Part) (item : Item) → spelled_item part item s ≡ Ok u → length u.text_bytes ≡ length s.text_bytes + text_of (record { section = part; item = item }) → low ≤ line_from low item → InOrder (line_from low item) u
+    by : (part : Part) (item : SourceItem) → spelled_item part item s ≡ Ok u → length u.text_bytes ≡ length s.text_bytes + text_of (record { section = part; item = item }) → low ≤ line_from low item → InOrder (line_from low item) u
     by part (Instruction line i) h longer le = word_in_order low line i (encoded i) s u (worded_by part line i s u h) longer le o
     by part (Number width value) h longer le = data_in_order low part (Number width value) s u tt h o
     by part (Zeros n) h longer le = data_in_order low part (Zeros n) s u tt h o
@@ -255,7 +255,7 @@ line_stands source xs line rest split h =
     (λ k name behind label. (
       length xs + 1,
       record { line = line; others = k; behind = behind; from_one = omega arith; is_line = line_is source xs line rest split (length xs + 1) refl; is_label = label },
-      ap (λ (p : Place). here p) (sym (place_is source xs line rest split (length xs + 1) refl)),
+      ap (λ (p : SectionPlace). here p) (sym (place_is source xs line rest split (length xs + 1) refl)),
     ))
     (length code) 0 code (record { labels = s.labels; twice = false }) refl h
 

@@ -8,14 +8,14 @@ use Rattle.evm_asm.specs.evm_asm_lexer.Text.{skip_blanks, first_word, starts_wit
 use Rattle.evm_asm.specs.evm_asm_lexer.Names.{mnemonic_named}
 use Rattle.evm_asm.specs.evm_asm_parser.Operands.{Spots, how_many, first_operand, other_operands, datum_in}
 use Rattle.evm_asm.specs.evm_asm_parser.Forms.{form, Values, Form, Each, Many}
-use Rattle.evm_asm.specs.evm_asm_parser.Statements.{statement_of, Reading, all_operands_in, also, with_data, said}
-use Rattle.evm_asm.specs.declared.place.Place.{Place}
+use Rattle.evm_asm.specs.evm_asm_parser.Statements.{statement_of, StatementReading, all_operands_in, also, with_data, said}
+use Rattle.evm_asm.specs.declared.place.SectionPlace.{SectionPlace}
 use Rattle.evm_asm.specs.Places.{may_stand, placed, of_mnemonic, statement_in, grown, place_behind}
 use Rattle.evm_asm.specs.Items.{operands, distance, with_item, value_of, value_in, number_pushed, with_numbers}
 use Rattle.evm_asm_laws.specs.Least.{fault_in}
 use Rattle.evm_asm_laws.specs.HasFault.{HasUnknownRegister, HasMisfit, HasNumberOutside, BeginsWithNoName, HasUnknownMnemonic, Of, OfForm, IsMisplaced, SomeOperand, IsBeyond}
 use Rattle.evm_asm_laws.proofs.Operand_faults.{IsLeast, same_least, also_fault, Three, three_joined, by_test, clash, statement_least}
-use Rattle.evm_asm.specs.evm_asm_lexer.declared.mnemonic.Width.{Width}
+use Rattle.evm_asm.specs.evm_asm_lexer.declared.mnemonic.DataWidth.{DataWidth}
 use Rattle.evm_asm.specs.evm_asm_lexer.declared.mnemonic.Section.{Section as Part}
 use Rattle.evm_asm.specs.evm_asm_parser.declared.statement.Datum.{Datum}
 use Rattle.evm_asm.specs.evm_asm_parser.declared.statement.Statement.{Statement}
@@ -24,7 +24,7 @@ use Rattle.evm_asm.specs.declared.item.Placed.{Placed}
 use Rattle.evm_asm.proofs.Results.{also_ok}
 use Rattle.evm_asm.specs.evm_asm_lexer.declared.mnemonic.Mnemonic.TheVariants as names
 use Rattle.evm_asm.specs.evm_asm_parser.declared.statement.Datum.TheVariants as datum
-use Rattle.evm_asm.specs.declared.item.Item.TheVariants as item
+use Rattle.evm_asm.specs.declared.item.SourceItem.TheVariants as item
 use Rattle.std.proofs.lemmas.Bool.Decides.{nat_tests}
 use Rattle.std.proofs.lemmas.Bool.{leb-true, leb-false}
 
@@ -33,7 +33,7 @@ use Rattle.std.proofs.lemmas.Bool.{leb-true, leb-false}
 -- ---- the reading of a statement
 
 -- what is wrong with a statement by itself
-abbrev pub ReadingFault : Place → List ℕ → SourceFaultKind → Type 0
+abbrev pub ReadingFault : SectionPlace → List ℕ → SourceFaultKind → Type 0
 ReadingFault place text BadToken = (is_sound false text ≡ false) ⊎ BeginsWithNoName text
 ReadingFault place text UnknownName = HasUnknownMnemonic text ⊎ OfForm text HasUnknownRegister
 ReadingFault place text BadOperand = OfForm text HasMisfit ⊎ IsMisplaced place text
@@ -57,7 +57,7 @@ not_false : (t : Bool) → not t ≡ false → t ≡ true
 not_false true h = refl
 not_false false h = cc
 
-module _ (labels : Spots) (place : Place) (text : List ℕ) where
+module _ (labels : Spots) (place : SectionPlace) (text : List ℕ) where
   none_wrong : is_sound false text ≡ true → is_empty (skip_blanks text) ≡ true → (kind : SourceFaultKind) → ReadingFault place text kind → ⊥
   none_wrong s b BadToken w = ⊎_elim (λ x. clash _ s x) (λ x. clash _ b x.0) w
   none_wrong s b UnknownName w = ⊎_elim (λ x. clash _ b x.0) (λ x. clash _ b x.1) w
@@ -202,23 +202,23 @@ pub distance_least : (back ahead from target : ℕ) → IsLeast (Only RangeOfImm
 unfolding distance
 distance_least back ahead from target = distance_by back ahead from target (nat_le from target) refl
 
-behind_fails : (place : Place) (s : Statement) (f : SourceFaultKind) → place_behind place s ≡ Err f → f ≡ TooLarge
+behind_fails : (place : SectionPlace) (s : Statement) (f : SourceFaultKind) → place_behind place s ≡ Err f → f ≡ TooLarge
 unfolding place_behind grown
 behind_fails place (Section part) f h = cc
 behind_fails place s f h = one_of _ _ TooLarge f h
 
-pub behind_least : (place : Place) (s : Statement) → IsLeast (Only TooLarge (place_behind place s ≡ Err TooLarge)) (fault_in (place_behind place s))
+pub behind_least : (place : SectionPlace) (s : Statement) → IsLeast (Only TooLarge (place_behind place s ≡ Err TooLarge)) (fault_in (place_behind place s))
 behind_least place s = only_fault TooLarge (place_behind place s) (behind_fails place s)
 
 -- each of the first n operands is a number or a label
-abbrev pub AllRead : Spots → Width → ℕ → List ℕ → Type 0
+abbrev pub AllRead : Spots → DataWidth → ℕ → List ℕ → Type 0
 AllRead labels width zero text = Unit {0}
 AllRead labels width (suc n) text = ((d : Datum) × (datum_in labels width (first_operand text) ≡ Ok d)) × AllRead labels width n (other_operands text)
 
-also_read : {B : Type 0} (r : Reading) (b : Result B SourceFaultKind) (s : Statement) → also r b ≡ Ok s → (r ≡ Ok s) × (x : B) × (b ≡ Ok x)
+also_read : {B : Type 0} (r : StatementReading) (b : Result B SourceFaultKind) (s : Statement) → also r b ≡ Ok s → (r ≡ Ok s) × (x : B) × (b ≡ Ok x)
 also_read r b s h = let k = also_ok r b s h in (k.1, k.0, k.2)
 
-data_read : (labels : Spots) (width : Width) (n : ℕ) (r : Reading) (text : List ℕ) (s : Statement) → with_data labels width n r text ≡ Ok s → (r ≡ Ok s) × AllRead labels width n text
+data_read : (labels : Spots) (width : DataWidth) (n : ℕ) (r : StatementReading) (text : List ℕ) (s : Statement) → with_data labels width n r text ≡ Ok s → (r ≡ Ok s) × AllRead labels width n text
 unfolding with_data
 data_read labels width zero r text s h = (h, tt)
 data_read labels width (suc n) r text s h =
@@ -228,7 +228,7 @@ data_read labels width (suc n) r text s h =
 
 -- a form makes lists of numbers of as many as there are, or none
 abbrev MakesLists : Form → Type 0
-MakesLists (Each slots makes) = (v : Values slots) (w : Width) (c : ℕ) → makes v ≡ Numbers w c → ⊥
+MakesLists (Each slots makes) = (v : Values slots) (w : DataWidth) (c : ℕ) → makes v ≡ Numbers w c → ⊥
 MakesLists (Many width makes) = (n : ℕ) → makes n ≡ Numbers width n
 
 either_lists : (t : Bool) (f g : Form) → MakesLists f → MakesLists g → MakesLists (cond t f g)
@@ -245,11 +245,11 @@ made_by : {A : Type 0} (r : Result A SourceFaultKind) (makes : A → Statement) 
 made_by (Ok v) makes s h = (v, cc)
 made_by (Err e) makes s h = cc
 
-unless_err : (t : Bool) (r : Reading) (s : Statement) → cond t (Err BadOperand) r ≡ Ok s → r ≡ Ok s
+unless_err : (t : Bool) (r : StatementReading) (s : Statement) → cond t (Err BadOperand) r ≡ Ok s → r ≡ Ok s
 unless_err true r s h = cc
 unless_err false r s h = h
 
-list_read : (labels : Spots) (f : Form) (text : List ℕ) (w : Width) (c : ℕ) → MakesLists f → said labels f text ≡ Ok (Numbers w c) → AllRead labels w c text
+list_read : (labels : Spots) (f : Form) (text : List ℕ) (w : DataWidth) (c : ℕ) → MakesLists f → said labels f text ≡ Ok (Numbers w c) → AllRead labels w c text
 unfolding said
 list_read labels (Each slots makes) text w c lists h = let v = made_by (all_operands_in labels slots text) makes (Numbers w c) h in absurd (lists v.0 w c v.1)
 list_read labels (Many width makes) text w c lists h =
@@ -258,28 +258,28 @@ list_read labels (Many width makes) text w c lists h =
     let both : Numbers width (how_many text) ≡ Numbers w c = sym (lists (how_many text)) ∙ made in
     let width_is : width ≡ w = cc in
     let count_is : how_many text ≡ c = cc in
-    subst (λ (n : ℕ). AllRead labels w n text) count_is (subst (λ (x : Width). AllRead labels x (how_many text) text) width_is r.1)
+    subst (λ (n : ℕ). AllRead labels w n text) count_is (subst (λ (x : DataWidth). AllRead labels x (how_many text) text) width_is r.1)
 
-mnemonic_list_read : (labels : Spots) (place : Place) (o : Option Mnemonic) (text : List ℕ) (w : Width) (c : ℕ) → of_mnemonic labels place o text ≡ Ok (Numbers w c) → AllRead labels w c text
+mnemonic_list_read : (labels : Spots) (place : SectionPlace) (o : Option Mnemonic) (text : List ℕ) (w : DataWidth) (c : ℕ) → of_mnemonic labels place o text ≡ Ok (Numbers w c) → AllRead labels w c text
 unfolding statement_of
 mnemonic_list_read labels place (Some m) text w c h =
     list_read labels (form (how_many text) m) text w c (forms_list (how_many text) m) (also_read (statement_of labels m text) (placed m place) (Numbers w c) h).0
 mnemonic_list_read labels place None text w c h = cc
 
-list_by_tests : (a b d : Bool) (r : Reading) (w : Width) (c : ℕ) → cond a (Err BadToken) (cond b (Ok Nothing) (cond d (Err BadToken) r)) ≡ Ok (Numbers w c) → r ≡ Ok (Numbers w c)
+list_by_tests : (a b d : Bool) (r : StatementReading) (w : DataWidth) (c : ℕ) → cond a (Err BadToken) (cond b (Ok Nothing) (cond d (Err BadToken) r)) ≡ Ok (Numbers w c) → r ≡ Ok (Numbers w c)
 list_by_tests true b d r w c h = cc
 list_by_tests false true d r w c h = cc
 list_by_tests false false true r w c h = cc
 list_by_tests false false false r w c h = h
 
-pub all_read : (labels : Spots) (place : Place) (text : List ℕ) (w : Width) (c : ℕ) → statement_in labels place text ≡ Ok (Numbers w c) → AllRead labels w c (operands text)
+pub all_read : (labels : Spots) (place : SectionPlace) (text : List ℕ) (w : DataWidth) (c : ℕ) → statement_in labels place text ≡ Ok (Numbers w c) → AllRead labels w c (operands text)
 unfolding statement_in
 all_read labels place text w c h =
     mnemonic_list_read labels place (mnemonic_named (first_word (skip_blanks text))) (operands text) w c
     (list_by_tests (not (is_sound false text)) (is_empty (skip_blanks text)) (not (starts_with is_name_start (skip_blanks text))) _ w c h)
 
 -- the fault of a list is that of a label that no line defines
-module _ (labels : Spots) (size : ℕ) (part : Part) (width : Width) where
+module _ (labels : Spots) (size : ℕ) (part : Part) (width : DataWidth) where
   abbrev pub Lacks : ℕ → List ℕ → Type 0
   Lacks n text = SomeOperand (λ operand. datum_in labels width operand ≡ Ok (datum.Label None)) n text
 

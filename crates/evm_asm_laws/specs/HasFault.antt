@@ -4,8 +4,8 @@ use Rattle.evm_asm.specs.evm_asm_lexer.declared.source_fault.SourceFault.{Source
 use Rattle.evm_asm.specs.evm_asm_lexer.declared.source_fault.SourceFaultKind.{SourceFaultKind}
 use Rattle.evm_asm.specs.evm_asm_lexer.declared.source_fault.SourceFaultKind.TheVariants.{BadToken, UnknownName, BadOperand, RangeOfImmediate, LabelTwice, LabelMissing, TooLarge}
 use Rattle.evm_asm.specs.evm_asm_lexer.declared.mnemonic.Mnemonic.{Mnemonic}
-use Rattle.evm_asm.specs.evm_asm_lexer.declared.mnemonic.Width.{Width}
-use Rattle.evm_asm.specs.evm_asm_lexer.declared.mnemonic.Width.TheVariants.{Byte, Word, Dword}
+use Rattle.evm_asm.specs.evm_asm_lexer.declared.mnemonic.DataWidth.{DataWidth}
+use Rattle.evm_asm.specs.evm_asm_lexer.declared.mnemonic.DataWidth.TheVariants.{Byte, Word, Dword}
 use Rattle.evm_asm.specs.evm_asm_lexer.Characters.{left_parenthesis, right_parenthesis}
 use Rattle.evm_asm.specs.evm_asm_lexer.Faults.{source_number}
 use Rattle.evm_asm.specs.evm_asm_lexer.Text.{before, after, has_byte, skip_blanks, first_word, starts_with, is_name_start, is_empty, is_sound}
@@ -16,7 +16,7 @@ use Rattle.evm_asm.specs.evm_asm_parser.declared.statement.Statement.{Statement}
 use Rattle.evm_asm.specs.evm_asm_parser.declared.statement.Statement.TheVariants.{Branch, Jump, LoadAddress, Numbers}
 use Rattle.evm_asm.specs.evm_asm_parser.Operands.{Spots, first_operand, other_operands, how_many, is_blank_text, name_in, number_in, datum_in}
 use Rattle.evm_asm.specs.evm_asm_parser.Forms.{Slot, Register, Integer, Natural, Upper, Label, Address, FullAddress, Name, Form, Each, Many, form}
-use Rattle.evm_asm.specs.declared.place.Place.{Place}
+use Rattle.evm_asm.specs.declared.place.SectionPlace.{SectionPlace}
 use Rattle.evm_asm.specs.Places.{may_stand, place_behind, statement_in}
 use Rattle.evm_asm.specs.Sources.{Laid, nothing_laid, laid, source_lines, code_of, statement_text}
 use Rattle.evm_asm.specs.Assembled.{program_of}
@@ -90,12 +90,12 @@ SomeOperand P zero text = ⊥
 SomeOperand P (suc n) text = P (first_operand text) ⊎ SomeOperand P n (other_operands text)
 
 -- A byte is a number; a word and a dword are a number or a label.
-abbrev pub IsNoDatum : Width → List ℕ → Type 0
+abbrev pub IsNoDatum : DataWidth → List ℕ → Type 0
 IsNoDatum Byte text = number_in text ≡ None
 IsNoDatum Word text = (number_in text ≡ None) × (name_in text ≡ None)
 IsNoDatum Dword text = (number_in text ≡ None) × (name_in text ≡ None)
 
-abbrev pub IsDatumOutside : Width → List ℕ → Type 0
+abbrev pub IsDatumOutside : DataWidth → List ℕ → Type 0
 IsDatumOutside Byte text = IsOutside 128 255 text
 IsDatumOutside Word text = IsOutside 2147483648 4294967295 text
 IsDatumOutside Dword text = IsOutside 9223372036854775808 18446744073709551615 text
@@ -135,7 +135,7 @@ abbrev pub OfForm : List ℕ → (Form → List ℕ → Type 0) → Type 0
 OfForm text P = Of text (λ m. P (form (how_many (operands text)) m) (operands text))
 
 -- an instruction in the data, or not at a multiple of 4
-abbrev pub IsMisplaced : Place → List ℕ → Type 0
+abbrev pub IsMisplaced : SectionPlace → List ℕ → Type 0
 IsMisplaced place text = Of text (λ m. may_stand m place ≡ false)
 
 -- The way from an address to a target is odd, or goes back or ahead further than its limits.
@@ -171,11 +171,11 @@ LacksLabel labels text (Numbers width count) = SomeOperand (λ operand. datum_in
 LacksLabel labels text statement = ⊥
 
 -- Of the statement that the text says at a place this is true.
-abbrev pub Said : Spots → Place → List ℕ → (Statement → Type 0) → Type 0
+abbrev pub Said : Spots → SectionPlace → List ℕ → (Statement → Type 0) → Type 0
 Said labels place text P = (s : Statement) × (statement_in labels place text ≡ Ok s) × P s
 
 -- the place behind these lines
-abbrev pub place_behind_lines : List (List ℕ) → Place
+abbrev pub place_behind_lines : List (List ℕ) → SectionPlace
 place_behind_lines lines = (laid nothing_laid lines).place
 
 -- What is wrong with a line that stands behind earlier ones, in a source that is laid out as a whole.

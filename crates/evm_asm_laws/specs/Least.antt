@@ -3,7 +3,7 @@ use Rattle.std.specs.Prelude.{◌≡◌, ◌<◌, ◌↔◌, ℕ, zero, suc, Lis
 use Rattle.evm_asm.specs.evm_asm_lexer.declared.source_fault.SourceFault.{SourceFault}
 use Rattle.evm_asm.specs.evm_asm_lexer.declared.source_fault.SourceFaultKind.{SourceFaultKind}
 use Rattle.evm_asm.specs.declared.item.Placed.{Placed}
-use Rattle.evm_asm.specs.declared.place.Place.{Place}
+use Rattle.evm_asm.specs.declared.place.SectionPlace.{SectionPlace}
 use Rattle.evm_asm.specs.evm_asm_lexer.Faults.{least}
 use Rattle.evm_asm.specs.Sources.{Laid, nothing_laid, laid, line_laid, source_lines, code_of, statement_text}
 use Rattle.evm_asm.specs.Items.{line_meant, layout_of, meaning_of}
@@ -19,7 +19,7 @@ lesser (Some kind) None = Some kind
 lesser (Some kind) (Some other) = Some (least kind other)
 
 -- the fault that a line at a place has by itself, once all labels are known
-abbrev pub meaning_fault : Laid → Place → List ℕ → Option SourceFaultKind
+abbrev pub meaning_fault : Laid → SectionPlace → List ℕ → Option SourceFaultKind
 meaning_fault whole place line = fault_in (line_meant whole.labels whole.place.text_size 0 place (statement_text (code_of line)) [])
 
 -- The least fault of a line: of those found when it is laid out behind the lines before it, and the one it has by itself.

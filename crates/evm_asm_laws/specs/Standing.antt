@@ -2,8 +2,8 @@
 use Rattle.std.specs.Prelude.{◌≡◌, ℕ, zero, suc, ◌+◌, ◌-◌, ◌*◌, ◌/◌, ◌%◌, ◌<◌, ◌≤◌, ◌&&◌, ◌==◌, nat_le, if◌then◌else◌, List, [], ◌∷◌, ◌++◌, length, take, drop, replicate, map, slice_get, All, AllPairs, Some, None, Ok}
 use Rattle.evm_asm.specs.declared.item.Placed.{Placed}
 use Rattle.evm_asm.specs.declared.output.ProgramLine.{ProgramLine}
-use Rattle.evm_asm.specs.evm_asm_lexer.declared.mnemonic.Width.{Width}
-use Rattle.evm_asm.specs.declared.place.Place.{Place}
+use Rattle.evm_asm.specs.evm_asm_lexer.declared.mnemonic.DataWidth.{DataWidth}
+use Rattle.evm_asm.specs.declared.place.SectionPlace.{SectionPlace}
 use Rattle.evm_asm.specs.evm_asm_parser.declared.statement.Statement.TheVariants.{Numbers, Space, Align}
 use Rattle.evm_asm.specs.evm_asm_lexer.Names.{named}
 use Rattle.evm_asm.specs.evm_asm_parser.Operands.{first_operand, other_operands}
@@ -80,7 +80,7 @@ operand_at zero text = first_operand text
 operand_at (suc k) text = operand_at k (other_operands text)
 
 -- Number k, from 0, of the data in line n of a source has this value.
-pub record HasNumber (source : List ℕ) (n k : ℕ) (width : Width) (value : ℕ) : Type 0 where
+pub record HasNumber (source : List ℕ) (n k : ℕ) (width : DataWidth) (value : ℕ) : Type 0 where
   pub count : ℕ
   pub says : Says source n (Numbers width count)
   pub within : k < count
@@ -88,7 +88,7 @@ pub record HasNumber (source : List ℕ) (n k : ℕ) (width : Width) (value : �
 
 -- Each number of a line stands at the line's place, behind the numbers before it.
 abbrev pub NumbersStandWhereTheyAreMeant : Type 0
-NumbersStandWhereTheyAreMeant = (source : List ℕ) (p : Assembled) → program_of source ≡ Ok p → (n k : ℕ) (width : Width) (value : ℕ) → HasNumber source n k width value
+NumbersStandWhereTheyAreMeant = (source : List ℕ) (p : Assembled) → program_of source ≡ Ok p → (n k : ℕ) (width : DataWidth) (value : ℕ) → HasNumber source n k width value
     → take (bytes_in width) (drop (address (size_of_text source) (here (place_before source n)) - text_base + k * bytes_in width) p.bytes) ≡ number_bytes (bytes_in width) value
 
 -- count bytes of a program from the place of line n on
@@ -101,7 +101,7 @@ SpacesAreZeros = (source : List ℕ) (p : Assembled) → program_of source ≡ O
     → bytes_at_line source n size p.bytes ≡ replicate size 0
 
 -- What fills up to a multiple of 2 ^ power: nops in the text, where they are whole, else zeros.
-abbrev pub filling_bytes : Place → ℕ → List ℕ
+abbrev pub filling_bytes : SectionPlace → ℕ → List ℕ
 filling_bytes place power =
     if is_text place.section && (place.text_size % 4 == 0 && nat_le 2 power)
     then repeated (padding (offset place) power / 4) nop_bytes [] else replicate (padding (offset place) power) 0

@@ -3,8 +3,8 @@ use Rattle.std.specs.Prelude.{◌≡◌, ◌↔◌, ℕ, List, Some, Ok, Err, Al
 use Rattle.evm_isa.specs.declared.inst.Inst.{Inst}
 use Rattle.evm_isa.specs.Encoded.{encoded}
 use Rattle.evm_asm.specs.evm_asm_lexer.declared.source_fault.SourceFault.{SourceFault}
-use Rattle.evm_asm.specs.declared.item.Item.{Item}
-use Rattle.evm_asm.specs.declared.item.Item.TheVariants as item
+use Rattle.evm_asm.specs.declared.item.SourceItem.{SourceItem}
+use Rattle.evm_asm.specs.declared.item.SourceItem.TheVariants as item
 use Rattle.evm_asm.specs.declared.item.Placed.{Placed}
 use Rattle.evm_asm.specs.Items.{meaning_of}
 use Rattle.evm_asm.specs.Programs.{Spelled, nothing_spelled, spelled}
@@ -15,7 +15,7 @@ abbrev pub HasWord : Inst → Type 0
 HasWord i = (w : ℕ) × (encoded i ≡ Some w)
 
 -- An item that is an instruction has a word; the others need none.
-abbrev pub HasItsWord : Item → Type 0
+abbrev pub HasItsWord : SourceItem → Type 0
 HasItsWord (item.Instruction line i) = HasWord i
 HasItsWord other = Unit {0}
 

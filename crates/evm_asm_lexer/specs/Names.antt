@@ -21,7 +21,7 @@ use Rattle.evm_asm_lexer.specs.declared.mnemonic.BareOp.TheVariants as bare
 use Rattle.evm_asm_lexer.specs.declared.mnemonic.UnaryOp.{UnaryOp}
 use Rattle.evm_asm_lexer.specs.declared.mnemonic.UnaryOp.TheVariants as unary
 use Rattle.evm_asm_lexer.specs.declared.mnemonic.Section.TheVariants as section
-use Rattle.evm_asm_lexer.specs.declared.mnemonic.Width.TheVariants as width
+use Rattle.evm_asm_lexer.specs.declared.mnemonic.DataWidth.TheVariants as width
 use Rattle.evm_asm_lexer.specs.declared.mnemonic.Mnemonic.{Mnemonic}
 use Rattle.evm_asm_lexer.specs.declared.mnemonic.Mnemonic.TheVariants.{Register, Word, Immediate, Shift, Load, Store, Branch, Bare, Unary, BranchSwapped, BranchZero, ZeroBranch, Lui, Auipc, Jal, Jalr, Jump, JumpRegister, LoadImmediate, LoadAddress, Section, Numbers, Space, Align, Global}
 

@@ -14,7 +14,7 @@ mod token;
 
 pub use extensions::{Extension, extension_of};
 pub use fault::{AsmFault, AsmFaultKind};
-pub use mnemonic::{BareOp, Mnemonic, Section, UnaryOp, Width};
+pub use mnemonic::{BareOp, DataWidth, Mnemonic, Section, UnaryOp};
 pub use names::mnemonic_named;
 pub use registers::register_named;
 pub use source_fault::{SourceFault, SourceFaultKind, both, least};

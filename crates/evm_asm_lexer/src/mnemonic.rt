@@ -35,7 +35,7 @@ pub enum Section {
 
 /// How many bytes a number of a data directive takes: 1, 4 or 8.
 #[derive(Clone, Copy, Debug, PartialEq, Eq)]
-pub enum Width {
+pub enum DataWidth {
     Byte,
     Word,
     Dword,
@@ -85,7 +85,7 @@ pub enum Mnemonic {
     LoadAddress,
     Section(Section),
     /// A list of numbers; of labels too, where they have 4 or 8 bytes.
-    Numbers(Width),
+    Numbers(DataWidth),
     /// A number of zero bytes.
     Space,
     /// Up to a multiple of this power of 2.

@@ -3,7 +3,7 @@
 ghost use Rattle.std.specs.Prelude.{◌≡◌};
 ghost use Rattle.evm_asm_lexer.specs.Names.{named, mnemonic_named, register_ops, word_ops, immediate_ops, shift_ops, load_ops, store_ops, branch_ops, bare_ops, unary_ops, branch_pseudos, jumps_and_loads, directives};
 
-use crate::mnemonic::{BareOp, Mnemonic, Section, UnaryOp, Width};
+use crate::mnemonic::{BareOp, DataWidth, Mnemonic, Section, UnaryOp};
 use evm_isa::{BranchOp, ImmediateOp, LoadOp, RegisterOp, ShiftOp, StoreOp, WordOp};
 
 #[tactic(auto, unfolding(crate::specs::Names::register_ops))]
@@ -205,11 +205,11 @@ fn directive(name: &[u8]) -> Option<Mnemonic>
     } else if name == b".data".as_slice() {
         Some(Mnemonic::Section(Section::Data))
     } else if name == b".byte".as_slice() {
-        Some(Mnemonic::Numbers(Width::Byte))
+        Some(Mnemonic::Numbers(DataWidth::Byte))
     } else if name == b".word".as_slice() {
-        Some(Mnemonic::Numbers(Width::Word))
+        Some(Mnemonic::Numbers(DataWidth::Word))
     } else if name == b".dword".as_slice() {
-        Some(Mnemonic::Numbers(Width::Dword))
+        Some(Mnemonic::Numbers(DataWidth::Dword))
     } else if name == b".space".as_slice() {
         Some(Mnemonic::Space)
     } else if name == b".align".as_slice() {

@@ -1,12 +1,12 @@
 -- What holds of every statement that is read, from what holds of each operand and of each row of the table of forms.
 use Rattle.std.proofs.Common.{ℕ, zero, suc, Bool, true, false, cond, ◌==◌, List, [], ◌∷◌, length, Ok, Err, IfOk}
 use Rattle.evm_asm_lexer.specs.declared.source_fault.SourceFaultKind.TheVariants.{BadOperand}
-use Rattle.evm_asm_lexer.specs.declared.mnemonic.Width.{Width}
+use Rattle.evm_asm_lexer.specs.declared.mnemonic.DataWidth.{DataWidth}
 use Rattle.evm_asm_lexer.specs.declared.mnemonic.Mnemonic.{Mnemonic}
 use Rattle.evm_asm_parser.specs.declared.statement.Statement.{Statement}
 use Rattle.evm_asm_parser.specs.Operands.{Spots, first_operand, other_operands, how_many, datum_in}
 use Rattle.evm_asm_parser.specs.Forms.{Slot, Value, Values, Form, Each, Many, form}
-use Rattle.evm_asm_parser.specs.Statements.{Reading, operand_in, operands_in, all_operands_in, also, with_data, said, statement_of}
+use Rattle.evm_asm_parser.specs.Statements.{StatementReading, operand_in, operands_in, all_operands_in, also, with_data, said, statement_of}
 use Rattle.evm_asm_parser.proofs.Outcomes.{either_ok, both_ok, counted_ok, also_ok, read_ok}
 
 -- what holds of each value holds of all
@@ -25,7 +25,7 @@ pub either_makes : (Q : (slot : Slot) → Value slot → Type 0) (P : Statement 
 either_makes Q P true f g h k = h
 either_makes Q P false f g h k = k
 
-data_hold : (P : Statement → Type 0) (labels : Spots) (width : Width) (n : ℕ) (reading : Reading) (text : List ℕ)
+data_hold : (P : Statement → Type 0) (labels : Spots) (width : DataWidth) (n : ℕ) (reading : StatementReading) (text : List ℕ)
     → IfOk reading P → IfOk (with_data labels width n reading text) P
 unfolding with_data
 data_hold P labels width zero reading text h = h

@@ -11,7 +11,7 @@ use Rattle.evm_asm_lexer.specs.declared.mnemonic.BareOp.{BareOp}
 use Rattle.evm_asm_lexer.specs.declared.mnemonic.BareOp.TheVariants.{Fence, Ecall, Ebreak, Nop, Ret}
 use Rattle.evm_asm_lexer.specs.declared.mnemonic.UnaryOp.{UnaryOp}
 use Rattle.evm_asm_lexer.specs.declared.mnemonic.UnaryOp.TheVariants.{Mv, Not, Neg, Negw, SextW, Seqz, Snez, Sltz, Sgtz}
-use Rattle.evm_asm_lexer.specs.declared.mnemonic.Width.{Width}
+use Rattle.evm_asm_lexer.specs.declared.mnemonic.DataWidth.{DataWidth}
 use Rattle.evm_asm_lexer.specs.declared.mnemonic.Mnemonic.{Mnemonic}
 use Rattle.evm_asm_lexer.specs.declared.mnemonic.Mnemonic.TheVariants as names
 use Rattle.evm_asm_parser.specs.declared.spot.Spot.{Spot}
@@ -56,7 +56,7 @@ Values (slot ∷ next ∷ slots) = Value slot × Values (next ∷ slots)
 -- The operands of a mnemonic: one in each place, and what they make; or one or more numbers or labels of a width.
 pub data Form : Type 0 where
   Each : (slots : List Slot) → (Values slots → Statement) → Form
-  Many : (width : Width) → (ℕ → Statement) → Form
+  Many : (width : DataWidth) → (ℕ → Statement) → Form
 
 -- the immediate of most instructions
 abbrev pub immediate_slot : Slot

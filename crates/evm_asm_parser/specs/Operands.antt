@@ -2,8 +2,8 @@
 use Rattle.std.specs.Prelude.{ℕ, ◌+◌, ◌-◌, ◌*◌, ◌%◌, ◌^◌, Bool, true, false, ◌&&◌, ◌==◌, nat_lt, nat_le, if◌then◌else◌, List, count_by, Option, Some, None, option_map, Result, Ok, Err, ℤ, pos, neg_ℤ}
 use Rattle.evm_asm_lexer.specs.declared.source_fault.SourceFaultKind.{SourceFaultKind}
 use Rattle.evm_asm_lexer.specs.declared.source_fault.SourceFaultKind.TheVariants.{UnknownName, BadOperand, RangeOfImmediate}
-use Rattle.evm_asm_lexer.specs.declared.mnemonic.Width.{Width}
-use Rattle.evm_asm_lexer.specs.declared.mnemonic.Width.TheVariants.{Byte, Word, Dword}
+use Rattle.evm_asm_lexer.specs.declared.mnemonic.DataWidth.{DataWidth}
+use Rattle.evm_asm_lexer.specs.declared.mnemonic.DataWidth.TheVariants.{Byte, Word, Dword}
 use Rattle.evm_asm_parser.specs.declared.operand.Number.{Number}
 use Rattle.evm_asm_parser.specs.declared.spot.Spot.{Spot}
 use Rattle.evm_asm_parser.specs.declared.statement.Datum.{Datum}
@@ -130,19 +130,19 @@ unfoldable pub upper_in : List ℕ → Result ℤ SourceFaultKind
 upper_in text = natural_in 1048575 text >>= λ n. Ok (upper n)
 
 -- One number of a data directive, modulo 2 ^ 64, or a label.
-abbrev pub number_datum : Width → Number → Result ℕ SourceFaultKind
+abbrev pub number_datum : DataWidth → Number → Result ℕ SourceFaultKind
 number_datum Byte n = wrapped 128 255 n
 number_datum Word n = wrapped 2147483648 4294967295 n
 number_datum Dword n = wrapped 9223372036854775808 18446744073709551615 n
 
-abbrev pub label_datum : Spots → Width → List ℕ → Result (Option Spot) SourceFaultKind
+abbrev pub label_datum : Spots → DataWidth → List ℕ → Result (Option Spot) SourceFaultKind
 label_datum labels Byte text = Err BadOperand
 label_datum labels Word text = label_in labels text
 label_datum labels Dword text = label_in labels text
 
-abbrev pub datum_of : Spots → Width → List ℕ → Option Number → Result Datum SourceFaultKind
+abbrev pub datum_of : Spots → DataWidth → List ℕ → Option Number → Result Datum SourceFaultKind
 datum_of labels width text (Some n) = number_datum width n >>= λ v. Ok (datum.Value v)
 datum_of labels width text None = label_datum labels width text >>= λ s. Ok (datum.Label s)
 
-unfoldable pub datum_in : Spots → Width → List ℕ → Result Datum SourceFaultKind
+unfoldable pub datum_in : Spots → DataWidth → List ℕ → Result Datum SourceFaultKind
 datum_in labels width text = datum_of labels width text (number_in text)

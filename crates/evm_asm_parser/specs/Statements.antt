@@ -2,15 +2,15 @@
 use Rattle.std.specs.Prelude.{ℕ, zero, suc, ◌==◌, if◌then◌else◌, List, [], ◌∷◌, length, Option, Some, None, Result, Ok, Err}
 use Rattle.evm_asm_lexer.specs.declared.source_fault.SourceFaultKind.{SourceFaultKind}
 use Rattle.evm_asm_lexer.specs.declared.source_fault.SourceFaultKind.TheVariants.{BadOperand}
-use Rattle.evm_asm_lexer.specs.declared.mnemonic.Width.{Width}
+use Rattle.evm_asm_lexer.specs.declared.mnemonic.DataWidth.{DataWidth}
 use Rattle.evm_asm_lexer.specs.declared.mnemonic.Mnemonic.{Mnemonic}
 use Rattle.evm_asm_parser.specs.declared.statement.Statement.{Statement}
 use Rattle.evm_asm_lexer.specs.Faults.{both, least, ◌>>=◌}
 use Rattle.evm_asm_parser.specs.Operands.{Spots, first_operand, other_operands, how_many, counted, name_in, register_in, label_in, integer_in, natural_in, upper_in, address_in, full_address_in, datum_in}
 use Rattle.evm_asm_parser.specs.Forms.{Slot, Register, Integer, Natural, Upper, Label, Address, FullAddress, Name, Value, Values, Form, Each, Many, form}
 
-abbrev pub Reading : Type 0
-Reading = Result Statement SourceFaultKind
+abbrev pub StatementReading : Type 0
+StatementReading = Result Statement SourceFaultKind
 
 -- a name, to no effect
 abbrev pub name_or_fault : Option (List ℕ) → Result (Unit {0}) SourceFaultKind
@@ -46,17 +46,17 @@ also (Err e) (Ok b) = Err e
 also (Err e) (Err f) = Err (least e f)
 
 -- a reading, with the faults of the first n numbers or labels of a list
-unfoldable pub with_data : Spots → Width → ℕ → Reading → List ℕ → Reading
+unfoldable pub with_data : Spots → DataWidth → ℕ → StatementReading → List ℕ → StatementReading
 with_data labels width zero reading text = reading
 with_data labels width (suc n) reading text = with_data labels width n (also reading (datum_in labels width (first_operand text))) (other_operands text)
 
 -- the statement that the operands say in a form
-unfoldable pub said : Spots → Form → List ℕ → Reading
+unfoldable pub said : Spots → Form → List ℕ → StatementReading
 said labels (Each slots makes) text = all_operands_in labels slots text >>= λ values. Ok (makes values)
 said labels (Many width makes) text =
     if how_many text == 0 then Err BadOperand
     else with_data labels width (how_many text) (Ok (makes (how_many text))) text
 
 -- the statement of a mnemonic and the text of its operands
-unfoldable pub statement_of : Spots → Mnemonic → List ℕ → Reading
+unfoldable pub statement_of : Spots → Mnemonic → List ℕ → StatementReading
 statement_of labels mnemonic text = said labels (form (how_many text) mnemonic) text

@@ -12,32 +12,36 @@ use crate::operand::{
     other_operands, wrapped,
 };
 use crate::spot::Spot;
-use crate::statement::{Datum, Reading, Statement};
-use evm_asm_lexer::{SourceFaultKind, Width, least};
+use crate::statement::{Datum, Statement, StatementReading};
+use evm_asm_lexer::{DataWidth, SourceFaultKind, least};
 use evm_isa::Shift;
 
-fn number_datum(width: Width, number: Number) -> Result<u64, SourceFaultKind>
+fn number_datum(width: DataWidth, number: Number) -> Result<u64, SourceFaultKind>
     ensures { result ≡ number_datum width number }
 {
     match width {
-        Width::Byte => wrapped(128, 255, number),
-        Width::Word => wrapped(2147483648, 4294967295, number),
-        Width::Dword => wrapped(9223372036854775808, 18446744073709551615, number),
+        DataWidth::Byte => wrapped(128, 255, number),
+        DataWidth::Word => wrapped(2147483648, 4294967295, number),
+        DataWidth::Dword => wrapped(9223372036854775808, 18446744073709551615, number),
     }
 }
 
-fn label_datum(labels: &Labels, width: Width, text: &[u8]) -> Result<Option<Spot>, SourceFaultKind>
+fn label_datum(
+    labels: &Labels,
+    width: DataWidth,
+    text: &[u8],
+) -> Result<Option<Spot>, SourceFaultKind>
     ensures { result ≡ label_datum labels.now width text.now }
 {
     match width {
-        Width::Byte => Err(SourceFaultKind::BadOperand),
-        Width::Word | Width::Dword => label_in(labels, text),
+        DataWidth::Byte => Err(SourceFaultKind::BadOperand),
+        DataWidth::Word | DataWidth::Dword => label_in(labels, text),
     }
 }
 
 /// The number or label that a text is, for a place of this width.
 #[tactic(auto, unfolding(crate::specs::Operands::datum_in))]
-pub fn datum_in(labels: &Labels, width: Width, text: &[u8]) -> Result<Datum, SourceFaultKind>
+pub fn datum_in(labels: &Labels, width: DataWidth, text: &[u8]) -> Result<Datum, SourceFaultKind>
     ensures { result ≡ datum_in labels.now width text.now }
 {
     match number_in(text) {
@@ -69,7 +73,7 @@ pub fn also<A: Drop, B: Drop>(
 }
 
 #[tactic(auto, unfolding(crate::specs::Statements::with_data))]
-fn with_data(labels: &Labels, width: Width, count: u64, text: &[u8]) -> Reading
+fn with_data(labels: &Labels, width: DataWidth, count: u64, text: &[u8]) -> StatementReading
     ensures { result ≡ with_data labels.now width count (Ok (Numbers width count)) text.now }
 {
     let mut read = Ok(Statement::Numbers { width, count });
@@ -83,7 +87,7 @@ fn with_data(labels: &Labels, width: Width, count: u64, text: &[u8]) -> Reading
 
 /// A list of numbers and labels.
 #[tactic(auto, unfolding(crate::specs::Statements::statement_of, crate::specs::Statements::said))]
-pub fn numbers_line(labels: &Labels, width: Width, text: &[u8]) -> Reading
+pub fn numbers_line(labels: &Labels, width: DataWidth, text: &[u8]) -> StatementReading
     ensures { result ≡ statement_of labels.now (names.Numbers width) text.now }
 {
     let count = how_many(text);
@@ -95,7 +99,7 @@ pub fn numbers_line(labels: &Labels, width: Width, text: &[u8]) -> Reading
 
 /// A number of zero bytes.
 #[tactic(auto, unfolding(crate::specs::Statements::statement_of, crate::specs::Statements::said))]
-pub fn space_line(text: &[u8]) -> Reading
+pub fn space_line(text: &[u8]) -> StatementReading
     ensures { result ≡ statement_of [] names.Space text.now }
 {
     let number = natural_in(u64::MAX, first_operand(text));
@@ -116,7 +120,7 @@ fn power_in(text: &[u8]) -> Result<Shift, SourceFaultKind>
 
 /// A power of 2, 0 to 12.
 #[tactic(auto, unfolding(crate::specs::Statements::statement_of, crate::specs::Statements::said))]
-pub fn align_line(text: &[u8]) -> Reading
+pub fn align_line(text: &[u8]) -> StatementReading
     ensures { result ≡ statement_of [] names.Align text.now }
 {
     let power = counted(1, how_many(text), power_in(first_operand(text)))?;
@@ -125,7 +129,7 @@ pub fn align_line(text: &[u8]) -> Reading
 
 /// A name, to no effect.
 #[tactic(auto, unfolding(crate::specs::Statements::statement_of, crate::specs::Statements::said))]
-pub fn global_line(text: &[u8]) -> Reading
+pub fn global_line(text: &[u8]) -> StatementReading
     ensures { result ≡ statement_of [] names.Global text.now }
 {
     let read = match name_in(first_operand(text)) {

@@ -13,7 +13,7 @@ use crate::operand::{
     address_in, counted, first_operand, full_address_in, how_many, immediate_in, natural_in,
     register_in, second_operand, third_operand,
 };
-use crate::statement::{Reading, Statement, return_address};
+use crate::statement::{Statement, StatementReading, return_address};
 use evm_asm_lexer::{SourceFaultKind, both};
 use evm_isa::{ImmediateOp, Inst, LoadOp, Register, RegisterOp, Shift, ShiftOp, StoreOp, WordOp};
 
@@ -33,7 +33,7 @@ fn three_registers(text: &[u8]) -> Result<(Register, (Register, Register)), Sour
 
 /// `rd, rs1, rs2`, of 64 bits.
 #[tactic(auto, unfolding(crate::specs::Statements::statement_of, crate::specs::Statements::said))]
-pub fn register_line(op: RegisterOp, text: &[u8]) -> Reading
+pub fn register_line(op: RegisterOp, text: &[u8]) -> StatementReading
     ensures { result ≡ statement_of [] (names.Register op) text.now }
 {
     let (rd, (rs1, rs2)) = three_registers(text)?;
@@ -42,7 +42,7 @@ pub fn register_line(op: RegisterOp, text: &[u8]) -> Reading
 
 /// `rd, rs1, rs2`, of 32 bits.
 #[tactic(auto, unfolding(crate::specs::Statements::statement_of, crate::specs::Statements::said))]
-pub fn word_line(op: WordOp, text: &[u8]) -> Reading
+pub fn word_line(op: WordOp, text: &[u8]) -> StatementReading
     ensures { result ≡ statement_of [] (names.Word op) text.now }
 {
     let (rd, (rs1, rs2)) = three_registers(text)?;
@@ -66,7 +66,7 @@ fn two_registers_and_immediate(text: &[u8]) -> Result<(Register, (Register, i32)
 
 /// `rd, rs1, imm`.
 #[tactic(auto, unfolding(crate::specs::Statements::statement_of, crate::specs::Statements::said))]
-pub fn immediate_line(op: ImmediateOp, text: &[u8]) -> Reading
+pub fn immediate_line(op: ImmediateOp, text: &[u8]) -> StatementReading
     ensures { result ≡ statement_of [] (names.Immediate op) text.now }
 {
     let (rd, (rs1, immediate)) = two_registers_and_immediate(text)?;
@@ -117,7 +117,7 @@ fn two_registers_and_amount(
 
 /// `rd, rs1, amount`.
 #[tactic(auto, unfolding(crate::specs::Statements::statement_of, crate::specs::Statements::said))]
-pub fn shift_line(op: ShiftOp, text: &[u8]) -> Reading
+pub fn shift_line(op: ShiftOp, text: &[u8]) -> StatementReading
     ensures { result ≡ statement_of [] (names.Shift op) text.now }
 {
     let (rd, (rs1, amount)) = two_registers_and_amount(op, text)?;
@@ -141,7 +141,7 @@ fn register_and_address(text: &[u8]) -> Result<(Register, (i32, Register)), Sour
 
 /// `rd, imm(rs1)`.
 #[tactic(auto, unfolding(crate::specs::Statements::statement_of, crate::specs::Statements::said))]
-pub fn load_line(op: LoadOp, text: &[u8]) -> Reading
+pub fn load_line(op: LoadOp, text: &[u8]) -> StatementReading
     ensures { result ≡ statement_of [] (names.Load op) text.now }
 {
     let (rd, (offset, rs1)) = register_and_address(text)?;
@@ -155,7 +155,7 @@ pub fn load_line(op: LoadOp, text: &[u8]) -> Reading
 
 /// `rs2, imm(rs1)`.
 #[tactic(auto, unfolding(crate::specs::Statements::statement_of, crate::specs::Statements::said))]
-pub fn store_line(op: StoreOp, text: &[u8]) -> Reading
+pub fn store_line(op: StoreOp, text: &[u8]) -> StatementReading
     ensures { result ≡ statement_of [] (names.Store op) text.now }
 {
     let (rs2, (offset, rs1)) = register_and_address(text)?;
@@ -199,7 +199,7 @@ fn register_and_upper(text: &[u8]) -> Result<(Register, i32), SourceFaultKind>
 
 /// `rd, imm`, of lui.
 #[tactic(auto, unfolding(crate::specs::Statements::statement_of, crate::specs::Statements::said))]
-pub fn lui_line(text: &[u8]) -> Reading
+pub fn lui_line(text: &[u8]) -> StatementReading
     ensures { result ≡ statement_of [] names.Lui text.now }
 {
     let (rd, immediate) = register_and_upper(text)?;
@@ -208,7 +208,7 @@ pub fn lui_line(text: &[u8]) -> Reading
 
 /// `rd, imm`, of auipc.
 #[tactic(auto, unfolding(crate::specs::Statements::statement_of, crate::specs::Statements::said))]
-pub fn auipc_line(text: &[u8]) -> Reading
+pub fn auipc_line(text: &[u8]) -> StatementReading
     ensures { result ≡ statement_of [] names.Auipc text.now }
 {
     let (rd, immediate) = register_and_upper(text)?;
@@ -217,7 +217,7 @@ pub fn auipc_line(text: &[u8]) -> Reading
 
 /// `rs1`, of a jump that links in a given register.
 #[tactic(auto, unfolding(crate::specs::Statements::said))]
-pub fn jump_register_line(rd: Register, text: &[u8]) -> Reading
+pub fn jump_register_line(rd: Register, text: &[u8]) -> StatementReading
     ensures { result ≡ said [] (Each (slot.Register ∷ []) (λ rs1. One (inst.Jalr rd rs1 (pos 0)))) text.now }
 {
     let rs1 = counted(1, how_many(text), register_in(first_operand(text)))?;
@@ -236,7 +236,7 @@ fn register_and_full_address(text: &[u8]) -> Result<(Register, (i32, Register)),
 
 /// `rd, imm(rs1)`, or `rs1` with x1 as the link.
 #[tactic(auto, unfolding(crate::specs::Statements::statement_of, crate::specs::Statements::said))]
-pub fn jalr_line(text: &[u8]) -> Reading
+pub fn jalr_line(text: &[u8]) -> StatementReading
     ensures { result ≡ statement_of [] names.Jalr text.now }
 {
     if how_many(text) == 1 {

@@ -5,7 +5,7 @@ ghost use Rattle.evm_asm_parser.specs.Kept.{kept_statement};
 
 use crate::memory::push;
 use crate::spot::Spot;
-use crate::statement::{Reading, Statement};
+use crate::statement::{Statement, StatementReading};
 use evm_room::Refused;
 use std::alloc::Global;
 use std::marker::Model;
@@ -43,7 +43,7 @@ impl KeptLines {
     }
 
     /// Keeps one line more: its statement, where that names no label.
-    pub fn keep(&mut self, spot: Spot, reading: &Reading) -> Result<(), Refused>
+    pub fn keep(&mut self, spot: Spot, reading: &StatementReading) -> Result<(), Refused>
         ensures ok { OnOk result (self.new ≡ self.old ++ kept_statement spot reading.now ∷ []) }
         ensures refused { IfErr result (λ asked. asked ≡ 1) }
     {

@@ -16,7 +16,7 @@ pub fn push<T: Drop>(v: &mut Vec<T>, element: T) -> Result<(), Refused>
 }
 
 /// Puts bytes behind the others.
-pub fn extend(v: &mut Vec<u8>, bytes: &[u8]) -> Result<(), Refused>
+pub fn extend_bytes(v: &mut Vec<u8>, bytes: &[u8]) -> Result<(), Refused>
     ensures ok { OnOk result (v.new.items ≡ v.old.items ++ bytes.now) }
     ensures refused { IfErr result (λ asked. asked ≡ length bytes.now) }
 {
@@ -33,6 +33,6 @@ pub(crate) fn copied(alloc: Global, bytes: &[u8]) -> Result<Vec<u8>, Refused>
     ensures refused { IfErr result (λ asked. asked ≡ length bytes.now) }
 {
     let mut copy = Vec::new(alloc);
-    extend(&mut copy, bytes)?;
+    extend_bytes(&mut copy, bytes)?;
     Ok(copy)
 }

@@ -8,7 +8,7 @@ ghost use Rattle.evm_asm_parser.specs.Forms.{bare_instruction, unary_instruction
 ghost use Rattle.evm_asm_parser.specs.Statements.{all_operands_in, statement_of};
 
 use crate::operand::{counted, first_operand, how_many, integer_in, register_in, second_operand};
-use crate::statement::{Reading, Statement, return_address, zero};
+use crate::statement::{Statement, StatementReading, return_address, zero};
 use evm_asm_lexer::{BareOp, SourceFaultKind, UnaryOp, both};
 use evm_isa::{ImmediateOp, Inst, Register, RegisterOp, WordOp};
 
@@ -40,7 +40,7 @@ fn bare_instruction(op: BareOp) -> Inst
 
 /// A line without operands.
 #[tactic(auto, unfolding(crate::specs::Statements::statement_of, crate::specs::Statements::said))]
-pub fn bare_line(op: BareOp, text: &[u8]) -> Reading
+pub fn bare_line(op: BareOp, text: &[u8]) -> StatementReading
     ensures { result ≡ statement_of [] (names.Bare op) text.now }
 {
     counted(0, how_many(text), Ok(()))?;
@@ -97,7 +97,7 @@ fn two_registers(text: &[u8]) -> Result<(Register, Register), SourceFaultKind>
 
 /// `rd, rs`.
 #[tactic(auto, unfolding(crate::specs::Statements::statement_of, crate::specs::Statements::said))]
-pub fn unary_line(op: UnaryOp, text: &[u8]) -> Reading
+pub fn unary_line(op: UnaryOp, text: &[u8]) -> StatementReading
     ensures { result ≡ statement_of [] (names.Unary op) text.now }
 {
     let (rd, rs) = two_registers(text)?;
@@ -106,7 +106,7 @@ pub fn unary_line(op: UnaryOp, text: &[u8]) -> Reading
 
 /// `rd, number`, from -2147483648 to 2147483647.
 #[tactic(auto, unfolding(crate::specs::Statements::statement_of, crate::specs::Statements::said))]
-pub fn load_immediate_line(text: &[u8]) -> Reading
+pub fn load_immediate_line(text: &[u8]) -> StatementReading
     ensures { result ≡ statement_of [] names.LoadImmediate text.now }
 {
     let number = integer_in(2147483648, 2147483647, second_operand(text));

@@ -16,7 +16,7 @@ use crate::target::{
     branch_line, branch_zero_line, jal_line, jump_line, load_address_line, swapped_line,
     zero_branch_line,
 };
-use evm_asm_lexer::{Mnemonic, Section, SourceFaultKind, Width};
+use evm_asm_lexer::{DataWidth, Mnemonic, Section, SourceFaultKind};
 use evm_isa::{BranchOp, Inst, Register, Shift};
 
 /// One number of a data directive.
@@ -55,7 +55,7 @@ pub enum Statement {
     Section(Section),
     /// Numbers of this width, and how many the text has.
     Numbers {
-        width: Width,
+        width: DataWidth,
         count: u64,
     },
     /// A number of zero bytes.
@@ -65,7 +65,7 @@ pub enum Statement {
 }
 
 /// A statement, or why a line has none.
-pub type Reading = Result<Statement, SourceFaultKind>;
+pub type StatementReading = Result<Statement, SourceFaultKind>;
 
 /// x0.
 pub fn zero() -> Register
@@ -89,7 +89,7 @@ pub fn return_address() -> Register
 
 /// The statement of a mnemonic and the text of its operands.
 #[tactic(auto, unfolding(crate::specs::Statements::statement_of, crate::specs::Statements::said))]
-pub fn statement_of(labels: &Labels, mnemonic: Mnemonic, text: &[u8]) -> Reading
+pub fn statement_of(labels: &Labels, mnemonic: Mnemonic, text: &[u8]) -> StatementReading
     ensures { result ≡ statement_of labels.now mnemonic text.now }
 {
     match mnemonic {

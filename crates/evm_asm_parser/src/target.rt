@@ -12,7 +12,7 @@ use crate::operand::{
     counted, first_operand, how_many, label_in, register_in, second_operand, third_operand,
 };
 use crate::spot::Spot;
-use crate::statement::{Reading, Statement, return_address, zero};
+use crate::statement::{Statement, StatementReading, return_address, zero};
 use evm_asm_lexer::{SourceFaultKind, both};
 use evm_isa::{BranchOp, Register};
 
@@ -35,7 +35,7 @@ fn two_registers_and_label(
 
 /// `rs1, rs2, label`.
 #[tactic(auto, unfolding(crate::specs::Statements::statement_of, crate::specs::Statements::said))]
-pub fn branch_line(labels: &Labels, op: BranchOp, text: &[u8]) -> Reading
+pub fn branch_line(labels: &Labels, op: BranchOp, text: &[u8]) -> StatementReading
     ensures { result ≡ statement_of labels.now (names.Branch op) text.now }
 {
     let (rs1, (rs2, target)) = two_registers_and_label(labels, text)?;
@@ -49,7 +49,7 @@ pub fn branch_line(labels: &Labels, op: BranchOp, text: &[u8]) -> Reading
 
 /// `rs2, rs1, label`.
 #[tactic(auto, unfolding(crate::specs::Statements::statement_of, crate::specs::Statements::said))]
-pub fn swapped_line(labels: &Labels, op: BranchOp, text: &[u8]) -> Reading
+pub fn swapped_line(labels: &Labels, op: BranchOp, text: &[u8]) -> StatementReading
     ensures { result ≡ statement_of labels.now (names.BranchSwapped op) text.now }
 {
     let (rs2, (rs1, target)) = two_registers_and_label(labels, text)?;
@@ -76,7 +76,7 @@ fn register_and_label(
 
 /// `rs1, label`, compared with x0.
 #[tactic(auto, unfolding(crate::specs::Statements::statement_of, crate::specs::Statements::said))]
-pub fn branch_zero_line(labels: &Labels, op: BranchOp, text: &[u8]) -> Reading
+pub fn branch_zero_line(labels: &Labels, op: BranchOp, text: &[u8]) -> StatementReading
     ensures { result ≡ statement_of labels.now (names.BranchZero op) text.now }
 {
     let (rs1, target) = register_and_label(labels, text)?;
@@ -90,7 +90,7 @@ pub fn branch_zero_line(labels: &Labels, op: BranchOp, text: &[u8]) -> Reading
 
 /// `rs2, label`, which x0 is compared with.
 #[tactic(auto, unfolding(crate::specs::Statements::statement_of, crate::specs::Statements::said))]
-pub fn zero_branch_line(labels: &Labels, op: BranchOp, text: &[u8]) -> Reading
+pub fn zero_branch_line(labels: &Labels, op: BranchOp, text: &[u8]) -> StatementReading
     ensures { result ≡ statement_of labels.now (names.ZeroBranch op) text.now }
 {
     let (rs2, target) = register_and_label(labels, text)?;
@@ -104,7 +104,7 @@ pub fn zero_branch_line(labels: &Labels, op: BranchOp, text: &[u8]) -> Reading
 
 /// `label`, of a jump that links in a given register.
 #[tactic(auto, unfolding(crate::specs::Statements::said))]
-pub fn jump_line(labels: &Labels, rd: Register, text: &[u8]) -> Reading
+pub fn jump_line(labels: &Labels, rd: Register, text: &[u8]) -> StatementReading
     ensures { result ≡ said labels.now (Each (slot.Label ∷ []) (λ target. Jump rd target)) text.now }
 {
     let target = counted(1, how_many(text), label_in(labels, first_operand(text)))?;
@@ -113,7 +113,7 @@ pub fn jump_line(labels: &Labels, rd: Register, text: &[u8]) -> Reading
 
 /// `rd, label`, or `label` with x1 as the link.
 #[tactic(auto, unfolding(crate::specs::Statements::statement_of, crate::specs::Statements::said))]
-pub fn jal_line(labels: &Labels, text: &[u8]) -> Reading
+pub fn jal_line(labels: &Labels, text: &[u8]) -> StatementReading
     ensures { result ≡ statement_of labels.now names.Jal text.now }
 {
     if how_many(text) == 1 {
@@ -125,7 +125,7 @@ pub fn jal_line(labels: &Labels, text: &[u8]) -> Reading
 
 /// `rd, label`.
 #[tactic(auto, unfolding(crate::specs::Statements::statement_of, crate::specs::Statements::said))]
-pub fn load_address_line(labels: &Labels, text: &[u8]) -> Reading
+pub fn load_address_line(labels: &Labels, text: &[u8]) -> StatementReading
     ensures { result ≡ statement_of labels.now names.LoadAddress text.now }
 {
     let (rd, target) = register_and_label(labels, text)?;

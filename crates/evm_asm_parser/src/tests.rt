@@ -31,7 +31,7 @@ fn labels_with_here(rt: &impl AllocGlobal) -> Result<Labels, Fail> {
 }
 
 // What a line without labels says, where its mnemonic is known.
-fn reading_of(labels: &Labels, line: &str) -> Option<Reading> {
+fn reading_of(labels: &Labels, line: &str) -> Option<StatementReading> {
     let text = line.as_bytes();
     match mnemonic_named(first_word(text)) {
         Some(mnemonic) => Some(statement_of(labels, mnemonic, behind_word(text))),
@@ -313,9 +313,9 @@ fn each_fault(rt: HostRuntime) -> Result<(), Fail> {
 #[test]
 fn data(rt: HostRuntime) -> Result<(), Fail> {
     let labels = labels_with_here(&rt)?;
-    let byte = evm_asm_lexer::Width::Byte;
-    let word = evm_asm_lexer::Width::Word;
-    let dword = evm_asm_lexer::Width::Dword;
+    let byte = evm_asm_lexer::DataWidth::Byte;
+    let word = evm_asm_lexer::DataWidth::Word;
+    let dword = evm_asm_lexer::DataWidth::Dword;
     for (width, text, wanted) in [
         (byte, "-128", Ok(Datum::Value(0xffff_ffff_ffff_ff80))),
         (byte, "here", Err(BadOperand)),

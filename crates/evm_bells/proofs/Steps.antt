@@ -17,12 +17,12 @@ use Rattle.evm_lines.specs.declared.TheConstants.{LINES}
 use Rattle.evm_bells.specs.declared.counts.TheConstants.{PROCESSOR_LIMIT}
 use Rattle.evm_bells.specs.Batches.{Batch, count}
 use Rattle.evm_bells.specs.Rule.{whole_weight, total, WeighsNothing, WeighNothing, AreAccounted, view_of, first_view, rung, Rings, took, Takes, Weighs, half_kept, half_given, one_kept, one_given, joined, spent}
-use Rattle.evm_bells.specs.declared.rule.View.{View}
+use Rattle.evm_bells.specs.declared.rule.SeatView.{SeatView}
 use Rattle.evm_bells.proofs.Sums.{total_set, total_snoc, idle_set, idle_snoc, weight_below, alone, count-append}
 use Rattle.evm_bells.specs.Seats.{AddsUp}
 
 -- what a step adds to the fresh batches, it adds to the taken ones and to the word
-abbrev Moves : List ℕ → List ℕ → View → View → Type 0
+abbrev Moves : List ℕ → List ℕ → SeatView → SeatView → Type 0
 Moves words new v w = (b l : ℕ) → count w.fresh b l + (count v.taken b l + bit_at (slice_index words b) l) ≡ count v.fresh b l + (count w.taken b l + bit_at (slice_index new b) l)
 
 narrow_set : (words : List ℕ) (c n b : ℕ) → c < length words → n < 2 ^ LINES → slice_index words b < 2 ^ LINES → Dec (b ≡ c) → slice_index (set words c n) b < 2 ^ LINES
@@ -30,7 +30,7 @@ narrow_set words c n b there low old (yes same) = rw same (rw (get_or-set_same w
 narrow_set words c n b there low old (no other) = rw (get_or-set_other words c b n 0 other) old
 
 -- one step of a seat that has weight
-pub one_step : (cpus : ℕ) (words : List ℕ) (views : List View) (id c n : ℕ) (v w : View) → AreAccounted cpus words views → get_elem? views id ≡ some v
+pub one_step : (cpus : ℕ) (words : List ℕ) (views : List SeatView) (id c n : ℕ) (v w : SeatView) → AreAccounted cpus words views → get_elem? views id ≡ some v
     → c < cpus → n < 2 ^ LINES → 0 < v.weight → w.weight ≡ v.weight → Moves words (set words c n) v w → AreAccounted cpus (set words c n) (set views id w)
 one_step cpus words views id c n v w kept at there low some_weight same moves = record {
   sized = length-set words c n ∙ kept.sized;
@@ -69,7 +69,7 @@ at_set_here words c n l there = ap (λ (x : ℕ). bit_at x l) (get_or-set_same w
 at_set_there : (words : List ℕ) (b c n l : ℕ) → b ≢ c → bit_at (slice_index (set words c n) b) l ≡ bit_at (slice_index words b) l
 at_set_there words b c n l other = ap (λ (x : ℕ). bit_at x l) (get_or-set_other words c b n 0 other)
 
-fresh_moves : (words : List ℕ) (c line : ℕ) (v : View) → c < length words → bit_at (slice_index words c) line ≡ 0
+fresh_moves : (words : List ℕ) (c line : ℕ) (v : SeatView) → c < length words → bit_at (slice_index words c) line ≡ 0
     → Moves words (set words c (bit_or (slice_index words c) (2 ^ line))) v (view_of v.weight (v.fresh ++ (c, 2 ^ line) ∷ []) v.taken)
 fresh_moves words c line v there off b l = by_place (ℕ_discrete b c)
   where
@@ -77,7 +77,7 @@ fresh_moves words c line v there off b l = by_place (ℕ_discrete b c)
     by_place (yes same) = rw same (omega (arith, count-append v.fresh ((c, 2 ^ line) ∷ []) c l, mark_here c (2 ^ line) l, at_set_here words c (bit_or (slice_index words c) (2 ^ line)) l there, off_or (slice_index words c) line l off (ℕ_discrete l line)))
     by_place (no other) = omega (arith, count-append v.fresh ((c, 2 ^ line) ∷ []) b l, mark_elsewhere b c (2 ^ line) l other, at_set_there words b c (bit_or (slice_index words c) (2 ^ line)) l other)
 
-stale_moves : (words : List ℕ) (c line : ℕ) (v : View) → c < length words → bit_at (slice_index words c) line ≡ 1
+stale_moves : (words : List ℕ) (c line : ℕ) (v : SeatView) → c < length words → bit_at (slice_index words c) line ≡ 1
     → Moves words (set words c (bit_or (slice_index words c) (2 ^ line))) v v
 stale_moves words c line v there on b l = by_place (ℕ_discrete b c)
   where
@@ -85,7 +85,7 @@ stale_moves words c line v there on b l = by_place (ℕ_discrete b c)
     by_place (yes same) = rw same (omega (arith, at_set_here words c (bit_or (slice_index words c) (2 ^ line)) l there, on_or (slice_index words c) line l on (ℕ_discrete l line)))
     by_place (no other) = omega (arith, at_set_there words b c (bit_or (slice_index words c) (2 ^ line)) l other)
 
-ring_moves : (words : List ℕ) (c line : ℕ) (v : View) (d : ℕ) → c < length words → bit_at (slice_index words c) line ≡ d → d < 2
+ring_moves : (words : List ℕ) (c line : ℕ) (v : SeatView) (d : ℕ) → c < length words → bit_at (slice_index words c) line ≡ d → d < 2
     → Moves words (set words c (bit_or (slice_index words c) (2 ^ line))) v (rung c (2 ^ line) (slice_index words c) v)
 ring_moves words c line v zero there off small =
     let clear : bit_and (slice_index words c) (2 ^ line) ≡ 0 = and_pow (slice_index words c) line ∙ rw off (omega arith) in
@@ -97,7 +97,7 @@ ring_moves words c line v (suc zero) there on small =
     rw test (stale_moves words c line v there on)
 ring_moves words c line v (suc (suc d)) there on small = absurd (omega arith)
 
-rung_weight : (c bit n : ℕ) (v : View) → (rung c bit n v).weight ≡ v.weight
+rung_weight : (c bit n : ℕ) (v : SeatView) → (rung c bit n v).weight ≡ v.weight
 rung_weight c bit n v = by_test (bit_and n bit == 0)
   where
     by_test : (b : Bool) → (if b then view_of v.weight (v.fresh ++ (c, bit) ∷ []) v.taken else v).weight ≡ v.weight
@@ -107,8 +107,8 @@ rung_weight c bit n v = by_test (bit_and n bit == 0)
 or_below : (n line : ℕ) → n < 2 ^ LINES → line < LINES → bit_or n (2 ^ line) < 2 ^ LINES
 or_below n line low small = or_lt LINES n (2 ^ line) low (pow-lt small)
 
-pub rings : (cpus slots id c line bit : ℕ) (me : Me (Unit {0}) View) → bit ≡ 2 ^ line → c < cpus → line < LINES → 0 < me.0.weight
-    → Allows (λ (s : State (Unit {0}) View). AreAccounted cpus s.words s.views) slots id me c (λ n. bit_or n bit) (Rings (step slots c bit 0 none) me)
+pub rings : (cpus slots id c line bit : ℕ) (me : Me (Unit {0}) SeatView) → bit ≡ 2 ^ line → c < cpus → line < LINES → 0 < me.0.weight
+    → Allows (λ (s : State (Unit {0}) SeatView). AreAccounted cpus s.words s.views) slots id me c (λ n. bit_or n bit) (Rings (step slots c bit 0 none) me)
 rings cpus slots id c line bit me is there small weighty s kept homes at word =
     let n = slice_index s.words c in
     let v = me.0 in
@@ -122,15 +122,15 @@ rings cpus slots id c line bit me is there small weighty s kept homes at word =
     )
 
 -- ---- a take
-take_moves : (words : List ℕ) (c : ℕ) (v : View) → c < length words → Moves words (set words c 0) v (took c (slice_index words c) v)
+take_moves : (words : List ℕ) (c : ℕ) (v : SeatView) → c < length words → Moves words (set words c 0) v (took c (slice_index words c) v)
 take_moves words c v there b l = by_place (ℕ_discrete b c)
   where
     by_place : Dec (b ≡ c) → count v.fresh b l + (count v.taken b l + bit_at (slice_index words b) l) ≡ count v.fresh b l + (count (v.taken ++ (c, slice_index words c) ∷ []) b l + bit_at (slice_index (set words c 0) b) l)
     by_place (yes same) = rw same (omega (arith, count-append v.taken ((c, slice_index words c) ∷ []) c l, mark_here c (slice_index words c) l, at_set_here words c 0 l there, bit_at-zero l))
     by_place (no other) = omega (arith, count-append v.taken ((c, slice_index words c) ∷ []) b l, mark_elsewhere b c (slice_index words c) l other, at_set_there words b c 0 l other)
 
-pub takes : (cpus slots id c : ℕ) (me : Me (Unit {0}) View) → c < cpus → 0 < me.0.weight
-    → Allows (λ (s : State (Unit {0}) View). AreAccounted cpus s.words s.views) slots id me c (λ n. 0) (Takes (step slots c 0 0 none) me)
+pub takes : (cpus slots id c : ℕ) (me : Me (Unit {0}) SeatView) → c < cpus → 0 < me.0.weight
+    → Allows (λ (s : State (Unit {0}) SeatView). AreAccounted cpus s.words s.views) slots id me c (λ n. 0) (Takes (step slots c 0 0 none) me)
 takes cpus slots id c me there weighty s kept homes at word =
     let n = slice_index s.words c in
     let v = me.0 in
@@ -143,15 +143,15 @@ takes cpus slots id c me there weighty s kept homes at word =
     )
 
 -- ---- a look at the weight
-same_moves : (words : List ℕ) (c : ℕ) (v : View) → c < length words → Moves words (set words c (slice_index words c)) v v
+same_moves : (words : List ℕ) (c : ℕ) (v : SeatView) → c < length words → Moves words (set words c (slice_index words c)) v v
 same_moves words c v there b l = by_place (ℕ_discrete b c)
   where
     by_place : Dec (b ≡ c) → count v.fresh b l + (count v.taken b l + bit_at (slice_index words b) l) ≡ count v.fresh b l + (count v.taken b l + bit_at (slice_index (set words c (slice_index words c)) b) l)
     by_place (yes same) = rw same (omega (arith, at_set_here words c (slice_index words c) l there))
     by_place (no other) = omega (arith, at_set_there words b c (slice_index words c) l other)
 
-pub weighs : (cpus slots id : ℕ) (me : Me (Unit {0}) View) → 0 < cpus → cpus ≤ PROCESSOR_LIMIT → 0 < me.0.weight
-    → Allows (λ (s : State (Unit {0}) View). AreAccounted cpus s.words s.views) slots id me 0 (λ n. n) (Weighs (step slots 0 0 0 none) me)
+pub weighs : (cpus slots id : ℕ) (me : Me (Unit {0}) SeatView) → 0 < cpus → cpus ≤ PROCESSOR_LIMIT → 0 < me.0.weight
+    → Allows (λ (s : State (Unit {0}) SeatView). AreAccounted cpus s.words s.views) slots id me 0 (λ n. n) (Weighs (step slots 0 0 0 none) me)
 weighs cpus slots id me any few weighty s kept homes at word =
     let v = me.0 in
     let here : 0 < length s.words = rw kept.sized any in (
@@ -163,9 +163,9 @@ weighs cpus slots id me any few weighty s kept homes at word =
     )
 
 -- ---- seats part and meet
-pub parts : (cpus id : ℕ) (v : View) (left given : View) → 0 < left.weight → 0 < given.weight → left.weight + given.weight ≡ v.weight
+pub parts : (cpus id : ℕ) (v : SeatView) (left given : SeatView) → 0 < left.weight → 0 < given.weight → left.weight + given.weight ≡ v.weight
     → ((c l : ℕ) → count left.fresh c l + count given.fresh c l ≡ count v.fresh c l) → ((c l : ℕ) → count left.taken c l + count given.taken c l ≡ count v.taken c l)
-    → Splits (λ (s : State (Unit {0}) View). AreAccounted cpus s.words s.views) id v left given
+    → Splits (λ (s : State (Unit {0}) SeatView). AreAccounted cpus s.words s.views) id v left given
 parts cpus id v left given some_left some_given weights fresh taken s kept at =
     let after = set s.views id left in record {
       sized = kept.sized;
@@ -184,8 +184,8 @@ parts cpus id v left given some_left some_given weights fresh taken s kept at =
       idle = idle_snoc after given (λ none. absurd (omega arith)) (idle_set s.views id left (λ none. absurd (omega arith)) kept.idle);
     }
 
-pub meets : (cpus id other : ℕ) (v w : View) → 0 < v.weight
-    → Joins (λ (s : State (Unit {0}) View). AreAccounted cpus s.words s.views) id v other w (joined v w) spent
+pub meets : (cpus id other : ℕ) (v w : SeatView) → 0 < v.weight
+    → Joins (λ (s : State (Unit {0}) SeatView). AreAccounted cpus s.words s.views) id v other w (joined v w) spent
 meets cpus id other v w some_weight s kept at apart there =
     let both = joined v w in
     let once = set s.views id both in record {
@@ -238,14 +238,14 @@ read_words words left cpus long low high c = by_place (dec_le cpus c)
     by_place (yes past) = past_end words c (rw long past) ∙ sym (high c past)
     by_place (no below) = elem_index words c (slice_index left c) (low c (lt_of_not-le below))
 
-nothing_fresh : (c l : ℕ) (v : View) → WeighsNothing v → v.weight ≡ 0 → count v.fresh c l ≡ 0
+nothing_fresh : (c l : ℕ) (v : SeatView) → WeighsNothing v → v.weight ≡ 0 → count v.fresh c l ≡ 0
 nothing_fresh c l v idle light = ap (λ m. count m c l) (idle light).0
 
-nothing_taken : (c l : ℕ) (v : View) → WeighsNothing v → v.weight ≡ 0 → count v.taken c l ≡ 0
+nothing_taken : (c l : ℕ) (v : SeatView) → WeighsNothing v → v.weight ≡ 0 → count v.taken c l ≡ 0
 nothing_taken c l v idle light = ap (λ m. count m c l) (idle light).1
 
 -- a view with all the weight knows that the bells balance
-pub settles : (cpus : ℕ) (words left : List ℕ) (views : List View) (id : ℕ) (v : View) → AreAccounted cpus words views → get_elem? views id ≡ some v → v.weight ≡ whole_weight cpus
+pub settles : (cpus : ℕ) (words left : List ℕ) (views : List SeatView) (id : ℕ) (v : SeatView) → AreAccounted cpus words views → get_elem? views id ≡ some v → v.weight ≡ whole_weight cpus
     → ((c : ℕ) → slice_index words c ≡ slice_index left c) → AddsUp v.fresh v.taken left
 settles cpus words left views id v kept at all same c l =
     let weights : total (λ u. u.weight) views ≡ v.weight = kept.weighs ∙ sym all in

@@ -5,23 +5,23 @@ use Rattle.atomic_table.specs.Table.{Step, Me}
 use Rattle.evm_lines.specs.declared.TheConstants.{LINES}
 use Rattle.evm_bells.specs.declared.bells.TheConstants.{RINGER_WEIGHT}
 use Rattle.evm_bells.specs.declared.counts.TheConstants.{PROCESSOR_LIMIT}
-use Rattle.evm_bells.specs.declared.rule.View.{View}
+use Rattle.evm_bells.specs.declared.rule.SeatView.{SeatView}
 use Rattle.evm_bells.specs.Batches.{Batch, count}
 
 -- what a seat of this weight knows that has rung and taken these
-abbrev pub view_of : ℕ → List Batch → List Batch → View
+abbrev pub view_of : ℕ → List Batch → List Batch → SeatView
 view_of weight fresh taken = record { weight = weight; fresh = fresh; taken = taken }
 
 -- f of each view, added up
-abbrev pub total : (View → ℕ) → List View → ℕ
+abbrev pub total : (SeatView → ℕ) → List SeatView → ℕ
 total f [] = 0
 total f (v ∷ views) = f v + total f views
 
 -- a view of no weight has rung and taken nothing
-abbrev pub WeighsNothing : View → Type 0
+abbrev pub WeighsNothing : SeatView → Type 0
 WeighsNothing v = v.weight ≡ 0 → (v.fresh ≡ []) × (v.taken ≡ [])
 
-abbrev pub WeighNothing : List View → Type 0
+abbrev pub WeighNothing : List SeatView → Type 0
 WeighNothing [] = Unit {0}
 WeighNothing (v ∷ views) = WeighsNothing v × WeighNothing views
 
@@ -30,7 +30,7 @@ abbrev pub whole_weight : ℕ → ℕ
 whole_weight cpus = RINGER_WEIGHT + cpus
 
 -- each line of each processor was rung fresh as often as it was taken, and once more if it stands in its word
-pub record AreAccounted (cpus : ℕ) (words : List ℕ) (views : List View) : Type 0 where
+pub record AreAccounted (cpus : ℕ) (words : List ℕ) (views : List SeatView) : Type 0 where
   pub sized : length words ≡ cpus
   pub narrow : (c : ℕ) → slice_index words c < 2 ^ LINES
   pub weighs : total (λ v. v.weight) views ≡ whole_weight cpus
@@ -38,48 +38,48 @@ pub record AreAccounted (cpus : ℕ) (words : List ℕ) (views : List View) : Ty
   pub idle : WeighNothing views
 
 -- the first seat has all the weight
-abbrev pub first_view : ℕ → View
+abbrev pub first_view : ℕ → SeatView
 first_view cpus = view_of (whole_weight cpus) [] []
 
 -- ---- what a step tells its seat
 
 -- a ring of the line of this bit, where the word was n: fresh if the bit was off
-abbrev pub rung : ℕ → ℕ → ℕ → View → View
+abbrev pub rung : ℕ → ℕ → ℕ → SeatView → SeatView
 rung c bit n v = if bit_and n bit == 0 then view_of v.weight (v.fresh ++ (c, bit) ∷ []) v.taken else v
 
-abbrev pub Rings : Step (Unit {0}) → Me (Unit {0}) View → ℕ → Me (Unit {0}) View → Type 0
+abbrev pub Rings : Step (Unit {0}) → Me (Unit {0}) SeatView → ℕ → Me (Unit {0}) SeatView → Type 0
 Rings s v n w = w ≡ (rung s.word s.first n v.0, v.1)
 
 -- a take of a word that was n
-abbrev pub took : ℕ → ℕ → View → View
+abbrev pub took : ℕ → ℕ → SeatView → SeatView
 took c n v = view_of v.weight v.fresh (v.taken ++ (c, n) ∷ [])
 
-abbrev pub Takes : Step (Unit {0}) → Me (Unit {0}) View → ℕ → Me (Unit {0}) View → Type 0
+abbrev pub Takes : Step (Unit {0}) → Me (Unit {0}) SeatView → ℕ → Me (Unit {0}) SeatView → Type 0
 Takes s v n w = (w ≡ (took s.word n v.0, v.1)) × (n < 2 ^ LINES)
 
 -- no seat weighs more than all of them
-abbrev pub Weighs : Step (Unit {0}) → Me (Unit {0}) View → ℕ → Me (Unit {0}) View → Type 0
+abbrev pub Weighs : Step (Unit {0}) → Me (Unit {0}) SeatView → ℕ → Me (Unit {0}) SeatView → Type 0
 Weighs s v n w = (w ≡ v) × (v.0.weight ≤ whole_weight PROCESSOR_LIMIT)
 
 -- ---- how seats are split and joined
 
 -- half of the weight is given away, rounded down
-abbrev pub half_kept : View → View
+abbrev pub half_kept : SeatView → SeatView
 half_kept v = view_of (v.weight - v.weight / 2) v.fresh v.taken
 
-abbrev pub half_given : View → View
+abbrev pub half_given : SeatView → SeatView
 half_given v = view_of (v.weight / 2) [] []
 
 -- the weight of a taker is given away
-abbrev pub one_kept : View → View
+abbrev pub one_kept : SeatView → SeatView
 one_kept v = view_of (v.weight - 1) v.fresh v.taken
 
-abbrev pub one_given : View → View
+abbrev pub one_given : SeatView → SeatView
 one_given v = view_of 1 [] []
 
 -- one seat has the sums, with what the other has taken first, and the other has nothing
-abbrev pub joined : View → View → View
+abbrev pub joined : SeatView → SeatView → SeatView
 joined v w = view_of (v.weight + w.weight) (v.fresh ++ w.fresh) (w.taken ++ v.taken)
 
-abbrev pub spent : View
+abbrev pub spent : SeatView
 spent = view_of 0 [] []

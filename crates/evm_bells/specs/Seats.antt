@@ -4,7 +4,7 @@ use Rattle.std.specs.Int.{bit_at}
 use Rattle.atomic_table.specs.Seated.{TableId}
 use Rattle.atomic_table.specs.Table.{Me}
 use Rattle.evm_bells.specs.declared.counts.TheConstants.{PROCESSOR_LIMIT}
-use Rattle.evm_bells.specs.declared.rule.View.{View}
+use Rattle.evm_bells.specs.declared.rule.SeatView.{SeatView}
 use Rattle.evm_bells.specs.Batches.{Batch, count, HaveCounted}
 use Rattle.evm_bells.specs.Rule.{whole_weight}
 
@@ -52,7 +52,7 @@ pub record AreBells (cpus key : ℕ) (id : TableId) : Type 0 where
   pub limit : cpus ≤ PROCESSOR_LIMIT
 
 -- a ringer has taken nothing, and its counters have counted what it has rung
-pub record IsRinger (me : Me (Unit {0}) View) (weight : ℕ) (rows : List (List ℕ)) : Type 0 where
+pub record IsRinger (me : Me (Unit {0}) SeatView) (weight : ℕ) (rows : List (List ℕ)) : Type 0 where
   pub weighs : me.0.weight ≡ weight
   pub untaken : me.0.taken ≡ []
   pub empty : me.1 ≡ []
@@ -61,7 +61,7 @@ pub record IsRinger (me : Me (Unit {0}) View) (weight : ℕ) (rows : List (List 
   pub limit : weight ≤ whole_weight PROCESSOR_LIMIT
 
 -- a taker has rung nothing, and its counters have counted what it has taken
-pub record IsTaker (me : Me (Unit {0}) View) (rows : List (List ℕ)) : Type 0 where
+pub record IsTaker (me : Me (Unit {0}) SeatView) (rows : List (List ℕ)) : Type 0 where
   pub weighs : me.0.weight ≡ 1
   pub unrung : me.0.fresh ≡ []
   pub empty : me.1 ≡ []

@@ -4,7 +4,7 @@ ghost use Rattle.evm_bells.specs.Seats.{IsNewRinger, IsNewTaker};
 ghost use Rattle.evm_bells.specs.declared.bells.BellsRefusal.TheVariants.{BadSize};
 
 use crate::counts::{LineCounts, PROCESSOR_LIMIT};
-use crate::rule::{BellsRule, Both, Halves, One, Rings, Takes, View, Weighs};
+use crate::rule::{BellsRule, Both, Halves, One, Rings, SeatView, Takes, Weighs};
 use atomic_table::{Seat, Table};
 use evm_lines::LINES;
 use evm_room::with_room;
@@ -26,7 +26,7 @@ pub enum BellsRefusal {
 /// A word for each processor, with a bit for each line that was rung there and not taken since.
 #[derive(Drop)]
 pub struct Bells {
-    pub(crate) table: Table<(), View, u8, BellsRule, Global>,
+    pub(crate) table: Table<(), SeatView, u8, BellsRule, Global>,
     pub(crate) cpus: u8,
 }
 
@@ -43,7 +43,7 @@ impl Model for Bells {
 /// A seat that rings. It counts the lines that it has rung fresh.
 #[derive(Drop)]
 pub struct Ringer {
-    pub(crate) seat: Seat<(), View>,
+    pub(crate) seat: Seat<(), SeatView>,
     pub(crate) weight: u64,
     pub(crate) counts: LineCounts,
 }
@@ -61,7 +61,7 @@ impl Model for Ringer {
 /// A seat that takes. It counts the lines that it has taken.
 #[derive(Drop)]
 pub struct Taker {
-    pub(crate) seat: Seat<(), View>,
+    pub(crate) seat: Seat<(), SeatView>,
     pub(crate) counts: LineCounts,
 }
 
@@ -98,7 +98,7 @@ impl Bells {
     fn seated(
         self,
         alloc: Global,
-        mut seat: Seat<(), View>,
+        mut seat: Seat<(), SeatView>,
     ) -> Result<(Bells, Ringer, Vec<Taker>), BellsRefusal>
         requires bells { seat.table_id ≡ self.id }
         requires first { seat.me ≡ (first_view self.cpus, []) }

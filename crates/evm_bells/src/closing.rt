@@ -7,7 +7,7 @@ ghost use Rattle.evm_bells.specs.Seats.{TakerValue, AddsUp, taken_by};
 
 use crate::bells::{Bells, RINGER_WEIGHT, Ringer, Taker};
 use crate::counts::{LineCounts, PROCESSOR_LIMIT};
-use crate::rule::{Both, View};
+use crate::rule::{Both, SeatView};
 use atomic_table::Seat;
 
 /// How often each line was rung fresh and was taken, and the words with the lines that were left.
@@ -58,7 +58,7 @@ impl Bells {
     }
 
     // The takers' seats are joined to this one; the counters are the sums of theirs.
-    fn gather(&self, seat: &mut Seat<(), View>, mut takers: Vec<Taker>) -> LineCounts
+    fn gather(&self, seat: &mut Seat<(), SeatView>, mut takers: Vec<Taker>) -> LineCounts
         requires bells { seat.old.table_id ≡ self.now.id }
         requires takers { All (λ (t : TakerValue). t.bells ≡ self.now.id) takers.items }
         requires weight { 0 < seat.old.me.0.weight }
@@ -82,7 +82,7 @@ impl Bells {
     }
 
     // The words at the end, read by a seat of all the weight.
-    fn left(self, seat: Seat<(), View>) -> [u32; PROCESSOR_LIMIT]
+    fn left(self, seat: Seat<(), SeatView>) -> [u32; PROCESSOR_LIMIT]
         requires bells { seat.table_id ≡ self.id }
         requires all { seat.me.0.weight ≡ whole_weight self.cpus }
         ensures { AddsUp seat.me.0.fresh seat.me.0.taken result }

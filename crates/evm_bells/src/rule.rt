@@ -4,7 +4,7 @@ use atomic_table::{Join, Play, Split, TableRule};
 use std::collections::LinkedList;
 
 /// What a seat knows: its weight, and what it has rung fresh and taken. It has no value at run time.
-pub struct View {
+pub struct SeatView {
     pub weight: u64,
     pub fresh: LinkedList<(u8, u64)>,
     pub taken: LinkedList<(u8, u64)>,
@@ -13,7 +13,7 @@ pub struct View {
 /// Between any two steps each line that was rung fresh was taken or stands in its word.
 pub struct BellsRule;
 
-impl TableRule<(), View, u8> for BellsRule {
+impl TableRule<(), SeatView, u8> for BellsRule {
     ghost use Rattle.evm_bells.specs.Rule.{AreAccounted, first_view};
 
     ghost holds = { λ cpus s. AreAccounted cpus s.words s.views };
@@ -23,7 +23,7 @@ impl TableRule<(), View, u8> for BellsRule {
 
 pub struct Rings;
 
-impl Play<(), View> for Rings {
+impl Play<(), SeatView> for Rings {
     ghost use Rattle.evm_bells.specs.Rule as rule;
 
     ghost then = { rule.Rings };
@@ -31,7 +31,7 @@ impl Play<(), View> for Rings {
 
 pub struct Takes;
 
-impl Play<(), View> for Takes {
+impl Play<(), SeatView> for Takes {
     ghost use Rattle.evm_bells.specs.Rule as rule;
 
     ghost then = { rule.Takes };
@@ -39,7 +39,7 @@ impl Play<(), View> for Takes {
 
 pub struct Weighs;
 
-impl Play<(), View> for Weighs {
+impl Play<(), SeatView> for Weighs {
     ghost use Rattle.evm_bells.specs.Rule as rule;
 
     ghost then = { rule.Weighs };
@@ -47,7 +47,7 @@ impl Play<(), View> for Weighs {
 
 pub struct Halves;
 
-impl Split<View> for Halves {
+impl Split<SeatView> for Halves {
     ghost use Rattle.evm_bells.specs.Rule.{half_kept, half_given};
 
     ghost left = { half_kept };
@@ -57,7 +57,7 @@ impl Split<View> for Halves {
 
 pub struct One;
 
-impl Split<View> for One {
+impl Split<SeatView> for One {
     ghost use Rattle.evm_bells.specs.Rule.{one_kept, one_given};
 
     ghost left = { one_kept };
@@ -67,7 +67,7 @@ impl Split<View> for One {
 
 pub struct Both;
 
-impl Join<View> for Both {
+impl Join<SeatView> for Both {
     ghost use Rattle.evm_bells.specs.Rule.{joined, spent};
 
     ghost both = { joined };

@@ -8,7 +8,7 @@ ghost use Rattle.evm_model.specs.Event.{Event};
 ghost use Rattle.evm_model.specs.declared.event.Event.TheVariants as Event;
 
 /// Events and then others make of every machine what all of them make in one list: a run may be cut anywhere.
-pub fn replays_join()
+pub fn a_run_may_be_cut_anywhere()
     ensures { (s : State) (first rest : List Event) → replay s (first ++ rest) ≡ replay (replay s first) rest }
 {
     evm_runs::replays_join();

@@ -20,7 +20,7 @@ pub use devices::{
     a_load_touches_whatever_its_register, a_register_has_one_address,
     a_tick_changes_devices_by_their_kinds, an_unanswered_access_faults, device_kinds_never_change,
 };
-pub use headline::{a_machine_is_its_journals_replay, replays_join};
+pub use headline::{a_machine_is_its_journals_replay, a_run_may_be_cut_anywhere};
 pub use mutexes::{
     a_mutex_passes_to_the_first_waiter, a_rank_is_never_below_its_own,
     an_owner_ranks_no_lower_than_its_waiters, each_waited_mutex_has_an_owner,

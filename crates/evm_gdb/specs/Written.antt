@@ -1,7 +1,7 @@
 -- What is written for what GDB sent.
 use Rattle.std.specs.Prelude.{◌≡◌, ℕ, Bool, List, [], ◌++◌, codes, if◌then◌else◌}
-use Rattle.evm_gdb_packets.specs.declared.item.Item.{Item}
-use Rattle.evm_gdb_packets.specs.declared.item.Item.TheVariants.{Acknowledged, NotAcknowledged, Interrupt, Packet, Damaged, Noise}
+use Rattle.evm_gdb_packets.specs.declared.item.PacketItem.{PacketItem}
+use Rattle.evm_gdb_packets.specs.declared.item.PacketItem.TheVariants.{Acknowledged, NotAcknowledged, Interrupt, Packet, Damaged, Noise}
 
 -- more is written behind
 pub record Extends (old new : List ℕ) : Type 0 where
@@ -9,7 +9,7 @@ pub record Extends (old new : List ℕ) : Type 0 where
   pub whole : new ≡ old ++ more
 
 -- the acknowledgement of an item: + for a well-formed packet, - for a damaged one
-abbrev pub sign_of : Item → List ℕ
+abbrev pub sign_of : PacketItem → List ℕ
 sign_of Acknowledged = []
 sign_of NotAcknowledged = []
 sign_of Interrupt = []
@@ -18,5 +18,5 @@ sign_of Damaged = codes "-"
 sign_of Noise = []
 
 -- it is written until GDB asks for none
-abbrev pub acknowledgement : Bool → Item → List ℕ
+abbrev pub acknowledgement : Bool → PacketItem → List ℕ
 acknowledgement acknowledges item = if acknowledges then sign_of item else []

@@ -11,7 +11,7 @@ use crate::session::GdbSession;
 use evm_dev::Device;
 use evm_gdb_commands::{Command, read_command};
 use evm_gdb_driving::{Interrupts, part_len, push_bytes};
-use evm_gdb_packets::{Item, push_digits, push_framed, read_item};
+use evm_gdb_packets::{PacketItem, push_digits, push_framed, read_item};
 use evm_room::{NoMemory, Refused};
 use evm_streams::{ReadFault, Reading, Sink, Source, WriteFault, write_all};
 use std::alloc::Global;
@@ -152,12 +152,12 @@ fn push_none(out: &mut Vec<u8>) -> Result<(), NoMemory>
 }
 
 // Appends an acknowledgement, if packets are acknowledged.
-fn push_sign(acknowledges: bool, item: Item, out: &mut Vec<u8>) -> Result<(), NoMemory>
+fn push_sign(acknowledges: bool, item: PacketItem, out: &mut Vec<u8>) -> Result<(), NoMemory>
     ensures ok { OnOk result (out.new.items ≡ out.old.items ++ acknowledgement acknowledges item) }
 {
     let sign: &[u8] = match item {
-        Item::Packet if acknowledges => b"+",
-        Item::Damaged if acknowledges => b"-",
+        PacketItem::Packet if acknowledges => b"+",
+        PacketItem::Damaged if acknowledges => b"-",
         _ => b"",
     };
     match push_bytes(out, sign) {
@@ -193,17 +193,17 @@ fn answer_payload<D: Device, I: Interrupts>(
 fn hear<D: Device, I: Interrupts>(
     alloc: Global,
     session: &mut GdbSession<D>,
-    item: Item,
+    item: PacketItem,
     payload: &[u8],
     interrupts: &I,
     desk: &mut Desk,
 ) -> Result<(), NoMemory>
     ensures kept { KeepsJournal session.old.machine session.new.machine }
     ensures acknowledged { OnOk result (Extends (acknowledgement session.old.acknowledges item) desk.new.out.items) }
-    ensures others { item ≢ Item.Packet → session.new ≡ session.old }
-    ensures sign { item ≢ Item.Packet → OnOk result (desk.new.out.items ≡ acknowledgement session.old.acknowledges item) }
-    ensures unknown { item ≡ Item.Packet → command_at payload.now ≡ Option.None → session.new ≡ session.old }
-    ensures empty { item ≡ Item.Packet → command_at payload.now ≡ Option.None → OnOk result (desk.new.out.items ≡ acknowledgement session.old.acknowledges item ++ framed []) }
+    ensures others { item ≢ PacketItem.Packet → session.new ≡ session.old }
+    ensures sign { item ≢ PacketItem.Packet → OnOk result (desk.new.out.items ≡ acknowledgement session.old.acknowledges item) }
+    ensures unknown { item ≡ PacketItem.Packet → command_at payload.now ≡ Option.None → session.new ≡ session.old }
+    ensures empty { item ≡ PacketItem.Packet → command_at payload.now ≡ Option.None → OnOk result (desk.new.out.items ≡ acknowledgement session.old.acknowledges item ++ framed []) }
 {
     desk.out.clear();
     match push_sign(session.acknowledges, item, &mut desk.out) {
@@ -211,14 +211,17 @@ fn hear<D: Device, I: Interrupts>(
         Err(NoMemory) => return Err(NoMemory),
     }
     match item {
-        Item::Packet => answer_payload(alloc, session, payload, interrupts, desk),
+        PacketItem::Packet => answer_payload(alloc, session, payload, interrupts, desk),
         _ => Ok(()),
     }
 }
 
 // Whether something is written for an item. For - it is what was written last.
-fn is_answered(item: Item) -> bool {
-    matches!(item, Item::Packet | Item::Damaged | Item::NotAcknowledged)
+fn is_answered(item: PacketItem) -> bool {
+    matches!(
+        item,
+        PacketItem::Packet | PacketItem::Damaged | PacketItem::NotAcknowledged
+    )
 }
 
 // Makes what is written for an item; what was written last stays where nothing new is.
@@ -226,7 +229,7 @@ fn is_answered(item: Item) -> bool {
 fn prepare<D: Device, I: Interrupts>(
     alloc: Global,
     session: &mut GdbSession<D>,
-    item: Item,
+    item: PacketItem,
     payload: &[u8],
     interrupts: &I,
     desk: &mut Desk,
@@ -234,7 +237,9 @@ fn prepare<D: Device, I: Interrupts>(
     ensures kept { KeepsJournal session.old.machine session.new.machine }
 {
     match item {
-        Item::Packet | Item::Damaged => hear(alloc, session, item, payload, interrupts, desk),
+        PacketItem::Packet | PacketItem::Damaged => hear(
+            alloc, session, item, payload, interrupts, desk,
+        ),
         _ => Ok(()),
     }
 }
@@ -243,7 +248,7 @@ fn prepare<D: Device, I: Interrupts>(
 fn serve_item<W: Sink, D: Device, I: Interrupts>(
     alloc: Global,
     session: &mut GdbSession<D>,
-    item: Item,
+    item: PacketItem,
     payload: &[u8],
     interrupts: &I,
     desk: &mut Desk,

@@ -2,8 +2,8 @@
 use Rattle.std.specs.Prelude.{◌≡◌, ℕ, ◌/◌, ◌%◌, ◌≤◌, Bool, true, false, ◌==◌, List, [], ◌∷◌, ◌++◌, length, Option, Some, None, nat_lt, if◌then◌else◌}
 use Rattle.evm_text.specs.Written.{character}
 use Rattle.evm_gdb_packets.specs.Framing.{turned, checksum, packet}
-use Rattle.evm_gdb_packets.specs.declared.item.Item.{Item as Kind}
-use Rattle.evm_gdb_packets.specs.declared.item.Item.TheVariants as kinds
+use Rattle.evm_gdb_packets.specs.declared.item.PacketItem.{PacketItem as Kind}
+use Rattle.evm_gdb_packets.specs.declared.item.PacketItem.TheVariants as kinds
 use Rattle.evm_gdb_packets.specs.declared.item.TheConstants.{PACKET_LIMIT}
 
 pub data Item : Type 0 where

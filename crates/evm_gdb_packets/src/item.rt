@@ -15,7 +15,7 @@ pub const PACKET_LIMIT: usize = 16_384;
 
 /// What GDB sent.
 #[derive(Clone, Copy, Debug, PartialEq, Eq)]
-pub enum Item {
+pub enum PacketItem {
     /// `+`: the last packet came.
     Acknowledged,
     /// `-`: the last packet is to be sent again.
@@ -98,16 +98,16 @@ fn read_payload(body: &[u8], payload: &mut Vec<u8>) -> Result<bool, Refused>
     Ok(!escape)
 }
 
-fn checked(body: &[u8], high: u8, low: u8, payload: &mut Vec<u8>) -> Result<Item, Refused>
+fn checked(body: &[u8], high: u8, low: u8, payload: &mut Vec<u8>) -> Result<PacketItem, Refused>
     ensures ok { IfOk result (λ item. item_seen item payload.new.items ≡ checked body.now high low) }
     ensures refused { IfErr result (λ asked. asked ≡ 1) }
 {
     if !says(body, high, low) {
-        return Ok(Item::Damaged);
+        return Ok(PacketItem::Damaged);
     }
     match read_payload(body, payload) {
-        Ok(true) => Ok(Item::Packet),
-        Ok(false) => Ok(Item::Damaged),
+        Ok(true) => Ok(PacketItem::Packet),
+        Ok(false) => Ok(PacketItem::Damaged),
         Err(refused) => Err(refused),
     }
 }
@@ -116,7 +116,7 @@ fn packet_behind<'a>(
     body: &[u8],
     behind: &'a [u8],
     payload: &mut Vec<u8>,
-) -> Result<Option<(Item, &'a [u8])>, Refused>
+) -> Result<Option<(PacketItem, &'a [u8])>, Refused>
     ensures ok { IfOk result (λ found. ReadsAs (λ x. (item_seen x.0 payload.new.items, x.1.now)) found (packet_behind body.now behind.now)) }
     ensures refused { IfErr result (λ asked. asked ≡ 1) }
 {
@@ -133,21 +133,21 @@ fn packet_behind<'a>(
 fn packet_at<'a>(
     bytes: &'a [u8],
     payload: &mut Vec<u8>,
-) -> Result<Option<(Item, &'a [u8])>, Refused>
+) -> Result<Option<(PacketItem, &'a [u8])>, Refused>
     ensures ok { IfOk result (λ found. ReadsAs (λ x. (item_seen x.0 payload.new.items, x.1.now)) found (packet_at bytes.now)) }
     ensures refused { IfErr result (λ asked. asked ≡ 1) }
 {
     match cut_hash(bytes) {
         None => {
             if bytes.len() > PACKET_LIMIT {
-                Ok(Some((Item::Damaged, bytes)))
+                Ok(Some((PacketItem::Damaged, bytes)))
             } else {
                 Ok(None)
             }
         }
         Some((body, behind)) => {
             if body.len() > PACKET_LIMIT {
-                Ok(Some((Item::Damaged, bytes)))
+                Ok(Some((PacketItem::Damaged, bytes)))
             } else {
                 packet_behind(body, behind, payload)
             }
@@ -156,14 +156,14 @@ fn packet_at<'a>(
 }
 
 // What a byte means that begins no packet.
-fn sign(byte: u8) -> Item
+fn sign(byte: u8) -> PacketItem
     ensures { item_seen result [] ≡ sign byte }
 {
     match byte {
-        b'+' => Item::Acknowledged,
-        b'-' => Item::NotAcknowledged,
-        3 => Item::Interrupt,
-        _ => Item::Noise,
+        b'+' => PacketItem::Acknowledged,
+        b'-' => PacketItem::NotAcknowledged,
+        3 => PacketItem::Interrupt,
+        _ => PacketItem::Noise,
     }
 }
 
@@ -177,7 +177,7 @@ fn sign(byte: u8) -> Item
 pub fn read_item<'a>(
     bytes: &'a [u8],
     payload: &mut Vec<u8>,
-) -> Result<Option<(Item, &'a [u8])>, Refused>
+) -> Result<Option<(PacketItem, &'a [u8])>, Refused>
     ensures ok { IfOk result (λ found. ReadsAs (λ x. (item_seen x.0 payload.new.items, x.1.now)) found (item_at bytes.now)) }
     ensures refused { IfErr result (λ asked. asked ≡ 1) }
 {

@@ -9,5 +9,5 @@ mod laws;
 
 pub use framing::push_framed;
 pub use hexadecimal::{push_digits, read_digits};
-pub use item::{Item, PACKET_LIMIT, read_item};
+pub use item::{PACKET_LIMIT, PacketItem, read_item};
 pub use laws::{digits_are_read, framed_packets_are_read, packets_are_read, pieces_are_read};

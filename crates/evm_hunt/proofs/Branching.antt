@@ -17,8 +17,8 @@ use Rattle.evm_schedules.specs.Beginning.{Begins}
 use Rattle.evm_schedules.specs.Failures.{FailsAsSought}
 use Rattle.evm_schedules.specs.Making.{MayMake, NeverFails}
 use Rattle.evm_schedules.specs.Runs.{Ends}
-use Rattle.evm_schedules.specs.declared.running.Outcome.{Outcome}
-use Rattle.evm_schedules.specs.declared.running.Outcome.TheVariants.{Failed, Over, Full}
+use Rattle.evm_schedules.specs.declared.running.RunOutcome.{RunOutcome}
+use Rattle.evm_schedules.specs.declared.running.RunOutcome.TheVariants.{Failed, Over, Full}
 use Rattle.evm_schedules.specs.declared.watch.Watch.{Watch}
 use Rattle.evm_schedules.proofs.Boards.{look-at-boards}
 use Rattle.evm_switches.proofs.Closing.{GoesFarther, searched, searched-still}
@@ -29,14 +29,14 @@ use Rattle.evm_switches.specs.Branches.{KeepsBranches, events_of_turns}
 use Rattle.evm_switches.specs.Searches.{AreSearched, HasWalked, IsPassed, IsSearched, IsWalked}
 use Rattle.evm_switches.specs.Walks.{AreForked, CantStep, HasPassed, HasStepped, IsReached}
 use Rattle.evm_switches.specs.declared.branch.Branch.{Branch}
-use Rattle.evm_switches.specs.declared.branch.Turn.{Turn}
+use Rattle.evm_switches.specs.declared.branch.CpuTurn.{CpuTurn}
 
-pub ends-branch : (watch : Watch) (branch : Branch) (before after : State) (outcome : Outcome) → EndsBranch watch branch before after outcome → Ends watch.lines outcome after
+pub ends-branch : (watch : Watch) (branch : Branch) (before after : State) (outcome : RunOutcome) → EndsBranch watch branch before after outcome → Ends watch.lines outcome after
 ends-branch watch branch before after (Failed failure) h = h
 ends-branch watch branch before after Over h = tt
 ends-branch watch branch before after Full h = tt
 
-cant-step : (watch : Watch) (branch : Branch) (before after : State) (outcome : Outcome) → is_failed outcome ≡ false → EndsBranch watch branch before after outcome → CantStep (MayMake watch.lines) branch before
+cant-step : (watch : Watch) (branch : Branch) (before after : State) (outcome : RunOutcome) → is_failed outcome ≡ false → EndsBranch watch branch before after outcome → CantStep (MayMake watch.lines) branch before
 cant-step watch branch before after (Failed failure) alive h = cc
 cant-step watch branch before after Over alive h = h
 cant-step watch branch before after Full alive h = h
@@ -47,11 +47,11 @@ pub one-first : (image : Contents) (boot : Boot) (a b : State) → Begins image 
 one-first image boot a b h g = let both : Ok a ≡ Ok b = sym h ∙ g in cc
 
 -- the state behind the beginning of a branch
-pub begins-at : (image : Contents) (boot : Boot) (watch : Watch) (branch : Branch) (turns : List Turn) (begun start first : State) → branch.turns.items ≡ turns → Begins image boot begun
+pub begins-at : (image : Contents) (boot : Boot) (watch : Watch) (branch : Branch) (turns : List CpuTurn) (begun start first : State) → branch.turns.items ≡ turns → Begins image boot begun
     → HasPassed (FailsAsSought watch) begun (events_of_turns turns) start → Begins image boot first → IsReached first branch 0 start
 begins-at image boot watch branch turns begun start first same begins passed begins' =
     let one = one-first image boot begun first begins begins' in
-    let here : start ≡ replay begun (events_of_turns branch.turns.items) = subst (λ (xs : List Turn). start ≡ replay begun (events_of_turns xs)) (sym same) passed.reached in
+    let here : start ≡ replay begun (events_of_turns branch.turns.items) = subst (λ (xs : List CpuTurn). start ≡ replay begun (events_of_turns xs)) (sym same) passed.reached in
     subst (λ (s : State). IsReached s branch 0 start) one (reached-none begun start branch here)
 
 -- the state behind some steps more
@@ -91,19 +91,19 @@ walks watch first most before branches walked branch steps s after there keeps f
     walked-more (MayMake watch.lines) (FailsAsSought watch) first most before branches walked branch steps s after there keeps forks made walked'
 
 -- a branch has come to its end
-pub walks-out : (watch : Watch) (first : State) (most : ℕ) (before branches : List Branch) (walked : List ℕ) (branch : Branch) (steps : ℕ) (start s after : State) (outcome : Outcome)
+pub walks-out : (watch : Watch) (first : State) (most : ℕ) (before branches : List Branch) (walked : List ℕ) (branch : Branch) (steps : ℕ) (start s after : State) (outcome : RunOutcome)
     → slice_get before (length walked) ≡ Some branch → KeepsBranches before branches → AreForked (MayMake watch.lines) most branches branch steps s → EndsBranch watch branch s after outcome → is_failed outcome ≡ false
     → IsReached first branch 0 start → IsWalkedBy watch first most before walked branch steps s → HasWalkedBy watch first most branches walked branch (steps + 1) start
 walks-out watch first most before branches walked branch steps start s after outcome there keeps forks ends alive begins walked' =
     walked-out (MayMake watch.lines) (FailsAsSought watch) first most before branches walked branch steps start s there keeps forks (cant-step watch branch s after outcome alive ends) begins walked'
 
 -- a branch that has passed its beginning and gone on is looked at
-pub searches : (image : Contents) (boot : Boot) (watch : Watch) (most : ℕ) (branches : List Branch) (walked : List ℕ) (branch : Branch) (turns : List Turn) (count : ℕ) (begun start first : State) → branch.turns.items ≡ turns
+pub searches : (image : Contents) (boot : Boot) (watch : Watch) (most : ℕ) (branches : List Branch) (walked : List ℕ) (branch : Branch) (turns : List CpuTurn) (count : ℕ) (begun start first : State) → branch.turns.items ≡ turns
     → Begins image boot begun → HasPassed (FailsAsSought watch) begun (events_of_turns turns) start → Begins image boot first → HasWalkedBy watch first most branches walked branch count start
     → IsSearched (MayMake watch.lines) (FailsAsSought watch) first most branches (IsPassed first branches (walked ++ count ∷ [])) branch count
 searches image boot watch most branches walked branch turns count begun start first same begins passed begins' walked' =
     let one = one-first image boot begun first begins begins' in
-    let passed' = subst (λ (xs : List Turn). HasPassed (FailsAsSought watch) begun (events_of_turns xs) start) (sym same) passed in
+    let passed' = subst (λ (xs : List CpuTurn). HasPassed (FailsAsSought watch) begun (events_of_turns xs) start) (sym same) passed in
     searched-by (MayMake watch.lines) (FailsAsSought watch) first most branches walked branch count start (subst (λ (s : State). HasPassed (FailsAsSought watch) s (events_of_turns branch.turns.items) start) one passed') walked'
 
 -- ---- the whole search

@@ -6,8 +6,8 @@ ghost use Rattle.evm_schedules.specs.Runs.{Ends, IsFound};
 
 use evm_image::Image;
 use evm_schedules::{
-    AnyDevice, BeginFault, Boot, Chooser, Event, Failure, Machine, NoBytes, Outcome, Watch, begin,
-    play, run,
+    AnyDevice, BeginFault, Boot, Chooser, Event, Failure, Machine, NoBytes, RunOutcome, Watch,
+    begin, play, run_schedule,
 };
 use std::alloc::Global;
 
@@ -26,7 +26,7 @@ pub struct Tried {
     /// The machine.
     pub machine: Machine<AnyDevice>,
     /// How the run ended.
-    pub outcome: Outcome,
+    pub outcome: RunOutcome,
 }
 
 /// A run that a chooser makes on a fresh machine.
@@ -47,7 +47,7 @@ pub fn try_schedule(
         Ok(machine) => machine,
         Err(fault) => return Err(fault),
     };
-    let outcome = run(&mut machine, chooser, watch);
+    let outcome = run_schedule(&mut machine, chooser, watch);
     Ok(Tried { machine, outcome })
 }
 
@@ -70,7 +70,7 @@ pub fn replayed(
         Err(fault) => return Err(fault),
     };
     match play(&mut machine, events, watch) {
-        Outcome::Failed(failure) => Ok(Some(Found { machine, failure })),
-        Outcome::Over | Outcome::Full => Ok(None),
+        RunOutcome::Failed(failure) => Ok(Some(Found { machine, failure })),
+        RunOutcome::Over | RunOutcome::Full => Ok(None),
     }
 }

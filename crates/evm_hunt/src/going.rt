@@ -16,19 +16,19 @@ ghost use Rattle.evm_switches.specs.Walks.{IsReached};
 use crate::hashing::hash_of;
 use crate::marks::{Mark, Marks};
 use crate::seeing::is_seen;
-use crate::shortening::Stop;
+use crate::shortening::HuntStop;
 use crate::switching::Switching;
 use crate::walking::go_on_once;
 use crate::watching::Watcher;
 use evm_image::Image;
-use evm_schedules::{AnyDevice, BeginFault, Boot, Machine, Outcome, Watch};
+use evm_schedules::{AnyDevice, BeginFault, Boot, Machine, RunOutcome, Watch};
 use evm_switches::{Branch, Queue};
 use std::alloc::Global;
 
 /// How a branch has ended, and at how many states it went on.
 #[derive(Clone, Copy, Debug)]
 pub(crate) struct Walk {
-    pub(crate) outcome: Outcome,
+    pub(crate) outcome: RunOutcome,
     pub(crate) steps: u32,
 }
 
@@ -111,7 +111,7 @@ pub(crate) fn go_on(
     queue: &mut Queue,
     walked: &[u32],
     marks: &mut Marks,
-) -> Result<Walk, Stop>
+) -> Result<Walk, HuntStop>
     requires begins { (first : State) → Begins image.now boot.now first → IsReached first branch.now 0 machine.old }
     requires there { slice_get queue.old.branches.items (length walked.now) ≡ Option.Some branch.now }
     ensures keeps { KeepsBranches queue.old.branches.items queue.new.branches.items }
@@ -126,12 +126,12 @@ pub(crate) fn go_on(
         ) {
             Ok(true) => {
                 return Ok(Walk {
-                    outcome: Outcome::Over,
+                    outcome: RunOutcome::Over,
                     steps,
                 });
             }
             Ok(false) => {}
-            Err(fault) => return Err(Stop::from(fault)),
+            Err(fault) => return Err(HuntStop::from(fault)),
         }
         match go_on_once(machine, branch, steps, watch, watcher, bounds, queue) {
             Ok(None) => {}
@@ -141,12 +141,12 @@ pub(crate) fn go_on(
                     steps: steps + 1,
                 });
             }
-            Err(fault) => return Err(Stop::from(fault)),
+            Err(fault) => return Err(HuntStop::from(fault)),
         }
     }
     queue.cut = true;
     Ok(Walk {
-        outcome: Outcome::Full,
+        outcome: RunOutcome::Full,
         steps: u32::MAX,
     })
 }

@@ -11,10 +11,10 @@ use crate::key::FailureKey;
 use crate::listing::events_of;
 use crate::onlooker::Onlooker;
 use crate::ordering::{Cycle, Orders};
-use crate::shortening::{Stop, shorten};
+use crate::shortening::{HuntStop, shorten};
 use evm_image::Image;
 use evm_room::NoMemory;
-use evm_schedules::{Boot, Chooser, Failure, Outcome, Watch, Way};
+use evm_schedules::{Boot, Chooser, Failure, RunOutcome, Watch, Way};
 use std::alloc::Global;
 
 /// Which schedules are looked at.
@@ -112,7 +112,7 @@ impl Report {
     {
         self.schedules = self.schedules.saturating_add(1);
         self.events = self.events.saturating_add(tried.machine.event_count());
-        if let Outcome::Full = tried.outcome {
+        if let RunOutcome::Full = tried.outcome {
             self.full = self.full.saturating_add(1);
         }
     }
@@ -190,12 +190,12 @@ fn shorter(
     watch: &Watch,
     key: &FailureKey,
     tried: &Tried,
-) -> Result<Option<Found>, Stop>
+) -> Result<Option<Found>, HuntStop>
     ensures { IfOk result (λ found. IsShown image.now boot.now watch.now.lines found) }
 {
     let events = match events_of(alloc, &tried.machine) {
         Ok(events) => events,
-        Err(fault) => return Err(Stop::from(fault)),
+        Err(fault) => return Err(HuntStop::from(fault)),
     };
     let events = match shorten(alloc, image, boot, watch, key, events) {
         Ok(events) => events,
@@ -203,7 +203,7 @@ fn shorter(
     };
     match replayed(alloc, image, boot, events.as_slice(), watch) {
         Ok(found) => Ok(found),
-        Err(fault) => Err(Stop::from(fault)),
+        Err(fault) => Err(HuntStop::from(fault)),
     }
 }
 
@@ -216,7 +216,7 @@ fn shortest_of(
     key: &FailureKey,
     tried: Tried,
     failure: Failure,
-) -> Result<Found, Stop>
+) -> Result<Found, HuntStop>
     requires { IsFound image.now boot.now watch.now.lines failure tried.machine }
     ensures { IfOk result (λ found. IsFound image.now boot.now watch.now.lines found.failure found.machine) }
 {
@@ -238,7 +238,7 @@ fn add_orders(
     seed: u64,
     tried: &Tried,
     report: &mut Report,
-) -> Result<(), Stop>
+) -> Result<(), HuntStop>
     ensures shown { report.new.shortest ≡ report.old.shortest }
     ensures rows { report.new.rows.items ≡ [] → report.old.rows.items ≡ [] }
 {
@@ -250,7 +250,7 @@ fn add_orders(
     match closed {
         Ok(Some((cycle, events))) => match report.add_cycle(cycle, events, seed) {
             Ok(()) => Ok(()),
-            Err(fault) => Err(Stop::from(fault)),
+            Err(fault) => Err(HuntStop::from(fault)),
         },
         Ok(None) => Ok(()),
         Err(stop) => Err(stop),
@@ -266,7 +266,7 @@ pub(crate) fn note(
     seed: u64,
     tried: Tried,
     report: &mut Report,
-) -> Result<(), Stop>
+) -> Result<(), HuntStop>
     requires shown { IsShown image.now boot.now watch.now.lines report.old.shortest }
     requires tried { ComesFrom image.now boot.now tried.machine × Ends watch.now.lines tried.outcome tried.machine }
     ensures shown { OnOk result (IsShown image.now boot.now watch.now.lines report.new.shortest) }
@@ -279,8 +279,8 @@ pub(crate) fn note(
         Err(stop) => return Err(stop),
     }
     let failure = match tried.outcome {
-        Outcome::Failed(failure) => failure,
-        Outcome::Over | Outcome::Full => return Ok(()),
+        RunOutcome::Failed(failure) => failure,
+        RunOutcome::Over | RunOutcome::Full => return Ok(()),
     };
     let key = FailureKey::of(&tried.machine, failure);
     if report.knows(&key) {
@@ -289,7 +289,7 @@ pub(crate) fn note(
     match shortest_of(alloc, image, boot, watch, &key, tried, failure) {
         Ok(found) => match report.add(key, seed, found) {
             Ok(()) => Ok(()),
-            Err(fault) => Err(Stop::from(fault)),
+            Err(fault) => Err(HuntStop::from(fault)),
         },
         Err(stop) => Err(stop),
     }
@@ -304,14 +304,14 @@ fn look(
     way: Way,
     seed: u64,
     report: &mut Report,
-) -> Result<(), Stop>
+) -> Result<(), HuntStop>
     requires { IsShown image.now boot.now watch.now.lines report.old.shortest }
     ensures { OnOk result (IsShown image.now boot.now watch.now.lines report.new.shortest) }
 {
     let mut chooser = Chooser::new(seed, way, watch.lines);
     match try_schedule(alloc, image, boot, &mut chooser, watch) {
         Ok(tried) => note(alloc, image, boot, watch, seed, tried, report),
-        Err(fault) => Err(Stop::from(fault)),
+        Err(fault) => Err(HuntStop::from(fault)),
     }
 }
 
@@ -327,7 +327,7 @@ pub fn hunt<O: Onlooker>(
     watch: &Watch,
     plan: &Plan,
     onlooker: &mut O,
-) -> Result<Report, Stop>
+) -> Result<Report, HuntStop>
     ensures { IfOk result (λ report. IsShown image.now boot.now watch.now.lines report.shortest) }
 {
     let mut report = Report::new(alloc, plan.orders);

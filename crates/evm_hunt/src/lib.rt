@@ -27,5 +27,5 @@ pub use onlooker::Onlooker;
 pub use ordering::{Cycle, Orders};
 pub use reporting::report_text;
 pub use script::{failing_script, journal_text};
-pub use shortening::{Stop, first_length, shorten};
+pub use shortening::{HuntStop, first_length, shorten};
 pub use switching::{Switching, hunt_all};

@@ -2,7 +2,7 @@
 
 use crate::found::Tried;
 use crate::listing::events_of;
-use crate::shortening::Stop;
+use crate::shortening::HuntStop;
 use evm_image::Image;
 use evm_model::{Answer, MUTEX_LIMIT, TaskState, Wait};
 use evm_schedules::{AnyDevice, Boot, Event, Machine, begin};
@@ -192,7 +192,7 @@ impl Orders {
         image: &Image,
         boot: &Boot,
         tried: &Tried,
-    ) -> Result<Option<(Cycle, u64)>, Stop> {
+    ) -> Result<Option<(Cycle, u64)>, HuntStop> {
         let events = events_of(alloc, &tried.machine)?;
         let mut machine = begin(alloc, image, boot)?;
         let mut closed = None;

@@ -5,7 +5,9 @@ use crate::key::FailureKey;
 use crate::listing::{EventList, without};
 use evm_image::Image;
 use evm_room::NoMemory;
-use evm_schedules::{BeginFault, Boot, Chooser, Event, NoBytes, Outcome, Watch, Way, begin, play};
+use evm_schedules::{
+    BeginFault, Boot, Chooser, Event, NoBytes, RunOutcome, Watch, Way, begin, play,
+};
 use std::alloc::Global;
 
 /// How many lists are tried at most.
@@ -13,24 +15,24 @@ const TRIALS: u32 = 20_000;
 
 /// Why a hunt ends early.
 #[derive(Clone, Copy, Debug, PartialEq, Eq)]
-pub enum Stop {
+pub enum HuntStop {
     /// Memory was refused.
     NoMemory,
     /// No machine boots with the image.
     NoMachine(BeginFault),
 }
 
-impl From<NoMemory> for Stop {
-    fn from(_fault: NoMemory) -> Stop {
-        Stop::NoMemory
+impl From<NoMemory> for HuntStop {
+    fn from(_fault: NoMemory) -> HuntStop {
+        HuntStop::NoMemory
     }
 }
 
-impl From<BeginFault> for Stop {
-    fn from(fault: BeginFault) -> Stop {
+impl From<BeginFault> for HuntStop {
+    fn from(fault: BeginFault) -> HuntStop {
         match fault {
-            BeginFault::NoMemory => Stop::NoMemory,
-            BeginFault::BadSize | BeginFault::PastRam => Stop::NoMachine(fault),
+            BeginFault::NoMemory => HuntStop::NoMemory,
+            BeginFault::BadSize | BeginFault::PastRam => HuntStop::NoMachine(fault),
         }
     }
 }
@@ -46,7 +48,7 @@ fn fails_again(
 ) -> Result<Option<u64>, BeginFault> {
     let mut machine = begin(alloc, image, boot)?;
     match play(&mut machine, events, watch) {
-        Outcome::Failed(failure) if FailureKey::of(&machine, failure).is(key) => {
+        RunOutcome::Failed(failure) if FailureKey::of(&machine, failure).is(key) => {
             Ok(Some(machine.event_count()))
         }
         _ => Ok(None),
@@ -105,7 +107,7 @@ pub fn shorten(
     watch: &Watch,
     key: &FailureKey,
     events: EventList,
-) -> Result<EventList, Stop> {
+) -> Result<EventList, HuntStop> {
     let mut events = events;
     let mut cut = Cut::of_length(events.len());
     for _ in 0..TRIALS {
@@ -131,7 +133,12 @@ pub fn shorten(
 /// # Errors
 ///
 /// Why there is no machine.
-pub fn first_length(alloc: Global, image: &Image, boot: &Boot, watch: &Watch) -> Result<u32, Stop> {
+pub fn first_length(
+    alloc: Global,
+    image: &Image,
+    boot: &Boot,
+    watch: &Watch,
+) -> Result<u32, HuntStop> {
     let mut chooser = Chooser::new(0, Way::Random, watch.lines);
     let tried = try_schedule(alloc, image, boot, &mut chooser, watch)?;
     Ok(tried.machine.event_count().min(1 << 20) as u32)

@@ -16,11 +16,11 @@ use crate::going::go_on;
 use crate::hunting::{Report, note};
 use crate::marks::Marks;
 use crate::onlooker::Onlooker;
-use crate::shortening::Stop;
+use crate::shortening::HuntStop;
 use crate::walking::begin_with;
 use crate::watching::Watcher;
 use evm_image::Image;
-use evm_schedules::{Boot, Outcome, Watch, begin};
+use evm_schedules::{Boot, RunOutcome, Watch, begin};
 use evm_switches::{Branch, Queue};
 use std::alloc::Global;
 
@@ -53,7 +53,7 @@ fn run_branch(
     queue: &mut Queue,
     walked: &[u32],
     marks: &mut Marks,
-) -> Result<Ran, Stop>
+) -> Result<Ran, HuntStop>
     requires { slice_get queue.old.branches.items (length walked.now) ≡ Option.Some branch.now }
     ensures tried { IfOk result (λ ran. ComesFrom image.now boot.now ran.tried.machine × Ends watch.now.lines ran.tried.outcome ran.tried.machine) }
     ensures keeps { KeepsBranches queue.old.branches.items queue.new.branches.items }
@@ -62,12 +62,12 @@ fn run_branch(
 {
     let mut machine = match begin(alloc, image, boot) {
         Ok(machine) => machine,
-        Err(fault) => return Err(Stop::from(fault)),
+        Err(fault) => return Err(HuntStop::from(fault)),
     };
     let mut watcher = Watcher::new();
     match begin_with(&mut machine, branch.turns.as_slice(), watch, &mut watcher) {
         Some(failure) => {
-            let outcome = Outcome::Failed(failure);
+            let outcome = RunOutcome::Failed(failure);
             return Ok(Ran {
                 tried: Tried { machine, outcome },
                 steps: 0,
@@ -111,7 +111,7 @@ fn look_at(
     walked: &[u32],
     marks: &mut Marks,
     report: &mut Report,
-) -> Result<u32, Stop>
+) -> Result<u32, HuntStop>
     requires shown { IsShown image.now boot.now watch.now.lines report.old.shortest }
     requires there { slice_get queue.old.branches.items (length walked.now) ≡ Option.Some branch.now }
     ensures shown { OnOk result (IsShown image.now boot.now watch.now.lines report.new.shortest) }
@@ -155,7 +155,7 @@ pub fn hunt_all<O: Onlooker>(
     watch: &Watch,
     bounds: &Switching,
     onlooker: &mut O,
-) -> Result<Report, Stop>
+) -> Result<Report, HuntStop>
     ensures shown { IfOk result (λ report. IsShown image.now boot.now watch.now.lines report.shortest) }
     // if it has found none, and there were no more schedules than may be looked at, no schedule fails
     ensures complete { IfOk result (λ report. report.rows.items ≡ [] → report.cut ≡ false → NeverFails image.now boot.now watch.now bounds.now.switches) }
@@ -163,11 +163,11 @@ pub fn hunt_all<O: Onlooker>(
     let mut report = Report::new(alloc, bounds.orders);
     let mut queue = match Queue::new(alloc, bounds.schedules) {
         Ok(queue) => queue,
-        Err(fault) => return Err(Stop::from(fault)),
+        Err(fault) => return Err(HuntStop::from(fault)),
     };
     let mut marks = match Marks::new(alloc) {
         Ok(marks) => marks,
-        Err(fault) => return Err(Stop::from(fault)),
+        Err(fault) => return Err(HuntStop::from(fault)),
     };
     let mut walked = Vec::new(alloc);
     'places: for place in 0..bounds.schedules {
@@ -190,7 +190,7 @@ pub fn hunt_all<O: Onlooker>(
         ) {
             Ok(steps) => match walked.push(steps) {
                 Ok(()) => {}
-                Err(_) => return Err(Stop::NoMemory),
+                Err(_) => return Err(HuntStop::NoMemory),
             },
             Err(stop) => return Err(stop),
         }

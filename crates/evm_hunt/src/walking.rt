@@ -18,9 +18,10 @@ use crate::watching::Watcher;
 use evm_lines::LineSet;
 use evm_room::NoMemory;
 use evm_schedules::{
-    AnyDevice, Event, Failure, Machine, NoBytes, Outcome, Watch, advance, awake_processors, is_over,
+    AnyDevice, Event, Failure, Machine, NoBytes, RunOutcome, Watch, advance, awake_processors,
+    is_over,
 };
-use evm_switches::{Branch, Queue, Turn};
+use evm_switches::{Branch, CpuTurn, Queue};
 
 // The failure that an event has made, if it is accepted.
 fn attempt(
@@ -67,7 +68,7 @@ pub(crate) fn take_steps(
 // Makes the events of a turn, up to one that makes the machine fail.
 fn take_turn(
     machine: &mut Machine<AnyDevice>,
-    turn: &Turn,
+    turn: &CpuTurn,
     watch: &Watch,
     watcher: &mut Watcher,
 ) -> Option<Failure>
@@ -85,7 +86,7 @@ fn take_turn(
 /// Makes the events with which a branch begins, up to one that makes the machine fail.
 pub(crate) fn begin_with(
     machine: &mut Machine<AnyDevice>,
-    turns: &[Turn],
+    turns: &[CpuTurn],
     watch: &Watch,
     watcher: &mut Watcher,
 ) -> Option<Failure>
@@ -152,13 +153,13 @@ fn step_on(
     awake: &[u8],
     watch: &Watch,
     watcher: &mut Watcher,
-) -> Option<Outcome>
+) -> Option<RunOutcome>
     requires { (c : ℕ) → IsAwake c machine.old → (i : ℕ) × (slice_get awake.now i ≡ Option.Some c) }
     ensures steps { MatchOption result (HasStepped (FailsAsSought watch.now) branch.now machine.old machine.new) (λ outcome. EndsBranch watch.now branch.now machine.old machine.new outcome) }
     ensures replays { (first : State) → IsReplayOf first machine.old → IsReplayOf first machine.new }
 {
     if !is_among(awake, branch.cpu) {
-        return Some(Outcome::Over);
+        return Some(RunOutcome::Over);
     }
     let store = store_of(machine, Event::Step(branch.cpu));
     match advance(
@@ -167,12 +168,12 @@ fn step_on(
         watch,
         &mut watcher.monitor,
     ) {
-        Ok(Some(failure)) => Some(Outcome::Failed(failure)),
+        Ok(Some(failure)) => Some(RunOutcome::Failed(failure)),
         Ok(None) => {
             watcher.trail.follow(machine, &store);
             None
         }
-        Err(_) => Some(Outcome::Full),
+        Err(_) => Some(RunOutcome::Full),
     }
 }
 
@@ -200,7 +201,7 @@ pub(crate) fn go_on_once(
     watcher: &mut Watcher,
     bounds: &Switching,
     queue: &mut Queue,
-) -> Result<Option<Outcome>, NoMemory>
+) -> Result<Option<RunOutcome>, NoMemory>
     ensures keeps { KeepsBranches queue.old.branches.items queue.new.branches.items }
     ensures cut { queue.new.cut ≡ false → queue.old.cut ≡ false }
     ensures forks { OnOk result (queue.new.cut ≡ false → AreForked (MayMake watch.now.lines) bounds.now.switches queue.new.branches.items branch.now steps machine.old) }
@@ -209,7 +210,7 @@ pub(crate) fn go_on_once(
 {
     let awake = awake_processors(machine);
     if is_ended(machine, awake.as_slice(), watch.lines) {
-        return Ok(Some(Outcome::Over));
+        return Ok(Some(RunOutcome::Over));
     }
     match fork(
         machine,

@@ -10,8 +10,8 @@ use evm_host::{
     words_not_read, words_of, write_all,
 };
 use evm_hunt::{
-    BeginFault, Found, Onlooker, Plan, Report, SearchSpan, Stop, Switching, Way, failing_script,
-    first_length, hunt, hunt_all, journal_text, report_text,
+    BeginFault, Found, HuntStop, Onlooker, Plan, Report, SearchSpan, Switching, Way,
+    failing_script, first_length, hunt, hunt_all, journal_text, report_text,
 };
 use evm_image::Image;
 use evm_symbols::Symbols;
@@ -122,15 +122,17 @@ fn tell<S: System>(
 }
 
 // Reports why a hunt has ended early.
-fn stopped<S: System>(path: &str, stop: Stop, world: &mut World<S>) -> u8 {
+fn stopped<S: System>(path: &str, stop: HuntStop, world: &mut World<S>) -> u8 {
     match stop {
-        Stop::NoMemory | Stop::NoMachine(BeginFault::NoMemory) => memory_refused(PROGRAM, world),
-        Stop::NoMachine(BeginFault::PastRam) => {
+        HuntStop::NoMemory | HuntStop::NoMachine(BeginFault::NoMemory) => memory_refused(
+            PROGRAM, world,
+        ),
+        HuntStop::NoMachine(BeginFault::PastRam) => {
             let message = Message::Plain("memory of a segment lies past RAM: see --ram");
             report(path, message, &mut world.errors);
             NO_IMAGE
         }
-        Stop::NoMachine(BeginFault::BadSize) => {
+        HuntStop::NoMachine(BeginFault::BadSize) => {
             let message = Message::Plain("--ram is no multiple of 4096");
             report(PROGRAM, message, &mut world.errors);
             USAGE
@@ -145,7 +147,7 @@ fn hunt_seeds<O: Onlooker>(
     image: &Image,
     points: Option<u8>,
     onlooker: &mut O,
-) -> Result<Report, Stop> {
+) -> Result<Report, HuntStop> {
     let way = match points {
         None => Way::Random,
         Some(points) => Way::Priorities {
@@ -168,7 +170,7 @@ fn hunt_by<O: Onlooker>(
     options: &Options<'_>,
     image: &Image,
     onlooker: &mut O,
-) -> Result<Report, Stop> {
+) -> Result<Report, HuntStop> {
     match options.search {
         Search::Random => hunt_seeds(alloc, options, image, None, onlooker),
         Search::Pct(points) => hunt_seeds(alloc, options, image, Some(points), onlooker),

@@ -12,20 +12,20 @@ use Rattle.evm_elf.specs.evm_asm_parser.declared.spot.Spot.{Spot}
 use Rattle.evm_elf.specs.evm_asm_parser.declared.statement.Statement.{Statement}
 use Rattle.evm_elf.specs.evm_asm_parser.declared.statement.Statement.TheVariants.{Section}
 use Rattle.evm_elf.specs.evm_asm_parser.Operands.{Spots}
-use Rattle.evm_elf.specs.evm_asm.declared.place.Place.{Place}
+use Rattle.evm_elf.specs.evm_asm.declared.place.SectionPlace.{SectionPlace}
 use Rattle.evm_elf.specs.evm_asm.Places.{offset, section_size, farther, grown, size_at, place_behind, here, statement_in}
 use Rattle.evm_elf.specs.evm_asm.Sources.{Defined, Laid, with_label, defined, label_at, outcome, measured, line_defined, line_laid, with_line_laid, laid, nothing_laid, code_of, statement_text}
 use Rattle.evm_laws.proofs.Operands_read.{IsNear, AreNear}
 
-pub record IsLimited (place : Place) : Type 0 where
+pub record IsLimited (place : SectionPlace) : Type 0 where
   pub text : place.text_size ≤ 8388608
   pub bytes : place.data_size ≤ 8388608
 
-farther_limited : (part : Part) (place : Place) (size : ℕ) → IsLimited place → size ≤ 8388608 - section_size part place → IsLimited (farther part place size)
+farther_limited : (part : Part) (place : SectionPlace) (size : ℕ) → IsLimited place → size ≤ 8388608 - section_size part place → IsLimited (farther part place size)
 farther_limited Text place size h k = record { text = omega arith; bytes = h.bytes }
 farther_limited Data place size h k = record { text = h.text; bytes = omega arith }
 
-grown_limited : (place : Place) (size : ℕ) → IsLimited place → IfOk (grown place size) IsLimited
+grown_limited : (place : SectionPlace) (size : ℕ) → IsLimited place → IfOk (grown place size) IsLimited
 unfolding grown
 grown_limited place size h = by_size (nat_le size (8388608 - offset place)) refl
   where
@@ -33,12 +33,12 @@ grown_limited place size h = by_size (nat_le size (8388608 - offset place)) refl
     by_size true e = farther_limited place.section place size h (leb-true _ _ e)
     by_size false e = tt
 
-behind_limited : (place : Place) (statement : Statement) → IsLimited place → IfOk (place_behind place statement) IsLimited
+behind_limited : (place : SectionPlace) (statement : Statement) → IsLimited place → IfOk (place_behind place statement) IsLimited
 unfolding place_behind
 behind_limited place (Section part) h = record { text = h.text; bytes = h.bytes }
 behind_limited place statement h = grown_limited place (size_at (offset place) statement) h
 
-measured_limited : (labels : Spots) (place : Place) (text : List ℕ) → IsLimited place → IfOk (measured labels place text) IsLimited
+measured_limited : (labels : Spots) (place : SectionPlace) (text : List ℕ) → IsLimited place → IfOk (measured labels place text) IsLimited
 unfolding measured
 measured_limited labels place text h = by_reading (statement_in labels place text)
   where
@@ -46,7 +46,7 @@ measured_limited labels place text h = by_reading (statement_in labels place tex
     by_reading (Ok statement) = behind_limited place statement h
     by_reading (Err e) = tt
 
-outcome_limited : (place : Place) (twice : Bool) (r : Result Place SourceFaultKind) → IsLimited place → IfOk r IsLimited → IsLimited (outcome place twice r).0
+outcome_limited : (place : SectionPlace) (twice : Bool) (r : Result SectionPlace SourceFaultKind) → IsLimited place → IfOk r IsLimited → IsLimited (outcome place twice r).0
 outcome_limited place false (Ok next) h k = k
 outcome_limited place false (Err kind) h k = h
 outcome_limited place true (Ok next) h k = h
@@ -54,7 +54,7 @@ outcome_limited place true (Err kind) h k = h
 
 -- ---- the labels
 
-here_near : (place : Place) → IsLimited place → IsNear (here place)
+here_near : (place : SectionPlace) → IsLimited place → IsNear (here place)
 here_near place h = by_section place.section
   where
     by_section : (part : Part) → section_size part place ≤ 8388608

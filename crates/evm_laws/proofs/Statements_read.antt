@@ -10,7 +10,7 @@ use Rattle.evm_elf.specs.evm_asm_parser.declared.statement.Statement.TheVariants
 use Rattle.evm_elf.specs.evm_asm_parser.Operands.{Spots, how_many, name_in, natural_in, upper_in, address_in, full_address_in}
 use Rattle.evm_elf.specs.evm_asm_parser.Forms.{Slot, Register, Integer, Natural, Upper, Label, Address, FullAddress, Name, Value, form}
 use Rattle.evm_elf.specs.evm_asm_parser.Statements.{name_or_fault, operand_in, statement_of}
-use Rattle.evm_elf.specs.evm_asm.declared.place.Place.{Place}
+use Rattle.evm_elf.specs.evm_asm.declared.place.SectionPlace.{SectionPlace}
 use Rattle.evm_elf.specs.evm_asm.Places.{placed, of_mnemonic, statement_in}
 use Rattle.evm_elf.proofs.evm_asm_parser.Outcomes.{any_ok, either_ok, also_ok}
 use Rattle.evm_elf.proofs.evm_asm_parser.Forms_hold.{Makes, either_makes, statement_holds}
@@ -52,11 +52,11 @@ forms_load count m = λ v h. tt
 statement_loads : (labels : Spots) (m : Mnemonic) (text : List ℕ) → AreNear labels → IfOk (statement_of labels m text) CanLoad
 statement_loads labels m text near = statement_holds labels Loads (operand_loads labels near) CanLoad m text (forms_load (how_many text) m)
 
-of_mnemonic_loads : (labels : Spots) (place : Place) (o : Option Mnemonic) (text : List ℕ) → AreNear labels → IfOk (of_mnemonic labels place o text) CanLoad
+of_mnemonic_loads : (labels : Spots) (place : SectionPlace) (o : Option Mnemonic) (text : List ℕ) → AreNear labels → IfOk (of_mnemonic labels place o text) CanLoad
 of_mnemonic_loads labels place (Some m) text h = also_ok (statement_of labels m text) (placed m place) CanLoad (statement_loads labels m text h)
 of_mnemonic_loads labels place None text h = tt
 
-pub statement_in_loads : (labels : Spots) (place : Place) (text : List ℕ) → AreNear labels → IfOk (statement_in labels place text) CanLoad
+pub statement_in_loads : (labels : Spots) (place : SectionPlace) (text : List ℕ) → AreNear labels → IfOk (statement_in labels place text) CanLoad
 unfolding statement_in
 statement_in_loads labels place text h =
     either_ok (not (is_sound false text)) (Err BadToken) _ CanLoad tt

@@ -7,7 +7,7 @@ use Rattle.evm_json.specs.Text.{text, shown_bytes}
 use Rattle.evm_text.specs.Written.{decimal, numeral}
 use Rattle.evm_tracks.specs.Entries.{trace_event, string_member}
 use Rattle.evm_tracks.specs.declared.track.Track.TheVariants.{Task}
-use Rattle.evm_places.specs.declared.place.Place.{Place}
+use Rattle.evm_places.specs.declared.place.CodePlace.{CodePlace}
 use Rattle.evm_places.specs.Places.{place_json, place_words, line_by}
 use Rattle.evm_places.specs.Pieces.{place_pieces}
 
@@ -22,7 +22,7 @@ unfolding place_pieces escape_byte numeral
 named_line task at name =
     seven (codes ",\n{\"ph\":\"i\",\"pid\":2,\"tid\":") (decimal (task + 1)) (codes ",\"ts\":") (decimal at) (codes ",\"name\":") (quoted (shown_bytes name)) (codes ",\"s\":\"t\"}")
 
-pub place_is_line : (p : Place) (name : List ℕ) (offset : ℕ) → place_pieces (p.task + 1) p.at (place_words p.doing (name, offset)) ≡ line_by p (Some (name, offset))
+pub place_is_line : (p : CodePlace) (name : List ℕ) (offset : ℕ) → place_pieces (p.task + 1) p.at (place_words p.doing (name, offset)) ≡ line_by p (Some (name, offset))
 place_is_line p name offset = named_line p.task p.at (place_words p.doing (name, offset))
 
 pub ruleset line = (place_is_line)

@@ -31,7 +31,7 @@ use Rattle.evm_tracks.specs.Changes.{no_spans, records_of, in_order, trace_of}
 use Rattle.evm_tracks.specs.Laws.{AreFitting}
 use Rattle.evm_tracks.specs.Telling.{Tells, IsTelling}
 use Rattle.evm_tracks.proofs.Traces.{traces}
-use Rattle.evm_places.specs.declared.place.Place.{Place}
+use Rattle.evm_places.specs.declared.place.CodePlace.{CodePlace}
 use Rattle.evm_places.specs.Places.{item_by, line_by, place_items, place_json, place_line, place_lines, place_symbol}
 use Rattle.evm_places.specs.Placed.{FitsPlace, IsPending, IsPlaced, placed_json, placed_text, records_then}
 
@@ -65,7 +65,7 @@ module _ {W : Type 0} (takes : W → Writing → List ℕ → W → Type 0) wher
   held_to_end (Err stop) start sink later whole rest old held ends took = tt
 
 -- the lines of one place more
-pub lines_more : (symbols : List Named) (places : List Place) (i : ℕ) (d : Place) (whole : List ℕ) → i < length places
+pub lines_more : (symbols : List Named) (places : List CodePlace) (i : ℕ) (d : CodePlace) (whole : List ℕ) → i < length places
     → (whole ++ place_lines symbols (take i places)) ++ place_line symbols (get_or places i d) ≡ whole ++ place_lines symbols (take (i + 1) places)
 lines_more symbols places i d whole below =
     let f = place_line symbols in
@@ -77,11 +77,11 @@ lines_more symbols places i d whole below =
 
 -- ---- the text
 
-by_line : (p : Place) (symbol : Option (List ℕ × ℕ)) (more : Items) → item_lines true (item_by p symbol more) ≡ line_by p symbol ++ item_lines true more
+by_line : (p : CodePlace) (symbol : Option (List ℕ × ℕ)) (more : Items) → item_lines true (item_by p symbol more) ≡ line_by p symbol ++ item_lines true more
 by_line p None more = refl
 by_line p (Some symbol) more = refl
 
-places_then : (symbols : List Named) (places : List Place) → item_lines true (place_items symbols places) ≡ place_lines symbols places ++ codes "\n]"
+places_then : (symbols : List Named) (places : List CodePlace) → item_lines true (place_items symbols places) ≡ place_lines symbols places ++ codes "\n]"
 unfolding place_line
 places_then symbols [] = refl
 places_then symbols (p ∷ places) =
@@ -101,7 +101,7 @@ regroup a l s =
     ap (λ (x : List ℕ). a ++ x) (append_assoc l (s ++ codes "\n]") (125 ∷ []) ∙ ap (λ (x : List ℕ). l ++ x) (append_assoc s (codes "\n]") (125 ∷ [])))
     ∙ sym (append_assoc (a ++ l) s (codes "\n]}") ∙ append_assoc a l (s ++ codes "\n]}"))
 
-written : (rs : List Record) (symbols : List Named) (places : List Place) → placed_text (note first_note ∷ rs) symbols places ≡ ((start_text ++ record_lines rs) ++ place_lines symbols places) ++ codes "\n]}"
+written : (rs : List Record) (symbols : List Named) (places : List CodePlace) → placed_text (note first_note ∷ rs) symbols places ≡ ((start_text ++ record_lines rs) ++ place_lines symbols places) ++ codes "\n]}"
 unfolding start_text escape_byte numeral
 written rs symbols places =
     let lines = record_lines rs in
@@ -111,7 +111,7 @@ written rs symbols places =
 
 -- ---- without symbols
 
-pub no_items_added : (places : List Place) → place_items [] places ≡ no_items
+pub no_items_added : (places : List CodePlace) → place_items [] places ≡ no_items
 no_items_added [] = refl
 no_items_added (p ∷ places) = no_items_added places
 
@@ -119,18 +119,18 @@ records_alone : (rs : List Record) → records_then rs no_items ≡ record_items
 records_alone [] = refl
 records_alone (r ∷ rs) = ap (λ (js : Items). item (record_json r) js) (records_alone rs)
 
-pub nothing_added : (rs : List Record) (places : List Place) → placed_text rs [] places ≡ trace_text rs
+pub nothing_added : (rs : List Record) (places : List CodePlace) → placed_text rs [] places ≡ trace_text rs
 nothing_added rs places =
     ap (λ (js : Items). listing (codes "traceEvents") js) (ap (λ (js : Items). records_then rs js) (no_items_added places) ∙ records_alone rs)
 
 -- ---- JSON
 
-place_numbers : (symbol : Option (List ℕ × ℕ)) (p : Place) (more : Items) → FitsPlace p → ItemsHaveNumbers more → ItemsHaveNumbers (item_by p symbol more)
+place_numbers : (symbol : Option (List ℕ × ℕ)) (p : CodePlace) (more : Items) → FitsPlace p → ItemsHaveNumbers more → ItemsHaveNumbers (item_by p symbol more)
 place_numbers None p more fits rest = rest
 place_numbers (Some symbol) p more fits rest =
     ((tt, ((decimals 2).0 (omega arith), ((decimals (p.task + 1)).0 fits.0, ((decimals p.at).0 fits.1, (tt, (tt, tt)))))), rest)
 
-places_numbers : (symbols : List Named) (places : List Place) → AllByRecursion FitsPlace places → ItemsHaveNumbers (place_items symbols places)
+places_numbers : (symbols : List Named) (places : List CodePlace) → AllByRecursion FitsPlace places → ItemsHaveNumbers (place_items symbols places)
 places_numbers symbols [] fits = tt
 places_numbers symbols (p ∷ places) fits = place_numbers (place_symbol symbols p) p (place_items symbols places) fits.0 (places_numbers symbols places fits.1)
 
@@ -141,11 +141,11 @@ records_numbers (r ∷ rs) more have rest = (have.0, records_numbers rs more hav
 trace_numbers : (changes : List Change) → AreFitting changes → ItemsHaveNumbers (record_items (trace_of changes))
 trace_numbers changes fits = (document-HasNumbers (trace_text (trace_of changes)) (trace_json (trace_of changes)) (traces changes fits)).0
 
-place_deep : (symbol : Option (List ℕ × ℕ)) (p : Place) (more : Items) → items_depth more ≤ 3 → items_depth (item_by p symbol more) ≤ 3
+place_deep : (symbol : Option (List ℕ × ℕ)) (p : CodePlace) (more : Items) → items_depth more ≤ 3 → items_depth (item_by p symbol more) ≤ 3
 place_deep None p more rest = rest
 place_deep (Some symbol) p more rest = max-le (omega arith) rest
 
-places_deep : (symbols : List Named) (places : List Place) → items_depth (place_items symbols places) ≤ 3
+places_deep : (symbols : List Named) (places : List CodePlace) → items_depth (place_items symbols places) ≤ 3
 places_deep symbols [] = omega arith
 places_deep symbols (p ∷ places) = place_deep (place_symbol symbols p) p (place_items symbols places) (places_deep symbols places)
 
@@ -166,7 +166,7 @@ records_deep : (rs : List Record) (more : Items) → items_depth more ≤ 3 → 
 records_deep [] more rest = rest
 records_deep (r ∷ rs) more rest = max-le (record_deep r) (records_deep rs more rest)
 
-placed_is_json : (changes : List Change) (symbols : List Named) (places : List Place) → AreFitting changes → All FitsPlace places
+placed_is_json : (changes : List Change) (symbols : List Named) (places : List CodePlace) → AreFitting changes → All FitsPlace places
     → document (placed_text (trace_of changes) symbols places) ≡ Some (placed_json (trace_of changes) symbols places)
 placed_is_json changes symbols places fits all =
     let rs = trace_of changes in
@@ -182,7 +182,7 @@ module _ {W : Type 0} (takes : W → Writing → List ℕ → W → Type 0) wher
   pub held_of : (start sink : W) (trace : Trace) (told : List Change) → Tells takes start told sink trace → IsPending takes start (start_text ++ record_lines (records_of no_spans (in_order 0 told))) sink trace.text
   held_of start sink trace told tells = record { sunk = tells.sunk; took = tells.took; text = tells.text }
 
-  pub placed : {E : Type 0} (result : Result (Unit {0}) E) (start sink : W) (changes : List Change) (symbols : List Named) (places : List Place) → AreFitting changes → All FitsPlace places
+  pub placed : {E : Type 0} (result : Result (Unit {0}) E) (start sink : W) (changes : List Change) (symbols : List Named) (places : List CodePlace) → AreFitting changes → All FitsPlace places
       → OnOk result (Took takes start (((start_text ++ record_lines (records_of no_spans (in_order 0 changes))) ++ place_lines symbols places) ++ codes "\n]}") sink) → OnOk result (IsPlaced takes start symbols places sink)
   placed (Ok done) start sink changes symbols places fits all took =
       record {

@@ -11,7 +11,7 @@ use Rattle.evm_symbols.specs.Named.{Named}
 use Rattle.evm_tracks.specs.declared.change.Change.{Change}
 use Rattle.evm_tracks.specs.Entries.{Record, record_json, trace_text}
 use Rattle.evm_tracks.specs.Changes.{trace_of}
-use Rattle.evm_places.specs.declared.place.Place.{Place}
+use Rattle.evm_places.specs.declared.place.CodePlace.{CodePlace}
 use Rattle.evm_places.specs.Places.{place_items}
 
 -- the records, and behind them other items
@@ -20,14 +20,14 @@ records_then [] more = more
 records_then (r ∷ rs) more = item (record_json r) (records_then rs more)
 
 -- the file: the trace's records and then its places, one a line
-abbrev pub placed_text : List Record → List Named → List Place → List ℕ
+abbrev pub placed_text : List Record → List Named → List CodePlace → List ℕ
 placed_text rs symbols places = listing (codes "traceEvents") (records_then rs (place_items symbols places))
 
-abbrev pub placed_json : List Record → List Named → List Place → Json
+abbrev pub placed_json : List Record → List Named → List CodePlace → Json
 placed_json rs symbols places = object (member (codes "traceEvents") (array (records_then rs (place_items symbols places))) no_members)
 
 -- numbers of 8 bits for tasks, and of 64 for ticks
-abbrev pub FitsPlace : Place → Type 0
+abbrev pub FitsPlace : CodePlace → Type 0
 FitsPlace p = (p.task + 1 < 2 ^ 64) × (p.at < 2 ^ 64)
 
 -- What the sink took and what is still to be written are together this text.
@@ -37,15 +37,15 @@ pub record IsPending {W : Type 0} (takes : W → Writing → List ℕ → W → 
   pub text : sunk ++ string_bytes kept ≡ whole
 
 -- The sink took the whole text of the trace of some changes with some places, and a JSON reader finds its records and places there.
-pub record IsPlaced {W : Type 0} (takes : W → Writing → List ℕ → W → Type 0) (start : W) (symbols : List Named) (places : List Place) (sink : W) : Type 0 where
+pub record IsPlaced {W : Type 0} (takes : W → Writing → List ℕ → W → Type 0) (start : W) (symbols : List Named) (places : List CodePlace) (sink : W) : Type 0 where
   pub changes : List Change
   pub took : Took takes start (placed_text (trace_of changes) symbols places) sink
   pub json : document (placed_text (trace_of changes) symbols places) ≡ Some (placed_json (trace_of changes) symbols places)
 
 -- so for some places
 abbrev pub IsPlacedSomewhere : {W : Type 0} → (W → Writing → List ℕ → W → Type 0) → W → List Named → W → Type 0
-IsPlacedSomewhere takes start symbols sink = (places : List Place) × IsPlaced takes start symbols places sink
+IsPlacedSomewhere takes start symbols sink = (places : List CodePlace) × IsPlaced takes start symbols places sink
 
 -- Where the image has no symbols, the text is that of the trace.
 abbrev pub NoSymbolsNoPlaces : Type 0
-NoSymbolsNoPlaces = (rs : List Record) (places : List Place) → placed_text rs [] places ≡ trace_text rs
+NoSymbolsNoPlaces = (rs : List Record) (places : List CodePlace) → placed_text rs [] places ≡ trace_text rs

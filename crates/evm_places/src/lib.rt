@@ -10,5 +10,5 @@ mod writing;
 
 pub use evm_symbols::Symbols;
 pub use laws::no_symbols_no_places;
-pub use place::{Doing, Place};
+pub use place::{CodePlace, Doing};
 pub use run::{Placer, trace_places};

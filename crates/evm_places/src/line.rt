@@ -7,7 +7,7 @@ ghost use Rattle.evm_text.specs.Written.{hexadecimal};
 ghost use Rattle.evm_places.specs.Places.{doing_text, distance_text, place_words, place_line, line_by, place_symbol};
 ghost use Rattle.evm_places.specs.Pieces.{place_pieces};
 
-use crate::place::{Doing, Place};
+use crate::place::{CodePlace, Doing};
 use evm_json::push_quoted;
 use evm_room::{Refused, push_text};
 use evm_symbols::Symbols;
@@ -79,7 +79,7 @@ fn push_line(out: &mut String, thread: u64, at: u64, name: &[u8]) -> Result<(), 
 fn push_named(
     alloc: Global,
     out: &mut String,
-    place: &Place,
+    place: &CodePlace,
     name: &str,
     offset: u64,
 ) -> Result<(), Refused>
@@ -96,7 +96,7 @@ pub(crate) fn push_place(
     alloc: Global,
     out: &mut String,
     symbols: &Symbols,
-    place: &Place,
+    place: &CodePlace,
 ) -> Result<(), Refused>
     ensures { OnOk result (string_bytes out.new ≡ string_bytes out.old ++ place_line symbols.now.symbols place.now) }
 {

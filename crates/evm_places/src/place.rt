@@ -15,7 +15,7 @@ pub enum Doing {
 
 /// A place of the program, and what a task does there.
 #[derive(Clone, Copy, Debug, PartialEq, Eq)]
-pub struct Place {
+pub struct CodePlace {
     pub task: u8,
     /// The tick of the trace's clock.
     pub at: u64,

@@ -4,7 +4,7 @@ ghost use Rattle.std.specs.Prelude.{OnOk};
 ghost use Rattle.evm_tracks.specs.Telling.{IsTelling};
 ghost use Rattle.evm_places.specs.Placed.{IsPlacedSomewhere};
 
-use crate::place::Place;
+use crate::place::CodePlace;
 use crate::writing::finish;
 use evm_streams::Sink;
 use evm_symbols::Symbols;
@@ -14,7 +14,7 @@ use std::alloc::Global;
 /// What has the places of a run, once it was told.
 pub trait Placer {
     /// The places so far.
-    fn places(&self) -> &[Place];
+    fn places(&self) -> &[CodePlace];
 }
 
 // Tells what the teller finds, in at most this number of calls.

@@ -8,7 +8,7 @@ ghost use Rattle.evm_places.specs.Places.{place_line, place_lines};
 ghost use Rattle.evm_places.specs.Placed.{FitsPlace, IsPending, IsPlaced};
 
 use crate::line::push_place;
-use crate::place::Place;
+use crate::place::CodePlace;
 use evm_room::push_text;
 use evm_streams::{Sink, WriteFault, write_all};
 use evm_symbols::Symbols;
@@ -49,7 +49,7 @@ fn write_place<W: Sink>(
     alloc: Global,
     text: &mut String,
     symbols: &Symbols,
-    place: &Place,
+    place: &CodePlace,
     sink: &mut W,
 ) -> Result<(), TraceStop>
     ensures { (start : W) (whole : List ℕ) → IsPending W.takes start whole sink.old text.old → OnOk result (IsPending W.takes start (whole ++ place_line symbols.now.symbols place.now) sink.new text.new) }
@@ -64,7 +64,7 @@ fn write_places<W: Sink>(
     alloc: Global,
     text: &mut String,
     symbols: &Symbols,
-    places: &[Place],
+    places: &[CodePlace],
     sink: &mut W,
 ) -> Result<(), TraceStop>
     ensures { (start : W) (whole : List ℕ) → IsPending W.takes start whole sink.old text.old → OnOk result (IsPending W.takes start (whole ++ place_lines symbols.now.symbols places.now) sink.new text.new) }
@@ -102,7 +102,7 @@ fn write_to_end<W: Sink>(
     alloc: Global,
     text: &mut String,
     symbols: &Symbols,
-    places: &[Place],
+    places: &[CodePlace],
     sink: &mut W,
 ) -> Result<(), TraceStop>
     ensures { (start : W) (whole : List ℕ) → IsPending W.takes start whole sink.old text.old → OnOk result (Took W.takes start ((whole ++ place_lines symbols.now.symbols places.now) ++ codes "\n]}") sink.new) }
@@ -114,13 +114,13 @@ fn write_to_end<W: Sink>(
 }
 
 // Whatever the numbers are, they fit.
-fn fit_place(place: Place)
+fn fit_place(place: CodePlace)
     ensures { FitsPlace place }
 {
     let (_task, _at) = (place.task, place.at);
 }
 
-fn fit_places(places: &[Place])
+fn fit_places(places: &[CodePlace])
     ensures { All FitsPlace places.now }
 {
     for place in places {
@@ -137,7 +137,7 @@ pub(crate) fn finish<W: Sink>(
     alloc: Global,
     trace: &mut Trace,
     symbols: &Symbols,
-    places: &[Place],
+    places: &[CodePlace],
     sink: &mut W,
 ) -> Result<(), TraceStop>
     ensures { (start : W) → IsTelling W.takes start sink.old trace.old → OnOk result (IsPlaced W.takes start symbols.now.symbols places.now sink.new) }

@@ -5,7 +5,9 @@ use evm_core::{Boot, Machine};
 use evm_devs::AnyDevice;
 use evm_lines::LineSet;
 use evm_model::{Event, POKE_LIMIT};
-use evm_schedules::{Chooser, Failure, Outcome, Watch, Way, failure_address, program_devices, run};
+use evm_schedules::{
+    Chooser, Failure, RunOutcome, Watch, Way, failure_address, program_devices, run_schedule,
+};
 use std::alloc::Global;
 use std::test::Fail;
 
@@ -38,13 +40,13 @@ fn machine_of(alloc: Global, words: &[u32]) -> Result<Machine<AnyDevice>, Fail> 
 }
 
 // What a run of these words comes to, and where.
-fn outcome(alloc: Global, words: &[u32], seed: u64) -> Result<(Outcome, u64), Fail> {
+fn outcome(alloc: Global, words: &[u32], seed: u64) -> Result<(RunOutcome, u64), Fail> {
     let mut machine = machine_of(alloc, words)?;
     let mut chooser = Chooser::new(seed, Way::Random, LineSet::new());
-    let outcome = run(&mut machine, &mut chooser, &Watch::usual(LineSet::new()));
+    let outcome = run_schedule(&mut machine, &mut chooser, &Watch::usual(LineSet::new()));
     let place = match outcome {
-        Outcome::Failed(failure) => failure_address(&machine, failure),
-        Outcome::Over | Outcome::Full => 0,
+        RunOutcome::Failed(failure) => failure_address(&machine, failure),
+        RunOutcome::Over | RunOutcome::Full => 0,
     };
     Ok((outcome, place))
 }
@@ -53,7 +55,7 @@ fn outcome(alloc: Global, words: &[u32], seed: u64) -> Result<(Outcome, u64), Fa
 fn an_ebreak_is_a_failure(rt: HostRuntime) -> Result<(), Fail> {
     // nop; ebreak
     let found = outcome(rt.alloc(), &[0x0000_0013, 0x0010_0073], 1)?;
-    assert_eq!(rt; found, (Outcome::Failed(Failure::Ebreak(0)), BASE + 4));
+    assert_eq!(rt; found, (RunOutcome::Failed(Failure::Ebreak(0)), BASE + 4));
     Ok(())
 }
 
@@ -61,7 +63,7 @@ fn an_ebreak_is_a_failure(rt: HostRuntime) -> Result<(), Fail> {
 fn a_fault_is_a_failure(rt: HostRuntime) -> Result<(), Fail> {
     // nop; and a word of zeros, which is no instruction
     let found = outcome(rt.alloc(), &[0x0000_0013], 1)?;
-    assert_eq!(rt; found, (Outcome::Failed(Failure::Fault(0)), BASE + 4));
+    assert_eq!(rt; found, (RunOutcome::Failed(Failure::Fault(0)), BASE + 4));
     Ok(())
 }
 
@@ -70,7 +72,7 @@ fn a_wait_for_a_line_that_never_comes_is_a_deadlock(rt: HostRuntime) -> Result<(
     // li a0,5; li a7,6: wait_line; ecall
     let words = [0x0050_0513, 0x0060_0893, 0x0000_0073];
     let found = outcome(rt.alloc(), &words, 1)?;
-    assert_eq!(rt; found, (Outcome::Failed(Failure::Deadlock), BASE + 8));
+    assert_eq!(rt; found, (RunOutcome::Failed(Failure::Deadlock), BASE + 8));
     Ok(())
 }
 
@@ -78,7 +80,7 @@ fn a_wait_for_a_line_that_never_comes_is_a_deadlock(rt: HostRuntime) -> Result<(
 fn an_exit_is_no_failure(rt: HostRuntime) -> Result<(), Fail> {
     // li a7,0: exit; ecall
     let found = outcome(rt.alloc(), &[0x0000_0893, 0x0000_0073], 1)?;
-    assert_eq!(rt; found, (Outcome::Over, 0));
+    assert_eq!(rt; found, (RunOutcome::Over, 0));
     Ok(())
 }
 
@@ -86,6 +88,6 @@ fn an_exit_is_no_failure(rt: HostRuntime) -> Result<(), Fail> {
 fn a_loop_fills_the_journal(rt: HostRuntime) -> Result<(), Fail> {
     // j .
     let found = outcome(rt.alloc(), &[0x0000_006f], 1)?;
-    assert_eq!(rt; found, (Outcome::Full, 0));
+    assert_eq!(rt; found, (RunOutcome::Full, 0));
     Ok(())
 }

@@ -60,7 +60,7 @@ fn notes_are_records(rt: HostRuntime) {
         noted(
             Track::Lines(0),
             5,
-            Detail::Interrupt(Passage::Raised, 31, 2),
+            Detail::Interrupt(InterruptPassage::Raised, 31, 2),
         ),
         noted(Track::Task(0), 6, Detail::Rank(99)),
         noted(Track::InBand(0), 6, Detail::FlowStart(Flow::Line(31), 8)),

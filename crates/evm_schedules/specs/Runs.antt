@@ -9,8 +9,8 @@ use Rattle.evm_model.specs.declared.event.Answer.{Answer}
 use Rattle.evm_schedules.specs.Beginning.{ComesFrom}
 use Rattle.evm_schedules.specs.Failures.{Fails}
 use Rattle.evm_schedules.specs.declared.failure.Failure.{Failure}
-use Rattle.evm_schedules.specs.declared.running.Outcome.{Outcome}
-use Rattle.evm_schedules.specs.declared.running.Outcome.TheVariants.{Failed, Over, Full}
+use Rattle.evm_schedules.specs.declared.running.RunOutcome.{RunOutcome}
+use Rattle.evm_schedules.specs.declared.running.RunOutcome.TheVariants.{Failed, Over, Full}
 
 -- a machine whose last event has made it fail
 abbrev pub HasFailed : List ℕ → Failure → State → Type 0
@@ -21,7 +21,7 @@ abbrev pub IsFound : Contents → Boot → List ℕ → Failure → State → Ty
 IsFound image boot lines failure s = ComesFrom image boot s × HasFailed lines failure s
 
 -- a run that ended as failed left a machine that has failed
-abbrev pub Ends : List ℕ → Outcome → State → Type 0
+abbrev pub Ends : List ℕ → RunOutcome → State → Type 0
 Ends lines (Failed failure) s = HasFailed lines failure s
 Ends lines Over s = ⊤
 Ends lines Full s = ⊤

@@ -25,6 +25,6 @@ pub use evm_model::{Event, NoBytes};
 pub use failure::{Failure, failure_address};
 pub use looks::is_deadlock;
 pub use monitor::Monitor;
-pub use running::{Outcome, advance, play, run};
+pub use running::{RunOutcome, advance, play, run_schedule};
 pub use waking::{Awake, awake_processors, is_over};
 pub use watch::{Errors, Inversion, Watch};

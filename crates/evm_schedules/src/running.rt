@@ -19,7 +19,7 @@ use evm_model::{Event, NoBytes};
 
 /// How a run ended.
 #[derive(Clone, Copy, Debug, PartialEq, Eq)]
-pub enum Outcome {
+pub enum RunOutcome {
     /// The machine has failed, by its last event.
     Failed(Failure),
     /// Nothing more can happen, or all events of the list were made.
@@ -56,36 +56,44 @@ pub fn advance(
 }
 
 /// Makes events as they are chosen, up to the first failure that is watched for. A machine that is its journal's replay stays so.
-pub fn run(machine: &mut Machine<AnyDevice>, chooser: &mut Chooser, watch: &Watch) -> Outcome
+pub fn run_schedule(
+    machine: &mut Machine<AnyDevice>,
+    chooser: &mut Chooser,
+    watch: &Watch,
+) -> RunOutcome
     ensures ends { Ends watch.now.lines result machine.new }
     ensures replays { (first : State) → IsReplayOf first machine.old → IsReplayOf first machine.new }
 {
     let mut monitor = Monitor::new();
     'events: for _ in 0..machine.room() {
         let Some(event) = chooser.next(machine) else {
-            return Outcome::Over;
+            return RunOutcome::Over;
         };
         match advance(machine, event, watch, &mut monitor) {
-            Ok(Some(failure)) => return Outcome::Failed(failure),
+            Ok(Some(failure)) => return RunOutcome::Failed(failure),
             Ok(None) => {}
-            Err(_) => return Outcome::Full,
+            Err(_) => return RunOutcome::Full,
         }
     }
-    Outcome::Full
+    RunOutcome::Full
 }
 
 /// Makes the events of a list, up to the first failure that is watched for. A machine that is its journal's replay stays so.
-pub fn play(machine: &mut Machine<AnyDevice>, events: &[Event<NoBytes>], watch: &Watch) -> Outcome
+pub fn play(
+    machine: &mut Machine<AnyDevice>,
+    events: &[Event<NoBytes>],
+    watch: &Watch,
+) -> RunOutcome
     ensures ends { Ends watch.now.lines result machine.new }
     ensures replays { (first : State) → IsReplayOf first machine.old → IsReplayOf first machine.new }
 {
     let mut monitor = Monitor::new();
     'events: for event in events {
         match advance(machine, *event, watch, &mut monitor) {
-            Ok(Some(failure)) => return Outcome::Failed(failure),
+            Ok(Some(failure)) => return RunOutcome::Failed(failure),
             Ok(None) => {}
-            Err(_) => return Outcome::Full,
+            Err(_) => return RunOutcome::Full,
         }
     }
-    Outcome::Over
+    RunOutcome::Over
 }

@@ -8,7 +8,7 @@ use crate::laws::text_is_script;
 use crate::notes::Notes;
 use crate::plain::PlainLine;
 use crate::session::Session;
-use crate::stop::Stop;
+use crate::stop::ScriptStop;
 use evm_devs::AnyDevice;
 use evm_diagnostics::Machine;
 use evm_image::Image;
@@ -58,7 +58,7 @@ impl<'a> Bench<'a> {
         line: &[u8],
         text: &mut String,
         notes: &mut Notes,
-    ) -> Result<(), Stop>
+    ) -> Result<(), ScriptStop>
         ensures done { OnOk result (IsDoneBy line.now self.old self.new (string_bytes text.new)) }
         ensures noted { OnOk result (NotedFrom self.old.sitting line.now notes.old notes.new) }
         ensures refused { OnErr result (self.new ≡ self.old) }
@@ -69,7 +69,7 @@ impl<'a> Bench<'a> {
         }
         notes.begin();
         let Ok(devices) = program_devices(alloc) else {
-            return Err(Stop::NoMemory);
+            return Err(ScriptStop::NoMemory);
         };
         match Session::boot(alloc, self.image, devices, line) {
             Ok(session) => {

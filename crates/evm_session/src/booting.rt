@@ -5,16 +5,16 @@ ghost use Rattle.evm_session.specs.Scripted.{booted_by};
 ghost use Rattle.evm_diagnostics.specs.evm_debug.LineReading.{line_at};
 ghost use Rattle.evm_diagnostics.specs.evm_debug.declared.line.Line.TheVariants as lines;
 
-use crate::stop::Stop;
+use crate::stop::ScriptStop;
 use evm_dev::Device;
 use evm_diagnostics::{Boot, Devices, Line, Machine, Refusal, read_line};
 use evm_image::Image;
 use std::alloc::Global;
 
-fn stop_of(refusal: Refusal) -> Stop {
+fn stop_of(refusal: Refusal) -> ScriptStop {
     match refusal {
-        Refusal::NoMemory => Stop::NoMemory,
-        _ => Stop::Refused(refusal),
+        Refusal::NoMemory => ScriptStop::NoMemory,
+        _ => ScriptStop::Refused(refusal),
     }
 }
 
@@ -24,7 +24,7 @@ fn start<D: Device>(
     image: &Image,
     devices: Devices<D>,
     numbers: &Boot,
-) -> Result<Machine<D>, Stop>
+) -> Result<Machine<D>, ScriptStop>
     ensures { IfOk result (λ machine. booted_by devices image.now (Some (lines.Boot numbers.now)) ≡ Some machine) }
 {
     let mut machine = match Machine::from_boot(alloc, *numbers, devices) {
@@ -43,12 +43,12 @@ pub(crate) fn boot<D: Device>(
     image: &Image,
     devices: Devices<D>,
     line: &[u8],
-) -> Result<Machine<D>, Stop>
+) -> Result<Machine<D>, ScriptStop>
     ensures { IfOk result (λ machine. booted_by devices image.now (line_at line.now) ≡ Some machine) }
 {
     match read_line(line) {
         Ok(Line::Boot(numbers)) => start(alloc, image, devices, &numbers),
-        Ok(_) => Err(Stop::NotBooted),
-        Err(_) => Err(Stop::Misspelt),
+        Ok(_) => Err(ScriptStop::NotBooted),
+        Err(_) => Err(ScriptStop::Misspelt),
     }
 }

@@ -23,7 +23,7 @@ pub use notes::{LastCall, Notes};
 pub use plain::PlainLine;
 pub use script::script_text;
 pub use session::Session;
-pub use stop::Stop;
+pub use stop::ScriptStop;
 
 #[cfg(test)]
 mod tests;

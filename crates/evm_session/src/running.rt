@@ -12,7 +12,7 @@ ghost use Rattle.evm_session.specs.Scripted.{after_event, after_view, after_line
 
 use crate::notes::Notes;
 use crate::noting::{event_ahead, noted_steps};
-use crate::stop::Stop;
+use crate::stop::ScriptStop;
 use evm_dev::Device;
 use evm_diagnostics::{Event, Line, Machine, Refusal, View, ViewRefusal, push_view, read_line};
 
@@ -22,17 +22,17 @@ fn run_steps<D: Device>(
     c: u8,
     count: u32,
     notes: &mut Notes,
-) -> Result<(), Stop>
+) -> Result<(), ScriptStop>
     requires { notes.old.swallowed ≡ 0 }
     ensures ok { OnOk result (unless_refused (steps c count machine.old).1 (steps c count machine.old).0 ≡ Some machine.new) }
     ensures noted { OnOk result (notes.new ≡ noted_steps c count machine.old notes.old) }
     ensures err { OnErr result (machine.new ≡ machine.old) }
 {
     if u64::from(count) > machine.room() {
-        return Err(Stop::Refused(Refusal::Full));
+        return Err(ScriptStop::Refused(Refusal::Full));
     }
     if c >= machine.cpu_count() {
-        return Err(Stop::Refused(Refusal::NoSuchCpu));
+        return Err(ScriptStop::Refused(Refusal::NoSuchCpu));
     }
     machine.rules();
     match noted_steps(machine, c, count, notes) {
@@ -45,7 +45,7 @@ fn run_event<D: Device>(
     machine: &mut Machine<D>,
     event: &Event,
     notes: &mut Notes,
-) -> Result<(), Stop>
+) -> Result<(), ScriptStop>
     ensures ok { OnOk result (after_event (apply machine.old event.now) ≡ Some machine.new) }
     ensures noted { OnOk result (notes.new ≡ noted_ahead (event_ahead event.now machine.old) notes.old) }
     ensures err { OnErr result (machine.new ≡ machine.old) }
@@ -56,19 +56,23 @@ fn run_event<D: Device>(
             notes.note_ahead(ahead);
             Ok(())
         }
-        Err(refusal) => Err(Stop::Refused(refusal)),
+        Err(refusal) => Err(ScriptStop::Refused(refusal)),
     }
 }
 
-fn run_view<D: Device>(machine: &Machine<D>, view: &View, text: &mut String) -> Result<(), Stop>
+fn run_view<D: Device>(
+    machine: &Machine<D>,
+    view: &View,
+    text: &mut String,
+) -> Result<(), ScriptStop>
     requires { string_bytes text.old ≡ [] }
     ensures ok { OnOk result (after_view (shown view.now machine.now) machine.now ≡ Some machine.now) }
     ensures text { OnOk result (string_bytes text.new ≡ text_shown (shown view.now machine.now)) }
 {
     match push_view(text, machine, view) {
         Ok(()) => Ok(()),
-        Err(ViewRefusal::Refused(refusal)) => Err(Stop::Refused(refusal)),
-        Err(ViewRefusal::NoMemory) => Err(Stop::NoMemory),
+        Err(ViewRefusal::Refused(refusal)) => Err(ScriptStop::Refused(refusal)),
+        Err(ViewRefusal::NoMemory) => Err(ScriptStop::NoMemory),
     }
 }
 
@@ -77,7 +81,7 @@ fn run_line<D: Device>(
     line: Line,
     text: &mut String,
     notes: &mut Notes,
-) -> Result<(), Stop>
+) -> Result<(), ScriptStop>
     requires empty { string_bytes text.old ≡ [] }
     requires quiet { notes.old.swallowed ≡ 0 }
     ensures ok { OnOk result (after_line line machine.old ≡ Some machine.new) }
@@ -87,7 +91,7 @@ fn run_line<D: Device>(
 {
     match line {
         Line::Blank => Ok(()),
-        Line::Boot(_) => Err(Stop::BootedAgain),
+        Line::Boot(_) => Err(ScriptStop::BootedAgain),
         Line::Steps(c, count) => run_steps(machine, c, count, notes),
         Line::One(event) => run_event(machine, &event, notes),
         Line::Look(view) => run_view(machine, &view, text),
@@ -100,7 +104,7 @@ pub(crate) fn run_on<D: Device>(
     line: &[u8],
     text: &mut String,
     notes: &mut Notes,
-) -> Result<(), Stop>
+) -> Result<(), ScriptStop>
     requires { string_bytes text.old ≡ [] }
     ensures ok { OnOk result (after_read (line_at line.now) machine.old ≡ Some machine.new) }
     ensures text { OnOk result (string_bytes text.new ≡ line_text (line_at line.now) machine.old) }
@@ -110,6 +114,6 @@ pub(crate) fn run_on<D: Device>(
     notes.begin();
     match read_line(line) {
         Ok(line) => run_line(machine, line, text, notes),
-        Err(_) => Err(Stop::Misspelt),
+        Err(_) => Err(ScriptStop::Misspelt),
     }
 }

@@ -12,7 +12,7 @@ use crate::booting::boot;
 use crate::notes::Notes;
 use crate::plain::{PlainLine, is_one_line};
 use crate::running::run_on;
-use crate::stop::Stop;
+use crate::stop::ScriptStop;
 use evm_dev::Device;
 use evm_diagnostics::{Devices, Machine};
 use evm_image::Image;
@@ -47,19 +47,19 @@ impl<D: Device> Session<D> {
         image: &Image,
         devices: Devices<D>,
         line: &[u8],
-    ) -> Result<Session<D>, Stop>
+    ) -> Result<Session<D>, ScriptStop>
         ensures scripted { IfOk result (λ session. IsScripted devices image.now session) }
         ensures booted { IfOk result (λ session. (booted_by devices image.now (line_at line.now) ≡ Some session.machine) × (session.lines ≡ line.now ∷ [])) }
     {
         let mut lines = Vec::new(alloc);
         if !is_one_line(line) {
-            return Err(Stop::Misspelt);
+            return Err(ScriptStop::Misspelt);
         }
         let Ok(plain) = PlainLine::copied(alloc, line) else {
-            return Err(Stop::NoMemory);
+            return Err(ScriptStop::NoMemory);
         };
         let Ok(()) = grow(&mut lines, 1) else {
-            return Err(Stop::NoMemory);
+            return Err(ScriptStop::NoMemory);
         };
         lines.push_reserved(plain);
         match boot(alloc, image, devices, line) {
@@ -75,20 +75,20 @@ impl<D: Device> Session<D> {
         line: &[u8],
         text: &mut String,
         notes: &mut Notes,
-    ) -> Result<(), Stop>
+    ) -> Result<(), ScriptStop>
         requires { string_bytes text.old ≡ [] }
         ensures done { OnOk result (IsLineDone line.now self.old self.new (string_bytes text.new)) }
         ensures noted { OnOk result (notes.new ≡ noted_read (line_at line.now) self.old.machine notes.old) }
         ensures refused { OnErr result (self.new ≡ self.old) }
     {
         if !is_one_line(line) {
-            return Err(Stop::Misspelt);
+            return Err(ScriptStop::Misspelt);
         }
         let Ok(plain) = PlainLine::copied(alloc, line) else {
-            return Err(Stop::NoMemory);
+            return Err(ScriptStop::NoMemory);
         };
         let Ok(()) = grow(&mut self.lines, 1) else {
-            return Err(Stop::NoMemory);
+            return Err(ScriptStop::NoMemory);
         };
         match run_on(&mut self.machine, line, text, notes) {
             Ok(()) => {
@@ -110,7 +110,7 @@ impl<D: Device> Session<D> {
         line: &[u8],
         text: &mut String,
         notes: &mut Notes,
-    ) -> Result<(), Stop>
+    ) -> Result<(), ScriptStop>
         ensures done { OnOk result (IsLineDone line.now self.old self.new (string_bytes text.new)) }
         ensures noted { OnOk result (notes.new ≡ noted_read (line_at line.now) self.old.machine notes.old) }
         ensures refused { OnErr result (self.new ≡ self.old) }

@@ -4,7 +4,7 @@ use evm_model::Refusal;
 
 /// Why a line is not done. It has changed nothing.
 #[derive(Clone, Copy, Debug, PartialEq, Eq)]
-pub enum Stop {
+pub enum ScriptStop {
     /// It is outside the grammar of scripts.
     Misspelt,
     /// No machine is booted.

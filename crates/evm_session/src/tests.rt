@@ -14,7 +14,7 @@ fn image(alloc: Global) -> Result<Image, Fail> {
 }
 
 /// Why the last of some lines is not done, and the script of those that are.
-fn run_lines(alloc: Global, lines: &[&[u8]]) -> Result<(Option<Stop>, Vec<u8>), Fail> {
+fn run_lines(alloc: Global, lines: &[&[u8]]) -> Result<(Option<ScriptStop>, Vec<u8>), Fail> {
     let image = image(alloc)?;
     let mut bench = Bench::new(&image);
     let mut notes = Notes::new(alloc)?;
@@ -26,16 +26,16 @@ fn run_lines(alloc: Global, lines: &[&[u8]]) -> Result<(Option<Stop>, Vec<u8>), 
     Ok((stop, script_text(alloc, bench.lines())?))
 }
 
-fn last_stop(alloc: Global, lines: &[&[u8]]) -> Result<Option<Stop>, Fail> {
+fn last_stop(alloc: Global, lines: &[&[u8]]) -> Result<Option<ScriptStop>, Fail> {
     Ok(run_lines(alloc, lines)?.0)
 }
 
 #[test]
 fn a_boot_line_comes_first(rt: HostRuntime) -> Result<(), Fail> {
     let early = last_stop(rt.alloc(), &[b"step 0 1"])?;
-    assert_eq!(rt; early, Some(Stop::NotBooted));
+    assert_eq!(rt; early, Some(ScriptStop::NotBooted));
     let again = last_stop(rt.alloc(), &[b"boot 1 65536 2", b"boot 1 65536 2"])?;
-    assert_eq!(rt; again, Some(Stop::BootedAgain));
+    assert_eq!(rt; again, Some(ScriptStop::BootedAgain));
     Ok(())
 }
 
@@ -43,7 +43,7 @@ fn a_boot_line_comes_first(rt: HostRuntime) -> Result<(), Fail> {
 fn refused_lines_are_not_kept(rt: HostRuntime) -> Result<(), Fail> {
     let lines: [&[u8]; 4] = [b"boot 1 65536 2", b"step 0 3", b"tick", b"step 1 1"];
     let (stop, script) = run_lines(rt.alloc(), &lines)?;
-    assert_eq!(rt; stop, Some(Stop::Refused(Refusal::NoSuchCpu)));
+    assert_eq!(rt; stop, Some(ScriptStop::Refused(Refusal::NoSuchCpu)));
     assert_eq!(rt; script.as_slice(), b"boot 1 65536 2\ntick\n".as_slice());
     Ok(())
 }

@@ -6,7 +6,7 @@ use crate::shell::{Outcome, Shell};
 use evm_program::Meter;
 use evm_room::NoMemory;
 use evm_shell_answers::{
-    Condition, Line, Page, Snapshot, Stop, Swallowed, View, condition_of, holds, number_of,
+    Condition, Line, Page, ScriptStop, Snapshot, Swallowed, View, condition_of, holds, number_of,
     put_changes, put_decoded, put_plain, put_swallowed, read_line, report_stop,
 };
 use std::alloc::Global;
@@ -67,7 +67,7 @@ impl<M: Meter + Drop> Shell<'_, M> {
                 page.put(&text)?;
                 Ok(true)
             }
-            Err(Stop::NoMemory) => Err(NoMemory),
+            Err(ScriptStop::NoMemory) => Err(NoMemory),
             Err(stop) => {
                 self.failed = true;
                 let done = self.bench.lines();

@@ -20,7 +20,7 @@ pub use answers::{put_code, put_place};
 pub use changes::{Swallowed, put_changes, put_harts, put_owners, put_swallowed};
 pub use conditions::{Condition, condition_of, holds};
 pub use evm_session::{
-    AnyDevice, Bench, Line, Machine, Notes, Stop, View, read_line, script_text, write_journal,
+    AnyDevice, Bench, Line, Machine, Notes, ScriptStop, View, read_line, script_text, write_journal,
 };
 pub use names::Names;
 pub use numbers::{address_of, number_of};

@@ -9,7 +9,8 @@ use evm_image::Image;
 use evm_messages::{Diagnostic, LineFault, report_line};
 use evm_room::NoMemory;
 use evm_session::{
-    InputFault, Line, PlainLine, Stop, event_cpu, fault_detail, read_line, script_text, view_cpu,
+    InputFault, Line, PlainLine, ScriptStop, event_cpu, fault_detail, read_line, script_text,
+    view_cpu,
 };
 use std::alloc::Global;
 
@@ -75,13 +76,13 @@ fn cpu_of(line: &[u8]) -> Option<u8> {
     }
 }
 
-fn fault_of(stop: Stop, number: u64, line: &[u8]) -> Option<InputFault> {
+fn fault_of(stop: ScriptStop, number: u64, line: &[u8]) -> Option<InputFault> {
     match stop {
-        Stop::Misspelt => Some(InputFault::BadLine(number, LineFault::OutsideGrammar)),
-        Stop::NotBooted => Some(InputFault::BadLine(number, LineFault::NotBooted)),
-        Stop::BootedAgain => Some(InputFault::BadLine(number, LineFault::BootedAgain)),
-        Stop::Refused(refusal) => Some(InputFault::Refused(number, cpu_of(line), refusal)),
-        Stop::NoMemory => None,
+        ScriptStop::Misspelt => Some(InputFault::BadLine(number, LineFault::OutsideGrammar)),
+        ScriptStop::NotBooted => Some(InputFault::BadLine(number, LineFault::NotBooted)),
+        ScriptStop::BootedAgain => Some(InputFault::BadLine(number, LineFault::BootedAgain)),
+        ScriptStop::Refused(refusal) => Some(InputFault::Refused(number, cpu_of(line), refusal)),
+        ScriptStop::NoMemory => None,
     }
 }
 
@@ -93,7 +94,7 @@ pub fn report_stop(
     done: &[PlainLine],
     number: u64,
     line: &[u8],
-    stop: Stop,
+    stop: ScriptStop,
 ) -> Result<(), NoMemory> {
     let mut text = Page::new(alloc);
     text.put_bytes(&script_text(alloc, done)?)?;

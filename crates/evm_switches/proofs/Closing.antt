@@ -18,7 +18,7 @@ use Rattle.evm_switches.specs.Searches.{IsDone, IsPassed, IsSearched}
 use Rattle.evm_switches.specs.Walks.{IsReached}
 use Rattle.evm_switches.specs.declared.branch.Branch.{Branch}
 use Rattle.evm_switches.specs.declared.branch.Choice.{Choice}
-use Rattle.evm_switches.specs.declared.branch.Turn.{Turn}
+use Rattle.evm_switches.specs.declared.branch.CpuTurn.{CpuTurn}
 
 -- ---- a search that has come farther
 -- each branch went on for at least as many steps
@@ -64,7 +64,7 @@ switch-stays : (May : Allows) (Fails : Failing) (first : State) (most : ℕ) (br
     → IsSearched May Fails first most branches (IsPassed first branches walked) (forked branch steps choice) count → switches branch.cpu (event_of_choice choice) ≡ 1
     → StaysCovered Fails (IsPassed first branches walked) s branch.cpu (length branch.turns.items) (event_of_choice choice)
 switch-stays May Fails first most branches walked branch steps s choice count reached searched one after answer done =
-    let turn : Turn = record { cpu = branch.cpu; steps = steps; choice = choice } in
+    let turn : CpuTurn = record { cpu = branch.cpu; steps = steps; choice = choice } in
     let all = subst (NoneFails Fails first) (events-forked branch steps choice) searched.harmless in
     let last = none-behind Fails first (events_of_turns branch.turns.items ++ replicate steps (Step branch.cpu)) (event_of_choice choice ∷ []) all in
     let here = subst (λ (t : State). NoneFails Fails t (event_of_choice choice ∷ [])) (sym reached) last in
@@ -112,5 +112,5 @@ pub searched : (May : Allows) (Fails : Failing) (first : State) (most : ℕ) (br
 unfolding replay
 searched May Fails first most branches walked root look choices none there all events h =
     let covered = (all 0 root there).2.covered in
-    let begins : IsCovered (IsPassed first branches walked) first root.cpu 0 = subst (λ (turns : List Turn). IsCovered (IsPassed first branches walked) (replay first (events_of_turns turns)) root.cpu (length turns)) none covered in
+    let begins : IsCovered (IsPassed first branches walked) first root.cpu 0 = subst (λ (turns : List CpuTurn). IsCovered (IsPassed first branches walked) (replay first (events_of_turns turns)) root.cpu (length turns)) none covered in
     none-from May Fails most (IsPassed first branches walked) look (closed-search May Fails first most branches walked choices all) events first root.cpu 0 most begins (omega arith) h

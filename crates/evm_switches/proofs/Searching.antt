@@ -13,7 +13,7 @@ use Rattle.evm_switches.specs.Schedules.{switches, NoneFails}
 use Rattle.evm_switches.specs.Walks.{IsReached}
 use Rattle.evm_switches.specs.declared.branch.Branch.{Branch}
 use Rattle.evm_switches.specs.declared.branch.Choice.{Choice}
-use Rattle.evm_switches.specs.declared.branch.Turn.{Turn}
+use Rattle.evm_switches.specs.declared.branch.CpuTurn.{CpuTurn}
 
 abbrev pub Allows : Type 1
 Allows = State → Event → Type 0
@@ -41,7 +41,7 @@ unfolding replay
 none-behind Fails s [] ys h = h
 none-behind Fails s (x ∷ xs) ys h = none-behind Fails (left_by (apply s x) s) xs ys h.1
 
-pub events-append : (xs ys : List Turn) → events_of_turns (xs ++ ys) ≡ events_of_turns xs ++ events_of_turns ys
+pub events-append : (xs ys : List CpuTurn) → events_of_turns (xs ++ ys) ≡ events_of_turns xs ++ events_of_turns ys
 events-append [] ys = refl
 events-append (x ∷ xs) ys = ap (λ (events : List Event). turn_events x ++ events) (events-append xs ys) ∙ sym (append_assoc (turn_events x) (events_of_turns xs) (events_of_turns ys))
 
@@ -49,7 +49,7 @@ events-append (x ∷ xs) ys = ap (λ (events : List Event). turn_events x ++ eve
 pub events-forked : (branch : Branch) (steps : ℕ) (choice : Choice)
     → events_of_turns (forked branch steps choice).turns.items ≡ (events_of_turns branch.turns.items ++ replicate steps (Step branch.cpu)) ++ event_of_choice choice ∷ []
 events-forked branch steps choice =
-    let turn : Turn = record { cpu = branch.cpu; steps = steps; choice = choice } in
+    let turn : CpuTurn = record { cpu = branch.cpu; steps = steps; choice = choice } in
     events-append branch.turns.items (turn ∷ [])
     ∙ (ap (λ (events : List Event). events_of_turns branch.turns.items ++ events) (append-nil (turn_events turn))
     ∙ sym (append_assoc (events_of_turns branch.turns.items) (replicate steps (Step branch.cpu)) (event_of_choice choice ∷ [])))

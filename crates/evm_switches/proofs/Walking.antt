@@ -14,7 +14,7 @@ use Rattle.evm_switches.specs.Schedules.{NoneFails}
 use Rattle.evm_switches.specs.Walks.{HasPassed, IsReached}
 use Rattle.evm_switches.specs.declared.branch.Branch.{Branch}
 use Rattle.evm_switches.specs.declared.branch.Choice.{Choice}
-use Rattle.evm_switches.specs.declared.branch.Turn.{Turn}
+use Rattle.evm_switches.specs.declared.branch.CpuTurn.{CpuTurn}
 
 -- ---- events that have passed
 pub passed-none : (Fails : Failing) (s : State) → HasPassed Fails s [] s
@@ -38,7 +38,7 @@ passed-step Fails n c a b s h g =
     let more : replicate (n + 1) event ≡ replicate n event ++ event ∷ [] = ap (λ (k : ℕ). replicate k event) one ∙ replicate-last n event in
     subst (λ (events : List Event). HasPassed Fails a events s) (sym more) (passed-append Fails a b s (replicate n event) (event ∷ []) h g)
 
-pub passed-turn : (Fails : Failing) (a b s : State) (turns : List Turn) (turn : Turn) → HasPassed Fails a (events_of_turns turns) b → HasPassed Fails b (turn_events turn) s → HasPassed Fails a (events_of_turns (turns ++ turn ∷ [])) s
+pub passed-turn : (Fails : Failing) (a b s : State) (turns : List CpuTurn) (turn : CpuTurn) → HasPassed Fails a (events_of_turns turns) b → HasPassed Fails b (turn_events turn) s → HasPassed Fails a (events_of_turns (turns ++ turn ∷ [])) s
 passed-turn Fails a b s turns turn h g =
     let more : events_of_turns (turns ++ turn ∷ []) ≡ events_of_turns turns ++ turn_events turn = events-append turns (turn ∷ []) ∙ ap (λ (events : List Event). events_of_turns turns ++ events) (append-nil (turn_events turn)) in
     subst (λ (events : List Event). HasPassed Fails a events s) (sym more) (passed-append Fails a b s (events_of_turns turns) (turn_events turn) h g)

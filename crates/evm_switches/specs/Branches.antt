@@ -7,7 +7,7 @@ use Rattle.evm_switches.specs.Schedules.{stepped}
 use Rattle.evm_switches.specs.declared.branch.Branch.{Branch}
 use Rattle.evm_switches.specs.declared.branch.Choice.{Choice}
 use Rattle.evm_switches.specs.declared.branch.Choice.TheVariants as choices
-use Rattle.evm_switches.specs.declared.branch.Turn.{Turn}
+use Rattle.evm_switches.specs.declared.branch.CpuTurn.{CpuTurn}
 
 abbrev pub event_of_choice : Choice → Event
 event_of_choice (choices.Step c) = Step c
@@ -15,11 +15,11 @@ event_of_choice choices.Tick = Tick
 event_of_choice (choices.Raise c line) = Raise c line
 
 -- Steps of one processor, and an event that is a switch
-abbrev pub turn_events : Turn → List Event
+abbrev pub turn_events : CpuTurn → List Event
 turn_events turn = replicate turn.steps (Step turn.cpu) ++ event_of_choice turn.choice ∷ []
 
 -- the events with which a branch begins
-abbrev pub events_of_turns : List Turn → List Event
+abbrev pub events_of_turns : List CpuTurn → List Event
 events_of_turns [] = []
 events_of_turns (turn ∷ turns) = turn_events turn ++ events_of_turns turns
 

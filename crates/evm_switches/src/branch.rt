@@ -48,7 +48,7 @@ impl Choice {
 
 /// Steps of one processor, and then a switch.
 #[derive(Clone, Copy, Debug, PartialEq, Eq, Default)]
-pub struct Turn {
+pub struct CpuTurn {
     /// The processor.
     pub cpu: u8,
     /// How many steps.
@@ -61,7 +61,7 @@ pub struct Turn {
 #[derive(Debug, Drop)]
 pub struct Branch {
     /// The turns.
-    pub turns: ArrayVec<Turn, SWITCH_LIMIT>,
+    pub turns: ArrayVec<CpuTurn, SWITCH_LIMIT>,
     /// The processor that stepped last.
     pub cpu: u8,
 }
@@ -94,7 +94,7 @@ impl Branch {
         ensures { IfSome result (λ branch. branch ≡ forked self.now steps choice) }
     {
         let mut branch = self.copied();
-        let turn = Turn {
+        let turn = CpuTurn {
             cpu: self.cpu,
             steps,
             choice,

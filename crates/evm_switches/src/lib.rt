@@ -4,5 +4,5 @@
 mod branch;
 mod queue;
 
-pub use branch::{Branch, Choice, SWITCH_LIMIT, Turn};
+pub use branch::{Branch, Choice, CpuTurn, SWITCH_LIMIT};
 pub use queue::Queue;

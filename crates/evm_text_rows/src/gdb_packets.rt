@@ -24,7 +24,7 @@ fn packets_are_written(rt: HostRuntime) -> Result<(), Fail> {
 }
 
 // What comes first in some bytes, and how many are left.
-fn first(alloc: Global, bytes: &[u8]) -> Result<Option<(Item, usize)>, Fail> {
+fn first(alloc: Global, bytes: &[u8]) -> Result<Option<(PacketItem, usize)>, Fail> {
     let mut payload = Vec::new(alloc);
     match read_item(bytes, &mut payload)? {
         None => Ok(None),
@@ -43,13 +43,13 @@ fn payload(alloc: Global, bytes: &[u8]) -> Result<Vec<u8>, Fail> {
 fn packets_are_read_at_the_front(rt: HostRuntime) -> Result<(), Fail> {
     assert_eq!(rt;
         first(rt.alloc(), b"$OK#9a+$g#67")?,
-        Some((Item::Packet, 6))
+        Some((PacketItem::Packet, 6))
     );
     assert_eq!(rt;
         payload(rt.alloc(), b"$OK#9a+$g#67")?.as_slice(),
         b"OK".as_slice()
     );
-    assert_eq!(rt; first(rt.alloc(), b"$#00")?, Some((Item::Packet, 0)));
+    assert_eq!(rt; first(rt.alloc(), b"$#00")?, Some((PacketItem::Packet, 0)));
     assert_eq!(rt;
         payload(rt.alloc(), b"$a}\nb#4a")?.as_slice(),
         b"a*b".as_slice()
@@ -60,10 +60,22 @@ fn packets_are_read_at_the_front(rt: HostRuntime) -> Result<(), Fail> {
 // A wrong sum, an upper-case digit, an escape of nothing, a $ in the body.
 #[test]
 fn damaged_packets_are_told(rt: HostRuntime) -> Result<(), Fail> {
-    assert_eq!(rt; first(rt.alloc(), b"$OK#9b")?, Some((Item::Damaged, 0)));
-    assert_eq!(rt; first(rt.alloc(), b"$OK#9A")?, Some((Item::Damaged, 0)));
-    assert_eq!(rt; first(rt.alloc(), b"$}#7d")?, Some((Item::Damaged, 0)));
-    assert_eq!(rt; first(rt.alloc(), b"$a$g#ec")?, Some((Item::Damaged, 0)));
+    assert_eq!(rt;
+        first(rt.alloc(), b"$OK#9b")?,
+        Some((PacketItem::Damaged, 0))
+    );
+    assert_eq!(rt;
+        first(rt.alloc(), b"$OK#9A")?,
+        Some((PacketItem::Damaged, 0))
+    );
+    assert_eq!(rt;
+        first(rt.alloc(), b"$}#7d")?,
+        Some((PacketItem::Damaged, 0))
+    );
+    assert_eq!(rt;
+        first(rt.alloc(), b"$a$g#ec")?,
+        Some((PacketItem::Damaged, 0))
+    );
     Ok(())
 }
 
@@ -71,11 +83,17 @@ fn damaged_packets_are_told(rt: HostRuntime) -> Result<(), Fail> {
 fn signs_are_read(rt: HostRuntime) -> Result<(), Fail> {
     assert_eq!(rt;
         first(rt.alloc(), b"+$g#67")?,
-        Some((Item::Acknowledged, 5))
+        Some((PacketItem::Acknowledged, 5))
     );
-    assert_eq!(rt; first(rt.alloc(), b"-")?, Some((Item::NotAcknowledged, 0)));
-    assert_eq!(rt; first(rt.alloc(), b"\x03")?, Some((Item::Interrupt, 0)));
-    assert_eq!(rt; first(rt.alloc(), b"x")?, Some((Item::Noise, 0)));
+    assert_eq!(rt;
+        first(rt.alloc(), b"-")?,
+        Some((PacketItem::NotAcknowledged, 0))
+    );
+    assert_eq!(rt;
+        first(rt.alloc(), b"\x03")?,
+        Some((PacketItem::Interrupt, 0))
+    );
+    assert_eq!(rt; first(rt.alloc(), b"x")?, Some((PacketItem::Noise, 0)));
     Ok(())
 }
 
@@ -99,7 +117,7 @@ fn a_body_that_is_too_long_is_damaged(rt: HostRuntime) -> Result<(), Fail> {
     bytes.push(b'a')?;
     assert_eq!(rt;
         first(rt.alloc(), bytes.as_slice())?,
-        Some((Item::Damaged, PACKET_LIMIT + 1))
+        Some((PacketItem::Damaged, PACKET_LIMIT + 1))
     );
     Ok(())
 }

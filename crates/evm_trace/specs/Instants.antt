@@ -5,14 +5,14 @@ use Rattle.evm_tracks.specs.declared.change.Change.TheVariants.{Shows, Noted}
 use Rattle.evm_tracks.specs.declared.note.Detail.{Detail}
 use Rattle.evm_tracks.specs.declared.note.Detail.TheVariants.{ProcessName, ThreadName, SortIndex, Interrupt, Rank, FlowStart, FlowEnd}
 use Rattle.evm_tracks.specs.declared.note.Note.{Note}
-use Rattle.evm_tracks.specs.declared.note.Passage.{Passage}
-use Rattle.evm_tracks.specs.declared.note.Passage.TheVariants.{Raised, Received, Played}
+use Rattle.evm_tracks.specs.declared.note.InterruptPassage.{InterruptPassage}
+use Rattle.evm_tracks.specs.declared.note.InterruptPassage.TheVariants.{Raised, Received, Played}
 use Rattle.evm_tracks.specs.declared.track.Track.TheVariants.{Lines}
 use Rattle.evm_timeline.specs.declared.mark.Mark.{Mark}
 use Rattle.evm_timeline.specs.declared.mark.Mark.TheVariants as marks
 
 -- a line of a processor came so far, at a tick
-abbrev pub instant : Passage → ℕ → ℕ → ℕ → ℕ → Note
+abbrev pub instant : InterruptPassage → ℕ → ℕ → ℕ → ℕ → Note
 instant passage cpu line times at = record { track = Lines cpu; at = at; detail = Interrupt passage line times }
 
 -- the instant of a mark

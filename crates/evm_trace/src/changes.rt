@@ -11,7 +11,7 @@ use crate::states::{current_track, stage_states, task_state};
 use evm_lines::LINES;
 use evm_room::{Refused, copies, grow};
 use evm_timeline::{Look, Mark};
-use evm_tracks::{Change, Detail, Flow, Note, Passage, State, Track};
+use evm_tracks::{Change, Detail, Flow, InterruptPassage, Note, State, Track};
 use std::alloc::Global;
 use std::boxed::BoxedSlice;
 
@@ -139,7 +139,7 @@ fn show(list: &mut Vec<Change>, look: &Look, at: u64) -> Result<(), Refused>
 #[tactic(auto, using(crate::proofs::Told::told))]
 fn interrupt(
     list: &mut Vec<Change>,
-    passage: Passage,
+    passage: InterruptPassage,
     place: (u8, u8),
     times: u64,
     at: u64,
@@ -319,11 +319,11 @@ impl Changes {
         let then = at.saturating_add(1);
         match mark {
             Mark::Raised { cpu, line, times } => {
-                interrupt(list, Passage::Raised, (*cpu, *line), *times, at)?;
+                interrupt(list, InterruptPassage::Raised, (*cpu, *line), *times, at)?;
                 self.begin_arrow(list, *cpu, *line, at)
             }
             Mark::Received { cpu, line, times } => {
-                interrupt(list, Passage::Received, (*cpu, *line), *times, at)
+                interrupt(list, InterruptPassage::Received, (*cpu, *line), *times, at)
             }
             Mark::Played {
                 cpu,
@@ -331,7 +331,7 @@ impl Changes {
                 times,
                 ..
             } => {
-                interrupt(list, Passage::Played, (*cpu, *line), *times, at)?;
+                interrupt(list, InterruptPassage::Played, (*cpu, *line), *times, at)?;
                 let entry = entry_of(*cpu, *line);
                 self.end_arrow(list, current_track(look, *cpu), entry, *line, then)
             }

@@ -4,7 +4,7 @@ ghost use Rattle.std.specs.Prelude.{◌≡◌, ◌++◌, OnOk, flat_map, slice_g
 ghost use Rattle.evm_trace.specs.Spots.{spot_of, owner_place, spots_of};
 
 use evm_devs::AnyDevice;
-use evm_places::{Doing, Place};
+use evm_places::{CodePlace, Doing};
 use evm_room::{Refused, grow};
 use evm_timeline::{Machine, Mark};
 
@@ -13,7 +13,7 @@ const CALL: u64 = 4;
 
 // What a task does, and where: `back` bytes in front of its pc.
 fn place(
-    list: &mut Vec<Place>,
+    list: &mut Vec<CodePlace>,
     machine: &Machine<AnyDevice>,
     task: u8,
     at: u64,
@@ -26,7 +26,7 @@ fn place(
         None => Ok(()),
         Some(hart) => {
             grow(list, 1)?;
-            list.push_reserved(Place {
+            list.push_reserved(CodePlace {
                 task,
                 at,
                 doing,
@@ -38,7 +38,7 @@ fn place(
 }
 
 fn place_owner(
-    list: &mut Vec<Place>,
+    list: &mut Vec<CodePlace>,
     machine: &Machine<AnyDevice>,
     mutex: u8,
     owner: Option<u8>,
@@ -53,7 +53,7 @@ fn place_owner(
 }
 
 fn place_mark(
-    list: &mut Vec<Place>,
+    list: &mut Vec<CodePlace>,
     machine: &Machine<AnyDevice>,
     mark: &Mark,
     at: u64,
@@ -84,7 +84,7 @@ fn place_mark(
 
 /// Tells the places of an event: where tasks begin, run, wait and lock.
 pub(crate) fn place_marks(
-    list: &mut Vec<Place>,
+    list: &mut Vec<CodePlace>,
     machine: &Machine<AnyDevice>,
     marks: &[Mark],
     at: u64,
@@ -99,7 +99,7 @@ pub(crate) fn place_marks(
 
 /// Tells where the tasks are before the first event.
 pub(crate) fn place_tasks(
-    list: &mut Vec<Place>,
+    list: &mut Vec<CodePlace>,
     machine: &Machine<AnyDevice>,
 ) -> Result<(), Refused> {
     for task in 0..machine.task_count() {

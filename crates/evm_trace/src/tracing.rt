@@ -7,7 +7,7 @@ use crate::changes::Changes;
 use crate::places::{place_marks, place_tasks};
 use evm_devs::AnyDevice;
 use evm_image::Image;
-use evm_places::{Place, Placer, Symbols, trace_places};
+use evm_places::{CodePlace, Placer, Symbols, trace_places};
 use evm_program::Meter;
 use evm_room::Refused;
 use evm_streams::{Sink, WriteFault};
@@ -42,7 +42,7 @@ struct Telling<'m, M: Meter> {
     changes: Changes,
     marks: Vec<Mark>,
     // where tasks are when something happens, if the image has symbols
-    places: Vec<Place>,
+    places: Vec<CodePlace>,
     named: bool,
     stage: Stage,
     fault: Option<InputFault>,
@@ -121,7 +121,7 @@ impl<M: Meter> Teller for Telling<'_, M> {
 }
 
 impl<M: Meter> Placer for Telling<'_, M> {
-    fn places(&self) -> &[Place] {
+    fn places(&self) -> &[CodePlace] {
         self.places.as_slice()
     }
 }

@@ -15,7 +15,7 @@ mod tracks;
 
 pub use change::Change;
 pub use laws::{notes_are_kept, slices_follow, traces_are_json, traces_are_written};
-pub use note::{Detail, Flow, Note, Passage};
+pub use note::{Detail, Flow, InterruptPassage, Note};
 pub use run::{RunStop, Teller, Told, trace_run};
 pub use state::State;
 pub use trace::{Trace, TraceStop};

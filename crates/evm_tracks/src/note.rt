@@ -4,7 +4,7 @@ use crate::track::Track;
 
 /// How far an interrupt has come.
 #[derive(Clone, Copy, Debug, PartialEq, Eq)]
-pub enum Passage {
+pub enum InterruptPassage {
     /// The line was raised on the wire.
     Raised,
     /// A step received it into the log of a stage.
@@ -32,7 +32,7 @@ pub enum Detail {
     /// Its place among the tracks of its process.
     SortIndex,
     /// A line came so far, this often.
-    Interrupt(Passage, u8, u64),
+    Interrupt(InterruptPassage, u8, u64),
     /// The rank of the track's task from here on.
     Rank(u16),
     /// An arrow begins. Its number is that of the arrow's end.

@@ -2,7 +2,7 @@
 //! (RISC-V Unprivileged ISA 20191213, section 2.2).
 
 use crate::Statement;
-use evm_asm_lexer::{Section, Width};
+use evm_asm_lexer::{DataWidth, Section};
 use evm_isa::BranchOp;
 
 /// A line, and the word of its one instruction.
@@ -80,35 +80,35 @@ pub(super) const DATA_FORMS: [(&str, Statement); 14] = [
     (
         ".byte 255",
         Statement::Numbers {
-            width: Width::Byte,
+            width: DataWidth::Byte,
             count: 1,
         },
     ),
     (
         ".byte -128, 0 ,1",
         Statement::Numbers {
-            width: Width::Byte,
+            width: DataWidth::Byte,
             count: 3,
         },
     ),
     (
         ".word here,4294967295",
         Statement::Numbers {
-            width: Width::Word,
+            width: DataWidth::Word,
             count: 2,
         },
     ),
     (
         ".word a0",
         Statement::Numbers {
-            width: Width::Word,
+            width: DataWidth::Word,
             count: 1,
         },
     ),
     (
         ".dword -1,here,nowhere,0",
         Statement::Numbers {
-            width: Width::Dword,
+            width: DataWidth::Dword,
             count: 4,
         },
     ),

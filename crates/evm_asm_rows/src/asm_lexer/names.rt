@@ -1,6 +1,6 @@
 //! The names of the language, and neighbours that are none.
 
-use evm_asm_lexer::{BareOp, Mnemonic, Section, UnaryOp, Width};
+use evm_asm_lexer::{BareOp, DataWidth, Mnemonic, Section, UnaryOp};
 use evm_isa::{BranchOp, ImmediateOp, LoadOp, RegisterOp, ShiftOp, StoreOp, WordOp};
 
 /// The number of a register, its plain name, and its name of the calling convention.
@@ -126,9 +126,9 @@ pub(super) const MNEMONICS: &[(&str, Mnemonic)] = &[
     ("blez", Mnemonic::ZeroBranch(BranchOp::Bge)),
     (".text", Mnemonic::Section(Section::Text)),
     (".data", Mnemonic::Section(Section::Data)),
-    (".byte", Mnemonic::Numbers(Width::Byte)),
-    (".word", Mnemonic::Numbers(Width::Word)),
-    (".dword", Mnemonic::Numbers(Width::Dword)),
+    (".byte", Mnemonic::Numbers(DataWidth::Byte)),
+    (".word", Mnemonic::Numbers(DataWidth::Word)),
+    (".dword", Mnemonic::Numbers(DataWidth::Dword)),
     (".space", Mnemonic::Space),
     (".align", Mnemonic::Align),
     (".globl", Mnemonic::Global),

@@ -6,7 +6,7 @@ use Rattle.evm_asm_parser.specs.declared.kept.Kept.{Kept}
 use Rattle.evm_asm_parser.specs.Kept.{kept_statement}
 use Rattle.evm_asm_parser.specs.Operands.{Spots}
 use Rattle.evm_asm.specs.Kept.{AreKept}
-use Rattle.evm_asm.specs.declared.place.Place.{Place}
+use Rattle.evm_asm.specs.declared.place.SectionPlace.{SectionPlace}
 use Rattle.evm_asm.specs.Places.{here, statement_in}
 use Rattle.evm_asm.specs.Sources.{laid, source_lines, source_start, Laid, code_of, statement_text}
 use Rattle.evm_asm.proofs.Line_by_line.{one-line, line-is, no-lines, after-less, code-within, kept-first, kept-none}
@@ -17,7 +17,7 @@ pub loop-rest-init : goal.loop-rest-init
 loop-rest-init c = record {
   counted = omega arith;
   laid_so_far =
-      ap (λ (p : Place). laid (record { lines = 0; place = p; labels = c.new-labels.result; first = None }) (source_lines c.args.source.now)) c.source_start-place.ensures
+      ap (λ (p : SectionPlace). laid (record { lines = 0; place = p; labels = c.new-labels.result; first = None }) (source_lines c.args.source.now)) c.source_start-place.ensures
       ∙ ap (λ (l : Spots). laid (record { lines = 0; place = source_start; labels = l; first = None }) (source_lines c.args.source.now)) c.new-labels.ensures;
   kept_so_far = λ more all. subst (λ (k : List (Option Kept)). AreKept (k ++ more) (source_lines c.args.source.now)) (sym c.new-kept.ensures) all;
 }

@@ -6,7 +6,7 @@ use Rattle.evm_asm_parser.specs.evm_asm_lexer.Text.{before}
 use Rattle.evm_asm.specs.Sources.{source_lines, code_of, source_start, statement_text}
 use Rattle.evm_asm.specs.Items.{layout_of, lines_meant, meaning_of}
 use Rattle.evm_asm.specs.declared.item.Placed.{Placed}
-use Rattle.evm_asm.specs.declared.place.Place.{Place}
+use Rattle.evm_asm.specs.declared.place.SectionPlace.{SectionPlace}
 use Rattle.evm_asm.proofs.Line_by_line.{after-less, kept-rest}
 use Rattle.evm_asm.proofs.Line_by_line.{same-line, goes-on, stops, ends, fails-on}
 use Rattle.evm_asm.proofs.meaning.meaning.Goals as goal
@@ -17,7 +17,7 @@ loop-rest-init c = record {
   counted = omega arith;
   meant_so_far =
       let l = layout_of c.args.source.now in
-      ap (λ (p : Place). lines_meant l 0 p (source_lines c.args.source.now) c.new-items.result.items) c.source_start-place.ensures
+      ap (λ (p : SectionPlace). lines_meant l 0 p (source_lines c.args.source.now) c.new-items.result.items) c.source_start-place.ensures
       ∙ ap (λ (i : List Placed). lines_meant l 0 source_start (source_lines c.args.source.now) i) c.new-items.ensures.items;
   kept = subst (λ (k : List (Option Kept)). AreKept k (source_lines c.args.source.now)) (sym c.lines-known.ensures) c.requires.kept;
 }

@@ -5,7 +5,7 @@ use Rattle.evm_switches.proofs.Walking.{passed-none, passed-turn}
 use Rattle.evm_switches.specs.Branches.{events_of_turns}
 use Rattle.evm_switches.specs.Walks.{HasPassed}
 use Rattle.evm_switches.specs.declared.branch.Choice.TheVariants as choices
-use Rattle.evm_switches.specs.declared.branch.Turn.{Turn}
+use Rattle.evm_switches.specs.declared.branch.CpuTurn.{CpuTurn}
 use Rattle.evm_hunt.proofs.walking.begin_with.Goals as goal
 
 pub turns-init : goal.turns-init
@@ -13,11 +13,11 @@ turns-init c = (passed-none (FailsAsSought c.args.watch.now) c.args.machine.now,
 
 pub turns-preserved : goal.turns-preserved
 turns-preserved c =
-    let none : Turn = record { cpu = 0; steps = 0; choice = choices.Step 0 } in
+    let none : CpuTurn = record { cpu = 0; steps = 0; choice = choices.Step 0 } in
     let front = take c.turns.turn-index c.args.turns.now in
-    let turn : Turn = get_or c.args.turns.now c.turns.turn-index none in
+    let turn : CpuTurn = get_or c.args.turns.now c.turns.turn-index none in
     let more : take (c.turns.turn-index + 1) c.args.turns.now ≡ front ++ turn ∷ [] = take_more c.args.turns.now c.turns.turn-index none c.turns-test.true in (
-      subst (λ (turns : List Turn). HasPassed (FailsAsSought c.args.watch.now) c.args.machine.now (events_of_turns turns) c.take_turn.new.machine) (sym more)
+      subst (λ (turns : List CpuTurn). HasPassed (FailsAsSought c.args.watch.now) c.args.machine.now (events_of_turns turns) c.take_turn.new.machine) (sym more)
           (passed-turn (FailsAsSought c.args.watch.now) c.args.machine.now c.turns.machine c.take_turn.new.machine front turn c.turns.invariant.0 c.in-None.ensures.passes),
       (λ first h. c.take_turn.ensures.replays first (c.turns.invariant.1 first h)),
     )

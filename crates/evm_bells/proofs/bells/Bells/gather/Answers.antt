@@ -2,7 +2,7 @@ use Rattle.std.proofs.Common.{◌≡◌, List, [], ◌∷◌, ◌++◌, length, 
 use Rattle.std.specs.Prelude.{All}
 use Rattle.std.proofs.lemmas.List.{append-nil}
 use Rattle.atomic_table.specs.Table.{Me}
-use Rattle.evm_bells.specs.declared.rule.View.{View}
+use Rattle.evm_bells.specs.declared.rule.SeatView.{SeatView}
 use Rattle.evm_bells.specs.Batches.{Batch}
 use Rattle.evm_bells.specs.Seats.{TakerValue, BellsValue, taken_by}
 use Rattle.evm_bells.proofs.Counting.{counted_before, taken_by-last, all_front, all_last}
@@ -27,16 +27,16 @@ loop-taker-preserved c =
     let i = c.loop-taker.invariant in
     let t = c.taker.invariant in
     let e = c.join_seat.ensures in
-    let me = ap (λ (m : Me (Unit {0}) View). m.0) e.2 in
+    let me = ap (λ (m : Me (Unit {0}) SeatView). m.0) e.2 in
     let P : TakerValue → Type 0 = λ t. t.bells ≡ c.args.self.now.id in
     let last = c.in-Some.ensures.items in
     let popped = ap (λ (t : TakerValue). t.taken) c.taker.view_is in record {
       table = e.0 ∙ i.table;
       all = all_front P c.pop.new.self.items c.in-Some.taker (subst (All P) last i.all);
-      weight = omega (arith, ap (λ (v : View). v.weight) me, i.weight, t.weighs, ap length last, length-append c.pop.new.self.items (c.in-Some.taker ∷ []));
-      weighty = omega (arith, ap (λ (v : View). v.weight) me, i.weighty);
-      fresh = ap (λ (v : View). v.fresh) me ∙ rw t.unrung (append-nil c.loop-taker.seat.me.0.fresh) ∙ i.fresh;
-      taken = ap (λ (v : View). taken_by c.pop.new.self.items ++ v.taken) me
+      weight = omega (arith, ap (λ (v : SeatView). v.weight) me, i.weight, t.weighs, ap length last, length-append c.pop.new.self.items (c.in-Some.taker ∷ []));
+      weighty = omega (arith, ap (λ (v : SeatView). v.weight) me, i.weighty);
+      fresh = ap (λ (v : SeatView). v.fresh) me ∙ rw t.unrung (append-nil c.loop-taker.seat.me.0.fresh) ∙ i.fresh;
+      taken = ap (λ (v : SeatView). taken_by c.pop.new.self.items ++ v.taken) me
           ∙ ap (λ (m : List Batch). taken_by c.pop.new.self.items ++ (m ++ c.loop-taker.seat.me.0.taken)) popped
           ∙ sym (taken_by-last c.pop.new.self.items c.in-Some.taker c.loop-taker.seat.me.0.taken)
           ∙ ap (λ (ts : List TakerValue). taken_by ts ++ c.loop-taker.seat.me.0.taken) (sym last)

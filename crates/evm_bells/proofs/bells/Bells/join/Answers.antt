@@ -1,6 +1,6 @@
 use Rattle.std.proofs.Common.{refl, sym, ap, ◌∙◌, arith}
 use Rattle.atomic_table.specs.Table.{Me}
-use Rattle.evm_bells.specs.declared.rule.View.{View}
+use Rattle.evm_bells.specs.declared.rule.SeatView.{SeatView}
 use Rattle.evm_bells.specs.Rule.{joined}
 use Rattle.evm_bells.specs.Seats.{RingerValue, BellsValue}
 use Rattle.evm_bells.proofs.Counting.{counted_both}
@@ -24,7 +24,7 @@ load-requires c =
     let i = c.self.invariant in
     let table = c.self.inside.table.shared in
     let e = c.join_seat.ensures in
-    let weight = ap (λ (m : Me (Unit {0}) View). m.0.weight) e.2 in (
+    let weight = ap (λ (m : Me (Unit {0}) SeatView). m.0.weight) e.2 in (
       e.0 ∙ (ap (λ (x : RingerValue). x.bells) c.ringer.view_is ∙ c.requires.0 ∙ sym (ap (λ (b : BellsValue). b.id) c.self.view_is)),
       omega (arith, i.worded, i.any),
       weighs table.key table.table_id.slots c.join_seat.new.seat.id c.join_seat.new.seat.me (omega (arith, i.keyed, i.any)) (omega (arith, i.keyed, i.limit)) (omega (arith, weight, c.ringer.invariant.weighs)),
@@ -38,11 +38,11 @@ invariant_of-ringer c =
     let other = c.other.invariant in
     let me = f.2.0 ∙ e.2 in
     let both = joined c.ringer.inside.seat.me.0 c.other.inside.seat.me.0 in
-    let weight = ap (λ (m : Me (Unit {0}) View). m.0.weight) me in record {
+    let weight = ap (λ (m : Me (Unit {0}) SeatView). m.0.weight) me in record {
       weighs = omega (arith, weight, mine.weighs, other.weighs);
-      untaken = ap (λ (m : Me (Unit {0}) View). m.0.taken) me ∙ rw (mine.untaken, other.untaken) refl;
-      empty = ap (λ (m : Me (Unit {0}) View). m.1) me ∙ mine.empty;
+      untaken = ap (λ (m : Me (Unit {0}) SeatView). m.0.taken) me ∙ rw (mine.untaken, other.untaken) refl;
+      empty = ap (λ (m : Me (Unit {0}) SeatView). m.1) me ∙ mine.empty;
       counted = rw me (counted_both _ _ _ c.add_all.ensures _ _ mine.counted other.counted);
       any = omega (arith, mine.any);
-      limit = omega (arith, f.2.1, ap (λ (m : Me (Unit {0}) View). m.0.weight) e.2, mine.weighs, other.weighs);
+      limit = omega (arith, f.2.1, ap (λ (m : Me (Unit {0}) SeatView). m.0.weight) e.2, mine.weighs, other.weighs);
     }

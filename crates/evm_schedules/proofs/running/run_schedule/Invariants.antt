@@ -1,6 +1,6 @@
 use Rattle.evm_model.specs.Replay.{IsReplayOf}
 use Rattle.evm_model.specs.State.{State}
-use Rattle.evm_schedules.proofs.running.run.Given as goal
+use Rattle.evm_schedules.proofs.running.run_schedule.Given as goal
 
 -- a machine that was its journal's replay is so still
 abbrev pub invariant-events : goal.invariant-events
