@@ -122,18 +122,17 @@ impl<D: Device, O: Origin, S: Ledger, B: Ledger, T: Ledger> Locked<D, O, S, B, T
     {
         self.machine.rules();
         let position = self.machine.event_count();
-        match self.machine.commit(cpu, burst) {
-            Err(refusal) => {
-                port.mark(refusal);
-                Err(refusal)
-            }
+        let result = self.machine.commit(cpu, burst);
+        // a `Committed` has 360 bytes: it is looked at where it is
+        match &result {
+            Err(refusal) => port.mark(*refusal),
             Ok(done) => {
                 let _count = self.machine.event_count();
                 port.count(&mut self.books, EventCounts::steps(done.steps));
                 port.record(position, Made::Steps(cpu, done.steps));
-                Ok(done)
             }
         }
+        result
     }
 
     // A tick.
