@@ -2,7 +2,9 @@
 
 ghost use Rattle.std.specs.Prelude.{◌≡◌, ◌++◌, ℕ, List, Option, OnOk};
 ghost use Rattle.evm_gdb.specs.Answers.{answer_text};
+ghost use Rattle.evm_gdb.specs.Setting.{register_write};
 ghost use Rattle.evm_gdb_driving.specs.Kept.{KeepsJournal};
+ghost use Rattle.evm_gdb_driving.specs.Setting.{MakesAsked};
 
 use crate::monitor::{LineEnd, run_monitor};
 use crate::questions::answer_question;
@@ -30,6 +32,7 @@ fn write_register<D: Device>(
     r: u64,
     bytes: &[u8],
 ) -> Result<(), Refusal>
+    ensures made { MakesAsked (register_write looked r bytes.now machine.old.board.parts) result machine.old machine.new }
     ensures kept { KeepsJournal machine.old machine.new }
 {
     let Some((value, rest)) = word_at(bytes) else {

@@ -1,4 +1,5 @@
 pub mod Interrupts
 pub mod Kept
+pub mod Setting
 pub mod Shown
 pub use Rattle.evm_debug.specs as evm_debug

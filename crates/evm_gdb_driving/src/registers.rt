@@ -1,9 +1,10 @@
 //! Registers: 0 to 31, and 32 for the pc.
 
-ghost use Rattle.std.specs.Prelude.{◌≡◌, ◌<◌, ◌++◌, IfSome, OnErr, OnOk};
+ghost use Rattle.std.specs.Prelude.{◌≡◌, ◌<◌, ◌≤◌, ◌++◌, ◌↔◌, drop, length, IfSome, IsNone, OnErr, OnOk};
 ghost use Rattle.evm_exec.specs.Registers.{register_of};
 ghost use Rattle.evm_gdb_driving.specs.Shown.{hart_register, register_texts, registers_text};
 ghost use Rattle.evm_gdb_driving.specs.Kept.{KeepsJournal};
+ghost use Rattle.evm_gdb_driving.specs.Setting.{MakesEach, MakesAsked, register_change, leading_word, runner, registers_setting, register_setting};
 
 use crate::bytes::push_word;
 use crate::driving::event;
@@ -41,7 +42,10 @@ pub fn push_registers(out: &mut Vec<u8>, hart: &Hart) -> Result<(), Refused>
 }
 
 /// The number whose bytes are the first 8, and the other bytes.
-pub fn word_at(bytes: &[u8]) -> Option<(u64, &[u8])> {
+pub fn word_at(bytes: &[u8]) -> Option<(u64, &[u8])>
+    ensures some { IfSome result (λ found. (found.0 ≡ leading_word bytes.now) × (found.1.now ≡ drop 8 bytes.now)) }
+    ensures none { IsNone result ↔ (length bytes.now < 8) }
+{
     match bytes {
         [a, b, c, d, e, f, g, h, rest @ ..] => Some((
             u64::from_le_bytes([*a, *b, *c, *d, *e, *f, *g, *h]),
@@ -56,7 +60,9 @@ pub fn word_at(bytes: &[u8]) -> Option<(u64, &[u8])> {
 /// # Errors
 ///
 /// `NoTask` where none does.
-pub fn processor_of<D: Device>(machine: &Machine<D>, t: u8) -> Result<u8, Refusal> {
+pub fn processor_of<D: Device>(machine: &Machine<D>, t: u8) -> Result<u8, Refusal>
+    ensures { result ≡ runner t machine.now.board.parts }
+{
     let Some(task) = machine.task(t) else {
         return Err(Refusal::NoTask);
     };
@@ -78,6 +84,7 @@ pub fn set_register<D: Device>(
     r: u64,
     value: u64,
 ) -> Result<(), Refusal>
+    ensures made { MakesAsked (register_setting c r value) result machine.old machine.new }
     ensures kept { KeepsJournal machine.old machine.new }
     ensures unchanged { OnErr result (machine.new ≡ machine.old) }
 {
@@ -108,6 +115,8 @@ fn change_register<D: Device>(
     r: u8,
     value: u64,
 ) -> Result<(), Refusal>
+    requires { r ≤ REGISTERS }
+    ensures made { MakesEach (register_change c hart.now r value) result machine.old machine.new }
     ensures kept { KeepsJournal machine.old machine.new }
     ensures unchanged { OnErr result (machine.new ≡ machine.old) }
 {
@@ -130,6 +139,7 @@ pub fn set_registers<D: Device>(
     t: u8,
     bytes: &[u8],
 ) -> Result<(), Refusal>
+    ensures made { MakesAsked (registers_setting t bytes.now machine.old.board.parts) result machine.old machine.new }
     ensures kept { KeepsJournal machine.old machine.new }
 {
     if bytes.len() != 264 {
