@@ -17,6 +17,15 @@ counts_on_line (Some pipe) l = slice_get pipe.counts l
 abbrev pub counts_at : ℕ → ℕ → Parts → Option Counts
 counts_at c l k = counts_on_line (slice_get k.pipes c) l
 
+-- the counts of each line, where there is a pipe
+abbrev pub line_counts_of : Option Pipe → Option (List Counts)
+line_counts_of None = None
+line_counts_of (Some pipe) = Some pipe.counts
+
+-- the counts of each line of processor c, of line l the l-th
+abbrev pub line_counts_at : ℕ → Parts → Option (List Counts)
+line_counts_at c k = line_counts_of (slice_get k.pipes c)
+
 -- the log of a stage, where there is a pipe
 abbrev pub log_in : Stage → Option Pipe → Option StageLog
 log_in stage None = None

@@ -88,6 +88,13 @@ impl Pipe {
         self.counts.get(line as usize).copied()
     }
 
+    /// How often what happened to each line: of line l the l-th.
+    pub fn line_counts(&self) -> &[Counts]
+        ensures { result.now ≡ self.now.counts }
+    {
+        self.counts.as_slice()
+    }
+
     /// Puts a line on the wire, or merges it with itself there.
     #[tactic(auto, unfolding(evm_model::specs::Pipes::raise))]
     pub fn raise(&mut self, line: u8)

@@ -1,7 +1,6 @@
 -- What is seen of a machine between two events.
-use Rattle.std.specs.Prelude.{◌≡◌, ◌==◌, ℕ, ◌-◌, List, Option, Some, None, option_to_list, slice_get, length, if◌then◌else◌}
-use Rattle.evm_journal.specs.evm_core.Views.{counts_at}
-use Rattle.evm_lines.specs.declared.TheConstants.{LINES}
+use Rattle.std.specs.Prelude.{◌≡◌, ◌==◌, ℕ, ◌-◌, List, [], Option, Some, None, option_to_list, slice_get, length, if◌then◌else◌}
+use Rattle.evm_journal.specs.evm_core.Views.{line_counts_at}
 use Rattle.evm_model.specs.Current.{is_oob_task}
 use Rattle.evm_model.specs.Ranks.{rank}
 use Rattle.evm_model.specs.Stages.{is_stalled}
@@ -37,9 +36,13 @@ lane_of (Some p) c k =
 abbrev pub lane_at : Parts → ℕ → Option Lane
 lane_at k c = lane_of (slice_get k.processors c) c k
 
+abbrev pub lines_seen : Option (List Counts) → List Counts
+lines_seen None = []
+lines_seen (Some counts) = counts
+
 -- the counts of the lines of processor c
 abbrev pub lines_at : Parts → ℕ → List Counts
-lines_at k c = below (λ l. option_to_list (counts_at c l k)) LINES
+lines_at k c = lines_seen (line_counts_at c k)
 
 -- ---- a task and a mutex
 abbrev pub rank_seen : Option Task → ℕ → Parts → Option ℕ

@@ -7,7 +7,6 @@ ghost use Rattle.evm_timeline.specs.Looks.{IsLookAt, lane_at, last_notice, lines
 
 use evm_dev::Device;
 use evm_journal::Machine;
-use evm_lines::LINES;
 use evm_model::{Counts, Notice, Stage, Task, TaskState};
 use evm_room::{Refused, grow};
 use std::alloc::Global;
@@ -159,7 +158,6 @@ fn see_lanes<D: Device>(lanes: &mut Vec<Lane>, machine: &Machine<D>) -> Result<(
     Ok(())
 }
 
-#[tactic(auto, using(crate::proofs::Lemmas::numbered))]
 fn see_lines<D: Device>(
     counts: &mut Vec<Counts>,
     machine: &Machine<D>,
@@ -167,10 +165,13 @@ fn see_lines<D: Device>(
 ) -> Result<(), Refused>
     ensures { OnOk result (counts.new.items ≡ counts.old.items ++ lines_at machine.now.board.parts c) }
 {
-    grow(counts, usize::from(LINES))?;
-    for line in 0..LINES {
-        put_reserved(counts, machine.counts(c, line));
-    }
+    let Some(lines) = machine.line_counts(c) else {
+        return Ok(());
+    };
+    grow(counts, lines.len())?;
+    let Ok(()) = counts.extend_from_slice(lines) else {
+        unreachable!();
+    };
     Ok(())
 }
 
