@@ -4,13 +4,15 @@ use Rattle.std.specs.Prelude.{map, option_map, slice_get, slice_set}
 use Rattle.std.proofs.lemmas.List.{length-append, length-map, map-append, map-set}
 use Rattle.std.proofs.lemmas.Option.{slice_get-map}
 use Rattle.evm_boost.specs.Scheduled.{Scheduled, AreEntered}
-use Rattle.evm_boost.specs.Settling.{entered_as}
+use Rattle.evm_boost.specs.Settling.{entered_as, stamped}
 use Rattle.evm_model.proofs.Lists.{length-change, slice_get-set_same, slice_set-same}
 use Rattle.evm_model.specs.Lists.{change, change_some}
 use Rattle.evm_model.specs.declared.limits.TheConstants.{TASK_LIMIT}
 use Rattle.evm_model.specs.declared.task.Task.{Task}
-use Rattle.evm_ready.specs.Places.{ready_place}
-use Rattle.evm_wait.specs.Waiters.{awaited}
+use Rattle.evm_model.specs.declared.task.TaskState.{TaskState}
+use Rattle.evm_model.specs.declared.task.TaskState.TheVariants.{InReady, OobReady, Waits, Exit, Faulted}
+use Rattle.evm_ready.specs.Places.{placed_in, ready_place, stamped_place}
+use Rattle.evm_wait.specs.Waiters.{awaited, awaited_in, stamped_waiter}
 
 -- one entry follows its task
 follows-there : {X : Type 0} (says : Task → Option X) (tasks : List Task) (t : ℕ) (old new : Task) → slice_get tasks t ≡ Some old
@@ -37,6 +39,45 @@ entered-change s next f tasks new t are is place waiter ranks = record {
   waiters = waiter ∙ rw (is, are.waiters) (follows awaited f tasks t);
   count = ap length ranks ∙ are.count ∙ rw is (sym (length-change f tasks t));
 }
+
+-- the entries of tasks of which one changed
+map-change : {X : Type 0} (says : Task → Option X) (f : Task → Task) (h : Option X → Option X) (tasks : List Task) (t : ℕ) (o : Option Task)
+    → ((task : Task) → says (f task) ≡ h (says task)) → slice_get tasks t ≡ o → map says (change_some o f tasks t) ≡ change h (map says tasks) t
+map-change says f h tasks t None keeps e =
+    let there : slice_get (map says tasks) t ≡ None = slice_get-map says tasks t ∙ ap (option_map says) e in
+    rw there refl
+map-change says f h tasks t (Some old) keeps e =
+    let there : slice_get (map says tasks) t ≡ Some (says old) = slice_get-map says tasks t ∙ ap (option_map says) e in
+    map-set says tasks t (f old) ∙ rw (there, keeps old) refl
+
+-- an entry that was changed as its task was is what the task says
+pub as-entered : {X : Type 0} (says : Task → Option X) (f : Task → Task) (h : Option X → Option X) (tasks new : List Task) (t : ℕ) (entries : List (Option X))
+    → ((task : Task) → says (f task) ≡ h (says task)) → entries ≡ map says tasks → new ≡ change f tasks t
+    → change h entries t ≡ entered_as says (slice_get new t) t entries
+as-entered says f h tasks new t entries keeps are is =
+    rw (are, is) (sym (map-change says f h tasks t (slice_get tasks t) keeps refl) ∙ sym (follows says f tasks t))
+
+placed-stamped : (state : TaskState) (cpu old stamp : ℕ) → placed_in state cpu stamp ≡ option_map (stamped_place stamp) (placed_in state cpu old)
+placed-stamped InReady cpu old stamp = refl
+placed-stamped OobReady cpu old stamp = refl
+placed-stamped (Waits wait) cpu old stamp = refl
+placed-stamped Exit cpu old stamp = refl
+placed-stamped (Faulted fault) cpu old stamp = refl
+
+-- a task with another stamp is ready where it was
+pub place-stamped : (stamp : ℕ) (task : Task) → ready_place (stamped stamp task) ≡ option_map (stamped_place stamp) (ready_place task)
+place-stamped stamp task = placed-stamped task.state task.cpu task.stamp stamp
+
+awaited-stamped : (state : TaskState) (old stamp : ℕ) → awaited_in state stamp ≡ option_map (stamped_waiter stamp) (awaited_in state old)
+awaited-stamped InReady old stamp = refl
+awaited-stamped OobReady old stamp = refl
+awaited-stamped (Waits wait) old stamp = refl
+awaited-stamped Exit old stamp = refl
+awaited-stamped (Faulted fault) old stamp = refl
+
+-- and waits for what it did
+pub waiter-stamped : (stamp : ℕ) (task : Task) → awaited (stamped stamp task) ≡ option_map (stamped_waiter stamp) (awaited task)
+waiter-stamped stamp task = awaited-stamped task.state task.stamp stamp
 
 -- one more task
 pub entered-push : (s next : Scheduled) (tasks new : List Task) (task : Task) (rank : ℕ) → AreEntered s tasks → new ≡ tasks ++ task ∷ []

@@ -1,9 +1,9 @@
 -- What a changed task leaves to be mended.
 use Rattle.std.proofs.Common.{◌≡◌, ℕ, zero, suc, ◌+◌, ◌<◌, List, [], ◌∷◌, ◌++◌, Option, Some, None, Bool, true, false, length, refl, ap, sym, ◌∙◌, inl, inr, arith, add-one, eq-eqb}
-use Rattle.std.specs.Prelude.{◌==◌, option_map, slice_get}
+use Rattle.std.specs.Prelude.{◌==◌, ◌&&◌, not, map, option_map, slice_get}
 use Rattle.std.proofs.lemmas.Bool.Decides.{eqb_tells}
 use Rattle.std.proofs.lemmas.List.{length-append}
-use Rattle.evm_boost.proofs.Entries.{entered-by, entered-change, entered-push, entered-same}
+use Rattle.evm_boost.proofs.Entries.{as-entered, entered-by, entered-change, entered-push, entered-same}
 use Rattle.evm_boost.proofs.Settled.{away, scheduled-settled, settling, sound-falls, sound-fewer}
 use Rattle.evm_boost.specs.Scheduled.{Scheduled, IsScheduled, AreSoundBoosts}
 use Rattle.evm_boost.specs.Settling.{entered_as, IsOpen, IsRelinked, IsSettling, stamped}
@@ -15,13 +15,22 @@ use Rattle.evm_model.specs.Mutexes.{boosts, heir_for, lock_at, lock_of, lock_of_
 use Rattle.evm_model.specs.Ranks.{class_rank, class_rank_of, own_rank}
 use Rattle.evm_model.specs.declared.limits.TheConstants.{TASK_LIMIT}
 use Rattle.evm_model.specs.declared.mutex.Mutex.{Mutex}
+use Rattle.evm_model.specs.Waits.{ready_on, stage_of_wait, woken, woken_state}
+use Rattle.evm_model.specs.Tasks.{is_weak}
+use Rattle.evm_model.specs.declared.stage.Stage.{Stage}
+use Rattle.evm_model.specs.declared.stage.Stage.TheVariants.{OutOfBand, InBand}
 use Rattle.evm_model.specs.declared.task.Task.{Task}
+use Rattle.evm_model.specs.declared.task.TaskState.{TaskState}
+use Rattle.evm_model.specs.declared.task.TaskState.TheVariants.{InReady, OobReady, Waits, Exit, Faulted}
+use Rattle.evm_model.specs.declared.task.Wait.{Wait}
 use Rattle.evm_mending.proofs.Least.{greatest-links}
 use Rattle.evm_ranks.proofs.Greatest.{greatest-same}
 use Rattle.evm_ranks.specs.Boosts.{greatest, is_number}
 use Rattle.evm_ready.specs.ListedRanks.{listed_rank, rank_or_0}
 use Rattle.evm_ready.specs.Places.{ready_place}
-use Rattle.evm_wait.specs.Waiters.{awaited}
+use Rattle.evm_ready.specs.declared.place.Place.{Place}
+use Rattle.evm_wait.specs.Waiters.{awaited, awaited_in}
+use Rattle.evm_wait.specs.declared.waiter.Waiter.{Waiter}
 
 -- ---- what a change of tasks keeps
 -- a task waits for the same mutex
@@ -98,6 +107,43 @@ pub relinked-stamped : (s next : Scheduled) (mutexes : List Mutex) (f : Task →
 relinked-stamped s next mutexes f tasks mid new t stamp before keeps is e g boosted place waiter ranks sound =
     relinked s next mutexes (λ task. stamped stamp (f task)) tasks new t before keeps is
     (g ∙ ap (λ (xs : List Task). change (stamped stamp) xs t) e ∙ change-twice (stamped stamp) f tasks t) boosted place waiter ranks sound
+
+-- a task that waits is ready nowhere, and waits for what it says
+pub wait-places : (wait : Wait) (deadline stamp : ℕ) (tasks mid new : List Task) (t : ℕ) (places : List (Option Place)) → places ≡ map ready_place tasks
+    → mid ≡ change (λ task. record task { state = Waits wait; deadline = deadline }) tasks t → new ≡ change (stamped stamp) mid t
+    → change (λ _. None) places t ≡ entered_as ready_place (slice_get new t) t places
+wait-places wait deadline stamp tasks mid new t places are e g =
+    as-entered ready_place (λ task. stamped stamp (record task { state = Waits wait; deadline = deadline })) (λ _. None) tasks new t places (λ task. refl) are
+    (g ∙ ap (λ (xs : List Task). change (stamped stamp) xs t) e ∙ change-twice (stamped stamp) (λ task. record task { state = Waits wait; deadline = deadline }) tasks t)
+
+pub wait-waiters : (wait : Wait) (deadline stamp : ℕ) (tasks mid new : List Task) (t : ℕ) (waiters : List (Option Waiter)) → waiters ≡ map awaited tasks
+    → mid ≡ change (λ task. record task { state = Waits wait; deadline = deadline }) tasks t → new ≡ change (stamped stamp) mid t
+    → change (λ _. Some (record { wait = wait; stamp = stamp })) waiters t ≡ entered_as awaited (slice_get new t) t waiters
+wait-waiters wait deadline stamp tasks mid new t waiters are e g =
+    as-entered awaited (λ task. stamped stamp (record task { state = Waits wait; deadline = deadline })) (λ _. Some (record { wait = wait; stamp = stamp })) tasks new t waiters
+    (λ task. refl) are
+    (g ∙ ap (λ (xs : List Task). change (stamped stamp) xs t) e ∙ change-twice (stamped stamp) (λ task. record task { state = Waits wait; deadline = deadline }) tasks t)
+
+-- a task that has woken waits for nothing
+ready-awaits : (stage : Stage) (returns : Bool) (stamp : ℕ) → awaited_in (ready_on stage returns) stamp ≡ None
+ready-awaits OutOfBand true stamp = refl
+ready-awaits OutOfBand false stamp = refl
+ready-awaits InBand true stamp = refl
+ready-awaits InBand false stamp = refl
+
+woken-awaits : (returns : Bool) (state : TaskState) (stamp : ℕ) → awaited_in (woken_state returns state) stamp ≡ None
+woken-awaits returns InReady stamp = refl
+woken-awaits returns OobReady stamp = refl
+woken-awaits returns (Waits wait) stamp = ready-awaits (stage_of_wait wait) returns stamp
+woken-awaits returns Exit stamp = refl
+woken-awaits returns (Faulted fault) stamp = refl
+
+pub woken-waiters : (owns : Bool) (stamp : ℕ) (tasks mid new : List Task) (t : ℕ) (waiters : List (Option Waiter)) → waiters ≡ map awaited tasks
+    → mid ≡ change (woken owns) tasks t → new ≡ change (stamped stamp) mid t → change (λ _. None) waiters t ≡ entered_as awaited (slice_get new t) t waiters
+woken-waiters owns stamp tasks mid new t waiters are e g =
+    as-entered awaited (λ task. stamped stamp (woken owns task)) (λ _. None) tasks new t waiters
+    (λ task. woken-awaits (is_weak task.class && not owns) task.state stamp) are
+    (g ∙ ap (λ (xs : List Task). change (stamped stamp) xs t) e ∙ change-twice (stamped stamp) (woken owns) tasks t)
 
 pub out-first : (o : Option ℕ) (rest : ℕ → Bool) (u : ℕ) → with_task o rest u ≡ false → is_number o u ≡ false
 out-first o rest u e = by (is_number o u) refl

@@ -1,6 +1,6 @@
 //! The schedule: the tasks in the order in which they go, and their ranks, kept as tasks and mutexes change.
 
-ghost use Rattle.std.specs.Prelude.{◌≡◌, ◌<◌, ◌≤◌, ◌++◌, [], ◌∷◌, true, false, Some, None, List, Option, length, slice_get, IfOk, IfErr, ℕ};
+ghost use Rattle.std.specs.Prelude.{◌≡◌, ◌<◌, ◌≤◌, ◌++◌, [], ◌∷◌, true, false, Some, None, List, Option, length, option_map, slice_get, IfOk, IfErr, ℕ};
 ghost use Rattle.evm_boost.specs.Lent.{first_waiting};
 ghost use Rattle.evm_boost.specs.Scheduled.{IsScheduled};
 ghost use Rattle.evm_boost.specs.Settling.{entered_as, IsCalm, BoostsNobody, RaisesNobody, IsOpen, IsRelinked, stamped};
@@ -17,8 +17,8 @@ ghost use Rattle.evm_model.specs.declared.task.TaskState.TheVariants.{Waits};
 ghost use Rattle.evm_model.specs.declared.task.Wait.TheVariants.{Lock};
 ghost use Rattle.evm_ranks.specs.Boosts.{reaches};
 ghost use Rattle.evm_ready.specs.Oob.{has_oob};
-ghost use Rattle.evm_ready.specs.Places.{ready_place};
-ghost use Rattle.evm_wait.specs.Waiters.{awaited};
+ghost use Rattle.evm_ready.specs.Places.{ready_place, stamped_place};
+ghost use Rattle.evm_wait.specs.Waiters.{awaited, stamped_waiter};
 
 use crate::mutexes::Mutexes;
 use crate::ranks::class_rank;
@@ -26,7 +26,7 @@ use evm_model::{Class, MUTEX_LIMIT, Mutex, Protocol, TASK_LIMIT, Task, TaskState
 use evm_ready::{READY_QUEUE_LIMIT, Ready, place_of};
 use evm_room::Refused;
 use evm_task::Tasks;
-use evm_wait::{Waiting, waiter_of};
+use evm_wait::{Waiter, Waiting, waiter_of};
 use std::alloc::Global;
 use std::marker::Model;
 
@@ -93,6 +93,41 @@ impl Schedule {
         if let Some(task) = tasks.as_slice().get(t as usize) {
             self.ready.set(t, place_of(task));
             self.waiting.set(t, waiter_of(task));
+        }
+    }
+
+    // Task t has its entries since another stamp.
+    fn restamp(&mut self, t: u8, stamp: u64)
+        ensures places { self.new.places ≡ change (option_map (stamped_place stamp)) self.old.places t }
+        ensures waiters { self.new.waiters ≡ change (option_map (stamped_waiter stamp)) self.old.waiters t }
+        ensures ranks { self.new.ranks ≡ self.old.ranks }
+        ensures sound { self.new.sound ≡ self.old.sound }
+    {
+        self.ready.restamp(t, stamp);
+        self.waiting.restamp(t, stamp);
+    }
+
+    // Task t waits for this, and is ready nowhere.
+    fn enter_wait(&mut self, t: u8, waiter: Waiter)
+        ensures places { self.new.places ≡ change (λ _. None) self.old.places t }
+        ensures waiters { self.new.waiters ≡ change (λ _. Some waiter) self.old.waiters t }
+        ensures ranks { self.new.ranks ≡ self.old.ranks }
+        ensures sound { self.new.sound ≡ self.old.sound }
+    {
+        self.ready.set(t, None);
+        self.waiting.set(t, Some(waiter));
+    }
+
+    // Task t waits for nothing, and is ready where it says.
+    fn enter_ready(&mut self, tasks: &Tasks, t: u8)
+        ensures places { self.new.places ≡ entered_as ready_place (slice_get tasks.now t) t self.old.places }
+        ensures waiters { self.new.waiters ≡ change (λ _. None) self.old.waiters t }
+        ensures ranks { self.new.ranks ≡ self.old.ranks }
+        ensures sound { self.new.sound ≡ self.old.sound }
+    {
+        self.waiting.set(t, None);
+        if let Some(task) = tasks.as_slice().get(t as usize) {
+            self.ready.set(t, place_of(task));
         }
     }
 
@@ -183,7 +218,7 @@ impl Schedule {
         let before = mutexes.boosts(tasks, t);
         tasks.begin_wait(t, wait, deadline);
         tasks.set_stamp(t, stamp);
-        self.enter(tasks, t);
+        self.enter_wait(t, Waiter { wait, stamp });
         self.relink(mutexes, tasks, t, before);
     }
 
@@ -197,7 +232,7 @@ impl Schedule {
         let before = mutexes.boosts(tasks, t);
         tasks.end_wait(t, owns);
         tasks.set_stamp(t, stamp);
-        self.enter(tasks, t);
+        self.enter_ready(tasks, t);
         self.relink(mutexes, tasks, t, before);
     }
 
@@ -208,7 +243,7 @@ impl Schedule {
         ensures scheduled { IsScheduled self.new mutexes.now tasks.new }
     {
         tasks.set_stamp(t, stamp);
-        self.enter(tasks, t);
+        self.restamp(t, stamp);
         self.mend(mutexes, tasks, None, None);
     }
 

@@ -31,6 +31,7 @@ impl Parts {
     }
 
     /// The number of the out-of-band task that a processor should run.
+    #[inline]
     pub fn best(&self, c: u8) -> Option<u8>
         ensures { result ≡ best c self.now.mutexes self.now.tasks }
     {
@@ -82,6 +83,7 @@ impl Parts {
     }
 
     /// A task has a mutex, locked so often.
+    #[inline]
     pub fn hold_mutex(&mut self, t: u8, m: u8, count: u64)
         ensures row { self.new ≡ on_mutex m (held_by t count) self.old }
         ensures stamps { self.new.stamps ≡ self.old.stamps }
@@ -99,6 +101,7 @@ impl Parts {
     }
 
     /// The first task that waits for this: the one of greatest rank, then of least stamp.
+    #[inline]
     #[tactic(auto, unfolding(evm_model::specs::Waits::first_waiter))]
     pub fn first_waiter(&self, wait: Wait) -> Option<u8>
         ensures { result ≡ first_waiter wait self.now }
@@ -107,6 +110,7 @@ impl Parts {
     }
 
     // Nobody has a mutex.
+    #[inline]
     fn leave_mutex(&mut self, m: u8)
         ensures row { self.new ≡ on_mutex m freed self.old }
         ensures stamps { self.new.stamps ≡ self.old.stamps }
@@ -127,6 +131,7 @@ impl Parts {
 
     // A task that waits has a mutex, and wakes with an answer. Its owner before leaves it first, and the task is ready
     // before it has it, so that no chain of tasks that wait closes meanwhile.
+    #[inline]
     fn give_mutex(&mut self, t: u8, m: u8, value: u64)
         requires room { HasStamps 1 self.old }
         ensures row { self.new ≡ wake t value (on_mutex m (held_by t 1) self.old) }

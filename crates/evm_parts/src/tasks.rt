@@ -30,6 +30,7 @@ fn new_task(cpu: u8, stamp: u64) -> Task
 
 impl Parts {
     /// Gives a task a fresh stamp.
+    #[inline]
     #[tactic(auto, unfolding(evm_model::specs::Tasks::restamp))]
     pub fn restamp(&mut self, t: u8)
         requires room { HasStamps 1 self.old }
@@ -102,6 +103,7 @@ impl Parts {
     }
 
     /// A task waits, until a deadline if that is not 0.
+    #[inline]
     #[tactic(auto, unfolding(evm_model::specs::Waits::begin_wait, evm_model::specs::Tasks::restamp))]
     pub fn begin_wait(&mut self, t: u8, wait: Wait, deadline: u64)
         requires room { HasStamps 1 self.old }
@@ -127,6 +129,7 @@ impl Parts {
     }
 
     // A task wakes, and its call is answered: in-band if it is weak, unless it owns a mutex.
+    #[inline]
     #[tactic(auto, unfolding(evm_model::specs::Tasks::restamp))]
     pub(crate) fn wake_with(&mut self, t: u8, value: u64, owns: bool)
         requires room { HasStamps 1 self.old }

@@ -8,6 +8,7 @@ pub mod Placed
 pub mod Preceding
 pub mod Queued_first
 pub mod Ready_turns
+pub mod Restamping
 pub mod Ring
 pub mod Same_entries
 pub mod Scans

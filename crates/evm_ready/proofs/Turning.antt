@@ -6,7 +6,7 @@ use Rattle.std.proofs.lemmas.Option.{slice_get_past}
 use Rattle.evm_model.specs.Lists.{change}
 use Rattle.evm_model.proofs.Lists.{change-elsewhere}
 use Rattle.evm_ready.specs.declared.turn.Turn.{Turn}
-use Rattle.evm_ready.specs.Queues.{has, is_in, precedes, AreQueued, AreQueuedBut}
+use Rattle.evm_ready.specs.Queues.{has, is_in, precedes, restamped, AreQueued, AreQueuedBut}
 use Rattle.evm_ready.proofs.Members.{in_order-same}
 
 test-same : (t : ℕ) → (t == t) ≡ true
@@ -44,6 +44,10 @@ others-same turns others t queues same was = record {
 
 pub turned : (turns : List Turn) (t : ℕ) (turn : Turn) (queues : List (List ℕ)) → AreQueuedBut t turns queues → AreQueuedBut t (change (λ _. turn) turns t) queues
 turned turns t turn queues was = others-same turns (change (λ _. turn) turns t) t queues (λ u other. sym (change-elsewhere (λ _. turn) turns t u other)) was
+
+-- nor does its stamp
+pub turned-stamp : (turns : List Turn) (t stamp : ℕ) (queues : List (List ℕ)) → AreQueuedBut t turns queues → AreQueuedBut t (change (restamped stamp) turns t) queues
+turned-stamp turns t stamp queues was = others-same turns (change (restamped stamp) turns t) t queues (λ u other. sym (change-elsewhere (restamped stamp) turns t u other)) was
 
 -- ---- one more
 push-other : (turns : List Turn) (turn : Turn) (u : ℕ) → (u ≡ length turns → ⊥) → slice_get turns u ≡ slice_get (turns ++ turn ∷ []) u

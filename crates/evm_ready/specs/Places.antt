@@ -50,6 +50,10 @@ abbrev pub place_stamp : Option Place → ℕ
 place_stamp None = 0
 place_stamp (Some place) = place.stamp
 
+-- the same place since another stamp
+abbrev pub stamped_place : ℕ → Place → Place
+stamped_place stamp place = record place { stamp = stamp }
+
 -- ---- all entries
 abbrev pub entry_of : {X : Type 0} → Option (Option X) → Option X
 entry_of None = None

@@ -31,6 +31,10 @@ is_ahead rank stamp t other_rank other_stamp u =
 unfoldable pub precedes : List Turn → ℕ → ℕ → Bool
 precedes turns t u = is_ahead (turn_rank turns t) (turn_stamp turns t) t (turn_rank turns u) (turn_stamp turns u) u
 
+-- the same turn with another stamp
+abbrev pub restamped : ℕ → Turn → Turn
+restamped stamp turn = record turn { stamp = stamp }
+
 -- ---- one queue
 -- task t is in the queue
 abbrev pub has : List ℕ → ℕ → Bool

@@ -1,9 +1,12 @@
 ghost use Rattle.std.specs.Prelude.{◌≡◌, ◌≤◌, ◌<◌, ◌*◌, [], true, length, replicate, vec_capacity, slice_get, option_and_then, MatchOption, IfOk, IfErr, IfSome, IfNone, ℕ, List};
-ghost use Rattle.evm_ready.specs.Queues.{AreEmpty, AreQueued, AreQueuedBut};
+ghost use Rattle.arrayvec.specs.ArrayVec.{array_vec_len};
+ghost use Rattle.evm_model.specs.Lists.{change};
+ghost use Rattle.evm_ready.specs.Queues.{AreEmpty, AreQueued, AreQueuedBut, restamped};
 
 use crate::bitmap::{BITMAP_WORDS, clear_bit, first_bit, set_bit};
 use crate::queue::Queue;
 use crate::turn::Turn;
+use arrayvec::ArrayVec;
 use evm_model::TASK_LIMIT;
 use evm_room::{Refused, with_room};
 use std::alloc::Global;
@@ -81,6 +84,27 @@ impl Queues {
         }
     }
 
+    // Task t has another stamp, and comes to its place in the queue of its turn, which stays.
+    #[inline(always)]
+    pub(crate) fn restamp(&mut self, turns: &mut ArrayVec<Turn, TASK_LIMIT>, t: u8, stamp: u64)
+        requires { AreQueued turns.old.items self.old }
+        ensures turns { turns.new.items ≡ change (restamped stamp) turns.old.items t }
+        ensures queued { AreQueued turns.new.items self.new }
+        ensures count { length self.new ≡ length self.old }
+    {
+        let Some(q) = queue_of(turns.as_slice(), t) else {
+            set_stamp(turns, t, stamp);
+            return;
+        };
+        let Some(queue) = self.queues.get_mut(q) else {
+            set_stamp(turns, t, stamp);
+            return;
+        };
+        queue.remove(turns.as_slice(), t);
+        set_stamp(turns, t, stamp);
+        queue.insert(turns.as_slice(), t);
+    }
+
     // The task at the head of queue q.
     pub(crate) fn head(&self, q: usize) -> Option<u8>
         ensures { result ≡ option_and_then (λ queue. slice_get queue 0) (slice_get self.now q) }
@@ -101,6 +125,15 @@ impl Queues {
         ensures none { IfNone result (AreEmpty self.now (from * 64) (to * 64)) }
     {
         first_bit(&self.words, from, to)
+    }
+}
+
+// Task t has another stamp.
+fn set_stamp(turns: &mut ArrayVec<Turn, TASK_LIMIT>, t: u8, stamp: u64)
+    ensures { turns.new.items ≡ change (restamped stamp) turns.old.items t }
+{
+    if let Some(turn) = turns.get_mut(t as usize) {
+        turn.stamp = stamp;
     }
 }
 

@@ -1,8 +1,8 @@
-ghost use Rattle.std.specs.Prelude.{◌≡◌, ◌<◌, ◌≤◌, ◌+◌, ◌*◌, ◌++◌, ◌∷◌, ℕ, List, Option, [], length, IfOk, IfErr};
+ghost use Rattle.std.specs.Prelude.{◌≡◌, ◌<◌, ◌≤◌, ◌+◌, ◌*◌, ◌++◌, ◌∷◌, ℕ, List, Option, [], length, option_map, IfOk, IfErr};
 ghost use Rattle.arrayvec.specs.ArrayVec.{array_vec_len};
 ghost use Rattle.evm_model.specs.Lists.{change};
 ghost use Rattle.evm_model.specs.Ranks.{first, leader};
-ghost use Rattle.evm_ready.specs.Places.{any_oob, entry, runs_oob, runs_in_band, place_stamp};
+ghost use Rattle.evm_ready.specs.Places.{any_oob, entry, runs_oob, runs_in_band, place_stamp, stamped_place};
 ghost use Rattle.evm_ready.specs.ListedRanks.{listed_rank};
 ghost use Rattle.evm_ready.specs.ReadyTurns.{ready_turns};
 ghost use Rattle.evm_ready.specs.declared.place.Place.{Place};
@@ -97,7 +97,7 @@ impl Ready {
     }
 
     /// Task t is ready there, or isn't ready.
-    #[inline]
+    #[inline(always)]
     pub fn set(&mut self, t: u8, place: Option<Place>)
         ensures places { self.new.places ≡ change (λ _. place) self.old.places t }
         ensures ranks { self.new.ranks ≡ self.old.ranks }
@@ -108,6 +108,7 @@ impl Ready {
     }
 
     // The same, where something may change.
+    #[inline(always)]
     fn replace(&mut self, t: u8, place: Option<Place>)
         ensures places { self.new.places ≡ change (λ _. place) self.old.places t }
         ensures ranks { self.new.ranks ≡ self.old.ranks }
@@ -117,6 +118,21 @@ impl Ready {
             self.oob = self.oob - oob_bit(*entry) + oob_bit(place);
             *entry = place;
             self.turns.set(t, turn_of(place, rank));
+        }
+    }
+
+    /// Task t is ready since this stamp, where it is ready, if it is.
+    #[inline(always)]
+    pub fn restamp(&mut self, t: u8, stamp: u64)
+        ensures places { self.new.places ≡ change (option_map (stamped_place stamp)) self.old.places t }
+        ensures ranks { self.new.ranks ≡ self.old.ranks }
+    {
+        let Some(place) = self.get(t) else {
+            return;
+        };
+        if let Some(entry) = self.places.get_mut(t as usize) {
+            *entry = Some(Place { stamp, ..place });
+            self.turns.restamp(t, stamp);
         }
     }
 

@@ -2,7 +2,7 @@ ghost use Rattle.std.specs.Prelude.{◌≡◌, ◌≤◌, ◌<◌, ◌+◌, ◌*
 ghost use Rattle.arrayvec.specs.ArrayVec.{array_vec_len};
 ghost use Rattle.evm_model.specs.Lists.{change};
 ghost use Rattle.evm_model.specs.Ranks.{first};
-ghost use Rattle.evm_ready.specs.Queues.{is_in, turn_rank, turn_stamp, NoneIn};
+ghost use Rattle.evm_ready.specs.Queues.{is_in, restamped, turn_rank, turn_stamp, NoneIn};
 
 use crate::queues::Queues;
 use crate::turn::Turn;
@@ -73,7 +73,18 @@ impl Turns {
     {
         self.queues.leave(self.turns.as_slice(), t);
         set_turn(&mut self.turns, t, turn);
-        self.queues.join(self.turns.as_slice(), t);
+        if turn.queue.is_some() {
+            self.queues.join(self.turns.as_slice(), t);
+        }
+    }
+
+    /// Task t has another stamp; its queue and its rank stay.
+    #[inline(always)]
+    pub fn restamp(&mut self, t: u8, stamp: u64)
+        ensures turns { self.new.turns ≡ change (restamped stamp) self.old.turns t }
+        ensures count { self.new.count ≡ self.old.count }
+    {
+        self.queues.restamp(&mut self.turns, t, stamp);
     }
 
     /// The task that goes first of those whose turn is in queue q: the one of greatest rank, then of least stamp.

@@ -25,6 +25,10 @@ abbrev pub waiter_stamp : Option Waiter → ℕ
 waiter_stamp None = 0
 waiter_stamp (Some waiter) = waiter.stamp
 
+-- the same wait since another stamp
+abbrev pub stamped_waiter : ℕ → Waiter → Waiter
+stamped_waiter stamp waiter = record waiter { stamp = stamp }
+
 -- ---- all entries
 -- the tasks, by their numbers: what each waits for, and its rank
 pub record WaitingTasks : Type 0 where

@@ -1,10 +1,10 @@
-ghost use Rattle.std.specs.Prelude.{◌≡◌, ◌<◌, ◌≤◌, ◌++◌, ◌∷◌, [], length, IfOk, IfErr, IfSome};
+ghost use Rattle.std.specs.Prelude.{◌≡◌, ◌<◌, ◌≤◌, ◌++◌, ◌∷◌, [], length, option_map, IfOk, IfErr, IfSome};
 ghost use Rattle.arrayvec.specs.ArrayVec.{array_vec_len};
 ghost use Rattle.evm_model.specs.Lists.{change};
 ghost use Rattle.evm_model.specs.Ranks.{first, leader};
 ghost use Rattle.evm_ready.specs.Places.{entry};
 ghost use Rattle.evm_ready.specs.ListedRanks.{listed_rank};
-ghost use Rattle.evm_wait.specs.Waiters.{waiter_stamp, waits_for};
+ghost use Rattle.evm_wait.specs.Waiters.{stamped_waiter, waiter_stamp, waits_for};
 ghost use Rattle.evm_wait.specs.WaitTurns.{IsQueueFor};
 
 use crate::WAIT_QUEUE_LIMIT;
@@ -78,7 +78,7 @@ impl Waiting {
     }
 
     /// Task t waits for this, or doesn't wait.
-    #[inline]
+    #[inline(always)]
     pub fn set(&mut self, t: u8, waiter: Option<Waiter>)
         ensures waiters { self.new.waiters ≡ change (λ _. waiter) self.old.waiters t }
         ensures ranks { self.new.ranks ≡ self.old.ranks }
@@ -89,6 +89,7 @@ impl Waiting {
     }
 
     // The same, where something may change.
+    #[inline(always)]
     fn replace(&mut self, t: u8, waiter: Option<Waiter>)
         ensures waiters { self.new.waiters ≡ change (λ _. waiter) self.old.waiters t }
         ensures ranks { self.new.ranks ≡ self.old.ranks }
@@ -97,6 +98,21 @@ impl Waiting {
         if let Some(entry) = self.waiters.get_mut(t as usize) {
             *entry = waiter;
             self.turns.set(t, turn_of(waiter, rank));
+        }
+    }
+
+    /// Task t waits since this stamp, if it waits.
+    #[inline(always)]
+    pub fn restamp(&mut self, t: u8, stamp: u64)
+        ensures waiters { self.new.waiters ≡ change (option_map (stamped_waiter stamp)) self.old.waiters t }
+        ensures ranks { self.new.ranks ≡ self.old.ranks }
+    {
+        let Some(waiter) = self.get(t) else {
+            return;
+        };
+        if let Some(entry) = self.waiters.get_mut(t as usize) {
+            *entry = Some(Waiter { stamp, ..waiter });
+            self.turns.restamp(t, stamp);
         }
     }
 
@@ -157,6 +173,8 @@ impl Waiting {
 
     /// The number of the task that goes first of those that wait for this: the one of greatest rank, then of least
     /// stamp.
+    // Callers name the kind of wait, so that its queue is known.
+    #[inline(always)]
     pub fn first(&self, wait: Wait) -> Option<u8>
         ensures { result ≡ first (λ t. waits_for wait (entry self.now.waiters t)) (listed_rank self.now.ranks) (λ t. waiter_stamp (entry self.now.waiters t)) (length self.now.waiters) }
     {
