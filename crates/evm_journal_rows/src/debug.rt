@@ -4,6 +4,7 @@ use evm_debug::*;
 use evm_devs::Pins;
 use evm_journal::{EventLine, Machine};
 use evm_model::{Boot, Event, Refusal};
+use std::alloc::Global;
 use std::process::Abort;
 use std::test::Fail;
 
@@ -78,50 +79,71 @@ fn short_line(text: &[u8]) -> Option<EventLine> {
     }
 }
 
+fn is_short(rt: &impl Abort, text: &[u8], wanted: Option<EventLine>) {
+    assert_eq!(rt; short_line(text), wanted, "{text:?}");
+}
+
 #[test]
 fn lines_that_hold_no_bytes_are_read_small(rt: HostRuntime) {
-    assert_eq!(rt;
-        short_line(b"step 7 1048576"),
-        Some(EventLine::Steps(7, 1_048_576))
+    is_short(&rt, b"step 7 1048576", Some(EventLine::Steps(7, 1_048_576)));
+    is_short(&rt, b"tick", Some(EventLine::One(Event::Tick)));
+    is_short(
+        &rt,
+        b"unbreak 80000004",
+        Some(EventLine::One(Event::Unbreak(0x8000_0004))),
     );
-    assert_eq!(rt; short_line(b"tick"), Some(EventLine::One(Event::Tick)));
-    assert_eq!(rt;
-        short_line(b"unbreak 80000004"),
-        Some(EventLine::One(Event::Unbreak(0x8000_0004)))
-    );
-    for text in [
-        b"".as_slice(),
-        b"# tick".as_slice(),
-        b"tick 1".as_slice(),
-        b"step 0 0".as_slice(),
-        b"boot 1 65536 1".as_slice(),
-        b"regs 0".as_slice(),
-        b"poke 80000000 00".as_slice(),
-    ] {
-        assert_eq!(rt; short_line(text), None, "{text:?}");
+    is_short(&rt, b"", None);
+    is_short(&rt, b"# tick", None);
+    is_short(&rt, b"tick 1", None);
+    is_short(&rt, b"step 0 0", None);
+    is_short(&rt, b"boot 1 65536 1", None);
+    is_short(&rt, b"regs 0", None);
+    is_short(&rt, b"poke 80000000 00", None);
+}
+
+fn booted(alloc: Global) -> Result<Machine<Pins>, Fail> {
+    match Machine::<Pins>::boot(alloc, 1, 65536, 16) {
+        Ok(machine) => Ok(machine),
+        Err(_) => Err("no machine".into()),
     }
 }
 
 #[test]
 fn views_are_appended(rt: HostRuntime) -> Result<(), Fail> {
-    let alloc = rt.alloc();
-    let Ok(machine) = Machine::<Pins>::boot(alloc, 1, 65536, 16) else {
-        return Err("no machine".into());
-    };
-    let mut out = String::new(alloc);
+    let machine = booted(rt.alloc())?;
+    let mut out = String::new(rt.alloc());
     push_view(&mut out, &machine, &View::Mem(0x8000_0000, 4))?;
     push_view(&mut out, &machine, &View::Console)?;
     push_view(&mut out, &machine, &View::Notices)?;
     assert_eq!(rt; out.as_str(), "00000000\n\ntotal 0\n");
-    let refused = push_view(&mut out, &machine, &View::Regs(1));
-    assert!(rt; matches!(refused, Err(ViewRefusal::Refused(Refusal::NoSuchCpu))));
-    let refused = push_view(&mut out, &machine, &View::Words(0));
-    assert!(rt; matches!(refused, Err(ViewRefusal::Refused(Refusal::NoSlot))));
-    assert_eq!(rt; out.as_str(), "00000000\n\ntotal 0\n");
-    let Ok(views) = summary(alloc, &machine) else {
+    Ok(())
+}
+
+// The view is refused for this, and nothing is appended.
+fn is_refused(rt: &impl Abort, alloc: Global, view: View, wanted: Refusal) -> Result<(), Fail> {
+    let machine = booted(alloc)?;
+    let mut out = String::from_str(alloc, "total 0\n")?;
+    match push_view(&mut out, &machine, &view) {
+        Err(ViewRefusal::Refused(refusal)) => assert_eq!(rt; refusal, wanted),
+        _ => return Err("not refused".into()),
+    }
+    assert_eq!(rt; out.as_str(), "total 0\n");
+    Ok(())
+}
+
+#[test]
+fn views_are_refused(rt: HostRuntime) -> Result<(), Fail> {
+    is_refused(&rt, rt.alloc(), View::Regs(1), Refusal::NoSuchCpu)?;
+    is_refused(&rt, rt.alloc(), View::Words(0), Refusal::NoSlot)
+}
+
+#[test]
+fn a_summary_is_appended(rt: HostRuntime) -> Result<(), Fail> {
+    let machine = booted(rt.alloc())?;
+    let Ok(views) = summary(rt.alloc(), &machine) else {
         return Err("no views".into());
     };
-    let mut last = String::new(alloc);
+    let mut last = String::new(rt.alloc());
     push_summary(&mut last, &machine)?;
     assert_eq!(rt; last.as_str(), views.as_str());
     Ok(())

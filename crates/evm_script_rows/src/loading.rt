@@ -6,6 +6,7 @@ use evm_elf::read_image;
 use evm_image::Image;
 use evm_ram::BASE;
 use std::alloc::Global;
+use std::process::Abort;
 use std::test::Fail;
 
 /// The number of RAM's bytes.
@@ -71,84 +72,104 @@ fn bytes(machine: &Machine<Pins>, address: u64, count: u64) -> Result<&[u8], Fai
     Ok(machine.bytes(address, count).ok_or("inside")?)
 }
 
+// The image in a machine, or why it is refused.
+fn load(rt: &impl Abort, machine: &mut Machine<Pins>, image: &Image, wanted: Result<(), Refusal>) {
+    assert_eq!(rt; machine.load(image), wanted);
+}
+
+// Bytes of RAM from an address on.
+fn holds(
+    rt: &impl Abort,
+    machine: &Machine<Pins>,
+    address: u64,
+    wanted: &[u8],
+) -> Result<(), Fail> {
+    let count = wanted.len() as u64;
+    assert_eq!(rt; bytes(machine, address, count)?, wanted, "at {address}");
+    Ok(())
+}
+
+// The pc of the machine's first task.
+fn stands_at(rt: &impl Abort, machine: &Machine<Pins>, wanted: u64) -> Result<(), Fail> {
+    assert_eq!(rt; pc(machine)?, wanted);
+    Ok(())
+}
+
+fn answers(rt: &impl Abort, machine: &mut Machine<Pins>, event: Event, wanted: Answer) {
+    assert_eq!(rt; machine.apply(event.lend()), Ok(wanted));
+}
+
 #[test]
 fn loads_two_segments(rt: HostRuntime) -> Result<(), Fail> {
     let alloc = rt.alloc();
     let mut machine = Machine::<Pins>::boot(alloc, 1, SIZE, 4)?;
-    assert_eq!(rt; machine.load(&image_with(alloc, &[])?), Ok(()));
-    assert_eq!(rt; bytes(&machine, BASE, 5)?, [7, 8, 9, 0, 0].as_slice());
-    assert_eq!(rt;
-        bytes(&machine, BASE + 0xff, 6)?,
-        [0, 0x13, 0x05, 0x50, 0, 0].as_slice()
-    );
-    assert_eq!(rt; pc(&machine)?, 0x8000_0100);
-    assert_eq!(rt; machine.apply(Event::Step(0)), Ok(Answer::Ran(0)));
+    load(&rt, &mut machine, &image_with(alloc, &[])?, Ok(()));
+    holds(&rt, &machine, BASE, &[7, 8, 9, 0, 0])?;
+    holds(&rt, &machine, BASE + 0xff, &[0, 0x13, 0x05, 0x50, 0, 0])?;
+    stands_at(&rt, &machine, 0x8000_0100)?;
+    answers(&rt, &mut machine, Event::Step(0), Answer::Ran(0));
     assert_eq!(rt; machine.hart(0).ok_or("task 0")?.regs[10], 5);
-    assert_eq!(rt; pc(&machine)?, 0x8000_0104);
-    Ok(())
+    stands_at(&rt, &machine, 0x8000_0104)
 }
 
 #[test]
 fn loads_again_before_the_first_event(rt: HostRuntime) -> Result<(), Fail> {
     let alloc = rt.alloc();
     let mut machine = Machine::<Pins>::boot(alloc, 1, SIZE, 4)?;
-    machine.load(&image_with(alloc, &[])?)?;
+    load(&rt, &mut machine, &image_with(alloc, &[])?, Ok(()));
     let moved = image_with(alloc, &[(VADDR, 0x8000_fffc), (ENTRY, 0x80ff_fffc)])?;
-    assert_eq!(rt; machine.load(&moved), Ok(()));
-    assert_eq!(rt; bytes(&machine, BASE + 0x100, 4)?, [0; 4].as_slice());
-    assert_eq!(rt;
-        bytes(&machine, BASE + 0xfffc, 4)?,
-        [0x13, 0x05, 0x50, 0].as_slice()
-    );
-    assert_eq!(rt; pc(&machine)?, 0x80ff_fffc);
+    load(&rt, &mut machine, &moved, Ok(()));
+    holds(&rt, &machine, BASE + 0x100, &[0; 4])?;
+    holds(&rt, &machine, BASE + 0xfffc, &[0x13, 0x05, 0x50, 0])?;
+    stands_at(&rt, &machine, 0x80ff_fffc)
+}
+
+// The image with these numbers, in a machine of its own.
+fn image_is(
+    rt: &impl Abort,
+    alloc: Global,
+    patches: &[(usize, u64)],
+    wanted: Result<(), Refusal>,
+) -> Result<(), Fail> {
+    let mut machine = Machine::<Pins>::boot(alloc, 1, SIZE, 4)?;
+    let image = image_with(alloc, patches)?;
+    assert_eq!(rt; machine.load(&image), wanted, "{patches:?}");
     Ok(())
 }
 
 #[test]
 fn refuses_what_passes_ram(rt: HostRuntime) -> Result<(), Fail> {
     let alloc = rt.alloc();
-    let rows: [(&[(usize, u64)], Result<(), Refusal>); 7] = [
-        (&[(VADDR, 0x8000_fffc)], Ok(())),
-        (&[(VADDR, 0x8000_fffd)], Err(Refusal::BadAddress)),
-        (&[(MEMSZ, 0xff00)], Ok(())),
-        (&[(MEMSZ, 0xff01)], Err(Refusal::BadAddress)),
-        (
-            &[(VADDR, 0x8001_0000), (FILESZ, 0)],
-            Err(Refusal::BadAddress),
-        ),
-        (&[(VADDR, u64::MAX), (FILESZ, 0), (MEMSZ, 0)], Ok(())),
-        (&[(VADDR, 0), (FILESZ, 0), (MEMSZ, 0)], Ok(())),
-    ];
-    for (patches, want) in rows {
-        let mut machine = Machine::<Pins>::boot(alloc, 1, SIZE, 4)?;
-        let image = image_with(alloc, patches)?;
-        assert_eq!(rt; machine.load(&image), want, "{patches:?}");
-    }
-    Ok(())
+    let bad = Err(Refusal::BadAddress);
+    image_is(&rt, alloc, &[(VADDR, 0x8000_fffc)], Ok(()))?;
+    image_is(&rt, alloc, &[(VADDR, 0x8000_fffd)], bad)?;
+    image_is(&rt, alloc, &[(MEMSZ, 0xff00)], Ok(()))?;
+    image_is(&rt, alloc, &[(MEMSZ, 0xff01)], bad)?;
+    image_is(&rt, alloc, &[(VADDR, 0x8001_0000), (FILESZ, 0)], bad)?;
+    image_is(
+        &rt,
+        alloc,
+        &[(VADDR, u64::MAX), (FILESZ, 0), (MEMSZ, 0)],
+        Ok(()),
+    )?;
+    image_is(&rt, alloc, &[(VADDR, 0), (FILESZ, 0), (MEMSZ, 0)], Ok(()))
 }
 
 #[test]
 fn changes_nothing_where_it_refuses(rt: HostRuntime) -> Result<(), Fail> {
     let alloc = rt.alloc();
     let mut machine = Machine::<Pins>::boot(alloc, 1, SIZE, 4)?;
-    machine.load(&image_with(alloc, &[])?)?;
+    load(&rt, &mut machine, &image_with(alloc, &[])?, Ok(()));
     let large = image_with(alloc, &[(VADDR, 0x8001_0000), (ENTRY, 0x8000_0000)])?;
-    assert_eq!(rt; machine.load(&large), Err(Refusal::BadAddress));
-    assert_eq!(rt; bytes(&machine, BASE, 4)?, [7, 8, 9, 0].as_slice());
-    assert_eq!(rt;
-        bytes(&machine, BASE + 0x100, 4)?,
-        [0x13, 0x05, 0x50, 0].as_slice()
-    );
-    assert_eq!(rt; pc(&machine)?, 0x8000_0100);
-    assert_eq!(rt; machine.apply(Event::Tick), Ok(Answer::Done));
+    load(&rt, &mut machine, &large, Err(Refusal::BadAddress));
+    holds(&rt, &machine, BASE, &[7, 8, 9, 0])?;
+    holds(&rt, &machine, BASE + 0x100, &[0x13, 0x05, 0x50, 0])?;
+    stands_at(&rt, &machine, 0x8000_0100)?;
+    answers(&rt, &mut machine, Event::Tick, Answer::Done);
     let other = image_with(alloc, &[(VADDR, 0x8000_0200), (ENTRY, 0x8000_0000)])?;
-    assert_eq!(rt; machine.load(&other), Err(Refusal::Started));
-    assert_eq!(rt; machine.load(&large), Err(Refusal::BadAddress));
-    assert_eq!(rt;
-        bytes(&machine, BASE + 0x100, 4)?,
-        [0x13, 0x05, 0x50, 0].as_slice()
-    );
-    assert_eq!(rt; bytes(&machine, BASE + 0x200, 4)?, [0; 4].as_slice());
-    assert_eq!(rt; pc(&machine)?, 0x8000_0100);
-    Ok(())
+    load(&rt, &mut machine, &other, Err(Refusal::Started));
+    load(&rt, &mut machine, &large, Err(Refusal::BadAddress));
+    holds(&rt, &machine, BASE + 0x100, &[0x13, 0x05, 0x50, 0])?;
+    holds(&rt, &machine, BASE + 0x200, &[0; 4])?;
+    stands_at(&rt, &machine, 0x8000_0100)
 }
