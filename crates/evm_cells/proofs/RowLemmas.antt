@@ -4,7 +4,7 @@ use Rattle.std.proofs.Math.Dec.{ltb}
 use Rattle.std.proofs.Math.Seq.{drop-cons}
 use Rattle.std.proofs.lemmas.Bool.{ltb-true}
 use Rattle.std.proofs.lemmas.List.{drop-drop, length-append, length-replicate}
-use Rattle.std.specs.Prelude.{OnOk, IfOk, Option, Some, None, Result, Ok, Err, slice_get, ◌==◌, if◌then◌else◌}
+use Rattle.std.specs.Prelude.{OnOk, IfOk, Option, Some, None, Result, Ok, Err, slice_get, slice_set, ◌==◌, if◌then◌else◌}
 use Rattle.evm_cells.specs.Rows.{Halves, IsRow, Outline, Summarizes, count_on, event_lane, stretch}
 use Rattle.evm_cells.specs.declared.cells.Cell.{Cell}
 use Rattle.evm_cells.specs.declared.cells.TheConstants.{LANE_LIMIT}
@@ -135,6 +135,26 @@ joins (Ok a) items before out last cell one popped first told written events fro
     let to : cell.first + cell.count ≡ last.first + one.count = omega (arith, counts, ends) in
     subst (λ x. IsRow events from x (cell.first + cell.count)) (sym written)
     (row-more events from before last.first (cell.first + cell.count) one split.before first more (subst (Summarizes one) all both) to)
+
+-- the last cell of some, and another in its place
+split-last : (cells : List Cell) (i : ℕ) (last : Cell) → length cells ≡ i + 1 → slice_get cells i ≡ Some last
+    → (before : List Cell) × (cells ≡ before ++ last ∷ []) × ((one : Cell) → slice_set cells i one ≡ before ++ one ∷ [])
+split-last [] i last long at = absurd (omega arith)
+split-last (cell ∷ []) zero last long at = let is : cell ≡ last = cc in ([], ap (λ (c : Cell). c ∷ []) is, λ one. refl)
+split-last (cell ∷ []) (suc i) last long at = absurd (omega arith)
+split-last (cell ∷ next ∷ cells) zero last long at = absurd (omega arith)
+split-last (cell ∷ next ∷ cells) (suc i) last long at =
+    let rest = split-last (next ∷ cells) i last (omega arith) at in
+    (cell ∷ rest.0, ap (λ (cs : List Cell). cell ∷ cs) rest.1, λ one. ap (λ (cs : List Cell). cell ∷ cs) (rest.2 one))
+
+-- a cell joined to the last, where that stands
+pub joins-last : (items : List Cell) (i : ℕ) (last cell one : Cell) → length items ≡ i + 1 → slice_get items i ≡ Some last → one.first ≡ last.first
+    → ((front back : List Outline) → last.count + cell.count < 2 ^ 64 → Summarizes last front → Summarizes cell back → Summarizes one (front ++ back))
+    → (events : List Outline) (from : ℕ) → cell.first + cell.count < 2 ^ 64 → 0 < cell.count → Summarizes cell (stretch events cell.first cell.count) → IsRow events from items cell.first
+    → IsRow events from (slice_set items i one) (cell.first + cell.count)
+joins-last items i last cell one long at first told =
+    let split = split-last items i last long at in
+    joins {A = ℕ} {E = ℕ} (Ok 0) items split.0 (slice_set items i one) last cell one split.1 first told (split.2 one)
 
 -- a cell behind the last
 pub stands : {A E : Type 0} → (r : Result A E) (items out : List Cell) (cell : Cell) → OnOk r (out ≡ items ++ cell ∷ [])

@@ -123,23 +123,18 @@ fn kept_of(one: u32, two: u32) -> u32 {
     one.saturating_add(two).min(MARK_LIMIT)
 }
 
-fn joined(one: &Cell, two: &Cell) -> Cell
-    ensures first { result.first ≡ one.now.first }
-    ensures tells { (front back : List Outline) → one.now.count + two.now.count < 2 ^ 64 → Summarizes one.now front → Summarizes two.now back → Summarizes result (front ++ back) }
+// The second cell is joined to the first, where that stands.
+fn join(one: &mut Cell, two: &Cell)
+    ensures first { one.new.first ≡ one.old.first }
+    ensures tells { (front back : List Outline) → one.old.count + two.now.count < 2 ^ 64 → Summarizes one.old front → Summarizes two.now back → Summarizes one.new (front ++ back) }
 {
     let kept = kept_of(one.kept, two.kept);
     let lost = u64::from(one.kept.saturating_add(two.kept).saturating_sub(kept));
-    Cell {
-        first: one.first,
-        count: one.count.saturating_add(two.count),
-        shares: summed(&one.shares, &two.shares),
-        items: one.items.saturating_add(two.items),
-        event: one.event,
-        pc: one.pc,
-        lanes: one.lanes,
-        kept,
-        dropped: one.dropped.saturating_add(two.dropped).saturating_add(lost),
-    }
+    one.count = one.count.saturating_add(two.count);
+    one.shares = summed(&one.shares, &two.shares);
+    one.items = one.items.saturating_add(two.items);
+    one.kept = kept;
+    one.dropped = one.dropped.saturating_add(two.dropped).saturating_add(lost);
 }
 
 fn put<T: Drop>(items: &mut Vec<T>, item: T) -> Result<(), Refused>
@@ -185,8 +180,12 @@ fn put_joined(cells: &mut Vec<Cell>, cell: &Cell) -> Result<(), Refused>
     ensures { (events : List Outline) (from : ℕ) → cell.now.first + cell.now.count < 2 ^ 64 → 0 < cell.now.count → Summarizes cell.now (stretch events cell.now.first cell.now.count)
         → IsRow events from cells.old.items cell.now.first → OnOk result (IsRow events from cells.new.items (cell.now.first + cell.now.count)) }
 {
-    match cells.pop() {
-        Some(last) => put(cells, joined(&last, cell)),
+    let last = cells.len().saturating_sub(1);
+    match cells.get_mut(last) {
+        Some(last) => {
+            join(last, cell);
+            Ok(())
+        }
         None => put(cells, *cell),
     }
 }

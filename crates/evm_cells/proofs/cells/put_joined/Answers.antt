@@ -1,7 +1,14 @@
-use Rattle.std.proofs.Common.{◌≡◌}
-use Rattle.evm_cells.proofs.RowLemmas.{joins}
+use Rattle.std.proofs.Common.{rules, ◌≡◌, ◌+◌, ◌<◌, Some, length, refl, arith}
+use Rattle.std.specs.Prelude.{slice_get}
+use Rattle.std.proofs.lemmas.Option.{slice_get_read}
+use Rattle.evm_cells.proofs.RowLemmas.{joins-last}
 use Rattle.evm_cells.proofs.cells.put_joined.Goals as goal
 
 pub returns-in-Some : goal.returns-in-Some
 returns-in-Some c =
-    joins c.put.result c.args.cells.now.items c.pop.new.self.items c.put.new.items.items c.in-Some.last c.args.cell.now c.joined.result c.in-Some.ensures.items c.joined.ensures.first c.joined.ensures.tells c.put.ensures
+    let items = c.args.cells.now.items in
+    let i = c.saturating_sub-last.result in
+    let there : slice_get items i ≡ Some c.in-Some.last.now = slice_get_read _ _ i _ refl c.in-Some.ensures.item.3.0 c.in-Some.ensures.item.1 in
+    let count : c.len.result ≡ length items = search rules in
+    let long : length items ≡ i + 1 = omega (arith, count, c.saturating_sub-last.ensures, c.in-Some.ensures.item.3.0) in
+    joins-last items i c.in-Some.last.now c.args.cell.now c.join.new.one long there c.join.ensures.first c.join.ensures.tells
