@@ -91,6 +91,27 @@ tells-joined one two cell front back count is shares fits a b =
           omega (arith, s, t, x, y);
     }
 
+-- events of an item that were joined to a cell
+pub tells-more : (one cell : Cell) (n : ℕ) (event : Outline) (front : List Outline) → (one.count + n < 2 ^ 64 → cell.count ≡ one.count + n) → cell.event ≡ one.event
+    → ((lane : ℕ) → lane < LANE_LIMIT → get_or one.shares lane 0 + n < 2 ^ 64 → get_or cell.shares lane 0 ≡ get_or one.shares lane 0 + (if event_lane event == lane then n else 0))
+    → one.count + n < 2 ^ 64 → Summarizes one front → Summarizes cell (front ++ replicate n event)
+tells-more one cell n event front count is shares fits a =
+    let long = length-append front (replicate n event) in
+    let many = length-replicate n event in
+    record {
+      count = let c = count fits in let x = a.count in omega (arith, long, many, c, x);
+      event = first-append front (replicate n event) one.event a.event ∙ ap (λ e. Some e) (sym is);
+      shares = λ lane h.
+          let x = a.shares lane h in
+          let p = count-most lane front in
+          let both = a.count in
+          let few : get_or one.shares lane 0 + n < 2 ^ 64 = omega (arith, x, p, both, fits) in
+          let s = shares lane h few in
+          let t = count-append lane front (replicate n event) in
+          let e = count-alike lane n event in
+          omega (arith, s, t, x, e);
+    }
+
 -- ---- rows
 -- a row doesn't end before it begins
 pub row-rises : (events : List Outline) (from : ℕ) (cells : List Cell) (to : ℕ) → IsRow events from cells to → from ≤ to
@@ -116,26 +137,6 @@ row-split events from [] last to row = record { before = sym row.0; some = row.1
 row-split events from (one ∷ cells) last to row =
     let rest = row-split events (from + one.count) cells last to row.3 in record { before = (row.0, row.1, row.2, rest.before); some = rest.some; tells = rest.tells; ends = rest.ends }
 
--- a cell joined to the last
-pub joins : {A E : Type 0} → (r : Result A E) (items before out : List Cell) (last cell one : Cell) → items ≡ before ++ last ∷ [] → one.first ≡ last.first
-    → ((front back : List Outline) → last.count + cell.count < 2 ^ 64 → Summarizes last front → Summarizes cell back → Summarizes one (front ++ back)) → OnOk r (out ≡ before ++ one ∷ [])
-    → (events : List Outline) (from : ℕ) → cell.first + cell.count < 2 ^ 64 → 0 < cell.count → Summarizes cell (stretch events cell.first cell.count) → IsRow events from items cell.first
-    → OnOk r (IsRow events from out (cell.first + cell.count))
-joins (Err e) items before out last cell one popped first told written events from fits some tells row = tt
-joins (Ok a) items before out last cell one popped first told written events from fits some tells row =
-    let split = row-split events from before last cell.first (subst (λ x. IsRow events from x cell.first) popped row) in
-    let ends : last.first + last.count ≡ cell.first = split.ends in
-    let sum : last.count + cell.count < 2 ^ 64 = omega (arith, ends, fits) in
-    let both = told (stretch events last.first last.count) (stretch events cell.first cell.count) sum split.tells tells in
-    let long = length-append (stretch events last.first last.count) (stretch events cell.first cell.count) in
-    let counts : one.count ≡ last.count + cell.count = let a = both.count in let b = split.tells.count in let c = tells.count in omega (arith, long, a, b, c) in
-    let all : stretch events last.first last.count ++ stretch events cell.first cell.count ≡ stretch events last.first one.count =
-    ap (λ n. stretch events last.first last.count ++ stretch events n cell.count) (sym ends) ∙ sym (stretch-add events last.first last.count cell.count) ∙ ap (stretch events last.first) (sym counts) in
-    let more : 0 < one.count = omega (arith, counts, some) in
-    let to : cell.first + cell.count ≡ last.first + one.count = omega (arith, counts, ends) in
-    subst (λ x. IsRow events from x (cell.first + cell.count)) (sym written)
-    (row-more events from before last.first (cell.first + cell.count) one split.before first more (subst (Summarizes one) all both) to)
-
 -- the last cell of some, and another in its place
 split-last : (cells : List Cell) (i : ℕ) (last : Cell) → length cells ≡ i + 1 → slice_get cells i ≡ Some last
     → (before : List Cell) × (cells ≡ before ++ last ∷ []) × ((one : Cell) → slice_set cells i one ≡ before ++ one ∷ [])
@@ -147,14 +148,34 @@ split-last (cell ∷ next ∷ cells) (suc i) last long at =
     let rest = split-last (next ∷ cells) i last (omega arith) at in
     (cell ∷ rest.0, ap (λ (cs : List Cell). cell ∷ cs) rest.1, λ one. ap (λ (cs : List Cell). cell ∷ cs) (rest.2 one))
 
--- a cell joined to the last, where that stands
-pub joins-last : (items : List Cell) (i : ℕ) (last cell one : Cell) → length items ≡ i + 1 → slice_get items i ≡ Some last → one.first ≡ last.first
-    → ((front back : List Outline) → last.count + cell.count < 2 ^ 64 → Summarizes last front → Summarizes cell back → Summarizes one (front ++ back))
-    → (events : List Outline) (from : ℕ) → cell.first + cell.count < 2 ^ 64 → 0 < cell.count → Summarizes cell (stretch events cell.first cell.count) → IsRow events from items cell.first
-    → IsRow events from (slice_set items i one) (cell.first + cell.count)
-joins-last items i last cell one long at first told =
-    let split = split-last items i last long at in
-    joins {A = ℕ} {E = ℕ} (Ok 0) items split.0 (slice_set items i one) last cell one split.1 first told (split.2 one)
+-- events joined to the last cell, where that stands
+pub joins-last : (items : List Cell) (i : ℕ) (last one : Cell) (first count : ℕ) → length items ≡ i + 1 → slice_get items i ≡ Some last → one.first ≡ last.first
+    → (events : List Outline) (from : ℕ) → first + count < 2 ^ 64 → 0 < count → length (stretch events first count) ≡ count
+    → ((front : List Outline) → last.count + count < 2 ^ 64 → Summarizes last front → Summarizes one (front ++ stretch events first count))
+    → IsRow events from items first → IsRow events from (slice_set items i one) (first + count)
+joins-last items i last one first count long at begins events from fits some many told row =
+    let found = split-last items i last long at in
+    let split = row-split events from found.0 last first (subst (λ x. IsRow events from x first) found.1 row) in
+    let ends : last.first + last.count ≡ first = split.ends in
+    let sum : last.count + count < 2 ^ 64 = omega (arith, ends, fits) in
+    let both = told (stretch events last.first last.count) sum split.tells in
+    let joined = length-append (stretch events last.first last.count) (stretch events first count) in
+    let counts : one.count ≡ last.count + count = let a = both.count in let b = split.tells.count in omega (arith, joined, a, b, many) in
+    let all : stretch events last.first last.count ++ stretch events first count ≡ stretch events last.first one.count =
+    ap (λ n. stretch events last.first last.count ++ stretch events n count) (sym ends) ∙ sym (stretch-add events last.first last.count count) ∙ ap (stretch events last.first) (sym counts) in
+    let more : 0 < one.count = omega (arith, counts, some) in
+    let to : first + count ≡ last.first + one.count = omega (arith, counts, ends) in
+    subst (λ x. IsRow events from x (first + count)) (sym (found.2 one))
+    (row-more events from found.0 last.first (first + count) one split.before begins more (subst (Summarizes one) all both) to)
+
+-- an item joined to the last cell, where that stands
+pub item-joins-last : (items : List Cell) (i : ℕ) (last one : Cell) (first count : ℕ) (event : Outline) → length items ≡ i + 1 → slice_get items i ≡ Some last → one.first ≡ last.first
+    → ((front : List Outline) → last.count + count < 2 ^ 64 → Summarizes last front → Summarizes one (front ++ replicate count event))
+    → (events : List Outline) (from : ℕ) → first + count < 2 ^ 64 → 0 < count → stretch events first count ≡ replicate count event → IsRow events from items first
+    → IsRow events from (slice_set items i one) (first + count)
+item-joins-last items i last one first count event long at begins told events from fits some alike row =
+    joins-last items i last one first count long at begins events from fits some (ap (λ es. length es) alike ∙ length-replicate count event)
+    (λ front sum h. subst (λ es. Summarizes one (front ++ es)) (sym alike) (told front sum h)) row
 
 -- a cell behind the last
 pub stands : {A E : Type 0} → (r : Result A E) (items out : List Cell) (cell : Cell) → OnOk r (out ≡ items ++ cell ∷ [])

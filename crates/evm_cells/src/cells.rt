@@ -137,6 +137,30 @@ fn join(one: &mut Cell, two: &Cell)
     one.dropped = one.dropped.saturating_add(two.dropped).saturating_add(lost);
 }
 
+// So many events more of a lane.
+fn add_share(shares: &mut [u64; LANE_LIMIT], lane: usize, count: u32)
+    requires { lane < LANE_LIMIT }
+    ensures { (other : ℕ) → other < LANE_LIMIT → get_or shares.old other 0 + count < 2 ^ 64 → get_or shares.new other 0 ≡ get_or shares.old other 0 + (if lane == other then count else 0) }
+{
+    shares[lane] = shares[lane].saturating_add(u64::from(count));
+}
+
+// An item is joined to a cell, where that stands, with so many of its marks.
+fn join_item(cell: &mut Cell, item: &Item, kept: u32, dropped: u64)
+    ensures first { cell.new.first ≡ cell.old.first }
+    ensures tells { (front : List Outline) → cell.old.count + item.now.count < 2 ^ 64 → Summarizes cell.old front → Summarizes cell.new (front ++ replicate item.now.count item.now.event) }
+{
+    cell.count = cell.count.saturating_add(u64::from(item.count));
+    add_share(
+        &mut cell.shares,
+        lane_index(actor_of(&item.event)),
+        item.count,
+    );
+    cell.items = cell.items.saturating_add(1);
+    cell.kept = cell.kept.saturating_add(kept);
+    cell.dropped = cell.dropped.saturating_add(dropped);
+}
+
 fn put<T: Drop>(items: &mut Vec<T>, item: T) -> Result<(), Refused>
     ensures { OnOk result (items.new.items ≡ items.old.items ++ item ∷ []) }
 {
@@ -199,6 +223,28 @@ fn put_cell(cells: &mut Vec<Cell>, cell: &Cell, joins: bool) -> Result<(), Refus
         put_joined(cells, cell)
     } else {
         put(cells, *cell)
+    }
+}
+
+// An item more, joined to the last cell, with so many of its marks.
+fn put_item(
+    cells: &mut Vec<Cell>,
+    item: &Item,
+    lanes: &Lanes,
+    kept: u32,
+    dropped: u64,
+) -> Result<(), Refused>
+    ensures { (events : List Outline) (from : ℕ) → item.now.first + item.now.count < 2 ^ 64 → 0 < item.now.count
+        → stretch events item.now.first item.now.count ≡ replicate item.now.count item.now.event → IsRow events from cells.old.items item.now.first
+        → OnOk result (IsRow events from cells.new.items (item.now.first + item.now.count)) }
+{
+    let last = cells.len().saturating_sub(1);
+    match cells.get_mut(last) {
+        Some(last) => {
+            join_item(last, item, kept, dropped);
+            Ok(())
+        }
+        None => put(cells, cell_of(item, lanes, kept, dropped)),
     }
 }
 
@@ -295,8 +341,12 @@ impl Timeline {
         let room = room_of(self.cells.as_slice(), self.span);
         let kept = keep(&mut self.marks, found, room.unwrap_or(0))?;
         let dropped = (found.len() as u64).saturating_sub(u64::from(kept));
-        let cell = cell_of(item, lanes, kept, dropped);
-        put_cell(&mut self.cells, &cell, room.is_some())?;
+        // a cell has 250 bytes: it is made where one begins, no more
+        if room.is_some() {
+            put_item(&mut self.cells, item, lanes, kept, dropped)?;
+        } else {
+            put(&mut self.cells, cell_of(item, lanes, kept, dropped))?;
+        }
         self.bound(alloc)
     }
 }

@@ -9,6 +9,7 @@ use Rattle.evm_model.specs.Memory.{fetch}
 use Rattle.evm_model.specs.Settle.{is_oob}
 use Rattle.evm_model.specs.State.{Memory, Notices, Parts}
 use Rattle.evm_model.specs.declared.call.Outcome.TheVariants.{Returns}
+use Rattle.evm_model.specs.declared.limits.TheConstants.{NOTICE_LIMIT}
 use Rattle.evm_model.specs.declared.notice.Notice.{Notice}
 use Rattle.evm_model.specs.declared.notice.NoticeKind.{NoticeKind}
 use Rattle.evm_model.specs.declared.notice.NoticeKind.TheVariants.{DemotedByCall, DemotedByFault, Deadlock, NotOwner}
@@ -41,5 +42,5 @@ pub record AddsNotice (runs : Option ℕ) (c : ℕ) (memory : Memory) (old : Par
   pub by : NoticeBy runs c notice.task memory old notice.kind bit
   pub asks : bit_at task.mode.bits bit ≡ 1
   pub moment : notice.tick ≡ old.ticks
-  pub kept : new.kept ≡ drop (length (old.notices.kept ++ notice ∷ []) - 64) (old.notices.kept ++ notice ∷ [])
+  pub kept : new.kept ≡ drop (length (old.notices.kept ++ notice ∷ []) - NOTICE_LIMIT) (old.notices.kept ++ notice ∷ [])
   pub total : new.total ≡ old.notices.total + 1

@@ -10,6 +10,7 @@ ghost use Rattle.evm_model.specs.State.{State};
 ghost use Rattle.evm_model.specs.declared.boot.Boot.{Boot};
 ghost use Rattle.evm_model.specs.declared.event.Answer.{Answer};
 ghost use Rattle.evm_model.specs.declared.event.Event.TheVariants as Event;
+ghost use Rattle.evm_model.specs.declared.limits.TheConstants.{NOTICE_LIMIT};
 ghost use Rattle.evm_claims.specs.About.{IsAbout};
 ghost use Rattle.evm_claims.specs.Noticed.{AddsNotice};
 ghost use Rattle.evm_claims.specs.Reached.{Reached};
@@ -45,7 +46,7 @@ pub fn no_other_event_makes_a_notice()
 /// at most 64 notices are kept, and at most as many were made as the journal has events.
 pub fn notices_are_few()
     ensures { (boot : Boot) (s : State) → Reached boot s →
-        (length s.board.parts.notices.kept ≤ 64) × (s.board.parts.notices.total ≤ length s.journal) }
+        (length s.board.parts.notices.kept ≤ NOTICE_LIMIT) × (s.board.parts.notices.total ≤ length s.journal) }
 {
     evm_rules::rules_hold(); // the field notices
 }

@@ -18,6 +18,7 @@ use evm_gdb_driving::{
     push_task_text, set_register, set_registers, word_at, write,
 };
 use evm_gdb_packets::read_digits;
+use evm_model::BREAKPOINT_LIMIT;
 use evm_room::{NoMemory, Refused, push_text};
 use std::alloc::Global;
 
@@ -124,7 +125,7 @@ fn remove<D: Device>(
 }
 
 // The addresses but one.
-fn without(addresses: &[u64], gone: u64) -> ArrayVec<u64, 64> {
+fn without(addresses: &[u64], gone: u64) -> ArrayVec<u64, BREAKPOINT_LIMIT> {
     let mut left = ArrayVec::new();
     for address in addresses {
         if *address != gone {

@@ -3,6 +3,7 @@
 use arrayvec::ArrayVec;
 use evm_dev::Device;
 use evm_gdb_driving::{Machine, TargetHalt, Why, stop_all};
+use evm_model::BREAKPOINT_LIMIT;
 
 /// How many turns a schedule may have.
 pub const TURN_LIMIT: usize = 32;
@@ -28,7 +29,7 @@ pub struct GdbSession<D: Device> {
     /// The processors that step in a continue, one after the other and again from the first.
     pub turns: ArrayVec<u8, TURN_LIMIT>,
     /// The addresses at which `Z1` asked for a breakpoint, and `z1` not yet for none.
-    pub hardware: ArrayVec<u64, 64>,
+    pub hardware: ArrayVec<u64, BREAKPOINT_LIMIT>,
     /// Why the program is stopped.
     pub halt: TargetHalt,
 }

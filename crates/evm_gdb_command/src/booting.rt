@@ -1,7 +1,10 @@
 //! The machine that a session begins with: by the lines of a script, or by default.
 
 use evm_dev::Device;
-use evm_gdb::{Boot, Devices, Line, LineEnd, Machine, Refusal, cut_line, read_line, run_line};
+use evm_gdb::{
+    Boot, CAPACITY_LIMIT, Devices, Line, LineEnd, Machine, Refusal, SIZE_LIMIT, cut_line,
+    read_line, run_line,
+};
 use evm_host::{Sink, write_all};
 use evm_image::Image;
 use evm_messages::LineFault;
@@ -11,8 +14,8 @@ use std::alloc::Global;
 /// The machine without a script.
 pub(crate) const DEFAULT: Boot = Boot {
     cpus: 2,
-    ram: 16_777_216,
-    capacity: 1_048_576,
+    ram: SIZE_LIMIT,
+    capacity: CAPACITY_LIMIT,
 };
 
 /// Why there is no machine.

@@ -18,7 +18,9 @@ mod switching;
 mod walking;
 mod watching;
 
-pub use evm_schedules::{BeginFault, Boot, Errors, Failure, Inversion, Machine, Watch, Way};
+pub use evm_schedules::{
+    BeginFault, Boot, CAPACITY_LIMIT, Errors, Failure, Inversion, Machine, SIZE_LIMIT, Watch, Way,
+};
 pub use found::{Found, Tried, replayed, try_schedule};
 pub use hunting::{Plan, Report, Row, SearchSpan, hunt};
 pub use key::{FailureKey, kind_name};

@@ -3,7 +3,7 @@
 use crate::help::HUNT_HELP;
 use clap::builder::ValueParser;
 use clap::{Arg, ArgAction, ArgMatches, Command, Error};
-use evm_hunt::{Boot, Errors, Inversion, Watch};
+use evm_hunt::{Boot, CAPACITY_LIMIT, Errors, Inversion, SIZE_LIMIT, Watch};
 use evm_lines::LineSet;
 use std::alloc::{AllocError, Global};
 
@@ -132,7 +132,7 @@ fn with_bounds<'a>(alloc: Global, command: Command<'a>) -> Result<Command<'a>, A
         "ram",
         "BYTES",
         65_536,
-        16_777_216,
+        SIZE_LIMIT,
         "Bytes of RAM [default: 65536]",
     );
     let events = number(
@@ -140,7 +140,7 @@ fn with_bounds<'a>(alloc: Global, command: Command<'a>) -> Result<Command<'a>, A
         "events",
         "N",
         1,
-        1_048_576,
+        CAPACITY_LIMIT,
         "Events of a schedule at most [default: 10000]",
     );
     command.arg(cpus)?.arg(ram)?.arg(events)

@@ -44,7 +44,7 @@ impl Parts {
     pub fn end_waits(&mut self, c: u8)
         requires room { HasStamps TASK_LIMIT self.old }
         ensures row { self.new ≡ end_waits c self.old }
-        ensures stamps { self.new.stamps ≤ self.old.stamps + 64 }
+        ensures stamps { self.new.stamps ≤ self.old.stamps + TASK_LIMIT }
     {
         'ending: for round in 0..self.tasks.count() {
             let Some(t) = self.next_due(c) else {

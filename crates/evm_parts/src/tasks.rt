@@ -172,7 +172,7 @@ impl Parts {
     pub fn wake_waiters(&mut self, c: u8, line: u8)
         requires room { HasStamps TASK_LIMIT self.old }
         ensures row { self.new ≡ wake_below c line (length self.old.tasks) self.old }
-        ensures stamps { self.new.stamps ≤ self.old.stamps + 64 }
+        ensures stamps { self.new.stamps ≤ self.old.stamps + TASK_LIMIT }
     {
         'waking: for t in 0..self.tasks.count() {
             self.wake_waiter(c, line, t);

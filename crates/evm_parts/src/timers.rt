@@ -89,7 +89,7 @@ impl Parts {
         requires room { HasStamps TIMER_LIMIT self.old }
         requires clock { self.old.ticks ≤ COUNT_LIMIT }
         ensures row { self.new ≡ expire_timers c self.old }
-        ensures stamps { self.new.stamps ≤ self.old.stamps + 32 }
+        ensures stamps { self.new.stamps ≤ self.old.stamps + TIMER_LIMIT }
     {
         if self.timers.is_quiet(self.ticks) {
             return;

@@ -1,14 +1,15 @@
-//! 10,000 events over four processors and 16 tasks. After each, every rank is the one that is computed anew, and a
-//! processor that must run its best task runs the best by these ranks.
+//! 10,000 events over four processors and 16 tasks, and those that they create. After each, every rank is the one that is
+//! computed anew, a processor that must run its best task runs the best by these ranks, and one that took a step and has no
+//! out-of-band task runs the in-band task that stays or comes next: what `rank` and `stages` print of them.
 
 ghost use Rattle.std.specs.Prelude.{◌<◌};
 
 mod anew;
 
-use anew::{Ranks, best_of, ranks_of};
+use anew::{Ranks, best_of, next_in_band, ranks_of};
 use evm_core::Machine;
 use evm_devs::Pins;
-use evm_model::{Block, Event, Stage};
+use evm_model::{Block, Event, Stage, TaskState};
 use std::alloc::Global;
 use std::test::Fail;
 
@@ -17,6 +18,9 @@ const PROCESSORS: u8 = 4;
 const TASKS: u64 = 16;
 
 const MUTEXES: u64 = 8;
+
+// Where each task begins.
+const ENTRY: u64 = 0x8000_0000;
 
 // loop: ecall; j loop
 const PROGRAM: [u32; 2] = [0x0000_0073, 0xffdf_f06f];
@@ -86,6 +90,15 @@ fn object_call(random: &mut Generator, ticks: u64) -> Call {
     }
 }
 
+// The caller ends, or creates a task, or yields.
+fn life_call(random: &mut Generator) -> Call {
+    match random.below(6) {
+        0 | 1 => call_of(0, 0, 0, 0),
+        2 => call_of(3, ENTRY, 0, random.below(4)),
+        _ => call_of(50, 0, 0, 0),
+    }
+}
+
 // A call on the caller's or another task's place.
 fn task_call(random: &mut Generator, ticks: u64) -> Call {
     let class = 1 + random.below(4);
@@ -94,8 +107,7 @@ fn task_call(random: &mut Generator, ticks: u64) -> Call {
         3 | 4 => call_of(34, random.below(TASKS), class, priority(random)),
         5 => call_of(47, ticks.saturating_add(random.below(8)), 0, 0),
         6 => call_of(32 + random.below(2), 0, 0, 0),
-        _ if random.below(64) == 0 => call_of(0, 0, 0, 0),
-        _ => call_of(50, 0, 0, 0),
+        _ => life_call(random),
     }
 }
 
@@ -138,6 +150,40 @@ fn bests_agree(machine: &Machine<Pins>, ranks: &Ranks) -> bool {
     agree
 }
 
+fn in_band_task_of(machine: &Machine<Pins>, c: u8) -> Option<u8> {
+    machine.cpu(c)?.in_band_task
+}
+
+fn state_of(machine: &Machine<Pins>, task: Option<u8>) -> Option<TaskState> {
+    match machine.task(task?) {
+        Some(task) => Some(task.state),
+        None => None,
+    }
+}
+
+// Whether a processor that took a step, and runs no out-of-band task, runs the in-band task that it had, or the next.
+fn in_band_agrees(machine: &Machine<Pins>, c: u8, had: Option<u8>) -> bool {
+    let current = current_of(machine, c);
+    if state_of(machine, current) == Some(TaskState::OobReady) {
+        return true;
+    }
+    let stays = current.is_some()
+        && current == had
+        && state_of(machine, had) == Some(TaskState::InReady);
+    current == in_band_task_of(machine, c) && (stays || current == next_in_band(machine, c))
+}
+
+// A step of a processor: 1, or 0 if it is refused.
+fn steps(machine: &mut Machine<Pins>, c: u8) -> Result<u32, Fail> {
+    let had = in_band_task_of(machine, c);
+    let is_stopped = machine.cpu(c).is_some_and(|cpu| cpu.stopped);
+    let made = happens(machine, Event::Step(c))?;
+    if made == 1 && !is_stopped && !in_band_agrees(machine, c, had) {
+        return Err(Fail::from("a processor does not run its next in-band task"));
+    }
+    Ok(made)
+}
+
 // How many events an event is: 1, or 0 if it is refused.
 fn happens(machine: &mut Machine<Pins>, event: Event<&Block>) -> Result<u32, Fail> {
     if machine.apply(event).is_err() {
@@ -163,12 +209,12 @@ fn makes(machine: &mut Machine<Pins>, c: u8, call: Call) -> Result<u32, Fail> {
         Event::SetReg(c, 11, call.second),
         Event::SetReg(c, 12, call.third),
         Event::Go(c),
-        Event::Step(c),
-        Event::Step(c),
     ] {
         events = events.saturating_add(happens(machine, event)?);
     }
-    Ok(events)
+    let first = steps(machine, c)?;
+    let second = steps(machine, c)?;
+    Ok(events.saturating_add(first).saturating_add(second))
 }
 
 // A call, or a tick, or a step of a processor.
@@ -176,7 +222,7 @@ fn round(machine: &mut Machine<Pins>, random: &mut Generator) -> Result<u32, Fai
     let c = random.below(u64::from(PROCESSORS)) as u8;
     match random.below(8) {
         0 => happens(machine, Event::Tick),
-        1 | 2 => happens(machine, Event::Step(c)),
+        1 | 2 => steps(machine, c),
         _ => {
             let call = any_call(random, machine.ticks());
             makes(machine, c, call)
@@ -194,7 +240,7 @@ fn begins(machine: &mut Machine<Pins>) -> Result<(), Fail> {
         makes(machine, 0, call_of(11, 0, 0, 0))?;
     }
     for t in 1..TASKS {
-        makes(machine, 0, call_of(3, 0x8000_0000, 0, t % 4))?;
+        makes(machine, 0, call_of(3, ENTRY, 0, t % 4))?;
     }
     Ok(())
 }
@@ -208,10 +254,21 @@ fn booted(alloc: Global) -> Result<Machine<Pins>, Fail> {
     for word in PROGRAM {
         let _ = bytes.try_extend_from_slice(word.to_le_bytes().as_slice());
     }
-    match machine.apply(Event::Poke(0x8000_0000, &bytes)) {
+    match machine.apply(Event::Poke(ENTRY, &bytes)) {
         Ok(_) => Ok(machine),
         Err(_) => Err(Fail::from("the program is refused")),
     }
+}
+
+// How many tasks have ended.
+fn ended(machine: &Machine<Pins>) -> u32 {
+    let mut count = 0u32;
+    for t in 0..machine.task_count() {
+        if state_of(machine, Some(t)) == Some(TaskState::Exit) {
+            count = count.saturating_add(1);
+        }
+    }
+    count
 }
 
 #[test]
@@ -228,5 +285,7 @@ fn ranks_and_bests_are_those_computed_anew(rt: HostRuntime) -> Result<(), Fail> 
         }
     }
     assert!(rt; events >= 10_000);
+    assert!(rt; machine.task_count() > 16);
+    assert!(rt; ended(&machine) >= 8);
     Ok(())
 }

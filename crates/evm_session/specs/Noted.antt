@@ -2,14 +2,14 @@
 use Rattle.std.specs.Prelude.{ℕ, ◌+◌, List, Option, Some, None, replicate, slice_get, slice_set}
 use Rattle.evm_model.specs.declared.event.Answer.{Answer}
 use Rattle.evm_model.specs.declared.event.Answer.TheVariants.{Stopped, Received, Idle, Hit, Ran, Done}
+use Rattle.evm_model.specs.declared.limits.TheConstants.{TASK_LIMIT}
 use Rattle.evm_session.specs.declared.notes.Ahead.{Ahead}
 use Rattle.evm_session.specs.declared.notes.LastCall.{LastCall}
-use Rattle.evm_session.specs.declared.notes.TheConstants.{TASKS}
 use Rattle.evm_session.specs.Notes.{Noted}
 
 -- no task has made a call
 abbrev pub no_notes : Noted
-no_notes = record { swallowed = 0; calls = replicate TASKS None }
+no_notes = record { swallowed = 0; calls = replicate TASK_LIMIT None }
 
 -- a line begins
 abbrev pub line_begun : Noted → Noted

@@ -3,13 +3,10 @@
 ghost use Rattle.std.specs.Prelude.{◌≡◌, ◌+◌, ◌<◌, ◌^◌, IfOk, slice_get};
 ghost use Rattle.evm_session.specs.Noted.{with_answer, last_call, made, no_notes, noted_ahead, noted_by, noted_step, line_begun};
 
-use evm_model::Answer;
+use evm_model::{Answer, TASK_LIMIT};
 use evm_room::NoMemory;
 use std::alloc::Global;
 use std::marker::Model;
-
-/// The most tasks of a machine.
-pub(crate) const TASKS: usize = 64;
 
 /// A call that a task has made.
 #[derive(Clone, Copy, Debug, PartialEq, Eq)]
@@ -54,7 +51,7 @@ impl Notes {
     pub fn new(alloc: Global) -> Result<Notes, NoMemory>
         ensures { IfOk result (λ notes. notes ≡ no_notes) }
     {
-        match Vec::from_slice(alloc, &[None; TASKS]) {
+        match Vec::from_slice(alloc, &[None; TASK_LIMIT]) {
             Ok(calls) => Ok(Notes {
                 swallowed: 0,
                 calls,

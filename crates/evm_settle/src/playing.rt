@@ -65,7 +65,7 @@ fn play_in_band(parts: &mut Parts, c: u8, line: u8)
     requires room { PipesUpTo COUNT_LIMIT parts.old.pipes }
     requires stamps { HasStamps TASK_LIMIT parts.old }
     ensures row { parts.new ≡ play_in_band c line parts.old }
-    ensures stamps { parts.new.stamps ≤ parts.old.stamps + 64 }
+    ensures stamps { parts.new.stamps ≤ parts.old.stamps + TASK_LIMIT }
 {
     parts.play(c, Stage::InBand, line);
     parts.wake_waiters(c, line);

@@ -9,6 +9,7 @@ use crate::writing::write;
 use evm_dev::Device;
 use evm_image::Image;
 use evm_journal::{Boot, Devices, Machine};
+use evm_model::CAPACITY_LIMIT;
 use evm_shared::Blanks;
 use evm_streams::Sink;
 use std::alloc::Global;
@@ -20,7 +21,7 @@ use std::thread::Threads;
 const RUN_BOOT: Boot = Boot {
     cpus: 2,
     ram: 1_048_576,
-    capacity: 1_048_576,
+    capacity: CAPACITY_LIMIT,
 };
 
 // What a run comes to.

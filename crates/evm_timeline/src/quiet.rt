@@ -46,9 +46,9 @@ fn is_quiet_task<D: Device>(machine: &Machine<D>, current: Option<u8>) -> bool {
     let Some(task) = current else {
         return true;
     };
-    match machine.hart(task) {
+    match machine.lent_hart(task) {
         None => false,
-        Some(hart) => is_quiet_hart(machine, &hart),
+        Some(hart) => is_quiet_hart(machine, hart),
     }
 }
 

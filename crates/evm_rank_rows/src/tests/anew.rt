@@ -126,3 +126,25 @@ pub(super) fn best_of(machine: &Machine<Pins>, ranks: &Ranks, c: u8) -> Option<u
     }
     best
 }
+
+// Whether task t is ready in-band on processor c.
+fn runs_in_band(machine: &Machine<Pins>, c: u8, t: u8) -> bool {
+    match machine.task(t) {
+        None => false,
+        Some(task) => task.state == TaskState::InReady && task.cpu == c,
+    }
+}
+
+/// The in-band task of a processor of least stamp.
+pub(super) fn next_in_band(machine: &Machine<Pins>, c: u8) -> Option<u8> {
+    let mut next = None;
+    for t in 0..machine.task_count() {
+        if runs_in_band(machine, c, t) {
+            next = match next {
+                Some(u) if stamp_of(machine, u) < stamp_of(machine, t) => Some(u),
+                _ => Some(t),
+            };
+        }
+    }
+    next
+}

@@ -1,7 +1,8 @@
-use Rattle.std.proofs.Common.{rules, ◌≡◌, ◌+◌, ◌<◌, Some, length, refl, arith}
+use Rattle.std.proofs.Common.{rules, ◌≡◌, ◌+◌, ◌<◌, Some, length, refl, sym, arith}
 use Rattle.std.specs.Prelude.{slice_get}
 use Rattle.std.proofs.lemmas.Option.{slice_get_read}
 use Rattle.evm_cells.proofs.RowLemmas.{joins-last}
+use Rattle.evm_cells.specs.Rows.{stretch}
 use Rattle.evm_cells.proofs.cells.put_joined.Goals as goal
 
 pub returns-in-Some : goal.returns-in-Some
@@ -11,4 +12,6 @@ returns-in-Some c =
     let there : slice_get items i ≡ Some c.in-Some.last.now = slice_get_read _ _ i _ refl c.in-Some.ensures.item.3.0 c.in-Some.ensures.item.1 in
     let count : c.len.result ≡ length items = search rules in
     let long : length items ≡ i + 1 = omega (arith, count, c.saturating_sub-last.ensures, c.in-Some.ensures.item.3.0) in
-    joins-last items i c.in-Some.last.now c.args.cell.now c.join.new.one long there c.join.ensures.first c.join.ensures.tells
+    λ events from fits some tells row.
+    joins-last items i c.in-Some.last.now c.join.new.one c.args.cell.now.first c.args.cell.now.count long there c.join.ensures.first events from fits some (sym tells.count)
+    (λ front sum h. c.join.ensures.tells front (stretch events c.args.cell.now.first c.args.cell.now.count) sum h tells) row
