@@ -1,10 +1,12 @@
 //! The answer to a command.
 
-ghost use Rattle.std.specs.Prelude.{◌≡◌, ◌++◌, ℕ, List, Option, OnOk};
+ghost use Rattle.std.specs.Prelude.{◌≡◌, ◌≢◌, ◌++◌, ℕ, List, Option, OnOk, length};
 ghost use Rattle.evm_gdb.specs.Answers.{answer_text};
 ghost use Rattle.evm_gdb.specs.Setting.{register_write};
 ghost use Rattle.evm_gdb_driving.specs.Kept.{KeepsJournal};
 ghost use Rattle.evm_gdb_driving.specs.Setting.{MakesAsked};
+ghost use Rattle.evm_gdb_packets.specs.Hexadecimal.{bytes_of_digits};
+ghost use Rattle.evm_ram.specs.Ram.{bytes_at};
 
 use crate::monitor::{LineEnd, run_monitor};
 use crate::questions::answer_question;
@@ -57,6 +59,8 @@ fn write_counted<D: Device>(
     bytes: &[u8],
 ) -> Result<(), Refusal>
     ensures kept { KeepsJournal machine.old machine.new }
+    ensures counted { length bytes.now ≢ count → machine.new ≡ machine.old }
+    ensures outside { bytes_at machine.old.board.memory.ram address (length bytes.now) ≡ Option.None → machine.new ≡ machine.old }
 {
     if bytes.len() as u64 != count {
         return Err(Refusal::BadAddress);
@@ -200,6 +204,7 @@ fn answer_digits<D: Device>(
     out: &mut Vec<u8>,
 ) -> Result<(), NoMemory>
     ensures kept { KeepsJournal session.old.machine session.new.machine }
+    ensures malformed { bytes_of_digits digits.now ≡ Option.None → session.new ≡ session.old }
 {
     match read_digits(digits, data) {
         Ok(true) => answer_data(session, command, data.as_slice(), told, out),

@@ -1,6 +1,6 @@
 //! Bytes of RAM.
 
-ghost use Rattle.std.specs.Prelude.{◌≡◌, ◌<◌, ◌++◌, length, OnOk};
+ghost use Rattle.std.specs.Prelude.{◌≡◌, ◌<◌, ◌++◌, length, OnOk, Option, Result};
 ghost use Rattle.evm_ram.specs.Ram.{bytes_at};
 ghost use Rattle.evm_gdb_driving.specs.Shown.{memory_reply};
 ghost use Rattle.evm_gdb_driving.specs.Kept.{KeepsJournal};
@@ -53,6 +53,7 @@ fn cut_block(bytes: &[u8]) -> (&[u8], &[u8])
 #[tactic(auto, using(crate::proofs::Kept::keeps_same, crate::proofs::Kept::keeps_more))]
 pub fn write<D: Device>(machine: &mut Machine<D>, address: u64, bytes: &[u8]) -> Result<(), Refusal>
     ensures kept { KeepsJournal machine.old machine.new }
+    ensures outside { bytes_at machine.old.board.memory.ram address (length bytes.now) ≡ Option.None → (machine.new ≡ machine.old) × (result ≡ Result.Err Refusal.BadAddress) }
 {
     if machine.bytes(address, bytes.len() as u64).is_none() {
         return Err(Refusal::BadAddress);
