@@ -4,7 +4,7 @@ ghost use Rattle.std.specs.Prelude.{◌≡◌, IfSome};
 ghost use Rattle.evm_model.specs.Replay.{IsReplayOf};
 ghost use Rattle.evm_shared.specs.EventCounts.{kind_counts};
 
-use evm_core::{Burst, Event, Machine};
+use evm_core::{Burst, Committed, Event, Machine};
 use evm_devs::Pins;
 use evm_elf::{read_image, write_bytes};
 use evm_exec::Hart;
@@ -52,8 +52,9 @@ pub(crate) fn commit_many<O: Origin, S: Ledger, B: Ledger, T: Ledger, R: Wait>(
     count: u32,
 ) {
     let burst = Burst::empty(Hart::default());
+    let mut done = Committed::none();
     for _ in 0..count {
-        if shared.commit(rt, port, 0, &burst).is_err() {
+        if shared.commit_into(rt, port, 0, &burst, &mut done).is_err() {
             return;
         }
     }

@@ -9,7 +9,7 @@ ghost use Rattle.evm_shared.specs.Workers.{WorkerValue};
 use crate::commits::{CAPACITY, blanks, commit_many};
 use evm_bells::{Bells, Taker};
 use evm_burst::{Cache, speculate};
-use evm_core::{Burst, Machine};
+use evm_core::{Burst, Committed, Machine};
 use evm_devs::Pins;
 use evm_elf::{read_image, write_bytes};
 use evm_exec::Hart;
@@ -216,14 +216,13 @@ fn hold_many<O: Origin, S: Ledger, B: Ledger, T: Ledger, R: Wait>(
     count: u32,
 ) -> u32 {
     let mut whole = 0u32;
+    let mut done = Committed::none();
     for _ in 0..count {
-        match shared.commit(rt, port, 0, burst) {
-            Err(_) => return whole,
-            Ok(done) => {
-                if done.steps == WHOLE {
-                    whole = whole.saturating_add(1);
-                }
-            }
+        if shared.commit_into(rt, port, 0, burst, &mut done).is_err() {
+            return whole;
+        }
+        if done.steps == WHOLE {
+            whole = whole.saturating_add(1);
         }
     }
     whole

@@ -1,5 +1,5 @@
 -- What contracts see of shares, of ports and of what lies under the lock.
-use Rattle.std.specs.Prelude.{◌≡◌, ℕ, ◌+◌, ◌-◌, ◌<◌, ◌≤◌, ◌⊎◌, ◌==◌, if◌then◌else◌, Bool, true, false, MatchBool, nat_lt, List, [], ◌∷◌, ◌++◌, length, None, Result, Ok, Err, MatchResult}
+use Rattle.std.specs.Prelude.{◌≡◌, ℕ, ◌+◌, ◌-◌, ◌<◌, ◌≤◌, ◌⊎◌, ◌==◌, if◌then◌else◌, Bool, true, false, MatchBool, nat_lt, List, [], ◌∷◌, ◌++◌, length, None, Result, Ok, Err, MatchResult, ⊤}
 use Rattle.evm_core.specs.Commit.{TakesBurst, LastAnswers, code_at, current_hart}
 use Rattle.evm_core.specs.Steps.{steps}
 use Rattle.evm_core.specs.declared.committing.Committed.{Committed}
@@ -122,6 +122,11 @@ RefusesBells s cpus c why =
     ((why ≡ Full) × (s.boot.capacity < length s.journal + LINES)) ⊎ ((why ≡ NoSuchCpu) × ((length s.board.parts.processors ≤ c) ⊎ (cpus ≤ c)))
 
 -- ---- calls through a port, by what they return and what they leave of the port
+
+-- what a call answers that puts its value into room which its caller lends
+abbrev pub with_room : Result ⊤ Refusal → Committed → Result Committed Refusal
+with_room (Ok done) room = Ok room
+with_room (Err why) room = Err why
 
 abbrev pub MakesSteps : State → ℕ → Speculated → Result Committed Refusal → PortValue → PortValue → Type 0
 MakesSteps start c burst result old new =

@@ -3,7 +3,7 @@ ghost use Rattle.evm_lines.specs.declared.TheConstants.{LINES};
 ghost use Rattle.evm_model.specs.Event.{event_lent};
 ghost use Rattle.evm_model.specs.Replay.{IsReplayOf};
 ghost use Rattle.evm_model.specs.State.{State};
-ghost use Rattle.evm_shared.specs.Ports.{HasBellRoom, MakesBells, MakesOne, MakesSteps, RefusesCpu, RefusesEither};
+ghost use Rattle.evm_shared.specs.Ports.{HasBellRoom, MakesBells, MakesOne, MakesSteps, RefusesCpu, RefusesEither, with_room};
 ghost use Rattle.evm_shared.specs.Receipts.{made_events};
 
 use crate::event_counts::EventCounts;
@@ -111,28 +111,30 @@ impl<D: Device, O: Origin, S: Ledger, B: Ledger, T: Ledger> Locked<D, O, S, B, T
     }
 
     // The Steps of a burst, and one more.
-    pub(crate) fn commit(
+    pub(crate) fn commit_into(
         &mut self,
         port: &mut Port<S, B, T>,
         cpu: u8,
         burst: &Burst,
-    ) -> Result<Committed, Refusal>
-        ensures call { MakesSteps O.start cpu burst.now result port.old port.new }
+        done: &mut Committed,
+    ) -> Result<(), Refusal>
+        ensures call { MakesSteps O.start cpu burst.now (with_room result done.new) port.old port.new }
         ensures refused { IfErr result (λ why. RefusesCpu O.start cpu why) }
     {
         self.machine.rules();
         let position = self.machine.event_count();
-        let result = self.machine.commit(cpu, burst);
-        // a `Committed` has 360 bytes: it is looked at where it is
-        match &result {
-            Err(refusal) => port.mark(*refusal),
-            Ok(done) => {
+        match self.machine.commit_into(cpu, burst, done) {
+            Err(refusal) => {
+                port.mark(refusal);
+                Err(refusal)
+            }
+            Ok(()) => {
                 let _count = self.machine.event_count();
                 port.count(&mut self.books, EventCounts::steps(done.steps));
                 port.record(position, Made::Steps(cpu, done.steps));
+                Ok(())
             }
         }
-        result
     }
 
     // A tick.

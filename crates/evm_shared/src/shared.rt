@@ -1,7 +1,7 @@
 ghost use Rattle.std.specs.Prelude.{◌≡◌, ◌≢◌, ◌+◌, ◌<◌, ◌≤◌, [], ◌∷◌, ◌++◌, false, length, replicate, IfErr, IfOk, MatchResult};
 ghost use Rattle.evm_model.specs.Replay.{IsReplayOf};
 ghost use Rattle.evm_shared.specs.EventCounts.{FitWords, kind_counts, none, plus};
-ghost use Rattle.evm_shared.specs.Ports.{MakesBells, MakesOne, MakesSteps, RefusesCpu, RefusesEither, RefusesPorts, bad_ports, fresh_port, made_by, shares_of};
+ghost use Rattle.evm_shared.specs.Ports.{MakesBells, MakesOne, MakesSteps, RefusesCpu, RefusesEither, RefusesPorts, bad_ports, fresh_port, made_by, shares_of, with_room};
 
 use crate::event_counts::EventCounts;
 use crate::ledgers::{Blanks, Books, Shares};
@@ -151,11 +151,31 @@ impl<D: Device, O: Origin, S: Ledger, B: Ledger, T: Ledger> Shared<D, O, S, B, T
         self.locked.lock(rt)
     }
 
-    /// Makes the Steps of a burst and one more, at least one, in one hold of the lock. Takes no memory.
+    /// Makes the Steps of a burst and one more, at least one, in one hold of the lock. Takes no memory. What it did is put
+    /// into the room that the caller lends.
     ///
     /// # Errors
     ///
     /// As [`Machine::commit`]: `Full`, or `NoSuchCpu` if there is no such processor.
+    pub fn commit_into<R: Wait>(
+        &self,
+        rt: &R,
+        port: &mut Port<S, B, T>,
+        cpu: u8,
+        burst: &Burst,
+        done: &mut Committed,
+    ) -> Result<(), Refusal>
+        ensures call { MakesSteps O.start cpu burst.now (with_room result done.new) port.old port.new }
+        ensures refused { IfErr result (λ why. RefusesCpu O.start cpu why) }
+    {
+        self.hold(rt).commit_into(port, cpu, burst, done)
+    }
+
+    /// As `commit_into`, with what it did as the answer.
+    ///
+    /// # Errors
+    ///
+    /// As of `commit_into`.
     pub fn commit<R: Wait>(
         &self,
         rt: &R,
@@ -166,7 +186,9 @@ impl<D: Device, O: Origin, S: Ledger, B: Ledger, T: Ledger> Shared<D, O, S, B, T
         ensures call { MakesSteps O.start cpu burst.now result port.old port.new }
         ensures refused { IfErr result (λ why. RefusesCpu O.start cpu why) }
     {
-        self.hold(rt).commit(port, cpu, burst)
+        let mut done = Committed::none();
+        self.commit_into(rt, port, cpu, burst, &mut done)?;
+        Ok(done)
     }
 
     /// Takes all lines that were rung of a processor, and makes a Bell of each in rising order, in one hold of the lock.

@@ -7,6 +7,7 @@ use crate::lookahead::Lookahead;
 use crate::port::Port;
 use crate::shared::Shared;
 use evm_bells::{Bells, Taker};
+use evm_core::Committed;
 use evm_dev::Device;
 use evm_model::Refusal;
 use std::alloc::Global;
@@ -124,7 +125,8 @@ impl<S: Ledger, B: Ledger, T: Ledger> Worker<S, B, T> {
         gate.before(self.cpu, turn);
         shared.deliver(rt, &mut self.port, bells, &mut self.taker, self.cpu)?;
         let burst = self.ahead.burst();
-        let done = shared.commit(rt, &mut self.port, self.cpu, &burst)?;
+        let mut done = Committed::none();
+        shared.commit_into(rt, &mut self.port, self.cpu, &burst, &mut done)?;
         self.ahead.keep(&done);
         gate.after(self.cpu, done.steps);
         Ok(())

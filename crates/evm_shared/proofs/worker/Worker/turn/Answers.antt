@@ -7,11 +7,11 @@ returns-clause-made g c = rw (← c.self.view_is) record {
   delivered = c.deliver.new.port;
   burst = c.burst-burst.result;
   used = c.burst-burst.new.self;
-  done = c.in_ok-done.done;
+  done = c.commit_into.new.done;
   taken = c.in_ok-deliver.ensures.taken;
   bells = c.in_ok-deliver.ensures.call;
   speculates = (c.burst-burst.ensures.ahead, c.burst-burst.ensures.used);
-  commits = c.in_ok-done.ensures.call;
+  commits = c.in_ok-commit_into.ensures.call;
   keeps = c.keep.ensures;
   same = (refl, c.deliver.ensures.seat);
 }
