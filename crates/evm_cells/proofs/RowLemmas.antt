@@ -185,6 +185,20 @@ stands (Err e) items out cell written events from fits some tells row = tt
 stands (Ok a) items out cell written events from fits some tells row =
     subst (λ x. IsRow events from x (cell.first + cell.count)) (sym written) (row-more events from items cell.first (cell.first + cell.count) cell row refl some tells refl)
 
+-- a cell of an item, behind the last
+pub item-stands : {A E : Type 0} → (r : Result A E) (items out : List Cell) (cell : Cell) (first n : ℕ) (event : Outline) → cell.first ≡ first → cell.count ≡ n
+    → (0 < n → Summarizes cell (replicate n event)) → OnOk r (out ≡ items ++ cell ∷ [])
+    → (events : List Outline) (from : ℕ) → first + n < 2 ^ 64 → 0 < n → stretch events first n ≡ replicate n event → IsRow events from items first
+    → OnOk r (IsRow events from out (first + n))
+item-stands r items out cell first n event begins count tells written events from fits some alike row =
+    let at : cell.first + cell.count ≡ first + n = omega (arith, begins, count) in
+    let few : cell.first + cell.count < 2 ^ 64 = omega (arith, at, fits) in
+    let one : 0 < cell.count = omega (arith, count, some) in
+    let same : stretch events cell.first cell.count ≡ replicate n event =
+    ap (λ (k : ℕ). stretch events k cell.count) begins ∙ ap (λ (k : ℕ). stretch events first k) count ∙ alike in
+    subst (λ (k : ℕ). OnOk r (IsRow events from out k)) at
+    (stands r items out cell written events from few one (subst (λ (es : List Outline). Summarizes cell es) (sym same) (tells some)) (subst (λ (k : ℕ). IsRow events from items k) (sym begins) row))
+
 -- the cells from one of them on
 drop-at : (cells : List Cell) (i : ℕ) (cell : Cell) → true ≡ ltb i (length cells) → cell ≡ get_or cells i cell → drop i cells ≡ cell ∷ drop (i + 1) cells
 drop-at cells i cell within at =

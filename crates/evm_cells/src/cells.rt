@@ -90,7 +90,14 @@ fn shares_of(item: &Item) -> [u64; LANE_LIMIT]
     shares
 }
 
-fn cell_of(item: &Item, lanes: &Lanes, kept: u32, dropped: u64) -> Cell
+// How many marks of an item are kept, and how many are not.
+#[derive(Clone, Copy)]
+struct Kept {
+    kept: u32,
+    dropped: u64,
+}
+
+fn cell_of(item: &Item, lanes: &Lanes, marks: Kept) -> Cell
     ensures first { result.first ≡ item.now.first }
     ensures count { result.count ≡ item.now.count }
     ensures tells { 0 < item.now.count → Summarizes result (replicate item.now.count item.now.event) }
@@ -103,8 +110,8 @@ fn cell_of(item: &Item, lanes: &Lanes, kept: u32, dropped: u64) -> Cell
         event: item.event,
         pc: item.pc,
         lanes: *lanes,
-        kept,
-        dropped,
+        kept: marks.kept,
+        dropped: marks.dropped,
     }
 }
 
@@ -145,8 +152,8 @@ fn add_share(shares: &mut [u64; LANE_LIMIT], lane: usize, count: u32)
     shares[lane] = shares[lane].saturating_add(u64::from(count));
 }
 
-// An item is joined to a cell, where that stands, with so many of its marks.
-fn join_item(cell: &mut Cell, item: &Item, kept: u32, dropped: u64)
+// An item is joined to a cell, where that stands.
+fn join_item(cell: &mut Cell, item: &Item, marks: Kept)
     ensures first { cell.new.first ≡ cell.old.first }
     ensures tells { (front : List Outline) → cell.old.count + item.now.count < 2 ^ 64 → Summarizes cell.old front → Summarizes cell.new (front ++ replicate item.now.count item.now.event) }
 {
@@ -157,8 +164,8 @@ fn join_item(cell: &mut Cell, item: &Item, kept: u32, dropped: u64)
         item.count,
     );
     cell.items = cell.items.saturating_add(1);
-    cell.kept = cell.kept.saturating_add(kept);
-    cell.dropped = cell.dropped.saturating_add(dropped);
+    cell.kept = cell.kept.saturating_add(marks.kept);
+    cell.dropped = cell.dropped.saturating_add(marks.dropped);
 }
 
 fn put<T: Drop>(items: &mut Vec<T>, item: T) -> Result<(), Refused>
@@ -226,25 +233,28 @@ fn put_cell(cells: &mut Vec<Cell>, cell: &Cell, joins: bool) -> Result<(), Refus
     }
 }
 
-// An item more, joined to the last cell, with so many of its marks.
+// An item more, joined to the last cell or not. A cell has 250 bytes: it is made where one begins, no more.
 fn put_item(
     cells: &mut Vec<Cell>,
     item: &Item,
     lanes: &Lanes,
-    kept: u32,
-    dropped: u64,
+    marks: Kept,
+    joins: bool,
 ) -> Result<(), Refused>
     ensures { (events : List Outline) (from : ℕ) → item.now.first + item.now.count < 2 ^ 64 → 0 < item.now.count
         → stretch events item.now.first item.now.count ≡ replicate item.now.count item.now.event → IsRow events from cells.old.items item.now.first
         → OnOk result (IsRow events from cells.new.items (item.now.first + item.now.count)) }
 {
+    if !joins {
+        return put(cells, cell_of(item, lanes, marks));
+    }
     let last = cells.len().saturating_sub(1);
     match cells.get_mut(last) {
         Some(last) => {
-            join_item(last, item, kept, dropped);
+            join_item(last, item, marks);
             Ok(())
         }
-        None => put(cells, cell_of(item, lanes, kept, dropped)),
+        None => put(cells, cell_of(item, lanes, marks)),
     }
 }
 
@@ -341,12 +351,8 @@ impl Timeline {
         let room = room_of(self.cells.as_slice(), self.span);
         let kept = keep(&mut self.marks, found, room.unwrap_or(0))?;
         let dropped = (found.len() as u64).saturating_sub(u64::from(kept));
-        // a cell has 250 bytes: it is made where one begins, no more
-        if room.is_some() {
-            put_item(&mut self.cells, item, lanes, kept, dropped)?;
-        } else {
-            put(&mut self.cells, cell_of(item, lanes, kept, dropped))?;
-        }
+        let marks = Kept { kept, dropped };
+        put_item(&mut self.cells, item, lanes, marks, room.is_some())?;
         self.bound(alloc)
     }
 }

@@ -404,6 +404,10 @@ impl Changes {
         ensures { OnOk result (instants_in list.new.items ≡ instants_in list.old.items ++ flat_map (instants_of at) marks.now) }
     {
         self.marks(list, look, marks, at)?;
+        // without a mark no track shows anything else
+        if marks.is_empty() {
+            return Ok(());
+        }
         self.keep(look);
         show(list, look, at.saturating_add(1))
     }
