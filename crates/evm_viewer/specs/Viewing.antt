@@ -1,7 +1,9 @@
 -- What a run of the viewer writes, and its status.
-use Rattle.std.specs.Prelude.{◌≡◌, ℕ, List, Result, Ok, Err, length, map}
+use Rattle.std.specs.Prelude.{◌≡◌, ◌⊎◌, ℕ, List, Result, Ok, Err, length, map}
 use Rattle.evm_streams.specs.declared.sink.Writing.{Writing}
 use Rattle.evm_streams.specs.Writes.{Took}
+use Rattle.evm_host.specs.declared.system.OpenFault.{OpenFault}
+use Rattle.evm_host.specs.declared.system.World.{World}
 use Rattle.evm_image.specs.Images.{Contents}
 use Rattle.evm_model.specs.Devices.{Attached}
 use Rattle.evm_model.specs.Event.{Event}
@@ -27,6 +29,16 @@ TellsRun devices image text window timeline =
 abbrev pub IsPictured : {W : Type 0} → (W → Writing → List ℕ → W → Type 0) → Timeline → W → W → Type 0
 IsPictured takes timeline start sink =
     (bytes : List ℕ) × Took takes start bytes sink × ∥ IsElement Svg (boxes_of timeline.cpu_count timeline.cells.items) bytes ∥₁
+
+module _ {S O C I W E : Type 0} (creates : S → List ℕ → Result C OpenFault → S → Type 0) (created : C → Writing → List ℕ → C → Type 0)
+    (writes : W → Writing → List ℕ → W → Type 0) where
+  -- standard output took the picture of a timeline, or the file that was created under this name
+  abbrev pub IsDrawn : List ℕ → Timeline → World S O C I W E → World S O C I W E → Type 0
+  IsDrawn out timeline w w' = IsPictured writes timeline w.output w'.output ⊎ ((file took : C) × creates w.files out (Ok file) w'.files × IsPictured created timeline file took)
+
+  -- .. the picture of the window of a run
+  abbrev pub DrawsRun : List Attached → Contents → List ℕ → Window → World S O C I W E → World S O C I W E → Type 0
+  DrawsRun devices image text window w w' = (timeline : Timeline) × (out : List ℕ) × TellsRun devices image text window timeline × IsDrawn out timeline w w'
 
 -- the status of a run that ended so
 abbrev pub status_of : ViewEnd → ℕ

@@ -1,10 +1,13 @@
 //! A journal's run, shown as the words ask for.
 
+ghost use Rattle.std.specs.Prelude.{◌≡◌, ◌≢◌, OnErr, false};
+ghost use Rattle.evm_viewer.specs.Viewing.{DrawsRun, IsDrawn};
+
 use crate::drawing::{ViewEnd, draw_to, timeline_of, write_to};
 use crate::reports::{Files, STANDARD_OUTPUT, stopped};
 use crate::words::Job;
 use evm_devs::AnyDevice;
-use evm_host::{Devices, System, World, not_created};
+use evm_host::{Devices, Sink, System, World, not_created};
 use evm_image::Image;
 use evm_program::Meter;
 use evm_view::{Picture, Symbols, Timeline};
@@ -20,10 +23,14 @@ pub(crate) struct Input<'a> {
     pub(crate) journal: &'a str,
 }
 
-fn status<S: System>(files: Files<'_>, end: Result<(), ViewEnd>, world: &mut World<S>) -> u8 {
+// The status of a run: 0 if it was shown.
+#[tactic(auto, using(crate::proofs::Statuses::never_zero))]
+fn status<E: Sink>(files: Files<'_>, end: Result<(), ViewEnd>, errors: &mut E) -> u8
+    ensures { OnErr end (result ≢ 0) }
+{
     match end {
         Ok(()) => 0,
-        Err(end) => stopped(files, end, &mut world.errors),
+        Err(end) => stopped(files, end, errors),
     }
 }
 
@@ -33,16 +40,18 @@ fn draw<S: System>(
     files: Files<'_>,
     picture: &Picture<'_>,
     world: &mut World<S>,
-) -> u8 {
+) -> u8
+    ensures { result ≡ 0 → IsDrawn S.creates S.Created.takes S.Output.takes files.entry.out.now picture.now.timeline.now world.old world.new }
+{
     if files.out == STANDARD_OUTPUT {
         let end = draw_to(alloc, picture, &mut world.output);
-        return status(files, end, world);
+        return status(files, end, &mut world.errors);
     }
     match world.files.create(files.out) {
         Err(fault) => not_created(files.out, fault, &mut world.errors),
         Ok(mut file) => {
             let end = draw_to(alloc, picture, &mut file);
-            status(files, end, world)
+            status(files, end, &mut world.errors)
         }
     }
 }
@@ -55,7 +64,9 @@ fn show_timeline<S: System>(
     timeline: &Timeline,
     parts: Option<u64>,
     world: &mut World<S>,
-) -> u8 {
+) -> u8
+    ensures { input.now.job.text ≡ false → result ≡ 0 → IsDrawn S.creates S.Created.takes S.Output.takes files.entry.out.now timeline.now world.old world.new }
+{
     let picture = Picture {
         timeline,
         symbols: input.symbols,
@@ -63,7 +74,7 @@ fn show_timeline<S: System>(
     };
     if input.job.text {
         let end = write_to(alloc, &picture, &mut world.output);
-        return status(files, end, world);
+        return status(files, end, &mut world.errors);
     }
     draw(alloc, files, &picture, world)
 }
@@ -76,7 +87,9 @@ pub(crate) fn show_run<S: System, M: Meter>(
     parts: Option<u64>,
     meter: &mut M,
     world: &mut World<S>,
-) -> u8 {
+) -> u8
+    ensures { input.now.job.text ≡ false → result ≡ 0 → DrawsRun S.creates S.Created.takes S.Output.takes devices input.now.image.now input.now.journal.now input.now.job.window world.old world.new }
+{
     let job = input.job;
     let files = Files {
         image: input.image,
