@@ -145,6 +145,32 @@ woken-waiters owns stamp tasks mid new t waiters are e g =
     (λ task. woken-awaits (is_weak task.class && not owns) task.state stamp) are
     (g ∙ ap (λ (xs : List Task). change (stamped stamp) xs t) e ∙ change-twice (stamped stamp) (woken owns) tasks t)
 
+-- .. and boosts nobody
+ready-locks : (stage : Stage) (returns : Bool) → lock_of (ready_on stage returns) ≡ None
+ready-locks OutOfBand true = refl
+ready-locks OutOfBand false = refl
+ready-locks InBand true = refl
+ready-locks InBand false = refl
+
+woken-locks : (returns : Bool) (state : TaskState) → lock_of (woken_state returns state) ≡ None
+woken-locks returns InReady = refl
+woken-locks returns OobReady = refl
+woken-locks returns (Waits wait) = ready-locks (stage_of_wait wait) returns
+woken-locks returns Exit = refl
+woken-locks returns (Faulted fault) = refl
+
+task-locks : (owns : Bool) (stamp : ℕ) (o : Option Task) → lock_of_task (option_map (λ task. stamped stamp (woken owns task)) o) ≡ None
+task-locks owns stamp None = refl
+task-locks owns stamp (Some task) = woken-locks (is_weak task.class && not owns) task.state
+
+pub woken-alone : (owns : Bool) (stamp : ℕ) (mutexes : List Mutex) (tasks mid new : List Task) (t : ℕ) → mid ≡ change (woken owns) tasks t → new ≡ change (stamped stamp) mid t
+    → boosts mutexes new t ≡ None
+woken-alone owns stamp mutexes tasks mid new t e g =
+    let is : new ≡ change (λ task. stamped stamp (woken owns task)) tasks t =
+    g ∙ ap (λ (xs : List Task). change (stamped stamp) xs t) e ∙ change-twice (stamped stamp) (woken owns) tasks t in
+    ap (heir_for mutexes)
+    (ap (λ (xs : List Task). lock_at xs t) is ∙ ap lock_of_task (change-here (λ task. stamped stamp (woken owns task)) tasks t) ∙ task-locks owns stamp (slice_get tasks t))
+
 pub out-first : (o : Option ℕ) (rest : ℕ → Bool) (u : ℕ) → with_task o rest u ≡ false → is_number o u ≡ false
 out-first o rest u e = by (is_number o u) refl
   where

@@ -23,7 +23,7 @@ ghost use Rattle.evm_wait.specs.Waiters.{awaited, stamped_waiter};
 use crate::mutexes::Mutexes;
 use crate::ranks::class_rank;
 use evm_model::{Class, MUTEX_LIMIT, Mutex, Protocol, TASK_LIMIT, Task, TaskState, Wait};
-use evm_ready::{READY_QUEUE_LIMIT, Ready, place_of};
+use evm_ready::{Place, READY_QUEUE_LIMIT, Ready, place_of};
 use evm_room::Refused;
 use evm_task::Tasks;
 use evm_wait::{Waiter, Waiting, waiter_of};
@@ -126,9 +126,24 @@ impl Schedule {
         ensures sound { self.new.sound ≡ self.old.sound }
     {
         self.waiting.set(t, None);
-        if let Some(task) = tasks.as_slice().get(t as usize) {
-            self.ready.set(t, place_of(task));
+        let Some(task) = tasks.as_slice().get(t as usize) else {
+            return;
+        };
+        match place_of(task) {
+            Some(place) if self.ready.is_away(t) => self.ready.enter(t, place),
+            place => self.move_ready(t, place),
         }
+    }
+
+    // A task that may be ready already is ready there, or isn't ready. Apart, as it is rare.
+    #[inline(never)]
+    fn move_ready(&mut self, t: u8, place: Option<Place>)
+        ensures places { self.new.places ≡ change (λ _. place) self.old.places t }
+        ensures waiters { self.new.waiters ≡ self.old.waiters }
+        ensures ranks { self.new.ranks ≡ self.old.ranks }
+        ensures sound { self.new.sound ≡ self.old.sound }
+    {
+        self.ready.set(t, place);
     }
 
     // Whether chains stay open where a task boosts this one, if any.
@@ -167,6 +182,16 @@ impl Schedule {
         let open = self.is_open(mutexes, tasks, t, heir);
         self.trust(open);
         self.mend(mutexes, tasks, before, heir);
+    }
+
+    // The same where task t boosts nobody now, so that no chain closes.
+    #[inline(always)]
+    fn unlink(&mut self, mutexes: &Mutexes, tasks: &Tasks, t: u8, before: Option<u8>)
+        requires relinked { IsRelinked self.old mutexes.now tasks.now t before }
+        requires alone { boosts mutexes.now tasks.now t ≡ None }
+        ensures { IsScheduled self.new mutexes.now tasks.now }
+    {
+        self.mend(mutexes, tasks, before, None);
     }
 
     /// A task has another state.
@@ -233,7 +258,7 @@ impl Schedule {
         tasks.end_wait(t, owns);
         tasks.set_stamp(t, stamp);
         self.enter_ready(tasks, t);
-        self.relink(mutexes, tasks, t, before);
+        self.unlink(mutexes, tasks, t, before);
     }
 
     /// A task has another stamp.

@@ -1,6 +1,6 @@
 -- What the turns that a list gives say of its entries.
 use Rattle.std.proofs.Common.{◌≡◌, ℕ, zero, suc, List, [], ◌∷◌, ◌++◌, Option, Some, None, length, refl, ap, sym, ◌∙◌, arith}
-use Rattle.std.specs.Prelude.{slice_get}
+use Rattle.std.specs.Prelude.{option_and_then, slice_get}
 use Rattle.evm_model.specs.Lists.{change, change_some}
 use Rattle.evm_ready.specs.declared.turn.Turn.{Turn}
 use Rattle.evm_ready.specs.ListedRanks.{listed_rank}
@@ -31,6 +31,15 @@ turns-entry {X = X} f (p ∷ xs) (r ∷ ranks) (suc t) x e =
     change-cons (λ _. turn_for f x (listed_rank ranks t)) (turn_for f p r) (turns_for f xs ranks) t
     ∙ ap (λ (turns : List Turn). turn_for f p r ∷ turns) (turns-entry f xs ranks t x (omega arith))
     ∙ sym (ap (λ (ps : List (Option X)). turns_for f ps (r ∷ ranks)) (change-cons (λ _. x) p xs t))
+
+-- a task without an entry is in no queue
+pub turn-away : {X : Type 0} (f : X → ℕ → Turn) (xs : List (Option X)) (ranks : List ℕ) (t : ℕ) → entry xs t ≡ None
+    → option_and_then (λ (turn : Turn). turn.queue) (slice_get (turns_for f xs ranks) t) ≡ None
+turn-away {X = X} f [] ranks t e = refl
+turn-away {X = X} f (p ∷ xs) [] t e = refl
+turn-away {X = X} f (None ∷ xs) (r ∷ ranks) zero e = refl
+turn-away {X = X} f (Some x ∷ xs) (r ∷ ranks) zero e = cc
+turn-away {X = X} f (p ∷ xs) (r ∷ ranks) (suc t) e = turn-away f xs ranks t e
 
 pub turns-rank : {X : Type 0} (f : X → ℕ → Turn) (xs : List (Option X)) (ranks : List ℕ) (t rank : ℕ) → length ranks ≡ length xs
     → change (λ _. turn_for f (entry xs t) rank) (turns_for f xs ranks) t ≡ turns_for f xs (change (λ _. rank) ranks t)

@@ -6,7 +6,7 @@ use Rattle.evm_model.specs.declared.limits.TheConstants.{TASK_LIMIT}
 use Rattle.evm_model.proofs.Lists.{change-here, change-same, length-change, slice_get-set_same}
 use Rattle.evm_ready.specs.declared.turn.Turn.{Turn}
 use Rattle.evm_ready.specs.Places.{entry, entry_of}
-use Rattle.evm_ready.specs.Queues.{has, is_in, restamped, turn_for, turns_for, IsInOrder, AreQueued, AreQueuedBut, IsBitmap}
+use Rattle.evm_ready.specs.Queues.{has, restamped, turn_for, turns_for, IsInOrder, AreQueued, AreQueuedBut, IsBitmap}
 use Rattle.evm_ready.proofs.Filing.{queue_of, is_in-here, join-none, leave-none, join-past, leave-past, joined, left, room-for, absent-from, bitmap-set, use-has}
 use Rattle.evm_ready.proofs.Listed_turns.{change-cons}
 use Rattle.evm_ready.proofs.Members.{has-at}

@@ -4,8 +4,8 @@ ghost use Rattle.std.specs.Prelude.{◌≡◌, ◌≢◌, ◌≤◌, ◌<◌, �
 ghost use Rattle.std.specs.Int.{bit_at};
 ghost use Rattle.evm_ready.specs.Queues.{bit_of};
 
-// How many words a bitmap has.
-pub(crate) const BITMAP_WORDS: usize = 32;
+/// How many words a bitmap has.
+pub const BITMAP_WORDS: usize = 32;
 
 fn with_bit(word: u64, i: usize) -> u64
     requires { i < 64 }

@@ -10,6 +10,7 @@ mod ready;
 mod turn;
 mod turns;
 
+pub use bitmap::BITMAP_WORDS;
 pub use order::{is_before, listed_rank};
 pub use place::{Place, place_of};
 pub use ready::Ready;

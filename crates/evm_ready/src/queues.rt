@@ -52,6 +52,7 @@ impl Queues {
     }
 
     // Task t comes to the queue of its turn.
+    #[inline(always)]
     pub(crate) fn join(&mut self, turns: &[Turn], t: u8)
         requires queued { AreQueuedBut t turns.now self.old }
         requires limit { length turns.now ≤ TASK_LIMIT }
@@ -65,6 +66,17 @@ impl Queues {
             queue.insert(turns, t);
             set_bit(&mut self.words, q);
         }
+    }
+
+    // As `join`, for callers on whose path it is rare.
+    #[inline(never)]
+    pub(crate) fn join_apart(&mut self, turns: &[Turn], t: u8)
+        requires queued { AreQueuedBut t turns.now self.old }
+        requires limit { length turns.now ≤ TASK_LIMIT }
+        ensures queued { AreQueued turns.now self.new }
+        ensures count { length self.new ≡ length self.old }
+    {
+        self.join(turns, t);
     }
 
     // Task t goes from the queue of its turn.

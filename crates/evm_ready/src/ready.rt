@@ -1,4 +1,4 @@
-ghost use Rattle.std.specs.Prelude.{◌≡◌, ◌<◌, ◌≤◌, ◌+◌, ◌*◌, ◌++◌, ◌∷◌, ℕ, List, Option, [], length, option_map, IfOk, IfErr};
+ghost use Rattle.std.specs.Prelude.{◌≡◌, ◌<◌, ◌≤◌, ◌+◌, ◌*◌, ◌++◌, ◌∷◌, ℕ, List, Option, [], true, length, option_map, IfOk, IfErr};
 ghost use Rattle.arrayvec.specs.ArrayVec.{array_vec_len};
 ghost use Rattle.evm_model.specs.Lists.{change};
 ghost use Rattle.evm_model.specs.Ranks.{first, leader};
@@ -121,6 +121,29 @@ impl Ready {
         }
     }
 
+    /// Whether task t is ready nowhere.
+    #[inline(always)]
+    pub fn is_away(&self, t: u8) -> bool
+        ensures { result ≡ true → entry self.now.places t ≡ Option.None }
+    {
+        self.get(t).is_none()
+    }
+
+    /// Task t, which is ready nowhere, is ready there.
+    #[inline(always)]
+    pub fn enter(&mut self, t: u8, place: Place)
+        requires { entry self.old.places t ≡ Option.None }
+        ensures places { self.new.places ≡ change (λ _. Option.Some place) self.old.places t }
+        ensures ranks { self.new.ranks ≡ self.old.ranks }
+    {
+        let rank = self.rank(t);
+        if let Some(entry) = self.places.get_mut(t as usize) {
+            self.oob += oob_bit(Some(place));
+            *entry = Some(place);
+            self.turns.enter(t, turn_of(Some(place), rank));
+        }
+    }
+
     /// Task t is ready since this stamp, where it is ready, if it is.
     #[inline(always)]
     pub fn restamp(&mut self, t: u8, stamp: u64)
@@ -206,6 +229,7 @@ impl Ready {
     }
 
     // The same by a look at each task, for a processor that has no queues.
+    #[inline(never)]
     #[tactic(auto, using(crate::proofs::Scans::scans))]
     fn best_of_all(&self, c: u8) -> Option<u8>
         ensures { result ≡ first (λ t. runs_oob c (entry self.now.places t)) (listed_rank self.now.ranks) (λ t. place_stamp (entry self.now.places t)) (length self.now.places) }
@@ -232,6 +256,7 @@ impl Ready {
     }
 
     // The same by a look at each task, for a processor that has no queues.
+    #[inline(never)]
     #[tactic(auto, using(crate::proofs::Scans::scans))]
     fn next_of_all(&self, c: u8) -> Option<u8>
         ensures { result ≡ first (λ t. runs_in_band c (entry self.now.places t)) (λ _. 0) (λ t. place_stamp (entry self.now.places t)) (length self.now.places) }

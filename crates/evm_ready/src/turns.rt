@@ -1,7 +1,8 @@
-ghost use Rattle.std.specs.Prelude.{◌≡◌, ◌≤◌, ◌<◌, ◌+◌, ◌*◌, ◌++◌, ◌∷◌, ℕ, [], true, length, IfOk, IfErr, IfSome, IfNone};
+ghost use Rattle.std.specs.Prelude.{◌≡◌, ◌≤◌, ◌<◌, ◌+◌, ◌*◌, ◌++◌, ◌∷◌, ℕ, [], true, length, option_and_then, slice_get, Option, IfOk, IfErr, IfSome, IfNone};
 ghost use Rattle.arrayvec.specs.ArrayVec.{array_vec_len};
 ghost use Rattle.evm_model.specs.Lists.{change};
 ghost use Rattle.evm_model.specs.Ranks.{first};
+ghost use Rattle.evm_ready.specs.declared.bitmap.TheConstants.{BITMAP_WORDS};
 ghost use Rattle.evm_ready.specs.Queues.{is_in, restamped, turn_rank, turn_stamp, NoneIn};
 
 use crate::queues::Queues;
@@ -35,13 +36,13 @@ impl Model for Turns {
 }
 
 impl Turns {
-    /// No task, and 64 queues for each word of their bitmap, of which there are 32 at the most.
+    /// No task, and 64 queues for each word of their bitmap.
     ///
     /// # Errors
     ///
     /// Where the allocation of their room failed.
     pub fn new(alloc: Global, words: u8) -> Result<Turns, Refused>
-        requires { words ≤ 32 }
+        requires { words ≤ BITMAP_WORDS }
         ensures turns { IfOk result (λ made. made.turns ≡ []) }
         ensures count { IfOk result (λ made. made.count ≡ words * 64) }
         ensures refused { IfErr result (λ asked. asked ≡ words * 64) }
@@ -61,7 +62,7 @@ impl Turns {
     {
         let t = self.turns.len() as u8;
         self.turns.push(turn);
-        self.queues.join(self.turns.as_slice(), t);
+        self.queues.join_apart(self.turns.as_slice(), t);
     }
 
     /// Task t has this turn.
@@ -74,8 +75,19 @@ impl Turns {
         self.queues.leave(self.turns.as_slice(), t);
         set_turn(&mut self.turns, t, turn);
         if turn.queue.is_some() {
-            self.queues.join(self.turns.as_slice(), t);
+            self.queues.join_apart(self.turns.as_slice(), t);
         }
+    }
+
+    /// Task t, which is in no queue, has this turn.
+    #[inline(always)]
+    pub fn enter(&mut self, t: u8, turn: Turn)
+        requires { option_and_then (λ turn. turn.queue) (slice_get self.old.turns t) ≡ Option.None }
+        ensures turns { self.new.turns ≡ change (λ _. turn) self.old.turns t }
+        ensures count { self.new.count ≡ self.old.count }
+    {
+        set_turn(&mut self.turns, t, turn);
+        self.queues.join(self.turns.as_slice(), t);
     }
 
     /// Task t has another stamp; its queue and its rank stay.

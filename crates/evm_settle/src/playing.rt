@@ -7,7 +7,8 @@ use evm_model::{Stage, TASK_LIMIT};
 use evm_parts::Parts;
 
 // Plays the timer's line: it goes on into the in-band log, waits end by their deadlines, timers expire, and the slice of
-// the task that was current takes a tick.
+// the task that was current takes a tick. Apart, so that other lines have the registers.
+#[inline(never)]
 #[tactic(auto, using(crate::proofs::Rooms::clocks), unfolding(evm_model::specs::Settle::play_tick))]
 fn play_tick(parts: &mut Parts, was: Option<u8>, c: u8)
     requires room { PipesUpTo COUNT_LIMIT parts.old.pipes }

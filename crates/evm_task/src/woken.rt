@@ -1,7 +1,7 @@
 //! What becomes of a task whose wait is over.
 
 ghost use Rattle.std.specs.Prelude.{◌≡◌};
-ghost use Rattle.evm_model.specs.Waits.{stage_of_wait, woken, woken_state};
+ghost use Rattle.evm_model.specs.Waits.{ready_on, stage_of_wait, woken};
 
 use evm_model::{Class, Stage, Task, TaskState, Wait};
 
@@ -15,14 +15,11 @@ fn stage_of(wait: Wait) -> Stage
     }
 }
 
-// The state after a wait: ready on the stage on which the task waited, but in-band if it returns.
-fn woken_state(returns: bool, state: TaskState) -> TaskState
-    ensures { result ≡ woken_state returns state }
+// The state after a wait on a stage: ready there, but in-band if the task returns.
+fn ready_on(stage: Stage, returns: bool) -> TaskState
+    ensures { result ≡ ready_on stage returns }
 {
-    let TaskState::Waits(wait) = state else {
-        return state;
-    };
-    match stage_of(wait) {
+    match stage {
         Stage::OutOfBand if !returns => TaskState::OobReady,
         _ => TaskState::InReady,
     }
@@ -32,6 +29,9 @@ fn woken_state(returns: bool, state: TaskState) -> TaskState
 pub(crate) fn wake(task: &mut Task, owns: bool)
     ensures { task.new ≡ woken owns task.old }
 {
-    task.state = woken_state(task.class == Class::Weak && !owns, task.state);
+    if let TaskState::Waits(wait) = task.state {
+        let returns = task.class == Class::Weak && !owns;
+        task.state = ready_on(stage_of(wait), returns);
+    }
     task.deadline = 0;
 }

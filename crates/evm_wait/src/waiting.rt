@@ -185,6 +185,7 @@ impl Waiting {
     }
 
     // The same by a look at each task, for what has no queue.
+    #[inline(never)]
     #[tactic(auto, using(evm_ready::proofs::Scans::scans))]
     fn first_of_all(&self, wait: Wait) -> Option<u8>
         ensures { result ≡ first (λ t. waits_for wait (entry self.now.waiters t)) (listed_rank self.now.ranks) (λ t. waiter_stamp (entry self.now.waiters t)) (length self.now.waiters) }

@@ -1,11 +1,11 @@
-use Rattle.std.proofs.Common.{◌≡◌, ◌≤◌, ◌∙◌, ℕ, List, ◌∷◌, Some, None, length, sym, refl, ap}
-use Rattle.std.specs.Prelude.{slice_get, ◌&&◌, ◌==◌, not}
+use Rattle.std.proofs.Common.{◌≡◌, ◌≤◌, Some, None, length, sym, refl}
+use Rattle.std.specs.Prelude.{slice_get}
 use Rattle.std.proofs.lemmas.Option.{slice_get_read, slice_get_past}
 use Rattle.evm_model.specs.Lists.{change}
 use Rattle.evm_model.specs.declared.limits.TheConstants.{TASK_LIMIT}
-use Rattle.evm_ready.specs.Queues.{has, restamped, AreQueued, IsInOrder}
+use Rattle.evm_ready.specs.Queues.{restamped, AreQueued, IsInOrder}
 use Rattle.evm_ready.proofs.Filing.{queue_of}
-use Rattle.evm_ready.proofs.Restamping.{restamped-none, restamped-past, between-order, between-room, between-absent, requeued, requeued-bit}
+use Rattle.evm_ready.proofs.Restamping.{restamped-none, restamped-past, between-order, between-room, requeued, requeued-bit}
 use Rattle.evm_ready.proofs.queues.Queues.restamp.Goals as goal
 
 pub returns-in_default-clause-queued : goal.returns-in_default-clause-queued
