@@ -1,5 +1,6 @@
 //! Each part meets its rows: what each event except a Step changes, which task is first, which refusal is reported.
 ghost use Rattle.std.specs.Prelude.{◌≡◌, ◌≢◌, ◌+◌, ◌^◌, ◌<◌, ◌≤◌, ◌++◌, ℕ, List, [], ◌∷◌, Bool, true, false, Option, Result, if◌then◌else◌, slice_get, slice_index, length, option_map};
+ghost use Rattle.evm_exec.specs.declared.hart.TheConstants.{REGISTERS};
 ghost use Rattle.evm_exec.specs.Registers.{register_of, with_register};
 ghost use Rattle.evm_exec.specs.declared.hart.Hart.{Hart};
 ghost use Rattle.evm_isa.specs.Decoded.{decoded};
@@ -79,7 +80,7 @@ pub fn an_image_stands_in_ram()
 pub fn an_image_begins_at_its_entry()
     ensures hart { (devices : List Attached) (byte : ℕ → ℕ) (entry : ℕ) (boot : Boot) →
         (hart : Hart) × ((start_loaded devices byte entry boot).board.parts.harts ≡ hart ∷ [])
-        × (hart.pc ≡ entry) × (length hart.regs ≡ 32) × (register_of hart.regs 2 ≡ BASE + boot.ram)
+        × (hart.pc ≡ entry) × (length hart.regs ≡ REGISTERS) × (register_of hart.regs 2 ≡ BASE + boot.ram)
         × ((r : ℕ) → r < 32 → r ≢ 2 → register_of hart.regs r ≡ 0) }
     ensures rest { (devices : List Attached) (byte : ℕ → ℕ) (entry : ℕ) (boot : Boot) (booted loaded : State) →
         booted ≡ start devices boot → loaded ≡ start_loaded devices byte entry boot →

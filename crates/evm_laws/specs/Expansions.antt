@@ -8,6 +8,7 @@ use Rattle.evm_elf.specs.evm_asm.Places.{load_size}
 use Rattle.evm_elf.specs.evm_asm.Sizes.{address_of_line, size_of_text}
 use Rattle.evm_elf.specs.evm_asm.declared.item.Expansion.{Expansion}
 use Rattle.evm_elf.specs.evm_asm.declared.item.Expansion.TheVariants.{Empty, Single, Double}
+use Rattle.evm_exec.specs.declared.hart.TheConstants.{REGISTERS}
 use Rattle.evm_exec.specs.Numbers.{extended}
 use Rattle.evm_exec.specs.declared.hart.Hart.{Hart}
 use Rattle.evm_model.specs.State.{Board, on_hart, on_parts}
@@ -20,13 +21,13 @@ all_executed Empty c t b = b
 all_executed (Single i) c t b = execute_task c t b
 all_executed (Double i j) c t b = execute_task c t (execute_task c t b)
 
--- the words of a program stand in RAM, and the pc of task t, which has 32 registers, is at line n of the source
+-- the words of a program stand in RAM, and the pc of task t, which has all registers, is at line n of the source
 pub record ComesTo (source : List ℕ) (p : Assembled) (n t : ℕ) (hart : Hart) (b : Board) : Type 0 where
   pub assembled : program_of source ≡ Ok p
   pub words : All (HasLine b.memory) p.lines
   pub there : slice_get b.parts.harts t ≡ Some hart
   pub pc : hart.pc ≡ address_of_line source n
-  pub registers : length hart.regs ≡ 32
+  pub registers : length hart.regs ≡ REGISTERS
 
 -- at li the task gets its number, and nothing else of the machine changes
 abbrev pub EachLiIsExecuted : Type 0

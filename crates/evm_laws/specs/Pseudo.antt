@@ -9,6 +9,7 @@ use Rattle.evm_elf.specs.evm_asm.Places.{load_size}
 use Rattle.evm_elf.specs.evm_asm.Sizes.{Says, address_of_line, size_of_text}
 use Rattle.evm_elf.specs.evm_asm.declared.item.Expansion.{Expansion}
 use Rattle.evm_elf.specs.evm_asm.declared.item.Expansion.TheVariants.{Empty, Single, Double}
+use Rattle.evm_exec.specs.declared.hart.TheConstants.{REGISTERS}
 use Rattle.evm_exec.specs.Does.{does, hart_after}
 use Rattle.evm_exec.specs.Numbers.{extended}
 use Rattle.evm_exec.specs.Registers.{register_of, with_register}
@@ -62,13 +63,13 @@ pub record Becomes (source : List ℕ) (n : ℕ) (statement : Statement) (expans
 abbrev pub EachLiLoads : Type 0
 EachLiLoads =
     (source : List ℕ) (n rd : ℕ) (value : ℤ) (expansion : Expansion) (hart : Hart) → Becomes source n (LoadImmediate rd value) expansion
-    → length hart.regs ≡ 32 → expansion_after expansion hart ≡ Some (loaded rd (extended value) (load_size value) hart)
+    → length hart.regs ≡ REGISTERS → expansion_after expansion hart ≡ Some (loaded rd (extended value) (load_size value) hart)
 
 -- every la of every source leaves the address of the label that its line says, where the pc is at the line
 abbrev pub EachLaLoads : Type 0
 EachLaLoads =
     (source : List ℕ) (n rd : ℕ) (spot : Spot) (expansion : Expansion) (hart : Hart) → Becomes source n (LoadAddress rd (Some spot)) expansion
-    → length hart.regs ≡ 32 → hart.pc ≡ address_of_line source n
+    → length hart.regs ≡ REGISTERS → hart.pc ≡ address_of_line source n
     → expansion_after expansion hart ≡ Some (loaded rd (address (size_of_text source) spot) 8 hart)
 
 -- the registers of both are among the 32, and the numbers of li have 32 bits

@@ -2,6 +2,7 @@
 use Rattle.std.specs.Prelude.{◌≡◌, ℕ, ◌≤◌, List, Some, slice_get, length, map}
 use Rattle.evm_dev.specs.declared.kind.Kind.{Kind}
 use Rattle.evm_exec.specs.declared.hart.Hart.{Hart}
+use Rattle.evm_exec.specs.declared.hart.TheConstants.{REGISTERS}
 use Rattle.evm_model.specs.Devices.{Attached}
 use Rattle.evm_model.specs.Load.{start_loaded}
 use Rattle.evm_model.specs.Replay.{start, replay}
@@ -10,9 +11,9 @@ use Rattle.evm_model.specs.declared.boot.Boot.{Boot}
 use Rattle.evm_model.specs.Event.{Event}
 use Rattle.evm_model.specs.declared.limits.TheConstants.{TASK_LIMIT}
 
--- there are 32 registers, and x0 is zero
+-- as many registers as a hart has, and x0 is zero
 pub record AreRegisters (regs : List ℕ) : Type 0 where
-  pub count : length regs ≡ 32
+  pub count : length regs ≡ REGISTERS
   pub zero_first : slice_get regs 0 ≡ Some 0
 
 abbrev pub AllHaveRegisters : List Hart → Type 0

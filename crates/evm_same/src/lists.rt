@@ -3,12 +3,14 @@
 ghost use Rattle.std.specs.Prelude.{◌≡◌, ◌<◌, ℕ, true, slice_get};
 ghost use Rattle.evm_core.specs.Views.{counts_at};
 ghost use Rattle.evm_lines.specs.declared.TheConstants.{LINES as LINE_LIMIT};
+ghost use Rattle.evm_model.specs.declared.limits.TheConstants.{TASK_LIMIT};
 ghost use Rattle.evm_same.specs.Same.{AreSameAt, AreSameLines, AreSameObjects, AreSameRunners};
 
 use crate::values::{same_processors, same_stages, same_tasks};
 use evm_core::Machine;
 use evm_dev::Device;
 use evm_lines::LINES;
+use evm_model::TASK_LIMIT;
 
 fn same_runners<D: Device>(a: &Machine<D>, b: &Machine<D>, i: u8) -> bool
     ensures { result ≡ true → AreSameRunners i a.now.board.parts b.now.board.parts }
@@ -79,9 +81,9 @@ fn same_at<D: Device>(a: &Machine<D>, b: &Machine<D>, i: u8) -> bool
 
 /// Whether they have the same at each place before the greatest.
 pub(crate) fn same_lists<D: Device>(a: &Machine<D>, b: &Machine<D>) -> bool
-    ensures { result ≡ true → (i : ℕ) → i < 64 → AreSameAt i a.now.board.parts b.now.board.parts }
+    ensures { result ≡ true → (i : ℕ) → i < TASK_LIMIT → AreSameAt i a.now.board.parts b.now.board.parts }
 {
-    'places: for i in 0..64 {
+    'places: for i in 0..TASK_LIMIT as u8 {
         if !same_at(a, b, i) {
             return false;
         }
