@@ -3,11 +3,13 @@
 ghost use Rattle.std.specs.Prelude.{◌≡◌, ◌≢◌, ◌+◌, ◌<◌, ◌≤◌, ◌↔◌, ◌⊎◌, ℕ, List, Option, slice_get, slice_index, length};
 ghost use Rattle.std.specs.List.{Contains, fold};
 ghost use Rattle.std.specs.List.Sorted.{IsStrictlyIncreasing};
+ghost use Rattle.evm_lines.specs.declared.TheConstants.{LINES};
 ghost use Rattle.evm_model.specs.Deadlines.{deadline, end_wait, end_waits};
 ghost use Rattle.evm_model.specs.State.{State, Parts};
 ghost use Rattle.evm_model.specs.Timers.{expire, expire_timers};
 ghost use Rattle.evm_model.specs.declared.action.Action.{Action};
 ghost use Rattle.evm_model.specs.declared.boot.Boot.{Boot};
+ghost use Rattle.evm_model.specs.declared.limits.TheConstants.{EVENT_LIMIT, FLAGS_LIMIT, TIMER_LIMIT};
 ghost use Rattle.evm_model.specs.declared.mutex.Mutex.{Mutex};
 ghost use Rattle.evm_model.specs.declared.task.Task.{Task};
 ghost use Rattle.evm_model.specs.declared.task.TaskState.{TaskState};
@@ -18,7 +20,7 @@ ghost use Rattle.evm_claims.specs.Reached.{Reached};
 /// After every boot whose numbers are inside their limits, with an image loaded or none, and every list of events: there are
 /// 32 flag groups at the most, and no word is above 4294967295.
 pub fn each_flag_group_is_within_its_bound()
-    ensures few { (boot : Boot) (s : State) → Reached boot s → length s.board.parts.flags ≤ 32 }
+    ensures few { (boot : Boot) (s : State) → Reached boot s → length s.board.parts.flags ≤ FLAGS_LIMIT }
     ensures bounded { (boot : Boot) (s : State) (group word : ℕ) → Reached boot s →
         slice_get s.board.parts.flags group ≡ Option.Some word → word ≤ 4294967295 }
 {
@@ -29,7 +31,7 @@ pub fn each_flag_group_is_within_its_bound()
 /// ticks after now. A timer that is on has expired less often than the number of the tick at which it is due; one that is off
 /// no more often than there were ticks.
 pub fn each_timer_is_within_its_bound()
-    ensures few { (boot : Boot) (s : State) → Reached boot s → length s.board.parts.timers ≤ 32 }
+    ensures few { (boot : Boot) (s : State) → Reached boot s → length s.board.parts.timers ≤ TIMER_LIMIT }
     ensures period { (boot : Boot) (s : State) (n : ℕ) (timer : Timer) → Reached boot s →
         slice_get s.board.parts.timers n ≡ Option.Some timer → timer.period ≤ 9223372036854775807 }
     ensures due { (boot : Boot) (s : State) (n : ℕ) (timer : Timer) → Reached boot s →
@@ -45,7 +47,7 @@ pub fn each_timer_is_within_its_bound()
 /// Likewise: there is an action for each of the 32 lines. Lines 0 and 1 have none; one that puts into a semaphore, or posts
 /// to a flag group, names one that is there.
 pub fn each_action_names_what_is_there()
-    ensures count { (boot : Boot) (s : State) → Reached boot s → length s.board.parts.actions ≡ 32 }
+    ensures count { (boot : Boot) (s : State) → Reached boot s → length s.board.parts.actions ≡ LINES }
     ensures fixed { (boot : Boot) (s : State) (l : ℕ) (action : Action) → Reached boot s → l < 2 →
         slice_get s.board.parts.actions l ≡ Option.Some action → action ≡ Action.Nothing }
     ensures puts { (boot : Boot) (s : State) (l semaphore : ℕ) → Reached boot s →
@@ -59,7 +61,7 @@ pub fn each_action_names_what_is_there()
 /// Likewise: there are 32 events at the most. An event for which a task waits has a mutex that is there, and that task owns
 /// no mutex.
 pub fn a_task_that_waits_for_an_event_owns_no_mutex()
-    ensures few { (boot : Boot) (s : State) → Reached boot s → length s.board.parts.events ≤ 32 }
+    ensures few { (boot : Boot) (s : State) → Reached boot s → length s.board.parts.events ≤ EVENT_LIMIT }
     ensures named { (boot : Boot) (s : State) (t e : ℕ) (task : Task) → Reached boot s →
         slice_get s.board.parts.tasks t ≡ Option.Some task → task.state ≡ TaskState.Waits (Wait.Event e) →
         (m : ℕ) × ((slice_get s.board.parts.events e ≡ Option.Some (Option.Some m)) × (m < length s.board.parts.mutexes)) }

@@ -11,6 +11,7 @@ ghost use Rattle.evm_model.specs.Ranks.{best};
 ghost use Rattle.evm_model.specs.Replay.{apply};
 ghost use Rattle.evm_model.specs.Settle.{is_oob, settle_and_nudge};
 ghost use Rattle.evm_model.specs.State.{State, on_hart, on_processor};
+ghost use Rattle.evm_model.specs.declared.limits.TheConstants.{SEMAPHORE_LIMIT};
 ghost use Rattle.evm_model.specs.declared.boot.Boot.{Boot};
 ghost use Rattle.evm_model.specs.declared.event.Answer.{Answer};
 ghost use Rattle.evm_model.specs.declared.event.Event.TheVariants as Event;
@@ -126,7 +127,7 @@ pub fn each_pc_is_a_multiple_of_4()
 
 /// Likewise: there are 32 semaphores at the most, and none counts above 2147483647.
 pub fn each_semaphore_is_within_its_bound()
-    ensures few { (boot : Boot) (s : State) → Reached boot s → length s.board.parts.semaphores ≤ 32 }
+    ensures few { (boot : Boot) (s : State) → Reached boot s → length s.board.parts.semaphores ≤ SEMAPHORE_LIMIT }
     ensures bounded { (boot : Boot) (s : State) (semaphore count : ℕ) → Reached boot s →
         slice_get s.board.parts.semaphores semaphore ≡ Option.Some count → count ≤ 2147483647 }
 {

@@ -72,9 +72,9 @@ EachLaLoads =
     → length hart.regs ≡ REGISTERS → hart.pc ≡ address_of_line source n
     → expansion_after expansion hart ≡ Some (loaded rd (address (size_of_text source) spot) 8 hart)
 
--- the registers of both are among the 32, and the numbers of li have 32 bits
+-- the registers of both are there, and the numbers of li have 32 bits
 abbrev pub OperandsAreInRange : Type 0
 OperandsAreInRange =
     (source : List ℕ) (n rd : ℕ)
-    → ((value : ℤ) → Says source n (LoadImmediate rd value) → (rd < 32) × (negsuc 2147483647 ≤ℤ value) × (value ≤ℤ pos 2147483647))
-    × ((target : Option Spot) → Says source n (LoadAddress rd target) → rd < 32)
+    → ((value : ℤ) → Says source n (LoadImmediate rd value) → (rd < REGISTERS) × (negsuc 2147483647 ≤ℤ value) × (value ≤ℤ pos 2147483647))
+    × ((target : Option Spot) → Says source n (LoadAddress rd target) → rd < REGISTERS)

@@ -4,6 +4,7 @@ ghost use Rattle.std.specs.Prelude.{◌≡◌, ℕ, ◌<◌, ◌≤◌, ◌+◌,
 ghost use Rattle.arrayvec.specs.ArrayVec.{array_vec_len};
 ghost use Rattle.evm_schedules.specs.Failures.{is_quiet_pipe};
 ghost use Rattle.evm_schedules.specs.Making.{IsAwake, IsOver, is_done, is_ready_on};
+ghost use Rattle.evm_model.specs.declared.limits.TheConstants.{PROCESSOR_LIMIT as PROCESSORS};
 ghost use Rattle.evm_model.specs.State.{State};
 
 use crate::looks::{is_stopped, is_stuck_task, pins_are_still};
@@ -75,7 +76,7 @@ fn is_awake(machine: &Machine<AnyDevice>, c: u8) -> bool
 // Adds a processor, if it is awake.
 fn add_awake(machine: &Machine<AnyDevice>, c: u8, awake: &mut Awake)
     requires few { array_vec_len awake.old ≤ c }
-    requires cpu { c < 8 }
+    requires cpu { c < PROCESSORS }
     ensures len { array_vec_len awake.new ≤ c + 1 }
     ensures keeps { (i d : ℕ) → slice_get awake.old.items i ≡ Option.Some d → slice_get awake.new.items i ≡ Option.Some d }
     ensures adds { IsAwake c machine.now → (i : ℕ) × (slice_get awake.new.items i ≡ Option.Some c) }
