@@ -1,11 +1,9 @@
 -- What is seen of a machine between two events.
-use Rattle.std.specs.Prelude.{◌≡◌, ◌==◌, ℕ, ◌-◌, List, [], Option, Some, None, option_to_list, slice_get, length, if◌then◌else◌}
-use Rattle.evm_journal.specs.evm_core.Views.{line_counts_at}
+use Rattle.std.specs.Prelude.{◌≡◌, ◌==◌, ℕ, ◌-◌, List, Option, Some, None, option_to_list, slice_get, length, if◌then◌else◌}
 use Rattle.evm_model.specs.Current.{is_oob_task}
 use Rattle.evm_model.specs.Ranks.{rank}
 use Rattle.evm_model.specs.Stages.{is_stalled}
 use Rattle.evm_model.specs.State.{Parts}
-use Rattle.evm_model.specs.declared.counts.Counts.{Counts}
 use Rattle.evm_model.specs.declared.mutex.Mutex.{Mutex}
 use Rattle.evm_model.specs.declared.notice.Notice.{Notice}
 use Rattle.evm_model.specs.declared.processor.Processor.{Processor}
@@ -36,14 +34,6 @@ lane_of (Some p) c k =
 abbrev pub lane_at : Parts → ℕ → Option Lane
 lane_at k c = lane_of (slice_get k.processors c) c k
 
-abbrev pub lines_seen : Option (List Counts) → List Counts
-lines_seen None = []
-lines_seen (Some counts) = counts
-
--- the counts of the lines of processor c
-abbrev pub lines_at : Parts → ℕ → List Counts
-lines_at k c = lines_seen (line_counts_at c k)
-
 -- ---- a task and a mutex
 abbrev pub rank_seen : Option Task → ℕ → Parts → Option ℕ
 rank_seen None t k = None
@@ -63,13 +53,12 @@ owner_at k m = owner_seen (slice_get k.mutexes m)
 abbrev pub last_notice : List Notice → Option Notice
 last_notice kept = if length kept == 0 then None else slice_get kept (length kept - 1)
 
--- what is seen of a machine of these parts
+-- what is seen of a machine of these parts, except the counts of its lines
 pub record IsLookAt (look : Look) (k : Parts) : Type 0 where
   pub cpu_count : look.cpu_count ≡ length k.processors
   pub task_count : look.task_count ≡ length k.tasks
   pub mutex_count : look.mutex_count ≡ length k.mutexes
   pub lanes : look.lanes.items ≡ below (λ c. option_to_list (lane_at k c)) (length k.processors)
-  pub counts : look.counts.items ≡ below (lines_at k) (length k.processors)
   pub tasks : look.tasks.items ≡ below (λ t. option_to_list (slice_get k.tasks t)) (length k.tasks)
   pub ranks : look.ranks.items ≡ below (λ t. option_to_list (rank_at k t)) (length k.tasks)
   pub owners : look.owners.items ≡ below (λ m. option_to_list (owner_at k m)) (length k.mutexes)

@@ -1,8 +1,9 @@
--- The marks by which two looks differ: a line for each kind. `before` is seen before, `after` after.
-use Rattle.std.specs.Prelude.{ℕ, ◌+◌, ◌-◌, ◌*◌, ◌==◌, ◌&&◌, List, [], ◌∷◌, ◌++◌, Option, Some, None, Bool, true, false, not, is_some, nat_lt, nat_le, slice_get, if◌then◌else◌}
+-- The marks by which two machines differ: a line for each kind. `before` is seen before, `after` after.
+use Rattle.std.specs.Prelude.{◌≡◌, ℕ, ◌-◌, ◌==◌, ◌&&◌, List, [], ◌∷◌, ◌++◌, Option, Some, None, Bool, true, false, not, is_some, nat_lt, nat_le, slice_get}
+use Rattle.evm_journal.specs.evm_core.Views.{line_counts_at}
 use Rattle.evm_lines.specs.declared.TheConstants.{LINES}
+use Rattle.evm_model.specs.State.{Parts}
 use Rattle.evm_model.specs.declared.counts.Counts.{Counts}
-use Rattle.evm_model.specs.declared.fault.Fault.{Fault}
 use Rattle.evm_model.specs.declared.notice.Notice.{Notice}
 use Rattle.evm_model.specs.declared.stage.Stage.{Stage}
 use Rattle.evm_model.specs.declared.stage.Stage.TheVariants.{OutOfBand, InBand}
@@ -12,6 +13,7 @@ use Rattle.evm_model.specs.declared.task.TaskState.TheVariants as states
 use Rattle.evm_model.specs.declared.task.Wait.{Wait}
 use Rattle.evm_model.specs.declared.task.Wait.TheVariants as waits
 use Rattle.evm_timeline.specs.Lists.{below}
+use Rattle.evm_timeline.specs.Looks.{IsLookAt}
 use Rattle.evm_timeline.specs.declared.look.Lane.{Lane}
 use Rattle.evm_timeline.specs.declared.look.Look.{Look}
 use Rattle.evm_timeline.specs.declared.look.Running.{Running}
@@ -70,11 +72,16 @@ line_marks c l (Some before) (Some after) = counted_marks c l before after
 line_marks c l _ _ = []
 
 unfoldable pub lines_marks : ℕ → List Counts → List Counts → List Mark
-lines_marks c before after = below (λ l. line_marks c l (slice_get before (c * LINES + l)) (slice_get after (c * LINES + l))) LINES
+lines_marks c before after = below (λ l. line_marks c l (slice_get before l) (slice_get after l)) LINES
 
-unfoldable pub processor_marks : Look → Look → ℕ → List Mark
-processor_marks before after c =
-    lane_marks c (slice_get before.lanes.items c) (slice_get after.lanes.items c) ++ lines_marks c before.counts.items after.counts.items
+-- the lines of a processor that is there before and after
+abbrev pub pipe_marks : ℕ → Option (List Counts) → Option (List Counts) → List Mark
+pipe_marks c (Some before) (Some after) = lines_marks c before after
+pipe_marks c _ _ = []
+
+unfoldable pub processor_marks : Look → Look → Parts → Parts → ℕ → List Mark
+processor_marks before after was now c =
+    lane_marks c (slice_get before.lanes.items c) (slice_get after.lanes.items c) ++ pipe_marks c (line_counts_at c was) (line_counts_at c now)
 
 -- ---- a task
 abbrev pub equal_waits : Wait → Wait → Bool
@@ -184,11 +191,19 @@ abbrev pub notice_marks : ℕ → ℕ → Option Notice → List Mark
 notice_marks before after None = []
 notice_marks before after (Some last) = when (nat_lt before after) (mark.Notice last.kind last.task (after - before))
 
--- all of them
-unfoldable pub marks_of : Look → Look → List Mark
-marks_of before after =
+-- all of them, where the machine had the parts `was` before and has `now` after
+unfoldable pub marks_of : Look → Look → Parts → Parts → List Mark
+marks_of before after was now =
     tick_marks before.ticks after.ticks
-    ++ below (processor_marks before after) after.cpu_count
+    ++ below (processor_marks before after was now) after.cpu_count
     ++ below (one_task_marks before after) after.task_count
     ++ below (owner_marks before after) after.mutex_count
     ++ notice_marks before.notices after.notices after.last_notice
+
+-- the marks by which two machines differ: those of looks at both
+pub record AreMarks (was now : Parts) (marks : List Mark) : Type 0 where
+  pub before : Look
+  pub after : Look
+  pub seen_before : IsLookAt before was
+  pub seen_after : IsLookAt after now
+  pub all : marks ≡ marks_of before after was now

@@ -3,10 +3,13 @@
 
 mod course;
 mod item;
+mod line_marks;
 mod look;
 mod mark;
 mod marking;
 mod quiet;
+mod sight;
+mod tally;
 mod task_marks;
 mod walk;
 
@@ -18,5 +21,5 @@ pub use evm_journal::{push_boot_line, push_event_line};
 pub use item::{Item, actor_of, outline};
 pub use look::{Lane, Look, Running};
 pub use mark::Mark;
-pub use marking::marks;
+pub use tally::Reach;
 pub use walk::Walk;

@@ -3,11 +3,11 @@
 ghost use Rattle.std.specs.Prelude.{◌≡◌, ◌<◌, ◌≤◌, ◌+◌, ◌∷◌, ◌++◌, [], IfOk, OnOk, length, option_to_list, slice_get, vec_capacity, vec_len};
 ghost use Rattle.evm_model.specs.Stages.{is_stalled};
 ghost use Rattle.evm_timeline.specs.Lists.{below};
-ghost use Rattle.evm_timeline.specs.Looks.{IsLookAt, lane_at, last_notice, lines_at, owner_at, rank_at, ready_stage, running_of};
+ghost use Rattle.evm_timeline.specs.Looks.{IsLookAt, lane_at, last_notice, owner_at, rank_at, ready_stage, running_of};
 
 use evm_dev::Device;
 use evm_journal::Machine;
-use evm_model::{Counts, Notice, Stage, Task, TaskState};
+use evm_model::{Notice, Stage, Task, TaskState};
 use evm_room::{Refused, grow};
 use std::alloc::Global;
 
@@ -41,8 +41,6 @@ pub struct Look {
     pub mutex_count: u8,
     /// Processor c is the c-th.
     pub lanes: Vec<Lane>,
-    /// Line l of processor c is at 32 c + l.
-    pub counts: Vec<Counts>,
     /// Task t is the t-th.
     pub tasks: Vec<Task>,
     /// The rank of task t is the t-th.
@@ -158,34 +156,6 @@ fn see_lanes<D: Device>(lanes: &mut Vec<Lane>, machine: &Machine<D>) -> Result<(
     Ok(())
 }
 
-fn see_lines<D: Device>(
-    counts: &mut Vec<Counts>,
-    machine: &Machine<D>,
-    c: u8,
-) -> Result<(), Refused>
-    ensures { OnOk result (counts.new.items ≡ counts.old.items ++ lines_at machine.now.board.parts c) }
-{
-    let Some(lines) = machine.line_counts(c) else {
-        return Ok(());
-    };
-    grow(counts, lines.len())?;
-    let Ok(()) = counts.extend_from_slice(lines) else {
-        unreachable!();
-    };
-    Ok(())
-}
-
-#[tactic(auto, using(crate::proofs::Lemmas::numbered))]
-fn see_counts<D: Device>(counts: &mut Vec<Counts>, machine: &Machine<D>) -> Result<(), Refused>
-    ensures { OnOk result (counts.new.items ≡ below (lines_at machine.now.board.parts) (length machine.now.board.parts.processors)) }
-{
-    counts.clear();
-    for c in 0..machine.cpu_count() {
-        see_lines(counts, machine, c)?;
-    }
-    Ok(())
-}
-
 #[tactic(auto, using(crate::proofs::Lemmas::numbered))]
 fn see_tasks<D: Device>(tasks: &mut Vec<Task>, machine: &Machine<D>) -> Result<(), Refused>
     ensures { OnOk result (tasks.new.items ≡ below (λ t. option_to_list (slice_get machine.now.board.parts.tasks t)) (length machine.now.board.parts.tasks)) }
@@ -244,7 +214,6 @@ impl Look {
             task_count: 0,
             mutex_count: 0,
             lanes: Vec::new(alloc),
-            counts: Vec::new(alloc),
             tasks: Vec::new(alloc),
             ranks: Vec::new(alloc),
             owners: Vec::new(alloc),
@@ -259,7 +228,6 @@ impl Look {
         ensures { OnOk result (IsLookAt self.new machine.now.board.parts) }
     {
         see_lanes(&mut self.lanes, machine)?;
-        see_counts(&mut self.counts, machine)?;
         see_tasks(&mut self.tasks, machine)?;
         see_ranks(&mut self.ranks, machine)?;
         see_owners(&mut self.owners, machine)?;

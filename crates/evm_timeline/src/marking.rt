@@ -1,15 +1,20 @@
-//! The marks by which two looks differ.
+//! The marks by which a machine differs from what was seen of it.
 
-ghost use Rattle.std.specs.Prelude.{◌≡◌, ◌*◌, ◌+◌, ◌++◌, ◌-◌, ℕ, [], OnOk, false, nat_lt, option_copied, slice_get};
-ghost use Rattle.evm_lines.specs.declared.TheConstants.{LINES};
+ghost use Rattle.std.specs.Prelude.{◌≡◌, ◌+◌, ◌++◌, ◌<◌, OnOk, length, option_copied, slice_get};
+ghost use Rattle.evm_model.specs.State.{Parts};
+ghost use Rattle.evm_model.specs.declared.limits.TheConstants.{PROCESSOR_LIMIT as PROCESSORS};
 ghost use Rattle.evm_timeline.specs.Lists.{below};
-ghost use Rattle.evm_timeline.specs.Marks.{counted_marks, lane_marks, line_marks, lines_marks, marks_of, notice_marks, owner_in, owner_marks, processor_marks, running_marks, same_bit, same_owner, same_running, same_stage, stall_marks, stop_marks, tick_marks, when};
+ghost use Rattle.evm_timeline.specs.Tallies.{IsTallyOf, IsTallyUpTo, IsWithinReach};
+ghost use Rattle.evm_timeline.specs.Marks.{lane_marks, marks_of, notice_marks, owner_in, owner_marks, processor_marks, running_marks, same_bit, same_owner, same_running, same_stage, stall_marks, stop_marks, tick_marks, when};
 
+use crate::line_marks::push_pipe;
 use crate::look::{Lane, Look, Running, put};
 use crate::mark::Mark;
+use crate::tally::{Reach, Tally};
 use crate::task_marks::push_tasks;
-use evm_lines::LINES;
-use evm_model::{Counts, Notice, Stage};
+use evm_dev::Device;
+use evm_journal::Machine;
+use evm_model::{Notice, Stage};
 use evm_room::Refused;
 
 /// Appends a mark, if it is one.
@@ -133,170 +138,18 @@ fn push_lane(
     push_stop(marks, cpu, before.stopped, after.stopped)
 }
 
-fn push_raised(
-    marks: &mut Vec<Mark>,
-    cpu: u8,
-    line: u8,
-    before: u64,
-    after: u64,
-) -> Result<(), Refused>
-    ensures { OnOk result (marks.new.items ≡ marks.old.items ++ (when (nat_lt before after) (Mark.Raised cpu line (after - before)))) }
-{
-    let times = after.saturating_sub(before);
-    push_when(marks, before < after, Mark::Raised { cpu, line, times })
-}
-
-fn push_received(
-    marks: &mut Vec<Mark>,
-    cpu: u8,
-    line: u8,
-    before: u64,
-    after: u64,
-) -> Result<(), Refused>
-    ensures { OnOk result (marks.new.items ≡ marks.old.items ++ (when (nat_lt before after) (Mark.Received cpu line (after - before)))) }
-{
-    let times = after.saturating_sub(before);
-    push_when(marks, before < after, Mark::Received { cpu, line, times })
-}
-
-fn push_played(
-    marks: &mut Vec<Mark>,
-    cpu: u8,
-    line: u8,
-    stage: Stage,
-    before: u64,
-    after: u64,
-) -> Result<(), Refused>
-    ensures { OnOk result (marks.new.items ≡ marks.old.items ++ (when (nat_lt before after) (Mark.Played cpu stage line (after - before)))) }
-{
-    let times = after.saturating_sub(before);
-    push_when(
-        marks,
-        before < after,
-        Mark::Played {
-            cpu,
-            stage,
-            line,
-            times,
-        },
-    )
-}
-
-#[tactic(auto, using(crate::proofs::Lemmas::numbered))]
-fn push_counted(
-    marks: &mut Vec<Mark>,
-    cpu: u8,
-    line: u8,
-    before: &Counts,
-    after: &Counts,
-) -> Result<(), Refused>
-    ensures { OnOk result (marks.new.items ≡ marks.old.items ++ (counted_marks cpu line before.now after.now)) }
-{
-    push_raised(marks, cpu, line, before.raised, after.raised)?;
-    push_received(marks, cpu, line, before.received, after.received)?;
-    push_played(
-        marks,
-        cpu,
-        line,
-        Stage::OutOfBand,
-        before.oob.played,
-        after.oob.played,
-    )?;
-    push_played(
-        marks,
-        cpu,
-        line,
-        Stage::InBand,
-        before.in_band.played,
-        after.in_band.played,
-    )
-}
-
-// Whether a count of those that are marked has grown.
-#[inline]
-fn is_grown(before: &Counts, after: &Counts) -> bool
-    ensures { (c l : ℕ) → result ≡ false → counted_marks c l before.now after.now ≡ [] }
-{
-    before.raised < after.raised
-        || before.received < after.received
-        || before.oob.played < after.oob.played
-        || before.in_band.played < after.in_band.played
-}
-
-// Most lines have no mark.
-#[inline]
-#[tactic(auto, using(crate::proofs::Lemmas::numbered))]
-fn push_grown(
-    marks: &mut Vec<Mark>,
-    cpu: u8,
-    line: u8,
-    before: &Counts,
-    after: &Counts,
-) -> Result<(), Refused>
-    ensures { OnOk result (marks.new.items ≡ marks.old.items ++ (counted_marks cpu line before.now after.now)) }
-{
-    if is_grown(before, after) {
-        push_counted(marks, cpu, line, before, after)
-    } else {
-        Ok(())
-    }
-}
-
-#[tactic(auto, unfolding(crate::specs::Marks::line_marks), using(crate::proofs::Lemmas::numbered))]
-fn push_line(
-    marks: &mut Vec<Mark>,
-    cpu: u8,
-    line: u8,
-    before: Option<&Counts>,
-    after: Option<&Counts>,
-) -> Result<(), Refused>
-    ensures { OnOk result (marks.new.items ≡ marks.old.items ++ (line_marks cpu line (option_copied before.entry) (option_copied after.entry))) }
-{
-    match (before, after) {
-        (Some(before), Some(after)) => push_grown(marks, cpu, line, before, after),
-        _ => Ok(()),
-    }
-}
-
-#[tactic(auto, using(crate::proofs::Lemmas::numbered))]
-fn push_line_at(
-    marks: &mut Vec<Mark>,
-    cpu: u8,
-    line: u8,
-    before: &[Counts],
-    after: &[Counts],
-    at: usize,
-) -> Result<(), Refused>
-    ensures { OnOk result (marks.new.items ≡ marks.old.items ++ (line_marks cpu line (slice_get before.now at) (slice_get after.now at))) }
-{
-    push_line(marks, cpu, line, before.get(at), after.get(at))
-}
-
-#[tactic(auto, unfolding(crate::specs::Marks::lines_marks), using(crate::proofs::Lemmas::numbered))]
-fn push_lines(
-    marks: &mut Vec<Mark>,
-    cpu: u8,
-    before: &[Counts],
-    after: &[Counts],
-) -> Result<(), Refused>
-    ensures { OnOk result (marks.new.items ≡ marks.old.items ++ (lines_marks cpu before.now after.now)) }
-{
-    let first = usize::from(cpu) * usize::from(LINES);
-    for line in 0..LINES {
-        let at = first + usize::from(line);
-        push_line_at(marks, cpu, line, before, after, at)?;
-    }
-    Ok(())
-}
-
 #[tactic(auto, unfolding(crate::specs::Marks::processor_marks), using(crate::proofs::Lemmas::numbered))]
-fn push_processor(
+fn push_processor<D: Device>(
     marks: &mut Vec<Mark>,
     cpu: u8,
     before: &Look,
     after: &Look,
+    tally: &mut Tally,
+    machine: &Machine<D>,
+    reach: Reach,
 ) -> Result<(), Refused>
-    ensures { OnOk result (marks.new.items ≡ marks.old.items ++ (processor_marks before.now after.now cpu)) }
+    requires { cpu < PROCESSORS }
+    ensures { (was : Parts) → IsTallyUpTo cpu tally.old.rows was machine.now.board.parts → IsWithinReach reach was machine.now.board.parts → OnOk result ((marks.new.items ≡ marks.old.items ++ processor_marks before.now after.now was machine.now.board.parts cpu) × IsTallyUpTo (cpu + 1) tally.new.rows was machine.now.board.parts) }
 {
     let at = usize::from(cpu);
     push_lane(
@@ -305,20 +158,23 @@ fn push_processor(
         lane_at(before.lanes.as_slice(), at),
         lane_at(after.lanes.as_slice(), at),
     )?;
-    push_lines(
-        marks,
-        cpu,
-        before.counts.as_slice(),
-        after.counts.as_slice(),
-    )
+    push_pipe(marks, cpu, tally, machine, reach)
 }
 
-#[tactic(auto, using(crate::proofs::Lemmas::numbered))]
-fn push_processors(marks: &mut Vec<Mark>, before: &Look, after: &Look) -> Result<(), Refused>
-    ensures { OnOk result (marks.new.items ≡ marks.old.items ++ (below (processor_marks before.now after.now) after.now.cpu_count)) }
+fn push_processors<D: Device>(
+    marks: &mut Vec<Mark>,
+    before: &Look,
+    after: &Look,
+    tally: &mut Tally,
+    machine: &Machine<D>,
+    reach: Reach,
+) -> Result<(), Refused>
+    requires { after.now.cpu_count ≡ length machine.now.board.parts.processors }
+    ensures { (was : Parts) → IsTallyOf tally.old.rows was → IsWithinReach reach was machine.now.board.parts → OnOk result ((marks.new.items ≡ marks.old.items ++ below (processor_marks before.now after.now was machine.now.board.parts) after.now.cpu_count) × IsTallyOf tally.new.rows machine.now.board.parts) }
 {
+    machine.rules();
     for cpu in 0..after.cpu_count {
-        push_processor(marks, cpu, before, after)?;
+        push_processor(marks, cpu, before, after, tally, machine, reach)?;
     }
     Ok(())
 }
@@ -397,14 +253,22 @@ fn push_ticks(marks: &mut Vec<Mark>, before: u64, after: u64) -> Result<(), Refu
     push_when(marks, before < after, Mark::Ticked { times })
 }
 
-/// Appends the marks by which what is seen after differs from what is seen before: those of each processor, of each task, of each
-/// mutex, and of the machine.
+/// Appends the marks by which a machine differs, after an event that reaches so far, from what was seen before: those of each
+/// processor, of each task, of each mutex, and of the machine.
 #[tactic(auto, unfolding(crate::specs::Marks::marks_of), using(crate::proofs::Lemmas::numbered))]
-pub fn marks(marks: &mut Vec<Mark>, before: &Look, after: &Look) -> Result<(), Refused>
-    ensures { OnOk result (marks.new.items ≡ marks.old.items ++ (marks_of before.now after.now)) }
+pub(crate) fn marks<D: Device>(
+    marks: &mut Vec<Mark>,
+    before: &Look,
+    after: &Look,
+    tally: &mut Tally,
+    machine: &Machine<D>,
+    reach: Reach,
+) -> Result<(), Refused>
+    requires { after.now.cpu_count ≡ length machine.now.board.parts.processors }
+    ensures { (was : Parts) → IsTallyOf tally.old.rows was → IsWithinReach reach was machine.now.board.parts → OnOk result ((marks.new.items ≡ marks.old.items ++ marks_of before.now after.now was machine.now.board.parts) × IsTallyOf tally.new.rows machine.now.board.parts) }
 {
     push_ticks(marks, before.ticks, after.ticks)?;
-    push_processors(marks, before, after)?;
+    push_processors(marks, before, after, tally, machine, reach)?;
     push_tasks(marks, before, after)?;
     push_owners(marks, before, after)?;
     push_notice(marks, before.notices, after.notices, after.last_notice)

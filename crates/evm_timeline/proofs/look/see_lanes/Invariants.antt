@@ -1,4 +1,4 @@
-use Rattle.std.proofs.Common.{◌≡◌, ◌≤◌, ◌++◌, ◌+◌, ◌*◌, option_to_list, slice_get, vec_capacity, vec_len}
+use Rattle.std.proofs.Common.{◌≡◌, ◌≤◌, ◌+◌, option_to_list, vec_capacity, vec_len}
 use Rattle.evm_timeline.specs.Lists.{below}
 use Rattle.evm_timeline.specs.Looks.{lane_at}
 use Rattle.evm_timeline.proofs.look.see_lanes.Given as goal

@@ -1,4 +1,4 @@
-use Rattle.std.proofs.Common.{◌≡◌, ◌++◌, ◌+◌, ◌*◌, option_to_list, slice_get}
+use Rattle.std.proofs.Common.{◌≡◌, ◌++◌}
 use Rattle.evm_timeline.specs.Lists.{below}
 use Rattle.evm_timeline.specs.Marks.{one_task_marks}
 use Rattle.evm_timeline.proofs.task_marks.push_tasks.Given as goal

@@ -1,8 +1,0 @@
-use Rattle.std.proofs.Common.{◌≡◌, ◌++◌, ◌+◌, ◌*◌, option_to_list, slice_get}
-use Rattle.evm_timeline.specs.Lists.{below}
-use Rattle.evm_timeline.specs.Looks.{lines_at}
-use Rattle.evm_timeline.proofs.look.see_counts.Given as goal
-
--- what there is of those below c
-abbrev pub invariant-loop-c : goal.invariant-loop-c
-invariant-loop-c g l = l.counts.items ≡ below (lines_at l.machine.board.parts) l.c

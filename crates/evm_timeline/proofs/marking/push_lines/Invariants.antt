@@ -1,9 +1,0 @@
-use Rattle.std.proofs.Common.{◌≡◌, ◌++◌, ◌+◌, ◌*◌, option_to_list, slice_get}
-use Rattle.evm_timeline.specs.Lists.{below}
-use Rattle.evm_lines.specs.declared.TheConstants.{LINES}
-use Rattle.evm_timeline.specs.Marks.{line_marks}
-use Rattle.evm_timeline.proofs.marking.push_lines.Given as goal
-
--- the marks of those below line were appended
-abbrev pub invariant-loop-line : goal.invariant-loop-line
-invariant-loop-line l = l.marks.items ≡ l.fn.marks.items ++ below (λ line. line_marks l.cpu line (slice_get l.before (l.cpu * LINES + line)) (slice_get l.after (l.cpu * LINES + line))) l.line
