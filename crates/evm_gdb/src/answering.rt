@@ -1,10 +1,13 @@
 //! The answer to a command.
 
-ghost use Rattle.std.specs.Prelude.{◌≡◌, ◌≢◌, ◌++◌, ℕ, List, Option, OnOk, length};
+ghost use Rattle.std.specs.Prelude.{◌≡◌, ◌≢◌, true, [], ◌∷◌, ◌++◌, ℕ, List, IfSome, OnSome, Option, Result, OnOk, OnErr, length};
 ghost use Rattle.evm_gdb.specs.Answers.{answer_text};
+ghost use Rattle.evm_gdb.specs.Asking.{IsCarriedOut, asked, asked_by, breakpoint_asked, counted_writing, has_digits};
 ghost use Rattle.evm_gdb.specs.Setting.{register_write};
 ghost use Rattle.evm_gdb_driving.specs.Kept.{KeepsJournal};
-ghost use Rattle.evm_gdb_driving.specs.Setting.{MakesAsked};
+ghost use Rattle.evm_gdb_driving.specs.Setting.{MakesAsked, MakesEach};
+ghost use Rattle.evm_gdb_driving.specs.Shown.{error_text, outcome_text};
+ghost use Rattle.evm_model.specs.declared.event.Event.TheVariants.{Break, Unbreak};
 ghost use Rattle.evm_gdb_packets.specs.Hexadecimal.{bytes_of_digits};
 ghost use Rattle.evm_ram.specs.Ram.{bytes_at};
 
@@ -58,6 +61,7 @@ fn write_counted<D: Device>(
     count: u64,
     bytes: &[u8],
 ) -> Result<(), Refusal>
+    ensures made { MakesAsked (counted_writing address count bytes.now machine.old) result machine.old machine.new }
     ensures kept { KeepsJournal machine.old machine.new }
     ensures counted { length bytes.now ≢ count → machine.new ≡ machine.old }
     ensures outside { bytes_at machine.old.board.memory.ram address (length bytes.now) ≡ Option.None → machine.new ≡ machine.old }
@@ -71,6 +75,8 @@ fn write_counted<D: Device>(
 // A breakpoint more or less.
 #[tactic(auto, using(evm_gdb_driving::proofs::Kept::keeps_same))]
 fn change_breakpoint<D: Device>(machine: &mut Machine<D>, change: Event) -> Result<(), Refusal>
+    ensures made { MakesEach (change ∷ []) result machine.old machine.new }
+    ensures unchanged { OnErr result (machine.new ≡ machine.old) }
     ensures kept { KeepsJournal machine.old machine.new }
 {
     match event(machine, change.lend()) {
@@ -105,6 +111,7 @@ fn insert<D: Device>(
     address: u64,
     out: &mut Vec<u8>,
 ) -> Result<(), Refused>
+    ensures done { OnOk result (IsCarriedOut outcome_text (Result.Ok (Break address ∷ [])) session.old.machine session.new.machine out.old.items out.new.items) }
     ensures kept { KeepsJournal session.old.machine session.new.machine }
 {
     let outcome = change_breakpoint(&mut session.machine, Event::Break(address));
@@ -121,6 +128,7 @@ fn remove<D: Device>(
     address: u64,
     out: &mut Vec<u8>,
 ) -> Result<(), Refused>
+    ensures done { OnOk result (IsCarriedOut outcome_text (Result.Ok (Unbreak address ∷ [])) session.old.machine session.new.machine out.old.items out.new.items) }
     ensures kept { KeepsJournal session.old.machine session.new.machine }
 {
     let outcome = change_breakpoint(&mut session.machine, Event::Unbreak(address));
@@ -166,26 +174,44 @@ fn answer_monitor<D: Device>(
     }
 }
 
+// Makes the events that a command with these bytes asks for.
+#[tactic(auto, using(evm_gdb_driving::proofs::Kept::keeps_same))]
+fn change<D: Device>(
+    machine: &mut Machine<D>,
+    looked: u8,
+    command: Command,
+    bytes: &[u8],
+) -> Result<(), Refusal>
+    ensures made { IfSome (asked_by looked bytes.now machine.old command) (λ events. MakesAsked events result machine.old machine.new) }
+    ensures kept { KeepsJournal machine.old machine.new }
+{
+    match command {
+        Command::SetRegisters => set_registers(machine, looked, bytes),
+        Command::SetRegister(r) => write_register(machine, looked, r, bytes),
+        Command::WriteDigits(address, count) | Command::WriteBytes(address, count) => {
+            write_counted(machine, address, count, bytes)
+        }
+        _ => Ok(()),
+    }
+}
+
 // The answer to a command that has digits or bytes, which are these.
 #[tactic(auto, using(evm_gdb_driving::proofs::Kept::keeps_same))]
 fn answer_data<D: Device>(
     session: &mut GdbSession<D>,
     command: Command,
-    data: &[u8],
+    bytes: &[u8],
     told: &mut String,
     out: &mut Vec<u8>,
 ) -> Result<(), NoMemory>
+    ensures done { OnOk result (IfSome (asked_by session.old.looked bytes.now session.old.machine command) (λ events. IsCarriedOut outcome_text events session.old.machine session.new.machine out.old.items out.new.items)) }
+    ensures quiet { OnSome (asked_by session.old.looked bytes.now session.old.machine command) (told.new ≡ told.old) }
     ensures kept { KeepsJournal session.old.machine session.new.machine }
 {
     let looked = session.looked;
     let outcome = match command {
-        Command::Monitor => return answer_monitor(session, data, told, out),
-        Command::SetRegisters => set_registers(&mut session.machine, looked, data),
-        Command::SetRegister(r) => write_register(&mut session.machine, looked, r, data),
-        Command::WriteDigits(address, count) | Command::WriteBytes(address, count) => {
-            write_counted(&mut session.machine, address, count, data)
-        }
-        _ => Ok(()),
+        Command::Monitor => return answer_monitor(session, bytes, told, out),
+        _ => change(&mut session.machine, looked, command, bytes),
     };
     match push_outcome(out, outcome) {
         Ok(()) => Ok(()),
@@ -203,8 +229,11 @@ fn answer_digits<D: Device>(
     told: &mut String,
     out: &mut Vec<u8>,
 ) -> Result<(), NoMemory>
+    ensures done { (bytes : List ℕ) → bytes_of_digits digits.now ≡ Option.Some bytes → OnOk result (IfSome (asked_by session.old.looked bytes session.old.machine command) (λ events. IsCarriedOut outcome_text events session.old.machine session.new.machine out.old.items out.new.items)) }
     ensures kept { KeepsJournal session.old.machine session.new.machine }
+    ensures quiet { (bytes : List ℕ) → bytes_of_digits digits.now ≡ Option.Some bytes → OnSome (asked_by session.old.looked bytes session.old.machine command) (told.new ≡ told.old) }
     ensures malformed { bytes_of_digits digits.now ≡ Option.None → session.new ≡ session.old }
+    ensures told { bytes_of_digits digits.now ≡ Option.None → OnOk result (out.new.items ≡ out.old.items ++ error_text MALFORMED) }
 {
     match read_digits(digits, data) {
         Ok(true) => answer_data(session, command, data.as_slice(), told, out),
@@ -225,6 +254,8 @@ fn answer_order<D: Device, I: Interrupts>(
     told: &mut String,
     out: &mut Vec<u8>,
 ) -> Result<(), Refused>
+    ensures done { OnOk result (IfSome (breakpoint_asked command) (λ events. IsCarriedOut outcome_text events session.old.machine session.new.machine out.old.items out.new.items)) }
+    ensures quiet { OnSome (breakpoint_asked command) (told.new ≡ told.old) }
     ensures kept { KeepsJournal session.old.machine session.new.machine }
     ensures said { (text : List ℕ) → answer_text session.old.looked session.old.halt session.old.machine command ≡ Option.Some text → OnOk result (out.new.items ≡ out.old.items ++ text) }
     ensures unchanged { (text : List ℕ) → answer_text session.old.looked session.old.halt session.old.machine command ≡ Option.Some text → session.new ≡ session.old }
@@ -290,6 +321,10 @@ pub(crate) fn answer<D: Device, I: Interrupts>(
     told: &mut String,
     out: &mut Vec<u8>,
 ) -> Result<(), NoMemory>
+    ensures done { OnOk result (IfSome (asked session.old.looked behind.now session.old.machine command) (λ events. IsCarriedOut outcome_text events session.old.machine session.new.machine out.old.items out.new.items)) }
+    ensures quiet { OnSome (asked session.old.looked behind.now session.old.machine command) (told.new ≡ told.old) }
+    ensures malformed { has_digits command ≡ true → bytes_of_digits behind.now ≡ Option.None → session.new ≡ session.old }
+    ensures refused { has_digits command ≡ true → bytes_of_digits behind.now ≡ Option.None → OnOk result (out.new.items ≡ out.old.items ++ error_text MALFORMED) }
     ensures kept { KeepsJournal session.old.machine session.new.machine }
     ensures said { (text : List ℕ) → answer_text session.old.looked session.old.halt session.old.machine command ≡ Option.Some text → OnOk result (out.new.items ≡ out.old.items ++ text) }
     ensures unchanged { (text : List ℕ) → answer_text session.old.looked session.old.halt session.old.machine command ≡ Option.Some text → session.new ≡ session.old }

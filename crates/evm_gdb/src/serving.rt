@@ -1,8 +1,10 @@
 //! The server: bytes in, packets out.
 
-ghost use Rattle.std.specs.Prelude.{◌≡◌, ◌≢◌, ◌<◌, ◌++◌, [], length, OnOk, Option};
+ghost use Rattle.std.specs.Prelude.{◌≡◌, ◌≢◌, ◌<◌, ◌++◌, [], length, IfSome, OnOk, Option};
+ghost use Rattle.std.specs.String.{string_bytes};
 ghost use Rattle.evm_gdb_packets.specs.Framing.{framed};
 ghost use Rattle.evm_gdb_commands.specs.Commands.{command_at};
+ghost use Rattle.evm_gdb.specs.Asking.{IsCarriedOut, asked, payload_asked, reply};
 ghost use Rattle.evm_gdb.specs.Written.{Extends, acknowledgement};
 ghost use Rattle.evm_gdb_driving.specs.Kept.{KeepsJournal};
 
@@ -66,6 +68,7 @@ fn push_shown_part(text: &[u8], packet: &mut Vec<u8>, out: &mut Vec<u8>) -> Resu
 #[tactic(auto, using(crate::proofs::Extending::extends_none, crate::proofs::Extending::extends_more))]
 fn push_shown(text: &[u8], packet: &mut Vec<u8>, out: &mut Vec<u8>) -> Result<(), Refused>
     ensures extends { OnOk result (Extends out.old.items out.new.items) }
+    ensures nothing { length text.now ≡ 0 → OnOk result (out.new.items ≡ out.old.items) }
 {
     let mut rest = text;
     'packets: while !rest.is_empty() {
@@ -90,6 +93,7 @@ fn cut_text(text: &[u8]) -> (&[u8], &[u8])
 #[tactic(auto, using(crate::proofs::Extending::extends_none, crate::proofs::Extending::extends_by))]
 fn push_answer(answer: &[u8], over: bool, out: &mut Vec<u8>) -> Result<(), Refused>
     ensures extends { OnOk result (Extends out.old.items out.new.items) }
+    ensures some { 0 < length answer.now → OnOk result (out.new.items ≡ out.old.items ++ framed answer.now) }
 {
     if over && answer.is_empty() {
         return Ok(());
@@ -101,6 +105,7 @@ fn push_answer(answer: &[u8], over: bool, out: &mut Vec<u8>) -> Result<(), Refus
 #[tactic(auto, using(crate::proofs::Extending::extends_more))]
 fn push_packets(desk: &mut Desk, over: bool) -> Result<(), NoMemory>
     ensures extends { OnOk result (Extends desk.old.out.items desk.new.out.items) }
+    ensures alone { length (string_bytes desk.old.told) ≡ 0 → 0 < length desk.old.answer.items → OnOk result (desk.new.out.items ≡ desk.old.out.items ++ framed desk.old.answer.items) }
 {
     match push_shown(desk.told.as_bytes(), &mut desk.data, &mut desk.out) {
         Ok(()) => {}
@@ -121,6 +126,7 @@ fn answer_command<D: Device, I: Interrupts>(
     interrupts: &I,
     desk: &mut Desk,
 ) -> Result<(), NoMemory>
+    ensures done { OnOk result (IfSome (asked session.old.looked behind.now session.old.machine command) (λ events. IsCarriedOut reply events session.old.machine session.new.machine desk.old.out.items desk.new.out.items)) }
     ensures kept { KeepsJournal session.old.machine session.new.machine }
     ensures extends { OnOk result (Extends desk.old.out.items desk.new.out.items) }
 {
@@ -175,6 +181,7 @@ fn answer_payload<D: Device, I: Interrupts>(
     interrupts: &I,
     desk: &mut Desk,
 ) -> Result<(), NoMemory>
+    ensures done { OnOk result (IfSome (payload_asked session.old.looked payload.now session.old.machine) (λ events. IsCarriedOut reply events session.old.machine session.new.machine desk.old.out.items desk.new.out.items)) }
     ensures kept { KeepsJournal session.old.machine session.new.machine }
     ensures extends { OnOk result (Extends desk.old.out.items desk.new.out.items) }
     ensures unknown { command_at payload.now ≡ Option.None → session.new ≡ session.old }
@@ -198,6 +205,7 @@ fn hear<D: Device, I: Interrupts>(
     interrupts: &I,
     desk: &mut Desk,
 ) -> Result<(), NoMemory>
+    ensures done { item ≡ PacketItem.Packet → OnOk result (IfSome (payload_asked session.old.looked payload.now session.old.machine) (λ events. IsCarriedOut reply events session.old.machine session.new.machine (acknowledgement session.old.acknowledges item) desk.new.out.items)) }
     ensures kept { KeepsJournal session.old.machine session.new.machine }
     ensures acknowledged { OnOk result (Extends (acknowledgement session.old.acknowledges item) desk.new.out.items) }
     ensures others { item ≢ PacketItem.Packet → session.new ≡ session.old }
@@ -234,6 +242,7 @@ fn prepare<D: Device, I: Interrupts>(
     interrupts: &I,
     desk: &mut Desk,
 ) -> Result<(), NoMemory>
+    ensures done { item ≡ PacketItem.Packet → OnOk result (IfSome (payload_asked session.old.looked payload.now session.old.machine) (λ events. IsCarriedOut reply events session.old.machine session.new.machine (acknowledgement session.old.acknowledges item) desk.new.out.items)) }
     ensures kept { KeepsJournal session.old.machine session.new.machine }
 {
     match item {

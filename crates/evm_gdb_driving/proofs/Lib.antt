@@ -1,3 +1,6 @@
+pub mod Inside
 pub mod Kept
 pub mod Lists
 pub mod Making
+pub mod Whole
+pub mod Writing

@@ -2,4 +2,5 @@ pub mod Interrupts
 pub mod Kept
 pub mod Setting
 pub mod Shown
+pub mod Writing
 pub use Rattle.evm_debug.specs as evm_debug

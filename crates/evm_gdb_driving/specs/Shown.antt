@@ -1,11 +1,13 @@
 -- What packets show of the machine: registers, bytes, threads and stops.
-use Rattle.std.specs.Prelude.{ℕ, zero, suc, ◌+◌, ◌%◌, List, [], ◌∷◌, ◌++◌, Option, Some, None, codes, nat_lt, if◌then◌else◌, ◌==◌}
+use Rattle.std.specs.Prelude.{ℕ, zero, suc, ◌+◌, ◌%◌, List, [], ◌∷◌, ◌++◌, Option, Some, None, Result, Ok, Err, codes, nat_lt, if◌then◌else◌, ◌==◌}
 use Rattle.std.specs.Int.{w64, to_le_bytes}
 use Rattle.evm_text.specs.Written.{pairs}
 use Rattle.evm_exec.specs.Registers.{register_of}
 use Rattle.evm_exec.specs.declared.hart.Hart.{Hart}
 use Rattle.evm_exec.specs.declared.hart.TheConstants.{REGISTERS}
+use Rattle.evm_model.specs.Refusals.{number_of}
 use Rattle.evm_model.specs.declared.fault.Fault.TheVariants as faults
+use Rattle.evm_model.specs.declared.refusal.Refusal.{Refusal}
 use Rattle.evm_gdb_driving.specs.declared.stops.TargetHalt.{TargetHalt}
 use Rattle.evm_gdb_driving.specs.declared.stops.Why.{Why}
 use Rattle.evm_gdb_driving.specs.declared.stops.Why.TheVariants.{Asked, SoftwareBreak, HardwareBreak, Ebreak, Faulted, Interrupted, Limit, Idle}
@@ -21,6 +23,11 @@ thread_text task = pairs ((task + 1) % 256 ∷ [])
 -- E and a number of two digits
 abbrev pub error_text : ℕ → List ℕ
 error_text number = codes "E" ++ pairs (number ∷ [])
+
+-- OK, or the error of a refusal
+abbrev pub outcome_text : Result (Unit {0}) Refusal → List ℕ
+outcome_text (Ok done) = codes "OK"
+outcome_text (Err refusal) = error_text (number_of refusal)
 
 -- ---- registers
 

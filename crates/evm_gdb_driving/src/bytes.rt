@@ -1,8 +1,8 @@
 //! Parts of answers.
 
-ghost use Rattle.std.specs.Prelude.{◌≡◌, ◌<◌, ◌≤◌, ◌++◌, OnOk};
+ghost use Rattle.std.specs.Prelude.{◌≡◌, ◌<◌, ◌≤◌, ◌++◌, min, OnOk};
 ghost use Rattle.std.specs.Int.{w64, to_le_bytes};
-ghost use Rattle.evm_gdb_driving.specs.Shown.{error_text, thread_text, word_text};
+ghost use Rattle.evm_gdb_driving.specs.Shown.{error_text, outcome_text, thread_text, word_text};
 
 use evm_gdb_packets::push_digits;
 use evm_model::Refusal;
@@ -42,7 +42,9 @@ pub fn push_error(out: &mut Vec<u8>, number: u8) -> Result<(), Refused>
 }
 
 /// Appends `OK`, or the error of a refusal.
-pub fn push_outcome(out: &mut Vec<u8>, outcome: Result<(), Refusal>) -> Result<(), Refused> {
+pub fn push_outcome(out: &mut Vec<u8>, outcome: Result<(), Refusal>) -> Result<(), Refused>
+    ensures ok { OnOk result (out.new.items ≡ out.old.items ++ outcome_text outcome) }
+{
     match outcome {
         Ok(()) => push_bytes(out, b"OK"),
         Err(refusal) => push_error(out, refusal.number()),
@@ -54,6 +56,7 @@ pub fn part_len(len: usize, most: usize) -> usize
     requires { 0 < most }
     ensures within { result ≤ len }
     ensures some { 0 < len → 0 < result }
+    ensures least { result ≡ min most len }
 {
     if len < most { len } else { most }
 }

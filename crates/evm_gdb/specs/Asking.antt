@@ -1,0 +1,67 @@
+-- What a packet asks of the machine: the events that are made, and their answer.
+use Rattle.std.specs.Prelude.{◌≡◌, ℕ, Bool, true, false, List, [], ◌∷◌, ◌++◌, Option, Some, None, Result, Ok, Err, length, if◌then◌else◌, ◌==◌}
+use Rattle.evm_text.specs.Reading.{◌>>=◌}
+use Rattle.evm_model.specs.Event.{Event}
+use Rattle.evm_model.specs.State.{State}
+use Rattle.evm_model.specs.declared.event.Event.TheVariants.{Break, Unbreak}
+use Rattle.evm_model.specs.declared.refusal.Refusal.{Refusal}
+use Rattle.evm_model.specs.declared.refusal.Refusal.TheVariants.{BadAddress}
+use Rattle.evm_gdb_commands.specs.Commands.{command_at}
+use Rattle.evm_gdb_commands.specs.declared.command.Command.{Command}
+use Rattle.evm_gdb_commands.specs.declared.command.Command.TheVariants as commands
+use Rattle.evm_gdb_driving.specs.Setting.{MakesAsked, registers_setting}
+use Rattle.evm_gdb_driving.specs.Shown.{outcome_text}
+use Rattle.evm_gdb_driving.specs.Writing.{writing}
+use Rattle.evm_gdb_packets.specs.Framing.{framed}
+use Rattle.evm_gdb_packets.specs.Hexadecimal.{bytes_of_digits}
+use Rattle.evm_gdb.specs.Setting.{register_write}
+
+-- bytes are written where there are as many as was said
+abbrev pub counted_writing : ℕ → ℕ → List ℕ → State → Result (List Event) Refusal
+counted_writing address count bytes s = if length bytes == count then writing address bytes s else Err BadAddress
+
+-- the events that a command with these bytes asks for, where task `looked` is looked at
+abbrev pub asked_by : ℕ → List ℕ → State → Command → Option (Result (List Event) Refusal)
+asked_by looked bytes s commands.SetRegisters = Some (registers_setting looked bytes s.board.parts)
+asked_by looked bytes s (commands.SetRegister r) = Some (register_write looked r bytes s.board.parts)
+asked_by looked bytes s (commands.WriteDigits address count) = Some (counted_writing address count bytes s)
+asked_by looked bytes s (commands.WriteBytes address count) = Some (counted_writing address count bytes s)
+asked_by looked bytes s _ = None
+
+-- the commands behind which digits stand
+abbrev pub has_digits : Command → Bool
+has_digits commands.SetRegisters = true
+has_digits (commands.SetRegister r) = true
+has_digits (commands.WriteDigits address count) = true
+has_digits commands.Monitor = true
+has_digits _ = false
+
+-- the event of a breakpoint that is set or removed
+abbrev pub breakpoint_asked : Command → Option (Result (List Event) Refusal)
+breakpoint_asked (commands.Insert kind address) = Some (Ok (Break address ∷ []))
+breakpoint_asked (commands.Remove kind address) = Some (Ok (Unbreak address ∷ []))
+breakpoint_asked _ = None
+
+-- the events that a command asks for, with what is behind it: X has bytes there, and the others digits. None where these are no digits
+abbrev pub asked : ℕ → List ℕ → State → Command → Option (Result (List Event) Refusal)
+asked looked behind s commands.SetRegisters = bytes_of_digits behind >>= λ bytes. asked_by looked bytes s commands.SetRegisters
+asked looked behind s (commands.SetRegister r) = bytes_of_digits behind >>= λ bytes. asked_by looked bytes s (commands.SetRegister r)
+asked looked behind s (commands.WriteDigits address count) = bytes_of_digits behind >>= λ bytes. asked_by looked bytes s (commands.WriteDigits address count)
+asked looked behind s (commands.WriteBytes address count) = asked_by looked behind s (commands.WriteBytes address count)
+asked looked behind s (commands.Insert kind address) = breakpoint_asked (commands.Insert kind address)
+asked looked behind s (commands.Remove kind address) = breakpoint_asked (commands.Remove kind address)
+asked looked behind s _ = None
+
+-- the events that a payload asks for
+abbrev pub payload_asked : ℕ → List ℕ → State → Option (Result (List Event) Refusal)
+payload_asked looked payload s = command_at payload >>= λ said. asked looked said.1 s said.0
+
+-- the packet that says how events ended
+abbrev pub reply : Result (Unit {0}) Refusal → List ℕ
+reply outcome = framed (outcome_text outcome)
+
+-- the events that are asked for are made, up to the first that is refused, and the answer says how they ended
+pub record IsCarriedOut (text : Result (Unit {0}) Refusal → List ℕ) (events : Result (List Event) Refusal) (old new : State) (before after : List ℕ) : Type 0 where
+  pub outcome : Result (Unit {0}) Refusal
+  pub made : MakesAsked events outcome old new
+  pub told : after ≡ before ++ text outcome
