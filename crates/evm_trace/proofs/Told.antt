@@ -1,6 +1,6 @@
 -- One change more.
 use Rattle.std.proofs.Common.{◌≡◌, ℕ, ◌+◌, ◌<◌, length, take, get_or, List, [], ◌∷◌, ◌++◌, Option, refl, sym, ap, ◌∙◌, append_assoc, append-nil}
-use Rattle.std.specs.Prelude.{flat_map}
+use Rattle.std.specs.Prelude.{flat_map, IsOk, OnOk, Result, Ok, Err}
 use Rattle.std.proofs.lemmas.Grind.{flat_map-append}
 use Rattle.std.proofs.lemmas.List.{take_more}
 use Rattle.evm_timeline.specs.declared.mark.Mark.{Mark}
@@ -56,3 +56,13 @@ told_more at marks i d old so_far new below before one =
     let next : take (i + 1) marks ≡ front ++ m ∷ [] = take_more marks i d below in
     let more : flat_map f (take (i + 1) marks) ≡ flat_map f front ++ f m = ap (flat_map f) next ∙ flat_map-append f front (m ∷ []) ∙ ap (λ (ns : List Note). flat_map f front ++ ns) (append-nil (f m)) in
     one ∙ ap (λ (ns : List Note). ns ++ f m) before ∙ append_assoc old (flat_map f front) (f m) ∙ ap (λ (ns : List Note). old ++ ns) (sym more)
+
+-- ---- no changes
+pub no_instants : instants_in [] ≡ []
+unfolding instants_in
+no_instants = refl
+
+-- what holds of what is returned, where it is returned
+pub on-ok : {A E : Type 0} (P : Type 0) (r : Result A E) → OnOk r P → IsOk r → P
+on-ok P (Ok a) h ok = h
+on-ok P (Err e) h ok = absurd cc

@@ -1,3 +1,4 @@
 pub mod Flows
 pub mod Instants
 pub mod Spots
+pub mod Tellings

@@ -1,6 +1,8 @@
 //! A journal's run, told as a trace.
 
-ghost use Rattle.std.specs.Prelude.{OnOk};
+ghost use Rattle.std.specs.Prelude.{◌≡◌, ◌++◌, [], flat_map, true, IsOk, OnOk};
+ghost use Rattle.evm_trace.specs.Instants.{instants_in, instants_of};
+ghost use Rattle.evm_trace.specs.Tellings.{TellsOn};
 ghost use Rattle.evm_places.specs.Placed.{IsPlacedSomewhere};
 
 use crate::changes::Changes;
@@ -11,7 +13,7 @@ use evm_places::{CodePlace, Placer, Symbols, trace_places};
 use evm_program::Meter;
 use evm_room::Refused;
 use evm_streams::{Sink, WriteFault};
-use evm_timeline::{Devices, InputFault, Mark, Walk, WalkStop};
+use evm_timeline::{Devices, InputFault, Item, Mark, Walk, WalkStop};
 use evm_tracks::{Change, RunStop, Teller, Told, TraceStop};
 use std::alloc::Global;
 
@@ -49,7 +51,9 @@ struct Telling<'m, M: Meter> {
     meter: &'m mut M,
 }
 
-fn told(outcome: Result<(), Refused>) -> Told {
+fn told(outcome: Result<(), Refused>) -> Told
+    ensures { result ≡ Told.Changes → IsOk outcome }
+{
     match outcome {
         Ok(()) => Told::Changes,
         Err(_) => Told::NoMemory,
@@ -58,12 +62,27 @@ fn told(outcome: Result<(), Refused>) -> Told {
 
 impl<M: Meter> Telling<'_, M> {
     // Tells the event at a tick, whose marks were found.
-    fn event(&mut self, list: &mut Vec<Change>, at: u64) -> Result<(), Refused> {
+    fn event(&mut self, list: &mut Vec<Change>, at: u64) -> Result<(), Refused>
+        ensures instants { OnOk result (instants_in list.new.items ≡ instants_in list.old.items ++ flat_map (instants_of at) self.old.marks.items) }
+        ensures walk { self.new.walk ≡ self.old.walk }
+    {
         let marks = self.marks.as_slice();
         if self.named {
             place_marks(&mut self.places, self.walk.machine(), marks, at)?;
         }
         self.changes.event(list, self.walk.look(), marks, at)
+    }
+
+    // Tells an item, whose marks were found: a quiet one has none, and is no event of the trace.
+    fn item(&mut self, list: &mut Vec<Change>, item: &Item) -> Result<(), Refused>
+        requires { item.now.quiet ≡ true → self.old.marks.items ≡ [] }
+        ensures instants { OnOk result (instants_in list.new.items ≡ instants_in list.old.items ++ flat_map (instants_of item.now.first) self.old.marks.items) }
+        ensures walk { self.new.walk ≡ self.old.walk }
+    {
+        if item.quiet {
+            return Ok(());
+        }
+        self.event(list, item.first)
     }
 
     // Tells what is seen before the first event.
@@ -75,7 +94,9 @@ impl<M: Meter> Telling<'_, M> {
     }
 
     // The next event, or the next run of Steps that change only registers and RAM.
-    fn walk_on(&mut self, list: &mut Vec<Change>) -> Told {
+    fn walk_on(&mut self, list: &mut Vec<Change>) -> Told
+        ensures { list.old.items ≡ [] → result ≡ Told.Changes → TellsOn self.old.walk self.new.walk list.new.items }
+    {
         self.meter.passed(self.walk.next_event());
         match self.walk.next(&mut self.marks) {
             Err(WalkStop::NoMemory) => Told::NoMemory,
@@ -87,8 +108,7 @@ impl<M: Meter> Telling<'_, M> {
                 self.stage = Stage::Ends;
                 Told::Changes
             }
-            Ok(Some(item)) if item.quiet => Told::Changes,
-            Ok(Some(item)) => told(self.event(list, item.first)),
+            Ok(Some(item)) => told(self.item(list, &item)),
         }
     }
 
