@@ -191,3 +191,9 @@ module _ {W : Type 0} (takes : W → Writing → List ℕ → W → Type 0) wher
         json = placed_is_json changes symbols places fits all;
       }
   placed (Err stop) start sink changes symbols places fits all took = tt
+
+  pub took_of : {E : Type 0} (result : Result (Unit {0}) E) (start sink : W) (changes : List Change) (symbols : List Named) (places : List CodePlace)
+      → OnOk result (Took takes start (((start_text ++ record_lines (records_of no_spans (in_order 0 changes))) ++ place_lines symbols places) ++ codes "\n]}") sink)
+      → OnOk result (Took takes start (placed_text (trace_of changes) symbols places) sink)
+  took_of (Ok done) start sink changes symbols places took = subst (λ (x : List ℕ). Took takes start x sink) (sym (written (records_of no_spans (in_order 0 changes)) symbols places)) took
+  took_of (Err stop) start sink changes symbols places took = tt

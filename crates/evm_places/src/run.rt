@@ -1,8 +1,9 @@
 //! A run that is told to its end, with places.
 
-ghost use Rattle.std.specs.Prelude.{OnOk};
-ghost use Rattle.evm_tracks.specs.Telling.{IsTelling};
+ghost use Rattle.std.specs.Prelude.{[], OnOk};
+ghost use Rattle.evm_tracks.specs.Telling.{Tells};
 ghost use Rattle.evm_places.specs.Placed.{IsPlacedSomewhere};
+ghost use Rattle.evm_places.specs.Runs.{IsRunPlaced, TellsCalls};
 
 use crate::place::CodePlace;
 use crate::writing::finish;
@@ -17,7 +18,7 @@ pub trait Placer {
     fn places(&self) -> &[CodePlace];
 }
 
-// Tells what the teller finds, in at most this number of calls.
+// Tells what the teller finds, in at most this number of calls. A run that has not ended then is a fault.
 fn tell_run<T: Teller, W: Sink>(
     alloc: Global,
     teller: &mut T,
@@ -25,13 +26,13 @@ fn tell_run<T: Teller, W: Sink>(
     trace: &mut Trace,
     sink: &mut W,
 ) -> Result<(), RunStop>
-    ensures { (start : W) → IsTelling W.takes start sink.old trace.old → OnOk result (IsTelling W.takes start sink.new trace.new) }
+    ensures { (start : W) → Tells W.takes start [] sink.old trace.old → OnOk result (TellsCalls T.tells T.ended teller.old W.takes start sink.new trace.new) }
 {
     let mut changes = Vec::new(alloc);
     for _ in 0..calls {
         changes.clear();
         match teller.next(&mut changes) {
-            Told::Changes => match trace.tell_more(sink, changes.as_slice()) {
+            Told::Changes => match trace.tell(sink, changes.as_slice()) {
                 Ok(()) => {}
                 Err(stop) => return Err(RunStop::Trace(stop)),
             },
@@ -40,7 +41,7 @@ fn tell_run<T: Teller, W: Sink>(
             Told::NoMemory => return Err(RunStop::Trace(TraceStop::NoMemory)),
         }
     }
-    Ok(())
+    Err(RunStop::Fault)
 }
 
 // Traces a run on a trace that was begun.
@@ -52,7 +53,8 @@ fn trace_to_end<T: Teller + Placer, W: Sink>(
     trace: &mut Trace,
     sink: &mut W,
 ) -> Result<(), RunStop>
-    ensures { (start : W) → IsTelling W.takes start sink.old trace.old → OnOk result (IsPlacedSomewhere W.takes start symbols.now.symbols sink.new) }
+    ensures placed { (start : W) → Tells W.takes start [] sink.old trace.old → OnOk result (IsPlacedSomewhere W.takes start symbols.now.symbols sink.new) }
+    ensures run { (start : W) → Tells W.takes start [] sink.old trace.old → OnOk result (IsRunPlaced T.tells T.ended teller.old W.takes start symbols.now.symbols sink.new) }
 {
     match tell_run(alloc, teller, calls, trace, sink) {
         Err(stop) => Err(stop),
@@ -67,7 +69,7 @@ fn trace_to_end<T: Teller + Placer, W: Sink>(
 ///
 /// # Errors
 ///
-/// The teller met a fault, memory was refused, or a write failed.
+/// The teller met a fault or has not ended, memory was refused, or a write failed.
 pub fn trace_places<T: Teller + Placer, W: Sink>(
     alloc: Global,
     teller: &mut T,
@@ -75,7 +77,8 @@ pub fn trace_places<T: Teller + Placer, W: Sink>(
     symbols: &Symbols,
     sink: &mut W,
 ) -> Result<(), RunStop>
-    ensures { OnOk result (IsPlacedSomewhere W.takes sink.old symbols.now.symbols sink.new) }
+    ensures placed { OnOk result (IsPlacedSomewhere W.takes sink.old symbols.now.symbols sink.new) }
+    ensures run { OnOk result (IsRunPlaced T.tells T.ended teller.old W.takes sink.old symbols.now.symbols sink.new) }
 {
     match Trace::on(alloc, sink) {
         Ok(mut trace) => trace_to_end(alloc, teller, calls, symbols, &mut trace, sink),

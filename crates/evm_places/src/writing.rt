@@ -3,9 +3,11 @@
 ghost use Rattle.std.specs.Prelude.{◌≡◌, ◌++◌, ◌+◌, ◌<◌, ◌^◌, ℕ, List, [], All, OnOk, codes};
 ghost use Rattle.std.specs.String.{string_bytes};
 ghost use Rattle.evm_streams.specs.Writes.{Took};
-ghost use Rattle.evm_tracks.specs.Telling.{IsTelling};
+ghost use Rattle.evm_tracks.specs.Changes.{trace_of};
+ghost use Rattle.evm_tracks.specs.Telling.{IsTelling, Tells};
+ghost use Rattle.evm_tracks.specs.declared.change.Change.{Change};
 ghost use Rattle.evm_places.specs.Places.{place_line, place_lines};
-ghost use Rattle.evm_places.specs.Placed.{FitsPlace, IsPending, IsPlaced};
+ghost use Rattle.evm_places.specs.Placed.{FitsPlace, IsPending, IsPlaced, placed_text};
 
 use crate::line::push_place;
 use crate::place::CodePlace;
@@ -140,7 +142,8 @@ pub(crate) fn finish<W: Sink>(
     places: &[CodePlace],
     sink: &mut W,
 ) -> Result<(), TraceStop>
-    ensures { (start : W) → IsTelling W.takes start sink.old trace.old → OnOk result (IsPlaced W.takes start symbols.now.symbols places.now sink.new) }
+    ensures placed { (start : W) → IsTelling W.takes start sink.old trace.old → OnOk result (IsPlaced W.takes start symbols.now.symbols places.now sink.new) }
+    ensures took { (start : W) (told : List Change) → Tells W.takes start told sink.old trace.old → OnOk result (Took W.takes start (placed_text (trace_of told) symbols.now.symbols places.now) sink.new) }
 {
     fit_places(places);
     write_to_end(alloc, &mut trace.text, symbols, places, sink)

@@ -1,2 +1,3 @@
 pub mod Told
 mod Placed
+pub mod Tellings

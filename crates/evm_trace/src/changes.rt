@@ -55,7 +55,9 @@ fn name(list: &mut Vec<Change>, track: Track, at: u64) -> Result<(), Refused>
     note(list, track, at, Detail::SortIndex)
 }
 
-fn name_processors(list: &mut Vec<Change>, count: u8) -> Result<(), Refused> {
+fn name_processors(list: &mut Vec<Change>, count: u8) -> Result<(), Refused>
+    ensures { OnOk result (instants_in list.new.items ≡ instants_in list.old.items) }
+{
     for cpu in 0..count {
         name(list, Track::OutOfBand(cpu), 0)?;
         name(list, Track::InBand(cpu), 0)?;
@@ -76,7 +78,9 @@ fn name_task(list: &mut Vec<Change>, look: &Look, task: u8, at: u64) -> Result<(
     }
 }
 
-fn name_tasks(list: &mut Vec<Change>, look: &Look) -> Result<(), Refused> {
+fn name_tasks(list: &mut Vec<Change>, look: &Look) -> Result<(), Refused>
+    ensures { OnOk result (instants_in list.new.items ≡ instants_in list.old.items) }
+{
     for task in 0..look.task_count {
         name_task(list, look, task, 0)?;
     }
@@ -383,7 +387,10 @@ impl Changes {
     }
 
     /// Tells names, ranks and what the tracks show before the first event.
-    pub(crate) fn begin(&mut self, list: &mut Vec<Change>, look: &Look) -> Result<(), Refused> {
+    #[tactic(auto, using(crate::proofs::Told::told))]
+    pub(crate) fn begin(&mut self, list: &mut Vec<Change>, look: &Look) -> Result<(), Refused>
+        ensures { OnOk result (instants_in list.new.items ≡ instants_in list.old.items) }
+    {
         note(list, Track::Task(0), 0, Detail::ProcessName)?;
         note(list, Track::Lines(0), 0, Detail::ProcessName)?;
         name_processors(list, look.cpu_count)?;
@@ -413,14 +420,31 @@ impl Changes {
     }
 
     /// Tells that the tracks show nothing more, behind the last event.
-    pub(crate) fn end(&self, list: &mut Vec<Change>, look: &Look, at: u64) -> Result<(), Refused> {
-        for cpu in 0..look.cpu_count {
-            shows(list, Track::OutOfBand(cpu), None, at)?;
-            shows(list, Track::InBand(cpu), None, at)?;
-        }
-        for task in 0..look.task_count {
-            shows(list, Track::Task(task), None, at)?;
-        }
-        Ok(())
+    pub(crate) fn end(&self, list: &mut Vec<Change>, look: &Look, at: u64) -> Result<(), Refused>
+        ensures { OnOk result (instants_in list.new.items ≡ instants_in list.old.items) }
+    {
+        end_processors(list, look.cpu_count, at)?;
+        end_tasks(list, look.task_count, at)
     }
+}
+
+// The tracks of processors show nothing more.
+fn end_processors(list: &mut Vec<Change>, count: u8, at: u64) -> Result<(), Refused>
+    ensures { OnOk result (instants_in list.new.items ≡ instants_in list.old.items) }
+{
+    for cpu in 0..count {
+        shows(list, Track::OutOfBand(cpu), None, at)?;
+        shows(list, Track::InBand(cpu), None, at)?;
+    }
+    Ok(())
+}
+
+// The tracks of tasks show nothing more.
+fn end_tasks(list: &mut Vec<Change>, count: u8, at: u64) -> Result<(), Refused>
+    ensures { OnOk result (instants_in list.new.items ≡ instants_in list.old.items) }
+{
+    for task in 0..count {
+        shows(list, Track::Task(task), None, at)?;
+    }
+    Ok(())
 }

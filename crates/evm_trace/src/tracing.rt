@@ -1,8 +1,8 @@
 //! A journal's run, told as a trace.
 
-ghost use Rattle.std.specs.Prelude.{◌≡◌, ◌++◌, [], flat_map, true, IsOk, OnOk};
+ghost use Rattle.std.specs.Prelude.{◌≡◌, ◌≢◌, ◌++◌, [], flat_map, true, IsOk, OnOk};
 ghost use Rattle.evm_trace.specs.Instants.{instants_in, instants_of};
-ghost use Rattle.evm_trace.specs.Tellings.{TellsOn};
+ghost use Rattle.evm_trace.specs.Tellings.{GoesOn, IsTraceOf, IsTraceOfText, TellsCall, TellsOn};
 ghost use Rattle.evm_places.specs.Placed.{IsPlacedSomewhere};
 
 use crate::changes::Changes;
@@ -30,7 +30,7 @@ pub enum TraceEnd {
 
 /// How far a run was told.
 #[derive(Clone, Copy)]
-enum Stage {
+pub enum Phase {
     Begins,
     Goes,
     Ends,
@@ -39,20 +39,21 @@ enum Stage {
 
 /// A walk over a journal, and the changes that tell it.
 #[derive(Drop)]
-struct Telling<'m, M: Meter> {
+pub struct Telling<'m, M: Meter> {
     walk: Walk<AnyDevice>,
     changes: Changes,
     marks: Vec<Mark>,
     // where tasks are when something happens, if the image has symbols
     places: Vec<CodePlace>,
     named: bool,
-    stage: Stage,
+    phase: Phase,
     fault: Option<InputFault>,
     meter: &'m mut M,
 }
 
 fn told(outcome: Result<(), Refused>) -> Told
-    ensures { result ≡ Told.Changes → IsOk outcome }
+    ensures changes { result ≡ Told.Changes → IsOk outcome }
+    ensures end { result ≢ Told.End }
 {
     match outcome {
         Ok(()) => Told::Changes,
@@ -65,6 +66,7 @@ impl<M: Meter> Telling<'_, M> {
     fn event(&mut self, list: &mut Vec<Change>, at: u64) -> Result<(), Refused>
         ensures instants { OnOk result (instants_in list.new.items ≡ instants_in list.old.items ++ flat_map (instants_of at) self.old.marks.items) }
         ensures walk { self.new.walk ≡ self.old.walk }
+        ensures phase { self.new.phase ≡ self.old.phase }
     {
         let marks = self.marks.as_slice();
         if self.named {
@@ -78,6 +80,7 @@ impl<M: Meter> Telling<'_, M> {
         requires { item.now.quiet ≡ true → self.old.marks.items ≡ [] }
         ensures instants { OnOk result (instants_in list.new.items ≡ instants_in list.old.items ++ flat_map (instants_of item.now.first) self.old.marks.items) }
         ensures walk { self.new.walk ≡ self.old.walk }
+        ensures phase { self.new.phase ≡ self.old.phase }
     {
         if item.quiet {
             return Ok(());
@@ -86,7 +89,11 @@ impl<M: Meter> Telling<'_, M> {
     }
 
     // Tells what is seen before the first event.
-    fn first(&mut self, list: &mut Vec<Change>) -> Result<(), Refused> {
+    fn first(&mut self, list: &mut Vec<Change>) -> Result<(), Refused>
+        ensures instants { OnOk result (instants_in list.new.items ≡ instants_in list.old.items) }
+        ensures walk { self.new.walk ≡ self.old.walk }
+        ensures phase { self.new.phase ≡ self.old.phase }
+    {
         if self.named {
             place_tasks(&mut self.places, self.walk.machine())?;
         }
@@ -95,7 +102,9 @@ impl<M: Meter> Telling<'_, M> {
 
     // The next event, or the next run of Steps that change only registers and RAM.
     fn walk_on(&mut self, list: &mut Vec<Change>) -> Told
-        ensures { list.old.items ≡ [] → result ≡ Told.Changes → TellsOn self.old.walk self.new.walk list.new.items }
+        ensures tells { list.old.items ≡ [] → result ≡ Told.Changes → TellsOn self.old.walk self.new.walk list.new.items }
+        ensures goes_on { self.old.phase ≡ Phase.Goes → result ≡ Told.Changes → GoesOn self.new.phase self.new.walk }
+        ensures end { result ≢ Told.End }
     {
         self.meter.passed(self.walk.next_event());
         match self.walk.next(&mut self.marks) {
@@ -105,36 +114,57 @@ impl<M: Meter> Telling<'_, M> {
                 Told::Fault
             }
             Ok(None) => {
-                self.stage = Stage::Ends;
+                self.phase = Phase::Ends;
                 Told::Changes
             }
             Ok(Some(item)) => told(self.item(list, &item)),
         }
     }
 
-    fn begin(&mut self, list: &mut Vec<Change>) -> Told {
-        self.stage = Stage::Goes;
+    fn begin(&mut self, list: &mut Vec<Change>) -> Told
+        ensures instants { result ≡ Told.Changes → instants_in list.new.items ≡ instants_in list.old.items }
+        ensures walk { self.new.walk ≡ self.old.walk }
+        ensures phase { self.new.phase ≡ Phase.Goes }
+        ensures end { result ≢ Told.End }
+    {
+        self.phase = Phase::Goes;
         told(self.first(list))
     }
 
     // Tells the end, behind the last one.
-    fn end(&mut self, list: &mut Vec<Change>) -> Told {
-        self.stage = Stage::Ended;
+    fn end(&mut self, list: &mut Vec<Change>) -> Told
+        ensures instants { result ≡ Told.Changes → instants_in list.new.items ≡ instants_in list.old.items }
+        ensures walk { self.new.walk ≡ self.old.walk }
+        ensures phase { self.new.phase ≡ Phase.Ended }
+        ensures end { result ≢ Told.End }
+    {
+        self.phase = Phase::Ended;
         let last = self.walk.next_event().saturating_add(1);
         told(self.changes.end(list, self.walk.look(), last))
     }
 
-    fn go_on(&mut self, list: &mut Vec<Change>) -> Told {
-        match self.stage {
-            Stage::Begins => self.begin(list),
-            Stage::Goes => self.walk_on(list),
-            Stage::Ends => self.end(list),
-            Stage::Ended => Told::End,
+    fn go_on(&mut self, list: &mut Vec<Change>) -> Told
+        ensures tells { list.old.items ≡ [] → result ≡ Told.Changes → TellsCall self.old.phase self.old.walk list.new.items self.new.phase self.new.walk }
+        ensures end { result ≡ Told.End → self.old.phase ≡ Phase.Ended }
+    {
+        match self.phase {
+            Phase::Begins => self.begin(list),
+            Phase::Goes => self.walk_on(list),
+            Phase::Ends => self.end(list),
+            Phase::Ended => Told::End,
         }
     }
 }
 
 impl<M: Meter> Teller for Telling<'_, M> {
+    ghost use Rattle.std.specs.Prelude.{◌≡◌};
+    ghost use Rattle.evm_trace.specs.Tellings.{TellsCall};
+    ghost use Rattle.evm_trace.specs.declared.tracing.Phase.TheVariants.{Ended};
+
+    ghost tells = { λ a changes b. TellsCall a.phase a.walk changes b.phase b.walk };
+
+    ghost ended = { λ a. a.phase ≡ Ended };
+
     fn next(&mut self, changes: &mut Vec<Change>) -> Told {
         self.go_on(changes)
     }
@@ -163,7 +193,8 @@ fn trace_walk<W: Sink, M: Meter>(
     meter: &mut M,
     sink: &mut W,
 ) -> Result<(), TraceEnd>
-    ensures { OnOk result (IsPlacedSomewhere W.takes sink.old symbols.now.symbols sink.new) }
+    ensures trace { OnOk result (IsTraceOf walk W.takes sink.old symbols.now.symbols sink.new) }
+    ensures placed { OnOk result (IsPlacedSomewhere W.takes sink.old symbols.now.symbols sink.new) }
 {
     // The begin, the end, and that there is no more are a call each.
     let calls = walk.event_count().saturating_add(4);
@@ -173,7 +204,7 @@ fn trace_walk<W: Sink, M: Meter>(
         marks: Vec::new(alloc),
         places: Vec::new(alloc),
         named: !symbols.symbols().is_empty(),
-        stage: Stage::Begins,
+        phase: Phase::Begins,
         fault: None,
         meter,
     };
@@ -200,7 +231,8 @@ pub fn trace_journal<W: Sink, M: Meter>(
     meter: &mut M,
     sink: &mut W,
 ) -> Result<(), TraceEnd>
-    ensures { OnOk result (IsPlacedSomewhere W.takes sink.old symbols.now.symbols sink.new) }
+    ensures trace { OnOk result (IsTraceOfText devices image.now journal.now W.takes sink.old symbols.now.symbols sink.new) }
+    ensures placed { OnOk result (IsPlacedSomewhere W.takes sink.old symbols.now.symbols sink.new) }
 {
     let walk = match Walk::start(alloc, image, devices, journal) {
         Ok(walk) => walk,

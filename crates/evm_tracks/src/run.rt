@@ -23,8 +23,19 @@ pub enum Told {
 
 /// What tells a run, some changes at a time.
 pub trait Teller {
+    ghost use Rattle.std.specs.Prelude.{◌≡◌, List, []};
+    ghost use Rattle.evm_tracks.specs.declared.change.Change.{Change};
+
+    // Which changes a call at one state may tell, and the state after it.
+    ghost tells: { Self → List Change → Self → Type 0 };
+
+    // At which states the run has ended.
+    ghost ended: { Self → Type 0 };
+
     /// Puts the next changes into a list that is empty.
-    fn next(&mut self, changes: &mut Vec<Change>) -> Told;
+    fn next(&mut self, changes: &mut Vec<Change>) -> Told
+        ensures changes { changes.old.items ≡ [] → result ≡ Told.Changes → tells self.old changes.new.items self.new }
+        ensures end { result ≡ Told.End → ended self.old };
 }
 
 /// Why a run is not traced to its end.

@@ -1,0 +1,33 @@
+-- A run that is told call by call, to its end.
+use Rattle.std.specs.Prelude.{ℕ, List, [], ◌++◌}
+use Rattle.evm_streams.specs.declared.sink.Writing.{Writing}
+use Rattle.evm_streams.specs.Writes.{Took}
+use Rattle.evm_symbols.specs.Named.{Named}
+use Rattle.evm_tracks.specs.Changes.{trace_of}
+use Rattle.evm_tracks.specs.Telling.{Tells}
+use Rattle.evm_tracks.specs.declared.change.Change.{Change}
+use Rattle.evm_tracks.specs.declared.trace.Trace.{Trace}
+use Rattle.evm_places.specs.Placed.{placed_text}
+use Rattle.evm_places.specs.declared.place.CodePlace.{CodePlace}
+
+-- on the way from one state of a teller to another these changes were told, a call behind the other
+pub data IsRun {T : Type 0} (tells : T → List Change → T → Type 0) (from : T) : List Change → T → Type 0 where
+  begins : IsRun tells from [] from
+  goes_on : (changes more : List Change) (mid to : T) → IsRun tells from changes mid → tells mid more to → IsRun tells from (changes ++ more) to
+
+-- the trace tells what was told until the run had ended
+pub record TellsCalls {T W : Type 0} (tells : T → List Change → T → Type 0) (ended : T → Type 0) (from : T) (takes : W → Writing → List ℕ → W → Type 0) (start sink : W) (trace : Trace) : Type 0 where
+  pub changes : List Change
+  pub to : T
+  pub run : IsRun tells from changes to
+  pub ends : ended to
+  pub told : Tells takes start changes sink trace
+
+-- the sink took the text of that trace, with some places
+pub record IsRunPlaced {T W : Type 0} (tells : T → List Change → T → Type 0) (ended : T → Type 0) (from : T) (takes : W → Writing → List ℕ → W → Type 0) (start : W) (symbols : List Named) (sink : W) : Type 0 where
+  pub changes : List Change
+  pub places : List CodePlace
+  pub to : T
+  pub run : IsRun tells from changes to
+  pub ends : ended to
+  pub took : Took takes start (placed_text (trace_of changes) symbols places) sink
