@@ -1,5 +1,5 @@
 -- A quiet Step changes only registers and RAM.
-use Rattle.std.proofs.Common.{◌≡◌, ℕ, List, Bool, true, false, not, ◌&&◌, Option, Some, None, Result, Ok, Err, refl, sym, ap, subst, ◌∙◌, arith}
+use Rattle.std.proofs.Common.{◌≡◌, ℕ, List, Bool, true, false, not, ◌&&◌, Option, Some, None, Result, Ok, Err, refl, sym, ap, subst, ◌∙◌, inl, inr, arith}
 use Rattle.std.specs.Prelude.{is_none, is_ok, is_some, slice_get, if◌then◌else◌}
 use Rattle.evm_board.proofs.Idle.{made-idle}
 use Rattle.evm_board.proofs.evm_rules.Places.{on_processor-same}
@@ -42,7 +42,7 @@ use Rattle.evm_quiet.specs.declared.stop.Stop.TheVariants.{Breakpoint}
 use Rattle.evm_ram.specs.Ram.{read_at, write_at}
 use Rattle.evm_ram.specs.declared.width.Width.{Width}
 use Rattle.evm_ram.specs.declared.width.Width.TheVariants.{Word}
-use Rattle.evm_timeline.specs.Quiet.{OnlyRuns, StepOnlyRuns, is_wire_clear, is_quiet, is_quiet_task, is_quiet_at, is_quiet_cpu}
+use Rattle.evm_timeline.specs.Quiet.{IsLoudNext, OnlyRuns, StepOnlyRuns, is_wire_clear, is_quiet, is_quiet_task, is_quiet_at, is_quiet_cpu}
 
 -- ---- Steps behind Steps
 pub runs-none : (b : Board) → OnlyRuns b b
@@ -226,3 +226,31 @@ made-runs c s t why made only = one-runs (apply s (Step c)) c s t why refl made 
 pub unrefused : (why : Option Refusal) → is_some why ≡ false → why ≡ None
 unrefused None h = refl
 unrefused (Some refusal) h = cc
+
+-- a Step that is refused leaves the machine
+one-refused : (r : Result (State × Answer) Refusal) (s t : State) (why : Refusal) → behind_step r s (λ v. (v, None)) ≡ (t, Some why) → (t ≡ s) × (r ≡ Err why)
+one-refused (Ok after) s t why made = let no : None ≡ Some why = ap (λ (x : State × Option Refusal). x.1) made in absurd cc
+one-refused (Err refusal) s t why made =
+    let same : Some refusal ≡ Some why = ap (λ (x : State × Option Refusal). x.1) made in
+    (sym (ap (λ (x : State × Option Refusal). x.0) made), (let it : refusal ≡ why = cc in ap Err it))
+
+refused : (c : ℕ) (s t : State) (why : Refusal) → steps c 1 s ≡ (t, Some why) → (t ≡ s) × (apply s (Step c) ≡ Err why)
+unfolding steps
+refused c s t why made = one-refused (apply s (Step c)) s t why made
+
+pub refused-loud : (c : ℕ) (s t : State) (why : Option Refusal) → steps c 1 s ≡ (t, why) → is_some why ≡ true → IsLoudNext c t
+refused-loud c s t None made h = cc
+refused-loud c s t (Some why) made h = let two = refused c s t why made in inr (why, subst (λ (v : State). apply v (Step c) ≡ Err why) (sym two.0) two.1)
+
+pub refused-same : (c : ℕ) (s t : State) (why : Option Refusal) → steps c 1 s ≡ (t, why) → is_some why ≡ true → t ≡ s
+refused-same c s t None made h = cc
+refused-same c s t (Some why) made h = (refused c s t why made).0
+
+made-refused : (r : Result (State × Answer) Refusal) (s t : State) (why : Refusal) → behind_step r s (λ v. (v, None)) ≡ (t, None) → r ≡ Err why → ⊥
+made-refused (Ok after) s t why made e = cc
+made-refused (Err refusal) s t why made e = let no : Some refusal ≡ None = ap (λ (x : State × Option Refusal). x.1) made in cc
+
+-- one that is made was not quiet, if the run of quiet ones ended there
+pub made-loud : (c : ℕ) (s t : State) → steps c 1 s ≡ (t, None) → IsLoudNext c s → is_quiet c s.board ≡ false
+unfolding steps
+made-loud c s t made h = elim h [ inl loud ↦ loud | inr why ↦ absurd (made-refused (apply s (Step c)) s t why.0 made why.1) ]

@@ -1,5 +1,5 @@
 -- Steps that change only registers and RAM.
-use Rattle.std.specs.Prelude.{◌≡◌, ℕ, Option, Some, None, Bool, false, not, ◌&&◌, Ok, is_ok, is_none, slice_get}
+use Rattle.std.specs.Prelude.{◌≡◌, ℕ, ◌⊎◌, Option, Some, None, Bool, false, not, ◌&&◌, Ok, Err, is_ok, is_none, slice_get}
 use Rattle.evm_exec.specs.declared.hart.Hart.{Hart}
 use Rattle.evm_lines.specs.Lines.{least_line}
 use Rattle.evm_model.specs.Pipes.{Pipe}
@@ -9,6 +9,7 @@ use Rattle.evm_model.specs.State.{Board, State}
 use Rattle.evm_model.specs.declared.event.Answer.{Answer}
 use Rattle.evm_model.specs.declared.event.Event.TheVariants.{Step}
 use Rattle.evm_model.specs.declared.processor.Processor.{Processor}
+use Rattle.evm_model.specs.declared.refusal.Refusal.{Refusal}
 use Rattle.evm_quiet.specs.Quiet.{quiet}
 
 -- nothing changed but registers and RAM
@@ -45,3 +46,7 @@ is_quiet_cpu (Some p) c b = not p.stopped && (not p.skip && (is_wire_clear (slic
 -- whether the next Step of processor c is quiet
 unfoldable pub is_quiet : ℕ → Board → Bool
 is_quiet c b = is_quiet_cpu (slice_get b.parts.processors c) c b
+
+-- the next Step of processor c isn't quiet, or is refused
+abbrev pub IsLoudNext : ℕ → State → Type 0
+IsLoudNext c s = (is_quiet c s.board ≡ false) ⊎ ((why : Refusal) × (apply s (Step c) ≡ Err why))
