@@ -1,12 +1,14 @@
 -- What a changed task leaves to be mended.
-use Rattle.std.proofs.Common.{◌≡◌, ℕ, zero, suc, ◌+◌, ◌<◌, List, [], ◌∷◌, ◌++◌, Option, Some, None, Bool, true, false, length, refl, ap, sym, ◌∙◌, inl, inr, arith, add-one, eq-eqb}
-use Rattle.std.specs.Prelude.{◌==◌, ◌&&◌, not, map, option_map, slice_get}
-use Rattle.std.proofs.lemmas.Bool.Decides.{eqb_tells}
+use Rattle.std.proofs.Common.{◌≡◌, ℕ, zero, suc, ◌+◌, ◌<◌, ◌≤◌, List, [], ◌∷◌, ◌++◌, Option, Some, None, Bool, true, false, length, refl, ap, sym, ◌∙◌, inl, inr, arith, add-one, eq-eqb}
+use Rattle.std.specs.Prelude.{◌==◌, ◌&&◌, if◌then◌else◌, nat_lt, not, map, option_map, slice_get}
+use Rattle.std.proofs.lemmas.Bool.Decides.{eqb_tells, nat_tests}
 use Rattle.std.proofs.lemmas.List.{length-append}
 use Rattle.evm_boost.proofs.Entries.{as-entered, entered-by, entered-change, entered-push, entered-same}
 use Rattle.evm_boost.proofs.Settled.{away, scheduled-settled, settling, sound-falls, sound-fewer}
+use Rattle.evm_boost.specs.Scatter.{class_rank_at}
 use Rattle.evm_boost.specs.Scheduled.{Scheduled, IsScheduled, AreSoundBoosts}
-use Rattle.evm_boost.specs.Settling.{entered_as, IsOpen, IsRelinked, IsSettling, stamped}
+use Rattle.evm_boost.specs.Settling.{entered_as, IsOpen, IsRelinked, IsSettling, fallen_owner, raised_heir, stamped}
+use Rattle.evm_mending.proofs.Mending.{link-covered, link-fewer}
 use Rattle.evm_mending.proofs.Relinks.{relink-keeps}
 use Rattle.evm_mending.specs.Mending.{no_task, with_task}
 use Rattle.evm_model.proofs.Lists.{change-elsewhere, change-here, length-change, same_elements}
@@ -24,7 +26,7 @@ use Rattle.evm_model.specs.declared.task.TaskState.{TaskState}
 use Rattle.evm_model.specs.declared.task.TaskState.TheVariants.{InReady, OobReady, Waits, Exit, Faulted}
 use Rattle.evm_model.specs.declared.task.Wait.{Wait}
 use Rattle.evm_mending.proofs.Least.{greatest-links}
-use Rattle.evm_ranks.proofs.Greatest.{greatest-same}
+use Rattle.evm_ranks.proofs.Greatest.{greatest-first, greatest-same}
 use Rattle.evm_ranks.specs.Boosts.{greatest, is_number}
 use Rattle.evm_ready.specs.ListedRanks.{listed_rank, rank_or_0}
 use Rattle.evm_ready.specs.Places.{ready_place}
@@ -234,6 +236,97 @@ relink-settling s next mutexes tasks t before heir is now places waiters ranks w
     (λ yes u out. is.own u)
     (λ yes u v out. relink-links mutexes is.last tasks t u v before heir is.others is.boosted now
     (out-first before (with_task heir no_task) u out) (out-first heir no_task u (out-second before (with_task heir no_task) u out)))
+
+-- the heir of a task that ranks no higher has its rank
+heir-settled : (s next : Scheduled) (mutexes : List Mutex) (tasks : List Task) (t u : ℕ) (before : Option ℕ) → IsRelinked s mutexes tasks t before → boosts mutexes tasks t ≡ Some u
+    → next.ranks ≡ s.ranks → s.sound ≡ true → listed_rank next.ranks t ≤ listed_rank next.ranks u → u < length tasks
+    → listed_rank next.ranks u ≡ greatest (boosts mutexes tasks) (listed_rank next.ranks) u (own_rank mutexes tasks u) (length tasks)
+heir-settled s next mutexes tasks t u before is link ranks sound low less =
+    let count = is.count in
+    let was : listed_rank next.ranks u ≡ greatest (boosts mutexes is.last) (listed_rank next.ranks) u (own_rank mutexes tasks u) (length tasks) =
+    rw (ranks ∙ is.ranks, is.count, is.own u) (scheduled-settled is.was mutexes is.last is.scheduled (sym is.sound ∙ sound) u (omega (arith, less, count))) in
+    link-covered (boosts mutexes is.last) (boosts mutexes tasks) (listed_rank next.ranks) t u (own_rank mutexes tasks u) (length tasks) is.others link low was
+
+pub not-less : (a b : ℕ) → nat_lt a b ≡ false → b ≤ a
+not-less a b e = grind (arith, nat_tests)
+
+still-out : (before : Option ℕ) (u v : ℕ) → (v ≡ u → ⊥) → is_number before v ≡ false → with_task before (with_task (Some u) no_task) v ≡ false
+still-out before u v other out = elim (eqb_tells u v) [
+  | inl g ↦ absurd (other (sym g.1))
+  | inr g ↦ rw (out, g.0) refl
+]
+
+-- so it is left only where the task may raise it
+pub raised-settling : (s next : Scheduled) (mutexes : List Mutex) (tasks : List Task) (t : ℕ) (before heir : Option ℕ) → IsRelinked s mutexes tasks t before → heir ≡ boosts mutexes tasks t
+    → next.ranks ≡ s.ranks → (next.sound ≡ true → s.sound ≡ true)
+    → IsSettling (with_task before (with_task heir no_task)) next mutexes tasks → IsSettling (with_task before (with_task (raised_heir next.ranks t heir) no_task)) next mutexes tasks
+raised-settling s next mutexes tasks t before None is now ranks was left = left
+raised-settling s next mutexes tasks t before (Some u) is now ranks was left = by (nat_lt (listed_rank next.ranks u) (listed_rank next.ranks t)) refl
+  where
+    by : (b : Bool) → nat_lt (listed_rank next.ranks u) (listed_rank next.ranks t) ≡ b → IsSettling (with_task before (with_task (if b then Some u else None) no_task)) next mutexes tasks
+    by true e = left
+    by false e = record {
+      entered = left.entered;
+      sound = left.sound;
+      settled = λ yes. record {
+        settled = λ v less out. elim (eqb_tells v u) [
+          | inl g ↦
+              rw g.1
+              (heir-settled s next mutexes tasks t u before is (sym now) ranks (was yes) (not-less (listed_rank next.ranks u) (listed_rank next.ranks t) e) (rw g.1 at less))
+          | inr g ↦ (left.settled yes).settled v less (still-out before u v g.1 (out-first before (with_task None no_task) v out))
+        ];
+      };
+    }
+
+-- ---- a task that may fall
+-- its own rank is at least that of its class
+pub own-least : (mutexes : List Mutex) (tasks : List Task) (u : ℕ) → class_rank_at tasks u ≤ own_rank mutexes tasks u
+unfolding own_rank
+own-least mutexes tasks u = greatest-first (ceiling_owner mutexes) (ceiling mutexes) u (class_rank_of (slice_get tasks u)) (length mutexes)
+
+-- it is left only where it ranks above its class, if it has its rank else
+pub fallen-left : (next : Scheduled) (mutexes : List Mutex) (tasks : List Task) (before : Option ℕ)
+    → ((u : ℕ) → before ≡ Some u → next.sound ≡ true → listed_rank next.ranks u ≤ class_rank_at tasks u → u < length tasks
+    → listed_rank next.ranks u ≡ greatest (boosts mutexes tasks) (listed_rank next.ranks) u (own_rank mutexes tasks u) (length tasks))
+    → IsSettling (with_task before (with_task None no_task)) next mutexes tasks → IsSettling (with_task (fallen_owner next.ranks tasks before) (with_task None no_task)) next mutexes tasks
+fallen-left next mutexes tasks None right left = left
+fallen-left next mutexes tasks (Some u) right left = by (nat_lt (class_rank_at tasks u) (listed_rank next.ranks u)) refl
+  where
+    by : (b : Bool) → nat_lt (class_rank_at tasks u) (listed_rank next.ranks u) ≡ b → IsSettling (with_task (if b then Some u else None) (with_task None no_task)) next mutexes tasks
+    by true low = left
+    by false low = record {
+      entered = left.entered;
+      sound = left.sound;
+      settled = λ yes. record {
+        settled = λ v less out. elim (eqb_tells u v) [
+          | inl g ↦ rw (← g.1) (right u refl yes (not-less (class_rank_at tasks u) (listed_rank next.ranks u) low) (rw (← g.1) at less))
+          | inr g ↦ (left.settled yes).settled v less (rw g.0 refl)
+        ];
+      };
+    }
+
+-- the task that a task boosted which boosts nobody now
+unlinked-settled : (s : Scheduled) (mutexes : List Mutex) (tasks : List Task) (t u : ℕ) (before : Option ℕ) → IsRelinked s mutexes tasks t before → boosts mutexes tasks t ≡ None
+    → s.sound ≡ true → listed_rank s.ranks u ≤ class_rank_at tasks u → u < length tasks
+    → listed_rank s.ranks u ≡ greatest (boosts mutexes tasks) (listed_rank s.ranks) u (own_rank mutexes tasks u) (length tasks)
+unlinked-settled s mutexes tasks t u before is none sound low less =
+    let count = is.count in
+    let was : listed_rank s.ranks u ≡ greatest (boosts mutexes is.last) (listed_rank s.ranks) u (own_rank mutexes tasks u) (length tasks) =
+    rw (is.ranks, is.count, is.own u) (scheduled-settled is.was mutexes is.last is.scheduled (sym is.sound ∙ sound) u (omega (arith, less, count))) in
+    link-fewer (boosts mutexes is.last) (boosts mutexes tasks) (listed_rank s.ranks) u (own_rank mutexes tasks u) (own_rank mutexes tasks u) (length tasks)
+    (λ x e. elim (eqb_tells x t) [
+      | inl g ↦ let no : None ≡ Some u = sym none ∙ ap (boosts mutexes tasks) (sym g.1) ∙ e in cc
+      | inr g ↦ sym (is.others x g.1) ∙ e
+    ])
+    (omega arith)
+    (let least = own-least mutexes tasks u in omega (arith, least, low))
+    was
+
+pub unlinked-settling : (s : Scheduled) (mutexes : List Mutex) (tasks : List Task) (t : ℕ) (before : Option ℕ) → IsRelinked s mutexes tasks t before → boosts mutexes tasks t ≡ None
+    → IsSettling (with_task (fallen_owner s.ranks tasks before) (with_task None no_task)) s mutexes tasks
+unlinked-settling s mutexes tasks t before is none =
+    fallen-left s mutexes tasks before (λ u at sound low less. unlinked-settled s mutexes tasks t u before is none sound low less)
+    (relink-settling s s mutexes tasks t before None is (sym none) refl refl refl (λ yes. yes) (λ yes u e. absurd cc))
 
 -- ---- no link changes
 -- a task changed in what bears on no link

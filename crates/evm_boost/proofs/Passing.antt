@@ -1,16 +1,18 @@
 -- What a changed mutex leaves to be mended.
-use Rattle.std.proofs.Common.{◌≡◌, ℕ, ◌+◌, ◌<◌, ◌⊎◌, List, [], ◌∷◌, ◌++◌, Option, Some, None, Bool, true, false, length, refl, ap, sym, ◌∙◌, inl, inr, arith, add-one}
+use Rattle.std.proofs.Common.{◌≡◌, ℕ, ◌+◌, ◌<◌, ◌≤◌, ◌⊎◌, List, [], ◌∷◌, ◌++◌, Option, Some, None, Bool, true, false, length, refl, ap, sym, ◌∙◌, inl, inr, arith, add-one}
 use Rattle.std.specs.Prelude.{option_map, slice_get}
 use Rattle.std.proofs.lemmas.Bool.Decides.{eqb_tells}
 use Rattle.std.proofs.lemmas.List.{length-append}
 use Rattle.evm_boost.proofs.Entries.{entered-by}
 use Rattle.evm_boost.proofs.Lending.{first-nobody}
-use Rattle.evm_boost.proofs.Moves.{out-first, out-second, out-other, slice_get-other}
-use Rattle.evm_boost.proofs.Settled.{heir-owns, settling, sound-fewer, sound-free}
+use Rattle.evm_boost.proofs.Moves.{fallen-left, out-first, out-second, out-other, own-least, slice_get-other}
+use Rattle.evm_boost.proofs.Settled.{heir-owns, scheduled-settled, settling, sound-fewer, sound-free}
 use Rattle.evm_boost.specs.Lent.{first_waiting}
+use Rattle.evm_boost.specs.Scatter.{class_rank_at}
 use Rattle.evm_boost.specs.Scheduled.{Scheduled, AreEntered, IsScheduled, AreSoundBoosts}
-use Rattle.evm_boost.specs.Settling.{IsCalm, BoostsNobody, RaisesNobody, IsSettling}
-use Rattle.evm_mending.proofs.Least.{greatest-links}
+use Rattle.evm_boost.specs.Settling.{IsCalm, BoostsNobody, RaisesNobody, IsSettling, fallen_owner}
+use Rattle.evm_mending.proofs.Least.{greatest-least, greatest-links}
+use Rattle.evm_mending.proofs.Mending.{link-fewer}
 use Rattle.evm_mending.specs.Mending.{no_task, with_task}
 use Rattle.evm_model.proofs.Lists.{change-elsewhere, change-here, length-change}
 use Rattle.evm_model.specs.Lists.{change}
@@ -21,8 +23,9 @@ use Rattle.evm_model.specs.declared.mutex.Protocol.{Protocol}
 use Rattle.evm_model.specs.declared.mutex.Protocol.TheVariants.{Inheritance, Ceiling}
 use Rattle.evm_model.specs.declared.task.Task.{Task}
 use Rattle.evm_model.specs.declared.task.Wait.TheVariants.{Lock}
-use Rattle.evm_ranks.proofs.Greatest.{boosts-is, greatest-same}
+use Rattle.evm_ranks.proofs.Greatest.{boosts-is, greatest-booster, greatest-first, greatest-same}
 use Rattle.evm_ranks.specs.Boosts.{greatest, is_number}
+use Rattle.evm_ready.specs.ListedRanks.{listed_rank}
 
 -- a mutex has the same protocol
 abbrev pub KeepsProtocols : (Mutex → Mutex) → Type 0
@@ -161,6 +164,53 @@ leave-settling s next mutexes others tasks m before is e was_owner place waiter 
     pass-settling (with_task before (with_task None no_task)) freed s next mutexes others tasks m (λ mutex. refl) is e place waiter ranks (λ yes. sym sound ∙ yes)
     (λ yes. sound-fewer mutexes others tasks tasks (omega arith) (is.sound (sym sound ∙ yes)) (λ u v to. leave-to mutexes m v (lock_at tasks u) (rw e at to)))
     (λ u out. (λ owns. out-number before u (out-first before (with_task None no_task) u out) (was_owner ∙ owns), freed-at mutexes m u))
+
+-- its owner's own rank is no greater then
+leave-raises : (o : Option Mutex) (u : ℕ) → ceiling_owner_of (option_map freed o) ≡ Some u → ⊥
+leave-raises None u e = cc
+leave-raises (Some mutex) u e = by mutex.protocol refl
+  where
+    by : (p : Protocol) → mutex.protocol ≡ p → ⊥
+    by Inheritance is = let no : None ≡ Some u = rw is at e in cc
+    by (Ceiling priority) is = let no : None ≡ Some u = rw is at e in cc
+
+leave-ceiling : (mutexes : List Mutex) (m u v : ℕ) → ceiling_owner (change freed mutexes m) v ≡ Some u → ceiling_owner mutexes v ≡ Some u
+leave-ceiling mutexes m u v e = elim (eqb_tells v m) [
+  | inl g ↦ absurd (leave-raises (slice_get mutexes m) u (ap ceiling_owner_of (sym (change-here freed mutexes m)) ∙ rw g.1 at e))
+  | inr g ↦ ap ceiling_owner_of (sym (change-elsewhere freed mutexes m v g.1)) ∙ e
+]
+
+leave-own : (mutexes : List Mutex) (tasks : List Task) (m u : ℕ) → own_rank (change freed mutexes m) tasks u ≤ own_rank mutexes tasks u
+unfolding own_rank
+leave-own mutexes tasks m u =
+    let others = change freed mutexes m in
+    let class = class_rank_of (slice_get tasks u) in
+    let count : length others ≡ length mutexes = length-change freed mutexes m in
+    let most = greatest (ceiling_owner mutexes) (ceiling mutexes) u class (length mutexes) in
+    greatest-least (ceiling_owner others) (ceiling others) u class (length others) most
+    (greatest-first (ceiling_owner mutexes) (ceiling mutexes) u class (length mutexes))
+    (λ v less e.
+    let up = greatest-booster (ceiling_owner mutexes) (ceiling mutexes) u class (length mutexes) v (omega (arith, less, count)) (leave-ceiling mutexes m u v e) in
+    let same : ceiling others v ≡ ceiling mutexes v = ceilings-kept freed mutexes m v (λ mutex. refl) in
+    omega (arith, up, same))
+
+-- an owner that ranks as its class has its rank still
+owner-settled : (s : Scheduled) (mutexes : List Mutex) (tasks : List Task) (m u : ℕ) → IsScheduled s mutexes tasks → s.sound ≡ true
+    → listed_rank s.ranks u ≤ class_rank_at tasks u → u < length tasks
+    → listed_rank s.ranks u ≡ greatest (boosts (change freed mutexes m) tasks) (listed_rank s.ranks) u (own_rank (change freed mutexes m) tasks u) (length tasks)
+owner-settled s mutexes tasks m u is sound low less =
+    link-fewer (boosts mutexes tasks) (boosts (change freed mutexes m) tasks) (listed_rank s.ranks) u (own_rank mutexes tasks u) (own_rank (change freed mutexes m) tasks u) (length tasks)
+    (λ x e. leave-to mutexes m u (lock_at tasks x) e)
+    (leave-own mutexes tasks m u)
+    (let least = own-least (change freed mutexes m) tasks u in omega (arith, least, low))
+    (scheduled-settled s mutexes tasks is sound u less)
+
+-- so it is left only where it may fall
+pub fallen-settling : (s next : Scheduled) (mutexes others : List Mutex) (tasks : List Task) (m : ℕ) (before : Option ℕ) → IsScheduled s mutexes tasks → others ≡ change freed mutexes m
+    → next.ranks ≡ s.ranks → next.sound ≡ s.sound
+    → IsSettling (with_task before (with_task None no_task)) next others tasks → IsSettling (with_task (fallen_owner next.ranks tasks before) (with_task None no_task)) next others tasks
+fallen-settling s next mutexes others tasks m before is e ranks sound left =
+    fallen-left next others tasks before (λ u at yes low less. rw (ranks, e) (owner-settled s mutexes tasks m u is (sym sound ∙ yes) (rw (← ranks) low) less)) left
 
 -- ---- no link changes
 pub calm-settling : (s next : Scheduled) (mutexes others : List Mutex) (tasks : List Task) → IsScheduled s mutexes tasks

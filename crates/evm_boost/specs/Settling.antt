@@ -1,6 +1,7 @@
 -- Ranks on the way from one schedule to the next: at which tasks they may still be wrong.
-use Rattle.std.specs.Prelude.{◌≡◌, ℕ, ◌<◌, ◌≤◌, List, Option, Some, None, Bool, true, false, ◌⊎◌, length, slice_get}
+use Rattle.std.specs.Prelude.{◌≡◌, ℕ, ◌<◌, ◌≤◌, List, Option, Some, None, Bool, true, false, ◌⊎◌, if◌then◌else◌, length, nat_lt, slice_get}
 use Rattle.evm_boost.specs.Lent.{first_waiting}
+use Rattle.evm_boost.specs.Scatter.{class_rank_at}
 use Rattle.evm_boost.specs.Scheduled.{Scheduled, AreEntered, IsScheduled, AreSoundBoosts}
 use Rattle.evm_model.specs.Lists.{change}
 use Rattle.evm_model.specs.Mutexes.{boosts, owner, waits_on}
@@ -62,3 +63,13 @@ pub record RaisesNobody (s : Scheduled) (mutexes : List Mutex) (m : ℕ) : Type 
 -- no rank changes where task t has mutex m: it has it already, or the mutex raises nobody
 abbrev pub IsCalm : Scheduled → List Mutex → ℕ → ℕ → Type 0
 IsCalm s mutexes m t = (owner mutexes m ≡ Some t) ⊎ RaisesNobody s mutexes m
+
+-- the heir of task t that t may raise: one that ranks below it
+abbrev pub raised_heir : List ℕ → ℕ → Option ℕ → Option ℕ
+raised_heir ranks t None = None
+raised_heir ranks t (Some u) = if nat_lt (listed_rank ranks u) (listed_rank ranks t) then Some u else None
+
+-- the owner of a mutex that may fall when the mutex leaves it, or a task that waits for it: one that ranks above its class
+abbrev pub fallen_owner : List ℕ → List Task → Option ℕ → Option ℕ
+fallen_owner ranks tasks None = None
+fallen_owner ranks tasks (Some u) = if nat_lt (class_rank_at tasks u) (listed_rank ranks u) then Some u else None

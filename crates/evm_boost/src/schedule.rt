@@ -3,7 +3,7 @@
 ghost use Rattle.std.specs.Prelude.{◌≡◌, ◌<◌, ◌≤◌, ◌++◌, [], ◌∷◌, true, false, Some, None, List, Option, length, option_map, slice_get, IfOk, IfErr, ℕ};
 ghost use Rattle.evm_boost.specs.Lent.{first_waiting};
 ghost use Rattle.evm_boost.specs.Scheduled.{IsScheduled};
-ghost use Rattle.evm_boost.specs.Settling.{entered_as, IsCalm, BoostsNobody, RaisesNobody, IsOpen, IsRelinked, stamped};
+ghost use Rattle.evm_boost.specs.Settling.{entered_as, IsCalm, BoostsNobody, RaisesNobody, IsOpen, IsRelinked, fallen_owner, raised_heir, stamped};
 ghost use Rattle.evm_model.specs.Lists.{change};
 ghost use Rattle.evm_model.specs.Mutexes.{boosts, freed, heir_by, held_by, waits_on};
 ghost use Rattle.evm_model.specs.Ranks.{best, first, next_in_band, rank, stamp};
@@ -21,7 +21,7 @@ ghost use Rattle.evm_ready.specs.Places.{ready_place, stamped_place};
 ghost use Rattle.evm_wait.specs.Waiters.{awaited, stamped_waiter};
 
 use crate::mutexes::Mutexes;
-use crate::ranks::class_rank;
+use crate::ranks::{class_rank, class_rank_at};
 use evm_model::{Class, MUTEX_LIMIT, Mutex, Protocol, TASK_LIMIT, Task, TaskState, Wait};
 use evm_ready::{Place, READY_QUEUE_LIMIT, Ready, place_of};
 use evm_room::Refused;
@@ -115,6 +115,21 @@ impl Schedule {
         ensures sound { self.new.sound ≡ self.old.sound }
     {
         self.ready.set(t, None);
+        if self.waiting.is_free(t) {
+            self.waiting.enter(t, waiter);
+        } else {
+            self.move_wait(t, waiter);
+        }
+    }
+
+    // A task that may wait already waits for this. Apart, as it is rare.
+    #[inline(never)]
+    fn move_wait(&mut self, t: u8, waiter: Waiter)
+        ensures places { self.new.places ≡ self.old.places }
+        ensures waiters { self.new.waiters ≡ change (λ _. Some waiter) self.old.waiters t }
+        ensures ranks { self.new.ranks ≡ self.old.ranks }
+        ensures sound { self.new.sound ≡ self.old.sound }
+    {
         self.waiting.set(t, Some(waiter));
     }
 
@@ -173,6 +188,26 @@ impl Schedule {
         self.sound && is_nobody(task)
     }
 
+    // The heir of task t, if t may raise it.
+    fn raised_heir(&self, t: u8, heir: Option<u8>) -> Option<u8>
+        ensures { result ≡ raised_heir self.now.ranks t heir }
+    {
+        match heir {
+            Some(u) if self.ready.rank(u) < self.ready.rank(t) => Some(u),
+            _ => None,
+        }
+    }
+
+    // The owner of a mutex, if it may fall when the mutex leaves it, or a task that waits for it.
+    fn fallen_owner(&self, tasks: &Tasks, owner: Option<u8>) -> Option<u8>
+        ensures { result ≡ fallen_owner self.now.ranks tasks.now owner }
+    {
+        match owner {
+            Some(u) if class_rank_at(tasks, u) < self.ready.rank(u) => Some(u),
+            _ => None,
+        }
+    }
+
     // Ranks follow where task t may boost another than before.
     fn relink(&mut self, mutexes: &Mutexes, tasks: &Tasks, t: u8, before: Option<u8>)
         requires { IsRelinked self.old mutexes.now tasks.now t before }
@@ -181,7 +216,8 @@ impl Schedule {
         let heir = mutexes.boosts(tasks, t);
         let open = self.is_open(mutexes, tasks, t, heir);
         self.trust(open);
-        self.mend(mutexes, tasks, before, heir);
+        let raised = self.raised_heir(t, heir);
+        self.mend(mutexes, tasks, before, raised);
     }
 
     // The same where task t boosts nobody now, so that no chain closes.
@@ -191,7 +227,8 @@ impl Schedule {
         requires alone { boosts mutexes.now tasks.now t ≡ None }
         ensures { IsScheduled self.new mutexes.now tasks.now }
     {
-        self.mend(mutexes, tasks, before, None);
+        let fallen = self.fallen_owner(tasks, before);
+        self.mend(mutexes, tasks, fallen, None);
     }
 
     /// A task has another state.
@@ -406,9 +443,10 @@ impl Schedule {
             self.mend(mutexes, tasks, None, None);
             return;
         }
-        let before = mutexes.owner(m);
+        let owner = mutexes.owner(m);
         mutexes.leave(m);
-        self.mend(mutexes, tasks, before, None);
+        let fallen = self.fallen_owner(tasks, owner);
+        self.mend(mutexes, tasks, fallen, None);
     }
 
     /// The rank of a task; 0 where there is none.

@@ -1,11 +1,11 @@
 -- Ranks are mended by a walk: from a task that has another rank on to the one that it boosts.
-use Rattle.std.proofs.Common.{◌≡◌, ℕ, suc, ◌+◌, ◌<◌, Option, Some, None, Bool, true, false, refl, ap, sym, ◌∙◌, inl, inr, arith}
+use Rattle.std.proofs.Common.{◌≡◌, ℕ, suc, ◌+◌, ◌<◌, ◌≤◌, Option, Some, None, Bool, true, false, refl, ap, sym, ◌∙◌, inl, inr, arith}
 use Rattle.std.specs.Prelude.{◌==◌, if◌then◌else◌}
 use Rattle.std.proofs.lemmas.Bool.Decides.{eqb_tells}
 use Rattle.evm_ranks.specs.Boosts.{is_number, greatest, rank_after, walk, IsSettledRank, HasHeight}
 use Rattle.evm_mending.specs.Mending.{no_task, with_task, IsSettledBut}
-use Rattle.evm_ranks.proofs.Greatest.{greatest-same, boosts-so}
-use Rattle.evm_mending.proofs.Least.{greatest-links}
+use Rattle.evm_ranks.proofs.Greatest.{greatest-booster, greatest-first, greatest-same, boosts-so}
+use Rattle.evm_mending.proofs.Least.{greatest-is, greatest-least, greatest-links}
 use Rattle.evm_ranks.proofs.Rounds.{settled_is_one, rounds_settle}
 use Rattle.evm_ranks.proofs.Walks.{walks_end}
 
@@ -94,3 +94,28 @@ changed-but rest boosts other own owns count rank same links s = record {
       ∙ greatest-links boosts other rank t (own t) count (λ u below. links t u less below out)
       ∙ ap (λ (first : ℕ). greatest other rank t first count) (sym (same t less out));
 }
+
+-- ---- what a change leaves at one task
+-- task t boosts it now, and ranks no higher
+pub link-covered : (boosts other : ℕ → Option ℕ) (rank : ℕ → ℕ) (t u first n : ℕ) → ((x : ℕ) → (x ≡ t → ⊥) → other x ≡ boosts x) → other t ≡ Some u → rank t ≤ rank u
+    → rank u ≡ greatest boosts rank u first n → rank u ≡ greatest other rank u first n
+link-covered boosts other rank t u first n same link low was =
+    greatest-is other rank u first n (rank u)
+    (let up = greatest-first boosts rank u first n in omega (arith, up, was))
+    (λ x less e. elim (eqb_tells x t) [
+      | inl g ↦ rw g.1 low
+      | inr g ↦ let up = greatest-booster boosts rank u first n x less (sym (same x g.1) ∙ e) in omega (arith, up, was)
+    ])
+    (let least =
+    greatest-least boosts rank u first n (greatest other rank u first n) (greatest-first other rank u first n)
+    (λ x less e. greatest-booster other rank u first n x less (elim (eqb_tells x t) [ inl g ↦ ap other g.1 ∙ link | inr g ↦ same x g.1 ∙ e ])) in
+    omega (arith, least, was))
+
+-- fewer boost it, its own rank is no greater, and it ranks no higher than that
+pub link-fewer : (boosts other : ℕ → Option ℕ) (rank : ℕ → ℕ) (t first own n : ℕ) → ((x : ℕ) → other x ≡ Some t → boosts x ≡ Some t) → own ≤ first → rank t ≤ own
+    → rank t ≡ greatest boosts rank t first n → rank t ≡ greatest other rank t own n
+link-fewer boosts other rank t first own n part less low was =
+    greatest-is other rank t own n (rank t)
+    (let up = greatest-first boosts rank t first n in omega (arith, up, was, less))
+    (λ x below e. let up = greatest-booster boosts rank t first n x below (part x e) in omega (arith, up, was))
+    (let up = greatest-first other rank t own n in omega (arith, up, low))

@@ -1,10 +1,10 @@
--- A mutex is given to a task that waits: its owner leaves it, the task wakes, and has it then.
-use Rattle.std.proofs.Common.{◌≡◌, ℕ, zero, suc, ◌<◌, List, [], ◌∷◌, Option, Some, None, Bool, true, false, length, refl, ap, ◌∙◌, inl, inr, arith, eq-eqb}
+-- A mutex is given to a task that waits: the task wakes, and has it then.
+use Rattle.std.proofs.Common.{◌≡◌, ℕ, zero, suc, ◌<◌, List, Option, Some, None, Bool, true, false, length, refl, ap, ◌∙◌, inl, inr, arith, eq-eqb}
 use Rattle.std.specs.Prelude.{if◌then◌else◌, slice_get, slice_set}
 use Rattle.std.proofs.Math.Nat.{eq-or-lt_of_le}
 use Rattle.evm_model.proofs.Lists.{slice_get-below, slice_get-set_same}
 use Rattle.evm_model.specs.Lists.{change}
-use Rattle.evm_model.specs.Mutexes.{freed, held_by, owner, owner_of, owns_any, owns_below}
+use Rattle.evm_model.specs.Mutexes.{held_by, owner, owner_of, owns_any, owns_below}
 use Rattle.evm_model.specs.State.{Parts, on_mutex}
 use Rattle.evm_model.specs.Tasks.{restamp}
 use Rattle.evm_model.specs.Waits.{wake}
@@ -45,19 +45,7 @@ owns-absent t m ms e = rw e refl
 pub ruleset owners = (owns-held, owns-absent)
 
 -- ---- and all is as if it had it before it woke
-set-twice : (ms : List Mutex) (m : ℕ) (x y : Mutex) → slice_set (slice_set ms m x) m y ≡ slice_set ms m y
-set-twice [] m x y = refl
-set-twice (z ∷ ms) zero x y = refl
-set-twice (z ∷ ms) (suc m) x y = ap (λ (rest : List Mutex). z ∷ rest) (set-twice ms m x y)
-
-held-twice : (t m : ℕ) (ms : List Mutex) (o : Option Mutex) → slice_get ms m ≡ o → change (held_by t 1) (change freed ms m) m ≡ change (held_by t 1) ms m
-held-twice t m ms None e = rw (e, e) refl
-held-twice t m ms (Some mutex) e =
-    let there : slice_get (slice_set ms m (freed mutex)) m ≡ Some (freed mutex) = slice_get-set_same ms m mutex (freed mutex) e in
-    rw (e, there) (set-twice ms m (freed mutex) (held_by t 1 mutex))
-
 pub given : (t m value : ℕ) (p : Parts)
-    → on_mutex m (held_by t 1) (woken_with t value (owns_any t (change (held_by t 1) p.mutexes m)) (on_mutex m freed p)) ≡ wake t value (on_mutex m (held_by t 1) p)
+    → on_mutex m (held_by t 1) (woken_with t value (owns_any t (change (held_by t 1) p.mutexes m)) p) ≡ wake t value (on_mutex m (held_by t 1) p)
 unfolding wake restamp
-given t m value p =
-    ap (λ (ms : List Mutex). record (woken_with t value (owns_any t (change (held_by t 1) p.mutexes m)) p) { mutexes = ms }) (held-twice t m p.mutexes (slice_get p.mutexes m) refl)
+given t m value p = refl

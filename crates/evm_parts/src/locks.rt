@@ -129,8 +129,8 @@ impl Parts {
         }
     }
 
-    // A task that waits has a mutex, and wakes with an answer. Its owner before leaves it first, and the task is ready
-    // before it has it, so that no chain of tasks that wait closes meanwhile.
+    // A task that waits has a mutex, and wakes with an answer. It is ready before it has the mutex, so that no chain of
+    // tasks that wait closes meanwhile.
     #[inline]
     fn give_mutex(&mut self, t: u8, m: u8, value: u64)
         requires room { HasStamps 1 self.old }
@@ -138,7 +138,6 @@ impl Parts {
         ensures stamps { self.new.stamps ≡ self.old.stamps + 1 }
     {
         let owns = self.owns_with(t, m);
-        self.leave_mutex(m);
         self.wake_with(t, value, owns);
         self.hold_mutex(t, m, 1);
     }

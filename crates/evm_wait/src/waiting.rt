@@ -1,4 +1,4 @@
-ghost use Rattle.std.specs.Prelude.{◌≡◌, ◌<◌, ◌≤◌, ◌++◌, ◌∷◌, [], length, option_map, IfOk, IfErr, IfSome};
+ghost use Rattle.std.specs.Prelude.{◌≡◌, ◌<◌, ◌≤◌, ◌++◌, ◌∷◌, [], true, Option, length, option_map, IfOk, IfErr, IfSome};
 ghost use Rattle.arrayvec.specs.ArrayVec.{array_vec_len};
 ghost use Rattle.evm_model.specs.Lists.{change};
 ghost use Rattle.evm_model.specs.Ranks.{first, leader};
@@ -98,6 +98,28 @@ impl Waiting {
         if let Some(entry) = self.waiters.get_mut(t as usize) {
             *entry = waiter;
             self.turns.set(t, turn_of(waiter, rank));
+        }
+    }
+
+    /// Whether task t waits for nothing.
+    #[inline(always)]
+    pub fn is_free(&self, t: u8) -> bool
+        ensures { result ≡ true → entry self.now.waiters t ≡ Option.None }
+    {
+        self.get(t).is_none()
+    }
+
+    /// Task t, which waits for nothing, waits for this.
+    #[inline(always)]
+    pub fn enter(&mut self, t: u8, waiter: Waiter)
+        requires { entry self.old.waiters t ≡ Option.None }
+        ensures waiters { self.new.waiters ≡ change (λ _. Option.Some waiter) self.old.waiters t }
+        ensures ranks { self.new.ranks ≡ self.old.ranks }
+    {
+        let rank = self.rank(t);
+        if let Some(entry) = self.waiters.get_mut(t as usize) {
+            *entry = Some(waiter);
+            self.turns.enter(t, turn_of(Some(waiter), rank));
         }
     }
 
