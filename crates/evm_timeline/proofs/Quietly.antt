@@ -1,7 +1,7 @@
 -- A quiet Step changes only registers and RAM.
-use Rattle.std.proofs.Common.{◌≡◌, ℕ, List, Bool, true, false, not, ◌&&◌, Option, Some, None, Result, Ok, Err, refl, sym, ap, subst, ◌∙◌, inl, inr, arith}
+use Rattle.std.proofs.Common.{◌≡◌, ℕ, zero, suc, List, Bool, true, false, not, ◌&&◌, Option, Some, None, Result, Ok, Err, refl, sym, ap, subst, ◌∙◌, inl, inr, arith}
 use Rattle.std.specs.Prelude.{is_none, is_ok, is_some, slice_get, if◌then◌else◌}
-use Rattle.evm_board.proofs.Idle.{made-idle}
+use Rattle.evm_board.proofs.Idle.{made-idle, made-stopped}
 use Rattle.evm_board.proofs.evm_rules.Places.{on_processor-same}
 use Rattle.evm_board.proofs.evm_rules.Private.{IsClear, good-rests, private_row}
 use Rattle.evm_core.proofs.Rules.{room-fits}
@@ -42,7 +42,7 @@ use Rattle.evm_quiet.specs.declared.stop.Stop.TheVariants.{Breakpoint}
 use Rattle.evm_ram.specs.Ram.{read_at, write_at}
 use Rattle.evm_ram.specs.declared.width.Width.{Width}
 use Rattle.evm_ram.specs.declared.width.Width.TheVariants.{Word}
-use Rattle.evm_timeline.specs.Quiet.{IsLoudNext, OnlyRuns, StepOnlyRuns, is_wire_clear, is_quiet, is_quiet_task, is_quiet_at, is_quiet_cpu}
+use Rattle.evm_timeline.specs.Quiet.{IsLoudNext, OnlyRuns, StepOnlyRuns, StepsChangeNothing, is_clear, is_wire_clear, is_quiet, is_quiet_task, is_quiet_at, is_quiet_cpu, is_still, is_still_cpu, is_still_task}
 
 -- ---- Steps behind Steps
 pub runs-none : (b : Board) → OnlyRuns b b
@@ -137,7 +137,7 @@ goes-on c p pipe b h =
     ∙ ap (λ (o : Option ℕ). step_wire o p c b) h.clear
 
 -- no task
-idles : (c : ℕ) (p : Processor) (pipe : Pipe) (b : Board) → Good b.parts → HasRoom STAMPS_PER_EVENT b.parts → Goes c p pipe b → p.current ≡ None → next_in_band c b.parts.tasks ≡ None → OnlyRuns b (step c b).0
+idles : (c : ℕ) (p : Processor) (pipe : Pipe) (b : Board) → Good b.parts → HasRoom STAMPS_PER_EVENT b.parts → Goes c p pipe b → p.current ≡ None → next_in_band c b.parts.tasks ≡ None → (step c b).0 ≡ b
 unfolding after_all_steps
 idles c p pipe b good room g none waits =
     let nothing : RunsNothing c b = record {
@@ -153,7 +153,17 @@ idles c p pipe b good room g none waits =
       room = room;
     } in
     let made : Makes 1 1 c Idle b b = made-idle 1 c b (omega arith) nothing waits in
-    subst (λ (x : Board × Answer). OnlyRuns b x.0) made.each (runs-none b)
+    ap (λ (x : Board × Answer). x.0) (sym made.each)
+
+-- a stopped processor
+stops : (c : ℕ) (p : Processor) (b : Board) → slice_get b.parts.processors c ≡ Some p → p.stopped ≡ true → (step c b).0 ≡ b
+unfolding after_all_steps
+stops c p b at stopped =
+    let made : Makes 1 1 c Stopped b b = made-stopped 1 c b p (omega arith) at stopped in
+    ap (λ (x : Board × Answer). x.0) (sym made.each)
+
+pub runs-same : (b new : Board) → new ≡ b → OnlyRuns b new
+runs-same b new same = subst (λ (x : Board). OnlyRuns b x) (sym same) (runs-none b)
 
 hart-steps : (o : Option Hart) (c t : ℕ) (p : Processor) (pipe : Pipe) (b : Board) → Good b.parts → Goes c p pipe b → p.current ≡ Some t → is_quiet_at o b ≡ true → OnlyRuns b (step_hart o p c t b).0
 hart-steps None c t p pipe b good g runs h = cc
@@ -165,7 +175,7 @@ none-waits None h = refl
 none-waits (Some t) h = cc
 
 current-steps : (o : Option ℕ) (c : ℕ) (p : Processor) (pipe : Pipe) (b : Board) → Good b.parts → HasRoom STAMPS_PER_EVENT b.parts → Goes c p pipe b → p.current ≡ o → is_quiet_task o c b ≡ true → OnlyRuns b (step c b).0
-current-steps None c p pipe b good room g runs h = idles c p pipe b good room g runs (none-waits (next_in_band c b.parts.tasks) h)
+current-steps None c p pipe b good room g runs h = runs-same b (step c b).0 (idles c p pipe b good room g runs (none-waits (next_in_band c b.parts.tasks) h))
 current-steps (Some t) c p pipe b good room g runs h =
     subst (λ (x : Board × Answer). OnlyRuns b x.0) (sym (goes-on c p pipe b g ∙ ap (λ (o : Option ℕ). step_current o p c b) runs))
     (hart-steps (slice_get b.parts.harts t) c t p pipe b good g runs h)
@@ -186,13 +196,15 @@ pipe-steps (Some pipe) c p b good room at goes unset there clear h =
 
 processor-steps : (o : Option Processor) (c : ℕ) (b : Board) → Good b.parts → HasRoom STAMPS_PER_EVENT b.parts → slice_get b.parts.processors c ≡ o → is_quiet_cpu o c b ≡ true → OnlyRuns b (step c b).0
 processor-steps None c b good room at h = cc
-processor-steps (Some p) c b good room at h =
-    let rest : Bool = is_quiet_task p.current c b in
-    let clear : Bool = is_wire_clear (slice_get b.parts.pipes c) in
-    let one = both (not p.stopped) (not p.skip && (clear && rest)) h in
-    let two = both (not p.skip) (clear && rest) one.1 in
-    let three = both clear rest two.1 in
-    pipe-steps (slice_get b.parts.pipes c) c p b good room at (off p.stopped one.0) (off p.skip two.0) refl three.0 three.1
+processor-steps (Some p) c b good room at h = by p.stopped refl
+  where
+    by : (stop : Bool) → p.stopped ≡ stop → OnlyRuns b (step c b).0
+    by true stopped = runs-same b (step c b).0 (stops c p b at stopped)
+    by false goes =
+        let rest : Bool = is_quiet_task p.current c b in
+        let one = both (is_clear p c b) rest (sym (ap (λ (s : Bool). if s then true else (is_clear p c b && rest)) goes) ∙ h) in
+        let two = both (not p.skip) (is_wire_clear (slice_get b.parts.pipes c)) one.0 in
+        pipe-steps (slice_get b.parts.pipes c) c p b good room at goes (off p.skip two.0) refl two.1 one.1
 
 pub quiet-steps : (c : ℕ) (b : Board) → Good b.parts → HasRoom STAMPS_PER_EVENT b.parts → is_quiet c b ≡ true → OnlyRuns b (step c b).0
 unfolding is_quiet
@@ -254,3 +266,64 @@ made-refused (Err refusal) s t why made e = let no : Some refusal ≡ None = ap 
 pub made-loud : (c : ℕ) (s t : State) → steps c 1 s ≡ (t, None) → IsLoudNext c s → is_quiet c s.board ≡ false
 unfolding steps
 made-loud c s t made h = elim h [ inl loud ↦ loud | inr why ↦ absurd (made-refused (apply s (Step c)) s t why.0 made why.1) ]
+
+-- ---- Steps that change nothing
+still-current : (o : Option ℕ) (c : ℕ) (p : Processor) (pipe : Pipe) (b : Board) → Good b.parts → HasRoom STAMPS_PER_EVENT b.parts → Goes c p pipe b → p.current ≡ o → is_still_task o c b ≡ true → (step c b).0 ≡ b
+still-current None c p pipe b good room g runs h = idles c p pipe b good room g runs (none-waits (next_in_band c b.parts.tasks) h)
+still-current (Some t) c p pipe b good room g runs h = cc
+
+still-pipe : (o : Option Pipe) (c : ℕ) (p : Processor) (b : Board) → Good b.parts → HasRoom STAMPS_PER_EVENT b.parts → slice_get b.parts.processors c ≡ Some p → p.stopped ≡ false → p.skip ≡ false → slice_get b.parts.pipes c ≡ o
+    → is_wire_clear o ≡ true → is_still_task p.current c b ≡ true → (step c b).0 ≡ b
+still-pipe None c p b good room at goes unset there clear h = cc
+still-pipe (Some pipe) c p b good room at goes unset there clear h =
+    still-current p.current c p pipe b good room (record { at = at; goes = goes; off = unset; there = there; clear = none-waits (least_line pipe.wire) clear }) refl h
+
+still-processor : (o : Option Processor) (c : ℕ) (b : Board) → Good b.parts → HasRoom STAMPS_PER_EVENT b.parts → slice_get b.parts.processors c ≡ o → is_still_cpu o c b ≡ true → (step c b).0 ≡ b
+still-processor None c b good room at h = cc
+still-processor (Some p) c b good room at h = by p.stopped refl
+  where
+    by : (stop : Bool) → p.stopped ≡ stop → (step c b).0 ≡ b
+    by true stopped = stops c p b at stopped
+    by false goes =
+        let rest : Bool = is_still_task p.current c b in
+        let one = both (is_clear p c b) rest (sym (ap (λ (s : Bool). if s then true else (is_clear p c b && rest)) goes) ∙ h) in
+        let two = both (not p.skip) (is_wire_clear (slice_get b.parts.pipes c)) one.0 in
+        still-pipe (slice_get b.parts.pipes c) c p b good room at goes (off p.skip two.0) refl two.1 one.1
+
+still-step : (c : ℕ) (b : Board) → Good b.parts → HasRoom STAMPS_PER_EVENT b.parts → is_still c b ≡ true → (step c b).0 ≡ b
+unfolding is_still
+still-step c b good room h = still-processor (slice_get b.parts.processors c) c b good room refl h
+
+-- one behind the other
+still-behind : (r : Result (State × Answer) Refusal) (c n : ℕ) (s t : State) (why : Option Refusal) → apply s (Step c) ≡ r → (step c s.board).0 ≡ s.board → behind_step r s (steps c n) ≡ (t, why)
+    → ((u : State) → (step c u.board).0 ≡ u.board → steps c n u ≡ (t, why) → t.board ≡ u.board) → t.board ≡ s.board
+still-behind (Ok after) c n s t why e still made others =
+    let same : after.0.board ≡ s.board = sym (applied s after.0 c after.1 e) ∙ still in
+    others after.0 (rw same still) made ∙ same
+still-behind (Err refusal) c n s t why e still made others = ap (λ (x : State × Option Refusal). x.0.board) (sym made)
+
+still-all : (c n : ℕ) (s t : State) (why : Option Refusal) → (step c s.board).0 ≡ s.board → steps c n s ≡ (t, why) → t.board ≡ s.board
+unfolding steps
+still-all c zero s t why still made = ap (λ (x : State × Option Refusal). x.0.board) (sym made)
+still-all c (suc n) s t why still made = still-behind (apply s (Step c)) c n s t why refl still made (λ u. still-all c n u t why)
+
+pub still_steps-change : (c : ℕ) (s : State) → GoodState s → is_still c s.board ≡ true → StepsChangeNothing c s
+still_steps-change c s good h n new why made = still-all c n s new why (still-step c s.board good.good (room-fits s good) h) made
+
+-- the Step behind the last is refused as it was
+refused-behind : (r : Result (State × Answer) Refusal) (c n : ℕ) (s t : State) (why : Refusal) → apply s (Step c) ≡ r → behind_step r s (steps c n) ≡ (t, Some why)
+    → ((u : State) → steps c n u ≡ (t, Some why) → apply t (Step c) ≡ Err why) → apply t (Step c) ≡ Err why
+refused-behind (Ok after) c n s t why e made others = others after.0 made
+refused-behind (Err refusal) c n s t why e made others =
+    let same : s ≡ t = ap (λ (x : State × Option Refusal). x.0) made in
+    let it : Some refusal ≡ Some why = ap (λ (x : State × Option Refusal). x.1) made in
+    subst (λ (v : State). apply v (Step c) ≡ Err why) same (e ∙ (let is : refusal ≡ why = cc in ap Err is))
+
+still-refused : (c n : ℕ) (s t : State) (why : Refusal) → steps c n s ≡ (t, Some why) → apply t (Step c) ≡ Err why
+unfolding steps
+still-refused c zero s t why made = let no : None ≡ Some why = ap (λ (x : State × Option Refusal). x.1) made in absurd cc
+still-refused c (suc n) s t why made = refused-behind (apply s (Step c)) c n s t why refl made (λ u. still-refused c n u t why)
+
+pub still-loud : (c n : ℕ) (s t : State) (why : Option Refusal) → steps c n s ≡ (t, why) → (why ≡ None → ⊥) → IsLoudNext c t
+still-loud c n s t None made some = absurd (some refl)
+still-loud c n s t (Some why) made some = inr (why, still-refused c n s t why made)

@@ -1,6 +1,6 @@
 //! Whether a Step changes only registers and RAM.
 
-ghost use Rattle.std.specs.Prelude.{◌≡◌, true, is_ok, is_some, slice_get, Option};
+ghost use Rattle.std.specs.Prelude.{◌≡◌, true, is_none, is_ok, is_some, slice_get, Option};
 ghost use Rattle.evm_exec.specs.declared.hart.Hart as hart;
 ghost use Rattle.evm_isa.specs.Decoded.{decoded};
 ghost use Rattle.evm_model.specs.Ranks.{may_run_in_band, next_in_band};
@@ -8,13 +8,13 @@ ghost use Rattle.evm_quiet.specs.Quiet.{quiet, quiet_effect, quiet_inst};
 ghost use Rattle.evm_ram.specs.Ram.{is_inside, read_at};
 ghost use Rattle.evm_ram.specs.Width.{bytes_of};
 ghost use Rattle.evm_ram.specs.declared.width.Width.TheVariants as width;
-ghost use Rattle.evm_timeline.specs.Quiet.{StepOnlyRuns, is_wire_clear, is_quiet, is_quiet_task};
+ghost use Rattle.evm_timeline.specs.Quiet.{StepOnlyRuns, StepsChangeNothing, is_clear, is_wire_clear, is_quiet, is_quiet_task, is_still, is_still_task};
 
 use evm_dev::Device;
 use evm_exec::{Effect, Hart, effect, load_width};
 use evm_isa::decode;
 use evm_journal::Machine;
-use evm_model::TaskState;
+use evm_model::{Processor, TaskState};
 use evm_ram::Width;
 
 // Whether an access of this width stays in RAM.
@@ -94,12 +94,19 @@ fn is_awaited<D: Device>(machine: &Machine<D>, c: u8) -> bool
     false
 }
 
+// Whether no task waits for a processor in-band.
+fn rests<D: Device>(machine: &Machine<D>, c: u8) -> bool
+    ensures { result ≡ is_none (next_in_band c machine.now.board.parts.tasks) }
+{
+    !is_awaited(machine, c)
+}
+
 // Whether an instruction of the task is quiet; where there is none, whether nothing is done.
 fn is_quiet_task<D: Device>(machine: &Machine<D>, c: u8, current: Option<u8>) -> bool
     ensures { result ≡ is_quiet_task current c machine.now.board }
 {
     match current {
-        None => !is_awaited(machine, c),
+        None => rests(machine, c),
         Some(task) => match machine.lent_hart(task) {
             None => false,
             Some(hart) => is_quiet_at(machine, hart),
@@ -116,7 +123,14 @@ fn is_wire_clear<D: Device>(machine: &Machine<D>, c: u8) -> bool
     }
 }
 
-// Whether a processor isn't stopped, passes no breakpoint, has no line on its wire, and does nothing but a quiet instruction.
+// Whether a processor passes no breakpoint and has no line on its wire.
+fn is_clear<D: Device>(machine: &Machine<D>, c: u8, processor: Processor) -> bool
+    ensures { result ≡ is_clear processor c machine.now.board }
+{
+    !processor.skip && is_wire_clear(machine, c)
+}
+
+// Whether a processor is stopped; or passes no breakpoint, has no line on its wire, and does nothing but a quiet instruction.
 #[tactic(auto, unfolding(crate::specs::Quiet::is_quiet))]
 fn is_quiet_cpu<D: Device>(machine: &Machine<D>, c: u8) -> bool
     ensures { result ≡ is_quiet c machine.now.board }
@@ -124,15 +138,15 @@ fn is_quiet_cpu<D: Device>(machine: &Machine<D>, c: u8) -> bool
     match machine.cpu(c) {
         None => false,
         Some(processor) => {
-            if processor.stopped || processor.skip || !is_wire_clear(machine, c) {
-                return false;
+            if processor.stopped {
+                return true;
             }
-            is_quiet_task(machine, c, processor.current)
+            is_clear(machine, c, processor) && is_quiet_task(machine, c, processor.current)
         }
     }
 }
 
-/// Whether the next Step of a processor changes only registers and RAM, or nothing: it isn't stopped, passes no breakpoint, has no
+/// Whether the next Step of a processor changes only registers and RAM, or nothing: it is stopped; or it passes no breakpoint, has no
 /// line on its wire, and its task's instruction is no call, no fault and no access outside RAM; or it has no task, and none waits
 /// for it in-band.
 pub(crate) fn is_quiet<D: Device>(machine: &Machine<D>, c: u8) -> bool
@@ -141,4 +155,39 @@ pub(crate) fn is_quiet<D: Device>(machine: &Machine<D>, c: u8) -> bool
 {
     machine.rules();
     is_quiet_cpu(machine, c)
+}
+
+// Whether a processor has no task, and none waits for it in-band.
+fn is_still_task<D: Device>(machine: &Machine<D>, c: u8, current: Option<u8>) -> bool
+    ensures { result ≡ is_still_task current c machine.now.board }
+{
+    match current {
+        None => rests(machine, c),
+        Some(_) => false,
+    }
+}
+
+// Whether a processor is stopped; or passes no breakpoint, has no line on its wire, and nothing to do.
+#[tactic(auto, unfolding(crate::specs::Quiet::is_still))]
+fn is_still_cpu<D: Device>(machine: &Machine<D>, c: u8) -> bool
+    ensures { result ≡ is_still c machine.now.board }
+{
+    match machine.cpu(c) {
+        None => false,
+        Some(processor) => {
+            if processor.stopped {
+                return true;
+            }
+            is_clear(machine, c, processor) && is_still_task(machine, c, processor.current)
+        }
+    }
+}
+
+/// Whether no Step of a processor changes anything: it is stopped; or it has no task, passes no breakpoint, has no line on its wire,
+/// and no task waits for it in-band.
+pub(crate) fn is_still<D: Device>(machine: &Machine<D>, c: u8) -> bool
+    ensures { result ≡ true → StepsChangeNothing c machine.now }
+{
+    machine.rules();
+    is_still_cpu(machine, c)
 }
