@@ -16,6 +16,7 @@ use evm_parts::{
     Tasks, Timers,
 };
 use std::alloc::Global;
+use std::process::Abort;
 use std::test::Fail;
 
 mod rescheduling;
@@ -224,118 +225,160 @@ fn parts_of(alloc: Global, task: Task, row: &Row) -> Result<Parts, Fail>
 }
 
 // How often line 1 of a processor was raised, and how often it was merged.
-fn raises(parts: &Parts, c: u8) -> Option<(u64, u64)> {
+type Raises = Option<(u64, u64)>;
+
+fn raises(parts: &Parts, c: u8) -> Raises {
     let pipe = parts.pipe(c)?;
     let counts = pipe.counts(1)?;
     Some((counts.raised, counts.merged))
 }
 
+// The same of processors 0 to 3, of which the last isn't there.
+fn all_raises(parts: &Parts) -> [Raises; 4] {
+    [
+        raises(parts, 0),
+        raises(parts, 1),
+        raises(parts, 2),
+        raises(parts, 3),
+    ]
+}
+
+// What follows is apart, so that no test has the parts of a machine in its proof.
+
+// Whether processor 1 is to be nudged, and its raises.
+fn wanted(alloc: Global, row: &Row) -> Result<(bool, Raises), Fail> {
+    let parts = parts_of(alloc, task_of(1, TaskState::OobReady), row)?;
+    let pipe = parts.pipe(1).ok_or("a pipe")?;
+    Ok((wants_nudge(&parts, 1, pipe), raises(&parts, 1)))
+}
+
+// The raises once processor c has nudged the others.
+#[tactic(auto, using(crate::proofs::Idle::idle))]
+fn nudged(alloc: Global, task: Task, row: &Row, c: u8) -> Result<[Raises; 4], Fail> {
+    let mut parts = parts_of(alloc, task, row)?;
+    nudge(&mut parts, c);
+    Ok(all_raises(&parts))
+}
+
+// The raises once processor c has nudged processor d.
+#[tactic(auto, using(crate::proofs::Idle::idle))]
+fn nudged_one(alloc: Global, row: &Row, c: u8, d: u8) -> Result<[Raises; 4], Fail> {
+    let mut parts = parts_of(alloc, task_of(1, TaskState::OobReady), row)?;
+    nudge_one(&mut parts, c, d);
+    Ok(all_raises(&parts))
+}
+
+// What processor 1 runs, and the raises, once processor c has settled.
+#[tactic(auto, using(crate::proofs::Idle::idle))]
+fn settled(
+    alloc: Global,
+    state: TaskState,
+    row: &Row,
+    was: Option<u8>,
+    c: u8,
+) -> Result<(Option<u8>, [Raises; 4]), Fail> {
+    let mut parts = parts_of(alloc, task_of(1, state), row)?;
+    if parts.stamps != 1 || parts.ticks != 0 {
+        return Err(Fail::from("other parts"));
+    }
+    settle_and_nudge(&mut parts, was, c);
+    Ok((parts.current(1), all_raises(&parts)))
+}
+
+const NONE: Raises = Some((0, 0));
+
+// Where nobody is nudged.
+const QUIET: [Raises; 4] = [NONE, NONE, NONE, None];
+
 // Another processor is nudged if and only if the row says so, by line 1 and once, and no other processor is.
 #[test]
-#[tactic(auto, using(crate::proofs::Idle::idle))]
 fn others_are_told(rt: HostRuntime) -> Result<(), Fail> {
     for row in ROWS.iter() {
-        let mut parts = parts_of(rt.alloc(), task_of(1, TaskState::OobReady), row)?;
         let name = row.name;
-        let pipe = parts.pipe(1).ok_or("a pipe")?;
-        assert_eq!(rt; wants_nudge(&parts, 1, pipe), row.told, "{name}");
+        assert_eq!(rt; wanted(rt.alloc(), row)?.0, row.told, "{name}");
+        let told = nudged(rt.alloc(), task_of(1, TaskState::OobReady), row, 0)?;
         let was = u64::from(matches!(row.wire, Line::Nudge));
-        nudge(&mut parts, 0);
         let now = was.saturating_add(u64::from(row.told));
-        assert_eq!(rt; raises(&parts, 1), Some((now, 0)), "{name}");
-        assert_eq!(rt; raises(&parts, 0), Some((0, 0)), "{name}");
-        assert_eq!(rt; raises(&parts, 2), Some((0, 0)), "{name}");
+        assert_eq!(rt; told, [NONE, Some((now, 0)), NONE, None], "{name}");
     }
     Ok(())
 }
 
 // The processor that acts is never nudged: it has settled.
 #[test]
-#[tactic(auto, using(crate::proofs::Idle::idle))]
 fn the_acting_processor_is_not_told(rt: HostRuntime) -> Result<(), Fail> {
     for row in ROWS.iter() {
         let name = row.name;
-        let mut parts = parts_of(rt.alloc(), task_of(1, TaskState::OobReady), row)?;
-        let before = raises(&parts, 1);
-        nudge(&mut parts, 1);
-        assert_eq!(rt; raises(&parts, 1), before, "{name}");
-        let mut parts = parts_of(rt.alloc(), task_of(1, TaskState::OobReady), row)?;
-        nudge_one(&mut parts, 1, 1);
-        assert_eq!(rt; raises(&parts, 1), before, "{name}");
+        let before = wanted(rt.alloc(), row)?.1;
+        let by_all = nudged(rt.alloc(), task_of(1, TaskState::OobReady), row, 1)?;
+        assert_eq!(rt; by_all[1], before, "{name}");
+        let by_one = nudged_one(rt.alloc(), row, 1, 1)?;
+        assert_eq!(rt; by_one[1], before, "{name}");
     }
+    Ok(())
+}
+
+// Nobody is nudged for this task.
+fn nobody_is_told_of(
+    rt: &impl Abort,
+    alloc: Global,
+    cpu: u8,
+    state: TaskState,
+) -> Result<(), Fail> {
+    let told = nudged(alloc, task_of(cpu, state), &IDLE, 0)?;
+    assert_eq!(rt; told, QUIET, "of {state:?} on {cpu}");
     Ok(())
 }
 
 // Nobody is nudged for a task that isn't ready out-of-band, or that belongs to the acting processor or to none.
 #[test]
-#[tactic(auto, using(crate::proofs::Idle::idle))]
 fn nobody_is_told_of_other_tasks(rt: HostRuntime) -> Result<(), Fail> {
-    for (cpu, state) in [
-        (1, TaskState::InReady),
-        (1, TaskState::Exit),
-        (1, TaskState::Waits(Wait::Line(3))),
-        (0, TaskState::OobReady),
-        (3, TaskState::OobReady),
-    ] {
-        let mut parts = parts_of(rt.alloc(), task_of(cpu, state), &IDLE)?;
-        nudge(&mut parts, 0);
-        let told = [raises(&parts, 0), raises(&parts, 1), raises(&parts, 2)];
-        assert_eq!(rt; told, [Some((0, 0)); 3], "of {state:?} on {cpu}");
-    }
-    Ok(())
+    let alloc = rt.alloc();
+    nobody_is_told_of(&rt, alloc, 1, TaskState::InReady)?;
+    nobody_is_told_of(&rt, alloc, 1, TaskState::Exit)?;
+    nobody_is_told_of(&rt, alloc, 1, TaskState::Waits(Wait::Line(3)))?;
+    nobody_is_told_of(&rt, alloc, 0, TaskState::OobReady)?;
+    nobody_is_told_of(&rt, alloc, 3, TaskState::OobReady)
 }
 
 // A processor that there is not is not nudged, and one for which nothing is ready neither.
 #[test]
-#[tactic(auto, using(crate::proofs::Idle::idle))]
 fn one_processor_is_told(rt: HostRuntime) -> Result<(), Fail> {
-    let mut parts = parts_of(rt.alloc(), task_of(1, TaskState::OobReady), &IDLE)?;
-    nudge_one(&mut parts, 0, 3);
-    assert_eq!(rt; raises(&parts, 1), Some((0, 0)));
-    assert_eq!(rt; raises(&parts, 3), None);
-    let mut parts = parts_of(rt.alloc(), task_of(1, TaskState::OobReady), &IDLE)?;
-    nudge_one(&mut parts, 0, 2);
-    assert_eq!(rt; raises(&parts, 1), Some((0, 0)));
-    assert_eq!(rt; raises(&parts, 2), Some((0, 0)));
+    assert_eq!(rt; nudged_one(rt.alloc(), &IDLE, 0, 3)?, QUIET);
+    assert_eq!(rt; nudged_one(rt.alloc(), &IDLE, 0, 2)?, QUIET);
     Ok(())
 }
 
 // A processor that settles tells the others, and takes the task up if it is its own.
 #[test]
-#[tactic(auto, using(crate::proofs::Idle::idle))]
 fn settling_tells(rt: HostRuntime) -> Result<(), Fail> {
-    let mut parts = parts_of(rt.alloc(), task_of(1, TaskState::OobReady), &IDLE)?;
-    assert_eq!(rt; parts.stamps, 1);
-    assert_eq!(rt; parts.ticks, 0);
-    settle_and_nudge(&mut parts, None, 0);
-    assert_eq!(rt; raises(&parts, 1), Some((1, 0)));
-    assert_eq!(rt; parts.current(1), None);
-    let mut parts = parts_of(rt.alloc(), task_of(1, TaskState::OobReady), &IDLE)?;
-    assert_eq!(rt; parts.stamps, 1);
-    assert_eq!(rt; parts.ticks, 0);
-    settle_and_nudge(&mut parts, None, 1);
-    assert_eq!(rt; raises(&parts, 1), Some((0, 0)));
-    assert_eq!(rt; parts.current(1), Some(0));
+    let (current, told) = settled(rt.alloc(), TaskState::OobReady, &IDLE, None, 0)?;
+    assert_eq!(rt; told[1], Some((1, 0)));
+    assert_eq!(rt; current, None);
+    let (current, told) = settled(rt.alloc(), TaskState::OobReady, &IDLE, None, 1)?;
+    assert_eq!(rt; told[1], NONE);
+    assert_eq!(rt; current, Some(0));
     Ok(())
 }
 
 // Where no task is ready out-of-band a processor runs its in-band task, if one is ready, whatever it ran before, and
 // nobody is nudged.
-#[test]
-#[tactic(auto, using(crate::proofs::Idle::idle))]
-fn settling_in_band(rt: HostRuntime) -> Result<(), Fail> {
-    for (state, current) in [
-        (TaskState::InReady, Some(0)),
-        (TaskState::Exit, None),
-        (TaskState::Waits(Wait::Line(3)), None),
-    ] {
-        let mut parts = parts_of(rt.alloc(), task_of(1, state), &BUSY)?;
-        assert_eq!(rt; parts.stamps, 1);
-        assert_eq!(rt; parts.ticks, 0);
-        settle_and_nudge(&mut parts, BUSY.running, 1);
-        assert_eq!(rt; parts.current(1), current, "of {state:?}");
-        let told = [raises(&parts, 0), raises(&parts, 1), raises(&parts, 2)];
-        assert_eq!(rt; told, [Some((0, 0)); 3], "of {state:?}");
-    }
+fn settles_in_band(
+    rt: &impl Abort,
+    alloc: Global,
+    state: TaskState,
+    wanted: Option<u8>,
+) -> Result<(), Fail> {
+    let (current, told) = settled(alloc, state, &BUSY, BUSY.running, 1)?;
+    assert_eq!(rt; current, wanted, "of {state:?}");
+    assert_eq!(rt; told, QUIET, "of {state:?}");
     Ok(())
+}
+
+#[test]
+fn settling_in_band(rt: HostRuntime) -> Result<(), Fail> {
+    let alloc = rt.alloc();
+    settles_in_band(&rt, alloc, TaskState::InReady, Some(0))?;
+    settles_in_band(&rt, alloc, TaskState::Exit, None)?;
+    settles_in_band(&rt, alloc, TaskState::Waits(Wait::Line(3)), None)
 }
