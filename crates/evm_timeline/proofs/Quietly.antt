@@ -42,7 +42,7 @@ use Rattle.evm_quiet.specs.declared.stop.Stop.TheVariants.{Breakpoint}
 use Rattle.evm_ram.specs.Ram.{read_at, write_at}
 use Rattle.evm_ram.specs.declared.width.Width.{Width}
 use Rattle.evm_ram.specs.declared.width.Width.TheVariants.{Word}
-use Rattle.evm_timeline.specs.Quiet.{IsLoudNext, OnlyRuns, StepOnlyRuns, StepsChangeNothing, is_clear, is_wire_clear, is_quiet, is_quiet_task, is_quiet_at, is_quiet_cpu, is_still, is_still_cpu, is_still_task}
+use Rattle.evm_timeline.specs.Quiet.{IsLoudNext, OnlyRuns, StepOnlyRuns, StepsChangeNothing, is_unhindered, is_wire_clear, is_quiet, is_quiet_task, is_quiet_at, is_quiet_cpu, is_still, is_still_cpu, is_still_task}
 
 -- ---- Steps behind Steps
 pub runs-none : (b : Board) → OnlyRuns b b
@@ -202,7 +202,7 @@ processor-steps (Some p) c b good room at h = by p.stopped refl
     by true stopped = runs-same b (step c b).0 (stops c p b at stopped)
     by false goes =
         let rest : Bool = is_quiet_task p.current c b in
-        let one = both (is_clear p c b) rest (sym (ap (λ (s : Bool). if s then true else (is_clear p c b && rest)) goes) ∙ h) in
+        let one = both (is_unhindered p c b) rest (sym (ap (λ (s : Bool). if s then true else (is_unhindered p c b && rest)) goes) ∙ h) in
         let two = both (not p.skip) (is_wire_clear (slice_get b.parts.pipes c)) one.0 in
         pipe-steps (slice_get b.parts.pipes c) c p b good room at goes (off p.skip two.0) refl two.1 one.1
 
@@ -286,7 +286,7 @@ still-processor (Some p) c b good room at h = by p.stopped refl
     by true stopped = stops c p b at stopped
     by false goes =
         let rest : Bool = is_still_task p.current c b in
-        let one = both (is_clear p c b) rest (sym (ap (λ (s : Bool). if s then true else (is_clear p c b && rest)) goes) ∙ h) in
+        let one = both (is_unhindered p c b) rest (sym (ap (λ (s : Bool). if s then true else (is_unhindered p c b && rest)) goes) ∙ h) in
         let two = both (not p.skip) (is_wire_clear (slice_get b.parts.pipes c)) one.0 in
         still-pipe (slice_get b.parts.pipes c) c p b good room at goes (off p.skip two.0) refl two.1 one.1
 

@@ -40,12 +40,12 @@ is_wire_clear None = false
 is_wire_clear (Some pipe) = is_none (least_line pipe.wire)
 
 -- it passes no breakpoint and has nothing on its wire
-abbrev pub is_clear : Processor → ℕ → Board → Bool
-is_clear p c b = not p.skip && is_wire_clear (slice_get b.parts.pipes c)
+abbrev pub is_unhindered : Processor → ℕ → Board → Bool
+is_unhindered p c b = not p.skip && is_wire_clear (slice_get b.parts.pipes c)
 
 abbrev pub is_quiet_cpu : Option Processor → ℕ → Board → Bool
 is_quiet_cpu None c b = false
-is_quiet_cpu (Some p) c b = if p.stopped then true else (is_clear p c b && is_quiet_task p.current c b)
+is_quiet_cpu (Some p) c b = if p.stopped then true else (is_unhindered p c b && is_quiet_task p.current c b)
 
 -- whether the next Step of processor c is quiet: it is stopped, or goes on quietly
 unfoldable pub is_quiet : ℕ → Board → Bool
@@ -63,7 +63,7 @@ is_still_task (Some t) c b = false
 
 abbrev pub is_still_cpu : Option Processor → ℕ → Board → Bool
 is_still_cpu None c b = false
-is_still_cpu (Some p) c b = if p.stopped then true else (is_clear p c b && is_still_task p.current c b)
+is_still_cpu (Some p) c b = if p.stopped then true else (is_unhindered p c b && is_still_task p.current c b)
 
 -- whether no Step of processor c changes anything: it is stopped, or has nothing to do
 unfoldable pub is_still : ℕ → Board → Bool

@@ -8,7 +8,7 @@ ghost use Rattle.evm_quiet.specs.Quiet.{quiet, quiet_effect, quiet_inst};
 ghost use Rattle.evm_ram.specs.Ram.{is_inside, read_at};
 ghost use Rattle.evm_ram.specs.Width.{bytes_of};
 ghost use Rattle.evm_ram.specs.declared.width.Width.TheVariants as width;
-ghost use Rattle.evm_timeline.specs.Quiet.{StepOnlyRuns, StepsChangeNothing, is_clear, is_wire_clear, is_quiet, is_quiet_task, is_still, is_still_task};
+ghost use Rattle.evm_timeline.specs.Quiet.{StepOnlyRuns, StepsChangeNothing, is_unhindered, is_wire_clear, is_quiet, is_quiet_task, is_still, is_still_task};
 
 use evm_dev::Device;
 use evm_exec::{Effect, Hart, effect, load_width};
@@ -124,8 +124,8 @@ fn is_wire_clear<D: Device>(machine: &Machine<D>, c: u8) -> bool
 }
 
 // Whether a processor passes no breakpoint and has no line on its wire.
-fn is_clear<D: Device>(machine: &Machine<D>, c: u8, processor: Processor) -> bool
-    ensures { result ≡ is_clear processor c machine.now.board }
+fn is_unhindered<D: Device>(machine: &Machine<D>, c: u8, processor: Processor) -> bool
+    ensures { result ≡ is_unhindered processor c machine.now.board }
 {
     !processor.skip && is_wire_clear(machine, c)
 }
@@ -141,7 +141,7 @@ fn is_quiet_cpu<D: Device>(machine: &Machine<D>, c: u8) -> bool
             if processor.stopped {
                 return true;
             }
-            is_clear(machine, c, processor) && is_quiet_task(machine, c, processor.current)
+            is_unhindered(machine, c, processor) && is_quiet_task(machine, c, processor.current)
         }
     }
 }
@@ -178,7 +178,7 @@ fn is_still_cpu<D: Device>(machine: &Machine<D>, c: u8) -> bool
             if processor.stopped {
                 return true;
             }
-            is_clear(machine, c, processor) && is_still_task(machine, c, processor.current)
+            is_unhindered(machine, c, processor) && is_still_task(machine, c, processor.current)
         }
     }
 }
