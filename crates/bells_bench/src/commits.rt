@@ -26,9 +26,9 @@ const LOOP: [u8; 4] = [0x6f, 0, 0, 0];
 fn looping(alloc: Global) -> Option<Machine<Pins>>
     ensures { IfSome result (λ m. IsReplayOf m m) }
 {
-    let mut machine = Machine::boot(alloc, 1, 65_536, CAPACITY).ok()?;
     let file = write_bytes(alloc, &LOOP).ok()?;
     let image = read_image(alloc, file.as_slice()).ok()?;
+    let mut machine = Machine::boot(alloc, 1, 65_536, CAPACITY).ok()?;
     machine.load(&image).ok()?;
     Some(machine)
 }

@@ -13,6 +13,7 @@ use evm_core::{Burst, Committed, Machine};
 use evm_devs::Pins;
 use evm_elf::{read_image, write_bytes};
 use evm_exec::Hart;
+use evm_image::Image;
 use evm_shared::{Blanks, Gate, Origin, Port, Shared, Worker};
 use std::alloc::Global;
 use std::marker::Brand;
@@ -57,11 +58,8 @@ impl Gate for OpenGate {
     fn after(&self, _cpu: u8, _steps: u32) {}
 }
 
-// Processors that are to run the program.
-fn spawning(alloc: Global, cpus: u8) -> Option<Machine<Pins>>
-    ensures { IfSome result (λ m. IsReplayOf m m) }
-{
-    let mut machine = Machine::boot(alloc, cpus, 65_536, CAPACITY).ok()?;
+// The image of the program.
+fn program_image(alloc: Global) -> Option<Image> {
     let mut bytes = Vec::new(alloc);
     for word in PROGRAM {
         bytes.extend_from_slice(&word.to_le_bytes()).ok()?;
@@ -70,7 +68,15 @@ fn spawning(alloc: Global, cpus: u8) -> Option<Machine<Pins>>
         return None;
     }
     let file = write_bytes(alloc, bytes.as_slice()).ok()?;
-    let image = read_image(alloc, file.as_slice()).ok()?;
+    read_image(alloc, file.as_slice()).ok()
+}
+
+// Processors that are to run the program.
+fn spawning(alloc: Global, cpus: u8) -> Option<Machine<Pins>>
+    ensures { IfSome result (λ m. IsReplayOf m m) }
+{
+    let image = program_image(alloc)?;
+    let mut machine = Machine::boot(alloc, cpus, 65_536, CAPACITY).ok()?;
     machine.load(&image).ok()?;
     Some(machine)
 }

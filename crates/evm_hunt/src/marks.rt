@@ -43,13 +43,18 @@ impl Marks {
     ///
     /// Memory was refused.
     pub(crate) fn new(alloc: Global) -> Result<Marks, NoMemory> {
+        Marks::with_room(alloc, ROOM)
+    }
+
+    // Apart, since the prover goes over a list whose length it knows.
+    fn with_room(alloc: Global, room: usize) -> Result<Marks, NoMemory> {
         let none = Mark {
             hash: 0,
             place: 0,
             steps: 0,
         };
         let mut marks = Vec::new(alloc);
-        match marks.resize(ROOM, none) {
+        match marks.resize(room, none) {
             Ok(()) => Ok(Marks { marks, misses: 0 }),
             Err(_) => Err(NoMemory),
         }

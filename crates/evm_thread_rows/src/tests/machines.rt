@@ -22,10 +22,10 @@ pub(super) fn looping(alloc: Global, cpus: u64, capacity: u64) -> Option<Machine
         ram: 65_536,
         capacity,
     };
-    let devices = Devices::new(alloc).ok()?;
-    let mut machine = Machine::from_boot(alloc, boot, devices).ok()?;
     let file = write_bytes(alloc, &LOOP).ok()?;
     let image = read_image(alloc, file.as_slice()).ok()?;
+    let devices = Devices::new(alloc).ok()?;
+    let mut machine = Machine::from_boot(alloc, boot, devices).ok()?;
     machine.load(&image).ok()?;
     Some(machine)
 }
