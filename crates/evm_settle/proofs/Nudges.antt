@@ -1,5 +1,5 @@
 -- Changing one processor's pipe after another is changing each.
-use Rattle.std.proofs.Common.{◌≡◌, ℕ, zero, suc, ◌+◌, ◌<◌, ◌≤◌, List, Bool, true, false, Option, Some, None, length, refl, sym, ap, ◌∙◌, inl, inr, arith, add-one, leb-true, leb-false}
+use Rattle.std.proofs.Common.{◌≡◌, ℕ, zero, suc, ◌+◌, ◌<◌, ◌≤◌, List, [], ◌∷◌, Bool, true, false, Option, Some, None, length, refl, sym, ap, ◌∙◌, inl, inr, arith, add-one, leb-true, leb-false}
 use Rattle.std.specs.Prelude.{slice_get, slice_set, option_map, nat_le, ◌==◌, if◌then◌else◌}
 use Rattle.std.proofs.Math.Nat.{eq-or-lt_of_le}
 use Rattle.std.proofs.lemmas.Option.{slice_get_past}
@@ -108,3 +108,15 @@ up-one b d k false h = up-pipe b d k (slice_get k.pipes d) h
 
 pub nudge_one-up : (b c d : ℕ) (k : Parts) → PipesUpTo b k.pipes → PipesUpTo (b + 1) (nudge_one c d k).pipes
 nudge_one-up b c d k h = up-one b d k (d == c) h
+
+-- ---- a lone processor tells nobody
+each-alone : (f : ℕ → Pipe → Pipe) (xs : List Pipe) → length xs ≤ 1 → ((p : Pipe) → f 0 p ≡ p) → each f xs ≡ xs
+each-alone f [] few h = refl
+each-alone f (x ∷ []) few h = ap (λ (y : Pipe). y ∷ []) (h x)
+each-alone f (x ∷ y ∷ zs) few h = absurd (omega arith)
+
+pub nudge-alone : (c : ℕ) (k : Parts) → c ≡ 0 → length k.pipes ≤ 1 → nudge c k ≡ k
+unfolding nudge
+nudge-alone c k first few = rw first (ap (λ (ps : List Pipe). record k { pipes = ps }) (each-alone (nudge_pipe 0 k) k.pipes few (λ p. refl)))
+
+pub ruleset alone = (nudge-alone)

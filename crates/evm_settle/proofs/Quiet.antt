@@ -8,7 +8,7 @@ use Rattle.evm_model.specs.Lists.{change}
 use Rattle.evm_model.specs.Pipes.{Pipe, play, raise}
 use Rattle.evm_model.specs.Mutexes.{owns_any}
 use Rattle.evm_model.specs.Ranks.{best, is_oob_ready, next_in_band}
-use Rattle.evm_model.specs.Settle.{current, is_oob, is_oob_task, nudge, nudge_pipe, play_in_band, play_in_band_lines, play_in_band_pipe, run_in_band, run_task, settle_and_nudge, settle_in_band, take_up, turn_in_band, wants_nudge}
+use Rattle.evm_model.specs.Settle.{current, is_oob, is_oob_task, nudge, nudge_pipe, play_in_band, play_in_band_lines, play_in_band_pipe, run_in_band, run_task, settle_in_band, take_up, turn_in_band, wants_nudge}
 use Rattle.evm_model.specs.State.{Parts, on_pipe, on_processor}
 use Rattle.evm_model.specs.Tasks.{restamp, is_weak}
 use Rattle.evm_model.specs.Waits.{awaits_line, is_wait_for, wake, wake_below, woken}
@@ -21,8 +21,7 @@ use Rattle.evm_parts.specs.evm_ready.Oob.{has_oob}
 use Rattle.evm_rules.proofs.Firsts.{best-is_oob}
 use Rattle.evm_rules.proofs.Waking.{wait-wakes}
 use Rattle.evm_rules.proofs.evm_walk.Twice.{change-twice}
-use Rattle.evm_settle.specs.Steps.{play_oob_pipe, chooses, choose}
-use Rattle.evm_settle.proofs.Steps.{settle_and_nudge-steps}
+use Rattle.evm_settle.specs.Steps.{choose}
 
 -- no task is ready out-of-band
 abbrev IsQuiet : List Task → Type 0
@@ -186,15 +185,12 @@ turns : (c : ℕ) (k : Parts) → IsQuiet k.tasks → settle_in_band c k ≡ tur
 unfolding settle_in_band
 turns c k q = rw (current-quiet (current c k) k.tasks q) refl
 
-pub quiet-settles : (was : Option ℕ) (c : ℕ) (k : Parts) → has_oob (play_oob_pipe (slice_get k.pipes c) was c k).tasks ≡ false
-    → turn_in_band c (play_oob_pipe (slice_get k.pipes c) was c k) ≡ settle_and_nudge was c k
-quiet-settles was c k h =
-    let b : Bool = chooses (slice_get k.pipes c) in
-    let x : Parts = play_oob_pipe (slice_get k.pipes c) was c k in
-    let q : IsQuiet x.tasks = quiet-at x.tasks h in
-    let chosen : IsQuiet (choose b c x).tasks = rw (choose-tasks c b x) q in
-    let turned : turn_in_band c x ≡ settle_in_band c (choose b c x) = sym (turn-chosen c b x) ∙ sym (turns c (choose b c x) chosen) in
-    let told : nudge c (turn_in_band c x) ≡ turn_in_band c x = nudge-nobody c (turn_in_band c x) (quiet-turn c x q) in
-    sym told ∙ ap (nudge c) turned ∙ settle_and_nudge-steps was c k
+pub quiet-settles : (c : ℕ) (b : Bool) (k : Parts) → has_oob k.tasks ≡ false → turn_in_band c k ≡ nudge c (settle_in_band c (choose b c k))
+quiet-settles c b k h =
+    let q : IsQuiet k.tasks = quiet-at k.tasks h in
+    let chosen : IsQuiet (choose b c k).tasks = rw (choose-tasks c b k) q in
+    let turned : turn_in_band c k ≡ settle_in_band c (choose b c k) = sym (turn-chosen c b k) ∙ sym (turns c (choose b c k) chosen) in
+    let told : nudge c (turn_in_band c k) ≡ turn_in_band c k = nudge-nobody c (turn_in_band c k) (quiet-turn c k q) in
+    sym told ∙ ap (nudge c) turned
 
 pub ruleset quiet = (quiet-settles)

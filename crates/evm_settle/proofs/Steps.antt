@@ -1,9 +1,9 @@
 -- Settling out-of-band in two steps, and the room that each takes up.
-use Rattle.std.proofs.Common.{◌≡◌, ℕ, ◌+◌, ◌-◌, Bool, true, false, Option, Some, None, refl, ap, sym, ◌∙◌, arith}
+use Rattle.std.proofs.Common.{◌≡◌, ℕ, ◌+◌, ◌-◌, Bool, true, false, Option, Some, None, [], refl, ap, sym, ◌∙◌, arith}
 use Rattle.std.specs.Prelude.{not, slice_get, if◌then◌else◌}
 use Rattle.evm_model.specs.Bounds.{COUNT_LIMIT, PER_IN_BAND_LOG, PER_OOB_LOG, PER_SETTLING, HasStamps, PipesUpTo}
 use Rattle.evm_model.specs.Pipes.{Pipe}
-use Rattle.evm_model.specs.Settle.{play_oob_lines, run_best, settle_oob, settle_oob_pipe, settle_in_band, settle, nudge, settle_and_nudge}
+use Rattle.evm_model.specs.Settle.{play_oob_lines, run_best, settle_oob, settle_oob_pipe, settle_in_band, settle, play_in_band_lines, play_in_band_pipe, nudge, settle_and_nudge}
 use Rattle.evm_model.specs.State.{Parts}
 use Rattle.evm_model.specs.declared.limits.TheConstants.{PROCESSOR_LIMIT}
 use Rattle.evm_rules.proofs.Bounded.{AreWithin, within-more, within-settle_oob, within-settle_in_band}
@@ -69,4 +69,26 @@ room-settled c b k w =
     let all : AreWithin (COUNT_LIMIT - PER_IN_BAND_LOG + 32) (settle_in_band c (choose b c k)) = within-settle_in_band (COUNT_LIMIT - PER_IN_BAND_LOG) c (choose b c k) (choose-within (COUNT_LIMIT - PER_IN_BAND_LOG) c b k w) in
     PipesUpTo-more (COUNT_LIMIT - PER_IN_BAND_LOG + 32) (COUNT_LIMIT - PROCESSOR_LIMIT) _ (omega arith) all.up
 
-pub ruleset steps = (room-first, room-up, room-played, room-chosen, stamps-chosen, room-settled, settle_and_nudge-steps)
+-- ---- where nothing is played
+pub settle-unplayed : (was : Option ℕ) (c : ℕ) (b : Bool) (k : Parts) → b ≡ chooses (slice_get k.pipes c) → play_oob_pipe (slice_get k.pipes c) was c k ≡ k
+    → nudge c (settle_in_band c (choose b c k)) ≡ settle_and_nudge was c k
+settle-unplayed was c b k chosen same = rw chosen (ap (λ (x : Parts). nudge c (settle_in_band c (choose (chooses (slice_get k.pipes c)) c x))) (sym same) ∙ settle_and_nudge-steps was c k)
+
+same-if : (b : Bool) (k : Parts) → (if b then k else k) ≡ k
+same-if true k = refl
+same-if false k = refl
+
+pub unplayed-oob : (was : Option ℕ) (c : ℕ) (o : Option Pipe) (pipe : Pipe) (k : Parts) → o ≡ Some pipe → pipe.oob.lines ≡ [] → play_oob_pipe o was c k ≡ k
+unfolding play_oob_lines
+unplayed-oob was c o pipe k here none = rw (here, none) (same-if pipe.oob.stalled k)
+
+pub unplayed-in_band : (c : ℕ) (o : Option Pipe) (pipe : Pipe) (k : Parts) → o ≡ Some pipe → pipe.in_band.lines ≡ [] → play_in_band_pipe o c k ≡ k
+unfolding play_in_band_lines
+unplayed-in_band c o pipe k here none = rw (here, none) (same-if pipe.in_band.stalled k)
+
+pub room-unplayed : (k : Parts) → AreWithin (COUNT_LIMIT - PER_SETTLING) k → AreWithin (COUNT_LIMIT - PER_IN_BAND_LOG) k
+room-unplayed k w = within-more (COUNT_LIMIT - PER_SETTLING) (COUNT_LIMIT - PER_IN_BAND_LOG) k (omega arith) w
+
+pub ruleset steps = (room-first, room-up, room-played, room-chosen, stamps-chosen, room-settled, settle_and_nudge-steps, settle-unplayed, room-unplayed)
+
+pub ruleset unplayed = (unplayed-oob, unplayed-in_band)

@@ -1,4 +1,4 @@
-ghost use Rattle.std.specs.Prelude.{◌≡◌, ◌-◌};
+ghost use Rattle.std.specs.Prelude.{◌≡◌, ◌-◌, true};
 ghost use Rattle.evm_model.specs.Bounds.{COUNT_LIMIT, PipesUpTo};
 ghost use Rattle.evm_model.specs.Settle.{nudge, differs, wants_nudge};
 ghost use Rattle.evm_settle.specs.Nudges.{nudge_one};
@@ -42,8 +42,27 @@ pub(crate) fn nudge_one(parts: &mut Parts, c: u8, d: u8)
     }
 }
 
+// Whether there is no other processor than c.
+#[tactic(auto, using(crate::proofs::Nudges::alone))]
+fn is_alone(parts: &Parts, c: u8) -> bool
+    ensures { result ≡ true → nudge c parts.now ≡ parts.now }
+{
+    c == 0 && parts.pipe_count() <= 1
+}
+
 // Raises line 1 of each other processor that wants it.
 pub(crate) fn nudge(parts: &mut Parts, c: u8)
+    requires { PipesUpTo (COUNT_LIMIT - PROCESSOR_LIMIT) parts.old.pipes }
+    ensures { parts.new ≡ nudge c parts.old }
+{
+    if !is_alone(parts, c) {
+        nudge_others(parts, c);
+    }
+}
+
+// The same, where there may be others. Apart, so that a lone processor has no loop to pass.
+#[inline(never)]
+fn nudge_others(parts: &mut Parts, c: u8)
     requires { PipesUpTo (COUNT_LIMIT - PROCESSOR_LIMIT) parts.old.pipes }
     ensures { parts.new ≡ nudge c parts.old }
 {

@@ -1,4 +1,4 @@
-ghost use Rattle.std.specs.Prelude.{◌≡◌, ◌≤◌, ◌+◌, ◌-◌, slice_get, Option};
+ghost use Rattle.std.specs.Prelude.{◌≡◌, ◌≤◌, ◌+◌, ◌-◌, ℕ, true, slice_get, IfSome, Option};
 ghost use Rattle.evm_model.specs.Bounds.{COUNT_LIMIT, PER_IN_BAND_LOG, PER_OOB_LOG, PER_SETTLING, HasStamps, PipesUpTo};
 ghost use Rattle.evm_model.specs.Settle.{turn_in_band, settle_in_band, run_in_band, nudge, settle_and_nudge, play_in_band_pipe};
 ghost use Rattle.evm_rules.specs.Within.{AreWithin};
@@ -75,15 +75,45 @@ fn play_in_band_log(parts: &mut Parts, c: u8)
     }
 }
 
-// The in-band log is played, and an in-band task is current.
+// The in-band log is played, and an in-band task is current. Apart, as after most events nothing is played.
+#[inline(never)]
 #[tactic(auto, unfolding(evm_model::specs::Settle::turn_in_band))]
-fn turn_in_band(parts: &mut Parts, c: u8)
+fn play_and_turn(parts: &mut Parts, c: u8)
     requires room { PipesUpTo (COUNT_LIMIT - PER_IN_BAND_LOG) parts.old.pipes }
     requires stamps { HasStamps PER_IN_BAND_LOG parts.old }
     ensures { parts.new ≡ turn_in_band c parts.old }
 {
     play_in_band_log(parts, c);
     run_in_band(parts, c);
+}
+
+// Whether the in-band log has nothing to play.
+#[tactic(auto, using(crate::proofs::Steps::unplayed))]
+fn plays_nothing_in_band(parts: &Parts, c: u8) -> bool
+    ensures { result ≡ true → play_in_band_pipe (slice_get parts.now.pipes c) c parts.now ≡ parts.now }
+{
+    let Some(pipe) = parts.pipe(c) else {
+        return true;
+    };
+    let log = pipe.log(Stage::InBand);
+    if log.stalled {
+        return true;
+    }
+    log.lines.is_empty()
+}
+
+// The same.
+#[tactic(auto, unfolding(evm_model::specs::Settle::turn_in_band))]
+fn turn_in_band(parts: &mut Parts, c: u8)
+    requires room { PipesUpTo (COUNT_LIMIT - PER_IN_BAND_LOG) parts.old.pipes }
+    requires stamps { HasStamps PER_IN_BAND_LOG parts.old }
+    ensures { parts.new ≡ turn_in_band c parts.old }
+{
+    if plays_nothing_in_band(parts, c) {
+        run_in_band(parts, c);
+    } else {
+        play_and_turn(parts, c);
+    }
 }
 
 // The in-band part, where no out-of-band task is current.
@@ -110,20 +140,65 @@ fn settle_oob_ready(parts: &mut Parts, c: u8, chooses: bool)
     nudge(parts, c);
 }
 
-/// A processor settles after an event, and tells the others that should run another task. `was` is the task that was
-/// current there before the event.
-#[tactic(auto, using(crate::proofs::Steps::steps, crate::proofs::Quiet::quiet))]
-pub fn settle_and_nudge(parts: &mut Parts, was: Option<u8>, c: u8)
+// What follows once the out-of-band log is played. Where no task is ready out-of-band no processor has a best one, so the
+// in-band part is all of it.
+#[inline(always)]
+#[tactic(auto, using(crate::proofs::Quiet::quiet))]
+fn settle_played(parts: &mut Parts, c: u8, chooses: bool)
+    requires room { AreWithin (COUNT_LIMIT - PER_IN_BAND_LOG) parts.old }
+    requires stamps { HasStamps PER_IN_BAND_LOG parts.old }
+    ensures { parts.new ≡ nudge c (settle_in_band c (choose chooses c parts.old)) }
+{
+    if parts.has_oob() {
+        settle_oob_ready(parts, c, chooses);
+    } else {
+        turn_in_band(parts, c);
+    }
+}
+
+// The whole of it, where lines may wait in the out-of-band log. Apart, so that the rest needs no registers of its own.
+#[inline(never)]
+#[tactic(auto, using(crate::proofs::Steps::steps))]
+fn play_and_settle(parts: &mut Parts, was: Option<u8>, c: u8)
     requires room { AreWithin (COUNT_LIMIT - PER_SETTLING) parts.old }
     requires stamps { HasStamps PER_SETTLING parts.old }
     requires clock { parts.old.ticks ≤ COUNT_LIMIT }
     ensures { parts.new ≡ settle_and_nudge was c parts.old }
 {
     let chooses = play_oob_log(parts, was, c);
-    // Where no task is ready out-of-band no processor has a best one, so the in-band part is all that follows.
-    if parts.has_oob() {
-        settle_oob_ready(parts, c, chooses);
+    settle_played(parts, c, chooses);
+}
+
+// Where the out-of-band log has nothing to play: whether the best task is to be current then.
+#[tactic(auto, using(crate::proofs::Steps::unplayed))]
+fn chooses_at_once(parts: &Parts, c: u8) -> Option<bool>
+    ensures chooses { IfSome result (λ b. b ≡ chooses (slice_get parts.now.pipes c)) }
+    ensures plays_nothing { IfSome result (λ _. (was : Option ℕ) → play_oob_pipe (slice_get parts.now.pipes c) was c parts.now ≡ parts.now) }
+{
+    let Some(pipe) = parts.pipe(c) else {
+        return Some(false);
+    };
+    let oob = pipe.log(Stage::OutOfBand);
+    if oob.stalled {
+        Some(false)
+    } else if oob.lines.is_empty() {
+        Some(true)
     } else {
-        turn_in_band(parts, c);
+        None
+    }
+}
+
+/// A processor settles after an event, and tells the others that should run another task. `was` is the task that was
+/// current there before the event.
+#[tactic(auto, using(crate::proofs::Steps::steps))]
+pub fn settle_and_nudge(parts: &mut Parts, was: Option<u8>, c: u8)
+    requires room { AreWithin (COUNT_LIMIT - PER_SETTLING) parts.old }
+    requires stamps { HasStamps PER_SETTLING parts.old }
+    requires clock { parts.old.ticks ≤ COUNT_LIMIT }
+    ensures { parts.new ≡ settle_and_nudge was c parts.old }
+{
+    match chooses_at_once(parts, c) {
+        Some(chooses) => settle_played(parts, c, chooses),
+        None => play_and_settle(parts, was, c),
     }
 }

@@ -4,7 +4,7 @@ use Rattle.evm_model.specs.declared.limits.TheConstants.{PROCESSOR_LIMIT}
 use Rattle.evm_rules.proofs.evm_walk.Counted.{PipesUpTo-more}
 use Rattle.evm_settle.specs.Nudges.{nudge_one}
 use Rattle.evm_settle.proofs.Nudges.{nudge_one-none, nudge_one-more, nudge_one-all, nudge_one-up}
-use Rattle.evm_settle.proofs.nudging.nudge.Goals as goal
+use Rattle.evm_settle.proofs.nudging.nudge_others.Goals as goal
 
 pub loop-d-init : goal.loop-d-init
 loop-d-init c = record { told = sym (nudge_one-none c.args.c c.args.parts.now); room = PipesUpTo-more _ _ _ (omega arith) c.requires }

@@ -3,7 +3,7 @@ use Rattle.evm_model.specs.Bounds.{COUNT_LIMIT, PipesUpTo}
 use Rattle.evm_model.specs.Settle.{nudge_pipe}
 use Rattle.evm_model.specs.declared.limits.TheConstants.{PROCESSOR_LIMIT}
 use Rattle.evm_settle.proofs.Nudges.{changed_below}
-use Rattle.evm_settle.proofs.nudging.nudge.Given as goal
+use Rattle.evm_settle.proofs.nudging.nudge_others.Given as goal
 
 -- the processors below d are told
 abbrev pub invariant-loop-d : goal.invariant-loop-d
