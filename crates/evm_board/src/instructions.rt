@@ -42,6 +42,7 @@ pub(crate) fn fault_and_settle(parts: &mut Parts, c: u8, t: u8, reason: Fault)
 }
 
 // A task calls a kernel, and its processor settles.
+#[inline(never)]
 #[tactic(auto, using(crate::proofs::Rooms::calls))]
 fn call_and_settle(parts: &mut Parts, c: u8, t: u8)
     requires room { HasRoom STAMPS_PER_EVENT parts.old }
@@ -62,12 +63,13 @@ pub(crate) fn stop(parts: &mut Parts, c: u8)
 
 impl<D: Device> Board<D> {
     /// Goes on where a processor's run stopped, and answers as that Step does. What follows each reason is decided here alone.
+    #[inline(never)]
     #[tactic(auto, unfolding(evm_model::specs::Instructions::finish))]
-    pub(crate) fn follow(&mut self, c: u8, t: u8, why: Stop) -> Answer
+    fn follow_any(&mut self, c: u8, t: u8, why: &Stop) -> Answer
         requires { IsRunning false c t self.old }
-        ensures { (self.new, result) ≡ follow why c t self.old }
+        ensures { (self.new, result) ≡ follow why.now c t self.old }
     {
-        match why {
+        match *why {
             Stop::Breakpoint => {
                 stop(&mut self.parts, c);
                 return Answer::Hit;
@@ -83,5 +85,19 @@ impl<D: Device> Board<D> {
             } => self.finish_store(c, t, width, address, value),
         }
         Answer::Ran(t)
+    }
+
+    /// The same. A call, the most frequent reason, takes the short way.
+    #[inline(always)]
+    #[tactic(auto, unfolding(evm_model::specs::Instructions::finish))]
+    pub(crate) fn follow(&mut self, c: u8, t: u8, why: &Stop) -> Answer
+        requires { IsRunning false c t self.old }
+        ensures { (self.new, result) ≡ follow why.now c t self.old }
+    {
+        if let Stop::Call = *why {
+            call_and_settle(&mut self.parts, c, t);
+            return Answer::Ran(t);
+        }
+        self.follow_any(c, t, why)
     }
 }
