@@ -118,19 +118,19 @@ impl Schedule {
         if self.waiting.is_free(t) {
             self.waiting.enter(t, waiter);
         } else {
-            self.move_wait(t, waiter);
+            self.move_wait(t, waiter.wait, waiter.stamp);
         }
     }
 
     // A task that may wait already waits for this. Apart, as it is rare.
     #[inline(never)]
-    fn move_wait(&mut self, t: u8, waiter: Waiter)
+    fn move_wait(&mut self, t: u8, wait: Wait, stamp: u64)
         ensures places { self.new.places ≡ self.old.places }
-        ensures waiters { self.new.waiters ≡ change (λ _. Some waiter) self.old.waiters t }
+        ensures waiters { self.new.waiters ≡ change (λ _. Some (record { wait = wait; stamp = stamp })) self.old.waiters t }
         ensures ranks { self.new.ranks ≡ self.old.ranks }
         ensures sound { self.new.sound ≡ self.old.sound }
     {
-        self.waiting.set(t, Some(waiter));
+        self.waiting.set(t, Some(Waiter { wait, stamp }));
     }
 
     // Task t waits for nothing, and is ready where it says.
@@ -209,6 +209,7 @@ impl Schedule {
     }
 
     // Ranks follow where task t may boost another than before.
+    #[inline(always)]
     fn relink(&mut self, mutexes: &Mutexes, tasks: &Tasks, t: u8, before: Option<u8>)
         requires { IsRelinked self.old mutexes.now tasks.now t before }
         ensures { IsScheduled self.new mutexes.now tasks.now }
@@ -218,6 +219,15 @@ impl Schedule {
         self.trust(open);
         let raised = self.raised_heir(t, heir);
         self.mend(mutexes, tasks, before, raised);
+    }
+
+    // As `relink`, for callers on whose path it is rare.
+    #[inline(never)]
+    fn relink_apart(&mut self, mutexes: &Mutexes, tasks: &Tasks, t: u8, before: Option<u8>)
+        requires { IsRelinked self.old mutexes.now tasks.now t before }
+        ensures { IsScheduled self.new mutexes.now tasks.now }
+    {
+        self.relink(mutexes, tasks, t, before);
     }
 
     // The same where task t boosts nobody now, so that no chain closes.
@@ -240,7 +250,7 @@ impl Schedule {
         let before = mutexes.boosts(tasks, t);
         tasks.set_state(t, state);
         self.enter(tasks, t);
-        self.relink(mutexes, tasks, t, before);
+        self.relink_apart(mutexes, tasks, t, before);
     }
 
     /// A task has another state and another stamp.
@@ -260,7 +270,7 @@ impl Schedule {
         tasks.set_state(t, state);
         tasks.set_stamp(t, stamp);
         self.enter(tasks, t);
-        self.relink(mutexes, tasks, t, before);
+        self.relink_apart(mutexes, tasks, t, before);
     }
 
     /// A task waits, until a deadline if that is not 0, and has another stamp.
@@ -415,6 +425,7 @@ impl Schedule {
     }
 
     /// Task t has mutex m, locked this many times.
+    #[inline(always)]
     pub fn hold(&mut self, mutexes: &mut Mutexes, tasks: &Tasks, m: u8, t: u8, count: u64)
         requires { IsScheduled self.old mutexes.old tasks.now }
         ensures mutexes { mutexes.new ≡ change (held_by t count) mutexes.old m }

@@ -82,14 +82,23 @@ impl Parts {
         self.schedule.create(&mut self.mutexes, &self.tasks, mutex);
     }
 
-    /// A task has a mutex, locked so often.
-    #[inline]
-    pub fn hold_mutex(&mut self, t: u8, m: u8, count: u64)
+    // A task has a mutex, locked so often.
+    #[inline(always)]
+    fn hold(&mut self, t: u8, m: u8, count: u64)
         ensures row { self.new ≡ on_mutex m (held_by t count) self.old }
         ensures stamps { self.new.stamps ≡ self.old.stamps }
     {
         self.schedule
             .hold(&mut self.mutexes, &self.tasks, m, t, count);
+    }
+
+    /// A task has a mutex, locked so often.
+    #[inline(never)]
+    pub fn hold_mutex(&mut self, t: u8, m: u8, count: u64)
+        ensures row { self.new ≡ on_mutex m (held_by t count) self.old }
+        ensures stamps { self.new.stamps ≡ self.old.stamps }
+    {
+        self.hold(t, m, count);
     }
 
     /// A task has a mutex that was free.
@@ -139,7 +148,7 @@ impl Parts {
     {
         let owns = self.owns_with(t, m);
         self.wake_with(t, value, owns);
-        self.hold_mutex(t, m, 1);
+        self.hold(t, m, 1);
     }
 
     /// A task that waited for a mutex owns it and wakes, with the answer that it kept if it waited for it again; if there

@@ -30,7 +30,7 @@ fn new_task(cpu: u8, stamp: u64) -> Task
 
 impl Parts {
     /// Gives a task a fresh stamp.
-    #[inline]
+    #[inline(always)]
     #[tactic(auto, unfolding(evm_model::specs::Tasks::restamp))]
     pub fn restamp(&mut self, t: u8)
         requires room { HasStamps 1 self.old }
@@ -118,6 +118,7 @@ impl Parts {
 
     /// A task wakes, and its call is answered: it is ready on the stage on which it waited, but in-band if it is weak
     /// and owns no mutex.
+    #[inline(never)]
     #[tactic(auto, unfolding(evm_model::specs::Waits::wake))]
     pub fn wake(&mut self, t: u8, value: u64)
         requires room { HasStamps 1 self.old }
@@ -129,7 +130,7 @@ impl Parts {
     }
 
     // A task wakes, and its call is answered: in-band if it is weak, unless it owns a mutex.
-    #[inline]
+    #[inline(always)]
     #[tactic(auto, unfolding(evm_model::specs::Tasks::restamp))]
     pub(crate) fn wake_with(&mut self, t: u8, value: u64, owns: bool)
         requires room { HasStamps 1 self.old }

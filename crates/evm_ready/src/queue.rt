@@ -51,7 +51,7 @@ impl Queue {
     }
 
     // Task t comes to its place.
-    #[inline]
+    #[inline(always)]
     pub(crate) fn insert(&mut self, turns: &[Turn], t: u8)
         requires room { length self.old < TASK_LIMIT }
         requires order { IsInOrder turns.now self.old }

@@ -2,7 +2,7 @@ use Rattle.std.proofs.Common.{refl}
 use Rattle.evm_boost.proofs.Moves.{relinked}
 use Rattle.evm_boost.proofs.schedule.Schedule.set_state.Goals as goal
 
-pub relink-requires : goal.relink-requires
-relink-requires c =
+pub relink_apart-requires : goal.relink_apart-requires
+relink_apart-requires c =
     relinked _ _ _ _ _ _ c.args.t _ (λ task. refl) c.requires c.set_state.ensures c.boosts-before.ensures
     c.enter.ensures.places c.enter.ensures.waiters c.enter.ensures.ranks c.enter.ensures.sound
