@@ -87,7 +87,7 @@ impl<D: Device> Board<D> {
         Answer::Ran(t)
     }
 
-    /// The same. A call, the most frequent reason, takes the short way.
+    /// As `follow_any`. A call, the most frequent reason, is looked for first.
     #[inline(always)]
     #[tactic(auto, unfolding(evm_model::specs::Instructions::finish))]
     pub(crate) fn follow(&mut self, c: u8, t: u8, why: &Stop) -> Answer

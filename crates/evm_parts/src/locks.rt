@@ -82,7 +82,7 @@ impl Parts {
         self.schedule.create(&mut self.mutexes, &self.tasks, mutex);
     }
 
-    // A task has a mutex, locked so often.
+    // As `hold_mutex`, within its caller.
     #[inline(always)]
     fn hold(&mut self, t: u8, m: u8, count: u64)
         ensures row { self.new ≡ on_mutex m (held_by t count) self.old }

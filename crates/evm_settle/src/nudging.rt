@@ -60,7 +60,7 @@ pub(crate) fn nudge(parts: &mut Parts, c: u8)
     }
 }
 
-// The same, where there may be others. Apart, so that a lone processor has no loop to pass.
+// As `nudge`, where there may be others. Apart, so that a lone processor has no loop to pass.
 #[inline(never)]
 fn nudge_others(parts: &mut Parts, c: u8)
     requires { PipesUpTo (COUNT_LIMIT - PROCESSOR_LIMIT) parts.old.pipes }

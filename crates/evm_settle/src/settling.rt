@@ -75,7 +75,7 @@ fn play_in_band_log(parts: &mut Parts, c: u8)
     }
 }
 
-// The in-band log is played, and an in-band task is current. Apart, as after most events nothing is played.
+// As `turn_in_band`, where lines may wait in the in-band log. Apart, as after most events none does.
 #[inline(never)]
 #[tactic(auto, unfolding(evm_model::specs::Settle::turn_in_band))]
 fn play_and_turn(parts: &mut Parts, c: u8)
@@ -102,7 +102,7 @@ fn plays_nothing_in_band(parts: &Parts, c: u8) -> bool
     log.lines.is_empty()
 }
 
-// The same.
+// The in-band log is played, and an in-band task is current.
 #[tactic(auto, unfolding(evm_model::specs::Settle::turn_in_band))]
 fn turn_in_band(parts: &mut Parts, c: u8)
     requires room { PipesUpTo (COUNT_LIMIT - PER_IN_BAND_LOG) parts.old.pipes }
@@ -156,7 +156,8 @@ fn settle_played(parts: &mut Parts, c: u8, chooses: bool)
     }
 }
 
-// The whole of it, where lines may wait in the out-of-band log. Apart, so that the rest needs no registers of its own.
+// As `settle_and_nudge`, where lines may wait in the out-of-band log. Apart, as after most events none does: a function that
+// ends in its calls saves no registers.
 #[inline(never)]
 #[tactic(auto, using(crate::proofs::Steps::steps))]
 fn play_and_settle(parts: &mut Parts, was: Option<u8>, c: u8)
