@@ -1,9 +1,7 @@
-//! Applies events to a machine that has nothing above it: `bench/run` measures it. Standard input has lines of a script, the first
-//! of them `boot CPUS RAM CAPACITY`, then `poke ADDRESS HEX`, `step CPU COUNT`, `raise CPU LINE` and `tick`. The lines behind
-//! `times COUNT`, at most 16, are applied COUNT times.
+//! Applies events to a machine without a script's service: `bench/run` measures it. Standard input has the lines of a script, the
+//! first of them its boot line. The lines behind one that says `times COUNT` are applied COUNT times.
 #![tactic(auto)]
 
-mod lines;
 mod work;
 
 use crate::work::work;

@@ -1,21 +1,14 @@
 //! The lines, applied.
 
-use crate::lines::{Line, read_line};
-use arrayvec::ArrayVec;
-use evm_core::Machine;
+use evm_debug::{Boot, Event, Line, Machine, read_line};
 use evm_devs::Pins;
-use evm_model::Event;
 use std::alloc::Global;
 
-const ROUND_LIMIT: usize = 16;
-
-// The machine of `boot CPUS RAM CAPACITY`, with three devices, which are pins.
-fn boot(alloc: Global, text: &str) -> Option<Machine<Pins>> {
-    let mut words = text.strip_prefix("boot ")?.split(' ');
-    let cpus = words.next()?.parse().ok()?;
-    let ram = words.next()?.parse().ok()?;
-    let capacity = words.next()?.parse().ok()?;
-    Machine::boot(alloc, cpus, ram, capacity).ok()
+// The machine of a boot line, with three devices, which are pins.
+fn boot(alloc: Global, numbers: &Boot) -> Option<Machine<Pins>> {
+    let cpus = u8::try_from(numbers.cpus).ok()?;
+    let capacity = u32::try_from(numbers.capacity).ok()?;
+    Machine::boot(alloc, cpus, numbers.ram, capacity).ok()
 }
 
 fn attach_pins(machine: &mut Machine<Pins>) {
@@ -41,14 +34,17 @@ fn apply_other(machine: &mut Machine<Pins>, line: &Line) {
         Line::Steps(cpu, count) => {
             let _ = machine.steps(*cpu, *count);
         }
-        Line::Tick => {
-            let _ = machine.apply(Event::Tick);
+        Line::One(event) => {
+            let _ = machine.apply(event.lend());
         }
-        Line::Raise(cpu, line) => {
-            let _ = machine.apply(Event::Raise(*cpu, *line));
-        }
-        Line::Poke(address, bytes) => {
-            let _ = machine.apply(Event::Poke(*address, bytes));
+        Line::Blank | Line::Boot(_) | Line::Look(_) => {}
+    }
+}
+
+fn apply_lines(machine: &mut Machine<Pins>, text: &str) {
+    for text in text.lines() {
+        if let Ok(line) = read_line(text.as_bytes()) {
+            apply(machine, &line);
         }
     }
 }
@@ -61,33 +57,27 @@ fn apply_times(machine: &mut Machine<Pins>, round: &[Line], times: u32) {
     }
 }
 
-// The lines behind the first, up to one that is none.
-fn apply_all(machine: &mut Machine<Pins>, text: &str) {
-    let mut round: ArrayVec<Line, ROUND_LIMIT> = ArrayVec::new();
-    let mut times = None;
+fn lines_of(alloc: Global, text: &str) -> Option<Vec<Line>> {
+    let mut lines = Vec::new(alloc);
     for text in text.lines() {
-        if let Some(count) = text.strip_prefix("times ") {
-            times = Some(count.parse().unwrap_or(0));
-            continue;
-        }
-        let Some(line) = read_line(text) else {
-            break;
-        };
-        match times {
-            None => apply(machine, &line),
-            Some(_) => {
-                let _ = round.try_push(line);
-            }
-        }
+        lines.push(read_line(text.as_bytes()).ok()?).ok()?;
     }
-    apply_times(machine, round.as_slice(), times.unwrap_or(0));
+    Some(lines)
 }
 
 /// Does what the lines say: how many events the machine has had then.
 pub fn work(alloc: Global, text: &str) -> Option<u64> {
     let (first, rest) = text.split_once('\n')?;
-    let mut machine = boot(alloc, first)?;
+    let (head, behind) = rest.split_once("times ").unwrap_or((rest, "0\n"));
+    let (times, round) = behind.split_once('\n')?;
+    let times = times.parse().ok()?;
+    let round = lines_of(alloc, round)?;
+    let Ok(Line::Boot(numbers)) = read_line(first.as_bytes()) else {
+        return None;
+    };
+    let mut machine = boot(alloc, &numbers)?;
     attach_pins(&mut machine);
-    apply_all(&mut machine, rest);
+    apply_lines(&mut machine, head);
+    apply_times(&mut machine, round.as_slice(), times);
     Some(machine.event_count())
 }
