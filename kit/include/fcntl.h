@@ -1,0 +1,1 @@
+#error "fcntl.h isn't here: there are no files"

@@ -1,0 +1,1 @@
+#error "poll.h isn't here: there are no files to poll"

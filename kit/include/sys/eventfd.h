@@ -1,0 +1,1 @@
+#error "sys/eventfd.h isn't here: there are no files, no sockets and no processes; <evl/timer.h> has timers"
