@@ -1,17 +1,40 @@
-# The programs. rt compiles a program anew, in minutes, whether or not anything changed; make asks it only if a file below crates/ did.
-PROGRAMS := evltool evlview evltrace evlgdb evlsh evlhunt
-SOURCES := crates.txt $(shell find crates -name out -prune -o -type f -not -path '*/must-fail/*' -print)
+# The programs. `make quick` builds evltool in two minutes, without the proofs; `make` proves all that stands below the programs first.
+PROGRAMS := evltool vardozek
+PREFIX ?= /usr/local
+VERSION := $(shell sed -n 's/.*const VERSION: &str = "\([^"]*\)".*/\1/p' crates/command_lines/src/answering.rt)
+SOURCES := crates.txt $(shell find crates -name out -prune -o -type f -not -path '*/must-fail/*' -not -path '*/wrong-bodies/*' -not -path '*/data/*' -print)
+SHARE := $(DESTDIR)$(PREFIX)/share
 
-.PHONY: all companions test
-all: crates/evltool/out/evltool
-companions: $(foreach name,$(PROGRAMS),crates/$(name)/out/$(name))
+.PHONY: all quick test install dist clean
+all: $(PROGRAMS:%=bin/.proved-%)
 
-define program
-crates/$(1)/out/$(1): $(SOURCES)
-	cd crates/$(1) && rt run -- --help > /dev/null
-endef
-$(foreach name,$(PROGRAMS),$(eval $(call program,$(name))))
+bin/.proved-%: $(SOURCES)
+	build/beside $* -- --help > /dev/null
+	install -D crates/$*/out/$* bin/$*
+	touch $@
 
-# all proofs, edits and tests
+# slow, as it checks each access of memory while it runs; enough for the tutorial
+quick:
+	build/quick evltool bin/evltool
+	rm -f bin/.proved-evltool
+	bin/evltool run < examples/first.script
+
+# all proofs, wrong bodies, tests and programs
 test:
 	.ci/run
+
+install: all
+	for it in $(PROGRAMS); do install -D bin/$$it $(DESTDIR)$(PREFIX)/bin/$$it; done
+	for it in docs/*.1; do install -D -m 644 $$it $(SHARE)/man/man1/$${it##*/}; done
+	for it in completions/*.bash; do install -D -m 644 $$it $(SHARE)/bash-completion/completions/$$(basename $$it .bash); done
+	for it in completions/_*; do install -D -m 644 $$it $(SHARE)/zsh/site-functions/$${it##*/}; done
+	for it in completions/*.fish; do install -D -m 644 $$it $(SHARE)/fish/vendor_completions.d/$${it##*/}; done
+	mkdir -p $(SHARE)/vardozek && cp -r kit $(SHARE)/vardozek/
+
+# one tarball of what `make install` installs, named by version
+dist: all
+	rm -rf bin/dist && $(MAKE) install DESTDIR=$(CURDIR)/bin/dist PREFIX=/vardozek-$(VERSION)
+	tar -C bin/dist -czf vardozek-$(VERSION).tar.gz vardozek-$(VERSION)
+
+clean:
+	rm -rf bin
