@@ -1,4 +1,3 @@
-pub mod Details
 pub mod Faults
 pub mod Lookup
 pub mod Notes

@@ -1,6 +1,5 @@
 -- Lines of a script or a journal that explain a fault: the faulty one, and the boot line.
-use Rattle.std.specs.Prelude.{ℕ, ◌-◌, Bool, ◌&&◌, nat_le, List, [], ◌∷◌, Option, Some, None, slice_get, length, drop, true, false}
-use Rattle.std.specs.Str.{bytes_eq}
+use Rattle.std.specs.Prelude.{ℕ, ◌-◌, Bool, List, [], ◌∷◌, Option, Some, None, slice_get, true, false}
 use Rattle.evm_debug.specs.LineReading.{line_at}
 use Rattle.evm_debug.specs.declared.line.Line.{Line}
 use Rattle.evm_debug.specs.declared.line.Line.TheVariants as lines
@@ -10,11 +9,6 @@ use Rattle.evm_model.specs.declared.boot.Boot.{Boot}
 -- the line of a number of a text, whose first is line 1
 abbrev pub line_numbered : ℕ → List ℕ → Option (List ℕ)
 line_numbered number text = slice_get (text_lines text) (number - 1)
-
--- what a line says, if there is one and it is in the grammar
-abbrev pub line_read : Option (List ℕ) → Option Line
-line_read (Some bytes) = line_at bytes
-line_read None = None
 
 -- the numbers of a boot line
 abbrev pub boot_in : Option Line → Option Boot
@@ -37,11 +31,6 @@ unfoldable pub boot_among : List (List ℕ) → Option Boot
 boot_among [] = None
 boot_among (line ∷ rest) = first_boot (boot_of line) (boot_among rest)
 
--- the bytes of RAM that it asks for
-abbrev pub ram_of : Option Boot → ℕ
-ram_of (Some boot) = boot.ram
-ram_of None = 0
-
 abbrev pub is_there : Option Boot → Bool
 is_there (Some boot) = true
 is_there None = false
@@ -49,7 +38,3 @@ is_there None = false
 -- a script has a boot line
 abbrev pub has_boot : List ℕ → Bool
 has_boot text = is_there (boot_among (text_lines text))
-
--- a text ends with a line that has no newline
-abbrev pub ends_in_line : List ℕ → List ℕ → Bool
-ends_in_line text line = nat_le (length line) (length text) && bytes_eq (drop (length text - length line) text) line

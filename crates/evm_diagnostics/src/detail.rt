@@ -1,9 +1,5 @@
 //! The message of a fault of a script or a journal, from the line that has the fault.
 
-ghost use Rattle.std.specs.Prelude.{◌≡◌, option_copied};
-ghost use Rattle.evm_messages.specs.Message.{message_text};
-ghost use Rattle.evm_diagnostics.specs.Details.{first_line_form, header_detail, other_line_detail, event_line_detail, journal_detail, fault_detail};
-
 use crate::fault::InputFault;
 use crate::lookup::{ends_in_line, line_numbered, line_read};
 use crate::refusal_detail::refusal_detail;
@@ -11,9 +7,7 @@ use evm_debug::{JournalFault, JournalFaultKind, Line, read_line};
 use evm_image::Image;
 use evm_messages::{Message, bad_line_detail, byte_detail, grammar_detail, odd_byte};
 
-fn first_line_form(number: u64) -> Message
-    ensures { message_text result ≡ first_line_form number }
-{
+fn first_line_form(number: u64) -> Message {
     Message::Plain(if number == 1 {
         "line 1 must be `evl-journal 1`"
     } else {
@@ -22,9 +16,7 @@ fn first_line_form(number: u64) -> Message
 }
 
 // The first two lines of a journal.
-fn header_detail(number: u64, line: Option<&[u8]>) -> Message
-    ensures { message_text result ≡ header_detail number (option_copied line.entry) }
-{
+fn header_detail(number: u64, line: Option<&[u8]>) -> Message {
     match line {
         Some(line) => match odd_byte(line) {
             Some(byte) => byte_detail(byte),
@@ -35,9 +27,7 @@ fn header_detail(number: u64, line: Option<&[u8]>) -> Message
 }
 
 // A line that is an event, or no line of a journal at all; whether the text ends with it.
-fn other_line_detail(line: &Line, is_cut: bool) -> &'static str
-    ensures { result.now ≡ other_line_detail line.now is_cut }
-{
+fn other_line_detail(line: &Line, is_cut: bool) -> &'static str {
     match line {
         Line::Blank => "bad line: a journal has no comments and no empty lines",
         Line::Boot(_) => "bad line: only line 2 of a journal is a boot line",
@@ -53,9 +43,7 @@ fn other_line_detail(line: &Line, is_cut: bool) -> &'static str
 }
 
 // A line behind the second of a text.
-fn event_line_detail(text: &[u8], line: Option<&[u8]>) -> Message
-    ensures { message_text result ≡ event_line_detail text.now (option_copied line.entry) }
-{
+fn event_line_detail(text: &[u8], line: Option<&[u8]>) -> Message {
     match line {
         Some(line) => match read_line(line) {
             Ok(read) => Message::Plain(other_line_detail(&read, ends_in_line(text, line))),
@@ -65,9 +53,7 @@ fn event_line_detail(text: &[u8], line: Option<&[u8]>) -> Message
     }
 }
 
-fn journal_detail(text: &[u8], fault: JournalFault, line: Option<&[u8]>) -> Message
-    ensures { message_text result ≡ journal_detail text.now fault.line (option_copied line.entry) fault.kind }
-{
+fn journal_detail(text: &[u8], fault: JournalFault, line: Option<&[u8]>) -> Message {
     match fault.kind {
         JournalFaultKind::Header => header_detail(fault.line, line),
         JournalFaultKind::Line => event_line_detail(text, line),
@@ -80,9 +66,7 @@ fn journal_detail(text: &[u8], fault: JournalFault, line: Option<&[u8]>) -> Mess
 
 /// The message of a fault of a script or a journal, whose machine boots with the image, if there is one: the number
 /// that is out of range with its limits, or the form that the line should have.
-pub fn fault_detail(image: Option<&Image>, text: &[u8], fault: InputFault) -> Message
-    ensures { message_text result ≡ fault_detail (option_copied image.entry) text.now fault }
-{
+pub fn fault_detail(image: Option<&Image>, text: &[u8], fault: InputFault) -> Message {
     match fault {
         InputFault::BadLine(number, fault) => bad_line_detail(fault, line_numbered(number, text)),
         InputFault::Refused(number, cpu, refusal) => {

@@ -2,8 +2,7 @@
 
 ghost use Rattle.std.specs.Prelude.{◌≡◌};
 ghost use Rattle.evm_model.specs.Event.{event_lent};
-ghost use Rattle.evm_diagnostics.specs.Faults.{event_cpu, view_cpu, line_at_fault, about_cpu, fault_message, refusal_message};
-ghost use Rattle.evm_messages.specs.Message.{message_text};
+ghost use Rattle.evm_diagnostics.specs.Faults.{event_cpu, view_cpu, line_at_fault};
 
 use evm_debug::{Event, JournalFault, Refusal, View};
 use evm_elf::AsmFault;
@@ -65,9 +64,7 @@ fn about_cpu(
     front: &'static str,
     back: &'static str,
     others: &'static str,
-) -> Message
-    ensures { message_text result ≡ about_cpu cpu front.now back.now others.now }
-{
+) -> Message {
     match cpu {
         None => Message::Plain(others),
         Some(c) => Message::WithOne(front, Numeral::Decimal(u64::from(c)), back),
@@ -75,9 +72,7 @@ fn about_cpu(
 }
 
 /// The message of a refusal, with its name and its number, if nothing else of the line is known.
-pub(crate) fn refusal_message(cpu: Option<u8>, refusal: Refusal) -> Message
-    ensures { message_text result ≡ refusal_message cpu refusal }
-{
+pub(crate) fn refusal_message(cpu: Option<u8>, refusal: Refusal) -> Message {
     let words = match refusal {
         Refusal::NoSuchCpu => {
             return about_cpu(
@@ -133,9 +128,7 @@ impl InputFault {
     }
 
     /// Its message, if nothing else of the line is known.
-    pub fn message(self) -> Message
-        ensures { message_text result ≡ fault_message self }
-    {
+    pub fn message(self) -> Message {
         match self {
             InputFault::BadLine(_, fault) => Message::Plain(fault.message()),
             InputFault::Refused(_, cpu, refusal) => refusal_message(cpu, refusal),

@@ -1,9 +1,8 @@
 //! Notes on standard error: where a processor is stopped, and where a task ended by a fault.
 
 ghost use Rattle.std.specs.Prelude.{◌≡◌, option_copied, slice_get, Option};
-ghost use Rattle.evm_messages.specs.Message.{message_text};
-ghost use Rattle.evm_messages.specs.Diagnostic.{ReportsAll};
-ghost use Rattle.evm_diagnostics.specs.Notes.{is_ebreak, stop_place_at, stop_place_of, is_cpu_stopped, note_of, stop_effect, idle_words, at_breakpoint, behind_ebreak, at_pc, stop_text, note_text, is_zero_word, is_multiply, illegal_text, task_fault_words, task_fault, note_texts, faulted_texts, task_texts, ended_texts};
+ghost use Rattle.evm_messages.specs.Diagnostic.{TellsAll};
+ghost use Rattle.evm_diagnostics.specs.Notes.{is_ebreak, stop_place_at, stop_place_of, is_cpu_stopped, note_of, note_places, task_fault, faulted_places, task_places, ended_places};
 
 use evm_debug::Machine;
 use evm_dev::Device;
@@ -100,9 +99,7 @@ pub fn note_of<D: Device>(c: u8, earlier: bool, machine: &Machine<D>) -> Option<
     }
 }
 
-fn stop_effect(earlier: bool) -> &'static str
-    ensures { result.now ≡ stop_effect earlier }
-{
+fn stop_effect(earlier: bool) -> &'static str {
     if earlier {
         "; these steps did nothing, and `go` lets it go on"
     } else {
@@ -110,9 +107,7 @@ fn stop_effect(earlier: bool) -> &'static str
     }
 }
 
-fn idle_words(earlier: bool) -> &'static str
-    ensures { result.now ≡ idle_words earlier }
-{
+fn idle_words(earlier: bool) -> &'static str {
     if earlier {
         " is stopped; these steps did nothing, and `go` lets it go on"
     } else {
@@ -120,9 +115,7 @@ fn idle_words(earlier: bool) -> &'static str
     }
 }
 
-fn at_breakpoint(earlier: bool) -> &'static str
-    ensures { result.now ≡ at_breakpoint earlier }
-{
+fn at_breakpoint(earlier: bool) -> &'static str {
     if earlier {
         " is stopped at the breakpoint "
     } else {
@@ -130,9 +123,7 @@ fn at_breakpoint(earlier: bool) -> &'static str
     }
 }
 
-fn behind_ebreak(earlier: bool) -> &'static str
-    ensures { result.now ≡ behind_ebreak earlier }
-{
+fn behind_ebreak(earlier: bool) -> &'static str {
     if earlier {
         " is stopped behind the EBREAK at "
     } else {
@@ -140,9 +131,7 @@ fn behind_ebreak(earlier: bool) -> &'static str
     }
 }
 
-fn at_pc(earlier: bool) -> &'static str
-    ensures { result.now ≡ at_pc earlier }
-{
+fn at_pc(earlier: bool) -> &'static str {
     if earlier {
         " is stopped at pc "
     } else {
@@ -150,9 +139,7 @@ fn at_pc(earlier: bool) -> &'static str
     }
 }
 
-fn stop_message(cpu: u8, words: &'static str, address: u64, earlier: bool) -> Message
-    ensures { message_text result ≡ stop_text cpu words.now address earlier }
-{
+fn stop_message(cpu: u8, words: &'static str, address: u64, earlier: bool) -> Message {
     Message::WithTwo(
         "processor ",
         Numeral::Decimal(u64::from(cpu)),
@@ -163,9 +150,7 @@ fn stop_message(cpu: u8, words: &'static str, address: u64, earlier: bool) -> Me
 }
 
 // The message of a note.
-fn note_message(note: StepNote) -> Message
-    ensures { message_text result ≡ note_text note }
-{
+fn note_message(note: StepNote) -> Message {
     let earlier = note.earlier;
     match note.place {
         StopPlace::Breakpoint(a) => stop_message(note.cpu, at_breakpoint(earlier), a, earlier),
@@ -181,7 +166,7 @@ fn note_message(note: StepNote) -> Message
 
 /// Reports the note on a line, if there is one.
 pub fn report_note<E: Sink>(name: &str, number: u64, note: Option<StepNote>, errors: &mut E)
-    ensures { ReportsAll E.takes (note_texts name.now number note) errors.old errors.new }
+    ensures { TellsAll E.takes (note_places name.now number note) errors.old errors.new }
 {
     if let Some(note) = note {
         report_line(name, number, Diagnostic::Alone(note_message(note)), errors);
@@ -189,9 +174,7 @@ pub fn report_note<E: Sink>(name: &str, number: u64, note: Option<StepNote>, err
 }
 
 // Whether RAM holds 0 at a pc.
-fn is_zero_word(word: Option<&[u8]>) -> bool
-    ensures { result ≡ is_zero_word (option_copied word.entry) }
-{
+fn is_zero_word(word: Option<&[u8]>) -> bool {
     match word {
         Some(word) => word.starts_with(b"\0\0\0\0"),
         None => false,
@@ -199,9 +182,7 @@ fn is_zero_word(word: Option<&[u8]>) -> bool
 }
 
 // Whether a word is an instruction of the M extension.
-fn is_multiply(word: Option<&[u8]>) -> bool
-    ensures { result ≡ is_multiply (option_copied word.entry) }
-{
+fn is_multiply(word: Option<&[u8]>) -> bool {
     match word {
         Some(word) => {
             word.len() == 4 && (word[0] % 128 == 0x33 || word[0] % 128 == 0x3b) && word[3] / 2 == 1
@@ -210,9 +191,7 @@ fn is_multiply(word: Option<&[u8]>) -> bool
     }
 }
 
-fn illegal_text(word: Option<&[u8]>) -> &'static str
-    ensures { result.now ≡ illegal_text (option_copied word.entry) }
-{
+fn illegal_text(word: Option<&[u8]>) -> &'static str {
     if is_zero_word(word) {
         ": fault 2, RAM holds 0 there, which is not an instruction"
     } else if is_multiply(word) {
@@ -222,9 +201,7 @@ fn illegal_text(word: Option<&[u8]>) -> &'static str
     }
 }
 
-fn task_fault_words(fault: Fault, word: Option<&[u8]>) -> &'static str
-    ensures { result.now ≡ task_fault_words fault (option_copied word.entry) }
-{
+fn task_fault_words(fault: Fault, word: Option<&[u8]>) -> &'static str {
     match fault {
         Fault::Misaligned => {
             ": fault 0, a jump or a branch to an address that is not a multiple of 4"
@@ -253,7 +230,7 @@ fn report_task<E: Sink, D: Device>(
     machine: &Machine<D>,
     errors: &mut E,
 )
-    ensures { ReportsAll E.takes (faulted_texts name.now t (task_fault task.now.state) (slice_get machine.now.board.parts.harts t) machine.now.board) errors.old errors.new }
+    ensures { TellsAll E.takes (faulted_places name.now (task_fault task.now.state) (slice_get machine.now.board.parts.harts t)) errors.old errors.new }
 {
     let Some(fault) = task_fault(task.state) else {
         return;
@@ -272,7 +249,7 @@ fn report_task<E: Sink, D: Device>(
 }
 
 fn report_numbered<E: Sink, D: Device>(name: &str, t: u8, machine: &Machine<D>, errors: &mut E)
-    ensures { ReportsAll E.takes (task_texts name.now t (slice_get machine.now.board.parts.tasks t) (slice_get machine.now.board.parts.harts t) machine.now.board) errors.old errors.new }
+    ensures { TellsAll E.takes (task_places name.now (slice_get machine.now.board.parts.tasks t) (slice_get machine.now.board.parts.harts t)) errors.old errors.new }
 {
     if let Some(task) = machine.task(t) {
         report_task(name, t, &task, machine, errors);
@@ -280,7 +257,7 @@ fn report_numbered<E: Sink, D: Device>(name: &str, t: u8, machine: &Machine<D>, 
 }
 
 fn report_tasks<E: Sink, D: Device>(name: &str, machine: &Machine<D>, errors: &mut E)
-    ensures { ReportsAll E.takes (ended_texts name.now (Option.Some machine.now)) errors.old errors.new }
+    ensures { TellsAll E.takes (ended_places name.now (Option.Some machine.now)) errors.old errors.new }
 {
     for t in 0..machine.task_count() {
         report_numbered(name, t, machine, errors);
@@ -289,7 +266,7 @@ fn report_tasks<E: Sink, D: Device>(name: &str, machine: &Machine<D>, errors: &m
 
 /// Reports the tasks of a machine that ended by a fault.
 pub fn report_ended<E: Sink, D: Device>(name: &str, machine: &Option<Machine<D>>, errors: &mut E)
-    ensures { ReportsAll E.takes (ended_texts name.now machine.now) errors.old errors.new }
+    ensures { TellsAll E.takes (ended_places name.now machine.now) errors.old errors.new }
 {
     if let Some(machine) = machine {
         report_tasks(name, machine, errors);

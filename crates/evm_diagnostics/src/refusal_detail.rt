@@ -1,12 +1,5 @@
 //! The message of a refused line: the number that is out of range, with its limits.
 
-ghost use Rattle.std.specs.Prelude.{◌≡◌, length, option_copied};
-ghost use Rattle.evm_debug.specs.evm_text.Lines.{text_lines};
-ghost use Rattle.evm_model.specs.Replay.{bad_cpus, bad_ram};
-ghost use Rattle.evm_messages.specs.Message.{message_text};
-ghost use Rattle.evm_diagnostics.specs.Lookup.{boot_among, ram_of};
-ghost use Rattle.evm_diagnostics.specs.Details.{boot_detail, size_detail, ram_end, segment_end, ends_past, segment_past, image_past, past_detail, misaligned_detail, outside_detail, breakpoint_detail, event_detail, mem_detail, view_detail, address_detail, slot_detail, refusal_detail};
-
 use crate::fault::refusal_message;
 use crate::lookup::ram_of;
 use evm_debug::{Boot, Event, Line, Refusal, View};
@@ -15,22 +8,16 @@ use evm_messages::{Message, Numeral};
 use evm_model::{POKE_LIMIT, PROCESSOR_LIMIT, RAM_LEAST, RAM_UNIT};
 use evm_ram::{BASE, SIZE_LIMIT};
 
-fn bad_cpus(cpus: u64) -> bool
-    ensures { result ≡ bad_cpus cpus }
-{
+fn bad_cpus(cpus: u64) -> bool {
     cpus == 0 || cpus > PROCESSOR_LIMIT as u64
 }
 
-fn bad_ram(ram: u64) -> bool
-    ensures { result ≡ bad_ram ram }
-{
+fn bad_ram(ram: u64) -> bool {
     ram < RAM_LEAST || ram > SIZE_LIMIT || ram % RAM_UNIT != 0
 }
 
 // The first number of a boot line that is outside its limits.
-fn boot_detail(boot: &Boot) -> Message
-    ensures { message_text result ≡ boot_detail boot.now }
-{
+fn boot_detail(boot: &Boot) -> Message {
     if bad_cpus(boot.cpus) {
         Message::WithOne(
             "refused: P is ",
@@ -52,9 +39,7 @@ fn boot_detail(boot: &Boot) -> Message
     }
 }
 
-fn size_detail(line: Option<&Line>) -> Message
-    ensures { message_text result ≡ size_detail (option_copied line.entry) }
-{
+fn size_detail(line: Option<&Line>) -> Message {
     match line {
         Some(Line::Boot(boot)) => boot_detail(boot),
         Some(Line::Blank | Line::Steps(_, _) | Line::One(_) | Line::Look(_)) | None => {
@@ -64,30 +49,21 @@ fn size_detail(line: Option<&Line>) -> Message
 }
 
 // The address behind the last byte of RAM.
-fn ram_end(ram: u64) -> u64
-    ensures { result ≡ ram_end ram }
-{
+fn ram_end(ram: u64) -> u64 {
     BASE.wrapping_add(ram)
 }
 
 // The address behind the last byte of a segment.
-fn segment_end(segment: &Segment) -> u64
-    ensures { result ≡ segment_end segment.now }
-{
+fn segment_end(segment: &Segment) -> u64 {
     segment.address().wrapping_add(segment.memsz())
 }
 
-fn ends_past(end: u64, segment: &Segment) -> bool
-    ensures { result ≡ ends_past end segment.now }
-{
+fn ends_past(end: u64, segment: &Segment) -> bool {
     segment.memsz() != 0 && end < segment_end(segment)
 }
 
 // The end of the first segment that has a byte past RAM.
-#[tactic(auto, unfolding(crate::specs::Details::segment_past))]
-fn segment_past(end: u64, segments: &[Segment]) -> Option<u64>
-    ensures { result ≡ segment_past end segments.now }
-{
+fn segment_past(end: u64, segments: &[Segment]) -> Option<u64> {
     let mut rest = segments;
     'segments: while let [segment, after @ ..] = rest {
         if ends_past(end, segment) {
@@ -98,18 +74,14 @@ fn segment_past(end: u64, segments: &[Segment]) -> Option<u64>
     None
 }
 
-fn image_past(end: u64, image: Option<&Image>) -> Option<u64>
-    ensures { result ≡ image_past end (option_copied image.entry) }
-{
+fn image_past(end: u64, image: Option<&Image>) -> Option<u64> {
     match image {
         Some(image) => segment_past(end, image.segments()),
         None => None,
     }
 }
 
-fn past_detail(end: u64, last: Option<u64>) -> Message
-    ensures { message_text result ≡ past_detail end last }
-{
+fn past_detail(end: u64, last: Option<u64>) -> Message {
     match last {
         Some(last) => Message::WithTwo(
             "refused: the image ends at ",
@@ -122,9 +94,7 @@ fn past_detail(end: u64, last: Option<u64>) -> Message
     }
 }
 
-fn misaligned(front: &'static str, address: u64) -> Message
-    ensures { message_text result ≡ misaligned_detail front.now address }
-{
+fn misaligned(front: &'static str, address: u64) -> Message {
     Message::WithOne(
         front,
         Numeral::Hexadecimal(address),
@@ -132,9 +102,7 @@ fn misaligned(front: &'static str, address: u64) -> Message
     )
 }
 
-fn outside(front: &'static str, address: u64, end: u64) -> Message
-    ensures { message_text result ≡ outside_detail front.now address end }
-{
+fn outside(front: &'static str, address: u64, end: u64) -> Message {
     Message::WithTwo(
         front,
         Numeral::Hexadecimal(address),
@@ -144,9 +112,7 @@ fn outside(front: &'static str, address: u64, end: u64) -> Message
     )
 }
 
-fn breakpoint_detail(address: u64, end: u64) -> Message
-    ensures { message_text result ≡ breakpoint_detail address end }
-{
+fn breakpoint_detail(address: u64, end: u64) -> Message {
     if address % 4 == 0 {
         outside("refused: the breakpoint ", address, end)
     } else {
@@ -154,9 +120,7 @@ fn breakpoint_detail(address: u64, end: u64) -> Message
     }
 }
 
-fn event_detail(end: u64, event: &Event) -> Message
-    ensures { message_text result ≡ event_detail end event.now }
-{
+fn event_detail(end: u64, event: &Event) -> Message {
     match event {
         Event::SetPc(_, pc) => misaligned("refused: the pc ", *pc),
         Event::Break(address) | Event::Unbreak(address) => breakpoint_detail(*address, end),
@@ -172,9 +136,7 @@ fn event_detail(end: u64, event: &Event) -> Message
     }
 }
 
-fn mem_detail(address: u64, count: u64, end: u64) -> Message
-    ensures { message_text result ≡ mem_detail address count end }
-{
+fn mem_detail(address: u64, count: u64, end: u64) -> Message {
     if count == 0 {
         Message::Plain("refused: mem shows 1 to 64 bytes, and 0 are asked for (BadAddress, 6)")
     } else if count > POKE_LIMIT as u64 {
@@ -188,9 +150,7 @@ fn mem_detail(address: u64, count: u64, end: u64) -> Message
     }
 }
 
-fn view_detail(end: u64, view: &View) -> Message
-    ensures { message_text result ≡ view_detail end view.now }
-{
+fn view_detail(end: u64, view: &View) -> Message {
     match view {
         View::Mem(address, count) => mem_detail(*address, *count, end),
         View::Regs(_)
@@ -207,9 +167,7 @@ fn view_detail(end: u64, view: &View) -> Message
 }
 
 // What is out of range on a line, where RAM has this many bytes.
-fn address_detail(image: Option<&Image>, ram: u64, line: Option<&Line>) -> Message
-    ensures { message_text result ≡ address_detail (option_copied image.entry) ram (option_copied line.entry) }
-{
+fn address_detail(image: Option<&Image>, ram: u64, line: Option<&Line>) -> Message {
     match line {
         Some(Line::Boot(boot)) => {
             let end = ram_end(boot.ram);
@@ -224,9 +182,7 @@ fn address_detail(image: Option<&Image>, ram: u64, line: Option<&Line>) -> Messa
 }
 
 // Where there is no slot: a breakpoint too many, or a device that is not there.
-fn slot_detail(line: Option<&Line>) -> Message
-    ensures { message_text result ≡ slot_detail (option_copied line.entry) }
-{
+fn slot_detail(line: Option<&Line>) -> Message {
     match line {
         Some(Line::Look(View::Words(i))) => Message::WithOne(
             "refused: there is no device ",
@@ -244,9 +200,7 @@ pub(crate) fn refusal_detail(
     line: Option<&Line>,
     cpu: Option<u8>,
     refusal: Refusal,
-) -> Message
-    ensures { message_text result ≡ refusal_detail (option_copied image.entry) text.now (option_copied line.entry) cpu refusal }
-{
+) -> Message {
     match refusal {
         Refusal::BadSize => size_detail(line),
         Refusal::BadAddress => address_detail(image, ram_of(text), line),

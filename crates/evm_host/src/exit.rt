@@ -1,14 +1,12 @@
 //! What standard error gets at the end of a job, and the status of the job.
 
-ghost use Rattle.std.specs.Prelude.{◌≡◌, codes, option_copied};
-ghost use Rattle.evm_serve.specs.evm_diagnostics.Details.{fault_detail};
-ghost use Rattle.evm_messages.specs.Message.{message_text};
+ghost use Rattle.std.specs.Prelude.{◌≡◌};
+ghost use Rattle.std.specs.Str.{bytes_eq};
 ghost use Rattle.evm_serve.specs.evm_diagnostics.Lookup.{has_boot};
-ghost use Rattle.evm_messages.specs.Diagnostic.{Reports, ReportsAll, diagnostic_text};
+ghost use Rattle.evm_messages.specs.Diagnostic.{Tells};
 ghost use Rattle.evm_serve.specs.Serving.{Unread};
 ghost use Rattle.evm_host.specs.Asks.{NotRead, NotWords};
-ghost use Rattle.evm_messages.specs.Excerpt.{quoting};
-ghost use Rattle.evm_host.specs.Exit.{Explains, Ended, EndedWith, Source, known_of, quoted_line, fault_diagnostic, image_fault_message, Boots, Finished, shown_path, not_opened_message, not_opened_text, not_created_message, not_created_text, failed_read_message, failed_write_message, not_read_message, output_name, emptied_texts, out_texts};
+ghost use Rattle.evm_host.specs.Exit.{Explains, Ended, EndedWith, known_of, Boots, Finished, shown_path, output_name, Emptied, Leaves};
 
 use crate::image_message::image_message;
 use crate::source_message::source_diagnostic;
@@ -51,9 +49,7 @@ fn shown_path(path: &str) -> &str
     if path.len() == 0 { "''" } else { path }
 }
 
-fn not_opened_message(fault: OpenFault) -> &'static str
-    ensures { result.now ≡ not_opened_message fault }
-{
+fn not_opened_message(fault: OpenFault) -> &'static str {
     match fault {
         OpenFault::Missing => "can't be opened: no such file",
         OpenFault::Denied => "can't be opened: permission denied",
@@ -71,7 +67,7 @@ fn not_opened_message(fault: OpenFault) -> &'static str
 
 /// Reports that a file can't be opened, and why, and returns the status.
 pub fn not_opened<E: Sink>(path: &str, fault: OpenFault, errors: &mut E) -> u8
-    ensures report { Reports E.takes (not_opened_text path.now fault) errors.old errors.new }
+    ensures told { Tells E.takes (shown_path path.now) errors.old errors.new }
     ensures status { result ≡ 4 }
 {
     let message = Message::Plain(not_opened_message(fault));
@@ -79,9 +75,7 @@ pub fn not_opened<E: Sink>(path: &str, fault: OpenFault, errors: &mut E) -> u8
     FAILED
 }
 
-fn not_created_message(fault: OpenFault) -> &'static str
-    ensures { result.now ≡ not_created_message fault }
-{
+fn not_created_message(fault: OpenFault) -> &'static str {
     match fault {
         OpenFault::Missing => "can't be created: no such folder",
         OpenFault::Denied => "can't be created: permission denied",
@@ -99,7 +93,7 @@ fn not_created_message(fault: OpenFault) -> &'static str
 
 /// Reports that a file can't be created, and why, and returns the status.
 pub fn not_created<E: Sink>(path: &str, fault: OpenFault, errors: &mut E) -> u8
-    ensures report { Reports E.takes (not_created_text path.now fault) errors.old errors.new }
+    ensures told { Tells E.takes (shown_path path.now) errors.old errors.new }
     ensures status { result ≡ 4 }
 {
     let message = Message::Plain(not_created_message(fault));
@@ -107,9 +101,7 @@ pub fn not_created<E: Sink>(path: &str, fault: OpenFault, errors: &mut E) -> u8
     FAILED
 }
 
-fn failed_read_message(cause: Cause) -> &'static str
-    ensures { result.now ≡ failed_read_message cause }
-{
+fn failed_read_message(cause: Cause) -> &'static str {
     match cause {
         Cause::Folder => "a read failed: it is a folder",
         Cause::Closed => "a read failed: it is closed, or not open for this",
@@ -124,9 +116,7 @@ fn failed_read_message(cause: Cause) -> &'static str
 }
 
 /// Why a write failed.
-pub fn failed_write_message(cause: Cause) -> &'static str
-    ensures { result.now ≡ failed_write_message cause }
-{
+pub fn failed_write_message(cause: Cause) -> &'static str {
     match cause {
         Cause::Folder => "a write failed: it is a folder",
         Cause::Closed => "a write failed: it is closed, or not open for this",
@@ -140,9 +130,7 @@ pub fn failed_write_message(cause: Cause) -> &'static str
     }
 }
 
-fn not_read_message(fault: ReadFault) -> &'static str
-    ensures { result.now ≡ not_read_message fault }
-{
+fn not_read_message(fault: ReadFault) -> &'static str {
     match fault {
         ReadFault::Failed(cause) => failed_read_message(cause),
         ReadFault::TooLong => "more than 16777216 bytes",
@@ -151,9 +139,7 @@ fn not_read_message(fault: ReadFault) -> &'static str
 }
 
 // The line of a script or a journal that is faulty. A line that the machine refuses is not quoted.
-fn quoted_line(text: &[u8], fault: InputFault) -> Option<&[u8]>
-    ensures { option_copied result ≡ quoted_line text.now fault }
-{
+fn quoted_line(text: &[u8], fault: InputFault) -> Option<&[u8]> {
     match fault {
         InputFault::BadLine(number, _) => line_numbered(number, text),
         InputFault::NoJournal(fault) => line_numbered(fault.line, text),
@@ -162,9 +148,7 @@ fn quoted_line(text: &[u8], fault: InputFault) -> Option<&[u8]>
 }
 
 // The diagnostic of a fault of a script or a journal.
-fn line_diagnostic<'a>(image: Option<&Image>, text: &'a [u8], fault: InputFault) -> Diagnostic<'a>
-    ensures { diagnostic_text result ≡ quoting (fault_detail (option_copied image.entry) text.now fault) (codes ": \"") (quoted_line text.now fault) }
-{
+fn line_diagnostic<'a>(image: Option<&Image>, text: &'a [u8], fault: InputFault) -> Diagnostic<'a> {
     let message = fault_detail(image, text, fault);
     match quoted_line(text, fault) {
         Some(line) => Diagnostic::Quoting(message, ": \"", line),
@@ -173,9 +157,7 @@ fn line_diagnostic<'a>(image: Option<&Image>, text: &'a [u8], fault: InputFault)
 }
 
 // The diagnostic of the fault of a job on a source.
-fn job_diagnostic(source: &str, fault: InputFault) -> Diagnostic<'_>
-    ensures { diagnostic_text result ≡ fault_diagnostic (Source source.now) fault }
-{
+fn job_diagnostic(source: &str, fault: InputFault) -> Diagnostic<'_> {
     match fault {
         InputFault::NoProgram(fault) => source_diagnostic(source, fault),
         InputFault::BadLine(_, _) | InputFault::Refused(_, _, _) | InputFault::NoJournal(_) => {
@@ -185,9 +167,7 @@ fn job_diagnostic(source: &str, fault: InputFault) -> Diagnostic<'_>
 }
 
 // The diagnostic of the fault of a job.
-fn fault_diagnostic(known: Known<'_>, fault: InputFault) -> Diagnostic<'_>
-    ensures { diagnostic_text result ≡ fault_diagnostic (known_of known.entry) fault }
-{
+fn fault_diagnostic(known: Known<'_>, fault: InputFault) -> Diagnostic<'_> {
     match known {
         Known::Nothing | Known::File(_) => Diagnostic::Alone(fault.message()),
         Known::Source(source) => job_diagnostic(source, fault),
@@ -196,9 +176,7 @@ fn fault_diagnostic(known: Known<'_>, fault: InputFault) -> Diagnostic<'_>
 }
 
 // The message of a file that is not an image.
-fn image_fault_message(known: Known<'_>, fault: ElfFault) -> Message
-    ensures { message_text result ≡ image_fault_message (known_of known.entry) fault }
-{
+fn image_fault_message(known: Known<'_>, fault: ElfFault) -> Message {
     match known {
         Known::File(bytes) => image_message(bytes, fault),
         Known::Nothing | Known::Source(_) | Known::Lines(_, _) => {
@@ -266,7 +244,7 @@ fn explain<E: Sink>(known: Known<'_>, name: &str, ending: Ending, errors: &mut E
 
 // Reports that OUT is empty, if the source has a fault.
 fn report_emptied<E: Sink>(out: &str, ending: Ending, errors: &mut E)
-    ensures { ReportsAll E.takes (emptied_texts out.now ending) errors.old errors.new }
+    ensures { Emptied E.takes out.now ending errors.old errors.new }
 {
     match ending {
         Ending::Complete(Verdict::Refused(_)) => report(
@@ -283,7 +261,7 @@ fn report_emptied<E: Sink>(out: &str, ending: Ending, errors: &mut E)
 
 /// Reports what became of OUT and SRC, if the source is lost or OUT is empty.
 pub fn report_out<E: Sink>(source: &str, out: &str, ending: &Ending, errors: &mut E)
-    ensures { ReportsAll E.takes (out_texts source.now out.now ending.now) errors.old errors.new }
+    ensures { Leaves E.takes (bytes_eq source.now out.now) out.now ending.now errors.old errors.new }
 {
     if source == out {
         report(

@@ -1,16 +1,10 @@
 //! The message of a file that is not an image.
 
-ghost use Rattle.std.specs.Prelude.{◌≡◌};
-ghost use Rattle.evm_messages.specs.Message.{message_text};
-ghost use Rattle.evm_host.specs.ImageMessages.{machine_message, below_2_64, outside_words, image_detail_message, file_message, image_message};
-
 use evm_messages::{Message, Numeral};
 use evm_serve::{ElfFault, ImageDetail, image_detail};
 
 // A file for another machine, by its number in the header.
-fn machine_message(number: u16) -> Message
-    ensures { message_text result ≡ machine_message number }
-{
+fn machine_message(number: u16) -> Message {
     if number == 62 {
         Message::Plain("for x86-64, not for RISC-V; compile with a compiler for riscv64")
     } else {
@@ -23,9 +17,7 @@ fn machine_message(number: u16) -> Message
 }
 
 // A number, or the greatest below 2^64.
-fn below_2_64(number: u128) -> u64
-    ensures { result ≡ below_2_64 number }
-{
+fn below_2_64(number: u128) -> u64 {
     if number <= 0xffff_ffff_ffff_ffff {
         number as u64
     } else {
@@ -34,9 +26,7 @@ fn below_2_64(number: u128) -> u64
 }
 
 // Where a segment is outside that begins at this address.
-fn outside_words(start: u64) -> &'static str
-    ensures { result.now ≡ outside_words start }
-{
+fn outside_words(start: u64) -> &'static str {
     if start < 0x8000_0000 {
         " is outside 80000000..81000000; link with kit/link.ld"
     } else {
@@ -45,9 +35,7 @@ fn outside_words(start: u64) -> &'static str
 }
 
 // The message of a detail of a fault.
-fn image_detail_message(fault: ElfFault, detail: ImageDetail) -> Message
-    ensures { message_text result ≡ image_detail_message fault detail }
-{
+fn image_detail_message(fault: ElfFault, detail: ImageDetail) -> Message {
     match detail {
         ImageDetail::Machine(number) => machine_message(number),
         ImageDetail::HeaderSize(size) => Message::WithOne(
@@ -94,9 +82,7 @@ fn image_detail_message(fault: ElfFault, detail: ImageDetail) -> Message
 }
 
 // The message of the fault of a file that is not a journal.
-fn file_message(file: &[u8], fault: ElfFault) -> Message
-    ensures { message_text result ≡ file_message file.now fault }
-{
+fn file_message(file: &[u8], fault: ElfFault) -> Message {
     match image_detail(file, fault) {
         Some(detail) => image_detail_message(fault, detail),
         None => Message::Plain(fault.message()),
@@ -104,9 +90,7 @@ fn file_message(file: &[u8], fault: ElfFault) -> Message
 }
 
 /// The message of the fault of a file: what is wrong there, if more is known than its kind.
-pub fn image_message(file: &[u8], fault: ElfFault) -> Message
-    ensures { message_text result ≡ image_message file.now fault }
-{
+pub fn image_message(file: &[u8], fault: ElfFault) -> Message {
     if file.starts_with(b"evl-journal ") {
         Message::Plain("it is a journal, not an image; the order is `replay IMAGE JOURNAL`")
     } else {

@@ -1,18 +1,11 @@
 //! The diagnostic of the fault of a source.
 
-ghost use Rattle.std.specs.Prelude.{◌≡◌, option_copied};
-ghost use Rattle.evm_messages.specs.Message.{message_text};
-ghost use Rattle.evm_messages.specs.Diagnostic.{diagnostic_text};
-ghost use Rattle.evm_host.specs.SourceMessages.{extension_message, range_message, token_front, source_detail_message, kind_message, from_column, quoted_part, before_quote, source_diagnostic};
-
 use evm_messages::{Diagnostic, Message, Numeral};
 use evm_serve::{
     AsmFault, AsmFaultKind, Extension, SourceDetail, line_numbered, quoted, source_detail,
 };
 
-fn extension_message(extension: Extension) -> &'static str
-    ensures { result.now ≡ extension_message extension }
-{
+fn extension_message(extension: Extension) -> &'static str {
     match extension {
         Extension::Multiply => "an instruction of the M extension; the machine is RV64I",
         Extension::Atomic => "an instruction of the A extension; the machine is RV64I",
@@ -24,9 +17,7 @@ fn extension_message(extension: Extension) -> &'static str
 }
 
 // A number outside -`below` to `above`.
-fn range_message(below: u64, above: u64) -> Message
-    ensures { message_text result ≡ range_message below above }
-{
+fn range_message(below: u64, above: u64) -> Message {
     if below == 0 {
         Message::WithOne("the number must be 0 to ", Numeral::Decimal(above), "")
     } else {
@@ -41,9 +32,7 @@ fn range_message(below: u64, above: u64) -> Message
 }
 
 // A column at which no token or statement begins, by the byte there.
-fn token_front(byte: u8) -> &'static str
-    ensures { result.now ≡ token_front byte }
-{
+fn token_front(byte: u8) -> &'static str {
     if byte == 0xef {
         "byte ef, which begins a byte order mark, is no token; save the file without one; column "
     } else if byte == b'"' {
@@ -64,9 +53,7 @@ fn token_front(byte: u8) -> &'static str
 }
 
 // The message of a detail of a fault.
-fn source_detail_message(detail: SourceDetail) -> Message
-    ensures { message_text result ≡ source_detail_message detail }
-{
+fn source_detail_message(detail: SourceDetail) -> Message {
     match detail {
         SourceDetail::Mnemonic => Message::Plain("unknown mnemonic"),
         SourceDetail::Directive => Message::Plain("unknown directive"),
@@ -94,9 +81,7 @@ fn source_detail_message(detail: SourceDetail) -> Message
 }
 
 // The message of a kind of fault.
-fn kind_message(kind: AsmFaultKind) -> &'static str
-    ensures { result.now ≡ kind_message kind }
-{
+fn kind_message(kind: AsmFaultKind) -> &'static str {
     match kind {
         AsmFaultKind::BadOperand => {
             "an operand is missing or of another kind, or the instruction is in .data or not at a multiple of 4"
@@ -106,9 +91,7 @@ fn kind_message(kind: AsmFaultKind) -> &'static str
 }
 
 // A line from a column on, which counts bytes from 1.
-fn from_column(column: u64, line: Option<&[u8]>) -> Option<&[u8]>
-    ensures { option_copied result ≡ from_column column (option_copied line.entry) }
-{
+fn from_column(column: u64, line: Option<&[u8]>) -> Option<&[u8]> {
     let line = line?;
     let before = column.saturating_sub(1) as usize;
     if before <= line.len() {
@@ -119,9 +102,7 @@ fn from_column(column: u64, line: Option<&[u8]>) -> Option<&[u8]>
 }
 
 // What is quoted of the line of a fault.
-fn quoted_part(source: &str, fault: AsmFault, detail: Option<SourceDetail>) -> Option<&[u8]>
-    ensures { option_copied result ≡ quoted_part source.now fault detail }
-{
+fn quoted_part(source: &str, fault: AsmFault, detail: Option<SourceDetail>) -> Option<&[u8]> {
     match detail {
         Some(SourceDetail::Token { column, byte: _ }) => {
             from_column(column, line_numbered(fault.line, source.as_bytes()))
@@ -131,9 +112,7 @@ fn quoted_part(source: &str, fault: AsmFault, detail: Option<SourceDetail>) -> O
 }
 
 // The text between a message and its quote.
-fn before_quote(detail: Option<SourceDetail>) -> &'static str
-    ensures { result.now ≡ before_quote detail }
-{
+fn before_quote(detail: Option<SourceDetail>) -> &'static str {
     match detail {
         Some(SourceDetail::Token { column: _, byte: _ } | SourceDetail::Extension(_)) => ": \"",
         _ => " \"",
@@ -141,9 +120,7 @@ fn before_quote(detail: Option<SourceDetail>) -> &'static str
 }
 
 /// The diagnostic of the fault of a source: the message, and the part of the line that it quotes.
-pub fn source_diagnostic(source: &str, fault: AsmFault) -> Diagnostic<'_>
-    ensures { diagnostic_text result ≡ source_diagnostic source.now fault }
-{
+pub fn source_diagnostic(source: &str, fault: AsmFault) -> Diagnostic<'_> {
     let detail = source_detail(source, fault);
     let message = match detail {
         Some(detail) => source_detail_message(detail),

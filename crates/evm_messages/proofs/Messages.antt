@@ -1,5 +1,5 @@
 -- Texts written one behind the other, and numbers digit by digit.
-use Rattle.std.proofs.Common.{◌≡◌, ℕ, ◌+◌, ◌-◌, ◌/◌, ◌%◌, ◌<◌, ◌≤◌, ◌^◌, List, [], ◌∷◌, ◌++◌, Result, Ok, Err, MatchResult, refl, sym, ◌∙◌, arith}
+use Rattle.std.proofs.Common.{◌≡◌, ℕ, ◌+◌, ◌-◌, ◌/◌, ◌%◌, ◌<◌, ◌≤◌, ◌^◌, List, [], ◌∷◌, ◌++◌, Result, Ok, Err, MatchResult, refl, sym, ◌∙◌, arith, inl, inr}
 use Rattle.std.proofs.lemmas.Bool.{lt-ltb}
 use Rattle.evm_text.specs.Written.{character, numeral}
 use Rattle.evm_text.proofs.Steps.{numeral_one, numeral_then, some_division}
@@ -7,7 +7,7 @@ use Rattle.evm_streams.specs.declared.sink.Writing.{Writing}
 use Rattle.evm_streams.specs.declared.sink.WriteFault.{WriteFault}
 use Rattle.evm_streams.specs.Writes.{Took, TookPrefix}
 use Rattle.evm_streams.proofs.Calls.{took_append, prefix_behind, prefix_longer}
-use Rattle.evm_messages.specs.Diagnostic.{Writes}
+use Rattle.evm_messages.specs.Diagnostic.{Writes, Tells, TellsLine, about, about_line}
 
 module _ {E : Type 0} (takes : E → Writing → List ℕ → E → Type 0) where
   -- the first text was written, and the second as the answer says
@@ -23,6 +23,17 @@ module _ {E : Type 0} (takes : E → Writing → List ℕ → E → Type 0) wher
   pub written : (s t : E) (a : List ℕ) (answer : Result (Unit {0}) WriteFault) → MatchResult answer (λ _. Took takes s a t) (λ _. TookPrefix takes s a t) → Writes takes a answer s t
   written s t a (Ok done) h = h
   written s t a (Err fault) h = h
+
+  -- a report on a file, by any words behind its name
+  pub told : (s t : E) (name words : List ℕ) (answer : Result (Unit {0}) WriteFault) → Writes takes (about name words) answer s t → Tells takes name s t
+  unfolding Tells
+  told s t name words (Ok done) h = (words, inl h)
+  told s t name words (Err fault) h = (words, inr h)
+
+  pub told_line : (s t : E) (name : List ℕ) (line : ℕ) (words : List ℕ) (answer : Result (Unit {0}) WriteFault) → Writes takes (about_line name line words) answer s t → TellsLine takes name line s t
+  unfolding TellsLine
+  told_line s t name line words (Ok done) h = (words, inl h)
+  told_line s t name line words (Err fault) h = (words, inr h)
 
 -- a number of one digit
 pub numeral_small : (behind n : ℕ) → n < 10 → numeral 10 behind n ≡ (48 + n) ∷ []

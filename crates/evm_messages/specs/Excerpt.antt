@@ -1,5 +1,5 @@
 -- How standard error quotes a word or a line: its first bytes, with bytes that are not printable escaped.
-use Rattle.std.specs.Prelude.{ℕ, ◌/◌, ◌%◌, ◌==◌, List, [], ◌∷◌, ◌++◌, Option, Some, None, take, codes, if◌then◌else◌}
+use Rattle.std.specs.Prelude.{ℕ, ◌/◌, ◌%◌, ◌==◌, List, [], ◌∷◌, ◌++◌, take, codes, if◌then◌else◌}
 use Rattle.evm_messages.specs.Printable.{is_printable}
 use Rattle.evm_text.specs.Written.{character}
 use Rattle.evm_messages.specs.declared.excerpt.TheConstants.{EXCERPT_LIMIT}
@@ -20,7 +20,6 @@ escaped_bytes (c ∷ bytes) = escape c ++ escaped_bytes bytes
 abbrev pub excerpt : List ℕ → List ℕ
 excerpt word = take EXCERPT_LIMIT word
 
--- a message, and behind it what it quotes, if anything: its first bytes, escaped
-abbrev pub quoting : List ℕ → List ℕ → Option (List ℕ) → List ℕ
-quoting message between None = message
-quoting message between (Some word) = message ++ (between ++ (escaped_bytes (excerpt word) ++ codes "\""))
+-- a message, and behind it what it quotes: its first bytes, escaped
+abbrev pub quoting : List ℕ → List ℕ → List ℕ → List ℕ
+quoting message between word = message ++ (between ++ (escaped_bytes (excerpt word) ++ codes "\""))

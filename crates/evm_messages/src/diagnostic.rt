@@ -1,10 +1,10 @@
 //! Messages about files and about their lines, on standard error.
 
-ghost use Rattle.std.specs.Prelude.{◌≡◌, ◌<◌, ◌+◌, ◌^◌, ◌++◌, Some, codes};
+ghost use Rattle.std.specs.Prelude.{◌≡◌, ◌<◌, ◌+◌, ◌^◌, ◌++◌, codes};
 ghost use Rattle.evm_text.specs.Written.{numeral, decimal};
 ghost use Rattle.evm_messages.specs.Message.{number_text, message_text};
 ghost use Rattle.evm_messages.specs.Excerpt.{escaped_bytes, excerpt, quoting};
-ghost use Rattle.evm_messages.specs.Diagnostic.{Writes, Reports, behind_place, about, about_line, diagnostic_text};
+ghost use Rattle.evm_messages.specs.Diagnostic.{Writes, Reports, Tells, TellsLine, behind_place, about, about_line, diagnostic_text};
 
 use crate::excerpt::{digit_character, excerpt, write_escaped};
 use crate::message::{Message, Numeral};
@@ -153,7 +153,7 @@ fn write_quoting<E: Sink>(
     word: &[u8],
     errors: &mut E,
 ) -> Result<(), WriteFault>
-    ensures { Writes E.takes (quoting (message_text message) between.now (Some word.now)) result errors.old errors.new }
+    ensures { Writes E.takes (quoting (message_text message) between.now word.now) result errors.old errors.new }
 {
     match write_alone(message, errors) {
         Ok(()) => write_quoted(between, word, errors),
@@ -255,14 +255,16 @@ fn write_about_line<E: Sink>(
 
 /// Writes `NAME: MESSAGE` to standard error. A write that fails is ignored.
 pub fn report<E: Sink>(name: &str, message: Message, errors: &mut E)
-    ensures { Reports E.takes (about name.now (message_text message)) errors.old errors.new }
+    ensures written { Reports E.takes (about name.now (message_text message)) errors.old errors.new }
+    ensures told { Tells E.takes name.now errors.old errors.new }
 {
     let _written = write_about(name, Diagnostic::Alone(message), errors);
 }
 
 /// Writes `NAME:LINE: MESSAGE` and the quote, if there is one. A write that fails is ignored.
 pub fn report_line<E: Sink>(name: &str, line: u64, diagnostic: Diagnostic<'_>, errors: &mut E)
-    ensures { Reports E.takes (about_line name.now line (diagnostic_text diagnostic.entry)) errors.old errors.new }
+    ensures written { Reports E.takes (about_line name.now line (diagnostic_text diagnostic.entry)) errors.old errors.new }
+    ensures told { TellsLine E.takes name.now line errors.old errors.new }
 {
     let _written = write_about_line(name, line, diagnostic, errors);
 }

@@ -1,18 +1,12 @@
 //! The message of a line outside the grammar: the first byte that is not printable, or the form of the command.
 
-ghost use Rattle.std.specs.Prelude.{◌≡◌, option_copied};
-ghost use Rattle.evm_messages.specs.Message.{message_text};
-ghost use Rattle.evm_messages.specs.LineDetails.{byte_detail, first_forms, event_forms, debug_forms, view_forms, other_form, printable_detail, grammar_detail, bad_line_detail};
-
 use crate::line_fault::LineFault;
 use crate::message::{Message, Numeral};
 use crate::near::{command_word, near_command, spacing};
 use crate::printable::odd_byte;
 
 /// The message of a line that has a byte which is not printable.
-pub fn byte_detail(byte: u8) -> Message
-    ensures { message_text result ≡ byte_detail byte }
-{
+pub fn byte_detail(byte: u8) -> Message {
     if byte == b'\r' {
         Message::Plain("bad line: a carriage return; save the file with Unix line ends")
     } else if byte == b'\t' {
@@ -31,9 +25,7 @@ pub fn byte_detail(byte: u8) -> Message
 }
 
 // A line whose first word is no command.
-fn other_form(line: &[u8]) -> &'static str
-    ensures { result.now ≡ other_form line.now }
-{
+fn other_form(line: &[u8]) -> &'static str {
     match near_command(command_word(line)) {
         Some(words) => words,
         None =>
@@ -41,9 +33,7 @@ fn other_form(line: &[u8]) -> &'static str
     }
 }
 
-fn view_form(line: &[u8]) -> &'static str
-    ensures { result.now ≡ view_forms line.now }
-{
+fn view_form(line: &[u8]) -> &'static str {
     if line.starts_with(b"regs") {
         "bad line: regs wants C: a processor, decimal, below 256"
     } else if line.starts_with(b"mem") {
@@ -71,9 +61,7 @@ fn view_form(line: &[u8]) -> &'static str
     }
 }
 
-fn debug_form(line: &[u8]) -> &'static str
-    ensures { result.now ≡ debug_forms line.now }
-{
+fn debug_form(line: &[u8]) -> &'static str {
     if line.starts_with(b"stepi") {
         "bad line: stepi wants C: a processor, decimal, below 256"
     } else if line.starts_with(b"setpc") {
@@ -91,9 +79,7 @@ fn debug_form(line: &[u8]) -> &'static str
     }
 }
 
-fn event_form(line: &[u8]) -> &'static str
-    ensures { result.now ≡ event_forms line.now }
-{
+fn event_form(line: &[u8]) -> &'static str {
     if line.starts_with(b"tick") {
         "bad line: tick stands alone on its line"
     } else if line.starts_with(b"raise") {
@@ -110,9 +96,7 @@ fn event_form(line: &[u8]) -> &'static str
 }
 
 // The form that the first word of a line wants.
-fn form(line: &[u8]) -> &'static str
-    ensures { result.now ≡ first_forms line.now }
-{
+fn form(line: &[u8]) -> &'static str {
     if line.starts_with(b"boot") {
         "bad line: boot wants P RAM CAP: processors, bytes and events, decimal without leading zeros"
     } else if line.starts_with(b"step ") {
@@ -123,9 +107,7 @@ fn form(line: &[u8]) -> &'static str
 }
 
 // A line of printable bytes.
-fn printable_detail(line: &[u8]) -> &'static str
-    ensures { result.now ≡ printable_detail line.now }
-{
+fn printable_detail(line: &[u8]) -> &'static str {
     match spacing(line) {
         Some(words) => words,
         None => form(line),
@@ -133,9 +115,7 @@ fn printable_detail(line: &[u8]) -> &'static str
 }
 
 /// The message of a line outside the grammar.
-pub fn grammar_detail(line: &[u8]) -> Message
-    ensures { message_text result ≡ grammar_detail line.now }
-{
+pub fn grammar_detail(line: &[u8]) -> Message {
     match odd_byte(line) {
         Some(byte) => byte_detail(byte),
         None => Message::Plain(printable_detail(line)),
@@ -143,9 +123,7 @@ pub fn grammar_detail(line: &[u8]) -> Message
 }
 
 /// The message of a bad line of a script.
-pub fn bad_line_detail(fault: LineFault, line: Option<&[u8]>) -> Message
-    ensures { message_text result ≡ bad_line_detail fault (option_copied line.entry) }
-{
+pub fn bad_line_detail(fault: LineFault, line: Option<&[u8]>) -> Message {
     match (fault, line) {
         (LineFault::OutsideGrammar, Some(line)) => grammar_detail(line),
         _ => Message::Plain(fault.message()),

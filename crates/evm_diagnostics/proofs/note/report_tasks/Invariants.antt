@@ -1,7 +1,7 @@
-use Rattle.evm_messages.specs.Diagnostic.{ReportsAll}
-use Rattle.evm_diagnostics.specs.Notes.{texts_below}
+use Rattle.evm_messages.specs.Diagnostic.{TellsAll}
+use Rattle.evm_diagnostics.specs.Notes.{places_below}
 use Rattle.evm_diagnostics.proofs.note.report_tasks.Given as goal
 
--- the tasks below t are reported
+-- the tasks below t that ended by a fault are reported
 abbrev pub invariant-loop-t : goal.invariant-loop-t
-invariant-loop-t g l = ReportsAll g.E.Sink.takes (texts_below l.name l.t l.machine.board) l.fn.errors l.errors
+invariant-loop-t g l = TellsAll g.E.Sink.takes (places_below l.name l.t l.machine.board) l.fn.errors l.errors

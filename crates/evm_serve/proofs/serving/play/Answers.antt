@@ -5,7 +5,7 @@ use Rattle.evm_diagnostics.specs.evm_debug.LineReading.{line_at}
 use Rattle.evm_diagnostics.specs.evm_text.Lines.{CutsLine}
 use Rattle.evm_serve.specs.Script.{Goes, Ends, line_outcome}
 use Rattle.evm_serve.proofs.Endings.{plays_ended}
-use Rattle.evm_diagnostics.specs.Notes.{note_texts}
+use Rattle.evm_diagnostics.specs.Notes.{note_places}
 use Rattle.evm_serve.specs.RunNotes.{noted_at}
 use Rattle.evm_serve.proofs.Noted.{Noted-start, Noted-goes, Noted-ends, Noted-done, Noted-some, plays_notes}
 use Rattle.evm_serve.proofs.Runs.{Written-start, Written-goes, Written-done, Written-rest, Written-goes_fault, Written-ended, Written-ended_fault, Written-ended_in}
@@ -19,7 +19,7 @@ lines-preserved g c =
     let goes : line_outcome c.args.options c.lines.number c.lines.machine (line_at c.in-Some.line.now) ≡ Goes (string_bytes c.run_line.new.text) c.run_line.new.machine = search (rules, c.run_line.ensures.outcome c.args.options.devices c.lines.invariant.held) in
     let cut : CutsLine c.lines.rest.now c.in-Some.line.now c.in-Some.after.now = search rules in
     let written : Took g.W.Sink.takes c.lines.writer (string_bytes c.run_line.new.text) c.write_all.new.sink = search rules in
-    let noted : note_texts c.args.name.now c.lines.number (noted_at c.lines.machine (line_at c.in-Some.line.now)) ≡ note_texts c.args.name.now c.lines.number c.in-Ok-Goes.note = search rules in
+    let noted : note_places c.args.name.now c.lines.number (noted_at c.lines.machine (line_at c.in-Some.line.now)) ≡ note_places c.args.name.now c.lines.number c.in-Ok-Goes.note = search rules in
     record {
       report = Written-goes _ _ _ _ _ _ _ _ _ _ _ _ _ c.lines.invariant.report cut goes written;
       noted = Noted-goes _ _ _ _ _ _ _ _ _ _ _ _ _ _ _ c.lines.invariant.noted cut goes noted c.report_note.ensures;
@@ -38,7 +38,7 @@ pub returns-in-Err-write_all-clause-noted : goal.returns-in-Err-write_all-clause
 returns-in-Err-write_all-clause-noted g c =
     let goes : line_outcome c.args.options c.lines.number c.lines.machine (line_at c.in-Some.line.now) ≡ Goes (string_bytes c.run_line.new.text) c.run_line.new.machine = search (rules, c.run_line.ensures.outcome c.args.options.devices c.lines.invariant.held) in
     let cut : CutsLine c.lines.rest.now c.in-Some.line.now c.in-Some.after.now = search rules in
-    let noted : note_texts c.args.name.now c.lines.number (noted_at c.lines.machine (line_at c.in-Some.line.now)) ≡ note_texts c.args.name.now c.lines.number c.in-Ok-Goes.note = search rules in
+    let noted : note_places c.args.name.now c.lines.number (noted_at c.lines.machine (line_at c.in-Some.line.now)) ≡ note_places c.args.name.now c.lines.number c.in-Ok-Goes.note = search rules in
     Noted-some _ _ _ _ _ _ _ _ _ (Noted-goes _ _ _ _ _ _ _ _ _ _ _ _ _ _ _ c.lines.invariant.noted cut goes noted c.report_note.ensures)
 
 pub returns-in-Err-clause-report : goal.returns-in-Err-clause-report
@@ -65,5 +65,5 @@ pub returns-in-Ok-Ends-clause-noted : goal.returns-in-Ok-Ends-clause-noted
 returns-in-Ok-Ends-clause-noted g c =
     let ends : line_outcome c.args.options c.lines.number c.lines.machine (line_at c.in-Some.line.now) ≡ Ends c.in-Ok-Ends.fault = search (rules, c.run_line.ensures.outcome c.args.options.devices c.lines.invariant.held) in
     let cut : CutsLine c.lines.rest.now c.in-Some.line.now c.in-Some.after.now = search rules in
-    let noted : note_texts c.args.name.now c.lines.number (noted_at c.lines.machine (line_at c.in-Some.line.now)) ≡ [] = search rules in
+    let noted : note_places c.args.name.now c.lines.number (noted_at c.lines.machine (line_at c.in-Some.line.now)) ≡ [] = search rules in
     plays_notes _ _ _ _ _ (Noted-ends _ _ _ _ _ _ _ _ _ _ _ _ c.lines.invariant.noted cut ends noted)
