@@ -5,6 +5,6 @@
 use std::process::ExitCode;
 
 fn main(rt: HostRuntime) -> ExitCode {
-    let devices = evm_command::devices(rt.alloc());
+    let devices = evm_command::program_devices(rt.alloc());
     ExitCode::from(evm_command::run(&rt, &rt, devices))
 }

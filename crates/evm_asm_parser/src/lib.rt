@@ -25,6 +25,3 @@ pub use memory::{extend_bytes, push};
 pub use operand::{first_operand, how_many, name_in, other_operands, starts_with_name};
 pub use spot::Spot;
 pub use statement::{Datum, Statement, StatementReading, statement_of, zero};
-
-#[cfg(test)]
-mod tests;

@@ -12,10 +12,3 @@ mod walking;
 
 pub use mutexes::Mutexes;
 pub use schedule::Schedule;
-
-#[cfg(test)]
-mod board;
-#[cfg(test)]
-mod schedule_tests;
-#[cfg(test)]
-mod tests;

@@ -1,6 +1,7 @@
 -- What each job asks of the system, one call after another, and the status that it ends with. What a call answered is known by that call
 -- alone, so these clauses fix which files are opened or created, in which order, and what is never asked for.
 use Rattle.std.specs.Prelude.{◌≡◌, ℕ, List, Option, Some, None, Result, Ok, Err, codes}
+use Rattle.std.specs.Str.{bytes_eq}
 use Rattle.evm_host.specs.evm_serve.evm_streams.declared.source.Reading.{Reading}
 use Rattle.evm_host.specs.evm_serve.evm_streams.declared.source.ReadStop.{ReadStop}
 use Rattle.evm_host.specs.evm_serve.evm_streams.declared.sink.Writing.{Writing}
@@ -9,7 +10,6 @@ use Rattle.evm_image.specs.Images.{Contents}
 use Rattle.evm_host.specs.evm_serve.evm_asm.Assembled.{program_of}
 use Rattle.evm_host.specs.evm_serve.evm_asm_lexer.Faults.{reported}
 use Rattle.evm_host.specs.evm_serve.RunOptions.{Attached, RunOptions, image_options, bare_options}
-use Rattle.evm_host.specs.evm_messages.Diagnostic.{about, Reports, ReportsAll}
 use Rattle.evm_host.specs.evm_serve.RunNotes.{notes, EndsNotes}
 use Rattle.evm_host.specs.evm_serve.Script.{script_report}
 use Rattle.evm_host.specs.evm_serve.Serving.{Finishes}
@@ -19,7 +19,7 @@ use Rattle.evm_host.specs.evm_serve.declared.ending.Ending.{Ending}
 use Rattle.evm_host.specs.Asks.{AsksNothing, Behind, NotRead, NotOpened, Loads}
 use Rattle.evm_host.specs.declared.system.OpenFault.{OpenFault}
 use Rattle.evm_host.specs.declared.system.World.{World}
-use Rattle.evm_host.specs.Exit.{not_opened_text, not_created_text, Source, Lines, EndedWith, out_texts}
+use Rattle.evm_host.specs.Exit.{Source, Lines, EndedWith, Leaves}
 
 -- the name of a script in front of its lines
 abbrev pub script_name : List ℕ
@@ -33,10 +33,10 @@ module _ {S O C I W E : Type 0} (creates : S → List ℕ → Result C OpenFault
     (writes : W → Writing → List ℕ → W → Type 0) (reports : E → Writing → List ℕ → E → Type 0) where
   -- the text of a source is assembled into the file that was created
   abbrev pub AssemblesSource : List ℕ → List ℕ → List ℕ → Result C OpenFault → World S O C I W E → World S O C I W E → ℕ → Type 0
-  AssemblesSource source out text (Err fault) w w' status = NotOpened reports (not_created_text out fault) w w' status
+  AssemblesSource source out text (Err fault) w w' status = NotOpened reports out w w' status
   AssemblesSource source out text (Ok file) w w' status = AsksNothing w w' × ((ending : Ending) × (file' : C)
-      × (between : E) × Assembles created writes (reported (program_of text)) file file' w.output w'.output ending × EndedWith reports (Source text) source ending w.errors between status
-      × ReportsAll reports (out_texts source out ending) between w'.errors)
+      × (between : E) × Assembles created writes (reported (program_of text)) file file' w.output w'.output ending × EndedWith reports Source source ending w.errors between status
+      × Leaves reports (bytes_eq source out) out ending between w'.errors)
 
   -- OUT is created for a source that was read
   abbrev pub Creates : List ℕ → List ℕ → List ℕ → World S O C I W E → World S O C I W E → ℕ → Type 0
@@ -52,7 +52,7 @@ module _ {S O C I W E : Type 0} (opens : S → List ℕ → Result O OpenFault �
 
   -- the source is read to its end from the file that was opened
   abbrev pub OpensSource : List ℕ → List ℕ → Result O OpenFault → World S O C I W E → World S O C I W E → ℕ → Type 0
-  OpensSource source out (Err fault) w w' status = NotOpened reports (not_opened_text source fault) w w' status
+  OpensSource source out (Err fault) w w' status = NotOpened reports source w w' status
   OpensSource source out (Ok file) w w' status = (read : Result (List ℕ) ReadStop) × (file' : O) × ReadsText opened file file' read × ReadsSource source out read w w' status
 
   -- `asm SRC OUT`: SRC is opened and read, and then OUT is created.
@@ -63,7 +63,7 @@ module _ {S O C I W E : Type 0} (writes : W → Writing → List ℕ → W → T
   -- the text of a journal is replayed with devices and an image
   abbrev pub ReplaysText : List Attached → List ℕ → Contents → List ℕ → World S O C I W E → World S O C I W E → ℕ → Type 0
   ReplaysText devices path image text w w' status = AsksNothing w w' × ((ending : Ending)
-      × Finishes writes (replay_report (image_options devices image) text) w.output w'.output ending × EndedWith reports (Lines (Some image) text) path ending w.errors w'.errors status)
+      × Finishes writes (replay_report (image_options devices image) text) w.output w'.output ending × EndedWith reports (Lines text) path ending w.errors w'.errors status)
 
   abbrev pub ReplaysRead : List Attached → List ℕ → Contents → Result (List ℕ) ReadStop → World S O C I W E → World S O C I W E → ℕ → Type 0
   ReplaysRead devices path image (Ok text) w w' status = ReplaysText devices path image text w w' status
@@ -73,7 +73,7 @@ module _ {S O C I W E : Type 0} (writes : W → Writing → List ℕ → W → T
   abbrev pub ServesScript : RunOptions → List ℕ → World S O C I W E → World S O C I W E → ℕ → Type 0
   ServesScript options script w w' status = AsksNothing w w' × ((ending : Ending)
       × (between : E) × Finishes writes (script_report options script) w.output w'.output ending × EndsNotes reports (notes options script_name script) ending w.errors between
-      × EndedWith reports (Lines options.image script) script_name ending between w'.errors status)
+      × EndedWith reports (Lines script) script_name ending between w'.errors status)
 
   abbrev pub ServesRead : RunOptions → Result (List ℕ) ReadStop → World S O C I W E → World S O C I W E → ℕ → Type 0
   ServesRead options (Ok script) w w' status = ServesScript options script w w' status
@@ -83,7 +83,7 @@ module _ {S O C I W E : Type 0} (opens : S → List ℕ → Result O OpenFault �
     (opened : O → Reading → List ℕ → O → Type 0) (writes : W → Writing → List ℕ → W → Type 0) (reports : E → Writing → List ℕ → E → Type 0) where
   -- a journal is read to its end from the file that was opened
   abbrev pub ReplaysFile : List Attached → List ℕ → Contents → Result O OpenFault → World S O C I W E → World S O C I W E → ℕ → Type 0
-  ReplaysFile devices path image (Err fault) w w' status = NotOpened reports (not_opened_text path fault) w w' status
+  ReplaysFile devices path image (Err fault) w w' status = NotOpened reports path w w' status
   ReplaysFile devices path image (Ok file) w w' status = (read : Result (List ℕ) ReadStop) × (file' : O) × ReadsText opened file file' read × ReplaysRead writes reports devices path image read w w' status
 
   abbrev pub ReplaysJournal : List Attached → List ℕ → Contents → World S O C I W E → World S O C I W E → ℕ → Type 0

@@ -1,4 +1,3 @@
-pub mod ProgramDevices
 pub mod Jobs
 pub mod ThreadRuns
 pub mod Words

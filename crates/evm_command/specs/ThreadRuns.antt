@@ -1,15 +1,15 @@
 -- What `threads IMAGE TURNS` asks of the system, and the status that it ends with.
-use Rattle.std.specs.Prelude.{◌≡◌, ℕ, ◌<◌, ◌^◌, List, Result, codes}
+use Rattle.std.specs.Prelude.{◌≡◌, ℕ, ◌<◌, ◌^◌, List, Result}
 use Rattle.std.specs.Str.Parse.{IsNumeral, digits_value, without_leading_plus}
 use Rattle.evm_image.specs.Images.{Contents}
-use Rattle.evm_host.specs.evm_messages.Diagnostic.{about, Reports}
+use Rattle.evm_host.specs.evm_messages.Diagnostic.{Tells}
 use Rattle.evm_host.specs.evm_serve.RunOptions.{Attached}
 use Rattle.evm_host.specs.evm_serve.evm_streams.declared.source.Reading.{Reading}
 use Rattle.evm_host.specs.evm_serve.evm_streams.declared.sink.Writing.{Writing}
 use Rattle.evm_threads.specs.Runs.{Ends, loaded_machine, ending_status}
 use Rattle.evm_threads.specs.declared.outcome.RunEnding.{RunEnding}
 use Rattle.evm_threads.specs.declared.outcome.RunEnding.TheVariants.{Written, Incomplete, ImageRefused, NoMemory, WriteFailed}
-use Rattle.evm_host.specs.Exit.{failed_write_message, report_name}
+use Rattle.evm_host.specs.Exit.{report_name}
 use Rattle.evm_host.specs.Asks.{AsksNothing, Behind, Loads}
 use Rattle.evm_host.specs.declared.system.OpenFault.{OpenFault}
 use Rattle.evm_host.specs.declared.system.World.{World}
@@ -19,13 +19,13 @@ abbrev pub SaysNumber : List ℕ → ℕ → Type 0
 SaysNumber word n = IsNumeral 10 (without_leading_plus word) → digits_value 10 (without_leading_plus word) < 2 ^ 32 → n ≡ digits_value 10 (without_leading_plus word)
 
 module _ {E : Type 0} (reports : E → Writing → List ℕ → E → Type 0) where
-  -- What is reported of a run by threads with the image of a file.
+  -- A run by threads with the image of a file reports on the file, or on the stream to which a write failed.
   abbrev pub ExplainsRun : List ℕ → RunEnding → E → E → Type 0
   ExplainsRun path Written e e' = e' ≡ e
-  ExplainsRun path Incomplete e e' = Reports reports (about path (codes "the journal has no room for all turns")) e e'
-  ExplainsRun path ImageRefused e e' = Reports reports (about path (codes "memory of a segment ends past RAM of 1048576 bytes")) e e'
-  ExplainsRun path NoMemory e e' = Reports reports (about path (codes "out of memory")) e e'
-  ExplainsRun path (WriteFailed fault) e e' = Reports reports (about report_name (failed_write_message fault.cause)) e e'
+  ExplainsRun path Incomplete e e' = Tells reports path e e'
+  ExplainsRun path ImageRefused e e' = Tells reports path e e'
+  ExplainsRun path NoMemory e e' = Tells reports path e e'
+  ExplainsRun path (WriteFailed fault) e e' = Tells reports report_name e e'
 
 module _ {S O C I W E : Type 0} (writes : W → Writing → List ℕ → W → Type 0) (reports : E → Writing → List ℕ → E → Type 0) where
   -- The image is run by threads; neither a file nor standard input is asked for.

@@ -3,8 +3,8 @@
 ghost use Rattle.std.specs.Prelude.{◌≡◌, MatchResult, map, option_map};
 ghost use Rattle.evm_command.specs.ThreadRuns.{SaysNumber};
 ghost use Rattle.std.specs.String.{string_bytes};
-ghost use Rattle.clap.specs.Words.{kind_of};
-ghost use Rattle.evm_command.specs.Running.{Shows, Blames, Responds, Refuses, Does, DoesNamed, Answers, HasNoWords};
+ghost use Rattle.command_lines.specs.Answers.{HasNoWords};
+ghost use Rattle.evm_command.specs.Running.{Does, DoesNamed, Answers, program_name};
 ghost use Rattle.evm_command.specs.Words.{wanted};
 
 use crate::assembling::assemble_file;
@@ -12,51 +12,16 @@ use crate::replaying::replay;
 use crate::running::run;
 use crate::threading::run_by_threads;
 use crate::words::{Job, job_of, parse};
-use clap::Error;
 use clap::error::ErrorKind;
+use command_lines::{no_words, refuse};
 use evm_dev::Device;
-use evm_host::{
-    Devices, Ending, FAILED, System, USAGE, Verdict, WordsFault, World, ended, memory_refused,
-    words_not_read, write_all,
-};
+use evm_host::{Devices, System, USAGE, WordsFault, World};
 use std::alloc::Global;
 use std::sync::Wait;
 use std::thread::Threads;
 
 /// The name in front of messages that are about no file.
 pub(crate) const PROGRAM: &str = "evltool";
-
-// Writes help or the version.
-fn show<S: System>(text: &str, world: &mut World<S>) -> u8
-    ensures { Shows S.Output.takes S.Errors.takes text.now world.old world.new result }
-{
-    let ending = match write_all(&mut world.output, text.as_bytes()) {
-        Ok(()) => Ending::Complete(Verdict::Done),
-        Err(fault) => Ending::WriteFailed(fault),
-    };
-    ended(PROGRAM, &ending, &mut world.errors)
-}
-
-// Writes what is wrong with the words.
-fn blame<S: System>(text: &str, world: &mut World<S>) -> u8
-    ensures { Blames S.Output.takes S.Errors.takes text.now world.old world.new result }
-{
-    match write_all(&mut world.errors, text.as_bytes()) {
-        Ok(()) => USAGE,
-        Err(_) => FAILED,
-    }
-}
-
-// Writes the text for the words: help, the version, or what is wrong with them.
-fn respond<S: System>(kind: ErrorKind, text: &str, world: &mut World<S>) -> u8
-    ensures { Responds S.Output.takes S.Errors.takes kind text.now world.old world.new result }
-{
-    match kind {
-        ErrorKind::DisplayHelp | ErrorKind::DisplayVersion => show(text, world),
-        ErrorKind::OutOfMemory => memory_refused(PROGRAM, world),
-        _ => blame(text, world),
-    }
-}
 
 // What helps behind an error of a subcommand's words.
 fn subcommand_tip(subcommand: &str) -> &'static str {
@@ -78,17 +43,6 @@ fn tip(kind: ErrorKind, words: &[String]) -> &'static str {
             _ => "",
         },
         _ => "",
-    }
-}
-
-// Ends a run whose words are no command, or ask for help or the version.
-fn refuse<S: System>(alloc: Global, error: &Error, words: &[String], world: &mut World<S>) -> u8
-    ensures { Refuses S.Output.takes S.Errors.takes (kind_of error.now) world.old world.new result }
-{
-    let tip = tip(error.kind(), words);
-    match format!(in alloc; "{error}{tip}") {
-        Ok(text) => respond(error.kind(), text.as_str(), world),
-        Err(_) => memory_refused(PROGRAM, world),
     }
 }
 
@@ -150,7 +104,7 @@ pub fn answer<S: System, D: Device, R: Threads + Wait + Sync>(
 {
     match parse(alloc, words) {
         Ok(matches) => do_named(rt, alloc, devices, job_of(&matches), world),
-        Err(error) => refuse(alloc, &error, words, world),
+        Err(error) => refuse(alloc, PROGRAM, &error, tip(error.kind(), words), world),
     }
 }
 
@@ -162,11 +116,10 @@ pub fn answer_read<S: System, D: Device, R: Threads + Wait + Sync>(
     devices: Devices<D>,
     world: &mut World<S>,
 ) -> u8
-    ensures { MatchResult words (λ read. Answers S.opens S.creates S.Opened.gives S.Created.takes S.Input.gives S.Output.takes S.Errors.takes devices (map string_bytes read.items) world.old world.new result) (λ fault. HasNoWords S.Output.takes S.Errors.takes fault world.old world.new result) }
+    ensures { MatchResult words (λ read. Answers S.opens S.creates S.Opened.gives S.Created.takes S.Input.gives S.Output.takes S.Errors.takes devices (map string_bytes read.items) world.old world.new result) (λ fault. HasNoWords S.Output.takes S.Errors.takes program_name fault world.old world.new result) }
 {
     match words {
         Ok(words) => answer(rt, alloc, words.as_slice(), devices, world),
-        Err(WordsFault::NotText) => words_not_read(PROGRAM, world),
-        Err(WordsFault::NoMemory) => memory_refused(PROGRAM, world),
+        Err(fault) => no_words(PROGRAM, fault, world),
     }
 }

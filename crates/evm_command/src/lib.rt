@@ -2,7 +2,6 @@
 #![tactic(auto)]
 
 mod assembling;
-mod attaching;
 mod command;
 mod help;
 mod program;
@@ -11,7 +10,7 @@ mod running;
 mod threading;
 mod words;
 
-pub use attaching::devices;
 pub use command::{answer, answer_read};
 pub use evm_host::host_world;
+pub use evm_program::program_devices;
 pub use program::run;

@@ -9,10 +9,8 @@ ghost use Rattle.evm_command.specs.Words.{place_rule, asm_app, run_app, replay_a
 use crate::help::{ASM_HELP, PROGRAM_HELP, REPLAY_HELP, RUN_HELP, THREADS_HELP};
 use clap::builder::ValueParser;
 use clap::{Arg, ArgMatches, Command, Error};
+use command_lines::VERSION;
 use std::alloc::{AllocError, Global};
-
-/// The version that `--version` prints.
-const VERSION: &str = "0.1.0";
 
 /// A job, with the names of its files.
 #[derive(Clone, Copy, Debug)]

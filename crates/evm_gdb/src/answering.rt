@@ -160,8 +160,8 @@ fn answer_monitor<D: Device>(
     let end = run_monitor(session, line, told)?;
     let said = match end {
         LineEnd::Done => "",
-        LineEnd::Bad => "evlgdb: no line of a script; monitor help lists them\n",
-        LineEnd::BootsAgain => "evlgdb: the machine is booted\n",
+        LineEnd::Bad => "vardozek gdb: no line of a script; monitor help lists them\n",
+        LineEnd::BootsAgain => "vardozek gdb: the machine is booted\n",
         LineEnd::Refused(refusal) => refusal_text(refusal),
     };
     match push_text(told, said) {

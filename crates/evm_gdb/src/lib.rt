@@ -16,6 +16,3 @@ pub use evm_ram::SIZE_LIMIT;
 pub use monitor::{LineEnd, run_line};
 pub use serving::{Ended, serve_gdb};
 pub use session::GdbSession;
-
-#[cfg(test)]
-mod tests;

@@ -54,18 +54,20 @@ fn go_on<D: Device, I: Interrupts>(
 /// A refusal in words.
 pub(crate) fn refusal_text(refusal: Refusal) -> &'static str {
     match refusal {
-        Refusal::Full => "evlgdb: refused: the journal is full (Full, 1)\n",
-        Refusal::NoSuchCpu => "evlgdb: refused: there is no such processor (NoSuchCpu, 2)\n",
-        Refusal::NoSuchLine => "evlgdb: refused: there is no such line (NoSuchLine, 3)\n",
-        Refusal::NotStopped => "evlgdb: refused: the processor is not stopped (NotStopped, 4)\n",
-        Refusal::NoTask => "evlgdb: refused: no processor runs the task (NoTask, 5)\n",
+        Refusal::Full => "vardozek gdb: refused: the journal is full (Full, 1)\n",
+        Refusal::NoSuchCpu => "vardozek gdb: refused: there is no such processor (NoSuchCpu, 2)\n",
+        Refusal::NoSuchLine => "vardozek gdb: refused: there is no such line (NoSuchLine, 3)\n",
+        Refusal::NotStopped =>
+            "vardozek gdb: refused: the processor is not stopped (NotStopped, 4)\n",
+        Refusal::NoTask => "vardozek gdb: refused: no processor runs the task (NoTask, 5)\n",
         Refusal::BadAddress =>
-            "evlgdb: refused: address or byte count out of range (BadAddress, 6)\n",
-        Refusal::BadRegister => "evlgdb: refused: there is no such register (BadRegister, 7)\n",
-        Refusal::NoSlot => "evlgdb: refused: there is no slot (NoSlot, 8)\n",
+            "vardozek gdb: refused: address or byte count out of range (BadAddress, 6)\n",
+        Refusal::BadRegister =>
+            "vardozek gdb: refused: there is no such register (BadRegister, 7)\n",
+        Refusal::NoSlot => "vardozek gdb: refused: there is no slot (NoSlot, 8)\n",
         Refusal::NoBreakpoint =>
-            "evlgdb: refused: no breakpoint at this address (NoBreakpoint, 9)\n",
-        _ => "evlgdb: refused\n",
+            "vardozek gdb: refused: no breakpoint at this address (NoBreakpoint, 9)\n",
+        _ => "vardozek gdb: refused\n",
     }
 }
 
@@ -73,8 +75,9 @@ pub(crate) fn refusal_text(refusal: Refusal) -> &'static str {
 fn note_of(why: Why) -> &'static str {
     match why {
         Why::Limit =>
-            "evlgdb: stopped after as many Steps as a continue may make (monitor limit N)\n",
-        Why::Idle => "evlgdb: no task is ready and no line is raised on the processors that step\n",
+            "vardozek gdb: stopped after as many Steps as a continue may make (monitor limit N)\n",
+        Why::Idle =>
+            "vardozek gdb: no task is ready and no line is raised on the processors that step\n",
         _ => "",
     }
 }

@@ -15,11 +15,11 @@ use Rattle.evm_gdb_hearing.specs.declared.ends.HearingEnd.TheVariants as hearing
 module _ {S O C I W E : Type 0} (writes : W → Writing → List ℕ → W → Type 0) (reports : E → Writing → List ℕ → E → Type 0) where
   -- A read that failed is one of memory refused where memory was refused to the thread that hears.
   abbrev pub Unheard : ReadFault → Option HearingEnd → World S O C I W E → World S O C I W E → ℕ → Type 0
-  Unheard fault (Some hearings.NoMemory) w w' status = NotRead writes reports (codes "evlgdb") stops.NoMemory w w' status
+  Unheard fault (Some hearings.NoMemory) w w' status = NotRead writes reports (codes "vardozek gdb") stops.NoMemory w w' status
   Unheard fault heard w w' status = Ended reports (codes "standard input") (endings.ReadFailed fault) w.errors w'.errors status
 
   abbrev pub SessionEnded : declared.Ended → Option HearingEnd → World S O C I W E → World S O C I W E → ℕ → Type 0
   SessionEnded Left heard w w' status = (status ≡ 0) × (w' ≡ w)
-  SessionEnded NoMemory heard w w' status = NotRead writes reports (codes "evlgdb") stops.NoMemory w w' status
+  SessionEnded NoMemory heard w w' status = NotRead writes reports (codes "vardozek gdb") stops.NoMemory w w' status
   SessionEnded (ReadFailed fault) heard w w' status = Unheard fault heard w w' status
-  SessionEnded (WriteFailed fault) heard w w' status = Ended reports (codes "evlgdb") (endings.WriteFailed fault) w.errors w'.errors status
+  SessionEnded (WriteFailed fault) heard w w' status = Ended reports (codes "vardozek gdb") (endings.WriteFailed fault) w.errors w'.errors status

@@ -1,17 +1,16 @@
-//! A run of the program, from its words to its exit status.
+//! The word `gdb`, from what stands behind it to the exit status.
 
 ghost use Rattle.evm_gdb_command.specs.SessionEnds.{SessionEnded, Unheard};
 
 use crate::booting::{DEFAULT, NotBooted, boot, run_script};
-use crate::words::{Job, job_of, parse};
-use clap::Error;
-use clap::error::ErrorKind;
+use crate::words::{Job, job_of};
+use clap::ArgMatches;
 use evm_dev::Device;
 use evm_gdb::{Devices, Ended, GdbSession, Interrupts, Machine, Refusal, serve_gdb};
 use evm_gdb_hearing::{Hearing, HearingEnd};
 use evm_host::{
-    Ending, FAILED, Known, Message, System, USAGE, Verdict, WordsFault, World, ended, ended_with,
-    image_at, memory_refused, report, text_at, words_not_read, write_all,
+    Ending, Known, Message, System, USAGE, Verdict, World, ended, ended_with, image_at,
+    memory_refused, report, text_at,
 };
 use evm_image::Image;
 use evm_serve::InputFault;
@@ -19,39 +18,10 @@ use evm_streams::{ReadFault, Source};
 use std::alloc::Global;
 
 /// The name in front of messages that are about no file.
-pub(crate) const PROGRAM: &str = "evlgdb";
+pub const PROGRAM: &str = "vardozek gdb";
 
 /// The name of what GDB sends.
 const INPUT: &str = "standard input";
-
-// Writes help or the version.
-fn show<S: System>(text: &str, world: &mut World<S>) -> u8 {
-    let ending = match write_all(&mut world.output, text.as_bytes()) {
-        Ok(()) => Ending::Complete(Verdict::Done),
-        Err(fault) => Ending::WriteFailed(fault),
-    };
-    ended(PROGRAM, &ending, &mut world.errors)
-}
-
-// Writes what is wrong with the words.
-fn blame<S: System>(text: &str, world: &mut World<S>) -> u8 {
-    match write_all(&mut world.errors, text.as_bytes()) {
-        Ok(()) => USAGE,
-        Err(_) => FAILED,
-    }
-}
-
-// Ends a run whose words are no command, or ask for help or the version.
-fn refuse<S: System>(alloc: Global, error: &Error, world: &mut World<S>) -> u8 {
-    let Ok(text) = format!(in alloc; "{error}") else {
-        return memory_refused(PROGRAM, world);
-    };
-    match error.kind() {
-        ErrorKind::DisplayHelp | ErrorKind::DisplayVersion => show(text.as_str(), world),
-        ErrorKind::OutOfMemory => memory_refused(PROGRAM, world),
-        _ => blame(text.as_str(), world),
-    }
-}
 
 // Ends a run whose script left no machine.
 fn not_booted<S: System>(
@@ -170,34 +140,16 @@ fn do_job<S: System, D: Device, I: Source + Interrupts + Hearing>(
     status_of(end, input.end(), world)
 }
 
-/// Does what the words ask for, with devices in the machine, and returns the exit status. GDB is heard by the input.
-pub fn answer<S: System, D: Device, I: Source + Interrupts + Hearing>(
+/// `gdb`: serves GDB with devices in the machine, and returns the exit status. GDB is heard by the input.
+pub fn gdb<S: System, D: Device, I: Source + Interrupts + Hearing>(
     alloc: Global,
-    words: &[String],
+    words: &ArgMatches<'_>,
     devices: Devices<D>,
     input: &mut I,
     world: &mut World<S>,
 ) -> u8 {
-    match parse(alloc, words) {
-        Ok(matches) => match job_of(&matches) {
-            Some(job) => do_job(alloc, devices, job, input, world),
-            None => USAGE,
-        },
-        Err(error) => refuse(alloc, &error, world),
-    }
-}
-
-/// Does what the words ask for, or reports why they could not be read, and returns the exit status.
-pub fn answer_read<S: System, D: Device, I: Source + Interrupts + Hearing>(
-    alloc: Global,
-    words: Result<Vec<String>, WordsFault>,
-    devices: Devices<D>,
-    input: &mut I,
-    world: &mut World<S>,
-) -> u8 {
-    match words {
-        Ok(words) => answer(alloc, words.as_slice(), devices, input, world),
-        Err(WordsFault::NotText) => words_not_read(PROGRAM, world),
-        Err(WordsFault::NoMemory) => memory_refused(PROGRAM, world),
+    match job_of(words) {
+        Some(job) => do_job(alloc, devices, job, input, world),
+        None => USAGE,
     }
 }

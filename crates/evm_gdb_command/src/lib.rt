@@ -1,12 +1,8 @@
-//! The command line of `evlgdb`, from its words to the exit status.
+//! The word `gdb` of the command line, from what stands behind it to the exit status.
 #![tactic(auto)]
 
 mod booting;
 mod command;
-mod help;
-mod program;
 mod words;
 
-pub use command::{answer, answer_read};
-pub use evm_program::program_devices;
-pub use program::run;
+pub use command::{PROGRAM, gdb};

@@ -7,6 +7,3 @@ mod heard;
 
 pub use ear::Ear;
 pub use ends::{Hearing, HearingEnd};
-
-#[cfg(test)]
-mod tests;

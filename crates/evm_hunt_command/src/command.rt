@@ -1,13 +1,11 @@
-//! A run of the program, from its words to its exit status.
+//! The word `hunt`, from what stands behind it to the exit status.
 
-use crate::progress::HuntProgress;
-use crate::words::{Options, Search, options_of, parse};
-use clap::Error;
-use clap::error::ErrorKind;
+use crate::words::{Options, Search, options_of};
+use clap::ArgMatches;
+use command_lines::{show, symbols_at};
 use evm_host::{
-    Ending, FAILED, Message, System, USAGE, WordsFault, World, ended, failed_write_message,
-    host_world, image_at, memory_refused, not_created, not_opened, not_read, read_all, report,
-    words_not_read, words_of, write_all,
+    FAILED, Message, System, USAGE, World, failed_write_message, image_at, memory_refused,
+    not_created, report, write_all,
 };
 use evm_hunt::{
     BeginFault, Found, HuntStop, Onlooker, Plan, Report, SearchSpan, Switching, Way,
@@ -18,41 +16,13 @@ use evm_symbols::Symbols;
 use std::alloc::Global;
 
 /// The name in front of messages that are about no file.
-const PROGRAM: &str = "evlhunt";
+const PROGRAM: &str = "vardozek hunt";
 
 /// The status of a hunt that has found a failure.
 const FOUND: u8 = 1;
 
 /// The status where the file is no image that can be loaded.
 const NO_IMAGE: u8 = 3;
-
-// Writes a text to standard output; the status is the one that is given if all of it is written.
-fn show<S: System>(text: &str, status: u8, world: &mut World<S>) -> u8 {
-    match write_all(&mut world.output, text.as_bytes()) {
-        Ok(()) => status,
-        Err(fault) => ended(PROGRAM, &Ending::WriteFailed(fault), &mut world.errors),
-    }
-}
-
-// Writes what is wrong with the words.
-fn blame<S: System>(text: &str, world: &mut World<S>) -> u8 {
-    match write_all(&mut world.errors, text.as_bytes()) {
-        Ok(()) => USAGE,
-        Err(_) => FAILED,
-    }
-}
-
-// Ends a run whose words are no command, or ask for help or the version.
-fn refuse<S: System>(alloc: Global, error: &Error, world: &mut World<S>) -> u8 {
-    let Ok(text) = format!(in alloc; "{error}") else {
-        return memory_refused(PROGRAM, world);
-    };
-    match error.kind() {
-        ErrorKind::DisplayHelp | ErrorKind::DisplayVersion => show(text.as_str(), 0, world),
-        ErrorKind::OutOfMemory => memory_refused(PROGRAM, world),
-        _ => blame(text.as_str(), world),
-    }
-}
 
 // Creates a file and writes a text to it.
 fn write_file<S: System>(path: &str, text: &str, world: &mut World<S>) -> Result<(), u8> {
@@ -116,7 +86,10 @@ fn tell<S: System>(
         return status;
     }
     match report_text(alloc, report, span, symbols) {
-        Ok(text) => show(text.as_str(), status, world),
+        Ok(text) => match show(PROGRAM, text.as_str(), world) {
+            0 => status,
+            failed => failed,
+        },
         Err(_) => memory_refused(PROGRAM, world),
     }
 }
@@ -192,21 +165,6 @@ fn hunt_by<O: Onlooker>(
     }
 }
 
-// The symbols of a file that was read as an image before.
-fn symbols_at<S: System>(alloc: Global, path: &str, world: &mut World<S>) -> Result<Symbols, u8> {
-    let mut file = match world.files.open(path) {
-        Ok(file) => file,
-        Err(fault) => return Err(not_opened(path, fault, &mut world.errors)),
-    };
-    match read_all(alloc, &mut file) {
-        Ok(bytes) => match Symbols::read(alloc, bytes.as_slice()) {
-            Ok(symbols) => Ok(symbols),
-            Err(_) => Err(memory_refused(PROGRAM, world)),
-        },
-        Err(stop) => Err(not_read(stop, path, world)),
-    }
-}
-
 // Hunts in an image.
 fn hunt_in<S: System, O: Onlooker>(
     alloc: Global,
@@ -228,37 +186,22 @@ fn hunt_in<S: System, O: Onlooker>(
     }
 }
 
-/// Does what the words ask for, and returns the exit status.
-pub fn answer<S: System, O: Onlooker>(
+/// `hunt`: looks for schedules in which a program fails, as the words ask for, and returns the exit status.
+pub fn hunt_for<S: System, O: Onlooker>(
     alloc: Global,
-    words: &[String],
+    words: &ArgMatches<'_>,
     onlooker: &mut O,
     world: &mut World<S>,
 ) -> u8 {
-    let matches = match parse(alloc, words) {
-        Ok(matches) => matches,
-        Err(error) => return refuse(alloc, &error, world),
-    };
-    let Some(options) = options_of(&matches) else {
+    let Some(options) = options_of(words) else {
         return USAGE;
     };
     let image = match image_at(alloc, options.image, world) {
         Ok(image) => image,
         Err(status) => return status,
     };
-    match symbols_at(alloc, options.image, world) {
+    match symbols_at(alloc, PROGRAM, options.image, world) {
         Ok(symbols) => hunt_in(alloc, &options, &image, &symbols, onlooker, world),
         Err(status) => status,
-    }
-}
-
-/// Runs the program on the words of its command line, and returns the exit status.
-pub fn run(rt: &HostRuntime) -> u8 {
-    let mut world = host_world(rt);
-    let mut progress = HuntProgress::new(rt);
-    match words_of(rt) {
-        Ok(words) => answer(rt.alloc(), words.as_slice(), &mut progress, &mut world),
-        Err(WordsFault::NotText) => words_not_read(PROGRAM, &mut world),
-        Err(WordsFault::NoMemory) => memory_refused(PROGRAM, &mut world),
     }
 }

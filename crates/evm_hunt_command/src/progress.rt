@@ -46,7 +46,7 @@ impl Onlooker for HuntProgress<'_> {
         let taken = self.taken();
         if taken > self.seconds {
             self.seconds = taken;
-            let _ = eprint!(self.rt; "\revlhunt: schedules {schedules}, failures {failures}");
+            let _ = eprint!(self.rt; "\rvardozek hunt: schedules {schedules}, failures {failures}");
         }
     }
 

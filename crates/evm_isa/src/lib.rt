@@ -17,6 +17,3 @@ pub use laws::{
     decode_of_encode, decoded_by_table, encode_of_decode, encoded_by_table, one_instruction,
     one_word,
 };
-
-#[cfg(test)]
-mod tests;

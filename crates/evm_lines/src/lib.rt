@@ -10,6 +10,3 @@ pub const LINES: u8 = 32;
 
 /// The same number, for arrays with an entry for each line.
 pub const LINE_COUNT: usize = LINES as usize;
-
-#[cfg(test)]
-mod tests;

@@ -40,7 +40,7 @@ pub struct Progress<'a> {
 }
 
 impl<'a> Progress<'a> {
-    /// A meter whose line begins with these words, as `evltrace: event`. It says nothing where standard error is no
+    /// A meter whose line begins with these words, as `vardozek trace: event`. It says nothing where standard error is no
     /// terminal, or there is no clock.
     pub fn new(rt: &'a HostRuntime, words: &'static str) -> Progress<'a> {
         let begun = if rt.stderr().is_terminal() {

@@ -6,6 +6,3 @@ mod growth;
 pub use growth::{
     NoMemory, Refused, copies, grow, grow_map, grow_text, push_text, ring, with_room,
 };
-
-#[cfg(test)]
-mod tests;

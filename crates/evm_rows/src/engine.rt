@@ -84,20 +84,39 @@ pub(crate) fn served_with(alloc: Global, image: Result<Image, Outcome>, script: 
 }
 
 /// What the replay of a journal writes.
-pub(crate) fn replayed(alloc: Global, image: Result<Image, Outcome>, journal: &[u8]) -> Outcome {
-    let image = match image {
-        Ok(image) => image,
-        Err(outcome) => return outcome,
-    };
+pub(crate) fn replayed(alloc: Global, image: &Image, journal: &[u8]) -> Outcome {
     let mut text = Vec::new(alloc);
     let Some(devices) = devices_of(alloc) else {
         return Outcome::new(text, &Ending::NoMemory);
     };
     let options = RunOptions {
-        image: Some(&image),
+        image: Some(image),
         devices,
     };
     let mut reader = journal;
     let ending = replay_to(alloc, options, &mut reader, &mut text);
     Outcome::new(text, &ending)
+}
+
+/// What the replay of a journal writes with an image.
+pub(crate) fn replayed_with(
+    alloc: Global,
+    image: Result<Image, Outcome>,
+    journal: &[u8],
+) -> Outcome {
+    match image {
+        Ok(image) => replayed(alloc, &image, journal),
+        Err(outcome) => outcome,
+    }
+}
+
+/// What the replay of that writes which a script writes with an image.
+pub(crate) fn saved_with(alloc: Global, image: Result<Image, Outcome>, script: &[u8]) -> Outcome {
+    match image {
+        Ok(image) => {
+            let saved = served(alloc, Some(&image), script);
+            replayed(alloc, &image, saved.text.as_slice())
+        }
+        Err(outcome) => outcome,
+    }
 }

@@ -1,6 +1,6 @@
 //! The lines of the file LIST: the status that is wanted, a command line of `evltool`, and the file of what it must write.
 
-use crate::engine::{Outcome, assembled, imported, replayed, served, served_with};
+use crate::engine::{Outcome, assembled, imported, replayed_with, served, served_with};
 use std::rt::Files;
 use std::{fs, io};
 
@@ -27,21 +27,49 @@ pub(crate) struct Example<'a> {
     wanted: &'a str,
 }
 
+// What `asm` does with these words, and the file of what it must write.
+fn assembles<'a>(words: &[&'a str]) -> Option<(Command<'a>, &'a str)> {
+    match *words {
+        [source, wanted] => Some((Command::Image(source), wanted)),
+        [source, _, ">", wanted] => Some((Command::Assemble(source), wanted)),
+        _ => None,
+    }
+}
+
+// What `run` does with these words.
+fn runs<'a>(words: &[&'a str]) -> Option<(Command<'a>, &'a str)> {
+    match *words {
+        ["<", script, ">", wanted] => Some((Command::Run(script), wanted)),
+        [image, "<", script, ">", wanted] => Some((Command::RunWith(image, script), wanted)),
+        _ => None,
+    }
+}
+
+// What `replay` does with these words.
+fn replays<'a>(words: &[&'a str]) -> Option<(Command<'a>, &'a str)> {
+    match *words {
+        [image, journal, ">", wanted] => Some((Command::Replay(image, journal), wanted)),
+        _ => None,
+    }
+}
+
+// What a command does with the words behind it.
+fn command_of<'a>(command: &str, words: &[&'a str]) -> Option<(Command<'a>, &'a str)> {
+    match command {
+        "asm" => assembles(words),
+        "run" => runs(words),
+        "replay" => replays(words),
+        _ => None,
+    }
+}
+
 /// The example of a line of LIST; None if it is none.
 pub(crate) fn example_of<'a>(words: &[&'a str]) -> Option<Example<'a>> {
-    let (status, command, wanted) = match *words {
-        [status, "asm", source, wanted] => (status, Command::Image(source), wanted),
-        [status, "asm", source, _, ">", wanted] => (status, Command::Assemble(source), wanted),
-        [status, "run", "<", script, ">", wanted] => (status, Command::Run(script), wanted),
-        [status, "run", image, "<", script, ">", wanted] => {
-            (status, Command::RunWith(image, script), wanted)
-        }
-        [status, "replay", image, journal, ">", wanted] => {
-            (status, Command::Replay(image, journal), wanted)
-        }
-        _ => return None,
+    let [status, command, rest @ ..] = words else {
+        return None;
     };
     let status = status.parse().ok()?;
+    let (command, wanted) = command_of(*command, rest)?;
     Some(Example {
         status,
         command,
@@ -82,7 +110,7 @@ fn outcome_of(
         Command::Replay(image, journal) => {
             let image = imported(alloc, bytes(rt, folder, image)?.as_slice());
             let journal = bytes(rt, folder, journal)?;
-            Ok(replayed(alloc, image, journal.as_slice()))
+            Ok(replayed_with(alloc, image, journal.as_slice()))
         }
     }
 }

@@ -1,5 +1,6 @@
 //! The files of a folder of rows.
 
+use crate::spelling::bytes_spelled;
 use std::alloc::{AllocError, Global};
 use std::rt::Files;
 use std::{fs, io};
@@ -19,6 +20,16 @@ pub(crate) fn bytes_of(
     fs::read(rt, path_of(rt.alloc(), folder, name, kind)?)
 }
 
+/// The text of a row's file.
+pub(crate) fn text_of(
+    rt: &(impl Files + AllocGlobal),
+    folder: &str,
+    name: &str,
+    kind: &str,
+) -> io::Result<String> {
+    fs::read_to_string(rt, path_of(rt.alloc(), folder, name, kind)?)
+}
+
 /// Whether a row has such a file.
 pub(crate) fn has(
     rt: &(impl Files + AllocGlobal),
@@ -35,13 +46,11 @@ pub(crate) fn spelled_bytes(
     folder: &str,
     name: &str,
 ) -> io::Result<Vec<u8>> {
-    let text = fs::read_to_string(rt, path_of(rt.alloc(), folder, name, "hex")?)?;
+    let text = text_of(rt, folder, name, "hex")?;
     let mut bytes = Vec::new(rt.alloc());
     for line in text.lines().filter(|line| !line.starts_with('#')) {
-        match hex::decode(rt.alloc(), line) {
-            Ok(part) => bytes.extend_from_slice(part.as_slice())?,
-            Err(_) => return Err(io::ErrorKind::InvalidData.into()),
-        }
+        let part = bytes_spelled(rt.alloc(), line)?;
+        bytes.extend_from_slice(part.as_slice())?;
     }
     Ok(bytes)
 }

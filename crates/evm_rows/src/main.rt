@@ -8,6 +8,8 @@ mod example;
 mod folder;
 mod jobs;
 mod row;
+mod spelling;
+mod trials;
 
 use example::{example_of, is_as_wanted};
 use folder::bytes_of;

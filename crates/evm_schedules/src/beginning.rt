@@ -4,10 +4,10 @@ ghost use Rattle.std.specs.Prelude.{◌≡◌, IfOk};
 ghost use Rattle.evm_model.specs.Replay.{IsReplayOf};
 ghost use Rattle.evm_schedules.specs.Beginning.{Begins};
 
-use crate::devices::program_devices;
 use evm_core::{Boot, Machine, Refusal};
 use evm_devs::AnyDevice;
 use evm_image::Image;
+use evm_program::program_devices;
 use std::alloc::Global;
 
 /// Why no run begins.

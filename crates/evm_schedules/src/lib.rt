@@ -4,7 +4,6 @@
 mod beginning;
 mod calls;
 mod chooser;
-mod devices;
 mod eve;
 mod failure;
 mod leaving;
@@ -18,10 +17,10 @@ mod watch;
 
 pub use beginning::{BeginFault, begin};
 pub use chooser::{Chooser, POINT_LIMIT, Way};
-pub use devices::program_devices;
 pub use evm_core::{Boot, Machine};
 pub use evm_devs::AnyDevice;
 pub use evm_model::{CAPACITY_LIMIT, Event, NoBytes};
+pub use evm_program::program_devices;
 pub use evm_ram::SIZE_LIMIT;
 pub use failure::{Failure, failure_address};
 pub use looks::is_deadlock;

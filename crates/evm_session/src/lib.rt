@@ -24,6 +24,3 @@ pub use plain::PlainLine;
 pub use script::script_text;
 pub use session::Session;
 pub use stop::ScriptStop;
-
-#[cfg(test)]
-mod tests;

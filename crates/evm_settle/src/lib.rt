@@ -10,6 +10,3 @@ pub use evm_parts::{
     Tasks, Timers,
 };
 pub use settling::settle_and_nudge;
-
-#[cfg(test)]
-mod tests;

@@ -1,14 +1,15 @@
-//! A run of the program, from its words to its exit status.
+//! The word `sh`, from what stands behind it to the exit status.
 
 ghost use Rattle.std.specs.Prelude.{◌≡◌, ◌≤◌, OnOk, if◌then◌else◌};
 
-use crate::help::{HELP, USAGE_TEXT};
 use crate::reading::{Finish, serve_lines};
 use crate::shell::Shell;
-use crate::words::{Job, Wish, wish_of};
+use crate::words::{Job, job_of};
+use clap::ArgMatches;
+use command_lines::symbols_at;
 use evm_host::{
-    Ending, Message, System, USAGE, Verdict, WordsFault, World, ended, image_at, memory_refused,
-    not_created, not_opened, not_read, read_all, report, text_at, words_not_read, write_all,
+    Ending, Message, System, USAGE, World, ended, image_at, memory_refused, not_created,
+    not_opened, not_read, report, text_at, write_all,
 };
 use evm_image::Image;
 use evm_messages::{Diagnostic, report_line};
@@ -16,42 +17,14 @@ use evm_program::Meter;
 use evm_room::NoMemory;
 use evm_shell_answers::{MapFault, Names, SourceLines, script_text, write_journal};
 use evm_streams::{ReadFault, ReadStop};
-use evm_symbols::Symbols;
 use std::alloc::Global;
 
 /// The name in front of messages that are about no file.
-pub(crate) const PROGRAM: &str = "evlsh";
-
-/// The version that `--version` prints.
-const VERSION: &str = "evlsh 0.1.0\n";
+pub(crate) const PROGRAM: &str = "vardozek sh";
 
 const INPUT: &str = "standard input";
 
 const OUTPUT: &str = "standard output";
-
-// Writes a text, and answers the status.
-fn show<S: System>(text: &str, world: &mut World<S>) -> u8 {
-    let ending = match write_all(&mut world.output, text.as_bytes()) {
-        Ok(()) => Ending::Complete(Verdict::Done),
-        Err(fault) => Ending::WriteFailed(fault),
-    };
-    ended(PROGRAM, &ending, &mut world.errors)
-}
-
-// The symbols of a file that was read as an image before.
-fn symbols_at<S: System>(alloc: Global, path: &str, world: &mut World<S>) -> Result<Symbols, u8> {
-    let mut file = match world.files.open(path) {
-        Ok(file) => file,
-        Err(fault) => return Err(not_opened(path, fault, &mut world.errors)),
-    };
-    match read_all(alloc, &mut file) {
-        Ok(bytes) => match Symbols::read(alloc, bytes.as_slice()) {
-            Ok(symbols) => Ok(symbols),
-            Err(_) => Err(memory_refused(PROGRAM, world)),
-        },
-        Err(stop) => Err(not_read(stop, path, world)),
-    }
-}
 
 // The lines of sources that a map file gives.
 fn map_at<S: System>(alloc: Global, path: &str, world: &mut World<S>) -> Result<SourceLines, u8> {
@@ -72,7 +45,7 @@ fn map_at<S: System>(alloc: Global, path: &str, world: &mut World<S>) -> Result<
 
 // The names that the image and the map file give.
 fn names_at<S: System>(alloc: Global, job: Job<'_>, world: &mut World<S>) -> Result<Names, u8> {
-    let symbols = match symbols_at(alloc, job.image, world) {
+    let symbols = match symbols_at(alloc, PROGRAM, job.image, world) {
         Ok(symbols) => symbols,
         Err(status) => return Err(status),
     };
@@ -212,41 +185,15 @@ fn do_job<S: System, M: Meter + Drop>(
     save_all(alloc, &shell, job, status, world)
 }
 
-/// Does what the words ask for, and returns the exit status.
-pub fn answer<S: System, M: Meter + Drop>(
+/// `sh`: serves the lines of a shell as the words ask for, and returns the exit status.
+pub fn sh<S: System, M: Meter + Drop>(
     alloc: Global,
-    words: &[String],
+    words: &ArgMatches<'_>,
     meter: M,
     world: &mut World<S>,
 ) -> u8 {
-    let words = match words {
-        [_, rest @ ..] => rest,
-        [] => words,
-    };
-    match wish_of(words) {
-        Wish::Help => match show(USAGE_TEXT, world) {
-            0 => show(HELP, world),
-            status => status,
-        },
-        Wish::Version => show(VERSION, world),
-        Wish::Serve(job) => do_job(alloc, job, meter, world),
-        Wish::Wrong(words) => {
-            report(PROGRAM, Message::Plain(words), &mut world.errors);
-            USAGE
-        }
-    }
-}
-
-/// Does what the words ask for, or reports why they could not be read, and returns the exit status.
-pub fn answer_read<S: System, M: Meter + Drop>(
-    alloc: Global,
-    words: Result<Vec<String>, WordsFault>,
-    meter: M,
-    world: &mut World<S>,
-) -> u8 {
-    match words {
-        Ok(words) => answer(alloc, words.as_slice(), meter, world),
-        Err(WordsFault::NotText) => words_not_read(PROGRAM, world),
-        Err(WordsFault::NoMemory) => memory_refused(PROGRAM, world),
+    match job_of(words) {
+        Some(job) => do_job(alloc, job, meter, world),
+        None => USAGE,
     }
 }

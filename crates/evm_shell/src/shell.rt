@@ -1,6 +1,6 @@
 //! The shell: a line, and what it answers.
 
-use crate::help::HELP;
+use crate::help::SHELL_HELP;
 use evm_image::Image;
 use evm_program::Meter;
 use evm_room::NoMemory;
@@ -88,7 +88,7 @@ impl<'a, M: Meter + Drop> Shell<'a, M> {
             "where" => self.place(rest, page),
             "symbols" => self.list(rest, page),
             "help" => {
-                page.put(HELP)?;
+                page.put(SHELL_HELP)?;
                 Ok(Outcome::Said)
             }
             _ => self.plain(alloc, number, text, page),

@@ -1,14 +1,13 @@
-//! A run of the program, from its words to its exit status.
+//! The word `trace`, from what stands behind it to the exit status.
 
 use crate::tracing::{TraceEnd, trace_journal};
-use crate::words::{Job, job_of, parse};
-use clap::Error;
-use clap::error::ErrorKind;
+use crate::words::{Job, job_of};
+use clap::ArgMatches;
+use command_lines::symbols_at;
 use evm_devs::AnyDevice;
 use evm_host::{
-    Devices, Ending, FAILED, Known, Message, Sink, System, USAGE, Verdict, WordsFault, World,
-    ended, ended_with, failed_write_message, image_at, memory_refused, not_created, not_opened,
-    not_read, read_all, report, text_at, words_not_read, write_all,
+    Devices, Ending, FAILED, Known, Message, Sink, System, USAGE, Verdict, World, ended,
+    ended_with, failed_write_message, image_at, not_created, report, text_at,
 };
 use evm_image::Image;
 use evm_places::Symbols;
@@ -16,49 +15,10 @@ use evm_program::Meter;
 use std::alloc::Global;
 
 /// The name in front of messages that are about no file.
-pub(crate) const PROGRAM: &str = "evltrace";
+pub const PROGRAM: &str = "vardozek trace";
 
 /// The name of standard output among the words.
 const STANDARD_OUTPUT: &str = "-";
-
-// Writes help or the version.
-fn show<S: System>(text: &str, world: &mut World<S>) -> u8 {
-    let ending = match write_all(&mut world.output, text.as_bytes()) {
-        Ok(()) => Ending::Complete(Verdict::Done),
-        Err(fault) => Ending::WriteFailed(fault),
-    };
-    ended(PROGRAM, &ending, &mut world.errors)
-}
-
-// Writes what is wrong with the words.
-fn blame<S: System>(text: &str, world: &mut World<S>) -> u8 {
-    match write_all(&mut world.errors, text.as_bytes()) {
-        Ok(()) => USAGE,
-        Err(_) => FAILED,
-    }
-}
-
-// Writes the text for the words: help, the version, or what is wrong with them.
-fn respond<S: System>(kind: ErrorKind, text: &str, world: &mut World<S>) -> u8 {
-    match kind {
-        ErrorKind::DisplayHelp | ErrorKind::DisplayVersion => show(text, world),
-        ErrorKind::OutOfMemory => out_of_memory(world),
-        _ => blame(text, world),
-    }
-}
-
-// Ends a run whose words are no command, or ask for help or the version.
-fn refuse<S: System>(alloc: Global, error: &Error, world: &mut World<S>) -> u8 {
-    match format!(in alloc; "{error}") {
-        Ok(text) => respond(error.kind(), text.as_str(), world),
-        Err(_) => out_of_memory(world),
-    }
-}
-
-// Memory was refused: nothing is written to standard output, which may have the trace.
-fn out_of_memory<S: System>(world: &mut World<S>) -> u8 {
-    ended(PROGRAM, &Ending::NoMemory, &mut world.errors)
-}
 
 // Reports how a trace ended, and returns the status.
 fn traced<E: Sink>(
@@ -125,23 +85,8 @@ fn trace_to_out<S: System, M: Meter>(
     }
 }
 
-// The symbols of a file that was read as an image before.
-fn symbols_at<S: System>(alloc: Global, path: &str, world: &mut World<S>) -> Result<Symbols, u8> {
-    let mut file = match world.files.open(path) {
-        Ok(file) => file,
-        Err(fault) => return Err(not_opened(path, fault, &mut world.errors)),
-    };
-    match read_all(alloc, &mut file) {
-        Ok(bytes) => match Symbols::read(alloc, bytes.as_slice()) {
-            Ok(symbols) => Ok(symbols),
-            Err(_) => Err(out_of_memory(world)),
-        },
-        Err(stop) => Err(not_read(stop, path, world)),
-    }
-}
-
 // Traces the journal of a file on the image of another.
-fn trace<S: System, M: Meter>(
+fn trace_file<S: System, M: Meter>(
     alloc: Global,
     devices: Devices<AnyDevice>,
     job: Job<'_>,
@@ -152,7 +97,7 @@ fn trace<S: System, M: Meter>(
         Ok(image) => image,
         Err(status) => return status,
     };
-    let symbols = match symbols_at(alloc, job.image, world) {
+    let symbols = match symbols_at(alloc, PROGRAM, job.image, world) {
         Ok(symbols) => symbols,
         Err(status) => return status,
     };
@@ -166,34 +111,16 @@ fn trace<S: System, M: Meter>(
     }
 }
 
-/// Does what the words ask for, with devices in the machine, and returns the exit status.
-pub fn answer<S: System, M: Meter>(
+/// `trace`: writes the run of a journal as a trace, with devices in the machine, and returns the exit status.
+pub fn trace<S: System, M: Meter>(
     alloc: Global,
-    words: &[String],
+    words: &ArgMatches<'_>,
     devices: Devices<AnyDevice>,
     meter: &mut M,
     world: &mut World<S>,
 ) -> u8 {
-    match parse(alloc, words) {
-        Ok(matches) => match job_of(&matches) {
-            Some(job) => trace(alloc, devices, job, meter, world),
-            None => USAGE,
-        },
-        Err(error) => refuse(alloc, &error, world),
-    }
-}
-
-/// Does what the words ask for, or reports why they could not be read, and returns the exit status.
-pub fn answer_read<S: System, M: Meter>(
-    alloc: Global,
-    words: Result<Vec<String>, WordsFault>,
-    devices: Devices<AnyDevice>,
-    meter: &mut M,
-    world: &mut World<S>,
-) -> u8 {
-    match words {
-        Ok(words) => answer(alloc, words.as_slice(), devices, meter, world),
-        Err(WordsFault::NotText) => words_not_read(PROGRAM, world),
-        Err(WordsFault::NoMemory) => memory_refused(PROGRAM, world),
+    match job_of(words) {
+        Some(job) => trace_file(alloc, devices, job, meter, world),
+        None => USAGE,
     }
 }

@@ -10,7 +10,7 @@ use evm_host::{
 use evm_image::Image;
 
 /// The name in front of messages that are about no file.
-pub(crate) const PROGRAM: &str = "evlview";
+pub const PROGRAM: &str = "vardozek view";
 
 /// The name of standard output among the words.
 pub(crate) const STANDARD_OUTPUT: &str = "-";

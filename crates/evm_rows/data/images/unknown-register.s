@@ -1,0 +1,2 @@
+nop
+addi a9,a0,1

@@ -1,0 +1,1 @@
+here: lw a0, 8( sp8 ) # t9

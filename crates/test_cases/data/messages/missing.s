@@ -1,0 +1,2 @@
+nop
+beqz a0,there

@@ -1,0 +1,3 @@
+here: nop
+there:
+here: nop

@@ -1,0 +1,2 @@
+nop
+here: move a0,a1

@@ -1,0 +1,2 @@
+ li a7,0
+ ecall

@@ -1,0 +1,3 @@
+ li a0,5
+ li a7,6
+ ecall

@@ -1,0 +1,3 @@
+ li a7,53
+ ecall
+ nop

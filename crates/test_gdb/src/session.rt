@@ -1,0 +1,161 @@
+//! A session: a machine under GDB, and the exchanges.
+
+use crate::exchange::{Exchange, begins};
+use crate::line::{Line, line_of, said};
+use crate::machine::{Setting, devices_of, image_of, run_lines, setting_of};
+use crate::peer::{Heard, Sent};
+use evm_devs::AnyDevice;
+use evm_gdb::{Ended, GdbSession, Machine, serve_gdb};
+use evm_image::Image;
+use std::alloc::Global;
+use std::io;
+use std::rt::Files;
+
+// Where a session stands in its file.
+#[derive(Clone, Copy)]
+struct Place<'a> {
+    file: &'a str,
+    lines: &'a [&'a str],
+    from: usize,
+}
+
+// Whether a session ended as it must: where each write fails, by that.
+fn ends_as_wanted(setting: &Setting<'_>, ended: &Ended) -> bool {
+    match ended {
+        Ended::Left => !setting.unwritten,
+        Ended::WriteFailed(_) => setting.unwritten,
+        _ => false,
+    }
+}
+
+// Sends what an exchange has, and returns what was answered, and whether that ended as it must.
+fn answered(
+    alloc: Global,
+    session: &mut GdbSession<AnyDevice>,
+    setting: &Setting<'_>,
+    exchange: &Exchange,
+) -> (Vec<u8>, bool) {
+    let mut source = Sent {
+        rest: exchange.sent.as_slice(),
+        piece: if exchange.in_pieces { 1 } else { usize::MAX },
+        asks: setting.interrupted,
+    };
+    let mut heard = Heard {
+        bytes: Vec::new(alloc),
+        fails: setting.unwritten,
+    };
+    let ended = serve_gdb(alloc, session, &mut source, &mut heard);
+    (heard.bytes, ends_as_wanted(setting, &ended))
+}
+
+// Makes an exchange, and reports an answer that is another. `line` is the number of the line behind it.
+fn exchange_made(
+    rt: &(impl Print + AllocGlobal),
+    place: Place<'_>,
+    line: usize,
+    session: &mut GdbSession<AnyDevice>,
+    setting: &Setting<'_>,
+    exchange: &Exchange,
+) -> io::Result<()> {
+    let (bytes, ended) = answered(rt.alloc(), session, setting, exchange);
+    if ended && bytes.as_slice() == exchange.wanted.as_slice() {
+        return Ok(());
+    }
+    let sent = said(rt.alloc(), exchange.sent.as_slice())?;
+    let had = said(rt.alloc(), bytes.as_slice())?;
+    let wanted = said(rt.alloc(), exchange.wanted.as_slice())?;
+    let end = if ended { "" } else { ", and another end" };
+    let file = place.file;
+    println!(rt; "{file}:{line}: {sent} is answered by {had}, wanted {wanted}{end}")
+}
+
+// Makes the exchanges of a session, and returns how many.
+fn talk(
+    rt: &(impl Print + AllocGlobal),
+    place: Place<'_>,
+    session: &mut GdbSession<AnyDevice>,
+    setting: &Setting<'_>,
+) -> io::Result<usize> {
+    let mut exchange = Exchange::new(rt.alloc());
+    let mut count = 0usize;
+    let lines = place.lines;
+    for i in place.from.saturating_add(1)..lines.len() {
+        if line_of(lines[i]) == Line::Session {
+            break;
+        }
+        if begins(lines, i) && !exchange.sent.is_empty() {
+            exchange_made(rt, place, i, session, setting, &exchange)?;
+            exchange.clear();
+            count = count.saturating_add(1);
+        }
+        exchange.take(rt.alloc(), lines[i])?;
+    }
+    if exchange.sent.is_empty() {
+        return Ok(count);
+    }
+    exchange_made(rt, place, lines.len(), session, setting, &exchange)?;
+    Ok(count.saturating_add(1))
+}
+
+// The same, of a machine that is as the session says; else a line says that it isn't.
+fn talk_if(
+    rt: &(impl Print + AllocGlobal),
+    place: Place<'_>,
+    prepared: bool,
+    session: &mut GdbSession<AnyDevice>,
+    setting: &Setting<'_>,
+) -> io::Result<usize> {
+    if prepared {
+        return talk(rt, place, session, setting);
+    }
+    let Place { file, from, .. } = place;
+    println!(rt; "{file}:{from}: no such machine")?;
+    Ok(0)
+}
+
+// Loads the image and runs the lines of the script; false where one isn't done.
+fn prepare(
+    alloc: Global,
+    machine: &mut Machine<AnyDevice>,
+    place: Place<'_>,
+    image: &Option<Image>,
+) -> bool {
+    let loaded = match image {
+        Some(image) => machine.load(image).is_ok(),
+        None => true,
+    };
+    let done = run_lines(alloc, machine, place.lines, place.from);
+    loaded && done
+}
+
+// The image of a session's source, if it has one.
+fn image_for(rt: &(impl Files + AllocGlobal), setting: &Setting<'_>) -> io::Result<Option<Image>> {
+    match setting.source {
+        Some(name) => image_of(rt, name),
+        None => Ok(None),
+    }
+}
+
+/// Plays the session that begins at line `from` of a file, and returns how many exchanges it has.
+pub(crate) fn play(
+    rt: &(impl Files + Print + AllocGlobal),
+    file: &str,
+    lines: &[&str],
+    from: usize,
+) -> io::Result<usize> {
+    let place = Place { file, lines, from };
+    let setting = setting_of(lines, from);
+    let image = image_for(rt, &setting)?;
+    let made = match (setting.boot, devices_of(rt.alloc())) {
+        (Some(numbers), Some(devices)) => Machine::from_boot(rt.alloc(), numbers, devices).ok(),
+        _ => None,
+    };
+    let Some(mut machine) = made else {
+        println!(rt; "{file}:{from}: no machine")?;
+        return Ok(0);
+    };
+    let prepared = prepare(rt.alloc(), &mut machine, place, &image);
+    let mut session = GdbSession::new(machine);
+    session.acknowledges = setting.acknowledged;
+    talk_if(rt, place, prepared, &mut session, &setting)
+}

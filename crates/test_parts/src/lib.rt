@@ -1,0 +1,12 @@
+//! Tests of what no script and no packet reaches: ranks above 199, processors and objects that have no queue, tasks that wait for
+//! each other, and a thread that hears GDB.
+#![tactic(auto)]
+
+#[cfg(test)]
+mod boosts;
+#[cfg(test)]
+mod hearing;
+#[cfg(test)]
+mod ready;
+#[cfg(test)]
+mod waiting;

@@ -1,0 +1,333 @@
+//! The words of the command line, with what stands behind each. Help comes from this table, and so do the man page and the completions of
+//! shells: `.ci/words --write` writes them.
+
+use crate::help::{DIFF_HELP, GDB_HELP, HUNT_HELP, TRACE_HELP, VIEW_HELP};
+use evm_shell::SHELL_HELP;
+
+/// What an option takes.
+#[derive(Clone, Copy)]
+pub(crate) enum Value {
+    /// Nothing.
+    Flag,
+    /// A text, which help calls so.
+    Text(&'static str),
+    /// A number, between two others.
+    Number(&'static str, u64, u64),
+    /// Two numbers, between two others.
+    Two(&'static [&'static str], u64, u64),
+    /// A list of numbers between two others, by commas.
+    Numbers(&'static str, u64, u64),
+    /// A list of these names, by commas.
+    Names(&'static str, &'static [&'static str]),
+}
+
+/// An option.
+#[derive(Clone, Copy)]
+pub(crate) struct Choice {
+    pub(crate) name: &'static str,
+    pub(crate) value: Value,
+    pub(crate) help: &'static str,
+    /// The options that it excludes.
+    pub(crate) excludes: &'static [&'static str],
+}
+
+/// Whether a word has to stand at its place.
+#[derive(Clone, Copy)]
+pub(crate) enum Need {
+    Always,
+    Never,
+    /// If an option is not there, which excludes it.
+    Without(&'static str),
+    /// Never, and an option excludes it.
+    NeverWith(&'static str),
+}
+
+/// A word that stands at its place: a file.
+#[derive(Clone, Copy)]
+pub(crate) struct Place {
+    pub(crate) name: &'static str,
+    pub(crate) need: Need,
+    pub(crate) help: &'static str,
+}
+
+/// A word of the command line.
+#[derive(Clone, Copy)]
+pub(crate) struct Word {
+    pub(crate) name: &'static str,
+    pub(crate) about: &'static str,
+    pub(crate) places: &'static [Place],
+    pub(crate) options: &'static [Choice],
+    /// What help teaches behind the options.
+    pub(crate) help: &'static str,
+}
+
+/// What `--help` says of the program.
+pub(crate) const ABOUT: &str =
+    "Draws, traces, debugs and hunts in runs of the machine that evltool drives";
+
+const IMAGE: Place = Place {
+    name: "IMAGE",
+    need: Need::Always,
+    help: "The file of the program",
+};
+
+const JOURNAL: Place = Place {
+    name: "JOURNAL",
+    need: Need::Always,
+    help: "The file of the journal",
+};
+
+const VIEW_OPTIONS: &[Choice] = &[
+    Choice {
+        name: "from",
+        value: Value::Number("N", 0, 4_294_967_295),
+        help: "The first event, counted from 0",
+        excludes: &[],
+    },
+    Choice {
+        name: "to",
+        value: Value::Number("N", 0, 4_294_967_295),
+        help: "The event behind the last",
+        excludes: &[],
+    },
+    Choice {
+        name: "text",
+        value: Value::Flag,
+        help: "Writes it in characters to standard output",
+        excludes: &[],
+    },
+];
+
+/// `view`.
+pub(crate) const VIEW: Word = Word {
+    name: "view",
+    about: "Draws the run of a journal",
+    places: &[
+        IMAGE,
+        JOURNAL,
+        Place {
+            name: "OUT",
+            need: Need::Without("text"),
+            help: "The file that the picture is written to",
+        },
+    ],
+    options: VIEW_OPTIONS,
+    help: VIEW_HELP,
+};
+
+/// `view diff`.
+pub(crate) const DIFF: Word = Word {
+    name: "diff",
+    about: "Shows where two journals part",
+    places: &[
+        IMAGE,
+        JOURNAL,
+        Place {
+            name: "OTHER",
+            need: Need::Always,
+            help: "The file of another journal",
+        },
+        Place {
+            name: "OUT",
+            need: Need::NeverWith("text"),
+            help: "The file that a picture is written to",
+        },
+    ],
+    options: VIEW_OPTIONS,
+    help: DIFF_HELP,
+};
+
+/// `trace`.
+pub(crate) const TRACE: Word = Word {
+    name: "trace",
+    about: "Writes the run of a journal as a trace",
+    places: &[
+        IMAGE,
+        JOURNAL,
+        Place {
+            name: "OUT",
+            need: Need::Always,
+            help: "The file that the trace is written to",
+        },
+    ],
+    options: &[],
+    help: TRACE_HELP,
+};
+
+/// `gdb`.
+pub(crate) const GDB: Word = Word {
+    name: "gdb",
+    about: "A machine under GDB, over standard input and output",
+    places: &[
+        IMAGE,
+        Place {
+            name: "SCRIPT",
+            need: Need::Never,
+            help: "The file of a script that is run first",
+        },
+    ],
+    options: &[],
+    help: GDB_HELP,
+};
+
+/// `sh`.
+pub(crate) const SHELL: Word = Word {
+    name: "sh",
+    about: "A shell over the machine: scripts with names, and answers in words",
+    places: &[
+        IMAGE,
+        Place {
+            name: "FILE",
+            need: Need::Never,
+            help: "The file of the lines; standard input if none is named",
+        },
+    ],
+    options: &[
+        Choice {
+            name: "script",
+            value: Value::Text("OUT"),
+            help: "Writes the lines of a script that were done, which evltool run repeats",
+            excludes: &[],
+        },
+        Choice {
+            name: "journal",
+            value: Value::Text("OUT"),
+            help: "Writes the journal",
+            excludes: &[],
+        },
+        Choice {
+            name: "map",
+            value: Value::Text("FILE"),
+            help: "The lines of sources that addresses come from, as kit/map writes them",
+            excludes: &[],
+        },
+    ],
+    help: SHELL_HELP,
+};
+
+/// `hunt`.
+pub(crate) const HUNT: Word = Word {
+    name: "hunt",
+    about: "Looks for a schedule in which a program fails",
+    places: &[IMAGE],
+    options: &[
+        Choice {
+            name: "random",
+            value: Value::Flag,
+            help: "Chooses each step at random, as it does without an option",
+            excludes: &[],
+        },
+        Choice {
+            name: "pct",
+            value: Value::Number("D", 1, 32),
+            help: "Chooses by priorities with D change points",
+            excludes: &[],
+        },
+        Choice {
+            name: "all",
+            value: Value::Number("B", 0, 16),
+            help: "Looks at every schedule with at most B switches",
+            excludes: &["pct", "random", "seeds"],
+        },
+        Choice {
+            name: "cpus",
+            value: Value::Number("N", 1, 8),
+            help: "Processors [default: 2]",
+            excludes: &[],
+        },
+        Choice {
+            name: "ram",
+            value: Value::Number("BYTES", 65_536, 16_777_216),
+            help: "Bytes of RAM [default: 65536]",
+            excludes: &[],
+        },
+        Choice {
+            name: "events",
+            value: Value::Number("N", 1, 1_048_576),
+            help: "Events of a schedule at most [default: 10000]",
+            excludes: &[],
+        },
+        Choice {
+            name: "runs",
+            value: Value::Number("N", 1, 4_294_967_295),
+            help: "Schedules, of the seeds from 0 on [default: 1000]",
+            excludes: &[],
+        },
+        Choice {
+            name: "seeds",
+            value: Value::Two(&["FROM", "TO"], 0, 18_446_744_073_709_551_614),
+            help: "The first and the last seed",
+            excludes: &["runs"],
+        },
+        Choice {
+            name: "lines",
+            value: Value::Numbers("L,..", 2, 31),
+            help: "Lines that a schedule raises",
+            excludes: &[],
+        },
+        Choice {
+            name: "fail",
+            value: Value::Names("NAME,..", FAILURES),
+            help: "Failures to look for [default: ebreak,fault,deadlock]",
+            excludes: &[],
+        },
+        Choice {
+            name: "errno",
+            value: Value::Names("NAME,..", ERRNOS),
+            help: "Errors of calls to look for",
+            excludes: &[],
+        },
+        Choice {
+            name: "order",
+            value: Value::Flag,
+            help: "Looks for locks whose order closes a cycle over all schedules",
+            excludes: &[],
+        },
+        Choice {
+            name: "out",
+            value: Value::Text("NAME"),
+            help: "Writes NAME.journal and NAME.script of the shortest",
+            excludes: &[],
+        },
+        Choice {
+            name: "held",
+            value: Value::Number("N", 0, 1_048_576),
+            help: "Looks for a mutex that one task has for more than N ticks",
+            excludes: &[],
+        },
+        Choice {
+            name: "inversion",
+            value: Value::Two(&["R", "N"], 0, 1_048_576),
+            help: "Looks for a task of a rank above R that one of a lower rank keeps back for more than N steps",
+            excludes: &[],
+        },
+    ],
+    help: HUNT_HELP,
+};
+
+/// The names of failures.
+const FAILURES: &[&str] = &[
+    "ebreak",
+    "fault",
+    "deadlock",
+    "notice",
+    "notice-1",
+    "notice-2",
+    "notice-3",
+    "notice-4",
+    "abandoned",
+    "lost",
+];
+
+/// The names of errors.
+const ERRNOS: &[&str] = &[
+    "eperm",
+    "esrch",
+    "eagain",
+    "enomem",
+    "ebusy",
+    "einval",
+    "edeadlk",
+    "enosys",
+    "etimedout",
+];
