@@ -37,8 +37,9 @@ int main(void)
 
 	pthread_attr_init(&attr);
 	ret = pthread_attr_setstack(&attr, room + STACK_SIZE, STACK_SIZE);
-	if (!ret)
-		ret = pthread_create(&tid, &attr, thread, &sum);
+	if (ret)
+		error(1, ret, "pthread_attr_setstack()");
+	ret = pthread_create(&tid, &attr, thread, &sum);
 	if (ret)
 		error(1, ret, "pthread_create()");
 	pthread_join(tid, NULL);

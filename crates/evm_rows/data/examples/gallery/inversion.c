@@ -14,9 +14,9 @@
 #define give(lock) evl_put_sem(lock)
 #endif
 
-static long lock, begin;
+static long lock, begin_high, begin_middle;
 static volatile long low_has_it, middle_is_done;
-static struct evl_stack stacks[2];
+static struct evl_stack stacks[3];
 
 /* Priority 10: works with the lock. */
 void low(void *arg)
@@ -35,28 +35,40 @@ void middle(void *arg)
 {
 	(void)arg;
 	evl_attach_self(EVL_FIFO, 20);
-	evl_get_sem(begin);
+	evl_get_sem(begin_middle);
 	for (int i = 0; i < 200; i++)
 		__asm__ volatile("");
 	middle_is_done = 1;
 }
 
-EVL_NAME(low, "low");
-EVL_NAME(middle, "middle");
-
-/* Priority 30, on processor 0; low and middle are on processor 1. */
-int main(void)
+/* Priority 30: middle is ready when high asks for the lock, so it runs only while high waits. */
+void high(void *arg)
 {
-	lock = new_lock();
-	begin = evl_create_sem(0);
-	evl_create(middle, 0, 1, &stacks[0]);
-	evl_create(low, 0, 1, &stacks[1]);
-	while (!low_has_it)
-		;
+	(void)arg;
 	evl_attach_self(EVL_FIFO, 30);
-	evl_put_sem(begin);
+	evl_get_sem(begin_high);
+	evl_put_sem(begin_middle);
 	take(lock);
 	evl_assert(!middle_is_done);
 	give(lock);
+}
+
+EVL_NAME(low, "low");
+EVL_NAME(middle, "middle");
+EVL_NAME(high, "high");
+
+/* On processor 0: wakes high once low has the lock. The other three are on processor 1. */
+int main(void)
+{
+	lock = new_lock();
+	begin_high = evl_create_sem(0);
+	begin_middle = evl_create_sem(0);
+	evl_create(high, 0, 1, &stacks[0]);
+	evl_create(middle, 0, 1, &stacks[1]);
+	evl_create(low, 0, 1, &stacks[2]);
+	while (!low_has_it)
+		;
+	evl_attach_self(EVL_FIFO, 10);
+	evl_put_sem(begin_high);
 	return 0;
 }
