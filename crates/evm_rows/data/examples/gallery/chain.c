@@ -80,7 +80,6 @@ int main(void)
 	evl_create(middle, 0, 1, &stacks[1]);
 	evl_create(helper, 0, 1, &stacks[2]);
 	evl_create(low, 0, 1, &stacks[3]);
-	evl_attach_self(EVL_FIFO, 10);
 	while (!low_has_it)
 		;
 	evl_put_sem(begin_helper);

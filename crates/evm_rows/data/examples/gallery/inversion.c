@@ -68,7 +68,6 @@ int main(void)
 	evl_create(low, 0, 1, &stacks[2]);
 	while (!low_has_it)
 		;
-	evl_attach_self(EVL_FIFO, 10);
 	evl_put_sem(begin_high);
 	return 0;
 }
