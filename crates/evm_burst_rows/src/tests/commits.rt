@@ -1,6 +1,7 @@
-//! Commits of a burst on a machine that has changed since the burst was done ahead.
+//! Commits of a burst on a machine that has changed since the burst was done ahead. Each row works on the machine that it is lent: a function
+//! that owns one is dear to prove.
 
-use super::{JUMP, loaded, looping};
+use super::{ADDI, JUMP, STRAIGHT};
 use arrayvec::ArrayVec;
 use evm_burst::{Cache, speculate};
 use evm_core::{Committed, Machine};
@@ -11,15 +12,6 @@ use evm_ram::BASE;
 use std::alloc::Global;
 use std::process::Abort;
 use std::test::Fail;
-
-// addi x10, x0, 5
-const ADDI: u32 = 0x0050_0513;
-// addi x10, x0, 5; addi x11, x0, 6; j -8
-const STRAIGHT: [u32; 3] = [ADDI, 0x0060_0593, 0xff9f_f06f];
-
-const STRAIGHT_BYTES: [u8; 12] = [
-    0x13, 0x05, 0x50, 0x00, 0x93, 0x05, 0x60, 0x00, 0x6f, 0xf0, 0x9f, 0xff,
-];
 
 // What task 0 does by words that are noted from its pc on.
 fn ahead(alloc: Global, machine: &Machine<Pins>, code: &[u32]) -> Result<Burst, Fail> {
@@ -68,93 +60,101 @@ fn register(hart: &Hart, number: usize) -> Option<u64> {
     hart.regs.get(number).copied()
 }
 
-#[test]
-fn a_loop_is_done_65_times(rt: HostRuntime) -> Result<(), Fail> {
-    let mut machine = looping(rt.alloc(), 1, 4096)?;
-    let burst = ahead(rt.alloc(), &machine, &[JUMP])?;
+pub fn a_loop_is_done_65_times(
+    rt: &(impl Abort + AllocGlobal),
+    machine: &mut Machine<Pins>,
+) -> Result<(), Fail> {
+    let burst = ahead(rt.alloc(), machine, &[JUMP])?;
     assert_eq!(rt; burst.len(), 64);
-    commits(&rt, &mut machine, &burst, 65, Answer::Ran(0))?;
+    commits(rt, machine, &burst, 65, Answer::Ran(0))?;
     assert_eq!(rt; machine.event_count(), 65);
     Ok(())
 }
 
-#[test]
-fn a_word_that_changed_is_done_once(rt: HostRuntime) -> Result<(), Fail> {
-    let mut machine = looping(rt.alloc(), 1, 4096)?;
-    let burst = ahead(rt.alloc(), &machine, &[JUMP])?;
-    poke(&rt, &mut machine, ADDI);
-    let next = commits(&rt, &mut machine, &burst, 1, Answer::Ran(0))?;
+pub fn a_word_that_changed_is_done_once(
+    rt: &(impl Abort + AllocGlobal),
+    machine: &mut Machine<Pins>,
+) -> Result<(), Fail> {
+    let burst = ahead(rt.alloc(), machine, &[JUMP])?;
+    poke(rt, machine, ADDI);
+    let next = commits(rt, machine, &burst, 1, Answer::Ran(0))?;
     assert_eq!(rt; register(&next, 10), Some(5));
     Ok(())
 }
 
-#[test]
-fn a_word_that_is_written_again_is_the_same(rt: HostRuntime) -> Result<(), Fail> {
-    let mut machine = looping(rt.alloc(), 1, 4096)?;
-    let burst = ahead(rt.alloc(), &machine, &[JUMP])?;
-    poke(&rt, &mut machine, JUMP);
-    commits(&rt, &mut machine, &burst, 65, Answer::Ran(0))?;
+pub fn a_word_that_is_written_again_is_the_same(
+    rt: &(impl Abort + AllocGlobal),
+    machine: &mut Machine<Pins>,
+) -> Result<(), Fail> {
+    let burst = ahead(rt.alloc(), machine, &[JUMP])?;
+    poke(rt, machine, JUMP);
+    commits(rt, machine, &burst, 65, Answer::Ran(0))?;
     Ok(())
 }
 
-#[test]
-fn a_raised_line_is_received_first(rt: HostRuntime) -> Result<(), Fail> {
-    let mut machine = looping(rt.alloc(), 1, 4096)?;
-    let burst = ahead(rt.alloc(), &machine, &[JUMP])?;
-    event(&rt, &mut machine, Event::Raise(0, 5));
-    commits(&rt, &mut machine, &burst, 1, Answer::Received(5))?;
+pub fn a_raised_line_is_received_first(
+    rt: &(impl Abort + AllocGlobal),
+    machine: &mut Machine<Pins>,
+) -> Result<(), Fail> {
+    let burst = ahead(rt.alloc(), machine, &[JUMP])?;
+    event(rt, machine, Event::Raise(0, 5));
+    commits(rt, machine, &burst, 1, Answer::Received(5))?;
     // no line stands any more
-    commits(&rt, &mut machine, &burst, 65, Answer::Ran(0))?;
+    commits(rt, machine, &burst, 65, Answer::Ran(0))?;
     Ok(())
 }
 
-#[test]
-fn a_stopped_processor_does_nothing(rt: HostRuntime) -> Result<(), Fail> {
-    let mut machine = looping(rt.alloc(), 1, 4096)?;
-    let burst = ahead(rt.alloc(), &machine, &[JUMP])?;
-    event(&rt, &mut machine, Event::Stop(0));
-    commits(&rt, &mut machine, &burst, 1, Answer::Stopped)?;
+pub fn a_stopped_processor_does_nothing(
+    rt: &(impl Abort + AllocGlobal),
+    machine: &mut Machine<Pins>,
+) -> Result<(), Fail> {
+    let burst = ahead(rt.alloc(), machine, &[JUMP])?;
+    event(rt, machine, Event::Stop(0));
+    commits(rt, machine, &burst, 1, Answer::Stopped)?;
     Ok(())
 }
 
 // A breakpoint on the first word: it hits, and the pc stays. After Go it is passed.
-#[test]
-fn a_breakpoint_is_hit_and_passed(rt: HostRuntime) -> Result<(), Fail> {
-    let mut machine = loaded(rt.alloc(), 1, 4096, STRAIGHT_BYTES.as_slice())?;
-    let burst = ahead(rt.alloc(), &machine, STRAIGHT.as_slice())?;
-    event(&rt, &mut machine, Event::Break(BASE));
-    let next = commits(&rt, &mut machine, &burst, 1, Answer::Hit)?;
+pub fn a_breakpoint_is_hit_and_passed(
+    rt: &(impl Abort + AllocGlobal),
+    machine: &mut Machine<Pins>,
+) -> Result<(), Fail> {
+    let burst = ahead(rt.alloc(), machine, STRAIGHT.as_slice())?;
+    event(rt, machine, Event::Break(BASE));
+    let next = commits(rt, machine, &burst, 1, Answer::Hit)?;
     assert_eq!(rt; next.pc, BASE);
-    event(&rt, &mut machine, Event::Go(0));
+    event(rt, machine, Event::Go(0));
     // the loop comes back to the breakpoint, so none of its words is taken but the first, by the Step
-    let next = commits(&rt, &mut machine, &burst, 1, Answer::Ran(0))?;
+    let next = commits(rt, machine, &burst, 1, Answer::Ran(0))?;
     assert_eq!(rt; next.pc, BASE + 4);
     Ok(())
 }
 
 // Two words that do not come back: after Go they are taken whole, the first though it stands on a breakpoint.
-#[test]
-fn a_breakpoint_is_passed_by_a_burst(rt: HostRuntime) -> Result<(), Fail> {
-    let mut machine = loaded(rt.alloc(), 1, 4096, STRAIGHT_BYTES.as_slice())?;
+pub fn a_breakpoint_is_passed_by_a_burst(
+    rt: &(impl Abort + AllocGlobal),
+    machine: &mut Machine<Pins>,
+) -> Result<(), Fail> {
     let [first, second, _] = STRAIGHT;
-    let burst = ahead(rt.alloc(), &machine, &[first, second])?;
+    let burst = ahead(rt.alloc(), machine, &[first, second])?;
     assert_eq!(rt; burst.len(), 2);
-    event(&rt, &mut machine, Event::Break(BASE));
-    commits(&rt, &mut machine, &burst, 1, Answer::Hit)?;
-    event(&rt, &mut machine, Event::Go(0));
-    let next = commits(&rt, &mut machine, &burst, 3, Answer::Ran(0))?;
+    event(rt, machine, Event::Break(BASE));
+    commits(rt, machine, &burst, 1, Answer::Hit)?;
+    event(rt, machine, Event::Go(0));
+    let next = commits(rt, machine, &burst, 3, Answer::Ran(0))?;
     assert_eq!(rt; next.pc, BASE);
     assert_eq!(rt; register(&next, 11), Some(6));
     Ok(())
 }
 
 // Room for 64 events is too little for 64 pairs and one Step more.
-#[test]
-fn a_burst_needs_room_for_one_step_more(rt: HostRuntime) -> Result<(), Fail> {
-    let mut machine = looping(rt.alloc(), 1, 129)?;
-    let burst = ahead(rt.alloc(), &machine, &[JUMP])?;
-    commits(&rt, &mut machine, &burst, 65, Answer::Ran(0))?;
-    commits(&rt, &mut machine, &burst, 1, Answer::Ran(0))?;
+pub fn a_burst_needs_room_for_one_step_more(
+    rt: &(impl Abort + AllocGlobal),
+    machine: &mut Machine<Pins>,
+) -> Result<(), Fail> {
+    let burst = ahead(rt.alloc(), machine, &[JUMP])?;
+    commits(rt, machine, &burst, 65, Answer::Ran(0))?;
+    commits(rt, machine, &burst, 1, Answer::Ran(0))?;
     assert_eq!(rt; machine.event_count(), 66);
     Ok(())
 }
@@ -192,11 +192,12 @@ fn note(cache: &mut Cache, done: &Committed) {
 }
 
 // The first commit knows no hart and makes one Step; each of the nine others makes 64 and one. Processor 1 has no task.
-#[test]
-fn ten_turns_make_586_steps(rt: HostRuntime) -> Result<(), Fail> {
-    let mut machine = looping(rt.alloc(), 2, 4096)?;
-    assert_eq!(rt; ten_turns(rt.alloc(), &mut machine, 0)?, 586);
-    assert_eq!(rt; ten_turns(rt.alloc(), &mut machine, 1)?, 10);
+pub fn ten_turns_make_586_steps(
+    rt: &(impl Abort + AllocGlobal),
+    machine: &mut Machine<Pins>,
+) -> Result<(), Fail> {
+    assert_eq!(rt; ten_turns(rt.alloc(), machine, 0)?, 586);
+    assert_eq!(rt; ten_turns(rt.alloc(), machine, 1)?, 10);
     assert_eq!(rt; machine.event_count(), 596);
     Ok(())
 }
