@@ -4,6 +4,7 @@
 mod attaching;
 mod committing;
 mod gauge;
+mod lent;
 
 use arrayvec::ArrayVec;
 use evm_core::{Answer, Event, Machine, Refusal};
@@ -106,17 +107,13 @@ fn refusals(rt: &impl Abort, machine: &mut Machine<Gauge>) {
     refuses(rt, machine, Event::Unbreak(BASE), Refusal::NoBreakpoint);
 }
 
-#[test]
-fn each_kind_of_event(rt: HostRuntime) -> Result<(), Fail> {
-    let Ok(mut machine) = Machine::<Gauge>::boot(rt.alloc(), 2, 65536, 37) else {
-        return Err(Fail::from("the boot was refused"));
-    };
-    commands(&rt, &mut machine);
-    instructions(&rt, &mut machine);
-    interrupts(&rt, &mut machine);
-    refusals(&rt, &mut machine);
-    answers(&rt, &mut machine, Event::Go(1), Answer::Done);
-    refuses(&rt, &mut machine, Event::Tick, Refusal::Full);
+pub fn each_kind_of_event(rt: &impl Abort, machine: &mut Machine<Gauge>) -> Result<(), Fail> {
+    commands(rt, machine);
+    instructions(rt, machine);
+    interrupts(rt, machine);
+    refusals(rt, machine);
+    answers(rt, machine, Event::Go(1), Answer::Done);
+    refuses(rt, machine, Event::Tick, Refusal::Full);
     assert_eq!(rt; machine.room(), 0);
     Ok(())
 }
@@ -133,52 +130,44 @@ fn register<D: Device>(machine: &Machine<D>, r: usize) -> u64 {
 }
 
 // A loop of two instructions, a breakpoint in it, and a journal that ends.
-#[test]
-fn many_steps(rt: HostRuntime) -> Result<(), Fail> {
-    let Ok(mut machine) = Machine::<Gauge>::boot(rt.alloc(), 2, 65536, 64) else {
-        return Err(Fail::from("the boot was refused"));
-    };
+pub fn many_steps(rt: &impl Abort, machine: &mut Machine<Gauge>) -> Result<(), Fail> {
     // addi x5, x5, 1; jal x0, -4
     answers(
-        &rt,
-        &mut machine,
+        rt,
+        machine,
         poke_of(&[0x0012_8293, 0xffdf_f06f]),
         Answer::Done,
     );
-    steps(&rt, &mut machine, 11, Ok(()));
-    assert_eq!(rt; register(&machine, 5), 6);
-    answers(&rt, &mut machine, Event::Break(BASE), Answer::Done);
-    steps(&rt, &mut machine, 5, Ok(()));
-    assert_eq!(rt; register(&machine, 5), 6);
+    steps(rt, machine, 11, Ok(()));
+    assert_eq!(rt; register(machine, 5), 6);
+    answers(rt, machine, Event::Break(BASE), Answer::Done);
+    steps(rt, machine, 5, Ok(()));
+    assert_eq!(rt; register(machine, 5), 6);
     assert_eq!(rt; machine.event_count(), 18);
-    answers(&rt, &mut machine, Event::Step(0), Answer::Stopped);
-    answers(&rt, &mut machine, Event::Unbreak(BASE), Answer::Done);
-    answers(&rt, &mut machine, Event::Go(0), Answer::Done);
-    steps(&rt, &mut machine, 0, Ok(()));
-    steps(&rt, &mut machine, 1000, Err(Refusal::Full));
+    answers(rt, machine, Event::Step(0), Answer::Stopped);
+    answers(rt, machine, Event::Unbreak(BASE), Answer::Done);
+    answers(rt, machine, Event::Go(0), Answer::Done);
+    steps(rt, machine, 0, Ok(()));
+    steps(rt, machine, 1000, Err(Refusal::Full));
     assert_eq!(rt; machine.room(), 0);
     // 43 Steps more: 22 of them from BASE
-    assert_eq!(rt; register(&machine, 5), 28);
+    assert_eq!(rt; register(machine, 5), 28);
     Ok(())
 }
 
 // A raised line comes before the next instruction, and a processor that isn't there takes no Step.
-#[test]
-fn steps_behind_a_raise(rt: HostRuntime) -> Result<(), Fail> {
-    let Ok(mut machine) = Machine::<Gauge>::boot(rt.alloc(), 1, 65536, 64) else {
-        return Err(Fail::from("the boot was refused"));
-    };
+pub fn steps_behind_a_raise(rt: &impl Abort, machine: &mut Machine<Gauge>) -> Result<(), Fail> {
     // addi x5, x5, 1; jal x0, -4
     answers(
-        &rt,
-        &mut machine,
+        rt,
+        machine,
         poke_of(&[0x0012_8293, 0xffdf_f06f]),
         Answer::Done,
     );
-    steps(&rt, &mut machine, 2, Ok(()));
-    answers(&rt, &mut machine, Event::Raise(0, 5), Answer::Done);
-    steps(&rt, &mut machine, 2, Ok(()));
-    assert_eq!(rt; register(&machine, 5), 2);
+    steps(rt, machine, 2, Ok(()));
+    answers(rt, machine, Event::Raise(0, 5), Answer::Done);
+    steps(rt, machine, 2, Ok(()));
+    assert_eq!(rt; register(machine, 5), 2);
     assert_eq!(rt; machine.steps(1, 0), Ok(()));
     assert_eq!(rt; machine.steps(1, 1), Err(Refusal::NoSuchCpu));
     assert_eq!(rt; machine.event_count(), 6);
@@ -186,26 +175,17 @@ fn steps_behind_a_raise(rt: HostRuntime) -> Result<(), Fail> {
 }
 
 // A store changes an instruction that was done before: the next time the new one is done.
-#[test]
-fn steps_of_changed_code(rt: HostRuntime) -> Result<(), Fail> {
-    let Ok(mut machine) = Machine::<Gauge>::boot(rt.alloc(), 1, 65536, 64) else {
-        return Err(Fail::from("the boot was refused"));
-    };
+pub fn steps_of_changed_code(rt: &impl Abort, machine: &mut Machine<Gauge>) -> Result<(), Fail> {
     // nop; sw x6, 0(x5); jal x0, -8
     let code = poke_of(&[0x0000_0013, 0x0062_a023, 0xff9f_f06f]);
-    answers(&rt, &mut machine, code, Answer::Done);
-    answers(&rt, &mut machine, Event::Stop(0), Answer::Done);
-    answers(&rt, &mut machine, Event::SetReg(0, 5, BASE), Answer::Done);
+    answers(rt, machine, code, Answer::Done);
+    answers(rt, machine, Event::Stop(0), Answer::Done);
+    answers(rt, machine, Event::SetReg(0, 5, BASE), Answer::Done);
     // addi x7, x7, 7
-    answers(
-        &rt,
-        &mut machine,
-        Event::SetReg(0, 6, 0x0073_8393),
-        Answer::Done,
-    );
-    answers(&rt, &mut machine, Event::Go(0), Answer::Done);
-    steps(&rt, &mut machine, 12, Ok(()));
-    assert_eq!(rt; register(&machine, 7), 21);
+    answers(rt, machine, Event::SetReg(0, 6, 0x0073_8393), Answer::Done);
+    answers(rt, machine, Event::Go(0), Answer::Done);
+    steps(rt, machine, 12, Ok(()));
+    assert_eq!(rt; register(machine, 7), 21);
     Ok(())
 }
 

@@ -19,6 +19,7 @@ use evm_ram::BASE;
 use evm_shared::{Blanks, EventCounts, Finished, Origin, Port, Shared, check_receipts};
 use std::alloc::Global;
 use std::marker::Brand;
+use std::process::Abort;
 use std::sync::Wait;
 use std::sync::ledger::{Blank, Ledger};
 use std::test::Fail;
@@ -148,57 +149,75 @@ fn outcome_of<R: Threads + Wait + Sync>(
     }
 }
 
+// Each worker makes a Step in each turn at least.
+fn thousand_rings(rt: &impl Abort, outcome: &Outcome) {
+    assert!(rt; 200 <= outcome.totals.steps);
+}
+
+fn one_line(rt: &impl Abort, outcome: &Outcome) {
+    assert_eq!(rt; outcome.totals.bells, 1);
+}
+
+// The first turn of processor 0 knows no hart and makes one Step; each of the nine others makes 64 and one.
+fn ten_turns(rt: &impl Abort, outcome: &Outcome) {
+    assert_eq!(rt; outcome.totals.steps, 596);
+    assert_eq!(rt; outcome.receipts, [10, 10, 0]);
+}
+
+// Processor 0 makes a Step, three times 65, one that hits, and five while it is stopped; processor 1 makes ten.
+fn breakpoint(rt: &impl Abort, outcome: &Outcome) {
+    assert_eq!(rt; outcome.totals.steps, 212);
+    assert_eq!(rt; outcome.machine.event_count(), 213);
+    assert_eq!(rt; outcome.machine.cpu(0).map(|cpu| cpu.stopped), Some(true));
+    assert_eq!(rt; outcome.machine.hart(0).map(|hart| hart.pc), Some(BASE));
+}
+
+fn check_outcome(rt: &(impl Abort + AllocGlobal), which: Play, outcome: &mut Outcome) {
+    assert!(rt; outcome.right);
+    match which {
+        Play::ThousandRings | Play::TwoTakers => thousand_rings(rt, outcome),
+        Play::OneLine => one_line(rt, outcome),
+        Play::TenTurns => ten_turns(rt, outcome),
+        Play::Breakpoint => breakpoint(rt, outcome),
+    }
+    assert_eq!(rt; leads_there(rt.alloc(), &mut outcome.machine), Some(true));
+}
+
+// A play whose outcome is as it must be.
+fn try_play<R: Threads + Wait + Sync + Abort + AllocGlobal>(
+    rt: &R,
+    cpus: u64,
+    which: Play,
+) -> Result<(), Fail> {
+    let mut outcome = outcome_of(rt, rt.alloc(), cpus, which)?;
+    check_outcome(rt, which, &mut outcome);
+    Ok(())
+}
+
 #[test]
 fn a_thousand_rings(rt: HostRuntime) -> Result<(), Fail> {
-    let mut outcome = outcome_of(&rt, rt.alloc(), 2, Play::ThousandRings)?;
-    assert!(rt; outcome.right);
-    // each worker makes a Step in each turn at least
-    assert!(rt; 200 <= outcome.totals.steps);
-    assert_eq!(rt; leads_there(rt.alloc(), &mut outcome.machine), Some(true));
-    Ok(())
+    try_play(&rt, 2, Play::ThousandRings)
 }
 
 // Both workers deliver the lines of processor 0, by a taker each.
 #[test]
 fn two_takers(rt: HostRuntime) -> Result<(), Fail> {
-    let mut outcome = outcome_of(&rt, rt.alloc(), 1, Play::TwoTakers)?;
-    assert!(rt; outcome.right);
-    assert!(rt; 200 <= outcome.totals.steps);
-    assert_eq!(rt; leads_there(rt.alloc(), &mut outcome.machine), Some(true));
-    Ok(())
+    try_play(&rt, 1, Play::TwoTakers)
 }
 
 #[test]
 fn a_line_rung_twice_is_delivered_once(rt: HostRuntime) -> Result<(), Fail> {
-    let mut outcome = outcome_of(&rt, rt.alloc(), 1, Play::OneLine)?;
-    assert!(rt; outcome.right);
-    assert_eq!(rt; outcome.totals.bells, 1);
-    assert_eq!(rt; leads_there(rt.alloc(), &mut outcome.machine), Some(true));
-    Ok(())
+    try_play(&rt, 1, Play::OneLine)
 }
 
-// The first turn of processor 0 knows no hart and makes one Step; each of the nine others makes 64 and one.
 #[test]
 fn two_workers_make_586_and_10_steps(rt: HostRuntime) -> Result<(), Fail> {
-    let mut outcome = outcome_of(&rt, rt.alloc(), 2, Play::TenTurns)?;
-    assert!(rt; outcome.right);
-    assert_eq!(rt; outcome.totals.steps, 596);
-    assert_eq!(rt; outcome.receipts, [10, 10, 0]);
-    assert_eq!(rt; leads_there(rt.alloc(), &mut outcome.machine), Some(true));
-    Ok(())
+    try_play(&rt, 2, Play::TenTurns)
 }
 
-// Processor 0 makes a Step, three times 65, one that hits, and five while it is stopped; processor 1 makes ten.
 #[test]
 fn a_breakpoint_stops_a_worker(rt: HostRuntime) -> Result<(), Fail> {
-    let mut outcome = outcome_of(&rt, rt.alloc(), 2, Play::Breakpoint)?;
-    assert!(rt; outcome.right);
-    assert_eq!(rt; outcome.totals.steps, 212);
-    assert_eq!(rt; outcome.machine.event_count(), 213);
-    assert_eq!(rt; outcome.machine.cpu(0).map(|cpu| cpu.stopped), Some(true));
-    assert_eq!(rt; outcome.machine.hart(0).map(|hart| hart.pc), Some(BASE));
-    assert_eq!(rt; leads_there(rt.alloc(), &mut outcome.machine), Some(true));
-    Ok(())
+    try_play(&rt, 2, Play::Breakpoint)
 }
 
 // The second time there is memory for what the first lacked it for.

@@ -52,57 +52,49 @@ fn last_words() -> Event {
     Event::Poke(BASE + 65_528, bytes)
 }
 
-#[test]
-fn code_ends_with_ram(rt: HostRuntime) -> Result<(), Fail> {
-    let Ok(mut machine) = Machine::<Gauge>::boot(rt.alloc(), 2, 65_536, 9) else {
-        return Err(Fail::from("the boot was refused"));
-    };
-    answers(&rt, &mut machine, last_words(), Answer::Done);
-    answers(&rt, &mut machine, Event::Stop(0), Answer::Done);
+pub fn code_ends_with_ram(rt: &impl Abort, machine: &mut Machine<Gauge>) -> Result<(), Fail> {
+    answers(rt, machine, last_words(), Answer::Done);
+    answers(rt, machine, Event::Stop(0), Answer::Done);
     let place = Event::SetPc(0, BASE + 65_528);
-    answers(&rt, &mut machine, place, Answer::Done);
-    answers(&rt, &mut machine, Event::Go(0), Answer::Done);
-    let done = committed(&mut machine, 0)?;
+    answers(rt, machine, place, Answer::Done);
+    answers(rt, machine, Event::Go(0), Answer::Done);
+    let done = committed(machine, 0)?;
     does(
-        &rt,
+        rt,
         &done,
         Answer::Ran(0),
         Some(BASE + 65_532),
         &[0x0010_0073],
     );
-    let done = committed(&mut machine, 0)?;
-    does(&rt, &done, Answer::Ran(0), Some(BASE + 65_536), &[]);
-    let done = committed(&mut machine, 0)?;
-    does(&rt, &done, Answer::Stopped, Some(BASE + 65_536), &[]);
+    let done = committed(machine, 0)?;
+    does(rt, &done, Answer::Ran(0), Some(BASE + 65_536), &[]);
+    let done = committed(machine, 0)?;
+    does(rt, &done, Answer::Stopped, Some(BASE + 65_536), &[]);
     // no task is on processor 1
-    let done = committed(&mut machine, 1)?;
-    does(&rt, &done, Answer::Idle, None, &[]);
-    is_refused(&rt, &mut machine, 8, Refusal::NoSuchCpu);
-    answers(&rt, &mut machine, Event::Tick, Answer::Done);
-    is_refused(&rt, &mut machine, 8, Refusal::Full);
+    let done = committed(machine, 1)?;
+    does(rt, &done, Answer::Idle, None, &[]);
+    is_refused(rt, machine, 8, Refusal::NoSuchCpu);
+    answers(rt, machine, Event::Tick, Answer::Done);
+    is_refused(rt, machine, 8, Refusal::Full);
     assert_eq!(rt; machine.event_count(), 9);
     Ok(())
 }
 
 // A breakpoint that was set meanwhile: one Step is made, and it hits. Once passed, the next begins one word on.
-#[test]
-fn a_breakpoint_is_hit(rt: HostRuntime) -> Result<(), Fail> {
-    let Ok(mut machine) = Machine::<Gauge>::boot(rt.alloc(), 1, 65_536, 64) else {
-        return Err(Fail::from("the boot was refused"));
-    };
+pub fn a_breakpoint_is_hit(rt: &impl Abort, machine: &mut Machine<Gauge>) -> Result<(), Fail> {
     // addi x5, x5, 1; jal x0, -4
     let code = poke_of(&[0x0012_8293, 0xffdf_f06f]);
-    answers(&rt, &mut machine, code, Answer::Done);
-    answers(&rt, &mut machine, Event::Break(BASE), Answer::Done);
+    answers(rt, machine, code, Answer::Done);
+    answers(rt, machine, Event::Break(BASE), Answer::Done);
     let mut words = [0u32; 16];
     words[0] = 0x0012_8293;
     words[1] = 0xffdf_f06f;
-    let done = committed(&mut machine, 0)?;
-    does(&rt, &done, Answer::Hit, Some(BASE), &words);
-    answers(&rt, &mut machine, Event::Go(0), Answer::Done);
+    let done = committed(machine, 0)?;
+    does(rt, &done, Answer::Hit, Some(BASE), &words);
+    answers(rt, machine, Event::Go(0), Answer::Done);
     let mut words = [0u32; 16];
     words[0] = 0xffdf_f06f;
-    let done = committed(&mut machine, 0)?;
-    does(&rt, &done, Answer::Ran(0), Some(BASE + 4), &words);
+    let done = committed(machine, 0)?;
+    does(rt, &done, Answer::Ran(0), Some(BASE + 4), &words);
     Ok(())
 }

@@ -30,11 +30,8 @@ pub(super) fn looping(alloc: Global, cpus: u64, capacity: u64) -> Option<Machine
     Some(machine)
 }
 
-/// Whether the journal of such a machine leads to the same board; None if an event is refused the second time. Boards are compared
-/// without breakpoints, so one at the loop is taken away first.
-pub(super) fn leads_there(alloc: Global, machine: &mut Machine<Pins>) -> Option<bool> {
-    let boot = machine.boot_numbers();
-    let mut other = looping(alloc, boot.cpus, boot.capacity)?;
+// Makes the events of a machine's journal on another; None if one is refused.
+fn repeat(machine: &Machine<Pins>, other: &mut Machine<Pins>) -> Option<()> {
     for i in 0..machine.journal_line_count() {
         match machine.journal_line(i)? {
             EventLine::Steps(cpu, count) => other.steps(cpu, count).ok()?,
@@ -43,6 +40,11 @@ pub(super) fn leads_there(alloc: Global, machine: &mut Machine<Pins>) -> Option<
             }
         }
     }
+    Some(())
+}
+
+// Boards are compared without breakpoints, so one at the loop is taken away first.
+fn are_alike(machine: &mut Machine<Pins>, other: &mut Machine<Pins>) -> Option<bool> {
     let breaks = machine.breakpoint_count();
     if other.event_count() != machine.event_count() || other.breakpoint_count() != breaks {
         return Some(false);
@@ -51,5 +53,17 @@ pub(super) fn leads_there(alloc: Global, machine: &mut Machine<Pins>) -> Option<
         machine.apply(Event::Unbreak(BASE)).ok()?;
         other.apply(Event::Unbreak(BASE)).ok()?;
     }
-    Some(have_same_boards(machine, &other))
+    Some(have_same_boards(machine, other))
+}
+
+fn leads_to(machine: &mut Machine<Pins>, other: &mut Machine<Pins>) -> Option<bool> {
+    repeat(machine, other)?;
+    are_alike(machine, other)
+}
+
+/// Whether the journal of such a machine leads to the same board; None if an event is refused the second time.
+pub(super) fn leads_there(alloc: Global, machine: &mut Machine<Pins>) -> Option<bool> {
+    let boot = machine.boot_numbers();
+    let mut other = looping(alloc, boot.cpus, boot.capacity)?;
+    leads_to(machine, &mut other)
 }

@@ -70,7 +70,7 @@ static void texts(void)
 
 static void heap(void)
 {
-	char *one = malloc(100), *two = calloc(10, 10), *three;
+	char *one = malloc(100), *two = calloc(10, 10), *three, *volatile none;
 	int i;
 
 	assert(one && two && (uintptr_t)one % 16 == 0);
@@ -84,7 +84,8 @@ static void heap(void)
 	three = malloc(400);
 	assert(three == (char *)two || three != NULL);
 	free(three);
-	assert(!malloc(1 << 24) && errno == ENOMEM);
+	none = malloc(1 << 24);
+	assert(!none && errno == ENOMEM);
 }
 
 static int compare(const void *one, const void *other)

@@ -2,7 +2,6 @@
 #include <error.h>
 #include <pthread.h>
 #include <stdio.h>
-#include <string.h>
 #include <unistd.h>
 #include <evl/thread.h>
 
@@ -14,7 +13,8 @@ static int __attribute__((noinline)) deep(int levels)
 {
 	volatile char frame[512];
 
-	memset((char *)frame, levels, sizeof(frame));
+	for (size_t i = 0; i < sizeof(frame); i++)
+		frame[i] = levels;
 	return levels ? deep(levels - 1) + frame[0] : frame[0];
 }
 
