@@ -9,13 +9,14 @@
 
 static char room[2 * STACK_SIZE] __attribute__((aligned(16)));
 
-static int __attribute__((noinline)) deep(int levels)
+static int __attribute__((noinline)) deep(int levels, volatile char *above)
 {
 	volatile char frame[512];
 
-	for (size_t i = 0; i < sizeof(frame); i++)
-		frame[i] = levels;
-	return levels ? deep(levels - 1) + frame[0] : frame[0];
+	for (size_t i = 0; i < sizeof(frame); i += 8)
+		frame[i] = 200 + levels;
+	above[0] = levels;
+	return levels ? deep(levels - 1, frame) + frame[0] : frame[0];
 }
 
 static void *thread(void *arg)
@@ -24,7 +25,7 @@ static void *thread(void *arg)
 
 	if (ret < 0)
 		error(1, -ret, "evl_attach_self()");
-	*(int *)arg = deep(8);
+	*(int *)arg = deep(8, room);
 	evl_switch_oob();
 	return NULL;
 }
