@@ -14,7 +14,9 @@ Example:
 pub(crate) const VIEW_HELP: &str = "\
 OUT gets an SVG picture, which any browser shows. If OUT is -, the picture goes to standard output.
 Of a long run neighbouring events are drawn in one column: cut a window by --from and --to.
-docs/VIEW.md describes the signs.
+If the name of OUT ends in .html, it gets a page in place of the picture: the whole run, which a
+browser zooms, searches and explains. It opens at the events of --from and --to. docs/VIEW.md
+describes both.
 
 Statuses:
   0  the picture or the text is written
@@ -26,6 +28,7 @@ Statuses:
 Example:
   evltool run sum.elf < sum.script > sum.journal
   vardozek view sum.elf sum.journal sum.svg
+  vardozek view sum.elf sum.journal sum.html
   vardozek view --text --from 20 --to 60 sum.elf sum.journal
   vardozek view diff sum.elf sum.journal other.journal";
 
