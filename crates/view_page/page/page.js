@@ -261,11 +261,16 @@ class Run {
       this.state.wire.set(key, true);
       if (!merged) this.bar(lane, event, 'wire');
     } else if (passage === 1) {
+      // one that is in the log already merges there
+      const merged = this.state.log.get(key);
       this.state.wire.set(key, false);
-      this.mark(lane, event, 'received');
+      this.state.log.set(key, true);
+      this.mark(lane, event, merged ? 'merges' : 'received');
+      if (merged) this.noted(`merges${key}`, event);
       this.bar(lane, event, 'log');
     } else {
       const lost = passage === 3 && !this.wakesLine(line);
+      this.state.log.set(key, false);
       this.mark(lane, event, lost ? 'lost' : 'played');
       this.bar(lane, event, this.state.wire.get(key) ? 'wire' : null);
       this.mark(this.stageLane(cpu, passage - 2), event, lost ? 'lost' : 'played');
@@ -316,6 +321,7 @@ class Run {
   }
   end() {
     for (const lane of this.lanes) {
+      lane.last = lane.open;
       this.bar(lane, Math.max(this.count, 1), null);
       if (lane.stalled !== null && lane.stalled !== undefined) { lane.stalls.from.push(lane.stalled); lane.stalls.to.push(this.count); }
     }
@@ -445,8 +451,8 @@ function barLook(lane, what, note, colours) {
     case 'ready-1': return { fill: colours.ready, ink: colours.ink, text: 'ready in-band', low: true };
     case 'waits': return { fill: colours.wait, frame: colours.alarm, ink: colours.ink, text: `waits: ${waitName(note >> 8, note & 255)}`, thin: true };
     case 'waiting': return { fill: colours.wait, frame: colours.alarm, ink: colours.ink, text: `waits: task ${note}`, thin: true };
-    case 'wire': return { fill: colours.alarm, ink: colours.paper, text: 'on the wire', thin: true };
-    case 'log': return { fill: colours.ready, ink: colours.ink, text: 'in the log', thin: true };
+    case 'wire': return { fill: colours.alarm, ink: colours.ink, text: '', narrow: true };
+    case 'log': return { fill: colours.ready, ink: colours.ink, text: '', thin: true };
     default: return { fill: colours.ready, ink: colours.ink, text: '' };
   }
 }
@@ -460,6 +466,7 @@ function sign(pen, what, x, y, colours) {
     case 'raised': pen.shape(triangle(false), colours.alarm); break;
     case 'merged': pen.shape(triangle(false), colours.paper, colours.alarm); pen.line(x - 5, y + 6, x + 5, y + 6, colours.alarm, 1.5); break;
     case 'received': pen.circle(x, y, 4.5, colours.paper, colours.ink); break;
+    case 'merges': pen.circle(x, y, 4.5, colours.paper, colours.alarm); pen.line(x - 5, y + 7, x + 5, y + 7, colours.alarm, 1.5); break;
     case 'played': pen.circle(x, y, 4, colours.ink); break;
     case 'lost': pen.circle(x, y, 4.5, colours.paper, colours.alarm); pen.line(x - 4, y + 4, x + 4, y - 4, colours.alarm, 1.5); break;
     case 'puts': pen.shape(diamond, colours.good); break;
@@ -478,8 +485,8 @@ function sign(pen, what, x, y, colours) {
     default: pen.rectangle(x - 3, y - 3, 6, 6, colours.ink);
   }
 }
-const SIGNS = ['raised', 'merged', 'received', 'played', 'lost', 'puts', 'hollow', 'woken', 'rises', 'falls', 'stopped', 'expired'];
-const SIGN_WORDS = { raised: 'a line is raised', merged: 'raised, but it was on the wire: merged', received: 'received', played: 'played', lost: 'played in-band, and no task waited: lost', puts: 'a put, post or signal that woke a task',
+const SIGNS = ['raised', 'merged', 'received', 'merges', 'played', 'lost', 'puts', 'hollow', 'woken', 'rises', 'falls', 'stopped', 'expired'];
+const SIGN_WORDS = { raised: 'a line is raised', merged: 'raised while it is on the wire: merged', received: 'received', merges: 'received while it is in the log: merged', played: 'played', lost: 'played in-band, and no task waited: lost', puts: 'a put, post or signal that woke a task',
   hollow: 'one that woke nobody', woken: 'a wait ends', rises: 'a rank rises', falls: 'a rank falls', stopped: 'a stop, fault, deadline, notice or overrun', expired: 'a timer expires' };
 
 class Chart {
@@ -555,7 +562,7 @@ class Chart {
     flush(columns.length - 1);
   }
   box(pen, look, x, w, y, many) {
-    const top = look.thin ? y + 6 : look.low ? y + 8 : y + 3, h = look.thin ? LANE - 12 : look.low ? LANE - 11 : LANE - 6;
+    const top = look.narrow ? y + 9 : look.thin ? y + 6 : look.low ? y + 8 : y + 3, h = look.narrow ? 4 : look.thin ? LANE - 12 : look.low ? LANE - 11 : LANE - 6;
     pen.rectangle(x, top, Math.max(1, w), h, look.fill, w > 3 && !many ? look.frame : undefined);
     if (look.frame && (many || w <= 3)) pen.rectangle(x, top, Math.max(1, w), 1.5, look.frame);
   }
@@ -634,7 +641,7 @@ class Chart {
     pen.line(u, RULER, u, height, colours.mark, 0.7, [1, 4]);
   }
 }
-const ALARMS = new Set(['merged', 'lost', 'hollow', 'faulted', 'deadline', 'notice', 'overrun', 'stopped']);
+const ALARMS = new Set(['merged', 'merges', 'lost', 'hollow', 'faulted', 'deadline', 'notice', 'overrun', 'stopped']);
 
 // ---- 6 words of an event
 const times = (n) => (n > 1 ? `, ${n} times` : '');
@@ -748,7 +755,7 @@ function linksOf(run, k) {
         effect(from(get(`1.${key}`), event + 1), `line ${line} is received by processor ${cpu}`);
         if ((get(`merged${key}`) ?? []).length && from(get(`merged${key}`), event) === event) cause(before(get(`0.${key}`), event), `line ${line} was on the wire already: the raises merge`);
       }
-      if (passage === 1) { cause(before(get(`0.${key}`), event + 1), `line ${line} is raised`); effect(from(get(`2.${key}`), event + 1), `line ${line} is played`); }
+      if (passage === 1) { cause(before(get(`0.${key}`), event + 1), `line ${line} is raised`); if (from(get(`merges${key}`), event) === event) cause(before(get(`1.${key}`), event), `line ${line} is in the log already`); effect(from(get(`2.${key}`), event + 1), `line ${line} is played`); }
       if (passage > 1) cause(before(get(`1.${key}`), event + 1), `line ${line} is received`);
       return;
     }
@@ -789,6 +796,7 @@ function warningsOf(run, k) {
       const what = lane.marks.what[at];
       if (what === 'hollow') words.push(`It woke nobody: no task waited for ${lane.name.replace('event', 'event object')}.`);
       if (what === 'merged') words.push(`${lane.name} was on the wire already: the two raises merge into one.`);
+      if (what === 'merges') words.push(`${lane.name} was in the log already: what was received before and this merge into one play.`);
       if (what === 'lost' && lane.kind === 'line') words.push(`No task waited for line ${lane.line}: it is lost.`);
       if (what === 'overrun') words.push(`${lane.name} expired before its last expiry was asked for: an overrun.`);
     }
@@ -977,8 +985,9 @@ class Page {
     const words = [];
     for (const lane of run.lanes) {
       if (lane.kind !== 'task') continue;
-      const i = below(lane.bars.to, event + 0.5 > run.count ? run.count : event + 0.5);
-      if (i < lane.bars.from.length && lane.bars.from[i] <= event) words.push(`${lane.name}: ${barLook(lane, lane.bars.what[i], lane.bars.note[i], this.colours).text}${lane.bars.what[i] === 'waits' ? ` since event ${lane.bars.from[i] - 1}` : ''}`);
+      const i = below(lane.bars.to, event + 0.5), isEnd = event >= run.count;
+      const bar = isEnd ? lane.last : i < lane.bars.from.length && lane.bars.from[i] <= event ? { from: lane.bars.from[i], what: lane.bars.what[i], note: lane.bars.note[i] } : null;
+      if (bar) words.push(`${lane.name}: ${barLook(lane, bar.what, bar.note, this.colours).text}${bar.what === 'waits' ? ` since event ${bar.from - 1}` : ''}`);
     }
     return words.slice(0, 12).join('; ') + (words.length > 12 ? `; and ${words.length - 12} more` : '');
   }

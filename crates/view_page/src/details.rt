@@ -1,10 +1,11 @@
 //! What an entry says beside the marks, so that the page can tell of calls, devices, tasks and timers in words.
 
+ghost use Rattle.std.specs.Prelude.{◌<◌};
+
 use crate::heads::place_number;
 use crate::marks::stage_number;
 use evm_dev::Device;
 use evm_exec::Hart;
-use evm_isa::{Inst, Register, decode};
 use evm_model::{Class, Event, PROCESSOR_LIMIT, Stage, TIMER_LIMIT, TaskState, Timer};
 use evm_room::Refused;
 use evm_timeline::{Item, Look, Machine, Mark};
@@ -23,6 +24,23 @@ const DEVICES_END: u64 = 0x1000_8000;
 const DEVICE_BYTES: u64 = 0x1000;
 
 const REGISTER_BYTES: u64 = 8;
+
+/// The words of an ECALL, and the low 7 bits of it, of loads and of stores.
+const ECALL: u32 = 0x73;
+
+const SYSTEM: u32 = 0x73;
+
+const LOAD: u32 = 0x03;
+
+const STORE: u32 = 0x23;
+
+// The five bits of a word from a place on: the number of a register.
+fn field(word: u32, place: u32) -> u32
+    requires { place < 32 }
+    ensures { result < 32 }
+{
+    (word >> place) & 31
+}
 
 /// What is known of a machine before the next event.
 #[derive(Clone, Copy)]
@@ -138,11 +156,6 @@ fn put_object<D: Device>(
     }
 }
 
-// The address of an access.
-fn address_of(hart: &Hart, base: Register, offset: i32) -> u64 {
-    hart.register(base).wrapping_add_signed(i64::from(offset))
-}
-
 // An access of a register of a device.
 fn put_access(row: &mut Vec<u64>, code: u64, address: u64, value: u64) -> Result<(), Refused> {
     if address < DEVICES || address >= DEVICES_END {
@@ -169,24 +182,42 @@ fn word_at<D: Device>(machine: &Machine<D>, pc: u64) -> Option<u32> {
     }
 }
 
-// The instruction at an address.
-fn instruction_at<D: Device>(machine: &Machine<D>, pc: u64) -> Option<Inst> {
-    let word = word_at(machine, pc)?;
-    decode(word)
+// A register by its number.
+fn register(hart: &Hart, number: u32) -> u64 {
+    match hart.regs.get(number as usize) {
+        Some(value) => *value,
+        None => 0,
+    }
+}
+
+// The base of an access and its offset, which has 12 bits with a sign.
+fn address_of(hart: &Hart, word: u32, offset: u32) -> u64 {
+    let address = register(hart, field(word, 15)).wrapping_add(u64::from(offset));
+    if offset < 2_048 {
+        address
+    } else {
+        address.wrapping_sub(4_096)
+    }
 }
 
 // A load, whose address is known where it is not lost to what was loaded.
-fn put_load(
-    row: &mut Vec<u64>,
-    hart: &Hart,
-    rd: Register,
-    rs1: Register,
-    offset: i32,
-) -> Result<(), Refused> {
-    if rd == rs1 {
+fn put_load(row: &mut Vec<u64>, hart: &Hart, word: u32) -> Result<(), Refused> {
+    let to = field(word, 7);
+    if to == field(word, 15) {
         return Ok(());
     }
-    put_access(row, 203, address_of(hart, rs1, offset), hart.register(rd))
+    let address = address_of(hart, word, word >> 20);
+    put_access(row, 203, address, register(hart, to))
+}
+
+fn put_store(row: &mut Vec<u64>, hart: &Hart, word: u32) -> Result<(), Refused> {
+    let offset = (word >> 25) * 32 + field(word, 7);
+    put_access(
+        row,
+        202,
+        address_of(hart, word, offset),
+        register(hart, field(word, 20)),
+    )
 }
 
 // What an instruction did: a call, or an access of a device.
@@ -197,27 +228,13 @@ fn put_instruction<D: Device>(
     caller: (u8, u64),
     pc: u64,
 ) -> Result<(), Refused> {
-    let Some(hart) = machine.lent_hart(caller.0) else {
+    let (Some(hart), Some(word)) = (machine.lent_hart(caller.0), word_at(machine, pc)) else {
         return Ok(());
     };
-    match instruction_at(machine, pc) {
-        Some(Inst::Ecall) => put_call(row, machine, look, caller, pc),
-        Some(
-            Inst::Store {
-                rs1,
-                rs2,
-                offset,
-                ..
-            },
-        ) => put_access(row, 202, address_of(hart, rs1, offset), hart.register(rs2)),
-        Some(
-            Inst::Load {
-                rd,
-                rs1,
-                offset,
-                ..
-            },
-        ) => put_load(row, hart, rd, rs1, offset),
+    match word & 0x7f {
+        SYSTEM if word == ECALL => put_call(row, machine, look, caller, pc),
+        STORE => put_store(row, hart, word),
+        LOAD => put_load(row, hart, word),
         _ => Ok(()),
     }
 }

@@ -19,6 +19,7 @@ fn put_long(row: &mut Vec<u64>, code: u64, value: u64) -> Result<(), Refused>
 }
 
 // An event of no processor.
+#[tactic(auto, unfolding(crate::specs::Entries::machine_numbers))]
 fn put_machine_event(row: &mut Vec<u64>, event: &Event<u8>) -> Result<(), Refused>
     ensures { OnOk result (row.new.items ≡ row.old.items ++ machine_numbers event.now) }
 {
@@ -35,6 +36,7 @@ fn put_machine_event(row: &mut Vec<u64>, event: &Event<u8>) -> Result<(), Refuse
 }
 
 // An event of a processor, or of none.
+#[tactic(auto, unfolding(crate::specs::Entries::event_numbers))]
 fn put_event(row: &mut Vec<u64>, event: &Event<u8>, quiet: bool) -> Result<(), Refused>
     ensures { OnOk result (row.new.items ≡ row.old.items ++ event_numbers quiet event.now) }
 {
@@ -88,6 +90,7 @@ fn put_count(row: &mut Vec<u64>, count: u32) -> Result<(), Refused>
 }
 
 /// Appends the numbers of an item: its event, where its instruction is, and how many events it has.
+#[tactic(auto, unfolding(crate::specs::Entries::head_numbers))]
 pub(crate) fn put_head(row: &mut Vec<u64>, item: &Item) -> Result<(), Refused>
     ensures { OnOk result (row.new.items ≡ row.old.items ++ head_numbers item.now) }
 {

@@ -87,6 +87,7 @@ fn put_wait(row: &mut Vec<u64>, wait: Wait) -> Result<(), Refused>
 }
 
 // A mark of a processor; of another nothing.
+#[tactic(auto, unfolding(crate::specs::Entries::processor_numbers))]
 fn put_processor_mark(row: &mut Vec<u64>, mark: &Mark) -> Result<(), Refused>
     ensures { OnOk result (row.new.items ≡ row.old.items ++ processor_numbers mark.now) }
 {
@@ -114,6 +115,7 @@ fn put_processor_mark(row: &mut Vec<u64>, mark: &Mark) -> Result<(), Refused>
 }
 
 // A mark of a task, a mutex or the machine; of a processor nothing.
+#[tactic(auto, unfolding(crate::specs::Entries::task_numbers))]
 fn put_task_mark(row: &mut Vec<u64>, mark: &Mark) -> Result<(), Refused>
     ensures { OnOk result (row.new.items ≡ row.old.items ++ task_numbers mark.now) }
 {
@@ -148,6 +150,7 @@ fn put_task_mark(row: &mut Vec<u64>, mark: &Mark) -> Result<(), Refused>
     }
 }
 
+#[tactic(auto, unfolding(crate::specs::Entries::mark_numbers))]
 fn put_mark(row: &mut Vec<u64>, mark: &Mark) -> Result<(), Refused>
     ensures { OnOk result (row.new.items ≡ row.old.items ++ mark_numbers mark.now) }
 {

@@ -31,14 +31,14 @@ pub struct Run<'a> {
 fn push_walk<D: Device, M: Meter>(
     alloc: Global,
     out: &mut String,
-    header: &str,
+    header: &[u8],
     walk: &mut Walk<D>,
     meter: &mut M,
 ) -> Result<(), WalkStop>
     ensures { OnOk result ((start : List ℕ) × (entries : List Entry) × TellsAll walk.old entries × (string_bytes out.new ≡ string_bytes out.old ++ run_text header.now start entries)) }
 {
     push_text(out, "<script type=\"application/json\" class=\"about\">")?;
-    push_safe(out, header.as_bytes())?;
+    push_safe(out, header)?;
     push_text(
         out,
         "</script>\n<script type=\"application/json\" class=\"run\">",
@@ -65,7 +65,7 @@ pub fn push_journal<D: Device, M: Meter>(
 {
     let header = about_text(alloc, &run.about)?;
     let mut walk = Walk::start(alloc, image, devices, run.journal)?;
-    push_walk(alloc, out, header.as_str(), &mut walk, meter)
+    push_walk(alloc, out, header.as_bytes(), &mut walk, meter)
 }
 
 /// What stands in a page before its runs.

@@ -46,6 +46,7 @@ fn put_start<D: Device>(
 }
 
 // The row of an item, with its marks and its details.
+#[tactic(auto, unfolding(crate::specs::Entries::entry_numbers))]
 fn put_entry(
     row: &mut Vec<u64>,
     item: &Item,
@@ -60,6 +61,7 @@ fn put_entry(
 }
 
 // Appends an entry.
+#[tactic(auto, unfolding(crate::specs::Entries::entry_text))]
 fn push_entry(
     out: &mut String,
     row: &mut Vec<u64>,
@@ -113,7 +115,7 @@ fn push_entries<D: Device, M: Meter>(
     let mut row = Vec::new(alloc);
     let mut details = Vec::new(alloc);
     let mut known = Known::new();
-    for _item in walk.next_event()..u64::MAX {
+    for _item in walk.next_event()..walk.event_count() {
         known.look(walk.machine());
         let Some(item) = walk.next(&mut found)? else {
             break;
@@ -122,6 +124,7 @@ fn push_entries<D: Device, M: Meter>(
         push_entry(out, &mut row, &item, found.as_slice(), details.as_slice())?;
         meter.passed(walk.next_event());
     }
+    let _ = walk.next_event();
     Ok(())
 }
 
