@@ -12,7 +12,7 @@ use evm_devs::AnyDevice;
 use evm_host::{Devices, Ending, Sink, System, World, ended, not_created};
 use evm_program::{Meter, program_devices};
 use std::alloc::Global;
-use view_page::{About, Run, page_head, push_journal, push_tail};
+use view_page::{About, ToldRun, page_head, push_journal, push_tail};
 
 /// A journal whose run a page tells.
 #[derive(Clone, Copy)]
@@ -26,7 +26,7 @@ pub(crate) struct Side<'a> {
 }
 
 // What the page says of a run.
-fn run_of<'a>(input: &Input<'a>, side: Side<'a>) -> Run<'a>
+fn run_of<'a>(input: &Input<'a>, side: Side<'a>) -> ToldRun<'a>
     ensures { result.journal.now ≡ side.journal.now }
 {
     let about = About {
@@ -37,7 +37,7 @@ fn run_of<'a>(input: &Input<'a>, side: Side<'a>) -> Run<'a>
         to: input.job.window.to,
         parts: side.parts,
     };
-    Run {
+    ToldRun {
         about,
         journal: side.journal,
     }

@@ -12,7 +12,7 @@ pub(crate) struct Job<'a> {
     pub(crate) journal: &'a str,
     /// The file of the journal that it is compared with.
     pub(crate) other: Option<&'a str>,
-    /// Where the two part is what is asked for: not only a page of both.
+    /// Whether it is to be said where the two part; a page of both says it by itself.
     pub(crate) compares: bool,
     /// The file that the picture is written to; `-` is standard output.
     pub(crate) out: Option<&'a str>,

@@ -19,7 +19,7 @@ browser zooms, searches and explains. It opens at the events of --from and --to.
 describes both.
 
 Statuses:
-  0  the picture or the text is written
+  0  the picture, the page or the text is written
   1  a journal is bad or refused, or memory ran out; diff: the journals part
   2  the command line is wrong
   3  IMAGE is no image
@@ -35,7 +35,8 @@ Example:
 /// Behind the help of `view diff`.
 pub(crate) const DIFF_HELP: &str = "\
 Prints the number of the first event of JOURNAL that OTHER doesn't have there, and both events. OUT
-gets a picture of JOURNAL in which it is marked; with --text it is marked in characters.
+gets a picture of JOURNAL in which it is marked, or a page of both if its name ends in .html; with
+--text it is marked in characters.
 
 Statuses:
   0  the journals are alike

@@ -11,7 +11,7 @@ use Rattle.view_row.specs.Texts.{IsSafe}
 use Rattle.view_row.proofs.Loops.{flat-append}
 use Rattle.view_row.proofs.Safe.{safe-append, safe-row}
 use Rattle.view_page.specs.Entries.{Entry, entries_text, entry_numbers, entry_text}
-use Rattle.view_page.specs.Pages.{AddsRun, IsRun, Tells, TellsAll, TellsNext}
+use Rattle.view_page.specs.Pages.{AddsRun, IsToldRun, TellsEntries, TellsAll, TellsNext}
 use Rattle.view_page.specs.Texts.{run_text}
 
 -- ---- safe
@@ -37,14 +37,14 @@ safe-run start entries = (
 )
 
 -- ---- one entry more
-pub tells-more : (walk mid to : Walked) (entries : List Entry) (entry : Entry) → Tells walk entries mid → TellsNext mid entry to → Tells walk (entries ++ (entry ∷ [])) to
+pub tells-more : (walk mid to : Walked) (entries : List Entry) (entry : Entry) → TellsEntries walk entries mid → TellsNext mid entry to → TellsEntries walk (entries ++ (entry ∷ [])) to
 tells-more walk mid to [] entry told more = (to, subst (λ w. TellsNext w entry to) (sym told) more, refl)
 tells-more walk mid to (one ∷ entries) entry told more = (told.0, told.1, tells-more told.0 mid to entries entry told.2 more)
 
 -- what is true of a walk, where it began and the text, behind some entries
 pub record Comes (walk mid : Walked) (old new : List ℕ) (at : ℕ) : Type 0 where
   pub entries : List Entry
-  pub tells : Tells walk entries mid
+  pub tells : TellsEntries walk entries mid
   pub text : new ≡ old ++ flat_map entry_text entries
   pub passed : at ≤ place mid
   pub events : mid.events ≡ walk.events

@@ -65,18 +65,18 @@ abbrev pub stage_number : Stage → ℕ
 stage_number OutOfBand = 0
 stage_number InBand = 1
 
-abbrev pub fault_number : Fault → ℕ
-fault_number faults.Misaligned = 0
-fault_number faults.Fetch = 1
-fault_number faults.Illegal = 2
-fault_number faults.Load = 5
-fault_number faults.Store = 7
+abbrev pub fault_code : Fault → ℕ
+fault_code faults.Misaligned = 0
+fault_code faults.Fetch = 1
+fault_code faults.Illegal = 2
+fault_code faults.Load = 5
+fault_code faults.Store = 7
 
-abbrev pub notice_number : NoticeKind → ℕ
-notice_number DemotedByCall = 1
-notice_number DemotedByFault = 2
-notice_number Deadlock = 3
-notice_number NotOwner = 4
+abbrev pub notice_code : NoticeKind → ℕ
+notice_code DemotedByCall = 1
+notice_code DemotedByFault = 2
+notice_code Deadlock = 3
+notice_code NotOwner = 4
 
 -- 0, or 1 more than the number of a task
 abbrev pub owner_number : Option ℕ → ℕ
@@ -116,10 +116,10 @@ task_numbers (marks.Deadline task tick) = 113 ∷ task ∷ tick ∷ []
 task_numbers (marks.Moves task stage) = 114 ∷ task ∷ stage_number stage ∷ []
 task_numbers (marks.Rank task from to) = 115 ∷ task ∷ from ∷ to ∷ []
 task_numbers (marks.Ended task) = 116 ∷ task ∷ []
-task_numbers (marks.Faulted task fault) = 117 ∷ task ∷ fault_number fault ∷ []
+task_numbers (marks.Faulted task fault) = 117 ∷ task ∷ fault_code fault ∷ []
 task_numbers (marks.Owner mutex from to) = 118 ∷ mutex ∷ owner_number from ∷ owner_number to ∷ []
 task_numbers (marks.Ticked times) = 119 ∷ times ∷ []
-task_numbers (marks.Notice kind task times) = 120 ∷ notice_number kind ∷ task ∷ times ∷ []
+task_numbers (marks.Notice kind task times) = 120 ∷ notice_code kind ∷ task ∷ times ∷ []
 task_numbers _ = []
 
 unfoldable pub mark_numbers : Mark → List ℕ

@@ -13,18 +13,18 @@ pub record TellsNext (before : Walked) (entry : Entry) (after : Walked) : Type 0
   pub follows : Follows before after
 
 -- the entries tell of the items from one place to another, in their order: each event between them is in one entry, and in no other
-abbrev pub Tells : Walked → List Entry → Walked → Type 0
-Tells from [] to = from ≡ to
-Tells from (entry ∷ entries) to = (next : Walked) × TellsNext from entry next × Tells next entries to
+abbrev pub TellsEntries : Walked → List Entry → Walked → Type 0
+TellsEntries from [] to = from ≡ to
+TellsEntries from (entry ∷ entries) to = (next : Walked) × TellsNext from entry next × TellsEntries next entries to
 
 -- .. up to the end of the journal
 pub record TellsAll (walk : Walked) (entries : List Entry) : Type 0 where
   pub to : Walked
-  pub tells : Tells walk entries to
+  pub tells : TellsEntries walk entries to
   pub ends : place to ≡ length to.events
 
 -- a text is the run of the journal with this text, on a machine with these devices and this image, as it stands in a page
-pub record IsRun (devices : List Attached) (image : Contents) (journal run : List ℕ) : Type 0 where
+pub record IsToldRun (devices : List Attached) (image : Contents) (journal run : List ℕ) : Type 0 where
   pub walk : Walked
   pub header : List ℕ
   pub start : List ℕ
@@ -34,8 +34,8 @@ pub record IsRun (devices : List Attached) (image : Contents) (journal run : Lis
   pub text : run ≡ run_text header start entries
 
 abbrev pub AddsRun : List Attached → Contents → List ℕ → List ℕ → List ℕ → Type 0
-AddsRun devices image journal old new = (run : List ℕ) × IsRun devices image journal run × (new ≡ old ++ run)
+AddsRun devices image journal old new = (run : List ℕ) × IsToldRun devices image journal run × (new ≡ old ++ run)
 
 -- a page has this run
 abbrev pub HasRun : List Attached → Contents → List ℕ → List ℕ → Type 0
-HasRun devices image journal page = (front run back : List ℕ) × IsRun devices image journal run × (page ≡ front ++ (run ++ back))
+HasRun devices image journal page = (front run back : List ℕ) × IsToldRun devices image journal run × (page ≡ front ++ (run ++ back))

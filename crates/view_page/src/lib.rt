@@ -14,4 +14,4 @@ mod telling;
 
 pub use about::{About, about_text};
 pub use laws::runs_are_safe;
-pub use page::{Run, page_head, push_journal, push_tail};
+pub use page::{ToldRun, page_head, push_journal, push_tail};

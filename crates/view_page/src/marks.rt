@@ -1,7 +1,7 @@
 //! What an entry says of a mark: numbers of its row.
 
 ghost use Rattle.std.specs.Prelude.{◌≡◌, ◌<◌, ◌++◌, OnOk, flat_map};
-ghost use Rattle.view_page.specs.Entries.{fault_number, line_numbers, mark_numbers, notice_number, owner_number, processor_numbers, stage_number, task_numbers, wait_numbers, yes};
+ghost use Rattle.view_page.specs.Entries.{fault_code, line_numbers, mark_numbers, notice_code, owner_number, processor_numbers, stage_number, task_numbers, wait_numbers, yes};
 
 use evm_model::{Fault, NoticeKind, Stage, Wait};
 use evm_room::Refused;
@@ -24,8 +24,8 @@ pub(crate) fn stage_number(stage: Stage) -> u64
     }
 }
 
-fn fault_number(fault: Fault) -> u64
-    ensures { result ≡ fault_number fault }
+fn fault_code(fault: Fault) -> u64
+    ensures { result ≡ fault_code fault }
 {
     match fault {
         Fault::Misaligned => 0,
@@ -36,8 +36,8 @@ fn fault_number(fault: Fault) -> u64
     }
 }
 
-fn notice_number(kind: NoticeKind) -> u64
-    ensures { result ≡ notice_number kind }
+fn notice_code(kind: NoticeKind) -> u64
+    ensures { result ≡ notice_code kind }
 {
     match kind {
         NoticeKind::DemotedByCall => 1,
@@ -136,7 +136,7 @@ fn put_task_mark(row: &mut Vec<u64>, mark: &Mark) -> Result<(), Refused>
             &[115, u64::from(task), u64::from(from), u64::from(to)],
         ),
         Mark::Ended { task } => put(row, &[116, u64::from(task)]),
-        Mark::Faulted { task, fault } => put(row, &[117, u64::from(task), fault_number(fault)]),
+        Mark::Faulted { task, fault } => put(row, &[117, u64::from(task), fault_code(fault)]),
         Mark::Owner { mutex, from, to } => put(
             row,
             &[118, u64::from(mutex), owner_number(from), owner_number(to)],
@@ -144,7 +144,7 @@ fn put_task_mark(row: &mut Vec<u64>, mark: &Mark) -> Result<(), Refused>
         Mark::Ticked { times } => put(row, &[119, times]),
         Mark::Notice { kind, task, times } => put(
             row,
-            &[120, notice_number(kind), u64::from(task), times],
+            &[120, notice_code(kind), u64::from(task), times],
         ),
         _ => Ok(()),
     }

@@ -21,7 +21,7 @@ use view_row::push_safe;
 
 /// A run that a page tells of.
 #[derive(Clone, Copy)]
-pub struct Run<'a> {
+pub struct ToldRun<'a> {
     pub about: About<'a>,
     /// The text of the journal.
     pub journal: &'a str,
@@ -58,7 +58,7 @@ pub fn push_journal<D: Device, M: Meter>(
     out: &mut String,
     image: &Image,
     devices: Devices<D>,
-    run: &Run<'_>,
+    run: &ToldRun<'_>,
     meter: &mut M,
 ) -> Result<(), WalkStop>
     ensures { OnOk result (AddsRun devices image.now run.now.journal.now (string_bytes out.old) (string_bytes out.new)) }

@@ -35,30 +35,21 @@ const WRITTEN = { 33: 1 };
 const ERRNOS = { 1: 'EPERM', 3: 'ESRCH', 11: 'EAGAIN', 12: 'ENOMEM', 16: 'EBUSY', 22: 'EINVAL', 35: 'EDEADLK', 38: 'ENOSYS', 110: 'ETIMEDOUT' };
 const PASSAGES = ['raised', 'received', 'played', 'played'];
 
-// Calls `see` for each part of a row: its code, the row, and where its numbers begin.
-function eachPart(row, see) {
-  const code = row[0];
-  let i = code < 16 ? 2 : code < 32 ? 2 : code < 56 ? 1 : code < 64 ? 4 : code < 72 ? 3 : code === CLOCK ? 1 : code === 73 ? 4 : 3;
-  while (i < row.length) {
-    const part = row[i];
-    see(part, i + 1);
-    i += 1 + partLength(row, i);
-  }
-}
+// Of each part the numbers behind its code; of a call they depend on its number.
+const LENGTHS = new Int32Array(256).fill(99);
+for (const [length, codes] of Object.entries({ 1: [PLACES, 101, 110, 116, 119, 201], 2: [102, 113, 114, 117], 3: [100, 103, 111, 112, 115, 118, 120, 202, 203], 5: [205], 7: [204] })) for (const code of codes) LENGTHS[code] = length;
+// What stands before the parts of a row, by the code of its event.
+const HEADS = new Int32Array(256).fill(3);
+for (let code = 0; code < CLOCK; code += 1) HEADS[code] = code < 32 ? 2 : code < 56 ? 1 : code < 64 ? 4 : 3;
+HEADS[CLOCK] = 1; HEADS[73] = 4;
 function partLength(row, i) {
   const part = row[i];
-  if (part >= 3000) return 1;
-  if (part >= 1000) return 0;
-  switch (part) {
-    case PLACES: return 1;
-    case 100: case 103: case 112: case 111: case 115: case 118: case 120: case 203: case 202: return 3;
-    case 101: case 110: case 116: case 119: case 201: return 1;
-    case 102: case 113: case 114: case 117: return 2;
-    case 200: { const number = row[i + 1]; return 2 + (WRITTEN[number] ?? (CALLS[number] ? CALLS[number][1].length : 0)); }
-    case 204: return 7;
-    case 205: return 5;
-    default: return row.length;
-  }
+  if (part >= 1000) return part >= 3000 ? 1 : 0;
+  return part === 200 ? 2 + (WRITTEN[row[i + 1]] ?? CALLS[row[i + 1]]?.[1].length ?? 0) : LENGTHS[part];
+}
+// Calls `see` for each part of a row: its code, and where its numbers begin.
+function eachPart(row, see) {
+  for (let i = HEADS[row[0]]; i < row.length; i += 1 + partLength(row, i)) see(row[i], i + 1);
 }
 // A mark of a line: how far it came, its processor, its number, how often.
 function lineOf(part, row, i) {
@@ -78,6 +69,8 @@ class Run {
     this.count = 0; // events
     this.first = new Float64Array(rows.length + 1); // of each entry, its first event
     this.steps = new Float64Array(rows.length + 1); // and how many Steps stand before it
+    this.lines = new Float64Array(rows.length + 1); // and the line of a script that makes it, and that line's first event
+    this.begins = new Float64Array(rows.length + 1);
     this.ticks = []; // the events that are ticks
     this.lanes = [];
     this.byKey = new Map();
@@ -102,11 +95,12 @@ class Run {
     else if (list[list.length - 1] !== event) list.push(event);
   }
   read() {
+    this.stages = [];
+    this.lineLanes = [];
     for (let cpu = 0; cpu < this.cpus; cpu += 1) {
-      this.stageLane(cpu, 0);
-      this.stageLane(cpu, 1);
+      for (const stage of [0, 1]) this.stages.push(this.lane(`cpu${cpu}.${stage}`, cpu * 100 + stage, `cpu ${cpu} ${STAGES[stage]}`, 'stage', { cpu, stage, stalls: { from: [], to: [] }, stalled: null }));
     }
-    this.state = { running: [], wire: new Map(), log: new Map(), waits: new Map(), due: new Map() };
+    this.state = { running: [], waits: new Map(), due: new Map() };
     let i = 3;
     const start = this.rows[0];
     while (i < start.length) {
@@ -114,13 +108,18 @@ class Run {
       if (start[i] === 100) this.runs(start[i + 1], start[i + 2], start[i + 3], 0);
       i += 1 + partLength(start, i);
     }
-    let event = 0, steps = 0;
+    let event = 0, steps = 0, line = -1, begins = 0, stepping = -1;
     for (let k = 1; k < this.rows.length; k += 1) {
       const row = this.rows[k];
       this.first[k] = event;
       this.steps[k] = steps;
       const quiet = row[0] < 8;
       const count = quiet && row[2] === PLACES ? row[3] : 1;
+      const cpu = row[0] < 16 ? row[0] & 7 : -1;
+      if (cpu < 0 || cpu !== stepping) { line += 1; begins = event; stepping = cpu; }
+      this.lines[k] = line;
+      this.begins[k] = begins;
+      if (cpu >= 0) this.nameTask(row);
       if (!quiet || row.length > 4) this.readEntry(row, event);
       if (row[0] < 16 || (row[0] >= 48 && row[0] < 56)) steps += count;
       event += count;
@@ -132,15 +131,22 @@ class Run {
     this.steps[this.rows.length] = steps;
     this.end();
   }
-  stageLane(cpu, stage) {
-    return this.lane(`cpu${cpu}.${stage}`, cpu * 100 + stage, `cpu ${cpu} ${STAGES[stage]}`, 'stage', { cpu, stage, stalls: { from: [], to: [] }, stalled: null });
-  }
+  stageLane(cpu, stage) { return this.stages[cpu * 2 + stage]; }
   newTask(row, i, event) {
     const [task, cpu, stage, rank, kind, priority, place] = row.slice(i, i + 7);
     const entry = place > 1 ? this.symbolAt(RAM + place - 2) : null;
-    this.tasks[task] = { number: task, cpu, stage, rank, kind, priority, entry, created: event };
-    const lane = this.lane(`task${task}`, 2000 + task, `task ${task}${entry && !entry.offset ? ` ${entry.name}` : ''}`, 'task', { task });
+    this.tasks[task] = { number: task, cpu, stage, rank, kind, priority, entry, created: event, name: null, looks: 0 };
+    const lane = this.lane(`task${task}`, 2000 + task, `task ${task}`, 'task', { task });
     this.bar(lane, event, stage === 0 ? 'ready-0' : 'ready-1');
+  }
+  // A task is named by the first function that it runs beside the one where it begins, which is often the same for all.
+  nameTask(row) {
+    const running = this.state.running[row[0] & 7], task = running && this.tasks[running.task];
+    if (!task || task.name || row[1] < 2) return;
+    task.looks += 1;
+    const symbol = this.symbolAt(RAM + row[1] - 2);
+    if (symbol && symbol.name !== task.entry?.name) task.name = symbol.name;
+    else if (task.looks > 64) task.name = task.entry?.name ?? '-';
   }
   // The bar that is open on a lane ends, and another begins, or none.
   bar(lane, event, what, note) {
@@ -177,12 +183,13 @@ class Run {
   readEntry(row, event) {
     const after = event + 1;
     const woken = [];
-    let called = null;
+    let called = null, runs = 0;
     this.row = row;
-    // what is done first: owners before waits, wakes before runs
-    eachPart(row, (part, i) => {
-      if (part >= 1000) { this.readLine(lineOf(part, row, i), event); return; }
+    for (let at = HEADS[row[0]]; at < row.length; at += 1 + partLength(row, at)) {
+      const part = row[at], i = at + 1;
+      if (part >= 1000) { this.readLine(part, row, i, event); continue; }
       switch (part) {
+        case 100: case 101: runs += 1; break;
         case 111: this.waits(row[i], row[i + 1], row[i + 2], event); break;
         case 112: woken.push([row[i + 1], row[i + 2]]); this.wakes(row[i], row[i + 1], row[i + 2], event); break;
         case 113: this.mark(this.taskLane(row[i]), event, 'deadline'); this.noted('deadline', event); break;
@@ -201,8 +208,9 @@ class Run {
         case 204: this.newTask(row, i, after); this.mark(this.taskLane(row[i]), event, 'created'); break;
         case 205: this.timer(row, i, event); break;
       }
-    });
-    eachPart(row, (part, i) => {
+    }
+    // who runs is said behind what became of tasks
+    if (runs) eachPart(row, (part, i) => {
       if (part === 100) this.runs(row[i], row[i + 1], row[i + 2], after);
       if (part === 101) this.runs(row[i], null, null, after);
     });
@@ -250,32 +258,38 @@ class Run {
     const lane = this.stageLane(cpu, stage);
     if (on) lane.stalled = event;
     else if (lane.stalled !== null) { lane.stalls.from.push(lane.stalled); lane.stalls.to.push(event); lane.stalled = null; }
-    this.noted(`stall${cpu}.${stage}`, event - 1);
   }
-  lineLane(cpu, line) { return this.lane(`line${cpu}.${line}`, cpu * 100 + 10 + line, `cpu ${cpu} line ${line}`, 'line', { cpu, line }); }
-  readLine({ passage, cpu, line, times }, event) {
-    const lane = this.lineLane(cpu, line), key = `${cpu}.${line}`;
-    this.noted(`${passage > 2 ? 2 : passage}.${key}`, event);
+  // Of a line of a processor its lane, and the events at which it came so far.
+  lineLane(cpu, line) {
+    const at = cpu * 32 + line;
+    return (this.lineLanes[at] ??= this.lane(`line${cpu}.${line}`, cpu * 100 + 10 + line, `cpu ${cpu} line ${line}`, 'line', { cpu, line, raised: [], received: [], played: [], merged: [], merges: [], wire: false, log: false }));
+  }
+  readLine(part, row, i, event) {
+    const once = part < 3000, place = part - (once ? 1000 : 3000), passage = place >> 8, cpu = (place >> 5) & 7, line = place & 31;
+    const lane = this.lineLane(cpu, line);
     if (passage === 0) {
-      const merged = this.state.wire.get(key);
-      this.mark(lane, event, merged || times > 1 ? 'merged' : 'raised');
-      if (merged) this.noted(`merged${key}`, event);
-      this.state.wire.set(key, true);
-      if (!merged) this.bar(lane, event, 'wire');
+      const merged = lane.wire;
+      lane.raised.push(event);
+      this.mark(lane, event, merged || !once ? 'merged' : 'raised');
+      if (merged) lane.merged.push(event);
+      else this.bar(lane, event, 'wire');
+      lane.wire = true;
     } else if (passage === 1) {
       // one that is in the log already merges there
-      const merged = this.state.log.get(key);
-      this.state.wire.set(key, false);
-      this.state.log.set(key, true);
+      const merged = lane.log;
+      lane.received.push(event);
+      lane.wire = false;
+      lane.log = true;
       this.mark(lane, event, merged ? 'merges' : 'received');
-      if (merged) this.noted(`merges${key}`, event);
+      if (merged) lane.merges.push(event);
       this.bar(lane, event, 'log');
     } else {
       const lost = passage === 3 && !this.wakesLine(line);
-      this.state.log.set(key, false);
+      lane.log = false;
+      lane.played.push(event);
       this.mark(lane, event, lost ? 'lost' : 'played');
-      this.bar(lane, event, this.state.wire.get(key) ? 'wire' : null);
-      this.mark(this.stageLane(cpu, passage - 2), event, lost ? 'lost' : 'played');
+      this.bar(lane, event, lane.wire ? 'wire' : null);
+      this.mark(this.stages[cpu * 2 + passage - 2], event, lost ? 'lost' : 'played');
     }
   }
   // Whether the entry that is read wakes a task that waited for a line; lines 0 and 1 are the kernels' own.
@@ -289,6 +303,7 @@ class Run {
   called({ number, outcome, object }, woken, event) {
     const wait = CALLS[number]?.[2];
     if (number === 1 && outcome >= 2) this.write(object & 255, event);
+    if ((number === 39 || number === 40) && outcome === 2) this.noted(`takes${SEMAPHORE * 256 + object}`, event);
     if (!wait || outcome < 2 || (outcome - 2) % 2) return;
     const key = wait * 256 + object;
     const hollow = !woken.some(([kind, n]) => (kind === wait && n === object)) && !this.movedOn(wait);
@@ -324,8 +339,16 @@ class Run {
   end() {
     for (const lane of this.lanes) {
       lane.last = lane.open;
+      // how many alarms stand before each mark
+      lane.alarms = new Int32Array(lane.marks.what.length + 1);
+      for (let i = 0; i < lane.marks.what.length; i += 1) lane.alarms[i + 1] = lane.alarms[i] + (ALARMS.has(lane.marks.what[i]) ? 1 : 0);
       this.bar(lane, Math.max(this.count, 1), null);
       if (lane.stalled !== null && lane.stalled !== undefined) { lane.stalls.from.push(lane.stalled); lane.stalls.to.push(this.count); }
+    }
+    for (const task of this.tasks) {
+      if (!task) continue;
+      task.name ??= task.entry?.name;
+      if (task.name && task.name !== '-') this.taskLane(task.number).name = `task ${task.number} ${task.name}`;
     }
     this.lanes.sort((one, two) => one.order - two.order);
   }
@@ -351,8 +374,8 @@ class Run {
     return best ? { name: best.s.name, offset: address - best.s.value } : null;
   }
   taskName(task) {
-    const entry = this.tasks[task]?.entry;
-    return entry && !entry.offset ? `task ${task} (${entry.name})` : `task ${task}`;
+    const name = this.tasks[task]?.name;
+    return name && name !== '-' ? `task ${task} (${name})` : `task ${task}`;
   }
 }
 
@@ -553,7 +576,7 @@ class Chart {
     let at = one, begun = 0, shown = null;
     const flush = (p) => { if (shown) { const look = barLook(lane, shown.what, shown.note, colours); this.box(pen, look, GUTTER + begun, p - begun, y, true); } };
     for (let p = 0; p + 1 < columns.length; p += 1) {
-      while (at < bars.to.length && bars.to[at] <= columns[p]) at += 1;
+      at = below(bars.to, columns[p] + 1e-9);
       let best = null, long = 0;
       for (let i = at; i < bars.from.length && i < at + 12 && bars.from[i] < columns[p + 1]; i += 1) {
         const length = Math.min(bars.to[i], columns[p + 1]) - Math.max(bars.from[i], columns[p]);
@@ -579,13 +602,22 @@ class Chart {
     }
   }
   drawStalls(pen, lane, y, width, columns, colours) {
-    const { from: begins, to: ends } = lane.stalls;
-    const one = below(ends, columns[0]), two = below(begins, columns[columns.length - 1]), step = Math.max(1, Math.floor((two - one) / (width - GUTTER)));
-    for (let i = one; i < two; i += step) {
-      const x = this.x(lane.run, begins[i], width), w = Math.max(1, this.x(lane.run, ends[i], width) - x);
+    const { from: begins, to: ends } = lane.stalls, one = below(ends, columns[0]), two = below(begins, columns[columns.length - 1]);
+    if (two - one > (width - GUTTER) / 8) { this.drawManyStalls(pen, lane, y, columns, colours); return; }
+    for (let i = one; i < two; i += 1) {
+      const x = Math.max(this.x(lane.run, begins[i], width), GUTTER), w = Math.max(1, this.x(lane.run, ends[i], width) - x);
       pen.rectangle(x, y + 1, w, LANE - 2, colours.stall);
       pen.line(x, y + LANE - 2, x + w, y + LANE - 2, colours.ink, 2, [3, 2]);
     }
+  }
+  // Of each second pixel whether the stage is stalled there.
+  drawManyStalls(pen, lane, y, columns, colours) {
+    const { from: begins, to: ends } = lane.stalls;
+    for (let p = 0; p + 1 < columns.length; p += 2) {
+      const i = below(ends, columns[p] + 1e-9);
+      if (i < begins.length && begins[i] <= columns[p]) pen.rectangle(GUTTER + p, y + 1, 1, LANE - 2, colours.stall);
+    }
+    pen.line(GUTTER, y + LANE - 2, GUTTER + columns.length, y + LANE - 2, colours.ink, 1, [2, 2]);
   }
   drawMarks(pen, lane, y, width, columns, colours) {
     const { at, what } = lane.marks, last = columns.length - 1;
@@ -601,8 +633,7 @@ class Chart {
     for (let p = 0, i = one; p < last; p += 2) {
       const end = below(at, columns[Math.min(last, p + 2)]);
       if (end > i) {
-        let alarm = false;
-        for (let j = i; j < end && j < i + 50; j += 1) if (ALARMS.has(what[j])) alarm = true;
+        const alarm = lane.alarms[end] > lane.alarms[i];
         const h = Math.min(LANE - 6, 3 + 3 * Math.log2(end - i + 1));
         pen.rectangle(GUTTER + p, y + LANE - 3 - h, 2, h, alarm ? colours.alarm : colours.dim);
       }
@@ -720,16 +751,8 @@ function allWords(run, k) {
 }
 // The line of the script that repeats the run up to an event and with it, and how many lines stand before it.
 function scriptLine(run, event) {
-  let lines = 0, last = null, n = 0;
-  const k = run.at(event);
-  for (let j = 1; j <= k; j += 1) {
-    const row = run.rows[j], code = row[0];
-    const count = j === k ? event - run.first[j] + 1 : run.first[j + 1] - run.first[j];
-    if (code < 16) {
-      if (last === (code & 7)) n += count; else { lines += 1; last = code & 7; n = count; }
-    } else { lines += 1; last = null; }
-  }
-  return { before: lines - 1, line: last === null ? eventWords(run, k) : `step ${last} ${n}` };
+  const k = run.at(event), code = run.rows[k][0];
+  return { before: run.lines[k], line: code < 16 ? `step ${code & 7} ${event - run.begins[k] + 1}` : eventWords(run, k) };
 }
 function script(run, event) {
   const lines = [`boot ${run.cpus} ${run.ram} ${run.capacity}`];
@@ -752,13 +775,17 @@ function linksOf(run, k) {
   const get = (key) => run.marks.get(key);
   eachPart(row, (part, i) => {
     if (part >= 1000) {
-      const { passage, cpu, line } = lineOf(part, row, i), key = `${cpu}.${line}`;
+      const { passage, cpu, line } = lineOf(part, row, i), lane = run.lineLane(cpu, line);
       if (passage === 0) {
-        effect(from(get(`1.${key}`), event + 1), `line ${line} is received by processor ${cpu}`);
-        if ((get(`merged${key}`) ?? []).length && from(get(`merged${key}`), event) === event) cause(before(get(`0.${key}`), event), `line ${line} was on the wire already: the raises merge`);
+        effect(from(lane.received, event + 1), `line ${line} is received by processor ${cpu}`);
+        if (from(lane.merged, event) === event) cause(before(lane.raised, event), `line ${line} was on the wire already: the raises merge`);
       }
-      if (passage === 1) { cause(before(get(`0.${key}`), event + 1), `line ${line} is raised`); if (from(get(`merges${key}`), event) === event) cause(before(get(`1.${key}`), event), `line ${line} is in the log already`); effect(from(get(`2.${key}`), event + 1), `line ${line} is played`); }
-      if (passage > 1) cause(before(get(`1.${key}`), event + 1), `line ${line} is received`);
+      if (passage === 1) {
+        cause(before(lane.raised, event + 1), `line ${line} is raised`);
+        if (from(lane.merges, event) === event) cause(before(lane.received, event), `line ${line} is in the log already`);
+        effect(from(lane.played, event + 1), `line ${line} is played`);
+      }
+      if (passage > 1) cause(before(lane.received, event + 1), `line ${line} is received`);
       return;
     }
     const task = row[i], name = run.taskName(task);
@@ -766,7 +793,8 @@ function linksOf(run, k) {
       const kind = row[i + 1], number = row[i + 2], key = (kind === RETAKE ? LOCK : kind) * 256 + number;
       effect(from(get(`woken${task}`), event + 1), `the wait of ${name} ends`);
       if (kind === LOCK || kind === RETAKE) cause(before(get(`owner${number}`), event), `mutex ${number} got its owner`);
-      cause(before(get(`hollow${key}`), event), `the last that woke nobody: it came before this wait`);
+      cause(before(get(`takes${key}`), event), `the last that took ${waitName(kind, number)}`);
+      cause(before(get(`hollow${key}`), event), 'the last that woke nobody: it came before this wait');
     }
     if (part === 112) {
       cause(before(get(`waits${task}`), event), `${name} begins to wait`);
@@ -778,7 +806,7 @@ function linksOf(run, k) {
     }
     if (part === 118 && row[i + 2]) cause(before(get(`waits${row[i + 2] - 1}`), event), `${run.taskName(row[i + 2] - 1)} begins to wait`);
     if (part === 118 && row[i + 2]) effect(from(get(`owner${task}`), event + 1), `mutex ${task} gets another owner, or none`);
-    if (part === 119) effect(from(get('1.0.0'), event), 'the tick is received by processor 0');
+    if (part === 119) effect(from(run.lineLane(0, 0).received, event), 'the tick is received by processor 0');
     if (part === 200) {
       const wait = CALLS[row[i]]?.[2], key = wait * 256 + row[i + 2];
       if (wait && from(get(`hollow${key}`), event) === event) {
@@ -936,7 +964,7 @@ class Page {
     this.chosen = { run, lane: lane ?? this.chosen.lane, event: run.first[k], count: run.first[k + 1] - run.first[k], k, links: linksOf(run, k), asked: at };
     if (this.chosen.lane.run !== run) this.chosen.lane = run.lanes[0];
     const position = this.chart.axes[run.number].position(run.first[k]), span = this.chart.to - this.chart.from;
-    if (position < this.chart.from || position > this.chart.to - span * 0.02) this.window(position - span / 2, position + span / 2);
+    if (position < this.chart.from || position >= this.chart.to) this.window(position - span / 2, position + span / 2);
     this.tell();
     this.showLane();
     this.paint();
@@ -1052,8 +1080,8 @@ class Page {
   }
   showSigns() {
     const pen = new SvgPen(), colours = this.colours;
-    SIGNS.forEach((name, i) => { const x = 12 + (i % 3) * 300, y = 12 + Math.floor(i / 3) * 20; sign(pen, name, x, y, colours); pen.text(x + 12, y + 4, SIGN_WORDS[name], colours.ink); });
-    $('signs').innerHTML = pen.document(900, 24 + Math.floor((SIGNS.length - 1) / 3) * 20);
+    SIGNS.forEach((name, i) => { const x = 12 + (i % 3) * 310, y = 12 + Math.floor(i / 3) * 20; sign(pen, name, x, y, colours); pen.text(x + 12, y + 4, SIGN_WORDS[name], colours.ink); });
+    $('signs').innerHTML = pen.document(980, 24 + Math.floor((SIGNS.length - 1) / 3) * 20);
   }
   listen() {
     const { canvas } = this, pointers = new Map();

@@ -1,6 +1,7 @@
 //! The style of a page, page/page.css. Written by `.ci/page --write`.
 
-pub(crate) const STYLE: &str = r##"/* Colours of tasks are those of Okabe and Ito (Color Universal Design); the script reads the variables for the canvas. */
+pub(crate) const STYLE: &str =
+    r##"/* Colours of tasks are those of Okabe and Ito (Color Universal Design); the script reads the variables for the canvas. */
 :root {
   color-scheme: light dark;
   --paper: #ffffff; --band: #f4f4f2; --ink: #1b1b1b; --dim: #5f5f5f; --rule: #d8d8d4; --ready: #c9c9c4; --wait: #ffffff;
