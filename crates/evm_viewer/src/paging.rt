@@ -1,6 +1,6 @@
 //! A journal's run as a page, or two of them side by side.
 
-ghost use Rattle.std.specs.Prelude.{◌≡◌, ◌++◌, IfOk, List, OnOk, ℕ};
+ghost use Rattle.std.specs.Prelude.{◌≡◌, ◌≢◌, ◌++◌, IfErr, IfOk, List, OnOk, ℕ};
 ghost use Rattle.std.specs.String.{string_bytes};
 ghost use Rattle.evm_viewer.specs.Viewing.{IsWritten, PagesRun};
 ghost use Rattle.view_page.specs.Pages.{AddsRun, HasRun};
@@ -53,11 +53,14 @@ fn files_of<'a>(input: &Input<'a>, side: Side<'a>) -> Files<'a> {
     }
 }
 
-fn no_memory<E: Sink>(errors: &mut E) -> u8 {
+fn no_memory<E: Sink>(errors: &mut E) -> u8
+    ensures { result ≡ 1 }
+{
     ended(PROGRAM, &Ending::NoMemory, errors)
 }
 
 // Appends the run of a journal, or returns the status.
+#[tactic(auto, using(crate::proofs::Statuses::never_zero))]
 fn tell<M: Meter, E: Sink>(
     alloc: Global,
     page: &mut String,
@@ -67,7 +70,8 @@ fn tell<M: Meter, E: Sink>(
     meter: &mut M,
     errors: &mut E,
 ) -> Result<(), u8>
-    ensures { OnOk result (AddsRun devices input.now.image.now side.journal.now (string_bytes page.old) (string_bytes page.new)) }
+    ensures adds { OnOk result (AddsRun devices input.now.image.now side.journal.now (string_bytes page.old) (string_bytes page.new)) }
+    ensures status { IfErr result (λ status. status ≢ 0) }
 {
     let run = run_of(input, side);
     let outcome = push_journal(alloc, page, input.image, devices, &run, meter);
@@ -87,7 +91,8 @@ fn tell_other<M: Meter, E: Sink>(
     meter: &mut M,
     errors: &mut E,
 ) -> Result<(), u8>
-    ensures { OnOk result ((back : List ℕ) × (string_bytes page.new ≡ string_bytes page.old ++ back)) }
+    ensures adds { OnOk result ((back : List ℕ) × (string_bytes page.new ≡ string_bytes page.old ++ back)) }
+    ensures status { IfErr result (λ status. status ≢ 0) }
 {
     let Some(other) = other else {
         return Ok(());
@@ -95,6 +100,27 @@ fn tell_other<M: Meter, E: Sink>(
     match program_devices(alloc) {
         Ok(devices) => tell(alloc, page, devices, input, other, meter, errors),
         Err(_) => Err(no_memory(errors)),
+    }
+}
+
+// What stands in a page behind its first run, or the status.
+fn with_rest<M: Meter, E: Sink>(
+    alloc: Global,
+    mut page: String,
+    input: &Input<'_>,
+    other: Option<Side<'_>>,
+    meter: &mut M,
+    errors: &mut E,
+) -> Result<String, u8>
+    ensures adds { IfOk result (λ whole. (back : List ℕ) × (string_bytes whole ≡ string_bytes page ++ back)) }
+    ensures status { IfErr result (λ status. status ≢ 0) }
+{
+    match tell_other(alloc, &mut page, input, other, meter, errors) {
+        Err(status) => Err(status),
+        Ok(()) => match push_tail(&mut page) {
+            Ok(()) => Ok(page),
+            Err(_) => Err(no_memory(errors)),
+        },
     }
 }
 
@@ -107,16 +133,15 @@ fn page_of<M: Meter, E: Sink>(
     meter: &mut M,
     errors: &mut E,
 ) -> Result<String, u8>
-    ensures { IfOk result (λ page. HasRun devices input.now.image.now sides.0.journal.now (string_bytes page)) }
+    ensures run { IfOk result (λ page. HasRun devices input.now.image.now sides.0.journal.now (string_bytes page)) }
+    ensures status { IfErr result (λ status. status ≢ 0) }
 {
     let Ok(mut page) = page_head(alloc) else {
         return Err(no_memory(errors));
     };
-    tell(alloc, &mut page, devices, input, sides.0, meter, errors)?;
-    tell_other(alloc, &mut page, input, sides.1, meter, errors)?;
-    match push_tail(&mut page) {
-        Ok(()) => Ok(page),
-        Err(_) => Err(no_memory(errors)),
+    match tell(alloc, &mut page, devices, input, sides.0, meter, errors) {
+        Err(status) => Err(status),
+        Ok(()) => with_rest(alloc, page, input, sides.1, meter, errors),
     }
 }
 
