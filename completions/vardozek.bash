@@ -23,7 +23,7 @@ _vardozek() {
         hunt:--inversion) COMPREPLY=(); return ;;
     esac
     case ${COMP_WORDS[1]}:$word in
-        view:-*) COMPREPLY=($(compgen -W "--from --to --text --help" -- "$word")) ;;
+        view:-*) COMPREPLY=($(compgen -W "--from --to --text --beside --help" -- "$word")) ;;
         trace:-*) COMPREPLY=($(compgen -W "--help" -- "$word")) ;;
         gdb:-*) COMPREPLY=($(compgen -W "--help" -- "$word")) ;;
         sh:-*) COMPREPLY=($(compgen -W "--script --journal --map --help" -- "$word")) ;;

@@ -12,6 +12,7 @@ complete -c vardozek -n '__fish_seen_subcommand_from view' -a diff
 complete -c vardozek -n '__fish_seen_subcommand_from view' -l from -x -d 'The first event, counted from 0'
 complete -c vardozek -n '__fish_seen_subcommand_from view' -l to -x -d 'The event behind the last'
 complete -c vardozek -n '__fish_seen_subcommand_from view' -l text -d 'Writes it in characters to standard output'
+complete -c vardozek -n '__fish_seen_subcommand_from view' -l beside -r -d 'A journal whose run the page shows beside the other'
 complete -c vardozek -n '__fish_seen_subcommand_from sh' -l script -r -d 'Writes the lines of a script that were done, which evltool run repeats'
 complete -c vardozek -n '__fish_seen_subcommand_from sh' -l journal -r -d 'Writes the journal'
 complete -c vardozek -n '__fish_seen_subcommand_from sh' -l map -r -d 'The lines of sources that addresses come from, as kit/map writes them'

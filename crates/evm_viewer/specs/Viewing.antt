@@ -15,6 +15,7 @@ use Rattle.evm_view.specs.evm_cells.declared.cells.Timeline.{Timeline}
 use Rattle.evm_view.specs.evm_cells.declared.gathering.Window.{Window}
 use Rattle.evm_xml.specs.Xml.{IsElement}
 use Rattle.evm_xml.specs.declared.names.Tag.TheVariants.{Svg}
+use Rattle.view_page.specs.Pages.{HasRun}
 use Rattle.evm_viewer.specs.declared.drawing.ViewEnd.{ViewEnd}
 use Rattle.evm_viewer.specs.declared.drawing.ViewEnd.TheVariants.{AtFault, NoMemory, WriteFailed}
 
@@ -39,6 +40,14 @@ module _ {S O C I W E : Type 0} (creates : S → List ℕ → Result C OpenFault
   -- .. the picture of the window of a run
   abbrev pub DrawsRun : List Attached → Contents → List ℕ → Window → World S O C I W E → World S O C I W E → Type 0
   DrawsRun devices image text window w w' = (timeline : Timeline) × (out : List ℕ) × TellsRun devices image text window timeline × IsDrawn out timeline w w'
+
+  -- standard output took a text, or the file that was created did
+  abbrev pub IsWritten : List ℕ → World S O C I W E → World S O C I W E → Type 0
+  IsWritten text w w' = Took writes w.output text w'.output ⊎ ((out : List ℕ) × (file took : C) × creates w.files out (Ok file) w'.files × Took created file text took)
+
+  -- .. a page with the run of a journal
+  abbrev pub PagesRun : List Attached → Contents → List ℕ → World S O C I W E → World S O C I W E → Type 0
+  PagesRun devices image journal w w' = (page : List ℕ) × HasRun devices image journal page × IsWritten page w w'
 
 -- the status of a run that ended so
 abbrev pub status_of : ViewEnd → ℕ

@@ -1,13 +1,14 @@
 //! The word `view`, from what stands behind it to the exit status.
 
 use crate::diffing::diff;
+use crate::paging::show_page;
 use crate::reports::PROGRAM;
 use crate::showing::{Input, show_run};
 use crate::words::{Job, job_of};
 use clap::ArgMatches;
 use command_lines::symbols_at;
 use evm_devs::AnyDevice;
-use evm_host::{Devices, System, USAGE, World, image_at, text_at};
+use evm_host::{Devices, Message, System, USAGE, World, image_at, report, text_at};
 use evm_image::Image;
 use evm_program::Meter;
 use std::alloc::Global;
@@ -36,6 +37,7 @@ fn view_image<S: System, M: Meter>(
         journal: journal.as_str(),
     };
     match job.other {
+        None if job.is_page() => show_page(alloc, devices, &input, None, meter, world),
         None => show_run(alloc, devices, &input, None, meter, world),
         Some(other) => diff(alloc, devices, &input, other, meter, world),
     }
@@ -52,6 +54,11 @@ pub fn view<S: System, M: Meter>(
     let Some(job) = job_of(words) else {
         return USAGE;
     };
+    if !job.compares && job.other.is_some() && !job.is_page() {
+        let message = Message::Plain("--beside needs an OUT that ends in .html");
+        report(PROGRAM, message, &mut world.errors);
+        return USAGE;
+    }
     match image_at(alloc, job.image, world) {
         Ok(image) => view_image(alloc, devices, job, &image, meter, world),
         Err(status) => status,

@@ -2,6 +2,7 @@
 
 use crate::comparing::{Parting, first_parting};
 use crate::drawing::ViewEnd;
+use crate::paging::{Side, show_page};
 use crate::reports::{Files, PROGRAM, STANDARD_OUTPUT, stopped};
 use crate::showing::{Input, show_run};
 use crate::telling::{Names, alike_text, boots_text, parting_text};
@@ -61,6 +62,15 @@ fn compared(one: &Read, two: &Read) -> Outcome {
     }
 }
 
+// The event where they part.
+fn parts_of(outcome: &Outcome) -> Option<u64> {
+    match outcome {
+        Outcome::Alike(_) => None,
+        Outcome::Boots(_, _) => Some(0),
+        Outcome::Events(parting) => Some(parting.event),
+    }
+}
+
 fn outcome_text(alloc: Global, names: Names<'_>, outcome: &Outcome) -> Result<String, Refused> {
     match outcome {
         Outcome::Alike(events) => alike_text(alloc, *events),
@@ -80,24 +90,22 @@ fn tell<S: System>(alloc: Global, names: Names<'_>, outcome: &Outcome, world: &m
     }
 }
 
-// Shows the run of the first, where a picture or characters are asked for.
+// Shows the run of the first, where a picture or characters are asked for; a page shows both.
 fn show<S: System, M: Meter>(
     alloc: Global,
     devices: Devices<AnyDevice>,
     input: &Input<'_>,
-    outcome: &Outcome,
+    other: Side<'_>,
     meter: &mut M,
     world: &mut World<S>,
 ) -> u8 {
     if !input.job.text && input.job.out.is_none() {
         return 0;
     }
-    let parts = match outcome {
-        Outcome::Alike(_) => None,
-        Outcome::Boots(_, _) => Some(0),
-        Outcome::Events(parting) => Some(parting.event),
-    };
-    show_run(alloc, devices, input, parts, meter, world)
+    if input.job.is_page() {
+        return show_page(alloc, devices, input, Some(other), meter, world);
+    }
+    show_run(alloc, devices, input, other.parts, meter, world)
 }
 
 // Compares what was read of the two, and shows it.
@@ -105,24 +113,28 @@ fn diff_read<S: System, M: Meter>(
     alloc: Global,
     devices: Devices<AnyDevice>,
     input: &Input<'_>,
-    names: Names<'_>,
+    other: Side<'_>,
     outcome: &Outcome,
     meter: &mut M,
     world: &mut World<S>,
 ) -> u8 {
-    let is_piped = input.job.out == Some(STANDARD_OUTPUT);
-    let told = if is_piped {
+    let is_silent = !input.job.compares || input.job.out == Some(STANDARD_OUTPUT);
+    let told = if is_silent {
         0
     } else {
+        let names = Names {
+            journal: input.job.journal,
+            other: other.name,
+        };
         tell(alloc, names, outcome, world)
     };
     if told != 0 {
         return told;
     }
-    let shown = show(alloc, devices, input, outcome, meter, world);
+    let shown = show(alloc, devices, input, other, meter, world);
     match outcome {
         Outcome::Alike(_) => shown,
-        _ if shown == 0 => APART,
+        _ if shown == 0 && input.job.compares => APART,
         _ => shown,
     }
 }
@@ -148,10 +160,11 @@ pub(crate) fn diff<S: System, M: Meter>(
         Ok(read) => read,
         Err(status) => return status,
     };
-    let names = Names {
-        journal: input.job.journal,
-        other,
-    };
     let outcome = compared(&one, &two);
-    diff_read(alloc, devices, input, names, &outcome, meter, world)
+    let other = Side {
+        name: other,
+        journal: text.as_str(),
+        parts: parts_of(&outcome),
+    };
+    diff_read(alloc, devices, input, other, &outcome, meter, world)
 }

@@ -55,7 +55,8 @@ pub fn timeline_of<M: Meter>(
     Ok(timeline)
 }
 
-fn put<W: Sink>(sink: &mut W, text: &[u8]) -> Result<(), ViewEnd>
+/// Writes a text to a sink.
+pub(crate) fn put<W: Sink>(sink: &mut W, text: &[u8]) -> Result<(), ViewEnd>
     ensures { OnOk result (Took W.takes sink.old text.now sink.new) }
 {
     match write_all(sink, text) {

@@ -1,10 +1,11 @@
-//! A journal's run as a picture or as text, and where two journals part: the word `view` of the command line.
+//! A journal's run as a picture, as a page or as text, and where two journals part: the word `view` of the command line.
 #![tactic(auto)]
 
 mod command;
 mod comparing;
 mod diffing;
 mod drawing;
+mod paging;
 mod reports;
 mod showing;
 mod telling;

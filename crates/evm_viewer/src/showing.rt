@@ -23,9 +23,9 @@ pub(crate) struct Input<'a> {
     pub(crate) journal: &'a str,
 }
 
-// The status of a run: 0 if it was shown.
+/// The status of a run: 0 if it was shown.
 #[tactic(auto, using(crate::proofs::Statuses::never_zero))]
-fn status<E: Sink>(files: Files<'_>, end: Result<(), ViewEnd>, errors: &mut E) -> u8
+pub(crate) fn status<E: Sink>(files: Files<'_>, end: Result<(), ViewEnd>, errors: &mut E) -> u8
     ensures { OnErr end (result ≢ 0) }
 {
     match end {

@@ -14,10 +14,12 @@ Example:
 pub(crate) const VIEW_HELP: &str = "\
 OUT gets an SVG picture, which any browser shows. If OUT is -, the picture goes to standard output.
 Of a long run neighbouring events are drawn in one column: cut a window by --from and --to.
-docs/VIEW.md describes the signs.
+If the name of OUT ends in .html, it gets a page in place of the picture: the whole run, which a
+browser zooms, searches and explains. It opens at the events of --from and --to. docs/VIEW.md
+describes both.
 
 Statuses:
-  0  the picture or the text is written
+  0  the picture, the page or the text is written
   1  a journal is bad or refused, or memory ran out; diff: the journals part
   2  the command line is wrong
   3  IMAGE is no image
@@ -26,13 +28,15 @@ Statuses:
 Example:
   evltool run sum.elf < sum.script > sum.journal
   vardozek view sum.elf sum.journal sum.svg
+  vardozek view sum.elf sum.journal sum.html
   vardozek view --text --from 20 --to 60 sum.elf sum.journal
   vardozek view diff sum.elf sum.journal other.journal";
 
 /// Behind the help of `view diff`.
 pub(crate) const DIFF_HELP: &str = "\
 Prints the number of the first event of JOURNAL that OTHER doesn't have there, and both events. OUT
-gets a picture of JOURNAL in which it is marked; with --text it is marked in characters.
+gets a picture of JOURNAL in which it is marked, or a page of both if its name ends in .html; with
+--text it is marked in characters.
 
 Statuses:
   0  the journals are alike

@@ -77,26 +77,33 @@ const JOURNAL: Place = Place {
     help: "The file of the journal",
 };
 
-const VIEW_OPTIONS: &[Choice] = &[
-    Choice {
-        name: "from",
-        value: Value::Number("N", 0, 4_294_967_295),
-        help: "The first event, counted from 0",
-        excludes: &[],
-    },
-    Choice {
-        name: "to",
-        value: Value::Number("N", 0, 4_294_967_295),
-        help: "The event behind the last",
-        excludes: &[],
-    },
-    Choice {
-        name: "text",
-        value: Value::Flag,
-        help: "Writes it in characters to standard output",
-        excludes: &[],
-    },
-];
+const FROM: Choice = Choice {
+    name: "from",
+    value: Value::Number("N", 0, 4_294_967_295),
+    help: "The first event, counted from 0",
+    excludes: &[],
+};
+
+const TO: Choice = Choice {
+    name: "to",
+    value: Value::Number("N", 0, 4_294_967_295),
+    help: "The event behind the last",
+    excludes: &[],
+};
+
+const TEXT: Choice = Choice {
+    name: "text",
+    value: Value::Flag,
+    help: "Writes it in characters to standard output",
+    excludes: &[],
+};
+
+const BESIDE: Choice = Choice {
+    name: "beside",
+    value: Value::Text("OTHER"),
+    help: "A journal whose run the page shows beside the other",
+    excludes: &["text"],
+};
 
 /// `view`.
 pub(crate) const VIEW: Word = Word {
@@ -108,10 +115,10 @@ pub(crate) const VIEW: Word = Word {
         Place {
             name: "OUT",
             need: Need::Without("text"),
-            help: "The file that the picture is written to",
+            help: "The file that the picture is written to; of a name that ends in .html, the page",
         },
     ],
-    options: VIEW_OPTIONS,
+    options: &[FROM, TO, TEXT, BESIDE],
     help: VIEW_HELP,
 };
 
@@ -133,7 +140,7 @@ pub(crate) const DIFF: Word = Word {
             help: "The file that a picture is written to",
         },
     ],
-    options: VIEW_OPTIONS,
+    options: &[FROM, TO, TEXT],
     help: DIFF_HELP,
 };
 

@@ -1,0 +1,146 @@
+//! The entries of a journal that is walked, written one behind the other.
+
+ghost use Rattle.std.specs.Prelude.{◌≡◌, ◌++◌, ◌∷◌, OnOk, ℕ, List, flat_map};
+ghost use Rattle.std.specs.String.{string_bytes};
+ghost use Rattle.evm_json.specs.Text.{text};
+ghost use Rattle.evm_timeline.specs.Walks.{Walked};
+ghost use Rattle.view_page.specs.Entries.{Entry, entries_text, entry_numbers, entry_text};
+ghost use Rattle.view_row.specs.Rows.{row_json};
+ghost use Rattle.view_page.specs.Pages.{TellsAll};
+
+use crate::details::{Known, put_details, put_task};
+use crate::heads::put_head;
+use crate::marks::{put_marks, stage_number};
+use evm_dev::Device;
+use evm_program::Meter;
+use evm_room::{Refused, push_text};
+use evm_timeline::{Item, Look, Machine, Mark, Walk, WalkStop};
+use std::alloc::Global;
+use view_row::{push_row, put};
+
+// Which tasks the processors run.
+fn put_running(row: &mut Vec<u64>, look: &Look) -> Result<(), Refused> {
+    let mut cpu = 0u64;
+    for lane in look.lanes.as_slice() {
+        if let Some(running) = lane.running {
+            let task = u64::from(running.task);
+            put(row, &[100, cpu, task, stage_number(running.stage)])?;
+        }
+        cpu = cpu.saturating_add(1);
+    }
+    Ok(())
+}
+
+// What is seen of a machine before its first event: its boot numbers, its tasks, and which of them run.
+fn put_start<D: Device>(
+    row: &mut Vec<u64>,
+    machine: &Machine<D>,
+    look: &Look,
+) -> Result<(), Refused> {
+    let boot = machine.boot_numbers();
+    put(row, &[boot.cpus, boot.ram, boot.capacity])?;
+    for task in 0..machine.task_count() {
+        put_task(row, machine, task)?;
+    }
+    put_running(row, look)
+}
+
+// The row of an item, with its marks and its details.
+#[tactic(auto, unfolding(crate::specs::Entries::entry_numbers))]
+fn put_entry(
+    row: &mut Vec<u64>,
+    item: &Item,
+    marks: &[Mark],
+    details: &[u64],
+) -> Result<(), Refused>
+    ensures { OnOk result (row.new.items ≡ row.old.items ++ entry_numbers (record { item = item.now; marks = marks.now; details = details.now })) }
+{
+    put_head(row, item)?;
+    put_marks(row, marks)?;
+    put(row, details)
+}
+
+// Appends an entry.
+#[tactic(auto, unfolding(crate::specs::Entries::entry_text))]
+fn push_entry(
+    out: &mut String,
+    row: &mut Vec<u64>,
+    item: &Item,
+    marks: &[Mark],
+    details: &[u64],
+) -> Result<(), Refused>
+    ensures { OnOk result (string_bytes out.new ≡ string_bytes out.old ++ entry_text (record { item = item.now; marks = marks.now; details = details.now })) }
+{
+    row.clear();
+    put_entry(row, item, marks, details)?;
+    push_text(out, ",\n")?;
+    push_row(out, row.as_slice())
+}
+
+// The details of the item that led a walk here.
+fn details_of<D: Device>(
+    details: &mut Vec<u64>,
+    walk: &Walk<D>,
+    known: &mut Known,
+    item: &Item,
+    marks: &[Mark],
+) -> Result<(), Refused> {
+    details.clear();
+    put_details(details, walk.machine(), walk.look(), known, item, marks)
+}
+
+// Appends the row of the start.
+fn push_start<D: Device>(
+    out: &mut String,
+    row: &mut Vec<u64>,
+    walk: &Walk<D>,
+) -> Result<(), Refused>
+    ensures { OnOk result ((start : List ℕ) × (string_bytes out.new ≡ string_bytes out.old ++ text (row_json start))) }
+{
+    row.clear();
+    put_start(row, walk.machine(), walk.look())?;
+    push_row(out, row.as_slice())
+}
+
+// Appends the entries of a journal, from the place of a walk on.
+fn push_entries<D: Device, M: Meter>(
+    alloc: Global,
+    out: &mut String,
+    walk: &mut Walk<D>,
+    meter: &mut M,
+) -> Result<(), WalkStop>
+    ensures { OnOk result ((entries : List Entry) × TellsAll walk.old entries × (string_bytes out.new ≡ string_bytes out.old ++ flat_map entry_text entries)) }
+{
+    let mut found = Vec::new(alloc);
+    let mut row = Vec::new(alloc);
+    let mut details = Vec::new(alloc);
+    let mut known = Known::new();
+    for _item in walk.next_event()..walk.event_count() {
+        known.look(walk.machine());
+        let Some(item) = walk.next(&mut found)? else {
+            break;
+        };
+        details_of(&mut details, walk, &mut known, &item, found.as_slice())?;
+        push_entry(out, &mut row, &item, found.as_slice(), details.as_slice())?;
+        meter.passed(walk.next_event());
+    }
+    let _ = walk.next_event();
+    Ok(())
+}
+
+/// Appends a run in JSON: what is seen before its first event, and an entry for each event or run of quiet Steps.
+pub(crate) fn push_run<D: Device, M: Meter>(
+    alloc: Global,
+    out: &mut String,
+    walk: &mut Walk<D>,
+    meter: &mut M,
+) -> Result<(), WalkStop>
+    ensures { OnOk result ((start : List ℕ) × (entries : List Entry) × TellsAll walk.old entries × (string_bytes out.new ≡ string_bytes out.old ++ entries_text start entries)) }
+{
+    let mut row = Vec::new(alloc);
+    push_text(out, "[")?;
+    push_start(out, &mut row, walk)?;
+    push_entries(alloc, out, walk, meter)?;
+    push_text(out, "]")?;
+    Ok(())
+}

@@ -1,0 +1,23 @@
+-- Texts that stand within the element of a script.
+use Rattle.std.specs.Prelude.{◌≡◌, ◌≢◌, ℕ, List, [], ◌∷◌, ◌++◌, flat_map, codes, if◌then◌else◌, ◌==◌}
+use Rattle.evm_json.specs.Text.{shown_byte, text}
+use Rattle.view_row.specs.Rows.{row_json}
+
+-- a byte of JSON: `<`, which stands in strings alone, as JSON escapes it, and `?` for what is not printable
+abbrev pub safe_byte : ℕ → List ℕ
+safe_byte byte = if byte == 60 then codes "\\u003c" else shown_byte byte ∷ []
+
+abbrev pub safe_text : List ℕ → List ℕ
+safe_text bytes = flat_map safe_byte bytes
+
+-- a text without `<`: nothing in it ends an element, begins one, or begins a comment
+abbrev pub IsSafe : List ℕ → Type 0
+IsSafe [] = Unit {0}
+IsSafe (byte ∷ bytes) = (byte ≢ 60) × IsSafe bytes
+
+-- ---- laws
+abbrev pub HeadersAreSafe : Type 0
+HeadersAreSafe = (header : List ℕ) → IsSafe (safe_text header)
+
+abbrev pub RowsAreSafe : Type 0
+RowsAreSafe = (ns : List ℕ) → IsSafe (text (row_json ns))
