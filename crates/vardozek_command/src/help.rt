@@ -10,6 +10,27 @@ Example:
   vardozek view sum.elf sum.journal sum.svg
   vardozek hunt queue.elf --out queue";
 
+/// Behind the help of `run`.
+pub(crate) const RUN_HELP: &str = "\
+In a round each processor that has something to do makes a step. Where none has, the rounds up to
+the next tick or line are skipped. Standard output gets what the program puts to its consoles.
+Standard error says how the run ended, and if tasks are left who runs, who waits and who owns.
+
+The run ends when all tasks have ended, at an EBREAK, at a fault, at a deadlock, or when the
+journal has no room: after 1048576 events, or those of --until. --until idle ends it where no
+processor has anything to do.
+
+Statuses:
+  0  all tasks have ended by exit
+  1  the run ended in another way, or memory ran out
+  2  the command line is wrong
+  3  IMAGE is no image
+  4  a file can't be opened, or a read or a write failed
+
+Example:
+  vardozek run tutorial_mended.elf --journal tutorial.journal
+  vardozek view tutorial_mended.elf tutorial.journal tutorial.svg";
+
 /// Behind the help of `view`.
 pub(crate) const VIEW_HELP: &str = "\
 OUT gets an SVG picture, which any browser shows. If OUT is -, the picture goes to standard output.

@@ -1,0 +1,4 @@
+pub mod Choices
+pub mod Console
+pub mod Endings
+pub mod Runs
