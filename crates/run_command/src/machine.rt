@@ -1,7 +1,7 @@
 //! A machine in words: who runs, who waits for what, who owns it.
 
 use crate::names::{Kind, put_object};
-use evm_model::{Fault, Task, TaskState, Wait};
+use evm_model::{Action, Fault, Task, TaskState, Wait};
 use evm_room::NoMemory;
 use evm_shell_answers::{Names, Page, put_code};
 use run_schedule::{AnyDevice, Machine};
@@ -40,6 +40,15 @@ impl Named<'_> {
         };
         page.put(" at ")?;
         put_code(page, self.names, hart.pc.wrapping_sub(back))
+    }
+
+    /// What a0 of a task holds.
+    pub(crate) fn put_a0(&self, page: &mut Page, t: u8) -> Result<(), NoMemory> {
+        let Some(hart) = self.machine.hart(t) else {
+            return Ok(());
+        };
+        page.put(", a0 ")?;
+        page.put_decimal(hart.regs[10])
     }
 
     // A mutex for which a task waits, and who owns it.
@@ -141,18 +150,48 @@ impl Named<'_> {
         };
         page.put("  processor ")?;
         page.put_decimal(u64::from(c))?;
-        if processor.stopped {
-            page.put(" is stopped and")?;
+        let Some(t) = processor.current else {
+            return page.put(if processor.stopped {
+                " is stopped\n"
+            } else {
+                " runs no task\n"
+            });
+        };
+        page.put(if processor.stopped {
+            " is stopped: "
+        } else {
+            " runs "
+        })?;
+        self.put_task(page, t)?;
+        self.put_at(page, t, 0)?;
+        page.put("\n")
+    }
+
+    // Whether a program asks for a line from outside: a task waits for it, or it has an action.
+    fn asks_for(&self, line: u8) -> bool {
+        if self.machine.action(line) != Action::Nothing {
+            return true;
         }
-        match processor.current {
-            None => page.put(" runs no task\n"),
-            Some(t) => {
-                page.put(" runs ")?;
-                self.put_task(page, t)?;
-                self.put_at(page, t, 0)?;
-                page.put("\n")
+        for t in 0..self.machine.task_count() {
+            if let Some(task) = self.machine.task(t)
+                && task.state == TaskState::Waits(Wait::Line(line))
+            {
+                return true;
             }
         }
+        false
+    }
+
+    /// Says which lines the program asks for, which none is to raise.
+    pub(crate) fn put_lines(&self, page: &mut Page) -> Result<(), NoMemory> {
+        for line in 2..32u8 {
+            if self.asks_for(line) {
+                page.put("  line ")?;
+                page.put_decimal(u64::from(line))?;
+                page.put(" is asked for: see --lines\n")?;
+            }
+        }
+        Ok(())
     }
 
     // A task that has not ended by exit and that no processor runs.

@@ -63,13 +63,14 @@ fn put_behind(page: &mut Page, words: &str, machine: &Machine<AnyDevice>) -> Res
 
 // A processor that stopped at EBREAK.
 fn put_break(page: &mut Page, named: Named<'_>, c: u8) -> Result<(), NoMemory> {
-    put_behind(page, "EBREAK, as of a failed evl_assert,", named.machine)?;
+    put_behind(page, "EBREAK", named.machine)?;
     page.put(": ")?;
     if let Some(processor) = named.machine.cpu(c)
         && let Some(t) = processor.current
     {
         named.put_task(page, t)?;
         named.put_at(page, t, 4)?;
+        named.put_a0(page, t)?;
     }
     page.put("\n")
 }
@@ -144,7 +145,7 @@ fn put_ending(page: &mut Page, named: Named<'_>, ending: Ending) -> Result<(), N
     })
 }
 
-/// The end of a run: how it ended, and if tasks are left, who runs, who waits and who owns.
+/// The end of a run: how it ended, and if tasks are left, who runs, who waits and who owns. The last line of the console is ended first.
 pub(crate) fn put_finished(
     page: &mut Page,
     names: &Names,
@@ -154,9 +155,16 @@ pub(crate) fn put_finished(
         machine: &done.machine,
         names,
     };
+    if done.is_open {
+        page.put("\n")?;
+    }
     put_ending(page, named, done.ending)?;
     match done.ending {
         Ending::AllEnded => Ok(()),
+        Ending::Deadlock => {
+            named.put_machine(page)?;
+            named.put_lines(page)
+        }
         _ => named.put_machine(page),
     }
 }

@@ -1,3 +1,4 @@
+pub mod Advances
 pub mod Choices
 pub mod Console
 pub mod Endings

@@ -109,7 +109,7 @@ impl<'a> Course<'a> {
             return None;
         }
         let place = self.place(count);
-        self.made += 1;
+        self.made = self.made.saturating_add(1);
         self.turns.get(place).copied()
     }
 

@@ -8,8 +8,6 @@ mod looking;
 mod printing;
 mod random;
 mod running;
-#[cfg(test)]
-mod tests;
 
 pub use course::{Beat, Plan};
 pub use ending::Ending;

@@ -1,15 +1,12 @@
 //! What a program puts to its consoles, as it puts it.
 
-ghost use Rattle.std.specs.Prelude.{◌≡◌, ◌%◌, [], ◌∷◌, ◌++◌, List, ℕ, OnOk, Option, option_map, slice_get};
-ghost use Rattle.evm_core.specs.Views.{device_word};
+ghost use Rattle.std.specs.Prelude.{◌≡◌, [], ◌∷◌, OnOk, Option};
 ghost use Rattle.evm_model.specs.Current.{current};
 ghost use Rattle.evm_model.specs.Event.{short_event};
-ghost use Rattle.evm_model.specs.State.{State};
 ghost use Rattle.evm_ram.specs.Ram.{bytes_at};
 ghost use Rattle.evm_schedules.specs.Failures.{is_ecall};
-ghost use Rattle.evm_streams.specs.declared.sink.Writing.{Writing};
-ghost use Rattle.run_schedule.specs.Console.{byte_of, device_printed, hart_puts, if_ran, more_printed, nothing_printed, puts_ahead, task_puts, word_printed};
-ghost use Rattle.run_schedule.specs.Runs.{IsTelling};
+ghost use Rattle.evm_streams.specs.Writes.{Took};
+ghost use Rattle.run_schedule.specs.Console.{byte_of, device_printed, hart_puts, if_ran, more_printed, nothing_printed, puts_ahead, task_puts};
 
 use crate::looking::is_oob;
 use evm_core::{Answer, Machine};
@@ -84,6 +81,8 @@ pub(crate) fn byte_ahead(machine: &Machine<AnyDevice>, event: Event<NoBytes>) ->
 pub(crate) struct Printer {
     text: Vec<u8>,
     device: usize,
+    // whether the last byte that was put is no newline
+    is_open: bool,
 }
 
 impl Model for Printer {
@@ -102,12 +101,18 @@ impl Printer {
         Printer {
             text: Vec::new(alloc),
             device: 0,
+            is_open: false,
         }
     }
 
     /// How many bytes are not yet told.
     pub(crate) fn len(&self) -> usize {
         self.text.len()
+    }
+
+    /// Whether the last line that was put has no end.
+    pub(crate) fn is_open(&self) -> bool {
+        self.is_open
     }
 
     // A byte more.
@@ -117,14 +122,15 @@ impl Printer {
         let Ok(()) = grow(&mut self.text, 1) else {
             return Err(NoMemory);
         };
+        self.is_open = byte != b'\n';
         match self.text.push(byte) {
             Ok(()) => Ok(()),
             Err(_) => Err(NoMemory),
         }
     }
 
-    /// The byte of a call whose event has answered.
-    pub(crate) fn take_call(&mut self, byte: Option<u8>, answer: Answer) -> Result<(), NoMemory>
+    // The byte of a call whose event has answered.
+    fn take_call(&mut self, byte: Option<u8>, answer: Answer) -> Result<(), NoMemory>
         ensures { OnOk result (self.new ≡ more_printed (if_ran answer (byte_of byte)) self.old) }
     {
         let Some(byte) = byte else {
@@ -136,26 +142,44 @@ impl Printer {
         }
     }
 
-    /// The next word of the device, if it is there.
-    pub(crate) fn take_device(&mut self, machine: &Machine<AnyDevice>) -> Result<(), NoMemory>
+    // The next word of the device, if it is there.
+    fn take_device(&mut self, machine: &Machine<AnyDevice>) -> Result<(), NoMemory>
         ensures { OnOk result (self.new ≡ device_printed machine.now self.old) }
     {
         let Some(word) = machine.device_word(CONSOLE, self.device) else {
             return Ok(());
         };
+        let Some(next) = self.device.checked_add(1) else {
+            return Err(NoMemory);
+        };
         match self.push((word % 256) as u8) {
             Ok(()) => {
-                self.device += 1;
+                self.device = next;
                 Ok(())
             }
             Err(NoMemory) => Err(NoMemory),
         }
     }
 
+    /// What an event has put that has answered: the byte of a call, and the next word of the device.
+    pub(crate) fn take(
+        &mut self,
+        byte: Option<u8>,
+        answer: Answer,
+        machine: &Machine<AnyDevice>,
+    ) -> Result<(), NoMemory>
+        ensures { OnOk result (self.new ≡ device_printed machine.now (more_printed (if_ran answer (byte_of byte)) self.old)) }
+    {
+        match self.take_call(byte, answer) {
+            Ok(()) => self.take_device(machine),
+            Err(NoMemory) => Err(NoMemory),
+        }
+    }
+
     /// Tells what is not yet told.
     pub(crate) fn tell<W: Sink>(&mut self, output: &mut W) -> Result<(), WriteFault>
-        ensures told { (start : W) (first s : State) → IsTelling W.takes start first s output.old self.old → OnOk result (IsTelling W.takes start first s output.new self.new) }
-        ensures all { OnOk result (self.new.text ≡ []) }
+        ensures took { OnOk result (Took W.takes output.old self.old.text output.new) }
+        ensures told { OnOk result (self.new ≡ record self.old { text = [] }) }
     {
         match write_all(output, &self.text) {
             Ok(()) => {

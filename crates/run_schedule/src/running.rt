@@ -2,6 +2,7 @@
 
 ghost use Rattle.std.specs.Prelude.{◌≡◌, [], IfOk, IfSome, OnOk};
 ghost use Rattle.evm_model.specs.State.{State};
+ghost use Rattle.run_schedule.specs.Advances.{HasGrown};
 ghost use Rattle.run_schedule.specs.Endings.{Ends};
 ghost use Rattle.run_schedule.specs.Runs.{HasRun, IsTelling};
 
@@ -34,6 +35,8 @@ pub enum RunStop {
 pub struct Finished {
     /// How.
     pub ending: Ending,
+    /// Whether the last line that the program put has no end.
+    pub is_open: bool,
     /// The machine.
     pub machine: Machine<AnyDevice>,
 }
@@ -74,6 +77,7 @@ fn go_on<W: Sink>(
     output: &mut W,
 ) -> Result<Option<Ending>, RunStop>
     ensures ends { IfOk result (λ ended. IfSome ended (λ ending. Ends ending machine.new)) }
+    ensures grown { IfOk result (λ ended. HasGrown ended machine.old machine.new) }
     ensures telling { (start : W) (first : State) → IsTelling W.takes start first machine.old output.old printer.old → OnOk result (IsTelling W.takes start first machine.new output.new printer.new) }
 {
     let event = match course.next(machine) {
@@ -101,7 +105,7 @@ fn go<W: Sink>(
     ensures ends { IfOk result (λ ending. Ends ending machine.new) }
     ensures telling { (start : W) (first : State) → IsTelling W.takes start first machine.old output.old printer.old → OnOk result (IsTelling W.takes start first machine.new output.new printer.new) }
 {
-    'events: for _ in 0..machine.room() {
+    'events: for made in 0..machine.room() {
         match go_on(machine, course, printer, output) {
             Ok(None) => {}
             Ok(Some(ending)) => return Ok(ending),
@@ -136,9 +140,16 @@ pub fn run<W: Sink>(
         Ok(ending) => ending,
         Err(stop) => return Err(stop),
     };
-    if let Err(fault) = printer.tell(output) {
-        return Err(RunStop::WriteFailed(fault));
+    let is_open = printer.is_open();
+    match printer.tell(output) {
+        Ok(()) => {
+            let ending = concluded(&machine, ending);
+            Ok(Finished {
+                ending,
+                is_open,
+                machine,
+            })
+        }
+        Err(fault) => Err(RunStop::WriteFailed(fault)),
     }
-    let ending = concluded(&machine, ending);
-    Ok(Finished { ending, machine })
 }
