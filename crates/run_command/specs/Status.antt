@@ -5,7 +5,7 @@ use Rattle.evm_model.specs.State.{State}
 use Rattle.evm_model.specs.declared.boot.Boot.{Boot}
 use Rattle.evm_streams.specs.declared.sink.Writing.{Writing}
 use Rattle.run_schedule.specs.Runs.{HasRun}
-use Rattle.run_schedule.specs.declared.ending.Ending.TheVariants.{AllEnded}
+use Rattle.run_schedule.specs.declared.ending.RunEnd.TheVariants.{AllEnded}
 
 -- Status 0: a run of the image has ended with all tasks ended by exit, and standard output took the text of its consoles and nothing else.
 abbrev pub Succeeds : {W : Type 0} → (W → Writing → List ℕ → W → Type 0) → Contents → ℕ → W → W → Type 0

@@ -8,14 +8,14 @@ use crate::words::{Job, Until, WordFault, beats_of, job_of};
 use clap::ArgMatches;
 use command_lines::symbols_at;
 use evm_host::{
-    Ending as JobEnding, FAILED, Message, Sink, System, USAGE, World, ended, failed_write_message,
-    image_at, memory_refused, not_created, report, text_at, write_all,
+    Ending, FAILED, Message, Sink, System, USAGE, World, ended, failed_write_message, image_at,
+    memory_refused, not_created, report, text_at, write_all,
 };
 use evm_image::Image;
 use evm_messages::{Diagnostic, report_line};
 use evm_shell_answers::{MapFault, Names, Page, SourceLines, write_journal};
 use run_schedule::{
-    Beat, BeginFault, Boot, CAPACITY_LIMIT, Ending, Finished, Plan, RunStop, SIZE_LIMIT, run,
+    Beat, BeginFault, Boot, CAPACITY_LIMIT, FinishedRun, RunEnd, RunFault, RunPlan, SIZE_LIMIT, run,
 };
 use std::alloc::Global;
 
@@ -104,20 +104,20 @@ fn boot_of(job: &Job<'_>, names: &Names) -> Boot {
 }
 
 // Reports why a run has no end.
-fn stopped<S: System>(path: &str, stop: RunStop, world: &mut World<S>) -> u8 {
+fn stopped<S: System>(path: &str, stop: RunFault, world: &mut World<S>) -> u8 {
     match stop {
-        RunStop::NoMemory | RunStop::NoMachine(BeginFault::NoMemory) => {
+        RunFault::NoMemory | RunFault::NoMachine(BeginFault::NoMemory) => {
             memory_refused(PROGRAM, world)
         }
-        RunStop::WriteFailed(fault) => {
-            ended(OUTPUT, &JobEnding::WriteFailed(fault), &mut world.errors)
+        RunFault::WriteFailed(fault) => {
+            ended(OUTPUT, &Ending::WriteFailed(fault), &mut world.errors)
         }
-        RunStop::NoMachine(BeginFault::PastRam) => {
+        RunFault::NoMachine(BeginFault::PastRam) => {
             let message = Message::Plain("memory of a segment lies past RAM: see --ram");
             report(path, message, &mut world.errors);
             NO_IMAGE
         }
-        RunStop::NoMachine(BeginFault::BadSize) => {
+        RunFault::NoMachine(BeginFault::BadSize) => {
             let message = Message::Plain("--ram is no multiple of 4096");
             report(PROGRAM, message, &mut world.errors);
             USAGE
@@ -126,11 +126,11 @@ fn stopped<S: System>(path: &str, stop: RunStop, world: &mut World<S>) -> u8 {
 }
 
 // The status of a run.
-fn verdict(ending: Ending) -> u8
-    ensures { (result ≡ 0) ↔ (ending ≡ Ending.AllEnded) }
+fn verdict(ending: RunEnd) -> u8
+    ensures { (result ≡ 0) ↔ (ending ≡ RunEnd.AllEnded) }
 {
     match ending {
-        Ending::AllEnded => 0,
+        RunEnd::AllEnded => 0,
         _ => 1,
     }
 }
@@ -142,7 +142,7 @@ fn no_memory<E: Sink>(errors: &mut E) -> u8 {
 }
 
 // Writes to standard error how a run has ended: 0, or the status where that fails.
-fn tell<E: Sink>(alloc: Global, names: &Names, done: &Finished, errors: &mut E) -> u8 {
+fn tell<E: Sink>(alloc: Global, names: &Names, done: &FinishedRun, errors: &mut E) -> u8 {
     let mut page = Page::new(alloc);
     let told = put_finished(&mut page, names, done);
     match write_all(errors, page.bytes()) {
@@ -157,7 +157,7 @@ fn save<F: Sink, E: Sink>(
     alloc: Global,
     path: &str,
     file: &mut F,
-    done: &Finished,
+    done: &FinishedRun,
     errors: &mut E,
 ) -> u8 {
     let Ok(text) = write_journal(alloc, &done.machine) else {
@@ -206,7 +206,7 @@ fn run_image<S: System>(
 ) -> u8
     ensures { Succeeds S.Output.takes image.now result world.old.output world.new.output }
 {
-    let plan = Plan {
+    let plan = RunPlan {
         beats,
         seed: job.seed,
         until_idle: job.until == Until::Idle,

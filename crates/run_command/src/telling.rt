@@ -6,7 +6,7 @@ use evm_isa::{Inst, decode};
 use evm_model::{Fault, TaskState};
 use evm_room::NoMemory;
 use evm_shell_answers::{Names, Page};
-use run_schedule::{AnyDevice, Ending, Finished, Machine};
+use run_schedule::{AnyDevice, FinishedRun, Machine, RunEnd};
 
 // A number with a comma behind each third digit from the right.
 fn put_grouped(page: &mut Page, number: u64) -> Result<(), NoMemory> {
@@ -128,19 +128,19 @@ fn put_bound(page: &mut Page, machine: &Machine<AnyDevice>) -> Result<(), NoMemo
 }
 
 // What a run has come to, in a line.
-fn put_ending(page: &mut Page, named: Named<'_>, ending: Ending) -> Result<(), NoMemory> {
+fn put_ending(page: &mut Page, named: Named<'_>, ending: RunEnd) -> Result<(), NoMemory> {
     let words = match ending {
-        Ending::Break(c) => return put_break(page, named, c),
-        Ending::Fault(t) => return put_faulted(page, named, t),
-        Ending::Refused(_) => return put_bound(page, named.machine),
-        Ending::AllEnded => "all tasks ended",
-        Ending::Deadlock => "deadlock",
-        Ending::Idle => "idle",
+        RunEnd::Break(c) => return put_break(page, named, c),
+        RunEnd::Fault(t) => return put_faulted(page, named, t),
+        RunEnd::Refused(_) => return put_bound(page, named.machine),
+        RunEnd::AllEnded => "all tasks ended",
+        RunEnd::Deadlock => "deadlock",
+        RunEnd::Idle => "idle",
     };
     put_behind(page, words, named.machine)?;
     page.put(match ending {
-        Ending::Deadlock => { ": no task can run, and no deadline, timer or line is to come\n" }
-        Ending::Idle => ": no processor has anything to do\n",
+        RunEnd::Deadlock => { ": no task can run, and no deadline, timer or line is to come\n" }
+        RunEnd::Idle => ": no processor has anything to do\n",
         _ => "\n",
     })
 }
@@ -149,7 +149,7 @@ fn put_ending(page: &mut Page, named: Named<'_>, ending: Ending) -> Result<(), N
 pub(crate) fn put_finished(
     page: &mut Page,
     names: &Names,
-    done: &Finished,
+    done: &FinishedRun,
 ) -> Result<(), NoMemory> {
     let named = Named {
         machine: &done.machine,
@@ -160,8 +160,8 @@ pub(crate) fn put_finished(
     }
     put_ending(page, named, done.ending)?;
     match done.ending {
-        Ending::AllEnded => Ok(()),
-        Ending::Deadlock => {
+        RunEnd::AllEnded => Ok(()),
+        RunEnd::Deadlock => {
             named.put_machine(page)?;
             named.put_lines(page)
         }

@@ -19,11 +19,11 @@ use Rattle.evm_streams.proofs.Calls.{took_append, took_none}
 use Rattle.evm_streams.specs.declared.sink.Writing.{Writing}
 use Rattle.evm_streams.specs.Writes.{Took}
 use Rattle.run_schedule.proofs.Prints.{printed-more}
-use Rattle.run_schedule.specs.Advances.{HasAdvanced, IsLeft, IsMade}
+use Rattle.run_schedule.specs.Advances.{HasAdvanced, IsLeft, IsEventMade}
 use Rattle.run_schedule.specs.Console.{HasPrinted, Printed, console_text, event_printed, nothing_printed, printed_by}
 use Rattle.run_schedule.specs.Endings.{IsEnded}
-use Rattle.run_schedule.specs.Runs.{HasRun, IsTelling}
-use Rattle.run_schedule.specs.declared.ending.Ending.{Ending}
+use Rattle.run_schedule.specs.Runs.{HasRun, HasToldSome}
+use Rattle.run_schedule.specs.declared.ending.RunEnd.{RunEnd}
 
 -- what is printed behind what a sink took
 abbrev behind : List ℕ → Printed → Printed
@@ -34,8 +34,8 @@ behind-event sunk event s after kept = simp append_assoc
 
 module _ {W : Type 0} (takes : W → Writing → List ℕ → W → Type 0) where
   -- an event more
-  pub telling-made : (start sink : W) (first old new : State) (event : Event) (before so : Printed) → IsMade event old new before so → IsReplayOf first new
-      → IsTelling takes start first old sink before → IsTelling takes start first new sink so
+  pub telling-made : (start sink : W) (first old new : State) (event : Event) (before so : Printed) → IsEventMade event old new before so → IsReplayOf first new
+      → HasToldSome takes start first old sink before → HasToldSome takes start first new sink so
   telling-made start sink first old new event before so made replayed telling =
       let more = printed-more first old new event made.answer (behind telling.sunk before) telling.printed made.applied replayed made.journaled in
       let P : Printed → Type 0 = λ p. HasPrinted first new p in
@@ -44,19 +44,19 @@ module _ {W : Type 0} (takes : W → Writing → List ℕ → W → Type 0) wher
       record { sunk = telling.sunk; took = telling.took; printed = subst P same more }
 
   pub telling-left : (start sink : W) (first old new : State) (before so : Printed) → IsLeft old new before so
-      → IsTelling takes start first old sink before → IsTelling takes start first new sink so
+      → HasToldSome takes start first old sink before → HasToldSome takes start first new sink so
   telling-left start sink first old new before so left telling =
-      let P : Printed → Type 0 = λ p. IsTelling takes start first new sink p in
-      let Q : State → Type 0 = λ s. IsTelling takes start first s sink before in
+      let P : Printed → Type 0 = λ p. HasToldSome takes start first new sink p in
+      let Q : State → Type 0 = λ s. HasToldSome takes start first s sink before in
       subst P (sym left.printed) (subst Q (sym left.machine) telling)
 
-  advanced-either : (start sink : W) (first old new : State) (event : Event) (before so : Printed) → IsMade event old new before so ⊎ IsLeft old new before so → IsReplayOf first new
-      → IsTelling takes start first old sink before → IsTelling takes start first new sink so
+  advanced-either : (start sink : W) (first old new : State) (event : Event) (before so : Printed) → IsEventMade event old new before so ⊎ IsLeft old new before so → IsReplayOf first new
+      → HasToldSome takes start first old sink before → HasToldSome takes start first new sink so
   advanced-either start sink first old new event before so h replayed telling =
       elim h [ inl made ↦ telling-made start sink first old new event before so made replayed telling | inr left ↦ telling-left start sink first old new before so left telling ]
 
-  pub telling-on : (start sink : W) (first old new : State) (ended : Option Ending) (event : Event) (before so : Printed) → HasAdvanced ended event old new before so
-      → (IsReplayOf first old → IsReplayOf first new) → IsTelling takes start first old sink before → IsTelling takes start first new sink so
+  pub telling-on : (start sink : W) (first old new : State) (ended : Option RunEnd) (event : Event) (before so : Printed) → HasAdvanced ended event old new before so
+      → (IsReplayOf first old → IsReplayOf first new) → HasToldSome takes start first old sink before → HasToldSome takes start first new sink so
   telling-on start sink first old new None event before so made replays telling =
       telling-made start sink first old new event before so made (replays telling.printed.replayed) telling
   telling-on start sink first old new (Some ending) event before so h replays telling =
@@ -64,7 +64,7 @@ module _ {W : Type 0} (takes : W → Writing → List ℕ → W → Type 0) wher
 
   -- what was kept is told
   pub telling-told : (start sink later : W) (first s : State) (old new : Printed) → Took takes sink old.text later → new ≡ record old { text = [] }
-      → IsTelling takes start first s sink old → IsTelling takes start first s later new
+      → HasToldSome takes start first s sink old → HasToldSome takes start first s later new
   telling-told start sink later first s old new took told telling =
       let sunk : List ℕ = telling.sunk ++ old.text in
       let P : Printed → Type 0 = λ p. HasPrinted first s p in
@@ -73,7 +73,7 @@ module _ {W : Type 0} (takes : W → Writing → List ℕ → W → Type 0) wher
       record { sunk = sunk; took = took_append takes start sink later telling.sunk old.text telling.took took; printed = subst P same telling.printed }
 
   -- all is told
-  pub all-told : (start sink : W) (first s : State) (kept : Printed) → kept.text ≡ [] → IsTelling takes start first s sink kept → Took takes start (console_text first s) sink
+  pub all-told : (start sink : W) (first s : State) (kept : Printed) → kept.text ≡ [] → HasToldSome takes start first s sink kept → Took takes start (console_text first s) sink
   all-told start sink first s kept none telling =
       let P : List ℕ → Type 0 = λ x. Took takes start x sink in
       let text : (printed_by s.journal first nothing_printed).text ≡ telling.sunk ++ kept.text = ap (λ (p : Printed). p.text) telling.printed.printed in
@@ -86,7 +86,7 @@ module _ {W : Type 0} (takes : W → Writing → List ℕ → W → Type 0) wher
   none-printed first empty = ap (λ events. printed_by events first nothing_printed) empty
 
   -- nothing is printed at the boot
-  pub telling-none : (start : W) (first : State) → first.journal ≡ [] → IsReplayOf first first → IsTelling takes start first first start nothing_printed
+  pub telling-none : (start : W) (first : State) → first.journal ≡ [] → IsReplayOf first first → HasToldSome takes start first first start nothing_printed
   telling-none start first empty fresh = record {
     sunk = [];
     took = took_none takes start;

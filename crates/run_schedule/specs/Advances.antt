@@ -5,10 +5,10 @@ use Rattle.evm_model.specs.Replay.{apply}
 use Rattle.evm_model.specs.State.{State}
 use Rattle.evm_model.specs.declared.event.Answer.{Answer}
 use Rattle.run_schedule.specs.Console.{Printed, event_printed}
-use Rattle.run_schedule.specs.declared.ending.Ending.{Ending}
+use Rattle.run_schedule.specs.declared.ending.RunEnd.{RunEnd}
 
 -- the event was made
-pub record IsMade (event : Event) (old new : State) (before so : Printed) : Type 0 where
+pub record IsEventMade (event : Event) (old new : State) (before so : Printed) : Type 0 where
   pub answer : Answer
   pub applied : apply old event ≡ Ok (new, answer)
   pub journaled : new.journal ≡ old.journal ++ event ∷ []
@@ -21,11 +21,11 @@ pub record IsLeft (old new : State) (before so : Printed) : Type 0 where
   pub printed : so ≡ before
 
 -- the event was made, unless the run has ended
-abbrev pub HasAdvanced : Option Ending → Event → State → State → Printed → Printed → Type 0
-HasAdvanced None event old new before so = IsMade event old new before so
-HasAdvanced (Some ending) event old new before so = IsMade event old new before so ⊎ IsLeft old new before so
+abbrev pub HasAdvanced : Option RunEnd → Event → State → State → Printed → Printed → Type 0
+HasAdvanced None event old new before so = IsEventMade event old new before so
+HasAdvanced (Some ending) event old new before so = IsEventMade event old new before so ⊎ IsLeft old new before so
 
 -- the journal has one event more, unless the run has ended
-abbrev pub HasGrown : Option Ending → State → State → Type 0
+abbrev pub HasGrown : Option RunEnd → State → State → Type 0
 HasGrown None old new = (length new.journal ≡ length old.journal + 1) × (new.boot ≡ old.boot)
 HasGrown (Some ending) old new = Unit {0}

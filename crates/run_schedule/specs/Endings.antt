@@ -11,8 +11,8 @@ use Rattle.evm_model.specs.declared.task.TaskState.{TaskState}
 use Rattle.evm_model.specs.declared.task.TaskState.TheVariants.{InReady, OobReady, Waits, Exit, Faulted as Ended}
 use Rattle.evm_schedules.specs.Failures.{faulted_at, is_off, is_quiet_pipe, is_waiting_task, is_zero, stopped_at}
 use Rattle.evm_schedules.specs.Making.{IsAwake}
-use Rattle.run_schedule.specs.declared.ending.Ending.{Ending}
-use Rattle.run_schedule.specs.declared.ending.Ending.TheVariants.{AllEnded, Break, Fault, Deadlock, Idle, Refused}
+use Rattle.run_schedule.specs.declared.ending.RunEnd.{RunEnd}
+use Rattle.run_schedule.specs.declared.ending.RunEnd.TheVariants.{AllEnded, Break, Fault, Deadlock, Idle, Refused}
 
 -- ---- all tasks have ended by exit
 abbrev pub is_exit : TaskState → Bool
@@ -59,15 +59,15 @@ pub record IsDeadlocked (s : State) : Type 0 where
 
 -- ---- endings
 -- what is so of a machine whose run has ended in a way
-abbrev pub Ends : Ending → State → Type 0
-Ends AllEnded s = AllExited s
-Ends (Break c) s = stopped_at c s ≡ true
-Ends (Fault t) s = faulted_at t s ≡ true
-Ends Deadlock s = IsDeadlocked s
-Ends Idle s = (c : ℕ) → IsAwake c s → ⊥
-Ends (Refused refusal) s = (event : Event) × (apply s event ≡ Err refusal)
+abbrev pub HasEndedSo : RunEnd → State → Type 0
+HasEndedSo AllEnded s = AllExited s
+HasEndedSo (Break c) s = stopped_at c s ≡ true
+HasEndedSo (Fault t) s = faulted_at t s ≡ true
+HasEndedSo Deadlock s = IsDeadlocked s
+HasEndedSo Idle s = (c : ℕ) → IsAwake c s → ⊥
+HasEndedSo (Refused refusal) s = (event : Event) × (apply s event ≡ Err refusal)
 
 -- and it is AllEnded wherever all tasks have ended by exit
-pub record IsEnded (ending : Ending) (s : State) : Type 0 where
-  pub so : Ends ending s
+pub record IsEnded (ending : RunEnd) (s : State) : Type 0 where
+  pub so : HasEndedSo ending s
   pub only : AllExited s → ending ≡ AllEnded

@@ -5,9 +5,9 @@ ghost use Rattle.evm_model.specs.Event.{short_event};
 ghost use Rattle.evm_model.specs.Replay.{apply, IsReplayOf};
 ghost use Rattle.evm_model.specs.State.{State};
 ghost use Rattle.run_schedule.specs.Advances.{HasAdvanced};
-ghost use Rattle.run_schedule.specs.Endings.{Ends};
+ghost use Rattle.run_schedule.specs.Endings.{HasEndedSo};
 
-use crate::ending::{Ending, ending_of};
+use crate::ending::{RunEnd, ending_of};
 use crate::printing::{Printer, byte_ahead};
 use evm_core::{Answer, Machine, Refusal};
 use evm_devs::AnyDevice;
@@ -35,8 +35,8 @@ pub(crate) fn advance(
     machine: &mut Machine<AnyDevice>,
     event: Event<NoBytes>,
     printer: &mut Printer,
-) -> Result<Option<Ending>, NoMemory>
-    ensures ends { IfOk result (λ ended. IfSome ended (λ ending. Ends ending machine.new)) }
+) -> Result<Option<RunEnd>, NoMemory>
+    ensures ends { IfOk result (λ ended. IfSome ended (λ ending. HasEndedSo ending machine.new)) }
     ensures advanced { IfOk result (λ ended. HasAdvanced ended (short_event event) machine.old machine.new printer.old printer.new) }
     ensures replays { (first : State) → IsReplayOf first machine.old → IsReplayOf first machine.new }
 {
@@ -46,6 +46,6 @@ pub(crate) fn advance(
             Ok(()) => Ok(ending_of(machine, event, answer)),
             Err(NoMemory) => Err(NoMemory),
         },
-        Err(refusal) => Ok(Some(Ending::Refused(refusal))),
+        Err(refusal) => Ok(Some(RunEnd::Refused(refusal))),
     }
 }

@@ -2,9 +2,9 @@
 
 ghost use Rattle.std.specs.Prelude.{IfSome};
 ghost use Rattle.run_schedule.specs.Choices.{IsChoice};
-ghost use Rattle.run_schedule.specs.Endings.{Ends};
+ghost use Rattle.run_schedule.specs.Endings.{HasEndedSo};
 
-use crate::ending::Ending;
+use crate::ending::RunEnd;
 use crate::looking::{is_asleep, is_deadlocked};
 use crate::random::Random;
 use evm_core::Machine;
@@ -39,7 +39,7 @@ impl Beat {
 /// How events are chosen. In a round each processor that has something to do makes a step. Where none has, the rounds up to the next beat
 /// are skipped.
 #[derive(Clone, Copy)]
-pub struct Plan<'a> {
+pub struct RunPlan<'a> {
     /// What comes from outside: ticks, and lines.
     pub beats: &'a [Beat],
     /// Of what the processors that step are drawn; without it each steps in turn.
@@ -52,13 +52,13 @@ pub struct Plan<'a> {
 #[derive(Clone, Copy)]
 pub(crate) enum Choice {
     Make(Event<NoBytes>),
-    End(Ending),
+    End(RunEnd),
 }
 
 /// A plan, and how far it has come.
 #[derive(Drop)]
 pub(crate) struct Course<'a> {
-    plan: Plan<'a>,
+    plan: RunPlan<'a>,
     random: Option<Random>,
     round: u64,
     // the processors of this round, and how many of their steps were made
@@ -79,7 +79,7 @@ fn raises(beats: &[Beat]) -> bool {
 }
 
 impl<'a> Course<'a> {
-    pub(crate) fn new(plan: Plan<'a>) -> Course<'a> {
+    pub(crate) fn new(plan: RunPlan<'a>) -> Course<'a> {
         let random = match plan.seed {
             None => None,
             Some(seed) => Some(Random::of_seed(seed)),
@@ -159,14 +159,14 @@ impl<'a> Course<'a> {
     }
 
     // How the run ends where no processor has anything to do, if it does.
-    fn end(&self, machine: &Machine<AnyDevice>) -> Option<Ending>
-        ensures { IfSome result (λ ending. Ends ending machine.now) }
+    fn end(&self, machine: &Machine<AnyDevice>) -> Option<RunEnd>
+        ensures { IfSome result (λ ending. HasEndedSo ending machine.now) }
     {
         if !raises(self.plan.beats) && is_deadlocked(machine) {
-            return Some(Ending::Deadlock);
+            return Some(RunEnd::Deadlock);
         }
         if self.plan.until_idle && is_asleep(machine) {
-            return Some(Ending::Idle);
+            return Some(RunEnd::Idle);
         }
         None
     }

@@ -1,7 +1,7 @@
 //! How a run has ended.
 
 ghost use Rattle.std.specs.Prelude.{IfSome};
-ghost use Rattle.run_schedule.specs.Endings.{Ends, IsEnded};
+ghost use Rattle.run_schedule.specs.Endings.{HasEndedSo, IsEnded};
 
 use crate::looking::{all_exited, has_ended, is_faulted, is_stopped};
 use evm_core::{Answer, Machine};
@@ -10,7 +10,7 @@ use evm_model::{Event, NoBytes, Refusal};
 
 /// How a run has ended.
 #[derive(Clone, Copy, Debug, PartialEq, Eq)]
-pub enum Ending {
+pub enum RunEnd {
     /// All tasks have ended by exit.
     AllEnded,
     /// This processor stopped at EBREAK.
@@ -26,23 +26,23 @@ pub enum Ending {
 }
 
 /// How a run has ended by a step of a processor with this answer, if it has.
-fn ending_by_step(machine: &Machine<AnyDevice>, c: u8, answer: Answer) -> Option<Ending>
-    ensures { IfSome result (λ ending. Ends ending machine.now) }
+fn ending_by_step(machine: &Machine<AnyDevice>, c: u8, answer: Answer) -> Option<RunEnd>
+    ensures { IfSome result (λ ending. HasEndedSo ending machine.now) }
 {
     let Answer::Ran(t) = answer else {
         return None;
     };
     if is_stopped(machine, c) {
-        return Some(Ending::Break(c));
+        return Some(RunEnd::Break(c));
     }
     if is_faulted(machine, t) {
-        return Some(Ending::Fault(t));
+        return Some(RunEnd::Fault(t));
     }
     if !has_ended(machine, t) {
         return None;
     }
     if all_exited(machine) {
-        Some(Ending::AllEnded)
+        Some(RunEnd::AllEnded)
     } else {
         None
     }
@@ -53,8 +53,8 @@ pub(crate) fn ending_of(
     machine: &Machine<AnyDevice>,
     event: Event<NoBytes>,
     answer: Answer,
-) -> Option<Ending>
-    ensures { IfSome result (λ ending. Ends ending machine.now) }
+) -> Option<RunEnd>
+    ensures { IfSome result (λ ending. HasEndedSo ending machine.now) }
 {
     match event {
         Event::Step(c) => ending_by_step(machine, c, answer),
@@ -63,12 +63,12 @@ pub(crate) fn ending_of(
 }
 
 /// The ending of a run, which is `AllEnded` wherever all tasks have ended by exit.
-pub(crate) fn concluded(machine: &Machine<AnyDevice>, ending: Ending) -> Ending
-    requires { Ends ending machine.now }
+pub(crate) fn concluded(machine: &Machine<AnyDevice>, ending: RunEnd) -> RunEnd
+    requires { HasEndedSo ending machine.now }
     ensures { IsEnded result machine.now }
 {
     if all_exited(machine) {
-        Ending::AllEnded
+        RunEnd::AllEnded
     } else {
         ending
     }

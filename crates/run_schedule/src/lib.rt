@@ -9,12 +9,12 @@ mod printing;
 mod random;
 mod running;
 
-pub use course::{Beat, Plan};
-pub use ending::Ending;
+pub use course::{Beat, RunPlan};
+pub use ending::RunEnd;
 pub use evm_core::{Boot, Machine};
 pub use evm_devs::AnyDevice;
 pub use evm_model::{CAPACITY_LIMIT, Event, NoBytes, Refusal};
 pub use evm_ram::SIZE_LIMIT;
 pub use evm_schedules::BeginFault;
 pub use looking::{all_exited, is_deadlocked};
-pub use running::{Finished, RunStop, run};
+pub use running::{FinishedRun, RunFault, run};

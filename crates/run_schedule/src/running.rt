@@ -3,12 +3,12 @@
 ghost use Rattle.std.specs.Prelude.{◌≡◌, [], IfOk, IfSome, OnOk};
 ghost use Rattle.evm_model.specs.State.{State};
 ghost use Rattle.run_schedule.specs.Advances.{HasGrown};
-ghost use Rattle.run_schedule.specs.Endings.{Ends};
-ghost use Rattle.run_schedule.specs.Runs.{HasRun, IsTelling};
+ghost use Rattle.run_schedule.specs.Endings.{HasEndedSo};
+ghost use Rattle.run_schedule.specs.Runs.{HasRun, HasToldSome};
 
 use crate::advancing::advance;
-use crate::course::{Choice, Course, Plan};
-use crate::ending::{Ending, concluded};
+use crate::course::{Choice, Course, RunPlan};
+use crate::ending::{RunEnd, concluded};
 use crate::printing::Printer;
 use evm_core::{Boot, Machine};
 use evm_devs::AnyDevice;
@@ -21,7 +21,7 @@ use std::alloc::Global;
 
 /// Why a run has no end.
 #[derive(Clone, Copy, Debug, PartialEq, Eq)]
-pub enum RunStop {
+pub enum RunFault {
     /// No machine boots.
     NoMachine(BeginFault),
     /// Memory was refused.
@@ -32,9 +32,9 @@ pub enum RunStop {
 
 /// A machine whose run has ended.
 #[derive(Drop)]
-pub struct Finished {
+pub struct FinishedRun {
     /// How.
-    pub ending: Ending,
+    pub ending: RunEnd,
     /// Whether the last line that the program put has no end.
     pub is_open: bool,
     /// The machine.
@@ -57,15 +57,15 @@ fn tell_in_time<W: Sink>(
     event: Event<NoBytes>,
     printer: &mut Printer,
     output: &mut W,
-) -> Result<(), RunStop>
-    ensures { (start : W) (first s : State) → IsTelling W.takes start first s output.old printer.old → OnOk result (IsTelling W.takes start first s output.new printer.new) }
+) -> Result<(), RunFault>
+    ensures { (start : W) (first s : State) → HasToldSome W.takes start first s output.old printer.old → OnOk result (HasToldSome W.takes start first s output.new printer.new) }
 {
     if !is_time(event, printer.len()) {
         return Ok(());
     }
     match printer.tell(output) {
         Ok(()) => Ok(()),
-        Err(fault) => Err(RunStop::WriteFailed(fault)),
+        Err(fault) => Err(RunFault::WriteFailed(fault)),
     }
 }
 
@@ -75,10 +75,10 @@ fn go_on<W: Sink>(
     course: &mut Course<'_>,
     printer: &mut Printer,
     output: &mut W,
-) -> Result<Option<Ending>, RunStop>
-    ensures ends { IfOk result (λ ended. IfSome ended (λ ending. Ends ending machine.new)) }
+) -> Result<Option<RunEnd>, RunFault>
+    ensures ends { IfOk result (λ ended. IfSome ended (λ ending. HasEndedSo ending machine.new)) }
     ensures grown { IfOk result (λ ended. HasGrown ended machine.old machine.new) }
-    ensures telling { (start : W) (first : State) → IsTelling W.takes start first machine.old output.old printer.old → OnOk result (IsTelling W.takes start first machine.new output.new printer.new) }
+    ensures telling { (start : W) (first : State) → HasToldSome W.takes start first machine.old output.old printer.old → OnOk result (HasToldSome W.takes start first machine.new output.new printer.new) }
 {
     let event = match course.next(machine) {
         Choice::Make(event) => event,
@@ -87,7 +87,7 @@ fn go_on<W: Sink>(
     match advance(machine, event, printer) {
         Ok(None) => {}
         Ok(Some(ending)) => return Ok(Some(ending)),
-        Err(NoMemory) => return Err(RunStop::NoMemory),
+        Err(NoMemory) => return Err(RunFault::NoMemory),
     }
     match tell_in_time(event, printer, output) {
         Ok(()) => Ok(None),
@@ -101,9 +101,9 @@ fn go<W: Sink>(
     course: &mut Course<'_>,
     printer: &mut Printer,
     output: &mut W,
-) -> Result<Ending, RunStop>
-    ensures ends { IfOk result (λ ending. Ends ending machine.new) }
-    ensures telling { (start : W) (first : State) → IsTelling W.takes start first machine.old output.old printer.old → OnOk result (IsTelling W.takes start first machine.new output.new printer.new) }
+) -> Result<RunEnd, RunFault>
+    ensures ends { IfOk result (λ ending. HasEndedSo ending machine.new) }
+    ensures telling { (start : W) (first : State) → HasToldSome W.takes start first machine.old output.old printer.old → OnOk result (HasToldSome W.takes start first machine.new output.new printer.new) }
 {
     'events: for made in 0..machine.room() {
         match go_on(machine, course, printer, output) {
@@ -112,7 +112,7 @@ fn go<W: Sink>(
             Err(stop) => return Err(stop),
         }
     }
-    Ok(Ending::Refused(Refusal::Full))
+    Ok(RunEnd::Refused(Refusal::Full))
 }
 
 /// Boots a machine, loads the image and makes events as the plan says until the run has ended. The text of the consoles goes to the output
@@ -125,14 +125,14 @@ pub fn run<W: Sink>(
     alloc: Global,
     image: &Image,
     boot: &Boot,
-    plan: Plan<'_>,
+    plan: RunPlan<'_>,
     output: &mut W,
-) -> Result<Finished, RunStop>
+) -> Result<FinishedRun, RunFault>
     ensures { IfOk result (λ done. HasRun W.takes image.now boot.now output.old done.ending done.machine output.new) }
 {
     let mut machine = match begin(alloc, image, boot) {
         Ok(machine) => machine,
-        Err(fault) => return Err(RunStop::NoMachine(fault)),
+        Err(fault) => return Err(RunFault::NoMachine(fault)),
     };
     let mut printer = Printer::new(alloc);
     let mut course = Course::new(plan);
@@ -144,12 +144,12 @@ pub fn run<W: Sink>(
     match printer.tell(output) {
         Ok(()) => {
             let ending = concluded(&machine, ending);
-            Ok(Finished {
+            Ok(FinishedRun {
                 ending,
                 is_open,
                 machine,
             })
         }
-        Err(fault) => Err(RunStop::WriteFailed(fault)),
+        Err(fault) => Err(RunFault::WriteFailed(fault)),
     }
 }
