@@ -1,7 +1,7 @@
 //! A machine in words: who runs, who waits for what, who owns it.
 
 use crate::names::{Kind, put_object};
-use evm_model::{Action, Fault, Task, TaskState, Wait};
+use evm_model::{Action, Fault, Notice, NoticeKind, Task, TaskState, Wait};
 use evm_room::NoMemory;
 use evm_shell_answers::{Names, Page, put_code};
 use run_schedule::{AnyDevice, Machine};
@@ -221,6 +221,30 @@ impl Named<'_> {
         page.put(" is owned by ")?;
         self.put_task(page, owner)?;
         page.put("\n")
+    }
+
+    fn put_notice(&self, page: &mut Page, notice: &Notice) -> Result<(), NoMemory> {
+        page.put("  notice ")?;
+        page.put(match notice.kind {
+            NoticeKind::DemotedByCall => "1, demoted by a call, of ",
+            NoticeKind::DemotedByFault => "2, demoted by a fault, of ",
+            NoticeKind::Deadlock => "3, a lock that would never end, of ",
+            NoticeKind::NotOwner => "4, an unlock of another's mutex, of ",
+        })?;
+        self.put_task(page, notice.task)?;
+        page.put(" at tick ")?;
+        page.put_decimal(notice.tick)?;
+        page.put("\n")
+    }
+
+    /// The notices of the health monitor that are kept, a line each.
+    pub(crate) fn put_notices(&self, page: &mut Page) -> Result<(), NoMemory> {
+        for i in 0..self.machine.notice_count() {
+            if let Some(notice) = self.machine.notice(i) {
+                self.put_notice(page, &notice)?;
+            }
+        }
+        Ok(())
     }
 
     /// Who runs, who waits and who owns, a line each. Tasks that have ended by exit aren't named.

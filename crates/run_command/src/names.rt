@@ -1,5 +1,7 @@
 //! The names of tasks and objects that a program of the kit keeps in RAM.
 
+ghost use Rattle.std.specs.Prelude.{◌<◌};
+
 use evm_room::NoMemory;
 use evm_shell_answers::{Names, Page};
 use run_schedule::{AnyDevice, Machine};
@@ -34,7 +36,9 @@ impl Kind {
         }
     }
 
-    fn place(self) -> u64 {
+    fn place(self) -> u64
+        ensures { result < 6 }
+    {
         match self {
             Kind::Task => 0,
             Kind::Mutex => 1,

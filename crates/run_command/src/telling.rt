@@ -8,29 +8,30 @@ use evm_room::NoMemory;
 use evm_shell_answers::{Names, Page};
 use run_schedule::{AnyDevice, FinishedRun, Machine, RunEnd};
 
-// A number with a comma behind each third digit from the right.
+// Three digits behind others.
+fn put_group(page: &mut Page, group: u64) -> Result<(), NoMemory> {
+    page.put(if group < 10 {
+        ",00"
+    } else if group < 100 {
+        ",0"
+    } else {
+        ","
+    })?;
+    page.put_decimal(group)
+}
+
+// A number with a comma before the last three digits, and before the last six.
 fn put_grouped(page: &mut Page, number: u64) -> Result<(), NoMemory> {
     if number < 1_000 {
         return page.put_decimal(number);
     }
-    let mut divisor = 1u64;
-    while number / divisor >= 1_000 {
-        divisor *= 1_000;
+    if number < 1_000_000 {
+        page.put_decimal(number / 1_000)?;
+        return put_group(page, number % 1_000);
     }
-    page.put_decimal(number / divisor)?;
-    while divisor > 1 {
-        divisor /= 1_000;
-        let group = number / divisor % 1_000;
-        page.put(if group < 10 {
-            ",00"
-        } else if group < 100 {
-            ",0"
-        } else {
-            ","
-        })?;
-        page.put_decimal(group)?;
-    }
-    Ok(())
+    page.put_decimal(number / 1_000_000)?;
+    put_group(page, number / 1_000 % 1_000)?;
+    put_group(page, number % 1_000)
 }
 
 fn put_count(page: &mut Page, count: u64, one: &str, more: &str) -> Result<(), NoMemory> {
@@ -145,7 +146,8 @@ fn put_ending(page: &mut Page, named: Named<'_>, ending: RunEnd) -> Result<(), N
     })
 }
 
-/// The end of a run: how it ended, and if tasks are left, who runs, who waits and who owns. The last line of the console is ended first.
+/// The end of a run: how it ended; if tasks are left, who runs, who waits and who owns; and the notices. The last line of the console is
+/// ended first.
 pub(crate) fn put_finished(
     page: &mut Page,
     names: &Names,
@@ -159,12 +161,11 @@ pub(crate) fn put_finished(
         page.put("\n")?;
     }
     put_ending(page, named, done.ending)?;
-    match done.ending {
-        RunEnd::AllEnded => Ok(()),
-        RunEnd::Deadlock => {
-            named.put_machine(page)?;
-            named.put_lines(page)
-        }
-        _ => named.put_machine(page),
+    if done.ending != RunEnd::AllEnded {
+        named.put_machine(page)?;
     }
+    if done.ending == RunEnd::Deadlock {
+        named.put_lines(page)?;
+    }
+    named.put_notices(page)
 }
