@@ -2,11 +2,16 @@
 _vardozek() {
     local word=${COMP_WORDS[COMP_CWORD]} before=${COMP_WORDS[COMP_CWORD-1]}
     if [ "$COMP_CWORD" -eq 1 ]; then
-        COMPREPLY=($(compgen -W "view trace gdb sh hunt help --help --version" -- "$word"))
+        COMPREPLY=($(compgen -W "run view trace gdb sh hunt help --help --version" -- "$word"))
         return
     fi
     case ${COMP_WORDS[1]}:$before in
-        help:*) COMPREPLY=($(compgen -W "view trace gdb sh hunt" -- "$word")); return ;;
+        help:*) COMPREPLY=($(compgen -W "run view trace gdb sh hunt" -- "$word")); return ;;
+        run:--cpus) COMPREPLY=(); return ;;
+        run:--ram) COMPREPLY=(); return ;;
+        run:--ticks) COMPREPLY=(); return ;;
+        run:--lines) COMPREPLY=(); return ;;
+        run:--seed) COMPREPLY=(); return ;;
         view:--from) COMPREPLY=(); return ;;
         view:--to) COMPREPLY=(); return ;;
         hunt:--pct) COMPREPLY=(); return ;;
@@ -23,6 +28,7 @@ _vardozek() {
         hunt:--inversion) COMPREPLY=(); return ;;
     esac
     case ${COMP_WORDS[1]}:$word in
+        run:-*) COMPREPLY=($(compgen -W "--cpus --ram --ticks --lines --seed --until --journal --map --help" -- "$word")) ;;
         view:-*) COMPREPLY=($(compgen -W "--from --to --text --beside --help" -- "$word")) ;;
         trace:-*) COMPREPLY=($(compgen -W "--help" -- "$word")) ;;
         gdb:-*) COMPREPLY=($(compgen -W "--help" -- "$word")) ;;

@@ -1,13 +1,22 @@
 # Completions for fish of vardozek, written by .ci/words.
 complete -c vardozek -n __fish_use_subcommand -f
+complete -c vardozek -n __fish_use_subcommand -a run -d 'Runs a program until its tasks have ended'
 complete -c vardozek -n __fish_use_subcommand -a view -d 'Draws the run of a journal'
 complete -c vardozek -n __fish_use_subcommand -a trace -d 'Writes the run of a journal as a trace'
 complete -c vardozek -n __fish_use_subcommand -a gdb -d 'A machine under GDB, over standard input and output'
 complete -c vardozek -n __fish_use_subcommand -a sh -d 'A shell over the machine: scripts with names, and answers in words'
 complete -c vardozek -n __fish_use_subcommand -a hunt -d 'Looks for a schedule in which a program fails'
 complete -c vardozek -n __fish_use_subcommand -a help -d 'Prints help of a word'
-complete -c vardozek -n '__fish_seen_subcommand_from help' -f -a 'view trace gdb sh hunt'
+complete -c vardozek -n '__fish_seen_subcommand_from help' -f -a 'run view trace gdb sh hunt'
 complete -c vardozek -s h -l help -d 'Prints help'
+complete -c vardozek -n '__fish_seen_subcommand_from run' -l cpus -x -d 'Processors [default: 2]'
+complete -c vardozek -n '__fish_seen_subcommand_from run' -l ram -x -d 'Bytes of RAM [default: what the image is linked for, or 16777216]'
+complete -c vardozek -n '__fish_seen_subcommand_from run' -l ticks -x -d 'The clock ticks every N rounds [default: 1000]'
+complete -c vardozek -n '__fish_seen_subcommand_from run' -l lines -x -d 'Line L is raised on processor 0 every N rounds, without @N with each tick'
+complete -c vardozek -n '__fish_seen_subcommand_from run' -l seed -x -d 'Draws which processor steps next; without it each steps in turn'
+complete -c vardozek -n '__fish_seen_subcommand_from run' -l until -r -d 'exit, idle or a number of events at most [default: exit]'
+complete -c vardozek -n '__fish_seen_subcommand_from run' -l journal -r -d 'Writes the journal'
+complete -c vardozek -n '__fish_seen_subcommand_from run' -l map -r -d 'The lines of sources that addresses come from, as kit/map writes them'
 complete -c vardozek -n '__fish_seen_subcommand_from view' -a diff
 complete -c vardozek -n '__fish_seen_subcommand_from view' -l from -x -d 'The first event, counted from 0'
 complete -c vardozek -n '__fish_seen_subcommand_from view' -l to -x -d 'The event behind the last'

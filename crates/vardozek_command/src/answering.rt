@@ -11,6 +11,7 @@ use evm_program::{Progress, program_devices};
 use evm_shell::sh;
 use evm_trace::trace;
 use evm_viewer::view;
+use run_command::run_for;
 use std::alloc::Global;
 use std::io::Read;
 use std::sync::Wait;
@@ -74,6 +75,7 @@ fn do_word<
             Progress::new(rt, "vardozek sh: round"),
             world,
         ),
+        "run" => run_for(rt.alloc(), words, world),
         "hunt" => hunt_for(rt.alloc(), words, &mut HuntProgress::new(rt), world),
         _ => show_run(rt, name, words, world),
     }

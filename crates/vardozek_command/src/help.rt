@@ -10,12 +10,33 @@ Example:
   vardozek view sum.elf sum.journal sum.svg
   vardozek hunt queue.elf --out queue";
 
+/// Behind the help of `run`.
+pub(crate) const RUN_HELP: &str = "\
+In a round each processor that has something to do makes a step. Where none has, the rounds up to
+the next tick or line are skipped. Standard output gets what the program puts to its consoles.
+Standard error says how the run ended, and if tasks are left who runs, who waits and who owns.
+
+The run ends when all tasks have ended, at an EBREAK, at a fault, at a deadlock, or when the
+journal has no room: after 1048576 events, or those of --until. --until idle ends it where no
+processor has anything to do.
+
+Statuses:
+  0  all tasks have ended by exit
+  1  the run ended in another way, or memory ran out
+  2  the command line is wrong
+  3  IMAGE is no image
+  4  a file can't be opened, or a read or a write failed
+
+Example:
+  vardozek run tutorial_mended.elf --journal tutorial.journal
+  vardozek view tutorial_mended.elf tutorial.journal tutorial.svg";
+
 /// Behind the help of `view`.
 pub(crate) const VIEW_HELP: &str = "\
 OUT gets an SVG picture, which any browser shows. If OUT is -, the picture goes to standard output.
 Of a long run neighbouring events are drawn in one column: cut a window by --from and --to.
 If the name of OUT ends in .html, it gets a page in place of the picture: the whole run, which a
-browser zooms, searches and explains. It opens at the events of --from and --to. docs/VIEW.md
+browser zooms, searches and explains. It opens at the events of --from and --to. docs/TOOLS.md
 describes both.
 
 Statuses:
@@ -49,7 +70,7 @@ Statuses:
 pub(crate) const TRACE_HELP: &str = "\
 OUT gets Chrome trace events, one a line: open it in https://ui.perfetto.dev or chrome://tracing.
 If OUT is -, the trace goes to standard output. A microsecond of the trace is one event of the
-journal. If the journal is bad, OUT has a part of a trace. docs/TRACE.md describes the tracks.
+journal. If the journal is bad, OUT has a part of a trace. docs/TOOLS.md describes the tracks.
 
 Statuses:
   0  the trace is written

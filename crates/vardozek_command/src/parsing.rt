@@ -1,7 +1,9 @@
 //! The command of the table, and the words parsed by it.
 
 use crate::help::PROGRAM_HELP;
-use crate::table::{ABOUT, Choice, DIFF, GDB, HUNT, Need, Place, SHELL, TRACE, VIEW, Value, Word};
+use crate::table::{
+    ABOUT, Choice, DIFF, GDB, HUNT, Need, Place, RUN, SHELL, TRACE, VIEW, Value, Word,
+};
 use clap::builder::ValueParser;
 use clap::{Arg, ArgAction, ArgMatches, Command, Error};
 use command_lines::VERSION;
@@ -23,6 +25,7 @@ fn with_value<'a>(arg: Arg<'a>, value: &Value) -> Arg<'a> {
     match *value {
         Value::Flag => arg.action(ArgAction::SetTrue),
         Value::Text(name) => arg.value_name(name),
+        Value::Texts(name) => arg.value_name(name).value_delimiter(','),
         Value::Number(name, least, most) => arg
             .value_name(name)
             .value_parser(ValueParser::Unsigned(least, most)),
@@ -77,6 +80,7 @@ fn command<'a>(alloc: Global) -> Result<Command<'a>, AllocError> {
         .about(ABOUT)
         .after_help(PROGRAM_HELP)
         .subcommand_required(true)
+        .subcommand(word_command(alloc, &RUN)?)?
         .subcommand(view_command(alloc)?)?
         .subcommand(word_command(alloc, &TRACE)?)?
         .subcommand(word_command(alloc, &GDB)?)?

@@ -1,7 +1,7 @@
 //! The words of the command line, with what stands behind each. Help comes from this table, and so do the man page and the completions of
 //! shells: `.ci/words --write` writes them.
 
-use crate::help::{DIFF_HELP, GDB_HELP, HUNT_HELP, TRACE_HELP, VIEW_HELP};
+use crate::help::{DIFF_HELP, GDB_HELP, HUNT_HELP, RUN_HELP, TRACE_HELP, VIEW_HELP};
 use evm_shell::SHELL_HELP;
 
 /// What an option takes.
@@ -11,6 +11,8 @@ pub(crate) enum Value {
     Flag,
     /// A text, which help calls so.
     Text(&'static str),
+    /// Texts by commas, of which help calls one so.
+    Texts(&'static str),
     /// A number, between two others.
     Number(&'static str, u64, u64),
     /// Two numbers, between two others.
@@ -63,7 +65,7 @@ pub(crate) struct Word {
 
 /// What `--help` says of the program.
 pub(crate) const ABOUT: &str =
-    "Draws, traces, debugs and hunts in runs of the machine that evltool drives";
+    "Runs programs on the machine that evltool drives, and draws, traces, debugs and hunts in their runs";
 
 const IMAGE: Place = Place {
     name: "IMAGE",
@@ -103,6 +105,64 @@ const BESIDE: Choice = Choice {
     value: Value::Text("OTHER"),
     help: "A journal whose run the page shows beside the other",
     excludes: &["text"],
+};
+
+/// `run`.
+pub(crate) const RUN: Word = Word {
+    name: "run",
+    about: "Runs a program until its tasks have ended",
+    places: &[IMAGE],
+    options: &[
+        Choice {
+            name: "cpus",
+            value: Value::Number("N", 1, 8),
+            help: "Processors [default: 2]",
+            excludes: &[],
+        },
+        Choice {
+            name: "ram",
+            value: Value::Number("BYTES", 65_536, 16_777_216),
+            help: "Bytes of RAM [default: what the image is linked for, or 16777216]",
+            excludes: &[],
+        },
+        Choice {
+            name: "ticks",
+            value: Value::Number("N", 1, 1_048_576),
+            help: "The clock ticks every N rounds [default: 1000]",
+            excludes: &[],
+        },
+        Choice {
+            name: "lines",
+            value: Value::Texts("L@N,.."),
+            help: "Line L is raised on processor 0 every N rounds, without @N with each tick",
+            excludes: &[],
+        },
+        Choice {
+            name: "seed",
+            value: Value::Number("S", 0, 18_446_744_073_709_551_614),
+            help: "Draws which processor steps next; without it each steps in turn",
+            excludes: &[],
+        },
+        Choice {
+            name: "until",
+            value: Value::Text("END"),
+            help: "exit, idle or a number of events at most [default: exit]",
+            excludes: &[],
+        },
+        Choice {
+            name: "journal",
+            value: Value::Text("OUT"),
+            help: "Writes the journal",
+            excludes: &[],
+        },
+        Choice {
+            name: "map",
+            value: Value::Text("FILE"),
+            help: "The lines of sources that addresses come from, as kit/map writes them",
+            excludes: &[],
+        },
+    ],
+    help: RUN_HELP,
 };
 
 /// `view`.

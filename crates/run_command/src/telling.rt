@@ -1,0 +1,171 @@
+//! The end of a run in words.
+
+use crate::machine::{Named, fault_words};
+use evm_core::EventLine;
+use evm_isa::{Inst, decode};
+use evm_model::{Fault, TaskState};
+use evm_room::NoMemory;
+use evm_shell_answers::{Names, Page};
+use run_schedule::{AnyDevice, FinishedRun, Machine, RunEnd};
+
+// Three digits behind others.
+fn put_group(page: &mut Page, group: u64) -> Result<(), NoMemory> {
+    page.put(if group < 10 {
+        ",00"
+    } else if group < 100 {
+        ",0"
+    } else {
+        ","
+    })?;
+    page.put_decimal(group)
+}
+
+// A number with a comma before the last three digits, and before the last six.
+fn put_grouped(page: &mut Page, number: u64) -> Result<(), NoMemory> {
+    if number < 1_000 {
+        return page.put_decimal(number);
+    }
+    if number < 1_000_000 {
+        page.put_decimal(number / 1_000)?;
+        return put_group(page, number % 1_000);
+    }
+    page.put_decimal(number / 1_000_000)?;
+    put_group(page, number / 1_000 % 1_000)?;
+    put_group(page, number % 1_000)
+}
+
+fn put_count(page: &mut Page, count: u64, one: &str, more: &str) -> Result<(), NoMemory> {
+    put_grouped(page, count)?;
+    page.put(if count == 1 { one } else { more })
+}
+
+// How many Steps a journal has.
+fn steps_of(machine: &Machine<AnyDevice>) -> u64 {
+    let mut steps = 0u64;
+    for i in 0..machine.journal_line_count() {
+        if let Some(EventLine::Steps(_, count)) = machine.journal_line(i) {
+            steps = steps.saturating_add(u64::from(count));
+        }
+    }
+    steps
+}
+
+// How long a run took.
+fn put_length(page: &mut Page, machine: &Machine<AnyDevice>) -> Result<(), NoMemory> {
+    put_count(page, steps_of(machine), " step and ", " steps and ")?;
+    put_count(page, machine.ticks(), " tick", " ticks")
+}
+
+fn put_behind(page: &mut Page, words: &str, machine: &Machine<AnyDevice>) -> Result<(), NoMemory> {
+    page.put(words)?;
+    page.put(" after ")?;
+    put_length(page, machine)
+}
+
+// A processor that stopped at EBREAK.
+fn put_break(page: &mut Page, named: Named<'_>, c: u8) -> Result<(), NoMemory> {
+    put_behind(page, "EBREAK", named.machine)?;
+    page.put(": ")?;
+    if let Some(processor) = named.machine.cpu(c)
+        && let Some(t) = processor.current
+    {
+        named.put_task(page, t)?;
+        named.put_at(page, t, 4)?;
+        named.put_a0(page, t)?;
+    }
+    page.put("\n")
+}
+
+// The word at an address.
+fn word_at(machine: &Machine<AnyDevice>, address: u64) -> Option<u32> {
+    match machine.bytes(address, 4) {
+        Some([a, b, c, d]) => Some(u32::from_le_bytes([*a, *b, *c, *d])),
+        _ => None,
+    }
+}
+
+// The address that a load or a store at the pc of a task is of.
+fn address_of(machine: &Machine<AnyDevice>, t: u8) -> Option<u64> {
+    let hart = machine.hart(t)?;
+    let (register, offset) = match decode(word_at(machine, hart.pc)?) {
+        Some(Inst::Load { rs1, offset, .. }) => (rs1, offset),
+        Some(Inst::Store { rs1, offset, .. }) => (rs1, offset),
+        _ => return None,
+    };
+    let base = *hart.regs.get(usize::from(register.number()))?;
+    Some(base.wrapping_add(i64::from(offset).cast_unsigned()))
+}
+
+// A task that ended by a fault.
+fn put_fault(page: &mut Page, named: Named<'_>, t: u8, fault: Fault) -> Result<(), NoMemory> {
+    put_behind(page, fault_words(fault), named.machine)?;
+    page.put(": ")?;
+    named.put_task(page, t)?;
+    named.put_at(page, t, 0)?;
+    if let Fault::Load | Fault::Store = fault
+        && let Some(address) = address_of(named.machine, t)
+    {
+        page.put(", of address ")?;
+        page.put_hexadecimal(address)?;
+    }
+    page.put("\n")
+}
+
+fn put_faulted(page: &mut Page, named: Named<'_>, t: u8) -> Result<(), NoMemory> {
+    match named.machine.task(t) {
+        Some(task) => match task.state {
+            TaskState::Faulted(fault) => put_fault(page, named, t, fault),
+            _ => Ok(()),
+        },
+        None => Ok(()),
+    }
+}
+
+fn put_bound(page: &mut Page, machine: &Machine<AnyDevice>) -> Result<(), NoMemory> {
+    page.put("not all tasks ended within ")?;
+    put_count(page, machine.event_count(), " event: ", " events: ")?;
+    put_length(page, machine)?;
+    page.put("\n")
+}
+
+// What a run has come to, in a line.
+fn put_ending(page: &mut Page, named: Named<'_>, ending: RunEnd) -> Result<(), NoMemory> {
+    let words = match ending {
+        RunEnd::Break(c) => return put_break(page, named, c),
+        RunEnd::Fault(t) => return put_faulted(page, named, t),
+        RunEnd::Refused(_) => return put_bound(page, named.machine),
+        RunEnd::AllEnded => "all tasks ended",
+        RunEnd::Deadlock => "deadlock",
+        RunEnd::Idle => "idle",
+    };
+    put_behind(page, words, named.machine)?;
+    page.put(match ending {
+        RunEnd::Deadlock => { ": no task can run, and no deadline, timer or line is to come\n" }
+        RunEnd::Idle => ": no processor has anything to do\n",
+        _ => "\n",
+    })
+}
+
+/// The end of a run: how it ended; if tasks are left, who runs, who waits and who owns; and the notices. The last line of the console is
+/// ended first.
+pub(crate) fn put_finished(
+    page: &mut Page,
+    names: &Names,
+    done: &FinishedRun,
+) -> Result<(), NoMemory> {
+    let named = Named {
+        machine: &done.machine,
+        names,
+    };
+    if done.is_open {
+        page.put("\n")?;
+    }
+    put_ending(page, named, done.ending)?;
+    if done.ending != RunEnd::AllEnded {
+        named.put_machine(page)?;
+    }
+    if done.ending == RunEnd::Deadlock {
+        named.put_lines(page)?;
+    }
+    named.put_notices(page)
+}

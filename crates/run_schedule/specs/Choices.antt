@@ -1,0 +1,11 @@
+-- What comes next in a run.
+use Rattle.std.specs.Prelude.{ℕ}
+use Rattle.evm_model.specs.State.{State}
+use Rattle.run_schedule.specs.Endings.{HasEndedSo}
+use Rattle.run_schedule.specs.declared.course.Choice.{Choice}
+use Rattle.run_schedule.specs.declared.course.Choice.TheVariants.{Make, End}
+
+-- a run that is to end has ended so
+abbrev pub IsChoice : Choice → State → Type 0
+IsChoice (Make event) s = Unit {0}
+IsChoice (End ending) s = HasEndedSo ending s

@@ -1,0 +1,5 @@
+pub mod Advances
+pub mod Choices
+pub mod Console
+pub mod Endings
+pub mod Runs

@@ -1,0 +1,20 @@
+//! A run without a script: which event is next, what the program puts to its consoles, and how the run has ended.
+#![tactic(auto)]
+
+mod advancing;
+mod course;
+mod ending;
+mod looking;
+mod printing;
+mod random;
+mod running;
+
+pub use course::{Beat, RunPlan};
+pub use ending::RunEnd;
+pub use evm_core::{Boot, Machine};
+pub use evm_devs::AnyDevice;
+pub use evm_model::{CAPACITY_LIMIT, Event, NoBytes, Refusal};
+pub use evm_ram::SIZE_LIMIT;
+pub use evm_schedules::BeginFault;
+pub use looking::{all_exited, is_deadlocked};
+pub use running::{FinishedRun, RunFault, run};
