@@ -27,7 +27,7 @@ pub(crate) struct Side<'a> {
 
 // What the page says of a run.
 fn run_of<'a>(input: &Input<'a>, side: Side<'a>) -> ToldRun<'a>
-    ensures { result.journal.now ≡ side.journal.now }
+    ensures { result.journal.now ≡ side.entry.journal.now }
 {
     let about = About {
         image: input.job.image,
@@ -70,7 +70,7 @@ fn tell<M: Meter, E: Sink>(
     meter: &mut M,
     errors: &mut E,
 ) -> Result<(), u8>
-    ensures adds { OnOk result (AddsRun devices input.now.image.now side.journal.now (string_bytes page.old) (string_bytes page.new)) }
+    ensures adds { OnOk result (AddsRun devices input.now.image.now side.entry.journal.now (string_bytes page.old) (string_bytes page.new)) }
     ensures status { IfErr result (λ status. status ≢ 0) }
 {
     let run = run_of(input, side);
@@ -83,6 +83,7 @@ fn tell<M: Meter, E: Sink>(
 }
 
 // Appends the run of another journal, if there is one, on a machine with devices of its own.
+#[tactic(auto, using(crate::proofs::Pages::added, crate::proofs::Pages::nothing))]
 fn tell_other<M: Meter, E: Sink>(
     alloc: Global,
     page: &mut String,
@@ -104,6 +105,7 @@ fn tell_other<M: Meter, E: Sink>(
 }
 
 // What stands in a page behind its first run, or the status.
+#[tactic(auto, using(crate::proofs::Pages::both))]
 fn with_rest<M: Meter, E: Sink>(
     alloc: Global,
     mut page: String,
@@ -133,7 +135,7 @@ fn page_of<M: Meter, E: Sink>(
     meter: &mut M,
     errors: &mut E,
 ) -> Result<String, u8>
-    ensures run { IfOk result (λ page. HasRun devices input.now.image.now sides.0.journal.now (string_bytes page)) }
+    ensures run { IfOk result (λ page. HasRun devices input.now.image.now sides.entry.0.journal.now (string_bytes page)) }
     ensures status { IfErr result (λ status. status ≢ 0) }
 {
     let Ok(mut page) = page_head(alloc) else {

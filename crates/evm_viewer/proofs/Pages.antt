@@ -1,7 +1,7 @@
 -- A page that is put together: the run of a journal, with texts before and behind it.
 use Rattle.std.proofs.Common.{◌≡◌, ℕ, List, [], ◌++◌, refl, sym, ap, ◌∙◌, append_assoc}
 use Rattle.std.proofs.lemmas.List.{append-nil}
-use Rattle.std.specs.Prelude.{OnOk, Result, Ok, Err}
+use Rattle.std.specs.Prelude.{IfOk, OnOk, Result, Ok, Err}
 use Rattle.evm_image.specs.Images.{Contents}
 use Rattle.evm_model.specs.Devices.{Attached}
 use Rattle.view_page.specs.Pages.{AddsRun, HasRun}
@@ -23,5 +23,10 @@ pub both : (old mid new : List ℕ) → Adds old mid → Adds mid new → Adds o
 both old mid new one two = (one.0 ++ two.0, two.1 ∙ ap (λ l. l ++ two.0) one.1 ∙ append_assoc old one.0 two.0)
 
 -- a run with what stands behind it
-pub has-run : (devices : List Attached) (image : Contents) (journal head mid page : List ℕ) → AddsRun devices image journal head mid → Adds mid page → HasRun devices image journal page
-has-run devices image journal head mid page told rest = (head, told.0, rest.0, told.1, rest.1 ∙ ap (λ l. l ++ rest.0) told.2 ∙ append_assoc head told.0 rest.0)
+pub has_run : (devices : List Attached) (image : Contents) (journal head mid page : List ℕ) → AddsRun devices image journal head mid → Adds mid page → HasRun devices image journal page
+has_run devices image journal head mid page told rest = (head, told.0, rest.0, told.1, rest.1 ∙ ap (λ l. l ++ rest.0) told.2 ∙ append_assoc head told.0 rest.0)
+
+pub whole : {A E : Type 0} (bytes : A → List ℕ) (r : Result A E) (devices : List Attached) (image : Contents) (journal head mid : List ℕ) → AddsRun devices image journal head mid
+    → IfOk r (λ w. Adds mid (bytes w)) → IfOk r (λ w. HasRun devices image journal (bytes w))
+whole bytes (Err error) devices image journal head mid told rest = tt
+whole bytes (Ok w) devices image journal head mid told rest = has_run devices image journal head mid (bytes w) told rest
