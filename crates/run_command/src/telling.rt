@@ -2,7 +2,6 @@
 
 use crate::machine::{Named, fault_words};
 use evm_core::EventLine;
-use evm_isa::{Inst, decode};
 use evm_model::{Fault, TaskState};
 use evm_room::NoMemory;
 use evm_shell_answers::{Names, Page};
@@ -84,16 +83,38 @@ fn word_at(machine: &Machine<AnyDevice>, address: u64) -> Option<u32> {
     }
 }
 
-// The address that a load or a store at the pc of a task is of.
-fn address_of(machine: &Machine<AnyDevice>, t: u8) -> Option<u64> {
-    let hart = machine.hart(t)?;
-    let (register, offset) = match decode(word_at(machine, hart.pc)?) {
-        Some(Inst::Load { rs1, offset, .. }) => (rs1, offset),
-        Some(Inst::Store { rs1, offset, .. }) => (rs1, offset),
-        _ => return None,
+// The number of the register that a load or a store adds its offset to.
+fn base_of(word: u32) -> usize {
+    (word / 0x8000 % 32) as usize
+}
+
+// The offset of a load or a store, of 12 bits with a sign.
+fn offset_of(fault: Fault, word: u32) -> u64 {
+    let high = word / 0x0200_0000;
+    let low = match fault {
+        Fault::Store => word / 0x80 % 32,
+        _ => word / 0x0010_0000 % 32,
     };
-    let base = *hart.regs.get(usize::from(register.number()))?;
-    Some(base.wrapping_add(i64::from(offset).cast_unsigned()))
+    let offset = u64::from(high * 32 + low);
+    if offset < 2_048 {
+        offset
+    } else {
+        offset.wrapping_sub(4_096)
+    }
+}
+
+// The address that a load or a store at the pc of a task is of.
+fn address_of(machine: &Machine<AnyDevice>, t: u8, fault: Fault) -> Option<u64> {
+    let Some(hart) = machine.hart(t) else {
+        return None;
+    };
+    let Some(word) = word_at(machine, hart.pc) else {
+        return None;
+    };
+    match hart.regs.get(base_of(word)) {
+        Some(base) => Some(base.wrapping_add(offset_of(fault, word))),
+        None => None,
+    }
 }
 
 // A task that ended by a fault.
@@ -103,7 +124,7 @@ fn put_fault(page: &mut Page, named: Named<'_>, t: u8, fault: Fault) -> Result<(
     named.put_task(page, t)?;
     named.put_at(page, t, 0)?;
     if let Fault::Load | Fault::Store = fault
-        && let Some(address) = address_of(named.machine, t)
+        && let Some(address) = address_of(named.machine, t, fault)
     {
         page.put(", of address ")?;
         page.put_hexadecimal(address)?;
