@@ -7,8 +7,8 @@ use evm_gdb_driving::push_bytes;
 use evm_room::Refused;
 
 /// What is supported.
-pub(crate) const SUPPORTED: &str =
-    "PacketSize=4000;QStartNoAckMode+;qXfer:features:read+;swbreak+;hwbreak+;vContSupported+";
+pub(crate) const SUPPORTED: &str = "PacketSize=4000;QStartNoAckMode+;qXfer:features:read+;\
+qXfer:memory-map:read+;swbreak+;hwbreak+;vContSupported+;ReverseStep+;ReverseContinue+";
 
 /// The actions of `vCont`.
 pub(crate) const ACTIONS: &str = "vCont;c;C;s;S";
@@ -18,6 +18,7 @@ pub(crate) const DESCRIPTION: &str = "<?xml version=\"1.0\"?>
 <!DOCTYPE target SYSTEM \"gdb-target.dtd\">
 <target version=\"1.0\">
 <architecture>riscv:rv64</architecture>
+<osabi>none</osabi>
 <feature name=\"org.gnu.gdb.riscv.cpu\">
 <reg name=\"zero\" bitsize=\"64\" type=\"int\" regnum=\"0\"/>
 <reg name=\"ra\" bitsize=\"64\" type=\"code_ptr\"/>
@@ -54,6 +55,14 @@ pub(crate) const DESCRIPTION: &str = "<?xml version=\"1.0\"?>
 <reg name=\"pc\" bitsize=\"64\" type=\"code_ptr\"/>
 </feature>
 </target>
+";
+
+/// The memory map: RAM, as large as it may be.
+pub(crate) const MEMORY_MAP: &str = "<?xml version=\"1.0\"?>
+<!DOCTYPE memory-map PUBLIC \"+//IDN gnu.org//DTD GDB Memory Map V1.0//EN\" \"http://sourceware.org/gdb/gdb-memory-map.dtd\">
+<memory-map>
+<memory type=\"ram\" start=\"0x80000000\" length=\"0x1000000\"/>
+</memory-map>
 ";
 
 /// Appends the part of a document from an offset on, at most `count` bytes, behind `m` or, of its end, `l`.

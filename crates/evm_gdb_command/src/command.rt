@@ -2,11 +2,11 @@
 
 ghost use Rattle.evm_gdb_command.specs.SessionEnds.{SessionEnded, Unheard};
 
-use crate::booting::{DEFAULT, NotBooted, boot, run_script};
+use crate::booting::{DEFAULT, NotBooted, run_script};
 use crate::words::{Job, job_of};
 use clap::ArgMatches;
-use evm_dev::Device;
-use evm_gdb::{Devices, Ended, GdbSession, Interrupts, Machine, Refusal, serve_gdb};
+use evm_devs::AnyDevice;
+use evm_gdb::{Ended, GdbSession, Interrupts, Machine, Refusal, begin, serve_gdb};
 use evm_gdb_hearing::{Hearing, HearingEnd};
 use evm_host::{
     Ending, Known, Message, System, USAGE, Verdict, World, ended, ended_with, image_at,
@@ -51,14 +51,13 @@ fn not_booted<S: System>(
 }
 
 // The machine that boots by default.
-fn default_machine<S: System, D: Device>(
+fn default_machine<S: System>(
     alloc: Global,
-    devices: Devices<D>,
     name: &str,
     image: &Image,
     world: &mut World<S>,
-) -> Result<Machine<D>, u8> {
-    match boot(alloc, DEFAULT, devices, image) {
+) -> Result<Machine<AnyDevice>, u8> {
+    match begin(alloc, image, DEFAULT) {
         Ok(machine) => Ok(machine),
         Err(Refusal::NoMemory) => Err(memory_refused(PROGRAM, world)),
         Err(_) => {
@@ -73,21 +72,20 @@ fn default_machine<S: System, D: Device>(
 }
 
 // The machine that the words ask for.
-fn machine_of<S: System, D: Device>(
+fn machine_of<S: System>(
     alloc: Global,
-    devices: Devices<D>,
     job: Job<'_>,
     image: &Image,
     world: &mut World<S>,
-) -> Result<Machine<D>, u8> {
+) -> Result<Machine<AnyDevice>, u8> {
     let Some(name) = job.script else {
-        return default_machine(alloc, devices, job.image, image, world);
+        return default_machine(alloc, job.image, image, world);
     };
     let script = match text_at(alloc, name, world) {
         Ok(script) => script,
         Err(status) => return Err(status),
     };
-    match run_script(alloc, script.as_bytes(), devices, image, &mut world.errors) {
+    match run_script(alloc, script.as_bytes(), image, &mut world.errors) {
         Ok(machine) => Ok(machine),
         Err(fault) => Err(not_booted(fault, name, script.as_bytes(), image, world)),
     }
@@ -120,9 +118,8 @@ fn status_of<S: System>(end: Ended, heard: Option<HearingEnd>, world: &mut World
 }
 
 // Boots a machine, and serves GDB.
-fn do_job<S: System, D: Device, I: Source + Interrupts + Hearing>(
+fn do_job<S: System, I: Source + Interrupts + Hearing>(
     alloc: Global,
-    devices: Devices<D>,
     job: Job<'_>,
     input: &mut I,
     world: &mut World<S>,
@@ -131,25 +128,24 @@ fn do_job<S: System, D: Device, I: Source + Interrupts + Hearing>(
         Ok(image) => image,
         Err(status) => return status,
     };
-    let machine = match machine_of(alloc, devices, job, &image, world) {
+    let machine = match machine_of(alloc, job, &image, world) {
         Ok(machine) => machine,
         Err(status) => return status,
     };
-    let mut session = GdbSession::new(machine);
+    let mut session = GdbSession::new(image, machine);
     let end = serve_gdb(alloc, &mut session, input, &mut world.output);
     status_of(end, input.end(), world)
 }
 
-/// `gdb`: serves GDB with devices in the machine, and returns the exit status. GDB is heard by the input.
-pub fn gdb<S: System, D: Device, I: Source + Interrupts + Hearing>(
+/// `gdb`: serves GDB, and returns the exit status. GDB is heard by the input.
+pub fn gdb<S: System, I: Source + Interrupts + Hearing>(
     alloc: Global,
     words: &ArgMatches<'_>,
-    devices: Devices<D>,
     input: &mut I,
     world: &mut World<S>,
 ) -> u8 {
     match job_of(words) {
-        Some(job) => do_job(alloc, devices, job, input, world),
+        Some(job) => do_job(alloc, job, input, world),
         None => USAGE,
     }
 }

@@ -7,10 +7,10 @@ use Rattle.evm_gdb.proofs.answering.answer.Goals as goal
 pub returns-in-Monitor-clause-done : goal.returns-in-Monitor-clause-done
 returns-in-Monitor-clause-done g c =
     let s = c.args.session.now in
-    holds_on_ok c.answer_digits.result (λ events. IsCarriedOut outcome_text events s.machine c.answer_digits.new.session.machine c.args.out.now.items c.answer_digits.new.out.items)
-    s.looked c.args.behind.now s.machine c.args.command c.in-Monitor.is c.answer_digits.ensures.done
+    holds_on_ok c.answer_digits.result (λ events. IsCarriedOut outcome_text events s.tape.machine c.answer_digits.new.session.tape.machine c.args.out.now.items c.answer_digits.new.out.items)
+    s.looked c.args.behind.now s.tape.machine c.args.command c.in-Monitor.is c.answer_digits.ensures.done
 
 pub returns-in-Monitor-clause-quiet : goal.returns-in-Monitor-clause-quiet
 returns-in-Monitor-clause-quiet g c =
     let s = c.args.session.now in
-    holds_asked (λ events. c.answer_digits.new.told ≡ c.args.told.now) s.looked c.args.behind.now s.machine c.args.command c.in-Monitor.is c.answer_digits.ensures.quiet
+    holds_asked (λ events. c.answer_digits.new.told ≡ c.args.told.now) s.looked c.args.behind.now s.tape.machine c.args.command c.in-Monitor.is c.answer_digits.ensures.quiet
