@@ -4,10 +4,9 @@ ghost use Rattle.std.specs.Prelude.{◌≡◌, ◌≢◌, true, ◌++◌, ℕ, L
 ghost use Rattle.evm_gdb.specs.Answers.{answer_text};
 ghost use Rattle.evm_gdb.specs.Asking.{ArePointsSet, IsCarriedOut, asked, asked_by, counted_writing, has_digits, points_asked};
 ghost use Rattle.evm_gdb.specs.Setting.{register_write};
-ghost use Rattle.evm_gdb_commands.specs.declared.command.Command.TheVariants as commands;
 ghost use Rattle.evm_gdb_driving.specs.Kept.{KeepsJournal};
 ghost use Rattle.evm_gdb_driving.specs.Points.{Becomes};
-ghost use Rattle.evm_gdb_driving.specs.Setting.{MakesAsked};
+ghost use Rattle.evm_gdb_driving.specs.Setting.{MakesAsked, registers_setting};
 ghost use Rattle.evm_gdb_driving.specs.Shown.{error_text, outcome_text};
 ghost use Rattle.gdb_tape.specs.Tape.{KeepsTape};
 ghost use Rattle.evm_gdb_packets.specs.Hexadecimal.{bytes_of_digits};
@@ -159,40 +158,68 @@ fn answer_monitor(
     }
 }
 
-// Makes the events that a command with these bytes asks for.
-#[tactic(auto, using(evm_gdb_driving::proofs::Kept::keeps_same))]
-fn change<D: Device>(
-    machine: &mut Machine<D>,
-    looked: u8,
-    command: Command,
-    bytes: &[u8],
-) -> Result<(), Refusal>
-    ensures unchanged { command ≢ commands.SetRegisters → OnErr result (machine.new ≡ machine.old) }
-    ensures made { IfSome (asked_by looked bytes.now machine.old command) (λ events. MakesAsked events result machine.old machine.new) }
-    ensures kept { KeepsJournal machine.old machine.new }
+// Sets the registers of the task that is looked at. Events behind the place are dropped.
+#[tactic(auto, using(gdb_tape::proofs::Keeping::keeps_changed))]
+fn carry_registers(session: &mut GdbSession, bytes: &[u8]) -> Result<(), Refusal>
+    ensures made { MakesAsked (registers_setting session.old.looked bytes.now session.old.tape.machine.board.parts) result session.old.tape.machine session.new.tape.machine }
+    ensures kept { KeepsTape session.old.tape session.new.tape }
 {
-    match command {
-        Command::SetRegisters => set_registers(machine, looked, bytes),
-        Command::SetRegister(r) => write_register(machine, looked, r, bytes),
-        Command::WriteDigits(address, count) | Command::WriteBytes(address, count) => {
-            write_counted(machine, address, count, bytes)
+    let looked = session.looked;
+    let outcome = set_registers(&mut session.tape.machine, looked, bytes);
+    session.forget();
+    outcome
+}
+
+// Sets a register of the task that is looked at. If it is set events behind the place are dropped.
+#[tactic(auto, using(gdb_tape::proofs::Keeping::keeps_same, gdb_tape::proofs::Keeping::keeps_changed))]
+fn carry_register(session: &mut GdbSession, r: u64, bytes: &[u8]) -> Result<(), Refusal>
+    ensures made { MakesAsked (register_write session.old.looked r bytes.now session.old.tape.machine.board.parts) result session.old.tape.machine session.new.tape.machine }
+    ensures kept { KeepsTape session.old.tape session.new.tape }
+{
+    let looked = session.looked;
+    match write_register(&mut session.tape.machine, looked, r, bytes) {
+        Ok(()) => {
+            session.forget();
+            Ok(())
         }
-        _ => Ok(()),
+        Err(refusal) => Err(refusal),
     }
 }
 
-// Makes the events that a command asks for; the events behind the place are dropped then.
-#[tactic(auto, using(evm_gdb_driving::proofs::Kept::keeps_same, gdb_tape::proofs::Keeping::keeps_same, gdb_tape::proofs::Keeping::keeps_changed))]
+// Writes bytes, if there are as many as was said. If they are written events behind the place are dropped.
+#[tactic(auto, using(gdb_tape::proofs::Keeping::keeps_same, gdb_tape::proofs::Keeping::keeps_changed))]
+fn carry_bytes(
+    session: &mut GdbSession,
+    address: u64,
+    count: u64,
+    bytes: &[u8],
+) -> Result<(), Refusal>
+    ensures made { MakesAsked (counted_writing address count bytes.now session.old.tape.machine) result session.old.tape.machine session.new.tape.machine }
+    ensures kept { KeepsTape session.old.tape session.new.tape }
+{
+    match write_counted(&mut session.tape.machine, address, count, bytes) {
+        Ok(()) => {
+            session.forget();
+            Ok(())
+        }
+        Err(refusal) => Err(refusal),
+    }
+}
+
+// Makes the events that a command with these bytes asks for.
+#[tactic(auto, using(gdb_tape::proofs::Keeping::keeps_same))]
 fn carry_out(session: &mut GdbSession, command: Command, bytes: &[u8]) -> Result<(), Refusal>
     ensures made { IfSome (asked_by session.old.looked bytes.now session.old.tape.machine command) (λ events. MakesAsked events result session.old.tape.machine session.new.tape.machine) }
     ensures kept { KeepsTape session.old.tape session.new.tape }
 {
-    let looked = session.looked;
-    let outcome = change(&mut session.tape.machine, looked, command, bytes);
-    if outcome.is_ok() || command == Command::SetRegisters {
-        session.forget();
+    match command {
+        Command::SetRegisters => carry_registers(session, bytes),
+        Command::SetRegister(r) => carry_register(session, r, bytes),
+        Command::WriteDigits(address, count) | Command::WriteBytes(address, count) => {
+            carry_bytes(session, address, count, bytes)
+        }
+        _ => Ok(()),
     }
-    outcome
 }
 
 // The answer to a command that has digits or bytes, which are these.
@@ -209,10 +236,11 @@ fn answer_data(
     ensures quiet { OnSome (asked_by session.old.looked bytes.now session.old.tape.machine command) (told.new ≡ told.old) }
     ensures kept { KeepsTape session.old.tape session.new.tape }
 {
-    if command == Command::Monitor {
-        return answer_monitor(alloc, session, bytes, told, out);
-    }
-    match push_outcome(out, carry_out(session, command, bytes)) {
+    let outcome = match command {
+        Command::Monitor => return answer_monitor(alloc, session, bytes, told, out),
+        _ => carry_out(session, command, bytes),
+    };
+    match push_outcome(out, outcome) {
         Ok(()) => Ok(()),
         Err(_) => Err(NoMemory),
     }

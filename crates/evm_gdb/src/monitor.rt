@@ -7,8 +7,8 @@ use crate::session::{GdbSession, TURN_LIMIT, each_processor};
 use arrayvec::ArrayVec;
 use evm_dev::Device;
 use evm_gdb_driving::{Line, Machine, Refusal, View, ViewRefusal, push_view, read_line};
-use evm_room::NoMemory;
-use evm_text::{after_word, decimal_at, decimal_last};
+use evm_room::{NoMemory, Refused, push_text};
+use evm_text::{after_word, decimal_at, decimal_last, push_decimal};
 use std::alloc::Global;
 
 /// What came of a line.
@@ -102,6 +102,8 @@ enum Own {
     Clock(u32),
     /// `restart`.
     Restart,
+    /// `machine`.
+    Machine,
     /// `help`.
     Help,
 }
@@ -113,6 +115,9 @@ fn own_line(line: &[u8], cpus: u8) -> Option<Own> {
     }
     if line == b"restart".as_slice() {
         return Some(Own::Restart);
+    }
+    if line == b"machine".as_slice() {
+        return Some(Own::Machine);
     }
     if line == b"schedule round-robin".as_slice() {
         return Some(Own::Turns(each_processor(cpus)));
@@ -144,6 +149,7 @@ pub(crate) const HELP: &str = "limit N               a continue makes at most N 
 clock N               the clock ticks behind N rounds of turns, and when all
                       tasks wait and something is due; 0 for never
 restart               the machine is as it was when the session began
+machine               says what the machine has, and where the session stands
 schedule C C ..       in a continue these processors step, one after the other
 schedule round-robin  in a continue each processor steps in turn
 step C N, tick, raise C L, stop C, go C, stepi C, set C R V, setpc C V,
@@ -171,6 +177,30 @@ fn run_script_line(
             run_line(&mut session.tape.machine, line, text)
         }
     }
+}
+
+// Appends a number and what it counts.
+fn push_count(out: &mut String, number: u64, words: &str) -> Result<(), Refused> {
+    push_decimal(out, number)?;
+    push_text(out, words)
+}
+
+// Appends what the machine has, and where the session stands.
+fn push_machine(out: &mut String, session: &GdbSession) -> Result<(), Refused> {
+    let machine = &session.tape.machine;
+    let boot = machine.boot_numbers();
+    push_count(out, boot.cpus, " processors\n")?;
+    push_count(out, boot.ram, " bytes of RAM from 80000000 on\n")?;
+    push_count(out, boot.capacity, " events in the journal at most\n")?;
+    push_count(out, session.tape.end().event_count(), " events made\n")?;
+    push_count(out, machine.event_count(), " events before this place\n")?;
+    push_count(out, machine.ticks(), " ticks\n")?;
+    push_count(
+        out,
+        u64::from(session.limit),
+        " events in a continue at most\n",
+    )?;
+    push_count(out, u64::from(session.clock), " rounds from tick to tick\n")
 }
 
 // Goes to where the session began, and drops the events behind that.
@@ -217,7 +247,11 @@ pub(crate) fn run_monitor(
             Ok(LineEnd::Done)
         }
         Some(Own::Restart) => Ok(restart(alloc, session)),
-        Some(Own::Help) => match evm_room::push_text(text, HELP) {
+        Some(Own::Machine) => match push_machine(text, session) {
+            Ok(()) => Ok(LineEnd::Done),
+            Err(_) => Err(NoMemory),
+        },
+        Some(Own::Help) => match push_text(text, HELP) {
             Ok(()) => Ok(LineEnd::Done),
             Err(_) => Err(NoMemory),
         },

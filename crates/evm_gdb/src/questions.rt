@@ -4,7 +4,7 @@ ghost use Rattle.std.specs.Prelude.{◌≡◌, ◌++◌, ℕ, List, Option, OnOk
 ghost use Rattle.evm_gdb.specs.Answers.{alive_text, answer_text, is_thread, register_reply, task_registers};
 
 use crate::session::GdbSession;
-use crate::target::{ACTIONS, DESCRIPTION, MEMORY_MAP, SUPPORTED, push_part};
+use crate::target::{ACTIONS, DESCRIPTION, SUPPORTED, memory_map, push_part};
 use evm_dev::Device;
 use evm_gdb_commands::Command;
 use evm_gdb_driving::{
@@ -86,7 +86,10 @@ pub(crate) fn answer_question(
         Command::Description(offset, count) => {
             push_part(out, DESCRIPTION.as_bytes(), offset, count)
         }
-        Command::MemoryMap(offset, count) => push_part(out, MEMORY_MAP.as_bytes(), offset, count),
+        Command::MemoryMap(offset, count) => {
+            let map = memory_map(session.tape.machine.boot_numbers().ram);
+            push_part(out, map.as_slice(), offset, count)
+        }
         Command::Actions => push_bytes(out, ACTIONS.as_bytes()),
         _ => Ok(()),
     }

@@ -11,7 +11,7 @@ ghost use Rattle.gdb_tape.specs.Tape.{KeepsTape};
 use crate::answering::answer;
 use crate::session::GdbSession;
 use evm_gdb_commands::{Command, read_command};
-use evm_gdb_driving::{Interrupts, part_len, push_bytes};
+use evm_gdb_driving::{Interrupts, has_going, part_len, processor_of, push_bytes, stop_all};
 use evm_gdb_packets::{PacketItem, push_digits, push_framed, read_item};
 use evm_room::{NoMemory, Refused};
 use evm_streams::{ReadFault, Reading, Sink, Source, WriteFault, write_all};
@@ -256,6 +256,26 @@ fn prepare<I: Interrupts>(
     }
 }
 
+// Whether a payload asks for other registers.
+fn writes_registers(payload: &[u8]) -> bool {
+    match read_command(payload) {
+        Some((Command::SetRegisters, _)) | Some((Command::SetRegister(_), _)) => true,
+        _ => false,
+    }
+}
+
+// Stops the processors where registers are to be written that can be: at an earlier place they may go.
+#[tactic(auto, using(gdb_tape::proofs::Keeping::keeps_same, gdb_tape::proofs::Keeping::keeps_changed))]
+fn make_way(session: &mut GdbSession, payload: &[u8])
+    ensures kept { KeepsTape session.old.tape session.new.tape }
+{
+    let can = processor_of(&session.tape.machine, session.looked).is_ok();
+    if can && writes_registers(payload) && has_going(&session.tape.machine) {
+        session.forget();
+        let _ = stop_all(&mut session.tape.machine);
+    }
+}
+
 // Answers an item.
 fn serve_item<W: Sink, I: Interrupts>(
     alloc: Global,
@@ -268,6 +288,9 @@ fn serve_item<W: Sink, I: Interrupts>(
 ) -> Result<(), Ended>
     ensures kept { KeepsTape session.old.tape session.new.tape }
 {
+    if item == PacketItem::Packet {
+        make_way(session, payload);
+    }
     match prepare(alloc, session, item, payload, interrupts, desk) {
         Ok(()) => {}
         Err(NoMemory) => return Err(Ended::NoMemory),

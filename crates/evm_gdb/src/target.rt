@@ -3,6 +3,7 @@
 ghost use Rattle.std.specs.Prelude.{◌≡◌, ◌++◌, OnOk};
 ghost use Rattle.evm_gdb.specs.Answers.{part_text};
 
+use arrayvec::ArrayVec;
 use evm_gdb_driving::push_bytes;
 use evm_room::Refused;
 
@@ -57,13 +58,38 @@ pub(crate) const DESCRIPTION: &str = "<?xml version=\"1.0\"?>
 </target>
 ";
 
-/// The memory map: RAM, as large as it may be.
-pub(crate) const MEMORY_MAP: &str = "<?xml version=\"1.0\"?>
+/// The memory map of so many bytes of RAM. Devices aren't in it, as they can't be read.
+pub(crate) fn memory_map(ram: u64) -> ArrayVec<u8, MAP_LIMIT> {
+    let mut map = ArrayVec::new();
+    let _ = map.try_extend_from_slice(MAP_HEAD.as_bytes());
+    for byte in ram.to_be_bytes().as_slice() {
+        let _ = map.try_push(digit(*byte / 16));
+        let _ = map.try_push(digit(*byte % 16));
+    }
+    let _ = map.try_extend_from_slice(MAP_TAIL.as_bytes());
+    map
+}
+
+/// The room of a memory map.
+pub(crate) const MAP_LIMIT: usize = 320;
+
+const MAP_HEAD: &str = "<?xml version=\"1.0\"?>
 <!DOCTYPE memory-map PUBLIC \"+//IDN gnu.org//DTD GDB Memory Map V1.0//EN\" \"http://sourceware.org/gdb/gdb-memory-map.dtd\">
 <memory-map>
-<memory type=\"ram\" start=\"0x80000000\" length=\"0x1000000\"/>
+<memory type=\"ram\" start=\"0x80000000\" length=\"0x";
+
+const MAP_TAIL: &str = "\"/>
 </memory-map>
 ";
+
+// The digit of a number below 16.
+fn digit(number: u8) -> u8 {
+    if number < 10 {
+        b'0'.wrapping_add(number)
+    } else {
+        b'a'.wrapping_add(number.wrapping_sub(10))
+    }
+}
 
 /// Appends the part of a document from an offset on, at most `count` bytes, behind `m` or, of its end, `l`.
 pub(crate) fn push_part(

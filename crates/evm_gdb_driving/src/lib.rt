@@ -24,6 +24,6 @@ pub use memory::{push_memory, write};
 pub use points::{Points, WATCH_LIMIT, WatchPoint, Watches};
 pub use registers::{processor_of, push_registers, register, set_register, set_registers, word_at};
 pub use running::{Going, Round, resume, step};
-pub use seeing::{Next, break_at, doer_of, halt_after, next_of, watch_at};
+pub use seeing::{Next, break_at, doer_of, halt_after, has_going, next_of, watch_at};
 pub use stops::{TargetHalt, Why, push_halt};
 pub use threads::{push_task_text, push_threads};

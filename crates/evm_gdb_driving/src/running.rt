@@ -340,7 +340,7 @@ fn watched_by<D: Device>(machine: &Machine<D>, points: &Points, next: Next) -> O
     }
 }
 
-/// One instruction of a stopped processor, behind the lines that it receives first: who is stopped then.
+/// One instruction of a processor, behind the lines that it receives first: who is stopped then. All are stopped before it.
 ///
 /// # Errors
 ///
@@ -354,6 +354,9 @@ pub fn step<D: Device>(
 ) -> Result<TargetHalt, Refusal>
     ensures kept { KeepsJournal machine.old machine.new }
 {
+    if let Err(refusal) = stop_all(machine) {
+        return Err(refusal);
+    }
     'lines: for _ in 0..LINES_BEFORE {
         let next = next_of(machine, c);
         let watched = watched_by(machine, points, next);

@@ -76,6 +76,16 @@ pub fn is_stopped<D: Device>(machine: &Machine<D>, c: u8) -> bool {
     }
 }
 
+/// Whether a processor is not stopped.
+pub fn has_going<D: Device>(machine: &Machine<D>) -> bool {
+    for c in 0..machine.cpu_count() {
+        if !is_stopped(machine, c) {
+            return true;
+        }
+    }
+    false
+}
+
 // The processor that steps by an event.
 fn stepper(event: &Event<&Block>) -> Option<u8>
     ensures { result ≡ stepper (event_lent event.now) }
