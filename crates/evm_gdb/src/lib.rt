@@ -10,7 +10,9 @@ mod serving;
 mod session;
 mod target;
 
-pub use evm_gdb_driving::{Boot, Devices, Interrupts, Line, Machine, Refusal, cut_line, read_line};
+pub use evm_gdb_driving::{
+    Boot, Devices, Interrupts, Line, Machine, Refusal, cut_line, read_line, write_journal,
+};
 pub use evm_model::CAPACITY_LIMIT;
 pub use evm_ram::SIZE_LIMIT;
 pub use gdb_tape::begin;

@@ -93,7 +93,7 @@ fn turns_at(bytes: &[u8], cpus: u8) -> Option<ArrayVec<u8, TURN_LIMIT>> {
 }
 
 /// A line of the monitor that is no line of a script.
-enum Own {
+enum Own<'a> {
     /// `limit N`.
     Limit(u32),
     /// `schedule ..`.
@@ -104,12 +104,14 @@ enum Own {
     Restart,
     /// `machine`.
     Machine,
+    /// `save NAME`.
+    Save(&'a str),
     /// `help`.
     Help,
 }
 
 // What a line of the monitor's own asks for.
-fn own_line(line: &[u8], cpus: u8) -> Option<Own> {
+fn own_line<'a>(line: &'a [u8], cpus: u8) -> Option<Own<'a>> {
     if line == b"help".as_slice() {
         return Some(Own::Help);
     }
@@ -121,6 +123,12 @@ fn own_line(line: &[u8], cpus: u8) -> Option<Own> {
     }
     if line == b"schedule round-robin".as_slice() {
         return Some(Own::Turns(each_processor(cpus)));
+    }
+    if let Some(rest) = after_word(b"save ", line) {
+        return match std::str::from_utf8(rest) {
+            Ok(name) if !name.is_empty() => Some(Own::Save(name)),
+            _ => None,
+        };
     }
     if let Some(rest) = after_word(b"schedule ", line) {
         return Some(Own::Turns(turns_at(rest, cpus)?));
@@ -150,6 +158,7 @@ clock N               the clock ticks behind N rounds of turns, and when all
                       tasks wait and something is due; 0 for never
 restart               the machine is as it was when the session began
 machine               says what the machine has, and where the session stands
+save NAME             writes the journal, NAME.journal, and as a script, NAME.script
 schedule C C ..       in a continue these processors step, one after the other
 schedule round-robin  in a continue each processor steps in turn
 step C N, tick, raise C L, stop C, go C, stepi C, set C R V, setpc C V,
@@ -247,6 +256,13 @@ pub(crate) fn run_monitor(
             Ok(LineEnd::Done)
         }
         Some(Own::Restart) => Ok(restart(alloc, session)),
+        Some(Own::Save(name)) => {
+            session.save.clear();
+            match push_text(&mut session.save, name) {
+                Ok(()) => Ok(LineEnd::Done),
+                Err(_) => Err(NoMemory),
+            }
+        }
         Some(Own::Machine) => match push_machine(text, session) {
             Ok(()) => Ok(LineEnd::Done),
             Err(_) => Err(NoMemory),

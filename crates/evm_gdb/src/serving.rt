@@ -16,12 +16,15 @@ use evm_gdb_packets::{PacketItem, push_digits, push_framed, read_item};
 use evm_room::{NoMemory, Refused};
 use evm_streams::{ReadFault, Reading, Sink, Source, WriteFault, write_all};
 use std::alloc::Global;
+use std::mem;
 
 /// How a session ended.
 #[derive(Clone, Copy, Debug, PartialEq, Eq)]
 pub enum Ended {
     /// GDB left, or its stream ended.
     Left,
+    /// The session is to be saved, and goes on then.
+    Saves,
     /// An allocation failed.
     NoMemory,
     /// A read failed.
@@ -366,7 +369,7 @@ fn keep_last(heard: &mut Vec<u8>, left: usize) {
     }
 }
 
-/// Serves a session: reads what GDB sends until it leaves, and writes the answers. While the program goes on, the source
+/// Serves a session: reads what GDB sends until it leaves or asks that the session be saved, and writes the answers. While the program goes on, the source
 /// says whether GDB asks that it be stopped.
 #[tactic(auto, using(gdb_tape::proofs::Keeping::keeps_same, gdb_tape::proofs::Keeping::keeps_more))]
 pub fn serve_gdb<R: Source + Interrupts, W: Sink>(
@@ -378,7 +381,7 @@ pub fn serve_gdb<R: Source + Interrupts, W: Sink>(
     ensures kept { KeepsTape session.old.tape session.new.tape }
 {
     let mut desk = new_desk(alloc);
-    let mut heard = Vec::new(alloc);
+    let mut heard = mem::replace(&mut session.heard, Vec::new(alloc));
     let mut payload = Vec::new(alloc);
     'parts: for _ in 0..u64::MAX {
         match read_more(source, &mut heard) {
@@ -400,6 +403,10 @@ pub fn serve_gdb<R: Source + Interrupts, W: Sink>(
         }
         if session.over {
             return Ended::Left;
+        }
+        if !session.save.is_empty() {
+            session.heard = heard;
+            return Ended::Saves;
         }
     }
     Ended::Left

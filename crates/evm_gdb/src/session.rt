@@ -8,6 +8,7 @@ use evm_devs::AnyDevice;
 use evm_gdb_driving::{Machine, Points, Round, TargetHalt, Why, stop_all};
 use evm_image::Image;
 use gdb_tape::Tape;
+use std::alloc::Global;
 
 /// How many turns a schedule may have.
 pub const TURN_LIMIT: usize = 32;
@@ -47,6 +48,10 @@ pub struct GdbSession {
     pub dropped: bool,
     /// How many events were made before the session.
     pub begin: u64,
+    /// The name under which the session is to be saved; none if it is empty.
+    pub save: String,
+    /// What GDB sent and is not answered yet, while the session is saved.
+    pub(crate) heard: Vec<u8>,
 }
 
 /// Each processor once.
@@ -72,7 +77,7 @@ fn first_task(machine: &Machine<AnyDevice>) -> u8 {
 
 impl GdbSession {
     /// A session with a machine that booted with an image. Its processors are stopped.
-    pub fn new(image: Image, mut machine: Machine<AnyDevice>) -> GdbSession {
+    pub fn new(alloc: Global, image: Image, mut machine: Machine<AnyDevice>) -> GdbSession {
         let _ = stop_all(&mut machine);
         let looked = first_task(&machine);
         let turns = each_processor(machine.cpu_count());
@@ -94,6 +99,8 @@ impl GdbSession {
             },
             dropped: false,
             begin,
+            save: String::new(alloc),
+            heard: Vec::new(alloc),
         }
     }
 

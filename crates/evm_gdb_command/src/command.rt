@@ -6,13 +6,14 @@ use crate::booting::{DEFAULT, NotBooted, run_script};
 use crate::words::{Job, job_of};
 use clap::ArgMatches;
 use evm_devs::AnyDevice;
-use evm_gdb::{Ended, GdbSession, Interrupts, Machine, Refusal, begin, serve_gdb};
+use evm_gdb::{Ended, GdbSession, Interrupts, Machine, Refusal, begin, serve_gdb, write_journal};
 use evm_gdb_hearing::{Hearing, HearingEnd};
 use evm_host::{
     Ending, Known, Message, System, USAGE, Verdict, World, ended, ended_with, image_at,
-    memory_refused, report, text_at,
+    memory_refused, not_created, report, text_at, write_all,
 };
 use evm_image::Image;
+use evm_room::push_text;
 use evm_serve::InputFault;
 use evm_streams::{ReadFault, Source};
 use std::alloc::Global;
@@ -108,13 +109,78 @@ fn status_of<S: System>(end: Ended, heard: Option<HearingEnd>, world: &mut World
     ensures { SessionEnded S.Output.takes S.Errors.takes end heard world.old world.new result }
 {
     match end {
-        Ended::Left => 0,
+        Ended::Left | Ended::Saves => 0,
         Ended::NoMemory => memory_refused(PROGRAM, world),
         Ended::ReadFailed(fault) => unread(fault, heard, world),
         Ended::WriteFailed(fault) => {
             ended(PROGRAM, &Ending::WriteFailed(fault), &mut world.errors)
         }
     }
+}
+
+// Writes a file whose name ends so.
+fn save_file<S: System>(
+    alloc: Global,
+    name: &str,
+    ending: &str,
+    text: &str,
+    world: &mut World<S>,
+) -> u8 {
+    let mut path = String::new(alloc);
+    if push_text(&mut path, name).is_err() || push_text(&mut path, ending).is_err() {
+        return memory_refused(PROGRAM, world);
+    }
+    let mut file = match world.files.create(path.as_str()) {
+        Ok(file) => file,
+        Err(fault) => return not_created(path.as_str(), fault, &mut world.errors),
+    };
+    match write_all(&mut file, text.as_bytes()) {
+        Ok(()) => 0,
+        Err(fault) => ended(
+            path.as_str(),
+            &Ending::WriteFailed(fault),
+            &mut world.errors,
+        ),
+    }
+}
+
+// The lines of a journal that are those of a script: all but the first.
+fn script_of(journal: &str) -> &str {
+    match journal.split_once('\n') {
+        Some((_, script)) => script,
+        None => "",
+    }
+}
+
+// Saves the events up to the place of a session, as a journal and as a script.
+fn save<S: System>(alloc: Global, session: &mut GdbSession, world: &mut World<S>) {
+    match write_journal(alloc, &session.tape.machine) {
+        Ok(text) => {
+            let name = session.save.as_str();
+            let _ = save_file(alloc, name, ".journal", text.as_str(), world);
+            let _ = save_file(alloc, name, ".script", script_of(text.as_str()), world);
+        }
+        Err(_) => {
+            let _ = memory_refused(PROGRAM, world);
+        }
+    }
+    session.save.clear();
+}
+
+// Serves GDB until it leaves, and saves the session where that is asked for.
+fn serve<S: System, I: Source + Interrupts>(
+    alloc: Global,
+    session: &mut GdbSession,
+    input: &mut I,
+    world: &mut World<S>,
+) -> Ended {
+    'parts: for _ in 0..u64::MAX {
+        match serve_gdb(alloc, session, input, &mut world.output) {
+            Ended::Saves => save(alloc, session, world),
+            end => return end,
+        }
+    }
+    Ended::Left
 }
 
 // Boots a machine, and serves GDB.
@@ -132,8 +198,8 @@ fn do_job<S: System, I: Source + Interrupts + Hearing>(
         Ok(machine) => machine,
         Err(status) => return status,
     };
-    let mut session = GdbSession::new(image, machine);
-    let end = serve_gdb(alloc, &mut session, input, &mut world.output);
+    let mut session = GdbSession::new(alloc, image, machine);
+    let end = serve(alloc, &mut session, input, world);
     status_of(end, input.end(), world)
 }
 

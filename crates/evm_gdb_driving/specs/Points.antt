@@ -64,8 +64,11 @@ abbrev pub watched : WatchPoint → List WatchPoint → Result (List WatchPoint)
 watched point watches =
     if has_watch watches point then Ok watches else (if nat_le WATCH_LIMIT (length watches) then Err NoSlot else Ok (watches ++ point ∷ []))
 
+abbrev pub without : List WatchPoint → WatchPoint → List WatchPoint
+without watches point = filter (λ one. not (is_same one point)) watches
+
 abbrev pub unwatched : WatchPoint → List WatchPoint → Result (List WatchPoint) Refusal
-unwatched point watches = if has_watch watches point then Ok (filter (λ one. not (is_same one point)) watches) else Err NoBreakpoint
+unwatched point watches = if has_watch watches point then Ok (without watches point) else Err NoBreakpoint
 
 -- it has no byte, or one outside RAM
 abbrev pub bad_watch : WatchPoint → List ℕ → Bool

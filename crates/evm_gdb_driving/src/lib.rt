@@ -17,7 +17,7 @@ pub use bytes::{part_len, push_bytes, push_error, push_outcome, push_thread, pus
 pub use driving::{event, stop_all};
 pub use evm_debug::{
     Answer, Boot, Devices, Event, EventLine, Line, Machine, Refusal, View, ViewRefusal, cut_line,
-    push_view, read_line,
+    push_view, read_line, write_journal,
 };
 pub use evm_interrupts::Interrupts;
 pub use memory::{push_memory, write};

@@ -2,7 +2,7 @@
 
 ghost use Rattle.std.specs.Prelude.{◌≡◌, [], not};
 ghost use Rattle.evm_model.specs.Refusals.{bad_place};
-ghost use Rattle.evm_gdb_driving.specs.Points.{Becomes, bad_watch, has_watch, inserted, is_same, kind_number, removed, watched, unwatched, with_break, with_watch, without_break, without_watch};
+ghost use Rattle.evm_gdb_driving.specs.Points.{Becomes, bad_watch, has_watch, inserted, is_same, kind_number, removed, watched, without, unwatched, with_break, with_watch, without_break, without_watch};
 
 use arrayvec::ArrayVec;
 use evm_breaks::Breakpoints;
@@ -113,6 +113,13 @@ fn add_watch(watches: &mut Watches, point: WatchPoint) -> Result<(), Refusal>
     }
 }
 
+// The watchpoints but one.
+fn drop_watch(watches: &mut Watches, point: WatchPoint)
+    ensures { watches.new.items ≡ without watches.old.items point }
+{
+    watches.retain(|one| !is_same(one, &point));
+}
+
 // Takes a watchpoint away, which must be there.
 fn take_watch(watches: &mut Watches, point: WatchPoint) -> Result<(), Refusal>
     ensures { Becomes (unwatched point watches.old.items) result watches.old.items watches.new.items }
@@ -120,7 +127,7 @@ fn take_watch(watches: &mut Watches, point: WatchPoint) -> Result<(), Refusal>
     if !has(watches.as_slice(), &point) {
         return Err(Refusal::NoBreakpoint);
     }
-    watches.retain(|one| !is_same(one, &point));
+    drop_watch(watches, point);
     Ok(())
 }
 

@@ -62,6 +62,15 @@ impl Round {
     }
 }
 
+// The turn behind one.
+fn next_turn(turn: usize, turns: usize) -> usize {
+    if turn < turns && turns - turn > 1 {
+        turn + 1
+    } else {
+        0
+    }
+}
+
 // The first turn from one on whose processor has something to do, and what.
 fn busy_turn<D: Device>(machine: &Machine<D>, turns: &[u8], first: usize) -> Option<(usize, Next)> {
     let mut turn = if first < turns.len() { first } else { 0 };
@@ -70,7 +79,7 @@ fn busy_turn<D: Device>(machine: &Machine<D>, turns: &[u8], first: usize) -> Opt
             Next::Idles => {}
             next => return Some((turn, next)),
         }
-        turn = if turns.len() - turn > 1 { turn + 1 } else { 0 };
+        turn = next_turn(turn, turns.len());
     }
     None
 }

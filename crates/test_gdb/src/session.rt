@@ -22,7 +22,7 @@ struct Place<'a> {
 // Whether a session ended as it must: where each write fails, by that.
 fn ends_as_wanted(setting: &Setting<'_>, ended: &Ended) -> bool {
     match ended {
-        Ended::Left => !setting.unwritten,
+        Ended::Left | Ended::Saves => !setting.unwritten,
         Ended::WriteFailed(_) => setting.unwritten,
         _ => false,
     }
@@ -157,7 +157,7 @@ pub(crate) fn play(
         return Ok(0);
     };
     let prepared = prepare(rt.alloc(), &mut machine, place, &image);
-    let mut session = GdbSession::new(image, machine);
+    let mut session = GdbSession::new(rt.alloc(), image, machine);
     session.acknowledges = setting.acknowledged;
     talk_if(rt, place, prepared, &mut session, &setting)
 }
