@@ -8,11 +8,11 @@ use Rattle.evm_model.specs.declared.refusal.Refusal.TheVariants.{BadAddress}
 use Rattle.evm_gdb_commands.specs.Commands.{command_at}
 use Rattle.evm_gdb_commands.specs.declared.command.Command.{Command}
 use Rattle.evm_gdb_commands.specs.declared.command.Command.TheVariants as commands
-use Rattle.evm_gdb_driving.specs.Setting.{MakesAsked, registers_setting}
-use Rattle.evm_gdb_driving.specs.Points.{Becomes, with_break, with_watch, without_break, without_watch}
-use Rattle.evm_gdb_driving.specs.declared.points.Points.{Points}
-use Rattle.evm_gdb_driving.specs.Shown.{outcome_text}
-use Rattle.evm_gdb_driving.specs.Writing.{writing}
+use Rattle.gdb_tape.specs.evm_gdb_driving.Setting.{MakesAsked, registers_setting}
+use Rattle.gdb_tape.specs.evm_gdb_driving.Points.{IsSetTo, with_break, with_watch, without_break, without_watch}
+use Rattle.gdb_tape.specs.evm_gdb_driving.declared.points.Points.{Points}
+use Rattle.gdb_tape.specs.evm_gdb_driving.Shown.{outcome_text}
+use Rattle.gdb_tape.specs.evm_gdb_driving.Writing.{writing}
 use Rattle.evm_gdb_packets.specs.Framing.{framed}
 use Rattle.evm_gdb_packets.specs.Hexadecimal.{bytes_of_digits}
 use Rattle.evm_gdb.specs.Setting.{register_write}
@@ -74,5 +74,5 @@ pub record IsCarriedOut (text : Result (Unit {0}) Refusal → List ℕ) (events 
 -- breakpoints and watchpoints become those that are asked for, and the answer says whether they did
 pub record ArePointsSet (text : Result (Unit {0}) Refusal → List ℕ) (asked : Result Points Refusal) (old new : Points) (before after : List ℕ) : Type 0 where
   pub outcome : Result (Unit {0}) Refusal
-  pub becomes : Becomes asked outcome old new
+  pub becomes : IsSetTo asked outcome old new
   pub told : after ≡ before ++ text outcome

@@ -4,10 +4,10 @@ ghost use Rattle.std.specs.Prelude.{◌≡◌, ◌≢◌, true, ◌++◌, ℕ, L
 ghost use Rattle.evm_gdb.specs.Answers.{answer_text};
 ghost use Rattle.evm_gdb.specs.Asking.{ArePointsSet, IsCarriedOut, asked, asked_by, counted_writing, has_digits, points_asked};
 ghost use Rattle.evm_gdb.specs.Setting.{register_write};
-ghost use Rattle.evm_gdb_driving.specs.Kept.{KeepsJournal};
-ghost use Rattle.evm_gdb_driving.specs.Points.{Becomes};
-ghost use Rattle.evm_gdb_driving.specs.Setting.{MakesAsked, registers_setting};
-ghost use Rattle.evm_gdb_driving.specs.Shown.{error_text, outcome_text};
+ghost use Rattle.gdb_tape.specs.evm_gdb_driving.Kept.{KeepsJournal};
+ghost use Rattle.gdb_tape.specs.evm_gdb_driving.Points.{IsSetTo};
+ghost use Rattle.gdb_tape.specs.evm_gdb_driving.Setting.{MakesAsked, registers_setting};
+ghost use Rattle.gdb_tape.specs.evm_gdb_driving.Shown.{error_text, outcome_text};
 ghost use Rattle.gdb_tape.specs.Tape.{KeepsTape};
 ghost use Rattle.evm_gdb_packets.specs.Hexadecimal.{bytes_of_digits};
 ghost use Rattle.evm_ram.specs.Ram.{bytes_at};
@@ -19,19 +19,19 @@ use crate::session::GdbSession;
 use evm_dev::Device;
 use evm_devs::AnyDevice;
 use evm_gdb_commands::{Command, Pace};
-use evm_gdb_driving::{
+use evm_gdb_packets::read_digits;
+use evm_room::{NoMemory, Refused, push_text};
+use gdb_tape::{
     Interrupts, Machine, Points, Refusal, WatchPoint, processor_of, push_bytes, push_error,
     push_outcome, push_task_text, set_register, set_registers, word_at, write,
 };
-use evm_gdb_packets::read_digits;
-use evm_room::{NoMemory, Refused, push_text};
 use std::alloc::Global;
 
 /// The error of a packet whose digits or numbers are wrong: 22 (EINVAL).
 const MALFORMED: u8 = 22;
 
 // Sets a register of the task that is looked at.
-#[tactic(auto, using(evm_gdb_driving::proofs::Kept::keeps_same))]
+#[tactic(auto, using(gdb_tape::proofs::evm_gdb_driving::Kept::keeps_same))]
 fn write_register<D: Device>(
     machine: &mut Machine<D>,
     looked: u8,
@@ -55,7 +55,7 @@ fn write_register<D: Device>(
 }
 
 // Writes bytes, if there are as many as was said.
-#[tactic(auto, using(evm_gdb_driving::proofs::Kept::keeps_same))]
+#[tactic(auto, using(gdb_tape::proofs::evm_gdb_driving::Kept::keeps_same))]
 fn write_counted<D: Device>(
     machine: &mut Machine<D>,
     address: u64,
@@ -80,7 +80,7 @@ fn change_points(
     machine: &Machine<AnyDevice>,
     command: Command,
 ) -> Result<(), Refusal>
-    ensures { IfSome (points_asked machine.now points.old command) (λ outcome. Becomes outcome result points.old points.new) }
+    ensures { IfSome (points_asked machine.now points.old command) (λ outcome. IsSetTo outcome result points.old points.new) }
 {
     match command {
         Command::Insert(kind, address) => points.insert(machine, kind, address),

@@ -1,14 +1,14 @@
 //! Lines of a script, as a monitor takes them.
 
-ghost use Rattle.evm_gdb_driving.specs.Kept.{KeepsJournal};
+ghost use Rattle.gdb_tape.specs.evm_gdb_driving.Kept.{KeepsJournal};
 ghost use Rattle.gdb_tape.specs.Tape.{KeepsTape};
 
 use crate::session::{GdbSession, TURN_LIMIT, each_processor};
 use arrayvec::ArrayVec;
 use evm_dev::Device;
-use evm_gdb_driving::{Line, Machine, Refusal, View, ViewRefusal, push_view, read_line};
 use evm_room::{NoMemory, Refused, push_text};
 use evm_text::{after_word, decimal_at, decimal_last, push_decimal};
+use gdb_tape::{Line, Machine, Refusal, View, ViewRefusal, push_view, read_line};
 use std::alloc::Global;
 
 /// What came of a line.
@@ -49,7 +49,7 @@ fn look<D: Device>(
 /// # Errors
 ///
 /// Memory for the text was refused.
-#[tactic(auto, using(evm_gdb_driving::proofs::Kept::keeps_same))]
+#[tactic(auto, using(gdb_tape::proofs::evm_gdb_driving::Kept::keeps_same))]
 pub fn run_line<D: Device>(
     machine: &mut Machine<D>,
     line: &[u8],

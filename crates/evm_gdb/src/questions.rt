@@ -7,11 +7,11 @@ use crate::session::GdbSession;
 use crate::target::{ACTIONS, DESCRIPTION, SUPPORTED, memory_map, push_part};
 use evm_dev::Device;
 use evm_gdb_commands::Command;
-use evm_gdb_driving::{
+use evm_room::Refused;
+use gdb_tape::{
     Machine, Refusal, push_bytes, push_error, push_halt, push_memory, push_registers, push_thread,
     push_threads, push_word, register,
 };
-use evm_room::Refused;
 
 // Appends the registers of the task that is looked at.
 fn answer_registers(session: &GdbSession, out: &mut Vec<u8>) -> Result<(), Refused>

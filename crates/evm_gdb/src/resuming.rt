@@ -6,10 +6,10 @@ ghost use Rattle.gdb_tape.specs.Tape.{KeepsTape, StandsAt, events};
 use crate::session::GdbSession;
 use evm_dev::Device;
 use evm_gdb_commands::Pace;
-use evm_gdb_driving::{
+use evm_room::{Refused, push_text};
+use gdb_tape::{
     Going, Interrupts, Machine, Refusal, TargetHalt, Why, push_error, push_halt, resume, step,
 };
-use evm_room::{Refused, push_text};
 use std::alloc::Global;
 
 // Who goes on if GDB named nobody.
@@ -21,7 +21,7 @@ fn processor_to_step<D: Device>(machine: &Machine<D>, looked: u8) -> u8 {
 }
 
 // Lets the machine go on from its last event: the processor of a task by one instruction, or all by the schedule.
-#[tactic(auto, using(evm_gdb_driving::proofs::Kept::keeps_same, gdb_tape::proofs::Keeping::keeps_changed))]
+#[tactic(auto, using(gdb_tape::proofs::evm_gdb_driving::Kept::keeps_same, gdb_tape::proofs::Keeping::keeps_changed))]
 fn go_live<I: Interrupts>(
     session: &mut GdbSession,
     pace: Pace,

@@ -11,10 +11,10 @@ ghost use Rattle.gdb_tape.specs.Tape.{KeepsTape};
 use crate::answering::answer;
 use crate::session::GdbSession;
 use evm_gdb_commands::{Command, read_command};
-use evm_gdb_driving::{Interrupts, has_going, part_len, processor_of, push_bytes, stop_all};
 use evm_gdb_packets::{PacketItem, push_digits, push_framed, read_item};
 use evm_room::{NoMemory, Refused};
 use evm_streams::{ReadFault, Reading, Sink, Source, WriteFault, write_all};
+use gdb_tape::{Interrupts, has_going, part_len, processor_of, push_bytes, stop_all};
 use std::alloc::Global;
 use std::mem;
 

@@ -5,9 +5,8 @@ ghost use Rattle.std.specs.Prelude.{◌≡◌, Option};
 
 use arrayvec::ArrayVec;
 use evm_devs::AnyDevice;
-use evm_gdb_driving::{Machine, Points, Round, TargetHalt, Why, stop_all};
 use evm_image::Image;
-use gdb_tape::Tape;
+use gdb_tape::{Machine, Points, Round, Tape, TargetHalt, Why, stop_all};
 use std::alloc::Global;
 
 /// How many turns a schedule may have.
@@ -34,7 +33,7 @@ pub struct GdbSession {
     pub over: bool,
     /// How many events a continue makes at most.
     pub limit: u32,
-    /// The clock ticks behind so many rounds of turns; 0 for never.
+    /// How many rounds of turns go from one tick of the clock to the next; 0 for no ticks.
     pub clock: u32,
     /// The processors that step in a continue, one after the other and again from the first.
     pub turns: ArrayVec<u8, TURN_LIMIT>,

@@ -4,8 +4,8 @@ ghost use Rattle.std.specs.Prelude.{◌≡◌, ◌++◌, OnOk};
 ghost use Rattle.evm_gdb.specs.Answers.{part_text};
 
 use arrayvec::ArrayVec;
-use evm_gdb_driving::push_bytes;
 use evm_room::Refused;
+use gdb_tape::push_bytes;
 
 /// What is supported.
 pub(crate) const SUPPORTED: &str = "PacketSize=4000;QStartNoAckMode+;qXfer:features:read+;\
@@ -58,7 +58,7 @@ pub(crate) const DESCRIPTION: &str = "<?xml version=\"1.0\"?>
 </target>
 ";
 
-/// The memory map of so many bytes of RAM. Devices aren't in it, as they can't be read.
+/// The memory map of RAM of this size. Devices aren't in it, as they can't be read.
 pub(crate) fn memory_map(ram: u64) -> ArrayVec<u8, MAP_LIMIT> {
     let mut map = ArrayVec::new();
     let _ = map.try_extend_from_slice(MAP_HEAD.as_bytes());

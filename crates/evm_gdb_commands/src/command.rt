@@ -58,7 +58,7 @@ pub enum Command {
     Insert(BreakKind, u64),
     /// `z0`, `z1`: no breakpoint any more.
     Remove(BreakKind, u64),
-    /// `Z2`, `Z3`, `Z4`: a watchpoint from an address on, of so many bytes.
+    /// `Z2`, `Z3`, `Z4`: a watchpoint: its address, and how many bytes.
     Watch(WatchKind, u64, u64),
     /// `z2`, `z3`, `z4`: no watchpoint any more.
     Unwatch(WatchKind, u64, u64),

@@ -17,9 +17,9 @@ use Rattle.evm_gdb_driving.specs.declared.points.WatchPoint.{WatchPoint}
 use Rattle.evm_gdb_driving.specs.declared.points.TheConstants.{WATCH_LIMIT}
 
 -- what becomes of something: the new value, or what it was where that is refused
-abbrev pub Becomes : {A : Type 0} → Result A Refusal → Result (Unit {0}) Refusal → A → A → Type 0
-Becomes (Ok after) result old new = (result ≡ Ok tt) × (new ≡ after)
-Becomes (Err refusal) result old new = (result ≡ Err refusal) × (new ≡ old)
+abbrev pub IsSetTo : {A : Type 0} → Result A Refusal → Result (Unit {0}) Refusal → A → A → Type 0
+IsSetTo (Ok after) result old new = (result ≡ Ok tt) × (new ≡ after)
+IsSetTo (Err refusal) result old new = (result ≡ Err refusal) × (new ≡ old)
 
 -- ---- breakpoints of one kind, by their addresses
 abbrev pub inserted : ℕ → List ℕ → Result (List ℕ) Refusal
@@ -49,23 +49,23 @@ abbrev pub without_break : BreakKind → ℕ → Points → Result Points Refusa
 without_break kind address points = on_kind kind (removed address) points
 
 -- ---- watchpoints
-abbrev pub kind_number : WatchKind → ℕ
-kind_number Write = 2
-kind_number Read = 3
-kind_number Access = 4
+abbrev pub watch_number : WatchKind → ℕ
+watch_number Write = 2
+watch_number Read = 3
+watch_number Access = 4
 
-abbrev pub is_same : WatchPoint → WatchPoint → Bool
-is_same one other = kind_number one.kind == kind_number other.kind && (one.address == other.address && one.count == other.count)
+abbrev pub is_same_watch : WatchPoint → WatchPoint → Bool
+is_same_watch one other = watch_number one.kind == watch_number other.kind && (one.address == other.address && one.count == other.count)
 
 abbrev pub has_watch : List WatchPoint → WatchPoint → Bool
-has_watch watches point = list_any (λ one. is_same one point) watches
+has_watch watches point = list_any (λ one. is_same_watch one point) watches
 
 abbrev pub watched : WatchPoint → List WatchPoint → Result (List WatchPoint) Refusal
 watched point watches =
     if has_watch watches point then Ok watches else (if nat_le WATCH_LIMIT (length watches) then Err NoSlot else Ok (watches ++ point ∷ []))
 
 abbrev pub without : List WatchPoint → WatchPoint → List WatchPoint
-without watches point = filter (λ one. not (is_same one point)) watches
+without watches point = filter (λ one. not (is_same_watch one point)) watches
 
 abbrev pub unwatched : WatchPoint → List WatchPoint → Result (List WatchPoint) Refusal
 unwatched point watches = if has_watch watches point then Ok (without watches point) else Err NoBreakpoint

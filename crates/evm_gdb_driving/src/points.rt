@@ -2,7 +2,7 @@
 
 ghost use Rattle.std.specs.Prelude.{◌≡◌, [], not};
 ghost use Rattle.evm_model.specs.Refusals.{bad_place};
-ghost use Rattle.evm_gdb_driving.specs.Points.{Becomes, bad_watch, has_watch, inserted, is_same, kind_number, removed, watched, without, unwatched, with_break, with_watch, without_break, without_watch};
+ghost use Rattle.evm_gdb_driving.specs.Points.{IsSetTo, bad_watch, has_watch, inserted, is_same_watch, watch_number, removed, watched, without, unwatched, with_break, with_watch, without_break, without_watch};
 
 use arrayvec::ArrayVec;
 use evm_breaks::Breakpoints;
@@ -49,8 +49,8 @@ pub struct Points {
     pub watches: Watches,
 }
 
-fn kind_number(kind: WatchKind) -> u8
-    ensures { result ≡ kind_number kind }
+fn watch_number(kind: WatchKind) -> u8
+    ensures { result ≡ watch_number kind }
 {
     match kind {
         WatchKind::Write => 2,
@@ -60,17 +60,17 @@ fn kind_number(kind: WatchKind) -> u8
 }
 
 // Whether two watchpoints are the same.
-fn is_same(one: &WatchPoint, other: &WatchPoint) -> bool
-    ensures { result ≡ is_same one.now other.now }
+fn is_same_watch(one: &WatchPoint, other: &WatchPoint) -> bool
+    ensures { result ≡ is_same_watch one.now other.now }
 {
-    kind_number(one.kind) == kind_number(other.kind)
+    watch_number(one.kind) == watch_number(other.kind)
         && one.address == other.address
         && one.count == other.count
 }
 
 // Adds an address, if it is not there.
 fn add(points: &mut Breakpoints, address: u64) -> Result<(), Refusal>
-    ensures { Becomes (inserted address points.old) result points.old points.new }
+    ensures { IsSetTo (inserted address points.old) result points.old points.new }
 {
     if points.contains(address) {
         return Ok(());
@@ -84,7 +84,7 @@ fn add(points: &mut Breakpoints, address: u64) -> Result<(), Refusal>
 
 // Takes an address away, which must be there.
 fn take_away(points: &mut Breakpoints, address: u64) -> Result<(), Refusal>
-    ensures { Becomes (removed address points.old) result points.old points.new }
+    ensures { IsSetTo (removed address points.old) result points.old points.new }
 {
     if !points.contains(address) {
         return Err(Refusal::NoBreakpoint);
@@ -97,12 +97,12 @@ fn take_away(points: &mut Breakpoints, address: u64) -> Result<(), Refusal>
 fn has(watches: &[WatchPoint], point: &WatchPoint) -> bool
     ensures { result ≡ has_watch watches.now point.now }
 {
-    watches.iter().any(|one| is_same(one, point))
+    watches.iter().any(|one| is_same_watch(one, point))
 }
 
 // Adds a watchpoint, if it is not there.
 fn add_watch(watches: &mut Watches, point: WatchPoint) -> Result<(), Refusal>
-    ensures { Becomes (watched point watches.old.items) result watches.old.items watches.new.items }
+    ensures { IsSetTo (watched point watches.old.items) result watches.old.items watches.new.items }
 {
     if has(watches.as_slice(), &point) {
         return Ok(());
@@ -117,12 +117,12 @@ fn add_watch(watches: &mut Watches, point: WatchPoint) -> Result<(), Refusal>
 fn drop_watch(watches: &mut Watches, point: WatchPoint)
     ensures { watches.new.items ≡ without watches.old.items point }
 {
-    watches.retain(|one| !is_same(one, &point));
+    watches.retain(|one| !is_same_watch(one, &point));
 }
 
 // Takes a watchpoint away, which must be there.
 fn take_watch(watches: &mut Watches, point: WatchPoint) -> Result<(), Refusal>
-    ensures { Becomes (unwatched point watches.old.items) result watches.old.items watches.new.items }
+    ensures { IsSetTo (unwatched point watches.old.items) result watches.old.items watches.new.items }
 {
     if !has(watches.as_slice(), &point) {
         return Err(Refusal::NoBreakpoint);
@@ -172,7 +172,7 @@ impl Points {
         kind: BreakKind,
         address: u64,
     ) -> Result<(), Refusal>
-        ensures { Becomes (with_break kind address machine.now.board self.old) result self.old self.new }
+        ensures { IsSetTo (with_break kind address machine.now.board self.old) result self.old self.new }
     {
         if !may_stand(machine, address) {
             return Err(Refusal::BadAddress);
@@ -189,7 +189,7 @@ impl Points {
     ///
     /// `NoBreakpoint` where there is none.
     pub fn remove(&mut self, kind: BreakKind, address: u64) -> Result<(), Refusal>
-        ensures { Becomes (without_break kind address self.old) result self.old self.new }
+        ensures { IsSetTo (without_break kind address self.old) result self.old self.new }
     {
         match kind {
             BreakKind::Software => take_away(&mut self.software, address),
@@ -207,7 +207,7 @@ impl Points {
         machine: &Machine<D>,
         point: WatchPoint,
     ) -> Result<(), Refusal>
-        ensures { Becomes (with_watch point machine.now.board.memory.ram self.old) result self.old self.new }
+        ensures { IsSetTo (with_watch point machine.now.board.memory.ram self.old) result self.old self.new }
     {
         if !may_watch(machine, &point) {
             return Err(Refusal::BadAddress);
@@ -221,7 +221,7 @@ impl Points {
     ///
     /// `NoBreakpoint` where there is none.
     pub fn unwatch(&mut self, point: WatchPoint) -> Result<(), Refusal>
-        ensures { Becomes (without_watch point self.old) result self.old self.new }
+        ensures { IsSetTo (without_watch point self.old) result self.old self.new }
     {
         take_watch(&mut self.watches, point)
     }

@@ -22,7 +22,7 @@ pub struct Going<'a> {
     pub points: &'a Points,
     /// How many events it makes at most.
     pub limit: u32,
-    /// The clock ticks behind so many rounds of turns, and when nothing else is left to be done; 0 for never.
+    /// How many rounds of turns go from one tick of the clock to the next, which comes too where nothing else is left; 0 for no ticks.
     pub clock: u32,
     /// Who is looked at. That task passes a breakpoint at its pc.
     pub looked: u8,
@@ -51,12 +51,18 @@ impl Round {
         }
     }
 
-    // Goes past a turn of so many.
-    fn pass(&mut self, at: usize, turns: usize) {
-        if at < turns && turns - at > 1 {
-            self.turn = at + 1;
-        } else {
-            self.turn = 0;
+    // Comes to a turn. Those before it are passed over, maybe to the end of a round.
+    fn come(&mut self, at: usize) {
+        if at < self.turn {
+            self.rounds = self.rounds.saturating_add(1);
+        }
+        self.turn = at;
+    }
+
+    // Goes past the turn. The last one ends a round.
+    fn pass(&mut self, turns: usize) {
+        self.turn = next_turn(self.turn, turns);
+        if self.turn == 0 {
             self.rounds = self.rounds.saturating_add(1);
         }
     }
@@ -210,21 +216,22 @@ fn run_turn<D: Device>(
     ensures kept { KeepsJournal machine.old machine.new }
     ensures halts { IfOk result HaltsAlone }
 {
+    let Some((at, next)) = busy_turn(machine, going.turns, round.turn) else {
+        return rest(machine, going, round);
+    };
+    round.come(at);
     if going.clock != 0 && round.rounds >= going.clock {
         return match tick(machine, round) {
             Ok(()) => Ok(None),
             Err(refusal) => Err(refusal),
         };
     }
-    let Some((at, next)) = busy_turn(machine, going.turns, round.turn) else {
-        return rest(machine, going, round);
-    };
     let c = going.turns.get(at).copied().unwrap_or(0);
     let outcome = match next {
         Next::Runs(task) => run_task(machine, going, round, c, task),
         Next::Prepares | Next::Idles => run_line(machine, c),
     };
-    round.pass(at, going.turns.len());
+    round.pass(going.turns.len());
     outcome
 }
 

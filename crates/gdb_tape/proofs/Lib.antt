@@ -1,2 +1,3 @@
 pub mod Keeping
 pub mod Stepping
+pub use Rattle.evm_gdb_driving.proofs as evm_gdb_driving

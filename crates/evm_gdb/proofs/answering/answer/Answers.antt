@@ -1,5 +1,5 @@
 use Rattle.std.proofs.Common.{◌≡◌}
-use Rattle.evm_gdb_driving.specs.Shown.{outcome_text}
+use Rattle.gdb_tape.specs.evm_gdb_driving.Shown.{outcome_text}
 use Rattle.evm_gdb.specs.Asking.{IsCarriedOut}
 use Rattle.evm_gdb.proofs.Asking.{holds_asked, holds_on_ok}
 use Rattle.evm_gdb.proofs.answering.answer.Goals as goal
