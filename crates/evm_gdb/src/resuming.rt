@@ -1,6 +1,6 @@
 //! The program goes on, and why it is stopped again.
 
-ghost use Rattle.std.specs.Prelude.{◌≡◌, IfOk, OnOk};
+ghost use Rattle.std.specs.Prelude.{◌≡◌, IfOk};
 ghost use Rattle.gdb_tape.specs.Tape.{KeepsTape, StandsAt, events};
 
 use crate::session::GdbSession;
@@ -80,7 +80,7 @@ fn go_again(
 #[tactic(auto, using(gdb_tape::proofs::Keeping::keeps_same))]
 fn go_back(alloc: Global, session: &mut GdbSession, pace: Pace) -> Result<TargetHalt, Refusal>
     ensures stands { IfOk result (λ halt. StandsAt halt session.new.tape) }
-    ensures events { OnOk result (events session.new.tape ≡ events session.old.tape) }
+    ensures events { events session.new.tape ≡ events session.old.tape }
     ensures kept { KeepsTape session.old.tape session.new.tape }
 {
     let task = session.chosen.unwrap_or(session.looked);
@@ -160,6 +160,25 @@ fn answer_halt(
     }
 }
 
+// Lets the machine go on: it does again what was done, or is at its last event.
+#[tactic(auto, using(gdb_tape::proofs::Keeping::keeps_same))]
+fn go_on<I: Interrupts>(
+    alloc: Global,
+    session: &mut GdbSession,
+    pace: Pace,
+    thread: Option<u8>,
+    others: bool,
+    interrupts: &I,
+) -> Result<TargetHalt, Refusal>
+    ensures kept { KeepsTape session.old.tape session.new.tape }
+{
+    if session.tape.is_back() {
+        go_again(alloc, session, pace, thread)
+    } else {
+        go_live(session, pace, thread, others, interrupts)
+    }
+}
+
 /// The answer to a command that lets the program go on: why it is stopped again.
 #[tactic(auto, using(gdb_tape::proofs::Keeping::keeps_same))]
 pub(crate) fn answer_resumed<I: Interrupts>(
@@ -174,11 +193,7 @@ pub(crate) fn answer_resumed<I: Interrupts>(
 ) -> Result<(), Refused>
     ensures kept { KeepsTape session.old.tape session.new.tape }
 {
-    let outcome = if session.tape.is_back() {
-        go_again(alloc, session, pace, thread)
-    } else {
-        go_live(session, pace, thread, others, interrupts)
-    };
+    let outcome = go_on(alloc, session, pace, thread, others, interrupts);
     answer_halt(session, outcome, told, out)
 }
 

@@ -259,8 +259,11 @@ fn prepare<I: Interrupts>(
     }
 }
 
-// Whether a payload asks for other registers.
-fn writes_registers(payload: &[u8]) -> bool {
+// Whether an item asks for other registers.
+fn writes_registers(item: PacketItem, payload: &[u8]) -> bool {
+    if item != PacketItem::Packet {
+        return false;
+    }
     match read_command(payload) {
         Some((Command::SetRegisters, _)) | Some((Command::SetRegister(_), _)) => true,
         _ => false,
@@ -269,17 +272,18 @@ fn writes_registers(payload: &[u8]) -> bool {
 
 // Stops the processors where registers are to be written that can be: at an earlier place they may go.
 #[tactic(auto, using(gdb_tape::proofs::Keeping::keeps_same, gdb_tape::proofs::Keeping::keeps_changed))]
-fn make_way(session: &mut GdbSession, payload: &[u8])
+fn make_way(session: &mut GdbSession, item: PacketItem, payload: &[u8])
     ensures kept { KeepsTape session.old.tape session.new.tape }
 {
     let can = processor_of(&session.tape.machine, session.looked).is_ok();
-    if can && writes_registers(payload) && has_going(&session.tape.machine) {
+    if can && writes_registers(item, payload) && has_going(&session.tape.machine) {
         session.forget();
         let _ = stop_all(&mut session.tape.machine);
     }
 }
 
 // Answers an item.
+#[tactic(auto, using(gdb_tape::proofs::Keeping::keeps_same, gdb_tape::proofs::Keeping::keeps_more))]
 fn serve_item<W: Sink, I: Interrupts>(
     alloc: Global,
     session: &mut GdbSession,
@@ -291,9 +295,7 @@ fn serve_item<W: Sink, I: Interrupts>(
 ) -> Result<(), Ended>
     ensures kept { KeepsTape session.old.tape session.new.tape }
 {
-    if item == PacketItem::Packet {
-        make_way(session, payload);
-    }
+    make_way(session, item, payload);
     match prepare(alloc, session, item, payload, interrupts, desk) {
         Ok(()) => {}
         Err(NoMemory) => return Err(Ended::NoMemory),
