@@ -15,6 +15,13 @@ keeps_same t = record { sound = λ h. h }
 pub keeps_more : (a b c : Tape) → KeepsTape a b → KeepsTape b c → KeepsTape a c
 keeps_more a b c h k = record { sound = λ s. k.sound (h.sound s) }
 
+-- a session of which the machine is one that fewer events make, and the last one all of them
+is_tape : (t : Tape) (image : Contents) (end : State) → t.image ≡ image → end_of t ≡ end → IsFrontOf image end (length t.machine.journal) t.machine → IsFrontOf image end (length end.journal) end → IsTape t
+is_tape t image end i e here all = record {
+  here = subst (λ (x : Contents). IsFrontOf x (end_of t) (length t.machine.journal) t.machine) (sym i) (subst (λ (s : State). IsFrontOf image s (length t.machine.journal) t.machine) (sym e) here);
+  all = subst (λ (x : Contents). IsFrontOf x (end_of t) (length (events t)) (end_of t)) (sym i) (subst (λ (s : State). IsFrontOf image s (length s.journal) s) (sym e) all);
+}
+
 -- ---- at the last event
 -- a machine behind as many events as it has
 in_front : (image : Contents) (end m first : State) → IsBegun image end.boot first → IsReplayOf first m → m.boot ≡ end.boot → IsFrontOf image m (length m.journal) m
@@ -34,7 +41,7 @@ keeps_changed old new image last kept = record {
       let end : end_of new ≡ new.machine = ap (λ (l : Option State). end_if l new.machine) last in
       let one : IsFrontOf old.image new.machine (length new.machine.journal) new.machine =
       in_front old.image (end_of old) new.machine here.first here.begun (kept.replays here.first here.replays) (kept.booted ∙ here.booted) in
-      rw (image, end) (record { here = one; all = one });
+      is_tape new old.image new.machine image end one one;
 }
 
 -- ---- at a place
@@ -51,7 +58,7 @@ keeps_place old new n image end front = record {
       front.journal ∙ take-front n (events old) ∙ ap (λ (l : List Event). take (length l) (events old)) (sym front.journal) in
       let here : IsFrontOf old.image (end_of old) (length new.machine.journal) new.machine =
       record { first = front.first; begun = front.begun; replays = front.replays; journal = same; booted = front.booted } in
-      rw (image, end) (record { here = here; all = s.all });
+      is_tape new old.image (end_of old) image end here s.all;
 }
 
 -- all events
@@ -61,7 +68,9 @@ at_end t n s h =
 
 pub keeps_end : (old new : Tape) → new.image ≡ old.image → end_of new ≡ end_of old → new.machine ≡ end_of old → KeepsTape old new
 keeps_end old new image end here = record {
-  sound = λ s. let all = s.all in
-      let one : IsFrontOf old.image (end_of old) (length new.machine.journal) new.machine = rw here all in
-      rw (image, end) (record { here = one; all = s.all });
+  sound = λ s.
+      let all = s.all in
+      let one : IsFrontOf old.image (end_of old) (length new.machine.journal) new.machine =
+      subst (λ (m : State). IsFrontOf old.image (end_of old) (length m.journal) m) (sym here) all in
+      is_tape new old.image (end_of old) image end one all;
 }
