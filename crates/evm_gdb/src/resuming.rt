@@ -20,6 +20,11 @@ fn processor_to_step<D: Device>(machine: &Machine<D>, looked: u8) -> u8 {
     }
 }
 
+// The turns of one processor alone, or of all.
+fn pick<'a>(alone: bool, own: &'a [u8], all: &'a [u8]) -> &'a [u8] {
+    if alone { own } else { all }
+}
+
 // Lets the machine go on from its last event: the processor of a task by one instruction, or all by the schedule.
 #[tactic(auto, using(gdb_tape::proofs::evm_gdb_driving::Kept::keeps_same, gdb_tape::proofs::Keeping::keeps_changed))]
 fn go_live<I: Interrupts>(
@@ -40,11 +45,7 @@ fn go_live<I: Interrupts>(
     }
     let alone = !others && thread.is_some();
     let going = Going {
-        turns: if alone {
-            own.as_slice()
-        } else {
-            session.turns.as_slice()
-        },
+        turns: pick(alone, own.as_slice(), session.turns.as_slice()),
         points: &session.points,
         limit: session.limit,
         clock: session.clock,
