@@ -31,7 +31,7 @@ use std::alloc::Global;
 const MALFORMED: u8 = 22;
 
 // Sets a register of the task that is looked at.
-#[tactic(auto, using(gdb_tape::proofs::evm_gdb_driving::Kept::keeps_same))]
+#[tactic(auto, using(crate::proofs::Kept::keeps_same))]
 fn write_register<D: Device>(
     machine: &mut Machine<D>,
     looked: u8,
@@ -55,7 +55,7 @@ fn write_register<D: Device>(
 }
 
 // Writes bytes, if there are as many as was said.
-#[tactic(auto, using(gdb_tape::proofs::evm_gdb_driving::Kept::keeps_same))]
+#[tactic(auto, using(crate::proofs::Kept::keeps_same))]
 fn write_counted<D: Device>(
     machine: &mut Machine<D>,
     address: u64,

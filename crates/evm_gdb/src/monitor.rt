@@ -49,7 +49,7 @@ fn look<D: Device>(
 /// # Errors
 ///
 /// Memory for the text was refused.
-#[tactic(auto, using(gdb_tape::proofs::evm_gdb_driving::Kept::keeps_same))]
+#[tactic(auto, using(crate::proofs::Kept::keeps_same))]
 pub fn run_line<D: Device>(
     machine: &mut Machine<D>,
     line: &[u8],

@@ -26,7 +26,7 @@ fn pick<'a>(alone: bool, own: &'a [u8], all: &'a [u8]) -> &'a [u8] {
 }
 
 // Lets the machine go on from its last event: the processor of a task by one instruction, or all by the schedule.
-#[tactic(auto, using(gdb_tape::proofs::evm_gdb_driving::Kept::keeps_same, gdb_tape::proofs::Keeping::keeps_changed))]
+#[tactic(auto, using(crate::proofs::Kept::keeps_same, gdb_tape::proofs::Keeping::keeps_changed))]
 fn go_live<I: Interrupts>(
     session: &mut GdbSession,
     pace: Pace,
