@@ -70,7 +70,7 @@ hunt: $(PROGRAM)
 
 debug: $(PROGRAM)
 	echo 'boot $(CPUS) $(RAM) 1048576' > $(LIBRARY)/debug.script
-	$(GDB) -ex 'set osabi none' -ex 'target remote | $(VARDOZEK) gdb $(PROGRAM) $(LIBRARY)/debug.script' $(PROGRAM)
+	$(GDB) -ex 'target remote | $(VARDOZEK) gdb $(PROGRAM) $(LIBRARY)/debug.script' $(PROGRAM)
 
 picture: $(PROGRAM)
 	EVLTOOL=$(EVLTOOL) VARDOZEK=$(VARDOZEK) $(KIT)/run $(PROGRAM) --cpus $(CPUS) --picture $(basename $(PROGRAM)).svg

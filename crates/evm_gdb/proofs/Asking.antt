@@ -1,5 +1,5 @@
 -- What a command with digits asks for is what it asks for with their bytes.
-use Rattle.std.proofs.Common.{◌≡◌, ℕ, ◌⊎◌, inl, inr, List, refl, sym, subst}
+use Rattle.std.proofs.Common.{◌≡◌, ℕ, ◌⊎◌, inl, inr, List, refl, sym, ap, subst}
 use Rattle.std.specs.Prelude.{Option, Some, None, Result, Ok, Err, IfSome, OnOk}
 use Rattle.evm_text.specs.Reading.{◌>>=◌}
 use Rattle.evm_model.specs.Event.{Event}
@@ -8,7 +8,8 @@ use Rattle.evm_model.specs.declared.refusal.Refusal.{Refusal}
 use Rattle.evm_gdb_commands.specs.declared.command.Command.{Command}
 use Rattle.evm_gdb_commands.specs.declared.command.Command.TheVariants as commands
 use Rattle.evm_gdb_packets.specs.Hexadecimal.{bytes_of_digits}
-use Rattle.evm_gdb.specs.Asking.{asked, asked_by}
+use Rattle.gdb_tape.specs.evm_gdb_driving.declared.points.Points.{Points}
+use Rattle.evm_gdb.specs.Asking.{asked, asked_by, points_asked}
 
 -- the commands that have digits
 abbrev pub HasDigits : Command → Type 0
@@ -43,3 +44,17 @@ pub holds_on_ok : {T E : Type 0} (r : Result T E) (Q : Result (List Event) Refus
     → ((bytes : List ℕ) → bytes_of_digits digits ≡ Some bytes → OnOk r (IfSome (asked_by looked bytes s command) Q)) → OnOk r (IfSome (asked looked digits s command) Q)
 holds_on_ok (Ok x) Q looked digits s command has h = holds_asked Q looked digits s command has h
 holds_on_ok (Err x) Q looked digits s command has h = tt
+
+-- ---- they set no breakpoint and no watchpoint
+points_none : (s : State) (points : Points) (command : Command) → HasDigits command → points_asked s points command ≡ None
+points_none s points command (inl e) = ap (points_asked s points) e
+points_none s points command (inr (inl e)) = ap (points_asked s points) e
+points_none s points command (inr (inr (inl e))) = ap (points_asked s points) e.1
+points_none s points command (inr (inr (inr e))) = ap (points_asked s points) e.2
+
+pub no_points : (Q : Result Points Refusal → Type 0) (s : State) (points : Points) (command : Command) → HasDigits command → IfSome (points_asked s points command) Q
+no_points Q s points command has = subst (λ (o : Option (Result Points Refusal)). IfSome o Q) (sym (points_none s points command has)) tt
+
+pub no_points_ok : {T E : Type 0} (r : Result T E) (Q : Result Points Refusal → Type 0) (s : State) (points : Points) (command : Command) → HasDigits command → OnOk r (IfSome (points_asked s points command) Q)
+no_points_ok (Ok x) Q s points command has = no_points Q s points command has
+no_points_ok (Err x) Q s points command has = tt

@@ -1,2 +1,3 @@
 pub mod Asking
 pub mod Extending
+pub mod Kept

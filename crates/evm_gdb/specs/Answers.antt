@@ -6,8 +6,8 @@ use Rattle.evm_ram.specs.Ram.{bytes_at}
 use Rattle.evm_model.specs.State.{State}
 use Rattle.evm_gdb_commands.specs.declared.command.Command.{Command}
 use Rattle.evm_gdb_commands.specs.declared.command.Command.TheVariants as commands
-use Rattle.evm_gdb_driving.specs.Shown.{error_text, hart_register, halt_text, memory_reply, registers_text, thread_text, threads_text, word_text}
-use Rattle.evm_gdb_driving.specs.declared.stops.TargetHalt.{TargetHalt}
+use Rattle.gdb_tape.specs.evm_gdb_driving.Shown.{error_text, hart_register, halt_text, memory_reply, registers_text, thread_text, threads_text, word_text}
+use Rattle.gdb_tape.specs.evm_gdb_driving.declared.stops.TargetHalt.{TargetHalt}
 
 -- ---- questions
 

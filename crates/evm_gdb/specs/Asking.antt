@@ -1,17 +1,18 @@
 -- What a packet asks of the machine: the events that are made, and their answer.
-use Rattle.std.specs.Prelude.{◌≡◌, ℕ, Bool, true, false, List, [], ◌∷◌, ◌++◌, Option, Some, None, Result, Ok, Err, length, if◌then◌else◌, ◌==◌}
+use Rattle.std.specs.Prelude.{◌≡◌, ℕ, Bool, true, false, List, ◌++◌, Option, Some, None, Result, Ok, Err, length, if◌then◌else◌, ◌==◌}
 use Rattle.evm_text.specs.Reading.{◌>>=◌}
 use Rattle.evm_model.specs.Event.{Event}
 use Rattle.evm_model.specs.State.{State}
-use Rattle.evm_model.specs.declared.event.Event.TheVariants.{Break, Unbreak}
 use Rattle.evm_model.specs.declared.refusal.Refusal.{Refusal}
 use Rattle.evm_model.specs.declared.refusal.Refusal.TheVariants.{BadAddress}
 use Rattle.evm_gdb_commands.specs.Commands.{command_at}
 use Rattle.evm_gdb_commands.specs.declared.command.Command.{Command}
 use Rattle.evm_gdb_commands.specs.declared.command.Command.TheVariants as commands
-use Rattle.evm_gdb_driving.specs.Setting.{MakesAsked, registers_setting}
-use Rattle.evm_gdb_driving.specs.Shown.{outcome_text}
-use Rattle.evm_gdb_driving.specs.Writing.{writing}
+use Rattle.gdb_tape.specs.evm_gdb_driving.Setting.{MakesAsked, registers_setting}
+use Rattle.gdb_tape.specs.evm_gdb_driving.Points.{IsSetTo, with_break, with_watch, without_break, without_watch}
+use Rattle.gdb_tape.specs.evm_gdb_driving.declared.points.Points.{Points}
+use Rattle.gdb_tape.specs.evm_gdb_driving.Shown.{outcome_text}
+use Rattle.gdb_tape.specs.evm_gdb_driving.Writing.{writing}
 use Rattle.evm_gdb_packets.specs.Framing.{framed}
 use Rattle.evm_gdb_packets.specs.Hexadecimal.{bytes_of_digits}
 use Rattle.evm_gdb.specs.Setting.{register_write}
@@ -36,11 +37,13 @@ has_digits (commands.WriteDigits address count) = true
 has_digits commands.Monitor = true
 has_digits _ = false
 
--- the event of a breakpoint that is set or removed
-abbrev pub breakpoint_asked : Command → Option (Result (List Event) Refusal)
-breakpoint_asked (commands.Insert kind address) = Some (Ok (Break address ∷ []))
-breakpoint_asked (commands.Remove kind address) = Some (Ok (Unbreak address ∷ []))
-breakpoint_asked _ = None
+-- the breakpoints and watchpoints that a command asks for
+abbrev pub points_asked : State → Points → Command → Option (Result Points Refusal)
+points_asked s points (commands.Insert kind address) = Some (with_break kind address s.board points)
+points_asked s points (commands.Remove kind address) = Some (without_break kind address points)
+points_asked s points (commands.Watch kind address count) = Some (with_watch (record { kind = kind; address = address; count = count }) s.board.memory.ram points)
+points_asked s points (commands.Unwatch kind address count) = Some (without_watch (record { kind = kind; address = address; count = count }) points)
+points_asked s points _ = None
 
 -- the events that a command asks for, with what is behind it: X has bytes there, and the others digits. None where these are no digits
 abbrev pub asked : ℕ → List ℕ → State → Command → Option (Result (List Event) Refusal)
@@ -48,13 +51,15 @@ asked looked behind s commands.SetRegisters = bytes_of_digits behind >>= λ byte
 asked looked behind s (commands.SetRegister r) = bytes_of_digits behind >>= λ bytes. asked_by looked bytes s (commands.SetRegister r)
 asked looked behind s (commands.WriteDigits address count) = bytes_of_digits behind >>= λ bytes. asked_by looked bytes s (commands.WriteDigits address count)
 asked looked behind s (commands.WriteBytes address count) = asked_by looked behind s (commands.WriteBytes address count)
-asked looked behind s (commands.Insert kind address) = breakpoint_asked (commands.Insert kind address)
-asked looked behind s (commands.Remove kind address) = breakpoint_asked (commands.Remove kind address)
 asked looked behind s _ = None
 
 -- the events that a payload asks for
 abbrev pub payload_asked : ℕ → List ℕ → State → Option (Result (List Event) Refusal)
 payload_asked looked payload s = command_at payload >>= λ said. asked looked said.1 s said.0
+
+-- the breakpoints and watchpoints that a payload asks for
+abbrev pub payload_points : List ℕ → State → Points → Option (Result Points Refusal)
+payload_points payload s points = command_at payload >>= λ said. points_asked s points said.0
 
 -- the packet that says how events ended
 abbrev pub reply : Result (Unit {0}) Refusal → List ℕ
@@ -64,4 +69,10 @@ reply outcome = framed (outcome_text outcome)
 pub record IsCarriedOut (text : Result (Unit {0}) Refusal → List ℕ) (events : Result (List Event) Refusal) (old new : State) (before after : List ℕ) : Type 0 where
   pub outcome : Result (Unit {0}) Refusal
   pub made : MakesAsked events outcome old new
+  pub told : after ≡ before ++ text outcome
+
+-- breakpoints and watchpoints become those that are asked for, and the answer says whether they did
+pub record ArePointsSet (text : Result (Unit {0}) Refusal → List ℕ) (asked : Result Points Refusal) (old new : Points) (before after : List ℕ) : Type 0 where
+  pub outcome : Result (Unit {0}) Refusal
+  pub becomes : IsSetTo asked outcome old new
   pub told : after ≡ before ++ text outcome

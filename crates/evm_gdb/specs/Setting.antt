@@ -4,7 +4,7 @@ use Rattle.evm_model.specs.Event.{Event}
 use Rattle.evm_model.specs.State.{Parts}
 use Rattle.evm_model.specs.declared.refusal.Refusal.{Refusal}
 use Rattle.evm_model.specs.declared.refusal.Refusal.TheVariants.{BadRegister}
-use Rattle.evm_gdb_driving.specs.Setting.{leading_word, register_setting, runner}
+use Rattle.gdb_tape.specs.evm_gdb_driving.Setting.{leading_word, register_setting, runner}
 
 abbrev pub setting_on : Result ℕ Refusal → ℕ → ℕ → Result (List Event) Refusal
 setting_on (Err refusal) r value = Err refusal

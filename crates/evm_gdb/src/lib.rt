@@ -10,9 +10,11 @@ mod serving;
 mod session;
 mod target;
 
-pub use evm_gdb_driving::{Boot, Devices, Interrupts, Line, Machine, Refusal, cut_line, read_line};
 pub use evm_model::CAPACITY_LIMIT;
 pub use evm_ram::SIZE_LIMIT;
+pub use gdb_tape::{
+    Boot, Devices, Interrupts, Line, Machine, Refusal, begin, cut_line, read_line, write_journal,
+};
 pub use monitor::{LineEnd, run_line};
 pub use serving::{Ended, serve_gdb};
 pub use session::GdbSession;

@@ -4,37 +4,33 @@ ghost use Rattle.std.specs.Prelude.{◌≡◌, ◌++◌, ℕ, List, Option, OnOk
 ghost use Rattle.evm_gdb.specs.Answers.{alive_text, answer_text, is_thread, register_reply, task_registers};
 
 use crate::session::GdbSession;
-use crate::target::{ACTIONS, DESCRIPTION, SUPPORTED, push_part};
+use crate::target::{ACTIONS, DESCRIPTION, SUPPORTED, memory_map, push_part};
 use evm_dev::Device;
 use evm_gdb_commands::Command;
-use evm_gdb_driving::{
+use evm_room::Refused;
+use gdb_tape::{
     Machine, Refusal, push_bytes, push_error, push_halt, push_memory, push_registers, push_thread,
     push_threads, push_word, register,
 };
-use evm_room::Refused;
 
 // Appends the registers of the task that is looked at.
-fn answer_registers<D: Device>(session: &GdbSession<D>, out: &mut Vec<u8>) -> Result<(), Refused>
-    ensures ok { OnOk result (out.new.items ≡ out.old.items ++ task_registers (slice_get session.now.machine.board.parts.harts session.now.looked)) }
+fn answer_registers(session: &GdbSession, out: &mut Vec<u8>) -> Result<(), Refused>
+    ensures ok { OnOk result (out.new.items ≡ out.old.items ++ task_registers (slice_get session.now.tape.machine.board.parts.harts session.now.looked)) }
 {
-    match session.machine.hart(session.looked) {
+    match session.tape.machine.hart(session.looked) {
         Some(hart) => push_registers(out, &hart),
         None => push_error(out, Refusal::NoTask.number()),
     }
 }
 
 // Appends a register of the task that is looked at.
-fn answer_register<D: Device>(
-    session: &GdbSession<D>,
-    r: u64,
-    out: &mut Vec<u8>,
-) -> Result<(), Refused>
-    ensures ok { OnOk result (out.new.items ≡ out.old.items ++ register_reply r (slice_get session.now.machine.board.parts.harts session.now.looked)) }
+fn answer_register(session: &GdbSession, r: u64, out: &mut Vec<u8>) -> Result<(), Refused>
+    ensures ok { OnOk result (out.new.items ≡ out.old.items ++ register_reply r (slice_get session.now.tape.machine.board.parts.harts session.now.looked)) }
 {
     if r > 32 {
         return push_error(out, Refusal::BadRegister.number());
     }
-    match session.machine.hart(session.looked) {
+    match session.tape.machine.hart(session.looked) {
         Some(hart) => push_word(out, register(&hart, r as u8)),
         None => push_error(out, Refusal::NoTask.number()),
     }
@@ -66,29 +62,33 @@ fn is_thread<D: Device>(machine: &Machine<D>, thread: Option<u8>) -> bool
 }
 
 /// The answer to a question, which changes nothing.
-pub(crate) fn answer_question<D: Device>(
-    session: &GdbSession<D>,
+pub(crate) fn answer_question(
+    session: &GdbSession,
     command: Command,
     out: &mut Vec<u8>,
 ) -> Result<(), Refused>
-    ensures said { (text : List ℕ) → answer_text session.now.looked session.now.halt session.now.machine command ≡ Option.Some text → OnOk result (out.new.items ≡ out.old.items ++ text) }
+    ensures said { (text : List ℕ) → answer_text session.now.looked session.now.halt session.now.tape.machine command ≡ Option.Some text → OnOk result (out.new.items ≡ out.old.items ++ text) }
 {
     match command {
         Command::Why => push_halt(out, &session.halt),
         Command::Registers => answer_registers(session, out),
         Command::Register(r) => answer_register(session, r, out),
-        Command::Memory(address, count) => push_memory(out, &session.machine, address, count),
-        Command::IsThread(thread) => answer_thread(&session.machine, thread, out),
+        Command::Memory(address, count) => push_memory(out, &session.tape.machine, address, count),
+        Command::IsThread(thread) => answer_thread(&session.tape.machine, thread, out),
         Command::Looked => {
             push_bytes(out, b"QC")?;
             push_thread(out, session.looked)
         }
-        Command::Threads => push_threads(out, session.machine.task_count()),
+        Command::Threads => push_threads(out, session.tape.machine.task_count()),
         Command::MoreThreads => push_bytes(out, b"l"),
         Command::Supported => push_bytes(out, SUPPORTED.as_bytes()),
         Command::Attached => push_bytes(out, b"1"),
         Command::Description(offset, count) => {
             push_part(out, DESCRIPTION.as_bytes(), offset, count)
+        }
+        Command::MemoryMap(offset, count) => {
+            let map = memory_map(session.tape.machine.boot_numbers().ram);
+            push_part(out, map.as_slice(), offset, count)
         }
         Command::Actions => push_bytes(out, ACTIONS.as_bytes()),
         _ => Ok(()),

@@ -4,25 +4,27 @@ ghost use Rattle.std.specs.Prelude.{◌≡◌, ◌≢◌, ◌<◌, ◌++◌, [],
 ghost use Rattle.std.specs.String.{string_bytes};
 ghost use Rattle.evm_gdb_packets.specs.Framing.{framed};
 ghost use Rattle.evm_gdb_commands.specs.Commands.{command_at};
-ghost use Rattle.evm_gdb.specs.Asking.{IsCarriedOut, asked, payload_asked, reply};
+ghost use Rattle.evm_gdb.specs.Asking.{ArePointsSet, IsCarriedOut, asked, payload_asked, payload_points, points_asked, reply};
 ghost use Rattle.evm_gdb.specs.Written.{Extends, acknowledgement};
-ghost use Rattle.evm_gdb_driving.specs.Kept.{KeepsJournal};
+ghost use Rattle.gdb_tape.specs.Tape.{KeepsTape};
 
 use crate::answering::answer;
 use crate::session::GdbSession;
-use evm_dev::Device;
 use evm_gdb_commands::{Command, read_command};
-use evm_gdb_driving::{Interrupts, part_len, push_bytes};
 use evm_gdb_packets::{PacketItem, push_digits, push_framed, read_item};
 use evm_room::{NoMemory, Refused};
 use evm_streams::{ReadFault, Reading, Sink, Source, WriteFault, write_all};
+use gdb_tape::{Interrupts, has_going, part_len, processor_of, push_bytes, stop_all};
 use std::alloc::Global;
+use std::mem;
 
 /// How a session ended.
 #[derive(Clone, Copy, Debug, PartialEq, Eq)]
 pub enum Ended {
     /// GDB left, or its stream ended.
     Left,
+    /// The session is to be saved, and goes on then.
+    Saves,
     /// An allocation failed.
     NoMemory,
     /// A read failed.
@@ -118,16 +120,17 @@ fn push_packets(desk: &mut Desk, over: bool) -> Result<(), NoMemory>
 }
 
 // Does a command, and appends the packets of its answer.
-fn answer_command<D: Device, I: Interrupts>(
+fn answer_command<I: Interrupts>(
     alloc: Global,
-    session: &mut GdbSession<D>,
+    session: &mut GdbSession,
     command: Command,
     behind: &[u8],
     interrupts: &I,
     desk: &mut Desk,
 ) -> Result<(), NoMemory>
-    ensures done { OnOk result (IfSome (asked session.old.looked behind.now session.old.machine command) (λ events. IsCarriedOut reply events session.old.machine session.new.machine desk.old.out.items desk.new.out.items)) }
-    ensures kept { KeepsJournal session.old.machine session.new.machine }
+    ensures points { OnOk result (IfSome (points_asked session.old.tape.machine session.old.points command) (λ outcome. ArePointsSet reply outcome session.old.points session.new.points desk.old.out.items desk.new.out.items)) }
+    ensures done { OnOk result (IfSome (asked session.old.looked behind.now session.old.tape.machine command) (λ events. IsCarriedOut reply events session.old.tape.machine session.new.tape.machine desk.old.out.items desk.new.out.items)) }
+    ensures kept { KeepsTape session.old.tape session.new.tape }
     ensures extends { OnOk result (Extends desk.old.out.items desk.new.out.items) }
 {
     desk.told.clear();
@@ -173,16 +176,17 @@ fn push_sign(acknowledges: bool, item: PacketItem, out: &mut Vec<u8>) -> Result<
 }
 
 // Answers a payload.
-#[tactic(auto, using(evm_gdb_driving::proofs::Kept::keeps_same, crate::proofs::Extending::extends_by))]
-fn answer_payload<D: Device, I: Interrupts>(
+#[tactic(auto, using(gdb_tape::proofs::Keeping::keeps_same, crate::proofs::Extending::extends_by))]
+fn answer_payload<I: Interrupts>(
     alloc: Global,
-    session: &mut GdbSession<D>,
+    session: &mut GdbSession,
     payload: &[u8],
     interrupts: &I,
     desk: &mut Desk,
 ) -> Result<(), NoMemory>
-    ensures done { OnOk result (IfSome (payload_asked session.old.looked payload.now session.old.machine) (λ events. IsCarriedOut reply events session.old.machine session.new.machine desk.old.out.items desk.new.out.items)) }
-    ensures kept { KeepsJournal session.old.machine session.new.machine }
+    ensures points { OnOk result (IfSome (payload_points payload.now session.old.tape.machine session.old.points) (λ outcome. ArePointsSet reply outcome session.old.points session.new.points desk.old.out.items desk.new.out.items)) }
+    ensures done { OnOk result (IfSome (payload_asked session.old.looked payload.now session.old.tape.machine) (λ events. IsCarriedOut reply events session.old.tape.machine session.new.tape.machine desk.old.out.items desk.new.out.items)) }
+    ensures kept { KeepsTape session.old.tape session.new.tape }
     ensures extends { OnOk result (Extends desk.old.out.items desk.new.out.items) }
     ensures unknown { command_at payload.now ≡ Option.None → session.new ≡ session.old }
     ensures empty { command_at payload.now ≡ Option.None → OnOk result (desk.new.out.items ≡ desk.old.out.items ++ framed []) }
@@ -196,17 +200,18 @@ fn answer_payload<D: Device, I: Interrupts>(
 }
 
 // Makes what is to be written for an item: its acknowledgement, and the packets of the answer to a payload.
-#[tactic(auto, using(evm_gdb_driving::proofs::Kept::keeps_same, crate::proofs::Extending::extends_none))]
-fn hear<D: Device, I: Interrupts>(
+#[tactic(auto, using(gdb_tape::proofs::Keeping::keeps_same, crate::proofs::Extending::extends_none))]
+fn hear<I: Interrupts>(
     alloc: Global,
-    session: &mut GdbSession<D>,
+    session: &mut GdbSession,
     item: PacketItem,
     payload: &[u8],
     interrupts: &I,
     desk: &mut Desk,
 ) -> Result<(), NoMemory>
-    ensures done { item ≡ PacketItem.Packet → OnOk result (IfSome (payload_asked session.old.looked payload.now session.old.machine) (λ events. IsCarriedOut reply events session.old.machine session.new.machine (acknowledgement session.old.acknowledges item) desk.new.out.items)) }
-    ensures kept { KeepsJournal session.old.machine session.new.machine }
+    ensures points { item ≡ PacketItem.Packet → OnOk result (IfSome (payload_points payload.now session.old.tape.machine session.old.points) (λ outcome. ArePointsSet reply outcome session.old.points session.new.points (acknowledgement session.old.acknowledges item) desk.new.out.items)) }
+    ensures done { item ≡ PacketItem.Packet → OnOk result (IfSome (payload_asked session.old.looked payload.now session.old.tape.machine) (λ events. IsCarriedOut reply events session.old.tape.machine session.new.tape.machine (acknowledgement session.old.acknowledges item) desk.new.out.items)) }
+    ensures kept { KeepsTape session.old.tape session.new.tape }
     ensures acknowledged { OnOk result (Extends (acknowledgement session.old.acknowledges item) desk.new.out.items) }
     ensures others { item ≢ PacketItem.Packet → session.new ≡ session.old }
     ensures sign { item ≢ PacketItem.Packet → OnOk result (desk.new.out.items ≡ acknowledgement session.old.acknowledges item) }
@@ -233,17 +238,18 @@ fn is_answered(item: PacketItem) -> bool {
 }
 
 // Makes what is written for an item; what was written last stays where nothing new is.
-#[tactic(auto, using(evm_gdb_driving::proofs::Kept::keeps_same))]
-fn prepare<D: Device, I: Interrupts>(
+#[tactic(auto, using(gdb_tape::proofs::Keeping::keeps_same))]
+fn prepare<I: Interrupts>(
     alloc: Global,
-    session: &mut GdbSession<D>,
+    session: &mut GdbSession,
     item: PacketItem,
     payload: &[u8],
     interrupts: &I,
     desk: &mut Desk,
 ) -> Result<(), NoMemory>
-    ensures done { item ≡ PacketItem.Packet → OnOk result (IfSome (payload_asked session.old.looked payload.now session.old.machine) (λ events. IsCarriedOut reply events session.old.machine session.new.machine (acknowledgement session.old.acknowledges item) desk.new.out.items)) }
-    ensures kept { KeepsJournal session.old.machine session.new.machine }
+    ensures points { item ≡ PacketItem.Packet → OnOk result (IfSome (payload_points payload.now session.old.tape.machine session.old.points) (λ outcome. ArePointsSet reply outcome session.old.points session.new.points (acknowledgement session.old.acknowledges item) desk.new.out.items)) }
+    ensures done { item ≡ PacketItem.Packet → OnOk result (IfSome (payload_asked session.old.looked payload.now session.old.tape.machine) (λ events. IsCarriedOut reply events session.old.tape.machine session.new.tape.machine (acknowledgement session.old.acknowledges item) desk.new.out.items)) }
+    ensures kept { KeepsTape session.old.tape session.new.tape }
 {
     match item {
         PacketItem::Packet | PacketItem::Damaged => hear(
@@ -253,18 +259,43 @@ fn prepare<D: Device, I: Interrupts>(
     }
 }
 
+// Whether an item asks for other registers.
+fn writes_registers(item: PacketItem, payload: &[u8]) -> bool {
+    if item != PacketItem::Packet {
+        return false;
+    }
+    match read_command(payload) {
+        Some((Command::SetRegisters, _)) | Some((Command::SetRegister(_), _)) => true,
+        _ => false,
+    }
+}
+
+// Stops the processors where registers are to be written that can be: at an earlier place they may go.
+#[tactic(auto, using(gdb_tape::proofs::Keeping::keeps_same, gdb_tape::proofs::Keeping::keeps_changed))]
+fn make_way(session: &mut GdbSession, item: PacketItem, payload: &[u8])
+    ensures kept { KeepsTape session.old.tape session.new.tape }
+{
+    let can = processor_of(&session.tape.machine, session.looked).is_ok();
+    if can && writes_registers(item, payload) && has_going(&session.tape.machine) {
+        session.forget();
+        let _ = stop_all(&mut session.tape.machine);
+    }
+}
+
 // Answers an item.
-fn serve_item<W: Sink, D: Device, I: Interrupts>(
+#[tactic(auto, using(gdb_tape::proofs::Keeping::keeps_same, gdb_tape::proofs::Keeping::keeps_more))]
+fn serve_item<W: Sink, I: Interrupts>(
     alloc: Global,
-    session: &mut GdbSession<D>,
+    session: &mut GdbSession,
     item: PacketItem,
     payload: &[u8],
     interrupts: &I,
     desk: &mut Desk,
     sink: &mut W,
 ) -> Result<(), Ended>
-    ensures kept { KeepsJournal session.old.machine session.new.machine }
+    ensures kept { KeepsTape session.old.tape session.new.tape }
 {
+    make_way(session, item, payload);
     match prepare(alloc, session, item, payload, interrupts, desk) {
         Ok(()) => {}
         Err(NoMemory) => return Err(Ended::NoMemory),
@@ -279,17 +310,17 @@ fn serve_item<W: Sink, D: Device, I: Interrupts>(
 }
 
 // Answers the items that are whole in some bytes: how many bytes are left.
-#[tactic(auto, using(evm_gdb_driving::proofs::Kept::keeps_same, evm_gdb_driving::proofs::Kept::keeps_more))]
-fn serve_items<W: Sink, D: Device, I: Interrupts>(
+#[tactic(auto, using(gdb_tape::proofs::Keeping::keeps_same, gdb_tape::proofs::Keeping::keeps_more))]
+fn serve_items<W: Sink, I: Interrupts>(
     alloc: Global,
-    session: &mut GdbSession<D>,
+    session: &mut GdbSession,
     bytes: &[u8],
     interrupts: &I,
     payload: &mut Vec<u8>,
     desk: &mut Desk,
     sink: &mut W,
 ) -> Result<usize, Ended>
-    ensures kept { KeepsJournal session.old.machine session.new.machine }
+    ensures kept { KeepsTape session.old.tape session.new.tape }
 {
     let mut rest = bytes;
     'items: for _ in 0..bytes.len() {
@@ -331,7 +362,7 @@ fn read_more<R: Source>(source: &mut R, heard: &mut Vec<u8>) -> Result<bool, End
     }
 }
 
-// KeepsJournal the last bytes of a list alone.
+// Keeps the last bytes of a list alone.
 fn keep_last(heard: &mut Vec<u8>, left: usize) {
     let len = heard.len();
     if left < len {
@@ -340,19 +371,19 @@ fn keep_last(heard: &mut Vec<u8>, left: usize) {
     }
 }
 
-/// Serves a session: reads what GDB sends until it leaves, and writes the answers. While the program goes on, the source
+/// Serves a session: reads what GDB sends until it leaves or asks that the session be saved, and writes the answers. While the program goes on, the source
 /// says whether GDB asks that it be stopped.
-#[tactic(auto, using(evm_gdb_driving::proofs::Kept::keeps_same, evm_gdb_driving::proofs::Kept::keeps_more))]
-pub fn serve_gdb<R: Source + Interrupts, W: Sink, D: Device>(
+#[tactic(auto, using(gdb_tape::proofs::Keeping::keeps_same, gdb_tape::proofs::Keeping::keeps_more))]
+pub fn serve_gdb<R: Source + Interrupts, W: Sink>(
     alloc: Global,
-    session: &mut GdbSession<D>,
+    session: &mut GdbSession,
     source: &mut R,
     sink: &mut W,
 ) -> Ended
-    ensures kept { KeepsJournal session.old.machine session.new.machine }
+    ensures kept { KeepsTape session.old.tape session.new.tape }
 {
     let mut desk = new_desk(alloc);
-    let mut heard = Vec::new(alloc);
+    let mut heard = mem::replace(&mut session.heard, Vec::new(alloc));
     let mut payload = Vec::new(alloc);
     'parts: for _ in 0..u64::MAX {
         match read_more(source, &mut heard) {
@@ -374,6 +405,10 @@ pub fn serve_gdb<R: Source + Interrupts, W: Sink, D: Device>(
         }
         if session.over {
             return Ended::Left;
+        }
+        if !session.save.is_empty() {
+            session.heard = heard;
+            return Ended::Saves;
         }
     }
     Ended::Left

@@ -3,12 +3,13 @@
 ghost use Rattle.std.specs.Prelude.{◌≡◌, ◌++◌, OnOk};
 ghost use Rattle.evm_gdb.specs.Answers.{part_text};
 
-use evm_gdb_driving::push_bytes;
+use arrayvec::ArrayVec;
 use evm_room::Refused;
+use gdb_tape::push_bytes;
 
 /// What is supported.
-pub(crate) const SUPPORTED: &str =
-    "PacketSize=4000;QStartNoAckMode+;qXfer:features:read+;swbreak+;hwbreak+;vContSupported+";
+pub(crate) const SUPPORTED: &str = "PacketSize=4000;QStartNoAckMode+;qXfer:features:read+;\
+qXfer:memory-map:read+;swbreak+;hwbreak+;vContSupported+;ReverseStep+;ReverseContinue+";
 
 /// The actions of `vCont`.
 pub(crate) const ACTIONS: &str = "vCont;c;C;s;S";
@@ -18,6 +19,7 @@ pub(crate) const DESCRIPTION: &str = "<?xml version=\"1.0\"?>
 <!DOCTYPE target SYSTEM \"gdb-target.dtd\">
 <target version=\"1.0\">
 <architecture>riscv:rv64</architecture>
+<osabi>none</osabi>
 <feature name=\"org.gnu.gdb.riscv.cpu\">
 <reg name=\"zero\" bitsize=\"64\" type=\"int\" regnum=\"0\"/>
 <reg name=\"ra\" bitsize=\"64\" type=\"code_ptr\"/>
@@ -55,6 +57,39 @@ pub(crate) const DESCRIPTION: &str = "<?xml version=\"1.0\"?>
 </feature>
 </target>
 ";
+
+/// The memory map of RAM of this size. Devices aren't in it, as they can't be read.
+pub(crate) fn memory_map(ram: u64) -> ArrayVec<u8, MAP_LIMIT> {
+    let mut map = ArrayVec::new();
+    let _ = map.try_extend_from_slice(MAP_HEAD.as_bytes());
+    for byte in ram.to_be_bytes().as_slice() {
+        let _ = map.try_push(digit(*byte / 16));
+        let _ = map.try_push(digit(*byte % 16));
+    }
+    let _ = map.try_extend_from_slice(MAP_TAIL.as_bytes());
+    map
+}
+
+/// The room of a memory map.
+pub(crate) const MAP_LIMIT: usize = 320;
+
+const MAP_HEAD: &str = "<?xml version=\"1.0\"?>
+<!DOCTYPE memory-map PUBLIC \"+//IDN gnu.org//DTD GDB Memory Map V1.0//EN\" \"http://sourceware.org/gdb/gdb-memory-map.dtd\">
+<memory-map>
+<memory type=\"ram\" start=\"0x80000000\" length=\"0x";
+
+const MAP_TAIL: &str = "\"/>
+</memory-map>
+";
+
+// The digit of a number below 16.
+fn digit(number: u8) -> u8 {
+    if number < 10 {
+        b'0'.wrapping_add(number)
+    } else {
+        b'a'.wrapping_add(number.wrapping_sub(10))
+    }
+}
 
 /// Appends the part of a document from an offset on, at most `count` bytes, behind `m` or, of its end, `l`.
 pub(crate) fn push_part(

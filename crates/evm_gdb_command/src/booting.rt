@@ -1,9 +1,9 @@
 //! The machine that a session begins with: by the lines of a script, or by default.
 
-use evm_dev::Device;
+use evm_devs::AnyDevice;
 use evm_gdb::{
-    Boot, CAPACITY_LIMIT, Devices, Line, LineEnd, Machine, Refusal, SIZE_LIMIT, cut_line,
-    read_line, run_line,
+    Boot, CAPACITY_LIMIT, Line, LineEnd, Machine, Refusal, SIZE_LIMIT, begin, cut_line, read_line,
+    run_line,
 };
 use evm_host::{Sink, write_all};
 use evm_image::Image;
@@ -29,23 +29,6 @@ pub(crate) enum NotBooted {
     NoBoot,
 }
 
-/// A machine with these numbers and the devices, with the image in it.
-pub(crate) fn boot<D: Device>(
-    alloc: Global,
-    numbers: Boot,
-    devices: Devices<D>,
-    image: &Image,
-) -> Result<Machine<D>, Refusal> {
-    let mut machine = match Machine::from_boot(alloc, numbers, devices) {
-        Ok(machine) => machine,
-        Err(refusal) => return Err(refusal),
-    };
-    match machine.load(image) {
-        Ok(()) => Ok(machine),
-        Err(refusal) => Err(refusal),
-    }
-}
-
 // Why the line of this number ends a script.
 fn fault_of(number: u64, refusal: Refusal) -> NotBooted {
     match refusal {
@@ -69,10 +52,10 @@ fn first_line(number: u64, line: &[u8]) -> Result<Option<Boot>, NotBooted> {
 }
 
 // A line behind the boot line.
-fn next_line<D: Device>(
+fn next_line(
     number: u64,
     line: &[u8],
-    machine: &mut Machine<D>,
+    machine: &mut Machine<AnyDevice>,
     text: &mut String,
 ) -> Result<(), NotBooted> {
     match run_line(machine, line, text) {
@@ -85,13 +68,13 @@ fn next_line<D: Device>(
 }
 
 // The lines behind the boot line. A view that can't be written is lost.
-fn run_rest<D: Device, E: Sink>(
+fn run_rest<E: Sink>(
     alloc: Global,
     first: u64,
     script: &[u8],
-    mut machine: Machine<D>,
+    mut machine: Machine<AnyDevice>,
     errors: &mut E,
-) -> Result<Machine<D>, NotBooted> {
+) -> Result<Machine<AnyDevice>, NotBooted> {
     let mut text = String::new(alloc);
     let mut rest = script;
     let mut number = first;
@@ -108,20 +91,19 @@ fn run_rest<D: Device, E: Sink>(
 }
 
 /// The machine that a script leaves.
-pub(crate) fn run_script<D: Device, E: Sink>(
+pub(crate) fn run_script<E: Sink>(
     alloc: Global,
     script: &[u8],
-    devices: Devices<D>,
     image: &Image,
     errors: &mut E,
-) -> Result<Machine<D>, NotBooted> {
+) -> Result<Machine<AnyDevice>, NotBooted> {
     let mut rest = script;
     let mut number = 1u64;
     'lines: while let Some((line, after)) = cut_line(rest) {
         match first_line(number, line) {
             Err(fault) => return Err(fault),
             Ok(Some(numbers)) => {
-                return match boot(alloc, numbers, devices, image) {
+                return match begin(alloc, image, numbers) {
                     Ok(machine) => {
                         run_rest(alloc, number.saturating_add(1), after, machine, errors)
                     }

@@ -1,14 +1,16 @@
 -- What a packet asks for, read from the front of its payload.
-use Rattle.std.specs.Prelude.{ℕ, ◌-◌, Bool, true, false, ◌==◌, List, [], ◌∷◌, length, Option, Some, None, codes, nat_lt, if◌then◌else◌}
+use Rattle.std.specs.Prelude.{ℕ, ◌-◌, Bool, true, false, not, ◌==◌, List, [], ◌∷◌, length, Option, Some, None, codes, nat_lt, if◌then◌else◌}
 use Rattle.evm_text.specs.Reading.{◌>>=◌, hexadecimal_at, after_word}
 use Rattle.evm_text.specs.Fields.{hexadecimal_last}
 use Rattle.evm_text.specs.Rows.{keyword}
 use Rattle.evm_gdb_commands.specs.declared.command.BreakKind.{BreakKind}
 use Rattle.evm_gdb_commands.specs.declared.command.BreakKind.TheVariants.{Software, Hardware}
+use Rattle.evm_gdb_commands.specs.declared.command.WatchKind.{WatchKind}
+use Rattle.evm_gdb_commands.specs.declared.command.WatchKind.TheVariants.{Write, Read, Access}
 use Rattle.evm_gdb_commands.specs.declared.command.Pace.{Pace}
 use Rattle.evm_gdb_commands.specs.declared.command.Pace.TheVariants.{Step, Continue}
 use Rattle.evm_gdb_commands.specs.declared.command.Command.{Command}
-use Rattle.evm_gdb_commands.specs.declared.command.Command.TheVariants.{Why, Registers, SetRegisters, Register, SetRegister, Memory, WriteDigits, WriteBytes, Insert, Remove, Resume, ResumeThread, Look, Choose, IsThread, Looked, Threads, MoreThreads, ThreadText, Supported, Attached, Description, Monitor, NoAcknowledgements, Actions, Detach, Kill}
+use Rattle.evm_gdb_commands.specs.declared.command.Command.TheVariants.{Why, Registers, SetRegisters, Register, SetRegister, Memory, WriteDigits, WriteBytes, Insert, Remove, Watch, Unwatch, Resume, ResumeThread, Reverse, Look, Choose, IsThread, Looked, Threads, MoreThreads, ThreadText, Supported, Attached, Description, MemoryMap, Monitor, NoAcknowledgements, Actions, Detach, Kill}
 
 -- ---- parts
 
@@ -87,12 +89,32 @@ insert_said kind bytes = address_at bytes >>= λ address. Some (Insert kind addr
 abbrev pub remove_said : BreakKind → List ℕ → Option Command
 remove_said kind bytes = address_at bytes >>= λ address. Some (Remove kind address)
 
+unfoldable pub watch_said : WatchKind → List ℕ → Option Command
+watch_said kind bytes = do
+  span ← span_at bytes
+  if length span.1 == 0 then Some (Watch kind span.0.0 span.0.1) else None
+
+unfoldable pub unwatch_said : WatchKind → List ℕ → Option Command
+unwatch_said kind bytes = do
+  span ← span_at bytes
+  if length span.1 == 0 then Some (Unwatch kind span.0.0 span.0.1) else None
+
+unfoldable pub watchpoint_at : List ℕ → Option Command
+watchpoint_at bytes =
+    keyword (after_word (codes "Z2,") bytes) (watch_said Write)
+    (keyword (after_word (codes "Z3,") bytes) (watch_said Read)
+    (keyword (after_word (codes "Z4,") bytes) (watch_said Access)
+    (keyword (after_word (codes "z2,") bytes) (unwatch_said Write)
+    (keyword (after_word (codes "z3,") bytes) (unwatch_said Read)
+    (after_word (codes "z4,") bytes >>= λ rest. unwatch_said Access rest)))))
+
 unfoldable pub breakpoint_at : List ℕ → Option Command
 breakpoint_at bytes =
     keyword (after_word (codes "Z0,") bytes) (insert_said Software)
     (keyword (after_word (codes "Z1,") bytes) (insert_said Hardware)
     (keyword (after_word (codes "z0,") bytes) (remove_said Software)
-    (keyword (after_word (codes "z1,") bytes) (remove_said Hardware) None)))
+    (keyword (after_word (codes "z1,") bytes) (remove_said Hardware)
+    (watchpoint_at bytes))))
 
 -- ---- what goes on
 
@@ -114,18 +136,22 @@ abbrev pub is_end : List ℕ → Bool
 is_end [] = true
 is_end (b ∷ bytes) = b == 59
 
--- the thread of an action: none is any
-unfoldable pub acted : List ℕ → Option (Option ℕ)
+-- whether another action stands behind one
+abbrev pub follows : List ℕ → Bool
+follows bytes = not (length bytes == 0)
+
+-- the thread of an action, and whether another follows: none is any
+unfoldable pub acted : List ℕ → Option (Option ℕ × Bool)
 acted bytes =
-    if is_end bytes then Some None
-    else (after_word (codes ":") bytes >>= λ rest. thread_at rest >>= λ thread. if is_end thread.1 then Some thread.0 else None)
+    if is_end bytes then Some (None, follows bytes)
+    else (after_word (codes ":") bytes >>= λ rest. thread_at rest >>= λ thread. if is_end thread.1 then Some (thread.0, follows thread.1) else None)
 
 -- the first action decides
 unfoldable pub action_named : List ℕ → Option Command
 action_named bytes = do
   pace ← pace_at bytes
-  thread ← acted pace.1
-  Some (ResumeThread pace.0 thread)
+  action ← acted pace.1
+  Some (ResumeThread pace.0 action.0 action.1)
 
 unfoldable pub resume_said : List ℕ → Option Command
 resume_said bytes = do
@@ -138,6 +164,11 @@ unfoldable pub description_said : List ℕ → Option Command
 description_said bytes = do
   span ← span_at bytes
   if length span.1 == 0 then Some (Description span.0.0 span.0.1) else None
+
+unfoldable pub map_said : List ℕ → Option Command
+map_said bytes = do
+  span ← span_at bytes
+  if length span.1 == 0 then Some (MemoryMap span.0.0 span.0.1) else None
 
 unfoldable pub thread_said : List ℕ → Option Command
 thread_said bytes =
@@ -163,7 +194,9 @@ named_command bytes =
     (keyword (after_word (codes "qAttached") bytes) (bare Attached)
     (keyword (after_word (codes "QStartNoAckMode") bytes) (bare NoAcknowledgements)
     (keyword (after_word (codes "vCont?") bytes) (bare Actions)
-    (thread_said bytes))))))))))
+    (keyword (after_word (codes "bs") bytes) (bare (Reverse Step))
+    (keyword (after_word (codes "bc") bytes) (bare (Reverse Continue))
+    (thread_said bytes))))))))))))
 
 abbrev pub first_command : Option Command → Option Command → Option Command
 first_command None other = other
@@ -173,10 +206,11 @@ unfoldable pub long_at : List ℕ → Option Command
 long_at bytes =
     keyword (after_word (codes "qSupported") bytes) (λ rest. Some Supported)
     (keyword (after_word (codes "qXfer:features:read:target.xml:") bytes) description_said
+    (keyword (after_word (codes "qXfer:memory-map:read::") bytes) map_said
     (keyword (after_word (codes "vCont;") bytes) action_named
     (keyword (after_word (codes "p") bytes) (λ rest. hexadecimal_last rest >>= λ register. Some (Register register))
     (keyword (after_word (codes "m") bytes) memory_said
-    (first_command (resume_said bytes) (named_command bytes))))))
+    (first_command (resume_said bytes) (named_command bytes)))))))
 
 -- ---- any command, and the digits or bytes behind it
 

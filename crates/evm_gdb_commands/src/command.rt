@@ -2,7 +2,7 @@
 
 ghost use Rattle.std.specs.Prelude.{◌≡◌};
 ghost use Rattle.evm_text.specs.Reading.{ReadsAs};
-ghost use Rattle.evm_gdb_commands.specs.Commands.{acted, action_named, bare, breakpoint_at, command_at, description_said, digits_said, bytes_said, is_end, insert_said, long_at, memory_said, number_to, numbered_thread, pace_at, address_at, register_said, remove_said, resume_said, signal_behind, span_at, thread_at, thread_last, thread_of, thread_said, named_command, write_in};
+ghost use Rattle.evm_gdb_commands.specs.Commands.{acted, action_named, follows, bare, breakpoint_at, command_at, description_said, digits_said, bytes_said, is_end, insert_said, long_at, map_said, memory_said, number_to, numbered_thread, pace_at, address_at, register_said, remove_said, resume_said, signal_behind, span_at, thread_at, thread_last, thread_of, thread_said, named_command, unwatch_said, watch_said, watchpoint_at, write_in};
 
 use evm_text::{after_word, hexadecimal_at, hexadecimal_last};
 
@@ -13,6 +13,17 @@ pub enum BreakKind {
     Software,
     /// `Z1`: by the hardware.
     Hardware,
+}
+
+/// Which accesses of memory a watchpoint is for.
+#[derive(Clone, Copy, Debug, PartialEq, Eq)]
+pub enum WatchKind {
+    /// `Z2`: stores.
+    Write,
+    /// `Z3`: loads.
+    Read,
+    /// `Z4`: both.
+    Access,
 }
 
 /// How a program is resumed.
@@ -47,10 +58,16 @@ pub enum Command {
     Insert(BreakKind, u64),
     /// `z0`, `z1`: no breakpoint any more.
     Remove(BreakKind, u64),
+    /// `Z2`, `Z3`, `Z4`: a watchpoint: its address, and how many bytes.
+    Watch(WatchKind, u64, u64),
+    /// `z2`, `z3`, `z4`: no watchpoint any more.
+    Unwatch(WatchKind, u64, u64),
     /// `c`, `s`, `C`, `S`: the thread of the last `Hc` goes on.
     Resume(Pace),
-    /// `vCont;`: a thread goes on.
-    ResumeThread(Pace, Option<u8>),
+    /// `vCont;`: a thread goes on; and whether there is an action for others.
+    ResumeThread(Pace, Option<u8>, bool),
+    /// `bs`, `bc`: the thread of the last `Hc` goes back.
+    Reverse(Pace),
     /// `Hg`: whose registers are asked for from now on.
     Look(Option<u8>),
     /// `Hc`: who goes on.
@@ -71,6 +88,8 @@ pub enum Command {
     Attached,
     /// `qXfer:features:read:target.xml`: a part of the target description.
     Description(u64, u64),
+    /// `qXfer:memory-map:read:`: a part of the memory map.
+    MemoryMap(u64, u64),
     /// `qRcmd,DIGITS`: a line for the monitor.
     Monitor,
     /// `QStartNoAckMode`: no acknowledgements any more.
@@ -207,6 +226,52 @@ fn remove_said(kind: BreakKind, bytes: &[u8]) -> Option<Command>
     Some(Command::Remove(kind, address_at(bytes)?))
 }
 
+#[tactic(auto, unfolding(crate::specs::Commands::watch_said))]
+fn watch_said(kind: WatchKind, bytes: &[u8]) -> Option<Command>
+    ensures { result ≡ watch_said kind bytes.now }
+{
+    let ((address, count), rest) = span_at(bytes)?;
+    if rest.is_empty() {
+        Some(Command::Watch(kind, address, count))
+    } else {
+        None
+    }
+}
+
+#[tactic(auto, unfolding(crate::specs::Commands::unwatch_said))]
+fn unwatch_said(kind: WatchKind, bytes: &[u8]) -> Option<Command>
+    ensures { result ≡ unwatch_said kind bytes.now }
+{
+    let ((address, count), rest) = span_at(bytes)?;
+    if rest.is_empty() {
+        Some(Command::Unwatch(kind, address, count))
+    } else {
+        None
+    }
+}
+
+#[tactic(auto, unfolding(crate::specs::Commands::watchpoint_at))]
+fn watchpoint_at(bytes: &[u8]) -> Option<Command>
+    ensures { result ≡ watchpoint_at bytes.now }
+{
+    if let Some(rest) = after_word(b"Z2,", bytes) {
+        return watch_said(WatchKind::Write, rest);
+    }
+    if let Some(rest) = after_word(b"Z3,", bytes) {
+        return watch_said(WatchKind::Read, rest);
+    }
+    if let Some(rest) = after_word(b"Z4,", bytes) {
+        return watch_said(WatchKind::Access, rest);
+    }
+    if let Some(rest) = after_word(b"z2,", bytes) {
+        return unwatch_said(WatchKind::Write, rest);
+    }
+    if let Some(rest) = after_word(b"z3,", bytes) {
+        return unwatch_said(WatchKind::Read, rest);
+    }
+    unwatch_said(WatchKind::Access, after_word(b"z4,", bytes)?)
+}
+
 #[tactic(auto, unfolding(crate::specs::Commands::breakpoint_at))]
 fn breakpoint_at(bytes: &[u8]) -> Option<Command>
     ensures { result ≡ breakpoint_at bytes.now }
@@ -223,7 +288,7 @@ fn breakpoint_at(bytes: &[u8]) -> Option<Command>
     if let Some(rest) = after_word(b"z1,", bytes) {
         return remove_said(BreakKind::Hardware, rest);
     }
-    None
+    watchpoint_at(bytes)
 }
 
 // What is behind the two digits of a signal.
@@ -263,16 +328,27 @@ fn is_end(bytes: &[u8]) -> bool
     }
 }
 
-// The thread of an action, up to the next action.
+// Whether another action stands behind one.
+fn follows(bytes: &[u8]) -> bool
+    ensures { result ≡ follows bytes.now }
+{
+    !bytes.is_empty()
+}
+
+// The thread of an action, up to the next action, and whether there is one.
 #[tactic(auto, unfolding(crate::specs::Commands::acted))]
-fn acted(bytes: &[u8]) -> Option<Option<u8>>
+fn acted(bytes: &[u8]) -> Option<(Option<u8>, bool)>
     ensures { result ≡ acted bytes.now }
 {
     if is_end(bytes) {
-        return Some(None);
+        return Some((None, follows(bytes)));
     }
     let (thread, rest) = thread_at(after_word(b":", bytes)?)?;
-    if is_end(rest) { Some(thread) } else { None }
+    if is_end(rest) {
+        Some((thread, follows(rest)))
+    } else {
+        None
+    }
 }
 
 // The first action decides; other threads are resumed as the schedule says.
@@ -281,7 +357,8 @@ fn action_named(bytes: &[u8]) -> Option<Command>
     ensures { result ≡ action_named bytes.now }
 {
     let (pace, rest) = pace_at(bytes)?;
-    Some(Command::ResumeThread(pace, acted(rest)?))
+    let (thread, others) = acted(rest)?;
+    Some(Command::ResumeThread(pace, thread, others))
 }
 
 #[tactic(auto, unfolding(crate::specs::Commands::resume_said))]
@@ -303,6 +380,18 @@ fn description_said(bytes: &[u8]) -> Option<Command>
     let ((offset, count), rest) = span_at(bytes)?;
     if rest.is_empty() {
         Some(Command::Description(offset, count))
+    } else {
+        None
+    }
+}
+
+#[tactic(auto, unfolding(crate::specs::Commands::map_said))]
+fn map_said(bytes: &[u8]) -> Option<Command>
+    ensures { result ≡ map_said bytes.now }
+{
+    let ((offset, count), rest) = span_at(bytes)?;
+    if rest.is_empty() {
+        Some(Command::MemoryMap(offset, count))
     } else {
         None
     }
@@ -368,6 +457,12 @@ fn named_command(bytes: &[u8]) -> Option<Command>
     if let Some(rest) = after_word(b"vCont?", bytes) {
         return bare(Command::Actions, rest);
     }
+    if let Some(rest) = after_word(b"bs", bytes) {
+        return bare(Command::Reverse(Pace::Step), rest);
+    }
+    if let Some(rest) = after_word(b"bc", bytes) {
+        return bare(Command::Reverse(Pace::Continue), rest);
+    }
     thread_said(bytes)
 }
 
@@ -380,6 +475,9 @@ fn long_at(bytes: &[u8]) -> Option<Command>
     }
     if let Some(rest) = after_word(b"qXfer:features:read:target.xml:", bytes) {
         return description_said(rest);
+    }
+    if let Some(rest) = after_word(b"qXfer:memory-map:read::", bytes) {
+        return map_said(rest);
     }
     if let Some(rest) = after_word(b"vCont;", bytes) {
         return action_named(rest);

@@ -4,4 +4,4 @@
 
 mod command;
 
-pub use command::{BreakKind, Command, Pace, read_command};
+pub use command::{BreakKind, Command, Pace, WatchKind, read_command};

@@ -1,7 +1,6 @@
 -- Why a continue ends: it is reported as interrupted only where a stop was asked for.
-use Rattle.std.specs.Prelude.{ℕ}
-use Rattle.evm_gdb_driving.specs.declared.running.Came.{Came}
-use Rattle.evm_gdb_driving.specs.declared.running.Came.TheVariants.{Halted, Turn}
+use Rattle.std.specs.Prelude.{Option, Some, None}
+use Rattle.evm_gdb_driving.specs.declared.stops.TargetHalt.{TargetHalt}
 use Rattle.evm_gdb_driving.specs.declared.stops.Why.{Why}
 use Rattle.evm_gdb_driving.specs.declared.stops.Why.TheVariants.{Interrupted}
 
@@ -13,6 +12,6 @@ OnlyIfAsked asked _ = Unit {0}
 abbrev pub IsAlone : Why → Type 0
 IsAlone why = OnlyIfAsked ⊥ why
 
-abbrev pub CameAlone : Came → Type 0
-CameAlone (Halted halt) = IsAlone halt.why
-CameAlone (Turn turn) = Unit {0}
+abbrev pub HaltsAlone : Option TargetHalt → Type 0
+HaltsAlone None = Unit {0}
+HaltsAlone (Some halt) = IsAlone halt.why

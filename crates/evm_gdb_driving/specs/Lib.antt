@@ -1,5 +1,7 @@
 pub mod Interrupts
 pub mod Kept
+pub mod Points
+pub mod Seeing
 pub mod Setting
 pub mod Shown
 pub mod Writing

@@ -1,6 +1,6 @@
 -- What packets show of the machine: registers, bytes, threads and stops.
 use Rattle.std.specs.Prelude.{ℕ, zero, suc, ◌+◌, ◌%◌, List, [], ◌∷◌, ◌++◌, Option, Some, None, Result, Ok, Err, codes, nat_lt, if◌then◌else◌, ◌==◌}
-use Rattle.std.specs.Int.{w64, to_le_bytes}
+use Rattle.std.specs.Int.{w64, to_be_bytes, to_le_bytes}
 use Rattle.evm_text.specs.Written.{pairs}
 use Rattle.evm_exec.specs.Registers.{register_of}
 use Rattle.evm_exec.specs.declared.hart.Hart.{Hart}
@@ -8,9 +8,11 @@ use Rattle.evm_exec.specs.declared.hart.TheConstants.{REGISTERS}
 use Rattle.evm_model.specs.Refusals.{number_of}
 use Rattle.evm_model.specs.declared.fault.Fault.TheVariants as faults
 use Rattle.evm_model.specs.declared.refusal.Refusal.{Refusal}
+use Rattle.evm_gdb_commands.specs.declared.command.WatchKind.{WatchKind}
+use Rattle.evm_gdb_commands.specs.declared.command.WatchKind.TheVariants.{Write, Read, Access}
 use Rattle.evm_gdb_driving.specs.declared.stops.TargetHalt.{TargetHalt}
 use Rattle.evm_gdb_driving.specs.declared.stops.Why.{Why}
-use Rattle.evm_gdb_driving.specs.declared.stops.Why.TheVariants.{Asked, SoftwareBreak, HardwareBreak, Ebreak, Faulted, Interrupted, Limit, Idle}
+use Rattle.evm_gdb_driving.specs.declared.stops.Why.TheVariants.{Asked, SoftwareBreak, HardwareBreak, Watched, Ebreak, Faulted, Interrupted, Limit, Idle, AtBegin, AtEnd}
 
 -- a number of 64 bits, its low byte first
 abbrev pub word_text : ℕ → List ℕ
@@ -72,6 +74,7 @@ abbrev pub signal_of : Why → ℕ
 signal_of Asked = 5
 signal_of SoftwareBreak = 5
 signal_of HardwareBreak = 5
+signal_of (Watched kind address) = 5
 signal_of Ebreak = 5
 signal_of (Faulted faults.Misaligned) = 10
 signal_of (Faulted faults.Fetch) = 11
@@ -81,12 +84,27 @@ signal_of (Faulted faults.Store) = 11
 signal_of Interrupted = 2
 signal_of Limit = 2
 signal_of Idle = 0
+signal_of AtBegin = 5
+signal_of AtEnd = 5
 
-abbrev pub break_text : Why → List ℕ
-break_text SoftwareBreak = codes ";swbreak:;"
-break_text HardwareBreak = codes ";hwbreak:;"
-break_text _ = codes ";"
+-- the word of a watchpoint that was met
+abbrev pub watch_word : WatchKind → List ℕ
+watch_word Write = codes ";watch:"
+watch_word Read = codes ";rwatch:"
+watch_word Access = codes ";awatch:"
 
--- T, the signal, the thread, and which kind of breakpoint it was
+-- an address, its high byte first
+abbrev pub address_text : ℕ → List ℕ
+address_text address = pairs (to_be_bytes w64 address)
+
+abbrev pub reason_text : Why → List ℕ
+reason_text SoftwareBreak = codes ";swbreak:;"
+reason_text HardwareBreak = codes ";hwbreak:;"
+reason_text (Watched kind address) = watch_word kind ++ address_text address ++ codes ";"
+reason_text AtBegin = codes ";replaylog:begin;"
+reason_text AtEnd = codes ";replaylog:end;"
+reason_text _ = codes ";"
+
+-- T, the signal, the thread, and at which kind of breakpoint or watchpoint, or end of the session, it is
 abbrev pub halt_text : TargetHalt → List ℕ
-halt_text halt = codes "T" ++ pairs (signal_of halt.why ∷ []) ++ codes "thread:" ++ thread_text halt.task ++ break_text halt.why
+halt_text halt = codes "T" ++ pairs (signal_of halt.why ∷ []) ++ codes "thread:" ++ thread_text halt.task ++ reason_text halt.why

@@ -1,100 +1,70 @@
 //! A program that goes on: one instruction, or until something stops it.
 
 ghost use Rattle.std.specs.Prelude.{IfOk, IfSome, true};
-ghost use Rattle.evm_gdb_driving.specs.Interrupts.{CameAlone, IsAlone, OnlyIfAsked};
+ghost use Rattle.evm_gdb_driving.specs.Interrupts.{HaltsAlone, OnlyIfAsked, IsAlone};
 ghost use Rattle.evm_gdb_driving.specs.Kept.{KeepsJournal};
 
+use crate::clock::is_pending;
 use crate::driving::{event, go_all, stop_all};
+use crate::points::Points;
+use crate::seeing::{Next, break_at, current_or, fault_of, halt_after, next_of, watch_at};
 use crate::stops::{TargetHalt, Why};
 use evm_debug::{Answer, Event, Machine, Refusal};
 use evm_dev::Device;
 use evm_interrupts::Interrupts;
-use evm_model::TaskState;
 
-// The task that a processor runs, or else another.
-fn current_or<D: Device>(machine: &Machine<D>, c: u8, other: u8) -> u8 {
-    match machine.cpu(c) {
-        Some(processor) => processor.current.unwrap_or(other),
-        None => other,
-    }
+/// How a program goes on.
+#[derive(Clone, Copy, Debug)]
+pub struct Going<'a> {
+    /// The processors that step, one after the other and again from the first.
+    pub turns: &'a [u8],
+    /// Where it stops.
+    pub points: &'a Points,
+    /// How many events it makes at most.
+    pub limit: u32,
+    /// How many rounds of turns go from one tick of the clock to the next, which comes too where nothing else is left; 0 for no ticks.
+    pub clock: u32,
+    /// Who is looked at. That task passes a breakpoint at its pc.
+    pub looked: u8,
+    /// The task whose instruction is the last.
+    pub until: Option<u8>,
 }
 
-fn is_stopped<D: Device>(machine: &Machine<D>, c: u8) -> bool {
-    match machine.cpu(c) {
-        Some(processor) => processor.stopped,
-        None => false,
-    }
+/// How far the turns are.
+#[derive(Clone, Copy, Debug, PartialEq, Eq)]
+pub struct Round {
+    /// The next turn.
+    pub turn: usize,
+    /// How many rounds were made since the clock ticked.
+    pub rounds: u32,
+    /// Who passes a breakpoint at its pc.
+    pub passes: Option<u8>,
 }
 
-// Which kind of breakpoint is at the pc of a task.
-fn break_at<D: Device>(machine: &Machine<D>, hardware: &[u64], task: u8) -> Why
-    ensures { IsAlone result }
-{
-    match machine.hart(task) {
-        Some(hart) => {
-            for address in hardware {
-                if *address == hart.pc {
-                    return Why::HardwareBreak;
-                }
-            }
-            Why::SoftwareBreak
+impl Round {
+    /// The first turn.
+    pub fn new() -> Round {
+        Round {
+            turn: 0,
+            rounds: 0,
+            passes: None,
         }
-        None => Why::SoftwareBreak,
     }
-}
 
-// The halt of a task that its last instruction ended by a fault.
-fn stop_of_step<D: Device>(machine: &Machine<D>, task: u8) -> Option<TargetHalt>
-    ensures { IfSome result (λ halt. IsAlone halt.why) }
-{
-    match machine.task(task) {
-        Some(one) => match one.state {
-            TaskState::Faulted(fault) => Some(TargetHalt {
-                task,
-                why: Why::Faulted(fault),
-            }),
-            _ => None,
-        },
-        None => None,
-    }
-}
-
-// Why a task is stopped that did an instruction of a processor, if it is.
-fn stop_of<D: Device>(machine: &Machine<D>, c: u8, task: u8) -> Option<TargetHalt>
-    ensures { IfSome result (λ halt. IsAlone halt.why) }
-{
-    if let Some(halt) = stop_of_step(machine, task) {
-        return Some(halt);
-    }
-    if is_stopped(machine, c) {
-        Some(TargetHalt {
-            task,
-            why: Why::Ebreak,
-        })
-    } else {
-        None
-    }
-}
-
-// Whether the answer to a step of a processor ends a continue.
-fn halt_after<D: Device>(
-    machine: &Machine<D>,
-    hardware: &[u64],
-    c: u8,
-    answer: Answer,
-) -> Option<TargetHalt>
-    ensures { IfSome result (λ halt. IsAlone halt.why) }
-{
-    match answer {
-        Answer::Hit => {
-            let task = current_or(machine, c, 0);
-            Some(TargetHalt {
-                task,
-                why: break_at(machine, hardware, task),
-            })
+    // Comes to a turn. Those before it are passed over, maybe to the end of a round.
+    fn come(&mut self, at: usize) {
+        if at < self.turn {
+            self.rounds = self.rounds.saturating_add(1);
         }
-        Answer::Ran(task) => stop_of(machine, c, task),
-        Answer::Idle | Answer::Stopped | Answer::Received(_) | Answer::Done => None,
+        self.turn = at;
+    }
+
+    // Goes past the turn. The last one ends a round.
+    fn pass(&mut self, turns: usize) {
+        self.turn = next_turn(self.turn, turns);
+        if self.turn == 0 {
+            self.rounds = self.rounds.saturating_add(1);
+        }
     }
 }
 
@@ -107,187 +77,254 @@ fn next_turn(turn: usize, turns: usize) -> usize {
     }
 }
 
-/// What the next step of a processor does.
-#[derive(Clone, Copy)]
-enum Next {
-    /// It receives a line, or takes up a task that is ready.
-    Prepares,
-    /// The task does an instruction.
-    Runs(u8),
-    /// Nothing.
-    Idles,
-}
-
-// Whether a line is on the wire of a processor.
-fn has_line<D: Device>(machine: &Machine<D>, c: u8) -> bool {
-    match machine.wire(c) {
-        Some(wire) => !wire.is_empty(),
-        None => false,
-    }
-}
-
-// Whether a task of a processor is ready. One that was just spawned there runs from the processor's next step on.
-fn has_ready<D: Device>(machine: &Machine<D>, c: u8) -> bool {
-    for t in 0..machine.task_count() {
-        if let Some(task) = machine.task(t) {
-            if task.cpu == c && matches!(task.state, TaskState::InReady | TaskState::OobReady) {
-                return true;
-            }
-        }
-    }
-    false
-}
-
-fn next_of<D: Device>(machine: &Machine<D>, c: u8) -> Next {
-    if has_line(machine, c) {
-        return Next::Prepares;
-    }
-    let current = match machine.cpu(c) {
-        Some(processor) => processor.current,
-        None => None,
-    };
-    match current {
-        Some(task) => Next::Runs(task),
-        None if has_ready(machine, c) => Next::Prepares,
-        None => Next::Idles,
-    }
-}
-
-fn is_busy<D: Device>(machine: &Machine<D>, c: u8) -> bool {
-    match next_of(machine, c) {
-        Next::Prepares | Next::Runs(_) => true,
-        Next::Idles => false,
-    }
-}
-
-// The first turn from one on whose processor has something to do.
-fn busy_turn<D: Device>(machine: &Machine<D>, turns: &[u8], first: usize) -> Option<usize> {
-    let mut turn = first;
+// The first turn from one on whose processor has something to do, and what.
+fn busy_turn<D: Device>(machine: &Machine<D>, turns: &[u8], first: usize) -> Option<(usize, Next)> {
+    let mut turn = if first < turns.len() { first } else { 0 };
     'turns: for _ in 0..turns.len() {
-        if is_busy(machine, turns.get(turn).copied().unwrap_or(0)) {
-            return Some(turn);
+        match next_of(machine, turns.get(turn).copied().unwrap_or(0)) {
+            Next::Idles => {}
+            next => return Some((turn, next)),
         }
         turn = next_turn(turn, turns.len());
     }
     None
 }
 
-/// How many Steps are made between two looks at whether a stop is asked for.
-const PATIENCE: u64 = 1_024;
-
-/// What came of some Steps.
-#[derive(Clone, Copy)]
-enum Came {
-    /// A processor is stopped, or none has anything to do.
-    Halted(TargetHalt),
-    /// All were made; this turn is the next.
-    Turn(usize),
+// A tick of the clock.
+#[tactic(auto, using(crate::proofs::Kept::keeps_same))]
+fn tick<D: Device>(machine: &mut Machine<D>, round: &mut Round) -> Result<(), Refusal>
+    ensures kept { KeepsJournal machine.old machine.new }
+{
+    round.rounds = 0;
+    match event(machine, Event::Tick) {
+        Ok(_) => Ok(()),
+        Err(refusal) => Err(refusal),
+    }
 }
 
-// A number of Steps of the processors that have turns, from one turn on. `looked` is who is looked at.
+// What is done where no processor has anything to do: a tick, if something comes of it.
+#[tactic(auto, using(crate::proofs::Kept::keeps_same))]
+fn rest<D: Device>(
+    machine: &mut Machine<D>,
+    going: &Going<'_>,
+    round: &mut Round,
+) -> Result<Option<TargetHalt>, Refusal>
+    ensures kept { KeepsJournal machine.old machine.new }
+    ensures halts { IfOk result HaltsAlone }
+{
+    if going.clock == 0 || !is_pending(machine) {
+        return Ok(Some(TargetHalt {
+            task: going.looked,
+            why: Why::Idle,
+        }));
+    }
+    match tick(machine, round) {
+        Ok(()) => Ok(None),
+        Err(refusal) => Err(refusal),
+    }
+}
+
+// Who is stopped behind a step of a processor, and why.
+fn halt_behind<D: Device>(
+    machine: &Machine<D>,
+    until: Option<u8>,
+    c: u8,
+    answer: Answer,
+    watched: Option<Why>,
+) -> Option<TargetHalt>
+    requires { IfSome watched IsAlone }
+    ensures { HaltsAlone result }
+{
+    if let Some(halt) = halt_after(machine, c, answer) {
+        return Some(halt);
+    }
+    let Answer::Ran(task) = answer else {
+        return None;
+    };
+    match watched {
+        Some(why) => Some(TargetHalt { task, why }),
+        None if until == Some(task) => Some(TargetHalt {
+            task,
+            why: Why::Asked,
+        }),
+        None => None,
+    }
+}
+
+// Why a task is stopped before its instruction, if it doesn't pass.
+fn stop_before<D: Device>(
+    machine: &Machine<D>,
+    points: &Points,
+    passes: Option<u8>,
+    task: u8,
+) -> Option<TargetHalt>
+    ensures { HaltsAlone result }
+{
+    if passes == Some(task) {
+        return None;
+    }
+    match break_at(machine, points, task) {
+        Some(why) => Some(TargetHalt { task, why }),
+        None => None,
+    }
+}
+
+// The step of a processor, of which a task does an instruction.
+#[tactic(auto, using(crate::proofs::Kept::keeps_same))]
+fn run_task<D: Device>(
+    machine: &mut Machine<D>,
+    going: &Going<'_>,
+    round: &mut Round,
+    c: u8,
+    task: u8,
+) -> Result<Option<TargetHalt>, Refusal>
+    ensures kept { KeepsJournal machine.old machine.new }
+    ensures halts { IfOk result HaltsAlone }
+{
+    if let Some(halt) = stop_before(machine, going.points, round.passes, task) {
+        return Ok(Some(halt));
+    }
+    if round.passes == Some(task) {
+        round.passes = None;
+    }
+    let watched = watch_at(machine, going.points, task);
+    match event(machine, Event::Step(c)) {
+        Ok(answer) => Ok(halt_behind(machine, going.until, c, answer, watched)),
+        Err(refusal) => Err(refusal),
+    }
+}
+
+// The step of a processor that receives a line, or takes up a task.
+#[tactic(auto, using(crate::proofs::Kept::keeps_same))]
+fn run_line<D: Device>(machine: &mut Machine<D>, c: u8) -> Result<Option<TargetHalt>, Refusal>
+    ensures kept { KeepsJournal machine.old machine.new }
+    ensures halts { IfOk result HaltsAlone }
+{
+    match event(machine, Event::Step(c)) {
+        Ok(answer) => Ok(halt_after(machine, c, answer)),
+        Err(refusal) => Err(refusal),
+    }
+}
+
+// One event: a step of the next turn, or a tick.
+#[tactic(auto, using(crate::proofs::Kept::keeps_same))]
+fn run_turn<D: Device>(
+    machine: &mut Machine<D>,
+    going: &Going<'_>,
+    round: &mut Round,
+) -> Result<Option<TargetHalt>, Refusal>
+    ensures kept { KeepsJournal machine.old machine.new }
+    ensures halts { IfOk result HaltsAlone }
+{
+    let Some((at, next)) = busy_turn(machine, going.turns, round.turn) else {
+        return rest(machine, going, round);
+    };
+    round.come(at);
+    if going.clock != 0 && round.rounds >= going.clock {
+        return match tick(machine, round) {
+            Ok(()) => Ok(None),
+            Err(refusal) => Err(refusal),
+        };
+    }
+    let c = going.turns.get(at).copied().unwrap_or(0);
+    let outcome = match next {
+        Next::Runs(task) => run_task(machine, going, round, c, task),
+        Next::Prepares | Next::Idles => run_line(machine, c),
+    };
+    round.pass(going.turns.len());
+    outcome
+}
+
+/// How many events are made between two looks at whether a stop is asked for.
+const PATIENCE: u64 = 1_024;
+
+// A number of events: who is stopped behind them, if somebody is.
 #[tactic(auto, using(crate::proofs::Kept::keeps_same, crate::proofs::Kept::keeps_more))]
 fn run_some<D: Device>(
     machine: &mut Machine<D>,
-    turns: &[u8],
-    hardware: &[u64],
-    first: usize,
+    going: &Going<'_>,
+    round: &mut Round,
     count: u64,
-    looked: u8,
-) -> Result<Came, Refusal>
+) -> Result<Option<TargetHalt>, Refusal>
     ensures kept { KeepsJournal machine.old machine.new }
-    ensures halts { IfOk result CameAlone }
+    ensures halts { IfOk result HaltsAlone }
 {
-    let mut turn = first;
     'steps: for _ in 0..count {
-        let Some(at) = busy_turn(machine, turns, turn) else {
-            return Ok(Came::Halted(TargetHalt {
-                task: looked,
-                why: Why::Idle,
-            }));
-        };
-        let c = turns.get(at).copied().unwrap_or(0);
-        let answer = match event(machine, Event::Step(c)) {
-            Ok(answer) => answer,
+        match run_turn(machine, going, round) {
+            Ok(None) => {}
+            Ok(Some(halt)) => return Ok(Some(halt)),
             Err(refusal) => return Err(refusal),
-        };
-        if let Some(halt) = halt_after(machine, hardware, c, answer) {
-            return Ok(Came::Halted(halt));
         }
-        turn = next_turn(at, turns.len());
     }
-    Ok(Came::Turn(turn))
+    Ok(None)
 }
 
-// Steps of the processors that have turns, at most `most`, until a stop is asked for: who is stopped, and why.
+// At most `most` events, until a stop is asked for: who is stopped, and why.
 #[tactic(auto, using(crate::proofs::Kept::keeps_same, crate::proofs::Kept::keeps_more))]
 fn run<D: Device, I: Interrupts>(
     machine: &mut Machine<D>,
-    turns: &[u8],
-    hardware: &[u64],
+    going: &Going<'_>,
+    round: &mut Round,
     most: u64,
-    looked: u8,
     interrupts: &I,
 ) -> Result<TargetHalt, Refusal>
     ensures kept { KeepsJournal machine.old machine.new }
     ensures asked { IfOk result (λ halt. OnlyIfAsked (I.asks interrupts.now true) halt.why) }
 {
-    let mut turn = 0;
     let mut left = most;
     'parts: while left > 0 {
         if interrupts.is_asked() {
             return Ok(TargetHalt {
-                task: looked,
+                task: going.looked,
                 why: Why::Interrupted,
             });
         }
         let count = left.min(PATIENCE);
-        match run_some(machine, turns, hardware, turn, count, looked) {
-            Ok(Came::Halted(halt)) => return Ok(halt),
-            Ok(Came::Turn(next)) => turn = next,
+        match run_some(machine, going, round, count) {
+            Ok(Some(halt)) => return Ok(halt),
+            Ok(None) => {}
             Err(refusal) => return Err(refusal),
         }
         left -= count;
     }
     Ok(TargetHalt {
-        task: looked,
+        task: going.looked,
         why: Why::Limit,
     })
 }
 
-// How many Steps the journal has room for, if each processor is first let go and stopped at the end.
+// How many events the journal has room for, if each processor is first let go and stopped at the end.
 fn room_to_run<D: Device>(machine: &Machine<D>) -> u64 {
     machine
         .room()
         .saturating_sub(u64::from(machine.cpu_count()) * 2)
 }
 
-/// Lets all processors go, makes at most `limit` Steps by turns until one of the processors is stopped or a stop is asked
-/// for, and stops all.
+/// Lets all processors go, makes events by turns until one of the processors is stopped or a stop is asked for, and stops all.
 ///
 /// # Errors
 ///
-/// Full, where the journal has no room for a Step, and the events around it; nothing is changed then. Another refusal is
-/// that of a turn of a processor that isn't there; the Steps before it were made.
+/// Full, where the journal has no room for an event, and the events around it; nothing is changed then. Another refusal is
+/// that of a turn of a processor that isn't there; the events before it were made.
 #[tactic(auto, using(crate::proofs::Kept::keeps_same, crate::proofs::Kept::keeps_more))]
 pub fn resume<D: Device, I: Interrupts>(
     machine: &mut Machine<D>,
-    turns: &[u8],
-    hardware: &[u64],
-    limit: u32,
-    looked: u8,
+    going: &Going<'_>,
+    round: &mut Round,
     interrupts: &I,
 ) -> Result<TargetHalt, Refusal>
     ensures kept { KeepsJournal machine.old machine.new }
     ensures asked { IfOk result (λ halt. OnlyIfAsked (I.asks interrupts.now true) halt.why) }
 {
-    let most = room_to_run(machine).min(u64::from(limit));
+    let most = room_to_run(machine).min(u64::from(going.limit));
     if most == 0 {
         return Err(Refusal::Full);
     }
     if let Err(refusal) = go_all(machine) {
         return Err(refusal);
     }
-    let outcome = run(machine, turns, hardware, most, looked, interrupts);
+    round.passes = Some(going.looked);
+    let outcome = run(machine, going, round, most, interrupts);
     match stop_all(machine) {
         Ok(()) => outcome,
         Err(refusal) => Err(refusal),
@@ -297,10 +334,13 @@ pub fn resume<D: Device, I: Interrupts>(
 /// How many lines are received at most before the instruction of a step.
 const LINES_BEFORE: u32 = 64;
 
-// Who is stopped behind an instruction of a task: the task if it ended by a fault, else who runs now.
-fn stepped<D: Device>(machine: &Machine<D>, c: u8, task: u8) -> TargetHalt {
-    match stop_of_step(machine, task) {
-        Some(halt) => halt,
+// Who is stopped behind an instruction of a task: the task if it ended by a fault or met a watchpoint, else who runs now.
+fn stepped<D: Device>(machine: &Machine<D>, c: u8, task: u8, watched: Option<Why>) -> TargetHalt {
+    if let Some(halt) = fault_of(machine, task) {
+        return halt;
+    }
+    match watched {
+        Some(why) => TargetHalt { task, why },
         None => TargetHalt {
             task: current_or(machine, c, task),
             why: Why::Asked,
@@ -308,23 +348,40 @@ fn stepped<D: Device>(machine: &Machine<D>, c: u8, task: u8) -> TargetHalt {
     }
 }
 
-/// One instruction of a stopped processor, behind the lines that it receives first: who is stopped then.
+// Why the step of a processor meets a watchpoint.
+fn watched_by<D: Device>(machine: &Machine<D>, points: &Points, next: Next) -> Option<Why> {
+    match next {
+        Next::Runs(task) => watch_at(machine, points, task),
+        Next::Prepares | Next::Idles => None,
+    }
+}
+
+/// One instruction of a processor, behind the lines that it receives first: who is stopped then. All are stopped before it.
 ///
 /// # Errors
 ///
 /// Why the first event was refused that was; those before it were made.
 #[tactic(auto, using(crate::proofs::Kept::keeps_same, crate::proofs::Kept::keeps_more))]
-pub fn step<D: Device>(machine: &mut Machine<D>, c: u8, looked: u8) -> Result<TargetHalt, Refusal>
+pub fn step<D: Device>(
+    machine: &mut Machine<D>,
+    points: &Points,
+    c: u8,
+    looked: u8,
+) -> Result<TargetHalt, Refusal>
     ensures kept { KeepsJournal machine.old machine.new }
 {
+    if let Err(refusal) = stop_all(machine) {
+        return Err(refusal);
+    }
     'lines: for _ in 0..LINES_BEFORE {
         let next = next_of(machine, c);
+        let watched = watched_by(machine, points, next);
         if let Err(refusal) = event(machine, Event::StepI(c)) {
             return Err(refusal);
         }
         match next {
             Next::Prepares => {}
-            Next::Runs(task) => return Ok(stepped(machine, c, task)),
+            Next::Runs(task) => return Ok(stepped(machine, c, task, watched)),
             Next::Idles => {
                 return Ok(TargetHalt {
                     task: looked,

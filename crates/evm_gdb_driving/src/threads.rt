@@ -4,10 +4,11 @@ ghost use Rattle.std.specs.Prelude.{◌≡◌, ◌++◌, OnOk};
 ghost use Rattle.evm_gdb_driving.specs.Shown.{listed_text, threads_text};
 
 use crate::bytes::{push_bytes, push_thread};
-use evm_debug::{Machine, View, ViewRefusal, cut_line, push_view};
+use evm_debug::{Machine, View, ViewRefusal, cut_line, push_decimal, push_view};
 use evm_dev::Device;
 use evm_gdb_packets::push_digits;
-use evm_room::{NoMemory, Refused};
+use evm_model::{Task, TaskState, Wait};
+use evm_room::{NoMemory, Refused, push_text};
 use std::alloc::Global;
 
 // Appends the thread of a task, behind a comma if it is not the first.
@@ -66,7 +67,36 @@ fn view_text<D: Device>(
     }
 }
 
-/// Appends what there is to say of a task, as digits: its line in the view `tasks`, and its rank.
+// The call by which a task waits.
+fn call_of(wait: Wait) -> &'static [u8] {
+    match wait {
+        Wait::Line(_) => b"; waits in wait_line",
+        Wait::Lock(_) => b"; waits in lock",
+        Wait::Reacquire { .. } => b"; waits in event_wait, for its mutex",
+        Wait::Semaphore(_) => b"; waits in sem_get",
+        Wait::Event(_) => b"; waits in event_wait",
+        Wait::Flags(_) => b"; waits in flags_wait",
+        Wait::Sleep => b"; waits in sleep",
+        Wait::Timer(_) => b"; waits in timer_wait",
+    }
+}
+
+// Appends by which call a task waits, and until which tick, as digits.
+fn push_waiting(alloc: Global, out: &mut Vec<u8>, task: &Task) -> Result<(), Refused> {
+    let TaskState::Waits(wait) = task.state else {
+        return Ok(());
+    };
+    let mut until = String::new(alloc);
+    if task.deadline != 0 {
+        push_text(&mut until, " until tick ")?;
+        push_decimal(&mut until, task.deadline)?;
+    }
+    push_digits(out, call_of(wait))?;
+    push_digits(out, until.as_bytes())?;
+    Ok(())
+}
+
+/// Appends what there is to say of a task, as digits: its line in the view `tasks`, its rank, and by which call it waits.
 pub fn push_task_text<D: Device>(
     alloc: Global,
     out: &mut Vec<u8>,
@@ -87,5 +117,11 @@ pub fn push_task_text<D: Device>(
             Err(_) => return Err(NoMemory),
         }
     }
-    Ok(())
+    match machine.task(t) {
+        Some(task) => match push_waiting(alloc, out, &task) {
+            Ok(()) => Ok(()),
+            Err(_) => Err(NoMemory),
+        },
+        None => Ok(()),
+    }
 }

@@ -89,7 +89,8 @@ pub(crate) fn image_of(rt: &(impl Files + AllocGlobal), name: &str) -> io::Resul
     Ok(assembled(alloc, source.as_str()))
 }
 
-fn assembled(alloc: Global, source: &str) -> Option<Image> {
+/// The image of a source; None where it has a fault.
+pub(crate) fn assembled(alloc: Global, source: &str) -> Option<Image> {
     let Ok(program) = assemble(alloc, source) else {
         return None;
     };

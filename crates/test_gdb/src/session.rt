@@ -2,7 +2,7 @@
 
 use crate::exchange::{Exchange, begins};
 use crate::line::{Line, line_of, said};
-use crate::machine::{Setting, devices_of, image_of, run_lines, setting_of};
+use crate::machine::{Setting, assembled, devices_of, image_of, run_lines, setting_of};
 use crate::peer::{Heard, Sent};
 use evm_devs::AnyDevice;
 use evm_gdb::{Ended, GdbSession, Machine, serve_gdb};
@@ -22,7 +22,7 @@ struct Place<'a> {
 // Whether a session ended as it must: where each write fails, by that.
 fn ends_as_wanted(setting: &Setting<'_>, ended: &Ended) -> bool {
     match ended {
-        Ended::Left => !setting.unwritten,
+        Ended::Left | Ended::Saves => !setting.unwritten,
         Ended::WriteFailed(_) => setting.unwritten,
         _ => false,
     }
@@ -31,7 +31,7 @@ fn ends_as_wanted(setting: &Setting<'_>, ended: &Ended) -> bool {
 // Sends what an exchange has, and returns what was answered, and whether that ended as it must.
 fn answered(
     alloc: Global,
-    session: &mut GdbSession<AnyDevice>,
+    session: &mut GdbSession,
     setting: &Setting<'_>,
     exchange: &Exchange,
 ) -> (Vec<u8>, bool) {
@@ -53,7 +53,7 @@ fn exchange_made(
     rt: &(impl Print + AllocGlobal),
     place: Place<'_>,
     line: usize,
-    session: &mut GdbSession<AnyDevice>,
+    session: &mut GdbSession,
     setting: &Setting<'_>,
     exchange: &Exchange,
 ) -> io::Result<()> {
@@ -73,7 +73,7 @@ fn exchange_made(
 fn talk(
     rt: &(impl Print + AllocGlobal),
     place: Place<'_>,
-    session: &mut GdbSession<AnyDevice>,
+    session: &mut GdbSession,
     setting: &Setting<'_>,
 ) -> io::Result<usize> {
     let mut exchange = Exchange::new(rt.alloc());
@@ -102,7 +102,7 @@ fn talk_if(
     rt: &(impl Print + AllocGlobal),
     place: Place<'_>,
     prepared: bool,
-    session: &mut GdbSession<AnyDevice>,
+    session: &mut GdbSession,
     setting: &Setting<'_>,
 ) -> io::Result<usize> {
     if prepared {
@@ -118,21 +118,18 @@ fn prepare(
     alloc: Global,
     machine: &mut Machine<AnyDevice>,
     place: Place<'_>,
-    image: &Option<Image>,
+    image: &Image,
 ) -> bool {
-    let loaded = match image {
-        Some(image) => machine.load(image).is_ok(),
-        None => true,
-    };
+    let loaded = machine.load(image).is_ok();
     let done = run_lines(alloc, machine, place.lines, place.from);
     loaded && done
 }
 
-// The image of a session's source, if it has one.
+// The image of a session's source, or an empty one.
 fn image_for(rt: &(impl Files + AllocGlobal), setting: &Setting<'_>) -> io::Result<Option<Image>> {
     match setting.source {
         Some(name) => image_of(rt, name),
-        None => Ok(None),
+        None => Ok(assembled(rt.alloc(), "")),
     }
 }
 
@@ -146,16 +143,21 @@ pub(crate) fn play(
     let place = Place { file, lines, from };
     let setting = setting_of(lines, from);
     let image = image_for(rt, &setting)?;
-    let made = match (setting.boot, devices_of(rt.alloc())) {
-        (Some(numbers), Some(devices)) => Machine::from_boot(rt.alloc(), numbers, devices).ok(),
+    let made = match (setting.boot, devices_of(rt.alloc()), image) {
+        (Some(numbers), Some(devices), Some(image)) => {
+            match Machine::from_boot(rt.alloc(), numbers, devices) {
+                Ok(machine) => Some((machine, image)),
+                Err(_) => None,
+            }
+        }
         _ => None,
     };
-    let Some(mut machine) = made else {
+    let Some((mut machine, image)) = made else {
         println!(rt; "{file}:{from}: no machine")?;
         return Ok(0);
     };
     let prepared = prepare(rt.alloc(), &mut machine, place, &image);
-    let mut session = GdbSession::new(machine);
+    let mut session = GdbSession::new(rt.alloc(), image, machine);
     session.acknowledges = setting.acknowledged;
     talk_if(rt, place, prepared, &mut session, &setting)
 }

@@ -45,11 +45,8 @@ fn serve_gdb<
     R: Threads + Wait + Copy + Send + Drop + 'static,
     I: Read + Send + Drop + 'static,
 >(threads: R, alloc: Global, words: &ArgMatches<'_>, heard: I, world: &mut World<S>) -> u8 {
-    let Ok(devices) = program_devices(alloc) else {
-        return memory_refused(PROGRAM, world);
-    };
     match Ear::new(threads, alloc, heard) {
-        Ok(mut ear) => gdb(alloc, words, devices, &mut ear, world),
+        Ok(mut ear) => gdb(alloc, words, &mut ear, world),
         Err(_) => memory_refused(PROGRAM, world),
     }
 }

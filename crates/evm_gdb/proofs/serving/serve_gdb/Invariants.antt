@@ -1,5 +1,5 @@
-use Rattle.evm_gdb_driving.specs.Kept.{KeepsJournal}
+use Rattle.gdb_tape.specs.Tape.{KeepsTape}
 use Rattle.evm_gdb.proofs.serving.serve_gdb.Given as goal
 
 abbrev pub invariant-parts : goal.invariant-parts
-invariant-parts g l = KeepsJournal l.fn.session.machine l.session.machine
+invariant-parts g l = KeepsTape l.fn.session.tape l.session.tape
