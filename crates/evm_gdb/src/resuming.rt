@@ -84,10 +84,12 @@ fn go_back(alloc: Global, session: &mut GdbSession, pace: Pace) -> Result<Target
     ensures events { events session.new.tape ≡ events session.old.tape }
     ensures kept { KeepsTape session.old.tape session.new.tape }
 {
-    let task = session.chosen.unwrap_or(session.looked);
     match pace {
-        Pace::Step => session.tape.step_back(alloc, task),
-        Pace::Continue => session.tape.continue_back(alloc, &session.points, task),
+        Pace::Step => {
+            let task = session.chosen.unwrap_or(session.looked);
+            session.tape.step_back(alloc, task)
+        }
+        Pace::Continue => session.tape.continue_back(alloc, &session.points),
     }
 }
 
