@@ -7,16 +7,16 @@
 	.globl	_start
 _start:
 	call	main
-	li	a7, 0			# exit
+1:	li	a7, 0			# exit
 	ecall
 
 # A spawned task has one register that isn't 0: a0. evl_create() puts a struct evl_start at the end of the task's stack,
-# and its address in a0.
+# and its address in a0. It stays in tp, by which tools know the function.
 	.globl	evl_task_start
 evl_task_start:
 	mv	sp, a0
+	mv	tp, a0
 	ld	t0, 0(a0)		# fn
 	ld	a0, 8(a0)		# arg
 	jalr	ra, 0(t0)
-	li	a7, 0			# exit
-	ecall
+	j	1b

@@ -27,7 +27,7 @@
 #define EVL_EVENTS 32  /* events */
 #define EVL_FLAGS 32   /* flag groups */
 #define EVL_TIMERS 32  /* timers */
-#define EVL_LINES 32   /* interrupt lines of a processor */
+#define EVL_LINES 64   /* interrupt lines of a processor */
 
 /* Interrupt lines with a meaning of their own. */
 #define EVL_TIMER_LINE 0
@@ -38,7 +38,10 @@
 #define EVL_RR 2   /* round robin, priority 1 to 99, slices of 4 ticks */
 #define EVL_WEAK 3 /* weak, priority 0 to 99, below the other two */
 
-/* Mode bits of evl_set_thread_mode(): of what the task leaves a notice. The view `notices` shows the last 64. */
+/*
+ * Mode bits of evl_set_thread_mode(): of what the task leaves a notice. The view `notices` shows the last 64. A task that the
+ * watchdog sends in-band leaves notice 5, whatever its mode.
+ */
 #define EVL_T_WOSS 1 /* it goes in-band by an in-band call (notice 1) or by a fault (notice 2) */
 #define EVL_T_WOLI 2 /* a lock or trylock is refused with -EVL_EDEADLK (3), an unlock since it isn't the owner (4) */
 
@@ -67,7 +70,7 @@
 /* Actions of evl_set_line(). */
 #define EVL_LINE_NONE 0 /* the line goes to the in-band stage */
 #define EVL_LINE_PUT 1  /* its play puts a semaphore */
-#define EVL_LINE_POST 2 /* its play posts the bit of its own number to a flag group */
+#define EVL_LINE_POST 2 /* its play posts the bit of its own number, 2 to 31, to a flag group */
 
 /* Bits of evl_state(). */
 #define EVL_STATE_OOB 1      /* the task is out-of-band */
@@ -376,6 +379,16 @@ static inline long evl_unstall_oob(void)
 	return evl_call0(52);
 }
 
+/*
+ * The task goes on on another processor, out-of-band, with its class, its slice and its mutexes; a weak one without a mutex
+ * goes in-band there. Its timers stay. -EVL_EINVAL if there is no such processor, -EVL_EBUSY while out-of-band is stalled.
+ * libevl: pthread_setaffinity_np(), an in-band call; the thread moves when it goes out-of-band again.
+ */
+static inline long evl_migrate(long cpu)
+{
+	return evl_call1(55, cpu);
+}
+
 /* ---- Calls of either stage. */
 
 /* Wakes the first waiter, or adds one to the count. */
@@ -454,15 +467,23 @@ static inline long evl_create(void (*fn)(void *arg), void *arg, long cpu, struct
 }
 
 /*
- * The name of the tasks that run a function, for tools that read the image: section .evl.names holds records of
- * 32 bytes, the function's address (8 bytes, little-endian) and a name of at most 23 bytes, ended and padded by
- * zeros. The section isn't loaded.
+ * Names, which kit/map takes into the map of the program: EVL_NAME(producer, "producer") of the tasks that run a function, and
+ * EVL_NAME_MUTEX(guard, "guard") of the mutex whose number a variable holds. Section .evl.names has records of 32 bytes: the address
+ * of the function or the variable (8 bytes, little-endian), a name of at most 22 bytes, ended and padded by zeros, and at the end a
+ * kind. The section isn't loaded. The function or the variable is one of the file, and is used.
  */
-#define EVL_NAME(fn, name)                                                                                             \
+#define EVL_NAME(fn, name) EVL_NAME_OF(fn, name, 0)
+#define EVL_NAME_MUTEX(variable, name) EVL_NAME_OF(variable, name, 1)
+#define EVL_NAME_SEM(variable, name) EVL_NAME_OF(variable, name, 2)
+#define EVL_NAME_EVENT(variable, name) EVL_NAME_OF(variable, name, 3)
+#define EVL_NAME_FLAGS(variable, name) EVL_NAME_OF(variable, name, 4)
+#define EVL_NAME_TIMER(variable, name) EVL_NAME_OF(variable, name, 5)
+#define EVL_NAME_OF(symbol, name, kind)                                                                                \
 	__asm__(".pushsection .evl.names,\"\",@progbits\n"                                                             \
-		"\t.dword " #fn "\n"                                                                                   \
+		"\t.dword " #symbol "\n"                                                                               \
 		"0:\t.asciz \"" name "\"\n"                                                                            \
-		"\t.org 0b + 24\n"                                                                                     \
+		"\t.org 0b + 23\n"                                                                                     \
+		"\t.byte " #kind "\n"                                                                                  \
 		"\t.popsection\n")
 
 /* ---- Assertions. */

@@ -1,4 +1,5 @@
-# Builds the programs of the folder whose Makefile includes this one, on libevl's headers: NAME.c becomes NAME.elf.
+# Builds the programs of the folder whose Makefile includes this one, on libevl's headers: NAME.c becomes NAME.elf, with NAME.map
+# beside it.
 #
 #   KIT = ../kit
 #   include $(KIT)/evl.mk
@@ -12,9 +13,9 @@ CFLAGS ?= -O2 -g -Wall -Wextra
 RAM ?= 262144
 STACK ?= 8192
 CPUS ?= 2
+WATCHDOG ?= 0
 PROGRAM ?= main.elf
 PROGRAMS ?= $(patsubst %.c,%.elf,$(wildcard *.c))
-EVLTOOL ?= $(KIT)/../bin/evltool
 VARDOZEK ?= $(KIT)/../bin/vardozek
 GDB ?= gdb-multiarch
 
@@ -58,12 +59,13 @@ $(LIBRARY)/libevl.a: $(OBJECTS)
 
 %.elf: %.o $(LIBRARY)/libevl.a $(KIT)/link.ld
 	$(LD) $(LINK) -o $@ $(LIBRARY)/start.o $< $(LIBRARY)/libevl.a $(LIBGCC)
+	CROSS=$(CROSS) $(KIT)/map $@ > $(@:.elf=.map)
 
 %.list: %.elf
 	$(CROSS)objdump -d $< > $@
 
 run: $(PROGRAM)
-	EVLTOOL=$(EVLTOOL) $(KIT)/run $(PROGRAM) --cpus $(CPUS)
+	$(VARDOZEK) run $(PROGRAM) --cpus $(CPUS) --watchdog $(WATCHDOG)
 
 hunt: $(PROGRAM)
 	$(VARDOZEK) hunt $(PROGRAM) --cpus $(CPUS) --ram $(RAM) --events 100000 --out $(basename $(PROGRAM))
@@ -73,10 +75,10 @@ debug: $(PROGRAM)
 	$(GDB) -ex 'target remote | $(VARDOZEK) gdb $(PROGRAM) $(LIBRARY)/debug.script' $(PROGRAM)
 
 picture: $(PROGRAM)
-	EVLTOOL=$(EVLTOOL) VARDOZEK=$(VARDOZEK) $(KIT)/run $(PROGRAM) --cpus $(CPUS) --picture $(basename $(PROGRAM)).svg
+	$(VARDOZEK) view $(PROGRAM) $(basename $(PROGRAM)).svg --run --cpus $(CPUS) --watchdog $(WATCHDOG)
 
 clean:
-	rm -rf $(PROGRAMS) $(PROGRAMS:.elf=.o) $(LIBRARY) *.list
+	rm -rf $(PROGRAMS) $(PROGRAMS:.elf=.o) $(PROGRAMS:.elf=.map) $(LIBRARY) *.list
 
 .PHONY: all run hunt debug picture clean FORCE
 .SECONDARY:

@@ -39,6 +39,7 @@ int pthread_attr_setinheritsched(pthread_attr_t *attr, int inherit);
 int pthread_attr_setschedpolicy(pthread_attr_t *attr, int policy);
 int pthread_attr_setschedparam(pthread_attr_t *attr, const struct sched_param *param);
 int pthread_attr_setaffinity_np(pthread_attr_t *attr, size_t size, const cpu_set_t *set);
+int pthread_attr_getaffinity_np(const pthread_attr_t *attr, size_t size, cpu_set_t *set);
 int pthread_attr_setstacksize(pthread_attr_t *attr, size_t size);
 int pthread_attr_getstacksize(const pthread_attr_t *attr, size_t *size);
 int pthread_attr_setstack(pthread_attr_t *attr, void *stack, size_t size);
@@ -59,7 +60,7 @@ int pthread_setschedparam(pthread_t thread, int policy, const struct sched_param
 int pthread_getschedparam(pthread_t thread, int *policy, struct sched_param *param);
 int pthread_setschedprio(pthread_t thread, int priority);
 
-/* Of the calling thread: it goes on as another task on the first processor of the set. Of another only if it is there. */
+/* Of the calling thread: it goes on in-band on the first processor of the set, unless it is on one of them. Of another only if it is there. */
 int pthread_setaffinity_np(pthread_t thread, size_t size, const cpu_set_t *set);
 int pthread_getaffinity_np(pthread_t thread, size_t size, cpu_set_t *set);
 

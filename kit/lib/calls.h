@@ -42,6 +42,7 @@
 #define evl_yield call_yield
 #define evl_stall_oob call_stall_oob
 #define evl_unstall_oob call_unstall_oob
+#define evl_migrate call_migrate
 #define evl_put_sem call_put_sem
 #define evl_post_flags call_post_flags
 #define evl_read_clock call_read_clock
@@ -95,6 +96,7 @@
 #undef evl_yield
 #undef evl_stall_oob
 #undef evl_unstall_oob
+#undef evl_migrate
 #undef evl_put_sem
 #undef evl_post_flags
 #undef evl_read_clock

@@ -17,11 +17,10 @@
 #define KIT_GUARD 0x6b6174735f646e65UL
 
 /*
- * A thread. Its address is its pthread_t, and what tp holds while it runs. start.S knows the offsets of the first three.
+ * A thread. Its address is its pthread_t, and what tp holds while it runs. start.S knows the offset of the first member.
  * It stands at the end of its stack, and main's by itself.
  */
 struct kit_thread {
-	unsigned long saved[14];
 	void *stack_end;
 	volatile long number; /* of its task, or -1 while spawn hasn't answered */
 	unsigned long alive;  /* KIT_GUARD until it is joined */
@@ -36,7 +35,7 @@ struct kit_thread {
 	int evl_policy, evl_priority;
 };
 
-static_assert(offsetof(struct kit_thread, stack_end) == 112 && offsetof(struct kit_thread, number) == 120, "start.S");
+static_assert(offsetof(struct kit_thread, stack_end) == 0, "start.S");
 
 /* Descriptors: 64 numbers for each kind. */
 enum kit_kind { KIT_THREAD = 1, KIT_MUTEX, KIT_SEM, KIT_EVENT, KIT_FLAGS, KIT_TIMER, KIT_KINDS };
@@ -55,7 +54,6 @@ static inline struct kit_thread *kit_self(void)
 
 /* start.S */
 void kit_leave(volatile int *gone) __attribute__((noreturn));
-long kit_move(struct kit_thread *thread, long cpu);
 extern const char kit_thread_start[];
 
 /* thread.c */

@@ -354,7 +354,7 @@ static int set_line(int line, long action, int number)
 {
 	if (number < 0)
 		return number;
-	return line < 2 || line > 31 ? -EINVAL : call_set_line(line, action, number);
+	return line < 2 || line >= EVL_LINES ? -EINVAL : call_set_line(line, action, number);
 }
 
 int evl_line_puts_sem(int line, struct evl_sem *sem)

@@ -130,6 +130,15 @@ int pthread_attr_setaffinity_np(pthread_attr_t *attr, size_t size, const cpu_set
 	return 0;
 }
 
+/* Without an affinity, all processors. */
+int pthread_attr_getaffinity_np(const pthread_attr_t *attr, size_t size, cpu_set_t *set)
+{
+	if (size < sizeof(*set))
+		return EINVAL;
+	set->__bits = attr->__affinity.__bits ? attr->__affinity.__bits : -1UL;
+	return 0;
+}
+
 int pthread_attr_setstacksize(pthread_attr_t *attr, size_t size)
 {
 	if (size < PTHREAD_STACK_MIN)
@@ -370,31 +379,16 @@ int pthread_setschedprio(pthread_t handle, int priority)
 	return thread ? pthread_setschedparam(handle, thread->policy, &param) : ESRCH;
 }
 
-/* The thread leaves its task, and goes on as one of the other processor, attached again if it was. */
+/* The thread goes on in-band on the other processor, with its class, its mode and its mutexes. */
 static int move_to(struct kit_thread *self, int cpu)
 {
-	long number = kit_number(self), answer;
-	int was_attached = self->attached;
+	long answer;
 
 	kit_go_inband();
-	if (was_attached && (answer = call_detach_self()) < 0)
-		return -answer;
-	self->number = -1;
-	answer = kit_move(self, cpu);
+	answer = kit_from_any_stage(55, cpu, 0, 0);
 	if (answer == 0)
 		self->cpu = cpu;
-	else
-		self->number = number;
-	if (answer == 0) {
-		kit_forget(KIT_THREAD, number);
-		memcpy(kit_names[KIT_THREAD - 1][kit_number(self)], kit_names[KIT_THREAD - 1][number], KIT_NAME);
-	}
-	if (was_attached) {
-		call_attach_self(self->evl_policy == SCHED_WEAK ? EVL_WEAK : self->evl_policy, self->evl_priority);
-		if (self->mode)
-			kit_from_any_stage(35, self->mode, 0, 0);
-	}
-	return answer == -EINVAL ? EINVAL : answer < 0 ? EAGAIN : 0;
+	return -answer;
 }
 
 int pthread_setaffinity_np(pthread_t handle, size_t size, const cpu_set_t *set)

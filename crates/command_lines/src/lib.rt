@@ -1,8 +1,9 @@
-//! What command lines share: help, the version and faults of the words written, words that can't be read, and the symbols of a file.
+//! What command lines share: help, the version and faults of the words written, words that can't be read, and the names of
+//! an image.
 #![tactic(auto)]
 
 mod answering;
-mod symbols;
+mod naming;
 
 pub use answering::{VERSION, blame, no_words, refuse, show};
-pub use symbols::symbols_at;
+pub use naming::{names_at, symbols_at};

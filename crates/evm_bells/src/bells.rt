@@ -151,7 +151,7 @@ impl Bells {
     }
 
     /// Takes all lines that stand in a processor's word.
-    pub fn take(&self, taker: &mut Taker, cpu: u8) -> u32
+    pub fn take(&self, taker: &mut Taker, cpu: u8) -> u64
         requires place { cpu < self.now.cpus }
         requires bells { taker.old.bells ≡ self.now.id }
         ensures taken { taker.new.taken ≡ taker.old.taken ++ (cpu, result) ∷ [] }
@@ -162,14 +162,14 @@ impl Bells {
             .shared
             .swap::<Takes>(&mut taker.seat, cpu as usize, 0);
         taker.counts.add(cpu, found);
-        found as u32
+        found
     }
 
     /// The lines that stand in a processor's word at this moment.
-    pub fn peek(&self, cpu: u8) -> u32
+    pub fn peek(&self, cpu: u8) -> u64
         requires { cpu < self.now.cpus }
     {
-        (self.table.shared.peek(cpu as usize) % (1 << LINES)) as u32
+        self.table.shared.peek(cpu as usize)
     }
 
     /// Gives away half of a ringer's weight, rounded down. A weight of 1 can't be split.

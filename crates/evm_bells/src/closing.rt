@@ -15,7 +15,7 @@ use atomic_table::Seat;
 pub struct Closed {
     pub fresh: LineCounts,
     pub taken: LineCounts,
-    pub left: [u32; PROCESSOR_LIMIT],
+    pub left: [u64; PROCESSOR_LIMIT],
 }
 
 /// Not all seats were handed in: what was handed in.
@@ -82,16 +82,16 @@ impl Bells {
     }
 
     // The words at the end, read by a seat of all the weight.
-    fn left(self, seat: Seat<(), SeatView>) -> [u32; PROCESSOR_LIMIT]
+    fn left(self, seat: Seat<(), SeatView>) -> [u64; PROCESSOR_LIMIT]
         requires bells { seat.table_id ≡ self.id }
         requires all { seat.me.0.weight ≡ whole_weight self.cpus }
         ensures { AddsUp seat.me.0.fresh seat.me.0.taken result }
     {
         let Bells { table, cpus } = self;
         let closed = table.close_with(seat);
-        let mut left = [0u32; PROCESSOR_LIMIT];
+        let mut left = [0u64; PROCESSOR_LIMIT];
         for cpu in 0..cpus as usize {
-            left[cpu] = closed.word(cpu) as u32;
+            left[cpu] = closed.word(cpu);
         }
         closed.free();
         left

@@ -1,11 +1,12 @@
 -- Room for counts after an access, which raises one line at most.
 use Rattle.std.proofs.Common.{◌≡◌, ℕ, ◌+◌, ◌-◌, ◌≤◌, Option, Some, None, refl, arith}
 use Rattle.evm_exec.specs.declared.hart.Hart.{Hart}
+use Rattle.evm_lines.specs.declared.TheConstants.{LINES}
 use Rattle.evm_model.specs.Bounds.{COUNT_LIMIT, PER_SETTLING, STAMPS_PER_EVENT, HasRoom, HasStamps, PipesUpTo}
 use Rattle.evm_model.specs.Devices.{raise_line}
 use Rattle.evm_model.specs.State.{Parts, on_hart}
-use Rattle.evm_walk.proofs.Walk.{AreFew}
-use Rattle.evm_rules.proofs.Bounded.{AreWithin, within-more, within-raise}
+use Rattle.law_walk.proofs.Walk.{AreFew}
+use Rattle.law_rules.proofs.Bounded.{AreWithin, within-more, within-raise}
 use Rattle.evm_board.proofs.Rooms.{room-raise}
 
 -- a line of a device
@@ -32,6 +33,13 @@ stamps-access line t f k h = omega (arith, h.stamps, line-stamps line (on_hart t
 
 pub clock-access : (line : Option ℕ) (t : ℕ) (f : Hart → Hart) (k : Parts) → HasRoom STAMPS_PER_EVENT k → (raise_line line (on_hart t f k)).ticks ≤ COUNT_LIMIT
 clock-access line t f k h = omega (arith, h.clock, line-ticks line (on_hart t f k))
+
+line-notices : (line : Option ℕ) (k : Parts) → (raise_line line k).notices ≡ k.notices
+line-notices None k = refl
+line-notices (Some l) k = refl
+
+pub notices-access : (line : Option ℕ) (t : ℕ) (f : Hart → Hart) (k : Parts) → HasRoom STAMPS_PER_EVENT k → (raise_line line (on_hart t f k)).notices.total + LINES ≤ COUNT_LIMIT
+notices-access line t f k h = rw (line-notices line (on_hart t f k)) (omega (arith, h.notices))
 
 -- .. and before the line is raised
 pub room-line : (t : ℕ) (f : Hart → Hart) (k : Parts) → HasRoom STAMPS_PER_EVENT k → PipesUpTo COUNT_LIMIT (on_hart t f k).pipes

@@ -9,5 +9,5 @@ pub mod Steps
 pub mod TickedDevices
 pub mod Ticks
 pub mod Touches
-pub use Rattle.evm_rules.proofs as evm_rules
-pub use Rattle.evm_walk.proofs as evm_walk
+pub use Rattle.law_rules.proofs as law_rules
+pub use Rattle.law_walk.proofs as law_walk

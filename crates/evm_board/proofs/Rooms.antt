@@ -1,5 +1,6 @@
 -- Room for counts, as a row takes it up.
 use Rattle.std.proofs.Common.{ℕ, ◌+◌, ◌-◌, ◌≤◌, Bool, true, false, Some, refl, arith}
+use Rattle.evm_lines.specs.declared.TheConstants.{LINES}
 use Rattle.evm_model.specs.Bounds.{COUNT_LIMIT, PER_CALL, PER_SETTLING, STAMPS_PER_EVENT, HasRoom, HasStamps, PipesUpTo}
 use Rattle.evm_model.specs.Calls.{call}
 use Rattle.evm_model.specs.Commands.{set_bits}
@@ -11,14 +12,15 @@ use Rattle.evm_model.specs.State.{Parts}
 use Rattle.evm_model.specs.Tasks.{demote, restamp, set_state}
 use Rattle.evm_model.specs.declared.fault.Fault.{Fault}
 use Rattle.evm_model.specs.declared.limits.TheConstants.{PROCESSOR_LIMIT}
-use Rattle.evm_walk.proofs.Calls.{walks_call}
-use Rattle.evm_walk.proofs.Counted.{walk_counted}
-use Rattle.evm_walk.proofs.Rows.{faults}
-use Rattle.evm_walk.proofs.Sets.{walk_pipes}
-use Rattle.evm_walk.proofs.Sizes.{walk_most, walk_ticks}
-use Rattle.evm_walk.proofs.Walk.{Actor, ArePipes as AllPipes, AreFew, Walk, start, unchanged}
-use Rattle.evm_rules.proofs.Bounded.{EachIsPipe, AreWithin, within-more, within-receive}
-use Rattle.evm_walk.proofs.Counted.{PipesUpTo-more}
+use Rattle.law_walk.proofs.Calls.{walks_call}
+use Rattle.law_walk.proofs.Counted.{walk_counted}
+use Rattle.law_walk.proofs.Notices.{one_more, walk_notes}
+use Rattle.law_walk.proofs.Rows.{faults}
+use Rattle.law_walk.proofs.Sets.{walk_pipes}
+use Rattle.law_walk.proofs.Sizes.{walk_most, walk_ticks}
+use Rattle.law_walk.proofs.Walk.{Actor, ArePipes as AllPipes, AreFew, Walk, start, unchanged}
+use Rattle.law_rules.proofs.Bounded.{EachIsPipe, AreWithin, within-more, within-receive}
+use Rattle.law_walk.proofs.Counted.{PipesUpTo-more}
 
 -- task t acts on processor c: it raises and chooses nothing
 abbrev acts : ℕ → ℕ → Actor
@@ -65,7 +67,7 @@ room-asked k h = record {
   holds = h.holds;
   clock = h.clock;
   timers = h.timers;
-  notices = h.notices;
+  notices = omega (arith, h.notices);
   harts = h.harts;
 }
 
@@ -79,18 +81,34 @@ clock-fault c t f k h = clock-walk c t 0 32 k _ (walks-fault c t f k) h.clock
 pub clock-call : (c t : ℕ) (k : Parts) → HasRoom STAMPS_PER_EVENT k → (call c t k).ticks ≤ COUNT_LIMIT
 clock-call c t k h = clock-walk c t 1 PER_CALL k _ (walks c t k) h.clock
 
+-- one notice is made at the most
+notices-walk : (c t n s : ℕ) (k new : Parts) → Walk (acts c t) k n s new → HasRoom STAMPS_PER_EVENT k → new.notices.total + LINES ≤ COUNT_LIMIT
+notices-walk c t n s k new w h = omega (arith, h.notices, one_more (acts c t) k new.notices (walk_notes (acts c t) k (λ chooses. cc) n s new w))
+
+pub notices-fault : (c t : ℕ) (f : Fault) (k : Parts) → HasRoom STAMPS_PER_EVENT k → (fault c t f k).notices.total + LINES ≤ COUNT_LIMIT
+notices-fault c t f k h = notices-walk c t 0 32 k _ (walks-fault c t f k) h
+
+pub notices-call : (c t : ℕ) (k : Parts) → HasRoom STAMPS_PER_EVENT k → (call c t k).notices.total + LINES ≤ COUNT_LIMIT
+notices-call c t k h = notices-walk c t 1 PER_CALL k _ (walks c t k) h
+
+pub notices-room : (k : Parts) → HasRoom STAMPS_PER_EVENT k → k.notices.total ≤ COUNT_LIMIT
+notices-room k h = omega (arith, h.notices)
+
 -- a demotion makes no notice by itself
 pub notices-demote : (c t : ℕ) (k : Parts) → k.notices.total ≤ COUNT_LIMIT → (demote c t k).notices.total ≤ COUNT_LIMIT
 unfolding demote restamp set_state
 notices-demote c t k h = h
 
-pub ruleset fault_stamps = (room-fault, stamps-fault, stamps-faulting, clock-fault)
+pub ruleset fault_stamps = (room-fault, stamps-fault, stamps-faulting, clock-fault, notices-fault, notices-room)
 
-pub ruleset calls = (room-call, stamps-call, room-asked, clock-call)
+pub ruleset calls = (room-call, stamps-call, room-asked, clock-call, notices-call)
 
 -- settling alone
 pub room-settle : (k : Parts) → EachIsPipe k.pipes → HasRoom STAMPS_PER_EVENT k → AreWithin (COUNT_LIMIT - PER_SETTLING) k
 room-settle k are h = record { are = are; up = PipesUpTo-more (COUNT_LIMIT - STAMPS_PER_EVENT) (COUNT_LIMIT - PER_SETTLING) k.pipes (omega arith) h.counts }
+
+pub notices-settle : (k : Parts) → HasRoom STAMPS_PER_EVENT k → k.notices.total + LINES ≤ COUNT_LIMIT
+notices-settle k h = omega (arith, h.notices)
 
 pub stamps-settle : (k : Parts) → HasRoom STAMPS_PER_EVENT k → HasStamps PER_SETTLING k
 stamps-settle k h = omega (arith, h.stamps)
@@ -109,6 +127,10 @@ stamps-receive c l k h = omega (arith, h.stamps)
 pub clock-receive : (c l : ℕ) (k : Parts) → HasRoom STAMPS_PER_EVENT k → (receive_line c l k).ticks ≤ COUNT_LIMIT
 unfolding receive_line
 clock-receive c l k h = h.clock
+
+pub notices-receive : (c l : ℕ) (k : Parts) → HasRoom STAMPS_PER_EVENT k → (receive_line c l k).notices.total + LINES ≤ COUNT_LIMIT
+unfolding receive_line
+notices-receive c l k h = omega (arith, h.notices)
 
 pub room-receipt : (k : Parts) → HasRoom STAMPS_PER_EVENT k → PipesUpTo (COUNT_LIMIT - 1) k.pipes
 room-receipt k h = PipesUpTo-more (COUNT_LIMIT - STAMPS_PER_EVENT) (COUNT_LIMIT - 1) k.pipes (omega arith) h.counts

@@ -24,7 +24,7 @@ pub use evm_bus::Devices;
 pub use evm_quiet::{Breakpoints, Slots};
 pub use evm_settle::{
     Actions, Console, Events, Flags, Harts, Mutexes, Notices, Parts, Pipe, Schedule, Semaphores,
-    Tasks, Timers,
+    Tasks, Timers, Watches,
 };
 pub use memory::{Memory, word_in};
 pub use stepping::StepsMade;

@@ -6,7 +6,6 @@ ghost use Rattle.evm_model.specs.Refusals.{board_refusal, no_such_cpu, no_such_l
 use crate::board::Board;
 use evm_dev::Device;
 use evm_exec::REGISTERS;
-use evm_lines::LINES;
 use evm_model::{BREAKPOINT_LIMIT, Block, Event, POKE_LIMIT, Refusal};
 
 fn is_misaligned(address: u64) -> bool
@@ -74,11 +73,11 @@ impl<D: Device> Board<D> {
     }
 
     fn line_refusal(&self, c: u8, line: u8) -> Option<Refusal>
-        ensures { result ≡ (if no_such_cpu c self.now then Option.Some Refusal.NoSuchCpu else (if no_such_line line then Option.Some Refusal.NoSuchLine else Option.None)) }
+        ensures { result ≡ (if no_such_cpu c self.now then Option.Some Refusal.NoSuchCpu else (if no_such_line line self.now then Option.Some Refusal.NoSuchLine else Option.None)) }
     {
         if self.lacks_cpu(c) {
             Some(Refusal::NoSuchCpu)
-        } else if line >= LINES {
+        } else if line >= self.parts.line_count() {
             Some(Refusal::NoSuchLine)
         } else {
             None

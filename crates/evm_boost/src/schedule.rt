@@ -6,6 +6,7 @@ ghost use Rattle.evm_boost.specs.Scheduled.{IsScheduled};
 ghost use Rattle.evm_boost.specs.Settling.{entered_as, IsCalm, BoostsNobody, RaisesNobody, IsOpen, IsRelinked, fallen_owner, raised_heir, stamped};
 ghost use Rattle.evm_model.specs.Lists.{change};
 ghost use Rattle.evm_model.specs.Mutexes.{boosts, freed, heir_by, held_by, waits_on};
+ghost use Rattle.evm_model.specs.OobCalls.{moved};
 ghost use Rattle.evm_model.specs.Ranks.{best, first, next_in_band, rank, stamp};
 ghost use Rattle.evm_model.specs.State.{no_mode};
 ghost use Rattle.evm_model.specs.Waits.{awaits, woken};
@@ -15,7 +16,7 @@ ghost use Rattle.evm_model.specs.declared.mutex.Protocol.TheVariants.{Inheritanc
 ghost use Rattle.evm_model.specs.declared.task.Task.{Task as ATask};
 ghost use Rattle.evm_model.specs.declared.task.TaskState.TheVariants.{Waits};
 ghost use Rattle.evm_model.specs.declared.task.Wait.TheVariants.{Lock};
-ghost use Rattle.evm_ranks.specs.Boosts.{reaches};
+ghost use Rattle.law_ranks.specs.Boosts.{reaches};
 ghost use Rattle.evm_ready.specs.Oob.{has_oob};
 ghost use Rattle.evm_ready.specs.Places.{ready_place, stamped_place};
 ghost use Rattle.evm_wait.specs.Waiters.{awaited, stamped_waiter};
@@ -306,6 +307,28 @@ impl Schedule {
         tasks.set_stamp(t, stamp);
         self.enter_ready(tasks, t);
         self.unlink(mutexes, tasks, t, before);
+    }
+
+    /// A task goes on another processor: it is ready there out-of-band, but in-band if it is weak and owns no mutex. It
+    /// has another stamp.
+    pub fn migrate(
+        &mut self,
+        tasks: &mut Tasks,
+        mutexes: &Mutexes,
+        t: u8,
+        cpu: u8,
+        owns: bool,
+        stamp: u64,
+    )
+        requires { IsScheduled self.old mutexes.now tasks.old }
+        ensures tasks { tasks.new ≡ change (stamped stamp) (change (moved cpu owns) tasks.old t) t }
+        ensures scheduled { IsScheduled self.new mutexes.now tasks.new }
+    {
+        let before = mutexes.boosts(tasks, t);
+        tasks.migrate(t, cpu, owns);
+        tasks.set_stamp(t, stamp);
+        self.enter(tasks, t);
+        self.relink_apart(mutexes, tasks, t, before);
     }
 
     /// A task has another stamp.

@@ -7,6 +7,7 @@ use Rattle.evm_exec.specs.declared.hart.Hart.{Hart}
 use Rattle.evm_model.specs.Calls.{ask_oob, call, call_known, call_of, call_of_hart, call_on, call_stage, finish_call, perform}
 use Rattle.evm_model.specs.Harts.{A7}
 use Rattle.evm_model.specs.Notices.{notify}
+use Rattle.evm_model.specs.Profiles.{offered}
 use Rattle.evm_model.specs.Settle.{is_oob}
 use Rattle.evm_model.specs.State.{Parts}
 use Rattle.evm_model.specs.Tasks.{demote}
@@ -21,14 +22,14 @@ asking : (asked : Asked) (o : Option Hart) → Asks (Some asked) o → (x : Hart
 asking asked None h = absurd h
 asking asked (Some x) h = (x, refl, h)
 
-called : (named : Call) (c t : ℕ) (k : Parts) (x : Hart) → slice_get k.harts t ≡ Some x → call_of (register_of x.regs A7) ≡ Some named → call c t k ≡ call_on (call_stage named) named x c t k
+called : (named : Call) (c t : ℕ) (k : Parts) (x : Hart) → slice_get k.harts t ≡ Some x → offered k.profile (call_of (register_of x.regs A7)) ≡ Some named → call c t k ≡ call_on (call_stage named) named x c t k
 unfolding call
 called named c t k x there number = ap (λ (o : Option Hart). call_of_hart o c t k) there ∙ ap (λ (o : Option Call). call_known o x c t k) number
 
-pub asked-call : (named : Call) (asked : Asked) (c t : ℕ) (k : Parts) → Asks (Some asked) (slice_get k.harts t) → call_of asked.number ≡ Some named → IsAsked named asked c t k
+pub asked-call : (named : Call) (asked : Asked) (c t : ℕ) (k : Parts) → Asks (Some asked) (slice_get k.harts t) → offered k.profile (call_of asked.number) ≡ Some named → IsAsked named asked c t k
 asked-call named asked c t k asks number =
     let w = asking asked (slice_get k.harts t) asks in
-    let same : call_of (register_of w.0.regs A7) ≡ Some named = ap call_of (sym w.2.number) ∙ number in
+    let same : offered k.profile (call_of (register_of w.0.regs A7)) ≡ Some named = ap (λ (n : ℕ). offered k.profile (call_of n)) (sym w.2.number) ∙ number in
     record { hart = w.0; by = w.2; known = sym (called named c t k w.0 w.1 same) }
 
 -- ---- on the stage of the call, or of one of either
@@ -48,7 +49,5 @@ made-oob named asked c t k a e h =
     let done : Parts = finish_call c t (perform named a.hart c t k) in
     let there : done ≡ call_on (Some OutOfBand) named a.hart c t k = ap (λ (b : Bool). if b then done else ask_oob c t k) (sym h) in
     record { hart = a.hart; by = a.by; done = there ∙ ap (λ (o : Option Stage). call_on o named a.hart c t k) (sym e) ∙ a.known }
-
-pub ruleset asked = (asked-call)
 
 pub ruleset made = (made-either, made-in_band, made-oob)

@@ -1,5 +1,5 @@
 -- Room for a notice: a task that goes in-band makes none itself, and a call on a mutex that is refused changes nothing.
-use Rattle.std.proofs.Common.{◌≡◌, ℕ, ◌≤◌, true, ap, sym, ◌∙◌}
+use Rattle.std.proofs.Common.{arith, ◌≡◌, ℕ, ◌≤◌, true, ap, sym, ◌∙◌}
 use Rattle.std.specs.Prelude.{slice_get}
 use Rattle.evm_model.specs.Bounds.{COUNT_LIMIT, PER_CALL, HasRoom}
 use Rattle.evm_model.specs.Locks.{lock_known, try_known, unlock_known}
@@ -9,18 +9,21 @@ use Rattle.evm_model.specs.Tasks.{demote, restamp, set_state}
 use Rattle.evm_model.specs.declared.call.Outcome.{Outcome}
 use Rattle.evm_model.specs.declared.errno.Errno.{Errno}
 use Rattle.evm_model.specs.declared.errno.Errno.TheVariants.{NotPermitted, Deadlock}
-use Rattle.evm_walk.proofs.Unchanged.{RestsAt, lock_rests, try_rests, unlock_rests}
+use Rattle.law_walk.proofs.Unchanged.{RestsAt, lock_rests, try_rests, unlock_rests}
+
+notices_fit : (k : Parts) → HasRoom PER_CALL k → k.notices.total ≤ COUNT_LIMIT
+notices_fit k room = omega (arith, room.notices)
 
 pub demote_room : (c t : ℕ) (k : Parts) → HasRoom PER_CALL k → (demote c t k).notices.total ≤ COUNT_LIMIT
 unfolding demote restamp set_state
-demote_room c t k room = room.notices
+demote_room c t k room = notices_fit k room
 
 refused_room : (e : Errno) (k new : Parts) (outcome : Outcome) (done : Parts × Outcome) → RestsAt e k done → HasRoom PER_CALL k → (new, outcome) ≡ done
     → is_refused e outcome ≡ true → new.notices.total ≤ COUNT_LIMIT
 refused_room e k new outcome done rests room is refuses =
     let told : is_refused e done.1 ≡ true = ap (λ (d : Parts × Outcome). is_refused e d.1) (sym is) ∙ refuses in
     let same : new ≡ k = ap (λ (d : Parts × Outcome). d.0) is ∙ rests told in
-    rw same room.notices
+    rw same (notices_fit k room)
 
 module _ (t m : ℕ) (k new : Parts) (outcome : Outcome) (room : HasRoom PER_CALL k) where
   pub lock_room : (c deadline : ℕ) → (new, outcome) ≡ lock_known (slice_get k.mutexes m) c t m deadline k → is_refused Deadlock outcome ≡ true → new.notices.total ≤ COUNT_LIMIT

@@ -5,11 +5,12 @@ ghost use Rattle.evm_exec.specs.declared.hart.Hart.{Hart};
 ghost use Rattle.evm_model.specs.Bounds.{PER_CALL, HasRoom, HasStamps};
 ghost use Rattle.evm_model.specs.Calls.{perform, return_weak, answered, finish_call, ask_oob, call_on, call_stage, call};
 ghost use Rattle.evm_model.specs.Notices.{notify};
+ghost use Rattle.evm_model.specs.Profiles.{offered};
 ghost use Rattle.evm_model.specs.Tasks.{demote};
 ghost use Rattle.evm_model.specs.declared.notice.NoticeKind.TheVariants.{DemotedByCall};
 ghost use Rattle.evm_calls.specs.Asking.{IsAsked, IsMade};
 ghost use Rattle.evm_parts.specs.evm_task.Asks.{AskedBy};
-ghost use Rattle.evm_walk.specs.Few.{AreFew};
+ghost use Rattle.law_walk.specs.Few.{AreFew};
 
 use crate::actions::set_line;
 use crate::clock::clock;
@@ -22,10 +23,10 @@ use crate::mutexes::{lock, new_mutex, try_lock, unlock};
 use crate::policies::{attach, detach, set_mode, set_sched};
 use crate::refused::refused;
 use crate::semaphores::{new_semaphore, sem_get, sem_put, sem_try_get};
-use crate::stages::{stall, state_bits, switch_in_band, switch_oob};
+use crate::stages::{migrate, stall, state_bits, switch_in_band, switch_oob};
 use crate::tasks::{exit, spawn, yield_now, yield_oob};
 use crate::timers::{new_timer, timer_set, timer_wait};
-use evm_model::{Call, Errno, NoticeKind, Outcome, Stage};
+use evm_model::{Call, Errno, MIGRATION_PROFILE, NoticeKind, Outcome, Profile, Stage};
 use evm_parts::{Asked, Parts};
 
 // What a call does.
@@ -72,6 +73,7 @@ fn perform(parts: &mut Parts, call: Call, asked: Asked, c: u8, t: u8) -> Outcome
         Call::UnstallOob => stall(parts, Stage::OutOfBand, false, c),
         Call::Clock => clock(parts),
         Call::StateBits => state_bits(parts, c, t),
+        Call::Migrate => migrate(parts, c, t, asked.first),
     }
 }
 
@@ -151,10 +153,20 @@ fn call_on(parts: &mut Parts, call: Call, asked: Asked, c: u8, t: u8)
     }
 }
 
+// A call, unless the profile lacks it.
+fn offered(profile: Profile, call: Option<Call>) -> Option<Call>
+    ensures { result ≡ offered profile call }
+{
+    match call {
+        Some(Call::Migrate) if profile.version < MIGRATION_PROFILE => None,
+        call => call,
+    }
+}
+
 /// What the ECALL of a task does. At a call of the in-band kernel an out-of-band task goes in-band with a notice, its pc
 /// unchanged, and at one of the out-of-band kernel an in-band task goes out-of-band, or is answered -1 where it may not;
-/// so it makes the call again on the other stage. A number that is no call's answers -38.
-#[tactic(auto, using(crate::proofs::Asked::asked), unfolding(evm_model::specs::Calls::call))]
+/// so it makes the call again on the other stage. A number that is no call's of the machine's profile answers -38.
+#[tactic(auto, unfolding(evm_model::specs::Calls::call))]
 pub fn call(parts: &mut Parts, c: u8, t: u8)
     requires room { HasRoom PER_CALL parts.old }
     requires few { AreFew parts.old }
@@ -163,7 +175,7 @@ pub fn call(parts: &mut Parts, c: u8, t: u8)
     let Some(asked) = parts.harts.asked(t) else {
         return;
     };
-    match Call::of_number(asked.number) {
+    match offered(parts.profile, Call::of_number(asked.number)) {
         None => answer(parts, refused(Errno::NoSuchCall), c, t),
         Some(call) => call_on(parts, call, asked, c, t),
     }

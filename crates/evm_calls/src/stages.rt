@@ -2,7 +2,7 @@
 
 ghost use Rattle.std.specs.Prelude.{◌≡◌};
 ghost use Rattle.evm_model.specs.Bounds.{PER_CALL, HasRoom};
-ghost use Rattle.evm_model.specs.OobCalls.{stall, switch_oob, switch_in_band, state_bits};
+ghost use Rattle.evm_model.specs.OobCalls.{stall, switch_oob, switch_in_band, state_bits, migrate};
 ghost use Rattle.evm_model.specs.Stages.{bit};
 
 use crate::refused::refused;
@@ -39,6 +39,27 @@ pub fn switch_in_band(parts: &mut Parts, c: u8, t: u8) -> Outcome
         return refused(Errno::NotPermitted);
     }
     parts.demote(c, t);
+    Outcome::Returns(0)
+}
+
+/// Call 55: the task goes on processor `cpu`, ready there with a fresh stamp; a weak task that owns no mutex goes in-band.
+/// Returns 0, at once if it is on that processor. Returns -22 if there is no such processor, -16 while out-of-band is
+/// stalled on its own.
+#[tactic(auto, using(crate::proofs::Objects::objects), unfolding(evm_model::specs::OobCalls::migrate))]
+pub fn migrate(parts: &mut Parts, c: u8, t: u8, cpu: u64) -> Outcome
+    requires room { HasRoom PER_CALL parts.old }
+    ensures { (parts.new, result) ≡ migrate c t cpu parts.old }
+{
+    if cpu >= u64::from(parts.processor_count()) {
+        return refused(Errno::Invalid);
+    }
+    if cpu == u64::from(c) {
+        return Outcome::Returns(0);
+    }
+    if parts.is_stalled(c, Stage::OutOfBand) {
+        return refused(Errno::Busy);
+    }
+    parts.move_task(t, cpu as u8);
     Outcome::Returns(0)
 }
 

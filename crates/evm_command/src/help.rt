@@ -38,6 +38,9 @@ zeros.
 The first line:
   boot P RAM CAP  boots P processors (1 to 8), RAM bytes (65536 to 16777216, a multiple of 4096)
                   and a journal of CAP events (1 to 1048576); loads IMAGE
+  boot P RAM CAP W
+                  the same with a watchdog, which demotes an out-of-band task that a processor runs
+                  for W ticks (1 to 1000000; 0 is no watchdog)
 
 RAM begins at 80000000. Task 0 starts on processor 0, in-band and without a class: its pc is the
 image's entry (80000000 without an image), x2 is the end of RAM, the other registers are 0.
@@ -46,7 +49,7 @@ Commands:
   step C N        N steps of processor C, 1 to 1048576; each is one of the CAP events, also of an
                   idle or a stopped processor
   tick            the clock ticks: line 0 is raised on every processor
-  raise C L       raises line L (0 to 31) on processor C
+  raise C L       raises line L (0 to 63) on processor C
   bell C L        like raise; an interrupt that a worker thread took from its bell
   stop C          stops processor C: its steps do nothing until go, which standard error says
   go C            lets it go on, past a breakpoint at its pc
@@ -64,8 +67,8 @@ Views:
   stages C        both stages: what runs, what is stalled, what waits in which log
   tasks           each task: T cpu C CLASS P STATE pc X
                   CLASS none, fifo, rr or weak; P its own priority;
-                  STATE in-ready, in-wait L, oob-ready, lock M, semaphore S, exit,
-                  or fault with its number
+                  STATE in-ready, in-wait L, oob-ready, lock M, semaphore S, event E,
+                  flags F, timer N, sleep, exit, or fault with its number
   owners          each mutex, its owner and how often it is locked
   rank T          the rank of a task, with what its mutexes give it
   notices         the notices of the health monitor: the tick, the task, the number
@@ -90,11 +93,13 @@ Example:
 /// Behind the help of `replay`.
 pub(crate) const REPLAY_HELP: &str = "\
 A journal is what the view journal of a script prints:
-  evl-journal 1
-  boot P RAM CAP
+  evl-journal 3
+  boot P RAM CAP W
 and then a line for each event, in the words of scripts; consecutive steps of one processor are one
 line. It has no comments, no views and no empty lines. Shown are the views stages C of each
-processor, tasks and owners. For the journal of a run without IMAGE, assemble an empty source.
+processor, tasks and owners. Journals of versions 1 and 2 are replayed too: they have no W, lines 0
+to 31, and in version 1 no call 55. For the journal of a run without IMAGE, assemble an empty
+source.
 
 Statuses: 0 done, 1 a line is bad or refused, 2 wrong words, 3 no image, 4 a failed read or write
 

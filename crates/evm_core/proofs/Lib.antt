@@ -7,5 +7,5 @@ pub mod Outcomes
 pub mod Rules
 pub mod Words
 pub use Rattle.evm_history.proofs as evm_history
-pub use Rattle.evm_board.proofs.evm_rules as evm_rules
-pub use Rattle.evm_board.proofs.evm_walk as evm_walk
+pub use Rattle.evm_board.proofs.law_rules as law_rules
+pub use Rattle.evm_board.proofs.law_walk as law_walk

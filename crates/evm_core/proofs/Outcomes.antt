@@ -2,7 +2,7 @@
 use Rattle.std.proofs.Common.{◌≡◌, ℕ, zero, suc, ◌<◌, ◌≤◌, ◌⊎◌, inl, inr, List, [], ◌∷◌, length, Bool, true, false, Option, Some, None, Err, refl, sym, ap, ◌∙◌, arith}
 use Rattle.std.specs.Prelude.{slice_get, is_none, if◌then◌else◌}
 use Rattle.std.proofs.lemmas.Bool.Decides.{nat_tests}
-use Rattle.evm_lines.specs.declared.TheConstants.{LINES}
+use Rattle.evm_model.specs.Profiles.{line_count}
 use Rattle.evm_model.specs.Event.{Event}
 use Rattle.evm_model.specs.Refusals.{is_full, no_such_cpu, no_such_line, board_refusal, refusal}
 use Rattle.evm_model.specs.Replay.{apply, apply_unless, left_by, replay}
@@ -12,7 +12,7 @@ use Rattle.evm_model.specs.declared.event.Event.TheVariants.{Step, Bell, Tick}
 use Rattle.evm_model.specs.declared.processor.Processor.{Processor}
 use Rattle.evm_model.specs.declared.refusal.Refusal.{Refusal}
 use Rattle.evm_model.specs.declared.refusal.Refusal.TheVariants.{Full, NoSuchCpu, NoSuchLine}
-use Rattle.evm_board.proofs.evm_rules.States.{GoodState-replay}
+use Rattle.evm_board.proofs.law_rules.States.{GoodState-replay}
 use Rattle.evm_core.specs.Laws.{IsFull, IsAbsent, StepRefusals, BellRefusals, TickRefusals, KeepsBoot, KeepsProcessors, BootedProcessors}
 
 -- ---- refusals
@@ -43,8 +43,8 @@ pub step_refusals : StepRefusals
 unfolding board_refusal
 step_refusals s c why e = one_reason (is_full s) (no_such_cpu c s.board) s c why refl refl (is_refused (Step c) s why e)
 
-bell_reason : (is absent none : Bool) (s : State) (c line : ℕ) (why : Refusal) → is_full s ≡ is → no_such_cpu c s.board ≡ absent → no_such_line line ≡ none
-    → c < length s.board.parts.processors → line < LINES
+bell_reason : (is absent none : Bool) (s : State) (c line : ℕ) (why : Refusal) → is_full s ≡ is → no_such_cpu c s.board ≡ absent → no_such_line line s.board ≡ none
+    → c < length s.board.parts.processors → line < line_count s.board.parts.profile
     → (if is then Some Full else (if absent then Some NoSuchCpu else (if none then Some NoSuchLine else None))) ≡ Some why → IsFull s why
 bell_reason true absent none s c line why f a n there low e = (cc, full s f)
 bell_reason false true none s c line why f a n there low e = absurd (omega (arith, past_end s.board.parts.processors c a))
@@ -53,7 +53,7 @@ bell_reason false false false s c line why f a n there low e = cc
 
 pub bell_refusals : BellRefusals
 unfolding board_refusal
-bell_refusals s c line why e there low = bell_reason (is_full s) (no_such_cpu c s.board) (no_such_line line) s c line why refl refl refl there low (is_refused (Bell c line) s why e)
+bell_refusals s c line why e there low = bell_reason (is_full s) (no_such_cpu c s.board) (no_such_line line s.board) s c line why refl refl refl there low (is_refused (Bell c line) s why e)
 
 tick_reason : (is : Bool) (s : State) (why : Refusal) → is_full s ≡ is → (if is then Some Full else None) ≡ Some why → IsFull s why
 tick_reason true s why f e = (cc, full s f)

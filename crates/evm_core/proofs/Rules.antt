@@ -6,8 +6,8 @@ use Rattle.evm_model.specs.Good.{GoodState, AreDevices}
 use Rattle.evm_model.specs.Replay.{IsReplayOf, replay}
 use Rattle.evm_model.specs.State.{State, on_memory}
 use Rattle.evm_model.specs.Event.{Event}
-use Rattle.evm_board.proofs.evm_rules.Bounded.{within-more}
-use Rattle.evm_board.proofs.evm_rules.States.{counts_room, holds_room, notices_room, ticks_room, stamps_room}
+use Rattle.evm_board.proofs.law_rules.Bounded.{within-more}
+use Rattle.evm_board.proofs.law_rules.States.{counts_room, holds_room, notices_room, ticks_room, stamps_room}
 
 pub ticks-fit : (s : State) → GoodState s → s.board.parts.ticks < COUNT_LIMIT
 ticks-fit s g = let h = ticks_room s g in omega arith

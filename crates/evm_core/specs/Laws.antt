@@ -1,8 +1,8 @@
 -- What holds of all states and events.
 use Rattle.std.specs.Prelude.{◌≡◌, ℕ, ◌<◌, ◌≤◌, ◌⊎◌, List, length, Err}
-use Rattle.evm_lines.specs.declared.TheConstants.{LINES}
 use Rattle.evm_model.specs.Event.{Event}
 use Rattle.evm_model.specs.Good.{GoodState}
+use Rattle.evm_model.specs.Profiles.{line_count}
 use Rattle.evm_model.specs.Replay.{apply, replay}
 use Rattle.evm_model.specs.State.{State}
 use Rattle.evm_model.specs.declared.event.Event.TheVariants.{Step, Bell, Tick}
@@ -23,7 +23,7 @@ StepRefusals = (s : State) (c : ℕ) (refusal : Refusal) → apply s (Step c) �
 
 -- a Bell of one of the lines of one of the processors is refused on a full journal alone
 abbrev pub BellRefusals : Type 0
-BellRefusals = (s : State) (c line : ℕ) (refusal : Refusal) → apply s (Bell c line) ≡ Err refusal → c < length s.board.parts.processors → line < LINES → IsFull s refusal
+BellRefusals = (s : State) (c line : ℕ) (refusal : Refusal) → apply s (Bell c line) ≡ Err refusal → c < length s.board.parts.processors → line < line_count s.board.parts.profile → IsFull s refusal
 
 -- a Tick is refused on a full journal alone
 abbrev pub TickRefusals : Type 0

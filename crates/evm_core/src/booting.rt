@@ -2,29 +2,39 @@ ghost use Rattle.std.specs.Prelude.{◌≡◌, ◌≤◌, [], ◌∷◌, replica
 ghost use Rattle.evm_board.specs.evm_boost.Scheduled.{IsScheduled};
 ghost use Rattle.evm_model.specs.Harts.{first_hart};
 ghost use Rattle.evm_model.specs.Pipes.{idle_pipe};
-ghost use Rattle.evm_model.specs.State.{booted, booted_parts, first_processor, first_task, no_notices};
-ghost use Rattle.evm_model.specs.Replay.{bad_boot, BootAnswers};
+ghost use Rattle.evm_model.specs.State.{booted, booted_parts, first_processor, first_task, newest, no_notices};
+ghost use Rattle.evm_model.specs.Replay.{bad_boot, bad_watchdog, BootAnswers};
 
 use crate::machine::Machine;
 use arrayvec::ArrayVec;
 use evm_board::{
     Actions, Board, Breakpoints, Console, Devices, Events, Flags, Harts, Memory, Mutexes, Notices,
-    Parts, Pipe, Schedule, Semaphores, Slots, Tasks, Timers,
+    Parts, Pipe, Schedule, Semaphores, Slots, Tasks, Timers, Watches,
 };
 use evm_dev::Device;
 use evm_exec::{Hart, REGISTER_COUNT};
 use evm_model::{
-    Boot, CAPACITY_LIMIT, Class, Mode, PROCESSOR_LIMIT, Processor, Profile, RAM_LEAST, RAM_UNIT,
-    Refusal, Task, TaskState,
+    Boot, CAPACITY_LIMIT, Class, Mode, PROCESSOR_LIMIT, PROFILE_LIMIT, Processor, Profile,
+    RAM_LEAST, RAM_UNIT, Refusal, Task, TaskState, WATCHDOG_LIMIT, WIDE_PROFILE,
 };
 use evm_ram::{BASE, Ram, SIZE_LIMIT};
 use evm_room::Refused;
 use std::alloc::Global;
 
+// Whether a watchdog of so many ticks is outside the limits of a profile.
+fn is_bad_watchdog(profile: u64, ticks: u64) -> bool
+    ensures { result ≡ bad_watchdog profile ticks }
+{
+    ticks > u64::from(WATCHDOG_LIMIT) || profile < u64::from(WIDE_PROFILE) && ticks != 0
+}
+
 fn is_bad(boot: &Boot) -> bool
     ensures { result ≡ bad_boot boot.now }
 {
-    boot.cpus == 0
+    boot.profile == 0
+        || boot.profile > u64::from(PROFILE_LIMIT)
+        || is_bad_watchdog(boot.profile, boot.watchdog)
+        || boot.cpus == 0
         || boot.cpus > PROCESSOR_LIMIT as u64
         || boot.ram < RAM_LEAST
         || boot.ram > SIZE_LIMIT
@@ -109,12 +119,17 @@ fn parts_of(boot: &Boot, schedule: Schedule, console: Console, notices: Notices)
         *place = first;
     }
     Parts {
-        profile: Profile { ram: boot.ram },
+        profile: Profile {
+            ram: boot.ram,
+            version: boot.profile as u8,
+            watchdog: boot.watchdog as u32,
+        },
         ticks: 0,
         harts: Harts::of_first(hart_zero(boot.ram)),
         tasks: Tasks::of_first(task_zero()),
         processors,
         pipes: pipes_of(boot.cpus),
+        watches: Watches::new(boot.cpus),
         stamps: 1,
         mutexes: Mutexes::new(),
         schedule,
@@ -148,18 +163,45 @@ fn board_of<D: Device>(alloc: Global, boot: &Boot, devices: Devices<D>) -> Resul
 }
 
 impl<D: Device> Machine<D> {
-    /// A machine that has had no event: RAM is zero, and task 0 is current on processor 0, at RAM's first
-    /// byte. It has room for its whole journal and all else that events will take. `BadSize` if and only if
-    /// a number is outside its limits: processors 1 to 8, RAM 65,536 to 16,777,216 bytes in multiples of
-    /// 4,096, capacity 1 to 1,048,576 events. It has no device.
+    /// Boots a machine of the newest profile, without a watchdog or devices: RAM is zero, and task 0 is current on
+    /// processor 0, at RAM's first byte. It has room for its whole journal and all else that events will take. Returns
+    /// `BadSize` if and only if a number is outside its limits: processors 1 to 8, RAM 65,536 to 16,777,216 bytes in
+    /// multiples of 4,096, capacity 1 to 1,048,576 events.
     pub fn boot(alloc: Global, cpus: u8, ram: u64, capacity: u32) -> Result<Machine<D>, Refusal>
-        ensures { BootAnswers [] (record { cpus = cpus; ram = ram; capacity = capacity }) result }
+        ensures { BootAnswers [] (newest cpus ram capacity) result }
+    {
+        Machine::bare(
+            alloc,
+            Boot::newest(u64::from(cpus), ram, u64::from(capacity)),
+        )
+    }
+
+    /// Boots a machine of a profile, 1 to 3, with a watchdog of 1 to 1,000,000 ticks; 0 is none, which profiles 1 and 2
+    /// always have. Returns `BadSize` if these or the numbers of `boot` are outside their limits.
+    pub fn boot_as(
+        alloc: Global,
+        profile: u8,
+        watchdog: u32,
+        cpus: u8,
+        ram: u64,
+        capacity: u32,
+    ) -> Result<Machine<D>, Refusal>
+        ensures { BootAnswers [] (record { profile = profile; watchdog = watchdog; cpus = cpus; ram = ram; capacity = capacity }) result }
     {
         let boot = Boot {
+            profile: u64::from(profile),
+            watchdog: u64::from(watchdog),
             cpus: u64::from(cpus),
             ram,
             capacity: u64::from(capacity),
         };
+        Machine::bare(alloc, boot)
+    }
+
+    // A machine without devices.
+    fn bare(alloc: Global, boot: Boot) -> Result<Machine<D>, Refusal>
+        ensures { BootAnswers [] boot result }
+    {
         if is_bad(&boot) {
             return Err(Refusal::BadSize);
         }
@@ -172,7 +214,7 @@ impl<D: Device> Machine<D> {
         }
     }
 
-    /// Like `boot`, from the numbers of a boot line, which may be any, and with devices.
+    /// Like `boot_as`, from the numbers of a boot line, which may be any, and with devices.
     pub fn from_boot(alloc: Global, boot: Boot, devices: Devices<D>) -> Result<Machine<D>, Refusal>
         ensures { BootAnswers devices boot result }
     {

@@ -9,7 +9,7 @@ pub fn step_refusals()
     ensures { StepRefusals }
 {}
 
-/// A Bell of one of the lines of one of the processors is refused as Full on a full journal, and for no other reason.
+/// A Bell of one of the profile's lines, of one of the processors, is refused as Full on a full journal, and for no other reason.
 pub fn bell_refusals()
     ensures { BellRefusals }
 {}

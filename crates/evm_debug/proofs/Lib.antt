@@ -6,5 +6,5 @@ pub mod Pairs
 pub mod Shown
 pub use Rattle.evm_journal.proofs.evm_history as evm_history
 pub use Rattle.evm_journal.proofs as evm_journal
-pub use Rattle.evm_journal.proofs.evm_rules as evm_rules
+pub use Rattle.evm_journal.proofs.law_rules as law_rules
 pub use Rattle.evm_journal.proofs.evm_text as evm_text

@@ -1,11 +1,13 @@
 -- The table of the lines of a script, and their spelling.
-use Rattle.std.specs.Prelude.{◌≡◌, ℕ, Bool, true, List, [], ◌∷◌, ◌++◌, ◌==◌, Option, Some, codes}
+use Rattle.std.specs.Prelude.{◌≡◌, ℕ, Bool, true, List, [], ◌∷◌, ◌++◌, ◌==◌, ◌⊎◌, Option, Some, codes}
 use Rattle.evm_journal.specs.evm_text.Rows.{Byte, Decimal, Hexadecimal, LineRow, line_row, Filled, with_values, row_text, Fit, values_at, rows_as}
 use Rattle.evm_journal.specs.evm_text.Reading.{◌>>=◌}
 use Rattle.evm_journal.specs.EventLine.{event_rows, event_line_text, HasEventLine}
-use Rattle.evm_journal.specs.Journal.{boot_row, boot_text, HasBootLine}
+use Rattle.evm_journal.specs.Journal.{unwatched_row, watched_row, unwatched_numbers, watched_numbers}
 use Rattle.evm_journal.specs.evm_history.EventLine.{EventLine}
 use Rattle.evm_journal.specs.evm_history.declared.event_line.EventLine.TheVariants as events
+use Rattle.evm_model.specs.declared.boot.Boot.{Boot as Numbers}
+use Rattle.evm_model.specs.declared.limits.TheConstants.{PROFILE_LIMIT}
 use Rattle.evm_debug.specs.declared.line.View.{View}
 use Rattle.evm_debug.specs.declared.line.View.TheVariants.{Regs, Mem, Stages, Tasks, Owners, Rank, Notices, Counts, Journal, Console, Words}
 use Rattle.evm_debug.specs.declared.line.Line.{Line}
@@ -85,18 +87,33 @@ script_line (events.One event) = One event
 abbrev pub bare_said : View → List ℕ → Option Line
 bare_said view rest = values_at [] rest >>= λ values. Some (Look view)
 
+-- the lines of a script but boot lines, of which two forms begin alike
 abbrev pub script_rows : List (LineRow Line)
-script_rows = rows_as Boot (boot_row ∷ []) ++ (rows_as Look view_rows ++ rows_as script_line event_rows)
+script_rows = rows_as Look view_rows ++ rows_as script_line event_rows
+
+-- the rows of a boot line: a machine of the newest profile without a watchdog's number, or with it
+abbrev pub script_unwatched : LineRow Numbers
+script_unwatched = unwatched_row PROFILE_LIMIT
+
+abbrev pub script_watched : LineRow Numbers
+script_watched = watched_row PROFILE_LIMIT
 
 -- no bytes, or a # first and any bytes behind it
 abbrev pub is_blank_line : List ℕ → Bool
 is_blank_line [] = true
 is_blank_line (b ∷ bytes) = b == 35
 
--- The bytes, without a newline, are a spelling of the line. Only a blank line has more than one.
+-- A boot line has a machine of the newest profile. The number of its watchdog may be left out where there is none.
+pub record IsBootLine (boot : Numbers) (bytes : List ℕ) : Type 0 where
+  pub newest : boot.profile ≡ PROFILE_LIMIT
+  pub text : (bytes ≡ row_text (watched_numbers boot)) ⊎ ((boot.watchdog ≡ 0) × (bytes ≡ row_text (unwatched_numbers boot)))
+  pub fit : Fit (watched_numbers boot)
+
+-- The bytes, without a newline, are a spelling of the line. Only a blank line, and the boot line of a machine without a
+-- watchdog, have more than one.
 abbrev pub IsSpelled : Line → List ℕ → Type 0
 IsSpelled Blank bytes = is_blank_line bytes ≡ true
-IsSpelled (Boot boot) bytes = (bytes ≡ boot_text boot) × HasBootLine boot
+IsSpelled (Boot boot) bytes = IsBootLine boot bytes
 IsSpelled (Steps cpu count) bytes = (bytes ≡ event_line_text (events.Steps cpu count)) × HasEventLine (events.Steps cpu count)
 IsSpelled (One event) bytes = (bytes ≡ event_line_text (events.One event)) × HasEventLine (events.One event)
 IsSpelled (Look view) bytes = (bytes ≡ view_text view) × HasViewLine view

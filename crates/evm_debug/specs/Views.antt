@@ -19,6 +19,7 @@ use Rattle.evm_lines.specs.Lines.{word_of}
 use Rattle.evm_model.specs.Faults.{fault_number}
 use Rattle.evm_model.specs.Devices.{Attached}
 use Rattle.evm_model.specs.Notices.{notice_number}
+use Rattle.evm_model.specs.Profiles.{line_count}
 use Rattle.evm_model.specs.State.{Memory, Notices, Parts, State}
 use Rattle.evm_model.specs.Ranks.{is_oob_ready, rank}
 use Rattle.evm_exec.specs.declared.hart.Hart.{Hart}
@@ -217,6 +218,10 @@ abbrev pub counts_of_line : Option Counts → Result (List ℕ) Refusal
 counts_of_line None = Err NoSuchLine
 counts_of_line (Some n) = Ok (counts_text n)
 
+-- the counts of line l of processor c, where the machine has such a line
+abbrev pub counts_in : ℕ → ℕ → Parts → Option Counts
+counts_in c l k = if nat_lt l (line_count k.profile) then counts_at c l k else None
+
 -- the processor is looked for before the line
 abbrev pub counts_shown : Option Stages → Option Counts → Result (List ℕ) Refusal
 counts_shown None counts = Err NoSuchCpu
@@ -245,7 +250,7 @@ shown Tasks s = Ok (tasks_text s.board.parts)
 shown Owners s = Ok (owners_text s.board.parts)
 shown (Rank t) s = rank_answer (slice_get s.board.parts.tasks t) (rank s.board.parts.mutexes s.board.parts.tasks t)
 shown NoticesView s = Ok (notices_text s.board.parts.notices)
-shown (CountsView c l) s = counts_shown (stages_at c s.board.parts) (counts_at c l s.board.parts)
+shown (CountsView c l) s = counts_shown (stages_at c s.board.parts) (counts_in c l s.board.parts)
 shown Journal s = Ok (journal_text s.boot s.journal)
 shown Console s = Ok (pairs s.board.parts.console ++ codes "\n")
 shown (Words i) s = words_of (slice_get s.board.memory.devices i)

@@ -32,8 +32,9 @@ pub enum View {
 pub enum Line {
     /// An empty line, or one that begins with `#`.
     Blank,
-    /// `boot P RAM CAP`: as many processors, bytes of RAM and events of the journal. Any numbers
-    /// below 2^64 are grammatical.
+    /// `boot P RAM CAP` or `boot P RAM CAP W`: a machine of the newest profile with as many processors, bytes of RAM
+    /// and events of the journal, and a watchdog of W ticks; where W is 0 or absent there is none. Any numbers below 2^64
+    /// are grammatical.
     Boot(Boot),
     /// `step C N`: a processor takes 1 to 1048576 steps.
     Steps(u8, u32),

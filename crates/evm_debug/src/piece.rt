@@ -18,7 +18,7 @@ pub(crate) enum Piece<'a> {
     Decimal(u64),
     /// 16 hexadecimal digits.
     Word(u64),
-    /// 8 hexadecimal digits, bit l for line l.
+    /// 16 hexadecimal digits, bit l for line l.
     Lines(LineSet),
     Bit(bool),
     /// A task's number, or `none`.

@@ -3,17 +3,16 @@ ghost use Rattle.std.specs.Result.{result_ok};
 ghost use Rattle.evm_journal.specs.evm_history.EventLine.{short_line};
 ghost use Rattle.evm_journal.specs.evm_text.Rows.{said_at, rows_at, row_as, rows_as};
 ghost use Rattle.evm_journal.specs.EventLine.{event_rows, poke_row, poke_said, short_rows};
-ghost use Rattle.evm_journal.specs.Journal.{boot_row};
 ghost use Rattle.evm_debug.specs.Line.{mem_row, counts_row, bare_rows, bare_said, view_rows, script_line, is_blank_line, IsSpelled};
-ghost use Rattle.evm_debug.specs.LineReading.{line_at};
-ghost use Rattle.evm_debug.specs.declared.line.Line.TheVariants.{Boot, Look};
+ghost use Rattle.evm_debug.specs.LineReading.{script_boot_at, line_at};
+ghost use Rattle.evm_debug.specs.declared.line.Line.TheVariants.{Look};
 
 use crate::line::{Bad, Line, View};
 use evm_journal::{
-    EventLine, after_word, decimal_last, hexadecimal_then, read_boot_numbers, read_event_line,
-    read_poke_line, read_short_line, u8_last, u8_then,
+    EventLine, after_word, decimal_last, hexadecimal_then, read_event_line, read_poke_line,
+    read_short_line, read_unwatched_boot, read_watched_boot, u8_last, u8_then,
 };
-use evm_model::{Block, NoBytes};
+use evm_model::{Block, Boot, NoBytes, PROFILE_LIMIT};
 
 fn is_blank_line(bytes: &[u8]) -> bool
     ensures { result ≡ is_blank_line bytes.now }
@@ -24,10 +23,15 @@ fn is_blank_line(bytes: &[u8]) -> bool
     }
 }
 
-fn boot_at(bytes: &[u8]) -> Option<Line>
-    ensures { result ≡ said_at (row_as Boot boot_row) bytes.now }
+// The numbers of a boot line: three, or else four.
+fn boot_at(bytes: &[u8]) -> Option<Boot>
+    ensures { result ≡ script_boot_at bytes.now }
 {
-    Some(Line::Boot(read_boot_numbers(bytes)?))
+    let profile = u64::from(PROFILE_LIMIT);
+    match read_unwatched_boot(profile, bytes) {
+        Some(boot) => Some(boot),
+        None => read_watched_boot(profile, bytes),
+    }
 }
 
 fn mem_at(bytes: &[u8]) -> Option<Line>
@@ -117,7 +121,7 @@ fn line_at(bytes: &[u8]) -> Option<Line>
         return Some(Line::Blank);
     }
     if let Some(rest) = after_word(b"boot ", bytes) {
-        return boot_at(rest);
+        return Some(Line::Boot(boot_at(rest)?));
     }
     view_at(bytes)
 }

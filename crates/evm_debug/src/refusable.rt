@@ -2,10 +2,10 @@
 
 ghost use Rattle.std.specs.Prelude.{◌≡◌, ◌<◌, ◌≤◌, ◌+◌, ◌++◌, Result, length, slice_get, codes, IfOk, IfErr, OnOk, OnErr, IsOkAnd};
 ghost use Rattle.std.specs.String.{string_bytes, string_capacity, string_len};
-ghost use Rattle.evm_journal.specs.evm_core.Views.{counts_at, stages_at};
+ghost use Rattle.evm_journal.specs.evm_core.Views.{stages_at};
 ghost use Rattle.evm_journal.specs.evm_text.Appending.{Appends};
 ghost use Rattle.evm_journal.specs.evm_text.Written.{pairs};
-ghost use Rattle.evm_debug.specs.Views.{counts_shown, mem_of, stages_of};
+ghost use Rattle.evm_debug.specs.Views.{counts_in, counts_shown, mem_of, stages_of};
 
 use crate::views::{push_counts, push_stages};
 use evm_dev::Device;
@@ -69,14 +69,17 @@ pub(crate) fn push_line_counts<D: Device>(
     line: u8,
     machine: &Machine<D>,
 ) -> Result<Result<(), Refused>, Refusal>
-    ensures ok { IfOk result (λ pushed. IsOkAnd (counts_shown (stages_at c machine.now.board.parts) (counts_at c line machine.now.board.parts)) (λ text. OnOk pushed (string_bytes out.new ≡ string_bytes out.old ++ text))) }
-    ensures full { IfOk result (λ pushed. IsOkAnd (counts_shown (stages_at c machine.now.board.parts) (counts_at c line machine.now.board.parts)) (λ text. OnErr pushed (string_capacity out.old < string_len out.old + length text))) }
-    ensures refused { IfOk result (λ pushed. IsOkAnd (counts_shown (stages_at c machine.now.board.parts) (counts_at c line machine.now.board.parts)) (λ text. IfErr pushed (λ asked. asked ≤ length text))) }
-    ensures err { IfErr result (λ refusal. counts_shown (stages_at c machine.now.board.parts) (counts_at c line machine.now.board.parts) ≡ Result.Err refusal) }
+    ensures ok { IfOk result (λ pushed. IsOkAnd (counts_shown (stages_at c machine.now.board.parts) (counts_in c line machine.now.board.parts)) (λ text. OnOk pushed (string_bytes out.new ≡ string_bytes out.old ++ text))) }
+    ensures full { IfOk result (λ pushed. IsOkAnd (counts_shown (stages_at c machine.now.board.parts) (counts_in c line machine.now.board.parts)) (λ text. OnErr pushed (string_capacity out.old < string_len out.old + length text))) }
+    ensures refused { IfOk result (λ pushed. IsOkAnd (counts_shown (stages_at c machine.now.board.parts) (counts_in c line machine.now.board.parts)) (λ text. IfErr pushed (λ asked. asked ≤ length text))) }
+    ensures err { IfErr result (λ refusal. counts_shown (stages_at c machine.now.board.parts) (counts_in c line machine.now.board.parts) ≡ Result.Err refusal) }
 {
     let Some(_) = machine.stages(c) else {
         return Err(Refusal::NoSuchCpu);
     };
+    if line >= machine.line_count() {
+        return Err(Refusal::NoSuchLine);
+    }
     match machine.counts(c, line) {
         None => Err(Refusal::NoSuchLine),
         Some(counts) => Ok(push_counts(out, &counts)),

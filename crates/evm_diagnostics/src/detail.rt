@@ -1,28 +1,33 @@
 //! The message of a fault of a script or a journal, from the line that has the fault.
 
 use crate::fault::InputFault;
-use crate::lookup::{ends_in_line, line_numbered, line_read};
+use crate::lookup::{ends_in_line, has_boot, is_of_version_3, line_numbered, line_read};
 use crate::refusal_detail::refusal_detail;
 use evm_debug::{JournalFault, JournalFaultKind, Line, read_line};
 use evm_image::Image;
 use evm_messages::{Message, bad_line_detail, byte_detail, grammar_detail, odd_byte};
 
-fn first_line_form(number: u64) -> Message {
-    Message::Plain(if number == 1 {
-        "line 1 must be `evl-journal 1`"
+// The form that one of the first two lines of a journal should have. That of the second goes by the version.
+fn header_form(number: u64, text: &[u8]) -> &'static str {
+    if number == 1 && has_boot(text) && !text.starts_with(b"evl-journal") {
+        "this is a script, not a journal; vardozek run --script makes its journal, as does its view `journal`"
+    } else if number == 1 {
+        "line 1 must be `evl-journal 1`, `evl-journal 2` or `evl-journal 3`"
+    } else if is_of_version_3(text) {
+        "line 2 of a journal of version 3 must be `boot P RAM CAP W`; without a watchdog W is 0"
     } else {
-        "line 2 must be `boot P RAM CAP`"
-    })
+        "line 2 of a journal of version 1 or 2 must be `boot P RAM CAP`"
+    }
 }
 
 // The first two lines of a journal.
-fn header_detail(number: u64, line: Option<&[u8]>) -> Message {
+fn header_detail(number: u64, text: &[u8], line: Option<&[u8]>) -> Message {
     match line {
         Some(line) => match odd_byte(line) {
             Some(byte) => byte_detail(byte),
-            None => first_line_form(number),
+            None => Message::Plain(header_form(number, text)),
         },
-        None => first_line_form(number),
+        None => Message::Plain(header_form(number, text)),
     }
 }
 
@@ -55,7 +60,7 @@ fn event_line_detail(text: &[u8], line: Option<&[u8]>) -> Message {
 
 fn journal_detail(text: &[u8], fault: JournalFault, line: Option<&[u8]>) -> Message {
     match fault.kind {
-        JournalFaultKind::Header => header_detail(fault.line, line),
+        JournalFaultKind::Header => header_detail(fault.line, text, line),
         JournalFaultKind::Line => event_line_detail(text, line),
         JournalFaultKind::NotCanonical => {
             Message::Plain("consecutive steps of one processor must be on one line")

@@ -100,7 +100,7 @@ pub(crate) fn refusal_message(cpu: Option<u8>, refusal: Refusal) -> Message {
         }
         Refusal::Full =>
             "refused: the journal is full; each step is one of the CAP events of boot (Full, 1)",
-        Refusal::NoSuchLine => "refused: the interrupt lines are 0 to 31 (NoSuchLine, 3)",
+        Refusal::NoSuchLine => "refused: there is no such interrupt line (NoSuchLine, 3)",
         Refusal::BadAddress => "refused: address or byte count out of range (BadAddress, 6)",
         Refusal::BadRegister =>
             "refused: the register must be 1 to 31; x0 is always 0 (BadRegister, 7)",

@@ -1,11 +1,11 @@
 //! The message of a refused line: the number that is out of range, with its limits.
 
 use crate::fault::refusal_message;
-use crate::lookup::ram_of;
+use crate::lookup::{last_interrupt, ram_of};
 use evm_debug::{Boot, Event, Line, Refusal, View};
 use evm_image::{Image, Segment};
 use evm_messages::{Message, Numeral};
-use evm_model::{POKE_LIMIT, PROCESSOR_LIMIT, RAM_LEAST, RAM_UNIT};
+use evm_model::{CAPACITY_LIMIT, POKE_LIMIT, PROCESSOR_LIMIT, RAM_LEAST, RAM_UNIT};
 use evm_ram::{BASE, SIZE_LIMIT};
 
 fn bad_cpus(cpus: u64) -> bool {
@@ -14,6 +14,10 @@ fn bad_cpus(cpus: u64) -> bool {
 
 fn bad_ram(ram: u64) -> bool {
     ram < RAM_LEAST || ram > SIZE_LIMIT || ram % RAM_UNIT != 0
+}
+
+fn bad_capacity(capacity: u64) -> bool {
+    capacity == 0 || capacity > CAPACITY_LIMIT
 }
 
 // The first number of a boot line that is outside its limits.
@@ -30,11 +34,17 @@ fn boot_detail(boot: &Boot) -> Message {
             Numeral::Decimal(boot.ram),
             ": 65536 to 16777216 bytes in multiples of 4096 (BadSize, 10)",
         )
-    } else {
+    } else if bad_capacity(boot.capacity) {
         Message::WithOne(
             "refused: CAP is ",
             Numeral::Decimal(boot.capacity),
             ": 1 to 1048576 events (BadSize, 10)",
+        )
+    } else {
+        Message::WithOne(
+            "refused: W is ",
+            Numeral::Decimal(boot.watchdog),
+            ": 1 to 1000000 ticks, or 0 for no watchdog (BadSize, 10)",
         )
     }
 }
@@ -193,6 +203,29 @@ fn slot_detail(line: Option<&Line>) -> Message {
     }
 }
 
+// The interrupt line that a line of a text names.
+fn interrupt_of(line: Option<&Line>) -> Option<u8> {
+    match line {
+        Some(Line::One(Event::Raise(_, number) | Event::Bell(_, number))) => Some(*number),
+        Some(Line::Look(View::Counts(_, number))) => Some(*number),
+        _ => None,
+    }
+}
+
+// An interrupt line that the machine lacks.
+fn interrupt_detail(text: &[u8], line: Option<&Line>) -> Message {
+    match interrupt_of(line) {
+        Some(number) => Message::WithTwo(
+            "refused: there is no interrupt line ",
+            Numeral::Decimal(u64::from(number)),
+            ", only 0 to ",
+            Numeral::Decimal(u64::from(last_interrupt(text))),
+            " (NoSuchLine, 3)",
+        ),
+        None => refusal_message(None, Refusal::NoSuchLine),
+    }
+}
+
 /// The message of a refused line of a text, whose machine boots with the image, if there is one.
 pub(crate) fn refusal_detail(
     image: Option<&Image>,
@@ -205,6 +238,7 @@ pub(crate) fn refusal_detail(
         Refusal::BadSize => size_detail(line),
         Refusal::BadAddress => address_detail(image, ram_of(text), line),
         Refusal::NoSlot => slot_detail(line),
+        Refusal::NoSuchLine => interrupt_detail(text, line),
         _ => refusal_message(cpu, refusal),
     }
 }

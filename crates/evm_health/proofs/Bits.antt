@@ -13,4 +13,11 @@ bit-word (suc b) p small positive = let none : b ≡ 0 = omega (arith, small) in
 pub is_on : (n k : ℕ) → (bit_and n (2 ^ k) == 2 ^ k) ≡ (bit_at n k == 1)
 is_on n k = rw (and_pow n k) (bit-word (bit_at n k) (2 ^ k) (bit_at-lt n k) (pow_pos k))
 
-pub ruleset bits = (is_on)
+-- the two bits of a mode
+pub is_woss : (n : ℕ) → (bit_and n 1 == 1) ≡ (bit_at n 0 == 1)
+is_woss n = is_on n 0
+
+pub is_woli : (n : ℕ) → (bit_and n 2 == 2) ≡ (bit_at n 1 == 1)
+is_woli n = is_on n 1
+
+pub ruleset bits = (is_woss, is_woli)

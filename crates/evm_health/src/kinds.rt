@@ -1,5 +1,5 @@
-ghost use Rattle.std.specs.Prelude.{◌≡◌, ◌^◌, Some};
-ghost use Rattle.evm_model.specs.Notices.{asks_for, notice_number, notice_row};
+ghost use Rattle.std.specs.Prelude.{◌≡◌, Some};
+ghost use Rattle.evm_model.specs.Notices.{asks_for, notice_number};
 
 use bitflags::Flags;
 use evm_model::{Mode, NoticeKind, Task};
@@ -13,23 +13,18 @@ pub fn number(kind: NoticeKind) -> u8
         NoticeKind::DemotedByFault => 2,
         NoticeKind::Deadlock => 3,
         NoticeKind::NotOwner => 4,
+        NoticeKind::Overran => 5,
     }
 }
 
-// The mode by which a task asks for notices of a kind.
-fn mode_of(kind: NoticeKind) -> Mode
-    ensures { result.bits ≡ 2 ^ (notice_row kind).1 }
-{
-    match kind {
-        NoticeKind::DemotedByCall | NoticeKind::DemotedByFault => Mode::T_WOSS,
-        NoticeKind::Deadlock | NoticeKind::NotOwner => Mode::T_WOLI,
-    }
-}
-
-/// Whether a task asks for notices of a kind.
+/// Whether a task gets notices of a kind: it asks for them by its mode bits. It gets those of the watchdog in any mode.
 #[tactic(auto, using(crate::proofs::Bits::bits))]
 pub fn asks_for(kind: NoticeKind, task: Task) -> bool
     ensures { result ≡ asks_for kind (Some task) }
 {
-    task.mode.contains(mode_of(kind))
+    match kind {
+        NoticeKind::DemotedByCall | NoticeKind::DemotedByFault => task.mode.contains(Mode::T_WOSS),
+        NoticeKind::Deadlock | NoticeKind::NotOwner => task.mode.contains(Mode::T_WOLI),
+        NoticeKind::Overran => true,
+    }
 }

@@ -5,8 +5,9 @@ mod set;
 
 pub use set::LineSet;
 
-/// How many interrupt lines there are; at most 64, since a set is kept in one word.
-pub const LINES: u8 = 32;
+/// How many interrupt lines a machine keeps; at most 64, since a set is one word. Its profile says how many of them a
+/// processor has.
+pub const LINES: u8 = 64;
 
 /// The same number, for arrays with an entry for each line.
 pub const LINE_COUNT: usize = LINES as usize;

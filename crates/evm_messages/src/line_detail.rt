@@ -5,6 +5,9 @@ use crate::message::{Message, Numeral};
 use crate::near::{command_word, near_command, spacing};
 use crate::printable::odd_byte;
 
+/// The command `step` without its operands; `stepi` is another.
+const STEP: &[u8] = b"step";
+
 /// The message of a line that has a byte which is not printable.
 pub fn byte_detail(byte: u8) -> Message {
     if byte == b'\r' {
@@ -26,6 +29,9 @@ pub fn byte_detail(byte: u8) -> Message {
 
 // A line whose first word is no command.
 fn other_form(line: &[u8]) -> &'static str {
+    if line.starts_with(b"evl-journal ") {
+        return "bad line: this is a journal, not a script; evltool replay and vardozek view take it";
+    }
     match near_command(command_word(line)) {
         Some(words) => words,
         None =>
@@ -98,8 +104,8 @@ fn event_form(line: &[u8]) -> &'static str {
 // The form that the first word of a line wants.
 fn form(line: &[u8]) -> &'static str {
     if line.starts_with(b"boot") {
-        "bad line: boot wants P RAM CAP: processors, bytes and events, decimal without leading zeros"
-    } else if line.starts_with(b"step ") {
+        "bad line: boot wants P RAM CAP or P RAM CAP W: processors, bytes, events and the ticks of a watchdog, decimal without leading zeros"
+    } else if line.starts_with(b"step ") || line == STEP {
         "bad line: step wants C N: a processor below 256 and a count of 1 to 1048576, decimal without leading zeros"
     } else {
         event_form(line)

@@ -11,6 +11,7 @@ use Rattle.evm_model.specs.declared.action.Action.TheVariants.{Nothing, Puts, Po
 use Rattle.evm_model.specs.declared.call.Outcome.{Outcome}
 use Rattle.evm_model.specs.declared.call.Outcome.TheVariants.{Returns}
 use Rattle.evm_model.specs.declared.errno.Errno.TheVariants.{Invalid}
+use Rattle.evm_model.specs.declared.limits.TheConstants.{FLAG_BITS}
 
 abbrev pub action_or_nothing : Option Action → Action
 action_or_nothing None = Nothing
@@ -27,19 +28,24 @@ action_at l p = action_in p.actions l
 unfoldable pub receive_line : ℕ → ℕ → Parts → Parts
 receive_line c l p = on_pipe c (receive (stage_of (action_at l p) l) l) p
 
--- what line l does by an action: it puts one into a semaphore, unless that has its greatest count, or posts bit l
+-- what line l does by an action: it puts one into a semaphore, unless that has its greatest count, or posts bit l, which a
+-- word has for the first lines alone
 unfoldable pub act : Action → ℕ → Parts → Parts
 act Nothing l p = p
 act (Puts s) l p = (sem_put s p).0
-act (Posts f) l p = post f (2 ^ l) p
+act (Posts f) l p = if nat_lt l FLAG_BITS then post f (2 ^ l) p else p
 
 -- ---- 14: a line has an action
+-- line l may post where a word has its bit
+abbrev pub posts_to : ℕ → ℕ → Parts → Option Action
+posts_to l f p = if nat_le FLAG_BITS l then None else (if is_none (slice_get p.flags f) then None else Some (Posts f))
+
 -- 0 none, 1 puts into a semaphore, 2 posts to a flag group
-abbrev pub action_of : ℕ → ℕ → Parts → Option Action
-action_of action object p =
+abbrev pub action_of : ℕ → ℕ → ℕ → Parts → Option Action
+action_of l action object p =
     if action == 0 then Some Nothing
     else (if action == 1 then (if is_none (slice_get p.semaphores object) then None else Some (Puts object))
-    else (if action == 2 then (if is_none (slice_get p.flags object) then None else Some (Posts object)) else None))
+    else (if action == 2 then posts_to l object p else None))
 
 abbrev pub set_line_to : Option Action → ℕ → Parts → Parts × Outcome
 set_line_to None l p = refused Invalid p
@@ -49,4 +55,4 @@ set_line_to (Some action) l p = (on_action l (λ _. action) p, Returns 0)
 unfoldable pub set_line : ℕ → ℕ → ℕ → Parts → Parts × Outcome
 set_line l action object p =
     if nat_lt l 2 then refused Invalid p
-    else (if nat_le (line_count p.profile) l then refused Invalid p else set_line_to (action_of action object p) l p)
+    else (if nat_le (line_count p.profile) l then refused Invalid p else set_line_to (action_of l action object p) l p)

@@ -13,7 +13,7 @@ PER_EVENT = 256
 
 -- no event gives more stamps than this
 abbrev pub STAMPS_PER_EVENT : ℕ
-STAMPS_PER_EVENT = 8192
+STAMPS_PER_EVENT = 16384
 
 -- no number of these is above the bound
 pub record PassageUpTo (bound : ℕ) (n : Passage) : Type 0 where
@@ -49,33 +49,33 @@ COUNT_LIMIT = 2 ^ 63
 abbrev pub PER_CALL : ℕ
 PER_CALL = 128
 
--- so does a line that is played out-of-band: line 0 ends up to 64 waits, expires up to 32 timers and spends a slice
+-- so does a line that is played out-of-band: line 0 ends up to 64 waits, expires up to 32 timers, spends a slice and demotes a task
 abbrev pub PER_OOB_LINE : ℕ
 PER_OOB_LINE = 128
 
--- .. and an out-of-band log, of 32 lines
+-- .. and an out-of-band log, of 64 lines
 abbrev pub PER_OOB_LOG : ℕ
-PER_OOB_LOG = 4096
+PER_OOB_LOG = 8192
 
--- .. and an in-band one no more: each of 32 lines wakes up to 64 tasks
+-- .. and an in-band one no more: each of 64 lines wakes up to 64 tasks
 abbrev pub PER_IN_BAND_LOG : ℕ
-PER_IN_BAND_LOG = 2048
+PER_IN_BAND_LOG = 4096
 
 -- .. and all of settling, with the other processors that are nudged
 abbrev pub PER_SETTLING : ℕ
-PER_SETTLING = 6208
+PER_SETTLING = 12352
 
 -- n stamps can be given
 abbrev pub HasStamps : ℕ → Parts → Type 0
 HasStamps n p = p.stamps + n ≤ COUNT_LIMIT
 
--- .. each count of a line can grow by as much, each mutex can be locked once more, each timer can expire, and there can be one more
--- notice; and there is a hart for each task
+-- .. each count of a line can grow by as much, there can be as many more notices, each mutex can be locked once more and each timer
+-- can expire; and there is a hart for each task
 pub record HasRoom (n : ℕ) (p : Parts) : Type 0 where
   pub stamps : HasStamps n p
   pub counts : PipesUpTo (COUNT_LIMIT - n) p.pipes
   pub holds : HeldUpTo COUNT_LIMIT p.mutexes
   pub clock : p.ticks ≤ COUNT_LIMIT
   pub timers : length p.timers ≤ TIMER_LIMIT
-  pub notices : p.notices.total ≤ COUNT_LIMIT
+  pub notices : p.notices.total + n ≤ COUNT_LIMIT
   pub harts : length p.harts ≡ length p.tasks

@@ -12,7 +12,8 @@ use Rattle.evm_model.specs.InBandCalls.{exit, putc, yield_now, spawn, wait_line,
 use Rattle.evm_model.specs.Locks.{new_mutex, lock, try_lock, unlock}
 use Rattle.evm_model.specs.Mutexes.{owns_any}
 use Rattle.evm_model.specs.Notices.{notify}
-use Rattle.evm_model.specs.OobCalls.{stall, switch_oob, switch_in_band, set_sched, set_mode, yield_oob, clock, state_bits}
+use Rattle.evm_model.specs.OobCalls.{stall, switch_oob, switch_in_band, set_sched, set_mode, yield_oob, clock, state_bits, migrate}
+use Rattle.evm_model.specs.Profiles.{offered}
 use Rattle.evm_model.specs.Ranks.{is_oob_ready}
 use Rattle.evm_model.specs.Semaphores.{new_semaphore, sem_get, sem_try_get, sem_put}
 use Rattle.evm_model.specs.Stages.{refused, may_promote}
@@ -20,7 +21,7 @@ use Rattle.evm_model.specs.State.{Parts, on_hart}
 use Rattle.evm_model.specs.Tasks.{demote, promote, is_weak}
 use Rattle.evm_model.specs.Timers.{new_timer, timer_set, timer_wait}
 use Rattle.evm_model.specs.declared.call.Call.{Call}
-use Rattle.evm_model.specs.declared.call.Call.TheVariants.{Exit as Ends, Putc, Yield, Spawn, Stall, Unstall, WaitLine, Attach, Detach, NewMutex, NewSemaphore, NewEvent, NewFlags, NewTimer, SetLine, SwitchOob, SwitchInBand, SetSched, SetMode, Lock, TryLock, Unlock, SemGet, SemTryGet, SemPut, EventWait, Signal, Broadcast, FlagsWait, FlagsPost, SleepUntil, TimerSet, TimerWait, YieldOob, StallOob, UnstallOob, Clock, StateBits}
+use Rattle.evm_model.specs.declared.call.Call.TheVariants.{Exit as Ends, Putc, Yield, Spawn, Stall, Unstall, WaitLine, Attach, Detach, NewMutex, NewSemaphore, NewEvent, NewFlags, NewTimer, SetLine, SwitchOob, SwitchInBand, SetSched, SetMode, Lock, TryLock, Unlock, SemGet, SemTryGet, SemPut, EventWait, Signal, Broadcast, FlagsWait, FlagsPost, SleepUntil, TimerSet, TimerWait, YieldOob, StallOob, UnstallOob, Clock, StateBits, Migrate}
 use Rattle.evm_model.specs.declared.call.Outcome.{Outcome}
 use Rattle.evm_model.specs.declared.call.Outcome.TheVariants.{Returns, Blocks, Exits}
 use Rattle.evm_model.specs.declared.errno.Errno.TheVariants.{NotPermitted, NoSuchCall}
@@ -69,6 +70,7 @@ call_row StallOob = (51, Some OutOfBand)
 call_row UnstallOob = (52, Some OutOfBand)
 call_row Clock = (53, None)
 call_row StateBits = (54, None)
+call_row Migrate = (55, Some OutOfBand)
 
 abbrev pub call_number : Call → ℕ
 call_number call = (call_row call).0
@@ -80,7 +82,7 @@ abbrev pub all_calls : List Call
 all_calls =
     Ends ∷ Putc ∷ Yield ∷ Spawn ∷ Stall ∷ Unstall ∷ WaitLine ∷ Attach ∷ Detach ∷ NewMutex ∷ NewSemaphore ∷ NewEvent ∷ NewFlags ∷ NewTimer ∷ SetLine ∷ SwitchOob
     ∷ SwitchInBand ∷ SetSched ∷ SetMode ∷ Lock ∷ TryLock ∷ Unlock ∷ SemGet ∷ SemTryGet ∷ SemPut ∷ EventWait ∷ Signal ∷ Broadcast
-    ∷ FlagsWait ∷ FlagsPost ∷ SleepUntil ∷ TimerSet ∷ TimerWait ∷ YieldOob ∷ StallOob ∷ UnstallOob ∷ Clock ∷ StateBits ∷ []
+    ∷ FlagsWait ∷ FlagsPost ∷ SleepUntil ∷ TimerSet ∷ TimerWait ∷ YieldOob ∷ StallOob ∷ UnstallOob ∷ Clock ∷ StateBits ∷ Migrate ∷ []
 
 -- the first of the calls that has the number
 abbrev pub numbered : ℕ → List Call → Option Call
@@ -131,6 +133,7 @@ perform StallOob hart c t p = stall OutOfBand true c p
 perform UnstallOob hart c t p = stall OutOfBand false c p
 perform Clock hart c t p = clock p
 perform StateBits hart c t p = state_bits c t p
+perform Migrate hart c t p = migrate c t (argument 0 hart) p
 
 abbrev pub is_weak_oob : Option Task → Bool
 is_weak_oob None = false
@@ -167,7 +170,7 @@ call_known (Some call) hart c t p = call_on (call_stage call) call hart c t p
 
 abbrev pub call_of_hart : Option Hart → ℕ → ℕ → Parts → Parts
 call_of_hart None c t p = p
-call_of_hart (Some hart) c t p = call_known (call_of (register_of hart.regs A7)) hart c t p
+call_of_hart (Some hart) c t p = call_known (offered p.profile (call_of (register_of hart.regs A7))) hart c t p
 
 -- task t of processor c calls a kernel
 unfoldable pub call : ℕ → ℕ → Parts → Parts

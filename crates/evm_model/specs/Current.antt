@@ -1,5 +1,5 @@
 -- The task that a processor runs, and the stage that it is on.
-use Rattle.std.specs.Prelude.{ℕ, List, Option, Some, None, Bool, false, slice_get}
+use Rattle.std.specs.Prelude.{ℕ, List, Option, Some, None, Bool, true, false, not, ◌==◌, slice_get}
 use Rattle.evm_model.specs.Ranks.{is_oob_ready}
 use Rattle.evm_model.specs.State.{Parts}
 use Rattle.evm_model.specs.declared.processor.Processor.{Processor}
@@ -21,3 +21,9 @@ is_oob_task (Some t) = is_oob_ready t.state
 abbrev pub is_oob : Option ℕ → List Task → Bool
 is_oob None tasks = false
 is_oob (Some t) tasks = is_oob_task (slice_get tasks t)
+
+-- whether a processor that should run the first runs another, or none
+abbrev pub differs : Option ℕ → Option ℕ → Bool
+differs None now = false
+differs (Some t) None = true
+differs (Some t) (Some u) = not (t == u)

@@ -3,7 +3,7 @@ use Rattle.std.specs.Prelude.{◌≡◌, ◌<◌, ◌≤◌, ℕ, ◌+◌, ◌*�
 use Rattle.evm_lines.specs.Lines.{has_line, IsLineSet}
 use Rattle.evm_lines.specs.declared.TheConstants.{LINES}
 use Rattle.evm_exec.specs.declared.hart.Hart.{Hart}
-use Rattle.evm_ranks.specs.Boosts.{HasHeight}
+use Rattle.law_ranks.specs.Boosts.{HasHeight}
 use Rattle.evm_model.specs.Actions.{action_in}
 use Rattle.evm_model.specs.Bounds.{PER_EVENT, STAMPS_PER_EVENT, PipesUpTo, HeldUpTo}
 use Rattle.evm_model.specs.Devices.{Attached, IsDevice}
@@ -12,7 +12,8 @@ use Rattle.evm_model.specs.Mutexes.{owner, lock_at, waits_on}
 use Rattle.evm_model.specs.Pipes.{Pipe}
 use Rattle.evm_model.specs.Ranks.{best, is_in_ready}
 use Rattle.evm_model.specs.Replay.{bad_boot}
-use Rattle.evm_model.specs.Current.{is_oob}
+use Rattle.evm_model.specs.Current.{current, is_oob}
+use Rattle.evm_model.specs.Watch.{watch}
 use Rattle.evm_model.specs.State.{State, Notices, Parts, profile_of}
 use Rattle.evm_model.specs.Event.{Event}
 use Rattle.evm_model.specs.declared.event.Event.TheVariants.{Tick}
@@ -60,6 +61,14 @@ pub record IsSettled (c : ℕ) (pipe : Pipe) (p : Processor) (mutexes : List Mut
   -- a stage is stalled only by a current task of it
   pub oob_staller : pipe.oob.stalled ≡ true → is_oob p.current tasks ≡ true
   pub in_band_staller : pipe.in_band.stalled ≡ true → p.in_band_task ≡ None → ⊥
+
+-- what a watchdog of this limit has counted for the task that a processor runs
+pub record IsWatched (watchdog : ℕ) (current : Option ℕ) (watch : ℕ) (tasks : List Task) : Type 0 where
+  -- nothing without a watchdog, and where no out-of-band task is current
+  pub off : watchdog ≡ 0 → watch ≡ 0
+  pub away : is_oob current tasks ≡ false → watch ≡ 0
+  -- fewer ticks than it lets a task have
+  pub below : (watchdog ≡ 0 → ⊥) → watch < watchdog
 
 -- a pipe's wire and logs are sets of lines, and there are counts for each line
 pub record IsPipe (p : Pipe) : Type 0 where
@@ -152,6 +161,7 @@ pub record AreDevices (devices : List Attached) : Type 0 where
 pub record Good (p : Parts) : Type 0 where
   pub pipes : (c : ℕ) (pipe : Pipe) → slice_get p.pipes c ≡ Some pipe → IsPipe pipe
   pub settled : (c : ℕ) (pipe : Pipe) (processor : Processor) → slice_get p.pipes c ≡ Some pipe → slice_get p.processors c ≡ Some processor → IsSettled c pipe processor p.mutexes p.tasks
+  pub watched : (c : ℕ) → IsWatched p.profile.watchdog (current c p) (watch c p) p.tasks
   -- each pc is a multiple of 4
   pub aligned : (t : ℕ) (hart : Hart) → slice_get p.harts t ≡ Some hart → hart.pc % 4 ≡ 0
   -- each task is of a processor that is there
@@ -166,6 +176,7 @@ pub record Good (p : Parts) : Type 0 where
   -- a hart for each task, a pipe for each processor, and no more of them than there may be
   pub harts_count : length p.harts ≡ length p.tasks
   pub pipes_count : length p.pipes ≡ length p.processors
+  pub watches_count : length p.watches ≡ length p.processors
   pub few_tasks : length p.tasks ≤ TASK_LIMIT
   pub few_processors : length p.processors ≤ PROCESSOR_LIMIT
 

@@ -37,3 +37,4 @@ pub mod State
 pub mod Tasks
 pub mod Timers
 pub mod Waits
+pub mod Watch

@@ -1,14 +1,16 @@
 -- What each call of the out-of-band kernel does to the parts, and what comes of it; and the calls of either stage.
-use Rattle.std.specs.Prelude.{ℕ, ◌+◌, ◌*◌, Option, Some, None, Bool, false, ◌&&◌, nat_lt, if◌then◌else◌, slice_get}
+use Rattle.std.specs.Prelude.{ℕ, ◌+◌, ◌*◌, Option, Some, None, Bool, false, not, ◌&&◌, ◌==◌, nat_lt, is_none, if◌then◌else◌, slice_get}
+use Rattle.evm_model.specs.Mutexes.{owns_any}
 use Rattle.evm_model.specs.Pipes.{set_stall}
 use Rattle.evm_model.specs.Policies.{policy_of}
 use Rattle.evm_model.specs.Current.{is_oob}
 use Rattle.evm_model.specs.Stages.{refused, bit, is_stalled, is_class, is_attached, stage_at}
-use Rattle.evm_model.specs.State.{Parts, on_pipe}
-use Rattle.evm_model.specs.Tasks.{restamp, is_live, demote, set_policy, set_mode_bits}
+use Rattle.evm_model.specs.State.{Parts, on_pipe, on_task}
+use Rattle.evm_model.specs.Tasks.{restamp, is_live, is_weak, demote, set_policy, set_mode_bits}
+use Rattle.evm_model.specs.Waits.{ready_on}
 use Rattle.evm_model.specs.declared.call.Outcome.{Outcome}
 use Rattle.evm_model.specs.declared.call.Outcome.TheVariants.{Returns}
-use Rattle.evm_model.specs.declared.errno.Errno.TheVariants.{NotPermitted, NoSuchTask, Invalid}
+use Rattle.evm_model.specs.declared.errno.Errno.TheVariants.{NotPermitted, NoSuchTask, Busy, Invalid}
 use Rattle.evm_model.specs.declared.limits.TheConstants.{MODE_LIMIT}
 use Rattle.evm_model.specs.declared.stage.Stage.{Stage}
 use Rattle.evm_model.specs.declared.stage.Stage.TheVariants.{OutOfBand}
@@ -64,3 +66,21 @@ clock p = (p, Returns p.ticks)
 unfoldable pub state_bits : ℕ → ℕ → Parts → Parts × Outcome
 state_bits c t p =
     (p, Returns (bit (is_oob (Some t) p.tasks) + 2 * bit (is_attached t p) + 4 * bit (is_stalled (stage_at t p) c p)))
+
+-- ---- 55: another processor
+-- a task of processor d: it is ready there out-of-band, but in-band if it is weak and owns no mutex
+abbrev pub moved : ℕ → Bool → Task → Task
+moved d owns task = record task { cpu = d; state = ready_on OutOfBand (is_weak task.class && not owns) }
+
+-- task t is of processor d, with a fresh stamp
+unfoldable pub move_task : ℕ → ℕ → Parts → Parts
+move_task t d p = restamp t (on_task t (moved d (owns_any t p.mutexes)) p)
+
+-- from its own processor c, where out-of-band isn't stalled; it is there already if d is c
+abbrev pub migrate_to : ℕ → ℕ → ℕ → Parts → Parts × Outcome
+migrate_to c t d p =
+    if d == c then (p, Returns 0)
+    else (if is_stalled OutOfBand c p then refused Busy p else (move_task t d p, Returns 0))
+
+unfoldable pub migrate : ℕ → ℕ → ℕ → Parts → Parts × Outcome
+migrate c t d p = if is_none (slice_get p.processors d) then refused Invalid p else migrate_to c t d p

@@ -1,9 +1,9 @@
 -- Which events are refused: a table of tests, of which the first that applies, in the order of their numbers, is answered.
 use Rattle.std.specs.Prelude.{ℕ, ◌%◌, ◌==◌, List, [], ◌∷◌, Option, Some, None, Bool, true, false, not, ◌&&◌, nat_lt, nat_le, is_none, if◌then◌else◌, slice_get, length}
 use Rattle.evm_exec.specs.declared.hart.TheConstants.{REGISTERS}
-use Rattle.evm_lines.specs.declared.TheConstants.{LINES}
 use Rattle.evm_ram.specs.Ram.{bytes_at}
 use Rattle.evm_model.specs.Commands.{is_set}
+use Rattle.evm_model.specs.Profiles.{line_count}
 use Rattle.evm_model.specs.Settle.{current}
 use Rattle.evm_model.specs.State.{State, Board}
 use Rattle.evm_model.specs.declared.limits.TheConstants.{BREAKPOINT_LIMIT, POKE_LIMIT}
@@ -33,8 +33,8 @@ number_of SeatsOut = 14
 abbrev pub no_such_cpu : ℕ → Board → Bool
 no_such_cpu c b = is_none (slice_get b.parts.processors c)
 
-abbrev pub no_such_line : ℕ → Bool
-no_such_line l = nat_le LINES l
+abbrev pub no_such_line : ℕ → Board → Bool
+no_such_line l b = nat_le (line_count b.parts.profile) l
 
 abbrev pub is_stopped : Option Processor → Bool
 is_stopped None = false
@@ -78,8 +78,8 @@ names_no_cpu _ b = false
 
 -- the event names a line that isn't there
 abbrev pub names_no_line : Event → Board → Bool
-names_no_line (Raise c l) b = no_such_line l
-names_no_line (Bell c l) b = no_such_line l
+names_no_line (Raise c l) b = no_such_line l b
+names_no_line (Bell c l) b = no_such_line l b
 names_no_line _ b = false
 
 -- the event wants a stopped processor, and this one isn't

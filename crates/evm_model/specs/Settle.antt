@@ -2,7 +2,7 @@
 use Rattle.std.specs.Prelude.{ℕ, List, [], ◌∷◌, Option, Some, None, Bool, true, false, not, ◌==◌, ◌&&◌, if◌then◌else◌, slice_get, length}
 use Rattle.evm_lines.specs.Lines.{has_line}
 use Rattle.evm_model.specs.Actions.{act, action_at}
-pub use Rattle.evm_model.specs.Current.{current_of, current, is_oob_task, is_oob}
+pub use Rattle.evm_model.specs.Current.{current_of, current, is_oob_task, is_oob, differs}
 use Rattle.evm_model.specs.Deadlines.{end_waits}
 use Rattle.evm_model.specs.Lists.{each}
 use Rattle.evm_model.specs.Pipes.{Pipe, raise, arrive, play}
@@ -11,6 +11,7 @@ use Rattle.evm_model.specs.State.{Parts, on_pipe, on_processor}
 use Rattle.evm_model.specs.Tasks.{spend_task}
 use Rattle.evm_model.specs.Timers.{expire_timers}
 use Rattle.evm_model.specs.Waits.{wake_below}
+use Rattle.evm_model.specs.Watch.{watch_was, rest_watch}
 use Rattle.evm_model.specs.declared.processor.Processor.{Processor}
 use Rattle.evm_model.specs.declared.stage.Stage.TheVariants.{OutOfBand, InBand}
 
@@ -21,9 +22,9 @@ spend (Some t) p = spend_task (slice_get p.tasks t) t p
 
 -- ---- `was`, from here on, is the task that was current on c before the event
 -- the timer's line is played on c: it goes on into the in-band log, for the in-band tick; then deadlines end waits, timers
--- expire, and that task's slice takes a tick
+-- expire, that task's slice takes a tick, and the watchdog counts one
 unfoldable pub play_tick : Option ℕ → ℕ → Parts → Parts
-play_tick was c p = spend was (expire_timers c (end_waits c (on_pipe c (arrive InBand 0) p)))
+play_tick was c p = watch_was was c (spend was (expire_timers c (end_waits c (on_pipe c (arrive InBand 0) p))))
 
 -- what an out-of-band play does, by its line: line 1 has no action
 abbrev pub handle_oob : Option ℕ → ℕ → ℕ → Parts → Parts
@@ -82,13 +83,7 @@ unfoldable pub settle_in_band : ℕ → Parts → Parts
 settle_in_band c p = if is_oob (current c p) p.tasks then p else turn_in_band c p
 
 unfoldable pub settle : Option ℕ → ℕ → Parts → Parts
-settle was c p = settle_in_band c (settle_oob was c p)
-
--- whether a processor that should run the first runs another, or none
-abbrev pub differs : Option ℕ → Option ℕ → Bool
-differs None now = false
-differs (Some t) None = true
-differs (Some t) (Some u) = not (t == u)
+settle was c p = rest_watch was c (settle_in_band c (settle_oob was c p))
 
 -- processor d has a better task than its current one, and can be nudged: it isn't stalled, and line 1 isn't on its wire
 abbrev pub wants_nudge : ℕ → Pipe → Parts → Bool

@@ -9,6 +9,7 @@ use Rattle.evm_lines.specs.declared.TheConstants.{LINES}
 use Rattle.evm_model.specs.declared.action.Action.{Action}
 use Rattle.evm_model.specs.declared.action.Action.TheVariants.{Nothing}
 use Rattle.evm_model.specs.declared.boot.Boot.{Boot}
+use Rattle.evm_model.specs.declared.limits.TheConstants.{PROFILE_LIMIT}
 use Rattle.evm_model.specs.Event.{Event}
 use Rattle.evm_model.specs.declared.mutex.Mutex.{Mutex}
 use Rattle.evm_model.specs.declared.notice.Notice.{Notice}
@@ -39,6 +40,8 @@ pub record Parts : Type 0 where
   pub processors : List Processor
   -- the interrupts of processor c are the c-th
   pub pipes : List Pipe
+  -- for how many ticks in a row the watchdog has found the out-of-band task of processor c current is the c-th
+  pub watches : List ℕ
   -- the stamp that is given next
   pub stamps : ℕ
   -- mutex m is the m-th
@@ -92,6 +95,9 @@ on_pipe c f p = record p { pipes = change f p.pipes c }
 abbrev pub on_mutex : ℕ → (Mutex → Mutex) → Parts → Parts
 on_mutex m f p = record p { mutexes = change f p.mutexes m }
 
+abbrev pub on_watch : ℕ → (ℕ → ℕ) → Parts → Parts
+on_watch c f p = record p { watches = change f p.watches c }
+
 abbrev pub on_semaphore : ℕ → (ℕ → ℕ) → Parts → Parts
 on_semaphore s f p = record p { semaphores = change f p.semaphores s }
 
@@ -131,8 +137,12 @@ first_task = new_task 0 0
 abbrev pub no_notices : Notices
 no_notices = record { kept = []; total = 0 }
 
+-- a boot of the newest profile, without a watchdog
+abbrev pub newest : ℕ → ℕ → ℕ → Boot
+newest cpus ram capacity = record { profile = PROFILE_LIMIT; watchdog = 0; cpus = cpus; ram = ram; capacity = capacity }
+
 abbrev pub profile_of : Boot → Profile
-profile_of boot = record { ram = boot.ram }
+profile_of boot = record { ram = boot.ram; version = boot.profile; watchdog = boot.watchdog }
 
 -- task 0 is current on processor 0
 unfoldable pub booted_parts : Boot → Parts
@@ -143,6 +153,7 @@ booted_parts boot = record {
   tasks = first_task ∷ [];
   processors = slice_set (replicate boot.cpus (first_processor None)) 0 (first_processor (Some 0));
   pipes = replicate boot.cpus idle_pipe;
+  watches = replicate boot.cpus 0;
   stamps = 1;
   mutexes = [];
   semaphores = [];

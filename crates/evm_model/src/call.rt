@@ -80,6 +80,8 @@ pub enum Call {
     Clock,
     /// The task's stage, whether it is attached, and whether its stage is stalled.
     StateBits,
+    /// The task goes on another processor.
+    Migrate,
 }
 
 impl Call {
@@ -126,6 +128,7 @@ impl Call {
             52 => Some(Call::UnstallOob),
             53 => Some(Call::Clock),
             54 => Some(Call::StateBits),
+            55 => Some(Call::Migrate),
             _ => None,
         }
     }
@@ -168,7 +171,8 @@ impl Call {
             | Call::TimerWait
             | Call::YieldOob
             | Call::StallOob
-            | Call::UnstallOob => Some(Stage::OutOfBand),
+            | Call::UnstallOob
+            | Call::Migrate => Some(Stage::OutOfBand),
             Call::SemPut | Call::FlagsPost | Call::Clock | Call::StateBits => None,
         }
     }

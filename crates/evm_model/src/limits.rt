@@ -49,6 +49,24 @@ pub const RAM_UNIT: u64 = 4_096;
 /// The ticks of a task of the round-robin class before it goes behind the others of its rank.
 pub const SLICE: u8 = 4;
 
+/// The newest profile; the others are 1 and 2.
+pub const PROFILE_LIMIT: u8 = 3;
+
+/// The first profile whose tasks may migrate.
+pub const MIGRATION_PROFILE: u8 = 2;
+
+/// The first profile with all lines, and with a watchdog.
+pub const WIDE_PROFILE: u8 = 3;
+
+/// How many interrupt lines a processor has in the profiles before that.
+pub const FIRST_LINES: u8 = 32;
+
+/// The most ticks after which a watchdog demotes a task.
+pub const WATCHDOG_LIMIT: u32 = 1_000_000;
+
+/// How many bits a flag group's word has, each posted by the line of its number.
+pub const FLAG_BITS: u8 = 32;
+
 /// The greatest priority of a class.
 pub const PRIORITY_LIMIT: u8 = 99;
 

@@ -1,4 +1,4 @@
-/// A notice: what a task asked for by its mode bits (EVL, "Health monitoring").
+/// What a notice tells. A task asks for the first four by its mode bits (EVL, "Health monitoring").
 #[derive(Clone, Copy, Debug, PartialEq, Eq)]
 pub enum NoticeKind {
     /// A call of the other stage demoted the task.
@@ -9,6 +9,8 @@ pub enum NoticeKind {
     Deadlock,
     /// An unlock was refused, as the task does not own the mutex.
     NotOwner,
+    /// The watchdog demoted the task, which was current out-of-band for too many ticks in a row.
+    Overran,
 }
 
 /// A notice of the health monitor.

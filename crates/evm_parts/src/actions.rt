@@ -8,7 +8,7 @@ ghost use Rattle.evm_model.specs.State.{on_action};
 
 use crate::parts::Parts;
 use evm_lines::LINES;
-use evm_model::{Action, Stage};
+use evm_model::{Action, FLAG_BITS, Stage};
 
 // The stage that receives a line with this action: out-of-band for lines 0 and 1, and where it has one.
 fn stage_of(action: Action, line: u8) -> Stage
@@ -23,9 +23,9 @@ fn stage_of(action: Action, line: u8) -> Stage
     }
 }
 
-// The bit of a line.
+// The bit of a line in the word of a flag group.
 fn bit_of(line: u8) -> u32
-    requires { line < LINES }
+    requires { line < FLAG_BITS }
     ensures { result ≡ 2 ^ line }
 {
     1 << line
@@ -60,7 +60,7 @@ impl Parts {
     }
 
     /// What a line does by an action: it puts one into a semaphore, unless that has its greatest count, or posts its own
-    /// bit to a flag group.
+    /// bit to a flag group, whose word has the bits of lines 0 to 31.
     #[tactic(auto, unfolding(evm_model::specs::Actions::act))]
     pub fn act(&mut self, action: Action, line: u8)
         requires line { line < LINES }
@@ -73,7 +73,11 @@ impl Parts {
             Action::Puts(s) => {
                 let _outcome = self.sem_put(s);
             }
-            Action::Posts(f) => self.post(f, bit_of(line)),
+            Action::Posts(f) => {
+                if line < FLAG_BITS {
+                    self.post(f, bit_of(line));
+                }
+            }
         }
     }
 }

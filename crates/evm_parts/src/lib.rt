@@ -14,6 +14,7 @@ mod semaphores;
 mod stages;
 mod tasks;
 mod timers;
+mod watching;
 
 pub use console::Console;
 pub use evm_boost::{Mutexes, Schedule};
@@ -21,5 +22,6 @@ pub use evm_health::Notices;
 pub use evm_pipe::Pipe;
 pub use evm_sync::{Actions, Events, Flags, Semaphores};
 pub use evm_task::{Asked, Harts, Tasks};
-pub use evm_tick::Timers;
+pub use evm_tick::{Timers, Watches};
 pub use parts::Parts;
+pub use watching::is_other;

@@ -10,11 +10,11 @@ use arrayvec::ArrayVec;
 use evm_boost::{Mutexes, Schedule};
 use evm_health::Notices;
 use evm_lines::LINES;
-use evm_model::{PROCESSOR_LIMIT, Processor, Profile, Stage};
+use evm_model::{FIRST_LINES, PROCESSOR_LIMIT, Processor, Profile, Stage, WIDE_PROFILE};
 use evm_pipe::Pipe;
 use evm_sync::{Actions, Events, Flags, Semaphores};
 use evm_task::{Harts, Tasks};
-use evm_tick::Timers;
+use evm_tick::{Timers, Watches};
 use std::marker::Model;
 
 /// What calls may change. No field can grow past the room that it has from the start.
@@ -32,6 +32,8 @@ pub struct Parts {
     pub processors: ArrayVec<Processor, PROCESSOR_LIMIT>,
     /// The interrupts of each processor.
     pub pipes: ArrayVec<Pipe, PROCESSOR_LIMIT>,
+    /// What the watchdog has counted on each processor.
+    pub watches: Watches,
     /// The stamp that is given next.
     pub stamps: u64,
     /// The mutexes.
@@ -69,6 +71,7 @@ impl Model for Parts {
       tasks = k.tasks;
       processors = k.processors.items;
       pipes = k.pipes.items;
+      watches = k.watches;
       stamps = k.stamps;
       mutexes = k.mutexes;
       semaphores = k.semaphores;
@@ -86,7 +89,11 @@ impl Parts {
     pub fn line_count(&self) -> u8
         ensures { result ≡ line_count self.now.profile }
     {
-        LINES
+        if self.profile.version < WIDE_PROFILE {
+            FIRST_LINES
+        } else {
+            LINES
+        }
     }
 
     /// How many processors there are, 8 at the most.

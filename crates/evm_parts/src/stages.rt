@@ -2,6 +2,7 @@
 
 ghost use Rattle.std.specs.Prelude.{◌≡◌, ◌≤◌, ◌+◌};
 ghost use Rattle.evm_model.specs.Bounds.{HasStamps};
+ghost use Rattle.evm_model.specs.OobCalls.{move_task};
 ghost use Rattle.evm_model.specs.Settle.{spend};
 ghost use Rattle.evm_model.specs.Stages.{is_stalled, is_attached, may_promote, stage_at};
 ghost use Rattle.evm_model.specs.Tasks.{demote, promote, set_policy, clear_policy, set_mode_bits, set_slice, spend_slice};
@@ -28,6 +29,20 @@ impl Parts {
     {
         self.requeue(t, TaskState::OobReady);
         self.leave_in_band(c);
+    }
+
+    /// A task goes on another processor: it is ready there out-of-band, but in-band if it is weak and owns no mutex. It has
+    /// a fresh stamp.
+    #[tactic(auto, unfolding(evm_model::specs::OobCalls::move_task, evm_model::specs::Tasks::restamp))]
+    pub fn move_task(&mut self, t: u8, cpu: u8)
+        requires room { HasStamps 1 self.old }
+        ensures row { self.new ≡ move_task t cpu self.old }
+    {
+        let stamp = self.stamps;
+        let owns = self.mutexes.owns_any(t);
+        self.schedule
+            .migrate(&mut self.tasks, &self.mutexes, t, cpu, owns, stamp);
+        self.stamps = stamp + 1;
     }
 
     /// A task has a class and a priority, and a whole slice.

@@ -8,6 +8,6 @@ pub mod Replays
 pub mod Runs
 pub mod StepLemmas
 pub use Rattle.evm_diagnostics.proofs.evm_debug as evm_debug
-pub use Rattle.evm_diagnostics.proofs.evm_rules as evm_rules
+pub use Rattle.evm_diagnostics.proofs.law_rules as law_rules
 pub use Rattle.evm_streams.proofs as evm_streams
 pub use Rattle.evm_diagnostics.proofs.evm_text as evm_text

@@ -1,6 +1,4 @@
-pub mod Idle
 pub mod Nudges
 pub mod Quiet
-pub mod Rescheduling
 pub mod Rooms
 pub mod Steps

@@ -9,8 +9,8 @@ use Rattle.evm_model.specs.Pipes.{Pipe, raise}
 use Rattle.evm_model.specs.Settle.{nudge_pipe, wants_nudge, nudge}
 use Rattle.evm_model.specs.State.{Parts, on_pipe}
 use Rattle.evm_model.proofs.Lists.{change-here, change-elsewhere, change-same, slice_get-each, same_elements}
-use Rattle.evm_rules.proofs.evm_walk.Counted.{PipesUpTo-more}
-use Rattle.evm_rules.proofs.Counting.{on_raise-up}
+use Rattle.law_rules.proofs.law_walk.Counted.{PipesUpTo-more}
+use Rattle.law_rules.proofs.Counting.{on_raise-up}
 use Rattle.evm_settle.specs.Nudges.{nudge_one, nudge_if}
 
 -- the elements below n are changed, each by its number

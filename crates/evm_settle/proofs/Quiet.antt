@@ -9,7 +9,8 @@ use Rattle.evm_model.specs.Pipes.{Pipe, play, raise}
 use Rattle.evm_model.specs.Mutexes.{owns_any}
 use Rattle.evm_model.specs.Ranks.{best, is_oob_ready, next_in_band}
 use Rattle.evm_model.specs.Settle.{current, is_oob, is_oob_task, nudge, nudge_pipe, play_in_band, play_in_band_lines, play_in_band_pipe, run_in_band, run_task, settle_in_band, take_up, turn_in_band, wants_nudge}
-use Rattle.evm_model.specs.State.{Parts, on_pipe, on_processor}
+use Rattle.evm_model.specs.State.{Parts, on_pipe, on_processor, on_watch}
+use Rattle.evm_model.specs.Watch.{rest_watch}
 use Rattle.evm_model.specs.Tasks.{restamp, is_weak}
 use Rattle.evm_model.specs.Waits.{awaits_line, is_wait_for, wake, wake_below, woken}
 use Rattle.evm_model.specs.declared.mutex.Mutex.{Mutex}
@@ -18,9 +19,9 @@ use Rattle.evm_model.specs.declared.stage.Stage.TheVariants.{InBand}
 use Rattle.evm_model.specs.declared.task.Task.{Task}
 use Rattle.evm_model.specs.declared.task.Wait.TheVariants.{Line}
 use Rattle.evm_parts.specs.evm_ready.Oob.{has_oob}
-use Rattle.evm_rules.proofs.Firsts.{best-is_oob}
-use Rattle.evm_rules.proofs.Waking.{wait-wakes}
-use Rattle.evm_rules.proofs.evm_walk.Twice.{change-twice}
+use Rattle.law_rules.proofs.Firsts.{best-is_oob}
+use Rattle.law_rules.proofs.Waking.{wait-wakes}
+use Rattle.law_rules.proofs.law_walk.Twice.{change-twice}
 use Rattle.evm_settle.specs.Steps.{choose}
 
 -- no task is ready out-of-band
@@ -185,12 +186,19 @@ turns : (c : ℕ) (k : Parts) → IsQuiet k.tasks → settle_in_band c k ≡ tur
 unfolding settle_in_band
 turns c k q = rw (current-quiet (current c k) k.tasks q) refl
 
-pub quiet-settles : (c : ℕ) (b : Bool) (k : Parts) → has_oob k.tasks ≡ false → turn_in_band c k ≡ nudge c (settle_in_band c (choose b c k))
-quiet-settles c b k h =
+-- no task is watched
+rests : (was : Option ℕ) (c : ℕ) (k : Parts) → IsQuiet k.tasks → rest_watch was c k ≡ on_watch c (λ n. 0) k
+unfolding rest_watch
+rests was c k q = rw (current-quiet (current c k) k.tasks q) refl
+
+pub quiet-settles : (was : Option ℕ) (c : ℕ) (b : Bool) (k : Parts) → has_oob k.tasks ≡ false → on_watch c (λ n. 0) (turn_in_band c k) ≡ nudge c (rest_watch was c (settle_in_band c (choose b c k)))
+quiet-settles was c b k h =
     let q : IsQuiet k.tasks = quiet-at k.tasks h in
     let chosen : IsQuiet (choose b c k).tasks = rw (choose-tasks c b k) q in
     let turned : turn_in_band c k ≡ settle_in_band c (choose b c k) = sym (turn-chosen c b k) ∙ sym (turns c (choose b c k) chosen) in
-    let told : nudge c (turn_in_band c k) ≡ turn_in_band c k = nudge-nobody c (turn_in_band c k) (quiet-turn c k q) in
-    sym told ∙ ap (nudge c) turned
+    let turn : IsQuiet (turn_in_band c k).tasks = quiet-turn c k q in
+    let rested : Parts = on_watch c (λ n. 0) (turn_in_band c k) in
+    let told : nudge c rested ≡ rested = nudge-nobody c rested turn in
+    sym told ∙ ap (nudge c) (sym (rests was c (turn_in_band c k) turn) ∙ ap (rest_watch was c) turned)
 
 pub ruleset quiet = (quiet-settles)

@@ -4,15 +4,16 @@ use Rattle.evm_model.specs.Actions.{act}
 use Rattle.evm_model.specs.Bounds.{COUNT_LIMIT, PipesUpTo}
 use Rattle.evm_model.specs.Deadlines.{end_waits}
 use Rattle.evm_model.specs.Pipes.{arrive, play}
-use Rattle.evm_model.specs.Settle.{play_tick}
+use Rattle.evm_model.specs.Settle.{spend, play_tick}
 use Rattle.evm_model.specs.State.{Parts, on_pipe}
 use Rattle.evm_model.specs.Timers.{expire_timers}
 use Rattle.evm_model.specs.declared.action.Action.{Action}
 use Rattle.evm_model.specs.declared.stage.Stage.{Stage}
 use Rattle.evm_model.specs.declared.stage.Stage.TheVariants.{InBand}
-use Rattle.evm_rules.proofs.evm_walk.Counted.{PipesUpTo-more}
-use Rattle.evm_rules.proofs.Counting.{on_play-up}
-use Rattle.evm_rules.proofs.Spending.{end_waits-gives, expire_timers-gives, act-gives, of-spends}
+use Rattle.law_rules.proofs.law_walk.Counted.{PipesUpTo-more}
+use Rattle.law_rules.proofs.law_walk.Playing.{act_apart, spend_apart, timers_apart, waits_apart}
+use Rattle.law_rules.proofs.Counting.{on_play-up}
+use Rattle.law_rules.proofs.Spending.{end_waits-gives, expire_timers-gives, act-gives, of-spends, watch-gives}
 
 -- one play before one arrival
 pub room-play : (c : ℕ) (stage : Stage) (l : ℕ) (k : Parts) → PipesUpTo (COUNT_LIMIT - 1) k.pipes → PipesUpTo COUNT_LIMIT (on_pipe c (play stage l) k).pipes
@@ -30,11 +31,24 @@ unfolding play_tick
 tick-clock was c k =
     let arrived : Parts = on_pipe c (arrive InBand 0) k in
     let waited : Parts = end_waits c arrived in
-    (of-spends was (expire_timers c waited)).ticks ∙ (expire_timers-gives c waited).ticks ∙ waits-clock c arrived
+    (watch-gives was c (spend was (expire_timers c waited))).ticks ∙ (of-spends was (expire_timers c waited)).ticks ∙ (expire_timers-gives c waited).ticks ∙ waits-clock c arrived
 
 pub act-clock : (action : Action) (l : ℕ) (k : Parts) → (act action l k).ticks ≡ k.ticks
 act-clock action l k = (act-gives action l k).ticks
 
-pub ruleset rooms = (room-play, room-less)
+-- ---- and makes no notice before the watchdog's
+pub waits-noted : (c : ℕ) (k : Parts) → (end_waits c k).notices ≡ k.notices
+waits-noted c k = (waits_apart c k).notices
 
-pub ruleset clocks = (waits-clock)
+pub timers-noted : (c : ℕ) (k : Parts) → (expire_timers c k).notices ≡ k.notices
+timers-noted c k = (timers_apart c k).notices
+
+pub spend-noted : (was : Option ℕ) (k : Parts) → (spend was k).notices ≡ k.notices
+spend-noted was k = (spend_apart was k).notices
+
+pub act-noted : (action : Action) (l : ℕ) (k : Parts) → (act action l k).notices ≡ k.notices
+act-noted action l k = (act_apart action l k).notices
+
+pub ruleset rooms = (room-play, room-less, act-noted)
+
+pub ruleset clocks = (waits-clock, waits-noted, timers-noted, spend-noted)

@@ -1,13 +1,15 @@
 -- Settling out-of-band in two steps, and the room that each takes up.
 use Rattle.std.proofs.Common.{◌≡◌, ℕ, ◌+◌, ◌-◌, Bool, true, false, Option, Some, None, [], refl, ap, sym, ◌∙◌, arith}
-use Rattle.std.specs.Prelude.{not, slice_get, if◌then◌else◌}
+use Rattle.std.specs.Prelude.{not, ◌&&◌, slice_get, if◌then◌else◌}
+use Rattle.evm_lines.specs.declared.TheConstants.{LINES}
 use Rattle.evm_model.specs.Bounds.{COUNT_LIMIT, PER_IN_BAND_LOG, PER_OOB_LOG, PER_SETTLING, HasStamps, PipesUpTo}
 use Rattle.evm_model.specs.Pipes.{Pipe}
-use Rattle.evm_model.specs.Settle.{play_oob_lines, run_best, settle_oob, settle_oob_pipe, settle_in_band, settle, play_in_band_lines, play_in_band_pipe, nudge, settle_and_nudge}
-use Rattle.evm_model.specs.State.{Parts}
+use Rattle.evm_model.specs.Settle.{current, is_oob, differs, play_oob_lines, run_best, settle_oob, settle_oob_pipe, settle_in_band, settle, play_in_band_lines, play_in_band_pipe, nudge, settle_and_nudge}
+use Rattle.evm_model.specs.State.{Parts, on_watch}
+use Rattle.evm_model.specs.Watch.{rest_watch}
 use Rattle.evm_model.specs.declared.limits.TheConstants.{PROCESSOR_LIMIT}
-use Rattle.evm_rules.proofs.Bounded.{AreWithin, within-more, within-settle_oob, within-settle_in_band}
-use Rattle.evm_rules.proofs.evm_walk.Counted.{PipesUpTo-more}
+use Rattle.law_rules.proofs.Bounded.{AreWithin, within-more, within-settle_oob, within-settle_in_band}
+use Rattle.law_rules.proofs.law_walk.Counted.{PipesUpTo-more}
 use Rattle.evm_settle.specs.Steps.{play_oob_pipe, chooses, choose}
 
 -- ---- the two steps
@@ -24,9 +26,9 @@ unfolding settle_oob
 settle_oob-steps was c k = pipe-steps was c (slice_get k.pipes c) k
 
 pub settle_and_nudge-steps : (was : Option ℕ) (c : ℕ) (k : Parts)
-    → nudge c (settle_in_band c (choose (chooses (slice_get k.pipes c)) c (play_oob_pipe (slice_get k.pipes c) was c k))) ≡ settle_and_nudge was c k
+    → nudge c (rest_watch was c (settle_in_band c (choose (chooses (slice_get k.pipes c)) c (play_oob_pipe (slice_get k.pipes c) was c k)))) ≡ settle_and_nudge was c k
 unfolding settle_and_nudge settle
-settle_and_nudge-steps was c k = ap (λ (x : Parts). nudge c (settle_in_band c x)) (sym (settle_oob-steps was c k))
+settle_and_nudge-steps was c k = ap (λ (x : Parts). nudge c (rest_watch was c (settle_in_band c x))) (sym (settle_oob-steps was c k))
 
 -- ---- choosing changes only what is current
 pub choose-pipes : (c : ℕ) (b : Bool) (k : Parts) → (choose b c k).pipes ≡ k.pipes
@@ -45,7 +47,7 @@ room-first k w = PipesUpTo-more (COUNT_LIMIT - PER_SETTLING) (COUNT_LIMIT - PER_
 pub room-played : (was : Option ℕ) (c : ℕ) (k : Parts) → AreWithin (COUNT_LIMIT - PER_SETTLING) k → AreWithin (COUNT_LIMIT - PER_IN_BAND_LOG) (play_oob_pipe (slice_get k.pipes c) was c k)
 room-played was c k w =
     let x : Parts = play_oob_pipe (slice_get k.pipes c) was c k in
-    let all : AreWithin (COUNT_LIMIT - PER_IN_BAND_LOG) (settle_oob was c k) = within-more (COUNT_LIMIT - PER_SETTLING + 64) (COUNT_LIMIT - PER_IN_BAND_LOG) (settle_oob was c k) (omega arith) (within-settle_oob (COUNT_LIMIT - PER_SETTLING) was c k w) in
+    let all : AreWithin (COUNT_LIMIT - PER_IN_BAND_LOG) (settle_oob was c k) = within-more (COUNT_LIMIT - PER_SETTLING + LINES) (COUNT_LIMIT - PER_IN_BAND_LOG) (settle_oob was c k) (omega arith) (within-settle_oob (COUNT_LIMIT - PER_SETTLING) was c k w) in
     let same : x.pipes ≡ (settle_oob was c k).pipes = sym (choose-pipes c (chooses (slice_get k.pipes c)) x) ∙ ap (λ (z : Parts). z.pipes) (sym (settle_oob-steps was c k)) in
     record { are = rw same all.are; up = rw same all.up }
 
@@ -64,15 +66,22 @@ pub stamps-chosen : (c : ℕ) (b : Bool) (k : Parts) → HasStamps PER_IN_BAND_L
 stamps-chosen c b k h = rw (choose-stamps c b k) h
 
 -- the in-band part follows
-pub room-settled : (c : ℕ) (b : Bool) (k : Parts) → AreWithin (COUNT_LIMIT - PER_IN_BAND_LOG) k → PipesUpTo (COUNT_LIMIT - PROCESSOR_LIMIT) (settle_in_band c (choose b c k)).pipes
-room-settled c b k w =
-    let all : AreWithin (COUNT_LIMIT - PER_IN_BAND_LOG + 32) (settle_in_band c (choose b c k)) = within-settle_in_band (COUNT_LIMIT - PER_IN_BAND_LOG) c (choose b c k) (choose-within (COUNT_LIMIT - PER_IN_BAND_LOG) c b k w) in
-    PipesUpTo-more (COUNT_LIMIT - PER_IN_BAND_LOG + 32) (COUNT_LIMIT - PROCESSOR_LIMIT) _ (omega arith) all.up
+rest-pipes : (oob : Bool) (c : ℕ) (k : Parts) → (if oob then k else on_watch c (λ n. 0) k).pipes ≡ k.pipes
+rest-pipes true c k = refl
+rest-pipes false c k = refl
+
+-- .. and what the watchdog counts changes no pipe
+pub room-settled : (was : Option ℕ) (c : ℕ) (b : Bool) (k : Parts) → AreWithin (COUNT_LIMIT - PER_IN_BAND_LOG) k → PipesUpTo (COUNT_LIMIT - PROCESSOR_LIMIT) (rest_watch was c (settle_in_band c (choose b c k))).pipes
+unfolding rest_watch
+room-settled was c b k w =
+    let settled : Parts = settle_in_band c (choose b c k) in
+    let all : AreWithin (COUNT_LIMIT - PER_IN_BAND_LOG + LINES) settled = within-settle_in_band (COUNT_LIMIT - PER_IN_BAND_LOG) c (choose b c k) (choose-within (COUNT_LIMIT - PER_IN_BAND_LOG) c b k w) in
+    rw (rest-pipes (is_oob (current c settled) settled.tasks && not (differs (current c settled) was)) c settled) (PipesUpTo-more (COUNT_LIMIT - PER_IN_BAND_LOG + LINES) (COUNT_LIMIT - PROCESSOR_LIMIT) _ (omega arith) all.up)
 
 -- ---- where nothing is played
 pub settle-unplayed : (was : Option ℕ) (c : ℕ) (b : Bool) (k : Parts) → b ≡ chooses (slice_get k.pipes c) → play_oob_pipe (slice_get k.pipes c) was c k ≡ k
-    → nudge c (settle_in_band c (choose b c k)) ≡ settle_and_nudge was c k
-settle-unplayed was c b k chosen same = rw chosen (ap (λ (x : Parts). nudge c (settle_in_band c (choose (chooses (slice_get k.pipes c)) c x))) (sym same) ∙ settle_and_nudge-steps was c k)
+    → nudge c (rest_watch was c (settle_in_band c (choose b c k))) ≡ settle_and_nudge was c k
+settle-unplayed was c b k chosen same = rw chosen (ap (λ (x : Parts). nudge c (rest_watch was c (settle_in_band c (choose (chooses (slice_get k.pipes c)) c x)))) (sym same) ∙ settle_and_nudge-steps was c k)
 
 same-if : (b : Bool) (k : Parts) → (if b then k else k) ≡ k
 same-if true k = refl

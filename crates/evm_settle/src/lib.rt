@@ -7,6 +7,6 @@ mod settling;
 
 pub use evm_parts::{
     Actions, Console, Events, Flags, Harts, Mutexes, Notices, Parts, Pipe, Schedule, Semaphores,
-    Tasks, Timers,
+    Tasks, Timers, Watches,
 };
 pub use settling::settle_and_nudge;

@@ -1,21 +1,10 @@
 ghost use Rattle.std.specs.Prelude.{◌≡◌, ◌-◌, true};
 ghost use Rattle.evm_model.specs.Bounds.{COUNT_LIMIT, PipesUpTo};
-ghost use Rattle.evm_model.specs.Settle.{nudge, differs, wants_nudge};
+ghost use Rattle.evm_model.specs.Settle.{nudge, wants_nudge};
 ghost use Rattle.evm_settle.specs.Nudges.{nudge_one};
 
 use evm_model::{PROCESSOR_LIMIT, Stage};
-use evm_parts::{Parts, Pipe};
-
-// Whether a processor that should run the first runs another, or none.
-fn is_other(best: Option<u8>, current: Option<u8>) -> bool
-    ensures { result ≡ differs best current }
-{
-    match (best, current) {
-        (None, _) => false,
-        (Some(_), None) => true,
-        (Some(a), Some(b)) => a != b,
-    }
-}
+use evm_parts::{Parts, Pipe, is_other};
 
 // Whether a processor has a better task than its current one, and can be nudged.
 pub(crate) fn wants_nudge(parts: &Parts, d: u8, pipe: &Pipe) -> bool

@@ -6,21 +6,24 @@ use evm_lines::{LINES, LineSet};
 use evm_model::{Stage, TASK_LIMIT};
 use evm_parts::Parts;
 
-// Plays the timer's line: it goes on into the in-band log, waits end by their deadlines, timers expire, and the slice of
-// the task that was current takes a tick. Apart, so that other lines have the registers.
+// Plays the timer's line: it goes on into the in-band log, waits end by their deadlines, timers expire, the slice of the
+// task that was current takes a tick, and so does the watchdog. Apart, so that other lines have the registers.
 #[inline(never)]
 #[tactic(auto, using(crate::proofs::Rooms::clocks), unfolding(evm_model::specs::Settle::play_tick))]
 fn play_tick(parts: &mut Parts, was: Option<u8>, c: u8)
     requires room { PipesUpTo COUNT_LIMIT parts.old.pipes }
     requires stamps { HasStamps PER_OOB_LINE parts.old }
     requires clock { parts.old.ticks ≤ COUNT_LIMIT }
+    requires notices { parts.old.notices.total ≤ COUNT_LIMIT }
     ensures row { parts.new ≡ play_tick was c parts.old }
     ensures stamps { parts.new.stamps ≤ parts.old.stamps + PER_OOB_LINE }
+    ensures notices { parts.new.notices.total ≤ parts.old.notices.total + 1 }
 {
     parts.arrive(c, Stage::InBand, 0);
     parts.end_waits(c);
     parts.expire_timers(c);
     parts.spend(was);
+    parts.watch_was(was, c);
 }
 
 // Plays a line out-of-band: the timer's line, or one that does what its action says.
@@ -30,7 +33,9 @@ fn play_oob(parts: &mut Parts, was: Option<u8>, c: u8, line: u8)
     requires room { PipesUpTo (COUNT_LIMIT - 1) parts.old.pipes }
     requires stamps { HasStamps PER_OOB_LINE parts.old }
     requires clock { parts.old.ticks ≤ COUNT_LIMIT }
+    requires notices { parts.old.notices.total ≤ COUNT_LIMIT }
     ensures row { parts.new ≡ play_oob was c line parts.old }
+    ensures notices { parts.new.notices.total ≤ parts.old.notices.total + 1 }
     ensures stamps { parts.new.stamps ≤ parts.old.stamps + PER_OOB_LINE }
     ensures clock { parts.new.ticks ≡ parts.old.ticks }
 {
@@ -50,6 +55,7 @@ pub(crate) fn play_oob_lines(parts: &mut Parts, was: Option<u8>, c: u8, lines: L
     requires room { PipesUpTo (COUNT_LIMIT - PER_OOB_LOG) parts.old.pipes }
     requires stamps { HasStamps PER_OOB_LOG parts.old }
     requires clock { parts.old.ticks ≤ COUNT_LIMIT }
+    requires notices { parts.old.notices.total + LINES ≤ COUNT_LIMIT }
     ensures row { parts.new ≡ play_oob_lines was c lines parts.old }
     ensures stamps { parts.new.stamps ≤ parts.old.stamps + PER_OOB_LOG }
 {

@@ -1,11 +1,13 @@
 ghost use Rattle.std.specs.Prelude.{◌≡◌, ◌≤◌, ◌+◌, ◌-◌, ℕ, true, slice_get, IfSome, Option};
 ghost use Rattle.evm_model.specs.Bounds.{COUNT_LIMIT, PER_IN_BAND_LOG, PER_OOB_LOG, PER_SETTLING, HasStamps, PipesUpTo};
 ghost use Rattle.evm_model.specs.Settle.{turn_in_band, settle_in_band, run_in_band, nudge, settle_and_nudge, play_in_band_pipe};
-ghost use Rattle.evm_rules.specs.Within.{AreWithin};
+ghost use Rattle.evm_model.specs.Watch.{rest_watch};
+ghost use Rattle.law_rules.specs.Within.{AreWithin};
 ghost use Rattle.evm_settle.specs.Steps.{play_oob_pipe, chooses, choose};
 
 use crate::nudging::nudge;
 use crate::playing::{play_in_band_lines, play_oob_lines};
+use evm_lines::LINES;
 use evm_model::Stage;
 use evm_parts::Parts;
 
@@ -15,6 +17,7 @@ fn play_oob_log(parts: &mut Parts, was: Option<u8>, c: u8) -> bool
     requires room { PipesUpTo (COUNT_LIMIT - PER_OOB_LOG) parts.old.pipes }
     requires stamps { HasStamps PER_OOB_LOG parts.old }
     requires clock { parts.old.ticks ≤ COUNT_LIMIT }
+    requires notices { parts.old.notices.total + LINES ≤ COUNT_LIMIT }
     ensures row { parts.new ≡ play_oob_pipe (slice_get parts.old.pipes c) was c parts.old }
     ensures stamps { parts.new.stamps ≤ parts.old.stamps + PER_OOB_LOG }
     ensures chooses { result ≡ chooses (slice_get parts.old.pipes c) }
@@ -130,29 +133,31 @@ fn settle_in_band(parts: &mut Parts, c: u8)
 
 // What follows once the out-of-band log is played, where a task is ready out-of-band.
 #[tactic(auto, using(crate::proofs::Steps::steps))]
-fn settle_oob_ready(parts: &mut Parts, c: u8, chooses: bool)
+fn settle_oob_ready(parts: &mut Parts, was: Option<u8>, c: u8, chooses: bool)
     requires room { AreWithin (COUNT_LIMIT - PER_IN_BAND_LOG) parts.old }
     requires stamps { HasStamps PER_IN_BAND_LOG parts.old }
-    ensures { parts.new ≡ nudge c (settle_in_band c (choose chooses c parts.old)) }
+    ensures { parts.new ≡ nudge c (rest_watch was c (settle_in_band c (choose chooses c parts.old))) }
 {
     choose(parts, c, chooses);
     settle_in_band(parts, c);
+    parts.rest_watch(was, c);
     nudge(parts, c);
 }
 
 // What follows once the out-of-band log is played. Where no task is ready out-of-band no processor has a best one, so the
-// in-band part is all of it.
+// in-band part is all of it, and no task is watched.
 #[inline(always)]
 #[tactic(auto, using(crate::proofs::Quiet::quiet))]
-fn settle_played(parts: &mut Parts, c: u8, chooses: bool)
+fn settle_played(parts: &mut Parts, was: Option<u8>, c: u8, chooses: bool)
     requires room { AreWithin (COUNT_LIMIT - PER_IN_BAND_LOG) parts.old }
     requires stamps { HasStamps PER_IN_BAND_LOG parts.old }
-    ensures { parts.new ≡ nudge c (settle_in_band c (choose chooses c parts.old)) }
+    ensures { parts.new ≡ nudge c (rest_watch was c (settle_in_band c (choose chooses c parts.old))) }
 {
     if parts.has_oob() {
-        settle_oob_ready(parts, c, chooses);
+        settle_oob_ready(parts, was, c, chooses);
     } else {
         turn_in_band(parts, c);
+        parts.rest(c);
     }
 }
 
@@ -164,10 +169,11 @@ fn play_and_settle(parts: &mut Parts, was: Option<u8>, c: u8)
     requires room { AreWithin (COUNT_LIMIT - PER_SETTLING) parts.old }
     requires stamps { HasStamps PER_SETTLING parts.old }
     requires clock { parts.old.ticks ≤ COUNT_LIMIT }
+    requires notices { parts.old.notices.total + LINES ≤ COUNT_LIMIT }
     ensures { parts.new ≡ settle_and_nudge was c parts.old }
 {
     let chooses = play_oob_log(parts, was, c);
-    settle_played(parts, c, chooses);
+    settle_played(parts, was, c, chooses);
 }
 
 // Where the out-of-band log has nothing to play: whether the best task is to be current then.
@@ -196,10 +202,11 @@ pub fn settle_and_nudge(parts: &mut Parts, was: Option<u8>, c: u8)
     requires room { AreWithin (COUNT_LIMIT - PER_SETTLING) parts.old }
     requires stamps { HasStamps PER_SETTLING parts.old }
     requires clock { parts.old.ticks ≤ COUNT_LIMIT }
+    requires notices { parts.old.notices.total + LINES ≤ COUNT_LIMIT }
     ensures { parts.new ≡ settle_and_nudge was c parts.old }
 {
     match chooses_at_once(parts, c) {
-        Some(chooses) => settle_played(parts, c, chooses),
+        Some(chooses) => settle_played(parts, was, c, chooses),
         None => play_and_settle(parts, was, c),
     }
 }

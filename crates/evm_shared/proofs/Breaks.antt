@@ -4,7 +4,7 @@ use Rattle.std.proofs.lemmas.List.{get_or-take, length-take}
 use Rattle.std.specs.Prelude.{All}
 use Rattle.evm_model.specs.State.{State}
 use Rattle.evm_shared.proofs.Walks.{le_or_lt}
-use Rattle.evm_shared.specs.Checks.{IsProper, PortsHold, ReceiptBreaks, ReceiptsHold}
+use Rattle.evm_shared.specs.Checks.{PortsHold, ReceiptBreaks, ReceiptsHold}
 use Rattle.evm_shared.specs.Cursors.{AreApartFrom, AreInTurn, AreRising, IsInTurn}
 use Rattle.evm_shared.specs.Ports.{PortValue}
 use Rattle.evm_shared.specs.Receipts.{AreApart}

@@ -1,22 +1,29 @@
 -- What holds of the machine under the lock.
 use Rattle.std.proofs.Common.{◌≡◌, ℕ, ◌+◌, ◌/◌, ◌^◌, ◌≢◌, inl, inr, [], ◌∷◌, ◌++◌, length, refl, sym, ap, ◌∙◌, arith, ⊎_elim, Err, append_assoc, bit_and, length-append}
+use Rattle.std.proofs.lemmas.Bool.{ltb-false}
+use Rattle.std.proofs.lemmas.Bool.Decides.{nat_tests}
 use Rattle.std.proofs.lemmas.List.{append-nil}
 use Rattle.evm_core.proofs.Outcomes.{booted_processors, same_boot, step_refusals, tick_refusals}
 use Rattle.evm_model.specs.Good.{GoodState}
 use Rattle.evm_model.specs.Replay.{apply, IsReplayOf}
-use Rattle.evm_model.specs.State.{State}
+use Rattle.evm_model.specs.Profiles.{line_count}
+use Rattle.evm_model.specs.State.{State, profile_of}
 use Rattle.evm_model.specs.declared.boot.Boot.{Boot}
+use Rattle.evm_model.specs.declared.limits.TheConstants.{WIDE_PROFILE}
+use Rattle.evm_model.specs.declared.profile.Profile.{Profile}
+use Rattle.evm_lines.specs.declared.TheConstants.{LINES}
 use Rattle.evm_model.specs.declared.event.Event.TheVariants as event
 use Rattle.evm_model.specs.declared.refusal.Refusal.{Refusal}
 use Rattle.evm_shared.proofs.Bells.{bells_off, bells_on}
+use Rattle.evm_shared.proofs.Counting.{same_counts}
 use Rattle.evm_model.specs.Event.{Event}
 use Rattle.evm_model.specs.declared.event.Answer.{Answer}
 use Rattle.evm_model.specs.declared.refusal.Refusal.TheVariants.{Full}
-use Rattle.evm_shared.specs.EventCounts.{kind_counts, plus}
-use Rattle.evm_shared.specs.Ports.{MakesOne, PortValue, Records, RefusesCpu, recorded}
+use Rattle.evm_shared.specs.EventCounts.{kind_counts, none, plus}
+use Rattle.evm_shared.specs.Ports.{IsAccounted, lacks_lines, MakesOne, PortValue, Records, RefusesCpu, recorded}
 use Rattle.evm_shared.specs.declared.event_counts.EventCounts.{EventCounts}
 use Rattle.evm_shared.specs.declared.receipt.Made.TheVariants.{One}
-use Rattle.std.specs.Prelude.{Result, Ok, IfErr}
+use Rattle.std.specs.Prelude.{Result, Ok, IfErr, false, nat_lt, ◌<◌, ◌≤◌}
 use Rattle.evm_shared.specs.Receipts.{bells_below}
 
 -- the machine has the boot of the one that was shared
@@ -25,6 +32,26 @@ booted_as start s replays = sym (ap (λ (t : State). t.boot) replays.replayed) �
 
 pub cpus_of : (start s : State) → GoodState s → IsReplayOf start s → length s.board.parts.processors ≡ start.boot.cpus
 cpus_of start s good replays = booted_processors s good ∙ ap (λ (b : Boot). b.cpus) (booted_as start s replays)
+
+-- the lines of a machine of a wide profile
+wide : (p : Profile) → WIDE_PROFILE ≤ p.version → line_count p ≡ LINES
+wide p all = let late : nat_lt p.version WIDE_PROFILE ≡ false = grind (arith, nat_tests) in rw late refl
+
+pub is_line : (s : State) (line : ℕ) → GoodState s → WIDE_PROFILE ≤ s.boot.profile → line < LINES → line < line_count s.board.parts.profile
+is_line s line good all low =
+    let whole : line_count s.board.parts.profile ≡ LINES = ap line_count good.profile ∙ wide (profile_of s.boot) all in
+    omega (arith, low, whole)
+
+-- a machine that has all lines comes under the lock
+pub accounted : (start s : State) (base book : EventCounts) → IsReplayOf start s → lacks_lines s.boot ≡ false → kind_counts s.journal ≡ base → book ≡ none → IsAccounted start base s book
+accounted start s base book replays wide counted unused = record {
+  replays = replays;
+  lines = omega (arith, ltb-false s.boot.profile WIDE_PROFILE wide, ap (λ (b : Boot). b.profile) (booted_as start s replays));
+  counted = same_counts _ _
+      (omega (arith, ap (λ (x : EventCounts). x.steps) counted, ap (λ (x : EventCounts). x.steps) unused))
+      (omega (arith, ap (λ (x : EventCounts). x.bells) counted, ap (λ (x : EventCounts). x.bells) unused))
+      (omega (arith, ap (λ (x : EventCounts). x.others) counted, ap (λ (x : EventCounts). x.others) unused));
+}
 
 -- why a Step is refused on a replay of start
 pub refuses : (start s : State) (c : ℕ) (why : Refusal) → GoodState s → IsReplayOf start s → apply s (event.Step c) ≡ Err why → RefusesCpu start c why

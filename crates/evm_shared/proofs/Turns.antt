@@ -1,5 +1,5 @@
 -- Turns of a worker, one after the other.
-use Rattle.std.proofs.Common.{◌≡◌, ℕ, zero, suc, ◌+◌, subst, arith}
+use Rattle.std.proofs.Common.{◌≡◌, ℕ, suc, ◌+◌, subst, arith}
 use Rattle.evm_model.specs.State.{State}
 use Rattle.evm_shared.specs.Workers.{MakesTurn, MakesTurns, WorkerValue}
 

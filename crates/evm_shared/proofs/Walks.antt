@@ -4,7 +4,7 @@ use Rattle.std.proofs.lemmas.Bool.{eqb-true, eqb-false}
 use Rattle.std.proofs.lemmas.List.{get_or-take, get_or_read_under, length-take}
 use Rattle.std.proofs.lemmas.List.Elements.{All-more}
 use Rattle.std.specs.Prelude.{All, Bool, true, false, ◌==◌, if◌then◌else◌}
-use Rattle.evm_shared.specs.Cursors.{AreApartFrom, AreRising, IsBehind, IsEnd, end_with}
+use Rattle.evm_shared.specs.Cursors.{AreRising, IsBehind, IsEnd, end_with}
 use Rattle.evm_shared.specs.Receipts.{AreApart, IsBefore, IsPosition, made_events}
 use Rattle.evm_shared.specs.declared.receipt.Receipt.{Receipt}
 

@@ -7,9 +7,11 @@ use Rattle.evm_exec.specs.Burst.{Speculated}
 use Rattle.evm_lines.specs.declared.TheConstants.{LINES}
 use Rattle.evm_model.specs.Event.{Event}
 use Rattle.evm_model.specs.Replay.{apply, start, IsReplayOf}
-use Rattle.evm_model.specs.State.{State}
+use Rattle.evm_model.specs.State.{State, newest}
+use Rattle.evm_model.specs.declared.boot.Boot.{Boot}
 use Rattle.evm_model.specs.declared.event.Answer.{Answer}
 use Rattle.evm_model.specs.declared.event.Event.TheVariants.{Step}
+use Rattle.evm_model.specs.declared.limits.TheConstants.{WIDE_PROFILE}
 use Rattle.evm_model.specs.declared.refusal.Refusal.{Refusal}
 use Rattle.evm_model.specs.declared.refusal.Refusal.TheVariants.{Full, NoSuchCpu, BadSize, NoMemory}
 use Rattle.evm_shared.specs.EventCounts.{counts, none, plus, kind_counts}
@@ -34,9 +36,10 @@ pub record LockedValue : Type 0 where
   pub machine : State
   pub book : EventCounts
 
--- the machine is its journal's replay from start, and its journal has as many events of each kind as base and book
+-- the machine is its journal's replay from start, which has all lines, and its journal has as many events of each kind as base and book
 pub record IsAccounted (start : State) (base : EventCounts) (machine : State) (book : EventCounts) : Type 0 where
   pub replays : IsReplayOf start machine
+  pub lines : WIDE_PROFILE ≤ start.boot.profile
   pub counted : kind_counts machine.journal ≡ plus base book
 
 -- the events made through it, its receipts and the room for more, the journal's length when it was made, and its marks
@@ -59,17 +62,21 @@ made_by (p ∷ ports) = plus p.share (made_by ports)
 
 -- no machine: it has no processor
 abbrev pub no_machine : State
-no_machine = start [] (record { cpus = 0; ram = 0; capacity = 0 })
+no_machine = start [] (newest 0 0 0)
 
 -- a number of ports that is outside its limits
 abbrev pub bad_ports : ℕ → Bool
 bad_ports n = if n == 0 then true else nat_lt PORT_LIMIT n
 
--- why a machine is not shared by n ports, with room for m receipts each
-abbrev pub RefusesPorts : ℕ → ℕ → Refusal → Type 0
-RefusesPorts ports receipts BadSize = bad_ports ports ≡ true
-RefusesPorts ports receipts NoMemory = (bad_ports ports ≡ false) × RefusedWithin (ports + receipts)
-RefusesPorts ports receipts _ = ⊥
+-- a machine of this boot has fewer lines than bells have
+abbrev pub lacks_lines : Boot → Bool
+lacks_lines boot = nat_lt boot.profile WIDE_PROFILE
+
+-- why a machine of this boot is not shared by n ports, with room for m receipts each
+abbrev pub RefusesPorts : Boot → ℕ → ℕ → Refusal → Type 0
+RefusesPorts boot ports receipts BadSize = (lacks_lines boot ≡ true) ⊎ (bad_ports ports ≡ true)
+RefusesPorts boot ports receipts NoMemory = (lacks_lines boot ≡ false) × (bad_ports ports ≡ false) × RefusedWithin (ports + receipts)
+RefusesPorts boot ports receipts _ = ⊥
 
 -- ---- what a call leaves of its port
 

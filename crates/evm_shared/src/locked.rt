@@ -3,6 +3,7 @@ ghost use Rattle.evm_lines.specs.declared.TheConstants.{LINES};
 ghost use Rattle.evm_model.specs.Event.{event_lent};
 ghost use Rattle.evm_model.specs.Replay.{IsReplayOf};
 ghost use Rattle.evm_model.specs.State.{State};
+ghost use Rattle.evm_model.specs.declared.limits.TheConstants.{WIDE_PROFILE};
 ghost use Rattle.evm_shared.specs.Ports.{HasBellRoom, MakesBells, MakesOne, MakesSteps, RefusesCpu, RefusesEither, with_room};
 ghost use Rattle.evm_shared.specs.Receipts.{made_events};
 
@@ -57,7 +58,8 @@ impl<D: Device, O: Origin, S: Ledger, B: Ledger, T: Ledger> Model for Locked<D, 
 }
 
 // A Bell of a processor for each line of a word, in rising order. Returns how many.
-fn ring_all<D: Device>(machine: &mut Machine<D>, cpu: u8, word: u32) -> u32
+fn ring_all<D: Device>(machine: &mut Machine<D>, cpu: u8, word: u64) -> u32
+    requires profile { WIDE_PROFILE ≤ machine.old.boot.profile }
     requires cpu { cpu < length machine.old.board.parts.processors }
     requires room { HasBellRoom machine.old }
     ensures count { result ≡ length (made_events (Made.Bells cpu word)) }
@@ -66,6 +68,7 @@ fn ring_all<D: Device>(machine: &mut Machine<D>, cpu: u8, word: u32) -> u32
 {
     let mut count = 0;
     for line in 0..LINES {
+        machine.rules();
         if (word >> line) & 1 == 1 {
             let Ok(_) = machine.apply(Event::Bell(cpu, line)) else {
                 unreachable!()
@@ -84,7 +87,7 @@ impl<D: Device, O: Origin, S: Ledger, B: Ledger, T: Ledger> Locked<D, O, S, B, T
         bells: &Bells,
         taker: &mut Taker,
         cpu: u8,
-    ) -> Result<u32, Refusal>
+    ) -> Result<u64, Refusal>
         requires { taker.old.bells ≡ bells.now.id }
         ensures taken { MatchResult result (λ word. taker.new.taken ≡ taker.old.taken ++ (cpu, word) ∷ []) (λ why. taker.new ≡ taker.old) }
         ensures seat { taker.new.bells ≡ taker.old.bells }

@@ -11,7 +11,7 @@ pub enum Made {
     /// A commit: its Steps of a processor.
     Steps(u8, u32),
     /// A deliver: a Bell of a processor for each line whose bit is set, in rising order.
-    Bells(u8, u32),
+    Bells(u8, u64),
     /// A tick or a command.
     One(Event),
 }
@@ -25,7 +25,7 @@ pub struct Receipt {
 }
 
 // How many lines have their bit set.
-fn bell_count(cpu: u8, word: u32) -> u32
+fn bell_count(cpu: u8, word: u64) -> u32
     ensures { result ≡ length (bells_below cpu word LINES) }
 {
     let mut count = 0;

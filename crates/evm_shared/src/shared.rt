@@ -1,7 +1,7 @@
 ghost use Rattle.std.specs.Prelude.{◌≡◌, ◌≢◌, ◌+◌, ◌<◌, ◌≤◌, [], ◌∷◌, ◌++◌, false, length, replicate, IfErr, IfOk, MatchResult};
 ghost use Rattle.evm_model.specs.Replay.{IsReplayOf};
 ghost use Rattle.evm_shared.specs.EventCounts.{FitWords, kind_counts, none, plus};
-ghost use Rattle.evm_shared.specs.Ports.{MakesBells, MakesOne, MakesSteps, RefusesCpu, RefusesEither, RefusesPorts, bad_ports, fresh_port, made_by, shares_of, with_room};
+ghost use Rattle.evm_shared.specs.Ports.{MakesBells, MakesOne, MakesSteps, RefusesCpu, RefusesEither, RefusesPorts, bad_ports, fresh_port, lacks_lines, made_by, shares_of, with_room};
 
 use crate::event_counts::EventCounts;
 use crate::ledgers::{Blanks, Books, Shares};
@@ -11,7 +11,7 @@ use evm_bells::{Bells, Taker};
 use evm_core::{Committed, Machine};
 use evm_dev::Device;
 use evm_exec::Burst;
-use evm_model::{Answer, Event, Refusal};
+use evm_model::{Answer, Event, Refusal, WIDE_PROFILE};
 use evm_room::with_room;
 use std::alloc::Global;
 use std::hint::spin_loop;
@@ -66,6 +66,13 @@ pub struct Unfinished<D: Device, O: Origin, S: Ledger, B: Ledger, T: Ledger> {
     pub ports: Vec<Port<S, B, T>>,
 }
 
+// Whether a machine has fewer lines than bells have, by its profile.
+fn lacks_lines<D: Device>(machine: &Machine<D>) -> bool
+    ensures { result ≡ lacks_lines machine.now.boot }
+{
+    machine.boot_numbers().profile < u64::from(WIDE_PROFILE)
+}
+
 // New ports, each with one part of the ledgers and room for `receipts` receipts.
 fn new_ports<S: Ledger, B: Ledger, T: Ledger>(
     alloc: Global,
@@ -94,7 +101,12 @@ fn new_ports<S: Ledger, B: Ledger, T: Ledger>(
 }
 
 impl<D: Device, O: Origin, S: Ledger, B: Ledger, T: Ledger> Shared<D, O, S, B, T> {
-    /// A machine under a lock, and 1 to 16 ports. If it is refused, it hands the machine back.
+    /// A machine of a profile with all lines under a lock, and 1 to 16 ports.
+    ///
+    /// # Errors
+    ///
+    /// `BadSize` for a machine of another profile or another number of ports, else `NoMemory` if memory for the ports was
+    /// refused. The machine is handed back.
     pub fn new(
         alloc: Global,
         machine: Machine<D>,
@@ -109,10 +121,11 @@ impl<D: Device, O: Origin, S: Ledger, B: Ledger, T: Ledger> Shared<D, O, S, B, T
         requires others { (blanks.others.name ≡ T.name) × (blanks.others.parts ≡ T.parts) × (T.parts ≡ ports) }
         ensures ok { IfOk result (λ made. (made.0 ≡ ports) × (made.1.items ≡ replicate ports (fresh_port receipts (length machine.journal)))) }
         ensures back { IfErr result (λ refused. refused.machine ≡ machine) }
-        ensures refused { IfErr result (λ refused. RefusesPorts ports receipts refused.refusal) }
+        ensures refused { IfErr result (λ refused. RefusesPorts machine.boot ports receipts refused.refusal) }
+        ensures lines { IfOk result (λ made. lacks_lines machine.boot ≡ false) }
         ensures ports { IfOk result (λ made. bad_ports ports ≡ false) }
     {
-        if ports == 0 || ports > PORT_LIMIT {
+        if lacks_lines(&machine) || ports == 0 || ports > PORT_LIMIT {
             return Err(Refused {
                 refusal: Refusal::BadSize,
                 machine,
@@ -205,7 +218,7 @@ impl<D: Device, O: Origin, S: Ledger, B: Ledger, T: Ledger> Shared<D, O, S, B, T
         bells: &Bells,
         taker: &mut Taker,
         cpu: u8,
-    ) -> Result<u32, Refusal>
+    ) -> Result<u64, Refusal>
         requires { taker.old.bells ≡ bells.now.id }
         ensures taken { MatchResult result (λ word. taker.new.taken ≡ taker.old.taken ++ (cpu, word) ∷ []) (λ why. taker.new ≡ taker.old) }
         ensures seat { taker.new.bells ≡ taker.old.bells }
@@ -244,7 +257,7 @@ impl<D: Device, O: Origin, S: Ledger, B: Ledger, T: Ledger> Shared<D, O, S, B, T
     }
 
     // The machine and its ports, which are all of them, with the totals. It is never inlined into `finish`: LLVM splits a machine
-    // of 49 KB into its bytes, and doesn't end, where one body both opens the lock and hands it back.
+    // into its bytes, which are many, and doesn't end, where one body both opens the lock and hands it back.
     #[inline(never)]
     fn open(self, mut ports: Vec<Port<S, B, T>>) -> Finished<D, S, B, T>
         requires all { length ports.items ≡ self }

@@ -5,7 +5,7 @@ ghost use Rattle.evm_model.specs.Deadlines.{deadline, is_due};
 ghost use Rattle.evm_model.specs.Lists.{change};
 ghost use Rattle.evm_model.specs.declared.limits.TheConstants.{SLICE};
 ghost use Rattle.evm_model.specs.Ranks.{first, leader};
-ghost use Rattle.evm_model.specs.OobCalls.{is_scheduled_task, mode_of};
+ghost use Rattle.evm_model.specs.OobCalls.{is_scheduled_task, mode_of, moved};
 ghost use Rattle.evm_model.specs.Settle.{is_oob};
 ghost use Rattle.evm_model.specs.Stages.{is_attached_task};
 ghost use Rattle.evm_model.specs.State.{no_mode};
@@ -13,7 +13,7 @@ ghost use Rattle.evm_model.specs.Tasks.{is_live};
 ghost use Rattle.evm_model.specs.Waits.{kept_of, woken};
 ghost use Rattle.evm_task.specs.Early.{IsEarly, lowered};
 
-use crate::woken::wake;
+use crate::woken::{migrate, wake};
 use arrayvec::ArrayVec;
 use evm_model::{Class, Mode, SLICE, TASK_LIMIT, Task, TaskState, Wait};
 use std::marker::Model;
@@ -116,6 +116,16 @@ impl Tasks {
             return;
         };
         wake(task, owns);
+    }
+
+    /// A task goes on another processor: it is ready there out-of-band, but in-band if it is weak and owns no mutex.
+    pub fn migrate(&mut self, t: u8, cpu: u8, owns: bool)
+        ensures { self.new ≡ change (moved cpu owns) self.old t }
+    {
+        let Some(task) = self.tasks.get_mut(t as usize) else {
+            return;
+        };
+        migrate(task, cpu, owns);
     }
 
     /// A task has another stamp.

@@ -1,6 +1,7 @@
-//! What becomes of a task whose wait is over.
+//! What becomes of a task whose wait is over, and of one that goes on another processor.
 
 ghost use Rattle.std.specs.Prelude.{◌≡◌};
+ghost use Rattle.evm_model.specs.OobCalls.{moved};
 ghost use Rattle.evm_model.specs.Waits.{ready_on, stage_of_wait, woken};
 
 use evm_model::{Class, Stage, Task, TaskState, Wait};
@@ -34,4 +35,13 @@ pub(crate) fn wake(task: &mut Task, owns: bool)
         task.state = ready_on(stage_of(wait), returns);
     }
     task.deadline = 0;
+}
+
+// It goes on another processor: it is ready there out-of-band, but in-band if it is weak and owns no mutex.
+pub(crate) fn migrate(task: &mut Task, cpu: u8, owns: bool)
+    ensures { task.new ≡ moved cpu owns task.old }
+{
+    let returns = task.class == Class::Weak && !owns;
+    task.cpu = cpu;
+    task.state = ready_on(Stage::OutOfBand, returns);
 }

@@ -7,7 +7,7 @@ use Rattle.evm_journal.specs.Journal.{journal_text}
 use Rattle.evm_model.specs.Devices.{Attached}
 use Rattle.evm_model.specs.Kinds.{AStep, ABell, kind_count}
 use Rattle.evm_model.specs.Replay.{start, IsReplayOf}
-use Rattle.evm_model.specs.State.{State}
+use Rattle.evm_model.specs.State.{State, newest}
 use Rattle.evm_model.specs.declared.boot.Boot.{Boot}
 use Rattle.evm_model.specs.declared.limits.TheConstants.{CAPACITY_LIMIT}
 use Rattle.evm_model.specs.declared.refusal.Refusal.{Refusal}
@@ -22,7 +22,7 @@ use Rattle.evm_threads.specs.declared.outcome.RunEnding.TheVariants.{Written, In
 
 -- the numbers with which the machine boots
 abbrev pub run_boot : Boot
-run_boot = record { cpus = 2; ram = 1048576; capacity = CAPACITY_LIMIT }
+run_boot = newest 2 1048576 CAPACITY_LIMIT
 
 -- the machine that the run begins with, or why the image is not loaded
 abbrev pub loaded_machine : List Attached → Contents → Result State Refusal

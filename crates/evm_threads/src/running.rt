@@ -1,7 +1,7 @@
 //! An image run by worker threads.
 
 ghost use Rattle.std.specs.Prelude.{◌≡◌};
-ghost use Rattle.evm_threads.specs.Runs.{Ends, IsOutcome, loaded_machine};
+ghost use Rattle.evm_threads.specs.Runs.{Ends, IsOutcome, loaded_machine, run_boot};
 
 use crate::outcome::{Outcome, RunEnding};
 use crate::sharing::share;
@@ -17,12 +17,12 @@ use std::marker::Brand;
 use std::sync::Wait;
 use std::thread::Threads;
 
-/// The numbers with which the machine boots.
-const RUN_BOOT: Boot = Boot {
-    cpus: 2,
-    ram: 1_048_576,
-    capacity: CAPACITY_LIMIT,
-};
+// The numbers with which the machine boots.
+fn run_boot() -> Boot
+    ensures { result ≡ run_boot }
+{
+    Boot::newest(2, 1_048_576, CAPACITY_LIMIT)
+}
 
 // What a run comes to.
 fn run<D: Device, R: Threads + Wait + Sync>(
@@ -36,7 +36,7 @@ fn run<D: Device, R: Threads + Wait + Sync>(
     requires { (blanks.steps.parts ≡ 2) × (blanks.bells.parts ≡ 2) × (blanks.others.parts ≡ 2) }
     ensures { IsOutcome turns (loaded_machine devices image.now) result }
 {
-    let Ok(mut machine) = Machine::from_boot(alloc, RUN_BOOT, devices) else {
+    let Ok(mut machine) = Machine::from_boot(alloc, run_boot(), devices) else {
         return Outcome::NoMemory;
     };
     match machine.load(image) {

@@ -1,8 +1,10 @@
-//! The timers, and how one expires.
+//! The timers, and how one expires; and what the watchdog counts.
 #![tactic(auto)]
 
 mod expiring;
 mod timers;
+mod watches;
 
 pub use expiring::{expired, is_due, taken};
 pub use timers::Timers;
+pub use watches::Watches;

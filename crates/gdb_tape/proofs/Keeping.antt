@@ -5,7 +5,7 @@ use Rattle.evm_image.specs.Images.{Contents}
 use Rattle.evm_model.specs.Event.{Event}
 use Rattle.evm_model.specs.Replay.{IsReplayOf}
 use Rattle.evm_model.specs.State.{State}
-use Rattle.evm_gdb_driving.specs.Kept.{KeepsJournal}
+use Rattle.gdb_driving.specs.Kept.{KeepsJournal}
 use Rattle.gdb_tape.specs.Tape.{IsBegun, IsFrontOf, IsTape, KeepsTape, end_if, end_of, events}
 use Rattle.gdb_tape.specs.declared.tape.Tape.{Tape}
 

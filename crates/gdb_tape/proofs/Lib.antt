@@ -1,4 +1,4 @@
 pub mod Keeping
 pub mod Lines
 pub mod Stepping
-pub use Rattle.evm_gdb_driving.proofs as evm_gdb_driving
+pub use Rattle.gdb_driving.proofs as gdb_driving

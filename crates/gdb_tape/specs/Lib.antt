@@ -1,2 +1,2 @@
 pub mod Tape
-pub use Rattle.evm_gdb_driving.specs as evm_gdb_driving
+pub use Rattle.gdb_driving.specs as gdb_driving

@@ -5,7 +5,7 @@ mod replay;
 mod search;
 mod tape;
 
-pub use evm_gdb_driving::{
+pub use gdb_driving::{
     Boot, Devices, Going, Interrupts, Line, Machine, Points, Refusal, Round, TargetHalt, View,
     ViewRefusal, WatchPoint, Why, cut_line, has_going, part_len, processor_of, push_bytes,
     push_error, push_halt, push_memory, push_outcome, push_registers, push_task_text, push_thread,

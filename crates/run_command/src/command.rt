@@ -1,22 +1,25 @@
 //! The word `run`, from what stands behind it to the exit status.
 
 ghost use Rattle.std.specs.Prelude.{◌≡◌, ◌↔◌, IfOk};
+ghost use Rattle.evm_model.specs.declared.boot.Boot.{Boot};
+ghost use Rattle.run_schedule.specs.Runs.{HasRun};
 ghost use Rattle.run_command.specs.Status.{Succeeds};
 
 use crate::telling::put_finished;
-use crate::words::{Job, Until, WordFault, beats_of, job_of};
+use crate::words::{Course, Job, Until, WordFault, beats_of, course_of, job_of};
 use clap::ArgMatches;
-use command_lines::symbols_at;
+use command_lines::names_at;
 use evm_host::{
-    Ending, FAILED, Message, Sink, System, USAGE, World, ended, failed_write_message, image_at,
-    memory_refused, not_created, report, text_at, write_all,
+    Ending, FAILED, Known, Message, Sink, System, USAGE, Verdict, World, ended, ended_with,
+    failed_write_message, image_at, memory_refused, not_created, not_opened, not_read, read_all,
+    report, write_all,
 };
 use evm_image::Image;
-use evm_messages::{Diagnostic, report_line};
-use evm_shell_answers::{MapFault, Names, Page, SourceLines, write_journal};
 use run_schedule::{
-    Beat, BeginFault, Boot, CAPACITY_LIMIT, FinishedRun, RunEnd, RunFault, RunPlan, SIZE_LIMIT, run,
+    Beat, BeginFault, Boot, CAPACITY_LIMIT, FinishedRun, LineStop, RunEnd, RunFault, RunPlan,
+    SIZE_LIMIT, ScriptFault, run, run_scripted,
 };
+use sh_answers::{Names, Page, ScriptStop, script_fault, write_journal};
 use std::alloc::Global;
 
 /// The name in front of messages that are about no file.
@@ -33,13 +36,25 @@ const BASE: u64 = 0x8000_0000;
 /// The symbol of the end of RAM that an image is linked for.
 const RAM_END: &str = "ram_end";
 
+/// The symbol of the names that a program of the kit's library keeps.
+const NAMES_TABLE: &str = "kit_names";
+
+/// How a program is to be run.
+#[derive(Clone, Copy)]
+enum Way<'a> {
+    /// By a schedule.
+    Plan(Boot, RunPlan<'a>),
+    /// By the script of a file.
+    Script(&'a str, &'a [u8]),
+}
+
 // Reports words that are no job.
 fn blame<S: System>(fault: WordFault, world: &mut World<S>) -> u8 {
     let words = match fault {
         WordFault::NoMemory => return memory_refused(PROGRAM, world),
         WordFault::Missing => return USAGE,
         WordFault::Lines => {
-            "--lines: wanted L or L@N, by commas: line L, 2 to 31, with each tick or every N rounds, 1 to 1048576"
+            "--lines: wanted L or L@N, by commas: line L, 2 to 63, with each tick or every N rounds, 1 to 1048576"
         }
         WordFault::Until => "--until: wanted exit, idle or a number of events, 1 to 1048576",
     };
@@ -47,37 +62,11 @@ fn blame<S: System>(fault: WordFault, world: &mut World<S>) -> u8 {
     USAGE
 }
 
-// The lines of sources that a map file gives.
-fn map_at<S: System>(alloc: Global, path: &str, world: &mut World<S>) -> Result<SourceLines, u8> {
-    let text = match text_at(alloc, path, world) {
-        Ok(text) => text,
-        Err(status) => return Err(status),
-    };
-    match SourceLines::read(alloc, text.as_str()) {
-        Ok(lines) => Ok(lines),
-        Err(MapFault::NoMemory) => Err(memory_refused(PROGRAM, world)),
-        Err(MapFault::BadLine(number)) => {
-            let message = Message::Plain("bad line: wanted `ADDRESS FILE:LINE` or `ADDRESS -`");
-            report_line(path, number, Diagnostic::Alone(message), &mut world.errors);
-            Err(1)
-        }
+// A program of the kit's library keeps names in RAM, with a map or without.
+fn use_table(names: &mut Names) {
+    if let Some(table) = names.symbols.address(NAMES_TABLE) {
+        names.map.use_table(table);
     }
-}
-
-// The names that the image and the map file give.
-fn names_at<S: System>(alloc: Global, job: &Job<'_>, world: &mut World<S>) -> Result<Names, u8> {
-    let symbols = match symbols_at(alloc, PROGRAM, job.image, world) {
-        Ok(symbols) => symbols,
-        Err(status) => return Err(status),
-    };
-    let lines = match job.map {
-        None => SourceLines::new(alloc),
-        Some(path) => match map_at(alloc, path, world) {
-            Ok(lines) => lines,
-            Err(status) => return Err(status),
-        },
-    };
-    Ok(Names { symbols, lines })
 }
 
 // The bytes of RAM that an image is linked for; the most where it says none.
@@ -88,22 +77,22 @@ fn linked_ram(names: &Names) -> u64 {
     }
 }
 
-fn boot_of(job: &Job<'_>, names: &Names) -> Boot {
-    let capacity = match job.until {
+fn boot_of(course: &Course<'_>, names: &Names) -> Boot {
+    let capacity = match course.until {
         Until::Events(events) => events,
         Until::Exit | Until::Idle => u64::from(CAPACITY_LIMIT),
     };
+    let ram = match course.ram {
+        Some(ram) => ram,
+        None => linked_ram(names),
+    };
     Boot {
-        cpus: job.cpus,
-        ram: match job.ram {
-            Some(ram) => ram,
-            None => linked_ram(names),
-        },
-        capacity,
+        watchdog: course.watchdog,
+        ..Boot::newest(course.cpus, ram, capacity)
     }
 }
 
-// Reports why a run has no end.
+// Reports why a run by a schedule has no end.
 fn stopped<S: System>(path: &str, stop: RunFault, world: &mut World<S>) -> u8 {
     match stop {
         RunFault::NoMemory | RunFault::NoMachine(BeginFault::NoMemory) => {
@@ -121,6 +110,61 @@ fn stopped<S: System>(path: &str, stop: RunFault, world: &mut World<S>) -> u8 {
             let message = Message::Plain("--ram is no multiple of 4096");
             report(PROGRAM, message, &mut world.errors);
             USAGE
+        }
+    }
+}
+
+fn stop_of(stop: LineStop) -> ScriptStop {
+    match stop {
+        LineStop::Misspelt => ScriptStop::Misspelt,
+        LineStop::BootedAgain => ScriptStop::BootedAgain,
+        LineStop::NotBooted => ScriptStop::NotBooted,
+        LineStop::Refused(refusal) => ScriptStop::Refused(refusal),
+    }
+}
+
+// Reports why a line of a script is not done.
+fn line_stopped<S: System>(
+    image: &Image,
+    path: &str,
+    script: &[u8],
+    number: u64,
+    stop: LineStop,
+    world: &mut World<S>,
+) -> u8 {
+    match script_fault(script, number, stop_of(stop)) {
+        None => memory_refused(PROGRAM, world),
+        Some(fault) => {
+            let known = Known::Lines(Some(image), script);
+            let ending = Ending::Complete(Verdict::Refused(fault));
+            ended_with(known, path, &ending, &mut world.errors)
+        }
+    }
+}
+
+// Reports why a run has no end.
+fn halted<S: System>(
+    path: &str,
+    image: &Image,
+    way: Way<'_>,
+    stop: ScriptFault,
+    world: &mut World<S>,
+) -> u8 {
+    let Way::Script(script_path, script) = way else {
+        return match stop {
+            ScriptFault::Run(fault) => stopped(path, fault, world),
+            _ => FAILED,
+        };
+    };
+    match stop {
+        ScriptFault::Run(fault) => stopped(path, fault, world),
+        ScriptFault::NoBoot => {
+            let message = Message::Plain("no boot line, so nothing is done");
+            report(script_path, message, &mut world.errors);
+            1
+        }
+        ScriptFault::Line(number, stop) => {
+            line_stopped(image, script_path, script, number, stop, world)
         }
     }
 }
@@ -194,27 +238,40 @@ fn journal_of<'a, S: System>(
     }
 }
 
+// Runs an image to its end. The output gets the text of the consoles, the views of a script go to another sink.
+fn run_in<W: Sink, V: Sink>(
+    alloc: Global,
+    image: &Image,
+    way: Way<'_>,
+    output: &mut W,
+    views: &mut V,
+) -> Result<FinishedRun, ScriptFault>
+    ensures { IfOk result (λ done. (boot : Boot) × HasRun W.takes image.now boot output.old done.ending done.machine output.new) }
+{
+    match way {
+        Way::Script(_, script) => run_scripted(alloc, image, script, output, views),
+        Way::Plan(boot, plan) => match run(alloc, image, &boot, plan, output) {
+            Ok(done) => Ok(done),
+            Err(fault) => Err(ScriptFault::Run(fault)),
+        },
+    }
+}
+
 // Runs an image, says how the run has ended and writes its journal.
 fn run_image<S: System>(
     alloc: Global,
-    job: &Job<'_>,
-    beats: &[Beat],
+    path: &str,
     image: &Image,
     names: &Names,
+    way: Way<'_>,
     out: Option<Out<'_, S::Created>>,
     world: &mut World<S>,
 ) -> u8
     ensures { Succeeds S.Output.takes image.now result world.old.output world.new.output }
 {
-    let plan = RunPlan {
-        beats,
-        seed: job.seed,
-        until_idle: job.until == Until::Idle,
-    };
-    let boot = boot_of(job, names);
-    let done = match run(alloc, image, &boot, plan, &mut world.output) {
+    let done = match run_in(alloc, image, way, &mut world.output, &mut world.errors) {
         Ok(done) => done,
-        Err(stop) => return stopped(job.image, stop, world).max(1),
+        Err(stop) => return halted(path, image, way, stop, world).max(1),
     };
     let mut status = verdict(done.ending);
     status = status.max(tell(alloc, names, &done, &mut world.errors));
@@ -225,20 +282,56 @@ fn run_image<S: System>(
     status
 }
 
-// Does a job.
-fn do_job<S: System>(alloc: Global, job: &Job<'_>, beats: &[Beat], world: &mut World<S>) -> u8 {
-    let image = match image_at(alloc, job.image, world) {
-        Ok(image) => image,
-        Err(status) => return status,
+// The bytes of a script.
+fn script_at<S: System>(alloc: Global, path: &str, world: &mut World<S>) -> Result<Vec<u8>, u8> {
+    let mut file = match world.files.open(path) {
+        Ok(file) => file,
+        Err(fault) => return Err(not_opened(path, fault, &mut world.errors)),
     };
-    let names = match names_at(alloc, job, world) {
-        Ok(names) => names,
-        Err(status) => return status,
-    };
-    match journal_of(job, world) {
-        Ok(out) => run_image(alloc, job, beats, &image, &names, out, world),
-        Err(status) => status,
+    match read_all(alloc, &mut file) {
+        Ok(bytes) => Ok(bytes),
+        Err(stop) => Err(not_read(stop, path, world)),
     }
+}
+
+// The bytes of the script, or none where a schedule is asked for.
+fn script_of<S: System>(
+    alloc: Global,
+    course: &Course<'_>,
+    world: &mut World<S>,
+) -> Result<Vec<u8>, u8> {
+    match course.script {
+        Some(path) => script_at(alloc, path, world),
+        None => Ok(Vec::new(alloc)),
+    }
+}
+
+fn way_of<'a>(course: &Course<'a>, names: &Names, beats: &'a [Beat], script: &'a [u8]) -> Way<'a> {
+    if let Some(path) = course.script {
+        return Way::Script(path, script);
+    }
+    let plan = RunPlan {
+        beats,
+        seed: course.seed,
+        until_idle: course.until == Until::Idle,
+    };
+    Way::Plan(boot_of(course, names), plan)
+}
+
+// Does a job.
+fn do_job<S: System>(
+    alloc: Global,
+    job: &Job<'_>,
+    beats: &[Beat],
+    world: &mut World<S>,
+) -> Result<u8, u8> {
+    let image = image_at(alloc, job.image, world)?;
+    let mut names = names_at(alloc, PROGRAM, job.image, job.map, world)?;
+    use_table(&mut names);
+    let script = script_of(alloc, &job.course, world)?;
+    let out = journal_of(job, world)?;
+    let way = way_of(&job.course, &names, beats, script.as_slice());
+    Ok(run_image(alloc, job.image, &image, &names, way, out, world))
 }
 
 /// `run`: runs a program as the words ask for, and returns the exit status.
@@ -247,8 +340,63 @@ pub fn run_for<S: System>(alloc: Global, words: &ArgMatches<'_>, world: &mut Wor
         Ok(job) => job,
         Err(fault) => return blame(fault, world),
     };
-    match beats_of(alloc, words, job.ticks) {
-        Ok(beats) => do_job(alloc, &job, &beats, world),
-        Err(fault) => blame(fault, world),
+    let beats = match beats_of(alloc, words, job.course.ticks) {
+        Ok(beats) => beats,
+        Err(fault) => return blame(fault, world),
+    };
+    match do_job(alloc, &job, &beats, world) {
+        Ok(status) | Err(status) => status,
     }
+}
+
+// The journal of a run, of which standard error says how it ended.
+fn run_journal<S: System, W: Sink>(
+    alloc: Global,
+    path: &str,
+    image: &Image,
+    names: &Names,
+    way: Way<'_>,
+    output: &mut W,
+    world: &mut World<S>,
+) -> Result<String, u8> {
+    let done = match run_in(alloc, image, way, output, &mut world.errors) {
+        Ok(done) => done,
+        Err(stop) => return Err(halted(path, image, way, stop, world).max(1)),
+    };
+    match tell(alloc, names, &done, &mut world.errors) {
+        0 => {}
+        status => return Err(status),
+    }
+    match write_journal(alloc, &done.machine) {
+        Ok(text) => Ok(text),
+        Err(_) => Err(memory_refused(PROGRAM, world)),
+    }
+}
+
+/// The journal of a run of an image of a file, as the words ask for it that `run` takes. Standard error says how the run ended; what the
+/// program puts to its consoles is left out.
+///
+/// # Errors
+///
+/// The status of the job, where the words are no job or the run has no end.
+pub fn journal_for<S: System>(
+    alloc: Global,
+    words: &ArgMatches<'_>,
+    path: &str,
+    image: &Image,
+    names: &Names,
+    world: &mut World<S>,
+) -> Result<String, u8> {
+    let course = match course_of(words) {
+        Ok(course) => course,
+        Err(fault) => return Err(blame(fault, world)),
+    };
+    let beats = match beats_of(alloc, words, course.ticks) {
+        Ok(beats) => beats,
+        Err(fault) => return Err(blame(fault, world)),
+    };
+    let script = script_of(alloc, &course, world)?;
+    let way = way_of(&course, names, &beats, script.as_slice());
+    let mut left_out = Vec::new(alloc);
+    run_journal(alloc, path, image, names, way, &mut left_out, world)
 }

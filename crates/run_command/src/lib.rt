@@ -4,8 +4,7 @@
 
 mod command;
 mod machine;
-mod names;
 mod telling;
 mod words;
 
-pub use command::run_for;
+pub use command::{journal_for, run_for};

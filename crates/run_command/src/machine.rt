@@ -1,10 +1,10 @@
 //! A machine in words: who runs, who waits for what, who owns it.
 
-use crate::names::{Kind, put_object};
-use evm_model::{Action, Fault, Notice, NoticeKind, Task, TaskState, Wait};
+use evm_lines::LINES;
+use evm_model::{Action, Fault, Task, TaskState, Wait};
 use evm_room::NoMemory;
-use evm_shell_answers::{Names, Page, put_code};
 use run_schedule::{AnyDevice, Machine};
+use sh_answers::{Names, ObjectKind, Page, put_notice, put_object, put_standing};
 
 /// A machine, and the names of what is in it.
 #[derive(Clone, Copy)]
@@ -26,11 +26,11 @@ pub(crate) fn fault_words(fault: Fault) -> &'static str {
 
 impl Named<'_> {
     pub(crate) fn put_task(&self, page: &mut Page, t: u8) -> Result<(), NoMemory> {
-        put_object(page, self.machine, self.names, Kind::Task, t)
+        put_object(page, self.names, self.machine, ObjectKind::Task, t)
     }
 
-    fn put_kind(&self, page: &mut Page, kind: Kind, number: u8) -> Result<(), NoMemory> {
-        put_object(page, self.machine, self.names, kind, number)
+    fn put_kind(&self, page: &mut Page, kind: ObjectKind, number: u8) -> Result<(), NoMemory> {
+        put_object(page, self.names, self.machine, kind, number)
     }
 
     // Where a task is: its pc less some bytes.
@@ -39,7 +39,7 @@ impl Named<'_> {
             return Ok(());
         };
         page.put(" at ")?;
-        put_code(page, self.names, hart.pc.wrapping_sub(back))
+        put_standing(page, self.names, self.machine, &hart, back)
     }
 
     /// What a0 of a task holds.
@@ -53,7 +53,7 @@ impl Named<'_> {
 
     // A mutex for which a task waits, and who owns it.
     fn put_lock(&self, page: &mut Page, mutex: u8) -> Result<(), NoMemory> {
-        self.put_kind(page, Kind::Mutex, mutex)?;
+        self.put_kind(page, ObjectKind::Mutex, mutex)?;
         let Some(known) = self.machine.mutex(mutex) else {
             return Ok(());
         };
@@ -67,7 +67,7 @@ impl Named<'_> {
 
     // A timer for which a task waits, and when it is due.
     fn put_timer(&self, page: &mut Page, number: u8) -> Result<(), NoMemory> {
-        self.put_kind(page, Kind::Timer, number)?;
+        self.put_kind(page, ObjectKind::Timer, number)?;
         let Some(timer) = self.machine.timer(number) else {
             return Ok(());
         };
@@ -92,9 +92,9 @@ impl Named<'_> {
             }
             Wait::Lock(mutex) => self.put_lock(page, mutex),
             Wait::Reacquire { mutex, .. } => self.put_lock(page, mutex),
-            Wait::Semaphore(number) => self.put_kind(page, Kind::Semaphore, number),
-            Wait::Event(number) => self.put_kind(page, Kind::Event, number),
-            Wait::Flags(number) => self.put_kind(page, Kind::Flags, number),
+            Wait::Semaphore(number) => self.put_kind(page, ObjectKind::Semaphore, number),
+            Wait::Event(number) => self.put_kind(page, ObjectKind::Event, number),
+            Wait::Flags(number) => self.put_kind(page, ObjectKind::Flags, number),
             Wait::Timer(number) => self.put_timer(page, number),
         }
     }
@@ -184,7 +184,7 @@ impl Named<'_> {
 
     /// Says which lines the program asks for, which none is to raise.
     pub(crate) fn put_lines(&self, page: &mut Page) -> Result<(), NoMemory> {
-        for line in 2..32u8 {
+        for line in 2..LINES {
             if self.asks_for(line) {
                 page.put("  line ")?;
                 page.put_decimal(u64::from(line))?;
@@ -217,23 +217,9 @@ impl Named<'_> {
             return Ok(());
         };
         page.put("  ")?;
-        self.put_kind(page, Kind::Mutex, m)?;
+        self.put_kind(page, ObjectKind::Mutex, m)?;
         page.put(" is owned by ")?;
         self.put_task(page, owner)?;
-        page.put("\n")
-    }
-
-    fn put_notice(&self, page: &mut Page, notice: &Notice) -> Result<(), NoMemory> {
-        page.put("  notice ")?;
-        page.put(match notice.kind {
-            NoticeKind::DemotedByCall => "1, demoted by a call, of ",
-            NoticeKind::DemotedByFault => "2, demoted by a fault, of ",
-            NoticeKind::Deadlock => "3, a lock that would never end, of ",
-            NoticeKind::NotOwner => "4, an unlock of another's mutex, of ",
-        })?;
-        self.put_task(page, notice.task)?;
-        page.put(" at tick ")?;
-        page.put_decimal(notice.tick)?;
         page.put("\n")
     }
 
@@ -241,7 +227,7 @@ impl Named<'_> {
     pub(crate) fn put_notices(&self, page: &mut Page) -> Result<(), NoMemory> {
         for i in 0..self.machine.notice_count() {
             if let Some(notice) = self.machine.notice(i) {
-                self.put_notice(page, &notice)?;
+                put_notice(page, self.names, self.machine, &notice)?;
             }
         }
         Ok(())

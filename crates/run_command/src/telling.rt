@@ -2,10 +2,17 @@
 
 use crate::machine::{Named, fault_words};
 use evm_core::EventLine;
+use evm_exec::Hart;
 use evm_model::{Fault, TaskState};
 use evm_room::NoMemory;
-use evm_shell_answers::{Names, Page};
 use run_schedule::{AnyDevice, FinishedRun, Machine, RunEnd};
+use sh_answers::{Names, Page, SourceLine, put_line, source_line};
+
+/// The word of EBREAK.
+const EBREAK: u32 = 0x0010_0073;
+
+/// The function of the kit that stops the processor.
+const BREAK_CALL: &str = "evl_break";
 
 // Three digits behind others.
 fn put_group(page: &mut Page, group: u64) -> Result<(), NoMemory> {
@@ -61,16 +68,65 @@ fn put_behind(page: &mut Page, words: &str, machine: &Machine<AnyDevice>) -> Res
     put_length(page, machine)
 }
 
-// A processor that stopped at EBREAK.
-fn put_break(page: &mut Page, named: Named<'_>, c: u8) -> Result<(), NoMemory> {
+// Whether an instruction behind which a task is is EBREAK.
+fn is_behind_break(machine: &Machine<AnyDevice>, hart: &Hart) -> bool {
+    word_at(machine, hart.pc.wrapping_sub(4)) == Some(EBREAK)
+}
+
+// The line of an evl_assert that failed: EBREAK, with the number of the line in a0.
+fn assertion<'a>(named: Named<'a>, hart: &Hart) -> Option<SourceLine<'a>> {
+    let line = source_line(named.names, named.machine, hart, 4)?;
+    if line.call == BREAK_CALL && line.line == hart.regs[10] {
+        return Some(SourceLine { call: "", ..line });
+    }
+    None
+}
+
+// A task behind EBREAK.
+fn put_ebreak(page: &mut Page, named: Named<'_>, t: u8, hart: &Hart) -> Result<(), NoMemory> {
+    if let Some(line) = assertion(named, hart) {
+        put_behind(page, "EBREAK, an evl_assert that failed,", named.machine)?;
+        page.put(": ")?;
+        named.put_task(page, t)?;
+        page.put(" at ")?;
+        return put_line(page, line);
+    }
     put_behind(page, "EBREAK", named.machine)?;
     page.put(": ")?;
-    if let Some(processor) = named.machine.cpu(c)
-        && let Some(t) = processor.current
-    {
-        named.put_task(page, t)?;
-        named.put_at(page, t, 4)?;
-        named.put_a0(page, t)?;
+    named.put_task(page, t)?;
+    named.put_at(page, t, 4)?;
+    named.put_a0(page, t)
+}
+
+// The task of a processor that is stopped.
+fn put_stopped_task(page: &mut Page, named: Named<'_>, c: u8, t: u8) -> Result<(), NoMemory> {
+    let Some(hart) = named.machine.hart(t) else {
+        return Ok(());
+    };
+    if is_behind_break(named.machine, &hart) {
+        return put_ebreak(page, named, t, &hart);
+    }
+    put_stop(page, named.machine, c)?;
+    page.put(": ")?;
+    named.put_task(page, t)?;
+    named.put_at(page, t, 0)
+}
+
+// A processor that is stopped, and how long the run took.
+fn put_stop(page: &mut Page, machine: &Machine<AnyDevice>, c: u8) -> Result<(), NoMemory> {
+    page.put("processor ")?;
+    page.put_decimal(u64::from(c))?;
+    put_behind(page, " stopped", machine)
+}
+
+// A processor that stopped, at EBREAK unless a script stopped it.
+fn put_break(page: &mut Page, named: Named<'_>, c: u8) -> Result<(), NoMemory> {
+    match named.machine.cpu(c) {
+        Some(processor) => match processor.current {
+            Some(t) => put_stopped_task(page, named, c, t)?,
+            None => put_stop(page, named.machine, c)?,
+        },
+        None => {}
     }
     page.put("\n")
 }
@@ -149,6 +205,13 @@ fn put_bound(page: &mut Page, machine: &Machine<AnyDevice>) -> Result<(), NoMemo
     page.put("\n")
 }
 
+// A script ended before all tasks.
+fn put_over(page: &mut Page, machine: &Machine<AnyDevice>) -> Result<(), NoMemory> {
+    page.put("not all tasks ended within the script: ")?;
+    put_length(page, machine)?;
+    page.put("\n")
+}
+
 // What a run has come to, in a line.
 fn put_ending(page: &mut Page, named: Named<'_>, ending: RunEnd) -> Result<(), NoMemory> {
     let words = match ending {
@@ -158,6 +221,7 @@ fn put_ending(page: &mut Page, named: Named<'_>, ending: RunEnd) -> Result<(), N
         RunEnd::AllEnded => "all tasks ended",
         RunEnd::Deadlock => "deadlock",
         RunEnd::Idle => "idle",
+        RunEnd::Over => return put_over(page, named.machine),
     };
     put_behind(page, words, named.machine)?;
     page.put(match ending {

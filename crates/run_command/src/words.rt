@@ -1,6 +1,7 @@
 //! What stands behind the word `run`.
 
 use clap::ArgMatches;
+use evm_lines::LINES;
 use run_schedule::{Beat, CAPACITY_LIMIT, Event};
 use std::alloc::Global;
 
@@ -15,20 +16,30 @@ pub(crate) enum Until {
     Events(u64),
 }
 
+/// How a program is run.
+#[derive(Clone, Copy, Debug)]
+pub(crate) struct Course<'a> {
+    pub(crate) cpus: u64,
+    pub(crate) ram: Option<u64>,
+    /// The ticks of the watchdog; 0 for none.
+    pub(crate) watchdog: u64,
+    /// How many rounds there are from one tick to the next.
+    pub(crate) ticks: u64,
+    pub(crate) seed: Option<u64>,
+    pub(crate) until: Until,
+    /// The file of a script, in the place of all that.
+    pub(crate) script: Option<&'a str>,
+}
+
 /// What is to be run.
 #[derive(Clone, Copy, Debug)]
 pub(crate) struct Job<'a> {
     /// The file of the program.
     pub(crate) image: &'a str,
-    pub(crate) cpus: u64,
-    pub(crate) ram: Option<u64>,
-    /// How many rounds there are from one tick to the next.
-    pub(crate) ticks: u64,
-    pub(crate) seed: Option<u64>,
-    pub(crate) until: Until,
+    pub(crate) course: Course<'a>,
     /// Where the journal is written.
     pub(crate) journal: Option<&'a str>,
-    /// Where the lines of sources are.
+    /// Where the map is.
     pub(crate) map: Option<&'a str>,
 }
 
@@ -70,22 +81,35 @@ fn until_of(words: &ArgMatches<'_>) -> Result<Until, WordFault> {
     }
 }
 
+/// How the words ask for a program to be run.
+pub(crate) fn course_of<'a>(words: &ArgMatches<'a>) -> Result<Course<'a>, WordFault> {
+    let until = match until_of(words) {
+        Ok(until) => until,
+        Err(fault) => return Err(fault),
+    };
+    Ok(Course {
+        cpus: words.get_one("cpus").unwrap_or(2),
+        ram: words.get_one("ram"),
+        watchdog: words.get_one("watchdog").unwrap_or(0),
+        ticks: words.get_one("ticks").unwrap_or(TICKS),
+        seed: words.get_one("seed"),
+        until,
+        script: words.get_str("script"),
+    })
+}
+
 /// What the words behind `run` ask for.
 pub(crate) fn job_of<'a>(words: &ArgMatches<'a>) -> Result<Job<'a>, WordFault> {
     let Some(image) = words.get_str("IMAGE") else {
         return Err(WordFault::Missing);
     };
-    let until = match until_of(words) {
-        Ok(until) => until,
+    let course = match course_of(words) {
+        Ok(course) => course,
         Err(fault) => return Err(fault),
     };
     Ok(Job {
         image,
-        cpus: words.get_one("cpus").unwrap_or(2),
-        ram: words.get_one("ram"),
-        ticks: words.get_one("ticks").unwrap_or(TICKS),
-        seed: words.get_one("seed"),
-        until,
+        course,
         journal: words.get_str("journal"),
         map: words.get_str("map"),
     })
@@ -94,7 +118,7 @@ pub(crate) fn job_of<'a>(words: &ArgMatches<'a>) -> Result<Job<'a>, WordFault> {
 // A line that a program may wait for: 0 and 1 are the machine's own.
 fn line_of(word: &str) -> Option<u8> {
     match word.parse::<u8>() {
-        Ok(line) if 1 < line && line < 32 => Some(line),
+        Ok(line) if 1 < line && line < LINES => Some(line),
         _ => None,
     }
 }

@@ -1,5 +1,5 @@
 -- What events print, one after another.
-use Rattle.std.proofs.Common.{◌≡◌, ℕ, List, [], ◌∷◌, ◌++◌, Option, Some, None, Result, Ok, Err, refl, sym, ap, subst, ◌∙◌, append_assoc}
+use Rattle.std.proofs.Common.{◌≡◌, List, [], ◌∷◌, ◌++◌, Result, Ok, Err, refl, ap, subst, ◌∙◌}
 use Rattle.evm_model.specs.Event.{Event}
 use Rattle.evm_model.specs.Replay.{apply, left_by, replay, IsReplayOf}
 use Rattle.evm_model.specs.State.{State}

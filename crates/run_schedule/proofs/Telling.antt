@@ -1,7 +1,7 @@
 -- What a sink took of what a run has printed.
-use Rattle.std.proofs.Common.{inl, inr, ◌≡◌, ℕ, ◌+◌, ◌≤◌, List, [], ◌∷◌, ◌++◌, Option, Some, None, Result, Ok, Err, true, false, Bool, refl, sym, ap, subst, ◌∙◌, append_assoc, append-nil, arith, length}
+use Rattle.std.proofs.Common.{inl, inr, ◌≡◌, ℕ, ◌≤◌, List, [], ◌++◌, Option, Some, None, Ok, Err, true, refl, sym, ap, subst, ◌∙◌, append_assoc, append-nil, arith, length}
 use Rattle.std.proofs.lemmas.Bool.Decides.{nat_tests}
-use Rattle.std.specs.Prelude.{◌⊎◌, OnOk}
+use Rattle.std.specs.Prelude.{◌⊎◌}
 use Rattle.evm_core.specs.Load.{load, load_refusal, load_unless}
 use Rattle.evm_image.specs.Images.{Contents}
 use Rattle.evm_model.specs.Event.{Event}
@@ -14,15 +14,14 @@ use Rattle.evm_model.specs.declared.event.Event.TheVariants.{Tick}
 use Rattle.evm_model.specs.declared.refusal.Refusal.{Refusal}
 use Rattle.evm_model.specs.declared.refusal.Refusal.TheVariants.{Full}
 use Rattle.evm_program.specs.Devices.{program_devices}
-use Rattle.evm_schedules.specs.Beginning.{Begins}
+use Rattle.hunt_schedules.specs.Beginning.{Begins}
 use Rattle.evm_streams.proofs.Calls.{took_append, took_none}
 use Rattle.evm_streams.specs.declared.sink.Writing.{Writing}
 use Rattle.evm_streams.specs.Writes.{Took}
 use Rattle.run_schedule.proofs.Prints.{printed-more}
 use Rattle.run_schedule.specs.Advances.{HasAdvanced, IsLeft, IsEventMade}
 use Rattle.run_schedule.specs.Console.{HasPrinted, Printed, console_text, event_printed, nothing_printed, printed_by}
-use Rattle.run_schedule.specs.Endings.{IsEnded}
-use Rattle.run_schedule.specs.Runs.{HasRun, HasToldSome}
+use Rattle.run_schedule.specs.Runs.{HasToldSome}
 use Rattle.run_schedule.specs.declared.ending.RunEnd.{RunEnd}
 
 -- what is printed behind what a sink took

@@ -1,5 +1,5 @@
 -- What one event has done to a machine and to what is printed.
-use Rattle.std.specs.Prelude.{◌≡◌, ℕ, ◌+◌, ◌⊎◌, [], ◌∷◌, ◌++◌, Option, Some, None, Ok, length}
+use Rattle.std.specs.Prelude.{◌≡◌, ◌+◌, ◌⊎◌, [], ◌∷◌, ◌++◌, Option, Some, None, Ok, length}
 use Rattle.evm_model.specs.Event.{Event}
 use Rattle.evm_model.specs.Replay.{apply}
 use Rattle.evm_model.specs.State.{State}

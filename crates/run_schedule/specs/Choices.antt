@@ -1,5 +1,4 @@
 -- What comes next in a run.
-use Rattle.std.specs.Prelude.{ℕ}
 use Rattle.evm_model.specs.State.{State}
 use Rattle.run_schedule.specs.Endings.{HasEndedSo}
 use Rattle.run_schedule.specs.declared.course.Choice.{Choice}

@@ -1,5 +1,5 @@
 -- How a run has ended.
-use Rattle.std.specs.Prelude.{◌≡◌, ℕ, ◌<◌, ◌==◌, ◌&&◌, List, Option, Some, None, Bool, true, false, not, is_none, slice_get, length, Err}
+use Rattle.std.specs.Prelude.{◌≡◌, ℕ, ◌<◌, ◌==◌, ◌&&◌, Option, Some, None, Bool, true, false, not, is_none, slice_get, length, Err}
 use Rattle.evm_core.specs.Views.{device_word}
 use Rattle.evm_model.specs.Event.{Event}
 use Rattle.evm_model.specs.Pipes.{Pipe}
@@ -9,10 +9,10 @@ use Rattle.evm_model.specs.declared.processor.Processor.{Processor}
 use Rattle.evm_model.specs.declared.task.Task.{Task}
 use Rattle.evm_model.specs.declared.task.TaskState.{TaskState}
 use Rattle.evm_model.specs.declared.task.TaskState.TheVariants.{InReady, OobReady, Waits, Exit, Faulted as Ended}
-use Rattle.evm_schedules.specs.Failures.{faulted_at, is_off, is_quiet_pipe, is_waiting_task, is_zero, stopped_at}
-use Rattle.evm_schedules.specs.Making.{IsAwake}
+use Rattle.hunt_schedules.specs.Failures.{faulted_at, is_off, is_quiet_pipe, is_waiting_task, is_zero, stopped_at}
+use Rattle.hunt_schedules.specs.Making.{IsAwake}
 use Rattle.run_schedule.specs.declared.ending.RunEnd.{RunEnd}
-use Rattle.run_schedule.specs.declared.ending.RunEnd.TheVariants.{AllEnded, Break, Fault, Deadlock, Idle, Refused}
+use Rattle.run_schedule.specs.declared.ending.RunEnd.TheVariants.{AllEnded, Break, Fault, Deadlock, Idle, Over, Refused}
 
 -- ---- all tasks have ended by exit
 abbrev pub is_exit : TaskState → Bool
@@ -65,6 +65,7 @@ HasEndedSo (Break c) s = stopped_at c s ≡ true
 HasEndedSo (Fault t) s = faulted_at t s ≡ true
 HasEndedSo Deadlock s = IsDeadlocked s
 HasEndedSo Idle s = (c : ℕ) → IsAwake c s → ⊥
+HasEndedSo Over s = Unit {0}
 HasEndedSo (Refused refusal) s = (event : Event) × (apply s event ≡ Err refusal)
 
 -- and it is AllEnded wherever all tasks have ended by exit

@@ -1,13 +1,13 @@
 -- What a run has done.
-use Rattle.std.specs.Prelude.{◌≡◌, ℕ, List, ◌++◌}
+use Rattle.std.specs.Prelude.{ℕ, List, ◌++◌}
 use Rattle.evm_image.specs.Images.{Contents}
 use Rattle.evm_model.specs.Replay.{IsReplayOf}
 use Rattle.evm_model.specs.State.{State}
 use Rattle.evm_model.specs.declared.boot.Boot.{Boot}
-use Rattle.evm_schedules.specs.Beginning.{Begins}
+use Rattle.hunt_schedules.specs.Beginning.{Begins}
 use Rattle.evm_streams.specs.declared.sink.Writing.{Writing}
 use Rattle.evm_streams.specs.Writes.{Took}
-use Rattle.run_schedule.specs.Console.{HasPrinted, Printed, console_text, more_printed, nothing_printed}
+use Rattle.run_schedule.specs.Console.{HasPrinted, Printed, console_text}
 use Rattle.run_schedule.specs.Endings.{IsEnded}
 use Rattle.run_schedule.specs.declared.ending.RunEnd.{RunEnd}
 

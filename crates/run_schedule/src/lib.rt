@@ -1,4 +1,4 @@
-//! A run without a script: which event is next, what the program puts to its consoles, and how the run has ended.
+//! A run, of a schedule or a script: which event is next, what the program puts to its consoles, and how the run has ended.
 #![tactic(auto)]
 
 mod advancing;
@@ -8,6 +8,7 @@ mod looking;
 mod printing;
 mod random;
 mod running;
+mod scripting;
 
 pub use course::{Beat, RunPlan};
 pub use ending::RunEnd;
@@ -15,6 +16,7 @@ pub use evm_core::{Boot, Machine};
 pub use evm_devs::AnyDevice;
 pub use evm_model::{CAPACITY_LIMIT, Event, NoBytes, Refusal};
 pub use evm_ram::SIZE_LIMIT;
-pub use evm_schedules::BeginFault;
+pub use hunt_schedules::BeginFault;
 pub use looking::{all_exited, is_deadlocked};
 pub use running::{FinishedRun, RunFault, run};
+pub use scripting::{LineStop, ScriptFault, run_scripted};

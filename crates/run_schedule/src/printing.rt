@@ -2,9 +2,9 @@
 
 ghost use Rattle.std.specs.Prelude.{◌≡◌, [], ◌∷◌, OnOk, Option};
 ghost use Rattle.evm_model.specs.Current.{current};
-ghost use Rattle.evm_model.specs.Event.{short_event};
+ghost use Rattle.evm_model.specs.Event.{event_lent};
 ghost use Rattle.evm_ram.specs.Ram.{bytes_at};
-ghost use Rattle.evm_schedules.specs.Failures.{is_ecall};
+ghost use Rattle.hunt_schedules.specs.Failures.{is_ecall};
 ghost use Rattle.evm_streams.specs.Writes.{Took};
 ghost use Rattle.run_schedule.specs.Console.{byte_of, device_printed, hart_puts, if_ran, more_printed, nothing_printed, puts_ahead, task_puts};
 
@@ -12,7 +12,7 @@ use crate::looking::is_oob;
 use evm_core::{Answer, Machine};
 use evm_devs::AnyDevice;
 use evm_exec::Hart;
-use evm_model::{Event, NoBytes};
+use evm_model::{Block, Event};
 use evm_room::{NoMemory, grow};
 use evm_streams::{Sink, WriteFault, write_all};
 use std::alloc::Global;
@@ -67,8 +67,8 @@ fn byte_on(machine: &Machine<AnyDevice>, c: u8) -> Option<u8>
 }
 
 /// The byte that an event puts by a call, if it does an instruction.
-pub(crate) fn byte_ahead(machine: &Machine<AnyDevice>, event: Event<NoBytes>) -> Option<u8>
-    ensures { byte_of result ≡ puts_ahead (short_event event) machine.now }
+pub(crate) fn byte_ahead(machine: &Machine<AnyDevice>, event: Event<&Block>) -> Option<u8>
+    ensures { byte_of result ≡ puts_ahead (event_lent event.entry) machine.now }
 {
     match event {
         Event::Step(c) => byte_on(machine, c),

@@ -13,10 +13,10 @@ use crate::printing::Printer;
 use evm_core::{Boot, Machine};
 use evm_devs::AnyDevice;
 use evm_image::Image;
-use evm_model::{Event, NoBytes, Refusal};
+use evm_model::{Block, Event, Refusal};
 use evm_room::NoMemory;
-use evm_schedules::{BeginFault, begin};
 use evm_streams::{Sink, WriteFault};
+use hunt_schedules::{BeginFault, begin};
 use std::alloc::Global;
 
 /// Why a run has no end.
@@ -45,7 +45,7 @@ pub struct FinishedRun {
 const PIECE: usize = 1_024;
 
 // Whether what was put is told behind this event.
-fn is_time(event: Event<NoBytes>, waiting: usize) -> bool {
+fn is_time(event: Event<&Block>, waiting: usize) -> bool {
     match event {
         Event::Tick => waiting != 0,
         _ => waiting >= PIECE,
@@ -53,8 +53,8 @@ fn is_time(event: Event<NoBytes>, waiting: usize) -> bool {
 }
 
 // Tells what was put, if it is time.
-fn tell_in_time<W: Sink>(
-    event: Event<NoBytes>,
+pub(crate) fn tell_in_time<W: Sink>(
+    event: Event<&Block>,
     printer: &mut Printer,
     output: &mut W,
 ) -> Result<(), RunFault>
@@ -81,7 +81,7 @@ fn go_on<W: Sink>(
     ensures telling { (start : W) (first : State) → HasToldSome W.takes start first machine.old output.old printer.old → OnOk result (HasToldSome W.takes start first machine.new output.new printer.new) }
 {
     let event = match course.next(machine) {
-        Choice::Make(event) => event,
+        Choice::Make(event) => event.widen(),
         Choice::End(ending) => return Ok(Some(ending)),
     };
     match advance(machine, event, printer) {

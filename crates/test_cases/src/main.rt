@@ -15,6 +15,9 @@ use std::thread::Threads;
 /// The input of a line without `< FILE`.
 const EMPTY: &str = "EMPTY";
 
+/// The end of the name of an input that is taken as typed at a terminal.
+const KEYS: &str = ".keys";
+
 // The words of a command line.
 fn words_of(alloc: Global, line: &str) -> Result<Vec<String>, AllocError> {
     let mut words = Vec::new(alloc);
@@ -55,7 +58,8 @@ fn run<R: Threads + Wait + Sync + Copy + Send + Drop + 'static>(
     let heard = File::open(rt, input)?;
     let mut world = world_of(rt, File::open(rt, input)?);
     let status = if line.starts_with("vardozek") {
-        vardozek_command::answer(rt, threads, words.as_slice(), heard, &mut world)
+        let is_typed = input.ends_with(KEYS);
+        vardozek_command::answer(rt, threads, words.as_slice(), is_typed, heard, &mut world)
     } else {
         let Ok(devices) = program_devices(rt.alloc()) else {
             return Err(io::ErrorKind::OutOfMemory.into());

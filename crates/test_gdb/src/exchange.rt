@@ -1,7 +1,7 @@
 //! What is sent, and what must answer it.
 
 use crate::line::{Line, line_of, push_said};
-use evm_gdb_packets::push_framed;
+use gdb_packets::push_framed;
 use std::alloc::Global;
 use std::io;
 

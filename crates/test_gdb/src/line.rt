@@ -1,6 +1,6 @@
 //! The lines of a session.
 
-use evm_gdb_packets::read_digits;
+use gdb_packets::read_digits;
 use std::alloc::Global;
 use std::io;
 

@@ -3,8 +3,8 @@
 use crate::line::{Line, line_of};
 use evm_devs::{AnyDevice, Console, MailRing, Pins};
 use evm_elf::{assemble, read_image, write_image};
-use evm_gdb::{Boot, Devices, LineEnd, Machine, read_line, run_line};
 use evm_image::Image;
+use gdb_answers::{Boot, Devices, LineEnd, Machine, read_line, run_line};
 use std::alloc::Global;
 use std::rt::Files;
 use std::{fs, io};
@@ -47,7 +47,7 @@ impl<'a> Setting<'a> {
             return true;
         }
         match read_line(line.as_bytes()) {
-            Ok(evm_gdb::Line::Boot(numbers)) => {
+            Ok(gdb_answers::Line::Boot(numbers)) => {
                 self.boot = Some(numbers);
                 true
             }

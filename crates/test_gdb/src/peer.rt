@@ -1,6 +1,6 @@
 //! GDB's two ends: what it sends, and where it is answered.
 
-use evm_gdb::Interrupts;
+use gdb_answers::Interrupts;
 use std::io::{self, Error, ErrorKind, Read, Write};
 
 /// What GDB sends, at most `piece` bytes at a time.

@@ -33,6 +33,19 @@ fn refused_growths_are_no_memory(rt: HostRuntime) {
     }
 }
 
+/// Holds whichever growth is refused.
+#[test]
+fn sources_are_assembled_and_written_or_lack_memory(rt: HostRuntime) {
+    let alloc = rt.alloc();
+    match assemble(alloc, "start: nop\n j start\n") {
+        Ok(program) => match write_image(alloc, &program) {
+            Ok(file) => assert_eq!(rt; file.len(), 128),
+            Err(fault) => assert_eq!(rt; fault, NoMemory),
+        },
+        Err(fault) => assert_eq!(rt; fault.kind, AsmFaultKind::NoMemory),
+    }
+}
+
 #[test]
 fn no_memory_has_its_message(rt: HostRuntime) {
     assert_eq!(rt; ElfFault::NoMemory.message(), "out of memory");

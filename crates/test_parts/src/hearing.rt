@@ -1,7 +1,6 @@
 //! A thread that hears GDB: a byte 3 asks for a stop, and a read that fails ends the hearing.
 
-use evm_gdb_hearing::{Ear, Hearing, HearingEnd};
-use evm_interrupts::Interrupts;
+use gdb_hearing::{Ear, Hearing, HearingEnd, Interrupts};
 use std::io::{self, Error, ErrorKind, Read};
 use std::test::Fail;
 

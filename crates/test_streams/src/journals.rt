@@ -12,7 +12,7 @@ use std::test::Fail;
 const JOURNAL: &[u8] = b"evl-journal 1\nboot 1 65536 16\nstep 0 1\n";
 
 const SHOWN: &[u8] =
-    b"cpu 0 current none oob 0 00000000 in 0 00000000 task none wire 00000000 stop 0 skip 0\n\
+    b"cpu 0 current none oob 0 0000000000000000 in 0 0000000000000000 task none wire 0000000000000000 stop 0 skip 0\n\
       0 cpu 0 none 0 fault 2 pc 0000000080000000\n";
 
 // Replays the journal from a reader that fails after some calls.
@@ -50,12 +50,13 @@ fn unread_journals_are_not_replayed(rt: HostRuntime) -> Result<(), Fail> {
 #[test]
 fn long_journals_are_not_replayed(rt: HostRuntime) -> Result<(), Fail> {
     let image = no_image(rt.alloc())?;
-    let mut long = io::repeat(b'#').take(16_777_217);
-    let mut written = Vec::new(rt.alloc());
-    let options = options(&rt, rt.alloc(), Some(&image));
-    let ending = replay_to(rt.alloc(), options, &mut long, &mut written);
-    assert_eq!(rt; ending.status(), 4);
-    assert_eq!(rt; written.len(), 0);
+    for bytes in [16_777_217, u64::MAX] {
+        let mut long = io::repeat(b'#').take(bytes);
+        let mut written = Vec::new(rt.alloc());
+        let options = options(&rt, rt.alloc(), Some(&image));
+        let ending = replay_to(rt.alloc(), options, &mut long, &mut written);
+        assert_eq!(rt; (ending.status(), written.len()), (4, 0), "{bytes} bytes");
+    }
     Ok(())
 }
 
@@ -100,7 +101,7 @@ fn writes(
 fn is_cut(rt: &impl Abort, alloc: Global, replay: &Replay<'_>) -> Result<(), Fail> {
     let image = no_image(alloc)?;
     for fault in [None, Some(ErrorKind::Interrupted), Some(ErrorKind::Other)] {
-        for calls in 0..=20 {
+        for calls in 0..=23 {
             writes(rt, alloc, &image, replay, fault, calls);
         }
     }

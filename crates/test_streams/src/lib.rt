@@ -5,6 +5,8 @@
 #[cfg(test)]
 mod fakes;
 #[cfg(test)]
+mod growths;
+#[cfg(test)]
 mod history;
 #[cfg(test)]
 mod images;

@@ -1,8 +1,8 @@
 //! Traces whose text was worked out by hand from the description of the Trace Event Format.
 
-use evm_tracks::*;
 use std::alloc::Global;
 use std::process::Abort;
+use trace_records::*;
 
 const START: &str = "{\"traceEvents\":[\n\
     {\"ph\":\"M\",\"pid\":1,\"tid\":1,\"ts\":0,\"name\":\"process_name\",\"args\":{\"name\":\"processors\"}}";

@@ -5,8 +5,8 @@ use crate::call::{Call, decimal, given, hexadecimal, sides};
 use crate::writing::{push, push_gap, push_hex, push_some, push_some_hexadecimal};
 use evm_elf::{ElfFault, assemble, image_detail, read_image, write_bytes, write_image};
 use evm_image::Image;
-use evm_symbols::Symbols;
 use std::io::{self, ErrorKind};
+use text_symbols::Symbols;
 
 // Writes the first `size` bytes of a number at a place.
 fn put(file: &mut Vec<u8>, at: u64, number: u64, size: usize) -> io::Result<()> {

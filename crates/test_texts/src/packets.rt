@@ -2,8 +2,8 @@
 
 use crate::call::{Call, decimal, given};
 use crate::writing::{push, push_quoted, push_yes};
-use evm_gdb_packets::{PacketItem, push_digits, push_framed, read_digits, read_item};
 use evm_streams::read_utf8;
+use gdb_packets::{PacketItem, push_digits, push_framed, read_digits, read_item};
 use std::io;
 
 /// The packet of a payload.

@@ -7,9 +7,9 @@ use evm_text::{
     after_word, cut_ended, cut_line, decimal_at, hexadecimal_at, pairs_at, push_decimal,
     push_hexadecimal, push_hexadecimal_padded, push_pairs,
 };
-use evm_xml::{Draft, Key, Share, Tag, finished};
 use std::alloc::Global;
 use std::io::{self, ErrorKind};
+use text_xml::{Draft, Key, Share, Tag, finished};
 
 /// The decimal number at the front.
 pub(crate) fn decimal_front(call: &Call<'_>, out: &mut String) -> io::Result<()> {
@@ -88,7 +88,7 @@ pub(crate) fn ended_line(call: &Call<'_>, out: &mut String) -> io::Result<()> {
 
 /// A string of JSON.
 pub(crate) fn json(call: &Call<'_>, out: &mut String) -> io::Result<()> {
-    given(evm_json::push_quoted(out, call.argument))
+    given(text_json::push_quoted(out, call.argument))
 }
 
 // A drawing of one text of a class, and of a circle that stands for events.

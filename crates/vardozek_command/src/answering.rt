@@ -2,23 +2,41 @@
 
 use crate::parsing::parse;
 use clap::ArgMatches;
-use command_lines::{no_words, refuse};
-use evm_gdb_command::gdb;
-use evm_gdb_hearing::Ear;
-use evm_host::{System, USAGE, World, host_world, memory_refused, words_of};
-use evm_hunt_command::{HuntProgress, hunt_for};
+use command_lines::{names_at, no_words, refuse};
+use evm_host::{System, USAGE, World, host_world, image_at, memory_refused, words_of};
 use evm_program::{Progress, program_devices};
-use evm_shell::sh;
-use evm_trace::trace;
-use evm_viewer::view;
-use run_command::run_for;
+use gdb_command::gdb;
+use gdb_hearing::Ear;
+use hunt_command::{HuntProgress, hunt_for};
+use run_command::{journal_for, run_for};
+use sh_command::sh;
 use std::alloc::Global;
-use std::io::Read;
+use std::io::{IsTerminal, Read};
 use std::sync::Wait;
 use std::thread::Threads;
+use trace_command::{trace, traces_program};
+use view_command::{view, views_program};
 
 /// The name in front of messages that are about no file and no word.
 const PROGRAM: &str = "vardozek";
+
+// The journal of the run of a program, if `view` or `trace` is to show one.
+fn ran<S: System>(
+    alloc: Global,
+    is_asked: bool,
+    words: &ArgMatches<'_>,
+    world: &mut World<S>,
+) -> Result<Option<String>, u8> {
+    let Some(path) = words.get_str("IMAGE") else {
+        return Ok(None);
+    };
+    if !is_asked {
+        return Ok(None);
+    }
+    let image = image_at(alloc, path, world)?;
+    let names = names_at(alloc, PROGRAM, path, words.get_str("map"), world)?;
+    Ok(Some(journal_for(alloc, words, path, &image, &names, world)?))
+}
 
 // `view` and `trace`, which replay a journal.
 fn show_run<S: System>(
@@ -31,12 +49,21 @@ fn show_run<S: System>(
     let Ok(devices) = program_devices(alloc) else {
         return memory_refused(PROGRAM, world);
     };
+    let is_asked = if name == "view" {
+        views_program(words)
+    } else {
+        traces_program(words)
+    };
+    let journal = match ran(alloc, is_asked, words, world) {
+        Ok(journal) => journal,
+        Err(status) => return status,
+    };
     if name == "view" {
         let mut progress = Progress::new(rt, "vardozek view: event");
-        return view(alloc, words, devices, &mut progress, world);
+        return view(alloc, words, journal, devices, &mut progress, world);
     }
     let mut progress = Progress::new(rt, "vardozek trace: event");
-    trace(alloc, words, devices, &mut progress, world)
+    trace(alloc, words, journal, devices, &mut progress, world)
 }
 
 // `gdb`, which a thread hears.
@@ -60,6 +87,7 @@ fn do_word<
     rt: &HostRuntime,
     threads: R,
     word: (&str, &ArgMatches<'_>),
+    is_typed: bool,
     heard: I,
     world: &mut World<S>,
 ) -> u8 {
@@ -69,6 +97,7 @@ fn do_word<
         "sh" => sh(
             rt.alloc(),
             words,
+            is_typed,
             Progress::new(rt, "vardozek sh: round"),
             world,
         ),
@@ -78,15 +107,23 @@ fn do_word<
     }
 }
 
-/// Does what the words ask for, and returns the exit status. `gdb` hears what GDB sends in a thread of its own.
+/// Does what the words ask for, and returns the exit status. `gdb` hears what GDB sends in a thread of its own. What `sh` reads may be typed
+/// at a terminal.
 pub fn answer<
     S: System,
     R: Threads + Wait + Copy + Send + Drop + 'static,
     I: Read + Send + Drop + 'static,
->(rt: &HostRuntime, threads: R, words: &[String], heard: I, world: &mut World<S>) -> u8 {
+>(
+    rt: &HostRuntime,
+    threads: R,
+    words: &[String],
+    is_typed: bool,
+    heard: I,
+    world: &mut World<S>,
+) -> u8 {
     match parse(rt.alloc(), words) {
         Ok(matches) => match matches.subcommand() {
-            Some(word) => do_word(rt, threads, word, heard, world),
+            Some(word) => do_word(rt, threads, word, is_typed, heard, world),
             None => USAGE,
         },
         Err(error) => refuse(rt.alloc(), PROGRAM, &error, "", world),
@@ -98,8 +135,16 @@ pub fn answer<
 /// It has no contract: which words std gives, and what its streams did before, no clause can name.
 pub fn run<R: Threads + Wait + Copy + Send + Drop + 'static>(rt: &HostRuntime, threads: R) -> u8 {
     let mut world = host_world(rt);
+    let is_typed = rt.stdin().is_terminal();
     match words_of(rt) {
-        Ok(words) => answer(rt, threads, words.as_slice(), rt.stdin(), &mut world),
+        Ok(words) => answer(
+            rt,
+            threads,
+            words.as_slice(),
+            is_typed,
+            rt.stdin(),
+            &mut world,
+        ),
         Err(fault) => no_words(PROGRAM, fault, &mut world),
     }
 }

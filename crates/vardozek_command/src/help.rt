@@ -18,23 +18,25 @@ Standard error says how the run ended, and if tasks are left who runs, who waits
 
 The run ends when all tasks have ended, at an EBREAK, at a fault, at a deadlock, or when the
 journal has no room: after 1048576 events, or those of --until. --until idle ends it where no
-processor has anything to do.
+processor has anything to do. With --script all lines of a script are done, as evltool run does
+them, and then it is said how the machine stands; views go to standard error.
 
 Statuses:
   0  all tasks have ended by exit
-  1  the run ended in another way, or memory ran out
+  1  the run ended in another way, a line of a script or a map is bad or refused, or memory ran out
   2  the command line is wrong
   3  IMAGE is no image
   4  a file can't be opened, or a read or a write failed
 
 Example:
   vardozek run tutorial_mended.elf --journal tutorial.journal
-  vardozek view tutorial_mended.elf tutorial.journal tutorial.svg";
+  vardozek view --run tutorial_mended.elf tutorial.svg";
 
 /// Behind the help of `view`.
 pub(crate) const VIEW_HELP: &str = "\
 OUT gets an SVG picture, which any browser shows. If OUT is -, the picture goes to standard output.
-Of a long run neighbouring events are drawn in one column: cut a window by --from and --to.
+Of a long run neighbouring events are drawn in one column: cut a window by --from and --to, each an
+event's number, tick:N, or mark:TEXT for the first event of which TEXT is told.
 If the name of OUT ends in .html, it gets a page in place of the picture: the whole run, which a
 browser zooms, searches and explains. It opens at the events of --from and --to. docs/TOOLS.md
 describes both.
@@ -68,9 +70,10 @@ Statuses:
 
 /// Behind the help of `trace`.
 pub(crate) const TRACE_HELP: &str = "\
-OUT gets Chrome trace events, one a line: open it in https://ui.perfetto.dev or chrome://tracing.
-If OUT is -, the trace goes to standard output. A microsecond of the trace is one event of the
-journal. If the journal is bad, OUT has a part of a trace. docs/TOOLS.md describes the tracks.
+OUT gets Chrome trace events, one a line: open it in https://ui.perfetto.dev. If OUT is -, the trace
+goes to standard output. A microsecond of the trace is one event of the journal, a Step (--clock
+steps) or a thousandth of a tick (--clock ticks). If the journal is bad, OUT has a part of a trace.
+docs/TOOLS.md describes the tracks.
 
 Statuses:
   0  the trace is written
@@ -112,15 +115,19 @@ Failures:
   fault       a task ends by a fault
   deadlock    a task waits without a deadline, and none can run again
   notice      a notice of the health monitor: notice-1 a call demoted a task, notice-2 a fault
-              did, notice-3 a lock would never end, notice-4 a task unlocked what it doesn't own
+              did, notice-3 a lock would never end, notice-4 a task unlocked what it doesn't own,
+              notice-5 the watchdog demoted a task
   abandoned   a task ends while it has a mutex, which passes on to another task
+  demotion    a task goes in-band other than by a call for that
+  overrun     a wait for a timer is answered with more than one expiry
   lost        a line of --lines is played in-band where no task waits for it
+  stuck       a task does not run for more than 1000 rounds while others do, or --stuck N
 
-Printed is a line for each failure, once for its kind and place: KIND ADDRESS seed S events N,
-with the events that are left when those that aren't needed are left out. The last line counts the
-schedules, their events, and the schedules that were cut off at their bound. With --all B a switch
-is a step of another processor than the one that stepped last, a tick or a raise, and the number of
-a schedule takes the place of a seed; --runs bounds the schedules.
+A line is printed for each failure when it is found, once for its kind and place: KIND ADDRESS seed
+S. At the end each has its shortest schedule: a comment that says how many events, and the script's
+lines. The last line counts the schedules, their events, and the schedules that were cut off at
+their bound. With --all B a switch is a step of another processor than the one that stepped last, a
+tick or a raise, and a schedule's number takes the place of a seed; --runs bounds the schedules.
 
 Statuses: 0 none found, 1 one found, 2 wrong words, 3 no image, 4 a file can't be read or written
 

@@ -16,6 +16,10 @@ fn place_arg<'a>(alloc: Global, place: &Place) -> Result<Arg<'a>, AllocError> {
         Need::Always => Ok(arg.required(true)),
         Need::Never => Ok(arg),
         Need::NeverWith(option) => arg.conflicts_with(option),
+        Need::WithoutBoth(option, other) => arg
+            .required_unless_present_any(&[option, other])?
+            .conflicts_with(option),
+        Need::Unless(option) => arg.required_unless_present(option),
         Need::Without(option) => arg.required_unless_present(option)?.conflicts_with(option),
     }
 }
@@ -37,6 +41,7 @@ fn with_value<'a>(arg: Arg<'a>, value: &Value) -> Arg<'a> {
             .value_name(name)
             .value_delimiter(',')
             .value_parser(ValueParser::Unsigned(least, most)),
+        Value::Name(name, names) => arg.value_name(name).value_parser(ValueParser::Names(names)),
         Value::Names(name, names) => arg
             .value_name(name)
             .value_delimiter(',')
@@ -61,6 +66,9 @@ fn word_command<'a>(alloc: Global, word: &Word) -> Result<Command<'a>, AllocErro
     }
     for option in word.options {
         command = command.arg(option_arg(alloc, option)?)?;
+    }
+    for option in word.course {
+        command = command.arg(option_arg(alloc, option)?.requires_arg("run")?)?;
     }
     Ok(command)
 }

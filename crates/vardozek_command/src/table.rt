@@ -2,7 +2,7 @@
 //! shells: `.ci/words --write` writes them.
 
 use crate::help::{DIFF_HELP, GDB_HELP, HUNT_HELP, RUN_HELP, TRACE_HELP, VIEW_HELP};
-use evm_shell::SHELL_HELP;
+use sh_command::SHELL_HELP;
 
 /// What an option takes.
 #[derive(Clone, Copy)]
@@ -19,6 +19,8 @@ pub(crate) enum Value {
     Two(&'static [&'static str], u64, u64),
     /// A list of numbers between two others, by commas.
     Numbers(&'static str, u64, u64),
+    /// One of these names.
+    Name(&'static str, &'static [&'static str]),
     /// A list of these names, by commas.
     Names(&'static str, &'static [&'static str]),
 }
@@ -40,8 +42,12 @@ pub(crate) enum Need {
     Never,
     /// If an option is not there, which excludes it.
     Without(&'static str),
+    /// The same, and if another option is not there either.
+    WithoutBoth(&'static str, &'static str),
     /// Never, and an option excludes it.
     NeverWith(&'static str),
+    /// If an option is not there.
+    Unless(&'static str),
 }
 
 /// A word that stands at its place: a file.
@@ -59,6 +65,8 @@ pub(crate) struct Word {
     pub(crate) about: &'static str,
     pub(crate) places: &'static [Place],
     pub(crate) options: &'static [Choice],
+    /// Those that may only stand beside `--run`.
+    pub(crate) course: &'static [Choice],
     /// What help teaches behind the options.
     pub(crate) help: &'static str,
 }
@@ -79,17 +87,23 @@ const JOURNAL: Place = Place {
     help: "The file of the journal",
 };
 
+const RUN_JOURNAL: Place = Place {
+    name: "JOURNAL",
+    need: Need::Unless("run"),
+    help: "The file of the journal; with --run it is left out, and OUT is next",
+};
+
 const FROM: Choice = Choice {
     name: "from",
-    value: Value::Number("N", 0, 4_294_967_295),
-    help: "The first event, counted from 0",
+    value: Value::Text("PLACE"),
+    help: "The first event: its number from 0, tick:N or mark:TEXT",
     excludes: &[],
 };
 
 const TO: Choice = Choice {
     name: "to",
-    value: Value::Number("N", 0, 4_294_967_295),
-    help: "The event behind the last",
+    value: Value::Text("PLACE"),
+    help: "The event behind the last; of mark:TEXT the last",
     excludes: &[],
 };
 
@@ -100,11 +114,88 @@ const TEXT: Choice = Choice {
     excludes: &[],
 };
 
+const MAP: Choice = Choice {
+    name: "map",
+    value: Value::Text("FILE"),
+    help: "Names and lines of sources, as kit/map writes them [default: beside IMAGE]",
+    excludes: &[],
+};
+
+const MUTEXES: Choice = Choice {
+    name: "mutexes",
+    value: Value::Flag,
+    help: "Adds a lane for each mutex",
+    excludes: &[],
+};
+
 const BESIDE: Choice = Choice {
     name: "beside",
     value: Value::Text("OTHER"),
     help: "A journal whose run the page shows beside the other",
     excludes: &["text"],
+};
+
+const CPUS: Choice = Choice {
+    name: "cpus",
+    value: Value::Number("N", 1, 8),
+    help: "Processors [default: 2]",
+    excludes: &[],
+};
+
+const RAM: Choice = Choice {
+    name: "ram",
+    value: Value::Number("BYTES", 65_536, 16_777_216),
+    help: "Bytes of RAM [default: what the image is linked for, or 16777216]",
+    excludes: &[],
+};
+
+const WATCHDOG: Choice = Choice {
+    name: "watchdog",
+    value: Value::Number("W", 0, 1_000_000),
+    help: "Demotes an out-of-band task that W ticks in a row find running [default: 0, never]",
+    excludes: &[],
+};
+
+const TICKS: Choice = Choice {
+    name: "ticks",
+    value: Value::Number("N", 1, 1_048_576),
+    help: "The clock ticks every N rounds [default: 1000]",
+    excludes: &[],
+};
+
+const LINES: Choice = Choice {
+    name: "lines",
+    value: Value::Texts("L@N,.."),
+    help: "Line L is raised on processor 0 every N rounds, without @N with each tick",
+    excludes: &[],
+};
+
+const SEED: Choice = Choice {
+    name: "seed",
+    value: Value::Number("S", 0, 18_446_744_073_709_551_614),
+    help: "Draws which processor steps next; without it each steps in turn",
+    excludes: &[],
+};
+
+const UNTIL: Choice = Choice {
+    name: "until",
+    value: Value::Text("END"),
+    help: "exit, idle or a number of events at most [default: exit]",
+    excludes: &[],
+};
+
+const SCRIPT: Choice = Choice {
+    name: "script",
+    value: Value::Text("FILE"),
+    help: "Runs by the lines of a script, in the place of all that",
+    excludes: &["cpus", "ram", "watchdog", "ticks", "lines", "seed", "until"],
+};
+
+const BY_RUN: Choice = Choice {
+    name: "run",
+    value: Value::Flag,
+    help: "Runs IMAGE as `vardozek run` does, in the place of a journal",
+    excludes: &[],
 };
 
 /// `run`.
@@ -113,72 +204,41 @@ pub(crate) const RUN: Word = Word {
     about: "Runs a program until its tasks have ended",
     places: &[IMAGE],
     options: &[
-        Choice {
-            name: "cpus",
-            value: Value::Number("N", 1, 8),
-            help: "Processors [default: 2]",
-            excludes: &[],
-        },
-        Choice {
-            name: "ram",
-            value: Value::Number("BYTES", 65_536, 16_777_216),
-            help: "Bytes of RAM [default: what the image is linked for, or 16777216]",
-            excludes: &[],
-        },
-        Choice {
-            name: "ticks",
-            value: Value::Number("N", 1, 1_048_576),
-            help: "The clock ticks every N rounds [default: 1000]",
-            excludes: &[],
-        },
-        Choice {
-            name: "lines",
-            value: Value::Texts("L@N,.."),
-            help: "Line L is raised on processor 0 every N rounds, without @N with each tick",
-            excludes: &[],
-        },
-        Choice {
-            name: "seed",
-            value: Value::Number("S", 0, 18_446_744_073_709_551_614),
-            help: "Draws which processor steps next; without it each steps in turn",
-            excludes: &[],
-        },
-        Choice {
-            name: "until",
-            value: Value::Text("END"),
-            help: "exit, idle or a number of events at most [default: exit]",
-            excludes: &[],
-        },
+        CPUS,
+        RAM,
+        WATCHDOG,
+        TICKS,
+        LINES,
+        SEED,
+        UNTIL,
+        SCRIPT,
         Choice {
             name: "journal",
             value: Value::Text("OUT"),
             help: "Writes the journal",
             excludes: &[],
         },
-        Choice {
-            name: "map",
-            value: Value::Text("FILE"),
-            help: "The lines of sources that addresses come from, as kit/map writes them",
-            excludes: &[],
-        },
+        MAP,
     ],
+    course: &[],
     help: RUN_HELP,
 };
 
 /// `view`.
 pub(crate) const VIEW: Word = Word {
     name: "view",
-    about: "Draws the run of a journal",
+    about: "Draws the run of a journal, or of a program",
     places: &[
         IMAGE,
-        JOURNAL,
+        RUN_JOURNAL,
         Place {
             name: "OUT",
-            need: Need::Without("text"),
+            need: Need::WithoutBoth("text", "run"),
             help: "The file that the picture is written to; of a name that ends in .html, the page",
         },
     ],
-    options: &[FROM, TO, TEXT, BESIDE],
+    options: &[FROM, TO, TEXT, MUTEXES, BESIDE, MAP, BY_RUN],
+    course: &[CPUS, RAM, WATCHDOG, TICKS, LINES, SEED, UNTIL, SCRIPT],
     help: VIEW_HELP,
 };
 
@@ -200,24 +260,35 @@ pub(crate) const DIFF: Word = Word {
             help: "The file that a picture is written to",
         },
     ],
-    options: &[FROM, TO, TEXT],
+    options: &[FROM, TO, TEXT, MUTEXES, MAP],
+    course: &[],
     help: DIFF_HELP,
 };
 
 /// `trace`.
 pub(crate) const TRACE: Word = Word {
     name: "trace",
-    about: "Writes the run of a journal as a trace",
+    about: "Writes the run of a journal, or of a program, as a trace",
     places: &[
         IMAGE,
-        JOURNAL,
+        RUN_JOURNAL,
         Place {
             name: "OUT",
-            need: Need::Always,
+            need: Need::Unless("run"),
             help: "The file that the trace is written to",
         },
     ],
-    options: &[],
+    options: &[
+        Choice {
+            name: "clock",
+            value: Value::Name("CLOCK", &["events", "steps", "ticks"]),
+            help: "What a microsecond of the trace counts [default: events]",
+            excludes: &[],
+        },
+        MAP,
+        BY_RUN,
+    ],
+    course: &[CPUS, RAM, WATCHDOG, TICKS, LINES, SEED, UNTIL, SCRIPT],
     help: TRACE_HELP,
 };
 
@@ -234,6 +305,7 @@ pub(crate) const GDB: Word = Word {
         },
     ],
     options: &[],
+    course: &[],
     help: GDB_HELP,
 };
 
@@ -262,13 +334,9 @@ pub(crate) const SHELL: Word = Word {
             help: "Writes the journal",
             excludes: &[],
         },
-        Choice {
-            name: "map",
-            value: Value::Text("FILE"),
-            help: "The lines of sources that addresses come from, as kit/map writes them",
-            excludes: &[],
-        },
+        MAP,
     ],
+    course: &[],
     help: SHELL_HELP,
 };
 
@@ -281,8 +349,8 @@ pub(crate) const HUNT: Word = Word {
         Choice {
             name: "random",
             value: Value::Flag,
-            help: "Chooses each step at random, as it does without an option",
-            excludes: &[],
+            help: "Chooses each step at random; without it, by turns of the seed at random and by priorities",
+            excludes: &["pct"],
         },
         Choice {
             name: "pct",
@@ -305,7 +373,13 @@ pub(crate) const HUNT: Word = Word {
         Choice {
             name: "ram",
             value: Value::Number("BYTES", 65_536, 16_777_216),
-            help: "Bytes of RAM [default: 65536]",
+            help: "Bytes of RAM [default: what the image is linked for, or 65536]",
+            excludes: &[],
+        },
+        Choice {
+            name: "watchdog",
+            value: Value::Number("W", 0, 1_000_000),
+            help: "The watchdog demotes a task after W ticks [default: 0, none]",
             excludes: &[],
         },
         Choice {
@@ -317,7 +391,13 @@ pub(crate) const HUNT: Word = Word {
         Choice {
             name: "runs",
             value: Value::Number("N", 1, 4_294_967_295),
-            help: "Schedules, of the seeds from 0 on [default: 1000]",
+            help: "Schedules, of the seeds from 0 on",
+            excludes: &[],
+        },
+        Choice {
+            name: "time",
+            value: Value::Text("TIME"),
+            help: "Begins no schedule after this time, as 90s, 5m or 2h [default: 5s, without --runs, --seeds and --all]",
             excludes: &[],
         },
         Choice {
@@ -328,7 +408,7 @@ pub(crate) const HUNT: Word = Word {
         },
         Choice {
             name: "lines",
-            value: Value::Numbers("L,..", 2, 31),
+            value: Value::Numbers("L,..", 2, 63),
             help: "Lines that a schedule raises",
             excludes: &[],
         },
@@ -357,6 +437,12 @@ pub(crate) const HUNT: Word = Word {
             excludes: &[],
         },
         Choice {
+            name: "junit",
+            value: Value::Text("OUT.xml"),
+            help: "Writes a test suite, a case for each kind of failure, with a journal and a script beside it",
+            excludes: &[],
+        },
+        Choice {
             name: "held",
             value: Value::Number("N", 0, 1_048_576),
             help: "Looks for a mutex that one task has for more than N ticks",
@@ -368,7 +454,14 @@ pub(crate) const HUNT: Word = Word {
             help: "Looks for a task of a rank above R that one of a lower rank keeps back for more than N steps",
             excludes: &[],
         },
+        Choice {
+            name: "stuck",
+            value: Value::Number("N", 0, 1_048_576),
+            help: "Looks for a task that does not run for more than N rounds while others do",
+            excludes: &[],
+        },
     ],
+    course: &[],
     help: HUNT_HELP,
 };
 
@@ -382,8 +475,12 @@ const FAILURES: &[&str] = &[
     "notice-2",
     "notice-3",
     "notice-4",
+    "notice-5",
     "abandoned",
+    "demotion",
+    "overrun",
     "lost",
+    "stuck",
 ];
 
 /// The names of errors.

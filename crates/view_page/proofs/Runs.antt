@@ -2,14 +2,14 @@
 use Rattle.std.proofs.Common.{◌≡◌, ◌≢◌, ℕ, ◌+◌, ◌-◌, ◌<◌, ◌≤◌, ◌^◌, List, [], ◌∷◌, ◌++◌, length, flat_map, refl, sym, ap, subst, ◌∙◌, append_assoc, arith}
 use Rattle.std.proofs.lemmas.List.{append-nil}
 use Rattle.std.specs.Prelude.{OnOk, Option, Some, None, Result, Ok, Err}
-use Rattle.evm_json.specs.Text.{text}
+use Rattle.text_json.specs.Text.{text}
 use Rattle.evm_image.specs.Images.{Contents}
 use Rattle.evm_model.specs.Devices.{Attached}
-use Rattle.evm_timeline.specs.Walks.{Follows, IsBegin, IsNext, Walked, place}
-use Rattle.view_row.specs.Rows.{row_json}
-use Rattle.view_row.specs.Texts.{IsSafe}
-use Rattle.view_row.proofs.Loops.{flat-append}
-use Rattle.view_row.proofs.Safe.{safe-append, safe-row}
+use Rattle.run_marks.specs.Walks.{Follows, IsBegin, IsNext, Walked, place}
+use Rattle.view_page.specs.Rows.{row_json}
+use Rattle.view_page.specs.Texts.{IsSafe}
+use Rattle.view_page.proofs.Loops.{flat-append}
+use Rattle.view_page.proofs.Safe.{safe-append, safe-row}
 use Rattle.view_page.specs.Entries.{Entry, entries_text, entry_numbers, entry_text}
 use Rattle.view_page.specs.Pages.{AddsRun, IsToldRun, TellsEntries, TellsAll, TellsNext}
 use Rattle.view_page.specs.Texts.{run_text}

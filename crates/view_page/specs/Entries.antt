@@ -1,20 +1,20 @@
 -- What is written of each item of a journal: an entry, which is a row of numbers.
 use Rattle.std.specs.Prelude.{ℕ, ◌+◌, ◌-◌, ◌*◌, ◌/◌, ◌%◌, ◌^◌, ◌==◌, List, [], ◌∷◌, ◌++◌, Option, Some, None, Bool, true, false, flat_map, if◌then◌else◌, nat_lt}
-use Rattle.evm_json.specs.Text.{text}
+use Rattle.text_json.specs.Text.{text}
 use Rattle.evm_model.specs.declared.event.Event.{Event as EventOf}
 use Rattle.evm_model.specs.declared.event.Event.TheVariants.{Step, Tick, Raise, Bell, Stop, Go, StepI, SetReg, SetPc, Poke, Break, Unbreak}
 use Rattle.evm_model.specs.declared.fault.Fault.{Fault}
 use Rattle.evm_model.specs.declared.fault.Fault.TheVariants as faults
 use Rattle.evm_model.specs.declared.notice.NoticeKind.{NoticeKind}
-use Rattle.evm_model.specs.declared.notice.NoticeKind.TheVariants.{DemotedByCall, DemotedByFault, Deadlock, NotOwner}
+use Rattle.evm_model.specs.declared.notice.NoticeKind.TheVariants.{DemotedByCall, DemotedByFault, Deadlock, NotOwner, Overran}
 use Rattle.evm_model.specs.declared.stage.Stage.{Stage}
 use Rattle.evm_model.specs.declared.stage.Stage.TheVariants.{OutOfBand, InBand}
 use Rattle.evm_model.specs.declared.task.Wait.{Wait}
 use Rattle.evm_model.specs.declared.task.Wait.TheVariants as waits
-use Rattle.evm_timeline.specs.declared.item.Item.{Item}
-use Rattle.evm_timeline.specs.declared.mark.Mark.{Mark}
-use Rattle.evm_timeline.specs.declared.mark.Mark.TheVariants as marks
-use Rattle.view_row.specs.Rows.{row_json}
+use Rattle.run_marks.specs.declared.item.Item.{Item}
+use Rattle.run_marks.specs.declared.mark.Mark.{Mark}
+use Rattle.run_marks.specs.declared.mark.Mark.TheVariants as marks
+use Rattle.view_page.specs.Rows.{row_json}
 
 -- ---- an event: its kind and its processor, and what it names
 -- a number of 64 bits in two halves
@@ -77,6 +77,7 @@ notice_code DemotedByCall = 1
 notice_code DemotedByFault = 2
 notice_code Deadlock = 3
 notice_code NotOwner = 4
+notice_code Overran = 5
 
 -- 0, or 1 more than the number of a task
 abbrev pub owner_number : Option ℕ → ℕ
@@ -86,7 +87,7 @@ owner_number (Some task) = task + 1
 -- a line that was raised (0), received (1), played out-of-band (2) or in-band (3), once or more often
 abbrev pub line_numbers : ℕ → ℕ → ℕ → ℕ → List ℕ
 line_numbers passage cpu line times =
-    if times == 1 then ((1000 + (passage * 256 + cpu * 32 + line)) ∷ []) else ((3000 + (passage * 256 + cpu * 32 + line)) ∷ times ∷ [])
+    if times == 1 then ((1000 + (passage * 512 + cpu * 64 + line)) ∷ []) else ((4000 + (passage * 512 + cpu * 64 + line)) ∷ times ∷ [])
 
 abbrev pub wait_numbers : Wait → List ℕ
 wait_numbers (waits.Line line) = 1 ∷ line ∷ []
@@ -120,6 +121,7 @@ task_numbers (marks.Faulted task fault) = 117 ∷ task ∷ fault_code fault ∷ 
 task_numbers (marks.Owner mutex from to) = 118 ∷ mutex ∷ owner_number from ∷ owner_number to ∷ []
 task_numbers (marks.Ticked times) = 119 ∷ times ∷ []
 task_numbers (marks.Notice kind task times) = 120 ∷ notice_code kind ∷ task ∷ times ∷ []
+task_numbers (marks.Migrates task cpu) = 121 ∷ task ∷ cpu ∷ []
 task_numbers _ = []
 
 unfoldable pub mark_numbers : Mark → List ℕ

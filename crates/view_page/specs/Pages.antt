@@ -2,7 +2,7 @@
 use Rattle.std.specs.Prelude.{◌≡◌, ℕ, ◌-◌, ◌^◌, List, [], ◌∷◌, ◌++◌, Option, Some, None, length}
 use Rattle.evm_image.specs.Images.{Contents}
 use Rattle.evm_model.specs.Devices.{Attached}
-use Rattle.evm_timeline.specs.Walks.{Follows, IsBegin, IsMarked, IsNext, Walked, place}
+use Rattle.run_marks.specs.Walks.{Follows, IsBegin, IsMarked, IsNext, Walked, place}
 use Rattle.view_page.specs.Entries.{Entry}
 use Rattle.view_page.specs.Texts.{run_text}
 
@@ -37,5 +37,5 @@ abbrev pub AddsRun : List Attached → Contents → List ℕ → List ℕ → Li
 AddsRun devices image journal old new = (run : List ℕ) × IsToldRun devices image journal run × (new ≡ old ++ run)
 
 -- a page has this run
-abbrev pub HasRun : List Attached → Contents → List ℕ → List ℕ → Type 0
-HasRun devices image journal page = (front run back : List ℕ) × IsToldRun devices image journal run × (page ≡ front ++ (run ++ back))
+abbrev pub HoldsRun : List Attached → Contents → List ℕ → List ℕ → Type 0
+HoldsRun devices image journal page = (front run back : List ℕ) × IsToldRun devices image journal run × (page ≡ front ++ (run ++ back))

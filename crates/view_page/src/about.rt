@@ -1,10 +1,12 @@
 //! The header of a run: JSON with the names of its files, and the symbols of the program.
 
-use evm_json::push_quoted;
+use evm_ram::BASE;
 use evm_room::{Refused, push_text};
-use evm_symbols::{Symbol, SymbolKind, Symbols};
 use evm_text::push_decimal;
+use run_marks::{Kind, Named, Names, RunNames};
 use std::alloc::Global;
+use text_json::push_quoted;
+use text_symbols::{Map, SourceLine, Symbol, SymbolKind};
 
 /// What a page says of a run.
 #[derive(Clone, Copy)]
@@ -13,7 +15,10 @@ pub struct About<'a> {
     pub image: &'a str,
     /// The file of the journal.
     pub journal: &'a str,
-    pub symbols: &'a Symbols,
+    /// Its symbols, and its map.
+    pub program: &'a Names,
+    /// The names of its tasks and objects.
+    pub names: &'a RunNames,
     /// The event that the page shows first, counted from 0.
     pub from: u64,
     /// The event behind the last that it shows first.
@@ -61,6 +66,63 @@ fn push_symbols(out: &mut String, symbols: &[Symbol]) -> Result<(), Refused> {
     Ok(())
 }
 
+// What has a name: 0 for a task, else as in an entry that waits for it.
+fn named_number(kind: Kind) -> u64 {
+    match kind {
+        Kind::Task => 0,
+        Kind::Mutex => 2,
+        Kind::Semaphore => 4,
+        Kind::Event => 5,
+        Kind::Flags => 6,
+        Kind::Timer => 8,
+    }
+}
+
+fn push_name(out: &mut String, named: &Named) -> Result<(), Refused> {
+    push_number(out, "[", named_number(named.kind))?;
+    push_number(out, ",", u64::from(named.number))?;
+    push_text(out, ",")?;
+    push_quoted(out, named.name.as_bytes())?;
+    push_text(out, "]")
+}
+
+fn push_names(out: &mut String, names: &[Named]) -> Result<(), Refused> {
+    let mut comma = "";
+    for named in names {
+        push_text(out, comma)?;
+        push_name(out, named)?;
+        comma = ",";
+    }
+    Ok(())
+}
+
+// A line of code: where it begins, behind RAM's begin, and the line of a source that it comes from.
+fn push_line(out: &mut String, offset: u64, line: Option<SourceLine<'_>>) -> Result<(), Refused> {
+    push_number(out, "[", offset)?;
+    if let Some(line) = line {
+        push_text(out, ",")?;
+        push_quoted(out, line.file.as_bytes())?;
+        push_number(out, ",", line.line)?;
+        push_text(out, ",")?;
+        push_quoted(out, line.function.as_bytes())?;
+    }
+    push_text(out, "]")
+}
+
+fn push_lines(out: &mut String, map: &Map) -> Result<(), Refused> {
+    let mut comma = "";
+    for number in 0..map.code_count() {
+        if let Some((address, line)) = map.code_line(number)
+            && address >= BASE
+        {
+            push_text(out, comma)?;
+            push_line(out, address - BASE, line)?;
+            comma = ",";
+        }
+    }
+    Ok(())
+}
+
 // The numbers of a window, and where the run parts from another.
 fn push_window(out: &mut String, about: &About<'_>) -> Result<(), Refused> {
     push_number(out, ",\"from\":", about.from)?;
@@ -80,7 +142,11 @@ pub fn about_text(alloc: Global, about: &About<'_>) -> Result<String, Refused> {
     push_quoted(&mut out, about.journal.as_bytes())?;
     push_window(&mut out, about)?;
     push_text(&mut out, ",\"symbols\":[")?;
-    push_symbols(&mut out, about.symbols.symbols())?;
+    push_symbols(&mut out, about.program.symbols.symbols())?;
+    push_text(&mut out, "],\"names\":[")?;
+    push_names(&mut out, about.names.all())?;
+    push_text(&mut out, "],\"lines\":[")?;
+    push_lines(&mut out, &about.program.map)?;
     push_text(&mut out, "]}")?;
     Ok(out)
 }

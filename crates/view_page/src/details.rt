@@ -4,17 +4,14 @@ ghost use Rattle.std.specs.Prelude.{◌<◌};
 
 use crate::heads::place_number;
 use crate::marks::stage_number;
+use crate::row::put;
 use evm_dev::Device;
 use evm_exec::Hart;
-use evm_model::{Class, Event, PROCESSOR_LIMIT, Stage, TIMER_LIMIT, TaskState, Timer};
+use evm_model::{Class, Stage, TIMER_LIMIT, TaskState, Timer};
 use evm_room::Refused;
-use evm_timeline::{Item, Look, Machine, Mark};
-use view_row::put;
-
-/// The registers of a call: its number and its arguments.
-const NUMBER: usize = 17;
-
-const ARGUMENT: usize = 10;
+use run_marks::{
+    Answered, Caller, Callers, Item, Look, Machine, MadeCall, Mark, call_at, instruction_at,
+};
 
 /// The devices: where their registers begin, and how many bytes each device has.
 const DEVICES: u64 = 0x1000_0000;
@@ -25,9 +22,7 @@ const DEVICE_BYTES: u64 = 0x1000;
 
 const REGISTER_BYTES: u64 = 8;
 
-/// The words of an ECALL, and the low 7 bits of it, of loads and of stores.
-const ECALL: u32 = 0x73;
-
+/// The low 7 bits of an ECALL, of loads and of stores.
 const SYSTEM: u32 = 0x73;
 
 const LOAD: u32 = 0x03;
@@ -45,31 +40,16 @@ fn field(word: u32, place: u32) -> u32
 /// What is known of a machine before the next event.
 #[derive(Clone, Copy)]
 pub(crate) struct Known {
-    // the current task of each processor, and its first argument
-    callers: [Option<(u8, u64)>; PROCESSOR_LIMIT],
+    pub(crate) callers: Callers,
     timers: [Option<Timer>; TIMER_LIMIT],
-}
-
-fn caller_of<D: Device>(machine: &Machine<D>, cpu: u8) -> Option<(u8, u64)> {
-    let task = machine.cpu(cpu)?.current?;
-    Some((task, machine.lent_hart(task)?.regs[ARGUMENT]))
 }
 
 impl Known {
     /// Nothing is known.
     pub(crate) fn new() -> Known {
         Known {
-            callers: [None; PROCESSOR_LIMIT],
+            callers: Callers::new(),
             timers: [None; TIMER_LIMIT],
-        }
-    }
-
-    /// Looks at the callers before the next event.
-    pub(crate) fn look<D: Device>(&mut self, machine: &Machine<D>) {
-        for cpu in 0..machine.cpu_count() {
-            if let Some(caller) = self.callers.get_mut(usize::from(cpu)) {
-                *caller = caller_of(machine, cpu);
-            }
         }
     }
 }
@@ -77,7 +57,7 @@ impl Known {
 // How many arguments a call has (docs/CALLS.md).
 fn argument_count(number: u64) -> usize {
     match number {
-        1 | 6 | 10 | 33 | 35 | 37 | 38 | 40 | 41 | 43 | 44 | 47 | 49 => 1,
+        1 | 6 | 10 | 33 | 35 | 37 | 38 | 40 | 41 | 43 | 44 | 47 | 49 | 55 => 1,
         7 | 9 | 36 | 39 | 45 | 46 => 2,
         3 | 14 | 34 | 42 | 48 => 3,
         _ => 0,
@@ -94,25 +74,12 @@ fn answer_number(answer: u64) -> u64 {
     }
 }
 
-// Whether a task waits.
-fn is_waiting(look: &Look, task: u8) -> bool {
-    match look.tasks.get(usize::from(task)) {
-        Some(task) => match task.state {
-            TaskState::Waits(_) => true,
-            _ => false,
-        },
-        None => false,
-    }
-}
-
 // How a call is answered at once: 0 where it isn't, 1 where the task changes its stage first, and from 2 on the answer.
-fn outcome_number(look: &Look, task: u8, hart: &Hart, pc: u64) -> u64 {
-    if hart.pc == pc {
-        1
-    } else if is_waiting(look, task) {
-        0
-    } else {
-        answer_number(hart.regs[ARGUMENT]).saturating_add(2)
+fn outcome_number(outcome: Answered) -> u64 {
+    match outcome {
+        Answered::Waits => 0,
+        Answered::Changes => 1,
+        Answered::Answers(answer) => answer_number(answer).saturating_add(2),
     }
 }
 
@@ -120,19 +87,12 @@ fn outcome_number(look: &Look, task: u8, hart: &Hart, pc: u64) -> u64 {
 fn put_call<D: Device>(
     row: &mut Vec<u64>,
     machine: &Machine<D>,
-    look: &Look,
-    caller: (u8, u64),
-    pc: u64,
+    call: &MadeCall,
 ) -> Result<(), Refused> {
-    let (task, first) = caller;
-    let Some(hart) = machine.lent_hart(task) else {
-        return Ok(());
-    };
-    let number = hart.regs[NUMBER];
-    put(row, &[200, number, outcome_number(look, task, hart, pc)])?;
-    let arguments = [first, hart.regs[ARGUMENT + 1], hart.regs[ARGUMENT + 2]];
-    put(row, arguments.get(..argument_count(number)).unwrap_or(&[]))?;
-    put_object(row, machine, number, first)
+    put(row, &[200, call.number, outcome_number(call.outcome)])?;
+    let count = argument_count(call.number);
+    put(row, call.arguments.get(..count).unwrap_or(&[]))?;
+    put_object(row, machine, call.number, call.arguments[0])
 }
 
 // What a semaphore or a flag group has behind a call on it.
@@ -171,15 +131,6 @@ fn put_access(row: &mut Vec<u64>, code: u64, address: u64, value: u64) -> Result
             value,
         ],
     )
-}
-
-// The word at an address.
-fn word_at<D: Device>(machine: &Machine<D>, pc: u64) -> Option<u32> {
-    let bytes = machine.bytes(pc, 4)?;
-    match bytes {
-        [a, b, c, d] => Some(u32::from_le_bytes([*a, *b, *c, *d])),
-        _ => None,
-    }
 }
 
 // A register by its number.
@@ -225,14 +176,18 @@ fn put_instruction<D: Device>(
     row: &mut Vec<u64>,
     machine: &Machine<D>,
     look: &Look,
-    caller: (u8, u64),
+    caller: Caller,
     pc: u64,
 ) -> Result<(), Refused> {
-    let (Some(hart), Some(word)) = (machine.lent_hart(caller.0), word_at(machine, pc)) else {
+    let (Some(hart), Some(word)) = (machine.lent_hart(caller.task), instruction_at(machine, pc))
+    else {
         return Ok(());
     };
     match word & 0x7f {
-        SYSTEM if word == ECALL => put_call(row, machine, look, caller, pc),
+        SYSTEM => match call_at(machine, look, caller, pc) {
+            Some(call) => put_call(row, machine, &call),
+            None => Ok(()),
+        },
         STORE => put_store(row, hart, word),
         LOAD => put_load(row, hart, word),
         _ => Ok(()),
@@ -338,14 +293,7 @@ fn put_step<D: Device>(
     known: &Known,
     item: &Item,
 ) -> Result<(), Refused> {
-    let (Event::Step(cpu) | Event::StepI(cpu)) = item.event else {
-        return Ok(());
-    };
-    let caller = match known.callers.get(usize::from(cpu)) {
-        Some(caller) => *caller,
-        None => None,
-    };
-    match (caller, item.pc) {
+    match (known.callers.of(item), item.pc) {
         (Some(caller), Some(pc)) => put_instruction(row, machine, look, caller, pc),
         _ => Ok(()),
     }

@@ -3,10 +3,10 @@
 ghost use Rattle.std.specs.Prelude.{◌≡◌, ◌++◌, OnOk};
 ghost use Rattle.view_page.specs.Entries.{count_numbers, event_numbers, head_numbers, long_numbers, machine_numbers, place_number, place_numbers};
 
+use crate::row::put;
 use evm_ram::BASE;
 use evm_room::Refused;
-use evm_timeline::{Event, Item};
-use view_row::put;
+use run_marks::{Event, Item};
 
 /// How many numbers the lower half of a number of 64 bits has: scripts of pages know no more than 53 bits.
 const HALF: u64 = 4_294_967_296;

@@ -7,11 +7,12 @@ mod heads;
 mod laws;
 mod marks;
 mod page;
+mod row;
 mod script;
 mod shell;
 mod style;
 mod telling;
 
 pub use about::{About, about_text};
-pub use laws::runs_are_safe;
+pub use laws::{headers_are_safe, rows_are_safe, runs_are_safe};
 pub use page::{ToldRun, page_head, push_journal, push_tail};

@@ -3,10 +3,10 @@
 ghost use Rattle.std.specs.Prelude.{◌≡◌, ◌<◌, ◌++◌, OnOk, flat_map};
 ghost use Rattle.view_page.specs.Entries.{fault_code, line_numbers, mark_numbers, notice_code, owner_number, processor_numbers, stage_number, task_numbers, wait_numbers, yes};
 
+use crate::row::put;
 use evm_model::{Fault, NoticeKind, Stage, Wait};
 use evm_room::Refused;
-use evm_timeline::Mark;
-use view_row::put;
+use run_marks::Mark;
 
 fn yes(on: bool) -> u64
     ensures { result ≡ yes on }
@@ -44,6 +44,7 @@ fn notice_code(kind: NoticeKind) -> u64
         NoticeKind::DemotedByFault => 2,
         NoticeKind::Deadlock => 3,
         NoticeKind::NotOwner => 4,
+        NoticeKind::Overran => 5,
     }
 }
 
@@ -62,11 +63,11 @@ fn put_line(row: &mut Vec<u64>, passage: u64, cpu: u8, line: u8, times: u64) -> 
     requires { passage < 4 }
     ensures { OnOk result (row.new.items ≡ row.old.items ++ line_numbers passage cpu line times) }
 {
-    let place = passage * 256 + u64::from(cpu) * 32 + u64::from(line);
+    let place = passage * 512 + u64::from(cpu) * 64 + u64::from(line);
     if times == 1 {
         put(row, &[1000 + place])
     } else {
-        put(row, &[3000 + place, times])
+        put(row, &[4000 + place, times])
     }
 }
 
@@ -146,6 +147,7 @@ fn put_task_mark(row: &mut Vec<u64>, mark: &Mark) -> Result<(), Refused>
             row,
             &[120, notice_code(kind), u64::from(task), times],
         ),
+        Mark::Migrates { task, cpu } => put(row, &[121, u64::from(task), u64::from(cpu)]),
         _ => Ok(()),
     }
 }

@@ -7,6 +7,7 @@ ghost use Rattle.view_page.specs.Pages.{AddsRun, TellsAll};
 ghost use Rattle.view_page.specs.Texts.{run_text};
 
 use crate::about::{About, about_text};
+use crate::row::push_safe;
 use crate::script::SCRIPT;
 use crate::shell::{HEAD, TAIL};
 use crate::style::STYLE;
@@ -15,9 +16,8 @@ use evm_dev::Device;
 use evm_image::Image;
 use evm_program::Meter;
 use evm_room::{Refused, push_text};
-use evm_timeline::{Devices, Walk, WalkStop};
+use run_marks::{Devices, Walk, WalkStop};
 use std::alloc::Global;
-use view_row::push_safe;
 
 /// A run that a page tells of.
 #[derive(Clone, Copy)]

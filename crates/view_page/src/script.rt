@@ -11,9 +11,10 @@ const EVENTS = ['step', 'step', 'raise', 'bell', 'stop', 'go', 'stepi', 'set', '
 const LOUD_EVENTS = { 72: 'tick', 73: 'poke', 74: 'break', 75: 'unbreak' };
 const CLOCK = 72, PLACES = 99;
 const RAM = 0x80000000;
+const NEWEST = 3; // profile
 const STAGES = ['out-of-band', 'in-band'];
 const FAULTS = { 0: 'a jump to an address that is no multiple of 4', 1: 'a fetch from outside RAM', 2: 'a word that is no instruction', 5: 'a load from outside memory', 7: 'a store to outside memory' };
-const NOTICES = ['', 'demoted by a call', 'demoted by a fault', 'its lock would never end', 'it unlocked a mutex that it does not own'];
+const NOTICES = ['', 'demoted by a call', 'demoted by a fault', 'its lock would never end', 'it unlocked a mutex that it does not own', 'the watchdog demoted the task'];
 const CLASSES = ['no class', 'first in first out', 'round robin', 'weak'];
 const DEVICES = ['console device', 'mailbox', 'pins'];
 // what is waited for: the word, and the lane's letter
@@ -28,23 +29,25 @@ const CALLS = {
   37: ['try_lock', ['mutex']], 38: ['unlock', ['mutex']], 39: ['sem_get', ['semaphore', 'deadline']], 40: ['sem_try_get', ['semaphore']], 41: ['sem_put', ['semaphore'], SEMAPHORE],
   42: ['event_wait', ['event', 'mutex', 'deadline']], 43: ['signal', ['event'], EVENT], 44: ['broadcast', ['event'], EVENT], 45: ['flags_wait', ['flag group', 'deadline']],
   46: ['flags_post', ['flag group', 'bits'], FLAGS], 47: ['sleep_until', ['tick']], 48: ['timer_set', ['timer', 'first', 'period']], 49: ['timer_wait', ['timer']],
-  50: ['yield_oob', []], 51: ['stall out-of-band', []], 52: ['unstall out-of-band', []], 53: ['clock', []], 54: ['state_bits', []],
+  50: ['yield_oob', []], 51: ['stall out-of-band', []], 52: ['unstall out-of-band', []], 53: ['clock', []], 54: ['state_bits', []], 55: ['migrate', ['processor']],
 };
 // switch_in_band has no argument, but one number is written for it
 const WRITTEN = { 33: 1 };
 const ERRNOS = { 1: 'EPERM', 3: 'ESRCH', 11: 'EAGAIN', 12: 'ENOMEM', 16: 'EBUSY', 22: 'EINVAL', 35: 'EDEADLK', 38: 'ENOSYS', 110: 'ETIMEDOUT' };
 const PASSAGES = ['raised', 'received', 'played', 'played'];
+// marks of lines: their code says which, of which processor, how far it came, and from OFTEN on how often is behind it
+const ONCE = 1000, OFTEN = 4000;
 
 // Of each part the numbers behind its code; of a call they depend on its number.
 const LENGTHS = new Int32Array(256).fill(99);
-for (const [length, codes] of Object.entries({ 1: [PLACES, 101, 110, 116, 119, 201], 2: [102, 113, 114, 117], 3: [100, 103, 111, 112, 115, 118, 120, 202, 203], 5: [205], 7: [204] })) for (const code of codes) LENGTHS[code] = length;
+for (const [length, codes] of Object.entries({ 1: [PLACES, 101, 110, 116, 119, 201], 2: [102, 113, 114, 117, 121], 3: [100, 103, 111, 112, 115, 118, 120, 202, 203], 5: [205], 7: [204] })) for (const code of codes) LENGTHS[code] = length;
 // What stands before the parts of a row, by the code of its event.
 const HEADS = new Int32Array(256).fill(3);
 for (let code = 0; code < CLOCK; code += 1) HEADS[code] = code < 32 ? 2 : code < 56 ? 1 : code < 64 ? 4 : 3;
 HEADS[CLOCK] = 1; HEADS[73] = 4;
 function partLength(row, i) {
   const part = row[i];
-  if (part >= 1000) return part >= 3000 ? 1 : 0;
+  if (part >= ONCE) return part >= OFTEN ? 1 : 0;
   return part === 200 ? 2 + (WRITTEN[row[i + 1]] ?? CALLS[row[i + 1]]?.[1].length ?? 0) : LENGTHS[part];
 }
 // Calls `see` for each part of a row: its code, and where its numbers begin.
@@ -53,8 +56,8 @@ function eachPart(row, see) {
 }
 // A mark of a line: how far it came, its processor, its number, how often.
 function lineOf(part, row, i) {
-  const once = part < 3000, place = part - (once ? 1000 : 3000);
-  return { passage: place >> 8, cpu: (place >> 5) & 7, line: place & 31, times: once ? 1 : row[i] };
+  const once = part < OFTEN, place = part - (once ? ONCE : OFTEN);
+  return { passage: place >> 9, cpu: (place >> 6) & 7, line: place & 63, once, times: once ? 1 : row[i] };
 }
 const hexadecimal = (n) => n.toString(16).padStart(8, '0');
 
@@ -65,7 +68,9 @@ class Run {
     this.rows = rows;
     this.number = number;
     this.symbols = about.symbols.map(([name, high, low, size, kind]) => ({ name, value: high * 4294967296 + low, size, kind }));
-    [this.cpus, this.ram, this.capacity] = rows[0];
+    this.source = about.lines; // [address, file, line, function] by rising addresses behind RAM's begin
+    this.names = new Map(about.names.map(([kind, number, name]) => [kind * 256 + number, name]));
+    [this.profile, this.watchdog, this.cpus, this.ram, this.capacity] = rows[0];
     this.count = 0; // events
     this.first = new Float64Array(rows.length + 1); // of each entry, its first event
     this.steps = new Float64Array(rows.length + 1); // and how many Steps stand before it
@@ -101,8 +106,8 @@ class Run {
       for (const stage of [0, 1]) this.stages.push(this.lane(`cpu${cpu}.${stage}`, cpu * 100 + stage, `cpu ${cpu} ${STAGES[stage]}`, 'stage', { cpu, stage, stalls: { from: [], to: [] }, stalled: null }));
     }
     this.state = { running: [], waits: new Map(), due: new Map() };
-    let i = 3;
     const start = this.rows[0];
+    let i = 5;
     while (i < start.length) {
       if (start[i] === 204) this.newTask(start, i + 1, 0);
       if (start[i] === 100) this.runs(start[i + 1], start[i + 2], start[i + 3], 0);
@@ -119,7 +124,6 @@ class Run {
       if (cpu < 0 || cpu !== stepping) { line += 1; begins = event; stepping = cpu; }
       this.lines[k] = line;
       this.begins[k] = begins;
-      if (cpu >= 0) this.nameTask(row);
       if (!quiet || row.length > 4) this.readEntry(row, event);
       if (row[0] < 16 || (row[0] >= 48 && row[0] < 56)) steps += count;
       event += count;
@@ -134,19 +138,8 @@ class Run {
   stageLane(cpu, stage) { return this.stages[cpu * 2 + stage]; }
   newTask(row, i, event) {
     const [task, cpu, stage, rank, kind, priority, place] = row.slice(i, i + 7);
-    const entry = place > 1 ? this.symbolAt(RAM + place - 2) : null;
-    this.tasks[task] = { number: task, cpu, stage, rank, kind, priority, entry, created: event, name: null, looks: 0 };
-    const lane = this.lane(`task${task}`, 2000 + task, `task ${task}`, 'task', { task });
-    this.bar(lane, event, stage === 0 ? 'ready-0' : 'ready-1');
-  }
-  // A task is named by the first function that it runs beside the one where it begins, which is often the same for all.
-  nameTask(row) {
-    const running = this.state.running[row[0] & 7], task = running && this.tasks[running.task];
-    if (!task || task.name || row[1] < 2) return;
-    task.looks += 1;
-    const symbol = this.symbolAt(RAM + row[1] - 2);
-    if (symbol && symbol.name !== task.entry?.name) task.name = symbol.name;
-    else if (task.looks > 64) task.name = task.entry?.name ?? '-';
+    this.tasks[task] = { number: task, cpu, stage, rank, kind, priority, place, created: event };
+    this.bar(this.taskLane(task), event, stage === 0 ? 'ready-0' : 'ready-1');
   }
   // The bar that is open on a lane ends, and another begins, or none.
   bar(lane, event, what, note) {
@@ -158,7 +151,12 @@ class Run {
     lane.open = what === null ? null : { from: event, what, note };
   }
   mark(lane, event, what) { lane.marks.at.push(event); lane.marks.what.push(what); }
-  taskLane(task) { return this.byKey.get(`task${task}`) ?? this.lane(`task${task}`, 2000 + task, `task ${task}`, 'task', { task }); }
+  taskLane(task) { return this.byKey.get(`task${task}`) ?? this.lane(`task${task}`, 2000 + task, this.laneName('task', 0, task), 'task', { task }); }
+  // A word and a number, and behind them the name that the program gives.
+  laneName(word, kind, number) {
+    const name = this.names.get(kind * 256 + number);
+    return `${word} ${number}${name ? ` ${name}` : ''}`;
+  }
   // A processor runs a task on a stage, or none.
   runs(cpu, task, stage, event) {
     const before = this.state.running[cpu];
@@ -170,14 +168,14 @@ class Run {
     this.state.running[cpu] = task === null ? null : { task, stage };
     if (task !== null) {
       if (this.tasks[task]) this.tasks[task].stage = stage;
-      this.bar(this.taskLane(task), event, 'running', stage);
+      this.bar(this.taskLane(task), event, 'running', cpu * 2 + stage);
       this.noted(`runs${task}`, event);
     }
   }
   objectLane(kind, number) {
     const word = ['', 'line', 'mutex', 'mutex', 'semaphore', 'event', 'flags', '', 'timer'][kind];
     const group = kind === RETAKE ? LOCK : kind;
-    return this.lane(`${word}${number}`, 3000 + group * 100 + number, `${word} ${number}`, 'object', { wait: group, number });
+    return this.lane(`${word}${number}`, 3000 + group * 100 + number, this.laneName(word, group, number), 'object', { wait: group, number });
   }
   // The marks of an event: what they change is told to the lanes, from the event behind it on.
   readEntry(row, event) {
@@ -187,7 +185,7 @@ class Run {
     this.row = row;
     for (let at = HEADS[row[0]]; at < row.length; at += 1 + partLength(row, at)) {
       const part = row[at], i = at + 1;
-      if (part >= 1000) { this.readLine(part, row, i, event); continue; }
+      if (part >= ONCE) { this.readLine(part, row, i, event); continue; }
       switch (part) {
         case 100: case 101: runs += 1; break;
         case 111: this.waits(row[i], row[i + 1], row[i + 2], event); break;
@@ -199,6 +197,7 @@ class Run {
         case 117: this.bar(this.taskLane(row[i]), after, null); this.mark(this.taskLane(row[i]), event, 'faulted'); break;
         case 118: this.owns(row[i], row[i + 1], row[i + 2], event); break;
         case 119: this.ticks.push(event); this.mark(this.lane('clock', 5000, 'clock', 'clock'), event, 'tick'); break;
+        case 121: this.mark(this.taskLane(row[i]), event, 'migrates'); if (this.tasks[row[i]]) this.tasks[row[i]].cpu = row[i + 1]; this.noted(`migrates${row[i]}`, event); break;
         case 120: this.mark(this.taskLane(row[i + 1]), event, 'notice'); break;
         case 102: this.mark(this.lane('debugger', 5001, 'debugger', 'clock'), event, row[i + 1] ? 'stopped' : 'goes'); this.noted(`stop${row[i]}`, event); break;
         case 103: this.stalls(row[i], row[i + 1], row[i + 2], after); break;
@@ -219,7 +218,7 @@ class Run {
   }
   ready(task, event) {
     const lane = this.taskLane(task);
-    if (lane.open && lane.open.what === 'running') this.bar(lane, event, 'running', this.tasks[task]?.stage);
+    if (lane.open && lane.open.what === 'running') this.bar(lane, event, 'running', (lane.open.note & ~1) | (this.tasks[task]?.stage ?? 1));
     else this.bar(lane, event, `ready-${this.tasks[task]?.stage ?? 1}`);
   }
   waits(task, kind, number, event) {
@@ -261,12 +260,11 @@ class Run {
   }
   // Of a line of a processor its lane, and the events at which it came so far.
   lineLane(cpu, line) {
-    const at = cpu * 32 + line;
+    const at = cpu * 64 + line;
     return (this.lineLanes[at] ??= this.lane(`line${cpu}.${line}`, cpu * 100 + 10 + line, `cpu ${cpu} line ${line}`, 'line', { cpu, line, raised: [], received: [], played: [], merged: [], merges: [], wire: false, log: false }));
   }
   readLine(part, row, i, event) {
-    const once = part < 3000, place = part - (once ? 1000 : 3000), passage = place >> 8, cpu = (place >> 5) & 7, line = place & 31;
-    const lane = this.lineLane(cpu, line);
+    const { passage, cpu, line, once } = lineOf(part, row, i), lane = this.lineLane(cpu, line);
     if (passage === 0) {
       const merged = lane.wire;
       lane.raised.push(event);
@@ -327,7 +325,7 @@ class Run {
     const [number, , due, , expiries] = row.slice(i, i + 5);
     const before = this.state.due.get(number) ?? { due: 0, expiries: 0 };
     this.state.due.set(number, { due, expiries });
-    const lane = this.lane(`timer${number}`, 3000 + TIMER * 100 + number, `timer ${number}`, 'object', { wait: TIMER, number });
+    const lane = this.objectLane(TIMER, number);
     // an expiry adds one, or gives it to a waiter at once; what a call sets is no expiry
     let isSet = false;
     eachPart(row, (part, j) => { if (part === 200 && (row[j] === 48 || row[j] === 13) && (row[j] === 13 || row[j + 2] === number)) isSet = true; });
@@ -344,11 +342,6 @@ class Run {
       for (let i = 0; i < lane.marks.what.length; i += 1) lane.alarms[i + 1] = lane.alarms[i] + (ALARMS.has(lane.marks.what[i]) ? 1 : 0);
       this.bar(lane, Math.max(this.count, 1), null);
       if (lane.stalled !== null && lane.stalled !== undefined) { lane.stalls.from.push(lane.stalled); lane.stalls.to.push(this.count); }
-    }
-    for (const task of this.tasks) {
-      if (!task) continue;
-      task.name ??= task.entry?.name;
-      if (task.name && task.name !== '-') this.taskLane(task.number).name = `task ${task.number} ${task.name}`;
     }
     this.lanes.sort((one, two) => one.order - two.order);
   }
@@ -373,10 +366,20 @@ class Run {
     }
     return best ? { name: best.s.name, offset: address - best.s.value } : null;
   }
-  taskName(task) {
-    const name = this.tasks[task]?.name;
-    return name && name !== '-' ? `task ${task} (${name})` : `task ${task}`;
+  // The line of a source that the code at an address comes from, as `queue.c:41 (evl_get_sem)`.
+  lineAt(address) {
+    let low = 0, high = this.source.length;
+    while (low < high) { const middle = (low + high) >> 1; if (this.source[middle][0] <= address - RAM) low = middle + 1; else high = middle; }
+    const found = low ? this.source[low - 1] : [0];
+    return found.length > 1 ? `${found[1]}:${found[2]}${found[3] && ` (${found[3]})`}` : '';
   }
+  // Of a kind and a number, as `semaphore 0 (slots)`.
+  named(word, kind, number) {
+    const name = this.names.get(kind * 256 + number);
+    return `${word} ${number}${name ? ` (${name})` : ''}`;
+  }
+  taskName(task) { return this.named('task', 0, task); }
+  waitName(kind, number) { return kind === SLEEP ? WAITS[kind] : this.named(WAITS[kind], kind === RETAKE ? LOCK : kind, number); }
 }
 
 // ---- 3 lanes: searching in sorted lists
@@ -471,17 +474,16 @@ function barLook(lane, what, note, colours) {
   switch (what) {
     case 'runs': return { ...task(note), text: lane.run.taskName(note).replace('task ', '') };
     case 'owned': return { ...task(note), text: lane.run.taskName(note) };
-    case 'running': return { ...task(lane.task), text: note ? 'runs in-band' : 'runs', low: note === 1 };
+    case 'running': return { ...task(lane.task), text: `runs${note & 1 ? ' in-band' : ''}${lane.run.cpus > 1 ? ` on cpu ${note >> 1}` : ''}`, low: (note & 1) === 1 };
     case 'ready-0': return { fill: colours.ready, ink: colours.ink, text: 'ready' };
     case 'ready-1': return { fill: colours.ready, ink: colours.ink, text: 'ready in-band', low: true };
-    case 'waits': return { fill: colours.wait, frame: colours.alarm, ink: colours.ink, text: `waits: ${waitName(note >> 8, note & 255)}`, thin: true };
+    case 'waits': return { fill: colours.wait, frame: colours.alarm, ink: colours.ink, text: `waits: ${lane.run.waitName(note >> 8, note & 255)}`, thin: true };
     case 'waiting': return { fill: colours.wait, frame: colours.alarm, ink: colours.ink, text: `waits: task ${note}`, thin: true };
     case 'wire': return { fill: colours.alarm, ink: colours.ink, text: '', narrow: true };
     case 'log': return { fill: colours.ready, ink: colours.ink, text: '', thin: true };
     default: return { fill: colours.ready, ink: colours.ink, text: '' };
   }
 }
-const waitName = (kind, number) => (kind === SLEEP ? WAITS[kind] : `${WAITS[kind]} ${number}`);
 
 // The sign of a mark, centred.
 function sign(pen, what, x, y, colours) {
@@ -499,6 +501,7 @@ function sign(pen, what, x, y, colours) {
     case 'woken': pen.shape(triangle(false), colours.good); break;
     case 'rises': pen.shape(triangle(true), colours.mark); break;
     case 'falls': pen.shape(triangle(false), colours.paper, colours.mark); break;
+    case 'migrates': pen.line(x, y - 7, x, y + 7, colours.mark, 2); pen.shape([[x, y - 6], [x + 6, y - 2], [x, y + 2]], colours.mark); break;
     case 'created': case 'set': pen.line(x, y - 7, x, y + 7, colours.ink, 2); break;
     case 'ended': case 'taken': pen.line(x, y - 7, x, y + 7, colours.dim, 2); break;
     case 'expired': pen.circle(x, y, 4, colours.good); break;
@@ -510,9 +513,9 @@ function sign(pen, what, x, y, colours) {
     default: pen.rectangle(x - 3, y - 3, 6, 6, colours.ink);
   }
 }
-const SIGNS = ['raised', 'merged', 'received', 'merges', 'played', 'lost', 'puts', 'hollow', 'woken', 'rises', 'falls', 'stopped', 'expired'];
+const SIGNS = ['raised', 'merged', 'received', 'merges', 'played', 'lost', 'puts', 'hollow', 'woken', 'rises', 'falls', 'migrates', 'stopped', 'expired'];
 const SIGN_WORDS = { raised: 'a line is raised', merged: 'raised while it is on the wire: merged', received: 'received', merges: 'received while it is in the log: merged', played: 'played', lost: 'played in-band, and no task waited: lost', puts: 'a put, post or signal that woke a task',
-  hollow: 'one that woke nobody', woken: 'a wait ends', rises: 'a rank rises', falls: 'a rank falls', stopped: 'a stop, fault, deadline, notice or overrun', expired: 'a timer expires' };
+  hollow: 'one that woke nobody', woken: 'a wait ends', rises: 'a rank rises', falls: 'a rank falls', migrates: 'a task moves to another processor', stopped: 'a stop, fault, deadline, notice or overrun', expired: 'a timer expires' };
 
 class Chart {
   constructor(runs, kind) { this.runs = runs; this.setAxis(kind); this.from = 0; this.to = this.end; }
@@ -693,8 +696,8 @@ function eventWords(run, k) {
 function placeWords(run, number) {
   if (number === 0) return '';
   if (number === 1) return 'an address below RAM';
-  const address = RAM + number - 2, symbol = run.symbolAt(address);
-  return `${hexadecimal(address)}${symbol ? ` (${symbol.name}${symbol.offset ? `+0x${symbol.offset.toString(16)}` : ''})` : ''}`;
+  const address = RAM + number - 2, symbol = run.symbolAt(address), line = run.lineAt(address);
+  return `${hexadecimal(address)}${line && `, ${line}`}${symbol ? ` (${symbol.name}${symbol.offset ? `+0x${symbol.offset.toString(16)}` : ''})` : ''}`;
 }
 function answerWords(outcome) {
   const n = outcome - 2;
@@ -705,7 +708,7 @@ function answerWords(outcome) {
 // What each part of an entry says, in words.
 function partWords(run, part, row, i) {
   const task = (n) => run.taskName(n);
-  if (part >= 1000) {
+  if (part >= ONCE) {
     const { passage, cpu, line, times: n } = lineOf(part, row, i);
     return `line ${line} is ${PASSAGES[passage]}${passage > 1 ? ` ${STAGES[passage - 2]}` : ''} ${passage === 1 ? 'by' : 'on'} processor ${cpu}${times(n)}`;
   }
@@ -715,22 +718,23 @@ function partWords(run, part, row, i) {
     case 102: return row[i + 1] ? `processor ${row[i]} is stopped` : `processor ${row[i]} goes on`;
     case 103: return `the ${STAGES[row[i + 1]]} stage of processor ${row[i]} is stalled${row[i + 2] ? '' : ' no more'}`;
     case 110: return `${task(row[i])} is created`;
-    case 111: return `${task(row[i])} waits for ${waitName(row[i + 1], row[i + 2])}${row[i + 1] === RETAKE ? ', which it takes back' : ''}`;
-    case 112: return `${task(row[i])} waits no more for ${waitName(row[i + 1], row[i + 2])}`;
+    case 111: return `${task(row[i])} waits for ${run.waitName(row[i + 1], row[i + 2])}${row[i + 1] === RETAKE ? ', which it takes back' : ''}`;
+    case 112: return `${task(row[i])} waits no more for ${run.waitName(row[i + 1], row[i + 2])}`;
     case 113: return `${task(row[i])} waits no more: its deadline was tick ${row[i + 1]}`;
     case 114: return row[i + 1] ? `${task(row[i])} is demoted: it goes in-band` : `${task(row[i])} is promoted: it goes out-of-band`;
     case 115: return `${task(row[i])} ${row[i + 1] < row[i + 2] ? 'rises' : 'falls'} from rank ${row[i + 1]} to rank ${row[i + 2]}`;
     case 116: return `${task(row[i])} ends`;
     case 117: return `${task(row[i])} ends by a fault: ${FAULTS[row[i + 1]]}`;
-    case 118: return row[i + 1] && row[i + 2] ? `mutex ${row[i]} passes from ${task(row[i + 1] - 1)} to ${task(row[i + 2] - 1)}` : row[i + 2] ? `mutex ${row[i]} is owned by ${task(row[i + 2] - 1)}` : `mutex ${row[i]} is given back by ${task(row[i + 1] - 1)}`;
+    case 118: return row[i + 1] && row[i + 2] ? `${run.waitName(LOCK, row[i])} passes from ${task(row[i + 1] - 1)} to ${task(row[i + 2] - 1)}` : row[i + 2] ? `${run.waitName(LOCK, row[i])} is owned by ${task(row[i + 2] - 1)}` : `${run.waitName(LOCK, row[i])} is given back by ${task(row[i + 1] - 1)}`;
     case 119: return `the clock ticks${times(row[i])}`;
+    case 121: return `${task(row[i])} moves to processor ${row[i + 1]}`;
     case 120: return `${task(row[i + 1])} has a notice: ${NOTICES[row[i]]}`;
     case 200: return callWords(row, i);
     case 201: return `the object has ${row[i]} then`;
     case 202: return `${DEVICES[row[i]] ?? `device ${row[i]}`}: ${row[i + 2]} is put into register ${row[i + 1]}`;
     case 203: return `${DEVICES[row[i]] ?? `device ${row[i]}`}: register ${row[i + 1]} gives ${row[i + 2]}`;
-    case 204: return `${task(row[i])} is of processor ${row[i + 1]}, ${STAGES[row[i + 2]]}, rank ${row[i + 3]}, ${CLASSES[row[i + 4]]}`;
-    case 205: return `timer ${row[i]} is ${row[i + 2] ? `due at tick ${row[i + 2]}` : 'off'}${row[i + 3] ? `, each ${row[i + 3]} ticks` : ''}, with ${row[i + 4]} expiries`;
+    case 204: return `${task(row[i])} is of processor ${row[i + 1]}, ${STAGES[row[i + 2]]}, rank ${row[i + 3]}, ${CLASSES[row[i + 4]]}${row[i + 6] > 1 ? `; it begins at ${placeWords(run, row[i + 6])}` : ''}`;
+    case 205: return `${run.waitName(TIMER, row[i])} is ${row[i + 2] ? `due at tick ${row[i + 2]}` : 'off'}${row[i + 3] ? `, each ${row[i + 3]} ticks` : ''}, with ${row[i + 4]} expiries`;
     default: return '';
   }
 }
@@ -754,8 +758,9 @@ function scriptLine(run, event) {
   const k = run.at(event), code = run.rows[k][0];
   return { before: run.lines[k], line: code < 16 ? `step ${code & 7} ${event - run.begins[k] + 1}` : eventWords(run, k) };
 }
+// Scripts boot the newest profile: of a run of another one it is the journal that repeats it.
 function script(run, event) {
-  const lines = [`boot ${run.cpus} ${run.ram} ${run.capacity}`];
+  const boot = `boot ${run.cpus} ${run.ram} ${run.capacity}`, lines = run.profile < NEWEST ? [`evl-journal ${run.profile}`, boot] : [run.watchdog ? `${boot} ${run.watchdog}` : boot];
   const k = run.at(event);
   let last = null, n = 0, pokes = false;
   const flush = () => { if (last !== null) lines.push(`step ${last} ${n}`); last = null; };
@@ -774,7 +779,7 @@ function linksOf(run, k) {
   const effect = (at, words) => { if (at !== null && at !== event) links.push({ event: at, words, cause: false }); };
   const get = (key) => run.marks.get(key);
   eachPart(row, (part, i) => {
-    if (part >= 1000) {
+    if (part >= ONCE) {
       const { passage, cpu, line } = lineOf(part, row, i), lane = run.lineLane(cpu, line);
       if (passage === 0) {
         effect(from(lane.received, event + 1), `line ${line} is received by processor ${cpu}`);
@@ -793,7 +798,7 @@ function linksOf(run, k) {
       const kind = row[i + 1], number = row[i + 2], key = (kind === RETAKE ? LOCK : kind) * 256 + number;
       effect(from(get(`woken${task}`), event + 1), `the wait of ${name} ends`);
       if (kind === LOCK || kind === RETAKE) cause(before(get(`owner${number}`), event), `mutex ${number} got its owner`);
-      cause(before(get(`takes${key}`), event), `the last that took ${waitName(kind, number)}`);
+      cause(before(get(`takes${key}`), event), `the last that took ${run.waitName(kind, number)}`);
       cause(before(get(`hollow${key}`), event), 'the last that woke nobody: it came before this wait');
     }
     if (part === 112) {
@@ -810,7 +815,7 @@ function linksOf(run, k) {
     if (part === 200) {
       const wait = CALLS[row[i]]?.[2], key = wait * 256 + row[i + 2];
       if (wait && from(get(`hollow${key}`), event) === event) {
-        effect(from(get(`waits-for${key}`), event), `the next that waits for ${waitName(wait, row[i + 2])}`);
+        effect(from(get(`waits-for${key}`), event), `the next that waits for ${run.waitName(wait, row[i + 2])}`);
         effect(from(get(`puts${key}`), event + 1), 'the next that woke a task');
       }
     }
@@ -999,7 +1004,7 @@ class Page {
     const repeated = scriptLine(run, count > 1 ? asked : event);
     add('script', `${repeated.line}`);
     parts.push(state);
-    const copy = element('button', 'Copy the script that repeats the run up to here');
+    const copy = element('button', `Copy the ${run.profile < NEWEST ? 'journal' : 'script'} that repeats the run up to here`);
     copy.onclick = () => this.copy(script(run, count > 1 ? asked : event));
     parts.push(element('p', `${repeated.before ? `The boot line, ${repeated.before} line${repeated.before > 1 ? 's' : ''} of the journal behind it, and then: ${repeated.line}. ` : ''}`));
     parts[parts.length - 1].append(copy);

@@ -2,21 +2,21 @@
 
 ghost use Rattle.std.specs.Prelude.{◌≡◌, ◌++◌, ◌∷◌, OnOk, ℕ, List, flat_map};
 ghost use Rattle.std.specs.String.{string_bytes};
-ghost use Rattle.evm_json.specs.Text.{text};
-ghost use Rattle.evm_timeline.specs.Walks.{Walked};
+ghost use Rattle.text_json.specs.Text.{text};
+ghost use Rattle.run_marks.specs.Walks.{Walked};
 ghost use Rattle.view_page.specs.Entries.{Entry, entries_text, entry_numbers, entry_text};
-ghost use Rattle.view_row.specs.Rows.{row_json};
+ghost use Rattle.view_page.specs.Rows.{row_json};
 ghost use Rattle.view_page.specs.Pages.{TellsAll};
 
 use crate::details::{Known, put_details, put_task};
 use crate::heads::put_head;
 use crate::marks::{put_marks, stage_number};
+use crate::row::{push_row, put};
 use evm_dev::Device;
 use evm_program::Meter;
 use evm_room::{Refused, push_text};
-use evm_timeline::{Item, Look, Machine, Mark, Walk, WalkStop};
+use run_marks::{Item, Look, Machine, Mark, Walk, WalkStop};
 use std::alloc::Global;
-use view_row::{push_row, put};
 
 // Which tasks the processors run.
 fn put_running(row: &mut Vec<u64>, look: &Look) -> Result<(), Refused> {
@@ -38,7 +38,16 @@ fn put_start<D: Device>(
     look: &Look,
 ) -> Result<(), Refused> {
     let boot = machine.boot_numbers();
-    put(row, &[boot.cpus, boot.ram, boot.capacity])?;
+    put(
+        row,
+        &[
+            boot.profile,
+            boot.watchdog,
+            boot.cpus,
+            boot.ram,
+            boot.capacity,
+        ],
+    )?;
     for task in 0..machine.task_count() {
         put_task(row, machine, task)?;
     }
@@ -116,7 +125,7 @@ fn push_entries<D: Device, M: Meter>(
     let mut details = Vec::new(alloc);
     let mut known = Known::new();
     for _item in walk.next_event()..walk.event_count() {
-        known.look(walk.machine());
+        known.callers.look(walk.machine());
         let Some(item) = walk.next(&mut found)? else {
             break;
         };

@@ -1,6 +1,7 @@
 /*
  * The one header here that libevl lacks: what the machine has in the place of a driver. A program that includes it marks
- * the place. `line` is an interrupt line of 2 to 31; a device raises line 2 and its number, on processor 0.
+ * the place. `line` is an interrupt line of 2 to 63, to post flags one of 2 to 31; a device raises line 2 and its number, on
+ * processor 0.
  */
 #ifndef _EVL_MACHINE_H
 #define _EVL_MACHINE_H

@@ -54,9 +54,9 @@ fn commits<O: Origin, S: Ledger, B: Ledger, T: Ledger, R: Wait>(
     accepted
 }
 
-/// On a machine of one processor with room for 40 events the worker of processor 0 makes nine turns and is refused as Full:
-/// its deliver wants room for 32. The worker of processor 1 is refused as well, and the run returns the least refusal. Then 31
-/// commits through its port fill the journal.
+/// On a machine of one processor with room for 65 events the worker of processor 0 makes two turns and is refused as Full:
+/// its deliver wants room for 64. The worker of processor 1 is refused as well, and the run returns the least refusal. Then 63
+/// commits through its port fill the journal, and the 64th is refused as Full.
 pub(super) fn a_full_journal<
     O: Origin + Send + Sync,
     S: Ledger + Send + Sync,
@@ -74,12 +74,12 @@ pub(super) fn a_full_journal<
     let ended = shared.run(rt, &bells, workers.as_mut_slice(), 10, &OpenGate);
     let mut ports = ports_of(alloc, workers)?;
     let (port, mut other) = (ports.pop()?, ports.pop()?);
-    let accepted = commits(rt, shared, &mut other, 32);
+    let accepted = commits(rt, shared, &mut other, 64);
     let right = ended == Err(Refusal::Full)
-        && port.share().steps == 9
+        && port.share().steps == 2
         && port.is_short()
         && !port.is_full()
-        && accepted == 31
+        && accepted == 63
         && other.is_full();
     ports.push(port).ok()?;
     ports.push(other).ok()?;

@@ -21,11 +21,7 @@ use std::thread::Threads;
 fn looping(alloc: Global, cpus: u64, capacity: u64) -> Result<Machine<AnyDevice>, Fail>
     ensures { IfOk result (λ m. IsReplayOf m m) }
 {
-    let boot = Boot {
-        cpus,
-        ram: 65_536,
-        capacity,
-    };
+    let boot = Boot::newest(cpus, 65_536, capacity);
     let Ok(mut machine) = Machine::from_boot(alloc, boot, devices(alloc)?) else {
         return Err(Fail::from("the boot is refused"));
     };
@@ -168,9 +164,9 @@ fn two_workers_make_586_and_10_steps(rt: HostRuntime) -> Result<(), Fail> {
 
 #[test]
 fn a_worker_and_commits_fill_a_journal(rt: HostRuntime) -> Result<(), Fail> {
-    let outcome = outcome_of(&rt, rt.alloc(), 1, 40, Play::FullJournal)?;
+    let outcome = outcome_of(&rt, rt.alloc(), 1, 65, Play::FullJournal)?;
     assert!(rt; outcome.right);
-    assert_eq!(rt; outcome.totals.steps, 40);
-    assert_eq!(rt; outcome.receipts, (9, 31));
+    assert_eq!(rt; outcome.totals.steps, 65);
+    assert_eq!(rt; outcome.receipts, (2, 63));
     Ok(())
 }

@@ -1,5 +1,5 @@
 use Rattle.evm_model.specs.Harts.{advance}
-use Rattle.evm_board.proofs.Accesses.{clock-access, room-access, room-line, stamps-access}
+use Rattle.evm_board.proofs.Accesses.{clock-access, notices-access, room-access, room-line, stamps-access}
 use Rattle.evm_board.proofs.accessing.advance_and_settle.Goals as goal
 
 pub raise_line-requires-clause-room : goal.raise_line-requires-clause-room
@@ -13,3 +13,6 @@ settle_and_nudge-requires-clause-stamps c = rw (c.raise_line.ensures, c.advance.
 
 pub settle_and_nudge-requires-clause-clock : goal.settle_and_nudge-requires-clause-clock
 settle_and_nudge-requires-clause-clock c = rw (c.raise_line.ensures, c.advance.ensures) (clock-access c.args.line c.args.t advance c.args.parts.now c.requires.room)
+
+pub settle_and_nudge-requires-clause-notices : goal.settle_and_nudge-requires-clause-notices
+settle_and_nudge-requires-clause-notices c = rw (c.raise_line.ensures, c.advance.ensures) (notices-access c.args.line c.args.t advance c.args.parts.now c.requires.room)

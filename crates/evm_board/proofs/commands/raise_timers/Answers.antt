@@ -3,8 +3,8 @@ use Rattle.evm_model.specs.Bounds.{COUNT_LIMIT}
 use Rattle.evm_model.specs.Pipes.{Pipe, raise}
 use Rattle.evm_model.specs.State.{Parts, on_pipe}
 use Rattle.evm_model.specs.declared.limits.TheConstants.{PROCESSOR_LIMIT}
-use Rattle.evm_walk.proofs.Counted.{PipesUpTo-more}
-use Rattle.evm_rules.proofs.Counting.{on_raise-up}
+use Rattle.law_walk.proofs.Counted.{PipesUpTo-more}
+use Rattle.law_rules.proofs.Counting.{on_raise-up}
 use Rattle.evm_board.proofs.Ticks.{timers-none, timers-more, timers-all}
 use Rattle.evm_board.proofs.commands.raise_timers.Goals as goal
 

@@ -4,7 +4,7 @@ use Rattle.std.proofs.lemmas.List.{length-append}
 use Rattle.evm_model.specs.Event.{event_lent}
 use Rattle.evm_model.specs.Refusals.{is_full}
 use Rattle.evm_model.specs.State.{State}
-use Rattle.evm_board.proofs.evm_rules.States.{good_accepted}
+use Rattle.evm_board.proofs.law_rules.States.{good_accepted}
 use Rattle.evm_core.specs.Parts.{state_of}
 use Rattle.evm_core.proofs.Journaled.{event_more}
 use Rattle.evm_core.proofs.Rules.{room-fits, ticks-fit}

@@ -1,8 +1,8 @@
 use Rattle.std.proofs.Common.{◌≡◌, ◌+◌, ◌-◌, ◌∷◌, length, refl, ap, arith}
 use Rattle.evm_model.specs.Bounds.{COUNT_LIMIT}
 use Rattle.evm_model.specs.Settle.{play_in_band_lines}
-use Rattle.evm_rules.proofs.evm_walk.Counted.{PipesUpTo-more}
-use Rattle.evm_rules.proofs.Counting.{play_in_band-up}
+use Rattle.law_rules.proofs.law_walk.Counted.{PipesUpTo-more}
+use Rattle.law_rules.proofs.Counting.{play_in_band-up}
 use Rattle.evm_settle.proofs.playing.play_in_band_lines.Goals as goal
 
 pub playing-init : goal.playing-init

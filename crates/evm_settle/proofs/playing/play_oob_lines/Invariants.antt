@@ -12,6 +12,7 @@ invariant-playing l = record {
   room : PipesUpTo (COUNT_LIMIT - 2 * length l.left) l.parts.pipes;
   stamps : l.parts.stamps + PER_OOB_LINE * length l.left ≤ l.fn.parts.stamps + PER_OOB_LOG;
   clock : l.parts.ticks ≤ COUNT_LIMIT;
+  notices : l.parts.notices.total + length l.left ≤ COUNT_LIMIT;
 }
 
 abbrev pub decreases-playing : goal.decreases-playing

@@ -1,4 +1,4 @@
-use Rattle.std.proofs.Common.{◌≡◌, ◌<◌, ⊎_elim, length, refl, sym, subst, take, get_or, arith}
+use Rattle.std.proofs.Common.{◌≡◌, ◌<◌, ⊎_elim, length, sym, subst, get_or, arith}
 use Rattle.std.proofs.lemmas.List.{length-map}
 use Rattle.std.specs.Prelude.{All}
 use Rattle.evm_shared.proofs.Tested.{all_done, all_more, lent_read}

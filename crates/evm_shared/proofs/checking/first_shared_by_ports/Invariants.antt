@@ -1,4 +1,4 @@
-use Rattle.std.proofs.Common.{◌≤◌, ◌<◌, ℕ, length, take, get_or}
+use Rattle.std.proofs.Common.{◌≤◌, ◌<◌, take, get_or}
 use Rattle.std.specs.Prelude.{All}
 use Rattle.evm_shared.specs.Checks.{lent}
 use Rattle.evm_shared.specs.Cursors.{AreApartFrom}

@@ -1,4 +1,4 @@
-use Rattle.std.proofs.Common.{◌≡◌, ◌+◌, ◌<◌, length, refl, sym, subst, take, get_or, arith}
+use Rattle.std.proofs.Common.{◌≡◌, ◌+◌, ◌<◌, length, refl, sym, subst, take, get_or}
 use Rattle.std.proofs.lemmas.List.{get_or_read_under}
 use Rattle.evm_shared.proofs.Tested.{upto_more}
 use Rattle.evm_shared.proofs.Walks.{all_behind, behind_all, end_more}

@@ -1,14 +1,14 @@
-use Rattle.evm_model.specs.Event.{short_event}
+use Rattle.evm_model.specs.Event.{event_lent}
 use Rattle.run_schedule.proofs.Telling.{telling-on}
 use Rattle.run_schedule.proofs.running.go_on.Goals as goal
 
 pub returns-in-Ok-Some-clause-telling : goal.returns-in-Ok-Some-clause-telling
 returns-in-Ok-Some-clause-telling g c = λ start first telling.
-    telling-on g.W.Sink.takes start c.args.output.now first c.args.machine.now c.advance.new.machine c.in-Ok-Some.field-0 (short_event c.in-Make.event) c.args.printer.now c.advance.new.printer
+    telling-on g.W.Sink.takes start c.args.output.now first c.args.machine.now c.advance.new.machine c.in-Ok-Some.field-0 (event_lent c.widen-event.result) c.args.printer.now c.advance.new.printer
     c.in-Ok-Some.ensures.advanced (c.advance.ensures.replays first) telling
 
 pub returns-in-Ok-clause-telling : goal.returns-in-Ok-clause-telling
 returns-in-Ok-clause-telling g c = λ start first telling.
     c.in-Ok.ensures start first c.advance.new.machine
-    (telling-on g.W.Sink.takes start c.args.output.now first c.args.machine.now c.advance.new.machine c.in-Ok-None.field-0 (short_event c.in-Make.event) c.args.printer.now c.advance.new.printer
+    (telling-on g.W.Sink.takes start c.args.output.now first c.args.machine.now c.advance.new.machine c.in-Ok-None.field-0 (event_lent c.widen-event.result) c.args.printer.now c.advance.new.printer
     c.in-Ok-None.ensures.advanced (c.advance.ensures.replays first) telling)

@@ -1,6 +1,6 @@
 use Rattle.std.proofs.Common.{ap, subst, sym}
 use Rattle.evm_model.specs.State.{State}
-use Rattle.run_schedule.specs.Console.{Printed, nothing_printed}
+use Rattle.run_schedule.specs.Console.{Printed}
 use Rattle.run_schedule.specs.Runs.{HasToldSome}
 use Rattle.run_schedule.proofs.Telling.{all-told, begins-fresh, telling-none, telling-told}
 use Rattle.run_schedule.proofs.running.run.Goals as goal

@@ -1,9 +1,9 @@
 use Rattle.std.proofs.Common.{◌≡◌, ◌<◌, ◌≤◌, ◌-◌, ◌^◌, List, length, sym, subst, arith}
 use Rattle.std.specs.Prelude.{Option, Some, None}
 use Rattle.std.specs.String.{string_bytes}
-use Rattle.evm_timeline.specs.Walks.{IsMarked, IsNext, Walked, place}
-use Rattle.evm_timeline.specs.declared.item.Item.{Item}
-use Rattle.evm_timeline.specs.declared.mark.Mark.{Mark}
+use Rattle.run_marks.specs.Walks.{IsMarked, IsNext, Walked, place}
+use Rattle.run_marks.specs.declared.item.Item.{Item}
+use Rattle.run_marks.specs.declared.mark.Mark.{Mark}
 use Rattle.view_page.specs.Entries.{Entry}
 use Rattle.view_page.proofs.Runs.{ended, goes, tells-all}
 use Rattle.view_page.proofs.telling.push_entries.Goals as goal

@@ -1,7 +1,7 @@
 use Rattle.std.proofs.Common.{ap, ◌∙◌, arith}
 use lib.ListN.{get_elem?}
 use Rattle.evm_bells.specs.Seats.{BellsValue}
-use Rattle.evm_bells.proofs.Steps.{settles, read_words, elem_index}
+use Rattle.evm_bells.proofs.Steps.{settles, read_words}
 use Rattle.evm_bells.proofs.bells.Bells.left.Goals as goal
 
 pub returns : goal.returns
@@ -15,10 +15,3 @@ returns c =
     let loop = c.loop-cpu.invariant in
     let words = read_words state.words c.loop-cpu.left c.self.inside.table.shared.key kept.sized (λ k below. ap (λ ws. get_elem? ws k) last.2 ∙ loop.read k (omega (arith, i.keyed, c.loop-cpu-test.false))) (λ k past. loop.rest k (omega (arith, i.keyed, c.loop-cpu.auto.cpu-end))) in
     settles c.self.inside.table.shared.key state.words c.loop-cpu.left state.views c.args.seat.id c.args.seat.me.0 kept at (omega (arith, c.requires.all, cpus, i.keyed)) words
-
-pub overflow_cast-left : goal.overflow_cast-left
-overflow_cast-left c =
-    let last = c.close_with-closed.ensures.values.2 in
-    let state = last.0 in
-    let index = elem_index state.words c.loop-cpu.cpu c.word.result (ap (λ ws. get_elem? ws c.loop-cpu.cpu) last.2 ∙ c.word.ensures) in
-    omega (arith, index, last.1.0.narrow c.loop-cpu.cpu)

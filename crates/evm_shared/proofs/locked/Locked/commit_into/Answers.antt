@@ -1,4 +1,4 @@
-use Rattle.std.proofs.Common.{◌≡◌, sym, ◌∙◌, arith}
+use Rattle.std.proofs.Common.{sym, ◌∙◌, arith}
 use Rattle.evm_shared.proofs.Counting.{counts_steps, counted_more, book_fits}
 use Rattle.evm_shared.proofs.Locks.{refuses}
 use Rattle.evm_shared.proofs.locked.Locked.commit_into.Goals as goal
@@ -16,6 +16,7 @@ invariant_of-self-in-Ok g c =
     let more = counts_steps c.commit_into.new.done.steps c.args.cpu ∙ sym c.steps.ensures in
     let counted = counted_more g.O.Origin.base c.self.inside.books c.steps.result c.self.inside.machine.journal c.commit_into.new.self.journal _ i.counted c.in-Ok.ensures.journaled more in record {
       replays = c.commit_into.ensures.replays g.O.Origin.start i.replays;
+      lines = i.lines;
       counted = rw c.count.ensures.book counted;
     }
 

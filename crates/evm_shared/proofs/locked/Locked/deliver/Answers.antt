@@ -1,8 +1,9 @@
-use Rattle.std.proofs.Common.{arith, inl, inr, refl}
+use Rattle.std.proofs.Common.{ap, arith, inl, inr, refl}
 use Rattle.evm_lines.specs.declared.TheConstants.{LINES}
+use Rattle.evm_model.specs.declared.boot.Boot.{Boot}
 use Rattle.evm_shared.proofs.Bells.{bells_counted}
 use Rattle.evm_shared.proofs.Counting.{counted_more, book_fits}
-use Rattle.evm_shared.proofs.Locks.{cpus_of}
+use Rattle.evm_shared.proofs.Locks.{booted_as, cpus_of}
 use Rattle.evm_shared.proofs.locked.Locked.deliver.Goals.{then-cpu-cpu_count-via-then-cpu-cpu_count, then-cpu-cpu_count-via-else-cpu-cpu_count+then-cpu-cpus}
 use Rattle.evm_shared.proofs.locked.Locked.deliver.Goals as goal
 
@@ -13,6 +14,11 @@ returns-then-cpu-cpu_count-clause-refused g c =
       | then-cpu-cpu_count-via-then-cpu-cpu_count w ↦ inr (refl, inl (omega (arith, same, c.cpu_count.ensures.count, w.if-cpu-cpu_count.true)))
       | then-cpu-cpu_count-via-else-cpu-cpu_count+then-cpu-cpus w ↦ inr (refl, inr (omega (arith, w.cpus.ensures, w.if-cpu-cpus.true)))
     ]
+
+pub ring_all-count-requires-clause-profile : goal.ring_all-count-requires-clause-profile
+ring_all-count-requires-clause-profile g c =
+    let i = c.self.invariant in
+    omega (arith, i.lines, ap (λ (b : Boot). b.profile) (booted_as g.O.Origin.start c.self.inside.machine i.replays))
 
 pub count-requires : goal.count-requires
 count-requires g c =
@@ -29,5 +35,6 @@ invariant_of-self g c =
     let more = bells_counted c.args.cpu c.take-word.result c.ring_all-count.result LINES c.bells.result c.bells.ensures e.count in
     let counted = counted_more g.O.Origin.base c.self.inside.books c.bells.result c.self.inside.machine.journal c.ring_all-count.new.machine.journal _ i.counted e.journaled more in record {
       replays = e.replays g.O.Origin.start i.replays;
+      lines = i.lines;
       counted = rw c.count.ensures.book counted;
     }

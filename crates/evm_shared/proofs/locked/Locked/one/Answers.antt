@@ -17,6 +17,7 @@ invariant_of-self-in-Ok g c =
     let more = sym c.one.ensures in
     let counted = counted_more g.O.Origin.base c.self.inside.books c.one.result c.self.inside.machine.journal c.apply.new.self.journal _ i.counted c.in-Ok.ensures.journaled more in record {
       replays = c.in-Ok.ensures.replays g.O.Origin.start i.replays;
+      lines = i.lines;
       counted = rw c.count.ensures.book counted;
     }
 

@@ -1,5 +1,0 @@
-use Rattle.std.proofs.Common.{◌≡◌}
-use Rattle.bells_bench.proofs.bells.ring_many.Given as goal
-
-abbrev pub invariant-loop-ring : goal.invariant-loop-ring
-invariant-loop-ring l = record { bells : l.ringer.bells ≡ l.bells.id }

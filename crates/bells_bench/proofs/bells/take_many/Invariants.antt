@@ -1,5 +1,0 @@
-use Rattle.std.proofs.Common.{◌≡◌}
-use Rattle.bells_bench.proofs.bells.take_many.Given as goal
-
-abbrev pub invariant-loop : goal.invariant-loop
-invariant-loop l = record { bells : l.taker.bells ≡ l.bells.id }

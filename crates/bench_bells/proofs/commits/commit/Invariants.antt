@@ -1,0 +1,14 @@
+use Rattle.evm_shared.specs.EventCounts.{kind_counts}
+use Rattle.bench_bells.proofs.commits.commit.Given as goal
+
+abbrev pub ghosts-commit_by-O-Origin : goal.ghosts-commit_by-O-Origin
+ghosts-commit_by-O-Origin g a = record { start = a.machine; base = kind_counts a.machine.journal }
+
+abbrev pub ghosts-commit_by-S-Ledger : goal.ghosts-commit_by-S-Ledger
+ghosts-commit_by-S-Ledger g a = record { name = a.blanks.steps.name; parts = a.blanks.steps.parts }
+
+abbrev pub ghosts-commit_by-B-Ledger : goal.ghosts-commit_by-B-Ledger
+ghosts-commit_by-B-Ledger g a = record { name = a.blanks.bells.name; parts = a.blanks.bells.parts }
+
+abbrev pub ghosts-commit_by-T-Ledger : goal.ghosts-commit_by-T-Ledger
+ghosts-commit_by-T-Ledger g a = record { name = a.blanks.others.name; parts = a.blanks.others.parts }

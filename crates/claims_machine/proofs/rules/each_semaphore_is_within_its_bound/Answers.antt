@@ -1,0 +1,8 @@
+use Rattle.claims_machine.proofs.Reached.{good}
+use Rattle.claims_machine.proofs.rules.each_semaphore_is_within_its_bound.Goals as goal
+
+pub returns-clause-few : goal.returns-clause-few
+returns-clause-few g boot s reached = (good g.rules_hold.ensures.booted g.rules_hold.ensures.loaded boot s reached).semaphores.few
+
+pub returns-clause-bounded : goal.returns-clause-bounded
+returns-clause-bounded g boot s semaphore count reached there = (good g.rules_hold.ensures.booted g.rules_hold.ensures.loaded boot s reached).semaphores.bounded semaphore count there

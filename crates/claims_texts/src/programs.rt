@@ -1,0 +1,55 @@
+//! What a machine does with an assembled program.
+
+ghost use Rattle.law_programs.specs.Expansions.{EachLiIsExecuted, EachLaIsExecuted};
+ghost use Rattle.law_programs.specs.Loading.{LoadsWhereItFits, RefusedWhereItDoesNot, AssembledAndRun};
+ghost use Rattle.law_programs.specs.Pseudo.{LiLeavesItsNumber, LaLeavesItsAddress, WhatIsLoadedIsRead, EachLiLoads, EachLaLoads, OperandsAreInRange};
+ghost use Rattle.law_programs.specs.Running.{OfEachLine, ExecutesLine, StepsLine, AcceptsStep};
+ghost use Rattle.law_programs.specs.Staying.{ALineStays, RunsAsAssembled};
+
+/// A program whose bytes fit RAM is loaded, and another is refused with BadAddress. The first Step does the line at
+/// 0x80000000.
+pub fn an_image_loads_where_it_fits()
+    ensures loads { LoadsWhereItFits }
+    ensures refused { RefusedWhereItDoesNot }
+    ensures runs { AssembledAndRun }
+{
+    law_programs::an_assembled_image_loads();
+    law_programs::assembled_and_run();
+}
+
+/// A Step of a processor whose task comes to the address of a line does the line's instruction, after any events that
+/// wrote nothing over the line's four bytes.
+pub fn each_line_does_its_instruction()
+    ensures executes { OfEachLine ExecutesLine }
+    ensures steps { OfEachLine StepsLine }
+    ensures accepted { OfEachLine AcceptsStep }
+    ensures stays { ALineStays }
+    ensures runs { RunsAsAssembled }
+{
+    law_programs::a_word_is_its_instruction();
+    law_programs::a_step_does_its_line();
+    law_programs::a_line_stays();
+    law_programs::an_assembled_program_runs();
+}
+
+/// The instructions of `li rd,n` and `la rd,l`, done one after the other, leave n, or the address of l, in rd and the
+/// pc behind them; nothing else of the hart changes.
+pub fn li_and_la_load_what_they_name()
+    ensures numbers { LiLeavesItsNumber }
+    ensures addresses { LaLeavesItsAddress }
+    ensures read { WhatIsLoadedIsRead }
+    ensures ranges { OperandsAreInRange }
+    ensures each_li { EachLiLoads }
+    ensures each_la { EachLaLoads }
+    ensures li_executed { EachLiIsExecuted }
+    ensures la_executed { EachLaIsExecuted }
+{
+    law_programs::li_leaves_its_number();
+    law_programs::la_leaves_its_address();
+    law_programs::what_is_loaded_is_read();
+    law_programs::operands_are_in_range();
+    law_programs::each_li_loads();
+    law_programs::each_la_loads();
+    law_programs::each_li_is_executed();
+    law_programs::each_la_is_executed();
+}

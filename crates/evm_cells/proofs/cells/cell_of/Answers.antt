@@ -1,6 +1,0 @@
-use Rattle.std.proofs.Common.{rules, ◌≡◌, refl}
-use Rattle.evm_cells.proofs.RowLemmas.{tells-item}
-use Rattle.evm_cells.proofs.cells.cell_of.Goals as goal
-
-pub returns-clause-tells : goal.returns-clause-tells
-returns-clause-tells c some = tells-item _ c.args.item.now.count c.args.item.now.event (search rules) refl c.shares_of.ensures some

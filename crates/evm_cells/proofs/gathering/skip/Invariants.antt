@@ -1,8 +1,0 @@
-use Rattle.std.proofs.Common.{◌≡◌, ◌+◌, ◌*◌}
-use Rattle.evm_cells.specs.declared.gathering.TheConstants.{SKIPPED}
-use Rattle.evm_timeline.specs.Walks.{Follows, place}
-use Rattle.evm_cells.proofs.gathering.skip.Given as goal
-
--- so many parts were skipped
-abbrev pub invariant-loop-part : goal.invariant-loop-part
-invariant-loop-part g l = (place l.walk ≡ place l.fn.walk + l._part * SKIPPED) × Follows l.fn.walk l.walk

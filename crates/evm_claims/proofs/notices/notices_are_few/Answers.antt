@@ -1,5 +1,0 @@
-use Rattle.evm_claims.proofs.Reached.{good}
-use Rattle.evm_claims.proofs.notices.notices_are_few.Goals as goal
-
-pub returns : goal.returns
-returns g boot s reached = let rules = good g.rules_hold.ensures.booted g.rules_hold.ensures.loaded boot s reached in (rules.notices.kept, rules.notices.total)

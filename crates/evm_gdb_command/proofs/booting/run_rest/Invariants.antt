@@ -1,5 +1,0 @@
-use Rattle.std.proofs.Common.{length}
-use Rattle.evm_gdb_command.proofs.booting.run_rest.Given as goal
-
-abbrev pub decreases-lines : goal.decreases-lines
-decreases-lines g l = length l.rest

@@ -1,5 +1,0 @@
-use Rattle.evm_gdb_driving.specs.Kept.{KeepsJournal}
-use Rattle.evm_gdb_driving.proofs.running.step.Given as goal
-
-abbrev pub invariant-lines : goal.invariant-lines
-invariant-lines g l = KeepsJournal l.fn.machine l.machine

@@ -1,6 +1,0 @@
-use Rattle.std.proofs.Common.{◌≡◌, take}
-use Rattle.evm_gdb_packets.specs.Framing.{checksum}
-use Rattle.evm_gdb_packets.proofs.item.checksum.Given as goal
-
-abbrev pub invariant-loop-byte : goal.invariant-loop-byte
-invariant-loop-byte l = l.sum ≡ checksum (take l.byte-index l.bytes)

@@ -1,4 +1,0 @@
-use Rattle.evm_hunt.proofs.switching.look_at.Goals as goal
-
-pub returns-in-Ok-note-clause-searches : goal.returns-in-Ok-note-clause-searches
-returns-in-Ok-note-clause-searches c empty none first begins = c.in-Ok.ensures.searches (c.in-Ok-note.ensures.none empty) none first begins

@@ -1,5 +1,0 @@
-use Rattle.evm_laws.proofs.Each.{each_li_loads}
-use Rattle.evm_laws.proofs.pseudo.each_li_loads.Goals as goal
-
-pub returns : goal.returns
-returns c = each_li_loads c.li_loads.ensures

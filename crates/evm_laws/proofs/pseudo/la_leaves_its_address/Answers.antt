@@ -1,5 +1,0 @@
-use Rattle.evm_laws.proofs.Loaded.{la_leaves_its_address}
-use Rattle.evm_laws.proofs.pseudo.la_leaves_its_address.Goals as goal
-
-pub returns : goal.returns
-returns c = la_leaves_its_address c.la_loads.ensures

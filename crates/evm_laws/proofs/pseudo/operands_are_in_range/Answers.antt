@@ -1,5 +1,0 @@
-use Rattle.evm_laws.proofs.Each.{operands_are_in_range}
-use Rattle.evm_laws.proofs.pseudo.operands_are_in_range.Goals as goal
-
-pub returns : goal.returns
-returns c = operands_are_in_range

@@ -1,3 +1,0 @@
-pub mod Least
-pub mod Mending
-pub mod Relinks

@@ -1,4 +1,0 @@
-pub mod Events
-pub mod Printing
-pub mod Scripts
-pub mod Written

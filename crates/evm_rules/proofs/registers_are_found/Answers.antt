@@ -1,5 +1,0 @@
-use Rattle.evm_rules.proofs.Registers.{registers_are_found}
-use Rattle.evm_rules.proofs.registers_are_found.Goals as goal
-
-pub returns : goal.returns
-returns c = registers_are_found

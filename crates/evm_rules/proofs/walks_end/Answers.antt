@@ -1,8 +1,0 @@
-use Rattle.evm_ranks.proofs.Walks.{walks_end, never_returns}
-use Rattle.evm_rules.proofs.walks_end.Goals as goal
-
-pub returns-clause-ends : goal.returns-clause-ends
-returns-clause-ends c = walks_end
-
-pub returns-clause-returns : goal.returns-clause-returns
-returns-clause-returns c boosts limit links t h e = never_returns boosts limit links t h e

@@ -1,5 +1,0 @@
-use Rattle.evm_runs.proofs.Own.{callers_leave}
-use Rattle.evm_runs.proofs.calls_leave.Goals as goal
-
-pub returns : goal.returns
-returns c = callers_leave

@@ -1,5 +1,0 @@
-use Rattle.evm_runs.proofs.Commands.{events_change_only}
-use Rattle.evm_runs.proofs.events_change_only.Goals as goal
-
-pub returns : goal.returns
-returns c = events_change_only

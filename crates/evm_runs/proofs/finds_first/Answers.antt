@@ -1,5 +1,0 @@
-use Rattle.evm_runs.proofs.First.{always_finds_first}
-use Rattle.evm_runs.proofs.finds_first.Goals as goal
-
-pub returns : goal.returns
-returns c = always_finds_first

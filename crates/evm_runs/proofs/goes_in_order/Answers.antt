@@ -1,5 +1,0 @@
-use Rattle.evm_runs.proofs.Turns.{lines_rise, logs_play_in_order, mutexes_pass_by_number, waiters_wake_by_number}
-use Rattle.evm_runs.proofs.goes_in_order.Goals as goal
-
-pub returns : goal.returns
-returns c = record { rise = lines_rise; plays = logs_play_in_order; wakes = waiters_wake_by_number; passes = mutexes_pass_by_number }

@@ -1,5 +1,0 @@
-use Rattle.evm_runs.proofs.Nudged.{always_tells, always_tells_loaded}
-use Rattle.evm_runs.proofs.line_one_is_raised.Goals as goal
-
-pub returns : goal.returns
-returns c = record { booted = always_tells; loaded = always_tells_loaded }

@@ -1,5 +1,0 @@
-use Rattle.evm_runs.proofs.Replays.{replays_join}
-use Rattle.evm_runs.proofs.replays_join.Goals as goal
-
-pub returns : goal.returns
-returns c = replays_join

@@ -1,5 +1,0 @@
-use Rattle.evm_runs.proofs.Least.{always_tells_least}
-use Rattle.evm_runs.proofs.returns_least.Goals as goal
-
-pub returns : goal.returns
-returns c = always_tells_least

@@ -1,5 +1,0 @@
-use Rattle.evm_runs.proofs.Kept.{sizes_stay}
-use Rattle.evm_runs.proofs.sizes_stay.Goals as goal
-
-pub returns : goal.returns
-returns c = sizes_stay

@@ -1,5 +1,0 @@
-use Rattle.evm_runs.proofs.Replays.{starts_as_replay}
-use Rattle.evm_runs.proofs.starts_as_replay.Goals as goal
-
-pub returns : goal.returns
-returns c = starts_as_replay

@@ -1,5 +1,0 @@
-use Rattle.evm_runs.proofs.Kept.{stays_as_booted, stays_as_loaded}
-use Rattle.evm_runs.proofs.stays_as_booted.Goals as goal
-
-pub returns : goal.returns
-returns c = record { booted = stays_as_booted; loaded = stays_as_loaded }

@@ -1,5 +1,0 @@
-use Rattle.evm_runs.proofs.Replays.{stays_replay}
-use Rattle.evm_runs.proofs.stays_replay.Goals as goal
-
-pub returns : goal.returns
-returns c = stays_replay

@@ -1,5 +1,0 @@
-use Rattle.evm_runs.proofs.Order.{steps_receive_least}
-use Rattle.evm_runs.proofs.steps_receive_least.Goals as goal
-
-pub returns : goal.returns
-returns c = steps_receive_least

@@ -1,6 +1,0 @@
--- each line leaves fewer bytes
-use Rattle.std.proofs.Common.{length}
-use Rattle.evm_shell.proofs.reading.answer_whole.Given as goal
-
-abbrev pub decreases-loop-line : goal.decreases-loop-line
-decreases-loop-line g l = length l.rest

@@ -1,1 +1,0 @@
-pub use Rattle.evm_session.specs as evm_session

@@ -1,5 +1,0 @@
-use Rattle.evm_thread_claims.proofs.Taken.{run_says}
-use Rattle.evm_thread_claims.proofs.taking.a_run_says_what_it_takes.Goals as goal
-
-pub returns-clause-says : goal.returns-clause-says
-returns-clause-says g c = run_says g.O.Origin.start c.args.bells.now.cpus c.args.turns c.run.result c.args.workers.now c.run.new.workers c.run.ensures.count c.run.ensures.turns c.run.ensures.least

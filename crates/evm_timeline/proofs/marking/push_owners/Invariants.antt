@@ -1,8 +1,0 @@
-use Rattle.std.proofs.Common.{◌≡◌, ◌++◌}
-use Rattle.evm_timeline.specs.Lists.{below}
-use Rattle.evm_timeline.specs.Marks.{owner_marks}
-use Rattle.evm_timeline.proofs.marking.push_owners.Given as goal
-
--- the marks of those below mutex were appended
-abbrev pub invariant-loop-mutex : goal.invariant-loop-mutex
-invariant-loop-mutex l = l.marks.items ≡ l.fn.marks.items ++ below (owner_marks l.before l.after) l.mutex

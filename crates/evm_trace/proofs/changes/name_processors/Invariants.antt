@@ -1,6 +1,0 @@
-use Rattle.std.proofs.Common.{◌≡◌}
-use Rattle.evm_trace.specs.Instants.{instants_in}
-use Rattle.evm_trace.proofs.changes.name_processors.Given as goal
-
-abbrev pub invariant-loop-cpu : goal.invariant-loop-cpu
-invariant-loop-cpu l = instants_in l.list.items ≡ instants_in l.fn.list.items

@@ -1,6 +1,0 @@
-use Rattle.std.proofs.Common.{◌≡◌}
-use Rattle.evm_trace.specs.Instants.{instants_in}
-use Rattle.evm_trace.proofs.changes.show_tasks.Given as goal
-
-abbrev pub invariant-loop-task : goal.invariant-loop-task
-invariant-loop-task l = instants_in l.list.items ≡ instants_in l.fn.list.items

@@ -1,7 +1,0 @@
-use Rattle.std.proofs.Common.{ap, ◌∙◌}
-use Rattle.evm_trace.specs.Instants.{instants_in}
-use Rattle.evm_trace.proofs.Told.{instants_shown}
-use Rattle.evm_trace.proofs.changes.shows.Goals as goal
-
-pub returns : goal.returns
-returns c = ap instants_in c.in_ok-push.ensures ∙ instants_shown c.args.list.now.items c.args.track c.args.state c.args.at

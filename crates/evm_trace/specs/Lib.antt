@@ -1,4 +1,0 @@
-pub mod Flows
-pub mod Instants
-pub mod Spots
-pub mod Tellings

@@ -1,5 +1,0 @@
-use Rattle.std.proofs.Common.{◌≡◌}
-use Rattle.evm_viewer.proofs.showing.show_run.Goals as goal
-
-pub returns-in-Ok : goal.returns-in-Ok
-returns-in-Ok g c picture done = (c.in-Ok.timeline, c.unwrap_or.result.now, c.in-Ok.ensures, c.show_timeline.ensures picture done)

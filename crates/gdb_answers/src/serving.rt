@@ -1,0 +1,415 @@
+//! The server: bytes in, packets out.
+
+ghost use Rattle.std.specs.Prelude.{◌≡◌, ◌≢◌, ◌<◌, ◌++◌, [], length, IfSome, OnOk, Option};
+ghost use Rattle.std.specs.String.{string_bytes};
+ghost use Rattle.gdb_packets.specs.Framing.{framed};
+ghost use Rattle.gdb_commands.specs.Commands.{command_at};
+ghost use Rattle.gdb_answers.specs.Asking.{ArePointsSet, IsCarriedOut, asked, payload_asked, payload_points, points_asked, reply};
+ghost use Rattle.gdb_answers.specs.Written.{Extends, acknowledgement};
+ghost use Rattle.gdb_tape.specs.Tape.{KeepsTape};
+
+use crate::answering::answer;
+use crate::session::GdbSession;
+use evm_room::{NoMemory, Refused};
+use evm_streams::{ReadFault, Reading, Sink, Source, WriteFault, write_all};
+use gdb_commands::{Command, read_command};
+use gdb_packets::{PacketItem, push_digits, push_framed, read_item};
+use gdb_tape::{Interrupts, has_going, part_len, processor_of, push_bytes, stop_all};
+use std::alloc::Global;
+use std::mem;
+
+/// How a session ended.
+#[derive(Clone, Copy, Debug, PartialEq, Eq)]
+pub enum Ended {
+    /// GDB left, or its stream ended.
+    Left,
+    /// The session is to be saved, and goes on then.
+    Saves,
+    /// An allocation failed.
+    NoMemory,
+    /// A read failed.
+    ReadFailed(ReadFault),
+    /// A write failed.
+    WriteFailed(WriteFault),
+}
+
+// What a session is answered with, and where it is made.
+#[derive(Drop)]
+struct Desk {
+    data: Vec<u8>,
+    told: String,
+    answer: Vec<u8>,
+    // What is written, and what was written last.
+    out: Vec<u8>,
+}
+
+fn new_desk(alloc: Global) -> Desk {
+    Desk {
+        data: Vec::new(alloc),
+        told: String::new(alloc),
+        answer: Vec::new(alloc),
+        out: Vec::new(alloc),
+    }
+}
+
+/// How many bytes of text one packet shows.
+const SHOWN_LIMIT: usize = 1_024;
+
+// Appends a packet that shows a part of a text: O and its digits.
+#[tactic(auto, using(crate::proofs::Extending::extends_by))]
+fn push_shown_part(text: &[u8], packet: &mut Vec<u8>, out: &mut Vec<u8>) -> Result<(), Refused>
+    ensures extends { OnOk result (Extends out.old.items out.new.items) }
+{
+    packet.clear();
+    push_bytes(packet, b"O")?;
+    push_digits(packet, text)?;
+    push_framed(out, packet.as_slice())
+}
+
+// Appends the packets that show a text.
+#[tactic(auto, using(crate::proofs::Extending::extends_none, crate::proofs::Extending::extends_more))]
+fn push_shown(text: &[u8], packet: &mut Vec<u8>, out: &mut Vec<u8>) -> Result<(), Refused>
+    ensures extends { OnOk result (Extends out.old.items out.new.items) }
+    ensures nothing { length text.now ≡ 0 → OnOk result (out.new.items ≡ out.old.items) }
+{
+    let mut rest = text;
+    'packets: while !rest.is_empty() {
+        let (first, after) = cut_text(rest);
+        match push_shown_part(first, packet, out) {
+            Ok(()) => rest = after,
+            Err(refused) => return Err(refused),
+        }
+    }
+    Ok(())
+}
+
+// The first bytes of a text, as many as one packet shows, and the others.
+fn cut_text(text: &[u8]) -> (&[u8], &[u8])
+    ensures shorter { 0 < length text.now → length result.1.now < length text.now }
+{
+    let end = part_len(text.len(), SHOWN_LIMIT);
+    (&text[..end], &text[end..])
+}
+
+// Appends the packet of an answer, if GDB waits for one.
+#[tactic(auto, using(crate::proofs::Extending::extends_none, crate::proofs::Extending::extends_by))]
+fn push_answer(answer: &[u8], over: bool, out: &mut Vec<u8>) -> Result<(), Refused>
+    ensures extends { OnOk result (Extends out.old.items out.new.items) }
+    ensures some { 0 < length answer.now → OnOk result (out.new.items ≡ out.old.items ++ framed answer.now) }
+{
+    if over && answer.is_empty() {
+        return Ok(());
+    }
+    push_framed(out, answer)
+}
+
+// Appends the packets of an answer: those that show a text, and the answer itself.
+#[tactic(auto, using(crate::proofs::Extending::extends_more))]
+fn push_packets(desk: &mut Desk, over: bool) -> Result<(), NoMemory>
+    ensures extends { OnOk result (Extends desk.old.out.items desk.new.out.items) }
+    ensures alone { length (string_bytes desk.old.told) ≡ 0 → 0 < length desk.old.answer.items → OnOk result (desk.new.out.items ≡ desk.old.out.items ++ framed desk.old.answer.items) }
+{
+    match push_shown(desk.told.as_bytes(), &mut desk.data, &mut desk.out) {
+        Ok(()) => {}
+        Err(_) => return Err(NoMemory),
+    }
+    match push_answer(desk.answer.as_slice(), over, &mut desk.out) {
+        Ok(()) => Ok(()),
+        Err(_) => Err(NoMemory),
+    }
+}
+
+// Does a command, and appends the packets of its answer.
+fn answer_command<I: Interrupts>(
+    alloc: Global,
+    session: &mut GdbSession,
+    command: Command,
+    behind: &[u8],
+    interrupts: &I,
+    desk: &mut Desk,
+) -> Result<(), NoMemory>
+    ensures points { OnOk result (IfSome (points_asked session.old.tape.machine session.old.points command) (λ outcome. ArePointsSet reply outcome session.old.points session.new.points desk.old.out.items desk.new.out.items)) }
+    ensures done { OnOk result (IfSome (asked session.old.looked behind.now session.old.tape.machine command) (λ events. IsCarriedOut reply events session.old.tape.machine session.new.tape.machine desk.old.out.items desk.new.out.items)) }
+    ensures kept { KeepsTape session.old.tape session.new.tape }
+    ensures extends { OnOk result (Extends desk.old.out.items desk.new.out.items) }
+{
+    desk.told.clear();
+    desk.answer.clear();
+    match answer(
+        alloc,
+        session,
+        command,
+        behind,
+        interrupts,
+        &mut desk.data,
+        &mut desk.told,
+        &mut desk.answer,
+    ) {
+        Ok(()) => push_packets(desk, session.over),
+        Err(NoMemory) => Err(NoMemory),
+    }
+}
+
+// Appends the empty packet.
+fn push_none(out: &mut Vec<u8>) -> Result<(), NoMemory>
+    ensures ok { OnOk result (out.new.items ≡ out.old.items ++ framed []) }
+{
+    match push_framed(out, &[]) {
+        Ok(()) => Ok(()),
+        Err(_) => Err(NoMemory),
+    }
+}
+
+// Appends an acknowledgement, if packets are acknowledged.
+fn push_sign(acknowledges: bool, item: PacketItem, out: &mut Vec<u8>) -> Result<(), NoMemory>
+    ensures ok { OnOk result (out.new.items ≡ out.old.items ++ acknowledgement acknowledges item) }
+{
+    let sign: &[u8] = match item {
+        PacketItem::Packet if acknowledges => b"+",
+        PacketItem::Damaged if acknowledges => b"-",
+        _ => b"",
+    };
+    match push_bytes(out, sign) {
+        Ok(()) => Ok(()),
+        Err(_) => Err(NoMemory),
+    }
+}
+
+// Answers a payload.
+#[tactic(auto, using(gdb_tape::proofs::Keeping::keeps_same, crate::proofs::Extending::extends_by))]
+fn answer_payload<I: Interrupts>(
+    alloc: Global,
+    session: &mut GdbSession,
+    payload: &[u8],
+    interrupts: &I,
+    desk: &mut Desk,
+) -> Result<(), NoMemory>
+    ensures points { OnOk result (IfSome (payload_points payload.now session.old.tape.machine session.old.points) (λ outcome. ArePointsSet reply outcome session.old.points session.new.points desk.old.out.items desk.new.out.items)) }
+    ensures done { OnOk result (IfSome (payload_asked session.old.looked payload.now session.old.tape.machine) (λ events. IsCarriedOut reply events session.old.tape.machine session.new.tape.machine desk.old.out.items desk.new.out.items)) }
+    ensures kept { KeepsTape session.old.tape session.new.tape }
+    ensures extends { OnOk result (Extends desk.old.out.items desk.new.out.items) }
+    ensures unknown { command_at payload.now ≡ Option.None → session.new ≡ session.old }
+    ensures empty { command_at payload.now ≡ Option.None → OnOk result (desk.new.out.items ≡ desk.old.out.items ++ framed []) }
+{
+    match read_command(payload) {
+        Some((command, behind)) => answer_command(
+            alloc, session, command, behind, interrupts, desk,
+        ),
+        None => push_none(&mut desk.out),
+    }
+}
+
+// Makes what is to be written for an item: its acknowledgement, and the packets of the answer to a payload.
+#[tactic(auto, using(gdb_tape::proofs::Keeping::keeps_same, crate::proofs::Extending::extends_none))]
+fn hear<I: Interrupts>(
+    alloc: Global,
+    session: &mut GdbSession,
+    item: PacketItem,
+    payload: &[u8],
+    interrupts: &I,
+    desk: &mut Desk,
+) -> Result<(), NoMemory>
+    ensures points { item ≡ PacketItem.Packet → OnOk result (IfSome (payload_points payload.now session.old.tape.machine session.old.points) (λ outcome. ArePointsSet reply outcome session.old.points session.new.points (acknowledgement session.old.acknowledges item) desk.new.out.items)) }
+    ensures done { item ≡ PacketItem.Packet → OnOk result (IfSome (payload_asked session.old.looked payload.now session.old.tape.machine) (λ events. IsCarriedOut reply events session.old.tape.machine session.new.tape.machine (acknowledgement session.old.acknowledges item) desk.new.out.items)) }
+    ensures kept { KeepsTape session.old.tape session.new.tape }
+    ensures acknowledged { OnOk result (Extends (acknowledgement session.old.acknowledges item) desk.new.out.items) }
+    ensures others { item ≢ PacketItem.Packet → session.new ≡ session.old }
+    ensures sign { item ≢ PacketItem.Packet → OnOk result (desk.new.out.items ≡ acknowledgement session.old.acknowledges item) }
+    ensures unknown { item ≡ PacketItem.Packet → command_at payload.now ≡ Option.None → session.new ≡ session.old }
+    ensures empty { item ≡ PacketItem.Packet → command_at payload.now ≡ Option.None → OnOk result (desk.new.out.items ≡ acknowledgement session.old.acknowledges item ++ framed []) }
+{
+    desk.out.clear();
+    match push_sign(session.acknowledges, item, &mut desk.out) {
+        Ok(()) => {}
+        Err(NoMemory) => return Err(NoMemory),
+    }
+    match item {
+        PacketItem::Packet => answer_payload(alloc, session, payload, interrupts, desk),
+        _ => Ok(()),
+    }
+}
+
+// Whether something is written for an item. For - it is what was written last.
+fn is_answered(item: PacketItem) -> bool {
+    matches!(
+        item,
+        PacketItem::Packet | PacketItem::Damaged | PacketItem::NotAcknowledged
+    )
+}
+
+// Makes what is written for an item; what was written last stays where nothing new is.
+#[tactic(auto, using(gdb_tape::proofs::Keeping::keeps_same))]
+fn prepare<I: Interrupts>(
+    alloc: Global,
+    session: &mut GdbSession,
+    item: PacketItem,
+    payload: &[u8],
+    interrupts: &I,
+    desk: &mut Desk,
+) -> Result<(), NoMemory>
+    ensures points { item ≡ PacketItem.Packet → OnOk result (IfSome (payload_points payload.now session.old.tape.machine session.old.points) (λ outcome. ArePointsSet reply outcome session.old.points session.new.points (acknowledgement session.old.acknowledges item) desk.new.out.items)) }
+    ensures done { item ≡ PacketItem.Packet → OnOk result (IfSome (payload_asked session.old.looked payload.now session.old.tape.machine) (λ events. IsCarriedOut reply events session.old.tape.machine session.new.tape.machine (acknowledgement session.old.acknowledges item) desk.new.out.items)) }
+    ensures kept { KeepsTape session.old.tape session.new.tape }
+{
+    match item {
+        PacketItem::Packet | PacketItem::Damaged => hear(
+            alloc, session, item, payload, interrupts, desk,
+        ),
+        _ => Ok(()),
+    }
+}
+
+// Whether an item asks for other registers.
+fn writes_registers(item: PacketItem, payload: &[u8]) -> bool {
+    if item != PacketItem::Packet {
+        return false;
+    }
+    match read_command(payload) {
+        Some((Command::SetRegisters, _)) | Some((Command::SetRegister(_), _)) => true,
+        _ => false,
+    }
+}
+
+// Stops the processors where registers are to be written that can be: at an earlier place they may go.
+#[tactic(auto, using(gdb_tape::proofs::Keeping::keeps_same, gdb_tape::proofs::Keeping::keeps_changed))]
+fn make_way(session: &mut GdbSession, item: PacketItem, payload: &[u8])
+    ensures kept { KeepsTape session.old.tape session.new.tape }
+{
+    let can = processor_of(&session.tape.machine, session.looked).is_ok();
+    if can && writes_registers(item, payload) && has_going(&session.tape.machine) {
+        session.forget();
+        let _ = stop_all(&mut session.tape.machine);
+    }
+}
+
+// Answers an item.
+#[tactic(auto, using(gdb_tape::proofs::Keeping::keeps_same, gdb_tape::proofs::Keeping::keeps_more))]
+fn serve_item<W: Sink, I: Interrupts>(
+    alloc: Global,
+    session: &mut GdbSession,
+    item: PacketItem,
+    payload: &[u8],
+    interrupts: &I,
+    desk: &mut Desk,
+    sink: &mut W,
+) -> Result<(), Ended>
+    ensures kept { KeepsTape session.old.tape session.new.tape }
+{
+    make_way(session, item, payload);
+    match prepare(alloc, session, item, payload, interrupts, desk) {
+        Ok(()) => {}
+        Err(NoMemory) => return Err(Ended::NoMemory),
+    }
+    if !is_answered(item) {
+        return Ok(());
+    }
+    match write_all(sink, desk.out.as_slice()) {
+        Ok(()) => Ok(()),
+        Err(fault) => Err(Ended::WriteFailed(fault)),
+    }
+}
+
+// Answers the items that are whole in some bytes: how many bytes are left.
+#[tactic(auto, using(gdb_tape::proofs::Keeping::keeps_same, gdb_tape::proofs::Keeping::keeps_more))]
+fn serve_items<W: Sink, I: Interrupts>(
+    alloc: Global,
+    session: &mut GdbSession,
+    bytes: &[u8],
+    interrupts: &I,
+    payload: &mut Vec<u8>,
+    desk: &mut Desk,
+    sink: &mut W,
+) -> Result<usize, Ended>
+    ensures kept { KeepsTape session.old.tape session.new.tape }
+{
+    let mut rest = bytes;
+    'items: for _ in 0..bytes.len() {
+        if session.over {
+            return Ok(0);
+        }
+        match read_item(rest, payload) {
+            Err(_) => return Err(Ended::NoMemory),
+            Ok(None) => return Ok(rest.len()),
+            Ok(Some((item, after))) => {
+                match serve_item(
+                    alloc,
+                    session,
+                    item,
+                    payload.as_slice(),
+                    interrupts,
+                    desk,
+                    sink,
+                ) {
+                    Ok(()) => rest = after,
+                    Err(ended) => return Err(ended),
+                }
+            }
+        }
+    }
+    Ok(rest.len())
+}
+
+// Reads some bytes behind those that are not answered.
+fn read_more<R: Source>(source: &mut R, heard: &mut Vec<u8>) -> Result<bool, Ended> {
+    let mut part = [0u8; 4_096];
+    match source.read(&mut part) {
+        Reading::Failed(cause) => Err(Ended::ReadFailed(ReadFault::Failed(cause))),
+        Reading::Bytes(0) => Ok(false),
+        Reading::Bytes(n) => match push_bytes(heard, &part[..n]) {
+            Ok(()) => Ok(true),
+            Err(_) => Err(Ended::NoMemory),
+        },
+    }
+}
+
+// Keeps the last bytes of a list alone.
+fn keep_last(heard: &mut Vec<u8>, left: usize) {
+    let len = heard.len();
+    if left < len {
+        heard.copy_within(len - left..len, 0);
+        heard.truncate(left);
+    }
+}
+
+/// Serves a session: reads what GDB sends until it leaves or asks that the session be saved, and writes the answers. While the program goes on, the source
+/// says whether GDB asks that it be stopped.
+#[tactic(auto, using(gdb_tape::proofs::Keeping::keeps_same, gdb_tape::proofs::Keeping::keeps_more))]
+pub fn serve_gdb<R: Source + Interrupts, W: Sink>(
+    alloc: Global,
+    session: &mut GdbSession,
+    source: &mut R,
+    sink: &mut W,
+) -> Ended
+    ensures kept { KeepsTape session.old.tape session.new.tape }
+{
+    let mut desk = new_desk(alloc);
+    let mut heard = mem::replace(&mut session.heard, Vec::new(alloc));
+    let mut payload = Vec::new(alloc);
+    'parts: for _ in 0..u64::MAX {
+        match read_more(source, &mut heard) {
+            Ok(true) => {}
+            Ok(false) => return Ended::Left,
+            Err(ended) => return ended,
+        }
+        match serve_items(
+            alloc,
+            session,
+            heard.as_slice(),
+            source,
+            &mut payload,
+            &mut desk,
+            sink,
+        ) {
+            Ok(left) => keep_last(&mut heard, left),
+            Err(ended) => return ended,
+        }
+        if session.over {
+            return Ended::Left;
+        }
+        if !session.save.is_empty() {
+            session.heard = heard;
+            return Ended::Saves;
+        }
+    }
+    Ended::Left
+}

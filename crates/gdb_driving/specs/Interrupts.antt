@@ -1,0 +1,17 @@
+-- Why a continue ends: it is reported as interrupted only where a stop was asked for.
+use Rattle.std.specs.Prelude.{Option, Some, None}
+use Rattle.gdb_driving.specs.declared.stops.TargetHalt.{TargetHalt}
+use Rattle.gdb_driving.specs.declared.stops.Why.{Why}
+use Rattle.gdb_driving.specs.declared.stops.Why.TheVariants.{Interrupted}
+
+abbrev pub OnlyIfAsked : Type 0 → Why → Type 0
+OnlyIfAsked asked Interrupted = asked
+OnlyIfAsked asked _ = Unit {0}
+
+-- the machine stopped by itself
+abbrev pub IsAlone : Why → Type 0
+IsAlone why = OnlyIfAsked ⊥ why
+
+abbrev pub HaltsAlone : Option TargetHalt → Type 0
+HaltsAlone None = Unit {0}
+HaltsAlone (Some halt) = IsAlone halt.why

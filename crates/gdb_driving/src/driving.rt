@@ -1,0 +1,84 @@
+//! Events, each of which is an accepted event of the machine.
+
+ghost use Rattle.std.specs.Prelude.{◌≡◌, IfOk, IfErr, OnErr, Result};
+ghost use Rattle.evm_model.specs.Event.{event_lent};
+ghost use Rattle.evm_model.specs.Replay.{apply};
+ghost use Rattle.gdb_driving.specs.Kept.{KeepsJournal};
+
+use evm_debug::{Answer, Event, Machine, Refusal};
+use evm_dev::Device;
+use evm_model::Block;
+
+/// One event.
+pub fn event<D: Device>(machine: &mut Machine<D>, event: Event<&Block>) -> Result<Answer, Refusal>
+    ensures ok { IfOk result (λ answer. apply machine.old (event_lent event.entry) ≡ Result.Ok (machine.new, answer)) }
+    ensures err { IfErr result (λ refusal. apply machine.old (event_lent event.entry) ≡ Result.Err refusal) }
+    ensures unchanged { OnErr result (machine.new ≡ machine.old) }
+    ensures kept { KeepsJournal machine.old machine.new }
+{
+    machine.apply(event)
+}
+
+// Stops a processor that is not stopped.
+#[tactic(auto, using(crate::proofs::Kept::keeps_same))]
+fn stop<D: Device>(machine: &mut Machine<D>, c: u8) -> Result<(), Refusal>
+    ensures kept { KeepsJournal machine.old machine.new }
+{
+    match machine.cpu(c) {
+        Some(processor) if processor.stopped => Ok(()),
+        _ => match event(machine, Event::Stop(c)) {
+            Ok(_) => Ok(()),
+            Err(refusal) => Err(refusal),
+        },
+    }
+}
+
+/// Stops the processors that are not stopped.
+///
+/// # Errors
+///
+/// Why the first of them can't be stopped.
+#[tactic(auto, using(crate::proofs::Kept::keeps_same, crate::proofs::Kept::keeps_more))]
+pub fn stop_all<D: Device>(machine: &mut Machine<D>) -> Result<(), Refusal>
+    ensures kept { KeepsJournal machine.old machine.new }
+{
+    for c in 0..machine.cpu_count() {
+        match stop(machine, c) {
+            Ok(()) => {}
+            Err(refusal) => return Err(refusal),
+        }
+    }
+    Ok(())
+}
+
+// Lets a stopped processor go on.
+#[tactic(auto, using(crate::proofs::Kept::keeps_same))]
+fn go<D: Device>(machine: &mut Machine<D>, c: u8) -> Result<(), Refusal>
+    ensures kept { KeepsJournal machine.old machine.new }
+{
+    match machine.cpu(c) {
+        Some(processor) if processor.stopped => match event(machine, Event::Go(c)) {
+            Ok(_) => Ok(()),
+            Err(refusal) => Err(refusal),
+        },
+        _ => Ok(()),
+    }
+}
+
+/// Lets the stopped processors go on.
+///
+/// # Errors
+///
+/// Why the first of them can't go on.
+#[tactic(auto, using(crate::proofs::Kept::keeps_same, crate::proofs::Kept::keeps_more))]
+pub fn go_all<D: Device>(machine: &mut Machine<D>) -> Result<(), Refusal>
+    ensures kept { KeepsJournal machine.old machine.new }
+{
+    for c in 0..machine.cpu_count() {
+        match go(machine, c) {
+            Ok(()) => {}
+            Err(refusal) => return Err(refusal),
+        }
+    }
+    Ok(())
+}

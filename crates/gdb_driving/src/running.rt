@@ -1,0 +1,397 @@
+//! A program that goes on: one instruction, or until something stops it.
+
+ghost use Rattle.std.specs.Prelude.{IfOk, IfSome, true};
+ghost use Rattle.gdb_driving.specs.Interrupts.{HaltsAlone, OnlyIfAsked, IsAlone};
+ghost use Rattle.gdb_driving.specs.Kept.{KeepsJournal};
+
+use crate::clock::is_pending;
+use crate::driving::{event, go_all, stop_all};
+use crate::points::Points;
+use crate::seeing::{Next, break_at, current_or, fault_of, halt_after, next_of, watch_at};
+use crate::stops::{TargetHalt, Why};
+use evm_debug::{Answer, Event, Machine, Refusal};
+use evm_dev::Device;
+use gdb_hearing::Interrupts;
+
+/// How a program goes on.
+#[derive(Clone, Copy, Debug)]
+pub struct Going<'a> {
+    /// The processors that step, one after the other and again from the first.
+    pub turns: &'a [u8],
+    /// Where it stops.
+    pub points: &'a Points,
+    /// How many events it makes at most.
+    pub limit: u32,
+    /// How many rounds of turns go from one tick of the clock to the next, which comes too where nothing else is left; 0 for no ticks.
+    pub clock: u32,
+    /// Who is looked at. That task passes a breakpoint at its pc.
+    pub looked: u8,
+    /// The task whose instruction is the last.
+    pub until: Option<u8>,
+}
+
+/// How far the turns are.
+#[derive(Clone, Copy, Debug, PartialEq, Eq)]
+pub struct Round {
+    /// The next turn.
+    pub turn: usize,
+    /// How many rounds were made since the clock ticked.
+    pub rounds: u32,
+    /// Who passes a breakpoint at its pc.
+    pub passes: Option<u8>,
+}
+
+impl Round {
+    /// The first turn.
+    pub fn new() -> Round {
+        Round {
+            turn: 0,
+            rounds: 0,
+            passes: None,
+        }
+    }
+
+    // Comes to a turn. Those before it are passed over, maybe to the end of a round.
+    fn come(&mut self, at: usize) {
+        if at < self.turn {
+            self.rounds = self.rounds.saturating_add(1);
+        }
+        self.turn = at;
+    }
+
+    // Goes past the turn. The last one ends a round.
+    fn pass(&mut self, turns: usize) {
+        self.turn = next_turn(self.turn, turns);
+        if self.turn == 0 {
+            self.rounds = self.rounds.saturating_add(1);
+        }
+    }
+}
+
+// The turn behind one.
+fn next_turn(turn: usize, turns: usize) -> usize {
+    if turn < turns && turns - turn > 1 {
+        turn + 1
+    } else {
+        0
+    }
+}
+
+// The first turn from one on whose processor has something to do, and what.
+fn busy_turn<D: Device>(machine: &Machine<D>, turns: &[u8], first: usize) -> Option<(usize, Next)> {
+    let mut turn = if first < turns.len() { first } else { 0 };
+    'turns: for _ in 0..turns.len() {
+        match next_of(machine, turns.get(turn).copied().unwrap_or(0)) {
+            Next::Idles => {}
+            next => return Some((turn, next)),
+        }
+        turn = next_turn(turn, turns.len());
+    }
+    None
+}
+
+// A tick of the clock.
+#[tactic(auto, using(crate::proofs::Kept::keeps_same))]
+fn tick<D: Device>(machine: &mut Machine<D>, round: &mut Round) -> Result<(), Refusal>
+    ensures kept { KeepsJournal machine.old machine.new }
+{
+    round.rounds = 0;
+    match event(machine, Event::Tick) {
+        Ok(_) => Ok(()),
+        Err(refusal) => Err(refusal),
+    }
+}
+
+// What is done where no processor has anything to do: a tick, if something comes of it.
+#[tactic(auto, using(crate::proofs::Kept::keeps_same))]
+fn rest<D: Device>(
+    machine: &mut Machine<D>,
+    going: &Going<'_>,
+    round: &mut Round,
+) -> Result<Option<TargetHalt>, Refusal>
+    ensures kept { KeepsJournal machine.old machine.new }
+    ensures halts { IfOk result HaltsAlone }
+{
+    if going.clock == 0 || !is_pending(machine) {
+        return Ok(Some(TargetHalt {
+            task: going.looked,
+            why: Why::Idle,
+        }));
+    }
+    match tick(machine, round) {
+        Ok(()) => Ok(None),
+        Err(refusal) => Err(refusal),
+    }
+}
+
+// Who is stopped behind a step of a processor, and why.
+fn halt_behind<D: Device>(
+    machine: &Machine<D>,
+    until: Option<u8>,
+    c: u8,
+    answer: Answer,
+    watched: Option<Why>,
+) -> Option<TargetHalt>
+    requires { IfSome watched IsAlone }
+    ensures { HaltsAlone result }
+{
+    if let Some(halt) = halt_after(machine, c, answer) {
+        return Some(halt);
+    }
+    let Answer::Ran(task) = answer else {
+        return None;
+    };
+    match watched {
+        Some(why) => Some(TargetHalt { task, why }),
+        None if until == Some(task) => Some(TargetHalt {
+            task,
+            why: Why::Asked,
+        }),
+        None => None,
+    }
+}
+
+// Why a task is stopped before its instruction, if it doesn't pass.
+fn stop_before<D: Device>(
+    machine: &Machine<D>,
+    points: &Points,
+    passes: Option<u8>,
+    task: u8,
+) -> Option<TargetHalt>
+    ensures { HaltsAlone result }
+{
+    if passes == Some(task) {
+        return None;
+    }
+    match break_at(machine, points, task) {
+        Some(why) => Some(TargetHalt { task, why }),
+        None => None,
+    }
+}
+
+// The step of a processor, of which a task does an instruction.
+#[tactic(auto, using(crate::proofs::Kept::keeps_same))]
+fn run_task<D: Device>(
+    machine: &mut Machine<D>,
+    going: &Going<'_>,
+    round: &mut Round,
+    c: u8,
+    task: u8,
+) -> Result<Option<TargetHalt>, Refusal>
+    ensures kept { KeepsJournal machine.old machine.new }
+    ensures halts { IfOk result HaltsAlone }
+{
+    if let Some(halt) = stop_before(machine, going.points, round.passes, task) {
+        return Ok(Some(halt));
+    }
+    if round.passes == Some(task) {
+        round.passes = None;
+    }
+    let watched = watch_at(machine, going.points, task);
+    match event(machine, Event::Step(c)) {
+        Ok(answer) => Ok(halt_behind(machine, going.until, c, answer, watched)),
+        Err(refusal) => Err(refusal),
+    }
+}
+
+// The step of a processor that receives a line, or takes up a task.
+#[tactic(auto, using(crate::proofs::Kept::keeps_same))]
+fn run_line<D: Device>(machine: &mut Machine<D>, c: u8) -> Result<Option<TargetHalt>, Refusal>
+    ensures kept { KeepsJournal machine.old machine.new }
+    ensures halts { IfOk result HaltsAlone }
+{
+    match event(machine, Event::Step(c)) {
+        Ok(answer) => Ok(halt_after(machine, c, answer)),
+        Err(refusal) => Err(refusal),
+    }
+}
+
+// One event: a step of the next turn, or a tick.
+#[tactic(auto, using(crate::proofs::Kept::keeps_same))]
+fn run_turn<D: Device>(
+    machine: &mut Machine<D>,
+    going: &Going<'_>,
+    round: &mut Round,
+) -> Result<Option<TargetHalt>, Refusal>
+    ensures kept { KeepsJournal machine.old machine.new }
+    ensures halts { IfOk result HaltsAlone }
+{
+    let Some((at, next)) = busy_turn(machine, going.turns, round.turn) else {
+        return rest(machine, going, round);
+    };
+    round.come(at);
+    if going.clock != 0 && round.rounds >= going.clock {
+        return match tick(machine, round) {
+            Ok(()) => Ok(None),
+            Err(refusal) => Err(refusal),
+        };
+    }
+    let c = going.turns.get(at).copied().unwrap_or(0);
+    let outcome = match next {
+        Next::Runs(task) => run_task(machine, going, round, c, task),
+        Next::Prepares | Next::Idles => run_line(machine, c),
+    };
+    round.pass(going.turns.len());
+    outcome
+}
+
+/// How many events are made between two looks at whether a stop is asked for.
+const PATIENCE: u64 = 1_024;
+
+// A number of events: who is stopped behind them, if somebody is.
+#[tactic(auto, using(crate::proofs::Kept::keeps_same, crate::proofs::Kept::keeps_more))]
+fn run_some<D: Device>(
+    machine: &mut Machine<D>,
+    going: &Going<'_>,
+    round: &mut Round,
+    count: u64,
+) -> Result<Option<TargetHalt>, Refusal>
+    ensures kept { KeepsJournal machine.old machine.new }
+    ensures halts { IfOk result HaltsAlone }
+{
+    'steps: for _ in 0..count {
+        match run_turn(machine, going, round) {
+            Ok(None) => {}
+            Ok(Some(halt)) => return Ok(Some(halt)),
+            Err(refusal) => return Err(refusal),
+        }
+    }
+    Ok(None)
+}
+
+// At most `most` events, until a stop is asked for: who is stopped, and why.
+#[tactic(auto, using(crate::proofs::Kept::keeps_same, crate::proofs::Kept::keeps_more))]
+fn run<D: Device, I: Interrupts>(
+    machine: &mut Machine<D>,
+    going: &Going<'_>,
+    round: &mut Round,
+    most: u64,
+    interrupts: &I,
+) -> Result<TargetHalt, Refusal>
+    ensures kept { KeepsJournal machine.old machine.new }
+    ensures asked { IfOk result (λ halt. OnlyIfAsked (I.asks interrupts.now true) halt.why) }
+{
+    let mut left = most;
+    'parts: while left > 0 {
+        if interrupts.is_asked() {
+            return Ok(TargetHalt {
+                task: going.looked,
+                why: Why::Interrupted,
+            });
+        }
+        let count = left.min(PATIENCE);
+        match run_some(machine, going, round, count) {
+            Ok(Some(halt)) => return Ok(halt),
+            Ok(None) => {}
+            Err(refusal) => return Err(refusal),
+        }
+        left -= count;
+    }
+    Ok(TargetHalt {
+        task: going.looked,
+        why: Why::Limit,
+    })
+}
+
+// How many events the journal has room for, if each processor is first let go and stopped at the end.
+fn room_to_run<D: Device>(machine: &Machine<D>) -> u64 {
+    machine
+        .room()
+        .saturating_sub(u64::from(machine.cpu_count()) * 2)
+}
+
+/// Lets all processors go, makes events by turns until one of the processors is stopped or a stop is asked for, and stops all.
+///
+/// # Errors
+///
+/// Full, where the journal has no room for an event, and the events around it; nothing is changed then. Another refusal is
+/// that of a turn of a processor that isn't there; the events before it were made.
+#[tactic(auto, using(crate::proofs::Kept::keeps_same, crate::proofs::Kept::keeps_more))]
+pub fn resume<D: Device, I: Interrupts>(
+    machine: &mut Machine<D>,
+    going: &Going<'_>,
+    round: &mut Round,
+    interrupts: &I,
+) -> Result<TargetHalt, Refusal>
+    ensures kept { KeepsJournal machine.old machine.new }
+    ensures asked { IfOk result (λ halt. OnlyIfAsked (I.asks interrupts.now true) halt.why) }
+{
+    let most = room_to_run(machine).min(u64::from(going.limit));
+    if most == 0 {
+        return Err(Refusal::Full);
+    }
+    if let Err(refusal) = go_all(machine) {
+        return Err(refusal);
+    }
+    round.passes = Some(going.looked);
+    let outcome = run(machine, going, round, most, interrupts);
+    match stop_all(machine) {
+        Ok(()) => outcome,
+        Err(refusal) => Err(refusal),
+    }
+}
+
+/// How many lines are received at most before the instruction of a step.
+const LINES_BEFORE: u32 = 64;
+
+// Who is stopped behind an instruction of a task: the task if it ended by a fault or met a watchpoint, else who runs now.
+fn stepped<D: Device>(machine: &Machine<D>, c: u8, task: u8, watched: Option<Why>) -> TargetHalt {
+    if let Some(halt) = fault_of(machine, task) {
+        return halt;
+    }
+    match watched {
+        Some(why) => TargetHalt { task, why },
+        None => TargetHalt {
+            task: current_or(machine, c, task),
+            why: Why::Asked,
+        },
+    }
+}
+
+// Why the step of a processor meets a watchpoint.
+fn watched_by<D: Device>(machine: &Machine<D>, points: &Points, next: Next) -> Option<Why> {
+    match next {
+        Next::Runs(task) => watch_at(machine, points, task),
+        Next::Prepares | Next::Idles => None,
+    }
+}
+
+/// One instruction of a processor, behind the lines that it receives first: who is stopped then. All are stopped before it.
+///
+/// # Errors
+///
+/// Why the first event was refused that was; those before it were made.
+#[tactic(auto, using(crate::proofs::Kept::keeps_same, crate::proofs::Kept::keeps_more))]
+pub fn step<D: Device>(
+    machine: &mut Machine<D>,
+    points: &Points,
+    c: u8,
+    looked: u8,
+) -> Result<TargetHalt, Refusal>
+    ensures kept { KeepsJournal machine.old machine.new }
+{
+    if let Err(refusal) = stop_all(machine) {
+        return Err(refusal);
+    }
+    'lines: for _ in 0..LINES_BEFORE {
+        let next = next_of(machine, c);
+        let watched = watched_by(machine, points, next);
+        if let Err(refusal) = event(machine, Event::StepI(c)) {
+            return Err(refusal);
+        }
+        match next {
+            Next::Prepares => {}
+            Next::Runs(task) => return Ok(stepped(machine, c, task, watched)),
+            Next::Idles => {
+                return Ok(TargetHalt {
+                    task: looked,
+                    why: Why::Idle,
+                });
+            }
+        }
+    }
+    Ok(TargetHalt {
+        task: current_or(machine, c, looked),
+        why: Why::Asked,
+    })
+}

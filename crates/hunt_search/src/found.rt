@@ -1,0 +1,89 @@
+//! A schedule on a machine that is booted for it.
+
+ghost use Rattle.std.specs.Prelude.{IfOk, IfSome};
+ghost use Rattle.hunt_schedules.specs.Runs.{IsFound};
+
+use crate::hunting::Row;
+use crate::schedule::{EventList, events_of, push_stretch};
+use crate::shortening::{HuntStop, shorten};
+use evm_image::Image;
+use hunt_schedules::{
+    AnyDevice, BeginFault, Boot, Event, Failure, Machine, NoBytes, RunOutcome, Wanted, begin, play,
+};
+use std::alloc::Global;
+
+/// A machine that has failed.
+#[derive(Debug, Drop)]
+pub struct Found {
+    /// The machine. Its journal is what has made it fail.
+    pub machine: Machine<AnyDevice>,
+    /// What has failed.
+    pub failure: Failure,
+}
+
+/// The machine that a list of events makes of a fresh one, up to its first failure; None if it has none.
+///
+/// # Errors
+///
+/// Why there is no machine.
+pub fn replayed(
+    alloc: Global,
+    image: &Image,
+    boot: &Boot,
+    events: &[Event<NoBytes>],
+    wanted: &Wanted,
+) -> Result<Option<Found>, BeginFault>
+    ensures { IfOk result (λ found. IfSome found (λ found. IsFound image.now boot.now wanted.now.lines found.failure found.machine)) }
+{
+    let mut machine = match begin(alloc, image, boot) {
+        Ok(machine) => machine,
+        Err(fault) => return Err(fault),
+    };
+    match play(&mut machine, events, wanted) {
+        RunOutcome::Failed(failure) => Ok(Some(Found { machine, failure })),
+        RunOutcome::Over | RunOutcome::Full => Ok(None),
+    }
+}
+
+// The events of a shorter schedule that fails as a row says.
+fn shortened(
+    alloc: Global,
+    image: &Image,
+    boot: &Boot,
+    wanted: &Wanted,
+    row: &Row,
+) -> Result<EventList, HuntStop> {
+    let mut schedule = Vec::new(alloc);
+    for stretch in &row.schedule {
+        push_stretch(&mut schedule, *stretch)?;
+    }
+    let shorter = shorten(alloc, image, boot, wanted, &row.key, schedule)?;
+    Ok(events_of(alloc, shorter.as_slice())?)
+}
+
+/// The machine of a row, by a shorter schedule; None of two locks that close a cycle, which no machine shows.
+///
+/// # Errors
+///
+/// Memory was refused.
+pub fn shortest(
+    alloc: Global,
+    image: &Image,
+    boot: &Boot,
+    wanted: &Wanted,
+    row: &Row,
+) -> Result<Option<Found>, HuntStop>
+    ensures { IfOk result (λ found. IfSome found (λ found. IsFound image.now boot.now wanted.now.lines found.failure found.machine)) }
+{
+    if row.failure.is_none() {
+        return Ok(None);
+    }
+    let events = match shortened(alloc, image, boot, wanted, row) {
+        Ok(events) => events,
+        Err(stop) => return Err(stop),
+    };
+    match replayed(alloc, image, boot, events.as_slice(), wanted) {
+        Ok(found) => Ok(found),
+        Err(fault) => Err(HuntStop::from(fault)),
+    }
+}

@@ -1,0 +1,367 @@
+//! The schedules of many seeds.
+
+ghost use Rattle.std.specs.Prelude.{◌≡◌, [], ◌∷◌, ◌++◌, true, false, IfOk, OnOk, Option};
+ghost use Rattle.hunt_schedules.specs.Beginning.{ComesFrom};
+ghost use Rattle.hunt_schedules.specs.Runs.{Ends, IsFound};
+ghost use Rattle.hunt_search.specs.Hunts.{AreFound};
+ghost use Rattle.hunt_search.specs.Searches.{is_failed};
+
+use crate::asking::add_asked;
+use crate::key::FailureKey;
+use crate::onlooker::Onlooker;
+use crate::ordering::{Cycle, Orders};
+use crate::schedule::{Stretches, schedule_of};
+use crate::shortening::HuntStop;
+use evm_image::Image;
+use evm_lines::LineSet;
+use evm_room::NoMemory;
+use hunt_schedules::{
+    AnyDevice, Boot, Chooser, Failure, Machine, RunOutcome, Wanted, Way, begin, run_schedule,
+};
+use std::alloc::Global;
+
+/// Which schedules are looked at.
+#[derive(Clone, Copy, Debug)]
+pub struct Plan {
+    /// How they choose.
+    pub way: Way,
+    /// The first seed.
+    pub first: u64,
+    /// The last seed.
+    pub last: u64,
+    /// Whether the orders of locks are looked at.
+    pub orders: bool,
+}
+
+/// Which schedules were looked at.
+#[derive(Clone, Copy, Debug, PartialEq, Eq)]
+pub enum SearchSpan {
+    /// Those of the seeds from one on.
+    Seeds(u64),
+    /// Those with at most this number of switches.
+    Switches(u8),
+}
+
+/// A failure, once for each kind and place.
+#[derive(Debug, Drop)]
+pub struct Row {
+    /// The kind and the place.
+    pub key: FailureKey,
+    /// What has failed; None of two locks that close a cycle.
+    pub failure: Option<Failure>,
+    /// Of two locks that close a cycle the place of the other.
+    pub other: Option<u64>,
+    /// The first seed whose schedule failed so.
+    pub seed: u64,
+    /// The schedule up to the failure.
+    pub schedule: Stretches,
+    /// How many events it has.
+    pub events: u64,
+}
+
+/// What a hunt came to.
+#[derive(Debug, Drop)]
+pub struct Report {
+    /// The failures, in the order in which they were found.
+    pub rows: Vec<Row>,
+    /// How many schedules were looked at.
+    pub schedules: u64,
+    /// How many events they have.
+    pub events: u64,
+    /// How many of them ended with a full journal.
+    pub full: u64,
+    /// Whether there were more schedules than may be looked at.
+    pub cut: bool,
+    /// The lines that some task waited for, or that had an action.
+    pub asked: LineSet,
+    /// The orders of locks, if they are looked at.
+    pub orders: Option<Orders>,
+}
+
+impl Report {
+    /// Nothing was looked at. `orders` says whether the orders of locks are.
+    pub(crate) fn new(alloc: Global, orders: bool) -> Report
+        ensures { result.rows.items ≡ [] }
+    {
+        Report {
+            rows: Vec::new(alloc),
+            schedules: 0,
+            events: 0,
+            full: 0,
+            cut: false,
+            asked: LineSet::new(),
+            orders: if orders { Some(Orders::new()) } else { None },
+        }
+    }
+
+    // Whether a failure was found before.
+    fn knows(&self, key: &FailureKey) -> bool
+        ensures { result ≡ true → self.now.rows.items ≡ [] → ⊥ }
+    {
+        for row in &self.rows {
+            if row.key.is(key) {
+                return true;
+            }
+        }
+        false
+    }
+
+    // Counts a schedule.
+    fn count(&mut self, machine: &Machine<AnyDevice>, outcome: RunOutcome)
+        ensures { self.new.rows ≡ self.old.rows }
+    {
+        self.schedules = self.schedules.saturating_add(1);
+        self.events = self.events.saturating_add(machine.event_count());
+        if let RunOutcome::Full = outcome {
+            self.full = self.full.saturating_add(1);
+        }
+        add_asked(machine, &mut self.asked);
+    }
+
+    /// Says whether there were more schedules than may be looked at.
+    pub(crate) fn set_cut(&mut self, cut: bool)
+        ensures rows { self.new.rows ≡ self.old.rows }
+        ensures cut { self.new.cut ≡ cut }
+    {
+        self.cut = cut;
+    }
+
+    // Adds a failure that was not found before, and shows it.
+    fn add<O: Onlooker>(&mut self, row: Row, onlooker: &mut O) -> Result<(), HuntStop>
+        ensures { OnOk result (self.new.rows.items ≡ self.old.rows.items ++ row ∷ []) }
+    {
+        onlooker.found(&row);
+        match self.rows.push(row) {
+            Ok(()) => Ok(()),
+            Err(_) => Err(HuntStop::NoMemory),
+        }
+    }
+}
+
+// The row of a schedule that has failed.
+fn row_of(
+    alloc: Global,
+    machine: &Machine<AnyDevice>,
+    failure: Failure,
+    key: FailureKey,
+    seed: u64,
+) -> Result<Row, NoMemory>
+    ensures { IfOk result (λ row. row.failure ≡ Option.Some failure) }
+{
+    match schedule_of(alloc, machine) {
+        Ok(schedule) => Ok(Row {
+            key,
+            failure: Some(failure),
+            other: None,
+            seed,
+            schedule,
+            events: machine.event_count(),
+        }),
+        Err(NoMemory) => Err(NoMemory),
+    }
+}
+
+// The row of two locks that close a cycle.
+fn cycle_row(alloc: Global, cycle: Cycle, events: u64, seed: u64) -> Row
+    ensures { result.failure ≡ Option.None }
+{
+    Row {
+        key: FailureKey {
+            kind: "order",
+            place: cycle.place,
+        },
+        failure: None,
+        other: Some(cycle.other),
+        seed,
+        schedule: Vec::new(alloc),
+        events,
+    }
+}
+
+// Adds the orders of the locks of a schedule, if they are looked at.
+fn add_orders<O: Onlooker>(
+    alloc: Global,
+    image: &Image,
+    boot: &Boot,
+    wanted: &Wanted,
+    seed: u64,
+    machine: &Machine<AnyDevice>,
+    report: &mut Report,
+    onlooker: &mut O,
+) -> Result<(), HuntStop>
+    requires { AreFound image.now boot.now wanted.now.lines report.old.rows.items }
+    ensures found { OnOk result (AreFound image.now boot.now wanted.now.lines report.new.rows.items) }
+    ensures rows { OnOk result (report.new.rows.items ≡ [] → report.old.rows.items ≡ []) }
+{
+    let Some(mut orders) = report.orders.take() else {
+        return Ok(());
+    };
+    let closed = orders.add_run(alloc, image, boot, machine);
+    report.orders = Some(orders);
+    let (cycle, events) = match closed {
+        Ok(Some(closed)) => closed,
+        Ok(None) => return Ok(()),
+        Err(stop) => return Err(stop),
+    };
+    let row = cycle_row(alloc, cycle, events, seed);
+    if report.knows(&row.key) {
+        return Ok(());
+    }
+    report.add(row, onlooker)
+}
+
+// Adds the failure of a schedule, if it is new.
+fn add_failure<O: Onlooker>(
+    alloc: Global,
+    image: &Image,
+    boot: &Boot,
+    wanted: &Wanted,
+    seed: u64,
+    machine: &Machine<AnyDevice>,
+    failure: Failure,
+    report: &mut Report,
+    onlooker: &mut O,
+) -> Result<(), HuntStop>
+    requires found { AreFound image.now boot.now wanted.now.lines report.old.rows.items }
+    requires failed { IsFound image.now boot.now wanted.now.lines failure machine.now }
+    ensures found { OnOk result (AreFound image.now boot.now wanted.now.lines report.new.rows.items) }
+    ensures some { OnOk result (report.new.rows.items ≡ [] → ⊥) }
+{
+    let key = FailureKey::of(machine, failure);
+    if report.knows(&key) {
+        return Ok(());
+    }
+    match row_of(alloc, machine, failure, key, seed) {
+        Ok(row) => report.add(row, onlooker),
+        Err(fault) => Err(HuntStop::from(fault)),
+    }
+}
+
+/// Adds what a schedule came to.
+pub(crate) fn note<O: Onlooker>(
+    alloc: Global,
+    image: &Image,
+    boot: &Boot,
+    wanted: &Wanted,
+    seed: u64,
+    machine: &Machine<AnyDevice>,
+    outcome: RunOutcome,
+    report: &mut Report,
+    onlooker: &mut O,
+) -> Result<(), HuntStop>
+    requires found { AreFound image.now boot.now wanted.now.lines report.old.rows.items }
+    requires ended { ComesFrom image.now boot.now machine.now × Ends wanted.now.lines outcome machine.now }
+    ensures found { OnOk result (AreFound image.now boot.now wanted.now.lines report.new.rows.items) }
+    ensures rows { OnOk result (report.new.rows.items ≡ [] → report.old.rows.items ≡ []) }
+    ensures none { OnOk result (report.new.rows.items ≡ [] → is_failed outcome ≡ false) }
+{
+    report.count(machine, outcome);
+    match add_orders(alloc, image, boot, wanted, seed, machine, report, onlooker) {
+        Ok(()) => {}
+        Err(stop) => return Err(stop),
+    }
+    match outcome {
+        RunOutcome::Failed(failure) => add_failure(
+            alloc, image, boot, wanted, seed, machine, failure, report, onlooker,
+        ),
+        RunOutcome::Over | RunOutcome::Full => Ok(()),
+    }
+}
+
+// The schedule of a seed.
+fn look<O: Onlooker>(
+    alloc: Global,
+    image: &Image,
+    boot: &Boot,
+    wanted: &Wanted,
+    way: Way,
+    seed: u64,
+    report: &mut Report,
+    onlooker: &mut O,
+) -> Result<(), HuntStop>
+    requires { AreFound image.now boot.now wanted.now.lines report.old.rows.items }
+    ensures { OnOk result (AreFound image.now boot.now wanted.now.lines report.new.rows.items) }
+{
+    let mut machine = match begin(alloc, image, boot) {
+        Ok(machine) => machine,
+        Err(fault) => return Err(HuntStop::from(fault)),
+    };
+    let mut chooser = Chooser::new(seed, way, wanted.lines);
+    let outcome = run_schedule(&mut machine, &mut chooser, wanted);
+    note(
+        alloc, image, boot, wanted, seed, &machine, outcome, report, onlooker,
+    )
+}
+
+/// Looks at the schedules of a plan, at least at one, until the onlooker ends the hunt: each failure once by its kind and place.
+///
+/// # Errors
+///
+/// Memory was refused, or no machine boots with the image.
+pub fn hunt<O: Onlooker>(
+    alloc: Global,
+    image: &Image,
+    boot: &Boot,
+    wanted: &Wanted,
+    plan: &Plan,
+    onlooker: &mut O,
+) -> Result<Report, HuntStop>
+    // each failure is one of a machine that was booted with the image
+    ensures { IfOk result (λ report. AreFound image.now boot.now wanted.now.lines report.rows.items) }
+{
+    let mut report = Report::new(alloc, plan.orders);
+    'seeds: for seed in plan.first..=plan.last {
+        match look(
+            alloc,
+            image,
+            boot,
+            wanted,
+            plan.way,
+            seed,
+            &mut report,
+            onlooker,
+        ) {
+            Ok(()) => {}
+            Err(stop) => return Err(stop),
+        }
+        if !onlooker.goes_on(report.schedules, report.rows.len() as u64) {
+            return Ok(report);
+        }
+    }
+    Ok(report)
+}
+
+/// How often the first random schedule of a mixed hunt chooses the processor that steps: change points of the others are spread among this
+/// number of choices.
+///
+/// # Errors
+///
+/// Why there is no machine.
+pub fn first_choices(
+    alloc: Global,
+    image: &Image,
+    boot: &Boot,
+    wanted: &Wanted,
+) -> Result<u32, HuntStop> {
+    let mut machine = begin(alloc, image, boot)?;
+    let mut chooser = Chooser::new(0, Way::Mixed { length: 0 }, wanted.lines);
+    run_schedule(&mut machine, &mut chooser, wanted);
+    Ok(chooser.choices())
+}
+
+/// How many events the random schedule of seed 0 has: the change points of other schedules are spread among this number of steps.
+///
+/// # Errors
+///
+/// Why there is no machine.
+pub fn first_length(
+    alloc: Global,
+    image: &Image,
+    boot: &Boot,
+    wanted: &Wanted,
+) -> Result<u32, HuntStop> {
+    let mut machine = begin(alloc, image, boot)?;
+    let mut chooser = Chooser::new(0, Way::Random, wanted.lines);
+    run_schedule(&mut machine, &mut chooser, wanted);
+    Ok(machine.event_count().min(1 << 20) as u32)
+}

@@ -1,0 +1,206 @@
+//! The marks of the lines of one processor.
+
+ghost use Rattle.std.specs.Prelude.{◌≡◌, ◌+◌, ◌++◌, ◌-◌, ◌<◌, ℕ, [], OnOk, Option, true, false, nat_lt, option_copied, slice_get};
+ghost use Rattle.evm_journal.specs.evm_core.Views.{line_counts_at};
+ghost use Rattle.evm_model.specs.Pipes.{Pipe};
+ghost use Rattle.evm_model.specs.State.{Parts};
+ghost use Rattle.evm_model.specs.declared.limits.TheConstants.{PROCESSOR_LIMIT as PROCESSORS};
+ghost use Rattle.run_marks.specs.Marks.{counted_marks, line_marks, lines_marks, pipe_marks, when};
+ghost use Rattle.run_marks.specs.Tallies.{IsTallyUpTo, IsWithinReach};
+
+use crate::mark::Mark;
+use crate::marking::push_when;
+use crate::tally::{Reach, Tally, same_raised};
+use evm_dev::Device;
+use evm_journal::Machine;
+use evm_lines::LINES;
+use evm_model::{Counts, Stage};
+use evm_room::Refused;
+
+fn push_raised(
+    marks: &mut Vec<Mark>,
+    cpu: u8,
+    line: u8,
+    before: u64,
+    after: u64,
+) -> Result<(), Refused>
+    ensures { OnOk result (marks.new.items ≡ marks.old.items ++ (when (nat_lt before after) (Mark.Raised cpu line (after - before)))) }
+{
+    let times = after.saturating_sub(before);
+    push_when(marks, before < after, Mark::Raised { cpu, line, times })
+}
+
+fn push_received(
+    marks: &mut Vec<Mark>,
+    cpu: u8,
+    line: u8,
+    before: u64,
+    after: u64,
+) -> Result<(), Refused>
+    ensures { OnOk result (marks.new.items ≡ marks.old.items ++ (when (nat_lt before after) (Mark.Received cpu line (after - before)))) }
+{
+    let times = after.saturating_sub(before);
+    push_when(marks, before < after, Mark::Received { cpu, line, times })
+}
+
+fn push_played(
+    marks: &mut Vec<Mark>,
+    cpu: u8,
+    line: u8,
+    stage: Stage,
+    before: u64,
+    after: u64,
+) -> Result<(), Refused>
+    ensures { OnOk result (marks.new.items ≡ marks.old.items ++ (when (nat_lt before after) (Mark.Played cpu stage line (after - before)))) }
+{
+    let times = after.saturating_sub(before);
+    push_when(
+        marks,
+        before < after,
+        Mark::Played {
+            cpu,
+            stage,
+            line,
+            times,
+        },
+    )
+}
+
+#[tactic(auto, using(crate::proofs::Lemmas::numbered))]
+fn push_counted(
+    marks: &mut Vec<Mark>,
+    cpu: u8,
+    line: u8,
+    before: &Counts,
+    after: &Counts,
+) -> Result<(), Refused>
+    ensures { OnOk result (marks.new.items ≡ marks.old.items ++ (counted_marks cpu line before.now after.now)) }
+{
+    push_raised(marks, cpu, line, before.raised, after.raised)?;
+    push_received(marks, cpu, line, before.received, after.received)?;
+    push_played(
+        marks,
+        cpu,
+        line,
+        Stage::OutOfBand,
+        before.oob.played,
+        after.oob.played,
+    )?;
+    push_played(
+        marks,
+        cpu,
+        line,
+        Stage::InBand,
+        before.in_band.played,
+        after.in_band.played,
+    )
+}
+
+// Whether a count of those that are marked has grown.
+#[inline]
+fn is_grown(before: &Counts, after: &Counts) -> bool
+    ensures { (c l : ℕ) → result ≡ false → counted_marks c l before.now after.now ≡ [] }
+{
+    before.raised < after.raised
+        || before.received < after.received
+        || before.oob.played < after.oob.played
+        || before.in_band.played < after.in_band.played
+}
+
+// Most lines have no mark.
+#[inline]
+#[tactic(auto, using(crate::proofs::Lemmas::numbered))]
+fn push_grown(
+    marks: &mut Vec<Mark>,
+    cpu: u8,
+    line: u8,
+    before: &Counts,
+    after: &Counts,
+) -> Result<(), Refused>
+    ensures { OnOk result (marks.new.items ≡ marks.old.items ++ (counted_marks cpu line before.now after.now)) }
+{
+    if is_grown(before, after) {
+        push_counted(marks, cpu, line, before, after)
+    } else {
+        Ok(())
+    }
+}
+
+#[tactic(auto, unfolding(crate::specs::Marks::line_marks), using(crate::proofs::Lemmas::numbered))]
+fn push_line(
+    marks: &mut Vec<Mark>,
+    cpu: u8,
+    line: u8,
+    before: Option<&Counts>,
+    after: Option<&Counts>,
+) -> Result<(), Refused>
+    ensures { OnOk result (marks.new.items ≡ marks.old.items ++ (line_marks cpu line (option_copied before.entry) (option_copied after.entry))) }
+{
+    match (before, after) {
+        (Some(before), Some(after)) => push_grown(marks, cpu, line, before, after),
+        _ => Ok(()),
+    }
+}
+
+#[tactic(auto, using(crate::proofs::Lemmas::numbered))]
+fn push_line_at(
+    marks: &mut Vec<Mark>,
+    cpu: u8,
+    line: u8,
+    before: &[Counts],
+    after: &[Counts],
+) -> Result<(), Refused>
+    ensures { OnOk result (marks.new.items ≡ marks.old.items ++ (line_marks cpu line (slice_get before.now line) (slice_get after.now line))) }
+{
+    let at = usize::from(line);
+    push_line(marks, cpu, line, before.get(at), after.get(at))
+}
+
+#[tactic(auto, unfolding(crate::specs::Marks::lines_marks), using(crate::proofs::Lemmas::numbered))]
+fn push_lines(
+    marks: &mut Vec<Mark>,
+    cpu: u8,
+    before: &[Counts],
+    after: &[Counts],
+) -> Result<(), Refused>
+    ensures { OnOk result (marks.new.items ≡ marks.old.items ++ (lines_marks cpu before.now after.now)) }
+{
+    for line in 0..LINES {
+        push_line_at(marks, cpu, line, before, after)?;
+    }
+    Ok(())
+}
+
+// Whether an event that reaches so far leaves the counts of a processor, which were these.
+fn is_left(reach: Reach, cpu: u8, before: &[Counts], after: &[Counts]) -> bool
+    ensures { (was : Parts) (now : Parts) (p : Pipe) (q : Pipe) → result ≡ true → IsWithinReach reach was now → slice_get was.pipes cpu ≡ Option.Some p → slice_get now.pipes cpu ≡ Option.Some q → p.counts ≡ before.now → q.counts ≡ after.now → after.now ≡ before.now }
+{
+    match reach {
+        Reach::One(acting) => cpu != acting,
+        Reach::Raises(acting) => cpu != acting && same_raised(before, after),
+        Reach::All => false,
+    }
+}
+
+/// Appends the marks of a processor's lines after an event that reaches so far, and keeps their counts.
+pub(crate) fn push_pipe<D: Device>(
+    marks: &mut Vec<Mark>,
+    cpu: u8,
+    tally: &mut Tally,
+    machine: &Machine<D>,
+    reach: Reach,
+) -> Result<(), Refused>
+    requires { cpu < PROCESSORS }
+    ensures { (was : Parts) → IsTallyUpTo cpu tally.old.rows was machine.now.board.parts → IsWithinReach reach was machine.now.board.parts → OnOk result ((marks.new.items ≡ marks.old.items ++ pipe_marks cpu (line_counts_at cpu was) (line_counts_at cpu machine.now.board.parts)) × IsTallyUpTo (cpu + 1) tally.new.rows was machine.now.board.parts) }
+{
+    machine.rules();
+    let Some(counts) = machine.line_counts(cpu) else {
+        return Ok(());
+    };
+    if is_left(reach, cpu, tally.row(cpu), counts) {
+        return Ok(());
+    }
+    push_lines(marks, cpu, tally.row(cpu), counts)?;
+    tally.keep(cpu, counts);
+    Ok(())
+}

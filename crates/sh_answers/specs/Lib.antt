@@ -1,0 +1,1 @@
+pub use Rattle.sh_session.specs as sh_session

@@ -1,0 +1,18 @@
+//! A shell over the machine, the word `sh` of the command line: scripts with names, and answers that are decoded.
+#![tactic(auto)]
+
+mod asking;
+mod command;
+mod commands;
+mod help;
+mod reading;
+mod running;
+mod shell;
+mod typing;
+mod words;
+
+pub use command::sh;
+pub use help::SHELL_HELP;
+pub use reading::{Finish, serve_lines};
+pub use sh_answers::{AnyDevice, Names, Page, script_text};
+pub use shell::Shell;

@@ -1,0 +1,192 @@
+//! The shell: a line, and what it answers.
+
+use crate::commands::{Suggestion, UNKNOWN, missing_in, suggest};
+use crate::help::SHELL_HELP;
+use evm_image::Image;
+use evm_program::Meter;
+use evm_room::NoMemory;
+use sh_answers::{Bench, Names, Notes, Page, Snapshot, split_word};
+use std::alloc::Global;
+
+/// A word of RAM that is watched: its address, and what it was.
+#[derive(Clone, Copy, Debug)]
+pub(crate) struct Watch {
+    pub address: u64,
+    pub value: Option<u64>,
+}
+
+/// A shell over a bench.
+#[derive(Drop)]
+pub struct Shell<'a, M: Meter + Drop> {
+    pub(crate) bench: Bench<'a>,
+    pub(crate) image: &'a Image,
+    pub(crate) names: Names,
+    pub(crate) notes: Notes,
+    pub(crate) mark: Option<Snapshot>,
+    pub(crate) watches: Vec<Watch>,
+    pub(crate) failed: bool,
+    // whether a line is shown before its answer
+    pub(crate) is_echoing: bool,
+    pub(crate) meter: M,
+}
+
+/// What came of a command.
+#[derive(Clone, Copy, Debug, PartialEq, Eq)]
+pub(crate) enum Outcome {
+    /// It was done, or the page says why not.
+    Said,
+    /// It is misspelt: this form is wanted.
+    Wanted(&'static str),
+    /// No machine is booted.
+    NotBooted,
+}
+
+impl<'a, M: Meter + Drop> Shell<'a, M> {
+    /// A shell for an image, with the names of its addresses. The meter gets the rounds of a command.
+    ///
+    /// # Errors
+    ///
+    /// Memory was refused.
+    pub fn new(alloc: Global, image: &'a Image, names: Names, meter: M) -> Result<Self, NoMemory> {
+        let notes = Notes::new(alloc)?;
+        Ok(Shell {
+            bench: Bench::new(image),
+            image,
+            names,
+            notes,
+            mark: None,
+            watches: Vec::new(alloc),
+            failed: false,
+            is_echoing: true,
+            meter,
+        })
+    }
+
+    /// From now on a line is shown before its answer, or not.
+    pub(crate) fn echo(&mut self, is_echoing: bool) {
+        self.is_echoing = is_echoing;
+    }
+
+    /// Whether a line was not done, or an expectation was not met.
+    pub fn has_failed(&self) -> bool {
+        self.failed
+    }
+
+    /// The bench, which has the machine and the lines of a script that made it.
+    pub fn bench(&self) -> &Bench<'a> {
+        &self.bench
+    }
+
+    // A command, from its keyword and the words behind it.
+    fn command(
+        &mut self,
+        alloc: Global,
+        number: u64,
+        text: &str,
+        page: &mut Page,
+    ) -> Result<Outcome, NoMemory> {
+        let (keyword, rest) = split_word(text);
+        match keyword {
+            "each" => self.each(alloc, number, rest, page),
+            "until" => self.until(alloc, number, rest, page),
+            "expect" => self.expect(alloc, number, rest, page),
+            "watch" => self.watch(rest, page),
+            "show" => self.show(rest, page),
+            "mark" => self.set_mark(alloc, rest),
+            "diff" => self.diff(rest, page),
+            "where" => self.place(rest, page),
+            "symbols" => self.list(rest, page),
+            "help" => {
+                page.put(SHELL_HELP)?;
+                Ok(Outcome::Said)
+            }
+            _ => self.plain(alloc, number, text, page),
+        }
+    }
+
+    // Says that a line is misspelt, or that there is no machine; behind the words, in quotes or not, one that is at fault.
+    fn blame_word(
+        &mut self,
+        number: u64,
+        words: &str,
+        word: &str,
+        behind: &str,
+        page: &mut Page,
+    ) -> Result<(), NoMemory> {
+        self.failed = true;
+        page.put("! line:")?;
+        page.put_decimal(number)?;
+        page.put(": ")?;
+        page.put(words)?;
+        page.put(word)?;
+        page.put(behind)?;
+        page.put("\n")
+    }
+
+    fn blame(&mut self, number: u64, words: &str, page: &mut Page) -> Result<(), NoMemory> {
+        self.blame_word(number, words, "", "", page)
+    }
+
+    // Whether a line is not done since it has no such command or no such symbol, which the page says then.
+    fn is_unknown(&mut self, number: u64, text: &str, page: &mut Page) -> Result<bool, NoMemory> {
+        let (keyword, rest) = split_word(text);
+        match suggest(keyword) {
+            Suggestion::Known => {}
+            Suggestion::Near(word) => {
+                self.blame_word(
+                    number,
+                    "bad line: no such command; did you mean `",
+                    word,
+                    "`?",
+                    page,
+                )?;
+                return Ok(true);
+            }
+            Suggestion::Unknown => {
+                self.blame(number, UNKNOWN, page)?;
+                return Ok(true);
+            }
+        }
+        let Some(name) = missing_in(&self.names, keyword, rest, text) else {
+            return Ok(false);
+        };
+        self.blame_word(number, "bad line: no symbol ", name, "", page)?;
+        Ok(true)
+    }
+
+    /// Does the line of this number, without its newline, and appends to the page the line and what it answers.
+    ///
+    /// # Errors
+    ///
+    /// Memory was refused. The bench is as the lines say that were done.
+    pub fn line(
+        &mut self,
+        alloc: Global,
+        number: u64,
+        line: &[u8],
+        page: &mut Page,
+    ) -> Result<(), NoMemory> {
+        let Ok(text) = std::str::from_utf8(line) else {
+            return self.blame(number, "bad line: no UTF-8", page);
+        };
+        let text = text.trim_end();
+        if text.is_empty() || text.starts_with('#') {
+            return Ok(());
+        }
+        if self.is_echoing {
+            page.put("> ")?;
+            page.put(text)?;
+            page.put("\n")?;
+        }
+        if self.is_unknown(number, text, page)? {
+            return Ok(());
+        }
+        match self.command(alloc, number, text, page)? {
+            Outcome::Said => Ok(()),
+            Outcome::Wanted(form) => self.blame(number, form, page),
+            Outcome::NotBooted => {
+                self.blame(number, "bad line: the first command must be `boot`", page)
+            }
+        }
+    }
+}

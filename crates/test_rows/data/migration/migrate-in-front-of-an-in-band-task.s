@@ -1,0 +1,18 @@
+ # spawn w, 0, 1
+ la a0,w
+ li a1,0
+ li a2,1
+ li a7,3
+ ecall
+ # attach 1, 5
+ li a0,1
+ li a1,5
+ li a7,7
+ ecall
+ # migrate 1
+ li a0,1
+ li a7,55
+ ecall
+l: j l
+w: nop
+v: j v

@@ -1,0 +1,41 @@
+# task 0 locks mutex 0, for which task 1 of processor 1 waits then
+ # new_mutex 0, 0
+ li a0,0
+ li a1,0
+ li a7,9
+ ecall
+ # spawn w, 0, 1
+ la a0,w
+ li a1,0
+ li a2,1
+ li a7,3
+ ecall
+ # attach 1, 10
+ li a0,1
+ li a1,10
+ li a7,7
+ ecall
+ # lock 0, 0
+ li a0,0
+ li a1,0
+ li a7,36
+ ecall
+ nop
+ nop
+ nop
+ nop
+ # unlock 0
+ li a0,0
+ li a7,38
+ ecall
+l: j l
+w: li a0,1
+ li a1,30
+ li a7,7
+ ecall
+ # lock 0, 0
+ li a0,0
+ li a1,0
+ li a7,36
+ ecall
+v: j v

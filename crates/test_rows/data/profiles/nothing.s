@@ -1,0 +1,1 @@
+# an image of no bytes

@@ -1,0 +1,14 @@
+ # attach 1, 10
+ li a0,1
+ li a1,10
+ li a7,7
+ ecall
+ # switch_oob
+ li a7,32
+ ecall
+ nop
+ # migrate 1
+ li a0,1
+ li a7,55
+ ecall
+l: j l

@@ -1,0 +1,506 @@
+//! The changes that are told of each event.
+
+ghost use Rattle.std.specs.Prelude.{◌≡◌, ◌+◌, ◌*◌, ◌++◌, ◌∷◌, [], OnOk, flat_map, slice_get, slice_set};
+ghost use Rattle.std.specs.List.{list_any};
+ghost use Rattle.std.specs.Option.{option_flatten};
+ghost use Rattle.std.specs.Box.{boxed_slice_items};
+ghost use Rattle.evm_lines.specs.declared.TheConstants.{LINES};
+ghost use Rattle.trace_command.specs.Flows.{ended_flows, flows_in, handed_over, if_flow, kept_track, line_flows, owner_flows};
+ghost use Rattle.trace_command.specs.Instants.{event_instants, instants_of, if_instant, instants_in, is_told, is_woken, line_instants};
+
+use crate::states::{current_track, stage_states, task_state};
+use evm_lines::{LINE_COUNT, LINES};
+use evm_model::PROCESSOR_LIMIT;
+use evm_room::{Refused, copies, grow};
+use run_marks::{Look, Mark};
+use std::alloc::Global;
+use std::boxed::BoxedSlice;
+use trace_records::{Change, Detail, Flow, InterruptPassage, Note, State, Track};
+
+/// An entry for each line of each processor.
+const ENTRIES: usize = PROCESSOR_LIMIT * LINE_COUNT;
+
+fn push(list: &mut Vec<Change>, change: Change) -> Result<(), Refused>
+    ensures { OnOk result (list.new.items ≡ list.old.items ++ change ∷ []) }
+{
+    grow(list, 1)?;
+    list.push_reserved(change);
+    Ok(())
+}
+
+#[tactic(auto, using(crate::proofs::Told::told))]
+fn note(list: &mut Vec<Change>, track: Track, at: u64, detail: Detail) -> Result<(), Refused>
+    ensures instants { OnOk result (instants_in list.new.items ≡ instants_in list.old.items ++ if_instant (record { track = track; at = at; detail = detail }) detail) }
+    ensures flows { OnOk result (flows_in list.new.items ≡ flows_in list.old.items ++ if_flow (record { track = track; at = at; detail = detail }) detail) }
+{
+    push(list, Change::Noted(Note { track, at, detail }))?;
+    Ok(())
+}
+
+#[tactic(auto, using(crate::proofs::Told::told))]
+fn shows(list: &mut Vec<Change>, track: Track, state: Option<State>, at: u64) -> Result<(), Refused>
+    ensures { OnOk result (instants_in list.new.items ≡ instants_in list.old.items) }
+{
+    push(list, Change::Shows(track, state, at))?;
+    Ok(())
+}
+
+// The name of a track, and its place.
+#[tactic(auto, using(crate::proofs::Told::told))]
+fn name(list: &mut Vec<Change>, track: Track, at: u64) -> Result<(), Refused>
+    ensures { OnOk result (instants_in list.new.items ≡ instants_in list.old.items) }
+{
+    note(list, track, at, Detail::ThreadName)?;
+    note(list, track, at, Detail::SortIndex)
+}
+
+fn name_processors(list: &mut Vec<Change>, count: u8) -> Result<(), Refused>
+    ensures { OnOk result (instants_in list.new.items ≡ instants_in list.old.items) }
+{
+    for cpu in 0..count {
+        name(list, Track::OutOfBand(cpu), 0)?;
+        name(list, Track::InBand(cpu), 0)?;
+        name(list, Track::Lines(cpu), 0)?;
+    }
+    Ok(())
+}
+
+// The name of a task's track, and its rank.
+#[tactic(auto, using(crate::proofs::Told::told))]
+fn name_task(list: &mut Vec<Change>, look: &Look, task: u8, at: u64) -> Result<(), Refused>
+    ensures { OnOk result (instants_in list.new.items ≡ instants_in list.old.items) }
+{
+    name(list, Track::Task(task), at)?;
+    match look.ranks.get(usize::from(task)) {
+        None => Ok(()),
+        Some(rank) => note(list, Track::Task(task), at, Detail::Rank(*rank)),
+    }
+}
+
+fn name_tasks(list: &mut Vec<Change>, look: &Look) -> Result<(), Refused>
+    ensures { OnOk result (instants_in list.new.items ≡ instants_in list.old.items) }
+{
+    for task in 0..look.task_count {
+        name_task(list, look, task, 0)?;
+    }
+    Ok(())
+}
+
+#[tactic(auto, using(crate::proofs::Told::told))]
+fn show_processor(list: &mut Vec<Change>, look: &Look, cpu: u8, at: u64) -> Result<(), Refused>
+    ensures { OnOk result (instants_in list.new.items ≡ instants_in list.old.items) }
+{
+    match look.lanes.get(usize::from(cpu)) {
+        None => Ok(()),
+        Some(lane) => {
+            let (out_of_band, in_band) = stage_states(lane);
+            shows(list, Track::OutOfBand(cpu), out_of_band, at)?;
+            shows(list, Track::InBand(cpu), in_band, at)
+        }
+    }
+}
+
+#[tactic(auto, using(crate::proofs::Told::told))]
+fn show_task(list: &mut Vec<Change>, look: &Look, task: u8, at: u64) -> Result<(), Refused>
+    ensures { OnOk result (instants_in list.new.items ≡ instants_in list.old.items) }
+{
+    match look.tasks.get(usize::from(task)) {
+        None => Ok(()),
+        Some(seen) => {
+            let state = task_state(look, task, seen);
+            shows(list, Track::Task(task), Some(state), at)
+        }
+    }
+}
+
+fn show_processors(list: &mut Vec<Change>, look: &Look, at: u64) -> Result<(), Refused>
+    ensures { OnOk result (instants_in list.new.items ≡ instants_in list.old.items) }
+{
+    for cpu in 0..look.cpu_count {
+        show_processor(list, look, cpu, at)?;
+    }
+    Ok(())
+}
+
+fn show_tasks(list: &mut Vec<Change>, look: &Look, at: u64) -> Result<(), Refused>
+    ensures { OnOk result (instants_in list.new.items ≡ instants_in list.old.items) }
+{
+    for task in 0..look.task_count {
+        show_task(list, look, task, at)?;
+    }
+    Ok(())
+}
+
+// What the tracks show from a tick on.
+fn show(list: &mut Vec<Change>, look: &Look, at: u64) -> Result<(), Refused>
+    ensures { OnOk result (instants_in list.new.items ≡ instants_in list.old.items) }
+{
+    show_processors(list, look, at)?;
+    show_tasks(list, look, at)
+}
+
+// Whether an event ends a wait.
+fn ends_wait(marks: &[Mark]) -> bool
+    ensures { result ≡ list_any is_woken marks.now }
+{
+    marks.iter().any(|mark| is_woken(mark))
+}
+
+fn is_woken(mark: &Mark) -> bool
+    ensures { result ≡ is_woken mark.now }
+{
+    match mark {
+        Mark::Woken { .. } => true,
+        _ => false,
+    }
+}
+
+// Whether a line is told: that of the tick is where the event ends a wait.
+fn is_told(wakes: bool, line: u8) -> bool
+    ensures { result ≡ is_told wakes line }
+{
+    if line == 0 { wakes } else { true }
+}
+
+#[tactic(auto, using(crate::proofs::Told::told))]
+fn interrupt(
+    list: &mut Vec<Change>,
+    wakes: bool,
+    passage: InterruptPassage,
+    place: (u8, u8),
+    times: u64,
+    at: u64,
+) -> Result<(), Refused>
+    ensures { OnOk result (instants_in list.new.items ≡ instants_in list.old.items ++ line_instants wakes passage place.0 place.1 times at) }
+{
+    let (cpu, line) = place;
+    if !is_told(wakes, line) {
+        return Ok(());
+    }
+    note(
+        list,
+        Track::Lines(cpu),
+        at,
+        Detail::Interrupt(passage, line, times),
+    )
+}
+
+// How many ticks there were.
+#[tactic(auto, using(crate::proofs::Told::told))]
+fn count_ticks(list: &mut Vec<Change>, look: &Look, at: u64) -> Result<(), Refused>
+    ensures { OnOk result (instants_in list.new.items ≡ instants_in list.old.items) }
+{
+    note(list, Track::OutOfBand(0), at, Detail::Ticks(look.ticks))
+}
+
+/// The time of an event, and that behind it.
+#[derive(Clone, Copy)]
+pub(crate) struct Span {
+    pub(crate) at: u64,
+    pub(crate) behind: u64,
+}
+
+fn entry_of(cpu: u8, line: u8) -> usize
+    ensures { result ≡ cpu * LINES + line }
+{
+    usize::from(cpu) * usize::from(LINES) + usize::from(line)
+}
+
+/// What is kept from event to event: the arrows that have begun, and what the processors do.
+#[derive(Drop)]
+pub(crate) struct Changes {
+    // of each line that was raised and not played yet, the number of its arrow
+    begun: BoxedSlice<Option<u64>>,
+    // the number of the next arrow
+    next: u64,
+    // of each processor, the track that shows something
+    current: [Track; PROCESSOR_LIMIT],
+}
+
+impl Changes {
+    /// No arrow has begun.
+    pub(crate) fn new(alloc: Global) -> Result<Changes, Refused> {
+        let begun = copies(alloc, None, ENTRIES)?;
+        Ok(Changes {
+            begun,
+            next: 0,
+            current: [Track::InBand(0); PROCESSOR_LIMIT],
+        })
+    }
+
+    // The number of an arrow that begins.
+    fn arrow(&mut self) -> u64
+        ensures number { result ≡ self.old.next }
+        ensures tracks { self.new.current ≡ self.old.current }
+    {
+        let id = self.next;
+        self.next = id.saturating_add(1);
+        id
+    }
+
+    fn begun_at(&self, entry: usize) -> Option<u64>
+        ensures { result ≡ option_flatten (slice_get (boxed_slice_items self.now.begun) entry) }
+    {
+        match self.begun.get(entry) {
+            None => None,
+            Some(begun) => *begun,
+        }
+    }
+
+    fn set_begun(&mut self, entry: usize, id: Option<u64>)
+        ensures begun { boxed_slice_items self.new.begun ≡ slice_set (boxed_slice_items self.old.begun) entry id }
+        ensures tracks { self.new.current ≡ self.old.current }
+    {
+        if entry < self.begun.len() {
+            self.begun[entry] = id;
+        }
+    }
+
+    fn track_of(&self, cpu: u8) -> Track
+        ensures { result ≡ kept_track cpu (slice_get self.now.current cpu) }
+    {
+        match self.current.get(usize::from(cpu)) {
+            None => Track::InBand(cpu),
+            Some(track) => *track,
+        }
+    }
+
+    // An arrow begins where a line is raised that has none; none is told of the tick's.
+    #[tactic(auto, using(crate::proofs::Told::told))]
+    fn begin_arrow(
+        &mut self,
+        list: &mut Vec<Change>,
+        cpu: u8,
+        line: u8,
+        at: u64,
+    ) -> Result<(), Refused>
+        ensures instants { OnOk result (instants_in list.new.items ≡ instants_in list.old.items) }
+        ensures flows { OnOk result (flows_in list.new.items ≡ flows_in list.old.items ++ line_flows (kept_track cpu (slice_get self.old.current cpu)) at line self.old.next (option_flatten (slice_get (boxed_slice_items self.old.begun) (cpu * LINES + line)))) }
+    {
+        if line == 0 {
+            return Ok(());
+        }
+        let entry = entry_of(cpu, line);
+        if self.begun_at(entry).is_some() {
+            return Ok(());
+        }
+        let id = self.arrow();
+        self.set_begun(entry, Some(id));
+        let start = Detail::FlowStart(Flow::Line(line), id);
+        note(list, self.track_of(cpu), at, start)
+    }
+
+    // It ends where the line is played, at what the processor does then.
+    #[tactic(auto, using(crate::proofs::Told::told))]
+    fn end_arrow(
+        &mut self,
+        list: &mut Vec<Change>,
+        track: Track,
+        entry: usize,
+        line: u8,
+        at: u64,
+    ) -> Result<(), Refused>
+        ensures instants { OnOk result (instants_in list.new.items ≡ instants_in list.old.items) }
+        ensures flows { OnOk result (flows_in list.new.items ≡ flows_in list.old.items ++ ended_flows track at (Flow.Line line) (option_flatten (slice_get (boxed_slice_items self.old.begun) entry))) }
+    {
+        match self.begun_at(entry) {
+            None => Ok(()),
+            Some(id) => {
+                self.set_begun(entry, None);
+                note(list, track, at, Detail::FlowEnd(Flow::Line(line), id))
+            }
+        }
+    }
+
+    // An arrow from the task that had a mutex to the one that has it after the event.
+    #[tactic(auto, using(crate::proofs::Told::told))]
+    fn hand_over(
+        &mut self,
+        list: &mut Vec<Change>,
+        flow: Flow,
+        from: u8,
+        to: u8,
+        at: Span,
+    ) -> Result<(), Refused>
+        ensures instants { OnOk result (instants_in list.new.items ≡ instants_in list.old.items) }
+        ensures flows { OnOk result (flows_in list.new.items ≡ flows_in list.old.items ++ handed_over flow self.old.next from to at.at at.behind) }
+    {
+        let id = self.arrow();
+        note(list, Track::Task(from), at.at, Detail::FlowStart(flow, id))?;
+        note(list, Track::Task(to), at.behind, Detail::FlowEnd(flow, id))
+    }
+
+    // Tells that a mutex has another owner.
+    #[tactic(auto, using(crate::proofs::Told::told))]
+    fn owner(
+        &mut self,
+        list: &mut Vec<Change>,
+        flow: Flow,
+        from: Option<u8>,
+        to: Option<u8>,
+        at: Span,
+    ) -> Result<(), Refused>
+        ensures instants { OnOk result (instants_in list.new.items ≡ instants_in list.old.items) }
+        ensures flows { OnOk result (flows_in list.new.items ≡ flows_in list.old.items ++ owner_flows flow self.old.next from to at.at at.behind) }
+    {
+        match (from, to) {
+            (Some(from), Some(to)) => self.hand_over(list, flow, from, to, at),
+            _ => Ok(()),
+        }
+    }
+
+    #[tactic(auto, using(crate::proofs::Told::told))]
+    fn mark(
+        &mut self,
+        list: &mut Vec<Change>,
+        look: &Look,
+        wakes: bool,
+        mark: &Mark,
+        at: Span,
+    ) -> Result<(), Refused>
+        ensures { OnOk result (instants_in list.new.items ≡ instants_in list.old.items ++ instants_of wakes at.at mark.now) }
+    {
+        match mark {
+            Mark::Raised { cpu, line, times } => {
+                let place = (*cpu, *line);
+                interrupt(list, wakes, InterruptPassage::Raised, place, *times, at.at)?;
+                self.begin_arrow(list, *cpu, *line, at.at)
+            }
+            Mark::Received { cpu, line, times } => {
+                let place = (*cpu, *line);
+                interrupt(
+                    list,
+                    wakes,
+                    InterruptPassage::Received,
+                    place,
+                    *times,
+                    at.at,
+                )
+            }
+            Mark::Played {
+                cpu,
+                line,
+                times,
+                ..
+            } => {
+                let place = (*cpu, *line);
+                interrupt(list, wakes, InterruptPassage::Played, place, *times, at.at)?;
+                let entry = entry_of(*cpu, *line);
+                self.end_arrow(list, current_track(look, *cpu), entry, *line, at.behind)
+            }
+            Mark::Owner { mutex, from, to } => self.owner(
+                list,
+                Flow::Mutex(*mutex),
+                *from,
+                *to,
+                at,
+            ),
+            Mark::Created { task } => name_task(list, look, *task, at.behind),
+            Mark::Rank { task, to, .. } => {
+                note(list, Track::Task(*task), at.behind, Detail::Rank(*to))
+            }
+            Mark::Migrates { task, cpu } => {
+                note(list, Track::Task(*task), at.at, Detail::Moves(*cpu))
+            }
+            Mark::Ticked { .. } => count_ticks(list, look, at.behind),
+            Mark::Runs { .. } => Ok(()),
+            Mark::Idles { .. } => Ok(()),
+            Mark::Stop { .. } => Ok(()),
+            Mark::Stall { .. } => Ok(()),
+            Mark::Waits { .. } => Ok(()),
+            Mark::Woken { .. } => Ok(()),
+            Mark::Deadline { .. } => Ok(()),
+            Mark::Moves { .. } => Ok(()),
+            Mark::Ended { .. } => Ok(()),
+            Mark::Faulted { .. } => Ok(()),
+            Mark::Notice { .. } => Ok(()),
+        }
+    }
+
+    #[tactic(auto, using(crate::proofs::Told::told))]
+    fn marks(
+        &mut self,
+        list: &mut Vec<Change>,
+        look: &Look,
+        wakes: bool,
+        marks: &[Mark],
+        at: Span,
+    ) -> Result<(), Refused>
+        ensures { OnOk result (instants_in list.new.items ≡ instants_in list.old.items ++ flat_map (instants_of wakes at.at) marks.now) }
+    {
+        for mark in marks {
+            self.mark(list, look, wakes, mark, at)?;
+        }
+        Ok(())
+    }
+
+    // Keeps what the processors do.
+    fn keep(&mut self, look: &Look) {
+        for cpu in 0..PROCESSOR_LIMIT as u8 {
+            self.current[usize::from(cpu)] = current_track(look, cpu);
+        }
+    }
+
+    /// Tells names, ranks and what the tracks show before the first event.
+    #[tactic(auto, using(crate::proofs::Told::told))]
+    pub(crate) fn begin(&mut self, list: &mut Vec<Change>, look: &Look) -> Result<(), Refused>
+        ensures { OnOk result (instants_in list.new.items ≡ instants_in list.old.items) }
+    {
+        note(list, Track::Task(0), 0, Detail::ProcessName)?;
+        note(list, Track::Lines(0), 0, Detail::ProcessName)?;
+        name_processors(list, look.cpu_count)?;
+        name_tasks(list, look)?;
+        count_ticks(list, look, 0)?;
+        self.keep(look);
+        show(list, look, 0)
+    }
+
+    /// Tells an event: its marks, and what the tracks show after it.
+    #[tactic(auto, using(crate::proofs::Told::told))]
+    pub(crate) fn event(
+        &mut self,
+        list: &mut Vec<Change>,
+        look: &Look,
+        marks: &[Mark],
+        at: Span,
+    ) -> Result<(), Refused>
+        ensures { OnOk result (instants_in list.new.items ≡ instants_in list.old.items ++ event_instants at.at marks.now) }
+    {
+        self.marks(list, look, ends_wait(marks), marks, at)?;
+        // without a mark no track shows anything else
+        if marks.is_empty() {
+            return Ok(());
+        }
+        self.keep(look);
+        show(list, look, at.behind)
+    }
+
+    /// Tells that the tracks show nothing more, behind the last event.
+    pub(crate) fn end(&self, list: &mut Vec<Change>, look: &Look, at: u64) -> Result<(), Refused>
+        ensures { OnOk result (instants_in list.new.items ≡ instants_in list.old.items) }
+    {
+        end_processors(list, look.cpu_count, at)?;
+        end_tasks(list, look.task_count, at)
+    }
+}
+
+// The tracks of processors show nothing more.
+fn end_processors(list: &mut Vec<Change>, count: u8, at: u64) -> Result<(), Refused>
+    ensures { OnOk result (instants_in list.new.items ≡ instants_in list.old.items) }
+{
+    for cpu in 0..count {
+        shows(list, Track::OutOfBand(cpu), None, at)?;
+        shows(list, Track::InBand(cpu), None, at)?;
+    }
+    Ok(())
+}
+
+// The tracks of tasks show nothing more.
+fn end_tasks(list: &mut Vec<Change>, count: u8, at: u64) -> Result<(), Refused>
+    ensures { OnOk result (instants_in list.new.items ≡ instants_in list.old.items) }
+{
+    for task in 0..count {
+        shows(list, Track::Task(task), None, at)?;
+    }
+    Ok(())
+}

@@ -1,0 +1,280 @@
+//! A journal's run, told as a trace.
+
+ghost use Rattle.std.specs.Prelude.{◌≡◌, ◌≢◌, ◌++◌, [], true, IsOk, OnOk};
+ghost use Rattle.trace_command.specs.Instants.{event_instants, instants_in};
+ghost use Rattle.trace_command.specs.Times.{time_behind};
+ghost use Rattle.trace_command.specs.Tellings.{GoesOn, IsTraceOf, IsTraceOfText, TellsCall, TellsOn};
+ghost use Rattle.trace_sites.specs.Placed.{IsPlacedSomewhere};
+
+use crate::changes::{Changes, Span};
+use crate::clock::Clock;
+use crate::places::{place_marks, place_tasks};
+use evm_devs::AnyDevice;
+use evm_image::Image;
+use evm_program::Meter;
+use evm_room::Refused;
+use evm_streams::{Sink, WriteFault};
+use run_marks::{Devices, InputFault, Item, Mark, Walk, WalkStop};
+use std::alloc::Global;
+use trace_records::{Change, RunStop, Teller, Told, TraceStop};
+use trace_sites::{CodePlace, Placer, Symbols, TaskName, trace_places};
+
+/// Why a run is not traced to its end.
+#[derive(Clone, Copy, Debug)]
+pub enum TraceEnd {
+    /// The journal, its boot numbers, the image or an event was bad or refused.
+    AtFault(InputFault),
+    /// Memory was refused.
+    NoMemory,
+    /// A write failed.
+    WriteFailed(WriteFault),
+}
+
+/// How far a run was told.
+#[derive(Clone, Copy)]
+pub enum Phase {
+    Begins,
+    Goes,
+    Ends,
+    Ended,
+}
+
+/// A walk over a journal, and the changes that tell it.
+#[derive(Drop)]
+pub struct Telling<'m, M: Meter> {
+    walk: Walk<AnyDevice>,
+    changes: Changes,
+    marks: Vec<Mark>,
+    // where tasks are when something happens, if the image has symbols
+    places: Vec<CodePlace>,
+    names: Vec<TaskName>,
+    named: bool,
+    clock: Clock,
+    // the time of the next event
+    at: u64,
+    phase: Phase,
+    fault: Option<InputFault>,
+    meter: &'m mut M,
+}
+
+fn told(outcome: Result<(), Refused>) -> Told
+    ensures changes { result ≡ Told.Changes → IsOk outcome }
+    ensures end { result ≢ Told.End }
+{
+    match outcome {
+        Ok(()) => Told::Changes,
+        Err(_) => Told::NoMemory,
+    }
+}
+
+impl<M: Meter> Telling<'_, M> {
+    // Tells an event, whose marks were found.
+    fn event(&mut self, list: &mut Vec<Change>, at: Span) -> Result<(), Refused>
+        ensures instants { OnOk result (instants_in list.new.items ≡ instants_in list.old.items ++ event_instants at.at self.old.marks.items) }
+        ensures walk { self.new.walk ≡ self.old.walk }
+        ensures phase { self.new.phase ≡ self.old.phase }
+        ensures clock { self.new.clock ≡ self.old.clock }
+        ensures time { self.new.at ≡ self.old.at }
+    {
+        let marks = self.marks.as_slice();
+        if self.named {
+            place_marks(&mut self.places, self.walk.machine(), marks, at.at)?;
+        }
+        self.changes.event(list, self.walk.look(), marks, at)
+    }
+
+    // Tells an item, whose marks were found: a quiet one has none, and is no event of the trace.
+    fn item(&mut self, list: &mut Vec<Change>, item: &Item) -> Result<(), Refused>
+        requires { item.now.quiet ≡ true → self.old.marks.items ≡ [] }
+        ensures instants { OnOk result (instants_in list.new.items ≡ instants_in list.old.items ++ event_instants self.old.at self.old.marks.items) }
+        ensures walk { self.new.walk ≡ self.old.walk }
+        ensures phase { self.new.phase ≡ self.old.phase }
+        ensures clock { self.new.clock ≡ self.old.clock }
+        ensures time { self.new.at ≡ time_behind self.old.clock item.now self.old.at }
+    {
+        let at = Span {
+            at: self.at,
+            behind: self.clock.time_behind(item, self.at),
+        };
+        self.at = at.behind;
+        if item.quiet {
+            return Ok(());
+        }
+        self.event(list, at)
+    }
+
+    // Tells what is seen before the first event.
+    fn first(&mut self, list: &mut Vec<Change>) -> Result<(), Refused>
+        ensures instants { OnOk result (instants_in list.new.items ≡ instants_in list.old.items) }
+        ensures walk { self.new.walk ≡ self.old.walk }
+        ensures phase { self.new.phase ≡ self.old.phase }
+        ensures clock { self.new.clock ≡ self.old.clock }
+        ensures time { self.new.at ≡ self.old.at }
+    {
+        if self.named {
+            place_tasks(&mut self.places, self.walk.machine())?;
+        }
+        self.changes.begin(list, self.walk.look())
+    }
+
+    // The next event, or the next run of Steps that change only registers and RAM.
+    fn walk_on(&mut self, list: &mut Vec<Change>) -> Told
+        ensures tells { list.old.items ≡ [] → result ≡ Told.Changes → TellsOn self.old.clock self.old.walk self.new.walk self.old.at self.new.at list.new.items }
+        ensures goes_on { self.old.phase ≡ Phase.Goes → result ≡ Told.Changes → GoesOn self.new.phase self.new.walk }
+        ensures end { result ≢ Told.End }
+        ensures clock { self.new.clock ≡ self.old.clock }
+    {
+        self.meter.passed(self.walk.next_event());
+        match self.walk.next(&mut self.marks) {
+            Err(WalkStop::NoMemory) => Told::NoMemory,
+            Err(WalkStop::AtFault(fault)) => {
+                self.fault = Some(fault);
+                Told::Fault
+            }
+            Ok(None) => {
+                self.phase = Phase::Ends;
+                Told::Changes
+            }
+            Ok(Some(item)) => told(self.item(list, &item)),
+        }
+    }
+
+    fn begin(&mut self, list: &mut Vec<Change>) -> Told
+        ensures instants { result ≡ Told.Changes → instants_in list.new.items ≡ instants_in list.old.items }
+        ensures walk { self.new.walk ≡ self.old.walk }
+        ensures phase { self.new.phase ≡ Phase.Goes }
+        ensures clock { self.new.clock ≡ self.old.clock }
+        ensures time { self.new.at ≡ self.old.at }
+        ensures end { result ≢ Told.End }
+    {
+        self.phase = Phase::Goes;
+        told(self.first(list))
+    }
+
+    // Tells the end, behind the last one.
+    fn end(&mut self, list: &mut Vec<Change>) -> Told
+        ensures instants { result ≡ Told.Changes → instants_in list.new.items ≡ instants_in list.old.items }
+        ensures walk { self.new.walk ≡ self.old.walk }
+        ensures phase { self.new.phase ≡ Phase.Ended }
+        ensures clock { self.new.clock ≡ self.old.clock }
+        ensures time { self.new.at ≡ self.old.at }
+        ensures end { result ≢ Told.End }
+    {
+        self.phase = Phase::Ended;
+        let last = self.at.saturating_add(1);
+        told(self.changes.end(list, self.walk.look(), last))
+    }
+
+    fn go_on(&mut self, list: &mut Vec<Change>) -> Told
+        ensures tells { list.old.items ≡ [] → result ≡ Told.Changes → TellsCall self.old.clock self.old.phase self.old.walk self.old.at list.new.items self.new.phase self.new.walk self.new.at }
+        ensures clock { self.new.clock ≡ self.old.clock }
+        ensures end { result ≡ Told.End → self.old.phase ≡ Phase.Ended }
+    {
+        match self.phase {
+            Phase::Begins => self.begin(list),
+            Phase::Goes => self.walk_on(list),
+            Phase::Ends => self.end(list),
+            Phase::Ended => Told::End,
+        }
+    }
+}
+
+impl<M: Meter> Teller for Telling<'_, M> {
+    ghost use Rattle.std.specs.Prelude.{◌≡◌};
+    ghost use Rattle.trace_command.specs.Tellings.{TellsCall};
+    ghost use Rattle.trace_command.specs.declared.tracing.Phase.TheVariants.{Ended};
+
+    ghost tells = { λ a changes b. TellsCall a.clock a.phase a.walk a.at changes b.phase b.walk b.at × (b.clock ≡ a.clock) };
+
+    ghost ended = { λ a. a.phase ≡ Ended };
+
+    fn next(&mut self, changes: &mut Vec<Change>) -> Told {
+        self.go_on(changes)
+    }
+}
+
+impl<M: Meter> Placer for Telling<'_, M> {
+    fn places(&self) -> &[CodePlace] {
+        self.places.as_slice()
+    }
+
+    fn names(&self) -> &[TaskName] {
+        self.names.as_slice()
+    }
+}
+
+// Why a run stopped, with the fault that the walk met.
+fn end_of(stop: RunStop, fault: Option<InputFault>) -> TraceEnd {
+    match (stop, fault) {
+        (RunStop::Fault, Some(fault)) => TraceEnd::AtFault(fault),
+        (RunStop::Trace(TraceStop::WriteFailed(fault)), _) => TraceEnd::WriteFailed(fault),
+        _ => TraceEnd::NoMemory,
+    }
+}
+
+fn trace_walk<W: Sink, M: Meter>(
+    alloc: Global,
+    walk: Walk<AnyDevice>,
+    changes: Changes,
+    symbols: &Symbols,
+    names: Vec<TaskName>,
+    clock: Clock,
+    meter: &mut M,
+    sink: &mut W,
+) -> Result<(), TraceEnd>
+    ensures trace { OnOk result (IsTraceOf clock walk W.takes sink.old symbols.now.symbols sink.new) }
+    ensures placed { OnOk result (IsPlacedSomewhere W.takes sink.old symbols.now.symbols sink.new) }
+{
+    // The begin, the end, and that there is no more are a call each.
+    let calls = walk.event_count().saturating_add(4);
+    let mut telling = Telling {
+        walk,
+        changes,
+        marks: Vec::new(alloc),
+        places: Vec::new(alloc),
+        names,
+        named: !symbols.symbols().is_empty(),
+        clock,
+        at: 0,
+        phase: Phase::Begins,
+        fault: None,
+        meter,
+    };
+    let outcome = trace_places(alloc, &mut telling, calls, symbols, sink);
+    telling.meter.ended();
+    match outcome {
+        Ok(()) => Ok(()),
+        Err(stop) => Err(end_of(stop, telling.fault)),
+    }
+}
+
+/// Traces the run of a journal, on a machine with the devices and the image, to a sink, with these names and places by the symbols. The meter gets
+/// the events.
+///
+/// # Errors
+///
+/// The first fault, as a replay reports it; memory was refused; or a write failed.
+pub fn trace_journal<W: Sink, M: Meter>(
+    alloc: Global,
+    image: &Image,
+    symbols: &Symbols,
+    names: Vec<TaskName>,
+    devices: Devices<AnyDevice>,
+    journal: &str,
+    clock: Clock,
+    meter: &mut M,
+    sink: &mut W,
+) -> Result<(), TraceEnd>
+    ensures trace { OnOk result (IsTraceOfText clock devices image.now journal.now W.takes sink.old symbols.now.symbols sink.new) }
+    ensures placed { OnOk result (IsPlacedSomewhere W.takes sink.old symbols.now.symbols sink.new) }
+{
+    let walk = match Walk::start(alloc, image, devices, journal) {
+        Ok(walk) => walk,
+        Err(WalkStop::AtFault(fault)) => return Err(TraceEnd::AtFault(fault)),
+        Err(WalkStop::NoMemory) => return Err(TraceEnd::NoMemory),
+    };
+    match Changes::new(alloc) {
+        Ok(changes) => trace_walk(alloc, walk, changes, symbols, names, clock, meter, sink),
+        Err(_) => Err(TraceEnd::NoMemory),
+    }
+}

@@ -1,0 +1,176 @@
+//! `diff`: where two journals part.
+
+use crate::comparing::{Parting, first_parting};
+use crate::drawing::ViewEnd;
+use crate::naming::names_of;
+use crate::paging::{Side, show_page};
+use crate::reports::{Files, PROGRAM, STANDARD_OUTPUT, stopped};
+use crate::showing::{Input, show_run};
+use crate::telling::{Sides, alike_text, boots_text, parting_text};
+use evm_devs::AnyDevice;
+use evm_host::{Devices, Ending, System, World, ended, text_at, write_all};
+use evm_program::Meter;
+use evm_room::Refused;
+use std::alloc::Global;
+use view_picture::{Boot, InputFault, Journal, JournalFaultKind, read_history};
+
+/// The status where the journals part.
+const APART: u8 = 1;
+
+// Where journals part.
+#[derive(Drop)]
+enum Outcome {
+    Alike(u64),
+    Boots(Boot, Boot),
+    Events(Parting),
+}
+
+type Read = (Boot, Journal);
+
+// The boot numbers and the events of a journal's text, or the status.
+fn history<S: System>(
+    alloc: Global,
+    input: &Input<'_>,
+    name: &str,
+    text: &str,
+    world: &mut World<S>,
+) -> Result<Read, u8> {
+    match read_history(alloc, text) {
+        Ok(read) => Ok(read),
+        Err(fault) => {
+            let end = match fault.kind {
+                JournalFaultKind::NoMemory => ViewEnd::NoMemory,
+                _ => ViewEnd::AtFault(InputFault::NoJournal(fault)),
+            };
+            let files = Files {
+                image: input.image,
+                name,
+                journal: text,
+                out: STANDARD_OUTPUT,
+            };
+            Err(stopped(files, end, &mut world.errors))
+        }
+    }
+}
+
+fn compared(one: &Read, two: &Read) -> Outcome {
+    if one.0 != two.0 {
+        return Outcome::Boots(one.0, two.0);
+    }
+    match first_parting(&one.1, &two.1) {
+        None => Outcome::Alike(one.1.len()),
+        Some(parting) => Outcome::Events(parting),
+    }
+}
+
+// The event where they part.
+fn parts_of(outcome: &Outcome) -> Option<u64> {
+    match outcome {
+        Outcome::Alike(_) => None,
+        Outcome::Boots(_, _) => Some(0),
+        Outcome::Events(parting) => Some(parting.event),
+    }
+}
+
+fn outcome_text(alloc: Global, names: Sides<'_>, outcome: &Outcome) -> Result<String, Refused> {
+    match outcome {
+        Outcome::Alike(events) => alike_text(alloc, *events),
+        Outcome::Boots(one, two) => boots_text(alloc, names, one, two),
+        Outcome::Events(parting) => parting_text(alloc, names, parting),
+    }
+}
+
+// Writes where they part; returns 0, or the status of a failure.
+fn tell<S: System>(alloc: Global, names: Sides<'_>, outcome: &Outcome, world: &mut World<S>) -> u8 {
+    let Ok(text) = outcome_text(alloc, names, outcome) else {
+        return ended(PROGRAM, &Ending::NoMemory, &mut world.errors);
+    };
+    match write_all(&mut world.output, text.as_bytes()) {
+        Ok(()) => 0,
+        Err(fault) => ended(PROGRAM, &Ending::WriteFailed(fault), &mut world.errors),
+    }
+}
+
+// Shows the run of the first, where a picture or characters are asked for; a page shows both.
+fn show<S: System, M: Meter>(
+    alloc: Global,
+    devices: Devices<AnyDevice>,
+    input: &Input<'_>,
+    other: Side<'_>,
+    meter: &mut M,
+    world: &mut World<S>,
+) -> u8 {
+    if !input.job.text && input.job.out.is_none() {
+        return 0;
+    }
+    if input.job.is_page() {
+        return show_page(alloc, devices, input, Some(other), meter, world);
+    }
+    show_run(alloc, devices, input, other.parts, meter, world)
+}
+
+// Compares what was read of the two, and shows it.
+fn diff_read<S: System, M: Meter>(
+    alloc: Global,
+    devices: Devices<AnyDevice>,
+    input: &Input<'_>,
+    other: Side<'_>,
+    outcome: &Outcome,
+    meter: &mut M,
+    world: &mut World<S>,
+) -> u8 {
+    let is_silent = !input.job.compares || input.job.out == Some(STANDARD_OUTPUT);
+    let told = if is_silent {
+        0
+    } else {
+        let names = Sides {
+            journal: input.job.journal,
+            other: other.name,
+        };
+        tell(alloc, names, outcome, world)
+    };
+    if told != 0 {
+        return told;
+    }
+    let shown = show(alloc, devices, input, other, meter, world);
+    match outcome {
+        Outcome::Alike(_) => shown,
+        _ if shown == 0 && input.job.compares => APART,
+        _ => shown,
+    }
+}
+
+/// Compares the journal with that of another file.
+pub(crate) fn diff<S: System, M: Meter>(
+    alloc: Global,
+    devices: Devices<AnyDevice>,
+    input: &Input<'_>,
+    other: &str,
+    meter: &mut M,
+    world: &mut World<S>,
+) -> u8 {
+    let text = match text_at(alloc, other, world) {
+        Ok(text) => text,
+        Err(status) => return status,
+    };
+    let one = match history(alloc, input, input.job.journal, input.journal, world) {
+        Ok(read) => read,
+        Err(status) => return status,
+    };
+    let two = match history(alloc, input, other, text.as_str(), world) {
+        Ok(read) => read,
+        Err(status) => return status,
+    };
+    let outcome = compared(&one, &two);
+    let names = match names_of(alloc, input.image, text.as_str(), input.naming.image) {
+        Ok(names) => names,
+        Err(_) => return ended(PROGRAM, &Ending::NoMemory, &mut world.errors),
+    };
+    let other = Side {
+        name: other,
+        journal: text.as_str(),
+        names: &names,
+        parts: parts_of(&outcome),
+    };
+    diff_read(alloc, devices, input, other, &outcome, meter, world)
+}

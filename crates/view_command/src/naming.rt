@@ -1,0 +1,24 @@
+//! The names of a journal's run.
+
+use evm_image::Image;
+use evm_program::program_devices;
+use evm_room::Refused;
+use std::alloc::Global;
+use view_picture::{Names, RunNames};
+
+/// The names of the tasks and objects of a journal's run; none without memory for the devices.
+///
+/// # Errors
+///
+/// Memory was refused.
+pub(crate) fn names_of(
+    alloc: Global,
+    image: &Image,
+    journal: &str,
+    names: &Names,
+) -> Result<RunNames, Refused> {
+    match program_devices(alloc) {
+        Ok(devices) => RunNames::of_journal(alloc, image, devices, journal, names),
+        Err(_) => Ok(RunNames::new(alloc)),
+    }
+}

@@ -1,0 +1,80 @@
+//! Rows of numbers, and texts without `<`.
+
+ghost use Rattle.std.specs.Prelude.{◌≡◌, ◌<◌, ◌≤◌, ◌++◌, ◌∷◌, [], true, OnOk};
+ghost use Rattle.std.specs.String.{string_bytes};
+ghost use Rattle.text_json.specs.Text.{items_text, text};
+ghost use Rattle.evm_text.specs.Appending.{Appends};
+ghost use Rattle.view_page.specs.Rows.{row_items, row_json};
+ghost use Rattle.view_page.specs.Texts.{safe_byte, safe_text};
+
+use evm_room::{Refused, grow, grow_text, push_text};
+use evm_text::push_decimal;
+
+/// Appends numbers to a row.
+pub(crate) fn put(row: &mut Vec<u64>, numbers: &[u64]) -> Result<(), Refused>
+    ensures { OnOk result (row.new.items ≡ row.old.items ++ numbers.now) }
+{
+    grow(row, numbers.len())?;
+    let Ok(()) = row.extend_from_slice(numbers) else {
+        unreachable!();
+    };
+    Ok(())
+}
+
+// Appends the numbers of a row behind its first, and its end.
+fn push_rest(out: &mut String, numbers: &[u64]) -> Result<(), Refused>
+    ensures { Appends (items_text true (row_items numbers.now)) out.old out.new result }
+{
+    let [first, rest @ ..] = numbers else {
+        return push_text(out, "]");
+    };
+    push_text(out, ",")?;
+    push_decimal(out, *first)?;
+    push_rest(out, rest)
+}
+
+/// Appends a row of numbers as JSON.
+pub(crate) fn push_row(out: &mut String, numbers: &[u64]) -> Result<(), Refused>
+    ensures { Appends (text (row_json numbers.now)) out.old out.new result }
+{
+    let [first, rest @ ..] = numbers else {
+        return push_text(out, "[]");
+    };
+    push_text(out, "[")?;
+    push_decimal(out, *first)?;
+    push_rest(out, rest)
+}
+
+// Appends a printable character.
+fn push_plain(out: &mut String, byte: u8) -> Result<(), Refused>
+    requires { 31 < byte × byte < 127 }
+    ensures { Appends (byte ∷ []) out.old out.new result }
+{
+    grow_text(out, 1)?;
+    let Ok(()) = out.push(char::from(byte)) else {
+        unreachable!();
+    };
+    Ok(())
+}
+
+// Appends a byte of a header: `<` as JSON escapes it, and `?` for what is not printable.
+#[tactic(auto, using(crate::proofs::Safe::bytes))]
+fn push_byte(out: &mut String, byte: u8) -> Result<(), Refused>
+    ensures { Appends (safe_byte byte) out.old out.new result }
+{
+    match byte {
+        b'<' => push_text(out, "\\u003c"),
+        b' '..=b'~' => push_plain(out, byte),
+        _ => push_text(out, "?"),
+    }
+}
+
+/// Appends JSON, in which `<` stands in strings alone, so that no name ends the element that it stands in.
+pub(crate) fn push_safe(out: &mut String, content: &[u8]) -> Result<(), Refused>
+    ensures { OnOk result (string_bytes out.new ≡ string_bytes out.old ++ safe_text content.now) }
+{
+    for byte in content {
+        push_byte(out, *byte)?;
+    }
+    Ok(())
+}

@@ -1,0 +1,398 @@
+//! The picture of a timeline.
+
+ghost use Rattle.std.specs.Prelude.{◌≡◌, ◌<◌, ◌∷◌, [], false, IfOk, length};
+ghost use Rattle.view_picture.specs.Boxes.{boxes_of, lane_boxes, strip_boxes, with_boxes};
+ghost use Rattle.text_xml.specs.Xml.{IsElement};
+
+use crate::arrows::arrow_sign;
+use crate::bars::{Row, Subject, bar_names, bars, stalls};
+use crate::events::boxes;
+use crate::flags::flag_sign;
+use crate::layout::{
+    CELL, EVENTS, IN_BAND, LEFT, LEGEND, OUT_OF_BAND, RAISED, RECEIVED, ROW, mutex_y, strip_top,
+    width, x_of, y_of,
+};
+use crate::legend::legend;
+use crate::lines::{Place, line_sign};
+use crate::parting::parting_sign;
+use crate::room::Rows;
+use crate::shapes::{label, plain};
+use crate::style::STYLE;
+use evm_model::{PROCESSOR_LIMIT, Stage};
+use evm_room::Refused;
+use std::alloc::Global;
+use text_xml::{Draft, Key, Tag, finished};
+use view_timeline::{
+    Cell, Naming, Picture, Piece, STRIP, Shown, Timeline, column_in, column_of, say, stage_name,
+    strip_count,
+};
+
+// Cells that stand side by side, with their marks.
+#[derive(Clone, Copy)]
+struct Strip<'a> {
+    cells: &'a [Cell],
+    marks: &'a [Shown],
+    naming: Naming<'a>,
+    top: u32,
+    cpu_count: u8,
+    mutex_count: u8,
+    // the column and the event where two journals part
+    parts: Option<(usize, u64)>,
+}
+
+fn cpu_name(alloc: Global, cpu: u8) -> Result<String, Refused> {
+    let mut name = String::new(alloc);
+    say(
+        &mut name,
+        &[Piece::Text("cpu "), Piece::Number(u64::from(cpu))],
+    )?;
+    Ok(name)
+}
+
+fn stage_row<'a>(strip: &Strip<'a>, cpu: u8, stage: Stage, part: u32) -> Row<'a> {
+    Row {
+        subject: Subject::Stage(cpu, stage),
+        y: y_of(strip.top, cpu, part),
+        naming: strip.naming,
+    }
+}
+
+fn rows_of<'a>(strip: &Strip<'a>, cpu: u8) -> [Row<'a>; 2] {
+    [
+        stage_row(strip, cpu, Stage::OutOfBand, OUT_OF_BAND),
+        stage_row(strip, cpu, Stage::InBand, IN_BAND),
+    ]
+}
+
+fn row_words(alloc: Global, subject: Subject) -> Result<String, Refused> {
+    let mut words = String::new(alloc);
+    match subject {
+        Subject::Stage(_, stage) => say(&mut words, &[Piece::Text(stage_name(stage))])?,
+        Subject::Mutex(mutex) => say(
+            &mut words,
+            &[Piece::Text("mutex "), Piece::Number(u64::from(mutex))],
+        )?,
+    }
+    Ok(words)
+}
+
+fn draw_row(draft: Draft, alloc: Global, row: &Row<'_>, cells: &[Cell]) -> Result<Draft, Refused>
+    requires content { draft.in_tag ≡ false }
+    requires inside { 0 < length draft.tags }
+    ensures { IfOk result (λ new. new ≡ draft) }
+{
+    let sides = [
+        (Key::X, LEFT),
+        (Key::Y, row.y),
+        (Key::Width, x_of(cells.len()).saturating_sub(LEFT)),
+        (Key::Height, ROW),
+    ];
+    let words = row_words(alloc, row.subject)?;
+    let draft = plain(draft, Tag::Rectangle, "row", &sides)?;
+    let draft = label(draft, "d", 30, row.y.saturating_add(13), words.as_str())?;
+    let draft = bars(draft, alloc, row, cells)?;
+    let draft = stalls(draft, alloc, row, cells)?;
+    bar_names(draft, alloc, row, cells)
+}
+
+// The lanes of the mutexes, below those of the processors.
+fn mutex_lanes(draft: Draft, alloc: Global, strip: &Strip<'_>) -> Result<Draft, Refused>
+    requires content { draft.in_tag ≡ false }
+    requires inside { 0 < length draft.tags }
+    ensures { IfOk result (λ new. new ≡ draft) }
+{
+    let mut draft = draft;
+    for mutex in 0..strip.mutex_count {
+        let row = Row {
+            subject: Subject::Mutex(mutex),
+            y: mutex_y(strip.top, strip.cpu_count, mutex),
+            naming: strip.naming,
+        };
+        draft = draw_row(draft, alloc, &row, strip.cells)?;
+    }
+    Ok(draft)
+}
+
+// The name of a row of a lane, beside it.
+fn row_name(
+    draft: Draft,
+    strip: &Strip<'_>,
+    cpu: u8,
+    part: u32,
+    name: &str,
+) -> Result<Draft, Refused>
+    requires content { draft.in_tag ≡ false }
+    requires inside { 0 < length draft.tags }
+    ensures { IfOk result (λ new. new ≡ draft) }
+{
+    let y = y_of(strip.top, cpu, part).saturating_add(11);
+    label(draft, "d", 30, y, name)
+}
+
+fn lane(draft: Draft, alloc: Global, strip: &Strip<'_>, cpu: u8) -> Result<Draft, Refused>
+    requires content { draft.in_tag ≡ false }
+    requires inside { 0 < length draft.tags }
+    ensures { IfOk result (λ new. new ≡ with_boxes (lane_boxes cpu strip.now.cells.now) draft) }
+{
+    let name = cpu_name(alloc, cpu)?;
+    let y = y_of(strip.top, cpu, 60);
+    let mut draft = label(draft, "b", 8, y, name.as_str())?;
+    for one in &rows_of(strip, cpu) {
+        draft = draw_row(draft, alloc, one, strip.cells)?;
+    }
+    let draft = row_name(draft, strip, cpu, RAISED, "raised")?;
+    let draft = row_name(draft, strip, cpu, RECEIVED, "received")?;
+    let draft = row_name(draft, strip, cpu, EVENTS, "events")?;
+    let y = y_of(strip.top, cpu, EVENTS);
+    boxes(draft, alloc, strip.naming, usize::from(cpu), y, strip.cells)
+}
+
+fn tick(draft: Draft, alloc: Global, cell: &Cell, x: u32, top: u32) -> Result<Draft, Refused>
+    requires content { draft.in_tag ≡ false }
+    requires inside { 0 < length draft.tags }
+    ensures { IfOk result (λ new. new ≡ draft) }
+{
+    let x = x.saturating_add(CELL / 2);
+    let sides = [
+        (Key::X1, x),
+        (Key::Y1, top.saturating_add(13)),
+        (Key::X2, x),
+        (Key::Y2, top.saturating_add(18)),
+    ];
+    let draft = plain(draft, Tag::Line, "tick", &sides)?;
+    let mut number = String::new(alloc);
+    say(&mut number, &[Piece::Number(cell.first)])?;
+    label(draft, "r", x, top.saturating_add(10), number.as_str())
+}
+
+// The numbers of the events, at each fourth cell.
+fn ruler(draft: Draft, alloc: Global, strip: &Strip<'_>) -> Result<Draft, Refused>
+    requires content { draft.in_tag ≡ false }
+    requires inside { 0 < length draft.tags }
+    ensures { IfOk result (λ new. new ≡ draft) }
+{
+    let mut draft = label(draft, "d", 8, strip.top.saturating_add(10), "event")?;
+    let mut column = 0usize;
+    for cell in strip.cells {
+        if column % 4 == 0 {
+            draft = tick(draft, alloc, cell, x_of(column), strip.top)?;
+        }
+        column = column.saturating_add(1);
+    }
+    Ok(draft)
+}
+
+fn sign(
+    draft: Draft,
+    alloc: Global,
+    at: Place<'_>,
+    shown: &Shown,
+    flags: &mut Rows,
+    arrows: &mut Rows,
+) -> Result<Draft, Refused>
+    requires content { draft.in_tag ≡ false }
+    requires inside { 0 < length draft.tags }
+    ensures { IfOk result (λ new. new ≡ draft) }
+{
+    let draft = line_sign(draft, alloc, at, shown)?;
+    let draft = flag_sign(draft, alloc, at, shown, flags)?;
+    arrow_sign(draft, alloc, at, shown, arrows)
+}
+
+// The signs of a cell, of the first marks.
+fn cell_signs(
+    draft: Draft,
+    alloc: Global,
+    at: Place<'_>,
+    marks: &[Shown],
+    flags: &mut Rows,
+    arrows: &mut Rows,
+) -> Result<Draft, Refused>
+    requires content { draft.in_tag ≡ false }
+    requires inside { 0 < length draft.tags }
+    ensures { IfOk result (λ new. new ≡ draft) }
+{
+    let mut draft = draft;
+    for shown in marks {
+        draft = sign(draft, alloc, at, shown, flags, arrows)?;
+    }
+    Ok(draft)
+}
+
+// The first marks, and those behind them.
+fn cut(marks: &[Shown], count: u32) -> (&[Shown], &[Shown]) {
+    let at = (count as usize).min(marks.len());
+    (&marks[..at], &marks[at..])
+}
+
+fn signs(draft: Draft, alloc: Global, strip: &Strip<'_>) -> Result<Draft, Refused>
+    requires content { draft.in_tag ≡ false }
+    requires inside { 0 < length draft.tags }
+    ensures { IfOk result (λ new. new ≡ draft) }
+{
+    let mut draft = draft;
+    let mut flags = Rows::new();
+    let mut arrows = Rows::new();
+    let mut rest = strip.marks;
+    let mut column = 0usize;
+    for cell in strip.cells {
+        let at = Place {
+            x: x_of(column),
+            top: strip.top,
+            naming: strip.naming,
+        };
+        let (marks, others) = cut(rest, cell.kept);
+        draft = cell_signs(draft, alloc, at, marks, &mut flags, &mut arrows)?;
+        rest = others;
+        column = column.saturating_add(1);
+    }
+    Ok(draft)
+}
+
+fn draw_strip(draft: Draft, alloc: Global, strip: &Strip<'_>) -> Result<Draft, Refused>
+    requires content { draft.in_tag ≡ false }
+    requires inside { 0 < length draft.tags }
+    ensures { IfOk result (λ new. new ≡ with_boxes (strip_boxes strip.now.cpu_count strip.now.cells.now) draft) }
+{
+    let draft = ruler(draft, alloc, strip)?;
+    let draft = label(draft, "b", 8, strip.top.saturating_add(33), "machine")?;
+    let y = strip.top.saturating_add(22);
+    let mut draft = boxes(draft, alloc, strip.naming, PROCESSOR_LIMIT, y, strip.cells)?;
+    for cpu in 0..strip.cpu_count {
+        draft = lane(draft, alloc, strip, cpu)?;
+    }
+    let draft = signs(draft, alloc, strip)?;
+    let draft = mutex_lanes(draft, alloc, strip)?;
+    match strip.parts {
+        None => Ok(draft),
+        Some((column, event)) => {
+            parting_sign(draft, alloc, strip.top, strip.cpu_count, column, event)
+        }
+    }
+}
+
+// How many marks cells keep.
+fn kept_in(cells: &[Cell]) -> u32 {
+    let mut kept = 0u32;
+    for cell in cells {
+        kept = kept.saturating_add(cell.kept);
+    }
+    kept
+}
+
+// The strip of a number, of the first cells and marks.
+fn strip_of<'a>(
+    picture: &Picture<'a>,
+    number: usize,
+    cells: &'a [Cell],
+    marks: &'a [Shown],
+) -> Strip<'a>
+    ensures cells { result.cells.now ≡ cells.now }
+    ensures count { result.cpu_count ≡ picture.now.timeline.now.cpu_count }
+{
+    let timeline = picture.timeline;
+    let parts = match picture.parts {
+        None => None,
+        Some(event) => {
+            let all = timeline.cells.as_slice();
+            match column_in(number, column_of(all, event), all.len()) {
+                None => None,
+                Some(column) => Some((column, event)),
+            }
+        }
+    };
+    Strip {
+        cells,
+        marks,
+        naming: picture.naming,
+        top: strip_top(number, timeline.cpu_count, picture.mutex_count()),
+        cpu_count: timeline.cpu_count,
+        mutex_count: picture.mutex_count(),
+        parts,
+    }
+}
+
+fn strips(draft: Draft, alloc: Global, picture: &Picture<'_>) -> Result<Draft, Refused>
+    requires content { draft.in_tag ≡ false }
+    requires inside { 0 < length draft.tags }
+    ensures { IfOk result (λ new. new ≡ with_boxes (boxes_of picture.now.timeline.now.cpu_count picture.now.timeline.now.cells.items) draft) }
+{
+    let mut draft = draft;
+    let mut cells = picture.timeline.cells.as_slice();
+    let mut marks = picture.timeline.marks.as_slice();
+    for number in 0..strip_count(cells.len()) {
+        let at = STRIP.min(cells.len());
+        let (here, others) = cut(marks, kept_in(&cells[..at]));
+        let one = strip_of(picture, number, &cells[..at], here);
+        draft = draw_strip(draft, alloc, &one)?;
+        marks = others;
+        cells = &cells[at..];
+    }
+    Ok(draft)
+}
+
+fn heading(alloc: Global, timeline: &Timeline) -> Result<String, Refused> {
+    let mut text = String::new(alloc);
+    match (timeline.cells.first(), timeline.cells.last()) {
+        (Some(first), Some(last)) => say(
+            &mut text,
+            &[
+                Piece::Text("events "),
+                Piece::Number(first.first),
+                Piece::Text(" to "),
+                Piece::Number(last.first.saturating_add(last.count.saturating_sub(1))),
+            ],
+        )?,
+        _ => say(&mut text, &[Piece::Text("no event")])?,
+    }
+    Ok(text)
+}
+
+fn view_box(alloc: Global, width: u32, height: u32) -> Result<String, Refused> {
+    let mut text = String::new(alloc);
+    let pieces = [
+        Piece::Text("0 0 "),
+        Piece::Number(u64::from(width)),
+        Piece::Text(" "),
+        Piece::Number(u64::from(height)),
+    ];
+    say(&mut text, &pieces)?;
+    Ok(text)
+}
+
+fn begun(alloc: Global, width: u32, height: u32) -> Result<Draft, Refused>
+    ensures { IfOk result (λ draft. draft ≡ record { tags = Tag.Svg ∷ []; in_tag = false; shares = [] }) }
+{
+    let all = view_box(alloc, width, height)?;
+    let draft = Draft::svg(alloc)?
+        .attribute(Key::Namespace, "http://www.w3.org/2000/svg")?
+        .number(Key::Width, width)?
+        .number(Key::Height, height)?
+        .attribute(Key::ViewBox, all.as_str())?
+        .enter()?;
+    let draft = draft.open(Tag::Style)?.enter()?.text(STYLE)?.close()?;
+    let sides = [(Key::Width, width), (Key::Height, height)];
+    plain(draft, Tag::Rectangle, "paper", &sides)
+}
+
+/// The picture of a timeline, an SVG file.
+///
+/// # Errors
+///
+/// Memory was refused.
+pub fn drawn(alloc: Global, picture: &Picture<'_>) -> Result<Vec<u8>, Refused>
+    ensures { IfOk result (λ bytes. ∥ IsElement Tag.Svg (boxes_of picture.now.timeline.now.cpu_count picture.now.timeline.now.cells.items) bytes.items ∥₁) }
+{
+    let timeline = picture.timeline;
+    let end = strip_top(
+        strip_count(timeline.cells.len()),
+        timeline.cpu_count,
+        picture.mutex_count(),
+    );
+    let width = width(timeline.cells.len());
+    let draft = begun(alloc, width, end.saturating_add(LEGEND))?;
+    let heading = heading(alloc, timeline)?;
+    let draft = label(draft, "b", 8, 22, heading.as_str())?;
+    let draft = strips(draft, alloc, picture)?;
+    finished(legend(draft, alloc, end)?)
+}

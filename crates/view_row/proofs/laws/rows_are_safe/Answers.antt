@@ -1,5 +1,0 @@
-use Rattle.view_row.proofs.Safe.{safe-row}
-use Rattle.view_row.proofs.laws.rows_are_safe.Goals as goal
-
-pub returns : goal.returns
-returns c = safe-row

@@ -1,0 +1,225 @@
+//! A window of a journal, replayed.
+
+ghost use Rattle.std.specs.Prelude.{◌≡◌, ◌+◌, ◌≤◌, IfOk, OnOk, length, map};
+ghost use Rattle.view_timeline.specs.Rows.{IsWindow};
+ghost use Rattle.run_marks.specs.Items.{outline};
+ghost use Rattle.run_marks.specs.Walks.{Follows, place};
+
+use crate::cells::{Deed, Held, Seen, Shown, Timeline};
+use evm_dev::Device;
+use evm_model::{MUTEX_LIMIT, PROCESSOR_LIMIT, TaskState, Wait};
+use evm_program::Meter;
+use evm_room::{Refused, grow};
+use run_marks::{Callers, Item, Look, Machine, Mark, Walk, WalkStop, actor_of, call_at, wasted};
+use std::alloc::Global;
+
+/// Which events are drawn: those from the first number on, and below the last.
+#[derive(Clone, Copy)]
+pub struct Window {
+    pub from: u64,
+    pub to: u64,
+}
+
+// The owners of the mutexes.
+fn see_owners(seen: &mut Seen, look: &Look) {
+    for (mutex, owner) in look.owners.as_slice().iter().enumerate() {
+        if let Some(held) = seen.mutexes.get_mut(mutex) {
+            held.owner = *owner;
+        }
+    }
+}
+
+// For which mutexes a task waits.
+fn see_waits(seen: &mut Seen, look: &Look) {
+    for task in look.tasks.as_slice() {
+        let TaskState::Waits(Wait::Lock(mutex) | Wait::Reacquire { mutex, .. }) = task.state else {
+            continue;
+        };
+        if let Some(held) = seen.mutexes.get_mut(usize::from(mutex)) {
+            held.waited = true;
+        }
+    }
+}
+
+const FREE: Held = Held {
+    owner: None,
+    waited: false,
+};
+
+fn seen_of(look: &Look) -> Seen {
+    let mut seen = Seen {
+        lanes: [None; PROCESSOR_LIMIT],
+        mutexes: [FREE; MUTEX_LIMIT],
+    };
+    for c in 0..PROCESSOR_LIMIT {
+        seen.lanes[c] = look.lanes.get(c).copied();
+    }
+    if look.mutex_count > 0 {
+        see_owners(&mut seen, look);
+        see_waits(&mut seen, look);
+    }
+    seen
+}
+
+// The processor of a task.
+fn task_cpu(look: &Look, task: u8) -> Option<u8> {
+    match look.tasks.get(usize::from(task)) {
+        Some(task) => Some(task.cpu),
+        None => None,
+    }
+}
+
+// The processor that a mark is about.
+fn subject(mark: &Mark, look: &Look) -> Option<u8> {
+    match mark {
+        Mark::Runs { cpu, .. }
+        | Mark::Idles { cpu }
+        | Mark::Stop { cpu, .. }
+        | Mark::Stall { cpu, .. }
+        | Mark::Raised { cpu, .. }
+        | Mark::Received { cpu, .. }
+        | Mark::Played { cpu, .. } => Some(*cpu),
+        Mark::Created { task }
+        | Mark::Waits { task, .. }
+        | Mark::Woken { task, .. }
+        | Mark::Deadline { task, .. }
+        | Mark::Migrates { task, .. }
+        | Mark::Moves { task, .. }
+        | Mark::Rank { task, .. }
+        | Mark::Ended { task }
+        | Mark::Faulted { task, .. }
+        | Mark::Notice { task, .. } => task_cpu(look, *task),
+        Mark::Owner { to: Some(task), .. } => task_cpu(look, *task),
+        Mark::Owner { .. } | Mark::Ticked { .. } => None,
+    }
+}
+
+// The owner of the mutex that is waited for.
+fn owner(mark: &Mark, look: &Look) -> Option<u8> {
+    match mark {
+        Mark::Waits {
+            wait: Wait::Lock(mutex) | Wait::Reacquire { mutex, .. },
+            ..
+        } => match look.owners.get(usize::from(*mutex)) {
+            Some(owner) => *owner,
+            None => None,
+        },
+        _ => None,
+    }
+}
+
+fn shown_of(mark: &Mark, item: &Item, look: &Look) -> Shown {
+    Shown {
+        deed: Deed::Mark(*mark),
+        event: item.first,
+        actor: actor_of(&item.event),
+        subject: subject(mark, look),
+        owner: owner(mark, look),
+    }
+}
+
+fn show(shown: &mut Vec<Shown>, found: &[Mark], item: &Item, look: &Look) -> Result<(), Refused> {
+    shown.clear();
+    for mark in found {
+        grow(shown, 1)?;
+        shown.push_reserved(shown_of(mark, item, look));
+    }
+    Ok(())
+}
+
+// The put, signal or post of an item that woke no task.
+fn wasted_by<D: Device>(
+    callers: &Callers,
+    item: &Item,
+    machine: &Machine<D>,
+    look: &Look,
+    found: &[Mark],
+) -> Option<Shown> {
+    let caller = callers.of(item)?;
+    let call = call_at(machine, look, caller, item.pc?)?;
+    let object = wasted(&call, found)?;
+    Some(Shown {
+        deed: Deed::Wasted(caller.task, object),
+        event: item.first,
+        actor: actor_of(&item.event),
+        subject: actor_of(&item.event),
+        owner: None,
+    })
+}
+
+/// What an item that led a walk here did, in place of what is there.
+pub(crate) fn show_all<D: Device>(
+    shown: &mut Vec<Shown>,
+    found: &[Mark],
+    item: &Item,
+    walk: &Walk<D>,
+    callers: &Callers,
+) -> Result<(), Refused> {
+    show(shown, found, item, walk.look())?;
+    match wasted_by(callers, item, walk.machine(), walk.look(), found) {
+        None => Ok(()),
+        Some(one) => {
+            grow(shown, 1)?;
+            shown.push_reserved(one);
+            Ok(())
+        }
+    }
+}
+
+/// How many events are skipped at a time.
+const SKIPPED: u64 = 65_536;
+
+// Skips the events before a window.
+fn skip<D: Device, M: Meter>(walk: &mut Walk<D>, from: u64, meter: &mut M) -> Result<(), WalkStop>
+    requires { place walk.old + from ≤ length walk.old.events }
+    ensures skipped { OnOk result (place walk.new ≡ place walk.old + from) }
+    ensures follows { OnOk result (Follows walk.old walk.new) }
+{
+    for _part in 0..from / SKIPPED {
+        walk.skip(SKIPPED)?;
+        meter.passed(walk.next_event());
+    }
+    walk.skip(from % SKIPPED)
+}
+
+/// The events of a window of a journal that is walked from its first event on, which come to a timeline: one cell behind the other, up
+/// to the event that the walk comes to next. Its lanes are the processors of the machine at which the walk began.
+///
+/// # Errors
+///
+/// Why the walk stopped.
+pub fn gather<D: Device, M: Meter>(
+    alloc: Global,
+    walk: &mut Walk<D>,
+    window: Window,
+    meter: &mut M,
+) -> Result<Timeline, WalkStop>
+    requires { place walk.old ≡ 0 }
+    ensures window { IfOk result (λ timeline. IsWindow window (map outline walk.old.events) timeline.cells.items) }
+    ensures lanes { IfOk result (λ timeline. timeline.cpu_count ≡ length walk.old.machine.board.parts.processors) }
+    ensures follows { OnOk result (Follows walk.old walk.new) }
+{
+    let cpu_count = walk.machine().cpu_count();
+    skip(walk, window.from.min(walk.event_count()), meter)?;
+    let mut timeline = Timeline::new(alloc, cpu_count);
+    let mut found = Vec::new(alloc);
+    let mut shown = Vec::new(alloc);
+    let mut callers = Callers::new();
+    let first = walk.next_event();
+    for _event in first..window.to {
+        let left = window.to.saturating_sub(walk.next_event());
+        if left == 0 {
+            break;
+        }
+        let seen = seen_of(walk.look());
+        callers.look(walk.machine());
+        let Some(item) = walk.next_within(left, &mut found)? else {
+            break;
+        };
+        show_all(&mut shown, found.as_slice(), &item, walk, &callers)?;
+        timeline.add(alloc, &item, &seen, shown.as_slice())?;
+        meter.passed(walk.next_event());
+    }
+    timeline.mutex_count = walk.look().mutex_count;
+    Ok(timeline)
+}
