@@ -27,10 +27,12 @@ const RAM: (u64, u64) = (0x8000_0000, 65_536);
 
 // Says why there is nothing to be hunted.
 fn blame<S: System>(fault: WordFault, world: &mut World<S>) -> u8 {
-    if let WordFault::Time = fault {
-        let message = Message::Plain("--time: wanted a number of seconds, or as 90s, 5m or 2h");
-        report(PROGRAM, message, &mut world.errors);
-    }
+    let words = match fault {
+        WordFault::Missing => return USAGE,
+        WordFault::Time => "--time: wanted a number of seconds, or as 90s, 5m or 2h",
+        WordFault::Seeds => "--seeds: wanted the first seed and then the last",
+    };
+    report(PROGRAM, Message::Plain(words), &mut world.errors);
     USAGE
 }
 

@@ -55,6 +55,8 @@ pub struct Options<'a> {
 pub(crate) enum WordFault {
     /// `--time` is no time.
     Time,
+    /// The last of `--seeds` is below the first.
+    Seeds,
     /// A word is missing.
     Missing,
 }
@@ -236,6 +238,9 @@ pub(crate) fn options_of<'a>(matches: &ArgMatches<'a>) -> Result<Options<'a>, Wo
         Err(fault) => return Err(fault),
     };
     let (first, last) = seeds_of(matches);
+    if last < first {
+        return Err(WordFault::Seeds);
+    }
     Ok(Options {
         image,
         cpus: number_of(matches, "cpus", 2),

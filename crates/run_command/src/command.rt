@@ -54,7 +54,7 @@ fn blame<S: System>(fault: WordFault, world: &mut World<S>) -> u8 {
         WordFault::NoMemory => return memory_refused(PROGRAM, world),
         WordFault::Missing => return USAGE,
         WordFault::Lines => {
-            "--lines: wanted L or L@N, by commas: line L, 2 to 63, with each tick or every N rounds, 1 to 1048576"
+            "--lines: wanted L or L@N, by commas: line L, 2 to 63, with each tick (not with --ticks 0) or every N rounds, 1 to 1048576"
         }
         WordFault::Until => "--until: wanted exit, idle or a number of events, 1 to 1048576",
     };

@@ -23,7 +23,7 @@ pub(crate) struct Course<'a> {
     pub(crate) ram: Option<u64>,
     /// The ticks of the watchdog; 0 for none.
     pub(crate) watchdog: u64,
-    /// How many rounds there are from one tick to the next.
+    /// How many rounds there are from one tick to the next; 0 where ticks come only when all wait for one.
     pub(crate) ticks: u64,
     pub(crate) seed: Option<u64>,
     pub(crate) until: Until,
@@ -123,9 +123,10 @@ fn line_of(word: &str) -> Option<u8> {
     }
 }
 
-// The beat of a line: `L@N` comes every N rounds, `L` with each tick.
+// The beat of a line: `L@N` comes every N rounds, `L` with each tick, if ticks come by rounds.
 fn beat_of(word: &str, ticks: u64) -> Option<Beat> {
     let (line, every) = match word.split_once('@') {
+        None if ticks == 0 => (None, None),
         None => (line_of(word), Some(ticks)),
         Some((line, every)) => (line_of(line), number_up_to(every, MOST_ROUNDS)),
     };

@@ -1,7 +1,14 @@
 //! Runs the command lines of the file CASES one after another, over the files of its folder. It writes each line behind `$`, what the program
 //! writes to standard output, each line of standard error behind `2>`, and the status. The line `cat FILE` writes a file.
+//! Then it plays the sessions of GDB.
 #![tactic(auto)]
 
+mod exchange;
+mod exchanges;
+mod line;
+mod machine;
+mod peer;
+mod session;
 mod world;
 
 use crate::world::world_of;
@@ -96,5 +103,5 @@ fn main(rt: HostRuntime) -> io::Result<()> {
     for line in cases.lines() {
         do_line(&rt, rt, line)?;
     }
-    Ok(())
+    exchanges::play_all(&rt)
 }

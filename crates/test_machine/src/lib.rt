@@ -2,4 +2,6 @@
 #![tactic(auto)]
 
 #[cfg(test)]
+mod bursts;
+#[cfg(test)]
 mod machine;

@@ -3,9 +3,15 @@
 #![tactic(auto)]
 
 #[cfg(test)]
+mod bells;
+#[cfg(test)]
 mod boosts;
 #[cfg(test)]
+mod devs;
+#[cfg(test)]
 mod hearing;
+#[cfg(test)]
+mod ranks;
 #[cfg(test)]
 mod ready;
 #[cfg(test)]

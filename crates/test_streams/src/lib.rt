@@ -3,7 +3,11 @@
 #![tactic(auto)]
 
 #[cfg(test)]
+mod command;
+#[cfg(test)]
 mod fakes;
+#[cfg(test)]
+mod files;
 #[cfg(test)]
 mod growths;
 #[cfg(test)]
@@ -17,10 +21,16 @@ mod loading;
 #[cfg(test)]
 mod messages;
 #[cfg(test)]
+mod readings;
+#[cfg(test)]
+mod room;
+#[cfg(test)]
 mod runs;
 #[cfg(test)]
 mod scripts;
 #[cfg(test)]
 mod sources;
+#[cfg(test)]
+mod streams;
 #[cfg(test)]
 mod tracks;

@@ -2,4 +2,6 @@
 #![tactic(auto)]
 
 #[cfg(test)]
+mod shared;
+#[cfg(test)]
 mod tests;

@@ -158,8 +158,8 @@ const WATCHDOG: Choice = Choice {
 
 const TICKS: Choice = Choice {
     name: "ticks",
-    value: Value::Number("N", 1, 1_048_576),
-    help: "The clock ticks every N rounds [default: 1000]",
+    value: Value::Number("N", 0, 1_048_576),
+    help: "The clock ticks every N rounds, with 0 only where all wait for it [default: 1000]",
     excludes: &[],
 };
 
@@ -456,7 +456,7 @@ pub(crate) const HUNT: Word = Word {
         },
         Choice {
             name: "stuck",
-            value: Value::Number("N", 0, 1_048_576),
+            value: Value::Number("N", 1, 1_048_576),
             help: "Looks for a task that does not run for more than N rounds while others do",
             excludes: &[],
         },

@@ -34,6 +34,12 @@ fn view_input<S: System, M: Meter>(
     }
 }
 
+// Reports a window in which there is no event.
+fn no_place<S: System>(text: &'static str, world: &mut World<S>) -> u8 {
+    report(PROGRAM, Message::Plain(text), &mut world.errors);
+    NO_PLACE
+}
+
 // Does a job with the image, its names and the journal.
 fn view_journal<S: System, M: Meter>(
     alloc: Global,
@@ -46,6 +52,9 @@ fn view_journal<S: System, M: Meter>(
     world: &mut World<S>,
 ) -> u8 {
     match window_of(alloc, image, journal, job.bounds, naming) {
+        Ok(Some(window)) if window.to <= window.from => {
+            no_place("--to is not behind --from", world)
+        }
         Ok(Some(window)) => {
             let input = Input {
                 job,
@@ -56,11 +65,7 @@ fn view_journal<S: System, M: Meter>(
             };
             view_input(alloc, devices, &input, meter, world)
         }
-        Ok(None) => {
-            let message = Message::Plain("no event of the journal is at --from or --to");
-            report(PROGRAM, message, &mut world.errors);
-            NO_PLACE
-        }
+        Ok(None) => no_place("no event of the journal is at --from or --to", world),
         Err(end) => {
             let files = Files {
                 image,

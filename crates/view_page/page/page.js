@@ -80,6 +80,7 @@ class Run {
     this.tasks = [];
     this.marks = new Map(); // of each key the events that have such a mark, in their order
     this.text = [];
+    this.warned = new Set(); // the events that have a mark of which `warningsOf` says more
     this.read();
   }
   // The lane of a key, which is made where it is named first.
@@ -148,7 +149,10 @@ class Run {
     }
     lane.open = what === null ? null : { from: event, what, note };
   }
-  mark(lane, event, what) { lane.marks.at.push(event); lane.marks.what.push(what); }
+  mark(lane, event, what) {
+    lane.marks.at.push(event); lane.marks.what.push(what);
+    if (WARNED.has(what)) this.warned.add(event);
+  }
   taskLane(task) { return this.byKey.get(`task${task}`) ?? this.lane(`task${task}`, 2000 + task, this.laneName('task', 0, task), 'task', { task }); }
   // A word and a number, and behind them the name that the program gives.
   laneName(word, kind, number) {
@@ -220,7 +224,7 @@ class Run {
     else this.bar(lane, event, `ready-${this.tasks[task]?.stage ?? 1}`);
   }
   waits(task, kind, number, event) {
-    this.bar(this.taskLane(task), event + 1, 'waits', kind * 256 + number);
+    this.bar(this.taskLane(task), event + 1, 'waits', (this.tasks[task]?.stage ?? 1) * 65536 + kind * 256 + number);
     this.noted(`waits${task}`, event);
     if (kind === SLEEP) return;
     const key = (kind === RETAKE ? LOCK : kind) * 256 + number;
@@ -330,7 +334,7 @@ class Run {
     const overrun = !isSet && expiries > before.expiries && before.expiries > 0;
     const expired = !isSet && (expiries > before.expiries || due !== before.due);
     this.mark(lane, event, overrun ? 'overrun' : expired ? 'expired' : isSet ? 'set' : 'taken');
-    this.noted(`timer${number}.${overrun ? 'overrun' : 'change'}`, event);
+    this.noted(`timer${number}.${expired || overrun ? 'expired' : isSet ? 'set' : 'taken'}`, event);
   }
   end() {
     for (const lane of this.lanes) {
@@ -338,8 +342,8 @@ class Run {
       // how many alarms stand before each mark
       lane.alarms = new Int32Array(lane.marks.what.length + 1);
       for (let i = 0; i < lane.marks.what.length; i += 1) lane.alarms[i + 1] = lane.alarms[i] + (ALARMS.has(lane.marks.what[i]) ? 1 : 0);
-      this.bar(lane, Math.max(this.count, 1), null);
-      if (lane.stalled !== null && lane.stalled !== undefined) { lane.stalls.from.push(lane.stalled); lane.stalls.to.push(this.count); }
+      this.bar(lane, this.count + 1, null);
+      if (lane.stalled !== null && lane.stalled !== undefined) { lane.stalls.from.push(lane.stalled); lane.stalls.to.push(this.count + 1); }
     }
     this.lanes.sort((one, two) => one.order - two.order);
   }
@@ -392,11 +396,14 @@ const from = (list, value) => { const at = below(list ?? [], value); return at <
 // ---- 4 axes: where an event is, in events, Steps or ticks, and the other way round
 class Axis {
   constructor(run, kind) { this.run = run; this.kind = kind; }
-  get end() { return Math.max(1, this.kind === 'events' ? this.run.count : this.kind === 'steps' ? this.run.allSteps : this.run.ticks.length + 1); }
+  // where the last event ends, and how much behind it shows what it left
+  get last() { return this.kind === 'events' ? this.run.count : this.kind === 'steps' ? this.run.allSteps : this.run.ticks.length + 1; }
+  get rest() { return Math.max(this.kind === 'ticks' ? 0 : 1, this.last * 0.02); }
+  get end() { return this.last + this.rest; }
   position(event) {
     const run = this.run;
+    if (event >= run.count) return this.last + Math.min(1, event - run.count) * this.rest;
     if (this.kind === 'events') return event;
-    if (event >= run.count) return this.end;
     if (this.kind === 'steps') {
       const k = run.at(event), most = run.steps[k + 1] - run.steps[k];
       return run.steps[k] + Math.min(event - run.first[k], most);
@@ -406,8 +413,8 @@ class Axis {
   }
   event(position) {
     const run = this.run;
+    if (position >= this.last) return run.count + Math.min(1, (position - this.last) / this.rest);
     if (this.kind === 'events') return position;
-    if (position >= this.end) return run.count;
     if (position <= 0) return 0;
     if (this.kind === 'steps') {
       let low = 1, high = run.rows.length - 1;
@@ -448,6 +455,7 @@ class CanvasPen {
   clip(x, y, w, h) { const c = this.context; c.save(); c.beginPath(); c.rect(x, y, w, h); c.clip(); }
   unclip() { this.context.restore(); }
 }
+const COLOURS = ['paper', 'band', 'ink', 'dim', 'rule', 'ready', 'wait', 'stall', 'mark', 'alarm', 'good'];
 const FONT = "ui-monospace, Menlo, Consolas, 'DejaVu Sans Mono', monospace";
 const escaped = (text) => String(text).replace(/[&<>"]/g, (c) => ({ '&': '&amp;', '<': '&lt;', '>': '&gt;', '"': '&quot;' })[c]);
 class SvgPen {
@@ -475,7 +483,7 @@ function barLook(lane, what, note, colours) {
     case 'running': return { ...task(lane.task), text: `runs${note & 1 ? ' in-band' : ''}${lane.run.cpus > 1 ? ` on cpu ${note >> 1}` : ''}`, low: (note & 1) === 1 };
     case 'ready-0': return { fill: colours.ready, ink: colours.ink, text: 'ready' };
     case 'ready-1': return { fill: colours.ready, ink: colours.ink, text: 'ready in-band', low: true };
-    case 'waits': return { fill: colours.wait, frame: colours.alarm, ink: colours.ink, text: `waits: ${lane.run.waitName(note >> 8, note & 255)}`, thin: true };
+    case 'waits': return { fill: colours.wait, frame: colours.alarm, ink: colours.ink, text: `waits${note >> 16 ? ' in-band' : ''}: ${lane.run.waitName((note >> 8) & 255, note & 255)}`, thin: true };
     case 'waiting': return { fill: colours.wait, frame: colours.alarm, ink: colours.ink, text: `waits: task ${note}`, thin: true };
     case 'wire': return { fill: colours.alarm, ink: colours.ink, text: '', narrow: true };
     case 'log': return { fill: colours.ready, ink: colours.ink, text: '', thin: true };
@@ -643,10 +651,15 @@ class Chart {
   }
   drawText(pen, lane, y, width, columns, colours) {
     const at = lane.marks.at, one = below(at, columns[0] - 0.5), two = below(at, columns[columns.length - 1]);
-    let free = -Infinity;
-    for (let i = one; i < two; i += Math.max(1, Math.floor((two - one) / 4000))) {
-      const x = this.x(lane.run, at[i], width);
-      if (x >= free) { pen.text(x, y + 15, lane.run.text[i], colours.ink); free = x + 7; } else pen.rectangle(x, y + LANE - 4, 1, 2, colours.dim);
+    const place = (i) => this.x(lane.run, at[i], width), stride = Math.max(1, Math.floor((two - one) / 4000));
+    for (let i = one; i < two; ) {
+      // what stands before a gap is one text, which is cut where there is no room; single characters where each has its own
+      const begun = i, x = place(i);
+      let end = x, next = x;
+      for (i += stride; i < two && (next = place(i)) - end <= 40; i += stride) end = next;
+      const count = Math.min(i, two) - begun, room = Math.max(1, Math.floor(((i < two ? next : width) - x) / 6.7));
+      if (end - x >= 7 * (count - 1)) for (let j = begun; j < begun + count; j += 1) pen.text(place(j), y + 15, lane.run.text[j], colours.ink);
+      else pen.text(x, y + 15, count <= room ? lane.run.text.slice(begun, begun + count).join('') : `${lane.run.text.slice(begun, begun + room - 1).join('')}~`, colours.ink);
     }
   }
   drawChosen(pen, width, height, chosen, colours) {
@@ -675,6 +688,7 @@ class Chart {
     pen.line(u, RULER, u, height, colours.mark, 0.7, [1, 4]);
   }
 }
+const WARNED = new Set(['hollow', 'merged', 'merges', 'lost', 'overrun']);
 const ALARMS = new Set(['merged', 'merges', 'lost', 'hollow', 'faulted', 'deadline', 'notice', 'overrun', 'stopped']);
 
 // ---- 6 words of an event
@@ -809,6 +823,15 @@ function linksOf(run, k) {
     }
     if (part === 118 && row[i + 2]) cause(before(get(`waits${row[i + 2] - 1}`), event), `${run.taskName(row[i + 2] - 1)} begins to wait`);
     if (part === 118 && row[i + 2]) effect(from(get(`owner${task}`), event + 1), `mutex ${task} gets another owner, or none`);
+    if (part === 205) {
+      const is = (what) => from(get(`timer${task}.${what}`), event) === event, timer = run.waitName(TIMER, task);
+      if (is('set')) effect(from(get(`timer${task}.expired`), event + 1), `${timer} expires`);
+      if (is('expired')) {
+        cause(before(get(`timer${task}.expired`), event) ?? before(get(`timer${task}.set`), event), `${timer} was set, or expired last`);
+        effect(from(get(`timer${task}.taken`), event + 1), `what ${timer} has expired is asked for`);
+      }
+      if (is('taken')) cause(before(get(`timer${task}.expired`), event), `${timer} expired`);
+    }
     if (part === 119) effect(from(run.lineLane(0, 0).received, event), 'the tick is received by processor 0');
     if (part === 200) {
       const wait = CALLS[row[i]]?.[2], key = wait * 256 + row[i + 2];
@@ -819,6 +842,7 @@ function linksOf(run, k) {
     }
   });
   const seen = new Set();
+  links.sort((one, two) => Math.abs(one.event - event) - Math.abs(two.event - event));
   return links.filter((link) => { const key = `${link.event} ${link.words}`; const first = !seen.has(key); seen.add(key); return first; });
 }
 // What is said of a mark that is no word of an entry: hollow, merged, lost.
@@ -839,8 +863,9 @@ function warningsOf(run, k) {
 
 // ---- 8 search
 function matches(run, k, wanted) {
-  const words = run.rows[k][0] < 8 ? eventWords(run, k) : `${eventWords(run, k)}\n${allWords(run, k).join('\n')}`;
-  return words.toLowerCase().includes(wanted);
+  const words = run.rows[k][0] < 8 ? [eventWords(run, k)] : [eventWords(run, k), ...allWords(run, k)];
+  if (run.warned.has(run.first[k])) words.push(...warningsOf(run, k));
+  return words.join('\n').toLowerCase().includes(wanted);
 }
 
 // ---- 9 the page
@@ -869,7 +894,7 @@ class Page {
   get colours() {
     if (!this.cached) {
       const style = getComputedStyle(document.documentElement);
-      this.cached = Object.fromEntries(['paper', 'band', 'ink', 'dim', 'rule', 'ready', 'wait', 'stall', 'mark', 'alarm', 'good'].map((name) => [name, style.getPropertyValue(`--${name}`).trim()]));
+      this.cached = Object.fromEntries(COLOURS.map((name) => [name, style.getPropertyValue(`--${name}`).trim()]));
     }
     return this.cached;
   }
@@ -1070,8 +1095,11 @@ class Page {
   }
   // The window as SVG: all lanes, as wide as the chart.
   svg() {
+    return this.drawn(this.colours);
+  }
+  drawn(colours) {
     const pen = new SvgPen(), width = Math.max(this.width, 900), height = RULER + this.chart.lanes.length * LANE + 14;
-    this.chart.draw(pen, width, height, 0, this.chosen, this.colours);
+    this.chart.draw(pen, width, height, 0, this.chosen, colours);
     return pen.document(width, height);
   }
   save() {
@@ -1130,7 +1158,7 @@ class Page {
     $('help').onclick = () => this.help();
     window.addEventListener('resize', () => this.resize());
     window.matchMedia('(prefers-color-scheme: dark)').addEventListener('change', () => { this.cached = null; this.showSigns(); this.paint(); });
-    window.addEventListener('beforeprint', () => { $('print').innerHTML = this.svg(); });
+    window.addEventListener('beforeprint', () => { $('print').innerHTML = this.drawn(Object.fromEntries(COLOURS.map((name) => [name, `var(--${name})`]))); });
     window.addEventListener('afterprint', () => $('print').replaceChildren());
   }
   help() { const keys = $('keys'); keys.hidden = !keys.hidden; $('help').setAttribute('aria-expanded', String(!keys.hidden)); this.resize(); }

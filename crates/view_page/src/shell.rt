@@ -36,7 +36,7 @@ pub(crate) const HEAD: &str = r##"<!doctype html>
 <p id="signs"></p>
 </div>
 <main>
-<div id="chart"><div id="space"></div><canvas id="canvas" tabindex="0" role="application" aria-roledescription="timeline" aria-label="Lanes of the run" aria-describedby="told"></canvas></div>
+<div id="chart"><div id="space"></div><canvas id="canvas" tabindex="0" role="application" aria-roledescription="timeline" aria-label="Lanes of the run" aria-owns="lanes" aria-describedby="told"></canvas></div>
 <ul id="lanes" class="hidden" role="listbox" aria-label="Lanes"></ul>
 <canvas id="map" aria-hidden="true"></canvas>
 <aside id="panel" aria-label="The selected event"><div id="told" aria-live="polite"><p>Click on anything, or press <kbd>.</kbd> for the first event.</p></div></aside>

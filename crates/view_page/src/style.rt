@@ -7,7 +7,7 @@ pub(crate) const STYLE: &str =
   --paper: #ffffff; --band: #f4f4f2; --ink: #1b1b1b; --dim: #5f5f5f; --rule: #d8d8d4; --ready: #c9c9c4; --wait: #ffffff;
   --stall: #00000026; --mark: #0b57d0; --alarm: #b3400a; --good: #00704f; --found: #ffdf6b;
 }
-@media (prefers-color-scheme: dark) {
+@media screen and (prefers-color-scheme: dark) {
   :root {
     --paper: #15171a; --band: #1d2024; --ink: #ececec; --dim: #a5a5a5; --rule: #3a3f46; --ready: #4a5058; --wait: #15171a;
     --stall: #ffffff30; --mark: #8ab4f8; --alarm: #ff8f57; --good: #4fd1a5; --found: #6d5a00;

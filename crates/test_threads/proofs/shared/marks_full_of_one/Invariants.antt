@@ -1,5 +1,5 @@
 use Rattle.evm_shared.specs.EventCounts.{kind_counts}
-use Rattle.test_shared.proofs.shared.marks_full_of_one.Given as goal
+use Rattle.test_threads.proofs.shared.marks_full_of_one.Given as goal
 
 abbrev pub ghosts-marks_full-O-Origin : goal.ghosts-marks_full-O-Origin
 ghosts-marks_full-O-Origin g a = record { start = a.machine; base = kind_counts a.machine.journal }

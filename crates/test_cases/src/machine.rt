@@ -1,10 +1,10 @@
 //! The machine of a session, and how GDB comes to it.
 
 use crate::line::{Line, line_of};
-use evm_devs::{AnyDevice, Console, MailRing, Pins};
+use evm_devs::AnyDevice;
 use evm_elf::{assemble, read_image, write_image};
 use evm_image::Image;
-use gdb_answers::{Boot, Devices, LineEnd, Machine, read_line, run_line};
+use gdb_answers::{Boot, LineEnd, Machine, read_line, run_line};
 use std::alloc::Global;
 use std::rt::Files;
 use std::{fs, io};
@@ -71,21 +71,10 @@ pub(crate) fn setting_of<'a>(lines: &[&'a str], from: usize) -> Setting<'a> {
     setting
 }
 
-/// The devices of `evltool`; None where there is no memory for them.
-pub(crate) fn devices_of(alloc: Global) -> Option<Devices<AnyDevice>> {
-    let Ok(mut devices) = Devices::new(alloc) else {
-        return None;
-    };
-    devices.push(AnyDevice::Console(Console::new(alloc).ok()?));
-    devices.push(AnyDevice::MailRing(MailRing::new(alloc).ok()?));
-    devices.push(AnyDevice::Pins(Pins::new()));
-    Some(devices)
-}
-
 /// The image of a source; None where it has a fault.
 pub(crate) fn image_of(rt: &(impl Files + AllocGlobal), name: &str) -> io::Result<Option<Image>> {
     let alloc = rt.alloc();
-    let source = fs::read_to_string(rt, format!(in alloc; "{name}.s")?)?;
+    let source = fs::read_to_string(rt, format!(in alloc; "exchanges/{name}.s")?)?;
     Ok(assembled(alloc, source.as_str()))
 }
 

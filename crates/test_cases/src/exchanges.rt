@@ -1,5 +1,5 @@
-//! Runs the recorded sessions of GDB in its folder. Each line of the file INDEX names a file of sessions. A line is printed
-//! for each exchange whose answer is another, and at the end one that counts sessions and exchanges.
+//! Plays the recorded sessions of GDB in the folder exchanges. Each line of its file INDEX names a file of sessions. A line is
+//! printed for each exchange whose answer is another, and at the end one that counts sessions and exchanges.
 //!
 //! A file is a list of sessions. A session begins with the line `session NAME`, and has its settings next:
 //!
@@ -10,15 +10,8 @@
 //!
 //! Then come exchanges: some lines `> PAYLOAD` and then lines `< PAYLOAD`, the packets that answer. `>> BYTES` and `<< BYTES` are bytes
 //! that are no packet; what is sent so comes a byte at a time. `\xHH` is the byte with these digits. A line that begins with `#` is a comment.
-#![tactic(auto)]
 
-mod exchange;
-mod line;
-mod machine;
-mod peer;
-mod session;
-
-use session::play;
+use crate::session::play;
 use std::rt::Files;
 use std::{fs, io};
 
@@ -35,7 +28,8 @@ fn play_file(
     name: &str,
     counts: &mut Counts,
 ) -> io::Result<()> {
-    let text = fs::read_to_string(rt, name)?;
+    let path = format!(in rt.alloc(); "exchanges/{name}")?;
+    let text = fs::read_to_string(rt, path.as_str())?;
     let lines: Vec<&str> = text.lines().collect(rt.alloc())?;
     for (i, line) in lines.as_slice().iter().enumerate() {
         if line.starts_with("session ") {
@@ -47,14 +41,15 @@ fn play_file(
     Ok(())
 }
 
-fn main(rt: HostRuntime) -> io::Result<()> {
-    let index = fs::read_to_string(&rt, "INDEX")?;
+/// Plays the sessions of all files.
+pub(crate) fn play_all(rt: &(impl Files + Print + AllocGlobal)) -> io::Result<()> {
+    let index = fs::read_to_string(rt, "exchanges/INDEX")?;
     let mut counts = Counts {
         sessions: 0,
         exchanges: 0,
     };
     for name in index.lines() {
-        play_file(&rt, name, &mut counts)?;
+        play_file(rt, name, &mut counts)?;
     }
     println!(rt;
         "{} exchanges of {} sessions",

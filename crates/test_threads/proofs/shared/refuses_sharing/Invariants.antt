@@ -1,5 +1,5 @@
 use Rattle.evm_shared.specs.EventCounts.{kind_counts}
-use Rattle.test_shared.proofs.shared.refuses_sharing.Given as goal
+use Rattle.test_threads.proofs.shared.refuses_sharing.Given as goal
 
 abbrev pub ghosts-comes_back-O-Origin : goal.ghosts-comes_back-O-Origin
 ghosts-comes_back-O-Origin a = record { start = a.machine; base = kind_counts a.machine.journal }

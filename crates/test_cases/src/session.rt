@@ -2,8 +2,9 @@
 
 use crate::exchange::{Exchange, begins};
 use crate::line::{Line, line_of, said};
-use crate::machine::{Setting, assembled, devices_of, image_of, run_lines, setting_of};
+use crate::machine::{Setting, assembled, image_of, run_lines, setting_of};
 use crate::peer::{Heard, Sent};
+use evm_command::program_devices;
 use evm_devs::AnyDevice;
 use evm_image::Image;
 use gdb_answers::{Ended, GdbSession, Machine, serve_gdb};
@@ -143,8 +144,8 @@ pub(crate) fn play(
     let place = Place { file, lines, from };
     let setting = setting_of(lines, from);
     let image = image_for(rt, &setting)?;
-    let made = match (setting.boot, devices_of(rt.alloc()), image) {
-        (Some(numbers), Some(devices), Some(image)) => {
+    let made = match (setting.boot, program_devices(rt.alloc()), image) {
+        (Some(numbers), Ok(devices), Some(image)) => {
             match Machine::from_boot(rt.alloc(), numbers, devices) {
                 Ok(machine) => Some((machine, image)),
                 Err(_) => None,

@@ -1,5 +1,5 @@
 use Rattle.evm_shared.specs.EventCounts.{kind_counts}
-use Rattle.test_shared.proofs.shared.bursts.a_burst_meets_a_breakpoint.Given as goal
+use Rattle.test_threads.proofs.shared.bursts.a_burst_meets_a_breakpoint.Given as goal
 
 abbrev pub ghosts-breaks_a_burst_of-O-Origin : goal.ghosts-breaks_a_burst_of-O-Origin
 ghosts-breaks_a_burst_of-O-Origin g a = record { start = a.machine; base = kind_counts a.machine.journal }

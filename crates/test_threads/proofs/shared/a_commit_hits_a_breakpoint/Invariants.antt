@@ -1,5 +1,5 @@
 use Rattle.evm_shared.specs.EventCounts.{kind_counts}
-use Rattle.test_shared.proofs.shared.a_commit_hits_a_breakpoint.Given as goal
+use Rattle.test_threads.proofs.shared.a_commit_hits_a_breakpoint.Given as goal
 
 abbrev pub ghosts-hits_a_breakpoint-O-Origin : goal.ghosts-hits_a_breakpoint-O-Origin
 ghosts-hits_a_breakpoint-O-Origin g a = record { start = a.machine; base = kind_counts a.machine.journal }

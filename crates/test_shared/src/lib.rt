@@ -1,5 +1,0 @@
-//! Rows of the machine under its lock.
-#![tactic(auto)]
-
-#[cfg(test)]
-mod shared;
