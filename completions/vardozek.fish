@@ -65,6 +65,7 @@ complete -c vardozek -n '__fish_seen_subcommand_from hunt' -l errno -x -a 'eperm
 complete -c vardozek -n '__fish_seen_subcommand_from hunt' -l order -d 'Looks for locks whose order closes a cycle over all schedules'
 complete -c vardozek -n '__fish_seen_subcommand_from hunt' -l out -r -d 'Writes NAME.journal and NAME.script of the shortest'
 complete -c vardozek -n '__fish_seen_subcommand_from hunt' -l junit -r -d 'Writes a test suite, a case for each kind of failure, with a journal and a script beside it'
+complete -c vardozek -n '__fish_seen_subcommand_from hunt' -l map -r -d 'Names and lines of sources, as kit/map writes them [default: beside IMAGE]'
 complete -c vardozek -n '__fish_seen_subcommand_from hunt' -l held -x -d 'Looks for a mutex that one task has for more than N ticks'
 complete -c vardozek -n '__fish_seen_subcommand_from hunt' -l inversion -x -d 'Looks for a task of a rank above R that one of a lower rank keeps back for more than N steps'
 complete -c vardozek -n '__fish_seen_subcommand_from hunt' -l stuck -x -d 'Looks for a task that does not run for more than N rounds while others do'

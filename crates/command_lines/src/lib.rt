@@ -6,4 +6,4 @@ mod answering;
 mod naming;
 
 pub use answering::{VERSION, blame, no_words, refuse, show};
-pub use naming::{names_at, symbols_at};
+pub use naming::names_at;

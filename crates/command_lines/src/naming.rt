@@ -8,21 +8,6 @@ use evm_messages::{Diagnostic, report_line};
 use std::alloc::Global;
 use text_symbols::{Map, MapFault, Names, Symbols};
 
-/// The symbols of a file that was read as an image before.
-///
-/// # Errors
-///
-/// The status of the job, where the file can't be opened or read or memory is refused.
-pub fn symbols_at<S: System>(
-    alloc: Global,
-    program: &str,
-    path: &str,
-    world: &mut World<S>,
-) -> Result<Symbols, u8> {
-    let bytes = bytes_at(alloc, path, world)?;
-    symbols_in(alloc, program, bytes.as_slice(), world)
-}
-
 fn bytes_at<S: System>(alloc: Global, path: &str, world: &mut World<S>) -> Result<Vec<u8>, u8> {
     let mut file = match world.files.open(path) {
         Ok(file) => file,

@@ -8,7 +8,7 @@ use evm_room::{NoMemory, Refused, push_text};
 use hunt_search::{Errors, Found, Wanted};
 use std::alloc::Global;
 use text_junit::{CaseEnd, Suite};
-use text_symbols::Symbols;
+use text_symbols::Names;
 
 /// The kinds of failures, in the order of their cases.
 const KINDS: [&str; 25] = [
@@ -150,7 +150,7 @@ impl<'a> Cases<'a> {
         kind: &'static str,
         found: &Found,
         seed: u64,
-        symbols: &Symbols,
+        names: &Names,
         world: &mut World<S>,
     ) -> Result<(), u8> {
         let Some(path) = self.path else {
@@ -160,7 +160,7 @@ impl<'a> Cases<'a> {
             return Ok(());
         }
         match name_of(self.alloc, path, kind) {
-            Ok(name) => write_files(self.alloc, name.as_str(), found, seed, symbols, world),
+            Ok(name) => write_files(self.alloc, name.as_str(), found, seed, names, world),
             Err(NoMemory) => Err(memory_refused(PROGRAM, world)),
         }
     }

@@ -6,7 +6,7 @@ use crate::results::{Hunted, tell};
 use crate::telling::Telling;
 use crate::words::{Options, Search, WordFault, options_of};
 use clap::ArgMatches;
-use command_lines::symbols_at;
+use command_lines::names_at;
 use evm_host::{FAILED, Message, System, USAGE, World, image_at, memory_refused, report};
 use evm_image::Image;
 use hunt_search::{
@@ -14,7 +14,7 @@ use hunt_search::{
     first_length, hunt, hunt_all,
 };
 use std::alloc::Global;
-use text_symbols::Symbols;
+use text_symbols::{Names, Symbols};
 
 /// The status where the file is no image that can be loaded.
 const NO_IMAGE: u8 = 3;
@@ -66,10 +66,10 @@ fn linked_ram(symbols: &Symbols) -> u64 {
     }
 }
 
-fn boot_of(options: &Options<'_>, symbols: &Symbols) -> Boot {
+fn boot_of(options: &Options<'_>, names: &Names) -> Boot {
     let ram = match options.ram {
         Some(ram) => ram,
-        None => linked_ram(symbols),
+        None => linked_ram(&names.symbols),
     };
     Boot {
         watchdog: options.watchdog,
@@ -127,7 +127,7 @@ fn hunt_in<'a, S: System>(
     alloc: Global,
     options: &Options<'_>,
     image: &Image,
-    symbols: &'a Symbols,
+    names: &'a Names,
     boot: &Boot,
     rt: &'a HostRuntime,
     clock: HuntClock,
@@ -135,7 +135,7 @@ fn hunt_in<'a, S: System>(
 ) -> Result<(Report, u8), HuntStop> {
     let mut telling = Telling {
         alloc,
-        symbols,
+        names,
         seconds: options.seconds,
         rt,
         clock,
@@ -153,13 +153,13 @@ fn hunt_and_tell<S: System>(
     alloc: Global,
     options: &Options<'_>,
     image: &Image,
-    symbols: &Symbols,
+    names: &Names,
     rt: &HostRuntime,
     clock: HuntClock,
     world: &mut World<S>,
 ) -> Result<u8, HuntStop> {
-    let boot = boot_of(options, symbols);
-    let (report, status) = hunt_in(alloc, options, image, symbols, &boot, rt, clock, world)?;
+    let boot = boot_of(options, names);
+    let (report, status) = hunt_in(alloc, options, image, names, &boot, rt, clock, world)?;
     if status != 0 {
         return Ok(status);
     }
@@ -172,7 +172,7 @@ fn hunt_and_tell<S: System>(
         options,
         image,
         boot: &boot,
-        symbols,
+        names,
         report: &report,
         span,
     };
@@ -191,11 +191,11 @@ fn hunt_with<S: System>(
         Ok(image) => image,
         Err(status) => return status,
     };
-    let symbols = match symbols_at(alloc, PROGRAM, options.image, world) {
-        Ok(symbols) => symbols,
+    let names = match names_at(alloc, PROGRAM, options.image, options.map, world) {
+        Ok(names) => names,
         Err(status) => return status,
     };
-    match hunt_and_tell(alloc, options, &image, &symbols, rt, clock, world) {
+    match hunt_and_tell(alloc, options, &image, &names, rt, clock, world) {
         Ok(status) => status,
         Err(stop) => stopped(options.image, stop, world),
     }

@@ -7,7 +7,7 @@ use evm_host::{
 };
 use hunt_search::{Found, failing_script, journal_text};
 use std::alloc::Global;
-use text_symbols::Symbols;
+use text_symbols::Names;
 
 /// Creates a file and writes bytes to it.
 ///
@@ -43,12 +43,12 @@ pub(crate) fn write_files<S: System>(
     name: &str,
     found: &Found,
     seed: u64,
-    symbols: &Symbols,
+    names: &Names,
     world: &mut World<S>,
 ) -> Result<(), u8> {
     let (Ok(journal), Ok(script)) = (
         journal_text(alloc, found),
-        failing_script(alloc, found, seed, symbols),
+        failing_script(alloc, found, seed, names),
     ) else {
         return Err(memory_refused(PROGRAM, world));
     };

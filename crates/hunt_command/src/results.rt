@@ -14,7 +14,7 @@ use hunt_search::{
     Boot, Found, HuntStop, Report, Row, SearchSpan, counts_text, row_text, schedule_text, shortest,
 };
 use std::alloc::Global;
-use text_symbols::Symbols;
+use text_symbols::Names;
 
 /// The status of a hunt that has found a failure.
 const FOUND: u8 = 1;
@@ -26,7 +26,7 @@ pub(crate) struct Hunted<'a> {
     pub(crate) options: &'a Options<'a>,
     pub(crate) image: &'a Image,
     pub(crate) boot: &'a Boot,
-    pub(crate) symbols: &'a Symbols,
+    pub(crate) names: &'a Names,
     pub(crate) report: &'a Report,
     pub(crate) span: SearchSpan,
 }
@@ -70,7 +70,7 @@ fn write_fewest<S: System>(
     }
     *fewest = events;
     match hunted.options.out {
-        Some(name) => write_files(hunted.alloc, name, found, seed, hunted.symbols, world),
+        Some(name) => write_files(hunted.alloc, name, found, seed, hunted.names, world),
         None => Ok(()),
     }
 }
@@ -88,9 +88,9 @@ fn tell_found<S: System>(
     let mut status = worse(0, write_fewest(hunted, found, row.seed, fewest, world));
     status = worse(
         status,
-        cases.write_files(kind, found, row.seed, hunted.symbols, world),
+        cases.write_files(kind, found, row.seed, hunted.names, world),
     );
-    let text = schedule_text(hunted.alloc, found, row.seed, hunted.symbols);
+    let text = schedule_text(hunted.alloc, found, row.seed, hunted.names);
     worse(status, tell_text(text, row, cases, world))
 }
 
@@ -112,7 +112,7 @@ fn tell_row<S: System>(
     ) {
         Ok(Some(found)) => Ok(tell_found(hunted, &found, row, fewest, cases, world)),
         Ok(None) => {
-            let text = row_text(hunted.alloc, row, hunted.symbols);
+            let text = row_text(hunted.alloc, row, hunted.names);
             if let Ok(text) = text
                 && cases.add(row.key.kind, text).is_ok()
             {

@@ -6,13 +6,13 @@ use command_lines::show;
 use evm_host::{System, World, memory_refused};
 use hunt_search::{Onlooker, Row, row_text};
 use std::alloc::Global;
-use text_symbols::Symbols;
+use text_symbols::Names;
 
 /// An onlooker that writes each failure when it is found, and ends the hunt when its time is over or a failure can't be written.
 #[derive(Drop)]
 pub(crate) struct Telling<'a, S: System> {
     pub(crate) alloc: Global,
-    pub(crate) symbols: &'a Symbols,
+    pub(crate) names: &'a Names,
     pub(crate) seconds: Option<u64>,
     pub(crate) rt: &'a HostRuntime,
     pub(crate) clock: HuntClock,
@@ -38,7 +38,7 @@ impl<S: System> Onlooker for Telling<'_, S> {
 
     fn found(&mut self, row: &Row) {
         self.clock.clear(self.rt);
-        let status = match row_text(self.alloc, row, self.symbols) {
+        let status = match row_text(self.alloc, row, self.names) {
             Ok(text) => show(PROGRAM, text.as_str(), self.world),
             Err(_) => memory_refused(PROGRAM, self.world),
         };

@@ -44,6 +44,8 @@ pub struct Options<'a> {
     pub seconds: Option<u64>,
     /// Whether the orders of locks are looked at.
     pub orders: bool,
+    /// Where the map is.
+    pub map: Option<&'a str>,
     /// The name of the files that are written, without an ending.
     pub out: Option<&'a str>,
     /// The file of the test suite.
@@ -254,6 +256,7 @@ pub(crate) fn options_of<'a>(matches: &ArgMatches<'a>) -> Result<Options<'a>, Wo
         most: number_of(matches, "runs", 1_000_000),
         seconds,
         orders: matches.get_flag("order"),
+        map: matches.get_str("map"),
         out: matches.get_str("out"),
         junit: matches.get_str("junit"),
     })

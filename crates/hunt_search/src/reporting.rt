@@ -8,27 +8,24 @@ use evm_room::{NoMemory, Refused, push_text};
 use evm_text::push_hexadecimal;
 use hunt_schedules::{AnyDevice, Failure, Machine};
 use std::alloc::Global;
-use text_symbols::Symbols;
+use text_symbols::{CodeSpot, Names, push_code};
 
 // Whether a name has only printable characters of ASCII, and no blank.
 fn is_plain(name: &str) -> bool {
     name.as_bytes().iter().all(|byte| *byte > 32 && *byte < 127)
 }
 
-// Appends an address, and the symbol that it belongs to: `80000010 (main+0x8)`.
-fn push_place(out: &mut String, place: u64, symbols: &Symbols) -> Result<(), Refused> {
+// Appends an address, and the line of a source or the symbol that it belongs to: `80000010 (main+0x8)`.
+fn push_place(out: &mut String, place: u64, names: &Names) -> Result<(), Refused> {
     push_hexadecimal(out, place)?;
-    match symbols.at(place) {
-        Some((name, offset)) if is_plain(name) => {
+    match names.code(place) {
+        None => Ok(()),
+        Some(CodeSpot::Symbol(name, _)) if !is_plain(name) => Ok(()),
+        Some(spot) => {
             push_text(out, " (")?;
-            push_text(out, name)?;
-            if offset != 0 {
-                push_text(out, "+0x")?;
-                push_hexadecimal(out, offset)?;
-            }
+            push_code(out, spot)?;
             push_text(out, ")")
         }
-        _ => Ok(()),
     }
 }
 
@@ -50,20 +47,20 @@ fn push_subject(out: &mut String, failure: Failure) -> Result<(), Refused> {
 }
 
 // Appends the kind and the place of a failure.
-fn push_key(out: &mut String, key: &FailureKey, symbols: &Symbols) -> Result<(), Refused> {
+fn push_key(out: &mut String, key: &FailureKey, names: &Names) -> Result<(), Refused> {
     push_text(out, key.kind)?;
     push_text(out, " ")?;
-    push_place(out, key.place, symbols)
+    push_place(out, key.place, names)
 }
 
-fn push_row(out: &mut String, row: &Row, symbols: &Symbols) -> Result<(), Refused> {
-    push_key(out, &row.key, symbols)?;
+fn push_row(out: &mut String, row: &Row, names: &Names) -> Result<(), Refused> {
+    push_key(out, &row.key, names)?;
     if let Some(failure) = row.failure {
         push_subject(out, failure)?;
     }
     if let Some(other) = row.other {
         push_text(out, " with ")?;
-        push_place(out, other, symbols)?;
+        push_place(out, other, names)?;
     }
     push_number(out, " seed ", row.seed)?;
     if row.failure.is_none() {
@@ -77,9 +74,9 @@ pub(crate) fn push_found(
     out: &mut String,
     found: &Found,
     seed: u64,
-    symbols: &Symbols,
+    names: &Names,
 ) -> Result<(), Refused> {
-    push_key(out, &FailureKey::of(&found.machine, found.failure), symbols)?;
+    push_key(out, &FailureKey::of(&found.machine, found.failure), names)?;
     push_subject(out, found.failure)?;
     push_number(out, " seed ", seed)?;
     push_number(out, " events ", found.machine.event_count())
@@ -96,14 +93,9 @@ pub(crate) fn push_events(out: &mut String, machine: &Machine<AnyDevice>) -> Res
     Ok(())
 }
 
-fn push_schedule(
-    out: &mut String,
-    found: &Found,
-    seed: u64,
-    symbols: &Symbols,
-) -> Result<(), Refused> {
+fn push_schedule(out: &mut String, found: &Found, seed: u64, names: &Names) -> Result<(), Refused> {
     push_text(out, "# ")?;
-    push_found(out, found, seed, symbols)?;
+    push_found(out, found, seed, names)?;
     push_text(out, "\n")?;
     push_events(out, &found.machine)
 }
@@ -140,15 +132,15 @@ fn whole(pushed: Result<(), Refused>, text: String) -> Result<String, NoMemory> 
     }
 }
 
-/// The line of a failure, `KIND PLACE seed S`; of two locks that close a cycle `order PLACE with PLACE seed S events N`. A place has the symbol that it
-/// belongs to, if there is one.
+/// The line of a failure, `KIND PLACE seed S`; of two locks that close a cycle `order PLACE with PLACE seed S events N`. A place has the line of a source
+/// or the symbol that it belongs to, if there is one.
 ///
 /// # Errors
 ///
 /// Memory was refused.
-pub fn row_text(alloc: Global, row: &Row, symbols: &Symbols) -> Result<String, NoMemory> {
+pub fn row_text(alloc: Global, row: &Row, names: &Names) -> Result<String, NoMemory> {
     let mut text = String::new(alloc);
-    let pushed = push_row(&mut text, row, symbols);
+    let pushed = push_row(&mut text, row, names);
     whole(pushed, text)
 }
 
@@ -161,10 +153,10 @@ pub fn schedule_text(
     alloc: Global,
     found: &Found,
     seed: u64,
-    symbols: &Symbols,
+    names: &Names,
 ) -> Result<String, NoMemory> {
     let mut text = String::new(alloc);
-    let pushed = push_schedule(&mut text, found, seed, symbols);
+    let pushed = push_schedule(&mut text, found, seed, names);
     whole(pushed, text)
 }
 

@@ -12,7 +12,7 @@ use evm_journal::{push_boot_line, push_decimal, write_journal};
 use evm_room::{NoMemory, Refused, push_text};
 use hunt_schedules::{AnyDevice, Machine};
 use std::alloc::Global;
-use text_symbols::Symbols;
+use text_symbols::Names;
 
 /// The journal of a machine that has failed: replayed from the same boot and image it is that machine.
 ///
@@ -26,9 +26,9 @@ pub fn journal_text(alloc: Global, found: &Found) -> Result<String, NoMemory>
 }
 
 // Appends a comment on what fails.
-fn push_head(out: &mut String, found: &Found, seed: u64, symbols: &Symbols) -> Result<(), Refused> {
+fn push_head(out: &mut String, found: &Found, seed: u64, names: &Names) -> Result<(), Refused> {
     push_text(out, "# vardozek hunt: ")?;
-    push_found(out, found, seed, symbols)?;
+    push_found(out, found, seed, names)?;
     push_text(out, "\n")
 }
 
@@ -49,13 +49,8 @@ fn push_views(out: &mut String, machine: &Machine<AnyDevice>) -> Result<(), Refu
     push_text(out, "tasks\nowners\nnotices\n")
 }
 
-fn push_script(
-    out: &mut String,
-    found: &Found,
-    seed: u64,
-    symbols: &Symbols,
-) -> Result<(), Refused> {
-    push_head(out, found, seed, symbols)?;
+fn push_script(out: &mut String, found: &Found, seed: u64, names: &Names) -> Result<(), Refused> {
+    push_head(out, found, seed, names)?;
     push_boot_line(out, &found.machine.boot_numbers())?;
     push_text(out, "\n")?;
     push_events(out, &found.machine)?;
@@ -71,10 +66,10 @@ pub fn failing_script(
     alloc: Global,
     found: &Found,
     seed: u64,
-    symbols: &Symbols,
+    names: &Names,
 ) -> Result<String, NoMemory> {
     let mut text = String::new(alloc);
-    match push_script(&mut text, found, seed, symbols) {
+    match push_script(&mut text, found, seed, names) {
         Ok(()) => Ok(text),
         Err(_) => Err(NoMemory),
     }

@@ -442,6 +442,7 @@ pub(crate) const HUNT: Word = Word {
             help: "Writes a test suite, a case for each kind of failure, with a journal and a script beside it",
             excludes: &[],
         },
+        MAP,
         Choice {
             name: "held",
             value: Value::Number("N", 0, 1_048_576),
