@@ -260,12 +260,13 @@ fn failed_reads_end_with_status_4(rt: HostRuntime) -> Result<(), Fail> {
 #[test]
 fn failed_writes_end_with_status_4(rt: HostRuntime) -> Result<(), Fail> {
     for (line, bytes) in [
-        ("evltool asm src out", 124),
+        ("evltool asm src out", 124_u8),
         ("evltool run", 44),
         ("evltool replay loop recorded", 148),
         ("evltool threads loop 1", 75),
         ("evltool --version", 14),
     ] {
+        let bytes = usize::from(bytes);
         for room in 0..=bytes {
             let setup = Setup::new(1000, room);
             let answered = status_of(&rt, rt.alloc(), line, &setup)?;
