@@ -263,7 +263,7 @@ fn fails_behind(rt: &HostRuntime, line: &str, room: usize, wanted: u8) -> Result
     let answered = status_of(rt, rt.alloc(), line, &setup)?;
     assert_eq!(rt; answered, wanted, "{room} bytes of {line}");
     assert_eq!(rt;
-        setup.out.get() + setup.output.get(),
+        setup.out.get().saturating_add(setup.output.get()),
         room,
         "{room} bytes of {line}"
     );
