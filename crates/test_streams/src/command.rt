@@ -258,9 +258,15 @@ fn failed_reads_end_with_status_4(rt: HostRuntime) -> Result<(), Fail> {
 }
 
 // Does a line whose writes fail behind so many bytes.
-fn fails_behind(rt: &HostRuntime, line: &str, room: usize, wanted: u8) -> Result<(), Fail> {
+fn fails_behind<R: Threads + Wait + Sync + Abort>(
+    rt: &R,
+    alloc: Global,
+    line: &str,
+    room: usize,
+    wanted: u8,
+) -> Result<(), Fail> {
     let setup = Setup::new(1000, room);
-    let answered = status_of(rt, rt.alloc(), line, &setup)?;
+    let answered = status_of(rt, alloc, line, &setup)?;
     assert_eq!(rt; answered, wanted, "{room} bytes of {line}");
     assert_eq!(rt;
         setup.out.get().saturating_add(setup.output.get()),
@@ -285,9 +291,9 @@ fn failed_writes_end_with_status_4(rt: HostRuntime) -> Result<(), Fail> {
         ("evltool --version", 14),
     ] {
         for room in 0..bytes {
-            fails_behind(&rt, line, room, 4)?;
+            fails_behind(&rt, rt.alloc(), line, room, 4)?;
         }
-        fails_behind(&rt, line, bytes, 0)?;
+        fails_behind(&rt, rt.alloc(), line, bytes, 0)?;
     }
     Ok(())
 }
