@@ -257,30 +257,6 @@ fn failed_reads_end_with_status_4(rt: HostRuntime) -> Result<(), Fail> {
     Ok(())
 }
 
-// Does a line whose writes fail behind so many bytes.
-fn fails_behind<R: Threads + Wait + Sync + Abort>(
-    rt: &R,
-    alloc: Global,
-    line: &str,
-    room: usize,
-    wanted: u8,
-) -> Result<(), Fail> {
-    let setup = Setup::new(1000, room);
-    let answered = status_of(rt, alloc, line, &setup)?;
-    assert_eq!(rt; answered, wanted, "{room} bytes of {line}");
-    assert_eq!(rt;
-        setup.out.get().saturating_add(setup.output.get()),
-        room,
-        "{room} bytes of {line}"
-    );
-    assert_eq!(rt;
-        setup.errors.get() == 0,
-        wanted == 0,
-        "{room} bytes of {line}"
-    );
-    Ok(())
-}
-
 #[test]
 fn failed_writes_end_with_status_4(rt: HostRuntime) -> Result<(), Fail> {
     for (line, bytes) in [
@@ -290,10 +266,22 @@ fn failed_writes_end_with_status_4(rt: HostRuntime) -> Result<(), Fail> {
         ("evltool threads loop 1", 75),
         ("evltool --version", 14),
     ] {
-        for room in 0..bytes {
-            fails_behind(&rt, rt.alloc(), line, room, 4)?;
+        for room in 0..=bytes {
+            let setup = Setup::new(1000, room);
+            let answered = status_of(&rt, rt.alloc(), line, &setup)?;
+            let wanted = if room == bytes { 0 } else { 4 };
+            assert_eq!(rt; answered, wanted, "{room} bytes of {line}");
+            assert_eq!(rt;
+                setup.out.get().saturating_add(setup.output.get()),
+                room,
+                "{room} bytes of {line}"
+            );
+            assert_eq!(rt;
+                setup.errors.get() == 0,
+                room == bytes,
+                "{room} bytes of {line}"
+            );
         }
-        fails_behind(&rt, rt.alloc(), line, bytes, 0)?;
     }
     Ok(())
 }
