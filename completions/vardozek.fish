@@ -48,6 +48,7 @@ complete -c vardozek -n '__fish_seen_subcommand_from trace' -l until -r -d 'exit
 complete -c vardozek -n '__fish_seen_subcommand_from trace' -l script -r -d 'Runs by the lines of a script, in the place of all that'
 complete -c vardozek -n '__fish_seen_subcommand_from sh' -l script -r -d 'Writes the lines of a script that were done, which evltool run repeats'
 complete -c vardozek -n '__fish_seen_subcommand_from sh' -l journal -r -d 'Writes the journal'
+complete -c vardozek -n '__fish_seen_subcommand_from sh' -l junit -r -d 'Writes a test suite, a case for each line expect, with the files of --journal and --script'
 complete -c vardozek -n '__fish_seen_subcommand_from sh' -l map -r -d 'Names and lines of sources, as kit/map writes them [default: beside IMAGE]'
 complete -c vardozek -n '__fish_seen_subcommand_from hunt' -l random -d 'Chooses each step at random; without it, by turns of the seed at random and by priorities'
 complete -c vardozek -n '__fish_seen_subcommand_from hunt' -l pct -x -d 'Chooses by priorities with D change points'

@@ -47,6 +47,15 @@ fn expected(rest: &str) -> Option<(&str, bool, &str)> {
     Some((view, false, text))
 }
 
+// Whether the text of a view is what is wanted, or has it.
+fn is_met(seen: &[u8], whole: bool, wanted: &str) -> bool {
+    match std::str::from_utf8(seen) {
+        Ok(text) if whole => text.trim_end() == wanted,
+        Ok(text) => text.contains(wanted),
+        Err(_) => false,
+    }
+}
+
 fn put_watch(
     page: &mut Page,
     names: &Names,
@@ -117,25 +126,38 @@ impl<M: Meter + Drop> Shell<'_, M> {
         };
         let mut seen = Page::new(alloc);
         if !self.run_plain(alloc, number, line.bytes(), &mut seen)? {
+            self.add_case(alloc, number, rest, false, seen.bytes())?;
             page.put_bytes(seen.bytes())?;
             return Ok(Outcome::Said);
         }
-        self.compare(seen.bytes(), whole, wanted, page)?;
+        let met = is_met(seen.bytes(), whole, wanted);
+        self.add_case(alloc, number, rest, met, seen.bytes())?;
+        self.tell_met(seen.bytes(), met, page)?;
         Ok(Outcome::Said)
     }
 
-    fn compare(
+    // Adds a case to the test suite, if one is written.
+    fn add_case(
         &mut self,
+        alloc: Global,
+        number: u64,
+        words: &str,
+        met: bool,
         seen: &[u8],
-        whole: bool,
-        wanted: &str,
-        page: &mut Page,
     ) -> Result<(), NoMemory> {
-        let met = match std::str::from_utf8(seen) {
-            Ok(text) if whole => text.trim_end() == wanted,
-            Ok(text) => text.contains(wanted),
-            Err(_) => false,
+        let Some(cases) = &mut self.cases else {
+            return Ok(());
         };
+        let shown = if met {
+            None
+        } else {
+            Some(std::str::from_utf8(seen).unwrap_or(""))
+        };
+        cases.add(alloc, number, words, shown)
+    }
+
+    // Says whether an expectation is met, and what was seen if not.
+    fn tell_met(&mut self, seen: &[u8], met: bool, page: &mut Page) -> Result<(), NoMemory> {
         if met {
             return page.put("  as expected\n");
         }

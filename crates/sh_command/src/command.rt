@@ -2,6 +2,7 @@
 
 ghost use Rattle.std.specs.Prelude.{◌≡◌, ◌≤◌, OnOk, if◌then◌else◌};
 
+use crate::cases::Cases;
 use crate::reading::{Finish, serve_lines};
 use crate::shell::Shell;
 use crate::words::{Job, job_of};
@@ -124,6 +125,21 @@ fn save_journal<S: System, M: Meter + Drop>(
     }
 }
 
+fn save_cases<S: System, M: Meter + Drop>(
+    alloc: Global,
+    shell: &Shell<'_, M>,
+    path: &str,
+    world: &mut World<S>,
+) -> u8 {
+    let Some(cases) = &shell.cases else {
+        return 0;
+    };
+    match cases.written(alloc) {
+        Ok(text) => save(path, text.as_slice(), world),
+        Err(NoMemory) => memory_refused(PROGRAM, world),
+    }
+}
+
 // What is saved at the end, and the greatest status.
 fn save_all<S: System, M: Meter + Drop>(
     alloc: Global,
@@ -141,7 +157,25 @@ fn save_all<S: System, M: Meter + Drop>(
     if let Some(path) = job.journal {
         status = status.max(save_journal(alloc, shell, path, world));
     }
+    if let Some(path) = job.junit {
+        status = status.max(save_cases(alloc, shell, path, world));
+    }
     status
+}
+
+// The test suite, if one is asked for, with the files that are written.
+fn cases_of(alloc: Global, job: Job<'_>) -> Result<Option<Cases>, NoMemory> {
+    if job.junit.is_none() {
+        return Ok(None);
+    }
+    let mut cases = Cases::new(alloc, job.image)?;
+    if let Some(path) = job.journal {
+        cases.attach(alloc, path)?;
+    }
+    if let Some(path) = job.script {
+        cases.attach(alloc, path)?;
+    }
+    Ok(Some(cases))
 }
 
 fn do_job<S: System, M: Meter + Drop>(
@@ -159,10 +193,15 @@ fn do_job<S: System, M: Meter + Drop>(
         Ok(names) => names,
         Err(status) => return status,
     };
+    let cases = match cases_of(alloc, job) {
+        Ok(cases) => cases,
+        Err(NoMemory) => return memory_refused(PROGRAM, world),
+    };
     let mut shell = match Shell::new(alloc, &image, names, meter) {
         Ok(shell) => shell,
         Err(NoMemory) => return memory_refused(PROGRAM, world),
     };
+    shell.cases = cases;
     let status = serve(alloc, &mut shell, job.file, is_typed, world);
     save_all(alloc, &shell, job, status, world)
 }

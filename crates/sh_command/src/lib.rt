@@ -2,6 +2,7 @@
 #![tactic(auto)]
 
 mod asking;
+mod cases;
 mod command;
 mod commands;
 mod help;

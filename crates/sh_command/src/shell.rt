@@ -1,5 +1,6 @@
 //! The shell: a line, and what it answers.
 
+use crate::cases::Cases;
 use crate::commands::{Suggestion, UNKNOWN, missing_in, suggest};
 use crate::help::SHELL_HELP;
 use evm_image::Image;
@@ -25,6 +26,8 @@ pub struct Shell<'a, M: Meter + Drop> {
     pub(crate) mark: Option<Snapshot>,
     pub(crate) watches: Vec<Watch>,
     pub(crate) failed: bool,
+    // the test suite, if one is written
+    pub(crate) cases: Option<Cases>,
     // whether a line is shown before its answer
     pub(crate) is_echoing: bool,
     pub(crate) meter: M,
@@ -57,6 +60,7 @@ impl<'a, M: Meter + Drop> Shell<'a, M> {
             mark: None,
             watches: Vec::new(alloc),
             failed: false,
+            cases: None,
             is_echoing: true,
             meter,
         })

@@ -13,6 +13,8 @@ pub(crate) struct Job<'a> {
     pub(crate) script: Option<&'a str>,
     /// Where the journal is written.
     pub(crate) journal: Option<&'a str>,
+    /// Where the test suite is written.
+    pub(crate) junit: Option<&'a str>,
     /// Where the lines of sources are.
     pub(crate) map: Option<&'a str>,
 }
@@ -25,6 +27,7 @@ pub(crate) fn job_of<'a>(words: &ArgMatches<'a>) -> Option<Job<'a>> {
         file: words.get_str("FILE"),
         script: words.get_str("script"),
         journal: words.get_str("journal"),
+        junit: words.get_str("junit"),
         map: words.get_str("map"),
     })
 }

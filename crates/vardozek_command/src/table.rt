@@ -334,6 +334,12 @@ pub(crate) const SHELL: Word = Word {
             help: "Writes the journal",
             excludes: &[],
         },
+        Choice {
+            name: "junit",
+            value: Value::Text("OUT.xml"),
+            help: "Writes a test suite, a case for each line expect, with the files of --journal and --script",
+            excludes: &[],
+        },
         MAP,
     ],
     course: &[],
