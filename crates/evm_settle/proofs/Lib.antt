@@ -2,3 +2,4 @@ pub mod Nudges
 pub mod Quiet
 pub mod Rooms
 pub mod Steps
+pub mod Unwatched

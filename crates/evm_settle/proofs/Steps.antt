@@ -1,15 +1,16 @@
 -- Settling out-of-band in two steps, and the room that each takes up.
-use Rattle.std.proofs.Common.{◌≡◌, ℕ, ◌+◌, ◌-◌, Bool, true, false, Option, Some, None, [], refl, ap, sym, ◌∙◌, arith}
+use Rattle.std.proofs.Common.{◌≡◌, ℕ, List, ◌+◌, ◌-◌, Bool, true, false, Option, Some, None, [], refl, ap, sym, ◌∙◌, arith}
 use Rattle.std.specs.Prelude.{not, ◌&&◌, slice_get, if◌then◌else◌}
 use Rattle.evm_lines.specs.declared.TheConstants.{LINES}
 use Rattle.evm_model.specs.Bounds.{COUNT_LIMIT, PER_IN_BAND_LOG, PER_OOB_LOG, PER_SETTLING, HasStamps, PipesUpTo}
 use Rattle.evm_model.specs.Pipes.{Pipe}
 use Rattle.evm_model.specs.Settle.{current, is_oob, differs, play_oob_lines, run_best, settle_oob, settle_oob_pipe, settle_in_band, settle, play_in_band_lines, play_in_band_pipe, nudge, settle_and_nudge}
 use Rattle.evm_model.specs.State.{Parts, on_watch}
-use Rattle.evm_model.specs.Watch.{rest_watch}
+use Rattle.evm_model.specs.Watch.{or_zero, watch, rest_watch}
 use Rattle.evm_model.specs.declared.limits.TheConstants.{PROCESSOR_LIMIT}
 use Rattle.law_rules.proofs.Bounded.{AreWithin, within-more, within-settle_oob, within-settle_in_band}
 use Rattle.law_rules.proofs.law_walk.Counted.{PipesUpTo-more}
+use Rattle.evm_settle.proofs.Unwatched.{unwatched, watches-choose, watches-settle_in_band}
 use Rattle.evm_settle.specs.Steps.{play_oob_pipe, chooses, choose}
 
 -- ---- the two steps
@@ -78,10 +79,20 @@ room-settled was c b k w =
     let all : AreWithin (COUNT_LIMIT - PER_IN_BAND_LOG + LINES) settled = within-settle_in_band (COUNT_LIMIT - PER_IN_BAND_LOG) c (choose b c k) (choose-within (COUNT_LIMIT - PER_IN_BAND_LOG) c b k w) in
     rw (rest-pipes (is_oob (current c settled) settled.tasks && not (differs (current c settled) was)) c settled) (PipesUpTo-more (COUNT_LIMIT - PER_IN_BAND_LOG + LINES) (COUNT_LIMIT - PROCESSOR_LIMIT) _ (omega arith) all.up)
 
+pub room-turned : (c : ℕ) (b : Bool) (k : Parts) → AreWithin (COUNT_LIMIT - PER_IN_BAND_LOG) k → PipesUpTo (COUNT_LIMIT - PROCESSOR_LIMIT) (settle_in_band c (choose b c k)).pipes
+room-turned c b k w =
+    let all : AreWithin (COUNT_LIMIT - PER_IN_BAND_LOG + LINES) (settle_in_band c (choose b c k)) = within-settle_in_band (COUNT_LIMIT - PER_IN_BAND_LOG) c (choose b c k) (choose-within (COUNT_LIMIT - PER_IN_BAND_LOG) c b k w) in
+    PipesUpTo-more (COUNT_LIMIT - PER_IN_BAND_LOG + LINES) (COUNT_LIMIT - PROCESSOR_LIMIT) _ (omega arith) all.up
+
 -- ---- where nothing is played
 pub settle-unplayed : (was : Option ℕ) (c : ℕ) (b : Bool) (k : Parts) → b ≡ chooses (slice_get k.pipes c) → play_oob_pipe (slice_get k.pipes c) was c k ≡ k
     → nudge c (rest_watch was c (settle_in_band c (choose b c k))) ≡ settle_and_nudge was c k
 settle-unplayed was c b k chosen same = rw chosen (ap (λ (x : Parts). nudge c (rest_watch was c (settle_in_band c (choose (chooses (slice_get k.pipes c)) c x)))) (sym same) ∙ settle_and_nudge-steps was c k)
+
+-- ---- where the watchdog has counted nothing
+pub settle-unwatched : (c : ℕ) (b : Bool) (k : Parts) → watch c k ≡ 0 → (was : Option ℕ)
+    → nudge c (settle_in_band c (choose b c k)) ≡ nudge c (rest_watch was c (settle_in_band c (choose b c k)))
+settle-unwatched c b k none was = ap (nudge c) (sym (unwatched was c (settle_in_band c (choose b c k)) (ap (λ (ws : List ℕ). or_zero (slice_get ws c)) (watches-settle_in_band c (choose b c k) ∙ watches-choose c b k) ∙ none)))
 
 same-if : (b : Bool) (k : Parts) → (if b then k else k) ≡ k
 same-if true k = refl
@@ -98,6 +109,6 @@ unplayed-in_band c o pipe k here none = rw (here, none) (same-if pipe.in_band.st
 pub room-unplayed : (k : Parts) → AreWithin (COUNT_LIMIT - PER_SETTLING) k → AreWithin (COUNT_LIMIT - PER_IN_BAND_LOG) k
 room-unplayed k w = within-more (COUNT_LIMIT - PER_SETTLING) (COUNT_LIMIT - PER_IN_BAND_LOG) k (omega arith) w
 
-pub ruleset steps = (room-first, room-up, room-played, room-chosen, stamps-chosen, room-settled, settle_and_nudge-steps, settle-unplayed, room-unplayed)
+pub ruleset steps = (room-first, room-up, room-played, room-chosen, stamps-chosen, room-settled, room-turned, settle-unwatched, settle_and_nudge-steps, settle-unplayed, room-unplayed)
 
 pub ruleset unplayed = (unplayed-oob, unplayed-in_band)

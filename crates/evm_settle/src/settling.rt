@@ -1,7 +1,7 @@
 ghost use Rattle.std.specs.Prelude.{◌≡◌, ◌≤◌, ◌+◌, ◌-◌, ℕ, true, slice_get, IfSome, Option};
 ghost use Rattle.evm_model.specs.Bounds.{COUNT_LIMIT, PER_IN_BAND_LOG, PER_OOB_LOG, PER_SETTLING, HasStamps, PipesUpTo};
 ghost use Rattle.evm_model.specs.Settle.{turn_in_band, settle_in_band, run_in_band, nudge, settle_and_nudge, play_in_band_pipe};
-ghost use Rattle.evm_model.specs.Watch.{rest_watch};
+ghost use Rattle.evm_model.specs.Watch.{watch, rest_watch};
 ghost use Rattle.law_rules.specs.Within.{AreWithin};
 ghost use Rattle.evm_settle.specs.Steps.{play_oob_pipe, chooses, choose};
 
@@ -131,9 +131,10 @@ fn settle_in_band(parts: &mut Parts, c: u8)
     }
 }
 
-// What follows once the out-of-band log is played, where a task is ready out-of-band.
+// What follows once the out-of-band log is played, where a task is ready out-of-band and the watchdog may have counted.
+#[inline(never)]
 #[tactic(auto, using(crate::proofs::Steps::steps))]
-fn settle_oob_ready(parts: &mut Parts, was: Option<u8>, c: u8, chooses: bool)
+fn settle_watched(parts: &mut Parts, was: Option<u8>, c: u8, chooses: bool)
     requires room { AreWithin (COUNT_LIMIT - PER_IN_BAND_LOG) parts.old }
     requires stamps { HasStamps PER_IN_BAND_LOG parts.old }
     ensures { parts.new ≡ nudge c (rest_watch was c (settle_in_band c (choose chooses c parts.old))) }
@@ -142,6 +143,32 @@ fn settle_oob_ready(parts: &mut Parts, was: Option<u8>, c: u8, chooses: bool)
     settle_in_band(parts, c);
     parts.rest_watch(was, c);
     nudge(parts, c);
+}
+
+// The same where the watchdog has counted nothing: then it doesn't matter which task was current.
+#[tactic(auto, using(crate::proofs::Steps::steps))]
+fn settle_unwatched(parts: &mut Parts, c: u8, chooses: bool)
+    requires room { AreWithin (COUNT_LIMIT - PER_IN_BAND_LOG) parts.old }
+    requires stamps { HasStamps PER_IN_BAND_LOG parts.old }
+    requires at_rest { watch c parts.old ≡ 0 }
+    ensures { (was : Option ℕ) → parts.new ≡ nudge c (rest_watch was c (settle_in_band c (choose chooses c parts.old))) }
+{
+    choose(parts, c, chooses);
+    settle_in_band(parts, c);
+    nudge(parts, c);
+}
+
+// What follows once the out-of-band log is played, where a task is ready out-of-band.
+fn settle_oob_ready(parts: &mut Parts, was: Option<u8>, c: u8, chooses: bool)
+    requires room { AreWithin (COUNT_LIMIT - PER_IN_BAND_LOG) parts.old }
+    requires stamps { HasStamps PER_IN_BAND_LOG parts.old }
+    ensures { parts.new ≡ nudge c (rest_watch was c (settle_in_band c (choose chooses c parts.old))) }
+{
+    if parts.watches.is_at_rest() {
+        settle_unwatched(parts, c, chooses);
+    } else {
+        settle_watched(parts, was, c, chooses);
+    }
 }
 
 // What follows once the out-of-band log is played. Where no task is ready out-of-band no processor has a best one, so the

@@ -1,7 +1,6 @@
 -- An expiry stays within 64 bits.
-use Rattle.std.proofs.Common.{◌≡◌, ℕ, ◌+◌, ◌-◌, ◌*◌, ◌/◌, ◌<◌, ◌≤◌, arith}
+use Rattle.std.proofs.Common.{ℕ, ◌+◌, ◌-◌, ◌*◌, ◌/◌, ◌<◌, ◌≤◌, arith}
 use Rattle.std.proofs.Math.Nat.{add-mul, div-mul-le_self, le-mul_of_pos_right}
-use Rattle.evm_model.specs.declared.limits.TheConstants.{TIMER_SPAN_LIMIT}
 
 -- the ticks of the expiries that were missed
 pub span-most : (now due period : ℕ) → 0 < period → due ≤ now → (1 + (now - due) / period) * period ≤ period + (now - due)

@@ -1,3 +1,4 @@
 pub mod Growing
+pub mod Rested
 pub mod Spans
 pub mod Zeros

@@ -1,4 +1,4 @@
-ghost use Rattle.std.specs.Prelude.{◌≡◌, ◌+◌, ◌<◌, ◌≤◌, replicate, slice_get};
+ghost use Rattle.std.specs.Prelude.{◌≡◌, ◌+◌, ◌<◌, ◌≤◌, ℕ, true, replicate, slice_get};
 ghost use Rattle.evm_model.specs.Lists.{change};
 ghost use Rattle.evm_model.specs.Watch.{or_zero};
 
@@ -10,19 +10,24 @@ use std::marker::Model;
 #[derive(Debug, Drop)]
 pub struct Watches {
     ticks: ArrayVec<u32, PROCESSOR_LIMIT>,
+    // Whether a tick was ever counted: without a watchdog none is.
+    counted: bool,
 }
 
 impl Model for Watches {
     ghost use Rattle.std.specs.Prelude.{List, ℕ};
+    ghost use Rattle.evm_tick.specs.Counted.{AreAtRest};
 
     ghost Value = { List ℕ };
+
+    ghost invariant = { λ w. AreAtRest w.counted w.ticks.items };
 
     ghost view = { λ w. w.ticks.items };
 }
 
 impl Watches {
     /// No ticks yet, for this number of processors.
-    #[tactic(auto, using(crate::proofs::Zeros::one_more))]
+    #[tactic(auto, using(crate::proofs::Zeros::one_more, crate::proofs::Rested::rested))]
     pub fn new(processors: u64) -> Watches
         requires { processors ≤ PROCESSOR_LIMIT }
         ensures { result ≡ replicate processors 0 }
@@ -31,7 +36,10 @@ impl Watches {
         for c in 0..processors {
             ticks.push(0);
         }
-        Watches { ticks }
+        Watches {
+            ticks,
+            counted: false,
+        }
     }
 
     /// The ticks of a processor; 0 where there is no such processor.
@@ -49,12 +57,22 @@ impl Watches {
         requires { or_zero (slice_get self.old c) < u32.MAX }
         ensures { self.new ≡ change (λ n. n + 1) self.old c }
     {
+        self.counted = true;
         if let Some(ticks) = self.ticks.get_mut(c as usize) {
             *ticks += 1;
         }
     }
 
+    /// Whether nothing was ever counted.
+    #[inline(always)]
+    pub fn is_at_rest(&self) -> bool
+        ensures { result ≡ true → (c : ℕ) → or_zero (slice_get self.now c) ≡ 0 }
+    {
+        !self.counted
+    }
+
     /// Nothing is counted on a processor any more.
+    #[tactic(auto, using(crate::proofs::Rested::rested))]
     pub fn rest(&mut self, c: u8)
         ensures { self.new ≡ change (λ _. 0) self.old c }
     {
