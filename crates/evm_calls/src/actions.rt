@@ -23,9 +23,9 @@ fn action_of(parts: &Parts, line: u8, action: u64, object: u64) -> Option<Action
     }
 }
 
-/// Call 14: a line has an action, which its out-of-band plays do: 0 none, 1 it puts into a semaphore, 2 it posts its bit to
-/// a flag group, as lines 2 to 31 can. Returns 0. Returns -22 for lines 0 and 1 and those that the profile lacks, for
-/// another action, and if there is no such object or no such bit.
+/// Call 14: sets what out-of-band plays of a line do, on all processors: 0 nothing, 1 puts the semaphore `object`, 2 posts
+/// the bit of the line's number to the flag group `object`. Returns 0, or -22 if the line isn't 2 to 31 (2 to 63 in profile
+/// 3), `action` is above 2, there is no such object, or a line above 31 is to post.
 #[tactic(auto, unfolding(evm_model::specs::Actions::set_line))]
 pub fn set_line(parts: &mut Parts, line: u64, action: u64, object: u64) -> Outcome
     ensures { (parts.new, result) ≡ set_line line action object parts.old }

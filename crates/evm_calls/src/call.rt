@@ -163,9 +163,9 @@ fn offered(profile: Profile, call: Option<Call>) -> Option<Call>
     }
 }
 
-/// What the ECALL of a task does. At a call of the in-band kernel an out-of-band task goes in-band with a notice, its pc
-/// unchanged, and at one of the out-of-band kernel an in-band task goes out-of-band, or is answered -1 where it may not;
-/// so it makes the call again on the other stage. A number that is no call's of the machine's profile answers -38.
+/// Does the ECALL of the current task of a processor. A call of the in-band kernel by an out-of-band task demotes it, with
+/// a notice; a call of the out-of-band kernel by an in-band task promotes it, or returns -1 where it can't. The pc stays at
+/// the ECALL, so the task calls again on the other stage. Returns -38 if the profile has no call of that number.
 #[tactic(auto, unfolding(evm_model::specs::Calls::call))]
 pub fn call(parts: &mut Parts, c: u8, t: u8)
     requires room { HasRoom PER_CALL parts.old }

@@ -4,7 +4,7 @@ ghost use Rattle.evm_model.specs.InBandCalls.{putc};
 use evm_model::Outcome;
 use evm_parts::Parts;
 
-/// Call 1: the low byte goes to the console; answers 0.
+/// Call 1: writes the low byte to the console. Returns 0.
 #[tactic(auto, unfolding(evm_model::specs::InBandCalls::putc))]
 pub fn putc(parts: &mut Parts, byte: u64) -> Outcome
     ensures { (parts.new, result) ≡ putc byte parts.old }

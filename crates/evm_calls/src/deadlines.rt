@@ -8,8 +8,8 @@ use crate::waits::wait_unless;
 use evm_model::{Outcome, Wait};
 use evm_parts::Parts;
 
-/// Call 47: the task waits until a tick, if it is still to come; answers 0. If it would wait, -1 while out-of-band is
-/// stalled.
+/// Call 47: waits until the clock is at least `until`, in ticks. Returns 0, at once if it is already. Returns -1 if it
+/// would wait while the out-of-band stage is stalled.
 #[tactic(auto, unfolding(evm_model::specs::Deadlines::sleep_until))]
 pub fn sleep_until(parts: &mut Parts, c: u8, t: u8, until: u64) -> Outcome
     requires room { HasRoom PER_CALL parts.old }

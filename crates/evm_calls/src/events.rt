@@ -10,7 +10,7 @@ use crate::waits::wait_refusal;
 use evm_model::{EVENT_LIMIT, Errno, Mutex, Outcome, Stage, Wait};
 use evm_parts::Parts;
 
-/// Call 11: a new event; answers its number. -12 if there are 32 events.
+/// Call 11: creates an event and returns its number. Returns -12 if there are 32 events.
 #[tactic(auto, unfolding(evm_model::specs::Events::new_event))]
 pub fn new_event(parts: &mut Parts) -> Outcome
     ensures { (parts.new, result) ≡ new_event parts.old }
@@ -70,10 +70,10 @@ fn begin_event_wait(parts: &mut Parts, t: u8, e: u8, m: u8, deadline: u64)
     parts.begin_wait(t, Wait::Event(e), deadline);
 }
 
-/// Call 42: the task gives its mutex back and waits for an event, until a deadline if that is not 0; answers 0 once it has
-/// the mutex again. -22 if there is no such event or mutex, or if tasks wait for the event with another mutex; else -1
-/// while out-of-band is stalled, or unless the task owns the mutex, locked once, and no other; else -110 if the deadline
-/// has come.
+/// Call 42: unlocks the mutex and waits for the event, until `deadline` in ticks if that isn't 0. Returns 0 after a signal
+/// and -110 after the deadline, once the task owns the mutex again. Returns at once: -22 if there is no such event or
+/// mutex, or tasks wait for the event with another mutex; -1 while the out-of-band stage is stalled, or unless the task
+/// owns this mutex, locked once, and no other; -110 if the deadline has come.
 #[tactic(auto, unfolding(evm_model::specs::Events::event_wait))]
 pub fn event_wait(parts: &mut Parts, c: u8, t: u8, event: u64, mutex: u64, deadline: u64) -> Outcome
     requires room { HasRoom PER_CALL parts.old }
@@ -98,8 +98,8 @@ pub fn event_wait(parts: &mut Parts, c: u8, t: u8, event: u64, mutex: u64, deadl
     Outcome::Blocks
 }
 
-/// Call 43: the first task that waits for an event waits for it no more, but may wait for its mutex; answers 0. -22 if
-/// there is no such event.
+/// Call 43: ends the wait of the first task that waits for the event; it takes its mutex, or waits for it. Returns 0, or
+/// -22 if there is no such event.
 #[tactic(auto, unfolding(evm_model::specs::Events::signal))]
 pub fn signal(parts: &mut Parts, event: u64) -> Outcome
     requires room { HasRoom PER_CALL parts.old }
@@ -112,8 +112,8 @@ pub fn signal(parts: &mut Parts, event: u64) -> Outcome
     Outcome::Returns(0)
 }
 
-/// Call 44: all tasks that wait for an event wait for it no more, but may wait for its mutex; answers 0. -22 if there is no
-/// such event.
+/// Call 44: ends the waits of all tasks that wait for the event, the first first; each takes its mutex, or waits for it.
+/// Returns 0, or -22 if there is no such event.
 #[tactic(auto, unfolding(evm_model::specs::Events::broadcast))]
 pub fn broadcast(parts: &mut Parts, event: u64) -> Outcome
     requires room { HasRoom PER_CALL parts.old }

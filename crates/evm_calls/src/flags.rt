@@ -9,7 +9,7 @@ use crate::waits::wait_unless;
 use evm_model::{Errno, FLAGS_LIMIT, FLAGS_WORD_LIMIT, Outcome, Wait};
 use evm_parts::Parts;
 
-/// Call 12: a new flag group, whose word is 0; answers its number. -12 if there are 32 flag groups.
+/// Call 12: creates a flag group with the word 0 and returns its number. Returns -12 if there are 32 flag groups.
 #[tactic(auto, unfolding(evm_model::specs::Flags::new_flags))]
 pub fn new_flags(parts: &mut Parts) -> Outcome
     ensures { (parts.new, result) ≡ new_flags parts.old }
@@ -22,9 +22,9 @@ pub fn new_flags(parts: &mut Parts) -> Outcome
     Outcome::Returns(u64::from(number))
 }
 
-/// Call 45: the task takes a flag group's word, which is 0 then, or waits for one, until a deadline if that is not 0;
-/// answers the word. -22 if there is no such flag group. If it would wait, -1 while out-of-band is stalled, else -110 if
-/// the deadline has come.
+/// Call 45: returns the word of the flag group and sets it to 0. Waits while it is 0, until `deadline` in ticks if that
+/// isn't 0. Returns -22 if there is no such flag group; if it would wait, -1 while the out-of-band stage is stalled, and
+/// -110 if the deadline has come, at the call or later.
 #[tactic(auto, unfolding(evm_model::specs::Flags::flags_wait))]
 pub fn flags_wait(parts: &mut Parts, c: u8, t: u8, flags: u64, deadline: u64) -> Outcome
     requires room { HasRoom PER_CALL parts.old }
@@ -44,8 +44,8 @@ pub fn flags_wait(parts: &mut Parts, c: u8, t: u8, flags: u64, deadline: u64) ->
     }
 }
 
-/// Call 46, of either stage: bits are set in a flag group's word, and the first task that waits for it has it; answers 0.
-/// -22 if there is no such flag group, and for no bit, or for bits past the lowest 32.
+/// Call 46, on either stage: sets bits in the word of the flag group; the first task that waits for it takes the word.
+/// Returns 0, or -22 if there is no such flag group, or `bits` is 0 or has more than 32 bits.
 #[tactic(auto, unfolding(evm_model::specs::Flags::flags_post))]
 pub fn flags_post(parts: &mut Parts, flags: u64, bits: u64) -> Outcome
     requires room { HasRoom PER_CALL parts.old }

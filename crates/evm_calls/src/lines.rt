@@ -9,8 +9,8 @@ use crate::waits::wait_refusal;
 use evm_model::{Errno, Outcome, Stage, Wait};
 use evm_parts::Parts;
 
-/// Call 6: the task waits until the line is played in-band on its processor, and is answered 0 then. -22 where there
-/// is no such line, else -1 while in-band is stalled.
+/// Call 6: waits until the line is played in-band on the task's processor. Returns 0 then, -22 if there is no such line,
+/// and -1 while the in-band stage is stalled.
 #[tactic(auto, unfolding(evm_model::specs::InBandCalls::wait_line))]
 pub fn wait_line(parts: &mut Parts, c: u8, t: u8, line: u64) -> Outcome
     requires room { HasRoom PER_CALL parts.old }

@@ -45,9 +45,8 @@ fn mutex_of(kind: u64, priority: u64) -> Option<Mutex>
     }
 }
 
-/// Call 9: a new mutex; answers its number. Of kind 0 and 1 it ranks its owner as each task that waits for it, of 2
-/// and 3 as its ceiling, a priority of 1 to 99; of 1 and 3 its owner may lock it again. -22 where there is no such kind
-/// or ceiling, else -12 where there are 32 mutexes.
+/// Call 9: creates a mutex and returns its number. Kinds 0 and 1 inherit priority, 2 and 3 have the ceiling `priority` (1
+/// to 99); odd kinds are recursive. Returns -22 if the kind or the ceiling is invalid, -12 if there are 32 mutexes.
 #[tactic(auto, unfolding(evm_model::specs::Locks::new_mutex))]
 pub fn new_mutex(parts: &mut Parts, kind: u64, priority: u64) -> Outcome
     ensures { (parts.new, result) ≡ new_mutex kind priority parts.old }
@@ -137,10 +136,10 @@ fn take_or_wait(parts: &mut Parts, c: u8, t: u8, mutex: u64, deadline: u64) -> O
     }
 }
 
-/// Call 36: the task has a mutex, or waits until it has it; answers 0. -22 where there is no such mutex. Where the
-/// task owns it, it has it once more, or -35 if it isn't recursive. Where another one does, -1 while out-of-band is
-/// stalled, else -35 where that one waits for the task by some chain, else -110 where the deadline has come. -35 makes a
-/// notice.
+/// Call 36: locks the mutex. Waits if another task owns it, until `deadline` in ticks if that isn't 0. Returns 0; -22 if
+/// there is no such mutex; -35 if the task owns it and it isn't recursive. If it would wait: -1 while the out-of-band stage
+/// is stalled, -35 if the owner waits for the task, through any chain, -110 if the deadline has come, at the call or later.
+/// -35 makes a notice.
 #[tactic(auto, unfolding(evm_model::specs::Locks::lock))]
 pub fn lock(parts: &mut Parts, c: u8, t: u8, mutex: u64, deadline: u64) -> Outcome
     requires room { HasRoom PER_CALL parts.old }
@@ -172,8 +171,8 @@ fn take_at_once(parts: &mut Parts, t: u8, mutex: u64) -> Outcome
     }
 }
 
-/// Call 37: the task has a mutex, if it need not wait for it; answers 0. -22 where there is no such mutex, -16 where
-/// another task owns it. Where the task owns it, it has it once more, or -35 if it isn't recursive, with a notice.
+/// Call 37: locks the mutex if it is free, or recursive and the task's own. Returns 0; -22 if there is no such mutex; -16
+/// if another task owns it; -35, with a notice, if the task owns it and it isn't recursive.
 #[tactic(auto, unfolding(evm_model::specs::Locks::try_lock))]
 pub fn try_lock(parts: &mut Parts, t: u8, mutex: u64) -> Outcome
     requires room { HasRoom PER_CALL parts.old }
@@ -215,9 +214,8 @@ fn give_back(parts: &mut Parts, t: u8, mutex: u64) -> Outcome
     Outcome::Returns(0)
 }
 
-/// Call 38: the task gives a mutex back, once for each time that it locked it; answers 0. The last time the first of
-/// the tasks that wait for it has it. -22 where there is no such mutex, else -1 where the task doesn't own it, with a
-/// notice.
+/// Call 38: unlocks the mutex once. At the last time the first task that waits for it becomes its owner. Returns 0; -22 if
+/// there is no such mutex; -1, with a notice, if the task doesn't own it.
 #[tactic(auto, using(crate::proofs::Notices::unlocked), unfolding(evm_model::specs::Locks::unlock))]
 pub fn unlock(parts: &mut Parts, t: u8, mutex: u64) -> Outcome
     requires room { HasRoom PER_CALL parts.old }

@@ -29,8 +29,8 @@ fn least_priority(class: Class) -> u64
     }
 }
 
-/// The class of a number, where it has the priority: 1 first in first out, 2 round robin, of 1 to 99, and 3 weak, of 0
-/// to 99.
+/// Returns the class of a number with a priority: 1 is first in first out and 2 round robin, with priorities 1 to 99; 3 is
+/// weak, with 0 to 99. Returns None for others.
 pub fn policy_of(class: u64, priority: u64) -> Option<Class>
     ensures row { result ≡ policy_of class priority }
     ensures range { IfSome result (λ _. priority ≤ PRIORITY_LIMIT) }
@@ -42,8 +42,8 @@ pub fn policy_of(class: u64, priority: u64) -> Option<Class>
     Some(class)
 }
 
-/// Call 7: the task has a class and a priority; answers 0. -22 where there is no such class or it has no such
-/// priority, else -16 where the task has a class.
+/// Call 7: gives the task a class, a priority and a whole slice. Returns 0; -22 if `policy_of` has no such class; -16 if
+/// the task has a class.
 #[tactic(auto, unfolding(evm_model::specs::InBandCalls::attach_task))]
 pub fn attach(parts: &mut Parts, t: u8, class: u64, priority: u64) -> Outcome
     ensures { (parts.new, result) ≡ attach_task t class priority parts.old }
@@ -58,8 +58,7 @@ pub fn attach(parts: &mut Parts, t: u8, class: u64, priority: u64) -> Outcome
     Outcome::Returns(0)
 }
 
-/// Call 8: the task has no class any more, no priority and no mode bits; answers 0. -1 where it has none, else -16
-/// while it owns a mutex.
+/// Call 8: takes class, priority and mode bits from the task. Returns 0; -1 if it has no class; -16 if it owns a mutex.
 #[tactic(auto, unfolding(evm_model::specs::InBandCalls::detach))]
 pub fn detach(parts: &mut Parts, t: u8) -> Outcome
     ensures { (parts.new, result) ≡ detach t parts.old }
@@ -74,9 +73,8 @@ pub fn detach(parts: &mut Parts, t: u8) -> Outcome
     Outcome::Returns(0)
 }
 
-/// Call 34: a task of any processor has another class and priority, and a whole slice; answers 0. -3 where
-/// there is no such task, or it has ended or has no class, else -22 where there is no such class or it has no such
-/// priority.
+/// Call 34: gives any task a class, a priority and a whole slice. Returns 0; -3 if there is no such task, it has ended, or
+/// has no class; -22 if `policy_of` has no such class.
 #[tactic(auto, unfolding(evm_model::specs::OobCalls::set_sched))]
 pub fn set_sched(parts: &mut Parts, task: u64, class: u64, priority: u64) -> Outcome
     ensures { (parts.new, result) ≡ set_sched task class priority parts.old }
@@ -91,7 +89,8 @@ pub fn set_sched(parts: &mut Parts, task: u64, class: u64, priority: u64) -> Out
     Outcome::Returns(0)
 }
 
-/// Call 35: the task has these mode bits, 1 and 2 and their sum 3; answers the old ones. -22 for more.
+/// Call 35: sets the task's mode bits, 1 (T_WOSS) and 2 (T_WOLI), and returns the old ones. Returns -22 if `bits` is above
+/// 3.
 #[tactic(auto, unfolding(evm_model::specs::OobCalls::set_mode))]
 pub fn set_mode(parts: &mut Parts, t: u8, bits: u64) -> Outcome
     ensures { (parts.new, result) ≡ set_mode t bits parts.old }

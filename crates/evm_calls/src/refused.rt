@@ -3,7 +3,7 @@ ghost use Rattle.evm_model.specs.Errnos.{refusal_answer};
 
 use evm_model::{Errno, Outcome};
 
-/// A call that is refused is answered at once.
+/// Returns from a call at once with an error.
 pub fn refused(error: Errno) -> Outcome
     ensures { result ≡ Outcome.Returns (refusal_answer error) }
 {

@@ -9,8 +9,8 @@ use crate::waits::wait_unless;
 use evm_model::{Errno, Outcome, SEMAPHORE_COUNT_LIMIT, SEMAPHORE_LIMIT, Wait};
 use evm_parts::Parts;
 
-/// Call 10: a new semaphore of this count; answers its number. -22 for a count above 2,147,483,647, else -12 if there
-/// are 32 semaphores.
+/// Call 10: creates a semaphore and returns its number. Returns -22 if `count` is above 2,147,483,647, -12 if there are 32
+/// semaphores.
 #[tactic(auto, unfolding(evm_model::specs::Semaphores::new_semaphore))]
 pub fn new_semaphore(parts: &mut Parts, count: u64) -> Outcome
     ensures { (parts.new, result) ≡ new_semaphore count parts.old }
@@ -26,8 +26,9 @@ pub fn new_semaphore(parts: &mut Parts, count: u64) -> Outcome
     Outcome::Returns(u64::from(number))
 }
 
-/// Call 39: the task takes one from a semaphore, or waits for one, until a deadline if that is not 0; answers 0. -22 if
-/// there is no such semaphore. If it would wait, -1 while out-of-band is stalled, else -110 if the deadline has come.
+/// Call 39: takes one from the count of the semaphore. Waits while it is 0, until `deadline` in ticks if that isn't 0.
+/// Returns 0; -22 if there is no such semaphore; if it would wait, -1 while the out-of-band stage is stalled, and -110 if
+/// the deadline has come, at the call or later.
 #[tactic(auto, unfolding(evm_model::specs::Semaphores::sem_get))]
 pub fn sem_get(parts: &mut Parts, c: u8, t: u8, semaphore: u64, deadline: u64) -> Outcome
     requires room { HasRoom PER_CALL parts.old }
@@ -47,7 +48,7 @@ pub fn sem_get(parts: &mut Parts, c: u8, t: u8, semaphore: u64, deadline: u64) -
     }
 }
 
-/// Call 40: the task takes one from a semaphore; answers 0. -22 if there is no such semaphore, -11 if it is empty.
+/// Call 40: takes one from the count of the semaphore. Returns 0; -22 if there is no such semaphore; -11 if its count is 0.
 #[tactic(auto, unfolding(evm_model::specs::Semaphores::sem_try_get))]
 pub fn sem_try_get(parts: &mut Parts, semaphore: u64) -> Outcome
     ensures { (parts.new, result) ≡ sem_try_get semaphore parts.old }
@@ -66,8 +67,8 @@ pub fn sem_try_get(parts: &mut Parts, semaphore: u64) -> Outcome
     }
 }
 
-/// Call 41: one is put into a semaphore: the first task that waits for it wakes, or the count is one more; answers 0.
-/// -22 if there is no such semaphore, or if its count is 2,147,483,647.
+/// Call 41, on either stage: wakes the first task that waits for the semaphore, or adds one to its count. Returns 0, or -22
+/// if there is no such semaphore, or nobody waits and its count is 2,147,483,647.
 #[tactic(auto, unfolding(evm_model::specs::Semaphores::sem_put))]
 pub fn sem_put(parts: &mut Parts, semaphore: u64) -> Outcome
     requires room { HasRoom PER_CALL parts.old }

@@ -9,8 +9,7 @@ use crate::refused::refused;
 use evm_model::{Errno, Outcome, Stage};
 use evm_parts::Parts;
 
-/// Calls 4 and 5, 51 and 52: a stage of the processor, in-band or out-of-band, is stalled, or not; answers the old
-/// bit.
+/// Calls 4 and 5, 51 and 52: stalls a stage of the processor, or unstalls it. Returns 1 if it was stalled, else 0.
 #[tactic(auto, unfolding(evm_model::specs::OobCalls::stall))]
 pub fn stall(parts: &mut Parts, stage: Stage, stalled: bool, c: u8) -> Outcome
     ensures { (parts.new, result) ≡ stall stage stalled c parts.old }
@@ -20,8 +19,7 @@ pub fn stall(parts: &mut Parts, stage: Stage, stalled: bool, c: u8) -> Outcome
     Outcome::Returns(u64::from(old))
 }
 
-/// Call 32: the task is out-of-band; answers 0. That it goes there is no work of the call: it is promoted for any
-/// out-of-band call.
+/// Call 32: returns 0. The task is out-of-band by then, as an out-of-band call promotes it.
 #[tactic(auto, unfolding(evm_model::specs::OobCalls::switch_oob))]
 pub fn switch_oob(parts: &Parts) -> Outcome
     ensures { (parts.now, result) ≡ switch_oob parts.now }
@@ -29,7 +27,7 @@ pub fn switch_oob(parts: &Parts) -> Outcome
     Outcome::Returns(0)
 }
 
-/// Call 33: the task goes in-band; answers 0, or -1 while out-of-band is stalled.
+/// Call 33: the task goes in-band, with a fresh stamp. Returns 0, or -1 while the out-of-band stage is stalled.
 #[tactic(auto, unfolding(evm_model::specs::OobCalls::switch_in_band))]
 pub fn switch_in_band(parts: &mut Parts, c: u8, t: u8) -> Outcome
     requires room { HasRoom PER_CALL parts.old }
@@ -42,9 +40,9 @@ pub fn switch_in_band(parts: &mut Parts, c: u8, t: u8) -> Outcome
     Outcome::Returns(0)
 }
 
-/// Call 55: the task goes on processor `cpu`, ready there with a fresh stamp; a weak task that owns no mutex goes in-band.
-/// Returns 0, at once if it is on that processor. Returns -22 if there is no such processor, -16 while out-of-band is
-/// stalled on its own.
+/// Call 55: moves the task to processor `cpu`, ready there with a fresh stamp; a weak task that owns no mutex goes in-band.
+/// Returns 0, at once if it is there already; -22 if there is no such processor; -16 while the out-of-band stage of its own
+/// is stalled.
 #[tactic(auto, using(crate::proofs::Objects::objects), unfolding(evm_model::specs::OobCalls::migrate))]
 pub fn migrate(parts: &mut Parts, c: u8, t: u8, cpu: u64) -> Outcome
     requires room { HasRoom PER_CALL parts.old }
@@ -69,8 +67,8 @@ fn bit(b: bool) -> u64
     u64::from(b)
 }
 
-/// Call 54, of either stage: answers the sum of 1 where the task is out-of-band, 2 where it has a class, and 4 where
-/// the stage that it is on is stalled.
+/// Call 54, on either stage: returns a sum of 1 if the task is out-of-band, 2 if it has a class, and 4 if its stage is
+/// stalled.
 #[tactic(auto, unfolding(evm_model::specs::OobCalls::state_bits))]
 pub fn state_bits(parts: &Parts, c: u8, t: u8) -> Outcome
     ensures { (parts.now, result) ≡ state_bits c t parts.now }

@@ -10,7 +10,7 @@ use evm_model::{Errno, Outcome, Stage, TASK_LIMIT, TaskState};
 use evm_parts::Parts;
 use evm_ram::BASE;
 
-/// Call 0: the task ends. Its mutexes pass on, and the stall of its processor's in-band stage ends with it.
+/// Call 0: ends the task. Its mutexes pass on, and the in-band stage of its processor is unstalled.
 #[tactic(auto, unfolding(evm_model::specs::InBandCalls::exit))]
 pub fn exit(parts: &mut Parts, c: u8, t: u8) -> Outcome
     requires room { HasRoom PER_CALL parts.old }
@@ -20,7 +20,8 @@ pub fn exit(parts: &mut Parts, c: u8, t: u8) -> Outcome
     Outcome::Exits
 }
 
-/// Call 2: the task goes behind the others that are ready in-band; answers 0, or -1 while in-band is stalled.
+/// Call 2: puts the task behind the others that are ready in-band on the processor. Returns 0, or -1 while the in-band
+/// stage is stalled.
 #[tactic(auto, unfolding(evm_model::specs::InBandCalls::yield_now))]
 pub fn yield_now(parts: &mut Parts, c: u8, t: u8) -> Outcome
     requires room { HasRoom PER_CALL parts.old }
@@ -41,9 +42,9 @@ fn is_bad_entry(ram: u64, entry: u64) -> bool
     entry % 4 != 0 || entry < BASE || entry - BASE >= ram
 }
 
-/// Call 3: a new task of a processor, ready in-band, whose pc is the entry and whose a0 is the value; answers its
-/// number. -22 where the entry is no multiple of 4 in RAM or there is no such processor, else -12 where there are
-/// 64 tasks.
+/// Call 3: creates a task of a processor, ready in-band at `entry` with `value` in a0 and other registers 0, and returns
+/// its number. Returns -22 if the entry is no multiple of 4 in RAM or there is no such processor, -12 if there are 64
+/// tasks.
 #[tactic(auto, unfolding(evm_model::specs::InBandCalls::spawn))]
 pub fn spawn(parts: &mut Parts, entry: u64, value: u64, cpu: u64) -> Outcome
     requires room { HasRoom PER_CALL parts.old }
@@ -60,7 +61,7 @@ pub fn spawn(parts: &mut Parts, entry: u64, value: u64, cpu: u64) -> Outcome
     Outcome::Returns(u64::from(number))
 }
 
-/// Call 50: the task goes behind the others of its rank that are ready out-of-band; answers 0.
+/// Call 50: puts the task behind the others of its rank that are ready out-of-band. Returns 0.
 #[tactic(auto, unfolding(evm_model::specs::OobCalls::yield_oob))]
 pub fn yield_oob(parts: &mut Parts, t: u8) -> Outcome
     requires room { HasRoom PER_CALL parts.old }

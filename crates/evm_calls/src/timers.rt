@@ -9,7 +9,7 @@ use crate::waits::wait_unless;
 use evm_model::{Errno, Outcome, TIMER_LIMIT, TIMER_SPAN_LIMIT, Wait};
 use evm_parts::Parts;
 
-/// Call 13: a new timer, which is off; answers its number. -12 if there are 32 timers.
+/// Call 13: creates a timer that is off and returns its number. Returns -12 if there are 32 timers.
 #[tactic(auto, unfolding(evm_model::specs::Timers::new_timer))]
 pub fn new_timer(parts: &mut Parts) -> Outcome
     ensures { (parts.new, result) ≡ new_timer parts.old }
@@ -22,9 +22,9 @@ pub fn new_timer(parts: &mut Parts) -> Outcome
     Outcome::Returns(u64::from(number))
 }
 
-/// Call 48: a timer expires first at a tick, then every period, as the calling processor plays the tick; a first tick of 0
-/// turns it off, and with a period of 0 it expires once. Its expiries are 0 then, and a task that waits for it still waits.
-/// Answers 0; -22 if there is no such timer, or for a tick or a period past 9,223,372,036,854,775,807.
+/// Call 48: sets a timer of this processor to expire at tick `first`, and then every `period` ticks, or once if that is 0;
+/// a first tick of 0 turns it off. Its expiries become 0; a task that waits for it still waits. Returns 0, or -22 if there
+/// is no such timer, or `first` or `period` is above 9,223,372,036,854,775,807.
 #[tactic(auto, unfolding(evm_model::specs::Timers::timer_set))]
 pub fn timer_set(parts: &mut Parts, c: u8, timer: u64, first: u64, period: u64) -> Outcome
     ensures { (parts.new, result) ≡ timer_set c timer first period parts.old }
@@ -39,8 +39,9 @@ pub fn timer_set(parts: &mut Parts, c: u8, timer: u64, first: u64, period: u64) 
     Outcome::Returns(0)
 }
 
-/// Call 49: the task takes the expiries of a timer, or waits for one; answers how many there are. -22 if there is no such
-/// timer, -11 if it has not expired and is off. If it would wait, -1 while out-of-band is stalled.
+/// Call 49: returns the number of expiries since the last one that was asked for, and sets it to 0. Waits while it is 0.
+/// Returns -22 if there is no such timer; -11 if it hasn't expired and is off; -1 if it would wait while the out-of-band
+/// stage is stalled.
 #[tactic(auto, unfolding(evm_model::specs::Timers::timer_wait))]
 pub fn timer_wait(parts: &mut Parts, c: u8, t: u8, timer: u64) -> Outcome
     requires room { HasRoom PER_CALL parts.old }

@@ -20,8 +20,8 @@ fn late(now: u64, deadline: u64) -> Option<Errno>
     }
 }
 
-/// Why a call may not wait on a stage, in this order: -1 where the stage is stalled, the call's own reason, and -110 where
-/// its deadline has come.
+/// Returns why a call may not wait on a stage, the first of: -1 if the stage is stalled, the call's own reason, -110 if its
+/// deadline has come.
 pub fn wait_refusal(
     parts: &Parts,
     c: u8,
@@ -40,8 +40,8 @@ pub fn wait_refusal(
     }
 }
 
-/// The task waits out-of-band, until a deadline if that is not 0. Else the call is refused: -1 while that stage is stalled,
-/// else for the call's own reason, else -110 where the deadline has come.
+/// The task waits out-of-band, until `deadline` in ticks if that isn't 0, unless `wait_refusal` has a reason, which is
+/// returned.
 pub fn wait_unless(
     parts: &mut Parts,
     c: u8,
