@@ -127,7 +127,7 @@ fn ask_oob(parts: &mut Parts, c: u8, t: u8)
     }
 }
 
-// The task goes in-band, its pc unchanged, so that it makes its call again there; with a notice.
+// The task goes in-band, its pc unchanged, so that it makes its call again there. With T_WOSS it gets a notice.
 #[tactic(auto, using(crate::proofs::Notices::demoted))]
 fn demote(parts: &mut Parts, c: u8, t: u8)
     requires room { HasRoom PER_CALL parts.old }
@@ -137,7 +137,7 @@ fn demote(parts: &mut Parts, c: u8, t: u8)
     parts.notify(NoticeKind::DemotedByCall, t);
 }
 
-// A call of the other stage changes the task's stage first, in-band with a notice; one of either stage never does.
+// A call of the other stage changes the task's stage first; one of either stage never does.
 #[tactic(auto, using(crate::proofs::Asked::made))]
 fn call_on(parts: &mut Parts, call: Call, asked: Asked, c: u8, t: u8)
     requires room { HasRoom PER_CALL parts.old }
@@ -163,9 +163,10 @@ fn offered(profile: Profile, call: Option<Call>) -> Option<Call>
     }
 }
 
-/// Does the ECALL of the current task of a processor. A call of the in-band kernel by an out-of-band task demotes it, with
-/// a notice; a call of the out-of-band kernel by an in-band task promotes it, or returns -1 where it can't. The pc stays at
-/// the ECALL, so the task calls again on the other stage. Returns -38 if the profile has no call of that number.
+/// Does the ECALL of the current task of a processor. A call of the in-band kernel by an out-of-band task demotes it; with
+/// T_WOSS the task gets a notice. A call of the out-of-band kernel by an in-band task promotes it, or returns -1 where it
+/// can't. The pc stays at the ECALL, so the task calls again on the other stage. Returns -38 if the profile has no call of
+/// that number.
 #[tactic(auto, unfolding(evm_model::specs::Calls::call))]
 pub fn call(parts: &mut Parts, c: u8, t: u8)
     requires room { HasRoom PER_CALL parts.old }

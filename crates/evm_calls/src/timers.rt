@@ -39,7 +39,7 @@ pub fn timer_set(parts: &mut Parts, c: u8, timer: u64, first: u64, period: u64) 
     Outcome::Returns(0)
 }
 
-/// Call 49: returns the number of expiries since the last one that was asked for, and sets it to 0. Waits while it is 0.
+/// Call 49: returns the number of expiries that no task has taken yet, and sets it to 0. Waits while it is 0.
 /// Returns -22 if there is no such timer; -11 if it hasn't expired and is off; -1 if it would wait while the out-of-band
 /// stage is stalled.
 #[tactic(auto, unfolding(evm_model::specs::Timers::timer_wait))]
