@@ -1,14 +1,19 @@
 -- Settling out-of-band in two steps, and the room that each takes up.
 use Rattle.std.proofs.Common.{◌≡◌, ℕ, List, ◌+◌, ◌-◌, Bool, true, false, Option, Some, None, [], refl, ap, sym, ◌∙◌, arith}
-use Rattle.std.specs.Prelude.{not, ◌&&◌, slice_get, if◌then◌else◌}
+use Rattle.std.specs.Option.{is_some}
+use Rattle.std.specs.Prelude.{not, ◌&&◌, slice_get, option_map, if◌then◌else◌}
 use Rattle.evm_lines.specs.declared.TheConstants.{LINES}
+use Rattle.evm_model.proofs.Lists.{change-here}
 use Rattle.evm_model.specs.Bounds.{COUNT_LIMIT, PER_IN_BAND_LOG, PER_OOB_LOG, PER_SETTLING, HasStamps, PipesUpTo}
 use Rattle.evm_model.specs.Pipes.{Pipe}
-use Rattle.evm_model.specs.Settle.{current, is_oob, differs, play_oob_lines, run_best, settle_oob, settle_oob_pipe, settle_in_band, settle, play_in_band_lines, play_in_band_pipe, nudge, settle_and_nudge}
+use Rattle.evm_model.specs.Ranks.{best}
+use Rattle.evm_model.specs.Settle.{current, current_of, is_oob, differs, play_oob_lines, run_best, settle_oob, settle_oob_pipe, settle_in_band, settle, turn_in_band, play_in_band_lines, play_in_band_pipe, nudge, settle_and_nudge}
 use Rattle.evm_model.specs.State.{Parts, on_watch}
 use Rattle.evm_model.specs.Watch.{or_zero, watch, rest_watch}
 use Rattle.evm_model.specs.declared.limits.TheConstants.{PROCESSOR_LIMIT}
+use Rattle.evm_model.specs.declared.processor.Processor.{Processor}
 use Rattle.law_rules.proofs.Bounded.{AreWithin, within-more, within-settle_oob, within-settle_in_band}
+use Rattle.law_rules.proofs.Firsts.{best-is_oob}
 use Rattle.law_rules.proofs.law_walk.Counted.{PipesUpTo-more}
 use Rattle.evm_settle.proofs.Unwatched.{unwatched, watches-choose, watches-settle_in_band}
 use Rattle.evm_settle.specs.Steps.{play_oob_pipe, chooses, choose}
@@ -39,6 +44,31 @@ choose-pipes c false k = refl
 pub choose-stamps : (c : ℕ) (b : Bool) (k : Parts) → (choose b c k).stamps ≡ k.stamps
 choose-stamps c true k = refl
 choose-stamps c false k = refl
+
+-- ---- a best task is out-of-band, so no in-band part follows it
+current-at : (o : Option Processor) (now : Option ℕ) → is_some (option_map (λ (p : Processor). record p { current = now }) o) ≡ true → current_of (option_map (λ (p : Processor). record p { current = now }) o) ≡ now
+current-at None now here = cc
+current-at (Some p) now here = refl
+
+current-best : (c : ℕ) (k : Parts) → is_some (slice_get (run_best c k).processors c) ≡ true → current c (run_best c k) ≡ best c k.mutexes k.tasks
+current-best c k here =
+    let now : Option ℕ = best c k.mutexes k.tasks in
+    let there = change-here (λ (p : Processor). record p { current = now }) k.processors c in
+    ap current_of there ∙ current-at (slice_get k.processors c) now (sym (ap is_some there) ∙ here)
+
+oob-some : (c : ℕ) (o : Option ℕ) (k : Parts) → best c k.mutexes k.tasks ≡ o → is_some o ≡ true → is_oob o k.tasks ≡ true
+oob-some c None k e h = cc
+oob-some c (Some t) k e h = best-is_oob c t k.mutexes k.tasks e
+
+stays : (b : Bool) (x y : Parts) → b ≡ true → x ≡ (if b then x else y)
+stays true x y h = refl
+stays false x y h = cc
+
+pub chosen-stays : (c : ℕ) (k : Parts) → is_some (best c k.mutexes k.tasks) ≡ true → is_some (slice_get (run_best c k).processors c) ≡ true
+    → run_best c k ≡ settle_in_band c (run_best c k)
+unfolding settle_in_band
+chosen-stays c k some here =
+    stays (is_oob (current c (run_best c k)) k.tasks) (run_best c k) (turn_in_band c (run_best c k)) (rw (current-best c k here) (oob-some c (best c k.mutexes k.tasks) k refl some))
 
 -- ---- room
 pub room-first : (k : Parts) → AreWithin (COUNT_LIMIT - PER_SETTLING) k → PipesUpTo (COUNT_LIMIT - PER_OOB_LOG) k.pipes
@@ -110,5 +140,7 @@ pub room-unplayed : (k : Parts) → AreWithin (COUNT_LIMIT - PER_SETTLING) k →
 room-unplayed k w = within-more (COUNT_LIMIT - PER_SETTLING) (COUNT_LIMIT - PER_IN_BAND_LOG) k (omega arith) w
 
 pub ruleset steps = (room-first, room-up, room-played, room-chosen, stamps-chosen, room-settled, room-turned, settle-unwatched, settle_and_nudge-steps, settle-unplayed, room-unplayed)
+
+pub ruleset chosen = (room-up, chosen-stays)
 
 pub ruleset unplayed = (unplayed-oob, unplayed-in_band)

@@ -35,16 +35,6 @@ fn play_oob_log(parts: &mut Parts, was: Option<u8>, c: u8) -> bool
     true
 }
 
-// The best task is current, if it is to be.
-fn choose(parts: &mut Parts, c: u8, chooses: bool)
-    ensures { parts.new ≡ choose chooses c parts.old }
-{
-    if chooses {
-        let best = parts.best(c);
-        parts.set_current(c, best);
-    }
-}
-
 // Takes up an in-band task where there is none, and makes it current.
 fn run_in_band(parts: &mut Parts, c: u8)
     ensures { parts.new ≡ run_in_band c parts.old }
@@ -131,6 +121,23 @@ fn settle_in_band(parts: &mut Parts, c: u8)
     }
 }
 
+// The best task is current, if it is to be, and the in-band part follows. A best task is out-of-band, so nothing follows it.
+#[tactic(auto, using(crate::proofs::Steps::chosen))]
+fn choose_and_settle(parts: &mut Parts, c: u8, chooses: bool)
+    requires room { AreWithin (COUNT_LIMIT - PER_IN_BAND_LOG) parts.old }
+    requires stamps { HasStamps PER_IN_BAND_LOG parts.old }
+    ensures { parts.new ≡ settle_in_band c (choose chooses c parts.old) }
+{
+    if chooses {
+        let best = parts.best(c);
+        parts.set_current(c, best);
+        if best.is_some() && parts.processor(c).is_some() {
+            return;
+        }
+    }
+    settle_in_band(parts, c);
+}
+
 // What follows once the out-of-band log is played, where a task is ready out-of-band and the watchdog may have counted.
 #[inline(never)]
 #[tactic(auto, using(crate::proofs::Steps::steps))]
@@ -139,8 +146,7 @@ fn settle_watched(parts: &mut Parts, was: Option<u8>, c: u8, chooses: bool)
     requires stamps { HasStamps PER_IN_BAND_LOG parts.old }
     ensures { parts.new ≡ nudge c (rest_watch was c (settle_in_band c (choose chooses c parts.old))) }
 {
-    choose(parts, c, chooses);
-    settle_in_band(parts, c);
+    choose_and_settle(parts, c, chooses);
     parts.rest_watch(was, c);
     nudge(parts, c);
 }
@@ -153,8 +159,7 @@ fn settle_unwatched(parts: &mut Parts, c: u8, chooses: bool)
     requires at_rest { watch c parts.old ≡ 0 }
     ensures { (was : Option ℕ) → parts.new ≡ nudge c (rest_watch was c (settle_in_band c (choose chooses c parts.old))) }
 {
-    choose(parts, c, chooses);
-    settle_in_band(parts, c);
+    choose_and_settle(parts, c, chooses);
     nudge(parts, c);
 }
 
