@@ -1,7 +1,9 @@
 //! What the journal of a script gives back.
 
-ghost use Rattle.law_replays.specs.Machines.{WritesItAgain};
-ghost use Rattle.law_replays.specs.Scripts.{PrintsItsJournal, ShowsItsMachine};
+ghost use Rattle.claims_texts.specs.Machines.{WritesItAgain};
+ghost use Rattle.claims_texts.specs.Scripts.{PrintsItsJournal, ShowsItsMachine};
+
+use crate::replays::{a_printed_journal_shows_its_machine, a_replayed_journal_is_written_again};
 
 /// One more line `journal` after a script with an image prints the journal of the machine that the script leaves; that
 /// text, replayed with the same devices and image, shows that machine, with status 0. The machine that a journal makes
@@ -11,6 +13,6 @@ pub fn a_script_is_its_journal()
     ensures shows { ShowsItsMachine }
     ensures again { WritesItAgain }
 {
-    law_replays::a_printed_journal_shows_its_machine();
-    law_replays::a_replayed_journal_is_written_again();
+    a_printed_journal_shows_its_machine();
+    a_replayed_journal_is_written_again();
 }

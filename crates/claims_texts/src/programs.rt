@@ -1,10 +1,19 @@
 //! What a machine does with an assembled program.
 
-ghost use Rattle.law_programs.specs.Expansions.{EachLiIsExecuted, EachLaIsExecuted};
-ghost use Rattle.law_programs.specs.Loading.{LoadsWhereItFits, RefusedWhereItDoesNot, AssembledAndRun};
-ghost use Rattle.law_programs.specs.Pseudo.{LiLeavesItsNumber, LaLeavesItsAddress, WhatIsLoadedIsRead, EachLiLoads, EachLaLoads, OperandsAreInRange};
-ghost use Rattle.law_programs.specs.Running.{OfEachLine, ExecutesLine, StepsLine, AcceptsStep};
-ghost use Rattle.law_programs.specs.Staying.{ALineStays, RunsAsAssembled};
+ghost use Rattle.claims_texts.specs.Expansions.{EachLiIsExecuted, EachLaIsExecuted};
+ghost use Rattle.claims_texts.specs.Loading.{LoadsWhereItFits, RefusedWhereItDoesNot, AssembledAndRun};
+ghost use Rattle.claims_texts.specs.Pseudo.{LiLeavesItsNumber, LaLeavesItsAddress, WhatIsLoadedIsRead, EachLiLoads, EachLaLoads, OperandsAreInRange};
+ghost use Rattle.claims_texts.specs.Running.{OfEachLine, ExecutesLine, StepsLine, AcceptsStep};
+ghost use Rattle.claims_texts.specs.Staying.{ALineStays, RunsAsAssembled};
+
+use crate::expansions::{each_la_is_executed, each_li_is_executed};
+use crate::loading::{an_assembled_image_loads, assembled_and_run};
+use crate::pseudo::{
+    each_la_loads, each_li_loads, la_leaves_its_address, li_leaves_its_number,
+    operands_are_in_range, what_is_loaded_is_read,
+};
+use crate::running::{a_step_does_its_line, a_word_is_its_instruction};
+use crate::staying::{a_line_stays, an_assembled_program_runs};
 
 /// A program whose bytes fit RAM is loaded, and another is refused with BadAddress. The first Step does the line at
 /// 0x80000000.
@@ -13,8 +22,8 @@ pub fn an_image_loads_where_it_fits()
     ensures refused { RefusedWhereItDoesNot }
     ensures runs { AssembledAndRun }
 {
-    law_programs::an_assembled_image_loads();
-    law_programs::assembled_and_run();
+    an_assembled_image_loads();
+    assembled_and_run();
 }
 
 /// A Step of a processor whose task comes to the address of a line does the line's instruction, after any events that
@@ -26,10 +35,10 @@ pub fn each_line_does_its_instruction()
     ensures stays { ALineStays }
     ensures runs { RunsAsAssembled }
 {
-    law_programs::a_word_is_its_instruction();
-    law_programs::a_step_does_its_line();
-    law_programs::a_line_stays();
-    law_programs::an_assembled_program_runs();
+    a_word_is_its_instruction();
+    a_step_does_its_line();
+    a_line_stays();
+    an_assembled_program_runs();
 }
 
 /// The instructions of `li rd,n` and `la rd,l`, done one after the other, leave n, or the address of l, in rd and the
@@ -44,12 +53,12 @@ pub fn li_and_la_load_what_they_name()
     ensures li_executed { EachLiIsExecuted }
     ensures la_executed { EachLaIsExecuted }
 {
-    law_programs::li_leaves_its_number();
-    law_programs::la_leaves_its_address();
-    law_programs::what_is_loaded_is_read();
-    law_programs::operands_are_in_range();
-    law_programs::each_li_loads();
-    law_programs::each_la_loads();
-    law_programs::each_li_is_executed();
-    law_programs::each_la_is_executed();
+    li_leaves_its_number();
+    la_leaves_its_address();
+    what_is_loaded_is_read();
+    operands_are_in_range();
+    each_li_loads();
+    each_la_loads();
+    each_li_is_executed();
+    each_la_is_executed();
 }

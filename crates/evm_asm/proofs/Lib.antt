@@ -8,3 +8,4 @@ pub mod Statements_add_their_size
 pub mod Placed_where_laid
 pub mod Programs_as_meant
 pub use Rattle.evm_asm_parser.proofs as evm_asm_parser
+mod Behind

@@ -11,3 +11,5 @@ pub mod ProgramLaws
 pub mod Sizes
 pub use Rattle.evm_asm_parser.specs.evm_asm_lexer as evm_asm_lexer
 pub use Rattle.evm_asm_parser.specs as evm_asm_parser
+pub mod Quoting
+pub mod Details

@@ -12,7 +12,6 @@ pub mod Script
 pub mod Serving
 pub mod Starting
 pub use Rattle.evm_elf.specs.evm_asm as evm_asm
-pub use Rattle.evm_asm_details.specs as evm_asm_details
 pub use Rattle.evm_elf.specs.evm_asm_lexer as evm_asm_lexer
 pub use Rattle.evm_diagnostics.specs.evm_core as evm_core
 pub use Rattle.evm_diagnostics.specs.evm_debug as evm_debug

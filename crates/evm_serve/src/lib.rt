@@ -16,7 +16,7 @@ mod texts;
 
 pub use assembling::assemble_to;
 pub use ending::{Ending, Verdict};
-pub use evm_asm_details::{Extension, SourceDetail, quoted, source_detail};
+pub use evm_asm::{Extension, SourceDetail, quoted, source_detail};
 pub use evm_diagnostics::{
     Devices, InputFault, Machine, StepNote, StopPlace, cut_line, fault_detail, has_boot,
     line_numbered, write_journal,

@@ -4,8 +4,7 @@ use crate::call::Call;
 use crate::writing::{
     push, push_gap, push_hex, push_quoted, push_some, push_some_hexadecimal, push_some_quoted,
 };
-use evm_asm::{Program, assemble};
-use evm_asm_details::{quoted, source_detail};
+use evm_asm::{Program, assemble, quoted, source_detail};
 use std::io::{self, ErrorKind};
 
 /// The line and the number of the fault.

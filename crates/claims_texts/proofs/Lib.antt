@@ -1,0 +1,26 @@
+pub mod Words_in_range
+pub mod Items_worded
+pub mod Data_at_its_base
+pub mod Data_there
+pub mod Labels_found
+pub mod Source_order
+pub mod First_fault
+pub mod Operand_faults
+pub mod Statement_faults
+pub mod Line_faults
+pub mod Doing
+pub mod Each
+pub mod Executing
+pub mod Limits
+pub mod Loaded
+pub mod Operands_read
+pub mod Sparing
+pub mod Standing
+pub mod Statements_read
+pub mod Taking
+pub mod Again
+pub mod Events
+pub mod Printing
+pub mod Scripts
+pub mod Written
+mod Lines

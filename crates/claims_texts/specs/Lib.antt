@@ -1,0 +1,13 @@
+pub mod Wording
+pub mod Standing
+pub mod Least
+pub mod HasFault
+pub mod FirstFault
+pub mod Running
+pub mod Loading
+pub mod Staying
+pub mod Pseudo
+pub mod Expansions
+pub mod Scripts
+pub mod Machines
+pub mod Sessions

@@ -1,6 +1,0 @@
-use Rattle.std.proofs.Common.{◌≡◌, ◌-◌}
-use Rattle.evm_asm_details.specs.Quoting.{behind_lines}
-use Rattle.evm_asm_details.proofs.quoting.behind_lines.Given as goal
-
-abbrev pub invariant-loop : goal.invariant-loop
-invariant-loop l = behind_lines (l.lines - l.counter) l.rest ≡ behind_lines l.lines l.source

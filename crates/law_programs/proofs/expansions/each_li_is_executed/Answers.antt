@@ -1,5 +1,0 @@
-use Rattle.law_programs.proofs.Executing.{each_li_is_executed}
-use Rattle.law_programs.proofs.expansions.each_li_is_executed.Goals as goal
-
-pub returns : goal.returns
-returns c = each_li_is_executed c.decoded_by_table.ensures c.all_that_is_meant_stands.ensures c.lines_are_worded.ensures c.each_li_loads.ensures

@@ -1,5 +1,0 @@
-use Rattle.law_programs.proofs.Each.{each_li_loads}
-use Rattle.law_programs.proofs.pseudo.each_li_loads.Goals as goal
-
-pub returns : goal.returns
-returns c = each_li_loads c.li_loads.ensures

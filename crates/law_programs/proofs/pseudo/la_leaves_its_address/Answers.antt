@@ -1,5 +1,0 @@
-use Rattle.law_programs.proofs.Loaded.{la_leaves_its_address}
-use Rattle.law_programs.proofs.pseudo.la_leaves_its_address.Goals as goal
-
-pub returns : goal.returns
-returns c = la_leaves_its_address c.la_loads.ensures

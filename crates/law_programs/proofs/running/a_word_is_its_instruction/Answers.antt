@@ -1,5 +1,0 @@
-use Rattle.law_programs.proofs.Doing.{executes}
-use Rattle.law_programs.proofs.running.a_word_is_its_instruction.Goals as goal
-
-pub returns : goal.returns
-returns c = λ source p e k d less. executes c.decoded_by_table.ensures _ (c.lines_are_worded.ensures source p e k d less)

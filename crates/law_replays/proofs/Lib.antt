@@ -1,5 +1,0 @@
-pub mod Again
-pub mod Events
-pub mod Printing
-pub mod Scripts
-pub mod Written

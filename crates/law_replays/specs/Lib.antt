@@ -1,3 +1,0 @@
-pub mod Scripts
-pub mod Machines
-pub use Rattle.evm_serve.specs as evm_serve

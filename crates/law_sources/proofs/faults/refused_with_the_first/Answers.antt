@@ -1,5 +1,0 @@
-use Rattle.law_sources.proofs.First_fault.{refused_with_the_first}
-use Rattle.law_sources.proofs.faults.refused_with_the_first.Goals as goal
-
-pub returns : goal.returns
-returns c = refused_with_the_first

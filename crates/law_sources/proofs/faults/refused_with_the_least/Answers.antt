@@ -1,5 +1,0 @@
-use Rattle.law_sources.proofs.Line_faults.{refused_with_the_least}
-use Rattle.law_sources.proofs.faults.refused_with_the_least.Goals as goal
-
-pub returns : goal.returns
-returns c = refused_with_the_least

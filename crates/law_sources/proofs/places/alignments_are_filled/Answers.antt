@@ -1,5 +1,0 @@
-use Rattle.law_sources.proofs.Data_there.{alignments_are_filled}
-use Rattle.law_sources.proofs.places.alignments_are_filled.Goals as goal
-
-pub returns : goal.returns
-returns c = alignments_are_filled

@@ -1,5 +1,0 @@
-use Rattle.law_sources.proofs.Source_order.{labels_stand_in_order}
-use Rattle.law_sources.proofs.places.labels_stand_in_order.Goals as goal
-
-pub returns : goal.returns
-returns c = labels_stand_in_order

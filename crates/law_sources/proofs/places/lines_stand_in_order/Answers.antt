@@ -1,5 +1,0 @@
-use Rattle.law_sources.proofs.Source_order.{lines_stand_in_order}
-use Rattle.law_sources.proofs.places.lines_stand_in_order.Goals as goal
-
-pub returns : goal.returns
-returns c = lines_stand_in_order

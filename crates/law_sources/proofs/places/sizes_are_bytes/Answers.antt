@@ -1,5 +1,0 @@
-use Rattle.evm_asm.proofs.Programs_as_meant.{sizes_agree}
-use Rattle.law_sources.proofs.places.sizes_are_bytes.Goals as goal
-
-pub returns : goal.returns
-returns c = sizes_agree

@@ -1,5 +1,0 @@
-use Rattle.law_sources.proofs.Items_worded.{every_item_has_its_word}
-use Rattle.law_sources.proofs.words.every_item_has_its_word.Goals as goal
-
-pub returns : goal.returns
-returns c = every_item_has_its_word
