@@ -2,6 +2,7 @@
 use Rattle.std.specs.Prelude.{◌≡◌, ◌⊎◌, ◌-◌, ◌^◌, ◌++◌, ℕ, List, [], Option, Some, None, length}
 use Rattle.evm_image.specs.Images.{Contents}
 use Rattle.evm_model.specs.Devices.{Attached}
+use Rattle.trace_sites.specs.Labels.{LabelValue}
 use Rattle.trace_sites.specs.Placed.{placed_text}
 use Rattle.trace_sites.specs.declared.place.CodePlace.{CodePlace}
 use Rattle.evm_streams.specs.Writes.{Took}
@@ -56,16 +57,16 @@ pub data TellsItems (clock : Clock) (from : Walked) : List Change → Walked →
   beside : (changes more : List Change) (to : Walked) (at : ℕ) → TellsItems clock from changes to at → instants_in more ≡ [] → TellsItems clock from (changes ++ more) to at
   item : (changes more : List Change) (mid to : Walked) (at behind : ℕ) → TellsItems clock from changes mid at → TellsOn clock mid to at behind more → TellsItems clock from (changes ++ more) to behind
 
--- the sink took the text of the trace of a journal's items up to its end, with some names and places
+-- the sink took the text of the trace of a journal's items up to its end, with some labels and places
 pub record IsTraceOf {W : Type 0} (clock : Clock) (walk : Walked) (takes : W → Writing → List ℕ → W → Type 0) (start : W) (symbols : List Named) (sink : W) : Type 0 where
   pub changes : List Change
-  pub names : List (ℕ × List ℕ)
+  pub labels : List LabelValue
   pub places : List CodePlace
   pub to : Walked
   pub time : ℕ
   pub items : TellsItems clock walk changes to time
   pub ends : place to ≡ length to.events
-  pub took : Took takes start (placed_text (trace_of changes) names symbols places) sink
+  pub took : Took takes start (placed_text (trace_of changes) labels symbols places) sink
 
 -- likewise, of the journal with this text, on a machine with these devices and this image
 pub record IsTraceOfText {W : Type 0} (clock : Clock) (devices : List Attached) (image : Contents) (text : List ℕ) (takes : W → Writing → List ℕ → W → Type 0) (start : W) (symbols : List Named) (sink : W) : Type 0 where

@@ -1,143 +1,27 @@
 //! The changes that are told of each event.
 
-ghost use Rattle.std.specs.Prelude.{◌≡◌, ◌+◌, ◌*◌, ◌++◌, ◌∷◌, [], OnOk, flat_map, slice_get, slice_set};
+ghost use Rattle.std.specs.Prelude.{◌≡◌, ◌+◌, ◌*◌, ◌++◌, OnOk, flat_map, slice_get, slice_set};
 ghost use Rattle.std.specs.List.{list_any};
 ghost use Rattle.std.specs.Option.{option_flatten};
 ghost use Rattle.std.specs.Box.{boxed_slice_items};
 ghost use Rattle.evm_lines.specs.declared.TheConstants.{LINES};
-ghost use Rattle.trace_command.specs.Flows.{ended_flows, flows_in, handed_over, if_flow, kept_track, line_flows, owner_flows};
-ghost use Rattle.trace_command.specs.Instants.{event_instants, instants_of, if_instant, instants_in, is_told, is_woken, line_instants};
+ghost use Rattle.trace_command.specs.Flows.{ended_flows, flows_in, handed_over, kept_track, line_flows, owner_flows};
+ghost use Rattle.trace_command.specs.Instants.{event_instants, instants_of, instants_in, is_told, is_woken, line_instants};
 
-use crate::states::{current_track, stage_states, task_state};
+use crate::naming::{Labelled, is_labelled, labelled_by, name_processors, name_task, name_tasks};
+use crate::noting::note;
+use crate::showing::{end_processors, end_tasks, show};
+use crate::states::current_track;
 use evm_lines::{LINE_COUNT, LINES};
 use evm_model::PROCESSOR_LIMIT;
-use evm_room::{Refused, copies, grow};
-use run_marks::{Look, Mark};
+use evm_room::{Refused, copies};
+use run_marks::{Look, Mark, RunNames};
 use std::alloc::Global;
 use std::boxed::BoxedSlice;
-use trace_records::{Change, Detail, Flow, InterruptPassage, Note, State, Track};
+use trace_records::{Change, Detail, Flow, InterruptPassage, Track};
 
 /// An entry for each line of each processor.
 const ENTRIES: usize = PROCESSOR_LIMIT * LINE_COUNT;
-
-fn push(list: &mut Vec<Change>, change: Change) -> Result<(), Refused>
-    ensures { OnOk result (list.new.items ≡ list.old.items ++ change ∷ []) }
-{
-    grow(list, 1)?;
-    list.push_reserved(change);
-    Ok(())
-}
-
-#[tactic(auto, using(crate::proofs::Told::told))]
-fn note(list: &mut Vec<Change>, track: Track, at: u64, detail: Detail) -> Result<(), Refused>
-    ensures instants { OnOk result (instants_in list.new.items ≡ instants_in list.old.items ++ if_instant (record { track = track; at = at; detail = detail }) detail) }
-    ensures flows { OnOk result (flows_in list.new.items ≡ flows_in list.old.items ++ if_flow (record { track = track; at = at; detail = detail }) detail) }
-{
-    push(list, Change::Noted(Note { track, at, detail }))?;
-    Ok(())
-}
-
-#[tactic(auto, using(crate::proofs::Told::told))]
-fn shows(list: &mut Vec<Change>, track: Track, state: Option<State>, at: u64) -> Result<(), Refused>
-    ensures { OnOk result (instants_in list.new.items ≡ instants_in list.old.items) }
-{
-    push(list, Change::Shows(track, state, at))?;
-    Ok(())
-}
-
-// The name of a track, and its place.
-#[tactic(auto, using(crate::proofs::Told::told))]
-fn name(list: &mut Vec<Change>, track: Track, at: u64) -> Result<(), Refused>
-    ensures { OnOk result (instants_in list.new.items ≡ instants_in list.old.items) }
-{
-    note(list, track, at, Detail::ThreadName)?;
-    note(list, track, at, Detail::SortIndex)
-}
-
-fn name_processors(list: &mut Vec<Change>, count: u8) -> Result<(), Refused>
-    ensures { OnOk result (instants_in list.new.items ≡ instants_in list.old.items) }
-{
-    for cpu in 0..count {
-        name(list, Track::OutOfBand(cpu), 0)?;
-        name(list, Track::InBand(cpu), 0)?;
-        name(list, Track::Lines(cpu), 0)?;
-    }
-    Ok(())
-}
-
-// The name of a task's track, and its rank.
-#[tactic(auto, using(crate::proofs::Told::told))]
-fn name_task(list: &mut Vec<Change>, look: &Look, task: u8, at: u64) -> Result<(), Refused>
-    ensures { OnOk result (instants_in list.new.items ≡ instants_in list.old.items) }
-{
-    name(list, Track::Task(task), at)?;
-    match look.ranks.get(usize::from(task)) {
-        None => Ok(()),
-        Some(rank) => note(list, Track::Task(task), at, Detail::Rank(*rank)),
-    }
-}
-
-fn name_tasks(list: &mut Vec<Change>, look: &Look) -> Result<(), Refused>
-    ensures { OnOk result (instants_in list.new.items ≡ instants_in list.old.items) }
-{
-    for task in 0..look.task_count {
-        name_task(list, look, task, 0)?;
-    }
-    Ok(())
-}
-
-#[tactic(auto, using(crate::proofs::Told::told))]
-fn show_processor(list: &mut Vec<Change>, look: &Look, cpu: u8, at: u64) -> Result<(), Refused>
-    ensures { OnOk result (instants_in list.new.items ≡ instants_in list.old.items) }
-{
-    match look.lanes.get(usize::from(cpu)) {
-        None => Ok(()),
-        Some(lane) => {
-            let (out_of_band, in_band) = stage_states(lane);
-            shows(list, Track::OutOfBand(cpu), out_of_band, at)?;
-            shows(list, Track::InBand(cpu), in_band, at)
-        }
-    }
-}
-
-#[tactic(auto, using(crate::proofs::Told::told))]
-fn show_task(list: &mut Vec<Change>, look: &Look, task: u8, at: u64) -> Result<(), Refused>
-    ensures { OnOk result (instants_in list.new.items ≡ instants_in list.old.items) }
-{
-    match look.tasks.get(usize::from(task)) {
-        None => Ok(()),
-        Some(seen) => {
-            let state = task_state(look, task, seen);
-            shows(list, Track::Task(task), Some(state), at)
-        }
-    }
-}
-
-fn show_processors(list: &mut Vec<Change>, look: &Look, at: u64) -> Result<(), Refused>
-    ensures { OnOk result (instants_in list.new.items ≡ instants_in list.old.items) }
-{
-    for cpu in 0..look.cpu_count {
-        show_processor(list, look, cpu, at)?;
-    }
-    Ok(())
-}
-
-fn show_tasks(list: &mut Vec<Change>, look: &Look, at: u64) -> Result<(), Refused>
-    ensures { OnOk result (instants_in list.new.items ≡ instants_in list.old.items) }
-{
-    for task in 0..look.task_count {
-        show_task(list, look, task, at)?;
-    }
-    Ok(())
-}
-
-// What the tracks show from a tick on.
-fn show(list: &mut Vec<Change>, look: &Look, at: u64) -> Result<(), Refused>
-    ensures { OnOk result (instants_in list.new.items ≡ instants_in list.old.items) }
-{
-    show_processors(list, look, at)?;
-    show_tasks(list, look, at)
-}
 
 // Whether an event ends a wait.
 fn ends_wait(marks: &[Mark]) -> bool
@@ -215,16 +99,19 @@ pub(crate) struct Changes {
     next: u64,
     // of each processor, the track that shows something
     current: [Track; PROCESSOR_LIMIT],
+    // of each task, whether a label names its track
+    labelled: Labelled,
 }
 
 impl Changes {
-    /// No arrow has begun.
-    pub(crate) fn new(alloc: Global) -> Result<Changes, Refused> {
+    /// No arrow has begun. Labels name the tracks of the tasks that have names.
+    pub(crate) fn new(alloc: Global, names: &RunNames) -> Result<Changes, Refused> {
         let begun = copies(alloc, None, ENTRIES)?;
         Ok(Changes {
             begun,
             next: 0,
             current: [Track::InBand(0); PROCESSOR_LIMIT],
+            labelled: labelled_by(names),
         })
     }
 
@@ -395,7 +282,10 @@ impl Changes {
                 *to,
                 at,
             ),
-            Mark::Created { task } => name_task(list, look, *task, at.behind),
+            Mark::Created { task } => {
+                let labelled = is_labelled(&self.labelled, *task);
+                name_task(list, look, *task, at.behind, labelled)
+            }
             Mark::Rank { task, to, .. } => {
                 note(list, Track::Task(*task), at.behind, Detail::Rank(*to))
             }
@@ -449,7 +339,7 @@ impl Changes {
         note(list, Track::Task(0), 0, Detail::ProcessName)?;
         note(list, Track::Lines(0), 0, Detail::ProcessName)?;
         name_processors(list, look.cpu_count)?;
-        name_tasks(list, look)?;
+        name_tasks(list, look, &self.labelled)?;
         count_ticks(list, look, 0)?;
         self.keep(look);
         show(list, look, 0)
@@ -482,25 +372,4 @@ impl Changes {
         end_processors(list, look.cpu_count, at)?;
         end_tasks(list, look.task_count, at)
     }
-}
-
-// The tracks of processors show nothing more.
-fn end_processors(list: &mut Vec<Change>, count: u8, at: u64) -> Result<(), Refused>
-    ensures { OnOk result (instants_in list.new.items ≡ instants_in list.old.items) }
-{
-    for cpu in 0..count {
-        shows(list, Track::OutOfBand(cpu), None, at)?;
-        shows(list, Track::InBand(cpu), None, at)?;
-    }
-    Ok(())
-}
-
-// The tracks of tasks show nothing more.
-fn end_tasks(list: &mut Vec<Change>, count: u8, at: u64) -> Result<(), Refused>
-    ensures { OnOk result (instants_in list.new.items ≡ instants_in list.old.items) }
-{
-    for task in 0..count {
-        shows(list, Track::Task(task), None, at)?;
-    }
-    Ok(())
 }

@@ -10,12 +10,10 @@ use evm_host::{
     ended_with, failed_write_message, image_at, memory_refused, not_created, report, text_at,
 };
 use evm_image::Image;
-use evm_model::TASK_LIMIT;
 use evm_program::{Meter, program_devices};
-use evm_room::{Refused, grow, push_text};
+use evm_room::Refused;
 use run_marks::{Names, RunNames};
 use std::alloc::Global;
-use trace_sites::TaskName;
 
 /// The name in front of messages that are about no file.
 pub const PROGRAM: &str = "vardozek trace";
@@ -63,26 +61,14 @@ struct Program<'a> {
     names: &'a Names,
 }
 
-// The names of the tasks of a journal's run.
-fn task_names(
-    alloc: Global,
-    program: Program<'_>,
-    journal: &str,
-) -> Result<Vec<TaskName>, Refused> {
-    let mut all = Vec::new(alloc);
-    let Ok(devices) = program_devices(alloc) else {
-        return Ok(all);
-    };
-    let run = RunNames::of_journal(alloc, program.image, devices, journal, program.names)?;
-    for task in 0..TASK_LIMIT as u8 {
-        if let Some(text) = run.task(task) {
-            let mut name = String::new(alloc);
-            push_text(&mut name, text)?;
-            grow(&mut all, 1)?;
-            all.push_reserved(TaskName { task, name });
+// The names of the tasks and objects of a journal's run; none without memory for the devices.
+fn run_names(alloc: Global, program: Program<'_>, journal: &str) -> Result<RunNames, Refused> {
+    match program_devices(alloc) {
+        Ok(devices) => {
+            RunNames::of_journal(alloc, program.image, devices, journal, program.names)
         }
+        Err(_) => Ok(RunNames::new(alloc)),
     }
-    Ok(all)
 }
 
 // Traces a journal that was read, to OUT.
@@ -95,7 +81,7 @@ fn trace_to_out<S: System, M: Meter>(
     meter: &mut M,
     world: &mut World<S>,
 ) -> u8 {
-    let Ok(names) = task_names(alloc, program, journal) else {
+    let Ok(names) = run_names(alloc, program, journal) else {
         return memory_refused(PROGRAM, world);
     };
     let image = program.image;
@@ -103,7 +89,7 @@ fn trace_to_out<S: System, M: Meter>(
     if job.out == STANDARD_OUTPUT {
         let out = &mut world.output;
         let outcome = trace_journal(
-            alloc, image, symbols, names, devices, journal, job.clock, meter, out,
+            alloc, image, symbols, &names, devices, journal, job.clock, meter, out,
         );
         return traced(image, job, journal, outcome, &mut world.errors);
     }
@@ -111,7 +97,7 @@ fn trace_to_out<S: System, M: Meter>(
         Err(fault) => not_created(job.out, fault, &mut world.errors),
         Ok(mut file) => {
             let outcome = trace_journal(
-                alloc, image, symbols, names, devices, journal, job.clock, meter, &mut file,
+                alloc, image, symbols, &names, devices, journal, job.clock, meter, &mut file,
             );
             traced(image, job, journal, outcome, &mut world.errors)
         }

@@ -4,7 +4,11 @@
 mod changes;
 mod clock;
 mod command;
+mod labels;
+mod naming;
+mod noting;
 mod places;
+mod showing;
 mod states;
 mod tracing;
 mod words;

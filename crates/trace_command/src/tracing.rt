@@ -8,16 +8,17 @@ ghost use Rattle.trace_sites.specs.Placed.{IsPlacedSomewhere};
 
 use crate::changes::{Changes, Span};
 use crate::clock::Clock;
+use crate::labels::{label_tasks, label_waits};
 use crate::places::{place_marks, place_tasks};
 use evm_devs::AnyDevice;
 use evm_image::Image;
 use evm_program::Meter;
 use evm_room::Refused;
 use evm_streams::{Sink, WriteFault};
-use run_marks::{Devices, InputFault, Item, Mark, Walk, WalkStop};
+use run_marks::{Devices, InputFault, Item, Mark, RunNames, Walk, WalkStop};
 use std::alloc::Global;
 use trace_records::{Change, RunStop, Teller, Told, TraceStop};
-use trace_sites::{CodePlace, Placer, Symbols, TaskName, trace_places};
+use trace_sites::{CodePlace, Label, Placer, Symbols, trace_places};
 
 /// Why a run is not traced to its end.
 #[derive(Clone, Copy, Debug)]
@@ -41,14 +42,17 @@ pub enum Phase {
 
 /// A walk over a journal, and the changes that tell it.
 #[derive(Drop)]
-pub struct Telling<'m, M: Meter> {
+pub struct Telling<'n, 'm, M: Meter> {
+    alloc: Global,
     walk: Walk<AnyDevice>,
     changes: Changes,
     marks: Vec<Mark>,
     // where tasks are when something happens, if the image has symbols
     places: Vec<CodePlace>,
-    names: Vec<TaskName>,
-    named: bool,
+    placed: bool,
+    // what tasks and objects are called, and where a track says so
+    names: &'n RunNames,
+    labels: Vec<Label>,
     clock: Clock,
     // the time of the next event
     at: u64,
@@ -67,7 +71,7 @@ fn told(outcome: Result<(), Refused>) -> Told
     }
 }
 
-impl<M: Meter> Telling<'_, M> {
+impl<M: Meter> Telling<'_, '_, M> {
     // Tells an event, whose marks were found.
     fn event(&mut self, list: &mut Vec<Change>, at: Span) -> Result<(), Refused>
         ensures instants { OnOk result (instants_in list.new.items ≡ instants_in list.old.items ++ event_instants at.at self.old.marks.items) }
@@ -76,10 +80,12 @@ impl<M: Meter> Telling<'_, M> {
         ensures clock { self.new.clock ≡ self.old.clock }
         ensures time { self.new.at ≡ self.old.at }
     {
+        let (alloc, names) = (self.alloc, self.names);
         let marks = self.marks.as_slice();
-        if self.named {
+        if self.placed {
             place_marks(&mut self.places, self.walk.machine(), marks, at.at)?;
         }
+        label_waits(alloc, &mut self.labels, names, marks, at.behind)?;
         self.changes.event(list, self.walk.look(), marks, at)
     }
 
@@ -111,9 +117,11 @@ impl<M: Meter> Telling<'_, M> {
         ensures clock { self.new.clock ≡ self.old.clock }
         ensures time { self.new.at ≡ self.old.at }
     {
-        if self.named {
+        if self.placed {
             place_tasks(&mut self.places, self.walk.machine())?;
         }
+        let (alloc, names) = (self.alloc, self.names);
+        label_tasks(alloc, &mut self.labels, names)?;
         self.changes.begin(list, self.walk.look())
     }
 
@@ -179,7 +187,7 @@ impl<M: Meter> Telling<'_, M> {
     }
 }
 
-impl<M: Meter> Teller for Telling<'_, M> {
+impl<M: Meter> Teller for Telling<'_, '_, M> {
     ghost use Rattle.std.specs.Prelude.{◌≡◌};
     ghost use Rattle.trace_command.specs.Tellings.{TellsCall};
     ghost use Rattle.trace_command.specs.declared.tracing.Phase.TheVariants.{Ended};
@@ -193,13 +201,13 @@ impl<M: Meter> Teller for Telling<'_, M> {
     }
 }
 
-impl<M: Meter> Placer for Telling<'_, M> {
+impl<M: Meter> Placer for Telling<'_, '_, M> {
     fn places(&self) -> &[CodePlace] {
         self.places.as_slice()
     }
 
-    fn names(&self) -> &[TaskName] {
-        self.names.as_slice()
+    fn labels(&self) -> &[Label] {
+        self.labels.as_slice()
     }
 }
 
@@ -217,7 +225,7 @@ fn trace_walk<W: Sink, M: Meter>(
     walk: Walk<AnyDevice>,
     changes: Changes,
     symbols: &Symbols,
-    names: Vec<TaskName>,
+    names: &RunNames,
     clock: Clock,
     meter: &mut M,
     sink: &mut W,
@@ -228,12 +236,14 @@ fn trace_walk<W: Sink, M: Meter>(
     // The begin, the end, and that there is no more are a call each.
     let calls = walk.event_count().saturating_add(4);
     let mut telling = Telling {
+        alloc,
         walk,
         changes,
         marks: Vec::new(alloc),
         places: Vec::new(alloc),
+        placed: !symbols.symbols().is_empty(),
         names,
-        named: !symbols.symbols().is_empty(),
+        labels: Vec::new(alloc),
         clock,
         at: 0,
         phase: Phase::Begins,
@@ -248,8 +258,8 @@ fn trace_walk<W: Sink, M: Meter>(
     }
 }
 
-/// Traces the run of a journal, on a machine with the devices and the image, to a sink, with these names and places by the symbols. The meter gets
-/// the events.
+/// Traces the run of a journal, on a machine with the devices and the image, to a sink, with labels by these names and places by the symbols. The
+/// meter gets the events.
 ///
 /// # Errors
 ///
@@ -258,7 +268,7 @@ pub fn trace_journal<W: Sink, M: Meter>(
     alloc: Global,
     image: &Image,
     symbols: &Symbols,
-    names: Vec<TaskName>,
+    names: &RunNames,
     devices: Devices<AnyDevice>,
     journal: &str,
     clock: Clock,
@@ -273,7 +283,7 @@ pub fn trace_journal<W: Sink, M: Meter>(
         Err(WalkStop::AtFault(fault)) => return Err(TraceEnd::AtFault(fault)),
         Err(WalkStop::NoMemory) => return Err(TraceEnd::NoMemory),
     };
-    match Changes::new(alloc) {
+    match Changes::new(alloc, names) {
         Ok(changes) => trace_walk(alloc, walk, changes, symbols, names, clock, meter, sink),
         Err(_) => Err(TraceEnd::NoMemory),
     }

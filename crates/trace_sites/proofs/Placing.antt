@@ -1,9 +1,9 @@
 -- A trace that is ended with places.
-use Rattle.std.specs.Prelude.{All}
+use Rattle.std.specs.Prelude.{◌^◌, All}
 use Rattle.std.specs.List.{AllByRecursion}
 use Rattle.std.proofs.lemmas.List.Elements.{recursion_from_All}
 use Rattle.std.proofs.Common.{◌≡◌, ℕ, ◌+◌, ◌<◌, ◌≤◌, true, length, take, get_or, List, [], ◌∷◌, ◌++◌, Option, None, Some, refl, sym, ap, subst, ◌∙◌, append_assoc, append-nil, arith}
-use Rattle.std.specs.Prelude.{codes, flat_map, Result, Ok, Err, OnOk, String}
+use Rattle.std.specs.Prelude.{codes, flat_map, Result, Ok, Err, IfSome, OnOk, String}
 use Rattle.std.specs.String.{string_bytes}
 use Rattle.std.specs.declared.alloc.Global.{Global}
 use Rattle.std.proofs.Math.Nat.{max-le}
@@ -32,8 +32,9 @@ use Rattle.trace_records.specs.Laws.{AreFitting}
 use Rattle.trace_records.specs.Telling.{Tells}
 use Rattle.trace_records.proofs.Traces.{traces}
 use Rattle.trace_sites.specs.declared.place.CodePlace.{CodePlace}
-use Rattle.trace_sites.specs.Places.{item_by, line_by, name_items, name_json, name_line, name_lines, place_items, place_line, place_lines, place_symbol}
-use Rattle.trace_sites.specs.Placed.{FitsName, FitsPlace, IsPending, IsPlaced, placed_json, placed_text, records_then}
+use Rattle.trace_sites.specs.Labels.{LabelValue, label_by, label_items, label_json, label_line, label_lines, label_text}
+use Rattle.trace_sites.specs.Places.{item_by, line_by, place_items, place_line, place_lines, place_symbol}
+use Rattle.trace_sites.specs.Placed.{FitsLabel, FitsPlace, IsPending, IsPlaced, placed_json, placed_text, records_then}
 
 -- ---- a text that is held
 
@@ -75,15 +76,15 @@ lines_more symbols places i d whole below =
     let more : flat_map f (take (i + 1) places) ≡ flat_map f front ++ f p = ap (flat_map f) next ∙ flat_map-append f front (p ∷ []) ∙ ap (λ (x : List ℕ). flat_map f front ++ x) (append-nil (f p)) in
     append_assoc whole (flat_map f front) (f p) ∙ ap (λ (x : List ℕ). whole ++ x) (sym more)
 
--- the lines of one name more
-pub named_more : (names : List (ℕ × List ℕ)) (i : ℕ) (d : ℕ × List ℕ) (whole : List ℕ) → i < length names
-    → (whole ++ name_lines (take i names)) ++ name_line (get_or names i d) ≡ whole ++ name_lines (take (i + 1) names)
-named_more names i d whole below =
-    let front = take i names in
-    let p = get_or names i d in
-    let next : take (i + 1) names ≡ front ++ p ∷ [] = take_more names i d below in
-    let more : name_lines (take (i + 1) names) ≡ name_lines front ++ name_line p = ap (flat_map name_line) next ∙ flat_map-append name_line front (p ∷ []) ∙ ap (λ (x : List ℕ). name_lines front ++ x) (append-nil (name_line p)) in
-    append_assoc whole (name_lines front) (name_line p) ∙ ap (λ (x : List ℕ). whole ++ x) (sym more)
+-- the lines of one label more
+pub labelled_more : (labels : List LabelValue) (i : ℕ) (d : LabelValue) (whole : List ℕ) → i < length labels
+    → (whole ++ label_lines (take i labels)) ++ label_line (get_or labels i d) ≡ whole ++ label_lines (take (i + 1) labels)
+labelled_more labels i d whole below =
+    let front = take i labels in
+    let p = get_or labels i d in
+    let next : take (i + 1) labels ≡ front ++ p ∷ [] = take_more labels i d below in
+    let more : label_lines (take (i + 1) labels) ≡ label_lines front ++ label_line p = ap (flat_map label_line) next ∙ flat_map-append label_line front (p ∷ []) ∙ ap (λ (x : List ℕ). label_lines front ++ x) (append-nil (label_line p)) in
+    append_assoc whole (label_lines front) (label_line p) ∙ ap (λ (x : List ℕ). whole ++ x) (sym more)
 
 -- ---- the text
 
@@ -106,27 +107,27 @@ records_written (r ∷ rs) more =
     ap (λ (x : List ℕ). 44 ∷ 10 ∷ (text (record_json r) ++ x)) (records_written rs more)
     ∙ sym (append_assoc (record_line r) (record_lines rs) (item_lines true more))
 
-names_written : (names : List (ℕ × List ℕ)) (more : Items) → item_lines true (name_items names more) ≡ name_lines names ++ item_lines true more
-unfolding name_line
-names_written [] more = refl
-names_written (named ∷ names) more =
-    ap (λ (x : List ℕ). 44 ∷ 10 ∷ (text (name_json named) ++ x)) (names_written names more)
-    ∙ sym (append_assoc (name_line named) (name_lines names) (item_lines true more))
+labels_written : (labels : List LabelValue) (more : Items) → item_lines true (label_items labels more) ≡ label_lines labels ++ item_lines true more
+unfolding label_line label_text
+labels_written [] more = refl
+labels_written (label ∷ labels) more =
+    ap (λ (x : List ℕ). 44 ∷ 10 ∷ (text (label_json label) ++ x)) (labels_written labels more)
+    ∙ sym (append_assoc (label_line label) (label_lines labels) (item_lines true more))
 
 regroup : (a l n s : List ℕ) → a ++ ((l ++ (n ++ (s ++ codes "\n]"))) ++ 125 ∷ []) ≡ (((a ++ l) ++ n) ++ s) ++ codes "\n]}"
 regroup a l n s =
     ap (λ (x : List ℕ). a ++ x) (append_assoc l (n ++ (s ++ codes "\n]")) (125 ∷ []) ∙ ap (λ (x : List ℕ). l ++ x) (append_assoc n (s ++ codes "\n]") (125 ∷ []) ∙ ap (λ (x : List ℕ). n ++ x) (append_assoc s (codes "\n]") (125 ∷ []))))
     ∙ sym (append_assoc ((a ++ l) ++ n) s (codes "\n]}") ∙ append_assoc (a ++ l) n (s ++ codes "\n]}") ∙ append_assoc a l (n ++ (s ++ codes "\n]}")))
 
-written : (rs : List Record) (names : List (ℕ × List ℕ)) (symbols : List Named) (places : List CodePlace)
-    → placed_text (note first_note ∷ rs) names symbols places ≡ (((start_text ++ record_lines rs) ++ name_lines names) ++ place_lines symbols places) ++ codes "\n]}"
+written : (rs : List Record) (labels : List LabelValue) (symbols : List Named) (places : List CodePlace)
+    → placed_text (note first_note ∷ rs) labels symbols places ≡ (((start_text ++ record_lines rs) ++ label_lines labels) ++ place_lines symbols places) ++ codes "\n]}"
 unfolding start_text escape_byte numeral
-written rs names symbols places =
+written rs labels symbols places =
     let lines = record_lines rs in
-    let called = name_lines names in
+    let called = label_lines labels in
     let spots = place_lines symbols places in
     ap (λ (x : List ℕ). start_text ++ (x ++ 125 ∷ []))
-    (records_written rs (name_items names (place_items symbols places)) ∙ ap (λ (x : List ℕ). lines ++ x) (names_written names (place_items symbols places) ∙ ap (λ (x : List ℕ). called ++ x) (places_then symbols places)))
+    (records_written rs (label_items labels (place_items symbols places)) ∙ ap (λ (x : List ℕ). lines ++ x) (labels_written labels (place_items symbols places) ∙ ap (λ (x : List ℕ). called ++ x) (places_then symbols places)))
     ∙ regroup start_text lines called spots
 
 -- ---- without symbols
@@ -158,10 +159,16 @@ records_numbers : (rs : List Record) (more : Items) → ItemsHaveNumbers (record
 records_numbers [] more have rest = rest
 records_numbers (r ∷ rs) more have rest = (have.0, records_numbers rs more have.1 rest)
 
-names_numbers : (names : List (ℕ × List ℕ)) (more : Items) → AllByRecursion FitsName names → ItemsHaveNumbers more → ItemsHaveNumbers (name_items names more)
-names_numbers [] more fits rest = rest
-names_numbers (named ∷ names) more fits rest =
-    ((tt, ((decimals 2).0 (omega arith), ((decimals (named.0 + 1)).0 fits.0, ((decimals 0).0 (omega arith), (tt, ((tt, tt), tt)))))), names_numbers names more fits.1 rest)
+label_numbers : (from : Option ℕ) (task : ℕ) (name : List ℕ) (more : Items) → task + 1 < 2 ^ 64 → IfSome from (λ at. at < 2 ^ 64) → ItemsHaveNumbers more → ItemsHaveNumbers (item (label_by task name from) more)
+label_numbers None task name more fits time rest =
+    ((tt, ((decimals 2).0 (omega arith), ((decimals (task + 1)).0 fits, ((decimals 0).0 (omega arith), (tt, ((tt, tt), tt)))))), rest)
+label_numbers (Some from) task name more fits time rest =
+    ((tt, ((decimals 2).0 (omega arith), ((decimals (task + 1)).0 fits, ((decimals from).0 time, (tt, (tt, tt)))))), rest)
+
+labels_numbers : (labels : List LabelValue) (more : Items) → AllByRecursion FitsLabel labels → ItemsHaveNumbers more → ItemsHaveNumbers (label_items labels more)
+labels_numbers [] more fits rest = rest
+labels_numbers (label ∷ labels) more fits rest =
+    label_numbers label.from label.task label.name (label_items labels more) fits.0.0 fits.0.1 (labels_numbers labels more fits.1 rest)
 
 trace_numbers : (changes : List Change) → AreFitting changes → ItemsHaveNumbers (record_items (trace_of changes))
 trace_numbers changes fits = (document-HasNumbers (trace_text (trace_of changes)) (trace_json (trace_of changes)) (traces changes fits)).0
@@ -174,9 +181,13 @@ places_deep : (symbols : List Named) (places : List CodePlace) → items_depth (
 places_deep symbols [] = omega arith
 places_deep symbols (p ∷ places) = place_deep (place_symbol symbols p) p (place_items symbols places) (places_deep symbols places)
 
-names_deep : (names : List (ℕ × List ℕ)) (more : Items) → items_depth more ≤ 3 → items_depth (name_items names more) ≤ 3
-names_deep [] more rest = rest
-names_deep (named ∷ names) more rest = max-le (omega arith) (names_deep names more rest)
+label_deep : (from : Option ℕ) (task : ℕ) (name : List ℕ) → depth (label_by task name from) ≤ 3
+label_deep None task name = omega arith
+label_deep (Some from) task name = omega arith
+
+labels_deep : (labels : List LabelValue) (more : Items) → items_depth more ≤ 3 → items_depth (label_items labels more) ≤ 3
+labels_deep [] more rest = rest
+labels_deep (label ∷ labels) more rest = max-le (label_deep label.from label.task label.name) (labels_deep labels more rest)
 
 members_deep : (track : Track) (detail : Detail) → members_depth (note_members track detail) ≤ 1
 members_deep track ProcessName = omega arith
@@ -197,16 +208,16 @@ records_deep : (rs : List Record) (more : Items) → items_depth more ≤ 3 → 
 records_deep [] more rest = rest
 records_deep (r ∷ rs) more rest = max-le (record_deep r) (records_deep rs more rest)
 
-placed_is_json : (changes : List Change) (names : List (ℕ × List ℕ)) (symbols : List Named) (places : List CodePlace) → AreFitting changes → All FitsName names → All FitsPlace places
-    → document (placed_text (trace_of changes) names symbols places) ≡ Some (placed_json (trace_of changes) names symbols places)
-placed_is_json changes names symbols places fits called all =
+placed_is_json : (changes : List Change) (labels : List LabelValue) (symbols : List Named) (places : List CodePlace) → AreFitting changes → All FitsLabel labels → All FitsPlace places
+    → document (placed_text (trace_of changes) labels symbols places) ≡ Some (placed_json (trace_of changes) labels symbols places)
+placed_is_json changes labels symbols places fits called all =
     let rs = trace_of changes in
     let spots = place_items symbols places in
-    let more = name_items names spots in
+    let more = label_items labels spots in
     document-listing (codes "traceEvents") (records_then rs more)
     (records_numbers rs more (trace_numbers changes fits)
-    (names_numbers names spots (recursion_from_All FitsName names called) (places_numbers symbols places (recursion_from_All FitsPlace places all))))
-    (omega (arith, records_deep rs more (names_deep names spots (places_deep symbols places))))
+    (labels_numbers labels spots (recursion_from_All FitsLabel labels called) (places_numbers symbols places (recursion_from_All FitsPlace places all))))
+    (omega (arith, records_deep rs more (labels_deep labels spots (places_deep symbols places))))
 
 -- ---- the end
 
@@ -216,22 +227,22 @@ module _ {W : Type 0} (takes : W → Writing → List ℕ → W → Type 0) wher
   held_of start sink trace told tells = record { sunk = tells.sunk; took = tells.took; text = tells.text }
 
   -- the text that is written to the end
-  abbrev pub Ended : List Change → List (ℕ × List ℕ) → List Named → List CodePlace → List ℕ
-  Ended changes names symbols places =
-      (((start_text ++ record_lines (records_of no_spans (in_order 0 changes))) ++ name_lines names) ++ place_lines symbols places) ++ codes "\n]}"
+  abbrev pub Ended : List Change → List LabelValue → List Named → List CodePlace → List ℕ
+  Ended changes labels symbols places =
+      (((start_text ++ record_lines (records_of no_spans (in_order 0 changes))) ++ label_lines labels) ++ place_lines symbols places) ++ codes "\n]}"
 
-  pub placed : {E : Type 0} (result : Result (Unit {0}) E) (start sink : W) (changes : List Change) (names : List (ℕ × List ℕ)) (symbols : List Named) (places : List CodePlace) → AreFitting changes
-      → All FitsName names → All FitsPlace places → OnOk result (Took takes start (Ended changes names symbols places) sink) → OnOk result (IsPlaced takes start names symbols places sink)
-  placed (Ok done) start sink changes names symbols places fits called all took =
+  pub placed : {E : Type 0} (result : Result (Unit {0}) E) (start sink : W) (changes : List Change) (labels : List LabelValue) (symbols : List Named) (places : List CodePlace) → AreFitting changes
+      → All FitsLabel labels → All FitsPlace places → OnOk result (Took takes start (Ended changes labels symbols places) sink) → OnOk result (IsPlaced takes start labels symbols places sink)
+  placed (Ok done) start sink changes labels symbols places fits called all took =
       record {
         changes = changes;
-        took = subst (λ (x : List ℕ). Took takes start x sink) (sym (written (records_of no_spans (in_order 0 changes)) names symbols places)) took;
-        json = placed_is_json changes names symbols places fits called all;
+        took = subst (λ (x : List ℕ). Took takes start x sink) (sym (written (records_of no_spans (in_order 0 changes)) labels symbols places)) took;
+        json = placed_is_json changes labels symbols places fits called all;
       }
-  placed (Err stop) start sink changes names symbols places fits called all took = tt
+  placed (Err stop) start sink changes labels symbols places fits called all took = tt
 
-  pub took_of : {E : Type 0} (result : Result (Unit {0}) E) (start sink : W) (changes : List Change) (names : List (ℕ × List ℕ)) (symbols : List Named) (places : List CodePlace)
-      → OnOk result (Took takes start (Ended changes names symbols places) sink) → OnOk result (Took takes start (placed_text (trace_of changes) names symbols places) sink)
-  took_of (Ok done) start sink changes names symbols places took =
-      subst (λ (x : List ℕ). Took takes start x sink) (sym (written (records_of no_spans (in_order 0 changes)) names symbols places)) took
-  took_of (Err stop) start sink changes names symbols places took = tt
+  pub took_of : {E : Type 0} (result : Result (Unit {0}) E) (start sink : W) (changes : List Change) (labels : List LabelValue) (symbols : List Named) (places : List CodePlace)
+      → OnOk result (Took takes start (Ended changes labels symbols places) sink) → OnOk result (Took takes start (placed_text (trace_of changes) labels symbols places) sink)
+  took_of (Ok done) start sink changes labels symbols places took =
+      subst (λ (x : List ℕ). Took takes start x sink) (sym (written (records_of no_spans (in_order 0 changes)) labels symbols places)) took
+  took_of (Err stop) start sink changes labels symbols places took = tt

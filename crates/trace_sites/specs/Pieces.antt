@@ -1,4 +1,4 @@
--- The lines of a name and of a place in the pieces in which they are written, for private clauses.
+-- The lines of a name, and of a place or a wait, in the pieces in which they are written, for private clauses.
 use Rattle.std.specs.Prelude.{ℕ, List, ◌++◌, codes}
 use Rattle.json.specs.Print.{quoted}
 use Rattle.text_json.specs.Text.{shown_bytes}

@@ -5,7 +5,7 @@ use Rattle.text_json.specs.Text.{text, shown_bytes}
 use Rattle.text_symbols.specs.Named.{Named}
 use Rattle.text_symbols.specs.Nearest.{place_of, name_and_offset}
 use Rattle.evm_text.specs.Written.{decimal, hexadecimal}
-use Rattle.trace_records.specs.Entries.{arguments, trace_event, string_member}
+use Rattle.trace_records.specs.Entries.{trace_event, string_member}
 use Rattle.trace_records.specs.declared.track.Track.TheVariants.{Task}
 use Rattle.trace_sites.specs.declared.place.Doing.{Doing}
 use Rattle.trace_sites.specs.declared.place.Doing.TheVariants.{Begins, Runs, Waits, Locks}
@@ -41,25 +41,7 @@ abbrev pub place_items : List Named → List CodePlace → Items
 place_items symbols [] = no_items
 place_items symbols (p ∷ places) = item_by p (place_symbol symbols p) (place_items symbols places)
 
--- ---- the names of tasks: the number, and the name that the program gives
-abbrev pub task_words : ℕ × List ℕ → List ℕ
-task_words named = codes "task " ++ (decimal named.0 ++ (codes " (" ++ (named.1 ++ codes ")")))
-
--- the name of the track of a task
-abbrev pub name_json : ℕ × List ℕ → Json
-name_json named = trace_event (codes "M") (Task named.0) 0 (string_member (codes "name") (codes "thread_name") (arguments (string_member (codes "name") (shown_bytes (task_words named)) no_members)))
-
-abbrev pub name_items : List (ℕ × List ℕ) → Items → Items
-name_items [] more = more
-name_items (named ∷ names) more = item (name_json named) (name_items names more)
-
 -- ---- as it is written: behind a comma, on a line of its own
-unfoldable pub name_line : ℕ × List ℕ → List ℕ
-name_line named = 44 ∷ 10 ∷ text (name_json named)
-
-abbrev pub name_lines : List (ℕ × List ℕ) → List ℕ
-name_lines names = flat_map name_line names
-
 abbrev pub line_by : CodePlace → Option (List ℕ × ℕ) → List ℕ
 line_by p None = []
 line_by p (Some symbol) = 44 ∷ 10 ∷ text (place_json p symbol)

@@ -7,6 +7,7 @@ use Rattle.trace_records.specs.Changes.{trace_of}
 use Rattle.trace_records.specs.Telling.{Tells}
 use Rattle.trace_records.specs.declared.change.Change.{Change}
 use Rattle.trace_records.specs.declared.trace.Trace.{Trace}
+use Rattle.trace_sites.specs.Labels.{LabelValue}
 use Rattle.trace_sites.specs.Placed.{placed_text}
 use Rattle.trace_sites.specs.declared.place.CodePlace.{CodePlace}
 
@@ -23,12 +24,12 @@ pub record TellsCalls {T W : Type 0} (tells : T → List Change → T → Type 0
   pub ends : ended to
   pub told : Tells takes start changes sink trace
 
--- the sink took the text of that trace, with some names and places
+-- the sink took the text of that trace, with some labels and places
 pub record IsRunPlaced {T W : Type 0} (tells : T → List Change → T → Type 0) (ended : T → Type 0) (from : T) (takes : W → Writing → List ℕ → W → Type 0) (start : W) (symbols : List Named) (sink : W) : Type 0 where
   pub changes : List Change
-  pub names : List (ℕ × List ℕ)
+  pub labels : List LabelValue
   pub places : List CodePlace
   pub to : T
   pub run : IsRun tells from changes to
   pub ends : ended to
-  pub took : Took takes start (placed_text (trace_of changes) names symbols places) sink
+  pub took : Took takes start (placed_text (trace_of changes) labels symbols places) sink

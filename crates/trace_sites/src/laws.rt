@@ -2,7 +2,7 @@
 
 ghost use Rattle.trace_sites.specs.Placed.{NoSymbolsNoPlaces};
 
-/// Where the image has no symbols and no task has a name, the text is that of the trace alone.
+/// Where the image has no symbols and nothing has a name, the text is that of the trace alone.
 pub fn no_symbols_no_places()
     ensures { NoSymbolsNoPlaces }
 {}

@@ -1,13 +1,14 @@
-//! One place as JSON.
+//! One place, or one label, as JSON.
 
-ghost use Rattle.std.specs.Prelude.{◌≡◌, ◌++◌, codes, IfOk, OnOk, Option};
+ghost use Rattle.std.specs.Prelude.{◌≡◌, ◌++◌, codes, IfOk, OnOk, None, Some};
 ghost use Rattle.std.specs.String.{string_bytes};
 ghost use Rattle.evm_text.specs.Appending.{Appends};
 ghost use Rattle.evm_text.specs.Written.{hexadecimal};
-ghost use Rattle.trace_sites.specs.Places.{doing_text, distance_text, name_line, place_words, place_line, line_by, place_symbol, task_words};
+ghost use Rattle.trace_sites.specs.Labels.{label_line, label_text, task_words, wait_words};
+ghost use Rattle.trace_sites.specs.Places.{doing_text, distance_text, place_words, place_line, line_by, place_symbol};
 ghost use Rattle.trace_sites.specs.Pieces.{name_pieces, place_pieces};
 
-use crate::name::TaskName;
+use crate::label::Label;
 use crate::place::{CodePlace, Doing};
 use evm_room::{Refused, push_text};
 use evm_text::{push_decimal, push_hexadecimal};
@@ -84,7 +85,7 @@ fn push_named(
     name: &str,
     offset: u64,
 ) -> Result<(), Refused>
-    ensures { OnOk result (string_bytes out.new ≡ string_bytes out.old ++ line_by place.now (Option.Some (name.now, offset))) }
+    ensures { OnOk result (string_bytes out.new ≡ string_bytes out.old ++ line_by place.now (Some (name.now, offset))) }
 {
     let text = name_of(alloc, place.doing, name, offset)?;
     let thread = u64::from(place.task) + 1;
@@ -92,15 +93,25 @@ fn push_named(
 }
 
 // The number of a task, and its name.
-fn task_words(alloc: Global, named: &TaskName) -> Result<String, Refused>
-    ensures { IfOk result (λ text. string_bytes text ≡ task_words named.now) }
+fn task_words(alloc: Global, task: u8, name: &str) -> Result<String, Refused>
+    ensures { IfOk result (λ text. string_bytes text ≡ task_words task name.now) }
 {
     let mut text = String::new(alloc);
     push_text(&mut text, "task ")?;
-    push_decimal(&mut text, u64::from(named.task))?;
+    push_decimal(&mut text, u64::from(task))?;
     push_text(&mut text, " (")?;
-    push_text(&mut text, named.name.as_str())?;
+    push_text(&mut text, name)?;
     push_text(&mut text, ")")?;
+    Ok(text)
+}
+
+// What a task waits for.
+fn wait_words(alloc: Global, name: &str) -> Result<String, Refused>
+    ensures { IfOk result (λ text. string_bytes text ≡ wait_words name.now) }
+{
+    let mut text = String::new(alloc);
+    push_text(&mut text, "waits for ")?;
+    push_text(&mut text, name)?;
     Ok(text)
 }
 
@@ -118,13 +129,40 @@ fn push_name_line(out: &mut String, thread: u64, name: &[u8]) -> Result<(), Refu
     push_text(out, "}}")
 }
 
-/// Appends the name of the track of a task, behind a comma and on a line of its own.
+// Appends the name of the track of a task.
 #[tactic(auto, using(crate::proofs::Lines::line))]
-pub(crate) fn push_name(alloc: Global, out: &mut String, named: &TaskName) -> Result<(), Refused>
-    ensures { OnOk result (string_bytes out.new ≡ string_bytes out.old ++ name_line named.now) }
+fn push_name(alloc: Global, out: &mut String, task: u8, name: &str) -> Result<(), Refused>
+    ensures { OnOk result (string_bytes out.new ≡ string_bytes out.old ++ label_text task name.now None) }
 {
-    let text = task_words(alloc, named)?;
-    push_name_line(out, u64::from(named.task) + 1, text.as_bytes())
+    let text = task_words(alloc, task, name)?;
+    push_name_line(out, u64::from(task) + 1, text.as_bytes())
+}
+
+// Appends the instant at which a task begins to wait.
+#[tactic(auto, using(crate::proofs::Lines::line))]
+fn push_wait(
+    alloc: Global,
+    out: &mut String,
+    task: u8,
+    from: u64,
+    name: &str,
+) -> Result<(), Refused>
+    ensures { OnOk result (string_bytes out.new ≡ string_bytes out.old ++ label_text task name.now (Some from)) }
+{
+    let text = wait_words(alloc, name)?;
+    push_line(out, u64::from(task) + 1, from, text.as_bytes())
+}
+
+/// Appends a label, behind a comma and on a line of its own.
+#[tactic(auto, unfolding(crate::specs::Labels::label_line))]
+pub(crate) fn push_label(alloc: Global, out: &mut String, label: &Label) -> Result<(), Refused>
+    ensures { OnOk result (string_bytes out.new ≡ string_bytes out.old ++ label_line label.now) }
+{
+    let name = label.name.as_str();
+    match label.from {
+        None => push_name(alloc, out, label.task, name),
+        Some(from) => push_wait(alloc, out, label.task, from, name),
+    }
 }
 
 /// Appends the instant of a place, if it has a symbol, behind a comma and on a line of its own.

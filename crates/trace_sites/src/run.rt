@@ -5,7 +5,7 @@ ghost use Rattle.trace_records.specs.Telling.{Tells};
 ghost use Rattle.trace_sites.specs.Placed.{IsPlacedSomewhere};
 ghost use Rattle.trace_sites.specs.Runs.{IsRunPlaced, TellsCalls};
 
-use crate::name::TaskName;
+use crate::label::Label;
 use crate::place::CodePlace;
 use crate::writing::finish;
 use evm_streams::Sink;
@@ -18,8 +18,8 @@ pub trait Placer {
     /// The places so far.
     fn places(&self) -> &[CodePlace];
 
-    /// The names of the tasks.
-    fn names(&self) -> &[TaskName];
+    /// The names on the tracks of tasks so far.
+    fn labels(&self) -> &[Label];
 }
 
 // Tells what the teller finds, in at most this number of calls. A run that has not ended then is a fault.
@@ -62,14 +62,21 @@ fn trace_to_end<T: Teller + Placer, W: Sink>(
 {
     match tell_run(alloc, teller, calls, trace, sink) {
         Err(stop) => Err(stop),
-        Ok(()) => match finish(alloc, trace, symbols, teller.names(), teller.places(), sink) {
+        Ok(()) => match finish(
+            alloc,
+            trace,
+            symbols,
+            teller.labels(),
+            teller.places(),
+            sink,
+        ) {
             Ok(()) => Ok(()),
             Err(stop) => Err(RunStop::Trace(stop)),
         },
     }
 }
 
-/// Traces what a teller tells to a sink, in at most this number of calls, with its names and places behind that.
+/// Traces what a teller tells to a sink, in at most this number of calls, with its labels and places behind that.
 ///
 /// # Errors
 ///

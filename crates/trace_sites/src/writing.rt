@@ -1,16 +1,17 @@
 //! Places written behind the records of a trace.
 
-ghost use Rattle.std.specs.Prelude.{◌≡◌, ◌++◌, ◌+◌, ◌<◌, ◌^◌, ℕ, List, [], All, OnOk, codes};
+ghost use Rattle.std.specs.Prelude.{◌≡◌, ◌++◌, ◌+◌, ◌<◌, ◌^◌, ℕ, List, [], All, IfSome, OnOk, codes};
 ghost use Rattle.std.specs.String.{string_bytes};
 ghost use Rattle.evm_streams.specs.Writes.{Took};
 ghost use Rattle.trace_records.specs.Changes.{trace_of};
 ghost use Rattle.trace_records.specs.Telling.{IsTelling, Tells};
 ghost use Rattle.trace_records.specs.declared.change.Change.{Change};
-ghost use Rattle.trace_sites.specs.Places.{name_line, name_lines, place_line, place_lines};
-ghost use Rattle.trace_sites.specs.Placed.{FitsName, FitsPlace, IsPending, IsPlaced, placed_text};
+ghost use Rattle.trace_sites.specs.Labels.{label_line, label_lines};
+ghost use Rattle.trace_sites.specs.Places.{place_line, place_lines};
+ghost use Rattle.trace_sites.specs.Placed.{FitsLabel, FitsPlace, IsPending, IsPlaced, placed_text};
 
-use crate::line::{push_name, push_place};
-use crate::name::TaskName;
+use crate::label::Label;
+use crate::line::{push_label, push_place};
 use crate::place::CodePlace;
 use evm_room::push_text;
 use evm_streams::{Sink, WriteFault, write_all};
@@ -63,30 +64,30 @@ fn write_place<W: Sink>(
     }
 }
 
-fn write_name<W: Sink>(
+fn write_label<W: Sink>(
     alloc: Global,
     text: &mut String,
-    named: &TaskName,
+    label: &Label,
     sink: &mut W,
 ) -> Result<(), TraceStop>
-    ensures { (start : W) (whole : List ℕ) → IsPending W.takes start whole sink.old text.old → OnOk result (IsPending W.takes start (whole ++ name_line named.now) sink.new text.new) }
+    ensures { (start : W) (whole : List ℕ) → IsPending W.takes start whole sink.old text.old → OnOk result (IsPending W.takes start (whole ++ label_line label.now) sink.new text.new) }
 {
-    match push_name(alloc, text, named) {
+    match push_label(alloc, text, label) {
         Ok(()) => write_kept(text, sink),
         Err(_) => Err(TraceStop::NoMemory),
     }
 }
 
-fn write_names<W: Sink>(
+fn write_labels<W: Sink>(
     alloc: Global,
     text: &mut String,
-    names: &[TaskName],
+    labels: &[Label],
     sink: &mut W,
 ) -> Result<(), TraceStop>
-    ensures { (start : W) (whole : List ℕ) → IsPending W.takes start whole sink.old text.old → OnOk result (IsPending W.takes start (whole ++ name_lines names.now) sink.new text.new) }
+    ensures { (start : W) (whole : List ℕ) → IsPending W.takes start whole sink.old text.old → OnOk result (IsPending W.takes start (whole ++ label_lines labels.now) sink.new text.new) }
 {
-    for named in names {
-        match write_name(alloc, text, named, sink) {
+    for label in labels {
+        match write_label(alloc, text, label, sink) {
             Ok(()) => {}
             Err(stop) => return Err(stop),
         }
@@ -136,13 +137,13 @@ fn write_to_end<W: Sink>(
     alloc: Global,
     text: &mut String,
     symbols: &Symbols,
-    names: &[TaskName],
+    labels: &[Label],
     places: &[CodePlace],
     sink: &mut W,
 ) -> Result<(), TraceStop>
-    ensures { (start : W) (whole : List ℕ) → IsPending W.takes start whole sink.old text.old → OnOk result (Took W.takes start (((whole ++ name_lines names.now) ++ place_lines symbols.now.symbols places.now) ++ codes "\n]}") sink.new) }
+    ensures { (start : W) (whole : List ℕ) → IsPending W.takes start whole sink.old text.old → OnOk result (Took W.takes start (((whole ++ label_lines labels.now) ++ place_lines symbols.now.symbols places.now) ++ codes "\n]}") sink.new) }
 {
-    match write_names(alloc, text, names, sink) {
+    match write_labels(alloc, text, labels, sink) {
         Ok(()) => write_rest_of(alloc, text, symbols, places, sink),
         Err(stop) => Err(stop),
     }
@@ -171,17 +172,27 @@ fn fit_place(place: CodePlace)
     let (_task, _at) = (place.task, place.at);
 }
 
-fn fit_name(named: &TaskName)
-    ensures { FitsName named.now }
+fn fit_time(at: Option<u64>)
+    ensures { IfSome at (λ at. at < 2 ^ 64) }
 {
-    let _task = named.task;
+    match at {
+        None => {}
+        Some(_time) => {}
+    }
 }
 
-fn fit_names(names: &[TaskName])
-    ensures { All FitsName names.now }
+fn fit_label(label: &Label)
+    ensures { FitsLabel label.now }
 {
-    for named in names {
-        fit_name(named);
+    let _task = label.task;
+    fit_time(label.from);
+}
+
+fn fit_labels(labels: &[Label])
+    ensures { All FitsLabel labels.now }
+{
+    for label in labels {
+        fit_label(label);
     }
 }
 
@@ -193,7 +204,7 @@ fn fit_places(places: &[CodePlace])
     }
 }
 
-/// Ends a trace, whatever was told, with names and places behind its records, and writes what is left of it.
+/// Ends a trace, whatever was told, with labels and places behind its records, and writes what is left of it.
 ///
 /// # Errors
 ///
@@ -202,14 +213,14 @@ pub(crate) fn finish<W: Sink>(
     alloc: Global,
     trace: &mut Trace,
     symbols: &Symbols,
-    names: &[TaskName],
+    labels: &[Label],
     places: &[CodePlace],
     sink: &mut W,
 ) -> Result<(), TraceStop>
-    ensures placed { (start : W) → IsTelling W.takes start sink.old trace.old → OnOk result (IsPlaced W.takes start names.now symbols.now.symbols places.now sink.new) }
-    ensures took { (start : W) (told : List Change) → Tells W.takes start told sink.old trace.old → OnOk result (Took W.takes start (placed_text (trace_of told) names.now symbols.now.symbols places.now) sink.new) }
+    ensures placed { (start : W) → IsTelling W.takes start sink.old trace.old → OnOk result (IsPlaced W.takes start labels.now symbols.now.symbols places.now sink.new) }
+    ensures took { (start : W) (told : List Change) → Tells W.takes start told sink.old trace.old → OnOk result (Took W.takes start (placed_text (trace_of told) labels.now symbols.now.symbols places.now) sink.new) }
 {
-    fit_names(names);
+    fit_labels(labels);
     fit_places(places);
-    write_to_end(alloc, &mut trace.text, symbols, names, places, sink)
+    write_to_end(alloc, &mut trace.text, symbols, labels, places, sink)
 }

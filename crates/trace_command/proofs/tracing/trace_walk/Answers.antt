@@ -8,7 +8,7 @@ returns-in-Ok-clause-trace g c =
     let t = run_tells (λ a. a.clock) (λ a. a.phase) (λ a. a.walk) (λ a. a.at) _ _ _ r.run refl tt in
     record {
       changes = r.changes;
-      names = r.names;
+      labels = r.labels;
       places = r.places;
       to = r.to.walk;
       time = r.to.at;

@@ -2,7 +2,7 @@ use Rattle.trace_sites.proofs.run.trace_to_end.Goals as goal
 
 pub returns-in-Ok-finish-clause-placed : goal.returns-in-Ok-finish-clause-placed
 returns-in-Ok-finish-clause-placed g c =
-    λ start tells. let r = c.in-Ok.ensures start tells in (c.names.result.now, c.places.result.now, c.in-Ok-finish.ensures.placed start (r.changes, r.told))
+    λ start tells. let r = c.in-Ok.ensures start tells in (c.labels.result.now, c.places.result.now, c.in-Ok-finish.ensures.placed start (r.changes, r.told))
 
 pub returns-in-Ok-finish-clause-run : goal.returns-in-Ok-finish-clause-run
 returns-in-Ok-finish-clause-run g c =
@@ -10,7 +10,7 @@ returns-in-Ok-finish-clause-run g c =
     let r = c.in-Ok.ensures start tells in
     record {
       changes = r.changes;
-      names = c.names.result.now;
+      labels = c.labels.result.now;
       places = c.places.result.now;
       to = r.to;
       run = r.run;

@@ -1,6 +1,6 @@
 use Rattle.std.proofs.Common.{◌≡◌}
 use Rattle.trace_command.specs.Instants.{instants_in}
-use Rattle.trace_command.proofs.changes.end_tasks.Given as goal
+use Rattle.trace_command.proofs.naming.name_tasks.Given as goal
 
 abbrev pub invariant-loop-task : goal.invariant-loop-task
 invariant-loop-task l = instants_in l.list.items ≡ instants_in l.fn.list.items
