@@ -7,7 +7,7 @@
 // ---- 1 words and codes: crates/view_page/specs/Entries.antt says what each number is
 const EVENTS = ['step', 'step', 'raise', 'bell', 'stop', 'go', 'stepi', 'set', 'setpc'];
 const LOUD_EVENTS = { 72: 'tick', 73: 'poke', 74: 'break', 75: 'unbreak' };
-const CLOCK = 72, PLACES = 99;
+const CLOCK = 72, POKE = 73, PLACES = 99;
 const RAM = 0x80000000;
 const NEWEST = 3; // profile
 const STAGES = ['out-of-band', 'in-band'];
@@ -42,7 +42,7 @@ for (const [length, codes] of Object.entries({ 1: [PLACES, 101, 110, 116, 119, 2
 // What stands before the parts of a row, by the code of its event.
 const HEADS = new Int32Array(256).fill(3);
 for (let code = 0; code < CLOCK; code += 1) HEADS[code] = code < 32 ? 2 : code < 56 ? 1 : code < 64 ? 4 : 3;
-HEADS[CLOCK] = 1; HEADS[73] = 4;
+HEADS[CLOCK] = 1; HEADS[POKE] = 4;
 function partLength(row, i) {
   const part = row[i];
   if (part >= ONCE) return part >= OFTEN ? 1 : 0;
@@ -79,6 +79,7 @@ class Run {
     this.byKey = new Map();
     this.tasks = [];
     this.marks = new Map(); // of each key the events that have such a mark, in their order
+    this.pokes = new Map(); // of each entry that is a poke, its bytes
     this.text = [];
     this.warned = new Set(); // the events that have a mark of which `warningsOf` says more
     this.read();
@@ -115,6 +116,7 @@ class Run {
     let event = 0, steps = 0, line = -1, begins = 0, stepping = -1;
     for (let k = 1; k < this.rows.length; k += 1) {
       const row = this.rows[k];
+      if (row[0] === POKE) this.pokes.set(k, this.about.pokes[this.pokes.size]);
       this.first[k] = event;
       this.steps[k] = steps;
       const quiet = row[0] < 8;
@@ -164,7 +166,7 @@ class Run {
     const before = this.state.running[cpu];
     if (before && before.task !== task) {
       const lane = this.taskLane(before.task);
-      if (lane.open && lane.open.what === 'running') this.bar(lane, event, `ready-${before.stage}`);
+      if (lane.open && lane.open.what === 'running') this.bar(lane, event, `ready-${this.tasks[before.task]?.stage ?? before.stage}`);
     }
     for (const s of [0, 1]) this.bar(this.stageLane(cpu, s), event, task !== null && s === stage ? 'runs' : null, task);
     this.state.running[cpu] = task === null ? null : { task, stage };
@@ -695,15 +697,21 @@ const ALARMS = new Set(['merged', 'merges', 'lost', 'hollow', 'faulted', 'deadli
 const times = (n) => (n > 1 ? `, ${n} times` : '');
 function eventWords(run, k) {
   const row = run.rows[k], code = row[0], cpu = code & 7;
-  const long = (i) => hexadecimal(row[i] * 4294967296 + row[i + 1]);
   const place = code < 16 ? placeWords(run, row[1]) : '';
   if (code < 8) { const n = run.first[k + 1] - run.first[k]; return `${n} Step${n > 1 ? 's' : ''} of processor ${cpu} that change only registers and RAM${place && `, from ${place}`}`; }
   if (code < 16) return `step ${cpu}${place && ` at ${place}`}`;
+  return code === POKE ? `poke ${longAt(row, 1)}, ${row[3]} bytes` : eventLine(run, k);
+}
+// A number of 64 bits, which a row has in two halves, as scripts have it: without leading zeros.
+const longAt = (row, i) => (row[i] ? row[i].toString(16) + row[i + 1].toString(16).padStart(8, '0') : row[i + 1].toString(16));
+// The line of a script that makes an event which is no Step.
+function eventLine(run, k) {
+  const row = run.rows[k], code = row[0], cpu = code & 7;
   if (code < 32) return `${EVENTS[code >> 3]} ${cpu} ${row[1]}`;
   if (code < 56) return `${EVENTS[code >> 3]} ${cpu}`;
-  if (code < 64) return `set ${cpu} ${row[3]} ${long(1)}`;
-  if (code < 72) return `setpc ${cpu} ${long(1)}`;
-  return code === CLOCK ? 'tick' : code === 73 ? `poke ${long(1)}, ${row[3]} bytes` : `${LOUD_EVENTS[code]} ${long(1)}`;
+  if (code < 64) return `set ${cpu} ${row[3]} ${longAt(row, 1)}`;
+  if (code < 72) return `setpc ${cpu} ${longAt(row, 1)}`;
+  return code === CLOCK ? 'tick' : `${LOUD_EVENTS[code]} ${longAt(row, 1)}${code === POKE ? ` ${run.pokes.get(k)}` : ''}`;
 }
 function placeWords(run, number) {
   if (number === 0) return '';
@@ -768,20 +776,20 @@ function allWords(run, k) {
 // The line of the script that repeats the run up to an event and with it, and how many lines stand before it.
 function scriptLine(run, event) {
   const k = run.at(event), code = run.rows[k][0];
-  return { before: run.lines[k], line: code < 16 ? `step ${code & 7} ${event - run.begins[k] + 1}` : eventWords(run, k) };
+  return { before: run.lines[k], line: code < 16 ? `step ${code & 7} ${event - run.begins[k] + 1}` : eventLine(run, k) };
 }
 // Scripts boot the newest profile: of a run of another one it is the journal that repeats it.
 function script(run, event) {
   const boot = `boot ${run.cpus} ${run.ram} ${run.capacity}`, lines = run.profile < NEWEST ? [`evl-journal ${run.profile}`, boot] : [run.watchdog ? `${boot} ${run.watchdog}` : boot];
   const k = run.at(event);
-  let last = null, n = 0, pokes = false;
+  let last = null, n = 0;
   const flush = () => { if (last !== null) lines.push(`step ${last} ${n}`); last = null; };
   for (let j = 1; j <= k; j += 1) {
     const code = run.rows[j][0], count = j === k ? event - run.first[j] + 1 : run.first[j + 1] - run.first[j];
-    if (code < 16) { if (last === (code & 7)) n += count; else { flush(); last = code & 7; n = count; } } else { flush(); if (code === 73) pokes = true; lines.push(eventWords(run, j)); }
+    if (code < 16) { if (last === (code & 7)) n += count; else { flush(); last = code & 7; n = count; } } else { flush(); lines.push(eventLine(run, j)); }
   }
   flush();
-  return { text: `${lines.join('\n')}\n`, pokes };
+  return `${lines.join('\n')}\n`;
 }
 
 // ---- 7 causes and effects of an event: links to other events
@@ -1033,10 +1041,9 @@ class Page {
     parts[parts.length - 1].append(copy);
     told.replaceChildren(...parts);
   }
-  async copy({ text, pokes }) {
+  async copy(text) {
     this.copied = text;
     try { await navigator.clipboard.writeText(text); } catch { const area = document.createElement('textarea'); area.value = text; document.body.append(area); area.select(); document.execCommand('copy'); area.remove(); }
-    if (pokes) $('told').append(' A poke of it lacks its bytes, which the page does not have.');
   }
   // What each task does behind an event.
   statesAt(run, event) {

@@ -63,7 +63,7 @@ pub fn push_journal<D: Device, M: Meter>(
 ) -> Result<(), WalkStop>
     ensures { OnOk result (AddsRun devices image.now run.now.journal.now (string_bytes out.old) (string_bytes out.new)) }
 {
-    let header = about_text(alloc, &run.about)?;
+    let header = about_text(alloc, &run.about, run.journal)?;
     let mut walk = Walk::start(alloc, image, devices, run.journal)?;
     push_walk(alloc, out, header.as_bytes(), &mut walk, meter)
 }
