@@ -1,6 +1,8 @@
 //! Where two journals part.
 
-use view_picture::{EventLine, Journal};
+ghost use Rattle.std.specs.Prelude.{◌≡◌, ◌↔◌, IsTrue};
+
+use view_picture::{Boot, EventLine, Journal};
 
 /// Where two journals part: the number of the first event that differs, and the events there; None where a journal ends.
 #[derive(Debug, PartialEq, Eq, Drop)]
@@ -8,6 +10,17 @@ pub struct Parting {
     pub event: u64,
     pub first: Option<EventLine>,
     pub second: Option<EventLine>,
+}
+
+/// Whether two boots differ in nothing but the journal's capacity, which no event sees.
+pub(crate) fn are_like(one: Boot, two: Boot) -> bool
+    ensures { IsTrue result ↔ (record one { capacity = two.capacity } ≡ two) }
+{
+    let same = Boot {
+        capacity: two.capacity,
+        ..one
+    };
+    same == two
 }
 
 // How many events a line has.

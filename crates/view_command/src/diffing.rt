@@ -1,6 +1,6 @@
 //! `diff`: where two journals part.
 
-use crate::comparing::{Parting, first_parting};
+use crate::comparing::{Parting, are_like, first_parting};
 use crate::drawing::ViewEnd;
 use crate::naming::names_of;
 use crate::paging::{Side, show_page};
@@ -54,7 +54,7 @@ fn history<S: System>(
 }
 
 fn compared(one: &Read, two: &Read) -> Outcome {
-    if one.0 != two.0 {
+    if !are_like(one.0, two.0) {
         return Outcome::Boots(one.0, two.0);
     }
     match first_parting(&one.1, &two.1) {
