@@ -1,4 +1,4 @@
-//! What plain Rust takes for the work of `crates/bench_bells`: rings and takes of an `AtomicU32`, and commits of one Step by
+//! What plain Rust takes for the work of `crates/bench_machine`: rings and takes of an `AtomicU32`, and commits of one Step by
 //! threads through a `std::sync::Mutex` round the machine of `peer.rs`. A commit also counts its Step in a book under the
 //! lock and in a share of the thread, and returns the registers, the pc and 16 words of code, as the measured one does. It
 //! reads the same line and writes the same text. It proves nothing.

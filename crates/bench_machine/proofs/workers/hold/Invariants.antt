@@ -1,5 +1,5 @@
 use Rattle.evm_shared.specs.EventCounts.{kind_counts}
-use Rattle.bench_bells.proofs.workers.hold.Given as goal
+use Rattle.bench_machine.proofs.workers.hold.Given as goal
 
 abbrev pub ghosts-hold_by-O-Origin : goal.ghosts-hold_by-O-Origin
 ghosts-hold_by-O-Origin g a = record { start = a.machine; base = kind_counts a.machine.journal }

@@ -1,5 +1,5 @@
 use Rattle.evm_shared.specs.EventCounts.{kind_counts}
-use Rattle.bench_bells.proofs.workers.turns.Given as goal
+use Rattle.bench_machine.proofs.workers.turns.Given as goal
 
 abbrev pub ghosts-turns_by-O-Origin : goal.ghosts-turns_by-O-Origin
 ghosts-turns_by-O-Origin g a = record { start = a.machine; base = kind_counts a.machine.journal }

@@ -1,6 +1,6 @@
 use Rattle.std.proofs.Common.{◌≡◌, All}
 use Rattle.evm_bells.specs.Seats.{RingerValue}
-use Rattle.bench_bells.proofs.bells.ringers_of.Given as goal
+use Rattle.bench_machine.proofs.bells.ringers_of.Given as goal
 
 abbrev pub invariant-loop : goal.invariant-loop
 invariant-loop l = record {

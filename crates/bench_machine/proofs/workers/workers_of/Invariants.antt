@@ -1,7 +1,7 @@
 use Rattle.std.proofs.Common.{◌≡◌, All}
 use Rattle.evm_bells.specs.Seats.{IsNewTaker}
 use Rattle.evm_shared.specs.Workers.{WorkerValue}
-use Rattle.bench_bells.proofs.workers.workers_of.Given as goal
+use Rattle.bench_machine.proofs.workers.workers_of.Given as goal
 
 abbrev pub invariant-loop-cpu : goal.invariant-loop-cpu
 invariant-loop-cpu g l = record {

@@ -1,5 +1,5 @@
 use Rattle.evm_shared.specs.EventCounts.{kind_counts}
-use Rattle.bench_bells.proofs.commits.commit.Given as goal
+use Rattle.bench_machine.proofs.commits.commit.Given as goal
 
 abbrev pub ghosts-commit_by-O-Origin : goal.ghosts-commit_by-O-Origin
 ghosts-commit_by-O-Origin g a = record { start = a.machine; base = kind_counts a.machine.journal }

@@ -1,4 +1,4 @@
-//! The lines, applied.
+//! Events that are applied to a machine without a script's service.
 
 use evm_debug::{Boot, Event, Line, Machine, read_line};
 use evm_devs::Pins;
@@ -68,7 +68,7 @@ fn lines_of(alloc: Global, text: &str) -> Option<Vec<Line>> {
 }
 
 /// Does what the lines say: how many events the machine has had then.
-pub fn work(alloc: Global, text: &str) -> Option<u64> {
+pub fn apply_script(alloc: Global, text: &str) -> Option<u64> {
     let (first, rest) = text.split_once('\n')?;
     let (head, behind) = rest.split_once("times ").unwrap_or((rest, "0\n"));
     let (times, round) = behind.split_once('\n')?;

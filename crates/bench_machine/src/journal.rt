@@ -1,13 +1,11 @@
-//! Reads a journal from standard input and tells how many events it has, or its fault: `bench/run` measures
-//! reading with it.
-#![tactic(auto)]
+//! A journal, read.
 
 use evm_journal::read_history;
 use std::io;
 
-fn main(rt: HostRuntime) -> io::Result<()> {
-    let text = io::read_to_string(rt.alloc(), rt.reader())?;
-    match read_history(rt.alloc(), text.as_str()) {
+/// Prints how many events a journal has, or its fault.
+pub fn print_count(rt: &(impl Print + AllocGlobal), text: &str) -> io::Result<()> {
+    match read_history(rt.alloc(), text) {
         Ok((_, history)) => {
             let count = history.len();
             println!(rt; "events {count}")

@@ -3,7 +3,7 @@ use Rattle.std.proofs.lemmas.List.Elements.{All-pop, All-push}
 use Rattle.std.specs.Prelude.{IfSome}
 use Rattle.evm_bells.specs.Seats.{IsNewTaker, TakerValue}
 use Rattle.evm_shared.specs.Workers.{WorkerValue}
-use Rattle.bench_bells.proofs.workers.workers_of.Goals as goal
+use Rattle.bench_machine.proofs.workers.workers_of.Goals as goal
 
 pub loop-cpu-preserved : goal.loop-cpu-preserved
 loop-cpu-preserved g c =
