@@ -1,4 +1,4 @@
-//! Commits of one Step by several threads through the lock, and Steps without one.
+//! Commits of one Step by several threads through the lock, ticks and commands, and Steps without one.
 
 ghost use Rattle.std.specs.Prelude.{◌≡◌, IfSome};
 ghost use Rattle.evm_model.specs.Replay.{IsReplayOf};
@@ -18,6 +18,9 @@ use std::thread::Threads;
 
 /// The largest journal.
 pub(crate) const CAPACITY: u32 = 1_048_576;
+
+/// The line that commands raise.
+const LINE: u8 = 8;
 
 /// `j .`: jal x0, 0.
 const LOOP: [u8; 4] = [0x6f, 0, 0, 0];
@@ -116,6 +119,51 @@ pub fn commit<R: Threads + Wait + Sync>(
         each,
     )?;
     u32::try_from(steps).ok()
+}
+
+// Ticks and commands in turn through a port, up to the first that is refused: how many were made.
+fn make_events<O: Origin, S: Ledger, B: Ledger, T: Ledger, R: Wait>(
+    rt: &R,
+    shared: &Shared<Pins, O, S, B, T>,
+    port: &mut Port<S, B, T>,
+    count: u32,
+) -> u32 {
+    let raise = Event::Raise(0, LINE);
+    for made in 0..count {
+        let answer = if made % 2 == 0 {
+            shared.tick(rt, port)
+        } else {
+            shared.command(rt, port, &raise)
+        };
+        if answer.is_err() {
+            return made;
+        }
+    }
+    count
+}
+
+fn events_by<O: Origin, S: Ledger, B: Ledger, T: Ledger, R: Wait>(
+    rt: &R,
+    alloc: Global,
+    machine: Machine<Pins>,
+    blanks: Blanks,
+    count: u32,
+) -> Option<u32>
+    requires replays { IsReplayOf O.start machine }
+    requires base { kind_counts machine.journal ≡ O.base }
+    requires steps { (blanks.steps.name ≡ S.name) × (blanks.steps.parts ≡ S.parts) × (S.parts ≡ 1) }
+    requires bells { (blanks.bells.name ≡ B.name) × (blanks.bells.parts ≡ B.parts) × (B.parts ≡ 1) }
+    requires others { (blanks.others.name ≡ T.name) × (blanks.others.parts ≡ T.parts) × (T.parts ≡ 1) }
+{
+    let (shared, mut ports) = Shared::<Pins, O, S, B, T>::new(alloc, machine, 1, 0, blanks).ok()?;
+    let mut port = ports.pop()?;
+    Some(make_events(rt, &shared, &mut port, count))
+}
+
+/// Ticks and commands by one thread: how many were made.
+pub fn events<R: Wait>(rt: &R, alloc: Global, count: u32) -> Option<u32> {
+    let machine = looping(alloc)?;
+    events_by::<Brand, Brand, Brand, Brand, R>(rt, alloc, machine, blanks(1), count)
 }
 
 /// Steps of a machine that nobody shares: how many were made.

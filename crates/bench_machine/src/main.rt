@@ -2,8 +2,8 @@
 //! - a journal: its events are counted;
 //! - the lines of a script, the first of them its boot line: they are applied to a machine, without a script's service. Lines behind
 //!   one that says `times COUNT` are applied COUNT times;
-//! - a line `ring THREADS COUNT`, `take THREADS COUNT`, `commit THREADS COUNT`, `step COUNT` or `hold COUNT`: this is done COUNT times
-//!   in all; or `turns WORKERS COUNT`: each worker makes COUNT turns.
+//! - a line `ring THREADS COUNT`, `take THREADS COUNT`, `commit THREADS COUNT`, `step COUNT`, `hold COUNT` or `events COUNT`: this is
+//!   done COUNT times in all; or `turns WORKERS COUNT`: each worker makes COUNT turns.
 //!
 //! If standard input begins with a line `==`, such a line stands before each of several works.
 #![tactic(auto)]
@@ -16,7 +16,7 @@ mod words;
 mod workers;
 
 use crate::bells::{ring, take};
-use crate::commits::{commit, step};
+use crate::commits::{commit, events, step};
 use crate::events::apply_script;
 use crate::journal::print_count;
 use crate::words::{Work, read_work};
@@ -63,6 +63,7 @@ fn print_done<R: Threads + Wait + Sync + Print + AllocGlobal>(
         Some(Work::Commit(threads, count)) => commit(rt, rt.alloc(), threads, count),
         Some(Work::Step(count)) => step(rt.alloc(), count),
         Some(Work::Hold(count)) => hold(rt, rt.alloc(), count),
+        Some(Work::Events(count)) => events(rt, rt.alloc(), count),
         Some(Work::Turns(workers, count)) => {
             let Some(steps) = turns(rt, rt.alloc(), workers, count) else {
                 return println!(rt; "not done");

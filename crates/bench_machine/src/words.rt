@@ -9,9 +9,10 @@ pub enum Work {
     Step(u32),
     Turns(u8, u32),
     Hold(u32),
+    Events(u32),
 }
 
-/// A line of a kind of work, a number of threads, and a count; of `step` and `hold` without threads.
+/// A line of a kind of work, a number of threads, and a count; of `step`, `hold` and `events` without threads.
 pub fn read_work(text: &str) -> Option<Work> {
     let (kind, rest) = text.trim_end().split_once(' ')?;
     if kind == "step" {
@@ -19,6 +20,9 @@ pub fn read_work(text: &str) -> Option<Work> {
     }
     if kind == "hold" {
         return Some(Work::Hold(rest.parse().ok()?));
+    }
+    if kind == "events" {
+        return Some(Work::Events(rest.parse().ok()?));
     }
     let (threads, count) = rest.split_once(' ')?;
     let threads = threads.parse().ok()?;

@@ -1,4 +1,4 @@
-//! Rows of the machine: events, commits and what is attached.
+//! Rows of the machine: events, commits, bursts that were done ahead, and what is attached.
 #![tactic(auto)]
 
 #[cfg(test)]

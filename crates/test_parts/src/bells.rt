@@ -132,6 +132,8 @@ fn what_nobody_took_is_left(rt: HostRuntime) {
     assert!(rt; bells.ring(&mut ringer, 7, 31));
     assert!(rt; bells.ring(&mut ringer, 7, 0));
     assert!(rt; bells.ring(&mut ringer, 0, 0));
+    assert_eq!(rt; bells.peek(7), 0x8000_0000_8000_0001);
+    assert_eq!(rt; bells.peek(1), 0);
     let Ok(closed) = bells.close(ringer, takers) else {
         panic!(rt; "a seat is out")
     };
@@ -161,8 +163,11 @@ fn a_line_rung_twice_is_taken_once(rt: HostRuntime) -> Result<(), Fail> {
     };
     assert!(rt; bells.ring(&mut ringer, 0, 3));
     assert!(rt; !bells.ring(&mut ringer, 0, 3));
+    // a look takes nothing
+    assert_eq!(rt; bells.peek(0), 8);
     let (taker, words) = take_twice(&bells, taker);
     assert_eq!(rt; words, [8, 0]);
+    assert_eq!(rt; bells.peek(0), 0);
     let takers = Vec::from_array(rt.alloc(), [taker])?;
     let Ok(closed) = bells.close(ringer, takers) else {
         panic!(rt; "a seat is out")

@@ -1,5 +1,5 @@
-//! Tests of what no script and no packet reaches: ranks above 199, processors and objects that have no queue, tasks that wait for
-//! each other, and a thread that hears GDB.
+//! Tests of what no script and no packet reaches: ranks above 199 and computed anew, processors and objects that have no queue, tasks that
+//! wait for each other, devices, bells, and a thread that hears GDB.
 #![tactic(auto)]
 
 #[cfg(test)]

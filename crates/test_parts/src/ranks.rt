@@ -19,6 +19,9 @@ const TASKS: u64 = 16;
 
 const MUTEXES: u64 = 8;
 
+// How many there are of each other kind of object.
+const OBJECTS: u64 = 2;
+
 // Where each task begins.
 const ENTRY: u64 = 0x8000_0000;
 
@@ -77,45 +80,76 @@ fn deadline(random: &mut Generator, ticks: u64) -> u64 {
     }
 }
 
-// A call on an object.
-fn object_call(random: &mut Generator, ticks: u64) -> Call {
+// A call on a mutex, or on an event and a mutex.
+fn mutex_call(random: &mut Generator, ticks: u64) -> Call {
     let mutex = random.below(MUTEXES);
     let until = deadline(random, ticks);
     match random.below(8) {
         0..=2 => call_of(36, mutex, until, 0),
-        3 | 4 => call_of(38, mutex, 0, 0),
-        5 => call_of(42, random.below(2), mutex, until),
-        6 => call_of(43 + random.below(2), random.below(2), 0, 0),
-        _ => call_of(39 + 2 * random.below(2), random.below(2), until, 0),
+        3 => call_of(37, mutex, 0, 0),
+        4 | 5 => call_of(38, mutex, 0, 0),
+        6 => call_of(42, random.below(OBJECTS), mutex, until),
+        _ => call_of(43 + random.below(2), random.below(OBJECTS), 0, 0),
     }
 }
 
-// The caller ends, or creates a task, or yields.
+// A call on a semaphore, a flag group or a timer.
+fn object_call(random: &mut Generator, ticks: u64) -> Call {
+    let object = random.below(OBJECTS);
+    let until = deadline(random, ticks);
+    match random.below(8) {
+        0 => call_of(39, object, until, 0),
+        1 => call_of(40, object, 0, 0),
+        2 => call_of(41, object, 0, 0),
+        3 => call_of(45, object, until, 0),
+        4 => call_of(46, object, 1 + random.below(8), 0),
+        5 => call_of(48, object, until, random.below(4)),
+        6 => call_of(49, object, 0, 0),
+        _ => call_of(14, 2 + random.below(8), random.below(3), object),
+    }
+}
+
+// The caller ends, or creates a task, or moves, or yields.
 fn life_call(random: &mut Generator) -> Call {
-    match random.below(6) {
+    match random.below(8) {
         0 | 1 => call_of(0, 0, 0, 0),
         2 => call_of(3, ENTRY, 0, random.below(4)),
+        3 => call_of(55, random.below(4), 0, 0),
+        4 => call_of(2, 0, 0, 0),
         _ => call_of(50, 0, 0, 0),
+    }
+}
+
+// A stage of the caller's processor is stalled, or more often plays lines again; or the caller waits for a line.
+fn line_call(random: &mut Generator) -> Call {
+    match random.below(8) {
+        0 => call_of(4, 0, 0, 0),
+        1 | 2 => call_of(5, 0, 0, 0),
+        3 => call_of(51, 0, 0, 0),
+        4..=6 => call_of(52, 0, 0, 0),
+        _ => call_of(6, 2 + random.below(8), 0, 0),
     }
 }
 
 // A call on the caller's or another task's place.
 fn task_call(random: &mut Generator, ticks: u64) -> Call {
     let class = 1 + random.below(4);
-    match random.below(8) {
-        0..=2 => call_of(7, class, priority(random), 0),
-        3 | 4 => call_of(34, random.below(TASKS), class, priority(random)),
-        5 => call_of(47, ticks.saturating_add(random.below(8)), 0, 0),
-        6 => call_of(32 + random.below(2), 0, 0, 0),
+    match random.below(12) {
+        0..=3 => call_of(7, class, priority(random), 0),
+        4 => call_of(8, 0, 0, 0),
+        5 | 6 => call_of(34, random.below(TASKS), class, priority(random)),
+        7 => call_of(47, ticks.saturating_add(random.below(8)), 0, 0),
+        8 | 9 => call_of(32 + random.below(2), 0, 0, 0),
+        10 => line_call(random),
         _ => life_call(random),
     }
 }
 
 fn any_call(random: &mut Generator, ticks: u64) -> Call {
-    if random.below(2) == 0 {
-        object_call(random, ticks)
-    } else {
-        task_call(random, ticks)
+    match random.below(4) {
+        0 => object_call(random, ticks),
+        1 => mutex_call(random, ticks),
+        _ => task_call(random, ticks),
     }
 }
 
@@ -199,9 +233,9 @@ fn happens(machine: &mut Machine<Pins>, event: Event<&Block>) -> Result<u32, Fai
     Ok(1)
 }
 
-// The current task of a processor makes a call, which may take a step that changes its stage first.
+// The current task of a processor makes a call, which may take a step that changes its stage first. The debugger's commands before it are
+// not counted.
 fn makes(machine: &mut Machine<Pins>, c: u8, call: Call) -> Result<u32, Fail> {
-    let mut events = 0u32;
     for event in [
         Event::Stop(c),
         Event::SetReg(c, 17, call.number),
@@ -210,19 +244,26 @@ fn makes(machine: &mut Machine<Pins>, c: u8, call: Call) -> Result<u32, Fail> {
         Event::SetReg(c, 12, call.third),
         Event::Go(c),
     ] {
-        events = events.saturating_add(happens(machine, event)?);
+        happens(machine, event)?;
     }
     let first = steps(machine, c)?;
     let second = steps(machine, c)?;
-    Ok(events.saturating_add(first).saturating_add(second))
+    Ok(first.saturating_add(second))
 }
 
-// A call, or a tick, or a step of a processor.
+// A line of some that a task may wait for, or that act on an object.
+fn line_of(random: &mut Generator) -> u8 {
+    2 + random.below(8) as u8
+}
+
+// A call, or a tick, or a line, or a step of a processor.
 fn round(machine: &mut Machine<Pins>, random: &mut Generator) -> Result<u32, Fail> {
     let c = random.below(u64::from(PROCESSORS)) as u8;
-    match random.below(8) {
+    match random.below(12) {
         0 => happens(machine, Event::Tick),
-        1 | 2 => steps(machine, c),
+        1 => happens(machine, Event::Raise(c, line_of(random))),
+        2 => happens(machine, Event::Bell(c, line_of(random))),
+        3..=5 => steps(machine, c),
         _ => {
             let call = any_call(random, machine.ticks());
             makes(machine, c, call)
@@ -230,14 +271,16 @@ fn round(machine: &mut Machine<Pins>, random: &mut Generator) -> Result<u32, Fai
     }
 }
 
-// Task 0 creates eight mutexes of all kinds, two semaphores, two events, and the other 15 tasks.
+// Task 0 creates eight mutexes of all kinds, two of each other object, and the other 15 tasks.
 fn begins(machine: &mut Machine<Pins>) -> Result<(), Fail> {
     for m in 0..MUTEXES {
         makes(machine, 0, call_of(9, m % 4, 20 + 10 * m, 0))?;
     }
-    for _ in 0..2 {
+    for _ in 0..OBJECTS {
         makes(machine, 0, call_of(10, 1, 0, 0))?;
         makes(machine, 0, call_of(11, 0, 0, 0))?;
+        makes(machine, 0, call_of(12, 0, 0, 0))?;
+        makes(machine, 0, call_of(13, 0, 0, 0))?;
     }
     for t in 1..TASKS {
         makes(machine, 0, call_of(3, ENTRY, 0, t % 4))?;
@@ -247,7 +290,7 @@ fn begins(machine: &mut Machine<Pins>) -> Result<(), Fail> {
 
 // Four processors that run the program.
 fn booted(alloc: Global) -> Result<Machine<Pins>, Fail> {
-    let Ok(mut machine) = Machine::boot(alloc, PROCESSORS, 65_536, 16_384) else {
+    let Ok(mut machine) = Machine::boot(alloc, PROCESSORS, 65_536, 131_072) else {
         return Err(Fail::from("the boot is refused"));
     };
     let mut bytes = Block::new();
@@ -277,6 +320,8 @@ fn ranks_and_bests_are_those_computed_anew(rt: HostRuntime) -> Result<(), Fail> 
     begins(&mut machine)?;
     assert_eq!(rt; machine.task_count(), 16);
     assert_eq!(rt; machine.mutex_count(), 8);
+    assert_eq!(rt; machine.timer_count(), 2);
+    assert_eq!(rt; machine.flag_group_count(), 2);
     let mut random = Generator { state: 1 };
     let mut events = 0u32;
     for _ in 0..20_000 {

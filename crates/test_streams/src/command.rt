@@ -12,15 +12,20 @@ use std::thread::Threads;
 
 mod messages;
 
-/// Gives at most seven bytes at a call, and fails after `calls` calls.
+/// Gives at most seven bytes at a call, and fails after `calls` calls; or gives bytes without an end.
 #[derive(Drop)]
 struct Reader<'a> {
     rest: &'a [u8],
     calls: usize,
+    endless: bool,
 }
 
 impl Read for Reader<'_> {
     fn read(&mut self, buf: &mut [u8]) -> io::Result<usize> {
+        if self.endless {
+            buf.fill(b'#');
+            return Ok(buf.len());
+        }
         if self.calls == 0 {
             return Err(Error::from(ErrorKind::Interrupted));
         }
@@ -60,6 +65,8 @@ impl Write for Writer<'_> {
 struct Setup<'a> {
     files: &'a [(&'a str, &'a [u8])],
     script: &'a [u8],
+    /// Whether standard input has no end.
+    endless: bool,
     reads: usize,
     room: usize,
     asked: Cell<usize>,
@@ -74,6 +81,7 @@ impl Setup<'static> {
         Setup {
             files: FILES.as_slice(),
             script: SCRIPT,
+            endless: false,
             reads,
             room,
             asked: Cell::new(0),
@@ -115,11 +123,19 @@ impl<'a> System for Fake<'a> {
 
     fn open(&mut self, path: &str) -> Result<Reader<'a>, OpenFault> {
         self.note(1);
+        if path == "endless" {
+            return Ok(Reader {
+                rest: b"",
+                calls: 0,
+                endless: true,
+            });
+        }
         for (name, bytes) in self.setup.files.iter() {
             if *name == path {
                 return Ok(Reader {
                     rest: *bytes,
                     calls: self.setup.reads,
+                    endless: false,
                 });
             }
         }
@@ -150,6 +166,7 @@ fn status_of<'a, R: Threads + Wait + Sync>(
         input: Reader {
             rest: setup.script,
             calls: setup.reads,
+            endless: setup.endless,
         },
         output: Writer {
             taken: &setup.output,
@@ -253,6 +270,29 @@ fn failed_reads_end_with_status_4(rt: HostRuntime) -> Result<(), Fail> {
                 "{reads} reads of {line}"
             );
         }
+    }
+    Ok(())
+}
+
+// Nothing is written, and no file is created, of a source, a script, an image or a journal without an end.
+#[test]
+fn readers_without_an_end_end_with_status_4(rt: HostRuntime) -> Result<(), Fail> {
+    for (line, asked) in [
+        ("evltool asm endless out", 1),
+        ("evltool run", 0),
+        ("evltool run endless", 1),
+        ("evltool replay endless recorded", 1),
+        ("evltool replay loop endless", 11),
+        ("evltool threads endless 1", 1),
+    ] {
+        let mut setup = Setup::new(1000, 10_000);
+        setup.endless = true;
+        let answered = status_of(&rt, rt.alloc(), line, &setup)?;
+        assert_eq!(rt; answered, 4, "the status of {line}");
+        assert_eq!(rt; setup.asked.get(), asked, "what {line} asks for");
+        let written = setup.out.get().saturating_add(setup.output.get());
+        assert_eq!(rt; written, 0, "what {line} writes");
+        assert!(rt; setup.errors.get() != 0, "what {line} reports");
     }
     Ok(())
 }
