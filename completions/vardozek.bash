@@ -45,7 +45,7 @@ _vardozek() {
         run:-*) COMPREPLY=($(compgen -W "--cpus --ram --watchdog --ticks --lines --seed --until --script --journal --map --help" -- "$word")) ;;
         view:-*) COMPREPLY=($(compgen -W "--from --to --text --mutexes --beside --map --run --cpus --ram --watchdog --ticks --lines --seed --until --script --help" -- "$word")) ;;
         trace:-*) COMPREPLY=($(compgen -W "--clock --map --run --cpus --ram --watchdog --ticks --lines --seed --until --script --help" -- "$word")) ;;
-        gdb:-*) COMPREPLY=($(compgen -W "--help" -- "$word")) ;;
+        gdb:-*) COMPREPLY=($(compgen -W "--map --help" -- "$word")) ;;
         sh:-*) COMPREPLY=($(compgen -W "--script --journal --junit --map --help" -- "$word")) ;;
         hunt:-*) COMPREPLY=($(compgen -W "--random --pct --all --cpus --ram --watchdog --events --runs --time --seeds --lines --fail --errno --order --out --junit --map --held --inversion --stuck --help" -- "$word")) ;;
         view:*) COMPREPLY=($(compgen -W "diff" -- "$word") $(compgen -f -- "$word")) ;;

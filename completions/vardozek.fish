@@ -46,6 +46,7 @@ complete -c vardozek -n '__fish_seen_subcommand_from trace' -l lines -x -d 'Line
 complete -c vardozek -n '__fish_seen_subcommand_from trace' -l seed -x -d 'Draws which processor steps next; without it each steps in turn'
 complete -c vardozek -n '__fish_seen_subcommand_from trace' -l until -r -d 'exit, idle or a number of events at most [default: exit]'
 complete -c vardozek -n '__fish_seen_subcommand_from trace' -l script -r -d 'Runs by the lines of a script, in the place of all that'
+complete -c vardozek -n '__fish_seen_subcommand_from gdb' -l map -r -d 'Names and lines of sources, as kit/map writes them [default: beside IMAGE]'
 complete -c vardozek -n '__fish_seen_subcommand_from sh' -l script -r -d 'Writes the lines of a script that were done, which evltool run repeats'
 complete -c vardozek -n '__fish_seen_subcommand_from sh' -l journal -r -d 'Writes the journal'
 complete -c vardozek -n '__fish_seen_subcommand_from sh' -l junit -r -d 'Writes a test suite, a case for each line expect, with the files of --journal and --script'

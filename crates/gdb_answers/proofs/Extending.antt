@@ -3,6 +3,9 @@ use Rattle.std.proofs.Common.{◌≡◌, ℕ, List, [], ◌++◌, refl, sym, ap,
 use Rattle.std.proofs.lemmas.List.{append-nil}
 use Rattle.gdb_answers.specs.Written.{Extends}
 
+pub behind_nothing : (out : List ℕ) → out ≡ out ++ []
+behind_nothing out = sym (append-nil out)
+
 pub extends_none : (out : List ℕ) → Extends out out
 extends_none out = record { more = []; whole = sym (append-nil out) }
 

@@ -1,4 +1,6 @@
 pub mod Answers
 pub mod Asking
 pub mod Setting
+pub mod Starting
 pub mod Written
+pub use Rattle.gdb_tape.specs as gdb_tape

@@ -16,19 +16,22 @@ use crate::monitor::{LineEnd, run_monitor};
 use crate::questions::answer_question;
 use crate::resuming::{answer_resumed, answer_reversed, dropped_text, refusal_text};
 use crate::session::GdbSession;
+use crate::starting::answer_start;
+use crate::words::put_thread;
 use evm_dev::Device;
 use evm_devs::AnyDevice;
 use evm_room::{NoMemory, Refused, push_text};
 use gdb_commands::{Command, Pace};
-use gdb_packets::read_digits;
+use gdb_packets::{push_digits, read_digits};
 use gdb_tape::{
     Interrupts, Machine, Points, Refusal, WatchPoint, processor_of, push_bytes, push_error,
-    push_outcome, push_task_text, set_register, set_registers, word_at, write,
+    push_outcome, set_register, set_registers, word_at, write,
 };
+use sh_answers::Page;
 use std::alloc::Global;
 
 /// The error of a packet whose digits or numbers are wrong: 22 (EINVAL).
-const MALFORMED: u8 = 22;
+pub(crate) const MALFORMED: u8 = 22;
 
 // Sets a register of the task that is looked at.
 #[tactic(auto, using(crate::proofs::Kept::keeps_same))]
@@ -317,23 +320,31 @@ fn answer_order<I: Interrupts>(
             push_bytes(out, b"OK")
         }
         Command::Kill => {
-            session.over = true;
+            session.over = !session.extended;
             Ok(())
+        }
+        Command::Extended | Command::Run(_) | Command::Restart | Command::KillProcess => {
+            answer_start(session, command, out)
         }
         _ => answer_question(session, command, out),
     }
 }
 
-// The answer to what there is to say of a thread.
-fn answer_text<D: Device>(
+// The answer to what there is to say of a thread, as digits.
+fn answer_text(
     alloc: Global,
-    machine: &Machine<D>,
+    session: &GdbSession,
     thread: Option<u8>,
     out: &mut Vec<u8>,
 ) -> Result<(), NoMemory> {
-    match thread {
-        Some(task) => push_task_text(alloc, out, machine, task),
-        None => Ok(()),
+    let Some(task) = thread else {
+        return Ok(());
+    };
+    let mut page = Page::new(alloc);
+    put_thread(alloc, &mut page, session, task)?;
+    match push_digits(out, page.bytes()) {
+        Ok(()) => Ok(()),
+        Err(_) => Err(NoMemory),
     }
 }
 
@@ -372,7 +383,7 @@ pub(crate) fn answer<I: Interrupts>(
         | Command::WriteDigits(_, _) => {
             answer_digits(alloc, session, command, behind, data, told, out)
         }
-        Command::ThreadText(thread) => answer_text(alloc, &session.tape.machine, thread, out),
+        Command::ThreadText(thread) => answer_text(alloc, session, thread, out),
         _ => match answer_order(alloc, session, command, interrupts, told, out) {
             Ok(()) => Ok(()),
             Err(_) => Err(NoMemory),

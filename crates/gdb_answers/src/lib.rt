@@ -8,7 +8,9 @@ mod questions;
 mod resuming;
 mod serving;
 mod session;
+mod starting;
 mod target;
+mod words;
 
 pub use evm_model::CAPACITY_LIMIT;
 pub use evm_ram::SIZE_LIMIT;
@@ -18,3 +20,4 @@ pub use gdb_tape::{
 pub use monitor::{LineEnd, run_line};
 pub use serving::{Ended, serve_gdb};
 pub use session::GdbSession;
+pub use sh_answers::Names;

@@ -4,11 +4,13 @@ ghost use Rattle.gdb_tape.specs.gdb_driving.Kept.{KeepsJournal};
 ghost use Rattle.gdb_tape.specs.Tape.{KeepsTape};
 
 use crate::session::{GdbSession, TURN_LIMIT, each_processor};
+use crate::words::put_machine;
 use arrayvec::ArrayVec;
 use evm_dev::Device;
 use evm_room::{NoMemory, Refused, push_text};
 use evm_text::{after_word, decimal_at, decimal_last, push_decimal};
 use gdb_tape::{Line, Machine, Refusal, View, ViewRefusal, push_view, read_line};
+use sh_answers::Page;
 use std::alloc::Global;
 
 /// What came of a line.
@@ -157,7 +159,8 @@ pub(crate) const HELP: &str = "limit N               a continue makes at most N 
 clock N               the clock ticks behind N rounds of turns, and when all
                       tasks wait and something is due; 0 for never
 restart               the machine is as it was when the session began
-machine               says what the machine has, and where the session stands
+machine               says who runs, waits and owns, which interrupts are pending,
+                      and where the session stands
 save NAME             writes the journal, NAME.journal, and as a script, NAME.script
 schedule C C ..       in a continue these processors step, one after the other
 schedule round-robin  in a continue each processor steps in turn
@@ -195,7 +198,7 @@ fn push_count(out: &mut String, number: u64, words: &str) -> Result<(), Refused>
 }
 
 // Appends what the machine has, and where the session stands.
-fn push_machine(out: &mut String, session: &GdbSession) -> Result<(), Refused> {
+fn push_counts(out: &mut String, session: &GdbSession) -> Result<(), Refused> {
     let machine = &session.tape.machine;
     let boot = machine.boot_numbers();
     push_count(out, boot.cpus, " processors\n")?;
@@ -212,6 +215,21 @@ fn push_machine(out: &mut String, session: &GdbSession) -> Result<(), Refused> {
     push_count(out, u64::from(session.clock), " rounds from tick to tick\n")
 }
 
+// The same, behind who runs, waits and owns.
+fn answer_machine(
+    alloc: Global,
+    session: &GdbSession,
+    text: &mut String,
+) -> Result<LineEnd, NoMemory> {
+    let mut page = Page::new(alloc);
+    put_machine(alloc, &mut page, session)?;
+    let words = std::str::from_utf8(page.bytes()).unwrap_or("");
+    if push_text(text, words).is_err() || push_counts(text, session).is_err() {
+        return Err(NoMemory);
+    }
+    Ok(LineEnd::Done)
+}
+
 // Goes to where the session began, and drops the events behind that.
 #[tactic(auto, using(gdb_tape::proofs::Keeping::keeps_same, gdb_tape::proofs::Keeping::keeps_more))]
 fn restart(alloc: Global, session: &mut GdbSession) -> LineEnd
@@ -221,6 +239,7 @@ fn restart(alloc: Global, session: &mut GdbSession) -> LineEnd
     match session.tape.go_to(alloc, begin) {
         Ok(()) => {
             session.forget();
+            session.told_full = false;
             LineEnd::Done
         }
         Err(refusal) => LineEnd::Refused(refusal),
@@ -263,10 +282,7 @@ pub(crate) fn run_monitor(
                 Err(_) => Err(NoMemory),
             }
         }
-        Some(Own::Machine) => match push_machine(text, session) {
-            Ok(()) => Ok(LineEnd::Done),
-            Err(_) => Err(NoMemory),
-        },
+        Some(Own::Machine) => answer_machine(alloc, session, text),
         Some(Own::Help) => match push_text(text, HELP) {
             Ok(()) => Ok(LineEnd::Done),
             Err(_) => Err(NoMemory),

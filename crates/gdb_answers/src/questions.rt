@@ -87,7 +87,8 @@ pub(crate) fn answer_question(
             push_part(out, DESCRIPTION.as_bytes(), offset, count)
         }
         Command::MemoryMap(offset, count) => {
-            let map = memory_map(session.tape.machine.boot_numbers().ram);
+            let machine = &session.tape.machine;
+            let map = memory_map(machine.boot_numbers().ram, machine.device_count());
             push_part(out, map.as_slice(), offset, count)
         }
         Command::Actions => push_bytes(out, ACTIONS.as_bytes()),

@@ -8,7 +8,8 @@ use evm_dev::Device;
 use evm_room::{Refused, push_text};
 use gdb_commands::Pace;
 use gdb_tape::{
-    Going, Interrupts, Machine, Refusal, TargetHalt, Why, push_error, push_halt, resume, step,
+    Going, Interrupts, Machine, Refusal, TargetHalt, Why, lacks_room, push_error, push_halt,
+    resume, step,
 };
 use std::alloc::Global;
 
@@ -114,9 +115,20 @@ pub(crate) fn refusal_text(refusal: Refusal) -> &'static str {
     }
 }
 
+/// What is said once where the journal has no room for another event.
+const FULL: &str =
+    "vardozek gdb: the journal is full, so the machine stops here and nothing is lost: monitor save NAME writes it, monitor restart and run begin again\n";
+
 // What a stop means, where a signal doesn't say it.
-fn note_of(why: Why) -> &'static str {
+fn note_of(session: &mut GdbSession, why: Why) -> &'static str
+    ensures { session.new.tape ≡ session.old.tape }
+{
     match why {
+        Why::Full if session.told_full => "",
+        Why::Full => {
+            session.told_full = true;
+            FULL
+        }
         Why::Limit =>
             "vardozek gdb: stopped after as many events as a continue may make (monitor limit N)\n",
         Why::Idle =>
@@ -153,13 +165,33 @@ fn answer_halt(
         Ok(halt) => {
             session.halt = halt;
             session.looked = halt.task;
-            push_text(told, note_of(halt.why))?;
+            let note = note_of(session, halt.why);
+            push_text(told, note)?;
             push_halt(out, &halt)
         }
         Err(refusal) => {
             push_text(told, refusal_text(refusal))?;
             push_error(out, refusal.number())
         }
+    }
+}
+
+// A stop because the journal has no room for another event, where that is why the machine didn't go on.
+fn full_or<D: Device>(
+    machine: &Machine<D>,
+    looked: u8,
+    outcome: Result<TargetHalt, Refusal>,
+) -> Result<TargetHalt, Refusal> {
+    match outcome {
+        Err(Refusal::Full) => Ok(TargetHalt {
+            task: looked,
+            why: Why::Full,
+        }),
+        Ok(halt) if halt.why == Why::Limit && lacks_room(machine) => Ok(TargetHalt {
+            task: halt.task,
+            why: Why::Full,
+        }),
+        _ => outcome,
     }
 }
 
@@ -178,7 +210,9 @@ fn go_on<I: Interrupts>(
     if session.tape.is_back() {
         go_again(alloc, session, pace, thread)
     } else {
-        go_live(session, pace, thread, others, interrupts)
+        let looked = session.looked;
+        let outcome = go_live(session, pace, thread, others, interrupts);
+        full_or(&session.tape.machine, looked, outcome)
     }
 }
 

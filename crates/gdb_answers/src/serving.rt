@@ -9,7 +9,8 @@ ghost use Rattle.gdb_answers.specs.Written.{Extends, acknowledgement};
 ghost use Rattle.gdb_tape.specs.Tape.{KeepsTape};
 
 use crate::answering::answer;
-use crate::session::GdbSession;
+use crate::session::{Booting, GdbSession};
+use crate::starting::{has_reply, pause_of, waits_for_boot};
 use evm_room::{NoMemory, Refused};
 use evm_streams::{ReadFault, Reading, Sink, Source, WriteFault, write_all};
 use gdb_commands::{Command, read_command};
@@ -25,6 +26,8 @@ pub enum Ended {
     Left,
     /// The session is to be saved, and goes on then.
     Saves,
+    /// The machine is to boot anew, with the image as it is now, and the session goes on then.
+    Boots,
     /// An allocation failed.
     NoMemory,
     /// A read failed.
@@ -93,11 +96,11 @@ fn cut_text(text: &[u8]) -> (&[u8], &[u8])
 
 // Appends the packet of an answer, if GDB waits for one.
 #[tactic(auto, using(crate::proofs::Extending::extends_none, crate::proofs::Extending::extends_by))]
-fn push_answer(answer: &[u8], over: bool, out: &mut Vec<u8>) -> Result<(), Refused>
+fn push_answer(answer: &[u8], silent: bool, out: &mut Vec<u8>) -> Result<(), Refused>
     ensures extends { OnOk result (Extends out.old.items out.new.items) }
     ensures some { 0 < length answer.now → OnOk result (out.new.items ≡ out.old.items ++ framed answer.now) }
 {
-    if over && answer.is_empty() {
+    if silent && answer.is_empty() {
         return Ok(());
     }
     push_framed(out, answer)
@@ -105,7 +108,7 @@ fn push_answer(answer: &[u8], over: bool, out: &mut Vec<u8>) -> Result<(), Refus
 
 // Appends the packets of an answer: those that show a text, and the answer itself.
 #[tactic(auto, using(crate::proofs::Extending::extends_more))]
-fn push_packets(desk: &mut Desk, over: bool) -> Result<(), NoMemory>
+fn push_packets(desk: &mut Desk, silent: bool) -> Result<(), NoMemory>
     ensures extends { OnOk result (Extends desk.old.out.items desk.new.out.items) }
     ensures alone { length (string_bytes desk.old.told) ≡ 0 → 0 < length desk.old.answer.items → OnOk result (desk.new.out.items ≡ desk.old.out.items ++ framed desk.old.answer.items) }
 {
@@ -113,7 +116,7 @@ fn push_packets(desk: &mut Desk, over: bool) -> Result<(), NoMemory>
         Ok(()) => {}
         Err(_) => return Err(NoMemory),
     }
-    match push_answer(desk.answer.as_slice(), over, &mut desk.out) {
+    match push_answer(desk.answer.as_slice(), silent, &mut desk.out) {
         Ok(()) => Ok(()),
         Err(_) => Err(NoMemory),
     }
@@ -135,6 +138,7 @@ fn answer_command<I: Interrupts>(
 {
     desk.told.clear();
     desk.answer.clear();
+    let silent = !has_reply(session.extended, command);
     match answer(
         alloc,
         session,
@@ -145,7 +149,7 @@ fn answer_command<I: Interrupts>(
         &mut desk.told,
         &mut desk.answer,
     ) {
-        Ok(()) => push_packets(desk, session.over),
+        Ok(()) => push_packets(desk, silent),
         Err(NoMemory) => Err(NoMemory),
     }
 }
@@ -309,7 +313,7 @@ fn serve_item<W: Sink, I: Interrupts>(
     }
 }
 
-// Answers the items that are whole in some bytes: how many bytes are left.
+// Answers the items that are whole in some bytes: how many bytes are left. One for which the machine is to boot anew is left.
 #[tactic(auto, using(gdb_tape::proofs::Keeping::keeps_same, gdb_tape::proofs::Keeping::keeps_more))]
 fn serve_items<W: Sink, I: Interrupts>(
     alloc: Global,
@@ -331,6 +335,10 @@ fn serve_items<W: Sink, I: Interrupts>(
             Err(_) => return Err(Ended::NoMemory),
             Ok(None) => return Ok(rest.len()),
             Ok(Some((item, after))) => {
+                if waits_for_boot(session, item, payload.as_slice()) {
+                    session.booting = Booting::Asked;
+                    return Ok(rest.len());
+                }
                 match serve_item(
                     alloc,
                     session,
@@ -343,6 +351,7 @@ fn serve_items<W: Sink, I: Interrupts>(
                     Ok(()) => rest = after,
                     Err(ended) => return Err(ended),
                 }
+                session.booting = Booting::Idle;
             }
         }
     }
@@ -371,8 +380,8 @@ fn keep_last(heard: &mut Vec<u8>, left: usize) {
     }
 }
 
-/// Serves a session: reads what GDB sends until it leaves or asks that the session be saved, and writes the answers. While the program goes on, the source
-/// says whether GDB asks that it be stopped.
+/// Serves a session: reads what GDB sends until it leaves, or asks that the session be saved or the machine boots anew, and writes the
+/// answers. While the program goes on, the source says whether GDB asks that it be stopped.
 #[tactic(auto, using(gdb_tape::proofs::Keeping::keeps_same, gdb_tape::proofs::Keeping::keeps_more))]
 pub fn serve_gdb<R: Source + Interrupts, W: Sink>(
     alloc: Global,
@@ -386,11 +395,6 @@ pub fn serve_gdb<R: Source + Interrupts, W: Sink>(
     let mut heard = mem::replace(&mut session.heard, Vec::new(alloc));
     let mut payload = Vec::new(alloc);
     'parts: for _ in 0..u64::MAX {
-        match read_more(source, &mut heard) {
-            Ok(true) => {}
-            Ok(false) => return Ended::Left,
-            Err(ended) => return ended,
-        }
         match serve_items(
             alloc,
             session,
@@ -403,12 +407,14 @@ pub fn serve_gdb<R: Source + Interrupts, W: Sink>(
             Ok(left) => keep_last(&mut heard, left),
             Err(ended) => return ended,
         }
-        if session.over {
-            return Ended::Left;
-        }
-        if !session.save.is_empty() {
+        if let Some(ended) = pause_of(session) {
             session.heard = heard;
-            return Ended::Saves;
+            return ended;
+        }
+        match read_more(source, &mut heard) {
+            Ok(true) => {}
+            Ok(false) => return Ended::Left,
+            Err(ended) => return ended,
         }
     }
     Ended::Left

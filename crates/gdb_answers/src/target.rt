@@ -58,29 +58,62 @@ pub(crate) const DESCRIPTION: &str = "<?xml version=\"1.0\"?>
 </target>
 ";
 
-/// The memory map of RAM of this size. Devices aren't in it, as they can't be read.
-pub(crate) fn memory_map(ram: u64) -> ArrayVec<u8, MAP_LIMIT> {
+/// The memory map of RAM of this size, and of the registers of this number of devices.
+pub(crate) fn memory_map(ram: u64, devices: usize) -> MemoryMap {
     let mut map = ArrayVec::new();
-    let _ = map.try_extend_from_slice(MAP_HEAD.as_bytes());
-    for byte in ram.to_be_bytes().as_slice() {
-        let _ = map.try_push(digit(*byte / 16));
-        let _ = map.try_push(digit(*byte % 16));
+    push_map(&mut map, MAP_HEAD);
+    for i in 0..devices.min(DEVICE_LIMIT) {
+        push_region(&mut map, DEVICES + i as u64 * DEVICE_STRIDE, DEVICE_BYTES);
     }
-    let _ = map.try_extend_from_slice(MAP_TAIL.as_bytes());
+    push_region(&mut map, RAM, ram);
+    push_map(&mut map, MAP_TAIL);
     map
 }
 
-/// The room of a memory map.
-pub(crate) const MAP_LIMIT: usize = 320;
+/// A memory map.
+type MemoryMap = ArrayVec<u8, 1024>;
+
+/// Where RAM begins.
+const RAM: u64 = 0x8000_0000;
+
+/// Where the registers of the first device are, how far those of the next are, and how many bytes they take.
+const DEVICES: u64 = 0x1000_0000;
+
+const DEVICE_STRIDE: u64 = 0x1000;
+
+const DEVICE_BYTES: u64 = 0x80;
+
+/// How many devices there are at most.
+const DEVICE_LIMIT: usize = 8;
 
 const MAP_HEAD: &str = "<?xml version=\"1.0\"?>
 <!DOCTYPE memory-map PUBLIC \"+//IDN gnu.org//DTD GDB Memory Map V1.0//EN\" \"http://sourceware.org/gdb/gdb-memory-map.dtd\">
 <memory-map>
-<memory type=\"ram\" start=\"0x80000000\" length=\"0x";
-
-const MAP_TAIL: &str = "\"/>
-</memory-map>
 ";
+
+const MAP_TAIL: &str = "</memory-map>\n";
+
+// Appends a text; of one that is too long nothing.
+fn push_map(map: &mut MemoryMap, text: &str) {
+    let _ = map.try_extend_from_slice(text.as_bytes());
+}
+
+// Appends a number of 16 digits.
+fn push_number(map: &mut MemoryMap, number: u64) {
+    for byte in number.to_be_bytes().as_slice() {
+        let _ = map.try_push(digit(*byte / 16));
+        let _ = map.try_push(digit(*byte % 16));
+    }
+}
+
+// Appends memory that may be read and written.
+fn push_region(map: &mut MemoryMap, start: u64, length: u64) {
+    push_map(map, "<memory type=\"ram\" start=\"0x");
+    push_number(map, start);
+    push_map(map, "\" length=\"0x");
+    push_number(map, length);
+    push_map(map, "\"/>\n");
+}
 
 // The digit of a number below 16.
 fn digit(number: u8) -> u8 {

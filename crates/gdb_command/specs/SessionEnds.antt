@@ -8,7 +8,7 @@ use Rattle.evm_host.specs.declared.system.World.{World}
 use Rattle.evm_host.specs.Asks.{NotRead}
 use Rattle.evm_host.specs.Exit.{Ended}
 use Rattle.gdb_answers.specs.declared.serving.Ended as declared
-use Rattle.gdb_answers.specs.declared.serving.Ended.TheVariants.{Left, Saves, NoMemory, ReadFailed, WriteFailed}
+use Rattle.gdb_answers.specs.declared.serving.Ended.TheVariants.{Left, Saves, Boots, NoMemory, ReadFailed, WriteFailed}
 use Rattle.gdb_hearing.specs.declared.ends.HearingEnd.{HearingEnd}
 use Rattle.gdb_hearing.specs.declared.ends.HearingEnd.TheVariants as hearings
 
@@ -21,6 +21,7 @@ module _ {S O C I W E : Type 0} (writes : W → Writing → List ℕ → W → T
   abbrev pub SessionEnded : declared.Ended → Option HearingEnd → World S O C I W E → World S O C I W E → ℕ → Type 0
   SessionEnded Left heard w w' status = (status ≡ 0) × (w' ≡ w)
   SessionEnded Saves heard w w' status = (status ≡ 0) × (w' ≡ w)
+  SessionEnded Boots heard w w' status = (status ≡ 0) × (w' ≡ w)
   SessionEnded NoMemory heard w w' status = NotRead writes reports (codes "vardozek gdb") stops.NoMemory w w' status
   SessionEnded (ReadFailed fault) heard w w' status = Unheard fault heard w w' status
   SessionEnded (WriteFailed fault) heard w w' status = Ended reports (codes "vardozek gdb") (endings.WriteFailed fault) w.errors w'.errors status

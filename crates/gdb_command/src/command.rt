@@ -3,25 +3,28 @@
 ghost use Rattle.gdb_command.specs.SessionEnds.{SessionEnded, Unheard};
 
 use crate::booting::{NotBooted, default_boot, run_script};
+use crate::saving::save;
 use crate::words::{Job, job_of};
 use clap::ArgMatches;
+use command_lines::names_at;
 use evm_devs::AnyDevice;
+use evm_elf::read_image;
 use evm_host::{
     Ending, Known, Message, System, USAGE, Verdict, World, ended, ended_with, image_at,
-    memory_refused, not_created, report, text_at, write_all,
+    memory_refused, not_opened, read_all, report, text_at,
 };
 use evm_image::Image;
-use evm_room::push_text;
 use evm_serve::InputFault;
 use evm_streams::{ReadFault, Source};
-use gdb_answers::{
-    Ended, GdbSession, Interrupts, Machine, Refusal, begin, serve_gdb, write_journal,
-};
+use gdb_answers::{Ended, GdbSession, Interrupts, Machine, Names, Refusal, begin, serve_gdb};
 use gdb_hearing::{Hearing, HearingEnd};
 use std::alloc::Global;
 
 /// The name in front of messages that are about no file.
 pub const PROGRAM: &str = "vardozek gdb";
+
+/// The symbol of the names that a program of the kit's library keeps.
+const NAMES_TABLE: &str = "kit_names";
 
 /// The name of what GDB sends.
 const INPUT: &str = "standard input";
@@ -111,7 +114,7 @@ fn status_of<S: System>(end: Ended, heard: Option<HearingEnd>, world: &mut World
     ensures { SessionEnded S.Output.takes S.Errors.takes end heard world.old world.new result }
 {
     match end {
-        Ended::Left | Ended::Saves => 0,
+        Ended::Left | Ended::Saves | Ended::Boots => 0,
         Ended::NoMemory => memory_refused(PROGRAM, world),
         Ended::ReadFailed(fault) => unread(fault, heard, world),
         Ended::WriteFailed(fault) => {
@@ -120,65 +123,69 @@ fn status_of<S: System>(end: Ended, heard: Option<HearingEnd>, world: &mut World
     }
 }
 
-// Writes a file whose name ends so.
-fn save_file<S: System>(
-    alloc: Global,
-    name: &str,
-    ending: &str,
-    text: &str,
-    world: &mut World<S>,
-) -> u8 {
-    let mut path = String::new(alloc);
-    if push_text(&mut path, name).is_err() || push_text(&mut path, ending).is_err() {
-        return memory_refused(PROGRAM, world);
+// The names of an image; a program of the kit's library keeps some in RAM.
+fn names_of<S: System>(alloc: Global, job: Job<'_>, world: &mut World<S>) -> Result<Names, u8> {
+    let mut names = names_at(alloc, PROGRAM, job.image, job.map, world)?;
+    if let Some(table) = names.symbols.address(NAMES_TABLE) {
+        names.map.use_table(table);
     }
-    let mut file = match world.files.create(path.as_str()) {
+    Ok(names)
+}
+
+// The image that a file has now. Where it has none that is reported on standard error alone, since GDB reads standard output.
+fn image_now<S: System>(alloc: Global, path: &str, world: &mut World<S>) -> Option<Image> {
+    let mut file = match world.files.open(path) {
         Ok(file) => file,
-        Err(fault) => return not_created(path.as_str(), fault, &mut world.errors),
+        Err(fault) => {
+            let _ = not_opened(path, fault, &mut world.errors);
+            return None;
+        }
     };
-    match write_all(&mut file, text.as_bytes()) {
-        Ok(()) => 0,
-        Err(fault) => ended(
-            path.as_str(),
-            &Ending::WriteFailed(fault),
-            &mut world.errors,
-        ),
+    let message = match read_all(alloc, &mut file) {
+        Ok(bytes) => match read_image(alloc, bytes.as_slice()) {
+            Ok(image) => return Some(image),
+            Err(_) => Message::Plain("it is no image, so the machine stays as it is"),
+        },
+        Err(_) => Message::Plain("it can't be read, so the machine stays as it is"),
+    };
+    report(path, message, &mut world.errors);
+    None
+}
+
+// Boots a session anew with the image that the file has now, or keeps its machine where it has none.
+fn boot_anew<S: System>(
+    alloc: Global,
+    job: Job<'_>,
+    session: &mut GdbSession,
+    world: &mut World<S>,
+) {
+    session.keep();
+    let Some(image) = image_now(alloc, job.image, world) else {
+        return;
+    };
+    let Ok(names) = names_of(alloc, job, world) else {
+        return;
+    };
+    if session.boot(alloc, image, names).is_err() {
+        let message = Message::Plain("the machine refuses it, and stays as it is");
+        report(job.image, message, &mut world.errors);
     }
 }
 
-// The lines of a journal that are those of a script: all but the first.
-fn script_of(journal: &str) -> &str {
-    match journal.split_once('\n') {
-        Some((_, script)) => script,
-        None => "",
-    }
-}
-
-// Saves the events up to the place of a session, as a journal and as a script.
-fn save<S: System>(alloc: Global, session: &mut GdbSession, world: &mut World<S>) {
-    match write_journal(alloc, &session.tape.machine) {
-        Ok(text) => {
-            let name = session.save.as_str();
-            let _ = save_file(alloc, name, ".journal", text.as_str(), world);
-            let _ = save_file(alloc, name, ".script", script_of(text.as_str()), world);
-        }
-        Err(_) => {
-            let _ = memory_refused(PROGRAM, world);
-        }
-    }
-    session.save.clear();
-}
-
-// Serves GDB until it leaves, and saves the session where that is asked for.
+// Serves GDB until it leaves. Saves the session and boots it anew where that is asked for.
 fn serve<S: System, I: Source + Interrupts>(
     alloc: Global,
+    job: Job<'_>,
     session: &mut GdbSession,
     input: &mut I,
     world: &mut World<S>,
 ) -> Ended {
     'parts: for _ in 0..u64::MAX {
         match serve_gdb(alloc, session, input, &mut world.output) {
-            Ended::Saves => save(alloc, session, world),
+            Ended::Saves => {
+                let _ = save(alloc, session, world);
+            }
+            Ended::Boots => boot_anew(alloc, job, session, world),
             end => return end,
         }
     }
@@ -200,8 +207,12 @@ fn do_job<S: System, I: Source + Interrupts + Hearing>(
         Ok(machine) => machine,
         Err(status) => return status,
     };
-    let mut session = GdbSession::new(alloc, image, machine);
-    let end = serve(alloc, &mut session, input, world);
+    let names = match names_of(alloc, job, world) {
+        Ok(names) => names,
+        Err(status) => return status,
+    };
+    let mut session = GdbSession::new(alloc, image, names, machine);
+    let end = serve(alloc, job, &mut session, input, world);
     status_of(end, input.end(), world)
 }
 

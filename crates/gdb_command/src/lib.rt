@@ -3,6 +3,7 @@
 
 mod booting;
 mod command;
+mod saving;
 mod words;
 
 pub use command::{PROGRAM, gdb};

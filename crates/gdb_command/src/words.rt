@@ -9,11 +9,14 @@ pub(crate) struct Job<'a> {
     pub image: &'a str,
     /// The script that is run first.
     pub script: Option<&'a str>,
+    /// The map of the image's names, if it is not the one beside it.
+    pub map: Option<&'a str>,
 }
 
 /// What the words behind `gdb` name.
 pub(crate) fn job_of<'a>(matches: &ArgMatches<'a>) -> Option<Job<'a>> {
     let image = matches.get_str("IMAGE")?;
     let script = matches.get_str("SCRIPT");
-    Some(Job { image, script })
+    let map = matches.get_str("map");
+    Some(Job { image, script, map })
 }

@@ -10,7 +10,7 @@ use Rattle.gdb_commands.specs.declared.command.WatchKind.TheVariants.{Write, Rea
 use Rattle.gdb_commands.specs.declared.command.Pace.{Pace}
 use Rattle.gdb_commands.specs.declared.command.Pace.TheVariants.{Step, Continue}
 use Rattle.gdb_commands.specs.declared.command.Command.{Command}
-use Rattle.gdb_commands.specs.declared.command.Command.TheVariants.{Why, Registers, SetRegisters, Register, SetRegister, Memory, WriteDigits, WriteBytes, Insert, Remove, Watch, Unwatch, Resume, ResumeThread, Reverse, Look, Choose, IsThread, Looked, Threads, MoreThreads, ThreadText, Supported, Attached, Description, MemoryMap, Monitor, NoAcknowledgements, Actions, Detach, Kill}
+use Rattle.gdb_commands.specs.declared.command.Command.TheVariants.{Why, Registers, SetRegisters, Register, SetRegister, Memory, WriteDigits, WriteBytes, Insert, Remove, Watch, Unwatch, Resume, ResumeThread, Reverse, Look, Choose, IsThread, Looked, Threads, MoreThreads, ThreadText, Supported, Attached, Description, MemoryMap, Monitor, NoAcknowledgements, Actions, Detach, Kill, KillProcess, Extended, Run, Restart}
 
 -- ---- parts
 
@@ -170,6 +170,18 @@ map_said bytes = do
   span ← span_at bytes
   if length span.1 == 0 then Some (MemoryMap span.0.0 span.0.1) else None
 
+-- nothing behind it names the program that is there, without arguments
+abbrev pub run_said : List ℕ → Option Command
+run_said rest = Some (Run (length rest == 0))
+
+-- the number of a process is of no use
+unfoldable pub killed_said : List ℕ → Option Command
+killed_said rest = hexadecimal_last rest >>= λ process. Some KillProcess
+
+-- nor is that of a restart, which must be there
+abbrev pub restart_said : List ℕ → Option Command
+restart_said rest = if length rest == 0 then None else Some Restart
+
 unfoldable pub thread_said : List ℕ → Option Command
 thread_said bytes =
     keyword (after_word (codes "Hg") bytes) (λ rest. thread_last rest >>= λ thread. Some (Look thread))
@@ -194,9 +206,10 @@ named_command bytes =
     (keyword (after_word (codes "qAttached") bytes) (bare Attached)
     (keyword (after_word (codes "QStartNoAckMode") bytes) (bare NoAcknowledgements)
     (keyword (after_word (codes "vCont?") bytes) (bare Actions)
+    (keyword (after_word (codes "!") bytes) (bare Extended)
     (keyword (after_word (codes "bs") bytes) (bare (Reverse Step))
     (keyword (after_word (codes "bc") bytes) (bare (Reverse Continue))
-    (thread_said bytes))))))))))))
+    (thread_said bytes)))))))))))))
 
 abbrev pub first_command : Option Command → Option Command → Option Command
 first_command None other = other
@@ -208,9 +221,12 @@ long_at bytes =
     (keyword (after_word (codes "qXfer:features:read:target.xml:") bytes) description_said
     (keyword (after_word (codes "qXfer:memory-map:read::") bytes) map_said
     (keyword (after_word (codes "vCont;") bytes) action_named
+    (keyword (after_word (codes "vRun;") bytes) run_said
+    (keyword (after_word (codes "vKill;") bytes) killed_said
+    (keyword (after_word (codes "R") bytes) restart_said
     (keyword (after_word (codes "p") bytes) (λ rest. hexadecimal_last rest >>= λ register. Some (Register register))
     (keyword (after_word (codes "m") bytes) memory_said
-    (first_command (resume_said bytes) (named_command bytes)))))))
+    (first_command (resume_said bytes) (named_command bytes))))))))))
 
 -- ---- any command, and the digits or bytes behind it
 

@@ -2,7 +2,7 @@
 
 ghost use Rattle.std.specs.Prelude.{◌≡◌};
 ghost use Rattle.evm_text.specs.Reading.{ReadsAs};
-ghost use Rattle.gdb_commands.specs.Commands.{acted, action_named, follows, bare, breakpoint_at, command_at, description_said, digits_said, bytes_said, is_end, insert_said, long_at, map_said, memory_said, number_to, numbered_thread, pace_at, address_at, register_said, remove_said, resume_said, signal_behind, span_at, thread_at, thread_last, thread_of, thread_said, named_command, unwatch_said, watch_said, watchpoint_at, write_in};
+ghost use Rattle.gdb_commands.specs.Commands.{acted, action_named, follows, bare, breakpoint_at, command_at, description_said, digits_said, bytes_said, is_end, insert_said, long_at, map_said, memory_said, number_to, killed_said, numbered_thread, pace_at, address_at, register_said, remove_said, restart_said, resume_said, run_said, signal_behind, span_at, thread_at, thread_last, thread_of, thread_said, named_command, unwatch_said, watch_said, watchpoint_at, write_in};
 
 use evm_text::{after_word, hexadecimal_at, hexadecimal_last};
 
@@ -100,6 +100,14 @@ pub enum Command {
     Detach,
     /// `k`: GDB ends the program.
     Kill,
+    /// `vKill;`: the same, which is answered.
+    KillProcess,
+    /// `!`: the program may be started again from now on.
+    Extended,
+    /// `vRun;`: the program is started; and whether it is the one that is there, without arguments.
+    Run(bool),
+    /// `R`: the program is started again.
+    Restart,
 }
 
 // A number, and a mark behind it.
@@ -397,6 +405,33 @@ fn map_said(bytes: &[u8]) -> Option<Command>
     }
 }
 
+// Nothing behind it names the program that is there, without arguments.
+fn run_said(rest: &[u8]) -> Option<Command>
+    ensures { result ≡ run_said rest.now }
+{
+    Some(Command::Run(rest.is_empty()))
+}
+
+// The number of a process is of no use here, as there is one.
+#[tactic(auto, unfolding(crate::specs::Commands::killed_said))]
+fn killed_said(rest: &[u8]) -> Option<Command>
+    ensures { result ≡ killed_said rest.now }
+{
+    let _process = hexadecimal_last(rest)?;
+    Some(Command::KillProcess)
+}
+
+// So is the number of a restart, which must be there.
+fn restart_said(rest: &[u8]) -> Option<Command>
+    ensures { result ≡ restart_said rest.now }
+{
+    if rest.is_empty() {
+        None
+    } else {
+        Some(Command::Restart)
+    }
+}
+
 #[tactic(auto, unfolding(crate::specs::Commands::thread_said))]
 fn thread_said(bytes: &[u8]) -> Option<Command>
     ensures { result ≡ thread_said bytes.now }
@@ -457,6 +492,9 @@ fn named_command(bytes: &[u8]) -> Option<Command>
     if let Some(rest) = after_word(b"vCont?", bytes) {
         return bare(Command::Actions, rest);
     }
+    if let Some(rest) = after_word(b"!", bytes) {
+        return bare(Command::Extended, rest);
+    }
     if let Some(rest) = after_word(b"bs", bytes) {
         return bare(Command::Reverse(Pace::Step), rest);
     }
@@ -481,6 +519,15 @@ fn long_at(bytes: &[u8]) -> Option<Command>
     }
     if let Some(rest) = after_word(b"vCont;", bytes) {
         return action_named(rest);
+    }
+    if let Some(rest) = after_word(b"vRun;", bytes) {
+        return run_said(rest);
+    }
+    if let Some(rest) = after_word(b"vKill;", bytes) {
+        return killed_said(rest);
+    }
+    if let Some(rest) = after_word(b"R", bytes) {
+        return restart_said(rest);
     }
     if let Some(rest) = after_word(b"p", bytes) {
         return Some(Command::Register(hexadecimal_last(rest)?));

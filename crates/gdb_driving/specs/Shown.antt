@@ -12,7 +12,7 @@ use Rattle.gdb_commands.specs.declared.command.WatchKind.{WatchKind}
 use Rattle.gdb_commands.specs.declared.command.WatchKind.TheVariants.{Write, Read, Access}
 use Rattle.gdb_driving.specs.declared.stops.TargetHalt.{TargetHalt}
 use Rattle.gdb_driving.specs.declared.stops.Why.{Why}
-use Rattle.gdb_driving.specs.declared.stops.Why.TheVariants.{Asked, SoftwareBreak, HardwareBreak, Watched, Ebreak, Faulted, Interrupted, Limit, Idle, AtBegin, AtEnd}
+use Rattle.gdb_driving.specs.declared.stops.Why.TheVariants.{Asked, SoftwareBreak, HardwareBreak, Watched, Ebreak, Faulted, Interrupted, Limit, Full, Idle, AtBegin, AtEnd}
 
 -- a number of 64 bits, its low byte first
 abbrev pub word_text : ℕ → List ℕ
@@ -83,6 +83,7 @@ signal_of (Faulted faults.Load) = 11
 signal_of (Faulted faults.Store) = 11
 signal_of Interrupted = 2
 signal_of Limit = 2
+signal_of Full = 2
 signal_of Idle = 0
 signal_of AtBegin = 5
 signal_of AtEnd = 5

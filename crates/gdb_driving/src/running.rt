@@ -1,7 +1,7 @@
 //! A program that goes on: one instruction, or until something stops it.
 
-ghost use Rattle.std.specs.Prelude.{IfOk, IfSome, true};
-ghost use Rattle.gdb_driving.specs.Interrupts.{HaltsAlone, OnlyIfAsked, IsAlone};
+ghost use Rattle.std.specs.Prelude.{◌≡◌, IfOk, IfSome, true};
+ghost use Rattle.gdb_driving.specs.Interrupts.{HaltsAlone, OnlyIfAsked, IsAlone, lacks_room, room_to_run};
 ghost use Rattle.gdb_driving.specs.Kept.{KeepsJournal};
 
 use crate::clock::is_pending;
@@ -294,10 +294,19 @@ fn run<D: Device, I: Interrupts>(
 }
 
 // How many events the journal has room for, if each processor is first let go and stopped at the end.
-fn room_to_run<D: Device>(machine: &Machine<D>) -> u64 {
+fn room_to_run<D: Device>(machine: &Machine<D>) -> u64
+    ensures { result ≡ room_to_run machine.now }
+{
     machine
         .room()
         .saturating_sub(u64::from(machine.cpu_count()) * 2)
+}
+
+/// Whether the journal has no room for a continue.
+pub fn lacks_room<D: Device>(machine: &Machine<D>) -> bool
+    ensures { result ≡ lacks_room machine.now }
+{
+    room_to_run(machine) == 0
 }
 
 /// Lets all processors go, makes events by turns until one of the processors is stopped or a stop is asked for, and stops all.

@@ -29,6 +29,8 @@ pub enum Why {
     Interrupted,
     /// It made as many events as a continue may.
     Limit,
+    /// The journal has no room for another event.
+    Full,
     /// No processor that has turns has a task or a line, and nothing is due.
     Idle,
     /// The session begins here.
@@ -52,7 +54,7 @@ fn signal_of(why: Why) -> u8
 {
     match why {
         Why::Idle => 0,
-        Why::Interrupted | Why::Limit => 2,
+        Why::Interrupted | Why::Limit | Why::Full => 2,
         Why::Faulted(Fault::Illegal) => 4,
         Why::Faulted(Fault::Misaligned) => 10,
         Why::Faulted(_) => 11,

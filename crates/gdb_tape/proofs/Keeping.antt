@@ -5,6 +5,7 @@ use Rattle.evm_image.specs.Images.{Contents}
 use Rattle.evm_model.specs.Event.{Event}
 use Rattle.evm_model.specs.Replay.{IsReplayOf}
 use Rattle.evm_model.specs.State.{State}
+use Rattle.evm_model.specs.declared.boot.Boot.{Boot}
 use Rattle.gdb_driving.specs.Kept.{KeepsJournal}
 use Rattle.gdb_tape.specs.Tape.{IsBegun, IsFrontOf, IsTape, KeepsTape, end_if, end_of, events}
 use Rattle.gdb_tape.specs.declared.tape.Tape.{Tape}
@@ -43,6 +44,14 @@ keeps_changed old new image last kept = record {
       in_front old.image (end_of old) new.machine here.first here.begun (kept.replays here.first here.replays) (kept.booted ∙ here.booted) in
       is_tape new old.image new.machine image end one one;
 }
+
+-- a session that has just begun
+pub new_tape : (t : Tape) (boot : Boot) (first : State) → IsBegun t.image boot first → first.boot ≡ boot → IsReplayOf first first → KeepsJournal first t.machine → t.last ≡ None → IsTape t
+new_tape t boot first begun booted replays kept last =
+    let end : end_of t ≡ t.machine = ap (λ (l : Option State). end_if l t.machine) last in
+    let one : IsFrontOf t.image t.machine (length t.machine.journal) t.machine =
+    in_front t.image first t.machine first (subst (λ b. IsBegun t.image b first) (sym booted) begun) (kept.replays first replays) kept.booted in
+    is_tape t t.image t.machine refl end one one
 
 -- ---- at a place
 take-front : (n : ℕ) (xs : List Event) → take n xs ≡ take (length (take n xs)) xs

@@ -5,7 +5,7 @@
 //!
 //! - `boot P RAM CAP` boots its machine; `source NAME`, behind it, loads the image of the source NAME.s.
 //! - `acknowledged`: packets are acknowledged. `interrupted`: whenever the program goes on GDB asks that it be stopped.
-//!   `unwritten`: each write fails.
+//!   `unwritten`: each write fails. `gone`: the image can't be read again. `map NAME` gives the names of the map NAME.map.
 //! - Any other line is a line of a script, and is run before GDB comes.
 //!
 //! Then come exchanges: some lines `> PAYLOAD` and then lines `< PAYLOAD`, the packets that answer. `>> BYTES` and `<< BYTES` are bytes

@@ -4,16 +4,19 @@ use crate::line::{Line, line_of};
 use evm_devs::AnyDevice;
 use evm_elf::{assemble, read_image, write_image};
 use evm_image::Image;
-use gdb_answers::{Boot, LineEnd, Machine, read_line, run_line};
+use gdb_answers::{Boot, LineEnd, Machine, Names, read_line, run_line};
 use std::alloc::Global;
 use std::rt::Files;
 use std::{fs, io};
+use text_symbols::{Map, Symbols};
 
 /// How a session is.
 #[derive(Debug, Drop)]
 pub(crate) struct Setting<'a> {
     pub(crate) boot: Option<Boot>,
     pub(crate) source: Option<&'a str>,
+    pub(crate) map: Option<&'a str>,
+    pub(crate) gone: bool,
     pub(crate) acknowledged: bool,
     pub(crate) interrupted: bool,
     pub(crate) unwritten: bool,
@@ -24,6 +27,8 @@ impl<'a> Setting<'a> {
         Setting {
             boot: None,
             source: None,
+            map: None,
+            gone: false,
             acknowledged: false,
             interrupted: false,
             unwritten: false,
@@ -36,6 +41,7 @@ impl<'a> Setting<'a> {
             "acknowledged" => self.acknowledged = true,
             "interrupted" => self.interrupted = true,
             "unwritten" => self.unwritten = true,
+            "gone" => self.gone = true,
             _ => return self.take_more(line),
         }
         true
@@ -44,6 +50,10 @@ impl<'a> Setting<'a> {
     fn take_more(&mut self, line: &'a str) -> bool {
         if let Some(name) = line.strip_prefix("source ") {
             self.source = Some(name);
+            return true;
+        }
+        if let Some(name) = line.strip_prefix("map ") {
+            self.map = Some(name);
             return true;
         }
         match read_line(line.as_bytes()) {
@@ -87,6 +97,26 @@ pub(crate) fn assembled(alloc: Global, source: &str) -> Option<Image> {
         return None;
     };
     read_image(alloc, file.as_slice()).ok()
+}
+
+/// The names of a session: those of its map; None where a line of it is bad.
+pub(crate) fn names_of(
+    rt: &(impl Files + AllocGlobal),
+    setting: &Setting<'_>,
+) -> io::Result<Option<Names>> {
+    let alloc = rt.alloc();
+    let Ok(symbols) = Symbols::read(alloc, b"") else {
+        return Err(io::ErrorKind::OutOfMemory.into());
+    };
+    let Some(name) = setting.map else {
+        let map = Map::new(alloc);
+        return Ok(Some(Names { symbols, map }));
+    };
+    let text = fs::read_to_string(rt, format!(in alloc; "exchanges/{name}.map")?)?;
+    match Map::read(alloc, text.as_str()) {
+        Ok(map) => Ok(Some(Names { symbols, map })),
+        Err(_) => Ok(None),
+    }
 }
 
 /// Runs the lines of a session that are those of a script. False where one isn't done.

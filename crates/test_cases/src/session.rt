@@ -2,7 +2,7 @@
 
 use crate::exchange::{Exchange, begins};
 use crate::line::{Line, line_of, said};
-use crate::machine::{Setting, assembled, image_of, run_lines, setting_of};
+use crate::machine::{Setting, assembled, image_of, names_of, run_lines, setting_of};
 use crate::peer::{Heard, Sent};
 use evm_command::program_devices;
 use evm_devs::AnyDevice;
@@ -23,42 +23,75 @@ struct Place<'a> {
 // Whether a session ended as it must: where each write fails, by that.
 fn ends_as_wanted(setting: &Setting<'_>, ended: &Ended) -> bool {
     match ended {
-        Ended::Left | Ended::Saves => !setting.unwritten,
+        Ended::Left | Ended::Saves | Ended::Boots => !setting.unwritten,
         Ended::WriteFailed(_) => setting.unwritten,
         _ => false,
     }
 }
 
+// Boots a session anew with its image, unless that is gone.
+fn boot_anew(
+    rt: &(impl Files + AllocGlobal),
+    session: &mut GdbSession,
+    setting: &Setting<'_>,
+) -> io::Result<()> {
+    session.keep();
+    if setting.gone {
+        return Ok(());
+    }
+    if let (Some(image), Some(names)) = (image_for(rt, setting)?, names_of(rt, setting)?) {
+        let _ = session.boot(rt.alloc(), image, names);
+    }
+    Ok(())
+}
+
+// Serves a session to its end, and boots it anew where that is asked for.
+fn serve(
+    rt: &(impl Files + AllocGlobal),
+    session: &mut GdbSession,
+    setting: &Setting<'_>,
+    source: &mut Sent<'_>,
+    heard: &mut Heard,
+) -> io::Result<Ended> {
+    'parts: for _ in 0..u64::MAX {
+        match serve_gdb(rt.alloc(), session, source, heard) {
+            Ended::Boots => boot_anew(rt, session, setting)?,
+            ended => return Ok(ended),
+        }
+    }
+    Ok(Ended::Boots)
+}
+
 // Sends what an exchange has, and returns what was answered, and whether that ended as it must.
 fn answered(
-    alloc: Global,
+    rt: &(impl Files + AllocGlobal),
     session: &mut GdbSession,
     setting: &Setting<'_>,
     exchange: &Exchange,
-) -> (Vec<u8>, bool) {
+) -> io::Result<(Vec<u8>, bool)> {
     let mut source = Sent {
         rest: exchange.sent.as_slice(),
         piece: if exchange.in_pieces { 1 } else { usize::MAX },
         asks: setting.interrupted,
     };
     let mut heard = Heard {
-        bytes: Vec::new(alloc),
+        bytes: Vec::new(rt.alloc()),
         fails: setting.unwritten,
     };
-    let ended = serve_gdb(alloc, session, &mut source, &mut heard);
-    (heard.bytes, ends_as_wanted(setting, &ended))
+    let ended = serve(rt, session, setting, &mut source, &mut heard)?;
+    Ok((heard.bytes, ends_as_wanted(setting, &ended)))
 }
 
 // Makes an exchange, and reports an answer that is another. `line` is the number of the line behind it.
 fn exchange_made(
-    rt: &(impl Print + AllocGlobal),
+    rt: &(impl Files + Print + AllocGlobal),
     place: Place<'_>,
     line: usize,
     session: &mut GdbSession,
     setting: &Setting<'_>,
     exchange: &Exchange,
 ) -> io::Result<()> {
-    let (bytes, ended) = answered(rt.alloc(), session, setting, exchange);
+    let (bytes, ended) = answered(rt, session, setting, exchange)?;
     if ended && bytes.as_slice() == exchange.wanted.as_slice() {
         return Ok(());
     }
@@ -72,7 +105,7 @@ fn exchange_made(
 
 // Makes the exchanges of a session, and returns how many.
 fn talk(
-    rt: &(impl Print + AllocGlobal),
+    rt: &(impl Files + Print + AllocGlobal),
     place: Place<'_>,
     session: &mut GdbSession,
     setting: &Setting<'_>,
@@ -100,7 +133,7 @@ fn talk(
 
 // The same, of a machine that is as the session says; else a line says that it isn't.
 fn talk_if(
-    rt: &(impl Print + AllocGlobal),
+    rt: &(impl Files + Print + AllocGlobal),
     place: Place<'_>,
     prepared: bool,
     session: &mut GdbSession,
@@ -144,21 +177,22 @@ pub(crate) fn play(
     let place = Place { file, lines, from };
     let setting = setting_of(lines, from);
     let image = image_for(rt, &setting)?;
-    let made = match (setting.boot, program_devices(rt.alloc()), image) {
-        (Some(numbers), Ok(devices), Some(image)) => {
+    let names = names_of(rt, &setting)?;
+    let made = match (setting.boot, program_devices(rt.alloc()), image, names) {
+        (Some(numbers), Ok(devices), Some(image), Some(names)) => {
             match Machine::from_boot(rt.alloc(), numbers, devices) {
-                Ok(machine) => Some((machine, image)),
+                Ok(machine) => Some((machine, image, names)),
                 Err(_) => None,
             }
         }
         _ => None,
     };
-    let Some((mut machine, image)) = made else {
+    let Some((mut machine, image, names)) = made else {
         println!(rt; "{file}:{from}: no machine")?;
         return Ok(0);
     };
     let prepared = prepare(rt.alloc(), &mut machine, place, &image);
-    let mut session = GdbSession::new(rt.alloc(), image, machine);
+    let mut session = GdbSession::new(rt.alloc(), image, names, machine);
     session.acknowledges = setting.acknowledged;
     talk_if(rt, place, prepared, &mut session, &setting)
 }

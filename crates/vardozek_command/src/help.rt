@@ -90,11 +90,12 @@ Example:
 pub(crate) const GDB_HELP: &str = "\
 GDB starts the program and talks to it over its standard streams:
 
-    gdb-multiarch -ex 'target remote | vardozek gdb prog.elf' prog.elf
+    gdb-multiarch -ex 'target extended-remote | vardozek gdb prog.elf' prog.elf
 
-Each task is a thread: task T is thread T + 1. `monitor help` in GDB lists what
-the monitor takes. `monitor journal` prints the journal of all that was done, and
-`evltool replay IMAGE JOURNAL` replays it.
+Each task is a thread: task T is thread T + 1. `run` and `load` boot anew with the
+file that IMAGE is now. `monitor help` in GDB lists what the monitor takes.
+`monitor journal` prints the journal of all that was done, and `evltool replay
+IMAGE JOURNAL` replays it.
 
 SCRIPT has lines of evltool run. Its boot line gives the machine, and its views
 go to standard error. Without SCRIPT the machine has 2 processors, 16777216 bytes

@@ -304,7 +304,7 @@ pub(crate) const GDB: Word = Word {
             help: "The file of a script that is run first",
         },
     ],
-    options: &[],
+    options: &[MAP],
     course: &[],
     help: GDB_HELP,
 };
