@@ -12,7 +12,7 @@ pub struct Parting {
     pub second: Option<EventLine>,
 }
 
-/// Whether two boots differ in nothing but the journal's capacity, which no event sees.
+/// Whether two boots differ in nothing but the journal's capacity, which changes no event that is accepted.
 pub(crate) fn are_like(one: Boot, two: Boot) -> bool
     ensures { IsTrue result ↔ (record one { capacity = two.capacity } ≡ two) }
 {
