@@ -4,6 +4,7 @@ ghost use Rattle.std.specs.Prelude.{◌≡◌, ◌≤◌, ◌<◌, [], ◌∷◌
 ghost use Rattle.evm_history.specs.History.{KeepsRoom};
 ghost use Rattle.evm_model.specs.Event.{event_lent};
 ghost use Rattle.evm_model.specs.Replay.{apply};
+ghost use Rattle.evm_model.specs.declared.event.Event.TheVariants as events;
 ghost use Rattle.evm_core.specs.Parts.{AreParts, state_of};
 ghost use Rattle.evm_core.specs.Steps.{steps};
 
@@ -12,6 +13,35 @@ use evm_board::Board;
 use evm_dev::Device;
 use evm_history::Journal;
 use evm_model::{Answer, Block, Boot, Event, Refusal};
+
+/// One Step of a processor: what it answers, or why it is refused. It is `apply_to` of its event, and looks for nothing that a Step
+/// can't be refused for.
+#[inline(always)]
+pub(crate) fn step_to<D: Device>(
+    boot: &Boot,
+    journal: &mut Journal,
+    board: &mut Board<D>,
+    c: u8,
+) -> Result<Answer, Refusal>
+    requires { AreParts boot.now journal.old board.old }
+    ensures ok { IfOk result (λ answer. apply (state_of boot.now journal.old board.old) (events.Step c) ≡ Result.Ok (state_of boot.now journal.new board.new, answer)) }
+    ensures err { IfErr result (λ refusal. apply (state_of boot.now journal.old board.old) (events.Step c) ≡ Result.Err refusal) }
+    ensures unchanged { OnErr result ((journal.new ≡ journal.old) × (board.new ≡ board.old)) }
+    ensures journaled { OnOk result (journal.new.events ≡ journal.old.events ++ events.Step c ∷ []) }
+    ensures stays { AreParts boot.now journal.new board.new }
+    // the journal's memory is what it was, and its room that of one line less, if there is a line more
+    ensures keeps { KeepsRoom journal.old journal.new }
+{
+    if journal.len() >= boot.capacity {
+        return Err(Refusal::Full);
+    }
+    if c >= board.parts.processor_count() {
+        return Err(Refusal::NoSuchCpu);
+    }
+    let answer = board.step(c);
+    journal.push_steps(c, 1);
+    Ok(answer)
+}
 
 /// One event: what it answers, or why it is refused, the first reason by its number. `Machine::apply` is this.
 #[inline(always)]
@@ -31,6 +61,9 @@ pub fn apply_to<D: Device>(
     // the journal's memory is what it was, and its room that of one line less, if there is a line more
     ensures keeps { KeepsRoom journal.old journal.new }
 {
+    if let Event::Step(c) = event {
+        return step_to(boot, journal, board, *c);
+    }
     if journal.len() >= boot.capacity {
         return Err(Refusal::Full);
     }

@@ -1,4 +1,4 @@
-ghost use Rattle.std.specs.Prelude.{◌≡◌, IfSome, slice_index};
+ghost use Rattle.std.specs.Prelude.{◌≡◌, IfSome, Option, true, false, slice_index};
 ghost use Rattle.evm_exec.specs.Does.{does, hart_after, access_to_make, proceed, jump_to, branch_if, FitsWidth};
 
 use crate::arithmetic::{extend, is_taken, on_immediate, on_registers, on_shift, on_words};
@@ -135,20 +135,35 @@ pub fn effect(inst: &Inst, hart: &Hart) -> Effect
     }
 }
 
+/// Executes an instruction that touches nothing but the hart. Returns false, and changes nothing, for a load, a store,
+/// ECALL, EBREAK, and a jump or a taken branch to an address that is no multiple of 4.
+#[inline(always)]
+pub fn execute_private(inst: &Inst, hart: &mut Hart) -> bool
+    ensures executed { result ≡ true → hart_after hart.old (does inst.now hart.old.regs hart.old.pc) ≡ Option.Some hart.new }
+    ensures refused { result ≡ false → (hart_after hart.old (does inst.now hart.old.regs hart.old.pc) ≡ Option.None) × (hart.new ≡ hart.old) }
+    ensures x0 { slice_index hart.new.regs 0 ≡ slice_index hart.old.regs 0 }
+{
+    match effect(inst, hart) {
+        Effect::Next { rd, value, pc } => {
+            hart.set_register(rd, value);
+            hart.pc = pc;
+            true
+        }
+        _ => false,
+    }
+}
+
 /// The hart after an instruction that touches nothing else; None for a load, a store, ECALL, EBREAK, and
 /// a jump or a taken branch to an address that is no multiple of 4.
 pub fn private(inst: &Inst, hart: &Hart) -> Option<Hart>
     ensures after { result ≡ hart_after hart.now (does inst.now hart.now.regs hart.now.pc) }
     ensures x0 { IfSome result (λ after. slice_index after.regs 0 ≡ slice_index hart.now.regs 0) }
 {
-    match effect(inst, hart) {
-        Effect::Next { rd, value, pc } => {
-            let mut after = *hart;
-            after.set_register(rd, value);
-            after.pc = pc;
-            Some(after)
-        }
-        _ => None,
+    let mut after = *hart;
+    if execute_private(inst, &mut after) {
+        Some(after)
+    } else {
+        None
     }
 }
 
