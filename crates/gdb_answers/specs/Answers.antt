@@ -4,8 +4,8 @@ use Rattle.evm_exec.specs.declared.hart.Hart.{Hart}
 use Rattle.evm_exec.specs.declared.hart.TheConstants.{REGISTERS}
 use Rattle.evm_ram.specs.Ram.{bytes_at}
 use Rattle.evm_model.specs.State.{State}
-use Rattle.gdb_commands.specs.declared.command.Command.{Command}
-use Rattle.gdb_commands.specs.declared.command.Command.TheVariants as commands
+use Rattle.gdb_packets.specs.declared.command.Command.{Command}
+use Rattle.gdb_packets.specs.declared.command.Command.TheVariants as commands
 use Rattle.gdb_tape.specs.gdb_driving.Shown.{error_text, hart_register, halt_text, memory_reply, registers_text, thread_text, threads_text, word_text}
 use Rattle.gdb_tape.specs.gdb_driving.declared.stops.TargetHalt.{TargetHalt}
 

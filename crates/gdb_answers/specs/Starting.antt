@@ -1,7 +1,7 @@
 -- How GDB starts and ends the program.
 use Rattle.std.specs.Prelude.{ℕ, ◌-◌, Bool, true, false, not, ◌&&◌, List, [], Option, Some, None, codes, nat_le, nat_lt, if◌then◌else◌}
-use Rattle.gdb_commands.specs.declared.command.Command.{Command}
-use Rattle.gdb_commands.specs.declared.command.Command.TheVariants as commands
+use Rattle.gdb_packets.specs.declared.command.Command.{Command}
+use Rattle.gdb_packets.specs.declared.command.Command.TheVariants as commands
 use Rattle.gdb_tape.specs.gdb_driving.Shown.{error_text, halt_text}
 use Rattle.gdb_tape.specs.gdb_driving.declared.stops.TargetHalt.{TargetHalt}
 use Rattle.gdb_answers.specs.declared.session.Booting.{Booting}

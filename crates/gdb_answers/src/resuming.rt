@@ -6,7 +6,7 @@ ghost use Rattle.gdb_tape.specs.Tape.{KeepsTape, StandsAt, events};
 use crate::session::GdbSession;
 use evm_dev::Device;
 use evm_room::{Refused, push_text};
-use gdb_commands::Pace;
+use gdb_packets::Pace;
 use gdb_tape::{
     Going, Interrupts, Machine, Refusal, TargetHalt, Why, lacks_room, push_error, push_halt,
     resume, step,

@@ -3,7 +3,7 @@
 ghost use Rattle.std.specs.Prelude.{◌≡◌, ◌≢◌, ◌<◌, ◌++◌, [], length, IfSome, OnOk, Option};
 ghost use Rattle.std.specs.String.{string_bytes};
 ghost use Rattle.gdb_packets.specs.Framing.{framed};
-ghost use Rattle.gdb_commands.specs.Commands.{command_at};
+ghost use Rattle.gdb_packets.specs.Commands.{command_at};
 ghost use Rattle.gdb_answers.specs.Asking.{ArePointsSet, IsCarriedOut, asked, payload_asked, payload_points, points_asked, reply};
 ghost use Rattle.gdb_answers.specs.Written.{Extends, acknowledgement};
 ghost use Rattle.gdb_tape.specs.Tape.{KeepsTape};
@@ -13,8 +13,7 @@ use crate::session::{Booting, GdbSession};
 use crate::starting::{has_reply, pause_of, waits_for_boot};
 use evm_room::{NoMemory, Refused};
 use evm_streams::{ReadFault, Reading, Sink, Source, WriteFault, write_all};
-use gdb_commands::{Command, read_command};
-use gdb_packets::{PacketItem, push_digits, push_framed, read_item};
+use gdb_packets::{Command, PacketItem, push_digits, push_framed, read_command, read_item};
 use gdb_tape::{Interrupts, has_going, part_len, processor_of, push_bytes, stop_all};
 use std::alloc::Global;
 use std::mem;

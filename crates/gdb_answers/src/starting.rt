@@ -8,8 +8,7 @@ use crate::answering::MALFORMED;
 use crate::serving::Ended;
 use crate::session::{Booting, GdbSession};
 use evm_room::Refused;
-use gdb_commands::{Command, read_command};
-use gdb_packets::PacketItem;
+use gdb_packets::{Command, PacketItem, read_command};
 use gdb_tape::{push_bytes, push_error, push_halt};
 
 /// The most bytes that a variable at the entry of a program could have.

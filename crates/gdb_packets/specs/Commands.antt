@@ -3,14 +3,14 @@ use Rattle.std.specs.Prelude.{ℕ, ◌-◌, Bool, true, false, not, ◌==◌, Li
 use Rattle.evm_text.specs.Reading.{◌>>=◌, hexadecimal_at, after_word}
 use Rattle.evm_text.specs.Fields.{hexadecimal_last}
 use Rattle.evm_text.specs.Rows.{keyword}
-use Rattle.gdb_commands.specs.declared.command.BreakKind.{BreakKind}
-use Rattle.gdb_commands.specs.declared.command.BreakKind.TheVariants.{Software, Hardware}
-use Rattle.gdb_commands.specs.declared.command.WatchKind.{WatchKind}
-use Rattle.gdb_commands.specs.declared.command.WatchKind.TheVariants.{Write, Read, Access}
-use Rattle.gdb_commands.specs.declared.command.Pace.{Pace}
-use Rattle.gdb_commands.specs.declared.command.Pace.TheVariants.{Step, Continue}
-use Rattle.gdb_commands.specs.declared.command.Command.{Command}
-use Rattle.gdb_commands.specs.declared.command.Command.TheVariants.{Why, Registers, SetRegisters, Register, SetRegister, Memory, WriteDigits, WriteBytes, Insert, Remove, Watch, Unwatch, Resume, ResumeThread, Reverse, Look, Choose, IsThread, Looked, Threads, MoreThreads, ThreadText, Supported, Attached, Description, MemoryMap, Monitor, NoAcknowledgements, Actions, Detach, Kill, KillProcess, Extended, Run, Restart}
+use Rattle.gdb_packets.specs.declared.command.BreakKind.{BreakKind}
+use Rattle.gdb_packets.specs.declared.command.BreakKind.TheVariants.{Software, Hardware}
+use Rattle.gdb_packets.specs.declared.command.WatchKind.{WatchKind}
+use Rattle.gdb_packets.specs.declared.command.WatchKind.TheVariants.{Write, Read, Access}
+use Rattle.gdb_packets.specs.declared.command.Pace.{Pace}
+use Rattle.gdb_packets.specs.declared.command.Pace.TheVariants.{Step, Continue}
+use Rattle.gdb_packets.specs.declared.command.Command.{Command}
+use Rattle.gdb_packets.specs.declared.command.Command.TheVariants.{Why, Registers, SetRegisters, Register, SetRegister, Memory, WriteDigits, WriteBytes, Insert, Remove, Watch, Unwatch, Resume, ResumeThread, Reverse, Look, Choose, IsThread, Looked, Threads, MoreThreads, ThreadText, Supported, Attached, Description, MemoryMap, Monitor, NoAcknowledgements, Actions, Detach, Kill, KillProcess, Extended, Run, Restart}
 
 -- ---- parts
 

@@ -1,7 +1,7 @@
 //! The bytes that a thread hears, as a source.
 
 ghost use Rattle.std.specs.Prelude.{◌≡◌, IfOk};
-ghost use Rattle.gdb_hearing.specs.Hearings.{ReadsNothing};
+ghost use Rattle.gdb_packets.specs.Hearings.{ReadsNothing};
 
 use crate::ends::{Hearing, HearingEnd};
 use crate::heard::Heard;
@@ -123,7 +123,7 @@ impl<R: Wait + Drop> Read for Ear<R> {
 }
 
 impl<R: Wait + Drop> Interrupts for Ear<R> {
-    ghost use Rattle.gdb_hearing.specs.Trusted.{Heard};
+    ghost use Rattle.gdb_packets.specs.Trusted.{Heard};
 
     ghost asks = { Heard };
 
@@ -133,7 +133,7 @@ impl<R: Wait + Drop> Interrupts for Ear<R> {
 }
 
 impl<R: Wait + Drop> Hearing for Ear<R> {
-    ghost use Rattle.gdb_hearing.specs.Trusted.{Ended};
+    ghost use Rattle.gdb_packets.specs.Trusted.{Ended};
 
     ghost ends = { Ended };
 

@@ -1,7 +1,7 @@
 //! Bytes that were heard and are not read yet.
 
 ghost use Rattle.std.specs.Prelude.{◌≡◌, ◌<◌, ◌≤◌, ◌++◌, ◌↔◌, [], length, take, slice_index, SomeIndex, IsTrue};
-ghost use Rattle.gdb_hearing.specs.Hearings.{TakesIn, StandsAlone};
+ghost use Rattle.gdb_packets.specs.Hearings.{TakesIn, StandsAlone};
 
 use crate::ends::HearingEnd;
 use evm_room::grow;

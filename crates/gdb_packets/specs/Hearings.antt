@@ -1,8 +1,8 @@
 -- What is kept of what was heard, and what a read answers at the end of it.
 use Rattle.std.specs.Prelude.{◌≡◌, ◌<◌, ℕ, List, ◌++◌, length, slice_index, Option, Some, None, Result, IsOk, IsErr, ◌⊎◌}
-use Rattle.gdb_hearing.specs.declared.heard.TheConstants.{INTERRUPT}
-use Rattle.gdb_hearing.specs.declared.ends.HearingEnd.{HearingEnd}
-use Rattle.gdb_hearing.specs.declared.ends.HearingEnd.TheVariants.{EndOfInput, ReadFailed, NoMemory}
+use Rattle.gdb_packets.specs.declared.heard.TheConstants.{INTERRUPT}
+use Rattle.gdb_packets.specs.declared.ends.HearingEnd.{HearingEnd}
+use Rattle.gdb_packets.specs.declared.ends.HearingEnd.TheVariants.{EndOfInput, ReadFailed, NoMemory}
 
 -- a part stands behind the bytes, or memory was refused for it, and the hearing ended so
 abbrev pub TakesIn : List ℕ → List ℕ → Option HearingEnd → List ℕ → Option HearingEnd → Type 0

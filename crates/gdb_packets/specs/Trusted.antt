@@ -1,6 +1,6 @@
 -- What an ear answered when it was asked: what another thread has heard, no clause can name.
 use Rattle.std.specs.Prelude.{Bool, Option}
-use Rattle.gdb_hearing.specs.declared.ends.HearingEnd.{HearingEnd}
+use Rattle.gdb_packets.specs.declared.ends.HearingEnd.{HearingEnd}
 
 -- opaque, so that a proof has them of a call alone
 pub Heard : {E : Type 0} → E → Bool → Type 0

@@ -16,7 +16,7 @@ pub enum HearingEnd {
 /// Someone who hears an input to its end.
 pub trait Hearing {
     ghost use Rattle.std.specs.Prelude.{Option};
-    ghost use Rattle.gdb_hearing.specs.declared.ends.HearingEnd.{HearingEnd};
+    ghost use Rattle.gdb_packets.specs.declared.ends.HearingEnd.{HearingEnd};
 
     // What a look at one state may answer. Nothing else is known of this relation, so that only a look at this very state shows it.
     ghost ends: { Self → Option HearingEnd → Type 0 };
