@@ -1,6 +1,6 @@
 use Rattle.std.proofs.Common.{◌≡◌, length}
 use Rattle.gdb_answers.specs.Written.{Extends}
-use Rattle.gdb_answers.proofs.serving.push_shown.Given as goal
+use Rattle.gdb_answers.proofs.desk.push_shown.Given as goal
 
 abbrev pub invariant-packets : goal.invariant-packets
 invariant-packets l = record {
