@@ -20,7 +20,7 @@ pub use evm_debug::{
     push_view, read_line, write_journal,
 };
 pub use gdb_packets::Interrupts;
-pub use memory::{push_memory, write};
+pub use memory::{is_inside, push_memory, write};
 pub use points::{Points, WATCH_LIMIT, WatchPoint, WatchPoints};
 pub use registers::{processor_of, push_registers, register, set_register, set_registers, word_at};
 pub use running::{Going, Round, lacks_room, resume, step};

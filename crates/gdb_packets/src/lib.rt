@@ -20,7 +20,7 @@ pub use command::{BreakKind, Command, Pace, WatchKind};
 pub use ear::Ear;
 pub use ends::{Hearing, HearingEnd};
 pub use framing::push_framed;
-pub use hexadecimal::{push_digits, read_digits};
+pub use hexadecimal::{is_hexadecimal, push_digits, read_digits};
 pub use interrupts::Interrupts;
 pub use item::{PACKET_LIMIT, PacketItem, read_item};
 pub use laws::{digits_are_read, framed_packets_are_read, packets_are_read, pieces_are_read};
