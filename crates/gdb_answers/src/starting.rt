@@ -1,7 +1,7 @@
 //! The program is started or ended, and when the machine boots anew for that.
 
 ghost use Rattle.std.specs.Prelude.{◌≡◌, ◌++◌, ℕ, List, OnOk, Option};
-ghost use Rattle.gdb_answers.specs.Starting.{are_digits, asks_boot, begin_text, booted_text, has_reply, writes_whole, loads_program, may_boot, payload_boots, starting_text, waits_for_boot};
+ghost use Rattle.gdb_answers.specs.Starting.{are_digits, asks_boot, begin_text, booted_text, has_reply, loads_program, may_boot, payload_boots, starting_text, waits_for_boot, writes_whole};
 ghost use Rattle.gdb_tape.specs.Tape.{KeepsTape};
 
 use crate::answering::MALFORMED;
