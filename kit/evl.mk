@@ -72,7 +72,7 @@ hunt: $(PROGRAM)
 
 debug: $(PROGRAM)
 	echo 'boot $(CPUS) $(RAM) 1048576' > $(LIBRARY)/debug.script
-	$(GDB) -ex 'target remote | $(VARDOZEK) gdb $(PROGRAM) $(LIBRARY)/debug.script' $(PROGRAM)
+	$(GDB) -ex 'target extended-remote | $(VARDOZEK) gdb $(PROGRAM) $(LIBRARY)/debug.script' $(PROGRAM)
 
 picture: $(PROGRAM)
 	$(VARDOZEK) view $(PROGRAM) $(basename $(PROGRAM)).svg --run --cpus $(CPUS) --watchdog $(WATCHDOG)

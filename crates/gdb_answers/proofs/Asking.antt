@@ -5,8 +5,8 @@ use Rattle.evm_text.specs.Reading.{◌>>=◌}
 use Rattle.evm_model.specs.Event.{Event}
 use Rattle.evm_model.specs.State.{State}
 use Rattle.evm_model.specs.declared.refusal.Refusal.{Refusal}
-use Rattle.gdb_commands.specs.declared.command.Command.{Command}
-use Rattle.gdb_commands.specs.declared.command.Command.TheVariants as commands
+use Rattle.gdb_packets.specs.declared.command.Command.{Command}
+use Rattle.gdb_packets.specs.declared.command.Command.TheVariants as commands
 use Rattle.gdb_packets.specs.Hexadecimal.{bytes_of_digits}
 use Rattle.gdb_tape.specs.gdb_driving.declared.points.Points.{Points}
 use Rattle.gdb_answers.specs.Asking.{asked, asked_by, points_asked}

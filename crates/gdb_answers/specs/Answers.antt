@@ -1,13 +1,17 @@
 -- The answers to what GDB asks of the machine.
-use Rattle.std.specs.Prelude.{ℕ, Bool, true, false, slice_get, List, ◌++◌, Option, Some, None, codes, length, take, drop, nat_le, nat_lt, if◌then◌else◌}
+use Rattle.std.specs.Prelude.{ℕ, Bool, true, false, slice_get, List, ◌++◌, Option, Some, None, Result, Ok, Err, codes, length, take, drop, nat_le, nat_lt, if◌then◌else◌}
 use Rattle.evm_exec.specs.declared.hart.Hart.{Hart}
 use Rattle.evm_exec.specs.declared.hart.TheConstants.{REGISTERS}
 use Rattle.evm_ram.specs.Ram.{bytes_at}
 use Rattle.evm_model.specs.State.{State}
-use Rattle.gdb_commands.specs.declared.command.Command.{Command}
-use Rattle.gdb_commands.specs.declared.command.Command.TheVariants as commands
+use Rattle.evm_model.specs.declared.refusal.Refusal.{Refusal}
+use Rattle.evm_model.specs.declared.refusal.Refusal.TheVariants as refusals
+use Rattle.gdb_packets.specs.declared.command.Command.{Command}
+use Rattle.gdb_packets.specs.declared.command.Command.TheVariants as commands
 use Rattle.gdb_tape.specs.gdb_driving.Shown.{error_text, hart_register, halt_text, memory_reply, registers_text, thread_text, threads_text, word_text}
 use Rattle.gdb_tape.specs.gdb_driving.declared.stops.TargetHalt.{TargetHalt}
+use Rattle.gdb_tape.specs.gdb_driving.declared.stops.Why.{Why}
+use Rattle.gdb_tape.specs.gdb_driving.declared.stops.Why.TheVariants as whys
 
 -- ---- questions
 
@@ -45,6 +49,23 @@ answer_text looked halt s commands.Threads = Some (threads_text (length s.board.
 answer_text looked halt s commands.MoreThreads = Some (codes "l")
 answer_text looked halt s commands.Attached = Some (codes "1")
 answer_text looked halt s _ = None
+
+-- ---- stops
+
+-- a stop at the limit is one at the end of the journal where that lacks room
+abbrev pub why_told : Bool → Why → Why
+why_told full whys.Limit = if full then whys.Full else whys.Limit
+why_told full why = why
+
+-- no room for an event is a stop; another refusal is an error
+abbrev pub refusal_told : ℕ → Refusal → Result TargetHalt Refusal
+refusal_told looked refusals.Full = Ok (record { task = looked; why = whys.Full })
+refusal_told looked refusal = Err refusal
+
+-- how a continue or a step ended, where task `looked` is looked at
+abbrev pub outcome_told : Bool → ℕ → Result TargetHalt Refusal → Result TargetHalt Refusal
+outcome_told full looked (Ok halt) = Ok (record { task = halt.task; why = why_told full halt.why })
+outcome_told full looked (Err refusal) = refusal_told looked refusal
 
 -- ---- documents
 

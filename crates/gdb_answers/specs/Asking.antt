@@ -5,9 +5,9 @@ use Rattle.evm_model.specs.Event.{Event}
 use Rattle.evm_model.specs.State.{State}
 use Rattle.evm_model.specs.declared.refusal.Refusal.{Refusal}
 use Rattle.evm_model.specs.declared.refusal.Refusal.TheVariants.{BadAddress}
-use Rattle.gdb_commands.specs.Commands.{command_at}
-use Rattle.gdb_commands.specs.declared.command.Command.{Command}
-use Rattle.gdb_commands.specs.declared.command.Command.TheVariants as commands
+use Rattle.gdb_packets.specs.Commands.{command_at}
+use Rattle.gdb_packets.specs.declared.command.Command.{Command}
+use Rattle.gdb_packets.specs.declared.command.Command.TheVariants as commands
 use Rattle.gdb_tape.specs.gdb_driving.Setting.{MakesAsked, registers_setting}
 use Rattle.gdb_tape.specs.gdb_driving.Points.{IsSetTo, with_break, with_watch, without_break, without_watch}
 use Rattle.gdb_tape.specs.gdb_driving.declared.points.Points.{Points}

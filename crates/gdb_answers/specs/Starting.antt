@@ -1,7 +1,14 @@
 -- How GDB starts and ends the program.
-use Rattle.std.specs.Prelude.{ℕ, ◌-◌, Bool, true, false, not, ◌&&◌, List, [], Option, Some, None, codes, nat_le, nat_lt, if◌then◌else◌}
-use Rattle.gdb_commands.specs.declared.command.Command.{Command}
-use Rattle.gdb_commands.specs.declared.command.Command.TheVariants as commands
+use Rattle.std.specs.Prelude.{ℕ, ◌-◌, ◌/◌, ◌%◌, ◌==◌, Bool, true, false, not, ◌&&◌, List, [], Option, Some, None, codes, length, nat_le, nat_lt, if◌then◌else◌}
+use Rattle.std.specs.List.{list_all}
+use Rattle.evm_model.specs.State.{State}
+use Rattle.evm_ram.specs.Ram.{is_inside}
+use Rattle.gdb_packets.specs.Commands.{command_at}
+use Rattle.gdb_packets.specs.Hexadecimal.{is_hexadecimal}
+use Rattle.gdb_packets.specs.declared.command.Command.{Command}
+use Rattle.gdb_packets.specs.declared.command.Command.TheVariants as commands
+use Rattle.gdb_packets.specs.declared.item.PacketItem.{PacketItem}
+use Rattle.gdb_packets.specs.declared.item.PacketItem.TheVariants.{Packet}
 use Rattle.gdb_tape.specs.gdb_driving.Shown.{error_text, halt_text}
 use Rattle.gdb_tape.specs.gdb_driving.declared.stops.TargetHalt.{TargetHalt}
 use Rattle.gdb_answers.specs.declared.session.Booting.{Booting}
@@ -20,6 +27,36 @@ asks_boot extended entry commands.KillProcess = extended
 asks_boot extended entry (commands.WriteDigits address count) = loads_program entry address count
 asks_boot extended entry (commands.WriteBytes address count) = loads_program entry address count
 asks_boot extended entry _ = false
+
+-- the digits of `count` bytes
+abbrev pub are_digits : ℕ → List ℕ → Bool
+are_digits count digits = (length digits % 2 == 0) && (length digits / 2 == count) && list_all is_hexadecimal digits
+
+-- a write has as many bytes as it says, and each is in RAM; another command has nothing to write
+abbrev pub writes_whole : List ℕ → State → Command → Bool
+writes_whole behind s (commands.WriteDigits address count) = are_digits count behind && is_inside s.board.memory.ram address count
+writes_whole behind s (commands.WriteBytes address count) = (length behind == count) && is_inside s.board.memory.ram address count
+writes_whole behind s _ = true
+
+abbrev pub said_boots : Bool → ℕ → State → Option (Command × List ℕ) → Bool
+said_boots extended entry s None = false
+said_boots extended entry s (Some said) = asks_boot extended entry said.0 && writes_whole said.1 s said.0
+
+-- a payload asks that the machine boots anew
+abbrev pub payload_boots : Bool → ℕ → List ℕ → State → Bool
+payload_boots extended entry payload s = said_boots extended entry s (command_at payload)
+
+-- no boot was tried for the packet
+abbrev pub may_boot : Booting → Bool
+may_boot Idle = true
+may_boot Asked = true
+may_boot Done = false
+may_boot Failed = false
+
+-- a packet that asks for a boot waits for it, and is answered behind it
+abbrev pub waits_for_boot : Booting → PacketItem → Bool → Bool
+waits_for_boot booting Packet asks = may_boot booting && asks
+waits_for_boot booting _ asks = false
 
 -- GDB waits for an answer: to k for none, and to R for none where it may start the program
 abbrev pub has_reply : Bool → Command → Bool

@@ -21,8 +21,7 @@ use crate::words::put_thread;
 use evm_dev::Device;
 use evm_devs::AnyDevice;
 use evm_room::{NoMemory, Refused, push_text};
-use gdb_commands::{Command, Pace};
-use gdb_packets::{push_digits, read_digits};
+use gdb_packets::{Command, Pace, push_digits, read_digits};
 use gdb_tape::{
     Interrupts, Machine, Points, Refusal, WatchPoint, processor_of, push_bytes, push_error,
     push_outcome, set_register, set_registers, word_at, write,

@@ -3,6 +3,7 @@
 #![tactic(auto)]
 
 mod answering;
+mod desk;
 mod monitor;
 mod questions;
 mod resuming;

@@ -7,7 +7,7 @@ use crate::session::GdbSession;
 use crate::target::{ACTIONS, DESCRIPTION, SUPPORTED, memory_map, push_part};
 use evm_dev::Device;
 use evm_room::Refused;
-use gdb_commands::Command;
+use gdb_packets::Command;
 use gdb_tape::{
     Machine, Refusal, push_bytes, push_error, push_halt, push_memory, push_registers, push_thread,
     push_threads, push_word, register,

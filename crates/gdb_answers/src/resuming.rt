@@ -1,12 +1,14 @@
 //! The program goes on, and why it is stopped again.
 
 ghost use Rattle.std.specs.Prelude.{◌≡◌, IfOk};
+ghost use Rattle.gdb_answers.specs.Answers.{outcome_told, refusal_told, why_told};
 ghost use Rattle.gdb_tape.specs.Tape.{KeepsTape, StandsAt, events};
+ghost use Rattle.gdb_tape.specs.gdb_driving.Interrupts.{lacks_room};
 
 use crate::session::GdbSession;
 use evm_dev::Device;
 use evm_room::{Refused, push_text};
-use gdb_commands::Pace;
+use gdb_packets::Pace;
 use gdb_tape::{
     Going, Interrupts, Machine, Refusal, TargetHalt, Why, lacks_room, push_error, push_halt,
     resume, step,
@@ -176,22 +178,43 @@ fn answer_halt(
     }
 }
 
+// Why a continue ended: at its limit, or at the end of the journal.
+fn why_told(full: bool, why: Why) -> Why
+    ensures { result ≡ why_told full why }
+{
+    match why {
+        Why::Limit if full => Why::Full,
+        _ => why,
+    }
+}
+
+// What a refusal means to GDB: where the journal has no room for another event, the machine is stopped.
+fn refusal_told(looked: u8, refusal: Refusal) -> Result<TargetHalt, Refusal>
+    ensures { result ≡ refusal_told looked refusal }
+{
+    match refusal {
+        Refusal::Full => Ok(TargetHalt {
+            task: looked,
+            why: Why::Full,
+        }),
+        _ => Err(refusal),
+    }
+}
+
 // A stop because the journal has no room for another event, where that is why the machine didn't go on.
 fn full_or<D: Device>(
     machine: &Machine<D>,
     looked: u8,
     outcome: Result<TargetHalt, Refusal>,
-) -> Result<TargetHalt, Refusal> {
+) -> Result<TargetHalt, Refusal>
+    ensures { result ≡ outcome_told (lacks_room machine.now) looked outcome }
+{
     match outcome {
-        Err(Refusal::Full) => Ok(TargetHalt {
-            task: looked,
-            why: Why::Full,
-        }),
-        Ok(halt) if halt.why == Why::Limit && lacks_room(machine) => Ok(TargetHalt {
+        Ok(halt) => Ok(TargetHalt {
             task: halt.task,
-            why: Why::Full,
+            why: why_told(lacks_room(machine), halt.why),
         }),
-        _ => outcome,
+        Err(refusal) => refusal_told(looked, refusal),
     }
 }
 

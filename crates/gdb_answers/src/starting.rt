@@ -1,16 +1,15 @@
 //! The program is started or ended, and when the machine boots anew for that.
 
 ghost use Rattle.std.specs.Prelude.{◌≡◌, ◌++◌, ℕ, List, OnOk, Option};
-ghost use Rattle.gdb_answers.specs.Starting.{asks_boot, begin_text, booted_text, has_reply, loads_program, starting_text};
+ghost use Rattle.gdb_answers.specs.Starting.{are_digits, asks_boot, begin_text, booted_text, has_reply, loads_program, may_boot, payload_boots, starting_text, waits_for_boot, writes_whole};
 ghost use Rattle.gdb_tape.specs.Tape.{KeepsTape};
 
 use crate::answering::MALFORMED;
 use crate::serving::Ended;
 use crate::session::{Booting, GdbSession};
 use evm_room::Refused;
-use gdb_commands::{Command, read_command};
-use gdb_packets::PacketItem;
-use gdb_tape::{push_bytes, push_error, push_halt};
+use gdb_packets::{Command, PacketItem, is_hexadecimal, read_command};
+use gdb_tape::{is_inside, push_bytes, push_error, push_halt};
 
 /// The most bytes that a variable at the entry of a program could have.
 const LONGEST_WORD: u64 = 8;
@@ -98,36 +97,57 @@ pub(crate) fn answer_start(
 }
 
 // Whether these are the digits of a number of bytes.
-fn are_digits(digits: &[u8], count: u64) -> bool {
+fn are_digits(count: u64, digits: &[u8]) -> bool
+    ensures { result ≡ are_digits count digits.now }
+{
     digits.len() % 2 == 0
         && (digits.len() / 2) as u64 == count
-        && digits
-            .iter()
-            .all(|digit| matches!(*digit, b'0'..=b'9' | b'a'..=b'f'))
+        && digits.iter().all(|digit| is_hexadecimal(*digit))
 }
 
 // Whether a command that writes has as many bytes as it says, and they are all in RAM. Of others nothing is asked.
-fn is_whole(session: &GdbSession, command: Command, behind: &[u8]) -> bool {
-    let (address, count) = match command {
-        Command::WriteDigits(address, count) if are_digits(behind, count) => (address, count),
-        Command::WriteBytes(address, count) if behind.len() as u64 == count => (address, count),
-        Command::WriteDigits(_, _) | Command::WriteBytes(_, _) => return false,
-        _ => return true,
-    };
-    session.tape.machine.bytes(address, count).is_some()
+fn writes_whole(session: &GdbSession, command: Command, behind: &[u8]) -> bool
+    ensures { result ≡ writes_whole behind.now session.now.tape.machine command }
+{
+    let machine = &session.tape.machine;
+    match command {
+        Command::WriteDigits(address, count) => {
+            are_digits(count, behind) && is_inside(machine, address, count)
+        }
+        Command::WriteBytes(address, count) => {
+            behind.len() as u64 == count && is_inside(machine, address, count)
+        }
+        _ => true,
+    }
 }
 
-/// Whether the machine is to boot anew before an item is answered; once it has, or could not, it is answered.
-pub(crate) fn waits_for_boot(session: &GdbSession, item: PacketItem, payload: &[u8]) -> bool {
-    if item != PacketItem::Packet || matches!(session.booting, Booting::Done | Booting::Failed) {
-        return false;
-    }
+// Whether a payload asks that the machine boots anew.
+fn payload_boots(session: &GdbSession, payload: &[u8]) -> bool
+    ensures { result ≡ payload_boots session.now.extended session.now.tape.image.entry payload.now session.now.tape.machine }
+{
     match read_command(payload) {
         Some((command, behind)) => {
             let entry = session.tape.image.entry();
-            asks_boot(session.extended, entry, command) && is_whole(session, command, behind)
+            asks_boot(session.extended, entry, command) && writes_whole(session, command, behind)
         }
         None => false,
+    }
+}
+
+// Whether no boot was tried for the packet.
+fn may_boot(booting: Booting) -> bool
+    ensures { result ≡ may_boot booting }
+{
+    matches!(booting, Booting::Idle | Booting::Asked)
+}
+
+/// Whether the machine is to boot anew before an item is answered; once it has, or could not, it is answered.
+pub(crate) fn waits_for_boot(session: &GdbSession, item: PacketItem, payload: &[u8]) -> bool
+    ensures { result ≡ waits_for_boot session.now.booting item (payload_boots session.now.extended session.now.tape.image.entry payload.now session.now.tape.machine) }
+{
+    match item {
+        PacketItem::Packet => may_boot(session.booting) && payload_boots(session, payload),
+        _ => false,
     }
 }
 

@@ -9,8 +9,8 @@ use Rattle.evm_host.specs.Asks.{NotRead}
 use Rattle.evm_host.specs.Exit.{Ended}
 use Rattle.gdb_answers.specs.declared.serving.Ended as declared
 use Rattle.gdb_answers.specs.declared.serving.Ended.TheVariants.{Left, Saves, Boots, NoMemory, ReadFailed, WriteFailed}
-use Rattle.gdb_hearing.specs.declared.ends.HearingEnd.{HearingEnd}
-use Rattle.gdb_hearing.specs.declared.ends.HearingEnd.TheVariants as hearings
+use Rattle.gdb_packets.specs.declared.ends.HearingEnd.{HearingEnd}
+use Rattle.gdb_packets.specs.declared.ends.HearingEnd.TheVariants as hearings
 
 module _ {S O C I W E : Type 0} (writes : W → Writing → List ℕ → W → Type 0) (reports : E → Writing → List ℕ → E → Type 0) where
   -- A read that failed is one of memory refused where memory was refused to the thread that hears.

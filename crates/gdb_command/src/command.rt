@@ -17,7 +17,7 @@ use evm_image::Image;
 use evm_serve::InputFault;
 use evm_streams::{ReadFault, Source};
 use gdb_answers::{Ended, GdbSession, Interrupts, Machine, Names, Refusal, begin, serve_gdb};
-use gdb_hearing::{Hearing, HearingEnd};
+use gdb_packets::{Hearing, HearingEnd};
 use std::alloc::Global;
 
 /// The name in front of messages that are about no file.

@@ -1,10 +1,10 @@
 -- Where a session stops: how breakpoints and watchpoints are set and taken away.
 use Rattle.std.specs.Prelude.{◌≡◌, ℕ, ◌==◌, Bool, true, not, ◌&&◌, List, [], ◌∷◌, ◌++◌, Result, Ok, Err, length, nat_le, is_none, if◌then◌else◌, filter}
 use Rattle.std.specs.List.{list_any}
-use Rattle.gdb_commands.specs.declared.command.BreakKind.{BreakKind}
-use Rattle.gdb_commands.specs.declared.command.BreakKind.TheVariants.{Software, Hardware}
-use Rattle.gdb_commands.specs.declared.command.WatchKind.{WatchKind}
-use Rattle.gdb_commands.specs.declared.command.WatchKind.TheVariants.{Write, Read, Access}
+use Rattle.gdb_packets.specs.declared.command.BreakKind.{BreakKind}
+use Rattle.gdb_packets.specs.declared.command.BreakKind.TheVariants.{Software, Hardware}
+use Rattle.gdb_packets.specs.declared.command.WatchKind.{WatchKind}
+use Rattle.gdb_packets.specs.declared.command.WatchKind.TheVariants.{Write, Read, Access}
 use Rattle.evm_model.specs.Commands.{is_set, without_breakpoint}
 use Rattle.evm_model.specs.Refusals.{bad_place}
 use Rattle.evm_model.specs.State.{Board}

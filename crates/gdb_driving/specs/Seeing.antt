@@ -3,8 +3,8 @@ use Rattle.std.specs.Prelude.{◌≡◌, ℕ, ◌-◌, Bool, true, false, ◌&&�
 use Rattle.evm_exec.specs.declared.outcome.Access.{Access}
 use Rattle.evm_exec.specs.declared.outcome.Direction.{Direction}
 use Rattle.evm_exec.specs.declared.outcome.Direction.TheVariants.{Load, Store}
-use Rattle.gdb_commands.specs.declared.command.WatchKind.{WatchKind}
-use Rattle.gdb_commands.specs.declared.command.WatchKind.TheVariants as kinds
+use Rattle.gdb_packets.specs.declared.command.WatchKind.{WatchKind}
+use Rattle.gdb_packets.specs.declared.command.WatchKind.TheVariants as kinds
 use Rattle.evm_model.specs.Current.{current}
 use Rattle.evm_model.specs.Event.{Event}
 use Rattle.evm_model.specs.State.{State}

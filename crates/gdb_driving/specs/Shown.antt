@@ -8,8 +8,8 @@ use Rattle.evm_exec.specs.declared.hart.TheConstants.{REGISTERS}
 use Rattle.evm_model.specs.Refusals.{number_of}
 use Rattle.evm_model.specs.declared.fault.Fault.TheVariants as faults
 use Rattle.evm_model.specs.declared.refusal.Refusal.{Refusal}
-use Rattle.gdb_commands.specs.declared.command.WatchKind.{WatchKind}
-use Rattle.gdb_commands.specs.declared.command.WatchKind.TheVariants.{Write, Read, Access}
+use Rattle.gdb_packets.specs.declared.command.WatchKind.{WatchKind}
+use Rattle.gdb_packets.specs.declared.command.WatchKind.TheVariants.{Write, Read, Access}
 use Rattle.gdb_driving.specs.declared.stops.TargetHalt.{TargetHalt}
 use Rattle.gdb_driving.specs.declared.stops.Why.{Why}
 use Rattle.gdb_driving.specs.declared.stops.Why.TheVariants.{Asked, SoftwareBreak, HardwareBreak, Watched, Ebreak, Faulted, Interrupted, Limit, Full, Idle, AtBegin, AtEnd}

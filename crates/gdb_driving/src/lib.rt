@@ -19,8 +19,8 @@ pub use evm_debug::{
     Answer, Boot, Devices, Event, EventLine, Line, Machine, Refusal, View, ViewRefusal, cut_line,
     push_view, read_line, write_journal,
 };
-pub use gdb_hearing::Interrupts;
-pub use memory::{push_memory, write};
+pub use gdb_packets::Interrupts;
+pub use memory::{is_inside, push_memory, write};
 pub use points::{Points, WATCH_LIMIT, WatchPoint, WatchPoints};
 pub use registers::{processor_of, push_registers, register, set_register, set_registers, word_at};
 pub use running::{Going, Round, lacks_room, resume, step};

@@ -73,8 +73,8 @@ fn poke_each<D: Device>(machine: &mut Machine<D>, address: u64, bytes: &[u8]) ->
     Ok(())
 }
 
-// Whether each of these bytes is a byte of RAM.
-fn is_inside<D: Device>(machine: &Machine<D>, address: u64, count: u64) -> bool
+/// Whether each of these bytes is a byte of RAM.
+pub fn is_inside<D: Device>(machine: &Machine<D>, address: u64, count: u64) -> bool
     ensures inside { result ≡ is_inside machine.now.board.memory.ram address count }
     ensures found { result ≡ is_some (bytes_at machine.now.board.memory.ram address count) }
     ensures fits { IsTrue result → address + count ≤ 2 ^ 64 }

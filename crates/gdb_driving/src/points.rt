@@ -9,7 +9,7 @@ use evm_debug::{Machine, Refusal};
 use evm_dev::Device;
 use evm_model::BREAKPOINT_LIMIT;
 use evm_quiet::Breakpoints;
-use gdb_commands::{BreakKind, WatchKind};
+use gdb_packets::{BreakKind, WatchKind};
 
 /// How many watchpoints a session has at most.
 pub const WATCH_LIMIT: usize = 64;

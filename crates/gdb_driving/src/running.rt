@@ -11,7 +11,7 @@ use crate::seeing::{Next, break_at, current_or, fault_of, halt_after, next_of, w
 use crate::stops::{TargetHalt, Why};
 use evm_debug::{Answer, Event, Machine, Refusal};
 use evm_dev::Device;
-use gdb_hearing::Interrupts;
+use gdb_packets::Interrupts;
 
 /// How a program goes on.
 #[derive(Clone, Copy, Debug)]

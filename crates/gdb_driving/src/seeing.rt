@@ -13,7 +13,7 @@ use evm_dev::Device;
 use evm_exec::{Access, Direction, access};
 use evm_isa::decode;
 use evm_model::{Block, TaskState};
-use gdb_commands::WatchKind;
+use gdb_packets::WatchKind;
 
 /// What the next step of a processor does.
 #[derive(Clone, Copy, Debug, PartialEq, Eq)]

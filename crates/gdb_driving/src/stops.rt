@@ -7,8 +7,7 @@ ghost use Rattle.gdb_driving.specs.Shown.{address_text, halt_text, reason_text, 
 use crate::bytes::{push_bytes, push_thread};
 use evm_model::Fault;
 use evm_room::Refused;
-use gdb_commands::WatchKind;
-use gdb_packets::push_digits;
+use gdb_packets::{WatchKind, push_digits};
 
 /// Why a program is stopped.
 #[derive(Clone, Copy, Debug, PartialEq, Eq)]

@@ -2,6 +2,10 @@
 use Rattle.std.specs.Prelude.{◌≡◌, ℕ, ◌+◌, ◌*◌, Bool, true, false, List, [], ◌∷◌, ◌++◌, Option, Some, None, nat_lt, if◌then◌else◌}
 use Rattle.evm_text.specs.Reading.{worth}
 
+-- 0 to 9, and a to f
+abbrev pub is_hexadecimal : ℕ → Bool
+is_hexadecimal character = nat_lt (worth character) 16
+
 -- the bytes go on with those of the digits
 unfoldable pub bytes_on : List ℕ → List ℕ → Option (List ℕ)
 bytes_on so_far [] = Some so_far

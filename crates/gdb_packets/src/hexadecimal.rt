@@ -1,7 +1,7 @@
 ghost use Rattle.std.specs.Prelude.{◌≡◌, ◌++◌, IfOk, IfErr, OnOk};
 ghost use Rattle.evm_text.specs.Reading.{worth};
 ghost use Rattle.evm_text.specs.Written.{pairs};
-ghost use Rattle.gdb_packets.specs.Hexadecimal.{bytes_of_digits, bytes_on, Reads};
+ghost use Rattle.gdb_packets.specs.Hexadecimal.{bytes_of_digits, bytes_on, is_hexadecimal, Reads};
 
 use crate::framing::{digit, push_byte};
 use evm_room::Refused;
@@ -15,6 +15,13 @@ fn worth(character: u8) -> u8
         b'a'..=b'f' => character - b'a' + 10,
         _ => 16,
     }
+}
+
+/// Whether a character is a digit as [`read_digits`] reads them: 0 to 9, and a to f.
+pub fn is_hexadecimal(character: u8) -> bool
+    ensures { result ≡ is_hexadecimal character }
+{
+    worth(character) < 16
 }
 
 /// Appends two digits for each byte.

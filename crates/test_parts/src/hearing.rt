@@ -1,6 +1,6 @@
 //! A thread that hears GDB: a byte 3 asks for a stop, and a read that fails ends the hearing.
 
-use gdb_hearing::{Ear, Hearing, HearingEnd, Interrupts};
+use gdb_packets::{Ear, Hearing, HearingEnd, Interrupts};
 use std::io::{self, Error, ErrorKind, Read};
 use std::test::Fail;
 

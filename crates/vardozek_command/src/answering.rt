@@ -6,7 +6,7 @@ use command_lines::{names_at, no_words, refuse};
 use evm_host::{System, USAGE, World, host_world, image_at, memory_refused, words_of};
 use evm_program::{Progress, program_devices};
 use gdb_command::gdb;
-use gdb_hearing::Ear;
+use gdb_packets::Ear;
 use hunt_command::{HuntProgress, hunt_for};
 use run_command::{journal_for, run_for};
 use sh_command::sh;
