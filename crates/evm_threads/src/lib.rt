@@ -9,6 +9,3 @@ mod writing;
 pub use evm_shared::Blanks;
 pub use outcome::RunEnding;
 pub use running::threads_to;
-
-#[cfg(test)]
-mod tests;
