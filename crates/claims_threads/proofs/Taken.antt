@@ -20,7 +20,7 @@ use Rattle.evm_model.specs.declared.refusal.Refusal.{Refusal}
 use Rattle.evm_model.specs.declared.refusal.Refusal.TheVariants as refusals
 use Rattle.evm_shared.specs.Ports.{Delivers, MakesBells, MakesOne, MakesSteps, PortValue, Records, marked, marked_short}
 use Rattle.evm_shared.specs.Receipts.{bells_below, made_events}
-use Rattle.evm_shared.specs.Workers.{HasTurned, MakesTurn, MakesTurns, RefusesTurn, WorkerValue, least_refusal, lesser_refusal}
+use Rattle.evm_shared.specs.Workers.{HasTurned, MakesTurn, MakesTurns, StopsTurns, WorkerValue, least_refusal, lesser_refusal}
 use Rattle.evm_shared.specs.declared.event_counts.EventCounts.{EventCounts}
 use Rattle.evm_shared.specs.declared.receipt.Made.TheVariants.{Steps, Bells, One}
 use Rattle.claims_threads.proofs.Said.{room_left, says_bells, says_lines, says_more, says_none, shares_more}
@@ -189,7 +189,7 @@ matched_none A B None h none = h
 matched_none A B (Some why) h none = absurd cc
 
 made_all : (start : State) (cpus n : ℕ) (old new : WorkerValue) → HasTurned start cpus n old new → new.refused ≡ None → MakesTurns start cpus n old new
-made_all start cpus n old new h none = (matched_none (MakesTurns start cpus n old new × (old.port.share.steps + n ≤ new.port.share.steps)) (RefusesTurn start cpus old.cpu) new.refused h.2 none).0
+made_all start cpus n old new h none = (matched_none (MakesTurns start cpus n old new × (old.port.share.steps + n ≤ new.port.share.steps)) (λ why. StopsTurns start cpus n old new why) new.refused h.2 none).0
 
 pub run_says : (start : State) (cpus n : ℕ) (result : Result (Unit {0}) Refusal) (olds news : List WorkerValue) → length news ≡ length olds
     → ((i : ℕ) (d : WorkerValue) → i < length olds → HasTurned start cpus n (get_or olds i d) (get_or news i d))
