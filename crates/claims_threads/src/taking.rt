@@ -88,6 +88,8 @@ pub fn a_run_says_what_it_takes<
     ensures bells { All (λ (w : WorkerValue). w.taker.bells ≡ bells.now.id) workers.new }
     ensures says { IfOk result (λ _. (i : ℕ) (d : WorkerValue) → i < length workers.old → 2 * turns ≤ (slice_index_or workers.old i d).port.room
         → SaysTaken (slice_index_or workers.old i d).port (slice_index_or workers.old i d).taker → SaysTaken (slice_index_or workers.new i d).port (slice_index_or workers.new i d).taker) }
+    // each port is one that was made when it was
+    ensures since { IfOk result (λ _. (i : ℕ) (d : WorkerValue) → i < length workers.old → (n : ℕ) → n ≤ (slice_index_or workers.old i d).port.since → n ≤ (slice_index_or workers.new i d).port.since) }
 {
     shared.run(rt, bells, workers, turns, gate)
 }
