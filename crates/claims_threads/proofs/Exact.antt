@@ -1,5 +1,5 @@
 -- What the claims on sharings, on bells and on the machine say together.
-use Rattle.std.proofs.Common.{◌≡◌, ℕ, ◌+◌, ◌%◌, ◌^◌, ◌<◌, ◌≤◌, List, length, sym, subst, refl, ◌∙◌, ◌⊎◌, inl, inr, arith, Bool, true, false}
+use Rattle.std.proofs.Common.{◌≡◌, ℕ, ◌+◌, ◌%◌, ◌^◌, ◌<◌, ◌≤◌, List, length, length-drop, drop, sym, subst, refl, ◌∙◌, ◌⊎◌, inl, inr, arith, Bool, true, false}
 use Rattle.std.proofs.Math.Nat.{mod-eq_of_lt}
 use Rattle.std.proofs.lemmas.Bool.{ltb-false}
 use Rattle.std.proofs.lemmas.List.Sums.{count_by-le-length}
@@ -51,4 +51,12 @@ pub exact : (s : State) (such : Event → Bool) (word l counter counted : ℕ) �
     → counter ≡ count_by such s.journal + bit_at word l
 exact s such word l counter counted good is sum =
     let low : counted < 2 ^ 64 = omega (arith, sum, count_by-le-length such s.journal, good.journal, capacity_within s.boot good.boot, bit_at-lt word l) in
+    is ∙ mod-eq_of_lt low ∙ sum
+
+-- .. and of the events of it behind the first n
+pub exact_since : (s : State) (such : Event → Bool) (n word l counter counted : ℕ) → GoodState s → counter ≡ counted % 2 ^ 64 → counted ≡ count_by such (drop n s.journal) + bit_at word l
+    → counter ≡ count_by such (drop n s.journal) + bit_at word l
+exact_since s such n word l counter counted good is sum =
+    let fewer = length-drop n s.journal in
+    let low : counted < 2 ^ 64 = omega (arith, sum, fewer, count_by-le-length such (drop n s.journal), good.journal, capacity_within s.boot good.boot, bit_at-lt word l) in
     is ∙ mod-eq_of_lt low ∙ sum

@@ -13,12 +13,12 @@ new_says b receipts since t new = record {
   bells = refl;
 }
 
-pub new_worker : (b : BellsValue) (turns since : ℕ) (p : PortValue) (t : TakerValue) (w : WorkerValue) → p ≡ fresh_port (2 * turns) since → IsNewTaker b.id t → w.port ≡ p → w.taker ≡ t
-    → IsSaidWithRoom b turns w
-new_worker b turns since p t w fresh new port taker =
+pub new_worker : (b : BellsValue) (n turns since : ℕ) (p : PortValue) (t : TakerValue) (w : WorkerValue) → p ≡ fresh_port (2 * turns) since → n ≤ since → IsNewTaker b.id t → w.port ≡ p → w.taker ≡ t
+    → IsSaidWithRoom b n turns w
+new_worker b n turns since p t w fresh late new port taker =
     let says = new_says b (2 * turns) since t new in
     let its : w.port ≡ fresh_port (2 * turns) since = port ∙ fresh in (
-      (ap (λ (u : TakerValue). u.bells) taker ∙ new.0, subst (λ (q : PortValue). SaysTaken q w.taker) (sym its) (subst (SaysTaken (fresh_port (2 * turns) since)) (sym taker) says)),
+      (ap (λ (u : TakerValue). u.bells) taker ∙ new.0, subst (λ (q : PortValue). SaysTaken q w.taker) (sym its) (subst (SaysTaken (fresh_port (2 * turns) since)) (sym taker) says), omega (arith, late, ap (λ (q : PortValue). q.since) its)),
       omega (arith, ap (λ (q : PortValue). q.room) its),
     )
 

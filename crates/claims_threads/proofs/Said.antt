@@ -133,3 +133,13 @@ room_left before made more old new records =
     let counted : PortValue = record old { share = plus old.share more } in
     let left = room_tested (old.room == 0) (length before.journal) made counted refl in
     omega (arith, left, ap (λ (p : PortValue). p.room) records)
+
+-- the port stays one that was made when it was
+since_tested : (b : Bool) (position : ℕ) (made : Made) (p : PortValue) → (p.room == 0) ≡ b → (recorded position made p).since ≡ p.since
+since_tested true position made p test = rw test refl
+since_tested false position made p test = rw test refl
+
+pub same_since : (before : State) (made : Made) (more : EventCounts) (old new : PortValue) → Records before made more old new → new.since ≡ old.since
+same_since before made more old new records =
+    let counted : PortValue = record old { share = plus old.share more } in
+    ap (λ (p : PortValue). p.since) records ∙ since_tested (old.room == 0) (length before.journal) made counted refl

@@ -20,10 +20,10 @@ use Rattle.evm_model.specs.declared.refusal.Refusal.{Refusal}
 use Rattle.evm_model.specs.declared.refusal.Refusal.TheVariants as refusals
 use Rattle.evm_shared.specs.Ports.{Delivers, MakesBells, MakesOne, MakesSteps, PortValue, Records, marked, marked_short}
 use Rattle.evm_shared.specs.Receipts.{bells_below, made_events}
-use Rattle.evm_shared.specs.Workers.{HasTurned, MakesTurn, MakesTurns, RefusesTurn, WorkerValue, least_refusal, lesser_refusal}
+use Rattle.evm_shared.specs.Workers.{HasTurned, MakesTurn, MakesTurns, StopsTurns, WorkerValue, least_refusal, lesser_refusal}
 use Rattle.evm_shared.specs.declared.event_counts.EventCounts.{EventCounts}
 use Rattle.evm_shared.specs.declared.receipt.Made.TheVariants.{Steps, Bells, One}
-use Rattle.claims_threads.proofs.Said.{room_left, says_bells, says_lines, says_more, says_none, shares_more}
+use Rattle.claims_threads.proofs.Said.{room_left, same_since, says_bells, says_lines, says_more, says_none, shares_more}
 use Rattle.claims_threads.specs.Lines.{in_ports, in_receipts, is_bell, rings}
 use Rattle.claims_threads.specs.Said.{SaysTaken, SayTaken}
 
@@ -189,7 +189,7 @@ matched_none A B None h none = h
 matched_none A B (Some why) h none = absurd cc
 
 made_all : (start : State) (cpus n : ℕ) (old new : WorkerValue) → HasTurned start cpus n old new → new.refused ≡ None → MakesTurns start cpus n old new
-made_all start cpus n old new h none = (matched_none (MakesTurns start cpus n old new × (old.port.share.steps + n ≤ new.port.share.steps)) (RefusesTurn start cpus old.cpu) new.refused h.2 none).0
+made_all start cpus n old new h none = (matched_none (MakesTurns start cpus n old new × (old.port.share.steps + n ≤ new.port.share.steps)) (λ why. StopsTurns start cpus n old new why) new.refused h.2 none).0
 
 pub run_says : (start : State) (cpus n : ℕ) (result : Result (Unit {0}) Refusal) (olds news : List WorkerValue) → length news ≡ length olds
     → ((i : ℕ) (d : WorkerValue) → i < length olds → HasTurned start cpus n (get_or olds i d) (get_or news i d))
@@ -198,6 +198,38 @@ pub run_says : (start : State) (cpus n : ℕ) (result : Result (Unit {0}) Refusa
 run_says start cpus n (Ok done) olds news same turned_all least = λ i d lt enough says.
     (all_turned start cpus n (get_or olds i d) (get_or news i d) (made_all start cpus n (get_or olds i d) (get_or news i d) (turned_all i d lt) (none_refused news i d least (omega arith))) enough says).0
 run_says start cpus n (Err why) olds news same turned_all least = tt
+
+-- ---- when the ports were made
+
+delivered_since : (b : Bool) (before : State) (d word : ℕ) (old new : PortValue) → (word == 0) ≡ b → Delivers before d word old new → new.since ≡ old.since
+delivered_since true before d word old new test h =
+    let same : new ≡ old = rw test at h in
+    ap (λ (p : PortValue). p.since) same
+delivered_since false before d word old new test h =
+    let records = rw test at h in
+    same_since before (Bells d word) _ old new records
+
+bells_since : (start : State) (cpus d word : ℕ) (old new : PortValue) → MakesBells start cpus d (Ok word) old new → new.since ≡ old.since
+bells_since start cpus d word old new h = delivered_since (word == 0) h.0 d word old new refl (h.2).1
+
+steps_since : (start : State) (d : ℕ) (burst : Speculated) (done : Committed) (old new : PortValue) → MakesSteps start d burst (Ok done) old new → new.since ≡ old.since
+steps_since start d burst done old new h = same_since h.0 (Steps d done.steps) _ old new (h.2).1
+
+turns_since : (start : State) (cpus n : ℕ) (old new : WorkerValue) → MakesTurns start cpus n old new → new.port.since ≡ old.port.since
+turns_since start cpus zero old new made = ap (λ (w : WorkerValue). w.port.since) made
+turns_since start cpus (suc n) old new made =
+    let before = turns_since start cpus n old made.0 made.1 in
+    let turn = made.2 in
+    steps_since start made.0.cpu turn.burst turn.done turn.delivered new.port turn.commits ∙ bells_since start cpus made.0.cpu turn.word made.0.port turn.delivered turn.bells ∙ before
+
+pub run_since : (start : State) (cpus n : ℕ) (result : Result (Unit {0}) Refusal) (olds news : List WorkerValue) → length news ≡ length olds
+    → ((i : ℕ) (d : WorkerValue) → i < length olds → HasTurned start cpus n (get_or olds i d) (get_or news i d))
+    → MatchResult result (λ _. least_refusal news ≡ None) (λ why. least_refusal news ≡ Some why)
+    → IfOk result (λ _. (i : ℕ) (d : WorkerValue) → i < length olds → (m : ℕ) → m ≤ (get_or olds i d).port.since → m ≤ (get_or news i d).port.since)
+run_since start cpus n (Ok done) olds news same turned_all least = λ i d lt m low.
+    let kept = turns_since start cpus n (get_or olds i d) (get_or news i d) (made_all start cpus n (get_or olds i d) (get_or news i d) (turned_all i d lt) (none_refused news i d least (omega arith))) in
+    omega (arith, low, kept)
+run_since start cpus n (Err why) olds news same turned_all least = tt
 
 -- ---- ports beside takers
 

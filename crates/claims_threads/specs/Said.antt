@@ -19,10 +19,11 @@ SayTaken [] [] = Unit {0}
 SayTaken (p ∷ ports) (t ∷ takers) = SaysTaken p t × SayTaken ports takers
 SayTaken _ _ = ⊥
 
--- a worker's taker is of these bells, and its port's receipts say what the taker has taken
-abbrev pub IsSaid : BellsValue → WorkerValue → Type 0
-IsSaid bells w = (w.taker.bells ≡ bells.id) × SaysTaken w.port w.taker
+-- a worker's taker is of these bells, its port's receipts say what the taker has taken, and its port was made when the journal had
+-- n events, or later
+abbrev pub IsSaid : BellsValue → ℕ → WorkerValue → Type 0
+IsSaid bells n w = (w.taker.bells ≡ bells.id) × SaysTaken w.port w.taker × (n ≤ w.port.since)
 
 -- likewise, and the port has room for two receipts of each of some turns
-abbrev pub IsSaidWithRoom : BellsValue → ℕ → WorkerValue → Type 0
-IsSaidWithRoom bells turns w = IsSaid bells w × (2 * turns ≤ w.port.room)
+abbrev pub IsSaidWithRoom : BellsValue → ℕ → ℕ → WorkerValue → Type 0
+IsSaidWithRoom bells n turns w = IsSaid bells n w × (2 * turns ≤ w.port.room)

@@ -6,7 +6,7 @@ ghost use Rattle.evm_bells.specs.Seats.{IsNewTaker, TakerValue};
 ghost use Rattle.evm_bells.specs.declared.counts.TheConstants.{PROCESSOR_LIMIT};
 ghost use Rattle.evm_lines.specs.declared.TheConstants.{LINES};
 ghost use Rattle.evm_model.specs.Replay.{IsReplayOf, replay};
-ghost use Rattle.evm_shared.specs.EventCounts.{kind_counts};
+ghost use Rattle.evm_shared.specs.EventCounts.{event_total, events_since, kind_counts};
 ghost use Rattle.evm_shared.specs.Ports.{PortValue, fresh_port};
 ghost use Rattle.evm_shared.specs.Workers.{WorkerValue};
 ghost use Rattle.claims_threads.specs.Lines.{rings};
@@ -34,16 +34,16 @@ pub trait Ringing: Sync {
 }
 
 // A worker for each processor of the bells, with one of the ports and one of the takers.
-fn workers_of<S: Ledger, B: Ledger, T: Ledger>(
+fn workers_of<O: Origin, S: Ledger, B: Ledger, T: Ledger>(
     alloc: Global,
     bells: &Bells,
     mut ports: Vec<Port<S, B, T>>,
     mut takers: Vec<Taker>,
     turns: u32,
 ) -> Option<Vec<Worker<S, B, T>>>
-    requires ports { All (λ (p : PortValue). (since : ℕ) × (p ≡ fresh_port (2 * turns) since)) ports.items }
+    requires ports { All (λ (p : PortValue). (since : ℕ) × (p ≡ fresh_port (2 * turns) since) × (event_total O.base ≤ since)) ports.items }
     requires takers { All (IsNewTaker bells.now.id) takers.items }
-    ensures { IfSome result (λ workers. All (IsSaidWithRoom bells.now turns) workers.items) }
+    ensures { IfSome result (λ workers. All (IsSaidWithRoom bells.now (event_total O.base) turns) workers.items) }
 {
     let mut workers = with_room(alloc, bells.cpus() as usize).ok()?;
     for cpu in 0..bells.cpus() {
@@ -59,13 +59,14 @@ fn workers_of<S: Ledger, B: Ledger, T: Ledger>(
 }
 
 // The ports and the takers of workers that are done, each at the place of the other.
-fn parts_of<S: Ledger, B: Ledger, T: Ledger>(
+fn parts_of<O: Origin, S: Ledger, B: Ledger, T: Ledger>(
     alloc: Global,
     bells: &Bells,
     mut workers: Vec<Worker<S, B, T>>,
 ) -> Option<(Vec<Port<S, B, T>>, Vec<Taker>)>
-    requires { All (IsSaid bells.now) workers.items }
+    requires { All (IsSaid bells.now (event_total O.base)) workers.items }
     ensures pairs { IfSome result (λ parts. SayTaken parts.0.items parts.1.items) }
+    ensures since { IfSome result (λ parts. All (λ (p : PortValue). event_total O.base ≤ p.since) parts.0.items) }
     ensures takers { IfSome result (λ parts. All (λ (t : TakerValue). t.bells ≡ bells.now.id) parts.1.items) }
 {
     let mut ports = with_room(alloc, workers.len()).ok()?;
@@ -95,8 +96,8 @@ fn run_all<
     turns: u32,
     gate: &G,
 ) -> Option<Vec<Worker<S, B, T>>>
-    requires { All (IsSaidWithRoom bells.now turns) workers.items }
-    ensures { IfSome result (λ after. All (IsSaid bells.now) after.items) }
+    requires { All (IsSaidWithRoom bells.now (event_total O.base) turns) workers.items }
+    ensures { IfSome result (λ after. All (IsSaid bells.now (event_total O.base)) after.items) }
 {
     match a_run_says_what_it_takes(rt, shared, bells, workers.as_mut_slice(), turns, gate) {
         Ok(()) => Some(workers),
@@ -125,9 +126,9 @@ fn ring_beside<
     gate: &G,
 ) -> (Ringer, Option<Vec<Worker<S, B, T>>>)
     requires ringer { ringer.bells ≡ bells.now.id }
-    requires workers { All (IsSaidWithRoom bells.now turns) workers.items }
+    requires workers { All (IsSaidWithRoom bells.now (event_total O.base) turns) workers.items }
     ensures ringer { result.0.bells ≡ bells.now.id }
-    ensures workers { IfSome result.1 (λ after. All (IsSaid bells.now) after.items) }
+    ensures workers { IfSome result.1 (λ after. All (IsSaid bells.now (event_total O.base)) after.items) }
 {
     thread::join(
         rt,
@@ -136,8 +137,8 @@ fn ring_beside<
             ensures { result.bells ≡ bells.entry.now.id }
         { ringing.ring(bells, ringer) },
         move || -> Option<Vec<Worker<S, B, T>>>
-            requires { All (IsSaidWithRoom bells.now turns) workers.items }
-            ensures { IfSome result (λ after. All (IsSaid bells.entry.now) after.items) }
+            requires { All (IsSaidWithRoom bells.now (event_total O.base) turns) workers.items }
+            ensures { IfSome result (λ after. All (IsSaid bells.entry.now (event_total O.base)) after.items) }
         { run_all(rt, shared, bells, workers, turns, gate) },
     )
 }
@@ -146,8 +147,8 @@ fn ring_beside<
 /// of its own, while another thread rings. Then all ends.
 ///
 /// If no turn was refused, the machine is its journal's replay, and each ring of a line of a processor that was fresh, as the
-/// bells have counted, is a Bell of that line in the journal, or is left; the journal has no other. No premise speaks of
-/// what happened in between.
+/// bells have counted, is a Bell of that line in the journal, behind the events that it had before, or is left; the journal has
+/// no other there. No premise speaks of what happened before or in between.
 pub fn rings_beside_workers_become_bells<
     D: Device,
     O: Origin + Send + Sync,
@@ -169,12 +170,14 @@ pub fn rings_beside_workers_become_bells<
 ) -> Option<(Finished<D, S, B, T>, Closed)>
     requires replays { IsReplayOf O.start machine }
     requires base { kind_counts machine.journal ≡ O.base }
-    requires none { O.base.bells ≡ 0 }
     requires steps { (blanks.steps.name ≡ S.name) × (blanks.steps.parts ≡ S.parts) × (S.parts ≡ cpus) }
     requires bells { (blanks.bells.name ≡ B.name) × (blanks.bells.parts ≡ B.parts) × (B.parts ≡ cpus) }
     requires others { (blanks.others.name ≡ T.name) × (blanks.others.parts ≡ T.parts) × (T.parts ≡ cpus) }
     ensures replayed { IfSome result (λ ended. replay O.start ended.0.machine.journal ≡ ended.0.machine) }
     ensures rung { IfSome result (λ ended. (c l : ℕ) → c < PROCESSOR_LIMIT → l < LINES →
+        counter ended.1.fresh.rows c l ≡ count_by (rings c l) (events_since O.base ended.0.machine.journal) + bit_at (slice_index ended.1.left c) l) }
+    // where it had no Bell before, these are all
+    ensures all { IfSome result (λ ended. (c l : ℕ) → c < PROCESSOR_LIMIT → l < LINES → O.base.bells ≡ 0 →
         counter ended.1.fresh.rows c l ≡ count_by (rings c l) ended.0.machine.journal + bit_at (slice_index ended.1.left c) l) }
 {
     let receipts = turns.checked_mul(2)?;
@@ -185,12 +188,12 @@ pub fn rings_beside_workers_become_bells<
     let Ok((bells, ringer, takers)) = Bells::new(alloc, cpus) else {
         return None;
     };
-    let workers = workers_of(alloc, &bells, ports, takers, turns)?;
+    let workers = workers_of::<O, S, B, T>(alloc, &bells, ports, takers, turns)?;
     let (ringer, workers) = ring_beside(rt, &shared, &bells, ringer, ringing, workers, turns, gate);
     let Some(workers) = workers else {
         return None;
     };
-    let Some((ports, takers)) = parts_of(alloc, &bells, workers) else {
+    let Some((ports, takers)) = parts_of::<O, S, B, T>(alloc, &bells, workers) else {
         return None;
     };
     let Some((done, closed)) = no_interrupt_is_lost_or_played_twice(

@@ -1,9 +1,10 @@
 //! From a bell that a host thread rings to a Bell in the journal: none is lost, and none is made twice.
-ghost use Rattle.std.specs.Prelude.{◌≡◌, ◌+◌, ℕ, true, All, IfSome, count_by, length, slice_index, sum_by};
+ghost use Rattle.std.specs.Prelude.{◌≡◌, ◌+◌, ◌≤◌, ℕ, true, All, IfSome, count_by, length, slice_index, sum_by};
 ghost use Rattle.std.specs.Int.{bit_at};
 ghost use Rattle.evm_bells.specs.Batches.{count};
 ghost use Rattle.evm_bells.specs.Seats.{TakerValue, taken_by};
 ghost use Rattle.evm_shared.specs.Checks.{PortsHold, lent};
+ghost use Rattle.evm_shared.specs.EventCounts.{event_total, events_since};
 ghost use Rattle.evm_shared.specs.Ports.{PortValue};
 ghost use Rattle.claims_threads.specs.Lines.{in_ports, is_bell, rings};
 
@@ -32,7 +33,8 @@ pub fn checked_receipts_have_each_bell<D: Device, S: Ledger, B: Ledger, T: Ledge
 /// The sharing and the bells end. The journal has as many Bells as before and as the ports have made, and of each line of
 /// each processor the rings that were fresh were taken or are left. If besides no Bell was made before, each Bell of the
 /// ports is in a receipt, the check of the receipts is passed, and the receipts say of each line as many Bells as were
-/// taken, then each fresh ring of each line is one Bell of it in the journal, or is left, and the journal has no other.
+/// taken, then each fresh ring of each line is one Bell of it in the journal, or is left, and the journal has no other. Whatever
+/// Bells were made before, so it is with those since then, if the ports were made no earlier.
 pub fn each_ring_is_left_or_becomes_a_bell<D: Device, O: Origin, S: Ledger, B: Ledger, T: Ledger>(
     shared: Shared<D, O, S, B, T>,
     ports: Vec<Port<S, B, T>>,
@@ -49,6 +51,11 @@ pub fn each_ring_is_left_or_becomes_a_bell<D: Device, O: Origin, S: Ledger, B: L
         → PortsHold ended.0.machine ports.items (length ports.items)
         → count (taken_by takers.items) c l ≡ in_ports (rings c l) ports.items
         → count ringer.fresh c l ≡ count_by (rings c l) ended.0.machine.journal + bit_at (slice_index ended.1.left c) l) }
+    ensures since { IfSome result (λ ended. (c l : ℕ) → All (λ (p : PortValue). event_total O.base ≤ p.since) ports.items
+        → in_ports is_bell ports.items ≡ sum_by (λ (p : PortValue). p.share.bells) ports.items
+        → PortsHold ended.0.machine ports.items (length ports.items)
+        → count (taken_by takers.items) c l ≡ in_ports (rings c l) ports.items
+        → count ringer.fresh c l ≡ count_by (rings c l) (events_since O.base ended.0.machine.journal) + bit_at (slice_index ended.1.left c) l) }
 {
     let Ok(done) = shared.finish(ports) else {
         return None;

@@ -2,6 +2,7 @@
 ghost use Rattle.std.specs.Prelude.{◌≡◌, ◌+◌, count_by, sum_by, IfSome};
 ghost use Rattle.evm_model.specs.Kinds.{AStep, ABell, Another, is_same_kind, kind_of};
 ghost use Rattle.evm_model.specs.Replay.{replay};
+ghost use Rattle.evm_shared.specs.EventCounts.{BeginsWith};
 ghost use Rattle.evm_shared.specs.Ports.{PortValue};
 
 use evm_dev::Device;
@@ -20,6 +21,8 @@ pub fn the_machine_under_the_lock_is_its_journals_replay<
 >(shared: Shared<D, O, S, B, T>, ports: Vec<Port<S, B, T>>) -> Option<Finished<D, S, B, T>>
     ensures replayed { IfSome result (λ done. replay O.start done.machine.journal ≡ done.machine) }
     ensures ports { IfSome result (λ done. done.ports.items ≡ ports.items) }
+    // the events that it had are the first ones
+    ensures begins { IfSome result (λ done. BeginsWith O.base done.machine.journal) }
     ensures steps { IfSome result (λ done. count_by (λ event. is_same_kind (kind_of event) AStep) done.machine.journal ≡ O.base.steps + sum_by (λ (p : PortValue). p.share.steps) ports.items) }
     ensures bells { IfSome result (λ done. count_by (λ event. is_same_kind (kind_of event) ABell) done.machine.journal ≡ O.base.bells + sum_by (λ (p : PortValue). p.share.bells) ports.items) }
     ensures others { IfSome result (λ done. count_by (λ event. is_same_kind (kind_of event) Another) done.machine.journal ≡ O.base.others + sum_by (λ (p : PortValue). p.share.others) ports.items) }

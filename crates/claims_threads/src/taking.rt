@@ -5,6 +5,7 @@ ghost use Rattle.evm_bells.specs.Batches.{count};
 ghost use Rattle.evm_lines.specs.declared.TheConstants.{LINES};
 ghost use Rattle.evm_bells.specs.Seats.{IsNewTaker, TakerValue, taken_by};
 ghost use Rattle.evm_shared.specs.Checks.{PortsHold};
+ghost use Rattle.evm_shared.specs.EventCounts.{event_total, events_since};
 ghost use Rattle.evm_shared.specs.Ports.{PortValue, fresh_port};
 ghost use Rattle.evm_shared.specs.Workers.{WorkerValue};
 ghost use Rattle.claims_threads.specs.Lines.{in_ports, in_receipts, is_bell, rings};
@@ -87,13 +88,16 @@ pub fn a_run_says_what_it_takes<
     ensures bells { All (λ (w : WorkerValue). w.taker.bells ≡ bells.now.id) workers.new }
     ensures says { IfOk result (λ _. (i : ℕ) (d : WorkerValue) → i < length workers.old → 2 * turns ≤ (slice_index_or workers.old i d).port.room
         → SaysTaken (slice_index_or workers.old i d).port (slice_index_or workers.old i d).taker → SaysTaken (slice_index_or workers.new i d).port (slice_index_or workers.new i d).taker) }
+    // each port is one that was made when it was
+    ensures since { IfOk result (λ _. (i : ℕ) (d : WorkerValue) → i < length workers.old → (n : ℕ) → n ≤ (slice_index_or workers.old i d).port.since → n ≤ (slice_index_or workers.new i d).port.since) }
 {
     shared.run(rt, bells, workers, turns, gate)
 }
 
 /// The sharing and the bells end, and each port's receipts say what the taker of its place has taken, as they do of a new port
 /// and a new taker, and as each call above keeps it. If besides no Bell was made before, and the check of the receipts is
-/// passed, then each fresh ring of each line is one Bell of it in the journal, or is left, and the journal has no other.
+/// passed, then each fresh ring of each line is one Bell of it in the journal, or is left, and the journal has no other. Whatever
+/// Bells were made before, so it is with those since then, if the ports were made no earlier.
 pub fn each_ring_is_left_or_becomes_a_bell_of_a_pair<
     D: Device,
     O: Origin,
@@ -115,6 +119,9 @@ pub fn each_ring_is_left_or_becomes_a_bell_of_a_pair<
     ensures lines { IfSome result (λ ended. (c l : ℕ) → l < LINES → O.base.bells ≡ 0 → SayTaken ports.items takers.items
         → PortsHold ended.0.machine ports.items (length ports.items)
         → count ringer.fresh c l ≡ count_by (rings c l) ended.0.machine.journal + bit_at (slice_index ended.1.left c) l) }
+    ensures since { IfSome result (λ ended. (c l : ℕ) → l < LINES → All (λ (p : PortValue). event_total O.base ≤ p.since) ports.items → SayTaken ports.items takers.items
+        → PortsHold ended.0.machine ports.items (length ports.items)
+        → count ringer.fresh c l ≡ count_by (rings c l) (events_since O.base ended.0.machine.journal) + bit_at (slice_index ended.1.left c) l) }
 {
     let Some((done, closed)) = each_ring_is_left_or_becomes_a_bell(
         shared, ports, bells, ringer, takers,

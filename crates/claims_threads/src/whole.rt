@@ -12,6 +12,7 @@ ghost use Rattle.evm_model.specs.Replay.{replay};
 ghost use Rattle.evm_model.specs.declared.boot.Boot.{Boot};
 ghost use Rattle.evm_model.specs.declared.counts.Counts.{Counts};
 ghost use Rattle.evm_shared.specs.Checks.{PortsHold, lent};
+ghost use Rattle.evm_shared.specs.EventCounts.{event_total, events_since};
 ghost use Rattle.evm_shared.specs.Ports.{PortValue};
 ghost use Rattle.claims_threads.specs.Lines.{in_ports, raises_otherwise, rings};
 ghost use Rattle.claims_threads.specs.Passing.{IsBooted, merged, pending, played};
@@ -67,7 +68,8 @@ fn are_checked<D: Device, S: Ledger, B: Ledger, T: Ledger>(
 /// - Let each port's receipts say what the taker of its place has taken, as they do of a new port and a new taker, and as
 ///   each call through the port keeps it. Then of each line of each processor, as often as it was rung fresh, the receipts
 ///   say a Bell of it, or it is left in its word.
-/// - If besides no Bell was made before, the Bells that the receipts say are those of the journal, line by line.
+/// - If besides no Bell was made before, the Bells that the receipts say are those of the journal, line by line. Whatever
+///   Bells were made before, they are those since then, if the ports were made no earlier.
 /// - On a machine that began with a boot, an image loaded or none, and no event, each line from 2 on that is no device's
 ///   was raised by the Bells and the other events of the journal that name it, and each time it merged, is pending, or was
 ///   played.
@@ -89,6 +91,8 @@ pub fn no_interrupt_is_lost_or_played_twice<D: Device, O: Origin, S: Ledger, B: 
         count ringer.fresh c l ≡ in_ports (rings c l) ports.items + bit_at (slice_index ended.1.left c) l) }
     ensures delivered { IfSome result (λ ended. (c l : ℕ) → O.base.bells ≡ 0 → SayTaken ports.items takers.items →
         in_ports (rings c l) ports.items ≡ count_by (rings c l) ended.0.machine.journal) }
+    ensures since { IfSome result (λ ended. (c l : ℕ) → All (λ (p : PortValue). event_total O.base ≤ p.since) ports.items → SayTaken ports.items takers.items →
+        in_ports (rings c l) ports.items ≡ count_by (rings c l) (events_since O.base ended.0.machine.journal)) }
     ensures played { IfSome result (λ ended. (boot : Boot) (c l : ℕ) (pipe : Pipe) (n : Counts) → IsBooted boot O.start →
         2 ≤ l → NoDevicesLine c l ended.0.machine.board.memory.devices →
         slice_get ended.0.machine.board.parts.pipes c ≡ Option.Some pipe → slice_get pipe.counts l ≡ Option.Some n →
@@ -97,6 +101,8 @@ pub fn no_interrupt_is_lost_or_played_twice<D: Device, O: Origin, S: Ledger, B: 
     // the counters that the bells have kept are exact
     ensures counters { IfSome result (λ ended. (c l : ℕ) → c < PROCESSOR_LIMIT → l < LINES → O.base.bells ≡ 0 → SayTaken ports.items takers.items →
         counter ended.1.fresh.rows c l ≡ count_by (rings c l) ended.0.machine.journal + bit_at (slice_index ended.1.left c) l) }
+    ensures counters_since { IfSome result (λ ended. (c l : ℕ) → c < PROCESSOR_LIMIT → l < LINES → All (λ (p : PortValue). event_total O.base ≤ p.since) ports.items → SayTaken ports.items takers.items →
+        counter ended.1.fresh.rows c l ≡ count_by (rings c l) (events_since O.base ended.0.machine.journal) + bit_at (slice_index ended.1.left c) l) }
 {
     each_bell_comes_to_a_stage();
     let Some(done) = the_machine_under_the_lock_is_its_journals_replay(shared, ports) else {

@@ -1,7 +1,8 @@
 ghost use Rattle.std.specs.Prelude.{◌≡◌, ◌↔◌, ◌⊎◌, ℕ, ◌+◌, ◌/◌, ◌<◌, ◌≤◌, ◌^◌, [], ◌∷◌, ◌++◌, length, All, Err, IfOk, MatchBool, MatchOption};
 ghost use Rattle.evm_bells.specs.Rule.{first_view};
 ghost use Rattle.evm_bells.specs.Seats.{IsNewRinger, IsNewTaker};
-ghost use Rattle.evm_bells.specs.declared.bells.BellsRefusal.TheVariants.{BadSize};
+ghost use Rattle.evm_bells.specs.declared.bells.BellsRefusal.TheVariants.{BadSize, NoMemory};
+ghost use Rattle.evm_room.specs.Growth.{RefusedWithin};
 
 use crate::counts::{LineCounts, PROCESSOR_LIMIT};
 use crate::rule::{BellsRule, Both, Halves, One, Rings, SeatView, Takes, Weighs};
@@ -103,12 +104,17 @@ impl Bells {
         requires bells { seat.table_id ≡ self.id }
         requires first { seat.me ≡ (first_view self.cpus, []) }
         ensures sized { (result ≡ Err BadSize) → ⊥ }
+        ensures refused { (result ≡ Err NoMemory) → RefusedWithin self.cpus }
         ensures bells { IfOk result (λ made. made.0 ≡ self) }
         ensures ringer { IfOk result (λ made. IsNewRinger self.id RINGER_WEIGHT made.1) }
         ensures takers { IfOk result (λ made. (length made.2.items ≡ self.cpus) × All (IsNewTaker self.id) made.2.items) }
     {
-        let Ok(mut takers) = with_room(alloc, self.cpus as usize) else {
-            return Err(BellsRefusal::NoMemory);
+        let mut takers = match with_room(alloc, self.cpus as usize) {
+            Ok(takers) => takers,
+            Err(refused) => {
+                refused.within();
+                return Err(BellsRefusal::NoMemory);
+            }
         };
         for _ in 0..self.cpus {
             takers.push_reserved(Taker {
@@ -165,7 +171,7 @@ impl Bells {
         found
     }
 
-    /// The lines that stand in a processor's word at this moment.
+    /// The lines that stand in a processor's word at this moment. A load without a seat tells nothing, so no clause speaks of it.
     pub fn peek(&self, cpu: u8) -> u64
         requires { cpu < self.now.cpus }
     {

@@ -1,12 +1,14 @@
 -- Counts of events.
-use Rattle.std.proofs.Common.{◌≡◌, ℕ, zero, suc, ◌^◌, ◌<◌, ◌≤◌, List, [], ◌∷◌, ◌++◌, length, refl, ap, ◌∙◌, arith}
-use Rattle.std.proofs.lemmas.List.Sums.{count_by-le-length}
+use Rattle.std.proofs.Common.{◌≡◌, ℕ, zero, suc, ◌+◌, ◌^◌, ◌<◌, ◌≤◌, List, [], ◌∷◌, ◌++◌, cond, length, take, refl, sym, ap, ◌∙◌, arith}
+use Rattle.std.proofs.Math.Seq.{take-length}
+use Rattle.std.proofs.lemmas.List.{take-append-le}
+use Rattle.std.proofs.lemmas.List.Sums.{count_by-le-length, sum_by-cons}
 use Rattle.std.specs.Prelude.{replicate}
 use Rattle.evm_model.proofs.Counting.{kinds_add_up}
 use Rattle.evm_model.specs.Event.{Event}
-use Rattle.evm_model.specs.Kinds.{AStep, ABell, Another, kind_of, is_same_kind}
+use Rattle.evm_model.specs.Kinds.{Kind, AStep, ABell, Another, kind_of, is_same_kind}
 use Rattle.evm_model.specs.declared.event.Event.TheVariants as event
-use Rattle.evm_shared.specs.EventCounts.{counts, plus, kind_counts, FitWords}
+use Rattle.evm_shared.specs.EventCounts.{BeginsWith, counts, event_total, plus, kind_counts, FitWords}
 use Rattle.evm_shared.specs.declared.event_counts.EventCounts.{EventCounts}
 
 -- equal in each kind
@@ -55,3 +57,32 @@ book_fits base book journal counted short =
       omega (arith, low.1, ap (λ (n : EventCounts). n.bells) counted),
       omega (arith, low.2, ap (λ (n : EventCounts). n.others) counted),
     )
+
+-- ---- what a journal begins with
+
+one_kind : (kind : Kind) → cond (is_same_kind kind AStep) 1 0 + cond (is_same_kind kind ABell) 1 0 + cond (is_same_kind kind Another) 1 0 ≡ 1
+one_kind AStep = refl
+one_kind ABell = refl
+one_kind Another = refl
+
+-- each event is of one kind
+pub each_counted : (events : List Event) → event_total (kind_counts events) ≡ length events
+each_counted [] = refl
+each_counted (e ∷ events) =
+    let steps = sum_by-cons (λ x. cond (is_same_kind (kind_of x) AStep) 1 0) e events in
+    let bells = sum_by-cons (λ x. cond (is_same_kind (kind_of x) ABell) 1 0) e events in
+    let others = sum_by-cons (λ x. cond (is_same_kind (kind_of x) Another) 1 0) e events in
+    omega (arith, one_kind (kind_of e), each_counted events, steps, bells, others)
+
+-- a whole journal
+pub begins_whole : (base : EventCounts) (journal : List Event) → kind_counts journal ≡ base → BeginsWith base journal
+begins_whole base journal counted =
+    let whole : event_total base ≡ length journal = sym (ap event_total counted) ∙ each_counted journal in
+    ap (λ n. kind_counts (take n journal)) whole ∙ ap kind_counts (take-length journal) ∙ counted
+
+-- a journal to which events are added
+pub begins_more : (base book : EventCounts) (old new added : List Event) → kind_counts old ≡ plus base book → BeginsWith base old → new ≡ old ++ added → BeginsWith base new
+begins_more base book old new added counted begins journal =
+    let all : event_total (kind_counts old) ≡ event_total (plus base book) = ap event_total counted in
+    let few : event_total base ≤ length old = omega (arith, all, each_counted old) in
+    ap (λ events. kind_counts (take (event_total base) events)) journal ∙ ap kind_counts (take-append-le (event_total base) old added few) ∙ begins

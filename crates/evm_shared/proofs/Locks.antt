@@ -15,7 +15,7 @@ use Rattle.evm_lines.specs.declared.TheConstants.{LINES}
 use Rattle.evm_model.specs.declared.event.Event.TheVariants as event
 use Rattle.evm_model.specs.declared.refusal.Refusal.{Refusal}
 use Rattle.evm_shared.proofs.Bells.{bells_off, bells_on}
-use Rattle.evm_shared.proofs.Counting.{same_counts}
+use Rattle.evm_shared.proofs.Counting.{begins_whole, same_counts}
 use Rattle.evm_model.specs.Event.{Event}
 use Rattle.evm_model.specs.declared.event.Answer.{Answer}
 use Rattle.evm_model.specs.declared.refusal.Refusal.TheVariants.{Full}
@@ -51,6 +51,7 @@ accounted start s base book replays wide counted unused = record {
       (omega (arith, ap (λ (x : EventCounts). x.steps) counted, ap (λ (x : EventCounts). x.steps) unused))
       (omega (arith, ap (λ (x : EventCounts). x.bells) counted, ap (λ (x : EventCounts). x.bells) unused))
       (omega (arith, ap (λ (x : EventCounts). x.others) counted, ap (λ (x : EventCounts). x.others) unused));
+  begins = begins_whole base s.journal counted;
 }
 
 -- why a Step is refused on a replay of start

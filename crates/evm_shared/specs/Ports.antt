@@ -14,7 +14,7 @@ use Rattle.evm_model.specs.declared.event.Event.TheVariants.{Step}
 use Rattle.evm_model.specs.declared.limits.TheConstants.{WIDE_PROFILE}
 use Rattle.evm_model.specs.declared.refusal.Refusal.{Refusal}
 use Rattle.evm_model.specs.declared.refusal.Refusal.TheVariants.{Full, NoSuchCpu, BadSize, NoMemory}
-use Rattle.evm_shared.specs.EventCounts.{counts, none, plus, kind_counts}
+use Rattle.evm_shared.specs.EventCounts.{BeginsWith, counts, none, plus, kind_counts}
 use Rattle.evm_shared.specs.Receipts.{receipt, made_events}
 use Rattle.evm_room.specs.Growth.{RefusedWithin}
 use Rattle.evm_shared.specs.declared.shared.TheConstants.{PORT_LIMIT}
@@ -36,11 +36,13 @@ pub record LockedValue : Type 0 where
   pub machine : State
   pub book : EventCounts
 
--- the machine is its journal's replay from start, which has all lines, and its journal has as many events of each kind as base and book
+-- the machine is its journal's replay from start, which has all lines, and its journal has as many events of each kind as base and book,
+-- those of base first
 pub record IsAccounted (start : State) (base : EventCounts) (machine : State) (book : EventCounts) : Type 0 where
   pub replays : IsReplayOf start machine
   pub lines : WIDE_PROFILE ≤ start.boot.profile
   pub counted : kind_counts machine.journal ≡ plus base book
+  pub begins : BeginsWith base machine.journal
 
 -- the events made through it, its receipts and the room for more, the journal's length when it was made, and its marks
 pub record PortValue : Type 0 where

@@ -1,6 +1,6 @@
 ghost use Rattle.std.specs.Prelude.{◌≡◌, ◌≢◌, ◌+◌, ◌<◌, ◌≤◌, [], ◌∷◌, ◌++◌, false, length, replicate, IfErr, IfOk, MatchResult};
 ghost use Rattle.evm_model.specs.Replay.{IsReplayOf};
-ghost use Rattle.evm_shared.specs.EventCounts.{FitWords, kind_counts, none, plus};
+ghost use Rattle.evm_shared.specs.EventCounts.{BeginsWith, FitWords, kind_counts, none, plus};
 ghost use Rattle.evm_shared.specs.Ports.{MakesBells, MakesOne, MakesSteps, RefusesCpu, RefusesEither, RefusesPorts, bad_ports, fresh_port, lacks_lines, made_by, shares_of, with_room};
 
 use crate::event_counts::EventCounts;
@@ -262,6 +262,7 @@ impl<D: Device, O: Origin, S: Ledger, B: Ledger, T: Ledger> Shared<D, O, S, B, T
     fn open(self, mut ports: Vec<Port<S, B, T>>) -> Finished<D, S, B, T>
         requires all { length ports.items ≡ self }
         ensures machine { IsReplayOf O.start result.machine × (kind_counts result.machine.journal ≡ plus O.base result.totals) }
+        ensures begins { BeginsWith O.base result.machine.journal }
         ensures totals { result.totals ≡ made_by ports.items }
         ensures ports { result.ports.items ≡ ports.items }
     {
@@ -290,6 +291,8 @@ impl<D: Device, O: Origin, S: Ledger, B: Ledger, T: Ledger> Shared<D, O, S, B, T
         ports: Vec<Port<S, B, T>>,
     ) -> Result<Finished<D, S, B, T>, Unfinished<D, O, S, B, T>>
         ensures machine { IfOk result (λ done. IsReplayOf O.start done.machine × (kind_counts done.machine.journal ≡ plus O.base done.totals)) }
+        // the events that it had are the first ones
+        ensures begins { IfOk result (λ done. BeginsWith O.base done.machine.journal) }
         ensures totals { IfOk result (λ done. done.totals ≡ made_by ports.items) }
         ensures ports { MatchResult result (λ done. done.ports.items ≡ ports.items) (λ back. (back.shared ≡ self) × (back.ports.items ≡ ports.items)) }
         ensures all { MatchResult result (λ done. length ports.items ≡ self) (λ back. length ports.items ≢ self) }

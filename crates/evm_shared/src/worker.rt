@@ -118,7 +118,7 @@ impl<S: Ledger, B: Ledger, T: Ledger> Worker<S, B, T> {
     ) -> Result<(), Refusal>
         requires { self.old.taker.bells ≡ bells.now.id }
         ensures same { (self.new.cpu ≡ self.old.cpu) × (self.new.taker.bells ≡ self.old.taker.bells) × (self.new.refused ≡ self.old.refused) }
-        ensures refused { IfErr result (λ why. RefusesTurn O.start bells.now.cpus self.old.cpu why) }
+        ensures refused { IfErr result (λ why. RefusesTurn O.start bells.now.cpus self.old self.new why) }
         ensures steps { IfOk result (λ _. self.old.port.share.steps + 1 ≤ self.new.port.share.steps) }
         ensures made { IfOk result (λ _. MakesTurn O.start bells.now.cpus self.old self.new) }
     {
@@ -130,6 +130,13 @@ impl<S: Ledger, B: Ledger, T: Ledger> Worker<S, B, T> {
         self.ahead.keep(&done);
         gate.after(self.cpu, done.steps);
         Ok(())
+    }
+
+    // Ends a run at a turn that was refused.
+    fn stop(&mut self, why: Refusal)
+        ensures { self.new ≡ (record self.old { refused = Option.Some why }) }
+    {
+        self.refused = Some(why);
     }
 
     // So many turns, or those up to the first that was refused.
@@ -147,7 +154,7 @@ impl<S: Ledger, B: Ledger, T: Ledger> Worker<S, B, T> {
         self.refused = None;
         for turn in 0..turns {
             if let Err(why) = self.turn(rt, shared, bells, turn, gate) {
-                self.refused = Some(why);
+                self.stop(why);
                 return;
             }
         }

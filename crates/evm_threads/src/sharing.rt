@@ -1,8 +1,9 @@
 //! Two workers on a machine that they share, and its journal when they are done.
 
-ghost use Rattle.std.specs.Prelude.{◌≡◌, true, Ok, All, IfSome, length};
+ghost use Rattle.std.specs.Prelude.{◌≡◌, true, None, Ok, All, IfSome, length};
 ghost use Rattle.evm_bells.specs.Seats.{TakerValue};
 ghost use Rattle.evm_model.specs.Replay.{IsReplayOf};
+ghost use Rattle.evm_room.specs.Growth.{RefusedWithin};
 ghost use Rattle.evm_shared.specs.EventCounts.{kind_counts};
 ghost use Rattle.evm_shared.specs.Workers.{WorkerValue};
 ghost use Rattle.evm_threads.specs.Runs.{HaveMade, IsOutcome, bells_after};
@@ -62,9 +63,16 @@ fn ports_of<S: Ledger, B: Ledger, T: Ledger>(
     alloc: Global,
     mut workers: Vec<Worker<S, B, T>>,
 ) -> Option<Vec<Port<S, B, T>>>
-    ensures { IfSome result (λ ports. length ports.items ≡ length workers.items) }
+    ensures all { IfSome result (λ ports. length ports.items ≡ length workers.items) }
+    ensures refused { result ≡ None → RefusedWithin (length workers.items) }
 {
-    let mut ports = with_room(alloc, workers.len()).ok()?;
+    let mut ports = match with_room(alloc, workers.len()) {
+        Ok(ports) => ports,
+        Err(refused) => {
+            refused.within();
+            return None;
+        }
+    };
     while let Some(worker) = workers.pop() {
         let (port, _taker) = worker.into_parts();
         ports.push_reserved(port);

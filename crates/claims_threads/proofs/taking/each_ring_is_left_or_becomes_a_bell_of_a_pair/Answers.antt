@@ -10,3 +10,7 @@ returns-clause-told g c pairs = (paired_bells c.args.ports.items c.args.takers.i
 pub returns-clause-lines : goal.returns-clause-lines
 returns-clause-lines g c p l low none pairs holds =
     c.in-Some.ensures.lines p l none (paired_bells c.args.ports.items c.args.takers.items pairs) holds (paired_lines p l c.args.ports.items c.args.takers.items low pairs)
+
+pub returns-clause-since : goal.returns-clause-since
+returns-clause-since g c p l low late pairs holds =
+    c.in-Some.ensures.since p l late (paired_bells c.args.ports.items c.args.takers.items pairs) holds (paired_lines p l c.args.ports.items c.args.takers.items low pairs)

@@ -1,5 +1,5 @@
 use Rattle.std.proofs.Common.{sym, ◌∙◌, arith}
-use Rattle.evm_shared.proofs.Counting.{counts_steps, counted_more, book_fits}
+use Rattle.evm_shared.proofs.Counting.{begins_more, counts_steps, counted_more, book_fits}
 use Rattle.evm_shared.proofs.Locks.{refuses}
 use Rattle.evm_shared.proofs.locked.Locked.commit_into.Goals as goal
 
@@ -18,6 +18,7 @@ invariant_of-self-in-Ok g c =
       replays = c.commit_into.ensures.replays g.O.Origin.start i.replays;
       lines = i.lines;
       counted = rw c.count.ensures.book counted;
+      begins = begins_more g.O.Origin.base c.self.inside.books c.self.inside.machine.journal c.commit_into.new.self.journal _ i.counted i.begins c.in-Ok.ensures.journaled;
     }
 
 pub returns-in-Err-clause-refused : goal.returns-in-Err-clause-refused

@@ -2,7 +2,7 @@ use Rattle.std.proofs.Common.{ap, arith, inl, inr, refl}
 use Rattle.evm_lines.specs.declared.TheConstants.{LINES}
 use Rattle.evm_model.specs.declared.boot.Boot.{Boot}
 use Rattle.evm_shared.proofs.Bells.{bells_counted}
-use Rattle.evm_shared.proofs.Counting.{counted_more, book_fits}
+use Rattle.evm_shared.proofs.Counting.{begins_more, counted_more, book_fits}
 use Rattle.evm_shared.proofs.Locks.{booted_as, cpus_of}
 use Rattle.evm_shared.proofs.locked.Locked.deliver.Goals.{then-cpu-cpu_count-via-then-cpu-cpu_count, then-cpu-cpu_count-via-else-cpu-cpu_count+then-cpu-cpus}
 use Rattle.evm_shared.proofs.locked.Locked.deliver.Goals as goal
@@ -37,4 +37,5 @@ invariant_of-self g c =
       replays = e.replays g.O.Origin.start i.replays;
       lines = i.lines;
       counted = rw c.count.ensures.book counted;
+      begins = begins_more g.O.Origin.base c.self.inside.books c.self.inside.machine.journal c.ring_all-count.new.machine.journal _ i.counted i.begins e.journaled;
     }

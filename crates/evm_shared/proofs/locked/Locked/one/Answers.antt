@@ -1,6 +1,6 @@
 use Rattle.std.proofs.Common.{sym, arith}
 use Rattle.evm_model.specs.Event.{event_lent}
-use Rattle.evm_shared.proofs.Counting.{counted_more, book_fits}
+use Rattle.evm_shared.proofs.Counting.{begins_more, counted_more, book_fits}
 use Rattle.evm_shared.proofs.Locks.{records_one}
 use Rattle.evm_shared.proofs.locked.Locked.one.Goals as goal
 
@@ -19,6 +19,7 @@ invariant_of-self-in-Ok g c =
       replays = c.in-Ok.ensures.replays g.O.Origin.start i.replays;
       lines = i.lines;
       counted = rw c.count.ensures.book counted;
+      begins = begins_more g.O.Origin.base c.self.inside.books c.self.inside.machine.journal c.apply.new.self.journal _ i.counted i.begins c.in-Ok.ensures.journaled;
     }
 
 pub returns-in-Ok : goal.returns-in-Ok

@@ -1,5 +1,5 @@
 use Rattle.std.proofs.Common.{◌∙◌, arith}
-use Rattle.evm_shared.proofs.Turns.{turns_more}
+use Rattle.evm_shared.proofs.Turns.{run_stops, turns_more}
 use Rattle.evm_shared.proofs.worker.Worker.turns.Goals as goal
 
 pub loop-turn-preserved : goal.loop-turn-preserved
@@ -12,3 +12,10 @@ loop-turn-preserved g c =
       made = turns_more g.O.Origin.start c.args.bells.now.cpus c.loop-turn.turn c.args.self.now c.loop-turn.self c.turn.new.self i.made c.in_default.ensures.made;
       steps = omega (arith, i.steps, c.in_default.ensures.steps);
     }
+
+pub returns-in-Err : goal.returns-in-Err
+returns-in-Err g c =
+    let i = c.loop-turn.invariant in
+    let same = c.turn.ensures.same in
+    run_stops g.O.Origin.start c.args.bells.now.cpus c.args.turns c.loop-turn.turn c.args.self.now c.loop-turn.self c.turn.new.self c.stop.new.self c.in-Err.why i.cpu i.bells same.0 same.1
+    c.loop-turn-test.true i.made c.in-Err.ensures.refused c.stop.ensures
