@@ -521,7 +521,7 @@ function sign(pen, what, x, y, colours) {
     case 'puts': pen.shape(diamond, colours.good); break;
     case 'hollow': pen.shape(diamond, colours.paper, colours.alarm); break;
     case 'woken': pen.shape(triangle(false), colours.good); break;
-    case 'rises': pen.shape(triangle(true), colours.mark); break;
+    case 'rises': pen.shape(triangle(true), colours.mark, colours.paper); break;
     case 'falls': pen.shape(triangle(false), colours.paper, colours.mark); break;
     case 'migrates': pen.line(x, y - 7, x, y + 7, colours.mark, 2); pen.shape([[x, y - 6], [x + 6, y - 2], [x, y + 2]], colours.mark); break;
     case 'created': case 'set': pen.line(x, y - 7, x, y + 7, colours.ink, 2); break;
